@@ -1,0 +1,4 @@
+pub mod Number
+pub mod NumberText
+pub mod Laws
+pub mod Steps

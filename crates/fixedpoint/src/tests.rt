@@ -1,0 +1,142 @@
+use super::*;
+use std::test::Fail;
+
+/// The longest number text: 40 bytes.
+const FORTY: &str = "0000000000000000000000000000000000000001";
+
+/// One digit more.
+const FORTY_ONE: &str = "00000000000000000000000000000000000000001";
+
+#[test]
+fn coordinates_read_to_the_nearest_unit(rt: HostRuntime) -> Result<(), Fail> {
+    for (text, units) in [
+        ("1.", 10_000_000),
+        (".5", 5_000_000),
+        ("+5", 50_000_000),
+        ("-0", 0),
+        ("1.00000005", 10_000_001),
+        ("-1.00000005", -10_000_001),
+        ("1.00000004999", 10_000_000),
+        ("-0.00000005", -1),
+        (FORTY, 10_000_000),
+        ("100000000.00000004", 1_000_000_000_000_000),
+        ("-100000000.00000004", -1_000_000_000_000_000),
+    ] {
+        assert_eq!(rt; read_coord(text).map(Coord::units), Ok(units), "at {text}");
+    }
+    Ok(())
+}
+
+#[test]
+fn texts_that_are_no_numbers_are_refused(rt: HostRuntime) -> Result<(), Fail> {
+    for text in [
+        "", ".", "+", "-.", "1e3", "1.2.3", "--1", "1 ", "0x1", "\u{663}", FORTY_ONE,
+    ] {
+        assert_eq!(rt; read_coord(text), Err(NumberFault::Shape), "at {text}");
+        assert_eq!(rt; read_offset(text), Err(NumberFault::Shape), "at {text}");
+    }
+    Ok(())
+}
+
+#[test]
+fn numbers_past_the_greatest_are_refused(rt: HostRuntime) -> Result<(), Fail> {
+    for text in [
+        "100000000.0000001",
+        "-100000000.0000001",
+        "100000000.00000005",
+        "18446744073709551616",
+        "9999999999999999999999999999999999999999",
+    ] {
+        assert_eq!(rt; read_coord(text), Err(NumberFault::Range), "at {text}");
+    }
+    for text in [
+        "1000000000000.001",
+        "-1000000000000.001",
+        "1000000000000.0005",
+    ] {
+        assert_eq!(rt; read_offset(text), Err(NumberFault::Range), "at {text}");
+    }
+    Ok(())
+}
+
+#[test]
+fn offsets_read_to_the_nearest_millisecond(rt: HostRuntime) -> Result<(), Fail> {
+    for (text, millis) in [
+        ("10", 10_000),
+        ("0.0005", 1),
+        ("-0.0005", -1),
+        ("0.00049", 0),
+        ("1000000000000", 1_000_000_000_000_000),
+        ("-1000000000000.0004", -1_000_000_000_000_000),
+    ] {
+        assert_eq!(rt;
+            read_offset(text).map(Offset::millis),
+            Ok(millis),
+            "at {text}"
+        );
+    }
+    Ok(())
+}
+
+#[test]
+fn only_numbers_of_units_in_range_are_kept(rt: HostRuntime) -> Result<(), Fail> {
+    const MOST: i64 = 1_000_000_000_000_000;
+    for units in [MOST, -MOST, 0] {
+        assert_eq!(rt; Coord::new(units).map(Coord::units), Some(units));
+        assert_eq!(rt; Offset::new(units).map(Offset::millis), Some(units));
+    }
+    for units in [MOST + 1, -MOST - 1, i64::MIN, i64::MAX] {
+        assert_eq!(rt; Coord::new(units), None);
+        assert_eq!(rt; Offset::new(units), None);
+    }
+    Ok(())
+}
+
+#[test]
+fn coordinates_print_the_shortest_exact_text(rt: HostRuntime) -> Result<(), Fail> {
+    for (read, printed) in [
+        ("1.00000005", "1.0000001"),
+        ("-1.00000005", "-1.0000001"),
+        ("-0", "0"),
+        ("+0.50", "0.5"),
+        ("-.25", "-0.25"),
+        ("0012", "12"),
+        ("100000000.00000004", "100000000"),
+        ("-99999999.9999999", "-99999999.9999999"),
+    ] {
+        let mut out = Vec::from_slice(rt.alloc(), b"x ")?;
+        let coord = read_coord(read)?;
+        push_coord(&mut out, coord)?;
+        assert_eq!(rt; &out.as_slice()[2..], printed.as_bytes(), "at {read}");
+    }
+    Ok(())
+}
+
+#[test]
+fn offsets_print_in_seconds(rt: HostRuntime) -> Result<(), Fail> {
+    for (millis, printed) in [
+        (0, "0"),
+        (1, "0.001"),
+        (-1500, "-1.5"),
+        (60_000, "60"),
+        (999_999_999_999_999, "999999999999.999"),
+    ] {
+        let mut out = Vec::new(rt.alloc());
+        let offset = Offset::new(millis).ok_or("in range")?;
+        push_offset(&mut out, offset)?;
+        assert_eq!(rt; out.as_slice(), printed.as_bytes(), "at {millis}");
+    }
+    Ok(())
+}
+
+/// Want of memory leaves the vector as it was.
+#[test]
+fn a_refused_growth_changes_nothing(rt: HostRuntime) -> Result<(), Fail> {
+    let mut out = Vec::new(rt.alloc());
+    let coord = Coord::new(-25).ok_or("in range")?;
+    match push_coord(&mut out, coord) {
+        Ok(()) => assert_eq!(rt; out.as_slice(), b"-0.0000025".as_slice()),
+        Err(_) => assert!(rt; out.is_empty()),
+    }
+    Ok(())
+}
