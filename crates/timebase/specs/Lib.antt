@@ -1,0 +1,2 @@
+pub mod Instant
+pub mod Period

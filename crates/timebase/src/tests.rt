@@ -1,0 +1,67 @@
+use super::*;
+use std::test::Fail;
+
+#[test]
+fn instants_read_as_jiff_reads_them(rt: HostRuntime) -> Result<(), Fail> {
+    for (text, moment) in [
+        ("2012-01-17T13:33:41+01:00", Ok(1_326_803_621_000)),
+        ("2012-01-17T12:33:41Z", Ok(1_326_803_621_000)),
+        ("1969-12-31T23:59:59.9995Z", Ok(-1)),
+        ("1970-01-01T00:00:00.0009Z", Ok(0)),
+        ("0001-01-01T00:00:00Z", Ok(-62_135_596_800_000)),
+        ("9998-12-31T23:59:59.9999Z", Ok(253_370_764_799_999)),
+        ("0000-12-31T23:59:59.999Z", Err(TimeFault::OutOfRange)),
+        ("9999-01-01T00:00:00Z", Err(TimeFault::OutOfRange)),
+        ("9999-06-01T00:00:00Z", Err(TimeFault::OutOfRange)),
+        ("2012-01-17T12:33:41", Err(TimeFault::Unreadable)),
+        ("2012-02-30T12:33:41Z", Err(TimeFault::Unreadable)),
+        ("", Err(TimeFault::Unreadable)),
+    ] {
+        assert_eq!(rt; read_instant(text).map(Ms::millis), moment, "at {text}");
+    }
+    Ok(())
+}
+
+#[test]
+fn moments_keep_to_their_range(rt: HostRuntime) -> Result<(), Fail> {
+    for millis in [-62_135_596_800_000, 0, 253_370_764_799_999] {
+        assert_eq!(rt; Ms::new(millis).map(Ms::millis), Some(millis));
+    }
+    for millis in [-62_135_596_800_001, 253_370_764_800_000, i64::MIN, i64::MAX] {
+        assert_eq!(rt; Ms::new(millis), None);
+    }
+    Ok(())
+}
+
+#[test]
+fn offsets_count_from_their_base(rt: HostRuntime) -> Result<(), Fail> {
+    let first = Ms::new(-62_135_596_800_000).ok_or("a moment")?;
+    let last = Ms::new(253_370_764_799_999).ok_or("a moment")?;
+    for (base, millis, moment) in [
+        (first, 0, Ok(-62_135_596_800_000)),
+        (first, 315_506_361_599_999, Ok(253_370_764_799_999)),
+        (first, -1, Err(TimeFault::OutOfRange)),
+        (last, 1, Err(TimeFault::OutOfRange)),
+        (last, -1_000_000_000_000_000, Err(TimeFault::OutOfRange)),
+    ] {
+        let offset = Offset::new(millis).ok_or("an offset")?;
+        assert_eq!(rt;
+            at_offset(base, offset).map(Ms::millis),
+            moment,
+            "at {millis}"
+        );
+    }
+    Ok(())
+}
+
+#[test]
+fn a_period_begins_no_later_than_it_ends(rt: HostRuntime) -> Result<(), Fail> {
+    let early = Ms::new(1).ok_or("a moment")?;
+    let late = Ms::new(2).ok_or("a moment")?;
+    let period = Period::new(early, late).ok_or("a period")?;
+    assert_eq!(rt; period.start(), early);
+    assert_eq!(rt; period.end(), late);
+    assert!(rt; Period::new(early, early).is_some());
+    assert_eq!(rt; Period::new(late, early), None);
+    Ok(())
+}
