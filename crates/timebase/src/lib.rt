@@ -4,7 +4,8 @@
 //! 9998-12-31T23:59:59.999Z, so that each moment is a `jiff` timestamp.
 #![tactic(auto)]
 
-ghost use Rattle.std.specs.Prelude.{◌≡◌, ◌≤ℤ◌};
+ghost use Rattle.std.specs.Prelude.{◌≡◌, ◌≤ℤ◌, pos};
+ghost use Rattle.std.specs.Int.{int_div_euclid};
 ghost use Rattle.timebase.specs.Instant.{moment_of, moment_at, moment_within, some_moment, IsMoment};
 ghost use Rattle.timebase.specs.Period.{period_of};
 
@@ -134,6 +135,13 @@ fn within(millis: i128) -> Result<Ms, TimeFault>
     })
 }
 
+/// The whole milliseconds of so many nanoseconds, rounded down.
+fn whole_millis(nanoseconds: i128) -> i128
+    ensures { result ≡ int_div_euclid nanoseconds (pos 1000000) }
+{
+    nanoseconds.div_euclid(1_000_000)
+}
+
 /// Reads an instant, as `2012-01-17T12:33:41Z`: what `jiff` reads as a timestamp, rounded down to the
 /// millisecond, before 1970 too. It takes no memory.
 ///
@@ -143,7 +151,7 @@ pub fn read_instant(text: &str) -> Result<Ms, TimeFault>
     ensures { result ≡ moment_of text.now }
 {
     match text.parse::<Timestamp>() {
-        Ok(instant) => within(instant.as_nanosecond().div_euclid(1_000_000)),
+        Ok(instant) => within(whole_millis(instant.as_nanosecond())),
         Err(_) => Err(TimeFault::Unreadable),
     }
 }

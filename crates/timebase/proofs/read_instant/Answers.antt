@@ -11,7 +11,7 @@ returns-in-Err c = ap moment_from c.in-Err.ensures.value
 pub returns-in-Ok : goal.returns-in-Ok
 unfolding moment_of
 returns-in-Ok c =
-    let f : FitsSigned w128 c.div_euclid.result = search rules in
+    let f : FitsSigned w128 c.whole_millis.result = search rules in
     let g : FitsSigned w128 c.as_nanosecond.result = search rules in
-    let d : c.div_euclid.result ≡ int_div_euclid c.in-Ok.instant.nanosecond (pos 1000000) = c.div_euclid.ensures ∙ ap (λ z. int_div_euclid z (pos 1000000)) (to_z-of_z w128 c.as_nanosecond.result g ∙ c.as_nanosecond.ensures) in
-    c.within.ensures ∙ ap moment_within (to_z-of_z w128 c.div_euclid.result f ∙ d) ∙ ap moment_from c.in-Ok.ensures.value
+    let d : c.whole_millis.result ≡ int_div_euclid c.in-Ok.instant.nanosecond (pos 1000000) = c.whole_millis.ensures ∙ ap (λ z. int_div_euclid z (pos 1000000)) (to_z-of_z w128 c.as_nanosecond.result g ∙ c.as_nanosecond.ensures) in
+    c.within.ensures ∙ ap moment_within (to_z-of_z w128 c.whole_millis.result f ∙ d) ∙ ap moment_from c.in-Ok.ensures.value
