@@ -1,0 +1,10 @@
+-- What the exit of a `?` answers.
+use Rattle.std.proofs.Common.{◌≡◌, sym, subst, Err, Option, Result}
+use Rattle.mfcsv.specs.Answer.{Judges, RowFaultIs}
+use Rattle.mfcsv.specs.declared.Code.{Code}
+use Rattle.mfcsv.specs.declared.rows.RowFault.{RowFault}
+
+-- the fault of a step is the fault of the whole
+pub judges_err : {T : Type 0} (r : Result T RowFault) (x e : RowFault) (whole step : Option Code) (P : T → Type 0) → r ≡ Err x → x ≡ e → whole ≡ step → RowFaultIs e step → Judges r whole P
+judges_err {T = T} r x e whole step P a b w f =
+    subst (λ (y : Result T RowFault). Judges y whole P) (sym a) (subst (λ y. RowFaultIs y whole) (sym b) (subst (λ o. RowFaultIs e o) (sym w) f))

@@ -1,0 +1,11 @@
+pub mod CutLemmas
+pub mod WordLemmas
+pub mod TextLemmas
+pub mod UnreadLemmas
+pub mod RowLemmas
+pub mod PositionLemmas
+pub mod ColumnLemmas
+pub mod FaultLemmas
+pub mod AnswerLemmas
+pub mod WalkLemmas
+pub mod ReadLemmas

@@ -1,0 +1,14 @@
+use Rattle.std.proofs.Common.{◌∙◌, ap, Some, inr}
+use Rattle.csv.specs.Reading.{strip_bom}
+use Rattle.mfcsv.proofs.UnreadLemmas.{starts}
+use Rattle.mfcsv.proofs.rows.read_rows.Goals as goal
+
+pub returns : goal.returns
+returns c =
+    let fr = c.from_reader.ensures in
+    let trim = rw (c.flexible.ensures, c.has_headers.ensures) at fr.trim in
+    let config = rw (c.flexible.ensures, c.has_headers.ensures) at fr.config in
+    let named = rw (c.flexible.ensures, c.has_headers.ensures) at fr.has_headers in
+    let is = starts c.from_reader.result c.args.bytes.now (config ∙ c.new.ensures.config) (trim ∙ c.new.ensures.trim) (inr (inr (named, fr.headers)))
+    (fr.source ∙ ap (λ bytes. Some (strip_bom bytes)) c.without_marks.ensures) fr.state in
+    record { between = is.0; rows = is.1; within = is.2 }

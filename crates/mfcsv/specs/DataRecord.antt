@@ -1,0 +1,90 @@
+-- A data record: what it says, and what is wrong with one.
+use Rattle.std.specs.Prelude.{ℕ, ◌+◌, ◌%◌, ◌==◌, ◌&&◌, ◌||◌, not, nat_lt, Bool, false, List, [], ◌∷◌, map, drop, length, Option, Some, None, is_some, option_and_then, ℤ, pos, ◌-ℤ◌, int_le, int_lt}
+use Rattle.std.specs.List.{list_all, range_with_len}
+use Rattle.fixedpoint.specs.Number.{coord_of, offset_of}
+use Rattle.timebase.specs.Instant.{moment_at}
+use Rattle.mfcsv.specs.Rows.{Row, field, is_empty, words}
+use Rattle.mfcsv.specs.Views.{RecordView, leg_count}
+use Rattle.mfcsv.specs.Header.{value_read}
+use Rattle.mfcsv.specs.declared.Position.{Position}
+
+-- mfidref, start time, end time, trajectory, then one value for each attribute column: fewer fields than
+-- the first four, or a field past the last attribute that is not blank
+unfoldable pub has_wrong_fields : ℕ → Row → Bool
+has_wrong_fields columns row = nat_lt (length row) 4 || not (list_all is_empty (drop (4 + columns) row))
+
+unfoldable pub has_wrong_name : Row → Bool
+has_wrong_name row = is_empty (field row 0) || nat_lt 255 (length (field row 0))
+
+-- the moment of a time field, an offset from the start instant, where it is a number and both are in range
+unfoldable pub moment_read : Option ℤ → List ℕ → Option ℤ
+moment_read start text =
+    option_and_then (λ base. option_and_then (λ offset. value_read (moment_at base offset)) (value_read (offset_of text))) start
+
+abbrev pub lacks_moment : Option ℤ → Row → Bool
+lacks_moment start row = not (is_some (moment_read start (field row 1)) && is_some (moment_read start (field row 2)))
+
+-- an end that is not after the start, of moments that are read
+abbrev pub is_not_after : Option ℤ → Option ℤ → Bool
+is_not_after (Some t0) (Some t1) = int_le t1 t0
+is_not_after (Some t0) None = false
+is_not_after None t1 = false
+
+abbrev pub ends_early : Option ℤ → Row → Bool
+ends_early start row = is_not_after (moment_read start (field row 1)) (moment_read start (field row 2))
+
+-- the coordinates of the trajectory
+abbrev pub coordinates : Row → List (List ℕ)
+coordinates row = words (field row 3)
+
+unfoldable pub is_coordinate : List ℕ → Bool
+is_coordinate text = is_some (value_read (coord_of text))
+
+unfoldable pub has_wrong_coordinate : List (List ℕ) → Bool
+has_wrong_coordinate texts = not (list_all is_coordinate texts)
+
+-- no position, or a number of coordinates that is no multiple of the dimension
+unfoldable pub has_wrong_count : List (List ℕ) → Bool
+has_wrong_count texts = (length texts == 0) || not (length texts % 2 == 0)
+
+abbrev pub position_of : Option ℤ → Option ℤ → Option Position
+position_of (Some x) (Some y) = Some (record { x = x; y = y })
+position_of (Some x) None = None
+position_of None y = None
+
+abbrev pub onto_positions : Option Position → Option (List Position) → Option (List Position)
+onto_positions (Some position) (Some positions) = Some (position ∷ positions)
+onto_positions (Some position) None = None
+onto_positions None positions = None
+
+-- the positions, where all coordinates are read and none is left over: the first of a pair is x
+unfoldable pub positions_of : List (List ℕ) → Option (List Position)
+positions_of [] = Some []
+positions_of (x ∷ []) = None
+positions_of (x ∷ y ∷ rest) = onto_positions (position_of (value_read (coord_of x)) (value_read (coord_of y))) (positions_of rest)
+
+-- fewer milliseconds than legs, of moments and positions that are read
+abbrev pub is_too_short : Option ℤ → Option ℤ → Option (List Position) → Bool
+is_too_short (Some t0) (Some t1) (Some positions) = int_lt (t1 -ℤ t0) (pos (leg_count (length positions)))
+is_too_short (Some t0) (Some t1) None = false
+is_too_short (Some t0) None positions = false
+is_too_short None t1 positions = false
+
+abbrev pub lacks_time : Option ℤ → Row → Bool
+lacks_time start row = is_too_short (moment_read start (field row 1)) (moment_read start (field row 2)) (positions_of (coordinates row))
+
+-- the value of each attribute column; one that is missing is blank
+unfoldable pub attributes_of : ℕ → Row → List (List ℕ)
+attributes_of columns row = map (λ i. field row (4 + i)) (range_with_len 0 columns)
+
+-- the data record of that number, where its moments and positions are read
+abbrev pub record_with : ℕ → ℕ → Row → Option ℤ → Option ℤ → Option (List Position) → Option RecordView
+record_with number columns row (Some t0) (Some t1) (Some positions) =
+    Some (record { number = number; mfidref = field row 0; t0 = t0; t1 = t1; positions = positions; attributes = attributes_of columns row })
+record_with number columns row (Some t0) (Some t1) None = None
+record_with number columns row (Some t0) None positions = None
+record_with number columns row None t1 positions = None
+
+unfoldable pub record_of : ℕ → Option ℤ → ℕ → Row → Option RecordView
+record_of number start columns row =
+    record_with number columns row (moment_read start (field row 1)) (moment_read start (field row 2)) (positions_of (coordinates row))

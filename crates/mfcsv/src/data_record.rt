@@ -1,0 +1,206 @@
+//! The data records.
+ghost use Rattle.std.specs.Prelude.{◌≡◌, ◌≤◌, ◌<◌, ◌+◌, ◌<ℤ◌, ◌-ℤ◌, int_lt, pos, ℕ, Some, true, length, drop, IfOk, MatchOption};
+ghost use Rattle.std.specs.Prelude.{◌∷◌, [], not};
+ghost use Rattle.std.specs.List.{list_all, prefix_len};
+ghost use Rattle.mfcsv.specs.Rows.{field, is_empty, is_separator, words};
+ghost use Rattle.mfcsv.specs.Unread.{cells};
+ghost use Rattle.mfcsv.specs.Views.{leg_count};
+ghost use Rattle.mfcsv.specs.DataRecord.{has_wrong_fields, has_wrong_name, moment_read, coordinates, positions_of, attributes_of, record_of};
+ghost use Rattle.mfcsv.specs.Answer.{Judges, span_fault, trajectory_fault, data_fault};
+
+use crate::header::Given;
+use crate::rows::{RowFault, copy_of, field_at};
+use crate::{Code, Column, Position, Positions, Record, Values};
+use csv::StringRecord;
+use fixedpoint::{read_coord, read_offset};
+use std::alloc::{AllocError, Global};
+use timebase::{Ms, at_offset};
+
+/// Whether all fields from a place on are blank.
+fn are_blank_from(row: &StringRecord, first: usize) -> bool
+    ensures { result ≡ list_all is_empty (drop first (cells row.now)) }
+{
+    for place in first..row.len() {
+        if !field_at(row, place).is_empty() {
+            return false;
+        }
+    }
+    true
+}
+
+#[tactic(auto, unfolding(crate::specs::DataRecord::has_wrong_fields))]
+fn has_wrong_fields(row: &StringRecord, columns: &[Column]) -> bool
+    ensures { result ≡ has_wrong_fields (length columns.now) (cells row.now) }
+{
+    row.len() < 4 || !are_blank_from(row, columns.len() + 4)
+}
+
+#[tactic(auto, unfolding(crate::specs::DataRecord::has_wrong_name))]
+fn has_wrong_name(row: &StringRecord) -> bool
+    ensures { result ≡ has_wrong_name (cells row.now) }
+{
+    let name = field_at(row, 0);
+    name.is_empty() || name.len() > 255
+}
+
+#[tactic(auto, unfolding(crate::specs::DataRecord::moment_read))]
+/// The moment of a time field: the start instant and the offset that the field writes.
+fn read_moment(start: Ms, text: &str) -> Option<Ms>
+    ensures { result ≡ moment_read (Some start) text.now }
+{
+    match read_offset(text) {
+        Ok(offset) => match at_offset(start, offset) {
+            Ok(moment) => Some(moment),
+            Err(_) => None,
+        },
+        Err(_) => None,
+    }
+}
+
+/// The start and the end of a record.
+fn read_span(start: Ms, row: &StringRecord) -> Result<(Ms, Ms), RowFault>
+    ensures span { Judges result (span_fault (Some start) (cells row.now))
+        (λ s. (moment_read (Some start) (field (cells row.now) 1) ≡ Some s.0) × (moment_read (Some start) (field (cells row.now) 2) ≡ Some s.1)) }
+    ensures in_order { IfOk result (λ s. s.0 <ℤ s.1) }
+{
+    let t0 = read_moment(start, field_at(row, 1));
+    let t1 = read_moment(start, field_at(row, 2));
+    match (t0, t1) {
+        (Some(t0), Some(t1)) => {
+            if t1.millis() <= t0.millis() {
+                Err(RowFault::Refused(Code::F14))
+            } else {
+                Ok((t0, t1))
+            }
+        }
+        _ => Err(RowFault::Refused(Code::F13)),
+    }
+}
+
+fn is_separator(c: u8) -> bool
+    ensures { result ≡ is_separator c }
+{
+    c == b' ' || c == b'\t' || c == b'\r' || c == b'\n'
+}
+
+fn separators_in_front(text: &str) -> usize
+    ensures value { result ≡ prefix_len is_separator text.now }
+    ensures within { result ≤ length text.now }
+{
+    text.as_bytes()
+        .iter()
+        .take_while(|c| is_separator(**c))
+        .count()
+}
+
+fn word_len(text: &str) -> usize
+    ensures value { result ≡ prefix_len (λ c. not (is_separator c)) text.now }
+    ensures within { result ≤ length text.now }
+{
+    text.as_bytes()
+        .iter()
+        .take_while(|c| !is_separator(**c))
+        .count()
+}
+
+/// The first word of a text, and what stands behind it.
+fn next_word(text: &str) -> Option<(&str, &str)>
+    ensures { MatchOption result (words text.now ≡ [])
+        (λ w. (words text.now ≡ w.0.now ∷ words w.1.now) × (length w.1.now < length text.now)) }
+{
+    let start = separators_in_front(text);
+    let rest = &text[start..];
+    if rest.is_empty() {
+        return None;
+    }
+    let end = word_len(rest);
+    Some((&rest[..end], &rest[end..]))
+}
+
+/// The positions of a trajectory: the coordinates of one after the other, x first.
+fn read_positions(alloc: Global, text: &str) -> Result<Positions, RowFault>
+    ensures positions { Judges result (trajectory_fault (words text.now)) (λ p. positions_of (words text.now) ≡ Some p) }
+    ensures placed { IfOk result (λ p. 1 ≤ length p) }
+{
+    let mut positions = Vec::new(alloc);
+    let mut rest = text;
+    let mut waiting = None;
+    while let Some((word, after)) = next_word(rest) {
+        let Ok(coordinate) = read_coord(word) else {
+            return Err(RowFault::Refused(Code::F15));
+        };
+        match waiting {
+            None => waiting = Some(coordinate),
+            Some(x) => {
+                positions.push(Position { x, y: coordinate })?;
+                waiting = None;
+            }
+        }
+        rest = after;
+    }
+    if waiting.is_some() || positions.is_empty() {
+        return Err(RowFault::Refused(Code::F16));
+    }
+    Ok(Positions::from(positions))
+}
+
+/// Whether there are fewer milliseconds than legs.
+fn lacks_time(t0: Ms, t1: Ms, positions: usize) -> bool
+    requires in_order { t0 <ℤ t1 }
+    requires placed { 1 ≤ positions }
+    ensures { result ≡ int_lt (t1 -ℤ t0) (pos (leg_count positions)) }
+{
+    let legs = if positions == 1 { 1 } else { positions - 1 };
+    let millis = t1.millis() - t0.millis();
+    (millis as u64) < legs as u64
+}
+
+/// The values of the attribute columns; one that is missing is blank.
+fn read_attributes(
+    alloc: Global,
+    row: &StringRecord,
+    columns: &[Column],
+) -> Result<Values, AllocError>
+    ensures { IfOk result (λ v. v ≡ attributes_of (length columns.now) (cells row.now)) }
+{
+    let mut values = Vec::new(alloc);
+    for i in 0..columns.len() {
+        let value = copy_of(alloc, row, 4 + i)?;
+        values.push(value)?;
+    }
+    Ok(Values::from(values))
+}
+
+/// The data record of a row behind both header lines.
+#[tactic(auto, unfolding(crate::specs::Answer::data_fault, crate::specs::DataRecord::record_of))]
+pub(crate) fn read_record(
+    alloc: Global,
+    number: u64,
+    row: &StringRecord,
+    given: &Given,
+) -> Result<Record, RowFault>
+    ensures { Judges result (data_fault (Some given.now.start) (length given.now.columns.now) (cells row.now))
+        (λ r. record_of number (Some given.now.start) (length given.now.columns.now) (cells row.now) ≡ Some r) }
+{
+    if has_wrong_fields(row, given.columns) {
+        return Err(RowFault::Refused(Code::F11));
+    }
+    if has_wrong_name(row) {
+        return Err(RowFault::Refused(Code::F12));
+    }
+    let (t0, t1) = read_span(given.start, row)?;
+    let positions = read_positions(alloc, field_at(row, 3))?;
+    if lacks_time(t0, t1, positions.as_slice().len()) {
+        return Err(RowFault::Refused(Code::F17));
+    }
+    let mfidref = copy_of(alloc, row, 0)?;
+    let attributes = read_attributes(alloc, row, given.columns)?;
+    Ok(Record {
+        number,
+        mfidref,
+        t0,
+        t1,
+        positions,
+        attributes,
+    })
+}

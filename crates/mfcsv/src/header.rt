@@ -1,0 +1,282 @@
+//! The lines of a file, and what its two header lines say.
+ghost use Rattle.std.specs.Prelude.{◌≡◌, ◌==◌, ◌≤◌, ◌<◌, ◌+◌, ◌*◌, ◌^◌, ◌&&◌, not, ℕ, Some, true, false, length, take, drop, map, slice_index, is_some, IfOk, MatchOption};
+ghost use Rattle.std.specs.List.{list_all};
+ghost use Rattle.std.specs.Str.{is_utf8};
+ghost use Rattle.mfcsv.specs.Rows.{field, is_empty};
+ghost use Rattle.mfcsv.specs.Unread.{cells};
+ghost use Rattle.mfcsv.specs.Header.{kind_of, is_blank_row, is_header_row, is_dimension, is_unit, is_blank_column, pairs, columns_of, lacks_fixed_columns, bounds_of, columns_line_of, heads_after, has_heads};
+ghost use Rattle.mfcsv.specs.FileText.{first_fault, no_heads, start_before, columns_before};
+ghost use Rattle.mfcsv.specs.Answer.{Judges, bounds_fault};
+
+use crate::rows::{RowFault, copy_of, field_at, is_word};
+use crate::{Code, Column, Columns, Text};
+use csv::StringRecord;
+use std::alloc::{AllocError, Global};
+use std::marker::Model;
+use timebase::{Ms, read_instant};
+
+/// What kind of line a record is.
+#[derive(Clone, Copy, PartialEq, Eq, Debug)]
+pub(crate) enum Kind {
+    /// A record of one blank field.
+    Skipped,
+    /// `@stboundedby`.
+    Bounds,
+    /// `@columns`.
+    Columns,
+    /// Any other line that begins with `@`.
+    Other,
+    Data,
+}
+
+fn is_blank_row(row: &StringRecord) -> bool
+    ensures { result ≡ is_blank_row (cells row.now) }
+{
+    row.len() == 1 && field_at(row, 0).is_empty()
+}
+
+fn is_header(tag: &str) -> bool
+    ensures { result ≡ (slice_index tag.now 0 == 64) }
+{
+    let bytes = tag.as_bytes();
+    !bytes.is_empty() && bytes[0] == b'@'
+}
+
+/// What kind of line a record is.
+#[tactic(auto, unfolding(crate::specs::Header::kind_of))]
+pub(crate) fn kind_of(row: &StringRecord) -> Kind
+    ensures { result ≡ kind_of (cells row.now) }
+{
+    if is_blank_row(row) {
+        return Kind::Skipped;
+    }
+    let tag = field_at(row, 0);
+    if !is_header(tag) {
+        Kind::Data
+    } else if is_word(tag, "@stboundedby") {
+        Kind::Bounds
+    } else if is_word(tag, "@columns") {
+        Kind::Columns
+    } else {
+        Kind::Other
+    }
+}
+
+/// Whether a dimension is one that files may have.
+fn is_dimension(text: &str) -> bool
+    ensures { result ≡ is_dimension text.now }
+{
+    is_word(text, "2d")
+}
+
+/// Whether a time unit is one that files may have. A blank one is `sec`.
+fn is_unit(text: &str) -> bool
+    ensures { result ≡ is_unit text.now }
+{
+    text.is_empty() || is_word(text, "sec")
+}
+
+/// What a line `@stboundedby` says.
+#[derive(Drop)]
+pub(crate) struct Bounds {
+    pub(crate) number: u64,
+    pub(crate) crs: Text,
+    pub(crate) start: Ms,
+}
+
+impl Model for Bounds {
+    ghost use Rattle.std.specs.Prelude.{Some};
+    ghost use Rattle.mfcsv.specs.Views.{BoundsView};
+
+    ghost Value = { BoundsView };
+
+    ghost view = { λ a. record { number = a.number; crs = a.crs; start = Some a.start } };
+}
+
+#[tactic(auto, unfolding(crate::specs::Header::lacks_bounds_fields, crate::specs::Header::has_other_dimension, crate::specs::Header::start_of, crate::specs::Header::has_other_unit))]
+fn read_bounds(alloc: Global, number: u64, row: &StringRecord) -> Result<Bounds, RowFault>
+    ensures { Judges result (bounds_fault (cells row.now)) (λ b. b ≡ bounds_of number (cells row.now)) }
+{
+    if row.len() < 7 {
+        return Err(RowFault::Refused(Code::F3));
+    }
+    if !is_dimension(field_at(row, 2)) {
+        return Err(RowFault::Refused(Code::F4));
+    }
+    let start = match read_instant(field_at(row, 5)) {
+        Ok(start) => start,
+        Err(_) => return Err(RowFault::Refused(Code::F5)),
+    };
+    if !is_unit(field_at(row, 7)) {
+        return Err(RowFault::Refused(Code::F6));
+    }
+    let crs = copy_of(alloc, row, 1)?;
+    Ok(Bounds { number, crs, start })
+}
+
+#[tactic(auto, unfolding(crate::specs::Header::lacks_fixed_columns))]
+fn has_fixed_columns(row: &StringRecord) -> bool
+    ensures { lacks_fixed_columns (cells row.now) ≡ not result }
+{
+    is_word(field_at(row, 1), "mfidref") && is_word(field_at(row, 2), "trajectory")
+}
+
+/// Whether the name and the type in these two fields are both blank.
+fn is_blank_pair(row: &StringRecord, place: usize) -> bool
+    requires { place + 1 < 2 ^ 64 }
+    ensures { result ≡ (is_empty (field (cells row.now) place) && is_empty (field (cells row.now) (place + 1))) }
+{
+    field_at(row, place).is_empty() && field_at(row, place + 1).is_empty()
+}
+
+/// How many attribute columns a line `@columns` has, without the blank pairs at its end.
+fn column_count(row: &StringRecord) -> usize
+    ensures small { 2 * result + 2 < 2 ^ 64 }
+    ensures columns { columns_of (cells row.now) ≡ take result (pairs (drop 3 (cells row.now))) }
+    ensures within { result ≤ length (pairs (drop 3 (cells row.now))) }
+{
+    let mut count = row.len().saturating_sub(2) / 2;
+    while count > 0 && is_blank_pair(row, 2 * count + 1) {
+        count -= 1;
+    }
+    count
+}
+
+fn read_columns(alloc: Global, row: &StringRecord) -> Result<Columns, AllocError>
+    ensures { IfOk result (λ c. c ≡ columns_of (cells row.now)) }
+{
+    let mut columns = Vec::new(alloc);
+    for i in 0..column_count(row) {
+        let name = copy_of(alloc, row, 2 * i + 3)?;
+        let kind = copy_of(alloc, row, 2 * i + 4)?;
+        columns.push(Column { name, kind })?;
+    }
+    Ok(Columns::from(columns))
+}
+
+/// What a line `@columns` says.
+#[derive(Drop)]
+pub(crate) struct ColumnLine {
+    pub(crate) number: u64,
+    pub(crate) columns: Columns,
+}
+
+impl Model for ColumnLine {
+    ghost use Rattle.mfcsv.specs.Views.{ColumnsView};
+
+    ghost Value = { ColumnsView };
+
+    ghost view = { λ a. record { number = a.number; columns = a.columns } };
+}
+
+/// What both header lines give each data record: the start instant, and the attribute columns.
+#[derive(Clone, Copy)]
+pub(crate) struct Given<'a> {
+    pub(crate) start: Ms,
+    pub(crate) columns: &'a [Column],
+}
+
+/// The header lines met so far.
+#[derive(Drop)]
+pub(crate) struct Heads {
+    pub(crate) bounds: Option<Bounds>,
+    pub(crate) columns: Option<ColumnLine>,
+}
+
+impl Model for Heads {
+    ghost use Rattle.mfcsv.specs.Views.{HeadsView};
+
+    ghost Value = { HeadsView };
+
+    ghost view = { λ a. record { bounds = a.bounds; columns = a.columns } };
+}
+
+impl Heads {
+    pub(crate) fn new() -> Heads
+        ensures { result ≡ no_heads }
+    {
+        Heads {
+            bounds: None,
+            columns: None,
+        }
+    }
+
+    fn set_bounds(&mut self, bounds: Bounds)
+        ensures { self.new ≡ record self.old { bounds = Some bounds } }
+    {
+        self.bounds = Some(bounds);
+    }
+
+    fn set_columns(&mut self, line: ColumnLine)
+        ensures { self.new ≡ record self.old { columns = Some line } }
+    {
+        self.columns = Some(line);
+    }
+
+    fn has_bounds(&self) -> bool
+        ensures { result ≡ is_some self.now.bounds }
+    {
+        self.bounds.is_some()
+    }
+
+    fn has_columns(&self) -> bool
+        ensures { result ≡ is_some self.now.columns }
+    {
+        self.columns.is_some()
+    }
+
+    /// Takes a line `@stboundedby` in.
+    pub(crate) fn take_bounds(
+        &mut self,
+        alloc: Global,
+        number: u64,
+        row: &StringRecord,
+    ) -> Result<(), RowFault>
+        requires kind { kind_of (cells row.now) ≡ Kind.Bounds }
+        requires text { list_all is_utf8 (cells row.now) ≡ true }
+        ensures { Judges result (first_fault self.old (cells row.now)) (λ _. self.new ≡ heads_after number self.old (cells row.now)) }
+    {
+        if self.has_bounds() {
+            return Err(RowFault::Refused(Code::F2));
+        }
+        let bounds = read_bounds(alloc, number, row)?;
+        self.set_bounds(bounds);
+        Ok(())
+    }
+
+    /// Takes a line `@columns` in.
+    pub(crate) fn take_columns(
+        &mut self,
+        alloc: Global,
+        number: u64,
+        row: &StringRecord,
+    ) -> Result<(), RowFault>
+        requires kind { kind_of (cells row.now) ≡ Kind.Columns }
+        requires text { list_all is_utf8 (cells row.now) ≡ true }
+        ensures { Judges result (first_fault self.old (cells row.now)) (λ _. self.new ≡ heads_after number self.old (cells row.now)) }
+    {
+        if self.has_columns() {
+            return Err(RowFault::Refused(Code::F2));
+        }
+        if !has_fixed_columns(row) {
+            return Err(RowFault::Refused(Code::F7));
+        }
+        let columns = read_columns(alloc, row)?;
+        self.set_columns(ColumnLine { number, columns });
+        Ok(())
+    }
+
+    /// What both header lines give each data record.
+    pub(crate) fn given(&self) -> Option<Given<'_>>
+        ensures { MatchOption result (has_heads self.now ≡ false)
+            (λ g. (has_heads self.now ≡ true) × (start_before self.now ≡ Some g.start) × (columns_before self.now ≡ length g.columns.now)) }
+    {
+        match (&self.bounds, &self.columns) {
+            (Some(bounds), Some(line)) => Some(Given {
+                start: bounds.start,
+                columns: line.columns.as_slice(),
+            }),
+            _ => None,
+        }
+    }
+}

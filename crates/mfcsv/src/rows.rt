@@ -1,0 +1,144 @@
+//! The records of a file, one at a time, and their fields.
+ghost use Rattle.std.specs.Prelude.{◌≡◌, ◌≤◌, map, length};
+ghost use Rattle.std.specs.List.{prefix_len, suffix_len};
+ghost use Rattle.mfcsv.specs.Rows.{cut, field, has_mark, is_blank, rows_of, same_word, without_marks, is_empty};
+ghost use Rattle.mfcsv.specs.Unread.{IsBetweenRows, ReadsRow, bytes_left, cells, fault_of, rows_left};
+ghost use Rattle.csv.specs.Reading.{error_kind};
+ghost use Rattle.std.specs.Prelude.{IfOk};
+
+use crate::{Code, Text};
+use csv::{Error, ErrorKind, Reader, ReaderBuilder, StringRecord};
+use std::alloc::{AllocError, AllocFailed, Global};
+
+/// Why a record was not taken in.
+#[derive(Clone, Copy, PartialEq, Eq, Debug)]
+pub(crate) enum RowFault {
+    Refused(Code),
+    Memory,
+}
+
+impl From<AllocError> for RowFault {
+    ghost use Rattle.mfcsv.specs.declared.rows.RowFault.{RowFault};
+
+    ghost from_gives = { λ e r. r ≡ RowFault.Memory };
+
+    fn from(_: AllocError) -> RowFault {
+        RowFault::Memory
+    }
+}
+
+impl<T: Drop> From<AllocFailed<T>> for RowFault {
+    ghost use Rattle.mfcsv.specs.declared.rows.RowFault.{RowFault};
+
+    ghost from_gives = { λ e r. r ≡ RowFault.Memory };
+
+    fn from(_: AllocFailed<T>) -> RowFault {
+        RowFault::Memory
+    }
+}
+
+fn has_mark(bytes: &[u8]) -> bool
+    ensures { result ≡ has_mark bytes.now }
+{
+    bytes.len() >= 3 && bytes[0] == 0xEF && bytes[1] == 0xBB && bytes[2] == 0xBF
+}
+
+/// The bytes without the byte order marks at their very start.
+fn without_marks(bytes: &[u8]) -> &[u8]
+    ensures { result.now ≡ without_marks bytes.now }
+{
+    let mut rest = bytes;
+    while has_mark(rest) {
+        rest = &rest[3..];
+    }
+    rest
+}
+
+/// A reader of the records of a file.
+pub(crate) fn read_rows(alloc: Global, bytes: &[u8]) -> Reader<&[u8]>
+    ensures between { IsBetweenRows result }
+    ensures rows { rows_left result ≡ rows_of bytes.now }
+    ensures within { length (bytes_left result) ≤ length bytes.now }
+{
+    ReaderBuilder::new()
+        .has_headers(false)
+        .flexible(true)
+        .from_reader(alloc, without_marks(bytes))
+}
+
+/// The fault that an error of the reader is. The bytes are in memory, so but for a field that is no
+/// text it is want of memory.
+fn fault_of(error: Error) -> RowFault
+    ensures { result ≡ fault_of (error_kind error) }
+{
+    match error.into_kind() {
+        ErrorKind::Utf8 { .. } => RowFault::Refused(Code::F1),
+        _ => RowFault::Memory,
+    }
+}
+
+/// Reads the next record into `row`: whether there was one.
+pub(crate) fn next_row(reader: &mut Reader<&[u8]>, row: &mut StringRecord) -> Result<bool, RowFault>
+    requires { IsBetweenRows reader.old }
+    ensures { ReadsRow result reader.old reader.new row.new }
+{
+    match reader.read_record(row) {
+        Ok(found) => Ok(found),
+        Err(error) => Err(fault_of(error)),
+    }
+}
+
+fn blanks_in_front(text: &str) -> usize
+    ensures value { result ≡ prefix_len is_blank text.now }
+    ensures within { result ≤ length text.now }
+{
+    text.as_bytes()
+        .iter()
+        .take_while(|c| **c == b' ' || **c == b'\t')
+        .count()
+}
+
+fn blanks_at_end(text: &str) -> usize
+    ensures value { result ≡ suffix_len is_blank text.now }
+    ensures within { result ≤ length text.now }
+{
+    text.as_bytes()
+        .iter()
+        .rev()
+        .take_while(|c| **c == b' ' || **c == b'\t')
+        .count()
+}
+
+/// A field without the spaces and tabs at its ends.
+fn cut_field(text: &str) -> &str
+    ensures { result.now ≡ cut text.now }
+{
+    let start = blanks_in_front(text);
+    let rest = &text[start..];
+    let end = rest.len() - blanks_at_end(rest);
+    &rest[..end]
+}
+
+/// The field at a place, cut; blank where there is none.
+pub(crate) fn field_at(row: &StringRecord, place: usize) -> &str
+    ensures { result.now ≡ field (cells row.now) place }
+{
+    match row.get(place) {
+        Some(text) => cut_field(text),
+        None => "",
+    }
+}
+
+/// Whether a text is a word, but for the case of ASCII letters.
+pub(crate) fn is_word(text: &str, word: &str) -> bool
+    ensures { result ≡ same_word text.now word.now }
+{
+    text.eq_ignore_ascii_case(word)
+}
+
+/// A copy of the field at a place.
+pub(crate) fn copy_of(alloc: Global, row: &StringRecord, place: usize) -> Result<Text, AllocError>
+    ensures { IfOk result (λ t. t ≡ field (cells row.now) place) }
+{
+    Ok(Text::from(String::from_str(alloc, field_at(row, place))?))
+}

@@ -1,0 +1,406 @@
+//! The worked files of the format, and what no clause says.
+use super::*;
+use std::alloc::Global;
+use std::process::Abort;
+use std::test::Fail;
+
+/// The example of the standard.
+const STANDARD: &str = "\
+@stboundedby,urn:x-ogc:def:crs:EPSG:6.6:4326,2D,50.23 9.23,50.31 9.27,2012-01-17T12:33:41Z,2012-01-17T12:37:00Z,sec
+@columns,mfidref,trajectory,state,xsd:token,\"type code\",xsd:integer
+a,10,150,11.0 2.0 12.0 3.0,walking,1
+b,10,190,10.0 2.0 11.0 3.0,walking,2
+a,150,190,12.0 3.0 10.0 3.0,walking,2
+c,10,190,12.0 1.0 10.0 2.0 11.0 3.0,vehicle,1
+";
+
+/// The line `@stboundedby` of most files below, and then these lines.
+macro_rules! bounded {
+    ($lines:literal) => {
+        concat!(
+            "@stboundedby,local,2D,0 0,0 0,2020-01-01T00:00:00Z,2020-01-02T00:00:00Z,sec\n",
+            $lines
+        )
+    };
+}
+
+/// Both header lines of most files below, and then these lines.
+macro_rules! headed {
+    ($lines:literal) => {
+        concat!(
+            "@stboundedby,local,2D,0 0,0 0,2020-01-01T00:00:00Z,2020-01-02T00:00:00Z,sec\n",
+            "@columns,mfidref,trajectory\n",
+            $lines
+        )
+    };
+}
+
+/// What a file says. Where one allocation fails the answer may be want of memory; asked again, it
+/// is what the bytes say.
+fn read(alloc: Global, bytes: &[u8]) -> Result<File, FileFault> {
+    match read_file(alloc, bytes) {
+        Err(FileFault::Memory) => read_file(alloc, bytes),
+        answer => answer,
+    }
+}
+
+/// The code and number of a refusal.
+fn refusal(alloc: Global, bytes: &[u8]) -> Option<(Code, u64)> {
+    match read(alloc, bytes) {
+        Err(FileFault::Refused { code, number }) => Some((code, number)),
+        _ => None,
+    }
+}
+
+/// Whether a record is this one: its number, its name, its times in milliseconds from the start,
+/// its coordinates in units of 10^-7, its values.
+fn is_record(
+    record: &Record,
+    start: Ms,
+    number: u64,
+    name: &str,
+    times: (i64, i64),
+    positions: &[(i64, i64)],
+    values: &[&str],
+) -> bool {
+    let from = start.millis();
+    record.number == number
+        && record.mfidref.as_str() == name
+        && (record.t0.millis() - from, record.t1.millis() - from) == times
+        && are_positions(record.positions.as_slice(), positions)
+        && are_values(record.attributes.as_slice(), values)
+}
+
+fn are_positions(positions: &[Position], wanted: &[(i64, i64)]) -> bool {
+    positions.len() == wanted.len()
+        && positions
+            .iter()
+            .zip(wanted)
+            .all(|(p, q)| (p.x.units(), p.y.units()) == *q)
+}
+
+fn are_values(values: &[Text], wanted: &[&str]) -> bool {
+    values.len() == wanted.len() && values.iter().zip(wanted).all(|(v, w)| v.as_str() == *w)
+}
+
+fn are_columns(columns: &[Column], wanted: &[(&str, &str)]) -> bool {
+    columns.len() == wanted.len()
+        && columns
+            .iter()
+            .zip(wanted)
+            .all(|(c, w)| c.name.as_str() == w.0 && c.kind.as_str() == w.1)
+}
+
+#[test]
+fn reads_the_example_of_the_standard(rt: HostRuntime) -> Result<(), Fail> {
+    let file = read(rt.alloc(), STANDARD.as_bytes())?;
+    let head = &file.head;
+    assert_eq!(rt; head.number_bounds, 1);
+    assert_eq!(rt; head.number_columns, 2);
+    assert_eq!(rt; head.crs.as_str(), "urn:x-ogc:def:crs:EPSG:6.6:4326");
+    assert_eq!(rt; head.start.millis(), 1326803621000);
+    assert!(rt;
+        are_columns(
+            head.columns.as_slice(),
+            &[("state", "xsd:token"), ("type code", "xsd:integer")]
+        )
+    );
+    let records = file.records.as_slice();
+    assert_eq!(rt; records.len(), 4);
+    let x = 10_000_000;
+    assert!(rt;
+        is_record(
+            &records[0],
+            head.start,
+            3,
+            "a",
+            (10_000, 150_000),
+            &[(11 * x, 2 * x), (12 * x, 3 * x)],
+            &["walking", "1"]
+        )
+    );
+    assert!(rt;
+        is_record(
+            &records[1],
+            head.start,
+            4,
+            "b",
+            (10_000, 190_000),
+            &[(10 * x, 2 * x), (11 * x, 3 * x)],
+            &["walking", "2"]
+        )
+    );
+    assert!(rt;
+        is_record(
+            &records[2],
+            head.start,
+            5,
+            "a",
+            (150_000, 190_000),
+            &[(12 * x, 3 * x), (10 * x, 3 * x)],
+            &["walking", "2"]
+        )
+    );
+    assert!(rt;
+        is_record(
+            &records[3],
+            head.start,
+            6,
+            "c",
+            (10_000, 190_000),
+            &[(12 * x, x), (10 * x, 2 * x), (11 * x, 3 * x)],
+            &["vehicle", "1"]
+        )
+    );
+    Ok(())
+}
+
+#[test]
+fn reads_marks_odd_case_foreign_lines_and_quoted_fields(rt: HostRuntime) -> Result<(), Fail> {
+    let bytes =
+        b"\xEF\xBB\xBF@STBOUNDEDBY,local,2d,0 0,0 0,2020-01-01T00:00:00Z,2020-01-02T00:00:00Z\r\n\
+        @foliation,x\r\n@Columns,MFIDREF,Trajectory,note,xsd:string\r\n\"a, b\", 0 ,1,0 0 1 1\r\n";
+    let file = read(rt.alloc(), bytes)?;
+    assert_eq!(rt; file.head.number_columns, 3);
+    assert!(rt; are_columns(file.head.columns.as_slice(), &[("note", "xsd:string")]));
+    let records = file.records.as_slice();
+    assert_eq!(rt; records.len(), 1);
+    let x = 10_000_000;
+    assert!(rt;
+        is_record(
+            &records[0],
+            file.head.start,
+            4,
+            "a, b",
+            (0, 1000),
+            &[(0, 0), (x, x)],
+            &[""]
+        )
+    );
+    Ok(())
+}
+
+#[test]
+fn counts_skipped_records_and_drops_blank_ends(rt: HostRuntime) -> Result<(), Fail> {
+    // Two marks; an empty line is no record; a record of one blank field, and a foreign line, count.
+    let text = "\u{FEFF}\u{FEFF} \t \n\n@Columns,mfidref,trajectory,\tname ,kind,last,,,\t\n@more\n\
+        @stboundedby, c r s ,2D,,,2020-01-01T00:00:00Z,,Sec,and,more\n\" \"\nx,0,1,\"\t0\r\n0 \n1\t\t1 \",,v, ,\t\n";
+    let file = read(rt.alloc(), text.as_bytes())?;
+    assert_eq!(rt; file.head.number_columns, 2);
+    assert_eq!(rt; file.head.number_bounds, 4);
+    assert_eq!(rt; file.head.crs.as_str(), "c r s");
+    assert!(rt;
+        are_columns(
+            file.head.columns.as_slice(),
+            &[("name", "kind"), ("last", "")]
+        )
+    );
+    let records = file.records.as_slice();
+    assert_eq!(rt; records.len(), 1);
+    let x = 10_000_000;
+    assert!(rt;
+        is_record(
+            &records[0],
+            file.head.start,
+            6,
+            "x",
+            (0, 1000),
+            &[(0, 0), (x, x)],
+            &["", "v"]
+        )
+    );
+    Ok(())
+}
+
+#[test]
+fn refuses_with_the_first_fault(rt: HostRuntime) {
+    let files = [
+        ("", Code::F8, 0),
+        ("\n\n", Code::F8, 0),
+        (bounded!(""), Code::F8, 0),
+        ("@columns,mfidref,trajectory\n", Code::F8, 0),
+        ("x,0,1,0 0\n", Code::F8, 1),
+        (
+            bounded!("x,0,1,0 0\n@columns,mfidref,trajectory\n"),
+            Code::F8,
+            2,
+        ),
+        (headed!("@columns,mfidref,trajectory\n"), Code::F2, 3),
+        (headed!("@STBOUNDEDBY\n"), Code::F2, 3),
+        (
+            "@stboundedby,local,2D,0 0,0 0,2020-01-01T00:00:00Z",
+            Code::F3,
+            1,
+        ),
+        (
+            "@stboundedby,local,3D,0 0,0 0,2020-01-01T00:00:00Z,",
+            Code::F4,
+            1,
+        ),
+        (
+            "@stboundedby,local,2D,0 0,0 0,2020-01-01T00:00:00,,day",
+            Code::F5,
+            1,
+        ),
+        (
+            "@stboundedby,local,2D,0 0,0 0,9999-06-01T00:00:00Z,",
+            Code::F5,
+            1,
+        ),
+        (
+            "@stboundedby,local,2D,0 0,0 0,2020-01-01T00:00:00Z,,hour",
+            Code::F6,
+            1,
+        ),
+        (bounded!("@columns,mfidref,tragectory\n"), Code::F7, 2),
+        (bounded!("@columns,,trajectory\n"), Code::F7, 2),
+        (headed!("x,0,1"), Code::F11, 3),
+        (headed!("x,0,1,0 0,y"), Code::F11, 3),
+        (headed!("\"x,0,1,0 0"), Code::F11, 3),
+        (headed!(" ,0,1,0 0"), Code::F12, 3),
+        (headed!("x,a,1,0 0"), Code::F13, 3),
+        (headed!("x,0,1e3,0 0"), Code::F13, 3),
+        (headed!("x,0,1000000000000,0 0"), Code::F13, 3),
+        (headed!("x,1,1,0 0"), Code::F14, 3),
+        (headed!("x,1,0.9999,0 y"), Code::F14, 3),
+        (headed!("n,0,1,0 0 0 100000000.0000001"), Code::F15, 3),
+        (headed!("x,0,1,0 0 y"), Code::F15, 3),
+        (headed!("x,0,1,"), Code::F16, 3),
+        (headed!("x,0,1,0 0 1"), Code::F16, 3),
+        (headed!("q,0,0.002,0 0 1 1 2 2 3 3\n"), Code::F17, 3),
+        (
+            headed!("p,0,1,0 0\n\n\n@other\nx,1,1,0 0\nx,0\n"),
+            Code::F14,
+            5,
+        ),
+    ];
+    for (text, code, number) in files {
+        assert_eq!(rt;
+            refusal(rt.alloc(), text.as_bytes()),
+            Some((code, number)),
+            "in {text}"
+        );
+    }
+}
+
+#[test]
+fn refuses_bytes_that_are_no_text(rt: HostRuntime) {
+    let head =
+        b"@stboundedby,local,2D,0 0,0 0,2020-01-01T00:00:00Z,2020-01-02T00:00:00Z,sec\n@columns,mfidref,trajectory\nx,0,1,\xFF";
+    assert_eq!(rt; refusal(rt.alloc(), head), Some((Code::F1, 3)));
+    assert_eq!(rt; refusal(rt.alloc(), b"@x,\xC3\n"), Some((Code::F1, 1)));
+    assert_eq!(rt; refusal(rt.alloc(), b"x,\xFF"), Some((Code::F1, 1)));
+}
+
+#[test]
+fn takes_the_neighbours_of_what_is_refused(rt: HostRuntime) -> Result<(), Fail> {
+    let x = 10_000_000;
+    for text in [
+        headed!("x,0,1,0 0,"),
+        headed!("x,0,1,0 0, ,\t,\n"),
+        headed!("x,0,1,+0. -.0\n"),
+    ] {
+        let file = read(rt.alloc(), text.as_bytes())?;
+        let records = file.records.as_slice();
+        assert_eq!(rt; records.len(), 1);
+        assert!(rt;
+            is_record(
+                &records[0],
+                file.head.start,
+                3,
+                "x",
+                (0, 1000),
+                &[(0, 0)],
+                &[]
+            )
+        );
+    }
+    let file = read(rt.alloc(), headed!("").as_bytes())?;
+    assert_eq!(rt; file.records.as_slice().len(), 0);
+    let file = read(
+        rt.alloc(),
+        headed!("q,0,0.003,0 0 1 1 2 2 3 3\nq,0.003,0.004,3 3\n").as_bytes(),
+    )?;
+    let records = file.records.as_slice();
+    assert_eq!(rt; records.len(), 2);
+    assert!(rt;
+        is_record(
+            &records[0],
+            file.head.start,
+            3,
+            "q",
+            (0, 3),
+            &[(0, 0), (x, x), (2 * x, 2 * x), (3 * x, 3 * x)],
+            &[]
+        )
+    );
+    assert!(rt;
+        is_record(
+            &records[1],
+            file.head.start,
+            4,
+            "q",
+            (3, 4),
+            &[(3 * x, 3 * x)],
+            &[]
+        )
+    );
+    Ok(())
+}
+
+#[test]
+fn rounds_coordinates_and_times(rt: HostRuntime) -> Result<(), Fail> {
+    let text = headed!("n,-0.0005,1.0004,1.00000005 -1.00000005 -0 100000000.00000004\n");
+    let file = read(rt.alloc(), text.as_bytes())?;
+    let records = file.records.as_slice();
+    assert_eq!(rt; records.len(), 1);
+    assert!(rt;
+        is_record(
+            &records[0],
+            file.head.start,
+            3,
+            "n",
+            (-1, 1000),
+            &[(10_000_001, -10_000_001), (0, 1_000_000_000_000_000)],
+            &[]
+        )
+    );
+    Ok(())
+}
+
+#[test]
+fn answers_a_file_cut_at_each_byte(rt: HostRuntime) {
+    let bytes = STANDARD.as_bytes();
+    for end in 0..bytes.len() {
+        let answer = read(rt.alloc(), &bytes[..end]);
+        assert!(rt;
+            answer.is_ok() || refusal(rt.alloc(), &bytes[..end]).is_some(),
+            "cut at {end}"
+        );
+    }
+}
+
+#[test]
+fn counts_from_the_first_record_to_the_cut(rt: HostRuntime) {
+    let cut = "\
+@stboundedby,urn:x-ogc:def:crs:EPSG:6.6:4326,2D,50.23 9.23,50.31 9.27,2012-01-17T12:33:41Z,2012-01-17T12:37:00Z,sec
+@columns,mfidref,trajectory,state,xsd:token,\"type code\",xsd:integer
+a,10,150,11.0 2.0 12.0 3.0,walking,1
+b,10,190,10.0 2.0 11.0 3.0,walking,2
+a,150,1";
+    assert_eq!(rt; refusal(rt.alloc(), cut.as_bytes()), Some((Code::F11, 5)));
+}
+
+#[test]
+fn prints_codes_and_faults(rt: HostRuntime) -> Result<(), Fail> {
+    let codes = [
+        (Code::F1, "F1"),
+        (Code::F8, "F8"),
+        (Code::F11, "F11"),
+        (Code::F17, "F17"),
+    ];
+    for (code, text) in codes {
+        assert_eq!(rt; format!(in rt.alloc(); "{code}")?.as_str(), text);
+    }
+    Ok(())
+}
