@@ -1,0 +1,9 @@
+pub mod BoxLemmas
+pub mod CutLemmas
+pub mod PlaceLemmas
+pub mod NameLemmas
+pub mod RecordLemmas
+pub mod DraftLemmas
+pub mod JoinLemmas
+pub mod CountLemmas
+pub mod AcceptLemmas

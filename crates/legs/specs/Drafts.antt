@@ -1,0 +1,30 @@
+-- A draft of a book: what is known of each name.
+use Rattle.std.specs.Prelude.{ℕ, ◌≡◌, ◌≤◌, ◌^◌, List, length, slice_get, Option, bytes_eq}
+use Rattle.std.specs.Option.{option_and_then, option_map, option_or}
+use Rattle.indexmap.specs.IndexMap.{get_by}
+use Rattle.legs.specs.Index.{last_end}
+use Rattle.legs.specs.Book.{Book, feature_of}
+use Rattle.legs.specs.Tracks.{TracksView, IsLawful}
+use Rattle.legs.specs.declared.draft.Latest.{Latest}
+use Rattle.legs.specs.declared.draft.Draft.{Draft}
+
+-- the latest of a name, in a book
+abbrev pub latest_of : Book → List ℕ → Option Latest
+latest_of book name = option_and_then (λ feature. option_map (λ end. record { feature = feature; end = end }) (last_end feature book.legs)) (feature_of book.names name)
+
+-- the latest of a name, in tracks
+abbrev pub latest_in : TracksView → List ℕ → Option Latest
+latest_in tracks name = option_and_then (λ feature. option_map (λ track. record { feature = feature; end = track.end }) (slice_get tracks.tracks feature)) (feature_of tracks.names name)
+
+-- what a draft knows of a name: by a record of the file, or else by the tracks
+unfoldable pub known : Draft → List ℕ → Option Latest
+known draft name = option_or (get_by (λ key. bytes_eq name key.now) draft.latest) (latest_in draft.tracks.now name)
+
+-- the draft is that of a lawful book
+pub record IsDraft (draft : Draft) (book : Book) : Type 0 where
+  pub known : (name : List ℕ) → known draft name ≡ latest_of book name
+  pub features : draft.features ≡ length book.names
+  pub legs : draft.legs ≡ length book.legs
+  pub rows : draft.rows ≡ length book.rows
+  pub few_names : length draft.tracks.now.names ≤ 2 ^ 32
+  pub lawful : IsLawful book

@@ -1,0 +1,11 @@
+pub mod Legs
+pub mod Boxes
+pub mod Index
+pub mod Limits
+pub mod Book
+pub mod Tracks
+pub mod Places
+pub mod Counting
+pub mod FirstFault
+pub mod Latest
+pub mod Drafts

@@ -1,0 +1,153 @@
+//! The joining of a file to a book.
+ghost use Rattle.std.specs.Prelude.{◌≡◌, [], length, map, zip, ◌++◌, Ok, IfOk, IfErr, OnOk};
+ghost use Rattle.std.specs.List.{list_all};
+ghost use Rattle.std.specs.Option.{option_copied};
+ghost use Rattle.legs.specs.Index.{CanFollowInTurn};
+ghost use Rattle.legs.specs.Book.{Book, joined, IsRefusal, with_file, same_column, same_columns, head_faults};
+ghost use Rattle.legs.specs.Tracks.{StandsFor};
+ghost use Rattle.legs.specs.FirstFault.{IsFirst};
+
+use crate::draft::Draft;
+use crate::leg::Leg;
+use crate::limits::Limits;
+use crate::tracks::Tracks;
+use mfcsv::{Column, File, Head};
+use std::alloc::{AllocError, AllocFailed, Global};
+use thiserror::Error;
+
+/// A joining fault: why a file whose text has no fault is not accepted.
+#[derive(Clone, Copy, PartialEq, Eq, Debug, Error)]
+pub enum JoinCode {
+    /// The CRS is not the database's.
+    #[error("F9")]
+    F9,
+    /// The attribute columns are not the database's.
+    #[error("F10")]
+    F10,
+    /// A record starts before its feature's last accepted leg ends.
+    #[error("F18")]
+    F18,
+    /// A record passes the limit of legs.
+    #[error("F19")]
+    F19,
+    /// A record passes the limit of features.
+    #[error("F20")]
+    F20,
+}
+
+/// Why a file was not joined.
+#[derive(Clone, Copy, PartialEq, Eq, Debug, Error)]
+pub enum JoinFault {
+    /// The first joining fault, and the number of its record in the file.
+    #[error("refused {code} at {number}")]
+    Refused { code: JoinCode, number: u64 },
+    /// Memory ran out.
+    #[error("out of memory")]
+    Memory,
+}
+
+impl<T: Drop> From<AllocFailed<T>> for JoinFault {
+    ghost use Rattle.std.specs.Prelude.{◌≡◌};
+    ghost use Rattle.legs.specs.declared.joining.JoinFault.TheVariants.{Memory};
+
+    ghost from_gives = { λ _ fault. fault ≡ Memory };
+
+    fn from(_fault: AllocFailed<T>) -> JoinFault {
+        JoinFault::Memory
+    }
+}
+
+impl From<AllocError> for JoinFault {
+    ghost use Rattle.std.specs.Prelude.{◌≡◌};
+    ghost use Rattle.legs.specs.declared.joining.JoinFault.TheVariants.{Memory};
+
+    ghost from_gives = { λ _ fault. fault ≡ Memory };
+
+    fn from(_fault: AllocError) -> JoinFault {
+        JoinFault::Memory
+    }
+}
+
+fn same_column(one: &Column, other: &Column) -> bool
+    ensures { result ≡ same_column one.now other.now }
+{
+    one.name.as_str() == other.name.as_str() && one.kind.as_str() == other.kind.as_str()
+}
+
+/// Whether two lists of columns have the same names and types, in the same order.
+fn same_columns(first: &[Column], second: &[Column]) -> bool
+    ensures { result ≡ same_columns first.now second.now }
+{
+    first.len() == second.len() && same_pairs(first, second)
+}
+
+fn same_pairs(first: &[Column], second: &[Column]) -> bool
+    requires { length first.now ≡ length second.now }
+    ensures { result ≡ list_all (λ p. same_column p.0 p.1) (zip first.now second.now) }
+{
+    for (i, one) in first.iter().enumerate() {
+        if !same_column(one, &second[i]) {
+            return false;
+        }
+    }
+    true
+}
+
+/// Compares a file's head with the head of the first accepted file.
+fn check_head(first: Option<&Head>, head: &Head) -> Result<(), JoinFault>
+    ensures ok { OnOk result (head_faults (option_copied first.entry) head.now ≡ []) }
+    ensures refused { IfErr result (λ fault. IsFirst fault (head_faults (option_copied first.entry) head.now)) }
+{
+    let Some(first) = first else {
+        return Ok(());
+    };
+    if first.crs.as_str() != head.crs.as_str() {
+        return Err(JoinFault::Refused {
+            code: JoinCode::F9,
+            number: head.number_bounds,
+        });
+    }
+    if !same_columns(first.columns.as_slice(), head.columns.as_slice()) {
+        return Err(JoinFault::Refused {
+            code: JoinCode::F10,
+            number: head.number_columns,
+        });
+    }
+    Ok(())
+}
+
+/// Joins a file whose text has no fault to a book: the legs that it adds, with their numbers, or the first
+/// joining fault. `head` is the head of the first accepted file, if there is one.
+///
+/// A file is refused where its CRS (`F9`, at its `@stboundedby` record) or its columns (`F10`, at its `@columns`
+/// record) are not those of the first accepted file, and then at its first record that starts before its
+/// feature's last leg ends (`F18`), or with which there are more legs (`F19`) or features (`F20`) than the
+/// limits allow.
+pub fn join(
+    alloc: Global,
+    head: Option<&Head>,
+    tracks: &Tracks,
+    limits: &Limits,
+    file: &File,
+) -> Result<Vec<Leg>, JoinFault>
+    // The legs, for the book that the tracks stand for.
+    ensures legs { IfOk result (λ legs. (book : Book) → StandsFor tracks.now book → book.head ≡ option_copied head.entry
+        → joined limits.now book file.now ≡ Ok legs.items) }
+    ensures follow { IfOk result (λ legs. (book : Book) → StandsFor tracks.now book → CanFollowInTurn book.legs legs.items) }
+    ensures book_legs { IfOk result (λ legs. (book : Book) → StandsFor tracks.now book
+        → (with_file book file.now).legs ≡ book.legs ++ legs.items) }
+    ensures book_rows { OnOk result ((book : Book) → (with_file book file.now).rows ≡ book.rows ++ map (λ r. r.attributes) file.now.records) }
+
+    // The first fault.
+    ensures refused { IfErr result (λ fault. (book : Book) → StandsFor tracks.now book → book.head ≡ option_copied head.entry
+        → IsRefusal fault (joined limits.now book file.now)) }
+{
+    check_head(head, &file.head)?;
+    let records = file.records.as_slice();
+    let mut draft = Draft::new(alloc, tracks);
+    let mut legs = Vec::new(alloc);
+    for record in records {
+        draft.join(limits, record, &mut legs)?;
+    }
+    Ok(legs)
+}

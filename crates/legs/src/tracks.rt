@@ -1,0 +1,201 @@
+//! What is kept of a book beside its legs: the features' names, and where each feature ends.
+ghost use Rattle.std.specs.Prelude.{◌≡◌, ◌+◌, if◌then◌else◌, length, map, fold, OnOk, OnErr, IfOk};
+ghost use Rattle.std.specs.String.{string_bytes};
+ghost use Rattle.legs.specs.Book.{names_with};
+ghost use Rattle.legs.specs.Counting.{counted};
+
+use crate::leg::Leg;
+use indexmap::IndexSet;
+use mfcsv::{File, Record};
+use std::alloc::{AllocError, Global};
+use std::marker::Model;
+use timebase::Ms;
+
+/// The end of a feature's last leg, and the number of its legs.
+#[derive(Clone, Copy, PartialEq, Eq, Debug)]
+pub struct Track {
+    pub end: Ms,
+    pub legs: u64,
+}
+
+/// The names of a book's features in order of first acceptance, each with its track; the number of all legs,
+/// and of all rows of attribute values (one row for each record).
+#[derive(Drop)]
+pub struct Tracks {
+    alloc: Global,
+    names: IndexSet<String>,
+    tracks: Vec<Track>,
+    legs: u64,
+    rows: u64,
+}
+
+impl Model for Tracks {
+    ghost use Rattle.std.specs.Prelude.{◌≡◌, ◌≤◌, map, length};
+    ghost use Rattle.std.specs.String.{string_bytes};
+    ghost use Rattle.legs.specs.Tracks.{TracksView};
+
+    ghost Value = { TracksView };
+
+    ghost view = { λ a. record { names = map string_bytes a.names.keys; tracks = a.tracks.items; legs = a.legs; rows = a.rows } };
+
+    ghost invariant = { λ a. (length a.tracks.items ≡ length a.names.keys) × (a.rows ≤ a.legs) };
+}
+
+/// Counts legs, each in the track of its feature.
+fn count(tracks: &mut [Track], legs: &[Leg])
+    ensures { tracks.new ≡ fold counted tracks.old legs.now }
+{
+    for leg in legs {
+        let feature = leg.feature as usize;
+        if feature < tracks.len() {
+            let legs = tracks[feature].legs.saturating_add(1);
+            tracks[feature] = Track { end: leg.t1, legs };
+        }
+    }
+}
+
+/// Adds a name, and says whether it was new.
+fn insert_name(names: &mut IndexSet<String>, alloc: Global, name: &str) -> Result<bool, AllocError>
+    ensures names { OnOk result (map string_bytes names.new.keys ≡ names_with (map string_bytes names.old.keys) name.now) }
+    ensures count { IfOk result (λ new. length names.new.keys ≡ length names.old.keys + (if new then 1 else 0)) }
+    ensures err { OnErr result (names.new.keys ≡ names.old.keys) }
+{
+    if names.contains(name) {
+        return Ok(false);
+    }
+    let name = String::from_str(alloc, name)?;
+    names.insert(name)?;
+    Ok(true)
+}
+
+impl Tracks {
+    ghost use Rattle.std.specs.Prelude.{ℕ, ◌≡◌, ◌≤◌, ◌<◌, ◌^◌, ◌++◌, ◌∷◌, [], Ok, length, map, fold, slice_get, OnOk, OnErr, IfOk, AllPairs};
+    ghost use Rattle.std.specs.Option.{option_copied, option_map};
+    ghost use Rattle.legs.specs.Limits.{LimitsView, IsLimits};
+    ghost use Rattle.legs.specs.Book.{Book, empty_book, feature_of, joined, with_file, names_with};
+    ghost use Rattle.legs.specs.Tracks.{StandsFor};
+    ghost use Rattle.legs.specs.Counting.{AddsNames, Extends};
+
+    /// The tracks of a book without legs.
+    pub fn new(alloc: Global) -> Result<Tracks, AllocError>
+        ensures { IfOk result (λ tracks. StandsFor tracks empty_book) }
+    {
+        Ok(Tracks {
+            alloc,
+            names: IndexSet::new(alloc),
+            tracks: Vec::new(alloc),
+            legs: 0,
+            rows: 0,
+        })
+    }
+
+    /// How many features there are.
+    pub fn feature_count(&self) -> u64
+        ensures { result ≡ length self.now.names }
+    {
+        self.names.len() as u64
+    }
+
+    /// How many legs there are.
+    pub fn leg_count(&self) -> u64
+        ensures { result ≡ self.now.legs }
+    {
+        self.legs
+    }
+
+    /// How many rows of attribute values there are.
+    pub fn row_count(&self) -> u64
+        ensures value { result ≡ self.now.rows }
+        ensures few { self.now.rows ≤ self.now.legs }
+    {
+        self.rows
+    }
+
+    /// The number of the feature of that name.
+    pub fn feature(&self, name: &str) -> Option<u32>
+        ensures { length self.now.names ≤ 2 ^ 32 → result ≡ feature_of self.now.names name.now }
+    {
+        let feature = self.names.get_index_of(name)?;
+        u32::try_from(feature).ok()
+    }
+
+    /// The name of the feature of that number.
+    pub fn name(&self, feature: u32) -> Option<&str>
+        ensures { option_copied result ≡ slice_get self.now.names feature }
+    {
+        match self.names.get_index(feature as usize) {
+            Some(name) => Some(name.as_str()),
+            None => None,
+        }
+    }
+
+    /// The track of the feature of that number.
+    pub fn track(&self, feature: u32) -> Option<Track>
+        ensures value { result ≡ slice_get self.now.tracks feature }
+        ensures paired { length self.now.tracks ≡ length self.now.names }
+    {
+        self.tracks.get(feature as usize).copied()
+    }
+
+    /// Takes a file into the tracks, with the legs by which `join` joined it: they then stand for the book with
+    /// that file. They are as before where memory runs out.
+    pub fn accept(&mut self, file: &File, legs: &[Leg]) -> Result<(), AllocError>
+        ensures ok { OnOk result ((limits : LimitsView) (book : Book) → IsLimits limits → StandsFor self.old book
+            → joined limits book file.now ≡ Ok legs.now → StandsFor self.new (with_file book file.now)) }
+        ensures err { OnErr result (self.new ≡ self.old) }
+    {
+        let records = file.records.as_slice();
+        self.add_names(records)?;
+        count(&mut self.tracks, legs);
+        self.legs = self.legs.saturating_add(legs.len() as u64);
+        // A row has at least one leg.
+        self.rows = self
+            .rows
+            .saturating_add(records.len() as u64)
+            .min(self.legs);
+        Ok(())
+    }
+
+    /// Adds the names that are not there yet, each with an empty track.
+    fn add_names(&mut self, records: &[Record]) -> Result<(), AllocError>
+        ensures ok { OnOk result (AddsNames self.old self.new records.now) }
+        ensures err { OnErr result (self.new ≡ self.old) }
+    {
+        let known = self.names.len();
+        match self.push_names(records) {
+            Ok(()) => Ok(()),
+            Err(memory) => {
+                self.names.truncate(known);
+                self.tracks.truncate(known);
+                Err(memory)
+            }
+        }
+    }
+
+    /// The same, but some names may be there where memory runs out.
+    fn push_names(&mut self, records: &[Record]) -> Result<(), AllocError>
+        ensures ok { OnOk result (AddsNames self.old self.new records.now) }
+        ensures err { OnErr result (Extends self.old self.new) }
+    {
+        for record in records {
+            self.push_name(record)?;
+        }
+        Ok(())
+    }
+
+    fn push_name(&mut self, record: &Record) -> Result<(), AllocError>
+        ensures ok { OnOk result (AddsNames self.old self.new («record».now ∷ [])) }
+        ensures err { OnErr result (self.new ≡ self.old) }
+    {
+        let name = record.mfidref.as_str();
+        self.tracks.reserve(1)?;
+        if insert_name(&mut self.names, self.alloc, name)? {
+            let track = Track {
+                end: record.t0,
+                legs: 0,
+            };
+            self.tracks.push(track).unwrap();
+        }
+        Ok(())
+    }
+}
