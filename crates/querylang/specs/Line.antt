@@ -1,0 +1,134 @@
+-- The lines of a script: what each asks for, or why it is refused.
+use Rattle.std.specs.Prelude.{ℕ, ◌+◌, ◌-◌, ◌==◌, ◌&&◌, ◌||◌, not, Bool, if◌then◌else◌, List, [], filter, take, drop, length, slice_index, slice_index_or, bytes_eq, codes, Option, Some, None, Result, Ok, Err, ℤ, int_le}
+use Rattle.std.specs.List.{prefix_len, suffix_len, slice_split}
+use Rattle.std.specs.Str.{is_utf8}
+use Rattle.fixedpoint.specs.Number.{coord_of}
+use Rattle.fixedpoint.specs.declared.NumberFault.{NumberFault}
+use Rattle.timebase.specs.Instant.{moment_of}
+use Rattle.timebase.specs.Period.{PeriodView}
+use Rattle.timebase.specs.declared.TimeFault.{TimeFault}
+use Rattle.legs.specs.Boxes.{RectView, rect_of}
+use Rattle.querylang.specs.declared.LineCode.{LineCode}
+use Rattle.querylang.specs.declared.LineCode.TheVariants.{Q1, Q2, Q3, Q5, Q6, Q7, Q8}
+use Rattle.querylang.specs.declared.parse.Keyword.{Keyword}
+use Rattle.querylang.specs.declared.parse.Keyword.TheVariants as keyword
+use Rattle.querylang.specs.declared.Command.{Command}
+use Rattle.querylang.specs.declared.Command.TheVariants.{Load, Count, Box, Trajectory}
+
+-- a space or a tab
+abbrev pub is_blank : ℕ → Bool
+is_blank c = (c == 32) || (c == 9)
+
+abbrev pub cut_front : List ℕ → List ℕ
+cut_front text = drop (prefix_len is_blank text) text
+
+abbrev pub cut_back : List ℕ → List ℕ
+cut_back text = take (length text - suffix_len is_blank text) text
+
+-- a text without the spaces and tabs at both its ends
+unfoldable pub cut : List ℕ → List ℕ
+cut text = cut_back (cut_front text)
+
+abbrev pub is_empty : List ℕ → Bool
+is_empty text = length text == 0
+
+-- what stands between runs of spaces and tabs
+unfoldable pub words : List ℕ → List (List ℕ)
+words text = filter (λ piece. not (is_empty piece)) (slice_split is_blank text)
+
+-- the length of the first word of a text that begins with one
+abbrev pub word_len : List ℕ → ℕ
+word_len text = prefix_len (λ c. not (is_blank c)) text
+
+-- the first word of a text that begins with one, and what stands behind it
+abbrev pub first_word : List ℕ → List ℕ
+first_word text = take (word_len text) text
+
+abbrev pub behind_word : List ℕ → List ℕ
+behind_word text = drop (word_len text) text
+
+-- a rectangle of four coordinates: Q5 where one of them is not read, Q6 where a lesser one is the greater
+abbrev pub rectangle : Result ℤ NumberFault → Result ℤ NumberFault → Result ℤ NumberFault → Result ℤ NumberFault → Result RectView LineCode
+rectangle (Ok x1) (Ok y1) (Ok x2) (Ok y2) = if int_le x1 x2 && int_le y1 y2 then Ok (rect_of x1 y1 x2 y2) else Err Q6
+rectangle (Ok x1) (Ok y1) (Ok x2) (Err e) = Err Q5
+rectangle (Ok x1) (Ok y1) (Err e) y2 = Err Q5
+rectangle (Ok x1) (Err e) x2 y2 = Err Q5
+rectangle (Err e) y1 x2 y2 = Err Q5
+
+-- a period of two moments: Q7 where one of them is not read, Q8 where the first is the later
+abbrev pub period_between : Result ℤ TimeFault → Result ℤ TimeFault → Result PeriodView LineCode
+period_between (Ok t1) (Ok t2) = if int_le t1 t2 then Ok (record { start = t1; end = t2 }) else Err Q8
+period_between (Ok t1) (Err e) = Err Q7
+period_between (Err e) t2 = Err Q7
+
+-- the word at a place
+abbrev pub word_at : List (List ℕ) → ℕ → List ℕ
+word_at ws place = slice_index_or ws place []
+
+-- X1 Y1 X2 Y2, behind so many words
+unfoldable pub rect_behind : ℕ → List (List ℕ) → Result RectView LineCode
+rect_behind n ws = rectangle (coord_of (word_at ws n)) (coord_of (word_at ws (n + 1))) (coord_of (word_at ws (n + 2))) (coord_of (word_at ws (n + 3)))
+
+-- T1 T2, behind so many words
+unfoldable pub period_behind : ℕ → List (List ℕ) → Result PeriodView LineCode
+period_behind n ws = period_between (moment_of (word_at ws n)) (moment_of (word_at ws (n + 1)))
+
+-- a command of a rectangle and a period
+abbrev pub over : (RectView → PeriodView → Command) → Result RectView LineCode → Result PeriodView LineCode → Result Command LineCode
+over command (Ok rect) (Ok period) = Ok (command rect period)
+over command (Ok rect) (Err e) = Err e
+over command (Err e) period = Err e
+
+-- `box X1 Y1 X2 Y2 T1 T2`
+abbrev pub box_of : List (List ℕ) → Result Command LineCode
+box_of ws = if length ws == 7 then over Box (rect_behind 1 ws) (period_behind 5 ws) else Err Q3
+
+-- `count`
+abbrev pub count_of : List (List ℕ) → Result Command LineCode
+count_of ws = if length ws == 1 then Ok Count else Err Q3
+
+-- a name: the rest of the line, with its inner blanks kept
+abbrev pub name_of : List ℕ → Result (List ℕ) LineCode
+name_of rest = if is_empty (cut rest) then Err Q3 else Ok (cut rest)
+
+-- a command of a name
+abbrev pub named : (List ℕ → Command) → Result (List ℕ) LineCode → Result Command LineCode
+named command (Ok name) = Ok (command name)
+named command (Err e) = Err e
+
+-- which command a first word is, in lower case only
+unfoldable pub keyword_of : List ℕ → Keyword
+keyword_of word =
+    if bytes_eq word (codes "load") then keyword.Load
+    else if bytes_eq word (codes "count") then keyword.Count
+    else if bytes_eq word (codes "box") then keyword.Box
+    else if bytes_eq word (codes "trajectory") then keyword.Trajectory
+    else keyword.Unknown
+
+-- what a text asks for whose first word is that command
+abbrev pub asked : Keyword → List ℕ → Result Command LineCode
+asked keyword.Load text = named Load (name_of (behind_word text))
+asked keyword.Count text = count_of (words text)
+asked keyword.Box text = box_of (words text)
+asked keyword.Trajectory text = named Trajectory (name_of (behind_word text))
+asked keyword.Unknown text = Err Q2
+
+-- what a text asks for that is cut
+unfoldable pub command_of : List ℕ → Result Command LineCode
+command_of text = asked (keyword_of (first_word text)) text
+
+-- a blank line, or one whose first byte is then `#`
+abbrev pub is_no_command : List ℕ → Bool
+is_no_command text = is_empty text || (slice_index text 0 == 35)
+
+abbrev pub some_command : Result Command LineCode → Result (Option Command) LineCode
+some_command (Ok command) = Ok (Some command)
+some_command (Err code) = Err code
+
+-- what a line asks for, if it is a command; or why it is refused
+unfoldable pub line_of : List ℕ → Result (Option Command) LineCode
+line_of line =
+    let text = cut line in
+    if is_no_command text then Ok None
+    else if not (is_utf8 text) then Err Q1
+    else some_command (command_of text)

@@ -1,0 +1,36 @@
+use super::*;
+use fixedpoint::Coord;
+use std::alloc::Global;
+use std::test::Fail;
+use timebase::Ms;
+
+const AT: &str = "2020-01-01T00:00:00Z";
+
+/// What a line says, with the name of its command in front.
+fn said(alloc: Global, line: &[u8]) -> Result<String, Fail> {
+    Ok(match parse_line(alloc, line) {
+        Ok(None) => String::from_str(alloc, "none")?,
+        Ok(Some(Command::Load(name))) => format!(in alloc; "load<{}>", name.as_str())?,
+        Ok(Some(Command::Trajectory(name))) => format!(in alloc; "trajectory<{}>", name.as_str())?,
+        Ok(Some(Command::Count)) => String::from_str(alloc, "count")?,
+        Ok(Some(Command::Box(_, _))) => String::from_str(alloc, "box")?,
+        Err(fault) => format!(in alloc; "{fault}")?,
+    })
+}
+
+#[test]
+fn commands_are_read(rt: HostRuntime) -> Result<(), Fail> {
+    for (line, want) in [
+        ("", "none"),
+        (" \t ", "none"),
+        (" # load x", "none"),
+        ("load a.csv", "load<a.csv>"),
+        ("\tload  two  words \t", "load<two  words>"),
+        ("trajectory a, b", "trajectory<a, b>"),
+        (" count ", "count"),
+    ] {
+        let got = said(rt.alloc(), line.as_bytes())?;
+        assert_eq!(rt; got.as_str(), want, "at {line}");
+    }
+    Ok(())
+}

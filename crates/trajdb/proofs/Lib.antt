@@ -1,0 +1,4 @@
+pub mod LineLemmas
+pub mod BookLemmas
+pub mod FileLemmas
+pub mod RunLemmas

@@ -1,0 +1,125 @@
+-- What a command answers over a book, and what it makes of it. No index occurs here.
+use Rattle.std.specs.Prelude.{ℕ, ◌∷◌, [], ◌++◌, List, length, slice_index_or, Option, Some, None, Result, Ok, Err, ℤ, pos, codes, decimal}
+use Rattle.std.specs.List.{flat_map}
+use Rattle.mfcsv.specs.FileText.{file_text}
+use Rattle.mfcsv.specs.declared.Code.{Code}
+use Rattle.mfcsv.specs.declared.File.{File}
+use Rattle.mfcsv.specs.declared.Head.{Head}
+use Rattle.legs.specs.Legs.{LegView}
+use Rattle.legs.specs.Boxes.{box_over}
+use Rattle.legs.specs.Index.{legs_in_box, legs_of}
+use Rattle.legs.specs.Limits.{LimitsView}
+use Rattle.legs.specs.Book.{Book, joined, book_after, feature_of}
+use Rattle.legs.specs.Counting.{names_after}
+use Rattle.legs.specs.declared.joining.JoinCode.{JoinCode}
+use Rattle.querylang.specs.Line.{line_of}
+use Rattle.querylang.specs.declared.LineCode.{LineCode}
+use Rattle.querylang.specs.declared.Command.{Command}
+use Rattle.querylang.specs.declared.Command.TheVariants.{Load, Count, Box, Trajectory}
+use Rattle.writer.specs.Records.{leg_record}
+use Rattle.trajdb.specs.Files.{file_named}
+use Rattle.trajdb.specs.Codes.{file_code, line_code}
+use Rattle.trajdb.specs.declared.Counts.{Counts}
+use Rattle.trajdb.specs.declared.FileCode.{FileCode}
+use Rattle.trajdb.specs.declared.FileCode.TheVariants.{Text, Join}
+
+-- how many data records, legs and distinct features a file has
+abbrev pub counts_of : File → List LegView → Counts
+counts_of file legs = record { records = length file.records; legs = length legs; features = length (names_after [] file.records) }
+
+abbrev pub counts_or : File → Result (List LegView) (JoinCode × ℕ) → Result Counts (FileCode × ℕ)
+counts_or file (Ok legs) = Ok (counts_of file legs)
+counts_or file (Err fault) = Err (Join fault.0, fault.1)
+
+abbrev pub joined_counts : LimitsView → Book → Result File (Code × ℕ) → Result Counts (FileCode × ℕ)
+joined_counts limits book (Ok file) = counts_or file (joined limits book file)
+joined_counts limits book (Err fault) = Err (Text fault.0, fault.1)
+
+-- the counts of a file that is accepted into a book, or its first fault: of its text, else of its joining
+unfoldable pub load_of : LimitsView → Book → List ℕ → Result Counts (FileCode × ℕ)
+load_of limits book bytes = joined_counts limits book (file_text bytes)
+
+abbrev pub book_by : LimitsView → Book → Result File (Code × ℕ) → Book
+book_by limits book (Ok file) = book_after limits book file
+book_by limits book (Err fault) = book
+
+-- the book after a file: with its legs, or as it was where the file is refused
+unfoldable pub book_with : LimitsView → Book → List ℕ → Book
+book_with limits book bytes = book_by limits book (file_text bytes)
+
+-- `ok N` and a line end
+abbrev pub ok_text : ℕ → List ℕ
+ok_text n = codes "ok " ++ decimal n ++ 10 ∷ []
+
+abbrev pub refusal_text : List ℕ → List ℕ
+refusal_text code = codes "refused " ++ code ++ 10 ∷ []
+
+abbrev pub counts_text : Counts → List ℕ
+counts_text counts = ok_text 1 ++ decimal counts.records ++ 44 ∷ [] ++ decimal counts.legs ++ 44 ∷ [] ++ decimal counts.features ++ 10 ∷ []
+
+-- the answer to `load`
+abbrev pub load_text : Result Counts (FileCode × ℕ) → List ℕ
+load_text (Ok counts) = counts_text counts
+load_text (Err fault) = codes "refused " ++ file_code fault.0 ++ codes " at " ++ decimal fault.1 ++ 10 ∷ []
+
+-- the answer to `count`
+abbrev pub count_text : Book → List ℕ
+count_text book = ok_text 1 ++ decimal (length book.legs) ++ 44 ∷ [] ++ decimal (length book.names) ++ 10 ∷ []
+
+-- the start instant of the first accepted file
+abbrev pub base_of : Option Head → ℤ
+base_of (Some head) = head.start
+base_of None = pos 0
+
+-- a leg's record in a book
+abbrev pub leg_text : Book → LegView → List ℕ
+leg_text book leg = leg_record (slice_index_or book.names leg.feature []) (base_of book.head) leg (slice_index_or book.rows leg.row [])
+
+-- the answer of legs
+abbrev pub legs_text : Book → List LegView → List ℕ
+legs_text book legs = ok_text (length legs) ++ flat_map (leg_text book) legs
+
+-- the legs of a feature, if there is one
+abbrev pub track_of : Option ℕ → List LegView → List LegView
+track_of (Some feature) legs = legs_of feature legs
+track_of None legs = []
+
+-- the answer to `load` of a file, if it is there
+abbrev pub named_text : LimitsView → Book → Option (List ℕ) → List ℕ
+named_text limits book (Some bytes) = load_text (load_of limits book bytes)
+named_text limits book None = refusal_text (codes "Q9")
+
+abbrev pub named_book : LimitsView → Book → Option (List ℕ) → Book
+named_book limits book (Some bytes) = book_with limits book bytes
+named_book limits book None = book
+
+-- what a command answers over a book, with the named files at hand
+abbrev pub answer_of : LimitsView → List (List ℕ × List ℕ) → Book → Command → List ℕ
+answer_of limits files book (Load name) = named_text limits book (file_named files name)
+answer_of limits files book Count = count_text book
+answer_of limits files book (Box rect period) = legs_text book (legs_in_box (box_over rect period) book.legs)
+answer_of limits files book (Trajectory name) = legs_text book (track_of (feature_of book.names name) book.legs)
+
+-- the book after a command
+abbrev pub book_then : LimitsView → List (List ℕ × List ℕ) → Book → Command → Book
+book_then limits files book (Load name) = named_book limits book (file_named files name)
+book_then limits files book Count = book
+book_then limits files book (Box rect period) = book
+book_then limits files book (Trajectory name) = book
+
+-- what a line answers: nothing where it is no command
+abbrev pub said_text : LimitsView → List (List ℕ × List ℕ) → Book → Result (Option Command) LineCode → List ℕ
+said_text limits files book (Ok (Some command)) = answer_of limits files book command
+said_text limits files book (Ok None) = []
+said_text limits files book (Err code) = refusal_text (line_code code)
+
+abbrev pub said_book : LimitsView → List (List ℕ × List ℕ) → Book → Result (Option Command) LineCode → Book
+said_book limits files book (Ok (Some command)) = book_then limits files book command
+said_book limits files book (Ok None) = book
+said_book limits files book (Err code) = book
+
+unfoldable pub line_text : LimitsView → List (List ℕ × List ℕ) → Book → List ℕ → List ℕ
+line_text limits files book line = said_text limits files book (line_of line)
+
+unfoldable pub line_book : LimitsView → List (List ℕ × List ℕ) → Book → List ℕ → Book
+line_book limits files book line = said_book limits files book (line_of line)

@@ -1,0 +1,9 @@
+pub mod Faults
+pub mod Files
+pub mod Script
+pub mod Codes
+pub mod Answers
+pub mod Database
+pub mod Run
+pub mod Lines
+pub mod Db

@@ -1,0 +1,16 @@
+-- What one line of a run does.
+use Rattle.std.specs.Prelude.{◌≡◌, ℕ, List, take, Option}
+use Rattle.std.specs.Io.KnownBytes.{Appends}
+use Rattle.legs.specs.Limits.{LimitsView}
+use Rattle.legs.specs.Book.{Book}
+use Rattle.trajdb.specs.Answers.{line_text, line_book}
+
+-- a line is done, and its answer was sent
+pub record HasDone (limits : LimitsView) (files : List (List ℕ × List ℕ)) (sent sent' : Option (List ℕ)) (old new : Book) (line : List ℕ) : Type 0 where
+  pub answer : Appends sent sent' (line_text limits files old line)
+  pub book : new ≡ line_book limits files old line
+
+-- a line is done, and of its answer the first n bytes were sent
+pub record HasCut (limits : LimitsView) (files : List (List ℕ × List ℕ)) (sent sent' : Option (List ℕ)) (old new : Book) (line : List ℕ) : Type 0 where
+  pub answer : (n : ℕ) × Appends sent sent' (take n (line_text limits files old line))
+  pub book : new ≡ line_book limits files old line

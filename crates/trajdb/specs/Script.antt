@@ -1,0 +1,22 @@
+-- The lines of a script.
+use Rattle.std.specs.Prelude.{ℕ, ◌-◌, ◌==◌, Bool, if◌then◌else◌, List, [], ◌∷◌, map, take, length, slice_index}
+
+abbrev pub is_line_end : ℕ → Bool
+is_line_end c = c == 10
+
+abbrev pub onto_first : ℕ → List (List ℕ) → List (List ℕ)
+onto_first c [] = (c ∷ []) ∷ []
+onto_first c (line ∷ lines) = (c ∷ line) ∷ lines
+
+-- the pieces that LF cuts a script into; a last piece that is empty is none
+unfoldable pub pieces_of : List ℕ → List (List ℕ)
+pieces_of [] = []
+pieces_of (c ∷ cs) = if is_line_end c then [] ∷ pieces_of cs else onto_first c (pieces_of cs)
+
+-- a piece without the CR at its end
+unfoldable pub without_return : List ℕ → List ℕ
+without_return piece = if slice_index piece (length piece - 1) == 13 then take (length piece - 1) piece else piece
+
+-- the lines of a script
+abbrev pub lines_of : List ℕ → List (List ℕ)
+lines_of script = map without_return (pieces_of script)

@@ -1,0 +1,119 @@
+//! The database: files are accepted into it, and scripts are run over it.
+#![tactic(auto)]
+
+ghost use Rattle.std.specs.Prelude.{◌≡◌};
+
+mod answer;
+mod codes;
+mod database;
+mod db;
+mod files;
+mod load;
+mod output;
+mod script;
+
+pub use database::Core;
+pub use db::Db;
+pub use files::Files;
+use legs::{IndexFault, JoinCode};
+use mfcsv::Code;
+use std::alloc::{AllocError, AllocFailed};
+use thiserror::Error;
+
+/// The code of a file's refusal: a fault of its text, or of its joining to the database.
+#[derive(Clone, Copy, PartialEq, Eq, Debug)]
+pub enum FileCode {
+    /// A fault of the text.
+    Text(Code),
+    /// A fault of joining.
+    Join(JoinCode),
+}
+
+/// What an accepted file added.
+#[derive(Clone, Copy, PartialEq, Eq, Debug)]
+pub struct Counts {
+    /// Its data records.
+    pub records: u64,
+    /// The legs of its records.
+    pub legs: u64,
+    /// The distinct features of its records.
+    pub features: u64,
+}
+
+/// Why a command was not answered.
+#[derive(Clone, Copy, PartialEq, Eq, Debug, Error)]
+pub enum RunFault {
+    /// Memory ran out.
+    #[error("memory ran out")]
+    Memory,
+    /// The page store failed.
+    #[error("the store failed")]
+    Store,
+    /// A page is not what it should be; 0 for a leg whose feature or attribute values are not there.
+    #[error("page {0} is damaged")]
+    Damaged(u32),
+    /// The page store has no room for another page.
+    #[error("the store is full")]
+    StoreFull,
+    /// An earlier load stopped half way, so the database answers nothing any more.
+    #[error("the database failed earlier")]
+    Failed,
+    /// The output took no more bytes.
+    #[error("the output failed")]
+    Output,
+}
+
+impl From<AllocError> for RunFault {
+    ghost use Rattle.trajdb.specs.declared.RunFault.{RunFault};
+
+    ghost from_gives = { λ e r. r ≡ RunFault.Memory };
+
+    fn from(_: AllocError) -> RunFault {
+        RunFault::Memory
+    }
+}
+
+impl<T: Drop> From<AllocFailed<T>> for RunFault {
+    ghost use Rattle.trajdb.specs.declared.RunFault.{RunFault};
+
+    ghost from_gives = { λ e r. r ≡ RunFault.Memory };
+
+    fn from(_: AllocFailed<T>) -> RunFault {
+        RunFault::Memory
+    }
+}
+
+impl From<IndexFault> for RunFault {
+    ghost use Rattle.trajdb.specs.Faults.{run_fault_of};
+
+    ghost from_gives = { λ e r. r ≡ run_fault_of e };
+
+    fn from(fault: IndexFault) -> RunFault {
+        match fault {
+            IndexFault::Memory => RunFault::Memory,
+            IndexFault::Store => RunFault::Store,
+            IndexFault::Damaged(page) => RunFault::Damaged(page),
+            IndexFault::StoreFull => RunFault::StoreFull,
+            IndexFault::Spent => RunFault::Failed,
+        }
+    }
+}
+
+/// Why a file was not accepted.
+#[derive(Clone, Copy, PartialEq, Eq, Debug)]
+pub enum LoadFault {
+    /// The file's first fault, and the number of its record (0 for the whole file).
+    Refused { code: FileCode, number: u64 },
+    /// The database could not tell.
+    Run(RunFault),
+}
+
+impl From<RunFault> for LoadFault {
+    ghost use Rattle.trajdb.specs.declared.LoadFault.{LoadFault};
+
+    ghost from_gives = { λ e r. r ≡ LoadFault.Run e };
+
+    fn from(fault: RunFault) -> LoadFault {
+        LoadFault::Run(fault)
+    }
+}

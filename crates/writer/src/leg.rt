@@ -1,0 +1,104 @@
+//! A leg's record.
+ghost use Rattle.std.specs.Prelude.{◌≡◌, ◌++◌, ◌∷◌, [], ◌-ℤ◌, IfOk, OnOk, map};
+ghost use Rattle.fixedpoint.specs.NumberText.{coord_text, offset_text};
+ghost use Rattle.writer.specs.Records.{leg_fields, leg_record, positions_text};
+
+use crate::record::record_text;
+use fixedpoint::{Coord, Offset, push_coord, push_offset};
+use legs::Leg;
+use mfcsv::Text;
+use std::alloc::{AllocError, Global};
+use timebase::Ms;
+
+/// The offset of a moment from a base.
+fn offset_from(base: Ms, at: Ms) -> Offset
+    ensures { result ≡ at -ℤ base }
+{
+    match Offset::new(at.millis() - base.millis()) {
+        Some(offset) => offset,
+        None => unreachable!(),
+    }
+}
+
+/// The offset of a moment from a base, in seconds.
+fn offset_text(alloc: Global, base: Ms, at: Ms) -> Result<Vec<u8>, AllocError>
+    ensures { IfOk result (λ text. text.items ≡ offset_text (at -ℤ base)) }
+{
+    let mut text = Vec::new(alloc);
+    push_offset(&mut text, offset_from(base, at))?;
+    Ok(text)
+}
+
+/// A blank and a coordinate.
+fn push_next(text: &mut Vec<u8>, coord: Coord) -> Result<(), AllocError>
+    ensures { OnOk result (text.new.items ≡ text.old.items ++ 32 ∷ [] ++ coord_text coord) }
+{
+    text.push(b' ')?;
+    push_coord(text, coord)
+}
+
+/// `x0 y0 x1 y1`.
+fn positions_text(alloc: Global, leg: &Leg) -> Result<Vec<u8>, AllocError>
+    ensures { IfOk result (λ text. text.items ≡ positions_text leg.now) }
+{
+    let mut text = Vec::new(alloc);
+    push_coord(&mut text, leg.x0)?;
+    push_next(&mut text, leg.y0)?;
+    push_next(&mut text, leg.x1)?;
+    push_next(&mut text, leg.y1)?;
+    Ok(text)
+}
+
+/// Puts attribute values behind the other fields.
+fn push_values<'a>(fields: &mut Vec<&'a [u8]>, values: &'a [Text]) -> Result<(), AllocError>
+    ensures { OnOk result (map (λ f. f.now) fields.new.items ≡ map (λ f. f.now) fields.old.items ++ values.entry.now) }
+{
+    for value in values {
+        fields.push(value.as_str().as_bytes())?;
+    }
+    Ok(())
+}
+
+/// The fields of a leg's record.
+fn leg_row<'a>(
+    alloc: Global,
+    name: &'a [u8],
+    start: &'a [u8],
+    end: &'a [u8],
+    positions: &'a [u8],
+    values: &'a [Text],
+) -> Result<Vec<&'a [u8]>, AllocError>
+    ensures { IfOk result (λ row. map (λ f. f.now) row.items ≡ name.entry.now ∷ start.entry.now ∷ end.entry.now ∷ positions.entry.now ∷ values.entry.now) }
+{
+    let mut row = Vec::new(alloc);
+    row.push(name)?;
+    row.push(start)?;
+    row.push(end)?;
+    row.push(positions)?;
+    push_values(&mut row, values)?;
+    Ok(row)
+}
+
+/// The text of a leg's record.
+pub(crate) fn leg_record(
+    alloc: Global,
+    name: &str,
+    base: Ms,
+    leg: &Leg,
+    values: &[Text],
+) -> Result<Vec<u8>, AllocError>
+    ensures { IfOk result (λ text. text.items ≡ leg_record name.now base leg.now values.now) }
+{
+    let start = offset_text(alloc, base, leg.t0)?;
+    let end = offset_text(alloc, base, leg.t1)?;
+    let positions = positions_text(alloc, leg)?;
+    let fields = leg_row(
+        alloc,
+        name.as_bytes(),
+        start.as_slice(),
+        end.as_slice(),
+        positions.as_slice(),
+        values,
+    )?;
+    record_text(alloc, fields.as_slice())
+}
