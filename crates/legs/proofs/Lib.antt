@@ -7,3 +7,4 @@ pub mod DraftLemmas
 pub mod JoinLemmas
 pub mod CountLemmas
 pub mod AcceptLemmas
+pub mod MomentLemmas

@@ -87,5 +87,9 @@ pub record IsMomentOf (leg : LegView) (period : PeriodView) (n : ℤ) (d : ℕ) 
   pub to : n ≤ℤ (int_min leg.t1 period.end *ℤ pos d)
 
 -- the leg has a moment in the period
+abbrev pub HasMoment : LegView → PeriodView → Type 0
+HasMoment leg period = (n : ℤ) × (d : ℕ) × IsMomentOf leg period n d
+
+-- which is so exactly where the later start is not after the earlier end
 abbrev pub is_live : PeriodView → LegView → Bool
 is_live period leg = int_le (int_max leg.t0 period.start) (int_min leg.t1 period.end)

@@ -9,3 +9,4 @@ pub mod Counting
 pub mod FirstFault
 pub mod Latest
 pub mod Drafts
+pub mod CodeText

@@ -13,33 +13,58 @@ use crate::limits::Limits;
 use crate::tracks::Tracks;
 use mfcsv::{Column, File, Head};
 use std::alloc::{AllocError, AllocFailed, Global};
+use std::fmt;
 use thiserror::Error;
 
 /// A joining fault: why a file whose text has no fault is not accepted.
-#[derive(Clone, Copy, PartialEq, Eq, Debug, Error)]
+#[derive(Clone, Copy, PartialEq, Eq, Debug)]
 pub enum JoinCode {
     /// The CRS is not the database's.
-    #[error("F9")]
     F9,
     /// The attribute columns are not the database's.
-    #[error("F10")]
     F10,
     /// A record starts before its feature's last accepted leg ends.
-    #[error("F18")]
     F18,
     /// A record passes the limit of legs.
-    #[error("F19")]
     F19,
     /// A record passes the limit of features.
-    #[error("F20")]
     F20,
+}
+
+impl JoinCode {
+    ghost use Rattle.std.specs.Prelude.{◌≡◌};
+    ghost use Rattle.legs.specs.CodeText.{code_text};
+
+    /// The code as it is printed, as `F18`.
+    pub fn as_str(self) -> &'static str
+        ensures { result.now ≡ code_text self }
+    {
+        match self {
+            JoinCode::F9 => "F9",
+            JoinCode::F10 => "F10",
+            JoinCode::F18 => "F18",
+            JoinCode::F19 => "F19",
+            JoinCode::F20 => "F20",
+        }
+    }
+}
+
+impl fmt::Display for JoinCode {
+    ghost use Rattle.std.specs.Prelude.{Some};
+    ghost use Rattle.legs.specs.CodeText.{code_text};
+
+    ghost output = { λ c. Some (code_text c) };
+
+    fn fmt<W: fmt::Write>(&self, f: &mut fmt::Formatter<W>) -> fmt::Result {
+        f.write_str(self.as_str())
+    }
 }
 
 /// Why a file was not joined.
 #[derive(Clone, Copy, PartialEq, Eq, Debug, Error)]
 pub enum JoinFault {
     /// The first joining fault, and the number of its record in the file.
-    #[error("refused {code} at {number}")]
+    #[error("the file is refused: {code} at {number}")]
     Refused { code: JoinCode, number: u64 },
     /// Memory ran out.
     #[error("out of memory")]

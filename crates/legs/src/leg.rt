@@ -5,7 +5,7 @@ ghost use Rattle.fixedpoint.specs.Number.{IsInRange};
 use fixedpoint::Coord;
 use mfcsv::Position;
 use std::marker::Model;
-use timebase::Ms;
+use timebase::{Ms, Period};
 
 /// A straight move of a feature from (`x0`, `y0`) at `t0` to (`x1`, `y1`) at `t1`. It takes time: `t0` is
 /// before `t1`.
@@ -38,8 +38,8 @@ impl Model for Leg {
 }
 
 impl Leg {
-    ghost use Rattle.std.specs.Prelude.{◌≡◌, ◌<ℤ◌, ◌↔◌, IsSome, IfSome};
-    ghost use Rattle.legs.specs.Legs.{leg_of, step_between};
+    ghost use Rattle.std.specs.Prelude.{◌≡◌, ◌<ℤ◌, ◌↔◌, IsTrue, IsSome, IfSome};
+    ghost use Rattle.legs.specs.Legs.{leg_of, step_between, is_live, HasMoment};
 
     /// The leg of a feature between two moments and positions; `None` where `t0` is not before `t1`.
     pub fn new(
@@ -56,6 +56,17 @@ impl Leg {
     {
         let step = Step::between(t0, t1, from, to)?;
         Some(step.numbered(ordinal, feature, row))
+    }
+
+    /// Whether the leg has a moment in a period: a fraction n / d of milliseconds, between the later of the two
+    /// starts and the earlier of the two ends.
+    pub fn is_live(&self, period: &Period) -> bool
+        ensures value { result ≡ is_live period.now self.now }
+        ensures moments { IsTrue result ↔ HasMoment self.now period.now }
+    {
+        let first = self.t0.millis().max(period.start().millis());
+        let last = self.t1.millis().min(period.end().millis());
+        first <= last
     }
 }
 

@@ -24,3 +24,6 @@ pub use limits::Limits;
 pub use list_index::ListIndex;
 pub use std::alloc::AllocError as Memory;
 pub use tracks::{Track, Tracks};
+
+#[cfg(test)]
+mod tests;

@@ -118,21 +118,12 @@ impl ListIndex {
     }
 }
 
-/// Whether a leg has a moment in a period.
-fn is_live(leg: &Leg, period: &Period) -> bool
-    ensures { result ≡ is_live period.now leg.now }
-{
-    let first = leg.t0.millis().max(period.start().millis());
-    let last = leg.t1.millis().min(period.end().millis());
-    first <= last
-}
-
 fn live_legs(alloc: Global, legs: &[Leg], period: &Period) -> Result<Vec<Leg>, AllocError>
     ensures { IfOk result (λ live. live.items ≡ filter (is_live period.now) legs.now) }
 {
     legs.iter()
         .copied()
-        .filter(|leg| is_live(leg, period))
+        .filter(|leg| leg.is_live(period))
         .collect(alloc)
 }
 
