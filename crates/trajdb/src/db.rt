@@ -27,12 +27,12 @@ impl Model for Db {
 }
 
 impl Db {
-    ghost use Rattle.std.specs.Prelude.{◌≡◌, ℕ, List, IfOk, IfErr, IsErrOf, OnOk, Ok, Err, true, false};
+    ghost use Rattle.std.specs.Prelude.{◌≡◌, ℕ, List, IfOk, IfErr, IsErrOf, OnOk, OnErr, Ok, Err, true, false};
     ghost use Rattle.trajdb.specs.Script.{lines_of};
     ghost use Rattle.trajdb.specs.Answers.{answer_of, book_then, book_with, load_of};
     ghost use Rattle.trajdb.specs.Faults.{IsInside};
     ghost use Rattle.trajdb.specs.Run.{HasRun, HasStopped, HasCutRun};
-    ghost use Rattle.trajdb.specs.Database.{IsTold, LoadGives};
+    ghost use Rattle.trajdb.specs.Database.{IsTold, IsLoadFault, LoadGives};
     ghost use Rattle.trajdb.specs.Db.{new_db};
     ghost use Rattle.trajdb.specs.declared.RunFault.{RunFault};
     ghost use Rattle.trajdb.specs.declared.LoadFault.{LoadFault};
@@ -54,6 +54,8 @@ impl Db {
     pub fn load(&mut self, alloc: Global, bytes: &[u8]) -> Result<Counts, LoadFault>
         ensures counts { self.old.failed ≡ false → LoadGives result (load_of self.old.limits self.old.book bytes.now) }
         ensures book { IsTold result → self.old.failed ≡ false → self.new.book ≡ book_with self.old.limits self.old.book bytes.now }
+        ensures lives { IsTold result → self.old.failed ≡ false → self.new.failed ≡ false }
+        ensures fault { IfErr result IsLoadFault }
         ensures was_failed { self.old.failed ≡ true → result ≡ Err (LoadFault.Run RunFault.Failed) }
         ensures limits { self.new.limits ≡ self.old.limits }
     {
@@ -71,6 +73,9 @@ impl Db {
     ) -> Result<Vec<u8>, RunFault>
         ensures text { IfOk result (λ text. text.items ≡ answer_of self.old.limits files.now self.old.book command.now) }
         ensures book { OnOk result (self.new.book ≡ book_then self.old.limits files.now self.old.book command.now) }
+        ensures lives { OnOk result (self.new.failed ≡ false) }
+        ensures refused { OnErr result (self.new.failed ≡ false → self.new.book ≡ self.old.book) }
+        ensures fault { IfErr result IsInside }
         ensures was_failed { self.old.failed ≡ true → result ≡ Err RunFault.Failed }
         ensures limits { self.new.limits ≡ self.old.limits }
     {
@@ -87,6 +92,7 @@ impl Db {
     ) -> Result<(), RunFault>
         // What was sent is exactly the text of the run, and the book is the one after it.
         ensures ok { OnOk result (HasRun self.old.limits files.now (W.contents out.old) (W.contents out.new) self.old.book self.new.book (lines_of script.now)) }
+        ensures lives { OnOk result (self.new.failed ≡ false) }
 
         // Where the run stops short.
         ensures output { IsErrOf result RunFault.Output → self.old.failed ≡ false → (k : ℕ) × (written : List ℕ)

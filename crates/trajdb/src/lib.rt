@@ -117,3 +117,6 @@ impl From<RunFault> for LoadFault {
         LoadFault::Run(fault)
     }
 }
+
+#[cfg(test)]
+mod tests;

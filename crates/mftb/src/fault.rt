@@ -1,0 +1,41 @@
+//! Why a run failed.
+use std::alloc::AllocError;
+use std::fmt;
+use std::fmt::{Display, Formatter};
+use trajdb::RunFault;
+
+/// Why a run failed.
+#[derive(Clone, Copy, PartialEq, Eq, Debug)]
+pub(crate) enum Fault<'a> {
+    /// The script could not be run to its end.
+    Run(RunFault),
+    /// The script or a file of that name could not be read, or is too long.
+    CannotRead(&'a str),
+}
+
+impl From<AllocError> for Fault<'_> {
+    fn from(_: AllocError) -> Self {
+        Fault::Run(RunFault::Memory)
+    }
+}
+
+impl From<RunFault> for Fault<'_> {
+    fn from(fault: RunFault) -> Self {
+        Fault::Run(fault)
+    }
+}
+
+/// What the fault's line says after `mftb: `.
+impl Display for Fault<'_> {
+    fn fmt<W: fmt::Write>(&self, f: &mut Formatter<W>) -> fmt::Result {
+        match self {
+            Fault::Run(RunFault::Memory) => f.write_str("memory"),
+            Fault::Run(RunFault::Store) => f.write_str("store"),
+            Fault::Run(RunFault::Damaged(page)) => write!(f, "page {page} damaged"),
+            Fault::Run(RunFault::StoreFull) => f.write_str("store full"),
+            Fault::Run(RunFault::Failed) => f.write_str("failed"),
+            Fault::Run(RunFault::Output) => f.write_str("output"),
+            Fault::CannotRead(name) => write!(f, "cannot read {name}"),
+        }
+    }
+}

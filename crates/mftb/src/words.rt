@@ -1,0 +1,56 @@
+//! The words of the command line.
+use clap::{Arg, ArgAction, Command, Error};
+use std::alloc::Global;
+
+/// What `mftb run` is asked to do.
+#[derive(Drop)]
+pub(crate) struct Run<'a> {
+    /// The name of the script.
+    pub(crate) script: &'a str,
+    /// The names of the files that it may load.
+    pub(crate) files: Vec<&'a str>,
+}
+
+fn required<'a>(alloc: Global, name: &'a str, help: &'a str) -> Arg<'a> {
+    Arg::new(alloc, name)
+        .help(help)
+        .required(true)
+        .action(ArgAction::Set)
+}
+
+fn mftb<'a>(alloc: Global) -> Result<Command<'a>, Error> {
+    let run = Command::new(alloc, "run")
+        .about("Runs a script over an empty database, and prints its answers")
+        .arg(required(
+            alloc,
+            "STORE",
+            "The file that keeps the database (not opened yet)",
+        ))?
+        .arg(required(alloc, "SCRIPT", "The file of the script, a command a line"))?
+        .arg(
+            Arg::new(alloc, "FILES")
+                .help("The files that the script may load, by these names")
+                .num_args(0..),
+        )?;
+    let command = Command::new(alloc, "mftb")
+        .about("A trajectory database")
+        .subcommand_required(true)
+        .subcommand(run)?;
+    Ok(command)
+}
+
+/// Reads the words, of which the first is the program's name.
+pub(crate) fn read_words<'a>(alloc: Global, words: &'a [String]) -> Result<Run<'a>, Error> {
+    let matches = mftb(alloc)?.try_get_matches_from(words)?;
+    let mut files = Vec::new(alloc);
+    let Some((_, run)) = matches.subcommand() else {
+        return Ok(Run { script: "", files });
+    };
+    for name in run.get_strs("FILES").unwrap_or(&[]) {
+        files.push(*name)?;
+    }
+    Ok(Run {
+        script: run.get_str("SCRIPT").unwrap_or(""),
+        files,
+    })
+}

@@ -1,0 +1,208 @@
+//! Worked scripts over worked files.
+use super::*;
+use legs::{Limits, ListIndex};
+use std::alloc::Global;
+use std::process::Abort;
+use std::test::Fail;
+
+/// The example of the standard.
+const STANDARD: &str = "\
+@stboundedby,urn:x-ogc:def:crs:EPSG:6.6:4326,2D,50.23 9.23,50.31 9.27,2012-01-17T12:33:41Z,2012-01-17T12:37:00Z,sec
+@columns,mfidref,trajectory,state,xsd:token,\"type code\",xsd:integer
+a,10,150,11.0 2.0 12.0 3.0,walking,1
+b,10,190,10.0 2.0 11.0 3.0,walking,2
+a,150,190,12.0 3.0 10.0 3.0,walking,2
+c,10,190,12.0 1.0 10.0 2.0 11.0 3.0,vehicle,1
+";
+
+/// The example, cut in its fifth record.
+const CUT: &str = "\
+@stboundedby,urn:x-ogc:def:crs:EPSG:6.6:4326,2D,50.23 9.23,50.31 9.27,2012-01-17T12:33:41Z,2012-01-17T12:37:00Z,sec
+@columns,mfidref,trajectory,state,xsd:token,\"type code\",xsd:integer
+a,10,150,11.0 2.0 12.0 3.0,walking,1
+b,10,190,10.0 2.0 11.0 3.0,walking,2
+a,150";
+
+/// Both header lines of the files below, and then these lines.
+macro_rules! headed {
+    ($lines:literal) => {
+        concat!(
+            "@stboundedby,local,2D,0 0,0 0,2020-01-01T00:00:00Z,2020-01-02T00:00:00Z,sec\n",
+            "@columns,mfidref,trajectory\n",
+            $lines
+        )
+    };
+}
+
+/// The files of most scripts below.
+const FILES: [(&str, &str); 10] = [
+    ("S1.csv", STANDARD),
+    ("cut.csv", CUT),
+    ("quick", headed!("q,0,0.002,0 0 1 1 2 2 3 3\n")),
+    ("slow", headed!("q,0,0.003,0 0 1 1 2 2 3 3\n")),
+    ("uneven", headed!("u,0,0.005,0 0 1 1 2 2 3 3\n")),
+    ("still", headed!("s,0,1,5 6\n")),
+    (
+        "jump and gap",
+        headed!("j,0,1,0 0 1 1\nj,1,2,5 5 6 6\nj,4,5,6 6 7 7\n"),
+    ),
+    (
+        "two",
+        headed!("e,0,2,0 0 10 10\nf,0,1,2 2 3 3\nf,1,2,3 3 4 4\ne,2,4,10 10 20 20\n"),
+    ),
+    (
+        "columns",
+        "@stboundedby,local,2D,0 0,0 0,2020-01-01T00:00:00Z,2020-01-02T00:00:00Z,sec\n@columns,mfidref,trajectory,x,xsd:token\nk,0,1,0 0,v\n",
+    ),
+    ("two", STANDARD),
+];
+
+/// What a script answers on a new database.
+fn run_once(alloc: Global, limits: Limits, script: &[u8]) -> Result<Vec<u8>, RunFault> {
+    let mut files = Files::new(alloc);
+    for (name, text) in FILES {
+        files.add(name, Vec::from_slice(alloc, text.as_bytes())?)?;
+    }
+    let mut core = Core::new(alloc, ListIndex::new(alloc), limits).map_err(|fault| RunFault::from(
+        fault.1,
+    ))?;
+    let mut out = Vec::new(alloc);
+    core.run(alloc, script, &files, &mut out)?;
+    Ok(out)
+}
+
+/// The same; where one allocation fails the answer may be want of memory, or of room for the output,
+/// and asked again it is there.
+fn run(alloc: Global, limits: Limits, script: &[u8]) -> Result<Vec<u8>, RunFault> {
+    match run_once(alloc, limits, script) {
+        Err(_) => run_once(alloc, limits, script),
+        answer => answer,
+    }
+}
+
+/// Whether the scripts answer what stands behind them.
+fn check(rt: &impl Abort, alloc: Global, scripts: &[(&str, &str)]) -> Result<(), Fail> {
+    let limits = Limits::new(1000, 1000).ok_or("limits")?;
+    for (script, want) in scripts {
+        let got = run(alloc, limits, script.as_bytes()).map_err(|_| "a run")?;
+        assert!(rt; got.as_slice() == want.as_bytes(), "{script}");
+    }
+    Ok(())
+}
+
+#[test]
+fn the_standards_example(rt: HostRuntime) -> Result<(), Fail> {
+    check(
+        &rt,
+        rt.alloc(),
+        &[
+            (
+                "# first\nload S1.csv\ncount\nbox 11.5 2.5 13 4 2012-01-17T12:33:41Z 2012-01-17T12:37:00Z\n",
+                "ok 1\n4,5,3\nok 1\n5,3\nok 2\na,10,150,11 2 12 3,walking,1\na,150,190,12 3 10 3,walking,2\n",
+            ),
+            (
+                "load S1.csv\nload S1.csv\ncount",
+                "ok 1\n4,5,3\nrefused F18 at 3\nok 1\n5,3\n",
+            ),
+            ("load cut.csv\ncount\r", "refused F11 at 5\nok 1\n0,0\n"),
+            (
+                "load S1.csv\ntrajectory c\ntrajectory d\n",
+                "ok 1\n4,5,3\nok 2\nc,10,100,12 1 10 2,vehicle,1\nc,100,190,10 2 11 3,vehicle,1\nok 0\n",
+            ),
+            (
+                "load slow\nload S1.csv\ncount\n",
+                "ok 1\n1,3,1\nrefused F9 at 1\nok 1\n3,1\n",
+            ),
+            (
+                "load slow\nload columns\n",
+                "ok 1\n1,3,1\nrefused F10 at 2\n",
+            ),
+        ],
+    )
+}
+
+#[test]
+fn lines_are_refused(rt: HostRuntime) -> Result<(), Fail> {
+    check(
+        &rt,
+        rt.alloc(),
+        &[
+            ("", ""),
+            ("\n \r\n\t# count\n", ""),
+            ("boxes\nCOUNT\n", "refused Q2\nrefused Q2\n"),
+            (
+                "count 1\nload\nbox 0 0 1\n",
+                "refused Q3\nrefused Q3\nrefused Q3\n",
+            ),
+            (
+                "box 0 0 x 1 y z\nbox 1 0 0 1 y z\nbox 0 0 1 1 y z\n",
+                "refused Q5\nrefused Q6\nrefused Q7\n",
+            ),
+            (
+                "box 0 0 1 1 2020-01-01T00:00:01Z 2020-01-01T00:00:00Z\n",
+                "refused Q8\n",
+            ),
+            (
+                "box 0 0 1 1 2020-01-01T00:00:01Z 2020-01-01T00:00:01Z\n",
+                "ok 0\n",
+            ),
+            ("load none\n", "refused Q9\n"),
+        ],
+    )?;
+    let limits = Limits::new(1, 1).ok_or("limits")?;
+    let got = run(rt.alloc(), limits, b"\xff\n#\xff\ncount\r").map_err(|_| "a run")?;
+    assert!(rt; got.as_slice() == "refused Q1\nok 1\n0,0\n".as_bytes());
+    Ok(())
+}
+
+#[test]
+fn legs_are_cut_and_found(rt: HostRuntime) -> Result<(), Fail> {
+    check(
+        &rt,
+        rt.alloc(),
+        &[
+            ("load quick\n", "refused F17 at 3\n"),
+            (
+                "load slow\ntrajectory q\n",
+                "ok 1\n1,3,1\nok 3\nq,0,0.001,0 0 1 1\nq,0.001,0.002,1 1 2 2\nq,0.002,0.003,2 2 3 3\n",
+            ),
+            (
+                "load uneven\ntrajectory u\n",
+                "ok 1\n1,3,1\nok 3\nu,0,0.001,0 0 1 1\nu,0.001,0.003,1 1 2 2\nu,0.003,0.005,2 2 3 3\n",
+            ),
+            (
+                "load still\ntrajectory s\n",
+                "ok 1\n1,1,1\nok 1\ns,0,1,5 6 5 6\n",
+            ),
+            ("load jump and gap\ncount\n", "ok 1\n3,3,1\nok 1\n3,1\n"),
+            // In the order of acceptance, and a leg whose box alone meets this one.
+            (
+                "load two\nbox 3 3 10 4 2020-01-01T00:00:00Z 2020-01-01T00:00:04Z\n",
+                "ok 1\n4,4,2\nok 3\ne,0,2,0 0 10 10\nf,0,1,2 2 3 3\nf,1,2,3 3 4 4\n",
+            ),
+            // A common corner, in x, y and t.
+            (
+                "load two\nbox 20 20 21 21 2020-01-01T00:00:04Z 2020-01-01T00:00:05Z\n",
+                "ok 1\n4,4,2\nok 1\ne,2,4,10 10 20 20\n",
+            ),
+            (
+                "load two\nbox 20 20 21 21 2020-01-01T00:00:04.001Z 2020-01-01T00:00:05Z\n",
+                "ok 1\n4,4,2\nok 0\n",
+            ),
+        ],
+    )
+}
+
+#[test]
+fn limits_are_kept(rt: HostRuntime) -> Result<(), Fail> {
+    for (legs, features, want) in [
+        (4, 2, "refused F19 at 6\n"),
+        (5, 2, "refused F20 at 6\n"),
+        (5, 3, "ok 1\n4,5,3\n"),
+    ] {
+        let limits = Limits::new(legs, features).ok_or("limits")?;
+        let got = run(rt.alloc(), limits, b"load S1.csv").map_err(|_| "a run")?;
+        assert!(rt; got.as_slice() == want.as_bytes(), "{want}");
+    }
+    Ok(())
+}
