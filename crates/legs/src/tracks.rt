@@ -183,15 +183,15 @@ impl Tracks {
         Ok(())
     }
 
-    fn push_name(&mut self, record: &Record) -> Result<(), AllocError>
-        ensures ok { OnOk result (AddsNames self.old self.new («record».now ∷ [])) }
+    fn push_name(&mut self, added: &Record) -> Result<(), AllocError>
+        ensures ok { OnOk result (AddsNames self.old self.new (added.now ∷ [])) }
         ensures err { OnErr result (self.new ≡ self.old) }
     {
-        let name = record.mfidref.as_str();
+        let name = added.mfidref.as_str();
         self.tracks.reserve(1)?;
         if insert_name(&mut self.names, self.alloc, name)? {
             let track = Track {
-                end: record.t0,
+                end: added.t0,
                 legs: 0,
             };
             self.tracks.push(track).unwrap();

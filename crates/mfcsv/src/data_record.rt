@@ -122,7 +122,8 @@ fn read_positions(alloc: Global, text: &str) -> Result<Positions, RowFault>
     ensures positions { Judges result (trajectory_fault (words text.now)) (λ p. positions_of (words text.now) ≡ Some p) }
     ensures placed { IfOk result (λ p. 1 ≤ length p) }
 {
-    let mut positions = Vec::new(alloc);
+    // Most records have two.
+    let mut positions = Vec::with_capacity(alloc, 2)?;
     let mut rest = text;
     let mut waiting = None;
     while let Some((word, after)) = next_word(rest) {
@@ -163,7 +164,7 @@ fn read_attributes(
 ) -> Result<Values, AllocError>
     ensures { IfOk result (λ v. v ≡ attributes_of (length columns.now) (cells row.now)) }
 {
-    let mut values = Vec::new(alloc);
+    let mut values = Vec::with_capacity(alloc, columns.len())?;
     for i in 0..columns.len() {
         let value = copy_of(alloc, row, 4 + i)?;
         values.push(value)?;

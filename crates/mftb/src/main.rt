@@ -6,13 +6,33 @@ mod start;
 mod words;
 
 use start::start;
+use std::io::{ErrorKind, Write};
 use std::process::ExitCode;
 use std::{env, io};
 
-fn main(rt: HostRuntime) -> io::Result<ExitCode> {
+/// The words of the command line, the program's name first.
+fn command_line(rt: &HostRuntime) -> io::Result<Vec<String>> {
     let mut words = Vec::new(rt.alloc());
-    for word in env::args(&rt)? {
+    for word in env::args(rt)? {
         words.push(word).map_err(io::Error::from)?;
     }
-    Ok(ExitCode::from(start(&rt, &words, &mut io::writer(&rt), &mut rt.stderr())))
+    Ok(words)
 }
+
+fn main(rt: HostRuntime) -> ExitCode {
+    let mut faults = rt.stderr();
+    match command_line(&rt) {
+        Ok(words) => ExitCode::from(start(&rt, &words, &mut io::writer(&rt), &mut faults)),
+        Err(error) if error.kind() == ErrorKind::OutOfMemory => {
+            let _ = writeln!(faults, "mftb: memory");
+            ExitCode::from(1)
+        }
+        Err(error) => {
+            let _ = writeln!(faults, "{error}");
+            ExitCode::from(2)
+        }
+    }
+}
+
+#[cfg(test)]
+mod tests;

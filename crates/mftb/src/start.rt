@@ -1,4 +1,10 @@
 //! The program, over any runtime and writers.
+ghost use Rattle.std.specs.Prelude.{◌≤◌, OnOk};
+ghost use Rattle.legs.specs.Limits.{limits_of};
+ghost use Rattle.legs.specs.Book.{Book, empty_book};
+ghost use Rattle.trajdb.specs.Script.{lines_of};
+ghost use Rattle.trajdb.specs.Run.{HasRun};
+
 use crate::fault::Fault;
 use crate::words::{Run, read_words};
 use clap::error::ErrorKind;
@@ -6,7 +12,7 @@ use legs::Limits;
 use std::alloc::Global;
 use std::fs::File;
 use std::io::{Read, Write};
-use std::{io, rt};
+use std::{io, mem, rt};
 use trajdb::{Db, Files, RunFault};
 
 /// The most bytes that a script or a file may have.
@@ -53,10 +59,15 @@ fn answer<'a, W: Write>(
     script: &[u8],
     files: &Files,
     out: &mut W,
-) -> Result<(), Fault<'a>> {
+) -> Result<(), Fault<'a>>
+    // What was sent is exactly the text of the run over the empty book.
+    ensures { OnOk result ((book : Book) × HasRun (limits_of 16777216 1048576) files.now (W.contents out.old) (W.contents out.new) empty_book book (lines_of script.now)) }
+{
     let limits = Limits::new(MOST_LEGS, MOST_FEATURES).unwrap();
     let mut database = Db::create(alloc, limits)?;
     database.run(alloc, script, files, out)?;
+    // The program ends here: its memory goes back whole, and not piece by piece.
+    mem::forget(database);
     Ok(())
 }
 
@@ -79,7 +90,9 @@ pub fn start<R: rt::Files + AllocGlobal, W: Write, V: Write>(
     words: &[String],
     out: &mut W,
     faults: &mut V,
-) -> u8 {
+) -> u8
+    ensures status { result ≤ 2 }
+{
     let words = match read_words(rt.alloc(), words) {
         Ok(words) => words,
         Err(error) if error.kind() == ErrorKind::OutOfMemory => {

@@ -8,12 +8,15 @@ use Rattle.timebase.specs.Instant.{moment_of}
 use Rattle.timebase.specs.Period.{PeriodView}
 use Rattle.timebase.specs.declared.TimeFault.{TimeFault}
 use Rattle.legs.specs.Boxes.{RectView, rect_of}
+use Rattle.predicates.specs.declared.Predicate.{Predicate}
+use Rattle.predicates.specs.declared.Predicate.TheVariants.{Ever, Always, Enters, Leaves, Crosses, Bypasses}
 use Rattle.querylang.specs.declared.LineCode.{LineCode}
-use Rattle.querylang.specs.declared.LineCode.TheVariants.{Q1, Q2, Q3, Q5, Q6, Q7, Q8}
+use Rattle.querylang.specs.declared.LineCode.TheVariants.{Q1, Q2, Q3, Q4, Q5, Q6, Q7, Q8}
 use Rattle.querylang.specs.declared.parse.Keyword.{Keyword}
 use Rattle.querylang.specs.declared.parse.Keyword.TheVariants as keyword
 use Rattle.querylang.specs.declared.Command.{Command}
-use Rattle.querylang.specs.declared.Command.TheVariants.{Load, Count, Box, Trajectory}
+use Rattle.querylang.specs.declared.Command.TheVariants.{Load, Count, Box, Legs, Features, Trajectory, Write}
+use Rattle.querylang.specs.declared.parse.Question.{Question}
 
 -- a space or a tab
 abbrev pub is_blank : ℕ → Bool
@@ -83,9 +86,36 @@ over command (Err e) period = Err e
 abbrev pub box_of : List (List ℕ) → Result Command LineCode
 box_of ws = if length ws == 7 then over Box (rect_behind 1 ws) (period_behind 5 ws) else Err Q3
 
--- `count`
-abbrev pub count_of : List (List ℕ) → Result Command LineCode
-count_of ws = if length ws == 1 then Ok Count else Err Q3
+-- which predicate a word is, in lower case only
+unfoldable pub predicate_of : List ℕ → Option Predicate
+predicate_of word =
+    if bytes_eq word (codes "ever") then Some Ever
+    else if bytes_eq word (codes "always") then Some Always
+    else if bytes_eq word (codes "enters") then Some Enters
+    else if bytes_eq word (codes "leaves") then Some Leaves
+    else if bytes_eq word (codes "crosses") then Some Crosses
+    else if bytes_eq word (codes "bypasses") then Some Bypasses
+    else None
+
+-- a predicate, a rectangle and a period: Q4 where the predicate is unknown, then the others' codes
+abbrev pub question : Option Predicate → Result RectView LineCode → Result PeriodView LineCode → Result Question LineCode
+question (Some predicate) (Ok rect) (Ok period) = Ok (record { predicate = predicate; rect = rect; period = period })
+question (Some predicate) (Ok rect) (Err e) = Err e
+question (Some predicate) (Err e) period = Err e
+question None rect period = Err Q4
+
+-- `PRED X1 Y1 X2 Y2 T1 T2`, behind one word
+unfoldable pub question_of : List (List ℕ) → Result Question LineCode
+question_of ws = if length ws == 8 then question (predicate_of (word_at ws 1)) (rect_behind 2 ws) (period_behind 6 ws) else Err Q3
+
+-- a command of a predicate, a rectangle and a period
+abbrev pub tested : (Predicate → RectView → PeriodView → Command) → Result Question LineCode → Result Command LineCode
+tested command (Ok asked) = Ok (command asked.predicate asked.rect asked.period)
+tested command (Err e) = Err e
+
+-- a command of one word
+abbrev pub alone : Command → List (List ℕ) → Result Command LineCode
+alone command ws = if length ws == 1 then Ok command else Err Q3
 
 -- a name: the rest of the line, with its inner blanks kept
 abbrev pub name_of : List ℕ → Result (List ℕ) LineCode
@@ -102,15 +132,21 @@ keyword_of word =
     if bytes_eq word (codes "load") then keyword.Load
     else if bytes_eq word (codes "count") then keyword.Count
     else if bytes_eq word (codes "box") then keyword.Box
+    else if bytes_eq word (codes "legs") then keyword.Legs
+    else if bytes_eq word (codes "features") then keyword.Features
     else if bytes_eq word (codes "trajectory") then keyword.Trajectory
+    else if bytes_eq word (codes "write") then keyword.Write
     else keyword.Unknown
 
 -- what a text asks for whose first word is that command
 abbrev pub asked : Keyword → List ℕ → Result Command LineCode
 asked keyword.Load text = named Load (name_of (behind_word text))
-asked keyword.Count text = count_of (words text)
+asked keyword.Count text = alone Count (words text)
 asked keyword.Box text = box_of (words text)
+asked keyword.Legs text = tested Legs (question_of (words text))
+asked keyword.Features text = tested Features (question_of (words text))
 asked keyword.Trajectory text = named Trajectory (name_of (behind_word text))
+asked keyword.Write text = alone Write (words text)
 asked keyword.Unknown text = Err Q2
 
 -- what a text asks for that is cut

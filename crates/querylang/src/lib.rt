@@ -10,6 +10,7 @@ mod words;
 
 use legs::Rect;
 pub use parse::parse_line;
+use predicates::Predicate;
 use std::alloc::{AllocError, AllocFailed};
 use std::fmt;
 use std::marker::Model;
@@ -25,6 +26,8 @@ pub enum LineCode {
     Q2,
     /// The number of words is wrong, or there is no name.
     Q3,
+    /// The predicate is unknown.
+    Q4,
     /// A coordinate is not read, or out of range.
     Q5,
     /// The first corner is above the second, in x or in y.
@@ -36,12 +39,18 @@ pub enum LineCode {
 }
 
 impl LineCode {
+    ghost use Rattle.std.specs.Prelude.{◌≡◌};
+    ghost use Rattle.querylang.specs.CodeText.{code_text};
+
     /// The code as it is printed.
-    fn as_str(self) -> &'static str {
+    fn as_str(self) -> &'static str
+        ensures { result.now ≡ code_text self }
+    {
         match self {
             LineCode::Q1 => "Q1",
             LineCode::Q2 => "Q2",
             LineCode::Q3 => "Q3",
+            LineCode::Q4 => "Q4",
             LineCode::Q5 => "Q5",
             LineCode::Q6 => "Q6",
             LineCode::Q7 => "Q7",
@@ -51,6 +60,11 @@ impl LineCode {
 }
 
 impl fmt::Display for LineCode {
+    ghost use Rattle.std.specs.Prelude.{Some};
+    ghost use Rattle.querylang.specs.CodeText.{code_text};
+
+    ghost output = { λ c. Some (code_text c) };
+
     fn fmt<W: fmt::Write>(&self, f: &mut fmt::Formatter<W>) -> fmt::Result {
         f.write_str(self.as_str())
     }
@@ -130,8 +144,14 @@ pub enum Command {
     Count,
     /// The legs whose box meets the box over a rectangle and a period.
     Box(Rect, Period),
+    /// The legs for each of which, taken alone, a predicate holds of a rectangle and a period.
+    Legs(Predicate, Rect, Period),
+    /// The features for whose whole list of legs a predicate holds of a rectangle and a period.
+    Features(Predicate, Rect, Period),
     /// The legs of the feature of that name.
     Trajectory(Name),
+    /// The whole database as a file.
+    Write,
 }
 
 #[cfg(test)]

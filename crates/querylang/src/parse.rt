@@ -1,15 +1,16 @@
 //! Reading a line.
 ghost use Rattle.std.specs.Prelude.{◌≡◌, ◌==◌, ◌≤◌, ◌<◌, ◌+◌, ◌||◌, length, map, true, false, IfOk, MatchOption, slice_index, slice_index_or, []};
 ghost use Rattle.std.specs.Str.{is_utf8};
-ghost use Rattle.querylang.specs.Line.{box_of, command_of, count_of, keyword_of, named, is_no_command, line_of, name_of, period_behind, rect_behind};
+ghost use Rattle.querylang.specs.Line.{alone, box_of, command_of, keyword_of, named, is_no_command, line_of, name_of, period_behind, predicate_of, question_of, rect_behind, tested};
 ghost use Rattle.querylang.specs.Line.{words, word_at};
 ghost use Rattle.querylang.specs.Answer.{Gives};
-ghost use Rattle.querylang.specs.declared.Command.TheVariants.{Load, Trajectory};
+ghost use Rattle.querylang.specs.declared.Command.TheVariants.{Features, Legs, Load, Trajectory};
 
 use crate::words::{cut_line, cut_text, split_word, words_of};
 use crate::{Command, LineCode, LineFault, Name};
 use fixedpoint::read_coord;
 use legs::Rect;
+use predicates::Predicate;
 use std::alloc::Global;
 use std::str;
 use timebase::{Period, read_instant};
@@ -76,12 +77,86 @@ fn read_box(words: &[&str]) -> Result<Command, LineCode>
     }
 }
 
-/// `count`.
-fn read_count(words: &[&str]) -> Result<Command, LineCode>
-    ensures { result ≡ count_of (map (λ w. w.now) words.now) }
+/// A word of a predicate.
+#[tactic(auto, unfolding(crate::specs::Line::predicate_of))]
+fn predicate_of(word: &str) -> Option<Predicate>
+    ensures { result ≡ predicate_of word.now }
+{
+    if word == "ever" {
+        Some(Predicate::Ever)
+    } else if word == "always" {
+        Some(Predicate::Always)
+    } else if word == "enters" {
+        Some(Predicate::Enters)
+    } else if word == "leaves" {
+        Some(Predicate::Leaves)
+    } else if word == "crosses" {
+        Some(Predicate::Crosses)
+    } else if word == "bypasses" {
+        Some(Predicate::Bypasses)
+    } else {
+        None
+    }
+}
+
+/// A predicate, and the rectangle and the period of which it is asked.
+#[derive(Clone, Copy, Debug)]
+struct Question {
+    predicate: Predicate,
+    rect: Rect,
+    period: Period,
+}
+
+/// `PRED X1 Y1 X2 Y2 T1 T2`, behind the command's word.
+#[tactic(auto, unfolding(crate::specs::Line::question_of))]
+fn read_question(words: &[&str]) -> Result<Question, LineCode>
+    ensures { result ≡ question_of (map (λ w. w.now) words.now) }
+{
+    if words.len() != 8 {
+        return Err(LineCode::Q3);
+    }
+    match predicate_of(word_at(words, 1)) {
+        Some(predicate) => match read_rect(words, 2) {
+            Ok(rect) => match read_period(words, 6) {
+                Ok(period) => Ok(Question {
+                    predicate,
+                    rect,
+                    period,
+                }),
+                Err(code) => Err(code),
+            },
+            Err(code) => Err(code),
+        },
+        None => Err(LineCode::Q4),
+    }
+}
+
+/// `legs PRED X1 Y1 X2 Y2 T1 T2`.
+fn read_legs(words: &[&str]) -> Result<Command, LineCode>
+    ensures { result ≡ tested Legs (question_of (map (λ w. w.now) words.now)) }
+{
+    match read_question(words) {
+        Ok(asked) => Ok(Command::Legs(asked.predicate, asked.rect, asked.period)),
+        Err(code) => Err(code),
+    }
+}
+
+/// `features PRED X1 Y1 X2 Y2 T1 T2`.
+fn read_features(words: &[&str]) -> Result<Command, LineCode>
+    ensures { result ≡ tested Features (question_of (map (λ w. w.now) words.now)) }
+{
+    match read_question(words) {
+        Ok(asked) => Ok(Command::Features(asked.predicate, asked.rect, asked.period)),
+        Err(code) => Err(code),
+    }
+}
+
+/// A command of one word: `count` or `write`.
+fn read_alone(command: Command, words: &[&str]) -> Result<Command, LineCode>
+    ensures { result ≡ alone command (map (λ w. w.now) words.now) }
 {
     if words.len() == 1 {
-        Ok(Command::Count)
+        Ok(command)
     } else {
         Err(LineCode::Q3)
     }
@@ -134,7 +209,10 @@ enum Keyword {
     Load,
     Count,
     Box,
+    Legs,
+    Features,
     Trajectory,
+    Write,
     Unknown,
 }
 
@@ -148,8 +226,14 @@ fn keyword_of(word: &str) -> Keyword
         Keyword::Count
     } else if word == "box" {
         Keyword::Box
+    } else if word == "legs" {
+        Keyword::Legs
+    } else if word == "features" {
+        Keyword::Features
     } else if word == "trajectory" {
         Keyword::Trajectory
+    } else if word == "write" {
+        Keyword::Write
     } else {
         Keyword::Unknown
     }
@@ -164,8 +248,11 @@ fn read_command(alloc: Global, text: &str) -> Result<Command, LineFault>
     match keyword_of(word) {
         Keyword::Load => read_load(alloc, rest),
         Keyword::Trajectory => read_trajectory(alloc, rest),
-        Keyword::Count => refused(read_count(words_of(alloc, text)?.as_slice())),
+        Keyword::Count => refused(read_alone(Command::Count, words_of(alloc, text)?.as_slice())),
         Keyword::Box => refused(read_box(words_of(alloc, text)?.as_slice())),
+        Keyword::Legs => refused(read_legs(words_of(alloc, text)?.as_slice())),
+        Keyword::Features => refused(read_features(words_of(alloc, text)?.as_slice())),
+        Keyword::Write => refused(read_alone(Command::Write, words_of(alloc, text)?.as_slice())),
         Keyword::Unknown => Err(LineFault::Refused(LineCode::Q2)),
     }
 }

@@ -14,6 +14,9 @@ fn said(alloc: Global, line: &[u8]) -> Result<String, Fail> {
         Ok(Some(Command::Trajectory(name))) => format!(in alloc; "trajectory<{}>", name.as_str())?,
         Ok(Some(Command::Count)) => String::from_str(alloc, "count")?,
         Ok(Some(Command::Box(_, _))) => String::from_str(alloc, "box")?,
+        Ok(Some(Command::Legs(_, _, _))) => String::from_str(alloc, "legs")?,
+        Ok(Some(Command::Features(_, _, _))) => String::from_str(alloc, "features")?,
+        Ok(Some(Command::Write)) => String::from_str(alloc, "write")?,
         Err(fault) => format!(in alloc; "{fault}")?,
     })
 }

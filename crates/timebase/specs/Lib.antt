@@ -1,2 +1,3 @@
 pub mod Instant
 pub mod Period
+pub mod InstantText

@@ -1,5 +1,5 @@
 -- What contracts see of a period.
-use Rattle.std.specs.Prelude.{ℤ, ◌≤ℤ◌, int_le, if◌then◌else◌, Option, Some, None}
+use Rattle.std.specs.Prelude.{ℤ, int_le, if◌then◌else◌, Option, Some, None}
 
 -- the moments from start to end, both included
 pub record PeriodView : Type 0 where

@@ -4,13 +4,17 @@
 //! 9998-12-31T23:59:59.999Z, so that each moment is a `jiff` timestamp.
 #![tactic(auto)]
 
-ghost use Rattle.std.specs.Prelude.{◌≡◌, ◌≤ℤ◌, pos};
+ghost use Rattle.std.specs.Prelude.{◌≡◌, ◌≤ℤ◌, ◌++◌, pos, Ok, OnOk, OnErr};
 ghost use Rattle.std.specs.Int.{int_div_euclid};
 ghost use Rattle.timebase.specs.Instant.{moment_of, moment_at, moment_within, some_moment, IsMoment};
+ghost use Rattle.timebase.specs.InstantText.{instant_text};
 ghost use Rattle.timebase.specs.Period.{period_of};
+
+mod printing;
 
 use fixedpoint::Offset;
 use jiff::Timestamp;
+pub use std::alloc::AllocError as Memory;
 use std::marker::Model;
 use thiserror::Error;
 
@@ -154,6 +158,18 @@ pub fn read_instant(text: &str) -> Result<Ms, TimeFault>
         Ok(instant) => within(whole_millis(instant.as_nanosecond())),
         Err(_) => Err(TimeFault::Unreadable),
     }
+}
+
+/// Appends the text of a moment, its date and time at UTC as `YYYY-MM-DDTHH:MM:SS.mmmZ`.
+pub fn push_instant(out: &mut Vec<u8>, at: Ms) -> Result<(), Memory>
+    ensures ok { OnOk result (out.new.items ≡ out.old.items ++ instant_text at) }
+    ensures err { OnErr result (out.new.items ≡ out.old.items) }
+
+    // The text that is appended.
+    ensures reads_back { moment_of (instant_text at) ≡ Ok at }
+{
+    let text = printing::instant_text(at);
+    out.extend_from_slice(text.as_str().as_bytes())
 }
 
 /// The moment an offset after a base; `OutOfRange` where it is out of range. It takes no memory.

@@ -23,6 +23,22 @@ fn instants_read_as_jiff_reads_them(rt: HostRuntime) -> Result<(), Fail> {
 }
 
 #[test]
+fn instants_print_their_date_and_time(rt: HostRuntime) -> Result<(), Fail> {
+    for (millis, text) in [
+        (-1, "1969-12-31T23:59:59.999Z"),
+        (1_326_803_621_000, "2012-01-17T12:33:41.000Z"),
+        (-62_135_596_800_000, "0001-01-01T00:00:00.000Z"),
+        (253_370_764_799_999, "9998-12-31T23:59:59.999Z"),
+    ] {
+        let at = Ms::new(millis).ok_or("a moment")?;
+        let mut out = Vec::new(rt.alloc());
+        push_instant(&mut out, at)?;
+        assert_eq!(rt; out.as_slice(), text.as_bytes(), "at {millis}");
+    }
+    Ok(())
+}
+
+#[test]
 fn moments_keep_to_their_range(rt: HostRuntime) -> Result<(), Fail> {
     for millis in [-62_135_596_800_000, 0, 253_370_764_799_999] {
         assert_eq!(rt; Ms::new(millis).map(Ms::millis), Some(millis));

@@ -1,3 +1,5 @@
+pub mod PickLemmas
+pub mod AnswerLemmas
 pub mod LineLemmas
 pub mod BookLemmas
 pub mod FileLemmas

@@ -1,5 +1,5 @@
 -- Runs over lines, one after another.
-use Rattle.std.proofs.Common.{ℕ, zero, suc, ◌+◌, ◌-◌, ◌≡◌, ◌∙◌, ◌++◌, ◌∷◌, [], ap, sym, refl, List, length, take, drop, map, Option, arith, true, eqb}
+use Rattle.std.proofs.Common.{ℕ, zero, suc, ◌+◌, ◌-◌, ◌≡◌, ◌∙◌, ◌++◌, ◌∷◌, [], ap, sym, subst, refl, List, length, take, drop, map, Option, arith, true, eqb}
 use Rattle.std.proofs.lemmas.Bool.Decides.{nat_tests}
 use Rattle.std.proofs.lemmas.List.{append_assoc, append-nil, take-append-drop}
 use Rattle.std.proofs.KnownBytes.{Appends-trans, Appends-nil, Appends-kept}
@@ -7,9 +7,9 @@ use Rattle.std.specs.Io.KnownBytes.{Appends, Keeps}
 use Rattle.legs.specs.Limits.{LimitsView}
 use Rattle.legs.specs.Book.{Book}
 use Rattle.trajdb.specs.Script.{lines_of, pieces_of, without_return}
-use Rattle.trajdb.specs.Answers.{line_text, line_book}
+use Rattle.trajdb.specs.Answers.{IsLineText, line_book}
 use Rattle.trajdb.specs.Lines.{HasDone, HasCut}
-use Rattle.trajdb.specs.Run.{run_text, run_book, HasRun, HasStopped, HasCutRun, IsPrefixOf}
+use Rattle.trajdb.specs.Run.{IsRunText, run_book, HasRun, HasStopped, HasCutRun, IsPrefixOf}
 
 -- named files
 abbrev pub Named : Type 0
@@ -19,14 +19,23 @@ run_book-append : (limits : LimitsView) (files : Named) (book : Book) (xs ys : L
 run_book-append limits files book [] ys = refl
 run_book-append limits files book (x ∷ xs) ys = run_book-append limits files (line_book limits files book x) xs ys
 
-run_text-append : (limits : LimitsView) (files : Named) (book : Book) (xs ys : List (List ℕ)) → run_text limits files book (xs ++ ys) ≡ run_text limits files book xs ++ run_text limits files (run_book limits files book xs) ys
-run_text-append limits files book [] ys = refl
-run_text-append limits files book (x ∷ xs) ys =
-    ap (λ t. line_text limits files book x ++ t) (run_text-append limits files (line_book limits files book x) xs ys) ∙ sym (append_assoc (line_text limits files book x) _ _)
+-- the answers to lines and then to one more
+run_text-more : (limits : LimitsView) (files : Named) (book : Book) (xs : List (List ℕ)) (y text next : List ℕ) → IsRunText limits files book xs text → IsLineText limits files (run_book limits files book xs) y next
+    → IsRunText limits files book (xs ++ y ∷ []) (text ++ next)
+run_text-more limits files book [] y text next h line = (next, [], ap (λ t. t ++ next) h ∙ sym (append-nil next), line, refl)
+run_text-more limits files book (x ∷ xs) y text next (first, others, e, said, rest) line = (
+  first,
+  others ++ next,
+  ap (λ t. t ++ next) e ∙ append_assoc first others next,
+  said,
+  run_text-more limits files (line_book limits files book x) xs y others next rest line,
+)
 
 -- k lines are done, and these bytes of the script are left
 pub record IsAt (limits : LimitsView) (files : Named) (sent : Option (List ℕ)) (now : Option (List ℕ)) (old : Book) (new : Book) (lines : List (List ℕ)) (rest : List ℕ) (k : ℕ) : Type 0 where
-  pub text : Appends sent now (run_text limits files old (take k lines))
+  pub text : List ℕ
+  pub answers : IsRunText limits files old (take k lines) text
+  pub sends : Appends sent now text
   pub book : new ≡ run_book limits files old (take k lines)
   pub left : drop k lines ≡ lines_of rest
 
@@ -44,11 +53,11 @@ more_lines (x ∷ xs) (suc k) line others e =
     (ap (λ j. take j (x ∷ xs)) s ∙ ap (λ (l : List (List ℕ)). x ∷ l) r.0, ap (λ j. drop j (x ∷ xs)) s ∙ r.1)
 
 -- the answers and the book after one more line
-text_more : (limits : LimitsView) (files : Named) (book : Book) (lines : List (List ℕ)) (k : ℕ) (line : List ℕ) (others : List (List ℕ)) → drop k lines ≡ line ∷ others
-    → run_text limits files book (take (k + 1) lines) ≡ run_text limits files book (take k lines) ++ line_text limits files (run_book limits files book (take k lines)) line
-text_more limits files book lines k line others e =
-    ap (run_text limits files book) (more_lines lines k line others e).0 ∙ run_text-append limits files book (take k lines) (line ∷ [])
-    ∙ ap (λ t. run_text limits files book (take k lines) ++ t) (append-nil (line_text limits files (run_book limits files book (take k lines)) line))
+text_more : (limits : LimitsView) (files : Named) (book : Book) (lines : List (List ℕ)) (k : ℕ) (line : List ℕ) (others : List (List ℕ)) (text next : List ℕ) → drop k lines ≡ line ∷ others
+    → IsRunText limits files book (take k lines) text → IsLineText limits files (run_book limits files book (take k lines)) line next
+    → IsRunText limits files book (take (k + 1) lines) (text ++ next)
+text_more limits files book lines k line others text next e h said =
+    subst (λ (l : List (List ℕ)). IsRunText limits files book l (text ++ next)) (sym (more_lines lines k line others e).0) (run_text-more limits files book (take k lines) line text next h said)
 
 book_more : (limits : LimitsView) (files : Named) (book : Book) (lines : List (List ℕ)) (k : ℕ) (line : List ℕ) (others : List (List ℕ)) → drop k lines ≡ line ∷ others
     → run_book limits files book (take (k + 1) lines) ≡ line_book limits files (run_book limits files book (take k lines)) line
@@ -59,36 +68,38 @@ pub next_line : (rest piece others line : List ℕ) → pieces_of rest ≡ piece
 next_line rest piece others line e f = ap (map without_return) e ∙ ap (λ l. l ∷ lines_of others) (sym f)
 
 pub at_start : (limits : LimitsView) (files : Named) (sent : Option (List ℕ)) (old : Book) (script : List ℕ) → IsAt limits files sent sent old old (lines_of script) script 0
-at_start limits files sent old script = record { text = Appends-nil sent; book = refl; left = refl }
+at_start limits files sent old script = record { text = []; answers = refl; sends = Appends-nil sent; book = refl; left = refl }
 
 pub at_more : (limits : LimitsView) (files : Named) (a b c : Option (List ℕ)) (old mid new : Book) (lines : List (List ℕ)) (rest others line : List ℕ) (k : ℕ) → IsAt limits files a b old mid lines rest k
     → lines_of rest ≡ line ∷ lines_of others → HasDone limits files b c mid new line → IsAt limits files a c old new lines others (k + 1)
 at_more limits files a b c old mid new lines rest others line k at e done =
     let next : drop k lines ≡ line ∷ lines_of others = at.left ∙ e in
-    let answer : Appends b c (line_text limits files (run_book limits files old (take k lines)) line) = rw (← at.book) done.answer in
+    let answer : IsLineText limits files (run_book limits files old (take k lines)) line done.text = subst (λ (book : Book). IsLineText limits files book line done.text) at.book done.answer in
     record {
-      text = rw (text_more limits files old lines k line (lines_of others) next) (Appends-trans a b c _ _ at.text answer);
+      text = at.text ++ done.text;
+      answers = text_more limits files old lines k line (lines_of others) at.text done.text next at.answers answer;
+      sends = Appends-trans a b c at.text done.text at.sends done.sends;
       book = done.book ∙ ap (λ l. line_book limits files l line) at.book ∙ sym (book_more limits files old lines k line (lines_of others) next);
       left = (more_lines lines k line (lines_of others) next).1;
     }
 
 pub at_cut : (limits : LimitsView) (files : Named) (a b c : Option (List ℕ)) (old mid new : Book) (lines : List (List ℕ)) (rest others line : List ℕ) (k : ℕ) → IsAt limits files a b old mid lines rest k
-    → lines_of rest ≡ line ∷ lines_of others → HasCut limits files b c mid new line → (j : ℕ) × (written : List ℕ) × HasCutRun limits files a c old new lines j written
+    → lines_of rest ≡ line ∷ lines_of others → HasCut limits files b c mid new line → (j : ℕ) × HasCutRun limits files a c old new lines j
 at_cut limits files a b c old mid new lines rest others line k at e cut =
     let next : drop k lines ≡ line ∷ lines_of others = at.left ∙ e in
-    let whole : List ℕ = line_text limits files (run_book limits files old (take k lines)) line in
-    let n : ℕ = cut.answer.0 in
-    let answer : Appends b c (take n (line_text limits files (run_book limits files old (take k lines)) line)) = rw (← at.book) cut.answer.1 in
-    let front : List ℕ = run_text limits files old (take k lines) in
-    let all : run_text limits files old (take (k + 1) lines) ≡ (run_text limits files old (take k lines) ++ take n whole) ++ drop n whole =
-    text_more limits files old lines k line (lines_of others) next ∙ ap (λ t. run_text limits files old (take k lines) ++ t) (sym (take-append-drop n whole)) ∙ sym (append_assoc front (take n whole) (drop n whole)) in
-    let back : k + 1 - 1 ≡ k = omega arith in (
+    let answer : IsLineText limits files (run_book limits files old (take k lines)) line cut.text = subst (λ (book : Book). IsLineText limits files book line cut.text) at.book cut.answer in
+    let back : k ≡ k + 1 - 1 = omega arith in
+    let whole : at.text ++ cut.text ≡ (at.text ++ take cut.n cut.text) ++ drop cut.n cut.text = ap (λ t. at.text ++ t) (sym (take-append-drop cut.n cut.text)) ∙ sym (append_assoc at.text (take cut.n cut.text) (drop cut.n cut.text)) in (
       k + 1,
-      front ++ take n whole,
       record {
-        text = Appends-trans a b c _ _ at.text answer;
-        prefix = (drop n whole, all);
-        whole = (take n whole, ap (λ j. run_text limits files old (take k lines) ++ take n whole) back ∙ ap (λ j. run_text limits files old (take j lines) ++ take n whole) (sym back));
+        written = at.text ++ take cut.n cut.text;
+        sends = Appends-trans a b c at.text (take cut.n cut.text) at.sends cut.sends;
+        all = at.text ++ cut.text;
+        answers = text_more limits files old lines k line (lines_of others) at.text cut.text next at.answers answer;
+        prefix = (drop cut.n cut.text, whole);
+        before = at.text;
+        earlier = subst (λ (j : ℕ). IsRunText limits files old (take j lines) at.text) back at.answers;
+        whole = (take cut.n cut.text, refl);
         book = cut.book ∙ ap (λ l. line_book limits files l line) at.book ∙ sym (book_more limits files old lines k line (lines_of others) next);
       },
     )
@@ -96,7 +107,7 @@ at_cut limits files a b c old mid new lines rest others line k at e cut =
 pub at_refused : (limits : LimitsView) (files : Named) (a b c : Option (List ℕ)) (old mid new : Book) (lasts : Type 0) (lines : List (List ℕ)) (rest : List ℕ) (k : ℕ) → IsAt limits files a b old mid lines rest k
     → Keeps b c → (lasts → new ≡ mid) → (j : ℕ) × HasStopped limits files a c old new lasts lines j
 at_refused limits files a b c old mid new lasts lines rest k at kept same =
-    (k, record { text = Appends-kept a b c _ at.text kept; book = λ l. same l ∙ at.book })
+    (k, record { text = at.text; answers = at.answers; sends = Appends-kept a b c at.text at.sends kept; book = λ l. same l ∙ at.book })
 
 lines_none : lines_of [] ≡ []
 unfolding pieces_of
@@ -109,38 +120,53 @@ pub at_end : (limits : LimitsView) (files : Named) (a b c : Option (List ℕ)) (
 at_end limits files a b c old new lines rest k at e kept =
     let all = all_taken lines k (at.left ∙ ap lines_of e ∙ lines_none) in
     record {
-      text = rw (← all) (Appends-kept a b c _ at.text kept);
+      text = at.text;
+      answers = subst (λ (l : List (List ℕ)). IsRunText limits files old l at.text) all at.answers;
+      sends = Appends-kept a b c at.text at.sends kept;
       book = at.book ∙ ap (run_book limits files old) all;
     }
 
--- a text without its last line is a prefix of it
-one_shorter : (limits : LimitsView) (files : Named) (book : Book) (lines : List (List ℕ)) (j : ℕ) → IsPrefixOf (run_text limits files book (take j lines)) (run_text limits files book (take (suc j) lines))
-one_shorter limits files book [] zero = ([], refl)
-one_shorter limits files book [] (suc j) = ([], refl)
-one_shorter limits files book (x ∷ xs) zero = (_, refl)
-one_shorter limits files book (x ∷ xs) (suc j) =
-    let more = one_shorter limits files (line_book limits files book x) xs j in
-    (more.0, ap (λ t. line_text limits files book x ++ t) more.1 ∙ sym (append_assoc (line_text limits files book x) _ more.0))
+-- the answers to lines but the last of them
+record Earlier (limits : LimitsView) (files : Named) (book : Book) (lines : List (List ℕ)) (j : ℕ) (text : List ℕ) : Type 0 where
+  before : List ℕ
+  answers : IsRunText limits files book (take j lines) before
+  prefix : IsPrefixOf before text
 
-shorter : (limits : LimitsView) (files : Named) (book : Book) (lines : List (List ℕ)) (k : ℕ) → IsPrefixOf (run_text limits files book (take (k - 1) lines)) (run_text limits files book (take k lines))
-shorter limits files book lines zero = ([], refl)
-shorter limits files book lines (suc j) =
-    let back : suc j - 1 ≡ j = omega arith in
-    let more = one_shorter limits files book lines j in
-    (more.0, more.1 ∙ ap (λ i. run_text limits files book (take i lines) ++ more.0) (sym back))
+one_shorter : (limits : LimitsView) (files : Named) (book : Book) (lines : List (List ℕ)) (j : ℕ) (text : List ℕ) → IsRunText limits files book (take (suc j) lines) text → Earlier limits files book lines j text
+one_shorter limits files book [] zero text h = record { before = []; answers = refl; prefix = (text, refl) }
+one_shorter limits files book [] (suc j) text h = record { before = text; answers = h; prefix = ([], sym (append-nil text)) }
+one_shorter limits files book (x ∷ xs) zero text h = record { before = []; answers = refl; prefix = (text, refl) }
+one_shorter limits files book (x ∷ xs) (suc j) text (first, others, e, said, rest) =
+    let more = one_shorter limits files (line_book limits files book x) xs j others rest in
+    record {
+      before = first ++ more.before;
+      answers = (first, more.before, refl, said, more.answers);
+      prefix = (more.prefix.0, e ∙ ap (λ t. first ++ t) more.prefix.1 ∙ sym (append_assoc first more.before more.prefix.0));
+    }
+
+shorter : (limits : LimitsView) (files : Named) (book : Book) (lines : List (List ℕ)) (k : ℕ) (text : List ℕ) → IsRunText limits files book (take k lines) text → Earlier limits files book lines (k - 1) text
+shorter limits files book lines zero text h = record { before = text; answers = h; prefix = ([], sym (append-nil text)) }
+shorter limits files book lines (suc j) text h =
+    let back : j ≡ suc j - 1 = omega arith in
+    subst (λ (i : ℕ). Earlier limits files book lines i text) back (one_shorter limits files book lines j text h)
 
 pub at_unflushed : (limits : LimitsView) (files : Named) (a b c : Option (List ℕ)) (old new : Book) (lines : List (List ℕ)) (rest : List ℕ) (k : ℕ) → IsAt limits files a b old new lines rest k → Keeps b c
-    → (j : ℕ) × (written : List ℕ) × HasCutRun limits files a c old new lines j written
-at_unflushed limits files a b c old new lines rest k at kept = (
-  k,
-  run_text limits files old (take k lines),
-  record {
-    text = Appends-kept a b c _ at.text kept;
-    prefix = ([], sym (append-nil (run_text limits files old (take k lines))));
-    whole = shorter limits files old lines k;
-    book = at.book;
-  },
-)
+    → (j : ℕ) × HasCutRun limits files a c old new lines j
+at_unflushed limits files a b c old new lines rest k at kept =
+    let earlier = shorter limits files old lines k at.text at.answers in (
+      k,
+      record {
+        written = at.text;
+        sends = Appends-kept a b c at.text at.sends kept;
+        all = at.text;
+        answers = at.answers;
+        prefix = ([], sym (append-nil at.text));
+        before = earlier.before;
+        earlier = earlier.answers;
+        whole = earlier.prefix;
+        book = at.book;
+      },
+    )
 
 pub nil_from_length : {X : Type 0} (xs : List X) → eqb (length xs) 0 ≡ true → xs ≡ []
 nil_from_length [] e = refl

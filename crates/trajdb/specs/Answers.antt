@@ -1,12 +1,13 @@
 -- What a command answers over a book, and what it makes of it. No index occurs here.
-use Rattle.std.specs.Prelude.{ℕ, ◌∷◌, [], ◌++◌, List, length, slice_index_or, Option, Some, None, Result, Ok, Err, ℤ, pos, codes, decimal}
-use Rattle.std.specs.List.{flat_map}
+use Rattle.std.specs.Prelude.{ℕ, ◌≡◌, ◌+◌, ◌∷◌, [], ◌++◌, List, length, map, slice_index_or, Option, Some, None, Result, Ok, Err, ℤ, pos, codes, decimal}
+use Rattle.std.specs.List.{range_with_len}
+use Rattle.timebase.specs.Period.{PeriodView}
 use Rattle.mfcsv.specs.FileText.{file_text}
 use Rattle.mfcsv.specs.declared.Code.{Code}
 use Rattle.mfcsv.specs.declared.File.{File}
 use Rattle.mfcsv.specs.declared.Head.{Head}
 use Rattle.legs.specs.Legs.{LegView}
-use Rattle.legs.specs.Boxes.{box_over}
+use Rattle.legs.specs.Boxes.{RectView, box_over}
 use Rattle.legs.specs.Index.{legs_in_box, legs_of}
 use Rattle.legs.specs.Limits.{LimitsView}
 use Rattle.legs.specs.Book.{Book, joined, book_after, feature_of}
@@ -15,8 +16,12 @@ use Rattle.legs.specs.declared.joining.JoinCode.{JoinCode}
 use Rattle.querylang.specs.Line.{line_of}
 use Rattle.querylang.specs.declared.LineCode.{LineCode}
 use Rattle.querylang.specs.declared.Command.{Command}
-use Rattle.querylang.specs.declared.Command.TheVariants.{Load, Count, Box, Trajectory}
-use Rattle.writer.specs.Records.{leg_record}
+use Rattle.querylang.specs.declared.Command.TheVariants.{Load, Count, Box, Legs, Features, Trajectory, Write}
+use Rattle.predicates.specs.declared.Predicate.{Predicate}
+use Rattle.predicates.specs.Predicates.{Holds}
+use Rattle.writer.specs.Entries.{EntryView}
+use Rattle.writer.specs.File.{entries_text, features_text, file_text as written_text}
+use Rattle.trajdb.specs.Picks.{Picks}
 use Rattle.trajdb.specs.Files.{file_named}
 use Rattle.trajdb.specs.Codes.{file_code, line_code}
 use Rattle.trajdb.specs.declared.Counts.{Counts}
@@ -71,13 +76,17 @@ abbrev pub base_of : Option Head → ℤ
 base_of (Some head) = head.start
 base_of None = pos 0
 
--- a leg's record in a book
-abbrev pub leg_text : Book → LegView → List ℕ
-leg_text book leg = leg_record (slice_index_or book.names leg.feature []) (base_of book.head) leg (slice_index_or book.rows leg.row [])
+-- the name of a feature
+abbrev pub name_of : Book → ℕ → List ℕ
+name_of book feature = slice_index_or book.names feature []
 
--- the answer of legs
+-- a leg with its name and attribute values
+abbrev pub entry_of : Book → LegView → EntryView
+entry_of book leg = record { name = name_of book leg.feature; leg = leg; values = slice_index_or book.rows leg.row [] }
+
+-- the answer of legs: a record for each
 abbrev pub legs_text : Book → List LegView → List ℕ
-legs_text book legs = ok_text (length legs) ++ flat_map (leg_text book) legs
+legs_text book legs = ok_text (length legs) ++ entries_text (base_of book.head) (map (entry_of book) legs)
 
 -- the legs of a feature, if there is one
 abbrev pub track_of : Option ℕ → List LegView → List LegView
@@ -93,33 +102,69 @@ abbrev pub named_book : LimitsView → Book → Option (List ℕ) → Book
 named_book limits book (Some bytes) = book_with limits book bytes
 named_book limits book None = book
 
--- what a command answers over a book, with the named files at hand
-abbrev pub answer_of : LimitsView → List (List ℕ × List ℕ) → Book → Command → List ℕ
-answer_of limits files book (Load name) = named_text limits book (file_named files name)
-answer_of limits files book Count = count_text book
-answer_of limits files book (Box rect period) = legs_text book (legs_in_box (box_over rect period) book.legs)
-answer_of limits files book (Trajectory name) = legs_text book (track_of (feature_of book.names name) book.legs)
+-- the predicate holds of a leg taken alone
+abbrev pub HoldsOfLeg : Predicate → RectView → PeriodView → LegView → Type 0
+HoldsOfLeg predicate rect period leg = Holds predicate (leg ∷ []) rect period
+
+-- the predicate holds of the whole list of legs of a feature
+abbrev pub HoldsOfFeature : Predicate → RectView → PeriodView → List LegView → ℕ → Type 0
+HoldsOfFeature predicate rect period legs feature = Holds predicate (legs_of feature legs) rect period
+
+-- the answer of the legs of which the predicate holds
+abbrev pub IsLegsAnswer : Book → Predicate → RectView → PeriodView → List ℕ → Type 0
+IsLegsAnswer book predicate rect period text = (picked : List LegView) × Picks (HoldsOfLeg predicate rect period) book.legs picked × (text ≡ legs_text book picked)
+
+-- the answer of features
+abbrev pub names_text : Book → List ℕ → List ℕ
+names_text book features = ok_text (length features) ++ features_text (map (name_of book) features)
+
+-- the answer of the features of which the predicate holds
+abbrev pub IsFeaturesAnswer : Book → Predicate → RectView → PeriodView → List ℕ → Type 0
+IsFeaturesAnswer book predicate rect period text =
+    (picked : List ℕ) × Picks (HoldsOfFeature predicate rect period book.legs) (range_with_len 0 (length book.names)) picked × (text ≡ names_text book picked)
+
+-- legs as a file: two header lines and a record for each leg
+abbrev pub file_answer : Book → Head → List LegView → List ℕ
+file_answer book head legs = ok_text (length legs + 2) ++ written_text head (map (entry_of book) legs)
+
+-- the answer to `write`
+abbrev pub write_text : Option Head → Book → List ℕ
+write_text (Some head) book = file_answer book head book.legs
+write_text None book = refusal_text (codes "Q10")
+
+-- the text is what a command answers over a book, with the named files at hand
+abbrev pub IsAnswer : LimitsView → List (List ℕ × List ℕ) → Book → Command → List ℕ → Type 0
+IsAnswer limits files book (Load name) text = text ≡ named_text limits book (file_named files name)
+IsAnswer limits files book Count text = text ≡ count_text book
+IsAnswer limits files book (Box rect period) text = text ≡ legs_text book (legs_in_box (box_over rect period) book.legs)
+IsAnswer limits files book (Legs predicate rect period) text = IsLegsAnswer book predicate rect period text
+IsAnswer limits files book (Features predicate rect period) text = IsFeaturesAnswer book predicate rect period text
+IsAnswer limits files book (Trajectory name) text = text ≡ legs_text book (track_of (feature_of book.names name) book.legs)
+IsAnswer limits files book Write text = text ≡ write_text book.head book
 
 -- the book after a command
 abbrev pub book_then : LimitsView → List (List ℕ × List ℕ) → Book → Command → Book
 book_then limits files book (Load name) = named_book limits book (file_named files name)
 book_then limits files book Count = book
 book_then limits files book (Box rect period) = book
+book_then limits files book (Legs predicate rect period) = book
+book_then limits files book (Features predicate rect period) = book
 book_then limits files book (Trajectory name) = book
+book_then limits files book Write = book
 
--- what a line answers: nothing where it is no command
-abbrev pub said_text : LimitsView → List (List ℕ × List ℕ) → Book → Result (Option Command) LineCode → List ℕ
-said_text limits files book (Ok (Some command)) = answer_of limits files book command
-said_text limits files book (Ok None) = []
-said_text limits files book (Err code) = refusal_text (line_code code)
+-- the text is what a line answers: nothing where it is no command
+abbrev pub IsSaid : LimitsView → List (List ℕ × List ℕ) → Book → Result (Option Command) LineCode → List ℕ → Type 0
+IsSaid limits files book (Ok (Some command)) text = IsAnswer limits files book command text
+IsSaid limits files book (Ok None) text = text ≡ []
+IsSaid limits files book (Err code) text = text ≡ refusal_text (line_code code)
 
 abbrev pub said_book : LimitsView → List (List ℕ × List ℕ) → Book → Result (Option Command) LineCode → Book
 said_book limits files book (Ok (Some command)) = book_then limits files book command
 said_book limits files book (Ok None) = book
 said_book limits files book (Err code) = book
 
-unfoldable pub line_text : LimitsView → List (List ℕ × List ℕ) → Book → List ℕ → List ℕ
-line_text limits files book line = said_text limits files book (line_of line)
+unfoldable pub IsLineText : LimitsView → List (List ℕ × List ℕ) → Book → List ℕ → List ℕ → Type 0
+IsLineText limits files book line text = IsSaid limits files book (line_of line) text
 
 unfoldable pub line_book : LimitsView → List (List ℕ × List ℕ) → Book → List ℕ → Book
 line_book limits files book line = said_book limits files book (line_of line)

@@ -41,6 +41,7 @@ abbrev pub line_code : LineCode → List ℕ
 line_code line.Q1 = codes "Q1"
 line_code line.Q2 = codes "Q2"
 line_code line.Q3 = codes "Q3"
+line_code line.Q4 = codes "Q4"
 line_code line.Q5 = codes "Q5"
 line_code line.Q6 = codes "Q6"
 line_code line.Q7 = codes "Q7"

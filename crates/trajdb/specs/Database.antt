@@ -7,7 +7,9 @@ use Rattle.legs.specs.Book.{Book, joined}
 use Rattle.legs.specs.Index.{CanFollowInTurn}
 use Rattle.legs.specs.Tracks.{StandsFor}
 use Rattle.trajdb.specs.declared.database.Core.{Core}
-use Rattle.trajdb.specs.Faults.{IsInside}
+use Rattle.querylang.specs.declared.Command.{Command}
+use Rattle.querylang.specs.declared.Command.TheVariants.{Load, Count, Box, Legs, Features, Trajectory, Write}
+use Rattle.trajdb.specs.Faults.{IsInside, IsOwn}
 use Rattle.trajdb.specs.declared.Counts.{Counts}
 use Rattle.trajdb.specs.declared.FileCode.{FileCode}
 use Rattle.trajdb.specs.declared.FileCode.TheVariants.{Join}
@@ -72,6 +74,21 @@ Keeps content sound old new = IsSound content sound old → IsSound content soun
 -- a sound database stays so, and has this book
 abbrev pub Becomes : {I : Type 0} → (I → List LegView) → (I → Type 0) → Core I → Core I → Book → Type 0
 Becomes content sound old new book = IsSound content sound old → IsSound content sound new × (book_of content new ≡ book)
+
+-- a load fault of the load itself
+abbrev pub IsOwnLoad : LoadFault → Type 0
+IsOwnLoad (Refused code number) = Unit {0}
+IsOwnLoad (Run fault) = IsOwn fault
+
+-- a command that is no `load`
+abbrev pub IsQuestion : Command → Type 0
+IsQuestion (Load name) = ⊥
+IsQuestion Count = Unit {0}
+IsQuestion (Box rect period) = Unit {0}
+IsQuestion (Legs predicate rect period) = Unit {0}
+IsQuestion (Features predicate rect period) = Unit {0}
+IsQuestion (Trajectory name) = Unit {0}
+IsQuestion Write = Unit {0}
 
 -- a load fault that is not the output's
 abbrev pub IsLoadFault : LoadFault → Type 0

@@ -2,6 +2,7 @@ pub mod Faults
 pub mod Files
 pub mod Script
 pub mod Codes
+pub mod Picks
 pub mod Answers
 pub mod Database
 pub mod Run

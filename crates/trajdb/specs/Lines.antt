@@ -3,14 +3,19 @@ use Rattle.std.specs.Prelude.{◌≡◌, ℕ, List, take, Option}
 use Rattle.std.specs.Io.KnownBytes.{Appends}
 use Rattle.legs.specs.Limits.{LimitsView}
 use Rattle.legs.specs.Book.{Book}
-use Rattle.trajdb.specs.Answers.{line_text, line_book}
+use Rattle.trajdb.specs.Answers.{IsLineText, line_book}
 
 -- a line is done, and its answer was sent
 pub record HasDone (limits : LimitsView) (files : List (List ℕ × List ℕ)) (sent sent' : Option (List ℕ)) (old new : Book) (line : List ℕ) : Type 0 where
-  pub answer : Appends sent sent' (line_text limits files old line)
+  pub text : List ℕ
+  pub answer : IsLineText limits files old line text
+  pub sends : Appends sent sent' text
   pub book : new ≡ line_book limits files old line
 
 -- a line is done, and of its answer the first n bytes were sent
 pub record HasCut (limits : LimitsView) (files : List (List ℕ × List ℕ)) (sent sent' : Option (List ℕ)) (old new : Book) (line : List ℕ) : Type 0 where
-  pub answer : (n : ℕ) × Appends sent sent' (take n (line_text limits files old line))
+  pub text : List ℕ
+  pub answer : IsLineText limits files old line text
+  pub n : ℕ
+  pub sends : Appends sent sent' (take n text)
   pub book : new ≡ line_book limits files old line

@@ -57,6 +57,7 @@ pub(crate) fn line_code(code: LineCode) -> &'static str
         LineCode::Q1 => "Q1",
         LineCode::Q2 => "Q2",
         LineCode::Q3 => "Q3",
+        LineCode::Q4 => "Q4",
         LineCode::Q5 => "Q5",
         LineCode::Q6 => "Q6",
         LineCode::Q7 => "Q7",

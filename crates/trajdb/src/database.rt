@@ -8,29 +8,27 @@ use crate::load::{add_legs, count_names, keep_head, push_rows};
 use crate::output::send;
 use crate::script::{first_piece, without_return};
 use crate::{Counts, FileCode, LoadFault, RunFault};
-use legs::{Box3, JoinFault, Leg, LegIndex, Limits, Rect, Tracks, join};
-use mfcsv::{File, FileFault, Head, Text, Values, read_file};
+use legs::{JoinFault, Leg, LegIndex, Limits, Tracks, join};
+use mfcsv::{File, FileFault, Head, Values, read_file};
 use querylang::{Command, LineFault, parse_line};
 use std::alloc::{AllocError, Global};
 use std::io::Write;
-use timebase::{Ms, Period};
-use writer::push_leg_record;
 
 /// Accepted files behind an index of their legs.
 #[derive(Drop)]
 pub struct Core<I: LegIndex> {
-    index: I,
-    head: Option<Head>,
-    tracks: Tracks,
-    rows: Vec<Values>,
-    limits: Limits,
-    failed: bool,
+    pub(crate) index: I,
+    pub(crate) head: Option<Head>,
+    pub(crate) tracks: Tracks,
+    pub(crate) rows: Vec<Values>,
+    pub(crate) limits: Limits,
+    pub(crate) failed: bool,
 }
 
 impl<I: LegIndex> Core<I> {
     ghost use Rattle.std.specs.Prelude.{◌≡◌, [], IfOk};
     ghost use Rattle.legs.specs.Book.{empty_book};
-    ghost use Rattle.trajdb.specs.Faults.{IsInside};
+    ghost use Rattle.trajdb.specs.Faults.{IsInside, IsOwn};
     ghost use Rattle.trajdb.specs.Database.{IsLoadFault, book_of, limits_of, IsSound};
 
     /// A database without files over an index without legs.
@@ -59,8 +57,8 @@ impl<I: LegIndex> Core<I> {
     ghost use Rattle.legs.specs.Index.{CanFollowInTurn};
     ghost use Rattle.legs.specs.Book.{book_after, joined, with_file};
     ghost use Rattle.trajdb.specs.Answers.{book_by, book_with, counts_or, joined_counts, load_of};
-    ghost use Rattle.trajdb.specs.Faults.{IsInside};
-    ghost use Rattle.trajdb.specs.Database.{IsLoadFault, book_of, limits_of, IsSound, IsTold, FailsBy, LoadGives, JoinRefusal, Accepts, is_failed};
+    ghost use Rattle.trajdb.specs.Faults.{IsInside, IsOwn};
+    ghost use Rattle.trajdb.specs.Database.{IsLoadFault, IsOwnLoad, book_of, limits_of, IsSound, IsTold, FailsBy, LoadGives, JoinRefusal, Accepts, is_failed};
 
     /// Takes in a file that was joined.
     fn take(&mut self, file: File, legs: &[Leg]) -> Result<(), RunFault>
@@ -69,6 +67,7 @@ impl<I: LegIndex> Core<I> {
         ensures book { OnOk result (IsSound I.content I.is_sound self.old → Accepts (limits_of self.old) (book_of I.content self.old) file legs.now
             → book_of I.content self.new ≡ with_file (book_of I.content self.old) file) }
         ensures fault { IfErr result IsInside }
+        ensures own { IfErr result (λ fault. IsSound I.content I.is_sound self.old → Accepts (limits_of self.old) (book_of I.content self.old) file legs.now → IsOwn fault) }
     {
         add_legs(&mut self.index, legs)?;
         self.tracks.accept(&file, legs)?;
@@ -83,6 +82,7 @@ impl<I: LegIndex> Core<I> {
         ensures legs { IfOk result (λ legs. IsSound I.content I.is_sound self.now → Accepts (limits_of self.now) (book_of I.content self.now) file.now legs.items) }
         ensures refused { IfErr result (λ fault. IsSound I.content I.is_sound self.now → JoinRefusal fault (joined (limits_of self.now) (book_of I.content self.now) file.now)) }
         ensures fault { IfErr result IsLoadFault }
+        ensures own { IfErr result IsOwnLoad }
     {
         match join(alloc, self.head.as_ref(), &self.tracks, &self.limits, file) {
             Ok(legs) => Ok(legs),
@@ -101,6 +101,7 @@ impl<I: LegIndex> Core<I> {
         ensures done { IsTold result → IsSound I.content I.is_sound self.old
             → IsSound I.content I.is_sound self.new × (book_of I.content self.new ≡ book_after (limits_of self.old) (book_of I.content self.old) file) }
         ensures fault { IfErr result IsLoadFault }
+        ensures own { IfErr result (λ fault. IsSound I.content I.is_sound self.old → IsOwnLoad fault) }
     {
         let legs = self.join_file(alloc, &file)?;
         let records = file.records.as_slice();
@@ -121,6 +122,7 @@ impl<I: LegIndex> Core<I> {
         ensures done { IsTold result → IsSound I.content I.is_sound self.old
             → IsSound I.content I.is_sound self.new × (book_of I.content self.new ≡ book_with (limits_of self.old) (book_of I.content self.old) bytes.now) }
         ensures fault { IfErr result IsLoadFault }
+        ensures own { IfErr result (λ fault. IsSound I.content I.is_sound self.old → IsOwnLoad fault) }
     {
         match read_file(alloc, bytes) {
             Ok(file) => self.accept(alloc, file),
@@ -146,6 +148,7 @@ impl<I: LegIndex> Core<I> {
         ensures failed { IfErr result (λ fault. FailsBy fault → is_failed self.new ≡ true) }
         ensures limits { limits_of self.new ≡ limits_of self.old }
         ensures fault { IfErr result IsLoadFault }
+        ensures own { IfErr result (λ fault. IsSound I.content I.is_sound self.old → IsOwnLoad fault) }
         ensures stays { is_failed self.old ≡ true → is_failed self.new ≡ true }
         ensures was_failed { is_failed self.old ≡ true → result ≡ Err (LoadFault.Run RunFault.Failed) }
         ensures lasts { IsSound I.content I.is_sound self.old → is_failed self.new ≡ false → IsSound I.content I.is_sound self.new }
@@ -164,79 +167,10 @@ impl<I: LegIndex> Core<I> {
 }
 
 impl<I: LegIndex> Core<I> {
-    ghost use Rattle.std.specs.Prelude.{◌≡◌, ◌++◌, IfOk, IfErr, OnOk, OnErr, Ok, Some, false, true};
-    ghost use Rattle.legs.specs.Boxes.{box_over};
-    ghost use Rattle.legs.specs.Index.{legs_in_box, legs_of};
-    ghost use Rattle.legs.specs.Book.{feature_of};
-    ghost use Rattle.trajdb.specs.Answers.{answer_of, base_of, book_then, leg_text, legs_text, named_book, named_text, track_of};
-    ghost use Rattle.trajdb.specs.Faults.{IsInside};
-    ghost use Rattle.trajdb.specs.Database.{IsLoadFault, Becomes, IsSound, Keeps, book_of, is_failed, limits_of};
-
-    /// The start instant of the first accepted file.
-    fn base(&self) -> Ms
-        ensures { result ≡ base_of self.now.head }
-    {
-        match &self.head {
-            Some(head) => head.start,
-            None => match Ms::new(0) {
-                Some(epoch) => epoch,
-                None => unreachable!(),
-            },
-        }
-    }
-
-    /// Appends a leg's record.
-    fn push_leg(&self, alloc: Global, text: &mut Vec<u8>, leg: &Leg) -> Result<(), RunFault>
-        ensures text { OnOk result (text.new.items ≡ text.old.items ++ leg_text (book_of I.content self.now) leg.now) }
-        ensures fault { IfErr result IsInside }
-    {
-        let Some(name) = self.tracks.name(leg.feature) else {
-            return Err(RunFault::Damaged(0));
-        };
-        let Some(values) = self.rows.get(leg.row as usize) else {
-            return Err(RunFault::Damaged(0));
-        };
-        push_leg_record(alloc, text, name, self.base(), leg, values.as_slice())?;
-        Ok(())
-    }
-
-    /// The answer of legs.
-    fn legs_text(&self, alloc: Global, legs: &[Leg]) -> Result<Vec<u8>, RunFault>
-        ensures text { IfOk result (λ text. text.items ≡ legs_text (book_of I.content self.now) legs.now) }
-        ensures fault { IfErr result IsInside }
-    {
-        let mut text = ok_text(alloc, legs.len() as u64)?;
-        for leg in legs {
-            self.push_leg(alloc, &mut text, leg)?;
-        }
-        Ok(text)
-    }
-
-    /// The legs whose box meets the box over a rectangle and a period.
-    fn legs_in(&mut self, rect: &Rect, period: &Period) -> Result<Vec<Leg>, RunFault>
-        ensures found { IfOk result (λ legs. IsSound I.content I.is_sound self.old → legs.items ≡ legs_in_box (box_over rect.now period.now) (book_of I.content self.old).legs) }
-        ensures keeps { Keeps I.content I.is_sound self.old self.new }
-        ensures limits { limits_of self.new ≡ limits_of self.old }
-        ensures lasts { is_failed self.new ≡ is_failed self.old }
-        ensures fault { IfErr result IsInside }
-    {
-        Ok(self.index.search(&Box3::new(rect, period))?)
-    }
-
-    /// The legs of the feature of a name.
-    fn legs_of(&mut self, alloc: Global, name: &str) -> Result<Vec<Leg>, RunFault>
-        ensures found { IfOk result (λ legs. IsSound I.content I.is_sound self.old
-            → legs.items ≡ track_of (feature_of (book_of I.content self.old).names name.now) (book_of I.content self.old).legs) }
-        ensures keeps { Keeps I.content I.is_sound self.old self.new }
-        ensures limits { limits_of self.new ≡ limits_of self.old }
-        ensures lasts { is_failed self.new ≡ is_failed self.old }
-        ensures fault { IfErr result IsInside }
-    {
-        match self.tracks.feature(name) {
-            Some(feature) => Ok(self.index.track(feature)?),
-            None => Ok(Vec::new(alloc)),
-        }
-    }
+    ghost use Rattle.std.specs.Prelude.{◌≡◌, IfOk, IfErr, OnOk, OnErr, Some, true};
+    ghost use Rattle.trajdb.specs.Answers.{named_book, named_text};
+    ghost use Rattle.trajdb.specs.Faults.{IsInside, IsOwn};
+    ghost use Rattle.trajdb.specs.Database.{Becomes, IsSound, book_of, is_failed, limits_of};
 
     /// The answer to `load` of a file.
     fn load_text(&mut self, alloc: Global, bytes: &[u8]) -> Result<Vec<u8>, RunFault>
@@ -245,6 +179,7 @@ impl<I: LegIndex> Core<I> {
         ensures limits { limits_of self.new ≡ limits_of self.old }
         ensures failed { OnErr result (is_failed self.new ≡ true) }
         ensures fault { IfErr result IsInside }
+        ensures own { IfErr result (λ fault. IsSound I.content I.is_sound self.old → IsOwn fault) }
     {
         let text = match self.load(alloc, bytes) {
             Ok(counts) => counts_text(alloc, counts),
@@ -263,9 +198,9 @@ impl<I: LegIndex> Core<I> {
 
 impl<I: LegIndex> Core<I> {
     ghost use Rattle.std.specs.Prelude.{◌≡◌, IfOk, IfErr, OnOk, OnErr, Err, false, true};
-    ghost use Rattle.trajdb.specs.Answers.{answer_of, book_then, line_book, line_text};
-    ghost use Rattle.trajdb.specs.Faults.{IsInside};
-    ghost use Rattle.trajdb.specs.Database.{IsLoadFault, Becomes, IsSound, Keeps, book_of, is_failed, limits_of};
+    ghost use Rattle.trajdb.specs.Answers.{IsAnswer, IsLineText, book_then, line_book};
+    ghost use Rattle.trajdb.specs.Faults.{IsInside, IsOwn};
+    ghost use Rattle.trajdb.specs.Database.{Becomes, IsQuestion, IsSound, Keeps, book_of, is_failed, limits_of};
 
     /// The whole answer to a command, with the named files at hand.
     ///
@@ -277,11 +212,13 @@ impl<I: LegIndex> Core<I> {
         files: &Files,
     ) -> Result<Vec<u8>, RunFault>
         ensures text { IfOk result (λ text. IsSound I.content I.is_sound self.old
-            → text.items ≡ answer_of (limits_of self.old) files.now (book_of I.content self.old) command.now) }
+            → IsAnswer (limits_of self.old) files.now (book_of I.content self.old) command.now text.items) }
         ensures book { OnOk result (Becomes I.content I.is_sound self.old self.new (book_then (limits_of self.old) files.now (book_of I.content self.old) command.now)) }
         ensures refused { OnErr result (is_failed self.new ≡ false → Keeps I.content I.is_sound self.old self.new) }
+        ensures question { IsQuestion command.now → Keeps I.content I.is_sound self.old self.new }
         ensures limits { limits_of self.new ≡ limits_of self.old }
         ensures fault { IfErr result IsInside }
+        ensures own { IfErr result (λ fault. IsSound I.content I.is_sound self.old → IsOwn fault) }
         ensures stays { is_failed self.old ≡ true → is_failed self.new ≡ true }
         ensures was_failed { is_failed self.old ≡ true → result ≡ Err RunFault.Failed }
         ensures lasts { IsSound I.content I.is_sound self.old → is_failed self.new ≡ false → IsSound I.content I.is_sound self.new }
@@ -299,22 +236,32 @@ impl<I: LegIndex> Core<I> {
                 let legs = self.legs_in(rect, period)?;
                 self.legs_text(alloc, legs.as_slice())
             }
+            Command::Legs(predicate, rect, period) => {
+                let legs = self.legs_for(alloc, *predicate, rect, period)?;
+                self.legs_text(alloc, legs.as_slice())
+            }
+            Command::Features(predicate, rect, period) => {
+                let features = self.features_for(alloc, *predicate, rect, period)?;
+                self.names_text(alloc, features.as_slice())
+            }
             Command::Trajectory(name) => {
                 let legs = self.legs_of(alloc, name.as_str())?;
                 self.legs_text(alloc, legs.as_slice())
             }
+            Command::Write => self.write_text(alloc),
         }
     }
 
     /// The whole answer to a line of a script.
-    #[tactic(auto, unfolding(crate::specs::Answers::line_text, crate::specs::Answers::line_book))]
+    #[tactic(auto, unfolding(crate::specs::Answers::IsLineText, crate::specs::Answers::line_book))]
     fn answer(&mut self, alloc: Global, line: &[u8], files: &Files) -> Result<Vec<u8>, RunFault>
         ensures text { IfOk result (λ text. IsSound I.content I.is_sound self.old
-            → text.items ≡ line_text (limits_of self.old) files.now (book_of I.content self.old) line.now) }
+            → IsLineText (limits_of self.old) files.now (book_of I.content self.old) line.now text.items) }
         ensures book { OnOk result (Becomes I.content I.is_sound self.old self.new (line_book (limits_of self.old) files.now (book_of I.content self.old) line.now)) }
         ensures refused { OnErr result (is_failed self.new ≡ false → Keeps I.content I.is_sound self.old self.new) }
         ensures limits { limits_of self.new ≡ limits_of self.old }
         ensures fault { IfErr result IsInside }
+        ensures own { IfErr result (λ fault. IsSound I.content I.is_sound self.old → IsOwn fault) }
         ensures lasts { IsSound I.content I.is_sound self.old → is_failed self.new ≡ false → IsSound I.content I.is_sound self.new }
     {
         match parse_line(alloc, line) {
@@ -330,7 +277,7 @@ impl<I: LegIndex> Core<I> {
     ghost use Rattle.std.specs.Prelude.{◌≡◌, ℕ, List, IfOk, IfErr, IsErrOf, OnOk, OnErr, Err, false, true};
     ghost use Rattle.std.specs.Io.KnownBytes.{Keeps as IsKept};
     ghost use Rattle.trajdb.specs.Script.{lines_of, without_return};
-    ghost use Rattle.trajdb.specs.Faults.{IsInside};
+    ghost use Rattle.trajdb.specs.Faults.{IsInside, MayStop};
     ghost use Rattle.trajdb.specs.Lines.{HasDone, HasCut};
     ghost use Rattle.trajdb.specs.Run.{HasRun, HasStopped, HasCutRun};
     ghost use Rattle.trajdb.specs.Database.{IsSound, Keeps, book_of, is_failed, limits_of};
@@ -348,8 +295,10 @@ impl<I: LegIndex> Core<I> {
         ensures sound { OnOk result (IsSound I.content I.is_sound self.old → IsSound I.content I.is_sound self.new) }
         ensures cut { IsErrOf result RunFault.Output → IsSound I.content I.is_sound self.old
             → HasCut (limits_of self.old) files.now (W.contents out.old) (W.contents out.new) (book_of I.content self.old) (book_of I.content self.new) line.now }
+        ensures cut_sound { IsErrOf result RunFault.Output → IsSound I.content I.is_sound self.old → IsSound I.content I.is_sound self.new }
         ensures refused { IfErr result (λ e. IsInside e → is_failed self.new ≡ false → Keeps I.content I.is_sound self.old self.new) }
         ensures nothing { IfErr result (λ e. IsInside e → IsKept (W.contents out.old) (W.contents out.new)) }
+        ensures own { IfErr result (λ fault. IsSound I.content I.is_sound self.old → MayStop fault) }
         ensures limits { limits_of self.new ≡ limits_of self.old }
         ensures lasts { IsSound I.content I.is_sound self.old → is_failed self.new ≡ false → IsSound I.content I.is_sound self.new }
     {
@@ -371,10 +320,12 @@ impl<I: LegIndex> Core<I> {
         ensures sound { OnOk result (IsSound I.content I.is_sound self.old → IsSound I.content I.is_sound self.new) }
 
         // Where the run stops short.
-        ensures output { IsErrOf result RunFault.Output → IsSound I.content I.is_sound self.old → (k : ℕ) × (written : List ℕ)
-            × HasCutRun (limits_of self.old) files.now (W.contents out.old) (W.contents out.new) (book_of I.content self.old) (book_of I.content self.new) (lines_of script.now) k written }
+        ensures output { IsErrOf result RunFault.Output → IsSound I.content I.is_sound self.old → (k : ℕ)
+            × HasCutRun (limits_of self.old) files.now (W.contents out.old) (W.contents out.new) (book_of I.content self.old) (book_of I.content self.new) (lines_of script.now) k }
+        ensures cut_sound { IsErrOf result RunFault.Output → IsSound I.content I.is_sound self.old → IsSound I.content I.is_sound self.new }
         ensures stopped { IfErr result (λ e. IsInside e → IsSound I.content I.is_sound self.old → (k : ℕ)
             × HasStopped (limits_of self.old) files.now (W.contents out.old) (W.contents out.new) (book_of I.content self.old) (book_of I.content self.new) (is_failed self.new ≡ false) (lines_of script.now) k) }
+        ensures own { IfErr result (λ fault. IsSound I.content I.is_sound self.old → MayStop fault) }
         ensures stays { is_failed self.old ≡ true → is_failed self.new ≡ true }
         ensures was_failed { is_failed self.old ≡ true → result ≡ Err RunFault.Failed }
         ensures limits { limits_of self.new ≡ limits_of self.old }

@@ -29,10 +29,10 @@ impl Model for Db {
 impl Db {
     ghost use Rattle.std.specs.Prelude.{◌≡◌, ℕ, List, IfOk, IfErr, IsErrOf, OnOk, OnErr, Ok, Err, true, false};
     ghost use Rattle.trajdb.specs.Script.{lines_of};
-    ghost use Rattle.trajdb.specs.Answers.{answer_of, book_then, book_with, load_of};
-    ghost use Rattle.trajdb.specs.Faults.{IsInside};
+    ghost use Rattle.trajdb.specs.Answers.{IsAnswer, book_then, book_with, load_of};
+    ghost use Rattle.trajdb.specs.Faults.{IsInside, IsOwn, MayStop};
     ghost use Rattle.trajdb.specs.Run.{HasRun, HasStopped, HasCutRun};
-    ghost use Rattle.trajdb.specs.Database.{IsTold, IsLoadFault, LoadGives};
+    ghost use Rattle.trajdb.specs.Database.{FailsBy, IsQuestion, IsTold, IsLoadFault, IsOwnLoad, LoadGives};
     ghost use Rattle.trajdb.specs.Db.{new_db};
     ghost use Rattle.trajdb.specs.declared.RunFault.{RunFault};
     ghost use Rattle.trajdb.specs.declared.LoadFault.{LoadFault};
@@ -55,7 +55,9 @@ impl Db {
         ensures counts { self.old.failed ≡ false → LoadGives result (load_of self.old.limits self.old.book bytes.now) }
         ensures book { IsTold result → self.old.failed ≡ false → self.new.book ≡ book_with self.old.limits self.old.book bytes.now }
         ensures lives { IsTold result → self.old.failed ≡ false → self.new.failed ≡ false }
+        ensures failed { IfErr result (λ fault. FailsBy fault → self.new.failed ≡ true) }
         ensures fault { IfErr result IsLoadFault }
+        ensures own { IfErr result (λ fault. self.old.failed ≡ false → IsOwnLoad fault) }
         ensures was_failed { self.old.failed ≡ true → result ≡ Err (LoadFault.Run RunFault.Failed) }
         ensures limits { self.new.limits ≡ self.old.limits }
     {
@@ -71,11 +73,13 @@ impl Db {
         command: &Command,
         files: &Files,
     ) -> Result<Vec<u8>, RunFault>
-        ensures text { IfOk result (λ text. text.items ≡ answer_of self.old.limits files.now self.old.book command.now) }
+        ensures text { IfOk result (λ text. IsAnswer self.old.limits files.now self.old.book command.now text.items) }
         ensures book { OnOk result (self.new.book ≡ book_then self.old.limits files.now self.old.book command.now) }
         ensures lives { OnOk result (self.new.failed ≡ false) }
         ensures refused { OnErr result (self.new.failed ≡ false → self.new.book ≡ self.old.book) }
+        ensures question { IsQuestion command.now → self.old.failed ≡ false → self.new ≡ self.old }
         ensures fault { IfErr result IsInside }
+        ensures own { IfErr result (λ fault. self.old.failed ≡ false → IsOwn fault) }
         ensures was_failed { self.old.failed ≡ true → result ≡ Err RunFault.Failed }
         ensures limits { self.new.limits ≡ self.old.limits }
     {
@@ -95,10 +99,12 @@ impl Db {
         ensures lives { OnOk result (self.new.failed ≡ false) }
 
         // Where the run stops short.
-        ensures output { IsErrOf result RunFault.Output → self.old.failed ≡ false → (k : ℕ) × (written : List ℕ)
-            × HasCutRun self.old.limits files.now (W.contents out.old) (W.contents out.new) self.old.book self.new.book (lines_of script.now) k written }
+        ensures output { IsErrOf result RunFault.Output → self.old.failed ≡ false → (k : ℕ)
+            × HasCutRun self.old.limits files.now (W.contents out.old) (W.contents out.new) self.old.book self.new.book (lines_of script.now) k }
+        ensures output_lives { IsErrOf result RunFault.Output → self.old.failed ≡ false → self.new.failed ≡ false }
         ensures stopped { IfErr result (λ e. IsInside e → self.old.failed ≡ false → (k : ℕ)
             × HasStopped self.old.limits files.now (W.contents out.old) (W.contents out.new) self.old.book self.new.book (self.new.failed ≡ false) (lines_of script.now) k) }
+        ensures own { IfErr result (λ fault. self.old.failed ≡ false → MayStop fault) }
         ensures was_failed { self.old.failed ≡ true → result ≡ Err RunFault.Failed }
         ensures limits { self.new.limits ≡ self.old.limits }
     {

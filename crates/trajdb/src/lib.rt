@@ -10,6 +10,7 @@ mod db;
 mod files;
 mod load;
 mod output;
+mod questions;
 mod script;
 
 pub use database::Core;

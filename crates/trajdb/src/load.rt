@@ -1,7 +1,7 @@
 //! What a file adds to a database.
-ghost use Rattle.std.specs.Prelude.{◌≡◌, ◌++◌, [], length, map, IfOk, OnOk};
+ghost use Rattle.std.specs.Prelude.{◌≡◌, ◌++◌, [], length, map, IfOk, IfErr, OnOk};
 ghost use Rattle.mfcsv.specs.Views.{RecordView};
-ghost use Rattle.legs.specs.Index.{CanFollowInTurn};
+ghost use Rattle.legs.specs.Index.{CanFollowInTurn, MayRefuseLeg};
 ghost use Rattle.legs.specs.Counting.{names_after};
 ghost use Rattle.legs.specs.Book.{head_with};
 
@@ -14,6 +14,7 @@ use std::alloc::{AllocError, Global};
 pub(crate) fn add_legs<I: LegIndex>(index: &mut I, legs: &[Leg]) -> Result<(), IndexFault>
     ensures sound { OnOk result (I.is_sound index.old → CanFollowInTurn (I.content index.old) legs.now → I.is_sound index.new) }
     ensures content { OnOk result (I.is_sound index.old → CanFollowInTurn (I.content index.old) legs.now → I.content index.new ≡ I.content index.old ++ legs.now) }
+    ensures refusal { IfErr result (λ fault. I.is_sound index.old → CanFollowInTurn (I.content index.old) legs.now → MayRefuseLeg fault) }
 {
     for leg in legs {
         index.add(*leg)?;
@@ -34,9 +35,7 @@ pub(crate) fn keep_head(first: &mut Option<Head>, head: Head)
 pub(crate) fn push_rows(rows: &mut Vec<Values>, records: Records) -> Result<(), AllocError>
     ensures { OnOk result (rows.new.items ≡ rows.old.items ++ map (λ (r : RecordView). r.attributes) records) }
 {
-    let mut left = records.into_vec();
-    left.reverse();
-    while let Some(entry) = left.pop() {
+    for entry in records.into_vec() {
         rows.push(entry.attributes)?;
     }
     Ok(())

@@ -34,8 +34,47 @@ macro_rules! headed {
     };
 }
 
+/// A script over the example: a question without its period, which is that of the whole example.
+macro_rules! asked {
+    ($question:literal) => {
+        concat!(
+            "load S1.csv\n",
+            $question,
+            " 2012-01-17T12:33:41Z 2012-01-17T12:37:00Z\n"
+        )
+    };
+}
+
+/// The example as the database writes it.
+macro_rules! written {
+    ($front:literal) => {
+        concat!(
+            $front,
+            "@stboundedby,urn:x-ogc:def:crs:EPSG:6.6:4326,2D,10 1,12 3,2012-01-17T12:33:41.000Z,2012-01-17T12:36:51.000Z,sec\n",
+            "@columns,mfidref,trajectory,state,xsd:token,type code,xsd:integer\n",
+            "a,10,150,11 2 12 3,walking,1\n",
+            "b,10,190,10 2 11 3,walking,2\n",
+            "a,150,190,12 3 10 3,walking,2\n",
+            "c,10,100,12 1 10 2,vehicle,1\n",
+            "c,100,190,10 2 11 3,vehicle,1\n"
+        )
+    };
+}
+
+/// A file of names and values with commas, quotes and line ends, as the database writes it.
+macro_rules! quoted {
+    ($front:literal) => {
+        concat!(
+            $front,
+            "@stboundedby,\"local, \"\"L\"\"\",2D,0 0,1 1,2020-01-01T00:00:00.000Z,2020-01-01T00:00:01.000Z,sec\n",
+            "@columns,mfidref,trajectory,\"note, n\",xsd:string\n",
+            "\"a, \"\"b\"\"\nc\",0,1,0 0 1 1,\"x, \"\"y\"\"\nz\"\n"
+        )
+    };
+}
+
 /// The files of most scripts below.
-const FILES: [(&str, &str); 10] = [
+const FILES: [(&str, &str); 20] = [
     ("S1.csv", STANDARD),
     ("cut.csv", CUT),
     ("quick", headed!("q,0,0.002,0 0 1 1 2 2 3 3\n")),
@@ -55,6 +94,22 @@ const FILES: [(&str, &str); 10] = [
         "@stboundedby,local,2D,0 0,0 0,2020-01-01T00:00:00Z,2020-01-02T00:00:00Z,sec\n@columns,mfidref,trajectory,x,xsd:token\nk,0,1,0 0,v\n",
     ),
     ("two", STANDARD),
+    (
+        "odd",
+        "\u{feff}@STBOUNDEDBY,local,2d,0 0,0 0,2020-01-01T00:00:00Z,2020-01-02T00:00:00Z\r\n@foliation,x\r\n@Columns,MFIDREF,Trajectory,note,xsd:string\r\n\"a, b\", 0 ,1,0 0 1 1\r\n",
+    ),
+    (
+        "rounded",
+        headed!("n,0,1,1.00000005 -1.00000005 -0 100000000.00000004\n"),
+    ),
+    ("far", headed!("n,0,1,0 0 0 100000000.0000001\n")),
+    ("heads", headed!("")),
+    ("between", headed!("p,0,1,0 0 10 0\n")),
+    ("diagonal", headed!("d,0,10,0 0 10 10\n")),
+    ("gap", headed!("g,0,10,0 0 1 0\ng,50,60,1 0 2 0\n")),
+    ("jump", headed!("j,0,10,0 0 1 0\nj,10,20,5 5 6 5\n")),
+    ("written", written!("")),
+    ("quoted", quoted!("")),
 ];
 
 /// What a script answers on a new database.
@@ -131,8 +186,12 @@ fn lines_are_refused(rt: HostRuntime) -> Result<(), Fail> {
             ("\n \r\n\t# count\n", ""),
             ("boxes\nCOUNT\n", "refused Q2\nrefused Q2\n"),
             (
-                "count 1\nload\nbox 0 0 1\n",
-                "refused Q3\nrefused Q3\nrefused Q3\n",
+                "count 1\nload\nbox 0 0 1\ntrajectory\nwrite x\nlegs near 0\n",
+                "refused Q3\nrefused Q3\nrefused Q3\nrefused Q3\nrefused Q3\nrefused Q3\n",
+            ),
+            (
+                "legs near 0 0 1 1 y z\nfeatures Ever x 0 1 1 y z\nfeatures ever x 0 1 1 y z\n",
+                "refused Q4\nrefused Q4\nrefused Q5\n",
             ),
             (
                 "box 0 0 x 1 y z\nbox 1 0 0 1 y z\nbox 0 0 1 1 y z\n",
@@ -146,7 +205,7 @@ fn lines_are_refused(rt: HostRuntime) -> Result<(), Fail> {
                 "box 0 0 1 1 2020-01-01T00:00:01Z 2020-01-01T00:00:01Z\n",
                 "ok 0\n",
             ),
-            ("load none\n", "refused Q9\n"),
+            ("load none\nwrite\n", "refused Q9\nrefused Q10\n"),
         ],
     )?;
     let limits = Limits::new(1, 1).ok_or("limits")?;
@@ -175,20 +234,169 @@ fn legs_are_cut_and_found(rt: HostRuntime) -> Result<(), Fail> {
                 "ok 1\n1,1,1\nok 1\ns,0,1,5 6 5 6\n",
             ),
             ("load jump and gap\ncount\n", "ok 1\n3,3,1\nok 1\n3,1\n"),
+            (
+                "load rounded\ntrajectory n\n",
+                "ok 1\n1,1,1\nok 1\nn,0,1,1.0000001 -1.0000001 0 100000000\n",
+            ),
+            ("load far\n", "refused F15 at 3\n"),
+            (
+                "load odd\ntrajectory a, b\n",
+                "ok 1\n1,1,1\nok 1\n\"a, b\",0,1,0 0 1 1,\n",
+            ),
             // In the order of acceptance, and a leg whose box alone meets this one.
             (
                 "load two\nbox 3 3 10 4 2020-01-01T00:00:00Z 2020-01-01T00:00:04Z\n",
                 "ok 1\n4,4,2\nok 3\ne,0,2,0 0 10 10\nf,0,1,2 2 3 3\nf,1,2,3 3 4 4\n",
             ),
-            // A common corner, in x, y and t.
+        ],
+    )
+}
+
+#[test]
+fn edges_count(rt: HostRuntime) -> Result<(), Fail> {
+    // The last leg is from (10, 10) at 2 s to (20, 20) at 4 s, and the others end at 2 s.
+    for (query, want) in [
+        ("0 10 10 20 2020-01-01T00:00:03Z 2020-01-01T00:00:03Z", 1),
+        ("20 10 30 20 2020-01-01T00:00:03Z 2020-01-01T00:00:03Z", 1),
+        ("10 0 20 10 2020-01-01T00:00:03Z 2020-01-01T00:00:03Z", 1),
+        ("10 20 20 30 2020-01-01T00:00:03Z 2020-01-01T00:00:03Z", 1),
+        ("12 12 13 13 2020-01-01T00:00:01Z 2020-01-01T00:00:02Z", 1),
+        ("12 12 13 13 2020-01-01T00:00:04Z 2020-01-01T00:00:05Z", 1),
+        ("20 20 21 21 2020-01-01T00:00:04Z 2020-01-01T00:00:05Z", 1),
+        (
+            "20.0000001 10 30 20 2020-01-01T00:00:03Z 2020-01-01T00:00:03Z",
+            0,
+        ),
+        (
+            "20 20 21 21 2020-01-01T00:00:04.001Z 2020-01-01T00:00:05Z",
+            0,
+        ),
+    ] {
+        let script = format!(in rt.alloc(); "load two\nbox {query}\n")?;
+        let want = match want {
+            1 => "ok 1\n4,4,2\nok 1\ne,2,4,10 10 20 20\n",
+            _ => "ok 1\n4,4,2\nok 0\n",
+        };
+        check(&rt, rt.alloc(), &[(script.as_str(), want)])?;
+    }
+    Ok(())
+}
+
+#[test]
+fn legs_are_tested_one_by_one(rt: HostRuntime) -> Result<(), Fail> {
+    check(
+        &rt,
+        rt.alloc(),
+        &[
             (
-                "load two\nbox 20 20 21 21 2020-01-01T00:00:04Z 2020-01-01T00:00:05Z\n",
-                "ok 1\n4,4,2\nok 1\ne,2,4,10 10 20 20\n",
+                asked!("legs ever 11.5 2.5 13 4"),
+                "ok 1\n4,5,3\nok 2\na,10,150,11 2 12 3,walking,1\na,150,190,12 3 10 3,walking,2\n",
             ),
             (
-                "load two\nbox 20 20 21 21 2020-01-01T00:00:04.001Z 2020-01-01T00:00:05Z\n",
-                "ok 1\n4,4,2\nok 0\n",
+                asked!("legs enters 11.5 2.5 13 4"),
+                "ok 1\n4,5,3\nok 1\na,10,150,11 2 12 3,walking,1\n",
             ),
+            (
+                asked!("legs leaves 11.5 2.5 13 4"),
+                "ok 1\n4,5,3\nok 1\na,150,190,12 3 10 3,walking,2\n",
+            ),
+            (asked!("legs crosses 11.5 2.5 13 4"), "ok 1\n4,5,3\nok 0\n"),
+            // One corner point at the period's last instant, and a millisecond earlier.
+            (
+                "load S1.csv\nlegs ever 11.5 0 13 2.5 2012-01-17T12:34:21Z 2012-01-17T12:35:01Z\n",
+                "ok 1\n4,5,3\nok 1\na,10,150,11 2 12 3,walking,1\n",
+            ),
+            (
+                "load S1.csv\nlegs ever 11.5 0 13 2.5 2012-01-17T12:34:21Z 2012-01-17T12:35:00.999Z\n",
+                "ok 1\n4,5,3\nok 0\n",
+            ),
+            // Inside only between two milliseconds.
+            (
+                "load between\nlegs ever 3.3333333 -1 3.3333334 1 2020-01-01T00:00:00.333Z 2020-01-01T00:00:00.334Z\n",
+                "ok 1\n1,1,1\nok 1\np,0,1,0 0 10 0\n",
+            ),
+            // A diagonal that misses a rectangle which its box meets.
+            (
+                "load diagonal\nbox 6 0 10 4 2020-01-01T00:00:00Z 2020-01-01T00:00:10Z\n",
+                "ok 1\n1,1,1\nok 1\nd,0,10,0 0 10 10\n",
+            ),
+            (
+                "load diagonal\nlegs ever 6 0 10 4 2020-01-01T00:00:00Z 2020-01-01T00:00:10Z\n",
+                "ok 1\n1,1,1\nok 0\n",
+            ),
+            (
+                "load diagonal\nlegs bypasses 6 0 10 4 2020-01-01T00:00:00Z 2020-01-01T00:00:10Z\n",
+                "ok 1\n1,1,1\nok 1\nd,0,10,0 0 10 10\n",
+            ),
+            // Where the rectangle is far from the leg.
+            (
+                "load diagonal\nlegs bypasses 60 0 70 4 2020-01-01T00:00:00Z 2020-01-01T00:00:10Z\n",
+                "ok 1\n1,1,1\nok 1\nd,0,10,0 0 10 10\n",
+            ),
+        ],
+    )
+}
+
+#[test]
+fn features_are_tested_whole(rt: HostRuntime) -> Result<(), Fail> {
+    check(
+        &rt,
+        rt.alloc(),
+        &[
+            (
+                asked!("features crosses 11.5 2.5 13 4"),
+                "ok 1\n4,5,3\nok 1\na\n",
+            ),
+            (
+                asked!("features always 10 2 11 3"),
+                "ok 1\n4,5,3\nok 1\nb\n",
+            ),
+            (
+                asked!("features enters 10 2 11 3"),
+                "ok 1\n4,5,3\nok 1\nc\n",
+            ),
+            (
+                asked!("features ever 10 2 11 3"),
+                "ok 1\n4,5,3\nok 3\na\nb\nc\n",
+            ),
+            (asked!("features leaves 10 2 11 3"), "ok 1\n4,5,3\nok 0\n"),
+            (asked!("features crosses 10 2 11 3"), "ok 1\n4,5,3\nok 0\n"),
+            (asked!("features bypasses 10 2 11 3"), "ok 1\n4,5,3\nok 0\n"),
+            // A gap has no moments.
+            (
+                "load gap\nfeatures bypasses 5 5 6 6 2020-01-01T00:00:20Z 2020-01-01T00:00:40Z\n",
+                "ok 1\n2,2,1\nok 0\n",
+            ),
+            (
+                "load gap\nfeatures always 5 5 6 6 2020-01-01T00:00:20Z 2020-01-01T00:00:40Z\n",
+                "ok 1\n2,2,1\nok 0\n",
+            ),
+            (
+                "load gap\nfeatures bypasses 5 5 6 6 2020-01-01T00:00:00Z 2020-01-01T00:01:00Z\n",
+                "ok 1\n2,2,1\nok 1\ng\n",
+            ),
+            // At a jump two legs share a moment.
+            (
+                "load jump\nfeatures enters 5 5 6 6 2020-01-01T00:00:10Z 2020-01-01T00:00:10Z\n",
+                "ok 1\n2,2,1\nok 1\nj\n",
+            ),
+        ],
+    )
+}
+
+#[test]
+fn the_database_is_written(rt: HostRuntime) -> Result<(), Fail> {
+    check(
+        &rt,
+        rt.alloc(),
+        &[
+            (
+                "load heads\nwrite\n",
+                "ok 1\n0,0,0\nok 2\n@stboundedby,local,2D,0 0,0 0,2020-01-01T00:00:00.000Z,2020-01-01T00:00:00.000Z,sec\n@columns,mfidref,trajectory\n",
+            ),
+            ("load S1.csv\nwrite\n", written!("ok 1\n4,5,3\nok 7\n")),
+            ("load written\nwrite\n", written!("ok 1\n5,5,3\nok 7\n")),
+            ("load quoted\nwrite\n", quoted!("ok 1\n1,1,1\nok 3\n")),
         ],
     )
 }

@@ -1,1 +1,5 @@
 pub mod Records
+pub mod Written
+pub mod Entries
+pub mod File
+pub mod Steps

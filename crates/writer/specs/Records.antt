@@ -1,12 +1,17 @@
 -- The texts of records.
-use Rattle.std.specs.Prelude.{List, ℕ, ◌∷◌, ◌++◌, [], ℤ, ◌-ℤ◌}
-use Rattle.csv.specs.Writing.{row_text, default_writer}
+use Rattle.std.specs.Prelude.{List, ℕ, true, ◌∷◌, ◌++◌, [], ℤ, ◌-ℤ◌}
+use Rattle.csv.specs.Writing.{row_text, default_writer, with_flexible}
+use Rattle.csv.specs.declared.writer.WriterBuilder.{WriterBuilder}
 use Rattle.fixedpoint.specs.NumberText.{coord_text, offset_text}
 use Rattle.legs.specs.Legs.{LegView}
 
--- a record as csv writes it: commas, quotes only where a field needs them, LF at its end
+-- csv's writer: commas, quotes only where a field needs them, LF at a record's end, records of any length
+abbrev pub record_writer : WriterBuilder
+record_writer = with_flexible default_writer true
+
+-- a record as csv writes it
 abbrev pub record_text : List (List ℕ) → List ℕ
-record_text fields = row_text default_writer fields
+record_text fields = row_text record_writer fields
 
 -- `x0 y0 x1 y1`
 abbrev pub positions_text : LegView → List ℕ

@@ -1,9 +1,10 @@
 //! A leg's record.
-ghost use Rattle.std.specs.Prelude.{◌≡◌, ◌++◌, ◌∷◌, [], ◌-ℤ◌, IfOk, OnOk, map};
+ghost use Rattle.std.specs.Prelude.{false, ◌≡◌, ◌++◌, ◌∷◌, [], ◌-ℤ◌, IfOk, OnOk, map};
 ghost use Rattle.fixedpoint.specs.NumberText.{coord_text, offset_text};
-ghost use Rattle.writer.specs.Records.{leg_fields, leg_record, positions_text};
+ghost use Rattle.writer.specs.Records.{leg_record, positions_text};
+ghost use Rattle.writer.specs.Written.{written};
 
-use crate::record::record_text;
+use crate::records::Records;
 use fixedpoint::{Coord, Offset, push_coord, push_offset};
 use legs::Leg;
 use mfcsv::Text;
@@ -70,7 +71,7 @@ fn leg_row<'a>(
 ) -> Result<Vec<&'a [u8]>, AllocError>
     ensures { IfOk result (λ row. map (λ f. f.now) row.items ≡ name.entry.now ∷ start.entry.now ∷ end.entry.now ∷ positions.entry.now ∷ values.entry.now) }
 {
-    let mut row = Vec::new(alloc);
+    let mut row = Vec::with_capacity(alloc, values.len().saturating_add(4))?;
     row.push(name)?;
     row.push(start)?;
     row.push(end)?;
@@ -79,15 +80,17 @@ fn leg_row<'a>(
     Ok(row)
 }
 
-/// The text of a leg's record.
-pub(crate) fn leg_record(
+/// Writes a leg's record behind those that were written.
+pub(crate) fn write_leg(
     alloc: Global,
+    records: &mut Records,
     name: &str,
     base: Ms,
     leg: &Leg,
     values: &[Text],
-) -> Result<Vec<u8>, AllocError>
-    ensures { IfOk result (λ text. text.items ≡ leg_record name.now base leg.now values.now) }
+) -> Result<(), AllocError>
+    requires { records.old.refused ≡ false }
+    ensures { OnOk result (records.new ≡ written (records.old.text ++ leg_record name.now base leg.now values.now)) }
 {
     let start = offset_text(alloc, base, leg.t0)?;
     let end = offset_text(alloc, base, leg.t1)?;
@@ -100,5 +103,5 @@ pub(crate) fn leg_record(
         positions.as_slice(),
         values,
     )?;
-    record_text(alloc, fields.as_slice())
+    records.push(fields.as_slice())
 }

@@ -1,14 +1,22 @@
 //! The texts of answers: records of CSV, quoted only where they need it.
 #![tactic(auto)]
 
-ghost use Rattle.std.specs.Prelude.{◌≡◌, ◌++◌, OnOk, OnErr};
+ghost use Rattle.std.specs.Prelude.{◌≡◌, ◌++◌, map, OnOk, OnErr};
+ghost use Rattle.writer.specs.File.{entries_text, features_text, file_text};
 ghost use Rattle.writer.specs.Records.{leg_record};
 
+mod corners;
+mod entry;
+mod features;
+mod file;
 mod leg;
-mod record;
+mod records;
 
+pub use entry::Entry;
+use leg::write_leg;
 use legs::Leg;
-use mfcsv::Text;
+use mfcsv::{Head, Text};
+use records::Records;
 pub use std::alloc::AllocError as Memory;
 use std::alloc::Global;
 use timebase::Ms;
@@ -26,6 +34,51 @@ pub fn push_leg_record(
     ensures ok { OnOk result (out.new.items ≡ out.old.items ++ leg_record name.now base leg.now values.now) }
     ensures err { OnErr result (out.new.items ≡ out.old.items) }
 {
-    let record = leg::leg_record(alloc, name, base, leg, values)?;
-    out.extend_from_slice(record.as_slice())
+    let mut records = Records::new(alloc);
+    write_leg(alloc, &mut records, name, base, leg, values)?;
+    let text = records.into_text()?;
+    out.extend_from_slice(text.as_slice())
 }
+
+/// Appends the records of legs, in their order.
+pub fn push_leg_records(
+    alloc: Global,
+    out: &mut Vec<u8>,
+    base: Ms,
+    entries: &[Entry<'_>],
+) -> Result<(), Memory>
+    ensures ok { OnOk result (out.new.items ≡ out.old.items ++ entries_text base entries.now) }
+    ensures err { OnErr result (out.new.items ≡ out.old.items) }
+{
+    let text = file::entries_text(alloc, base, entries)?;
+    out.extend_from_slice(text.as_slice())
+}
+
+/// Appends each name as a record of one field, in their order.
+pub fn push_features(alloc: Global, out: &mut Vec<u8>, names: &[&str]) -> Result<(), Memory>
+    ensures ok { OnOk result (out.new.items ≡ out.old.items ++ features_text (map (λ n. n.now) names.now)) }
+    ensures err { OnErr result (out.new.items ≡ out.old.items) }
+{
+    let text = features::features_text(alloc, names)?;
+    out.extend_from_slice(text.as_slice())
+}
+
+/// Appends a whole file: `@stboundedby` with the corners and the end of all legs, `@columns`, and each
+/// leg's record, its times as offsets from the start instant of the head.
+///
+/// With no legs the corners are `0 0`, and the end is the start instant.
+pub fn push_file(
+    alloc: Global,
+    out: &mut Vec<u8>,
+    head: &Head,
+    entries: &[Entry<'_>],
+) -> Result<(), Memory>
+    ensures ok { OnOk result (out.new.items ≡ out.old.items ++ file_text head.now entries.now) }
+    ensures err { OnErr result (out.new.items ≡ out.old.items) }
+{
+    let text = file::file_text(alloc, head, entries)?;
+    out.extend_from_slice(text.as_slice())
+}
+
+#[cfg(test)]
+mod tests;

@@ -6,7 +6,7 @@ use Rattle.mfcsv.proofs.RowLemmas.{attributes_of-more, attributes_of-none}
 use Rattle.mfcsv.proofs.data_record.read_attributes.Goals as goal
 
 pub loop-i-init : goal.loop-i-init
-loop-i-init c = c.new-values.ensures.items ∙ sym (attributes_of-none (cells c.args.row.now))
+loop-i-init c = c.in_ok-values.ensures.items ∙ sym (attributes_of-none (cells c.args.row.now))
 
 pub loop-i-preserved : goal.loop-i-preserved
 loop-i-preserved c =

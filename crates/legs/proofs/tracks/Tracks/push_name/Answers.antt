@@ -8,15 +8,15 @@ use Rattle.legs.proofs.tracks.Tracks.push_name.Goals as goal
 
 pub returns-then-branch-clause-ok : goal.returns-then-branch-clause-ok
 returns-then-branch-clause-ok c =
-    let is : IsRecord c.args.record.now = rw c.record.view_is at c.record.invariant in
+    let is : IsRecord c.args.added.now = rw c.added.view_is at c.added.invariant in
     rw (← c.self.view_is)
-    (adds_one _ _ c.args.record.now is c.as_str-name.result.now (record { end = c.record.inside.t0; legs = 0 } ∷ []) (c.as_str-name.ensures ∙ ap (λ (r : RecordView). r.mfidref) c.record.view_is) c.in_ok-insert_name.ensures.names
-    ((rw c.unwrap.ensures at c.push.ensures.items) ∙ ap (λ (ts : List Track). ts ++ record { end = c.record.inside.t0; legs = 0 } ∷ []) c.in_ok-reserve.ensures.items)
-    (All-push (λ (t : Track). t.legs ≡ 0) [] (record { end = c.record.inside.t0; legs = 0 }) (All-nil (λ (t : Track). t.legs ≡ 0)) refl) refl refl)
+    (adds_one _ _ c.args.added.now is c.as_str-name.result.now (record { end = c.added.inside.t0; legs = 0 } ∷ []) (c.as_str-name.ensures ∙ ap (λ (r : RecordView). r.mfidref) c.added.view_is) c.in_ok-insert_name.ensures.names
+    ((rw c.unwrap.ensures at c.push.ensures.items) ∙ ap (λ (ts : List Track). ts ++ record { end = c.added.inside.t0; legs = 0 } ∷ []) c.in_ok-reserve.ensures.items)
+    (All-push (λ (t : Track). t.legs ≡ 0) [] (record { end = c.added.inside.t0; legs = 0 }) (All-nil (λ (t : Track). t.legs ≡ 0)) refl) refl refl)
 
 pub returns-else-branch-clause-ok : goal.returns-else-branch-clause-ok
 returns-else-branch-clause-ok c =
-    let is : IsRecord c.args.record.now = rw c.record.view_is at c.record.invariant in
+    let is : IsRecord c.args.added.now = rw c.added.view_is at c.added.invariant in
     rw (← c.self.view_is)
-    (adds_one _ _ c.args.record.now is c.as_str-name.result.now [] (c.as_str-name.ensures ∙ ap (λ (r : RecordView). r.mfidref) c.record.view_is) c.in_ok-insert_name.ensures.names
+    (adds_one _ _ c.args.added.now is c.as_str-name.result.now [] (c.as_str-name.ensures ∙ ap (λ (r : RecordView). r.mfidref) c.added.view_is) c.in_ok-insert_name.ensures.names
     (c.in_ok-reserve.ensures.items ∙ sym (append-nil c.self.inside.tracks.items)) (All-nil (λ (t : Track). t.legs ≡ 0)) refl refl)

@@ -1,0 +1,84 @@
+//! The program over files that the tests write.
+use super::start;
+use std::alloc::Global;
+use std::fs;
+use std::process::Abort;
+use std::test::Fail;
+
+/// The example of the standard.
+const STANDARD: &str = "\
+@stboundedby,urn:x-ogc:def:crs:EPSG:6.6:4326,2D,50.23 9.23,50.31 9.27,2012-01-17T12:33:41Z,2012-01-17T12:37:00Z,sec
+@columns,mfidref,trajectory,state,xsd:token,\"type code\",xsd:integer
+a,10,150,11.0 2.0 12.0 3.0,walking,1
+b,10,190,10.0 2.0 11.0 3.0,walking,2
+a,150,190,12.0 3.0 10.0 3.0,walking,2
+c,10,190,12.0 1.0 10.0 2.0 11.0 3.0,vehicle,1
+";
+
+const SCRIPT: &str = "\
+# first
+load S1.csv
+count
+box 11.5 2.5 13 4 2012-01-17T12:33:41Z 2012-01-17T12:37:00Z
+";
+
+const ANSWERS: &str = "\
+ok 1
+4,5,3
+ok 1
+5,3
+ok 2
+a,10,150,11 2 12 3,walking,1
+a,150,190,12 3 10 3,walking,2
+";
+
+fn owned(alloc: Global, words: &[&str]) -> Result<Vec<String>, Fail> {
+    let mut list = Vec::new(alloc);
+    for word in words {
+        list.push(String::from_str(alloc, word)?)?;
+    }
+    Ok(list)
+}
+
+#[test]
+fn a_script_is_run(rt: HostRuntime) -> Result<(), Fail> {
+    fs::write(&rt, "S1.csv", STANDARD)?;
+    fs::write(&rt, "script.txt", SCRIPT)?;
+    let words = owned(
+        rt.alloc(),
+        &["mftb", "run", "store", "script.txt", "S1.csv"],
+    )?;
+    let (mut out, mut faults) = (Vec::new(rt.alloc()), Vec::new(rt.alloc()));
+    let status = start(&rt, &words, &mut out, &mut faults);
+    assert_eq!(rt; status, 0);
+    assert!(rt; out.as_slice() == ANSWERS.as_bytes());
+    assert!(rt; faults.is_empty());
+    Ok(())
+}
+
+#[test]
+fn what_cannot_be_read_has_a_line(rt: HostRuntime) -> Result<(), Fail> {
+    let words = owned(rt.alloc(), &["mftb", "run", "store", "no such script"])?;
+    let (mut out, mut faults) = (Vec::new(rt.alloc()), Vec::new(rt.alloc()));
+    let status = start(&rt, &words, &mut out, &mut faults);
+    assert_eq!(rt; status, 1);
+    assert!(rt; out.is_empty());
+    assert!(rt; faults.as_slice() == "mftb: cannot read no such script\n".as_bytes());
+    Ok(())
+}
+
+#[test]
+fn other_words_are_refused(rt: HostRuntime) -> Result<(), Fail> {
+    let words = owned(rt.alloc(), &["mftb", "check", "store"])?;
+    let (mut out, mut faults) = (Vec::new(rt.alloc()), Vec::new(rt.alloc()));
+    let status = start(&rt, &words, &mut out, &mut faults);
+    assert_eq!(rt; status, 2);
+    assert!(rt; out.is_empty());
+    assert!(rt; !faults.is_empty());
+
+    let words = owned(rt.alloc(), &["mftb", "--help"])?;
+    let status = start(&rt, &words, &mut out, &mut Vec::new(rt.alloc()));
+    assert_eq!(rt; status, 0);
+    assert!(rt; !out.is_empty());
+    Ok(())
+}

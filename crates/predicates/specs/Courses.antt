@@ -1,0 +1,15 @@
+-- What one pass over legs keeps of them.
+use Rattle.std.specs.Prelude.{List, ◌↔◌, IsTrue}
+use Rattle.timebase.specs.Period.{PeriodView}
+use Rattle.legs.specs.Legs.{LegView}
+use Rattle.legs.specs.Boxes.{RectView}
+use Rattle.predicates.specs.Predicates.{HasAMoment, IsEver, IsAllInside, IsInsideAtFirst, IsInsideAtLast}
+use Rattle.predicates.specs.declared.courses.Course.{Course}
+
+-- each test of the course is true exactly where its fact holds for the legs
+pub record IsCourse (course : Course) (legs : List LegView) (rect : RectView) (period : PeriodView) : Type 0 where
+  pub live : IsTrue course.live ↔ HasAMoment legs period
+  pub first : IsTrue course.first ↔ IsInsideAtFirst legs rect period
+  pub last : IsTrue course.last ↔ IsInsideAtLast legs rect period
+  pub ever : IsTrue course.ever ↔ IsEver legs rect period
+  pub always : IsTrue course.always ↔ IsAllInside legs rect period

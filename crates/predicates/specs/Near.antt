@@ -1,0 +1,23 @@
+-- Where the legs are of which a predicate holds.
+use Rattle.std.specs.Prelude.{ℤ, pos, neg_ℤ}
+use Rattle.timebase.specs.Period.{PeriodView}
+use Rattle.legs.specs.Boxes.{RectView, BoxView, box_over}
+use Rattle.predicates.specs.declared.Predicate.{Predicate}
+use Rattle.predicates.specs.declared.Predicate.TheVariants.{Ever, Always, Enters, Leaves, Crosses, Bypasses}
+
+-- the greatest coordinate
+abbrev pub most : ℤ
+most = pos 1000000000000000
+
+-- the box over a period, of all x and y
+abbrev pub plane_over : PeriodView → BoxView
+plane_over period = record { x_min = neg_ℤ most; y_min = neg_ℤ most; t_min = period.start; x_max = most; y_max = most; t_max = period.end }
+
+-- over the rectangle and the period, but for `bypasses`, which holds of legs that are far from the rectangle
+abbrev pub box_near : Predicate → RectView → PeriodView → BoxView
+box_near Ever rect period = box_over rect period
+box_near Always rect period = box_over rect period
+box_near Enters rect period = box_over rect period
+box_near Leaves rect period = box_over rect period
+box_near Crosses rect period = box_over rect period
+box_near Bypasses rect period = plane_over period

@@ -1,0 +1,61 @@
+use Rattle.std.proofs.Common.{ℕ, ◌∙◌, ◌+◌, ◌-◌, ◌<◌, ◌≤◌, List, sym, subst, ap, length, arith, refl, false, IsTrue}
+use Rattle.std.specs.List.{range_with_len}
+use Rattle.legs.specs.Legs.{LegView}
+use Rattle.legs.specs.Book.{Book}
+use Rattle.trajdb.specs.Answers.{HoldsOfFeature}
+use Rattle.trajdb.specs.Database.{book_of}
+use Rattle.trajdb.proofs.PickLemmas.{IsPicking, picking-start, picking-yes, picking-no, picking-end, range_more, range_none, range_all}
+use Rattle.trajdb.proofs.database.Core.features_for.Goals as goal
+use Rattle.trajdb.proofs.database.Core.features_for.Goals.{then-branch+in_ok-push, else-branch}
+
+pub loop-feature-init : goal.loop-feature-init
+loop-feature-init g c = record {
+  limits = refl;
+  lasts = refl;
+  sound = λ s. s;
+  book = λ s. refl;
+  picked = λ s.
+      let book = book_of g.I.LegIndex.content c.args.self.now in
+      let P : ℕ → Type 0 = HoldsOfFeature c.args.predicate c.args.rect.now c.args.period.now book.legs in
+      subst (λ (l : List ℕ). IsPicking P (range_with_len 0 (length book.names)) l c.new-features.result.items) (sym (range_all (length book.names)))
+      (subst (λ (l : List ℕ). IsPicking P (range_with_len 0 (length book.names)) (range_with_len 0 (length book.names)) l) (sym c.new-features.ensures.items) (picking-start P (range_with_len 0 (length book.names))));
+}
+
+pub loop-feature-preserved : goal.loop-feature-preserved
+loop-feature-preserved g c = record {
+  limits = c.in_ok-holds_for.ensures.limits ∙ c.loop-feature.invariant.limits;
+  lasts = c.in_ok-holds_for.ensures.lasts ∙ c.loop-feature.invariant.lasts;
+  sound = λ s. (c.in_ok-holds_for.ensures.keeps (c.loop-feature.invariant.sound s)).0;
+  book = λ s. (c.in_ok-holds_for.ensures.keeps (c.loop-feature.invariant.sound s)).1 ∙ c.loop-feature.invariant.book s;
+  picked = λ s.
+      let book = book_of g.I.LegIndex.content c.args.self.now in
+      let n : ℕ = length book.names in
+      let all : List ℕ = range_with_len 0 (length book.names) in
+      let P : ℕ → Type 0 = HoldsOfFeature c.args.predicate c.args.rect.now c.args.period.now book.legs in
+      let few : length book.names ≤ 2147483648 = s.tracks.lawful.few_names in
+      let count = c.feature_count-feature-end.ensures few in
+      let test = c.loop-feature-test.true in
+      let less : c.loop-feature.feature < length book.names = omega (arith, count, test) in
+      let others : List ℕ = range_with_len (c.loop-feature.feature + 1) (length book.names - (c.loop-feature.feature + 1)) in
+      let so_far = subst (λ (l : List ℕ). IsPicking P all l c.loop-feature.features.items) (range_more c.loop-feature.feature (length book.names) less) (c.loop-feature.invariant.picked s) in
+      let holds = subst (λ (legs : List LegView). (IsTrue c.in_ok-holds_for.field-0 → HoldsOfFeature c.args.predicate c.args.rect.now c.args.period.now legs c.loop-feature.feature)
+      × (HoldsOfFeature c.args.predicate c.args.rect.now c.args.period.now legs c.loop-feature.feature → IsTrue c.in_ok-holds_for.field-0))
+      (ap (λ (b : Book). b.legs) (c.loop-feature.invariant.book s)) (c.in_ok-holds_for.ensures.holds (c.loop-feature.invariant.sound s)) in
+      elim c.if-branch.branch [
+        | then-branch+in_ok-push w ↦
+            subst (λ (l : List ℕ). IsPicking P all others l) (sym (ap (λ v. v.items) w.features-is ∙ w.in_ok-push.ensures.items)) (picking-yes P all others c.loop-feature.features.items c.loop-feature.feature so_far (holds.0 w.if-branch.true))
+        | else-branch w ↦
+            subst (λ (l : List ℕ). IsPicking P all others l) (sym (ap (λ v. v.items) w.features-is))
+            (picking-no P all others c.loop-feature.features.items c.loop-feature.feature so_far (λ h. absurd (let t : IsTrue false = sym w.if-branch.false ∙ holds.1 h in cc)))
+      ];
+}
+
+pub returns-clause-found : goal.returns-clause-found
+returns-clause-found g c = λ s.
+    let book = book_of g.I.LegIndex.content c.args.self.now in
+    let P : ℕ → Type 0 = HoldsOfFeature c.args.predicate c.args.rect.now c.args.period.now book.legs in
+    let few : length book.names ≤ 2147483648 = s.tracks.lawful.few_names in
+    let count = c.feature_count-feature-end.ensures few in
+    let over = c.loop-feature-test.false in
+    picking-end P (range_with_len 0 (length book.names)) c.loop-feature.features.items
+    (subst (λ (l : List ℕ). IsPicking P (range_with_len 0 (length book.names)) l c.loop-feature.features.items) (range_none c.loop-feature.feature (length book.names) (omega (arith, count, over))) (c.loop-feature.invariant.picked s))

@@ -1,0 +1,2 @@
+pub mod BoundsLemmas
+pub mod CornerLemmas

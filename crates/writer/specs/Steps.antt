@@ -1,0 +1,31 @@
+-- What the steps of writing a file say.
+use Rattle.std.specs.Prelude.{List, [], ◌∷◌, ◌≡◌, ℤ, pos}
+use Rattle.std.specs.Int.{int_max, int_min}
+use Rattle.writer.specs.Entries.{EntryView}
+use Rattle.writer.specs.File.{xs, ys, least, greatest}
+use Rattle.writer.specs.declared.corners.Corners.{Corners}
+
+-- corners that reach to both ends of an entry's leg
+abbrev pub corners_with : Corners → EntryView → Corners
+corners_with c e = record {
+  x_min = int_min (int_min c.x_min e.leg.x0) e.leg.x1;
+  y_min = int_min (int_min c.y_min e.leg.y0) e.leg.y1;
+  x_max = int_max (int_max c.x_max e.leg.x0) e.leg.x1;
+  y_max = int_max (int_max c.y_max e.leg.y0) e.leg.y1;
+}
+
+-- corners at a point
+abbrev pub corners_at : ℤ → ℤ → Corners
+corners_at x y = record { x_min = x; y_min = y; x_max = x; y_max = y }
+
+-- corners at the first end of the first leg, or at 0 0
+abbrev pub first_corners : List EntryView → Corners
+first_corners [] = corners_at (pos 0) (pos 0)
+first_corners (e ∷ entries) = corners_at e.leg.x0 e.leg.y0
+
+-- corners are those of all legs
+pub record AreCorners (c : Corners) (entries : List EntryView) : Type 0 where
+  pub x_min : c.x_min ≡ least (xs entries)
+  pub y_min : c.y_min ≡ least (ys entries)
+  pub x_max : c.x_max ≡ greatest (xs entries)
+  pub y_max : c.y_max ≡ greatest (ys entries)

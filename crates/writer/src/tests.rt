@@ -1,0 +1,100 @@
+use super::*;
+use fixedpoint::Coord;
+use mfcsv::{Column, Columns, Position};
+use std::test::Fail;
+
+/// 2020-01-01T00:00:00Z.
+const BASE: i64 = 1_577_836_800_000;
+
+fn at(seconds: i64) -> Result<Ms, Fail> {
+    let at = Ms::new(BASE.wrapping_add(seconds.wrapping_mul(1000))).ok_or("a moment")?;
+    Ok(at)
+}
+
+/// A position, in halves.
+fn position(x: i64, y: i64) -> Result<Position, Fail> {
+    let x = Coord::new(x.wrapping_mul(5_000_000)).ok_or("a coordinate")?;
+    let y = Coord::new(y.wrapping_mul(5_000_000)).ok_or("a coordinate")?;
+    Ok(Position { x, y })
+}
+
+fn text(alloc: Global, text: &str) -> Result<Text, Fail> {
+    Ok(Text::from(String::from_str(alloc, text)?))
+}
+
+fn head(alloc: Global, columns: Vec<Column>) -> Result<Head, Fail> {
+    Ok(Head {
+        number_bounds: 1,
+        number_columns: 2,
+        crs: text(alloc, "local")?,
+        start: at(0)?,
+        columns: Columns::from(columns),
+    })
+}
+
+#[test]
+fn features_are_quoted_where_they_need_it(rt: HostRuntime) -> Result<(), Fail> {
+    let mut out = Vec::new(rt.alloc());
+    push_features(rt.alloc(), &mut out, &["a", "a, b"])?;
+    assert_eq!(rt; out.as_slice(), "a\n\"a, b\"\n".as_bytes());
+    Ok(())
+}
+
+#[test]
+fn a_file_without_legs_is_two_lines(rt: HostRuntime) -> Result<(), Fail> {
+    let mut out = Vec::new(rt.alloc());
+    let head = head(rt.alloc(), Vec::new(rt.alloc()))?;
+    push_file(rt.alloc(), &mut out, &head, &[])?;
+    let wanted =
+        "@stboundedby,local,2D,0 0,0 0,2020-01-01T00:00:00.000Z,2020-01-01T00:00:00.000Z,sec\n\
+        @columns,mfidref,trajectory\n";
+    assert_eq!(rt; out.as_slice(), wanted.as_bytes());
+    Ok(())
+}
+
+#[test]
+fn a_record_counts_from_the_base(rt: HostRuntime) -> Result<(), Fail> {
+    let leg = Leg::new(0, 0, at(-1)?, at(2)?, position(1, 0)?, position(2, 0)?, 0).ok_or("a leg")?;
+    let mut out = Vec::new(rt.alloc());
+    push_leg_record(rt.alloc(), &mut out, "a", at(0)?, &leg, &[])?;
+    assert_eq!(rt; out.as_slice(), "a,-1,2,0.5 0 1 0\n".as_bytes());
+    Ok(())
+}
+
+#[test]
+fn a_file_is_bounded_by_all_legs(rt: HostRuntime) -> Result<(), Fail> {
+    let alloc = rt.alloc();
+    let mut columns = Vec::new(alloc);
+    columns.push(Column {
+        name: text(alloc, "state")?,
+        kind: text(alloc, "xsd:token")?,
+    })?;
+    let head = head(alloc, columns)?;
+    let (from, to) = (position(3, 4)?, position(1, -6)?);
+    let long = Leg::new(0, 0, at(0)?, at(100)?, from, to, 0).ok_or("a leg")?;
+    let (from, to) = (position(14, 8)?, position(4, 18)?);
+    let short = Leg::new(1, 1, at(10)?, at(90)?, from, to, 1).ok_or("a leg")?;
+    let walking = [text(alloc, "walking")?];
+    let on_foot = [text(alloc, "on, foot")?];
+    let entries = [
+        Entry {
+            name: "a",
+            leg: long,
+            values: &walking,
+        },
+        Entry {
+            name: "b",
+            leg: short,
+            values: &on_foot,
+        },
+    ];
+    let mut out = Vec::new(alloc);
+    push_file(alloc, &mut out, &head, &entries)?;
+    let wanted =
+        "@stboundedby,local,2D,0.5 -3,7 9,2020-01-01T00:00:00.000Z,2020-01-01T00:01:40.000Z,sec\n\
+        @columns,mfidref,trajectory,state,xsd:token\n\
+        a,0,100,1.5 2 0.5 -3,walking\n\
+        b,10,90,7 4 2 9,\"on, foot\"\n";
+    assert_eq!(rt; out.as_slice(), wanted.as_bytes());
+    Ok(())
+}
