@@ -23,15 +23,15 @@ use Rattle.legs.proofs.PlaceLemmas.{legs_of-absent}
 use Rattle.legs.proofs.RecordLemmas.{lawful_more, with_record-names, with_record-legs, with_record-rows, last_end-push, last_end-absent, leg_count-some}
 
 -- a list that is empty has empty parts
-first_nil : {X : Type 0} (xs ys : List X) → xs ++ ys ≡ [] → xs ≡ []
+pub first_nil : {X : Type 0} (xs ys : List X) → xs ++ ys ≡ [] → xs ≡ []
 first_nil [] ys e = refl
 first_nil (x ∷ xs) ys e = absurd (let s : x ∷ (xs ++ ys) ≡ [] = e in (cc))
 
-second_nil : {X : Type 0} (xs ys : List X) → xs ++ ys ≡ [] → ys ≡ []
+pub second_nil : {X : Type 0} (xs ys : List X) → xs ++ ys ≡ [] → ys ≡ []
 second_nil [] ys e = e
 second_nil (x ∷ xs) ys e = absurd (let s : x ∷ (xs ++ ys) ≡ [] = e in (cc))
 
-map_nil : {X Y : Type 0} (f : X → Y) (xs : List X) → map f xs ≡ [] → xs ≡ []
+pub map_nil : {X Y : Type 0} (f : X → Y) (xs : List X) → map f xs ≡ [] → xs ≡ []
 map_nil f [] e = refl
 map_nil f (x ∷ xs) e = absurd (let s : f x ∷ map f xs ≡ [] = e in (cc))
 
@@ -40,7 +40,7 @@ kept_nil : {X : Type 0} (b : Bool) (x : X) (xs : List X) → cond b (x ∷ xs) x
 kept_nil true x xs e = absurd (let s : x ∷ xs ≡ [] = e in (cc))
 kept_nil false x xs e = (refl, e)
 
-faultless : (limits : LimitsView) (b : Book) (r : RecordView) → faults_of limits b r ≡ [] → (has_fault limits b r F19 ≡ false) × (has_fault limits b r F20 ≡ false)
+pub faultless : (limits : LimitsView) (b : Book) (r : RecordView) → faults_of limits b r ≡ [] → (has_fault limits b r F19 ≡ false) × (has_fault limits b r F20 ≡ false)
 unfolding faults_of
 faultless limits b r e =
     let one = kept_nil (has_fault limits b r F18) F18 (filter (has_fault limits b r) (F19 ∷ F20 ∷ [])) e in
@@ -48,7 +48,7 @@ faultless limits b r e =
     let three = kept_nil (has_fault limits b r F20) F20 [] two.1 in
     (two.0, three.0)
 
-few_after : (limits : LimitsView) (b : Book) (r : RecordView) → IsLimits limits → faults_of limits b r ≡ [] → (length (with_record b r).legs ≤ most) × (length (with_record b r).names ≤ most)
+pub few_after : (limits : LimitsView) (b : Book) (r : RecordView) → IsLimits limits → faults_of limits b r ≡ [] → (length (with_record b r).legs ≤ most) × (length (with_record b r).names ≤ most)
 few_after limits b r is e =
     let free = faultless limits b r e in
     let legs : length (with_record b r).legs ≤ limits.legs = grind (arith, nat_tests) in
@@ -63,7 +63,7 @@ pub record IsAccepted (b : Book) (records : List RecordView) : Type 0 where
   pub rows : length (with_records b records).rows ≡ length b.rows + length records
   pub enough : length records ≤ length (records_legs b records)
 
-one_leg : (b : Book) (r : RecordView) → IsRecord r → 1 ≤ length (record_legs b r)
+pub one_leg : (b : Book) (r : RecordView) → IsRecord r → 1 ≤ length (record_legs b r)
 one_leg b r is = omega (arith, length-map-range_with_len (leg_at b r) 0 (leg_count (length r.positions)), (leg_count-some (length r.positions) is.placed).1)
 
 pub accepted_records : (limits : LimitsView) → IsLimits limits → (records : List RecordView) (b : Book) → All IsRecord records → IsLawful b → record_faults limits b records ≡ [] → IsAccepted b records

@@ -39,7 +39,7 @@ joined_start limits book records draft is = record {
 }
 
 -- without a fault the first test fails
-free_of : (limits : LimitsView) (b : Book) (r : RecordView) → faults_of limits b r ≡ [] → has_fault limits b r F18 ≡ false
+pub free_of : (limits : LimitsView) (b : Book) (r : RecordView) → faults_of limits b r ≡ [] → has_fault limits b r F18 ≡ false
 unfolding faults_of
 free_of limits b r e =
     elim (cases_bool (has_fault limits b r F18)) [

@@ -8,3 +8,5 @@ pub mod JoinLemmas
 pub mod CountLemmas
 pub mod AcceptLemmas
 pub mod MomentLemmas
+pub mod GrowLemmas
+pub mod LawLemmas

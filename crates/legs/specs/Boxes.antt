@@ -1,5 +1,5 @@
 -- Boxes in the plane and in time.
-use Rattle.std.specs.Prelude.{Bool, ◌&&◌, ℤ, ◌≤ℤ◌, int_le}
+use Rattle.std.specs.Prelude.{Bool, ◌&&◌, ◌^◌, ◌-◌, ℤ, pos, negsuc, ◌≤ℤ◌, int_le}
 use Rattle.std.specs.Int.{int_max, int_min}
 use Rattle.timebase.specs.Period.{PeriodView}
 use Rattle.legs.specs.Legs.{LegView}
@@ -44,6 +44,13 @@ abbrev pub box_over : RectView → PeriodView → BoxView
 box_over rect period =
     record { x_min = rect.x_min; y_min = rect.y_min; t_min = period.start; x_max = rect.x_max; y_max = rect.y_max; t_max = period.end }
 
+-- the greatest box: from -2^63 to 2^63 - 1 in x, in y and in time
+unfoldable pub everything : BoxView
+everything =
+    let least : ℤ = negsuc (2 ^ 63 - 1) in
+    let greatest : ℤ = pos (2 ^ 63 - 1) in
+    record { x_min = least; y_min = least; t_min = least; x_max = greatest; y_max = greatest; t_max = greatest }
+
 -- the closed intervals from a to b and from c to d meet
 abbrev pub intervals_meet : ℤ → ℤ → ℤ → ℤ → Bool
 intervals_meet a b c d = int_le a d && int_le c b
@@ -76,6 +83,17 @@ pub record Holds (outer inner : BoxView) : Type 0 where
   pub top : inner.y_max ≤ℤ outer.y_max
   pub first : outer.t_min ≤ℤ inner.t_min
   pub last : inner.t_max ≤ℤ outer.t_max
+
+-- the box that reaches as far as either of two, on each side
+abbrev pub cover_of : BoxView → BoxView → BoxView
+cover_of p q = record {
+  x_min = int_min p.x_min q.x_min;
+  y_min = int_min p.y_min q.y_min;
+  t_min = int_min p.t_min q.t_min;
+  x_max = int_max p.x_max q.x_max;
+  y_max = int_max p.y_max q.y_max;
+  t_max = int_max p.t_max q.t_max;
+}
 
 -- the least box that holds both
 pub record IsCover (cover p q : BoxView) : Type 0 where

@@ -1,5 +1,5 @@
 -- What is asked of a list of legs.
-use Rattle.std.specs.Prelude.{ℕ, ◌≡◌, ◌+◌, ◌==◌, ◌≤◌, ◌<◌, ◌^◌, ◌-◌, ◌⊎◌, Bool, if◌then◌else◌, max, List, [], ◌∷◌, ◌++◌, length, filter, fold, Option, Some, None, ℤ, ◌≤ℤ◌}
+use Rattle.std.specs.Prelude.{ℕ, ◌≡◌, ◌+◌, ◌==◌, ◌≤◌, ◌^◌, ◌-◌, Bool, if◌then◌else◌, max, min, List, [], ◌∷◌, ◌++◌, length, filter, fold, Option, Some, None, ℤ, ◌≤ℤ◌}
 use Rattle.std.specs.Option.{ForSome}
 use Rattle.timebase.specs.Period.{PeriodView}
 use Rattle.legs.specs.Legs.{LegView, is_live}
@@ -45,9 +45,9 @@ abbrev pub CanFollowInTurn : List LegView → List LegView → Type 0
 CanFollowInTurn legs [] = Unit {0}
 CanFollowInTurn legs (leg ∷ others) = CanFollow legs leg × CanFollowInTurn (legs ++ leg ∷ []) others
 
--- a store's count of faults rose; the greatest number that is counted says nothing
+-- a store's count of faults rose; where it stood at the greatest number that is counted, it stays there
 abbrev pub HasRisen : ℕ → ℕ → Type 0
-HasRisen old new = (old < new) ⊎ (old ≡ 2 ^ 64 - 1)
+HasRisen old new = min (old + 1) (2 ^ 64 - 1) ≤ new
 
 -- a fault that a sound index may answer to a question
 abbrev pub MayRefuse : IndexFault → Type 0

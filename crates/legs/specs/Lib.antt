@@ -1,6 +1,11 @@
 pub mod Legs
 pub mod Boxes
 pub mod Index
+pub mod Blocks
+pub mod Hull
+pub mod Costs
+pub mod Asking
+pub mod Law
 pub mod Limits
 pub mod Book
 pub mod Tracks

@@ -84,7 +84,7 @@ fn intervals_meet(a: i64, b: i64, c: i64, d: i64) -> bool
 impl Box3 {
     ghost use Rattle.std.specs.Prelude.{◌≡◌, ◌↔◌, true, IsTrue};
     ghost use Rattle.legs.specs.Legs.{LegView, IsLeg};
-    ghost use Rattle.legs.specs.Boxes.{box_of, box_over, boxes_meet, meet_in_plane, IsCover, ShareAPoint};
+    ghost use Rattle.legs.specs.Boxes.{box_of, box_over, boxes_meet, cover_of, everything, meet_in_plane, IsCover, ShareAPoint};
 
     /// The box of a leg: from the least to the greatest x and y, and from its start to its end.
     pub fn of(leg: &Leg) -> Box3
@@ -116,9 +116,11 @@ impl Box3 {
         }
     }
 
-    /// A box that meets the box of every leg.
+    /// The greatest box. It meets the box of every leg.
+    #[tactic(auto, unfolding(crate::specs::Boxes::everything))]
     pub fn everything() -> Box3
-        ensures { (leg : LegView) → IsLeg leg → boxes_meet (box_of leg) result ≡ true }
+        ensures value { result ≡ everything }
+        ensures meets { (leg : LegView) → IsLeg leg → boxes_meet (box_of leg) result ≡ true }
     {
         Box3 {
             x_min: i64::MIN,
@@ -148,7 +150,8 @@ impl Box3 {
 
     /// The least box that holds two boxes.
     pub fn cover(&self, other: &Box3) -> Box3
-        ensures { IsCover result self.now other.now }
+        ensures value { result ≡ cover_of self.now other.now }
+        ensures least { IsCover result self.now other.now }
     {
         Box3 {
             x_min: self.x_min.min(other.x_min),

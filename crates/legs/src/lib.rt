@@ -13,6 +13,7 @@ mod joining;
 mod leg;
 mod limits;
 mod list_index;
+mod listed;
 mod tracks;
 
 pub use boxes::{Box3, Rect};
@@ -22,6 +23,7 @@ pub use joining::{JoinCode, JoinFault, join};
 pub use leg::{Leg, Step};
 pub use limits::Limits;
 pub use list_index::ListIndex;
+pub use listed::Listed;
 pub use std::alloc::AllocError as Memory;
 pub use tracks::{Track, Tracks};
 

@@ -6,6 +6,7 @@ ghost use Rattle.legs.specs.Places.{places_with};
 use crate::boxes::Box3;
 use crate::index::{IndexFault, LegIndex};
 use crate::leg::Leg;
+use crate::listed::Listed;
 use std::alloc::{AllocError, Global};
 use std::marker::Model;
 use timebase::Period;
@@ -127,8 +128,8 @@ fn live_legs(alloc: Global, legs: &[Leg], period: &Period) -> Result<Vec<Leg>, A
         .collect(alloc)
 }
 
-impl LegIndex for ListIndex {
-    ghost use Rattle.std.specs.Prelude.{◌≡◌, false, All};
+impl Listed for ListIndex {
+    ghost use Rattle.std.specs.Prelude.{◌≡◌, false, All, None, []};
     ghost use Rattle.legs.specs.Legs.{IsLeg};
 
     ghost content = { λ index. index.legs };
@@ -140,6 +141,21 @@ impl LegIndex for ListIndex {
     ghost faults = { λ index. 0 };
 
     ghost is_store_full = { λ index. ⊥ };
+
+    ghost asked = { λ index. 0 };
+
+    ghost plan = { λ index. None };
+
+    ghost is_clean = { λ index. ⊥ };
+
+    ghost is_marked = { λ index. ⊥ };
+
+    ghost written = { λ index. [] };
+}
+
+impl LegIndex for ListIndex {
+    ghost use Rattle.std.specs.Prelude.{◌≡◌, false, All};
+    ghost use Rattle.legs.specs.Legs.{IsLeg};
 
     ghost sound_lasts = { λ index sound. sound.0 };
 
@@ -153,6 +169,7 @@ impl LegIndex for ListIndex {
         self.spent
     }
 
+    #[tactic(auto, unfolding(crate::specs::Costs::add_bound))]
     fn add(&mut self, leg: Leg) -> Result<(), IndexFault> {
         if self.spent {
             return Err(IndexFault::Spent);
@@ -164,6 +181,11 @@ impl LegIndex for ListIndex {
         Ok(self.put(leg)?)
     }
 
+    fn asked(&self) -> u64 {
+        0
+    }
+
+    #[tactic(auto, unfolding(crate::specs::Costs::search_cost))]
     fn search(&mut self, query: &Box3) -> Result<Vec<Leg>, IndexFault> {
         if self.spent {
             return Err(IndexFault::Spent);
@@ -171,6 +193,7 @@ impl LegIndex for ListIndex {
         Ok(self.legs_in(query)?)
     }
 
+    #[tactic(auto, unfolding(crate::specs::Costs::track_cost))]
     fn track(&mut self, feature: u32) -> Result<Vec<Leg>, IndexFault> {
         if self.spent {
             return Err(IndexFault::Spent);
@@ -178,6 +201,7 @@ impl LegIndex for ListIndex {
         Ok(self.legs_of(feature)?)
     }
 
+    #[tactic(auto, unfolding(crate::specs::Costs::track_in_bound))]
     fn track_in(&mut self, feature: u32, period: &Period) -> Result<Vec<Leg>, IndexFault> {
         if self.spent {
             return Err(IndexFault::Spent);

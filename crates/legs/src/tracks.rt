@@ -74,6 +74,7 @@ impl Tracks {
     ghost use Rattle.legs.specs.Limits.{LimitsView, IsLimits};
     ghost use Rattle.legs.specs.Book.{Book, empty_book, feature_of, joined, with_file, names_with};
     ghost use Rattle.legs.specs.Tracks.{StandsFor};
+    ghost use Rattle.legs.specs.Law.{IsBook};
     ghost use Rattle.legs.specs.Counting.{AddsNames, Extends};
 
     /// The tracks of a book without legs.
@@ -142,6 +143,10 @@ impl Tracks {
     pub fn accept(&mut self, file: &File, legs: &[Leg]) -> Result<(), AllocError>
         ensures ok { OnOk result ((limits : LimitsView) (book : Book) → IsLimits limits → StandsFor self.old book
             → joined limits book file.now ≡ Ok legs.now → StandsFor self.new (with_file book file.now)) }
+        // The law of a book is kept.
+        ensures law { OnOk result ((limits : LimitsView) (book : Book) → IsLimits limits
+            → IsBook limits book → joined limits book file.now ≡ Ok legs.now
+            → IsBook limits (with_file book file.now)) }
         ensures err { OnErr result (self.new ≡ self.old) }
     {
         let records = file.records.as_slice();

@@ -1,5 +1,5 @@
 //! Reading a line.
-ghost use Rattle.std.specs.Prelude.{◌≡◌, ◌==◌, ◌≤◌, ◌<◌, ◌+◌, ◌||◌, length, map, true, false, IfOk, MatchOption, slice_index, slice_index_or, []};
+ghost use Rattle.std.specs.Prelude.{◌≡◌, ◌==◌, ◌≤◌, ◌<◌, ◌+◌, ◌||◌, length, map, true, false, IfOk, IsErrOf, None, MatchOption, slice_index, slice_index_or, []};
 ghost use Rattle.std.specs.Str.{is_utf8};
 ghost use Rattle.querylang.specs.Line.{alone, box_of, command_of, keyword_of, named, is_no_command, line_of, name_of, period_behind, predicate_of, question_of, rect_behind, tested};
 ghost use Rattle.querylang.specs.Line.{words, word_at};
@@ -273,7 +273,9 @@ fn text_of(line: &[u8]) -> Option<&str>
 /// Refused by the first code that applies, or `Memory` where memory ran out.
 #[tactic(auto, unfolding(crate::specs::Line::line_of))]
 pub fn parse_line(alloc: Global, line: &[u8]) -> Result<Option<Command>, LineFault>
-    ensures { Gives result (line_of line.now) }
+    ensures gives { Gives result (line_of line.now) }
+    // Memory is not wanted for a line that asks for nothing.
+    ensures memory { IsErrOf result LineFault.Memory → line_of line.now ≡ Ok None → ⊥ }
 {
     let text = cut_line(line);
     if text.is_empty() || text[0] == b'#' {

@@ -4,3 +4,4 @@ pub mod LineLemmas
 pub mod BookLemmas
 pub mod FileLemmas
 pub mod RunLemmas
+pub mod FaultLemmas

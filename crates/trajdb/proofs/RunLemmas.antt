@@ -1,5 +1,5 @@
 -- Runs over lines, one after another.
-use Rattle.std.proofs.Common.{ℕ, zero, suc, ◌+◌, ◌-◌, ◌≡◌, ◌∙◌, ◌++◌, ◌∷◌, [], ap, sym, subst, refl, List, length, take, drop, map, Option, arith, true, eqb}
+use Rattle.std.proofs.Common.{ℕ, zero, suc, ◌+◌, ◌-◌, ◌≡◌, ◌∙◌, ◌++◌, ◌∷◌, [], ap, sym, subst, refl, List, length, take, drop, map, Option, arith, true, eqb, get_or, Bool, ◌<◌}
 use Rattle.std.proofs.lemmas.Bool.Decides.{nat_tests}
 use Rattle.std.proofs.lemmas.List.{append_assoc, append-nil, take-append-drop}
 use Rattle.std.proofs.KnownBytes.{Appends-trans, Appends-nil, Appends-kept}
@@ -8,7 +8,8 @@ use Rattle.legs.specs.Limits.{LimitsView}
 use Rattle.legs.specs.Book.{Book}
 use Rattle.trajdb.specs.Script.{lines_of, pieces_of, without_return}
 use Rattle.trajdb.specs.Answers.{IsLineText, line_book}
-use Rattle.trajdb.specs.Lines.{HasDone, HasCut}
+use Rattle.trajdb.specs.Calls.{Speaks, LoadsBy}
+use Rattle.trajdb.specs.Lines.{HasDone, HasCut, HasNotDone}
 use Rattle.trajdb.specs.Run.{IsRunText, run_book, HasRun, HasStopped, HasCutRun, IsPrefixOf}
 
 -- named files
@@ -104,10 +105,27 @@ at_cut limits files a b c old mid new lines rest others line k at e cut =
       },
     )
 
-pub at_refused : (limits : LimitsView) (files : Named) (a b c : Option (List ℕ)) (old mid new : Book) (lasts : Type 0) (lines : List (List ℕ)) (rest : List ℕ) (k : ℕ) → IsAt limits files a b old mid lines rest k
-    → Keeps b c → (lasts → new ≡ mid) → (j : ℕ) × HasStopped limits files a c old new lasts lines j
-at_refused limits files a b c old mid new lasts lines rest k at kept same =
-    (k, record { text = at.text; answers = at.answers; sends = Appends-kept a b c at.text at.sends kept; book = λ l. same l ∙ at.book })
+nth_line : (lines : List (List ℕ)) (k : ℕ) (line : List ℕ) (others : List (List ℕ)) → drop k lines ≡ line ∷ others → (k < length lines) × (get_or lines k [] ≡ line)
+nth_line [] zero line others e = absurd (cc)
+nth_line [] (suc k) line others e = absurd (cc)
+nth_line (x ∷ xs) zero line others e = (omega arith, (cons_parts x line xs others e).0)
+nth_line (x ∷ xs) (suc k) line others e = let r = nth_line xs k line others e in (let l = r.0 in omega (arith, l), r.1)
+
+pub at_refused : (limits : LimitsView) (files : Named) (a b c : Option (List ℕ)) (old mid new : Book) (failed : Bool) (lines : List (List ℕ)) (rest others line : List ℕ) (k : ℕ) → IsAt limits files a b old mid lines rest k
+    → lines_of rest ≡ line ∷ lines_of others → HasNotDone files b c mid new failed line → (j : ℕ) × HasStopped limits files a c old new failed lines j
+at_refused limits files a b c old mid new failed lines rest others line k at e stop =
+    let nth = nth_line lines k line (lines_of others) (at.left ∙ e) in (
+      k,
+      record {
+        within = nth.0;
+        speaks = subst (λ (l : List ℕ). Speaks l) (sym nth.1) stop.speaks;
+        text = at.text;
+        answers = at.answers;
+        sends = Appends-kept a b c at.text at.sends stop.sends;
+        book = λ lives. stop.book lives ∙ at.book;
+        loads = λ dead. subst (λ (l : List ℕ). LoadsBy files l) (sym nth.1) (stop.loads dead);
+      },
+    )
 
 lines_none : lines_of [] ≡ []
 unfolding pieces_of

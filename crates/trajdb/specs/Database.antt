@@ -5,8 +5,9 @@ use Rattle.legs.specs.Legs.{LegView}
 use Rattle.legs.specs.Limits.{LimitsView, IsLimits}
 use Rattle.legs.specs.Book.{Book, joined}
 use Rattle.legs.specs.Index.{CanFollowInTurn}
-use Rattle.legs.specs.Tracks.{StandsFor}
-use Rattle.trajdb.specs.declared.database.Core.{Core}
+use Rattle.legs.specs.declared.listed.Listed.{Ghosts}
+use Rattle.legs.specs.Tracks.{TracksView, StandsFor}
+use Rattle.legs.specs.Law.{IsBook}
 use Rattle.querylang.specs.declared.Command.{Command}
 use Rattle.querylang.specs.declared.Command.TheVariants.{Load, Count, Box, Legs, Features, Trajectory, Write}
 use Rattle.trajdb.specs.Faults.{IsInside, IsOwn}
@@ -17,22 +18,21 @@ use Rattle.legs.specs.declared.joining.JoinCode.{JoinCode}
 use Rattle.trajdb.specs.declared.LoadFault.{LoadFault}
 use Rattle.trajdb.specs.declared.LoadFault.TheVariants.{Refused, Run}
 
--- the book of a database, by the list of legs for which its index stands
-abbrev pub book_of : {I : Type 0} → (I → List LegView) → Core I → Book
-book_of content core = record { head = core.head; names = core.tracks.names; legs = content core.index; rows = core.rows.items }
+-- what contracts see of a database: its index, its tracks, its book by the list of legs for which the index
+-- stands, its limits, and whether it failed
+pub record CoreView (I : Type 0) : Type 0 where
+  pub index : I
+  pub tracks : TracksView
+  pub book : Book
+  pub limits : LimitsView
+  pub failed : Bool
 
-abbrev pub limits_of : {I : Type 0} → Core I → LimitsView
-limits_of core = core.limits
-
-abbrev pub is_failed : {I : Type 0} → Core I → Bool
-is_failed core = core.failed
-
--- a database whose index is sound, whose tracks are those of its book, and that did not fail
-pub record IsSound {I : Type 0} (content : I → List LegView) (sound : I → Type 0) (core : Core I) : Type 0 where
-  pub index : sound core.index
+-- a database whose index is sound, whose tracks are those of its book, which keeps the law
+pub record IsSound {I : Type 0} (g : Ghosts I) (core : CoreView I) : Type 0 where
+  pub index : g.is_sound core.index
   pub limits : IsLimits core.limits
-  pub tracks : StandsFor core.tracks (book_of content core)
-  pub lasts : core.failed ≡ false
+  pub tracks : StandsFor core.tracks core.book
+  pub law : IsBook core.limits core.book
 
 -- a file is joined to a book by these legs
 abbrev pub Accepts : LimitsView → Book → File → List LegView → Type 0
@@ -68,29 +68,9 @@ FailsBy (Refused code number) = ⊥
 FailsBy (Run fault) = Unit {0}
 
 -- a sound database stays so, with its book
-abbrev pub Keeps : {I : Type 0} → (I → List LegView) → (I → Type 0) → Core I → Core I → Type 0
-Keeps content sound old new = IsSound content sound old → IsSound content sound new × (book_of content new ≡ book_of content old)
+abbrev pub Keeps : {I : Type 0} → Ghosts I → CoreView I → CoreView I → Type 0
+Keeps g old new = IsSound g old → IsSound g new × (new.book ≡ old.book)
 
 -- a sound database stays so, and has this book
-abbrev pub Becomes : {I : Type 0} → (I → List LegView) → (I → Type 0) → Core I → Core I → Book → Type 0
-Becomes content sound old new book = IsSound content sound old → IsSound content sound new × (book_of content new ≡ book)
-
--- a load fault of the load itself
-abbrev pub IsOwnLoad : LoadFault → Type 0
-IsOwnLoad (Refused code number) = Unit {0}
-IsOwnLoad (Run fault) = IsOwn fault
-
--- a command that is no `load`
-abbrev pub IsQuestion : Command → Type 0
-IsQuestion (Load name) = ⊥
-IsQuestion Count = Unit {0}
-IsQuestion (Box rect period) = Unit {0}
-IsQuestion (Legs predicate rect period) = Unit {0}
-IsQuestion (Features predicate rect period) = Unit {0}
-IsQuestion (Trajectory name) = Unit {0}
-IsQuestion Write = Unit {0}
-
--- a load fault that is not the output's
-abbrev pub IsLoadFault : LoadFault → Type 0
-IsLoadFault (Refused code number) = Unit {0}
-IsLoadFault (Run fault) = IsInside fault
+abbrev pub Becomes : {I : Type 0} → Ghosts I → CoreView I → CoreView I → Book → Type 0
+Becomes g old new book = IsSound g old → IsSound g new × (new.book ≡ book)

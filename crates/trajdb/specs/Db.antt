@@ -1,32 +1,44 @@
 -- What contracts see of a database over a list.
-use Rattle.std.specs.Prelude.{◌≡◌, Bool, false, List, All}
-use Rattle.legs.specs.Legs.{LegView, IsLeg}
-use Rattle.legs.specs.Limits.{LimitsView}
-use Rattle.legs.specs.Book.{Book, empty_book}
+use Rattle.std.specs.Prelude.{◌≡◌, false, All, None, []}
+use Rattle.legs.specs.Book.{Book}
+use Rattle.legs.specs.Legs.{IsLeg}
 use Rattle.legs.specs.Places.{ListView}
-use Rattle.trajdb.specs.declared.database.Core.{Core}
-use Rattle.trajdb.specs.Database.{IsSound, book_of, limits_of, is_failed}
+use Rattle.legs.specs.declared.listed.Listed.{Ghosts}
+use Rattle.trajdb.specs.Database.{CoreView, IsSound as IsSoundCore, Becomes as BecomesCore}
+use Rattle.trajdb.specs.Calls.{Leaves as LeavesCore}
+use Rattle.trajdb.specs.declared.RunFault.{RunFault}
+use Rattle.trajdb.specs.declared.RunFault.TheVariants.{Memory}
 
--- its book, its limits, and whether it failed
-pub record DbView : Type 0 where
-  pub book : Book
-  pub limits : LimitsView
-  pub failed : Bool
+abbrev pub DbView : Type 0
+DbView = CoreView ListView
 
--- a new database: no file was accepted yet
-abbrev pub new_db : LimitsView → DbView
-new_db limits = record { book = empty_book; limits = limits; failed = false }
+-- an index that keeps a list
+abbrev pub listed : Ghosts ListView
+listed = record {
+  content = λ index. index.legs;
+  is_sound = λ index. (index.spent ≡ false) × All IsLeg index.legs;
+  is_spent = λ index. index.spent;
+  faults = λ index. 0;
+  is_store_full = λ index. ⊥;
+  asked = λ index. 0;
+  plan = λ index. None;
+  is_clean = λ index. ⊥;
+  is_marked = λ index. ⊥;
+  written = λ index. [];
+}
 
--- the list of legs for which an index that keeps a list stands
-abbrev pub listed : ListView → List LegView
-listed index = index.legs
+-- the index is sound, the tracks are those of the book, and the book keeps the law
+abbrev pub IsSound : DbView → Type 0
+IsSound db = IsSoundCore listed db
 
-abbrev pub IsListed : ListView → Type 0
-IsListed index = (index.spent ≡ false) × All IsLeg index.legs
+-- a sound database is sound, and has this book
+abbrev pub Becomes : DbView → DbView → Book → Type 0
+Becomes old new book = BecomesCore listed old new book
 
-abbrev pub db_view : Core ListView → DbView
-db_view core = record { book = book_of listed core; limits = limits_of core; failed = is_failed core }
+-- what a question leaves
+abbrev pub Leaves : DbView → DbView → Type 0
+Leaves old new = LeavesCore listed old new
 
--- a database that did not fail is sound
-abbrev pub IsDb : Core ListView → Type 0
-IsDb core = is_failed core ≡ false → IsSound listed IsListed core
+-- over a sound database that is not failed, want of memory
+abbrev pub IsMemory : DbView → RunFault → Type 0
+IsMemory old fault = IsSound old → old.failed ≡ false → fault ≡ Memory

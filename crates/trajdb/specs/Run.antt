@@ -1,8 +1,10 @@
 -- The run of a script.
-use Rattle.std.specs.Prelude.{◌≡◌, ℕ, ◌-◌, List, [], ◌∷◌, ◌++◌, take, Option}
+use Rattle.std.specs.Prelude.{◌≡◌, ℕ, ◌-◌, List, [], ◌∷◌, ◌++◌, take, Option, Bool, true, false, ◌<◌, length, slice_index_or}
 use Rattle.std.specs.Io.KnownBytes.{Appends}
 use Rattle.legs.specs.Limits.{LimitsView}
 use Rattle.legs.specs.Book.{Book}
+use Rattle.trajdb.specs.Database.{CoreView}
+use Rattle.trajdb.specs.Calls.{Speaks, LoadsBy}
 use Rattle.trajdb.specs.Answers.{IsLineText, line_book}
 
 -- the book after all lines
@@ -23,13 +25,17 @@ pub record HasRun (limits : LimitsView) (files : List (List ℕ × List ℕ)) (s
   pub sends : Appends sent sent' text
   pub book : new ≡ run_book limits files old lines
 
--- the first k lines are done, and their answers, whole, and nothing else were sent; the book is the one
--- after them, unless the database is failed
-pub record HasStopped (limits : LimitsView) (files : List (List ℕ × List ℕ)) (sent sent' : Option (List ℕ)) (old new : Book) (lasts : Type 0) (lines : List (List ℕ)) (k : ℕ) : Type 0 where
+-- line k + 1 is there, and is not done: it is a command or a refused line; the first k lines are done, and
+-- their answers, whole, and nothing else were sent; the book is the one after them, or line k + 1 is a `load`
+-- of a file that is there, and the database is failed
+pub record HasStopped (limits : LimitsView) (files : List (List ℕ × List ℕ)) (sent sent' : Option (List ℕ)) (old new : Book) (failed : Bool) (lines : List (List ℕ)) (k : ℕ) : Type 0 where
+  pub within : k < length lines
+  pub speaks : Speaks (slice_index_or lines k [])
   pub text : List ℕ
   pub answers : IsRunText limits files old (take k lines) text
   pub sends : Appends sent sent' text
-  pub book : lasts → new ≡ run_book limits files old (take k lines)
+  pub book : failed ≡ false → new ≡ run_book limits files old (take k lines)
+  pub loads : failed ≡ true → LoadsBy files (slice_index_or lines k [])
 
 abbrev pub IsPrefixOf : List ℕ → List ℕ → Type 0
 IsPrefixOf front all = (rest : List ℕ) × (all ≡ front ++ rest)
@@ -46,3 +52,15 @@ pub record HasCutRun (limits : LimitsView) (files : List (List ℕ × List ℕ))
   pub earlier : IsRunText limits files old (take (k - 1) lines) before
   pub whole : IsPrefixOf before written
   pub book : new ≡ run_book limits files old (take k lines)
+
+-- of a database: all lines are done
+abbrev pub Runs : {I : Type 0} → List (List ℕ × List ℕ) → Option (List ℕ) → Option (List ℕ) → CoreView I → CoreView I → List (List ℕ) → Type 0
+Runs files sent sent' old new lines = HasRun old.limits files sent sent' old.book new.book lines
+
+-- of a database: some line is not done, and those before it are
+abbrev pub Stops : {I : Type 0} → List (List ℕ × List ℕ) → Option (List ℕ) → Option (List ℕ) → CoreView I → CoreView I → List (List ℕ) → Type 0
+Stops files sent sent' old new lines = (k : ℕ) × HasStopped old.limits files sent sent' old.book new.book new.failed lines k
+
+-- of a database: some lines are done, and the output failed at the last of them
+abbrev pub IsCut : {I : Type 0} → List (List ℕ × List ℕ) → Option (List ℕ) → Option (List ℕ) → CoreView I → CoreView I → List (List ℕ) → Type 0
+IsCut files sent sent' old new lines = (k : ℕ) × HasCutRun old.limits files sent sent' old.book new.book lines k

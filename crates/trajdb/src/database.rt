@@ -4,19 +4,21 @@ ghost use Rattle.std.specs.Prelude.{◌≡◌, [], IfOk};
 use crate::answer::{count_text, counts_text, file_refusal_text, ok_text, refusal_text};
 use crate::codes::line_code;
 use crate::files::Files;
-use crate::load::{add_legs, count_names, keep_head, push_rows};
+use crate::load::{count_names, keep_head, push_rows};
 use crate::output::send;
 use crate::script::{first_piece, without_return};
+use crate::start::{Start, put_legs};
 use crate::{Counts, FileCode, LoadFault, RunFault};
-use legs::{JoinFault, Leg, LegIndex, Limits, Tracks, join};
+use legs::{JoinFault, Leg, Limits, Tracks, join};
 use mfcsv::{File, FileFault, Head, Values, read_file};
 use querylang::{Command, LineFault, parse_line};
 use std::alloc::{AllocError, Global};
 use std::io::Write;
+use std::marker::Model;
 
 /// Accepted files behind an index of their legs.
 #[derive(Drop)]
-pub struct Core<I: LegIndex> {
+pub struct Core<I: Start> {
     pub(crate) index: I,
     pub(crate) head: Option<Head>,
     pub(crate) tracks: Tracks,
@@ -25,17 +27,34 @@ pub struct Core<I: LegIndex> {
     pub(crate) failed: bool,
 }
 
-impl<I: LegIndex> Core<I> {
-    ghost use Rattle.std.specs.Prelude.{◌≡◌, [], IfOk};
+impl<I: Start> Model for Core<I> {
+    ghost use Rattle.trajdb.specs.Database.{CoreView};
+
+    ghost Value = { CoreView I };
+
+    ghost view = { λ a. record {
+        index = a.index;
+        tracks = a.tracks;
+        book = record { head = a.head; names = a.tracks.names; legs = I.content a.index; rows = a.rows.items };
+        limits = a.limits;
+        failed = a.failed
+    } };
+}
+
+impl<I: Start> Core<I> {
+    ghost use Rattle.std.specs.Prelude.{◌≡◌, [], IfOk, IfErr, false};
     ghost use Rattle.legs.specs.Book.{empty_book};
-    ghost use Rattle.trajdb.specs.Faults.{IsInside, IsOwn};
-    ghost use Rattle.trajdb.specs.Database.{IsLoadFault, book_of, limits_of, IsSound};
+    ghost use Rattle.trajdb.specs.Database.{IsSound};
 
     /// A database without files over an index without legs.
     pub fn new(alloc: Global, index: I, limits: Limits) -> Result<Core<I>, (I, AllocError)>
-        ensures book { IfOk result (λ core. I.content index ≡ [] → book_of I.content core ≡ empty_book) }
-        ensures sound { IfOk result (λ core. I.is_sound index → I.content index ≡ [] → IsSound I.content I.is_sound core) }
-        ensures limits { IfOk result (λ core. limits_of core ≡ limits) }
+        ensures book { IfOk result (λ core. I.content index ≡ [] → core.book ≡ empty_book) }
+        ensures sound { IfOk result (λ core. I.is_sound index → I.content index ≡ []
+            → IsSound I.Listed core) }
+        ensures limits { IfOk result (λ core. core.limits ≡ limits) }
+        ensures index { IfOk result (λ core. core.index ≡ index) }
+        ensures lives { IfOk result (λ core. core.failed ≡ false) }
+        ensures refused { IfErr result (λ back. back.0 ≡ index) }
     {
         prove!(limits.legs() > 0);
         match Tracks::new(alloc) {
@@ -50,26 +69,36 @@ impl<I: LegIndex> Core<I> {
             Err(memory) => Err((index, memory)),
         }
     }
+
+    /// How many pages were asked for.
+    pub fn asked(&self) -> u64
+        ensures { result ≡ I.asked self.now.index }
+    {
+        self.index.asked()
+    }
 }
 
-impl<I: LegIndex> Core<I> {
-    ghost use Rattle.std.specs.Prelude.{◌≡◌, IfOk, IfErr, OnOk, OnErr, Ok, Result, ℕ, Err, true, false};
-    ghost use Rattle.legs.specs.Index.{CanFollowInTurn};
+impl<I: Start> Core<I> {
+    ghost use Rattle.std.specs.Prelude.{◌≡◌, IfOk, IfErr, OnOk, OnErr, true, false};
     ghost use Rattle.legs.specs.Book.{book_after, joined, with_file};
     ghost use Rattle.trajdb.specs.Answers.{book_by, book_with, counts_or, joined_counts, load_of};
-    ghost use Rattle.trajdb.specs.Faults.{IsInside, IsOwn};
-    ghost use Rattle.trajdb.specs.Database.{IsLoadFault, IsOwnLoad, book_of, limits_of, IsSound, IsTold, FailsBy, LoadGives, JoinRefusal, Accepts, is_failed};
+    ghost use Rattle.trajdb.specs.Database.{IsTold, LoadGives, JoinRefusal, Accepts, Becomes, IsSound};
+    ghost use Rattle.trajdb.specs.Calls.{IsJoinStop, IsLater, IsLoadFault, IsLoadStop, IsOfStore, LeavesPages};
 
     /// Takes in a file that was joined.
     fn take(&mut self, file: File, legs: &[Leg]) -> Result<(), RunFault>
-        ensures limits { limits_of self.new ≡ limits_of self.old }
-        ensures sound { OnOk result (IsSound I.content I.is_sound self.old → Accepts (limits_of self.old) (book_of I.content self.old) file legs.now → IsSound I.content I.is_sound self.new) }
-        ensures book { OnOk result (IsSound I.content I.is_sound self.old → Accepts (limits_of self.old) (book_of I.content self.old) file legs.now
-            → book_of I.content self.new ≡ with_file (book_of I.content self.old) file) }
-        ensures fault { IfErr result IsInside }
-        ensures own { IfErr result (λ fault. IsSound I.content I.is_sound self.old → Accepts (limits_of self.old) (book_of I.content self.old) file legs.now → IsOwn fault) }
+        ensures taken { OnOk result (Accepts self.old.limits self.old.book file legs.now
+            → Becomes I.Listed self.old self.new (with_file self.old.book file)) }
+        ensures sound { IfErr result (λ fault. IsSound I.Listed self.old
+            → Accepts self.old.limits self.old.book file legs.now → IsLoadFault fault) }
+        ensures store { IfErr result (IsOfStore I.Listed self.old.index self.new.index) }
+        ensures later { IsLater I.Listed self.old self.new }
+        ensures failed { self.new.failed ≡ self.old.failed }
+        ensures pages { IsSound I.Listed self.old
+            → Accepts self.old.limits self.old.book file legs.now
+            → LeavesPages I.Listed self.old.index self.new.index }
     {
-        add_legs(&mut self.index, legs)?;
+        put_legs(&mut self.index, legs)?;
         self.tracks.accept(&file, legs)?;
         let File { head, records } = file;
         push_rows(&mut self.rows, records)?;
@@ -79,10 +108,11 @@ impl<I: LegIndex> Core<I> {
 
     /// The legs by which a file is joined, or its first joining fault.
     fn join_file(&self, alloc: Global, file: &File) -> Result<Vec<Leg>, LoadFault>
-        ensures legs { IfOk result (λ legs. IsSound I.content I.is_sound self.now → Accepts (limits_of self.now) (book_of I.content self.now) file.now legs.items) }
-        ensures refused { IfErr result (λ fault. IsSound I.content I.is_sound self.now → JoinRefusal fault (joined (limits_of self.now) (book_of I.content self.now) file.now)) }
-        ensures fault { IfErr result IsLoadFault }
-        ensures own { IfErr result IsOwnLoad }
+        ensures legs { IfOk result (λ legs. IsSound I.Listed self.now
+            → Accepts self.now.limits self.now.book file.now legs.items) }
+        ensures refused { IfErr result (λ fault. IsSound I.Listed self.now
+            → JoinRefusal fault (joined self.now.limits self.now.book file.now)) }
+        ensures stopped { IfErr result IsJoinStop }
     {
         match join(alloc, self.head.as_ref(), &self.tracks, &self.limits, file) {
             Ok(legs) => Ok(legs),
@@ -96,12 +126,15 @@ impl<I: LegIndex> Core<I> {
 
     /// Accepts a file whose text has no fault.
     fn accept(&mut self, alloc: Global, file: File) -> Result<Counts, LoadFault>
-        ensures limits { limits_of self.new ≡ limits_of self.old }
-        ensures counts { IsSound I.content I.is_sound self.old → LoadGives result (counts_or file (joined (limits_of self.old) (book_of I.content self.old) file)) }
-        ensures done { IsTold result → IsSound I.content I.is_sound self.old
-            → IsSound I.content I.is_sound self.new × (book_of I.content self.new ≡ book_after (limits_of self.old) (book_of I.content self.old) file) }
-        ensures fault { IfErr result IsLoadFault }
-        ensures own { IfErr result (λ fault. IsSound I.content I.is_sound self.old → IsOwnLoad fault) }
+        ensures counts { IsSound I.Listed self.old
+            → LoadGives result (counts_or file (joined self.old.limits self.old.book file)) }
+        ensures becomes { IsTold result
+            → Becomes I.Listed self.old self.new (book_after self.old.limits self.old.book file) }
+        ensures stopped { IfErr result (IsLoadStop I.Listed self.old self.new) }
+        ensures later { IsLater I.Listed self.old self.new }
+        ensures failed { self.new.failed ≡ self.old.failed }
+        ensures pages { IsSound I.Listed self.old
+            → LeavesPages I.Listed self.old.index self.new.index }
     {
         let legs = self.join_file(alloc, &file)?;
         let records = file.records.as_slice();
@@ -117,12 +150,16 @@ impl<I: LegIndex> Core<I> {
     /// Reads and accepts a file.
     #[tactic(auto, unfolding(crate::specs::Answers::load_of, crate::specs::Answers::book_with))]
     fn read(&mut self, alloc: Global, bytes: &[u8]) -> Result<Counts, LoadFault>
-        ensures limits { limits_of self.new ≡ limits_of self.old }
-        ensures counts { IsSound I.content I.is_sound self.old → LoadGives result (load_of (limits_of self.old) (book_of I.content self.old) bytes.now) }
-        ensures done { IsTold result → IsSound I.content I.is_sound self.old
-            → IsSound I.content I.is_sound self.new × (book_of I.content self.new ≡ book_with (limits_of self.old) (book_of I.content self.old) bytes.now) }
-        ensures fault { IfErr result IsLoadFault }
-        ensures own { IfErr result (λ fault. IsSound I.content I.is_sound self.old → IsOwnLoad fault) }
+        ensures counts { IsSound I.Listed self.old
+            → LoadGives result (load_of self.old.limits self.old.book bytes.now) }
+        ensures becomes { IsTold result
+            → Becomes I.Listed self.old self.new (book_with self.old.limits
+            self.old.book bytes.now) }
+        ensures stopped { IfErr result (IsLoadStop I.Listed self.old self.new) }
+        ensures later { IsLater I.Listed self.old self.new }
+        ensures failed { self.new.failed ≡ self.old.failed }
+        ensures pages { IsSound I.Listed self.old
+            → LeavesPages I.Listed self.old.index self.new.index }
     {
         match read_file(alloc, bytes) {
             Ok(file) => self.accept(alloc, file),
@@ -133,25 +170,38 @@ impl<I: LegIndex> Core<I> {
             Err(FileFault::Memory) => Err(LoadFault::Run(RunFault::Memory)),
         }
     }
+}
+
+impl<I: Start> Core<I> {
+    ghost use Rattle.std.specs.Prelude.{◌≡◌, IfErr, Err, true, false};
+    ghost use Rattle.trajdb.specs.Answers.{book_with, load_of};
+    ghost use Rattle.trajdb.specs.Database.{IsTold, LoadGives, FailsBy, Becomes, IsSound};
+    ghost use Rattle.trajdb.specs.Calls.{IsLater, IsLoadStop, LeavesPages};
 
     /// Accepts a file, whole or not at all: how many data records, legs and distinct features it has,
     /// or the first fault of its text, or else of its joining.
     ///
     /// Where the database cannot tell, as for want of memory, it is failed: it answers nothing any more.
     pub fn load(&mut self, alloc: Global, bytes: &[u8]) -> Result<Counts, LoadFault>
-        ensures counts { IsSound I.content I.is_sound self.old → LoadGives result (load_of (limits_of self.old) (book_of I.content self.old) bytes.now) }
-        ensures told { IsTold result → IsSound I.content I.is_sound self.old → IsSound I.content I.is_sound self.new }
-        ensures book { IsTold result → IsSound I.content I.is_sound self.old
-            → book_of I.content self.new ≡ book_with (limits_of self.old) (book_of I.content self.old) bytes.now }
+        ensures counts { IsSound I.Listed self.old
+            → LoadGives result (load_of self.old.limits self.old.book bytes.now) }
+        ensures becomes { IsTold result
+            → Becomes I.Listed self.old self.new (book_with self.old.limits
+            self.old.book bytes.now) }
+        ensures lives { IsTold result → self.new.failed ≡ false }
 
-        // A database that could not tell is failed, and stays so.
-        ensures failed { IfErr result (λ fault. FailsBy fault → is_failed self.new ≡ true) }
-        ensures limits { limits_of self.new ≡ limits_of self.old }
-        ensures fault { IfErr result IsLoadFault }
-        ensures own { IfErr result (λ fault. IsSound I.content I.is_sound self.old → IsOwnLoad fault) }
-        ensures stays { is_failed self.old ≡ true → is_failed self.new ≡ true }
-        ensures was_failed { is_failed self.old ≡ true → result ≡ Err (LoadFault.Run RunFault.Failed) }
-        ensures lasts { IsSound I.content I.is_sound self.old → is_failed self.new ≡ false → IsSound I.content I.is_sound self.new }
+        // A database that could not tell is failed.
+        ensures failed { IfErr result (λ fault. FailsBy fault → self.new.failed ≡ true) }
+        ensures stopped { IfErr result (IsLoadStop I.Listed self.old self.new) }
+        ensures later { IsLater I.Listed self.old self.new }
+
+        // What is left of the pages.
+        ensures pages { IsSound I.Listed self.old
+            → LeavesPages I.Listed self.old.index self.new.index }
+
+        // A failed database does nothing.
+        ensures was_failed { self.old.failed ≡ true
+            → (result ≡ Err (LoadFault.Run RunFault.Failed)) × (self.new ≡ self.old) }
     {
         if self.failed {
             return Err(LoadFault::Run(RunFault::Failed));
@@ -166,20 +216,22 @@ impl<I: LegIndex> Core<I> {
     }
 }
 
-impl<I: LegIndex> Core<I> {
-    ghost use Rattle.std.specs.Prelude.{◌≡◌, IfOk, IfErr, OnOk, OnErr, Some, true};
+impl<I: Start> Core<I> {
+    ghost use Rattle.std.specs.Prelude.{◌≡◌, IfOk, IfErr, OnOk, OnErr, Some, true, false};
     ghost use Rattle.trajdb.specs.Answers.{named_book, named_text};
-    ghost use Rattle.trajdb.specs.Faults.{IsInside, IsOwn};
-    ghost use Rattle.trajdb.specs.Database.{Becomes, IsSound, book_of, is_failed, limits_of};
+    ghost use Rattle.trajdb.specs.Database.{Becomes, IsSound};
+    ghost use Rattle.trajdb.specs.Calls.{IsStopped, IsLater};
 
     /// The answer to `load` of a file.
     fn load_text(&mut self, alloc: Global, bytes: &[u8]) -> Result<Vec<u8>, RunFault>
-        ensures text { IfOk result (λ text. IsSound I.content I.is_sound self.old → text.items ≡ named_text (limits_of self.old) (book_of I.content self.old) (Some bytes.now)) }
-        ensures book { OnOk result (Becomes I.content I.is_sound self.old self.new (named_book (limits_of self.old) (book_of I.content self.old) (Some bytes.now))) }
-        ensures limits { limits_of self.new ≡ limits_of self.old }
-        ensures failed { OnErr result (is_failed self.new ≡ true) }
-        ensures fault { IfErr result IsInside }
-        ensures own { IfErr result (λ fault. IsSound I.content I.is_sound self.old → IsOwn fault) }
+        ensures text { IfOk result (λ text. IsSound I.Listed self.old
+            → text.items ≡ named_text self.old.limits self.old.book (Some bytes.now)) }
+        ensures becomes { OnOk result (Becomes I.Listed self.old self.new
+            (named_book self.old.limits self.old.book (Some bytes.now))) }
+        ensures lives { OnOk result (self.new.failed ≡ false) }
+        ensures failed { OnErr result (self.new.failed ≡ true) }
+        ensures stopped { IfErr result (IsStopped I.Listed self.old self.new) }
+        ensures later { IsLater I.Listed self.old self.new }
     {
         let text = match self.load(alloc, bytes) {
             Ok(counts) => counts_text(alloc, counts),
@@ -196,11 +248,11 @@ impl<I: LegIndex> Core<I> {
     }
 }
 
-impl<I: LegIndex> Core<I> {
-    ghost use Rattle.std.specs.Prelude.{◌≡◌, IfOk, IfErr, OnOk, OnErr, Err, false, true};
-    ghost use Rattle.trajdb.specs.Answers.{IsAnswer, IsLineText, book_then, line_book};
-    ghost use Rattle.trajdb.specs.Faults.{IsInside, IsOwn};
-    ghost use Rattle.trajdb.specs.Database.{Becomes, IsQuestion, IsSound, Keeps, book_of, is_failed, limits_of};
+impl<I: Start> Core<I> {
+    ghost use Rattle.std.specs.Prelude.{◌≡◌, IfOk, IfErr, IsErrOf, OnOk, OnErr, Err, true, false};
+    ghost use Rattle.trajdb.specs.Answers.{IsAnswer, book_then};
+    ghost use Rattle.trajdb.specs.Database.{Becomes, IsSound};
+    ghost use Rattle.trajdb.specs.Calls.{AsksIn, IsStopped, IsLater, Leaves, Loads};
 
     /// The whole answer to a command, with the named files at hand.
     ///
@@ -211,17 +263,26 @@ impl<I: LegIndex> Core<I> {
         command: &Command,
         files: &Files,
     ) -> Result<Vec<u8>, RunFault>
-        ensures text { IfOk result (λ text. IsSound I.content I.is_sound self.old
-            → IsAnswer (limits_of self.old) files.now (book_of I.content self.old) command.now text.items) }
-        ensures book { OnOk result (Becomes I.content I.is_sound self.old self.new (book_then (limits_of self.old) files.now (book_of I.content self.old) command.now)) }
-        ensures refused { OnErr result (is_failed self.new ≡ false → Keeps I.content I.is_sound self.old self.new) }
-        ensures question { IsQuestion command.now → Keeps I.content I.is_sound self.old self.new }
-        ensures limits { limits_of self.new ≡ limits_of self.old }
-        ensures fault { IfErr result IsInside }
-        ensures own { IfErr result (λ fault. IsSound I.content I.is_sound self.old → IsOwn fault) }
-        ensures stays { is_failed self.old ≡ true → is_failed self.new ≡ true }
-        ensures was_failed { is_failed self.old ≡ true → result ≡ Err RunFault.Failed }
-        ensures lasts { IsSound I.content I.is_sound self.old → is_failed self.new ≡ false → IsSound I.content I.is_sound self.new }
+        ensures text { IfOk result (λ text. IsSound I.Listed self.old
+            → IsAnswer self.old.limits files.now self.old.book command.now text.items) }
+        ensures becomes { OnOk result (Becomes I.Listed self.old self.new
+            (book_then self.old.limits files.now self.old.book command.now)) }
+        ensures lives { OnOk result (self.new.failed ≡ false) }
+        ensures asks { OnOk result (AsksIn I.Listed self.old self.new command.now) }
+        ensures later { IsLater I.Listed self.old self.new }
+
+        // All but a `load` of a file that is there leave the book; where that load is refused, the database
+        // is failed.
+        ensures question { (Loads files.now command.now → ⊥) → Leaves I.Listed self.old self.new }
+        ensures refused { OnErr result (self.new.failed ≡ false
+            → Leaves I.Listed self.old self.new) }
+        ensures failed { OnErr result (Loads files.now command.now → self.new.failed ≡ true) }
+        ensures full { IsErrOf result RunFault.StoreFull → Loads files.now command.now }
+        ensures stopped { IfErr result (IsStopped I.Listed self.old self.new) }
+
+        // A failed database does nothing.
+        ensures was_failed { self.old.failed ≡ true → (result ≡ Err RunFault.Failed)
+            × (self.new ≡ self.old) }
     {
         if self.failed {
             return Err(RunFault::Failed);
@@ -232,37 +293,40 @@ impl<I: LegIndex> Core<I> {
                 None => Ok(refusal_text(alloc, "Q9")?),
             },
             Command::Count => Ok(count_text(alloc, self.index.len(), self.tracks.feature_count())?),
-            Command::Box(rect, period) => {
-                let legs = self.legs_in(rect, period)?;
-                self.legs_text(alloc, legs.as_slice())
-            }
+            Command::Box(rect, period) => self.box_text(alloc, rect, period),
             Command::Legs(predicate, rect, period) => {
-                let legs = self.legs_for(alloc, *predicate, rect, period)?;
-                self.legs_text(alloc, legs.as_slice())
+                self.picked_text(alloc, *predicate, rect, period)
             }
             Command::Features(predicate, rect, period) => {
-                let features = self.features_for(alloc, *predicate, rect, period)?;
-                self.names_text(alloc, features.as_slice())
+                self.features_text(alloc, *predicate, rect, period)
             }
-            Command::Trajectory(name) => {
-                let legs = self.legs_of(alloc, name.as_str())?;
-                self.legs_text(alloc, legs.as_slice())
-            }
+            Command::Trajectory(name) => self.track_text(alloc, name.as_str()),
             Command::Write => self.write_text(alloc),
         }
     }
+}
+
+impl<I: Start> Core<I> {
+    ghost use Rattle.std.specs.Prelude.{◌≡◌, IfOk, IfErr, OnOk, OnErr, Err, true, false};
+    ghost use Rattle.trajdb.specs.Answers.{IsLineText, line_book};
+    ghost use Rattle.trajdb.specs.Database.{Becomes, IsSound};
+    ghost use Rattle.trajdb.specs.Calls.{IsStopped, IsLater, Leaves, LoadsBy, Speaks};
 
     /// The whole answer to a line of a script.
-    #[tactic(auto, unfolding(crate::specs::Answers::IsLineText, crate::specs::Answers::line_book))]
+    #[tactic(auto, unfolding(crate::specs::Answers::IsLineText, crate::specs::Answers::line_book, crate::specs::Calls::LoadsBy, crate::specs::Calls::Speaks))]
     fn answer(&mut self, alloc: Global, line: &[u8], files: &Files) -> Result<Vec<u8>, RunFault>
-        ensures text { IfOk result (λ text. IsSound I.content I.is_sound self.old
-            → IsLineText (limits_of self.old) files.now (book_of I.content self.old) line.now text.items) }
-        ensures book { OnOk result (Becomes I.content I.is_sound self.old self.new (line_book (limits_of self.old) files.now (book_of I.content self.old) line.now)) }
-        ensures refused { OnErr result (is_failed self.new ≡ false → Keeps I.content I.is_sound self.old self.new) }
-        ensures limits { limits_of self.new ≡ limits_of self.old }
-        ensures fault { IfErr result IsInside }
-        ensures own { IfErr result (λ fault. IsSound I.content I.is_sound self.old → IsOwn fault) }
-        ensures lasts { IsSound I.content I.is_sound self.old → is_failed self.new ≡ false → IsSound I.content I.is_sound self.new }
+        requires { self.old.failed ≡ false }
+        ensures text { IfOk result (λ text. IsSound I.Listed self.old
+            → IsLineText self.old.limits files.now self.old.book line.now text.items) }
+        ensures becomes { OnOk result (Becomes I.Listed self.old self.new
+            (line_book self.old.limits files.now self.old.book line.now)) }
+        ensures lives { OnOk result (self.new.failed ≡ false) }
+        ensures later { IsLater I.Listed self.old self.new }
+        ensures speaks { OnErr result (Speaks line.now) }
+        ensures refused { OnErr result (self.new.failed ≡ false
+            → Leaves I.Listed self.old self.new) }
+        ensures failed { self.new.failed ≡ true → LoadsBy files.now line.now }
+        ensures stopped { IfErr result (IsStopped I.Listed self.old self.new) }
     {
         match parse_line(alloc, line) {
             Ok(Some(command)) => self.command(alloc, &command, files),
@@ -273,14 +337,15 @@ impl<I: LegIndex> Core<I> {
     }
 }
 
-impl<I: LegIndex> Core<I> {
+impl<I: Start> Core<I> {
     ghost use Rattle.std.specs.Prelude.{◌≡◌, ℕ, List, IfOk, IfErr, IsErrOf, OnOk, OnErr, Err, false, true};
     ghost use Rattle.std.specs.Io.KnownBytes.{Keeps as IsKept};
     ghost use Rattle.trajdb.specs.Script.{lines_of, without_return};
-    ghost use Rattle.trajdb.specs.Faults.{IsInside, MayStop};
-    ghost use Rattle.trajdb.specs.Lines.{HasDone, HasCut};
-    ghost use Rattle.trajdb.specs.Run.{HasRun, HasStopped, HasCutRun};
-    ghost use Rattle.trajdb.specs.Database.{IsSound, Keeps, book_of, is_failed, limits_of};
+    ghost use Rattle.trajdb.specs.Faults.{IsInside};
+    ghost use Rattle.trajdb.specs.Lines.{HasDone, HasCut, HasNotDone};
+    ghost use Rattle.trajdb.specs.Run.{Runs, Stops, IsCut};
+    ghost use Rattle.trajdb.specs.Database.{IsSound};
+    ghost use Rattle.trajdb.specs.Calls.{IsRunStop, IsLater};
 
     /// One line of a script: its answer goes to the output.
     fn line<W: Write>(
@@ -290,20 +355,30 @@ impl<I: LegIndex> Core<I> {
         files: &Files,
         out: &mut W,
     ) -> Result<(), RunFault>
-        ensures done { OnOk result (IsSound I.content I.is_sound self.old
-            → HasDone (limits_of self.old) files.now (W.contents out.old) (W.contents out.new) (book_of I.content self.old) (book_of I.content self.new) line.now) }
-        ensures sound { OnOk result (IsSound I.content I.is_sound self.old → IsSound I.content I.is_sound self.new) }
-        ensures cut { IsErrOf result RunFault.Output → IsSound I.content I.is_sound self.old
-            → HasCut (limits_of self.old) files.now (W.contents out.old) (W.contents out.new) (book_of I.content self.old) (book_of I.content self.new) line.now }
-        ensures cut_sound { IsErrOf result RunFault.Output → IsSound I.content I.is_sound self.old → IsSound I.content I.is_sound self.new }
-        ensures refused { IfErr result (λ e. IsInside e → is_failed self.new ≡ false → Keeps I.content I.is_sound self.old self.new) }
-        ensures nothing { IfErr result (λ e. IsInside e → IsKept (W.contents out.old) (W.contents out.new)) }
-        ensures own { IfErr result (λ fault. IsSound I.content I.is_sound self.old → MayStop fault) }
-        ensures limits { limits_of self.new ≡ limits_of self.old }
-        ensures lasts { IsSound I.content I.is_sound self.old → is_failed self.new ≡ false → IsSound I.content I.is_sound self.new }
+        requires { self.old.failed ≡ false }
+        ensures becomes { OnOk result (IsSound I.Listed self.old
+            → HasDone self.old.limits files.now (W.contents out.old) (W.contents out.new)
+            self.old.book self.new.book line.now) }
+        ensures sound { OnOk result (IsSound I.Listed self.old → IsSound I.Listed self.new) }
+        ensures lives { OnOk result (self.new.failed ≡ false) }
+        ensures cut { IsErrOf result RunFault.Output → IsSound I.Listed self.old
+            → HasCut self.old.limits files.now (W.contents out.old) (W.contents out.new)
+            self.old.book self.new.book line.now }
+        ensures cut_sound { IsErrOf result RunFault.Output → IsSound I.Listed self.old
+            → IsSound I.Listed self.new }
+        ensures cut_lives { IsErrOf result RunFault.Output → self.new.failed ≡ false }
+        ensures refused { IfErr result (λ e. IsInside e → IsSound I.Listed self.old
+            → HasNotDone files.now (W.contents out.old) (W.contents out.new) self.old.book
+            self.new.book self.new.failed line.now) }
+        ensures kept { IfErr result (λ e. IsInside e → self.new.failed ≡ false
+            → IsSound I.Listed self.old → IsSound I.Listed self.new) }
+        ensures stopped { IfErr result (IsRunStop I.Listed self.old self.new) }
+        ensures later { IsLater I.Listed self.old self.new }
     {
-        let text = self.answer(alloc, line, files)?;
-        send(out, text.as_slice())
+        match self.answer(alloc, line, files) {
+            Ok(text) => send(out, text.as_slice()),
+            Err(fault) => Err(fault),
+        }
     }
 
     /// Runs a script over the database, and sends its answers.
@@ -315,21 +390,34 @@ impl<I: LegIndex> Core<I> {
         out: &mut W,
     ) -> Result<(), RunFault>
         // What was sent is exactly the text of the run, and the book is the one after it.
-        ensures ok { OnOk result (IsSound I.content I.is_sound self.old
-            → HasRun (limits_of self.old) files.now (W.contents out.old) (W.contents out.new) (book_of I.content self.old) (book_of I.content self.new) (lines_of script.now)) }
-        ensures sound { OnOk result (IsSound I.content I.is_sound self.old → IsSound I.content I.is_sound self.new) }
+        ensures ok { OnOk result (IsSound I.Listed self.old
+            → Runs files.now (W.contents out.old) (W.contents out.new)
+                self.old self.new (lines_of script.now)) }
+        ensures sound { OnOk result (IsSound I.Listed self.old → IsSound I.Listed self.new) }
+        ensures lives { OnOk result (self.new.failed ≡ false) }
 
-        // Where the run stops short.
-        ensures output { IsErrOf result RunFault.Output → IsSound I.content I.is_sound self.old → (k : ℕ)
-            × HasCutRun (limits_of self.old) files.now (W.contents out.old) (W.contents out.new) (book_of I.content self.old) (book_of I.content self.new) (lines_of script.now) k }
-        ensures cut_sound { IsErrOf result RunFault.Output → IsSound I.content I.is_sound self.old → IsSound I.content I.is_sound self.new }
-        ensures stopped { IfErr result (λ e. IsInside e → IsSound I.content I.is_sound self.old → (k : ℕ)
-            × HasStopped (limits_of self.old) files.now (W.contents out.old) (W.contents out.new) (book_of I.content self.old) (book_of I.content self.new) (is_failed self.new ≡ false) (lines_of script.now) k) }
-        ensures own { IfErr result (λ fault. IsSound I.content I.is_sound self.old → MayStop fault) }
-        ensures stays { is_failed self.old ≡ true → is_failed self.new ≡ true }
-        ensures was_failed { is_failed self.old ≡ true → result ≡ Err RunFault.Failed }
-        ensures limits { limits_of self.new ≡ limits_of self.old }
-        ensures lasts { IsSound I.content I.is_sound self.old → is_failed self.new ≡ false → IsSound I.content I.is_sound self.new }
+        // Where the output fails.
+        ensures output { IsErrOf result RunFault.Output → IsSound I.Listed self.old
+            → IsCut files.now
+            (W.contents out.old) (W.contents out.new) self.old self.new (lines_of script.now) }
+        ensures cut_sound { IsErrOf result RunFault.Output → IsSound I.Listed self.old
+            → IsSound I.Listed self.new }
+        ensures cut_lives { IsErrOf result RunFault.Output → self.new.failed ≡ false }
+
+        // Where the run stops at a line.
+        ensures refused { IfErr result (λ e. IsInside e → self.old.failed ≡ false
+            → IsSound I.Listed self.old
+            → Stops files.now (W.contents out.old) (W.contents out.new) self.old self.new
+            (lines_of script.now)) }
+        ensures kept { IfErr result (λ e. IsInside e → self.new.failed ≡ false
+            → IsSound I.Listed self.old → IsSound I.Listed self.new) }
+        ensures stopped { IfErr result (IsRunStop I.Listed self.old self.new) }
+        ensures later { IsLater I.Listed self.old self.new }
+
+        // A failed database does nothing.
+        ensures was_failed { self.old.failed ≡ true → (result ≡ Err RunFault.Failed)
+            × (self.new ≡ self.old) }
+        ensures was_failed_output { self.old.failed ≡ true → out.new ≡ out.old }
     {
         if self.failed {
             return Err(RunFault::Failed);

@@ -12,10 +12,12 @@ mod load;
 mod output;
 mod questions;
 mod script;
+mod start;
 
 pub use database::Core;
 pub use db::Db;
 pub use files::Files;
+pub use start::Start;
 use legs::{IndexFault, JoinCode};
 use mfcsv::Code;
 use std::alloc::{AllocError, AllocFailed};

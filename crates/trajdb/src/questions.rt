@@ -6,7 +6,8 @@ ghost use Rattle.trajdb.specs.Picks.{Picks};
 use crate::RunFault;
 use crate::answer::{ok_text, refusal_text};
 use crate::database::Core;
-use legs::{Box3, Leg, LegIndex, Rect};
+use crate::start::Start;
+use legs::{Box3, Leg, Rect};
 use mfcsv::Head;
 use predicates::{Predicate, holds, search_box};
 use std::alloc::{AllocError, Global};
@@ -22,7 +23,8 @@ fn holding(
     rect: &Rect,
     period: &Period,
 ) -> Result<Vec<Leg>, AllocError>
-    ensures { IfOk result (λ picked. Picks (HoldsOfLeg predicate rect.now period.now) legs.now picked.items) }
+    ensures { IfOk result (λ picked. Picks
+            (HoldsOfLeg predicate rect.now period.now) legs.now picked.items) }
 {
     let mut picked = Vec::new(alloc);
     for leg in legs {
@@ -33,21 +35,24 @@ fn holding(
     Ok(picked)
 }
 
-impl<I: LegIndex> Core<I> {
-    ghost use Rattle.std.specs.Prelude.{◌≡◌, ◌++◌, ◌↔◌, ◌≤◌, IsTrue, IfOk, IfErr, OnOk, OnErr, Ok, Some, false, true, length, map};
+impl<I: Start> Core<I> {
+    ghost use Rattle.std.specs.Prelude.{◌≡◌, ◌++◌, ◌↔◌, ◌≤◌, ◌<◌, ◌+◌, All, IsTrue, IfOk, IfErr, OnOk, Ok, Some, false, true, length, map, sum_by};
     ghost use Rattle.std.specs.List.{range_with_len};
-    ghost use Rattle.legs.specs.Boxes.{box_over};
+    ghost use Rattle.legs.specs.Boxes.{box_over, everything};
     ghost use Rattle.legs.specs.Index.{legs_in_box, legs_of};
     ghost use Rattle.legs.specs.Limits.{most};
     ghost use Rattle.legs.specs.Book.{feature_of};
     ghost use Rattle.trajdb.specs.Picks.{Picks};
-    ghost use Rattle.trajdb.specs.Answers.{HoldsOfFeature, HoldsOfLeg, base_of, entry_of, file_answer, legs_text, name_of, names_text, track_of, write_text};
-    ghost use Rattle.trajdb.specs.Faults.{IsInside, IsOwn};
-    ghost use Rattle.trajdb.specs.Database.{IsSound, Keeps, book_of, is_failed, limits_of};
+    ghost use Rattle.trajdb.specs.Answers.{HoldsOfFeature, HoldsOfLeg, IsFeaturesAnswer, IsLegsAnswer, base_of, entry_of, file_answer, legs_text, name_of, names_text, track_of, write_text};
+    ghost use Rattle.legs.specs.Costs.{search_cost, track_in_bound};
+    ghost use Rattle.predicates.specs.Near.{box_near};
+    ghost use Rattle.legs.specs.Law.{IsThere};
+    ghost use Rattle.trajdb.specs.Database.{IsSound};
+    ghost use Rattle.trajdb.specs.Calls.{IsText, IsRefused, Leaves, Asks, AsksAtMost, features_bound, track_asks, write_asks};
 
     /// The start instant of the first accepted file.
     fn base(&self) -> Ms
-        ensures { result ≡ base_of self.now.head }
+        ensures { result ≡ base_of self.now.book.head }
     {
         match &self.head {
             Some(head) => head.start,
@@ -60,9 +65,8 @@ impl<I: LegIndex> Core<I> {
 
     /// The name of a feature.
     fn name(&self, feature: u32) -> Result<&str, RunFault>
-        ensures name { IfOk result (λ name. name.now ≡ name_of (book_of I.content self.now) feature) }
-        ensures fault { IfErr result IsInside }
-        ensures own { IfErr result IsOwn }
+        ensures name { IfOk result (λ name. name.now ≡ name_of self.now.book feature) }
+        ensures fault { IfErr result (IsText (feature < length self.now.book.names)) }
     {
         match self.tracks.name(feature) {
             Some(name) => Ok(name),
@@ -72,9 +76,8 @@ impl<I: LegIndex> Core<I> {
 
     /// A leg with the name of its feature and the attribute values of its record.
     fn entry(&self, leg: &Leg) -> Result<Entry<'_>, RunFault>
-        ensures entry { IfOk result (λ entry. entry ≡ entry_of (book_of I.content self.now) leg.now) }
-        ensures fault { IfErr result IsInside }
-        ensures own { IfErr result IsOwn }
+        ensures entry { IfOk result (λ entry. entry ≡ entry_of self.now.book leg.now) }
+        ensures fault { IfErr result (IsText (IsThere self.now.book leg.now)) }
     {
         let name = self.name(leg.feature)?;
         let Some(values) = self.rows.get(leg.row as usize) else {
@@ -89,9 +92,8 @@ impl<I: LegIndex> Core<I> {
 
     /// The answer of legs.
     pub(crate) fn legs_text(&self, alloc: Global, legs: &[Leg]) -> Result<Vec<u8>, RunFault>
-        ensures text { IfOk result (λ text. text.items ≡ legs_text (book_of I.content self.now) legs.now) }
-        ensures fault { IfErr result IsInside }
-        ensures own { IfErr result IsOwn }
+        ensures text { IfOk result (λ text. text.items ≡ legs_text self.now.book legs.now) }
+        ensures fault { IfErr result (IsText (All (IsThere self.now.book) legs.now)) }
     {
         let entries = self.entries(alloc, legs)?;
         let mut text = ok_text(alloc, legs.len() as u64)?;
@@ -101,25 +103,24 @@ impl<I: LegIndex> Core<I> {
 
     /// The legs whose box meets the box over a rectangle and a period.
     pub(crate) fn legs_in(&mut self, rect: &Rect, period: &Period) -> Result<Vec<Leg>, RunFault>
-        ensures found { IfOk result (λ legs. IsSound I.content I.is_sound self.old → legs.items ≡ legs_in_box (box_over rect.now period.now) (book_of I.content self.old).legs) }
-        ensures keeps { Keeps I.content I.is_sound self.old self.new }
-        ensures limits { limits_of self.new ≡ limits_of self.old }
-        ensures lasts { is_failed self.new ≡ is_failed self.old }
-        ensures fault { IfErr result IsInside }
-        ensures own { IfErr result (λ fault. IsSound I.content I.is_sound self.old → IsOwn fault) }
+        ensures found { IfOk result (λ legs. IsSound I.Listed self.old
+            → legs.items ≡ legs_in_box (box_over rect.now period.now) self.old.book.legs) }
+        ensures asks { OnOk result (Asks I.Listed self.old self.new (search_cost
+            (box_over rect.now period.now))) }
+        ensures leaves { Leaves I.Listed self.old self.new }
+        ensures refused { IfErr result (IsRefused I.Listed self.old self.new) }
     {
         Ok(self.index.search(&Box3::new(rect, period))?)
     }
 
     /// The legs of the feature of a name.
     pub(crate) fn legs_of(&mut self, alloc: Global, name: &str) -> Result<Vec<Leg>, RunFault>
-        ensures found { IfOk result (λ legs. IsSound I.content I.is_sound self.old
-            → legs.items ≡ track_of (feature_of (book_of I.content self.old).names name.now) (book_of I.content self.old).legs) }
-        ensures keeps { Keeps I.content I.is_sound self.old self.new }
-        ensures limits { limits_of self.new ≡ limits_of self.old }
-        ensures lasts { is_failed self.new ≡ is_failed self.old }
-        ensures fault { IfErr result IsInside }
-        ensures own { IfErr result (λ fault. IsSound I.content I.is_sound self.old → IsOwn fault) }
+        ensures found { IfOk result (λ legs. IsSound I.Listed self.old
+            → legs.items ≡ track_of (feature_of self.old.book.names name.now) self.old.book.legs) }
+        ensures asks { OnOk result (Asks I.Listed self.old self.new (track_asks (feature_of
+            self.old.book.names name.now))) }
+        ensures leaves { Leaves I.Listed self.old self.new }
+        ensures refused { IfErr result (IsRefused I.Listed self.old self.new) }
     {
         match self.tracks.feature(name) {
             Some(feature) => Ok(self.index.track(feature)?),
@@ -135,13 +136,12 @@ impl<I: LegIndex> Core<I> {
         rect: &Rect,
         period: &Period,
     ) -> Result<Vec<Leg>, RunFault>
-        ensures found { IfOk result (λ legs. IsSound I.content I.is_sound self.old
-            → Picks (HoldsOfLeg predicate rect.now period.now) (book_of I.content self.old).legs legs.items) }
-        ensures keeps { Keeps I.content I.is_sound self.old self.new }
-        ensures limits { limits_of self.new ≡ limits_of self.old }
-        ensures lasts { is_failed self.new ≡ is_failed self.old }
-        ensures fault { IfErr result IsInside }
-        ensures own { IfErr result (λ fault. IsSound I.content I.is_sound self.old → IsOwn fault) }
+        ensures found { IfOk result (λ legs. IsSound I.Listed self.old
+            → Picks (HoldsOfLeg predicate rect.now period.now) self.old.book.legs legs.items) }
+        ensures asks { OnOk result (Asks I.Listed self.old self.new (search_cost
+            (box_near predicate rect.now period.now))) }
+        ensures leaves { Leaves I.Listed self.old self.new }
+        ensures refused { IfErr result (IsRefused I.Listed self.old self.new) }
     {
         let near = self.index.search(&search_box(predicate, rect, period))?;
         Ok(holding(alloc, near.as_slice(), predicate, rect, period)?)
@@ -155,13 +155,13 @@ impl<I: LegIndex> Core<I> {
         rect: &Rect,
         period: &Period,
     ) -> Result<bool, RunFault>
-        ensures holds { IfOk result (λ yes. IsSound I.content I.is_sound self.old
-            → IsTrue yes ↔ HoldsOfFeature predicate rect.now period.now (book_of I.content self.old).legs feature) }
-        ensures keeps { Keeps I.content I.is_sound self.old self.new }
-        ensures limits { limits_of self.new ≡ limits_of self.old }
-        ensures lasts { is_failed self.new ≡ is_failed self.old }
-        ensures fault { IfErr result IsInside }
-        ensures own { IfErr result (λ fault. IsSound I.content I.is_sound self.old → IsOwn fault) }
+        ensures holds { IfOk result (λ yes. IsSound I.Listed self.old
+            → IsTrue yes ↔ HoldsOfFeature predicate rect.now period.now
+            self.old.book.legs feature) }
+        ensures asks { OnOk result (AsksAtMost I.Listed self.old self.new
+            (track_in_bound feature period.now)) }
+        ensures leaves { Leaves I.Listed self.old self.new }
+        ensures refused { IfErr result (IsRefused I.Listed self.old self.new) }
     {
         let legs = self.index.track_in(feature, period)?;
         Ok(holds(predicate, legs.as_slice(), rect, period))
@@ -169,7 +169,7 @@ impl<I: LegIndex> Core<I> {
 
     /// How many features there are.
     fn feature_count(&self) -> u32
-        ensures { length self.now.tracks.names ≤ most → result ≡ length self.now.tracks.names }
+        ensures { length self.now.book.names ≤ most → result ≡ length self.now.book.names }
     {
         u32::try_from(self.tracks.feature_count()).unwrap_or(u32::MAX)
     }
@@ -182,13 +182,13 @@ impl<I: LegIndex> Core<I> {
         rect: &Rect,
         period: &Period,
     ) -> Result<Vec<u32>, RunFault>
-        ensures found { IfOk result (λ features. IsSound I.content I.is_sound self.old
-            → Picks (HoldsOfFeature predicate rect.now period.now (book_of I.content self.old).legs) (range_with_len 0 (length (book_of I.content self.old).names)) features.items) }
-        ensures keeps { Keeps I.content I.is_sound self.old self.new }
-        ensures limits { limits_of self.new ≡ limits_of self.old }
-        ensures lasts { is_failed self.new ≡ is_failed self.old }
-        ensures fault { IfErr result IsInside }
-        ensures own { IfErr result (λ fault. IsSound I.content I.is_sound self.old → IsOwn fault) }
+        ensures found { IfOk result (λ features. IsSound I.Listed self.old
+            → Picks (HoldsOfFeature predicate rect.now period.now self.old.book.legs)
+            (range_with_len 0 (length self.old.book.names)) features.items) }
+        ensures asks { OnOk result (AsksAtMost I.Listed self.old self.new (features_bound
+            (range_with_len 0 (length self.old.book.names)) period.now)) }
+        ensures leaves { Leaves I.Listed self.old self.new }
+        ensures refused { IfErr result (IsRefused I.Listed self.old self.new) }
     {
         let mut features = Vec::new(alloc);
         for feature in 0..self.feature_count() {
@@ -201,9 +201,10 @@ impl<I: LegIndex> Core<I> {
 
     /// The names of features.
     fn names(&self, alloc: Global, features: &[u32]) -> Result<Vec<&str>, RunFault>
-        ensures names { IfOk result (λ names. map (λ n. n.now) names.items ≡ map (name_of (book_of I.content self.now)) features.now) }
-        ensures fault { IfErr result IsInside }
-        ensures own { IfErr result IsOwn }
+        ensures names { IfOk result (λ names. map (λ n. n.now) names.items ≡ map (name_of
+            self.now.book) features.now) }
+        ensures fault { IfErr result (IsText (All (λ feature. feature < length
+            self.now.book.names) features.now)) }
     {
         let mut names = Vec::with_capacity(alloc, features.len())?;
         for feature in features {
@@ -214,9 +215,9 @@ impl<I: LegIndex> Core<I> {
 
     /// The answer of features.
     pub(crate) fn names_text(&self, alloc: Global, features: &[u32]) -> Result<Vec<u8>, RunFault>
-        ensures text { IfOk result (λ text. text.items ≡ names_text (book_of I.content self.now) features.now) }
-        ensures fault { IfErr result IsInside }
-        ensures own { IfErr result IsOwn }
+        ensures text { IfOk result (λ text. text.items ≡ names_text self.now.book features.now) }
+        ensures fault { IfErr result (IsText (All (λ feature. feature < length
+            self.now.book.names) features.now)) }
     {
         let names = self.names(alloc, features)?;
         let mut text = ok_text(alloc, features.len() as u64)?;
@@ -225,9 +226,9 @@ impl<I: LegIndex> Core<I> {
     }
 
     fn entries(&self, alloc: Global, legs: &[Leg]) -> Result<Vec<Entry<'_>>, RunFault>
-        ensures entries { IfOk result (λ entries. entries.items ≡ map (entry_of (book_of I.content self.now)) legs.now) }
-        ensures fault { IfErr result IsInside }
-        ensures own { IfErr result IsOwn }
+        ensures entries { IfOk result (λ entries. entries.items ≡ map (entry_of
+            self.now.book) legs.now) }
+        ensures fault { IfErr result (IsText (All (IsThere self.now.book) legs.now)) }
     {
         let mut entries = Vec::with_capacity(alloc, legs.len())?;
         for leg in legs {
@@ -238,9 +239,9 @@ impl<I: LegIndex> Core<I> {
 
     /// The answer of legs as a file.
     fn file_text(&self, alloc: Global, head: &Head, legs: &[Leg]) -> Result<Vec<u8>, RunFault>
-        ensures text { IfOk result (λ text. text.items ≡ file_answer (book_of I.content self.now) head.now legs.now) }
-        ensures fault { IfErr result IsInside }
-        ensures own { IfErr result IsOwn }
+        ensures text { IfOk result (λ text. text.items ≡ file_answer
+            self.now.book head.now legs.now) }
+        ensures fault { IfErr result (IsText (All (IsThere self.now.book) legs.now)) }
     {
         let entries = self.entries(alloc, legs)?;
         let mut text = ok_text(alloc, (legs.len() as u64).saturating_add(2))?;
@@ -248,19 +249,104 @@ impl<I: LegIndex> Core<I> {
         Ok(text)
     }
 
-    /// The answer to `write`.
-    pub(crate) fn write_text(&mut self, alloc: Global) -> Result<Vec<u8>, RunFault>
-        ensures text { IfOk result (λ text. IsSound I.content I.is_sound self.old → text.items ≡ write_text (book_of I.content self.old).head (book_of I.content self.old)) }
-        ensures keeps { Keeps I.content I.is_sound self.old self.new }
-        ensures limits { limits_of self.new ≡ limits_of self.old }
-        ensures lasts { is_failed self.new ≡ is_failed self.old }
-        ensures fault { IfErr result IsInside }
-        ensures own { IfErr result (λ fault. IsSound I.content I.is_sound self.old → IsOwn fault) }
+    /// All legs.
+    fn all_legs(&mut self) -> Result<Vec<Leg>, RunFault>
+        ensures found { IfOk result (λ legs. IsSound I.Listed self.old
+            → legs.items ≡ self.old.book.legs) }
+        ensures asks { OnOk result (Asks I.Listed self.old self.new (search_cost everything)) }
+        ensures leaves { Leaves I.Listed self.old self.new }
+        ensures refused { IfErr result (IsRefused I.Listed self.old self.new) }
     {
-        let legs = self.index.search(&Box3::everything())?;
+        Ok(self.index.search(&Box3::everything())?)
+    }
+
+    /// The answer to `write`; it asks for nothing where there is no head.
+    pub(crate) fn write_text(&mut self, alloc: Global) -> Result<Vec<u8>, RunFault>
+        ensures text { IfOk result (λ text. IsSound I.Listed self.old
+            → text.items ≡ write_text self.old.book.head self.old.book) }
+        ensures asks { OnOk result (Asks I.Listed self.old self.new
+            (write_asks self.old.book.head)) }
+        ensures leaves { Leaves I.Listed self.old self.new }
+        ensures refused { IfErr result (IsRefused I.Listed self.old self.new) }
+    {
+        if self.head.is_none() {
+            return Ok(refusal_text(alloc, "Q10")?);
+        }
+        let legs = self.all_legs()?;
         match &self.head {
             Some(head) => self.file_text(alloc, head, legs.as_slice()),
             None => Ok(refusal_text(alloc, "Q10")?),
         }
+    }
+
+    /// The answer to `box`.
+    pub(crate) fn box_text(
+        &mut self,
+        alloc: Global,
+        rect: &Rect,
+        period: &Period,
+    ) -> Result<Vec<u8>, RunFault>
+        ensures text { IfOk result (λ text. IsSound I.Listed self.old
+            → text.items ≡ legs_text self.old.book (legs_in_box (box_over rect.now period.now)
+            self.old.book.legs)) }
+        ensures asks { OnOk result (Asks I.Listed self.old self.new (search_cost
+            (box_over rect.now period.now))) }
+        ensures leaves { Leaves I.Listed self.old self.new }
+        ensures refused { IfErr result (IsRefused I.Listed self.old self.new) }
+    {
+        let legs = self.legs_in(rect, period)?;
+        self.legs_text(alloc, legs.as_slice())
+    }
+
+    /// The answer to `trajectory`.
+    pub(crate) fn track_text(&mut self, alloc: Global, name: &str) -> Result<Vec<u8>, RunFault>
+        ensures text { IfOk result (λ text. IsSound I.Listed self.old
+            → text.items ≡ legs_text self.old.book (track_of (feature_of
+            self.old.book.names name.now) self.old.book.legs)) }
+        ensures asks { OnOk result (Asks I.Listed self.old self.new (track_asks (feature_of
+            self.old.book.names name.now))) }
+        ensures leaves { Leaves I.Listed self.old self.new }
+        ensures refused { IfErr result (IsRefused I.Listed self.old self.new) }
+    {
+        let legs = self.legs_of(alloc, name)?;
+        self.legs_text(alloc, legs.as_slice())
+    }
+
+    /// The answer to `legs`.
+    pub(crate) fn picked_text(
+        &mut self,
+        alloc: Global,
+        predicate: Predicate,
+        rect: &Rect,
+        period: &Period,
+    ) -> Result<Vec<u8>, RunFault>
+        ensures text { IfOk result (λ text. IsSound I.Listed self.old
+            → IsLegsAnswer self.old.book predicate rect.now period.now text.items) }
+        ensures asks { OnOk result (Asks I.Listed self.old self.new (search_cost
+            (box_near predicate rect.now period.now))) }
+        ensures leaves { Leaves I.Listed self.old self.new }
+        ensures refused { IfErr result (IsRefused I.Listed self.old self.new) }
+    {
+        let legs = self.legs_for(alloc, predicate, rect, period)?;
+        self.legs_text(alloc, legs.as_slice())
+    }
+
+    /// The answer to `features`.
+    pub(crate) fn features_text(
+        &mut self,
+        alloc: Global,
+        predicate: Predicate,
+        rect: &Rect,
+        period: &Period,
+    ) -> Result<Vec<u8>, RunFault>
+        ensures text { IfOk result (λ text. IsSound I.Listed self.old
+            → IsFeaturesAnswer self.old.book predicate rect.now period.now text.items) }
+        ensures asks { OnOk result (AsksAtMost I.Listed self.old self.new
+            (features_bound (range_with_len 0 (length self.old.book.names)) period.now)) }
+        ensures leaves { Leaves I.Listed self.old self.new }
+        ensures refused { IfErr result (IsRefused I.Listed self.old self.new) }
+    {
+        let features = self.features_for(alloc, predicate, rect, period)?;
+        self.names_text(alloc, features.as_slice())
     }
 }

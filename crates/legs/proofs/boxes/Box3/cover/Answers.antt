@@ -11,8 +11,8 @@ invariant_of-result c = record {
   t = omega (arith, ints, clamps, c.self.invariant.t);
 }
 
-pub returns : goal.returns
-returns c =
+same : goal.returns-clause-value
+same c =
     let a : FitsSigned w64 c.self.inside.x_min = search rules in
     let b : FitsSigned w64 c.self.inside.y_min = search rules in
     let d : FitsSigned w64 c.self.inside.t_min = search rules in
@@ -31,10 +31,16 @@ returns c =
     let q : FitsSigned w64 c.max.result = search rules in
     let r : FitsSigned w64 c.max-2.result = search rules in
     let s : FitsSigned w64 c.max-3.result = search rules in
-    rw (← c.self.view_is, ← c.other.view_is) (cover_is _ _ _ (same_bounds _ _ _ _ _ _ _ _ _ _ _ _
+    rw (← c.self.view_is, ← c.other.view_is) (same_bounds _ _ _ _ _ _ _ _ _ _ _ _
     (min_is _ _ _ _ _ n a h c.min.ensures.value refl refl)
     (min_is _ _ _ _ _ o b i c.min-2.ensures.value refl refl)
     (min_is _ _ _ _ _ p d j c.min-3.ensures.value refl refl)
     (max_is _ _ _ _ _ q e k c.max.ensures.value refl refl)
     (max_is _ _ _ _ _ r f l c.max-2.ensures.value refl refl)
-    (max_is _ _ _ _ _ s g m c.max-3.ensures.value refl refl)))
+    (max_is _ _ _ _ _ s g m c.max-3.ensures.value refl refl))
+
+pub returns-clause-value : goal.returns-clause-value
+returns-clause-value c = same c
+
+pub returns-clause-least : goal.returns-clause-least
+returns-clause-least c = cover_is _ _ _ (same c)

@@ -4,6 +4,7 @@ use Rattle.std.specs.String.{string_bytes}
 use Rattle.legs.specs.Tracks.{TracksView}
 use Rattle.legs.specs.Counting.{counted}
 use Rattle.legs.specs.declared.tracks.Track.{Track}
+use Rattle.legs.proofs.LawLemmas.{law_with_file}
 use Rattle.legs.proofs.AcceptLemmas.{accepted, length-counted}
 use Rattle.legs.proofs.tracks.Tracks.accept.Goals as goal
 
@@ -24,3 +25,8 @@ returns-clause-ok c = λ limits book is stands ok.
     (c.saturating_add-self-inside.ensures ∙ ap (λ n. min (n + length c.args.legs.now) (2 ^ 64 - 1)) legs)
     (c.min-self-inside.ensures ∙ ap (λ n. min n c.saturating_add-self-inside.result)
     (c.saturating_add.ensures ∙ ap (λ n. min (n + length c.as_slice-records.result.now) (2 ^ 64 - 1)) rows ∙ ap (λ rs. min (c.add_names.new.self.rows + length rs) (2 ^ 64 - 1)) c.as_slice-records.ensures))
+
+pub returns-clause-law : goal.returns-clause-law
+returns-clause-law c = λ limits book is law ok.
+    let adds = rw c.as_slice-records.ensures at c.in_ok-add_names.ensures.ok in
+    law_with_file limits book c.args.file.now c.args.legs.now is adds.lawful law ok

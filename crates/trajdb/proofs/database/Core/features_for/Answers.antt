@@ -1,21 +1,20 @@
-use Rattle.std.proofs.Common.{ℕ, ◌∙◌, ◌+◌, ◌-◌, ◌<◌, ◌≤◌, List, sym, subst, ap, length, arith, refl, false, IsTrue}
+use Rattle.std.proofs.Common.{ℕ, ◌≡◌, ◌∙◌, ◌+◌, ◌-◌, ◌<◌, ◌≤◌, List, sym, subst, ap, length, arith, refl, false, IsTrue}
 use Rattle.std.specs.List.{range_with_len}
 use Rattle.legs.specs.Legs.{LegView}
 use Rattle.legs.specs.Book.{Book}
 use Rattle.trajdb.specs.Answers.{HoldsOfFeature}
-use Rattle.trajdb.specs.Database.{book_of}
+use Rattle.legs.specs.Costs.{track_in_bound}
+use Rattle.trajdb.proofs.FaultLemmas.{leaves-refl, leaves-trans, bound_more}
 use Rattle.trajdb.proofs.PickLemmas.{IsPicking, picking-start, picking-yes, picking-no, picking-end, range_more, range_none, range_all}
 use Rattle.trajdb.proofs.database.Core.features_for.Goals as goal
 use Rattle.trajdb.proofs.database.Core.features_for.Goals.{then-branch+in_ok-push, else-branch}
 
 pub loop-feature-init : goal.loop-feature-init
 loop-feature-init g c = record {
-  limits = refl;
-  lasts = refl;
-  sound = λ s. s;
-  book = λ s. refl;
+  leaves = leaves-refl g.I.Listed c.args.self.now;
+  asks = λ s. omega arith;
   picked = λ s.
-      let book = book_of g.I.LegIndex.content c.args.self.now in
+      let book = c.args.self.now.book in
       let P : ℕ → Type 0 = HoldsOfFeature c.args.predicate c.args.rect.now c.args.period.now book.legs in
       subst (λ (l : List ℕ). IsPicking P (range_with_len 0 (length book.names)) l c.new-features.result.items) (sym (range_all (length book.names)))
       (subst (λ (l : List ℕ). IsPicking P (range_with_len 0 (length book.names)) (range_with_len 0 (length book.names)) l) (sym c.new-features.ensures.items) (picking-start P (range_with_len 0 (length book.names))));
@@ -23,12 +22,16 @@ loop-feature-init g c = record {
 
 pub loop-feature-preserved : goal.loop-feature-preserved
 loop-feature-preserved g c = record {
-  limits = c.in_ok-holds_for.ensures.limits ∙ c.loop-feature.invariant.limits;
-  lasts = c.in_ok-holds_for.ensures.lasts ∙ c.loop-feature.invariant.lasts;
-  sound = λ s. (c.in_ok-holds_for.ensures.keeps (c.loop-feature.invariant.sound s)).0;
-  book = λ s. (c.in_ok-holds_for.ensures.keeps (c.loop-feature.invariant.sound s)).1 ∙ c.loop-feature.invariant.book s;
+  leaves = leaves-trans g.I.Listed c.args.self.now c.loop-feature.self c.holds_for.new.self c.loop-feature.invariant.leaves c.in_ok-holds_for.ensures.leaves;
+  asks = λ s.
+      let so_far = c.loop-feature.invariant.asks s in
+      let now = c.in_ok-holds_for.ensures.asks (c.loop-feature.invariant.leaves.sound s) in
+      let cost = track_in_bound c.loop-feature.feature c.args.period.now in
+      let same : cost (g.I.Listed.plan c.loop-feature.self.index) c.loop-feature.self.book.legs ≡ cost (g.I.Listed.plan c.args.self.now.index) c.args.self.now.book.legs = rw (c.loop-feature.invariant.leaves.index.later.plan, c.loop-feature.invariant.leaves.book) refl in
+      let more = bound_more c.loop-feature.feature c.args.period.now (g.I.Listed.plan c.args.self.now.index) c.args.self.now.book.legs in
+      omega (arith, so_far, now, same, more);
   picked = λ s.
-      let book = book_of g.I.LegIndex.content c.args.self.now in
+      let book = c.args.self.now.book in
       let n : ℕ = length book.names in
       let all : List ℕ = range_with_len 0 (length book.names) in
       let P : ℕ → Type 0 = HoldsOfFeature c.args.predicate c.args.rect.now c.args.period.now book.legs in
@@ -40,7 +43,7 @@ loop-feature-preserved g c = record {
       let so_far = subst (λ (l : List ℕ). IsPicking P all l c.loop-feature.features.items) (range_more c.loop-feature.feature (length book.names) less) (c.loop-feature.invariant.picked s) in
       let holds = subst (λ (legs : List LegView). (IsTrue c.in_ok-holds_for.field-0 → HoldsOfFeature c.args.predicate c.args.rect.now c.args.period.now legs c.loop-feature.feature)
       × (HoldsOfFeature c.args.predicate c.args.rect.now c.args.period.now legs c.loop-feature.feature → IsTrue c.in_ok-holds_for.field-0))
-      (ap (λ (b : Book). b.legs) (c.loop-feature.invariant.book s)) (c.in_ok-holds_for.ensures.holds (c.loop-feature.invariant.sound s)) in
+      (ap (λ (b : Book). b.legs) c.loop-feature.invariant.leaves.book) (c.in_ok-holds_for.ensures.holds (c.loop-feature.invariant.leaves.sound s)) in
       elim c.if-branch.branch [
         | then-branch+in_ok-push w ↦
             subst (λ (l : List ℕ). IsPicking P all others l) (sym (ap (λ v. v.items) w.features-is ∙ w.in_ok-push.ensures.items)) (picking-yes P all others c.loop-feature.features.items c.loop-feature.feature so_far (holds.0 w.if-branch.true))
@@ -52,7 +55,7 @@ loop-feature-preserved g c = record {
 
 pub returns-clause-found : goal.returns-clause-found
 returns-clause-found g c = λ s.
-    let book = book_of g.I.LegIndex.content c.args.self.now in
+    let book = c.args.self.now.book in
     let P : ℕ → Type 0 = HoldsOfFeature c.args.predicate c.args.rect.now c.args.period.now book.legs in
     let few : length book.names ≤ 2147483648 = s.tracks.lawful.few_names in
     let count = c.feature_count-feature-end.ensures few in

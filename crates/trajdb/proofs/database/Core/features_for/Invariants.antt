@@ -1,18 +1,19 @@
-use Rattle.std.proofs.Common.{◌≡◌, ◌-◌, length}
+use Rattle.std.proofs.Common.{◌≡◌, ◌≤◌, ◌+◌, ◌-◌, length}
 use Rattle.std.specs.List.{range_with_len}
 use Rattle.trajdb.specs.Answers.{HoldsOfFeature}
-use Rattle.trajdb.specs.Database.{IsSound, book_of, limits_of, is_failed}
+use Rattle.trajdb.specs.Database.{IsSound}
+use Rattle.trajdb.specs.Calls.{Leaves, features_bound}
 use Rattle.trajdb.proofs.PickLemmas.{IsPicking}
 use Rattle.trajdb.proofs.database.Core.features_for.Given as goal
 
--- the database is as it was, and what is picked so far
+-- the database is as it was; what is picked so far, and how many pages were asked for
 abbrev pub invariant-loop-feature : goal.invariant-loop-feature
 invariant-loop-feature g l = record {
-  limits : limits_of l.self ≡ limits_of l.initial.self;
-  lasts : is_failed l.self ≡ is_failed l.initial.self;
-  sound : IsSound g.I.LegIndex.content g.I.LegIndex.is_sound l.initial.self → IsSound g.I.LegIndex.content g.I.LegIndex.is_sound l.self;
-  book : IsSound g.I.LegIndex.content g.I.LegIndex.is_sound l.initial.self → book_of g.I.LegIndex.content l.self ≡ book_of g.I.LegIndex.content l.initial.self;
-  picked : IsSound g.I.LegIndex.content g.I.LegIndex.is_sound l.initial.self
-      → IsPicking (HoldsOfFeature l.predicate l.rect l.period (book_of g.I.LegIndex.content l.initial.self).legs) (range_with_len 0 (length (book_of g.I.LegIndex.content l.initial.self).names))
-      (range_with_len l.feature (length (book_of g.I.LegIndex.content l.initial.self).names - l.feature)) l.features.items;
+  leaves : Leaves g.I.Listed l.initial.self l.self;
+  asks : IsSound g.I.Listed l.initial.self
+      → g.I.Listed.asked l.self.index
+      ≤ g.I.Listed.asked l.initial.self.index + features_bound (range_with_len 0 l.feature) l.period (g.I.Listed.plan l.initial.self.index) l.initial.self.book.legs;
+  picked : IsSound g.I.Listed l.initial.self
+      → IsPicking (HoldsOfFeature l.predicate l.rect l.period l.initial.self.book.legs) (range_with_len 0 (length l.initial.self.book.names))
+      (range_with_len l.feature (length l.initial.self.book.names - l.feature)) l.features.items;
 }

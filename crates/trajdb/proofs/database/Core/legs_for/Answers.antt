@@ -7,7 +7,8 @@ use Rattle.trajdb.proofs.PickLemmas.{picks-within}
 use Rattle.trajdb.proofs.database.Core.legs_for.Goals as goal
 
 pub returns-clause-found : goal.returns-clause-found
-returns-clause-found g c = λ s.
+returns-clause-found g c =
+    rw (← c.self.view_is) (λ s.
     let P : LegView → Type 0 = HoldsOfLeg c.args.predicate c.args.rect.now c.args.period.now in
-    picks-within P IsLeg (λ leg. boxes_meet (box_of leg) c.search_box.result) (g.I.LegIndex.content c.args.self.now.index) c.in_ok-holding.field-0.items (g.met.I.LegIndex.lawful c.args.self.now.index s.index) c.search_box.ensures.meets
-    (subst (λ (l : List LegView). Picks P l c.in_ok-holding.field-0.items) (c.as_slice.ensures.value ∙ c.in_ok-near.ensures.found s.index) c.in_ok-holding.ensures)
+    picks-within P IsLeg (λ leg. boxes_meet (box_of leg) c.search_box.result) (g.I.Listed.content c.self.inside.index) c.in_ok-holding.field-0.items (g.met.I.LegIndex.lawful c.self.inside.index s.index) c.search_box.ensures.meets
+    (subst (λ (l : List LegView). Picks P l c.in_ok-holding.field-0.items) (c.as_slice.ensures.value ∙ c.in_ok-near.ensures.found s.index) c.in_ok-holding.ensures))

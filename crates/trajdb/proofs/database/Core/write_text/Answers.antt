@@ -1,19 +1,22 @@
-use Rattle.std.proofs.Common.{◌≡◌, ◌∙◌, List}
-use Rattle.std.proofs.lemmas.Result.{IfOk-weaker}
-use Rattle.legs.specs.Legs.{LegView, IsLeg}
-use Rattle.legs.specs.Boxes.{box_of, boxes_meet}
+use Rattle.std.proofs.Common.{◌∙◌, ap, sym, All}
+use Rattle.std.proofs.lemmas.Result.{IfErr-weaker, IfOk-weaker}
 use Rattle.legs.specs.Book.{Book}
-use Rattle.trajdb.specs.Database.{book_of}
-use Rattle.trajdb.proofs.AnswerLemmas.{same_legs, write_text-is}
-use Rattle.trajdb.proofs.PickLemmas.{filter_all}
+use Rattle.legs.specs.Law.{IsThere}
+use Rattle.trajdb.specs.Database.{CoreView}
+use Rattle.trajdb.proofs.AnswerLemmas.{write_text-is}
+use Rattle.trajdb.proofs.FaultLemmas.{text_refused, there_all}
 use Rattle.trajdb.proofs.database.Core.write_text.Goals as goal
 
 pub returns-in-Some-clause-text : goal.returns-in-Some-clause-text
 returns-in-Some-clause-text g c =
     IfOk-weaker c.file_text.result _ _ (λ text h s.
-    let book : Book = book_of g.I.LegIndex.content c.args.self.now in
-    let legs : List LegView = g.I.LegIndex.content c.args.self.now.index in
-    let all : c.as_slice.result.now ≡ legs =
-    c.as_slice.ensures.value ∙ c.in_ok-legs.ensures.found s.index
-    ∙ filter_all IsLeg (λ leg. boxes_meet (box_of leg) c.everything.result) legs (g.met.I.LegIndex.lawful c.args.self.now.index s.index) c.everything.ensures in
-    h ∙ write_text-is book _ c.in-Some.head c.as_slice.result.now c.in-Some.is (same_legs book (g.I.LegIndex.content c.search.new.self) (c.in_ok-legs.ensures.content s.index)) all) c.file_text.ensures.text
+    let same = c.in_ok-legs.ensures.leaves.book in
+    let head = ap (λ (b : Book). b.head) (sym same) ∙ sym (ap (λ (v : CoreView g.row.I.Denot). v.book.head) c.self-2.view_is) ∙ c.in-Some.is in
+    h ∙ write_text-is c.args.self.now.book _ c.in-Some.head c.as_slice.result.now head same (c.as_slice.ensures.value ∙ c.in_ok-legs.ensures.found s)) c.file_text.ensures.text
+
+pub returns-in-Some-clause-refused : goal.returns-in-Some-clause-refused
+returns-in-Some-clause-refused g c =
+    IfErr-weaker c.file_text.result _ _ (λ fault text.
+    text_refused g.I.Listed c.args.self.now c.all_legs.new.self (All (IsThere c.all_legs.new.self.book) c.as_slice.result.now) fault text (λ sound.
+    there_all c.args.self.now.book c.all_legs.new.self.book c.as_slice.result.now sound.law.ordered.there c.in_ok-legs.ensures.leaves.book
+    (c.as_slice.ensures.value ∙ c.in_ok-legs.ensures.found sound))) c.file_text.ensures.fault

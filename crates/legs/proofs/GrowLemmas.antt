@@ -1,0 +1,60 @@
+-- Legs put at the end of an index, one after another.
+use Rattle.std.proofs.Common.{ℕ, ◌+◌, ◌-◌, ◌^◌, ◌≤◌, ◌≡◌, ◌∙◌, ◌++◌, ◌∷◌, [], ap, sym, subst, refl, List, min, arith, append_assoc}
+use Rattle.std.proofs.lemmas.List.{append-nil}
+use Rattle.legs.specs.Legs.{LegView}
+use Rattle.legs.specs.Index.{CanFollowInTurn, HasRisen}
+use Rattle.legs.specs.Asking.{Ends, Grows, IsLater, Leaves, KeepsMarked}
+use Rattle.legs.specs.declared.listed.Listed.{Ghosts}
+
+-- what is left to put makes of the index what all makes of it
+abbrev pub IsGrowing : {I : Type 0} → Ghosts I → I → I → List LegView → List LegView → Type 0
+IsGrowing g old now all left =
+    g.is_sound old → CanFollowInTurn (g.content old) all
+    → g.is_sound now × CanFollowInTurn (g.content now) left × (g.content now ++ left ≡ g.content old ++ all) × (g.is_marked old → g.is_marked now)
+
+pub growing-more : {I : Type 0} (g : Ghosts I) (old now new : I) (all left : List LegView) (leg : LegView)
+    → IsGrowing g old now all (leg ∷ left) → Grows g now new (leg ∷ []) → KeepsMarked g now new (leg ∷ []) → IsGrowing g old new all left
+growing-more g old now new all left leg so_far more marks = λ sound turn.
+    let at = so_far sound turn in
+    let ends = more at.0 (at.1.0, tt) in
+    let content : g.content new ≡ g.content now ++ leg ∷ [] = ends.content in
+    (
+      ends.sound,
+      subst (λ (ls : List LegView). CanFollowInTurn ls left) (sym content) at.1.1,
+      ap (λ (ls : List LegView). ls ++ left) content ∙ append_assoc (g.content now) (leg ∷ []) left ∙ at.2,
+      λ marked. marks at.0 (at.1.0, tt) (at.3 marked),
+    )
+
+pub growing-end : {I : Type 0} (g : Ghosts I) (old now : I) (all : List LegView) → IsGrowing g old now all [] → Grows g old now all
+growing-end g old now all so_far = λ sound turn.
+    let at = so_far sound turn in
+    record { sound = at.0; content = sym (append-nil (g.content now)) ∙ at.2 }
+
+pub later-trans : {I : Type 0} (g : Ghosts I) (a b c : I) → IsLater g a b → IsLater g b c → IsLater g a c
+later-trans g a b c p q = record {
+  plan = q.plan ∙ p.plan;
+  faults = let x = p.faults in let y = q.faults in omega (arith, x, y);
+  asked = let x = p.asked in let y = q.asked in omega (arith, x, y);
+}
+
+pub leaves-refl : {I : Type 0} (g : Ghosts I) (a : I) → Leaves g a a
+leaves-refl g a = record {
+  content = refl;
+  sound = λ s. s;
+  spent = refl;
+  later = record { plan = refl; faults = omega arith; asked = omega arith };
+  clean = λ c. c;
+  marked = λ m. m;
+  written = λ c. refl;
+}
+
+pub leaves-trans : {I : Type 0} (g : Ghosts I) (a b c : I) → Leaves g a b → Leaves g b c → Leaves g a c
+leaves-trans g a b c p q = record {
+  content = q.content ∙ p.content;
+  sound = λ s. q.sound (p.sound s);
+  spent = q.spent ∙ p.spent;
+  later = later-trans g a b c p.later q.later;
+  clean = λ x. q.clean (p.clean x);
+  marked = λ x. q.marked (p.marked x);
+  written = λ x. q.written (p.clean x) ∙ p.written x;
+}

@@ -1,0 +1,39 @@
+//! What contracts see of an index of legs.
+
+/// What contracts see of an index of legs. The words stand in a trait of their own, so that a definition can
+/// say of all of them what a call leaves.
+pub trait Listed {
+    ghost use Rattle.std.specs.Prelude.{ℕ, Bool, List, Option};
+    ghost use Rattle.legs.specs.Legs.{LegView};
+    ghost use Rattle.legs.specs.Costs.{ShapeView};
+
+    /// The legs in the index, in accepted order; of an index over pages, none where its store is not faithful.
+    ghost content: { Self → List LegView };
+
+    /// The index stands for its list, and every call answers by it.
+    ghost is_sound: { Self → Type 0 };
+
+    /// An `add` was refused.
+    ghost is_spent: { Self → Bool };
+
+    /// How many faults of its store were counted. It never falls; 2^64 - 1 stands for any greater number.
+    ghost faults: { Self → ℕ };
+
+    /// Its store has no room for another page.
+    ghost is_store_full: { Self → Type 0 };
+
+    /// How many pages it asked for. It never falls; 2^64 - 1 stands for any greater number.
+    ghost asked: { Self → ℕ };
+
+    /// The shape of its tree; none of an index that keeps a list.
+    ghost plan: { Self → Option ShapeView };
+
+    /// No page is changed; never of an index that keeps a list.
+    ghost is_clean: { Self → Type 0 };
+
+    /// Page 0 as written is an unfinished header, and not changed; never of an index that keeps a list.
+    ghost is_marked: { Self → Type 0 };
+
+    /// The pages of its store as written.
+    ghost written: { Self → List (List ℕ) };
+}

@@ -1,0 +1,166 @@
+-- Why calls stopped.
+use Rattle.std.proofs.Common.{ℕ, ◌+◌, ◌^◌, ◌-◌, ◌≤◌, ◌≡◌, ◌∙◌, refl, sym, subst, min, arith, List, Option, Some, None, All, true, false, Bool, [], ◌∷◌, eqb, inl, inr, length, ◌<◌}
+use Rattle.std.specs.Prelude.{filter, Result, Err, IfErr, IsErrOf}
+use Rattle.legs.specs.Legs.{LegView}
+use Rattle.legs.specs.Book.{Book}
+use Rattle.legs.specs.Law.{IsThere}
+use Rattle.std.proofs.lemmas.List.FromFn.{sum_by-map-range_with_len_more, get_or-range_with_len, length-range_with_len}
+use Rattle.std.proofs.lemmas.List.Elements.{All-filter, All-nil, All-cons, All-head, All-tail}
+use Rattle.legs.proofs.GrowLemmas.{leaves-refl as index_leaves-refl, leaves-trans as index_leaves-trans}
+use Rattle.legs.specs.Index.{HasRisen, MayRefuse}
+use Rattle.legs.specs.declared.listed.Listed.{Ghosts}
+use Rattle.legs.specs.declared.index.IndexFault.{IndexFault}
+use Rattle.legs.specs.declared.index.IndexFault.TheVariants as index
+use Rattle.trajdb.specs.declared.RunFault.{RunFault}
+use Rattle.trajdb.specs.declared.RunFault.TheVariants.{Memory, Store, Damaged, StoreFull, Failed, Output}
+use Rattle.std.specs.List.{range_with_len}
+use Rattle.timebase.specs.Period.{PeriodView}
+use Rattle.legs.specs.Costs.{ShapeView, track_in_bound}
+use Rattle.trajdb.specs.Answers.{track_of}
+use Rattle.trajdb.specs.Picks.{Picks}
+use Rattle.trajdb.specs.Faults.{IsInside, run_fault_of}
+use Rattle.trajdb.specs.Database.{CoreView, IsSound}
+use Rattle.trajdb.specs.Calls.{IsLater, Leaves, features_bound, IsText, IsRefused, IsStopped, IsAsked, IsOfStore, IsQuestionFault, IsLoadFault, IsRunStop}
+use Rattle.trajdb.specs.Db.{DbView, listed, IsMemory}
+
+-- a text that was not made, of what is there
+pub text_refused : {I : Type 0} (g : Ghosts I) (old new : CoreView I) (P : Type 0) (fault : RunFault) → IsText P fault → (IsSound g old → P) → IsRefused g old new fault
+text_refused g old new P Memory text there = record { sound = λ s. tt; store = tt }
+text_refused g old new P Store text there = absurd text
+text_refused g old new P (Damaged page) text there = record { sound = λ s. text (there s); store = tt }
+text_refused g old new P StoreFull text there = absurd text
+text_refused g old new P Failed text there = absurd text
+text_refused g old new P Output text there = absurd text
+
+pub text_weaker : (P Q : Type 0) (fault : RunFault) → IsText P fault → (Q → P) → IsText Q fault
+text_weaker P Q Memory text more = tt
+text_weaker P Q Store text more = absurd text
+text_weaker P Q (Damaged page) text more = λ q. text (more q)
+text_weaker P Q StoreFull text more = absurd text
+text_weaker P Q Failed text more = absurd text
+text_weaker P Q Output text more = absurd text
+
+-- a question of the index was refused
+pub asked_refused : {I : Type 0} (g : Ghosts I) (old new : CoreView I) (fault : IndexFault) → (IsSound g old → MayRefuse fault) → (fault ≡ index.Store → HasRisen (g.faults old.index) (g.faults new.index)) → (fault ≡ index.StoreFull → ⊥)
+    → IsRefused g old new (run_fault_of fault)
+asked_refused g old new index.Memory sound store full = record { sound = λ s. tt; store = tt }
+asked_refused g old new index.Store sound store full = record { sound = λ s. tt; store = store refl }
+asked_refused g old new (index.Damaged page) sound store full = record { sound = λ s. absurd (sound s); store = tt }
+asked_refused g old new index.StoreFull sound store full = absurd (full refl)
+asked_refused g old new index.Spent sound store full = record { sound = λ s. absurd (sound s); store = tt }
+
+-- a question is a call that may load
+pub refused_stopped : {I : Type 0} (g : Ghosts I) (old new : CoreView I) (fault : RunFault) → IsRefused g old new fault → IsStopped g old new fault
+refused_stopped g old new Memory r = record { sound = λ s l. tt; store = tt }
+refused_stopped g old new Store r = record { sound = λ s l. tt; store = r.store }
+refused_stopped g old new (Damaged page) r = record { sound = λ s l. r.sound s; store = tt }
+refused_stopped g old new StoreFull r = absurd r.store
+refused_stopped g old new Failed r = record { sound = λ s l. r.sound s; store = tt }
+refused_stopped g old new Output r = absurd r.store
+
+-- and so a run stops
+pub stopped_run : {I : Type 0} (g : Ghosts I) (old new : CoreView I) (fault : RunFault) → IsStopped g old new fault → IsRunStop g old new fault
+stopped_run g old new Memory r = tt
+stopped_run g old new Store r = r.store
+stopped_run g old new (Damaged page) r = r.sound
+stopped_run g old new StoreFull r = r.store
+stopped_run g old new Failed r = r.sound
+stopped_run g old new Output r = absurd r.store
+
+-- after other lines
+pub run_stop-after : {I : Type 0} (g : Ghosts I) (old mid new : CoreView I) (fault : RunFault) → g.faults old.index ≤ g.faults mid.index → g.faults mid.index ≤ g.faults new.index → (IsSound g old → IsSound g mid) → mid.failed ≡ false
+    → IsRunStop g mid new fault → IsRunStop g old new fault
+run_stop-after g old mid new Memory before after sound lives r = tt
+run_stop-after g old mid new Store before after sound lives r = omega (arith, before, after, r)
+run_stop-after g old mid new (Damaged page) before after sound lives r = λ s l. r (sound s) lives
+run_stop-after g old mid new StoreFull before after sound lives r = r
+run_stop-after g old mid new Failed before after sound lives r = λ s l. r (sound s) lives
+run_stop-after g old mid new Output before after sound lives r = tt
+
+-- over a list only memory is wanting
+pub list_memory : (old new : DbView) (fault : RunFault) → IsStopped listed old new fault → IsMemory old fault
+list_memory old new Memory r = λ s l. refl
+list_memory old new Store r = λ s l. absurd (let h = r.store in omega (arith, h))
+list_memory old new (Damaged page) r = λ s l. absurd (r.sound s l)
+list_memory old new StoreFull r = λ s l. absurd r.store
+list_memory old new Failed r = λ s l. absurd (r.sound s l)
+list_memory old new Output r = λ s l. absurd r.store
+
+pub list_run : (old new : DbView) (fault : RunFault) → IsInside fault → IsRunStop listed old new fault → IsMemory old fault
+list_run old new Memory inside r = λ s l. refl
+list_run old new Store inside r = λ s l. absurd (omega (arith, r))
+list_run old new (Damaged page) inside r = λ s l. absurd (r s l)
+list_run old new StoreFull inside r = λ s l. absurd r
+list_run old new Failed inside r = λ s l. absurd (r s l)
+list_run old new Output inside r = absurd inside
+
+pub later-trans : {I : Type 0} (g : Ghosts I) (a b c : CoreView I) → IsLater g a b → IsLater g b c → IsLater g a c
+later-trans g a b c p q = record {
+  limits = q.limits ∙ p.limits;
+  index = record {
+    plan = q.index.plan ∙ p.index.plan;
+    faults = let x = p.index.faults in let y = q.index.faults in omega (arith, x, y);
+    asked = let x = p.index.asked in let y = q.index.asked in omega (arith, x, y);
+  };
+}
+
+-- legs that were found are there
+pub there_among : (old new : Book) (p : LegView → Bool) (legs : List LegView) → All (IsThere old) old.legs → new ≡ old → legs ≡ filter p old.legs → All (IsThere new) legs
+there_among old new p legs all same found = rw (same, found) (All-filter p (IsThere old) old.legs all)
+
+pub there_track : (old new : Book) (o : Option ℕ) (legs : List LegView) → All (IsThere old) old.legs → new ≡ old → legs ≡ track_of o old.legs → All (IsThere new) legs
+there_track old new None legs all same found = rw found (All-nil (IsThere new))
+there_track old new (Some feature) legs all same found = there_among old new (λ leg. eqb leg.feature feature) legs all same found
+
+pub picks_all : {T : Type 0} (P L : T → Type 0) (xs picked : List T) → All L xs → Picks P xs picked → All L picked
+picks_all P L [] picked all h = rw h (All-nil L)
+picks_all P L (x ∷ xs) picked all (inl (held, others, e, h)) = rw e (All-cons L x others (All-head L x xs all) (picks_all P L xs others (All-tail L x xs all) h))
+picks_all P L (x ∷ xs) picked all (inr (unheld, h)) = picks_all P L xs picked (All-tail L x xs all) h
+
+pub there_picked : (old new : Book) (P : LegView → Type 0) (legs found : List LegView) → All (IsThere old) old.legs → new ≡ old → legs ≡ found → Picks P old.legs found → All (IsThere new) legs
+there_picked old new P legs found all same e h = rw (same, e) (picks_all P (IsThere old) old.legs found all h)
+
+below : (n m : ℕ) → n ≤ m → All (λ f. f < m) (range_with_len 0 n)
+below n m h = λ k d inside.
+    let all = length-range_with_len 0 n in
+    let less : k < n = omega (arith, inside, all) in
+    let i = get_or-range_with_len 0 n k d less in
+    omega (arith, i, less, h)
+
+pub features_there : (old new : Book) (P : ℕ → Type 0) (features found : List ℕ) → new ≡ old → features ≡ found → Picks P (range_with_len 0 (length old.names)) found → All (λ f. f < length new.names) features
+features_there old new P features found same e h = rw (same, e) (picks_all P (λ f. f < length old.names) (range_with_len 0 (length old.names)) found (below (length old.names) (length old.names) (omega arith)) h)
+
+pub later-refl : {I : Type 0} (g : Ghosts I) (a : CoreView I) → IsLater g a a
+later-refl g a = record { limits = refl; index = record { plan = refl; faults = omega arith; asked = omega arith } }
+
+pub leaves-refl : {I : Type 0} (g : Ghosts I) (a : CoreView I) → Leaves g a a
+leaves-refl g a = record { book = refl; sound = λ s. s; failed = refl; limits = refl; index = index_leaves-refl g a.index }
+
+pub leaves-trans : {I : Type 0} (g : Ghosts I) (a b c : CoreView I) → Leaves g a b → Leaves g b c → Leaves g a c
+leaves-trans g a b c p q = record {
+  book = q.book ∙ p.book;
+  sound = λ s. q.sound (p.sound s);
+  failed = q.failed ∙ p.failed;
+  limits = q.limits ∙ p.limits;
+  index = index_leaves-trans g a.index b.index c.index p.index q.index;
+}
+
+-- a question was refused after others
+pub refused-after : {I : Type 0} (g : Ghosts I) (a b c : CoreView I) (fault : RunFault) → Leaves g a b → Leaves g b c → IsRefused g b c fault → IsRefused g a c fault
+refused-after g a b c Memory p q r = record { sound = λ s. tt; store = tt }
+refused-after g a b c Store p q r = record { sound = λ s. tt; store = let x = p.index.later.faults in let y = q.index.later.faults in let z = r.store in omega (arith, x, y, z) }
+refused-after g a b c (Damaged page) p q r = record { sound = λ s. r.sound (p.sound s); store = tt }
+refused-after g a b c StoreFull p q r = absurd r.store
+refused-after g a b c Failed p q r = record { sound = λ s. r.sound (p.sound s); store = tt }
+refused-after g a b c Output p q r = absurd r.store
+
+-- want of memory after questions
+pub memory_refused : {I : Type 0} (g : Ghosts I) (a b : CoreView I) (fault : RunFault) → fault ≡ Memory → IsRefused g a b fault
+memory_refused g a b fault e = rw e (record { sound = λ s. tt; store = tt })
+
+-- the bounds of features, with one more
+pub bound_more : (k : ℕ) (period : PeriodView) (plan : Option ShapeView) (legs : List LegView) → features_bound (range_with_len 0 (k + 1)) period plan legs ≡ features_bound (range_with_len 0 k) period plan legs + track_in_bound k period plan legs
+bound_more k period plan legs = sum_by-map-range_with_len_more (λ bound. bound) (λ feature. track_in_bound feature period plan legs) 0 k k (let e : 0 + k ≡ k = omega arith in e)
+
+pub there_all : (old new : Book) (legs : List LegView) → All (IsThere old) old.legs → new ≡ old → legs ≡ old.legs → All (IsThere new) legs
+there_all old new legs all same found = rw (same, found) all

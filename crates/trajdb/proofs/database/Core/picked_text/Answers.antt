@@ -1,0 +1,13 @@
+use Rattle.std.proofs.Common.{◌∙◌, All}
+use Rattle.std.proofs.lemmas.Result.{IfErr-weaker}
+use Rattle.trajdb.specs.Answers.{HoldsOfLeg}
+use Rattle.legs.specs.Law.{IsThere}
+use Rattle.trajdb.proofs.FaultLemmas.{text_refused, there_picked}
+use Rattle.trajdb.proofs.database.Core.picked_text.Goals as goal
+
+pub returns-clause-refused : goal.returns-clause-refused
+returns-clause-refused g c =
+    IfErr-weaker c.legs_text.result _ _ (λ fault text.
+    text_refused g.I.Listed c.args.self.now c.legs_for.new.self (All (IsThere c.legs_for.new.self.book) c.as_slice.result.now) fault text (λ sound.
+    there_picked c.args.self.now.book c.legs_for.new.self.book (HoldsOfLeg c.args.predicate c.args.rect.now c.args.period.now) c.as_slice.result.now c.in_ok-legs.legs.items
+    sound.law.ordered.there c.in_ok-legs.ensures.leaves.book c.as_slice.ensures.value (c.in_ok-legs.ensures.found sound))) c.legs_text.ensures.fault

@@ -1,0 +1,181 @@
+-- What a call of a database leaves, and why it stopped.
+use Rattle.std.specs.Prelude.{ℕ, ◌≡◌, Bool, true, false, List, Option, Some, None, Result, Ok, Err, IsTrue, is_some, ◌≤◌, ◌+◌, ◌⊎◌, drop, length, sum_by, map}
+use Rattle.std.specs.List.{range_with_len}
+use Rattle.timebase.specs.Period.{PeriodView}
+use Rattle.mfcsv.specs.declared.Head.{Head}
+use Rattle.legs.specs.Legs.{LegView}
+use Rattle.legs.specs.Boxes.{box_over, everything}
+use Rattle.legs.specs.Book.{Book, feature_of}
+use Rattle.legs.specs.Costs.{ShapeView, RisesBy, RisesAtMost, search_cost, track_cost, track_in_bound}
+use Rattle.predicates.specs.Near.{box_near}
+use Rattle.legs.specs.Index.{HasRisen}
+use Rattle.legs.specs.Asking.{IsLater as IsLaterIndex, Leaves as IndexLeaves}
+use Rattle.legs.specs.declared.listed.Listed.{Ghosts}
+use Rattle.querylang.specs.Line.{line_of}
+use Rattle.querylang.specs.declared.LineCode.{LineCode}
+use Rattle.querylang.specs.declared.Command.{Command}
+use Rattle.querylang.specs.declared.Command.TheVariants.{Load, Count, Box, Legs, Features, Trajectory, Write}
+use Rattle.trajdb.specs.Files.{file_named}
+use Rattle.trajdb.specs.Database.{CoreView, IsSound}
+use Rattle.trajdb.specs.Faults.{IsInside}
+use Rattle.trajdb.specs.declared.LoadFault.{LoadFault}
+use Rattle.trajdb.specs.declared.LoadFault.TheVariants.{Refused, Run}
+use Rattle.trajdb.specs.declared.RunFault.{RunFault}
+use Rattle.trajdb.specs.declared.RunFault.TheVariants.{Memory, Store, Damaged, StoreFull, Failed, Output}
+
+-- what a question leaves, answered or not: the book, sound where it was, failed where it was
+pub record Leaves {I : Type 0} (g : Ghosts I) (old new : CoreView I) : Type 0 where
+  pub book : new.book ≡ old.book
+  pub sound : IsSound g old → IsSound g new
+  pub failed : new.failed ≡ old.failed
+  pub limits : new.limits ≡ old.limits
+  pub index : IndexLeaves g old.index new.index
+
+-- the same database, later: its limits are the same, and its index is a later one
+pub record IsLater {I : Type 0} (g : Ghosts I) (old new : CoreView I) : Type 0 where
+  pub limits : new.limits ≡ old.limits
+  pub index : IsLaterIndex g old.index new.index
+
+-- no page as written has changed but page 0, and that one only where the store failed
+pub record IsUnwritten {I : Type 0} (g : Ghosts I) (old new : I) : Type 0 where
+  pub others : drop 1 (g.written new) ≡ drop 1 (g.written old)
+  pub first : (HasRisen (g.faults old) (g.faults new) → ⊥) → g.written new ≡ g.written old
+
+-- what a load leaves of the pages of an index, whatever it answers: page 0 stays marked; where no page was
+-- changed, page 0 is marked, or nothing was written
+pub record LeavesPages {I : Type 0} (g : Ghosts I) (old new : I) : Type 0 where
+  pub marked : g.is_marked old → g.is_marked new
+  pub clean : g.is_clean old → g.is_marked new ⊎ IsUnwritten g old new
+
+-- a fault of a question over a sound database
+abbrev pub IsQuestionFault : RunFault → Type 0
+IsQuestionFault Memory = Unit {0}
+IsQuestionFault Store = Unit {0}
+IsQuestionFault (Damaged page) = ⊥
+IsQuestionFault StoreFull = ⊥
+IsQuestionFault Failed = ⊥
+IsQuestionFault Output = ⊥
+
+-- a fault of a load over a sound database
+abbrev pub IsLoadFault : RunFault → Type 0
+IsLoadFault Memory = Unit {0}
+IsLoadFault Store = Unit {0}
+IsLoadFault (Damaged page) = ⊥
+IsLoadFault StoreFull = Unit {0}
+IsLoadFault Failed = ⊥
+IsLoadFault Output = ⊥
+
+-- a fault by which a store is called upon: its count of faults rose, or it is full
+abbrev pub IsOfStore : {I : Type 0} → Ghosts I → I → I → RunFault → Type 0
+IsOfStore g old new Memory = Unit {0}
+IsOfStore g old new Store = HasRisen (g.faults old) (g.faults new)
+IsOfStore g old new (Damaged page) = Unit {0}
+IsOfStore g old new StoreFull = g.is_store_full new
+IsOfStore g old new Failed = Unit {0}
+IsOfStore g old new Output = ⊥
+
+-- and no store is full at a question
+abbrev pub IsAsked : {I : Type 0} → Ghosts I → I → I → RunFault → Type 0
+IsAsked g old new Memory = Unit {0}
+IsAsked g old new Store = HasRisen (g.faults old) (g.faults new)
+IsAsked g old new (Damaged page) = Unit {0}
+IsAsked g old new StoreFull = ⊥
+IsAsked g old new Failed = Unit {0}
+IsAsked g old new Output = ⊥
+
+-- why a question was not answered
+pub record IsRefused {I : Type 0} (g : Ghosts I) (old new : CoreView I) (fault : RunFault) : Type 0 where
+  pub sound : IsSound g old → IsQuestionFault fault
+  pub store : IsAsked g old.index new.index fault
+
+-- why a call that may load stopped
+pub record IsStopped {I : Type 0} (g : Ghosts I) (old new : CoreView I) (fault : RunFault) : Type 0 where
+  pub sound : IsSound g old → old.failed ≡ false → IsLoadFault fault
+  pub store : IsOfStore g old.index new.index fault
+
+-- why a load was not told
+abbrev pub IsLoadStop : {I : Type 0} → Ghosts I → CoreView I → CoreView I → LoadFault → Type 0
+IsLoadStop g old new (Refused code number) = Unit {0}
+IsLoadStop g old new (Run fault) = IsStopped g old new fault
+
+-- a file was not joined
+abbrev pub IsJoinStop : LoadFault → Type 0
+IsJoinStop (Refused code number) = Unit {0}
+IsJoinStop (Run fault) = fault ≡ Memory
+
+-- why a run stopped
+abbrev pub IsRunStop : {I : Type 0} → Ghosts I → CoreView I → CoreView I → RunFault → Type 0
+IsRunStop g old new Memory = Unit {0}
+IsRunStop g old new Store = HasRisen (g.faults old.index) (g.faults new.index)
+IsRunStop g old new (Damaged page) = IsSound g old → old.failed ≡ false → ⊥
+IsRunStop g old new StoreFull = g.is_store_full new.index
+IsRunStop g old new Failed = IsSound g old → old.failed ≡ false → ⊥
+IsRunStop g old new Output = Unit {0}
+
+-- why a text was not made, of what is there where P holds
+abbrev pub IsText : Type 0 → RunFault → Type 0
+IsText P Memory = Unit {0}
+IsText P Store = ⊥
+IsText P (Damaged page) = P → ⊥
+IsText P StoreFull = ⊥
+IsText P Failed = ⊥
+IsText P Output = ⊥
+
+-- the command is a `load` of a file that is there
+abbrev pub Loads : List (List ℕ × List ℕ) → Command → Type 0
+Loads files (Load name) = IsTrue (is_some (file_named files name))
+Loads files Count = ⊥
+Loads files (Box rect period) = ⊥
+Loads files (Legs predicate rect period) = ⊥
+Loads files (Features predicate rect period) = ⊥
+Loads files (Trajectory name) = ⊥
+Loads files Write = ⊥
+
+abbrev pub LoadsIn : List (List ℕ × List ℕ) → Result (Option Command) LineCode → Type 0
+LoadsIn files (Ok (Some command)) = Loads files command
+LoadsIn files (Ok None) = ⊥
+LoadsIn files (Err code) = ⊥
+
+-- so is the line
+unfoldable pub LoadsBy : List (List ℕ × List ℕ) → List ℕ → Type 0
+LoadsBy files line = LoadsIn files (line_of line)
+
+-- the line is a command, or is refused
+unfoldable pub Speaks : List ℕ → Type 0
+Speaks line = line_of line ≡ Ok None → ⊥
+
+-- how many pages a command asks for
+abbrev pub track_asks : Option ℕ → Option ShapeView → List LegView → ℕ
+track_asks (Some feature) plan legs = track_cost feature plan legs
+track_asks None plan legs = 0
+
+-- the sum of the bounds over features
+abbrev pub features_bound : List ℕ → PeriodView → Option ShapeView → List LegView → ℕ
+features_bound features period plan legs = sum_by (λ bound. bound) (map (λ feature. track_in_bound feature period plan legs) features)
+
+-- `write` searches everything, where there is a head
+abbrev pub write_asks : Option Head → Option ShapeView → List LegView → ℕ
+write_asks None plan legs = 0
+write_asks (Some head) plan legs = search_cost everything plan legs
+
+-- what a command adds to the count of pages asked for, over a book
+abbrev pub AsksFor : Book → Option ShapeView → Command → ℕ → ℕ → Type 0
+AsksFor book plan (Load name) old new = Unit {0}
+AsksFor book plan Count old new = new ≡ old
+AsksFor book plan (Box rect period) old new = RisesBy old new (search_cost (box_over rect period) plan book.legs)
+AsksFor book plan (Legs predicate rect period) old new = RisesBy old new (search_cost (box_near predicate rect period) plan book.legs)
+AsksFor book plan (Features predicate rect period) old new = RisesAtMost old new (features_bound (range_with_len 0 (length book.names)) period plan book.legs)
+AsksFor book plan (Trajectory name) old new = RisesBy old new (track_asks (feature_of book.names name) plan book.legs)
+AsksFor book plan Write old new = RisesBy old new (write_asks book.head plan book.legs)
+
+-- of a sound database a question asked for that many pages
+abbrev pub Asks : {I : Type 0} → Ghosts I → CoreView I → CoreView I → (Option ShapeView → List LegView → ℕ) → Type 0
+Asks g old new cost = IsSound g old → RisesBy (g.asked old.index) (g.asked new.index) (cost (g.plan old.index) old.book.legs)
+
+-- and for at most that many
+abbrev pub AsksAtMost : {I : Type 0} → Ghosts I → CoreView I → CoreView I → (Option ShapeView → List LegView → ℕ) → Type 0
+AsksAtMost g old new bound = IsSound g old → RisesAtMost (g.asked old.index) (g.asked new.index) (bound (g.plan old.index) old.book.legs)
+
+-- what a command over a sound database asked for
+abbrev pub AsksIn : {I : Type 0} → Ghosts I → CoreView I → CoreView I → Command → Type 0
+AsksIn g old new command = IsSound g old → AsksFor old.book (g.plan old.index) command (g.asked old.index) (g.asked new.index)
