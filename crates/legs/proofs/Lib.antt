@@ -10,3 +10,4 @@ pub mod AcceptLemmas
 pub mod MomentLemmas
 pub mod GrowLemmas
 pub mod LawLemmas
+pub mod OverLemmas

@@ -16,6 +16,7 @@ use crate::tracks::Tracks;
 use indexmap::IndexMap;
 use mfcsv::Record;
 use std::alloc::{AllocError, Global};
+use std::hash::RandomState;
 use timebase::Ms;
 
 /// The number of a feature, and the end of its last leg.
@@ -30,7 +31,7 @@ pub(crate) struct Latest {
 #[derive(Drop)]
 pub(crate) struct Draft<'a> {
     tracks: &'a Tracks,
-    latest: IndexMap<&'a str, Latest>,
+    latest: IndexMap<&'a str, Latest, RandomState>,
     features: u64,
     legs: u64,
     rows: u64,
@@ -100,7 +101,7 @@ impl<'a> Draft<'a> {
     {
         Draft {
             tracks,
-            latest: IndexMap::new(alloc),
+            latest: IndexMap::with_hasher(alloc, tracks.keys()),
             features: tracks.feature_count(),
             legs: tracks.leg_count(),
             rows: tracks.row_count(),

@@ -4,6 +4,8 @@ use super::*;
 use fixedpoint::Coord;
 use mfcsv::{File, Position, read_file};
 use std::alloc::Global;
+use std::hash::RandomState;
+use std::test::Fail;
 use timebase::{Ms, Period};
 
 /// A file whose three records have five legs of two features.
@@ -64,9 +66,9 @@ fn are_legs(legs: &[Leg], facts: &[Facts]) -> bool {
 /// A check that answers `None` where memory runs out. Where one allocation fails, the answer is there when
 /// it is asked again.
 macro_rules! assert_holds {
-    ($rt:ident, $check:ident) => {
-        let answer = match $check($rt.alloc()) {
-            None => $check($rt.alloc()),
+    ($rt:ident, $check:ident $(, $keys:ident)?) => {
+        let answer = match $check($rt.alloc() $(, $keys)?) {
+            None => $check($rt.alloc() $(, $keys)?),
             answer => answer,
         };
         assert_eq!($rt; answer, Some(true));
@@ -83,16 +85,18 @@ fn joined(alloc: Global, tracks: &Tracks, file: &File) -> Option<Vec<Leg>> {
     join(alloc, None, tracks, &limits, file).ok()
 }
 
-fn joins(alloc: Global) -> Option<bool> {
+fn joins(alloc: Global, keys: RandomState) -> Option<bool> {
     let file = read(alloc, FILE)?;
-    let tracks = Tracks::new(alloc).ok()?;
+    let tracks = Tracks::new(alloc, keys).ok()?;
     let legs = joined(alloc, &tracks, &file)?;
     Some(are_legs(legs.as_slice(), &LEGS))
 }
 
 #[test]
-fn a_file_is_joined(rt: HostRuntime) {
-    assert_holds!(rt, joins);
+fn a_file_is_joined(rt: HostRuntime) -> Result<(), Fail> {
+    let keys = RandomState::new(&rt)?;
+    assert_holds!(rt, joins, keys);
+    Ok(())
 }
 
 /// A file whose last record starts a millisecond before the first one of its feature ends.
@@ -104,9 +108,9 @@ l,0,1,0 0
 k,9.999,20,0 0
 ";
 
-fn goes_back(alloc: Global) -> Option<bool> {
+fn goes_back(alloc: Global, keys: RandomState) -> Option<bool> {
     let file = read(alloc, BACK)?;
-    let tracks = Tracks::new(alloc).ok()?;
+    let tracks = Tracks::new(alloc, keys).ok()?;
     match join(alloc, None, &tracks, &Limits::new(5, 2)?, &file) {
         Err(JoinFault::Refused { code, number }) => Some((code, number) == (JoinCode::F18, 5)),
         Err(JoinFault::Memory) => None,
@@ -115,14 +119,16 @@ fn goes_back(alloc: Global) -> Option<bool> {
 }
 
 #[test]
-fn an_earlier_record_of_the_file_counts(rt: HostRuntime) {
-    assert_holds!(rt, goes_back);
+fn an_earlier_record_of_the_file_counts(rt: HostRuntime) -> Result<(), Fail> {
+    let keys = RandomState::new(&rt)?;
+    assert_holds!(rt, goes_back, keys);
+    Ok(())
 }
 
 /// The tracks of the book that the file makes.
-fn accepted(alloc: Global) -> Option<Tracks> {
+fn accepted(alloc: Global, keys: RandomState) -> Option<Tracks> {
     let file = read(alloc, FILE)?;
-    let mut tracks = Tracks::new(alloc).ok()?;
+    let mut tracks = Tracks::new(alloc, keys).ok()?;
     let legs = joined(alloc, &tracks, &file)?;
     tracks.accept(&file, legs.as_slice()).ok()?;
     Some(tracks)
@@ -135,8 +141,8 @@ fn is_track(track: Option<Track>, end: i64, legs: u64) -> bool {
     }
 }
 
-fn accepts(alloc: Global) -> Option<bool> {
-    let tracks = accepted(alloc)?;
+fn accepts(alloc: Global, keys: RandomState) -> Option<bool> {
+    let tracks = accepted(alloc, keys)?;
     let numbers = (
         tracks.feature_count(),
         tracks.leg_count(),
@@ -154,8 +160,10 @@ fn accepts(alloc: Global) -> Option<bool> {
 }
 
 #[test]
-fn a_file_is_accepted(rt: HostRuntime) {
-    assert_holds!(rt, accepts);
+fn a_file_is_accepted(rt: HostRuntime) -> Result<(), Fail> {
+    let keys = RandomState::new(&rt)?;
+    assert_holds!(rt, accepts, keys);
+    Ok(())
 }
 
 fn is_step(step: &Step, times: (i64, i64), from: i64, to: i64) -> bool {

@@ -8,8 +8,9 @@ use crate::leg::Leg;
 use indexmap::IndexSet;
 use mfcsv::{File, Record};
 use std::alloc::{AllocError, Global};
+use std::hash::RandomState;
 use std::marker::Model;
-use timebase::Ms;
+use timebase::{Ms, Period};
 
 /// The end of a feature's last leg, and the number of its legs.
 #[derive(Clone, Copy, PartialEq, Eq, Debug)]
@@ -23,7 +24,8 @@ pub struct Track {
 #[derive(Drop)]
 pub struct Tracks {
     alloc: Global,
-    names: IndexSet<String>,
+    keys: RandomState,
+    names: IndexSet<String, RandomState>,
     tracks: Vec<Track>,
     legs: u64,
     rows: u64,
@@ -55,7 +57,11 @@ fn count(tracks: &mut [Track], legs: &[Leg])
 }
 
 /// Adds a name, and says whether it was new.
-fn insert_name(names: &mut IndexSet<String>, alloc: Global, name: &str) -> Result<bool, AllocError>
+fn insert_name(
+    names: &mut IndexSet<String, RandomState>,
+    alloc: Global,
+    name: &str,
+) -> Result<bool, AllocError>
     ensures names { OnOk result (map string_bytes names.new.keys ≡ names_with (map string_bytes names.old.keys) name.now) }
     ensures count { IfOk result (λ new. length names.new.keys ≡ length names.old.keys + (if new then 1 else 0)) }
     ensures err { OnErr result (names.new.keys ≡ names.old.keys) }
@@ -69,25 +75,34 @@ fn insert_name(names: &mut IndexSet<String>, alloc: Global, name: &str) -> Resul
 }
 
 impl Tracks {
-    ghost use Rattle.std.specs.Prelude.{ℕ, ◌≡◌, ◌≤◌, ◌<◌, ◌^◌, ◌++◌, ◌∷◌, [], Ok, length, map, fold, slice_get, OnOk, OnErr, IfOk, AllPairs};
+    ghost use Rattle.std.specs.Prelude.{ℕ, ◌≡◌, ◌≤◌, ◌<◌, ◌^◌, ◌++◌, ◌∷◌, [], Ok, length, map, fold, slice_get, OnOk, OnErr, IfOk, IsTrue, All};
     ghost use Rattle.std.specs.Option.{option_copied, option_map};
     ghost use Rattle.legs.specs.Limits.{LimitsView, IsLimits};
     ghost use Rattle.legs.specs.Book.{Book, empty_book, feature_of, joined, with_file, names_with};
     ghost use Rattle.legs.specs.Tracks.{StandsFor};
     ghost use Rattle.legs.specs.Law.{IsBook};
+    ghost use Rattle.legs.specs.Legs.{IsLeg};
+    ghost use Rattle.legs.specs.Index.{live_legs_of};
     ghost use Rattle.legs.specs.Counting.{AddsNames, Extends};
 
-    /// The tracks of a book without legs.
-    pub fn new(alloc: Global) -> Result<Tracks, AllocError>
+    /// The tracks of a book without legs. Names are hashed with the keys, which a stranger who chooses the names
+    /// of a file is not to know.
+    pub fn new(alloc: Global, keys: RandomState) -> Result<Tracks, AllocError>
         ensures { IfOk result (λ tracks. StandsFor tracks empty_book) }
     {
         Ok(Tracks {
             alloc,
-            names: IndexSet::new(alloc),
+            keys,
+            names: IndexSet::with_hasher(alloc, keys),
             tracks: Vec::new(alloc),
             legs: 0,
             rows: 0,
         })
+    }
+
+    /// The keys with which names are hashed.
+    pub fn keys(&self) -> RandomState {
+        self.keys
     }
 
     /// How many features there are.
@@ -136,6 +151,19 @@ impl Tracks {
         ensures paired { length self.now.tracks ≡ length self.now.names }
     {
         self.tracks.get(feature as usize).copied()
+    }
+
+    /// Whether the last leg of the feature of that number ends before a period, so that none of its legs has a
+    /// moment in it.
+    pub fn is_over(&self, feature: u32, period: &Period) -> bool
+        ensures { IsTrue result → (limits : LimitsView) (book : Book) → StandsFor self.now book
+            → IsBook limits book → All IsLeg book.legs
+            → live_legs_of feature period.now book.legs ≡ [] }
+    {
+        match self.track(feature) {
+            Some(track) => track.end < period.start(),
+            None => false,
+        }
     }
 
     /// Takes a file into the tracks, with the legs by which `join` joined it: they then stand for the book with

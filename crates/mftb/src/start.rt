@@ -11,7 +11,9 @@ use clap::error::ErrorKind;
 use legs::Limits;
 use std::alloc::Global;
 use std::fs::File;
+use std::hash::RandomState;
 use std::io::{Read, Write};
+use std::random::RandomSource;
 use std::{io, mem, rt};
 use trajdb::{Db, Files, RunFault};
 
@@ -56,6 +58,7 @@ fn read_files<'a, R: rt::Files + AllocGlobal>(
 /// Runs the script over an empty database.
 fn answer<'a, W: Write>(
     alloc: Global,
+    keys: RandomState,
     script: &[u8],
     files: &Files,
     out: &mut W,
@@ -64,7 +67,7 @@ fn answer<'a, W: Write>(
     ensures { OnOk result ((book : Book) × HasRun (limits_of 16777216 1048576) files.now (W.contents out.old) (W.contents out.new) empty_book book (lines_of script.now)) }
 {
     let limits = Limits::new(MOST_LEGS, MOST_FEATURES).unwrap();
-    let mut database = Db::create(alloc, limits)?;
+    let mut database = Db::create(alloc, keys, limits)?;
     database.run(alloc, script, files, out)?;
     // The program ends here: its memory goes back whole, and not piece by piece.
     mem::forget(database);
@@ -72,20 +75,23 @@ fn answer<'a, W: Write>(
 }
 
 /// Reads all that is named, and then runs the script.
-fn run<'a, R: rt::Files + AllocGlobal, W: Write>(
+fn run<'a, R: rt::Files + AllocGlobal + RandomSource, W: Write>(
     rt: &R,
     run: &Run<'a>,
     out: &mut W,
 ) -> Result<(), Fault<'a>> {
     let script = read_named(rt, run.script)?;
     let files = read_files(rt, &run.files)?;
-    answer(rt.alloc(), &script, &files, out)
+    let Ok(keys) = RandomState::new(rt) else {
+        return Err(Fault::Run(RunFault::Memory));
+    };
+    answer(rt.alloc(), keys, &script, &files, out)
 }
 
 /// Runs the program, and answers its exit status: 0, or 2 for wrong words, or 1 for any other fault.
 ///
 /// `words` has the program's name first. Answers and help go to `out`, faults to `faults`.
-pub fn start<R: rt::Files + AllocGlobal, W: Write, V: Write>(
+pub fn start<R: rt::Files + AllocGlobal + RandomSource, W: Write, V: Write>(
     rt: &R,
     words: &[String],
     out: &mut W,

@@ -13,6 +13,7 @@ use legs::{JoinFault, Leg, Limits, Tracks, join};
 use mfcsv::{File, FileFault, Head, Values, read_file};
 use querylang::{Command, LineFault, parse_line};
 use std::alloc::{AllocError, Global};
+use std::hash::RandomState;
 use std::io::Write;
 use std::marker::Model;
 
@@ -46,8 +47,14 @@ impl<I: Start> Core<I> {
     ghost use Rattle.legs.specs.Book.{empty_book};
     ghost use Rattle.trajdb.specs.Database.{IsSound};
 
-    /// A database without files over an index without legs.
-    pub fn new(alloc: Global, index: I, limits: Limits) -> Result<Core<I>, (I, AllocError)>
+    /// A database without files over an index without legs. Names are hashed with the keys, which a stranger
+    /// who chooses the names of a file is not to know.
+    pub fn new(
+        alloc: Global,
+        keys: RandomState,
+        index: I,
+        limits: Limits,
+    ) -> Result<Core<I>, (I, AllocError)>
         ensures book { IfOk result (λ core. I.content index ≡ [] → core.book ≡ empty_book) }
         ensures sound { IfOk result (λ core. I.is_sound index → I.content index ≡ []
             → IsSound I.Listed core) }
@@ -57,7 +64,7 @@ impl<I: Start> Core<I> {
         ensures refused { IfErr result (λ back. back.0 ≡ index) }
     {
         prove!(limits.legs() > 0);
-        match Tracks::new(alloc) {
+        match Tracks::new(alloc, keys) {
             Ok(tracks) => Ok(Core {
                 index,
                 head: None,
@@ -141,7 +148,7 @@ impl<I: Start> Core<I> {
         let counts = Counts {
             records: records.len() as u64,
             legs: legs.len() as u64,
-            features: count_names(alloc, records).map_err(RunFault::from)?,
+            features: count_names(alloc, self.tracks.keys(), records).map_err(RunFault::from)?,
         };
         self.take(file, legs.as_slice())?;
         Ok(counts)

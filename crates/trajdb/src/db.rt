@@ -7,6 +7,7 @@ use crate::{Counts, LoadFault, RunFault};
 use legs::{Limits, ListIndex, Listed};
 use querylang::Command;
 use std::alloc::{AllocError, Global};
+use std::hash::RandomState;
 use std::io::Write;
 use std::marker::Model;
 
@@ -37,15 +38,16 @@ impl Db {
     ghost use Rattle.trajdb.specs.declared.RunFault.{RunFault};
     ghost use Rattle.trajdb.specs.declared.LoadFault.{LoadFault};
 
-    /// A new database, with no file accepted.
-    pub fn create(alloc: Global, limits: Limits) -> Result<Db, AllocError>
+    /// A new database, with no file accepted. Names are hashed with the keys, which a stranger who chooses the
+    /// names of a file is not to know.
+    pub fn create(alloc: Global, keys: RandomState, limits: Limits) -> Result<Db, AllocError>
         ensures sound { IfOk result IsSound }
         ensures book { IfOk result (λ db. db.book ≡ empty_book) }
         ensures limits { IfOk result (λ db. db.limits ≡ limits) }
         ensures lives { IfOk result (λ db. db.failed ≡ false) }
         ensures quoted { IfOk result (IsSoundCore ⟦<ListIndex as Listed>⟧) }
     {
-        match Core::new(alloc, ListIndex::new(alloc), limits) {
+        match Core::new(alloc, keys, ListIndex::new(alloc), limits) {
             Ok(core) => Ok(Db { core }),
             Err((_, memory)) => Err(memory),
         }

@@ -7,6 +7,7 @@ ghost use Rattle.legs.specs.Book.{head_with};
 use indexmap::IndexSet;
 use mfcsv::{Head, Record, Records, Values};
 use std::alloc::{AllocError, Global};
+use std::hash::RandomState;
 
 /// Keeps the head of the first accepted file.
 pub(crate) fn keep_head(first: &mut Option<Head>, head: Head)
@@ -29,10 +30,14 @@ pub(crate) fn push_rows(rows: &mut Vec<Values>, records: Records) -> Result<(), 
 }
 
 /// How many distinct names records have.
-pub(crate) fn count_names(alloc: Global, records: &[Record]) -> Result<u64, AllocError>
+pub(crate) fn count_names(
+    alloc: Global,
+    keys: RandomState,
+    records: &[Record],
+) -> Result<u64, AllocError>
     ensures { IfOk result (λ count. count ≡ length (names_after [] records.now)) }
 {
-    let mut names = IndexSet::new(alloc);
+    let mut names = IndexSet::with_hasher(alloc, keys);
     for entry in records {
         names.insert(entry.mfidref.as_str())?;
     }

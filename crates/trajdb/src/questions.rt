@@ -39,7 +39,7 @@ impl<I: Start> Core<I> {
     ghost use Rattle.std.specs.Prelude.{◌≡◌, ◌++◌, ◌↔◌, ◌≤◌, ◌<◌, ◌+◌, All, IsTrue, IfOk, IfErr, OnOk, Ok, Some, false, true, length, map, sum_by};
     ghost use Rattle.std.specs.List.{range_with_len};
     ghost use Rattle.legs.specs.Boxes.{box_over, everything};
-    ghost use Rattle.legs.specs.Index.{legs_in_box, legs_of};
+    ghost use Rattle.legs.specs.Index.{legs_in_box, legs_of, live_legs_of};
     ghost use Rattle.legs.specs.Limits.{most};
     ghost use Rattle.legs.specs.Book.{feature_of};
     ghost use Rattle.trajdb.specs.Picks.{Picks};
@@ -147,9 +147,31 @@ impl<I: Start> Core<I> {
         Ok(holding(alloc, near.as_slice(), predicate, rect, period)?)
     }
 
+    /// The legs of a feature that have a moment in a period. Nothing is asked for a feature whose last leg ends
+    /// before the period.
+    fn live_legs(
+        &mut self,
+        alloc: Global,
+        feature: u32,
+        period: &Period,
+    ) -> Result<Vec<Leg>, RunFault>
+        ensures found { IfOk result (λ legs. IsSound I.Listed self.old
+            → legs.items ≡ live_legs_of feature period.now self.old.book.legs) }
+        ensures asks { OnOk result (AsksAtMost I.Listed self.old self.new
+            (track_in_bound feature period.now)) }
+        ensures leaves { Leaves I.Listed self.old self.new }
+        ensures refused { IfErr result (IsRefused I.Listed self.old self.new) }
+    {
+        if self.tracks.is_over(feature, period) {
+            return Ok(Vec::new(alloc));
+        }
+        Ok(self.index.track_in(feature, period)?)
+    }
+
     /// Whether a predicate holds for the whole list of legs of a feature.
     fn holds_for(
         &mut self,
+        alloc: Global,
         feature: u32,
         predicate: Predicate,
         rect: &Rect,
@@ -163,7 +185,7 @@ impl<I: Start> Core<I> {
         ensures leaves { Leaves I.Listed self.old self.new }
         ensures refused { IfErr result (IsRefused I.Listed self.old self.new) }
     {
-        let legs = self.index.track_in(feature, period)?;
+        let legs = self.live_legs(alloc, feature, period)?;
         Ok(holds(predicate, legs.as_slice(), rect, period))
     }
 
@@ -192,7 +214,7 @@ impl<I: Start> Core<I> {
     {
         let mut features = Vec::new(alloc);
         for feature in 0..self.feature_count() {
-            if self.holds_for(feature, predicate, rect, period)? {
+            if self.holds_for(alloc, feature, predicate, rect, period)? {
                 features.push(feature)?;
             }
         }

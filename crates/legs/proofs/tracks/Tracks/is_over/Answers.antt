@@ -1,0 +1,20 @@
+use Rattle.std.proofs.Common.{◌≡◌, ◌∙◌, ◌<◌, ◌<ℤ◌, ap, sym, length, List, Option, Some, arith, IsTrue, true}
+use Rattle.std.proofs.lemmas.Int.{ints}
+use Rattle.std.proofs.lemmas.Option.{slice_get_within, get_or_from_slice_get}
+use Rattle.timebase.specs.Period.{PeriodView}
+use Rattle.legs.specs.Index.{last_end}
+use Rattle.legs.specs.declared.tracks.Track.{Track}
+use Rattle.legs.proofs.OverLemmas.{over_is}
+use Rattle.legs.proofs.tracks.Tracks.is_over.Goals as goal
+
+pub returns-in-Some : goal.returns-in-Some
+returns-in-Some c = λ over limits book stands law lawful.
+    let tracks : List Track = c.args.self.now.tracks in
+    let found = sym c.in-Some.ensures.value in
+    let within : c.args.feature < length book.names = omega (arith, slice_get_within tracks c.args.feature c.in-Some.track found, stands.paired) in
+    let here = get_or_from_slice_get tracks c.args.feature c.in-Some.track c.in-Some.track found in
+    let last : last_end c.args.feature book.legs ≡ Some c.in-Some.track.end = (stands.each c.args.feature c.in-Some.track within).end ∙ ap (λ (t : Track). Some t.end) here in
+    let test = sym c.lt.ensures ∙ over in
+    let start = c.start.ensures.value in
+    let less : c.in-Some.track.end <ℤ c.start.result = grind (arith, ints) in
+    over_is c.args.feature c.in-Some.track.end c.args.period.now book.legs lawful law.ordered.in_turn last (omega (arith, ints, less, start))
