@@ -2,7 +2,7 @@
 use Rattle.std.proofs.Common.{[], drop, nat_le, Ok, ◌∷◌, ◌++◌, map, ℕ, zero, suc, ◌+◌, ◌<◌, ◌≤◌, ◌≡◌, ◌∙◌, ◌⊎◌, ap, sym, refl, List, Bool, length, true, false, ◌==◌, ◌||◌, ◌&&◌, cond, arith, inl, inr, Option, Some, None, unwrap_or}
 use Rattle.std.proofs.lemmas.Bool.Decides.{nat_tests}
 use Rattle.csv.specs.Machine.{Read, after_end, ends_at_end, field_after, fields_after, in_field, is_end, next_record, start_field, start_record, step}
-use Rattle.csv.specs.Reading.{ExplainsRead, NextIs, Ready, ReadRecord, Reached, ReadsNext, TookRecord, default_config, is_bom, pending_of, records_from, records_next, source_of, strip_bom, took_first}
+use Rattle.csv.specs.Reading.{ExplainsRead, NextIs, Ready, ReadRecord, is_flexible, Reached, ReadsNext, TookRecord, default_config, is_bom, pending_of, records_from, records_next, source_of, strip_bom, took_first}
 use Rattle.csv.specs.Records.{AllText, Row as CsvRow, fields_of}
 use Rattle.csv.specs.declared.error.ErrorKind.{ErrorKind}
 use Rattle.csv.specs.declared.error.ErrorKind.TheVariants as kind
@@ -13,7 +13,7 @@ use Rattle.csv.specs.declared.parser.State.TheVariants as st
 use Rattle.csv.specs.declared.reader.Trim.TheVariants as trim
 use Rattle.csv.proofs.ReadFacts.{rows-end, rows-more}
 use Rattle.mfcsv.specs.Rows.{Row, cut, has_mark, rows_of, without_marks}
-use Rattle.mfcsv.specs.Unread.{FailsAt, IsBetweenRows, MeetsNoText, ReadsRow, fault_of, Source, TakesRow, bytes_left, cells, rows_left}
+use Rattle.mfcsv.specs.Unread.{FailsAt, IsBetweenRows, MayFail, MeetsNoText, ReadsRow, fault_of, Source, TakesRow, bytes_left, cells, rows_left}
 use Rattle.mfcsv.proofs.TextLemmas.{all-cut, not_all-cut}
 use denote.Ref.{Bor}
 
@@ -144,9 +144,9 @@ rows_left-next : (reader : Source) (p : Read) → ends_at_end reader.state ≡ f
 rows_left-next reader p between e = rows_left-is reader reader.state (bytes_left reader) refl refl ∙ ap cut_rows (records_from-next reader.state (bytes_left reader) p between e)
 
 -- a record was read
-takes_row : (old new : Source) (row : CsvRow) → IsBetweenRows old → ReadRecord known old new true (fields_of row) → took_first new ≡ true → AllText (fields_of row) → TakesRow old new (cells row)
+takes_row : (old new : Source) (row : CsvRow) → IsBetweenRows old → ReadRecord known old new true (fields_of row) → took_first new ≡ true → is_flexible new ≡ is_flexible old → AllText (fields_of row) → TakesRow old new (cells row)
 unfolding Reached
-takes_row old new row is r first text =
+takes_row old new row is r first same text =
     let m = rows-more known old new (fields_of row) default_config old.state (bytes_left old) (bytes_left old) [] is.config is.source (refl, refl) r in
     let p : Read = m.2.0 in
     let next : next_record default_config old.state [] [] (bytes_left old) ≡ Some p = m.2.1 in
@@ -157,6 +157,7 @@ takes_row old new row is r first text =
       goes_on = record {
         config = r.2 ∙ is.config;
         trim = r.3 ∙ is.trim;
+        flexible = same ∙ is.flexible;
         ready = inl first;
         source = m.1 ∙ ap Some (sym (left-of new m.0 m.1));
         between = ap ends_at_end state ∙ q.0;
@@ -172,9 +173,9 @@ no_row : (old new : Source) (fields : List (List ℕ)) → IsBetweenRows old →
 no_row old new fields is r =
     rows_left-is old old.state (bytes_left old) refl refl ∙ ap cut_rows (records_from-none old.state (bytes_left old) (rows-end known old new fields default_config (bytes_left old) is.config is.source r))
 
-pub reads_row : (old new : Source) (row : CsvRow) (found : Bool) → IsBetweenRows old → ReadRecord known old new found (fields_of row) → took_first new ≡ true → AllText (fields_of row) → ReadsRow (Ok found) old new row
-reads_row old new row true is r first text = takes_row old new row is r first text
-reads_row old new row false is r first text = no_row old new (fields_of row) is r
+pub reads_row : (old new : Source) (row : CsvRow) (found : Bool) → IsBetweenRows old → ReadRecord known old new found (fields_of row) → took_first new ≡ true → is_flexible new ≡ is_flexible old → AllText (fields_of row) → ReadsRow (Ok found) old new row
+reads_row old new row true is r first same text = takes_row old new row is r first same text
+reads_row old new row false is r first same text = no_row old new (fields_of row) is r
 
 -- a record that is no text is the next
 first-read : (o : Option Read) (fields : List (List ℕ)) (s : State) (z : List ℕ) → NextIs o true fields s z → (p : Read) × (o ≡ Some p) × (fields ≡ p.0)
@@ -195,6 +196,15 @@ meets_no_text : (old new : Source) (fields : List (List ℕ)) → IsBetweenRows 
 meets_no_text old new fields is r none =
     let n = next-read old.state new.state (bytes_left old) (pending_of (known new.rdr) new) fields (rw (is.config, is.source) at r) in
     no_text-next old n.0 fields is n.1 n.2 none
+
+-- records of any length are taken, so an error is one of text or of memory
+pub may_fail : (old new : Source) (k : ErrorKind) → IsBetweenRows old → ExplainsRead known old new true k → MayFail k
+may_fail old new (kind.Utf8 pos err) is e = tt
+may_fail old new (kind.Io x) is e = tt
+may_fail old new (kind.UnequalLengths pos expected len) is e = absurd (let s : true ≡ false = sym is.flexible ∙ e.0 in cc)
+may_fail old new kind.OutOfMemory is e = tt
+may_fail old new (kind.Serialize text) is e = absurd e
+may_fail old new (kind.Deserialize pos err) is e = absurd e
 
 pub fails_at : (old new : Source) (k : ErrorKind) → IsBetweenRows old → ExplainsRead known old new true k → FailsAt (fault_of k) (rows_left old)
 fails_at old new (kind.Utf8 pos err) is e = (refl, meets_no_text old new e.1 is e.2 e.3)
@@ -243,13 +253,14 @@ length-without_marks (a ∷ b ∷ c ∷ rest) = by (is_bom a b c) (length-withou
     by false h = omega arith
 
 -- a reader at the start of a text
-pub starts : (reader : Source) (bytes : List ℕ) → reader.config ≡ default_config → reader.trim ≡ trim.None → Ready reader → source_of known reader ≡ Some (strip_bom (without_marks bytes)) → reader.state ≡ st.StartRecord
+pub starts : (reader : Source) (bytes : List ℕ) → reader.config ≡ default_config → reader.trim ≡ trim.None → is_flexible reader ≡ true → Ready reader → source_of known reader ≡ Some (strip_bom (without_marks bytes)) → reader.state ≡ st.StartRecord
     → IsBetweenRows reader × (rows_left reader ≡ rows_of bytes) × (length (bytes_left reader) ≤ length bytes)
-starts reader bytes config trim ready source state =
+starts reader bytes config trim flexible ready source state =
     let left : bytes_left reader ≡ without_marks bytes = left-of reader (strip_bom (without_marks bytes)) source ∙ strip_bom-without_marks bytes in (
       record {
         config = config;
         trim = trim;
+        flexible = flexible;
         ready = ready;
         source = source ∙ ap Some (sym (left-of reader (strip_bom (without_marks bytes)) source));
         between = ap ends_at_end state;

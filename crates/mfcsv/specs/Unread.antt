@@ -3,7 +3,7 @@ use Rattle.std.specs.Prelude.{◌≡◌, ◌+◌, ◌∷◌, ◌<◌, ℕ, Bool,
 use Rattle.std.specs.List.{list_all}
 use Rattle.std.specs.Str.{is_utf8}
 use Rattle.csv.specs.Machine.{ends_at_end}
-use Rattle.csv.specs.Reading.{Ready, default_config, reader_config, reader_state, reader_trim, records_from, source_of}
+use Rattle.csv.specs.Reading.{Ready, default_config, is_flexible, reader_config, reader_state, reader_trim, records_from, source_of}
 use Rattle.csv.specs.Records.{Row as CsvRow, fields_of}
 use Rattle.csv.specs.declared.error.ErrorKind.{ErrorKind}
 use Rattle.csv.specs.declared.error.ErrorKind.TheVariants as kind
@@ -31,10 +31,11 @@ bytes_left reader = unwrap_or (source_of (λ s. Some s.now) reader) []
 unfoldable pub rows_left : Source → List Row
 rows_left reader = map (map cut) (records_from default_config (length (bytes_left reader) + 1) (reader_state reader) (bytes_left reader))
 
--- a reader that stands between two records, and whose bytes are known
+-- a reader that stands between two records, whose bytes are known, and that takes records of any length
 pub record IsBetweenRows (reader : Source) : Type 0 where
   pub config : reader_config reader ≡ default_config
   pub trim : reader_trim reader ≡ trim.None
+  pub flexible : is_flexible reader ≡ true
   pub ready : Ready reader
   pub source : source_of (λ s. Some s.now) reader ≡ Some (bytes_left reader)
   pub between : ends_at_end (reader_state reader) ≡ false
@@ -54,7 +55,16 @@ abbrev pub FailsAt : RowFault → List Row → Type 0
 FailsAt (Refused code) rows = (code ≡ F1) × MeetsNoText rows
 FailsAt Memory rows = Unit {0}
 
--- the fault that an error of the reader is: of text, or of memory (the bytes are in memory)
+-- an error that may come: of text, or of memory (the bytes are in memory, so nothing else fails)
+abbrev pub MayFail : ErrorKind → Type 0
+MayFail (kind.Utf8 pos err) = Unit {0}
+MayFail (kind.Io e) = Unit {0}
+MayFail (kind.UnequalLengths pos expected len) = ⊥
+MayFail kind.OutOfMemory = Unit {0}
+MayFail (kind.Serialize text) = ⊥
+MayFail (kind.Deserialize pos err) = ⊥
+
+-- the fault that such an error is
 abbrev pub fault_of : ErrorKind → RowFault
 fault_of (kind.Utf8 pos err) = Refused F1
 fault_of (kind.Io e) = Memory

@@ -13,7 +13,7 @@ use crate::{Code, Column, Columns, Text};
 use csv::StringRecord;
 use std::alloc::{AllocError, Global};
 use std::marker::Model;
-use timebase::{Ms, read_instant};
+use timebase::{Ms, TimeFault, read_instant};
 
 /// What kind of line a record is.
 #[derive(Clone, Copy, PartialEq, Eq, Debug)]
@@ -105,7 +105,10 @@ fn read_bounds(alloc: Global, number: u64, row: &StringRecord) -> Result<Bounds,
     }
     let start = match read_instant(field_at(row, 5)) {
         Ok(start) => start,
-        Err(_) => return Err(RowFault::Refused(Code::F5)),
+        Err(TimeFault::Memory) => return Err(RowFault::Memory),
+        Err(TimeFault::Unreadable | TimeFault::OutOfRange) => {
+            return Err(RowFault::Refused(Code::F5));
+        }
     };
     if !is_unit(field_at(row, 7)) {
         return Err(RowFault::Refused(Code::F6));

@@ -2,7 +2,7 @@
 ghost use Rattle.std.specs.Prelude.{◌≡◌, ◌≤◌, map, length};
 ghost use Rattle.std.specs.List.{prefix_len, suffix_len};
 ghost use Rattle.mfcsv.specs.Rows.{cut, field, has_mark, is_blank, rows_of, same_word, without_marks, is_empty};
-ghost use Rattle.mfcsv.specs.Unread.{IsBetweenRows, ReadsRow, bytes_left, cells, fault_of, rows_left};
+ghost use Rattle.mfcsv.specs.Unread.{IsBetweenRows, MayFail, ReadsRow, bytes_left, cells, fault_of, rows_left};
 ghost use Rattle.csv.specs.Reading.{error_kind};
 ghost use Rattle.std.specs.Prelude.{IfOk};
 
@@ -69,11 +69,15 @@ pub(crate) fn read_rows(alloc: Global, bytes: &[u8]) -> Reader<&[u8]>
 /// The fault that an error of the reader is. The bytes are in memory, so but for a field that is no
 /// text it is want of memory.
 fn fault_of(error: Error) -> RowFault
+    requires { MayFail (error_kind error) }
     ensures { result ≡ fault_of (error_kind error) }
 {
     match error.into_kind() {
         ErrorKind::Utf8 { .. } => RowFault::Refused(Code::F1),
-        _ => RowFault::Memory,
+        ErrorKind::Io(_) | ErrorKind::OutOfMemory => RowFault::Memory,
+        ErrorKind::UnequalLengths { .. }
+        | ErrorKind::Serialize(_)
+        | ErrorKind::Deserialize { .. } => unreachable!(),
     }
 }
 

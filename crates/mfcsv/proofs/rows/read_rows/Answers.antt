@@ -8,7 +8,8 @@ returns c =
     let fr = c.from_reader.ensures in
     let trim = rw (c.flexible.ensures, c.has_headers.ensures) at fr.trim in
     let config = rw (c.flexible.ensures, c.has_headers.ensures) at fr.config in
+    let flexible = rw c.flexible.ensures at fr.flexible in
     let named = rw (c.flexible.ensures, c.has_headers.ensures) at fr.has_headers in
-    let is = starts c.from_reader.result c.args.bytes.now (config ∙ c.new.ensures.config) (trim ∙ c.new.ensures.trim) (inr (inr (named, fr.headers)))
+    let is = starts c.from_reader.result c.args.bytes.now (config ∙ c.new.ensures.config) (trim ∙ c.new.ensures.trim) flexible (inr (inr (named, fr.headers)))
     (fr.source ∙ ap (λ bytes. Some (strip_bom bytes)) c.without_marks.ensures) fr.state in
     record { between = is.0; rows = is.1; within = is.2 }
