@@ -3,12 +3,12 @@ use Rattle.std.proofs.Common.{ℕ, ◌≤◌, ℤ, pos, negsuc, ◌+ℤ◌, ◌-
 use Rattle.std.proofs.lemmas.Int.{ints, by_lt_z, int_max_is, int_min_is}
 use Rattle.std.specs.Int.{int_max, int_min}
 use Rattle.timebase.specs.Period.{PeriodView}
-use Rattle.legs.specs.Legs.{LegView, IsMomentOf}
+use Rattle.legs.specs.Legs.{LegView, IsMomentOf, HasMoment}
 use Rattle.legs.specs.Boxes.{RectView}
 use Rattle.clipping.proofs.Products.{products, difference_times_is}
 use Rattle.clipping.proofs.Fractions.{scale, scale_strictly, cancel}
 use Rattle.clipping.specs.Line.{Keeps, IsWithin, IsAcross}
-use Rattle.clipping.specs.Inside.{IsInside, IsMomentInside, HasMoment}
+use Rattle.clipping.specs.Inside.{IsInside, IsMomentInside}
 use Rattle.clipping.specs.Clip.{Clips, IsClip}
 use Rattle.clipping.specs.declared.line.Cut.{Cut}
 

@@ -1,8 +1,7 @@
 -- When a leg is inside a rectangle: at fractions n / d of a millisecond, whole numbers with d above 0.
 use Rattle.std.specs.Prelude.{ℕ, if◌then◌else◌, Option, Some, None, ℤ, pos, ◌+ℤ◌, ◌-ℤ◌, ◌*ℤ◌, ◌≤ℤ◌}
-use Rattle.std.specs.Int.{int_max, int_min}
 use Rattle.timebase.specs.Period.{PeriodView}
-use Rattle.legs.specs.Legs.{LegView, IsMomentOf, is_live}
+use Rattle.legs.specs.Legs.{LegView, IsMomentOf, first_moment, is_live, last_moment}
 use Rattle.legs.specs.Boxes.{RectView}
 
 -- the duration of a leg
@@ -25,14 +24,10 @@ pub record IsMomentInside (leg : LegView) (rect : RectView) (period : PeriodView
   pub moment : IsMomentOf leg period n d
   pub inside : IsInside leg rect n d
 
--- the leg has a moment in the period
-abbrev pub HasMoment : LegView → PeriodView → Type 0
-HasMoment leg period = (n : ℤ) × (d : ℕ) × IsMomentOf leg period n d
-
 -- the leg has a moment in the period at which it is inside
 abbrev pub HasMomentInside : LegView → RectView → PeriodView → Type 0
 HasMomentInside leg rect period = (n : ℤ) × (d : ℕ) × IsMomentInside leg rect period n d
 
 -- the least and the greatest moment of a leg in a period, where it has one
 abbrev pub live_ends : LegView → PeriodView → Option (ℤ × ℤ)
-live_ends leg period = if is_live period leg then Some (int_max leg.t0 period.start, int_min leg.t1 period.end) else None
+live_ends leg period = if is_live period leg then Some (first_moment leg period, last_moment leg period) else None

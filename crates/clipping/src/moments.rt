@@ -1,7 +1,7 @@
 //! The moments of a leg in a period, and those of them at which it is inside a rectangle.
 ghost use Rattle.std.specs.Prelude.{◌≡◌, ◌↔◌, IsSome};
-ghost use Rattle.std.specs.Int.{int_max, int_min};
-ghost use Rattle.clipping.specs.Inside.{live_ends, HasMoment};
+ghost use Rattle.legs.specs.Legs.{HasMoment, first_moment, last_moment};
+ghost use Rattle.clipping.specs.Inside.{live_ends};
 ghost use Rattle.clipping.specs.Clip.{Clips};
 
 use crate::line::Cut;
@@ -10,8 +10,8 @@ use timebase::{Ms, Period};
 
 /// The later of two starts, and the earlier of two ends: those of a leg and of a period.
 fn ends(leg: &Leg, period: &Period) -> (Ms, Ms)
-    ensures start { result.0 ≡ int_max leg.now.t0 period.now.start }
-    ensures end { result.1 ≡ int_min leg.now.t1 period.now.end }
+    ensures start { result.0 ≡ first_moment leg.now period.now }
+    ensures end { result.1 ≡ last_moment leg.now period.now }
 {
     (leg.t0.max(period.start()), leg.t1.min(period.end()))
 }

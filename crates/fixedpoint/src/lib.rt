@@ -17,6 +17,9 @@ pub use std::alloc::AllocError as Memory;
 use std::marker::Model;
 use thiserror::Error;
 
+/// The greatest magnitude of a coordinate in units of 10^-7, and of an offset in milliseconds.
+pub const MOST_UNITS: u64 = 1_000_000_000_000_000;
+
 /// Why a text is not a coordinate or an offset.
 #[derive(Clone, Copy, PartialEq, Eq, Debug, Error)]
 pub enum NumberFault {
@@ -54,7 +57,7 @@ impl Coord {
     pub fn new(units: i64) -> Option<Coord>
         ensures { result ≡ units_within units }
     {
-        if units.unsigned_abs() > reading::MOST {
+        if units.unsigned_abs() > MOST_UNITS {
             return None;
         }
         Some(Coord { units })
@@ -95,7 +98,7 @@ impl Offset {
     pub fn new(millis: i64) -> Option<Offset>
         ensures { result ≡ units_within millis }
     {
-        if millis.unsigned_abs() > reading::MOST {
+        if millis.unsigned_abs() > MOST_UNITS {
             return None;
         }
         Some(Offset { millis })

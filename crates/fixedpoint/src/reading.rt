@@ -7,13 +7,10 @@ ghost use Rattle.fixedpoint.specs.Number.{magnitude, most, number_of, is_point, 
 ghost use Rattle.fixedpoint.specs.Laws.{IsNearest};
 ghost use Rattle.fixedpoint.specs.Steps.{AreParts, IsMagnitude, IsRefused, point_tail};
 
-use crate::NumberFault;
-
-/// The greatest number of units of a coordinate and of an offset.
-pub(crate) const MOST: u64 = 1_000_000_000_000_000;
+use crate::{MOST_UNITS, NumberFault};
 
 /// Where counting stops: from here on a number is out of range, whatever digits follow.
-const CAP: u64 = MOST + 1;
+const CAP: u64 = MOST_UNITS + 1;
 
 /// The longest number text, in bytes.
 const LONGEST: usize = 40;
@@ -89,7 +86,7 @@ fn cut_at_point(text: &[u8]) -> Option<Parts<'_>>
     }
 }
 
-/// How many units of 10^-places an unsigned text writes, rounded; more than `MOST` where that is
+/// How many units of 10^-places an unsigned text writes, rounded; more than `MOST_UNITS` where that is
 /// out of range.
 fn read_magnitude(text: &[u8], places: usize) -> Result<u64, NumberFault>
     requires { places ≤ 7 }
@@ -152,7 +149,7 @@ pub(crate) fn read_number(text: &str, places: usize) -> Result<i64, NumberFault>
     }
     let (negative, unsigned) = without_sign(bytes);
     let magnitude = read_magnitude(unsigned, places)?;
-    if magnitude > MOST {
+    if magnitude > MOST_UNITS {
         return Err(NumberFault::Range);
     }
     Ok(with_sign(negative, magnitude))

@@ -80,11 +80,18 @@ abbrev pub leg_of : ℕ → ℕ → ℕ → StepView → LegView
 leg_of ordinal feature row step =
     record { ordinal = ordinal; feature = feature; t0 = step.t0; t1 = step.t1; x0 = step.x0; y0 = step.y0; x1 = step.x1; y1 = step.y1; row = row }
 
+-- the least and the greatest moment of a leg in a period, where it has one
+abbrev pub first_moment : LegView → PeriodView → ℤ
+first_moment leg period = int_max leg.t0 period.start
+
+abbrev pub last_moment : LegView → PeriodView → ℤ
+last_moment leg period = int_min leg.t1 period.end
+
 -- the fraction n / d is a moment of the leg in the period
 pub record IsMomentOf (leg : LegView) (period : PeriodView) (n : ℤ) (d : ℕ) : Type 0 where
   pub divisor : 1 ≤ d
-  pub from : (int_max leg.t0 period.start *ℤ pos d) ≤ℤ n
-  pub to : n ≤ℤ (int_min leg.t1 period.end *ℤ pos d)
+  pub from : (first_moment leg period *ℤ pos d) ≤ℤ n
+  pub to : n ≤ℤ (last_moment leg period *ℤ pos d)
 
 -- the leg has a moment in the period
 abbrev pub HasMoment : LegView → PeriodView → Type 0
@@ -92,4 +99,4 @@ HasMoment leg period = (n : ℤ) × (d : ℕ) × IsMomentOf leg period n d
 
 -- which is so exactly where the later start is not after the earlier end
 abbrev pub is_live : PeriodView → LegView → Bool
-is_live period leg = int_le (int_max leg.t0 period.start) (int_min leg.t1 period.end)
+is_live period leg = int_le (first_moment leg period) (last_moment leg period)

@@ -2,7 +2,7 @@
 ghost use Rattle.std.specs.Prelude.{◌≡◌, ◌<ℤ◌, ◌↔◌, IsSome, IfSome, IsTrue};
 ghost use Rattle.fixedpoint.specs.Number.{IsInRange};
 
-use fixedpoint::Coord;
+use fixedpoint::{Coord, MOST_UNITS};
 use mfcsv::Position;
 use std::marker::Model;
 use timebase::{Ms, Period};
@@ -93,9 +93,6 @@ impl Model for Step {
 
     ghost inverse = { λ v. record { t0 = v.t0; t1 = v.t1; x0 = v.x0; y0 = v.y0; x1 = v.x1; y1 = v.y1 } };
 }
-
-/// The greatest magnitude of a coordinate.
-const MOST_UNITS: u64 = 1_000_000_000_000_000;
 
 fn is_in_range(coord: Coord) -> bool
     ensures yes { IsTrue result }

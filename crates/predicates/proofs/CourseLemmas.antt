@@ -7,12 +7,12 @@ use Rattle.std.specs.Option.{option_or, IsSomeAnd}
 use Rattle.std.proofs.lemmas.List.Elements.{All-append}
 use Rattle.std.proofs.lemmas.List.Folds.{find-append, Any-from_list_any, list_any-from_Any}
 use Rattle.timebase.specs.Period.{PeriodView}
-use Rattle.legs.specs.Legs.{LegView, HasMoment, is_live}
+use Rattle.legs.specs.Legs.{LegView, HasMoment, is_live, first_moment, last_moment}
 use Rattle.legs.specs.Boxes.{RectView}
 use Rattle.clipping.specs.Inside.{IsInside, HasMomentInside, live_ends}
 use Rattle.clipping.specs.Clip.{Clips}
 use Rattle.clipping.specs.declared.line.Cut.{Cut}
-use Rattle.predicates.specs.Predicates.{HasAMoment, IsEver, IsThroughout, IsAllInside, IsInsideAtFirst, IsInsideAtLast, first_moment, last_moment}
+use Rattle.predicates.specs.Predicates.{HasAMoment, IsEver, IsThroughout, IsAllInside, IsInsideAtFirst, IsInsideAtLast}
 use Rattle.predicates.specs.Courses.{IsCourse}
 use Rattle.predicates.specs.declared.courses.Course.{Course}
 use Rattle.predicates.proofs.LegLemmas.{live_of_moment, first_is, last_is, inside_between}

@@ -5,10 +5,10 @@ use Rattle.std.specs.List.{filter}
 use Rattle.std.specs.Option.{IsSomeAnd}
 use Rattle.std.proofs.lemmas.List.Elements.{All-filter}
 use Rattle.timebase.specs.Period.{PeriodView}
-use Rattle.legs.specs.Legs.{LegView, IsLeg, HasMoment, is_live}
+use Rattle.legs.specs.Legs.{LegView, IsLeg, HasMoment, is_live, first_moment, last_moment}
 use Rattle.legs.specs.Boxes.{RectView, box_of, box_over, boxes_meet}
 use Rattle.clipping.specs.Inside.{IsInside, HasMomentInside}
-use Rattle.predicates.specs.Predicates.{Holds, HasAMoment, IsEver, IsThroughout, IsAllInside, IsInsideAtFirst, IsInsideAtLast, first_moment, last_moment}
+use Rattle.predicates.specs.Predicates.{Holds, HasAMoment, IsEver, IsThroughout, IsAllInside, IsInsideAtFirst, IsInsideAtLast}
 use Rattle.predicates.specs.declared.Predicate.{Predicate}
 use Rattle.predicates.specs.declared.Predicate.TheVariants.{Ever, Always, Enters, Leaves, Crosses, Bypasses}
 use Rattle.predicates.proofs.LegLemmas.{live_of_moment, first_is, last_is, box_meets}

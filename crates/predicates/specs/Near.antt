@@ -1,5 +1,6 @@
 -- Where the legs are of which a predicate holds.
 use Rattle.std.specs.Prelude.{ℤ, pos, neg_ℤ}
+use Rattle.fixedpoint.specs.Number.{most as most_units}
 use Rattle.timebase.specs.Period.{PeriodView}
 use Rattle.legs.specs.Boxes.{RectView, BoxView, box_over}
 use Rattle.predicates.specs.declared.Predicate.{Predicate}
@@ -7,7 +8,7 @@ use Rattle.predicates.specs.declared.Predicate.TheVariants.{Ever, Always, Enters
 
 -- the greatest coordinate
 abbrev pub most : ℤ
-most = pos 1000000000000000
+most = pos most_units
 
 -- the box over a period, of all x and y
 abbrev pub plane_over : PeriodView → BoxView

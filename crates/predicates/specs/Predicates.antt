@@ -1,8 +1,7 @@
 -- What holds for the legs of a feature, a rectangle and a period. All moments are fractions n / d of a millisecond.
 use Rattle.std.specs.Prelude.{ℕ, List, reverse, Option, All, Any, find, IsSomeAnd, ℤ}
-use Rattle.std.specs.Int.{int_max, int_min}
 use Rattle.timebase.specs.Period.{PeriodView}
-use Rattle.legs.specs.Legs.{LegView, IsMomentOf, HasMoment, is_live}
+use Rattle.legs.specs.Legs.{LegView, IsMomentOf, HasMoment, first_moment, is_live, last_moment}
 use Rattle.legs.specs.Boxes.{RectView}
 use Rattle.clipping.specs.Inside.{IsInside, HasMomentInside}
 use Rattle.predicates.specs.declared.Predicate.{Predicate}
@@ -15,13 +14,6 @@ first_live period legs = find (is_live period) legs
 -- the last leg of a list that has one
 abbrev pub last_live : PeriodView → List LegView → Option LegView
 last_live period legs = find (is_live period) (reverse legs)
-
--- the least and the greatest moment of a leg in the period, where it has one
-abbrev pub first_moment : LegView → PeriodView → ℤ
-first_moment leg period = int_max leg.t0 period.start
-
-abbrev pub last_moment : LegView → PeriodView → ℤ
-last_moment leg period = int_min leg.t1 period.end
 
 -- there is a moment
 unfoldable pub HasAMoment : List LegView → PeriodView → Type 0

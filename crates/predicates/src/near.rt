@@ -6,22 +6,23 @@ ghost use Rattle.predicates.specs.Predicates.{Holds};
 ghost use Rattle.predicates.specs.Near.{box_near, plane_over};
 
 use crate::Predicate;
+use fixedpoint::MOST_UNITS;
 use legs::{Box3, Rect};
 use timebase::Period;
 
-/// The greatest magnitude of a coordinate, in units of 10^-7.
-const MOST_UNITS: i64 = 1_000_000_000_000_000;
+/// The greatest coordinate, in units of 10^-7.
+const MOST: i64 = MOST_UNITS as i64;
 
 /// The box over a period, of all x and y.
 fn plane_over(period: &Period) -> Box3
     ensures { result ≡ plane_over period.now }
 {
     Box3 {
-        x_min: -MOST_UNITS,
-        y_min: -MOST_UNITS,
+        x_min: -MOST,
+        y_min: -MOST,
         t_min: period.start().millis(),
-        x_max: MOST_UNITS,
-        y_max: MOST_UNITS,
+        x_max: MOST,
+        y_max: MOST,
         t_max: period.end().millis(),
     }
 }

@@ -42,8 +42,8 @@ impl LineCode {
     ghost use Rattle.std.specs.Prelude.{◌≡◌};
     ghost use Rattle.querylang.specs.CodeText.{code_text};
 
-    /// The code as it is printed.
-    fn as_str(self) -> &'static str
+    /// The code as it is printed, as `Q1`.
+    pub fn as_str(self) -> &'static str
         ensures { result.now ≡ code_text self }
     {
         match self {

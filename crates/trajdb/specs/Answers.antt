@@ -14,6 +14,7 @@ use Rattle.legs.specs.Book.{Book, joined, book_after, feature_of}
 use Rattle.legs.specs.Counting.{names_after}
 use Rattle.legs.specs.declared.joining.JoinCode.{JoinCode}
 use Rattle.querylang.specs.Line.{line_of}
+use Rattle.querylang.specs.CodeText.{code_text}
 use Rattle.querylang.specs.declared.LineCode.{LineCode}
 use Rattle.querylang.specs.declared.Command.{Command}
 use Rattle.querylang.specs.declared.Command.TheVariants.{Load, Count, Box, Legs, Features, Trajectory, Write}
@@ -23,7 +24,7 @@ use Rattle.writer.specs.Entries.{EntryView}
 use Rattle.writer.specs.File.{entries_text, features_text, file_text as written_text}
 use Rattle.trajdb.specs.Picks.{Picks}
 use Rattle.trajdb.specs.Files.{file_named}
-use Rattle.trajdb.specs.Codes.{file_code, line_code}
+use Rattle.trajdb.specs.Codes.{file_code}
 use Rattle.trajdb.specs.declared.Counts.{Counts}
 use Rattle.trajdb.specs.declared.FileCode.{FileCode}
 use Rattle.trajdb.specs.declared.FileCode.TheVariants.{Text, Join}
@@ -156,7 +157,7 @@ book_then limits files book Write = book
 abbrev pub IsSaid : LimitsView → List (List ℕ × List ℕ) → Book → Result (Option Command) LineCode → List ℕ → Type 0
 IsSaid limits files book (Ok (Some command)) text = IsAnswer limits files book command text
 IsSaid limits files book (Ok None) text = text ≡ []
-IsSaid limits files book (Err code) text = text ≡ refusal_text (line_code code)
+IsSaid limits files book (Err code) text = text ≡ refusal_text (code_text code)
 
 abbrev pub said_book : LimitsView → List (List ℕ × List ℕ) → Book → Result (Option Command) LineCode → Book
 said_book limits files book (Ok (Some command)) = book_then limits files book command

@@ -4,7 +4,6 @@ ghost use Rattle.legs.specs.Book.{Book};
 ghost use Rattle.trajdb.specs.Answers.{ok_text, refusal_text, counts_text, load_text};
 ghost use Rattle.trajdb.specs.Codes.{file_code};
 
-use crate::codes::file_code;
 use crate::{Counts, FileCode};
 use itoa::Buffer;
 use std::alloc::{AllocError, Global};
@@ -45,7 +44,7 @@ pub(crate) fn file_refusal_text(
     ensures { IfOk result (λ text. text.items ≡ load_text (Err (code, number))) }
 {
     let mut text = Vec::from_slice(alloc, b"refused ")?;
-    text.extend_from_slice(file_code(code).as_bytes())?;
+    text.extend_from_slice(code.as_str().as_bytes())?;
     text.extend_from_slice(b" at ")?;
     push_number(&mut text, number)?;
     text.push(b'\n')?;

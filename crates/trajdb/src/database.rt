@@ -2,7 +2,6 @@
 ghost use Rattle.std.specs.Prelude.{◌≡◌, [], IfOk};
 
 use crate::answer::{count_text, counts_text, file_refusal_text, ok_text, refusal_text};
-use crate::codes::line_code;
 use crate::files::Files;
 use crate::load::{count_names, keep_head, push_rows};
 use crate::output::send;
@@ -34,11 +33,11 @@ impl<I: Start> Model for Core<I> {
     ghost Value = { CoreView I };
 
     ghost view = { λ a. record {
-        index = a.index;
-        tracks = a.tracks;
-        book = record { head = a.head; names = a.tracks.names; legs = I.content a.index; rows = a.rows.items };
-        limits = a.limits;
-        failed = a.failed
+      index = a.index;
+      tracks = a.tracks;
+      book = record { head = a.head; names = a.tracks.names; legs = I.content a.index; rows = a.rows.items };
+      limits = a.limits;
+      failed = a.failed;
     } };
 }
 
@@ -338,7 +337,7 @@ impl<I: Start> Core<I> {
         match parse_line(alloc, line) {
             Ok(Some(command)) => self.command(alloc, &command, files),
             Ok(None) => Ok(Vec::new(alloc)),
-            Err(LineFault::Refused(code)) => Ok(refusal_text(alloc, line_code(code))?),
+            Err(LineFault::Refused(code)) => Ok(refusal_text(alloc, code.as_str())?),
             Err(LineFault::Memory) => Err(RunFault::Memory),
         }
     }
@@ -399,7 +398,7 @@ impl<I: Start> Core<I> {
         // What was sent is exactly the text of the run, and the book is the one after it.
         ensures ok { OnOk result (IsSound I.Listed self.old
             → Runs files.now (W.contents out.old) (W.contents out.new)
-                self.old self.new (lines_of script.now)) }
+            self.old self.new (lines_of script.now)) }
         ensures sound { OnOk result (IsSound I.Listed self.old → IsSound I.Listed self.new) }
         ensures lives { OnOk result (self.new.failed ≡ false) }
 

@@ -121,7 +121,7 @@ impl Db {
         // What was sent is exactly the text of the run, and the book is the one after it.
         ensures ok { OnOk result (IsSound self.old
             → Runs files.now (W.contents out.old) (W.contents out.new)
-                self.old self.new (lines_of script.now)) }
+            self.old self.new (lines_of script.now)) }
         ensures sound { OnOk result (IsSound self.old → IsSound self.new) }
         ensures lives { OnOk result (self.new.failed ≡ false) }
 

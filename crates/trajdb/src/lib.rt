@@ -4,7 +4,6 @@
 ghost use Rattle.std.specs.Prelude.{◌≡◌};
 
 mod answer;
-mod codes;
 mod database;
 mod db;
 mod files;
@@ -17,9 +16,9 @@ mod start;
 pub use database::Core;
 pub use db::Db;
 pub use files::Files;
-pub use start::Start;
 use legs::{IndexFault, JoinCode};
 use mfcsv::Code;
+pub use start::Start;
 use std::alloc::{AllocError, AllocFailed};
 use thiserror::Error;
 
@@ -30,6 +29,21 @@ pub enum FileCode {
     Text(Code),
     /// A fault of joining.
     Join(JoinCode),
+}
+
+impl FileCode {
+    ghost use Rattle.std.specs.Prelude.{◌≡◌};
+    ghost use Rattle.trajdb.specs.Codes.{file_code};
+
+    /// The code as it is printed, as `F18`.
+    pub fn as_str(self) -> &'static str
+        ensures { result.now ≡ file_code self }
+    {
+        match self {
+            FileCode::Text(code) => code.as_str(),
+            FileCode::Join(code) => code.as_str(),
+        }
+    }
 }
 
 /// What an accepted file added.

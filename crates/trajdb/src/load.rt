@@ -21,7 +21,7 @@ pub(crate) fn keep_head(first: &mut Option<Head>, head: Head)
 /// Keeps the attribute values of each record.
 pub(crate) fn push_rows(rows: &mut Vec<Values>, records: Records) -> Result<(), AllocError>
     ensures { OnOk result (rows.new.items ≡ rows.old.items ++ map (λ
-            (r : RecordView). r.attributes) records) }
+        (r : RecordView). r.attributes) records) }
 {
     for entry in records.into_vec() {
         rows.push(entry.attributes)?;

@@ -24,7 +24,7 @@ fn holding(
     period: &Period,
 ) -> Result<Vec<Leg>, AllocError>
     ensures { IfOk result (λ picked. Picks
-            (HoldsOfLeg predicate rect.now period.now) legs.now picked.items) }
+        (HoldsOfLeg predicate rect.now period.now) legs.now picked.items) }
 {
     let mut picked = Vec::new(alloc);
     for leg in legs {

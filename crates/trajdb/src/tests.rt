@@ -1,8 +1,11 @@
 //! Worked scripts over worked files.
 use super::*;
 use legs::{Limits, ListIndex};
+use querylang::Command;
 use std::alloc::Global;
+use std::hash::RandomState;
 use std::process::Abort;
+use std::random::RandomSource;
 use std::test::Fail;
 
 /// The example of the standard.
@@ -21,7 +24,7 @@ const CUT: &str = "\
 @columns,mfidref,trajectory,state,xsd:token,\"type code\",xsd:integer
 a,10,150,11.0 2.0 12.0 3.0,walking,1
 b,10,190,10.0 2.0 11.0 3.0,walking,2
-a,150";
+a,150,1";
 
 /// Both header lines of the files below, and then these lines.
 macro_rules! headed {
@@ -74,13 +77,17 @@ macro_rules! quoted {
 }
 
 /// The files of most scripts below.
-const FILES: [(&str, &str); 20] = [
+const FILES: [(&str, &str); 21] = [
+    (
+        "no columns",
+        "@stboundedby,urn:x-ogc:def:crs:EPSG:6.6:4326,2D,0 0,0 0,2020-01-01T00:00:00Z,2020-01-02T00:00:00Z,sec\n@columns,mfidref,trajectory\n",
+    ),
     ("S1.csv", STANDARD),
     ("cut.csv", CUT),
     ("quick", headed!("q,0,0.002,0 0 1 1 2 2 3 3\n")),
     ("slow", headed!("q,0,0.003,0 0 1 1 2 2 3 3\n")),
     ("uneven", headed!("u,0,0.005,0 0 1 1 2 2 3 3\n")),
-    ("still", headed!("s,0,1,5 6\n")),
+    ("still", headed!("s,0,5,7 8\n")),
     (
         "jump and gap",
         headed!("j,0,1,0 0 1 1\nj,1,2,5 5 6 6\nj,4,5,6 6 7 7\n"),
@@ -112,35 +119,85 @@ const FILES: [(&str, &str); 20] = [
     ("quoted", quoted!("")),
 ];
 
-/// What a script answers on a new database.
-fn run_once(alloc: Global, limits: Limits, script: &[u8]) -> Result<Vec<u8>, RunFault> {
+fn named_files(alloc: Global) -> Result<Files, RunFault> {
     let mut files = Files::new(alloc);
     for (name, text) in FILES {
         files.add(name, Vec::from_slice(alloc, text.as_bytes())?)?;
     }
-    let mut core = Core::new(alloc, ListIndex::new(alloc), limits).map_err(|fault| RunFault::from(
-        fault.1,
-    ))?;
+    Ok(files)
+}
+
+/// What a script answers on a new database.
+fn run_once(
+    alloc: Global,
+    keys: RandomState,
+    limits: Limits,
+    script: &[u8],
+) -> Result<Vec<u8>, RunFault> {
+    let files = named_files(alloc)?;
+    let mut db = Db::create(alloc, keys, limits)?;
+    let mut out = Vec::new(alloc);
+    db.run(alloc, script, &files, &mut out)?;
+    Ok(out)
+}
+
+/// The same over an index that keeps a list.
+fn run_listed(
+    alloc: Global,
+    keys: RandomState,
+    limits: Limits,
+    script: &[u8],
+) -> Result<Vec<u8>, RunFault> {
+    let files = named_files(alloc)?;
+    let index = ListIndex::new(alloc);
+    let mut core = Core::new(alloc, keys, index, limits).map_err(|fault| RunFault::from(fault.1))?;
     let mut out = Vec::new(alloc);
     core.run(alloc, script, &files, &mut out)?;
     Ok(out)
 }
 
-/// The same; where one allocation fails the answer may be want of memory, or of room for the output,
-/// and asked again it is there.
-fn run(alloc: Global, limits: Limits, script: &[u8]) -> Result<Vec<u8>, RunFault> {
-    match run_once(alloc, limits, script) {
-        Err(_) => run_once(alloc, limits, script),
+/// What a script answers on a new database, the same of both kinds. Where one allocation fails the answer may be
+/// want of memory, or of room for the output, and asked again it is there.
+fn run(
+    alloc: Global,
+    keys: RandomState,
+    limits: Limits,
+    script: &[u8],
+) -> Result<(Vec<u8>, Vec<u8>), RunFault> {
+    let of_db = match run_once(alloc, keys, limits, script) {
+        Err(_) => run_once(alloc, keys, limits, script),
         answer => answer,
+    };
+    let of_core = match run_listed(alloc, keys, limits, script) {
+        Err(_) => run_listed(alloc, keys, limits, script),
+        answer => answer,
+    };
+    Ok((of_db?, of_core?))
+}
+
+/// Whether the scripts answer what stands behind them, under these limits.
+fn check_under<R: Abort + AllocGlobal + RandomSource>(
+    rt: &R,
+    limits: Limits,
+    scripts: &[(&[u8], &str)],
+) -> Result<(), Fail> {
+    let keys = RandomState::new(rt)?;
+    for (script, want) in scripts {
+        let got = run(rt.alloc(), keys, limits, script).map_err(|_| "a run")?;
+        assert!(rt; got.0.as_slice() == want.as_bytes(), "{want}");
+        assert!(rt; got.1.as_slice() == want.as_bytes(), "{want}");
     }
+    Ok(())
 }
 
 /// Whether the scripts answer what stands behind them.
-fn check(rt: &impl Abort, alloc: Global, scripts: &[(&str, &str)]) -> Result<(), Fail> {
+fn check<R: Abort + AllocGlobal + RandomSource>(
+    rt: &R,
+    scripts: &[(&str, &str)],
+) -> Result<(), Fail> {
     let limits = Limits::new(1000, 1000).ok_or("limits")?;
     for (script, want) in scripts {
-        let got = run(alloc, limits, script.as_bytes()).map_err(|_| "a run")?;
-        assert!(rt; got.as_slice() == want.as_bytes(), "{script}");
+        check_under(rt, limits, &[(script.as_bytes(), want)])?;
     }
     Ok(())
 }
@@ -149,7 +206,6 @@ fn check(rt: &impl Abort, alloc: Global, scripts: &[(&str, &str)]) -> Result<(),
 fn the_standards_example(rt: HostRuntime) -> Result<(), Fail> {
     check(
         &rt,
-        rt.alloc(),
         &[
             (
                 "# first\nload S1.csv\ncount\nbox 11.5 2.5 13 4 2012-01-17T12:33:41Z 2012-01-17T12:37:00Z\n",
@@ -158,6 +214,10 @@ fn the_standards_example(rt: HostRuntime) -> Result<(), Fail> {
             (
                 "load S1.csv\nload S1.csv\ncount",
                 "ok 1\n4,5,3\nrefused F18 at 3\nok 1\n5,3\n",
+            ),
+            (
+                "load S1.csv\nload heads\nload no columns\n",
+                "ok 1\n4,5,3\nrefused F9 at 1\nrefused F10 at 2\n",
             ),
             ("load cut.csv\ncount\r", "refused F11 at 5\nok 1\n0,0\n"),
             (
@@ -180,7 +240,6 @@ fn the_standards_example(rt: HostRuntime) -> Result<(), Fail> {
 fn lines_are_refused(rt: HostRuntime) -> Result<(), Fail> {
     check(
         &rt,
-        rt.alloc(),
         &[
             ("", ""),
             ("\n \r\n\t# count\n", ""),
@@ -198,6 +257,10 @@ fn lines_are_refused(rt: HostRuntime) -> Result<(), Fail> {
                 "refused Q5\nrefused Q6\nrefused Q7\n",
             ),
             (
+                "box 1 0 0 1 2012-01-17T12:33:41Z 2012-01-17T12:37:00Z\n",
+                "refused Q6\n",
+            ),
+            (
                 "box 0 0 1 1 2020-01-01T00:00:01Z 2020-01-01T00:00:00Z\n",
                 "refused Q8\n",
             ),
@@ -209,16 +272,18 @@ fn lines_are_refused(rt: HostRuntime) -> Result<(), Fail> {
         ],
     )?;
     let limits = Limits::new(1, 1).ok_or("limits")?;
-    let got = run(rt.alloc(), limits, b"\xff\n#\xff\ncount\r").map_err(|_| "a run")?;
-    assert!(rt; got.as_slice() == "refused Q1\nok 1\n0,0\n".as_bytes());
-    Ok(())
+    let script = b"\xff\n#\xff\ncount\r";
+    check_under(
+        &rt,
+        limits,
+        &[(script.as_slice(), "refused Q1\nok 1\n0,0\n")],
+    )
 }
 
 #[test]
 fn legs_are_cut_and_found(rt: HostRuntime) -> Result<(), Fail> {
     check(
         &rt,
-        rt.alloc(),
         &[
             ("load quick\n", "refused F17 at 3\n"),
             (
@@ -231,7 +296,7 @@ fn legs_are_cut_and_found(rt: HostRuntime) -> Result<(), Fail> {
             ),
             (
                 "load still\ntrajectory s\n",
-                "ok 1\n1,1,1\nok 1\ns,0,1,5 6 5 6\n",
+                "ok 1\n1,1,1\nok 1\ns,0,5,7 8 7 8\n",
             ),
             ("load jump and gap\ncount\n", "ok 1\n3,3,1\nok 1\n3,1\n"),
             (
@@ -277,7 +342,7 @@ fn edges_count(rt: HostRuntime) -> Result<(), Fail> {
             1 => "ok 1\n4,4,2\nok 1\ne,2,4,10 10 20 20\n",
             _ => "ok 1\n4,4,2\nok 0\n",
         };
-        check(&rt, rt.alloc(), &[(script.as_str(), want)])?;
+        check(&rt, &[(script.as_str(), want)])?;
     }
     Ok(())
 }
@@ -286,7 +351,6 @@ fn edges_count(rt: HostRuntime) -> Result<(), Fail> {
 fn legs_are_tested_one_by_one(rt: HostRuntime) -> Result<(), Fail> {
     check(
         &rt,
-        rt.alloc(),
         &[
             (
                 asked!("legs ever 11.5 2.5 13 4"),
@@ -341,7 +405,6 @@ fn legs_are_tested_one_by_one(rt: HostRuntime) -> Result<(), Fail> {
 fn features_are_tested_whole(rt: HostRuntime) -> Result<(), Fail> {
     check(
         &rt,
-        rt.alloc(),
         &[
             (
                 asked!("features crosses 11.5 2.5 13 4"),
@@ -388,7 +451,6 @@ fn features_are_tested_whole(rt: HostRuntime) -> Result<(), Fail> {
 fn the_database_is_written(rt: HostRuntime) -> Result<(), Fail> {
     check(
         &rt,
-        rt.alloc(),
         &[
             (
                 "load heads\nwrite\n",
@@ -404,13 +466,46 @@ fn the_database_is_written(rt: HostRuntime) -> Result<(), Fail> {
 #[test]
 fn limits_are_kept(rt: HostRuntime) -> Result<(), Fail> {
     for (legs, features, want) in [
-        (4, 2, "refused F19 at 6\n"),
-        (5, 2, "refused F20 at 6\n"),
-        (5, 3, "ok 1\n4,5,3\n"),
+        (4, 2, "refused F19 at 6\nok 1\n0,0\n"),
+        (5, 2, "refused F20 at 6\nok 1\n0,0\n"),
+        (5, 3, "ok 1\n4,5,3\nok 1\n5,3\n"),
     ] {
         let limits = Limits::new(legs, features).ok_or("limits")?;
-        let got = run(rt.alloc(), limits, b"load S1.csv").map_err(|_| "a run")?;
-        assert!(rt; got.as_slice() == want.as_bytes(), "{want}");
+        check_under(&rt, limits, &[("load S1.csv\ncount".as_bytes(), want)])?;
     }
+    Ok(())
+}
+
+/// What the example adds, and what a database then says of itself; asked again where one allocation fails.
+fn load_and_count(
+    alloc: Global,
+    keys: RandomState,
+    limits: Limits,
+) -> Result<(Counts, Vec<u8>), RunFault> {
+    let files = Files::new(alloc);
+    let mut db = Db::create(alloc, keys, limits)?;
+    match db.load(alloc, STANDARD.as_bytes()) {
+        Ok(counts) => Ok((counts, db.command(alloc, &Command::Count, &files)?)),
+        Err(LoadFault::Run(fault)) => Err(fault),
+        Err(LoadFault::Refused { .. }) => Err(RunFault::Failed),
+    }
+}
+
+#[test]
+fn a_file_is_loaded_and_a_command_answered(rt: HostRuntime) -> Result<(), Fail> {
+    let keys = RandomState::new(&rt)?;
+    let limits = Limits::new(1000, 1000).ok_or("limits")?;
+    let (counts, text) = match load_and_count(rt.alloc(), keys, limits) {
+        Err(RunFault::Memory) => load_and_count(rt.alloc(), keys, limits),
+        answer => answer,
+    }
+    .map_err(|_| "a run")?;
+    let want = Counts {
+        records: 4,
+        legs: 5,
+        features: 3,
+    };
+    assert!(rt; counts == want);
+    assert!(rt; text.as_slice() == b"ok 1\n5,3\n".as_slice());
     Ok(())
 }

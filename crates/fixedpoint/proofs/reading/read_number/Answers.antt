@@ -30,11 +30,11 @@ returns-in_err-magnitude-clause-value c =
     let p = err_from_is_err_and c.from_residual.result c.from_residual.ensures.1 in
     rw (p.1, p.2, is.shape) (sym number)
 
-pub returns-then-magnitude-gt-MOST-clause-value : goal.returns-then-magnitude-gt-MOST-clause-value
-returns-then-magnitude-gt-MOST-clause-value c =
+pub returns-then-magnitude-gt-MOST_UNITS-clause-value : goal.returns-then-magnitude-gt-MOST_UNITS-clause-value
+returns-then-magnitude-gt-MOST_UNITS-clause-value c =
     let is = of_text c.args.places c.args.text.now _ _ _ c.as_bytes-bytes.ensures.value c.without_sign-negative.ensures.rest c.in_ok-magnitude.ensures.value in
     let here = short c.args.text.now _ c.as_bytes-bytes.ensures.value c.if-bytes-gt-LONGEST.false in
-    sym (number_past c.args.places c.args.text.now c.in_ok-magnitude.magnitude here is c.if-magnitude-gt-MOST.true)
+    sym (number_past c.args.places c.args.text.now c.in_ok-magnitude.magnitude here is c.if-magnitude-gt-MOST_UNITS.true)
 
 pub returns-clause-value : goal.returns-clause-value
 returns-clause-value c =
@@ -42,7 +42,7 @@ returns-clause-value c =
     let here = short c.args.text.now _ c.as_bytes-bytes.ensures.value c.if-bytes-gt-LONGEST.false in
     let n : c.without_sign-negative.result.0 ≡ is_negative c.args.text.now = c.without_sign-negative.ensures.negative ∙ ap is_negative c.as_bytes-bytes.ensures.value in
     let fits : FitsSigned w64 c.with_sign.result = search rules in
-    rw (to_z-of_z w64 c.with_sign.result fits, c.with_sign.ensures, n) (sym (number_is c.args.places c.args.text.now c.in_ok-magnitude.magnitude here is c.if-magnitude-gt-MOST.false))
+    rw (to_z-of_z w64 c.with_sign.result fits, c.with_sign.ensures, n) (sym (number_is c.args.places c.args.text.now c.in_ok-magnitude.magnitude here is c.if-magnitude-gt-MOST_UNITS.false))
 
 pub returns-clause-nearest : goal.returns-clause-nearest
 returns-clause-nearest c =
@@ -50,4 +50,4 @@ returns-clause-nearest c =
     let n : c.without_sign-negative.result.0 ≡ is_negative c.args.text.now = c.without_sign-negative.ensures.negative ∙ ap is_negative c.as_bytes-bytes.ensures.value in
     let fits : FitsSigned w64 c.with_sign.result = search rules in
     let same = to_z-of_z w64 c.with_sign.result fits ∙ c.with_sign.ensures ∙ ap (λ b. signed b c.in_ok-magnitude.magnitude) n in
-    subst (λ z. IsNearest c.args.places c.args.text.now z) (sym same) (number_nearest c.args.places c.args.text.now c.in_ok-magnitude.magnitude is c.if-magnitude-gt-MOST.false)
+    subst (λ z. IsNearest c.args.places c.args.text.now z) (sym same) (number_nearest c.args.places c.args.text.now c.in_ok-magnitude.magnitude is c.if-magnitude-gt-MOST_UNITS.false)

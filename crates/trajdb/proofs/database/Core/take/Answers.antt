@@ -13,8 +13,7 @@ returns-clause-taken g c =
     let law = c.in_ok-accept.ensures.law c.self.inside.limits book sound.limits sound.law accepts.0 in
     let ends = c.in_ok-put_legs.ensures.added sound.index accepts.1 in
     let same = with_file-parts c.self.inside.limits book c.args.file c.args.legs.now (g.I.Listed.content c.put_legs.new.index) c.keep_head.new.first c.accept.new.self.names c.push_rows.new.rows.items
-    accepts.0 c.keep_head.ensures tracks.names ends.content c.in_ok-push_rows.ensures in
-    (
+    accepts.0 c.keep_head.ensures tracks.names ends.content c.in_ok-push_rows.ensures in (
       record {
         index = ends.sound;
         limits = sound.limits;
