@@ -29,8 +29,10 @@ fn leading_digits(start: u64, text: &[u8]) -> Digits
     requires { start ≤ CAP }
     ensures count { result.count ≤ length text.now }
     ensures digits { list_all is_ascii_digit (take result.count text.now) ≡ true }
-    ensures stops { result.count < length text.now → is_ascii_digit (slice_index text.now result.count) ≡ false }
-    ensures value { result.value ≡ min CAP (digits_value_after 10 start (take result.count text.now)) }
+    ensures stops { result.count < length text.now
+        → is_ascii_digit (slice_index text.now result.count) ≡ false }
+    ensures value { result.value ≡ min CAP (digits_value_after 10 start
+        (take result.count text.now)) }
 {
     let mut value = start;
     let mut count = 0;
@@ -61,7 +63,8 @@ struct Parts<'a> {
 
 /// What stands behind the whole digits: nothing, or what a point leads in.
 fn behind_point(rest: &[u8]) -> Option<&[u8]>
-    ensures { MatchOption result (point_tail rest.now ≡ None) (λ fraction. point_tail rest.now ≡ Some fraction.now) }
+    ensures { MatchOption result (point_tail rest.now ≡ None) (λ fraction. point_tail rest.now
+        ≡ Some fraction.now) }
 {
     match rest {
         [] => Some(rest),
@@ -72,8 +75,10 @@ fn behind_point(rest: &[u8]) -> Option<&[u8]>
 
 /// Cuts a text at its first point; `None` where something else than a digit stands before it.
 fn cut_at_point(text: &[u8]) -> Option<Parts<'_>>
-    ensures found { IfSome result (λ parts. AreParts text.now parts.whole parts.whole_digits parts.fraction.now) }
-    ensures refused { IfNone result (list_all is_ascii_digit (before_first is_point text.now) ≡ false) }
+    ensures found { IfSome result
+        (λ parts. AreParts text.now parts.whole parts.whole_digits parts.fraction.now) }
+    ensures refused { IfNone result (list_all is_ascii_digit (before_first is_point text.now)
+        ≡ false) }
 {
     let digits = leading_digits(0, text);
     match behind_point(&text[digits.count..]) {

@@ -17,8 +17,7 @@ pub growing-more : {I : Type 0} (g : Ghosts I) (old now new : I) (all left : Lis
 growing-more g old now new all left leg so_far more marks = λ sound turn.
     let at = so_far sound turn in
     let ends = more at.0 (at.1.0, tt) in
-    let content : g.content new ≡ g.content now ++ leg ∷ [] = ends.content in
-    (
+    let content : g.content new ≡ g.content now ++ leg ∷ [] = ends.content in (
       ends.sound,
       subst (λ (ls : List LegView). CanFollowInTurn ls left) (sym content) at.1.1,
       ap (λ (ls : List LegView). ls ++ left) content ∙ append_assoc (g.content now) (leg ∷ []) left ∙ at.2,

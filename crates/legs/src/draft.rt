@@ -77,7 +77,8 @@ fn push_legs(
 ) -> Result<(), AllocError>
     requires { ordinal + leg_count (length «record».now.positions) ≤ 2 ^ 64 }
     ensures { OnOk result (legs.new.items ≡ legs.old.items
-        ++ map (λ k. leg_of (ordinal + k) feature row (step_at «record».now k)) (range_with_len 0 (leg_count (length «record».now.positions)))) }
+        ++ map (λ k. leg_of (ordinal + k) feature row (step_at «record».now k)) (range_with_len 0
+        (leg_count (length «record».now.positions)))) }
 {
     for k in 0..leg_count(record) {
         legs.push(step_at(record, k).numbered(ordinal + k as u64, feature, row))?;
@@ -124,9 +125,11 @@ impl<'a> Draft<'a> {
 
     /// The first fault of a record, of whose name `latest` is known.
     fn fault(&self, limits: &Limits, record: &Record, latest: Option<Latest>) -> Option<JoinCode>
-        ensures first { (book : Book) → IsDraft self.now book → latest ≡ latest_of book «record».now.mfidref
+        ensures first { (book : Book) → IsDraft self.now book
+            → latest ≡ latest_of book «record».now.mfidref
             → result ≡ first_code (faults_of limits.now book «record».now) }
-        ensures few_legs { IfNone result (self.now.legs + leg_count (length «record».now.positions) ≤ most) }
+        ensures few_legs { IfNone result (self.now.legs + leg_count
+            (length «record».now.positions) ≤ most) }
         ensures few_features { IfNone result (self.now.features + new_count latest ≤ most) }
     {
         if starts_before_end(record, latest) {
@@ -153,9 +156,11 @@ impl<'a> Draft<'a> {
         requires few_rows { self.old.rows ≤ self.old.legs }
         requires few_legs { self.old.legs + leg_count (length «record».now.positions) ≤ most }
         requires few_features { self.old.features + new_count latest ≤ most }
-        ensures book { OnOk result ((book : Book) → IsDraft self.old book → latest ≡ latest_of book «record».now.mfidref
+        ensures book { OnOk result ((book : Book) → IsDraft self.old book
+            → latest ≡ latest_of book «record».now.mfidref
             → IsDraft self.new (with_record book «record».now)) }
-        ensures legs { OnOk result ((book : Book) → IsDraft self.old book → latest ≡ latest_of book «record».now.mfidref
+        ensures legs { OnOk result ((book : Book) → IsDraft self.old book
+            → latest ≡ latest_of book «record».now.mfidref
             → legs.new.items ≡ legs.old.items ++ record_legs book «record».now) }
         ensures few_rows { OnOk result (self.new.rows ≤ self.new.legs) }
     {
@@ -183,9 +188,12 @@ impl<'a> Draft<'a> {
         legs: &mut Vec<Leg>,
     ) -> Result<(), JoinFault>
         requires { self.old.rows ≤ self.old.legs }
-        ensures faultless { OnOk result ((book : Book) → IsDraft self.old book → faults_of limits.now book «record».now ≡ []) }
-        ensures book { OnOk result ((book : Book) → IsDraft self.old book → IsDraft self.new (with_record book «record».now)) }
-        ensures legs { OnOk result ((book : Book) → IsDraft self.old book → legs.new.items ≡ legs.old.items ++ record_legs book «record».now) }
+        ensures faultless { OnOk result ((book : Book) → IsDraft self.old book
+            → faults_of limits.now book «record».now ≡ []) }
+        ensures book { OnOk result ((book : Book) → IsDraft self.old book
+            → IsDraft self.new (with_record book «record».now)) }
+        ensures legs { OnOk result ((book : Book) → IsDraft self.old book
+            → legs.new.items ≡ legs.old.items ++ record_legs book «record».now) }
         ensures record { IsRecord «record».now }
         ensures few_rows { OnOk result (self.new.rows ≤ self.new.legs) }
         ensures refused { IfErr result (λ fault. (book : Book) → IsDraft self.old book

@@ -121,7 +121,8 @@ fn same_pairs(first: &[Column], second: &[Column]) -> bool
 /// Compares a file's head with the head of the first accepted file.
 fn check_head(first: Option<&Head>, head: &Head) -> Result<(), JoinFault>
     ensures ok { OnOk result (head_faults (option_copied first.entry) head.now ≡ []) }
-    ensures refused { IfErr result (λ fault. IsFirst fault (head_faults (option_copied first.entry) head.now)) }
+    ensures refused { IfErr result (λ fault. IsFirst fault (head_faults
+        (option_copied first.entry) head.now)) }
 {
     let Some(first) = first else {
         return Ok(());
@@ -156,15 +157,19 @@ pub fn join(
     file: &File,
 ) -> Result<Vec<Leg>, JoinFault>
     // The legs, for the book that the tracks stand for.
-    ensures legs { IfOk result (λ legs. (book : Book) → StandsFor tracks.now book → book.head ≡ option_copied head.entry
+    ensures legs { IfOk result (λ legs. (book : Book) → StandsFor tracks.now book
+        → book.head ≡ option_copied head.entry
         → joined limits.now book file.now ≡ Ok legs.items) }
-    ensures follow { IfOk result (λ legs. (book : Book) → StandsFor tracks.now book → CanFollowInTurn book.legs legs.items) }
+    ensures follow { IfOk result (λ legs. (book : Book) → StandsFor tracks.now book
+        → CanFollowInTurn book.legs legs.items) }
     ensures book_legs { IfOk result (λ legs. (book : Book) → StandsFor tracks.now book
         → (with_file book file.now).legs ≡ book.legs ++ legs.items) }
-    ensures book_rows { OnOk result ((book : Book) → (with_file book file.now).rows ≡ book.rows ++ map (λ r. r.attributes) file.now.records) }
+    ensures book_rows { OnOk result ((book : Book)
+        → (with_file book file.now).rows ≡ book.rows ++ map (λ r. r.attributes) file.now.records) }
 
     // The first fault.
-    ensures refused { IfErr result (λ fault. (book : Book) → StandsFor tracks.now book → book.head ≡ option_copied head.entry
+    ensures refused { IfErr result (λ fault. (book : Book) → StandsFor tracks.now book
+        → book.head ≡ option_copied head.entry
         → IsRefusal fault (joined limits.now book file.now)) }
 {
     check_head(head, &file.head)?;

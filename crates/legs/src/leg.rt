@@ -52,7 +52,8 @@ impl Leg {
         row: u32,
     ) -> Option<Leg>
         ensures some { IsSome result ↔ (t0 <ℤ t1) }
-        ensures value { IfSome result (λ leg. leg ≡ leg_of ordinal feature row (step_between t0 t1 from to)) }
+        ensures value { IfSome result (λ leg. leg
+            ≡ leg_of ordinal feature row (step_between t0 t1 from to)) }
     {
         let step = Step::between(t0, t1, from, to)?;
         Some(step.numbered(ordinal, feature, row))

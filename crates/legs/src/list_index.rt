@@ -38,7 +38,8 @@ fn push_place(
     feature: usize,
     place: usize,
 ) -> Result<(), AllocError>
-    ensures { OnOk result (map (λ row. row.items) places.new.items ≡ places_with (map (λ row. row.items) places.old.items) feature place) }
+    ensures { OnOk result (map (λ row. row.items) places.new.items
+        ≡ places_with (map (λ row. row.items) places.old.items) feature place) }
 {
     if feature < places.len() {
         places[feature].push(place)?;
@@ -72,7 +73,11 @@ impl ListIndex {
     fn put(&mut self, leg: Leg) -> Result<(), AllocError>
         requires spent { self.old.spent ≡ false }
         requires feature { leg.feature ≤ feature_count self.old.legs }
-        ensures ok { OnOk result (self.new ≡ record { legs = self.old.legs ++ leg ∷ []; spent = false }) }
+        ensures ok { OnOk result (self.new ≡ record {
+          legs = self.old.legs
+              ++ leg ∷ [];
+          spent = false;
+        }) }
         ensures err { OnErr result (self.new.spent ≡ true) }
     {
         self.spent = true;

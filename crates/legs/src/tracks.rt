@@ -62,8 +62,10 @@ fn insert_name(
     alloc: Global,
     name: &str,
 ) -> Result<bool, AllocError>
-    ensures names { OnOk result (map string_bytes names.new.keys ≡ names_with (map string_bytes names.old.keys) name.now) }
-    ensures count { IfOk result (λ new. length names.new.keys ≡ length names.old.keys + (if new then 1 else 0)) }
+    ensures names { OnOk result (map string_bytes names.new.keys
+        ≡ names_with (map string_bytes names.old.keys) name.now) }
+    ensures count { IfOk result (λ new. length names.new.keys
+        ≡ length names.old.keys + (if new then 1 else 0)) }
     ensures err { OnErr result (names.new.keys ≡ names.old.keys) }
 {
     if names.contains(name) {
@@ -169,8 +171,10 @@ impl Tracks {
     /// Takes a file into the tracks, with the legs by which `join` joined it: they then stand for the book with
     /// that file. They are as before where memory runs out.
     pub fn accept(&mut self, file: &File, legs: &[Leg]) -> Result<(), AllocError>
-        ensures ok { OnOk result ((limits : LimitsView) (book : Book) → IsLimits limits → StandsFor self.old book
-            → joined limits book file.now ≡ Ok legs.now → StandsFor self.new (with_file book file.now)) }
+        ensures ok { OnOk result ((limits : LimitsView) (book : Book) → IsLimits limits
+            → StandsFor self.old book
+            → joined limits book file.now ≡ Ok legs.now
+            → StandsFor self.new (with_file book file.now)) }
         // The law of a book is kept.
         ensures law { OnOk result ((limits : LimitsView) (book : Book) → IsLimits limits
             → IsBook limits book → joined limits book file.now ≡ Ok legs.now

@@ -60,7 +60,8 @@ fn read_moment(start: Ms, text: &str) -> Option<Ms>
 /// The start and the end of a record.
 fn read_span(start: Ms, row: &StringRecord) -> Result<(Ms, Ms), RowFault>
     ensures span { Judges result (span_fault (Some start) (cells row.now))
-        (λ s. (moment_read (Some start) (field (cells row.now) 1) ≡ Some s.0) × (moment_read (Some start) (field (cells row.now) 2) ≡ Some s.1)) }
+        (λ s. (moment_read (Some start) (field (cells row.now) 1) ≡ Some s.0)
+        × (moment_read (Some start) (field (cells row.now) 2) ≡ Some s.1)) }
     ensures in_order { IfOk result (λ s. s.0 <ℤ s.1) }
 {
     let t0 = read_moment(start, field_at(row, 1));
@@ -119,7 +120,8 @@ fn next_word(text: &str) -> Option<(&str, &str)>
 
 /// The positions of a trajectory: the coordinates of one after the other, x first.
 fn read_positions(alloc: Global, text: &str) -> Result<Positions, RowFault>
-    ensures positions { Judges result (trajectory_fault (words text.now)) (λ p. positions_of (words text.now) ≡ Some p) }
+    ensures positions { Judges result (trajectory_fault (words text.now)) (λ p. positions_of
+        (words text.now) ≡ Some p) }
     ensures placed { IfOk result (λ p. 1 ≤ length p) }
 {
     // Most records have two.
@@ -180,8 +182,10 @@ pub(crate) fn read_record(
     row: &StringRecord,
     given: &Given,
 ) -> Result<Record, RowFault>
-    ensures { Judges result (data_fault (Some given.now.start) (length given.now.columns.now) (cells row.now))
-        (λ r. record_of number (Some given.now.start) (length given.now.columns.now) (cells row.now) ≡ Some r) }
+    ensures { Judges result (data_fault (Some given.now.start) (length given.now.columns.now)
+        (cells row.now))
+        (λ r. record_of number (Some given.now.start) (length given.now.columns.now)
+        (cells row.now) ≡ Some r) }
 {
     if has_wrong_fields(row, given.columns) {
         return Err(RowFault::Refused(Code::F11));

@@ -95,7 +95,8 @@ impl Model for Bounds {
 
 #[tactic(auto, unfolding(crate::specs::Header::lacks_bounds_fields, crate::specs::Header::has_other_dimension, crate::specs::Header::start_of, crate::specs::Header::has_other_unit))]
 fn read_bounds(alloc: Global, number: u64, row: &StringRecord) -> Result<Bounds, RowFault>
-    ensures { Judges result (bounds_fault (cells row.now)) (λ b. b ≡ bounds_of number (cells row.now)) }
+    ensures { Judges result (bounds_fault (cells row.now)) (λ b. b
+        ≡ bounds_of number (cells row.now)) }
 {
     if row.len() < 7 {
         return Err(RowFault::Refused(Code::F3));
@@ -127,7 +128,8 @@ fn has_fixed_columns(row: &StringRecord) -> bool
 /// Whether the name and the type in these two fields are both blank.
 fn is_blank_pair(row: &StringRecord, place: usize) -> bool
     requires { place + 1 < 2 ^ 64 }
-    ensures { result ≡ (is_empty (field (cells row.now) place) && is_empty (field (cells row.now) (place + 1))) }
+    ensures { result ≡ (is_empty (field (cells row.now) place) && is_empty (field (cells row.now)
+        (place + 1))) }
 {
     field_at(row, place).is_empty() && field_at(row, place + 1).is_empty()
 }
@@ -237,7 +239,8 @@ impl Heads {
     ) -> Result<(), RowFault>
         requires kind { kind_of (cells row.now) ≡ Kind.Bounds }
         requires text { list_all is_utf8 (cells row.now) ≡ true }
-        ensures { Judges result (first_fault self.old (cells row.now)) (λ _. self.new ≡ heads_after number self.old (cells row.now)) }
+        ensures { Judges result (first_fault self.old (cells row.now)) (λ _. self.new
+            ≡ heads_after number self.old (cells row.now)) }
     {
         if self.has_bounds() {
             return Err(RowFault::Refused(Code::F2));
@@ -256,7 +259,8 @@ impl Heads {
     ) -> Result<(), RowFault>
         requires kind { kind_of (cells row.now) ≡ Kind.Columns }
         requires text { list_all is_utf8 (cells row.now) ≡ true }
-        ensures { Judges result (first_fault self.old (cells row.now)) (λ _. self.new ≡ heads_after number self.old (cells row.now)) }
+        ensures { Judges result (first_fault self.old (cells row.now)) (λ _. self.new
+            ≡ heads_after number self.old (cells row.now)) }
     {
         if self.has_columns() {
             return Err(RowFault::Refused(Code::F2));
@@ -272,7 +276,8 @@ impl Heads {
     /// What both header lines give each data record.
     pub(crate) fn given(&self) -> Option<Given<'_>>
         ensures { MatchOption result (has_heads self.now ≡ false)
-            (λ g. (has_heads self.now ≡ true) × (start_before self.now ≡ Some g.start) × (columns_before self.now ≡ length g.columns.now)) }
+            (λ g. (has_heads self.now ≡ true) × (start_before self.now ≡ Some g.start)
+            × (columns_before self.now ≡ length g.columns.now)) }
     {
         match (&self.bounds, &self.columns) {
             (Some(bounds), Some(line)) => Some(Given {

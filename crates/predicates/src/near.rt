@@ -31,7 +31,8 @@ fn plane_over(period: &Period) -> Box3
 /// the period; for `Bypasses` over all x and y and the period.
 pub fn search_box(predicate: Predicate, rect: &Rect, period: &Period) -> Box3
     ensures value { result ≡ box_near predicate rect.now period.now }
-    ensures meets { (leg : LegView) → IsLeg leg → Holds predicate (leg ∷ []) rect.now period.now → boxes_meet (box_of leg) result ≡ true }
+    ensures meets { (leg : LegView) → IsLeg leg → Holds predicate (leg ∷ []) rect.now period.now
+        → boxes_meet (box_of leg) result ≡ true }
 {
     match predicate {
         Predicate::Bypasses => plane_over(period),

@@ -259,7 +259,8 @@ fn read_command(alloc: Global, text: &str) -> Result<Command, LineFault>
 
 /// A line as text; `None` where it is not UTF-8.
 fn text_of(line: &[u8]) -> Option<&str>
-    ensures { MatchOption result (is_utf8 line.now ≡ false) (λ text. (is_utf8 line.now ≡ true) × (text.now ≡ line.now)) }
+    ensures { MatchOption result (is_utf8 line.now ≡ false) (λ text. (is_utf8 line.now ≡ true)
+        × (text.now ≡ line.now)) }
 {
     match str::from_utf8(line) {
         Ok(text) => Some(text),

@@ -53,7 +53,8 @@ pub(crate) fn file_refusal_text(
 
 /// The answer of one record of two numbers.
 pub(crate) fn count_text(alloc: Global, legs: u64, features: u64) -> Result<Vec<u8>, AllocError>
-    ensures { IfOk result (λ text. text.items ≡ ok_text 1 ++ decimal legs ++ 44 ∷ [] ++ decimal features ++ 10 ∷ []) }
+    ensures { IfOk result (λ text. text.items ≡ ok_text 1 ++ decimal legs ++ 44 ∷ []
+        ++ decimal features ++ 10 ∷ []) }
 {
     let mut text = ok_text(alloc, 1)?;
     push_number(&mut text, legs)?;

@@ -41,7 +41,8 @@ fn bounds_row<'a>(
     base: &'a [u8],
     end: &'a [u8],
 ) -> [&'a [u8]; 8]
-    ensures { map (λ f. f.now) result ≡ codes "@stboundedby" ∷ crs.entry.now ∷ codes "2D" ∷ lower.entry.now ∷ upper.entry.now ∷ base.entry.now ∷ end.entry.now ∷ codes "sec" ∷ [] }
+    ensures { map
+        (λ f. f.now) result ≡ codes "@stboundedby" ∷ crs.entry.now ∷ codes "2D" ∷ lower.entry.now ∷ upper.entry.now ∷ base.entry.now ∷ end.entry.now ∷ codes "sec" ∷ [] }
 {
     [
         "@stboundedby".as_bytes(),
@@ -63,7 +64,8 @@ fn write_bounds(
     entries: &[Entry<'_>],
 ) -> Result<(), AllocError>
     requires { records.old.refused ≡ false }
-    ensures { OnOk result (records.new ≡ written (records.old.text ++ record_text (bounds_fields head.now entries.now))) }
+    ensures { OnOk result (records.new ≡ written (records.old.text
+        ++ record_text (bounds_fields head.now entries.now))) }
 {
     let corners = corners_of(entries);
     let lower = point_text(alloc, corners.x_min, corners.y_min)?;
@@ -85,7 +87,8 @@ fn push_column_fields<'a>(
     fields: &mut Vec<&'a [u8]>,
     columns: &'a [Column],
 ) -> Result<(), AllocError>
-    ensures { OnOk result (map (λ f. f.now) fields.new.items ≡ map (λ f. f.now) fields.old.items ++ column_fields columns.entry.now) }
+    ensures { OnOk result (map (λ f. f.now) fields.new.items ≡ map (λ f. f.now) fields.old.items
+        ++ column_fields columns.entry.now) }
 {
     for column in columns {
         fields.push(column.name.as_str().as_bytes())?;
@@ -97,7 +100,8 @@ fn push_column_fields<'a>(
 /// Writes the second header line.
 fn write_columns(alloc: Global, records: &mut Records, head: &Head) -> Result<(), AllocError>
     requires { records.old.refused ≡ false }
-    ensures { OnOk result (records.new ≡ written (records.old.text ++ record_text (columns_fields head.now))) }
+    ensures { OnOk result (records.new ≡ written (records.old.text
+        ++ record_text (columns_fields head.now))) }
 {
     let mut fields = Vec::new(alloc);
     fields.push("@columns".as_bytes())?;
@@ -115,7 +119,8 @@ fn write_entries(
     entries: &[Entry<'_>],
 ) -> Result<(), AllocError>
     requires { records.old.refused ≡ false }
-    ensures { OnOk result (records.new ≡ written (records.old.text ++ entries_text base entries.now)) }
+    ensures { OnOk result (records.new ≡ written (records.old.text
+        ++ entries_text base entries.now)) }
 {
     for entry in entries {
         write_leg(alloc, records, entry.name, base, &entry.leg, entry.values)?;

@@ -52,7 +52,8 @@ fn positions_text(alloc: Global, leg: &Leg) -> Result<Vec<u8>, AllocError>
 
 /// Puts attribute values behind the other fields.
 fn push_values<'a>(fields: &mut Vec<&'a [u8]>, values: &'a [Text]) -> Result<(), AllocError>
-    ensures { OnOk result (map (λ f. f.now) fields.new.items ≡ map (λ f. f.now) fields.old.items ++ values.entry.now) }
+    ensures { OnOk result (map (λ f. f.now) fields.new.items ≡ map (λ f. f.now) fields.old.items
+        ++ values.entry.now) }
 {
     for value in values {
         fields.push(value.as_str().as_bytes())?;
@@ -69,7 +70,8 @@ fn leg_row<'a>(
     positions: &'a [u8],
     values: &'a [Text],
 ) -> Result<Vec<&'a [u8]>, AllocError>
-    ensures { IfOk result (λ row. map (λ f. f.now) row.items ≡ name.entry.now ∷ start.entry.now ∷ end.entry.now ∷ positions.entry.now ∷ values.entry.now) }
+    ensures { IfOk result (λ row. map (λ f. f.now) row.items
+        ≡ name.entry.now ∷ start.entry.now ∷ end.entry.now ∷ positions.entry.now ∷ values.entry.now) }
 {
     let mut row = Vec::with_capacity(alloc, values.len().saturating_add(4))?;
     row.push(name)?;
@@ -90,7 +92,8 @@ pub(crate) fn write_leg(
     values: &[Text],
 ) -> Result<(), AllocError>
     requires { records.old.refused ≡ false }
-    ensures { OnOk result (records.new ≡ written (records.old.text ++ leg_record name.now base leg.now values.now)) }
+    ensures { OnOk result (records.new ≡ written (records.old.text
+        ++ leg_record name.now base leg.now values.now)) }
 {
     let start = offset_text(alloc, base, leg.t0)?;
     let end = offset_text(alloc, base, leg.t1)?;

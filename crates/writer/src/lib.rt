@@ -31,7 +31,8 @@ pub fn push_leg_record(
     leg: &Leg,
     values: &[Text],
 ) -> Result<(), Memory>
-    ensures ok { OnOk result (out.new.items ≡ out.old.items ++ leg_record name.now base leg.now values.now) }
+    ensures ok { OnOk result (out.new.items ≡ out.old.items
+        ++ leg_record name.now base leg.now values.now) }
     ensures err { OnErr result (out.new.items ≡ out.old.items) }
 {
     let mut records = Records::new(alloc);
@@ -56,7 +57,8 @@ pub fn push_leg_records(
 
 /// Appends each name as a record of one field, in their order.
 pub fn push_features(alloc: Global, out: &mut Vec<u8>, names: &[&str]) -> Result<(), Memory>
-    ensures ok { OnOk result (out.new.items ≡ out.old.items ++ features_text (map (λ n. n.now) names.now)) }
+    ensures ok { OnOk result (out.new.items ≡ out.old.items
+        ++ features_text (map (λ n. n.now) names.now)) }
     ensures err { OnErr result (out.new.items ≡ out.old.items) }
 {
     let text = features::features_text(alloc, names)?;

@@ -45,7 +45,8 @@ impl Records {
     /// Writes a record behind the others.
     pub(crate) fn push(&mut self, fields: &[&[u8]]) -> Result<(), AllocError>
         requires { self.old.refused ≡ false }
-        ensures { OnOk result (self.new ≡ written (self.old.text ++ record_text (map (λ f. f.now) fields.now))) }
+        ensures { OnOk result (self.new ≡ written (self.old.text
+            ++ record_text (map (λ f. f.now) fields.now))) }
     {
         self.refused = true;
         match self.writer.write_fields(fields) {
