@@ -1,105 +1,183 @@
 -- The positions of a trajectory, as far as its coordinates were read.
-use Rattle.std.proofs.Common.{[], ◌∷◌, ◌++◌, ◌+◌, ◌*◌, ◌<◌, ◌≡◌, ◌∙◌, ◌==◌, ◌%◌, ◌&&◌, ◌||◌, not, ℕ, ℤ, List, Option, Some, None, Ok, Err, ap, arith, length, refl, sym, true, false}
+use Rattle.std.proofs.Common.{[], ◌∷◌, ◌++◌, ◌+◌, ◌*◌, ◌<◌, ◌≡◌, ◌∙◌, ◌==◌, ◌%◌, ◌&&◌, ◌||◌, not, Bool, ℕ, ℤ, pos, List, Option, Some, None, Ok, Err, ap, arith, length, refl, sym, true, false}
 use Rattle.std.proofs.lemmas.List.{append_assoc, append-nil, length_push}
 use Rattle.std.proofs.lemmas.Bool.Decides.{nat_tests}
 use Rattle.std.specs.List.{list_all}
 use Rattle.std.specs.Prelude.{option_map}
 use Rattle.fixedpoint.specs.Number.{coord_of}
 use Rattle.mfcsv.specs.Header.{value_read}
-use Rattle.mfcsv.specs.DataRecord.{has_wrong_coordinate, has_wrong_count, is_coordinate, onto_positions, position_of, positions_of}
+use Rattle.mfcsv.specs.DataRecord.{axes, coordinate_of, has_wrong_coordinate, has_wrong_count, is_coordinate, onto_positions, position_of, positions_of, positions_of_pairs, positions_of_triples}
+use Rattle.mfcsv.specs.Placing.{placed}
 use Rattle.mfcsv.specs.Answer.{trajectory_fault}
 use Rattle.mfcsv.specs.declared.Code.TheVariants.{F15, F16}
+use Rattle.mfcsv.specs.declared.Dimension.{Dimension}
+use Rattle.mfcsv.specs.declared.Dimension.TheVariants.{Two, Three}
 use Rattle.mfcsv.specs.declared.Position.{Position}
+use Rattle.mfcsv.specs.declared.data_record.Placed.{Placed}
+use Rattle.mfcsv.specs.declared.data_record.Placed.TheVariants.{Part, Whole}
+use Rattle.mfcsv.specs.declared.data_record.Waiting.{Waiting}
+use Rattle.mfcsv.specs.declared.data_record.Waiting.TheVariants.{Nothing, X, XAndY}
 use Rattle.fixedpoint.specs.declared.NumberFault.{NumberFault}
 
--- the positions behind a coordinate that waits for its second
-abbrev pub positions_behind : Option ℤ → List (List ℕ) → Option (List Position)
-positions_behind None texts = positions_of texts
-positions_behind (Some x) [] = None
-positions_behind (Some x) (y ∷ rest) = onto_positions (position_of (Some x) (value_read (coord_of y))) (positions_of rest)
+-- the positions behind coordinates that wait for the others
+abbrev pub positions_behind : Dimension → Waiting → List (List ℕ) → Option (List Position)
+positions_behind dimension Nothing texts = positions_of (Some dimension) texts
+positions_behind Two (X x) [] = None
+positions_behind Two (X x) (y ∷ rest) = onto_positions (position_of (Some x) (coordinate_of y) (Some (pos 0))) (positions_of_pairs rest)
+positions_behind Three (X x) [] = None
+positions_behind Three (X x) (y ∷ []) = None
+positions_behind Three (X x) (y ∷ z ∷ rest) = onto_positions (position_of (Some x) (coordinate_of y) (coordinate_of z)) (positions_of_triples rest)
+positions_behind Two (XAndY x y) texts = None
+positions_behind Three (XAndY x y) [] = None
+positions_behind Three (XAndY x y) (z ∷ rest) = onto_positions (position_of (Some x) (Some y) (coordinate_of z)) (positions_of_triples rest)
 
-abbrev pub count_of : Option ℤ → ℕ
-count_of None = 0
-count_of (Some x) = 1
+abbrev pub count_of : Waiting → ℕ
+count_of Nothing = 0
+count_of (X x) = 1
+count_of (XAndY x y) = 2
 
 abbrev pub behind : List Position → Option (List Position) → Option (List Position)
 behind read more = option_map (λ positions. read ++ positions) more
 
--- these positions were read, a coordinate waits or not, and these words are left
-pub record IsReading (all : List (List ℕ)) (read : List Position) (waiting : Option ℤ) (left : List (List ℕ)) : Type 0 where
+-- these positions were read, coordinates wait or not, and these words are left
+pub record IsReading (dimension : Dimension) (all : List (List ℕ)) (read : List Position) (waiting : Waiting) (left : List (List ℕ)) : Type 0 where
   pub numbers : list_all is_coordinate all ≡ list_all is_coordinate left
-  pub count : length all ≡ 2 * length read + count_of waiting + length left
-  pub positions : positions_of all ≡ behind read (positions_behind waiting left)
+  pub fits : count_of waiting < axes dimension
+  pub count : length all ≡ axes dimension * length read + count_of waiting + length left
+  pub positions : positions_of (Some dimension) all ≡ behind read (positions_behind dimension waiting left)
 
 behind-none : (o : Option (List Position)) → behind [] o ≡ o
 behind-none None = refl
 behind-none (Some positions) = refl
 
-pub reading-start : (all : List (List ℕ)) → IsReading all [] None all
-reading-start all = record { numbers = refl; count = omega arith; positions = sym (behind-none (positions_of all)) }
+some_axes : (dimension : Dimension) → 0 < axes dimension
+some_axes Two = omega arith
+some_axes Three = omega arith
+
+pub reading-start : (dimension : Dimension) (all : List (List ℕ)) → IsReading dimension all [] Nothing all
+reading-start dimension all = record {
+  numbers = refl;
+  fits = some_axes dimension;
+  count = omega arith;
+  positions = sym (behind-none (positions_of (Some dimension) all));
+}
 
 is_coordinate-read : (word : List ℕ) (z : ℤ) → coord_of word ≡ Ok z → is_coordinate word ≡ true
 unfolding is_coordinate
 is_coordinate-read word z e = rw e refl
 
-first-waits : (word : List ℕ) (left : List (List ℕ)) (z : ℤ) → coord_of word ≡ Ok z → positions_of (word ∷ left) ≡ positions_behind (Some z) left
-unfolding positions_of
-first-waits word [] z e = refl
-first-waits word (y ∷ rest) z e = rw e refl
+-- a coordinate that is read leaves the others
+numbers-more : (all : List (List ℕ)) (word : List ℕ) (left : List (List ℕ)) (z : ℤ) → list_all is_coordinate all ≡ list_all is_coordinate (word ∷ left) → coord_of word ≡ Ok z → list_all is_coordinate all ≡ list_all is_coordinate left
+numbers-more all word left z same e = same ∙ ap (λ b. b && list_all is_coordinate left) (is_coordinate-read word z e)
 
--- the first coordinate of a pair
-pub reading-first : (all : List (List ℕ)) (read : List Position) (word : List ℕ) (left : List (List ℕ)) (z : ℤ) → IsReading all read None (word ∷ left) → coord_of word ≡ Ok z → IsReading all read (Some z) left
-reading-first all read word left z r e =
-    record {
-      numbers = r.numbers ∙ ap (λ b. b && list_all is_coordinate left) (is_coordinate-read word z e);
-      count = omega (arith, r.count);
-      positions = r.positions ∙ ap (behind read) (first-waits word left z e);
-    }
+first-waits : (dimension : Dimension) (word : List ℕ) (left : List (List ℕ)) (z : ℤ) → coord_of word ≡ Ok z → positions_of (Some dimension) (word ∷ left) ≡ positions_behind dimension (X z) left
+unfolding positions_of_pairs positions_of_triples
+first-waits Two word [] z e = refl
+first-waits Two word (y ∷ rest) z e = rw e refl
+first-waits Three word [] z e = refl
+first-waits Three word (y ∷ []) z e = refl
+first-waits Three word (y ∷ w ∷ rest) z e = rw e refl
+
+second-waits : (x : ℤ) (word : List ℕ) (left : List (List ℕ)) (z : ℤ) → coord_of word ≡ Ok z → positions_behind Three (X x) (word ∷ left) ≡ positions_behind Three (XAndY x z) left
+second-waits x word [] z e = refl
+second-waits x word (w ∷ rest) z e = rw e refl
 
 behind-one : (read : List Position) (q : Position) (o : Option (List Position)) → behind read (onto_positions (Some q) o) ≡ behind (read ++ (q ∷ [])) o
 behind-one read q None = refl
 behind-one read q (Some positions) = ap Some (sym (append_assoc read (q ∷ []) positions))
 
--- the second coordinate of a pair
-pub reading-second : (all : List (List ℕ)) (read : List Position) (x : ℤ) (word : List ℕ) (left : List (List ℕ)) (z : ℤ) → IsReading all read (Some x) (word ∷ left) → coord_of word ≡ Ok z
-    → IsReading all (read ++ (record { x = x; y = z } ∷ [])) None left
-reading-second all read x word left z r e =
-    let q : Position = record { x = x; y = z } in
-    let size = length_push read q in
+-- what a coordinate makes of a reading
+abbrev pub Reads : Dimension → List (List ℕ) → List Position → Placed → List (List ℕ) → Type 0
+Reads dimension all read (Part waiting) left = IsReading dimension all read waiting left
+Reads dimension all read (Whole position) left = IsReading dimension all (read ++ position ∷ []) Nothing left
+
+pub reading-more : (dimension : Dimension) (all : List (List ℕ)) (read : List Position) (waiting : Waiting) (word : List ℕ) (left : List (List ℕ)) (z : ℤ) → IsReading dimension all read waiting (word ∷ left) → coord_of word ≡ Ok z
+    → Reads dimension all read (placed dimension waiting z) left
+reading-more Two all read Nothing word left z r e = record {
+  numbers = numbers-more all word left z r.numbers e;
+  fits = omega arith;
+  count = omega (arith, r.count);
+  positions = r.positions ∙ ap (behind read) (first-waits Two word left z e);
+}
+reading-more Three all read Nothing word left z r e = record {
+  numbers = numbers-more all word left z r.numbers e;
+  fits = omega arith;
+  count = omega (arith, r.count);
+  positions = r.positions ∙ ap (behind read) (first-waits Three word left z e);
+}
+reading-more Two all read (X x) word left z r e =
+    let q : Position = record { x = x; y = z; z = pos 0 } in
     record {
-      numbers = r.numbers ∙ ap (λ b. b && list_all is_coordinate left) (is_coordinate-read word z e);
-      count = omega (arith, r.count);
-      positions = r.positions ∙ ap (λ c. behind read (onto_positions (position_of (Some x) (value_read c)) (positions_of left))) e ∙ behind-one read q (positions_of left);
+      numbers = numbers-more all word left z r.numbers e;
+      fits = omega arith;
+      count = let size = length_push read q in omega (arith, r.count, size);
+      positions = r.positions ∙ ap (λ c. behind read (onto_positions (position_of (Some x) (value_read c) (Some (pos 0))) (positions_of_pairs left))) e ∙ behind-one read q (positions_of_pairs left);
+    }
+reading-more Three all read (X x) word left z r e = record {
+  numbers = numbers-more all word left z r.numbers e;
+  fits = omega arith;
+  count = omega (arith, r.count);
+  positions = r.positions ∙ ap (behind read) (second-waits x word left z e);
+}
+reading-more Two all read (XAndY x y) word left z r e = absurd (let f = r.fits in omega (arith, f))
+reading-more Three all read (XAndY x y) word left z r e =
+    let q : Position = record { x = x; y = y; z = z } in
+    record {
+      numbers = numbers-more all word left z r.numbers e;
+      fits = omega arith;
+      count = let size = length_push read q in omega (arith, r.count, size);
+      positions = r.positions ∙ ap (λ c. behind read (onto_positions (position_of (Some x) (Some y) (value_read c)) (positions_of_triples left))) e ∙ behind-one read q (positions_of_triples left);
     }
 
 -- a coordinate that is not read
-pub reading-fault : (all : List (List ℕ)) (read : List Position) (waiting : Option ℤ) (word : List ℕ) (left : List (List ℕ)) (fault : NumberFault) → IsReading all read waiting (word ∷ left) → coord_of word ≡ Err fault
-    → trajectory_fault all ≡ Some F15
+pub reading-fault : (dimension : Dimension) (all : List (List ℕ)) (read : List Position) (waiting : Waiting) (word : List ℕ) (left : List (List ℕ)) (fault : NumberFault) → IsReading dimension all read waiting (word ∷ left) → coord_of word ≡ Err fault
+    → trajectory_fault (Some dimension) all ≡ Some F15
 unfolding has_wrong_coordinate is_coordinate
-reading-fault all read waiting word left fault r e = rw (r.numbers, e) refl
+reading-fault dimension all read waiting word left fault r e = rw (r.numbers, e) refl
 
-numbers-end : (all : List (List ℕ)) (read : List Position) (waiting : Option ℤ) → IsReading all read waiting [] → has_wrong_coordinate all ≡ false
+numbers-end : (dimension : Dimension) (all : List (List ℕ)) (read : List Position) (waiting : Waiting) → IsReading dimension all read waiting [] → has_wrong_coordinate all ≡ false
 unfolding has_wrong_coordinate
-numbers-end all read waiting r = rw r.numbers refl
+numbers-end dimension all read waiting r = rw r.numbers refl
 
--- a coordinate that is left over, or none at all
-count-end : (all : List (List ℕ)) (read : List Position) (waiting : Option ℤ) → IsReading all read waiting [] → has_wrong_count all ≡ ((2 * length read + count_of waiting == 0) || not ((2 * length read + count_of waiting) % 2 == 0))
+-- what is wrong with so many coordinates
+abbrev is_wrong : ℕ → ℕ → Bool
+is_wrong size axes = (size == 0) || not (size % axes == 0)
+
+count-end : (dimension : Dimension) (all : List (List ℕ)) (read : List Position) (waiting : Waiting) → IsReading dimension all read waiting [] → has_wrong_count (Some dimension) all ≡ is_wrong (axes dimension * length read + count_of waiting) (axes dimension)
 unfolding has_wrong_count
-count-end all read waiting r = let size : length all ≡ 2 * length read + count_of waiting = omega (arith, r.count) in rw size refl
+count-end dimension all read waiting r = let size : length all ≡ axes dimension * length read + count_of waiting = omega (arith, r.count) in rw size refl
 
-odd : (n : ℕ) → ((2 * n + 1 == 0) || not ((2 * n + 1) % 2 == 0)) ≡ true
-odd n = grind (arith, nat_tests)
+-- coordinates that are left over
+left_over : (dimension : Dimension) (n : ℕ) (waiting : Waiting) → 0 < count_of waiting → count_of waiting < axes dimension → is_wrong (axes dimension * n + count_of waiting) (axes dimension) ≡ true
+left_over Two n Nothing some few = absurd (omega (arith, some))
+left_over Two n (X x) some few = grind (arith, nat_tests)
+left_over Two n (XAndY x y) some few = absurd (omega (arith, few))
+left_over Three n Nothing some few = absurd (omega (arith, some))
+left_over Three n (X x) some few = grind (arith, nat_tests)
+left_over Three n (XAndY x y) some few = grind (arith, nat_tests)
 
-even : (n : ℕ) → 0 < n → ((2 * n + 0 == 0) || not ((2 * n + 0) % 2 == 0)) ≡ false
-even n h = grind (arith, nat_tests)
+whole : (dimension : Dimension) (n : ℕ) → 0 < n → is_wrong (axes dimension * n + 0) (axes dimension) ≡ false
+whole Two n some = grind (arith, nat_tests)
+whole Three n some = grind (arith, nat_tests)
 
-pub reading-left_over : (all : List (List ℕ)) (read : List Position) (x : ℤ) → IsReading all read (Some x) [] → trajectory_fault all ≡ Some F16
-reading-left_over all read x r = rw (numbers-end all read (Some x) r, count-end all read (Some x) r, odd (length read)) refl
+pub reading-left_over : (dimension : Dimension) (all : List (List ℕ)) (read : List Position) (waiting : Waiting) → IsReading dimension all read waiting [] → 0 < count_of waiting → trajectory_fault (Some dimension) all ≡ Some F16
+reading-left_over dimension all read waiting r some =
+    rw (numbers-end dimension all read waiting r, count-end dimension all read waiting r, left_over dimension (length read) waiting some r.fits) refl
 
-pub reading-none : (all : List (List ℕ)) (read : List Position) → IsReading all read None [] → length read ≡ 0 → trajectory_fault all ≡ Some F16
-reading-none all read r e = rw (numbers-end all read None r, count-end all read None r, e) refl
+-- or none at all
+none_read : (dimension : Dimension) (n : ℕ) → n ≡ 0 → is_wrong (axes dimension * n + 0) (axes dimension) ≡ true
+none_read Two n e = rw e refl
+none_read Three n e = rw e refl
+
+pub reading-none : (dimension : Dimension) (all : List (List ℕ)) (read : List Position) → IsReading dimension all read Nothing [] → length read ≡ 0 → trajectory_fault (Some dimension) all ≡ Some F16
+reading-none dimension all read r e = rw (numbers-end dimension all read Nothing r, count-end dimension all read Nothing r, none_read dimension (length read) e) refl
+
+no_more : (dimension : Dimension) (read : List Position) → behind read (positions_of (Some dimension) []) ≡ Some read
+unfolding positions_of_pairs positions_of_triples
+no_more Two read = ap Some (append-nil read)
+no_more Three read = ap Some (append-nil read)
 
 -- all coordinates make positions
-pub reading-end : (all : List (List ℕ)) (read : List Position) → IsReading all read None [] → 0 < length read → (trajectory_fault all ≡ None) × (positions_of all ≡ Some read)
-unfolding positions_of
-reading-end all read r h = (rw (numbers-end all read None r, count-end all read None r, even (length read) h) refl, r.positions ∙ ap Some (append-nil read))
+pub reading-end : (dimension : Dimension) (all : List (List ℕ)) (read : List Position) → IsReading dimension all read Nothing [] → 0 < length read → (trajectory_fault (Some dimension) all ≡ None) × (positions_of (Some dimension) all ≡ Some read)
+reading-end dimension all read r h =
+    (rw (numbers-end dimension all read Nothing r, count-end dimension all read Nothing r, whole dimension (length read) h) refl, r.positions ∙ no_more dimension read)

@@ -5,6 +5,7 @@ use Rattle.mfcsv.specs.Header.{lacks_bounds_fields, has_other_dimension, lacks_s
 use Rattle.mfcsv.specs.DataRecord.{has_wrong_fields, has_wrong_name, lacks_moment, ends_early, coordinates, has_wrong_coordinate, has_wrong_count, lacks_time}
 use Rattle.mfcsv.specs.declared.Code.{Code}
 use Rattle.mfcsv.specs.declared.Code.TheVariants.{F3, F4, F5, F6, F11, F12, F13, F14, F15, F16, F17}
+use Rattle.mfcsv.specs.declared.Dimension.{Dimension}
 use Rattle.mfcsv.specs.declared.File.{File}
 use Rattle.mfcsv.specs.declared.FileFault.{FileFault}
 use Rattle.mfcsv.specs.declared.FileFault.TheVariants as file
@@ -45,14 +46,14 @@ abbrev pub span_fault : Option ℤ → Row → Option Code
 span_fault start row = first_of ((F13, lacks_moment start row) ∷ (F14, ends_early start row) ∷ [])
 
 -- the first fault of the coordinates of a data record
-abbrev pub trajectory_fault : List (List ℕ) → Option Code
-trajectory_fault texts = first_of ((F15, has_wrong_coordinate texts) ∷ (F16, has_wrong_count texts) ∷ [])
+abbrev pub trajectory_fault : Option Dimension → List (List ℕ) → Option Code
+trajectory_fault dimension texts = first_of ((F15, has_wrong_coordinate texts) ∷ (F16, has_wrong_count dimension texts) ∷ [])
 
 -- the first fault of a data record behind both header lines
-unfoldable pub data_fault : Option ℤ → ℕ → Row → Option Code
-data_fault start columns row =
+unfoldable pub data_fault : Option Dimension → Option ℤ → ℕ → Row → Option Code
+data_fault dimension start columns row =
     first_of ((F11, has_wrong_fields columns row) ∷ (F12, has_wrong_name row) ∷ (F13, lacks_moment start row) ∷ (F14, ends_early start row)
-    ∷ (F15, has_wrong_coordinate (coordinates row)) ∷ (F16, has_wrong_count (coordinates row)) ∷ (F17, lacks_time start row) ∷ [])
+    ∷ (F15, has_wrong_coordinate (coordinates row)) ∷ (F16, has_wrong_count dimension (coordinates row)) ∷ (F17, lacks_time dimension start row) ∷ [])
 
 -- a fault of a record of that number
 abbrev pub fault_at : ℕ → RowFault → FileFault

@@ -6,6 +6,8 @@ use Rattle.timebase.specs.Instant.{moment_at}
 use Rattle.mfcsv.specs.Rows.{Row, field, is_empty, words}
 use Rattle.mfcsv.specs.Views.{RecordView, leg_count}
 use Rattle.mfcsv.specs.Header.{value_read}
+use Rattle.mfcsv.specs.declared.Dimension.{Dimension}
+use Rattle.mfcsv.specs.declared.Dimension.TheVariants.{Two, Three}
 use Rattle.mfcsv.specs.declared.Position.{Position}
 
 -- mfidref, start time, end time, trajectory, then one value for each attribute column: fewer fields than
@@ -43,25 +45,48 @@ is_coordinate text = is_some (value_read (coord_of text))
 unfoldable pub has_wrong_coordinate : List (List ℕ) → Bool
 has_wrong_coordinate texts = not (list_all is_coordinate texts)
 
--- no position, or a number of coordinates that is no multiple of the dimension
-unfoldable pub has_wrong_count : List (List ℕ) → Bool
-has_wrong_count texts = (length texts == 0) || not (length texts % 2 == 0)
+-- how many coordinates a position has
+abbrev pub axes : Dimension → ℕ
+axes Two = 2
+axes Three = 3
 
-abbrev pub position_of : Option ℤ → Option ℤ → Option Position
-position_of (Some x) (Some y) = Some (record { x = x; y = y })
-position_of (Some x) None = None
-position_of None y = None
+-- no position, or a number of coordinates that is no multiple of the dimension, where that is read
+unfoldable pub has_wrong_count : Option Dimension → List (List ℕ) → Bool
+has_wrong_count (Some dimension) texts = (length texts == 0) || not (length texts % axes dimension == 0)
+has_wrong_count None texts = false
+
+abbrev pub position_of : Option ℤ → Option ℤ → Option ℤ → Option Position
+position_of (Some x) (Some y) (Some z) = Some (record { x = x; y = y; z = z })
+position_of (Some x) (Some y) None = None
+position_of (Some x) None z = None
+position_of None y z = None
 
 abbrev pub onto_positions : Option Position → Option (List Position) → Option (List Position)
 onto_positions (Some position) (Some positions) = Some (position ∷ positions)
 onto_positions (Some position) None = None
 onto_positions None positions = None
 
--- the positions, where all coordinates are read and none is left over: the first of a pair is x
-unfoldable pub positions_of : List (List ℕ) → Option (List Position)
-positions_of [] = Some []
-positions_of (x ∷ []) = None
-positions_of (x ∷ y ∷ rest) = onto_positions (position_of (value_read (coord_of x)) (value_read (coord_of y))) (positions_of rest)
+abbrev pub coordinate_of : List ℕ → Option ℤ
+coordinate_of text = value_read (coord_of text)
+
+-- the positions of pairs, where all coordinates are read and none is left over: x, then y; z is 0
+unfoldable pub positions_of_pairs : List (List ℕ) → Option (List Position)
+positions_of_pairs [] = Some []
+positions_of_pairs (x ∷ []) = None
+positions_of_pairs (x ∷ y ∷ rest) = onto_positions (position_of (coordinate_of x) (coordinate_of y) (Some (pos 0))) (positions_of_pairs rest)
+
+-- the positions of triples: x, then y, then z
+unfoldable pub positions_of_triples : List (List ℕ) → Option (List Position)
+positions_of_triples [] = Some []
+positions_of_triples (x ∷ []) = None
+positions_of_triples (x ∷ y ∷ []) = None
+positions_of_triples (x ∷ y ∷ z ∷ rest) = onto_positions (position_of (coordinate_of x) (coordinate_of y) (coordinate_of z)) (positions_of_triples rest)
+
+-- the positions of a dimension that is read
+abbrev pub positions_of : Option Dimension → List (List ℕ) → Option (List Position)
+positions_of (Some Two) texts = positions_of_pairs texts
+positions_of (Some Three) texts = positions_of_triples texts
+positions_of None texts = None
 
 -- fewer milliseconds than legs, of moments and positions that are read
 abbrev pub is_too_short : Option ℤ → Option ℤ → Option (List Position) → Bool
@@ -70,8 +95,9 @@ is_too_short (Some t0) (Some t1) None = false
 is_too_short (Some t0) None positions = false
 is_too_short None t1 positions = false
 
-abbrev pub lacks_time : Option ℤ → Row → Bool
-lacks_time start row = is_too_short (moment_read start (field row 1)) (moment_read start (field row 2)) (positions_of (coordinates row))
+abbrev pub lacks_time : Option Dimension → Option ℤ → Row → Bool
+lacks_time dimension start row =
+    is_too_short (moment_read start (field row 1)) (moment_read start (field row 2)) (positions_of dimension (coordinates row))
 
 -- the value of each attribute column; one that is missing is blank
 unfoldable pub attributes_of : ℕ → Row → List (List ℕ)
@@ -85,6 +111,6 @@ record_with number columns row (Some t0) (Some t1) None = None
 record_with number columns row (Some t0) None positions = None
 record_with number columns row None t1 positions = None
 
-unfoldable pub record_of : ℕ → Option ℤ → ℕ → Row → Option RecordView
-record_of number start columns row =
-    record_with number columns row (moment_read start (field row 1)) (moment_read start (field row 2)) (positions_of (coordinates row))
+unfoldable pub record_of : ℕ → Option Dimension → Option ℤ → ℕ → Row → Option RecordView
+record_of number dimension start columns row =
+    record_with number columns row (moment_read start (field row 1)) (moment_read start (field row 2)) (positions_of dimension (coordinates row))

@@ -8,6 +8,7 @@ use Rattle.mfcsv.specs.Header.{kind_of, is_bounds, is_columns, is_data, is_repea
 use Rattle.mfcsv.specs.DataRecord.{has_wrong_fields, has_wrong_name, lacks_moment, ends_early, coordinates, has_wrong_coordinate, has_wrong_count, lacks_time, record_of}
 use Rattle.mfcsv.specs.declared.Code.{Code}
 use Rattle.mfcsv.specs.declared.Code.TheVariants.{F1, F2, F3, F4, F5, F6, F7, F8, F11, F12, F13, F14, F15, F16, F17}
+use Rattle.mfcsv.specs.declared.Dimension.{Dimension}
 use Rattle.mfcsv.specs.declared.File.{File}
 use Rattle.mfcsv.specs.declared.header.Kind.{Kind}
 use Rattle.mfcsv.specs.declared.header.Kind.TheVariants.{Skipped, Bounds, Columns, Other, Data}
@@ -15,6 +16,10 @@ use Rattle.mfcsv.specs.declared.header.Kind.TheVariants.{Skipped, Bounds, Column
 -- the start instant of the header lines before a record, and how many attribute columns they name
 abbrev pub start_before : HeadsView → Option ℤ
 start_before heads = option_and_then (λ (bounds : BoundsView). bounds.start) heads.bounds
+
+-- their dimension
+abbrev pub dimension_before : HeadsView → Option Dimension
+dimension_before heads = option_and_then (λ (bounds : BoundsView). bounds.dimension) heads.bounds
 
 abbrev pub count_in : Option ColumnsView → ℕ
 count_in (Some line) = length line.columns
@@ -38,8 +43,8 @@ has_fault heads row F12 = is_data (kind_of row) && has_wrong_name row
 has_fault heads row F13 = is_data (kind_of row) && lacks_moment (start_before heads) row
 has_fault heads row F14 = is_data (kind_of row) && ends_early (start_before heads) row
 has_fault heads row F15 = is_data (kind_of row) && has_wrong_coordinate (coordinates row)
-has_fault heads row F16 = is_data (kind_of row) && has_wrong_count (coordinates row)
-has_fault heads row F17 = is_data (kind_of row) && lacks_time (start_before heads) row
+has_fault heads row F16 = is_data (kind_of row) && has_wrong_count (dimension_before heads) (coordinates row)
+has_fault heads row F17 = is_data (kind_of row) && lacks_time (dimension_before heads) (start_before heads) row
 
 -- all codes, in the order in which a record is judged
 abbrev pub table : List Code
@@ -75,7 +80,7 @@ faults_of line = map (λ code. (code, line.number)) (filter (has_fault line.head
 
 -- the data record of a line, if it is one
 abbrev pub record_by : Kind → Line → Option RecordView
-record_by Data line = record_of line.number (start_before line.heads) (columns_before line.heads) line.row
+record_by Data line = record_of line.number (dimension_before line.heads) (start_before line.heads) (columns_before line.heads) line.row
 record_by Skipped line = None
 record_by Bounds line = None
 record_by Columns line = None
@@ -85,14 +90,18 @@ abbrev pub records_of : Line → List RecordView
 records_of line = option_to_list (record_by (kind_of line.row) line)
 
 -- a file of these header lines and records, F8 of the whole file where a header line is missing; a line
--- `@stboundedby` whose start instant is not read has had its own fault
-abbrev pub file_at : Option ℤ → BoundsView → ColumnsView → List RecordView → Result File (Code × ℕ)
-file_at (Some start) bounds line records =
-    Ok (record { head = record { number_bounds = bounds.number; number_columns = line.number; crs = bounds.crs; start = start; columns = line.columns }; records = records })
-file_at None bounds line records = Err (F5, bounds.number)
+-- `@stboundedby` whose dimension or start instant is not read has had its own fault
+abbrev pub file_at : Option Dimension → Option ℤ → BoundsView → ColumnsView → List RecordView → Result File (Code × ℕ)
+file_at (Some dimension) (Some start) bounds line records =
+    Ok (record {
+      head = record { number_bounds = bounds.number; number_columns = line.number; crs = bounds.crs; dimension = dimension; start = start; columns = line.columns };
+      records = records;
+    })
+file_at (Some dimension) None bounds line records = Err (F5, bounds.number)
+file_at None start bounds line records = Err (F4, bounds.number)
 
 abbrev pub file_with : Option BoundsView → Option ColumnsView → List RecordView → Result File (Code × ℕ)
-file_with (Some bounds) (Some line) records = file_at bounds.start bounds line records
+file_with (Some bounds) (Some line) records = file_at bounds.dimension bounds.start bounds line records
 file_with (Some bounds) None records = Err (F8, 0)
 file_with None columns records = Err (F8, 0)
 

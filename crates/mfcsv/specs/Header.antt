@@ -5,6 +5,8 @@ use Rattle.timebase.specs.Instant.{moment_of}
 use Rattle.mfcsv.specs.Rows.{Row, field, is_empty, same_word}
 use Rattle.mfcsv.specs.Views.{BoundsView, ColumnsView, HeadsView}
 use Rattle.mfcsv.specs.declared.Column.{Column}
+use Rattle.mfcsv.specs.declared.Dimension.{Dimension}
+use Rattle.mfcsv.specs.declared.Dimension.TheVariants.{Two, Three}
 use Rattle.mfcsv.specs.declared.header.Kind.{Kind}
 use Rattle.mfcsv.specs.declared.header.Kind.TheVariants.{Skipped, Bounds, Columns, Other, Data}
 
@@ -61,12 +63,12 @@ has_heads heads = is_some heads.bounds && is_some heads.columns
 unfoldable pub lacks_bounds_fields : Row → Bool
 lacks_bounds_fields row = nat_lt (length row) 7
 
--- a dimension that is known
-abbrev pub is_dimension : List ℕ → Bool
-is_dimension text = same_word text (codes "2d")
+-- the dimension that a text names
+unfoldable pub dimension_of : List ℕ → Option Dimension
+dimension_of text = if same_word text (codes "2d") then Some Two else (if same_word text (codes "3d") then Some Three else None)
 
 unfoldable pub has_other_dimension : Row → Bool
-has_other_dimension row = not (is_dimension (field row 2))
+has_other_dimension row = not (is_some (dimension_of (field row 2)))
 
 -- what a reading gave, if it gave a value
 abbrev pub value_read : {T E : Type 0} → Result T E → Option T
@@ -109,7 +111,7 @@ columns_of row =
 
 -- what a line `@stboundedby` of that number says
 abbrev pub bounds_of : ℕ → Row → BoundsView
-bounds_of number row = record { number = number; crs = field row 1; start = start_of row }
+bounds_of number row = record { number = number; crs = field row 1; dimension = dimension_of (field row 2); start = start_of row }
 
 -- what a line `@columns` of that number says
 abbrev pub columns_line_of : ℕ → Row → ColumnsView

@@ -6,3 +6,4 @@ pub mod DataRecord
 pub mod FileText
 pub mod Answer
 pub mod CodeText
+pub mod Placing

@@ -6,13 +6,14 @@ ghost use Rattle.mfcsv.specs.Rows.{field, is_empty, is_separator, words};
 ghost use Rattle.mfcsv.specs.Unread.{cells};
 ghost use Rattle.mfcsv.specs.Views.{leg_count};
 ghost use Rattle.mfcsv.specs.DataRecord.{has_wrong_fields, has_wrong_name, moment_read, coordinates, positions_of, attributes_of, record_of};
+ghost use Rattle.mfcsv.specs.Placing.{placed, waits};
 ghost use Rattle.mfcsv.specs.Answer.{Judges, span_fault, trajectory_fault, data_fault};
 
 use crate::header::Given;
 use crate::rows::{RowFault, copy_of, field_at};
-use crate::{Code, Column, Position, Positions, Record, Values};
+use crate::{Code, Column, Dimension, Position, Positions, Record, Values};
 use csv::StringRecord;
-use fixedpoint::{read_coord, read_offset};
+use fixedpoint::{Coord, read_coord, read_offset};
 use std::alloc::{AllocError, Global};
 use timebase::{Ms, at_offset};
 
@@ -118,30 +119,89 @@ fn next_word(text: &str) -> Option<(&str, &str)>
     Some((&rest[..end], &rest[end..]))
 }
 
+/// The coordinates of a position that were read so far, where it is not whole.
+#[derive(Clone, Copy, PartialEq, Eq, Debug)]
+pub(crate) enum Waiting {
+    Nothing,
+    X(Coord),
+    XAndY(Coord, Coord),
+}
+
+/// What a coordinate makes of those before it.
+#[derive(Clone, Copy, PartialEq, Eq, Debug)]
+pub(crate) enum Placed {
+    /// A position that is not whole.
+    Part(Waiting),
+    Whole(Position),
+}
+
+/// Whether coordinates wait for others.
+fn waits(waiting: Waiting) -> bool
+    ensures { result ≡ waits waiting }
+{
+    match waiting {
+        Waiting::Nothing => false,
+        Waiting::X(_) | Waiting::XAndY(_, _) => true,
+    }
+}
+
+/// The z of a position in two dimensions.
+fn zero() -> Coord
+    ensures { result ≡ pos 0 }
+{
+    Coord::new(0).unwrap()
+}
+
+/// One coordinate more of a position.
+fn place(dimension: Dimension, waiting: Waiting, coordinate: Coord) -> Placed
+    ensures { result ≡ placed dimension waiting coordinate }
+{
+    match waiting {
+        Waiting::Nothing => Placed::Part(Waiting::X(coordinate)),
+        Waiting::X(x) => match dimension {
+            Dimension::Two => Placed::Whole(Position {
+                x,
+                y: coordinate,
+                z: zero(),
+            }),
+            Dimension::Three => Placed::Part(Waiting::XAndY(x, coordinate)),
+        },
+        Waiting::XAndY(x, y) => Placed::Whole(Position {
+            x,
+            y,
+            z: coordinate,
+        }),
+    }
+}
+
 /// The positions of a trajectory: the coordinates of one after the other, x first.
-fn read_positions(alloc: Global, text: &str) -> Result<Positions, RowFault>
-    ensures positions { Judges result (trajectory_fault (words text.now)) (λ p. positions_of
-        (words text.now) ≡ Some p) }
+fn read_positions(
+    alloc: Global,
+    dimension: Dimension,
+    text: &str,
+) -> Result<Positions, RowFault>
+    ensures positions { Judges result (trajectory_fault (Some dimension) (words text.now))
+        (λ p. positions_of (Some dimension) (words text.now) ≡ Some p) }
     ensures placed { IfOk result (λ p. 1 ≤ length p) }
 {
     // Most records have two.
     let mut positions = Vec::with_capacity(alloc, 2)?;
     let mut rest = text;
-    let mut waiting = None;
+    let mut waiting = Waiting::Nothing;
     while let Some((word, after)) = next_word(rest) {
         let Ok(coordinate) = read_coord(word) else {
             return Err(RowFault::Refused(Code::F15));
         };
-        match waiting {
-            None => waiting = Some(coordinate),
-            Some(x) => {
-                positions.push(Position { x, y: coordinate })?;
-                waiting = None;
+        match place(dimension, waiting, coordinate) {
+            Placed::Part(part) => waiting = part,
+            Placed::Whole(position) => {
+                positions.push(position)?;
+                waiting = Waiting::Nothing;
             }
         }
         rest = after;
     }
-    if waiting.is_some() || positions.is_empty() {
+    if waits(waiting) || positions.is_empty() {
         return Err(RowFault::Refused(Code::F16));
     }
     Ok(Positions::from(positions))
@@ -182,10 +242,10 @@ pub(crate) fn read_record(
     row: &StringRecord,
     given: &Given,
 ) -> Result<Record, RowFault>
-    ensures { Judges result (data_fault (Some given.now.start) (length given.now.columns.now)
-        (cells row.now))
-        (λ r. record_of number (Some given.now.start) (length given.now.columns.now)
-        (cells row.now) ≡ Some r) }
+    ensures { Judges result (data_fault (Some given.now.dimension) (Some given.now.start)
+        (length given.now.columns.now) (cells row.now))
+        (λ r. record_of number (Some given.now.dimension) (Some given.now.start)
+        (length given.now.columns.now) (cells row.now) ≡ Some r) }
 {
     if has_wrong_fields(row, given.columns) {
         return Err(RowFault::Refused(Code::F11));
@@ -194,7 +254,7 @@ pub(crate) fn read_record(
         return Err(RowFault::Refused(Code::F12));
     }
     let (t0, t1) = read_span(given.start, row)?;
-    let positions = read_positions(alloc, field_at(row, 3))?;
+    let positions = read_positions(alloc, given.dimension, field_at(row, 3))?;
     if lacks_time(t0, t1, positions.as_slice().len()) {
         return Err(RowFault::Refused(Code::F17));
     }

@@ -4,12 +4,12 @@ ghost use Rattle.std.specs.List.{list_all};
 ghost use Rattle.std.specs.Str.{is_utf8};
 ghost use Rattle.mfcsv.specs.Rows.{field, is_empty};
 ghost use Rattle.mfcsv.specs.Unread.{cells};
-ghost use Rattle.mfcsv.specs.Header.{kind_of, is_blank_row, is_header_row, is_dimension, is_unit, is_blank_column, pairs, columns_of, lacks_fixed_columns, bounds_of, columns_line_of, heads_after, has_heads};
-ghost use Rattle.mfcsv.specs.FileText.{first_fault, no_heads, start_before, columns_before};
+ghost use Rattle.mfcsv.specs.Header.{kind_of, is_blank_row, is_header_row, dimension_of, is_unit, is_blank_column, pairs, columns_of, lacks_fixed_columns, bounds_of, columns_line_of, heads_after, has_heads};
+ghost use Rattle.mfcsv.specs.FileText.{first_fault, no_heads, dimension_before, start_before, columns_before};
 ghost use Rattle.mfcsv.specs.Answer.{Judges, bounds_fault};
 
 use crate::rows::{RowFault, copy_of, field_at, is_word};
-use crate::{Code, Column, Columns, Text};
+use crate::{Code, Column, Columns, Dimension, Text};
 use csv::StringRecord;
 use std::alloc::{AllocError, Global};
 use std::marker::Model;
@@ -62,11 +62,18 @@ pub(crate) fn kind_of(row: &StringRecord) -> Kind
     }
 }
 
-/// Whether a dimension is one that files may have.
-fn is_dimension(text: &str) -> bool
-    ensures { result ≡ is_dimension text.now }
+/// The dimension that a text names; `None` where it names none that files may have.
+#[tactic(auto, unfolding(crate::specs::Header::dimension_of))]
+fn dimension_of(text: &str) -> Option<Dimension>
+    ensures { result ≡ dimension_of text.now }
 {
-    is_word(text, "2d")
+    if is_word(text, "2d") {
+        Some(Dimension::Two)
+    } else if is_word(text, "3d") {
+        Some(Dimension::Three)
+    } else {
+        None
+    }
 }
 
 /// Whether a time unit is one that files may have. A blank one is `sec`.
@@ -81,6 +88,7 @@ fn is_unit(text: &str) -> bool
 pub(crate) struct Bounds {
     pub(crate) number: u64,
     pub(crate) crs: Text,
+    pub(crate) dimension: Dimension,
     pub(crate) start: Ms,
 }
 
@@ -90,7 +98,7 @@ impl Model for Bounds {
 
     ghost Value = { BoundsView };
 
-    ghost view = { λ a. record { number = a.number; crs = a.crs; start = Some a.start } };
+    ghost view = { λ a. record { number = a.number; crs = a.crs; dimension = Some a.dimension; start = Some a.start } };
 }
 
 #[tactic(auto, unfolding(crate::specs::Header::lacks_bounds_fields, crate::specs::Header::has_other_dimension, crate::specs::Header::start_of, crate::specs::Header::has_other_unit))]
@@ -101,9 +109,9 @@ fn read_bounds(alloc: Global, number: u64, row: &StringRecord) -> Result<Bounds,
     if row.len() < 7 {
         return Err(RowFault::Refused(Code::F3));
     }
-    if !is_dimension(field_at(row, 2)) {
+    let Some(dimension) = dimension_of(field_at(row, 2)) else {
         return Err(RowFault::Refused(Code::F4));
-    }
+    };
     let start = match read_instant(field_at(row, 5)) {
         Ok(start) => start,
         Err(TimeFault::Memory) => return Err(RowFault::Memory),
@@ -115,7 +123,12 @@ fn read_bounds(alloc: Global, number: u64, row: &StringRecord) -> Result<Bounds,
         return Err(RowFault::Refused(Code::F6));
     }
     let crs = copy_of(alloc, row, 1)?;
-    Ok(Bounds { number, crs, start })
+    Ok(Bounds {
+        number,
+        crs,
+        dimension,
+        start,
+    })
 }
 
 #[tactic(auto, unfolding(crate::specs::Header::lacks_fixed_columns))]
@@ -174,9 +187,10 @@ impl Model for ColumnLine {
     ghost view = { λ a. record { number = a.number; columns = a.columns } };
 }
 
-/// What both header lines give each data record: the start instant, and the attribute columns.
+/// What both header lines give each data record: the dimension, the start instant, and the attribute columns.
 #[derive(Clone, Copy)]
 pub(crate) struct Given<'a> {
+    pub(crate) dimension: Dimension,
     pub(crate) start: Ms,
     pub(crate) columns: &'a [Column],
 }
@@ -276,11 +290,13 @@ impl Heads {
     /// What both header lines give each data record.
     pub(crate) fn given(&self) -> Option<Given<'_>>
         ensures { MatchOption result (has_heads self.now ≡ false)
-            (λ g. (has_heads self.now ≡ true) × (start_before self.now ≡ Some g.start)
+            (λ g. (has_heads self.now ≡ true) × (dimension_before self.now ≡ Some g.dimension)
+            × (start_before self.now ≡ Some g.start)
             × (columns_before self.now ≡ length g.columns.now)) }
     {
         match (&self.bounds, &self.columns) {
             (Some(bounds), Some(line)) => Some(Given {
+                dimension: bounds.dimension,
                 start: bounds.start,
                 columns: line.columns.as_slice(),
             }),

@@ -225,11 +225,21 @@ impl From<Vec<Column>> for Columns {
     }
 }
 
-/// A position: x and y in the order of the file.
+/// How many coordinates the positions of a file have.
+#[derive(Clone, Copy, PartialEq, Eq, Debug)]
+pub enum Dimension {
+    /// x and y: `2D`.
+    Two,
+    /// x, y and z: `3D`.
+    Three,
+}
+
+/// A position: x, y and z in the order of the file; z is 0 in two dimensions.
 #[derive(Clone, Copy, PartialEq, Eq, Debug)]
 pub struct Position {
     pub x: Coord,
     pub y: Coord,
+    pub z: Coord,
 }
 
 /// The positions of a record, seen by contracts as a list.
@@ -346,6 +356,8 @@ pub struct Head {
     pub number_columns: u64,
     /// The name of the coordinate reference system.
     pub crs: Text,
+    /// How many coordinates each position has.
+    pub dimension: Dimension,
     /// The start instant, from which the times of the records count.
     pub start: Ms,
     /// The attribute columns, without the blank ones at the end of the line.

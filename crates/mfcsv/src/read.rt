@@ -74,6 +74,7 @@ fn whole(heads: Heads, records: Vec<Record>) -> Result<File, FileFault>
                 number_bounds: bounds.number,
                 number_columns: line.number,
                 crs: bounds.crs,
+                dimension: bounds.dimension,
                 start: bounds.start,
                 columns: line.columns,
             },
