@@ -8,7 +8,7 @@ use Rattle.mfcsv.specs.Views.{RecordView, IsRecord}
 use Rattle.legs.specs.Legs.{LegView}
 use Rattle.legs.specs.Limits.{LimitsView}
 use Rattle.legs.specs.Index.{CanFollowInTurn}
-use Rattle.legs.specs.Book.{Book, record_legs, records_legs, with_record, with_records, with_file, has_fault, faults_of, record_faults, head_faults, file_faults, first_or, joined, IsRefusal, same_columns}
+use Rattle.legs.specs.Book.{Book, record_legs, records_legs, with_record, with_records, with_file, has_fault, faults_of, record_faults, head_faults, file_faults, first_or, joined, IsRefusal, same_columns, same_space}
 use Rattle.legs.specs.FirstFault.{IsFirst, IsFirstOf}
 use Rattle.legs.specs.Drafts.{IsDraft}
 use Rattle.legs.specs.declared.draft.Draft.{Draft}
@@ -97,18 +97,12 @@ with_records-rows book (r ∷ records) =
 pub next_record : (records : List RecordView) (i : ℕ) (r : RecordView) → i < length records → r ≡ get_or records i r → drop i records ≡ r ∷ drop (i + 1) records
 next_record records i r h e = drop_more records i r h ∙ ap (λ (x : RecordView). x ∷ drop (i + 1) records) (sym e)
 
-not_true : (b : Bool) → not b ≡ true → b ≡ false
-not_true true e = sym e
-not_true false e = refl
-
--- the fault of another CRS
-pub other_crs : (o : Option Head) (first head : Head) (a b : List ℕ) (t : Bool) → o ≡ Some first → a ≡ first.crs → b ≡ head.crs → t ≡ not (bytes_eq a b) → t ≡ true
-    → (others : List (JoinCode × ℕ)) × (head_faults o head ≡ (F9, head.number_bounds) ∷ others)
-other_crs o first head a b t at one other e holds =
-    let differs : bytes_eq first.crs head.crs ≡ false = not_true (bytes_eq first.crs head.crs) (rw (one, other) at (sym e ∙ holds)) in (
-      cond (same_columns first.columns head.columns) [] ((F10, head.number_columns) ∷ []),
-      ap (λ q. head_faults q head) at ∙ ap (λ u. cond u [] ((F9, head.number_bounds) ∷ []) ++ cond (same_columns first.columns head.columns) [] ((F10, head.number_columns) ∷ [])) differs,
-    )
+-- the fault of another CRS or dimension
+pub other_space : (o : Option Head) (first head : Head) (t : Bool) → o ≡ Some first → t ≡ same_space first head → t ≡ false → (others : List (JoinCode × ℕ)) × (head_faults o head ≡ (F9, head.number_bounds) ∷ others)
+other_space o first head t at e holds = (
+  cond (same_columns first.columns head.columns) [] ((F10, head.number_columns) ∷ []),
+  ap (λ q. head_faults q head) at ∙ ap (λ u. cond u [] ((F9, head.number_bounds) ∷ []) ++ cond (same_columns first.columns head.columns) [] ((F10, head.number_columns) ∷ [])) (sym e ∙ holds),
+)
 
 -- nothing is left
 pub joined_end : (limits : LimitsView) (book now : Book) (records xs : List RecordView) (i : ℕ) (legs : List LegView) (d : Draft) → xs ≡ records → length xs ≤ i → IsJoined limits book now xs (drop i xs) legs d → IsJoined limits book now records [] legs d

@@ -1,8 +1,10 @@
 -- The book, and how a file is accepted into it.
-use Rattle.std.specs.Prelude.{ℕ, ◌≡◌, ◌==◌, zip, ◌+◌, nat_lt, ◌&&◌, Bool, false, if◌then◌else◌, List, [], ◌∷◌, ◌++◌, length, map, filter, fold, position, Option, Some, None, Result, Ok, Err, ℤ, int_lt, bytes_eq}
+use Rattle.std.specs.Prelude.{ℕ, ◌≡◌, ◌==◌, zip, ◌+◌, nat_lt, ◌&&◌, Bool, true, false, if◌then◌else◌, List, [], ◌∷◌, ◌++◌, length, map, filter, fold, position, Option, Some, None, Result, Ok, Err, ℤ, int_lt, bytes_eq}
 use Rattle.std.specs.Option.{option_and_then}
 use Rattle.std.specs.List.{range_with_len, position_or_len, list_any, list_all}
 use Rattle.mfcsv.specs.declared.Column.{Column}
+use Rattle.mfcsv.specs.declared.Dimension.{Dimension}
+use Rattle.mfcsv.specs.declared.Dimension.TheVariants.{Two, Three}
 use Rattle.mfcsv.specs.declared.Head.{Head}
 use Rattle.mfcsv.specs.declared.File.{File}
 use Rattle.mfcsv.specs.Views.{RecordView, leg_count}
@@ -100,11 +102,22 @@ same_column a b = bytes_eq a.name b.name && bytes_eq a.kind b.kind
 abbrev pub same_columns : List Column → List Column → Bool
 same_columns first second = (length first == length second) && list_all (λ p. same_column p.0 p.1) (zip first second)
 
--- the joining faults of a head, against the head of the first accepted file: another CRS, other columns
+abbrev pub same_dimension : Dimension → Dimension → Bool
+same_dimension Two Two = true
+same_dimension Two Three = false
+same_dimension Three Two = false
+same_dimension Three Three = true
+
+-- whether two heads have the same CRS name and the same dimension
+abbrev pub same_space : Head → Head → Bool
+same_space first head = bytes_eq first.crs head.crs && same_dimension first.dimension head.dimension
+
+-- all joining faults of a head, against the head of the first accepted file: another CRS or dimension, other
+-- columns
 abbrev pub head_faults : Option Head → Head → List (JoinCode × ℕ)
 head_faults None head = []
 head_faults (Some first) head =
-    (if bytes_eq first.crs head.crs then [] else (F9, head.number_bounds) ∷ [])
+    (if same_space first head then [] else (F9, head.number_bounds) ∷ [])
     ++ (if same_columns first.columns head.columns then [] else (F10, head.number_columns) ∷ [])
 
 -- all joining faults of a file: those of its head, then those of its records

@@ -8,7 +8,7 @@ use Rattle.timebase.specs.Period.{PeriodView}
 use Rattle.mfcsv.specs.declared.Position.{Position}
 use Rattle.mfcsv.specs.Views.{RecordView, leg_count}
 
--- A leg: a straight move of a feature from (x0, y0) at t0 to (x1, y1) at t1. Its ordinal is its place among all
+-- A leg: a straight move of a feature from (x0, y0, z0) at t0 to (x1, y1, z1) at t1. Its ordinal is its place among all
 -- legs, its feature a number, and its row the number of its attribute values.
 pub record LegView : Type 0 where
   pub ordinal : ℕ
@@ -17,8 +17,10 @@ pub record LegView : Type 0 where
   pub t1 : ℤ
   pub x0 : ℤ
   pub y0 : ℤ
+  pub z0 : ℤ
   pub x1 : ℤ
   pub y1 : ℤ
+  pub z1 : ℤ
   pub row : ℕ
 
 -- the moments rise, and all of them and the coordinates are in range
@@ -28,8 +30,10 @@ pub record IsLeg (leg : LegView) : Type 0 where
   pub t1 : IsMoment leg.t1
   pub x0 : IsInRange leg.x0
   pub y0 : IsInRange leg.y0
+  pub z0 : IsInRange leg.z0
   pub x1 : IsInRange leg.x1
   pub y1 : IsInRange leg.y1
+  pub z1 : IsInRange leg.z1
 
 -- a move of a record, that has no number yet
 pub record StepView : Type 0 where
@@ -37,8 +41,10 @@ pub record StepView : Type 0 where
   pub t1 : ℤ
   pub x0 : ℤ
   pub y0 : ℤ
+  pub z0 : ℤ
   pub x1 : ℤ
   pub y1 : ℤ
+  pub z1 : ℤ
 
 -- the moments rise, and all of them and the coordinates are in range
 pub record IsStep (step : StepView) : Type 0 where
@@ -47,11 +53,14 @@ pub record IsStep (step : StepView) : Type 0 where
   pub t1 : IsMoment step.t1
   pub x0 : IsInRange step.x0
   pub y0 : IsInRange step.y0
+  pub z0 : IsInRange step.z0
   pub x1 : IsInRange step.x1
   pub y1 : IsInRange step.y1
+  pub z1 : IsInRange step.z1
 
 abbrev pub step_between : ℤ → ℤ → Position → Position → StepView
-step_between t0 t1 from to = record { t0 = t0; t1 = t1; x0 = from.x; y0 = from.y; x1 = to.x; y1 = to.y }
+step_between t0 t1 from to =
+    record { t0 = t0; t1 = t1; x0 = from.x; y0 = from.y; z0 = from.z; x1 = to.x; y1 = to.y; z1 = to.z }
 
 -- where the cut between leg k - 1 and leg k of n legs lies: start + floor((end - start) * k / n)
 unfoldable pub cut_moment : ℤ → ℤ → ℕ → ℕ → ℤ
@@ -59,7 +68,7 @@ cut_moment start end n k = start +ℤ int_div_euclid ((end -ℤ start) *ℤ pos 
 
 -- the position of that number
 abbrev pub position_at : List Position → ℕ → Position
-position_at positions k = slice_index_or positions k (record { x = pos 0; y = pos 0 })
+position_at positions k = slice_index_or positions k (record { x = pos 0; y = pos 0; z = pos 0 })
 
 -- leg k goes to the position k + 1; where there is one position, it stands still
 abbrev pub next_position : List Position → ℕ → Position
@@ -78,7 +87,19 @@ steps_of r = map (step_at r) (range_with_len 0 (leg_count (length r.positions)))
 -- a leg with its numbers
 abbrev pub leg_of : ℕ → ℕ → ℕ → StepView → LegView
 leg_of ordinal feature row step =
-    record { ordinal = ordinal; feature = feature; t0 = step.t0; t1 = step.t1; x0 = step.x0; y0 = step.y0; x1 = step.x1; y1 = step.y1; row = row }
+    record {
+      ordinal = ordinal;
+      feature = feature;
+      t0 = step.t0;
+      t1 = step.t1;
+      x0 = step.x0;
+      y0 = step.y0;
+      z0 = step.z0;
+      x1 = step.x1;
+      y1 = step.y1;
+      z1 = step.z1;
+      row = row;
+    }
 
 -- the least and the greatest moment of a leg in a period, where it has one
 abbrev pub first_moment : LegView → PeriodView → ℤ

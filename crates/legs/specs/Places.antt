@@ -9,7 +9,7 @@ pub record ListView : Type 0 where
   pub spent : Bool
 
 abbrev pub no_leg : LegView
-no_leg = record { ordinal = 0; feature = 0; t0 = pos 0; t1 = pos 0; x0 = pos 0; y0 = pos 0; x1 = pos 0; y1 = pos 0; row = 0 }
+no_leg = record { ordinal = 0; feature = 0; t0 = pos 0; t1 = pos 0; x0 = pos 0; y0 = pos 0; z0 = pos 0; x1 = pos 0; y1 = pos 0; z1 = pos 0; row = 0 }
 
 -- the legs at these places
 abbrev pub legs_at : List LegView → List ℕ → List LegView

@@ -3,7 +3,7 @@ ghost use Rattle.std.specs.Prelude.{◌≡◌, [], length, map, zip, ◌++◌, O
 ghost use Rattle.std.specs.List.{list_all};
 ghost use Rattle.std.specs.Option.{option_copied};
 ghost use Rattle.legs.specs.Index.{CanFollowInTurn};
-ghost use Rattle.legs.specs.Book.{Book, joined, IsRefusal, with_file, same_column, same_columns, head_faults};
+ghost use Rattle.legs.specs.Book.{Book, joined, IsRefusal, with_file, same_column, same_columns, same_dimension, same_space, head_faults};
 ghost use Rattle.legs.specs.Tracks.{StandsFor};
 ghost use Rattle.legs.specs.FirstFault.{IsFirst};
 
@@ -11,7 +11,7 @@ use crate::draft::Draft;
 use crate::leg::Leg;
 use crate::limits::Limits;
 use crate::tracks::Tracks;
-use mfcsv::{Column, File, Head};
+use mfcsv::{Column, Dimension, File, Head};
 use std::alloc::{AllocError, AllocFailed, Global};
 use std::fmt;
 use thiserror::Error;
@@ -19,7 +19,7 @@ use thiserror::Error;
 /// A joining fault: why a file whose text has no fault is not accepted.
 #[derive(Clone, Copy, PartialEq, Eq, Debug)]
 pub enum JoinCode {
-    /// The CRS is not the database's.
+    /// The CRS or the dimension is not the database's.
     F9,
     /// The attribute columns are not the database's.
     F10,
@@ -93,6 +93,22 @@ impl From<AllocError> for JoinFault {
     }
 }
 
+fn same_dimension(one: Dimension, other: Dimension) -> bool
+    ensures { result ≡ same_dimension one other }
+{
+    match (one, other) {
+        (Dimension::Two, Dimension::Two) | (Dimension::Three, Dimension::Three) => true,
+        (Dimension::Two, Dimension::Three) | (Dimension::Three, Dimension::Two) => false,
+    }
+}
+
+/// Whether two heads have the same CRS name and the same dimension.
+fn same_space(first: &Head, head: &Head) -> bool
+    ensures { result ≡ same_space first.now head.now }
+{
+    first.crs.as_str() == head.crs.as_str() && same_dimension(first.dimension, head.dimension)
+}
+
 fn same_column(one: &Column, other: &Column) -> bool
     ensures { result ≡ same_column one.now other.now }
 {
@@ -127,7 +143,7 @@ fn check_head(first: Option<&Head>, head: &Head) -> Result<(), JoinFault>
     let Some(first) = first else {
         return Ok(());
     };
-    if first.crs.as_str() != head.crs.as_str() {
+    if !same_space(first, head) {
         return Err(JoinFault::Refused {
             code: JoinCode::F9,
             number: head.number_bounds,
@@ -145,7 +161,7 @@ fn check_head(first: Option<&Head>, head: &Head) -> Result<(), JoinFault>
 /// Joins a file whose text has no fault to a book: the legs that it adds, with their numbers, or the first
 /// joining fault. `head` is the head of the first accepted file, if there is one.
 ///
-/// A file is refused where its CRS (`F9`, at its `@stboundedby` record) or its columns (`F10`, at its `@columns`
+/// A file is refused where its CRS or its dimension (`F9`, at its `@stboundedby` record) or its columns (`F10`, at its `@columns`
 /// record) are not those of the first accepted file, and then at its first record that starts before its
 /// feature's last leg ends (`F18`), or with which there are more legs (`F19`) or features (`F20`) than the
 /// limits allow.

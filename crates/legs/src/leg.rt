@@ -7,8 +7,8 @@ use mfcsv::Position;
 use std::marker::Model;
 use timebase::{Ms, Period};
 
-/// A straight move of a feature from (`x0`, `y0`) at `t0` to (`x1`, `y1`) at `t1`. It takes time: `t0` is
-/// before `t1`.
+/// A straight move of a feature from (`x0`, `y0`, `z0`) at `t0` to (`x1`, `y1`, `z1`) at `t1`. It takes time:
+/// `t0` is before `t1`. In two dimensions z is 0.
 #[derive(Clone, Copy, PartialEq, Eq, Debug)]
 pub struct Leg {
     /// Its place among all legs, from 0.
@@ -21,8 +21,10 @@ pub struct Leg {
     pub t1: Ms,
     pub x0: Coord,
     pub y0: Coord,
+    pub z0: Coord,
     pub x1: Coord,
     pub y1: Coord,
+    pub z1: Coord,
 }
 
 impl Model for Leg {
@@ -30,11 +32,11 @@ impl Model for Leg {
 
     ghost Value = { LegView };
 
-    ghost view = { λ a. record { ordinal = a.ordinal; feature = a.feature; t0 = a.t0; t1 = a.t1; x0 = a.x0; y0 = a.y0; x1 = a.x1; y1 = a.y1; row = a.row } };
+    ghost view = { λ a. record { ordinal = a.ordinal; feature = a.feature; t0 = a.t0; t1 = a.t1; x0 = a.x0; y0 = a.y0; z0 = a.z0; x1 = a.x1; y1 = a.y1; z1 = a.z1; row = a.row } };
 
-    ghost invariant = { λ a. IsLeg (record { ordinal = a.ordinal; feature = a.feature; t0 = a.t0; t1 = a.t1; x0 = a.x0; y0 = a.y0; x1 = a.x1; y1 = a.y1; row = a.row }) };
+    ghost invariant = { λ a. IsLeg (record { ordinal = a.ordinal; feature = a.feature; t0 = a.t0; t1 = a.t1; x0 = a.x0; y0 = a.y0; z0 = a.z0; x1 = a.x1; y1 = a.y1; z1 = a.z1; row = a.row }) };
 
-    ghost inverse = { λ v. record { ordinal = v.ordinal; t0 = v.t0; t1 = v.t1; x0 = v.x0; y0 = v.y0; x1 = v.x1; y1 = v.y1; feature = v.feature; row = v.row } };
+    ghost inverse = { λ v. record { ordinal = v.ordinal; t0 = v.t0; t1 = v.t1; x0 = v.x0; y0 = v.y0; z0 = v.z0; x1 = v.x1; y1 = v.y1; z1 = v.z1; feature = v.feature; row = v.row } };
 }
 
 impl Leg {
@@ -71,16 +73,18 @@ impl Leg {
     }
 }
 
-/// A move of a record that has no number yet: from (`x0`, `y0`) at `t0` to (`x1`, `y1`) at `t1`, and `t0` is
-/// before `t1`.
+/// A move of a record that has no number yet: from (`x0`, `y0`, `z0`) at `t0` to (`x1`, `y1`, `z1`) at `t1`, and
+/// `t0` is before `t1`.
 #[derive(Clone, Copy, PartialEq, Eq, Debug)]
 pub struct Step {
     pub t0: Ms,
     pub t1: Ms,
     pub x0: Coord,
     pub y0: Coord,
+    pub z0: Coord,
     pub x1: Coord,
     pub y1: Coord,
+    pub z1: Coord,
 }
 
 impl Model for Step {
@@ -88,11 +92,11 @@ impl Model for Step {
 
     ghost Value = { StepView };
 
-    ghost view = { λ a. record { t0 = a.t0; t1 = a.t1; x0 = a.x0; y0 = a.y0; x1 = a.x1; y1 = a.y1 } };
+    ghost view = { λ a. record { t0 = a.t0; t1 = a.t1; x0 = a.x0; y0 = a.y0; z0 = a.z0; x1 = a.x1; y1 = a.y1; z1 = a.z1 } };
 
-    ghost invariant = { λ a. IsStep (record { t0 = a.t0; t1 = a.t1; x0 = a.x0; y0 = a.y0; x1 = a.x1; y1 = a.y1 }) };
+    ghost invariant = { λ a. IsStep (record { t0 = a.t0; t1 = a.t1; x0 = a.x0; y0 = a.y0; z0 = a.z0; x1 = a.x1; y1 = a.y1; z1 = a.z1 }) };
 
-    ghost inverse = { λ v. record { t0 = v.t0; t1 = v.t1; x0 = v.x0; y0 = v.y0; x1 = v.x1; y1 = v.y1 } };
+    ghost inverse = { λ v. record { t0 = v.t0; t1 = v.t1; x0 = v.x0; y0 = v.y0; z0 = v.z0; x1 = v.x1; y1 = v.y1; z1 = v.z1 } };
 }
 
 fn is_in_range(coord: Coord) -> bool
@@ -114,16 +118,27 @@ impl Step {
         if t0.millis() >= t1.millis() {
             return None;
         }
-        let Position { x: x0, y: y0 } = from;
-        let Position { x: x1, y: y1 } = to;
-        prove!(is_in_range(x0) && is_in_range(y0) && is_in_range(x1) && is_in_range(y1));
+        let Position {
+            x: x0,
+            y: y0,
+            z: z0,
+        } = from;
+        let Position {
+            x: x1,
+            y: y1,
+            z: z1,
+        } = to;
+        prove!(is_in_range(x0) && is_in_range(y0) && is_in_range(z0));
+        prove!(is_in_range(x1) && is_in_range(y1) && is_in_range(z1));
         Some(Step {
             t0,
             t1,
             x0,
             y0,
+            z0,
             x1,
             y1,
+            z1,
         })
     }
 
@@ -139,8 +154,10 @@ impl Step {
             t1: self.t1,
             x0: self.x0,
             y0: self.y0,
+            z0: self.z0,
             x1: self.x1,
             y1: self.y1,
+            z1: self.z1,
         }
     }
 }
