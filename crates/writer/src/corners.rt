@@ -5,23 +5,32 @@ ghost use Rattle.writer.specs.File.{end_from};
 ghost use Rattle.writer.specs.Steps.{AreCorners, corners_at, corners_with, first_corners};
 
 use crate::entry::Entry;
+use crate::leg::begin_of;
 use fixedpoint::Coord;
+use mfcsv::Position;
 use timebase::Ms;
 
-/// The least and the greatest x and y.
+/// The least and the greatest x, y and z.
 #[derive(Clone, Copy)]
 pub(crate) struct Corners {
     pub(crate) x_min: Coord,
     pub(crate) y_min: Coord,
+    pub(crate) z_min: Coord,
     pub(crate) x_max: Coord,
     pub(crate) y_max: Coord,
+    pub(crate) z_max: Coord,
 }
 
-fn zero() -> Coord
-    ensures { result ≡ pos 0 }
+/// `0 0 0`.
+fn origin() -> Position
+    ensures { result ≡ record { x = pos 0; y = pos 0; z = pos 0 } }
 {
     match Coord::new(0) {
-        Some(coord) => coord,
+        Some(zero) => Position {
+            x: zero,
+            y: zero,
+            z: zero,
+        },
         None => unreachable!(),
     }
 }
@@ -39,15 +48,40 @@ fn greater(one: Coord, other: Coord) -> Coord
 }
 
 impl Corners {
-    /// Corners at a point.
-    fn at(x: Coord, y: Coord) -> Corners
-        ensures { result ≡ corners_at x y }
+    /// The least x, y and z.
+    pub(crate) fn lower(&self) -> Position
+        ensures { result ≡ record { x = self.now.x_min; y = self.now.y_min; z = self.now.z_min } }
     {
+        Position {
+            x: self.x_min,
+            y: self.y_min,
+            z: self.z_min,
+        }
+    }
+
+    /// The greatest x, y and z.
+    pub(crate) fn upper(&self) -> Position
+        ensures { result ≡ record { x = self.now.x_max; y = self.now.y_max; z = self.now.z_max } }
+    {
+        Position {
+            x: self.x_max,
+            y: self.y_max,
+            z: self.z_max,
+        }
+    }
+
+    /// Corners at a point.
+    fn at(point: Position) -> Corners
+        ensures { result ≡ corners_at point }
+    {
+        let Position { x, y, z } = point;
         Corners {
             x_min: x,
             y_min: y,
+            z_min: z,
             x_max: x,
             y_max: y,
+            z_max: z,
         }
     }
 
@@ -59,21 +93,23 @@ impl Corners {
         Corners {
             x_min: lesser(lesser(self.x_min, leg.x0), leg.x1),
             y_min: lesser(lesser(self.y_min, leg.y0), leg.y1),
+            z_min: lesser(lesser(self.z_min, leg.z0), leg.z1),
             x_max: greater(greater(self.x_max, leg.x0), leg.x1),
             y_max: greater(greater(self.y_max, leg.y0), leg.y1),
+            z_max: greater(greater(self.z_max, leg.z0), leg.z1),
         }
     }
 
-    /// Corners at the first end of the first leg, or at `0 0`.
+    /// Corners at the first end of the first leg, or at `0 0 0`.
     fn first(entries: &[Entry<'_>]) -> Corners
         ensures { result ≡ first_corners entries.now }
     {
         match entries.first() {
             Some(entry) => {
                 let leg = entry.leg;
-                Corners::at(leg.x0, leg.y0)
+                Corners::at(begin_of(&leg))
             }
-            None => Corners::at(zero(), zero()),
+            None => Corners::at(origin()),
         }
     }
 }
@@ -89,7 +125,7 @@ fn widened(corners: Corners, entries: &[Entry<'_>]) -> Corners
     corners
 }
 
-/// The corners of all legs, `0 0` where there are none.
+/// The corners of all legs, `0 0 0` where there are none.
 pub(crate) fn corners_of(entries: &[Entry<'_>]) -> Corners
     ensures { AreCorners result entries.now }
 {

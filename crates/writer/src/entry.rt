@@ -1,7 +1,15 @@
-//! Entries of a file.
+//! Entries of a file, and how their legs are written.
 use legs::Leg;
-use mfcsv::Text;
+use mfcsv::{Dimension, Text};
 use std::marker::Model;
+use timebase::Ms;
+
+/// How legs are written: with how many coordinates, and with times as offsets from which moment.
+#[derive(Clone, Copy, PartialEq, Eq, Debug)]
+pub struct Frame {
+    pub dimension: Dimension,
+    pub base: Ms,
+}
 
 /// A leg, the name of its feature and the attribute values of its record.
 #[derive(Drop)]

@@ -1,28 +1,45 @@
 //! The records of a file.
 ghost use Rattle.std.specs.Prelude.{◌≡◌, ◌++◌, ◌∷◌, [], false, OnOk, IfOk, codes, map};
 ghost use Rattle.timebase.specs.InstantText.{instant_text};
-ghost use Rattle.writer.specs.Records.{record_text};
-ghost use Rattle.writer.specs.File.{bounds_fields, column_fields, columns_fields, entries_text, file_text, point_text};
+ghost use Rattle.writer.specs.Records.{point_text, record_text};
+ghost use Rattle.writer.specs.File.{bounds_fields, column_fields, columns_fields, dimension_text, entries_text, file_text, frame_of};
 ghost use Rattle.writer.specs.Written.{written};
 
 use crate::corners::{corners_of, end_from};
-use crate::entry::Entry;
-use crate::leg::write_leg;
+use crate::entry::{Entry, Frame};
+use crate::leg::{push_point, write_leg};
 use crate::records::Records;
-use fixedpoint::{Coord, push_coord};
-use mfcsv::{Column, Head};
+use mfcsv::{Column, Dimension, Head, Position};
 use std::alloc::{AllocError, Global};
 use timebase::{Ms, push_instant};
 
-/// `x y`.
-fn point_text(alloc: Global, x: Coord, y: Coord) -> Result<Vec<u8>, AllocError>
-    ensures { IfOk result (λ text. text.items ≡ point_text x y) }
+/// The text of a dimension.
+fn dimension_text(dimension: Dimension) -> &'static str
+    ensures { result.now ≡ dimension_text dimension }
+{
+    match dimension {
+        Dimension::Two => "2D",
+        Dimension::Three => "3D",
+    }
+}
+
+/// A corner.
+fn point_text(alloc: Global, dimension: Dimension, point: Position) -> Result<Vec<u8>, AllocError>
+    ensures { IfOk result (λ text. text.items ≡ point_text dimension point) }
 {
     let mut text = Vec::new(alloc);
-    push_coord(&mut text, x)?;
-    text.push(b' ')?;
-    push_coord(&mut text, y)?;
+    push_point(&mut text, dimension, point)?;
     Ok(text)
+}
+
+/// How the legs of a file with that head are written.
+fn frame_of(head: &Head) -> Frame
+    ensures { result ≡ frame_of head.now }
+{
+    Frame {
+        dimension: head.dimension,
+        base: head.start,
+    }
 }
 
 fn instant_text(alloc: Global, at: Ms) -> Result<Vec<u8>, AllocError>
@@ -36,18 +53,19 @@ fn instant_text(alloc: Global, at: Ms) -> Result<Vec<u8>, AllocError>
 /// The fields of the first header line.
 fn bounds_row<'a>(
     crs: &'a [u8],
+    dimension: &'a [u8],
     lower: &'a [u8],
     upper: &'a [u8],
     base: &'a [u8],
     end: &'a [u8],
 ) -> [&'a [u8]; 8]
     ensures { map
-        (λ f. f.now) result ≡ codes "@stboundedby" ∷ crs.entry.now ∷ codes "2D" ∷ lower.entry.now ∷ upper.entry.now ∷ base.entry.now ∷ end.entry.now ∷ codes "sec" ∷ [] }
+        (λ f. f.now) result ≡ codes "@stboundedby" ∷ crs.entry.now ∷ dimension.entry.now ∷ lower.entry.now ∷ upper.entry.now ∷ base.entry.now ∷ end.entry.now ∷ codes "sec" ∷ [] }
 {
     [
         "@stboundedby".as_bytes(),
         crs,
-        "2D".as_bytes(),
+        dimension,
         lower,
         upper,
         base,
@@ -68,12 +86,13 @@ fn write_bounds(
         ++ record_text (bounds_fields head.now entries.now))) }
 {
     let corners = corners_of(entries);
-    let lower = point_text(alloc, corners.x_min, corners.y_min)?;
-    let upper = point_text(alloc, corners.x_max, corners.y_max)?;
+    let lower = point_text(alloc, head.dimension, corners.lower())?;
+    let upper = point_text(alloc, head.dimension, corners.upper())?;
     let base = instant_text(alloc, head.start)?;
     let end = instant_text(alloc, end_from(head.start, entries))?;
     let fields = bounds_row(
         head.crs.as_str().as_bytes(),
+        dimension_text(head.dimension).as_bytes(),
         lower.as_slice(),
         upper.as_slice(),
         base.as_slice(),
@@ -115,15 +134,15 @@ fn write_columns(alloc: Global, records: &mut Records, head: &Head) -> Result<()
 fn write_entries(
     alloc: Global,
     records: &mut Records,
-    base: Ms,
+    frame: &Frame,
     entries: &[Entry<'_>],
 ) -> Result<(), AllocError>
     requires { records.old.refused ≡ false }
     ensures { OnOk result (records.new ≡ written (records.old.text
-        ++ entries_text base entries.now)) }
+        ++ entries_text frame.now entries.now)) }
 {
     for entry in entries {
-        write_leg(alloc, records, entry.name, base, &entry.leg, entry.values)?;
+        write_leg(alloc, records, entry.name, frame, &entry.leg, entry.values)?;
     }
     Ok(())
 }
@@ -131,13 +150,13 @@ fn write_entries(
 /// The records of legs.
 pub(crate) fn entries_text(
     alloc: Global,
-    base: Ms,
+    frame: &Frame,
     entries: &[Entry<'_>],
 ) -> Result<Vec<u8>, AllocError>
-    ensures { IfOk result (λ text. text.items ≡ entries_text base entries.now) }
+    ensures { IfOk result (λ text. text.items ≡ entries_text frame.now entries.now) }
 {
     let mut records = Records::new(alloc);
-    write_entries(alloc, &mut records, base, entries)?;
+    write_entries(alloc, &mut records, frame, entries)?;
     records.into_text()
 }
 
@@ -153,6 +172,6 @@ pub(crate) fn file_text(
     let mut records = Records::new(alloc);
     write_bounds(alloc, &mut records, head, entries)?;
     write_columns(alloc, &mut records, head)?;
-    write_entries(alloc, &mut records, head.start, entries)?;
+    write_entries(alloc, &mut records, &frame_of(head), entries)?;
     records.into_text()
 }

@@ -1,13 +1,14 @@
 //! A leg's record.
 ghost use Rattle.std.specs.Prelude.{false, ◌≡◌, ◌++◌, ◌∷◌, [], ◌-ℤ◌, IfOk, OnOk, map};
 ghost use Rattle.fixedpoint.specs.NumberText.{coord_text, offset_text};
-ghost use Rattle.writer.specs.Records.{leg_record, positions_text};
+ghost use Rattle.writer.specs.Records.{begin_of, end_of, leg_record, point_text, positions_text};
 ghost use Rattle.writer.specs.Written.{written};
 
+use crate::entry::Frame;
 use crate::records::Records;
 use fixedpoint::{Coord, Offset, push_coord, push_offset};
 use legs::Leg;
-use mfcsv::Text;
+use mfcsv::{Dimension, Position, Text};
 use std::alloc::{AllocError, Global};
 use timebase::Ms;
 
@@ -38,15 +39,52 @@ fn push_next(text: &mut Vec<u8>, coord: Coord) -> Result<(), AllocError>
     push_coord(text, coord)
 }
 
-/// `x0 y0 x1 y1`.
-fn positions_text(alloc: Global, leg: &Leg) -> Result<Vec<u8>, AllocError>
-    ensures { IfOk result (λ text. text.items ≡ positions_text leg.now) }
+/// `x y`, or `x y z` in three dimensions.
+pub(crate) fn push_point(
+    text: &mut Vec<u8>,
+    dimension: Dimension,
+    point: Position,
+) -> Result<(), AllocError>
+    ensures { OnOk result (text.new.items ≡ text.old.items ++ point_text dimension point) }
+{
+    push_coord(text, point.x)?;
+    push_next(text, point.y)?;
+    match dimension {
+        Dimension::Two => Ok(()),
+        Dimension::Three => push_next(text, point.z),
+    }
+}
+
+/// Where a leg begins.
+pub(crate) fn begin_of(leg: &Leg) -> Position
+    ensures { result ≡ begin_of leg.now }
+{
+    Position {
+        x: leg.x0,
+        y: leg.y0,
+        z: leg.z0,
+    }
+}
+
+/// Where a leg ends.
+fn end_of(leg: &Leg) -> Position
+    ensures { result ≡ end_of leg.now }
+{
+    Position {
+        x: leg.x1,
+        y: leg.y1,
+        z: leg.z1,
+    }
+}
+
+/// Both positions of a leg.
+fn positions_text(alloc: Global, dimension: Dimension, leg: &Leg) -> Result<Vec<u8>, AllocError>
+    ensures { IfOk result (λ text. text.items ≡ positions_text dimension leg.now) }
 {
     let mut text = Vec::new(alloc);
-    push_coord(&mut text, leg.x0)?;
-    push_next(&mut text, leg.y0)?;
-    push_next(&mut text, leg.x1)?;
-    push_next(&mut text, leg.y1)?;
+    push_point(&mut text, dimension, begin_of(leg))?;
+    text.push(b' ')?;
+    push_point(&mut text, dimension, end_of(leg))?;
     Ok(text)
 }
 
@@ -87,17 +125,17 @@ pub(crate) fn write_leg(
     alloc: Global,
     records: &mut Records,
     name: &str,
-    base: Ms,
+    frame: &Frame,
     leg: &Leg,
     values: &[Text],
 ) -> Result<(), AllocError>
     requires { records.old.refused ≡ false }
     ensures { OnOk result (records.new ≡ written (records.old.text
-        ++ leg_record name.now base leg.now values.now)) }
+        ++ leg_record name.now frame.now leg.now values.now)) }
 {
-    let start = offset_text(alloc, base, leg.t0)?;
-    let end = offset_text(alloc, base, leg.t1)?;
-    let positions = positions_text(alloc, leg)?;
+    let start = offset_text(alloc, frame.base, leg.t0)?;
+    let end = offset_text(alloc, frame.base, leg.t1)?;
+    let positions = positions_text(alloc, frame.dimension, leg)?;
     let fields = leg_row(
         alloc,
         name.as_bytes(),

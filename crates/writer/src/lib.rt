@@ -12,31 +12,30 @@ mod file;
 mod leg;
 mod records;
 
-pub use entry::Entry;
+pub use entry::{Entry, Frame};
 use leg::write_leg;
 use legs::Leg;
 use mfcsv::{Head, Text};
 use records::Records;
 pub use std::alloc::AllocError as Memory;
 use std::alloc::Global;
-use timebase::Ms;
 
 /// Appends a leg's record: the name of its feature, its start and end as offsets in seconds from a
-/// base, `x0 y0 x1 y1`, and the attribute values of its record.
+/// base, `x0 y0 x1 y1` or in three dimensions `x0 y0 z0 x1 y1 z1`, and the attribute values of its record.
 pub fn push_leg_record(
     alloc: Global,
     out: &mut Vec<u8>,
     name: &str,
-    base: Ms,
+    frame: Frame,
     leg: &Leg,
     values: &[Text],
 ) -> Result<(), Memory>
     ensures ok { OnOk result (out.new.items ≡ out.old.items
-        ++ leg_record name.now base leg.now values.now) }
+        ++ leg_record name.now frame leg.now values.now) }
     ensures err { OnErr result (out.new.items ≡ out.old.items) }
 {
     let mut records = Records::new(alloc);
-    write_leg(alloc, &mut records, name, base, leg, values)?;
+    write_leg(alloc, &mut records, name, &frame, leg, values)?;
     let text = records.into_text()?;
     out.extend_from_slice(text.as_slice())
 }
@@ -45,13 +44,13 @@ pub fn push_leg_record(
 pub fn push_leg_records(
     alloc: Global,
     out: &mut Vec<u8>,
-    base: Ms,
+    frame: Frame,
     entries: &[Entry<'_>],
 ) -> Result<(), Memory>
-    ensures ok { OnOk result (out.new.items ≡ out.old.items ++ entries_text base entries.now) }
+    ensures ok { OnOk result (out.new.items ≡ out.old.items ++ entries_text frame entries.now) }
     ensures err { OnErr result (out.new.items ≡ out.old.items) }
 {
-    let text = file::entries_text(alloc, base, entries)?;
+    let text = file::entries_text(alloc, &frame, entries)?;
     out.extend_from_slice(text.as_slice())
 }
 
@@ -68,7 +67,7 @@ pub fn push_features(alloc: Global, out: &mut Vec<u8>, names: &[&str]) -> Result
 /// Appends a whole file: `@stboundedby` with the corners and the end of all legs, `@columns`, and each
 /// leg's record, its times as offsets from the start instant of the head.
 ///
-/// With no legs the corners are `0 0`, and the end is the start instant.
+/// With no legs the corners are `0 0`, or `0 0 0`, and the end is the start instant.
 pub fn push_file(
     alloc: Global,
     out: &mut Vec<u8>,

@@ -5,4 +5,4 @@ use Rattle.writer.proofs.file.write_entries.Given as goal
 
 -- the legs so far
 abbrev pub invariant-loop-entry : goal.invariant-loop-entry
-invariant-loop-entry l = l.records ≡ written (l.initial.records.text ++ entries_text l.fn.base (take l.entry-index l.entries))
+invariant-loop-entry l = l.records ≡ written (l.initial.records.text ++ entries_text l.fn.frame (take l.entry-index l.entries))
