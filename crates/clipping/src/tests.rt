@@ -20,10 +20,12 @@ fn leg(rt: &impl Abort) -> Leg {
     let from = Position {
         x: coord(rt, 0),
         y: coord(rt, 0),
+        z: coord(rt, 0),
     };
     let to = Position {
         x: coord(rt, 30),
         y: coord(rt, 60),
+        z: coord(rt, 0),
     };
     Leg::new(0, 0, moment(rt, 0), moment(rt, 1000), from, to, 0).expect(rt, "a leg")
 }

@@ -198,6 +198,7 @@ fn position(x: i64, y: i64) -> Option<Position> {
     Some(Position {
         x: Coord::new(x)?,
         y: Coord::new(y)?,
+        z: Coord::new(0)?,
     })
 }
 

@@ -26,8 +26,8 @@ fn rect(rt: &impl Abort, x1: i64, y1: i64, x2: i64, y2: i64) -> Rect {
 }
 
 fn place(rt: &impl Abort, x: i64, y: i64) -> Position {
-    let (x, y) = (coord(rt, x), coord(rt, y));
-    Position { x, y }
+    let (x, y, z) = (coord(rt, x), coord(rt, y), coord(rt, 0));
+    Position { x, y, z }
 }
 
 fn leg(rt: &impl Abort, t0: i64, t1: i64, from: (i64, i64), to: (i64, i64)) -> Leg {

@@ -5,6 +5,7 @@ use Rattle.timebase.specs.Period.{PeriodView}
 use Rattle.mfcsv.specs.FileText.{file_text}
 use Rattle.mfcsv.specs.declared.Code.{Code}
 use Rattle.mfcsv.specs.declared.File.{File}
+use Rattle.mfcsv.specs.declared.Dimension.TheVariants.{Two}
 use Rattle.mfcsv.specs.declared.Head.{Head}
 use Rattle.legs.specs.Legs.{LegView}
 use Rattle.legs.specs.Boxes.{RectView, box_over}
@@ -21,7 +22,8 @@ use Rattle.querylang.specs.declared.Command.TheVariants.{Load, Count, Box, Legs,
 use Rattle.predicates.specs.declared.Predicate.{Predicate}
 use Rattle.predicates.specs.Predicates.{Holds}
 use Rattle.writer.specs.Entries.{EntryView}
-use Rattle.writer.specs.File.{entries_text, features_text, file_text as written_text}
+use Rattle.writer.specs.File.{entries_text, features_text, file_text as written_text, frame_of as head_frame}
+use Rattle.writer.specs.declared.entry.Frame.{Frame}
 use Rattle.trajdb.specs.Picks.{Picks}
 use Rattle.trajdb.specs.Files.{file_named}
 use Rattle.trajdb.specs.Codes.{file_code}
@@ -72,10 +74,11 @@ load_text (Err fault) = codes "refused " ++ file_code fault.0 ++ codes " at " ++
 abbrev pub count_text : Book → List ℕ
 count_text book = ok_text 1 ++ decimal (length book.legs) ++ 44 ∷ [] ++ decimal (length book.names) ++ 10 ∷ []
 
--- the start instant of the first accepted file
-abbrev pub base_of : Option Head → ℤ
-base_of (Some head) = head.start
-base_of None = pos 0
+-- how legs are written: with the dimension of the first accepted file, and with times as offsets from its start
+-- instant
+abbrev pub frame_of : Option Head → Frame
+frame_of (Some head) = head_frame head
+frame_of None = record { dimension = Two; base = pos 0 }
 
 -- the name of a feature
 abbrev pub name_of : Book → ℕ → List ℕ
@@ -87,7 +90,7 @@ entry_of book leg = record { name = name_of book leg.feature; leg = leg; values 
 
 -- the answer of legs: a record for each
 abbrev pub legs_text : Book → List LegView → List ℕ
-legs_text book legs = ok_text (length legs) ++ entries_text (base_of book.head) (map (entry_of book) legs)
+legs_text book legs = ok_text (length legs) ++ entries_text (frame_of book.head) (map (entry_of book) legs)
 
 -- the legs of a feature, if there is one
 abbrev pub track_of : Option ℕ → List LegView → List LegView

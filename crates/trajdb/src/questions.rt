@@ -8,12 +8,12 @@ use crate::answer::{ok_text, refusal_text};
 use crate::database::Core;
 use crate::start::Start;
 use legs::{Box3, Leg, Rect};
-use mfcsv::Head;
+use mfcsv::{Dimension, Head};
 use predicates::{Predicate, holds, search_box};
 use std::alloc::{AllocError, Global};
 use std::slice;
 use timebase::{Ms, Period};
-use writer::{Entry, push_features, push_file, push_leg_records};
+use writer::{Entry, Frame, push_features, push_file, push_leg_records};
 
 /// The legs for which, each taken alone, a predicate holds.
 fn holding(
@@ -43,21 +43,27 @@ impl<I: Start> Core<I> {
     ghost use Rattle.legs.specs.Limits.{most};
     ghost use Rattle.legs.specs.Book.{feature_of};
     ghost use Rattle.trajdb.specs.Picks.{Picks};
-    ghost use Rattle.trajdb.specs.Answers.{HoldsOfFeature, HoldsOfLeg, IsFeaturesAnswer, IsLegsAnswer, base_of, entry_of, file_answer, legs_text, name_of, names_text, track_of, write_text};
+    ghost use Rattle.trajdb.specs.Answers.{HoldsOfFeature, HoldsOfLeg, IsFeaturesAnswer, IsLegsAnswer, frame_of, entry_of, file_answer, legs_text, name_of, names_text, track_of, write_text};
     ghost use Rattle.legs.specs.Costs.{search_cost, track_in_bound};
     ghost use Rattle.predicates.specs.Near.{box_near};
     ghost use Rattle.legs.specs.Law.{IsThere};
     ghost use Rattle.trajdb.specs.Database.{IsSound};
     ghost use Rattle.trajdb.specs.Calls.{IsText, IsRefused, Leaves, Asks, AsksAtMost, features_bound, track_asks, write_asks};
 
-    /// The start instant of the first accepted file.
-    fn base(&self) -> Ms
-        ensures { result ≡ base_of self.now.book.head }
+    /// How legs are written.
+    fn frame(&self) -> Frame
+        ensures { result ≡ frame_of self.now.book.head }
     {
         match &self.head {
-            Some(head) => head.start,
+            Some(head) => Frame {
+                dimension: head.dimension,
+                base: head.start,
+            },
             None => match Ms::new(0) {
-                Some(epoch) => epoch,
+                Some(epoch) => Frame {
+                    dimension: Dimension::Two,
+                    base: epoch,
+                },
                 None => unreachable!(),
             },
         }
@@ -97,7 +103,7 @@ impl<I: Start> Core<I> {
     {
         let entries = self.entries(alloc, legs)?;
         let mut text = ok_text(alloc, legs.len() as u64)?;
-        push_leg_records(alloc, &mut text, self.base(), entries.as_slice())?;
+        push_leg_records(alloc, &mut text, self.frame(), entries.as_slice())?;
         Ok(text)
     }
 

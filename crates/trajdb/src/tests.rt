@@ -37,6 +37,17 @@ macro_rules! headed {
     };
 }
 
+/// The same in three dimensions.
+macro_rules! headed_in_space {
+    ($lines:literal) => {
+        concat!(
+            "@stboundedby,local,3D,0 0 0,0 0 0,2020-01-01T00:00:00Z,2020-01-02T00:00:00Z,sec\n",
+            "@columns,mfidref,trajectory\n",
+            $lines
+        )
+    };
+}
+
 /// A script over the example: a question without its period, which is that of the whole example.
 macro_rules! asked {
     ($question:literal) => {
@@ -77,7 +88,19 @@ macro_rules! quoted {
 }
 
 /// The files of most scripts below.
-const FILES: [(&str, &str); 21] = [
+const FILES: [(&str, &str); 27] = [
+    ("up", headed_in_space!("u,0,1,0 0 5 1 1 6\n")),
+    ("still in space", headed_in_space!("s,0,5,7 8 9\n")),
+    ("short in space", headed_in_space!("u,0,1,0 0 5 1\n")),
+    ("heads in space", headed_in_space!("")),
+    (
+        "four dimensions",
+        "@stboundedby,local,4D,0 0,0 0,2020-01-01T00:00:00Z,2020-01-02T00:00:00Z,sec\n",
+    ),
+    (
+        "written in space",
+        "@stboundedby,local,3D,0 0 5,1 1 6,2020-01-01T00:00:00.000Z,2020-01-01T00:00:01.000Z,sec\n@columns,mfidref,trajectory\nu,0,1,0 0 5 1 1 6\n",
+    ),
     (
         "no columns",
         "@stboundedby,urn:x-ogc:def:crs:EPSG:6.6:4326,2D,0 0,0 0,2020-01-01T00:00:00Z,2020-01-02T00:00:00Z,sec\n@columns,mfidref,trajectory\n",
@@ -508,4 +531,41 @@ fn a_file_is_loaded_and_a_command_answered(rt: HostRuntime) -> Result<(), Fail> 
     assert!(rt; counts == want);
     assert!(rt; text.as_slice() == b"ok 1\n5,3\n".as_slice());
     Ok(())
+}
+
+#[test]
+fn a_third_dimension_is_kept(rt: HostRuntime) -> Result<(), Fail> {
+    check(
+        &rt,
+        &[
+            (
+                "load up\ntrajectory u\nbox 0 0 1 1 2020-01-01T00:00:00Z 2020-01-01T00:00:01Z\n",
+                "ok 1\n1,1,1\nok 1\nu,0,1,0 0 5 1 1 6\nok 1\nu,0,1,0 0 5 1 1 6\n",
+            ),
+            (
+                "load up\nwrite\n",
+                "ok 1\n1,1,1\nok 3\n@stboundedby,local,3D,0 0 5,1 1 6,2020-01-01T00:00:00.000Z,2020-01-01T00:00:01.000Z,sec\n@columns,mfidref,trajectory\nu,0,1,0 0 5 1 1 6\n",
+            ),
+            (
+                "load written in space\nwrite\n",
+                "ok 1\n1,1,1\nok 3\n@stboundedby,local,3D,0 0 5,1 1 6,2020-01-01T00:00:00.000Z,2020-01-01T00:00:01.000Z,sec\n@columns,mfidref,trajectory\nu,0,1,0 0 5 1 1 6\n",
+            ),
+            (
+                "load still in space\ntrajectory s\n",
+                "ok 1\n1,1,1\nok 1\ns,0,5,7 8 9 7 8 9\n",
+            ),
+            (
+                "load short in space\nload four dimensions\n",
+                "refused F16 at 3\nrefused F4 at 1\n",
+            ),
+            (
+                "load heads\nload heads in space\n",
+                "ok 1\n0,0,0\nrefused F9 at 1\n",
+            ),
+            (
+                "load heads in space\nwrite\n",
+                "ok 1\n0,0,0\nok 2\n@stboundedby,local,3D,0 0 0,0 0 0,2020-01-01T00:00:00.000Z,2020-01-01T00:00:00.000Z,sec\n@columns,mfidref,trajectory\n",
+            ),
+        ],
+    )
 }

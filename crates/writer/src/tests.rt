@@ -1,7 +1,8 @@
 use super::*;
 use fixedpoint::Coord;
-use mfcsv::{Column, Columns, Position};
+use mfcsv::{Column, Columns, Dimension, Position};
 use std::test::Fail;
+use timebase::Ms;
 
 /// 2020-01-01T00:00:00Z.
 const BASE: i64 = 1_577_836_800_000;
@@ -11,22 +12,24 @@ fn at(seconds: i64) -> Result<Ms, Fail> {
     Ok(at)
 }
 
-/// A position, in halves.
+/// A position, in halves, a little below the plane.
 fn position(x: i64, y: i64) -> Result<Position, Fail> {
     let x = Coord::new(x.wrapping_mul(5_000_000)).ok_or("a coordinate")?;
     let y = Coord::new(y.wrapping_mul(5_000_000)).ok_or("a coordinate")?;
-    Ok(Position { x, y })
+    let z = Coord::new(-1).ok_or("a coordinate")?;
+    Ok(Position { x, y, z })
 }
 
 fn text(alloc: Global, text: &str) -> Result<Text, Fail> {
     Ok(Text::from(String::from_str(alloc, text)?))
 }
 
-fn head(alloc: Global, columns: Vec<Column>) -> Result<Head, Fail> {
+fn head(alloc: Global, dimension: Dimension, columns: Vec<Column>) -> Result<Head, Fail> {
     Ok(Head {
         number_bounds: 1,
         number_columns: 2,
         crs: text(alloc, "local")?,
+        dimension,
         start: at(0)?,
         columns: Columns::from(columns),
     })
@@ -43,7 +46,7 @@ fn features_are_quoted_where_they_need_it(rt: HostRuntime) -> Result<(), Fail> {
 #[test]
 fn a_file_without_legs_is_two_lines(rt: HostRuntime) -> Result<(), Fail> {
     let mut out = Vec::new(rt.alloc());
-    let head = head(rt.alloc(), Vec::new(rt.alloc()))?;
+    let head = head(rt.alloc(), Dimension::Two, Vec::new(rt.alloc()))?;
     push_file(rt.alloc(), &mut out, &head, &[])?;
     let wanted =
         "@stboundedby,local,2D,0 0,0 0,2020-01-01T00:00:00.000Z,2020-01-01T00:00:00.000Z,sec\n\
@@ -56,8 +59,13 @@ fn a_file_without_legs_is_two_lines(rt: HostRuntime) -> Result<(), Fail> {
 fn a_record_counts_from_the_base(rt: HostRuntime) -> Result<(), Fail> {
     let leg = Leg::new(0, 0, at(-1)?, at(2)?, position(1, 0)?, position(2, 0)?, 0).ok_or("a leg")?;
     let mut out = Vec::new(rt.alloc());
-    push_leg_record(rt.alloc(), &mut out, "a", at(0)?, &leg, &[])?;
-    assert_eq!(rt; out.as_slice(), "a,-1,2,0.5 0 1 0\n".as_bytes());
+    for dimension in [Dimension::Two, Dimension::Three] {
+        let base = at(0)?;
+        let frame = Frame { dimension, base };
+        push_leg_record(rt.alloc(), &mut out, "a", frame, &leg, &[])?;
+    }
+    let wanted = "a,-1,2,0.5 0 1 0\na,-1,2,0.5 0 -0.0000001 1 0 -0.0000001\n";
+    assert_eq!(rt; out.as_slice(), wanted.as_bytes());
     Ok(())
 }
 
@@ -69,7 +77,7 @@ fn a_file_is_bounded_by_all_legs(rt: HostRuntime) -> Result<(), Fail> {
         name: text(alloc, "state")?,
         kind: text(alloc, "xsd:token")?,
     })?;
-    let head = head(alloc, columns)?;
+    let head = head(alloc, Dimension::Two, columns)?;
     let (from, to) = (position(3, 4)?, position(1, -6)?);
     let long = Leg::new(0, 0, at(0)?, at(100)?, from, to, 0).ok_or("a leg")?;
     let (from, to) = (position(14, 8)?, position(4, 18)?);
