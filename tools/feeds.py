@@ -1,8 +1,8 @@
 """What the readers of feeds share: positions in, a file of legs out (docs/FILE_FORMAT.md).
 
-The files are read twice. The first time each line is judged, and nothing is written; the second
-time the legs are written as they come. What is held is one position of each feature. Only where a
-feature goes back in time are positions put into order first, in a temporary database on disk.
+The files are read once, and nothing is written before each line was judged: until then positions
+wait in a temporary file on disk. What is held in memory is one position of each feature. Only where
+a feature goes back in time are positions put into order, in a temporary database on disk.
 
 Coordinates and attribute values are texts from end to end: no number is computed from them but the
 corners of the header line, which pick the least and the greatest text.
@@ -15,6 +15,7 @@ import os
 import re
 import sqlite3
 import sys
+import tempfile
 from collections import Counter
 from datetime import date
 from decimal import Decimal
@@ -151,33 +152,21 @@ def read_table(path, layout):
             read_row = layout(header)
         except (csv.Error, BadLine) as why:
             raise Refused(f"{path} line 1: {why}") from None
-        last = table.line_num
-        for row in rows(table):
-            if row:
-                yield last + 1, read_fields(read_row, row, len(header))
-            last = table.line_num
-
-
-def rows(table):
-    """The rows of a CSV reader; in place of one that it cannot read, why."""
-    while True:
-        try:
-            yield from table
-            return
-        except csv.Error as why:
-            yield BadLine(why)
-
-
-def read_fields(read_row, row, width):
-    """The position of a row, or why there is none."""
-    if isinstance(row, BadLine):
-        return row
-    if len(row) != width:
-        return BadLine(f"{several(len(row), 'field')}, where the header line has {width}")
-    try:
-        return read_row(row)
-    except (BadLine, LeftOut) as why:
-        return why
+        while True:
+            line = table.line_num + 1
+            try:
+                row = next(table)
+                if len(row) == len(header):
+                    yield line, read_row(row)
+                elif row:
+                    fields = several(len(row), "field")
+                    yield line, BadLine(f"{fields}, where the header line has {len(header)}")
+            except StopIteration:
+                return
+            except csv.Error as why:
+                yield line, BadLine(why)
+            except (BadLine, LeftOut) as why:
+                yield line, why
 
 
 def column(header, name):
@@ -198,10 +187,32 @@ def attribute_reader(header, columns):
                 utf8(value, name)
         return values
 
-    return read
+    return read if columns else lambda row: ()
 
 
-# The first reading
+# Reading
+
+
+class Spool:
+    """Positions in a temporary file, in the order in which they came."""
+
+    def __init__(self):
+        self.file, self.batch, self.sizes = tempfile.TemporaryFile(), [], []
+
+    def add(self, position):
+        self.batch.append(tuple(position))
+        if len(self.batch) == 1000:
+            self.save()
+
+    def save(self):
+        self.sizes.append(self.file.write(marshal.dumps(self.batch)))
+        self.batch = []
+
+    def __iter__(self):
+        self.save()
+        self.file.seek(0)
+        for size in self.sizes:
+            yield from map(Position._make, marshal.loads(self.file.read(size)))
 
 
 class Bounds:
@@ -230,29 +241,30 @@ class Bounds:
 
 
 class Feed:
-    """The positions of the files, and what was seen of them at the first reading.
+    """The positions of the files, and what was seen of them.
 
-    `reader` makes, for each reading of all files, what gives the line numbers of a file, each with
-    its position, or with why it has none.
+    `reader` makes what gives the line numbers of a file, each with its position, or with why it has
+    none.
     """
 
     def __init__(self, tool, reader, options):
         self.tool, self.reader, self.options = tool, reader, options
-        self.bounds, self.counts = Bounds(), Counter()
-        self.features, self.disorder = 0, None
+        self.bounds, self.counts, self.spool = Bounds(), Counter(), Spool()
+        self.lines, self.features, self.legs, self.disorder = 0, 0, 0, None
 
     def survey(self):
         """Judges every line, and sees what the header needs and whether there is an order."""
-        ends = {}
-        for path, line, item in self.items():
-            self.counts["read"] += 1
+        ends, cover, keep = {}, self.bounds.cover, self.spool.add
+        for self.lines, (path, line, item) in enumerate(self.items(), 1):
             if isinstance(item, Exception):
                 self.leave_out(path, line, item)
                 continue
-            self.bounds.cover(item)
-            if item.moment < ends.get(item.feature, item.moment) and not self.disorder:
-                self.disorder = f"{path} line {line}: {item.feature!r} goes back in time"
-            ends[item.feature] = item.moment
+            cover(item)
+            keep(item)
+            feature, moment = item.feature, item.moment
+            if moment < ends.get(feature, moment) and not self.disorder:
+                self.disorder = f"{path} line {line}: {feature!r} goes back in time"
+            ends[feature] = moment
         self.features = len(ends)
         if not ends:
             raise Refused("there is no position in these files; nothing is written")
@@ -273,18 +285,15 @@ class Feed:
         for path in self.options.files:
             for line, item in read(path):
                 if terminal and line % STRIDE == 0:
-                    print(
-                        f"{self.tool}: {path} line {line}", end="\r", file=sys.stderr, flush=True
-                    )
+                    print(f"{self.tool}: {path} line {line}", end="\r", file=sys.stderr, flush=True)
                 yield path, line, item
 
     def positions(self):
         """The positions in the order of the files, or of time where the files have none."""
-        found = (item for _, _, item in self.items() if not isinstance(item, Exception))
         if not self.disorder:
-            return found
+            return self.spool
         say(self.tool, f"{self.disorder}; sorting by time, in a temporary file on disk")
-        return sort_by_time(found)
+        return sort_by_time(self.spool)
 
 
 def sort_by_time(positions):
@@ -335,7 +344,7 @@ def legs(positions, gap, counts):
 
 def over_date_line(one, two):
     """Whether two longitudes are nearer to each other the other way round."""
-    if one.startswith("-") == two.startswith("-"):
+    if one[0] == two[0] or (one[0] == "-") == (two[0] == "-"):
         return False
     return abs(Decimal(one) - Decimal(two)) > 180
 
@@ -379,8 +388,7 @@ def write(out, feed):
     names = [text for pair in options.columns for text in pair]
     for line in head, ["@columns", "mfidref", "trajectory", *names]:
         out.write(",".join(map(field, line)) + "\n")
-    for one, two in legs(feed.positions(), options.gap, feed.counts):
-        feed.counts["legs"] += 1
+    for feed.legs, (one, two) in enumerate(legs(feed.positions(), options.gap, feed.counts), 1):
         times = f"{seconds(one.moment - start)},{seconds(two.moment - start)}"
         places = " ".join(one.place + two.place)
         record = [field(one.feature), times, places, *map(field, one.values)]
@@ -402,12 +410,11 @@ def save(feed):
 def summary(feed):
     """What was read, made and left out, in one line."""
     counts = dict(feed.counts)
-    read, made = counts.pop("read"), counts.pop("legs", 0)
     gaps, segments = counts.pop("gaps", 0), counts.pop("between segments", 0)
     over, alone = counts.pop("over the date line", 0), counts.pop("alone", 0)
     words = [f"{count} {why}" for why, count in counts.items() if count]
-    said = f"{several(feed.features, 'feature')}, {several(made, 'leg')}"
-    said += f" from {several(read, feed.options.unit)}"
+    said = f"{several(feed.features, 'feature')}, {several(feed.legs, 'leg')}"
+    said += f" from {several(feed.lines, feed.options.unit)}"
     said += f"; left out: {', '.join(words)}" if words else ""
     said += f"; no leg across {several(gaps, 'gap')}" if gaps else ""
     said += f"; no leg between segments, {several(segments, 'time')}" if segments else ""
@@ -446,7 +453,7 @@ def words(about, example, gap, why):
     parser = argparse.ArgumentParser(
         description=about, epilog=example, formatter_class=argparse.RawDescriptionHelpFormatter
     )
-    parser.add_argument("files", metavar="FILE", nargs="+", help="read in this order, each twice")
+    parser.add_argument("files", metavar="FILE", nargs="+", help="read in this order")
     parser.add_argument("-o", dest="output", metavar="OUT", help="else standard output")
     parser.add_argument(
         "--gap",
