@@ -36,7 +36,7 @@ DURATION = re.compile(r"([0-9]{1,9}(?:\.[0-9]{1,3})?)([smhd]?)")
 SECONDS = {"": 1, "s": 1, "m": 60, "h": 3600, "d": 86400}
 NEEDS_QUOTES = re.compile('[",\r\n]')
 GREATEST = Decimal(100_000_000)
-# Lines between two words of progress.
+# Positions between two words of progress.
 STRIDE = 50_000
 csv.field_size_limit(1 << 20)
 
@@ -283,9 +283,9 @@ class Feed:
         """What the files have, with a word of progress on a terminal."""
         terminal, read = sys.stderr.isatty(), self.reader(self.options)
         for path in self.options.files:
-            for line, item in read(path):
-                if terminal and line % STRIDE == 0:
-                    print(f"{self.tool}: {path} line {line}", end="\r", file=sys.stderr, flush=True)
+            for number, (line, item) in enumerate(read(path)):
+                if number % STRIDE == 0 and terminal:
+                    say(self.tool, f"{path} line {line}", end="")
                 yield path, line, item
 
     def positions(self):
@@ -483,8 +483,10 @@ def words(about, example, gap, why):
     return parser
 
 
-def say(tool, what):
-    print(f"{tool}: {what}", file=sys.stderr)
+def say(tool, what, end="\n"):
+    """Says something on standard error; on a terminal it takes the place of the word of progress."""
+    start = "\r\x1b[K" if sys.stderr.isatty() else ""
+    print(f"{start}{tool}: {what}", end=end, file=sys.stderr, flush=True)
 
 
 def run(tool, options, reader, unit="line"):
