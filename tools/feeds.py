@@ -1,8 +1,8 @@
 """What the readers of feeds share: positions in, a file of legs out (docs/FILE_FORMAT.md).
 
 The files are read once, and nothing is written before each line was judged: until then positions
-wait in a temporary file on disk. What is held in memory is one position of each feature. Only where
-a feature goes back in time are positions put into order, in a temporary database on disk.
+wait in a temporary file on disk. What is held in memory is one position of each feature. Only
+where a feature goes back in time are positions put into order, in a temporary database on disk.
 
 Coordinates and attribute values are texts from end to end: no number is computed from them but the
 corners of the header line, which pick the least and the greatest text.
@@ -243,8 +243,8 @@ class Bounds:
 class Feed:
     """The positions of the files, and what was seen of them.
 
-    `reader` makes what gives the line numbers of a file, each with its position, or with why it has
-    none.
+    `reader` makes what gives the line numbers of a file, each with its position, or with why it
+    has none.
     """
 
     def __init__(self, tool, reader, options):
@@ -484,7 +484,7 @@ def words(about, example, gap, why):
 
 
 def say(tool, what, end="\n"):
-    """Says something on standard error; on a terminal it takes the place of the word of progress."""
+    """Says something on standard error; on a terminal it takes the place of progress."""
     start = "\r\x1b[K" if sys.stderr.isatty() else ""
     print(f"{start}{tool}: {what}", end=end, file=sys.stderr, flush=True)
 
