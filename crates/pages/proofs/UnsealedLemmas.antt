@@ -1,5 +1,5 @@
 -- The two laws of `unsealed`.
-use Rattle.std.proofs.Common.{◌≡◌, ℕ, ◌+◌, ◌-◌, List, length, take, drop, get_or, Option, Some, None, refl, sym, ap, ◌∙◌, arith, length-append, Result, Ok, Err, cond, true, false, Bool}
+use Rattle.std.proofs.Common.{◌≡◌, ℕ, ◌+◌, ◌-◌, List, length, take, drop, get_or, Option, Some, None, refl, sym, ap, ◌∙◌, arith, length-append, Ok, Err, cond, true, false, Bool}
 use Rattle.std.specs.Option.{ok_or}
 use Rattle.std.specs.Str.{bytes_eq}
 use Rattle.std.proofs.lemmas.Option.{option_and_then_some}

@@ -10,6 +10,10 @@ inner f = f.store
 abbrev pub left_of : {S : Type 0} → Fuse S → Option ℕ
 left_of f = f.left
 
+-- whether only one call is failed
+abbrev pub is_once : {S : Type 0} → Fuse S → Bool
+is_once f = f.once
+
 -- how many calls still pass after another one
 abbrev pub left_after : Bool → Option ℕ → Option ℕ
 left_after once None = None

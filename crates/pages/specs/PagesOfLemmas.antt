@@ -7,6 +7,7 @@ pub length-pages_of : (n k : ℕ) (xs : List ℕ) → length (pages_of n k xs) �
 length-pages_of n zero xs = refl
 length-pages_of n (suc k) xs = ap suc (length-pages_of n k (drop n xs))
 
-pub length-known_pages : (n k : ℕ) (bytes : Option (List ℕ)) → IsTrue (is_some bytes) → length (known_pages n k bytes) ≡ k
+pub length-known_pages : (n k : ℕ) (bytes : Option (List ℕ)) → IsTrue (is_some bytes)
+    → length (known_pages n k bytes) ≡ k
 length-known_pages n k None f = absurd (false≢true f)
 length-known_pages n k (Some xs) f = length-pages_of n k xs

@@ -6,8 +6,8 @@ use std::io;
 
 /// A file whose bytes are read and written at places, each call by itself.
 ///
-/// A file may tell contracts which bytes it holds, and then they are said exactly. A file of the system tells
-/// none.
+/// A file may tell contracts which bytes it holds, and then they are said exactly. A file of the
+/// system tells none.
 pub trait ByteFile {
     /// The bytes that the file holds, where it tells them.
     ghost bytes: { Self → Option (List ℕ) };
@@ -22,13 +22,14 @@ pub trait ByteFile {
             (λ xs. slice_range xs place (place + length buf.new) ≡ buf.new)) }
         ensures stays { bytes self.new ≡ bytes self.old };
 
-    /// Writes bytes from a place on, which may be the file's end. A refusal leaves any bytes there, and no
-    /// other byte changes.
+    /// Writes bytes from a place on, which may be the file's end. A refusal leaves any bytes
+    /// there, and no other byte changes.
     fn write_at(&mut self, place: u64, buf: &[u8]) -> io::Result<()>
         requires { IfSome (bytes self.old) (λ xs. place ≤ length xs) }
         ensures written { OnOk result (IfSome (bytes self.new)
             (λ xs. slice_range xs place (place + length buf.now) ≡ buf.now)) }
-        ensures around { StaysAround place (place + length buf.now) (bytes self.old) (bytes self.new) };
+        ensures around { StaysAround place (place + length buf.now)
+            (bytes self.old) (bytes self.new) };
 
     /// Makes what was written last, as on a disk.
     fn sync(&mut self) -> io::Result<()>

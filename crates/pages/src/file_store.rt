@@ -13,7 +13,8 @@ use std::rt::Files;
 
 /// A store in a file: page n is the bytes from 4,096 n to 4,096 n + 4,095.
 ///
-/// It is faithful where the file tells its bytes. Each page is read and written by one call of the file.
+/// It is faithful where the file tells its bytes. Each page is read and written by one call of the
+/// file.
 #[derive(Drop)]
 pub struct FileStore<F: ByteFile = SystemFile<File>> {
     file: F,
@@ -24,8 +25,8 @@ pub struct FileStore<F: ByteFile = SystemFile<File>> {
 }
 
 impl<F: ByteFile> FileStore<F> {
-    /// The store of a file's whole pages, of at most 2^32 - 1 pages: a rest of less than a page is no page,
-    /// and a file of more pages is refused, as is one that does not tell its length.
+    /// The store of a file's whole pages, of at most 2^32 - 1 pages: a rest of less than a page is
+    /// no page, and a file of more pages is refused, as is one that does not tell its length.
     pub fn new(file: F) -> Result<FileStore<F>, StoreFault>
     where
         F: Drop,
@@ -64,8 +65,8 @@ impl<F: ByteFile> FileStore<F> {
 }
 
 impl<F: FileExt + OpenFile + Drop> FileStore<SystemFile<F>> {
-    /// The store in the file at a path, which is made, empty, where there is none. Refused is a file that the
-    /// system does not open or that has 2^32 pages or more.
+    /// The store in the file at a path, which is made, empty, where there is none. Refused is a
+    /// file that the system does not open or that has 2^32 pages or more.
     pub fn open<R: Files<File = F>>(
         rt: &R,
         path: &str,

@@ -5,11 +5,11 @@ ghost use Rattle.pages.specs.Store.{HasRisen, Tears};
 use crate::sealing::blank;
 use crate::store::{PageStore, StoreFault};
 
-/// A store over another one that fails once some calls of `read`, `write` and `sync` have passed, to try what
-/// stands above it.
+/// A store over another one that fails once some calls of `read`, `write` and `sync` have passed,
+/// to try what stands above it.
 ///
-/// Each failure counts as a fault, also one of the store below. A `write` that it fails leaves a page of zero
-/// bytes where there is one, and adds none. It is faithful where the store below is.
+/// Each failure counts as a fault, also one of the store below. A `write` that it fails leaves a
+/// page of zero bytes where there is one, and adds none. It is faithful where the store below is.
 #[derive(Drop)]
 pub struct Fuse<S> {
     store: S,
@@ -20,13 +20,16 @@ pub struct Fuse<S> {
 }
 
 impl<S: PageStore> Fuse<S> {
-    ghost use Rattle.pages.specs.Fuse.{inner, left_of, left_after};
+    ghost use Rattle.pages.specs.Fuse.{inner, is_once, left_of, left_after};
 
-    /// A store that passes `calls` calls and fails the next one, and, unless only `once`, all later ones.
+    /// A store that passes `calls` calls and fails the next one, and, unless only `once`, all
+    /// later ones.
     pub fn new(store: S, calls: u64, once: bool) -> Fuse<S>
         ensures store { inner result ≡ store }
         ensures left { left_of result ≡ Some calls }
-        ensures seen { ⟦<Fuse<S> as PageStore>⟧.seen result ≡ record (S.seen store) { faults = 0 } }
+        ensures once { is_once result ≡ once }
+        ensures seen { ⟦<Fuse<S> as PageStore>⟧.seen result
+            ≡ record (S.seen store) { faults = 0 } }
     {
         Fuse {
             store,

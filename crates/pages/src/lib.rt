@@ -1,7 +1,8 @@
 //! Sealed pages, and the stores that hold them.
 //!
-//! A page is 4,096 bytes: its number, its kind, a payload of 4,056 bytes, and the SHA-256 of all that stands
-//! before it. A store holds pages by number, from 0 on without a gap; it may fail, and counts each failure.
+//! A page is 4,096 bytes: its number, its kind, a payload of 4,056 bytes, and the SHA-256 of all
+//! that stands before it. A store holds pages by number, from 0 on without a gap; it may fail, and
+//! counts each failure.
 #![tactic(auto)]
 
 mod byte_file;

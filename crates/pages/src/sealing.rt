@@ -31,8 +31,8 @@ fn blank_bytes() -> [u8; 4056] {
     [0; 4056]
 }
 
-/// The page that holds a payload under a number: the number in 4 bytes, big-endian, the kind's code, three
-/// zero bytes, the payload's bytes, and the SHA-256 of these 4,064 bytes.
+/// The page that holds a payload under a number: the number in 4 bytes, big-endian, the kind's
+/// code, three zero bytes, the payload's bytes, and the SHA-256 of these 4,064 bytes.
 pub fn seal(number: u32, payload: &Payload) -> [u8; 4096]
     ensures value { result ≡ sealed number payload.now }
     ensures reads_back { unsealed number result ≡ Some payload.now }
@@ -45,7 +45,8 @@ pub fn seal(number: u32, payload: &Payload) -> [u8; 4096]
     page
 }
 
-/// The payload whose seal under the number the page is; `Damaged` with the number where there is none.
+/// The payload whose seal under the number the page is; `Damaged` with the number where there is
+/// none.
 pub fn unseal(number: u32, page: &[u8; 4096]) -> Result<Payload, PageFault>
     ensures value { result ≡ ok_or (unsealed number page.now) (PageFault.Damaged number) }
     ensures sealed { IfOk result (λ payload. page.now ≡ sealed number payload) }

@@ -11,13 +11,13 @@ pub struct StoreFault;
 
 /// A store of pages, which have the numbers from 0 to one below `len`.
 ///
-/// A store is faithful where every read that answers `Ok` gives the page last written there; what is said of
-/// pages is said of a faithful store. No call changes whether it is, nor how many pages there may be, and the
-/// count of faults never falls.
+/// A store is faithful where every read that answers `Ok` gives the page last written there; what
+/// is said of pages is said of a faithful store. No call changes whether it is, nor how many pages
+/// there may be, and the count of faults never falls.
 pub trait PageStore {
-    /// What contracts see of a store: how many pages there are and may be, how many calls have failed, whether
-    /// it is faithful, and the pages as written. The count of faults stays at 2^64 - 1 once it is there, and then
-    /// counts as risen.
+    /// What contracts see of a store: how many pages there are and may be, how many calls have
+    /// failed, whether it is faithful, and the pages as written. The count of faults stays at 2^64
+    /// - 1 once it is there, and then counts as risen.
     ghost seen: { Self → Store };
 
     /// How many pages there are.
@@ -36,8 +36,8 @@ pub trait PageStore {
         ensures stays { Stays (seen self.old) (seen self.new) }
         ensures cause { OnErr result (Faulted (seen self.old) (seen self.new)) };
 
-    /// Writes a page, which may be one more. A refusal leaves any bytes in that page, which may then be there
-    /// where it was not, and no other page changes.
+    /// Writes a page, which may be one more. A refusal leaves any bytes in that page, which may
+    /// then be there where it was not, and no other page changes.
     fn write(&mut self, number: u32, page: &[u8; 4096]) -> Result<(), StoreFault>
         requires next { number ≤ (seen self.old).count }
         requires room { number < (seen self.old).most }

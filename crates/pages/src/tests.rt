@@ -59,7 +59,8 @@ fn each_byte_counts(rt: HostRuntime) {
     assert!(rt; refuses_each_change(worked_page()));
 }
 
-/// Whether the worked page with another byte at a place, and the digest that is then right, is accepted.
+/// Whether the worked page with another byte at a place, and the digest that is then right, is
+/// accepted.
 fn accepts(place: usize, byte: u8) -> bool
     requires { place < 4064 }
 {
@@ -118,8 +119,8 @@ fn a_store_of_one_page(rt: HostRuntime) {
     assert!(rt; unseal(0, &page) == Err(PageFault::Damaged(0)));
 }
 
-/// Which of four calls a fuse passes: a write of page 0, which is there, a write of page 1, a read of page 0,
-/// and a `sync`.
+/// Which of four calls a fuse passes: a write of page 0, which is there, a write of page 1, a read
+/// of page 0, and a `sync`.
 fn passes(alloc: Global, calls: u64, once: bool) -> [bool; 4] {
     let mut store = MemStore::new(alloc, 3);
     let page = worked_page();
