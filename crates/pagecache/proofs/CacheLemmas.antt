@@ -15,7 +15,8 @@ use Rattle.pages.specs.Unsealed.{unsealed}
 use Rattle.pagecache.proofs.PageLemmas.{slice_get-put_page, slice_get-put_other, slice_get-take, slice_get-take_none}
 use Rattle.pages.specs.declared.payload.Payload.{Payload}
 use Rattle.pagecache.specs.Cache.{Cache, in_memory, page_of, sealed_payload, stored_payload, payload_of, is_changed, IsSettled, IsWritten, IsRefused, IsStopped, IsNotAdded, Keeps, Stays, Writes, Adds}
-use Rattle.pagecache.specs.Slots.{IsSound, HasRoom, IsWithin, OnLeaving, IsFirst, Steps, changed_numbers}
+use Rattle.pagecache.proofs.CallerLemmas.{stays-trans}
+use Rattle.pagecache.specs.Slots.{HasFailed, IsSound, HasRoom, IsWithin, OnLeaving, IsFirst, Steps, changed_numbers}
 use Rattle.pagecache.specs.declared.slots.Held.{Held}
 use Rattle.pagecache.specs.declared.fault.CacheFault.{CacheFault}
 use Rattle.pagecache.specs.declared.fault.CacheFault.TheVariants as fault
@@ -394,79 +395,8 @@ pub on_ok : {X E P Q : Type 0} (r : Result X E) → (P → Q) → OnOk r P → O
 on_ok (Ok x) f h = f h
 on_ok (Err e) f h = tt
 
--- one step after another
-store_keeps-trans : (a b c : Store) → store.Keeps a b → store.Keeps b c → store.Keeps a c
-store_keeps-trans a b c k l = record { most = l.most ∙ k.most; faithful = l.faithful ∙ k.faithful; faults = omega (arith, k.faults, l.faults) }
-
-keeps_after : (a b c : Cache) → Stays a b → Keeps b c → Keeps a c
-keeps_after a b c t k = record {
-  store = store_keeps-trans a.store b.store c.store t.keeps.store k.store;
-  capacity = k.capacity ∙ t.keeps.capacity;
-  written = λ f n h u. k.written (t.keeps.store.faithful ∙ f) n (omega (arith, h, t.count)) (t.changed n u) ∙ t.keeps.written f n h u;
-  settled = k.settled;
-}
-
-pub stays-trans : (a b c : Cache) → Stays a b → Stays b c → Stays a c
-stays-trans a b c t u = record {
-  keeps = keeps_after a b c t u.keeps;
-  count = u.count ∙ t.count;
-  payloads = λ f n. u.payloads (t.keeps.store.faithful ∙ f) n ∙ t.payloads f n;
-  changed = λ n h. u.changed n (t.changed n h);
-}
-
-pub stays-writes : (a b c : Cache) (n : ℕ) (w : Payload) → Stays a b → Writes n w b c → Writes n w a c
-stays-writes a b c n w t u = record {
-  keeps = keeps_after a b c t u.keeps;
-  count = u.count ∙ t.count;
-  payloads = λ f m. u.payloads (t.keeps.store.faithful ∙ f) m ∙ ap (cond (nat_eq n m) (Some w)) (t.payloads f m);
-  changed = λ m ne h. u.changed m ne (t.changed m h);
-}
-
-pub adds-stays : (a b c : Cache) (w : Payload) → Adds w a b → Stays b c → Adds w a c
-adds-stays a b c w t u = record {
-  keeps = record {
-    store = store_keeps-trans a.store b.store c.store t.keeps.store u.keeps.store;
-    capacity = u.keeps.capacity ∙ t.keeps.capacity;
-    written = λ f n h k. u.keeps.written (t.keeps.store.faithful ∙ f) n (omega (arith, h, t.count)) (t.changed n (λ e. let x : a.count ≡ n = e in absurd (omega (arith, x, h))) k) ∙ t.keeps.written f n h k;
-    settled = u.keeps.settled;
-  };
-  count = u.count ∙ t.count;
-  payloads = λ f m. u.payloads (t.keeps.store.faithful ∙ f) m ∙ t.payloads f m;
-  changed = λ m ne h. u.changed m (t.changed m ne h);
-}
-
-merged : (b : Bool) (x y z : Option Payload) → cond b x (cond b y z) ≡ cond b x z
-merged true x y z = refl
-merged false x y z = refl
-
--- a page is added and then written
-pub adds-writes : (a b c : Cache) (n : ℕ) (p w : Payload) → Adds p a b → n ≡ a.count → Writes n w b c → Adds w a c
-adds-writes a b c n p w t at u = record {
-  keeps = record {
-    store = store_keeps-trans a.store b.store c.store t.keeps.store u.keeps.store;
-    capacity = u.keeps.capacity ∙ t.keeps.capacity;
-    written = λ f m h k. u.keeps.written (t.keeps.store.faithful ∙ f) m (omega (arith, h, t.count)) (t.changed m (λ e. let x : a.count ≡ m = e in absurd (omega (arith, x, h))) k) ∙ t.keeps.written f m h k;
-    settled = u.keeps.settled;
-  };
-  count = u.count ∙ t.count;
-  payloads = λ f m. u.payloads (t.keeps.store.faithful ∙ f) m ∙ ap (cond (nat_eq n m) (Some w)) (t.payloads f m)
-      ∙ ap (λ k. cond (nat_eq k m) (Some w) (cond (nat_eq a.count m) (Some p) (payload_of a m))) at ∙ merged (nat_eq a.count m) (Some w) (Some p) (payload_of a m);
-  changed = λ m ne h. u.changed m (λ e. ne (sym at ∙ e)) (t.changed m ne h);
-}
-
 pub steps-trans : (a b c : Cache) → Steps a b → Steps b c → Steps a c
 steps-trans a b c t u = record { sound = u.sound; stays = stays-trans a b c t.stays u.stays; asked = u.asked ∙ t.asked }
-
--- a call that is refused after a step is refused from before it
-faulted_after : (a b c : Store) → store.Keeps a b → Faulted b c → Faulted a c
-faulted_after a b c k f = omega (arith, f, k.faults)
-
-pub refused_after : (a b c : Cache) (n : ℕ) (e : CacheFault) → Stays a b → IsRefused n e b c → IsRefused n e a c
-refused_after a b c n fault.NoPage t r = omega (arith, r, t.count)
-refused_after a b c n fault.Store t r = faulted_after a.store b.store c.store t.keeps.store r
-refused_after a b c n (fault.Damaged m) t r = (r.0, λ f. sym (t.payloads f n) ∙ r.1 (t.keeps.store.faithful ∙ f))
-refused_after a b c n fault.StoreFull t r = r
-refused_after a b c n fault.Memory t r = tt
 
 -- a page has come in first, and the last has left where the cache was full
 gone : (c d : Cache) (m k : ℕ) (o p : Option Held) → HasRoom c → k ≡ c.capacity - 1 → in_memory d m ≡ lookup (nat_eq m) (take k c.held) → lookup (nat_eq m) (take k c.held) ≡ o → in_memory c m ≡ p
@@ -515,27 +445,6 @@ payload_of-first c n e f at =
 pub asking : (c : Cache) (k : ℕ) → IsSound c → IsSound (record c { asked = k }) × Stays c (record c { asked = k })
 asking c k s = reordered c (record c { asked = k }) s (store_rests c.store) (λ _. refl) refl refl
 
-pub stopped_after : (a b c : Cache) (e : CacheFault) → Stays a b → IsStopped e b c → IsStopped e a c
-stopped_after a b c fault.NoPage t r = r
-stopped_after a b c fault.Store t r = faulted_after a.store b.store c.store t.keeps.store r
-stopped_after a b c (fault.Damaged m) t r = r
-stopped_after a b c fault.StoreFull t r = r
-stopped_after a b c fault.Memory t r = tt
-
-pub stopped_refused : (a b : Cache) (n : ℕ) (e : CacheFault) → IsStopped e a b → IsRefused n e a b
-stopped_refused a b n fault.NoPage r = absurd r
-stopped_refused a b n fault.Store r = r
-stopped_refused a b n (fault.Damaged m) r = absurd r
-stopped_refused a b n fault.StoreFull r = r
-stopped_refused a b n fault.Memory r = tt
-
-pub stopped_not_added : (a b : Cache) (e : CacheFault) → IsStopped e a b → IsNotAdded e a b
-stopped_not_added a b fault.NoPage r = r
-stopped_not_added a b fault.Store r = r
-stopped_not_added a b (fault.Damaged m) r = r
-stopped_not_added a b fault.StoreFull r = absurd r
-stopped_not_added a b fault.Memory r = tt
-
 -- a number is in a list
 abbrev IsIn : List ℕ → ℕ → Type 0
 IsIn ns n = (k : ℕ) × (k < length ns) × (get_or ns k 0 ≡ n)
@@ -577,14 +486,6 @@ pub added_seal : (a b : Cache) (n : ℕ) (p : Payload) → n ≡ a.count → Add
 added_seal a b n p at t absent f =
     sym (t.keeps.settled f n (is_changed-none b n absent)) ∙ t.payloads (sym t.keeps.store.faithful ∙ f) n ∙ ap (λ b. cond b (Some p) (payload_of a n)) (eq-eqb a.count n (sym at))
 
-pub adds-after : (a b c : Cache) (w : Payload) → Stays a b → Adds w b c → Adds w a c
-adds-after a b c w t u = record {
-  keeps = keeps_after a b c t u.keeps;
-  count = omega (arith, u.count, t.count);
-  payloads = λ f m. u.payloads (t.keeps.store.faithful ∙ f) m ∙ ap (λ k. cond (nat_eq k m) (Some w) (payload_of b m)) t.count ∙ ap (cond (nat_eq a.count m) (Some w)) (t.payloads f m);
-  changed = λ m ne h. u.changed m (λ e. ne (sym t.count ∙ e)) (t.changed m h);
-}
-
 -- what `unseal` answered
 pub answered-ok : {E : Type 0} (o : Option Payload) (p : Payload) (fault : E) → Ok p ≡ ok_or o fault → o ≡ Some p
 answered-ok None p fault e = absurd (cc)
@@ -616,3 +517,12 @@ empty_written c l e none =
       clean = λ f n h at u. let x : None ≡ Some h = sym (none n) ∙ at in absurd (cc);
     } in
     all_written c sound l (λ n. is_changed-none c n (none n))
+
+-- the store has failed
+pub failed_refused : (a b : Cache) (n : ℕ) (e : CacheFault) → HasFailed e a b → IsRefused n e a b
+failed_refused a b n e r = subst (λ x. IsRefused n x a b) (sym r.0) r.1
+
+-- there is no page at the count or above
+pub payload_of-beyond : (c : Cache) (n : ℕ) → IsSound c → c.count ≤ n → payload_of c n ≡ None
+unfolding sealed_payload
+payload_of-beyond c n s h = payload_of-none c n (none_beyond c n (in_memory c n) s h refl) ∙ ap (option_and_then (unsealed n)) (page_of-above c n h)

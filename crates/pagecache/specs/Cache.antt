@@ -111,7 +111,8 @@ IsStopped fault.Memory old new = ⊤
 
 -- why page n is refused
 abbrev pub IsRefused : ℕ → CacheFault → Cache → Cache → Type 0
-IsRefused n fault.NoPage old new = old.count ≤ n
+IsRefused n fault.NoPage old new =
+    (old.count ≤ n) × (IsTrue old.store.is_faithful → payload_of old n ≡ None)
 IsRefused n fault.Store old new = Faulted old.store new.store
 IsRefused n (fault.Damaged m) old new =
     (m ≡ n) × (IsTrue old.store.is_faithful → payload_of old n ≡ None)

@@ -1,12 +1,15 @@
 -- What is seen of the inner cache, and what holds of it.
 use Rattle.std.specs.Prelude.{ℕ, List, map, filter, false, ◌≡◌, ◌-◌, ◌<◌, ◌≤◌, Some, length, slice_get, IsTrue, IsSome}
 use Rattle.std.specs.Box.{box_value}
-use Rattle.pages.specs.Store.{Store}
+use Rattle.pages.specs.Store as store
+use Rattle.pages.specs.Store.{Faulted}
 use Rattle.pagecache.specs.Cache.{Cache, in_memory, sealed_payload, is_changed, Stays}
+use Rattle.pagecache.specs.declared.fault.CacheFault.{CacheFault}
+use Rattle.pagecache.specs.declared.fault.CacheFault.TheVariants.{Store}
 use Rattle.pagecache.specs.declared.slots.Held.{Held}
 use Rattle.pagecache.specs.declared.slots.Slots.{Slots}
 
-abbrev pub seen_of : {S : Type 0} → (S → Store) → Slots S → Cache
+abbrev pub seen_of : {S : Type 0} → (S → store.Store) → Slots S → Cache
 seen_of seen c = record {
   store = seen c.store;
   held = c.held.entries;
@@ -39,6 +42,10 @@ pub record HasRoom (c : Cache) : Type 0 where
 -- page n is the one that was used last
 abbrev pub IsFirst : Cache → ℕ → Type 0
 IsFirst c n = (h : Held) × (slice_get c.held 0 ≡ Some (n, h))
+
+-- a step is refused since the store failed
+abbrev pub HasFailed : CacheFault → Cache → Cache → Type 0
+HasFailed fault old new = (fault ≡ Store) × Faulted old.store new.store
 
 -- what every step inside keeps
 pub record Steps (old new : Cache) : Type 0 where

@@ -1,5 +1,5 @@
 //! The cache as its callers see it.
-ghost use Rattle.std.specs.Prelude.{◌≡◌, ◌<◌, ◌≤◌, Some, IsTrue, IfOk, IfErr, OnOk, OnErr, length};
+ghost use Rattle.std.specs.Prelude.{◌≡◌, ◌<◌, ◌≤◌, Some, IsTrue, IfOk, IfErr, OnOk, OnErr, IsErrOf, length};
 ghost use Rattle.std.specs.Borrow.{sem};
 ghost use Rattle.pagecache.specs.Cache.{fresh, payload_of, Adds, Stays, SameLength, AsksOnce, IsNotAdded, IsStopped, IsWritten};
 ghost use Rattle.pages.specs.Zero.{zero_payload};
@@ -93,6 +93,7 @@ impl<S: PageStore> PageCache<S> {
         ensures stays { Stays self.old self.new }
         ensures length { SameLength self.old self.new }
         ensures asked { self.new.asked ≡ self.old.asked }
+        ensures memory { IsErrOf result CacheFault.Memory → self.new ≡ self.old }
         ensures cause { IfErr result (λ fault. IsStopped fault self.old self.new) }
     {
         self.slots.flush()
@@ -120,6 +121,13 @@ impl<S: PageStore> PageCache<S> {
         ensures within { result ≤ self.now.capacity }
     {
         self.slots.held()
+    }
+
+    /// The store below, as it stands.
+    pub fn store(&self) -> &S
+        ensures { S.seen result.now ≡ self.now.store }
+    {
+        &self.slots.store
     }
 
     /// The store as it stands: what was changed and not written is lost.

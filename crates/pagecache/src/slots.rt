@@ -1,11 +1,11 @@
 //! The pages in memory, over the store: a step of the cache each.
-ghost use Rattle.std.specs.Prelude.{ℕ, ◌≡◌, ◌<◌, ◌≤◌, false, Some, None, IsTrue, IsSome, OnOk, OnErr, IfOk, IfErr, IfNone, IfSome, slice_get, slice_index, EachIndex, length};
+ghost use Rattle.std.specs.Prelude.{ℕ, ◌≡◌, ◌<◌, ◌≤◌, false, Some, None, IsTrue, IsSome, OnOk, OnErr, IfOk, IfErr, IfNone, IfSome, IsErrOf, slice_get, slice_index, EachIndex, length};
 ghost use Rattle.std.specs.Borrow.{sem};
 ghost use Rattle.std.specs.Map.{keys_of};
 ghost use Rattle.pages.specs.Zero.{zero_payload};
 ghost use Rattle.pagecache.specs.Cache.{fresh, AsksOnce, Stays, SameLength, Adds, IsRefused, IsStopped, IsNotAdded, IsWritten, in_memory, sealed_payload, is_changed, payload_of};
 ghost use Rattle.pagecache.specs.SlotLends.{LendsSlot};
-ghost use Rattle.pagecache.specs.Slots.{IsSound, HasRoom, IsWithin, OnLeaving, IsFirst, Steps, seen_of, changed_numbers};
+ghost use Rattle.pagecache.specs.Slots.{HasFailed, HasRoom, IsFirst, IsSound, IsWithin, OnLeaving, Steps, changed_numbers, seen_of};
 
 use crate::fault::CacheFault;
 use lru::LruCache;
@@ -70,7 +70,7 @@ impl<S: PageStore> Slots<S> {
         ensures written { OnOk result (is_changed (seen_of S.seen self.new) number ≡ false) }
         ensures keys { keys_of self.new.held.entries ≡ keys_of self.old.held.entries }
         ensures cause { IfErr result
-            (λ fault. IsStopped fault (seen_of S.seen self.old) (seen_of S.seen self.new)) }
+            (λ fault. HasFailed fault (seen_of S.seen self.old) (seen_of S.seen self.new)) }
     {
         match self.held.peek_mut(&number) {
             None => Ok(()),
@@ -109,7 +109,7 @@ impl<S: PageStore> Slots<S> {
         ensures room { OnOk result (HasRoom (seen_of S.seen self.new)) }
         ensures keys { keys_of self.new.held.entries ≡ keys_of self.old.held.entries }
         ensures cause { IfErr result
-            (λ fault. IsStopped fault (seen_of S.seen self.old) (seen_of S.seen self.new)) }
+            (λ fault. HasFailed fault (seen_of S.seen self.old) (seen_of S.seen self.new)) }
     {
         match self.leaving() {
             None => Ok(()),
@@ -265,7 +265,7 @@ impl<S: PageStore> Slots<S> {
         ensures written { OnOk result (EachIndex numbers.now
             (λ k. is_changed (seen_of S.seen self.new) (slice_index numbers.now k) ≡ false)) }
         ensures cause { IfErr result
-            (λ fault. IsStopped fault (seen_of S.seen self.old) (seen_of S.seen self.new)) }
+            (λ fault. HasFailed fault (seen_of S.seen self.old) (seen_of S.seen self.new)) }
     {
         for number in numbers {
             match self.write_back(*number) {
@@ -282,6 +282,8 @@ impl<S: PageStore> Slots<S> {
         ensures steps { Steps (seen_of S.seen self.old) (seen_of S.seen self.new) }
         ensures length { SameLength (seen_of S.seen self.old) (seen_of S.seen self.new) }
         ensures written { OnOk result (IsWritten (seen_of S.seen self.new)) }
+        ensures memory { IsErrOf result CacheFault.Memory
+            → seen_of S.seen self.new ≡ seen_of S.seen self.old }
         ensures cause { IfErr result
             (λ fault. IsStopped fault (seen_of S.seen self.old) (seen_of S.seen self.new)) }
     {
@@ -314,7 +316,7 @@ impl<S: PageStore> Slots<S> {
         ensures held { self.new.held ≡ self.old.held }
         ensures asked { self.new.asked ≡ self.old.asked }
         ensures cause { IfErr result
-            (λ fault. IsStopped fault (seen_of S.seen self.old) (seen_of S.seen self.new)) }
+            (λ fault. HasFailed fault (seen_of S.seen self.old) (seen_of S.seen self.new)) }
     {
         let number = self.count;
         let page = seal(number, payload);

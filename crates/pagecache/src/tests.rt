@@ -61,6 +61,7 @@ fn a_store_that_is_full(rt: HostRuntime) -> Result<(), Fail> {
     assert!(rt; cache.add_page(Kind::Leaf) == Ok(0));
     assert!(rt; cache.add_page(Kind::Leaf) == Err(CacheFault::StoreFull));
     assert!(rt; cache.count() == 1 && cache.asked() == 2);
+    assert!(rt; cache.store().len() == 1 && cache.store().most() == 1);
     Ok(())
 }
 

@@ -1,7 +1,6 @@
 use Rattle.std.proofs.Common.{◌∙◌}
 use Rattle.pages.specs.Zero.{zero_payload}
-use Rattle.pagecache.proofs.CacheLemmas.{adds-writes}
-use Rattle.pagecache.proofs.CallerLemmas.{payload_of-added}
+use Rattle.pagecache.proofs.CallerLemmas.{adds-writes, payload_of-added}
 use Rattle.pagecache.proofs.examples.add_with_byte.Goals as goal
 
 pub returns : goal.returns

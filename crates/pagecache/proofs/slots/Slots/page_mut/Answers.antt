@@ -9,7 +9,8 @@ use Rattle.pagecache.specs.Cache.{Writes, payload_of}
 use Rattle.pagecache.specs.Slots.{IsSound, seen_of}
 use Rattle.pagecache.specs.declared.slots.Slots.{Slots}
 use Rattle.pagecache.proofs.HeldLemmas.{lookup-written, first_entry}
-use Rattle.pagecache.proofs.CacheLemmas.{lent, stays-writes, store_rests, payload_of-some, is_some_of}
+use Rattle.pagecache.proofs.CacheLemmas.{lent, store_rests, payload_of-some, is_some_of}
+use Rattle.pagecache.proofs.CallerLemmas.{stays-writes}
 use Rattle.pagecache.proofs.slots.Slots.page_mut.Goals as goal
 
 -- c with the page n first and changed, with the payload w
