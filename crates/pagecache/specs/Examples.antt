@@ -1,5 +1,5 @@
 -- What the examples promise.
-use Rattle.std.specs.Prelude.{ℕ, ◌≡◌, Some, IsTrue, slice_index, slice_set}
+use Rattle.std.specs.Prelude.{ℕ, Bool, ◌≡◌, ◌==◌, Some, IsTrue, slice_index, slice_set}
 use Rattle.pages.specs.declared.payload.Payload.{Payload}
 use Rattle.pages.specs.declared.payload.Kind.{Kind}
 use Rattle.pages.specs.Zero.{zero_payload}
@@ -27,6 +27,13 @@ CopiesByte from to place old new =
     IsTrue old.store.is_faithful → (p q : Payload) → payload_of old from ≡ Some p
     → payload_of old to ≡ Some q
     → Writes to (with_byte q place (slice_index p.bytes place)) old new
+
+-- whether two pages have the same byte at a place
+abbrev pub ComparesByte : Cache → ℕ → ℕ → ℕ → Bool → Type 0
+ComparesByte c first second place same =
+    IsTrue c.store.is_faithful → (p q : Payload) → payload_of c first ≡ Some p
+    → payload_of c second ≡ Some q
+    → same ≡ (slice_index q.bytes place == slice_index p.bytes place)
 
 -- one page more, of zero bytes but for one
 abbrev pub AddsByte : Kind → ℕ → ℕ → Cache → Cache → Type 0

@@ -1,7 +1,7 @@
 //! What callers write. Each function is proved from the contracts of the cache alone.
-ghost use Rattle.std.specs.Prelude.{◌<◌, OnOk, OnErr, IfOk, IfErr};
-ghost use Rattle.pagecache.specs.Cache.{Rests, IsRefused};
-ghost use Rattle.pagecache.specs.Examples.{AddsByte, CopiesByte, WritesByte, ReadsByte};
+ghost use Rattle.std.specs.Prelude.{ℕ, ◌≡◌, ◌<◌, false, IsTrue, OnOk, OnErr, IfOk, IfErr};
+ghost use Rattle.pagecache.specs.Cache.{Rests, IsRefused, payload_of, is_changed};
+ghost use Rattle.pagecache.specs.Examples.{AddsByte, ComparesByte, CopiesByte, ReadsByte, WritesByte};
 
 use crate::cache::PageCache;
 use crate::fault::CacheFault;
@@ -50,6 +50,23 @@ pub(crate) fn copy_byte<S: PageStore>(
     let value = byte(cache, from, place)?;
     set_byte(cache, to, place, value)?;
     Ok(())
+}
+
+/// Whether two pages have the same byte at a place.
+pub(crate) fn same_byte<S: PageStore>(
+    cache: &mut PageCache<S>,
+    first: u32,
+    second: u32,
+    place: usize,
+) -> Result<bool, CacheFault>
+    requires { place < 4056 }
+    ensures value { IfOk result (ComparesByte cache.old first second place) }
+    ensures payloads { IsTrue cache.old.store.is_faithful
+        → (n : ℕ) → payload_of cache.new n ≡ payload_of cache.old n }
+    ensures unchanged { (n : ℕ) → is_changed cache.old n ≡ false → is_changed cache.new n ≡ false }
+{
+    let value = cache.page(first)?.bytes[place];
+    Ok(cache.page(second)?.bytes[place] == value)
 }
 
 /// Adds a page with one byte written, and returns its number.

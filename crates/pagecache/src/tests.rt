@@ -1,7 +1,7 @@
 //! Worked calls over a store in memory, over one that fails at each call in turn, and at random.
 ghost use Rattle.std.specs.Prelude.{◌<◌};
 
-use crate::examples::{add_with_byte, byte, copy_byte, set_byte};
+use crate::examples::{add_with_byte, byte, copy_byte, same_byte, set_byte};
 use crate::{CacheFault, Memory, PageCache};
 use pages::{Fuse, Kind, MemStore, PageStore, Payload, seal};
 use std::alloc::Global;
@@ -48,10 +48,12 @@ fn what_is_not_written_is_lost(rt: HostRuntime) -> Result<(), Fail> {
     assert!(rt; cache.add_page(Kind::Inner) == Ok(1));
     assert!(rt; copy_byte(&mut cache, 0, 1, PLACE) == Ok(()));
     assert!(rt; byte(&mut cache, 1, PLACE) == Ok(3));
+    assert!(rt; same_byte(&mut cache, 0, 1, PLACE) == Ok(true));
     let mut again = cache_over(rt.alloc(), cache.into_store(), 4)?;
     assert!(rt; again.count() == 2);
     assert!(rt; byte(&mut again, 0, PLACE) == Ok(3));
     assert!(rt; byte(&mut again, 1, PLACE) == Ok(0));
+    assert!(rt; same_byte(&mut again, 0, 1, PLACE) == Ok(false));
     Ok(())
 }
 
@@ -151,12 +153,14 @@ fn each_call_of_the_store_fails_once(rt: HostRuntime) -> Result<(), Fail> {
     Ok(())
 }
 
-/// What a call answered: `.` for what it should, `S` where the store failed, `N` for no page.
+/// What a call answered: `.` for what it should, `S` where the store failed, `N` for no page, `M`
+/// for want of memory.
 fn letter(answer: Result<bool, CacheFault>) -> u8 {
     match answer {
         Ok(true) => b'.',
         Err(CacheFault::Store) => b'S',
         Err(CacheFault::NoPage) => b'N',
+        Err(CacheFault::Memory) => b'M',
         _ => b'?',
     }
 }
@@ -195,6 +199,15 @@ fn the_store_fails_for_good(rt: HostRuntime) -> Result<(), Fail> {
         assert_eq!(rt; letters(rt.alloc(), calls as u64)?, *want, "at {calls}");
     }
     Ok(())
+}
+
+/// Passes wherever memory runs out, too: no answer is another one than it should be, or a refusal.
+/// It is run with each growth refused in turn.
+#[test]
+fn no_wrong_answer_without_memory(rt: HostRuntime) {
+    if let Ok(seen) = letters(rt.alloc(), 100) {
+        assert!(rt; !seen.contains(&b'?'));
+    }
 }
 
 /// Makes a call that a number names, and says whether it answers as the plain map does. The map
