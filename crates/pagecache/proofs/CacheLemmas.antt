@@ -1,5 +1,5 @@
 -- What each step of a cache keeps.
-use Rattle.std.proofs.Common.{◌≡◌, ◌≢◌, ℕ, zero, suc, ◌+◌, ◌-◌, ◌<◌, ◌≤◌, Bool, true, false, cond, nat_eq, List, [], ◌∷◌, map, filter, get_or, length, take, slice_get, Option, Some, None, IsSome, is_some, IsTrue, refl, sym, ap, ◌∙◌, subst, arith, ◌⊎◌, inl, inr, ⊎_elim, Result, Ok, Err, OnOk, IfErr}
+use Rattle.std.proofs.Common.{◌≡◌, ◌≢◌, ℕ, zero, suc, ◌+◌, ◌-◌, ◌<◌, ◌≤◌, Bool, true, false, cond, nat_eq, List, [], ◌∷◌, map, filter, get_or, length, take, drop, slice_get, Option, Some, None, IsSome, is_some, IsTrue, refl, sym, ap, ◌∙◌, subst, arith, ◌⊎◌, inl, inr, ⊎_elim, Result, Ok, Err, OnOk, IfErr}
 use Rattle.std.proofs.lemmas.Bool.{eqb-true, eq-eqb, false≢true, cases_lt, cases_eq, ne_eqb}
 use Rattle.std.specs.Option.{ok_or, option_or, option_map, option_and_then, unwrap_or}
 use Rattle.std.specs.Map.{lookup, keys_of}
@@ -12,9 +12,9 @@ use Rattle.std.specs.Box.{box_value}
 use Rattle.pages.specs.Store.{Store, IsLawful, put_page, IsTorn, Faulted}
 use Rattle.pages.specs.Store as store
 use Rattle.pages.specs.Unsealed.{unsealed}
-use Rattle.pagecache.proofs.PageLemmas.{slice_get-put_page, slice_get-put_other, slice_get-take, slice_get-take_none}
+use Rattle.pagecache.proofs.PageLemmas.{same_rest, slice_get-put_page, slice_get-put_other, slice_get-take, slice_get-take_none}
 use Rattle.pages.specs.declared.payload.Payload.{Payload}
-use Rattle.pagecache.specs.Cache.{Cache, in_memory, page_of, sealed_payload, stored_payload, payload_of, is_changed, IsSettled, IsWritten, IsRefused, IsStopped, IsNotAdded, Keeps, Stays, Writes, Adds}
+use Rattle.pagecache.specs.Cache.{Cache, in_memory, pages_as_written, page_of, sealed_payload, stored_payload, payload_of, is_changed, IsSettled, IsWritten, IsRefused, IsStopped, IsNotAdded, Keeps, Stays, WritesNone, Writes, Adds}
 use Rattle.pagecache.proofs.CallerLemmas.{stays-trans}
 use Rattle.pagecache.specs.Slots.{HasFailed, IsSound, HasRoom, IsWithin, OnLeaving, IsFirst, Steps, changed_numbers}
 use Rattle.pagecache.specs.declared.slots.Held.{Held}
@@ -76,11 +76,11 @@ settled c s f n u = settled_at c n (in_memory c n) s f refl u
 
 -- the pages as written
 page_of-below : (c : Cache) (n : ℕ) → n < c.count → page_of c n ≡ slice_get c.store.pages n
-unfolding page_of
+unfolding page_of pages_as_written
 page_of-below c n h = slice_get-take c.count n c.store.pages h
 
 page_of-above : (c : Cache) (n : ℕ) → c.count ≤ n → page_of c n ≡ None
-unfolding page_of
+unfolding page_of pages_as_written
 page_of-above c n h = slice_get-take_none c.count n c.store.pages h
 
 same_page : (c d : Cache) (n : ℕ) → d.count ≡ c.count → (n < c.count → slice_get d.store.pages n ≡ slice_get c.store.pages n) → page_of d n ≡ page_of c n
@@ -88,6 +88,14 @@ same_page c d n e same = elim (cases_lt n c.count) [
   | inl h ↦ page_of-below d n (omega (arith, e, h)) ∙ same h ∙ sym (page_of-below c n h)
   | inr h ↦ page_of-above d n (omega (arith, e, h)) ∙ sym (page_of-above c n h)
 ]
+
+-- the pages from k on, where each is as it was
+rest_same : (c d : Cache) (k : ℕ) → ((n : ℕ) → k ≤ n → page_of d n ≡ page_of c n) → drop k (pages_as_written d) ≡ drop k (pages_as_written c)
+unfolding page_of
+rest_same c d k f = same_rest k (pages_as_written c) (pages_as_written d) f
+
+none_written : (c d : Cache) → (IsTrue c.store.is_faithful → (k : ℕ) → ((n : ℕ) → k ≤ n → is_changed c n ≡ false) → drop k (pages_as_written d) ≡ drop k (pages_as_written c)) → WritesNone c d
+none_written c d h = record { clean = λ f u. h f 0 (λ n _. u n); from = h }
 
 -- the same pages in memory, in another order, over a store that stays
 pub reordered : (c d : Cache) → IsSound c → store.Stays c.store d.store → ((m : ℕ) → in_memory d m ≡ in_memory c m)
@@ -107,6 +115,7 @@ reordered c d s t look count capacity =
         count = count;
         payloads = λ f m. payload_of-same c d m (look m) (seals f m);
         changed = λ m u. is_changed-same c d m (look m) ∙ u;
+        unwritten = none_written c d (λ f k _. rest_same c d k (λ m _. pages f m));
       },
     )
 
@@ -180,6 +189,7 @@ written c d n page h w s l here marked payload unmarked reads t look count capac
           | inl k ↦ subst (λ i. is_changed d i ≡ false) k (is_changed-some d n w (set_here c d n w look) ∙ unmarked)
           | inr ne ↦ is_changed-same c d m (set_other c d n m w look ne) ∙ u
         ];
+        unwritten = none_written c d (λ f k u. rest_same c d k (λ m g. other_page f m (apart_from c n m h here marked (u m g))));
       };
     }
 
@@ -211,6 +221,7 @@ torn c d n h s l here marked t look count capacity asked =
           | inr ne ↦ payload_of-same c d m (look m) (sealed_payload-same c d m (other_page f m ne))
         ];
         changed = λ m u. is_changed-same c d m (look m) ∙ u;
+        unwritten = none_written c d (λ f k u. rest_same c d k (λ m g. other f m (u m g)));
       };
     }
 
@@ -266,6 +277,7 @@ fetched c d n w s below absent unmarked at t look count capacity asked =
             | inr e ↦ is_changed-none d m e.0
           ]
         ];
+        unwritten = none_written c d (λ f k _. rest_same c d k (λ m _. pages f m));
       };
     }
 
@@ -299,6 +311,7 @@ lent c d n w s below marked t look count capacity =
           | inr ne ↦ payload_of-same c d m (set_other c d n m w look ne) (seals f m) ∙ sym (ap (λ b. cond b (Some (box_value w.payload)) (payload_of c m)) (ne_eqb n m ne))
         ];
         changed = λ m ne u. is_changed-same c d m (set_other c d n m w look ne) ∙ u;
+        unwritten = none_written c d (λ f k _. rest_same c d k (λ m _. pages f m));
       },
     )
 
@@ -366,6 +379,7 @@ not_appended c d n s l at t look count capacity asked =
         count = count;
         payloads = λ f m. payload_of-same c d m (look m) (seals f m);
         changed = λ m u. is_changed-same c d m (look m) ∙ u;
+        unwritten = none_written c d (λ f k _. rest_same c d k (λ m _. pages f m));
       };
     }
 
@@ -497,13 +511,13 @@ answered-err (Some q) other fault e = absurd (cc)
 
 -- where the cache counts all of the store's pages, a page as written is the store's
 pub sealed_payload-stored : (c : Cache) (n : ℕ) → IsLawful c.store → IsTrue c.store.is_faithful → c.count ≡ c.store.count → sealed_payload c n ≡ stored_payload c.store n
-unfolding sealed_payload page_of stored_payload
+unfolding sealed_payload page_of pages_as_written stored_payload
 sealed_payload-stored c n l f e = ap (λ xs. option_and_then (unsealed n) (slice_get xs n)) (take_all c.count c.store.pages (omega (arith, l.counted f, e)))
 
 -- a sound cache in which no page is changed
 pub all_written : (c : Cache) → IsSound c → IsLawful c.store → ((n : ℕ) → is_changed c n ≡ false) → IsWritten c
 all_written c s l u = record {
-  unchanged = u;
+  clean = u;
   sealed = λ f n. settled c s f n (u n);
   stored = λ f e n. settled c s f n (u n) ∙ sealed_payload-stored c n l f e;
 }

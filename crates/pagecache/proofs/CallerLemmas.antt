@@ -4,7 +4,7 @@ use Rattle.std.proofs.lemmas.Bool.{eq-eqb}
 use Rattle.pages.specs.Store.{Store, Faulted}
 use Rattle.pages.specs.Store as store
 use Rattle.pages.specs.declared.payload.Payload.{Payload}
-use Rattle.pagecache.specs.Cache.{Cache, payload_of, IsRefused, Keeps, Stays, Writes, Adds}
+use Rattle.pagecache.specs.Cache.{Cache, payload_of, IsRefused, Keeps, Stays, WritesNone, Writes, Adds}
 use Rattle.pagecache.specs.declared.fault.CacheFault.{CacheFault}
 use Rattle.pagecache.specs.declared.fault.CacheFault.TheVariants as fault
 
@@ -20,12 +20,19 @@ keeps_after a b c t k = record {
   settled = k.settled;
 }
 
+none_written_after : (a b c : Cache) → Stays a b → WritesNone b c → WritesNone a c
+none_written_after a b c t u = record {
+  clean = λ f h. u.clean (t.keeps.store.faithful ∙ f) (λ n. t.changed n (h n)) ∙ t.unwritten.clean f h;
+  from = λ f k h. u.from (t.keeps.store.faithful ∙ f) k (λ n g. t.changed n (h n g)) ∙ t.unwritten.from f k h;
+}
+
 pub stays-trans : (a b c : Cache) → Stays a b → Stays b c → Stays a c
 stays-trans a b c t u = record {
   keeps = keeps_after a b c t u.keeps;
   count = u.count ∙ t.count;
   payloads = λ f n. u.payloads (t.keeps.store.faithful ∙ f) n ∙ t.payloads f n;
   changed = λ n h. u.changed n (t.changed n h);
+  unwritten = none_written_after a b c t u.unwritten;
 }
 
 pub stays-writes : (a b c : Cache) (n : ℕ) (w : Payload) → Stays a b → Writes n w b c → Writes n w a c
@@ -34,6 +41,7 @@ stays-writes a b c n w t u = record {
   count = u.count ∙ t.count;
   payloads = λ f m. u.payloads (t.keeps.store.faithful ∙ f) m ∙ ap (cond (nat_eq n m) (Some w)) (t.payloads f m);
   changed = λ m ne h. u.changed m ne (t.changed m h);
+  unwritten = none_written_after a b c t u.unwritten;
 }
 
 pub adds-stays : (a b c : Cache) (w : Payload) → Adds w a b → Stays b c → Adds w a c

@@ -1,5 +1,5 @@
 -- What contracts see of a cache, and what a call does to it.
-use Rattle.std.specs.Prelude.{ℕ, Bool, false, ◌≡◌, ◌≢◌, ◌+◌, ◌-◌, ◌^◌, ◌<◌, ◌≤◌, ◌==◌, if◌then◌else◌, min, List, [], take, Option, Some, None, option_map, option_and_then, unwrap_or, slice_get, nat_eq, IsTrue, ⊤}
+use Rattle.std.specs.Prelude.{ℕ, Bool, false, ◌≡◌, ◌≢◌, ◌+◌, ◌-◌, ◌^◌, ◌<◌, ◌≤◌, ◌==◌, if◌then◌else◌, min, List, [], take, drop, Option, Some, None, option_map, option_and_then, unwrap_or, slice_get, nat_eq, IsTrue, ⊤}
 use Rattle.std.specs.Option.{option_or}
 use Rattle.std.specs.Map.{lookup}
 use Rattle.std.specs.Box.{box_value}
@@ -33,9 +33,13 @@ AsksOnce old new = new.asked ≡ min (old.asked + 1) (2 ^ 64 - 1)
 abbrev pub in_memory : Cache → ℕ → Option Held
 in_memory c n = lookup (nat_eq n) c.held
 
+-- the pages as written
+unfoldable pub pages_as_written : Cache → List (List ℕ)
+pages_as_written c = take c.count c.store.pages
+
 -- page n as written
 unfoldable pub page_of : Cache → ℕ → Option (List ℕ)
-page_of c n = slice_get (take c.count c.store.pages) n
+page_of c n = slice_get (pages_as_written c) n
 
 -- the payload that page n as written seals
 unfoldable pub sealed_payload : Cache → ℕ → Option Payload
@@ -59,9 +63,13 @@ abbrev pub IsSettled : Cache → Type 0
 IsSettled c = IsTrue c.store.is_faithful → (n : ℕ) → is_changed c n ≡ false
     → payload_of c n ≡ sealed_payload c n
 
+-- no page is changed
+abbrev pub IsClean : Cache → Type 0
+IsClean c = (n : ℕ) → is_changed c n ≡ false
+
 -- no page is changed, and each page as written seals its payload, in the store too
 pub record IsWritten (c : Cache) : Type 0 where
-  pub unchanged : (n : ℕ) → is_changed c n ≡ false
+  pub clean : IsClean c
   pub sealed : IsTrue c.store.is_faithful → (n : ℕ) → payload_of c n ≡ sealed_payload c n
   pub stored : IsTrue c.store.is_faithful → c.count ≡ c.store.count → (n : ℕ)
       → payload_of c n ≡ stored_payload c.store n
@@ -74,12 +82,21 @@ pub record Keeps (old new : Cache) : Type 0 where
       → is_changed old n ≡ false → page_of new n ≡ page_of old n
   pub settled : IsSettled new
 
+-- where no page is changed, none is written; nor is one from k on, where none of those is changed
+pub record WritesNone (old new : Cache) : Type 0 where
+  pub clean : IsTrue old.store.is_faithful → IsClean old
+      → pages_as_written new ≡ pages_as_written old
+  pub from : IsTrue old.store.is_faithful → (k : ℕ)
+      → ((n : ℕ) → k ≤ n → is_changed old n ≡ false)
+      → drop k (pages_as_written new) ≡ drop k (pages_as_written old)
+
 -- no page has another payload, and none more is changed
 pub record Stays (old new : Cache) : Type 0 where
   pub keeps : Keeps old new
   pub count : new.count ≡ old.count
   pub payloads : IsTrue old.store.is_faithful → (n : ℕ) → payload_of new n ≡ payload_of old n
   pub changed : (n : ℕ) → is_changed old n ≡ false → is_changed new n ≡ false
+  pub unwritten : WritesNone old new
 
 -- page n has the payload w, and no other has another; none but n is changed that was not
 pub record Writes (n : ℕ) (w : Payload) (old new : Cache) : Type 0 where
@@ -88,6 +105,7 @@ pub record Writes (n : ℕ) (w : Payload) (old new : Cache) : Type 0 where
   pub payloads : IsTrue old.store.is_faithful → (m : ℕ)
       → payload_of new m ≡ (if n == m then Some w else payload_of old m)
   pub changed : (m : ℕ) → n ≢ m → is_changed old m ≡ false → is_changed new m ≡ false
+  pub unwritten : WritesNone old new
 
 -- one page more, with the payload w, and no other has another; none but it is changed that was not
 pub record Adds (w : Payload) (old new : Cache) : Type 0 where

@@ -201,77 +201,76 @@ fn the_store_fails_for_good(rt: HostRuntime) -> Result<(), Fail> {
     Ok(())
 }
 
-/// Passes wherever memory runs out, too: no answer is another one than it should be, or a refusal.
-/// It is run with each growth refused in turn.
-#[test]
-fn no_wrong_answer_without_memory(rt: HostRuntime) {
-    if let Ok(seen) = letters(rt.alloc(), 100) {
-        assert!(rt; !seen.contains(&b'?'));
-    }
-}
-
-/// Makes a call that a number names, and says whether it answers as the plain map does. The map
-/// has the byte at `PLACE` of each page.
+/// Makes a call that a number names, and says whether it answers as the plain map does, which has
+/// the byte at `PLACE` of each page. A refused call leaves the map as it was.
 fn agrees<S: PageStore>(
     cache: &mut PageCache<S>,
     map: &mut Vec<u8>,
     choice: u32,
-) -> Result<bool, Memory> {
+) -> Result<bool, CacheFault> {
     let number = choice % 13;
     let value = (choice / 13 % 256) as u8;
-    Ok(match choice / 4096 % 8 {
+    match choice / 4096 % 8 {
         0 => {
-            let count = map.len() as u64;
-            let is_full = count >= 12;
-            if !is_full {
-                map.push(0)?;
+            if map.len() >= 12 {
+                return Ok(cache.add_page(Kind::Leaf) == Err(CacheFault::StoreFull));
             }
-            match cache.add_page(Kind::Leaf) {
-                Ok(added) => !is_full && u64::from(added) == count,
-                Err(fault) => is_full && fault == CacheFault::StoreFull,
+            let added = cache.add_page(Kind::Leaf)?;
+            let is_next = added as usize == map.len();
+            map.push(0).map_err(|_| CacheFault::Memory)?;
+            Ok(is_next)
+        }
+        1 => cache.flush().map(|()| true),
+        2..=4 => match map.get_mut(number as usize) {
+            Some(byte) => {
+                set_byte(cache, number, PLACE, value)?;
+                *byte = value;
+                Ok(true)
             }
-        }
-        1 => cache.flush() == Ok(()),
-        2..=4 => {
-            let answer = set_byte(cache, number, PLACE, value);
-            match map.get_mut(number as usize) {
-                Some(byte) => {
-                    *byte = value;
-                    answer == Ok(())
-                }
-                None => answer == Err(CacheFault::NoPage),
-            }
-        }
-        _ => {
-            let want = map.get(number as usize).copied();
-            byte(cache, number, PLACE) == want.ok_or(CacheFault::NoPage)
-        }
-    })
+            None => Ok(set_byte(cache, number, PLACE, value) == Err(CacheFault::NoPage)),
+        },
+        _ => match map.get(number as usize) {
+            Some(want) => byte(cache, number, PLACE).map(|found| found == *want),
+            None => Ok(byte(cache, number, PLACE) == Err(CacheFault::NoPage)),
+        },
+    }
 }
 
-/// How many of 1,000 calls at random answer as a plain map does, with that many pages in memory.
-fn agreeing(alloc: Global, capacity: usize) -> Result<u32, Memory>
+/// How many calls at random answer as a plain map does, and how many are refused, with that many
+/// pages in memory.
+fn agreeing(alloc: Global, capacity: usize, calls: u32) -> Result<(u32, u32), Memory>
     requires { 0 < capacity }
 {
     let mut cache = cache_over(alloc, MemStore::new(alloc, 12), capacity)?;
-    let mut map = Vec::new(alloc);
+    let mut map = Vec::with_capacity(alloc, 12)?;
     let mut state = 1u32;
-    let mut right = 0;
-    for _ in 0..1000u32 {
+    let (mut right, mut refused) = (0u32, 0u32);
+    for _ in 0..calls {
         state = state.wrapping_mul(1_664_525).wrapping_add(1_013_904_223);
-        if agrees(&mut cache, &mut map, state / 64)? {
-            right = u32::min(right, 1000) + 1;
+        match letter(agrees(&mut cache, &mut map, state / 64)) {
+            b'.' => right = right.wrapping_add(1),
+            b'M' | b'S' => refused = refused.wrapping_add(1),
+            _ => {}
         }
     }
-    Ok(right)
+    Ok((right, refused))
 }
 
 #[test]
 fn calls_at_random(rt: HostRuntime) -> Result<(), Fail> {
-    assert!(rt; agreeing(rt.alloc(), 1)? == 1000);
-    assert!(rt; agreeing(rt.alloc(), 2)? == 1000);
-    assert!(rt; agreeing(rt.alloc(), 7)? == 1000);
+    assert!(rt; agreeing(rt.alloc(), 1, 1000)? == (1000, 0));
+    assert!(rt; agreeing(rt.alloc(), 2, 1000)? == (1000, 0));
+    assert!(rt; agreeing(rt.alloc(), 7, 1000)? == (1000, 0));
     Ok(())
+}
+
+/// Passes wherever memory runs out, too: each call is right or is refused. It was run with each
+/// growth refused in turn.
+#[test]
+fn no_wrong_answer_without_memory(rt: HostRuntime) {
+    if let Ok((right, refused)) = agreeing(rt.alloc(), 2, 60) {
+        assert!(rt; right.wrapping_add(refused) == 60);
+    }
 }
 
 /// What a fault prints.
