@@ -38,7 +38,7 @@ fn blank() -> [u8; 4096] {
 
 impl<S: PageStore> Slots<S> {
     /// No page in memory yet, and room for `capacity` of them.
-    pub(crate) fn new(alloc: Global, store: S, capacity: usize) -> Result<Slots<S>, (S, AllocError)>
+    pub(crate) fn new(alloc: Global, store: S, capacity: usize) -> Result<Self, (S, AllocError)>
         requires { 0 < capacity }
         ensures sound { IfOk result (λ slots. IsSound (seen_of S.seen slots)) }
         ensures fresh { IfOk result
