@@ -33,8 +33,8 @@ impl<S: PageStore> Model for PageCache<S> {
 }
 
 impl<S: PageStore> PageCache<S> {
-    /// A cache of at most `capacity` pages in memory, which has none yet; the store and want of
-    /// memory where there is not enough of it.
+    /// A cache of at most `capacity` pages in memory, which has none yet. Refused for want of memory
+    /// alone; the store is then handed back.
     pub fn new(alloc: Global, store: S, capacity: usize) -> Result<PageCache<S>, (S, AllocError)>
         requires { 0 < capacity }
         ensures fresh { IfOk result (λ cache. cache ≡ fresh (S.seen store) capacity) }
