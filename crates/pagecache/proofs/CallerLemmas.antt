@@ -1,0 +1,100 @@
+-- What proofs of callers may cite: how the relations of `specs/Cache.antt` join.
+use Rattle.std.proofs.Common.{◌≡◌, ℕ, ◌+◌, Bool, true, false, cond, nat_eq, Option, Some, IsTrue, refl, sym, ap, ◌∙◌, arith}
+use Rattle.std.proofs.lemmas.Bool.{eq-eqb}
+use Rattle.pages.specs.Store.{Store, Faulted}
+use Rattle.pages.specs.Store as store
+use Rattle.pages.specs.declared.payload.Payload.{Payload}
+use Rattle.pagecache.specs.Cache.{Cache, payload_of, IsRefused, Keeps, Stays, WritesNone, Writes, Adds}
+use Rattle.pagecache.specs.declared.fault.CacheFault.{CacheFault}
+use Rattle.pagecache.specs.declared.fault.CacheFault.TheVariants as fault
+
+-- one step after another
+store_keeps-trans : (a b c : Store) → store.Keeps a b → store.Keeps b c → store.Keeps a c
+store_keeps-trans a b c k l = record { most = l.most ∙ k.most; faithful = l.faithful ∙ k.faithful; faults = omega (arith, k.faults, l.faults) }
+
+keeps_after : (a b c : Cache) → Stays a b → Keeps b c → Keeps a c
+keeps_after a b c t k = record {
+  store = store_keeps-trans a.store b.store c.store t.keeps.store k.store;
+  capacity = k.capacity ∙ t.keeps.capacity;
+  written = λ f n h u. k.written (t.keeps.store.faithful ∙ f) n (omega (arith, h, t.count)) (t.changed n u) ∙ t.keeps.written f n h u;
+  settled = k.settled;
+}
+
+none_written_after : (a b c : Cache) → Stays a b → WritesNone b c → WritesNone a c
+none_written_after a b c t u = record {
+  clean = λ f h. u.clean (t.keeps.store.faithful ∙ f) (λ n. t.changed n (h n)) ∙ t.unwritten.clean f h;
+  from = λ f k h. u.from (t.keeps.store.faithful ∙ f) k (λ n g. t.changed n (h n g)) ∙ t.unwritten.from f k h;
+}
+
+pub stays-trans : (a b c : Cache) → Stays a b → Stays b c → Stays a c
+stays-trans a b c t u = record {
+  keeps = keeps_after a b c t u.keeps;
+  count = u.count ∙ t.count;
+  payloads = λ f n. u.payloads (t.keeps.store.faithful ∙ f) n ∙ t.payloads f n;
+  changed = λ n h. u.changed n (t.changed n h);
+  unwritten = none_written_after a b c t u.unwritten;
+}
+
+pub stays-writes : (a b c : Cache) (n : ℕ) (w : Payload) → Stays a b → Writes n w b c → Writes n w a c
+stays-writes a b c n w t u = record {
+  keeps = keeps_after a b c t u.keeps;
+  count = u.count ∙ t.count;
+  payloads = λ f m. u.payloads (t.keeps.store.faithful ∙ f) m ∙ ap (cond (nat_eq n m) (Some w)) (t.payloads f m);
+  changed = λ m ne h. u.changed m ne (t.changed m h);
+  unwritten = none_written_after a b c t u.unwritten;
+}
+
+pub adds-stays : (a b c : Cache) (w : Payload) → Adds w a b → Stays b c → Adds w a c
+adds-stays a b c w t u = record {
+  keeps = record {
+    store = store_keeps-trans a.store b.store c.store t.keeps.store u.keeps.store;
+    capacity = u.keeps.capacity ∙ t.keeps.capacity;
+    written = λ f n h k. u.keeps.written (t.keeps.store.faithful ∙ f) n (omega (arith, h, t.count)) (t.changed n (λ e. let x : a.count ≡ n = e in absurd (omega (arith, x, h))) k) ∙ t.keeps.written f n h k;
+    settled = u.keeps.settled;
+  };
+  count = u.count ∙ t.count;
+  payloads = λ f m. u.payloads (t.keeps.store.faithful ∙ f) m ∙ t.payloads f m;
+  changed = λ m ne h. u.changed m (t.changed m ne h);
+}
+
+merged : (b : Bool) (x y z : Option Payload) → cond b x (cond b y z) ≡ cond b x z
+merged true x y z = refl
+merged false x y z = refl
+
+-- a page is added and then written
+pub adds-writes : (a b c : Cache) (n : ℕ) (p w : Payload) → Adds p a b → n ≡ a.count → Writes n w b c → Adds w a c
+adds-writes a b c n p w t at u = record {
+  keeps = record {
+    store = store_keeps-trans a.store b.store c.store t.keeps.store u.keeps.store;
+    capacity = u.keeps.capacity ∙ t.keeps.capacity;
+    written = λ f m h k. u.keeps.written (t.keeps.store.faithful ∙ f) m (omega (arith, h, t.count)) (t.changed m (λ e. let x : a.count ≡ m = e in absurd (omega (arith, x, h))) k) ∙ t.keeps.written f m h k;
+    settled = u.keeps.settled;
+  };
+  count = u.count ∙ t.count;
+  payloads = λ f m. u.payloads (t.keeps.store.faithful ∙ f) m ∙ ap (cond (nat_eq n m) (Some w)) (t.payloads f m)
+      ∙ ap (λ k. cond (nat_eq k m) (Some w) (cond (nat_eq a.count m) (Some p) (payload_of a m))) at ∙ merged (nat_eq a.count m) (Some w) (Some p) (payload_of a m);
+  changed = λ m ne h. u.changed m (λ e. ne (sym at ∙ e)) (t.changed m ne h);
+}
+
+-- a call that is refused after a step is refused from before it
+faulted_after : (a b c : Store) → store.Keeps a b → Faulted b c → Faulted a c
+faulted_after a b c k f = omega (arith, f, k.faults)
+
+pub refused_after : (a b c : Cache) (n : ℕ) (e : CacheFault) → Stays a b → IsRefused n e b c → IsRefused n e a c
+refused_after a b c n fault.NoPage t r = (omega (arith, r.0, t.count), λ f. sym (t.payloads f n) ∙ r.1 (t.keeps.store.faithful ∙ f))
+refused_after a b c n fault.Store t r = faulted_after a.store b.store c.store t.keeps.store r
+refused_after a b c n (fault.Damaged m) t r = (r.0, λ f. sym (t.payloads f n) ∙ r.1 (t.keeps.store.faithful ∙ f))
+refused_after a b c n fault.StoreFull t r = r
+refused_after a b c n fault.Memory t r = tt
+
+pub adds-after : (a b c : Cache) (w : Payload) → Stays a b → Adds w b c → Adds w a c
+adds-after a b c w t u = record {
+  keeps = keeps_after a b c t u.keeps;
+  count = omega (arith, u.count, t.count);
+  payloads = λ f m. u.payloads (t.keeps.store.faithful ∙ f) m ∙ ap (λ k. cond (nat_eq k m) (Some w) (payload_of b m)) t.count ∙ ap (cond (nat_eq a.count m) (Some w)) (t.payloads f m);
+  changed = λ m ne h. u.changed m (λ e. ne (sym t.count ∙ e)) (t.changed m h);
+}
+
+-- the page that was added
+pub payload_of-added : (a b : Cache) (n : ℕ) (w : Payload) → Adds w a b → n ≡ a.count → IsTrue a.store.is_faithful → payload_of b n ≡ Some w
+payload_of-added a b n w t at f = t.payloads f n ∙ ap (λ y. cond y (Some w) (payload_of a n)) (eq-eqb a.count n (sym at))

@@ -1,0 +1,4 @@
+pub mod CacheLemmas
+pub mod CallerLemmas
+pub mod HeldLemmas
+pub mod PageLemmas

@@ -1,0 +1,58 @@
+-- What is seen of the inner cache, and what holds of it.
+use Rattle.std.specs.Prelude.{ℕ, List, map, filter, false, ◌≡◌, ◌-◌, ◌<◌, ◌≤◌, Some, length, slice_get, IsTrue, IsSome}
+use Rattle.std.specs.Box.{box_value}
+use Rattle.pages.specs.Store as store
+use Rattle.pages.specs.Store.{Faulted}
+use Rattle.pagecache.specs.Cache.{Cache, in_memory, sealed_payload, is_changed, Stays}
+use Rattle.pagecache.specs.declared.fault.CacheFault.{CacheFault}
+use Rattle.pagecache.specs.declared.fault.CacheFault.TheVariants.{Store}
+use Rattle.pagecache.specs.declared.slots.Held.{Held}
+use Rattle.pagecache.specs.declared.slots.Slots.{Slots}
+
+abbrev pub seen_of : {S : Type 0} → (S → store.Store) → Slots S → Cache
+seen_of seen c = record {
+  store = seen c.store;
+  held = c.held.entries;
+  capacity = c.held.cap;
+  count = c.count;
+  asked = c.asked;
+}
+
+-- what holds of every cache
+pub record IsSound (c : Cache) : Type 0 where
+  pub within : c.count ≤ c.store.count
+  pub below : (n : ℕ) → IsSome (in_memory c n) → n < c.count
+  pub clean : IsTrue c.store.is_faithful → (n : ℕ) (h : Held) → in_memory c n ≡ Some h
+      → h.changed ≡ false → sealed_payload c n ≡ Some (box_value h.payload)
+
+-- there are no more pages in memory than may be
+pub record IsWithin (c : Cache) : Type 0 where
+  pub some : 0 < c.capacity
+  pub fits : length c.held ≤ c.capacity
+
+-- P holds of the page that leaves when one comes in
+abbrev pub OnLeaving : Cache → (ℕ → Type 0) → Type 0
+OnLeaving c P = (e : ℕ × Held) → slice_get c.held (c.capacity - 1) ≡ Some e → P e.0
+
+-- a page can come in
+pub record HasRoom (c : Cache) : Type 0 where
+  pub within : IsWithin c
+  pub leaving : OnLeaving c (λ n. is_changed c n ≡ false)
+
+-- page n is the one that was used last
+abbrev pub IsFirst : Cache → ℕ → Type 0
+IsFirst c n = (h : Held) × (slice_get c.held 0 ≡ Some (n, h))
+
+-- a step is refused since the store failed
+abbrev pub HasFailed : CacheFault → Cache → Cache → Type 0
+HasFailed fault old new = (fault ≡ Store) × Faulted old.store new.store
+
+-- what every step inside keeps
+pub record Steps (old new : Cache) : Type 0 where
+  pub sound : IsSound new
+  pub stays : Stays old new
+  pub asked : new.asked ≡ old.asked
+
+-- the numbers of the changed pages
+abbrev pub changed_numbers : List (ℕ × Held) → List ℕ
+changed_numbers held = map (λ e. e.0) (filter (λ e. e.1.changed) held)

@@ -1,0 +1,139 @@
+//! The cache as its callers see it.
+ghost use Rattle.std.specs.Prelude.{◌≡◌, ◌<◌, ◌≤◌, Some, IsTrue, IfOk, IfErr, OnOk, OnErr, IsErrOf, length};
+ghost use Rattle.std.specs.Borrow.{sem};
+ghost use Rattle.pagecache.specs.Cache.{fresh, payload_of, Adds, Stays, SameLength, AsksOnce, IsNotAdded, IsStopped, IsWritten};
+ghost use Rattle.pages.specs.Zero.{zero_payload};
+ghost use Rattle.pagecache.specs.PageLends.{LendsPage, ShowsPage};
+
+use crate::fault::CacheFault;
+use crate::slots::Slots;
+use pages::{Kind, PageStore, Payload};
+use std::alloc::{AllocError, Global};
+use std::marker::Model;
+
+/// A bounded cache of pages over a store.
+///
+/// Contracts see a map from numbers to payloads: the page in memory, else the one whose seal is
+/// the store's page. A number whose page is not sealed has none. No refusal changes the map. Of a
+/// store that is not faithful nothing is said of payloads.
+#[derive(Drop)]
+pub struct PageCache<S: PageStore> {
+    slots: Slots<S>,
+}
+
+impl<S: PageStore> Model for PageCache<S> {
+    ghost use Rattle.pagecache.specs.Cache.{Cache};
+    ghost use Rattle.pagecache.specs.Slots.{IsSound, seen_of};
+
+    ghost Value = { Cache };
+
+    ghost view = { λ a. seen_of S.seen a.slots };
+
+    ghost invariant = { λ a. IsSound (seen_of S.seen a.slots) };
+}
+
+impl<S: PageStore> PageCache<S> {
+    /// A cache of at most `capacity` pages in memory, which has none yet. Refused for want of memory
+    /// alone; the store is then handed back.
+    pub fn new(alloc: Global, store: S, capacity: usize) -> Result<PageCache<S>, (S, AllocError)>
+        requires { 0 < capacity }
+        ensures fresh { IfOk result (λ cache. cache ≡ fresh (S.seen store) capacity) }
+        ensures written { IfOk result (λ cache. IsWritten cache) }
+        ensures back { IfErr result (λ refusal. refusal.0 ≡ store) }
+    {
+        match Slots::new(alloc, store, capacity) {
+            Ok(slots) => Ok(PageCache { slots }),
+            Err(refusal) => Err(refusal),
+        }
+    }
+
+    /// A page, to read. It is `NoPage` exactly where `number` is not below `count`.
+    pub fn page(&mut self, number: u32) -> Result<&Payload, CacheFault>
+        ensures* rests { sem 𝓛 (ShowsPage S.row S.PageStore self.entry number result) }
+        ensures value { IfOk result (λ page. IsTrue self.old.store.is_faithful
+            → payload_of self.old number ≡ Some page.now) }
+        ensures below { OnOk result (number < self.old.count) }
+        ensures no_page { self.old.count ≤ number → result ≡ Err CacheFault.NoPage }
+    {
+        self.slots.ready(number)?;
+        Ok(self.slots.first())
+    }
+
+    /// A page, to write to: what is written through the reference is that page's payload, and no
+    /// other page changes. It is `NoPage` exactly where `number` is not below `count`.
+    pub fn page_mut(&mut self, number: u32) -> Result<&mut Payload, CacheFault>
+        ensures* lends { sem 𝓛 (LendsPage S.row S.PageStore self.entry number result) }
+        ensures value { IfOk result (λ page. IsTrue self.old.store.is_faithful
+            → payload_of self.old number ≡ Some page.now) }
+        ensures below { OnOk result (number < self.old.count) }
+        ensures no_page { self.old.count ≤ number → result ≡ Err CacheFault.NoPage }
+    {
+        self.slots.page_mut(number)
+    }
+
+    /// Adds a page with a zero payload to the store, and returns its number, the count so far.
+    pub fn add_page(&mut self, kind: Kind) -> Result<u32, CacheFault>
+        ensures adds { OnOk result (Adds (zero_payload kind) self.old self.new) }
+        ensures number { IfOk result (λ number. number ≡ self.old.count) }
+        ensures length { OnOk result (self.old.count ≡ self.old.store.count
+            → self.new.count ≡ self.new.store.count) }
+        ensures refused { OnErr result (Stays self.old self.new) }
+        ensures asks { AsksOnce self.old self.new }
+        ensures cause { IfErr result (λ fault. IsNotAdded fault self.old self.new) }
+        ensures full { self.old.count ≡ self.old.store.most
+            → result ≡ Err CacheFault.StoreFull }
+    {
+        self.slots.add_page(kind)
+    }
+
+    /// Writes every changed page to the store, and makes the store last. A page that is not
+    /// changed is not written.
+    pub fn flush(&mut self) -> Result<(), CacheFault>
+        ensures written { OnOk result (IsWritten self.new) }
+        ensures stays { Stays self.old self.new }
+        ensures length { SameLength self.old self.new }
+        ensures asked { self.new.asked ≡ self.old.asked }
+        ensures memory { IsErrOf result CacheFault.Memory → self.new ≡ self.old }
+        ensures cause { IfErr result (λ fault. IsStopped fault self.old self.new) }
+    {
+        self.slots.flush()
+    }
+
+    /// How often a page was asked for or added, refused or not; 2^64 - 1 stands for any greater
+    /// number.
+    pub fn asked(&self) -> u64
+        ensures { result ≡ self.now.asked }
+    {
+        self.slots.asked
+    }
+
+    /// How many pages there are.
+    pub fn count(&self) -> u32
+        ensures value { result ≡ self.now.count }
+        ensures within { result ≤ self.now.store.count }
+    {
+        self.slots.count
+    }
+
+    /// How many pages are in memory.
+    pub fn held(&self) -> usize
+        ensures value { result ≡ length self.now.held }
+        ensures within { result ≤ self.now.capacity }
+    {
+        self.slots.held()
+    }
+
+    /// The store below, as it stands.
+    pub fn store(&self) -> &S
+        ensures { S.seen result.now ≡ self.now.store }
+    {
+        &self.slots.store
+    }
+
+    /// The store as it stands: what was changed and not written is lost.
+    pub fn into_store(self) -> S
+        ensures { S.seen result ≡ self.store }
+    {
+        self.slots.store
+    }
+}

@@ -1,0 +1,18 @@
+//! A bounded cache of pages over a store, which contracts see as a map from numbers to payloads.
+//!
+//! Pages that are changed are written when they have to leave the cache, and by `flush`. A page
+//! leaves only once its write has been answered with `Ok`.
+#![tactic(auto)]
+
+mod cache;
+#[cfg(test)]
+mod examples;
+mod fault;
+mod slots;
+
+pub use cache::PageCache;
+pub use fault::CacheFault;
+pub use std::alloc::AllocError as Memory;
+
+#[cfg(test)]
+mod tests;

@@ -1,0 +1,375 @@
+//! The pages in memory, over the store: a step of the cache each.
+ghost use Rattle.std.specs.Prelude.{ℕ, ◌≡◌, ◌<◌, ◌≤◌, false, Some, None, IsTrue, IsSome, OnOk, OnErr, IfOk, IfErr, IfNone, IfSome, IsErrOf, slice_get, slice_index, EachIndex, length};
+ghost use Rattle.std.specs.Borrow.{sem};
+ghost use Rattle.std.specs.Map.{keys_of};
+ghost use Rattle.pages.specs.Zero.{zero_payload};
+ghost use Rattle.pagecache.specs.Cache.{fresh, AsksOnce, Stays, SameLength, Adds, IsRefused, IsStopped, IsNotAdded, IsWritten, in_memory, sealed_payload, is_changed, payload_of};
+ghost use Rattle.pagecache.specs.SlotLends.{LendsSlot};
+ghost use Rattle.pagecache.specs.Slots.{HasFailed, HasRoom, IsFirst, IsSound, IsWithin, OnLeaving, Steps, changed_numbers, seen_of};
+
+use crate::fault::CacheFault;
+use lru::LruCache;
+use pages::{Kind, PageStore, Payload, seal, unseal};
+use std::alloc::{AllocError, Global};
+use std::num::NonZeroUsize;
+
+/// A page in memory. The payload is boxed, so that no move of an entry copies 4 KB.
+#[derive(Drop)]
+pub struct Held {
+    payload: Box<Payload>,
+    /// Whether the page may differ from the page as written.
+    changed: bool,
+}
+
+/// The pages in memory, the one used last first, over the store.
+#[derive(Drop)]
+pub struct Slots<S> {
+    pub(crate) store: S,
+    held: LruCache<u32, Held>,
+    pub(crate) count: u32,
+    pub(crate) asked: u64,
+    alloc: Global,
+}
+
+/// A page of zero bytes.
+fn blank() -> [u8; 4096] {
+    [0; 4096]
+}
+
+impl<S: PageStore> Slots<S> {
+    /// No page in memory yet, and room for `capacity` of them.
+    pub(crate) fn new(alloc: Global, store: S, capacity: usize) -> Result<Self, (S, AllocError)>
+        requires { 0 < capacity }
+        ensures sound { IfOk result (λ slots. IsSound (seen_of S.seen slots)) }
+        ensures fresh { IfOk result
+            (λ slots. seen_of S.seen slots ≡ fresh (S.seen store) capacity) }
+        ensures written { IfOk result (λ slots. IsWritten (seen_of S.seen slots)) }
+        ensures back { IfErr result (λ refusal. refusal.0 ≡ store) }
+    {
+        let count = store.len();
+        let Some(capacity) = NonZeroUsize::new(capacity) else {
+            unreachable!()
+        };
+        match LruCache::new(alloc, capacity) {
+            Ok(held) => Ok(Slots {
+                store,
+                held,
+                count,
+                asked: 0,
+                alloc,
+            }),
+            Err(error) => Err((store, error)),
+        }
+    }
+
+    /// Writes a page that is changed.
+    fn write_back(&mut self, number: u32) -> Result<(), CacheFault>
+        requires { IsSound (seen_of S.seen self.old) }
+        ensures steps { Steps (seen_of S.seen self.old) (seen_of S.seen self.new) }
+        ensures length { SameLength (seen_of S.seen self.old) (seen_of S.seen self.new) }
+        ensures written { OnOk result (is_changed (seen_of S.seen self.new) number ≡ false) }
+        ensures keys { keys_of self.new.held.entries ≡ keys_of self.old.held.entries }
+        ensures cause { IfErr result
+            (λ fault. HasFailed fault (seen_of S.seen self.old) (seen_of S.seen self.new)) }
+    {
+        match self.held.peek_mut(&number) {
+            None => Ok(()),
+            Some(held) => {
+                if held.changed {
+                    let page = seal(number, &*held.payload);
+                    self.store.write(number, &page)?;
+                    held.changed = false;
+                }
+                Ok(())
+            }
+        }
+    }
+
+    /// The page that is to be written before another can come in.
+    fn leaving(&self) -> Option<u32>
+        ensures within { IsWithin (seen_of S.seen self.now) }
+        ensures room { IfNone result (HasRoom (seen_of S.seen self.now)) }
+        ensures leaves { IfSome result
+            (λ number. OnLeaving (seen_of S.seen self.now) (λ last. last ≡ number)) }
+    {
+        if self.held.len() < self.held.cap().get() {
+            return None;
+        }
+        match self.held.peek_lru() {
+            None => None,
+            Some((number, held)) => { if held.changed { Some(*number) } else { None } }
+        }
+    }
+
+    /// Writes the page that would leave, where it is changed.
+    fn make_room(&mut self) -> Result<(), CacheFault>
+        requires { IsSound (seen_of S.seen self.old) }
+        ensures steps { Steps (seen_of S.seen self.old) (seen_of S.seen self.new) }
+        ensures length { SameLength (seen_of S.seen self.old) (seen_of S.seen self.new) }
+        ensures room { OnOk result (HasRoom (seen_of S.seen self.new)) }
+        ensures keys { keys_of self.new.held.entries ≡ keys_of self.old.held.entries }
+        ensures cause { IfErr result
+            (λ fault. HasFailed fault (seen_of S.seen self.old) (seen_of S.seen self.new)) }
+    {
+        match self.leaving() {
+            None => Ok(()),
+            Some(number) => self.write_back(number),
+        }
+    }
+
+    /// Puts a page into memory that is as it was written.
+    fn keep(&mut self, number: u32, payload: Payload) -> Result<(), CacheFault>
+        requires sound { IsSound (seen_of S.seen self.old) }
+        requires below { number < self.old.count }
+        requires absent { in_memory (seen_of S.seen self.old) number ≡ None }
+        requires room { HasRoom (seen_of S.seen self.old) }
+        requires same { IsTrue (S.seen self.old.store).is_faithful
+            → sealed_payload (seen_of S.seen self.old) number ≡ Some payload }
+        ensures steps { Steps (seen_of S.seen self.old) (seen_of S.seen self.new) }
+        ensures store { S.seen self.new.store ≡ S.seen self.old.store }
+        ensures first { OnOk result (IsFirst (seen_of S.seen self.new) number) }
+        ensures cause { IfErr result (λ fault. fault ≡ CacheFault.Memory) }
+    {
+        let payload = match Box::new(self.alloc, payload) {
+            Ok(payload) => payload,
+            Err(_) => return Err(CacheFault::Memory),
+        };
+        let held = Held {
+            payload,
+            changed: false,
+        };
+        match self.held.put(number, held) {
+            Ok(_) => Ok(()),
+            Err(_) => Err(CacheFault::Memory),
+        }
+    }
+
+    /// Takes a page from the store into memory.
+    fn fetch(&mut self, number: u32) -> Result<(), CacheFault>
+        requires sound { IsSound (seen_of S.seen self.old) }
+        requires below { number < self.old.count }
+        requires absent { in_memory (seen_of S.seen self.old) number ≡ None }
+        requires room { HasRoom (seen_of S.seen self.old) }
+        ensures steps { Steps (seen_of S.seen self.old) (seen_of S.seen self.new) }
+        ensures length { SameLength (seen_of S.seen self.old) (seen_of S.seen self.new) }
+        ensures first { OnOk result (IsFirst (seen_of S.seen self.new) number) }
+        ensures cause { IfErr result (λ fault. IsRefused number fault
+            (seen_of S.seen self.old) (seen_of S.seen self.new)) }
+    {
+        let mut page = blank();
+        self.store.read(number, &mut page)?;
+        match unseal(number, &page) {
+            Ok(payload) => self.keep(number, payload),
+            Err(_) => Err(CacheFault::Damaged(number)),
+        }
+    }
+
+    /// Whether a page is the one that was used last.
+    fn is_first(&self, number: u32) -> bool
+        ensures { IsTrue result → IsFirst (seen_of S.seen self.now) number }
+    {
+        match self.held.peek_mru() {
+            Some((first, _)) => *first == number,
+            None => false,
+        }
+    }
+
+    /// Makes a page the one that was used last.
+    fn load(&mut self, number: u32) -> Result<(), CacheFault>
+        requires sound { IsSound (seen_of S.seen self.old) }
+        requires below { number < self.old.count }
+        ensures steps { Steps (seen_of S.seen self.old) (seen_of S.seen self.new) }
+        ensures length { SameLength (seen_of S.seen self.old) (seen_of S.seen self.new) }
+        ensures first { OnOk result (IsFirst (seen_of S.seen self.new) number) }
+        ensures cause { IfErr result (λ fault. IsRefused number fault
+            (seen_of S.seen self.old) (seen_of S.seen self.new)) }
+    {
+        if self.is_first(number) {
+            return Ok(());
+        }
+        if self.held.promote(&number) {
+            return Ok(());
+        }
+        match self.make_room() {
+            Ok(()) => self.fetch(number),
+            Err(fault) => Err(fault),
+        }
+    }
+
+    /// Counts one ask, and makes the page the one that was used last.
+    pub(crate) fn ready(&mut self, number: u32) -> Result<(), CacheFault>
+        requires { IsSound (seen_of S.seen self.old) }
+        ensures sound { IsSound (seen_of S.seen self.new) }
+        ensures stays { Stays (seen_of S.seen self.old) (seen_of S.seen self.new) }
+        ensures length { SameLength (seen_of S.seen self.old) (seen_of S.seen self.new) }
+        ensures asks { AsksOnce (seen_of S.seen self.old) (seen_of S.seen self.new) }
+        ensures below { OnOk result (number < self.old.count) }
+        ensures first { OnOk result (IsFirst (seen_of S.seen self.new) number) }
+        ensures cause { IfErr result (λ fault. IsRefused number fault
+            (seen_of S.seen self.old) (seen_of S.seen self.new)) }
+        ensures no_page { self.old.count ≤ number → result ≡ Err CacheFault.NoPage }
+    {
+        self.asked = self.asked.saturating_add(1);
+        if number >= self.count {
+            return Err(CacheFault::NoPage);
+        }
+        self.load(number)
+    }
+
+    /// The page that was used last.
+    pub(crate) fn first(&self) -> &Payload
+        requires { IsSome (slice_get self.now.held.entries 0) }
+        ensures { (n : ℕ) → IsFirst (seen_of S.seen self.now) n
+            → payload_of (seen_of S.seen self.now) n ≡ Some result.now }
+    {
+        let (_, held) = self.held.peek_mru().unwrap();
+        &*held.payload
+    }
+
+    /// Lends a page, which is marked as changed before.
+    pub(crate) fn page_mut(&mut self, number: u32) -> Result<&mut Payload, CacheFault>
+        requires { IsSound (seen_of S.seen self.old) }
+        ensures* lends { sem 𝓛 (LendsSlot S.row S.PageStore self.entry number result) }
+        ensures value { IfOk result (λ page. IsTrue (S.seen self.old.store).is_faithful
+            → payload_of (seen_of S.seen self.old) number ≡ Some page.now) }
+        ensures below { OnOk result (number < self.old.count) }
+        ensures no_page { self.old.count ≤ number → result ≡ Err CacheFault.NoPage }
+    {
+        self.ready(number)?;
+        match self.held.get_mut(&number) {
+            Some(held) => {
+                held.changed = true;
+                Ok(&mut *held.payload)
+            }
+            None => unreachable!(),
+        }
+    }
+
+    /// The numbers of the changed pages.
+    fn changed(&self) -> Result<Vec<u32>, AllocError>
+        ensures { IfOk result
+            (λ numbers. numbers.items ≡ changed_numbers self.now.held.entries) }
+    {
+        self.held
+            .iter()
+            .filter(|(_, held)| held.changed)
+            .map(|(number, _)| *number)
+            .collect(self.alloc)
+    }
+
+    /// Writes those of some pages that are changed.
+    fn write_all(&mut self, numbers: &[u32]) -> Result<(), CacheFault>
+        requires { IsSound (seen_of S.seen self.old) }
+        ensures steps { Steps (seen_of S.seen self.old) (seen_of S.seen self.new) }
+        ensures length { SameLength (seen_of S.seen self.old) (seen_of S.seen self.new) }
+        ensures written { OnOk result (EachIndex numbers.now
+            (λ k. is_changed (seen_of S.seen self.new) (slice_index numbers.now k) ≡ false)) }
+        ensures cause { IfErr result
+            (λ fault. HasFailed fault (seen_of S.seen self.old) (seen_of S.seen self.new)) }
+    {
+        for number in numbers {
+            match self.write_back(*number) {
+                Ok(()) => {}
+                Err(fault) => return Err(fault),
+            }
+        }
+        Ok(())
+    }
+
+    /// Writes every changed page, and makes the store last.
+    pub(crate) fn flush(&mut self) -> Result<(), CacheFault>
+        requires { IsSound (seen_of S.seen self.old) }
+        ensures steps { Steps (seen_of S.seen self.old) (seen_of S.seen self.new) }
+        ensures length { SameLength (seen_of S.seen self.old) (seen_of S.seen self.new) }
+        ensures written { OnOk result (IsWritten (seen_of S.seen self.new)) }
+        ensures memory { IsErrOf result CacheFault.Memory
+            → seen_of S.seen self.new ≡ seen_of S.seen self.old }
+        ensures cause { IfErr result
+            (λ fault. IsStopped fault (seen_of S.seen self.old) (seen_of S.seen self.new)) }
+    {
+        let numbers = match self.changed() {
+            Ok(numbers) => numbers,
+            Err(_) => return Err(CacheFault::Memory),
+        };
+        match self.write_all(&numbers) {
+            Ok(()) => {}
+            Err(fault) => return Err(fault),
+        }
+        match self.store.sync() {
+            Ok(()) => Ok(()),
+            Err(_) => Err(CacheFault::Store),
+        }
+    }
+
+    /// Adds a page to the store.
+    fn append(&mut self, payload: &Payload) -> Result<u32, CacheFault>
+        requires sound { IsSound (seen_of S.seen self.old) }
+        requires room { self.old.count < (S.seen self.old.store).most }
+        ensures sound { IsSound (seen_of S.seen self.new) }
+        ensures adds { OnOk result
+            (Adds payload.now (seen_of S.seen self.old) (seen_of S.seen self.new)) }
+        ensures number { IfOk result (λ number. number ≡ self.old.count) }
+        ensures length { OnOk result (self.old.count ≡ (S.seen self.old.store).count
+            → self.new.count ≡ (S.seen self.new.store).count) }
+        ensures stays { OnErr result
+            (Stays (seen_of S.seen self.old) (seen_of S.seen self.new)) }
+        ensures held { self.new.held ≡ self.old.held }
+        ensures asked { self.new.asked ≡ self.old.asked }
+        ensures cause { IfErr result
+            (λ fault. HasFailed fault (seen_of S.seen self.old) (seen_of S.seen self.new)) }
+    {
+        let number = self.count;
+        let page = seal(number, payload);
+        match self.store.write(number, &page) {
+            Ok(()) => {
+                self.count += 1;
+                Ok(number)
+            }
+            Err(_) => Err(CacheFault::Store),
+        }
+    }
+
+    /// Adds a page with a zero payload, and counts one ask.
+    pub(crate) fn add_page(&mut self, kind: Kind) -> Result<u32, CacheFault>
+        requires { IsSound (seen_of S.seen self.old) }
+        ensures sound { IsSound (seen_of S.seen self.new) }
+        ensures adds { OnOk result
+            (Adds (zero_payload kind) (seen_of S.seen self.old) (seen_of S.seen self.new)) }
+        ensures number { IfOk result (λ number. number ≡ self.old.count) }
+        ensures length { OnOk result (self.old.count ≡ (S.seen self.old.store).count
+            → self.new.count ≡ (S.seen self.new.store).count) }
+        ensures stays { OnErr result
+            (Stays (seen_of S.seen self.old) (seen_of S.seen self.new)) }
+        ensures asks { AsksOnce (seen_of S.seen self.old) (seen_of S.seen self.new) }
+        ensures cause { IfErr result
+            (λ fault. IsNotAdded fault (seen_of S.seen self.old) (seen_of S.seen self.new)) }
+        ensures full { self.old.count ≡ (S.seen self.old.store).most
+            → result ≡ Err CacheFault.StoreFull }
+    {
+        self.asked = self.asked.saturating_add(1);
+        if self.count >= self.store.most() {
+            return Err(CacheFault::StoreFull);
+        }
+        match self.make_room() {
+            Ok(()) => {}
+            Err(fault) => return Err(fault),
+        }
+        let payload = Payload::zero(kind);
+        match self.append(&payload) {
+            Ok(number) => {
+                // A page for which there is no memory stays in the store alone.
+                let _ = self.keep(number, payload);
+                Ok(number)
+            }
+            Err(fault) => Err(fault),
+        }
+    }
+
+    /// How many pages are in memory.
+    pub(crate) fn held(&self) -> usize
+        ensures value { result ≡ length self.now.held.entries }
+        ensures within { result ≤ self.now.held.cap }
+    {
+        self.held.len()
+    }
+}

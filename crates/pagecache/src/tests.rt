@@ -1,0 +1,289 @@
+//! Worked calls over a store in memory, over one that fails at each call in turn, and at random.
+ghost use Rattle.std.specs.Prelude.{◌<◌};
+
+use crate::examples::{add_with_byte, byte, copy_byte, same_byte, set_byte};
+use crate::{CacheFault, Memory, PageCache};
+use pages::{Fuse, Kind, MemStore, PageStore, Payload, seal};
+use std::alloc::Global;
+use std::test::Fail;
+
+/// The place of the byte that the tests write.
+const PLACE: usize = 7;
+
+fn cache_over<S: PageStore + Drop>(
+    alloc: Global,
+    store: S,
+    capacity: usize,
+) -> Result<PageCache<S>, Memory>
+    requires { 0 < capacity }
+{
+    match PageCache::new(alloc, store, capacity) {
+        Ok(cache) => Ok(cache),
+        Err((_, error)) => Err(error),
+    }
+}
+
+#[test]
+fn two_pages_in_turn(rt: HostRuntime) -> Result<(), Fail> {
+    let mut cache = cache_over(rt.alloc(), MemStore::new(rt.alloc(), 10), 1)?;
+    assert!(rt; cache.count() == 0 && cache.held() == 0 && cache.asked() == 0);
+    assert!(rt; cache.add_page(Kind::Leaf) == Ok(0));
+    assert!(rt; cache.add_page(Kind::Inner) == Ok(1));
+    assert!(rt; set_byte(&mut cache, 0, PLACE, 1) == Ok(()));
+    assert!(rt; set_byte(&mut cache, 1, PLACE, 2) == Ok(()));
+    assert!(rt; cache.flush() == Ok(()));
+    assert!(rt; byte(&mut cache, 0, PLACE) == Ok(1));
+    assert!(rt; byte(&mut cache, 1, PLACE) == Ok(2));
+    assert!(rt; byte(&mut cache, 2, PLACE) == Err(CacheFault::NoPage));
+    assert!(rt; set_byte(&mut cache, 2, PLACE, 1) == Err(CacheFault::NoPage));
+    assert!(rt; cache.asked() == 8 && cache.count() == 2 && cache.held() == 1);
+    Ok(())
+}
+
+#[test]
+fn what_is_not_written_is_lost(rt: HostRuntime) -> Result<(), Fail> {
+    let mut cache = cache_over(rt.alloc(), MemStore::new(rt.alloc(), 10), 4)?;
+    assert!(rt; add_with_byte(&mut cache, Kind::Leaf, PLACE, 3) == Ok(0));
+    assert!(rt; cache.flush() == Ok(()));
+    assert!(rt; cache.add_page(Kind::Inner) == Ok(1));
+    assert!(rt; copy_byte(&mut cache, 0, 1, PLACE) == Ok(()));
+    assert!(rt; byte(&mut cache, 1, PLACE) == Ok(3));
+    assert!(rt; same_byte(&mut cache, 0, 1, PLACE) == Ok(true));
+    let mut again = cache_over(rt.alloc(), cache.into_store(), 4)?;
+    assert!(rt; again.count() == 2);
+    assert!(rt; byte(&mut again, 0, PLACE) == Ok(3));
+    assert!(rt; byte(&mut again, 1, PLACE) == Ok(0));
+    assert!(rt; same_byte(&mut again, 0, 1, PLACE) == Ok(false));
+    Ok(())
+}
+
+#[test]
+fn a_store_that_is_full(rt: HostRuntime) -> Result<(), Fail> {
+    let mut cache = cache_over(rt.alloc(), MemStore::new(rt.alloc(), 1), 4)?;
+    assert!(rt; cache.add_page(Kind::Leaf) == Ok(0));
+    assert!(rt; cache.add_page(Kind::Leaf) == Err(CacheFault::StoreFull));
+    assert!(rt; cache.count() == 1 && cache.asked() == 2);
+    assert!(rt; cache.store().len() == 1 && cache.store().most() == 1);
+    Ok(())
+}
+
+/// Writes the seal of a payload under one number as the page of another one.
+fn misplace(store: &mut MemStore, number: u32, place: u32) -> bool {
+    let page = seal(number, &Payload::zero(Kind::Leaf));
+    place <= store.len() && place < store.most() && store.write(place, &page).is_ok()
+}
+
+#[test]
+fn pages_that_changed_places(rt: HostRuntime) -> Result<(), Fail> {
+    let mut store = MemStore::new(rt.alloc(), 10);
+    assert!(rt; misplace(&mut store, 1, 0) && misplace(&mut store, 0, 1));
+    let mut cache = cache_over(rt.alloc(), store, 1)?;
+    assert!(rt; byte(&mut cache, 1, PLACE) == Err(CacheFault::Damaged(1)));
+    assert!(rt; byte(&mut cache, 0, PLACE) == Err(CacheFault::Damaged(0)));
+    assert!(rt; cache.add_page(Kind::Leaf) == Ok(2));
+    Ok(())
+}
+
+// A page is added, a byte is written, and the page added next is failed at one of its two writes.
+fn add_is_failed(alloc: Global, calls: u64) -> Result<bool, Memory> {
+    let store = Fuse::new(MemStore::new(alloc, 10), calls, true);
+    let mut cache = cache_over(alloc, store, 1)?;
+    Ok(
+        cache.add_page(Kind::Leaf) == Ok(0)
+            && set_byte(&mut cache, 0, PLACE, 7) == Ok(())
+            && cache.add_page(Kind::Leaf) == Err(CacheFault::Store)
+            && cache.count() == 1
+            && byte(&mut cache, 0, PLACE) == Ok(7)
+            && cache.add_page(Kind::Leaf) == Ok(1)
+            && byte(&mut cache, 0, PLACE) == Ok(7),
+    )
+}
+
+#[test]
+fn a_page_is_added_at_the_second_ask(rt: HostRuntime) -> Result<(), Fail> {
+    assert!(rt; add_is_failed(rt.alloc(), 1)?);
+    assert!(rt; add_is_failed(rt.alloc(), 2)?);
+    Ok(())
+}
+
+/// What a call answers that is asked again where the store failed.
+fn added<S: PageStore>(cache: &mut PageCache<S>) -> Result<u32, CacheFault> {
+    match cache.add_page(Kind::Leaf) {
+        Err(CacheFault::Store) => cache.add_page(Kind::Leaf),
+        answer => answer,
+    }
+}
+
+fn is_set<S: PageStore>(cache: &mut PageCache<S>, number: u32, value: u8) -> bool {
+    match set_byte(cache, number, PLACE, value) {
+        Err(CacheFault::Store) => set_byte(cache, number, PLACE, value) == Ok(()),
+        answer => answer == Ok(()),
+    }
+}
+
+fn is_read<S: PageStore>(cache: &mut PageCache<S>, number: u32, value: u8) -> bool {
+    match byte(cache, number, PLACE) {
+        Err(CacheFault::Store) => byte(cache, number, PLACE) == Ok(value),
+        answer => answer == Ok(value),
+    }
+}
+
+fn is_flushed<S: PageStore>(cache: &mut PageCache<S>) -> bool {
+    match cache.flush() {
+        Err(CacheFault::Store) => cache.flush() == Ok(()),
+        answer => answer == Ok(()),
+    }
+}
+
+/// Whether all goes well, each call asked again where the store failed it.
+fn goes_well(alloc: Global, calls: u64) -> Result<bool, Memory> {
+    let store = Fuse::new(MemStore::new(alloc, 10), calls, true);
+    let mut cache = cache_over(alloc, store, 1)?;
+    let is_made = added(&mut cache) == Ok(0) && added(&mut cache) == Ok(1);
+    let is_set = is_set(&mut cache, 0, 1) && is_set(&mut cache, 1, 2);
+    let is_read = is_flushed(&mut cache) && is_read(&mut cache, 0, 1) && is_read(&mut cache, 1, 2);
+    Ok(is_made && is_set && is_read && cache.count() == 2)
+}
+
+#[test]
+fn each_call_of_the_store_fails_once(rt: HostRuntime) -> Result<(), Fail> {
+    for calls in 0..12u64 {
+        assert!(rt; goes_well(rt.alloc(), calls)?, "at {calls}");
+    }
+    Ok(())
+}
+
+/// What a call answered: `.` for what it should, `S` where the store failed, `N` for no page, `M`
+/// for want of memory.
+fn letter(answer: Result<bool, CacheFault>) -> u8 {
+    match answer {
+        Ok(true) => b'.',
+        Err(CacheFault::Store) => b'S',
+        Err(CacheFault::NoPage) => b'N',
+        Err(CacheFault::Memory) => b'M',
+        _ => b'?',
+    }
+}
+
+/// What seven calls answer over a store that fails for good after some calls.
+fn letters(alloc: Global, calls: u64) -> Result<[u8; 7], Memory> {
+    let store = Fuse::new(MemStore::new(alloc, 10), calls, false);
+    let mut cache = cache_over(alloc, store, 1)?;
+    let first = letter(cache.add_page(Kind::Leaf).map(|number| number == 0));
+    let second = letter(cache.add_page(Kind::Leaf).map(|number| number == 1));
+    let third = letter(set_byte(&mut cache, 0, PLACE, 1).map(|()| true));
+    let fourth = letter(set_byte(&mut cache, 1, PLACE, 2).map(|()| true));
+    let fifth = letter(cache.flush().map(|()| true));
+    let sixth = letter(byte(&mut cache, 0, PLACE).map(|value| value == 1));
+    let seventh = letter(byte(&mut cache, 1, PLACE).map(|value| value == 2));
+    Ok([first, second, third, fourth, fifth, sixth, seventh])
+}
+
+/// What they answer after 0 to 9 calls, worked out by hand.
+const LETTERS: [[u8; 7]; 10] = [
+    *b"SSNNSNN",
+    *b".S.NS.N",
+    *b"..S.SS.",
+    *b"...SS.S",
+    *b"...SS.S",
+    *b"....SS.",
+    *b"....SS.",
+    *b".....S.",
+    *b"......S",
+    *b".......",
+];
+
+#[test]
+fn the_store_fails_for_good(rt: HostRuntime) -> Result<(), Fail> {
+    for (calls, want) in LETTERS.iter().enumerate() {
+        assert_eq!(rt; letters(rt.alloc(), calls as u64)?, *want, "at {calls}");
+    }
+    Ok(())
+}
+
+/// Makes a call that a number names, and says whether it answers as the plain map does, which has
+/// the byte at `PLACE` of each page. A refused call leaves the map as it was.
+fn agrees<S: PageStore>(
+    cache: &mut PageCache<S>,
+    map: &mut Vec<u8>,
+    choice: u32,
+) -> Result<bool, CacheFault> {
+    let number = choice % 13;
+    let value = (choice / 13 % 256) as u8;
+    match choice / 4096 % 8 {
+        0 => {
+            if map.len() >= 12 {
+                return Ok(cache.add_page(Kind::Leaf) == Err(CacheFault::StoreFull));
+            }
+            let added = cache.add_page(Kind::Leaf)?;
+            let is_next = added as usize == map.len();
+            map.push(0).map_err(|_| CacheFault::Memory)?;
+            Ok(is_next)
+        }
+        1 => cache.flush().map(|()| true),
+        2..=4 => match map.get_mut(number as usize) {
+            Some(byte) => {
+                set_byte(cache, number, PLACE, value)?;
+                *byte = value;
+                Ok(true)
+            }
+            None => Ok(set_byte(cache, number, PLACE, value) == Err(CacheFault::NoPage)),
+        },
+        _ => match map.get(number as usize) {
+            Some(want) => byte(cache, number, PLACE).map(|found| found == *want),
+            None => Ok(byte(cache, number, PLACE) == Err(CacheFault::NoPage)),
+        },
+    }
+}
+
+/// How many calls at random answer as a plain map does, and how many are refused, with that many
+/// pages in memory.
+fn agreeing(alloc: Global, capacity: usize, calls: u32) -> Result<(u32, u32), Memory>
+    requires { 0 < capacity }
+{
+    let mut cache = cache_over(alloc, MemStore::new(alloc, 12), capacity)?;
+    let mut map = Vec::with_capacity(alloc, 12)?;
+    let mut state = 1u32;
+    let (mut right, mut refused) = (0u32, 0u32);
+    for _ in 0..calls {
+        state = state.wrapping_mul(1_664_525).wrapping_add(1_013_904_223);
+        match letter(agrees(&mut cache, &mut map, state / 64)) {
+            b'.' => right = right.wrapping_add(1),
+            b'M' | b'S' => refused = refused.wrapping_add(1),
+            _ => {}
+        }
+    }
+    Ok((right, refused))
+}
+
+#[test]
+fn calls_at_random(rt: HostRuntime) -> Result<(), Fail> {
+    assert!(rt; agreeing(rt.alloc(), 1, 1000)? == (1000, 0));
+    assert!(rt; agreeing(rt.alloc(), 2, 1000)? == (1000, 0));
+    assert!(rt; agreeing(rt.alloc(), 7, 1000)? == (1000, 0));
+    Ok(())
+}
+
+/// Passes wherever memory runs out, too: each call is right or is refused. It was run with each
+/// growth refused in turn.
+#[test]
+fn no_wrong_answer_without_memory(rt: HostRuntime) {
+    if let Ok((right, refused)) = agreeing(rt.alloc(), 2, 60) {
+        assert!(rt; right.wrapping_add(refused) == 60);
+    }
+}
+
+/// What a fault prints.
+fn prints(alloc: Global, fault: CacheFault, want: &str) -> Result<bool, Memory> {
+    Ok(fault.to_string(alloc)?.as_str() == want)
+}
+
+#[test]
+fn faults_print_sentences(rt: HostRuntime) -> Result<(), Fail> {
+    assert!(rt; prints(rt.alloc(), CacheFault::NoPage, "there is no such page")?);
+    assert!(rt; prints(rt.alloc(), CacheFault::Store, "the page store failed")?);
+    assert!(rt; prints(rt.alloc(), CacheFault::Damaged(3), "page 3 is damaged")?);
+    assert!(rt; prints(rt.alloc(), CacheFault::StoreFull, "the page store is full")?);
+    assert!(rt; prints(rt.alloc(), CacheFault::Memory, "memory ran out")?);
+    Ok(())
+}

@@ -1,0 +1,7 @@
+pub mod Bytes
+pub mod Fuse
+pub mod PagesOfLemmas
+pub mod Sealed
+pub mod Store
+pub mod Unsealed
+pub mod Zero

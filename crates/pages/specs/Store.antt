@@ -1,0 +1,67 @@
+-- What contracts see of a store of pages, and what a call does to it.
+use Rattle.std.specs.Prelude.{ℕ, Bool, true, IsTrue, ◌≡◌, ◌⊎◌, ◌+◌, ◌-◌, ◌^◌, ◌<◌, ◌≤◌, min, max, length, List, [], ◌∷◌, ◌++◌, take, drop, slice_set, slice_index_or}
+
+-- how many pages there are and may be, how many calls have failed, whether a read gives the page
+-- last written there, and, of a faithful store, the pages as written
+pub record Store : Type 0 where
+  pub count : ℕ
+  pub most : ℕ
+  pub faults : ℕ
+  pub is_faithful : Bool
+  pub pages : List (List ℕ)
+
+-- a store with no page
+abbrev pub empty_store : ℕ → Store
+empty_store most =
+    record { count = 0; most = most; faults = 0; is_faithful = true; pages = [] }
+
+-- the store with another byte at a place of page n
+abbrev pub with_byte : ℕ → ℕ → ℕ → Store → Store
+with_byte n place byte s =
+    record s { pages = slice_set s.pages n (slice_set (slice_index_or s.pages n []) place byte) }
+
+-- what holds of every store
+pub record IsLawful (s : Store) : Type 0 where
+  pub within : s.count ≤ s.most
+  pub small : s.most < 2 ^ 32
+  pub counted : IsTrue s.is_faithful → length s.pages ≡ s.count
+
+-- a count of faults has gone up, but for one that stands at its end already
+abbrev pub HasRisen : ℕ → ℕ → Type 0
+HasRisen old new = min (old + 1) (2 ^ 64 - 1) ≤ new
+
+-- the store has failed
+abbrev pub Faulted : Store → Store → Type 0
+Faulted old new = HasRisen old.faults new.faults
+
+-- what every call keeps
+pub record Keeps (old new : Store) : Type 0 where
+  pub most : new.most ≡ old.most
+  pub faithful : new.is_faithful ≡ old.is_faithful
+  pub faults : old.faults ≤ new.faults
+
+-- the pages with p at n, where n may be the place after the last
+abbrev pub put_page : {X : Type 0} → List X → ℕ → X → List X
+put_page pages n p = take n pages ++ p ∷ drop (n + 1) pages
+
+-- no page but n has changed, and n may be one more
+abbrev pub IsTorn : {X : Type 0} → ℕ → List X → List X → Type 0
+IsTorn {X = X} n old new = (new ≡ old) ⊎ ((p : X) × (new ≡ put_page old n p))
+
+-- no page has changed, and none was added
+pub record Stays (old new : Store) : Type 0 where
+  pub keeps : Keeps old new
+  pub count : new.count ≡ old.count
+  pub pages : IsTrue old.is_faithful → new.pages ≡ old.pages
+
+-- page n is p, and no other has changed
+pub record Writes (n : ℕ) (p : List ℕ) (old new : Store) : Type 0 where
+  pub keeps : Keeps old new
+  pub count : new.count ≡ max old.count (n + 1)
+  pub pages : IsTrue old.is_faithful → new.pages ≡ put_page old.pages n p
+
+-- page n holds any bytes, and may be one more; no other has changed
+pub record Tears (n : ℕ) (old new : Store) : Type 0 where
+  pub keeps : Keeps old new
+  pub count : (new.count ≡ old.count) ⊎ ((n ≡ old.count) × (new.count ≡ n + 1))
+  pub pages : IsTrue old.is_faithful → IsTorn n old.pages new.pages

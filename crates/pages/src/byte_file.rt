@@ -1,0 +1,37 @@
+//! The contract of a file of bytes.
+ghost use Rattle.std.specs.Prelude.{ℕ, ◌≡◌, ◌≤◌, ◌+◌, List, Option, length, slice_range, IfOk, IfSome, OnOk};
+ghost use Rattle.pages.specs.Bytes.{StaysAround};
+
+use std::io;
+
+/// A file whose bytes are read and written at places, each call by itself.
+///
+/// A file may tell contracts which bytes it holds, and then they are said exactly. A file of the
+/// system tells none.
+pub trait ByteFile {
+    /// The bytes that the file holds, where it tells them.
+    ghost bytes: { Self → Option (List ℕ) };
+
+    /// How many bytes there are.
+    fn len(&self) -> io::Result<u64>
+        ensures { IfOk result (λ n. IfSome (bytes self.now) (λ xs. n ≡ length xs)) };
+
+    /// Reads the bytes from a place on, as many as `buf` has.
+    fn read_at(&mut self, place: u64, buf: &mut [u8]) -> io::Result<()>
+        ensures read { OnOk result (IfSome (bytes self.old)
+            (λ xs. slice_range xs place (place + length buf.new) ≡ buf.new)) }
+        ensures stays { bytes self.new ≡ bytes self.old };
+
+    /// Writes bytes from a place on, which may be the file's end. A refusal leaves any bytes
+    /// there, and no other byte changes.
+    fn write_at(&mut self, place: u64, buf: &[u8]) -> io::Result<()>
+        requires { IfSome (bytes self.old) (λ xs. place ≤ length xs) }
+        ensures written { OnOk result (IfSome (bytes self.new)
+            (λ xs. slice_range xs place (place + length buf.now) ≡ buf.now)) }
+        ensures around { StaysAround place (place + length buf.now)
+            (bytes self.old) (bytes self.new) };
+
+    /// Makes what was written last, as on a disk.
+    fn sync(&mut self) -> io::Result<()>
+        ensures { bytes self.new ≡ bytes self.old };
+}

@@ -1,0 +1,137 @@
+//! A store in a file.
+ghost use Rattle.std.specs.Prelude.{◌≡◌, ◌<◌, ◌≤◌, ◌^◌, ◌-◌, ◌/◌, is_some, length, IfOk, IsErr, IfSome};
+ghost use Rattle.std.proofs.Common.{arith};
+ghost use Rattle.pages.specs.Bytes.{HoldPages, known_pages, whole_pages};
+ghost use Rattle.pages.specs.Store.{HasRisen};
+
+use crate::byte_file::ByteFile;
+use crate::store::{PageStore, StoreFault};
+use crate::system_file::SystemFile;
+use std::fs::{File, OpenFile};
+use std::os::unix::fs::FileExt;
+use std::rt::Files;
+
+/// A store in a file: page n is the bytes from 4,096 n to 4,096 n + 4,095.
+///
+/// It is faithful where the file tells its bytes. Each page is read and written by one call of the
+/// file.
+#[derive(Drop)]
+pub struct FileStore<F: ByteFile = SystemFile<File>> {
+    file: F,
+    count: u32,
+    faults: u64,
+    ghost small: { count < 2 ^ 32 },
+    ghost fits: { HoldPages 4096 count (F.bytes file) },
+}
+
+impl<F: ByteFile> FileStore<F> {
+    /// The store of a file's whole pages, of at most 2^32 - 1 pages: a rest of less than a page is
+    /// no page, and a file of more pages is refused, as is one that does not tell its length.
+    pub fn new(file: F) -> Result<FileStore<F>, StoreFault>
+    where
+        F: Drop,
+        ensures pages { IfOk result (λ s. IfSome (F.bytes file)
+            (λ xs. ⟦<FileStore<F> as PageStore>⟧.seen s ≡ whole_pages xs)) }
+        ensures most { IfOk result (λ s.
+            (⟦<FileStore<F> as PageStore>⟧.seen s).most ≡ 2 ^ 32 - 1) }
+        ensures faults { IfOk result (λ s.
+            (⟦<FileStore<F> as PageStore>⟧.seen s).faults ≡ 0) }
+        ensures too_long { IfSome (F.bytes file)
+            (λ xs. 2 ^ 32 ≤ length xs / 4096 → IsErr result) }
+    {
+        let Ok(len) = file.len() else {
+            return Err(StoreFault);
+        };
+        let Ok(count) = u32::try_from(len / 4096) else {
+            return Err(StoreFault);
+        };
+        Ok(FileStore {
+            file,
+            count,
+            faults: 0,
+        })
+    }
+
+    /// Counts a fault.
+    fn failed(&mut self) -> StoreFault
+        ensures file { self.new.file ≡ self.old.file }
+        ensures count { self.new.count ≡ self.old.count }
+        ensures cause { HasRisen self.old.faults self.new.faults }
+        ensures faults { self.old.faults ≤ self.new.faults }
+    {
+        self.faults = self.faults.saturating_add(1);
+        StoreFault
+    }
+}
+
+impl<F: FileExt + OpenFile + Drop> FileStore<SystemFile<F>> {
+    /// The store in the file at a path, which is made, empty, where there is none. Refused is a
+    /// file that the system does not open or that has 2^32 pages or more.
+    pub fn open<R: Files<File = F>>(
+        rt: &R,
+        path: &str,
+    ) -> Result<FileStore<SystemFile<F>>, StoreFault>
+        ensures most { IfOk result (λ s.
+            (⟦<FileStore<SystemFile<F>> as PageStore>⟧.seen s).most ≡ 2 ^ 32 - 1) }
+        ensures faults { IfOk result (λ s.
+            (⟦<FileStore<SystemFile<F>> as PageStore>⟧.seen s).faults ≡ 0) }
+    {
+        match SystemFile::open(rt, path) {
+            Ok(file) => FileStore::new(file),
+            Err(_) => Err(StoreFault),
+        }
+    }
+}
+
+impl<F: ByteFile> PageStore for FileStore<F> {
+    ghost use Rattle.pages.specs.Store.{Store, IsLawful};
+    ghost use Rattle.pages.specs.PagesOfLemmas.{length-known_pages};
+
+    ghost seen = { λ s. record {
+      count = s.count;
+      most = 2 ^ 32 - 1;
+      faults = s.faults;
+      is_faithful = is_some (F.bytes s.file);
+      pages = known_pages 4096 s.count (F.bytes s.file);
+    } };
+
+    ghost lawful = { λ s. record {
+      within = Prim.omega (arith, s.small);
+      small = Prim.omega arith;
+      counted = length-known_pages 4096 s.count (F.bytes s.file);
+    } };
+
+    fn len(&self) -> u32 {
+        self.count
+    }
+
+    fn most(&self) -> u32 {
+        u32::MAX
+    }
+
+    fn read(&mut self, number: u32, page: &mut [u8; 4096]) -> Result<(), StoreFault> {
+        match self.file.read_at(u64::from(number) * 4096, page) {
+            Ok(()) => Ok(()),
+            Err(_) => Err(self.failed()),
+        }
+    }
+
+    fn write(&mut self, number: u32, page: &[u8; 4096]) -> Result<(), StoreFault> {
+        match self.file.write_at(u64::from(number) * 4096, page) {
+            Ok(()) => {
+                if number == self.count {
+                    self.count += 1;
+                }
+                Ok(())
+            }
+            Err(_) => Err(self.failed()),
+        }
+    }
+
+    fn sync(&mut self) -> Result<(), StoreFault> {
+        match self.file.sync() {
+            Ok(()) => Ok(()),
+            Err(_) => Err(self.failed()),
+        }
+    }
+}

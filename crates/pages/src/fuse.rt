@@ -1,0 +1,146 @@
+//! A store that fails on purpose.
+ghost use Rattle.std.specs.Prelude.{◌≡◌, ◌<◌, ◌≤◌, IsTrue, Some, ◌↔◌};
+ghost use Rattle.pages.specs.Store.{HasRisen, Tears};
+
+use crate::sealing::blank;
+use crate::store::{PageStore, StoreFault};
+
+/// A store over another one that fails once some calls of `read`, `write` and `sync` have passed,
+/// to try what stands above it.
+///
+/// Each failure counts as a fault, also one of the store below. A `write` that it fails leaves a
+/// page of zero bytes where there is one, and adds none. It is faithful where the store below is.
+#[derive(Drop)]
+pub struct Fuse<S> {
+    store: S,
+    /// How many calls still pass; `None` once the fuse has burnt and passes all.
+    left: Option<u64>,
+    once: bool,
+    faults: u64,
+}
+
+impl<S: PageStore> Fuse<S> {
+    ghost use Rattle.pages.specs.Fuse.{inner, is_once, left_of, left_after};
+
+    /// A store that passes `calls` calls and fails the next one, and, unless only `once`, all
+    /// later ones.
+    pub fn new(store: S, calls: u64, once: bool) -> Fuse<S>
+        ensures store { inner result ≡ store }
+        ensures left { left_of result ≡ Some calls }
+        ensures once { is_once result ≡ once }
+        ensures seen { ⟦<Fuse<S> as PageStore>⟧.seen result
+            ≡ record (S.seen store) { faults = 0 } }
+    {
+        Fuse {
+            store,
+            left: Some(calls),
+            once,
+            faults: 0,
+        }
+    }
+
+    /// The store below.
+    pub fn into_inner(self) -> S
+        ensures { result ≡ inner self }
+    {
+        self.store
+    }
+
+    /// Whether this call fails.
+    fn burns(&mut self) -> bool
+        ensures fails { IsTrue result ↔ (self.old.left ≡ Some 0) }
+        ensures left { self.new.left ≡ left_after self.old.once self.old.left }
+        ensures store { self.new.store ≡ self.old.store }
+        ensures once { self.new.once ≡ self.old.once }
+        ensures faults { self.new.faults ≡ self.old.faults }
+    {
+        match self.left {
+            None => false,
+            Some(0) => {
+                if self.once {
+                    self.left = None;
+                }
+                true
+            }
+            Some(left) => {
+                self.left = Some(left - 1);
+                false
+            }
+        }
+    }
+
+    /// Leaves a page of zero bytes in place of a page, where there is one.
+    fn spoil(&mut self, number: u32)
+        requires next { number ≤ (S.seen self.old.store).count }
+        requires room { number < (S.seen self.old.store).most }
+        ensures torn { Tears number (S.seen self.old.store) (S.seen self.new.store) }
+        ensures length { (S.seen self.new.store).count ≡ (S.seen self.old.store).count }
+        ensures left { self.new.left ≡ self.old.left }
+        ensures once { self.new.once ≡ self.old.once }
+        ensures faults { self.new.faults ≡ self.old.faults }
+    {
+        if number < self.store.len() {
+            let _ = self.store.write(number, &blank());
+        }
+    }
+
+    /// Counts a fault.
+    fn failed(&mut self) -> StoreFault
+        ensures store { self.new.store ≡ self.old.store }
+        ensures left { self.new.left ≡ self.old.left }
+        ensures once { self.new.once ≡ self.old.once }
+        ensures cause { HasRisen self.old.faults self.new.faults }
+        ensures faults { self.old.faults ≤ self.new.faults }
+    {
+        self.faults = self.faults.saturating_add(1);
+        StoreFault
+    }
+}
+
+impl<S: PageStore> PageStore for Fuse<S> {
+    ghost use Rattle.pages.specs.Store.{Store, IsLawful};
+
+    ghost seen = { λ s. record (S.seen s.store) { faults = s.faults } };
+
+    ghost lawful = { λ s. let l = S.lawful s.store in
+        record { within = l.within; small = l.small; counted = l.counted } };
+
+    fn len(&self) -> u32 {
+        self.store.len()
+    }
+
+    fn most(&self) -> u32 {
+        self.store.most()
+    }
+
+    fn read(&mut self, number: u32, page: &mut [u8; 4096]) -> Result<(), StoreFault> {
+        if self.burns() {
+            return Err(self.failed());
+        }
+        match self.store.read(number, page) {
+            Ok(()) => Ok(()),
+            Err(_) => Err(self.failed()),
+        }
+    }
+
+    fn write(&mut self, number: u32, page: &[u8; 4096]) -> Result<(), StoreFault> {
+        if self.burns() {
+            self.spoil(number);
+            return Err(self.failed());
+        }
+        match self.store.write(number, page) {
+            Ok(()) => Ok(()),
+            Err(_) => Err(self.failed()),
+        }
+    }
+
+    fn sync(&mut self) -> Result<(), StoreFault> {
+        if self.burns() {
+            return Err(self.failed());
+        }
+        match self.store.sync() {
+            Ok(()) => Ok(()),
+            Err(_) => Err(self.failed()),
+        }
+    }
+}

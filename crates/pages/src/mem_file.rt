@@ -1,0 +1,64 @@
+//! A file of bytes in memory.
+ghost use Rattle.std.specs.Prelude.{◌≡◌, ◌≤◌, ◌+◌, length, Some};
+ghost use Rattle.std.specs.List.{replace_range};
+
+use crate::byte_file::ByteFile;
+use std::io;
+
+/// A file in memory, which tells its bytes.
+#[derive(Drop)]
+pub struct MemFile {
+    bytes: Vec<u8>,
+}
+
+/// Writes bytes over as many from a place on.
+fn overwrite(bytes: &mut [u8], start: usize, buf: &[u8])
+    requires { start + length buf.now ≤ length bytes.old }
+    ensures { bytes.new ≡ replace_range bytes.old start (start + length buf.now) buf.now }
+{
+    bytes[start..start + buf.len()].copy_from_slice(buf);
+}
+
+impl MemFile {
+    /// A file that holds these bytes.
+    pub fn new(bytes: Vec<u8>) -> MemFile
+        ensures { ⟦<MemFile as ByteFile>⟧.bytes result ≡ Some bytes.items }
+    {
+        MemFile { bytes }
+    }
+}
+
+impl ByteFile for MemFile {
+    ghost bytes = { λ f. Some f.bytes.items };
+
+    fn len(&self) -> io::Result<u64> {
+        Ok(self.bytes.len() as u64)
+    }
+
+    fn read_at(&mut self, place: u64, buf: &mut [u8]) -> io::Result<()> {
+        let start = place as usize;
+        match start.checked_add(buf.len()) {
+            Some(end) if end <= self.bytes.len() => {
+                buf.copy_from_slice(&self.bytes[start..end]);
+                Ok(())
+            }
+            _ => Err(io::Error::from(io::ErrorKind::UnexpectedEof)),
+        }
+    }
+
+    fn write_at(&mut self, place: u64, buf: &[u8]) -> io::Result<()> {
+        let start = place as usize;
+        let Some(end) = start.checked_add(buf.len()) else {
+            return Err(io::Error::from(io::ErrorKind::FileTooLarge));
+        };
+        if end > self.bytes.len() {
+            self.bytes.resize(end, 0)?;
+        }
+        overwrite(&mut self.bytes, start, buf);
+        Ok(())
+    }
+
+    fn sync(&mut self) -> io::Result<()> {
+        Ok(())
+    }
+}

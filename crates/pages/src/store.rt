@@ -1,0 +1,55 @@
+//! The contract of a store of pages.
+ghost use Rattle.std.specs.Prelude.{◌≡◌, ◌<◌, ◌≤◌, Some, slice_get, IsTrue, OnOk, OnErr};
+ghost use Rattle.pages.specs.Store.{Store, IsLawful, Faulted, Stays, Writes, Tears};
+
+use thiserror::Error;
+
+/// Why a store refused a call: it failed.
+#[derive(Clone, Copy, PartialEq, Eq, Debug, Error)]
+#[error("the page store failed")]
+pub struct StoreFault;
+
+/// A store of pages, which have the numbers from 0 to one below `len`.
+///
+/// A store is faithful where every read that answers `Ok` gives the page last written there; what
+/// is said of pages is said of a faithful store. No call changes whether it is, nor how many pages
+/// there may be, and the count of faults never falls.
+pub trait PageStore {
+    /// What contracts see of a store: how many pages there are and may be, how many calls have
+    /// failed, whether it is faithful, and the pages as written. The count of faults stays at 2^64
+    /// - 1 once it is there, and then counts as risen.
+    ghost seen: { Self → Store };
+
+    /// How many pages there are.
+    fn len(&self) -> u32
+        ensures { result ≡ (seen self.now).count };
+
+    /// How many pages there may be.
+    fn most(&self) -> u32
+        ensures { result ≡ (seen self.now).most };
+
+    /// Reads a page. A refusal leaves any bytes in `page`, and no page of the store changes.
+    fn read(&mut self, number: u32, page: &mut [u8; 4096]) -> Result<(), StoreFault>
+        requires { number < (seen self.old).count }
+        ensures read { OnOk result (IsTrue (seen self.old).is_faithful
+            → slice_get (seen self.old).pages number ≡ Some page.new) }
+        ensures stays { Stays (seen self.old) (seen self.new) }
+        ensures cause { OnErr result (Faulted (seen self.old) (seen self.new)) };
+
+    /// Writes a page, which may be one more. A refusal leaves any bytes in that page, which may
+    /// then be there where it was not, and no other page changes.
+    fn write(&mut self, number: u32, page: &[u8; 4096]) -> Result<(), StoreFault>
+        requires next { number ≤ (seen self.old).count }
+        requires room { number < (seen self.old).most }
+        ensures written { OnOk result (Writes number page.now (seen self.old) (seen self.new)) }
+        ensures torn { OnErr result (Tears number (seen self.old) (seen self.new)) }
+        ensures cause { OnErr result (Faulted (seen self.old) (seen self.new)) };
+
+    /// Makes what was written last, as on a disk.
+    fn sync(&mut self) -> Result<(), StoreFault>
+        ensures stays { Stays (seen self.old) (seen self.new) }
+        ensures cause { OnErr result (Faulted (seen self.old) (seen self.new)) };
+
+    /// What holds of every store: no more pages than may be, and fewer than 2^32 of them.
+    ghost lawful: { (store : Self) → IsLawful (seen store) };
+}
