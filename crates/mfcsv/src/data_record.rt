@@ -175,11 +175,7 @@ fn place(dimension: Dimension, waiting: Waiting, coordinate: Coord) -> Placed
 }
 
 /// The positions of a trajectory: the coordinates of one after the other, x first.
-fn read_positions(
-    alloc: Global,
-    dimension: Dimension,
-    text: &str,
-) -> Result<Positions, RowFault>
+fn read_positions(alloc: Global, dimension: Dimension, text: &str) -> Result<Positions, RowFault>
     ensures positions { Judges result (trajectory_fault (Some dimension) (words text.now))
         (λ p. positions_of (Some dimension) (words text.now) ≡ Some p) }
     ensures placed { IfOk result (λ p. 1 ≤ length p) }
