@@ -82,3 +82,14 @@ fn other_words_are_refused(rt: HostRuntime) -> Result<(), Fail> {
     assert!(rt; !out.is_empty());
     Ok(())
 }
+
+#[test]
+fn the_version_is_printed(rt: HostRuntime) -> Result<(), Fail> {
+    let words = owned(rt.alloc(), &["mftb", "--version"])?;
+    let (mut out, mut faults) = (Vec::new(rt.alloc()), Vec::new(rt.alloc()));
+    let status = start(&rt, &words, &mut out, &mut faults);
+    assert_eq!(rt; status, 0);
+    assert!(rt; out.as_slice() == "mftb 0.1.0\n".as_bytes());
+    assert!(rt; faults.is_empty());
+    Ok(())
+}

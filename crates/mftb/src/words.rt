@@ -34,6 +34,7 @@ fn mftb<'a>(alloc: Global) -> Result<Command<'a>, Error> {
         )?;
     let command = Command::new(alloc, "mftb")
         .about("A trajectory database")
+        .version("0.1.0")
         .subcommand_required(true)
         .subcommand(run)?;
     Ok(command)

@@ -134,11 +134,13 @@ pub later-refl : {I : Type 0} (g : Ghosts I) (a : CoreView I) → IsLater g a a
 later-refl g a = record { limits = refl; index = record { plan = refl; faults = omega arith; asked = omega arith } }
 
 pub leaves-refl : {I : Type 0} (g : Ghosts I) (a : CoreView I) → Leaves g a a
-leaves-refl g a = record { book = refl; sound = λ s. s; failed = refl; limits = refl; index = index_leaves-refl g a.index }
+leaves-refl g a = record { book = refl; tracks = refl; begun = refl; sound = λ s. s; failed = refl; limits = refl; index = index_leaves-refl g a.index }
 
 pub leaves-trans : {I : Type 0} (g : Ghosts I) (a b c : CoreView I) → Leaves g a b → Leaves g b c → Leaves g a c
 leaves-trans g a b c p q = record {
   book = q.book ∙ p.book;
+  tracks = q.tracks ∙ p.tracks;
+  begun = q.begun ∙ p.begun;
   sound = λ s. q.sound (p.sound s);
   failed = q.failed ∙ p.failed;
   limits = q.limits ∙ p.limits;

@@ -5,3 +5,4 @@ pub mod BookLemmas
 pub mod FileLemmas
 pub mod RunLemmas
 pub mod FaultLemmas
+pub mod PageLemmas

@@ -23,9 +23,11 @@ use Rattle.trajdb.specs.declared.LoadFault.TheVariants.{Refused, Run}
 use Rattle.trajdb.specs.declared.RunFault.{RunFault}
 use Rattle.trajdb.specs.declared.RunFault.TheVariants.{Memory, Store, Damaged, StoreFull, Failed, Output}
 
--- what a question leaves, answered or not: the book, sound where it was, failed where it was
+-- what a question leaves, answered or not: the book, sound where it was, begun where it was, failed where it was
 pub record Leaves {I : Type 0} (g : Ghosts I) (old new : CoreView I) : Type 0 where
   pub book : new.book ≡ old.book
+  pub tracks : new.tracks ≡ old.tracks
+  pub begun : new.begun ≡ old.begun
   pub sound : IsSound g old → IsSound g new
   pub failed : new.failed ≡ old.failed
   pub limits : new.limits ≡ old.limits
@@ -46,6 +48,19 @@ pub record IsUnwritten {I : Type 0} (g : Ghosts I) (old new : I) : Type 0 where
 pub record LeavesPages {I : Type 0} (g : Ghosts I) (old new : I) : Type 0 where
   pub marked : g.is_marked old → g.is_marked new
   pub clean : g.is_clean old → g.is_marked new ⊎ IsUnwritten g old new
+
+-- of a database that has begun page 0 is marked; of one that has neither begun nor failed no page is changed
+pub record HasPages {I : Type 0} (g : Ghosts I) (core : CoreView I) : Type 0 where
+  pub begun : core.begun ≡ true → g.is_marked core.index
+  pub idle : core.begun ≡ false → core.failed ≡ false → g.is_clean core.index
+
+-- what a call leaves of the pages, whatever it answers: until a file is accepted its index is as a question
+-- leaves it, be the database sound or not
+pub record KeepsPages {I : Type 0} (g : Ghosts I) (old new : CoreView I) : Type 0 where
+  pub begun : old.begun ≡ true → new.begun ≡ true
+  pub idle : new.begun ≡ false → new.failed ≡ false → IndexLeaves g old.index new.index
+  pub pages : IsSound g old → HasPages g old → HasPages g new
+  pub written : IsSound g old → HasPages g old → LeavesPages g old.index new.index
 
 -- a fault of a question over a sound database
 abbrev pub IsQuestionFault : RunFault → Type 0

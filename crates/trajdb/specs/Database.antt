@@ -10,7 +10,6 @@ use Rattle.legs.specs.Tracks.{TracksView, StandsFor}
 use Rattle.legs.specs.Law.{IsBook}
 use Rattle.querylang.specs.declared.Command.{Command}
 use Rattle.querylang.specs.declared.Command.TheVariants.{Load, Count, Box, Legs, Features, Trajectory, Write}
-use Rattle.trajdb.specs.Faults.{IsInside, IsOwn}
 use Rattle.trajdb.specs.declared.Counts.{Counts}
 use Rattle.trajdb.specs.declared.FileCode.{FileCode}
 use Rattle.trajdb.specs.declared.FileCode.TheVariants.{Join}
@@ -19,12 +18,13 @@ use Rattle.trajdb.specs.declared.LoadFault.{LoadFault}
 use Rattle.trajdb.specs.declared.LoadFault.TheVariants.{Refused, Run}
 
 -- what contracts see of a database: its index, its tracks, its book by the list of legs for which the index
--- stands, its limits, and whether it failed
+-- stands, its limits, whether it has begun (it accepted a file since it was made), and whether it failed
 pub record CoreView (I : Type 0) : Type 0 where
   pub index : I
   pub tracks : TracksView
   pub book : Book
   pub limits : LimitsView
+  pub begun : Bool
   pub failed : Bool
 
 -- a database whose index is sound, whose tracks are those of its book, which keeps the law
@@ -66,10 +66,6 @@ JoinRefusal (Run fault) joined_legs = Unit {0}
 abbrev pub FailsBy : LoadFault → Type 0
 FailsBy (Refused code number) = ⊥
 FailsBy (Run fault) = Unit {0}
-
--- a sound database stays so, with its book
-abbrev pub Keeps : {I : Type 0} → Ghosts I → CoreView I → CoreView I → Type 0
-Keeps g old new = IsSound g old → IsSound g new × (new.book ≡ old.book)
 
 -- a sound database stays so, and has this book
 abbrev pub Becomes : {I : Type 0} → Ghosts I → CoreView I → CoreView I → Book → Type 0

@@ -20,21 +20,3 @@ IsInside (Damaged page) = Unit {0}
 IsInside StoreFull = Unit {0}
 IsInside Failed = Unit {0}
 IsInside Output = ⊥
-
--- a fault of the call itself: not one of an earlier load, and not the output's
-abbrev pub IsOwn : RunFault → Type 0
-IsOwn Memory = Unit {0}
-IsOwn Store = Unit {0}
-IsOwn (Damaged page) = Unit {0}
-IsOwn StoreFull = Unit {0}
-IsOwn Failed = ⊥
-IsOwn Output = ⊥
-
--- a fault at which a run may stop that does not stand in for an earlier load
-abbrev pub MayStop : RunFault → Type 0
-MayStop Memory = Unit {0}
-MayStop Store = Unit {0}
-MayStop (Damaged page) = Unit {0}
-MayStop StoreFull = Unit {0}
-MayStop Failed = ⊥
-MayStop Output = Unit {0}

@@ -24,6 +24,8 @@ pub struct Core<I: Start> {
     pub(crate) tracks: Tracks,
     pub(crate) rows: Vec<Values>,
     pub(crate) limits: Limits,
+    /// Whether a file was accepted since the database was made.
+    pub(crate) begun: bool,
     pub(crate) failed: bool,
 }
 
@@ -37,6 +39,7 @@ impl<I: Start> Model for Core<I> {
       tracks = a.tracks;
       book = record { head = a.head; names = a.tracks.names; legs = I.content a.index; rows = a.rows.items };
       limits = a.limits;
+      begun = a.begun;
       failed = a.failed;
     } };
 }
@@ -59,6 +62,7 @@ impl<I: Start> Core<I> {
             → IsSound I.Listed core) }
         ensures limits { IfOk result (λ core. core.limits ≡ limits) }
         ensures index { IfOk result (λ core. core.index ≡ index) }
+        ensures begun { IfOk result (λ core. core.begun ≡ false) }
         ensures lives { IfOk result (λ core. core.failed ≡ false) }
         ensures refused { IfErr result (λ back. back.0 ≡ index) }
     {
@@ -70,6 +74,7 @@ impl<I: Start> Core<I> {
                 tracks,
                 rows: Vec::new(alloc),
                 limits,
+                begun: false,
                 failed: false,
             }),
             Err(memory) => Err((index, memory)),
@@ -88,7 +93,7 @@ impl<I: Start> Core<I> {
     ghost use Rattle.std.specs.Prelude.{◌≡◌, IfOk, IfErr, OnOk, OnErr, true, false};
     ghost use Rattle.legs.specs.Book.{book_after, joined, with_file};
     ghost use Rattle.trajdb.specs.Answers.{book_by, book_with, counts_or, joined_counts, load_of};
-    ghost use Rattle.trajdb.specs.Database.{IsTold, LoadGives, JoinRefusal, Accepts, Becomes, IsSound};
+    ghost use Rattle.trajdb.specs.Database.{IsRefused, IsTold, LoadGives, JoinRefusal, Accepts, Becomes, IsSound};
     ghost use Rattle.trajdb.specs.Calls.{IsJoinStop, IsLater, IsLoadFault, IsLoadStop, IsOfStore, LeavesPages};
 
     /// Takes in a file that was joined.
@@ -100,6 +105,11 @@ impl<I: Start> Core<I> {
         ensures store { IfErr result (IsOfStore I.Listed self.old.index self.new.index) }
         ensures later { IsLater I.Listed self.old self.new }
         ensures failed { self.new.failed ≡ self.old.failed }
+        ensures begun { OnOk result (self.new.begun ≡ true) }
+        ensures idle { OnErr result (self.new.begun ≡ self.old.begun) }
+        ensures marks { OnOk result (IsSound I.Listed self.old
+            → Accepts self.old.limits self.old.book file legs.now
+            → I.is_clean self.old.index → I.is_marked self.new.index) }
         ensures pages { IsSound I.Listed self.old
             → Accepts self.old.limits self.old.book file legs.now
             → LeavesPages I.Listed self.old.index self.new.index }
@@ -109,6 +119,7 @@ impl<I: Start> Core<I> {
         let File { head, records } = file;
         push_rows(&mut self.rows, records)?;
         keep_head(&mut self.head, head);
+        self.begun = true;
         Ok(())
     }
 
@@ -139,6 +150,11 @@ impl<I: Start> Core<I> {
         ensures stopped { IfErr result (IsLoadStop I.Listed self.old self.new) }
         ensures later { IsLater I.Listed self.old self.new }
         ensures failed { self.new.failed ≡ self.old.failed }
+        ensures refused { IfErr result (λ fault. IsRefused fault → self.new ≡ self.old) }
+        ensures begun { OnOk result (self.new.begun ≡ true) }
+        ensures idle { OnErr result (self.new.begun ≡ self.old.begun) }
+        ensures marks { OnOk result (IsSound I.Listed self.old → I.is_clean self.old.index
+            → I.is_marked self.new.index) }
         ensures pages { IsSound I.Listed self.old
             → LeavesPages I.Listed self.old.index self.new.index }
     {
@@ -164,6 +180,11 @@ impl<I: Start> Core<I> {
         ensures stopped { IfErr result (IsLoadStop I.Listed self.old self.new) }
         ensures later { IsLater I.Listed self.old self.new }
         ensures failed { self.new.failed ≡ self.old.failed }
+        ensures refused { IfErr result (λ fault. IsRefused fault → self.new ≡ self.old) }
+        ensures begun { OnOk result (self.new.begun ≡ true) }
+        ensures idle { OnErr result (self.new.begun ≡ self.old.begun) }
+        ensures marks { OnOk result (IsSound I.Listed self.old → I.is_clean self.old.index
+            → I.is_marked self.new.index) }
         ensures pages { IsSound I.Listed self.old
             → LeavesPages I.Listed self.old.index self.new.index }
     {
@@ -179,10 +200,10 @@ impl<I: Start> Core<I> {
 }
 
 impl<I: Start> Core<I> {
-    ghost use Rattle.std.specs.Prelude.{◌≡◌, IfErr, Err, true, false};
+    ghost use Rattle.std.specs.Prelude.{◌≡◌, IfErr, OnOk, Err, true, false};
     ghost use Rattle.trajdb.specs.Answers.{book_with, load_of};
-    ghost use Rattle.trajdb.specs.Database.{IsTold, LoadGives, FailsBy, Becomes, IsSound};
-    ghost use Rattle.trajdb.specs.Calls.{IsLater, IsLoadStop, LeavesPages};
+    ghost use Rattle.trajdb.specs.Database.{IsRefused, IsTold, LoadGives, FailsBy, Becomes, IsSound};
+    ghost use Rattle.trajdb.specs.Calls.{IsLater, IsLoadStop, KeepsPages};
 
     /// Accepts a file, whole or not at all: how many data records, legs and distinct features it has,
     /// or the first fault of its text, or else of its joining.
@@ -201,9 +222,12 @@ impl<I: Start> Core<I> {
         ensures stopped { IfErr result (IsLoadStop I.Listed self.old self.new) }
         ensures later { IsLater I.Listed self.old self.new }
 
+        // A refused file changes nothing.
+        ensures refused { IfErr result (λ fault. IsRefused fault → self.new ≡ self.old) }
+
         // What is left of the pages.
-        ensures pages { IsSound I.Listed self.old
-            → LeavesPages I.Listed self.old.index self.new.index }
+        ensures begun { OnOk result (self.new.begun ≡ true) }
+        ensures pages { KeepsPages I.Listed self.old self.new }
 
         // A failed database does nothing.
         ensures was_failed { self.old.failed ≡ true
@@ -226,7 +250,7 @@ impl<I: Start> Core<I> {
     ghost use Rattle.std.specs.Prelude.{◌≡◌, IfOk, IfErr, OnOk, OnErr, Some, true, false};
     ghost use Rattle.trajdb.specs.Answers.{named_book, named_text};
     ghost use Rattle.trajdb.specs.Database.{Becomes, IsSound};
-    ghost use Rattle.trajdb.specs.Calls.{IsStopped, IsLater};
+    ghost use Rattle.trajdb.specs.Calls.{IsStopped, IsLater, KeepsPages};
 
     /// The answer to `load` of a file.
     fn load_text(&mut self, alloc: Global, bytes: &[u8]) -> Result<Vec<u8>, RunFault>
@@ -238,6 +262,7 @@ impl<I: Start> Core<I> {
         ensures failed { OnErr result (self.new.failed ≡ true) }
         ensures stopped { IfErr result (IsStopped I.Listed self.old self.new) }
         ensures later { IsLater I.Listed self.old self.new }
+        ensures pages { KeepsPages I.Listed self.old self.new }
     {
         let text = match self.load(alloc, bytes) {
             Ok(counts) => counts_text(alloc, counts),
@@ -258,7 +283,7 @@ impl<I: Start> Core<I> {
     ghost use Rattle.std.specs.Prelude.{◌≡◌, IfOk, IfErr, IsErrOf, OnOk, OnErr, Err, true, false};
     ghost use Rattle.trajdb.specs.Answers.{IsAnswer, book_then};
     ghost use Rattle.trajdb.specs.Database.{Becomes, IsSound};
-    ghost use Rattle.trajdb.specs.Calls.{AsksIn, IsStopped, IsLater, Leaves, Loads};
+    ghost use Rattle.trajdb.specs.Calls.{AsksIn, IsStopped, IsLater, KeepsPages, Leaves, Loads};
 
     /// The whole answer to a command, with the named files at hand.
     ///
@@ -285,6 +310,7 @@ impl<I: Start> Core<I> {
         ensures failed { OnErr result (Loads files.now command.now → self.new.failed ≡ true) }
         ensures full { IsErrOf result RunFault.StoreFull → Loads files.now command.now }
         ensures stopped { IfErr result (IsStopped I.Listed self.old self.new) }
+        ensures pages { KeepsPages I.Listed self.old self.new }
 
         // A failed database does nothing.
         ensures was_failed { self.old.failed ≡ true → (result ≡ Err RunFault.Failed)
@@ -313,10 +339,10 @@ impl<I: Start> Core<I> {
 }
 
 impl<I: Start> Core<I> {
-    ghost use Rattle.std.specs.Prelude.{◌≡◌, IfOk, IfErr, OnOk, OnErr, Err, true, false};
+    ghost use Rattle.std.specs.Prelude.{◌≡◌, IfOk, IfErr, IsErrOf, OnOk, OnErr, Err, true, false};
     ghost use Rattle.trajdb.specs.Answers.{IsLineText, line_book};
     ghost use Rattle.trajdb.specs.Database.{Becomes, IsSound};
-    ghost use Rattle.trajdb.specs.Calls.{IsStopped, IsLater, Leaves, LoadsBy, Speaks};
+    ghost use Rattle.trajdb.specs.Calls.{IsStopped, IsLater, KeepsPages, Leaves, LoadsBy, Speaks};
 
     /// The whole answer to a line of a script.
     #[tactic(auto, unfolding(crate::specs::Answers::IsLineText, crate::specs::Answers::line_book, crate::specs::Calls::LoadsBy, crate::specs::Calls::Speaks))]
@@ -332,7 +358,9 @@ impl<I: Start> Core<I> {
         ensures refused { OnErr result (self.new.failed ≡ false
             → Leaves I.Listed self.old self.new) }
         ensures failed { self.new.failed ≡ true → LoadsBy files.now line.now }
+        ensures full { IsErrOf result RunFault.StoreFull → self.new.failed ≡ true }
         ensures stopped { IfErr result (IsStopped I.Listed self.old self.new) }
+        ensures pages { KeepsPages I.Listed self.old self.new }
     {
         match parse_line(alloc, line) {
             Ok(Some(command)) => self.command(alloc, &command, files),
@@ -345,13 +373,12 @@ impl<I: Start> Core<I> {
 
 impl<I: Start> Core<I> {
     ghost use Rattle.std.specs.Prelude.{◌≡◌, ℕ, List, IfOk, IfErr, IsErrOf, OnOk, OnErr, Err, false, true};
-    ghost use Rattle.std.specs.Io.KnownBytes.{Keeps as IsKept};
     ghost use Rattle.trajdb.specs.Script.{lines_of, without_return};
     ghost use Rattle.trajdb.specs.Faults.{IsInside};
     ghost use Rattle.trajdb.specs.Lines.{HasDone, HasCut, HasNotDone};
     ghost use Rattle.trajdb.specs.Run.{Runs, Stops, IsCut};
     ghost use Rattle.trajdb.specs.Database.{IsSound};
-    ghost use Rattle.trajdb.specs.Calls.{IsRunStop, IsLater};
+    ghost use Rattle.trajdb.specs.Calls.{IsRunStop, IsLater, KeepsPages};
 
     /// One line of a script: its answer goes to the output.
     fn line<W: Write>(
@@ -378,8 +405,10 @@ impl<I: Start> Core<I> {
             self.new.book self.new.failed line.now) }
         ensures kept { IfErr result (λ e. IsInside e → self.new.failed ≡ false
             → IsSound I.Listed self.old → IsSound I.Listed self.new) }
+        ensures full { IsErrOf result RunFault.StoreFull → self.new.failed ≡ true }
         ensures stopped { IfErr result (IsRunStop I.Listed self.old self.new) }
         ensures later { IsLater I.Listed self.old self.new }
+        ensures pages { KeepsPages I.Listed self.old self.new }
     {
         match self.answer(alloc, line, files) {
             Ok(text) => send(out, text.as_slice()),
@@ -417,8 +446,10 @@ impl<I: Start> Core<I> {
             (lines_of script.now)) }
         ensures kept { IfErr result (λ e. IsInside e → self.new.failed ≡ false
             → IsSound I.Listed self.old → IsSound I.Listed self.new) }
+        ensures full { IsErrOf result RunFault.StoreFull → self.new.failed ≡ true }
         ensures stopped { IfErr result (IsRunStop I.Listed self.old self.new) }
         ensures later { IsLater I.Listed self.old self.new }
+        ensures pages { KeepsPages I.Listed self.old self.new }
 
         // A failed database does nothing.
         ensures was_failed { self.old.failed ≡ true → (result ≡ Err RunFault.Failed)

@@ -4,6 +4,7 @@ use legs::{Limits, ListIndex};
 use querylang::Command;
 use std::alloc::Global;
 use std::hash::RandomState;
+use std::io::{BufWriter, Write};
 use std::process::Abort;
 use std::random::RandomSource;
 use std::test::Fail;
@@ -568,4 +569,26 @@ fn a_third_dimension_is_kept(rt: HostRuntime) -> Result<(), Fail> {
             ),
         ],
     )
+}
+
+/// What becomes of a script that counts, over an output.
+fn count_into<W: Write>(alloc: Global, keys: RandomState, out: &mut W) -> Result<(), RunFault> {
+    let files = named_files(alloc)?;
+    let limits = Limits::new(1000, 1000).ok_or(RunFault::Memory)?;
+    let mut db = Db::create(alloc, keys, limits)?;
+    db.run(alloc, "load S1.csv\ncount\n".as_bytes(), &files, out)
+}
+
+#[test]
+fn an_output_that_fails_ends_the_run(rt: HostRuntime) -> Result<(), Fail> {
+    let keys = RandomState::new(&rt)?;
+    let mut room = [0u8; 5];
+    let mut full = room.as_mut_slice();
+    assert!(rt; count_into(rt.alloc(), keys, &mut full) == Err(RunFault::Output));
+    assert!(rt; room.as_slice() == "ok 1\n".as_bytes());
+
+    let mut room = [0u8; 5];
+    let mut unflushed = BufWriter::with_capacity(rt.alloc(), 100, room.as_mut_slice())?;
+    assert!(rt; count_into(rt.alloc(), keys, &mut unflushed) == Err(RunFault::Output));
+    Ok(())
 }

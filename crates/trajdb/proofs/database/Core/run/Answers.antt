@@ -3,6 +3,7 @@ use Rattle.legs.specs.Limits.{LimitsView}
 use Rattle.trajdb.specs.Database.{CoreView}
 use Rattle.trajdb.specs.Lines.{HasDone, HasCut}
 use Rattle.trajdb.proofs.FaultLemmas.{later-refl, later-trans}
+use Rattle.trajdb.proofs.PageLemmas.{keeps-refl, keeps-trans}
 use Rattle.trajdb.proofs.RunLemmas.{at_start, at_more, at_cut, at_end, at_unflushed, next_line, nil_from_length}
 use Rattle.trajdb.proofs.database.Core.run.Goals as goal
 
@@ -18,6 +19,7 @@ pub loop-rest-preserved : goal.loop-rest-preserved
 loop-rest-preserved g c = record {
   lives = c.in-Ok.ensures.lives;
   later = later-trans g.I.Listed c.args.self.now c.loop-rest.self c.line.new.self c.loop-rest.invariant.later c.line.ensures.later;
+  pages = keeps-trans g.I.Listed c.args.self.now c.loop-rest.self c.line.new.self c.loop-rest.invariant.lives (λ s. (c.loop-rest.invariant.at s).0) c.loop-rest.invariant.pages c.line.ensures.pages;
   at = λ sound.
       let at = c.loop-rest.invariant.at sound in
       let next = next_line c.loop-rest.rest.now c.first_piece.result.0.now c.first_piece.result.1.now c.without_return.result.now c.first_piece.ensures.pieces c.without_return.ensures in
@@ -37,4 +39,13 @@ returns-in-Err-flush-clause-output g c = λ is sound.
     at_unflushed _ _ _ _ _ _ _ _ _ _ at.2 c.in-Err-flush.ensures.bytes
 
 pub loop-rest-init : goal.loop-rest-init
-loop-rest-init g c = record { lives = ap (λ (v : CoreView g.row.I.Denot). v.failed) (sym c.self.view_is) ∙ c.if-self.false; later = later-refl g.I.Listed _; at = λ sound. (sound, 0, at_start _ _ _ _ _) }
+loop-rest-init g c = record { lives = ap (λ (v : CoreView g.row.I.Denot). v.failed) (sym c.self.view_is) ∙ c.if-self.false; later = later-refl g.I.Listed _; pages = keeps-refl g.I.Listed _; at = λ sound. (sound, 0, at_start _ _ _ _ _) }
+
+pub returns-in-Err-clause-pages : goal.returns-in-Err-clause-pages
+returns-in-Err-clause-pages g c = keeps-trans g.I.Listed c.args.self.now c.loop-rest.self c.line.new.self c.loop-rest.invariant.lives (λ s. (c.loop-rest.invariant.at s).0) c.loop-rest.invariant.pages c.line.ensures.pages
+
+pub returns-in-Ok-flush-clause-pages : goal.returns-in-Ok-flush-clause-pages
+returns-in-Ok-flush-clause-pages g c = c.loop-rest.invariant.pages
+
+pub returns-in-Err-flush-clause-pages : goal.returns-in-Err-flush-clause-pages
+returns-in-Err-flush-clause-pages g c = c.loop-rest.invariant.pages

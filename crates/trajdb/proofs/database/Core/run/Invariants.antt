@@ -1,5 +1,5 @@
 use Rattle.std.proofs.Common.{◌≡◌, ℕ, length, false}
-use Rattle.trajdb.specs.Calls.{IsLater}
+use Rattle.trajdb.specs.Calls.{IsLater, KeepsPages}
 use Rattle.trajdb.specs.Script.{lines_of}
 use Rattle.trajdb.specs.Database.{IsSound}
 use Rattle.trajdb.proofs.RunLemmas.{IsAt}
@@ -10,6 +10,7 @@ abbrev pub invariant-loop-rest : goal.invariant-loop-rest
 invariant-loop-rest g l = record {
   lives : l.self.failed ≡ false;
   later : IsLater g.I.Listed l.initial.self l.self;
+  pages : KeepsPages g.I.Listed l.initial.self l.self;
   at : IsSound g.I.Listed l.initial.self
       → IsSound g.I.Listed l.self
       × (k : ℕ)
