@@ -221,7 +221,7 @@ const WRONG_HEADS: [(&str, Code, u64); 15] = [
         1,
     ),
     (
-        "@stboundedby,local,3D,0 0,0 0,2020-01-01T00:00:00Z,",
+        "@stboundedby,local,4D,0 0,0 0,2020-01-01T00:00:00Z,",
         Code::F4,
         1,
     ),
