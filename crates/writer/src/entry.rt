@@ -1,6 +1,6 @@
 //! Entries of a file, and how their legs are written.
 use legs::Leg;
-use mfcsv::{Dimension, Text};
+use mfcsv::{Dimension, Values};
 use std::marker::Model;
 use timebase::Ms;
 
@@ -16,7 +16,7 @@ pub struct Frame {
 pub struct Entry<'a> {
     pub name: &'a str,
     pub leg: Leg,
-    pub values: &'a [Text],
+    pub values: &'a Values,
 }
 
 impl<'a> Model for Entry<'a> {
