@@ -92,7 +92,7 @@ impl<I: Start> Core<I> {
         Ok(Entry {
             name,
             leg: *leg,
-            values: values.as_slice(),
+            values,
         })
     }
 
