@@ -15,7 +15,7 @@ pub struct Frame {
 #[derive(Drop)]
 pub struct Entry<'a> {
     pub name: &'a str,
-    pub leg: Leg,
+    pub leg: &'a Leg,
     pub values: &'a Values,
 }
 
@@ -24,5 +24,5 @@ impl<'a> Model for Entry<'a> {
 
     ghost Value = { EntryView };
 
-    ghost view = { λ a. record { name = a.name.now; leg = a.leg; values = a.values.now } };
+    ghost view = { λ a. record { name = a.name.now; leg = a.leg.now; values = a.values.now } };
 }

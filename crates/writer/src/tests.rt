@@ -95,12 +95,12 @@ fn a_file_is_bounded_by_all_legs(rt: HostRuntime) -> Result<(), Fail> {
     let entries = [
         Entry {
             name: "a",
-            leg: long,
+            leg: &long,
             values: &walking,
         },
         Entry {
             name: "b",
-            leg: short,
+            leg: &short,
             values: &on_foot,
         },
     ];
