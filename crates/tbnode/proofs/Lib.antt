@@ -1,0 +1,4 @@
+pub mod PartLemmas
+pub mod ListLemmas
+pub mod LaidLemmas
+pub mod FormLemmas

@@ -1,0 +1,5 @@
+pub mod Nodes
+pub mod Parts
+pub mod Layout
+pub mod Form
+pub mod Edits
