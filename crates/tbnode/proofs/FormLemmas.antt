@@ -1,6 +1,6 @@
 -- What the form of a leaf and of an inner page says.
-use Rattle.std.proofs.Common.{◌≡◌, ◌≢◌, ℕ, ◌+◌, ◌*◌, ◌-◌, ◌<◌, ◌≤◌, ◌==◌, Bool, true, false, ◌&&◌, ◌||◌, if◌then◌else◌, List, length, map, Some, None, Option, slice_get, refl, sym, ap, ◌∙◌, subst, arith, nat_le, nat_lt}
-use Rattle.std.proofs.lemmas.Bool.{leb-true, eqb-true, le-leb, eq-eqb, ltb-true, lt-ltb}
+use Rattle.std.proofs.Common.{◌≡◌, ◌≢◌, ℕ, ◌-◌, ◌<◌, ◌≤◌, ◌==◌, true, false, ◌&&◌, ◌||◌, if◌then◌else◌, List, length, Some, None, slice_get, refl, sym, ap, ◌∙◌, nat_le, nat_lt}
+use Rattle.std.proofs.lemmas.Bool.{leb-true, eqb-true, le-leb, eq-eqb}
 use Rattle.legs.specs.Legs.{LegView}
 use Rattle.legs.specs.Boxes.{BoxView}
 use Rattle.pages.specs.declared.payload.Kind.{Kind}
@@ -8,9 +8,9 @@ use Rattle.pages.specs.declared.payload.Kind.TheVariants.{Header, Leaf, Inner, C
 use Rattle.pages.specs.declared.payload.Payload.{Payload}
 use Rattle.tbnode.specs.Nodes.{LeafView, EntryView, InnerView, Node, ALeaf, AnInner, as_leaf, as_inner}
 use Rattle.tbnode.specs.Parts.{number_at, slot, all_below}
-use Rattle.tbnode.specs.Layout.{leg_of, is_leg, entry_of, is_entry}
-use Rattle.tbnode.specs.Form.{feature_of, leg_count, leg_at, leaf_of, is_leg_at, is_leaf, level_of, entry_count, entry_at, inner_of, is_entry_at, is_inner, node_by, node_of}
-use Rattle.tbnode.proofs.ListLemmas.{and_left, and_right, and_both, all_below-at, made, length-made, get-made}
+use Rattle.tbnode.specs.Layout.{is_leg}
+use Rattle.tbnode.specs.Form.{leg_count, leg_at, leaf_of, is_leg_at, is_leaf, level_of, entry_count, entry_at, inner_of, is_entry_at, is_inner, node_by, node_of}
+use Rattle.tbnode.proofs.ListLemmas.{and_left, and_right, and_both, length-made, get-made}
 
 pub record LeafForm (bytes : List ℕ) : Type 0 where
   pub some : 1 ≤ leg_count bytes

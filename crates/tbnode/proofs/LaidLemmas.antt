@@ -1,16 +1,14 @@
 -- What is laid out field by field is the layout, and reads back.
-use Rattle.std.proofs.Common.{◌≡◌, ℕ, ℤ, ◌+◌, ◌^◌, ◌<◌, List, [], ◌++◌, length, replicate, refl, sym, ap, ◌∙◌, subst, arith}
+use Rattle.std.proofs.Common.{◌≡◌, ℕ, ℤ, List, replicate, refl, ap, ◌∙◌}
 use Rattle.std.specs.Int.{w64, cast_unsigned, cast_signed}
 use Rattle.std.specs.Int.RustNames.{FitsSigned}
 use Rattle.std.proofs.lemmas.Int.{to_z-of_z}
-use Rattle.std.proofs.Math.Facts.{Fits-of_z}
-use Rattle.byteorder.specs.Endian.{big_bytes, big_number}
-use Rattle.byteorder.specs.Numbers.{big_number-reads_back}
+use Rattle.byteorder.specs.Endian.{big_bytes}
 use Rattle.legs.specs.Legs.{LegView}
 use Rattle.legs.specs.Boxes.{BoxView}
 use Rattle.tbnode.specs.Nodes.{EntryView}
-use Rattle.tbnode.specs.Parts.{part, put, number_at, signed_at, signed_bytes}
-use Rattle.tbnode.specs.Layout.{leg_bytes, leg_of, entry_bytes, entry_of}
+use Rattle.tbnode.specs.Parts.{put, signed_bytes}
+use Rattle.tbnode.specs.Layout.{leg_bytes, entry_bytes}
 
 -- one field more
 pub put_signed : (p : ℕ) (n z : ℤ) (was from to : List ℕ) → to ≡ put p (signed_bytes n) from → n ≡ z → from ≡ was

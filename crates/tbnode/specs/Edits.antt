@@ -33,4 +33,4 @@ inner_with_entry entry page = AnInner (with_entry entry page)
 
 -- the inner page with entry i widened to hold a box as well
 abbrev pub inner_with_wider : ℕ → BoxView → InnerView BoxView → Node LegView BoxView
-inner_with_wider i box page = AnInner (with_wider cover_of i box page)
+inner_with_wider i box page = AnInner (with_wider (λ p q. cover_of p q) i box page)

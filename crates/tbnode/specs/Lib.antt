@@ -3,3 +3,4 @@ pub mod Parts
 pub mod Layout
 pub mod Form
 pub mod Edits
+pub mod Steps

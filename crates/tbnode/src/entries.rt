@@ -1,6 +1,7 @@
 //! An entry in 56 bytes.
 ghost use Rattle.std.specs.Prelude.{◌≡◌, ◌+◌, ◌≤◌, length, int_le, IsTrue};
 ghost use Rattle.tbnode.specs.Parts.{signed_at};
+ghost use Rattle.tbnode.specs.Steps.{EntryReadsBack};
 ghost use Rattle.tbnode.specs.Layout.{entry_bytes, entry_of, is_entry};
 
 use crate::fields::{i64_at, put_i64, put_u32, u32_at};
@@ -70,11 +71,12 @@ pub(crate) fn entry_in(bytes: &[u8]) -> Entry
 
 /// The 56 bytes of an entry.
 pub(crate) fn bytes_of(entry: &Entry) -> [u8; 56]
-    ensures { result ≡ entry_bytes entry.now }
+    ensures value { result ≡ entry_bytes entry.now }
+    ensures reads_back { EntryReadsBack entry.now }
 {
-    let bounds = entry.bounds;
+    let Entry { child, bounds } = *entry;
     let mut bytes = [0; 56];
-    put_u32(&mut bytes, 0, entry.child);
+    put_u32(&mut bytes, 0, child);
     put_i64(&mut bytes, 8, bounds.x_min);
     put_i64(&mut bytes, 16, bounds.y_min);
     put_i64(&mut bytes, 24, bounds.t_min);

@@ -4,6 +4,7 @@ ghost use Rattle.std.specs.Option.{is_some};
 ghost use Rattle.fixedpoint.specs.Number.{units_within};
 ghost use Rattle.timebase.specs.Instant.{some_moment};
 ghost use Rattle.tbnode.specs.Parts.{put, signed_at, signed_bytes};
+ghost use Rattle.tbnode.specs.Steps.{LegReadsBack};
 ghost use Rattle.tbnode.specs.Layout.{leg_bytes, leg_of, is_leg, has_moments, has_start, has_end};
 
 use crate::fields::{i64_at, put_i64, put_u32, put_u64, u32_at, u64_at};
@@ -119,10 +120,12 @@ fn put_coord(bytes: &mut [u8], place: usize, coord: Coord)
 
 /// The 80 bytes of a leg.
 pub(crate) fn bytes_of(leg: &Leg) -> [u8; 80]
-    ensures { result ≡ leg_bytes leg.now }
+    ensures value { result ≡ leg_bytes leg.now }
+    ensures reads_back { LegReadsBack leg.now }
 {
+    let (ordinal, row) = (leg.ordinal, leg.row);
     let mut bytes = [0; 80];
-    put_u64(&mut bytes, 0, leg.ordinal);
+    put_u64(&mut bytes, 0, ordinal);
     put_moment(&mut bytes, 8, leg.t0);
     put_moment(&mut bytes, 16, leg.t1);
     put_coord(&mut bytes, 24, leg.x0);
@@ -131,6 +134,6 @@ pub(crate) fn bytes_of(leg: &Leg) -> [u8; 80]
     put_coord(&mut bytes, 48, leg.x1);
     put_coord(&mut bytes, 56, leg.y1);
     put_coord(&mut bytes, 64, leg.z1);
-    put_u32(&mut bytes, 72, leg.row);
+    put_u32(&mut bytes, 72, row);
     bytes
 }

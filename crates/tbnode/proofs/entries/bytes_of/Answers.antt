@@ -1,9 +1,12 @@
 use Rattle.std.proofs.Common.{ap, refl, ◌∙◌, replicate, rules}
+use Rattle.std.proofs.Common.{subst, arith, ◌<◌, ◌^◌, ◌≡◌}
+use Rattle.legs.specs.Boxes.{BoxView, IsBox}
+use Rattle.tbnode.proofs.LegLemmas.{BoundsFit, entry_reads_back}
 use Rattle.tbnode.proofs.LaidLemmas.{put_bits, put_number, entry_filled-is}
 use Rattle.tbnode.proofs.entries.bytes_of.Goals as goal
 
-pub returns : goal.returns
-returns c =
+pub returns-clause-value : goal.returns-clause-value
+returns-clause-value c =
     let e = c.args.entry.now in
     let i = c.bounds.inside in
     let v = c.bounds.view_is ∙ ap (λ x. x.bounds) c.entry.view_is in
@@ -15,3 +18,14 @@ returns c =
     let s5 = put_bits 40 i.y_max e.bounds.y_max _ c.put_i64-4.new.bytes c.put_i64-5.new.bytes (search rules) c.put_i64-5.ensures (ap (λ b. b.y_max) v) s4 in
     let s6 = put_bits 48 i.t_max e.bounds.t_max _ c.put_i64-5.new.bytes c.put_i64-6.new.bytes (search rules) c.put_i64-6.ensures (ap (λ b. b.t_max) v) s5 in
     s6 ∙ entry_filled-is e
+
+pub returns-clause-reads_back : goal.returns-clause-reads_back
+returns-clause-reads_back c =
+    let e = c.args.entry.now in
+    let i = c.bounds.inside in
+    let v = c.bounds.view_is ∙ ap (λ x. x.bounds) c.entry.view_is in
+    let h : c.entry.inside.child < 2 ^ 32 = search rules in
+    let same : c.entry.inside.child ≡ e.child = ap (λ x. x.child) c.entry.view_is in
+    let b : BoxView = record { x_min = i.x_min; y_min = i.y_min; t_min = i.t_min; x_max = i.x_max; y_max = i.y_max; t_max = i.t_max } in
+    let f : BoundsFit b = record { x_min = search rules; y_min = search rules; t_min = search rules; x_max = search rules; y_max = search rules; t_max = search rules } in
+    entry_reads_back e (omega (arith, h, same)) (subst BoundsFit v f) (subst IsBox v c.bounds.invariant)

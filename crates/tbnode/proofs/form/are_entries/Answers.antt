@@ -1,4 +1,4 @@
-use Rattle.std.proofs.Common.{◌≡◌, ap, sym, ◌∙◌, arith, false}
+use Rattle.std.proofs.Common.{ap, sym, ◌∙◌, arith}
 use Rattle.tbnode.specs.Form.{is_entry_at}
 use Rattle.tbnode.specs.Layout.{is_entry}
 use Rattle.tbnode.proofs.ListLemmas.{all_below-fails}

@@ -1,4 +1,4 @@
-use Rattle.std.proofs.Common.{◌≡◌, sym, ◌∙◌, arith, false}
+use Rattle.std.proofs.Common.{sym, ◌∙◌, arith}
 use Rattle.tbnode.specs.Form.{is_leg_at}
 use Rattle.tbnode.proofs.ListLemmas.{all_below-fails}
 use Rattle.tbnode.proofs.form.are_legs.Goals as goal

@@ -1,9 +1,11 @@
-use Rattle.std.proofs.Common.{ap, refl, ◌∙◌, replicate}
+use Rattle.std.proofs.Common.{ap, refl, ◌∙◌, replicate, rules, subst, arith, ◌<◌, ◌^◌, ◌≡◌}
+use Rattle.legs.specs.Legs.{IsLeg}
+use Rattle.tbnode.proofs.LegLemmas.{leg_reads_back}
 use Rattle.tbnode.proofs.LaidLemmas.{put_signed, put_number, leg_filled-is}
 use Rattle.tbnode.proofs.laid.bytes_of.Goals as goal
 
-pub returns : goal.returns
-returns c =
+pub returns-clause-value : goal.returns-clause-value
+returns-clause-value c =
     let l = c.args.leg.now in
     let i = c.leg.inside in
     let v = c.leg.view_is in
@@ -18,3 +20,14 @@ returns c =
     let s8 = put_signed 64 i.z1 l.z1 _ c.put_coord-5.new.bytes c.put_coord-6.new.bytes c.put_coord-6.ensures (ap (λ l. l.z1) v) s7 in
     let s9 = put_number 4 72 i.row l.row _ c.put_coord-6.new.bytes c.put_u32.new.bytes c.put_u32.ensures (ap (λ l. l.row) v) s8 in
     s9 ∙ leg_filled-is l
+
+pub returns-clause-reads_back : goal.returns-clause-reads_back
+returns-clause-reads_back c =
+    let l = c.args.leg.now in
+    let i = c.leg.inside in
+    let v = c.leg.view_is in
+    let o : i.ordinal < 2 ^ 64 = search rules in
+    let r : i.row < 2 ^ 32 = search rules in
+    let same_o : i.ordinal ≡ l.ordinal = ap (λ l. l.ordinal) v in
+    let same_r : i.row ≡ l.row = ap (λ l. l.row) v in
+    leg_reads_back l (omega (arith, o, same_o)) (omega (arith, r, same_r)) (subst IsLeg v c.leg.invariant)

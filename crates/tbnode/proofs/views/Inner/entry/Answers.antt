@@ -1,4 +1,4 @@
-use Rattle.std.proofs.Common.{ap, ◌∙◌, sym, arith, ◌<◌}
+use Rattle.std.proofs.Common.{ap, ◌∙◌, arith, ◌<◌}
 use Rattle.tbnode.specs.Form.{entry_count, is_entry_at}
 use Rattle.tbnode.specs.Layout.{entry_of, is_entry}
 use Rattle.tbnode.proofs.FormLemmas.{inner_form, entries_counted, entry_shown}

@@ -1,5 +1,5 @@
-use Rattle.std.proofs.Common.{ap, ◌∙◌, sym, arith, ◌<◌}
-use Rattle.tbnode.specs.Form.{leg_count, is_leg_at, feature_of}
+use Rattle.std.proofs.Common.{ap, ◌∙◌, arith, ◌<◌}
+use Rattle.tbnode.specs.Form.{leg_count, is_leg_at}
 use Rattle.tbnode.specs.Layout.{leg_of, is_leg}
 use Rattle.tbnode.specs.Parts.{slot}
 use Rattle.tbnode.proofs.FormLemmas.{leaf_form, legs_counted, leg_shown, leg_lawful}
