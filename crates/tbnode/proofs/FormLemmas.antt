@@ -1,0 +1,175 @@
+-- What the form of a leaf and of an inner page says.
+use Rattle.std.proofs.Common.{◌≡◌, ◌≢◌, ℕ, ◌-◌, ◌<◌, ◌≤◌, ◌==◌, true, false, ◌&&◌, ◌||◌, if◌then◌else◌, List, length, Some, None, slice_get, refl, sym, ap, ◌∙◌, nat_le, nat_lt}
+use Rattle.std.proofs.lemmas.Bool.{leb-true, eqb-true, le-leb, eq-eqb}
+use Rattle.legs.specs.Legs.{LegView}
+use Rattle.legs.specs.Boxes.{BoxView}
+use Rattle.pages.specs.declared.payload.Kind.{Kind}
+use Rattle.pages.specs.declared.payload.Kind.TheVariants.{Header, Leaf, Inner, Catalogue}
+use Rattle.pages.specs.declared.payload.Payload.{Payload}
+use Rattle.tbnode.specs.Nodes.{LeafView, EntryView, InnerView, Node, ALeaf, AnInner, as_leaf, as_inner}
+use Rattle.tbnode.specs.Parts.{number_at, slot, all_below}
+use Rattle.tbnode.specs.Layout.{is_leg}
+use Rattle.tbnode.specs.Form.{leg_count, leg_at, leaf_of, is_leg_at, is_leaf, level_of, entry_count, entry_at, inner_of, is_entry_at, is_inner, node_by, node_of}
+use Rattle.tbnode.proofs.ListLemmas.{and_left, and_right, and_both, length-made, get-made}
+
+pub record LeafForm (bytes : List ℕ) : Type 0 where
+  pub some : 1 ≤ leg_count bytes
+  pub room : leg_count bytes ≤ 50
+  pub zero : number_at 2 14 bytes ≡ 0
+  pub legs : all_below (is_leg_at bytes) (leg_count bytes) ≡ true
+
+pub leaf_form : (bytes : List ℕ) → is_leaf bytes ≡ true → LeafForm bytes
+unfolding is_leaf
+leaf_form bytes e =
+    let n = leg_count bytes in
+    let a = nat_le 1 n in
+    let b = nat_le n 50 in
+    let z = number_at 2 14 bytes == 0 in
+    let l = all_below (is_leg_at bytes) n in
+    let abz = and_left ((a && b) && z) l e in
+    let ab = and_left (a && b) z abz in
+    record {
+      some = leb-true 1 n (and_left a b ab);
+      room = leb-true n 50 (and_right a b ab);
+      zero = eqb-true (number_at 2 14 bytes) 0 (and_right (a && b) z abz);
+      legs = and_right ((a && b) && z) l e;
+    }
+
+pub is_leaf-form : (bytes : List ℕ) → LeafForm bytes → is_leaf bytes ≡ true
+unfolding is_leaf
+is_leaf-form bytes f =
+    let n = leg_count bytes in
+    let a = nat_le 1 n in
+    let b = nat_le n 50 in
+    let z = number_at 2 14 bytes == 0 in
+    let l = all_below (is_leg_at bytes) n in
+    and_both ((a && b) && z) l
+    (and_both (a && b) z (and_both a b (le-leb 1 n f.some) (le-leb n 50 f.room)) (eq-eqb (number_at 2 14 bytes) 0 f.zero))
+    f.legs
+
+pub record InnerForm (bytes : List ℕ) : Type 0 where
+  pub above : 1 ≤ level_of bytes
+  pub some : 1 ≤ entry_count bytes
+  pub room : entry_count bytes ≤ 72
+  pub zeros : number_at 8 4 bytes ≡ 0
+  pub zero : number_at 4 12 bytes ≡ 0
+  pub entries : all_below (is_entry_at bytes) (entry_count bytes) ≡ true
+
+pub inner_form : (bytes : List ℕ) → is_inner bytes ≡ true → InnerForm bytes
+unfolding is_inner
+inner_form bytes e =
+    let n = entry_count bytes in
+    let v = nat_le 1 (level_of bytes) in
+    let a = nat_le 1 n in
+    let b = nat_le n 72 in
+    let y = number_at 8 4 bytes == 0 in
+    let z = number_at 4 12 bytes == 0 in
+    let l = all_below (is_entry_at bytes) n in
+    let vabz = and_left (((v && a) && b) && (y && z)) l e in
+    let vab = and_left ((v && a) && b) (y && z) vabz in
+    let yz = and_right ((v && a) && b) (y && z) vabz in
+    let va = and_left (v && a) b vab in
+    record {
+      above = leb-true 1 (level_of bytes) (and_left v a va);
+      some = leb-true 1 n (and_right v a va);
+      room = leb-true n 72 (and_right (v && a) b vab);
+      zeros = eqb-true (number_at 8 4 bytes) 0 (and_left y z yz);
+      zero = eqb-true (number_at 4 12 bytes) 0 (and_right y z yz);
+      entries = and_right (((v && a) && b) && (y && z)) l e;
+    }
+
+pub is_inner-form : (bytes : List ℕ) → InnerForm bytes → is_inner bytes ≡ true
+unfolding is_inner
+is_inner-form bytes f =
+    let n = entry_count bytes in
+    let v = nat_le 1 (level_of bytes) in
+    let a = nat_le 1 n in
+    let b = nat_le n 72 in
+    let y = number_at 8 4 bytes == 0 in
+    let z = number_at 4 12 bytes == 0 in
+    let l = all_below (is_entry_at bytes) n in
+    and_both (((v && a) && b) && (y && z)) l
+    (and_both ((v && a) && b) (y && z)
+    (and_both (v && a) b (and_both v a (le-leb 1 (level_of bytes) f.above) (le-leb 1 n f.some)) (le-leb n 72 f.room))
+    (and_both y z (eq-eqb (number_at 8 4 bytes) 0 f.zeros) (eq-eqb (number_at 4 12 bytes) 0 f.zero)))
+    f.entries
+
+pub leg_lawful : (bytes : List ℕ) (i : ℕ) → is_leg_at bytes i ≡ true → is_leg (slot 80 i bytes) ≡ true
+unfolding is_leg_at
+leg_lawful bytes i e = and_left (is_leg (slot 80 i bytes)) ((i == 0) || nat_lt (leg_at bytes (i - 1)).ordinal (leg_at bytes i).ordinal) e
+
+pub length-legs : (bytes : List ℕ) → length (leaf_of bytes).legs ≡ leg_count bytes
+unfolding leaf_of
+length-legs bytes = length-made (leg_at bytes) (leg_count bytes)
+
+pub length-entries : (bytes : List ℕ) → length (inner_of bytes).entries ≡ entry_count bytes
+unfolding inner_of
+length-entries bytes = length-made (entry_at bytes) (entry_count bytes)
+
+pub legs_counted : (bytes : List ℕ) (v : LeafView LegView) → leaf_of bytes ≡ v → length v.legs ≡ leg_count bytes
+legs_counted bytes v e = ap (λ w. length w.legs) (sym e) ∙ length-legs bytes
+
+pub entries_counted : (bytes : List ℕ) (v : InnerView BoxView) → inner_of bytes ≡ v → length v.entries ≡ entry_count bytes
+entries_counted bytes v e = ap (λ w. length w.entries) (sym e) ∙ length-entries bytes
+
+pub leg_shown : (bytes : List ℕ) (v : LeafView LegView) (i : ℕ) (l : LegView) → leaf_of bytes ≡ v → i < length v.legs → l ≡ leg_at bytes i → slice_get v.legs i ≡ Some l
+unfolding leaf_of
+leg_shown bytes v i l e h is = get-made (leg_at bytes) (leg_count bytes) i l v.legs (ap (λ w. w.legs) e) h is
+
+pub entry_shown : (bytes : List ℕ) (v : InnerView BoxView) (i : ℕ) (x : EntryView BoxView) → inner_of bytes ≡ v → i < length v.entries → x ≡ entry_at bytes i → slice_get v.entries i ≡ Some x
+unfolding inner_of
+entry_shown bytes v i x e h is = get-made (entry_at bytes) (entry_count bytes) i x v.entries (ap (λ w. w.entries) e) h is
+
+pub node_of-leaf : (p : Payload) → p.kind ≡ Leaf → is_leaf p.bytes ≡ true → node_of p ≡ Some (ALeaf (leaf_of p.bytes))
+unfolding node_of
+node_of-leaf p k e =
+    let n : Node LegView BoxView = ALeaf (leaf_of p.bytes) in
+    ap (λ j. node_by j p.bytes) k ∙ ap (λ b. if b then Some n else None) e
+
+pub node_of-inner : (p : Payload) → p.kind ≡ Inner → is_inner p.bytes ≡ true → node_of p ≡ Some (AnInner (inner_of p.bytes))
+unfolding node_of
+node_of-inner p k e =
+    let n : Node LegView BoxView = AnInner (inner_of p.bytes) in
+    ap (λ j. node_by j p.bytes) k ∙ ap (λ b. if b then Some n else None) e
+
+pub leaf-some : (p : Payload) (v : LeafView LegView) → p.kind ≡ Leaf → is_leaf p.bytes ≡ true → v ≡ leaf_of p.bytes → Some v ≡ as_leaf (node_of p)
+leaf-some p v k e is = ap Some is ∙ ap as_leaf (sym (node_of-leaf p k e))
+
+pub leaf-none : (p : Payload) → p.kind ≡ Leaf → is_leaf p.bytes ≡ false → None ≡ as_leaf (node_of p)
+unfolding node_of
+leaf-none p k e =
+    let n : Node LegView BoxView = ALeaf (leaf_of p.bytes) in
+    sym (ap (λ j. as_leaf (node_by j p.bytes)) k ∙ ap (λ b. as_leaf (if b then Some n else None)) e)
+
+no_leaf_by : (k : Kind) (bytes : List ℕ) → k ≢ Leaf → None ≡ as_leaf (node_by k bytes)
+no_leaf_by Header bytes h = refl
+no_leaf_by Leaf bytes h = absurd (h refl)
+no_leaf_by Inner bytes h =
+    let n : Node LegView BoxView = AnInner (inner_of bytes) in
+    elim (is_inner bytes) as (λ b. None ≡ as_leaf (if b then Some n else None)) [ true ↦ refl | false ↦ refl ]
+no_leaf_by Catalogue bytes h = refl
+
+pub leaf-other : (p : Payload) → p.kind ≢ Leaf → None ≡ as_leaf (node_of p)
+unfolding node_of
+leaf-other p h = no_leaf_by p.kind p.bytes h
+
+pub inner-some : (p : Payload) (v : InnerView BoxView) → p.kind ≡ Inner → is_inner p.bytes ≡ true → v ≡ inner_of p.bytes → Some v ≡ as_inner (node_of p)
+inner-some p v k e is = ap Some is ∙ ap as_inner (sym (node_of-inner p k e))
+
+pub inner-none : (p : Payload) → p.kind ≡ Inner → is_inner p.bytes ≡ false → None ≡ as_inner (node_of p)
+unfolding node_of
+inner-none p k e =
+    let n : Node LegView BoxView = AnInner (inner_of p.bytes) in
+    sym (ap (λ j. as_inner (node_by j p.bytes)) k ∙ ap (λ b. as_inner (if b then Some n else None)) e)
+
+no_inner_by : (k : Kind) (bytes : List ℕ) → k ≢ Inner → None ≡ as_inner (node_by k bytes)
+no_inner_by Header bytes h = refl
+no_inner_by Leaf bytes h =
+    let n : Node LegView BoxView = ALeaf (leaf_of bytes) in
+    elim (is_leaf bytes) as (λ b. None ≡ as_inner (if b then Some n else None)) [ true ↦ refl | false ↦ refl ]
+no_inner_by Inner bytes h = absurd (h refl)
+no_inner_by Catalogue bytes h = refl
+
+pub inner-other : (p : Payload) → p.kind ≢ Inner → None ≡ as_inner (node_of p)
+unfolding node_of
+inner-other p h = no_inner_by p.kind p.bytes h

@@ -1,0 +1,212 @@
+-- The bytes of a leg and of an entry read back.
+use Rattle.std.proofs.Common.{◌≡◌, ℤ, ◌^◌, ◌<◌, ◌==◌, Bool, true, ◌&&◌, [], ◌++◌, length, refl, ap, ◌∙◌, arith, unsigned_abs, Some}
+use Rattle.std.specs.Prelude.{◌<ℤ◌, ◌≤ℤ◌, int_le, int_lt, if◌then◌else◌, Option, None}
+use Rattle.std.specs.Option.{is_some}
+use Rattle.std.specs.Int.{w64, cast_unsigned, cast_signed}
+use Rattle.std.specs.Int.RustNames.{FitsSigned}
+use Rattle.std.proofs.lemmas.Int.{ints, to_z-of_z, fits_signed_from_abs}
+use Rattle.std.proofs.lemmas.Bool.{le-leb}
+use Rattle.std.proofs.Math.Facts.{Fits-of_z}
+use Rattle.byteorder.specs.Endian.{big_bytes, big_number}
+use Rattle.byteorder.specs.Numbers.{big_number-reads_back}
+use Rattle.fixedpoint.specs.Number.{IsInRange, units_within, most}
+use Rattle.timebase.specs.Instant.{IsMoment, some_moment, is_moment, first_moment, last_moment}
+use Rattle.legs.specs.Legs.{LegView, IsLeg}
+use Rattle.legs.specs.Boxes.{BoxView, IsBox}
+use Rattle.tbnode.specs.Nodes.{EntryView}
+use Rattle.tbnode.specs.Parts.{part, number_at, signed_at}
+use Rattle.tbnode.specs.Layout.{leg_bytes, leg_of, is_leg, has_moments, has_start, has_end, entry_bytes, entry_of, bounds_of, is_entry, is_box}
+use Rattle.tbnode.specs.Steps.{LegReadsBack, EntryReadsBack}
+use Rattle.tbnode.proofs.ListLemmas.{and_both}
+
+-- a signed number is read back
+read_back : (z : ℤ) → FitsSigned w64 z → cast_signed w64 (big_number 8 (big_bytes 8 (cast_unsigned w64 z) ++ [])) ≡ z
+read_back z f =
+    let below : cast_unsigned w64 z < 256 ^ 8 = omega (arith, Fits-of_z f) in
+    ap (cast_signed w64) (big_number-reads_back 8 (cast_unsigned w64 z) [] below) ∙ to_z-of_z w64 z f
+
+coord_fits : (z : ℤ) → IsInRange z → FitsSigned w64 z
+coord_fits z h = fits_signed_from_abs w64 z (omega (arith, h))
+
+moment_small : (z : ℤ) → IsMoment z → unsigned_abs z < 2 ^ 63
+moment_small z h = grind (arith, ints, h.0, h.1)
+
+moment_fits : (z : ℤ) → IsMoment z → FitsSigned w64 z
+moment_fits z h = fits_signed_from_abs w64 z (moment_small z h)
+
+le_to : (x y : ℤ) → x ≤ℤ y → int_le x y ≡ true
+le_to x y h = grind (arith, ints)
+
+lt_to : (x y : ℤ) → x <ℤ y → int_lt x y ≡ true
+lt_to x y h = grind (arith, ints)
+
+moment_some : (z : ℤ) → IsMoment z → is_some (some_moment z) ≡ true
+moment_some z h =
+    let e : is_moment z ≡ true = and_both (int_le first_moment z) (int_le z last_moment) (le_to first_moment z h.0) (le_to z last_moment h.1) in
+    let o : Bool → Option ℤ = λ b. if b then Some z else None in
+    ap (λ b. is_some (o b)) e
+
+coord_some : (z : ℤ) → IsInRange z → is_some (units_within z) ≡ true
+coord_some z h =
+    let o : Bool → Option ℤ = λ b. if b then Some z else None in
+    ap (λ b. is_some (o b)) (le-leb (unsigned_abs z) most h)
+
+module _ (l : LegView) where
+  ordinal_of : l.ordinal < 2 ^ 64 → number_at 8 0 (leg_bytes l) ≡ l.ordinal
+  unfolding leg_bytes number_at part
+  ordinal_of h = big_number-reads_back 8 l.ordinal [] h
+
+  t0_of : FitsSigned w64 l.t0 → signed_at 8 (leg_bytes l) ≡ l.t0
+  unfolding leg_bytes signed_at number_at part
+  t0_of f = read_back l.t0 f
+
+  t1_of : FitsSigned w64 l.t1 → signed_at 16 (leg_bytes l) ≡ l.t1
+  unfolding leg_bytes signed_at number_at part
+  t1_of f = read_back l.t1 f
+
+  x0_of : FitsSigned w64 l.x0 → signed_at 24 (leg_bytes l) ≡ l.x0
+  unfolding leg_bytes signed_at number_at part
+  x0_of f = read_back l.x0 f
+
+  y0_of : FitsSigned w64 l.y0 → signed_at 32 (leg_bytes l) ≡ l.y0
+  unfolding leg_bytes signed_at number_at part
+  y0_of f = read_back l.y0 f
+
+  z0_of : FitsSigned w64 l.z0 → signed_at 40 (leg_bytes l) ≡ l.z0
+  unfolding leg_bytes signed_at number_at part
+  z0_of f = read_back l.z0 f
+
+  x1_of : FitsSigned w64 l.x1 → signed_at 48 (leg_bytes l) ≡ l.x1
+  unfolding leg_bytes signed_at number_at part
+  x1_of f = read_back l.x1 f
+
+  y1_of : FitsSigned w64 l.y1 → signed_at 56 (leg_bytes l) ≡ l.y1
+  unfolding leg_bytes signed_at number_at part
+  y1_of f = read_back l.y1 f
+
+  z1_of : FitsSigned w64 l.z1 → signed_at 64 (leg_bytes l) ≡ l.z1
+  unfolding leg_bytes signed_at number_at part
+  z1_of f = read_back l.z1 f
+
+  row_of : l.row < 2 ^ 32 → number_at 4 72 (leg_bytes l) ≡ l.row
+  unfolding leg_bytes number_at part
+  row_of h = big_number-reads_back 4 l.row [] h
+
+  zero_of : number_at 4 76 (leg_bytes l) ≡ 0
+  unfolding leg_bytes number_at part
+  zero_of = refl
+
+  pub length-leg_bytes : length (leg_bytes l) ≡ 80
+  unfolding leg_bytes
+  length-leg_bytes = refl
+
+  leg_same : l.ordinal < 2 ^ 64 → l.row < 2 ^ 32 → IsLeg l → leg_of l.feature (leg_bytes l) ≡ l
+  unfolding leg_of
+  leg_same o r k = λ i. record {
+    ordinal = ordinal_of o i;
+    feature = l.feature;
+    t0 = t0_of (moment_fits l.t0 k.t0) i;
+    t1 = t1_of (moment_fits l.t1 k.t1) i;
+    x0 = x0_of (coord_fits l.x0 k.x0) i;
+    y0 = y0_of (coord_fits l.y0 k.y0) i;
+    z0 = z0_of (coord_fits l.z0 k.z0) i;
+    x1 = x1_of (coord_fits l.x1 k.x1) i;
+    y1 = y1_of (coord_fits l.y1 k.y1) i;
+    z1 = z1_of (coord_fits l.z1 k.z1) i;
+    row = row_of r i;
+  }
+
+  moments_laid : IsLeg l → has_moments (leg_of 0 (leg_bytes l)) ≡ true
+  unfolding has_moments leg_of
+  moments_laid k =
+      let a = t0_of (moment_fits l.t0 k.t0) in
+      let b = t1_of (moment_fits l.t1 k.t1) in
+      (λ i. int_lt (a i) (b i) && is_some (some_moment (a i)) && is_some (some_moment (b i)))
+      ∙ and_both (int_lt l.t0 l.t1 && is_some (some_moment l.t0)) (is_some (some_moment l.t1))
+      (and_both (int_lt l.t0 l.t1) (is_some (some_moment l.t0)) (lt_to l.t0 l.t1 k.rises) (moment_some l.t0 k.t0)) (moment_some l.t1 k.t1)
+
+  start_laid : IsLeg l → has_start (leg_of 0 (leg_bytes l)) ≡ true
+  unfolding has_start leg_of
+  start_laid k =
+      let a = x0_of (coord_fits l.x0 k.x0) in
+      let b = y0_of (coord_fits l.y0 k.y0) in
+      let c = z0_of (coord_fits l.z0 k.z0) in
+      and_both (is_some (units_within (signed_at 24 (leg_bytes l))) && is_some (units_within (signed_at 32 (leg_bytes l)))) (is_some (units_within (signed_at 40 (leg_bytes l))))
+      (and_both (is_some (units_within (signed_at 24 (leg_bytes l)))) (is_some (units_within (signed_at 32 (leg_bytes l))))
+      (ap (λ z. is_some (units_within z)) a ∙ coord_some l.x0 k.x0) (ap (λ z. is_some (units_within z)) b ∙ coord_some l.y0 k.y0))
+      (ap (λ z. is_some (units_within z)) c ∙ coord_some l.z0 k.z0)
+
+  end_laid : IsLeg l → has_end (leg_of 0 (leg_bytes l)) ≡ true
+  unfolding has_end leg_of
+  end_laid k =
+      let a = x1_of (coord_fits l.x1 k.x1) in
+      let b = y1_of (coord_fits l.y1 k.y1) in
+      let c = z1_of (coord_fits l.z1 k.z1) in
+      and_both (is_some (units_within (signed_at 48 (leg_bytes l))) && is_some (units_within (signed_at 56 (leg_bytes l)))) (is_some (units_within (signed_at 64 (leg_bytes l))))
+      (and_both (is_some (units_within (signed_at 48 (leg_bytes l)))) (is_some (units_within (signed_at 56 (leg_bytes l))))
+      (ap (λ z. is_some (units_within z)) a ∙ coord_some l.x1 k.x1) (ap (λ z. is_some (units_within z)) b ∙ coord_some l.y1 k.y1))
+      (ap (λ z. is_some (units_within z)) c ∙ coord_some l.z1 k.z1)
+
+  leg_lawful : IsLeg l → is_leg (leg_bytes l) ≡ true
+  unfolding is_leg
+  leg_lawful k =
+      let v = leg_of 0 (leg_bytes l) in
+      and_both ((has_moments v && has_start v) && has_end v) (number_at 4 76 (leg_bytes l) == 0)
+      (and_both (has_moments v && has_start v) (has_end v) (and_both (has_moments v) (has_start v) (moments_laid k) (start_laid k)) (end_laid k))
+      (ap (λ n. n == 0) zero_of)
+
+  pub leg_reads_back : l.ordinal < 2 ^ 64 → l.row < 2 ^ 32 → IsLeg l → LegReadsBack l
+  leg_reads_back o r k = record { lawful = leg_lawful k; same = leg_same o r k }
+
+-- each bound fits its bytes
+pub record BoundsFit (b : BoxView) : Type 0 where
+  pub x_min : FitsSigned w64 b.x_min
+  pub y_min : FitsSigned w64 b.y_min
+  pub t_min : FitsSigned w64 b.t_min
+  pub x_max : FitsSigned w64 b.x_max
+  pub y_max : FitsSigned w64 b.y_max
+  pub t_max : FitsSigned w64 b.t_max
+
+module _ (e : EntryView BoxView) where
+  child_of : e.child < 2 ^ 32 → number_at 4 0 (entry_bytes e) ≡ e.child
+  unfolding entry_bytes number_at part
+  child_of h = big_number-reads_back 4 e.child [] h
+
+  gap_of : number_at 4 4 (entry_bytes e) ≡ 0
+  unfolding entry_bytes number_at part
+  gap_of = refl
+
+  pub length-entry_bytes : length (entry_bytes e) ≡ 56
+  unfolding entry_bytes
+  length-entry_bytes = refl
+
+  bounds_same : BoundsFit e.bounds → bounds_of (entry_bytes e) ≡ e.bounds
+  unfolding bounds_of entry_bytes signed_at number_at part
+  bounds_same f = λ i. record {
+    x_min = read_back e.bounds.x_min f.x_min i;
+    y_min = read_back e.bounds.y_min f.y_min i;
+    t_min = read_back e.bounds.t_min f.t_min i;
+    x_max = read_back e.bounds.x_max f.x_max i;
+    y_max = read_back e.bounds.y_max f.y_max i;
+    t_max = read_back e.bounds.t_max f.t_max i;
+  }
+
+  entry_same : e.child < 2 ^ 32 → BoundsFit e.bounds → entry_of (entry_bytes e) ≡ e
+  entry_same h f =
+      let c = child_of h in
+      let b = bounds_same f in
+      λ i. record { child = c i; bounds = b i }
+
+  entry_lawful : IsBox e.bounds → BoundsFit e.bounds → is_entry (entry_bytes e) ≡ true
+  unfolding is_entry
+  entry_lawful k f =
+      let v = e.bounds in
+      and_both (is_box (bounds_of (entry_bytes e))) (number_at 4 4 (entry_bytes e) == 0)
+      (ap (λ b. is_box b) (bounds_same f)
+      ∙ and_both (int_le v.x_min v.x_max && int_le v.y_min v.y_max) (int_le v.t_min v.t_max)
+      (and_both (int_le v.x_min v.x_max) (int_le v.y_min v.y_max) (le_to v.x_min v.x_max k.x) (le_to v.y_min v.y_max k.y))
+      (le_to v.t_min v.t_max k.t))
+      (ap (λ n. n == 0) gap_of)
+
+  pub entry_reads_back : e.child < 2 ^ 32 → BoundsFit e.bounds → IsBox e.bounds → EntryReadsBack e
+  entry_reads_back h f k = record { lawful = entry_lawful k f; same = entry_same h f }

@@ -1,0 +1,19 @@
+use Rattle.std.proofs.Common.{arith}
+use Rattle.tbnode.specs.Form.{leaf_of}
+use Rattle.tbnode.proofs.FormLemmas.{length-legs}
+use Rattle.tbnode.proofs.LeafLemmas.{leaf_held, leaf_is, leg_pushed}
+use Rattle.tbnode.proofs.edit.push_leg.Goals as goal
+
+pub append_leg-requires-clause-room : goal.append_leg-requires-clause-room
+append_leg-requires-clause-room c =
+    let p = c.args.payload.now in
+    let h = leaf_held p c.requires.leaf in
+    let t = c.requires.takes (leaf_of p.bytes) (leaf_is p h) in
+    omega (arith, t.room, length-legs p.bytes)
+
+pub returns : goal.returns
+returns c =
+    let p = c.args.payload.now in
+    let h = leaf_held p c.requires.leaf in
+    let t = c.requires.takes (leaf_of p.bytes) (leaf_is p h) in
+    leg_pushed p c.args.leg.now _ c.append_leg.ensures.pushed (omega arith) h c.append_leg.ensures.reads_back t

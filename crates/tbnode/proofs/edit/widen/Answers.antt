@@ -1,0 +1,63 @@
+use Rattle.std.proofs.Common.{ap, ◌∙◌, ◌≡◌, arith, length, ◌<◌, ◌+◌, ◌*◌}
+use Rattle.legs.specs.Boxes.{BoxView, cover_of}
+use Rattle.tbnode.specs.Nodes.{EntryView}
+use Rattle.tbnode.specs.Parts.{put}
+use Rattle.tbnode.specs.Form.{inner_of, entry_count, entry_at, is_entry_at}
+use Rattle.tbnode.specs.Layout.{is_entry, entry_of}
+use Rattle.tbnode.proofs.ListLemmas.{all_below-at}
+use Rattle.tbnode.proofs.LegLemmas.{length-entry_bytes}
+use Rattle.tbnode.proofs.FormLemmas.{inner_form, length-entries}
+use Rattle.tbnode.proofs.InnerLemmas.{inner_held, inner_is, entry_widened}
+use Rattle.tbnode.proofs.edit.widen.Goals as goal
+
+pub overflow_mul-place : goal.overflow_mul-place
+overflow_mul-place c =
+    let p = c.args.payload.now in
+    let h = inner_held p c.requires.inner in
+    let f = inner_form p.bytes h.form in
+    omega (arith, f.room, length-entries p.bytes, c.requires.within (inner_of p.bytes) (inner_is p h))
+
+pub overflow_add-place : goal.overflow_add-place
+overflow_add-place c =
+    let p = c.args.payload.now in
+    let h = inner_held p c.requires.inner in
+    let f = inner_form p.bytes h.form in
+    omega (arith, f.room, length-entries p.bytes, c.requires.within (inner_of p.bytes) (inner_is p h))
+
+pub part-requires : goal.part-requires
+part-requires c =
+    let p = c.args.payload.now in
+    let h = inner_held p c.requires.inner in
+    let f = inner_form p.bytes h.form in
+    omega (arith, f.room, length-entries p.bytes, c.requires.within (inner_of p.bytes) (inner_is p h))
+
+pub entry_in-entry-requires-clause-lawful : goal.entry_in-entry-requires-clause-lawful
+entry_in-entry-requires-clause-lawful c =
+    let p = c.args.payload.now in
+    let h = inner_held p c.requires.inner in
+    let f = inner_form p.bytes h.form in
+    let below : c.args.i < entry_count p.bytes = omega (arith, length-entries p.bytes, c.requires.within (inner_of p.bytes) (inner_is p h)) in
+    ap is_entry c.part.ensures.value ∙ all_below-at (is_entry_at p.bytes) (entry_count p.bytes) c.args.i f.entries below
+
+pub put-requires : goal.put-requires
+put-requires c =
+    let p = c.args.payload.now in
+    let h = inner_held p c.requires.inner in
+    let f = inner_form p.bytes h.form in
+    let n = ap length c.bytes_of.ensures.value in
+    omega (arith, f.room, n, length-entries p.bytes, length-entry_bytes (record { child = c.entry.inside.child; bounds = c.cover-entry-inside.result }), c.requires.within (inner_of p.bytes) (inner_is p h))
+
+pub returns : goal.returns
+returns c =
+    let p = c.args.payload.now in
+    let box = c.args.bounds.now in
+    let h = inner_held p c.requires.inner in
+    let within = c.requires.within (inner_of p.bytes) (inner_is p h) in
+    let x : EntryView BoxView = record { child = c.entry.inside.child; bounds = c.cover-entry-inside.result } in
+    let was = c.entry.view_is ∙ c.entry_in-entry.ensures ∙ ap entry_of c.part.ensures.value in
+    let child = ap (λ e. e.child) was in
+    let bounds = c.cover-entry-inside.ensures.value ∙ ap (λ e. cover_of e.bounds box) was in
+    let is : x ≡ record (entry_at p.bytes c.args.i) { bounds = cover_of (entry_at p.bytes c.args.i).bounds box } =
+    λ j. record { child = child j; bounds = bounds j } in
+    let e = c.put.ensures ∙ ap (λ xs. put (16 + 56 * c.args.i) xs p.bytes) c.bytes_of.ensures.value in
+    entry_widened p c.args.i x box c.put.new.bytes e (omega arith) h c.bytes_of.ensures.reads_back within is

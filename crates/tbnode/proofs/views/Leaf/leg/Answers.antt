@@ -1,0 +1,38 @@
+use Rattle.std.proofs.Common.{ap, ◌∙◌, arith, ◌<◌}
+use Rattle.tbnode.specs.Form.{leg_count, is_leg_at}
+use Rattle.tbnode.specs.Layout.{leg_of, is_leg}
+use Rattle.tbnode.specs.Parts.{slot}
+use Rattle.tbnode.proofs.FormLemmas.{leaf_form, legs_counted, leg_shown, leg_lawful}
+use Rattle.tbnode.proofs.ListLemmas.{all_below-at}
+use Rattle.tbnode.proofs.views.Leaf.leg.Goals as goal
+
+pub overflow_mul-i : goal.overflow_mul-i
+overflow_mul-i c =
+    let bytes = c.self.inside.payload.now.bytes in
+    let f = leaf_form bytes c.self.invariant in
+    omega (arith, f.room, c.requires, legs_counted bytes _ c.self.view_is)
+
+pub overflow_add-i : goal.overflow_add-i
+overflow_add-i c =
+    let bytes = c.self.inside.payload.now.bytes in
+    let f = leaf_form bytes c.self.invariant in
+    omega (arith, f.room, c.requires, legs_counted bytes _ c.self.view_is)
+
+pub part-requires : goal.part-requires
+part-requires c =
+    let bytes = c.self.inside.payload.now.bytes in
+    let f = leaf_form bytes c.self.invariant in
+    omega (arith, f.room, c.requires, legs_counted bytes _ c.self.view_is)
+
+pub leg_in-requires-clause-lawful : goal.leg_in-requires-clause-lawful
+leg_in-requires-clause-lawful c =
+    let bytes = c.self.inside.payload.now.bytes in
+    let f = leaf_form bytes c.self.invariant in
+    let h : c.args.i < leg_count bytes = omega (arith, c.requires, legs_counted bytes _ c.self.view_is) in
+    ap is_leg c.part.ensures.value ∙ leg_lawful bytes c.args.i (all_below-at (is_leg_at bytes) (leg_count bytes) c.args.i f.legs h)
+
+pub returns : goal.returns
+returns c =
+    let bytes = c.self.inside.payload.now.bytes in
+    leg_shown bytes _ c.args.i _ c.self.view_is c.requires
+    (c.leg_in.ensures ∙ ap (λ xs. leg_of c.u32_at.result xs) c.part.ensures.value ∙ ap (λ n. leg_of n (slot 80 c.args.i bytes)) c.u32_at.ensures)

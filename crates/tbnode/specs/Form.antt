@@ -1,0 +1,78 @@
+-- The node that a payload says.
+use Rattle.std.specs.Prelude.{ℕ, ◌-◌, ◌==◌, nat_lt, nat_le, Bool, ◌&&◌, ◌||◌, if◌then◌else◌, List, map, Option, Some, None}
+use Rattle.std.specs.List.{range_with_len}
+use Rattle.legs.specs.Legs.{LegView}
+use Rattle.legs.specs.Boxes.{BoxView}
+use Rattle.pages.specs.declared.payload.Kind.{Kind}
+use Rattle.pages.specs.declared.payload.Kind.TheVariants.{Header, Leaf, Inner, Catalogue}
+use Rattle.pages.specs.declared.payload.Payload.{Payload}
+use Rattle.tbnode.specs.Nodes.{LeafView, EntryView, InnerView, Node, ALeaf, AnInner}
+use Rattle.tbnode.specs.Parts.{number_at, slot, all_below}
+use Rattle.tbnode.specs.Layout.{leg_of, is_leg, entry_of, is_entry}
+
+-- the numbers of a leaf's head
+abbrev pub feature_of : List ℕ → ℕ
+feature_of bytes = number_at 4 0 bytes
+
+abbrev pub leg_count : List ℕ → ℕ
+leg_count bytes = number_at 2 12 bytes
+
+-- leg i of a leaf
+abbrev pub leg_at : List ℕ → ℕ → LegView
+leg_at bytes i = leg_of (feature_of bytes) (slot 80 i bytes)
+
+-- what a leaf's bytes say
+unfoldable pub leaf_of : List ℕ → LeafView LegView
+leaf_of bytes = record {
+  feature = feature_of bytes;
+  previous = number_at 4 4 bytes;
+  next = number_at 4 8 bytes;
+  legs = map (leg_at bytes) (range_with_len 0 (leg_count bytes));
+}
+
+-- leg i is lawful, and its ordinal is above that of the leg before it
+unfoldable pub is_leg_at : List ℕ → ℕ → Bool
+is_leg_at bytes i =
+    is_leg (slot 80 i bytes) && ((i == 0) || nat_lt (leg_at bytes (i - 1)).ordinal (leg_at bytes i).ordinal)
+
+-- the form of a leaf: 1 to 50 legs, lawful, their ordinals rising
+unfoldable pub is_leaf : List ℕ → Bool
+is_leaf bytes =
+    nat_le 1 (leg_count bytes) && nat_le (leg_count bytes) 50 && (number_at 2 14 bytes == 0)
+    && all_below (is_leg_at bytes) (leg_count bytes)
+
+-- the numbers of an inner page's head
+abbrev pub level_of : List ℕ → ℕ
+level_of bytes = number_at 2 0 bytes
+
+abbrev pub entry_count : List ℕ → ℕ
+entry_count bytes = number_at 2 2 bytes
+
+-- entry i of an inner page
+abbrev pub entry_at : List ℕ → ℕ → EntryView BoxView
+entry_at bytes i = entry_of (slot 56 i bytes)
+
+-- what an inner page's bytes say
+unfoldable pub inner_of : List ℕ → InnerView BoxView
+inner_of bytes = record { level = level_of bytes; entries = map (entry_at bytes) (range_with_len 0 (entry_count bytes)) }
+
+abbrev pub is_entry_at : List ℕ → ℕ → Bool
+is_entry_at bytes i = is_entry (slot 56 i bytes)
+
+-- the form of an inner page: a level from 1 on, 1 to 72 entries, their bounds in order
+unfoldable pub is_inner : List ℕ → Bool
+is_inner bytes =
+    nat_le 1 (level_of bytes) && nat_le 1 (entry_count bytes) && nat_le (entry_count bytes) 72
+    && ((number_at 8 4 bytes == 0) && (number_at 4 12 bytes == 0))
+    && all_below (is_entry_at bytes) (entry_count bytes)
+
+-- the node that bytes of a kind say
+abbrev pub node_by : Kind → List ℕ → Option (Node LegView BoxView)
+node_by Header bytes = None
+node_by Leaf bytes = if is_leaf bytes then Some (ALeaf (leaf_of bytes)) else None
+node_by Inner bytes = if is_inner bytes then Some (AnInner (inner_of bytes)) else None
+node_by Catalogue bytes = None
+
+-- the node that a payload says; none where no form is met
+unfoldable pub node_of : Payload → Option (Node LegView BoxView)
+node_of payload = node_by payload.kind payload.bytes

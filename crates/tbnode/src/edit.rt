@@ -1,0 +1,107 @@
+//! Changes of payloads.
+ghost use Rattle.std.specs.Prelude.{◌≡◌, ◌<◌, ◌≤◌, length, Some, IsSome, option_map};
+ghost use Rattle.std.specs.Option.{ForSome};
+ghost use Rattle.tbnode.specs.Nodes.{as_leaf, as_inner};
+ghost use Rattle.tbnode.specs.Parts.{number_at};
+ghost use Rattle.tbnode.specs.Layout.{leg_bytes, entry_bytes};
+ghost use Rattle.tbnode.specs.Form.{node_of};
+ghost use Rattle.tbnode.specs.Edits.{TakesLeg, new_leaf, leaf_with_leg, leaf_with_next, new_inner, inner_with_entry, inner_with_wider};
+ghost use Rattle.tbnode.specs.Steps.{LegReadsBack, EntryReadsBack, pushed};
+
+use crate::entries::{Entry, entry_in};
+use crate::fields::{part, put, put_u16, put_u32, u16_at};
+use crate::{entries, laid};
+use legs::{Box3, Leg};
+use pages::{Kind, Payload};
+
+/// Writes a leg behind the legs that are there, and counts it.
+fn append_leg(bytes: &mut [u8], leg: &Leg)
+    requires len { length bytes.old ≡ 4056 }
+    requires room { number_at 2 12 bytes.old < 50 }
+    ensures pushed { bytes.new ≡ pushed 80 12 (leg_bytes leg.now) bytes.old }
+    ensures reads_back { LegReadsBack leg.now }
+{
+    let count = u16_at(bytes, 12);
+    put(bytes, 16 + 80 * usize::from(count), &laid::bytes_of(leg));
+    put_u16(bytes, 12, count + 1);
+}
+
+/// Writes an entry behind the entries that are there, and counts it.
+fn append_entry(bytes: &mut [u8], entry: &Entry)
+    requires len { length bytes.old ≡ 4056 }
+    requires room { number_at 2 2 bytes.old < 72 }
+    ensures pushed { bytes.new ≡ pushed 56 2 (entry_bytes entry.now) bytes.old }
+    ensures reads_back { EntryReadsBack entry.now }
+{
+    let count = u16_at(bytes, 2);
+    put(
+        bytes,
+        16 + 56 * usize::from(count),
+        &entries::bytes_of(entry),
+    );
+    put_u16(bytes, 2, count + 1);
+}
+
+/// Makes a payload a leaf of one leg, of the leg's feature, with no next leaf. All else that the payload held is
+/// gone.
+pub fn init_leaf(payload: &mut Payload, previous: u32, leg: &Leg)
+    ensures { node_of payload.new ≡ Some (new_leaf previous leg.now) }
+{
+    *payload = Payload::zero(Kind::Leaf);
+    put_u32(&mut payload.bytes, 0, leg.feature);
+    put_u32(&mut payload.bytes, 4, previous);
+    append_leg(&mut payload.bytes, leg);
+}
+
+/// Puts a leg at the end of a leaf that takes it: there is room for it, it is of the leaf's feature, and its ordinal
+/// is above that of the last leg. No other field changes.
+pub fn push_leg(payload: &mut Payload, leg: &Leg)
+    requires leaf { IsSome (as_leaf (node_of payload.old)) }
+    requires takes { ForSome (as_leaf (node_of payload.old)) (λ leaf. TakesLeg leaf leg.now) }
+    ensures { node_of payload.new
+        ≡ option_map (leaf_with_leg leg.now) (as_leaf (node_of payload.old)) }
+{
+    append_leg(&mut payload.bytes, leg);
+}
+
+/// Links a leaf to the next one of its feature. No other field changes.
+pub fn set_next(payload: &mut Payload, next: u32)
+    requires { IsSome (as_leaf (node_of payload.old)) }
+    ensures { node_of payload.new ≡ option_map (leaf_with_next next) (as_leaf (node_of payload.old)) }
+{
+    put_u32(&mut payload.bytes, 8, next);
+}
+
+/// Makes a payload an inner page of one entry, on a level above the leaves. All else that the payload held is gone.
+pub fn init_inner(payload: &mut Payload, level: u16, entry: &Entry)
+    requires { 1 ≤ level }
+    ensures { node_of payload.new ≡ Some (new_inner level entry.now) }
+{
+    *payload = Payload::zero(Kind::Inner);
+    put_u16(&mut payload.bytes, 0, level);
+    append_entry(&mut payload.bytes, entry);
+}
+
+/// Puts an entry at the end of an inner page that has room for it. No other field changes.
+pub fn push_entry(payload: &mut Payload, entry: &Entry)
+    requires inner { IsSome (as_inner (node_of payload.old)) }
+    requires room { ForSome (as_inner (node_of payload.old)) (λ page. length page.entries < 72) }
+    ensures { node_of payload.new
+        ≡ option_map (inner_with_entry entry.now) (as_inner (node_of payload.old)) }
+{
+    append_entry(&mut payload.bytes, entry);
+}
+
+/// Widens the bounds of entry `i` of an inner page to the least box that holds `bounds` as well. No other field
+/// changes.
+pub fn widen(payload: &mut Payload, i: usize, bounds: &Box3)
+    requires inner { IsSome (as_inner (node_of payload.old)) }
+    requires within { ForSome (as_inner (node_of payload.old)) (λ page. i < length page.entries) }
+    ensures { node_of payload.new
+        ≡ option_map (inner_with_wider i bounds.now) (as_inner (node_of payload.old)) }
+{
+    let place = 16 + 56 * i;
+    let mut entry = entry_in(part(&payload.bytes, place, 56));
+    entry.bounds = entry.bounds.cover(bounds);
+    put(&mut payload.bytes, place, &entries::bytes_of(&entry));
+}

@@ -1,0 +1,139 @@
+//! A leg in 80 bytes.
+ghost use Rattle.std.specs.Prelude.{◌≡◌, ◌&&◌, ◌+◌, ◌≤◌, length, IsTrue};
+ghost use Rattle.std.specs.Option.{is_some};
+ghost use Rattle.fixedpoint.specs.Number.{units_within};
+ghost use Rattle.timebase.specs.Instant.{some_moment};
+ghost use Rattle.tbnode.specs.Parts.{put, signed_at, signed_bytes};
+ghost use Rattle.tbnode.specs.Steps.{LegReadsBack};
+ghost use Rattle.tbnode.specs.Layout.{leg_bytes, leg_of, is_leg, has_moments, has_start, has_end};
+
+use crate::fields::{i64_at, put_i64, put_u32, put_u64, u32_at, u64_at};
+use fixedpoint::Coord;
+use legs::Leg;
+use timebase::Ms;
+
+/// Whether 80 bytes begin with an ordinal and two moments that rise.
+#[tactic(auto, unfolding(crate::specs::Layout::leg_of, crate::specs::Layout::has_moments))]
+fn has_moments(bytes: &[u8]) -> bool
+    requires { length bytes.now ≡ 80 }
+    ensures { result ≡ has_moments (leg_of 0 bytes.now) }
+{
+    let (t0, t1) = (i64_at(bytes, 8), i64_at(bytes, 16));
+    t0 < t1 && Ms::new(t0).is_some() && Ms::new(t1).is_some()
+}
+
+/// Whether a coordinate is in range.
+fn has_coord(bytes: &[u8], place: usize) -> bool
+    requires { place + 8 ≤ length bytes.now }
+    ensures { result ≡ is_some (units_within (signed_at place bytes.now)) }
+{
+    Coord::new(i64_at(bytes, place)).is_some()
+}
+
+#[tactic(auto, unfolding(crate::specs::Layout::leg_of, crate::specs::Layout::has_start))]
+fn has_start(bytes: &[u8]) -> bool
+    requires { length bytes.now ≡ 80 }
+    ensures { result ≡ has_start (leg_of 0 bytes.now) }
+{
+    has_coord(bytes, 24) && has_coord(bytes, 32) && has_coord(bytes, 40)
+}
+
+#[tactic(auto, unfolding(crate::specs::Layout::leg_of, crate::specs::Layout::has_end))]
+fn has_end(bytes: &[u8]) -> bool
+    requires { length bytes.now ≡ 80 }
+    ensures { result ≡ has_end (leg_of 0 bytes.now) }
+{
+    has_coord(bytes, 48) && has_coord(bytes, 56) && has_coord(bytes, 64)
+}
+
+/// Whether 80 bytes say a lawful leg.
+#[tactic(auto, unfolding(crate::specs::Layout::is_leg))]
+pub(crate) fn is_leg(bytes: &[u8]) -> bool
+    requires { length bytes.now ≡ 80 }
+    ensures { result ≡ is_leg bytes.now }
+{
+    has_moments(bytes) && has_start(bytes) && has_end(bytes) && u32_at(bytes, 76) == 0
+}
+
+/// The ordinal of the leg that 80 bytes say.
+#[tactic(auto, unfolding(crate::specs::Layout::leg_of))]
+pub(crate) fn ordinal_in(bytes: &[u8]) -> u64
+    requires { length bytes.now ≡ 80 }
+    ensures { result ≡ (leg_of 0 bytes.now).ordinal }
+{
+    u64_at(bytes, 0)
+}
+
+/// The coordinate at a place.
+fn coord_at(bytes: &[u8], place: usize) -> Coord
+    requires within { place + 8 ≤ length bytes.now }
+    requires lawful { IsTrue (is_some (units_within (signed_at place bytes.now))) }
+    ensures { result ≡ signed_at place bytes.now }
+{
+    Coord::new(i64_at(bytes, place)).unwrap()
+}
+
+/// The moment at a place.
+fn moment_at(bytes: &[u8], place: usize) -> Ms
+    requires within { place + 8 ≤ length bytes.now }
+    requires lawful { IsTrue (is_some (some_moment (signed_at place bytes.now))) }
+    ensures { result ≡ signed_at place bytes.now }
+{
+    Ms::new(i64_at(bytes, place)).unwrap()
+}
+
+/// The leg of a feature that 80 bytes say.
+#[tactic(auto, unfolding(crate::specs::Layout::leg_of, crate::specs::Layout::is_leg, crate::specs::Layout::has_moments, crate::specs::Layout::has_start, crate::specs::Layout::has_end))]
+pub(crate) fn leg_in(bytes: &[u8], feature: u32) -> Leg
+    requires len { length bytes.now ≡ 80 }
+    requires lawful { IsTrue (is_leg bytes.now) }
+    ensures { result ≡ leg_of feature bytes.now }
+{
+    Leg {
+        ordinal: u64_at(bytes, 0),
+        feature,
+        row: u32_at(bytes, 72),
+        t0: moment_at(bytes, 8),
+        t1: moment_at(bytes, 16),
+        x0: coord_at(bytes, 24),
+        y0: coord_at(bytes, 32),
+        z0: coord_at(bytes, 40),
+        x1: coord_at(bytes, 48),
+        y1: coord_at(bytes, 56),
+        z1: coord_at(bytes, 64),
+    }
+}
+
+fn put_moment(bytes: &mut [u8], place: usize, at: Ms)
+    requires { place + 8 ≤ length bytes.old }
+    ensures { bytes.new ≡ put place (signed_bytes at) bytes.old }
+{
+    put_i64(bytes, place, at.millis());
+}
+
+fn put_coord(bytes: &mut [u8], place: usize, coord: Coord)
+    requires { place + 8 ≤ length bytes.old }
+    ensures { bytes.new ≡ put place (signed_bytes coord) bytes.old }
+{
+    put_i64(bytes, place, coord.units());
+}
+
+/// The 80 bytes of a leg.
+pub(crate) fn bytes_of(leg: &Leg) -> [u8; 80]
+    ensures value { result ≡ leg_bytes leg.now }
+    ensures reads_back { LegReadsBack leg.now }
+{
+    let (ordinal, row) = (leg.ordinal, leg.row);
+    let mut bytes = [0; 80];
+    put_u64(&mut bytes, 0, ordinal);
+    put_moment(&mut bytes, 8, leg.t0);
+    put_moment(&mut bytes, 16, leg.t1);
+    put_coord(&mut bytes, 24, leg.x0);
+    put_coord(&mut bytes, 32, leg.y0);
+    put_coord(&mut bytes, 40, leg.z0);
+    put_coord(&mut bytes, 48, leg.x1);
+    put_coord(&mut bytes, 56, leg.y1);
+    put_coord(&mut bytes, 64, leg.z1);
+    put_u32(&mut bytes, 72, row);
+    bytes
+}

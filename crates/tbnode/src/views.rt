@@ -1,0 +1,156 @@
+//! Payloads as leaves and as inner pages.
+use crate::entries::{Entry, entry_in};
+use crate::fields::{part, u16_at, u32_at};
+use crate::laid::leg_in;
+use legs::Leg;
+use pages::Payload;
+use std::marker::Model;
+
+/// The most legs that a leaf has room for.
+pub const MOST_LEGS: usize = 50;
+
+/// The most entries that an inner page has room for.
+pub const MOST_ENTRIES: usize = 72;
+
+/// What a leaf says of itself.
+#[derive(Clone, Copy, PartialEq, Eq, Debug)]
+pub struct LeafHead {
+    /// The feature of its legs.
+    pub feature: u32,
+    /// The page of the feature's leaf before it; 0 where it is the first.
+    pub previous: u32,
+    /// The page of the feature's leaf after it; 0 where it is the last.
+    pub next: u32,
+}
+
+/// A payload as a leaf: from 1 to `MOST_LEGS` legs of one feature, with rising ordinals.
+///
+/// It borrows the payload, and decodes a leg each time that it is asked for.
+pub struct Leaf<'a> {
+    payload: &'a Payload,
+}
+
+impl<'a> Model for Leaf<'a> {
+    ghost use Rattle.std.specs.Prelude.{◌≡◌, true};
+    ghost use Rattle.legs.specs.Legs.{LegView};
+    ghost use Rattle.tbnode.specs.Nodes.{LeafView};
+    ghost use Rattle.tbnode.specs.Form.{is_leaf, leaf_of};
+
+    ghost Value = { LeafView LegView };
+
+    ghost view = { λ l. leaf_of l.payload.now.bytes };
+
+    ghost invariant = { λ l. is_leaf l.payload.now.bytes ≡ true };
+}
+
+impl<'a> Leaf<'a> {
+    ghost use Rattle.std.specs.Prelude.{◌≡◌, ◌<◌, ◌≤◌, true, Some, length, slice_get};
+    ghost use Rattle.tbnode.specs.Form.{is_leaf, leaf_of};
+
+    /// The leaf of a payload that has its form.
+    pub(crate) fn over(payload: &'a Payload) -> Leaf<'a>
+        requires { is_leaf payload.now.bytes ≡ true }
+        ensures { result ≡ leaf_of payload.now.bytes }
+    {
+        Leaf { payload }
+    }
+
+    /// Its feature and its neighbours.
+    #[tactic(auto, unfolding(crate::specs::Form::leaf_of))]
+    pub fn head(&self) -> LeafHead
+        ensures feature { result.feature ≡ self.now.feature }
+        ensures previous { result.previous ≡ self.now.previous }
+        ensures next { result.next ≡ self.now.next }
+    {
+        LeafHead {
+            feature: u32_at(&self.payload.bytes, 0),
+            previous: u32_at(&self.payload.bytes, 4),
+            next: u32_at(&self.payload.bytes, 8),
+        }
+    }
+
+    /// How many legs it has: from 1 to `MOST_LEGS`.
+    pub fn len(&self) -> usize
+        ensures value { result ≡ length self.now.legs }
+        ensures least { 1 ≤ result }
+        ensures most { result ≤ 50 }
+    {
+        usize::from(u16_at(&self.payload.bytes, 12))
+    }
+
+    /// Leg `i`, from 0.
+    pub fn leg(&self, i: usize) -> Leg
+        requires { i < length self.now.legs }
+        ensures { slice_get self.now.legs i ≡ Some result }
+    {
+        let bytes = &self.payload.bytes;
+        leg_in(part(bytes, 16 + 80 * i, 80), u32_at(bytes, 0))
+    }
+}
+
+/// What an inner page says of itself.
+#[derive(Clone, Copy, PartialEq, Eq, Debug)]
+pub struct InnerHead {
+    /// How many levels it is above the leaves: from 1.
+    pub level: u16,
+}
+
+/// A payload as an inner page: from 1 to `MOST_ENTRIES` entries, on a level above the leaves.
+///
+/// It borrows the payload, and decodes an entry each time that it is asked for.
+pub struct Inner<'a> {
+    payload: &'a Payload,
+}
+
+impl<'a> Model for Inner<'a> {
+    ghost use Rattle.std.specs.Prelude.{◌≡◌, true};
+    ghost use Rattle.legs.specs.Boxes.{BoxView};
+    ghost use Rattle.tbnode.specs.Nodes.{InnerView};
+    ghost use Rattle.tbnode.specs.Form.{is_inner, inner_of};
+
+    ghost Value = { InnerView BoxView };
+
+    ghost view = { λ p. inner_of p.payload.now.bytes };
+
+    ghost invariant = { λ p. is_inner p.payload.now.bytes ≡ true };
+}
+
+impl<'a> Inner<'a> {
+    ghost use Rattle.std.specs.Prelude.{◌≡◌, ◌<◌, ◌≤◌, true, Some, length, slice_get};
+    ghost use Rattle.tbnode.specs.Form.{is_inner, inner_of};
+
+    /// The inner page of a payload that has its form.
+    pub(crate) fn over(payload: &'a Payload) -> Inner<'a>
+        requires { is_inner payload.now.bytes ≡ true }
+        ensures { result ≡ inner_of payload.now.bytes }
+    {
+        Inner { payload }
+    }
+
+    /// Its level.
+    #[tactic(auto, unfolding(crate::specs::Form::inner_of))]
+    pub fn head(&self) -> InnerHead
+        ensures level { result.level ≡ self.now.level }
+    {
+        InnerHead {
+            level: u16_at(&self.payload.bytes, 0),
+        }
+    }
+
+    /// How many entries it has: from 1 to `MOST_ENTRIES`.
+    pub fn len(&self) -> usize
+        ensures value { result ≡ length self.now.entries }
+        ensures least { 1 ≤ result }
+        ensures most { result ≤ 72 }
+    {
+        usize::from(u16_at(&self.payload.bytes, 2))
+    }
+
+    /// Entry `i`, from 0.
+    pub fn entry(&self, i: usize) -> Entry
+        requires { i < length self.now.entries }
+        ensures { slice_get self.now.entries i ≡ Some result }
+    {
+        entry_in(part(&self.payload.bytes, 16 + 56 * i, 56))
+    }
+}
