@@ -26,6 +26,7 @@ pub struct LeafHead {
 /// A payload as a leaf: from 1 to `MOST_LEGS` legs of one feature, with rising ordinals.
 ///
 /// It borrows the payload, and decodes a leg each time that it is asked for.
+#[derive(Drop)]
 pub struct Leaf<'a> {
     payload: &'a Payload,
 }
@@ -98,6 +99,7 @@ pub struct InnerHead {
 /// A payload as an inner page: from 1 to `MOST_ENTRIES` entries, on a level above the leaves.
 ///
 /// It borrows the payload, and decodes an entry each time that it is asked for.
+#[derive(Drop)]
 pub struct Inner<'a> {
     payload: &'a Payload,
 }

@@ -1,0 +1,55 @@
+-- A tree stands for a list of legs, and a leg more in it.
+use Rattle.std.specs.Prelude.{ℕ, ◌≡◌, ◌≢◌, ◌<◌, List, [], ◌∷◌, ◌++◌, set, length, slice_get, Some, Result}
+use Rattle.legs.specs.Legs.{LegView}
+use Rattle.legs.specs.Boxes.{BoxView}
+use Rattle.legs.specs.Costs.{leg_feature, leaves_of}
+use Rattle.legs.specs.Hull.{Boxes, leg_boxes}
+use Rattle.legs.specs.Index.{CanFollow, CanFollowInTurn}
+use Rattle.tbtree.specs.Faults.{Gives}
+use Rattle.tbtree.specs.Nodes.{Pages, LeafView, ALeaf, Adds, Links}
+use Rattle.tbtree.specs.Stands.{marks, PlaceStands, TreeStands}
+use Rattle.tbtree.specs.declared.tree.Place.{Place}
+use Rattle.tbtree.specs.declared.tree.TbTree.{TbTree}
+use Rattle.tbtree.specs.declared.fault.TreeFault.{TreeFault}
+
+-- pages that stood for runs stand for them with y at the end of run i, which has room and may take it
+abbrev pub Grows : {L B : Type 0} (s : Boxes L B) (feature : L → ℕ) (inner leaf levels root : ℕ) (old new : Pages L B) (i : ℕ) (y : L) (can : LeafView L → Type 0) (result : Result (Unit {0}) TreeFault) → Type 0
+Grows {L = L} s feature inner leaf levels root old new i y can result =
+    (runs : List (List L)) (pages : ℕ → List ℕ) (x : L) (xs : List L)
+    → slice_get runs i ≡ Some (x ∷ xs)
+    → length (x ∷ xs) < leaf
+    → ((l : LeafView L) → l.feature ≡ feature x → l.legs ≡ x ∷ xs → can l)
+    → TreeStands s feature inner levels root old runs pages
+    → Gives result (λ _. TreeStands s feature inner levels root new (set runs i ((x ∷ xs) ++ y ∷ [])) pages)
+
+-- a leaf of y alone has been made, whose page is p, and the leaf last, where there is one, has it as its next
+pub record Begins {L B : Type 0} (feature : L → ℕ) (old : Pages L B) (last : ℕ) (y : L) (new : Pages L B) (p : ℕ) : Type 0 where
+  pub mid : Pages L B
+  pub adds : Adds old (ALeaf (record { feature = feature y; previous = last; next = 0; legs = y ∷ [] })) mid p
+  pub alone : last ≡ 0 → new ≡ mid
+  pub links : 0 < last → Links mid last p new
+
+-- the pages and the tree's value stand for the legs
+pub record Stands (nodes : Pages LegView BoxView) (tree : TbTree) (legs : List LegView) (pages : ℕ → List ℕ) : Type 0 where
+  pub in_turn : CanFollowInTurn [] legs
+  pub tree_stands : TreeStands leg_boxes leg_feature tree.shape.inner tree.levels tree.root nodes (leaves_of tree.shape legs) pages
+  pub leaves_are : tree.leaves ≡ length (leaves_of tree.shape legs)
+
+-- the place of the feature f
+abbrev pub IsPlace : TbTree → List LegView → (ℕ → List ℕ) → ℕ → Place → Type 0
+IsPlace tree legs pages f place = PlaceStands leg_feature legs (marks leg_feature (leaves_of tree.shape legs) (pages 0)) f place
+
+-- they stand for the legs with y at the end, and each feature has its place
+pub record Inserted (nodes : Pages LegView BoxView) (old tree : TbTree) (legs : List LegView) (old_pages : ℕ → List ℕ) (y : LegView) (place : Place) : Type 0 where
+  pub pages : ℕ → List ℕ
+  pub stands : Stands nodes tree (legs ++ y ∷ []) pages
+  pub placed : IsPlace tree (legs ++ y ∷ []) pages y.feature place
+  pub others : (f : ℕ) (other : Place) → f ≢ y.feature → IsPlace old legs old_pages f other → IsPlace tree (legs ++ y ∷ []) pages f other
+
+abbrev pub Inserts : (old new : Pages LegView BoxView) (tree tree' : TbTree) (place place' : Place) (y : LegView) (result : Result (Unit {0}) TreeFault) → Type 0
+Inserts old new tree tree' place place' y result =
+    (legs : List LegView) (pages : ℕ → List ℕ)
+    → Stands old tree legs pages
+    → IsPlace tree legs pages y.feature place
+    → CanFollow legs y
+    → Gives result (λ _. Inserted new tree tree' legs pages y place')

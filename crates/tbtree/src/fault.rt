@@ -1,0 +1,28 @@
+//! Why a tree refuses a call.
+ghost use Rattle.std.specs.Prelude.{◌≡◌};
+ghost use Rattle.tbtree.specs.declared.fault.TreeFault.{TreeFault};
+
+use pagecache::CacheFault;
+use thiserror::Error;
+
+/// Why a tree refused a call.
+#[derive(Clone, Copy, PartialEq, Eq, Debug, Error)]
+pub enum TreeFault {
+    /// The cache refused a page.
+    #[error("{0}")]
+    Cache(CacheFault),
+    /// The page of that number is not the one that the tree expects there.
+    #[error("page {0} is malformed")]
+    Malformed(u32),
+    /// An earlier call was refused in its middle.
+    #[error("the tree is spent")]
+    Spent,
+}
+
+impl From<CacheFault> for TreeFault {
+    ghost from_gives = { λ fault r. r ≡ TreeFault.Cache fault };
+
+    fn from(fault: CacheFault) -> TreeFault {
+        TreeFault::Cache(fault)
+    }
+}

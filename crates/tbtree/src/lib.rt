@@ -1,0 +1,12 @@
+//! A TB-tree of legs over pages: an R-tree-like tree over x, y and time, whose leaves each hold legs of one feature
+//! alone, are linked both ways, and are made from left to right.
+#![tactic(auto)]
+
+mod fault;
+mod nodes;
+mod shape;
+mod tree;
+
+pub use fault::TreeFault;
+pub use shape::Shape;
+pub use tree::{Place, TbTree};
