@@ -1,7 +1,7 @@
 //! Nodes of a tree in pages: a page's payload as a leaf of legs or as an inner page of entries.
 //!
-//! A view borrows the payload, and decodes a leg or an entry when it is asked for. The calls that change a payload
-//! change the fields that they name and no other.
+//! A view borrows the payload, and decodes a leg or an entry when it is asked for. The calls that
+//! change a payload change the fields that they name and no other.
 #![tactic(auto)]
 
 mod edit;
