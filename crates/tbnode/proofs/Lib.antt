@@ -6,3 +6,4 @@ pub mod LegLemmas
 pub mod SlotLemmas
 pub mod LeafLemmas
 pub mod InnerLemmas
+pub mod ClearLemmas

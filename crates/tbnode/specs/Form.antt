@@ -1,5 +1,5 @@
 -- The node that a payload says.
-use Rattle.std.specs.Prelude.{ℕ, ◌-◌, ◌==◌, nat_lt, nat_le, Bool, ◌&&◌, ◌||◌, if◌then◌else◌, List, map, Option, Some, None}
+use Rattle.std.specs.Prelude.{ℕ, ◌≡◌, ◌+◌, ◌-◌, ◌*◌, ◌==◌, nat_lt, nat_le, Bool, ◌&&◌, ◌||◌, if◌then◌else◌, List, drop, length, map, replicate, Option, Some, None}
 use Rattle.std.specs.List.{range_with_len}
 use Rattle.legs.specs.Legs.{LegView}
 use Rattle.legs.specs.Boxes.{BoxView}
@@ -76,3 +76,17 @@ node_by Catalogue bytes = None
 -- the node that a payload says; none where no form is met
 unfoldable pub node_of : Payload → Option (Node LegView BoxView)
 node_of payload = node_by payload.kind payload.bytes
+
+-- the bytes behind those that a head counts
+abbrev pub rest_by : Kind → List ℕ → List ℕ
+rest_by Header bytes = bytes
+rest_by Leaf bytes = drop (16 + 80 * leg_count bytes) bytes
+rest_by Inner bytes = drop (16 + 56 * entry_count bytes) bytes
+rest_by Catalogue bytes = bytes
+
+unfoldable pub rest_of : Payload → List ℕ
+rest_of payload = rest_by payload.kind payload.bytes
+
+-- the bytes behind the last leg, or behind the last entry, are zero
+abbrev pub IsClear : Payload → Type 0
+IsClear payload = rest_of payload ≡ replicate (length (rest_of payload)) 0

@@ -4,7 +4,7 @@ ghost use Rattle.std.specs.Option.{ForSome};
 ghost use Rattle.tbnode.specs.Nodes.{as_leaf, as_inner};
 ghost use Rattle.tbnode.specs.Parts.{number_at};
 ghost use Rattle.tbnode.specs.Layout.{leg_bytes, entry_bytes};
-ghost use Rattle.tbnode.specs.Form.{node_of};
+ghost use Rattle.tbnode.specs.Form.{node_of, IsClear};
 ghost use Rattle.tbnode.specs.Edits.{TakesLeg, new_leaf, leaf_with_leg, leaf_with_next, new_inner, inner_with_entry, inner_with_wider};
 ghost use Rattle.tbnode.specs.Steps.{LegReadsBack, EntryReadsBack, pushed};
 
@@ -42,10 +42,11 @@ fn append_entry(bytes: &mut [u8], entry: &Entry)
     put_u16(bytes, 2, count + 1);
 }
 
-/// Makes a payload a leaf of one leg, of the leg's feature, with no next leaf. All else that the payload held is
-/// gone.
+/// Makes a payload a leaf of one leg, of the leg's feature, with no next leaf. All else that the
+/// payload held is gone.
 pub fn init_leaf(payload: &mut Payload, previous: u32, leg: &Leg)
-    ensures { node_of payload.new ≡ Some (new_leaf previous leg.now) }
+    ensures node { node_of payload.new ≡ Some (new_leaf previous leg.now) }
+    ensures clear { IsClear payload.new }
 {
     *payload = Payload::zero(Kind::Leaf);
     put_u32(&mut payload.bytes, 0, leg.feature);
@@ -53,13 +54,14 @@ pub fn init_leaf(payload: &mut Payload, previous: u32, leg: &Leg)
     append_leg(&mut payload.bytes, leg);
 }
 
-/// Puts a leg at the end of a leaf that takes it: there is room for it, it is of the leaf's feature, and its ordinal
-/// is above that of the last leg. No other field changes.
+/// Puts a leg at the end of a leaf that takes it: there is room for it, it is of the leaf's
+/// feature, and its ordinal is above that of the last leg. No other field changes.
 pub fn push_leg(payload: &mut Payload, leg: &Leg)
     requires leaf { IsSome (as_leaf (node_of payload.old)) }
     requires takes { ForSome (as_leaf (node_of payload.old)) (λ leaf. TakesLeg leaf leg.now) }
-    ensures { node_of payload.new
+    ensures node { node_of payload.new
         ≡ option_map (leaf_with_leg leg.now) (as_leaf (node_of payload.old)) }
+    ensures clear { IsClear payload.old → IsClear payload.new }
 {
     append_leg(&mut payload.bytes, leg);
 }
@@ -67,15 +69,18 @@ pub fn push_leg(payload: &mut Payload, leg: &Leg)
 /// Links a leaf to the next one of its feature. No other field changes.
 pub fn set_next(payload: &mut Payload, next: u32)
     requires { IsSome (as_leaf (node_of payload.old)) }
-    ensures { node_of payload.new ≡ option_map (leaf_with_next next) (as_leaf (node_of payload.old)) }
+    ensures node { node_of payload.new ≡ option_map (leaf_with_next next) (as_leaf (node_of payload.old)) }
+    ensures clear { IsClear payload.old → IsClear payload.new }
 {
     put_u32(&mut payload.bytes, 8, next);
 }
 
-/// Makes a payload an inner page of one entry, on a level above the leaves. All else that the payload held is gone.
+/// Makes a payload an inner page of one entry, on a level above the leaves. All else that the
+/// payload held is gone.
 pub fn init_inner(payload: &mut Payload, level: u16, entry: &Entry)
     requires { 1 ≤ level }
-    ensures { node_of payload.new ≡ Some (new_inner level entry.now) }
+    ensures node { node_of payload.new ≡ Some (new_inner level entry.now) }
+    ensures clear { IsClear payload.new }
 {
     *payload = Payload::zero(Kind::Inner);
     put_u16(&mut payload.bytes, 0, level);
@@ -86,19 +91,21 @@ pub fn init_inner(payload: &mut Payload, level: u16, entry: &Entry)
 pub fn push_entry(payload: &mut Payload, entry: &Entry)
     requires inner { IsSome (as_inner (node_of payload.old)) }
     requires room { ForSome (as_inner (node_of payload.old)) (λ page. length page.entries < 72) }
-    ensures { node_of payload.new
+    ensures node { node_of payload.new
         ≡ option_map (inner_with_entry entry.now) (as_inner (node_of payload.old)) }
+    ensures clear { IsClear payload.old → IsClear payload.new }
 {
     append_entry(&mut payload.bytes, entry);
 }
 
-/// Widens the bounds of entry `i` of an inner page to the least box that holds `bounds` as well. No other field
-/// changes.
+/// Widens the bounds of entry `i` of an inner page to the least box that holds `bounds` as well. No
+/// other field changes.
 pub fn widen(payload: &mut Payload, i: usize, bounds: &Box3)
     requires inner { IsSome (as_inner (node_of payload.old)) }
     requires within { ForSome (as_inner (node_of payload.old)) (λ page. i < length page.entries) }
-    ensures { node_of payload.new
+    ensures node { node_of payload.new
         ≡ option_map (inner_with_wider i bounds.now) (as_inner (node_of payload.old)) }
+    ensures clear { IsClear payload.old → IsClear payload.new }
 {
     let place = 16 + 56 * i;
     let mut entry = entry_in(part(&payload.bytes, place, 56));

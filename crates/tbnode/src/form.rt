@@ -81,8 +81,9 @@ fn is_inner(bytes: &[u8]) -> bool
         && are_entries(bytes, usize::from(count))
 }
 
-/// The payload as a leaf; `None` where it does not have the form: kind `Leaf`, a count from 1 to `MOST_LEGS`, zero
-/// bytes zero, lawful legs, and rising ordinals. The bytes behind the last leg are not looked at.
+/// The payload as a leaf; `None` where it does not have the form: kind `Leaf`, a count from 1 to
+/// `MOST_LEGS`, zero bytes zero, lawful legs, and rising ordinals. The bytes behind the last leg
+/// are not looked at.
 pub fn leaf(payload: &Payload) -> Option<Leaf<'_>>
     ensures { result ≡ as_leaf (node_of payload.now) }
 {
@@ -98,8 +99,9 @@ pub fn leaf(payload: &Payload) -> Option<Leaf<'_>>
     }
 }
 
-/// The payload as an inner page; `None` where it does not have the form: kind `Inner`, a level from 1 on, a count
-/// from 1 to `MOST_ENTRIES`, zero bytes zero, and bounds in order. The bytes behind the last entry are not looked at.
+/// The payload as an inner page; `None` where it does not have the form: kind `Inner`, a level from
+/// 1 on, a count from 1 to `MOST_ENTRIES`, zero bytes zero, and bounds in order. The bytes behind
+/// the last entry are not looked at.
 pub fn inner(payload: &Payload) -> Option<Inner<'_>>
     ensures { result ≡ as_inner (node_of payload.now) }
 {

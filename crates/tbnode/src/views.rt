@@ -45,7 +45,8 @@ impl<'a> Model for Leaf<'a> {
 }
 
 impl<'a> Leaf<'a> {
-    ghost use Rattle.std.specs.Prelude.{◌≡◌, ◌<◌, ◌≤◌, true, Some, length, slice_get};
+    ghost use Rattle.std.specs.Prelude.{◌≡◌, ◌<◌, ◌≤◌, ◌↔◌, true, Some, IsTrue, length, slice_get};
+    ghost use Rattle.tbnode.specs.Edits.{TakesLeg};
     ghost use Rattle.tbnode.specs.Form.{is_leaf, leaf_of};
 
     /// The leaf of a payload that has its form.
@@ -86,6 +87,16 @@ impl<'a> Leaf<'a> {
     {
         let bytes = &self.payload.bytes;
         leg_in(part(bytes, 16 + 80 * i, 80), u32_at(bytes, 0))
+    }
+
+    /// Whether a leg can be pushed as its next one: there is room for it, it is of the feature, and
+    /// its ordinal is above that of the last leg.
+    pub fn takes(&self, leg: &Leg) -> bool
+        ensures { IsTrue result ↔ TakesLeg self.now leg.now }
+    {
+        let len = self.len();
+        let last = self.leg(len - 1);
+        len < MOST_LEGS && leg.feature == self.head().feature && last.ordinal < leg.ordinal
     }
 }
 

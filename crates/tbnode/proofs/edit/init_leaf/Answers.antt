@@ -6,6 +6,7 @@ use Rattle.tbnode.specs.Layout.{leg_bytes}
 use Rattle.tbnode.specs.Parts.{put}
 use Rattle.tbnode.specs.Steps.{pushed}
 use Rattle.tbnode.proofs.LeafLemmas.{begun, begun_count, leaf_begun}
+use Rattle.tbnode.proofs.ClearLemmas.{begun_leg_clear}
 use Rattle.tbnode.proofs.edit.init_leaf.Goals as goal
 
 written : (zeros one two : List ℕ) (n feature previous : ℕ) → one ≡ put 0 (big_bytes 4 n) zeros → two ≡ put 4 (big_bytes 4 previous) one → n ≡ feature → two ≡ begun feature previous zeros
@@ -21,9 +22,9 @@ append_leg-requires-clause-room c =
     let e = ap leg_count (written zeros c.put_u32.new.bytes c.put_u32-2.new.bytes c.leg.inside.feature l.feature c.args.previous c.put_u32.ensures c.put_u32-2.ensures (ap (λ l. l.feature) c.leg.view_is)) in
     omega (arith, none, e)
 
-pub returns : goal.returns
+pub returns-clause-node : goal.returns-clause-node
 unfolding zero_payload
-returns c =
+returns-clause-node c =
     let l = c.args.leg.now in
     let zeros = c.zero.result.bytes in
     let same : c.leg.inside.feature ≡ l.feature = ap (λ l. l.feature) c.leg.view_is in
@@ -32,3 +33,13 @@ returns c =
     leaf_begun _ c.args.previous l zeros c.append_leg.new.bytes (ap (λ p. p.kind) c.zero.ensures) refl
     (c.append_leg.ensures.pushed ∙ ap (pushed 80 12 (leg_bytes l)) e) (ap (λ p. p.bytes) c.zero.ensures) (omega (arith, same, small)) (omega arith)
     c.append_leg.ensures.reads_back
+
+pub returns-clause-clear : goal.returns-clause-clear
+unfolding zero_payload
+returns-clause-clear c =
+    let l = c.args.leg.now in
+    let zeros = c.zero.result.bytes in
+    let same : c.leg.inside.feature ≡ l.feature = ap (λ l. l.feature) c.leg.view_is in
+    let e = written zeros c.put_u32.new.bytes c.put_u32-2.new.bytes c.leg.inside.feature l.feature c.args.previous c.put_u32.ensures c.put_u32-2.ensures same in
+    begun_leg_clear _ c.args.previous l zeros (ap (λ p. p.kind) c.zero.ensures)
+    (c.append_leg.ensures.pushed ∙ ap (pushed 80 12 (leg_bytes l)) e) (ap (λ p. p.bytes) c.zero.ensures)

@@ -1,8 +1,15 @@
 use Rattle.std.proofs.Common.{arith}
 use Rattle.tbnode.proofs.LeafLemmas.{leaf_held, next_set}
+use Rattle.tbnode.proofs.ClearLemmas.{leaf_zeros, next_clear}
 use Rattle.tbnode.proofs.edit.set_next.Goals as goal
 
-pub returns : goal.returns
-returns c =
+pub returns-clause-node : goal.returns-clause-node
+returns-clause-node c =
     let p = c.args.payload.now in
     next_set p c.args.next _ c.put_u32.ensures (omega arith) (omega arith) (leaf_held p c.requires)
+
+pub returns-clause-clear : goal.returns-clause-clear
+returns-clause-clear c z =
+    let p = c.args.payload.now in
+    let h = leaf_held p c.requires in
+    next_clear _ p.bytes c.args.next h.kind c.put_u32.ensures (omega arith) (leaf_zeros p h.kind z)

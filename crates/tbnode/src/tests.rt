@@ -1,0 +1,373 @@
+//! Worked bytes, each byte changed in turn, full pages, and payloads without a form.
+ghost use Rattle.std.specs.Prelude.{◌<◌};
+
+use super::*;
+use fixedpoint::Coord;
+use legs::{Box3, Leg};
+use mfcsv::Position;
+use pages::{Kind, Payload};
+use timebase::Ms;
+
+/// The leaf of feature `a` of the standard's example, written by hand from the layout.
+const HEAD: [u8; 16] = [0, 0, 0, 0, 0, 0, 0, 0, 0, 0, 0, 0, 0, 2, 0, 0];
+
+const FIRST: [u8; 80] = [
+    0, 0, 0, 0, 0, 0, 0, 0, // ordinal 0
+    0, 0, 0x01, 0x34, 0xeb, 0xa8, 0xbb, 0x98, // t0
+    0, 0, 0x01, 0x34, 0xeb, 0xaa, 0xde, 0x78, // t1
+    0, 0, 0, 0, 0x06, 0x8e, 0x77, 0x80, // x0
+    0, 0, 0, 0, 0x01, 0x31, 0x2d, 0x00, // y0
+    0, 0, 0, 0, 0, 0, 0, 0, // z0
+    0, 0, 0, 0, 0x07, 0x27, 0x0e, 0x00, // x1
+    0, 0, 0, 0, 0x01, 0xc9, 0xc3, 0x80, // y1
+    0, 0, 0, 0, 0, 0, 0, 0, // z1
+    0, 0, 0, 0, // row 0
+    0, 0, 0, 0,
+];
+
+const SECOND: [u8; 80] = [
+    0, 0, 0, 0, 0, 0, 0, 2, // ordinal 2
+    0, 0, 0x01, 0x34, 0xeb, 0xaa, 0xde, 0x78, // t0
+    0, 0, 0x01, 0x34, 0xeb, 0xab, 0x7a, 0xb8, // t1
+    0, 0, 0, 0, 0x07, 0x27, 0x0e, 0x00, // x0
+    0, 0, 0, 0, 0x01, 0xc9, 0xc3, 0x80, // y0
+    0, 0, 0, 0, 0, 0, 0, 0, // z0
+    0, 0, 0, 0, 0x05, 0xf5, 0xe1, 0x00, // x1
+    0, 0, 0, 0, 0x01, 0xc9, 0xc3, 0x80, // y1
+    0, 0, 0, 0, 0, 0, 0, 0, // z1
+    0, 0, 0, 2, // row 2
+    0, 0, 0, 0,
+];
+
+/// An inner page of level 1 with one entry: page 1, and the box of both legs.
+const INNER: [u8; 72] = [
+    0, 1, 0, 1, 0, 0, 0, 0, 0, 0, 0, 0, 0, 0, 0, 0, // level 1, one entry
+    0, 0, 0, 1, 0, 0, 0, 0, // child 1
+    0, 0, 0, 0, 0x05, 0xf5, 0xe1, 0x00, // least x
+    0, 0, 0, 0, 0x01, 0x31, 0x2d, 0x00, // least y
+    0, 0, 0x01, 0x34, 0xeb, 0xa8, 0xbb, 0x98, // least t
+    0, 0, 0, 0, 0x07, 0x27, 0x0e, 0x00, // greatest x
+    0, 0, 0, 0, 0x01, 0xc9, 0xc3, 0x80, // greatest y
+    0, 0, 0x01, 0x34, 0xeb, 0xab, 0x7a, 0xb8, // greatest t
+];
+
+fn position(x: i64, y: i64, z: i64) -> Option<Position> {
+    Some(Position {
+        x: Coord::new(x)?,
+        y: Coord::new(y)?,
+        z: Coord::new(z)?,
+    })
+}
+
+/// The first leg of feature `a` of the standard's example.
+fn first() -> Option<Leg> {
+    let (t0, t1) = (Ms::new(1_326_803_631_000)?, Ms::new(1_326_803_771_000)?);
+    let from = position(110_000_000, 20_000_000, 0)?;
+    let to = position(120_000_000, 30_000_000, 0)?;
+    Leg::new(0, 0, t0, t1, from, to, 0)
+}
+
+/// Its second leg.
+fn second() -> Option<Leg> {
+    let (t0, t1) = (Ms::new(1_326_803_771_000)?, Ms::new(1_326_803_811_000)?);
+    let from = position(120_000_000, 30_000_000, 0)?;
+    let to = position(100_000_000, 30_000_000, 0)?;
+    Leg::new(2, 0, t0, t1, from, to, 2)
+}
+
+/// A leg of another feature, at the greatest and least moments and coordinates.
+fn far(ordinal: u64) -> Option<Leg> {
+    let (t0, t1) = (Ms::new(-62_135_596_800_000)?, Ms::new(253_370_764_799_999)?);
+    let from = position(-1_000_000_000_000_000, 1_000_000_000_000_000, -5)?;
+    let to = position(7, -8, 9)?;
+    Leg::new(ordinal, u32::MAX, t0, t1, from, to, u32::MAX)
+}
+
+/// Pushes a leg where the payload is a leaf that takes it.
+fn push(payload: &mut Payload, leg: &Leg) -> bool {
+    let Some(view) = leaf(payload) else {
+        return false;
+    };
+    if !view.takes(leg) {
+        return false;
+    }
+    push_leg(payload, leg);
+    true
+}
+
+/// The two legs of the example as a leaf.
+fn worked_leaf() -> Option<Payload> {
+    let mut payload = Payload::zero(Kind::Header);
+    init_leaf(&mut payload, 0, &first()?);
+    if push(&mut payload, &second()?) {
+        Some(payload)
+    } else {
+        None
+    }
+}
+
+/// The same, from the bytes written by hand.
+fn worked_leaf_bytes() -> Payload {
+    let mut bytes = [0; 4056];
+    bytes[..16].copy_from_slice(&HEAD);
+    bytes[16..96].copy_from_slice(&FIRST);
+    bytes[96..176].copy_from_slice(&SECOND);
+    Payload {
+        kind: Kind::Leaf,
+        bytes,
+    }
+}
+
+fn leg_at(payload: &Payload, i: usize) -> Option<Leg> {
+    let view = leaf(payload)?;
+    if i < view.len() {
+        Some(view.leg(i))
+    } else {
+        None
+    }
+}
+
+#[test]
+fn a_leaf_is_its_layout(rt: HostRuntime) {
+    assert!(rt; worked_leaf() == Some(worked_leaf_bytes()));
+    assert!(rt; leg_at(&worked_leaf_bytes(), 0) == first());
+    assert!(rt; leg_at(&worked_leaf_bytes(), 1) == second());
+    assert!(rt; leg_at(&worked_leaf_bytes(), 2).is_none());
+}
+
+fn leg_fields(leg: &Leg) -> [i128; 10] {
+    [
+        i128::from(leg.ordinal),
+        i128::from(leg.t0.millis()),
+        i128::from(leg.t1.millis()),
+        i128::from(leg.x0.units()),
+        i128::from(leg.y0.units()),
+        i128::from(leg.z0.units()),
+        i128::from(leg.x1.units()),
+        i128::from(leg.y1.units()),
+        i128::from(leg.z1.units()),
+        i128::from(leg.row),
+    ]
+}
+
+/// All fields of a leaf of two legs, in the order of the layout.
+fn fields(payload: &Payload) -> Option<[i128; 23]> {
+    let view = leaf(payload)?;
+    if view.len() != 2 {
+        return None;
+    }
+    let head = view.head();
+    let mut all = [0; 23];
+    all[0] = i128::from(head.feature);
+    all[1] = i128::from(head.previous);
+    all[2] = i128::from(head.next);
+    all[3..13].copy_from_slice(&leg_fields(&view.leg(0)));
+    all[13..23].copy_from_slice(&leg_fields(&view.leg(1)));
+    Some(all)
+}
+
+/// The field that a byte of the described part belongs to.
+fn field_at(place: usize) -> usize {
+    if place < 12 {
+        place / 4
+    } else if place < 96 {
+        3 + place.saturating_sub(16) / 8
+    } else {
+        13 + (place - 96) / 8
+    }
+}
+
+/// Whether one field alone differs.
+fn differs_alone(before: &[i128; 23], after: &[i128; 23], field: usize) -> bool {
+    for i in 0..23 {
+        if (before[i] == after[i]) == (i == field) {
+            return false;
+        }
+    }
+    true
+}
+
+/// Changes each byte of the described part of a leaf of two legs in turn: how many of the changes
+/// leave no leaf; `None` where another field than the byte's own differs.
+fn refusals(payload: &mut Payload) -> Option<u64> {
+    let before = fields(payload)?;
+    let mut count = 0u64;
+    for place in 0..176 {
+        payload.bytes[place] ^= 1;
+        match fields(payload) {
+            None => count = count.wrapping_add(1),
+            Some(after) => {
+                if !differs_alone(&before, &after, field_at(place)) {
+                    return None;
+                }
+            }
+        }
+        payload.bytes[place] ^= 1;
+    }
+    Some(count)
+}
+
+/// Counted by hand: 4 in the head, 24 in the first leg, and 19 in the second.
+#[test]
+fn each_byte_is_one_field(rt: HostRuntime) {
+    assert!(rt; refusals(&mut worked_leaf_bytes()) == Some(47));
+}
+
+fn full_leaf() -> Option<Payload> {
+    let mut payload = Payload::zero(Kind::Leaf);
+    init_leaf(&mut payload, 7, &far(0)?);
+    for ordinal in 1..50 {
+        if !push(&mut payload, &far(ordinal)?) {
+            return None;
+        }
+    }
+    Some(payload)
+}
+
+/// What is asked of a full leaf: it takes no leg more, and a link changes its next leaf alone.
+fn full_leaf_is_right() -> Option<bool> {
+    let mut payload = full_leaf()?;
+    if push(&mut payload, &far(50)?) || leg_at(&payload, 49) != far(49) {
+        return Some(false);
+    }
+    if leaf(&payload).is_none() {
+        return None;
+    }
+    set_next(&mut payload, 9);
+    let head = leaf(&payload)?.head();
+    let linked = head.feature == u32::MAX && head.previous == 7 && head.next == 9;
+    payload.bytes[13] = 51;
+    Some(linked && leaf(&payload).is_none())
+}
+
+#[test]
+fn a_full_leaf(rt: HostRuntime) {
+    assert!(rt; full_leaf_is_right() == Some(true));
+}
+
+/// Whether the worked leaf with another byte at a place is still a leaf.
+fn leaf_with(place: usize, byte: u8) -> bool
+    requires { place < 4056 }
+{
+    let mut payload = worked_leaf_bytes();
+    payload.bytes[place] = byte;
+    leaf(&payload).is_some()
+}
+
+#[test]
+fn the_form_of_a_leaf(rt: HostRuntime) {
+    assert!(rt; !leaf_with(13, 0) && leaf_with(13, 1) && !leaf_with(13, 3));
+    assert!(rt; !leaf_with(14, 1) && !leaf_with(95, 1) && leaf_with(176, 1));
+    assert!(rt; !leaf_with(103, 0) && leaf_with(103, 1) && leaf_with(4055, 255));
+    let mut payload = worked_leaf_bytes();
+    payload.kind = Kind::Catalogue;
+    assert!(rt; leaf(&payload).is_none() && inner(&payload).is_none());
+}
+
+/// Pushes an entry where the payload is an inner page with room for it.
+fn hang(payload: &mut Payload, entry: &Entry) -> bool {
+    let Some(view) = inner(payload) else {
+        return false;
+    };
+    if view.len() >= MOST_ENTRIES {
+        return false;
+    }
+    push_entry(payload, entry);
+    true
+}
+
+fn entry_at(payload: &Payload, i: usize) -> Option<Entry> {
+    let view = inner(payload)?;
+    if i < view.len() {
+        Some(view.entry(i))
+    } else {
+        None
+    }
+}
+
+/// An entry whose bounds are the box of both legs of the example.
+fn worked_entry(child: u32) -> Option<Entry> {
+    let bounds = Box3::of(&first()?).cover(&Box3::of(&second()?));
+    Some(Entry { child, bounds })
+}
+
+fn worked_inner_bytes() -> Payload {
+    let mut bytes = [0; 4056];
+    bytes[..72].copy_from_slice(&INNER);
+    Payload {
+        kind: Kind::Inner,
+        bytes,
+    }
+}
+
+fn worked_inner() -> Option<Payload> {
+    let mut payload = worked_leaf_bytes();
+    init_inner(&mut payload, 1, &worked_entry(1)?);
+    Some(payload)
+}
+
+#[test]
+fn an_inner_page_is_its_layout(rt: HostRuntime) {
+    assert!(rt; worked_inner() == Some(worked_inner_bytes()));
+    assert!(rt; entry_at(&worked_inner_bytes(), 0) == worked_entry(1));
+    assert!(rt; entry_at(&worked_inner_bytes(), 1).is_none());
+}
+
+/// Widens an entry where the payload is an inner page that has it.
+fn widen_at(payload: &mut Payload, i: usize, bounds: &Box3) -> bool {
+    let Some(view) = inner(payload) else {
+        return false;
+    };
+    if i >= view.len() {
+        return false;
+    }
+    widen(payload, i, bounds);
+    true
+}
+
+/// What is asked of a full inner page: it takes no entry more, and one that is widened changes
+/// alone.
+fn full_inner_is_right() -> Option<bool> {
+    let mut payload = Payload::zero(Kind::Header);
+    init_inner(&mut payload, u16::MAX, &worked_entry(0)?);
+    for child in 1..72 {
+        if !hang(&mut payload, &worked_entry(child)?) {
+            return None;
+        }
+    }
+    let wide = Box3::everything();
+    if hang(&mut payload, &worked_entry(72)?) || !widen_at(&mut payload, 70, &wide) {
+        return Some(false);
+    }
+    let widened = Entry {
+        child: 70,
+        bounds: wide,
+    };
+    let changed = entry_at(&payload, 70) == Some(widened);
+    let others = entry_at(&payload, 69) == worked_entry(69)
+        && entry_at(&payload, 71) == worked_entry(71);
+    let level = inner(&payload)?.head().level;
+    payload.bytes[3] = 73;
+    Some(changed && others && level == u16::MAX && inner(&payload).is_none())
+}
+
+#[test]
+fn a_full_inner_page(rt: HostRuntime) {
+    assert!(rt; full_inner_is_right() == Some(true));
+}
+
+/// Whether the worked inner page with another byte at a place is still one.
+fn inner_with(place: usize, byte: u8) -> bool
+    requires { place < 4056 }
+{
+    let mut payload = worked_inner_bytes();
+    payload.bytes[place] = byte;
+    inner(&payload).is_some()
+}
+
+#[test]
+fn the_form_of_an_inner_page(rt: HostRuntime) {
+    assert!(rt; !inner_with(1, 0) && inner_with(1, 2) && !inner_with(3, 0));
+    assert!(rt; !inner_with(4, 1) && !inner_with(15, 1) && !inner_with(20, 1));
+    assert!(rt; !inner_with(28, 8) && inner_with(28, 6) && inner_with(72, 1));
+}
