@@ -1,1 +1,2 @@
 pub mod CacheLemmas
+pub mod CoverLemmas

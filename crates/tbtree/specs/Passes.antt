@@ -7,9 +7,11 @@ pub record Passes (old new : Cache) : Type 0 where
   pub store : store.Keeps old.store new.store
   pub capacity : new.capacity ≡ old.capacity
   pub count : old.count ≤ new.count
-  -- there are as many pages as the store has, where there were
-  pub length : old.count ≡ old.store.count → new.count ≡ new.store.count
   -- page 0 has its payload; it is not marked as changed where it was not, and is then as written
   pub first : IsTrue old.store.is_faithful → 0 < old.count → payload_of new 0 ≡ payload_of old 0
   pub unmarked : 0 < old.count → is_changed old 0 ≡ false → is_changed new 0 ≡ false
   pub written : IsTrue old.store.is_faithful → 0 < old.count → is_changed old 0 ≡ false → page_of new 0 ≡ page_of old 0
+
+-- there are as many pages as the store has, where there were
+abbrev pub KeepsLength : Cache → Cache → Type 0
+KeepsLength old new = old.count ≡ old.store.count → new.count ≡ new.store.count

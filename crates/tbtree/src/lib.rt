@@ -4,6 +4,7 @@
 
 mod fault;
 mod nodes;
+mod payloads;
 mod shape;
 mod tree;
 

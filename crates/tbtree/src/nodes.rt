@@ -1,35 +1,23 @@
-//! The pages of a tree in a cache: each call here changes one page, or reads one.
-ghost use Rattle.std.specs.Prelude.{◌≡◌, ◌+◌, ◌≤◌, ◌<◌, OnOk, IfOk, IfErr, IfSome, IsTrue, None};
+//! The pages of a tree in a cache: each call here changes one page, adds one, or reads one.
+ghost use Rattle.std.specs.Prelude.{◌≡◌, ◌+◌, ◌≤◌, ◌<◌, [], ◌∷◌, OnOk, IfOk, IfErr, IsTrue};
 ghost use Rattle.legs.specs.Hull.{leg_boxes};
-ghost use Rattle.tbnode.specs.Edits.{TakesLeg};
-ghost use Rattle.tbnode.specs.Form.{node_of};
+ghost use Rattle.tbnode.specs.Edits.{TakesLeg, new_leaf, new_inner};
 ghost use Rattle.tbtree.specs.Faults.{IsAllowed, IsCaused};
-ghost use Rattle.tbtree.specs.Nodes.{pages_of_cache, ALeaf, AnInner, Widens, HasEntry};
-ghost use Rattle.tbtree.specs.Payloads.{IsEntry, HasNoEntry};
-ghost use Rattle.tbtree.specs.Passes.{Passes};
+ghost use Rattle.tbtree.specs.Nodes.{pages_of_cache, AnInner, Adds, Attaches, Covers, HasCover, HasEntry, HasLeaf, HasLeafRoom, HasRoom, Links, Pushes, Widens};
+ghost use Rattle.tbtree.specs.Passes.{Passes, KeepsLength};
 
 use crate::fault::TreeFault;
-use legs::Box3;
+use crate::payloads::{child_of, cover_of, has_room, is_leaf, takes};
+use legs::{Box3, Leg};
 use pagecache::PageCache;
-use pages::{PageStore, Payload};
-
-/// The child of entry `entry` of a payload that is an inner page of that level.
-fn child_of(payload: &Payload, level: u32, entry: usize) -> Option<u32>
-    ensures some { IfSome result (IsEntry (node_of payload.now) level entry) }
-    ensures none { result ≡ None → HasNoEntry (node_of payload.now) level entry }
-{
-    let page = tbnode::inner(payload)?;
-    if u32::from(page.head().level) != level || entry >= page.len() {
-        return None;
-    }
-    Some(page.entry(entry).child)
-}
+use pages::{Kind, PageStore};
+use tbnode::Entry;
 
 /// Widens an entry of an inner page of that level, and gives its child.
 pub(crate) fn widen<S: PageStore>(
     cache: &mut PageCache<S>,
     page: u32,
-    level: u32,
+    level: u16,
     entry: usize,
     bounds: &Box3,
 ) -> Result<u32, TreeFault>
@@ -39,6 +27,7 @@ pub(crate) fn widen<S: PageStore>(
     ensures only { IsTrue cache.old.store.is_faithful
         → HasEntry (pages_of_cache cache.old) page level entry → IfErr result IsAllowed }
     ensures passes { Passes cache.old cache.new }
+    ensures length { OnOk result (KeepsLength cache.old cache.new) }
     ensures caused { IfErr result (IsCaused cache.old cache.new) }
     ensures asked { cache.new.asked ≤ cache.old.asked + 1 }
 {
@@ -51,4 +40,173 @@ pub(crate) fn widen<S: PageStore>(
     };
     tbnode::widen(payload, entry, bounds);
     Ok(child)
+}
+
+/// Puts a leg at the end of a leaf of less than `most` legs, which takes it.
+pub(crate) fn push_leg<S: PageStore>(
+    cache: &mut PageCache<S>,
+    page: u32,
+    most: u16,
+    leg: &Leg,
+) -> Result<(), TreeFault>
+    ensures pushes { IsTrue cache.old.store.is_faithful
+        → OnOk result (Pushes (pages_of_cache cache.old) page leg.now (pages_of_cache cache.new)) }
+    ensures only { IsTrue cache.old.store.is_faithful
+        → HasLeafRoom (pages_of_cache cache.old) page most (λ leaf. TakesLeg leaf leg.now)
+        → IfErr result IsAllowed }
+    ensures passes { Passes cache.old cache.new }
+    ensures length { OnOk result (KeepsLength cache.old cache.new) }
+    ensures caused { IfErr result (IsCaused cache.old cache.new) }
+    ensures asked { cache.new.asked ≤ cache.old.asked + 1 }
+{
+    if page == 0 {
+        return Err(TreeFault::Malformed(page));
+    }
+    let payload = cache.page_mut(page)?;
+    if !takes(payload, most, leg) {
+        return Err(TreeFault::Malformed(page));
+    }
+    tbnode::push_leg(payload, leg);
+    Ok(())
+}
+
+/// Sets a leaf's next leaf.
+pub(crate) fn link<S: PageStore>(
+    cache: &mut PageCache<S>,
+    page: u32,
+    next: u32,
+) -> Result<(), TreeFault>
+    ensures links { IsTrue cache.old.store.is_faithful
+        → OnOk result (Links (pages_of_cache cache.old) page next (pages_of_cache cache.new)) }
+    ensures only { IsTrue cache.old.store.is_faithful
+        → HasLeaf (pages_of_cache cache.old) page → IfErr result IsAllowed }
+    ensures passes { Passes cache.old cache.new }
+    ensures length { OnOk result (KeepsLength cache.old cache.new) }
+    ensures caused { IfErr result (IsCaused cache.old cache.new) }
+    ensures asked { cache.new.asked ≤ cache.old.asked + 1 }
+{
+    if page == 0 {
+        return Err(TreeFault::Malformed(page));
+    }
+    let payload = cache.page_mut(page)?;
+    if !is_leaf(payload) {
+        return Err(TreeFault::Malformed(page));
+    }
+    tbnode::set_next(payload, next);
+    Ok(())
+}
+
+/// Adds an entry to an inner page of that level and of less than `most` entries.
+pub(crate) fn attach<S: PageStore>(
+    cache: &mut PageCache<S>,
+    page: u32,
+    level: u16,
+    most: u16,
+    entry: &Entry,
+) -> Result<(), TreeFault>
+    requires { most ≤ 72 }
+    ensures attaches { IsTrue cache.old.store.is_faithful
+        → OnOk result (Attaches (pages_of_cache cache.old) page level entry.now.child
+        entry.now.bounds (pages_of_cache cache.new)) }
+    ensures only { IsTrue cache.old.store.is_faithful
+        → HasRoom (pages_of_cache cache.old) page level most → IfErr result IsAllowed }
+    ensures passes { Passes cache.old cache.new }
+    ensures length { OnOk result (KeepsLength cache.old cache.new) }
+    ensures caused { IfErr result (IsCaused cache.old cache.new) }
+    ensures asked { cache.new.asked ≤ cache.old.asked + 1 }
+{
+    if page == 0 {
+        return Err(TreeFault::Malformed(page));
+    }
+    let payload = cache.page_mut(page)?;
+    if !has_room(payload, level, most) {
+        return Err(TreeFault::Malformed(page));
+    }
+    tbnode::push_entry(payload, entry);
+    Ok(())
+}
+
+/// Adds a leaf of one leg.
+pub(crate) fn add_leaf<S: PageStore>(
+    cache: &mut PageCache<S>,
+    previous: u32,
+    leg: &Leg,
+) -> Result<u32, TreeFault>
+    ensures adds { IsTrue cache.old.store.is_faithful
+        → IfOk result (Adds (pages_of_cache cache.old) (new_leaf previous leg.now)
+        (pages_of_cache cache.new)) }
+    ensures only { IsTrue cache.old.store.is_faithful → IfErr result IsAllowed }
+    ensures passes { Passes cache.old cache.new }
+    ensures length { OnOk result (KeepsLength cache.old cache.new) }
+    ensures caused { IfErr result (IsCaused cache.old cache.new) }
+    ensures asked { cache.new.asked ≤ cache.old.asked + 2 }
+{
+    let page = cache.add_page(Kind::Leaf)?;
+    tbnode::init_leaf(cache.page_mut(page)?, previous, leg);
+    Ok(page)
+}
+
+/// Adds an inner page of one entry.
+pub(crate) fn add_inner<S: PageStore>(
+    cache: &mut PageCache<S>,
+    level: u16,
+    entry: &Entry,
+) -> Result<u32, TreeFault>
+    requires { 1 ≤ level }
+    ensures adds { IsTrue cache.old.store.is_faithful
+        → IfOk result (Adds (pages_of_cache cache.old) (new_inner level entry.now)
+        (pages_of_cache cache.new)) }
+    ensures only { IsTrue cache.old.store.is_faithful → IfErr result IsAllowed }
+    ensures passes { Passes cache.old cache.new }
+    ensures length { OnOk result (KeepsLength cache.old cache.new) }
+    ensures caused { IfErr result (IsCaused cache.old cache.new) }
+    ensures asked { cache.new.asked ≤ cache.old.asked + 2 }
+{
+    let page = cache.add_page(Kind::Inner)?;
+    tbnode::init_inner(cache.page_mut(page)?, level, entry);
+    Ok(page)
+}
+
+/// Adds an inner page of two entries.
+pub(crate) fn add_root<S: PageStore>(
+    cache: &mut PageCache<S>,
+    level: u16,
+    first: &Entry,
+    second: &Entry,
+) -> Result<u32, TreeFault>
+    requires { 1 ≤ level }
+    ensures adds { IsTrue cache.old.store.is_faithful
+        → IfOk result (Adds (pages_of_cache cache.old)
+        (AnInner (record { level = level; entries = first.now ∷ second.now ∷ [] }))
+        (pages_of_cache cache.new)) }
+    ensures only { IsTrue cache.old.store.is_faithful → IfErr result IsAllowed }
+    ensures passes { Passes cache.old cache.new }
+    ensures length { OnOk result (KeepsLength cache.old cache.new) }
+    ensures caused { IfErr result (IsCaused cache.old cache.new) }
+    ensures asked { cache.new.asked ≤ cache.old.asked + 2 }
+{
+    let page = cache.add_page(Kind::Inner)?;
+    let payload = cache.page_mut(page)?;
+    tbnode::init_inner(payload, level, first);
+    tbnode::push_entry(payload, second);
+    Ok(page)
+}
+
+/// The least box that holds all that a page has.
+pub(crate) fn cover<S: PageStore>(cache: &mut PageCache<S>, page: u32) -> Result<Box3, TreeFault>
+    ensures covers { IsTrue cache.old.store.is_faithful
+        → IfOk result (λ bounds. Covers leg_boxes (pages_of_cache cache.old) page bounds
+        (pages_of_cache cache.new)) }
+    ensures only { IsTrue cache.old.store.is_faithful
+        → HasCover leg_boxes (pages_of_cache cache.old) page → IfErr result IsAllowed }
+    ensures passes { Passes cache.old cache.new }
+    ensures length { OnOk result (KeepsLength cache.old cache.new) }
+    ensures caused { IfErr result (IsCaused cache.old cache.new) }
+    ensures asked { cache.new.asked ≤ cache.old.asked + 1 }
+{
+    let payload = cache.page(page)?;
+    match cover_of(payload) {
+        Some(bounds) => Ok(bounds),
+        None => Err(TreeFault::Malformed(page)),
+    }
 }
