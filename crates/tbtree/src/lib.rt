@@ -3,11 +3,13 @@
 #![tactic(auto)]
 
 mod fault;
+mod insertion;
 mod nodes;
 mod payloads;
 mod shape;
 mod tree;
 
 pub use fault::TreeFault;
+pub use insertion::insert;
 pub use shape::Shape;
 pub use tree::{Place, TbTree};

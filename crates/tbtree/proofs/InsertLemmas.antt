@@ -1,0 +1,243 @@
+-- One leg more, as insert's parts state it.
+use Rattle.std.proofs.Common.{ℕ, zero, suc, ◌+◌, ◌^◌, ◌%◌, ◌/◌, ◌<◌, ◌≤◌, ◌≡◌, ◌≢◌, Bool, List, [], ◌∷◌, ◌++◌, take, map, length, refl, sym, ap, ◌∙◌, arith, subst, ⊎_elim, Some, slice_get}
+use Rattle.std.specs.Prelude.{Result, Ok, Err, OnOk, ◌-◌, ◌*◌, ◌==◌, set, get_or}
+use Rattle.std.specs.List.{count_by}
+use Rattle.std.proofs.lemmas.Bool.{cases_eq, cases_lt}
+use Rattle.std.proofs.Math.Nat.{pow-zero, mod-one, div-one, zero-mod}
+use Rattle.std.proofs.lemmas.List.{length_push, append-nil, append_assoc}
+use Rattle.legs.specs.Index.{CanFollow, CanFollowInTurn}
+use Rattle.legs.specs.Costs.{ShapeView}
+use Rattle.tbnode.specs.Edits.{TakesLeg}
+use Rattle.tbtree.specs.Nodes.{LeafView}
+use Rattle.tbtree.specs.Shape.{IsShape}
+use Rattle.tbtree.proofs.TakeLemmas.{takes_leg}
+use Rattle.tbtree.proofs.LevelLemmas.{low_tree}
+use Rattle.std.proofs.lemmas.Option.{slice_get_within, slice_get-get_or}
+use Rattle.legs.specs.Blocks.{leaves, level}
+use Rattle.legs.specs.Hull.{Boxes}
+use Rattle.legs.specs.Hull.{leg_boxes}
+use Rattle.legs.specs.Costs.{leg_feature}
+use Rattle.tbtree.specs.Nodes.{Pages, HasLeaf}
+use Rattle.tbtree.specs.Stands.{page_at, owner, marks, leaf_of, PlaceStands, NumbersStand, LeavesStand, TreeStands}
+use Rattle.tbtree.specs.Way.{Hanging, Hung, Hangs}
+use Rattle.tbtree.specs.Insert.{Grows, Begins, Stands, IsPlace, Inserted, Inserts}
+use Rattle.legs.specs.Legs.{LegView}
+use Rattle.tbtree.specs.declared.tree.Place.{Place}
+use Rattle.legs.specs.Boxes.{BoxView}
+use Rattle.tbtree.specs.declared.tree.TbTree.{TbTree}
+use Rattle.tbtree.proofs.GroupLemmas.{some_none, some_same}
+use Rattle.tbtree.proofs.BeginLemmas.{get-push_last, get-push_other, begin_leaf, zip-second}
+use Rattle.tbtree.proofs.Widening.{leaf_inner}
+use Rattle.tbtree.proofs.WiderLemmas.{becomes_held, keep_inner}
+use Rattle.tbtree.proofs.FullLemmas.{one_group}
+use Rattle.tbtree.proofs.PagesLemmas.{grown_to, grown_below, grown_above, grown_within, grown_apart}
+use Rattle.tbtree.proofs.HangLemmas.{same_leaves}
+use Rattle.tbtree.proofs.PlaceLemmas.{as_many, run_some, Added, last_run, added_last, added_begun}
+use Rattle.tbtree.proofs.BoundLemmas.{few_leaves, few_of_key}
+use Rattle.tbtree.specs.Faults.{Gives, IsAllowed}
+use Rattle.tbtree.specs.declared.fault.TreeFault.{TreeFault}
+use Rattle.tbtree.specs.declared.tree.Top.{Top}
+use Rattle.std.proofs.lemmas.Nat.{mul-le}
+
+module _ {L B : Type 0} (s : Boxes L B) (feature : L → ℕ) (inner levels root : ℕ) where
+  -- a leaf that has been begun is to be hung
+  pub hanging : (old new : Pages L B) (runs : List (List L)) (place : Place) (y : L) (page : ℕ) (ls : List L) (pages : ℕ → List ℕ) → ((i : ℕ) → slice_get runs i ≢ Some []) → TreeStands s feature inner levels root old runs pages
+      → PlaceStands feature ls (marks feature runs (pages 0)) (feature y) place → Begins feature old place.last y new page → Hanging s feature inner levels root new runs y pages old.count 0
+  hanging old new runs place y page ls pages filled t at w =
+      let n = t.numbers in
+      let ms = marks feature runs (pages 0) in
+      let legs_above : 0 < place.last → 0 < place.legs = λ h. ⊎_elim (λ (u : place.legs ≡ 0). absurd (let z = (at.none u).1 in omega (arith, z, h))) (λ (u : place.legs ≢ 0). omega (arith, u)) (cases_eq place.legs 0) in
+      let last_page : 0 < place.last → place.last < old.count = λ h. (n.within 0 place.last_index place.last (zip-second (map (owner feature) runs) (pages 0) place.last_index _ (at.last_index (legs_above h)).0)).1 in
+      let last_within : place.last < old.count = ⊎_elim last_page (λ (h : place.last ≤ 0). let z = n.page_0 in omega (arith, h, z)) (cases_lt 0 place.last) in
+      let same : (p : ℕ) → p < old.count → p ≢ place.last → new.at p ≡ old.at p = λ p l u. ⊎_elim
+      (λ (z : 0 < place.last). (w.links z).becomes.rest p u)
+      (λ (z : place.last ≤ 0). ap (λ (l : Pages L B). l.at p) (w.alone (omega (arith, z))))
+      (cases_lt 0 place.last) ∙ w.adds.becomes.rest p (λ u. let q = w.adds.number in omega (arith, l, q, u)) in
+      let len : new.count ≡ old.count + 1 = ⊎_elim
+      (λ (z : 0 < place.last). (w.links z).counted)
+      (λ (z : place.last ≤ 0). ap (λ (l : Pages L B). l.count) (w.alone (omega (arith, z))))
+      (cases_lt 0 place.last) ∙ w.adds.counted in
+      let mid_page : (p : ℕ) → p < old.count → w.mid.at p ≡ old.at p = λ p l. w.adds.becomes.rest p (λ u. let q = w.adds.number in omega (arith, l, q, u)) in
+      record {
+        numbers = n;
+        as_many = len ∙ omega arith;
+        held = λ p l e. (let z = becomes_held old w.mid page p _ w.adds.becomes (⊎_elim (λ (z : 0 < place.last). (becomes_held w.mid new place.last p _ (w.links z).becomes e).0) (λ (z : place.last ≤ 0). ap (λ (l : Pages L B). l.at p) (sym (w.alone (omega (arith, z)))) ∙ e) (cases_lt 0 place.last)) in t.held p (let k = w.adds.number in let u = z.1 in omega (arith, l, len, k, u)) z.0);
+        full = ap (λ m. length runs % m) (pow-zero inner) ∙ mod-one (length runs);
+        filled = filled;
+        leaves = subst (λ q. LeavesStand new feature (runs ++ (y ∷ []) ∷ []) (pages 0 ++ q ∷ [])) w.adds.number
+            (begin_leaf feature runs (pages 0) old w.mid new page place.last y (as_many inner levels root old.count runs pages n) t.leaves
+            (λ i j p a b. (n.apart 0 i 0 j p a b).1) (n.within 0) last_within at.last
+            (λ h. let k = at.last_index (legs_above h) in (place.last_index, k.0, k.1)) w.adds w.alone w.links);
+        begun = λ k l. absurd (omega (arith, l));
+        inners = λ k j p a.
+            let z = t.inners k j p a in
+            let l : p < old.count = (n.within (suc k) j p a).1 in
+            let at_last : 0 < place.last → p ≢ place.last = λ h u. leaf_inner (w.links h).leaf z.page (some_same _ _ (sym (w.links h).was ∙ ap w.mid.at (sym u) ∙ mid_page p l ∙ z.is)) in
+            let u : p ≢ place.last = λ u. at_last (let q = (n.within (suc k) j p a).0 in omega (arith, q, u)) u in
+            keep_inner s old new p (suc k) _ _ (same p l u) z;
+      }
+
+  -- the first leaf is the root
+  pub first_hung : (nodes : Pages L B) (j p : ℕ) (box : B) → levels ≡ 0 → Hangs s feature inner levels root nodes nodes 0 j p box (Ok (record { root = p; levels = 1 }))
+  first_hung nodes j p box e runs y pages count eb ep ej v =
+      let n = v.numbers in
+      let after = runs ++ (y ∷ []) ∷ [] in
+      let is : p ≡ count = ep ∙ omega arith in
+      let none : (k : ℕ) → pages k ≡ [] = λ k. n.no_more k (omega (arith, e)) in
+      let g : grown_to 0 count pages 0 ≡ p ∷ [] = grown_below 0 count pages 0 (omega arith) ∙ (λ i. none 0 i ++ sym ep i ∷ []) in
+      let ar : length after ≡ 1 = length_push runs (y ∷ []) ∙ ap (λ r. length r + 1) (n.empty e).0 in
+      let one : length (level inner 0 after) ≡ 1 = one_group (inner ^ 0) after (omega (arith, ar)) (let z = pow-zero inner in omega (arith, ar, z)) in
+      record {
+        pages = grown_to 0 count pages;
+        leaves_are = grown_below 0 count pages 0 (omega arith) ∙ ap (λ z. pages 0 ++ z ∷ []) (omega arith);
+        tree = record {
+          held = v.held;
+          numbers = subst (λ z. NumbersStand inner 1 p z after (grown_to 0 count pages)) (sym v.as_many) (record {
+            page_0 = omega arith;
+            one_each = λ k l. subst (λ k. length (grown_to 0 count pages k) ≡ length (level inner k after)) (let z : 0 ≡ k = omega (arith, l) in z) (ap length g ∙ sym one);
+            no_more = λ k l. grown_above 0 count pages k (omega (arith, l)) ∙ none k;
+            below_top = λ k l. absurd (omega (arith, l));
+            top = λ k l. subst (λ k. (length (level inner k after) ≡ 1) × (page_at (grown_to 0 count pages) k 0 ≡ Some p)) (let z : 0 ≡ k = omega (arith, l) in z) (one, ap (λ l. slice_get l 0) g);
+            empty = λ z. absurd (omega (arith, z));
+            within = grown_within inner levels root count runs pages n 0;
+            apart = grown_apart inner levels root count runs pages n 0;
+          });
+          leaves = same_leaves s feature inner levels root 0 0 nodes nodes runs y pages count v (λ p l f. refl);
+          inners = λ k i q a. absurd (some_none q (sym a ∙ ap (λ l. slice_get l i) (grown_above 0 count pages (suc k) (omega arith) ∙ none (suc k))));
+        };
+      }
+
+-- a leg that may come next comes after those before it
+follow_push : (before legs : List LegView) (y : LegView) → CanFollowInTurn before legs → CanFollow (before ++ legs) y → CanFollowInTurn before (legs ++ y ∷ [])
+follow_push before [] y h w = (subst (λ b. CanFollow b y) (append-nil before) w, tt)
+follow_push before (l ∷ legs) y h w = (h.0, follow_push (before ++ l ∷ []) legs y h.1 (subst (λ b. CanFollow b y) (sym (append_assoc before (l ∷ []) legs)) w))
+
+legs_below : (n f : ℕ) (legs : List LegView) → 0 < n → count_by (λ l. leg_feature l == f) legs ≤ length (leaves leg_feature n legs) * n
+legs_below zero f legs h = absurd (omega (arith, h))
+legs_below (suc m) f legs h = few_of_key leg_feature m f legs
+
+inserted : (new : Pages LegView BoxView) (tree tree' : TbTree) (legs : List LegView) (pages : ℕ → List ℕ) (y : LegView) (after : Place) → tree'.shape.leaf ≡ tree.shape.leaf → tree'.shape.inner ≡ tree.shape.inner → CanFollowInTurn [] legs → CanFollow legs y
+    → Added leg_boxes leg_feature tree.shape.inner tree.shape.leaf tree'.levels tree'.root tree'.leaves new legs pages y after → Inserted new tree tree' legs pages y after
+inserted new tree tree' legs pages y after el ei in_turn w a = record {
+  pages = a.pages;
+  stands = record {
+    in_turn = follow_push [] legs y in_turn w;
+    tree_stands = subst (λ n. TreeStands leg_boxes leg_feature tree'.shape.inner tree'.levels tree'.root new (leaves leg_feature n (legs ++ y ∷ [])) a.pages) (sym el)
+        (subst (λ n. TreeStands leg_boxes leg_feature n tree'.levels tree'.root new (leaves leg_feature tree.shape.leaf (legs ++ y ∷ [])) a.pages) (sym ei) a.tree);
+    leaves_are = a.leaves_are ∙ ap (λ n. length (leaves leg_feature n (legs ++ y ∷ []))) (sym el);
+  };
+  placed = subst (λ n. PlaceStands leg_feature (legs ++ y ∷ []) (marks leg_feature (leaves leg_feature n (legs ++ y ∷ [])) (a.pages 0)) y.feature after) (sym el) a.placed;
+  others = λ f other ne p. subst (λ n. PlaceStands leg_feature (legs ++ y ∷ []) (marks leg_feature (leaves leg_feature n (legs ++ y ∷ [])) (a.pages 0)) f other) (sym el) (a.others f other ne p);
+}
+
+-- the feature's last leaf has room
+pub inserts_last : (old new : Pages LegView BoxView) (tree : TbTree) (place after : Place) (y : LegView) (res : Result (Unit {0}) TreeFault) → IsShape tree.shape → 0 < place.legs % tree.shape.leaf → OnOk res (after ≡ record place { legs = place.legs + 1 })
+    → Grows leg_boxes leg_feature tree.shape.inner tree.shape.leaf tree.levels tree.root old new place.last_index y (λ leaf. TakesLeg leaf y) res → Inserts old new tree tree place after y res
+inserts_last old new tree place after y res shape h e grows legs pages st at w =
+    let lf : 0 < tree.shape.leaf = let least = shape.least_leaf in omega (arith, least) in
+    (elim tree.shape.leaf as (λ n. tree.shape.leaf ≡ n → 0 < n → 0 < place.legs % n → Grows leg_boxes leg_feature tree.shape.inner n tree.levels tree.root old new place.last_index y (λ leaf. TakesLeg leaf y) res → TreeStands leg_boxes leg_feature tree.shape.inner tree.levels tree.root old (leaves leg_feature n legs) pages
+    → tree.leaves ≡ length (leaves leg_feature n legs) → PlaceStands leg_feature legs (marks leg_feature (leaves leg_feature n legs) (pages 0)) y.feature place → Gives res (λ _. Inserted new tree tree legs pages y after)) [
+      | zero ↦ λ u z h g t l p. absurd (omega (arith, z))
+      | suc m ↦ λ u z h g t l p.
+          let r = last_run leg_boxes leg_feature tree.shape.inner tree.levels tree.root m old.count y place legs pages h t.numbers p in
+          let few : length (r.x ∷ r.xs) < 50 = let most = shape.most_leaf in let short = r.few in omega (arith, u, most, short) in
+          let gives = g (leaves leg_feature (suc m) legs) pages r.x r.xs r.is r.few (λ (leaf : LeafView LegView) of same. takes_leg m legs y place.last_index r.x r.xs leaf st.in_turn w r.is r.owner few of same) t in
+          (elim res as (λ res. OnOk res (after ≡ record place { legs = place.legs + 1 }) → Gives res (λ _. TreeStands leg_boxes leg_feature tree.shape.inner tree.levels tree.root new (set (leaves leg_feature (suc m) legs) place.last_index ((r.x ∷ r.xs) ++ y ∷ [])) pages) → Gives res (λ _. Inserted new tree tree legs pages y after)) [
+            | Ok v ↦ λ e gives.
+                inserted new tree tree legs pages y after refl refl st.in_turn w
+                (subst (λ n. Added leg_boxes leg_feature tree.shape.inner n tree.levels tree.root tree.leaves new legs pages y after) (sym u)
+                (added_last leg_boxes leg_feature tree.shape.inner tree.levels tree.root m new y place after legs pages tree.leaves h e l p r gives))
+            | Err x ↦ λ e gives. gives
+          ]) e gives
+    ]) refl lf h grows st.tree_stands st.leaves_are at
+
+-- no run of legs is empty
+filled : (n : ℕ) (legs : List LegView) → 0 < n → (i : ℕ) → slice_get (leaves leg_feature n legs) i ≢ Some []
+filled zero legs h i e = omega (arith, h)
+filled (suc m) legs h i e = run_some leg_feature m [] legs i e
+
+-- the leaf that has been begun is to be hung
+begun_hanging : (old mid : Pages LegView BoxView) (tree : TbTree) (place : Place) (y : LegView) (page : ℕ) (legs : List LegView) (pages : ℕ → List ℕ) → 0 < tree.shape.leaf → Begins leg_feature old place.last y mid page → Stands old tree legs pages → IsPlace tree legs pages y.feature place
+    → Hanging leg_boxes leg_feature tree.shape.inner tree.levels tree.root mid (leaves leg_feature tree.shape.leaf legs) y pages old.count 0
+begun_hanging old mid tree place y page legs pages lf b st at = hanging leg_boxes leg_feature tree.shape.inner tree.levels tree.root old mid (leaves leg_feature tree.shape.leaf legs) place y page legs pages (filled tree.shape.leaf legs lf) st.tree_stands at b
+
+-- and what hang_leaf gives for it
+begun_hangs : (old mid new : Pages LegView BoxView) (tree : TbTree) (place : Place) (y : LegView) (page : ℕ) (box : BoxView) (res : Result Top TreeFault) (legs : List LegView) (pages : ℕ → List ℕ) → 0 < tree.shape.leaf → Begins leg_feature old place.last y mid page → Stands old tree legs pages → IsPlace tree legs pages y.feature place
+    → box ≡ leg_boxes.of y → Hangs leg_boxes leg_feature tree.shape.inner tree.levels tree.root mid new 0 tree.leaves page box res → Gives res (λ top. Hung leg_boxes leg_feature tree.shape.inner top.levels top.root new (leaves leg_feature tree.shape.leaf legs) y (pages 0) old.count)
+begun_hangs old mid new tree place y page box res legs pages lf b st at eb hangs =
+    let rs = leaves leg_feature tree.shape.leaf legs in
+    hangs rs y pages old.count (sym eb) (b.adds.number ∙ omega arith) (st.leaves_are ∙ sym (ap (λ d. length rs / d) (pow-zero tree.shape.inner) ∙ div-one (length rs))) (begun_hanging old mid tree place y page legs pages lf b st at)
+
+-- the feature has no leaf, or its last one is full
+pub inserts_begun : (old mid new : Pages LegView BoxView) (tree tree' : TbTree) (place after : Place) (y : LegView) (page : ℕ) (box : BoxView) → 0 < tree.shape.leaf → place.legs % tree.shape.leaf ≡ 0
+    → Begins leg_feature old place.last y mid page → box ≡ leg_boxes.of y → Hangs leg_boxes leg_feature tree.shape.inner tree.levels tree.root mid new 0 tree.leaves page box (Ok (record { root = tree'.root; levels = tree'.levels }))
+    → tree' ≡ record tree { root = tree'.root; levels = tree'.levels; leaves = tree.leaves + 1 }
+    → (place.last ≡ 0 → after.first ≡ page) → (0 < place.last → after.first ≡ place.first) → after.last ≡ page → after.last_index ≡ tree.leaves → after.legs ≡ place.legs + 1
+    → Inserts old new tree tree' place after y (Ok tt)
+inserts_begun old mid new tree tree' place after y page box lf h b eb hangs et f0 f1 la ia ga legs pages st at w =
+    let lv : tree'.leaves ≡ tree.leaves + 1 = ap (λ (t : TbTree). t.leaves) et in
+    let is : page ≡ old.count = b.adds.number in
+    let hung = begun_hangs old mid new tree place y page box (Ok (record { root = tree'.root; levels = tree'.levels })) legs pages lf b st at eb hangs in
+    inserted new tree tree' legs pages y after (ap (λ (t : TbTree). t.shape.leaf) et) (ap (λ (t : TbTree). t.shape.inner) et) st.in_turn w
+    ((elim tree.shape.leaf as (λ n. 0 < n → place.legs % n ≡ 0 → TreeStands leg_boxes leg_feature tree.shape.inner tree.levels tree.root old (leaves leg_feature n legs) pages → tree.leaves ≡ length (leaves leg_feature n legs)
+    → PlaceStands leg_feature legs (marks leg_feature (leaves leg_feature n legs) (pages 0)) y.feature place → Hung leg_boxes leg_feature tree.shape.inner tree'.levels tree'.root new (leaves leg_feature n legs) y (pages 0) old.count
+    → Added leg_boxes leg_feature tree.shape.inner n tree'.levels tree'.root tree'.leaves new legs pages y after) [
+      | zero ↦ λ z h t l p g. absurd (omega (arith, z))
+      | suc m ↦ λ z h t l p g.
+          subst (λ k. Added leg_boxes leg_feature tree.shape.inner (suc m) tree'.levels tree'.root k new legs pages y after) (sym (lv ∙ ap (λ k. k + 1) l))
+          (added_begun leg_boxes leg_feature tree.shape.inner tree.levels tree.root m tree'.levels tree'.root old.count old new y place after legs pages h t p
+          (λ z. f0 z ∙ is) f1 (la ∙ is) (ia ∙ l) ga g)
+    ]) lf h st.tree_stands st.leaves_are at hung)
+
+pub hang_not : (old mid new after : Pages LegView BoxView) (tree tree' : TbTree) (place place' : Place) (y : LegView) (page : ℕ) (box : BoxView) (x : TreeFault) → 0 < tree.shape.leaf → Begins leg_feature old place.last y mid page → box ≡ leg_boxes.of y
+    → Hangs leg_boxes leg_feature tree.shape.inner tree.levels tree.root mid new 0 tree.leaves page box (Err x) → Inserts old after tree tree' place place' y (Err x)
+hang_not old mid new after tree tree' place place' y page box x lf b eb hangs legs pages st at w = begun_hangs old mid new tree place y page box (Err x) legs pages lf b st at eb hangs
+
+-- the feature's last leaf is there
+last_leaf : (old : Pages LegView BoxView) (tree : TbTree) (place : Place) (y : LegView) (legs : List LegView) (pages : ℕ → List ℕ) → Stands old tree legs pages → IsPlace tree legs pages y.feature place → 0 < place.last → HasLeaf old place.last
+last_leaf old tree place y legs pages st at h =
+    let rs = leaves leg_feature tree.shape.leaf legs in
+    let t = st.tree_stands in
+    let above : 0 < place.legs = ⊎_elim (λ (u : place.legs ≡ 0). absurd (let z = (at.none u).1 in omega (arith, z, h))) (λ (u : place.legs ≢ 0). omega (arith, u)) (cases_eq place.legs 0) in
+    let a : slice_get (pages 0) place.last_index ≡ Some place.last = zip-second (map (owner leg_feature) rs) (pages 0) place.last_index _ (at.last_index above).0 in
+    let l : place.last_index < length rs = (let u = as_many tree.shape.inner tree.levels tree.root old.count rs pages t.numbers in let v = slice_get_within (pages 0) place.last_index place.last a in omega (arith, u, v)) in
+    let r = get_or rs place.last_index [] in
+    record { above = h; leaf = leaf_of (owner leg_feature r) (marks leg_feature rs (pages 0)) place.last_index r; is = t.leaves place.last_index place.last r a (slice_get-get_or rs place.last_index [] l) }
+
+pub add_not : (old new : Pages LegView BoxView) (tree tree' : TbTree) (place place' : Place) (y : LegView) (x : TreeFault) → ((0 < place.last → HasLeaf old place.last) → IsAllowed x) → Inserts old new tree tree' place place' y (Err x)
+add_not old new tree tree' place place' y x only legs pages st at w = only (last_leaf old tree place y legs pages st at)
+
+-- no count is past its type
+pub few_enough : (old new : Pages LegView BoxView) (tree tree' : TbTree) (place place' : Place) (y : LegView) (x : TreeFault) → IsShape tree.shape → old.count < 2 ^ 32 → (tree.leaves < old.count → tree.levels < 34 → place.legs < 2 ^ 64 - 1 → ⊥) → Inserts old new tree tree' place place' y (Err x)
+few_enough old new tree tree' place place' y x shape few most legs pages st at w =
+    let n = st.tree_stands.numbers in
+    let rs = leaves leg_feature tree.shape.leaf legs in
+    let lf : 0 < tree.shape.leaf = let least = shape.least_leaf in omega (arith, least) in
+    let lp = as_many tree.shape.inner tree.levels tree.root old.count rs pages n in
+    let a : length (pages 0) < old.count = few_leaves tree.shape.inner tree.levels tree.root old.count rs pages n in
+    let low : tree.levels < 34 = ⊎_elim (λ (some : 0 < length rs). low_tree tree.shape.inner tree.levels tree.root old.count rs pages shape.least_inner n some (omega (arith, a, lp, few)))
+    (λ (none : length rs ≤ 0). ⊎_elim (λ (h : tree.levels < 34). h) (λ (h : 34 ≤ tree.levels). absurd (let one = n.one_each 0 (omega (arith, h)) in let many = n.below_top 0 (omega (arith, h)) in omega (arith, one, many, lp, none))) (cases_lt tree.levels 34))
+    (cases_lt 0 (length rs)) in
+    let l = st.leaves_are in
+    let f = legs_below tree.shape.leaf y.feature legs lf in
+    let p : length rs * tree.shape.leaf ≤ (2 ^ 32 - 2) * 50 = mul-le (length rs) tree.shape.leaf (2 ^ 32 - 2) 50 (omega (arith, a, lp, few)) shape.most_leaf in
+    absurd (most (omega (arith, a, lp, l)) low (let c = at.legs_are in omega (arith, c, f, p)))
+
+-- a tree without levels has no legs
+pub none_without_levels : (old new : Pages LegView BoxView) (tree tree' : TbTree) (place place' : Place) (y : LegView) (x : TreeFault) → tree.levels ≡ 0 → place.legs % tree.shape.leaf ≢ 0 → Inserts old new tree tree' place place' y (Err x)
+none_without_levels old new tree tree' place place' y x e h legs pages st at w =
+    let n = st.tree_stands.numbers in
+    let above : 0 < place.legs = ⊎_elim (λ (u : place.legs ≡ 0). absurd (h (ap (λ k. k % tree.shape.leaf) u ∙ zero-mod tree.shape.leaf))) (λ (u : place.legs ≢ 0). omega (arith, u)) (cases_eq place.legs 0) in
+    let a : slice_get (pages 0) place.last_index ≡ Some place.last = zip-second (map (owner leg_feature) (leaves leg_feature tree.shape.leaf legs)) (pages 0) place.last_index _ (at.last_index above).0 in
+    absurd (some_none place.last (sym a ∙ ap (λ l. slice_get l place.last_index) (n.no_more 0 (omega (arith, e)))))
+
+-- whether a tree is spent is no matter of its pages
+respent : (nodes : Pages LegView BoxView) (tree : TbTree) (b b' : Bool) (legs : List LegView) (pages : ℕ → List ℕ) → Stands nodes (record tree { spent = b }) legs pages → Stands nodes (record tree { spent = b' }) legs pages
+respent nodes tree b b' legs pages v = record { in_turn = v.in_turn; tree_stands = v.tree_stands; leaves_are = v.leaves_are }
+
+pub inserts_spent : (old new : Pages LegView BoxView) (tree tree' : TbTree) (a b b' : Bool) (place after : Place) (y : LegView) (res : Result (Unit {0}) TreeFault) → Inserts old new (record tree { spent = a }) tree' place after y res
+    → Inserts old new (record tree { spent = b }) (record tree' { spent = b' }) place after y res
+inserts_spent old new tree tree' a b b' place after y (Ok u) f legs pages st at w =
+    let i = f legs pages (respent old tree b a legs pages st) at w in
+    record { pages = i.pages; stands = respent new tree' tree'.spent b' (legs ++ y ∷ []) i.pages i.stands; placed = i.placed; others = i.others }
+inserts_spent old new tree tree' a b b' place after y (Err x) f legs pages st at w = f legs pages (respent old tree b a legs pages st) at w

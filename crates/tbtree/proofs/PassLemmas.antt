@@ -1,0 +1,49 @@
+-- One call after another.
+use Rattle.std.proofs.Common.{ℕ, ◌≡◌, ◌≤◌, ◌<◌, ◌∙◌, ◌+◌, refl, arith, false, IsTrue}
+use Rattle.pages.specs.Store.{Store, Faulted}
+use Rattle.pages.specs.Store as store
+use Rattle.pagecache.specs.Cache.{Cache}
+use Rattle.pagecache.specs.declared.fault.CacheFault.{CacheFault}
+use Rattle.pagecache.specs.declared.fault.CacheFault.TheVariants as cache
+use Rattle.tbtree.specs.Faults.{IsCaused, IsCausedInCache}
+use Rattle.tbtree.specs.Passes.{Passes}
+use Rattle.tbtree.specs.declared.fault.TreeFault.{TreeFault}
+use Rattle.tbtree.specs.declared.fault.TreeFault.TheVariants.{Cache as OfCache, Malformed, Spent}
+
+store_keeps-refl : (a : Store) → store.Keeps a a
+store_keeps-refl a = record { most = refl; faithful = refl; faults = omega arith }
+
+store_keeps-trans : (a b c : Store) → store.Keeps a b → store.Keeps b c → store.Keeps a c
+store_keeps-trans a b c k l = record { most = l.most ∙ k.most; faithful = l.faithful ∙ k.faithful; faults = omega (arith, k.faults, l.faults) }
+
+pub passes_refl : (a : Cache) → Passes a a
+passes_refl a = record {
+  store = store_keeps-refl a.store;
+  capacity = refl;
+  count = omega arith;
+  first = λ f h. refl;
+  unmarked = λ h u. u;
+  written = λ f h u. refl;
+}
+
+pub passes_trans : (a b c : Cache) → Passes a b → Passes b c → Passes a c
+passes_trans a b c p q = record {
+  store = store_keeps-trans a.store b.store c.store p.store q.store;
+  capacity = q.capacity ∙ p.capacity;
+  count = omega (arith, p.count, q.count);
+  first = λ f h. q.first (p.store.faithful ∙ f) (omega (arith, h, p.count)) ∙ p.first f h;
+  unmarked = λ h u. q.unmarked (omega (arith, h, p.count)) (p.unmarked h u);
+  written = λ f h u. q.written (p.store.faithful ∙ f) (omega (arith, h, p.count)) (p.unmarked h u) ∙ p.written f h u;
+}
+
+caused_in_cache : (a b c : Cache) (e : CacheFault) → Passes a b → IsCausedInCache b c e → IsCausedInCache a c e
+caused_in_cache a b c cache.NoPage p h = tt
+caused_in_cache a b c cache.Store p h = omega (arith, h, p.store.faults)
+caused_in_cache a b c (cache.Damaged n) p h = tt
+caused_in_cache a b c cache.StoreFull p h = h
+caused_in_cache a b c cache.Memory p h = tt
+
+pub caused_after : (a b c : Cache) (e : TreeFault) → Passes a b → IsCaused b c e → IsCaused a c e
+caused_after a b c (OfCache e) p h = caused_in_cache a b c e p h
+caused_after a b c (Malformed n) p h = tt
+caused_after a b c Spent p h = tt

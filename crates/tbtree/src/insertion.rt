@@ -1,0 +1,332 @@
+//! Insertion.
+ghost use Rattle.std.specs.Prelude.{ℕ, [], None, ◌≢◌, ◌≡◌, ◌<◌, ◌≤◌, ◌+◌, ◌-◌, ◌*◌, ◌%◌, ◌^◌, IfOk, IfErr, OnOk, OnErr, IsTrue, false, true, Err};
+ghost use Rattle.legs.specs.Costs.{leg_feature};
+ghost use Rattle.legs.specs.Hull.{leg_boxes};
+ghost use Rattle.tbnode.specs.Edits.{TakesLeg};
+ghost use Rattle.tbtree.specs.Faults.{IsAllowed, IsCaused};
+ghost use Rattle.tbtree.specs.Nodes.{pages_of_cache, HasLeaf};
+ghost use Rattle.tbtree.specs.Passes.{Passes, KeepsLength};
+ghost use Rattle.tbtree.specs.Way.{IsOnWay, Hangs};
+ghost use Rattle.tbtree.specs.Insert.{Grows, Begins, Inserts};
+ghost use Rattle.tbtree.specs.Shape.{IsShape};
+ghost use Rattle.tbtree.specs.declared.fault.TreeFault.{TreeFault};
+
+use crate::fault::TreeFault;
+use crate::nodes;
+use crate::tree::{Place, TbTree, Top};
+use legs::{Box3, Leg};
+use pagecache::PageCache;
+use pages::PageStore;
+use tbnode::Entry;
+
+/// No tree has as many levels: its leaves are fewer than 2^32.
+const MOST_LEVELS: u32 = 34;
+
+/// Widens the boxes above the level on the way to its page `at`, and gives that page.
+#[tactic(auto, using(crate::proofs::PassLemmas::passes_trans, crate::proofs::PassLemmas::passes_refl, crate::proofs::PassLemmas::caused_after))]
+fn way<S: PageStore>(
+    cache: &mut PageCache<S>,
+    tree: &TbTree,
+    at: u32,
+    level: u16,
+    bounds: &Box3,
+) -> Result<u32, TreeFault>
+    requires level { level < tree.now.levels }
+    requires few { tree.now.levels < 2 ^ 16 }
+    ensures way { IsTrue cache.old.store.is_faithful
+        → IsOnWay leg_boxes tree.now.shape.inner tree.now.levels tree.now.root
+        (pages_of_cache cache.old) (pages_of_cache cache.new) level at bounds.now result }
+    ensures passes { Passes cache.old cache.new }
+    ensures length { OnOk result (KeepsLength cache.old cache.new) }
+    ensures caused { IfErr result (IsCaused cache.old cache.new) }
+    ensures asked { cache.new.asked + level + 1 ≤ cache.old.asked + tree.now.levels }
+{
+    if u32::from(level) + 1 == tree.levels {
+        return Ok(tree.root);
+    }
+    let inner = u32::from(tree.shape.inner());
+    let parent = way(cache, tree, at / inner, level + 1, bounds)?;
+    nodes::widen(cache, parent, level + 1, (at % inner) as usize, bounds)
+}
+
+/// Puts a leg at the end of the leaf of that number, which has room, and widens the boxes above it.
+#[tactic(auto, using(crate::proofs::PassLemmas::passes_trans, crate::proofs::PassLemmas::passes_refl, crate::proofs::PassLemmas::caused_after))]
+pub(crate) fn into_leaf<S: PageStore>(
+    cache: &mut PageCache<S>,
+    tree: &TbTree,
+    number: u32,
+    leg: &Leg,
+) -> Result<(), TreeFault>
+    requires levels { 0 < tree.now.levels }
+    requires few { tree.now.levels < 2 ^ 16 }
+    ensures grows { IsTrue cache.old.store.is_faithful
+        → Grows leg_boxes leg_feature tree.now.shape.inner tree.now.shape.leaf tree.now.levels
+        tree.now.root (pages_of_cache cache.old) (pages_of_cache cache.new) number leg.now
+        (λ leaf. TakesLeg leaf leg.now) result }
+    ensures passes { Passes cache.old cache.new }
+    ensures length { OnOk result (KeepsLength cache.old cache.new) }
+    ensures caused { IfErr result (IsCaused cache.old cache.new) }
+    ensures asked { cache.new.asked ≤ cache.old.asked + tree.now.levels }
+{
+    let most = tree.shape.leaf();
+    let bounds = Box3::of(leg);
+    let page = way(cache, tree, number, 0, &bounds)?;
+    nodes::push_leg(cache, page, most, leg)
+}
+
+/// Makes a root above the old one, which is of that level, and a new block beside it.
+#[tactic(auto, using(crate::proofs::PassLemmas::passes_trans, crate::proofs::PassLemmas::passes_refl, crate::proofs::PassLemmas::caused_after))]
+fn root_over<S: PageStore>(
+    cache: &mut PageCache<S>,
+    tree: &TbTree,
+    level: u16,
+    child: &Entry,
+) -> Result<Top, TreeFault>
+    requires wide { 1 < tree.now.shape.inner }
+    requires top { level + 1 ≡ tree.now.levels }
+    requires few { tree.now.levels < 2 ^ 16 - 1 }
+    ensures hangs { IsTrue cache.old.store.is_faithful → (at : ℕ)
+        → Hangs leg_boxes leg_feature tree.now.shape.inner tree.now.levels tree.now.root
+        (pages_of_cache cache.old) (pages_of_cache cache.new) level at child.now.child
+        child.now.bounds result }
+    ensures passes { Passes cache.old cache.new }
+    ensures length { OnOk result (KeepsLength cache.old cache.new) }
+    ensures caused { IfErr result (IsCaused cache.old cache.new) }
+    ensures asked { cache.new.asked ≤ cache.old.asked + 3 }
+    ensures levels { IfOk result (λ top. top.levels ≡ tree.now.levels + 1) }
+{
+    let bounds = nodes::cover(cache, tree.root)?;
+    let first = Entry {
+        child: tree.root,
+        bounds,
+    };
+    let root = nodes::add_root(cache, level + 1, &first, child)?;
+    Ok(Top {
+        root,
+        levels: tree.levels + 1,
+    })
+}
+
+/// Hangs the new block `at` of the level, whose page is `child`, into the right-most page of the level above.
+#[tactic(auto, using(crate::proofs::PassLemmas::passes_trans, crate::proofs::PassLemmas::passes_refl, crate::proofs::PassLemmas::caused_after))]
+fn hang<S: PageStore>(
+    cache: &mut PageCache<S>,
+    tree: &TbTree,
+    at: u32,
+    level: u16,
+    child: &Entry,
+) -> Result<Top, TreeFault>
+    requires level { level < tree.now.levels }
+    requires few { tree.now.levels < 2 ^ 16 - 1 }
+    ensures hangs { IsTrue cache.old.store.is_faithful
+        → Hangs leg_boxes leg_feature tree.now.shape.inner tree.now.levels tree.now.root
+        (pages_of_cache cache.old) (pages_of_cache cache.new) level at child.now.child
+        child.now.bounds result }
+    ensures passes { Passes cache.old cache.new }
+    ensures length { OnOk result (KeepsLength cache.old cache.new) }
+    ensures caused { IfErr result (IsCaused cache.old cache.new) }
+    ensures asked { IfOk result (λ top. cache.new.asked + 2 * level + 1
+        ≤ cache.old.asked + 2 * top.levels) }
+{
+    let inner = u32::from(tree.shape.inner());
+    if u32::from(level) + 1 == tree.levels {
+        return root_over(cache, tree, level, child);
+    }
+    if at % inner == 0 {
+        let page = nodes::add_inner(cache, level + 1, child)?;
+        let block = Entry {
+            child: page,
+            bounds: child.bounds,
+        };
+        return hang(cache, tree, at / inner, level + 1, &block);
+    }
+    let parent = way(cache, tree, at / inner, level + 1, &child.bounds)?;
+    nodes::attach(cache, parent, level + 1, tree.shape.inner(), child)?;
+    Ok(Top {
+        root: tree.root,
+        levels: tree.levels,
+    })
+}
+
+/// Puts a leg into its feature's last leaf, which has room.
+fn into_last<S: PageStore>(
+    cache: &mut PageCache<S>,
+    tree: &TbTree,
+    place: &mut Place,
+    leg: &Leg,
+) -> Result<(), TreeFault>
+    requires levels { 0 < tree.now.levels }
+    requires few { tree.now.levels < 2 ^ 16 }
+    requires shape { IsShape tree.now.shape }
+    requires room { 0 < place.old.legs % tree.now.shape.leaf }
+    requires few_legs { place.old.legs < 2 ^ 64 - 1 }
+    ensures inserts { IsTrue cache.old.store.is_faithful
+        → Inserts (pages_of_cache cache.old) (pages_of_cache cache.new) tree.now tree.now
+        place.old place.new leg.now result }
+    ensures passes { Passes cache.old cache.new }
+    ensures length { OnOk result (KeepsLength cache.old cache.new) }
+    ensures caused { IfErr result (IsCaused cache.old cache.new) }
+    ensures asked { cache.new.asked ≤ cache.old.asked + tree.now.levels }
+{
+    into_leaf(cache, tree, place.last_index, leg)?;
+    place.legs += 1;
+    Ok(())
+}
+
+/// Makes a leaf of the leg alone, after the leaf `last`, if there is one.
+#[tactic(auto, using(crate::proofs::PassLemmas::passes_trans, crate::proofs::PassLemmas::passes_refl, crate::proofs::PassLemmas::caused_after))]
+fn add_last<S: PageStore>(cache: &mut PageCache<S>, last: u32, leg: &Leg) -> Result<u32, TreeFault>
+    ensures begins { IsTrue cache.old.store.is_faithful
+        → IfOk result (Begins leg_feature (pages_of_cache cache.old) last leg.now
+        (pages_of_cache cache.new)) }
+    ensures only { IsTrue cache.old.store.is_faithful
+        → (0 < last → HasLeaf (pages_of_cache cache.old) last) → IfErr result IsAllowed }
+    ensures passes { Passes cache.old cache.new }
+    ensures length { OnOk result (KeepsLength cache.old cache.new) }
+    ensures caused { IfErr result (IsCaused cache.old cache.new) }
+    ensures asked { cache.new.asked ≤ cache.old.asked + 3 }
+{
+    if last == 0 {
+        return nodes::add_leaf(cache, last, leg);
+    }
+    let page = nodes::add_leaf(cache, last, leg)?;
+    nodes::link(cache, last, page)?;
+    Ok(page)
+}
+
+/// Hangs the page of a new leaf. The first leaf is the root.
+#[tactic(auto, using(crate::proofs::PassLemmas::passes_trans, crate::proofs::PassLemmas::passes_refl, crate::proofs::PassLemmas::caused_after))]
+fn hang_leaf<S: PageStore>(
+    cache: &mut PageCache<S>,
+    tree: &TbTree,
+    page: &Entry,
+) -> Result<Top, TreeFault>
+    requires few { tree.now.levels < 2 ^ 16 - 1 }
+    ensures hangs { IsTrue cache.old.store.is_faithful
+        → Hangs leg_boxes leg_feature tree.now.shape.inner tree.now.levels tree.now.root
+        (pages_of_cache cache.old) (pages_of_cache cache.new) 0 tree.now.leaves
+        page.now.child page.now.bounds result }
+    ensures passes { Passes cache.old cache.new }
+    ensures length { OnOk result (KeepsLength cache.old cache.new) }
+    ensures caused { IfErr result (IsCaused cache.old cache.new) }
+    ensures asked { IfOk result (λ top. cache.new.asked + 1 ≤ cache.old.asked + 2 * top.levels) }
+{
+    if tree.levels == 0 {
+        return Ok(Top {
+            root: page.child,
+            levels: 1,
+        });
+    }
+    hang(cache, tree, tree.leaves, 0, page)
+}
+
+/// Puts a leg into a leaf of its own.
+#[tactic(auto, using(crate::proofs::PassLemmas::passes_trans, crate::proofs::PassLemmas::passes_refl, crate::proofs::PassLemmas::caused_after))]
+fn begin<S: PageStore>(
+    tree: &mut TbTree,
+    cache: &mut PageCache<S>,
+    place: &mut Place,
+    leg: &Leg,
+) -> Result<(), TreeFault>
+    requires shape { IsShape tree.old.shape }
+    requires full { place.old.legs % tree.old.shape.leaf ≡ 0 }
+    requires few_legs { place.old.legs < 2 ^ 64 - 1 }
+    requires few_leaves { tree.old.leaves < 2 ^ 32 - 1 }
+    requires few_levels { tree.old.levels < 2 ^ 16 - 1 }
+    ensures inserts { IsTrue cache.old.store.is_faithful
+        → Inserts (pages_of_cache cache.old) (pages_of_cache cache.new) tree.old tree.new
+        place.old place.new leg.now result }
+    ensures spent { tree.new.spent ≡ tree.old.spent }
+    ensures shape { tree.new.shape ≡ tree.old.shape }
+    ensures passes { Passes cache.old cache.new }
+    ensures length { OnOk result (KeepsLength cache.old cache.new) }
+    ensures caused { IfErr result (IsCaused cache.old cache.new) }
+    ensures asked { OnOk result (cache.new.asked
+        ≤ cache.old.asked + (2 * tree.new.levels + 2)) }
+{
+    let page = add_last(cache, place.last, leg)?;
+    let bounds = Box3::of(leg);
+    let leaf = Entry {
+        child: page,
+        bounds,
+    };
+    let top = hang_leaf(cache, tree, &leaf)?;
+    let first = if place.last == 0 { page } else { place.first };
+    *place = Place {
+        first,
+        last: page,
+        last_index: tree.leaves,
+        legs: place.legs + 1,
+    };
+    tree.root = top.root;
+    tree.levels = top.levels;
+    tree.leaves += 1;
+    Ok(())
+}
+
+/// Puts a leg into its feature's last leaf, or into a new one.
+fn put<S: PageStore>(
+    tree: &mut TbTree,
+    cache: &mut PageCache<S>,
+    place: &mut Place,
+    leg: &Leg,
+) -> Result<(), TreeFault>
+    ensures inserts { IsTrue cache.old.store.is_faithful
+        → Inserts (pages_of_cache cache.old) (pages_of_cache cache.new) tree.old tree.new
+        place.old place.new leg.now result }
+    ensures spent { tree.new.spent ≡ tree.old.spent }
+    ensures shape { tree.new.shape ≡ tree.old.shape }
+    ensures passes { Passes cache.old cache.new }
+    ensures length { OnOk result (KeepsLength cache.old cache.new) }
+    ensures caused { IfErr result (IsCaused cache.old cache.new) }
+    ensures asked { OnOk result (cache.new.asked
+        ≤ cache.old.asked + (2 * (tree.new.levels - 1) + 4)) }
+{
+    let leaf = u64::from(tree.shape.leaf());
+    if tree.leaves >= cache.count() || tree.levels >= MOST_LEVELS || place.legs == u64::MAX {
+        return Err(TreeFault::Malformed(tree.root));
+    }
+    if place.legs % leaf == 0 {
+        return begin(tree, cache, place, leg);
+    }
+    if tree.levels == 0 {
+        return Err(TreeFault::Malformed(place.last));
+    }
+    into_last(cache, tree, place, leg)
+}
+
+/// Puts a leg into the tree, at the place of its feature. Any refusal leaves the tree spent, and a spent tree is
+/// refused by `Spent`.
+pub fn insert<S: PageStore>(
+    tree: &mut TbTree,
+    cache: &mut PageCache<S>,
+    place: &mut Place,
+    leg: &Leg,
+) -> Result<(), TreeFault>
+    // Pages that stand for legs stand for them with one more, which may follow them.
+    ensures inserts { tree.old.spent ≡ false → IsTrue cache.old.store.is_faithful
+        → Inserts (pages_of_cache cache.old) (pages_of_cache cache.new) tree.old tree.new
+        place.old place.new leg.now result }
+    ensures shape { tree.new.shape ≡ tree.old.shape }
+
+    // What is left of the cache, over any pages.
+    ensures passes { Passes cache.old cache.new }
+    ensures length { OnOk result (KeepsLength cache.old cache.new) }
+    ensures caused { IfErr result (IsCaused cache.old cache.new) }
+    ensures asked { OnOk result (cache.new.asked
+        ≤ cache.old.asked + (2 * (tree.new.levels - 1) + 4)) }
+
+    // A refusal is for good.
+    ensures works { OnOk result (tree.new.spent ≡ false) }
+    ensures spent { OnErr result (tree.new.spent ≡ true) }
+    ensures was_spent { tree.old.spent ≡ true → (result ≡ Err TreeFault.Spent)
+        × (cache.new ≡ cache.old) }
+{
+    if tree.spent {
+        return Err(TreeFault::Spent);
+    }
+    tree.spent = true;
+    put(tree, cache, place, leg)?;
+    tree.spent = false;
+    Ok(())
+}
