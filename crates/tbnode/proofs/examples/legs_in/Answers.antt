@@ -10,5 +10,5 @@ loop-i-preserved c =
     let i = c.loop-i.i in
     let below : i < length legs = omega (arith, c.loop-i-test.true, c.len-i-end.ensures.value) in
     c.in_ok-push.ensures.items ∙ ap (λ xs. xs ++ leg ∷ []) c.loop-i.invariant
-    ∙ ap (λ x. take i legs ++ x ∷ []) (sym (get_or_from_slice_get legs i leg leg c.leg.ensures))
+    ∙ ap (λ x. take i legs ++ x ∷ []) (sym (get_or_from_slice_get legs i leg leg c.leg.ensures.value))
     ∙ sym (take_more legs i leg below)
