@@ -40,14 +40,15 @@ leg_of feature bytes = record {
   row = number_at 4 72 bytes;
 }
 
--- the moments rise, and they are in range
+-- the moments rise, and both are in range
 unfoldable pub has_moments : LegView → Bool
 has_moments leg = int_lt leg.t0 leg.t1 && is_some (some_moment leg.t0) && is_some (some_moment leg.t1)
 
--- the coordinates are in range
+-- the coordinates of its start are in range
 unfoldable pub has_start : LegView → Bool
 has_start leg = is_some (units_within leg.x0) && is_some (units_within leg.y0) && is_some (units_within leg.z0)
 
+-- the coordinates of its end are in range
 unfoldable pub has_end : LegView → Bool
 has_end leg = is_some (units_within leg.x1) && is_some (units_within leg.y1) && is_some (units_within leg.z1)
 

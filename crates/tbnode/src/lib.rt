@@ -17,4 +17,6 @@ pub use form::{inner, leaf};
 pub use views::{Inner, InnerHead, Leaf, LeafHead, MOST_ENTRIES, MOST_LEGS};
 
 #[cfg(test)]
+mod examples;
+#[cfg(test)]
 mod tests;

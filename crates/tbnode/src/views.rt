@@ -83,7 +83,8 @@ impl<'a> Leaf<'a> {
     /// Leg `i`, from 0.
     pub fn leg(&self, i: usize) -> Leg
         requires { i < length self.now.legs }
-        ensures { slice_get self.now.legs i ≡ Some result }
+        ensures value { slice_get self.now.legs i ≡ Some result }
+        ensures feature { result.feature ≡ self.now.feature }
     {
         let bytes = &self.payload.bytes;
         leg_in(part(bytes, 16 + 80 * i, 80), u32_at(bytes, 0))

@@ -1,5 +1,5 @@
 use Rattle.std.proofs.Common.{ap, ◌∙◌, arith, ◌<◌}
-use Rattle.tbnode.specs.Form.{leg_count, is_leg_at}
+use Rattle.tbnode.specs.Form.{leg_count, is_leg_at, leaf_of}
 use Rattle.tbnode.specs.Layout.{leg_of, is_leg}
 use Rattle.tbnode.specs.Parts.{slot}
 use Rattle.tbnode.proofs.FormLemmas.{leaf_form, legs_counted, leg_shown, leg_lawful}
@@ -31,8 +31,13 @@ leg_in-requires-clause-lawful c =
     let h : c.args.i < leg_count bytes = omega (arith, c.requires, legs_counted bytes _ c.self.view_is) in
     ap is_leg c.part.ensures.value ∙ leg_lawful bytes c.args.i (all_below-at (is_leg_at bytes) (leg_count bytes) c.args.i f.legs h)
 
-pub returns : goal.returns
-returns c =
+pub returns-clause-value : goal.returns-clause-value
+returns-clause-value c =
     let bytes = c.self.inside.payload.now.bytes in
     leg_shown bytes _ c.args.i _ c.self.view_is c.requires
     (c.leg_in.ensures ∙ ap (λ xs. leg_of c.u32_at.result xs) c.part.ensures.value ∙ ap (λ n. leg_of n (slot 80 c.args.i bytes)) c.u32_at.ensures)
+
+pub returns-clause-feature : goal.returns-clause-feature
+unfolding leg_of leaf_of
+returns-clause-feature c =
+    ap (λ l. l.feature) c.leg_in.ensures ∙ c.u32_at.ensures ∙ ap (λ v. v.feature) c.self.view_is
