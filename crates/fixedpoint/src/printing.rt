@@ -1,5 +1,5 @@
 //! Printing a number, exactly and as short as can be.
-ghost use Rattle.std.specs.Prelude.{◌≡◌, ◌≤◌, ◌<◌, ◌+◌, ◌^◌, ◌++◌, OnOk, OnErr, Ok};
+ghost use Rattle.std.specs.Prelude.{◌≡◌, ◌≤◌, ◌<◌, ◌+◌, ◌/◌, ◌%◌, ◌^◌, ◌++◌, OnOk, OnErr, Ok};
 ghost use Rattle.arrayvec.specs.ArrayVec.{array_vec_len};
 ghost use Rattle.fixedpoint.specs.Number.{number_of, IsInRange};
 ghost use Rattle.fixedpoint.specs.NumberText.{fraction_digits, plain_text, number_text};
@@ -11,6 +11,19 @@ use itoa::Buffer;
 
 /// Room for a sign, a whole number of at most 40 digits, a point and 7 digits behind it.
 type Text = ArrayVec<u8, 64>;
+
+/// How often `power` goes into `n`, and what is left. By a constant a compiler multiplies where it would divide.
+fn split(n: u64, power: u64) -> (u64, u64)
+    requires { 0 < power }
+    ensures quotient { result.0 ≡ n / power }
+    ensures rest { result.1 ≡ n % power }
+{
+    match power {
+        10_000_000 => (n / 10_000_000, n % 10_000_000),
+        1_000 => (n / 1_000, n % 1_000),
+        _ => (n / power, n % power),
+    }
+}
 
 /// Appends the digits of `rest / power` behind the point, until nothing is left.
 fn push_fraction(text: &mut Text, power: u64, places: u32, rest: u64)
@@ -24,9 +37,9 @@ fn push_fraction(text: &mut Text, power: u64, places: u32, rest: u64)
         if rest == 0 {
             break;
         }
-        rest *= 10;
-        text.push(b'0' + (rest / power) as u8);
-        rest %= power;
+        let (digit, next) = split(rest * 10, power);
+        text.push(b'0' + digit as u8);
+        rest = next;
     }
 }
 
@@ -39,8 +52,8 @@ fn push_magnitude(text: &mut Text, units: u64, power: u64, places: u32)
     ensures { text.new.items ≡ text.old.items ++ plain_text places units }
 {
     let mut buffer = Buffer::new();
-    let _ = text.try_extend_from_slice(buffer.format(units / power).as_bytes());
-    let rest = units % power;
+    let (whole, rest) = split(units, power);
+    let _ = text.try_extend_from_slice(buffer.format(whole).as_bytes());
     if rest != 0 {
         text.push(b'.');
         push_fraction(text, power, places, rest);

@@ -125,6 +125,65 @@ fn an_earlier_record_of_the_file_counts(rt: HostRuntime) -> Result<(), Fail> {
     Ok(())
 }
 
+/// Second files behind the first one, in a book that may have one leg more: the first joining fault of each.
+const REFUSED: [(&str, JoinCode, u64); 6] = [
+    (
+        "@stboundedby,town,2D,,,2020-01-01T00:00:00Z,\n@columns,mfidref,trajectory\n",
+        JoinCode::F9,
+        1,
+    ),
+    (
+        "@columns,mfidref,trajectory\n@stboundedby,local,3D,,,2020-01-01T00:00:00Z,\n",
+        JoinCode::F9,
+        2,
+    ),
+    (
+        "@stboundedby,local,2D,,,2020-01-01T00:00:00Z,\n@columns,mfidref,trajectory,state,\n",
+        JoinCode::F10,
+        2,
+    ),
+    (
+        "@stboundedby,local,2D,,,2020-01-01T00:00:00Z,\n@columns,mfidref,trajectory\na,0.9,2,0 0\n",
+        JoinCode::F18,
+        3,
+    ),
+    (
+        "@stboundedby,local,2D,,,2020-01-01T00:00:00Z,\n@columns,mfidref,trajectory\na,1,2,0 0 1 1 2 2\n",
+        JoinCode::F19,
+        3,
+    ),
+    (
+        "@stboundedby,local,2D,,,2020-01-01T00:00:00Z,\n@columns,mfidref,trajectory\nc,0,1,0 0\n",
+        JoinCode::F20,
+        3,
+    ),
+];
+
+fn is_refused(alloc: Global, tracks: &Tracks, row: &(&str, JoinCode, u64)) -> Option<bool> {
+    let (text, code, number) = *row;
+    let (first, file) = (read(alloc, FILE)?, read(alloc, text)?);
+    match join(alloc, Some(&first.head), tracks, &Limits::new(6, 2)?, &file) {
+        Err(JoinFault::Memory) => None,
+        fault => Some(fault.err() == Some(JoinFault::Refused { code, number })),
+    }
+}
+
+fn refuses_second(alloc: Global, keys: RandomState) -> Option<bool> {
+    let tracks = accepted(alloc, keys)?;
+    let mut all = true;
+    for row in &REFUSED {
+        all = all && is_refused(alloc, &tracks, row)?;
+    }
+    Some(all)
+}
+
+#[test]
+fn each_joining_fault_has_its_code(rt: HostRuntime) -> Result<(), Fail> {
+    let keys = RandomState::new(&rt)?;
+    assert_holds!(rt, refuses_second, keys);
+    Ok(())
+}
+
 /// The tracks of the book that the file makes.
 fn accepted(alloc: Global, keys: RandomState) -> Option<Tracks> {
     let file = read(alloc, FILE)?;

@@ -11,7 +11,7 @@ ghost use Rattle.mfcsv.specs.Answer.{Judges, span_fault, trajectory_fault, data_
 
 use crate::header::Given;
 use crate::rows::{RowFault, copy_of, field_at};
-use crate::{Code, Column, Dimension, Position, Positions, Record, Values};
+use crate::{Code, Column, Dimension, Position, Positions, Record, Text, Values};
 use csv::StringRecord;
 use fixedpoint::{Coord, read_coord, read_offset};
 use std::alloc::{AllocError, Global};
@@ -214,7 +214,20 @@ fn lacks_time(t0: Ms, t1: Ms, positions: usize) -> bool
     (millis as u64) < legs as u64
 }
 
-/// The values of the attribute columns; one that is missing is blank.
+/// The values of the first attribute columns, that many.
+fn copy_values(alloc: Global, row: &StringRecord, count: usize) -> Result<Vec<Text>, AllocError>
+    requires { count ≤ length (cells row.now) }
+    ensures { IfOk result (λ v. v.items ≡ attributes_of count (cells row.now)) }
+{
+    let mut values = Vec::with_capacity(alloc, count)?;
+    for i in 0..count {
+        let value = copy_of(alloc, row, 4 + i)?;
+        values.push(value)?;
+    }
+    Ok(values)
+}
+
+/// The values of the attribute columns; one that is missing is blank, and takes no room.
 fn read_attributes(
     alloc: Global,
     row: &StringRecord,
@@ -222,12 +235,9 @@ fn read_attributes(
 ) -> Result<Values, AllocError>
     ensures { IfOk result (λ v. v ≡ attributes_of (length columns.now) (cells row.now)) }
 {
-    let mut values = Vec::with_capacity(alloc, columns.len())?;
-    for i in 0..columns.len() {
-        let value = copy_of(alloc, row, 4 + i)?;
-        values.push(value)?;
-    }
-    Ok(Values::from(values))
+    let count = columns.len().min(row.len().saturating_sub(4));
+    let values = copy_values(alloc, row, count)?;
+    Ok(Values::with_blanks(values, columns.len() - count))
 }
 
 /// The data record of a row behind both header lines.

@@ -146,38 +146,44 @@ impl From<String> for Text {
 }
 
 /// The attribute values of a record, seen by contracts as the list of their bytes.
+///
+/// Blank values at the end are counted, not kept: a file of many columns may leave them out of each record.
 #[derive(Debug, Drop)]
 pub struct Values {
     values: Vec<Text>,
+    blanks: usize,
 }
 
 impl Model for Values {
-    ghost use Rattle.std.specs.Prelude.{List, ℕ};
+    ghost use Rattle.std.specs.Prelude.{List, ℕ, ◌++◌, [], replicate};
 
     ghost Value = { List (List ℕ) };
 
-    ghost view = { λ a. a.values.items };
+    ghost view = { λ a. a.values.items ++ replicate a.blanks [] };
 }
 
 impl Values {
-    pub fn as_slice(&self) -> &[Text]
-        ensures { result.now ≡ self.now }
+    ghost use Rattle.std.specs.Prelude.{◌++◌, [], replicate};
+
+    /// These values, and that many blank ones behind them.
+    pub fn with_blanks(values: Vec<Text>, blanks: usize) -> Values
+        ensures { result ≡ values.items ++ replicate blanks [] }
     {
-        self.values.as_slice()
+        Values { values, blanks }
     }
 
-    pub fn into_vec(self) -> Vec<Text>
-        ensures { result.items ≡ self }
+    /// The values that are kept, and how many blank ones stand behind them.
+    pub fn parts(&self) -> (&[Text], usize)
+        ensures { result.0.now ++ replicate result.1 [] ≡ self.now }
     {
-        self.values
+        (self.values.as_slice(), self.blanks)
     }
-}
 
-impl From<Vec<Text>> for Values {
-    ghost from_gives = { λ values r. r ≡ values.items };
-
-    fn from(values: Vec<Text>) -> Values {
-        Values { values }
+    /// The values that are kept, and how many blank ones stand behind them.
+    pub fn into_parts(self) -> (Vec<Text>, usize)
+        ensures { result.0.items ++ replicate result.1 [] ≡ self }
+    {
+        (self.values, self.blanks)
     }
 }
 

@@ -76,7 +76,7 @@ fn is_record(record: &Record, start: Ms, wanted: &Wanted) -> bool {
         && record.mfidref.as_str() == wanted.name
         && (after(start, record.t0), after(start, record.t1)) == wanted.times
         && are_positions(record.positions.as_slice(), wanted.positions)
-        && are_values(record.attributes.as_slice(), wanted.values)
+        && are_values(&record.attributes, wanted.values)
 }
 
 fn has_records(file: &File, wanted: &[Wanted]) -> bool {
@@ -97,8 +97,13 @@ fn are_positions(positions: &[Position], wanted: &[(i64, i64)]) -> bool {
             .all(|(p, q)| (p.x.units(), p.y.units()) == *q)
 }
 
-fn are_values(values: &[Text], wanted: &[&str]) -> bool {
-    values.len() == wanted.len() && values.iter().zip(wanted).all(|(v, w)| v.as_str() == *w)
+/// Whether the values are those, of which the last that are blank may be only counted.
+fn are_values(values: &Values, wanted: &[&str]) -> bool {
+    let (kept, blanks) = values.parts();
+    let split = wanted.len().saturating_sub(blanks);
+    kept.len() == split
+        && kept.iter().zip(wanted).all(|(v, w)| v.as_str() == *w)
+        && wanted.iter().skip(split).all(|w| w.is_empty())
 }
 
 fn are_columns(columns: &[Column], wanted: &[(&str, &str)]) -> bool {

@@ -64,7 +64,8 @@ fn answer<'a, W: Write>(
     out: &mut W,
 ) -> Result<(), Fault<'a>>
     // What was sent is exactly the text of the run over the empty book.
-    ensures { OnOk result ((book : Book) × HasRun (limits_of 16777216 1048576) files.now (W.contents out.old) (W.contents out.new) empty_book book (lines_of script.now)) }
+    ensures { OnOk result ((book : Book) × HasRun (limits_of 16777216 1048576) files.now
+        (W.contents out.old) (W.contents out.new) empty_book book (lines_of script.now)) }
 {
     let limits = Limits::new(MOST_LEGS, MOST_FEATURES).unwrap();
     let mut database = Db::create(alloc, keys, limits)?;

@@ -1,10 +1,6 @@
 use super::*;
-use fixedpoint::Coord;
 use std::alloc::Global;
 use std::test::Fail;
-use timebase::Ms;
-
-const AT: &str = "2020-01-01T00:00:00Z";
 
 /// What a line says, with the name of its command in front.
 fn said(alloc: Global, line: &[u8]) -> Result<String, Fail> {
@@ -31,9 +27,54 @@ fn commands_are_read(rt: HostRuntime) -> Result<(), Fail> {
         ("\tload  two  words \t", "load<two  words>"),
         ("trajectory a, b", "trajectory<a, b>"),
         (" count ", "count"),
+        ("write", "write"),
+        (
+            "box 0 0 1 1 2020-01-01T00:00:00Z 2020-01-01T00:00:01Z",
+            "box",
+        ),
+        (
+            "legs ever 0 0 1 1 2020-01-01T00:00:00Z 2020-01-01T00:00:01Z",
+            "legs",
+        ),
+        (
+            "features bypasses 0 0 1 1 2020-01-01T00:00:00Z 2020-01-01T00:00:01Z",
+            "features",
+        ),
     ] {
         let got = said(rt.alloc(), line.as_bytes())?;
         assert_eq!(rt; got.as_str(), want, "at {line}");
+    }
+    Ok(())
+}
+
+#[test]
+fn a_refused_line_has_its_code(rt: HostRuntime) -> Result<(), Fail> {
+    let text = "the line is refused: ";
+    for (line, code) in [
+        (&b"count \xff"[..], "Q1"),
+        (&b"Count"[..], "Q2"),
+        (&b"count all"[..], "Q3"),
+        (&b"trajectory "[..], "Q3"),
+        (
+            &b"legs near 0 0 1 1 2020-01-01T00:00:00Z 2020-01-01T00:00:01Z"[..],
+            "Q4",
+        ),
+        (
+            &b"box 0 0 1e1 1 2020-01-01T00:00:00Z 2020-01-01T00:00:01Z"[..],
+            "Q5",
+        ),
+        (
+            &b"box 0 2 1 1 2020-01-01T00:00:00Z 2020-01-01T00:00:01Z"[..],
+            "Q6",
+        ),
+        (&b"box 0 0 1 1 2020-01-01T00:00:00Z 2020-01-01"[..], "Q7"),
+        (
+            &b"box 0 0 1 1 2020-01-01T00:00:01Z 2020-01-01T00:00:00Z"[..],
+            "Q8",
+        ),
+    ] {
+        let got = said(rt.alloc(), line)?;
+        assert_eq!(rt; got.as_str().strip_prefix(text), Some(code), "at {code}");
     }
     Ok(())
 }

@@ -81,7 +81,7 @@ impl<I: Start> Core<I> {
     }
 
     /// A leg with the name of its feature and the attribute values of its record.
-    fn entry(&self, leg: &Leg) -> Result<Entry<'_>, RunFault>
+    fn entry<'a>(&'a self, leg: &'a Leg) -> Result<Entry<'a>, RunFault>
         ensures entry { IfOk result (λ entry. entry ≡ entry_of self.now.book leg.now) }
         ensures fault { IfErr result (IsText (IsThere self.now.book leg.now)) }
     {
@@ -89,11 +89,7 @@ impl<I: Start> Core<I> {
         let Some(values) = self.rows.get(leg.row as usize) else {
             return Err(RunFault::Damaged(0));
         };
-        Ok(Entry {
-            name,
-            leg: *leg,
-            values: values.as_slice(),
-        })
+        Ok(Entry { name, leg, values })
     }
 
     /// The answer of legs.
@@ -253,7 +249,7 @@ impl<I: Start> Core<I> {
         Ok(text)
     }
 
-    fn entries(&self, alloc: Global, legs: &[Leg]) -> Result<Vec<Entry<'_>>, RunFault>
+    fn entries<'a>(&'a self, alloc: Global, legs: &'a [Leg]) -> Result<Vec<Entry<'a>>, RunFault>
         ensures entries { IfOk result (λ entries. entries.items ≡ map (entry_of
             self.now.book) legs.now) }
         ensures fault { IfErr result (IsText (All (IsThere self.now.book) legs.now)) }

@@ -398,6 +398,15 @@ fn legs_are_tested_one_by_one(rt: HostRuntime) -> Result<(), Fail> {
                 "load S1.csv\nlegs ever 11.5 0 13 2.5 2012-01-17T12:34:21Z 2012-01-17T12:35:00.999Z\n",
                 "ok 1\n4,5,3\nok 0\n",
             ),
+        ],
+    )
+}
+
+#[test]
+fn a_leg_is_tested_by_its_line(rt: HostRuntime) -> Result<(), Fail> {
+    check(
+        &rt,
+        &[
             // Inside only between two milliseconds.
             (
                 "load between\nlegs ever 3.3333333 -1 3.3333334 1 2020-01-01T00:00:00.333Z 2020-01-01T00:00:00.334Z\n",

@@ -105,10 +105,7 @@ impl Corners {
         ensures { result ≡ first_corners entries.now }
     {
         match entries.first() {
-            Some(entry) => {
-                let leg = entry.leg;
-                Corners::at(begin_of(&leg))
-            }
+            Some(entry) => { Corners::at(begin_of(entry.leg)) }
             None => Corners::at(origin()),
         }
     }

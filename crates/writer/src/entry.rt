@@ -1,6 +1,6 @@
 //! Entries of a file, and how their legs are written.
 use legs::Leg;
-use mfcsv::{Dimension, Text};
+use mfcsv::{Dimension, Values};
 use std::marker::Model;
 use timebase::Ms;
 
@@ -15,8 +15,8 @@ pub struct Frame {
 #[derive(Drop)]
 pub struct Entry<'a> {
     pub name: &'a str,
-    pub leg: Leg,
-    pub values: &'a [Text],
+    pub leg: &'a Leg,
+    pub values: &'a Values,
 }
 
 impl<'a> Model for Entry<'a> {
@@ -24,5 +24,5 @@ impl<'a> Model for Entry<'a> {
 
     ghost Value = { EntryView };
 
-    ghost view = { λ a. record { name = a.name.now; leg = a.leg; values = a.values.now } };
+    ghost view = { λ a. record { name = a.name.now; leg = a.leg.now; values = a.values.now } };
 }

@@ -7,7 +7,7 @@ ghost use Rattle.writer.specs.Written.{written};
 
 use crate::corners::{corners_of, end_from};
 use crate::entry::{Entry, Frame};
-use crate::leg::{push_point, write_leg};
+use crate::leg::{Buffers, push_point, write_leg};
 use crate::records::Records;
 use mfcsv::{Column, Dimension, Head, Position};
 use std::alloc::{AllocError, Global};
@@ -141,8 +141,10 @@ fn write_entries(
     ensures { OnOk result (records.new ≡ written (records.old.text
         ++ entries_text frame.now entries.now)) }
 {
+    let mut buffers = Buffers::new(alloc);
     for entry in entries {
-        write_leg(alloc, records, entry.name, frame, &entry.leg, entry.values)?;
+        let Entry { name, leg, values } = entry;
+        write_leg(alloc, records, &mut buffers, name, frame, leg, values)?;
     }
     Ok(())
 }

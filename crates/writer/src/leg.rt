@@ -1,5 +1,5 @@
 //! A leg's record.
-ghost use Rattle.std.specs.Prelude.{false, ◌≡◌, ◌++◌, ◌∷◌, [], ◌-ℤ◌, IfOk, OnOk, map};
+ghost use Rattle.std.specs.Prelude.{false, replicate, ◌≡◌, ◌++◌, ◌∷◌, [], ◌-ℤ◌, IfOk, OnOk, map};
 ghost use Rattle.fixedpoint.specs.NumberText.{coord_text, offset_text};
 ghost use Rattle.writer.specs.Records.{begin_of, end_of, leg_record, point_text, positions_text};
 ghost use Rattle.writer.specs.Written.{written};
@@ -8,7 +8,7 @@ use crate::entry::Frame;
 use crate::records::Records;
 use fixedpoint::{Coord, Offset, push_coord, push_offset};
 use legs::Leg;
-use mfcsv::{Dimension, Position, Text};
+use mfcsv::{Dimension, Position, Text, Values};
 use std::alloc::{AllocError, Global};
 use timebase::Ms;
 
@@ -22,13 +22,12 @@ fn offset_from(base: Ms, at: Ms) -> Offset
     }
 }
 
-/// The offset of a moment from a base, in seconds.
-fn offset_text(alloc: Global, base: Ms, at: Ms) -> Result<Vec<u8>, AllocError>
-    ensures { IfOk result (λ text. text.items ≡ offset_text (at -ℤ base)) }
+/// Writes the offset of a moment from a base, in seconds, in place of what a buffer holds.
+fn write_offset(text: &mut Vec<u8>, base: Ms, at: Ms) -> Result<(), AllocError>
+    ensures { OnOk result (text.new.items ≡ offset_text (at -ℤ base)) }
 {
-    let mut text = Vec::new(alloc);
-    push_offset(&mut text, offset_from(base, at))?;
-    Ok(text)
+    text.clear();
+    push_offset(text, offset_from(base, at))
 }
 
 /// A blank and a coordinate.
@@ -77,19 +76,18 @@ fn end_of(leg: &Leg) -> Position
     }
 }
 
-/// Both positions of a leg.
-fn positions_text(alloc: Global, dimension: Dimension, leg: &Leg) -> Result<Vec<u8>, AllocError>
-    ensures { IfOk result (λ text. text.items ≡ positions_text dimension leg.now) }
+/// Writes both positions of a leg in place of what a buffer holds.
+fn write_positions(text: &mut Vec<u8>, dimension: Dimension, leg: &Leg) -> Result<(), AllocError>
+    ensures { OnOk result (text.new.items ≡ positions_text dimension leg.now) }
 {
-    let mut text = Vec::new(alloc);
-    push_point(&mut text, dimension, begin_of(leg))?;
+    text.clear();
+    push_point(text, dimension, begin_of(leg))?;
     text.push(b' ')?;
-    push_point(&mut text, dimension, end_of(leg))?;
-    Ok(text)
+    push_point(text, dimension, end_of(leg))
 }
 
 /// Puts attribute values behind the other fields.
-fn push_values<'a>(fields: &mut Vec<&'a [u8]>, values: &'a [Text]) -> Result<(), AllocError>
+fn push_texts<'a>(fields: &mut Vec<&'a [u8]>, values: &'a [Text]) -> Result<(), AllocError>
     ensures { OnOk result (map (λ f. f.now) fields.new.items ≡ map (λ f. f.now) fields.old.items
         ++ values.entry.now) }
 {
@@ -99,6 +97,57 @@ fn push_values<'a>(fields: &mut Vec<&'a [u8]>, values: &'a [Text]) -> Result<(),
     Ok(())
 }
 
+/// Puts that many blank values behind the other fields.
+fn push_blanks(fields: &mut Vec<&[u8]>, count: usize) -> Result<(), AllocError>
+    ensures { OnOk result (map (λ f. f.now) fields.new.items ≡ map (λ f. f.now) fields.old.items
+        ++ replicate count []) }
+{
+    'blanks: for _ in 0..count {
+        fields.push(&[])?;
+    }
+    Ok(())
+}
+
+/// Puts the attribute values of a record behind the other fields.
+fn push_values<'a>(fields: &mut Vec<&'a [u8]>, values: &'a Values) -> Result<(), AllocError>
+    ensures { OnOk result (map (λ f. f.now) fields.new.items ≡ map (λ f. f.now) fields.old.items
+        ++ values.entry.now) }
+{
+    let (texts, blanks) = values.parts();
+    push_texts(fields, texts)?;
+    push_blanks(fields, blanks)
+}
+
+/// Buffers for the fields of a record, which last over an answer.
+#[derive(Drop)]
+pub(crate) struct Buffers {
+    start: Vec<u8>,
+    end: Vec<u8>,
+    positions: Vec<u8>,
+}
+
+impl Buffers {
+    pub(crate) fn new(alloc: Global) -> Buffers {
+        Buffers {
+            start: Vec::new(alloc),
+            end: Vec::new(alloc),
+            positions: Vec::new(alloc),
+        }
+    }
+
+    /// Writes the times and the positions of a leg.
+    fn write(&mut self, frame: &Frame, leg: &Leg) -> Result<(), AllocError>
+        ensures start { OnOk result (self.new.start.items ≡ offset_text (leg.now.t0 -ℤ frame.now.base)) }
+        ensures end { OnOk result (self.new.end.items ≡ offset_text (leg.now.t1 -ℤ frame.now.base)) }
+        ensures positions { OnOk result (self.new.positions.items
+            ≡ positions_text frame.now.dimension leg.now) }
+    {
+        write_offset(&mut self.start, frame.base, leg.t0)?;
+        write_offset(&mut self.end, frame.base, leg.t1)?;
+        write_positions(&mut self.positions, frame.dimension, leg)
+    }
+}
+
 /// The fields of a leg's record.
 fn leg_row<'a>(
     alloc: Global,
@@ -106,12 +155,12 @@ fn leg_row<'a>(
     start: &'a [u8],
     end: &'a [u8],
     positions: &'a [u8],
-    values: &'a [Text],
+    values: &'a Values,
 ) -> Result<Vec<&'a [u8]>, AllocError>
     ensures { IfOk result (λ row. map (λ f. f.now) row.items
         ≡ name.entry.now ∷ start.entry.now ∷ end.entry.now ∷ positions.entry.now ∷ values.entry.now) }
 {
-    let mut row = Vec::with_capacity(alloc, values.len().saturating_add(4))?;
+    let mut row = Vec::with_capacity(alloc, 8)?;
     row.push(name)?;
     row.push(start)?;
     row.push(end)?;
@@ -124,24 +173,23 @@ fn leg_row<'a>(
 pub(crate) fn write_leg(
     alloc: Global,
     records: &mut Records,
+    buffers: &mut Buffers,
     name: &str,
     frame: &Frame,
     leg: &Leg,
-    values: &[Text],
+    values: &Values,
 ) -> Result<(), AllocError>
     requires { records.old.refused ≡ false }
     ensures { OnOk result (records.new ≡ written (records.old.text
         ++ leg_record name.now frame.now leg.now values.now)) }
 {
-    let start = offset_text(alloc, frame.base, leg.t0)?;
-    let end = offset_text(alloc, frame.base, leg.t1)?;
-    let positions = positions_text(alloc, frame.dimension, leg)?;
+    buffers.write(frame, leg)?;
     let fields = leg_row(
         alloc,
         name.as_bytes(),
-        start.as_slice(),
-        end.as_slice(),
-        positions.as_slice(),
+        buffers.start.as_slice(),
+        buffers.end.as_slice(),
+        buffers.positions.as_slice(),
         values,
     )?;
     records.push(fields.as_slice())

@@ -13,9 +13,9 @@ mod leg;
 mod records;
 
 pub use entry::{Entry, Frame};
-use leg::write_leg;
+use leg::{Buffers, write_leg};
 use legs::Leg;
-use mfcsv::{Head, Text};
+use mfcsv::{Head, Values};
 use records::Records;
 pub use std::alloc::AllocError as Memory;
 use std::alloc::Global;
@@ -28,14 +28,15 @@ pub fn push_leg_record(
     name: &str,
     frame: Frame,
     leg: &Leg,
-    values: &[Text],
+    values: &Values,
 ) -> Result<(), Memory>
     ensures ok { OnOk result (out.new.items ≡ out.old.items
         ++ leg_record name.now frame leg.now values.now) }
     ensures err { OnErr result (out.new.items ≡ out.old.items) }
 {
     let mut records = Records::new(alloc);
-    write_leg(alloc, &mut records, name, &frame, leg, values)?;
+    let mut buffers = Buffers::new(alloc);
+    write_leg(alloc, &mut records, &mut buffers, name, &frame, leg, values)?;
     let text = records.into_text()?;
     out.extend_from_slice(text.as_slice())
 }

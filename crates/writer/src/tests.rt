@@ -1,6 +1,6 @@
 use super::*;
 use fixedpoint::Coord;
-use mfcsv::{Column, Columns, Dimension, Position};
+use mfcsv::{Column, Columns, Dimension, Position, Text};
 use std::test::Fail;
 use timebase::Ms;
 
@@ -22,6 +22,13 @@ fn position(x: i64, y: i64) -> Result<Position, Fail> {
 
 fn text(alloc: Global, text: &str) -> Result<Text, Fail> {
     Ok(Text::from(String::from_str(alloc, text)?))
+}
+
+/// A value, and that many blank ones.
+fn values(alloc: Global, first: &str, blanks: usize) -> Result<Values, Fail> {
+    let mut values = Vec::new(alloc);
+    values.push(text(alloc, first)?)?;
+    Ok(Values::with_blanks(values, blanks))
 }
 
 fn head(alloc: Global, dimension: Dimension, columns: Vec<Column>) -> Result<Head, Fail> {
@@ -59,10 +66,11 @@ fn a_file_without_legs_is_two_lines(rt: HostRuntime) -> Result<(), Fail> {
 fn a_record_counts_from_the_base(rt: HostRuntime) -> Result<(), Fail> {
     let leg = Leg::new(0, 0, at(-1)?, at(2)?, position(1, 0)?, position(2, 0)?, 0).ok_or("a leg")?;
     let mut out = Vec::new(rt.alloc());
+    let none = Values::with_blanks(Vec::new(rt.alloc()), 0);
     for dimension in [Dimension::Two, Dimension::Three] {
         let base = at(0)?;
         let frame = Frame { dimension, base };
-        push_leg_record(rt.alloc(), &mut out, "a", frame, &leg, &[])?;
+        push_leg_record(rt.alloc(), &mut out, "a", frame, &leg, &none)?;
     }
     let wanted = "a,-1,2,0.5 0 1 0\na,-1,2,0.5 0 -0.0000001 1 0 -0.0000001\n";
     assert_eq!(rt; out.as_slice(), wanted.as_bytes());
@@ -82,17 +90,17 @@ fn a_file_is_bounded_by_all_legs(rt: HostRuntime) -> Result<(), Fail> {
     let long = Leg::new(0, 0, at(0)?, at(100)?, from, to, 0).ok_or("a leg")?;
     let (from, to) = (position(14, 8)?, position(4, 18)?);
     let short = Leg::new(1, 1, at(10)?, at(90)?, from, to, 1).ok_or("a leg")?;
-    let walking = [text(alloc, "walking")?];
-    let on_foot = [text(alloc, "on, foot")?];
+    let walking = values(alloc, "walking", 1)?;
+    let on_foot = values(alloc, "on, foot", 0)?;
     let entries = [
         Entry {
             name: "a",
-            leg: long,
+            leg: &long,
             values: &walking,
         },
         Entry {
             name: "b",
-            leg: short,
+            leg: &short,
             values: &on_foot,
         },
     ];
@@ -101,7 +109,7 @@ fn a_file_is_bounded_by_all_legs(rt: HostRuntime) -> Result<(), Fail> {
     let wanted =
         "@stboundedby,local,2D,0.5 -3,7 9,2020-01-01T00:00:00.000Z,2020-01-01T00:01:40.000Z,sec\n\
         @columns,mfidref,trajectory,state,xsd:token\n\
-        a,0,100,1.5 2 0.5 -3,walking\n\
+        a,0,100,1.5 2 0.5 -3,walking,\n\
         b,10,90,7 4 2 9,\"on, foot\"\n";
     assert_eq!(rt; out.as_slice(), wanted.as_bytes());
     Ok(())

@@ -7,7 +7,7 @@ pub digits-preserved : goal.digits-preserved
 digits-preserved c =
     let positive : 0 < c.digits.rest = omega arith in
     record {
-      all = rw c.push.ensures.items (fraction_more c.digits.text.items c.args.places c.digits.place c.args.power c.digits.rest c.digits-test.true positive ∙ c.digits.invariant.all);
+      all = rw (c.push.ensures.items, c.split-digit.ensures.quotient, c.split-digit.ensures.rest) (fraction_more c.digits.text.items c.args.places c.digits.place c.args.power c.digits.rest c.digits-test.true positive ∙ c.digits.invariant.all);
       below = omega arith;
       room = omega arith;
     }

@@ -1,15 +1,12 @@
-use Rattle.std.proofs.Common.{[], ◌∷◌, ◌++◌, ◌∙◌, ap, sym, List, ℕ}
-use Rattle.mfcsv.specs.Rows.{Row}
+use Rattle.std.proofs.Common.{◌≡◌, ◌∙◌, ◌-◌, ◌++◌, List, ℕ, [], ap, arith, length, min, replicate}
 use Rattle.mfcsv.specs.Unread.{cells}
-use Rattle.mfcsv.specs.DataRecord.{attributes_of}
-use Rattle.mfcsv.proofs.RowLemmas.{attributes_of-more, attributes_of-none}
+use Rattle.mfcsv.proofs.RowLemmas.{attributes_all, length-cells}
 use Rattle.mfcsv.proofs.data_record.read_attributes.Goals as goal
 
-pub loop-i-init : goal.loop-i-init
-loop-i-init c = c.in_ok-values.ensures.items ∙ sym (attributes_of-none (cells c.args.row.now))
-
-pub loop-i-preserved : goal.loop-i-preserved
-loop-i-preserved c =
-    let row : Row = cells c.args.row.now in
-    c.in_ok-push.ensures.items ∙ ap (λ (values : List (List ℕ)). values ++ (c.in_ok-value.value ∷ [])) c.loop-i.invariant
-    ∙ ap (λ (value : List ℕ). attributes_of c.loop-i.i row ++ (value ∷ [])) c.in_ok-value.ensures ∙ sym (attributes_of-more row c.loop-i.i)
+pub returns : goal.returns
+returns c =
+    let columns = length c.args.columns.now in
+    let row = c.args.row.now in
+    let least : c.min-count.result ≡ min columns (length (cells row) - 4) = omega (arith, c.min-count.ensures, c.saturating_sub.ensures, c.len.ensures, length-cells row) in
+    c.with_blanks.ensures ∙ ap (λ (values : List (List ℕ)). values ++ replicate {A = List ℕ} (columns - c.min-count.result) []) c.in_ok-values.ensures
+    ∙ attributes_all (cells row) columns c.min-count.result least

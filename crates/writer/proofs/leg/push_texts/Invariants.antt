@@ -1,5 +1,5 @@
 use Rattle.std.proofs.Common.{ℕ, List, ◌≡◌, ◌++◌, map, take}
-use Rattle.writer.proofs.leg.push_values.Given as goal
+use Rattle.writer.proofs.leg.push_texts.Given as goal
 use denote.Ref.{Bor}
 
 -- the values so far
