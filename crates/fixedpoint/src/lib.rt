@@ -2,7 +2,7 @@
 //!
 //! A number text is an optional sign `+` or `-`, then ASCII digits with at most one point, at least
 //! one digit, at most 40 bytes in all; no exponent. A coordinate is kept in units of 10^-7, an offset
-//! (written in seconds) in milliseconds. Further digits round half away from zero.
+//! (written in seconds or in minutes) in milliseconds. Further digits round half away from zero.
 #![tactic(auto)]
 
 ghost use Rattle.std.specs.Prelude.{◌≡◌, ◌^◌, ◌++◌, OnOk, OnErr, IfOk, Ok};
