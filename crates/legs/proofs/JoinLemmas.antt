@@ -3,6 +3,7 @@ use Rattle.std.proofs.Common.{ℕ, ◌+◌, ◌≡◌, ◌∙◌, ap, sym, refl,
 use Rattle.std.specs.Prelude.{filter, bytes_eq, not}
 use Rattle.std.proofs.lemmas.List.{append-nil, drop_more, drop_all}
 use Rattle.mfcsv.specs.declared.Head.{Head}
+use Rattle.legs.specs.declared.head.BookHead.{BookHead}
 use Rattle.mfcsv.specs.declared.File.{File}
 use Rattle.mfcsv.specs.Views.{RecordView, IsRecord}
 use Rattle.legs.specs.Legs.{LegView}
@@ -98,7 +99,7 @@ pub next_record : (records : List RecordView) (i : ℕ) (r : RecordView) → i <
 next_record records i r h e = drop_more records i r h ∙ ap (λ (x : RecordView). x ∷ drop (i + 1) records) (sym e)
 
 -- the fault of another CRS or dimension
-pub other_space : (o : Option Head) (first head : Head) (t : Bool) → o ≡ Some first → t ≡ same_space first head → t ≡ false → (others : List (JoinCode × ℕ)) × (head_faults o head ≡ (F9, head.number_bounds) ∷ others)
+pub other_space : (o : Option BookHead) (first : BookHead) (head : Head) (t : Bool) → o ≡ Some first → t ≡ same_space first head → t ≡ false → (others : List (JoinCode × ℕ)) × (head_faults o head ≡ (F9, head.number_bounds) ∷ others)
 other_space o first head t at e holds = (
   cond (same_columns first.columns head.columns) [] ((F10, head.number_columns) ∷ []),
   ap (λ q. head_faults q head) at ∙ ap (λ u. cond u [] ((F9, head.number_bounds) ∷ []) ++ cond (same_columns first.columns head.columns) [] ((F10, head.number_columns) ∷ [])) (sym e ∙ holds),

@@ -8,6 +8,7 @@ use Rattle.std.proofs.lemmas.List.Elements.{All-append, All-weaker, All-push, Al
 use Rattle.std.proofs.lemmas.List.Quantifiers.{all_pairs_push}
 use Rattle.mfcsv.specs.declared.File.{File}
 use Rattle.mfcsv.specs.declared.Head.{Head}
+use Rattle.legs.specs.declared.head.BookHead.{BookHead}
 use Rattle.mfcsv.specs.Views.{RecordView, IsRecord, leg_count}
 use Rattle.legs.specs.Legs.{LegView}
 use Rattle.legs.specs.Limits.{LimitsView, IsLimits}
@@ -113,7 +114,7 @@ ordered_all limits is (r ∷ records) b all law none =
     ordered_all limits is records (with_record b r) (All-tail IsRecord r records all) (ordered_more limits b r is (All-head IsRecord r records all) law here) behind
 
 -- a book with a file has a head
-headed : (first : Option Head) (head : Head) → head_with first head ≡ None → ⊥
+headed : (first : Option BookHead) (head : Head) → head_with first head ≡ None → ⊥
 headed None head e = absurd (cc)
 headed (Some first) head e = absurd (cc)
 

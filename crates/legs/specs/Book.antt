@@ -8,6 +8,7 @@ use Rattle.mfcsv.specs.declared.Dimension.TheVariants.{Two, Three}
 use Rattle.mfcsv.specs.declared.Head.{Head}
 use Rattle.mfcsv.specs.declared.File.{File}
 use Rattle.mfcsv.specs.Views.{RecordView, leg_count}
+use Rattle.legs.specs.declared.head.BookHead.{BookHead}
 use Rattle.legs.specs.Legs.{LegView, leg_of, step_at}
 use Rattle.legs.specs.Index.{last_end}
 use Rattle.legs.specs.Limits.{LimitsView}
@@ -16,10 +17,10 @@ use Rattle.legs.specs.declared.joining.JoinCode.TheVariants.{F9, F10, F18, F19, 
 use Rattle.legs.specs.declared.joining.JoinFault.{JoinFault}
 use Rattle.legs.specs.declared.joining.JoinFault.TheVariants.{Refused, Memory}
 
--- The book: the head of the first accepted file, the names of the features in order of first acceptance, all
+-- The book: what it keeps of the head of the first accepted file, the names of the features in order of first acceptance, all
 -- legs in accepted order, and the attribute values of each record.
 pub record Book : Type 0 where
-  pub head : Option Head
+  pub head : Option BookHead
   pub names : List (List ℕ)
   pub legs : List LegView
   pub rows : List (List (List ℕ))
@@ -60,10 +61,14 @@ abbrev pub records_legs : Book → List RecordView → List LegView
 records_legs book [] = []
 records_legs book (r ∷ records) = record_legs book r ++ records_legs (with_record book r) records
 
+-- what a book keeps of a file's head: all but the numbers of its records
+abbrev pub kept_head : Head → BookHead
+kept_head head = record { crs = head.crs; dimension = head.dimension; base = head.start; columns = head.columns }
+
 -- the head of the first accepted file stays
-abbrev pub head_with : Option Head → Head → Option Head
+abbrev pub head_with : Option BookHead → Head → Option BookHead
 head_with (Some first) head = Some first
-head_with None head = Some head
+head_with None head = Some (kept_head head)
 
 -- the book with a file more
 abbrev pub with_file : Book → File → Book
@@ -108,13 +113,13 @@ same_dimension Two Three = false
 same_dimension Three Two = false
 same_dimension Three Three = true
 
--- whether two heads have the same CRS name and the same dimension
-abbrev pub same_space : Head → Head → Bool
+-- whether a file's head has the CRS name and the dimension of the book's
+abbrev pub same_space : BookHead → Head → Bool
 same_space first head = bytes_eq first.crs head.crs && same_dimension first.dimension head.dimension
 
 -- all joining faults of a head, against the head of the first accepted file: another CRS or dimension, other
 -- columns
-abbrev pub head_faults : Option Head → Head → List (JoinCode × ℕ)
+abbrev pub head_faults : Option BookHead → Head → List (JoinCode × ℕ)
 head_faults None head = []
 head_faults (Some first) head =
     (if same_space first head then [] else (F9, head.number_bounds) ∷ [])

@@ -8,6 +8,7 @@ ghost use Rattle.legs.specs.Tracks.{StandsFor};
 ghost use Rattle.legs.specs.FirstFault.{IsFirst};
 
 use crate::draft::Draft;
+use crate::head::BookHead;
 use crate::leg::Leg;
 use crate::limits::Limits;
 use crate::tracks::Tracks;
@@ -102,8 +103,8 @@ fn same_dimension(one: Dimension, other: Dimension) -> bool
     }
 }
 
-/// Whether two heads have the same CRS name and the same dimension.
-fn same_space(first: &Head, head: &Head) -> bool
+/// Whether a file's head has the CRS name and the dimension of the book's.
+fn same_space(first: &BookHead, head: &Head) -> bool
     ensures { result ≡ same_space first.now head.now }
 {
     first.crs.as_str() == head.crs.as_str() && same_dimension(first.dimension, head.dimension)
@@ -135,7 +136,7 @@ fn same_pairs(first: &[Column], second: &[Column]) -> bool
 }
 
 /// Compares a file's head with the head of the first accepted file.
-fn check_head(first: Option<&Head>, head: &Head) -> Result<(), JoinFault>
+fn check_head(first: Option<&BookHead>, head: &Head) -> Result<(), JoinFault>
     ensures ok { OnOk result (head_faults (option_copied first.entry) head.now ≡ []) }
     ensures refused { IfErr result (λ fault. IsFirst fault (head_faults
         (option_copied first.entry) head.now)) }
@@ -159,7 +160,7 @@ fn check_head(first: Option<&Head>, head: &Head) -> Result<(), JoinFault>
 }
 
 /// Joins a file whose text has no fault to a book: the legs that it adds, with their numbers, or the first
-/// joining fault. `head` is the head of the first accepted file, if there is one.
+/// joining fault. `head` is what the book keeps of the head of the first accepted file, if there is one.
 ///
 /// A file is refused where its CRS or its dimension (`F9`, at its `@stboundedby` record) or its columns (`F10`, at its `@columns`
 /// record) are not those of the first accepted file, and then at its first record that starts before its
@@ -167,7 +168,7 @@ fn check_head(first: Option<&Head>, head: &Head) -> Result<(), JoinFault>
 /// limits allow.
 pub fn join(
     alloc: Global,
-    head: Option<&Head>,
+    head: Option<&BookHead>,
     tracks: &Tracks,
     limits: &Limits,
     file: &File,

@@ -8,6 +8,7 @@
 mod boxes;
 mod cutting;
 mod draft;
+mod head;
 mod index;
 mod joining;
 mod leg;
@@ -18,6 +19,7 @@ mod tracks;
 
 pub use boxes::{Box3, Rect};
 pub use cutting::cut;
+pub use head::BookHead;
 pub use index::{IndexFault, LegIndex};
 pub use joining::{JoinCode, JoinFault, join};
 pub use leg::{Leg, Step};

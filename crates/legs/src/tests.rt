@@ -161,8 +161,9 @@ const REFUSED: [(&str, JoinCode, u64); 6] = [
 
 fn is_refused(alloc: Global, tracks: &Tracks, row: &(&str, JoinCode, u64)) -> Option<bool> {
     let (text, code, number) = *row;
-    let (first, file) = (read(alloc, FILE)?, read(alloc, text)?);
-    match join(alloc, Some(&first.head), tracks, &Limits::new(6, 2)?, &file) {
+    let head = BookHead::from(read(alloc, FILE)?.head);
+    let file = read(alloc, text)?;
+    match join(alloc, Some(&head), tracks, &Limits::new(6, 2)?, &file) {
         Err(JoinFault::Memory) => None,
         fault => Some(fault.err() == Some(JoinFault::Refused { code, number })),
     }

@@ -3,7 +3,7 @@ use Rattle.std.proofs.Common.{ℕ, ◌≡◌, ◌∙◌, ◌++◌, ◌∷◌, []
 use Rattle.std.proofs.lemmas.List.{append_assoc, append-nil}
 use Rattle.mfcsv.specs.Views.{RecordView}
 use Rattle.mfcsv.specs.declared.File.{File}
-use Rattle.mfcsv.specs.declared.Head.{Head}
+use Rattle.legs.specs.declared.head.BookHead.{BookHead}
 use Rattle.legs.specs.Legs.{LegView}
 use Rattle.legs.specs.Limits.{LimitsView}
 use Rattle.legs.specs.Book.{Book, with_record, with_records, record_legs, records_legs, with_file, joined, first_or, file_faults, head_with}
@@ -30,7 +30,7 @@ with_records-rows book (r ∷ records) =
     ∙ append_assoc book.rows (r.attributes ∷ []) (map (λ (r : RecordView). r.attributes) records)
 
 -- a book of these parts
-abbrev pub book_with_parts : Option Head → List (List ℕ) → List LegView → List (List (List ℕ)) → Book
+abbrev pub book_with_parts : Option BookHead → List (List ℕ) → List LegView → List (List (List ℕ)) → Book
 book_with_parts head names legs rows = record { head = head; names = names; legs = legs; rows = rows }
 
 first_or-ok : (faults : List (JoinCode × ℕ)) (legs found : List LegView) → first_or faults legs ≡ Ok found → legs ≡ found
@@ -41,7 +41,7 @@ pub joined-legs : (limits : LimitsView) (book : Book) (file : File) (legs : List
 joined-legs limits book file legs e = first_or-ok (file_faults limits book file) (records_legs book file.records) legs e
 
 -- what was put together is the book with the file
-pub with_file-parts : (limits : LimitsView) (book : Book) (file : File) (legs content : List LegView) (head : Option Head) (names : List (List ℕ)) (rows : List (List (List ℕ)))
+pub with_file-parts : (limits : LimitsView) (book : Book) (file : File) (legs content : List LegView) (head : Option BookHead) (names : List (List ℕ)) (rows : List (List (List ℕ)))
     → joined limits book file ≡ Ok legs → head ≡ head_with book.head file.head → names ≡ (with_file book file).names → content ≡ book.legs ++ legs → rows ≡ book.rows ++ map (λ (r : RecordView). r.attributes) file.records
     → book_with_parts head names content rows ≡ with_file book file
 with_file-parts limits book file legs content head names rows e h n l r =

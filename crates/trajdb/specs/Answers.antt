@@ -6,7 +6,7 @@ use Rattle.mfcsv.specs.FileText.{file_text}
 use Rattle.mfcsv.specs.declared.Code.{Code}
 use Rattle.mfcsv.specs.declared.File.{File}
 use Rattle.mfcsv.specs.declared.Dimension.TheVariants.{Two}
-use Rattle.mfcsv.specs.declared.Head.{Head}
+use Rattle.legs.specs.declared.head.BookHead.{BookHead}
 use Rattle.legs.specs.Legs.{LegView}
 use Rattle.legs.specs.Boxes.{RectView, box_over}
 use Rattle.legs.specs.Index.{legs_in_box, legs_of}
@@ -76,7 +76,7 @@ count_text book = ok_text 1 ++ decimal (length book.legs) ++ 44 ∷ [] ++ decima
 
 -- how legs are written: with the dimension of the first accepted file, and with times as offsets from its start
 -- instant
-abbrev pub frame_of : Option Head → Frame
+abbrev pub frame_of : Option BookHead → Frame
 frame_of (Some head) = head_frame head
 frame_of None = record { dimension = Two; base = pos 0 }
 
@@ -128,11 +128,11 @@ IsFeaturesAnswer book predicate rect period text =
     (picked : List ℕ) × Picks (HoldsOfFeature predicate rect period book.legs) (range_with_len 0 (length book.names)) picked × (text ≡ names_text book picked)
 
 -- legs as a file: two header lines and a record for each leg
-abbrev pub file_answer : Book → Head → List LegView → List ℕ
+abbrev pub file_answer : Book → BookHead → List LegView → List ℕ
 file_answer book head legs = ok_text (length legs + 2) ++ written_text head (map (entry_of book) legs)
 
 -- the answer to `write`
-abbrev pub write_text : Option Head → Book → List ℕ
+abbrev pub write_text : Option BookHead → Book → List ℕ
 write_text (Some head) book = file_answer book head book.legs
 write_text None book = refusal_text (codes "Q10")
 

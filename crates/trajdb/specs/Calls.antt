@@ -2,7 +2,7 @@
 use Rattle.std.specs.Prelude.{ℕ, ◌≡◌, Bool, true, false, List, Option, Some, None, Result, Ok, Err, IsTrue, is_some, ◌≤◌, ◌+◌, ◌⊎◌, drop, length, sum_by, map}
 use Rattle.std.specs.List.{range_with_len}
 use Rattle.timebase.specs.Period.{PeriodView}
-use Rattle.mfcsv.specs.declared.Head.{Head}
+use Rattle.legs.specs.declared.head.BookHead.{BookHead}
 use Rattle.legs.specs.Legs.{LegView}
 use Rattle.legs.specs.Boxes.{box_over, everything}
 use Rattle.legs.specs.Book.{Book, feature_of}
@@ -169,7 +169,7 @@ abbrev pub features_bound : List ℕ → PeriodView → Option ShapeView → Lis
 features_bound features period plan legs = sum_by (λ bound. bound) (map (λ feature. track_in_bound feature period plan legs) features)
 
 -- `write` searches everything, where there is a head
-abbrev pub write_asks : Option Head → Option ShapeView → List LegView → ℕ
+abbrev pub write_asks : Option BookHead → Option ShapeView → List LegView → ℕ
 write_asks None plan legs = 0
 write_asks (Some head) plan legs = search_cost everything plan legs
 

@@ -8,8 +8,8 @@ use crate::output::send;
 use crate::script::{first_piece, without_return};
 use crate::start::{Start, put_legs};
 use crate::{Counts, FileCode, LoadFault, RunFault};
-use legs::{JoinFault, Leg, Limits, Tracks, join};
-use mfcsv::{File, FileFault, Head, Values, read_file};
+use legs::{BookHead, JoinFault, Leg, Limits, Tracks, join};
+use mfcsv::{File, FileFault, Values, read_file};
 use querylang::{Command, LineFault, parse_line};
 use std::alloc::{AllocError, Global};
 use std::hash::RandomState;
@@ -20,7 +20,7 @@ use std::marker::Model;
 #[derive(Drop)]
 pub struct Core<I: Start> {
     pub(crate) index: I,
-    pub(crate) head: Option<Head>,
+    pub(crate) head: Option<BookHead>,
     pub(crate) tracks: Tracks,
     pub(crate) rows: Vec<Values>,
     pub(crate) limits: Limits,

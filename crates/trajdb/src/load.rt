@@ -5,16 +5,17 @@ ghost use Rattle.legs.specs.Counting.{names_after};
 ghost use Rattle.legs.specs.Book.{head_with};
 
 use indexmap::IndexSet;
+use legs::BookHead;
 use mfcsv::{Head, Record, Records, Values};
 use std::alloc::{AllocError, Global};
 use std::hash::RandomState;
 
 /// Keeps the head of the first accepted file.
-pub(crate) fn keep_head(first: &mut Option<Head>, head: Head)
+pub(crate) fn keep_head(first: &mut Option<BookHead>, head: Head)
     ensures { first.new ≡ head_with first.old head }
 {
     if first.is_none() {
-        *first = Some(head);
+        *first = Some(BookHead::from(head));
     }
 }
 

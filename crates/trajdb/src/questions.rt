@@ -7,8 +7,8 @@ use crate::RunFault;
 use crate::answer::{ok_text, refusal_text};
 use crate::database::Core;
 use crate::start::Start;
-use legs::{Box3, Leg, Rect};
-use mfcsv::{Dimension, Head};
+use legs::{BookHead, Box3, Leg, Rect};
+use mfcsv::Dimension;
 use predicates::{Predicate, holds, search_box};
 use std::alloc::{AllocError, Global};
 use std::slice;
@@ -57,7 +57,7 @@ impl<I: Start> Core<I> {
         match &self.head {
             Some(head) => Frame {
                 dimension: head.dimension,
-                base: head.start,
+                base: head.base,
             },
             None => match Ms::new(0) {
                 Some(epoch) => Frame {
@@ -262,7 +262,7 @@ impl<I: Start> Core<I> {
     }
 
     /// The answer of legs as a file.
-    fn file_text(&self, alloc: Global, head: &Head, legs: &[Leg]) -> Result<Vec<u8>, RunFault>
+    fn file_text(&self, alloc: Global, head: &BookHead, legs: &[Leg]) -> Result<Vec<u8>, RunFault>
         ensures text { IfOk result (λ text. text.items ≡ file_answer
             self.now.book head.now legs.now) }
         ensures fault { IfErr result (IsText (All (IsThere self.now.book) legs.now)) }

@@ -6,8 +6,8 @@ use Rattle.timebase.specs.InstantText.{instant_text}
 use Rattle.mfcsv.specs.declared.Column.{Column}
 use Rattle.mfcsv.specs.declared.Dimension.{Dimension}
 use Rattle.mfcsv.specs.declared.Dimension.TheVariants.{Two, Three}
-use Rattle.mfcsv.specs.declared.Head.{Head}
 use Rattle.mfcsv.specs.declared.Position.{Position}
+use Rattle.legs.specs.declared.head.BookHead.{BookHead}
 use Rattle.writer.specs.Entries.{EntryView}
 use Rattle.writer.specs.Records.{record_text, leg_record, point_text}
 use Rattle.writer.specs.declared.entry.Frame.{Frame}
@@ -52,19 +52,19 @@ abbrev pub upper_corner : List EntryView → Position
 upper_corner entries = record { x = greatest (xs entries); y = greatest (ys entries); z = greatest (zs entries) }
 
 -- the fields of `@stboundedby`: the corners, the base and the end of all legs
-unfoldable pub bounds_fields : Head → List EntryView → List (List ℕ)
+unfoldable pub bounds_fields : BookHead → List EntryView → List (List ℕ)
 bounds_fields head entries =
     codes "@stboundedby" ∷ head.crs ∷ dimension_text head.dimension
     ∷ point_text head.dimension (lower_corner entries)
     ∷ point_text head.dimension (upper_corner entries)
-    ∷ instant_text head.start ∷ instant_text (end_from head.start entries) ∷ codes "sec" ∷ []
+    ∷ instant_text head.base ∷ instant_text (end_from head.base entries) ∷ codes "sec" ∷ []
 
 -- the names and types of the columns
 abbrev pub column_fields : List Column → List (List ℕ)
 column_fields columns = flat_map (λ column. column.name ∷ column.kind ∷ []) columns
 
 -- the fields of `@columns`
-abbrev pub columns_fields : Head → List (List ℕ)
+abbrev pub columns_fields : BookHead → List (List ℕ)
 columns_fields head = codes "@columns" ∷ codes "mfidref" ∷ codes "trajectory" ∷ column_fields head.columns
 
 -- the record of an entry, its times as offsets from the base
@@ -75,12 +75,12 @@ entry_record frame e = leg_record e.name frame e.leg e.values
 abbrev pub entries_text : Frame → List EntryView → List ℕ
 entries_text frame entries = flat_map (entry_record frame) entries
 
--- the dimension of a head, and its start instant as the base
-abbrev pub frame_of : Head → Frame
-frame_of head = record { dimension = head.dimension; base = head.start }
+-- the dimension of a head, and its base
+abbrev pub frame_of : BookHead → Frame
+frame_of head = record { dimension = head.dimension; base = head.base }
 
 -- the records of a file: its two header lines, then each leg's
-unfoldable pub file_text : Head → List EntryView → List ℕ
+unfoldable pub file_text : BookHead → List EntryView → List ℕ
 file_text head entries =
     record_text (bounds_fields head entries) ++ record_text (columns_fields head)
     ++ entries_text (frame_of head) entries

@@ -9,7 +9,8 @@ use crate::corners::{corners_of, end_from};
 use crate::entry::{Entry, Frame};
 use crate::leg::{Buffers, push_point, write_leg};
 use crate::records::Records;
-use mfcsv::{Column, Dimension, Head, Position};
+use legs::BookHead;
+use mfcsv::{Column, Dimension, Position};
 use std::alloc::{AllocError, Global};
 use timebase::{Ms, push_instant};
 
@@ -33,12 +34,12 @@ fn point_text(alloc: Global, dimension: Dimension, point: Position) -> Result<Ve
 }
 
 /// How the legs of a file with that head are written.
-fn frame_of(head: &Head) -> Frame
+fn frame_of(head: &BookHead) -> Frame
     ensures { result ≡ frame_of head.now }
 {
     Frame {
         dimension: head.dimension,
-        base: head.start,
+        base: head.base,
     }
 }
 
@@ -78,7 +79,7 @@ fn bounds_row<'a>(
 fn write_bounds(
     alloc: Global,
     records: &mut Records,
-    head: &Head,
+    head: &BookHead,
     entries: &[Entry<'_>],
 ) -> Result<(), AllocError>
     requires { records.old.refused ≡ false }
@@ -88,8 +89,8 @@ fn write_bounds(
     let corners = corners_of(entries);
     let lower = point_text(alloc, head.dimension, corners.lower())?;
     let upper = point_text(alloc, head.dimension, corners.upper())?;
-    let base = instant_text(alloc, head.start)?;
-    let end = instant_text(alloc, end_from(head.start, entries))?;
+    let base = instant_text(alloc, head.base)?;
+    let end = instant_text(alloc, end_from(head.base, entries))?;
     let fields = bounds_row(
         head.crs.as_str().as_bytes(),
         dimension_text(head.dimension).as_bytes(),
@@ -117,7 +118,7 @@ fn push_column_fields<'a>(
 }
 
 /// Writes the second header line.
-fn write_columns(alloc: Global, records: &mut Records, head: &Head) -> Result<(), AllocError>
+fn write_columns(alloc: Global, records: &mut Records, head: &BookHead) -> Result<(), AllocError>
     requires { records.old.refused ≡ false }
     ensures { OnOk result (records.new ≡ written (records.old.text
         ++ record_text (columns_fields head.now))) }
@@ -166,7 +167,7 @@ pub(crate) fn entries_text(
 #[tactic(auto, unfolding(crate::specs::File::file_text))]
 pub(crate) fn file_text(
     alloc: Global,
-    head: &Head,
+    head: &BookHead,
     entries: &[Entry<'_>],
 ) -> Result<Vec<u8>, AllocError>
     ensures { IfOk result (λ text. text.items ≡ file_text head.now entries.now) }

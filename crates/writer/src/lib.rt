@@ -14,8 +14,8 @@ mod records;
 
 pub use entry::{Entry, Frame};
 use leg::{Buffers, write_leg};
-use legs::Leg;
-use mfcsv::{Head, Values};
+use legs::{BookHead, Leg};
+use mfcsv::Values;
 use records::Records;
 pub use std::alloc::AllocError as Memory;
 use std::alloc::Global;
@@ -66,13 +66,13 @@ pub fn push_features(alloc: Global, out: &mut Vec<u8>, names: &[&str]) -> Result
 }
 
 /// Appends a whole file: `@stboundedby` with the corners and the end of all legs, `@columns`, and each
-/// leg's record, its times as offsets from the start instant of the head.
+/// leg's record, its times as offsets from the base of the head.
 ///
-/// With no legs the corners are `0 0`, or `0 0 0`, and the end is the start instant.
+/// With no legs the corners are `0 0`, or `0 0 0`, and the end is the base.
 pub fn push_file(
     alloc: Global,
     out: &mut Vec<u8>,
-    head: &Head,
+    head: &BookHead,
     entries: &[Entry<'_>],
 ) -> Result<(), Memory>
     ensures ok { OnOk result (out.new.items ≡ out.old.items ++ file_text head.now entries.now) }

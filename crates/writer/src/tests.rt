@@ -31,13 +31,11 @@ fn values(alloc: Global, first: &str, blanks: usize) -> Result<Values, Fail> {
     Ok(Values::with_blanks(values, blanks))
 }
 
-fn head(alloc: Global, dimension: Dimension, columns: Vec<Column>) -> Result<Head, Fail> {
-    Ok(Head {
-        number_bounds: 1,
-        number_columns: 2,
+fn head(alloc: Global, dimension: Dimension, columns: Vec<Column>) -> Result<BookHead, Fail> {
+    Ok(BookHead {
         crs: text(alloc, "local")?,
         dimension,
-        start: at(0)?,
+        base: at(0)?,
         columns: Columns::from(columns),
     })
 }
