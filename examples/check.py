@@ -31,7 +31,7 @@ class Leg(NamedTuple):
         return (first, last) if first <= last else None
 
     def is_inside(self, moment, rect):
-        """Whether the feature is in the rectangle at a moment of the leg."""
+        """Whether the feature is in the rectangle at a moment of the leg, wherever its z is."""
         part = Fraction(moment - self.t0, self.t1 - self.t0)
         place = [a + (b - a) * part for a, b in zip(self.start, self.end)]
         return all(least <= v <= most for v, (least, most) in zip(place, rect))
@@ -85,6 +85,17 @@ def instant(text):
     return moment
 
 
+def names_instant(text):
+    """Whether a date and time has an offset from UTC."""
+    return datetime.fromisoformat(text).tzinfo is not None
+
+
+def moment(text, unit, start):
+    """The moment of a time field: an instant, or so many seconds after the start."""
+    assert unit in ("sec", "absolute"), unit
+    return instant(text) if unit == "absolute" else start + int(number(text, 3) * 1000)
+
+
 def shown(value):
     return f"{Decimal(value.numerator) / value.denominator:.7f}".rstrip("0").rstrip(".")
 
@@ -97,21 +108,26 @@ class Book:
     def load(self, path):
         with open(path, newline="", encoding="utf-8") as file:
             bounds, columns, *records = csv.reader(file)
-        assert (bounds[0], bounds[2], bounds[7:]) == ("@stboundedby", "2D", ["sec"])
-        assert self.columns in (None, [bounds[1], *columns])
+        assert (bounds[0], len(bounds)) == ("@stboundedby", 8)
+        assert self.columns in (None, [*bounds[1:3], *columns])
+        axes, (unit,) = {"2D": 2, "3D": 3}[bounds[2]], bounds[7:]
         start, legs, ends = instant(bounds[5]), [], {leg.name: leg.t1 for leg in self.legs}
+        for place, record in enumerate(records, 3):
+            if unit == "absolute" and not all(map(names_instant, record[1:3])):
+                return [[f"refused F13 at {place}"]]
         for place, (name, begin, end, trajectory, *values) in enumerate(records, 3):
             assert len(values) == len(columns[3:]) // 2
-            t0, t1 = (start + int(number(text, 3) * 1000) for text in (begin, end))
+            t0, t1 = (moment(text, unit, start) for text in (begin, end))
             if t0 < ends.get(name, t0):
                 return [[f"refused F18 at {place}"]]
             ends[name] = t1
             flat = [number(text, 7) for text in trajectory.split()]
-            places = list(zip(flat[::2], flat[1::2], strict=True)) * (2 if len(flat) == 2 else 1)
+            flats = [flat[axis::axes] for axis in range(axes)]
+            places = list(zip(*flats, strict=True)) * (2 if len(flat) == axes else 1)
             n = len(places) - 1
             cuts = [t0 + (t1 - t0) * k // n for k in range(n + 1)]
             legs += [Leg(name, *cuts[k : k + 2], *places[k : k + 2], values) for k in range(n)]
-        self.legs, self.columns = self.legs + legs, [bounds[1], *columns]
+        self.legs, self.columns = self.legs + legs, [*bounds[1:3], *columns]
         self.base = start if self.base is None else self.base
         return [["ok 1"], [len(records), len(legs), len({leg.name for leg in legs})]]
 

@@ -1,5 +1,5 @@
 -- The digits behind the point.
-use Rattle.std.proofs.Common.{ℕ, zero, suc, ◌<◌, ◌+◌, ◌-◌, ◌*◌, ◌/◌, ◌%◌, ◌≡◌, ◌++◌, ◌∷◌, [], List, ◌≢◌, eqb, false, arith, refl, ap, ◌∙◌, sym}
+use Rattle.std.proofs.Common.{ℕ, zero, suc, ◌<◌, ◌+◌, ◌-◌, ◌*◌, ◌/◌, ◌%◌, ◌≡◌, ◌++◌, ◌∷◌, [], List, eqb, false, arith, refl, ap, ◌∙◌, sym}
 use Rattle.std.proofs.lemmas.Bool.Decides.{nat_tests}
 use Rattle.std.proofs.lemmas.List.{append_assoc}
 use Rattle.fixedpoint.specs.NumberText.{fraction_digits}

@@ -1,16 +1,16 @@
 -- What the steps of reading make of the parts of a text.
-use Rattle.std.proofs.Common.{ℕ, zero, suc, ◌+◌, ◌-◌, ◌*◌, ◌^◌, ◌<◌, ◌≤◌, ◌≡◌, ◌∙◌, ◌++◌, ◌∷◌, [], List, ap, sym, refl, length, take, drop, get_or, true, false, cond, leb, ltb, min, arith, inl, inr}
+use Rattle.std.proofs.Common.{ℕ, suc, ◌+◌, ◌-◌, ◌*◌, ◌^◌, ◌<◌, ◌≤◌, ◌≡◌, ◌∙◌, ◌++◌, ◌∷◌, List, ap, sym, length, take, drop, get_or, true, false, ltb, min, arith, inl, inr}
 use Rattle.std.proofs.lemmas.Bool.Decides.{nat_tests}
 use Rattle.std.proofs.lemmas.Bool.{and_parts, and_left, and_right, and_from, cases_lt, lt-ltb, both_ways}
-use Rattle.std.proofs.lemmas.List.{length-append, length-drop, length-take-le, take-append-drop, take_all, take-take, get_or-take}
+use Rattle.std.proofs.lemmas.List.{length-append, length-drop, length-take-le, take-append-drop, take_all, drop_all, take-take, get_or-take}
 use Rattle.std.proofs.lemmas.List.Folds.{list_all-append}
-use Rattle.std.proofs.Math.Seq.{drop-cons, take-length}
-use Rattle.std.specs.List.{list_all, before_first, after_first}
+use Rattle.std.proofs.Math.Seq.{drop-cons}
+use Rattle.std.specs.List.{list_all, before_first, after_first, position_or_len}
 use Rattle.std.specs.Char.{is_ascii_digit}
 use Rattle.std.specs.Str.Parse.{digits_value, digits_value_after}
-use Rattle.fixedpoint.specs.Number.{is_point, are_parts, magnitude}
-use Rattle.fixedpoint.specs.Steps.{IsMagnitude, AreParts}
-use Rattle.fixedpoint.proofs.Decimal.{past, units_exact, units_rounded}
+use Rattle.fixedpoint.specs.Number.{is_point, are_parts, rounded}
+use Rattle.fixedpoint.specs.Steps.{IsMagnitude, IsCut, AreParts, cut_units}
+use Rattle.fixedpoint.proofs.Decimal.{past, units_cut, capped_cut, magnitude_cut}
 
 -- a slice to the end
 pub rest_is : (n : ℕ) (xs : List ℕ) → take (length xs - n) (drop n xs) ≡ drop n xs
@@ -62,28 +62,7 @@ parts_are t fs w start n v whole_digits le parts kept rest some =
     let digits : list_all is_ascii_digit (take n fs) ≡ true = ap (list_all is_ascii_digit) (sym front.1) ∙ kept.digits in
     accepted (before_first is_point t) fs parts.digits (all_digits fs n digits rest) (omega (arith, parts.count))
 
-to_parts : (s : ℕ) (t fs : List ℕ) (m : ℕ) → fs ≡ after_first is_point t → are_parts (before_first is_point t) fs ≡ true → min past m ≡ min past (magnitude s (before_first is_point t) fs) → IsMagnitude s t m
-to_parts s t fs m e parts value = record {
-  parts = ap (are_parts (before_first is_point t)) (sym e) ∙ parts;
-  value = value ∙ ap (λ x. min past (magnitude s (before_first is_point t) x)) e;
-}
-
--- no digit is dropped
-pub magnitude_kept : (s : ℕ) (t fs : List ℕ) (w start n v whole_digits pow r : ℕ) → w ≡ min (length fs) s → AreParts t start whole_digits fs → Kept fs w start n v → list_all is_ascii_digit (drop n fs) ≡ true
-    → 0 < whole_digits + length fs → length (drop n fs) ≡ 0 → pow ≡ 10 ^ (s - n) → r ≡ min (v * pow) 18446744073709551615 → IsMagnitude s t r
-magnitude_kept s t fs w start n v whole_digits pow r width parts kept rest some none power result =
-    let le : w ≤ length fs = omega arith in
-    let front = kept_front fs w start n v le kept in
-    let len = length-drop n fs in
-    let all : n ≡ length fs = omega (arith, front.0) in
-    let short : length fs ≤ s = omega (arith, front.0) in
-    let whole : take n fs ≡ fs = take_all n fs (omega arith) in
-    let value : v ≡ min past (digits_value_after 10 start fs) = kept.value ∙ ap (λ x. min past (digits_value_after 10 start x)) (front.1 ∙ whole) in
-    let scale : pow ≡ 10 ^ (s - length fs) = power ∙ ap (λ k. 10 ^ (s - k)) all in
-    to_parts s t fs r parts.behind (parts_are t fs w start n v whole_digits le parts kept rest some)
-    (units_exact s (before_first is_point t) fs start v pow r short parts.value value scale result)
-
--- the digits behind the places are dropped
+-- what is not read is behind the places
 cut_at_places : (s : ℕ) (fs : List ℕ) (w start n v : ℕ) → w ≡ min (length fs) s → Kept fs w start n v → list_all is_ascii_digit (drop n fs) ≡ true → n < length fs → n ≡ s
 cut_at_places s fs w start n v width kept rest lt =
     let le : w ≤ length fs = omega arith in
@@ -98,18 +77,52 @@ cut_at_places s fs w start n v width kept rest lt =
       | inr above ↦ omega (arith, front.0)
     ]
 
-pub magnitude_dropped : (s : ℕ) (t fs : List ℕ) (w start n v whole_digits up : ℕ) → w ≡ min (length fs) s → AreParts t start whole_digits fs → Kept fs w start n v → list_all is_ascii_digit (drop n fs) ≡ true
-    → 0 < whole_digits + length fs → 0 < length (drop n fs) → up ≡ cond (leb 53 (get_or (drop n fs) 0 0)) 1 0 → IsMagnitude s t (v + up)
-magnitude_dropped s t fs w start n v whole_digits up width parts kept rest some more round =
+-- so the digits read are the first s, or all
+read_to_places : (s : ℕ) (fs : List ℕ) (w start n v : ℕ) → w ≡ min (length fs) s → Kept fs w start n v → list_all is_ascii_digit (drop n fs) ≡ true
+    → (take n fs ≡ take s fs) × (drop n fs ≡ drop s fs) × (s - n ≡ s - length fs)
+read_to_places s fs w start n v width kept rest =
+    let le : w ≤ length fs = omega arith in
+    let front = kept_front fs w start n v le kept in
+    elim (cases_lt n (length fs)) [
+      | inl lt ↦
+          let at : n ≡ s = cut_at_places s fs w start n v width kept rest lt in
+          (ap (λ k. take k fs) at, ap (λ k. drop k fs) at, omega arith)
+      | inr ge ↦
+          let short : length fs ≤ s = omega (arith, front.0) in
+          (take_all n fs ge ∙ sym (take_all s fs short), drop_all n fs ge ∙ sym (drop_all s fs short), omega (arith, front.0))
+    ]
+
+-- of the fraction its first s digits were read
+pub cut_is : (s : ℕ) (t fs : List ℕ) (w start n v whole_digits pow r : ℕ) → w ≡ min (length fs) s → AreParts t start whole_digits fs → Kept fs w start n v → list_all is_ascii_digit (drop n fs) ≡ true
+    → 0 < whole_digits + length fs → pow ≡ 10 ^ (s - n) → r ≡ min (v * pow) 18446744073709551615 → IsCut s t r (drop n fs)
+cut_is s t fs w start n v whole_digits pow r width parts kept rest some power result =
     let le : w ≤ length fs = omega arith in
     let front = kept_front fs w start n v le kept in
     let len = length-drop n fs in
-    let lt : n < length fs = omega arith in
-    let at : n ≡ s = cut_at_places s fs w start n v width kept rest lt in
-    let past_places : s < length fs = omega arith in
-    let digits : list_all is_ascii_digit fs ≡ true = all_digits fs n (ap (list_all is_ascii_digit) (sym front.1) ∙ kept.digits) rest in
-    let value : v ≡ min past (digits_value_after 10 start (take s fs)) = kept.value ∙ ap (λ x. min past (digits_value_after 10 start x)) (front.1 ∙ ap (λ k. take k fs) at) in
-    let first : get_or (drop n fs) 0 0 ≡ get_or fs s 0 = ap (λ xs. get_or xs 0 0) (drop-cons fs n 0 lt) ∙ ap (λ k. get_or fs k 0) at in
-    let up' : up ≡ cond (leb 53 (get_or fs s 0)) 1 0 = round ∙ ap (λ c. cond (leb 53 c) 1 0) first in
-    to_parts s t fs (v + up) parts.behind (parts_are t fs w start n v whole_digits le parts kept rest some)
-    (units_rounded s (before_first is_point t) fs start v up (v + up) past_places digits parts.value value up' refl)
+    let at = read_to_places s fs w start n v width kept rest in
+    let value : v ≡ min past (digits_value_after 10 start (take s fs)) = kept.value ∙ ap (λ x. min past (digits_value_after 10 start x)) (front.1 ∙ at.0) in
+    let scale : pow ≡ 10 ^ (s - length fs) = power ∙ ap (λ k. 10 ^ k) at.2 in
+    record {
+      parts = ap (are_parts (before_first is_point t)) (sym parts.behind) ∙ parts_are t fs w start n v whole_digits le parts kept rest some;
+      units = units_cut s (before_first is_point t) fs start v pow r parts.value value scale result ∙ ap (λ x. min past (cut_units s (before_first is_point t) x)) parts.behind;
+      dropped = at.1 ∙ ap (drop s) parts.behind;
+      digits = rest;
+    }
+
+-- the digits behind a cut, of a text of at most 40 bytes
+pub few_dropped : (s : ℕ) (t : List ℕ) → length t ≤ 40 → 3 ≤ s → length (drop s (after_first is_point t)) ≤ 36
+few_dropped s t short low =
+    let front = length-drop s (after_first is_point t) in
+    let behind = length-drop (position_or_len is_point t + 1) t in
+    omega arith
+
+-- what a cut's two sides make together
+pub magnitude_of_cut : (k s : ℕ) (t : List ℕ) (u : ℕ) (dropped : List ℕ) (up r : ℕ) → 1 ≤ k → IsCut s t u dropped → up ≡ rounded k (length dropped) (digits_value 10 dropped)
+    → r ≡ min (min (u * k) 18446744073709551615 + up) 18446744073709551615 → IsMagnitude (k * 10 ^ s) t r
+magnitude_of_cut k s t u dropped up r some cut round result = record {
+  parts = cut.parts;
+  value =
+      capped_cut (cut_units s (before_first is_point t) (after_first is_point t)) u k up r some cut.units result
+      ∙ ap (λ x. min past (cut_units s (before_first is_point t) (after_first is_point t) * k + x)) (round ∙ ap (λ ds. rounded k (length ds) (digits_value 10 ds)) cut.dropped)
+      ∙ ap (λ x. min past x) (sym (magnitude_cut k s (before_first is_point t) (after_first is_point t)));
+}

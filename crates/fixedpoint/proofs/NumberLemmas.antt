@@ -1,13 +1,12 @@
 -- The cases of what a text reads as.
-use Rattle.std.proofs.Common.{ap, sym, ◌∙◌, ℕ, zero, suc, ◌+◌, ◌*◌, ◌/◌, ◌^◌, ◌<◌, ◌≤◌, ◌≡◌, ◌↔◌, true, false, Bool, List, length, Result, Ok, Err, ℤ, pos, negsuc, leb, min, arith, refl, unsigned_abs}
+use Rattle.std.proofs.Common.{sym, ◌∙◌, ℕ, zero, suc, ◌+◌, ◌*◌, ◌/◌, ◌^◌, ◌<◌, ◌≤◌, ◌≡◌, ◌↔◌, true, false, Bool, List, length, Ok, Err, leb, arith, refl, unsigned_abs}
 use Rattle.std.proofs.lemmas.Bool.Decides.{nat_tests}
 use Rattle.std.proofs.lemmas.Nat.{le-div, mul-le}
 use Rattle.std.proofs.Math.Nat.{div-mul-le_self, one-le-pow, le_refl}
 use Rattle.fixedpoint.specs.Number.{rounded, number_of, magnitude, are_parts, whole_part, fraction_part, most, signed, is_negative}
 use Rattle.fixedpoint.specs.Laws.{IsNearest}
-use Rattle.fixedpoint.specs.Steps.{IsMagnitude, IsRefused, cap}
+use Rattle.fixedpoint.specs.Steps.{IsMagnitude}
 use Rattle.fixedpoint.specs.Number.{unsigned_text}
-use Rattle.fixedpoint.specs.declared.NumberFault.{NumberFault}
 use Rattle.fixedpoint.specs.declared.NumberFault.TheVariants.{Shape, Range}
 
 pub number_long : (s : ℕ) (t : List ℕ) → 40 < length t → number_of s t ≡ Err Shape
@@ -40,12 +39,12 @@ number_is s t m h is within =
     let le : leb m most ≡ true = grind (arith, nat_tests) in
     rw (yes, p, same, le) refl
 
--- the rounded number is the greatest m with 2 * m * 10 ^ f ≤ 2 * n * 10 ^ s + 10 ^ f
-pub rounded_is_greatest : (s f n m : ℕ) → (m ≤ rounded s f n) ↔ (2 * (m * 10 ^ f) ≤ 2 * (n * 10 ^ s) + 10 ^ f)
+-- the rounded number is the greatest m with 2 * m * 10 ^ f ≤ 2 * n * s + 10 ^ f
+pub rounded_is_greatest : (s f n m : ℕ) → (m ≤ rounded s f n) ↔ (2 * (m * 10 ^ f) ≤ 2 * (n * s) + 10 ^ f)
 rounded_is_greatest s f n m =
     let p = one-le-pow f 10 (omega arith) in
     let k : ℕ = 2 * 10 ^ f in
-    let x : ℕ = 2 * (n * 10 ^ s) + 10 ^ f in
+    let x : ℕ = 2 * (n * s) + 10 ^ f in
     let turned : m * k ≡ 2 * (m * 10 ^ f) = omega arith in (
       λ le. let a : m * k ≤ x / k * k = mul-le m k (x / k) k le (le_refl k) in let b = div-mul-le_self x k in omega arith,
       λ le. le-div m x k (omega arith) (omega arith),

@@ -1,22 +1,20 @@
 -- What is printed of a number: it reads as that number, is exact, and no such text is shorter.
-use Rattle.std.proofs.Common.{ℕ, zero, suc, ◌+◌, ◌-◌, ◌*◌, ◌/◌, ◌%◌, ◌^◌, ◌<◌, ◌≤◌, ◌≡◌, ◌∙◌, ◌++◌, ◌∷◌, [], List, ℤ, pos, negsuc, Ok, ap, sym, refl, length, take, drop, get_or, Bool, true, false, cond, eqb, leb, ltb, ◌&&◌, arith, inl, inr, ◌⊎◌, decimal, min, unsigned_abs, ◌↔◌}
+use Rattle.std.proofs.Common.{ℕ, zero, suc, ◌+◌, ◌-◌, ◌*◌, ◌/◌, ◌%◌, ◌^◌, ◌<◌, ◌≤◌, ◌≡◌, ◌∙◌, ◌++◌, ◌∷◌, [], List, ℤ, pos, negsuc, Ok, ap, sym, refl, length, drop, Bool, true, false, cond, eqb, leb, ltb, ◌&&◌, arith, inl, inr, decimal, min}
 use Rattle.std.proofs.lemmas.Bool.Decides.{nat_tests}
 use Rattle.std.proofs.lemmas.Int.{ints}
 use Rattle.std.proofs.lemmas.Bool.{cases_lt, cases_order, and_parts, both_ways}
-use Rattle.std.proofs.lemmas.List.{length-append, append-nil, drop-drop}
+use Rattle.std.proofs.lemmas.List.{length-append}
 use Rattle.std.proofs.lemmas.List.Folds.{list_all-append}
-use Rattle.std.proofs.Math.Seq.{take-append_seam, drop-append_seam}
-use Rattle.std.proofs.lemmas.Fmt.{decimal_is_IsNumeral, length-decimal-le, decimal_nonempty}
-use Rattle.std.proofs.lemmas.Nat.{div_below, mod_below, le-div, mul-le, div-add-mod', pow-add}
-use Rattle.std.proofs.Math.Nat.{div-mul-le_self, one-le-pow, pow-succ', pow-zero, le_refl}
-use Rattle.std.proofs.lemmas.Str.Parse.{digit_at, digit_from_value}
+use Rattle.std.proofs.lemmas.Fmt.{decimal_is_IsNumeral, length-decimal-le}
+use Rattle.std.proofs.lemmas.Nat.{div_below, mod_below, mul-le, div-add-mod', pow-add}
+use Rattle.std.proofs.Math.Nat.{one-le-pow, pow-succ', pow-zero, le_refl}
+use Rattle.std.proofs.lemmas.Str.Parse.{digit_from_value}
 use Rattle.std.proofs.lemmas.Str.{digit_value_digit}
 use Rattle.std.specs.List.{list_all, list_any, position_or_len, before_first, after_first}
 use Rattle.std.specs.Char.{is_ascii_digit, digit_value}
 use Rattle.std.specs.Str.Parse.{digits_value, digits_value_after, AllDigits}
 use Rattle.fixedpoint.specs.Number.{number_of, magnitude, are_parts, is_number_text, whole_part, fraction_part, unsigned_text, is_negative, is_point, has_sign, IsInRange, most, signed}
-use Rattle.fixedpoint.specs.NumberText.{number_text, plain_text, pointed, fraction_digits, sign_text}
-use Rattle.fixedpoint.specs.Steps.{IsMagnitude}
+use Rattle.fixedpoint.specs.NumberText.{number_text, plain_text, pointed, fraction_digits}
 use Rattle.fixedpoint.proofs.Cutting.{parts_pointed, parts_plain}
 use Rattle.fixedpoint.specs.Laws.{WritesExactly, IsShortest, digits_of_text}
 use Rattle.std.proofs.lemmas.List.{length-take, length-drop}
@@ -189,12 +187,12 @@ printed s n t h plain =
     }
 
 -- a text of these parts reads as the number
-reads : (s n : ℕ) (t : List ℕ) → n ≤ most → Printed s n t → length t ≤ 40 → number_of s t ≡ Ok (signed (is_negative t) n)
+reads : (s n : ℕ) (t : List ℕ) → n ≤ most → Printed s n t → length t ≤ 40 → number_of (10 ^ s) t ≡ Ok (signed (is_negative t) n)
 reads s n t h is short =
-    let exact : magnitude s (whole_part t) (fraction_part t) ≡ n =
+    let exact : magnitude (10 ^ s) (whole_part t) (fraction_part t) ≡ n =
     magnitude_exact s (whole_part t) (fraction_part t) is.few
     ∙ ap (λ v. v * 10 ^ (s - length (fraction_part t))) (sym (value_after_append 0 (whole_part t) (fraction_part t))) ∙ is.value in
-    number_is s t n short (record { parts = is.parts; value = ap (min 1000000000000001) (sym exact) }) h
+    number_is (10 ^ s) t n short (record { parts = is.parts; value = ap (min 1000000000000001) (sym exact) }) h
 
 no_sign : (ds rest : List ℕ) → 0 < length ds → AllDigits 10 ds → (has_sign (ds ++ rest) ≡ false) × (is_negative (ds ++ rest) ≡ false)
 no_sign [] rest h d = absurd (omega arith)
@@ -214,7 +212,7 @@ unsigned_plain : (s n : ℕ) → s ≤ 7 → n ≤ most → unsigned_text (plain
 unsigned_plain s n high h = ap (λ b. cond b (drop 1 (plain_text s n)) (plain_text s n)) (plain_short s n high h).1
 
 -- a printed number reads as that number
-pub reads_back : (s : ℕ) (z : ℤ) → s ≤ 7 → IsInRange z → number_of s (number_text s z) ≡ Ok z
+pub reads_back : (s : ℕ) (z : ℤ) → s ≤ 7 → IsInRange z → number_of (10 ^ s) (number_text s z) ≡ Ok z
 reads_back s (pos n) high h =
     let facts = plain_short s n high h in
     reads s n (plain_text s n) h (printed s n (plain_text s n) h (unsigned_plain s n high h)) (omega arith) ∙ ap (λ b. Ok (signed b n)) facts.2

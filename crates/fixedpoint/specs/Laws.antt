@@ -8,13 +8,14 @@ use Rattle.fixedpoint.specs.Number.{is_number_text, is_negative, is_point, whole
 abbrev pub digits_of_text : List ℕ → ℕ
 digits_of_text text = digits_value 10 (whole_part text ++ fraction_part text)
 
--- z is the nearest number of units of 10 ^ -s, half away from zero: with n the digits of the text, f of
--- them behind the point, its magnitude is the greatest m with 2 * m * 10 ^ f ≤ 2 * n * 10 ^ s + 10 ^ f
+-- z is the nearest number of units, half away from zero: where 1 is so many units, n are the digits of the
+-- text, and f of them stand behind the point, its magnitude is the greatest m with
+-- 2 * m * 10 ^ f ≤ 2 * n * units + 10 ^ f
 abbrev pub IsNearest : ℕ → List ℕ → ℤ → Type 0
-IsNearest s text z =
+IsNearest units text z =
     let n = digits_of_text text in
     let f = length (fraction_part text) in
-    (m : ℕ) → (m ≤ unsigned_abs z) ↔ (2 * (m * 10 ^ f) ≤ 2 * (n * 10 ^ s) + 10 ^ f)
+    (m : ℕ) → (m ≤ unsigned_abs z) ↔ (2 * (m * 10 ^ f) ≤ 2 * (n * units) + 10 ^ f)
 
 -- the text is worth exactly z units of 10 ^ -s, and is written as a number is printed
 pub record WritesExactly (s : ℕ) (z : ℤ) (text : List ℕ) : Type 0 where

@@ -36,13 +36,13 @@ are_parts whole fraction = list_all is_ascii_digit (whole ++ fraction) && nat_lt
 abbrev pub is_number_text : List ℕ → Bool
 is_number_text text = nat_le (length text) 40 && are_parts (whole_part text) (fraction_part text)
 
--- n / 10 ^ f in units of 10 ^ -s: the greatest m with 2 * m * 10 ^ f ≤ 2 * n * 10 ^ s + 10 ^ f
+-- n / 10 ^ f, where 1 is so many units: the greatest m with 2 * m * 10 ^ f ≤ 2 * n * units + 10 ^ f
 abbrev pub rounded : ℕ → ℕ → ℕ → ℕ
-rounded s f n = (2 * (n * 10 ^ s) + 10 ^ f) / (2 * 10 ^ f)
+rounded units f n = (2 * (n * units) + 10 ^ f) / (2 * 10 ^ f)
 
--- whole and fraction read as the digits of one number, in units of 10 ^ -s
+-- whole and fraction read as the digits of one number, where 1 is so many units
 unfoldable pub magnitude : ℕ → List ℕ → List ℕ → ℕ
-magnitude s whole fraction = rounded s (length fraction) (digits_value 10 (whole ++ fraction))
+magnitude units whole fraction = rounded units (length fraction) (digits_value 10 (whole ++ fraction))
 
 abbrev pub signed : Bool → ℕ → ℤ
 signed negative m = if negative then neg_ℤ (pos m) else pos m
@@ -59,18 +59,22 @@ IsInRange z = unsigned_abs z ≤ most
 abbrev pub units_within : ℤ → Option ℤ
 units_within z = if nat_le (unsigned_abs z) most then Some z else None
 
--- what a text reads as, in units of 10 ^ -s
+-- what a text reads as, where 1 is so many units
 unfoldable pub number_of : ℕ → List ℕ → Result ℤ NumberFault
-number_of s text =
+number_of units text =
     if is_number_text text then (
-    let m = magnitude s (whole_part text) (fraction_part text) in
+    let m = magnitude units (whole_part text) (fraction_part text) in
     if nat_le m most then Ok (signed (is_negative text) m) else Err Range)
     else Err Shape
 
 -- a coordinate is kept in units of 10 ^ -7
 abbrev pub coord_of : List ℕ → Result ℤ NumberFault
-coord_of text = number_of 7 text
+coord_of text = number_of (10 ^ 7) text
 
--- an offset is written in seconds and kept in milliseconds
+-- an offset is kept in milliseconds, and written in seconds
 abbrev pub offset_of : List ℕ → Result ℤ NumberFault
-offset_of text = number_of 3 text
+offset_of text = number_of (10 ^ 3) text
+
+-- or in minutes
+abbrev pub minutes_of : List ℕ → Result ℤ NumberFault
+minutes_of text = number_of 60000 text

@@ -2,23 +2,42 @@
 //!
 //! A number text is an optional sign `+` or `-`, then ASCII digits with at most one point, at least
 //! one digit, at most 40 bytes in all; no exponent. A coordinate is kept in units of 10^-7, an offset
-//! (written in seconds) in milliseconds. Further digits round half away from zero.
+//! (written in seconds or in minutes) in milliseconds. Further digits round half away from zero.
 #![tactic(auto)]
 
-ghost use Rattle.std.specs.Prelude.{◌≡◌, ◌++◌, OnOk, OnErr, IfOk, Ok};
-ghost use Rattle.fixedpoint.specs.Number.{coord_of, offset_of, units_within, IsInRange};
+ghost use Rattle.std.specs.Prelude.{◌≡◌, ◌^◌, ◌++◌, OnOk, OnErr, IfOk, Ok};
+ghost use Rattle.fixedpoint.specs.Number.{coord_of, offset_of, minutes_of, units_within, IsInRange};
 ghost use Rattle.fixedpoint.specs.NumberText.{coord_text, offset_text};
 ghost use Rattle.fixedpoint.specs.Laws.{IsNearest, WritesExactly, IsShortest};
 
 mod printing;
 mod reading;
 
+use reading::Scale;
 pub use std::alloc::AllocError as Memory;
 use std::marker::Model;
 use thiserror::Error;
 
 /// The greatest magnitude of a coordinate in units of 10^-7, and of an offset in milliseconds.
 pub const MOST_UNITS: u64 = 1_000_000_000_000_000;
+
+/// 1 is 10^7 units of a coordinate.
+const COORD: Scale = Scale {
+    places: 7,
+    factor: 1,
+};
+
+/// A second is 10^3 milliseconds.
+const SECOND: Scale = Scale {
+    places: 3,
+    factor: 1,
+};
+
+/// A minute is 60 * 10^3 milliseconds.
+const MINUTE: Scale = Scale {
+    places: 3,
+    factor: 60,
+};
 
 /// Why a text is not a coordinate or an offset.
 #[derive(Clone, Copy, PartialEq, Eq, Debug, Error)]
@@ -119,9 +138,9 @@ impl Offset {
 /// of 10^-7, is greater than 100000000 in magnitude.
 pub fn read_coord(text: &str) -> Result<Coord, NumberFault>
     ensures value { result ≡ coord_of text.now }
-    ensures nearest { IfOk result (IsNearest 7 text.now) }
+    ensures nearest { IfOk result (IsNearest (10 ^ 7) text.now) }
 {
-    let units = reading::read_number(text, 7)?;
+    let units = reading::read_number(text, COORD)?;
     Ok(Coord { units })
 }
 
@@ -131,9 +150,21 @@ pub fn read_coord(text: &str) -> Result<Coord, NumberFault>
 /// millisecond, is greater than 1000000000000 s in magnitude.
 pub fn read_offset(text: &str) -> Result<Offset, NumberFault>
     ensures value { result ≡ offset_of text.now }
-    ensures nearest { IfOk result (IsNearest 3 text.now) }
+    ensures nearest { IfOk result (IsNearest (10 ^ 3) text.now) }
 {
-    let millis = reading::read_number(text, 3)?;
+    let millis = reading::read_number(text, SECOND)?;
+    Ok(Offset { millis })
+}
+
+/// Reads an offset, written in minutes. It takes no memory.
+///
+/// `Shape` where the text is not a number text, `Range` where the number, rounded to the nearest
+/// millisecond, is greater than 1000000000000 s in magnitude.
+pub fn read_minutes(text: &str) -> Result<Offset, NumberFault>
+    ensures value { result ≡ minutes_of text.now }
+    ensures nearest { IfOk result (IsNearest 60000 text.now) }
+{
+    let millis = reading::read_number(text, MINUTE)?;
     Ok(Offset { millis })
 }
 

@@ -68,7 +68,7 @@ pub(crate) fn push_number(out: &mut Vec<u8>, units: i64, places: u32) -> Result<
     ensures err { OnErr result (out.new.items ≡ out.old.items) }
     ensures exact { WritesExactly places units (number_text places units) }
     ensures shortest { IsShortest places units (number_text places units) }
-    ensures reads_back { number_of places (number_text places units) ≡ Ok units }
+    ensures reads_back { number_of (10 ^ places) (number_text places units) ≡ Ok units }
 {
     let mut text: Text = ArrayVec::new();
     if units < 0 {

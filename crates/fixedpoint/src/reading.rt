@@ -1,11 +1,11 @@
 //! Reading a number text, digit by digit.
-ghost use Rattle.std.specs.Prelude.{◌≡◌, ◌≤◌, ◌<◌, min, take, length, true, false, IfOk, IfErr, IfSome, IfNone, MatchOption, Some, None, slice_index};
+ghost use Rattle.std.specs.Prelude.{◌≡◌, ◌≤◌, ◌<◌, ◌+◌, ◌*◌, ◌/◌, ◌^◌, min, take, length, true, false, IfOk, IfErr, IfSome, IfNone, MatchOption, Some, None, slice_index};
 ghost use Rattle.std.specs.Char.{is_ascii_digit};
 ghost use Rattle.std.specs.List.{list_all, before_first, after_first};
-ghost use Rattle.std.specs.Str.Parse.{digits_value_after};
-ghost use Rattle.fixedpoint.specs.Number.{magnitude, most, number_of, is_point, IsInRange, unsigned_text, is_negative, signed, are_parts};
+ghost use Rattle.std.specs.Str.Parse.{digits_value, digits_value_after};
+ghost use Rattle.fixedpoint.specs.Number.{rounded, most, number_of, is_point, IsInRange, unsigned_text, is_negative, signed};
 ghost use Rattle.fixedpoint.specs.Laws.{IsNearest};
-ghost use Rattle.fixedpoint.specs.Steps.{AreParts, IsMagnitude, IsRefused, point_tail};
+ghost use Rattle.fixedpoint.specs.Steps.{AreParts, IsCut, IsMagnitude, IsRefused, point_tail};
 
 use crate::{MOST_UNITS, NumberFault};
 
@@ -14,6 +14,13 @@ const CAP: u64 = MOST_UNITS + 1;
 
 /// The longest number text, in bytes.
 const LONGEST: usize = 40;
+
+/// How many units 1 is: `factor` * 10^`places`.
+#[derive(Clone, Copy)]
+pub(crate) struct Scale {
+    pub(crate) places: usize,
+    pub(crate) factor: u64,
+}
 
 /// Digits at the front of a text.
 #[derive(Clone, Copy)]
@@ -91,11 +98,19 @@ fn cut_at_point(text: &[u8]) -> Option<Parts<'_>>
     }
 }
 
-/// How many units of 10^-places an unsigned text writes, rounded; more than `MOST_UNITS` where that is
-/// out of range.
-fn read_magnitude(text: &[u8], places: usize) -> Result<u64, NumberFault>
+/// A number, cut behind its places.
+#[derive(Clone, Copy)]
+struct Cut<'a> {
+    /// The units of 10^-places in front of the cut; more than `MOST_UNITS` where they are more.
+    units: u64,
+    /// The digits behind it.
+    dropped: &'a [u8],
+}
+
+/// Cuts an unsigned text behind so many places.
+fn cut_behind(text: &[u8], places: usize) -> Result<Cut<'_>, NumberFault>
     requires { places ≤ 7 }
-    ensures value { IfOk result (λ m. IsMagnitude places text.now m) }
+    ensures cut { IfOk result (λ cut. IsCut places text.now cut.units cut.dropped.now) }
     ensures refused { IfErr result (λ e. IsRefused text.now e) }
 {
     let parts = match cut_at_point(text) {
@@ -111,14 +126,67 @@ fn read_magnitude(text: &[u8], places: usize) -> Result<u64, NumberFault>
     if parts.whole_digits + parts.fraction.len() == 0 {
         return Err(NumberFault::Shape);
     }
+    let missing = (places - kept.count) as u32;
+    Ok(Cut {
+        units: kept.value.saturating_mul(10u64.pow(missing)),
+        dropped,
+    })
+}
+
+/// The number that digits write.
+fn value_of(digits: &[u8]) -> u128
+    requires digits { list_all is_ascii_digit digits.now ≡ true }
+    requires few { length digits.now ≤ 36 }
+    ensures { result ≡ digits_value 10 digits.now }
+{
+    let mut value = 0;
+    for byte in digits {
+        value = value * 10 + (*byte - b'0') as u128;
+    }
+    value
+}
+
+/// The whole number nearest to `units / power`, half up.
+fn nearest(units: u128, power: u128) -> u128
+    requires units { units ≤ 60000000000000000000000000000000000000 }
+    requires power { (0 < power) × (power ≤ 1000000000000000000000000000000000000) }
+    ensures { result ≡ (2 * units + power) / (2 * power) }
+{
+    let halves = 2 * units + power;
+    halves / (2 * power)
+}
+
+/// How many units the digits behind a cut are, rounded, where 1 in front of it is `factor` units.
+fn round(dropped: &[u8], factor: u64) -> u64
+    requires digits { list_all is_ascii_digit dropped.now ≡ true }
+    requires few { length dropped.now ≤ 36 }
+    requires factor { (1 ≤ factor) × (factor ≤ 60) }
+    ensures { result ≡ rounded factor (length dropped.now) (digits_value 10 dropped.now) }
+{
     if dropped.is_empty() {
-        let missing = (places - kept.count) as u32;
-        return Ok(kept.value.saturating_mul(10u64.pow(missing)));
+        return 0;
     }
-    if dropped[0] >= b'5' {
-        return Ok(kept.value + 1);
+    if factor == 1 {
+        // The first digit decides.
+        let up = dropped[0] >= b'5';
+        return up as u64;
     }
-    Ok(kept.value)
+    let power = 10u128.pow(dropped.len() as u32);
+    let units = value_of(dropped) * factor as u128;
+    nearest(units, power) as u64
+}
+
+/// How many units an unsigned text writes, rounded; more than `MOST_UNITS` where that is out of range.
+fn read_magnitude(text: &[u8], scale: Scale) -> Result<u64, NumberFault>
+    requires short { length text.now ≤ 40 }
+    requires places { (3 ≤ scale.places) × (scale.places ≤ 7) }
+    requires factor { (1 ≤ scale.factor) × (scale.factor ≤ 60) }
+    ensures value { IfOk result (λ m. IsMagnitude (scale.factor * 10 ^ scale.places) text.now m) }
+    ensures refused { IfErr result (λ e. IsRefused text.now e) }
+{
+    let cut = cut_behind(text, scale.places)?;
+    let front = cut.units.saturating_mul(scale.factor);
+    Ok(front.saturating_add(round(cut.dropped, scale.factor)))
 }
 
 /// Whether a text has a '-' in front, and the text behind its sign.
@@ -141,19 +209,20 @@ fn with_sign(negative: bool, magnitude: u64) -> i64
     if negative { -magnitude } else { magnitude }
 }
 
-/// What a number text reads as, in units of 10^-places.
-pub(crate) fn read_number(text: &str, places: usize) -> Result<i64, NumberFault>
-    requires { places ≤ 7 }
-    ensures value { result ≡ number_of places text.now }
+/// What a number text reads as, in units.
+pub(crate) fn read_number(text: &str, scale: Scale) -> Result<i64, NumberFault>
+    requires places { (3 ≤ scale.places) × (scale.places ≤ 7) }
+    requires factor { (1 ≤ scale.factor) × (scale.factor ≤ 60) }
+    ensures value { result ≡ number_of (scale.factor * 10 ^ scale.places) text.now }
     ensures range { IfOk result IsInRange }
-    ensures nearest { IfOk result (IsNearest places text.now) }
+    ensures nearest { IfOk result (IsNearest (scale.factor * 10 ^ scale.places) text.now) }
 {
     let bytes = text.as_bytes();
     if bytes.len() > LONGEST {
         return Err(NumberFault::Shape);
     }
     let (negative, unsigned) = without_sign(bytes);
-    let magnitude = read_magnitude(unsigned, places)?;
+    let magnitude = read_magnitude(unsigned, scale)?;
     if magnitude > MOST_UNITS {
         return Err(NumberFault::Range);
     }

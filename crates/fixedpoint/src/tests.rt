@@ -79,6 +79,27 @@ fn offsets_read_to_the_nearest_millisecond(rt: HostRuntime) -> Result<(), Fail> 
 }
 
 #[test]
+fn minutes_read_to_the_nearest_millisecond(rt: HostRuntime) -> Result<(), Fail> {
+    for (text, millis) in [
+        ("0.5", Ok(30_000)),
+        ("0.000025", Ok(2)),
+        ("-0.000025", Ok(-2)),
+        ("0.00000833", Ok(0)),
+        ("0.00000834", Ok(1)),
+        ("0.00000833333333333333333333333333333333", Ok(0)),
+        ("-.99999999999999999999999999999999999999", Ok(-60_000)),
+        ("16666666666.66667", Ok(1_000_000_000_000_000)),
+        ("16666666666.666675", Err(NumberFault::Range)),
+        ("16666666667", Err(NumberFault::Range)),
+        ("1m", Err(NumberFault::Shape)),
+        (".", Err(NumberFault::Shape)),
+    ] {
+        assert_eq!(rt; read_minutes(text).map(Offset::millis), millis, "at {text}");
+    }
+    Ok(())
+}
+
+#[test]
 fn only_numbers_of_units_in_range_are_kept(rt: HostRuntime) -> Result<(), Fail> {
     const MOST: i64 = 1_000_000_000_000_000;
     for units in [MOST, -MOST, 0] {

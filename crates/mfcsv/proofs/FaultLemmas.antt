@@ -1,16 +1,17 @@
 -- The first fault of a record, by the kind of its line.
-use Rattle.std.proofs.Common.{[], ◌∷◌, ◌++◌, ◌≡◌, ◌∙◌, ℕ, List, Some, None, ap, is_some, option_to_list, refl, sym, true, false, ℤ}
+use Rattle.std.proofs.Common.{[], ◌∷◌, ◌++◌, ◌≡◌, ◌∙◌, ℕ, List, Some, None, ap, is_some, option_to_list, refl, sym, true, false}
 use Rattle.std.proofs.lemmas.List.{append-nil}
 use Rattle.std.specs.List.{list_all}
 use Rattle.std.specs.Str.{is_utf8}
 use Rattle.mfcsv.specs.Rows.{Row}
 use Rattle.mfcsv.specs.Views.{HeadsView, RecordView}
 use Rattle.mfcsv.specs.Header.{bounds_of, columns_line_of, has_heads, heads_after, is_data, kind_of, lacks_fixed_columns}
-use Rattle.mfcsv.specs.FileText.{columns_before, dimension_before, first_fault, has_fault, line_of, record_by, records_of, start_before}
+use Rattle.mfcsv.specs.FileText.{columns_before, dimension_before, first_fault, has_fault, line_of, record_by, records_of, clock_before}
 use Rattle.mfcsv.specs.DataRecord.{record_of}
 use Rattle.mfcsv.specs.Answer.{bounds_fault, data_fault}
 use Rattle.mfcsv.specs.declared.Dimension.{Dimension}
 use Rattle.mfcsv.specs.declared.Code.TheVariants.{F1, F2, F7, F8}
+use Rattle.mfcsv.specs.declared.header.Clock.{Clock}
 use Rattle.mfcsv.specs.declared.header.Kind.{Kind}
 use Rattle.mfcsv.specs.declared.header.Kind.TheVariants.{Skipped, Bounds, Columns, Other, Data}
 
@@ -55,22 +56,22 @@ pub early_data : (heads : HeadsView) (row : Row) → list_all is_utf8 row ≡ tr
 unfolding first_fault has_fault
 early_data heads row t k h = rw (t, k, h) refl
 
-later_fault : (heads : HeadsView) (row : Row) → list_all is_utf8 row ≡ true → kind_of row ≡ Data → has_heads heads ≡ true → first_fault heads row ≡ data_fault (dimension_before heads) (start_before heads) (columns_before heads) row
+later_fault : (heads : HeadsView) (row : Row) → list_all is_utf8 row ≡ true → kind_of row ≡ Data → has_heads heads ≡ true → first_fault heads row ≡ data_fault (dimension_before heads) (clock_before heads) (columns_before heads) row
 unfolding first_fault has_fault data_fault
 later_fault heads row t k h = rw (t, k, h) refl
 
-pub later_data : (heads : HeadsView) (row : Row) (dimension : Dimension) (start : ℤ) (columns : ℕ) → list_all is_utf8 row ≡ true → kind_of row ≡ Data → has_heads heads ≡ true → dimension_before heads ≡ Some dimension → start_before heads ≡ Some start
-    → columns_before heads ≡ columns → first_fault heads row ≡ data_fault (Some dimension) (Some start) columns row
-later_data heads row dimension start columns t k h d s n =
-    later_fault heads row t k h ∙ ap (λ x. data_fault x (start_before heads) (columns_before heads) row) d
-    ∙ ap (λ x. data_fault (Some dimension) x (columns_before heads) row) s ∙ ap (λ x. data_fault (Some dimension) (Some start) x row) n
+pub later_data : (heads : HeadsView) (row : Row) (dimension : Dimension) (clock : Clock) (columns : ℕ) → list_all is_utf8 row ≡ true → kind_of row ≡ Data → has_heads heads ≡ true → dimension_before heads ≡ Some dimension → clock_before heads ≡ Some clock
+    → columns_before heads ≡ columns → first_fault heads row ≡ data_fault (Some dimension) (Some clock) columns row
+later_data heads row dimension clock columns t k h d s n =
+    later_fault heads row t k h ∙ ap (λ x. data_fault x (clock_before heads) (columns_before heads) row) d
+    ∙ ap (λ x. data_fault (Some dimension) x (columns_before heads) row) s ∙ ap (λ x. data_fault (Some dimension) (Some clock) x row) n
 
-pub data_records : (number : ℕ) (heads : HeadsView) (row : Row) (dimension : Dimension) (start : ℤ) (columns : ℕ) (r : RecordView) → kind_of row ≡ Data → dimension_before heads ≡ Some dimension → start_before heads ≡ Some start
-    → columns_before heads ≡ columns → record_of number (Some dimension) (Some start) columns row ≡ Some r → records_of (line_of number heads row) ≡ r ∷ []
-data_records number heads row dimension start columns r k d s n e =
+pub data_records : (number : ℕ) (heads : HeadsView) (row : Row) (dimension : Dimension) (clock : Clock) (columns : ℕ) (r : RecordView) → kind_of row ≡ Data → dimension_before heads ≡ Some dimension → clock_before heads ≡ Some clock
+    → columns_before heads ≡ columns → record_of number (Some dimension) (Some clock) columns row ≡ Some r → records_of (line_of number heads row) ≡ r ∷ []
+data_records number heads row dimension clock columns r k d s n e =
     ap (λ kind. option_to_list (record_by kind (line_of number heads row))) k
-    ∙ ap option_to_list (ap (λ x. record_of number x (start_before heads) (columns_before heads) row) d
-    ∙ ap (λ x. record_of number (Some dimension) x (columns_before heads) row) s ∙ ap (λ x. record_of number (Some dimension) (Some start) x row) n ∙ e)
+    ∙ ap option_to_list (ap (λ x. record_of number x (clock_before heads) (columns_before heads) row) d
+    ∙ ap (λ x. record_of number (Some dimension) x (columns_before heads) row) s ∙ ap (λ x. record_of number (Some dimension) (Some clock) x row) n ∙ e)
 
 -- no other line has a data record
 pub no_records : (number : ℕ) (heads : HeadsView) (row : Row) (kind : Kind) → kind_of row ≡ kind → is_data kind ≡ false → records_of (line_of number heads row) ≡ []

@@ -1,5 +1,5 @@
 -- How an answer stands to what the bytes say.
-use Rattle.std.specs.Prelude.{◌≡◌, ℕ, ℤ, Bool, if◌then◌else◌, List, [], ◌∷◌, Option, Some, None, Result, Ok, Err}
+use Rattle.std.specs.Prelude.{◌≡◌, ℕ, ℤ, Bool, if◌then◌else◌, List, [], ◌∷◌, Option, Some, None, is_some, Result, Ok, Err}
 use Rattle.mfcsv.specs.Rows.{Row}
 use Rattle.mfcsv.specs.Header.{lacks_bounds_fields, has_other_dimension, lacks_start, has_other_unit}
 use Rattle.mfcsv.specs.DataRecord.{has_wrong_fields, has_wrong_name, lacks_moment, ends_early, coordinates, has_wrong_coordinate, has_wrong_count, lacks_time}
@@ -7,6 +7,7 @@ use Rattle.mfcsv.specs.declared.Code.{Code}
 use Rattle.mfcsv.specs.declared.Code.TheVariants.{F3, F4, F5, F6, F11, F12, F13, F14, F15, F16, F17}
 use Rattle.mfcsv.specs.declared.Dimension.{Dimension}
 use Rattle.mfcsv.specs.declared.File.{File}
+use Rattle.mfcsv.specs.declared.header.Clock.{Clock}
 use Rattle.mfcsv.specs.declared.FileFault.{FileFault}
 use Rattle.mfcsv.specs.declared.FileFault.TheVariants as file
 use Rattle.mfcsv.specs.declared.rows.RowFault.{RowFault}
@@ -41,19 +42,23 @@ abbrev pub bounds_fault : Row → Option Code
 bounds_fault row =
     first_of ((F3, lacks_bounds_fields row) ∷ (F4, has_other_dimension row) ∷ (F5, lacks_start row) ∷ (F6, has_other_unit row) ∷ [])
 
+-- the fault of a time that is not read
+abbrev pub moment_fault : Option ℤ → Option Code
+moment_fault moment = if is_some moment then None else Some F13
+
 -- the first fault of the times of a data record
-abbrev pub span_fault : Option ℤ → Row → Option Code
-span_fault start row = first_of ((F13, lacks_moment start row) ∷ (F14, ends_early start row) ∷ [])
+abbrev pub span_fault : Option Clock → Row → Option Code
+span_fault clock row = first_of ((F13, lacks_moment clock row) ∷ (F14, ends_early clock row) ∷ [])
 
 -- the first fault of the coordinates of a data record
 abbrev pub trajectory_fault : Option Dimension → List (List ℕ) → Option Code
 trajectory_fault dimension texts = first_of ((F15, has_wrong_coordinate texts) ∷ (F16, has_wrong_count dimension texts) ∷ [])
 
 -- the first fault of a data record behind both header lines
-unfoldable pub data_fault : Option Dimension → Option ℤ → ℕ → Row → Option Code
-data_fault dimension start columns row =
-    first_of ((F11, has_wrong_fields columns row) ∷ (F12, has_wrong_name row) ∷ (F13, lacks_moment start row) ∷ (F14, ends_early start row)
-    ∷ (F15, has_wrong_coordinate (coordinates row)) ∷ (F16, has_wrong_count dimension (coordinates row)) ∷ (F17, lacks_time dimension start row) ∷ [])
+unfoldable pub data_fault : Option Dimension → Option Clock → ℕ → Row → Option Code
+data_fault dimension clock columns row =
+    first_of ((F11, has_wrong_fields columns row) ∷ (F12, has_wrong_name row) ∷ (F13, lacks_moment clock row) ∷ (F14, ends_early clock row)
+    ∷ (F15, has_wrong_coordinate (coordinates row)) ∷ (F16, has_wrong_count dimension (coordinates row)) ∷ (F17, lacks_time dimension clock row) ∷ [])
 
 -- a fault of a record of that number
 abbrev pub fault_at : ℕ → RowFault → FileFault

@@ -1,14 +1,15 @@
 -- A data record: what it says, and what is wrong with one.
 use Rattle.std.specs.Prelude.{ℕ, ◌+◌, ◌%◌, ◌==◌, ◌&&◌, ◌||◌, not, nat_lt, Bool, false, List, [], ◌∷◌, map, drop, length, Option, Some, None, is_some, option_and_then, ℤ, pos, ◌-ℤ◌, int_le, int_lt}
 use Rattle.std.specs.List.{list_all, range_with_len}
-use Rattle.fixedpoint.specs.Number.{coord_of, offset_of}
-use Rattle.timebase.specs.Instant.{moment_at}
+use Rattle.fixedpoint.specs.Number.{coord_of}
+use Rattle.timebase.specs.Time.{time_of}
 use Rattle.mfcsv.specs.Rows.{Row, field, is_empty, words}
 use Rattle.mfcsv.specs.Views.{RecordView, leg_count}
 use Rattle.mfcsv.specs.Header.{value_read}
 use Rattle.mfcsv.specs.declared.Dimension.{Dimension}
 use Rattle.mfcsv.specs.declared.Dimension.TheVariants.{Two, Three}
 use Rattle.mfcsv.specs.declared.Position.{Position}
+use Rattle.mfcsv.specs.declared.header.Clock.{Clock}
 
 -- mfidref, start time, end time, trajectory, then one value for each attribute column: fewer fields than
 -- the first four, or a field past the last attribute that is not blank
@@ -18,13 +19,12 @@ has_wrong_fields columns row = nat_lt (length row) 4 || not (list_all is_empty (
 unfoldable pub has_wrong_name : Row → Bool
 has_wrong_name row = is_empty (field row 0) || nat_lt 255 (length (field row 0))
 
--- the moment of a time field, an offset from the start instant, where it is a number and both are in range
-unfoldable pub moment_read : Option ℤ → List ℕ → Option ℤ
-moment_read start text =
-    option_and_then (λ base. option_and_then (λ offset. value_read (moment_at base offset)) (value_read (offset_of text))) start
+-- the moment of a time field by the clock of the header lines, where it is read and in range
+unfoldable pub moment_read : Option Clock → List ℕ → Option ℤ
+moment_read clock text = option_and_then (λ (c : Clock). value_read (time_of c.unit c.start text)) clock
 
-abbrev pub lacks_moment : Option ℤ → Row → Bool
-lacks_moment start row = not (is_some (moment_read start (field row 1)) && is_some (moment_read start (field row 2)))
+abbrev pub lacks_moment : Option Clock → Row → Bool
+lacks_moment clock row = not (is_some (moment_read clock (field row 1)) && is_some (moment_read clock (field row 2)))
 
 -- an end that is not after the start, of moments that are read
 abbrev pub is_not_after : Option ℤ → Option ℤ → Bool
@@ -32,8 +32,8 @@ is_not_after (Some t0) (Some t1) = int_le t1 t0
 is_not_after (Some t0) None = false
 is_not_after None t1 = false
 
-abbrev pub ends_early : Option ℤ → Row → Bool
-ends_early start row = is_not_after (moment_read start (field row 1)) (moment_read start (field row 2))
+abbrev pub ends_early : Option Clock → Row → Bool
+ends_early clock row = is_not_after (moment_read clock (field row 1)) (moment_read clock (field row 2))
 
 -- the coordinates of the trajectory
 abbrev pub coordinates : Row → List (List ℕ)
@@ -95,9 +95,9 @@ is_too_short (Some t0) (Some t1) None = false
 is_too_short (Some t0) None positions = false
 is_too_short None t1 positions = false
 
-abbrev pub lacks_time : Option Dimension → Option ℤ → Row → Bool
-lacks_time dimension start row =
-    is_too_short (moment_read start (field row 1)) (moment_read start (field row 2)) (positions_of dimension (coordinates row))
+abbrev pub lacks_time : Option Dimension → Option Clock → Row → Bool
+lacks_time dimension clock row =
+    is_too_short (moment_read clock (field row 1)) (moment_read clock (field row 2)) (positions_of dimension (coordinates row))
 
 -- the value of each attribute column; one that is missing is blank
 unfoldable pub attributes_of : ℕ → Row → List (List ℕ)
@@ -111,6 +111,6 @@ record_with number columns row (Some t0) (Some t1) None = None
 record_with number columns row (Some t0) None positions = None
 record_with number columns row None t1 positions = None
 
-unfoldable pub record_of : ℕ → Option Dimension → Option ℤ → ℕ → Row → Option RecordView
-record_of number dimension start columns row =
-    record_with number columns row (moment_read start (field row 1)) (moment_read start (field row 2)) (positions_of dimension (coordinates row))
+unfoldable pub record_of : ℕ → Option Dimension → Option Clock → ℕ → Row → Option RecordView
+record_of number dimension clock columns row =
+    record_with number columns row (moment_read clock (field row 1)) (moment_read clock (field row 2)) (positions_of dimension (coordinates row))

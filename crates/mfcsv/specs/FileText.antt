@@ -2,6 +2,7 @@
 use Rattle.std.specs.Prelude.{ℕ, ◌+◌, ◌&&◌, not, Bool, List, [], ◌∷◌, map, filter, find, length, Option, Some, None, option_and_then, option_to_list, Result, Ok, Err, ℤ}
 use Rattle.std.specs.List.{list_all, flat_map}
 use Rattle.std.specs.Str.{is_utf8}
+use Rattle.timebase.specs.declared.Unit.{Unit}
 use Rattle.mfcsv.specs.Rows.{Row, rows_of}
 use Rattle.mfcsv.specs.Views.{RecordView, BoundsView, ColumnsView, HeadsView}
 use Rattle.mfcsv.specs.Header.{kind_of, is_bounds, is_columns, is_data, is_repeated, has_heads, lacks_bounds_fields, has_other_dimension, lacks_start, has_other_unit, lacks_fixed_columns, heads_after}
@@ -10,17 +11,25 @@ use Rattle.mfcsv.specs.declared.Code.{Code}
 use Rattle.mfcsv.specs.declared.Code.TheVariants.{F1, F2, F3, F4, F5, F6, F7, F8, F11, F12, F13, F14, F15, F16, F17}
 use Rattle.mfcsv.specs.declared.Dimension.{Dimension}
 use Rattle.mfcsv.specs.declared.File.{File}
+use Rattle.mfcsv.specs.declared.header.Clock.{Clock}
 use Rattle.mfcsv.specs.declared.header.Kind.{Kind}
 use Rattle.mfcsv.specs.declared.header.Kind.TheVariants.{Skipped, Bounds, Columns, Other, Data}
 
--- the start instant of the header lines before a record, and how many attribute columns they name
-abbrev pub start_before : HeadsView → Option ℤ
-start_before heads = option_and_then (λ (bounds : BoundsView). bounds.start) heads.bounds
+-- a unit and a start instant, where both are read
+abbrev pub clock_of : Option Unit → Option ℤ → Option Clock
+clock_of (Some unit) (Some start) = Some (record { unit = unit; start = start })
+clock_of (Some unit) None = None
+clock_of None start = None
+
+-- by what the times of a record count, from the header lines before it
+abbrev pub clock_before : HeadsView → Option Clock
+clock_before heads = option_and_then (λ (bounds : BoundsView). clock_of bounds.unit bounds.start) heads.bounds
 
 -- their dimension
 abbrev pub dimension_before : HeadsView → Option Dimension
 dimension_before heads = option_and_then (λ (bounds : BoundsView). bounds.dimension) heads.bounds
 
+-- how many attribute columns they name
 abbrev pub count_in : Option ColumnsView → ℕ
 count_in (Some line) = length line.columns
 count_in None = 0
@@ -40,11 +49,11 @@ has_fault heads row F7 = is_columns (kind_of row) && lacks_fixed_columns row
 has_fault heads row F8 = is_data (kind_of row) && not (has_heads heads)
 has_fault heads row F11 = is_data (kind_of row) && has_wrong_fields (columns_before heads) row
 has_fault heads row F12 = is_data (kind_of row) && has_wrong_name row
-has_fault heads row F13 = is_data (kind_of row) && lacks_moment (start_before heads) row
-has_fault heads row F14 = is_data (kind_of row) && ends_early (start_before heads) row
+has_fault heads row F13 = is_data (kind_of row) && lacks_moment (clock_before heads) row
+has_fault heads row F14 = is_data (kind_of row) && ends_early (clock_before heads) row
 has_fault heads row F15 = is_data (kind_of row) && has_wrong_coordinate (coordinates row)
 has_fault heads row F16 = is_data (kind_of row) && has_wrong_count (dimension_before heads) (coordinates row)
-has_fault heads row F17 = is_data (kind_of row) && lacks_time (dimension_before heads) (start_before heads) row
+has_fault heads row F17 = is_data (kind_of row) && lacks_time (dimension_before heads) (clock_before heads) row
 
 -- all codes, in the order in which a record is judged
 abbrev pub table : List Code
@@ -80,7 +89,7 @@ faults_of line = map (λ code. (code, line.number)) (filter (has_fault line.head
 
 -- the data record of a line, if it is one
 abbrev pub record_by : Kind → Line → Option RecordView
-record_by Data line = record_of line.number (dimension_before line.heads) (start_before line.heads) (columns_before line.heads) line.row
+record_by Data line = record_of line.number (dimension_before line.heads) (clock_before line.heads) (columns_before line.heads) line.row
 record_by Skipped line = None
 record_by Bounds line = None
 record_by Columns line = None
@@ -90,7 +99,7 @@ abbrev pub records_of : Line → List RecordView
 records_of line = option_to_list (record_by (kind_of line.row) line)
 
 -- a file of these header lines and records, F8 of the whole file where a header line is missing; a line
--- `@stboundedby` whose dimension or start instant is not read has had its own fault
+-- `@stboundedby` whose dimension, start instant or unit is not read has had its own fault
 abbrev pub file_at : Option Dimension → Option ℤ → BoundsView → ColumnsView → List RecordView → Result File (Code × ℕ)
 file_at (Some dimension) (Some start) bounds line records =
     Ok (record {

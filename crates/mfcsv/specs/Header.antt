@@ -2,6 +2,8 @@
 use Rattle.std.specs.Prelude.{ℕ, ◌-◌, ◌==◌, ◌&&◌, ◌||◌, not, nat_lt, Bool, true, false, if◌then◌else◌, List, [], ◌∷◌, take, drop, length, Option, Some, None, is_some, Result, Ok, Err, ℤ, codes, slice_index}
 use Rattle.std.specs.List.{suffix_len}
 use Rattle.timebase.specs.Instant.{moment_of}
+use Rattle.timebase.specs.declared.Unit.{Unit}
+use Rattle.timebase.specs.declared.Unit.TheVariants.{Sec, Minute, Absolute}
 use Rattle.mfcsv.specs.Rows.{Row, field, is_empty, same_word}
 use Rattle.mfcsv.specs.Views.{BoundsView, ColumnsView, HeadsView}
 use Rattle.mfcsv.specs.declared.Column.{Column}
@@ -82,12 +84,16 @@ start_of row = value_read (moment_of (field row 5))
 abbrev pub lacks_start : Row → Bool
 lacks_start row = not (is_some (start_of row))
 
--- a time unit that is known; without one it is `sec`
-abbrev pub is_unit : List ℕ → Bool
-is_unit text = is_empty text || same_word text (codes "sec")
+-- the unit of the times of the records that a text names; without one it is `sec`
+unfoldable pub unit_of : List ℕ → Option Unit
+unit_of text =
+    if is_empty text || same_word text (codes "sec") then Some Sec
+    else if same_word text (codes "minute") then Some Minute
+    else if same_word text (codes "absolute") then Some Absolute
+    else None
 
 unfoldable pub has_other_unit : Row → Bool
-has_other_unit row = not (is_unit (field row 7))
+has_other_unit row = not (is_some (unit_of (field row 7)))
 
 -- the two columns that each file has first
 unfoldable pub lacks_fixed_columns : Row → Bool
@@ -111,7 +117,13 @@ columns_of row =
 
 -- what a line `@stboundedby` of that number says
 abbrev pub bounds_of : ℕ → Row → BoundsView
-bounds_of number row = record { number = number; crs = field row 1; dimension = dimension_of (field row 2); start = start_of row }
+bounds_of number row = record {
+  number = number;
+  crs = field row 1;
+  dimension = dimension_of (field row 2);
+  start = start_of row;
+  unit = unit_of (field row 7);
+}
 
 -- what a line `@columns` of that number says
 abbrev pub columns_line_of : ℕ → Row → ColumnsView

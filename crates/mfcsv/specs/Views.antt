@@ -1,5 +1,6 @@
 -- What contracts see of a data record and of the header lines.
 use Rattle.std.specs.Prelude.{ℕ, ◌-◌, ◌==◌, ◌≤◌, if◌then◌else◌, List, length, Option, ℤ, pos, ◌-ℤ◌, ◌≤ℤ◌, ◌<ℤ◌}
+use Rattle.timebase.specs.declared.Unit.{Unit}
 use Rattle.mfcsv.specs.declared.Column.{Column}
 use Rattle.mfcsv.specs.declared.Dimension.{Dimension}
 use Rattle.mfcsv.specs.declared.Position.{Position}
@@ -27,12 +28,14 @@ pub record IsRecord (r : RecordView) : Type 0 where
   -- at least a millisecond for each leg
   pub long_enough : pos (leg_count (length r.positions)) ≤ℤ (r.t1 -ℤ r.t0)
 
--- a line `@stboundedby`: its number, its CRS name, and its dimension and its start instant where they are read
+-- a line `@stboundedby`: its number, its CRS name, and its dimension, its start instant and its unit where
+-- they are read
 pub record BoundsView : Type 0 where
   pub number : ℕ
   pub crs : List ℕ
   pub dimension : Option Dimension
   pub start : Option ℤ
+  pub unit : Option Unit
 
 -- a line `@columns`: its number and its attribute columns
 pub record ColumnsView : Type 0 where

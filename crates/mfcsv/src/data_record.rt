@@ -7,15 +7,15 @@ ghost use Rattle.mfcsv.specs.Unread.{cells};
 ghost use Rattle.mfcsv.specs.Views.{leg_count};
 ghost use Rattle.mfcsv.specs.DataRecord.{has_wrong_fields, has_wrong_name, moment_read, coordinates, positions_of, attributes_of, record_of};
 ghost use Rattle.mfcsv.specs.Placing.{placed, waits};
-ghost use Rattle.mfcsv.specs.Answer.{Judges, span_fault, trajectory_fault, data_fault};
+ghost use Rattle.mfcsv.specs.Answer.{Judges, moment_fault, span_fault, trajectory_fault, data_fault};
 
-use crate::header::Given;
+use crate::header::{Clock, Given};
 use crate::rows::{RowFault, copy_of, field_at};
 use crate::{Code, Column, Dimension, Position, Positions, Record, Text, Values};
 use csv::StringRecord;
-use fixedpoint::{Coord, read_coord, read_offset};
+use fixedpoint::{Coord, read_coord};
 use std::alloc::{AllocError, Global};
-use timebase::{Ms, at_offset};
+use timebase::{Ms, TimeFault, read_time};
 
 /// Whether all fields from a place on are blank.
 fn are_blank_from(row: &StringRecord, first: usize) -> bool
@@ -44,39 +44,32 @@ fn has_wrong_name(row: &StringRecord) -> bool
     name.is_empty() || name.len() > 255
 }
 
+/// The moment of a time field.
 #[tactic(auto, unfolding(crate::specs::DataRecord::moment_read))]
-/// The moment of a time field: the start instant and the offset that the field writes.
-fn read_moment(start: Ms, text: &str) -> Option<Ms>
-    ensures { result ≡ moment_read (Some start) text.now }
+fn read_moment(clock: &Clock, text: &str) -> Result<Ms, RowFault>
+    ensures { Judges result (moment_fault (moment_read (Some clock.now) text.now))
+        (λ m. moment_read (Some clock.now) text.now ≡ Some m) }
 {
-    match read_offset(text) {
-        Ok(offset) => match at_offset(start, offset) {
-            Ok(moment) => Some(moment),
-            Err(_) => None,
-        },
-        Err(_) => None,
+    match read_time(clock.unit, clock.start, text) {
+        Ok(moment) => Ok(moment),
+        Err(TimeFault::Memory) => Err(RowFault::Memory),
+        Err(TimeFault::Unreadable | TimeFault::OutOfRange) => Err(RowFault::Refused(Code::F13)),
     }
 }
 
 /// The start and the end of a record.
-fn read_span(start: Ms, row: &StringRecord) -> Result<(Ms, Ms), RowFault>
-    ensures span { Judges result (span_fault (Some start) (cells row.now))
-        (λ s. (moment_read (Some start) (field (cells row.now) 1) ≡ Some s.0)
-        × (moment_read (Some start) (field (cells row.now) 2) ≡ Some s.1)) }
+fn read_span(clock: &Clock, row: &StringRecord) -> Result<(Ms, Ms), RowFault>
+    ensures span { Judges result (span_fault (Some clock.now) (cells row.now))
+        (λ s. (moment_read (Some clock.now) (field (cells row.now) 1) ≡ Some s.0)
+        × (moment_read (Some clock.now) (field (cells row.now) 2) ≡ Some s.1)) }
     ensures in_order { IfOk result (λ s. s.0 <ℤ s.1) }
 {
-    let t0 = read_moment(start, field_at(row, 1));
-    let t1 = read_moment(start, field_at(row, 2));
-    match (t0, t1) {
-        (Some(t0), Some(t1)) => {
-            if t1.millis() <= t0.millis() {
-                Err(RowFault::Refused(Code::F14))
-            } else {
-                Ok((t0, t1))
-            }
-        }
-        _ => Err(RowFault::Refused(Code::F13)),
+    let t0 = read_moment(clock, field_at(row, 1))?;
+    let t1 = read_moment(clock, field_at(row, 2))?;
+    if t1.millis() <= t0.millis() {
+        return Err(RowFault::Refused(Code::F14));
     }
+    Ok((t0, t1))
 }
 
 fn is_separator(c: u8) -> bool
@@ -248,9 +241,9 @@ pub(crate) fn read_record(
     row: &StringRecord,
     given: &Given,
 ) -> Result<Record, RowFault>
-    ensures { Judges result (data_fault (Some given.now.dimension) (Some given.now.start)
+    ensures { Judges result (data_fault (Some given.now.dimension) (Some given.now.clock)
         (length given.now.columns.now) (cells row.now))
-        (λ r. record_of number (Some given.now.dimension) (Some given.now.start)
+        (λ r. record_of number (Some given.now.dimension) (Some given.now.clock)
         (length given.now.columns.now) (cells row.now) ≡ Some r) }
 {
     if has_wrong_fields(row, given.columns) {
@@ -259,7 +252,7 @@ pub(crate) fn read_record(
     if has_wrong_name(row) {
         return Err(RowFault::Refused(Code::F12));
     }
-    let (t0, t1) = read_span(given.start, row)?;
+    let (t0, t1) = read_span(&given.clock, row)?;
     let positions = read_positions(alloc, given.dimension, field_at(row, 3))?;
     if lacks_time(t0, t1, positions.as_slice().len()) {
         return Err(RowFault::Refused(Code::F17));

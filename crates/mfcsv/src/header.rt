@@ -4,8 +4,8 @@ ghost use Rattle.std.specs.List.{list_all};
 ghost use Rattle.std.specs.Str.{is_utf8};
 ghost use Rattle.mfcsv.specs.Rows.{field, is_empty};
 ghost use Rattle.mfcsv.specs.Unread.{cells};
-ghost use Rattle.mfcsv.specs.Header.{kind_of, is_blank_row, is_header_row, dimension_of, is_unit, is_blank_column, pairs, columns_of, lacks_fixed_columns, bounds_of, columns_line_of, heads_after, has_heads};
-ghost use Rattle.mfcsv.specs.FileText.{first_fault, no_heads, dimension_before, start_before, columns_before};
+ghost use Rattle.mfcsv.specs.Header.{kind_of, is_blank_row, is_header_row, dimension_of, unit_of, is_blank_column, pairs, columns_of, lacks_fixed_columns, bounds_of, columns_line_of, heads_after, has_heads};
+ghost use Rattle.mfcsv.specs.FileText.{first_fault, no_heads, dimension_before, clock_before, columns_before};
 ghost use Rattle.mfcsv.specs.Answer.{Judges, bounds_fault};
 
 use crate::rows::{RowFault, copy_of, field_at, is_word};
@@ -13,7 +13,7 @@ use crate::{Code, Column, Columns, Dimension, Text};
 use csv::StringRecord;
 use std::alloc::{AllocError, Global};
 use std::marker::Model;
-use timebase::{Ms, TimeFault, read_instant};
+use timebase::{Ms, TimeFault, Unit, read_instant};
 
 /// What kind of line a record is.
 #[derive(Clone, Copy, PartialEq, Eq, Debug)]
@@ -76,11 +76,20 @@ fn dimension_of(text: &str) -> Option<Dimension>
     }
 }
 
-/// Whether a time unit is one that files may have. A blank one is `sec`.
-fn is_unit(text: &str) -> bool
-    ensures { result ≡ is_unit text.now }
+/// The time unit that a text names, a blank one `sec`; `None` where it names none that files may have.
+#[tactic(auto, unfolding(crate::specs::Header::unit_of))]
+fn unit_of(text: &str) -> Option<Unit>
+    ensures { result ≡ unit_of text.now }
 {
-    text.is_empty() || is_word(text, "sec")
+    if text.is_empty() || is_word(text, "sec") {
+        Some(Unit::Sec)
+    } else if is_word(text, "minute") {
+        Some(Unit::Minute)
+    } else if is_word(text, "absolute") {
+        Some(Unit::Absolute)
+    } else {
+        None
+    }
 }
 
 /// What a line `@stboundedby` says.
@@ -90,6 +99,7 @@ pub(crate) struct Bounds {
     pub(crate) crs: Text,
     pub(crate) dimension: Dimension,
     pub(crate) start: Ms,
+    pub(crate) unit: Unit,
 }
 
 impl Model for Bounds {
@@ -98,7 +108,7 @@ impl Model for Bounds {
 
     ghost Value = { BoundsView };
 
-    ghost view = { λ a. record { number = a.number; crs = a.crs; dimension = Some a.dimension; start = Some a.start } };
+    ghost view = { λ a. record { number = a.number; crs = a.crs; dimension = Some a.dimension; start = Some a.start; unit = Some a.unit } };
 }
 
 #[tactic(auto, unfolding(crate::specs::Header::lacks_bounds_fields, crate::specs::Header::has_other_dimension, crate::specs::Header::start_of, crate::specs::Header::has_other_unit))]
@@ -119,15 +129,16 @@ fn read_bounds(alloc: Global, number: u64, row: &StringRecord) -> Result<Bounds,
             return Err(RowFault::Refused(Code::F5));
         }
     };
-    if !is_unit(field_at(row, 7)) {
+    let Some(unit) = unit_of(field_at(row, 7)) else {
         return Err(RowFault::Refused(Code::F6));
-    }
+    };
     let crs = copy_of(alloc, row, 1)?;
     Ok(Bounds {
         number,
         crs,
         dimension,
         start,
+        unit,
     })
 }
 
@@ -187,11 +198,18 @@ impl Model for ColumnLine {
     ghost view = { λ a. record { number = a.number; columns = a.columns } };
 }
 
-/// What both header lines give each data record: the dimension, the start instant, and the attribute columns.
+/// By what the times of a file's records count.
+#[derive(Clone, Copy)]
+pub(crate) struct Clock {
+    pub(crate) unit: Unit,
+    pub(crate) start: Ms,
+}
+
+/// What both header lines give each data record: the dimension, the clock, and the attribute columns.
 #[derive(Clone, Copy)]
 pub(crate) struct Given<'a> {
     pub(crate) dimension: Dimension,
-    pub(crate) start: Ms,
+    pub(crate) clock: Clock,
     pub(crate) columns: &'a [Column],
 }
 
@@ -291,13 +309,16 @@ impl Heads {
     pub(crate) fn given(&self) -> Option<Given<'_>>
         ensures { MatchOption result (has_heads self.now ≡ false)
             (λ g. (has_heads self.now ≡ true) × (dimension_before self.now ≡ Some g.dimension)
-            × (start_before self.now ≡ Some g.start)
+            × (clock_before self.now ≡ Some g.clock)
             × (columns_before self.now ≡ length g.columns.now)) }
     {
         match (&self.bounds, &self.columns) {
             (Some(bounds), Some(line)) => Some(Given {
                 dimension: bounds.dimension,
-                start: bounds.start,
+                clock: Clock {
+                    unit: bounds.unit,
+                    start: bounds.start,
+                },
                 columns: line.columns.as_slice(),
             }),
             _ => None,

@@ -27,11 +27,11 @@ pub enum Code {
     F2,
     /// `@stboundedby` with fewer than 7 fields.
     F3,
-    /// The dimension is not `2D`.
+    /// The dimension is neither `2D` nor `3D`.
     F4,
     /// The start instant is not read, or is out of range.
     F5,
-    /// The time unit is not `sec`.
+    /// The time unit is none of `sec`, `minute` and `absolute`.
     F6,
     /// The second and third field of `@columns` are not `mfidref` and `trajectory`.
     F7,
@@ -42,7 +42,8 @@ pub enum Code {
     F11,
     /// The mfidref is empty or longer than 255 bytes.
     F12,
-    /// The start or end time is not a number, or it or its moment is out of range.
+    /// The start or end time is not a number, or with the unit `absolute` not an instant; or it or its
+    /// moment is out of range.
     F13,
     /// The end is not after the start.
     F14,

@@ -324,6 +324,69 @@ fn takes_blank_fields_past_the_last_and_odd_numbers(rt: HostRuntime) -> Result<(
     Ok(())
 }
 
+/// Both header lines of a file with this unit, and then these lines.
+macro_rules! in_unit {
+    ($unit:literal, $lines:literal) => {
+        concat!(
+            "@stboundedby,local,2D,,,2020-01-01T00:00:00Z,,",
+            $unit,
+            "\n@columns,mfidref,trajectory\n",
+            $lines
+        )
+    };
+}
+
+#[test]
+fn times_count_by_the_unit(rt: HostRuntime) -> Result<(), Fail> {
+    let wanted = Wanted {
+        number: 3,
+        name: "x",
+        times: (30_000, 60_000),
+        positions: &[(0, 0)],
+        values: &[],
+    };
+    for text in [
+        in_unit!("", "x,30,60,0 0"),
+        in_unit!(" Minute", "x,0.5,1,0 0"),
+        in_unit!(
+            "ABSOLUTE",
+            "x,2020-01-01T00:00:30Z,2020-01-01T01:01:00+01:00,0 0"
+        ),
+    ] {
+        let file = read(rt.alloc(), text.as_bytes())?;
+        assert!(rt; has_records(&file, &[wanted]), "in {text}");
+    }
+    Ok(())
+}
+
+#[test]
+fn times_of_another_unit_are_refused(rt: HostRuntime) {
+    let files = [
+        (in_unit!("minutes", ""), Code::F6, 1),
+        (
+            in_unit!("minute", "x,0,2020-01-01T00:00:30Z,0 0"),
+            Code::F13,
+            3,
+        ),
+        (in_unit!("minute", "x,0,16666666667,0 0"), Code::F13, 3),
+        (in_unit!("absolute", "x,1,2,0 0"), Code::F13, 3),
+        (
+            in_unit!("absolute", "x,2020-01-01T00:00:00,2020-01-01T00:00:30Z,0 0"),
+            Code::F13,
+            3,
+        ),
+        (
+            in_unit!(
+                "absolute",
+                "x,2020-01-01T00:00:30Z,2020-01-01T00:00:30Z,0 0"
+            ),
+            Code::F14,
+            3,
+        ),
+    ];
+    check_refusals(&rt, rt.alloc(), &files);
+}
+
 /// Two records that follow one another without a millisecond between.
 const ADJOINING: [Wanted; 2] = [
     Wanted {

@@ -1,3 +1,4 @@
 pub mod Instant
 pub mod Period
 pub mod InstantText
+pub mod Time

@@ -9,10 +9,11 @@ ghost use Rattle.std.specs.Int.{int_div_euclid};
 ghost use Rattle.timebase.specs.Instant.{moment_of, moment_at, moment_within, some_moment, IsMoment};
 ghost use Rattle.timebase.specs.InstantText.{instant_text};
 ghost use Rattle.timebase.specs.Period.{period_of};
+ghost use Rattle.timebase.specs.Time.{moment_after, time_of};
 
 mod printing;
 
-use fixedpoint::Offset;
+use fixedpoint::{NumberFault, Offset, read_minutes, read_offset};
 use jiff::Timestamp;
 pub use std::alloc::AllocError as Memory;
 use std::marker::Model;
@@ -30,6 +31,17 @@ pub enum TimeFault {
     /// Memory ran out. Reading takes none today, so it does not come.
     #[error("memory ran out")]
     Memory,
+}
+
+/// In what unit a file writes the times of its records.
+#[derive(Clone, Copy, PartialEq, Eq, Debug)]
+pub enum Unit {
+    /// Seconds after the start instant.
+    Sec,
+    /// Minutes after the start instant.
+    Minute,
+    /// Instants, which count from no start.
+    Absolute,
 }
 
 /// The first and the last moment, in milliseconds.
@@ -177,6 +189,33 @@ pub fn at_offset(base: Ms, offset: Offset) -> Result<Ms, TimeFault>
     ensures { result ≡ moment_at base offset }
 {
     within(base.millis as i128 + offset.millis() as i128)
+}
+
+/// The moment an offset after a start, as far as the offset was read.
+fn after(start: Ms, offset: Result<Offset, NumberFault>) -> Result<Ms, TimeFault>
+    ensures { result ≡ moment_after start offset }
+{
+    match offset {
+        Ok(offset) => at_offset(start, offset),
+        Err(NumberFault::Shape) => Err(TimeFault::Unreadable),
+        Err(NumberFault::Range) => Err(TimeFault::OutOfRange),
+    }
+}
+
+/// Reads a time field: with `Sec` and `Minute` so many seconds or minutes after `start`, with
+/// `Absolute` an instant, as `read_instant` does. It takes no memory.
+///
+/// `Unreadable` where the text is no number, or no instant, `OutOfRange` where the offset or the
+/// moment is out of range.
+#[tactic(auto, unfolding(crate::specs::Time::time_of))]
+pub fn read_time(unit: Unit, start: Ms, text: &str) -> Result<Ms, TimeFault>
+    ensures { result ≡ time_of unit start text.now }
+{
+    match unit {
+        Unit::Sec => after(start, read_offset(text)),
+        Unit::Minute => after(start, read_minutes(text)),
+        Unit::Absolute => read_instant(text),
+    }
 }
 
 #[cfg(test)]

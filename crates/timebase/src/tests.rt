@@ -71,6 +71,51 @@ fn offsets_count_from_their_base(rt: HostRuntime) -> Result<(), Fail> {
 }
 
 #[test]
+fn time_fields_count_by_their_unit(rt: HostRuntime) -> Result<(), Fail> {
+    // 2020-01-01T00:00:00Z
+    let start = Ms::new(1_577_836_800_000).ok_or("a moment")?;
+    for (unit, text, moment) in [
+        (Unit::Sec, "0.5", Ok(1_577_836_800_500)),
+        (Unit::Minute, "0.5", Ok(1_577_836_830_000)),
+        (Unit::Minute, "-1", Ok(1_577_836_740_000)),
+        (
+            Unit::Absolute,
+            "2020-01-01T00:00:01Z",
+            Ok(1_577_836_801_000),
+        ),
+        (Unit::Absolute, "1970-01-01T01:00:00+01:00", Ok(0)),
+        (Unit::Sec, "1e3", Err(TimeFault::Unreadable)),
+        (Unit::Sec, "1000000000000.001", Err(TimeFault::OutOfRange)),
+        (Unit::Sec, "251792927999.999", Ok(253_370_764_799_999)),
+        (Unit::Sec, "251792928000", Err(TimeFault::OutOfRange)),
+        (
+            Unit::Minute,
+            "2020-01-01T00:00:01Z",
+            Err(TimeFault::Unreadable),
+        ),
+        (Unit::Minute, "16666666667", Err(TimeFault::OutOfRange)),
+        (Unit::Absolute, "1", Err(TimeFault::Unreadable)),
+        (
+            Unit::Absolute,
+            "2020-01-01T00:00:01",
+            Err(TimeFault::Unreadable),
+        ),
+        (
+            Unit::Absolute,
+            "9999-06-01T00:00:00Z",
+            Err(TimeFault::OutOfRange),
+        ),
+    ] {
+        assert_eq!(rt;
+            read_time(unit, start, text).map(Ms::millis),
+            moment,
+            "at {text}"
+        );
+    }
+    Ok(())
+}
+
+#[test]
 fn a_period_begins_no_later_than_it_ends(rt: HostRuntime) -> Result<(), Fail> {
     let early = Ms::new(1).ok_or("a moment")?;
     let late = Ms::new(2).ok_or("a moment")?;

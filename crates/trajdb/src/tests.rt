@@ -38,6 +38,18 @@ macro_rules! headed {
     };
 }
 
+/// The same in another unit.
+macro_rules! headed_in {
+    ($unit:literal, $lines:literal) => {
+        concat!(
+            "@stboundedby,local,2D,0 0,0 0,2020-01-01T00:00:00Z,2020-01-02T00:00:00Z,",
+            $unit,
+            "\n@columns,mfidref,trajectory\n",
+            $lines
+        )
+    };
+}
+
 /// The same in three dimensions.
 macro_rules! headed_in_space {
     ($lines:literal) => {
@@ -89,7 +101,7 @@ macro_rules! quoted {
 }
 
 /// The files of most scripts below.
-const FILES: [(&str, &str); 27] = [
+const FILES: [(&str, &str); 32] = [
     ("up", headed_in_space!("u,0,1,0 0 5 1 1 6\n")),
     ("still in space", headed_in_space!("s,0,5,7 8 9\n")),
     ("short in space", headed_in_space!("u,0,1,0 0 5 1\n")),
@@ -141,6 +153,20 @@ const FILES: [(&str, &str); 27] = [
     ("jump", headed!("j,0,10,0 0 1 0\nj,10,20,5 5 6 5\n")),
     ("written", written!("")),
     ("quoted", quoted!("")),
+    ("minutes", headed_in!("minute", "m,0.5,1,0 0 1 1\n")),
+    (
+        "instants",
+        headed_in!(
+            "absolute",
+            "m,2020-01-01T00:00:01Z,2020-01-01T00:00:02Z,0 0 1 1\n"
+        ),
+    ),
+    ("hours", headed_in!("hour", "m,1,2,0 0 1 1\n")),
+    ("no instants", headed_in!("absolute", "m,1,2,0 0 1 1\n")),
+    (
+        "S1 goes on",
+        "@stboundedby,urn:x-ogc:def:crs:EPSG:6.6:4326,2D,50.23 9.23,50.31 9.27,2012-01-17T12:33:41Z,2012-01-17T12:37:00Z,Minute\n@columns,mfidref,trajectory,state,xsd:token,\"type code\",xsd:integer\nb,4,5,11 3 12 3\n",
+    ),
 ];
 
 fn named_files(alloc: Global) -> Result<Files, RunFault> {
@@ -575,6 +601,31 @@ fn a_third_dimension_is_kept(rt: HostRuntime) -> Result<(), Fail> {
             (
                 "load heads in space\nwrite\n",
                 "ok 1\n0,0,0\nok 2\n@stboundedby,local,3D,0 0 0,0 0 0,2020-01-01T00:00:00.000Z,2020-01-01T00:00:00.000Z,sec\n@columns,mfidref,trajectory\n",
+            ),
+        ],
+    )
+}
+
+#[test]
+fn times_count_by_the_unit_of_their_file(rt: HostRuntime) -> Result<(), Fail> {
+    check(
+        &rt,
+        &[
+            (
+                "load minutes\ntrajectory m\n",
+                "ok 1\n1,1,1\nok 1\nm,30,60,0 0 1 1\n",
+            ),
+            (
+                "load instants\ntrajectory m\n",
+                "ok 1\n1,1,1\nok 1\nm,1,2,0 0 1 1\n",
+            ),
+            (
+                "load hours\nload no instants\n",
+                "refused F6 at 1\nrefused F13 at 3\n",
+            ),
+            (
+                "load S1.csv\nload S1 goes on\ntrajectory b\n",
+                "ok 1\n4,5,3\nok 1\n1,1,1\nok 2\nb,10,190,10 2 11 3,walking,2\nb,240,300,11 3 12 3,,\n",
             ),
         ],
     )

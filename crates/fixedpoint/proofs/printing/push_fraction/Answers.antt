@@ -1,6 +1,5 @@
-use Rattle.std.proofs.Common.{ℕ, ◌≡◌, ◌+◌, ◌-◌, ◌*◌, ◌/◌, ◌%◌, ◌<◌, ◌++◌, ◌∷◌, [], ap, ◌∙◌, sym, arith}
+use Rattle.std.proofs.Common.{◌-◌, ◌<◌, ◌++◌, ap, ◌∙◌, sym, arith}
 use Rattle.std.proofs.lemmas.List.{append-nil}
-use Rattle.fixedpoint.specs.NumberText.{fraction_digits}
 use Rattle.fixedpoint.proofs.Fraction.{fraction_none, fraction_end, fraction_more}
 use Rattle.fixedpoint.proofs.printing.push_fraction.Goals as goal
 

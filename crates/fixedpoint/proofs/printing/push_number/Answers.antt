@@ -1,5 +1,4 @@
-use Rattle.std.proofs.Common.{◌≡◌, ◌≤◌, ◌<◌, ◌^◌, ◌∙◌, ap, sym, arith, ℕ, rules, FitsSigned, w64}
-use Rattle.std.proofs.lemmas.Int.{to_z-of_z}
+use Rattle.std.proofs.Common.{◌≤◌, ◌^◌, arith}
 use Rattle.std.proofs.Math.Nat.{one-le-pow, pow-le-pow_right}
 use Rattle.fixedpoint.proofs.PrintedLemmas.{writes_exactly, printed_shortest, reads_back}
 use Rattle.fixedpoint.proofs.printing.push_number.Goals as goal

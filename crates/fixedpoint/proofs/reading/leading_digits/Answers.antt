@@ -1,4 +1,4 @@
-use Rattle.std.proofs.Common.{arith, ◌∙◌, sym, ap}
+use Rattle.std.proofs.Common.{arith, ◌∙◌, sym}
 use Rattle.fixedpoint.proofs.Decimal.{capped_more, digits_more}
 use Rattle.fixedpoint.proofs.reading.leading_digits.Goals as goal
 

@@ -1,13 +1,8 @@
-use Rattle.std.proofs.Common.{[], ◌∷◌, ◌∙◌, ◌≡◌, ◌<◌, arith, false, refl, rules, sym, true, List, Some, ℕ, subst, cond}
+use Rattle.std.proofs.Common.{◌∷◌, ◌∙◌, ◌≡◌, ◌<◌, arith, false, refl, rules, sym, true, subst}
 use Rattle.std.proofs.lemmas.Bool.Decides.{nat_tests}
 use Rattle.mfcsv.specs.Rows.{words}
-use Rattle.mfcsv.specs.Placing.{placed, waits}
-use Rattle.mfcsv.specs.Answer.{trajectory_fault}
-use Rattle.mfcsv.specs.declared.Code.TheVariants.{F16}
-use Rattle.mfcsv.specs.declared.Dimension.{Dimension}
-use Rattle.mfcsv.specs.declared.Position.{Position}
+use Rattle.mfcsv.specs.Placing.{waits}
 use Rattle.mfcsv.specs.declared.data_record.Placed.{Placed}
-use Rattle.mfcsv.specs.declared.data_record.Placed.TheVariants.{Part, Whole}
 use Rattle.mfcsv.specs.declared.data_record.Waiting.{Waiting}
 use Rattle.mfcsv.specs.declared.data_record.Waiting.TheVariants.{Nothing, X, XAndY}
 use Rattle.mfcsv.proofs.PositionLemmas.{IsReading, Reads, count_of, reading-end, reading-fault, reading-left_over, reading-more, reading-none}
