@@ -85,3 +85,7 @@ pub record PlaceStands {L : Type 0} (feature : L → ℕ) (legs : List L) (ms : 
   pub legs_are : place.legs ≡ count_by (λ l. feature l == f) legs
   pub last_index : 0 < place.legs → (slice_get ms place.last_index ≡ Some (f, place.last)) × (pages_of f (drop (suc place.last_index) ms) ≡ [])
   pub none : place.legs ≡ 0 → (place.first ≡ 0) × (place.last ≡ 0) × (place.last_index ≡ 0)
+
+-- the place of a feature without legs
+abbrev pub no_place : Place
+no_place = record { first = 0; last = 0; last_index = 0; legs = 0 }

@@ -13,3 +13,6 @@ pub use fault::TreeFault;
 pub use insertion::insert;
 pub use shape::Shape;
 pub use tree::{Place, TbTree};
+
+#[cfg(test)]
+mod tests;

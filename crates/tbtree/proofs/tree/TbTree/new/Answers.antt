@@ -1,0 +1,9 @@
+use Rattle.std.proofs.Common.{refl}
+use Rattle.tbtree.proofs.EmptyLemmas.{empty_stands, empty_place}
+use Rattle.tbtree.proofs.tree.TbTree.new.Goals as goal
+
+pub returns-clause-stands : goal.returns-clause-stands
+returns-clause-stands c = λ pages some sealed. empty_stands pages _ refl refl refl some sealed
+
+pub returns-clause-places : goal.returns-clause-places
+returns-clause-places c = λ feature. empty_place _ feature
