@@ -7,7 +7,7 @@ use Rattle.tbtree.proofs.payloads.cover_of_leaf.Goals as goal
 pub legs-init : goal.legs-init
 legs-init c = record {
   within = omega (arith, c.len-i.ensures.value, c.len-i.ensures.least);
-  held = hull_at_end leg_boxes c.args.leaf.now.legs (c.len-i.result - 1) c.leg.result (omega (arith, c.len-i.ensures.value, c.len-i.ensures.least)) c.leg.ensures ∙ ap (λ b. Some b) (sym c.of-bounds.ensures);
+  held = hull_at_end leg_boxes c.args.leaf.now.legs (c.len-i.result - 1) c.leg.result (omega (arith, c.len-i.ensures.value, c.len-i.ensures.least)) c.leg.ensures.value ∙ ap (λ b. Some b) (sym c.of-bounds.ensures);
 }
 
 pub legs-preserved : goal.legs-preserved
@@ -15,5 +15,5 @@ legs-preserved c =
     let next : suc (c.legs.i - 1) ≡ c.legs.i = omega (arith, c.legs-test.true) in
     record {
       within = omega (arith, c.legs.invariant.within);
-      held = hull_before leg_boxes c.args.leaf.now.legs (c.legs.i - 1) c.leg-in-legs.result c.legs.bounds c.leg-in-legs.ensures (ap (λ i. hull leg_boxes (drop i c.args.leaf.now.legs)) next ∙ c.legs.invariant.held) ∙ ap (λ b. Some b) (sym (c.cover-bounds.ensures.value ∙ ap (λ p. cover_of p c.legs.bounds) c.of.ensures));
+      held = hull_before leg_boxes c.args.leaf.now.legs (c.legs.i - 1) c.leg-in-legs.result c.legs.bounds c.leg-in-legs.ensures.value (ap (λ i. hull leg_boxes (drop i c.args.leaf.now.legs)) next ∙ c.legs.invariant.held) ∙ ap (λ b. Some b) (sym (c.cover-bounds.ensures.value ∙ ap (λ p. cover_of p c.legs.bounds) c.of.ensures));
     }
