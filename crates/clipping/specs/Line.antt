@@ -1,4 +1,4 @@
--- Half-lines and cuts of a leg's duration. A place of it is s / d, with d above 0.
+-- Helpers of private functions: half-lines and cuts of a leg's duration. A place of it is s / d, with d above 0.
 use Rattle.std.specs.Prelude.{Option, MatchOption, ◌↔◌, ℤ, pos, ◌+ℤ◌, ◌-ℤ◌, ◌*ℤ◌, ◌≤ℤ◌, ◌<ℤ◌}
 use Rattle.clipping.specs.declared.line.Frac.{Frac}
 use Rattle.clipping.specs.declared.line.Cut.{Cut}

@@ -1,4 +1,4 @@
--- What the steps of reading say of an unsigned text.
+-- Helpers of private functions: what the steps of reading say of an unsigned text.
 use Rattle.std.specs.Prelude.{ℕ, ◌≡◌, ◌*◌, ◌-◌, ◌^◌, min, length, take, drop, true, false, List, [], ◌∷◌, Option, Some, None, if◌then◌else◌}
 use Rattle.std.specs.List.{before_first, after_first, list_all}
 use Rattle.std.specs.Char.{is_ascii_digit}

@@ -1,4 +1,4 @@
--- How tracks take in a file, step by step.
+-- Helpers of private functions: how tracks take in a file, step by step.
 use Rattle.std.specs.Prelude.{ℕ, ◌≡◌, ◌+◌, ◌-◌, ◌^◌, min, List, ◌++◌, fold, All, slice_set, slice_index_or}
 use Rattle.mfcsv.specs.Views.{RecordView, IsRecord}
 use Rattle.legs.specs.Legs.{LegView}

@@ -1,4 +1,4 @@
--- A draft of a book: what is known of each name.
+-- Helpers of private functions: a draft of a book: what is known of each name.
 use Rattle.std.specs.Prelude.{ℕ, ◌≡◌, ◌≤◌, ◌^◌, List, length, slice_get, Option, bytes_eq}
 use Rattle.std.specs.Option.{option_and_then, option_map, option_or}
 use Rattle.indexmap.specs.IndexMap.{get_by}

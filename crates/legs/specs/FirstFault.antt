@@ -1,4 +1,4 @@
--- The first of a list of joining faults.
+-- Helpers of private functions: the first of a list of joining faults.
 use Rattle.std.specs.Prelude.{ℕ, ◌≡◌, List, [], ◌∷◌, Option, Some, None}
 use Rattle.legs.specs.declared.joining.JoinCode.{JoinCode}
 use Rattle.legs.specs.declared.joining.JoinFault.{JoinFault}

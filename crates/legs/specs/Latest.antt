@@ -1,4 +1,4 @@
--- What is known of one name.
+-- Helpers of private functions: what is known of one name.
 use Rattle.std.specs.Prelude.{ℕ, Option, Some, None}
 use Rattle.legs.specs.declared.draft.Latest.{Latest}
 

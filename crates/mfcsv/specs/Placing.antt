@@ -1,4 +1,4 @@
--- A position on the way, coordinate by coordinate: what the private steps of reading say.
+-- Helpers of private functions: a position on the way, coordinate by coordinate: what the private steps of reading say.
 use Rattle.std.specs.Prelude.{Bool, true, false, ℤ, pos}
 use Rattle.mfcsv.specs.declared.Dimension.{Dimension}
 use Rattle.mfcsv.specs.declared.Dimension.TheVariants.{Two, Three}

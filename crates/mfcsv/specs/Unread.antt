@@ -1,4 +1,4 @@
--- What a reader has yet to give of the records of a file.
+-- Helpers of private functions: what a reader has yet to give of the records of a file.
 use Rattle.std.specs.Prelude.{◌≡◌, ◌+◌, ◌∷◌, ◌<◌, ℕ, Bool, true, false, List, [], map, length, Some, unwrap_or, Result, Ok, Err}
 use Rattle.std.specs.List.{list_all}
 use Rattle.std.specs.Str.{is_utf8}

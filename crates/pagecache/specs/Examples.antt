@@ -1,4 +1,4 @@
--- What the examples promise.
+-- Helpers of private functions: what the examples promise.
 use Rattle.std.specs.Prelude.{ℕ, Bool, ◌≡◌, ◌==◌, Some, IsTrue, slice_index, slice_set}
 use Rattle.pages.specs.declared.payload.Payload.{Payload}
 use Rattle.pages.specs.declared.payload.Kind.{Kind}

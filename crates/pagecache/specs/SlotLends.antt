@@ -1,4 +1,4 @@
--- What the inner cache ends as, once a page that it lent comes back.
+-- Helpers of private functions: what the inner cache ends as, once a page that it lent comes back.
 use Rattle.std.specs.Prelude.{ℕ, Result, IsOk, IfErr}
 use Rattle.std.specs.Borrow.{follows_so, name_if_ok, MutBor, Fml, RattleType}
 use Rattle.pages.specs.declared.payload.Payload.{Payload}

@@ -1,4 +1,4 @@
--- What one pass over legs keeps of them.
+-- Helpers of private functions: what one pass over legs keeps of them.
 use Rattle.std.specs.Prelude.{List, ◌↔◌, IsTrue}
 use Rattle.timebase.specs.Period.{PeriodView}
 use Rattle.legs.specs.Legs.{LegView}

@@ -1,4 +1,4 @@
--- What the private steps of a change say of bytes. No public contract names these words.
+-- Helpers of private functions: what the private steps of a change say of bytes. No public contract names these words.
 use Rattle.std.specs.Prelude.{ℕ, ◌≡◌, ◌+◌, ◌*◌, true, List}
 use Rattle.byteorder.specs.Endian.{big_bytes}
 use Rattle.legs.specs.Legs.{LegView}

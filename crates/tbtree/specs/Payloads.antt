@@ -1,4 +1,4 @@
--- What the private calls on one payload say of its node.
+-- Helpers of private functions: what the private calls on one payload say of its node.
 use Rattle.std.specs.Prelude.{ℕ, ◌≡◌, ◌<◌, length, slice_get, Option, Some, None}
 use Rattle.legs.specs.Legs.{LegView}
 use Rattle.legs.specs.Boxes.{BoxView}

@@ -1,4 +1,4 @@
--- The way from the root to a block, and a block that is hung on it.
+-- Helpers of private functions: the way from the root to a block, and a block that is hung on it.
 use Rattle.std.specs.Prelude.{ℕ, suc, ◌≡◌, ◌≢◌, ◌+◌, ◌/◌, ◌%◌, ◌^◌, ◌<◌, ◌≤◌, List, [], ◌∷◌, ◌++◌, set, length, slice_get, Some, Result, None}
 use Rattle.legs.specs.Blocks.{groups}
 use Rattle.tbtree.specs.Faults.{Gives}

@@ -1,4 +1,4 @@
--- What the steps of writing a file say.
+-- Helpers of private functions: what the steps of writing a file say.
 use Rattle.std.specs.Prelude.{List, [], ◌∷◌, ◌≡◌, ℤ, pos}
 use Rattle.std.specs.Int.{int_max, int_min}
 use Rattle.writer.specs.Entries.{EntryView}

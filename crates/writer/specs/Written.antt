@@ -1,4 +1,4 @@
--- What contracts see of records that were written.
+-- Helpers of private functions: what contracts see of records that were written.
 use Rattle.std.specs.Prelude.{ℕ, ◌≡◌, List, Bool, false}
 use Rattle.csv.specs.Writing.{writer_setup, fields_written, has_written}
 use Rattle.csv.specs.declared.writer.Writer.{Writer}
