@@ -69,7 +69,8 @@ pub fn push_leg(payload: &mut Payload, leg: &Leg)
 /// Links a leaf to the next one of its feature. No other field changes.
 pub fn set_next(payload: &mut Payload, next: u32)
     requires { IsSome (as_leaf (node_of payload.old)) }
-    ensures node { node_of payload.new ≡ option_map (leaf_with_next next) (as_leaf (node_of payload.old)) }
+    ensures node { node_of payload.new
+        ≡ option_map (leaf_with_next next) (as_leaf (node_of payload.old)) }
     ensures clear { IsClear payload.old → IsClear payload.new }
 {
     put_u32(&mut payload.bytes, 8, next);

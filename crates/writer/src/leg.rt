@@ -137,8 +137,10 @@ impl Buffers {
 
     /// Writes the times and the positions of a leg.
     fn write(&mut self, frame: &Frame, leg: &Leg) -> Result<(), AllocError>
-        ensures start { OnOk result (self.new.start.items ≡ offset_text (leg.now.t0 -ℤ frame.now.base)) }
-        ensures end { OnOk result (self.new.end.items ≡ offset_text (leg.now.t1 -ℤ frame.now.base)) }
+        ensures start { OnOk result (self.new.start.items
+            ≡ offset_text (leg.now.t0 -ℤ frame.now.base)) }
+        ensures end { OnOk result (self.new.end.items
+            ≡ offset_text (leg.now.t1 -ℤ frame.now.base)) }
         ensures positions { OnOk result (self.new.positions.items
             ≡ positions_text frame.now.dimension leg.now) }
     {
