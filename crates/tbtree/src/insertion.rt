@@ -301,12 +301,12 @@ pub fn insert<S: PageStore>(
     tree: &mut TbTree,
     cache: &mut PageCache<S>,
     place: &mut Place,
-    leg: &Leg,
+    leg: Leg,
 ) -> Result<(), TreeFault>
     // Pages that stand for legs stand for them with one more, which may follow them.
     ensures inserts { tree.old.spent ≡ false → IsTrue cache.old.store.is_faithful
         → Inserts (pages_of_cache cache.old) (pages_of_cache cache.new) tree.old tree.new
-        place.old place.new leg.now result }
+        place.old place.new leg result }
     ensures shape { tree.new.shape ≡ tree.old.shape }
 
     // What is left of the cache, over any pages.
@@ -326,7 +326,7 @@ pub fn insert<S: PageStore>(
         return Err(TreeFault::Spent);
     }
     tree.spent = true;
-    put(tree, cache, place, leg)?;
+    put(tree, cache, place, &leg)?;
     tree.spent = false;
     Ok(())
 }

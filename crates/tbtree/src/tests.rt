@@ -3,7 +3,7 @@ use fixedpoint::Coord;
 use legs::Leg;
 use mfcsv::Position;
 use pagecache::{CacheFault, PageCache};
-use pages::{Fuse, Kind, MemStore};
+use pages::{Fuse, Kind, MemStore, PageStore};
 use std::alloc::Global;
 use timebase::Ms;
 
@@ -49,7 +49,7 @@ fn grown(alloc: Global, legs: u32) -> Option<(TbTree, Place, u32)> {
     let mut tree = TbTree::new(Shape::new(2, 2)?);
     let mut place = Place::new();
     for ordinal in 0..legs {
-        insert(&mut tree, &mut cache, &mut place, &leg(ordinal, 0)?).ok()?;
+        insert(&mut tree, &mut cache, &mut place, leg(ordinal, 0)?).ok()?;
     }
     Some((tree, place, cache.count()))
 }
@@ -78,7 +78,7 @@ fn fails(alloc: Global, calls: u64) -> Option<bool> {
     let mut places = [Place::new(), Place::new()];
     for ordinal in 0..10 {
         let place = &mut places[ordinal as usize % 2];
-        match insert(&mut tree, &mut cache, place, &leg(ordinal, ordinal % 2)?) {
+        match insert(&mut tree, &mut cache, place, leg(ordinal, ordinal % 2)?) {
             Ok(()) => {}
             Err(fault) => return Some(fault == TreeFault::Cache(CacheFault::Store) && tree.spent),
         }
@@ -91,4 +91,117 @@ fn a_failed_store_spends_the_tree(rt: HostRuntime) {
     for calls in 2..60 {
         assert_eq!(rt; fails(rt.alloc(), calls), Some(true), "at call {calls}");
     }
+}
+
+/// Two hundred legs of seven features in an order without a pattern, through a cache of that capacity: the store.
+fn stored(alloc: Global, shape: Shape, capacity: usize) -> Option<MemStore> {
+    let store = MemStore::new(alloc, 1000);
+    let Ok(mut cache) = PageCache::new(alloc, store, capacity.max(1)) else {
+        return None;
+    };
+    cache.add_page(Kind::Header).ok()?;
+    let mut tree = TbTree::new(shape);
+    let mut places = [Place::new(); 7];
+    let mut known = 1;
+    let mut seed = 1u32;
+    for ordinal in 0..200 {
+        seed = seed.wrapping_mul(1_664_525).wrapping_add(1_013_904_223);
+        let feature = ((seed >> 16) % 7).min(known);
+        known = known.max(feature + 1).min(6);
+        let place = &mut places[feature as usize % 7];
+        insert(&mut tree, &mut cache, place, leg(ordinal, feature)?).ok()?;
+    }
+    cache.flush().ok()?;
+    Some(cache.into_store())
+}
+
+/// Whether two stores have the same pages, and how many there are.
+fn same_pages(mut one: MemStore, mut other: MemStore) -> Option<u32> {
+    let (mut page, mut twin) = ([0; 4096], [0; 4096]);
+    for number in 0..one.len() {
+        one.read(number, &mut page).ok()?;
+        other.read(number, &mut twin).ok()?;
+        if page != twin {
+            return None;
+        }
+    }
+    if one.len() == other.len() {
+        Some(one.len())
+    } else {
+        None
+    }
+}
+
+#[test]
+fn pages_are_the_same_whatever_the_capacity(rt: HostRuntime) {
+    for (leaf, inner) in [(2, 2), (3, 5), (50, 72)] {
+        let Some(shape) = Shape::new(leaf, inner) else {
+            assert!(rt; false, "no shape");
+            continue;
+        };
+        let alloc = rt.alloc();
+        let wide = stored(alloc, shape, 256);
+        let narrow = stored(alloc, shape, 1);
+        let (Some(wide), Some(narrow)) = (wide, narrow) else {
+            assert!(rt; false, "no tree of shape {leaf}, {inner}");
+            continue;
+        };
+        assert!(rt;
+            same_pages(wide, narrow).is_some(),
+            "at shape {leaf}, {inner}"
+        );
+    }
+}
+
+/// A leg of the example of the standard, by its seconds and its ends in whole degrees.
+fn worked(numbers: (u64, u32, u32), times: (i64, i64), ends: [i64; 4]) -> Option<Leg> {
+    let degrees = |n: i64| Coord::new(n.wrapping_mul(10_000_000));
+    let at = |n: i64| Ms::new(n.wrapping_mul(1000).wrapping_add(1_326_803_621_000));
+    let [x0, y0, x1, y1] = ends;
+    let z = degrees(0)?;
+    let (x, y) = (degrees(x0)?, degrees(y0)?);
+    let from = Position { x, y, z };
+    let (x, y) = (degrees(x1)?, degrees(y1)?);
+    let to = Position { x, y, z };
+    let (ordinal, feature, row) = numbers;
+    Leg::new(ordinal, feature, at(times.0)?, at(times.1)?, from, to, row)
+}
+
+/// The first page of the example's tree: its head and its first leg.
+fn first_page(alloc: Global) -> Option<([u8; 16], [u8; 80])> {
+    let mut cache = cache(alloc, u64::MAX)?;
+    let mut tree = TbTree::new(Shape::new(50, 72)?);
+    let mut places = [Place::new(); 3];
+    for leg in [
+        worked((0, 0, 0), (10, 150), [11, 2, 12, 3])?,
+        worked((1, 1, 1), (10, 190), [10, 2, 11, 3])?,
+        worked((2, 0, 2), (150, 190), [12, 3, 10, 3])?,
+        worked((3, 2, 3), (10, 100), [12, 1, 10, 2])?,
+        worked((4, 2, 3), (100, 190), [10, 2, 11, 3])?,
+    ] {
+        insert(
+            &mut tree,
+            &mut cache,
+            &mut places[leg.feature as usize % 3],
+            leg,
+        )
+        .ok()?;
+    }
+    let bytes = &cache.page(1).ok()?.bytes;
+    let (mut head, mut first) = ([0; 16], [0; 80]);
+    head.copy_from_slice(&bytes[..16]);
+    first.copy_from_slice(&bytes[16..96]);
+    Some((head, first))
+}
+
+#[test]
+fn the_example_begins_with_the_leaf_of_its_first_feature(rt: HostRuntime) {
+    let head = [0, 0, 0, 0, 0, 0, 0, 0, 0, 0, 0, 0, 0, 2, 0, 0];
+    let leg = [
+        0, 0, 0, 0, 0, 0, 0, 0, 0, 0, 0x01, 0x34, 0xeb, 0xa8, 0xbb, 0x98, 0, 0, 0x01, 0x34, 0xeb,
+        0xaa, 0xde, 0x78, 0, 0, 0, 0, 0x06, 0x8e, 0x77, 0x80, 0, 0, 0, 0, 0x01, 0x31, 0x2d, 0x00,
+        0, 0, 0, 0, 0, 0, 0, 0, 0, 0, 0, 0, 0x07, 0x27, 0x0e, 0x00, 0, 0, 0, 0, 0x01, 0xc9, 0xc3,
+        0x80, 0, 0, 0, 0, 0, 0, 0, 0, 0, 0, 0, 0, 0, 0, 0, 0,
+    ];
+    assert!(rt; first_page(rt.alloc()) == Some((head, leg)));
 }

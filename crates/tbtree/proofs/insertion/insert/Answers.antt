@@ -7,9 +7,9 @@ use Rattle.tbtree.proofs.insertion.insert.Goals as goal
 
 pub returns-clause-inserts : goal.returns-clause-inserts
 returns-clause-inserts g c = λ _ fa.
-    inserts_spent (pages_of_cache c.args.cache.now) (pages_of_cache c.put.new.cache) c.args.tree.now c.put.new.tree true c.args.tree.now.spent false c.args.place.now c.put.new.place c.args.leg.now (Ok tt) (c.in_ok-put.ensures.inserts fa)
+    inserts_spent (pages_of_cache c.args.cache.now) (pages_of_cache c.put.new.cache) c.args.tree.now c.put.new.tree true c.args.tree.now.spent false c.args.place.now c.put.new.place c.args.leg (Ok tt) (c.in_ok-put.ensures.inserts fa)
 
 pub returns-in_err-put-clause-inserts : goal.returns-in_err-put-clause-inserts
 returns-in_err-put-clause-inserts g c = λ _ fa.
     let p = err_from_is_err_and c.from_residual.result c.from_residual.ensures.1 in
-    rw (p.1, p.2) (inserts_spent (pages_of_cache c.args.cache.now) (pages_of_cache c.put.new.cache) c.args.tree.now c.put.new.tree true c.args.tree.now.spent c.put.new.tree.spent c.args.place.now c.put.new.place c.args.leg.now (Err _) (c.in_err-put.ensures.inserts fa))
+    rw (p.1, p.2) (inserts_spent (pages_of_cache c.args.cache.now) (pages_of_cache c.put.new.cache) c.args.tree.now c.put.new.tree true c.args.tree.now.spent c.put.new.tree.spent c.args.place.now c.put.new.place c.args.leg (Err _) (c.in_err-put.ensures.inserts fa))
