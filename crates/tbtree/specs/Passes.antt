@@ -1,5 +1,5 @@
 -- What every call of the tree leaves of the cache, answered or not, whatever its pages hold.
-use Rattle.std.specs.Prelude.{ℕ, ◌≡◌, ◌≤◌, ◌<◌, false, IsTrue}
+use Rattle.std.specs.Prelude.{ℕ, ◌≡◌, ◌≤◌, ◌<◌, ◌^◌, ◌-◌, min, false, IsTrue}
 use Rattle.pages.specs.Store as store
 use Rattle.pagecache.specs.Cache.{Cache, payload_of, page_of, is_changed}
 
@@ -7,6 +7,8 @@ pub record Passes (old new : Cache) : Type 0 where
   pub store : store.Keeps old.store new.store
   pub capacity : new.capacity ≡ old.capacity
   pub count : old.count ≤ new.count
+  -- the count of asks did not fall; the greatest number that is counted stands for any greater one
+  pub asked : min old.asked (2 ^ 64 - 1) ≤ new.asked
   -- page 0 has its payload; it is not marked as changed where it was not, and is then as written
   pub first : IsTrue old.store.is_faithful → 0 < old.count → payload_of new 0 ≡ payload_of old 0
   pub unmarked : 0 < old.count → is_changed old 0 ≡ false → is_changed new 0 ≡ false

@@ -320,7 +320,7 @@ pub fn insert<S: PageStore>(
     ensures works { OnOk result (tree.new.spent ≡ false) }
     ensures spent { OnErr result (tree.new.spent ≡ true) }
     ensures was_spent { tree.old.spent ≡ true → (result ≡ Err TreeFault.Spent)
-        × (cache.new ≡ cache.old) }
+        × (tree.new ≡ tree.old) × (place.new ≡ place.old) × (cache.new ≡ cache.old) }
 {
     if tree.spent {
         return Err(TreeFault::Spent);
