@@ -7,6 +7,14 @@ use Rattle.pagecache.specs.declared.fault.CacheFault.TheVariants as cache
 use Rattle.tbtree.specs.declared.fault.TreeFault.{TreeFault}
 use Rattle.tbtree.specs.declared.fault.TreeFault.TheVariants.{Cache as OfCache, Malformed, Spent}
 
+-- why a page was not lent: that there is none of its number is a fault of the page that named it
+abbrev pub fault_of : ℕ → CacheFault → TreeFault
+fault_of page cache.NoPage = Malformed page
+fault_of page cache.Store = OfCache cache.Store
+fault_of page (cache.Damaged n) = OfCache (cache.Damaged n)
+fault_of page cache.StoreFull = OfCache cache.StoreFull
+fault_of page cache.Memory = OfCache cache.Memory
+
 -- the refusals of a cache that good pages allow
 abbrev pub IsAllowedOfCache : CacheFault → Type 0
 IsAllowedOfCache cache.NoPage = ⊥

@@ -1,5 +1,6 @@
 //! Why a tree refuses a call.
 ghost use Rattle.std.specs.Prelude.{◌≡◌};
+ghost use Rattle.tbtree.specs.Faults.{fault_of};
 ghost use Rattle.tbtree.specs.declared.fault.TreeFault.{TreeFault};
 
 use pagecache::CacheFault;
@@ -17,6 +18,18 @@ pub enum TreeFault {
     /// An earlier call was refused in its middle.
     #[error("the tree is spent")]
     Spent,
+}
+
+impl TreeFault {
+    /// Why a page was not lent. That there is none of its number is a fault of the page that named it.
+    pub(crate) fn of(fault: CacheFault, page: u32) -> TreeFault
+        ensures { result ≡ fault_of page fault }
+    {
+        match fault {
+            CacheFault::NoPage => TreeFault::Malformed(page),
+            fault => TreeFault::Cache(fault),
+        }
+    }
 }
 
 impl From<CacheFault> for TreeFault {

@@ -34,7 +34,10 @@ pub(crate) fn widen<S: PageStore>(
     if page == 0 {
         return Err(TreeFault::Malformed(page));
     }
-    let payload = cache.page_mut(page)?;
+    let payload = match cache.page_mut(page) {
+        Ok(payload) => payload,
+        Err(fault) => return Err(TreeFault::of(fault, page)),
+    };
     let Some(child) = child_of(payload, level, entry) else {
         return Err(TreeFault::Malformed(page));
     };
@@ -62,7 +65,10 @@ pub(crate) fn push_leg<S: PageStore>(
     if page == 0 {
         return Err(TreeFault::Malformed(page));
     }
-    let payload = cache.page_mut(page)?;
+    let payload = match cache.page_mut(page) {
+        Ok(payload) => payload,
+        Err(fault) => return Err(TreeFault::of(fault, page)),
+    };
     if !takes(payload, most, leg) {
         return Err(TreeFault::Malformed(page));
     }
@@ -88,7 +94,10 @@ pub(crate) fn link<S: PageStore>(
     if page == 0 {
         return Err(TreeFault::Malformed(page));
     }
-    let payload = cache.page_mut(page)?;
+    let payload = match cache.page_mut(page) {
+        Ok(payload) => payload,
+        Err(fault) => return Err(TreeFault::of(fault, page)),
+    };
     if !is_leaf(payload) {
         return Err(TreeFault::Malformed(page));
     }
@@ -118,7 +127,10 @@ pub(crate) fn attach<S: PageStore>(
     if page == 0 {
         return Err(TreeFault::Malformed(page));
     }
-    let payload = cache.page_mut(page)?;
+    let payload = match cache.page_mut(page) {
+        Ok(payload) => payload,
+        Err(fault) => return Err(TreeFault::of(fault, page)),
+    };
     if !has_room(payload, level, most) {
         return Err(TreeFault::Malformed(page));
     }
@@ -204,7 +216,10 @@ pub(crate) fn cover<S: PageStore>(cache: &mut PageCache<S>, page: u32) -> Result
     ensures caused { IfErr result (IsCaused cache.old cache.new) }
     ensures asked { cache.new.asked ≤ cache.old.asked + 1 }
 {
-    let payload = cache.page(page)?;
+    let payload = match cache.page(page) {
+        Ok(payload) => payload,
+        Err(fault) => return Err(TreeFault::of(fault, page)),
+    };
     match cover_of(payload) {
         Some(bounds) => Ok(bounds),
         None => Err(TreeFault::Malformed(page)),
