@@ -148,7 +148,7 @@ impl From<String> for Text {
 
 /// The attribute values of a record, seen by contracts as the list of their bytes.
 ///
-/// Blank values at the end are counted, not kept: a file of many columns may leave them out of each record.
+/// Values that are missing at the end are counted, not kept: a file of many columns may leave them out of each record.
 #[derive(Debug, Drop)]
 pub struct Values {
     values: Vec<Text>,
