@@ -1,4 +1,4 @@
--- Helpers of private functions: a list of legs, and for each feature the places of its legs in it.
+-- A list of legs, and for each feature the places of its legs in it.
 use Rattle.std.specs.Prelude.{ℕ, ◌≡◌, ◌<◌, nat_lt, if◌then◌else◌, ◌++◌, ◌∷◌, slice_set, Bool, List, [], length, map, All, slice_index_or, pos}
 use Rattle.legs.specs.Legs.{LegView}
 use Rattle.legs.specs.Index.{legs_of, feature_count}

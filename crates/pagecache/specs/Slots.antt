@@ -1,4 +1,4 @@
--- Helpers of private functions: what is seen of the inner cache, and what holds of it.
+-- What is seen of the inner cache, and what holds of it.
 use Rattle.std.specs.Prelude.{ℕ, List, map, filter, false, ◌≡◌, ◌-◌, ◌<◌, ◌≤◌, Some, length, slice_get, IsTrue, IsSome}
 use Rattle.std.specs.Box.{box_value}
 use Rattle.pages.specs.Store as store
