@@ -7,28 +7,22 @@ use pages::{Fuse, Kind, MemStore, PageStore};
 use std::alloc::Global;
 use timebase::Ms;
 
+/// A point of the x axis.
+fn point(x: u32) -> Option<Position> {
+    let zero = Coord::new(0)?;
+    Some(Position {
+        x: Coord::new(i64::from(x))?,
+        y: zero,
+        z: zero,
+    })
+}
+
 /// A leg of a second, from its ordinal's place on the x axis to the next.
 fn leg(ordinal: u32, feature: u32) -> Option<Leg> {
-    let at = |x: u32| {
-        let x = Coord::new(i64::from(x))?;
-        let zero = Coord::new(0)?;
-        Some(Position {
-            x,
-            y: zero,
-            z: zero,
-        })
-    };
-    let start = i64::from(ordinal) * 1000;
-    let (t0, t1) = (Ms::new(start)?, Ms::new(start + 1000)?);
-    Leg::new(
-        u64::from(ordinal),
-        feature,
-        t0,
-        t1,
-        at(ordinal)?,
-        at(ordinal + 1)?,
-        0,
-    )
+    let start = i64::from(ordinal).wrapping_mul(1000);
+    let (t0, t1) = (Ms::new(start)?, Ms::new(start.wrapping_add(1000))?);
+    let (from, to) = (point(ordinal)?, point(ordinal.wrapping_add(1))?);
+    Leg::new(u64::from(ordinal), feature, t0, t1, from, to, 0)
 }
 
 /// A cache of three pages over a store with a page 0, which fails the call of that number for good.
@@ -115,21 +109,25 @@ fn stored(alloc: Global, shape: Shape, capacity: usize) -> Option<MemStore> {
     Some(cache.into_store())
 }
 
-/// Whether two stores have the same pages, and how many there are.
-fn same_pages(mut one: MemStore, mut other: MemStore) -> Option<u32> {
-    let (mut page, mut twin) = ([0; 4096], [0; 4096]);
-    for number in 0..one.len() {
-        one.read(number, &mut page).ok()?;
-        other.read(number, &mut twin).ok()?;
-        if page != twin {
-            return None;
+/// A page of a store; `None` where it is not there or not read.
+fn page(store: &mut MemStore, number: u32) -> Option<[u8; 4096]> {
+    let mut page = [0; 4096];
+    if number >= store.len() {
+        return None;
+    }
+    store.read(number, &mut page).ok()?;
+    Some(page)
+}
+
+/// Whether two stores have the same pages.
+fn same_pages(mut one: MemStore, mut other: MemStore) -> bool {
+    let count = one.len();
+    for number in 0..count {
+        if page(&mut one, number) != page(&mut other, number) {
+            return false;
         }
     }
-    if one.len() == other.len() {
-        Some(one.len())
-    } else {
-        None
-    }
+    count == other.len()
 }
 
 #[test]
@@ -146,10 +144,7 @@ fn pages_are_the_same_whatever_the_capacity(rt: HostRuntime) {
             assert!(rt; false, "no tree of shape {leaf}, {inner}");
             continue;
         };
-        assert!(rt;
-            same_pages(wide, narrow).is_some(),
-            "at shape {leaf}, {inner}"
-        );
+        assert!(rt; same_pages(wide, narrow), "at shape {leaf}, {inner}");
     }
 }
 
