@@ -75,6 +75,10 @@ fn a_record_counts_from_the_base(rt: HostRuntime) -> Result<(), Fail> {
     Ok(())
 }
 
+fn entry<'a>(name: &'a str, leg: &'a Leg, values: &'a Values) -> Entry<'a> {
+    Entry { name, leg, values }
+}
+
 #[test]
 fn a_file_is_bounded_by_all_legs(rt: HostRuntime) -> Result<(), Fail> {
     let alloc = rt.alloc();
@@ -90,18 +94,7 @@ fn a_file_is_bounded_by_all_legs(rt: HostRuntime) -> Result<(), Fail> {
     let short = Leg::new(1, 1, at(10)?, at(90)?, from, to, 1).ok_or("a leg")?;
     let walking = values(alloc, "walking", 1)?;
     let on_foot = values(alloc, "on, foot", 0)?;
-    let entries = [
-        Entry {
-            name: "a",
-            leg: &long,
-            values: &walking,
-        },
-        Entry {
-            name: "b",
-            leg: &short,
-            values: &on_foot,
-        },
-    ];
+    let entries = [entry("a", &long, &walking), entry("b", &short, &on_foot)];
     let mut out = Vec::new(alloc);
     push_file(alloc, &mut out, &head, &entries)?;
     let wanted =
