@@ -11,7 +11,7 @@ use Rattle.timebase.specs.Instant.{IsMoment, some_moment, is_moment, first_momen
 use Rattle.legs.specs.Legs.{LegView, IsLeg}
 use Rattle.pages.specs.declared.payload.Payload.{Payload}
 use Rattle.tbnode.specs.Nodes.{LeafView, as_leaf}
-use Rattle.tbnode.specs.Parts.{number_at, slot}
+use Rattle.tbnode.specs.Parts.{number_at, signed_at, slot}
 use Rattle.tbnode.specs.Layout.{leg_of, is_leg, has_moments, has_start, has_end}
 use Rattle.tbnode.specs.Form.{feature_of, leg_count, leg_at, leaf_of, is_leg_at, LegsAreLawful}
 use Rattle.tbnode.proofs.ListLemmas.{and_left, and_right, all_below-at, all-made}
@@ -74,13 +74,56 @@ with_feature : (f : ℕ) (bytes : List ℕ) → IsLeg (leg_of 0 bytes) → IsLeg
 unfolding leg_of
 with_feature f bytes k = record { rises = k.rises; t0 = k.t0; t1 = k.t1; x0 = k.x0; y0 = k.y0; z0 = k.z0; x1 = k.x1; y1 = k.y1; z1 = k.z1 }
 
-leg_is : (f : ℕ) (bytes : List ℕ) → is_leg bytes ≡ true → IsLeg (leg_of f bytes)
+leg_tests : (bytes : List ℕ) → is_leg bytes ≡ true → (has_moments (leg_of 0 bytes) ≡ true) × (has_start (leg_of 0 bytes) ≡ true) × (has_end (leg_of 0 bytes) ≡ true)
 unfolding is_leg
-leg_is f bytes e =
+leg_tests bytes e =
     let l = leg_of 0 bytes in
-    let tests = and_left (has_moments l && has_start l && has_end l) (number_at 4 76 bytes == 0) e in
-    let three = and_three (has_moments l) (has_start l) (has_end l) tests in
-    with_feature f bytes (is_leg-from l three.0 three.1 three.2)
+    and_three (has_moments l) (has_start l) (has_end l) (and_left (has_moments l && has_start l && has_end l) (number_at 4 76 bytes == 0) e)
+
+leg_is : (f : ℕ) (bytes : List ℕ) → is_leg bytes ≡ true → IsLeg (leg_of f bytes)
+leg_is f bytes e =
+    let t = leg_tests bytes e in
+    with_feature f bytes (is_leg-from (leg_of 0 bytes) t.0 t.1 t.2)
+
+-- the numbers of a lawful leg are in range, and its moments rise
+module _ (bytes : List ℕ) (e : is_leg bytes ≡ true) where
+  pub rises : signed_at 8 bytes <ℤ signed_at 16 bytes
+  unfolding leg_of
+  rises = (leg_is 0 bytes e).rises
+
+  pub t0_some : is_some (some_moment (signed_at 8 bytes)) ≡ true
+  unfolding leg_of
+  t0_some = (legs_moments (leg_of 0 bytes) (leg_tests bytes e).0).1
+
+  pub t1_some : is_some (some_moment (signed_at 16 bytes)) ≡ true
+  unfolding leg_of
+  t1_some = (legs_moments (leg_of 0 bytes) (leg_tests bytes e).0).2
+
+  pub x0_some : is_some (units_within (signed_at 24 bytes)) ≡ true
+  unfolding leg_of
+  x0_some = (legs_start (leg_of 0 bytes) (leg_tests bytes e).1).0
+
+  pub y0_some : is_some (units_within (signed_at 32 bytes)) ≡ true
+  unfolding leg_of
+  y0_some = (legs_start (leg_of 0 bytes) (leg_tests bytes e).1).1
+
+  pub z0_some : is_some (units_within (signed_at 40 bytes)) ≡ true
+  unfolding leg_of
+  z0_some = (legs_start (leg_of 0 bytes) (leg_tests bytes e).1).2
+
+  pub x1_some : is_some (units_within (signed_at 48 bytes)) ≡ true
+  unfolding leg_of
+  x1_some = (legs_end (leg_of 0 bytes) (leg_tests bytes e).2).0
+
+  pub y1_some : is_some (units_within (signed_at 56 bytes)) ≡ true
+  unfolding leg_of
+  y1_some = (legs_end (leg_of 0 bytes) (leg_tests bytes e).2).1
+
+  pub z1_some : is_some (units_within (signed_at 64 bytes)) ≡ true
+  unfolding leg_of
+  z1_some = (legs_end (leg_of 0 bytes) (leg_tests bytes e).2).2
+
+pub ruleset lawful = (rises, t0_some, t1_some, x0_some, y0_some, z0_some, x1_some, y1_some, z1_some)
 
 legs_of_form : (p : Payload) → HoldsLeaf p → All IsLeg (leaf_of p.bytes).legs
 unfolding leaf_of
