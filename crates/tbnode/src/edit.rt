@@ -1,5 +1,5 @@
-//! Changes of payloads, each of one field. The bytes behind the last leg, or behind the last entry,
-//! stay as they were.
+//! Changes of payloads. But for a payload made anew, the bytes behind the last leg, or behind the
+//! last entry, stay as they were.
 ghost use Rattle.std.specs.Prelude.{◌≡◌, ◌<◌, ◌≤◌, drop, length, Some, IsSome, option_map};
 ghost use Rattle.std.specs.Option.{ForSome};
 ghost use Rattle.tbnode.specs.Nodes.{as_leaf, as_inner};
