@@ -6,4 +6,5 @@ pub mod LegLemmas
 pub mod SlotLemmas
 pub mod LeafLemmas
 pub mod InnerLemmas
-pub mod ClearLemmas
+pub mod RestLemmas
+pub mod LawLemmas

@@ -1,6 +1,6 @@
 -- Tests of all numbers below one, and lists made from them.
 use Rattle.std.proofs.Common.{◌≡◌, ◌≢◌, ◌==◌, ◌||◌, add-one, ℕ, zero, suc, ◌+◌, ◌<◌, ◌≤◌, Bool, true, false, ◌&&◌, List, [], ◌∷◌, ◌++◌, length, map, Some, slice_get, refl, sym, ap, ◌∙◌, arith, ⊎_elim, subst}
-use Rattle.std.specs.List.{range_with_len}
+use Rattle.std.specs.List.{All, range_with_len}
 use Rattle.std.proofs.lemmas.Bool.{cases_lt, false≢true}
 use Rattle.std.proofs.lemmas.Bool.Decides.{eqb_tells}
 use Rattle.std.proofs.Math.Bool.{or-true}
@@ -62,6 +62,11 @@ module _ {X : Type 0} where
       subst P e (λ l.
       let below : i < n = omega (arith, l, length-made f n) in
       slice_get-get_or (made f n) i x l ∙ ap Some (get_or-map-range_with_len f 0 n i i x below (omega arith) ∙ sym is)) h
+
+  pub all-made : (P : X → Type 0) (f : ℕ → X) (n : ℕ) → ((i : ℕ) → i < n → P (f i)) → All P (made f n)
+  all-made P f n h = λ k d l.
+      let below : k < n = omega (arith, l, length-made f n) in
+      subst P (sym (get_or-map-range_with_len f 0 n k k d below (omega arith))) (h k below)
 
   -- two functions with the same values give the same list
   pub made-same_from : (f g : ℕ → X) (a n : ℕ) → ((i : ℕ) → a ≤ i → i < a + n → f i ≡ g i) → map f (range_with_len a n) ≡ map g (range_with_len a n)

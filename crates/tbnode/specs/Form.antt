@@ -1,7 +1,7 @@
 -- The node that a payload says.
 use Rattle.std.specs.Prelude.{ℕ, ◌≡◌, ◌+◌, ◌-◌, ◌*◌, ◌==◌, nat_lt, nat_le, Bool, ◌&&◌, ◌||◌, if◌then◌else◌, List, drop, length, map, replicate, Option, Some, None}
-use Rattle.std.specs.List.{range_with_len}
-use Rattle.legs.specs.Legs.{LegView}
+use Rattle.std.specs.List.{All, range_with_len}
+use Rattle.legs.specs.Legs.{LegView, IsLeg}
 use Rattle.legs.specs.Boxes.{BoxView}
 use Rattle.pages.specs.declared.payload.Kind.{Kind}
 use Rattle.pages.specs.declared.payload.Kind.TheVariants.{Header, Leaf, Inner, Catalogue}
@@ -76,6 +76,10 @@ node_by Catalogue bytes = None
 -- the node that a payload says; none where no form is met
 unfoldable pub node_of : Payload → Option (Node LegView BoxView)
 node_of payload = node_by payload.kind payload.bytes
+
+-- the legs of each leaf are lawful
+abbrev pub LegsAreLawful : Type 0
+LegsAreLawful = (payload : Payload) (leaf : LeafView LegView) → node_of payload ≡ Some (ALeaf leaf) → All IsLeg leaf.legs
 
 -- the bytes behind those that a head counts
 abbrev pub rest_by : Kind → List ℕ → List ℕ

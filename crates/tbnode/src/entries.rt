@@ -13,6 +13,7 @@ use std::marker::Model;
 pub struct Entry {
     /// The number of the page below.
     pub child: u32,
+    /// The least box that holds the legs below that page.
     pub bounds: Box3,
 }
 

@@ -2,7 +2,8 @@
 ghost use Rattle.std.specs.Prelude.{◌≡◌, ◌&&◌, ◌==◌, ◌+◌, ◌*◌, ◌≤◌, length};
 ghost use Rattle.tbnode.specs.Parts.{all_below, number_at};
 ghost use Rattle.tbnode.specs.Nodes.{as_leaf, as_inner};
-ghost use Rattle.tbnode.specs.Form.{is_leg_at, is_leaf, is_entry_at, is_inner, node_of};
+ghost use Rattle.tbnode.specs.Form.{is_leg_at, is_leaf, is_entry_at, is_inner};
+ghost use Rattle.tbnode.specs.Form.{node_of, LegsAreLawful};
 
 use crate::entries::is_entry;
 use crate::fields::{part, u16_at, u32_at, u64_at};
@@ -116,3 +117,8 @@ pub fn inner(payload: &Payload) -> Option<Inner<'_>>
         _ => None,
     }
 }
+
+/// What holds of each payload, whoever wrote it, for the proofs of a caller. It does nothing.
+pub fn laws()
+    ensures legs { LegsAreLawful }
+{}

@@ -83,7 +83,7 @@ fn moment_at(bytes: &[u8], place: usize) -> Ms
 }
 
 /// The leg of a feature that 80 bytes say.
-#[tactic(auto, unfolding(crate::specs::Layout::leg_of, crate::specs::Layout::is_leg, crate::specs::Layout::has_moments, crate::specs::Layout::has_start, crate::specs::Layout::has_end))]
+#[tactic(auto, using(crate::proofs::LawLemmas::lawful), unfolding(crate::specs::Layout::leg_of))]
 pub(crate) fn leg_in(bytes: &[u8], feature: u32) -> Leg
     requires len { length bytes.now ≡ 80 }
     requires lawful { IsTrue (is_leg bytes.now) }

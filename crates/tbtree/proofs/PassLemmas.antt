@@ -49,3 +49,6 @@ pub caused_after : (a b c : Cache) (e : TreeFault) → Passes a b → IsCaused b
 caused_after a b c (OfCache e) p h = caused_in_cache a b c e p h
 caused_after a b c (Malformed n) p h = tt
 caused_after a b c Spent p h = tt
+
+-- what a call after another may cite
+pub ruleset passing = (passes_trans, passes_refl, caused_after)

@@ -23,7 +23,7 @@ use tbnode::Entry;
 const MOST_LEVELS: u32 = 34;
 
 /// Widens the boxes above the level on the way to its page `at`, and gives that page.
-#[tactic(auto, using(crate::proofs::PassLemmas::passes_trans, crate::proofs::PassLemmas::passes_refl, crate::proofs::PassLemmas::caused_after))]
+#[tactic(auto, using(crate::proofs::PassLemmas::passing))]
 fn way<S: PageStore>(
     cache: &mut PageCache<S>,
     tree: &TbTree,
@@ -50,7 +50,7 @@ fn way<S: PageStore>(
 }
 
 /// Puts a leg at the end of the leaf of that number, which has room, and widens the boxes above it.
-#[tactic(auto, using(crate::proofs::PassLemmas::passes_trans, crate::proofs::PassLemmas::passes_refl, crate::proofs::PassLemmas::caused_after))]
+#[tactic(auto, using(crate::proofs::PassLemmas::passing))]
 pub(crate) fn into_leaf<S: PageStore>(
     cache: &mut PageCache<S>,
     tree: &TbTree,
@@ -75,7 +75,7 @@ pub(crate) fn into_leaf<S: PageStore>(
 }
 
 /// Makes a root above the old one, which is of that level, and a new block beside it.
-#[tactic(auto, using(crate::proofs::PassLemmas::passes_trans, crate::proofs::PassLemmas::passes_refl, crate::proofs::PassLemmas::caused_after))]
+#[tactic(auto, using(crate::proofs::PassLemmas::passing))]
 fn root_over<S: PageStore>(
     cache: &mut PageCache<S>,
     tree: &TbTree,
@@ -108,7 +108,7 @@ fn root_over<S: PageStore>(
 }
 
 /// Hangs the new block `at` of the level, whose page is `child`, into the right-most page of the level above.
-#[tactic(auto, using(crate::proofs::PassLemmas::passes_trans, crate::proofs::PassLemmas::passes_refl, crate::proofs::PassLemmas::caused_after))]
+#[tactic(auto, using(crate::proofs::PassLemmas::passing))]
 fn hang<S: PageStore>(
     cache: &mut PageCache<S>,
     tree: &TbTree,
@@ -174,7 +174,7 @@ fn into_last<S: PageStore>(
 }
 
 /// Makes a leaf of the leg alone, after the leaf `last`, if there is one.
-#[tactic(auto, using(crate::proofs::PassLemmas::passes_trans, crate::proofs::PassLemmas::passes_refl, crate::proofs::PassLemmas::caused_after))]
+#[tactic(auto, using(crate::proofs::PassLemmas::passing))]
 fn add_last<S: PageStore>(cache: &mut PageCache<S>, last: u32, leg: &Leg) -> Result<u32, TreeFault>
     ensures begins { IsTrue cache.old.store.is_faithful
         → IfOk result (Begins leg_feature (pages_of_cache cache.old) last leg.now
@@ -195,7 +195,7 @@ fn add_last<S: PageStore>(cache: &mut PageCache<S>, last: u32, leg: &Leg) -> Res
 }
 
 /// Hangs the page of a new leaf. The first leaf is the root.
-#[tactic(auto, using(crate::proofs::PassLemmas::passes_trans, crate::proofs::PassLemmas::passes_refl, crate::proofs::PassLemmas::caused_after))]
+#[tactic(auto, using(crate::proofs::PassLemmas::passing))]
 fn hang_leaf<S: PageStore>(
     cache: &mut PageCache<S>,
     tree: &TbTree,
@@ -221,7 +221,7 @@ fn hang_leaf<S: PageStore>(
 }
 
 /// Puts a leg into a leaf of its own.
-#[tactic(auto, using(crate::proofs::PassLemmas::passes_trans, crate::proofs::PassLemmas::passes_refl, crate::proofs::PassLemmas::caused_after))]
+#[tactic(auto, using(crate::proofs::PassLemmas::passing))]
 fn begin<S: PageStore>(
     tree: &mut TbTree,
     cache: &mut PageCache<S>,

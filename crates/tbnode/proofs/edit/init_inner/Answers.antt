@@ -4,7 +4,7 @@ use Rattle.tbnode.specs.Form.{entry_count}
 use Rattle.tbnode.specs.Layout.{entry_bytes}
 use Rattle.tbnode.specs.Steps.{pushed}
 use Rattle.tbnode.proofs.InnerLemmas.{begun_count, inner_begun}
-use Rattle.tbnode.proofs.ClearLemmas.{begun_entry_clear}
+use Rattle.tbnode.proofs.RestLemmas.{begun_entry_clear}
 use Rattle.tbnode.proofs.edit.init_inner.Goals as goal
 
 pub append_entry-requires-clause-room : goal.append_entry-requires-clause-room

@@ -6,7 +6,7 @@ use Rattle.tbnode.specs.Layout.{leg_bytes}
 use Rattle.tbnode.specs.Parts.{put}
 use Rattle.tbnode.specs.Steps.{pushed}
 use Rattle.tbnode.proofs.LeafLemmas.{begun, begun_count, leaf_begun}
-use Rattle.tbnode.proofs.ClearLemmas.{begun_leg_clear}
+use Rattle.tbnode.proofs.RestLemmas.{begun_leg_clear}
 use Rattle.tbnode.proofs.edit.init_leaf.Goals as goal
 
 written : (zeros one two : List ℕ) (n feature previous : ℕ) → one ≡ put 0 (big_bytes 4 n) zeros → two ≡ put 4 (big_bytes 4 previous) one → n ≡ feature → two ≡ begun feature previous zeros

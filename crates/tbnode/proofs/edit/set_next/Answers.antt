@@ -1,6 +1,6 @@
-use Rattle.std.proofs.Common.{arith}
+use Rattle.std.proofs.Common.{arith, sym, ◌∙◌}
 use Rattle.tbnode.proofs.LeafLemmas.{leaf_held, next_set}
-use Rattle.tbnode.proofs.ClearLemmas.{leaf_zeros, next_clear}
+use Rattle.tbnode.proofs.RestLemmas.{leaf_rest, next_rest, still_clear}
 use Rattle.tbnode.proofs.edit.set_next.Goals as goal
 
 pub returns-clause-node : goal.returns-clause-node
@@ -8,8 +8,11 @@ returns-clause-node c =
     let p = c.args.payload.now in
     next_set p c.args.next _ c.put_u32.ensures (omega arith) (omega arith) (leaf_held p c.requires)
 
-pub returns-clause-clear : goal.returns-clause-clear
-returns-clause-clear c z =
+pub returns-clause-rest : goal.returns-clause-rest
+returns-clause-rest c =
     let p = c.args.payload.now in
     let h = leaf_held p c.requires in
-    next_clear _ p.bytes c.args.next h.kind c.put_u32.ensures (omega arith) (leaf_zeros p h.kind z)
+    next_rest _ p.bytes c.args.next h.kind c.put_u32.ensures (omega arith) ∙ sym (leaf_rest p h.kind)
+
+pub returns-clause-clear : goal.returns-clause-clear
+returns-clause-clear c z = still_clear c.args.payload.now _ (returns-clause-rest c) z

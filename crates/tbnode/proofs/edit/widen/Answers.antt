@@ -1,4 +1,4 @@
-use Rattle.std.proofs.Common.{ap, ◌∙◌, ◌≡◌, arith, length, ◌<◌, ◌+◌, ◌*◌}
+use Rattle.std.proofs.Common.{ap, sym, ◌∙◌, ◌≡◌, arith, length, ◌<◌, ◌+◌, ◌*◌}
 use Rattle.legs.specs.Boxes.{BoxView, cover_of}
 use Rattle.tbnode.specs.Nodes.{EntryView}
 use Rattle.tbnode.specs.Parts.{put}
@@ -8,7 +8,7 @@ use Rattle.tbnode.proofs.ListLemmas.{all_below-at}
 use Rattle.tbnode.proofs.LegLemmas.{length-entry_bytes}
 use Rattle.tbnode.proofs.FormLemmas.{inner_form, length-entries}
 use Rattle.tbnode.proofs.InnerLemmas.{inner_held, inner_is, entry_widened}
-use Rattle.tbnode.proofs.ClearLemmas.{inner_zeros, wider_clear}
+use Rattle.tbnode.proofs.RestLemmas.{inner_rest, wider_rest, still_clear}
 use Rattle.tbnode.proofs.edit.widen.Goals as goal
 
 pub overflow_mul-place : goal.overflow_mul-place
@@ -63,12 +63,15 @@ returns-clause-node c =
     let e = c.put.ensures ∙ ap (λ xs. put (16 + 56 * c.args.i) xs p.bytes) c.bytes_of.ensures.value in
     entry_widened p c.args.i x box c.put.new.bytes e (omega arith) h c.bytes_of.ensures.reads_back within is
 
-pub returns-clause-clear : goal.returns-clause-clear
-returns-clause-clear c z =
+pub returns-clause-rest : goal.returns-clause-rest
+returns-clause-rest c =
     let p = c.args.payload.now in
     let h = inner_held p c.requires.inner in
     let f = inner_form p.bytes h.form in
     let below : c.args.i < entry_count p.bytes = omega (arith, length-entries p.bytes, c.requires.within (inner_of p.bytes) (inner_is p h)) in
     let x : EntryView BoxView = record { child = c.entry.inside.child; bounds = c.cover-entry-inside.result } in
     let e = c.put.ensures ∙ ap (λ xs. put (16 + 56 * c.args.i) xs p.bytes) c.bytes_of.ensures.value in
-    wider_clear _ p.bytes c.args.i x h.kind e (omega arith) below f.room (inner_zeros p h.kind z)
+    wider_rest _ p.bytes c.args.i x h.kind e (omega arith) below f.room ∙ sym (inner_rest p h.kind)
+
+pub returns-clause-clear : goal.returns-clause-clear
+returns-clause-clear c z = still_clear c.args.payload.now _ (returns-clause-rest c) z
