@@ -10,7 +10,7 @@ use Rattle.std.proofs.lemmas.List.Sums.{length-filter}
 use Rattle.std.proofs.lemmas.Nat.{div-add-mod', mul-le}
 use Rattle.std.proofs.lemmas.Option.{slice_get_within, slice_get-get_or, get_or_from_slice_get}
 use Rattle.std.proofs.Math.Nat.{add-mod_right, mod-eq_of_lt, mul-add-mod_self_right}
-use Rattle.legs.specs.Blocks.{runs_after, groups, block, joined}
+use Rattle.legs.specs.Blocks.{same, begins, runs_after, groups, block, joined}
 
 -- where c and c + d are multiples of k and d is not 0, d is at least k
 pub step_of_multiple : (c d k : ℕ) → c % k ≡ 0 → (c + d) % k ≡ 0 → 0 < d → 0 < k → k ≤ d
@@ -152,3 +152,20 @@ module _ {X : Type 0} where
       (λ (k : n ≤ length (drop (j * n) xs)). length-take-le n (drop (j * n) xs) k ∙ omega (arith, k, rest))
       (λ (k : length (drop (j * n) xs) < n). ap length (take_all n (drop (j * n) xs) (omega (arith, k))) ∙ omega (arith, k, rest))
       (⊎_elim (λ (k : length (drop (j * n) xs) < n). inr k) (λ k. inl k) (cases_lt (length (drop (j * n) xs)) n))
+
+cons_nil : {X : Type 0} (x : X) (xs : List X) → x ∷ xs ≡ [] → ⊥
+cons_nil {X} x xs e = subst (λ (l : List X). elim l as (λ _. Type 0) [ [] ↦ ⊥ | y ∷ ys ↦ Unit {0} ]) e tt
+
+-- no run is empty, and no group
+run_some : {X : Type 0} (key : X → ℕ) (m : ℕ) (b xs : List X) (i : ℕ) → slice_get (runs_after key (suc m) b xs) i ≡ Some [] → ⊥
+run_some key m b [] i e = some_none _ (sym e)
+run_some {X} key m b (x ∷ xs) i e =
+    let R = take m (filter (same key (suc m) x) xs) in
+    (elim (begins key (suc m) b x) as (λ v. slice_get (cond v ((x ∷ R) ∷ runs_after key (suc m) (b ++ x ∷ []) xs) (runs_after key (suc m) (b ++ x ∷ []) xs)) i ≡ Some [] → ⊥) [
+      | true ↦ elim i as (λ i. slice_get ((x ∷ R) ∷ runs_after key (suc m) (b ++ x ∷ []) xs) i ≡ Some [] → ⊥) [ zero ↦ λ e. cons_nil x R (some_same (x ∷ R) [] e) | suc i' ↦ λ e. run_some key m (b ++ x ∷ []) xs i' e ]
+      | false ↦ λ e. run_some key m (b ++ x ∷ []) xs i e
+    ]) e
+
+pub filled_groups : {X : Type 0} (n : ℕ) (xs : List X) → 0 < n → (i : ℕ) → slice_get (groups n xs) i ≡ Some [] → ⊥
+filled_groups zero xs h i e = absurd (omega (arith, h))
+filled_groups (suc m) xs h i e = run_some (λ _. 0) m [] xs i e

@@ -5,3 +5,6 @@ pub mod StepLemmas
 pub mod OwnLemmas
 pub mod BackLemmas
 pub mod PlaceLemmas
+pub mod RiseLemmas
+pub mod TimeLemmas
+pub mod PeriodLemmas

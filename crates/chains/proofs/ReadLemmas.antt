@@ -1,5 +1,5 @@
 -- One call after another.
-use Rattle.std.proofs.Common.{ℕ, ◌≡◌, ◌≤◌, ◌<◌, ◌∙◌, ◌+◌, refl, arith, false, IsTrue}
+use Rattle.std.proofs.Common.{ℕ, ◌≡◌, ◌≤◌, ◌<◌, ◌∙◌, ◌+◌, refl, sym, arith, false, IsTrue}
 use Rattle.pages.specs.Store.{Store, Faulted}
 use Rattle.pages.specs.Store as store
 use Rattle.pagecache.specs.Cache.{Cache}
@@ -44,7 +44,7 @@ reads_trans a b c p q = record {
 caused_in_cache : (a b c : Cache) (e : CacheFault) → OnlyReads a b → IsCausedInCache b c e → IsCausedInCache a c e
 caused_in_cache a b c cache.NoPage p h = tt
 caused_in_cache a b c cache.Store p h = omega (arith, h, p.store.faults)
-caused_in_cache a b c (cache.Damaged n) p h = tt
+caused_in_cache a b c (cache.Damaged n) p h = λ f. sym (p.payloads f n) ∙ h (p.store.faithful ∙ f)
 caused_in_cache a b c cache.StoreFull p h = h
 caused_in_cache a b c cache.Memory p h = tt
 

@@ -1,7 +1,7 @@
 -- Refusals.
-use Rattle.std.specs.Prelude.{ℕ, Result, MatchResult}
+use Rattle.std.specs.Prelude.{ℕ, ◌≡◌, Result, MatchResult, None, IsTrue}
 use Rattle.pages.specs.Store.{Faulted}
-use Rattle.pagecache.specs.Cache.{Cache}
+use Rattle.pagecache.specs.Cache.{Cache, payload_of}
 use Rattle.pagecache.specs.declared.fault.CacheFault.{CacheFault}
 use Rattle.pagecache.specs.declared.fault.CacheFault.TheVariants as cache
 use Rattle.chains.specs.declared.fault.ChainFault.{ChainFault}
@@ -25,11 +25,11 @@ IsAllowed Memory = Unit {0}
 abbrev pub Gives : {T : Type 0} → Result T ChainFault → (T → Type 0) → Type 0
 Gives result P = MatchResult result P IsAllowed
 
--- the store failed where that is said; no store is ever said to be full
+-- the store failed, or a page has no payload, where that is said; no store is ever said to be full
 abbrev pub IsCausedInCache : Cache → Cache → CacheFault → Type 0
 IsCausedInCache old new cache.NoPage = Unit {0}
 IsCausedInCache old new cache.Store = Faulted old.store new.store
-IsCausedInCache old new (cache.Damaged n) = Unit {0}
+IsCausedInCache old new (cache.Damaged n) = IsTrue old.store.is_faithful → payload_of old n ≡ None
 IsCausedInCache old new cache.StoreFull = ⊥
 IsCausedInCache old new cache.Memory = Unit {0}
 

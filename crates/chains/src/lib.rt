@@ -6,4 +6,4 @@ mod leaves;
 mod retrieval;
 
 pub use fault::ChainFault;
-pub use retrieval::trajectory;
+pub use retrieval::{trajectory, trajectory_in};

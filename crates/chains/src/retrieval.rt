@@ -1,8 +1,8 @@
 //! The legs of a feature.
 ghost use Rattle.std.specs.Prelude.{ℕ, ◌≡◌, ◌+◌, ◌≤◌, List, Some, None, reverse, OnOk, IfOk, IfErr, IsTrue};
 ghost use Rattle.std.specs.Int.{div_ceil};
-ghost use Rattle.legs.specs.Costs.{RisesBy, track_cost};
-ghost use Rattle.legs.specs.Index.{legs_of};
+ghost use Rattle.legs.specs.Costs.{RisesBy, RisesAtMost, track_cost, track_in_bound};
+ghost use Rattle.legs.specs.Index.{legs_of, live_legs_of};
 ghost use Rattle.legs.specs.Legs.{LegView};
 ghost use Rattle.tbtree.specs.Nodes.{pages_of_cache};
 ghost use Rattle.tbtree.specs.Shape.{IsShape};
@@ -41,6 +41,10 @@ fn walk_back<S: PageStore>(
     ensures caused { IfErr result (IsCaused cache.old cache.new) }
     ensures asked { IsTrue cache.old.store.is_faithful
         → OnOk result (RisesBy cache.old.asked cache.new.asked
+        (walked (pages_of_cache cache.old) period.now (div_ceil place.now.legs shape.now.leaf)
+        place.now.last)) }
+    ensures within { IsTrue cache.old.store.is_faithful
+        → OnOk result (RisesAtMost cache.old.asked cache.new.asked
         (walked (pages_of_cache cache.old) period.now (div_ceil place.now.legs shape.now.leaf)
         place.now.last)) }
     ensures most { cache.new.asked
@@ -102,6 +106,46 @@ pub fn trajectory<S: PageStore>(
         ≤ cache.old.asked + div_ceil place.now.legs shape.now.leaf }
 {
     let mut found = walk_back(alloc, cache, shape, place, &None)?;
+    found.reverse();
+    Ok(found)
+}
+
+/// The legs of the feature at a place of a tree of that shape that are live in a period, in the order in which they
+/// were accepted.
+///
+/// Leaves are read from the last one back to the first, or to one whose first leg starts before the period does; the
+/// faults are those of `trajectory`, in the leaves that are read.
+pub fn trajectory_in<S: PageStore>(
+    alloc: Global,
+    cache: &mut PageCache<S>,
+    shape: &Shape,
+    place: &Place,
+    period: &Period,
+) -> Result<Vec<Leg>, ChainFault>
+    // Of pages that stand for a list: exactly the feature's live legs; only a failed store and want of memory refuse.
+    ensures found { IsTrue cache.old.store.is_faithful → (legs : List LegView) (feature : ℕ)
+        → HasFeature (pages_of_cache cache.old) shape.now place.now feature legs
+        → Gives result (λ found. found.items ≡ live_legs_of feature period.now legs) }
+    ensures asked { IsTrue cache.old.store.is_faithful → (legs : List LegView) (feature : ℕ)
+        → HasFeature (pages_of_cache cache.old) shape.now place.now feature legs
+        → OnOk result (RisesAtMost cache.old.asked cache.new.asked
+        (track_in_bound feature period.now (Some shape.now) legs)) }
+
+    // Of any pages: only a chain is answered, as far as it is read.
+    ensures chain { IsTrue cache.old.store.is_faithful
+        → OnOk result (IsPlaceChain (pages_of_cache cache.old) (Some period.now) shape.now
+        place.now) }
+    ensures only { IsTrue cache.old.store.is_faithful
+        → IsPlaceChain (pages_of_cache cache.old) (Some period.now) shape.now place.now
+        → IfErr result IsAllowed }
+
+    // Over any store.
+    ensures reads { OnlyReads cache.old cache.new }
+    ensures caused { IfErr result (IsCaused cache.old cache.new) }
+    ensures most { cache.new.asked
+        ≤ cache.old.asked + div_ceil place.now.legs shape.now.leaf }
+{
+    let mut found = walk_back(alloc, cache, shape, place, &Some(*period))?;
     found.reverse();
     Ok(found)
 }

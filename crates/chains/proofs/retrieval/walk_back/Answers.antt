@@ -52,6 +52,14 @@ leaves-preserved g c =
           let more = asked_on nodes period link count t.leaf linked rest n less s.0 in
           let same = ap (λ b. walked nodes period rest b.page) s.1 in
           omega (arith, one.1, so_far, more, same);
+      within = λ fa.
+          let t = c.in_ok-back.ensures.taken (inv.reads.store.faithful ∙ fa) in
+          let linked = linked_before old c.leaves.cache link count t.leaf inv.reads fa t.linked in
+          let s = goes_on (is_end period t.leaf.legs) c.in-Some.back (link_back link.page t.leaf) (sym c.in-Some.is ∙ t.takes.link) in
+          let so_far = inv.within fa in
+          let more = asked_on nodes period link count t.leaf linked rest n less s.0 in
+          let same = ap (λ b. walked nodes period rest b.page) s.1 in
+          omega (arith, c.take.ensures.most, so_far, more, same);
       few = omega (arith, c.take.ensures.most, inv.few, less);
     }
 
@@ -113,3 +121,16 @@ returns-in_default-clause-asked g c = λ fa below.
     let so_far = inv.asked fa one.0 in
     let last = asked_end (pages_of_cache old) c.args.period.now link c.legs_of_leaf-count.result t.leaf linked (c.leaves.left - 1) c.leaves.left less s in
     omega (arith, one.1, so_far, last)
+
+pub returns-in_default-clause-within : goal.returns-in_default-clause-within
+returns-in_default-clause-within g c = λ fa.
+    let old = c.args.cache.now in
+    let link = c.leaves.link in
+    let inv = c.leaves.invariant in
+    let less : c.leaves.left ≡ suc (c.leaves.left - 1) = omega (arith, c.leaves-test.true) in
+    let t = c.in_ok-back.ensures.taken (inv.reads.store.faithful ∙ fa) in
+    let linked = linked_before old c.leaves.cache link c.legs_of_leaf-count.result t.leaf inv.reads fa t.linked in
+    let s = ends (is_end c.args.period.now t.leaf.legs) (link_back link.page t.leaf) (sym c.in_default.is ∙ t.takes.link) in
+    let so_far = inv.within fa in
+    let last = asked_end (pages_of_cache old) c.args.period.now link c.legs_of_leaf-count.result t.leaf linked (c.leaves.left - 1) c.leaves.left less s in
+    omega (arith, c.take.ensures.most, so_far, last)

@@ -22,5 +22,6 @@ invariant-leaves g l =
       into : IsTrue old.store.is_faithful → IsPlaceChain nodes l.fn.period l.fn.shape place → IsChain nodes l.fn.period l.fn.shape.leaf place.legs place.first l.left l.link;
       back : IsTrue old.store.is_faithful → IsChain nodes l.fn.period l.fn.shape.leaf place.legs place.first l.left l.link → IsPlaceChain nodes l.fn.period l.fn.shape place;
       asked : IsTrue old.store.is_faithful → l.cache.asked < 2 ^ 64 - 1 → l.cache.asked + walked nodes l.fn.period l.left l.link.page ≡ old.asked + walked nodes l.fn.period blocks place.last;
+      within : IsTrue old.store.is_faithful → l.cache.asked + walked nodes l.fn.period l.left l.link.page ≤ old.asked + walked nodes l.fn.period blocks place.last;
       few : l.cache.asked + l.left ≤ old.asked + blocks;
     }
