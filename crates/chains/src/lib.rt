@@ -7,3 +7,6 @@ mod retrieval;
 
 pub use fault::ChainFault;
 pub use retrieval::{trajectory, trajectory_in};
+
+#[cfg(test)]
+mod tests;
