@@ -1,5 +1,5 @@
 -- A feature's leaves, from the last one back.
-use Rattle.std.proofs.Common.{ℕ, zero, suc, ◌+◌, ◌-◌, ◌*◌, ◌≡◌, ◌<◌, ◌≤◌, ◌==◌, Bool, true, false, cond, List, [], ◌∷◌, ◌++◌, take, drop, length, refl, sym, ap, ◌∙◌, arith, subst, append_assoc, Option, Some, None, slice_get, length-append}
+use Rattle.std.proofs.Common.{ℕ, suc, ◌+◌, ◌-◌, ◌*◌, ◌≡◌, ◌<◌, ◌==◌, Bool, true, false, cond, List, [], ◌∷◌, ◌++◌, take, drop, length, refl, sym, ap, ◌∙◌, arith, subst, append_assoc, Option, Some, None, slice_get, length-append}
 use Rattle.std.specs.Prelude.{min, IfSome}
 use Rattle.std.specs.List.{filter, count_by}
 use Rattle.std.proofs.lemmas.Bool.{eqb-true}
@@ -12,7 +12,7 @@ use Rattle.legs.specs.Boxes.{BoxView}
 use Rattle.legs.specs.Blocks.{joined}
 use Rattle.tbtree.specs.Nodes.{Pages, ALeaf, LeafView}
 use Rattle.tbtree.specs.Stands.{owner, marks, pages_of, head_or_zero, last_or, leaf_of, LeavesStand}
-use Rattle.chains.specs.Chains.{IsLinked, IsAtStart, IsChain, walk, walked, legs_in, previous_of}
+use Rattle.chains.specs.Chains.{IsLinked, IsChain, walk, legs_in, previous_of}
 use Rattle.chains.specs.Links.{Fits, is_kept, is_end, link_back}
 use Rattle.chains.specs.declared.leaves.Link.{Link}
 

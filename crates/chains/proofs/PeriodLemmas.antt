@@ -1,6 +1,5 @@
 -- A walk back from a feature's place, up to a leaf that starts before a period.
-use Rattle.std.proofs.Common.{ℕ, zero, suc, ◌+◌, ◌≡◌, ◌<◌, ◌≤◌, Bool, true, false, cond, List, [], ◌∷◌, ◌++◌, length, refl, sym, ap, ◌∙◌, arith, subst, Option, Some, None, All}
-use Rattle.std.specs.Prelude.{min}
+use Rattle.std.proofs.Common.{ℕ, zero, suc, ◌+◌, ◌≡◌, ◌<◌, ◌≤◌, Bool, true, false, cond, List, [], ◌∷◌, length, refl, sym, ap, ◌∙◌, arith, subst, Option, Some, All}
 use Rattle.std.specs.Int.{div_ceil}
 use Rattle.std.specs.List.{filter, count_by}
 use Rattle.std.proofs.lemmas.List.Elements.{All-append, All-nil, All-same}
@@ -15,7 +14,7 @@ use Rattle.pagecache.specs.Cache.{Cache}
 use Rattle.tbtree.specs.Nodes.{Pages, pages_of_cache}
 use Rattle.tbtree.specs.declared.tree.Place.{Place}
 use Rattle.chains.specs.Chains.{walk, walked, legs_in, previous_of}
-use Rattle.chains.specs.Links.{is_kept, is_end}
+use Rattle.chains.specs.Links.{is_end}
 use Rattle.chains.specs.Trajectory.{HasFeature}
 use Rattle.chains.proofs.BackLemmas.{IsBack, onto, unwound, unwound_onto, length_onto, count_onto, walk_blocks}
 use Rattle.chains.proofs.GroupLemmas.{joined_groups, filled_groups}

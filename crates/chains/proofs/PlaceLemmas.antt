@@ -1,5 +1,5 @@
 -- The place of a feature in pages that stand for a list, and what a walk from it gives.
-use Rattle.std.proofs.Common.{ℕ, zero, suc, ◌+◌, ◌*◌, ◌-◌, ◌≡◌, ◌<◌, ◌≤◌, ◌==◌, Bool, true, false, List, [], ◌∷◌, length, refl, sym, ap, ◌∙◌, arith, subst, ⊎_elim, Option, Some, None, slice_get}
+use Rattle.std.proofs.Common.{ℕ, zero, suc, ◌+◌, ◌*◌, ◌-◌, ◌≡◌, ◌<◌, ◌≤◌, ◌==◌, List, [], ◌∷◌, length, refl, sym, ap, ◌∙◌, arith, subst, ⊎_elim, Option, Some, None}
 use Rattle.std.specs.Prelude.{min}
 use Rattle.std.specs.Int.{div_ceil}
 use Rattle.std.specs.List.{filter}
@@ -13,10 +13,9 @@ use Rattle.legs.specs.Costs.{ShapeView, leg_feature, leaves_of, track_cost}
 use Rattle.legs.specs.Index.{legs_of, is_of}
 use Rattle.legs.specs.Legs.{LegView}
 use Rattle.tbtree.specs.Nodes.{Pages}
-use Rattle.tbtree.specs.Stands.{owner, marks, pages_of, head_or_zero, last_or, NumbersStand}
+use Rattle.tbtree.specs.Stands.{owner, marks, pages_of, last_or, NumbersStand}
 use Rattle.tbtree.specs.declared.tree.Place.{Place}
-use Rattle.chains.specs.Chains.{IsPlaceChain, IsChain, last_link, walk, walked, legs_in, previous_of}
-use Rattle.chains.specs.Links.{is_kept, is_end}
+use Rattle.chains.specs.Chains.{IsPlaceChain, IsChain, last_link, walk, walked, previous_of}
 use Rattle.chains.specs.Trajectory.{HasFeature}
 use Rattle.chains.proofs.BackLemmas.{IsBack, Counted, StopsRight, onto, length_onto, back_of, counted_onto, is_chain, walk_blocks}
 use Rattle.chains.proofs.GroupLemmas.{all_pass, groups_of_one, groups_ceil, joined_groups, length_group}

@@ -1,7 +1,5 @@
 -- One call after another.
-use Rattle.std.proofs.Common.{ℕ, ◌≡◌, ◌≤◌, ◌<◌, ◌∙◌, ◌+◌, refl, sym, arith, false, IsTrue}
-use Rattle.pages.specs.Store.{Store, Faulted}
-use Rattle.pages.specs.Store as store
+use Rattle.std.proofs.Common.{◌∙◌, refl, sym, arith}
 use Rattle.pagecache.specs.Cache.{Cache}
 use Rattle.pagecache.specs.declared.fault.CacheFault.{CacheFault}
 use Rattle.pagecache.specs.declared.fault.CacheFault.TheVariants as cache

@@ -1,7 +1,6 @@
 -- Each leg of a leaf ends after it starts: a payload whose legs do not is no leaf.
-use Rattle.std.proofs.Common.{ℕ, zero, suc, ◌+◌, ◌≡◌, ◌<◌, ◌==◌, ◌||◌, nat_lt, Bool, true, false, ◌&&◌, List, length, map, refl, sym, ap, ◌∙◌, arith, subst, ⊎_elim, Option, Some, None, option_map, ℤ, ◌≤ℤ◌, All}
+use Rattle.std.proofs.Common.{ℕ, zero, suc, ◌≡◌, ◌<◌, Bool, true, false, ◌&&◌, List, refl, sym, ap, ◌∙◌, arith, subst, ⊎_elim, Option, Some, None, option_map, ℤ, ◌≤ℤ◌, All}
 use Rattle.std.specs.Prelude.{int_lt, if◌then◌else◌}
-use Rattle.std.specs.List.{range_with_len}
 use Rattle.std.proofs.lemmas.Bool.{cases_lt, false≢true}
 use Rattle.std.proofs.lemmas.Int.{ints}
 use Rattle.std.proofs.lemmas.List.FromFn.{length-map-range_with_len, get_or-map-range_with_len}

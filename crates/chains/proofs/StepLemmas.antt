@@ -1,18 +1,17 @@
 -- One leaf of a walk back along a chain.
-use Rattle.std.proofs.Common.{ℕ, zero, suc, ◌+◌, ◌-◌, ◌*◌, ◌^◌, ◌≡◌, ◌≤◌, ◌<◌, Bool, true, false, cond, List, [], ◌∷◌, ◌++◌, refl, sym, ap, ◌∙◌, arith, subst, append_assoc, Option, Some, None, IsTrue}
+use Rattle.std.proofs.Common.{ℕ, suc, ◌+◌, ◌-◌, ◌*◌, ◌^◌, ◌≡◌, ◌<◌, Bool, true, false, cond, List, ◌++◌, refl, sym, ap, ◌∙◌, arith, subst, append_assoc, Option, Some, None, IsTrue}
 use Rattle.std.specs.Prelude.{reverse, min, if◌then◌else◌, option_map}
 use Rattle.std.specs.List.{filter}
-use Rattle.std.proofs.lemmas.List.{reverse-append, append-nil}
+use Rattle.std.proofs.lemmas.List.{reverse-append}
 use Rattle.timebase.specs.Period.{PeriodView}
 use Rattle.legs.specs.Legs.{LegView}
 use Rattle.legs.specs.Boxes.{BoxView}
 use Rattle.pagecache.specs.Cache.{Cache}
 use Rattle.tbnode.specs.Form.{node_of}
 use Rattle.tbtree.specs.Nodes.{Pages, pages_of_cache, Node, LeafView, ALeaf, AnInner}
-use Rattle.chains.specs.Chains.{IsLinked, IsAtStart, IsChain, walk, walked, legs_in, previous_of}
-use Rattle.chains.specs.Links.{Takes, is_kept, is_end, link_back}
+use Rattle.chains.specs.Chains.{IsLinked, IsChain, walk, walked, legs_in, previous_of}
+use Rattle.chains.specs.Links.{is_kept, is_end, link_back}
 use Rattle.chains.specs.Reads.{OnlyReads}
-use Rattle.chains.specs.Taking.{TakesPage}
 use Rattle.chains.specs.declared.leaves.Link.{Link}
 use Rattle.chains.proofs.GroupLemmas.{some_none, some_same}
 

@@ -1,24 +1,23 @@
 -- A feature's legs go forward in time, so a walk back may stop.
-use Rattle.std.proofs.Common.{ℕ, zero, suc, ◌+◌, ◌≡◌, ◌<◌, ◌≤◌, ◌==◌, ◌||◌, Bool, true, false, cond, List, [], ◌∷◌, ◌++◌, length, refl, sym, ap, ◌∙◌, arith, subst, ⊎_elim, append_assoc, Option, Some, None, slice_get, ℤ, ◌≤ℤ◌, ◌<ℤ◌, All, eq-eqb}
+use Rattle.std.proofs.Common.{ℕ, suc, ◌≡◌, ◌==◌, ◌||◌, true, false, cond, List, [], ◌∷◌, ◌++◌, refl, sym, ap, ◌∙◌, arith, subst, append_assoc, Option, Some, None, slice_get, ℤ, ◌≤ℤ◌, ◌<ℤ◌, All}
 use Rattle.std.specs.Prelude.{int_le, int_lt}
 use Rattle.std.specs.Int.{int_max, int_min}
-use Rattle.std.specs.List.{filter, list_any, count_by}
+use Rattle.std.specs.List.{filter, list_any}
 use Rattle.std.specs.Option.{ForSome}
 use Rattle.std.proofs.lemmas.Bool.{eqb-true}
 use Rattle.std.proofs.lemmas.Int.{ints, clamps}
 use Rattle.std.proofs.lemmas.List.{append-nil}
-use Rattle.std.proofs.lemmas.List.Elements.{All-append, All-weaker, All-push, All-nil, All-head, All-tail, All-same, filter-append}
+use Rattle.std.proofs.lemmas.List.Elements.{All-weaker, All-push, All-nil, All-head, All-tail, filter-append}
 use Rattle.std.proofs.lemmas.List.Sums.{fold-append}
 use Rattle.timebase.specs.Period.{PeriodView}
-use Rattle.legs.specs.Blocks.{groups, joined}
+use Rattle.legs.specs.Blocks.{joined}
 use Rattle.legs.specs.Boxes.{BoxView}
 use Rattle.legs.specs.Costs.{reaches}
-use Rattle.legs.specs.Index.{CanFollow, CanFollowInTurn, is_of, last_end, legs_of, live_legs_of}
+use Rattle.legs.specs.Index.{CanFollowInTurn, is_of, last_end, legs_of}
 use Rattle.legs.specs.Legs.{LegView, is_live}
-use Rattle.tbtree.specs.Nodes.{Pages, ALeaf, LeafView}
-use Rattle.chains.specs.Chains.{walk, walked, legs_in, previous_of}
-use Rattle.chains.specs.Links.{begins_before, is_kept, is_end}
-use Rattle.chains.proofs.BackLemmas.{IsBack, StopsRight, onto, unwound, unwound_onto}
+use Rattle.tbtree.specs.Nodes.{Pages}
+use Rattle.chains.specs.Links.{begins_before}
+use Rattle.chains.proofs.BackLemmas.{StopsRight, onto, unwound}
 use Rattle.chains.proofs.RiseLemmas.{Rises}
 
 -- each of some legs ends by that moment

@@ -1,5 +1,5 @@
 -- Refusals.
-use Rattle.std.specs.Prelude.{ℕ, ◌≡◌, Result, MatchResult, None, IsTrue}
+use Rattle.std.specs.Prelude.{◌≡◌, Result, MatchResult, None, IsTrue}
 use Rattle.pages.specs.Store.{Faulted}
 use Rattle.pagecache.specs.Cache.{Cache, payload_of}
 use Rattle.pagecache.specs.declared.fault.CacheFault.{CacheFault}

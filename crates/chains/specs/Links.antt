@@ -1,5 +1,5 @@
 -- What is asked of a leaf on the way back along a chain, and what is taken of it.
-use Rattle.std.specs.Prelude.{ℕ, ◌≡◌, ◌<◌, ◌++◌, Bool, true, false, if◌then◌else◌, List, [], ◌∷◌, filter, length, reverse, Option, Some, None, IfSome, int_lt}
+use Rattle.std.specs.Prelude.{ℕ, ◌≡◌, ◌++◌, Bool, true, false, if◌then◌else◌, List, [], ◌∷◌, filter, length, reverse, Option, Some, None, IfSome, int_lt}
 use Rattle.timebase.specs.Period.{PeriodView}
 use Rattle.legs.specs.Legs.{LegView, is_live}
 use Rattle.tbtree.specs.Nodes.{LeafView}

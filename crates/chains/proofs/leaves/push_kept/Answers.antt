@@ -1,4 +1,4 @@
-use Rattle.std.proofs.Common.{◌≡◌, ◌-◌, suc, arith, sym, ◌∙◌}
+use Rattle.std.proofs.Common.{◌-◌, arith, sym, ◌∙◌}
 use Rattle.chains.specs.Links.{is_kept}
 use Rattle.chains.proofs.KeepLemmas.{kept_none, kept_more, kept_same}
 use Rattle.chains.proofs.leaves.push_kept.Goals as goal

@@ -1,4 +1,4 @@
-use Rattle.std.proofs.Common.{rules, ◌≡◌, ◌<◌, ◌≤◌, ap, ◌∙◌, sym, arith, None}
+use Rattle.std.proofs.Common.{◌<◌, ap, ◌∙◌, arith, None}
 use Rattle.std.specs.Prelude.{reverse}
 use Rattle.std.specs.Int.{div_ceil}
 use Rattle.std.proofs.lemmas.List.{reverse-reverse}

@@ -1,4 +1,4 @@
-use Rattle.std.proofs.Common.{rules, ◌≡◌, ◌+◌, ◌-◌, ◌*◌, suc, arith, ap, sym, subst, ◌∙◌, ◌++◌}
+use Rattle.std.proofs.Common.{rules, ◌≡◌, ◌-◌, ◌*◌, suc, arith, ap, sym, subst, ◌∙◌, ◌++◌}
 use Rattle.std.specs.Prelude.{min, reverse}
 use Rattle.std.proofs.lemmas.Result.{err_from_is_err_and}
 use Rattle.tbtree.specs.Nodes.{pages_of_cache}
