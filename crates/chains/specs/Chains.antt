@@ -1,5 +1,5 @@
 -- A chain of leaves, walked from the last one back.
-use Rattle.std.specs.Prelude.{ℕ, zero, suc, ◌≡◌, ◌+◌, ◌-◌, ◌*◌, ◌<◌, ◌++◌, cond, min, List, [], filter, Option, Some, None, false}
+use Rattle.std.specs.Prelude.{ℕ, zero, suc, ◌≡◌, ◌≢◌, ◌+◌, ◌-◌, ◌*◌, ◌<◌, ◌++◌, cond, min, List, [], filter, Option, Some, None, false}
 use Rattle.std.specs.Int.{div_ceil}
 use Rattle.timebase.specs.Period.{PeriodView}
 use Rattle.legs.specs.Legs.{LegView}
@@ -64,3 +64,8 @@ last_link place = record { page = place.last; next = 0; feature = None }
 abbrev pub IsPlaceChain : Pages LegView BoxView → Option PeriodView → ShapeView → Place → Type 0
 IsPlaceChain nodes period shape place =
     IsChain nodes period shape.leaf place.legs place.first (div_ceil place.legs shape.leaf) (last_link place)
+
+-- the place's last page has a payload, and so has each page that a leaf names as the one before it
+pub record NamesHeld (nodes : Pages LegView BoxView) (place : Place) : Type 0 where
+  pub last : nodes.at place.last ≢ None
+  pub previous : (p : ℕ) (leaf : LeafView LegView) → nodes.at p ≡ Some (Some (ALeaf leaf)) → nodes.at leaf.previous ≢ None

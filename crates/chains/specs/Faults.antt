@@ -21,6 +21,12 @@ IsAllowed (OfCache fault) = IsAllowedOfCache fault
 IsAllowed (Malformed n) = ⊥
 IsAllowed Memory = Unit {0}
 
+-- the refusals where each page that is asked for has a payload
+abbrev pub IsOfHeld : ChainFault → Type 0
+IsOfHeld (OfCache fault) = IsAllowedOfCache fault
+IsOfHeld (Malformed n) = Unit {0}
+IsOfHeld Memory = Unit {0}
+
 -- P of what was read, or a refusal that good pages allow
 abbrev pub Gives : {T : Type 0} → Result T ChainFault → (T → Type 0) → Type 0
 Gives result P = MatchResult result P IsAllowed

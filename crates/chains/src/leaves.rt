@@ -1,11 +1,11 @@
 //! One leaf on the way back along a chain.
-ghost use Rattle.std.specs.Prelude.{◌≡◌, ◌+◌, ◌-◌, ◌*◌, ◌≤◌, ◌++◌, ◌↔◌, Some, min, filter, reverse, OnOk, IfOk, IfErr, IsTrue};
+ghost use Rattle.std.specs.Prelude.{◌≡◌, ◌≢◌, ◌+◌, ◌-◌, ◌*◌, ◌≤◌, ◌++◌, ◌↔◌, None, Some, min, filter, reverse, OnOk, IfOk, IfErr, IsTrue};
 ghost use Rattle.legs.specs.Legs.{LegView};
 ghost use Rattle.pagecache.specs.Cache.{Cache, AsksOnce};
 ghost use Rattle.tbnode.specs.Form.{node_of};
 ghost use Rattle.tbtree.specs.Nodes.{LeafView, ALeaf, pages_of_cache};
 ghost use Rattle.chains.specs.Chains.{IsLinked};
-ghost use Rattle.chains.specs.Faults.{IsAllowed, IsCaused};
+ghost use Rattle.chains.specs.Faults.{IsAllowed, IsCaused, IsOfHeld};
 ghost use Rattle.chains.specs.Links.{Fits, is_kept, is_end};
 ghost use Rattle.chains.specs.Reads.{OnlyReads};
 ghost use Rattle.chains.specs.Taking.{TakesNode, TakesPage};
@@ -100,6 +100,7 @@ fn take_node(
     ensures only { (leaf : LeafView LegView) → node_of payload.now ≡ Some (ALeaf leaf)
         → Fits leaf link.now count → IfErr result IsAllowed }
     ensures caused { (old new : Cache) → IfErr result (IsCaused old new) }
+    ensures held { IfErr result IsOfHeld }
 {
     let Some(leaf) = tbnode::leaf(payload) else {
         return Err(ChainFault::Malformed(link.page));
@@ -133,6 +134,8 @@ pub(crate) fn take<S: PageStore>(
         found.old.items found.new.items) }
     ensures only { IsTrue cache.old.store.is_faithful → (leaf : LeafView LegView)
         → IsLinked (pages_of_cache cache.old) link.now count leaf → IfErr result IsAllowed }
+    ensures held { IsTrue cache.old.store.is_faithful
+        → (pages_of_cache cache.old).at link.now.page ≢ None → IfErr result IsOfHeld }
     ensures reads { OnlyReads cache.old cache.new }
     ensures caused { IfErr result (IsCaused cache.old cache.new) }
     ensures asked { OnOk result (AsksOnce cache.old cache.new) }

@@ -6,8 +6,8 @@ ghost use Rattle.legs.specs.Index.{legs_of, live_legs_of};
 ghost use Rattle.legs.specs.Legs.{LegView};
 ghost use Rattle.tbtree.specs.Nodes.{pages_of_cache};
 ghost use Rattle.tbtree.specs.Shape.{IsShape};
-ghost use Rattle.chains.specs.Chains.{IsPlaceChain, walk, walked};
-ghost use Rattle.chains.specs.Faults.{IsAllowed, IsCaused, Gives};
+ghost use Rattle.chains.specs.Chains.{IsPlaceChain, NamesHeld, walk, walked};
+ghost use Rattle.chains.specs.Faults.{IsAllowed, IsCaused, IsOfHeld, Gives};
 ghost use Rattle.chains.specs.Reads.{OnlyReads};
 ghost use Rattle.chains.specs.Trajectory.{HasFeature};
 
@@ -37,6 +37,8 @@ fn walk_back<S: PageStore>(
     ensures only { IsTrue cache.old.store.is_faithful
         → IsPlaceChain (pages_of_cache cache.old) period.now shape.now place.now
         → IfErr result IsAllowed }
+    ensures malformed { IsTrue cache.old.store.is_faithful
+        → NamesHeld (pages_of_cache cache.old) place.now → IfErr result IsOfHeld }
     ensures reads { OnlyReads cache.old cache.new }
     ensures caused { IfErr result (IsCaused cache.old cache.new) }
     ensures asked { IsTrue cache.old.store.is_faithful
@@ -92,12 +94,14 @@ pub fn trajectory<S: PageStore>(
         → OnOk result (RisesBy cache.old.asked cache.new.asked
         (track_cost feature (Some shape.now) legs)) }
 
-    // Of any pages: only a whole chain is answered.
+    // Of any pages: only a whole chain is answered, and all else is malformed, where the pages named have payloads.
     ensures chain { IsTrue cache.old.store.is_faithful
         → OnOk result (IsPlaceChain (pages_of_cache cache.old) None shape.now place.now) }
     ensures only { IsTrue cache.old.store.is_faithful
         → IsPlaceChain (pages_of_cache cache.old) None shape.now place.now
         → IfErr result IsAllowed }
+    ensures malformed { IsTrue cache.old.store.is_faithful
+        → NamesHeld (pages_of_cache cache.old) place.now → IfErr result IsOfHeld }
 
     // Over any store.
     ensures reads { OnlyReads cache.old cache.new }
@@ -131,13 +135,15 @@ pub fn trajectory_in<S: PageStore>(
         → OnOk result (RisesAtMost cache.old.asked cache.new.asked
         (track_in_bound feature period.now (Some shape.now) legs)) }
 
-    // Of any pages: only a chain is answered, as far as it is read.
+    // Of any pages: only a chain is answered, as far as it is read; all else is malformed, as above.
     ensures chain { IsTrue cache.old.store.is_faithful
         → OnOk result (IsPlaceChain (pages_of_cache cache.old) (Some period.now) shape.now
         place.now) }
     ensures only { IsTrue cache.old.store.is_faithful
         → IsPlaceChain (pages_of_cache cache.old) (Some period.now) shape.now place.now
         → IfErr result IsAllowed }
+    ensures malformed { IsTrue cache.old.store.is_faithful
+        → NamesHeld (pages_of_cache cache.old) place.now → IfErr result IsOfHeld }
 
     // Over any store.
     ensures reads { OnlyReads cache.old cache.new }

@@ -43,6 +43,11 @@ leaves-preserved g c =
           let s = goes_on (is_end period t.leaf.legs) c.in-Some.back (link_back link.page t.leaf) (sym c.in-Some.is ∙ t.takes.link) in
           let after = subst (λ b. IsChain nodes period shape.leaf legs first rest b) s.1 h in
           inv.back fa (chain_here nodes period link count t.leaf linked rest n less shape.leaf legs first counted (λ _. after));
+      named = λ fa h.
+          let t = c.in_ok-back.ensures.taken (inv.reads.store.faithful ∙ fa) in
+          let linked = linked_before old c.leaves.cache link count t.leaf inv.reads fa t.linked in
+          let s = goes_on (is_end period t.leaf.legs) c.in-Some.back (link_back link.page t.leaf) (sym c.in-Some.is ∙ t.takes.link) in
+          λ e. h.previous link.page t.leaf linked.is (sym (ap (λ b. nodes.at b.page) s.1) ∙ e);
       asked = λ fa l.
           let t = c.in_ok-back.ensures.taken (inv.reads.store.faithful ∙ fa) in
           let linked = linked_before old c.leaves.cache link count t.leaf inv.reads fa t.linked in
