@@ -1,0 +1,10 @@
+pub mod ReadLemmas
+pub mod GroupLemmas
+pub mod KeepLemmas
+pub mod StepLemmas
+pub mod OwnLemmas
+pub mod BackLemmas
+pub mod PlaceLemmas
+pub mod RiseLemmas
+pub mod TimeLemmas
+pub mod PeriodLemmas

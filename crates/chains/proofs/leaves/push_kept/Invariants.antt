@@ -1,0 +1,14 @@
+use Rattle.std.proofs.Common.{◌≡◌, ◌≤◌, ◌++◌, drop, length}
+use Rattle.std.specs.Prelude.{filter, reverse}
+use Rattle.chains.specs.Links.{is_kept}
+use Rattle.chains.proofs.leaves.push_kept.Given as goal
+
+abbrev pub decreases-legs : goal.decreases-legs
+decreases-legs l = l.i
+
+-- the kept ones of the legs from i on
+abbrev pub invariant-legs : goal.invariant-legs
+invariant-legs l = record {
+  within : l.i ≤ length l.leaf.legs;
+  found : l.found.items ≡ l.initial.found.items ++ reverse (filter (is_kept l.period) (drop l.i l.leaf.legs));
+}

@@ -1,0 +1,45 @@
+-- Refusals.
+use Rattle.std.specs.Prelude.{◌≡◌, Result, MatchResult, None, IsTrue}
+use Rattle.pages.specs.Store.{Faulted}
+use Rattle.pagecache.specs.Cache.{Cache, payload_of}
+use Rattle.pagecache.specs.declared.fault.CacheFault.{CacheFault}
+use Rattle.pagecache.specs.declared.fault.CacheFault.TheVariants as cache
+use Rattle.chains.specs.declared.fault.ChainFault.{ChainFault}
+use Rattle.chains.specs.declared.fault.ChainFault.TheVariants.{Cache as OfCache, Malformed, Memory}
+
+-- the refusals of a cache that good pages allow where they are only read
+abbrev pub IsAllowedOfCache : CacheFault → Type 0
+IsAllowedOfCache cache.NoPage = ⊥
+IsAllowedOfCache cache.Store = Unit {0}
+IsAllowedOfCache (cache.Damaged n) = ⊥
+IsAllowedOfCache cache.StoreFull = ⊥
+IsAllowedOfCache cache.Memory = Unit {0}
+
+-- the refusals that good pages allow: a store that failed, and want of memory
+abbrev pub IsAllowed : ChainFault → Type 0
+IsAllowed (OfCache fault) = IsAllowedOfCache fault
+IsAllowed (Malformed n) = ⊥
+IsAllowed Memory = Unit {0}
+
+-- the refusals where each page that is asked for has a payload
+abbrev pub IsOfHeld : ChainFault → Type 0
+IsOfHeld (OfCache fault) = IsAllowedOfCache fault
+IsOfHeld (Malformed n) = Unit {0}
+IsOfHeld Memory = Unit {0}
+
+-- P of what was read, or a refusal that good pages allow
+abbrev pub Gives : {T : Type 0} → Result T ChainFault → (T → Type 0) → Type 0
+Gives result P = MatchResult result P IsAllowed
+
+-- the store failed, or a page has no payload, where that is said; no store is ever said to be full
+abbrev pub IsCausedInCache : Cache → Cache → CacheFault → Type 0
+IsCausedInCache old new cache.NoPage = Unit {0}
+IsCausedInCache old new cache.Store = Faulted old.store new.store
+IsCausedInCache old new (cache.Damaged n) = IsTrue old.store.is_faithful → payload_of old n ≡ None
+IsCausedInCache old new cache.StoreFull = ⊥
+IsCausedInCache old new cache.Memory = Unit {0}
+
+abbrev pub IsCaused : Cache → Cache → ChainFault → Type 0
+IsCaused old new (OfCache fault) = IsCausedInCache old new fault
+IsCaused old new (Malformed n) = Unit {0}
+IsCaused old new Memory = Unit {0}

@@ -1,0 +1,15 @@
+-- What a retrieval leaves of the cache, answered or not, over any store and any pages.
+use Rattle.std.specs.Prelude.{ℕ, ◌≡◌, ◌<◌, false, IsTrue}
+use Rattle.pages.specs.Store as store
+use Rattle.pagecache.specs.Cache.{Cache, payload_of, page_of, is_changed, WritesNone}
+
+-- no page has another payload, none more is marked as changed, and none that was not is written
+pub record OnlyReads (old new : Cache) : Type 0 where
+  pub store : store.Keeps old.store new.store
+  pub capacity : new.capacity ≡ old.capacity
+  pub count : new.count ≡ old.count
+  pub length : new.store.count ≡ old.store.count
+  pub payloads : IsTrue old.store.is_faithful → (n : ℕ) → payload_of new n ≡ payload_of old n
+  pub changed : (n : ℕ) → is_changed old n ≡ false → is_changed new n ≡ false
+  pub written : IsTrue old.store.is_faithful → (n : ℕ) → n < old.count → is_changed old n ≡ false → page_of new n ≡ page_of old n
+  pub unwritten : WritesNone old new

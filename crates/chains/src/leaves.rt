@@ -1,0 +1,149 @@
+//! One leaf on the way back along a chain.
+ghost use Rattle.std.specs.Prelude.{◌≡◌, ◌≢◌, ◌+◌, ◌-◌, ◌*◌, ◌≤◌, ◌++◌, ◌↔◌, None, Some, min, filter, reverse, OnOk, IfOk, IfErr, IsTrue};
+ghost use Rattle.legs.specs.Legs.{LegView};
+ghost use Rattle.pagecache.specs.Cache.{Cache, AsksOnce};
+ghost use Rattle.tbnode.specs.Form.{node_of};
+ghost use Rattle.tbtree.specs.Nodes.{LeafView, ALeaf, pages_of_cache};
+ghost use Rattle.chains.specs.Chains.{IsLinked};
+ghost use Rattle.chains.specs.Faults.{IsAllowed, IsCaused, IsOfHeld};
+ghost use Rattle.chains.specs.Links.{Fits, is_kept, is_end};
+ghost use Rattle.chains.specs.Reads.{OnlyReads};
+ghost use Rattle.chains.specs.Taking.{TakesNode, TakesPage};
+
+use crate::fault::ChainFault;
+use legs::Leg;
+use pagecache::PageCache;
+use pages::{PageStore, Payload};
+use std::alloc::AllocError;
+use tbnode::Leaf;
+use timebase::Period;
+
+/// A way to a leaf, from the one after it: its page, the page that it has as its next leaf (0 for the last leaf), and
+/// its feature, once a leaf has been read.
+#[derive(Clone, Copy, PartialEq, Eq, Debug)]
+pub(crate) struct Link {
+    pub(crate) page: u32,
+    pub(crate) next: u32,
+    pub(crate) feature: Option<u32>,
+}
+
+/// How many legs the leaf has that is after `before` others of `most` legs, of a chain of that many legs.
+pub(crate) fn legs_of_leaf(legs: u64, most: u64, before: u64) -> u64
+    ensures { result ≡ min most (legs - before * most) }
+{
+    most.min(legs.saturating_sub(before.saturating_mul(most)))
+}
+
+/// Whether a leaf is the one that the link leads to, and has that many legs.
+fn fits(leaf: &Leaf<'_>, link: &Link, count: u64) -> bool
+    ensures { IsTrue result ↔ Fits leaf.now link.now count }
+{
+    let head = leaf.head();
+    let same = match link.feature {
+        Some(feature) => head.feature == feature,
+        None => true,
+    };
+    same && leaf.len() as u64 == count && head.next == link.next
+}
+
+/// Whether a leg is kept: it is live in the period, where there is one.
+fn is_kept(leg: &Leg, period: &Option<Period>) -> bool
+    ensures { result ≡ is_kept period.now leg.now }
+{
+    match period {
+        Some(period) => leg.is_live(period),
+        None => true,
+    }
+}
+
+/// Puts the kept legs of a leaf behind the others, the last one first.
+fn push_kept(
+    leaf: &Leaf<'_>,
+    period: &Option<Period>,
+    found: &mut Vec<Leg>,
+) -> Result<(), AllocError>
+    ensures { OnOk result (found.new.items
+        ≡ found.old.items ++ reverse (filter (is_kept period.now) leaf.now.legs)) }
+{
+    let mut i = leaf.len();
+    'legs: while i > 0 {
+        i -= 1;
+        let leg = leaf.leg(i);
+        if is_kept(&leg, period) {
+            found.push(leg)?;
+        }
+    }
+    Ok(())
+}
+
+/// Whether nothing before a leaf is kept: it starts before the period, where there is one.
+fn is_end(leaf: &Leaf<'_>, period: &Option<Period>) -> bool
+    ensures { result ≡ is_end period.now leaf.now.legs }
+{
+    prove!(leaf.len() > 0);
+    match period {
+        Some(period) => leaf.leg(0).t0 < period.start(),
+        None => false,
+    }
+}
+
+/// Takes the kept legs of a payload, and gives the link to the leaf before it; none where nothing before is kept.
+fn take_node(
+    payload: &Payload,
+    link: &Link,
+    count: u64,
+    period: &Option<Period>,
+    found: &mut Vec<Leg>,
+) -> Result<Option<Link>, ChainFault>
+    ensures taken { IfOk result (TakesNode (node_of payload.now) link.now count period.now
+        found.old.items found.new.items) }
+    ensures only { (leaf : LeafView LegView) → node_of payload.now ≡ Some (ALeaf leaf)
+        → Fits leaf link.now count → IfErr result IsAllowed }
+    ensures caused { (old new : Cache) → IfErr result (IsCaused old new) }
+    ensures held { IfErr result IsOfHeld }
+{
+    let Some(leaf) = tbnode::leaf(payload) else {
+        return Err(ChainFault::Malformed(link.page));
+    };
+    if !fits(&leaf, link, count) {
+        return Err(ChainFault::Malformed(link.page));
+    }
+    push_kept(&leaf, period, found)?;
+    if is_end(&leaf, period) {
+        return Ok(None);
+    }
+    let head = leaf.head();
+    Ok(Some(Link {
+        page: head.previous,
+        next: link.page,
+        feature: Some(head.feature),
+    }))
+}
+
+/// Takes the kept legs of the leaf that the link leads to, which has that many, and gives the link to the leaf before
+/// it; none where nothing before is kept.
+pub(crate) fn take<S: PageStore>(
+    cache: &mut PageCache<S>,
+    link: &Link,
+    count: u64,
+    period: &Option<Period>,
+    found: &mut Vec<Leg>,
+) -> Result<Option<Link>, ChainFault>
+    ensures taken { IsTrue cache.old.store.is_faithful
+        → IfOk result (TakesPage (pages_of_cache cache.old) link.now count period.now
+        found.old.items found.new.items) }
+    ensures only { IsTrue cache.old.store.is_faithful → (leaf : LeafView LegView)
+        → IsLinked (pages_of_cache cache.old) link.now count leaf → IfErr result IsAllowed }
+    ensures held { IsTrue cache.old.store.is_faithful
+        → (pages_of_cache cache.old).at link.now.page ≢ None → IfErr result IsOfHeld }
+    ensures reads { OnlyReads cache.old cache.new }
+    ensures caused { IfErr result (IsCaused cache.old cache.new) }
+    ensures asked { OnOk result (AsksOnce cache.old cache.new) }
+    ensures most { cache.new.asked ≤ cache.old.asked + 1 }
+{
+    if link.page == 0 {
+        return Err(ChainFault::Malformed(link.next));
+    }
+    let payload = cache.page(link.page)?;
+    take_node(payload, link, count, period, found)
+}

@@ -1,0 +1,12 @@
+//! The legs of one feature, read along the chain of its leaves from the last one back.
+#![tactic(auto)]
+
+mod fault;
+mod leaves;
+mod retrieval;
+
+pub use fault::ChainFault;
+pub use retrieval::{trajectory, trajectory_in};
+
+#[cfg(test)]
+mod tests;
