@@ -35,8 +35,8 @@ pub record IsAtStart (first : ℕ) (link : Link) : Type 0 where
   pub first_is : link.next ≡ first
 
 module _ (nodes : Pages LegView BoxView) (period : Option PeriodView) where
-  -- of all legs of a chain, in leaves of `most` legs, the link leads back along n leaves to the first one, up to a leaf that
-  -- starts before the period
+  -- of a chain of so many legs, in leaves of `most`, the link leads back along n leaves to the first one, up to a leaf
+  -- that starts before the period
   abbrev pub IsChain : (most legs first n : ℕ) → Link → Type 0
   IsChain most legs first zero link = IsAtStart first link
   IsChain most legs first (suc n) link =
@@ -59,13 +59,21 @@ module _ (nodes : Pages LegView BoxView) (period : Option PeriodView) where
 abbrev pub last_link : Place → Link
 last_link place = record { page = place.last; next = 0; feature = None }
 
--- the pages are a chain of leaves of one feature, linked both ways, each full but the last, from the place's last leaf back to
--- its first, with as many legs as the place has
+-- the pages are a chain of leaves of one feature, linked both ways, each full but the last, from the place's last leaf
+-- back to its first, with as many legs as the place has; where there is a period, up to a leaf that starts before it
 abbrev pub IsPlaceChain : Pages LegView BoxView → Option PeriodView → ShapeView → Place → Type 0
 IsPlaceChain nodes period shape place =
     IsChain nodes period shape.leaf place.legs place.first (div_ceil place.legs shape.leaf) (last_link place)
 
+-- what is kept of that chain, and how many of its leaves are read
+abbrev pub chain_legs : Pages LegView BoxView → Option PeriodView → ShapeView → Place → List LegView
+chain_legs nodes period shape place = walk nodes period (div_ceil place.legs shape.leaf) place.last
+
+abbrev pub chain_cost : Pages LegView BoxView → Option PeriodView → ShapeView → Place → ℕ
+chain_cost nodes period shape place = walked nodes period (div_ceil place.legs shape.leaf) place.last
+
 -- the place's last page has a payload, and so has each page that a leaf names as the one before it
 pub record NamesHeld (nodes : Pages LegView BoxView) (place : Place) : Type 0 where
   pub last : nodes.at place.last ≢ None
-  pub previous : (p : ℕ) (leaf : LeafView LegView) → nodes.at p ≡ Some (Some (ALeaf leaf)) → nodes.at leaf.previous ≢ None
+  pub previous : (p : ℕ) (leaf : LeafView LegView) → nodes.at p ≡ Some (Some (ALeaf leaf))
+      → nodes.at leaf.previous ≢ None

@@ -31,6 +31,7 @@ abbrev pub link_back : {L : Type 0} → ℕ → LeafView L → Link
 link_back page leaf = record { page = leaf.previous; next = page; feature = Some leaf.feature }
 
 -- the kept legs of a leaf have been put behind the others, the last one first, and this is the link from it, if any
-pub record Takes (leaf : LeafView LegView) (page : ℕ) (period : Option PeriodView) (old new : List LegView) (result : Option Link) : Type 0 where
+pub record Takes (leaf : LeafView LegView) (page : ℕ) (period : Option PeriodView) (old new : List LegView)
+    (result : Option Link) : Type 0 where
   pub legs : new ≡ old ++ reverse (filter (is_kept period) leaf.legs)
   pub link : result ≡ (if is_end period leaf.legs then None else Some (link_back page leaf))

@@ -11,5 +11,6 @@ pub record OnlyReads (old new : Cache) : Type 0 where
   pub length : new.store.count ≡ old.store.count
   pub payloads : IsTrue old.store.is_faithful → (n : ℕ) → payload_of new n ≡ payload_of old n
   pub changed : (n : ℕ) → is_changed old n ≡ false → is_changed new n ≡ false
-  pub written : IsTrue old.store.is_faithful → (n : ℕ) → n < old.count → is_changed old n ≡ false → page_of new n ≡ page_of old n
+  pub written : IsTrue old.store.is_faithful → (n : ℕ) → n < old.count → is_changed old n ≡ false
+      → page_of new n ≡ page_of old n
   pub unwritten : WritesNone old new

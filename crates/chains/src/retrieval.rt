@@ -6,7 +6,7 @@ ghost use Rattle.legs.specs.Index.{legs_of, live_legs_of};
 ghost use Rattle.legs.specs.Legs.{LegView};
 ghost use Rattle.tbtree.specs.Nodes.{pages_of_cache};
 ghost use Rattle.tbtree.specs.Shape.{IsShape};
-ghost use Rattle.chains.specs.Chains.{IsPlaceChain, NamesHeld, walk, walked};
+ghost use Rattle.chains.specs.Chains.{IsPlaceChain, NamesHeld, chain_legs, chain_cost};
 ghost use Rattle.chains.specs.Faults.{IsAllowed, IsCaused, IsOfHeld, Gives};
 ghost use Rattle.chains.specs.Reads.{OnlyReads};
 ghost use Rattle.chains.specs.Trajectory.{HasFeature};
@@ -30,8 +30,8 @@ fn walk_back<S: PageStore>(
     period: &Option<Period>,
 ) -> Result<Vec<Leg>, ChainFault>
     ensures found { IsTrue cache.old.store.is_faithful
-        → IfOk result (λ found. found.items ≡ reverse (walk (pages_of_cache cache.old) period.now
-        (div_ceil place.now.legs shape.now.leaf) place.now.last)) }
+        → IfOk result (λ found. found.items
+        ≡ reverse (chain_legs (pages_of_cache cache.old) period.now shape.now place.now)) }
     ensures chain { IsTrue cache.old.store.is_faithful
         → OnOk result (IsPlaceChain (pages_of_cache cache.old) period.now shape.now place.now) }
     ensures only { IsTrue cache.old.store.is_faithful
@@ -43,12 +43,10 @@ fn walk_back<S: PageStore>(
     ensures caused { IfErr result (IsCaused cache.old cache.new) }
     ensures asked { IsTrue cache.old.store.is_faithful
         → OnOk result (RisesBy cache.old.asked cache.new.asked
-        (walked (pages_of_cache cache.old) period.now (div_ceil place.now.legs shape.now.leaf)
-        place.now.last)) }
+        (chain_cost (pages_of_cache cache.old) period.now shape.now place.now)) }
     ensures within { IsTrue cache.old.store.is_faithful
         → OnOk result (RisesAtMost cache.old.asked cache.new.asked
-        (walked (pages_of_cache cache.old) period.now (div_ceil place.now.legs shape.now.leaf)
-        place.now.last)) }
+        (chain_cost (pages_of_cache cache.old) period.now shape.now place.now)) }
     ensures most { cache.new.asked
         ≤ cache.old.asked + div_ceil place.now.legs shape.now.leaf }
     ensures shape { IsShape shape.now }
@@ -94,9 +92,12 @@ pub fn trajectory<S: PageStore>(
         → OnOk result (RisesBy cache.old.asked cache.new.asked
         (track_cost feature (Some shape.now) legs)) }
 
-    // Of any pages: only a whole chain is answered, and all else is malformed, where the pages named have payloads.
+    // Of any pages: exactly the legs of a whole chain; all else is malformed, where the pages named have payloads.
     ensures chain { IsTrue cache.old.store.is_faithful
         → OnOk result (IsPlaceChain (pages_of_cache cache.old) None shape.now place.now) }
+    ensures legs { IsTrue cache.old.store.is_faithful
+        → IfOk result (λ found. found.items
+        ≡ chain_legs (pages_of_cache cache.old) None shape.now place.now) }
     ensures only { IsTrue cache.old.store.is_faithful
         → IsPlaceChain (pages_of_cache cache.old) None shape.now place.now
         → IfErr result IsAllowed }
@@ -135,10 +136,13 @@ pub fn trajectory_in<S: PageStore>(
         → OnOk result (RisesAtMost cache.old.asked cache.new.asked
         (track_in_bound feature period.now (Some shape.now) legs)) }
 
-    // Of any pages: only a chain is answered, as far as it is read; all else is malformed, as above.
+    // Of any pages: exactly the live legs of a chain, as far as it is read; all else is malformed, as above.
     ensures chain { IsTrue cache.old.store.is_faithful
         → OnOk result (IsPlaceChain (pages_of_cache cache.old) (Some period.now) shape.now
         place.now) }
+    ensures legs { IsTrue cache.old.store.is_faithful
+        → IfOk result (λ found. found.items
+        ≡ chain_legs (pages_of_cache cache.old) (Some period.now) shape.now place.now) }
     ensures only { IsTrue cache.old.store.is_faithful
         → IsPlaceChain (pages_of_cache cache.old) (Some period.now) shape.now place.now
         → IfErr result IsAllowed }

@@ -1,10 +1,9 @@
 use Rattle.std.proofs.Common.{◌<◌, ap, ◌∙◌, arith, Some}
 use Rattle.std.specs.Prelude.{reverse}
-use Rattle.std.specs.Int.{div_ceil}
 use Rattle.std.proofs.lemmas.List.{reverse-reverse}
 use Rattle.std.proofs.lemmas.Result.{err_from_is_err_and}
 use Rattle.tbtree.specs.Nodes.{pages_of_cache}
-use Rattle.chains.specs.Chains.{walk}
+use Rattle.chains.specs.Chains.{chain_legs}
 use Rattle.chains.proofs.PeriodLemmas.{live_walk, few_walked}
 use Rattle.chains.proofs.PlaceLemmas.{whole_chain}
 use Rattle.chains.proofs.retrieval.trajectory_in.Goals as goal
@@ -23,7 +22,7 @@ returns-clause-found g c = λ fa legs f h.
     let period = c.args.period.now in
     let some : 0 < shape.leaf = let least = c.walk_back.ensures.shape.least_leaf in omega (arith, least) in
     c.reverse.ensures.items ∙ ap reverse (c.in_ok-found.ensures.found fa)
-    ∙ reverse-reverse (walk (pages_of_cache old) (Some period) (div_ceil place.legs shape.leaf) place.last)
+    ∙ reverse-reverse (chain_legs (pages_of_cache old) (Some period) shape place)
     ∙ live_walk old shape place f legs some h period
 
 pub returns-clause-asked : goal.returns-clause-asked
@@ -35,3 +34,8 @@ returns-clause-asked g c = λ fa legs f h.
     let asked = c.in_ok-found.ensures.within fa in
     let few = few_walked old shape place f legs some h c.args.period.now in
     omega (arith, asked, few)
+
+pub returns-clause-legs : goal.returns-clause-legs
+returns-clause-legs g c = λ fa.
+    c.reverse.ensures.items ∙ ap reverse (c.in_ok-found.ensures.found fa)
+    ∙ reverse-reverse (chain_legs (pages_of_cache c.args.cache.now) (Some c.args.period.now) c.args.shape.now c.args.place.now)
