@@ -40,7 +40,7 @@ reads_trans a b c p q = record {
 }
 
 caused_in_cache : (a b c : Cache) (e : CacheFault) → OnlyReads a b → IsCausedInCache b c e → IsCausedInCache a c e
-caused_in_cache a b c cache.NoPage p h = tt
+caused_in_cache a b c cache.NoPage p h = h
 caused_in_cache a b c cache.Store p h = omega (arith, h, p.store.faults)
 caused_in_cache a b c (cache.Damaged n) p h = λ f. sym (p.payloads f n) ∙ h (p.store.faithful ∙ f)
 caused_in_cache a b c cache.StoreFull p h = h
@@ -50,3 +50,6 @@ pub caused_after : (a b c : Cache) (e : ChainFault) → OnlyReads a b → IsCaus
 caused_after a b c (OfCache e) p h = caused_in_cache a b c e p h
 caused_after a b c (Malformed n) p h = tt
 caused_after a b c Memory p h = tt
+
+-- what a call after another may cite
+pub ruleset reading = (reads_trans, reads_refl, caused_after)

@@ -9,7 +9,7 @@ use Rattle.legs.specs.Boxes.{BoxView}
 use Rattle.pagecache.specs.Cache.{Cache}
 use Rattle.tbnode.specs.Form.{node_of}
 use Rattle.tbtree.specs.Nodes.{Pages, pages_of_cache, Node, LeafView, ALeaf, AnInner}
-use Rattle.chains.specs.Chains.{IsLinked, IsChain, walk, walked, legs_in, previous_of}
+use Rattle.chains.specs.Chains.{AreHeld, IsLinked, IsChain, walk, walked, legs_in, previous_of}
 use Rattle.chains.specs.Links.{is_kept, is_end, link_back}
 use Rattle.chains.specs.Reads.{OnlyReads}
 use Rattle.chains.specs.declared.leaves.Link.{Link}
@@ -109,3 +109,7 @@ first_linked nodes period most legs first rest n link e h =
 -- one page more was asked for, below the greatest number that is counted
 pub one_more : (a b : ℕ) → b ≡ min (a + 1) (2 ^ 64 - 1) → b < 2 ^ 64 - 1 → (a < 2 ^ 64 - 1) × (b ≡ a + 1)
 one_more a b e l = (omega (arith, e, l), omega (arith, e, l))
+
+-- what is only read has a payload for each page where it had
+pub still_held : (old mid : Cache) → OnlyReads old mid → IsTrue old.store.is_faithful → AreHeld (pages_of_cache old) → AreHeld (pages_of_cache mid)
+still_held old mid r f h p l e = h p (omega (arith, l, r.count)) (sym (same_at old mid r f p) ∙ e)

@@ -72,8 +72,6 @@ chain_legs nodes period shape place = walk nodes period (div_ceil place.legs sha
 abbrev pub chain_cost : Pages LegView BoxView → Option PeriodView → ShapeView → Place → ℕ
 chain_cost nodes period shape place = walked nodes period (div_ceil place.legs shape.leaf) place.last
 
--- the place's last page has a payload, and so has each page that a leaf names as the one before it
-pub record NamesHeld (nodes : Pages LegView BoxView) (place : Place) : Type 0 where
-  pub last : nodes.at place.last ≢ None
-  pub previous : (p : ℕ) (leaf : LeafView LegView) → nodes.at p ≡ Some (Some (ALeaf leaf))
-      → nodes.at leaf.previous ≢ None
+-- each page has a payload
+abbrev pub AreHeld : Pages LegView BoxView → Type 0
+AreHeld nodes = (p : ℕ) → p < nodes.count → nodes.at p ≢ None

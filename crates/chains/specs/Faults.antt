@@ -1,11 +1,19 @@
 -- Refusals.
-use Rattle.std.specs.Prelude.{◌≡◌, Result, MatchResult, None, IsTrue}
+use Rattle.std.specs.Prelude.{ℕ, ◌≡◌, Result, MatchResult, None, IsTrue}
 use Rattle.pages.specs.Store.{Faulted}
 use Rattle.pagecache.specs.Cache.{Cache, payload_of}
 use Rattle.pagecache.specs.declared.fault.CacheFault.{CacheFault}
 use Rattle.pagecache.specs.declared.fault.CacheFault.TheVariants as cache
 use Rattle.chains.specs.declared.fault.ChainFault.{ChainFault}
 use Rattle.chains.specs.declared.fault.ChainFault.TheVariants.{Cache as OfCache, Malformed, Memory}
+
+-- why a page was not lent: that there is none of its number is a fault of the page that named it
+abbrev pub fault_of : ℕ → CacheFault → ChainFault
+fault_of page cache.NoPage = Malformed page
+fault_of page cache.Store = OfCache cache.Store
+fault_of page (cache.Damaged n) = OfCache (cache.Damaged n)
+fault_of page cache.StoreFull = OfCache cache.StoreFull
+fault_of page cache.Memory = OfCache cache.Memory
 
 -- the refusals of a cache that good pages allow where they are only read
 abbrev pub IsAllowedOfCache : CacheFault → Type 0
@@ -21,7 +29,7 @@ IsAllowed (OfCache fault) = IsAllowedOfCache fault
 IsAllowed (Malformed n) = ⊥
 IsAllowed Memory = Unit {0}
 
--- the refusals where each page that is asked for has a payload
+-- the refusals where each page has a payload
 abbrev pub IsOfHeld : ChainFault → Type 0
 IsOfHeld (OfCache fault) = IsAllowedOfCache fault
 IsOfHeld (Malformed n) = Unit {0}
@@ -31,9 +39,9 @@ IsOfHeld Memory = Unit {0}
 abbrev pub Gives : {T : Type 0} → Result T ChainFault → (T → Type 0) → Type 0
 Gives result P = MatchResult result P IsAllowed
 
--- the store failed, or a page has no payload, where that is said; no store is ever said to be full
+-- the store failed, or a page has no payload, where that is said; no page is said to be absent, and no store full
 abbrev pub IsCausedInCache : Cache → Cache → CacheFault → Type 0
-IsCausedInCache old new cache.NoPage = Unit {0}
+IsCausedInCache old new cache.NoPage = ⊥
 IsCausedInCache old new cache.Store = Faulted old.store new.store
 IsCausedInCache old new (cache.Damaged n) = IsTrue old.store.is_faithful → payload_of old n ≡ None
 IsCausedInCache old new cache.StoreFull = ⊥

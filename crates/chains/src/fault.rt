@@ -1,5 +1,6 @@
 //! Why a retrieval is refused.
 ghost use Rattle.std.specs.Prelude.{◌≡◌};
+ghost use Rattle.chains.specs.Faults.{fault_of};
 ghost use Rattle.chains.specs.declared.fault.ChainFault.{ChainFault};
 
 use pagecache::CacheFault;
@@ -20,11 +21,15 @@ pub enum ChainFault {
     Memory,
 }
 
-impl From<CacheFault> for ChainFault {
-    ghost from_gives = { λ fault r. r ≡ ChainFault.Cache fault };
-
-    fn from(fault: CacheFault) -> ChainFault {
-        ChainFault::Cache(fault)
+impl ChainFault {
+    /// Why a page was not lent. That there is none of its number is a fault of the page that named it.
+    pub(crate) fn of(fault: CacheFault, page: u32) -> ChainFault
+        ensures { result ≡ fault_of page fault }
+    {
+        match fault {
+            CacheFault::NoPage => ChainFault::Malformed(page),
+            fault => ChainFault::Cache(fault),
+        }
     }
 }
 

@@ -4,7 +4,7 @@ ghost use Rattle.legs.specs.Legs.{LegView};
 ghost use Rattle.pagecache.specs.Cache.{Cache, AsksOnce};
 ghost use Rattle.tbnode.specs.Form.{node_of};
 ghost use Rattle.tbtree.specs.Nodes.{LeafView, ALeaf, pages_of_cache};
-ghost use Rattle.chains.specs.Chains.{IsLinked};
+ghost use Rattle.chains.specs.Chains.{AreHeld, IsLinked};
 ghost use Rattle.chains.specs.Faults.{IsAllowed, IsCaused, IsOfHeld};
 ghost use Rattle.chains.specs.Links.{Fits, is_kept, is_end};
 ghost use Rattle.chains.specs.Reads.{OnlyReads};
@@ -135,7 +135,7 @@ pub(crate) fn take<S: PageStore>(
     ensures only { IsTrue cache.old.store.is_faithful → (leaf : LeafView LegView)
         → IsLinked (pages_of_cache cache.old) link.now count leaf → IfErr result IsAllowed }
     ensures held { IsTrue cache.old.store.is_faithful
-        → (pages_of_cache cache.old).at link.now.page ≢ None → IfErr result IsOfHeld }
+        → AreHeld (pages_of_cache cache.old) → IfErr result IsOfHeld }
     ensures reads { OnlyReads cache.old cache.new }
     ensures caused { IfErr result (IsCaused cache.old cache.new) }
     ensures asked { OnOk result (AsksOnce cache.old cache.new) }
@@ -144,6 +144,9 @@ pub(crate) fn take<S: PageStore>(
     if link.page == 0 {
         return Err(ChainFault::Malformed(link.next));
     }
-    let payload = cache.page(link.page)?;
+    let payload = match cache.page(link.page) {
+        Ok(payload) => payload,
+        Err(fault) => return Err(ChainFault::of(fault, link.page)),
+    };
     take_node(payload, link, count, period, found)
 }

@@ -6,7 +6,7 @@ ghost use Rattle.legs.specs.Index.{legs_of, live_legs_of};
 ghost use Rattle.legs.specs.Legs.{LegView};
 ghost use Rattle.tbtree.specs.Nodes.{pages_of_cache};
 ghost use Rattle.tbtree.specs.Shape.{IsShape};
-ghost use Rattle.chains.specs.Chains.{IsPlaceChain, NamesHeld, chain_legs, chain_cost};
+ghost use Rattle.chains.specs.Chains.{AreHeld, IsPlaceChain, chain_legs, chain_cost};
 ghost use Rattle.chains.specs.Faults.{IsAllowed, IsCaused, IsOfHeld, Gives};
 ghost use Rattle.chains.specs.Reads.{OnlyReads};
 ghost use Rattle.chains.specs.Trajectory.{HasFeature};
@@ -21,7 +21,7 @@ use tbtree::{Place, Shape};
 use timebase::Period;
 
 /// The kept legs of a chain, from the last leaf back to the first, or to one that starts before the period; in reverse.
-#[tactic(auto, using(crate::proofs::ReadLemmas::reads_trans, crate::proofs::ReadLemmas::reads_refl, crate::proofs::ReadLemmas::caused_after))]
+#[tactic(auto, using(crate::proofs::ReadLemmas::reading))]
 fn walk_back<S: PageStore>(
     alloc: Global,
     cache: &mut PageCache<S>,
@@ -38,7 +38,7 @@ fn walk_back<S: PageStore>(
         → IsPlaceChain (pages_of_cache cache.old) period.now shape.now place.now
         → IfErr result IsAllowed }
     ensures malformed { IsTrue cache.old.store.is_faithful
-        → NamesHeld (pages_of_cache cache.old) place.now → IfErr result IsOfHeld }
+        → AreHeld (pages_of_cache cache.old) → IfErr result IsOfHeld }
     ensures reads { OnlyReads cache.old cache.new }
     ensures caused { IfErr result (IsCaused cache.old cache.new) }
     ensures asked { IsTrue cache.old.store.is_faithful
@@ -76,7 +76,8 @@ fn walk_back<S: PageStore>(
 /// The legs of the feature at a place of a tree of that shape, in the order in which they were accepted.
 ///
 /// A leaf of another feature, with another count of legs than its place in the chain has, or whose `next` or
-/// `previous` is not the chain's, is `Malformed`.
+/// `previous` is not the chain's, is `Malformed`, and so is a page that is named and is not there. What else the cache
+/// refuses is `Cache`; `Memory` is want of memory for the legs.
 pub fn trajectory<S: PageStore>(
     alloc: Global,
     cache: &mut PageCache<S>,
@@ -92,7 +93,7 @@ pub fn trajectory<S: PageStore>(
         → OnOk result (RisesBy cache.old.asked cache.new.asked
         (track_cost feature (Some shape.now) legs)) }
 
-    // Of any pages: exactly the legs of a whole chain; all else is malformed, where the pages named have payloads.
+    // Of any pages: exactly the legs of a whole chain; all else is malformed, where each page has a payload.
     ensures chain { IsTrue cache.old.store.is_faithful
         → OnOk result (IsPlaceChain (pages_of_cache cache.old) None shape.now place.now) }
     ensures legs { IsTrue cache.old.store.is_faithful
@@ -102,7 +103,7 @@ pub fn trajectory<S: PageStore>(
         → IsPlaceChain (pages_of_cache cache.old) None shape.now place.now
         → IfErr result IsAllowed }
     ensures malformed { IsTrue cache.old.store.is_faithful
-        → NamesHeld (pages_of_cache cache.old) place.now → IfErr result IsOfHeld }
+        → AreHeld (pages_of_cache cache.old) → IfErr result IsOfHeld }
 
     // Over any store.
     ensures reads { OnlyReads cache.old cache.new }
@@ -147,7 +148,7 @@ pub fn trajectory_in<S: PageStore>(
         → IsPlaceChain (pages_of_cache cache.old) (Some period.now) shape.now place.now
         → IfErr result IsAllowed }
     ensures malformed { IsTrue cache.old.store.is_faithful
-        → NamesHeld (pages_of_cache cache.old) place.now → IfErr result IsOfHeld }
+        → AreHeld (pages_of_cache cache.old) → IfErr result IsOfHeld }
 
     // Over any store.
     ensures reads { OnlyReads cache.old cache.new }

@@ -5,7 +5,7 @@ use Rattle.tbtree.specs.Nodes.{pages_of_cache}
 use Rattle.chains.specs.Chains.{IsChain, IsLinked, walk, walked}
 use Rattle.chains.specs.Links.{is_end, link_back}
 use Rattle.chains.proofs.ReadLemmas.{reads_trans}
-use Rattle.chains.proofs.StepLemmas.{linked_before, linked_after, goes_on, ends, found_on, found_end, asked_on, asked_end, chain_on, chain_here, chain_end, first_linked, one_more}
+use Rattle.chains.proofs.StepLemmas.{linked_before, linked_after, goes_on, ends, found_on, found_end, asked_on, asked_end, chain_on, chain_here, chain_end, first_linked, one_more, still_held}
 use Rattle.chains.proofs.retrieval.walk_back.Goals as goal
 
 pub leaves-preserved : goal.leaves-preserved
@@ -43,11 +43,6 @@ leaves-preserved g c =
           let s = goes_on (is_end period t.leaf.legs) c.in-Some.back (link_back link.page t.leaf) (sym c.in-Some.is ∙ t.takes.link) in
           let after = subst (λ b. IsChain nodes period shape.leaf legs first rest b) s.1 h in
           inv.back fa (chain_here nodes period link count t.leaf linked rest n less shape.leaf legs first counted (λ _. after));
-      named = λ fa h.
-          let t = c.in_ok-back.ensures.taken (inv.reads.store.faithful ∙ fa) in
-          let linked = linked_before old c.leaves.cache link count t.leaf inv.reads fa t.linked in
-          let s = goes_on (is_end period t.leaf.legs) c.in-Some.back (link_back link.page t.leaf) (sym c.in-Some.is ∙ t.takes.link) in
-          λ e. h.previous link.page t.leaf linked.is (sym (ap (λ b. nodes.at b.page) s.1) ∙ e);
       asked = λ fa l.
           let t = c.in_ok-back.ensures.taken (inv.reads.store.faithful ∙ fa) in
           let linked = linked_before old c.leaves.cache link count t.leaf inv.reads fa t.linked in
@@ -139,3 +134,9 @@ returns-in_default-clause-within g c = λ fa.
     let so_far = inv.within fa in
     let last = asked_end (pages_of_cache old) c.args.period.now link c.legs_of_leaf-count.result t.leaf linked (c.leaves.left - 1) c.leaves.left less s in
     omega (arith, c.take.ensures.most, so_far, last)
+
+pub returns-in_err-back-clause-malformed : goal.returns-in_err-back-clause-malformed
+returns-in_err-back-clause-malformed g c = λ fa h.
+    let p = err_from_is_err_and c.from_residual.result c.from_residual.ensures.1 in
+    let inv = c.leaves.invariant in
+    rw (p.1, p.2) (c.in_err-back.ensures.held (inv.reads.store.faithful ∙ fa) (still_held c.args.cache.now c.leaves.cache inv.reads fa h))
