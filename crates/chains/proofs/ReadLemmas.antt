@@ -1,5 +1,6 @@
 -- One call after another.
 use Rattle.std.proofs.Common.{◌∙◌, refl, sym, arith}
+use Rattle.std.proofs.lemmas.Int.{clamps}
 use Rattle.pagecache.specs.Cache.{Cache}
 use Rattle.pagecache.specs.declared.fault.CacheFault.{CacheFault}
 use Rattle.pagecache.specs.declared.fault.CacheFault.TheVariants as cache
@@ -14,6 +15,7 @@ reads_refl a = record {
   capacity = refl;
   count = refl;
   length = refl;
+  asked = omega (arith, clamps);
   payloads = λ f n. refl;
   changed = λ n u. u;
   written = λ f n h u. refl;
@@ -30,6 +32,7 @@ reads_trans a b c p q = record {
   capacity = q.capacity ∙ p.capacity;
   count = q.count ∙ p.count;
   length = q.length ∙ p.length;
+  asked = omega (arith, clamps, p.asked, q.asked);
   payloads = λ f n. q.payloads (p.store.faithful ∙ f) n ∙ p.payloads f n;
   changed = λ n u. q.changed n (p.changed n u);
   written = λ f n h u. q.written (p.store.faithful ∙ f) n (omega (arith, h, p.count)) (p.changed n u) ∙ p.written f n h u;

@@ -1,5 +1,5 @@
--- What a retrieval leaves of the cache, answered or not, over any store and any pages.
-use Rattle.std.specs.Prelude.{ℕ, ◌≡◌, ◌<◌, false, IsTrue}
+-- What a retrieval leaves of the cache, answered or not, over any pages; of payloads, over a faithful store.
+use Rattle.std.specs.Prelude.{ℕ, ◌≡◌, ◌≤◌, ◌<◌, ◌-◌, ◌^◌, min, false, IsTrue}
 use Rattle.pages.specs.Store as store
 use Rattle.pagecache.specs.Cache.{Cache, payload_of, page_of, is_changed, WritesNone}
 
@@ -9,6 +9,7 @@ pub record OnlyReads (old new : Cache) : Type 0 where
   pub capacity : new.capacity ≡ old.capacity
   pub count : new.count ≡ old.count
   pub length : new.store.count ≡ old.store.count
+  pub asked : min old.asked (2 ^ 64 - 1) ≤ new.asked
   pub payloads : IsTrue old.store.is_faithful → (n : ℕ) → payload_of new n ≡ payload_of old n
   pub changed : (n : ℕ) → is_changed old n ≡ false → is_changed new n ≡ false
   pub written : IsTrue old.store.is_faithful → (n : ℕ) → n < old.count → is_changed old n ≡ false

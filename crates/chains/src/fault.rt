@@ -22,7 +22,7 @@ pub enum ChainFault {
 }
 
 impl ChainFault {
-    /// Why a page was not lent. That there is none of its number is a fault of the page that named it.
+    /// Why a page was not lent. That there is none of its number is said as that page being malformed.
     pub(crate) fn of(fault: CacheFault, page: u32) -> ChainFault
         ensures { result ≡ fault_of page fault }
     {
