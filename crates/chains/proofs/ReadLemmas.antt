@@ -45,7 +45,7 @@ reads_trans a b c p q = record {
 caused_in_cache : (a b c : Cache) (e : CacheFault) → OnlyReads a b → IsCausedInCache b c e → IsCausedInCache a c e
 caused_in_cache a b c cache.NoPage p h = h
 caused_in_cache a b c cache.Store p h = omega (arith, h, p.store.faults)
-caused_in_cache a b c (cache.Damaged n) p h = λ f. sym (p.payloads f n) ∙ h (p.store.faithful ∙ f)
+caused_in_cache a b c (cache.Damaged n) p h = (omega (arith, h.0, p.count), λ f. sym (p.payloads f n) ∙ h.1 (p.store.faithful ∙ f))
 caused_in_cache a b c cache.StoreFull p h = h
 caused_in_cache a b c cache.Memory p h = tt
 

@@ -1,5 +1,5 @@
 -- Refusals.
-use Rattle.std.specs.Prelude.{ℕ, ◌≡◌, Result, MatchResult, None, IsTrue}
+use Rattle.std.specs.Prelude.{ℕ, ◌≡◌, ◌<◌, Result, MatchResult, None, IsTrue}
 use Rattle.pages.specs.Store.{Faulted}
 use Rattle.pagecache.specs.Cache.{Cache, payload_of}
 use Rattle.pagecache.specs.declared.fault.CacheFault.{CacheFault}
@@ -39,11 +39,12 @@ IsOfHeld Memory = Unit {0}
 abbrev pub Gives : {T : Type 0} → Result T ChainFault → (T → Type 0) → Type 0
 Gives result P = MatchResult result P IsAllowed
 
--- the store failed, or a page has no payload, where that is said; no page is said to be absent, and no store full
+-- the store failed, or a page that is there has no payload, where that is said; no page is said to be absent, and no
+-- store full
 abbrev pub IsCausedInCache : Cache → Cache → CacheFault → Type 0
 IsCausedInCache old new cache.NoPage = ⊥
 IsCausedInCache old new cache.Store = Faulted old.store new.store
-IsCausedInCache old new (cache.Damaged n) = IsTrue old.store.is_faithful → payload_of old n ≡ None
+IsCausedInCache old new (cache.Damaged n) = (n < old.count) × (IsTrue old.store.is_faithful → payload_of old n ≡ None)
 IsCausedInCache old new cache.StoreFull = ⊥
 IsCausedInCache old new cache.Memory = Unit {0}
 

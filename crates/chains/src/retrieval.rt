@@ -93,7 +93,8 @@ pub fn trajectory<S: PageStore>(
         → OnOk result (RisesBy cache.old.asked cache.new.asked
         (track_cost feature (Some shape.now) legs)) }
 
-    // Of any pages: exactly the legs of a whole chain; all else is malformed, where each page has a payload.
+    // Of any pages: exactly the legs of a whole chain; all else is refused, as malformed where each page has a payload, if
+    // not for want of memory or a store that failed.
     ensures chain { IsTrue cache.old.store.is_faithful
         → OnOk result (IsPlaceChain (pages_of_cache cache.old) None shape.now place.now) }
     ensures legs { IsTrue cache.old.store.is_faithful
@@ -105,7 +106,7 @@ pub fn trajectory<S: PageStore>(
     ensures malformed { IsTrue cache.old.store.is_faithful
         → AreHeld (pages_of_cache cache.old) → IfErr result IsOfHeld }
 
-    // Over any store.
+    // Over any store; what is said of payloads, over a faithful one.
     ensures reads { OnlyReads cache.old cache.new }
     ensures caused { IfErr result (IsCaused cache.old cache.new) }
     ensures most { cache.new.asked
@@ -119,8 +120,9 @@ pub fn trajectory<S: PageStore>(
 /// The legs of the feature at a place of a tree of that shape that are live in a period, in the order in which they
 /// were accepted.
 ///
-/// Leaves are read from the last one back to the first, or to one whose first leg starts before the period does; the
-/// faults are those of `trajectory`, in the leaves that are read.
+/// Leaves are read from the last one back to the first, or to one whose first leg starts before the period does. The
+/// faults are those of `trajectory`, in the leaves that are read; which leaf is before the one that is read last is not
+/// looked at.
 pub fn trajectory_in<S: PageStore>(
     alloc: Global,
     cache: &mut PageCache<S>,
@@ -137,7 +139,7 @@ pub fn trajectory_in<S: PageStore>(
         → OnOk result (RisesAtMost cache.old.asked cache.new.asked
         (track_in_bound feature period.now (Some shape.now) legs)) }
 
-    // Of any pages: exactly the live legs of a chain, as far as it is read; all else is malformed, as above.
+    // Of any pages: exactly the live legs of a chain, as far as it is read; all else is refused, as above.
     ensures chain { IsTrue cache.old.store.is_faithful
         → OnOk result (IsPlaceChain (pages_of_cache cache.old) (Some period.now) shape.now
         place.now) }
@@ -150,7 +152,7 @@ pub fn trajectory_in<S: PageStore>(
     ensures malformed { IsTrue cache.old.store.is_faithful
         → AreHeld (pages_of_cache cache.old) → IfErr result IsOfHeld }
 
-    // Over any store.
+    // Over any store; what is said of payloads, over a faithful one.
     ensures reads { OnlyReads cache.old cache.new }
     ensures caused { IfErr result (IsCaused cache.old cache.new) }
     ensures most { cache.new.asked

@@ -7,7 +7,7 @@ use Rattle.pagecache.specs.declared.fault.CacheFault.TheVariants as cache
 use Rattle.tbtree.specs.declared.fault.TreeFault.{TreeFault}
 use Rattle.tbtree.specs.declared.fault.TreeFault.TheVariants.{Cache as OfCache, Malformed, Spent}
 
--- why a page was not lent: that there is none of its number is a fault of the page that named it
+-- why a page was not lent: that there is none of its number is said as that page being malformed
 abbrev pub fault_of : ℕ → CacheFault → TreeFault
 fault_of page cache.NoPage = Malformed page
 fault_of page cache.Store = OfCache cache.Store

@@ -21,7 +21,7 @@ pub enum TreeFault {
 }
 
 impl TreeFault {
-    /// Why a page was not lent. That there is none of its number is a fault of the page that named it.
+    /// Why a page was not lent. That there is none of its number is said as that page being malformed.
     pub(crate) fn of(fault: CacheFault, page: u32) -> TreeFault
         ensures { result ≡ fault_of page fault }
     {
