@@ -93,8 +93,8 @@ pub fn trajectory<S: PageStore>(
         → OnOk result (RisesBy cache.old.asked cache.new.asked
         (track_cost feature (Some shape.now) legs)) }
 
-    // Of any pages: exactly the legs of a whole chain; all else is refused, as malformed where each page has a payload, if
-    // not for want of memory or a store that failed.
+    // Of any pages: exactly the legs of a whole chain; all else is refused, where each page has a payload as malformed,
+    // if not for want of memory or a store that failed.
     ensures chain { IsTrue cache.old.store.is_faithful
         → OnOk result (IsPlaceChain (pages_of_cache cache.old) None shape.now place.now) }
     ensures legs { IsTrue cache.old.store.is_faithful
