@@ -31,7 +31,7 @@ any_at q (x ∷ xs) e =
     ]) refl e
 
 -- pages of their own from 1 on and below count are less than count
-few_pages : (xs : List ℕ) (count : ℕ) → 0 < count → ((i a : ℕ) → slice_get xs i ≡ Some a → (0 < a) × (a < count)) → ((i j a : ℕ) → slice_get xs i ≡ Some a → slice_get xs j ≡ Some a → i ≡ j) → length xs < count
+pub few_pages : (xs : List ℕ) (count : ℕ) → 0 < count → ((i a : ℕ) → slice_get xs i ≡ Some a → (0 < a) × (a < count)) → ((i j a : ℕ) → slice_get xs i ≡ Some a → slice_get xs j ≡ Some a → i ≡ j) → length xs < count
 few_pages xs count h within apart =
     let below : (i a : ℕ) → slice_get (0 ∷ xs) i ≡ Some a → a < count = λ i a. elim i as (λ i. slice_get (0 ∷ xs) i ≡ Some a → a < count) [ zero ↦ λ e. (let z : 0 ≡ a = some_same 0 a e in omega (arith, z, h)) | suc i ↦ λ e. (within i a e).1 ] in
     let one : (i j a : ℕ) → slice_get (0 ∷ xs) i ≡ Some a → slice_get (0 ∷ xs) j ≡ Some a → i ≡ j = λ i j a.

@@ -1,5 +1,5 @@
 -- The least box of a list, from its end on.
-use Rattle.std.proofs.Common.{ℕ, zero, suc, ◌≡◌, ◌∙◌, ◌+◌, ◌<◌, List, [], ◌∷◌, drop, length, map, Option, Some, None, slice_get, refl, sym, ap, arith}
+use Rattle.std.proofs.Common.{ℕ, zero, suc, ◌≡◌, ◌∙◌, List, [], ◌∷◌, drop, length, map, Some, None, slice_get, refl, sym, ap, arith}
 use Rattle.legs.specs.Hull.{Boxes, both, hull}
 use Rattle.tbtree.specs.Nodes.{cover_all}
 

@@ -1,12 +1,11 @@
 -- One leg more, as insert's parts state it.
-use Rattle.std.proofs.Common.{ℕ, zero, suc, ◌+◌, ◌^◌, ◌%◌, ◌/◌, ◌<◌, ◌≤◌, ◌≡◌, ◌≢◌, Bool, List, [], ◌∷◌, ◌++◌, take, map, length, refl, sym, ap, ◌∙◌, arith, subst, ⊎_elim, Some, slice_get}
+use Rattle.std.proofs.Common.{ℕ, zero, suc, ◌+◌, ◌^◌, ◌%◌, ◌/◌, ◌<◌, ◌≤◌, ◌≡◌, ◌≢◌, Bool, List, [], ◌∷◌, ◌++◌, map, length, refl, sym, ap, ◌∙◌, arith, subst, ⊎_elim, Some, slice_get}
 use Rattle.std.specs.Prelude.{Result, Ok, Err, OnOk, ◌-◌, ◌*◌, ◌==◌, set, get_or}
 use Rattle.std.specs.List.{count_by}
 use Rattle.std.proofs.lemmas.Bool.{cases_eq, cases_lt}
 use Rattle.std.proofs.Math.Nat.{pow-zero, mod-one, div-one, zero-mod}
 use Rattle.std.proofs.lemmas.List.{length_push, append-nil, append_assoc}
 use Rattle.legs.specs.Index.{CanFollow, CanFollowInTurn}
-use Rattle.legs.specs.Costs.{ShapeView}
 use Rattle.tbnode.specs.Edits.{TakesLeg}
 use Rattle.tbtree.specs.Nodes.{LeafView}
 use Rattle.tbtree.specs.Shape.{IsShape}
@@ -26,7 +25,7 @@ use Rattle.tbtree.specs.declared.tree.Place.{Place}
 use Rattle.legs.specs.Boxes.{BoxView}
 use Rattle.tbtree.specs.declared.tree.TbTree.{TbTree}
 use Rattle.tbtree.proofs.GroupLemmas.{some_none, some_same}
-use Rattle.tbtree.proofs.BeginLemmas.{get-push_last, get-push_other, begin_leaf, zip-second}
+use Rattle.tbtree.proofs.BeginLemmas.{begin_leaf, zip-second}
 use Rattle.tbtree.proofs.Widening.{leaf_inner}
 use Rattle.tbtree.proofs.WiderLemmas.{becomes_held, keep_inner}
 use Rattle.tbtree.proofs.FullLemmas.{one_group}

@@ -24,3 +24,13 @@ pub mod TakeLemmas
 pub mod LevelLemmas
 pub mod InsertLemmas
 pub mod EmptyLemmas
+pub mod KeyRuns
+pub mod OwnRuns
+pub mod OrdinalOrder
+pub mod SortLemmas
+pub mod BlockLevels
+pub mod PageCounts
+pub mod StepDown
+pub mod DescentLemmas
+pub mod LawLemmas
+pub mod LegalLemmas

@@ -1,5 +1,5 @@
 -- One call after another.
-use Rattle.std.proofs.Common.{ℕ, ◌≡◌, ◌≤◌, ◌<◌, ◌∙◌, ◌+◌, refl, arith, false, IsTrue}
+use Rattle.std.proofs.Common.{◌∙◌, refl, arith}
 use Rattle.pages.specs.Store.{Store, Faulted}
 use Rattle.pages.specs.Store as store
 use Rattle.pagecache.specs.Cache.{Cache}

@@ -1,6 +1,6 @@
 -- The way down, step by step.
 use Rattle.std.proofs.Common.{ℕ, suc, ◌+◌, ◌/◌, ◌%◌, ◌^◌, ◌<◌, ◌≤◌, ◌≡◌, ◌≢◌, List, get_or, length, refl, sym, ap, ◌∙◌, arith, subst, ⊎_elim, Some, slice_get}
-use Rattle.std.specs.Prelude.{min, max, Result, Ok, Err, IfOk, IfErr}
+use Rattle.std.specs.Prelude.{Result, Ok, Err, IfOk, IfErr}
 use Rattle.std.proofs.lemmas.Option.{slice_get_within, slice_get-get_or}
 use Rattle.std.proofs.lemmas.Bool.{cases_eq, cases_lt}
 use Rattle.std.proofs.Math.Nat.{div-div-eq-div-mul, pow-suc}
@@ -12,7 +12,6 @@ use Rattle.tbtree.specs.Stands.{page_at, NumbersStand, LevelStands}
 use Rattle.tbtree.specs.Faults.{IsAllowed}
 use Rattle.tbtree.specs.Way.{Wider, IsWidened, Going, IsOnWay}
 use Rattle.tbtree.specs.declared.fault.TreeFault.{TreeFault}
-use Rattle.legs.specs.Hull.{leg_boxes}
 use Rattle.tbtree.proofs.GroupLemmas.{some_none, some_same, get-block}
 use Rattle.tbtree.proofs.Widening.{inner_same}
 use Rattle.tbtree.proofs.WiderLemmas.{becomes_held, keep_inner, widen_level}

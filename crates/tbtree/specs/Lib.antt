@@ -6,3 +6,4 @@ pub mod Shape
 pub mod Stands
 pub mod Way
 pub mod Insert
+pub mod Descent

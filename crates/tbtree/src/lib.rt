@@ -2,6 +2,7 @@
 //! alone, are linked both ways, and are made from left to right.
 #![tactic(auto)]
 
+mod descent;
 mod fault;
 mod insertion;
 mod nodes;
@@ -9,6 +10,7 @@ mod payloads;
 mod shape;
 mod tree;
 
+pub use descent::laws;
 pub use fault::TreeFault;
 pub use insertion::insert;
 pub use shape::Shape;

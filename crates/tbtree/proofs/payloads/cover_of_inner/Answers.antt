@@ -1,4 +1,4 @@
-use Rattle.std.proofs.Common.{ℕ, suc, ◌≡◌, ◌-◌, ◌∙◌, ap, arith, drop, length, Some, slice_get, sym}
+use Rattle.std.proofs.Common.{suc, ◌≡◌, ◌-◌, ◌∙◌, ap, arith, drop, length, Some, sym}
 use Rattle.legs.specs.Boxes.{BoxView, cover_of}
 use Rattle.legs.specs.Hull.{leg_boxes}
 use Rattle.tbtree.specs.Nodes.{EntryView, boxes, cover_all}

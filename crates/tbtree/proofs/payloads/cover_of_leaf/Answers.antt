@@ -1,4 +1,4 @@
-use Rattle.std.proofs.Common.{ℕ, suc, ◌≡◌, ◌-◌, ◌∙◌, ap, arith, drop, length, Some, sym}
+use Rattle.std.proofs.Common.{suc, ◌≡◌, ◌-◌, ◌∙◌, ap, arith, drop, Some, sym}
 use Rattle.legs.specs.Boxes.{cover_of}
 use Rattle.legs.specs.Hull.{hull, leg_boxes}
 use Rattle.tbtree.proofs.CoverLemmas.{hull_at_end, hull_before}

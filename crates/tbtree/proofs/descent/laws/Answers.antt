@@ -1,0 +1,13 @@
+use Rattle.tbtree.proofs.LawLemmas.{content_is, descends, height_is, legs_fit, absent_is}
+use Rattle.tbtree.proofs.LegalLemmas.{content_lawful}
+use Rattle.tbtree.proofs.descent.laws.Goals as goal
+
+pub returns : goal.returns
+returns c = record {
+  content = content_is;
+  lawful = λ cache tree. content_lawful c.laws.ensures.legs cache tree;
+  descends = λ meets nodes tree legs pages prune. descends meets prune nodes tree legs pages;
+  height = height_is;
+  fits = legs_fit;
+  absent = absent_is;
+}

@@ -1,0 +1,93 @@
+-- The way down from a tree's root: the pages that are met and the legs that they have, for any pages.
+use Rattle.std.specs.Prelude.{ℕ, zero, suc, ◌≡◌, ◌+◌, ◌<◌, ◌≤◌, Bool, true, false, cond, nat_lt, List, [], ◌∷◌, map, filter, length, Option, Some, None}
+use Rattle.std.specs.List.{flat_map, All}
+use Rattle.std.specs.List.Sorted.{IsPermutation, IsNonDecreasingBy}
+use Rattle.legs.specs.Legs.{LegView}
+use Rattle.legs.specs.Boxes.{BoxView, box_of}
+use Rattle.legs.specs.Costs.{cost, leaves_of}
+use Rattle.legs.specs.Hull.{Boxes, leg_boxes}
+use Rattle.tbtree.specs.Nodes.{Pages, Node, ALeaf, AnInner, EntryView, InnerView, HasLeaf}
+use Rattle.tbtree.specs.declared.tree.TbTree.{TbTree}
+
+module _ {L B : Type 0} where
+  -- the entries of a page, if it is an inner one
+  abbrev pub entries_in : Option (Option (Node L B)) → List (EntryView B)
+  entries_in (Some (Some (AnInner page))) = page.entries
+  entries_in (Some (Some (ALeaf leaf))) = []
+  entries_in (Some None) = []
+  entries_in None = []
+
+  -- the legs of a page, if it is a leaf
+  abbrev pub legs_in : Option (Option (Node L B)) → List L
+  legs_in (Some (Some (ALeaf leaf))) = leaf.legs
+  legs_in (Some (Some (AnInner page))) = []
+  legs_in (Some None) = []
+  legs_in None = []
+
+module _ {L B : Type 0} (meets : B → Bool) (nodes : Pages L B) where
+  -- the children of a page whose boxes meet
+  unfoldable pub children_met : ℕ → List ℕ
+  children_met p = map (λ e. e.child) (filter (λ e. meets e.bounds) (entries_in (nodes.at p)))
+
+  -- the pages that are met n levels below the root
+  abbrev pub pages_met : ℕ → ℕ → List ℕ
+  pages_met root zero = root ∷ []
+  pages_met root (suc n) = flat_map children_met (pages_met root n)
+
+  -- how many are met on the first n levels
+  abbrev pub met_count : ℕ → ℕ → ℕ
+  met_count root zero = 0
+  met_count root (suc n) = met_count root n + length (pages_met root n)
+
+module _ {L B : Type 0} (s : Boxes L B) (meets : B → Bool) (nodes : Pages L B) where
+  -- the legs of a page whose boxes meet
+  abbrev pub hits : ℕ → List L
+  hits p = filter (λ leg. meets (s.of leg)) (legs_in (nodes.at p))
+
+  -- those of the pages that are met on the last level
+  abbrev pub legs_met : ℕ → ℕ → List L
+  legs_met root zero = []
+  legs_met root (suc n) = flat_map hits (pages_met meets nodes root n)
+
+-- the legs in the order of their ordinals
+pub record IsInOrder (found sorted : List LegView) : Type 0 where
+  pub same : IsPermutation found sorted
+  pub rises : IsNonDecreasingBy (λ leg. leg.ordinal) sorted
+
+-- a leg put among legs, before the first one of a higher ordinal
+abbrev pub insert_by_ordinal : LegView → List LegView → List LegView
+insert_by_ordinal leg [] = leg ∷ []
+insert_by_ordinal leg (other ∷ legs) =
+    cond (nat_lt leg.ordinal other.ordinal) (leg ∷ other ∷ legs) (other ∷ insert_by_ordinal leg legs)
+
+abbrev pub sort_by_ordinal : List LegView → List LegView
+sort_by_ordinal [] = []
+sort_by_ordinal (leg ∷ legs) = insert_by_ordinal leg (sort_by_ordinal legs)
+
+-- the content of a tree, whatever its pages hold: the legs of all leaves below the root, in the order of their ordinals
+unfoldable pub content_of : Pages LegView BoxView → TbTree → List LegView
+content_of nodes tree = sort_by_ordinal (legs_met leg_boxes (λ _. true) nodes tree.root tree.levels)
+
+-- the page p is an inner page of the level
+pub record HasInner {L B : Type 0} (nodes : Pages L B) (p level : ℕ) : Type 0 where
+  pub above : 0 < p
+  pub page : InnerView B
+  pub is : nodes.at p ≡ Some (Some (AnInner page))
+  pub level_is : page.level ≡ level
+
+-- what does not meet the least box that holds two boxes meets neither of them
+abbrev pub IsPruning : {L B : Type 0} → Boxes L B → (B → Bool) → Type 0
+IsPruning {B = B} s meets = (p q : B) → meets (s.cover p q) ≡ false → (meets p ≡ false) × (meets q ≡ false)
+
+-- the way down by a test of boxes, over pages that stand for legs
+pub record Descends (meets : BoxView → Bool) (nodes : Pages LegView BoxView) (tree : TbTree) (legs : List LegView) : Type 0 where
+  -- it finds the legs whose boxes meet
+  pub found : (sorted : List LegView) → IsInOrder (legs_met leg_boxes meets nodes tree.root tree.levels) sorted
+      → sorted ≡ filter (λ leg. meets (box_of leg)) legs
+  -- by one page for the root and one for each other block whose box meets
+  pub asked : met_count meets nodes tree.root tree.levels ≡ cost leg_boxes meets tree.shape.inner (leaves_of tree.shape legs)
+  -- each page on it is an inner page of its level, or a leaf at its end
+  pub inners : (n k : ℕ) → n + suc (suc k) ≡ tree.levels → All (λ p. HasInner nodes p (suc k)) (pages_met meets nodes tree.root n)
+  pub leaves : (n : ℕ) → suc n ≡ tree.levels → All (λ p. HasLeaf nodes p) (pages_met meets nodes tree.root n)
+  -- and there are more pages than are met
+  pub fewer : (n : ℕ) → n ≤ tree.levels → met_count meets nodes tree.root n < nodes.count

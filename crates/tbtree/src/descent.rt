@@ -1,0 +1,46 @@
+//! What holds of the pages of a tree.
+ghost use Rattle.std.specs.Prelude.{ℕ, [], List, Bool, ◌≡◌, ◌<◌, ◌*◌, ◌-◌, ◌≤◌, All, length};
+ghost use Rattle.legs.specs.Boxes.{BoxView};
+ghost use Rattle.legs.specs.Costs.{height, leaves_of};
+ghost use Rattle.legs.specs.Hull.{leg_boxes};
+ghost use Rattle.legs.specs.Index.{legs_of};
+ghost use Rattle.legs.specs.Legs.{IsLeg, LegView};
+ghost use Rattle.pagecache.specs.Cache.{Cache};
+ghost use Rattle.tbtree.specs.Descent.{content_of, Descends, IsPruning};
+ghost use Rattle.tbtree.specs.Insert.{IsPlace, Stands};
+ghost use Rattle.tbtree.specs.Nodes.{Pages, pages_of_cache};
+ghost use Rattle.tbtree.specs.Shape.{IsShape};
+ghost use Rattle.tbtree.specs.Stands.{no_place};
+ghost use Rattle.tbtree.specs.declared.tree.TbTree.{TbTree};
+
+/// What holds of pages that stand for legs, for the proofs of a caller. It does nothing.
+pub fn laws()
+    // The content of pages that stand for legs is those legs, and the legs of any content are lawful.
+    ensures content { (nodes : Pages LegView BoxView) (tree : TbTree) (legs : List LegView)
+        (pages : ℕ → List ℕ) → IsShape tree.shape → Stands nodes tree legs pages
+        → content_of nodes tree ≡ legs }
+    ensures lawful { (cache : Cache) (tree : TbTree)
+        → All IsLeg (content_of (pages_of_cache cache) tree) }
+
+    // A way down by a test of boxes finds the legs whose boxes meet.
+    ensures descends { (meets : BoxView → Bool) (nodes : Pages LegView BoxView) (tree : TbTree)
+        (legs : List LegView) (pages : ℕ → List ℕ) → IsPruning leg_boxes meets
+        → IsShape tree.shape → Stands nodes tree legs pages → Descends meets nodes tree legs }
+
+    // The root is as high as the legs say.
+    ensures height { (nodes : Pages LegView BoxView) (tree : TbTree) (legs : List LegView)
+        (pages : ℕ → List ℕ) → IsShape tree.shape → Stands nodes tree legs pages
+        → tree.levels - 1 ≡ height tree.shape.inner (leaves_of tree.shape legs) }
+
+    // The legs fit into the pages.
+    ensures fits { (nodes : Pages LegView BoxView) (tree : TbTree) (legs : List LegView)
+        (pages : ℕ → List ℕ) → IsShape tree.shape → Stands nodes tree legs pages
+        → length legs ≤ nodes.count * tree.shape.leaf }
+
+    // A feature without legs has no leaf.
+    ensures absent { (nodes : Pages LegView BoxView) (tree : TbTree) (legs : List LegView)
+        (pages : ℕ → List ℕ) (feature : ℕ) → IsShape tree.shape → Stands nodes tree legs pages
+        → legs_of feature legs ≡ [] → IsPlace tree legs pages feature no_place }
+{
+    tbnode::laws();
+}
