@@ -1,0 +1,4 @@
+pub mod ReadLemmas
+pub mod PushLemmas
+pub mod SameLemmas
+pub mod WayLemmas

@@ -1,0 +1,110 @@
+-- The way down, a level at a time.
+use Rattle.std.proofs.Common.{ℕ, zero, suc, ◌≡◌, ◌+◌, ◌<◌, ◌≤◌, List, length, sym, ap, ◌∙◌, arith, subst, Some, slice_get, All, inl, inr}
+use Rattle.std.specs.Prelude.{IsTrue}
+use Rattle.std.specs.List.{flat_map}
+use Rattle.std.proofs.lemmas.List.Elements.{All-same}
+use Rattle.legs.specs.Boxes.{BoxView}
+use Rattle.legs.specs.Hull.{leg_boxes}
+use Rattle.legs.specs.Legs.{LegView}
+use Rattle.pagecache.specs.Cache.{Cache}
+use Rattle.chains.specs.Reads.{OnlyReads}
+use Rattle.tbtree.specs.Descent.{children_met, hits, pages_met, met_count, legs_met, HasInner}
+use Rattle.tbtree.specs.Nodes.{Pages, pages_of_cache, HasLeaf}
+use Rattle.boxsearch.specs.Faults.{IsAllowed, IsCaused, IfMalformed}
+use Rattle.boxsearch.specs.Way.{meets, IsOnLevel, IsWay, IsOffWay}
+use Rattle.boxsearch.specs.declared.fault.SearchFault.{SearchFault}
+use Rattle.boxsearch.specs.declared.fault.SearchFault.TheVariants.{Cache as OfCache, Malformed, Spent, Memory}
+use Rattle.boxsearch.proofs.SameLemmas.{below_same, hits_same, inner_after, leaf_after}
+
+-- what is said of a page that is malformed says another thing too
+pub malformed_then : (P Q : ℕ → Type 0) (fault : SearchFault) → ((n : ℕ) → P n → Q n) → IfMalformed P fault → IfMalformed Q fault
+malformed_then P Q (OfCache fault) f h = tt
+malformed_then P Q (Malformed n) f h = f n h
+malformed_then P Q Spent f h = tt
+malformed_then P Q Memory f h = tt
+
+pub malformed_is : (Q : ℕ → Type 0) (fault : SearchFault) (page : ℕ) → fault ≡ Malformed page → Q page → IfMalformed Q fault
+malformed_is Q fault page e h = subst (IfMalformed Q) (sym e) h
+
+pub malformed_caused : (old new : Cache) (fault : SearchFault) (page : ℕ) → fault ≡ Malformed page → IsCaused old new fault
+malformed_caused old new fault page e = subst (IsCaused old new) (sym e) tt
+
+module _ (a b : Cache) (reads : OnlyReads a b) (fa : IsTrue a.store.is_faithful) (query : BoxView) (root : ℕ) where
+  -- the pages of the next level
+  pub level_down : (n j : ℕ) (now below : List ℕ) → j ≡ suc n → now ≡ pages_met (meets query) (pages_of_cache a) root n
+      → below ≡ flat_map (children_met (meets query) (pages_of_cache b)) now → below ≡ pages_met (meets query) (pages_of_cache a) root j
+  level_down n j now below s e h =
+      h ∙ below_same a b reads fa (meets query) now
+      ∙ ap (flat_map (children_met (meets query) (pages_of_cache a))) e
+      ∙ sym (ap (pages_met (meets query) (pages_of_cache a) root) s)
+
+  -- the legs of the last one
+  pub level_legs : (n levels : ℕ) (now : List ℕ) (found : List LegView) → levels ≡ suc n → now ≡ pages_met (meets query) (pages_of_cache a) root n
+      → found ≡ flat_map (hits leg_boxes (meets query) (pages_of_cache b)) now → found ≡ legs_met leg_boxes (meets query) (pages_of_cache a) root levels
+  level_legs n levels now found s e h =
+      h ∙ hits_same a b reads fa (meets query) now
+      ∙ ap (flat_map (hits leg_boxes (meets query) (pages_of_cache a))) e
+      ∙ sym (ap (legs_met leg_boxes (meets query) (pages_of_cache a) root) s)
+
+  module _ (levels : ℕ) where
+    pub inners_on_way : (n k : ℕ) (now : List ℕ) → 0 < k → n + suc k ≡ levels → now ≡ pages_met (meets query) (pages_of_cache a) root n
+        → IsWay query (pages_of_cache a) root levels → All (λ p. HasInner (pages_of_cache b) p k) now
+    inners_on_way n zero now some l e way = absurd (omega (arith, some))
+    inners_on_way n (suc k) now some l e way =
+        let all = All-same (λ p. HasInner (pages_of_cache a) p (suc k)) now _ e (way.fit n (suc k) l) in
+        λ i d w. inner_after a b reads fa _ (suc k) (all i d w)
+
+    pub leaves_on_way : (n : ℕ) (now : List ℕ) → n + 1 ≡ levels → now ≡ pages_met (meets query) (pages_of_cache a) root n
+        → IsWay query (pages_of_cache a) root levels → All (λ p. HasLeaf (pages_of_cache b) p) now
+    leaves_on_way n now l e way =
+        let all = All-same (λ p. HasLeaf (pages_of_cache a) p) now _ e (way.fit n 0 l) in
+        λ i d w. leaf_after a b reads fa _ (all i d w)
+
+    pub inner_off_way : (n k i p : ℕ) (now : List ℕ) → 0 < k → n + suc k ≡ levels → now ≡ pages_met (meets query) (pages_of_cache a) root n
+        → slice_get now i ≡ Some p → (HasInner (pages_of_cache b) p k → ⊥) → IsOffWay query (pages_of_cache a) root levels p
+    inner_off_way n zero i p now some l e at no = absurd (omega (arith, some))
+    inner_off_way n (suc k) i p now some l e at no = record {
+      n = n;
+      k = suc k;
+      level_is = l;
+      place = i;
+      met = ap (λ xs. slice_get xs i) (sym e) ∙ at;
+      wrong = inl (λ h. no (inner_after a b reads fa p (suc k) h));
+    }
+
+    pub leaf_off_way : (n i p : ℕ) (now : List ℕ) → n + 1 ≡ levels → now ≡ pages_met (meets query) (pages_of_cache a) root n
+        → slice_get now i ≡ Some p → (HasLeaf (pages_of_cache b) p → ⊥) → IsOffWay query (pages_of_cache a) root levels p
+    leaf_off_way n i p now l e at no = record {
+      n = n;
+      k = 0;
+      level_is = l;
+      place = i;
+      met = ap (λ xs. slice_get xs i) (sym e) ∙ at;
+      wrong = inl (λ h. no (leaf_after a b reads fa p h));
+    }
+
+-- more pages are met than there are
+module _ (query : BoxView) (nodes : Pages LegView BoxView) (root levels : ℕ) where
+  pub many_off_way : (n k i p : ℕ) (now : List ℕ) → n + suc k ≡ levels → now ≡ pages_met (meets query) nodes root n
+      → slice_get now i ≡ Some p → nodes.count < met_count (meets query) nodes root n + length now → IsOffWay query nodes root levels p
+  many_off_way n k i p now l e at many = record {
+    n = n;
+    k = k;
+    level_is = l;
+    place = i;
+    met = ap (λ xs. slice_get xs i) (sym e) ∙ at;
+    wrong = inr (let same = ap (λ (xs : List ℕ). length xs) e in omega (arith, many, same));
+  }
+
+  pub few_on_way : (n : ℕ) (now : List ℕ) → suc n ≤ levels → now ≡ pages_met (meets query) nodes root n
+      → IsWay query nodes root levels → met_count (meets query) nodes root n + length now ≤ nodes.count
+  few_on_way n now l e way =
+      let same = ap (λ (xs : List ℕ). length xs) e in
+      let few = way.few (suc n) l in
+      omega (arith, same, few)
+
+  -- so many are met with those of one level more
+  pub counted : (n j : ℕ) (now : List ℕ) → j ≡ suc n → now ≡ pages_met (meets query) nodes root n
+      → met_count (meets query) nodes root j ≡ met_count (meets query) nodes root n + length now
+  counted n j now s e =
+      ap (met_count (meets query) nodes root) s ∙ ap (λ (xs : List ℕ). met_count (meets query) nodes root n + length xs) (sym e)

@@ -1,0 +1,16 @@
+use Rattle.std.proofs.Common.{◌≡◌, ◌+◌, ◌-◌, ◌^◌, ◌≤◌, ◌<◌, take}
+use Rattle.std.specs.Prelude.{IsTrue}
+use Rattle.std.specs.List.{flat_map}
+use Rattle.chains.specs.Reads.{OnlyReads}
+use Rattle.tbtree.specs.Descent.{children_met}
+use Rattle.tbtree.specs.Nodes.{pages_of_cache}
+use Rattle.boxsearch.specs.Way.{meets}
+use Rattle.boxsearch.proofs.descent.next_level.Given as goal
+
+abbrev pub invariant-loop-page : goal.invariant-loop-page
+invariant-loop-page g l = record {
+  reads : OnlyReads l.initial.cache l.cache;
+  found : IsTrue l.initial.cache.store.is_faithful → l.below.items ≡ flat_map (children_met (meets l.query) (pages_of_cache l.initial.cache)) (take l.page-index l.pages);
+  asked : l.cache.asked < 2 ^ 64 - 1 → l.cache.asked ≡ l.initial.cache.asked + l.page-index;
+  most : l.cache.asked ≤ l.initial.cache.asked + l.page-index;
+}

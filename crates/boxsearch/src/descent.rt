@@ -1,0 +1,188 @@
+//! The search, level by level.
+ghost use Rattle.std.specs.Prelude.{ℕ, ◌≡◌, ◌≢◌, ◌+◌, ◌-◌, ◌<◌, ◌≤◌, List, Some, Err, true, false, length, slice_get, OnOk, IfOk, IfErr, IsTrue};
+ghost use Rattle.std.specs.List.{All, flat_map};
+ghost use Rattle.legs.specs.Costs.{RisesBy, RisesAtMost, search_cost};
+ghost use Rattle.legs.specs.Hull.{leg_boxes};
+ghost use Rattle.legs.specs.Index.{legs_in_box};
+ghost use Rattle.legs.specs.Legs.{LegView};
+ghost use Rattle.chains.specs.Reads.{OnlyReads};
+ghost use Rattle.tbtree.specs.Descent.{children_met, hits, legs_met, met_count, HasInner, IsInOrder};
+ghost use Rattle.tbtree.specs.Insert.{Stands};
+ghost use Rattle.tbtree.specs.Nodes.{pages_of_cache, HasLeaf};
+ghost use Rattle.boxsearch.specs.Faults.{Gives, IsAllowed, IsCaused, IfMalformed};
+ghost use Rattle.boxsearch.specs.Way.{meets, IsWay, IsOffWay};
+ghost use Rattle.boxsearch.specs.declared.fault.SearchFault.{SearchFault};
+
+use crate::fault::SearchFault;
+use crate::nodes::{push_children, push_legs};
+use legs::{Box3, Leg};
+use pagecache::PageCache;
+use pages::PageStore;
+use std::alloc::Global;
+use tbtree::TbTree;
+
+/// The pages of the next level whose boxes meet.
+#[tactic(auto, using(crate::proofs::ReadLemmas::reading))]
+fn next_level<S: PageStore>(
+    alloc: Global,
+    cache: &mut PageCache<S>,
+    pages: &[u32],
+    level: u32,
+    query: &Box3,
+) -> Result<Vec<u32>, SearchFault>
+    ensures found { IsTrue cache.old.store.is_faithful
+        → IfOk result (λ below. below.items
+        ≡ flat_map (children_met (meets query.now) (pages_of_cache cache.old)) pages.now) }
+    ensures only { IsTrue cache.old.store.is_faithful
+        → All (λ p. HasInner (pages_of_cache cache.old) p level) pages.now → IfErr result IsAllowed }
+    ensures malformed { IsTrue cache.old.store.is_faithful
+        → IfErr result (IfMalformed (λ n. (i : ℕ) × (slice_get pages.now i ≡ Some n)
+        × (HasInner (pages_of_cache cache.old) n level → ⊥))) }
+    ensures reads { OnlyReads cache.old cache.new }
+    ensures caused { IfErr result (IsCaused cache.old cache.new) }
+    ensures asked { OnOk result (RisesBy cache.old.asked cache.new.asked (length pages.now)) }
+    ensures most { cache.new.asked ≤ cache.old.asked + length pages.now }
+{
+    let mut below = Vec::new(alloc);
+    for page in pages {
+        push_children(cache, *page, level, query, &mut below)?;
+    }
+    Ok(below)
+}
+
+/// The legs of some leaves whose boxes meet.
+#[tactic(auto, using(crate::proofs::ReadLemmas::reading))]
+fn legs_in<S: PageStore>(
+    alloc: Global,
+    cache: &mut PageCache<S>,
+    pages: &[u32],
+    query: &Box3,
+) -> Result<Vec<Leg>, SearchFault>
+    ensures found { IsTrue cache.old.store.is_faithful
+        → IfOk result (λ found. found.items
+        ≡ flat_map (hits leg_boxes (meets query.now) (pages_of_cache cache.old)) pages.now) }
+    ensures only { IsTrue cache.old.store.is_faithful
+        → All (λ p. HasLeaf (pages_of_cache cache.old) p) pages.now → IfErr result IsAllowed }
+    ensures malformed { IsTrue cache.old.store.is_faithful
+        → IfErr result (IfMalformed (λ n. (i : ℕ) × (slice_get pages.now i ≡ Some n)
+        × (HasLeaf (pages_of_cache cache.old) n → ⊥))) }
+    ensures reads { OnlyReads cache.old cache.new }
+    ensures caused { IfErr result (IsCaused cache.old cache.new) }
+    ensures asked { OnOk result (RisesBy cache.old.asked cache.new.asked (length pages.now)) }
+    ensures most { cache.new.asked ≤ cache.old.asked + length pages.now }
+{
+    let mut found = Vec::new(alloc);
+    for page in pages {
+        push_legs(cache, *page, query, &mut found)?;
+    }
+    Ok(found)
+}
+
+/// Takes pages from the number of those that may still be asked for.
+fn spend(left: &mut usize, pages: &[u32]) -> Result<(), SearchFault>
+    ensures ok { OnOk result (left.new + length pages.now ≡ left.old) }
+    ensures err { IfErr result (λ fault. (left.old < length pages.now)
+        × (page : ℕ) × (slice_get pages.now left.old ≡ Some page)
+        × (fault ≡ SearchFault.Malformed page)) }
+{
+    if *left < pages.len() {
+        return Err(SearchFault::Malformed(pages[*left]));
+    }
+    *left -= pages.len();
+    Ok(())
+}
+
+/// The legs whose boxes meet, leaf by leaf.
+#[tactic(auto, using(crate::proofs::ReadLemmas::reading))]
+fn collected<S: PageStore>(
+    alloc: Global,
+    cache: &mut PageCache<S>,
+    tree: &TbTree,
+    query: &Box3,
+) -> Result<Vec<Leg>, SearchFault>
+    requires levels { 0 < tree.now.levels }
+    ensures found { IsTrue cache.old.store.is_faithful
+        → IfOk result (λ found. found.items
+        ≡ legs_met leg_boxes (meets query.now) (pages_of_cache cache.old) tree.now.root
+        tree.now.levels) }
+    ensures only { IsTrue cache.old.store.is_faithful
+        → IsWay query.now (pages_of_cache cache.old) tree.now.root tree.now.levels
+        → IfErr result IsAllowed }
+    ensures malformed { IsTrue cache.old.store.is_faithful
+        → IfErr result (IfMalformed (IsOffWay query.now (pages_of_cache cache.old) tree.now.root
+        tree.now.levels)) }
+    ensures reads { OnlyReads cache.old cache.new }
+    ensures caused { IfErr result (IsCaused cache.old cache.new) }
+    ensures asked { IsTrue cache.old.store.is_faithful
+        → OnOk result (RisesBy cache.old.asked cache.new.asked
+        (met_count (meets query.now) (pages_of_cache cache.old) tree.now.root tree.now.levels)) }
+    ensures most { cache.new.asked ≤ cache.old.asked + cache.old.count }
+{
+    let mut left = cache.count() as usize;
+    let mut pages = Vec::new(alloc);
+    pages.push(tree.root)?;
+    spend(&mut left, &pages)?;
+    for level in 1..tree.levels {
+        pages = next_level(alloc, cache, &pages, tree.levels - level, query)?;
+        spend(&mut left, &pages)?;
+    }
+    legs_in(alloc, cache, &pages, query)
+}
+
+/// The legs of a tree whose boxes meet a box, each once, in the order in which they were accepted.
+///
+/// Pages are read level by level from the root down. A page that is not the inner page or the leaf that the tree
+/// expects there is `Malformed`, and so is the first page that would be read beyond as many as the store has. What
+/// else the cache refuses is `Cache`; `Memory` is want of memory for the legs or the numbers of pages. A spent tree is
+/// `Spent`.
+#[tactic(auto, using(crate::proofs::ReadLemmas::reading))]
+pub fn search<S: PageStore>(
+    alloc: Global,
+    cache: &mut PageCache<S>,
+    tree: &TbTree,
+    query: &Box3,
+) -> Result<Vec<Leg>, SearchFault>
+    // Of pages that stand for a list: exactly its legs whose boxes meet; only a failed store and want of memory refuse.
+    ensures found { tree.now.spent ≡ false → IsTrue cache.old.store.is_faithful
+        → (legs : List LegView) (pages : ℕ → List ℕ)
+        → Stands (pages_of_cache cache.old) tree.now legs pages
+        → Gives result (λ found. found.items ≡ legs_in_box query.now legs) }
+    ensures asked { IsTrue cache.old.store.is_faithful
+        → (legs : List LegView) (pages : ℕ → List ℕ)
+        → Stands (pages_of_cache cache.old) tree.now legs pages
+        → OnOk result (RisesBy cache.old.asked cache.new.asked
+        (search_cost query.now (Some tree.now.shape) legs)) }
+
+    // Of any pages: the legs of the pages that are met, in order; where each of those is what the tree expects, nothing
+    // else refuses, and a page that is said to be malformed is one that is not.
+    ensures met { IsTrue cache.old.store.is_faithful
+        → IfOk result (λ found. IsInOrder (legs_met leg_boxes (meets query.now)
+        (pages_of_cache cache.old) tree.now.root tree.now.levels) found.items) }
+    ensures only { tree.now.spent ≡ false → IsTrue cache.old.store.is_faithful
+        → IsWay query.now (pages_of_cache cache.old) tree.now.root tree.now.levels
+        → IfErr result IsAllowed }
+    ensures malformed { IsTrue cache.old.store.is_faithful
+        → IfErr result (IfMalformed (IsOffWay query.now (pages_of_cache cache.old) tree.now.root
+        tree.now.levels)) }
+    ensures met_asked { IsTrue cache.old.store.is_faithful
+        → OnOk result (RisesBy cache.old.asked cache.new.asked
+        (met_count (meets query.now) (pages_of_cache cache.old) tree.now.root tree.now.levels)) }
+
+    // Over any store.
+    ensures spent { tree.now.spent ≡ true
+        → (result ≡ Err SearchFault.Spent) × (cache.new ≡ cache.old) }
+    ensures reads { OnlyReads cache.old cache.new }
+    ensures caused { IfErr result (IsCaused cache.old cache.new) }
+    ensures most { cache.new.asked ≤ cache.old.asked + cache.old.count }
+{
+    if tree.spent {
+        return Err(SearchFault::Spent);
+    }
+    if tree.levels == 0 {
+        return Ok(Vec::new(alloc));
+    }
+    tbtree::laws();
+    let mut found = collected(alloc, cache, tree, query)?;
+    found.sort_by_key(|leg: &Leg| leg.ordinal)?;
+    Ok(found)
+}

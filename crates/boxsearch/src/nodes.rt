@@ -1,0 +1,161 @@
+//! One page on the way down.
+ghost use Rattle.std.specs.Prelude.{◌≡◌, ◌≤◌, ◌+◌, ◌++◌, filter, map, OnOk, IfErr, IsTrue, Some};
+ghost use Rattle.legs.specs.Boxes.{BoxView, box_of, boxes_meet};
+ghost use Rattle.legs.specs.Hull.{leg_boxes};
+ghost use Rattle.legs.specs.Legs.{LegView};
+ghost use Rattle.pagecache.specs.Cache.{Cache, AsksOnce};
+ghost use Rattle.tbnode.specs.Form.{node_of};
+ghost use Rattle.chains.specs.Reads.{OnlyReads};
+ghost use Rattle.tbtree.specs.Descent.{children_met, entries_in, hits, legs_in, HasInner};
+ghost use Rattle.tbtree.specs.Nodes.{pages_of_cache, AnInner, ALeaf, InnerView, LeafView, HasLeaf};
+ghost use Rattle.boxsearch.specs.Faults.{IsAllowed, IsCaused, IfMalformed};
+ghost use Rattle.boxsearch.specs.Way.{meets};
+
+use crate::fault::SearchFault;
+use legs::{Box3, Leg};
+use pagecache::PageCache;
+use pages::{PageStore, Payload};
+use std::alloc::AllocError;
+use tbnode::{Inner, Leaf};
+
+/// Adds the children whose boxes meet.
+fn push_entries(inner: &Inner<'_>, query: &Box3, found: &mut Vec<u32>) -> Result<(), AllocError>
+    ensures { OnOk result (found.new.items
+        ≡ found.old.items ++ map (λ e. e.child) (filter (λ e. boxes_meet e.bounds query.now)
+        inner.now.entries)) }
+{
+    for i in 0..inner.len() {
+        let entry = inner.entry(i);
+        if entry.bounds.meets(query) {
+            found.push(entry.child)?;
+        }
+    }
+    Ok(())
+}
+
+/// Adds the legs whose boxes meet.
+fn push_hits(leaf: &Leaf<'_>, query: &Box3, found: &mut Vec<Leg>) -> Result<(), AllocError>
+    ensures { OnOk result (found.new.items
+        ≡ found.old.items ++ filter (λ leg. boxes_meet (box_of leg) query.now) leaf.now.legs) }
+{
+    for i in 0..leaf.len() {
+        let leg = leaf.leg(i);
+        if Box3::of(&leg).meets(query) {
+            found.push(leg)?;
+        }
+    }
+    Ok(())
+}
+
+/// Adds the children of a payload whose boxes meet, if it is an inner page of that level.
+fn push_inner(
+    payload: &Payload,
+    page: u32,
+    level: u32,
+    query: &Box3,
+    found: &mut Vec<u32>,
+) -> Result<(), SearchFault>
+    ensures pushed { OnOk result (found.new.items
+        ≡ found.old.items ++ map (λ e. e.child) (filter (λ e. boxes_meet e.bounds query.now)
+        (entries_in (Some (node_of payload.now))))) }
+    ensures only { (inner : InnerView BoxView) → node_of payload.now ≡ Some (AnInner inner)
+        → inner.level ≡ level → IfErr result IsAllowed }
+    ensures malformed { IfErr result (IfMalformed (λ n. (n ≡ page)
+        × ((inner : InnerView BoxView) → node_of payload.now ≡ Some (AnInner inner)
+        → inner.level ≡ level → ⊥))) }
+    ensures caused { (old new : Cache) → IfErr result (IsCaused old new) }
+{
+    let Some(inner) = tbnode::inner(payload) else {
+        return Err(SearchFault::Malformed(page));
+    };
+    if u32::from(inner.head().level) != level {
+        return Err(SearchFault::Malformed(page));
+    }
+    push_entries(&inner, query, found)?;
+    Ok(())
+}
+
+/// Adds the legs of a payload whose boxes meet, if it is a leaf.
+fn push_leaf(
+    payload: &Payload,
+    page: u32,
+    query: &Box3,
+    found: &mut Vec<Leg>,
+) -> Result<(), SearchFault>
+    ensures pushed { OnOk result (found.new.items
+        ≡ found.old.items ++ filter (λ leg. boxes_meet (box_of leg) query.now)
+        (legs_in (Some (node_of payload.now)))) }
+    ensures only { (leaf : LeafView LegView) → node_of payload.now ≡ Some (ALeaf leaf)
+        → IfErr result IsAllowed }
+    ensures malformed { IfErr result (IfMalformed (λ n. (n ≡ page)
+        × ((leaf : LeafView LegView) → node_of payload.now ≡ Some (ALeaf leaf) → ⊥))) }
+    ensures caused { (old new : Cache) → IfErr result (IsCaused old new) }
+{
+    let Some(leaf) = tbnode::leaf(payload) else {
+        return Err(SearchFault::Malformed(page));
+    };
+    push_hits(&leaf, query, found)?;
+    Ok(())
+}
+
+/// Adds the children of an inner page of that level whose boxes meet.
+#[tactic(auto, unfolding(tbtree::specs::Descent::children_met))]
+pub(crate) fn push_children<S: PageStore>(
+    cache: &mut PageCache<S>,
+    page: u32,
+    level: u32,
+    query: &Box3,
+    found: &mut Vec<u32>,
+) -> Result<(), SearchFault>
+    ensures pushed { IsTrue cache.old.store.is_faithful
+        → OnOk result (found.new.items
+        ≡ found.old.items ++ children_met (meets query.now) (pages_of_cache cache.old) page) }
+    ensures only { IsTrue cache.old.store.is_faithful
+        → HasInner (pages_of_cache cache.old) page level → IfErr result IsAllowed }
+    ensures malformed { IsTrue cache.old.store.is_faithful
+        → IfErr result (IfMalformed (λ n. (n ≡ page)
+        × (HasInner (pages_of_cache cache.old) page level → ⊥))) }
+    ensures reads { OnlyReads cache.old cache.new }
+    ensures caused { IfErr result (IsCaused cache.old cache.new) }
+    ensures asked { OnOk result (AsksOnce cache.old cache.new) }
+    ensures most { cache.new.asked ≤ cache.old.asked + 1 }
+{
+    if page == 0 {
+        return Err(SearchFault::Malformed(page));
+    }
+    let payload = match cache.page(page) {
+        Ok(payload) => payload,
+        Err(fault) => return Err(SearchFault::of(fault, page)),
+    };
+    push_inner(payload, page, level, query, found)
+}
+
+/// Adds the legs of a leaf whose boxes meet.
+pub(crate) fn push_legs<S: PageStore>(
+    cache: &mut PageCache<S>,
+    page: u32,
+    query: &Box3,
+    found: &mut Vec<Leg>,
+) -> Result<(), SearchFault>
+    ensures pushed { IsTrue cache.old.store.is_faithful
+        → OnOk result (found.new.items
+        ≡ found.old.items ++ hits leg_boxes (meets query.now) (pages_of_cache cache.old) page) }
+    ensures only { IsTrue cache.old.store.is_faithful
+        → HasLeaf (pages_of_cache cache.old) page → IfErr result IsAllowed }
+    ensures malformed { IsTrue cache.old.store.is_faithful
+        → IfErr result (IfMalformed (λ n. (n ≡ page)
+        × (HasLeaf (pages_of_cache cache.old) page → ⊥))) }
+    ensures reads { OnlyReads cache.old cache.new }
+    ensures caused { IfErr result (IsCaused cache.old cache.new) }
+    ensures asked { OnOk result (AsksOnce cache.old cache.new) }
+    ensures most { cache.new.asked ≤ cache.old.asked + 1 }
+{
+    if page == 0 {
+        return Err(SearchFault::Malformed(page));
+    }
+    let payload = match cache.page(page) {
+        Ok(payload) => payload,
+        Err(fault) => return Err(SearchFault::of(fault, page)),
+    };
+    push_leaf(payload, page, query, found)
+}
