@@ -1,6 +1,6 @@
 -- The way down, a level at a time.
-use Rattle.std.proofs.Common.{ℕ, zero, suc, ◌≡◌, ◌+◌, ◌<◌, ◌≤◌, List, length, sym, ap, ◌∙◌, arith, subst, Some, slice_get, All, inl, inr}
-use Rattle.std.specs.Prelude.{IsTrue}
+use Rattle.std.proofs.Common.{ℕ, zero, suc, [], ◌∷◌, ◌++◌, ◌≡◌, ◌+◌, ◌-◌, ◌^◌, ◌<◌, ◌≤◌, List, length, sym, ap, ◌∙◌, arith, subst, Some, slice_get, All, inl, inr}
+use Rattle.std.specs.Prelude.{IsTrue, min}
 use Rattle.std.specs.List.{flat_map}
 use Rattle.std.proofs.lemmas.List.Elements.{All-same}
 use Rattle.legs.specs.Boxes.{BoxView}
@@ -28,6 +28,14 @@ malformed_is Q fault page e h = subst (IfMalformed Q) (sym e) h
 
 pub malformed_caused : (old new : Cache) (fault : SearchFault) (page : ℕ) → fault ≡ Malformed page → IsCaused old new fault
 malformed_caused old new fault page e = subst (IsCaused old new) (sym e) tt
+
+-- the first page is the root
+pub root_alone : (now items fresh : List ℕ) (root : ℕ) → now ≡ items → items ≡ fresh ++ root ∷ [] → fresh ≡ [] → now ≡ root ∷ []
+root_alone now items fresh root e f h = e ∙ f ∙ ap (λ l. l ++ root ∷ []) h
+
+-- a count of asks below the greatest has risen by one
+pub one_more : (a b : ℕ) → b ≡ min (a + 1) (2 ^ 64 - 1) → b < 2 ^ 64 - 1 → (a < 2 ^ 64 - 1) × (b ≡ a + 1)
+one_more a b e l = (omega (arith, e, l), omega (arith, e, l))
 
 module _ (a b : Cache) (reads : OnlyReads a b) (fa : IsTrue a.store.is_faithful) (query : BoxView) (root : ℕ) where
   -- the pages of the next level
@@ -62,25 +70,25 @@ module _ (a b : Cache) (reads : OnlyReads a b) (fa : IsTrue a.store.is_faithful)
 
     pub inner_off_way : (n k i p : ℕ) (now : List ℕ) → 0 < k → n + suc k ≡ levels → now ≡ pages_met (meets query) (pages_of_cache a) root n
         → slice_get now i ≡ Some p → (HasInner (pages_of_cache b) p k → ⊥) → IsOffWay query (pages_of_cache a) root levels p
-    inner_off_way n zero i p now some l e at no = absurd (omega (arith, some))
-    inner_off_way n (suc k) i p now some l e at no = record {
+    inner_off_way n zero i p now some l e at off = absurd (omega (arith, some))
+    inner_off_way n (suc k) i p now some l e at off = record {
       n = n;
       k = suc k;
       level_is = l;
       place = i;
       met = ap (λ xs. slice_get xs i) (sym e) ∙ at;
-      wrong = inl (λ h. no (inner_after a b reads fa p (suc k) h));
+      wrong = inl (λ h. off (inner_after a b reads fa p (suc k) h));
     }
 
     pub leaf_off_way : (n i p : ℕ) (now : List ℕ) → n + 1 ≡ levels → now ≡ pages_met (meets query) (pages_of_cache a) root n
         → slice_get now i ≡ Some p → (HasLeaf (pages_of_cache b) p → ⊥) → IsOffWay query (pages_of_cache a) root levels p
-    leaf_off_way n i p now l e at no = record {
+    leaf_off_way n i p now l e at off = record {
       n = n;
       k = 0;
       level_is = l;
       place = i;
       met = ap (λ xs. slice_get xs i) (sym e) ∙ at;
-      wrong = inl (λ h. no (leaf_after a b reads fa p h));
+      wrong = inl (λ h. off (leaf_after a b reads fa p h));
     }
 
 -- more pages are met than there are

@@ -178,10 +178,10 @@ pub fn search<S: PageStore>(
     if tree.spent {
         return Err(SearchFault::Spent);
     }
+    tbtree::laws();
     if tree.levels == 0 {
         return Ok(Vec::new(alloc));
     }
-    tbtree::laws();
     let mut found = collected(alloc, cache, tree, query)?;
     found.sort_by_key(|leg: &Leg| leg.ordinal)?;
     Ok(found)

@@ -1,0 +1,196 @@
+use Rattle.std.proofs.Common.{ℕ, ◌≡◌, ◌+◌, ◌-◌, ◌<◌, ◌≤◌, ◌++◌, [], ◌∷◌, List, length, suc, arith, sym, ap, ◌∙◌, Some, slice_get}
+use Rattle.std.proofs.lemmas.Result.{err_from_is_err_and}
+use Rattle.tbtree.specs.Descent.{pages_met, met_count, legs_met, HasInner}
+use Rattle.tbtree.specs.Nodes.{pages_of_cache, HasLeaf}
+use Rattle.legs.specs.Boxes.{BoxView}
+use Rattle.legs.specs.Hull.{leg_boxes}
+use Rattle.boxsearch.specs.Faults.{IfMalformed}
+use Rattle.boxsearch.specs.Way.{meets, IsOffWay}
+use Rattle.boxsearch.proofs.FoundLemmas.{if_ok, if_err, on_ok}
+use Rattle.boxsearch.proofs.ReadLemmas.{reads_trans}
+use Rattle.boxsearch.proofs.WayLemmas.{root_alone, level_down, level_legs, counted, few_on_way, many_off_way, inners_on_way, inner_off_way, leaves_on_way, leaf_off_way, malformed_is, malformed_then}
+use Rattle.boxsearch.proofs.descent.collected.Goals as goal
+
+pub loop-level-preserved : goal.loop-level-preserved
+loop-level-preserved g c =
+    let old = c.args.cache.now in
+    let nodes = pages_of_cache old in
+    let query = c.args.query.now in
+    let root = c.args.tree.now.root in
+    let levels = c.args.tree.now.levels in
+    let level = c.loop-level.level in
+    let n = level - 1 in
+    let now = c.deref-in-loop-level.result.now in
+    let below = c.deref-in-loop-level-2.result.now in
+    let inv = c.loop-level.invariant in
+    let up : level + 1 - 1 ≡ suc n = omega arith in
+    let here : level + 1 - 1 ≡ level = omega arith in
+    let after : level + 1 ≡ suc level = omega arith in
+    let one : length now ≡ length c.loop-level.pages.items = ap (λ (l : List ℕ). length l) c.deref-in-loop-level.ensures.value in
+    let other : length below ≡ length c.in_ok-pages.pages.items = ap (λ (l : List ℕ). length l) c.deref-in-loop-level-2.ensures.value in
+    record {
+      reads = reads_trans old c.loop-level.cache c.next_level.new.cache inv.reads c.next_level.ensures.reads;
+      found = λ fa.
+          level_down old c.loop-level.cache inv.reads fa query root n (level + 1 - 1) now c.in_ok-pages.pages.items up (c.deref-in-loop-level.ensures.value ∙ inv.found fa)
+          (c.in_ok-pages.ensures.found (inv.reads.store.faithful ∙ fa));
+      asked = λ fa less.
+          let more = c.in_ok-pages.ensures.asked less in
+          let so_far = inv.asked fa (omega (arith, more, less)) in
+          let all = counted query nodes root levels n (level + 1 - 1) now up (c.deref-in-loop-level.ensures.value ∙ inv.found fa) in
+          omega (arith, more, so_far, all);
+      left = λ fa.
+          let met =
+          level_down old c.loop-level.cache inv.reads fa query root n (level + 1 - 1) now c.in_ok-pages.pages.items up (c.deref-in-loop-level.ensures.value ∙ inv.found fa)
+          (c.in_ok-pages.ensures.found (inv.reads.store.faithful ∙ fa)) in
+          let all = counted query nodes root levels level (level + 1) below after (c.deref-in-loop-level-2.ensures.value ∙ met ∙ ap (pages_met (meets query) nodes root) here) in
+          let so_far = inv.left fa in
+          let spent = c.in_ok-spend-2.ensures.ok in
+          omega (arith, so_far, spent, all);
+      most = let spent = c.in_ok-spend-2.ensures.ok in omega (arith, c.next_level.ensures.most, inv.most, spent, one, other);
+    }
+
+pub returns-in_err-spend-clause-only : goal.returns-in_err-spend-clause-only
+returns-in_err-spend-clause-only g c = λ fa way.
+    let root = c.args.tree.now.root in
+    let now = c.deref.result.now in
+    let e = c.in_err-spend.ensures.err in
+    let rooted : now ≡ root ∷ [] = root_alone now c.push.new.self.items c.new-pages.result.items root c.deref.ensures.value c.in_ok-push.ensures.items c.new-pages.ensures.items in
+    let few = few_on_way c.args.query.now (pages_of_cache c.args.cache.now) root c.args.tree.now.levels 0 now (omega (arith, c.requires.levels)) rooted way in
+    absurd (omega (arith, e.0, few, c.count.ensures.value))
+
+pub returns-in_err-spend-clause-malformed : goal.returns-in_err-spend-clause-malformed
+returns-in_err-spend-clause-malformed g c = λ fa.
+    let p = err_from_is_err_and c.from_residual-in_err-spend.result c.from_residual-in_err-spend.ensures.1 in
+    let nodes = pages_of_cache c.args.cache.now in
+    let query = c.args.query.now in
+    let root = c.args.tree.now.root in
+    let levels = c.args.tree.now.levels in
+    let now = c.deref.result.now in
+    let e = c.in_err-spend.ensures.err in
+    let rooted : now ≡ root ∷ [] = root_alone now c.push.new.self.items c.new-pages.result.items root c.deref.ensures.value c.in_ok-push.ensures.items c.new-pages.ensures.items in
+    let last : 0 + suc (levels - 1) ≡ levels = omega (arith, c.requires.levels) in
+    let many : nodes.count < met_count (meets query) nodes root 0 + length now = omega (arith, e.0, c.count.ensures.value) in
+    rw (p.1, p.2) (malformed_is (IsOffWay query nodes root levels) _ e.1 e.3 (many_off_way query nodes root levels 0 (levels - 1) c.count.result e.1 now last rooted e.2 many))
+
+pub returns-in_err-pages-clause-only : goal.returns-in_err-pages-clause-only
+returns-in_err-pages-clause-only g c = λ fa way.
+    let p = err_from_is_err_and c.from_residual-in_err-pages.result c.from_residual-in_err-pages.ensures.1 in
+    let inv = c.loop-level.invariant in
+    let level = c.loop-level.level in
+    let levels = c.args.tree.now.levels in
+    let here = inners_on_way c.args.cache.now c.loop-level.cache inv.reads fa c.args.query.now c.args.tree.now.root levels (level - 1) (levels - level) c.deref-in-loop-level.result.now
+    (omega (arith, c.loop-level-test.true)) (omega (arith, c.loop-level-test.true)) (c.deref-in-loop-level.ensures.value ∙ inv.found fa) way in
+    rw (p.1, p.2) (c.in_err-pages.ensures.only (inv.reads.store.faithful ∙ fa) here)
+
+pub returns-in_err-pages-clause-malformed : goal.returns-in_err-pages-clause-malformed
+returns-in_err-pages-clause-malformed g c = λ fa.
+    let p = err_from_is_err_and c.from_residual-in_err-pages.result c.from_residual-in_err-pages.ensures.1 in
+    let old = c.args.cache.now in
+    let query = c.args.query.now in
+    let root = c.args.tree.now.root in
+    let inv = c.loop-level.invariant in
+    let level = c.loop-level.level in
+    let levels = c.args.tree.now.levels in
+    let now = c.deref-in-loop-level.result.now in
+    let some : 0 < levels - level = omega (arith, c.loop-level-test.true) in
+    let last : level - 1 + suc (levels - level) ≡ levels = omega (arith, c.loop-level-test.true) in
+    rw (p.1, p.2) (malformed_then
+    (λ q. (i : ℕ) × (slice_get now i ≡ Some q) × (HasInner (pages_of_cache c.loop-level.cache) q (levels - level) → ⊥))
+    (IsOffWay query (pages_of_cache old) root levels)
+    _
+    (λ q h. inner_off_way old c.loop-level.cache inv.reads fa query root levels (level - 1) (levels - level) h.0 q now some last (c.deref-in-loop-level.ensures.value ∙ inv.found fa) h.1 h.2)
+    (c.in_err-pages.ensures.malformed (inv.reads.store.faithful ∙ fa)))
+
+pub returns-in_err-spend-2-clause-only : goal.returns-in_err-spend-2-clause-only
+returns-in_err-spend-2-clause-only g c = λ fa way.
+    let old = c.args.cache.now in
+    let nodes = pages_of_cache old in
+    let query = c.args.query.now in
+    let root = c.args.tree.now.root in
+    let levels = c.args.tree.now.levels in
+    let level = c.loop-level.level in
+    let inv = c.loop-level.invariant in
+    let up : level ≡ suc (level - 1) = omega arith in
+    let met =
+    level_down old c.loop-level.cache inv.reads fa query root (level - 1) level c.deref-in-loop-level.result.now c.in_ok-pages.pages.items up (c.deref-in-loop-level.ensures.value ∙ inv.found fa)
+    (c.in_ok-pages.ensures.found (inv.reads.store.faithful ∙ fa)) in
+    let few = few_on_way query nodes root levels level c.deref-in-loop-level-2.result.now (omega (arith, c.loop-level-test.true)) (c.deref-in-loop-level-2.ensures.value ∙ met) way in
+    let e = c.in_err-spend-2.ensures.err in
+    let so_far = inv.left fa in
+    absurd (omega (arith, e.0, few, so_far))
+
+pub returns-in_err-spend-2-clause-malformed : goal.returns-in_err-spend-2-clause-malformed
+returns-in_err-spend-2-clause-malformed g c = λ fa.
+    let p = err_from_is_err_and c.from_residual-in_err-spend-2.result c.from_residual-in_err-spend-2.ensures.1 in
+    let old = c.args.cache.now in
+    let nodes = pages_of_cache old in
+    let query = c.args.query.now in
+    let root = c.args.tree.now.root in
+    let levels = c.args.tree.now.levels in
+    let level = c.loop-level.level in
+    let below = c.deref-in-loop-level-2.result.now in
+    let inv = c.loop-level.invariant in
+    let up : level ≡ suc (level - 1) = omega arith in
+    let met =
+    level_down old c.loop-level.cache inv.reads fa query root (level - 1) level c.deref-in-loop-level.result.now c.in_ok-pages.pages.items up (c.deref-in-loop-level.ensures.value ∙ inv.found fa)
+    (c.in_ok-pages.ensures.found (inv.reads.store.faithful ∙ fa)) in
+    let e = c.in_err-spend-2.ensures.err in
+    let so_far = inv.left fa in
+    let last : level + suc (levels - level - 1) ≡ levels = omega (arith, c.loop-level-test.true) in
+    let many : nodes.count < met_count (meets query) nodes root level + length below = omega (arith, e.0, so_far) in
+    rw (p.1, p.2) (malformed_is (IsOffWay query nodes root levels) _ e.1 e.3
+    (many_off_way query nodes root levels level (levels - level - 1) c.loop-level.left e.1 below last (c.deref-in-loop-level-2.ensures.value ∙ met) e.2 many))
+
+pub returns-clause-found : goal.returns-clause-found
+returns-clause-found g c = λ fa.
+    let old = c.args.cache.now in
+    let inv = c.loop-level.invariant in
+    let level = c.loop-level.level in
+    let levels = c.args.tree.now.levels in
+    let last : levels ≡ suc (level - 1) = omega (arith, c.loop-level-test.false, c.requires.levels) in
+    if_ok c.legs_in.result _ _
+    (λ found h. level_legs old c.loop-level.cache inv.reads fa c.args.query.now c.args.tree.now.root (level - 1) levels c.deref-2.result.now found.items last (c.deref-2.ensures.value ∙ inv.found fa) h)
+    (c.legs_in.ensures.found (inv.reads.store.faithful ∙ fa))
+
+pub returns-clause-only : goal.returns-clause-only
+returns-clause-only g c = λ fa way.
+    let inv = c.loop-level.invariant in
+    let level = c.loop-level.level in
+    let levels = c.args.tree.now.levels in
+    let last : level - 1 + 1 ≡ levels = omega (arith, c.loop-level-test.false, c.requires.levels) in
+    let here = leaves_on_way c.args.cache.now c.loop-level.cache inv.reads fa c.args.query.now c.args.tree.now.root levels (level - 1) c.deref-2.result.now last (c.deref-2.ensures.value ∙ inv.found fa) way in
+    c.legs_in.ensures.only (inv.reads.store.faithful ∙ fa) here
+
+pub returns-clause-malformed : goal.returns-clause-malformed
+returns-clause-malformed g c = λ fa.
+    let old = c.args.cache.now in
+    let query = c.args.query.now in
+    let root = c.args.tree.now.root in
+    let inv = c.loop-level.invariant in
+    let level = c.loop-level.level in
+    let levels = c.args.tree.now.levels in
+    let now = c.deref-2.result.now in
+    let last : level - 1 + 1 ≡ levels = omega (arith, c.loop-level-test.false, c.requires.levels) in
+    if_err c.legs_in.result _ _
+    (λ fault h. malformed_then
+    (λ q. (i : ℕ) × (slice_get now i ≡ Some q) × (HasLeaf (pages_of_cache c.loop-level.cache) q → ⊥))
+    (IsOffWay query (pages_of_cache old) root levels)
+    fault
+    (λ q k. leaf_off_way old c.loop-level.cache inv.reads fa query root levels (level - 1) k.0 q now last (c.deref-2.ensures.value ∙ inv.found fa) k.1 k.2)
+    h)
+    (c.legs_in.ensures.malformed (inv.reads.store.faithful ∙ fa))
+
+pub returns-clause-asked : goal.returns-clause-asked
+returns-clause-asked g c = λ fa.
+    let nodes = pages_of_cache c.args.cache.now in
+    let query = c.args.query.now in
+    let root = c.args.tree.now.root in
+    let levels = c.args.tree.now.levels in
+    let level = c.loop-level.level in
+    let now = c.deref-2.result.now in
+    let inv = c.loop-level.invariant in
+    let last : levels ≡ suc (level - 1) = omega (arith, c.loop-level-test.false, c.requires.levels) in
+    let all = counted query nodes root levels (level - 1) levels now last (c.deref-2.ensures.value ∙ inv.found fa) in
+    on_ok c.legs_in.result
+    (λ more less. let rise = more less in let so_far = inv.asked fa (omega (arith, rise, less)) in omega (arith, rise, so_far, all))
+    c.legs_in.ensures.asked

@@ -1,0 +1,61 @@
+use Rattle.std.proofs.Common.{ℕ, ◌≡◌, ◌+◌, ◌<◌, suc, arith, sym, ap, ◌∙◌, Some, slice_get, get_or, refl, length, subst}
+use Rattle.std.proofs.lemmas.Option.{slice_get-get_or}
+use Rattle.std.proofs.lemmas.Result.{err_from_is_err_and}
+use Rattle.boxsearch.specs.Way.{meets}
+use Rattle.legs.specs.Hull.{leg_boxes}
+use Rattle.tbtree.specs.Descent.{hits}
+use Rattle.tbtree.specs.Nodes.{pages_of_cache, HasLeaf}
+use Rattle.boxsearch.proofs.ReadLemmas.{reads_trans}
+use Rattle.boxsearch.proofs.SameLemmas.{flat_more, same_hits, leaf_after}
+use Rattle.boxsearch.proofs.WayLemmas.{malformed_then, one_more}
+use Rattle.boxsearch.proofs.descent.legs_in.Goals as goal
+
+pub loop-page-preserved : goal.loop-page-preserved
+loop-page-preserved g c =
+    let old = c.args.cache.now in
+    let pages = c.args.pages.now in
+    let test = meets c.args.query.now in
+    let i = c.loop-page.page-index in
+    let page = get_or pages i 0 in
+    let inv = c.loop-page.invariant in
+    let next : i + 1 ≡ suc i = omega arith in
+    let at : slice_get pages i ≡ Some page = slice_get-get_or pages i 0 c.loop-page-test.true in
+    record {
+      reads = reads_trans old c.loop-page.cache c.push_legs.new.cache inv.reads c.push_legs.ensures.reads;
+      found = λ fa.
+          flat_more (hits leg_boxes test (pages_of_cache old)) pages i (i + 1) page c.loop-page.found.items c.push_legs.new.found.items (hits leg_boxes test (pages_of_cache c.loop-page.cache) page) at next
+          (same_hits old c.loop-page.cache inv.reads fa test page) (c.in_ok-push_legs.ensures.pushed (inv.reads.store.faithful ∙ fa)) (inv.found fa);
+      asked = λ below.
+          let one = one_more c.loop-page.cache.asked c.push_legs.new.cache.asked c.in_ok-push_legs.ensures.asked below in
+          let so_far = inv.asked one.0 in
+          omega (arith, one.1, so_far);
+      most = omega (arith, c.push_legs.ensures.most, inv.most);
+    }
+
+pub returns-in_err-push_legs-clause-reads : goal.returns-in_err-push_legs-clause-reads
+returns-in_err-push_legs-clause-reads g c =
+    reads_trans c.args.cache.now c.loop-page.cache c.push_legs.new.cache c.loop-page.invariant.reads c.push_legs.ensures.reads
+
+pub returns-in_err-push_legs-clause-only : goal.returns-in_err-push_legs-clause-only
+returns-in_err-push_legs-clause-only g c = λ fa all.
+    let p = err_from_is_err_and c.from_residual.result c.from_residual.ensures.1 in
+    let inv = c.loop-page.invariant in
+    let i = c.loop-page.page-index in
+    let page = get_or c.args.pages.now i 0 in
+    let here = leaf_after c.args.cache.now c.loop-page.cache inv.reads fa page (all i 0 c.loop-page-test.true) in
+    rw (p.1, p.2) (c.in_err-push_legs.ensures.only (inv.reads.store.faithful ∙ fa) here)
+
+pub returns-in_err-push_legs-clause-malformed : goal.returns-in_err-push_legs-clause-malformed
+returns-in_err-push_legs-clause-malformed g c = λ fa.
+    let p = err_from_is_err_and c.from_residual.result c.from_residual.ensures.1 in
+    let inv = c.loop-page.invariant in
+    let pages = c.args.pages.now in
+    let i = c.loop-page.page-index in
+    let page = get_or pages i 0 in
+    let at : slice_get pages i ≡ Some page = slice_get-get_or pages i 0 c.loop-page-test.true in
+    rw (p.1, p.2) (malformed_then
+    (λ n. (n ≡ page) × (HasLeaf (pages_of_cache c.loop-page.cache) page → ⊥))
+    (λ n. (k : ℕ) × (slice_get pages k ≡ Some n) × (HasLeaf (pages_of_cache c.args.cache.now) n → ⊥))
+    _
+    (λ n h. (i, at ∙ ap Some (sym h.0), λ has. h.1 (leaf_after c.args.cache.now c.loop-page.cache inv.reads fa page (subst (λ m. HasLeaf (pages_of_cache c.args.cache.now) m) h.0 has))))
+    (c.in_err-push_legs.ensures.malformed (inv.reads.store.faithful ∙ fa)))

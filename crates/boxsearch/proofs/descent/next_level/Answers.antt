@@ -1,0 +1,60 @@
+use Rattle.std.proofs.Common.{ℕ, ◌≡◌, ◌+◌, ◌<◌, suc, arith, sym, ap, ◌∙◌, Some, slice_get, get_or, refl, length, subst}
+use Rattle.std.proofs.lemmas.Option.{slice_get-get_or}
+use Rattle.std.proofs.lemmas.Result.{err_from_is_err_and}
+use Rattle.boxsearch.specs.Way.{meets}
+use Rattle.tbtree.specs.Descent.{children_met, HasInner}
+use Rattle.tbtree.specs.Nodes.{pages_of_cache}
+use Rattle.boxsearch.proofs.ReadLemmas.{reads_trans}
+use Rattle.boxsearch.proofs.SameLemmas.{flat_more, same_children, inner_after}
+use Rattle.boxsearch.proofs.WayLemmas.{malformed_then, one_more}
+use Rattle.boxsearch.proofs.descent.next_level.Goals as goal
+
+pub loop-page-preserved : goal.loop-page-preserved
+loop-page-preserved g c =
+    let old = c.args.cache.now in
+    let pages = c.args.pages.now in
+    let test = meets c.args.query.now in
+    let i = c.loop-page.page-index in
+    let page = get_or pages i 0 in
+    let inv = c.loop-page.invariant in
+    let next : i + 1 ≡ suc i = omega arith in
+    let at : slice_get pages i ≡ Some page = slice_get-get_or pages i 0 c.loop-page-test.true in
+    record {
+      reads = reads_trans old c.loop-page.cache c.push_children.new.cache inv.reads c.push_children.ensures.reads;
+      found = λ fa.
+          flat_more (children_met test (pages_of_cache old)) pages i (i + 1) page c.loop-page.below.items c.push_children.new.found.items (children_met test (pages_of_cache c.loop-page.cache) page) at next
+          (same_children old c.loop-page.cache inv.reads fa test page) (c.in_ok-push_children.ensures.pushed (inv.reads.store.faithful ∙ fa)) (inv.found fa);
+      asked = λ below.
+          let one = one_more c.loop-page.cache.asked c.push_children.new.cache.asked c.in_ok-push_children.ensures.asked below in
+          let so_far = inv.asked one.0 in
+          omega (arith, one.1, so_far);
+      most = omega (arith, c.push_children.ensures.most, inv.most);
+    }
+
+pub returns-in_err-push_children-clause-reads : goal.returns-in_err-push_children-clause-reads
+returns-in_err-push_children-clause-reads g c =
+    reads_trans c.args.cache.now c.loop-page.cache c.push_children.new.cache c.loop-page.invariant.reads c.push_children.ensures.reads
+
+pub returns-in_err-push_children-clause-only : goal.returns-in_err-push_children-clause-only
+returns-in_err-push_children-clause-only g c = λ fa all.
+    let p = err_from_is_err_and c.from_residual.result c.from_residual.ensures.1 in
+    let inv = c.loop-page.invariant in
+    let i = c.loop-page.page-index in
+    let page = get_or c.args.pages.now i 0 in
+    let here = inner_after c.args.cache.now c.loop-page.cache inv.reads fa page c.args.level (all i 0 c.loop-page-test.true) in
+    rw (p.1, p.2) (c.in_err-push_children.ensures.only (inv.reads.store.faithful ∙ fa) here)
+
+pub returns-in_err-push_children-clause-malformed : goal.returns-in_err-push_children-clause-malformed
+returns-in_err-push_children-clause-malformed g c = λ fa.
+    let p = err_from_is_err_and c.from_residual.result c.from_residual.ensures.1 in
+    let inv = c.loop-page.invariant in
+    let pages = c.args.pages.now in
+    let i = c.loop-page.page-index in
+    let page = get_or pages i 0 in
+    let at : slice_get pages i ≡ Some page = slice_get-get_or pages i 0 c.loop-page-test.true in
+    rw (p.1, p.2) (malformed_then
+    (λ n. (n ≡ page) × (HasInner (pages_of_cache c.loop-page.cache) page c.args.level → ⊥))
+    (λ n. (k : ℕ) × (slice_get pages k ≡ Some n) × (HasInner (pages_of_cache c.args.cache.now) n c.args.level → ⊥))
+    _
+    (λ n h. (i, at ∙ ap Some (sym h.0), λ has. h.1 (inner_after c.args.cache.now c.loop-page.cache inv.reads fa page c.args.level (subst (λ m. HasInner (pages_of_cache c.args.cache.now) m c.args.level) h.0 has))))
+    (c.in_err-push_children.ensures.malformed (inv.reads.store.faithful ∙ fa)))
