@@ -179,6 +179,7 @@ pub fn search<S: PageStore>(
         return Err(SearchFault::Spent);
     }
     tbtree::laws();
+    let _leaf = tree.shape.leaf();
     if tree.levels == 0 {
         return Ok(Vec::new(alloc));
     }

@@ -7,3 +7,6 @@ mod nodes;
 
 pub use descent::search;
 pub use fault::SearchFault;
+
+#[cfg(test)]
+mod tests;

@@ -2,6 +2,7 @@ use Rattle.std.proofs.Common.{rules, ℕ, ◌≡◌, ◌+◌, [], List, arith, s
 use Rattle.std.proofs.lemmas.List.Sorted.{IsNonDecreasingBy-from_sort_by_key}
 use Rattle.std.proofs.lemmas.Result.{err_from_is_err_and}
 use Rattle.legs.specs.Hull.{leg_boxes}
+use Rattle.legs.specs.Legs.{LegView}
 use Rattle.tbtree.specs.Descent.{legs_met, Descends, IsInOrder}
 use Rattle.tbtree.specs.Nodes.{pages_of_cache}
 use Rattle.boxsearch.specs.Way.{meets}
@@ -10,15 +11,55 @@ use Rattle.boxsearch.proofs.PruningLemmas.{pruning}
 use Rattle.boxsearch.proofs.descent.search.Goals as goal
 
 pub returns-then-tree-eq0-clause-found : goal.returns-then-tree-eq0-clause-found
-returns-then-tree-eq0-clause-found g c = let t = c.type_inv in ?
+returns-then-tree-eq0-clause-found g c = λ ns fa legs pages s.
+    let query = c.args.query.now in
+    let nodes = pages_of_cache c.args.cache.now in
+    let tree = c.args.tree.now in
+    let down = c.laws.ensures.descends (meets query) nodes tree legs pages (pruning query) c.leaf-leaf.ensures.range s in
+    c.new.ensures.items ∙ none_found query nodes tree legs down c.if-tree-eq0.true
+
+pub returns-then-tree-eq0-clause-asked : goal.returns-then-tree-eq0-clause-asked
+returns-then-tree-eq0-clause-asked g c = λ fa legs pages s less.
+    let query = c.args.query.now in
+    let nodes = pages_of_cache c.args.cache.now in
+    let tree = c.args.tree.now in
+    let down = c.laws.ensures.descends (meets query) nodes tree legs pages (pruning query) c.leaf-leaf.ensures.range s in
+    let none = none_asked query nodes tree legs down c.if-tree-eq0.true in
+    omega (arith, none)
 
 pub returns-in_err-found-clause-found : goal.returns-in_err-found-clause-found
 returns-in_err-found-clause-found g c = λ ns fa legs pages s.
-    let p = err_from_is_err_and c.from_residual-in_err-found.result c.from_residual-in_err-found.ensures.1 in ?
+    let p = err_from_is_err_and c.from_residual.result c.from_residual.ensures.1 in
+    let query = c.args.query.now in
+    let nodes = pages_of_cache c.args.cache.now in
+    let tree = c.args.tree.now in
+    let down = c.laws.ensures.descends (meets query) nodes tree legs pages (pruning query) c.leaf-leaf.ensures.range s in
+    rw (p.1, p.2) (c.in_err-found.ensures.only fa (way_of query nodes tree legs down))
 
 pub returns-clause-met : goal.returns-clause-met
 returns-clause-met g c = λ fa.
-    ?
+    in_order (legs_met leg_boxes (meets c.args.query.now) (pages_of_cache c.args.cache.now) c.args.tree.now.root c.args.tree.now.levels)
+    c.in_ok-found.found.items c.sort_by_key.new.self.items
+    (c.in_ok-found.ensures.found fa) c.in_ok-sort_by_key.ensures.permutation
+    (IsNonDecreasingBy-from_sort_by_key (λ l. l.ordinal) _ c.in_ok-sort_by_key.ensures.sorted (λ a r q k. search rules))
+
+pub returns-clause-found : goal.returns-clause-found
+returns-clause-found g c = λ ns fa legs pages s.
+    let query = c.args.query.now in
+    let nodes = pages_of_cache c.args.cache.now in
+    let tree = c.args.tree.now in
+    let down = c.laws.ensures.descends (meets query) nodes tree legs pages (pruning query) c.leaf-leaf.ensures.range s in
+    down.found c.sort_by_key.new.self.items
+    (in_order (legs_met leg_boxes (meets query) nodes tree.root tree.levels) c.in_ok-found.found.items c.sort_by_key.new.self.items
+    (c.in_ok-found.ensures.found fa) c.in_ok-sort_by_key.ensures.permutation
+    (IsNonDecreasingBy-from_sort_by_key (λ l. l.ordinal) _ c.in_ok-sort_by_key.ensures.sorted (λ a r q k. search rules)))
 
 pub returns-clause-asked : goal.returns-clause-asked
-returns-clause-asked g c = ?
+returns-clause-asked g c = λ fa legs pages s less.
+    let query = c.args.query.now in
+    let nodes = pages_of_cache c.args.cache.now in
+    let tree = c.args.tree.now in
+    let down = c.laws.ensures.descends (meets query) nodes tree legs pages (pruning query) c.leaf-leaf.ensures.range s in
+    let all = cost_is query tree.shape legs in
+    let rise = c.in_ok-found.ensures.asked fa less in
+    omega (arith, rise, all, down.asked)
