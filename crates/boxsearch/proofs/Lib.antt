@@ -4,3 +4,11 @@ pub mod SameLemmas
 pub mod WayLemmas
 pub mod PruningLemmas
 pub mod FoundLemmas
+pub mod ResultLemmas
+pub mod AnswerLemmas
+pub mod IndexLemmas
+pub mod PlaceLemmas
+pub mod TrackLemmas
+pub mod QuestionLemmas
+pub mod AddLemmas
+pub mod NewLemmas

@@ -38,8 +38,8 @@ wider_meets outer inner query h e =
     let plane : (in_x && in_y) ≡ true = and_left (in_x && in_y) in_t e in
     and_both (meet_in_plane outer query) (intervals_meet outer.t_min outer.t_max query.t_min query.t_max)
     (and_both (intervals_meet outer.x_min outer.x_max query.x_min query.x_max) (intervals_meet outer.y_min outer.y_max query.y_min query.y_max)
-      (wider_interval inner.x_min inner.x_max query.x_min query.x_max outer.x_min outer.x_max h.left h.right (and_left in_x in_y plane))
-      (wider_interval inner.y_min inner.y_max query.y_min query.y_max outer.y_min outer.y_max h.bottom h.top (and_right in_x in_y plane)))
+    (wider_interval inner.x_min inner.x_max query.x_min query.x_max outer.x_min outer.x_max h.left h.right (and_left in_x in_y plane))
+    (wider_interval inner.y_min inner.y_max query.y_min query.y_max outer.y_min outer.y_max h.bottom h.top (and_right in_x in_y plane)))
     (wider_interval inner.t_min inner.t_max query.t_min query.t_max outer.t_min outer.t_max h.first h.last (and_right (in_x && in_y) in_t e))
 
 holds_one : (p q : BoxView) → Holds (cover_of p q) p
@@ -67,6 +67,7 @@ misses true b f e = absurd (false≢true (sym e ∙ f refl))
 misses false b f e = refl
 
 pub pruning : (query : BoxView) → IsPruning leg_boxes (meets query)
-pruning query p q e =
-    (misses (boxes_meet p query) (boxes_meet (cover_of p q) query) (wider_meets (cover_of p q) p query (holds_one p q)) e,
-     misses (boxes_meet q query) (boxes_meet (cover_of p q) query) (wider_meets (cover_of p q) q query (holds_other p q)) e)
+pruning query p q e = (
+  misses (boxes_meet p query) (boxes_meet (cover_of p q) query) (wider_meets (cover_of p q) p query (holds_one p q)) e,
+  misses (boxes_meet q query) (boxes_meet (cover_of p q) query) (wider_meets (cover_of p q) q query (holds_other p q)) e,
+)

@@ -1,2 +1,5 @@
 pub mod Faults
 pub mod Way
+pub mod Index
+pub mod Putting
+pub mod Answers

@@ -179,7 +179,7 @@ pub fn search<S: PageStore>(
         return Err(SearchFault::Spent);
     }
     tbtree::laws();
-    let _leaf = tree.shape.leaf();
+    prove!(tree.shape.leaf() > 0);
     if tree.levels == 0 {
         return Ok(Vec::new(alloc));
     }

@@ -1,12 +1,16 @@
 //! The legs of a tree whose boxes meet a box, and an index of legs over pages.
 #![tactic(auto)]
 
+mod answers;
 mod descent;
 mod fault;
+mod listed;
 mod nodes;
+mod tree_index;
 
 pub use descent::search;
 pub use fault::SearchFault;
+pub use tree_index::TreeIndex;
 
 #[cfg(test)]
 mod tests;

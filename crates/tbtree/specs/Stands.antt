@@ -1,9 +1,11 @@
 -- What the pages of a tree stand for. `pages k` has the numbers of the pages of level k, in order.
-use Rattle.std.specs.Prelude.{ℕ, suc, ◌≡◌, ◌<◌, ◌≤◌, ◌==◌, cond, List, [], ◌∷◌, map, take, drop, length, slice_get, Option, Some, None, ◌≢◌}
+use Rattle.std.specs.Prelude.{ℕ, suc, ◌≡◌, ◌<◌, ◌≤◌, ◌==◌, false, cond, List, [], ◌∷◌, map, take, drop, length, slice_get, Option, Some, None, ◌≢◌}
 use Rattle.std.specs.List.{zip, count_by}
 use Rattle.legs.specs.Blocks.{block, level}
+use Rattle.legs.specs.Costs.{ShapeView}
 use Rattle.legs.specs.Hull.{Boxes, hull_of}
 use Rattle.tbtree.specs.declared.tree.Place.{Place}
+use Rattle.tbtree.specs.declared.tree.TbTree.{TbTree}
 use Rattle.tbtree.specs.Nodes.{Pages, ALeaf, AnInner, LeafView, InnerView, children, boxes}
 
 abbrev pub head_or_zero : List ℕ → ℕ
@@ -89,3 +91,7 @@ pub record PlaceStands {L : Type 0} (feature : L → ℕ) (legs : List L) (ms : 
 -- the place of a feature without legs
 abbrev pub no_place : Place
 no_place = record { first = 0; last = 0; last_index = 0; legs = 0 }
+
+-- the tree without legs
+abbrev pub empty_tree : ShapeView → TbTree
+empty_tree shape = record { root = 0; levels = 0; leaves = 0; shape = shape; spent = false }

@@ -1,10 +1,10 @@
 //! The value of a tree, and the place of a feature in it.
-ghost use Rattle.std.specs.Prelude.{ℕ, [], None, ◌≡◌, ◌≢◌, ◌<◌, false};
+ghost use Rattle.std.specs.Prelude.{ℕ, [], None, ◌≡◌, ◌≢◌, ◌<◌};
 ghost use Rattle.legs.specs.Boxes.{BoxView};
 ghost use Rattle.legs.specs.Legs.{LegView};
 ghost use Rattle.tbtree.specs.Insert.{IsPlace, Stands};
 ghost use Rattle.tbtree.specs.Nodes.{Pages};
-ghost use Rattle.tbtree.specs.Stands.{no_place};
+ghost use Rattle.tbtree.specs.Stands.{empty_tree, no_place};
 
 use crate::shape::Shape;
 
@@ -22,8 +22,7 @@ pub struct TbTree {
 impl TbTree {
     /// A tree without legs. It has no page, so it stands over any pages that are all sealed and have a page 0.
     pub fn new(shape: Shape) -> TbTree
-        ensures shape { result.shape ≡ shape }
-        ensures works { result.spent ≡ false }
+        ensures value { result ≡ empty_tree shape }
         ensures stands { (pages : Pages LegView BoxView) → 0 < pages.count
             → ((p : ℕ) → p < pages.count → pages.at p ≢ None)
             → Stands pages result [] (λ _. []) }

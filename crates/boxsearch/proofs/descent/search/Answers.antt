@@ -15,7 +15,7 @@ returns-then-tree-eq0-clause-found g c = λ ns fa legs pages s.
     let query = c.args.query.now in
     let nodes = pages_of_cache c.args.cache.now in
     let tree = c.args.tree.now in
-    let down = c.laws.ensures.descends (meets query) nodes tree legs pages (pruning query) c.leaf-leaf.ensures.range s in
+    let down = c.laws.ensures.descends (meets query) nodes tree legs pages (pruning query) c.leaf.ensures.range s in
     c.new.ensures.items ∙ none_found query nodes tree legs down c.if-tree-eq0.true
 
 pub returns-then-tree-eq0-clause-asked : goal.returns-then-tree-eq0-clause-asked
@@ -23,7 +23,7 @@ returns-then-tree-eq0-clause-asked g c = λ fa legs pages s less.
     let query = c.args.query.now in
     let nodes = pages_of_cache c.args.cache.now in
     let tree = c.args.tree.now in
-    let down = c.laws.ensures.descends (meets query) nodes tree legs pages (pruning query) c.leaf-leaf.ensures.range s in
+    let down = c.laws.ensures.descends (meets query) nodes tree legs pages (pruning query) c.leaf.ensures.range s in
     let none = none_asked query nodes tree legs down c.if-tree-eq0.true in
     omega (arith, none)
 
@@ -33,7 +33,7 @@ returns-in_err-found-clause-found g c = λ ns fa legs pages s.
     let query = c.args.query.now in
     let nodes = pages_of_cache c.args.cache.now in
     let tree = c.args.tree.now in
-    let down = c.laws.ensures.descends (meets query) nodes tree legs pages (pruning query) c.leaf-leaf.ensures.range s in
+    let down = c.laws.ensures.descends (meets query) nodes tree legs pages (pruning query) c.leaf.ensures.range s in
     rw (p.1, p.2) (c.in_err-found.ensures.only fa (way_of query nodes tree legs down))
 
 pub returns-clause-met : goal.returns-clause-met
@@ -48,7 +48,7 @@ returns-clause-found g c = λ ns fa legs pages s.
     let query = c.args.query.now in
     let nodes = pages_of_cache c.args.cache.now in
     let tree = c.args.tree.now in
-    let down = c.laws.ensures.descends (meets query) nodes tree legs pages (pruning query) c.leaf-leaf.ensures.range s in
+    let down = c.laws.ensures.descends (meets query) nodes tree legs pages (pruning query) c.leaf.ensures.range s in
     down.found c.sort_by_key.new.self.items
     (in_order (legs_met leg_boxes (meets query) nodes tree.root tree.levels) c.in_ok-found.found.items c.sort_by_key.new.self.items
     (c.in_ok-found.ensures.found fa) c.in_ok-sort_by_key.ensures.permutation
@@ -59,7 +59,7 @@ returns-clause-asked g c = λ fa legs pages s less.
     let query = c.args.query.now in
     let nodes = pages_of_cache c.args.cache.now in
     let tree = c.args.tree.now in
-    let down = c.laws.ensures.descends (meets query) nodes tree legs pages (pruning query) c.leaf-leaf.ensures.range s in
+    let down = c.laws.ensures.descends (meets query) nodes tree legs pages (pruning query) c.leaf.ensures.range s in
     let all = cost_is query tree.shape legs in
     let rise = c.in_ok-found.ensures.asked fa less in
     omega (arith, rise, all, down.asked)

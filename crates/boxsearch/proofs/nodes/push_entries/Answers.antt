@@ -15,6 +15,6 @@ loop-i-preserved c =
     let at : slice_get entries c.loop-i.i ≡ Some entry = c.entry-entry.ensures ∙ ap Some view in
     let next : c.loop-i.i + 1 ≡ suc c.loop-i.i = omega arith in
     elim c.if-meets.branch [
-      then-meets+in_ok-push w ↦ ap (λ v. v.items) w.found-is ∙ picked_more (λ e. boxes_meet e.bounds query) (λ e. e.child) entries base c.loop-i.found.items w.push.new.self.items c.loop-i.i (c.loop-i.i + 1) entry at next (sym w.if-meets.ensures.value) w.in_ok-push.ensures.items c.loop-i.invariant
-    | else-meets w ↦ ap (λ v. v.items) w.found-is ∙ picked_same (λ e. boxes_meet e.bounds query) (λ e. e.child) entries base c.loop-i.found.items c.loop-i.i (c.loop-i.i + 1) entry at next (sym w.if-meets.ensures.value) c.loop-i.invariant
+      | then-meets+in_ok-push w ↦ ap (λ v. v.items) w.found-is ∙ picked_more (λ e. boxes_meet e.bounds query) (λ e. e.child) entries base c.loop-i.found.items w.push.new.self.items c.loop-i.i (c.loop-i.i + 1) entry at next (sym w.if-meets.ensures.value) w.in_ok-push.ensures.items c.loop-i.invariant
+      | else-meets w ↦ ap (λ v. v.items) w.found-is ∙ picked_same (λ e. boxes_meet e.bounds query) (λ e. e.child) entries base c.loop-i.found.items c.loop-i.i (c.loop-i.i + 1) entry at next (sym w.if-meets.ensures.value) c.loop-i.invariant
     ]

@@ -14,6 +14,6 @@ loop-i-preserved c =
     let test : c.meets.result ≡ boxes_meet (box_of leg) query = c.meets.ensures.value ∙ ap (λ b. boxes_meet b query) box in
     let next : c.loop-i.i + 1 ≡ suc c.loop-i.i = omega arith in
     elim c.if-meets.branch [
-      then-meets+in_ok-push w ↦ ap (λ v. v.items) w.found-is ∙ kept_more (λ leg. boxes_meet (box_of leg) query) legs base c.loop-i.found.items w.push.new.self.items c.loop-i.i (c.loop-i.i + 1) leg c.leg-leg.ensures.value next (sym test ∙ w.if-meets.true) w.in_ok-push.ensures.items c.loop-i.invariant
-    | else-meets w ↦ ap (λ v. v.items) w.found-is ∙ kept_same (λ leg. boxes_meet (box_of leg) query) legs base c.loop-i.found.items c.loop-i.i (c.loop-i.i + 1) leg c.leg-leg.ensures.value next (sym test ∙ w.if-meets.false) c.loop-i.invariant
+      | then-meets+in_ok-push w ↦ ap (λ v. v.items) w.found-is ∙ kept_more (λ leg. boxes_meet (box_of leg) query) legs base c.loop-i.found.items w.push.new.self.items c.loop-i.i (c.loop-i.i + 1) leg c.leg-leg.ensures.value next (sym test ∙ w.if-meets.true) w.in_ok-push.ensures.items c.loop-i.invariant
+      | else-meets w ↦ ap (λ v. v.items) w.found-is ∙ kept_same (λ leg. boxes_meet (box_of leg) query) legs base c.loop-i.found.items c.loop-i.i (c.loop-i.i + 1) leg c.leg-leg.ensures.value next (sym test ∙ w.if-meets.false) c.loop-i.invariant
     ]

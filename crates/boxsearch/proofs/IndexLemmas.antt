@@ -1,0 +1,102 @@
+-- What a reading call leaves of an index over pages.
+use Rattle.std.proofs.Common.{ℕ, ◌≡◌, ◌<◌, ◌≤◌, ◌+◌, ◌-◌, ◌^◌, min, refl, sym, ap, ◌∙◌, arith, subst, Bool, true, false, List, [], IsTrue, Some, All, length, option_map, option_and_then, cond}
+use Rattle.std.proofs.lemmas.Int.{clamps}
+use Rattle.legs.specs.Asking.{IsLater, Leaves}
+use Rattle.legs.specs.Index.{feature_count}
+use Rattle.legs.specs.Legs.{IsLeg, LegView}
+use Rattle.legs.specs.declared.listed.Listed.{Ghosts}
+use Rattle.pagecache.specs.Cache.{Cache, IsClean, is_changed, page_of, payload_of, pages_as_written, sealed_payload}
+use Rattle.pages.specs.Unsealed.{unsealed}
+use Rattle.chains.specs.Reads.{OnlyReads}
+use Rattle.tbnode.specs.Form.{node_of}
+use Rattle.tbtree.specs.Descent.{content_of}
+use Rattle.tbtree.specs.Insert.{Stands, IsPlace}
+use Rattle.tbtree.specs.Nodes.{Pages, pages_of_cache}
+use Rattle.boxsearch.specs.Index.{IndexView, content, written, IsSound, IsMarked}
+
+-- the words of an index over pages
+abbrev pub words : Ghosts IndexView
+words = record {
+  content = λ index. content index;
+  is_sound = λ index. IsSound index;
+  is_spent = λ index. index.tree.spent;
+  faults = λ index. index.cache.store.faults;
+  is_store_full = λ index. index.cache.count ≡ index.cache.store.most;
+  asked = λ index. min index.cache.asked (2 ^ 64 - 1);
+  plan = λ index. Some index.tree.shape;
+  is_clean = λ index. IsClean index.cache;
+  is_marked = λ index. IsMarked index.cache;
+  written = λ index. written index;
+}
+
+pub content_is : (i : IndexView) → IsTrue i.cache.store.is_faithful → content i ≡ content_of (pages_of_cache i.cache) i.tree
+content_is i f = ap (λ b. cond b (content_of (pages_of_cache i.cache) i.tree) []) f
+
+-- pages that are only read say what they said
+pub same_pages : (old new : Cache) → OnlyReads old new → IsTrue old.store.is_faithful → pages_of_cache new ≡ pages_of_cache old
+same_pages old new r f = λ i. record { at = λ p. option_map node_of (r.payloads f p i); count = r.count i }
+
+abbrev pub with_cache : IndexView → Cache → IndexView
+with_cache i c = record i { cache = c }
+
+module _ (old : IndexView) (c : Cache) (r : OnlyReads old.cache c) where
+  abbrev new : IndexView
+  new = with_cache old c
+
+  same_content : content new ≡ content old
+  same_content =
+      ap (λ b. cond b (content_of (pages_of_cache c) old.tree) []) r.store.faithful ∙
+      (elim old.cache.store.is_faithful as (λ b. old.cache.store.is_faithful ≡ b → cond b (content_of (pages_of_cache c) old.tree) [] ≡ cond b (content_of (pages_of_cache old.cache) old.tree) []) [
+        | true ↦ λ f. ap (λ n. content_of n old.tree) (same_pages old.cache c r f)
+        | false ↦ λ f. refl
+      ]) refl
+
+  same_written : IsClean old.cache → written new ≡ written old
+  same_written clean =
+      ap (λ b. cond b (pages_as_written c) []) r.store.faithful ∙
+      (elim old.cache.store.is_faithful as (λ b. old.cache.store.is_faithful ≡ b → cond b (pages_as_written c) [] ≡ cond b (pages_as_written old.cache) []) [
+        | true ↦ λ f. r.unwritten.clean f clean
+        | false ↦ λ f. refl
+      ]) refl
+
+  still_sound : IsSound old → IsSound new
+  still_sound s =
+      let nodes = same_pages old.cache c r s.faithful in
+      let legs = same_content in
+      record {
+        faithful = r.store.faithful ∙ s.faithful;
+        works = s.works;
+        shape = s.shape;
+        count = r.count ∙ s.count ∙ sym r.length;
+        pages = s.pages;
+        stands = subst (λ l. Stands (pages_of_cache c) old.tree l s.pages) (sym legs) (subst (λ n. Stands n old.tree (content old) s.pages) (sym nodes) s.stands);
+        lawful = subst (λ l. All IsLeg l) (sym legs) s.lawful;
+        counted = s.counted ∙ sym (ap length legs);
+        features = s.features ∙ sym (ap feature_count legs);
+        placed = λ f place e. subst (λ l. IsPlace old.tree l s.pages f place) (sym legs) (s.placed f place e);
+      }
+
+  same_page : IsTrue old.cache.store.is_faithful → 0 < old.cache.count → is_changed old.cache 0 ≡ false → sealed_payload c 0 ≡ sealed_payload old.cache 0
+  unfolding sealed_payload
+  same_page f h u = ap (option_and_then (unsealed 0)) (r.written f 0 h u)
+
+  still_marked : IsMarked old.cache → IsMarked c
+  still_marked m = record {
+    faithful = r.store.faithful ∙ m.faithful;
+    there = (let a = m.there in let b = r.count in omega (arith, a, b));
+    unchanged = r.changed 0 m.unchanged;
+    payload = m.payload;
+    sealed = same_page m.faithful m.there m.unchanged ∙ m.sealed;
+    unfinished = m.unfinished;
+  }
+
+  pub reads_leave : Leaves words old new
+  reads_leave = record {
+    content = same_content;
+    sound = still_sound;
+    spent = refl;
+    later = record { plan = refl; faults = r.store.faults; asked = (let a = r.asked in omega (arith, clamps, a)) };
+    clean = λ h n. r.changed n (h n);
+    marked = still_marked;
+    written = same_written;
+  }

@@ -1,0 +1,63 @@
+-- The places of features, with one more or one changed.
+use Rattle.std.proofs.Common.{ℕ, zero, suc, ◌≡◌, ◌≢◌, ◌<◌, ◌≤◌, ◌+◌, ◌==◌, true, false, cond, refl, ap, sym, ◌∙◌, arith, subst, ⊎_elim, eq-eqb, max, List, [], ◌∷◌, ◌++◌, length, Some, None, slice_get, set}
+use Rattle.std.proofs.lemmas.Bool.{cases_eq, cases_lt}
+use Rattle.std.proofs.lemmas.Bool.Decides.{nat_tests}
+use Rattle.std.proofs.lemmas.List.{length_push}
+use Rattle.std.proofs.lemmas.Option.{slice_get_within}
+use Rattle.tbtree.specs.Stands.{no_place}
+use Rattle.tbtree.specs.declared.tree.Place.{Place}
+use Rattle.boxsearch.specs.Index.{with_place}
+
+pub some_same : {X : Type 0} (x y : X) → Some x ≡ Some y → x ≡ y
+some_same x y e = cc
+
+pub some_none : {X : Type 0} (x : X) → Some x ≡ None → ⊥
+some_none x e = absurd cc
+
+module _ {X : Type 0} where
+  pub get-set_same : (xs : List X) (i : ℕ) (v x : X) → slice_get xs i ≡ Some x → slice_get (set xs i v) i ≡ Some v
+  get-set_same [] i v x h = absurd (some_none x (sym h))
+  get-set_same (y ∷ xs) zero v x h = refl
+  get-set_same (y ∷ xs) (suc i) v x h = get-set_same xs i v x h
+
+  pub get-set_other : (xs : List X) (i j : ℕ) (v : X) → j ≢ i → slice_get (set xs i v) j ≡ slice_get xs j
+  get-set_other [] i j v h = refl
+  get-set_other (y ∷ xs) zero zero v h = absurd (h refl)
+  get-set_other (y ∷ xs) zero (suc j) v h = refl
+  get-set_other (y ∷ xs) (suc i) zero v h = refl
+  get-set_other (y ∷ xs) (suc i) (suc j) v h = get-set_other xs i j v (λ e. h (ap suc e))
+
+  push_last : (xs : List X) (v x : X) (i : ℕ) → i ≡ length xs → slice_get (xs ++ v ∷ []) i ≡ Some x → v ≡ x
+  push_last [] v x zero e h = some_same v x h
+  push_last [] v x (suc i) e h = absurd (omega (arith, e))
+  push_last (y ∷ xs) v x zero e h = absurd (omega (arith, e))
+  push_last (y ∷ xs) v x (suc i) e h = push_last xs v x i (omega (arith, e)) h
+
+  push_other : (xs : List X) (v : X) (i : ℕ) → i ≢ length xs → slice_get (xs ++ v ∷ []) i ≡ slice_get xs i
+  push_other [] v zero e = absurd (e refl)
+  push_other [] v (suc i) e = refl
+  push_other (x ∷ xs) v zero e = refl
+  push_other (x ∷ xs) v (suc i) e = push_other xs v i (λ u. e (ap suc u))
+
+-- what holds of each place, and of none where the feature is the next one, holds of each place with one made
+pub made_places : (P : ℕ → Place → Type 0) (places : List Place) (feature : ℕ) → ((f : ℕ) (place : Place) → slice_get places f ≡ Some place → P f place) → P (length places) no_place
+    → (f : ℕ) (place : Place) → slice_get (with_place places feature) f ≡ Some place → P f place
+made_places P places feature each next f place =
+    elim (feature == length places) as (λ v. slice_get (cond v (places ++ no_place ∷ []) places) f ≡ Some place → P f place) [
+      | true ↦ λ h. ⊎_elim
+          (λ (e : f ≡ length places). subst (λ f. P f place) (sym e) (subst (λ p. P (length places) p) (push_last places no_place place f e h) next))
+          (λ (u : f ≢ length places). each f place (sym (push_other places no_place f u) ∙ h))
+          (cases_eq f (length places))
+      | false ↦ λ h. each f place h
+    ]
+
+-- how many there are, once the place of a feature that is there or is the next one is made
+pub length-made : (places : List Place) (feature : ℕ) → feature ≤ length places → length (with_place places feature) ≡ max (length places) (feature + 1)
+length-made places feature h =
+    ⊎_elim
+    (λ (e : feature ≡ length places).
+    ap (λ v. length (cond v (places ++ no_place ∷ []) places)) (eq-eqb _ _ e) ∙ (let p = length_push places no_place in omega (arith, p, e)))
+    (λ (u : feature ≢ length places).
+    let n : (feature == length places) ≡ false = grind (arith, nat_tests, u) in
+    ap (λ v. length (cond v (places ++ no_place ∷ []) places)) n ∙ omega (arith, h, u))
+    (cases_eq feature (length places))

@@ -1,0 +1,16 @@
+-- What is answered with Ok.
+use Rattle.std.proofs.Common.{◌≡◌, true, false, Result, Ok, Err, OnOk}
+use Rattle.std.specs.Result.{is_ok, is_err}
+use Rattle.std.proofs.lemmas.Bool.{true≢false}
+
+pub on_any : {T E P : Type 0} (r : Result T E) → P → OnOk r P
+on_any {T} {E} {P} r h = elim r as (λ r. OnOk r P) [ Ok x ↦ h | Err e ↦ tt ]
+
+pub on_none : {T E : Type 0} (P : Type 0) (r : Result T E) → is_ok r ≡ false → OnOk r P
+on_none P r e = (elim r as (λ r. is_ok r ≡ false → OnOk r P) [ Ok x ↦ λ e. absurd (true≢false e) | Err x ↦ λ e. tt ]) e
+
+pub on_ok : {T E P Q : Type 0} (r : Result T E) → (P → Q) → OnOk r P → OnOk r Q
+on_ok {T} {E} {P} {Q} r f h = (elim r as (λ r. OnOk r P → OnOk r Q) [ Ok x ↦ λ h. f h | Err e ↦ λ h. h ]) h
+
+pub from_ok : {T E P : Type 0} (r : Result T E) → is_err r ≡ false → OnOk r P → P
+from_ok {T} {E} {P} r e h = (elim r as (λ r. is_err r ≡ false → OnOk r P → P) [ Ok x ↦ λ e h. h | Err x ↦ λ e h. absurd (true≢false e) ]) e h

@@ -1,0 +1,44 @@
+use Rattle.std.proofs.Common.{◌≡◌, ◌-◌, ◌^◌, min, ap, subst, sym, ◌∙◌, Some}
+use Rattle.std.specs.Prelude.{IfOk, OnOk}
+use Rattle.legs.specs.Asking.{Leaves, Refusals}
+use Rattle.legs.specs.Costs.{RisesBy, search_cost}
+use Rattle.legs.specs.Index.{legs_in_box}
+use Rattle.boxsearch.specs.Answers.{answered, of_search}
+use Rattle.boxsearch.specs.Index.{IndexView, content, IsSound}
+use Rattle.boxsearch.proofs.IndexLemmas.{words, reads_leave}
+use Rattle.boxsearch.proofs.QuestionLemmas.{search_asked, search_found, search_refusals}
+use Rattle.boxsearch.proofs.ResultLemmas.{on_ok}
+use Rattle.boxsearch.proofs.TrackLemmas.{rises_capped}
+use Rattle.boxsearch.proofs.listed.TreeIndexLegIndex.search.Goals as goal
+
+pub returns-clause-found : goal.returns-clause-found
+returns-clause-found g c =
+    let inside : IndexView = record { cache = c.self.inside.cache; tree = c.self.inside.tree; places = c.self.inside.places.items; legs = c.self.inside.legs } in
+    let q = c.args.query.now in
+    subst (λ i. IfOk c.found.result (λ legs. IsSound i → legs.items ≡ legs_in_box q (content i))) c.self.view_is
+    (subst (λ r. IfOk r (λ legs. IsSound inside → legs.items ≡ legs_in_box q (content inside))) (sym c.found.ensures)
+    (search_found inside c.search.new.cache c.search.result (λ legs v. v.items ≡ legs_in_box q legs) c.search.ensures.found))
+
+pub returns-clause-asks : goal.returns-clause-asks
+returns-clause-asks g c =
+    let inside : IndexView = record { cache = c.self.inside.cache; tree = c.self.inside.tree; places = c.self.inside.places.items; legs = c.self.inside.legs } in
+    let q = c.args.query.now in
+    let new = c.search.new.cache.asked in
+    subst (λ i. OnOk c.found.result (IsSound i → RisesBy (min i.cache.asked (2 ^ 64 - 1)) (min new (2 ^ 64 - 1)) (search_cost q (Some i.tree.shape) (content i)))) c.self.view_is
+    (subst (λ r. OnOk r (IsSound inside → RisesBy (min inside.cache.asked (2 ^ 64 - 1)) (min new (2 ^ 64 - 1)) (search_cost q (Some inside.tree.shape) (content inside)))) (sym c.found.ensures)
+    (on_ok (answered (λ fault. of_search fault) c.search.result) (λ rises s. rises_capped inside.cache.asked new (search_cost q (Some inside.tree.shape) (content inside)) (rises s))
+    (search_asked inside c.search.new.cache c.search.result (λ legs. RisesBy inside.cache.asked new (search_cost q (Some inside.tree.shape) legs)) c.search.ensures.asked)))
+
+pub returns-clause-leaves : goal.returns-clause-leaves
+returns-clause-leaves g c =
+    let inside : IndexView = record { cache = c.self.inside.cache; tree = c.self.inside.tree; places = c.self.inside.places.items; legs = c.self.inside.legs } in
+    subst (λ i. Leaves words i (record inside { cache = c.search.new.cache })) c.self.view_is (reads_leave inside c.search.new.cache c.search.ensures.reads)
+
+pub returns-clause-refusals : goal.returns-clause-refusals
+returns-clause-refusals g c =
+    let inside : IndexView = record { cache = c.self.inside.cache; tree = c.self.inside.tree; places = c.self.inside.places.items; legs = c.self.inside.legs } in
+    let q = c.args.query.now in
+    let new : IndexView = record inside { cache = c.search.new.cache } in
+    subst (λ i. Refusals words i new c.found.result) c.self.view_is
+    (subst (λ r. Refusals words inside new r) (sym c.found.ensures)
+    (search_refusals inside c.search.new.cache c.search.result (λ legs v. v.items ≡ legs_in_box q legs) c.search.ensures.found (λ e. (c.search.ensures.spent e).0) c.search.ensures.caused))

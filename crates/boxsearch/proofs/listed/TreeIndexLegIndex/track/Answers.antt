@@ -1,0 +1,53 @@
+use Rattle.std.proofs.Common.{◌≡◌, ◌+◌, ◌-◌, ◌^◌, min, ap, subst, sym, ◌∙◌, arith, false, slice_get, Some}
+use Rattle.std.specs.Prelude.{IfOk, OnOk}
+use Rattle.legs.specs.Asking.{Leaves, Refusals}
+use Rattle.legs.specs.Costs.{RisesBy, track_cost}
+use Rattle.legs.specs.Index.{legs_of}
+use Rattle.boxsearch.specs.Answers.{answered, of_chain}
+use Rattle.boxsearch.specs.Index.{IndexView, content, IsSound}
+use Rattle.boxsearch.proofs.IndexLemmas.{words, reads_leave}
+use Rattle.boxsearch.proofs.ResultLemmas.{on_ok}
+use Rattle.boxsearch.proofs.TrackLemmas.{absent, absent_cost, rises_capped, track_asked, track_found, track_refusals}
+use Rattle.boxsearch.proofs.listed.TreeIndexLegIndex.track.Goals as goal
+
+pub returns-in_default-clause-found : goal.returns-in_default-clause-found
+returns-in_default-clause-found g c = λ s. c.new.ensures.items ∙ sym (absent c.args.self.now c.args.feature s (sym c.place.ensures ∙ c.in_default.is))
+
+pub returns-in_default-clause-asks : goal.returns-in_default-clause-asks
+returns-in_default-clause-asks g c = λ s below. let z = absent_cost c.args.self.now c.args.feature s (sym c.place.ensures ∙ c.in_default.is) in omega (arith, z)
+
+pub returns-clause-found : goal.returns-clause-found
+returns-clause-found g c =
+    let inside : IndexView = record { cache = c.self.inside.cache; tree = c.self.inside.tree; places = c.self.inside.places.items; legs = c.self.inside.legs } in
+    let f = c.args.feature in
+    let at : slice_get inside.places f ≡ Some c.in-Some.place = ap (λ (i : IndexView). slice_get i.places f) c.self.view_is ∙ sym c.place.ensures ∙ c.in-Some.is in
+    subst (λ i. IfOk c.retrieval.result (λ legs. IsSound i → legs.items ≡ legs_of f (content i))) c.self.view_is
+    (subst (λ r. IfOk r (λ legs. IsSound inside → legs.items ≡ legs_of f (content inside))) (sym c.retrieval.ensures)
+    (track_found inside f c.in-Some.place c.trajectory.new.cache c.trajectory.result at (λ legs feature v. v.items ≡ legs_of feature legs) c.trajectory.ensures.found))
+
+pub returns-clause-asks : goal.returns-clause-asks
+returns-clause-asks g c =
+    let inside : IndexView = record { cache = c.self.inside.cache; tree = c.self.inside.tree; places = c.self.inside.places.items; legs = c.self.inside.legs } in
+    let f = c.args.feature in
+    let new = c.trajectory.new.cache.asked in
+    let at : slice_get inside.places f ≡ Some c.in-Some.place = ap (λ (i : IndexView). slice_get i.places f) c.self.view_is ∙ sym c.place.ensures ∙ c.in-Some.is in
+    subst (λ i. OnOk c.retrieval.result (IsSound i → RisesBy (min i.cache.asked (2 ^ 64 - 1)) (min new (2 ^ 64 - 1)) (track_cost f (Some i.tree.shape) (content i)))) c.self.view_is
+    (subst (λ r. OnOk r (IsSound inside → RisesBy (min inside.cache.asked (2 ^ 64 - 1)) (min new (2 ^ 64 - 1)) (track_cost f (Some inside.tree.shape) (content inside)))) (sym c.retrieval.ensures)
+    (on_ok (answered (λ fault. of_chain fault) c.trajectory.result) (λ rises s. rises_capped inside.cache.asked new (track_cost f (Some inside.tree.shape) (content inside)) (rises s))
+    (track_asked inside f c.in-Some.place c.trajectory.new.cache c.trajectory.result at (λ legs feature. RisesBy inside.cache.asked new (track_cost feature (Some inside.tree.shape) legs)) c.trajectory.ensures.asked)))
+
+pub returns-clause-leaves : goal.returns-clause-leaves
+returns-clause-leaves g c =
+    let inside : IndexView = record { cache = c.self.inside.cache; tree = c.self.inside.tree; places = c.self.inside.places.items; legs = c.self.inside.legs } in
+    subst (λ i. Leaves words i (record inside { cache = c.trajectory.new.cache })) c.self.view_is (reads_leave inside c.trajectory.new.cache c.trajectory.ensures.reads)
+
+pub returns-clause-refusals : goal.returns-clause-refusals
+returns-clause-refusals g c =
+    let inside : IndexView = record { cache = c.self.inside.cache; tree = c.self.inside.tree; places = c.self.inside.places.items; legs = c.self.inside.legs } in
+    let f = c.args.feature in
+    let new : IndexView = record inside { cache = c.trajectory.new.cache } in
+    let at : slice_get inside.places f ≡ Some c.in-Some.place = ap (λ (i : IndexView). slice_get i.places f) c.self.view_is ∙ sym c.place.ensures ∙ c.in-Some.is in
+    let works : inside.tree.spent ≡ false = c.if-self.false in
+    subst (λ i. Refusals words i new c.retrieval.result) c.self.view_is
+    (subst (λ r. Refusals words inside new r) (sym c.retrieval.ensures)
+    (track_refusals inside f c.in-Some.place c.trajectory.new.cache c.trajectory.result at (λ legs feature v. v.items ≡ legs_of feature legs) works c.trajectory.ensures.found c.trajectory.ensures.caused))

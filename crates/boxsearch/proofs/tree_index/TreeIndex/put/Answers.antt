@@ -1,0 +1,60 @@
+use Rattle.std.proofs.Common.{ℕ, ◌≡◌, ◌+◌, ◌-◌, ◌^◌, ◌<◌, ◌∙◌, min, ap, subst, sym, arith, List, length, Some, slice_get, set}
+use Rattle.std.proofs.lemmas.Option.{slice_get-get_or}
+use Rattle.legs.specs.Legs.{LegView}
+use Rattle.boxsearch.specs.Index.{IndexView}
+use Rattle.boxsearch.specs.Putting.{Puts}
+use Rattle.boxsearch.proofs.ResultLemmas.{on_any, on_none}
+use Rattle.tbtree.specs.declared.tree.Place.{Place}
+use Rattle.boxsearch.proofs.tree_index.TreeIndex.put.Goals as goal
+
+pub returns-then-is_ok : goal.returns-then-is_ok
+returns-then-is_ok g c =
+    let places = c.self.inside.places.items in
+    let new : IndexView = record { cache = c.insert-result.new.cache; tree = c.insert-result.new.tree; places = set places c.leg.inside.feature c.insert-result.new.place; legs = c.saturating_add-self-inside.result } in
+    let works = ap (λ (v : IndexView). v.tree.spent) c.self.view_is ∙ c.requires.works in
+    let feature : c.leg.inside.feature ≡ c.args.leg.feature = ap (λ (l : LegView). l.feature) c.leg.view_is in
+    let count = ap (λ (v : IndexView). length v.places) c.self.view_is in
+    let below = c.requires.feature in
+    let within : c.leg.inside.feature < length places = omega (arith, feature, count, below) in
+    subst (λ old. Puts old new c.args.leg c.insert-result.result) c.self.view_is (record {
+      was = c.index.result.now;
+      is = c.insert-result.new.place;
+      found = ap (slice_get places) (sym feature) ∙ slice_get-get_or places c.leg.inside.feature c.index.result.now within ∙ ap Some (sym c.index.ensures);
+      places = ap (λ i. set places i c.insert-result.new.place) feature;
+      inserts = c.insert-result.ensures.inserts works;
+      shape = c.insert-result.ensures.shape;
+      passes = c.insert-result.ensures.passes;
+      count = c.insert-result.ensures.length;
+      few = let a = c.if-prove.false in let b = c.count.ensures.value in omega (arith, a, b);
+      caused = c.insert-result.ensures.caused;
+      asked = c.insert-result.ensures.asked;
+      works = c.insert-result.ensures.works;
+      spent = c.insert-result.ensures.spent;
+      legs = let l : new.legs ≡ min (c.self.inside.legs + 1) (2 ^ 64 - 1) = c.saturating_add-self-inside.ensures in on_any c.insert-result.result l;
+    })
+
+pub returns-else-is_ok : goal.returns-else-is_ok
+returns-else-is_ok g c =
+    let places = c.self.inside.places.items in
+    let new : IndexView = record { cache = c.insert-result.new.cache; tree = c.insert-result.new.tree; places = set places c.leg.inside.feature c.insert-result.new.place; legs = c.self.inside.legs } in
+    let works = ap (λ (v : IndexView). v.tree.spent) c.self.view_is ∙ c.requires.works in
+    let feature : c.leg.inside.feature ≡ c.args.leg.feature = ap (λ (l : LegView). l.feature) c.leg.view_is in
+    let count = ap (λ (v : IndexView). length v.places) c.self.view_is in
+    let below = c.requires.feature in
+    let within : c.leg.inside.feature < length places = omega (arith, feature, count, below) in
+    subst (λ old. Puts old new c.args.leg c.insert-result.result) c.self.view_is (record {
+      was = c.index.result.now;
+      is = c.insert-result.new.place;
+      found = ap (slice_get places) (sym feature) ∙ slice_get-get_or places c.leg.inside.feature c.index.result.now within ∙ ap Some (sym c.index.ensures);
+      places = ap (λ i. set places i c.insert-result.new.place) feature;
+      inserts = c.insert-result.ensures.inserts works;
+      shape = c.insert-result.ensures.shape;
+      passes = c.insert-result.ensures.passes;
+      count = c.insert-result.ensures.length;
+      few = let a = c.if-prove.false in let b = c.count.ensures.value in omega (arith, a, b);
+      caused = c.insert-result.ensures.caused;
+      asked = c.insert-result.ensures.asked;
+      works = c.insert-result.ensures.works;
+      spent = c.insert-result.ensures.spent;
+      legs = on_none _ c.insert-result.result (sym c.is_ok.ensures.value ∙ c.if-is_ok.false);
+    })

@@ -1,0 +1,61 @@
+-- What contracts see of an index over pages.
+use Rattle.std.specs.Prelude.{ℕ, ◌≡◌, ◌<◌, ◌==◌, Bool, false, if◌then◌else◌, IsTrue, List, [], ◌∷◌, ◌++◌, take, length, slice_get, Some, All}
+use Rattle.legs.specs.Costs.{ShapeView}
+use Rattle.legs.specs.Index.{feature_count}
+use Rattle.legs.specs.Legs.{IsLeg, LegView}
+use Rattle.pages.specs.declared.payload.Kind.TheVariants.{Header}
+use Rattle.pages.specs.declared.payload.Payload.{Payload}
+use Rattle.pagecache.specs.Cache.{Cache, is_changed, pages_as_written, sealed_payload}
+use Rattle.tbtree.specs.Descent.{content_of}
+use Rattle.tbtree.specs.Insert.{Stands, IsPlace}
+use Rattle.tbtree.specs.Nodes.{pages_of_cache}
+use Rattle.tbtree.specs.Shape.{IsShape}
+use Rattle.tbtree.specs.Stands.{no_place}
+use Rattle.tbtree.specs.declared.tree.Place.{Place}
+use Rattle.tbtree.specs.declared.tree.TbTree.{TbTree}
+
+-- the cache of its pages, its tree, the place of each feature, and how many legs it has
+pub record IndexView : Type 0 where
+  pub cache : Cache
+  pub tree : TbTree
+  pub places : List Place
+  pub legs : ℕ
+
+-- the legs that its pages say; none where its store is not faithful
+abbrev pub content : IndexView → List LegView
+content i = if i.cache.store.is_faithful then content_of (pages_of_cache i.cache) i.tree else []
+
+-- the pages as written; none where its store is not faithful
+abbrev pub written : IndexView → List (List ℕ)
+written i = if i.cache.store.is_faithful then pages_as_written i.cache else []
+
+-- over a faithful store and not spent, its pages stand for its legs, which it counts, and each feature has its place
+pub record IsSound (i : IndexView) : Type 0 where
+  pub faithful : IsTrue i.cache.store.is_faithful
+  pub works : i.tree.spent ≡ false
+  pub shape : IsShape i.tree.shape
+  pub count : i.cache.count ≡ i.cache.store.count
+  pub pages : ℕ → List ℕ
+  pub stands : Stands (pages_of_cache i.cache) i.tree (content i) pages
+  pub lawful : All IsLeg (content i)
+  pub counted : i.legs ≡ length (content i)
+  pub features : length i.places ≡ feature_count (content i)
+  pub placed : (feature : ℕ) (place : Place) → slice_get i.places feature ≡ Some place → IsPlace i.tree (content i) pages feature place
+
+-- the header of a store that is not finished: it begins with the letters MFTB, version 2 and state 0
+pub record IsUnfinished (payload : Payload) : Type 0 where
+  pub kind : payload.kind ≡ Header
+  pub front : take 12 payload.bytes ≡ 77 ∷ 70 ∷ 84 ∷ 66 ∷ 0 ∷ 0 ∷ 0 ∷ 2 ∷ 0 ∷ 0 ∷ 0 ∷ 0 ∷ []
+
+-- page 0 as written is such a header, and is not changed
+pub record IsMarked (c : Cache) : Type 0 where
+  pub faithful : IsTrue c.store.is_faithful
+  pub there : 0 < c.count
+  pub unchanged : is_changed c 0 ≡ false
+  pub payload : Payload
+  pub sealed : sealed_payload c 0 ≡ Some payload
+  pub unfinished : IsUnfinished payload
+
+-- the places, with one of a feature without legs where the next one is new
+abbrev pub with_place : List Place → ℕ → List Place
+with_place places feature = if feature == length places then places ++ no_place ∷ [] else places

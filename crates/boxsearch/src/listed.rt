@@ -1,0 +1,95 @@
+//! What contracts see of an index over pages, and its calls.
+use crate::answers::{found, insertion, retrieval};
+use crate::descent::search;
+use crate::tree_index::TreeIndex;
+use chains::{trajectory, trajectory_in};
+use legs::{Box3, IndexFault, Leg, LegIndex, Listed};
+use pages::PageStore;
+use timebase::Period;
+
+impl<S: PageStore> Listed for TreeIndex<S> {
+    ghost use Rattle.std.specs.Prelude.{Some, min, ◌≡◌, ◌-◌, ◌^◌};
+    ghost use Rattle.pagecache.specs.Cache.{IsClean};
+    ghost use Rattle.boxsearch.specs.Index.{content, written, IsSound, IsMarked};
+
+    ghost content = { λ index. content index };
+
+    ghost is_sound = { λ index. IsSound index };
+
+    ghost is_spent = { λ index. index.tree.spent };
+
+    ghost faults = { λ index. index.cache.store.faults };
+
+    ghost is_store_full = { λ index. index.cache.count ≡ index.cache.store.most };
+
+    ghost asked = { λ index. min index.cache.asked (2 ^ 64 - 1) };
+
+    ghost plan = { λ index. Some index.tree.shape };
+
+    ghost is_clean = { λ index. IsClean index.cache };
+
+    ghost is_marked = { λ index. IsMarked index.cache };
+
+    ghost written = { λ index. written index };
+}
+
+impl<S: PageStore> LegIndex for TreeIndex<S> {
+    ghost sound_lasts = { λ index sound. sound.works };
+
+    ghost lawful = { λ index sound. sound.lawful };
+
+    fn len(&self) -> u64 {
+        self.legs
+    }
+
+    fn spent(&self) -> bool {
+        self.tree.spent
+    }
+
+    fn asked(&self) -> u64 {
+        self.cache.asked()
+    }
+
+    fn add(&mut self, leg: Leg) -> Result<(), IndexFault> {
+        if self.tree.spent {
+            return Err(IndexFault::Spent);
+        }
+        tbtree::laws();
+        let feature = leg.feature as usize;
+        if self.make_place(feature).is_err() {
+            self.tree.spent = true;
+            return Err(IndexFault::Memory);
+        }
+        if feature >= self.places.len() {
+            self.tree.spent = true;
+            return Err(IndexFault::Spent);
+        }
+        insertion(self.put(leg))
+    }
+
+    fn search(&mut self, query: &Box3) -> Result<Vec<Leg>, IndexFault> {
+        found(search(self.alloc, &mut self.cache, &self.tree, query))
+    }
+
+    fn track(&mut self, feature: u32) -> Result<Vec<Leg>, IndexFault> {
+        if self.tree.spent {
+            return Err(IndexFault::Spent);
+        }
+        let Some(place) = self.place(feature) else {
+            return Ok(Vec::new(self.alloc));
+        };
+        let shape = self.tree.shape;
+        retrieval(trajectory(self.alloc, &mut self.cache, &shape, &place))
+    }
+
+    fn track_in(&mut self, feature: u32, period: &Period) -> Result<Vec<Leg>, IndexFault> {
+        if self.tree.spent {
+            return Err(IndexFault::Spent);
+        }
+        let Some(place) = self.place(feature) else {
+            return Ok(Vec::new(self.alloc));
+        };
+        let shape = self.tree.shape;
+        retrieval(trajectory_in(self.alloc, &mut self.cache, &shape, &place, period))
+    }
+}

@@ -1,0 +1,100 @@
+//! An index of legs over pages.
+use legs::Leg;
+use pagecache::PageCache;
+use pages::PageStore;
+use std::alloc::{AllocError, Global};
+use std::marker::Model;
+use tbtree::{Place, Shape, TbTree, TreeFault, insert};
+
+/// An index of legs in pages: a TB-tree, the places of its features, and the cache of its pages.
+///
+/// It stands for the legs that its pages say, and keeps no leg beside them. A page that is not there or not what the
+/// tree expects is answered as `Damaged`.
+#[derive(Drop)]
+pub struct TreeIndex<S: PageStore> {
+    pub(crate) alloc: Global,
+    pub(crate) cache: PageCache<S>,
+    pub(crate) tree: TbTree,
+    pub(crate) places: Vec<Place>,
+    pub(crate) legs: u64,
+}
+
+impl<S: PageStore> Model for TreeIndex<S> {
+    ghost use Rattle.boxsearch.specs.Index.{IndexView};
+
+    ghost Value = { IndexView };
+
+    ghost view = { λ a. record { cache = a.cache; tree = a.tree; places = a.places.items; legs = a.legs } };
+}
+
+impl<S: PageStore> TreeIndex<S> {
+    ghost use Rattle.std.specs.Prelude.{◌≡◌, ◌<◌, [], false, length, slice_get, IsTrue, OnErr, OnOk};
+    ghost use Rattle.pagecache.specs.Cache.{payload_of};
+    ghost use Rattle.tbtree.specs.Nodes.{pages_of_cache};
+    ghost use Rattle.chains.specs.Chains.{AreHeld};
+    ghost use Rattle.boxsearch.specs.Index.{content, IsSound, with_place};
+    ghost use Rattle.boxsearch.specs.Putting.{Puts};
+
+    /// An index without legs over the pages of a cache, the first of which is page 0. It is sound where the store is
+    /// faithful, has a page 0, and all its pages are sealed.
+    pub fn new(alloc: Global, cache: PageCache<S>, shape: Shape) -> TreeIndex<S>
+        ensures cache { result.cache ≡ cache }
+        ensures shape { result.tree.shape ≡ shape }
+        ensures works { result.tree.spent ≡ false }
+        ensures empty { content result ≡ [] }
+        ensures sound { IsTrue cache.store.is_faithful → 0 < cache.count
+            → AreHeld (pages_of_cache cache) → cache.count ≡ cache.store.count → IsSound result }
+    {
+        prove!(shape.leaf() > 0);
+        TreeIndex {
+            alloc,
+            cache,
+            tree: TbTree::new(shape),
+            places: Vec::new(alloc),
+            legs: 0,
+        }
+    }
+
+    /// The cache of its pages, as it stands.
+    pub fn into_cache(self) -> PageCache<S>
+        ensures { result ≡ self.cache }
+    {
+        self.cache
+    }
+
+    /// The place of a feature; none of one that is not there.
+    pub(crate) fn place(&self, feature: u32) -> Option<Place>
+        ensures { result ≡ slice_get self.now.places feature }
+    {
+        self.places.get(feature as usize).copied()
+    }
+
+    /// Makes a place for a feature that is the next one.
+    pub(crate) fn make_place(&mut self, feature: usize) -> Result<(), AllocError>
+        ensures ok { OnOk result (self.new
+            ≡ record self.old { places = with_place self.old.places feature }) }
+        ensures err { OnErr result (self.new ≡ self.old) }
+    {
+        if feature == self.places.len() {
+            self.places.push(Place::new())?;
+        }
+        Ok(())
+    }
+
+    /// Puts a leg into the tree, at the place of its feature.
+    pub(crate) fn put(&mut self, leg: Leg) -> Result<(), TreeFault>
+        requires works { self.old.tree.spent ≡ false }
+        requires feature { leg.feature < length self.old.places }
+        ensures { Puts self.old self.new leg result }
+    {
+        let feature = leg.feature as usize;
+        let mut place = self.places[feature];
+        let result = insert(&mut self.tree, &mut self.cache, &mut place, leg);
+        self.places[feature] = place;
+        prove!(self.cache.count() <= u32::MAX);
+        if result.is_ok() {
+            self.legs = self.legs.saturating_add(1);
+        }
+        result
+    }
+}
