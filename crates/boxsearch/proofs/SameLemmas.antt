@@ -11,7 +11,7 @@ use Rattle.legs.specs.Legs.{LegView}
 use Rattle.pagecache.specs.Cache.{Cache}
 use Rattle.tbnode.specs.Form.{node_of}
 use Rattle.chains.specs.Reads.{OnlyReads}
-use Rattle.tbtree.specs.Descent.{children_met, entries_in, legs_in, hits, HasInner}
+use Rattle.tbtree.specs.Descent.{children_met, entries_in, legs_in, node_at, hits, HasInner}
 use Rattle.tbtree.specs.Nodes.{pages_of_cache, HasLeaf}
 
 flat_same : {X Y : Type 0} (f g : X → List Y) (xs : List X) → ((x : X) → f x ≡ g x) → flat_map f xs ≡ flat_map g xs
@@ -30,12 +30,16 @@ module _ (a b : Cache) (reads : OnlyReads a b) (fa : IsTrue a.store.is_faithful)
   pub same_at : (p : ℕ) → (pages_of_cache b).at p ≡ (pages_of_cache a).at p
   same_at p = ap (λ o. option_map node_of o) (reads.payloads fa p)
 
+  same_node : (p : ℕ) → node_at (pages_of_cache b) p ≡ node_at (pages_of_cache a) p
+  same_node zero = refl
+  same_node (suc p) = same_at (suc p)
+
   pub same_children : (meets : BoxView → Bool) (p : ℕ) → children_met meets (pages_of_cache b) p ≡ children_met meets (pages_of_cache a) p
   unfolding children_met
-  same_children meets p = ap (λ o. map (λ e. e.child) (filter (λ e. meets e.bounds) (entries_in o))) (same_at p)
+  same_children meets p = ap (λ o. map (λ e. e.child) (filter (λ e. meets e.bounds) (entries_in o))) (same_node p)
 
   pub same_hits : (meets : BoxView → Bool) (p : ℕ) → hits leg_boxes meets (pages_of_cache b) p ≡ hits leg_boxes meets (pages_of_cache a) p
-  same_hits meets p = ap (λ o. filter (λ leg. meets (leg_boxes.of leg)) (legs_in o)) (same_at p)
+  same_hits meets p = ap (λ o. filter (λ leg. meets (leg_boxes.of leg)) (legs_in o)) (same_node p)
 
   pub inner_after : (p k : ℕ) → HasInner (pages_of_cache a) p k → HasInner (pages_of_cache b) p k
   inner_after p k h = record { above = h.above; page = h.page; is = same_at p ∙ h.is; level_is = h.level_is }

@@ -9,7 +9,7 @@ use Rattle.std.proofs.lemmas.Option.{slice_get_within, slice_get-get_or}
 use Rattle.legs.specs.Blocks.{level, joined}
 use Rattle.legs.specs.Costs.{some_meets, block_meets, met_at, met, cost}
 use Rattle.legs.specs.Hull.{Boxes, both, hull}
-use Rattle.tbtree.specs.Descent.{children_met, pages_met, met_count, hits, legs_in, legs_met, HasInner, IsPruning}
+use Rattle.tbtree.specs.Descent.{children_met, node_at, pages_met, met_count, hits, legs_in, legs_met, HasInner, IsPruning}
 use Rattle.tbtree.specs.Nodes.{Pages, HasLeaf}
 use Rattle.tbtree.specs.Stands.{page_at, TreeStands}
 use Rattle.tbtree.proofs.LawfulBoxes.{AreLawful}
@@ -17,7 +17,7 @@ use Rattle.tbtree.proofs.PageCounts.{pages_to, few_in_all}
 use Rattle.tbtree.proofs.PlaceLemmas.{as_many}
 use Rattle.tbtree.proofs.BlockLevels.{level_0, one_above, few_below}
 use Rattle.tbtree.proofs.OrdinalOrder.{all_from_get}
-use Rattle.tbtree.proofs.StepDown.{hit, page, paged, met_on_level, level_down, root_down, both_miss, zip_get}
+use Rattle.tbtree.proofs.StepDown.{hit, page, paged, met_on_level, level_down, root_down, both_miss, node_above, zip_get}
 
 count-zip : {P Q : Type 0} (t : Q → Bool) (ps : List P) (qs : List Q) → length ps ≡ length qs → count_by (λ (m : P × Q). t m.1) (zip ps qs) ≡ count_by t qs
 count-zip t [] [] e = refl
@@ -59,7 +59,7 @@ module _ {L B : Type 0} (s : Boxes L B) (laws : AreLawful s) (meets : B → Bool
     abbrev found_at : ℕ → List L
     found_at p = hits s meets nodes p
 
-    in_leaves : (ps : List ℕ) (rs : List (List L)) → length ps ≡ length rs → ((i p : ℕ) (r : List L) → slice_get ps i ≡ Some p → slice_get rs i ≡ Some r → legs_in (nodes.at p) ≡ r)
+    in_leaves : (ps : List ℕ) (rs : List (List L)) → length ps ≡ length rs → ((i p : ℕ) (r : List L) → slice_get ps i ≡ Some p → slice_get rs i ≡ Some r → legs_in (node_at nodes p) ≡ r)
         → flat_map found_at (map (page s laws meets prune) (filter (hit s laws meets prune) (zip ps (map (λ r. r ∷ []) rs)))) ≡ filter (λ l. meets (s.of l)) (joined rs)
     in_leaves [] [] e h = refl
     in_leaves [] (r ∷ rs) e h = absurd (omega (arith, e))
@@ -136,8 +136,8 @@ module _ {L B : Type 0} (s : Boxes L B) (laws : AreLawful s) (meets : B → Bool
         let z : met_count meets nodes root levels ≡ 1 + met s meets inner runs (length runs) = omega (arith, a, b, c, w) in
         z ∙ costs s meets inner runs (some_run T e)
 
-    legs_at : (i p : ℕ) (r : List L) → slice_get (pages 0) i ≡ Some p → slice_get runs i ≡ Some r → legs_in (nodes.at p) ≡ r
-    legs_at i p r e f = ap legs_in (tree.leaves i p r e f)
+    legs_at : (i p : ℕ) (r : List L) → slice_get (pages 0) i ≡ Some p → slice_get runs i ≡ Some r → legs_in (node_at nodes p) ≡ r
+    legs_at i p r e f = ap legs_in (node_above nodes p (tree.numbers.within 0 i p e).0 ∙ tree.leaves i p r e f)
 
     legs_met_at : (l : ℕ) → 0 < l → legs_met s meets nodes root l ≡ flat_map (hits s meets nodes) (pages_met meets nodes root (l - 1))
     legs_met_at zero h = absurd (omega (arith, h))

@@ -1,6 +1,6 @@
 -- What is said of pages that stand for legs.
-use Rattle.std.proofs.Common.{ℕ, zero, suc, ◌+◌, ◌*◌, ◌-◌, ◌<◌, ◌≤◌, ◌≡◌, ◌==◌, nat_lt, lt-ltb, le-ltb, Bool, true, false, cond, List, [], ◌∷◌, ◌++◌, length, map, refl, sym, ap, ◌∙◌, arith, subst, ⊎_elim, Some, slice_get}
-use Rattle.std.specs.List.{filter, count_by, range_with_len, All}
+use Rattle.std.proofs.Common.{ℕ, zero, suc, ◌+◌, ◌*◌, ◌-◌, ◌<◌, ◌≤◌, ◌≡◌, ◌==◌, nat_lt, lt-ltb, le-ltb, Bool, true, false, cond, List, [], ◌∷◌, ◌++◌, length, map, refl, sym, ap, ◌∙◌, arith, subst, ⊎_elim, None, Some, slice_get}
+use Rattle.std.specs.List.{filter, flat_map, count_by, range_with_len, All}
 use Rattle.std.specs.List.Sorted.{IsPermutation}
 use Rattle.std.proofs.lemmas.Bool.{cases_lt, true≢false}
 use Rattle.std.proofs.lemmas.List.{length-append, length_push}
@@ -13,11 +13,11 @@ use Rattle.legs.specs.Costs.{height, leaves_of, leg_feature}
 use Rattle.legs.specs.Hull.{leg_boxes}
 use Rattle.legs.specs.Index.{CanFollowInTurn, legs_of}
 use Rattle.legs.specs.Legs.{LegView}
-use Rattle.tbtree.specs.Descent.{legs_met, pages_met, IsPruning, Descends, sort_by_ordinal, content_of}
+use Rattle.tbtree.specs.Descent.{legs_met, pages_met, IsPruning, Descends, sort_by_ordinal, content_of, children_met, entries_in, legs_in, node_at, DiffersAtFirst}
 use Rattle.tbtree.specs.Insert.{Stands, IsPlace}
-use Rattle.tbtree.specs.Nodes.{Pages, HasLeaf}
+use Rattle.tbtree.specs.Nodes.{EntryView, Pages, HasLeaf}
 use Rattle.tbtree.specs.Shape.{IsShape}
-use Rattle.tbtree.specs.Stands.{owner, pages_of, marks, no_place, head_or_zero, last_or}
+use Rattle.tbtree.specs.Stands.{NumbersStand, owner, pages_of, marks, no_place, head_or_zero, last_or}
 use Rattle.tbtree.specs.declared.tree.TbTree.{TbTree}
 use Rattle.tbtree.proofs.BlockLemmas.{all_pass}
 use Rattle.tbtree.proofs.BlockLevels.{one_above}
@@ -180,3 +180,39 @@ absent_is nodes tree legs pages f shape st e =
       last_index = λ h. absurd (omega (arith, h));
       none = λ h. (refl, refl, refl);
     }
+
+module _ (old new : Pages LegView BoxView) (t : DiffersAtFirst old new) where
+  same_nodes : (p : ℕ) → node_at new p ≡ node_at old p
+  same_nodes zero = refl
+  same_nodes (suc p) = t.rest (suc p) (omega arith)
+
+  same_pages : (meets : BoxView → Bool) (root n : ℕ) → pages_met meets new root n ≡ pages_met meets old root n
+  unfolding children_met
+  same_pages meets root zero = refl
+  same_pages meets root (suc n) = λ i. flat_map (λ p. map (λ (e : EntryView BoxView). e.child) (filter (λ e. meets e.bounds) (entries_in (same_nodes p i)))) (same_pages meets root n i)
+
+  same_legs : (meets : BoxView → Bool) (root levels : ℕ) → legs_met leg_boxes meets new root levels ≡ legs_met leg_boxes meets old root levels
+  same_legs meets root zero = refl
+  same_legs meets root (suc n) = λ i. flat_map (λ p. filter (λ leg. meets (leg_boxes.of leg)) (legs_in (same_nodes p i))) (same_pages meets root n i)
+
+  pub same_content : (tree : TbTree) → content_of new tree ≡ content_of old tree
+  unfolding content_of
+  same_content tree = ap sort_by_ordinal (same_legs (λ _. true) tree.root tree.levels)
+
+  pub still_stands : (tree : TbTree) (legs : List LegView) (pages : ℕ → List ℕ) → Stands old tree legs pages → Stands new tree legs pages
+  still_stands tree legs pages s =
+      let tr = s.tree_stands in
+      let n = tr.numbers in
+      record {
+        in_turn = s.in_turn;
+        leaves_are = s.leaves_are;
+        tree_stands = record {
+          held = λ p l. ⊎_elim
+              (λ (h : 0 < p). λ e. tr.held p (let c = t.count in omega (arith, l, c)) (sym (t.rest p h) ∙ e))
+              (λ (h : p ≤ 0). λ e. t.first (ap new.at (let z : 0 ≡ p = omega (arith, h) in z) ∙ e))
+              (cases_lt 0 p);
+          numbers = subst (λ c. NumbersStand tree.shape.inner tree.levels tree.root c (leaves_of tree.shape legs) pages) (sym t.count) n;
+          leaves = λ i p r e f. t.rest p (n.within 0 i p e).0 ∙ tr.leaves i p r e f;
+          inners = λ k j p e. let h = tr.inners k j p e in record { page = h.page; is = t.rest p (n.within (suc k) j p e).0 ∙ h.is; height_is = h.height_is; children_are = h.children_are; boxes_are = h.boxes_are };
+        };
+      }

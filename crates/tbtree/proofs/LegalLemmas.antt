@@ -9,7 +9,7 @@ use Rattle.legs.specs.Legs.{IsLeg, LegView}
 use Rattle.pagecache.specs.Cache.{Cache, payload_of}
 use Rattle.pages.specs.declared.payload.Payload.{Payload}
 use Rattle.tbnode.specs.Form.{node_of, LegsAreLawful}
-use Rattle.tbtree.specs.Descent.{content_of, hits, legs_in, legs_met, pages_met, sort_by_ordinal}
+use Rattle.tbtree.specs.Descent.{content_of, hits, legs_in, legs_met, node_at, pages_met, sort_by_ordinal}
 use Rattle.tbtree.specs.Nodes.{ALeaf, AnInner, Pages, pages_of_cache}
 use Rattle.tbtree.specs.declared.tree.TbTree.{TbTree}
 use Rattle.tbtree.proofs.SortLemmas.{sort_moves}
@@ -33,11 +33,15 @@ module _ (laws : LegsAreLawful) (cache : Cache) where
   abbrev nodes : Pages LegView BoxView
   nodes = pages_of_cache cache
 
+  lawful_at : (p : ℕ) → All IsLeg (legs_in (node_at nodes p))
+  lawful_at zero = All-nil IsLeg
+  lawful_at (suc p) = lawful_in laws (payload_of cache (suc p))
+
   met_lawful : (meets : BoxView → Bool) (root levels : ℕ) → All IsLeg (legs_met leg_boxes meets nodes root levels)
   met_lawful meets root zero = All-nil IsLeg
   met_lawful meets root (suc n) =
       all_flat IsLeg (hits leg_boxes meets nodes) (pages_met meets nodes root n)
-      (λ p. All-filter (λ leg. meets (leg_boxes.of leg)) IsLeg (legs_in (nodes.at p)) (lawful_in laws (payload_of cache p)))
+      (λ p. All-filter (λ leg. meets (leg_boxes.of leg)) IsLeg (legs_in (node_at nodes p)) (lawful_at p))
 
   pub content_lawful : (tree : TbTree) → All IsLeg (content_of nodes tree)
   unfolding content_of

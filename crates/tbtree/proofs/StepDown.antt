@@ -7,7 +7,7 @@ use Rattle.std.proofs.lemmas.Slice.Zip.{length-zip}
 use Rattle.legs.specs.Blocks.{groups, level, block, joined}
 use Rattle.legs.specs.Hull.{Boxes, both, hull_of}
 use Rattle.legs.specs.Costs.{some_meets, block_meets}
-use Rattle.tbtree.specs.Descent.{entries_in, children_met, IsPruning}
+use Rattle.tbtree.specs.Descent.{entries_in, node_at, children_met, IsPruning}
 use Rattle.tbtree.specs.Nodes.{Pages, EntryView}
 use Rattle.tbtree.specs.Stands.{NumbersStand, InnerStands, LevelStands}
 use Rattle.tbtree.proofs.GroupLemmas.{some_none, some_same}
@@ -40,6 +40,11 @@ module _ {X Y : Type 0} where
   zip_get (x ∷ xs) [] j m e = absurd (some_none m (sym e))
   zip_get (x ∷ xs) (y ∷ ys) zero m e = let s = some_same (x, y) m e in (ap (λ (c : X × Y). Some (c.0)) s, ap (λ (c : X × Y). Some (c.1)) s)
   zip_get (x ∷ xs) (y ∷ ys) (suc j) m e = zip_get xs ys j m e
+
+-- a page but page 0 is what it says
+pub node_above : {L B : Type 0} (nodes : Pages L B) (p : ℕ) → 0 < p → node_at nodes p ≡ nodes.at p
+node_above nodes zero h = absurd (omega (arith, h))
+node_above nodes (suc p) h = refl
 
 module _ {L B : Type 0} (s : Boxes L B) (laws : AreLawful s) (meets : B → Bool) (prune : IsPruning s meets) where
   both-assoc : (a b c : Option B) → both s (both s a b) c ≡ both s a (both s b c)
@@ -92,10 +97,10 @@ module _ {L B : Type 0} (s : Boxes L B) (laws : AreLawful s) (meets : B → Bool
       ])
 
   module _ (nodes : Pages L B) where
-    children_are : (p height : ℕ) (ps : List ℕ) (gs : List (List (List L))) → InnerStands s nodes p height ps gs → children_met meets nodes p ≡ map page (filter hit (zip ps gs))
+    children_are : (p height : ℕ) (ps : List ℕ) (gs : List (List (List L))) → 0 < p → InnerStands s nodes p height ps gs → children_met meets nodes p ≡ map page (filter hit (zip ps gs))
     unfolding children_met
-    children_are p height ps gs h =
-        ap (λ n. map entry_page (filter entry_meets (entries_in n))) h.is
+    children_are p height ps gs above h =
+        ap (λ n. map entry_page (filter entry_meets (entries_in n))) (node_above nodes p above ∙ h.is)
         ∙ shown h.page.entries gs h.boxes_are
         ∙ ap (λ cs. map page (filter hit (zip cs gs))) h.children_are
 
@@ -150,7 +155,7 @@ module _ {L B : Type 0} (s : Boxes L B) (laws : AreLawful s) (meets : B → Bool
         let g_is : g ≡ zip ps gs = group_get inner (paged k) j g h f ∙ sym (zip-block inner j (pages k) (level inner k runs)) in
         let b_is : b.1 ≡ joined gs = group_get (inner ^ suc k) runs j b.1 (pow_above inner (suc k) h) z.1 ∙ sym (block_of_level inner h runs k j) in
         record {
-          shows = children_are nodes b.0 (suc k) ps gs (inners k j b.0 z.0) ∙ ap (λ l. map page (filter hit l)) (sym g_is);
+          shows = children_are nodes b.0 (suc k) ps gs (n.within (suc k) j b.0 z.0).0 (inners k j b.0 z.0) ∙ ap (λ l. map page (filter hit l)) (sym g_is);
           skips = λ m. ap (filter hit) g_is ∙ misses ps gs (ap (block_meets s meets) (sym b_is) ∙ m);
         }
 

@@ -1,5 +1,6 @@
--- The way down from a tree's root: the pages that are met and the legs that they have, for any pages.
-use Rattle.std.specs.Prelude.{ℕ, zero, suc, ◌≡◌, ◌+◌, ◌<◌, ◌≤◌, Bool, true, false, cond, nat_lt, List, [], ◌∷◌, map, filter, length, Option, Some, None}
+-- The way down from a tree's root: the pages that are met and the legs that they have, for any pages. Page 0 is none of
+-- a tree's.
+use Rattle.std.specs.Prelude.{ℕ, zero, suc, ◌≡◌, ◌≢◌, ◌+◌, ◌<◌, ◌≤◌, Bool, true, false, cond, nat_lt, List, [], ◌∷◌, map, filter, length, Option, Some, None}
 use Rattle.std.specs.List.{flat_map, All}
 use Rattle.std.specs.List.Sorted.{IsPermutation, IsNonDecreasingBy}
 use Rattle.legs.specs.Legs.{LegView}
@@ -24,10 +25,15 @@ module _ {L B : Type 0} where
   legs_in (Some None) = []
   legs_in None = []
 
+  -- what page p says as a page of a tree
+  abbrev pub node_at : Pages L B → ℕ → Option (Option (Node L B))
+  node_at nodes zero = None
+  node_at nodes (suc n) = nodes.at (suc n)
+
 module _ {L B : Type 0} (meets : B → Bool) (nodes : Pages L B) where
   -- the children of a page whose boxes meet
   unfoldable pub children_met : ℕ → List ℕ
-  children_met p = map (λ e. e.child) (filter (λ e. meets e.bounds) (entries_in (nodes.at p)))
+  children_met p = map (λ e. e.child) (filter (λ e. meets e.bounds) (entries_in (node_at nodes p)))
 
   -- the pages that are met n levels below the root
   abbrev pub pages_met : ℕ → ℕ → List ℕ
@@ -42,7 +48,7 @@ module _ {L B : Type 0} (meets : B → Bool) (nodes : Pages L B) where
 module _ {L B : Type 0} (s : Boxes L B) (meets : B → Bool) (nodes : Pages L B) where
   -- the legs of a page whose boxes meet
   abbrev pub hits : ℕ → List L
-  hits p = filter (λ leg. meets (s.of leg)) (legs_in (nodes.at p))
+  hits p = filter (λ leg. meets (s.of leg)) (legs_in (node_at nodes p))
 
   -- those of the pages that are met on the last level
   abbrev pub legs_met : ℕ → ℕ → List L
@@ -67,6 +73,12 @@ sort_by_ordinal (leg ∷ legs) = insert_by_ordinal leg (sort_by_ordinal legs)
 -- the content of a tree, whatever its pages hold: the legs of all leaves below the root, in the order of their ordinals
 unfoldable pub content_of : Pages LegView BoxView → TbTree → List LegView
 content_of nodes tree = sort_by_ordinal (legs_met leg_boxes (λ _. true) nodes tree.root tree.levels)
+
+-- there are as many pages, and all but page 0, which has a payload, say what they said
+pub record DiffersAtFirst (old new : Pages LegView BoxView) : Type 0 where
+  pub count : new.count ≡ old.count
+  pub first : new.at 0 ≢ None
+  pub rest : (p : ℕ) → 0 < p → new.at p ≡ old.at p
 
 -- the page p is an inner page of the level
 pub record HasInner {L B : Type 0} (nodes : Pages L B) (p level : ℕ) : Type 0 where
