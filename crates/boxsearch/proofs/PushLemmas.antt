@@ -1,7 +1,7 @@
 -- What is picked of a list, as far as a loop has come.
-use Rattle.std.proofs.Common.{ℕ, zero, suc, ◌≡◌, ◌≤◌, Bool, true, false, cond, List, [], ◌∷◌, ◌++◌, take, length, sym, ap, ◌∙◌, append_assoc, Some, None, slice_get, map, refl}
+use Rattle.std.proofs.Common.{ℕ, zero, suc, ◌≡◌, Bool, true, false, cond, List, [], ◌∷◌, ◌++◌, take, sym, ap, ◌∙◌, append_assoc, Some, None, slice_get, map}
 use Rattle.std.specs.List.{filter}
-use Rattle.std.proofs.lemmas.List.{append-nil, map-append, take_all}
+use Rattle.std.proofs.lemmas.List.{append-nil, map-append}
 use Rattle.std.proofs.lemmas.List.Elements.{filter-append}
 
 pub some_none : {X : Type 0} (x : X) → Some x ≡ None → ⊥

@@ -1,13 +1,12 @@
 -- A cache that was only read has the nodes that it had.
-use Rattle.std.proofs.Common.{ℕ, zero, suc, ◌≡◌, Bool, List, sym, ap, ◌∙◌, Some, option_map, map, All, [], ◌∷◌, ◌++◌, take, slice_get, refl}
+use Rattle.std.proofs.Common.{ℕ, suc, ◌≡◌, Bool, List, sym, ap, ◌∙◌, Some, option_map, map, [], ◌∷◌, ◌++◌, take, slice_get, refl}
 use Rattle.std.specs.Prelude.{IsTrue}
 use Rattle.std.specs.List.{filter, flat_map}
 use Rattle.std.proofs.lemmas.Grind.{flat_map-append}
 use Rattle.std.proofs.lemmas.List.{append-nil}
 use Rattle.boxsearch.proofs.PushLemmas.{take_at}
 use Rattle.legs.specs.Boxes.{BoxView}
-use Rattle.legs.specs.Hull.{leg_boxes, Boxes}
-use Rattle.legs.specs.Legs.{LegView}
+use Rattle.legs.specs.Hull.{leg_boxes}
 use Rattle.pagecache.specs.Cache.{Cache}
 use Rattle.tbnode.specs.Form.{node_of}
 use Rattle.chains.specs.Reads.{OnlyReads}

@@ -10,8 +10,8 @@ use Rattle.pagecache.specs.Cache.{Cache}
 use Rattle.chains.specs.Reads.{OnlyReads}
 use Rattle.tbtree.specs.Descent.{children_met, hits, pages_met, met_count, legs_met, HasInner}
 use Rattle.tbtree.specs.Nodes.{Pages, pages_of_cache, HasLeaf}
-use Rattle.boxsearch.specs.Faults.{IsAllowed, IsCaused, IfMalformed}
-use Rattle.boxsearch.specs.Way.{meets, IsOnLevel, IsWay, IsOffWay}
+use Rattle.boxsearch.specs.Faults.{IsCaused, IfMalformed}
+use Rattle.boxsearch.specs.Way.{meets, IsWay, IsOffWay}
 use Rattle.boxsearch.specs.declared.fault.SearchFault.{SearchFault}
 use Rattle.boxsearch.specs.declared.fault.SearchFault.TheVariants.{Cache as OfCache, Malformed, Spent, Memory}
 use Rattle.boxsearch.proofs.SameLemmas.{below_same, hits_same, inner_after, leaf_after}

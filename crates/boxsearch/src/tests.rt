@@ -39,14 +39,15 @@ fn half_a_leg() -> Box3 {
 }
 
 /// A tree of legs of one feature, in a cache of two pages behind a page 0.
-struct Grown {
+#[derive(Drop)]
+struct Sample {
     cache: PageCache<Fuse<MemStore>>,
     tree: TbTree,
     place: Place,
 }
 
 /// That many legs inserted. The store fails the call of that number for good.
-fn grown(alloc: Global, legs: u32, calls: u64) -> Option<Grown> {
+fn grown(alloc: Global, legs: u32, calls: u64) -> Option<Sample> {
     let store = Fuse::new(MemStore::new(alloc, 100), calls, false);
     let Ok(mut cache) = PageCache::new(alloc, store, 2) else {
         return None;
@@ -57,7 +58,7 @@ fn grown(alloc: Global, legs: u32, calls: u64) -> Option<Grown> {
     for ordinal in 0..legs {
         insert(&mut tree, &mut cache, &mut place, leg(ordinal)?).ok()?;
     }
-    Some(Grown { cache, tree, place })
+    Some(Sample { cache, tree, place })
 }
 
 /// The ordinals of those of five legs that meet the box, and how many pages were asked for.

@@ -1,10 +1,7 @@
-use Rattle.std.proofs.Common.{ℕ, ◌≡◌, ◌+◌, ◌-◌, ◌<◌, ◌≤◌, ◌++◌, [], ◌∷◌, List, length, suc, arith, sym, ap, ◌∙◌, Some, slice_get}
+use Rattle.std.proofs.Common.{ℕ, ◌≡◌, ◌+◌, ◌-◌, ◌<◌, [], ◌∷◌, List, length, suc, arith, ap, ◌∙◌, Some, slice_get}
 use Rattle.std.proofs.lemmas.Result.{err_from_is_err_and}
-use Rattle.tbtree.specs.Descent.{pages_met, met_count, legs_met, HasInner}
+use Rattle.tbtree.specs.Descent.{pages_met, met_count, HasInner}
 use Rattle.tbtree.specs.Nodes.{pages_of_cache, HasLeaf}
-use Rattle.legs.specs.Boxes.{BoxView}
-use Rattle.legs.specs.Hull.{leg_boxes}
-use Rattle.boxsearch.specs.Faults.{IfMalformed}
 use Rattle.boxsearch.specs.Way.{meets, IsOffWay}
 use Rattle.boxsearch.proofs.FoundLemmas.{if_ok, if_err, on_ok}
 use Rattle.boxsearch.proofs.ReadLemmas.{reads_trans}

@@ -1,4 +1,4 @@
-use Rattle.std.proofs.Common.{ℕ, ◌≡◌, ◌+◌, ◌<◌, suc, arith, sym, ap, ◌∙◌, Some, slice_get, get_or, refl, length, subst}
+use Rattle.std.proofs.Common.{ℕ, ◌≡◌, ◌+◌, suc, arith, sym, ap, ◌∙◌, Some, slice_get, get_or, subst}
 use Rattle.std.proofs.lemmas.Option.{slice_get-get_or}
 use Rattle.std.proofs.lemmas.Result.{err_from_is_err_and}
 use Rattle.boxsearch.specs.Way.{meets}

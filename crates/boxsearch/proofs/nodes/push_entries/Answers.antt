@@ -1,4 +1,4 @@
-use Rattle.std.proofs.Common.{◌≡◌, ◌+◌, suc, arith, sym, ap, ◌∙◌, Some, slice_get, refl}
+use Rattle.std.proofs.Common.{◌≡◌, ◌+◌, suc, arith, sym, ap, ◌∙◌, Some, slice_get}
 use Rattle.legs.specs.Boxes.{BoxView, boxes_meet}
 use Rattle.tbnode.specs.Nodes.{EntryView}
 use Rattle.boxsearch.proofs.PushLemmas.{picked_more, picked_same}
