@@ -1,7 +1,7 @@
 //! The search, level by level.
-ghost use Rattle.std.specs.Prelude.{ℕ, ◌≡◌, ◌≢◌, ◌+◌, ◌-◌, ◌<◌, ◌≤◌, List, Some, Err, true, false, length, slice_get, OnOk, IfOk, IfErr, IsTrue};
+ghost use Rattle.std.specs.Prelude.{ℕ, ◌≡◌, ◌+◌, ◌<◌, ◌≤◌, List, Some, Err, true, false, length, slice_get, OnOk, IfOk, IfErr, IsTrue};
 ghost use Rattle.std.specs.List.{All, flat_map};
-ghost use Rattle.legs.specs.Costs.{RisesBy, RisesAtMost, search_cost};
+ghost use Rattle.legs.specs.Costs.{RisesBy, search_cost};
 ghost use Rattle.legs.specs.Hull.{leg_boxes};
 ghost use Rattle.legs.specs.Index.{legs_in_box};
 ghost use Rattle.legs.specs.Legs.{LegView};
