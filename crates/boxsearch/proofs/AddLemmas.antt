@@ -26,10 +26,10 @@ use Rattle.tbtree.specs.declared.fault.TreeFault.{TreeFault}
 use Rattle.tbtree.specs.declared.tree.Place.{Place}
 use Rattle.tbtree.specs.declared.tree.TbTree.{TbTree}
 use Rattle.boxsearch.specs.Answers.{answered, of_tree}
-use Rattle.boxsearch.specs.Index.{IndexView, content, IsSound, IsMarked, with_place}
+use Rattle.boxsearch.specs.Index.{IndexView, words, content, IsSound, IsMarked, with_place}
 use Rattle.boxsearch.specs.Putting.{Puts}
 use Rattle.boxsearch.proofs.AnswerLemmas.{each_fault, each_value, faults_of, values_of, the_fault, SaidOfLeg, tree_said, tree_allowed}
-use Rattle.boxsearch.proofs.IndexLemmas.{words, content_is}
+use Rattle.boxsearch.proofs.IndexLemmas.{content_is}
 use Rattle.boxsearch.proofs.PlaceLemmas.{get-set_same, get-set_other, made_places, length-made, some_same}
 use Rattle.boxsearch.proofs.TrackLemmas.{no_legs}
 

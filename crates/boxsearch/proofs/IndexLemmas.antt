@@ -12,22 +12,7 @@ use Rattle.tbnode.specs.Form.{node_of}
 use Rattle.tbtree.specs.Descent.{content_of}
 use Rattle.tbtree.specs.Insert.{Stands, IsPlace}
 use Rattle.tbtree.specs.Nodes.{Pages, pages_of_cache}
-use Rattle.boxsearch.specs.Index.{IndexView, content, written, IsSound, IsMarked}
-
--- the words of an index over pages
-abbrev pub words : Ghosts IndexView
-words = record {
-  content = λ index. content index;
-  is_sound = λ index. IsSound index;
-  is_spent = λ index. index.tree.spent;
-  faults = λ index. index.cache.store.faults;
-  is_store_full = λ index. index.cache.count ≡ index.cache.store.most;
-  asked = λ index. min index.cache.asked (2 ^ 64 - 1);
-  plan = λ index. Some index.tree.shape;
-  is_clean = λ index. IsClean index.cache;
-  is_marked = λ index. IsMarked index.cache;
-  written = λ index. written index;
-}
+use Rattle.boxsearch.specs.Index.{IndexView, words, content, written, IsSound, IsMarked}
 
 pub content_is : (i : IndexView) → IsTrue i.cache.store.is_faithful → content i ≡ content_of (pages_of_cache i.cache) i.tree
 content_is i f = ap (λ b. cond b (content_of (pages_of_cache i.cache) i.tree) []) f

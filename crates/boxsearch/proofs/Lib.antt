@@ -12,3 +12,5 @@ pub mod TrackLemmas
 pub mod QuestionLemmas
 pub mod AddLemmas
 pub mod NewLemmas
+pub mod MarkLemmas
+pub mod StartLemmas

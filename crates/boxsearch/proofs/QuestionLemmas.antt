@@ -11,11 +11,11 @@ use Rattle.tbtree.specs.Insert.{Stands}
 use Rattle.tbtree.specs.Nodes.{pages_of_cache}
 use Rattle.boxsearch.specs.Answers.{answered, of_search}
 use Rattle.boxsearch.specs.Faults.{Gives, IsAllowed, IsCaused}
-use Rattle.boxsearch.specs.Index.{IndexView, content, IsSound}
+use Rattle.boxsearch.specs.Index.{IndexView, words, content, IsSound}
 use Rattle.boxsearch.specs.declared.fault.SearchFault.{SearchFault}
 use Rattle.boxsearch.specs.declared.fault.SearchFault.TheVariants.{Spent}
 use Rattle.boxsearch.proofs.AnswerLemmas.{each_fault, each_value, faults_of, values_of, the_fault, under, under_ok, Said, search_said, search_allowed}
-use Rattle.boxsearch.proofs.IndexLemmas.{words, with_cache}
+use Rattle.boxsearch.proofs.IndexLemmas.{with_cache}
 
 module _ {A : Type 0} (i : IndexView) (c : Cache) (r : Result A SearchFault) where
   abbrev say : SearchFault → IndexFault

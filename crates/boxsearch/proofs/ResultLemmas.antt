@@ -1,5 +1,5 @@
 -- What is answered with Ok.
-use Rattle.std.proofs.Common.{◌≡◌, true, false, Result, Ok, Err, OnOk}
+use Rattle.std.proofs.Common.{◌≡◌, subst, true, false, Result, Ok, Err, OnOk, OnErr, IfErr}
 use Rattle.std.specs.Result.{is_ok, is_err}
 use Rattle.std.proofs.lemmas.Bool.{true≢false}
 
@@ -14,3 +14,13 @@ on_ok {T} {E} {P} {Q} r f h = (elim r as (λ r. OnOk r P → OnOk r Q) [ Ok x �
 
 pub from_ok : {T E P : Type 0} (r : Result T E) → is_err r ≡ false → OnOk r P → P
 from_ok {T} {E} {P} r e h = (elim r as (λ r. is_err r ≡ false → OnOk r P → P) [ Ok x ↦ λ e h. h | Err x ↦ λ e h. absurd (true≢false e) ]) e h
+
+pub on_fault : {T E P : Type 0} (r : Result T E) → P → OnErr r P
+on_fault {T} {E} {P} r h = elim r as (λ r. OnErr r P) [ Ok x ↦ tt | Err e ↦ h ]
+
+pub the_error : {T E : Type 0} (P : E → Type 0) (r : Result T E) (e : E) → r ≡ Err e → OnErr r (IfErr r P) → P e
+the_error P (Ok x) e h p = absurd cc
+the_error P (Err x) e h p = subst (λ r. IfErr r P) h p
+
+pub on_err : {T E P Q : Type 0} (r : Result T E) → (P → Q) → OnErr r P → OnErr r Q
+on_err {T} {E} {P} {Q} r f h = (elim r as (λ r. OnErr r P → OnErr r Q) [ Ok x ↦ λ h. tt | Err e ↦ λ h. f h ]) h

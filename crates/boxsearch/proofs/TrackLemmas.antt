@@ -21,9 +21,9 @@ use Rattle.tbtree.specs.Nodes.{pages_of_cache}
 use Rattle.tbtree.specs.Stands.{no_place}
 use Rattle.tbtree.specs.declared.tree.Place.{Place}
 use Rattle.boxsearch.specs.Answers.{answered, of_chain}
-use Rattle.boxsearch.specs.Index.{IndexView, content, IsSound}
+use Rattle.boxsearch.specs.Index.{IndexView, words, content, IsSound}
 use Rattle.boxsearch.proofs.AnswerLemmas.{each_fault, each_value, faults_of, values_of, the_fault, under, under_ok, Said, chain_said, chain_allowed}
-use Rattle.boxsearch.proofs.IndexLemmas.{words, with_cache}
+use Rattle.boxsearch.proofs.IndexLemmas.{with_cache}
 use Rattle.boxsearch.proofs.PlaceLemmas.{some_none}
 
 -- a place of a sound index is its feature's

@@ -1,11 +1,12 @@
 -- What contracts see of an index over pages.
-use Rattle.std.specs.Prelude.{ℕ, ◌≡◌, ◌<◌, ◌==◌, Bool, false, if◌then◌else◌, IsTrue, List, [], ◌∷◌, ◌++◌, take, length, slice_get, Some, All}
+use Rattle.std.specs.Prelude.{ℕ, ◌≡◌, ◌<◌, ◌-◌, ◌^◌, ◌==◌, min, Bool, false, if◌then◌else◌, IsTrue, List, [], ◌∷◌, ◌++◌, take, length, slice_get, Some, All}
 use Rattle.legs.specs.Costs.{ShapeView}
 use Rattle.legs.specs.Index.{feature_count}
 use Rattle.legs.specs.Legs.{IsLeg, LegView}
 use Rattle.pages.specs.declared.payload.Kind.TheVariants.{Header}
 use Rattle.pages.specs.declared.payload.Payload.{Payload}
-use Rattle.pagecache.specs.Cache.{Cache, is_changed, pages_as_written, sealed_payload}
+use Rattle.legs.specs.declared.listed.Listed.{Ghosts}
+use Rattle.pagecache.specs.Cache.{Cache, IsClean, is_changed, pages_as_written, sealed_payload}
 use Rattle.tbtree.specs.Descent.{content_of}
 use Rattle.tbtree.specs.Insert.{Stands, IsPlace}
 use Rattle.tbtree.specs.Nodes.{pages_of_cache}
@@ -42,10 +43,14 @@ pub record IsSound (i : IndexView) : Type 0 where
   pub features : length i.places ≡ feature_count (content i)
   pub placed : (feature : ℕ) (place : Place) → slice_get i.places feature ≡ Some place → IsPlace i.tree (content i) pages feature place
 
--- the header of a store that is not finished: it begins with the letters MFTB, version 2 and state 0
+-- how the header of a store begins that is not finished: the letters MFTB, version 2 and state 0
+abbrev pub unfinished_front : List ℕ
+unfinished_front = 77 ∷ 70 ∷ 84 ∷ 66 ∷ 0 ∷ 0 ∷ 0 ∷ 2 ∷ 0 ∷ 0 ∷ 0 ∷ 0 ∷ []
+
+-- the header of a store that is not finished
 pub record IsUnfinished (payload : Payload) : Type 0 where
   pub kind : payload.kind ≡ Header
-  pub front : take 12 payload.bytes ≡ 77 ∷ 70 ∷ 84 ∷ 66 ∷ 0 ∷ 0 ∷ 0 ∷ 2 ∷ 0 ∷ 0 ∷ 0 ∷ 0 ∷ []
+  pub front : take 12 payload.bytes ≡ unfinished_front
 
 -- page 0 as written is such a header, and is not changed
 pub record IsMarked (c : Cache) : Type 0 where
@@ -55,6 +60,21 @@ pub record IsMarked (c : Cache) : Type 0 where
   pub payload : Payload
   pub sealed : sealed_payload c 0 ≡ Some payload
   pub unfinished : IsUnfinished payload
+
+-- what contracts say of an index over pages
+abbrev pub words : Ghosts IndexView
+words = record {
+  content = λ index. content index;
+  is_sound = λ index. IsSound index;
+  is_spent = λ index. index.tree.spent;
+  faults = λ index. index.cache.store.faults;
+  is_store_full = λ index. index.cache.count ≡ index.cache.store.most;
+  asked = λ index. min index.cache.asked (2 ^ 64 - 1);
+  plan = λ index. Some index.tree.shape;
+  is_clean = λ index. IsClean index.cache;
+  is_marked = λ index. IsMarked index.cache;
+  written = λ index. written index;
+}
 
 -- the places, with one of a feature without legs where the next one is new
 abbrev pub with_place : List Place → ℕ → List Place

@@ -3,3 +3,4 @@ pub mod Way
 pub mod Index
 pub mod Putting
 pub mod Answers
+pub mod Marking

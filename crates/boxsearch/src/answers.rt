@@ -84,3 +84,13 @@ pub(crate) fn found(given: Result<Vec<Leg>, SearchFault>) -> Result<Vec<Leg>, In
         Err(fault) => Err(of_search(fault)),
     }
 }
+
+/// What a call on the cache answers.
+pub(crate) fn of_pages(given: Result<(), CacheFault>) -> Result<(), IndexFault>
+    ensures { result ≡ answered (λ fault. of_cache fault) given }
+{
+    match given {
+        Ok(()) => Ok(()),
+        Err(fault) => Err(of_cache(fault)),
+    }
+}

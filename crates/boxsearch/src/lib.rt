@@ -5,6 +5,7 @@ mod answers;
 mod descent;
 mod fault;
 mod listed;
+mod marking;
 mod nodes;
 mod tree_index;
 

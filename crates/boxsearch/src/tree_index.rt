@@ -1,5 +1,7 @@
 //! An index of legs over pages.
-use legs::Leg;
+use crate::answers::of_pages;
+use crate::marking::mark_page;
+use legs::{IndexFault, Leg};
 use pagecache::PageCache;
 use pages::PageStore;
 use std::alloc::{AllocError, Global};
@@ -32,7 +34,8 @@ impl<S: PageStore> TreeIndex<S> {
     ghost use Rattle.pagecache.specs.Cache.{payload_of};
     ghost use Rattle.tbtree.specs.Nodes.{pages_of_cache};
     ghost use Rattle.chains.specs.Chains.{AreHeld};
-    ghost use Rattle.boxsearch.specs.Index.{content, IsSound, with_place};
+    ghost use Rattle.boxsearch.specs.Index.{content, words, IsSound, with_place};
+    ghost use Rattle.legs.specs.Asking.{Starts, Refusals};
     ghost use Rattle.boxsearch.specs.Putting.{Puts};
 
     /// An index without legs over the pages of a cache, the first of which is page 0. It is sound where the store is
@@ -53,6 +56,20 @@ impl<S: PageStore> TreeIndex<S> {
             places: Vec::new(alloc),
             legs: 0,
         }
+    }
+
+    /// Marks the store as one that is not finished, in its page 0 as written. Nothing is written where it is marked.
+    ///
+    /// Refused are a spent index, and what the cache refuses.
+    pub fn mark(&mut self) -> Result<(), IndexFault>
+        ensures starts { Starts words self.old self.new result }
+        ensures refusals { Refusals words self.old self.new result }
+    {
+        if self.tree.spent {
+            return Err(IndexFault::Spent);
+        }
+        tbtree::laws();
+        of_pages(mark_page(&mut self.cache))
     }
 
     /// The cache of its pages, as it stands.

@@ -209,7 +209,7 @@ module _ (old new : Pages LegView BoxView) (t : DiffersAtFirst old new) where
         tree_stands = record {
           held = λ p l. ⊎_elim
               (λ (h : 0 < p). λ e. tr.held p (let c = t.count in omega (arith, l, c)) (sym (t.rest p h) ∙ e))
-              (λ (h : p ≤ 0). λ e. t.first (ap new.at (let z : 0 ≡ p = omega (arith, h) in z) ∙ e))
+              (λ (h : p ≤ 0). λ e. t.held (tr.held 0 n.page_0) (ap new.at (let z : 0 ≡ p = omega (arith, h) in z) ∙ e))
               (cases_lt 0 p);
           numbers = subst (λ c. NumbersStand tree.shape.inner tree.levels tree.root c (leaves_of tree.shape legs) pages) (sym t.count) n;
           leaves = λ i p r e f. t.rest p (n.within 0 i p e).0 ∙ tr.leaves i p r e f;

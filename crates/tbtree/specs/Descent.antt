@@ -74,10 +74,10 @@ sort_by_ordinal (leg ∷ legs) = insert_by_ordinal leg (sort_by_ordinal legs)
 unfoldable pub content_of : Pages LegView BoxView → TbTree → List LegView
 content_of nodes tree = sort_by_ordinal (legs_met leg_boxes (λ _. true) nodes tree.root tree.levels)
 
--- there are as many pages, and all but page 0, which has a payload, say what they said
+-- there are as many pages, and all but page 0 say what they said; it has a payload where it had one
 pub record DiffersAtFirst (old new : Pages LegView BoxView) : Type 0 where
   pub count : new.count ≡ old.count
-  pub first : new.at 0 ≢ None
+  pub held : old.at 0 ≢ None → new.at 0 ≢ None
   pub rest : (p : ℕ) → 0 < p → new.at p ≡ old.at p
 
 -- the page p is an inner page of the level

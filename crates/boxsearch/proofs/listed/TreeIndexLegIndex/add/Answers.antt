@@ -4,10 +4,9 @@ use Rattle.legs.specs.Asking.{Ends, LegRefusals}
 use Rattle.legs.specs.Costs.{RisesAtMost, add_bound}
 use Rattle.legs.specs.Index.{CanFollowInTurn}
 use Rattle.legs.specs.Legs.{LegView}
-use Rattle.boxsearch.specs.Index.{IndexView, content, IsSound}
+use Rattle.boxsearch.specs.Index.{IndexView, words, content, IsSound}
 use Rattle.boxsearch.specs.Putting.{Puts}
 use Rattle.boxsearch.proofs.AddLemmas.{Laws, made, added, asked, refusals, marked_after}
-use Rattle.boxsearch.proofs.IndexLemmas.{words}
 use Rattle.boxsearch.proofs.ResultLemmas.{from_ok}
 use Rattle.boxsearch.proofs.listed.TreeIndexLegIndex.add.Goals as goal
 

@@ -4,8 +4,8 @@ use Rattle.legs.specs.Asking.{Leaves, Refusals}
 use Rattle.legs.specs.Costs.{RisesBy, search_cost}
 use Rattle.legs.specs.Index.{legs_in_box}
 use Rattle.boxsearch.specs.Answers.{answered, of_search}
-use Rattle.boxsearch.specs.Index.{IndexView, content, IsSound}
-use Rattle.boxsearch.proofs.IndexLemmas.{words, reads_leave}
+use Rattle.boxsearch.specs.Index.{IndexView, words, content, IsSound}
+use Rattle.boxsearch.proofs.IndexLemmas.{reads_leave}
 use Rattle.boxsearch.proofs.QuestionLemmas.{search_asked, search_found, search_refusals}
 use Rattle.boxsearch.proofs.ResultLemmas.{on_ok}
 use Rattle.boxsearch.proofs.TrackLemmas.{rises_capped}

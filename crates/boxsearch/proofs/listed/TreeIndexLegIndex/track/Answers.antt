@@ -4,8 +4,8 @@ use Rattle.legs.specs.Asking.{Leaves, Refusals}
 use Rattle.legs.specs.Costs.{RisesBy, track_cost}
 use Rattle.legs.specs.Index.{legs_of}
 use Rattle.boxsearch.specs.Answers.{answered, of_chain}
-use Rattle.boxsearch.specs.Index.{IndexView, content, IsSound}
-use Rattle.boxsearch.proofs.IndexLemmas.{words, reads_leave}
+use Rattle.boxsearch.specs.Index.{IndexView, words, content, IsSound}
+use Rattle.boxsearch.proofs.IndexLemmas.{reads_leave}
 use Rattle.boxsearch.proofs.ResultLemmas.{on_ok}
 use Rattle.boxsearch.proofs.TrackLemmas.{absent, absent_cost, rises_capped, track_asked, track_found, track_refusals}
 use Rattle.boxsearch.proofs.listed.TreeIndexLegIndex.track.Goals as goal

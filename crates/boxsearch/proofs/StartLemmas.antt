@@ -1,0 +1,116 @@
+-- An index whose page 0 is marked.
+use Rattle.std.proofs.Common.{ℕ, ◌≡◌, ◌≢◌, ◌≤◌, ◌<◌, ◌-◌, ◌^◌, min, refl, sym, ap, ◌∙◌, arith, subst, true, false, cond, drop, length, List, [], All, IsTrue, Option, Some, None, option_map, Result, Ok, Err}
+use Rattle.std.specs.Prelude.{IfErr, OnOk, OnErr, IsErrOf}
+use Rattle.std.proofs.lemmas.Bool.{true≢false}
+use Rattle.std.proofs.lemmas.Int.{clamps}
+use Rattle.legs.specs.Asking.{IsLater, Refusals, Starts}
+use Rattle.legs.specs.Boxes.{BoxView}
+use Rattle.legs.specs.Index.{HasRisen, MayRefuse, feature_count}
+use Rattle.legs.specs.Legs.{IsLeg, LegView}
+use Rattle.legs.specs.declared.index.IndexFault.{IndexFault}
+use Rattle.legs.specs.declared.index.IndexFault.TheVariants as index
+use Rattle.pages.specs.Store.{Faulted}
+use Rattle.pagecache.specs.Cache.{Cache, IsClean, pages_as_written, payload_of}
+use Rattle.pagecache.specs.declared.fault.CacheFault.{CacheFault}
+use Rattle.pagecache.specs.declared.fault.CacheFault.TheVariants as cache
+use Rattle.pages.specs.declared.payload.Payload.{Payload}
+use Rattle.tbnode.specs.Form.{node_of}
+use Rattle.tbtree.specs.Descent.{content_of, DiffersAtFirst}
+use Rattle.tbtree.specs.Insert.{Stands, IsPlace}
+use Rattle.tbtree.specs.Nodes.{Pages, pages_of_cache}
+use Rattle.tbtree.specs.declared.tree.TbTree.{TbTree}
+use Rattle.boxsearch.specs.Answers.{answered, of_cache}
+use Rattle.boxsearch.specs.Index.{IndexView, words, content, written, IsSound, IsMarked}
+use Rattle.boxsearch.specs.Marking.{Marks, IsNotMarked}
+use Rattle.boxsearch.proofs.AnswerLemmas.{each_fault, each_value, the_fault, Said}
+use Rattle.boxsearch.proofs.IndexLemmas.{with_cache}
+use Rattle.boxsearch.proofs.ResultLemmas.{on_ok, on_err}
+
+-- the laws of a tree that are cited here
+pub record FirstLaws : Type 0 where
+  pub content : (old new : Pages LegView BoxView) (tree : TbTree) → DiffersAtFirst old new → content_of new tree ≡ content_of old tree
+  pub stands : (old new : Pages LegView BoxView) (tree : TbTree) (legs : List LegView) (pages : ℕ → List ℕ) → DiffersAtFirst old new → Stands old tree legs pages → Stands new tree legs pages
+
+map_none : {X Y : Type 0} (f : X → Y) (o : Option X) → option_map f o ≡ None → o ≡ None
+map_none f None e = refl
+map_none f (Some x) e = absurd cc
+
+module _ (laws : FirstLaws) (old : IndexView) (c : Cache) (m : Marks old.cache c) where
+  abbrev new : IndexView
+  new = with_cache old c
+
+  differs : IsTrue old.cache.store.is_faithful → DiffersAtFirst (pages_of_cache old.cache) (pages_of_cache c)
+  differs f = record {
+    count = m.count;
+    held = λ u e. m.held f (λ z. u (ap (option_map node_of) z)) (map_none node_of (payload_of c 0) e);
+    rest = λ p h. ap (option_map node_of) (m.rest f p h);
+  }
+
+  same_content : content new ≡ content old
+  same_content =
+      ap (λ b. cond b (content_of (pages_of_cache c) old.tree) []) m.store.faithful ∙
+      (elim old.cache.store.is_faithful as (λ b. old.cache.store.is_faithful ≡ b → cond b (content_of (pages_of_cache c) old.tree) [] ≡ cond b (content_of (pages_of_cache old.cache) old.tree) []) [
+        | true ↦ λ f. laws.content (pages_of_cache old.cache) (pages_of_cache c) old.tree (differs f)
+        | false ↦ λ f. refl
+      ]) refl
+
+  still_sound : IsSound old → IsSound new
+  still_sound s =
+      let legs = same_content in
+      record {
+        faithful = m.store.faithful ∙ s.faithful;
+        works = s.works;
+        shape = s.shape;
+        count = m.count ∙ s.count ∙ sym m.length;
+        pages = s.pages;
+        stands = subst (λ l. Stands (pages_of_cache c) old.tree l s.pages) (sym legs) (laws.stands (pages_of_cache old.cache) (pages_of_cache c) old.tree (content old) s.pages (differs s.faithful) s.stands);
+        lawful = subst (λ l. All IsLeg l) (sym legs) s.lawful;
+        counted = s.counted ∙ sym (ap length legs);
+        features = s.features ∙ sym (ap feature_count legs);
+        placed = λ f place e. subst (λ l. IsPlace old.tree l s.pages f place) (sym legs) (s.placed f place e);
+      }
+
+  written_is : (i : IndexView) → IsTrue i.cache.store.is_faithful → written i ≡ pages_as_written i.cache
+  written_is i f = ap (λ b. cond b (pages_as_written i.cache) []) f
+
+  pub starts : (r : Result (Unit {0}) CacheFault) → OnOk r (IsTrue old.cache.store.is_faithful → 0 < old.cache.count → IsClean old.cache → IsMarked c)
+      → OnErr r (IsTrue old.cache.store.is_faithful → IsClean old.cache → drop 1 (pages_as_written c) ≡ drop 1 (pages_as_written old.cache))
+      → OnErr r (IsTrue old.cache.store.is_faithful → IsClean old.cache → (Faulted old.cache.store c.store → ⊥) → pages_as_written c ≡ pages_as_written old.cache)
+      → Starts words old new (answered (λ fault. of_cache fault) r)
+  starts r marked others first = record {
+    content = same_content;
+    sound = still_sound;
+    spent = refl;
+    later = record { plan = refl; faults = m.store.faults; asked = (let a = m.asked in omega (arith, clamps, a)) };
+    marks = each_value (λ fault. of_cache fault) (λ _. IsSound old → IsClean old.cache → IsMarked c) r (on_ok r (λ h s clean. h s.faithful s.stands.tree_stands.numbers.page_0 clean) marked);
+    marked = m.stays;
+    others = each_fault (λ fault. of_cache fault) (λ _. IsSound old → IsClean old.cache → drop 1 (written new) ≡ drop 1 (written old)) (λ _. IsSound old → IsClean old.cache → drop 1 (written new) ≡ drop 1 (written old)) (λ x h. h) r
+        (on_err r (λ h s clean. ap (drop 1) (written_is new (m.store.faithful ∙ s.faithful)) ∙ h s.faithful clean ∙ sym (ap (drop 1) (written_is old s.faithful))) others);
+    first = each_fault (λ fault. of_cache fault) (λ _. IsSound old → IsClean old.cache → (HasRisen old.cache.store.faults c.store.faults → ⊥) → written new ≡ written old) (λ _. IsSound old → IsClean old.cache → (HasRisen old.cache.store.faults c.store.faults → ⊥) → written new ≡ written old) (λ x h. h) r
+        (on_err r (λ h s clean risen. written_is new (m.store.faithful ∙ s.faithful) ∙ h s.faithful clean risen ∙ sym (written_is old s.faithful)) first);
+  }
+
+-- why page 0 is not marked
+not_marked_said : (a b : Cache) (fault : CacheFault) → IsNotMarked a b fault → Said a b (of_cache fault)
+not_marked_said a b cache.NoPage h = tt
+not_marked_said a b cache.Store h = h
+not_marked_said a b (cache.Damaged n) h = tt
+not_marked_said a b cache.StoreFull h = h
+not_marked_said a b cache.Memory h = tt
+
+not_marked_allowed : (old : IndexView) (c : Cache) (fault : CacheFault) → IsNotMarked old.cache c fault → IsSound old → MayRefuse (of_cache fault)
+not_marked_allowed old c cache.NoPage h s = absurd (let t = s.stands.tree_stands.numbers.page_0 in omega (arith, t, h))
+not_marked_allowed old c cache.Store h s = tt
+not_marked_allowed old c (cache.Damaged n) h s = s.stands.tree_stands.held 0 s.stands.tree_stands.numbers.page_0 (ap (option_map node_of) (h s.faithful))
+not_marked_allowed old c cache.StoreFull h s = h
+not_marked_allowed old c cache.Memory h s = tt
+
+pub mark_refusals : (old : IndexView) (c : Cache) (r : Result (Unit {0}) CacheFault) → old.tree.spent ≡ false → IfErr r (IsNotMarked old.cache c) → Refusals words old (with_cache old c) (answered (λ fault. of_cache fault) r)
+mark_refusals old c r works caused =
+    let said = each_fault (λ fault. of_cache fault) (IsNotMarked old.cache c) (Said old.cache c) (not_marked_said old.cache c) r caused in
+    record {
+      was_spent = λ e. absurd (true≢false (sym e ∙ works));
+      sound = each_fault (λ fault. of_cache fault) (IsNotMarked old.cache c) (λ fault. IsSound old → MayRefuse fault) (not_marked_allowed old c) r caused;
+      store = λ e. the_fault (answered (λ fault. of_cache fault) r) (Said old.cache c) index.Store e said;
+      full = λ e. the_fault (answered (λ fault. of_cache fault) r) (Said old.cache c) index.StoreFull e said;
+    }

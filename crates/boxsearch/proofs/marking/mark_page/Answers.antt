@@ -1,0 +1,47 @@
+use Rattle.std.proofs.Common.{◌≡◌, ap, subst, sym, ◌∙◌, IsTrue}
+use Rattle.std.specs.Result.{is_ok}
+use Rattle.std.proofs.lemmas.Bool.{true≢false}
+use Rattle.pagecache.specs.Cache.{Rests, IsRefused}
+use Rattle.boxsearch.specs.Index.{IsUnfinished}
+use Rattle.boxsearch.proofs.MarkLemmas.{rests_marks, marks_trans, flushed_marks, is_marked, others_written, marked_is}
+use Rattle.boxsearch.proofs.ResultLemmas.{on_ok, on_fault, the_error}
+use Rattle.boxsearch.proofs.marking.mark_page.Goals as goal
+
+pub returns-in_err-page-clause-marks : goal.returns-in_err-page-clause-marks
+returns-in_err-page-clause-marks g c = rests_marks _ _ c.page.follows.holds-at-none.0
+
+pub returns-then-is_unfinished-clause-marks : goal.returns-then-is_unfinished-clause-marks
+returns-then-is_unfinished-clause-marks g c = rests_marks _ _ c.page.follows.holds-at-none.0
+
+pub returns-in_err-page_mut-clause-marks : goal.returns-in_err-page_mut-clause-marks
+returns-in_err-page_mut-clause-marks g c =
+    let b = c.page.follows.lender-at-none in
+    let d = c.page_mut.follows.lender-at-none in
+    marks_trans _ b d (rests_marks _ b c.page.follows.holds-at-none.0) (rests_marks b d (the_error (λ e. Rests b d × IsRefused 0 e b d) c.page_mut.result c.in_err-page_mut.field-0.0 c.in_err-page_mut.was c.page_mut.follows.holds-at-none).0)
+
+pub returns-clause-marks : goal.returns-clause-marks
+returns-clause-marks g c =
+    let b = c.page.follows.lender-at-none in
+    let w = c.set_unfinished.new.payload in
+    let not_marked : IsUnfinished c.in_ok-page.field-0.now → ⊥ = λ u. true≢false (sym (c.is_unfinished.ensures.1 u) ∙ c.if-is_unfinished.false) in
+    flushed_marks c.args.cache.now b (c.page_mut.follows.lender w) c.flush.new.self c.in_ok-page.field-0.now w c.page.follows.holds-at-none.0 c.in_ok-page.ensures.value not_marked
+    (c.page_mut.follows.holds w (ap is_ok c.in_ok-page_mut.was)) c.flush.ensures.stays c.flush.ensures.length c.flush.ensures.asked
+
+pub returns-clause-marked : goal.returns-clause-marked
+returns-clause-marked g c =
+    let b = c.page.follows.lender-at-none in
+    let w = c.set_unfinished.new.payload in
+    let not_marked : IsUnfinished c.in_ok-page.field-0.now → ⊥ = λ u. true≢false (sym (c.is_unfinished.ensures.1 u) ∙ c.if-is_unfinished.false) in
+    let unfinished : IsUnfinished w = subst (λ q. IsUnfinished q) (sym c.set_unfinished.ensures) (marked_is c.in_ok-page_mut.field-0.now) in
+    on_ok c.flush.result (λ written f h clean.
+    is_marked c.args.cache.now b (c.page_mut.follows.lender w) c.flush.new.self c.in_ok-page.field-0.now w c.page.follows.holds-at-none.0 c.in_ok-page.ensures.value not_marked
+    (c.page_mut.follows.holds w (ap is_ok c.in_ok-page_mut.was)) c.flush.ensures.stays c.flush.ensures.length c.flush.ensures.asked f h unfinished written) c.flush.ensures.written
+
+pub returns-clause-others : goal.returns-clause-others
+returns-clause-others g c =
+    let b = c.page.follows.lender-at-none in
+    let w = c.set_unfinished.new.payload in
+    let not_marked : IsUnfinished c.in_ok-page.field-0.now → ⊥ = λ u. true≢false (sym (c.is_unfinished.ensures.1 u) ∙ c.if-is_unfinished.false) in
+    on_fault c.flush.result (λ f clean.
+    others_written c.args.cache.now b (c.page_mut.follows.lender w) c.flush.new.self c.in_ok-page.field-0.now w c.page.follows.holds-at-none.0 c.in_ok-page.ensures.value not_marked
+    (c.page_mut.follows.holds w (ap is_ok c.in_ok-page_mut.was)) c.flush.ensures.stays c.flush.ensures.length c.flush.ensures.asked f clean)

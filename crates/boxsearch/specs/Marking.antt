@@ -1,0 +1,33 @@
+-- Helpers of private functions: what marking makes of page 0.
+use Rattle.std.specs.Prelude.{ℕ, ◌≡◌, ◌≢◌, ◌≤◌, ◌<◌, ◌-◌, ◌^◌, ◌++◌, min, drop, IsTrue, None}
+use Rattle.pages.specs.Store as store
+use Rattle.pages.specs.Store.{Faulted}
+use Rattle.pages.specs.declared.payload.Kind.TheVariants.{Header}
+use Rattle.pages.specs.declared.payload.Payload.{Payload}
+use Rattle.pagecache.specs.Cache.{Cache, payload_of}
+use Rattle.pagecache.specs.declared.fault.CacheFault.{CacheFault}
+use Rattle.pagecache.specs.declared.fault.CacheFault.TheVariants as cache
+use Rattle.boxsearch.specs.Index.{IsMarked, unfinished_front}
+
+-- a payload that is marked
+abbrev pub marked : Payload → Payload
+marked payload = record { kind = Header; bytes = unfinished_front ++ drop 12 payload.bytes }
+
+-- page 0 is marked, or nothing is
+pub record Marks (old new : Cache) : Type 0 where
+  pub store : store.Keeps old.store new.store
+  pub capacity : new.capacity ≡ old.capacity
+  pub count : new.count ≡ old.count
+  pub length : new.store.count ≡ old.store.count
+  pub asked : min old.asked (2 ^ 64 - 1) ≤ new.asked
+  pub rest : IsTrue old.store.is_faithful → (n : ℕ) → 0 < n → payload_of new n ≡ payload_of old n
+  pub held : IsTrue old.store.is_faithful → payload_of old 0 ≢ None → payload_of new 0 ≢ None
+  pub stays : IsMarked old → IsMarked new
+
+-- why page 0 is not marked
+abbrev pub IsNotMarked : Cache → Cache → CacheFault → Type 0
+IsNotMarked old new cache.NoPage = old.count ≤ 0
+IsNotMarked old new cache.Store = Faulted old.store new.store
+IsNotMarked old new (cache.Damaged n) = IsTrue old.store.is_faithful → payload_of old 0 ≡ None
+IsNotMarked old new cache.StoreFull = ⊥
+IsNotMarked old new cache.Memory = Unit {0}
