@@ -1,5 +1,5 @@
 -- A cache that was only read has the nodes that it had.
-use Rattle.std.proofs.Common.{ℕ, suc, ◌≡◌, Bool, List, sym, ap, ◌∙◌, Some, option_map, map, [], ◌∷◌, ◌++◌, take, slice_get, refl}
+use Rattle.std.proofs.Common.{ℕ, zero, suc, ◌≡◌, Bool, List, sym, ap, ◌∙◌, Some, option_map, map, [], ◌∷◌, ◌++◌, take, slice_get, refl}
 use Rattle.std.specs.Prelude.{IsTrue}
 use Rattle.std.specs.List.{filter, flat_map}
 use Rattle.std.proofs.lemmas.Grind.{flat_map-append}
