@@ -87,23 +87,82 @@ fn a_failed_store_spends_the_tree(rt: HostRuntime) {
     }
 }
 
-/// Two hundred legs of seven features in an order without a pattern, through a cache of that capacity: the store.
-fn stored(alloc: Global, shape: Shape, capacity: usize) -> Option<MemStore> {
-    let store = MemStore::new(alloc, 1000);
+/// Numbers without a pattern.
+#[derive(Clone, Copy)]
+struct Numbers {
+    seed: u64,
+}
+
+impl Numbers {
+    /// A number below another one, which is not 0.
+    fn below(&mut self, end: u32) -> u32 {
+        let seed = self.seed.wrapping_mul(6_364_136_223_846_793_005);
+        self.seed = seed.wrapping_add(1_442_695_040_888_963_407);
+        ((self.seed >> 33) as u32) % end.max(1)
+    }
+
+    /// A point of a square of the plane.
+    fn point(&mut self) -> Option<Position> {
+        Some(Position {
+            x: Coord::new(i64::from(self.below(1 << 20)))?,
+            y: Coord::new(i64::from(self.below(1 << 20)))?,
+            z: Coord::new(0)?,
+        })
+    }
+
+    /// A leg in a second of its ordinal and its feature. Some legs of a feature begin when its last one ends.
+    fn leg(&mut self, ordinal: u32, feature: u32) -> Option<Leg> {
+        let second = i64::from(ordinal).wrapping_add(i64::from(feature).wrapping_mul(12));
+        let start = second.wrapping_mul(1000);
+        let t0 = start.wrapping_add(i64::from(self.below(2)).wrapping_mul(250));
+        let t1 = start.wrapping_add(i64::from(self.below(3)).wrapping_mul(250).wrapping_add(500));
+        let (from, to) = (self.point()?, self.point()?);
+        Leg::new(
+            u64::from(ordinal),
+            feature,
+            Ms::new(t0)?,
+            Ms::new(t1)?,
+            from,
+            to,
+            ordinal,
+        )
+    }
+}
+
+/// Ten thousand legs of that many features, which come in the order of their first legs.
+fn feed(alloc: Global, features: u32) -> Option<Vec<Leg>> {
+    let mut numbers = Numbers { seed: 1 };
+    let mut legs = Vec::new(alloc);
+    let mut known = 0u32;
+    for ordinal in 0..10_000 {
+        let feature = numbers.below(features).min(known);
+        known = known.max(feature.wrapping_add(1));
+        legs.push(numbers.leg(ordinal, feature)?).ok()?;
+    }
+    Some(legs)
+}
+
+/// The places of that many features without legs.
+fn places(alloc: Global, features: u32) -> Option<Vec<Place>> {
+    let mut places = Vec::new(alloc);
+    for _ in 0..features {
+        places.push(Place::new()).ok()?;
+    }
+    Some(places)
+}
+
+/// What is in the store after these legs of at most 300 features, through a cache of that capacity.
+fn stored(alloc: Global, shape: Shape, capacity: usize, legs: &[Leg]) -> Option<MemStore> {
+    let store = MemStore::new(alloc, 20_000);
     let Ok(mut cache) = PageCache::new(alloc, store, capacity.max(1)) else {
         return None;
     };
     cache.add_page(Kind::Header).ok()?;
     let mut tree = TbTree::new(shape);
-    let mut places = [Place::new(); 7];
-    let mut known = 1;
-    let mut seed = 1u32;
-    for ordinal in 0..200 {
-        seed = seed.wrapping_mul(1_664_525).wrapping_add(1_013_904_223);
-        let feature = ((seed >> 16) % 7).min(known);
-        known = known.max(feature + 1).min(6);
-        let place = &mut places[feature as usize % 7];
-        insert(&mut tree, &mut cache, place, leg(ordinal, feature)?).ok()?;
+    let mut places = places(alloc, 300)?;
+    for leg in legs {
+        let place = places.get_mut(leg.feature as usize)?;
+        insert(&mut tree, &mut cache, place, *leg).ok()?;
     }
     cache.flush().ok()?;
     Some(cache.into_store())
@@ -120,31 +179,64 @@ fn page(store: &mut MemStore, number: u32) -> Option<[u8; 4096]> {
 }
 
 /// Whether two stores have the same pages.
-fn same_pages(mut one: MemStore, mut other: MemStore) -> bool {
+fn same_pages(one: &mut MemStore, other: &mut MemStore) -> bool {
     let count = one.len();
     for number in 0..count {
-        if page(&mut one, number) != page(&mut other, number) {
+        if page(one, number) != page(other, number) {
             return false;
         }
     }
     count == other.len()
 }
 
+/// Whether random legs of that many features make the same pages at three capacities.
+fn is_same(alloc: Global, (leaf, inner): (u16, u16), features: u32) -> Option<bool> {
+    let shape = Shape::new(leaf, inner)?;
+    let legs = feed(alloc, features)?;
+    let mut wide = stored(alloc, shape, 256, legs.as_slice())?;
+    let mut three = stored(alloc, shape, 3, legs.as_slice())?;
+    if !same_pages(&mut wide, &mut three) {
+        return Some(false);
+    }
+    let mut one = stored(alloc, shape, 1, legs.as_slice())?;
+    Some(same_pages(&mut wide, &mut one))
+}
+
 #[test]
-fn pages_are_the_same_whatever_the_capacity(rt: HostRuntime) {
-    for (leaf, inner) in [(2, 2), (3, 5), (50, 72)] {
-        let Some(shape) = Shape::new(leaf, inner) else {
-            assert!(rt; false, "no shape");
-            continue;
-        };
-        let alloc = rt.alloc();
-        let wide = stored(alloc, shape, 256);
-        let narrow = stored(alloc, shape, 1);
-        let (Some(wide), Some(narrow)) = (wide, narrow) else {
-            assert!(rt; false, "no tree of shape {leaf}, {inner}");
-            continue;
-        };
-        assert!(rt; same_pages(wide, narrow), "at shape {leaf}, {inner}");
+fn small_pages_of_one_feature_are_the_same_whatever_the_capacity(rt: HostRuntime) {
+    assert_eq!(rt; is_same(rt.alloc(), (2, 2), 1), Some(true));
+}
+
+#[test]
+fn small_pages_of_seven_features_are_the_same_whatever_the_capacity(rt: HostRuntime) {
+    assert_eq!(rt; is_same(rt.alloc(), (2, 2), 7), Some(true));
+}
+
+#[test]
+fn small_pages_of_many_features_are_the_same_whatever_the_capacity(rt: HostRuntime) {
+    assert_eq!(rt; is_same(rt.alloc(), (2, 2), 300), Some(true));
+}
+
+#[test]
+fn odd_pages_of_one_feature_are_the_same_whatever_the_capacity(rt: HostRuntime) {
+    assert_eq!(rt; is_same(rt.alloc(), (3, 5), 1), Some(true));
+}
+
+#[test]
+fn odd_pages_of_seven_features_are_the_same_whatever_the_capacity(rt: HostRuntime) {
+    assert_eq!(rt; is_same(rt.alloc(), (3, 5), 7), Some(true));
+}
+
+#[test]
+fn odd_pages_of_many_features_are_the_same_whatever_the_capacity(rt: HostRuntime) {
+    assert_eq!(rt; is_same(rt.alloc(), (3, 5), 300), Some(true));
+}
+
+#[test]
+fn full_pages_are_the_same_whatever_the_capacity(rt: HostRuntime) {
+    for features in [1, 7, 300] {
+        let same = is_same(rt.alloc(), (50, 72), features);
+        assert_eq!(rt; same, Some(true), "of {features} features");
     }
 }
 
