@@ -89,7 +89,7 @@ fn a_leaf_that_is_its_own_next_is_malformed(rt: HostRuntime) {
 }
 
 /// A leaf that is written over a page: its neighbours, and the feature, the first ordinal and the number of its legs.
-#[derive(Clone, Copy, Debug)]
+#[derive(Clone, Copy)]
 struct Forged {
     page: u32,
     previous: u32,
@@ -142,37 +142,37 @@ fn leaf_over(page: u32, [previous, next]: [u32; 2], [feature, first, legs]: [u32
     }
 }
 
-/// Of five legs the leaves are the pages 1, 2 and 4, of four legs the pages 1 and 2; page 3 is the root over the first
-/// two, and of four legs there is no page 4.
+/// How many legs there are, which leaf is forged over which page, and the page that is named. Of five legs the leaves
+/// are the pages 1, 2 and 4, of four legs the pages 1 and 2; page 3 is the root over the first two, and of four legs
+/// there is no page 4.
+const LIES: [(u32, u32, [u32; 2], [u32; 3], u32); 12] = [
+    // A leaf of another feature than the leaf after it is named: the middle one; the one before a last one of another
+    // feature, since the walk takes the feature from the last; the first one.
+    (5, 2, [1, 4], [1, 2, 2], 2),
+    (5, 4, [2, 0], [1, 4, 1], 2),
+    (5, 1, [0, 2], [1, 0, 2], 1),
+    // A leaf with another count is named: a middle one with one leg; a last one with two legs where one is left, and
+    // with one where two are.
+    (5, 2, [1, 4], [0, 2, 1], 2),
+    (5, 4, [2, 0], [0, 4, 2], 4),
+    (4, 2, [1, 0], [0, 2, 1], 2),
+    // A first leaf whose `next` is 0 is named, and so is a last one whose `previous` is 0, with a leaf to come.
+    (4, 1, [0, 0], [0, 0, 2], 1),
+    (4, 2, [0, 0], [0, 2, 2], 2),
+    // A first leaf with a `previous` is named; a last one whose `previous` is itself, and which is not its own next;
+    // an inner page that is a `previous`; and a page that is one and is not there.
+    (4, 1, [2, 2], [0, 0, 2], 1),
+    (4, 2, [2, 0], [0, 2, 2], 2),
+    (4, 2, [3, 0], [0, 2, 2], 3),
+    (4, 2, [4, 0], [0, 2, 2], 4),
+];
+
 #[test]
 fn a_forged_leaf_is_named(rt: HostRuntime) {
-    for (legs, forged, page) in [
-        // A leaf of another feature than the leaf after it is named: the middle one; the one before a last one of
-        // another feature, since the walk takes the feature from the last; the first one.
-        (5, leaf_over(2, [1, 4], [1, 2, 2]), 2),
-        (5, leaf_over(4, [2, 0], [1, 4, 1]), 2),
-        (5, leaf_over(1, [0, 2], [1, 0, 2]), 1),
-        // A leaf with another count is named: a middle one with one leg; a last one with two legs where one is left,
-        // and with one where two are.
-        (5, leaf_over(2, [1, 4], [0, 2, 1]), 2),
-        (5, leaf_over(4, [2, 0], [0, 4, 2]), 4),
-        (4, leaf_over(2, [1, 0], [0, 2, 1]), 2),
-        // A first leaf whose `next` is 0 is named, and so is a last one whose `previous` is 0, with a leaf to come.
-        (4, leaf_over(1, [0, 0], [0, 0, 2]), 1),
-        (4, leaf_over(2, [0, 0], [0, 2, 2]), 2),
-        // A first leaf with a `previous` is named; a last one whose `previous` is itself, and which is not its own
-        // next; an inner page that is a `previous`; and a page that is one and is not there.
-        (4, leaf_over(1, [2, 2], [0, 0, 2]), 1),
-        (4, leaf_over(2, [2, 0], [0, 2, 2]), 2),
-        (4, leaf_over(2, [3, 0], [0, 2, 2]), 3),
-        (4, leaf_over(2, [4, 0], [0, 2, 2]), 4),
-    ] {
-        let told = told(rt.alloc(), legs, &forged);
-        assert_eq!(rt;
-            told,
-            Some(Err(ChainFault::Malformed(page))),
-            "at {forged:?}"
-        );
+    for (legs, over, neighbours, of, page) in LIES {
+        let told = told(rt.alloc(), legs, &leaf_over(over, neighbours, of));
+        let named = Some(Err(ChainFault::Malformed(page)));
+        assert_eq!(rt; told, named, "at {over}, {neighbours:?}, {of:?}");
     }
 }
 
@@ -301,19 +301,23 @@ fn listed(alloc: Global, legs: &[Leg]) -> Option<ListIndex> {
 
 /// The times that a feature with these legs is asked about: ever; the moment in the middle at which a leg ends; the
 /// last tenth; everything; a second before; a second after.
-fn times(legs: &[Leg]) -> Option<[Option<Period>; 6]> {
+fn times(alloc: Global, legs: &[Leg]) -> Option<Vec<Option<Period>>> {
     let (first, last) = (legs.first()?.t0.millis(), legs.last()?.t1.millis());
     let middle = legs.get(legs.len() / 2)?.t1.millis();
-    let tenth = last.wrapping_sub(last.wrapping_sub(first) / 10);
-    let period = |start: i64, end: i64| Period::new(Ms::new(start)?, Ms::new(end)?);
-    Some([
-        None,
-        Some(period(middle, middle)?),
-        Some(period(tenth, last)?),
-        Some(period(first, last)?),
-        Some(period(first.wrapping_sub(1000), first.wrapping_sub(1))?),
-        Some(period(last.wrapping_add(1), last.wrapping_add(1000))?),
-    ])
+    let tenth = last.wrapping_sub(first) / 10;
+    let mut times = Vec::new(alloc);
+    times.push(None).ok()?;
+    for (start, end) in [
+        (middle, middle),
+        (last.wrapping_sub(tenth), last),
+        (first, last),
+        (first.wrapping_sub(1000), first.wrapping_sub(1)),
+        (last.wrapping_add(1), last.wrapping_add(1000)),
+    ] {
+        let period = Period::new(Ms::new(start)?, Ms::new(end)?)?;
+        times.push(Some(period)).ok()?;
+    }
+    Some(times)
 }
 
 /// The most pages that may be asked for: all leaves, and in a period at most one more than the leaves with a leg that
@@ -362,7 +366,7 @@ fn ask_feature(
 ) -> Option<()> {
     let legs = list.track(feature).ok()?;
     let leaf = usize::from(shape.leaf());
-    for time in &times(legs.as_slice())? {
+    for time in &times(alloc, legs.as_slice())? {
         let wanted = match time {
             Some(period) => list.track_in(feature, period).ok()?,
             None => legs.clone().ok()?,
