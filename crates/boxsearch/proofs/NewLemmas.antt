@@ -10,11 +10,8 @@ use Rattle.tbtree.specs.Insert.{Stands}
 use Rattle.tbtree.specs.Nodes.{pages_of_cache}
 use Rattle.tbtree.specs.Shape.{IsShape}
 use Rattle.tbtree.specs.Stands.{empty_tree}
-use Rattle.boxsearch.specs.Index.{IndexView, content, IsSound}
+use Rattle.boxsearch.specs.Index.{content, new_index, IsSound}
 use Rattle.boxsearch.proofs.PlaceLemmas.{some_none}
-
-abbrev pub new_index : Cache → ShapeView → IndexView
-new_index cache shape = record { cache = cache; tree = empty_tree shape; places = []; legs = 0 }
 
 pub no_content : (cache : Cache) (shape : ShapeView) → content (new_index cache shape) ≡ []
 unfolding content_of

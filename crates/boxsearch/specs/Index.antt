@@ -11,7 +11,7 @@ use Rattle.tbtree.specs.Descent.{content_of}
 use Rattle.tbtree.specs.Insert.{Stands, IsPlace}
 use Rattle.tbtree.specs.Nodes.{pages_of_cache}
 use Rattle.tbtree.specs.Shape.{IsShape}
-use Rattle.tbtree.specs.Stands.{no_place}
+use Rattle.tbtree.specs.Stands.{empty_tree, no_place}
 use Rattle.tbtree.specs.declared.tree.Place.{Place}
 use Rattle.tbtree.specs.declared.tree.TbTree.{TbTree}
 
@@ -30,7 +30,8 @@ content i = if i.cache.store.is_faithful then content_of (pages_of_cache i.cache
 abbrev pub written : IndexView → List (List ℕ)
 written i = if i.cache.store.is_faithful then pages_as_written i.cache else []
 
--- over a faithful store and not spent, its pages stand for its legs, which it counts, and each feature has its place
+-- over a faithful store, all of whose pages its cache counts, and not spent, its pages stand for its legs, which it
+-- counts, and each feature has its place
 pub record IsSound (i : IndexView) : Type 0 where
   pub faithful : IsTrue i.cache.store.is_faithful
   pub works : i.tree.spent ≡ false
@@ -79,3 +80,7 @@ words = record {
 -- the places, with one of a feature without legs where the next one is new
 abbrev pub with_place : List Place → ℕ → List Place
 with_place places feature = if feature == length places then places ++ no_place ∷ [] else places
+
+-- an index without legs
+abbrev pub new_index : Cache → ShapeView → IndexView
+new_index cache shape = record { cache = cache; tree = empty_tree shape; places = []; legs = 0 }

@@ -16,7 +16,7 @@ pub enum SearchFault {
     /// The page of that number is not the one that the tree expects there.
     #[error("page {0} is malformed")]
     Malformed(u32),
-    /// An insertion into the tree was refused in its middle.
+    /// The tree is spent: an insertion into it was refused.
     #[error("the tree is spent")]
     Spent,
     /// Memory ran out.

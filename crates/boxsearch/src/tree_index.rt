@@ -34,16 +34,14 @@ impl<S: PageStore> TreeIndex<S> {
     ghost use Rattle.pagecache.specs.Cache.{payload_of};
     ghost use Rattle.tbtree.specs.Nodes.{pages_of_cache};
     ghost use Rattle.chains.specs.Chains.{AreHeld};
-    ghost use Rattle.boxsearch.specs.Index.{content, words, IsSound, with_place};
+    ghost use Rattle.boxsearch.specs.Index.{content, new_index, words, IsSound, with_place};
     ghost use Rattle.legs.specs.Asking.{Starts, Refusals};
     ghost use Rattle.boxsearch.specs.Putting.{Puts};
 
-    /// An index without legs over the pages of a cache, the first of which is page 0. It is sound where the store is
-    /// faithful, has a page 0, and all its pages are sealed.
+    /// An index without legs over the pages of a cache. It is sound where the store is faithful, has a page 0, all its
+    /// pages are sealed, and the cache counts all of them.
     pub fn new(alloc: Global, cache: PageCache<S>, shape: Shape) -> TreeIndex<S>
-        ensures cache { result.cache ≡ cache }
-        ensures shape { result.tree.shape ≡ shape }
-        ensures works { result.tree.spent ≡ false }
+        ensures value { result ≡ new_index cache shape }
         ensures empty { content result ≡ [] }
         ensures sound { IsTrue cache.store.is_faithful → 0 < cache.count
             → AreHeld (pages_of_cache cache) → cache.count ≡ cache.store.count → IsSound result }
@@ -58,7 +56,8 @@ impl<S: PageStore> TreeIndex<S> {
         }
     }
 
-    /// Marks the store as one that is not finished, in its page 0 as written. Nothing is written where it is marked.
+    /// Marks the store as one that is not finished, in its page 0. A page 0 that says so is left as it is; any other is
+    /// made to, and all that is changed is written.
     ///
     /// Refused are a spent index, and what the cache refuses.
     pub fn mark(&mut self) -> Result<(), IndexFault>

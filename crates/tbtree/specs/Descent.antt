@@ -70,7 +70,8 @@ abbrev pub sort_by_ordinal : List LegView → List LegView
 sort_by_ordinal [] = []
 sort_by_ordinal (leg ∷ legs) = insert_by_ordinal leg (sort_by_ordinal legs)
 
--- the content of a tree, whatever its pages hold: the legs of all leaves below the root, in the order of their ordinals
+-- the content of a tree, whatever its pages hold: the legs of all leaves that are as many levels below the root as the
+-- tree has, in the order of their ordinals
 unfoldable pub content_of : Pages LegView BoxView → TbTree → List LegView
 content_of nodes tree = sort_by_ordinal (legs_met leg_boxes (λ _. true) nodes tree.root tree.levels)
 

@@ -13,7 +13,7 @@ ghost use Rattle.tbtree.specs.Shape.{IsShape};
 ghost use Rattle.tbtree.specs.Stands.{no_place};
 ghost use Rattle.tbtree.specs.declared.tree.TbTree.{TbTree};
 
-/// What holds of pages that stand for legs, for the proofs of a caller. It does nothing.
+/// What holds of the pages of a tree, and of pages that stand for legs, for the proofs of a caller. It does nothing.
 pub fn laws()
     // The content of pages that stand for legs is those legs, and the legs of any content are lawful.
     ensures content { (nodes : Pages LegView BoxView) (tree : TbTree) (legs : List LegView)

@@ -15,7 +15,7 @@ pub enum TreeFault {
     /// The page of that number is not the one that the tree expects there.
     #[error("page {0} is malformed")]
     Malformed(u32),
-    /// An earlier call was refused in its middle.
+    /// The tree is spent: an earlier insertion was refused.
     #[error("the tree is spent")]
     Spent,
 }
