@@ -13,7 +13,7 @@ use Rattle.legs.specs.Blocks.{joined}
 use Rattle.tbtree.specs.Nodes.{Pages, ALeaf, LeafView}
 use Rattle.tbtree.specs.Stands.{owner, marks, pages_of, head_or_zero, last_or, leaf_of, LeavesStand}
 use Rattle.chains.specs.Chains.{IsLinked, IsChain, walk, legs_in, previous_of}
-use Rattle.chains.specs.Links.{Fits, is_kept, is_end, link_back}
+use Rattle.chains.specs.Links.{Fits, IsPlaced, spot_of, is_kept, is_end, link_back}
 use Rattle.chains.specs.declared.leaves.Link.{Link}
 
 -- lists in the other order, before acc
@@ -135,15 +135,30 @@ fitting : (o : Option ℕ) (g f : ℕ) → g ≡ f → IfSome o (λ h. f ≡ h) 
 fitting None g f e s = s
 fitting (Some h) g f e s = e ∙ s
 
+-- a leaf of such a row is placed as the chain has it
+placed_back : (nodes : Pages LegView BoxView) (f first most legs p : ℕ) (leaf : LeafView LegView) (rs : List (List LegView)) → IsBack nodes f first p leaf.previous rs
+    → IsPlaced leaf p (spot_of most legs first (length rs))
+placed_back nodes f first most legs p leaf [] b = record { one_before = λ l. absurd (omega (arith, l)); none_before = λ _. b.0; first_is = λ _. b.1 }
+placed_back nodes f first most legs p leaf (r ∷ rs) b =
+    let above = b.1.above in
+    record { one_before = λ _ e. omega (arith, above, e); none_before = λ z. absurd (omega (arith, z)); first_is = λ z. absurd (omega (arith, z)) }
+
+-- without a run none is named
+pub back_none : (nodes : Pages LegView BoxView) (f first next p : ℕ) (rs : List (List LegView)) → length rs ≡ 0 → IsBack nodes f first next p rs → (p ≡ 0) × (next ≡ first)
+back_none nodes f first next p [] z b = b
+back_none nodes f first next p (r ∷ rs) z b = absurd (omega (arith, z))
+
 module _ (nodes : Pages LegView BoxView) (period : Option PeriodView) where
   -- the leaves are a chain
   pub is_chain : (f first most legs : ℕ) (rs : List (List LegView)) (link : Link) → IsBack nodes f first link.next link.page rs → Counted most legs rs → IfSome link.feature (λ g. f ≡ g)
       → IsChain nodes period most legs first (length rs) link
-  is_chain f first most legs [] link b c s = record { no_page = b.0; first_is = b.1 }
+  is_chain f first most legs [] link b c s = tt
   is_chain f first most legs (r ∷ rs) link b c s =
       let leaf = b.0 in
-      let fits : Fits leaf link (min most (legs - length rs * most)) = record { count_is = ap length b.1.legs_are ∙ c.0; next_is = b.1.next_is; feature_is = fitting link.feature leaf.feature f b.1.feature_is s } in
-      let here : IsLinked nodes link (min most (legs - length rs * most)) leaf = record { above = b.1.above; is = b.1.is; fits = fits } in
+      let spot = spot_of most legs first (length rs) in
+      let placed = placed_back nodes f first most legs link.page leaf rs b.2 in
+      let fits : Fits leaf link spot = record { count_is = ap length b.1.legs_are ∙ c.0; next_is = b.1.next_is; feature_is = fitting link.feature leaf.feature f b.1.feature_is s; placed = placed } in
+      let here : IsLinked nodes link spot leaf = record { above = b.1.above; is = b.1.is; fits = fits } in
       (leaf, here, λ _. is_chain f first most legs rs (link_back link.page leaf) b.2 c.1 (sym b.1.feature_is))
 
   -- where the walk stops, nothing before is kept

@@ -2,6 +2,7 @@ pub mod ReadLemmas
 pub mod GroupLemmas
 pub mod KeepLemmas
 pub mod StepLemmas
+pub mod FaultLemmas
 pub mod OwnLemmas
 pub mod BackLemmas
 pub mod PlaceLemmas

@@ -15,10 +15,10 @@ use Rattle.legs.specs.Legs.{LegView}
 use Rattle.tbtree.specs.Nodes.{Pages}
 use Rattle.tbtree.specs.Stands.{owner, marks, pages_of, last_or, NumbersStand}
 use Rattle.tbtree.specs.declared.tree.Place.{Place}
-use Rattle.chains.specs.Chains.{IsPlaceChain, IsChain, last_link, walk, walked, previous_of}
+use Rattle.chains.specs.Chains.{IsPlaceChain, IsChain, NamesNone, last_link, walk, walked, previous_of}
 use Rattle.chains.specs.Trajectory.{HasFeature}
-use Rattle.chains.proofs.BackLemmas.{IsBack, Counted, StopsRight, onto, length_onto, back_of, counted_onto, is_chain, walk_blocks}
-use Rattle.chains.proofs.GroupLemmas.{all_pass, groups_of_one, groups_ceil, joined_groups, length_group}
+use Rattle.chains.proofs.BackLemmas.{IsBack, Counted, StopsRight, onto, length_onto, back_of, back_none, counted_onto, is_chain, walk_blocks}
+use Rattle.chains.proofs.GroupLemmas.{all_pass, group_beyond, groups_of_one, groups_ceil, joined_groups, length_group}
 use Rattle.chains.proofs.OwnLemmas.{own_runs}
 use Rattle.chains.proofs.StepLemmas.{true_false}
 
@@ -71,13 +71,28 @@ module _ (nodes : Pages LegView BoxView) (shape : ShapeView) (place : Place) (f 
       ∙ ap (λ k. min shape.leaf (place.legs - k * shape.leaf)) (let z : j ≡ 0 + j = omega arith in z))
       tt
 
+  -- without a leg there is no leaf
+  names_none : place.legs ≡ 0 → NamesNone place
+  names_none z =
+      let gs = groups shape.leaf (legs_of f legs) in
+      let none : length gs ≡ 0 =
+      ⊎_elim
+      (λ (k : 0 < length gs). absurd (let b : 0 * shape.leaf < length (legs_of f legs) = group_beyond shape.leaf (legs_of f legs) 0 l k in let c = legs_count in omega (arith, b, c, z)))
+      (λ (k : length gs ≤ 0). omega (arith, k))
+      (cases_lt 0 (length gs)) in
+      let n : length (onto gs []) ≡ 0 = let o = length_onto gs [] in omega (arith, o, none) in
+      let b = back_none nodes f place.first 0 place.last (onto gs []) n place_back in
+      record { first = sym b.1; last = b.0 }
+
   -- they are a chain
   pub whole_chain : (period : Option PeriodView) → IsPlaceChain nodes period shape place
   whole_chain period =
       let gs = groups shape.leaf (legs_of f legs) in
-      let n : length (onto gs []) ≡ div_ceil place.legs shape.leaf = length_onto gs [] ∙ (let z : length gs + 0 ≡ length gs = omega arith in z) ∙ block_count in
-      subst (λ n. IsChain nodes period shape.leaf place.legs place.first n (last_link place)) n
-      (is_chain nodes period f place.first shape.leaf place.legs (onto gs []) (last_link place) place_back counted tt)
+      let n : length (onto gs []) ≡ div_ceil place.legs shape.leaf = length_onto gs [] ∙ (let z : length gs + 0 ≡ length gs = omega arith in z) ∙ block_count in (
+        names_none,
+        subst (λ n. IsChain nodes period shape.leaf place.legs place.first n (last_link place)) n
+            (is_chain nodes period f place.first shape.leaf place.legs (onto gs []) (last_link place) place_back counted tt),
+      )
 
   -- with exactly the feature's legs
   pub whole_walk : walk nodes None (div_ceil place.legs shape.leaf) place.last ≡ legs_of f legs

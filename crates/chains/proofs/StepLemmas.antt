@@ -1,37 +1,31 @@
 -- One leaf of a walk back along a chain.
-use Rattle.std.proofs.Common.{ℕ, suc, ◌+◌, ◌-◌, ◌*◌, ◌^◌, ◌≡◌, ◌<◌, Bool, true, false, cond, List, ◌++◌, refl, sym, ap, ◌∙◌, arith, subst, append_assoc, Option, Some, None, IsTrue}
-use Rattle.std.specs.Prelude.{reverse, min, if◌then◌else◌, option_map}
+use Rattle.std.proofs.Common.{ℕ, suc, ◌+◌, ◌-◌, ◌^◌, ◌≡◌, ◌<◌, ◌==◌, Bool, true, false, cond, List, ◌++◌, refl, sym, ap, ◌∙◌, arith, append_assoc, Option, Some, None, IsTrue}
+use Rattle.std.specs.Prelude.{reverse, min, if◌then◌else◌, option_map, not, ◌&&◌, ◌≢◌}
 use Rattle.std.specs.List.{filter}
+use Rattle.std.proofs.lemmas.Bool.{and_from, not_from_false, ne_eqb}
 use Rattle.std.proofs.lemmas.List.{reverse-append}
 use Rattle.timebase.specs.Period.{PeriodView}
 use Rattle.legs.specs.Legs.{LegView}
 use Rattle.legs.specs.Boxes.{BoxView}
 use Rattle.pagecache.specs.Cache.{Cache}
+use Rattle.pagecache.specs.declared.fault.CacheFault.{CacheFault}
+use Rattle.pagecache.specs.declared.fault.CacheFault.TheVariants as cache
 use Rattle.tbnode.specs.Form.{node_of}
-use Rattle.tbtree.specs.Nodes.{Pages, pages_of_cache, Node, LeafView, ALeaf, AnInner}
-use Rattle.chains.specs.Chains.{AreHeld, IsLinked, IsChain, walk, walked, legs_in, previous_of}
-use Rattle.chains.specs.Links.{is_kept, is_end, link_back}
+use Rattle.tbtree.specs.Nodes.{Pages, pages_of_cache, LeafView, ALeaf}
+use Rattle.chains.specs.Chains.{walk, walked, legs_in, previous_of, link_past, fault_from}
+use Rattle.chains.specs.Faults.{IsNamed, IsNamedInCache}
+use Rattle.chains.specs.Links.{fits, is_linked, spot_of, is_kept, is_end, link_back}
 use Rattle.chains.specs.Reads.{OnlyReads}
+use Rattle.chains.specs.Taking.{fault_at}
+use Rattle.chains.specs.declared.fault.ChainFault.{ChainFault}
+use Rattle.chains.specs.declared.fault.ChainFault.TheVariants.{Cache as OfCache, Malformed, Memory}
 use Rattle.chains.specs.declared.leaves.Link.{Link}
+use Rattle.chains.specs.declared.leaves.Spot.{Spot}
 use Rattle.chains.proofs.GroupLemmas.{some_none, some_same}
 
 -- what is only read has the same pages
 pub same_at : (old mid : Cache) → OnlyReads old mid → IsTrue old.store.is_faithful → (n : ℕ) → (pages_of_cache mid).at n ≡ (pages_of_cache old).at n
 same_at old mid r f n = ap (option_map node_of) (r.payloads f n)
-
-pub linked_before : (old mid : Cache) (link : Link) (count : ℕ) (leaf : LeafView LegView) → OnlyReads old mid → IsTrue old.store.is_faithful
-    → IsLinked (pages_of_cache mid) link count leaf → IsLinked (pages_of_cache old) link count leaf
-linked_before old mid link count leaf r f l = record { above = l.above; is = sym (same_at old mid r f link.page) ∙ l.is; fits = l.fits }
-
-pub linked_after : (old mid : Cache) (link : Link) (count : ℕ) (leaf : LeafView LegView) → OnlyReads old mid → IsTrue old.store.is_faithful
-    → IsLinked (pages_of_cache old) link count leaf → IsLinked (pages_of_cache mid) link count leaf
-linked_after old mid link count leaf r f l = record { above = l.above; is = same_at old mid r f link.page ∙ l.is; fits = l.fits }
-
-abbrev leaf_or : {L B : Type 0} → LeafView L → Option (Option (Node L B)) → LeafView L
-leaf_or d (Some (Some (ALeaf leaf))) = leaf
-leaf_or d (Some (Some (AnInner page))) = d
-leaf_or d (Some None) = d
-leaf_or d None = d
 
 pub true_false : true ≡ false → ⊥
 true_false e = cc
@@ -45,17 +39,17 @@ pub ends : (b : Bool) (link : Link) → None ≡ (if b then None else Some link)
 ends true link e = refl
 ends false link e = absurd (some_none link (sym e))
 
-module _ (nodes : Pages LegView BoxView) (period : Option PeriodView) (link : Link) (count : ℕ) (leaf : LeafView LegView) (linked : IsLinked nodes link count leaf) (rest n : ℕ) (e : n ≡ suc rest) where
+module _ (nodes : Pages LegView BoxView) (period : Option PeriodView) (link : Link) (leaf : LeafView LegView) (is : nodes.at link.page ≡ Some (Some (ALeaf leaf))) (rest n : ℕ) (e : n ≡ suc rest) where
   -- the walk, at this leaf
   walk_here : walk nodes period n link.page ≡ cond (is_end period leaf.legs) (filter (is_kept period) leaf.legs) (walk nodes period rest leaf.previous ++ filter (is_kept period) leaf.legs)
   walk_here =
       ap (λ n. walk nodes period n link.page) e
-      ∙ ap (λ o. cond (is_end period (legs_in o)) (filter (is_kept period) (legs_in o)) (walk nodes period rest (previous_of o) ++ filter (is_kept period) (legs_in o))) linked.is
+      ∙ ap (λ o. cond (is_end period (legs_in o)) (filter (is_kept period) (legs_in o)) (walk nodes period rest (previous_of o) ++ filter (is_kept period) (legs_in o))) is
 
   walked_here : walked nodes period n link.page ≡ 1 + cond (is_end period leaf.legs) 0 (walked nodes period rest leaf.previous)
   walked_here =
       ap (λ n. walked nodes period n link.page) e
-      ∙ ap (λ o. 1 + cond (is_end period (legs_in o)) 0 (walked nodes period rest (previous_of o))) linked.is
+      ∙ ap (λ o. 1 + cond (is_end period (legs_in o)) 0 (walked nodes period rest (previous_of o))) is
 
   pub found_on : (items items' whole : List LegView) → is_end period leaf.legs ≡ false → items' ≡ items ++ reverse (filter (is_kept period) leaf.legs)
       → items ++ reverse (walk nodes period n link.page) ≡ whole → items' ++ reverse (walk nodes period rest leaf.previous) ≡ whole
@@ -83,33 +77,51 @@ module _ (nodes : Pages LegView BoxView) (period : Option PeriodView) (link : Li
   pub asked_end : is_end period leaf.legs ≡ true → walked nodes period n link.page ≡ 1
   asked_end z = walked_here ∙ ap (λ v. 1 + cond v 0 (walked nodes period rest leaf.previous)) z
 
-  module _ (most legs first : ℕ) (c : count ≡ min most (legs - rest * most)) where
-    pub chain_on : is_end period leaf.legs ≡ false → IsChain nodes period most legs first n link → IsChain nodes period most legs first rest (link_back link.page leaf)
-    chain_on z h =
-        let one : IsChain nodes period most legs first (suc rest) link = subst (λ n. IsChain nodes period most legs first n link) e h in
-        let same : one.0 ≡ leaf = ap (leaf_or leaf) (sym one.1.is ∙ linked.is) in
-        subst (λ l. IsChain nodes period most legs first rest (link_back link.page l)) same (one.2 (ap (λ l. is_end period l.legs) same ∙ z))
+  module _ (most legs first : ℕ) (above : link.page ≢ 0) (fit : fits leaf link (spot_of most legs first rest) ≡ true) where
+    fault_here : fault_from nodes period most legs first n link ≡ cond (is_end period leaf.legs) None (fault_from nodes period most legs first rest (link_back link.page leaf))
+    fault_here =
+        let spot = spot_of most legs first rest in
+        let l : (not (link.page == 0) && fits leaf link spot) ≡ true = and_from (not (link.page == 0)) (fits leaf link spot) (not_from_false (link.page == 0) (ne_eqb link.page 0 above)) fit in
+        let on = cond (is_end period leaf.legs) None (fault_from nodes period most legs first rest (link_back link.page leaf)) in
+        ap (λ n. fault_from nodes period most legs first n link) e
+        ∙ ap (λ o. cond (is_linked o link spot) (cond (is_end period (legs_in o)) None (fault_from nodes period most legs first rest (link_past link.page o))) (Some link.page)) is
+        ∙ ap (λ b. cond b on (Some link.page)) l
 
-    pub chain_here : (is_end period leaf.legs ≡ false → IsChain nodes period most legs first rest (link_back link.page leaf)) → IsChain nodes period most legs first n link
-    chain_here h =
-        let here : IsLinked nodes link (min most (legs - rest * most)) leaf = subst (λ count. IsLinked nodes link count leaf) c linked in
-        let one : IsChain nodes period most legs first (suc rest) link = (leaf, here, h) in
-        subst (λ n. IsChain nodes period most legs first n link) (sym e) one
+    pub fault_on : is_end period leaf.legs ≡ false → fault_from nodes period most legs first n link ≡ fault_from nodes period most legs first rest (link_back link.page leaf)
+    fault_on z = fault_here ∙ ap (λ v. cond v None (fault_from nodes period most legs first rest (link_back link.page leaf))) z
 
-    pub chain_end : is_end period leaf.legs ≡ true → IsChain nodes period most legs first n link
-    chain_end z = chain_here (λ f. absurd (true_false (sym z ∙ f)))
+    pub fault_end : is_end period leaf.legs ≡ true → fault_from nodes period most legs first n link ≡ None
+    fault_end z = fault_here ∙ ap (λ v. cond v None (fault_from nodes period most legs first rest (link_back link.page leaf))) z
 
--- the leaf that a chain has at a link
-pub first_linked : (nodes : Pages LegView BoxView) (period : Option PeriodView) (most legs first rest n : ℕ) (link : Link) → n ≡ suc rest → IsChain nodes period most legs first n link
-    → (leaf : LeafView LegView) × IsLinked nodes link (min most (legs - rest * most)) leaf
-first_linked nodes period most legs first rest n link e h =
-    let one : IsChain nodes period most legs first (suc rest) link = subst (λ n. IsChain nodes period most legs first n link) e h in
-    (one.0, one.1)
+some_past : (b : Bool) (x p : ℕ) (past : Option ℕ) → cond b None (Some x) ≡ Some p → cond b past (Some x) ≡ Some p
+some_past true x p past e = absurd (some_none p (sym e))
+some_past false x p past e = e
+
+-- the walk stops at a leaf that does not fit
+pub fault_stops : (nodes : Pages LegView BoxView) (period : Option PeriodView) (most legs first rest n : ℕ) (link : Link) (p : ℕ) → n ≡ suc rest
+    → fault_at nodes link (spot_of most legs first rest) ≡ Some p → fault_from nodes period most legs first n link ≡ Some p
+fault_stops nodes period most legs first rest n link p e f =
+    let o = nodes.at link.page in
+    ap (λ n. fault_from nodes period most legs first n link) e
+    ∙ some_past (is_linked o link (spot_of most legs first rest)) link.page p (cond (is_end period (legs_in o)) None (fault_from nodes period most legs first rest (link_past link.page o))) f
 
 -- one page more was asked for, below the greatest number that is counted
 pub one_more : (a b : ℕ) → b ≡ min (a + 1) (2 ^ 64 - 1) → b < 2 ^ 64 - 1 → (a < 2 ^ 64 - 1) × (b ≡ a + 1)
 one_more a b e l = (omega (arith, e, l), omega (arith, e, l))
 
--- what is only read has a payload for each page where it had
-pub still_held : (old mid : Cache) → OnlyReads old mid → IsTrue old.store.is_faithful → AreHeld (pages_of_cache old) → AreHeld (pages_of_cache mid)
-still_held old mid r f h p l e = h p (omega (arith, l, r.count)) (sym (same_at old mid r f p) ∙ e)
+-- over what is only read the same page is named
+named_in_cache : (fault : CacheFault) (a b : Option ℕ) → ((p : ℕ) → a ≡ Some p → b ≡ Some p) → IsNamedInCache a fault → IsNamedInCache b fault
+named_in_cache cache.NoPage a b h s = tt
+named_in_cache cache.Store a b h s = tt
+named_in_cache (cache.Damaged n) a b h s = h n s
+named_in_cache cache.StoreFull a b h s = tt
+named_in_cache cache.Memory a b h s = tt
+
+pub named_after : (old mid : Cache) (fault : ChainFault) (a b : Option ℕ) → OnlyReads old mid → IsTrue old.store.is_faithful → ((p : ℕ) → a ≡ Some p → b ≡ Some p)
+    → IsNamed (pages_of_cache mid) a fault → IsNamed (pages_of_cache old) b fault
+named_after old mid (OfCache fault) a b r f h s = named_in_cache fault a b h s
+named_after old mid (Malformed n) a b r f h s = (h n s.0, λ z l k. s.1 z (omega (arith, l, r.count)) (same_at old mid r f n ∙ k))
+named_after old mid Memory a b r f h s = tt
+
+pub fault_before : (old mid : Cache) (link : Link) (spot : Spot) → OnlyReads old mid → IsTrue old.store.is_faithful → fault_at (pages_of_cache old) link spot ≡ fault_at (pages_of_cache mid) link spot
+fault_before old mid link spot r f = ap (λ o. cond (is_linked o link spot) None (Some link.page)) (sym (same_at old mid r f link.page))

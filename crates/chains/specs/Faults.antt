@@ -1,9 +1,12 @@
 -- Refusals.
-use Rattle.std.specs.Prelude.{ℕ, ◌≡◌, ◌<◌, Result, MatchResult, None, IsTrue}
+use Rattle.std.specs.Prelude.{ℕ, ◌≡◌, ◌≢◌, ◌<◌, Result, MatchResult, Option, Some, None, IsTrue}
+use Rattle.legs.specs.Boxes.{BoxView}
+use Rattle.legs.specs.Legs.{LegView}
 use Rattle.pages.specs.Store.{Faulted}
 use Rattle.pagecache.specs.Cache.{Cache, payload_of}
 use Rattle.pagecache.specs.declared.fault.CacheFault.{CacheFault}
 use Rattle.pagecache.specs.declared.fault.CacheFault.TheVariants as cache
+use Rattle.tbtree.specs.Nodes.{Pages}
 use Rattle.chains.specs.declared.fault.ChainFault.{ChainFault}
 use Rattle.chains.specs.declared.fault.ChainFault.TheVariants.{Cache as OfCache, Malformed, Memory}
 
@@ -52,3 +55,16 @@ abbrev pub IsCaused : Cache → Cache → ChainFault → Type 0
 IsCaused old new (OfCache fault) = IsCausedInCache old new fault
 IsCaused old new (Malformed n) = Unit {0}
 IsCaused old new Memory = Unit {0}
+
+-- a page that is refused is that one; it is malformed only if it is page 0, or is not there, or has a payload
+abbrev pub IsNamedInCache : Option ℕ → CacheFault → Type 0
+IsNamedInCache at cache.NoPage = Unit {0}
+IsNamedInCache at cache.Store = Unit {0}
+IsNamedInCache at (cache.Damaged n) = at ≡ Some n
+IsNamedInCache at cache.StoreFull = Unit {0}
+IsNamedInCache at cache.Memory = Unit {0}
+
+abbrev pub IsNamed : Pages LegView BoxView → Option ℕ → ChainFault → Type 0
+IsNamed nodes at (OfCache fault) = IsNamedInCache at fault
+IsNamed nodes at (Malformed n) = (at ≡ Some n) × (0 < n → n < nodes.count → nodes.at n ≢ None)
+IsNamed nodes at Memory = Unit {0}

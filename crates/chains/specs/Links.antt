@@ -1,15 +1,53 @@
 -- What is asked of a leaf on the way back along a chain, and what is taken of it.
-use Rattle.std.specs.Prelude.{ℕ, ◌≡◌, ◌++◌, Bool, true, false, if◌then◌else◌, List, [], ◌∷◌, filter, length, reverse, Option, Some, None, IfSome, int_lt}
+use Rattle.std.specs.Prelude.{ℕ, ◌≡◌, ◌≢◌, ◌-◌, ◌*◌, ◌<◌, ◌++◌, ◌==◌, ◌&&◌, Bool, true, false, not, cond, min, if◌then◌else◌, List, [], ◌∷◌, filter, length, reverse, Option, Some, None, IfSome, int_lt}
 use Rattle.timebase.specs.Period.{PeriodView}
 use Rattle.legs.specs.Legs.{LegView, is_live}
-use Rattle.tbtree.specs.Nodes.{LeafView}
+use Rattle.tbtree.specs.Nodes.{LeafView, Node, ALeaf, AnInner}
 use Rattle.chains.specs.declared.leaves.Link.{Link}
+use Rattle.chains.specs.declared.leaves.Spot.{Spot}
 
--- the leaf has that many legs, its next leaf is the one that was read before it, and it has the same feature
-pub record Fits {L : Type 0} (leaf : LeafView L) (link : Link) (count : ℕ) : Type 0 where
-  pub count_is : length leaf.legs ≡ count
+-- what a chain of so many legs, in leaves of `most` from that first one on, has at the leaf with n others before it
+abbrev pub spot_of : (most legs first n : ℕ) → Spot
+spot_of most legs first n = record { count = min most (legs - n * most); before = n; first = first }
+
+-- the leaf on that page names a leaf before it, where one is to be; where none is, it names none and is the first
+pub record IsPlaced {L : Type 0} (leaf : LeafView L) (page : ℕ) (spot : Spot) : Type 0 where
+  pub one_before : 0 < spot.before → leaf.previous ≢ 0
+  pub none_before : spot.before ≡ 0 → leaf.previous ≡ 0
+  pub first_is : spot.before ≡ 0 → page ≡ spot.first
+
+-- the leaf has that many legs, its next leaf is the one that was read before it, it has the same feature, and it
+-- leads on to a leaf exactly where one is to be
+pub record Fits {L : Type 0} (leaf : LeafView L) (link : Link) (spot : Spot) : Type 0 where
+  pub count_is : length leaf.legs ≡ spot.count
   pub next_is : leaf.next ≡ link.next
   pub feature_is : IfSome link.feature (λ feature. leaf.feature ≡ feature)
+  pub placed : IsPlaced leaf link.page spot
+
+-- the same as tests
+abbrev pub is_placed : {L : Type 0} → LeafView L → ℕ → Spot → Bool
+is_placed leaf page spot =
+    cond (spot.before == 0) ((leaf.previous == 0) && (page == spot.first)) (not (leaf.previous == 0))
+
+abbrev pub is_of_feature : Option ℕ → ℕ → Bool
+is_of_feature None feature = true
+is_of_feature (Some wanted) feature = feature == wanted
+
+unfoldable pub fits : {L : Type 0} → LeafView L → Link → Spot → Bool
+fits leaf link spot =
+    is_of_feature link.feature leaf.feature
+    && ((length leaf.legs == spot.count) && ((leaf.next == link.next) && is_placed leaf link.page spot))
+
+-- the node is a leaf that fits
+abbrev pub fits_node : {L B : Type 0} → Option (Node L B) → Link → Spot → Bool
+fits_node None link spot = false
+fits_node (Some (AnInner page)) link spot = false
+fits_node (Some (ALeaf leaf)) link spot = fits leaf link spot
+
+-- what the link's page has is a leaf that fits; page 0 is none
+abbrev pub is_linked : {L B : Type 0} → Option (Option (Node L B)) → Link → Spot → Bool
+is_linked None link spot = false
+is_linked (Some node) link spot = not (link.page == 0) && fits_node node link spot
 
 -- a leg that is live in the period; each leg, where none is given
 abbrev pub is_kept : Option PeriodView → LegView → Bool

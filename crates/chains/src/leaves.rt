@@ -3,12 +3,11 @@ ghost use Rattle.std.specs.Prelude.{◌≡◌, ◌≢◌, ◌+◌, ◌-◌, ◌*
 ghost use Rattle.legs.specs.Legs.{LegView};
 ghost use Rattle.pagecache.specs.Cache.{Cache, AsksOnce};
 ghost use Rattle.tbnode.specs.Form.{node_of};
-ghost use Rattle.tbtree.specs.Nodes.{LeafView, ALeaf, pages_of_cache};
-ghost use Rattle.chains.specs.Chains.{AreHeld, IsLinked};
-ghost use Rattle.chains.specs.Faults.{IsAllowed, IsCaused, IsOfHeld};
-ghost use Rattle.chains.specs.Links.{Fits, is_kept, is_end};
+ghost use Rattle.tbtree.specs.Nodes.{pages_of_cache};
+ghost use Rattle.chains.specs.Faults.{IsCaused, IsNamed};
+ghost use Rattle.chains.specs.Links.{spot_of, is_placed, fits, fits_node, is_kept, is_end};
 ghost use Rattle.chains.specs.Reads.{OnlyReads};
-ghost use Rattle.chains.specs.Taking.{TakesNode, TakesPage};
+ghost use Rattle.chains.specs.Taking.{TakesNode, TakesPage, IsNodeFault, fault_at};
 
 use crate::fault::ChainFault;
 use legs::Leg;
@@ -16,6 +15,7 @@ use pagecache::PageCache;
 use pages::{PageStore, Payload};
 use std::alloc::AllocError;
 use tbnode::Leaf;
+use tbtree::Place;
 use timebase::Period;
 
 /// A way to a leaf, from the one after it: its page, the page that it has as its next leaf (0 for the last leaf), and
@@ -34,16 +34,53 @@ pub(crate) fn legs_of_leaf(legs: u64, most: u64, before: u64) -> u64
     most.min(legs.saturating_sub(before.saturating_mul(most)))
 }
 
-/// Whether a leaf is the one that the link leads to, and has that many legs.
-fn fits(leaf: &Leaf<'_>, link: &Link, count: u64) -> bool
-    ensures { IsTrue result ↔ Fits leaf.now link.now count }
+/// What a chain has at one of its leaves.
+#[derive(Clone, Copy)]
+pub(crate) struct Spot {
+    /// How many legs the leaf has.
+    pub(crate) count: u64,
+    /// How many leaves are before it.
+    pub(crate) before: u64,
+    /// The page of the first leaf.
+    pub(crate) first: u32,
+}
+
+/// What the chain of a place has at the leaf with so many others before it, in leaves of `most` legs.
+pub(crate) fn spot_of(place: &Place, most: u64, before: u64) -> Spot
+    ensures { result ≡ spot_of most place.now.legs place.now.first before }
+{
+    Spot {
+        count: legs_of_leaf(place.legs, most, before),
+        before,
+        first: place.first,
+    }
+}
+
+/// Whether a leaf on a page names a leaf before it exactly where one is to be, and is the first one where none is.
+fn is_placed(leaf: &Leaf<'_>, page: u32, spot: &Spot) -> bool
+    ensures { result ≡ is_placed leaf.now page spot.now }
+{
+    let previous = leaf.head().previous;
+    if spot.before == 0 {
+        previous == 0 && page == spot.first
+    } else {
+        previous != 0
+    }
+}
+
+/// Whether a leaf is the one that the link leads to.
+#[tactic(auto, unfolding(crate::specs::Links::fits))]
+fn fits(leaf: &Leaf<'_>, link: &Link, spot: &Spot) -> bool
+    ensures { result ≡ fits leaf.now link.now spot.now }
 {
     let head = leaf.head();
     let same = match link.feature {
         Some(feature) => head.feature == feature,
         None => true,
     };
-    same && leaf.len() as u64 == count && head.next == link.next
+    same && leaf.len() as u64 == spot.count
+        && head.next == link.next
+        && is_placed(leaf, link.page, spot)
 }
 
 /// Whether a leg is kept: it is live in the period, where there is one.
@@ -91,21 +128,20 @@ fn is_end(leaf: &Leaf<'_>, period: &Option<Period>) -> bool
 fn take_node(
     payload: &Payload,
     link: &Link,
-    count: u64,
+    spot: &Spot,
     period: &Option<Period>,
     found: &mut Vec<Leg>,
 ) -> Result<Option<Link>, ChainFault>
-    ensures taken { IfOk result (TakesNode (node_of payload.now) link.now count period.now
+    ensures taken { IfOk result (TakesNode (node_of payload.now) link.now spot.now period.now
         found.old.items found.new.items) }
-    ensures only { (leaf : LeafView LegView) → node_of payload.now ≡ Some (ALeaf leaf)
-        → Fits leaf link.now count → IfErr result IsAllowed }
+    ensures named { IfErr result
+        (IsNodeFault (fits_node (node_of payload.now) link.now spot.now) link.now.page) }
     ensures caused { (old new : Cache) → IfErr result (IsCaused old new) }
-    ensures held { IfErr result IsOfHeld }
 {
     let Some(leaf) = tbnode::leaf(payload) else {
         return Err(ChainFault::Malformed(link.page));
     };
-    if !fits(&leaf, link, count) {
+    if !fits(&leaf, link, spot) {
         return Err(ChainFault::Malformed(link.page));
     }
     push_kept(&leaf, period, found)?;
@@ -120,33 +156,32 @@ fn take_node(
     }))
 }
 
-/// Takes the kept legs of the leaf that the link leads to, which has that many, and gives the link to the leaf before
-/// it; none where nothing before is kept.
+/// Takes the kept legs of the leaf that the link leads to, which is to have that spot, and gives the link to the leaf
+/// before it; none where nothing before is kept.
 pub(crate) fn take<S: PageStore>(
     cache: &mut PageCache<S>,
     link: &Link,
-    count: u64,
+    spot: &Spot,
     period: &Option<Period>,
     found: &mut Vec<Leg>,
 ) -> Result<Option<Link>, ChainFault>
     ensures taken { IsTrue cache.old.store.is_faithful
-        → IfOk result (TakesPage (pages_of_cache cache.old) link.now count period.now
+        → IfOk result (TakesPage (pages_of_cache cache.old) link.now spot.now period.now
         found.old.items found.new.items) }
-    ensures only { IsTrue cache.old.store.is_faithful → (leaf : LeafView LegView)
-        → IsLinked (pages_of_cache cache.old) link.now count leaf → IfErr result IsAllowed }
-    ensures held { IsTrue cache.old.store.is_faithful
-        → AreHeld (pages_of_cache cache.old) → IfErr result IsOfHeld }
+    ensures named { IsTrue cache.old.store.is_faithful
+        → IfErr result (IsNamed (pages_of_cache cache.old)
+        (fault_at (pages_of_cache cache.old) link.now spot.now)) }
     ensures reads { OnlyReads cache.old cache.new }
     ensures caused { IfErr result (IsCaused cache.old cache.new) }
     ensures asked { OnOk result (AsksOnce cache.old cache.new) }
     ensures most { cache.new.asked ≤ cache.old.asked + 1 }
 {
     if link.page == 0 {
-        return Err(ChainFault::Malformed(link.next));
+        return Err(ChainFault::Malformed(0));
     }
     let payload = match cache.page(link.page) {
         Ok(payload) => payload,
         Err(fault) => return Err(ChainFault::of(fault, link.page)),
     };
-    take_node(payload, link, count, period, found)
+    take_node(payload, link, spot, period, found)
 }

@@ -6,19 +6,26 @@ ghost use Rattle.legs.specs.Index.{legs_of, live_legs_of};
 ghost use Rattle.legs.specs.Legs.{LegView};
 ghost use Rattle.tbtree.specs.Nodes.{pages_of_cache};
 ghost use Rattle.tbtree.specs.Shape.{IsShape};
-ghost use Rattle.chains.specs.Chains.{AreHeld, IsPlaceChain, chain_legs, chain_cost};
-ghost use Rattle.chains.specs.Faults.{IsAllowed, IsCaused, IsOfHeld, Gives};
+ghost use Rattle.chains.specs.Chains.{AreHeld, IsPlaceChain, chain_fault, chain_legs, chain_cost, is_stray};
+ghost use Rattle.chains.specs.Faults.{IsAllowed, IsCaused, IsNamed, IsOfHeld, Gives};
 ghost use Rattle.chains.specs.Reads.{OnlyReads};
 ghost use Rattle.chains.specs.Trajectory.{HasFeature};
 
 use crate::fault::ChainFault;
-use crate::leaves::{Link, legs_of_leaf, take};
+use crate::leaves::{Link, spot_of, take};
 use legs::Leg;
 use pagecache::PageCache;
 use pages::PageStore;
 use std::alloc::Global;
 use tbtree::{Place, Shape};
 use timebase::Period;
+
+/// Whether a place without legs names a page.
+fn is_stray(place: &Place) -> bool
+    ensures { result ≡ is_stray place.now }
+{
+    place.legs == 0 && (place.first != 0 || place.last != 0)
+}
 
 /// The kept legs of a chain, from the last leaf back to the first, or to one that starts before the period; in reverse.
 #[tactic(auto, using(crate::proofs::ReadLemmas::reading))]
@@ -32,13 +39,12 @@ fn walk_back<S: PageStore>(
     ensures found { IsTrue cache.old.store.is_faithful
         → IfOk result (λ found. found.items
         ≡ reverse (chain_legs (pages_of_cache cache.old) period.now shape.now place.now)) }
-    ensures chain { IsTrue cache.old.store.is_faithful
-        → OnOk result (IsPlaceChain (pages_of_cache cache.old) period.now shape.now place.now) }
-    ensures only { IsTrue cache.old.store.is_faithful
-        → IsPlaceChain (pages_of_cache cache.old) period.now shape.now place.now
-        → IfErr result IsAllowed }
-    ensures malformed { IsTrue cache.old.store.is_faithful
-        → AreHeld (pages_of_cache cache.old) → IfErr result IsOfHeld }
+    ensures whole { IsTrue cache.old.store.is_faithful
+        → OnOk result (chain_fault (pages_of_cache cache.old) period.now shape.now place.now
+        ≡ None) }
+    ensures named { IsTrue cache.old.store.is_faithful
+        → IfErr result (IsNamed (pages_of_cache cache.old)
+        (chain_fault (pages_of_cache cache.old) period.now shape.now place.now)) }
     ensures reads { OnlyReads cache.old cache.new }
     ensures caused { IfErr result (IsCaused cache.old cache.new) }
     ensures asked { IsTrue cache.old.store.is_faithful
@@ -52,6 +58,9 @@ fn walk_back<S: PageStore>(
     ensures shape { IsShape shape.now }
 {
     let most = u64::from(shape.leaf());
+    if is_stray(place) {
+        return Err(ChainFault::Malformed(0));
+    }
     let mut left = place.legs.div_ceil(most);
     let mut link = Link {
         page: place.last,
@@ -61,23 +70,21 @@ fn walk_back<S: PageStore>(
     let mut found = Vec::new(alloc);
     'leaves: while left > 0 {
         left -= 1;
-        let count = legs_of_leaf(place.legs, most, left);
-        let Some(back) = take(cache, &link, count, period, &mut found)? else {
+        let spot = spot_of(place, most, left);
+        let Some(back) = take(cache, &link, &spot, period, &mut found)? else {
             return Ok(found);
         };
         link = back;
-    }
-    if link.page != 0 || link.next != place.first {
-        return Err(ChainFault::Malformed(link.next));
     }
     Ok(found)
 }
 
 /// The legs of the feature at a place of a tree of that shape, in the order in which they were accepted.
 ///
-/// A leaf of another feature, with another count of legs than its place in the chain has, or whose `next` or
-/// `previous` is not the chain's, is `Malformed`, and so is a page that is named and is not there. What else the cache
-/// refuses is `Cache`; `Memory` is want of memory for the legs.
+/// A leaf of another feature, with another count of legs than its place in the chain has, whose `next` is not the
+/// chain's, or that lacks a `previous` or goes on past the first leaf, is `Malformed`, and so is a page that is named
+/// and is not there: the first one that is met from the last leaf back. `Malformed` is page 0 where a place without
+/// legs names a page. What else the cache refuses is `Cache`; `Memory` is want of memory for the legs.
 pub fn trajectory<S: PageStore>(
     alloc: Global,
     cache: &mut PageCache<S>,
@@ -106,6 +113,21 @@ pub fn trajectory<S: PageStore>(
     ensures malformed { IsTrue cache.old.store.is_faithful
         → AreHeld (pages_of_cache cache.old) → IfErr result IsOfHeld }
 
+    // Of any pages: a page that is named is the first one, from the place's last leaf back, that is not the chain's;
+    // a page is asked for once for each leaf that is read.
+    ensures whole { IsTrue cache.old.store.is_faithful
+        → OnOk result (chain_fault (pages_of_cache cache.old) None shape.now place.now
+        ≡ None) }
+    ensures named { IsTrue cache.old.store.is_faithful
+        → IfErr result (IsNamed (pages_of_cache cache.old)
+        (chain_fault (pages_of_cache cache.old) None shape.now place.now)) }
+    ensures walked { IsTrue cache.old.store.is_faithful
+        → OnOk result (RisesBy cache.old.asked cache.new.asked
+        (chain_cost (pages_of_cache cache.old) None shape.now place.now)) }
+    ensures within { IsTrue cache.old.store.is_faithful
+        → OnOk result (RisesAtMost cache.old.asked cache.new.asked
+        (chain_cost (pages_of_cache cache.old) None shape.now place.now)) }
+
     // Over any store; what is said of payloads, over a faithful one.
     ensures reads { OnlyReads cache.old cache.new }
     ensures caused { IfErr result (IsCaused cache.old cache.new) }
@@ -121,8 +143,8 @@ pub fn trajectory<S: PageStore>(
 /// were accepted.
 ///
 /// Leaves are read from the last one back to the first, or to one whose first leg starts before the period does. The
-/// faults are those of `trajectory`, in the leaves that are read; which leaf is before the one that is read last is not
-/// looked at.
+/// faults are those of `trajectory`, in the leaves that are read. Of the one that is read last it is seen whether it
+/// names a leaf before it, where one is to be; that leaf is not read.
 pub fn trajectory_in<S: PageStore>(
     alloc: Global,
     cache: &mut PageCache<S>,
@@ -139,7 +161,7 @@ pub fn trajectory_in<S: PageStore>(
         → OnOk result (RisesAtMost cache.old.asked cache.new.asked
         (track_in_bound feature period.now (Some shape.now) legs)) }
 
-    // Of any pages: exactly the live legs of a chain, as far as it is read; all else is refused, as above.
+    // Of any pages: exactly the live legs of a chain, as far as it is read; all else is refused, as by `trajectory`.
     ensures chain { IsTrue cache.old.store.is_faithful
         → OnOk result (IsPlaceChain (pages_of_cache cache.old) (Some period.now) shape.now
         place.now) }
@@ -151,6 +173,21 @@ pub fn trajectory_in<S: PageStore>(
         → IfErr result IsAllowed }
     ensures malformed { IsTrue cache.old.store.is_faithful
         → AreHeld (pages_of_cache cache.old) → IfErr result IsOfHeld }
+
+    // Of any pages: a page that is named is the first one, from the place's last leaf back, that is not the chain's;
+    // a page is asked for once for each leaf that is read.
+    ensures whole { IsTrue cache.old.store.is_faithful
+        → OnOk result (chain_fault (pages_of_cache cache.old) (Some period.now) shape.now place.now
+        ≡ None) }
+    ensures named { IsTrue cache.old.store.is_faithful
+        → IfErr result (IsNamed (pages_of_cache cache.old)
+        (chain_fault (pages_of_cache cache.old) (Some period.now) shape.now place.now)) }
+    ensures walked { IsTrue cache.old.store.is_faithful
+        → OnOk result (RisesBy cache.old.asked cache.new.asked
+        (chain_cost (pages_of_cache cache.old) (Some period.now) shape.now place.now)) }
+    ensures within { IsTrue cache.old.store.is_faithful
+        → OnOk result (RisesAtMost cache.old.asked cache.new.asked
+        (chain_cost (pages_of_cache cache.old) (Some period.now) shape.now place.now)) }
 
     // Over any store; what is said of payloads, over a faithful one.
     ensures reads { OnlyReads cache.old cache.new }

@@ -5,6 +5,7 @@ use Rattle.std.proofs.lemmas.Result.{err_from_is_err_and}
 use Rattle.tbtree.specs.Nodes.{pages_of_cache}
 use Rattle.chains.specs.Chains.{chain_legs}
 use Rattle.chains.proofs.PeriodLemmas.{live_walk, few_walked}
+use Rattle.chains.proofs.FaultLemmas.{allowed_of, whole_from, whole_to}
 use Rattle.chains.proofs.PlaceLemmas.{whole_chain}
 use Rattle.chains.proofs.retrieval.trajectory_in.Goals as goal
 
@@ -12,7 +13,11 @@ pub returns-in_err-found-clause-found : goal.returns-in_err-found-clause-found
 returns-in_err-found-clause-found g c = λ fa legs f h.
     let p = err_from_is_err_and c.from_residual.result c.from_residual.ensures.1 in
     let some : 0 < c.args.shape.now.leaf = let least = c.walk_back.ensures.shape.least_leaf in omega (arith, least) in
-    rw (p.1, p.2) (c.in_err-found.ensures.only fa (whole_chain (pages_of_cache c.args.cache.now) c.args.shape.now c.args.place.now f legs some h (Some c.args.period.now)))
+    let nodes = pages_of_cache c.args.cache.now in
+    let shape = c.args.shape.now in
+    let place = c.args.place.now in
+    let whole = whole_from nodes (Some c.args.period.now) shape place (whole_chain nodes shape place f legs some h (Some c.args.period.now)) in
+    rw (p.1, p.2) (allowed_of nodes c.args.cache.now c.walk_back.new.cache _ _ whole c.in_err-found.ensures.caused (c.in_err-found.ensures.named fa))
 
 pub returns-clause-found : goal.returns-clause-found
 returns-clause-found g c = λ fa legs f h.
@@ -39,3 +44,13 @@ pub returns-clause-legs : goal.returns-clause-legs
 returns-clause-legs g c = λ fa.
     c.reverse.ensures.items ∙ ap reverse (c.in_ok-found.ensures.found fa)
     ∙ reverse-reverse (chain_legs (pages_of_cache c.args.cache.now) (Some c.args.period.now) c.args.shape.now c.args.place.now)
+
+pub returns-in_err-found-clause-only : goal.returns-in_err-found-clause-only
+returns-in_err-found-clause-only g c = λ fa h.
+    let p = err_from_is_err_and c.from_residual.result c.from_residual.ensures.1 in
+    let nodes = pages_of_cache c.args.cache.now in
+    let whole = whole_from nodes (Some c.args.period.now) c.args.shape.now c.args.place.now h in
+    rw (p.1, p.2) (allowed_of nodes c.args.cache.now c.walk_back.new.cache _ _ whole c.in_err-found.ensures.caused (c.in_err-found.ensures.named fa))
+
+pub returns-clause-chain : goal.returns-clause-chain
+returns-clause-chain g c = λ fa. whole_to (pages_of_cache c.args.cache.now) (Some c.args.period.now) c.args.shape.now c.args.place.now (c.in_ok-found.ensures.whole fa)

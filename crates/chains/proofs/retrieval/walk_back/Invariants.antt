@@ -2,7 +2,7 @@ use Rattle.std.proofs.Common.{◌≡◌, ◌+◌, ◌-◌, ◌^◌, ◌≤◌, �
 use Rattle.std.specs.Prelude.{IsTrue, reverse}
 use Rattle.std.specs.Int.{div_ceil}
 use Rattle.tbtree.specs.Nodes.{pages_of_cache}
-use Rattle.chains.specs.Chains.{IsChain, IsPlaceChain, walk, walked}
+use Rattle.chains.specs.Chains.{chain_fault, fault_from, walk, walked}
 use Rattle.chains.specs.Reads.{OnlyReads}
 use Rattle.chains.proofs.retrieval.walk_back.Given as goal
 
@@ -19,8 +19,7 @@ invariant-leaves g l =
     record {
       reads : OnlyReads old l.cache;
       found : IsTrue old.store.is_faithful → l.found.items ++ reverse (walk nodes l.fn.period l.left l.link.page) ≡ reverse (walk nodes l.fn.period blocks place.last);
-      into : IsTrue old.store.is_faithful → IsPlaceChain nodes l.fn.period l.fn.shape place → IsChain nodes l.fn.period l.fn.shape.leaf place.legs place.first l.left l.link;
-      back : IsTrue old.store.is_faithful → IsChain nodes l.fn.period l.fn.shape.leaf place.legs place.first l.left l.link → IsPlaceChain nodes l.fn.period l.fn.shape place;
+      fault : IsTrue old.store.is_faithful → fault_from nodes l.fn.period l.fn.shape.leaf place.legs place.first l.left l.link ≡ chain_fault nodes l.fn.period l.fn.shape place;
       asked : IsTrue old.store.is_faithful → l.cache.asked < 2 ^ 64 - 1 → l.cache.asked + walked nodes l.fn.period l.left l.link.page ≡ old.asked + walked nodes l.fn.period blocks place.last;
       within : IsTrue old.store.is_faithful → l.cache.asked + walked nodes l.fn.period l.left l.link.page ≤ old.asked + walked nodes l.fn.period blocks place.last;
       few : l.cache.asked + l.left ≤ old.asked + blocks;
