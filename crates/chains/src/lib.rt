@@ -6,7 +6,7 @@ mod leaves;
 mod retrieval;
 
 pub use fault::ChainFault;
-pub use retrieval::{trajectory, trajectory_in};
+pub use retrieval::{laws, trajectory, trajectory_in};
 
 #[cfg(test)]
 mod tests;

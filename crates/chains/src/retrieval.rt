@@ -1,11 +1,14 @@
 //! The legs of a feature.
-ghost use Rattle.std.specs.Prelude.{ℕ, ◌≡◌, ◌+◌, ◌≤◌, List, Some, None, reverse, OnOk, IfOk, IfErr, IsTrue};
+ghost use Rattle.std.specs.Prelude.{ℕ, ◌≡◌, ◌+◌, ◌≤◌, ◌↔◌, List, Option, Some, None, reverse, OnOk, IfOk, IfErr, IsTrue};
 ghost use Rattle.std.specs.Int.{div_ceil};
-ghost use Rattle.legs.specs.Costs.{RisesBy, RisesAtMost, track_cost, track_in_bound};
+ghost use Rattle.legs.specs.Boxes.{BoxView};
+ghost use Rattle.legs.specs.Costs.{ShapeView, RisesBy, RisesAtMost, track_cost, track_in_bound};
 ghost use Rattle.legs.specs.Index.{legs_of, live_legs_of};
 ghost use Rattle.legs.specs.Legs.{LegView};
-ghost use Rattle.tbtree.specs.Nodes.{pages_of_cache};
+ghost use Rattle.tbtree.specs.Nodes.{Pages, pages_of_cache};
 ghost use Rattle.tbtree.specs.Shape.{IsShape};
+ghost use Rattle.tbtree.specs.declared.tree.Place.{Place};
+ghost use Rattle.timebase.specs.Period.{PeriodView};
 ghost use Rattle.chains.specs.Chains.{AreHeld, IsPlaceChain, chain_fault, chain_legs, chain_cost, is_stray};
 ghost use Rattle.chains.specs.Faults.{IsAllowed, IsCaused, IsNamed, IsOfHeld, Gives};
 ghost use Rattle.chains.specs.Reads.{OnlyReads};
@@ -199,3 +202,11 @@ pub fn trajectory_in<S: PageStore>(
     found.reverse();
     Ok(found)
 }
+
+/// What holds of a chain in any pages, for the proofs of a caller. It does nothing.
+pub fn laws()
+    // The pages are the chain of a place exactly where none is named as its fault.
+    ensures whole { (nodes : Pages LegView BoxView) (period : Option PeriodView)
+        (shape : ShapeView) (place : Place) → chain_fault nodes period shape place ≡ None
+        ↔ IsPlaceChain nodes period shape place }
+{}
