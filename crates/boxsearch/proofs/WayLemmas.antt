@@ -91,17 +91,17 @@ module _ (a b : Cache) (reads : OnlyReads a b) (fa : IsTrue a.store.is_faithful)
       wrong = inl (λ h. off (leaf_after a b reads fa p h));
     }
 
--- more pages are met than there are
+-- the levels one after another, and how many pages are met on them
 module _ (query : BoxView) (nodes : Pages LegView BoxView) (root levels : ℕ) where
   pub many_off_way : (n k i p : ℕ) (now : List ℕ) → n + suc k ≡ levels → now ≡ pages_met (meets query) nodes root n
-      → slice_get now i ≡ Some p → nodes.count < met_count (meets query) nodes root n + length now → IsOffWay query nodes root levels p
+      → slice_get now i ≡ Some p → met_count (meets query) nodes root n + i ≡ nodes.count → IsOffWay query nodes root levels p
   many_off_way n k i p now l e at many = record {
     n = n;
     k = k;
     level_is = l;
     place = i;
     met = ap (λ xs. slice_get xs i) (sym e) ∙ at;
-    wrong = inr (let same = ap (λ (xs : List ℕ). length xs) e in omega (arith, many, same));
+    wrong = inr many;
   }
 
   pub few_on_way : (n : ℕ) (now : List ℕ) → suc n ≤ levels → now ≡ pages_met (meets query) nodes root n

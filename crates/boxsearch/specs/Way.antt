@@ -1,5 +1,5 @@
 -- Which pages are as a search expects them, on its way down from the root.
-use Rattle.std.specs.Prelude.{ℕ, zero, suc, ◌≡◌, ◌+◌, ◌<◌, ◌≤◌, ◌⊎◌, Bool, Some, slice_get}
+use Rattle.std.specs.Prelude.{ℕ, zero, suc, ◌≡◌, ◌+◌, ◌≤◌, ◌⊎◌, Bool, Some, slice_get}
 use Rattle.std.specs.List.{All}
 use Rattle.legs.specs.Legs.{LegView}
 use Rattle.legs.specs.Boxes.{BoxView, boxes_meet}
@@ -21,11 +21,11 @@ module _ (query : BoxView) (nodes : Pages LegView BoxView) (root levels : ℕ) w
     pub fit : (n k : ℕ) → n + suc k ≡ levels → All (λ p. IsOnLevel nodes k p) (pages_met (meets query) nodes root n)
     pub few : (n : ℕ) → n ≤ levels → met_count (meets query) nodes root n ≤ nodes.count
 
-  -- page p is met, and is not one of its level, or more pages would have been met with it than there are
+  -- page p is met, and is not one of its level, or is the first one that is met beyond as many as there are
   pub record IsOffWay (p : ℕ) : Type 0 where
     pub n : ℕ
     pub k : ℕ
     pub level_is : n + suc k ≡ levels
     pub place : ℕ
     pub met : slice_get (pages_met (meets query) nodes root n) place ≡ Some p
-    pub wrong : (IsOnLevel nodes k p → ⊥) ⊎ (nodes.count < met_count (meets query) nodes root (suc n))
+    pub wrong : (IsOnLevel nodes k p → ⊥) ⊎ (met_count (meets query) nodes root n + place ≡ nodes.count)

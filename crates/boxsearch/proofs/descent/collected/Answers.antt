@@ -66,7 +66,7 @@ returns-in_err-spend-clause-malformed g c = λ fa.
     let e = c.in_err-spend.ensures.err in
     let rooted : now ≡ root ∷ [] = root_alone now c.push.new.self.items c.new-pages.result.items root c.deref.ensures.value c.in_ok-push.ensures.items c.new-pages.ensures.items in
     let last : 0 + suc (levels - 1) ≡ levels = omega (arith, c.requires.levels) in
-    let many : nodes.count < met_count (meets query) nodes root 0 + length now = omega (arith, e.0, c.count.ensures.value) in
+    let many : met_count (meets query) nodes root 0 + c.count.result ≡ nodes.count = omega (arith, c.count.ensures.value) in
     rw (p.1, p.2) (malformed_is (IsOffWay query nodes root levels) _ e.1 e.3 (many_off_way query nodes root levels 0 (levels - 1) c.count.result e.1 now last rooted e.2 many))
 
 pub returns-in_err-pages-clause-only : goal.returns-in_err-pages-clause-only
@@ -134,7 +134,7 @@ returns-in_err-spend-2-clause-malformed g c = λ fa.
     let e = c.in_err-spend-2.ensures.err in
     let so_far = inv.left fa in
     let last : level + suc (levels - level - 1) ≡ levels = omega (arith, c.loop-level-test.true) in
-    let many : nodes.count < met_count (meets query) nodes root level + length below = omega (arith, e.0, so_far) in
+    let many : met_count (meets query) nodes root level + c.loop-level.left ≡ nodes.count = omega (arith, so_far) in
     rw (p.1, p.2) (malformed_is (IsOffWay query nodes root levels) _ e.1 e.3
     (many_off_way query nodes root levels level (levels - level - 1) c.loop-level.left e.1 below last (c.deref-in-loop-level-2.ensures.value ∙ met) e.2 many))
 
