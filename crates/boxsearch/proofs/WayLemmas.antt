@@ -1,7 +1,8 @@
 -- The way down, a level at a time.
-use Rattle.std.proofs.Common.{ℕ, zero, suc, [], ◌∷◌, ◌++◌, ◌≡◌, ◌+◌, ◌-◌, ◌^◌, ◌<◌, ◌≤◌, List, length, sym, ap, ◌∙◌, arith, subst, Some, slice_get, All, inl, inr}
+use Rattle.std.proofs.Common.{ℕ, zero, suc, [], ◌∷◌, ◌++◌, ◌≡◌, ◌+◌, ◌-◌, ◌^◌, ◌<◌, ◌≤◌, List, length, sym, ap, ◌∙◌, arith, subst, Some, slice_get, All, inl, inr, ⊎_elim}
 use Rattle.std.specs.Prelude.{IsTrue, min}
 use Rattle.std.specs.List.{flat_map}
+use Rattle.std.proofs.lemmas.Bool.{cases_lt}
 use Rattle.std.proofs.lemmas.List.Elements.{All-same}
 use Rattle.legs.specs.Boxes.{BoxView}
 use Rattle.legs.specs.Hull.{leg_boxes}
@@ -11,10 +12,10 @@ use Rattle.chains.specs.Reads.{OnlyReads}
 use Rattle.tbtree.specs.Descent.{children_met, hits, pages_met, met_count, legs_met, HasInner}
 use Rattle.tbtree.specs.Nodes.{Pages, pages_of_cache, HasLeaf}
 use Rattle.boxsearch.specs.Faults.{IsCaused, IfMalformed}
-use Rattle.boxsearch.specs.Way.{meets, IsWay, IsOffWay}
+use Rattle.boxsearch.specs.Way.{meets, IsOnLevel, IsWay, IsOffWay}
 use Rattle.boxsearch.specs.declared.fault.SearchFault.{SearchFault}
 use Rattle.boxsearch.specs.declared.fault.SearchFault.TheVariants.{Cache as OfCache, Malformed, Spent, Memory}
-use Rattle.boxsearch.proofs.SameLemmas.{below_same, hits_same, inner_after, leaf_after}
+use Rattle.boxsearch.proofs.SameLemmas.{below_same, hits_same, inner_after, inner_before, leaf_after, leaf_before}
 
 -- what is said of a page that is malformed says another thing too
 pub malformed_then : (P Q : ℕ → Type 0) (fault : SearchFault) → ((n : ℕ) → P n → Q n) → IfMalformed P fault → IfMalformed Q fault
@@ -53,6 +54,20 @@ module _ (a b : Cache) (reads : OnlyReads a b) (fa : IsTrue a.store.is_faithful)
       h ∙ hits_same a b reads fa (meets query) now
       ∙ ap (flat_map (hits leg_boxes (meets query) (pages_of_cache a))) e
       ∙ sym (ap (legs_met leg_boxes (meets query) (pages_of_cache a) root) s)
+
+  -- pages that were read are on their level
+  pub inners_fit : (n k : ℕ) (now : List ℕ) → 0 < k → now ≡ pages_met (meets query) (pages_of_cache a) root n
+      → All (λ p. HasInner (pages_of_cache b) p k) now → All (λ p. IsOnLevel (pages_of_cache a) k p) (pages_met (meets query) (pages_of_cache a) root n)
+  inners_fit n zero now some e all = absurd (omega (arith, some))
+  inners_fit n (suc k) now some e all =
+      let met = All-same (λ p. HasInner (pages_of_cache b) p (suc k)) _ now (sym e) all in
+      λ i d w. inner_before a b reads fa _ (suc k) (met i d w)
+
+  pub leaves_fit : (n : ℕ) (now : List ℕ) → now ≡ pages_met (meets query) (pages_of_cache a) root n
+      → All (λ p. HasLeaf (pages_of_cache b) p) now → All (λ p. IsOnLevel (pages_of_cache a) 0 p) (pages_met (meets query) (pages_of_cache a) root n)
+  leaves_fit n now e all =
+      let met = All-same (λ p. HasLeaf (pages_of_cache b) p) _ now (sym e) all in
+      λ i d w. leaf_before a b reads fa _ (met i d w)
 
   module _ (levels : ℕ) where
     pub inners_on_way : (n k : ℕ) (now : List ℕ) → 0 < k → n + suc k ≡ levels → now ≡ pages_met (meets query) (pages_of_cache a) root n
@@ -116,3 +131,48 @@ module _ (query : BoxView) (nodes : Pages LegView BoxView) (root levels : ℕ) w
       → met_count (meets query) nodes root j ≡ met_count (meets query) nodes root n + length now
   counted n j now s e =
       ap (met_count (meets query) nodes root) s ∙ ap (λ (xs : List ℕ). met_count (meets query) nodes root n + length xs) (sym e)
+
+  -- the pages of the first levels are each on its level
+  abbrev pub FitsTo : ℕ → Type 0
+  FitsTo depth = (n k : ℕ) → n + suc k ≡ levels → n < depth → All (λ p. IsOnLevel nodes k p) (pages_met (meets query) nodes root n)
+
+  -- and those of one level more
+  pub fits_more : (n k m : ℕ) → n + suc k ≡ levels → m ≡ suc n → All (λ p. IsOnLevel nodes k p) (pages_met (meets query) nodes root n) → FitsTo n → FitsTo m
+  fits_more n k m l s all above x y e w =
+      ⊎_elim
+      (λ (h : x < n). above x y e h)
+      (λ (h : n ≤ x).
+      let here : n ≡ x = omega (arith, h, w, s) in
+      let deep : k ≡ y = omega (arith, here, l, e) in
+      subst (λ v. All (λ p. IsOnLevel nodes y p) (pages_met (meets query) nodes root v)) here
+      (subst (λ v. All (λ p. IsOnLevel nodes v p) (pages_met (meets query) nodes root n)) deep all))
+      (cases_lt x n)
+
+  -- no fewer pages are met on more levels
+  met_rises : (n d m : ℕ) → n + d ≡ m → met_count (meets query) nodes root n ≤ met_count (meets query) nodes root m
+  met_rises n zero m e =
+      let same : n ≡ m = omega (arith, e) in
+      let met = ap (met_count (meets query) nodes root) same in
+      omega (arith, met)
+  met_rises n (suc d) zero e = absurd (omega (arith, e))
+  met_rises n (suc d) (suc m) e =
+      let fewer = met_rises n d m (omega (arith, e)) in
+      omega (arith, fewer)
+
+  -- where each level fits, and some or no pages are left, the way is whole
+  pub way_whole : (left m : ℕ) → m ≡ levels → FitsTo levels → left + met_count (meets query) nodes root m ≡ nodes.count → IsWay query nodes root levels
+  way_whole left m s fits all = record {
+    fit = λ n k l. fits n k l (omega (arith, l));
+    few = λ n h.
+        let rises = met_rises n (m - n) m (omega (arith, h, s)) in
+        omega (arith, rises, all);
+  }
+
+  -- and so it is where there are no levels
+  pub way_none : levels ≡ 0 → IsWay query nodes root levels
+  way_none e = record {
+    fit = λ n k l. absurd (omega (arith, l, e));
+    few = λ n h.
+        let rises = met_rises n 0 0 (omega (arith, h, e)) in
+        omega (arith, rises);
+  }

@@ -33,6 +33,8 @@ fn next_level<S: PageStore>(
     ensures found { IsTrue cache.old.store.is_faithful
         → IfOk result (λ below. below.items
         ≡ flat_map (children_met (meets query.now) (pages_of_cache cache.old)) pages.now) }
+    ensures way { IsTrue cache.old.store.is_faithful
+        → OnOk result (All (λ p. HasInner (pages_of_cache cache.old) p level) pages.now) }
     ensures only { IsTrue cache.old.store.is_faithful
         → All (λ p. HasInner (pages_of_cache cache.old) p level) pages.now → IfErr result IsAllowed }
     ensures malformed { IsTrue cache.old.store.is_faithful
@@ -61,6 +63,8 @@ fn legs_in<S: PageStore>(
     ensures found { IsTrue cache.old.store.is_faithful
         → IfOk result (λ found. found.items
         ≡ flat_map (hits leg_boxes (meets query.now) (pages_of_cache cache.old)) pages.now) }
+    ensures way { IsTrue cache.old.store.is_faithful
+        → OnOk result (All (λ p. HasLeaf (pages_of_cache cache.old) p) pages.now) }
     ensures only { IsTrue cache.old.store.is_faithful
         → All (λ p. HasLeaf (pages_of_cache cache.old) p) pages.now → IfErr result IsAllowed }
     ensures malformed { IsTrue cache.old.store.is_faithful
@@ -105,6 +109,8 @@ fn collected<S: PageStore>(
         → IfOk result (λ found. found.items
         ≡ legs_met leg_boxes (meets query.now) (pages_of_cache cache.old) tree.now.root
         tree.now.levels) }
+    ensures way { IsTrue cache.old.store.is_faithful
+        → OnOk result (IsWay query.now (pages_of_cache cache.old) tree.now.root tree.now.levels) }
     ensures only { IsTrue cache.old.store.is_faithful
         → IsWay query.now (pages_of_cache cache.old) tree.now.root tree.now.levels
         → IfErr result IsAllowed }
@@ -153,11 +159,13 @@ pub fn search<S: PageStore>(
         → OnOk result (RisesBy cache.old.asked cache.new.asked
         (search_cost query.now (Some tree.now.shape) legs)) }
 
-    // Of any pages: the legs of the pages that are met, in order; where each of those is what the tree expects, nothing
-    // else refuses, and a page that is said to be malformed is one that is not.
+    // Of any pages: the legs of the pages that are met, in order, and those are given only where each of the pages is what
+    // the tree expects; where each is, nothing else refuses, and a page that is said to be malformed is one that is not.
     ensures met { IsTrue cache.old.store.is_faithful
         → IfOk result (λ found. IsInOrder (legs_met leg_boxes (meets query.now)
         (pages_of_cache cache.old) tree.now.root tree.now.levels) found.items) }
+    ensures way { IsTrue cache.old.store.is_faithful
+        → OnOk result (IsWay query.now (pages_of_cache cache.old) tree.now.root tree.now.levels) }
     ensures only { tree.now.spent ≡ false → IsTrue cache.old.store.is_faithful
         → IsWay query.now (pages_of_cache cache.old) tree.now.root tree.now.levels
         → IfErr result IsAllowed }

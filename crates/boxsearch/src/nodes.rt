@@ -58,6 +58,8 @@ fn push_inner(
     ensures pushed { OnOk result (found.new.items
         ≡ found.old.items ++ map (λ e. e.child) (filter (λ e. boxes_meet e.bounds query.now)
         (entries_in (Some (node_of payload.now))))) }
+    ensures way { OnOk result ((inner : InnerView BoxView)
+        × (node_of payload.now ≡ Some (AnInner inner)) × (inner.level ≡ level)) }
     ensures only { (inner : InnerView BoxView) → node_of payload.now ≡ Some (AnInner inner)
         → inner.level ≡ level → IfErr result IsAllowed }
     ensures malformed { IfErr result (IfMalformed (λ n. (n ≡ page)
@@ -85,6 +87,8 @@ fn push_leaf(
     ensures pushed { OnOk result (found.new.items
         ≡ found.old.items ++ filter (λ leg. boxes_meet (box_of leg) query.now)
         (legs_in (Some (node_of payload.now)))) }
+    ensures way { OnOk result ((leaf : LeafView LegView)
+        × (node_of payload.now ≡ Some (ALeaf leaf))) }
     ensures only { (leaf : LeafView LegView) → node_of payload.now ≡ Some (ALeaf leaf)
         → IfErr result IsAllowed }
     ensures malformed { IfErr result (IfMalformed (λ n. (n ≡ page)
@@ -99,7 +103,6 @@ fn push_leaf(
 }
 
 /// Adds the children of an inner page of that level whose boxes meet.
-#[tactic(auto, unfolding(tbtree::specs::Descent::children_met))]
 pub(crate) fn push_children<S: PageStore>(
     cache: &mut PageCache<S>,
     page: u32,
@@ -110,6 +113,8 @@ pub(crate) fn push_children<S: PageStore>(
     ensures pushed { IsTrue cache.old.store.is_faithful
         → OnOk result (found.new.items
         ≡ found.old.items ++ children_met (meets query.now) (pages_of_cache cache.old) page) }
+    ensures way { IsTrue cache.old.store.is_faithful
+        → OnOk result (HasInner (pages_of_cache cache.old) page level) }
     ensures only { IsTrue cache.old.store.is_faithful
         → HasInner (pages_of_cache cache.old) page level → IfErr result IsAllowed }
     ensures malformed { IsTrue cache.old.store.is_faithful
@@ -140,6 +145,8 @@ pub(crate) fn push_legs<S: PageStore>(
     ensures pushed { IsTrue cache.old.store.is_faithful
         → OnOk result (found.new.items
         ≡ found.old.items ++ hits leg_boxes (meets query.now) (pages_of_cache cache.old) page) }
+    ensures way { IsTrue cache.old.store.is_faithful
+        → OnOk result (HasLeaf (pages_of_cache cache.old) page) }
     ensures only { IsTrue cache.old.store.is_faithful
         → HasLeaf (pages_of_cache cache.old) page → IfErr result IsAllowed }
     ensures malformed { IsTrue cache.old.store.is_faithful

@@ -5,7 +5,7 @@ use Rattle.tbtree.specs.Nodes.{pages_of_cache, HasLeaf}
 use Rattle.boxsearch.specs.Way.{meets, IsOffWay}
 use Rattle.boxsearch.proofs.FoundLemmas.{if_ok, if_err, on_ok}
 use Rattle.boxsearch.proofs.ReadLemmas.{reads_trans}
-use Rattle.boxsearch.proofs.WayLemmas.{root_alone, level_down, level_legs, counted, few_on_way, many_off_way, inners_on_way, inner_off_way, leaves_on_way, leaf_off_way, malformed_is, malformed_then}
+use Rattle.boxsearch.proofs.WayLemmas.{root_alone, level_down, level_legs, counted, few_on_way, many_off_way, inners_on_way, inner_off_way, leaves_on_way, leaf_off_way, inners_fit, leaves_fit, fits_more, way_whole, malformed_is, malformed_then}
 use Rattle.boxsearch.proofs.descent.collected.Goals as goal
 
 pub loop-level-preserved : goal.loop-level-preserved
@@ -30,6 +30,13 @@ loop-level-preserved g c =
       found = λ fa.
           level_down old c.loop-level.cache inv.reads fa query root n (level + 1 - 1) now c.in_ok-pages.pages.items up (c.deref-in-loop-level.ensures.value ∙ inv.found fa)
           (c.in_ok-pages.ensures.found (inv.reads.store.faithful ∙ fa));
+      way = λ fa.
+          let some : 0 < levels - level = omega (arith, c.loop-level-test.true) in
+          let deep : n + suc (levels - level) ≡ levels = omega (arith, c.loop-level-test.true) in
+          fits_more query nodes root levels n (levels - level) (level + 1 - 1) deep up
+          (inners_fit old c.loop-level.cache inv.reads fa query root n (levels - level) now some (c.deref-in-loop-level.ensures.value ∙ inv.found fa)
+          (c.in_ok-pages.ensures.way (inv.reads.store.faithful ∙ fa)))
+          (inv.way fa);
       asked = λ fa less.
           let more = c.in_ok-pages.ensures.asked less in
           let so_far = inv.asked fa (omega (arith, more, less)) in
@@ -148,6 +155,24 @@ returns-clause-found g c = λ fa.
     if_ok c.legs_in.result _ _
     (λ found h. level_legs old c.loop-level.cache inv.reads fa c.args.query.now c.args.tree.now.root (level - 1) levels c.deref-2.result.now found.items last (c.deref-2.ensures.value ∙ inv.found fa) h)
     (c.legs_in.ensures.found (inv.reads.store.faithful ∙ fa))
+
+pub returns-clause-way : goal.returns-clause-way
+returns-clause-way g c = λ fa.
+    let old = c.args.cache.now in
+    let nodes = pages_of_cache old in
+    let query = c.args.query.now in
+    let root = c.args.tree.now.root in
+    let inv = c.loop-level.invariant in
+    let level = c.loop-level.level in
+    let levels = c.args.tree.now.levels in
+    let last : levels ≡ suc (level - 1) = omega (arith, c.loop-level-test.false, c.requires.levels) in
+    let deep : level - 1 + 1 ≡ levels = omega (arith, last) in
+    let here : level ≡ levels = omega (arith, c.loop-level-test.false, c.requires.levels) in
+    on_ok c.legs_in.result
+    (λ all.
+    let leaves = leaves_fit old c.loop-level.cache inv.reads fa query root (level - 1) c.deref-2.result.now (c.deref-2.ensures.value ∙ inv.found fa) all in
+    way_whole query nodes root levels c.loop-level.left level here (fits_more query nodes root levels (level - 1) 0 levels deep last leaves (inv.way fa)) (inv.left fa))
+    (c.legs_in.ensures.way (inv.reads.store.faithful ∙ fa))
 
 pub returns-clause-only : goal.returns-clause-only
 returns-clause-only g c = λ fa way.

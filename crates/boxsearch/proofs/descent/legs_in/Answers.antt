@@ -6,7 +6,7 @@ use Rattle.legs.specs.Hull.{leg_boxes}
 use Rattle.tbtree.specs.Descent.{hits}
 use Rattle.tbtree.specs.Nodes.{pages_of_cache, HasLeaf}
 use Rattle.boxsearch.proofs.ReadLemmas.{reads_trans}
-use Rattle.boxsearch.proofs.SameLemmas.{flat_more, same_hits, leaf_after}
+use Rattle.boxsearch.proofs.SameLemmas.{flat_more, same_hits, leaf_after, leaf_before, all_more}
 use Rattle.boxsearch.proofs.WayLemmas.{malformed_then, one_more}
 use Rattle.boxsearch.proofs.descent.legs_in.Goals as goal
 
@@ -25,6 +25,9 @@ loop-page-preserved g c =
       found = λ fa.
           flat_more (hits leg_boxes test (pages_of_cache old)) pages i (i + 1) page c.loop-page.found.items c.push_legs.new.found.items (hits leg_boxes test (pages_of_cache c.loop-page.cache) page) at next
           (same_hits old c.loop-page.cache inv.reads fa test page) (c.in_ok-push_legs.ensures.pushed (inv.reads.store.faithful ∙ fa)) (inv.found fa);
+      way = λ fa.
+          let here = leaf_before old c.loop-page.cache inv.reads fa page (c.in_ok-push_legs.ensures.way (inv.reads.store.faithful ∙ fa)) in
+          all_more (λ p. HasLeaf (pages_of_cache old) p) pages i (i + 1) page at next here (inv.way fa);
       asked = λ below.
           let one = one_more c.loop-page.cache.asked c.push_legs.new.cache.asked c.in_ok-push_legs.ensures.asked below in
           let so_far = inv.asked one.0 in

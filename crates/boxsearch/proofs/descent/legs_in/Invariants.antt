@@ -1,10 +1,10 @@
 use Rattle.std.proofs.Common.{◌≡◌, ◌+◌, ◌-◌, ◌^◌, ◌≤◌, ◌<◌, take}
 use Rattle.std.specs.Prelude.{IsTrue}
-use Rattle.std.specs.List.{flat_map}
+use Rattle.std.specs.List.{All, flat_map}
 use Rattle.legs.specs.Hull.{leg_boxes}
 use Rattle.chains.specs.Reads.{OnlyReads}
 use Rattle.tbtree.specs.Descent.{hits}
-use Rattle.tbtree.specs.Nodes.{pages_of_cache}
+use Rattle.tbtree.specs.Nodes.{pages_of_cache, HasLeaf}
 use Rattle.boxsearch.specs.Way.{meets}
 use Rattle.boxsearch.proofs.descent.legs_in.Given as goal
 
@@ -12,6 +12,7 @@ abbrev pub invariant-loop-page : goal.invariant-loop-page
 invariant-loop-page g l = record {
   reads : OnlyReads l.initial.cache l.cache;
   found : IsTrue l.initial.cache.store.is_faithful → l.found.items ≡ flat_map (hits leg_boxes (meets l.query) (pages_of_cache l.initial.cache)) (take l.page-index l.pages);
+  way : IsTrue l.initial.cache.store.is_faithful → All (λ p. HasLeaf (pages_of_cache l.initial.cache) p) (take l.page-index l.pages);
   asked : l.cache.asked < 2 ^ 64 - 1 → l.cache.asked ≡ l.initial.cache.asked + l.page-index;
   most : l.cache.asked ≤ l.initial.cache.asked + l.page-index;
 }

@@ -5,7 +5,7 @@ use Rattle.boxsearch.specs.Way.{meets}
 use Rattle.tbtree.specs.Descent.{children_met, HasInner}
 use Rattle.tbtree.specs.Nodes.{pages_of_cache}
 use Rattle.boxsearch.proofs.ReadLemmas.{reads_trans}
-use Rattle.boxsearch.proofs.SameLemmas.{flat_more, same_children, inner_after}
+use Rattle.boxsearch.proofs.SameLemmas.{flat_more, same_children, inner_after, inner_before, all_more}
 use Rattle.boxsearch.proofs.WayLemmas.{malformed_then, one_more}
 use Rattle.boxsearch.proofs.descent.next_level.Goals as goal
 
@@ -24,6 +24,9 @@ loop-page-preserved g c =
       found = λ fa.
           flat_more (children_met test (pages_of_cache old)) pages i (i + 1) page c.loop-page.below.items c.push_children.new.found.items (children_met test (pages_of_cache c.loop-page.cache) page) at next
           (same_children old c.loop-page.cache inv.reads fa test page) (c.in_ok-push_children.ensures.pushed (inv.reads.store.faithful ∙ fa)) (inv.found fa);
+      way = λ fa.
+          let here = inner_before old c.loop-page.cache inv.reads fa page c.args.level (c.in_ok-push_children.ensures.way (inv.reads.store.faithful ∙ fa)) in
+          all_more (λ p. HasInner (pages_of_cache old) p c.args.level) pages i (i + 1) page at next here (inv.way fa);
       asked = λ below.
           let one = one_more c.loop-page.cache.asked c.push_children.new.cache.asked c.in_ok-push_children.ensures.asked below in
           let so_far = inv.asked one.0 in

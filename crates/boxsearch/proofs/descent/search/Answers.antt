@@ -7,6 +7,7 @@ use Rattle.tbtree.specs.Nodes.{pages_of_cache}
 use Rattle.boxsearch.specs.Way.{meets}
 use Rattle.boxsearch.proofs.FoundLemmas.{way_of, none_found, none_asked, in_order, cost_is}
 use Rattle.boxsearch.proofs.PruningLemmas.{pruning}
+use Rattle.boxsearch.proofs.WayLemmas.{way_none}
 use Rattle.boxsearch.proofs.descent.search.Goals as goal
 
 pub returns-then-tree-eq0-clause-found : goal.returns-then-tree-eq0-clause-found
@@ -25,6 +26,10 @@ returns-then-tree-eq0-clause-asked g c = λ fa legs pages s less.
     let down = c.laws.ensures.descends (meets query) nodes tree legs pages (pruning query) c.leaf.ensures.range s in
     let none = none_asked query nodes tree legs down c.if-tree-eq0.true in
     omega (arith, none)
+
+pub returns-then-tree-eq0-clause-way : goal.returns-then-tree-eq0-clause-way
+returns-then-tree-eq0-clause-way g c = λ fa.
+    way_none c.args.query.now (pages_of_cache c.args.cache.now) c.args.tree.now.root c.args.tree.now.levels c.if-tree-eq0.true
 
 pub returns-in_err-found-clause-found : goal.returns-in_err-found-clause-found
 returns-in_err-found-clause-found g c = λ ns fa legs pages s.

@@ -1,4 +1,13 @@
+use Rattle.std.proofs.Common.{◌++◌, ap, ◌∙◌}
+use Rattle.boxsearch.specs.Way.{meets}
+use Rattle.boxsearch.proofs.ResultLemmas.{on_ok}
+use Rattle.boxsearch.proofs.SameLemmas.{hits_there}
 use Rattle.boxsearch.proofs.nodes.push_legs.Goals as goal
 
 pub returns-clause-caused : goal.returns-clause-caused
 returns-clause-caused g c = c.push_leaf.ensures.caused c.args.cache.now c.page.follows.lender-at-none
+
+pub returns-clause-pushed : goal.returns-clause-pushed
+returns-clause-pushed g c = λ fa.
+    let there = hits_there c.args.cache.now c.args.page c.in-Ok.payload.now (meets c.args.query.now) c.if-page-eq0.false (c.in-Ok.ensures.value fa) in
+    on_ok c.push_leaf.result (λ e. e ∙ ap (λ l. c.args.found.now.items ++ l) there) c.push_leaf.ensures.pushed
