@@ -1,5 +1,5 @@
 //! The search, level by level.
-ghost use Rattle.std.specs.Prelude.{ℕ, ◌≡◌, ◌+◌, ◌<◌, ◌≤◌, List, Some, Err, true, false, length, slice_get, OnOk, IfOk, IfErr, IsTrue};
+ghost use Rattle.std.specs.Prelude.{ℕ, ◌≡◌, ◌≢◌, ◌+◌, ◌<◌, ◌≤◌, List, Some, Err, true, false, length, slice_get, OnOk, IfOk, IfErr, IsTrue};
 ghost use Rattle.std.specs.List.{All, flat_map};
 ghost use Rattle.legs.specs.Costs.{RisesBy, search_cost};
 ghost use Rattle.legs.specs.Hull.{leg_boxes};
@@ -42,6 +42,7 @@ fn next_level<S: PageStore>(
         × (HasInner (pages_of_cache cache.old) n level → ⊥))) }
     ensures reads { OnlyReads cache.old cache.new }
     ensures caused { IfErr result (IsCaused cache.old cache.new) }
+    ensures works { IfErr result (λ fault. fault ≢ SearchFault.Spent) }
     ensures asked { OnOk result (RisesBy cache.old.asked cache.new.asked (length pages.now)) }
     ensures most { cache.new.asked ≤ cache.old.asked + length pages.now }
 {
@@ -72,6 +73,7 @@ fn legs_in<S: PageStore>(
         × (HasLeaf (pages_of_cache cache.old) n → ⊥))) }
     ensures reads { OnlyReads cache.old cache.new }
     ensures caused { IfErr result (IsCaused cache.old cache.new) }
+    ensures works { IfErr result (λ fault. fault ≢ SearchFault.Spent) }
     ensures asked { OnOk result (RisesBy cache.old.asked cache.new.asked (length pages.now)) }
     ensures most { cache.new.asked ≤ cache.old.asked + length pages.now }
 {
@@ -119,6 +121,7 @@ fn collected<S: PageStore>(
         tree.now.levels)) }
     ensures reads { OnlyReads cache.old cache.new }
     ensures caused { IfErr result (IsCaused cache.old cache.new) }
+    ensures works { IfErr result (λ fault. fault ≢ SearchFault.Spent) }
     ensures asked { IsTrue cache.old.store.is_faithful
         → OnOk result (RisesBy cache.old.asked cache.new.asked
         (met_count (meets query.now) (pages_of_cache cache.old) tree.now.root tree.now.levels)) }
@@ -179,6 +182,7 @@ pub fn search<S: PageStore>(
     // Over any store.
     ensures spent { tree.now.spent ≡ true
         → (result ≡ Err SearchFault.Spent) × (cache.new ≡ cache.old) }
+    ensures works { tree.now.spent ≡ false → IfErr result (λ fault. fault ≢ SearchFault.Spent) }
     ensures reads { OnlyReads cache.old cache.new }
     ensures caused { IfErr result (IsCaused cache.old cache.new) }
     ensures most { cache.new.asked ≤ cache.old.asked + cache.old.count }

@@ -1,5 +1,5 @@
 //! One page on the way down.
-ghost use Rattle.std.specs.Prelude.{◌≡◌, ◌≤◌, ◌+◌, ◌++◌, filter, map, OnOk, IfErr, IsTrue, Some};
+ghost use Rattle.std.specs.Prelude.{◌≡◌, ◌≢◌, ◌≤◌, ◌+◌, ◌++◌, filter, map, OnOk, IfErr, IsTrue, Some};
 ghost use Rattle.legs.specs.Boxes.{BoxView, box_of, boxes_meet};
 ghost use Rattle.legs.specs.Hull.{leg_boxes};
 ghost use Rattle.legs.specs.Legs.{LegView};
@@ -10,6 +10,7 @@ ghost use Rattle.tbtree.specs.Descent.{children_met, entries_in, hits, legs_in, 
 ghost use Rattle.tbtree.specs.Nodes.{pages_of_cache, AnInner, ALeaf, InnerView, LeafView, HasLeaf};
 ghost use Rattle.boxsearch.specs.Faults.{IsAllowed, IsCaused, IfMalformed};
 ghost use Rattle.boxsearch.specs.Way.{meets};
+ghost use Rattle.boxsearch.specs.declared.fault.SearchFault.{SearchFault};
 
 use crate::fault::SearchFault;
 use legs::{Box3, Leg};
@@ -66,6 +67,7 @@ fn push_inner(
         × ((inner : InnerView BoxView) → node_of payload.now ≡ Some (AnInner inner)
         → inner.level ≡ level → ⊥))) }
     ensures caused { (old new : Cache) → IfErr result (IsCaused old new) }
+    ensures works { IfErr result (λ fault. fault ≢ SearchFault.Spent) }
 {
     let Some(inner) = tbnode::inner(payload) else {
         return Err(SearchFault::Malformed(page));
@@ -94,6 +96,7 @@ fn push_leaf(
     ensures malformed { IfErr result (IfMalformed (λ n. (n ≡ page)
         × ((leaf : LeafView LegView) → node_of payload.now ≡ Some (ALeaf leaf) → ⊥))) }
     ensures caused { (old new : Cache) → IfErr result (IsCaused old new) }
+    ensures works { IfErr result (λ fault. fault ≢ SearchFault.Spent) }
 {
     let Some(leaf) = tbnode::leaf(payload) else {
         return Err(SearchFault::Malformed(page));
@@ -122,6 +125,7 @@ pub(crate) fn push_children<S: PageStore>(
         × (HasInner (pages_of_cache cache.old) page level → ⊥))) }
     ensures reads { OnlyReads cache.old cache.new }
     ensures caused { IfErr result (IsCaused cache.old cache.new) }
+    ensures works { IfErr result (λ fault. fault ≢ SearchFault.Spent) }
     ensures asked { OnOk result (AsksOnce cache.old cache.new) }
     ensures most { cache.new.asked ≤ cache.old.asked + 1 }
 {
@@ -154,6 +158,7 @@ pub(crate) fn push_legs<S: PageStore>(
         × (HasLeaf (pages_of_cache cache.old) page → ⊥))) }
     ensures reads { OnlyReads cache.old cache.new }
     ensures caused { IfErr result (IsCaused cache.old cache.new) }
+    ensures works { IfErr result (λ fault. fault ≢ SearchFault.Spent) }
     ensures asked { OnOk result (AsksOnce cache.old cache.new) }
     ensures most { cache.new.asked ≤ cache.old.asked + 1 }
 {
