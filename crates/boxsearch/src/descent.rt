@@ -162,8 +162,9 @@ pub fn search<S: PageStore>(
         → OnOk result (RisesBy cache.old.asked cache.new.asked
         (search_cost query.now (Some tree.now.shape) legs)) }
 
-    // Of any pages: the legs of the pages that are met, in order, and those are given only where each of the pages is what
-    // the tree expects; where each is, nothing else refuses, and a page that is said to be malformed is one that is not.
+    // Of any pages: the legs of the pages that are met, in order, and only where each of them is what the tree expects;
+    // where each is, nothing else refuses. A page that is said to be malformed is one that is not, or the first one
+    // that is met beyond as many as there are.
     ensures met { IsTrue cache.old.store.is_faithful
         → IfOk result (λ found. IsInOrder (legs_met leg_boxes (meets query.now)
         (pages_of_cache cache.old) tree.now.root tree.now.levels) found.items) }
