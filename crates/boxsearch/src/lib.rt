@@ -14,4 +14,6 @@ pub use fault::SearchFault;
 pub use tree_index::TreeIndex;
 
 #[cfg(test)]
+mod index_tests;
+#[cfg(test)]
 mod tests;
