@@ -463,7 +463,7 @@ fn random_legs_in_small_pages_are_found_at_their_cost(rt: HostRuntime) {
 #[test]
 fn random_legs_in_odd_pages_are_found_at_their_cost(rt: HostRuntime) {
     for features in [1, 7, 300] {
-        let found = is_found(rt.alloc(), (3, 5), 2_000, features);
+        let found = is_found(rt.alloc(), (3, 5), 10_000, features);
         assert_eq!(rt; found, Some(true), "of {features} features");
     }
 }
@@ -471,7 +471,7 @@ fn random_legs_in_odd_pages_are_found_at_their_cost(rt: HostRuntime) {
 #[test]
 fn random_legs_in_full_pages_are_found_at_their_cost(rt: HostRuntime) {
     for features in [1, 7, 300] {
-        let found = is_found(rt.alloc(), (50, 72), 2_000, features);
+        let found = is_found(rt.alloc(), (50, 72), 10_000, features);
         assert_eq!(rt; found, Some(true), "of {features} features");
     }
 }
