@@ -1,6 +1,6 @@
 -- A leg more in an index over pages.
-use Rattle.std.proofs.Common.{ℕ, ◌≡◌, ◌≢◌, ◌≤◌, ◌<◌, ◌+◌, ◌*◌, ◌-◌, ◌^◌, min, max, refl, sym, ap, ◌∙◌, arith, subst, ⊎_elim, true, false, Bool, List, [], ◌∷◌, ◌++◌, length, Some, slice_get, set, IsTrue, Result, Ok, Err, All, option_and_then}
-use Rattle.std.specs.Prelude.{IfOk, IfErr, OnOk, OnErr, IsErrOf, fold}
+use Rattle.std.proofs.Common.{ℕ, ◌≡◌, ◌≢◌, ◌≤◌, ◌+◌, ◌*◌, ◌-◌, ◌^◌, min, max, sym, ap, ◌∙◌, arith, subst, ⊎_elim, true, false, List, [], ◌∷◌, ◌++◌, length, Some, slice_get, set, Result, Ok, Err, All, option_and_then}
+use Rattle.std.specs.Prelude.{IfErr, OnOk}
 use Rattle.std.proofs.lemmas.Bool.{cases_eq, true≢false}
 use Rattle.std.proofs.lemmas.Grind.{fold-append}
 use Rattle.std.proofs.lemmas.Int.{clamps}
@@ -14,10 +14,10 @@ use Rattle.legs.specs.Legs.{IsLeg, LegView}
 use Rattle.legs.specs.declared.index.IndexFault.{IndexFault}
 use Rattle.legs.specs.declared.index.IndexFault.TheVariants as index
 use Rattle.pages.specs.Unsealed.{unsealed}
-use Rattle.pagecache.specs.Cache.{Cache, is_changed, page_of, sealed_payload}
+use Rattle.pagecache.specs.Cache.{Cache, sealed_payload}
 use Rattle.tbtree.specs.Descent.{content_of}
 use Rattle.tbtree.specs.Faults.{Gives, IsAllowed, IsCaused}
-use Rattle.tbtree.specs.Insert.{Stands, IsPlace, Inserted, Inserts}
+use Rattle.tbtree.specs.Insert.{Stands, IsPlace, Inserted}
 use Rattle.tbtree.specs.Nodes.{Pages, pages_of_cache}
 use Rattle.tbtree.specs.Passes.{Passes}
 use Rattle.tbtree.specs.Shape.{IsShape}
@@ -28,7 +28,7 @@ use Rattle.tbtree.specs.declared.tree.TbTree.{TbTree}
 use Rattle.boxsearch.specs.Answers.{answered, of_tree}
 use Rattle.boxsearch.specs.Index.{IndexView, words, content, IsSound, IsMarked, with_place}
 use Rattle.boxsearch.specs.Putting.{Puts}
-use Rattle.boxsearch.proofs.AnswerLemmas.{each_fault, each_value, faults_of, values_of, the_fault, SaidOfLeg, tree_said, tree_allowed}
+use Rattle.boxsearch.proofs.AnswerLemmas.{each_fault, the_fault, SaidOfLeg, tree_said, tree_allowed}
 use Rattle.boxsearch.proofs.IndexLemmas.{content_is}
 use Rattle.boxsearch.proofs.PlaceLemmas.{get-set_same, get-set_other, made_places, length-made, some_same}
 use Rattle.boxsearch.proofs.TrackLemmas.{no_legs}

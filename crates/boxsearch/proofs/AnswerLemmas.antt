@@ -1,6 +1,6 @@
 -- What the answers of the parts say of the answers of the index.
-use Rattle.std.proofs.Common.{ℕ, ◌≡◌, refl, sym, ap, ◌∙◌, subst, Result, Ok, Err}
-use Rattle.std.specs.Prelude.{MatchResult, IfOk, IfErr, OnOk, IsErrOf}
+use Rattle.std.proofs.Common.{◌≡◌, subst, Result, Ok, Err}
+use Rattle.std.specs.Prelude.{MatchResult, IfOk, IfErr, IsErrOf}
 use Rattle.legs.specs.Index.{MayRefuse, MayRefuseLeg, HasRisen}
 use Rattle.legs.specs.declared.index.IndexFault.{IndexFault}
 use Rattle.legs.specs.declared.index.IndexFault.TheVariants as index

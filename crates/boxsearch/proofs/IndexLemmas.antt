@@ -1,17 +1,16 @@
 -- What a reading call leaves of an index over pages.
-use Rattle.std.proofs.Common.{ℕ, ◌≡◌, ◌<◌, ◌≤◌, ◌+◌, ◌-◌, ◌^◌, min, refl, sym, ap, ◌∙◌, arith, subst, Bool, true, false, List, [], IsTrue, Some, All, length, option_map, option_and_then, cond}
+use Rattle.std.proofs.Common.{◌≡◌, ◌<◌, refl, sym, ap, ◌∙◌, arith, subst, true, false, [], IsTrue, All, length, option_map, option_and_then, cond}
 use Rattle.std.proofs.lemmas.Int.{clamps}
-use Rattle.legs.specs.Asking.{IsLater, Leaves}
+use Rattle.legs.specs.Asking.{Leaves}
 use Rattle.legs.specs.Index.{feature_count}
-use Rattle.legs.specs.Legs.{IsLeg, LegView}
-use Rattle.legs.specs.declared.listed.Listed.{Ghosts}
-use Rattle.pagecache.specs.Cache.{Cache, IsClean, is_changed, page_of, payload_of, pages_as_written, sealed_payload}
+use Rattle.legs.specs.Legs.{IsLeg}
+use Rattle.pagecache.specs.Cache.{Cache, IsClean, is_changed, pages_as_written, sealed_payload}
 use Rattle.pages.specs.Unsealed.{unsealed}
 use Rattle.chains.specs.Reads.{OnlyReads}
 use Rattle.tbnode.specs.Form.{node_of}
 use Rattle.tbtree.specs.Descent.{content_of}
 use Rattle.tbtree.specs.Insert.{Stands, IsPlace}
-use Rattle.tbtree.specs.Nodes.{Pages, pages_of_cache}
+use Rattle.tbtree.specs.Nodes.{pages_of_cache}
 use Rattle.boxsearch.specs.Index.{IndexView, words, content, written, IsSound, IsMarked}
 
 pub content_is : (i : IndexView) → IsTrue i.cache.store.is_faithful → content i ≡ content_of (pages_of_cache i.cache) i.tree

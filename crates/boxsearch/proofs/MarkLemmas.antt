@@ -1,12 +1,11 @@
 -- Page 0, marked.
-use Rattle.std.proofs.Common.{ℕ, zero, suc, ◌≡◌, ◌≢◌, ◌≤◌, ◌<◌, ◌-◌, ◌^◌, ◌++◌, ◌==◌, cond, min, refl, sym, ap, ◌∙◌, arith, subst, true, false, drop, IsTrue, Some, None, option_and_then, Result, Ok, Err}
-use Rattle.std.specs.Prelude.{OnOk, OnErr}
+use Rattle.std.proofs.Common.{ℕ, ◌≡◌, ◌<◌, ◌==◌, cond, refl, sym, ap, ◌∙◌, arith, subst, false, drop, IsTrue, Some, option_and_then}
 use Rattle.std.proofs.lemmas.Bool.Decides.{nat_tests}
 use Rattle.std.proofs.lemmas.Int.{clamps}
 use Rattle.pages.specs.Unsealed.{unsealed}
 use Rattle.pages.specs.declared.payload.Payload.{Payload}
-use Rattle.pagecache.specs.Cache.{Cache, payload_of, sealed_payload, page_of, is_changed, IsClean, IsWritten, Lends, Rests, Stays, SameLength, pages_as_written}
-use Rattle.boxsearch.specs.Index.{IsMarked, IsUnfinished, unfinished_front}
+use Rattle.pagecache.specs.Cache.{Cache, payload_of, sealed_payload, is_changed, IsClean, IsWritten, Lends, Rests, Stays, SameLength, pages_as_written}
+use Rattle.boxsearch.specs.Index.{IsMarked, IsUnfinished}
 use Rattle.boxsearch.specs.Marking.{marked, Marks}
 use Rattle.boxsearch.proofs.PlaceLemmas.{some_none, some_same}
 

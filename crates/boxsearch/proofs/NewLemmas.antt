@@ -1,9 +1,9 @@
 -- An index without legs.
-use Rattle.std.proofs.Common.{ℕ, ◌≡◌, refl, ap, sym, ◌∙◌, subst, true, false, cond, List, [], length, All, Some, slice_get, IsTrue}
+use Rattle.std.proofs.Common.{◌≡◌, refl, ap, sym, subst, true, false, cond, [], length, All, IsTrue}
 use Rattle.std.proofs.lemmas.List.Elements.{All-nil}
 use Rattle.legs.specs.Costs.{ShapeView}
 use Rattle.legs.specs.Index.{feature_count}
-use Rattle.legs.specs.Legs.{IsLeg, LegView}
+use Rattle.legs.specs.Legs.{IsLeg}
 use Rattle.pagecache.specs.Cache.{Cache}
 use Rattle.tbtree.specs.Descent.{content_of}
 use Rattle.tbtree.specs.Insert.{Stands}

@@ -1,9 +1,8 @@
 -- The places of features, with one more or one changed.
-use Rattle.std.proofs.Common.{ℕ, zero, suc, ◌≡◌, ◌≢◌, ◌<◌, ◌≤◌, ◌+◌, ◌==◌, true, false, cond, refl, ap, sym, ◌∙◌, arith, subst, ⊎_elim, eq-eqb, max, List, [], ◌∷◌, ◌++◌, length, Some, None, slice_get, set}
-use Rattle.std.proofs.lemmas.Bool.{cases_eq, cases_lt}
+use Rattle.std.proofs.Common.{ℕ, zero, suc, ◌≡◌, ◌≢◌, ◌≤◌, ◌+◌, ◌==◌, true, false, cond, refl, ap, sym, ◌∙◌, arith, subst, ⊎_elim, eq-eqb, max, List, [], ◌∷◌, ◌++◌, length, Some, None, slice_get, set}
+use Rattle.std.proofs.lemmas.Bool.{cases_eq}
 use Rattle.std.proofs.lemmas.Bool.Decides.{nat_tests}
 use Rattle.std.proofs.lemmas.List.{length_push}
-use Rattle.std.proofs.lemmas.Option.{slice_get_within}
 use Rattle.tbtree.specs.Stands.{no_place}
 use Rattle.tbtree.specs.declared.tree.Place.{Place}
 use Rattle.boxsearch.specs.Index.{with_place}

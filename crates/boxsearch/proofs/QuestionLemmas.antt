@@ -1,5 +1,5 @@
 -- A search of an index over pages.
-use Rattle.std.proofs.Common.{ℕ, ◌≡◌, ap, true, false, List, IsTrue, Result, Ok, Err}
+use Rattle.std.proofs.Common.{ℕ, ◌≡◌, ap, true, false, List, IsTrue, Result, Err}
 use Rattle.std.specs.Prelude.{IfOk, IfErr, OnOk}
 use Rattle.legs.specs.Asking.{Refusals}
 use Rattle.legs.specs.Index.{MayRefuse}

@@ -1,5 +1,5 @@
 -- What is answered with Ok.
-use Rattle.std.proofs.Common.{◌≡◌, subst, true, false, Result, Ok, Err, OnOk, OnErr, IfErr}
+use Rattle.std.proofs.Common.{◌≡◌, subst, false, Result, Ok, Err, OnOk, OnErr, IfErr}
 use Rattle.std.specs.Result.{is_ok, is_err}
 use Rattle.std.proofs.lemmas.Bool.{true≢false}
 

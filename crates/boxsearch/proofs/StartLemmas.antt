@@ -1,19 +1,17 @@
 -- An index whose page 0 is marked.
-use Rattle.std.proofs.Common.{ℕ, ◌≡◌, ◌≢◌, ◌≤◌, ◌<◌, ◌-◌, ◌^◌, min, refl, sym, ap, ◌∙◌, arith, subst, true, false, cond, drop, length, List, [], All, IsTrue, Option, Some, None, option_map, Result, Ok, Err}
-use Rattle.std.specs.Prelude.{IfErr, OnOk, OnErr, IsErrOf}
+use Rattle.std.proofs.Common.{ℕ, ◌≡◌, ◌<◌, refl, sym, ap, ◌∙◌, arith, subst, true, false, cond, drop, length, List, [], All, IsTrue, Option, Some, None, option_map, Result}
+use Rattle.std.specs.Prelude.{IfErr, OnOk, OnErr}
 use Rattle.std.proofs.lemmas.Bool.{true≢false}
 use Rattle.std.proofs.lemmas.Int.{clamps}
-use Rattle.legs.specs.Asking.{IsLater, Refusals, Starts}
+use Rattle.legs.specs.Asking.{Refusals, Starts}
 use Rattle.legs.specs.Boxes.{BoxView}
 use Rattle.legs.specs.Index.{HasRisen, MayRefuse, feature_count}
 use Rattle.legs.specs.Legs.{IsLeg, LegView}
-use Rattle.legs.specs.declared.index.IndexFault.{IndexFault}
 use Rattle.legs.specs.declared.index.IndexFault.TheVariants as index
 use Rattle.pages.specs.Store.{Faulted}
 use Rattle.pagecache.specs.Cache.{Cache, IsClean, pages_as_written, payload_of}
 use Rattle.pagecache.specs.declared.fault.CacheFault.{CacheFault}
 use Rattle.pagecache.specs.declared.fault.CacheFault.TheVariants as cache
-use Rattle.pages.specs.declared.payload.Payload.{Payload}
 use Rattle.tbnode.specs.Form.{node_of}
 use Rattle.tbtree.specs.Descent.{content_of, DiffersAtFirst}
 use Rattle.tbtree.specs.Insert.{Stands, IsPlace}

@@ -1,6 +1,6 @@
 -- The legs of a feature, by its place.
-use Rattle.std.proofs.Common.{ℕ, ◌≡◌, ◌≤◌, ◌<◌, ◌+◌, ◌-◌, ◌^◌, min, refl, sym, ap, ◌∙◌, arith, subst, eqb, true, false, Bool, cond, List, [], ◌∷◌, length, max, Option, Some, None, slice_get, get_or, ⊎_elim, IsTrue, Result, Ok, Err}
-use Rattle.std.specs.Prelude.{IfOk, IfErr, OnOk, OnErr, IsErrOf, fold}
+use Rattle.std.proofs.Common.{ℕ, ◌≡◌, ◌≤◌, ◌<◌, ◌+◌, ◌-◌, ◌^◌, min, refl, sym, ap, ◌∙◌, arith, eqb, false, cond, List, [], ◌∷◌, length, max, Some, None, slice_get, get_or, ⊎_elim, IsTrue, Result}
+use Rattle.std.specs.Prelude.{IfOk, IfErr, OnOk, fold}
 use Rattle.std.specs.Int.{div_ceil}
 use Rattle.std.proofs.Math.Nat.{zero-div, zero-mod}
 use Rattle.std.proofs.lemmas.Bool.{cases_lt, true≢false}
@@ -8,10 +8,9 @@ use Rattle.std.proofs.lemmas.Bool.Decides.{nat_tests}
 use Rattle.std.proofs.lemmas.Int.{clamps}
 use Rattle.std.proofs.lemmas.Option.{slice_get-get_or}
 use Rattle.legs.specs.Asking.{Refusals}
-use Rattle.legs.specs.Costs.{ShapeView, RisesBy, RisesAtMost, track_cost}
+use Rattle.legs.specs.Costs.{RisesBy, RisesAtMost, track_cost}
 use Rattle.legs.specs.Index.{MayRefuse, legs_of, feature_count}
 use Rattle.legs.specs.Legs.{LegView}
-use Rattle.legs.specs.declared.index.IndexFault.{IndexFault}
 use Rattle.legs.specs.declared.index.IndexFault.TheVariants as index
 use Rattle.pagecache.specs.Cache.{Cache}
 use Rattle.chains.specs.Faults.{Gives, IsAllowed, IsCaused}

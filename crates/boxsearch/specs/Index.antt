@@ -1,5 +1,5 @@
 -- What contracts see of an index over pages.
-use Rattle.std.specs.Prelude.{ℕ, ◌≡◌, ◌<◌, ◌-◌, ◌^◌, ◌==◌, min, Bool, false, if◌then◌else◌, IsTrue, List, [], ◌∷◌, ◌++◌, take, length, slice_get, Some, All}
+use Rattle.std.specs.Prelude.{ℕ, ◌≡◌, ◌<◌, ◌-◌, ◌^◌, ◌==◌, min, false, if◌then◌else◌, IsTrue, List, [], ◌∷◌, ◌++◌, take, length, slice_get, Some, All}
 use Rattle.legs.specs.Costs.{ShapeView}
 use Rattle.legs.specs.Index.{feature_count}
 use Rattle.legs.specs.Legs.{IsLeg, LegView}

@@ -1,5 +1,5 @@
 -- Helpers of private functions: what putting a leg into its tree makes of an index.
-use Rattle.std.specs.Prelude.{ℕ, ◌≡◌, ◌≤◌, ◌+◌, ◌*◌, ◌-◌, ◌^◌, ◌<◌, min, true, false, IsTrue, OnOk, OnErr, IfErr, Result, Some, slice_get, set}
+use Rattle.std.specs.Prelude.{◌≡◌, ◌≤◌, ◌+◌, ◌*◌, ◌-◌, ◌^◌, ◌<◌, min, true, false, IsTrue, OnOk, OnErr, IfErr, Result, Some, slice_get, set}
 use Rattle.legs.specs.Legs.{LegView}
 use Rattle.tbtree.specs.Faults.{IsCaused}
 use Rattle.tbtree.specs.Insert.{Inserts}

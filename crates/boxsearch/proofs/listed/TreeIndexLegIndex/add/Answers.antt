@@ -1,4 +1,4 @@
-use Rattle.std.proofs.Common.{◌≡◌, ◌-◌, ◌^◌, min, ap, subst, sym, ◌∙◌, false, ◌∷◌, ◌++◌, [], Some}
+use Rattle.std.proofs.Common.{◌≡◌, ◌-◌, ◌^◌, min, ap, subst, sym, ◌∙◌, ◌∷◌, ◌++◌, [], Some}
 use Rattle.std.specs.Prelude.{OnOk}
 use Rattle.legs.specs.Asking.{Ends, LegRefusals}
 use Rattle.legs.specs.Costs.{RisesAtMost, add_bound}

@@ -1,4 +1,4 @@
-use Rattle.std.proofs.Common.{◌≡◌, ◌+◌, ◌-◌, ◌^◌, min, ap, subst, sym, ◌∙◌, arith, false, slice_get, Some}
+use Rattle.std.proofs.Common.{◌≡◌, ◌-◌, ◌^◌, min, ap, subst, sym, ◌∙◌, false, slice_get, Some}
 use Rattle.std.specs.Prelude.{IfOk, OnOk, filter}
 use Rattle.legs.specs.Asking.{Leaves, Refusals}
 use Rattle.legs.specs.Costs.{RisesAtMost, track_in_bound}

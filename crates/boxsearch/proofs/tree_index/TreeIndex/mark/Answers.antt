@@ -1,4 +1,4 @@
-use Rattle.std.proofs.Common.{◌≡◌, ap, subst, sym, false}
+use Rattle.std.proofs.Common.{◌≡◌, subst, sym, false}
 use Rattle.legs.specs.Asking.{Refusals, Starts}
 use Rattle.boxsearch.specs.Index.{IndexView, words}
 use Rattle.boxsearch.proofs.StartLemmas.{FirstLaws, starts, mark_refusals}

@@ -1,10 +1,9 @@
-use Rattle.std.proofs.Common.{ℕ, ◌≡◌, ◌+◌, ◌-◌, ◌^◌, ◌<◌, ◌∙◌, min, ap, subst, sym, arith, List, length, Some, slice_get, set}
+use Rattle.std.proofs.Common.{◌≡◌, ◌+◌, ◌-◌, ◌^◌, ◌<◌, ◌∙◌, min, ap, subst, sym, arith, length, Some, slice_get, set}
 use Rattle.std.proofs.lemmas.Option.{slice_get-get_or}
 use Rattle.legs.specs.Legs.{LegView}
 use Rattle.boxsearch.specs.Index.{IndexView}
 use Rattle.boxsearch.specs.Putting.{Puts}
 use Rattle.boxsearch.proofs.ResultLemmas.{on_any, on_none}
-use Rattle.tbtree.specs.declared.tree.Place.{Place}
 use Rattle.boxsearch.proofs.tree_index.TreeIndex.put.Goals as goal
 
 pub returns-then-is_ok : goal.returns-then-is_ok
