@@ -5,3 +5,6 @@ mod beginning;
 mod header;
 
 pub use beginning::begin;
+
+#[cfg(test)]
+mod tests;
