@@ -2,7 +2,7 @@
 use std::alloc::AllocError;
 use std::fmt;
 use std::fmt::{Display, Formatter};
-use trajdb::RunFault;
+use trajdb::{OpenFault, RunFault};
 
 /// Why a run failed.
 #[derive(Clone, Copy, PartialEq, Eq, Debug)]
@@ -22,6 +22,17 @@ impl From<AllocError> for Fault<'_> {
 impl From<RunFault> for Fault<'_> {
     fn from(fault: RunFault) -> Self {
         Fault::Run(fault)
+    }
+}
+
+impl From<OpenFault> for Fault<'_> {
+    fn from(fault: OpenFault) -> Self {
+        Fault::Run(match fault {
+            OpenFault::Memory => RunFault::Memory,
+            OpenFault::Store => RunFault::Store,
+            OpenFault::Damaged(page) => RunFault::Damaged(page),
+            OpenFault::StoreFull => RunFault::StoreFull,
+        })
     }
 }
 

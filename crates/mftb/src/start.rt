@@ -9,12 +9,14 @@ use crate::fault::Fault;
 use crate::words::{Run, read_words};
 use clap::error::ErrorKind;
 use legs::Limits;
+use pages::MemStore;
 use std::alloc::Global;
 use std::fs::File;
 use std::hash::RandomState;
 use std::io::{Read, Write};
 use std::random::RandomSource;
 use std::{io, mem, rt};
+use tbtree::Shape;
 use trajdb::{Db, Files, RunFault};
 
 /// The most bytes that a script or a file may have.
@@ -22,6 +24,9 @@ const MOST_BYTES: u64 = 1 << 30;
 
 /// The most legs of a database.
 const MOST_LEGS: u64 = 1 << 24;
+
+/// How many pages the cache of a database holds.
+const CACHE_PAGES: usize = 256;
 
 /// The most features of a database.
 const MOST_FEATURES: u32 = 1 << 20;
@@ -68,7 +73,12 @@ fn answer<'a, W: Write>(
         (W.contents out.old) (W.contents out.new) empty_book book (lines_of script.now)) }
 {
     let limits = Limits::new(MOST_LEGS, MOST_FEATURES).unwrap();
-    let mut database = Db::create(alloc, keys, limits)?;
+    let shape = Shape::new(50, 72).unwrap();
+    let store = MemStore::new(alloc, u32::MAX);
+    let mut database = match Db::create(alloc, keys, store, shape, CACHE_PAGES, limits) {
+        Ok(database) => database,
+        Err((_, fault)) => return Err(Fault::from(fault)),
+    };
     database.run(alloc, script, files, out)?;
     // The program ends here: its memory goes back whole, and not piece by piece.
     mem::forget(database);

@@ -21,7 +21,6 @@ use Rattle.trajdb.specs.Picks.{Picks}
 use Rattle.trajdb.specs.Faults.{IsInside, run_fault_of}
 use Rattle.trajdb.specs.Database.{CoreView, IsSound}
 use Rattle.trajdb.specs.Calls.{IsLater, Leaves, features_bound, IsText, IsRefused, IsStopped, IsAsked, IsOfStore, IsQuestionFault, IsLoadFault, IsRunStop}
-use Rattle.trajdb.specs.Db.{DbView, listed, IsMemory}
 
 -- a text that was not made, of what is there
 pub text_refused : {I : Type 0} (g : Ghosts I) (old new : CoreView I) (P : Type 0) (fault : RunFault) → IsText P fault → (IsSound g old → P) → IsRefused g old new fault
@@ -76,23 +75,6 @@ run_stop-after g old mid new (Damaged page) before after sound lives r = λ s l.
 run_stop-after g old mid new StoreFull before after sound lives r = r
 run_stop-after g old mid new Failed before after sound lives r = λ s l. r (sound s) lives
 run_stop-after g old mid new Output before after sound lives r = tt
-
--- over a list only memory is wanting
-pub list_memory : (old new : DbView) (fault : RunFault) → IsStopped listed old new fault → IsMemory old fault
-list_memory old new Memory r = λ s l. refl
-list_memory old new Store r = λ s l. absurd (let h = r.store in omega (arith, h))
-list_memory old new (Damaged page) r = λ s l. absurd (r.sound s l)
-list_memory old new StoreFull r = λ s l. absurd r.store
-list_memory old new Failed r = λ s l. absurd (r.sound s l)
-list_memory old new Output r = λ s l. absurd r.store
-
-pub list_run : (old new : DbView) (fault : RunFault) → IsInside fault → IsRunStop listed old new fault → IsMemory old fault
-list_run old new Memory inside r = λ s l. refl
-list_run old new Store inside r = λ s l. absurd (omega (arith, r))
-list_run old new (Damaged page) inside r = λ s l. absurd (r s l)
-list_run old new StoreFull inside r = λ s l. absurd r
-list_run old new Failed inside r = λ s l. absurd (r s l)
-list_run old new Output inside r = absurd inside
 
 pub later-trans : {I : Type 0} (g : Ghosts I) (a b c : CoreView I) → IsLater g a b → IsLater g b c → IsLater g a c
 later-trans g a b c p q = record {

@@ -1,44 +1,34 @@
--- What contracts see of a database over a list.
-use Rattle.std.specs.Prelude.{◌≡◌, false, All, None, []}
+-- What contracts see of a database over pages.
+use Rattle.std.specs.Prelude.{ℕ, ◌≡◌}
+use Rattle.boxsearch.specs.Index.{IndexView, words}
 use Rattle.legs.specs.Book.{Book}
-use Rattle.legs.specs.Legs.{IsLeg}
-use Rattle.legs.specs.Places.{ListView}
-use Rattle.legs.specs.declared.listed.Listed.{Ghosts}
+use Rattle.pages.specs.Store.{Store, Faulted}
 use Rattle.trajdb.specs.Database.{CoreView, IsSound as IsSoundCore, Becomes as BecomesCore}
-use Rattle.trajdb.specs.Calls.{Leaves as LeavesCore}
-use Rattle.trajdb.specs.declared.RunFault.{RunFault}
-use Rattle.trajdb.specs.declared.RunFault.TheVariants.{Memory}
+use Rattle.trajdb.specs.Calls.{HasPages as HasPagesCore, KeepsPages as KeepsPagesCore, Leaves as LeavesCore}
+use Rattle.trajdb.specs.declared.OpenFault.{OpenFault}
+use Rattle.trajdb.specs.declared.OpenFault.TheVariants.{Memory, Store as StoreFailed, Damaged, StoreFull}
 
 abbrev pub DbView : Type 0
-DbView = CoreView ListView
-
--- an index that keeps a list
-abbrev pub listed : Ghosts ListView
-listed = record {
-  content = λ index. index.legs;
-  is_sound = λ index. (index.spent ≡ false) × All IsLeg index.legs;
-  is_spent = λ index. index.spent;
-  faults = λ index. 0;
-  is_store_full = λ index. ⊥;
-  asked = λ index. 0;
-  plan = λ index. None;
-  is_clean = λ index. ⊥;
-  is_marked = λ index. ⊥;
-  written = λ index. [];
-}
+DbView = CoreView IndexView
 
 -- the index is sound, the tracks are those of the book, and the book keeps the law
 abbrev pub IsSound : DbView → Type 0
-IsSound db = IsSoundCore listed db
+IsSound db = IsSoundCore words db
 
--- a sound database is sound, and has this book
-abbrev pub Becomes : DbView → DbView → Book → Type 0
-Becomes old new book = BecomesCore listed old new book
+-- of a database that has begun page 0 is marked; of one that has neither begun nor failed no page is changed
+abbrev pub HasPages : DbView → Type 0
+HasPages db = HasPagesCore words db
 
--- what a question leaves
-abbrev pub Leaves : DbView → DbView → Type 0
-Leaves old new = LeavesCore listed old new
+-- the refusals of a new database over a faithful store
+abbrev pub IsAllowed : OpenFault → Type 0
+IsAllowed Memory = Unit {0}
+IsAllowed StoreFailed = Unit {0}
+IsAllowed (Damaged page) = ⊥
+IsAllowed StoreFull = Unit {0}
 
--- over a sound database that is not failed, want of memory
-abbrev pub IsMemory : DbView → RunFault → Type 0
-IsMemory old fault = IsSound old → old.failed ≡ false → fault ≡ Memory
+-- the store failed where that is said, and has no room for any page where that is said
+abbrev pub IsCaused : Store → Store → OpenFault → Type 0
+IsCaused old new Memory = Unit {0}
+IsCaused old new StoreFailed = Faulted old new
+IsCaused old new (Damaged page) = Unit {0}
+IsCaused old new StoreFull = old.most ≡ 0

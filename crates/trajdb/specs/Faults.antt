@@ -1,6 +1,10 @@
--- The faults of a run.
+-- The faults of a run, and of a new database.
 use Rattle.legs.specs.declared.index.IndexFault.{IndexFault}
 use Rattle.legs.specs.declared.index.IndexFault.TheVariants as index
+use Rattle.pagecache.specs.declared.fault.CacheFault.{CacheFault}
+use Rattle.pagecache.specs.declared.fault.CacheFault.TheVariants as cache
+use Rattle.trajdb.specs.declared.OpenFault.{OpenFault}
+use Rattle.trajdb.specs.declared.OpenFault.TheVariants as opening
 use Rattle.trajdb.specs.declared.RunFault.{RunFault}
 use Rattle.trajdb.specs.declared.RunFault.TheVariants.{Memory, Store, Damaged, StoreFull, Failed, Output}
 
@@ -20,3 +24,11 @@ IsInside (Damaged page) = Unit {0}
 IsInside StoreFull = Unit {0}
 IsInside Failed = Unit {0}
 IsInside Output = ⊥
+
+-- what a fault of the cache is to a new database
+abbrev pub open_fault_of : CacheFault → OpenFault
+open_fault_of cache.NoPage = opening.Damaged 0
+open_fault_of cache.Store = opening.Store
+open_fault_of (cache.Damaged page) = opening.Damaged page
+open_fault_of cache.StoreFull = opening.StoreFull
+open_fault_of cache.Memory = opening.Memory

@@ -49,20 +49,21 @@ impl<I: Start> Core<I> {
     ghost use Rattle.legs.specs.Book.{empty_book};
     ghost use Rattle.trajdb.specs.Database.{IsSound};
 
-    /// A database without files over an index without legs. Names are hashed with the keys, which a stranger
-    /// who chooses the names of a file is not to know.
+    /// A database without files over an index without legs, which has begun or not. Names are hashed with the keys,
+    /// which a stranger who chooses the names of a file is not to know.
     pub fn new(
         alloc: Global,
         keys: RandomState,
         index: I,
         limits: Limits,
+        begun: bool,
     ) -> Result<Core<I>, (I, AllocError)>
         ensures book { IfOk result (λ core. I.content index ≡ [] → core.book ≡ empty_book) }
         ensures sound { IfOk result (λ core. I.is_sound index → I.content index ≡ []
             → IsSound I.Listed core) }
         ensures limits { IfOk result (λ core. core.limits ≡ limits) }
         ensures index { IfOk result (λ core. core.index ≡ index) }
-        ensures begun { IfOk result (λ core. core.begun ≡ false) }
+        ensures begun { IfOk result (λ core. core.begun ≡ begun) }
         ensures lives { IfOk result (λ core. core.failed ≡ false) }
         ensures refused { IfErr result (λ back. back.0 ≡ index) }
     {
@@ -74,7 +75,7 @@ impl<I: Start> Core<I> {
                 tracks,
                 rows: Vec::new(alloc),
                 limits,
-                begun: false,
+                begun,
                 failed: false,
             }),
             Err(memory) => Err((index, memory)),

@@ -3,21 +3,32 @@ ghost use Rattle.std.specs.Prelude.{◌≡◌};
 
 use crate::database::Core;
 use crate::files::Files;
-use crate::{Counts, LoadFault, RunFault};
-use legs::{Limits, ListIndex, Listed};
+use crate::start::Start;
+use crate::{Counts, LoadFault, OpenFault, RunFault};
+use boxsearch::TreeIndex;
+use catalogue::begin;
+use legs::{IndexFault, Limits};
+use pages::PageStore;
 use querylang::Command;
-use std::alloc::{AllocError, Global};
+use std::alloc::Global;
 use std::hash::RandomState;
 use std::io::Write;
 use std::marker::Model;
+use tbtree::Shape;
 
-/// A database: files are accepted into it, and scripts are run over it.
-#[derive(Drop)]
-pub struct Db {
-    core: Core<ListIndex>,
+impl<S: PageStore> Start for TreeIndex<S> {
+    fn start(&mut self) -> Result<(), IndexFault> {
+        self.mark()
+    }
 }
 
-impl Model for Db {
+/// A database over a store of pages: files are accepted into it, and scripts are run over it.
+#[derive(Drop)]
+pub struct Db<S: PageStore> {
+    core: Core<TreeIndex<S>>,
+}
+
+impl<S: PageStore> Model for Db<S> {
     ghost use Rattle.trajdb.specs.Db.{DbView};
 
     ghost Value = { DbView };
@@ -25,37 +36,56 @@ impl Model for Db {
     ghost view = { λ a. a.core };
 }
 
-impl Db {
-    ghost use Rattle.std.specs.Prelude.{◌≡◌, ℕ, List, IfOk, IfErr, IsErrOf, OnOk, OnErr, Err, true, false};
+impl<S: PageStore> Db<S> {
+    ghost use Rattle.std.specs.Prelude.{◌≡◌, ◌<◌, ℕ, List, IfOk, IfErr, IsErrOf, IsTrue, OnOk, OnErr, Err, true, false};
+    ghost use Rattle.boxsearch.specs.Index.{words};
     ghost use Rattle.legs.specs.Book.{empty_book};
     ghost use Rattle.trajdb.specs.Script.{lines_of};
     ghost use Rattle.trajdb.specs.Answers.{IsAnswer, book_then, book_with, load_of};
     ghost use Rattle.trajdb.specs.Faults.{IsInside};
     ghost use Rattle.trajdb.specs.Run.{Runs, Stops, IsCut};
-    ghost use Rattle.trajdb.specs.Database.{FailsBy, IsSound as IsSoundCore, IsTold, LoadGives};
-    ghost use Rattle.trajdb.specs.Calls.{Loads};
-    ghost use Rattle.trajdb.specs.Db.{Becomes, IsSound, IsMemory, Leaves};
+    ghost use Rattle.trajdb.specs.Database.{FailsBy, IsRefused, IsTold, LoadGives, Becomes};
+    ghost use Rattle.trajdb.specs.Calls.{AsksIn, IsLater, IsLoadStop, IsRunStop, IsStopped, KeepsPages, Leaves, Loads};
+    ghost use Rattle.trajdb.specs.Db.{HasPages, IsAllowed, IsCaused, IsSound};
     ghost use Rattle.trajdb.specs.declared.RunFault.{RunFault};
     ghost use Rattle.trajdb.specs.declared.LoadFault.{LoadFault};
 
-    /// A new database, with no file accepted. Names are hashed with the keys, which a stranger who chooses the
-    /// names of a file is not to know.
-    pub fn create(alloc: Global, keys: RandomState, limits: Limits) -> Result<Db, AllocError>
-        ensures sound { IfOk result IsSound }
+    /// A new database over an empty store, with no file accepted, whose cache holds at most that many pages, at least
+    /// 1. Names are hashed with the keys, which a stranger who chooses the names of a file is not to know.
+    ///
+    /// Refused for want of memory, and where the store fails or has no room for a page; the store is then handed back.
+    pub fn create(
+        alloc: Global,
+        keys: RandomState,
+        store: S,
+        shape: Shape,
+        cache_pages: usize,
+        limits: Limits,
+    ) -> Result<Db<S>, (S, OpenFault)>
+        requires empty { (S.seen store).count ≡ 0 }
+        requires cache_pages { 0 < cache_pages }
+        ensures sound { IfOk result (λ db. IsTrue (S.seen store).is_faithful → IsSound db) }
         ensures book { IfOk result (λ db. db.book ≡ empty_book) }
         ensures limits { IfOk result (λ db. db.limits ≡ limits) }
         ensures lives { IfOk result (λ db. db.failed ≡ false) }
-        ensures quoted { IfOk result (IsSoundCore ⟦<ListIndex as Listed>⟧) }
+        ensures begun { IfOk result (λ db. db.begun ≡ true) }
+        ensures pages { IfOk result (λ db. IsTrue (S.seen store).is_faithful → HasPages db) }
+        ensures only { IfErr result (λ back. IsTrue (S.seen store).is_faithful → IsAllowed back.1) }
+        ensures caused { IfErr result (λ back. IsCaused (S.seen store) (S.seen back.0) back.1) }
     {
-        match Core::new(alloc, keys, ListIndex::new(alloc), limits) {
+        let index = match begin(alloc, store, shape, cache_pages, &limits) {
+            Ok(index) => index,
+            Err((store, fault)) => return Err((store, OpenFault::from(fault))),
+        };
+        match Core::new(alloc, keys, index, limits, true) {
             Ok(core) => Ok(Db { core }),
-            Err((_, memory)) => Err(memory),
+            Err((index, _)) => Err((index.into_cache().into_store(), OpenFault::Memory)),
         }
     }
 
-    /// How many pages were asked for: none, of a list.
+    /// How many pages were asked for.
     pub fn asked(&self) -> u64
-        ensures { result ≡ 0 }
+        ensures { result ≡ words.asked self.now.index }
     {
         self.core.asked()
     }
@@ -63,17 +93,19 @@ impl Db {
     /// Accepts a file, whole or not at all: how many data records, legs and distinct features it has,
     /// or the first fault of its text, or else of its joining.
     ///
-    /// Where memory runs out the database is failed: it answers nothing any more.
+    /// Where the database cannot tell, it is failed: it answers nothing any more.
     pub fn load(&mut self, alloc: Global, bytes: &[u8]) -> Result<Counts, LoadFault>
         ensures counts { IsSound self.old
             → LoadGives result (load_of self.old.limits self.old.book bytes.now) }
         ensures becomes { IsTold result
-            → Becomes self.old self.new (book_with self.old.limits self.old.book bytes.now) }
+            → Becomes words self.old self.new (book_with self.old.limits self.old.book bytes.now) }
         ensures lives { IsTold result → self.new.failed ≡ false }
         ensures failed { IfErr result (λ fault. FailsBy fault → self.new.failed ≡ true) }
-        ensures memory { IsSound self.old → self.old.failed ≡ false
-            → IfErr result (λ fault. FailsBy fault → fault ≡ LoadFault.Run RunFault.Memory) }
-        ensures limits { self.new.limits ≡ self.old.limits }
+        ensures stopped { IfErr result (IsLoadStop words self.old self.new) }
+        ensures later { IsLater words self.old self.new }
+        ensures refused { IfErr result (λ fault. IsRefused fault → self.new ≡ self.old) }
+        ensures begun { OnOk result (self.new.begun ≡ true) }
+        ensures pages { KeepsPages words self.old self.new }
         ensures was_failed { self.old.failed ≡ true
             → (result ≡ Err (LoadFault.Run RunFault.Failed)) × (self.new ≡ self.old) }
     {
@@ -91,17 +123,21 @@ impl Db {
     ) -> Result<Vec<u8>, RunFault>
         ensures text { IfOk result (λ text. IsSound self.old
             → IsAnswer self.old.limits files.now self.old.book command.now text.items) }
-        ensures becomes { OnOk result (Becomes self.old self.new
+        ensures becomes { OnOk result (Becomes words self.old self.new
             (book_then self.old.limits files.now self.old.book command.now)) }
         ensures lives { OnOk result (self.new.failed ≡ false) }
-        ensures limits { self.new.limits ≡ self.old.limits }
+        ensures asks { OnOk result (AsksIn words self.old self.new command.now) }
+        ensures later { IsLater words self.old self.new }
 
         // All but a `load` of a file that is there leave the book; where that load is refused, the database
         // is failed.
-        ensures question { (Loads files.now command.now → ⊥) → Leaves self.old self.new }
-        ensures refused { OnErr result (self.new.failed ≡ false → Leaves self.old self.new) }
+        ensures question { (Loads files.now command.now → ⊥) → Leaves words self.old self.new }
+        ensures refused { OnErr result (self.new.failed ≡ false
+            → Leaves words self.old self.new) }
         ensures failed { OnErr result (Loads files.now command.now → self.new.failed ≡ true) }
-        ensures memory { IfErr result (IsMemory self.old) }
+        ensures full { IsErrOf result RunFault.StoreFull → Loads files.now command.now }
+        ensures stopped { IfErr result (IsStopped words self.old self.new) }
+        ensures pages { KeepsPages words self.old self.new }
 
         // A failed database does nothing.
         ensures was_failed { self.old.failed ≡ true → (result ≡ Err RunFault.Failed)
@@ -138,8 +174,10 @@ impl Db {
             (lines_of script.now)) }
         ensures kept { IfErr result (λ e. IsInside e → self.new.failed ≡ false → IsSound self.old
             → IsSound self.new) }
-        ensures memory { IfErr result (λ e. IsInside e → IsMemory self.old e) }
-        ensures limits { self.new.limits ≡ self.old.limits }
+        ensures full { IsErrOf result RunFault.StoreFull → self.new.failed ≡ true }
+        ensures stopped { IfErr result (IsRunStop words self.old self.new) }
+        ensures later { IsLater words self.old self.new }
+        ensures pages { KeepsPages words self.old self.new }
 
         // A failed database does nothing.
         ensures was_failed { self.old.failed ≡ true → (result ≡ Err RunFault.Failed)

@@ -18,6 +18,7 @@ pub use db::Db;
 pub use files::Files;
 use legs::{IndexFault, JoinCode};
 use mfcsv::Code;
+use pagecache::CacheFault;
 pub use start::Start;
 use std::alloc::{AllocError, AllocFailed};
 use thiserror::Error;
@@ -112,6 +113,39 @@ impl From<IndexFault> for RunFault {
             IndexFault::Damaged(page) => RunFault::Damaged(page),
             IndexFault::StoreFull => RunFault::StoreFull,
             IndexFault::Spent => RunFault::Failed,
+        }
+    }
+}
+
+/// Why a database was not made.
+#[derive(Clone, Copy, PartialEq, Eq, Debug, Error)]
+pub enum OpenFault {
+    /// Memory ran out.
+    #[error("memory ran out")]
+    Memory,
+    /// The page store failed.
+    #[error("the store failed")]
+    Store,
+    /// A page is not what it should be.
+    #[error("page {0} is damaged")]
+    Damaged(u32),
+    /// The page store has no room for a page.
+    #[error("the store is full")]
+    StoreFull,
+}
+
+impl From<CacheFault> for OpenFault {
+    ghost use Rattle.trajdb.specs.Faults.{open_fault_of};
+
+    ghost from_gives = { λ e r. r ≡ open_fault_of e };
+
+    fn from(fault: CacheFault) -> OpenFault {
+        match fault {
+            CacheFault::NoPage => OpenFault::Damaged(0),
+            CacheFault::Store => OpenFault::Store,
+            CacheFault::Damaged(page) => OpenFault::Damaged(page),
+            CacheFault::StoreFull => OpenFault::StoreFull,
+            CacheFault::Memory => OpenFault::Memory,
         }
     }
 }

@@ -1,6 +1,7 @@
 //! Worked scripts over worked files.
 use super::*;
 use legs::{Limits, ListIndex};
+use pages::MemStore;
 use querylang::Command;
 use std::alloc::Global;
 use std::hash::RandomState;
@@ -8,6 +9,7 @@ use std::io::{BufWriter, Write};
 use std::process::Abort;
 use std::random::RandomSource;
 use std::test::Fail;
+use tbtree::Shape;
 
 /// The example of the standard.
 const STANDARD: &str = "\
@@ -177,18 +179,50 @@ fn named_files(alloc: Global) -> Result<Files, RunFault> {
     Ok(files)
 }
 
-/// What a script answers on a new database.
+/// A new database over a store in memory, with leaves and inner pages of so many, and a cache of so many pages.
+fn new_database(
+    alloc: Global,
+    keys: RandomState,
+    limits: Limits,
+    (leaf, inner, cache_pages): (u16, u16, usize),
+) -> Result<Db<MemStore>, RunFault> {
+    let shape = Shape::new(leaf, inner).ok_or(RunFault::Failed)?;
+    let store = MemStore::new(alloc, 1_000_000);
+    match Db::create(alloc, keys, store, shape, cache_pages.max(1), limits) {
+        Ok(db) => Ok(db),
+        Err((_, OpenFault::Memory)) => Err(RunFault::Memory),
+        Err(_) => Err(RunFault::Store),
+    }
+}
+
+/// What a script answers on a new database, and how many pages it asked for.
 fn run_once(
     alloc: Global,
     keys: RandomState,
     limits: Limits,
+    pages: (u16, u16, usize),
     script: &[u8],
-) -> Result<Vec<u8>, RunFault> {
+) -> Result<(Vec<u8>, u64), RunFault> {
     let files = named_files(alloc)?;
-    let mut db = Db::create(alloc, keys, limits)?;
+    let mut db = new_database(alloc, keys, limits, pages)?;
     let mut out = Vec::new(alloc);
     db.run(alloc, script, &files, &mut out)?;
-    Ok(out)
+    Ok((out, db.asked()))
+}
+
+/// The same; where one allocation fails the answer may be want of memory, or of room for the output, and asked again
+/// it is there.
+fn run_paged(
+    alloc: Global,
+    keys: RandomState,
+    limits: Limits,
+    pages: (u16, u16, usize),
+    script: &[u8],
+) -> Result<(Vec<u8>, u64), RunFault> {
+    match run_once(alloc, keys, limits, pages, script) {
+        Err(_) => run_once(alloc, keys, limits, pages, script),
+        answer => answer,
+    }
 }
 
 /// The same over an index that keeps a list.
@@ -200,29 +234,41 @@ fn run_listed(
 ) -> Result<Vec<u8>, RunFault> {
     let files = named_files(alloc)?;
     let index = ListIndex::new(alloc);
-    let mut core = Core::new(alloc, keys, index, limits).map_err(|fault| RunFault::from(fault.1))?;
+    let mut core = Core::new(alloc, keys, index, limits, true).map_err(|fault| RunFault::from(fault.1))?;
     let mut out = Vec::new(alloc);
     core.run(alloc, script, &files, &mut out)?;
     Ok(out)
 }
 
-/// What a script answers on a new database, the same of both kinds. Where one allocation fails the answer may be
-/// want of memory, or of room for the output, and asked again it is there.
+/// What a script answers over an index that keeps a list; asked again where one allocation fails.
 fn run(
     alloc: Global,
     keys: RandomState,
     limits: Limits,
     script: &[u8],
-) -> Result<(Vec<u8>, Vec<u8>), RunFault> {
-    let of_db = match run_once(alloc, keys, limits, script) {
-        Err(_) => run_once(alloc, keys, limits, script),
-        answer => answer,
-    };
-    let of_core = match run_listed(alloc, keys, limits, script) {
+) -> Result<Vec<u8>, RunFault> {
+    match run_listed(alloc, keys, limits, script) {
         Err(_) => run_listed(alloc, keys, limits, script),
         answer => answer,
-    };
-    Ok((of_db?, of_core?))
+    }
+}
+
+/// Whether a script answers so over pages of that shape, and asks for as many whatever the cache holds.
+fn check_paged<R: Abort + AllocGlobal>(
+    rt: &R,
+    keys: RandomState,
+    limits: Limits,
+    shape: (u16, u16),
+    (script, want): (&[u8], &str),
+) -> Result<(), Fail> {
+    let (leaf, inner) = shape;
+    let alloc = rt.alloc();
+    let narrow = run_paged(alloc, keys, limits, (leaf, inner, 1), script).map_err(|_| "a run")?;
+    let wide = run_paged(alloc, keys, limits, (leaf, inner, 256), script).map_err(|_| "a run")?;
+    assert!(rt; narrow.0.as_slice() == want.as_bytes(), "{want}");
+    assert!(rt; wide.0.as_slice() == want.as_bytes(), "{want}");
+    assert_eq!(rt; narrow.1, wide.1, "{want}");
+    Ok(())
 }
 
 /// Whether the scripts answer what stands behind them, under these limits.
@@ -234,8 +280,9 @@ fn check_under<R: Abort + AllocGlobal + RandomSource>(
     let keys = RandomState::new(rt)?;
     for (script, want) in scripts {
         let got = run(rt.alloc(), keys, limits, script).map_err(|_| "a run")?;
-        assert!(rt; got.0.as_slice() == want.as_bytes(), "{want}");
-        assert!(rt; got.1.as_slice() == want.as_bytes(), "{want}");
+        assert!(rt; got.as_slice() == want.as_bytes(), "{want}");
+        check_paged(rt, keys, limits, (2, 2), (script, want))?;
+        check_paged(rt, keys, limits, (50, 72), (script, want))?;
     }
     Ok(())
 }
@@ -542,7 +589,7 @@ fn load_and_count(
     limits: Limits,
 ) -> Result<(Counts, Vec<u8>), RunFault> {
     let files = Files::new(alloc);
-    let mut db = Db::create(alloc, keys, limits)?;
+    let mut db = new_database(alloc, keys, limits, (2, 2, 1))?;
     match db.load(alloc, STANDARD.as_bytes()) {
         Ok(counts) => Ok((counts, db.command(alloc, &Command::Count, &files)?)),
         Err(LoadFault::Run(fault)) => Err(fault),
@@ -635,7 +682,7 @@ fn times_count_by_the_unit_of_their_file(rt: HostRuntime) -> Result<(), Fail> {
 fn count_into<W: Write>(alloc: Global, keys: RandomState, out: &mut W) -> Result<(), RunFault> {
     let files = named_files(alloc)?;
     let limits = Limits::new(1000, 1000).ok_or(RunFault::Memory)?;
-    let mut db = Db::create(alloc, keys, limits)?;
+    let mut db = new_database(alloc, keys, limits, (2, 2, 1))?;
     db.run(alloc, "load S1.csv\ncount\n".as_bytes(), &files, out)
 }
 

@@ -1,4 +1,4 @@
 use Rattle.trajdb.proofs.db.Db.command.Goals as goal
 
 pub returns-clause-question : goal.returns-clause-question
-returns-clause-question c = rw (← c.self.view_is) c.command.ensures.question
+returns-clause-question g c = rw (← c.self.view_is) c.command.ensures.question
