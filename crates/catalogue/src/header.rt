@@ -71,7 +71,11 @@ fn new_bytes(alloc: Global, shape: &Shape, limits: &Limits) -> Result<Vec<u8>, A
 }
 
 /// The payload of page 0 of a new store.
-pub(crate) fn new_header(alloc: Global, shape: &Shape, limits: &Limits) -> Result<Vec<u8>, AllocError>
+pub(crate) fn new_header(
+    alloc: Global,
+    shape: &Shape,
+    limits: &Limits,
+) -> Result<Vec<u8>, AllocError>
     ensures bytes { IfOk result (λ bytes. bytes.items ≡ header_bytes shape.now limits.now) }
     ensures len { IfOk result (λ bytes. length bytes.items ≡ 60) }
 {

@@ -234,7 +234,9 @@ fn run_listed(
 ) -> Result<Vec<u8>, RunFault> {
     let files = named_files(alloc)?;
     let index = ListIndex::new(alloc);
-    let mut core = Core::new(alloc, keys, index, limits, true).map_err(|fault| RunFault::from(fault.1))?;
+    let mut core = Core::new(alloc, keys, index, limits, true).map_err(|fault| RunFault::from(
+        fault.1,
+    ))?;
     let mut out = Vec::new(alloc);
     core.run(alloc, script, &files, &mut out)?;
     Ok(out)
