@@ -170,4 +170,6 @@ impl From<RunFault> for LoadFault {
 }
 
 #[cfg(test)]
+mod page_tests;
+#[cfg(test)]
 mod tests;

@@ -1,7 +1,7 @@
 //! Worked scripts over worked files.
 use super::*;
 use legs::{Limits, ListIndex};
-use pages::MemStore;
+use pages::{MemStore, PageStore};
 use querylang::Command;
 use std::alloc::Global;
 use std::hash::RandomState;
@@ -12,7 +12,7 @@ use std::test::Fail;
 use tbtree::Shape;
 
 /// The example of the standard.
-const STANDARD: &str = "\
+pub(crate) const STANDARD: &str = "\
 @stboundedby,urn:x-ogc:def:crs:EPSG:6.6:4326,2D,50.23 9.23,50.31 9.27,2012-01-17T12:33:41Z,2012-01-17T12:37:00Z,sec
 @columns,mfidref,trajectory,state,xsd:token,\"type code\",xsd:integer
 a,10,150,11.0 2.0 12.0 3.0,walking,1
@@ -171,7 +171,7 @@ const FILES: [(&str, &str); 32] = [
     ),
 ];
 
-fn named_files(alloc: Global) -> Result<Files, RunFault> {
+pub(crate) fn named_files(alloc: Global) -> Result<Files, RunFault> {
     let mut files = Files::new(alloc);
     for (name, text) in FILES {
         files.add(name, Vec::from_slice(alloc, text.as_bytes())?)?;
@@ -179,20 +179,33 @@ fn named_files(alloc: Global) -> Result<Files, RunFault> {
     Ok(files)
 }
 
-/// A new database over a store in memory, with leaves and inner pages of so many, and a cache of so many pages.
-fn new_database(
+/// A new database over a store without pages, with leaves and inner pages of so many, and a cache of so many pages.
+pub(crate) fn over<S: PageStore + Drop>(
     alloc: Global,
     keys: RandomState,
+    store: S,
     limits: Limits,
     (leaf, inner, cache_pages): (u16, u16, usize),
-) -> Result<Db<MemStore>, RunFault> {
+) -> Result<Db<S>, RunFault> {
     let shape = Shape::new(leaf, inner).ok_or(RunFault::Failed)?;
-    let store = MemStore::new(alloc, 1_000_000);
+    if store.len() > 0 {
+        return Err(RunFault::Store);
+    }
     match Db::create(alloc, keys, store, shape, cache_pages.max(1), limits) {
         Ok(db) => Ok(db),
         Err((_, OpenFault::Memory)) => Err(RunFault::Memory),
         Err(_) => Err(RunFault::Store),
     }
+}
+
+/// The same over a store in memory.
+fn new_database(
+    alloc: Global,
+    keys: RandomState,
+    limits: Limits,
+    pages: (u16, u16, usize),
+) -> Result<Db<MemStore>, RunFault> {
+    over(alloc, keys, MemStore::new(alloc, 1_000_000), limits, pages)
 }
 
 /// What a script answers on a new database, and how many pages it asked for.

@@ -1,0 +1,184 @@
+//! The pages of a database: how many it asks for, a store that has no room, and pages that others change.
+use super::*;
+use crate::tests::{named_files, over};
+use legs::Limits;
+use pages::{FileStore, MemStore, PageStore, seal, unseal};
+use querylang::Command;
+use std::alloc::Global;
+use std::fs::File;
+use std::hash::RandomState;
+use std::test::Fail;
+use std::{fs, rt};
+
+/// A new database over a store without pages, with so many to a leaf, to an inner page and in memory.
+fn database<S: PageStore + Drop>(
+    alloc: Global,
+    keys: RandomState,
+    store: S,
+    pages: (u16, u16, usize),
+) -> Result<Db<S>, RunFault> {
+    let limits = Limits::new(1000, 1000).ok_or(RunFault::Failed)?;
+    over(alloc, keys, store, limits, pages)
+}
+
+/// For how many pages a line asks over the example in leaves and inner pages of two, with so many pages in memory.
+fn asked_once(
+    alloc: Global,
+    keys: RandomState,
+    cache_pages: usize,
+    line: &str,
+) -> Result<u64, RunFault> {
+    let files = named_files(alloc)?;
+    let store = MemStore::new(alloc, 1000);
+    let mut db = database(alloc, keys, store, (2, 2, cache_pages))?;
+    let mut out = Vec::new(alloc);
+    db.run(alloc, b"load S1.csv", &files, &mut out)?;
+    let before = db.asked();
+    db.run(alloc, line.as_bytes(), &files, &mut out)?;
+    Ok(db.asked().wrapping_sub(before))
+}
+
+/// The same, asked again where one allocation fails.
+fn asked(
+    alloc: Global,
+    keys: RandomState,
+    cache_pages: usize,
+    line: &str,
+) -> Result<u64, RunFault> {
+    match asked_once(alloc, keys, cache_pages, line) {
+        Err(_) => asked_once(alloc, keys, cache_pages, line),
+        answer => answer,
+    }
+}
+
+#[test]
+fn a_question_asks_for_so_many_pages(rt: HostRuntime) -> Result<(), Fail> {
+    let keys = RandomState::new(&rt)?;
+    for (line, least, most) in [
+        (
+            "box 11.5 2.5 13 4 2012-01-17T12:33:41Z 2012-01-17T12:37:00Z",
+            5,
+            5,
+        ),
+        ("trajectory c", 1, 1),
+        ("count", 0, 0),
+        (
+            "features crosses 11.5 2.5 13 4 2012-01-17T12:33:41Z 2012-01-17T12:37:00Z",
+            0,
+            3,
+        ),
+        ("write", 0, 6),
+    ] {
+        for cache_pages in [1, 256] {
+            let pages = asked(rt.alloc(), keys, cache_pages, line).map_err(|_| "a run")?;
+            assert!(rt; least <= pages && pages <= most, "{line}: {pages}");
+        }
+    }
+    Ok(())
+}
+
+/// Why the example is not loaded into a store of three pages, how many bytes that run sends, and why the database
+/// then does not count, and does not run an empty script.
+fn refused(
+    alloc: Global,
+    keys: RandomState,
+) -> Result<(Option<RunFault>, usize, [Option<RunFault>; 2]), RunFault> {
+    let files = named_files(alloc)?;
+    let store = MemStore::new(alloc, 3);
+    let mut db = database(alloc, keys, store, (50, 72, 256))?;
+    let mut out = Vec::new(alloc);
+    let load = db.run(alloc, b"load S1.csv", &files, &mut out).err();
+    let count = db.command(alloc, &Command::Count, &files).err();
+    let empty = db.run(alloc, b"", &files, &mut out).err();
+    if load == Some(RunFault::Memory) {
+        return Err(RunFault::Memory);
+    }
+    Ok((load, out.len(), [count, empty]))
+}
+
+#[test]
+fn a_store_without_room_fails_the_database(rt: HostRuntime) -> Result<(), Fail> {
+    // Page 0, two leaves and the root above them are four pages.
+    let keys = RandomState::new(&rt)?;
+    let (load, sent, later) = match refused(rt.alloc(), keys) {
+        Err(_) => refused(rt.alloc(), keys),
+        answer => answer,
+    }
+    .map_err(|_| "a run")?;
+    assert!(rt; load == Some(RunFault::StoreFull) && sent == 0);
+    assert!(rt; later == [Some(RunFault::Failed), Some(RunFault::Failed)]);
+    Ok(())
+}
+
+/// The file that two stores open.
+const FILE: &str = "changed.mftb";
+
+/// The example in that file, through a cache of one page, which is that of `b`.
+fn in_a_file<R: rt::Files<File = File> + AllocGlobal>(
+    rt: &R,
+    keys: RandomState,
+) -> Result<Db<FileStore>, RunFault> {
+    let alloc = rt.alloc();
+    fs::write(rt, FILE, b"").map_err(|_| RunFault::Store)?;
+    let store = FileStore::open(rt, FILE).map_err(|_| RunFault::Store)?;
+    let files = named_files(alloc)?;
+    let mut db = database(alloc, keys, store, (50, 72, 1))?;
+    let script = b"load S1.csv\ntrajectory b";
+    db.run(alloc, script, &files, &mut Vec::new(alloc))?;
+    Ok(db)
+}
+
+/// Lets the first leg of page 1 end at x = 13, by another store over that file.
+fn change<R: rt::Files<File = File>>(rt: &R) -> Option<()> {
+    let mut store = FileStore::open(rt, FILE).ok()?;
+    if store.len() < 2 {
+        return None;
+    }
+    let mut page = [0; 4096];
+    store.read(1, &mut page).ok()?;
+    let mut payload = unseal(1, &page).ok()?;
+    payload.bytes[64..72].copy_from_slice(&[0, 0, 0, 0, 7, 0xbf, 0xa4, 0x80]);
+    store.write(1, &seal(1, &payload)).ok()
+}
+
+/// What is asked after the change, and its answer.
+const CHANGED: [(&str, &str); 5] = [
+    (
+        "trajectory a",
+        "ok 2\na,10,150,11 2 13 3,walking,1\na,150,190,12 3 10 3,walking,2\n",
+    ),
+    (
+        "box 11.5 2.5 13 4 2012-01-17T12:33:41Z 2012-01-17T12:37:00Z",
+        "ok 2\na,10,150,11 2 13 3,walking,1\na,150,190,12 3 10 3,walking,2\n",
+    ),
+    (
+        "legs ever 11.5 2.5 13 4 2012-01-17T12:33:41Z 2012-01-17T12:37:00Z",
+        "ok 2\na,10,150,11 2 13 3,walking,1\na,150,190,12 3 10 3,walking,2\n",
+    ),
+    (
+        "write",
+        "ok 7\n@stboundedby,urn:x-ogc:def:crs:EPSG:6.6:4326,2D,10 1,13 3,2012-01-17T12:33:41.000Z,2012-01-17T12:36:51.000Z,sec\n@columns,mfidref,trajectory,state,xsd:token,type code,xsd:integer\na,10,150,11 2 13 3,walking,1\nb,10,190,10 2 11 3,walking,2\na,150,190,12 3 10 3,walking,2\nc,10,100,12 1 10 2,vehicle,1\nc,100,190,10 2 11 3,vehicle,1\n",
+    ),
+    (
+        "features crosses 12.5 2 13 3 2012-01-17T12:33:41Z 2012-01-17T12:37:00Z",
+        "ok 1\na\n",
+    ),
+];
+
+#[test]
+fn answers_are_those_of_the_pages(rt: HostRuntime) -> Result<(), Fail> {
+    let keys = RandomState::new(&rt)?;
+    let files = Files::new(rt.alloc());
+    let mut db = match in_a_file(&rt, keys) {
+        Err(_) => in_a_file(&rt, keys),
+        answer => answer,
+    }
+    .map_err(|_| "a run")?;
+    assert!(rt; change(&rt).is_some());
+    for (line, want) in CHANGED {
+        let mut out = Vec::new(rt.alloc());
+        let run = db.run(rt.alloc(), line.as_bytes(), &files, &mut out);
+        assert!(rt; run.is_ok() && out.as_slice() == want.as_bytes(), "{line}");
+    }
+    Ok(())
+}
