@@ -14,12 +14,11 @@ use Rattle.pages.specs.Store as store
 use Rattle.pages.specs.Unsealed.{unsealed}
 use Rattle.pagecache.proofs.PageLemmas.{same_rest, slice_get-put_page, slice_get-put_other, slice_get-take, slice_get-take_none}
 use Rattle.pages.specs.declared.payload.Payload.{Payload}
-use Rattle.pagecache.specs.Cache.{Cache, in_memory, pages_as_written, page_of, sealed_payload, stored_payload, payload_of, is_changed, IsSettled, IsWritten, IsRefused, IsStopped, IsNotAdded, Keeps, Stays, WritesNone, Writes, Adds}
+use Rattle.pagecache.specs.Cache.{Cache, in_memory, pages_as_written, page_of, sealed_payload, stored_payload, payload_of, is_changed, IsSettled, IsWritten, IsRefused, Stays, WritesNone, Writes, Adds}
 use Rattle.pagecache.proofs.CallerLemmas.{stays-trans}
 use Rattle.pagecache.specs.Slots.{HasFailed, IsSound, HasRoom, IsWithin, OnLeaving, IsFirst, Steps, changed_numbers}
 use Rattle.pagecache.specs.declared.slots.Held.{Held}
 use Rattle.pagecache.specs.declared.fault.CacheFault.{CacheFault}
-use Rattle.pagecache.specs.declared.fault.CacheFault.TheVariants as fault
 
 pub is_some_of : {X : Type 0} (o : Option X) (x : X) → o ≡ Some x → IsSome o
 is_some_of o x e = rw e refl
@@ -318,6 +317,11 @@ lent c d n w s below marked t look count capacity =
 pub none_beyond : (c : Cache) (n : ℕ) (o : Option Held) → IsSound c → c.count ≤ n → in_memory c n ≡ o → in_memory c n ≡ None
 none_beyond c n None s h e = e
 none_beyond c n (Some q) s h e = let b : n < c.count = s.below n (is_some_of _ _ e) in absurd (omega arith)
+
+-- past the last page there is no payload
+pub payload_of-above : (c : Cache) (n : ℕ) → IsSound c → c.count ≤ n → payload_of c n ≡ None
+unfolding sealed_payload
+payload_of-above c n s h = payload_of-none c n (none_beyond c n (in_memory c n) s h refl) ∙ ap (option_and_then (unsealed n)) (page_of-above c n h)
 
 -- a page has been added to the store
 pub appended : (c d : Cache) (n : ℕ) (page : List ℕ) (p : Payload) → IsSound c → IsLawful c.store → n ≡ c.count → unsealed n page ≡ Some p → store.Writes n page c.store d.store → ((m : ℕ) → in_memory d m ≡ in_memory c m)

@@ -1,5 +1,5 @@
 //! The cache as its callers see it.
-ghost use Rattle.std.specs.Prelude.{◌≡◌, ◌<◌, ◌≤◌, Some, IsTrue, IfOk, IfErr, OnOk, OnErr, IsErrOf, length};
+ghost use Rattle.std.specs.Prelude.{◌≡◌, ◌<◌, ◌≤◌, Some, None, IsTrue, IfOk, IfErr, OnOk, OnErr, IsErrOf, length};
 ghost use Rattle.std.specs.Borrow.{sem};
 ghost use Rattle.pagecache.specs.Cache.{fresh, payload_of, Adds, Stays, SameLength, AsksOnce, IsNotAdded, IsStopped, IsWritten};
 ghost use Rattle.pages.specs.Zero.{zero_payload};
@@ -71,10 +71,12 @@ impl<S: PageStore> PageCache<S> {
         self.slots.page_mut(number)
     }
 
-    /// Adds a page with a zero payload to the store, and returns its number, the count so far.
+    /// Adds a page with a zero payload to the store, and returns its number, the count so far, which
+    /// had no payload.
     pub fn add_page(&mut self, kind: Kind) -> Result<u32, CacheFault>
         ensures adds { OnOk result (Adds (zero_payload kind) self.old self.new) }
         ensures number { IfOk result (λ number. number ≡ self.old.count) }
+        ensures none_before { payload_of self.old self.old.count ≡ None }
         ensures length { OnOk result (self.old.count ≡ self.old.store.count
             → self.new.count ≡ self.new.store.count) }
         ensures refused { OnErr result (Stays self.old self.new) }

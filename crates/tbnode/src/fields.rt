@@ -1,4 +1,4 @@
-//! Numbers in bytes, big-endian.
+//! Numbers in the bytes of a payload, big-endian.
 ghost use Rattle.std.specs.Prelude.{◌≡◌, ◌+◌, ◌≤◌, length};
 ghost use Rattle.byteorder.specs.Endian.{big_bytes};
 ghost use Rattle.tbnode.specs.Parts.{part, put, number_at, signed_at, signed_bytes};
@@ -7,7 +7,7 @@ use byteorder::{BigEndian, ByteOrder};
 
 /// Some of the bytes, from a place on.
 #[tactic(auto, unfolding(crate::specs::Parts::part))]
-pub(crate) fn part(bytes: &[u8], place: usize, len: usize) -> &[u8]
+pub fn part(bytes: &[u8], place: usize, len: usize) -> &[u8]
     requires { place + len ≤ length bytes.now }
     ensures value { result.now ≡ part place len bytes.now }
     ensures len { length result.now ≡ len }
@@ -15,69 +15,77 @@ pub(crate) fn part(bytes: &[u8], place: usize, len: usize) -> &[u8]
     &bytes[place..place + len]
 }
 
+/// The number in the 8 bytes from a place on.
 #[tactic(auto, unfolding(crate::specs::Parts::number_at))]
-pub(crate) fn u64_at(bytes: &[u8], place: usize) -> u64
+pub fn u64_at(bytes: &[u8], place: usize) -> u64
     requires { place + 8 ≤ length bytes.now }
     ensures { result ≡ number_at 8 place bytes.now }
 {
     BigEndian::read_u64(part(bytes, place, 8))
 }
 
+/// The number in the 8 bytes from a place on, as two's complement.
 #[tactic(auto, unfolding(crate::specs::Parts::signed_at, crate::specs::Parts::number_at))]
-pub(crate) fn i64_at(bytes: &[u8], place: usize) -> i64
+pub fn i64_at(bytes: &[u8], place: usize) -> i64
     requires { place + 8 ≤ length bytes.now }
     ensures { result ≡ signed_at place bytes.now }
 {
     BigEndian::read_i64(part(bytes, place, 8))
 }
 
+/// The number in the 4 bytes from a place on.
 #[tactic(auto, unfolding(crate::specs::Parts::number_at))]
-pub(crate) fn u32_at(bytes: &[u8], place: usize) -> u32
+pub fn u32_at(bytes: &[u8], place: usize) -> u32
     requires { place + 4 ≤ length bytes.now }
     ensures { result ≡ number_at 4 place bytes.now }
 {
     BigEndian::read_u32(part(bytes, place, 4))
 }
 
+/// The number in the 2 bytes from a place on.
 #[tactic(auto, unfolding(crate::specs::Parts::number_at))]
-pub(crate) fn u16_at(bytes: &[u8], place: usize) -> u16
+pub fn u16_at(bytes: &[u8], place: usize) -> u16
     requires { place + 2 ≤ length bytes.now }
     ensures { result ≡ number_at 2 place bytes.now }
 {
     BigEndian::read_u16(part(bytes, place, 2))
 }
 
-/// Writes over some of the bytes.
+/// Writes bytes over those from a place on.
 #[tactic(auto, unfolding(crate::specs::Parts::put))]
-pub(crate) fn put(bytes: &mut [u8], place: usize, new: &[u8])
+pub fn put(bytes: &mut [u8], place: usize, new: &[u8])
     requires { place + length new.now ≤ length bytes.old }
     ensures { bytes.new ≡ put place new.now bytes.old }
 {
     bytes[place..place + new.len()].copy_from_slice(new);
 }
 
-pub(crate) fn put_u64(bytes: &mut [u8], place: usize, n: u64)
+/// Writes a number over the 8 bytes from a place on.
+pub fn put_u64(bytes: &mut [u8], place: usize, n: u64)
     requires { place + 8 ≤ length bytes.old }
     ensures { bytes.new ≡ put place (big_bytes 8 n) bytes.old }
 {
     put(bytes, place, &n.to_be_bytes());
 }
 
-pub(crate) fn put_i64(bytes: &mut [u8], place: usize, n: i64)
+/// Writes a number over the 8 bytes from a place on, as two's complement.
+pub fn put_i64(bytes: &mut [u8], place: usize, n: i64)
     requires { place + 8 ≤ length bytes.old }
     ensures { bytes.new ≡ put place (signed_bytes n) bytes.old }
 {
     put(bytes, place, &n.to_be_bytes());
 }
 
-pub(crate) fn put_u32(bytes: &mut [u8], place: usize, n: u32)
+/// Writes a number over the 4 bytes from a place on.
+pub fn put_u32(bytes: &mut [u8], place: usize, n: u32)
     requires { place + 4 ≤ length bytes.old }
     ensures { bytes.new ≡ put place (big_bytes 4 n) bytes.old }
 {
     put(bytes, place, &n.to_be_bytes());
 }
 
-pub(crate) fn put_u16(bytes: &mut [u8], place: usize, n: u16)
+/// Writes a number over the 2 bytes from a place on.
+pub fn put_u16(bytes: &mut [u8], place: usize, n: u16)
     requires { place + 2 ≤ length bytes.old }
     ensures { bytes.new ≡ put place (big_bytes 2 n) bytes.old }
 {

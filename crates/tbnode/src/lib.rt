@@ -6,7 +6,7 @@
 
 mod edit;
 mod entries;
-mod fields;
+pub mod fields;
 mod form;
 mod laid;
 mod views;

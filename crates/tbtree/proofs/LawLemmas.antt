@@ -1,5 +1,5 @@
 -- What is said of pages that stand for legs.
-use Rattle.std.proofs.Common.{ℕ, zero, suc, ◌+◌, ◌*◌, ◌-◌, ◌<◌, ◌≤◌, ◌≡◌, ◌==◌, nat_lt, lt-ltb, le-ltb, Bool, true, false, cond, List, [], ◌∷◌, ◌++◌, length, map, refl, sym, ap, ◌∙◌, arith, subst, ⊎_elim, None, Some, slice_get}
+use Rattle.std.proofs.Common.{ℕ, zero, suc, ◌+◌, ◌*◌, ◌-◌, ◌<◌, ◌≤◌, ◌≡◌, ◌==◌, nat_lt, lt-ltb, le-ltb, Bool, true, false, cond, List, [], ◌∷◌, ◌++◌, length, map, refl, sym, ap, ◌∙◌, arith, subst, ⊎_elim, Option, None, Some, slice_get}
 use Rattle.std.specs.List.{filter, flat_map, count_by, range_with_len, All}
 use Rattle.std.specs.List.Sorted.{IsPermutation}
 use Rattle.std.proofs.lemmas.Bool.{cases_lt, true≢false}
@@ -13,11 +13,11 @@ use Rattle.legs.specs.Costs.{height, leaves_of, leg_feature}
 use Rattle.legs.specs.Hull.{leg_boxes}
 use Rattle.legs.specs.Index.{CanFollowInTurn, legs_of}
 use Rattle.legs.specs.Legs.{LegView}
-use Rattle.tbtree.specs.Descent.{legs_met, pages_met, IsPruning, Descends, sort_by_ordinal, content_of, children_met, entries_in, legs_in, node_at, DiffersAtFirst}
+use Rattle.tbtree.specs.Descent.{legs_met, pages_met, IsPruning, Descends, sort_by_ordinal, content_of, children_met, entries_in, legs_in, node_at, node_in, IsSameTree}
 use Rattle.tbtree.specs.Insert.{Stands, IsPlace}
-use Rattle.tbtree.specs.Nodes.{EntryView, Pages, HasLeaf}
+use Rattle.tbtree.specs.Nodes.{EntryView, InnerView, LeafView, Node, ALeaf, AnInner, Pages, HasLeaf}
 use Rattle.tbtree.specs.Shape.{IsShape}
-use Rattle.tbtree.specs.Stands.{NumbersStand, owner, pages_of, marks, no_place, head_or_zero, last_or}
+use Rattle.tbtree.specs.Stands.{NumbersStand, owner, pages_of, marks, leaf_of, no_place, head_or_zero, last_or}
 use Rattle.tbtree.specs.declared.tree.TbTree.{TbTree}
 use Rattle.tbtree.proofs.BlockLemmas.{all_pass}
 use Rattle.tbtree.proofs.BlockLevels.{one_above}
@@ -181,38 +181,82 @@ absent_is nodes tree legs pages f shape st e =
       none = λ h. (refl, refl, refl);
     }
 
-module _ (old new : Pages LegView BoxView) (t : DiffersAtFirst old new) where
-  same_nodes : (p : ℕ) → node_at new p ≡ node_at old p
+module _ {L B : Type 0} where
+  abbrev entries_of : Option (Node L B) → List (EntryView B)
+  entries_of (Some (AnInner page)) = page.entries
+  entries_of (Some (ALeaf leaf)) = []
+  entries_of None = []
+
+  abbrev legs_of_node : Option (Node L B) → List L
+  legs_of_node (Some (ALeaf leaf)) = leaf.legs
+  legs_of_node (Some (AnInner page)) = []
+  legs_of_node None = []
+
+  by_entries : (x : Option (Option (Node L B))) → entries_in x ≡ entries_of (node_in x)
+  by_entries (Some (Some (AnInner page))) = refl
+  by_entries (Some (Some (ALeaf leaf))) = refl
+  by_entries (Some None) = refl
+  by_entries None = refl
+
+  by_legs : (x : Option (Option (Node L B))) → legs_in x ≡ legs_of_node (node_in x)
+  by_legs (Some (Some (AnInner page))) = refl
+  by_legs (Some (Some (ALeaf leaf))) = refl
+  by_legs (Some None) = refl
+  by_legs None = refl
+
+  said : (x : Option (Option (Node L B))) (n : Node L B) → node_in x ≡ Some n → x ≡ Some (Some n)
+  said (Some o) n e = ap Some e
+  said None n e = absurd (some_none n (sym e))
+
+module _ (old new : Pages LegView BoxView) (t : IsSameTree old new) where
+  same_nodes : (p : ℕ) → node_in (node_at new p) ≡ node_in (node_at old p)
   same_nodes zero = refl
   same_nodes (suc p) = t.rest (suc p) (omega arith)
+
+  same_entries : (p : ℕ) → entries_in (node_at new p) ≡ entries_in (node_at old p)
+  same_entries p = by_entries (node_at new p) ∙ ap entries_of (same_nodes p) ∙ sym (by_entries (node_at old p))
+
+  same_legs_in : (p : ℕ) → legs_in (node_at new p) ≡ legs_in (node_at old p)
+  same_legs_in p = by_legs (node_at new p) ∙ ap legs_of_node (same_nodes p) ∙ sym (by_legs (node_at old p))
 
   same_pages : (meets : BoxView → Bool) (root n : ℕ) → pages_met meets new root n ≡ pages_met meets old root n
   unfolding children_met
   same_pages meets root zero = refl
-  same_pages meets root (suc n) = λ i. flat_map (λ p. map (λ (e : EntryView BoxView). e.child) (filter (λ e. meets e.bounds) (entries_in (same_nodes p i)))) (same_pages meets root n i)
+  same_pages meets root (suc n) = λ i. flat_map (λ p. map (λ (e : EntryView BoxView). e.child) (filter (λ e. meets e.bounds) (same_entries p i))) (same_pages meets root n i)
 
   same_legs : (meets : BoxView → Bool) (root levels : ℕ) → legs_met leg_boxes meets new root levels ≡ legs_met leg_boxes meets old root levels
   same_legs meets root zero = refl
-  same_legs meets root (suc n) = λ i. flat_map (λ p. filter (λ leg. meets (leg_boxes.of leg)) (legs_in (same_nodes p i))) (same_pages meets root n i)
+  same_legs meets root (suc n) = λ i. flat_map (λ p. filter (λ leg. meets (leg_boxes.of leg)) (same_legs_in p i)) (same_pages meets root n i)
 
   pub same_content : (tree : TbTree) → content_of new tree ≡ content_of old tree
   unfolding content_of
   same_content tree = ap sort_by_ordinal (same_legs (λ _. true) tree.root tree.levels)
 
+  -- what a page above page 0 says of a tree, it still says
+  still : (p : ℕ) (n : Node LegView BoxView) → 0 < p → old.at p ≡ Some (Some n) → new.at p ≡ Some (Some n)
+  still p n h e = said (new.at p) n (t.rest p h ∙ ap node_in e)
+
   pub still_stands : (tree : TbTree) (legs : List LegView) (pages : ℕ → List ℕ) → Stands old tree legs pages → Stands new tree legs pages
   still_stands tree legs pages s =
       let tr = s.tree_stands in
       let n = tr.numbers in
+      let more = t.count in
       record {
         in_turn = s.in_turn;
         leaves_are = s.leaves_are;
         tree_stands = record {
-          held = λ p l. ⊎_elim
-              (λ (h : 0 < p). λ e. tr.held p (let c = t.count in omega (arith, l, c)) (sym (t.rest p h) ∙ e))
-              (λ (h : p ≤ 0). λ e. t.held (tr.held 0 n.page_0) (ap new.at (let z : 0 ≡ p = omega (arith, h) in z) ∙ e))
-              (cases_lt 0 p);
-          numbers = subst (λ c. NumbersStand tree.shape.inner tree.levels tree.root c (leaves_of tree.shape legs) pages) (sym t.count) n;
-          leaves = λ i p r e f. t.rest p (n.within 0 i p e).0 ∙ tr.leaves i p r e f;
-          inners = λ k j p e. let h = tr.inners k j p e in record { page = h.page; is = t.rest p (n.within (suc k) j p e).0 ∙ h.is; height_is = h.height_is; children_are = h.children_are; boxes_are = h.boxes_are };
+          held = λ p l e. let h = t.held p l e in tr.held p h.0 h.1;
+          numbers = record {
+            page_0 = (let z = n.page_0 in omega (arith, z, more));
+            one_each = n.one_each;
+            no_more = n.no_more;
+            below_top = n.below_top;
+            top = n.top;
+            empty = n.empty;
+            within = λ k j p e. let w = n.within k j p e in (w.0, omega (arith, w.1, more));
+            apart = n.apart;
+          };
+          leaves = λ i p r e f. still p (ALeaf (leaf_of (owner leg_feature r) (marks leg_feature (leaves_of tree.shape legs) (pages 0)) i r)) (n.within 0 i p e).0 (tr.leaves i p r e f);
+          inners = λ k j p e. let h = tr.inners k j p e in record { page = h.page; is = still p (AnInner h.page) (n.within (suc k) j p e).0 h.is; height_is = h.height_is; children_are = h.children_are; boxes_are = h.boxes_are };
         };
       }

@@ -1,6 +1,6 @@
 -- The way down from a tree's root: the pages that are met and the legs that they have, for any pages. Page 0 is none of
 -- a tree's.
-use Rattle.std.specs.Prelude.{ℕ, zero, suc, ◌≡◌, ◌≢◌, ◌+◌, ◌<◌, ◌≤◌, Bool, true, false, cond, nat_lt, List, [], ◌∷◌, map, filter, length, Option, Some, None}
+use Rattle.std.specs.Prelude.{ℕ, zero, suc, ◌≡◌, ◌+◌, ◌<◌, ◌≤◌, Bool, true, false, cond, nat_lt, List, [], ◌∷◌, map, filter, length, Option, Some, None}
 use Rattle.std.specs.List.{flat_map, All}
 use Rattle.std.specs.List.Sorted.{IsPermutation, IsNonDecreasingBy}
 use Rattle.legs.specs.Legs.{LegView}
@@ -75,11 +75,17 @@ sort_by_ordinal (leg ∷ legs) = insert_by_ordinal leg (sort_by_ordinal legs)
 unfoldable pub content_of : Pages LegView BoxView → TbTree → List LegView
 content_of nodes tree = sort_by_ordinal (legs_met leg_boxes (λ _. true) nodes tree.root tree.levels)
 
--- there are as many pages, and all but page 0 say what they said; it has a payload where it had one
-pub record DiffersAtFirst (old new : Pages LegView BoxView) : Type 0 where
-  pub count : new.count ≡ old.count
-  pub held : old.at 0 ≢ None → new.at 0 ≢ None
-  pub rest : (p : ℕ) → 0 < p → new.at p ≡ old.at p
+-- what a page says as one of a tree, if anything
+abbrev pub node_in : {N : Type 0} → Option (Option N) → Option N
+node_in (Some node) = node
+node_in None = None
+
+-- all pages but page 0 say the same of a tree, if anything; there may be more, and each that is there has a payload,
+-- but for those that had none
+pub record IsSameTree (old new : Pages LegView BoxView) : Type 0 where
+  pub count : old.count ≤ new.count
+  pub held : (p : ℕ) → p < new.count → new.at p ≡ None → (p < old.count) × (old.at p ≡ None)
+  pub rest : (p : ℕ) → 0 < p → node_in (new.at p) ≡ node_in (old.at p)
 
 -- the page p is an inner page of the level
 pub record HasInner {L B : Type 0} (nodes : Pages L B) (p level : ℕ) : Type 0 where

@@ -6,7 +6,7 @@ ghost use Rattle.legs.specs.Hull.{leg_boxes};
 ghost use Rattle.legs.specs.Index.{legs_of};
 ghost use Rattle.legs.specs.Legs.{IsLeg, LegView};
 ghost use Rattle.pagecache.specs.Cache.{Cache};
-ghost use Rattle.tbtree.specs.Descent.{content_of, Descends, DiffersAtFirst, IsPruning};
+ghost use Rattle.tbtree.specs.Descent.{content_of, Descends, IsPruning, IsSameTree};
 ghost use Rattle.tbtree.specs.Insert.{IsPlace, Stands};
 ghost use Rattle.tbtree.specs.Nodes.{Pages, pages_of_cache};
 ghost use Rattle.tbtree.specs.Shape.{IsShape};
@@ -22,11 +22,11 @@ pub fn laws()
     ensures lawful { (cache : Cache) (tree : TbTree)
         → All IsLeg (content_of (pages_of_cache cache) tree) }
 
-    // Page 0 is no page of a tree.
-    ensures first { (old new : Pages LegView BoxView) (tree : TbTree) → DiffersAtFirst old new
+    // Page 0 is no page of a tree, and pages that say nothing of one may change and be added.
+    ensures same { (old new : Pages LegView BoxView) (tree : TbTree) → IsSameTree old new
         → content_of new tree ≡ content_of old tree }
-    ensures first_stands { (old new : Pages LegView BoxView) (tree : TbTree)
-        (legs : List LegView) (pages : ℕ → List ℕ) → DiffersAtFirst old new
+    ensures same_stands { (old new : Pages LegView BoxView) (tree : TbTree)
+        (legs : List LegView) (pages : ℕ → List ℕ) → IsSameTree old new
         → Stands old tree legs pages → Stands new tree legs pages }
 
     // A way down by a test of boxes finds the legs whose boxes meet.

@@ -6,8 +6,8 @@ pub returns : goal.returns
 returns c = record {
   content = content_is;
   lawful = λ cache tree. content_lawful c.laws.ensures.legs cache tree;
-  first = λ old new tree differs. same_content old new differs tree;
-  first_stands = λ old new tree legs pages differs. still_stands old new differs tree legs pages;
+  same = λ old new tree t. same_content old new t tree;
+  same_stands = λ old new tree legs pages t. still_stands old new t tree legs pages;
   descends = λ meets nodes tree legs pages prune. descends meets prune nodes tree legs pages;
   height = height_is;
   fits = legs_fit;
