@@ -11,6 +11,7 @@ use Rattle.tbnode.specs.Form.{node_of}
 use Rattle.tbtree.specs.Descent.{content_of}
 use Rattle.tbtree.specs.Insert.{Stands, IsPlace}
 use Rattle.tbtree.specs.Nodes.{pages_of_cache}
+use Rattle.boxsearch.specs.Beside.{with_cache}
 use Rattle.boxsearch.specs.Index.{IndexView, words, content, written, IsSound, IsMarked}
 
 pub content_is : (i : IndexView) → IsTrue i.cache.store.is_faithful → content i ≡ content_of (pages_of_cache i.cache) i.tree
@@ -19,9 +20,6 @@ content_is i f = ap (λ b. cond b (content_of (pages_of_cache i.cache) i.tree) [
 -- pages that are only read say what they said
 pub same_pages : (old new : Cache) → OnlyReads old new → IsTrue old.store.is_faithful → pages_of_cache new ≡ pages_of_cache old
 same_pages old new r f = λ i. record { at = λ p. option_map node_of (r.payloads f p i); count = r.count i }
-
-abbrev pub with_cache : IndexView → Cache → IndexView
-with_cache i c = record i { cache = c }
 
 module _ (old : IndexView) (c : Cache) (r : OnlyReads old.cache c) where
   abbrev new : IndexView

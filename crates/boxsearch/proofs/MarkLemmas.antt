@@ -1,17 +1,27 @@
 -- Page 0, marked.
-use Rattle.std.proofs.Common.{ℕ, ◌≡◌, ◌<◌, ◌==◌, cond, refl, sym, ap, ◌∙◌, arith, subst, false, drop, IsTrue, Some, option_and_then}
+use Rattle.std.proofs.Common.{ℕ, ◌≡◌, ◌<◌, ◌==◌, ◌++◌, take-append-drop, cond, refl, sym, ap, ◌∙◌, arith, subst, false, drop, IsTrue, Some, option_and_then}
 use Rattle.std.proofs.lemmas.Bool.Decides.{nat_tests}
 use Rattle.std.proofs.lemmas.Int.{clamps}
 use Rattle.pages.specs.Unsealed.{unsealed}
 use Rattle.pages.specs.declared.payload.Payload.{Payload}
 use Rattle.pagecache.specs.Cache.{Cache, payload_of, sealed_payload, is_changed, IsClean, IsWritten, Lends, Rests, Stays, SameLength, pages_as_written}
-use Rattle.boxsearch.specs.Index.{IsMarked, IsUnfinished}
-use Rattle.boxsearch.specs.Marking.{marked, Marks}
+use Rattle.boxsearch.specs.Index.{marked, IsMarked, IsUnfinished, MarksFirst, unfinished_front}
+use Rattle.boxsearch.specs.Marking.{Marks}
 use Rattle.boxsearch.proofs.PlaceLemmas.{some_none, some_same}
 
 -- the header that is made is one of a store that is not finished
 pub marked_is : (p : Payload) → IsUnfinished (marked p)
 marked_is p = record { kind = refl; front = refl }
+
+-- one that is such a header already is left as it is
+marked_same : (p : Payload) → IsUnfinished p → marked p ≡ p
+marked_same p u =
+    let bytes : unfinished_front ++ drop 12 p.bytes ≡ p.bytes = ap (λ l. l ++ drop 12 p.bytes) (sym u.front) ∙ take-append-drop 12 p.bytes in
+    λ i. record { kind = sym u.kind i; bytes = bytes i }
+
+pub first_rests : (a b : Cache) (p : Payload) → Rests a b → (IsTrue a.store.is_faithful → payload_of a 0 ≡ Some p) → IsUnfinished p → MarksFirst a b
+first_rests a b p r read u f q at =
+    r.stays.payloads f 0 ∙ at ∙ ap Some (sym (marked_same q (subst (λ v. IsUnfinished v) (some_same p q (sym (read f) ∙ at)) u)))
 
 pub rests_marks : (a b : Cache) → Rests a b → Marks a b
 unfolding sealed_payload
@@ -71,6 +81,10 @@ module _ (a b c d : Cache) (p w : Payload) (r : Rests a b) (read : IsTrue a.stor
 
   pub now : IsTrue a.store.is_faithful → payload_of d 0 ≡ Some w
   now f = s.payloads (fc f) 0 ∙ l.writes.payloads (fb f) 0
+
+  pub first_marked : (v : Payload) → (IsTrue b.store.is_faithful → payload_of b 0 ≡ Some v) → w ≡ marked v → MarksFirst a d
+  first_marked v value e f q at =
+      now f ∙ ap Some e ∙ ap (λ x. Some (marked x)) (some_same v q (sym (value (fb f)) ∙ r.stays.payloads f 0 ∙ at))
 
   pub flushed_marks : Marks a d
   flushed_marks = record {

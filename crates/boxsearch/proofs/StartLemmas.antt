@@ -1,7 +1,7 @@
 -- An index whose page 0 is marked.
-use Rattle.std.proofs.Common.{ℕ, ◌≡◌, ◌<◌, refl, sym, ap, ◌∙◌, arith, subst, true, false, cond, drop, length, List, [], All, IsTrue, Option, Some, None, option_map, Result}
+use Rattle.std.proofs.Common.{ℕ, ◌≡◌, ◌≢◌, ◌<◌, ◌≤◌, ⊎_elim, refl, sym, ap, ◌∙◌, arith, subst, true, false, cond, drop, length, List, [], All, IsTrue, Option, Some, None, option_map, Result}
 use Rattle.std.specs.Prelude.{IfErr, OnOk, OnErr}
-use Rattle.std.proofs.lemmas.Bool.{true≢false}
+use Rattle.std.proofs.lemmas.Bool.{cases_lt, true≢false}
 use Rattle.std.proofs.lemmas.Int.{clamps}
 use Rattle.legs.specs.Asking.{Refusals, Starts}
 use Rattle.legs.specs.Boxes.{BoxView}
@@ -13,60 +13,87 @@ use Rattle.pagecache.specs.Cache.{Cache, IsClean, pages_as_written, payload_of}
 use Rattle.pagecache.specs.declared.fault.CacheFault.{CacheFault}
 use Rattle.pagecache.specs.declared.fault.CacheFault.TheVariants as cache
 use Rattle.tbnode.specs.Form.{node_of}
-use Rattle.tbtree.specs.Descent.{content_of, DiffersAtFirst}
+use Rattle.tbtree.specs.Descent.{content_of, node_in, IsSameTree}
 use Rattle.tbtree.specs.Insert.{Stands, IsPlace}
 use Rattle.tbtree.specs.Nodes.{Pages, pages_of_cache}
 use Rattle.tbtree.specs.declared.tree.TbTree.{TbTree}
 use Rattle.boxsearch.specs.Answers.{answered, of_cache}
 use Rattle.boxsearch.specs.Index.{IndexView, words, content, written, IsSound, IsMarked}
 use Rattle.boxsearch.specs.Marking.{Marks, IsNotMarked}
+use Rattle.pages.specs.declared.payload.Payload.{Payload}
+use Rattle.boxsearch.proofs.PlaceLemmas.{some_none}
 use Rattle.boxsearch.proofs.AnswerLemmas.{each_fault, each_value, the_fault, Said}
-use Rattle.boxsearch.proofs.IndexLemmas.{with_cache}
+use Rattle.boxsearch.specs.Beside.{with_cache, IsBeside}
 use Rattle.boxsearch.proofs.ResultLemmas.{on_ok, on_err}
 
 -- the laws of a tree that are cited here
 pub record FirstLaws : Type 0 where
-  pub content : (old new : Pages LegView BoxView) (tree : TbTree) → DiffersAtFirst old new → content_of new tree ≡ content_of old tree
-  pub stands : (old new : Pages LegView BoxView) (tree : TbTree) (legs : List LegView) (pages : ℕ → List ℕ) → DiffersAtFirst old new → Stands old tree legs pages → Stands new tree legs pages
+  pub content : (old new : Pages LegView BoxView) (tree : TbTree) → IsSameTree old new → content_of new tree ≡ content_of old tree
+  pub stands : (old new : Pages LegView BoxView) (tree : TbTree) (legs : List LegView) (pages : ℕ → List ℕ) → IsSameTree old new → Stands old tree legs pages → Stands new tree legs pages
 
 map_none : {X Y : Type 0} (f : X → Y) (o : Option X) → option_map f o ≡ None → o ≡ None
 map_none f None e = refl
 map_none f (Some x) e = absurd cc
 
-module _ (laws : FirstLaws) (old : IndexView) (c : Cache) (m : Marks old.cache c) where
-  abbrev new : IndexView
-  new = with_cache old c
+none_before : (o p : Option Payload) → (o ≢ None → p ≢ None) → p ≡ None → option_map node_of o ≡ None
+none_before None p u e = refl
+none_before (Some x) p u e = absurd (u (some_none x) e)
 
-  differs : IsTrue old.cache.store.is_faithful → DiffersAtFirst (pages_of_cache old.cache) (pages_of_cache c)
-  differs f = record {
-    count = m.count;
-    held = λ u e. m.held f (λ z. u (ap (option_map node_of) z)) (map_none node_of (payload_of c 0) e);
-    rest = λ p h. ap (option_map node_of) (m.rest f p h);
-  }
-
-  same_content : content new ≡ content old
-  same_content =
-      ap (λ b. cond b (content_of (pages_of_cache c) old.tree) []) m.store.faithful ∙
+module _ (laws : FirstLaws) (old : IndexView) (c : Cache) (b : IsBeside old.cache c) where
+  pub beside_content : content (with_cache old c) ≡ content old
+  beside_content =
+      ap (λ b. cond b (content_of (pages_of_cache c) old.tree) []) b.faithful ∙
       (elim old.cache.store.is_faithful as (λ b. old.cache.store.is_faithful ≡ b → cond b (content_of (pages_of_cache c) old.tree) [] ≡ cond b (content_of (pages_of_cache old.cache) old.tree) []) [
-        | true ↦ λ f. laws.content (pages_of_cache old.cache) (pages_of_cache c) old.tree (differs f)
+        | true ↦ λ f. laws.content (pages_of_cache old.cache) (pages_of_cache c) old.tree (b.tree f)
         | false ↦ λ f. refl
       ]) refl
 
-  still_sound : IsSound old → IsSound new
-  still_sound s =
-      let legs = same_content in
+  pub beside_sound : IsSound old → IsSound (with_cache old c)
+  beside_sound s =
+      let legs = beside_content in
       record {
-        faithful = m.store.faithful ∙ s.faithful;
+        faithful = b.faithful ∙ s.faithful;
         works = s.works;
         shape = s.shape;
-        count = m.count ∙ s.count ∙ sym m.length;
+        count = b.length s.count;
         pages = s.pages;
-        stands = subst (λ l. Stands (pages_of_cache c) old.tree l s.pages) (sym legs) (laws.stands (pages_of_cache old.cache) (pages_of_cache c) old.tree (content old) s.pages (differs s.faithful) s.stands);
+        stands = subst (λ l. Stands (pages_of_cache c) old.tree l s.pages) (sym legs) (laws.stands (pages_of_cache old.cache) (pages_of_cache c) old.tree (content old) s.pages (b.tree s.faithful) s.stands);
         lawful = subst (λ l. All IsLeg l) (sym legs) s.lawful;
         counted = s.counted ∙ sym (ap length legs);
         features = s.features ∙ sym (ap feature_count legs);
         placed = λ f place e. subst (λ l. IsPlace old.tree l s.pages f place) (sym legs) (s.placed f place e);
       }
+
+module _ (laws : FirstLaws) (old : IndexView) (c : Cache) (m : Marks old.cache c) where
+  abbrev new : IndexView
+  new = with_cache old c
+
+  -- a page 0 without a payload had none
+  first_none : IsTrue old.cache.store.is_faithful → option_map node_of (payload_of c 0) ≡ None → option_map node_of (payload_of old.cache 0) ≡ None
+  first_none f e = none_before (payload_of old.cache 0) (payload_of c 0) (m.held f) (map_none node_of (payload_of c 0) e)
+
+  beside : IsBeside old.cache c
+  beside = record {
+    faithful = m.store.faithful;
+    length = λ e. m.count ∙ e ∙ sym m.length;
+    tree = λ f. record {
+      count = (let n = m.count in omega (arith, n));
+      held = λ p l e. (
+        (let n = m.count in omega (arith, n, l)),
+        ⊎_elim
+            (λ (h : 0 < p). ap (option_map node_of) (sym (m.rest f p h)) ∙ e)
+            (λ (h : p ≤ 0). let z : 0 ≡ p = omega (arith, h) in ap (pages_of_cache old.cache).at (sym z) ∙ first_none f (ap (pages_of_cache c).at z ∙ e))
+            (cases_lt 0 p),
+      );
+      rest = λ p h. ap (λ o. node_in (option_map node_of o)) (m.rest f p h);
+    };
+  }
+
+  same_content : content new ≡ content old
+  same_content = beside_content laws old c beside
+
+  still_sound : IsSound old → IsSound new
+  still_sound = beside_sound laws old c beside
 
   written_is : (i : IndexView) → IsTrue i.cache.store.is_faithful → written i ≡ pages_as_written i.cache
   written_is i f = ap (λ b. cond b (pages_as_written i.cache) []) f

@@ -22,7 +22,7 @@ use Rattle.tbtree.specs.declared.tree.Place.{Place}
 use Rattle.boxsearch.specs.Answers.{answered, of_chain}
 use Rattle.boxsearch.specs.Index.{IndexView, words, content, IsSound}
 use Rattle.boxsearch.proofs.AnswerLemmas.{each_fault, each_value, faults_of, values_of, the_fault, under, under_ok, Said, chain_said, chain_allowed}
-use Rattle.boxsearch.proofs.IndexLemmas.{with_cache}
+use Rattle.boxsearch.specs.Beside.{with_cache}
 use Rattle.boxsearch.proofs.PlaceLemmas.{some_none}
 
 -- a place of a sound index is its feature's

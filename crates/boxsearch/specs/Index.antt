@@ -1,12 +1,12 @@
 -- What contracts see of an index over pages.
-use Rattle.std.specs.Prelude.{ℕ, ◌≡◌, ◌<◌, ◌-◌, ◌^◌, ◌==◌, min, false, if◌then◌else◌, IsTrue, List, [], ◌∷◌, ◌++◌, take, length, slice_get, Some, All}
+use Rattle.std.specs.Prelude.{ℕ, ◌≡◌, ◌<◌, ◌-◌, ◌^◌, ◌==◌, min, false, if◌then◌else◌, IsTrue, List, [], ◌∷◌, ◌++◌, take, drop, length, slice_get, Some, All}
 use Rattle.legs.specs.Costs.{ShapeView}
 use Rattle.legs.specs.Index.{feature_count}
 use Rattle.legs.specs.Legs.{IsLeg, LegView}
 use Rattle.pages.specs.declared.payload.Kind.TheVariants.{Header}
 use Rattle.pages.specs.declared.payload.Payload.{Payload}
 use Rattle.legs.specs.declared.listed.Listed.{Ghosts}
-use Rattle.pagecache.specs.Cache.{Cache, IsClean, is_changed, pages_as_written, sealed_payload}
+use Rattle.pagecache.specs.Cache.{Cache, IsClean, is_changed, pages_as_written, payload_of, sealed_payload}
 use Rattle.tbtree.specs.Descent.{content_of}
 use Rattle.tbtree.specs.Insert.{Stands, IsPlace}
 use Rattle.tbtree.specs.Nodes.{pages_of_cache}
@@ -61,6 +61,14 @@ pub record IsMarked (c : Cache) : Type 0 where
   pub payload : Payload
   pub sealed : sealed_payload c 0 ≡ Some payload
   pub unfinished : IsUnfinished payload
+
+-- a payload with that kind and those first 12 bytes
+abbrev pub marked : Payload → Payload
+marked payload = record { kind = Header; bytes = unfinished_front ++ drop 12 payload.bytes }
+
+-- over a faithful store page 0 has the payload that it had, marked
+abbrev pub MarksFirst : Cache → Cache → Type 0
+MarksFirst old new = IsTrue old.store.is_faithful → (p : Payload) → payload_of old 0 ≡ Some p → payload_of new 0 ≡ Some (marked p)
 
 -- what contracts say of an index over pages
 abbrev pub words : Ghosts IndexView

@@ -1,17 +1,11 @@
 -- Helpers of private functions: what marking makes of page 0.
-use Rattle.std.specs.Prelude.{ℕ, ◌≡◌, ◌≢◌, ◌≤◌, ◌<◌, ◌-◌, ◌^◌, ◌++◌, min, drop, IsTrue, None}
+use Rattle.std.specs.Prelude.{ℕ, ◌≡◌, ◌≢◌, ◌≤◌, ◌<◌, ◌-◌, ◌^◌, min, IsTrue, None}
 use Rattle.pages.specs.Store as store
 use Rattle.pages.specs.Store.{Faulted}
-use Rattle.pages.specs.declared.payload.Kind.TheVariants.{Header}
-use Rattle.pages.specs.declared.payload.Payload.{Payload}
 use Rattle.pagecache.specs.Cache.{Cache, payload_of}
 use Rattle.pagecache.specs.declared.fault.CacheFault.{CacheFault}
 use Rattle.pagecache.specs.declared.fault.CacheFault.TheVariants as cache
-use Rattle.boxsearch.specs.Index.{IsMarked, unfinished_front}
-
--- a payload that is marked
-abbrev pub marked : Payload → Payload
-marked payload = record { kind = Header; bytes = unfinished_front ++ drop 12 payload.bytes }
+use Rattle.boxsearch.specs.Index.{IsMarked}
 
 -- page 0 is marked, or nothing is
 pub record Marks (old new : Cache) : Type 0 where

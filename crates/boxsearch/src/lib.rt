@@ -7,10 +7,12 @@ mod fault;
 mod listed;
 mod marking;
 mod nodes;
+mod parts;
 mod tree_index;
 
 pub use descent::search;
 pub use fault::SearchFault;
+pub use parts::laws;
 pub use tree_index::TreeIndex;
 
 #[cfg(test)]

@@ -2,8 +2,8 @@
 ghost use Rattle.std.specs.Prelude.{◌≡◌, ◌<◌, ◌↔◌, drop, IsTrue, IfErr, OnErr, OnOk};
 ghost use Rattle.pages.specs.Store.{Faulted};
 ghost use Rattle.pagecache.specs.Cache.{IsClean, pages_as_written};
-ghost use Rattle.boxsearch.specs.Index.{IsMarked, IsUnfinished};
-ghost use Rattle.boxsearch.specs.Marking.{marked, Marks, IsNotMarked};
+ghost use Rattle.boxsearch.specs.Index.{marked, IsMarked, IsUnfinished, MarksFirst};
+ghost use Rattle.boxsearch.specs.Marking.{Marks, IsNotMarked};
 
 use pagecache::{CacheFault, PageCache};
 use pages::{Kind, PageStore, Payload};
@@ -32,6 +32,7 @@ fn set_unfinished(payload: &mut Payload)
 /// Marks page 0, where it is not marked, and writes all that is changed.
 pub(crate) fn mark_page<S: PageStore>(cache: &mut PageCache<S>) -> Result<(), CacheFault>
     ensures marks { Marks cache.old cache.new }
+    ensures header { OnOk result (MarksFirst cache.old cache.new) }
     ensures marked { OnOk result (IsTrue cache.old.store.is_faithful → 0 < cache.old.count
         → IsClean cache.old → IsMarked cache.new) }
     ensures others { OnErr result (IsTrue cache.old.store.is_faithful → IsClean cache.old

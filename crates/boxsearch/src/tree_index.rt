@@ -30,11 +30,11 @@ impl<S: PageStore> Model for TreeIndex<S> {
 }
 
 impl<S: PageStore> TreeIndex<S> {
-    ghost use Rattle.std.specs.Prelude.{◌≡◌, ◌<◌, [], false, length, slice_get, IsTrue, OnErr, OnOk};
+    ghost use Rattle.std.specs.Prelude.{ℕ, ◌≡◌, ◌<◌, [], false, length, slice_get, IsTrue, OnErr, OnOk};
     ghost use Rattle.pagecache.specs.Cache.{payload_of};
     ghost use Rattle.tbtree.specs.Nodes.{pages_of_cache};
     ghost use Rattle.chains.specs.Chains.{AreHeld};
-    ghost use Rattle.boxsearch.specs.Index.{content, new_index, words, IsSound, with_place};
+    ghost use Rattle.boxsearch.specs.Index.{content, new_index, words, IsSound, MarksFirst, with_place};
     ghost use Rattle.legs.specs.Asking.{Starts, Refusals};
     ghost use Rattle.boxsearch.specs.Putting.{Puts};
 
@@ -63,6 +63,11 @@ impl<S: PageStore> TreeIndex<S> {
     pub fn mark(&mut self) -> Result<(), IndexFault>
         ensures starts { Starts words self.old self.new result }
         ensures refusals { Refusals words self.old self.new result }
+
+        // Page 0 is what it was but for its kind and its first 12 bytes, and no other page has another payload.
+        ensures header { OnOk result (MarksFirst self.old.cache self.new.cache) }
+        ensures others { IsTrue self.old.cache.store.is_faithful → (n : ℕ) → 0 < n
+            → payload_of self.new.cache n ≡ payload_of self.old.cache n }
     {
         if self.tree.spent {
             return Err(IndexFault::Spent);

@@ -24,10 +24,11 @@ pub record Leaves {I : Type 0} (g : Ghosts I) (old new : I) : Type 0 where
   pub marked : g.is_marked old → g.is_marked new
   pub written : g.is_clean old → g.written new ≡ g.written old
 
--- why a question is refused: an index that is spent always says so; a sound one refuses for want of memory
--- or a store that failed alone, and the latter only where a fault was counted; none says that a store is full
+-- why a question is refused: an index that is spent always says so, and stays as it is; a sound one refuses
+-- for want of memory or a store that failed alone, and the latter only where a fault was counted; none says
+-- that a store is full
 pub record Refusals {I A : Type 0} (g : Ghosts I) (old new : I) (result : Result A IndexFault) : Type 0 where
-  pub was_spent : g.is_spent old ≡ true → result ≡ Err Spent
+  pub was_spent : g.is_spent old ≡ true → (result ≡ Err Spent) × (new ≡ old)
   pub sound : IfErr result (λ fault. g.is_sound old → MayRefuse fault)
   pub store : IsErrOf result Store → HasRisen (g.faults old) (g.faults new)
   pub full : IsErrOf result StoreFull → ⊥
@@ -59,11 +60,12 @@ AddAsks g old new leg =
 abbrev pub KeepsMarked : {I : Type 0} → Ghosts I → I → I → List LegView → Type 0
 KeepsMarked g old new legs = g.is_sound old → CanFollowInTurn (g.content old) legs → g.is_marked old → g.is_marked new
 
--- why legs are refused, and what a refusal leaves: the index is spent, and one that was spent always says so;
--- a sound one refuses legs that may follow for want of memory, a store that failed or is full alone
+-- why legs are refused, and what a refusal leaves: the index is spent, and one that was spent always says so,
+-- and stays as it is; a sound one refuses legs that may follow for want of memory, a store that failed or is
+-- full alone
 pub record LegRefusals {I A : Type 0} (g : Ghosts I) (old new : I) (legs : List LegView) (result : Result A IndexFault) : Type 0 where
   pub spent : OnErr result (g.is_spent new ≡ true)
-  pub was_spent : g.is_spent old ≡ true → result ≡ Err Spent
+  pub was_spent : g.is_spent old ≡ true → (result ≡ Err Spent) × (new ≡ old)
   pub sound : IfErr result (λ fault. g.is_sound old → CanFollowInTurn (g.content old) legs → MayRefuseLeg fault)
   pub store : IsErrOf result Store → HasRisen (g.faults old) (g.faults new)
   pub full : IsErrOf result StoreFull → g.is_store_full new

@@ -29,7 +29,7 @@ pub enum IndexFault {
 /// An index of legs, seen as the list of its legs in accepted order.
 ///
 /// A refused `add` leaves an index spent: it answers `Spent` to every later call but
-/// `len`, `spent` and `asked`. Any other refusal leaves the list as it was.
+/// `len`, `spent` and `asked`, and stays as it is. Any other refusal leaves the list as it was.
 pub trait LegIndex: Listed {
     ghost use Rattle.std.specs.Prelude.{◌≡◌, ◌∷◌, [], true, false, length, All, OnOk, IfOk};
     ghost use Rattle.legs.specs.Legs.{IsLeg};

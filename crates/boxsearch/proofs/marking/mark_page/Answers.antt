@@ -3,8 +3,8 @@ use Rattle.std.specs.Result.{is_ok}
 use Rattle.std.proofs.lemmas.Bool.{true≢false}
 use Rattle.pagecache.specs.Cache.{Rests, IsRefused}
 use Rattle.boxsearch.specs.Index.{IsUnfinished}
-use Rattle.boxsearch.proofs.MarkLemmas.{rests_marks, marks_trans, flushed_marks, is_marked, others_written, marked_is}
-use Rattle.boxsearch.proofs.ResultLemmas.{on_ok, on_fault, the_error}
+use Rattle.boxsearch.proofs.MarkLemmas.{first_marked, first_rests, rests_marks, marks_trans, flushed_marks, is_marked, others_written, marked_is}
+use Rattle.boxsearch.proofs.ResultLemmas.{on_any, on_ok, on_fault, the_error}
 use Rattle.boxsearch.proofs.marking.mark_page.Goals as goal
 
 pub returns-in_err-page-clause-marks : goal.returns-in_err-page-clause-marks
@@ -45,3 +45,15 @@ returns-clause-others g c =
     on_fault c.flush.result (λ f clean.
     others_written c.args.cache.now b (c.page_mut.follows.lender w) c.flush.new.self c.in_ok-page.field-0.now w c.page.follows.holds-at-none.0 c.in_ok-page.ensures.value not_marked
     (c.page_mut.follows.holds w (ap is_ok c.in_ok-page_mut.was)) c.flush.ensures.stays c.flush.ensures.length c.flush.ensures.asked f clean)
+
+pub returns-then-is_unfinished-clause-header : goal.returns-then-is_unfinished-clause-header
+returns-then-is_unfinished-clause-header g c = first_rests _ _ c.in_ok-page.field-0.now c.page.follows.holds-at-none.0 c.in_ok-page.ensures.value (c.is_unfinished.ensures.0 c.if-is_unfinished.true)
+
+pub returns-clause-header : goal.returns-clause-header
+returns-clause-header g c =
+    let b = c.page.follows.lender-at-none in
+    let w = c.set_unfinished.new.payload in
+    let not_marked : IsUnfinished c.in_ok-page.field-0.now → ⊥ = λ u. true≢false (sym (c.is_unfinished.ensures.1 u) ∙ c.if-is_unfinished.false) in
+    on_any c.flush.result
+    (first_marked c.args.cache.now b (c.page_mut.follows.lender w) c.flush.new.self c.in_ok-page.field-0.now w c.page.follows.holds-at-none.0 c.in_ok-page.ensures.value not_marked
+    (c.page_mut.follows.holds w (ap is_ok c.in_ok-page_mut.was)) c.flush.ensures.stays c.flush.ensures.length c.flush.ensures.asked c.in_ok-page_mut.field-0.now c.in_ok-page_mut.ensures.value c.set_unfinished.ensures)

@@ -41,4 +41,4 @@ returns-clause-refusals g c =
     let new : IndexView = record inside { cache = c.search.new.cache } in
     subst (λ i. Refusals words i new c.found.result) c.self.view_is
     (subst (λ r. Refusals words inside new r) (sym c.found.ensures)
-    (search_refusals inside c.search.new.cache c.search.result (λ legs v. v.items ≡ legs_in_box q legs) c.search.ensures.found (λ e. (c.search.ensures.spent e).0) c.search.ensures.caused))
+    (search_refusals inside c.search.new.cache c.search.result (λ legs v. v.items ≡ legs_in_box q legs) c.search.ensures.found c.search.ensures.spent c.search.ensures.caused))

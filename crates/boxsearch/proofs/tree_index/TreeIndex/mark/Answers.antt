@@ -1,6 +1,9 @@
-use Rattle.std.proofs.Common.{◌≡◌, subst, sym, false}
+use Rattle.std.proofs.Common.{ℕ, ◌≡◌, ◌<◌, subst, sym, false, IsTrue, OnOk}
 use Rattle.legs.specs.Asking.{Refusals, Starts}
-use Rattle.boxsearch.specs.Index.{IndexView, words}
+use Rattle.boxsearch.specs.Index.{IndexView, words, MarksFirst}
+use Rattle.pagecache.specs.Cache.{payload_of}
+use Rattle.boxsearch.specs.Answers.{of_cache}
+use Rattle.boxsearch.proofs.AnswerLemmas.{each_value}
 use Rattle.boxsearch.proofs.StartLemmas.{FirstLaws, starts, mark_refusals}
 use Rattle.boxsearch.proofs.tree_index.TreeIndex.mark.Goals as goal
 
@@ -8,7 +11,7 @@ pub returns-clause-starts : goal.returns-clause-starts
 returns-clause-starts g c =
     let inside : IndexView = record { cache = c.self.inside.cache; tree = c.self.inside.tree; places = c.self.inside.places.items; legs = c.self.inside.legs } in
     let new : IndexView = record inside { cache = c.mark_page.new.cache } in
-    let laws : FirstLaws = record { content = c.laws.ensures.first; stands = c.laws.ensures.first_stands } in
+    let laws : FirstLaws = record { content = c.laws.ensures.same; stands = c.laws.ensures.same_stands } in
     subst (λ i. Starts words i new c.of_pages.result) c.self.view_is
     (subst (λ r. Starts words inside new r) (sym c.of_pages.ensures)
     (starts laws inside c.mark_page.new.cache c.mark_page.ensures.marks c.mark_page.result c.mark_page.ensures.marked c.mark_page.ensures.others c.mark_page.ensures.first))
@@ -21,3 +24,15 @@ returns-clause-refusals g c =
     subst (λ i. Refusals words i new c.of_pages.result) c.self.view_is
     (subst (λ r. Refusals words inside new r) (sym c.of_pages.ensures)
     (mark_refusals inside c.mark_page.new.cache c.mark_page.result works c.mark_page.ensures.caused))
+
+pub returns-clause-header : goal.returns-clause-header
+returns-clause-header g c =
+    let new = c.mark_page.new.cache in
+    subst (λ i. OnOk c.of_pages.result (MarksFirst i.cache new)) c.self.view_is
+    (subst (λ r. OnOk r (MarksFirst c.self.inside.cache new)) (sym c.of_pages.ensures)
+    (each_value (λ fault. of_cache fault) (λ _. MarksFirst c.self.inside.cache new) c.mark_page.result c.mark_page.ensures.header))
+
+pub returns-clause-others : goal.returns-clause-others
+returns-clause-others g c =
+    let new = c.mark_page.new.cache in
+    subst (λ i. IsTrue i.cache.store.is_faithful → (n : ℕ) → 0 < n → payload_of new n ≡ payload_of i.cache n) c.self.view_is c.mark_page.ensures.marks.rest

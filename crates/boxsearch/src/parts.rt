@@ -1,0 +1,69 @@
+//! The parts of an index, for what is kept beside its tree.
+ghost use Rattle.std.specs.Prelude.{◌≡◌};
+ghost use Rattle.pagecache.specs.Cache.{Cache};
+ghost use Rattle.boxsearch.specs.Beside.{with_cache, IsBeside};
+ghost use Rattle.boxsearch.specs.Index.{content, IndexView, IsSound};
+
+use crate::tree_index::TreeIndex;
+use pagecache::PageCache;
+use pages::PageStore;
+use std::alloc::Global;
+use tbtree::{Place, TbTree};
+
+impl<S: PageStore> TreeIndex<S> {
+    ghost use Rattle.std.specs.Prelude.{◌≡◌};
+    ghost use Rattle.std.specs.Borrow.{sem};
+    ghost use Rattle.boxsearch.specs.Lending.{LendsCache};
+
+    /// An index of these parts: the cache of its pages, its tree, the place of each feature, and how many legs it has.
+    /// It is sound where they belong together, which is not tested.
+    pub fn from_parts(
+        alloc: Global,
+        cache: PageCache<S>,
+        tree: TbTree,
+        places: Vec<Place>,
+        legs: u64,
+    ) -> TreeIndex<S>
+        ensures { result ≡ record { cache = cache; tree = tree; places = places.items; legs = legs } }
+    {
+        TreeIndex {
+            alloc,
+            cache,
+            tree,
+            places,
+            legs,
+        }
+    }
+
+    /// The value of its tree.
+    pub fn tree(&self) -> TbTree
+        ensures { result ≡ self.now.tree }
+    {
+        self.tree
+    }
+
+    /// The place of each feature, in the order of their numbers.
+    pub fn places(&self) -> &[Place]
+        ensures { result.now ≡ self.now.places }
+    {
+        self.places.as_slice()
+    }
+
+    /// The cache of its pages, for what is kept in pages beside those of the tree.
+    pub fn cache_mut(&mut self) -> &mut PageCache<S>
+        ensures* lends { sem 𝓛 (LendsCache S.row S.PageStore self.entry result) }
+        ensures value { result.now ≡ self.old.cache }
+    {
+        &mut self.cache
+    }
+}
+
+/// What holds of an index beside whose tree pages are written, for the proofs of a caller. It does nothing.
+pub fn laws()
+    ensures content { (index : IndexView) (cache : Cache) → IsBeside index.cache cache
+        → content (with_cache index cache) ≡ content index }
+    ensures sound { (index : IndexView) (cache : Cache) → IsBeside index.cache cache
+        → IsSound index → IsSound (with_cache index cache) }
+{
+    tbtree::laws();
+}
