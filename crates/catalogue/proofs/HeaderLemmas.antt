@@ -1,11 +1,19 @@
 -- The header of a new store.
-use Rattle.std.proofs.Common.{ℕ, ◌≡◌, length, refl, sym, ap, ◌∙◌, arith, List, IsTrue, Some, Result, Ok, Err, IfOk}
+use Rattle.std.proofs.Common.{ℕ, ◌≡◌, ◌++◌, length, drop, refl, sym, ap, ◌∙◌, arith, List, IsTrue, Some, None, option_map, option_and_then, slice_get, Result, Ok, Err, IfOk}
 use Rattle.legs.specs.Costs.{ShapeView}
 use Rattle.legs.specs.Limits.{LimitsView}
-use Rattle.pagecache.specs.Cache.{Cache, payload_of}
+use Rattle.pages.specs.Store.{Store, IsLawful, Writes}
+use Rattle.pages.specs.Unsealed.{unsealed}
+use Rattle.pages.specs.Zero.{zero_payload}
+use Rattle.pages.specs.declared.payload.Kind.TheVariants.{Header}
+use Rattle.pages.specs.declared.payload.Payload.{Payload}
+use Rattle.pagecache.specs.Cache.{Cache, IsWritten, fresh, payload_of, stored_payload}
+use Rattle.tbnode.specs.Form.{node_of}
+use Rattle.tbtree.specs.Nodes.{pages_of_cache}
+use Rattle.chains.specs.Chains.{AreHeld}
 use Rattle.boxsearch.specs.Index.{IsMarked, IsUnfinished}
-use Rattle.catalogue.specs.Beginning.{Begins, page_of_bytes}
 use Rattle.catalogue.specs.Header.{header_bytes, header_payload}
+use Rattle.catalogue.proofs.BeginLemmas.{one_page}
 
 pub header_length : (shape : ShapeView) (limits : LimitsView) → length (header_bytes shape limits) ≡ 60
 unfolding header_bytes
@@ -19,16 +27,38 @@ pub if_ok : {T E : Type 0} (P Q : T → Type 0) (r : Result T E) → ((x : T) �
 if_ok P Q (Ok x) f h = f x h
 if_ok P Q (Err e) f h = tt
 
-pub header_of : (a d : Cache) (shape : ShapeView) (limits : LimitsView) (bytes : List ℕ) → bytes ≡ header_bytes shape limits → Begins bytes a d → IsTrue a.store.is_faithful → payload_of d 0 ≡ Some (header_payload shape limits)
-unfolding header_payload
-header_of a d shape limits bytes e b f = b.payload f ∙ ap (λ l. Some (page_of_bytes l)) e
+pub payload_is : (shape : ShapeView) (limits : LimitsView) (bytes : List ℕ) (zero set : Payload) → bytes ≡ header_bytes shape limits → zero ≡ zero_payload Header → set ≡ record zero { bytes = bytes ++ drop 60 zero.bytes } → set ≡ header_payload shape limits
+unfolding header_payload zero_payload
+payload_is shape limits bytes zero set e z s = s ∙ ap (λ (p : Payload). record p { bytes = bytes ++ drop 60 p.bytes }) z ∙ ap (λ (l : List ℕ). record (zero_payload Header) { bytes = l ++ drop 60 (zero_payload Header).bytes }) e
 
-pub marked_of : (a d : Cache) (shape : ShapeView) (limits : LimitsView) (bytes : List ℕ) → bytes ≡ header_bytes shape limits → Begins bytes a d → IsTrue a.store.is_faithful → IsMarked d
-marked_of a d shape limits bytes e b f = record {
-  faithful = b.faithful ∙ f;
-  there = (let o = b.one in omega (arith, o));
-  unchanged = b.written.clean 0;
-  payload = header_payload shape limits;
-  sealed = sym (b.written.sealed (b.faithful ∙ f) 0) ∙ header_of a d shape limits bytes e b f;
-  unfinished = header_unfinished shape limits;
-}
+-- a cache over a store whose page 0 is the seal of a payload, alone
+module _ (a s : Store) (page : List ℕ) (p : Payload) (capacity : ℕ) (l : IsLawful a) (empty : a.count ≡ 0) (w : Writes 0 page a s) (back : unsealed 0 page ≡ Some p) (written : IsWritten (fresh s capacity)) where
+  abbrev cache : Cache
+  cache = fresh s capacity
+
+  pub one : cache.count ≡ 1
+  one = let x = w.count in omega (arith, x, empty)
+
+  faithful : IsTrue a.is_faithful → IsTrue s.is_faithful
+  faithful f = w.keeps.faithful ∙ f
+
+  pub payload : IsTrue a.is_faithful → payload_of cache 0 ≡ Some p
+  unfolding stored_payload
+  payload f = written.stored (faithful f) refl 0 ∙ ap (λ (pages : List (List ℕ)). option_and_then (unsealed 0) (slice_get pages 0)) (one_page a s page l empty w f) ∙ back
+
+  pub marked : IsUnfinished p → IsTrue a.is_faithful → IsMarked cache
+  marked u f = record {
+    faithful = faithful f;
+    there = (let o = one in omega (arith, o));
+    unchanged = written.clean 0;
+    payload = p;
+    sealed = sym (written.sealed (faithful f) 0) ∙ payload f;
+    unfinished = u;
+  }
+
+  pub held : IsTrue a.is_faithful → AreHeld (pages_of_cache cache)
+  held f n below e =
+      let o = one in
+      let z : 0 ≡ n = omega (arith, below, o) in
+      let none : Some (node_of p) ≡ None = sym (ap (option_map node_of) (payload f)) ∙ ap (pages_of_cache cache).at z ∙ e in
+      absurd cc

@@ -1,2 +1,14 @@
-pub mod HeaderLemmas
 pub mod BeginLemmas
+pub mod ReaderLemmas
+pub mod ValueLemmas
+pub mod PrefixLemmas
+pub mod SequenceLemmas
+pub mod EntryLemmas
+pub mod KeptLemmas
+pub mod SpareLemmas
+pub mod ChainLemmas
+pub mod WriterLemmas
+pub mod WholeLemmas
+pub mod HeaderLemmas
+pub mod EncodingLemmas
+pub mod FieldsLemmas

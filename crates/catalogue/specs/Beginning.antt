@@ -1,24 +1,23 @@
 -- What a new store begins with, and why none is begun.
-use Rattle.std.specs.Prelude.{ℕ, ◌≡◌, ◌++◌, List, drop, IsTrue, Some}
+use Rattle.std.specs.Prelude.{◌≡◌, ◌≤◌, ◌⊎◌, ◌∷◌, [], IsTrue}
+use Rattle.legs.specs.Costs.{ShapeView}
+use Rattle.legs.specs.Limits.{LimitsView}
+use Rattle.pages.specs.Sealed.{sealed}
 use Rattle.pages.specs.Store.{Store, Faulted}
-use Rattle.pages.specs.Zero.{zero_payload}
-use Rattle.pages.specs.declared.payload.Kind.TheVariants.{Header}
 use Rattle.pages.specs.declared.payload.Payload.{Payload}
-use Rattle.pagecache.specs.Cache.{Cache, IsWritten, payload_of}
 use Rattle.pagecache.specs.declared.fault.CacheFault.{CacheFault}
 use Rattle.pagecache.specs.declared.fault.CacheFault.TheVariants as cache
+use Rattle.catalogue.specs.Header.{header_payload}
 
--- a page of zeros with these bytes at its front
-abbrev pub page_of_bytes : List ℕ → Payload
-page_of_bytes bytes = record { kind = Header; bytes = bytes ++ drop 60 (zero_payload Header).bytes }
+-- what is left of an empty store whose page 0 was to be this payload: there is no page but page 0; of a faithful
+-- store there is none, or page 0 as written is exactly the seal of the payload, or the store failed
+pub record IsFirst (payload : Payload) (old new : Store) : Type 0 where
+  pub few : new.count ≤ 1
+  pub first : IsTrue old.is_faithful → (new.pages ≡ []) ⊎ ((new.pages ≡ sealed 0 payload ∷ []) ⊎ Faulted old new)
 
--- page 0 is there, alone, and as written has these bytes at its front
-pub record Begins (bytes : List ℕ) (old new : Cache) : Type 0 where
-  pub one : new.count ≡ 1
-  pub length : new.count ≡ new.store.count
-  pub faithful : new.store.is_faithful ≡ old.store.is_faithful
-  pub payload : IsTrue old.store.is_faithful → payload_of new 0 ≡ Some (page_of_bytes bytes)
-  pub written : IsWritten new
+-- of one that was not begun: page 0 was to be the unfinished header of this shape and these limits
+abbrev pub IsLeft : ShapeView → LimitsView → Store → Store → Type 0
+IsLeft shape limits old new = IsFirst (header_payload shape limits) old new
 
 -- the refusals over a faithful store
 abbrev pub IsAllowed : CacheFault → Type 0

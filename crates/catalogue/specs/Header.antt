@@ -1,5 +1,5 @@
 -- The header of a store, in its page 0.
-use Rattle.std.specs.Prelude.{ℕ, ◌++◌, List, [], ◌∷◌, drop}
+use Rattle.std.specs.Prelude.{ℕ, ◌++◌, List, drop}
 use Rattle.byteorder.specs.Endian.{big_bytes}
 use Rattle.boxsearch.specs.Index.{unfinished_front}
 use Rattle.legs.specs.Costs.{ShapeView}

@@ -1,2 +1,9 @@
 pub mod Header
 pub mod Beginning
+pub mod Text
+pub mod Chain
+pub mod ChainWriter
+pub mod ChainSteps
+pub mod ChainReader
+pub mod Saved
+pub mod Fields

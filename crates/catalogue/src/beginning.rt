@@ -1,36 +1,42 @@
 //! A new store.
-ghost use Rattle.std.specs.Prelude.{◌≡◌, ◌<◌, [], Some, false, length, IfOk, IfErr, IsTrue, OnOk};
-ghost use Rattle.pages.specs.Store as store;
-ghost use Rattle.pagecache.specs.Cache.{IsClean, payload_of};
+ghost use Rattle.std.specs.Prelude.{◌≡◌, ◌<◌, [], Some, false, IfOk, IfErr, IsTrue, OnErr, OnOk};
+ghost use Rattle.pages.specs.Sealed.{sealed};
+ghost use Rattle.pages.specs.Unsealed.{unsealed};
+ghost use Rattle.pages.specs.Store.{Keeps, Writes};
+ghost use Rattle.pagecache.specs.Cache.{IsClean, IsWritten, payload_of};
 ghost use Rattle.boxsearch.specs.Index.{content, IsMarked, IsSound};
-ghost use Rattle.catalogue.specs.Beginning.{Begins, IsAllowed, IsCaused};
+ghost use Rattle.catalogue.specs.Beginning.{IsAllowed, IsCaused, IsLeft, IsFirst};
 ghost use Rattle.catalogue.specs.Header.{header_payload};
 
-use crate::header::{new_header, set_header};
+use crate::header::new_payload;
 use boxsearch::TreeIndex;
 use legs::Limits;
 use pagecache::{CacheFault, PageCache};
-use pages::{Kind, PageStore};
+use pages::{PageStore, Payload, seal};
 use std::alloc::Global;
 use tbtree::Shape;
 
-/// Adds page 0 with these bytes at its front, and writes it.
-fn add_header<S: PageStore>(cache: &mut PageCache<S>, bytes: &[u8]) -> Result<(), CacheFault>
-    requires len { length bytes.now ≡ 60 }
-    requires none { cache.old.count ≡ 0 }
-    requires empty { cache.old.store.count ≡ 0 }
-    ensures begins { OnOk result (Begins bytes.now cache.old cache.new) }
-    ensures keeps { store.Keeps cache.old.store cache.new.store }
-    ensures only { IsTrue cache.old.store.is_faithful → IfErr result IsAllowed }
-    ensures caused { IfErr result (IsCaused cache.old.store cache.new.store) }
+/// Writes page 0 of a store that has no page, whole and at once, and makes it last.
+fn write_first<S: PageStore>(store: &mut S, payload: &Payload) -> Result<(), CacheFault>
+    requires empty { (S.seen store.old).count ≡ 0 }
+    ensures written { OnOk result (Writes 0 (sealed 0 payload.now) (S.seen store.old)
+        (S.seen store.new)) }
+    ensures reads_back { OnOk result (unsealed 0 (sealed 0 payload.now) ≡ Some payload.now) }
+    ensures keeps { Keeps (S.seen store.old) (S.seen store.new) }
+    ensures left { OnErr result (IsFirst payload.now (S.seen store.old) (S.seen store.new)) }
+    ensures only { IfErr result IsAllowed }
+    ensures caused { IfErr result (IsCaused (S.seen store.old) (S.seen store.new)) }
 {
-    let page = cache.add_page(Kind::Header)?;
-    set_header(cache.page_mut(page)?, bytes);
-    cache.flush()
+    if store.most() == 0 {
+        return Err(CacheFault::StoreFull);
+    }
+    store.write(0, &seal(0, payload))?;
+    store.sync()?;
+    Ok(())
 }
 
 /// An index without legs over an empty store, to which it adds page 0: the header of a store that is not finished, of
-/// this shape and these limits. The cache holds at most that many pages, at least 1.
+/// this shape and these limits, written whole at once. The cache holds at most that many pages, at least 1.
 ///
 /// Refused for want of memory, and where the store fails or has no room for a page; the store is then handed back.
 pub fn begin<S: PageStore>(
@@ -45,7 +51,12 @@ pub fn begin<S: PageStore>(
     ensures empty { IfOk result (λ index. content index ≡ []) }
     ensures shape { IfOk result (λ index. index.tree.shape ≡ shape) }
     ensures works { IfOk result (λ index. index.tree.spent ≡ false) }
+    ensures count { IfOk result (λ index. index.cache.count ≡ 1) }
+    ensures capacity { IfOk result (λ index. index.cache.capacity ≡ cache_pages) }
     ensures clean { IfOk result (λ index. IsClean index.cache) }
+    ensures written { IfOk result (λ index. IsWritten index.cache) }
+    ensures stored { IfOk result (λ index. Writes 0 (sealed 0 (header_payload shape limits.now))
+        (S.seen store) index.cache.store) }
     ensures sound { IfOk result (λ index. IsTrue (S.seen store).is_faithful → IsSound index) }
     ensures marked { IfOk result (λ index. IsTrue (S.seen store).is_faithful
         → IsMarked index.cache) }
@@ -53,17 +64,23 @@ pub fn begin<S: PageStore>(
         → payload_of index.cache 0 ≡ Some (header_payload shape limits.now)) }
     ensures only { IfErr result (λ back. IsTrue (S.seen store).is_faithful → IsAllowed back.1) }
     ensures caused { IfErr result (λ back. IsCaused (S.seen store) (S.seen back.0) back.1) }
+
+    // The store that is handed back.
+    ensures kept { IfErr result (λ back. Keeps (S.seen store) (S.seen back.0)) }
+    ensures left { IfErr result (λ back. IsLeft shape limits.now (S.seen store)
+        (S.seen back.0)) }
 {
-    let bytes = match new_header(alloc, &shape, limits) {
-        Ok(bytes) => bytes,
+    let mut store = store;
+    let payload = match new_payload(alloc, &shape, limits) {
+        Ok(payload) => payload,
         Err(_) => return Err((store, CacheFault::Memory)),
     };
-    let mut cache = match PageCache::new(alloc, store, cache_pages) {
-        Ok(cache) => cache,
-        Err((store, _)) => return Err((store, CacheFault::Memory)),
-    };
-    match add_header(&mut cache, &bytes) {
-        Ok(()) => Ok(TreeIndex::new(alloc, cache, shape)),
-        Err(fault) => Err((cache.into_store(), fault)),
+    match write_first(&mut store, &payload) {
+        Ok(()) => {}
+        Err(fault) => return Err((store, fault)),
+    }
+    match PageCache::new(alloc, store, cache_pages) {
+        Ok(cache) => Ok(TreeIndex::new(alloc, cache, shape)),
+        Err((store, _)) => Err((store, CacheFault::Memory)),
     }
 }

@@ -4,7 +4,7 @@ ghost use Rattle.byteorder.specs.Endian.{big_bytes};
 ghost use Rattle.catalogue.specs.Header.{empty_bytes, header_bytes, header_payload};
 
 use legs::Limits;
-use pages::Payload;
+use pages::{Kind, Payload};
 use std::alloc::{AllocError, Global};
 use tbtree::Shape;
 
@@ -70,12 +70,8 @@ fn new_bytes(alloc: Global, shape: &Shape, limits: &Limits) -> Result<Vec<u8>, A
     Ok(bytes)
 }
 
-/// The payload of page 0 of a new store.
-pub(crate) fn new_header(
-    alloc: Global,
-    shape: &Shape,
-    limits: &Limits,
-) -> Result<Vec<u8>, AllocError>
+/// How the payload of page 0 of a new store begins.
+fn new_header(alloc: Global, shape: &Shape, limits: &Limits) -> Result<Vec<u8>, AllocError>
     ensures bytes { IfOk result (λ bytes. bytes.items ≡ header_bytes shape.now limits.now) }
     ensures len { IfOk result (λ bytes. length bytes.items ≡ 60) }
 {
@@ -83,9 +79,23 @@ pub(crate) fn new_header(
 }
 
 /// Writes the header of a new store to a page of zeros.
-pub(crate) fn set_header(payload: &mut Payload, bytes: &[u8])
+fn set_header(payload: &mut Payload, bytes: &[u8])
     requires { length bytes.now ≡ 60 }
     ensures { payload.new ≡ record payload.old { bytes = bytes.now ++ drop 60 payload.old.bytes } }
 {
     payload.bytes[..60].copy_from_slice(bytes);
+}
+
+/// The payload of page 0 of a new store.
+pub(crate) fn new_payload(
+    alloc: Global,
+    shape: &Shape,
+    limits: &Limits,
+) -> Result<Payload, AllocError>
+    ensures { IfOk result (λ payload. payload ≡ header_payload shape.now limits.now) }
+{
+    let bytes = new_header(alloc, shape, limits)?;
+    let mut payload = Payload::zero(Kind::Header);
+    set_header(&mut payload, &bytes);
+    Ok(payload)
 }

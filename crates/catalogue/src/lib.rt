@@ -2,9 +2,20 @@
 #![tactic(auto)]
 
 mod beginning;
+mod chain_reader;
+mod chain_writer;
+mod contents;
+mod encoding;
+mod entries;
+mod fault;
 mod header;
+mod header_fields;
+mod numbers;
+mod values;
+mod whole_text;
 
 pub use beginning::begin;
+pub use fault::CatalogueFault;
 
 #[cfg(test)]
 mod tests;

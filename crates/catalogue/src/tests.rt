@@ -1,7 +1,7 @@
 use super::*;
 use legs::{LegIndex, Limits};
 use pagecache::CacheFault;
-use pages::{MemStore, PageStore};
+use pages::{Fuse, MemStore, PageStore};
 use std::alloc::Global;
 use tbtree::Shape;
 
@@ -37,4 +37,22 @@ fn a_new_store_has_its_header(rt: HostRuntime) {
 #[test]
 fn a_store_without_room_is_handed_back(rt: HostRuntime) {
     assert!(rt; begun(rt.alloc(), 0) == Some(Err((CacheFault::StoreFull, 0))));
+}
+
+/// Why none is begun over a store of which the call after so many fails, and how many pages there are then.
+fn failed(alloc: Global, calls: u64) -> Option<(CacheFault, u32)> {
+    let shape = Shape::new(50, 72)?;
+    let limits = Limits::new(1 << 24, 1 << 20)?;
+    let store = Fuse::new(MemStore::new(alloc, 2), calls, false);
+    match begin(alloc, store, shape, 4, &limits) {
+        Ok(_) => None,
+        Err((store, fault)) => Some((fault, store.len())),
+    }
+}
+
+#[test]
+fn a_store_that_fails_is_handed_back(rt: HostRuntime) {
+    assert!(rt; failed(rt.alloc(), 0) == Some((CacheFault::Store, 0)));
+    assert!(rt; failed(rt.alloc(), 1) == Some((CacheFault::Store, 1)));
+    assert!(rt; failed(rt.alloc(), 2) == None);
 }

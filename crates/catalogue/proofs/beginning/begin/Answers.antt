@@ -1,18 +1,39 @@
-use Rattle.std.proofs.Common.{◌≡◌, ap, sym, subst, ◌∙◌, IsTrue, Some}
-use Rattle.pagecache.specs.Cache.{Cache, payload_of}
-use Rattle.boxsearch.specs.Index.{IndexView, IsMarked}
+use Rattle.std.proofs.Common.{◌≡◌, ap, sym, subst, ◌∙◌, arith, IsTrue, Some}
+use Rattle.tbtree.specs.Nodes.{pages_of_cache}
+use Rattle.chains.specs.Chains.{AreHeld}
+use Rattle.pagecache.specs.Cache.{Cache, IsWritten, fresh, payload_of}
+use Rattle.boxsearch.specs.Index.{IndexView, IsMarked, IsUnfinished}
 use Rattle.catalogue.specs.Header.{header_payload}
-use Rattle.catalogue.proofs.HeaderLemmas.{header_of, marked_of}
+use Rattle.catalogue.proofs.HeaderLemmas.{header_unfinished, held, marked, payload}
 use Rattle.catalogue.proofs.beginning.begin.Goals as goal
 
-pub returns-in-Ok-add_header-clause-marked : goal.returns-in-Ok-add_header-clause-marked
-returns-in-Ok-add_header-clause-marked g c = λ f.
-    let fresh = ap (λ (v : Cache). v.store.is_faithful) c.in-Ok-new.ensures.fresh in
-    subst (λ v. IsMarked v) (sym (ap (λ (i : IndexView). i.cache) c.new-in-Ok-add_header.ensures.value))
-    (marked_of _ _ c.args.shape c.args.limits.now _ (c.deref.ensures.value ∙ c.in-Ok.ensures.bytes) c.in-Ok-add_header.ensures.begins (fresh ∙ f))
+pub returns-in-Ok-new-clause-sound : goal.returns-in-Ok-new-clause-sound
+returns-in-Ok-new-clause-sound g c = λ f.
+    let a = g.S.PageStore.seen c.args.store in
+    let s = g.S.PageStore.seen c.write_first.new.store in
+    let w = c.in-Ok-write_first.ensures.written in
+    let lawful = g.met.S.PageStore.lawful c.args.store in
+    let fresh_is = c.in-Ok-new.ensures.fresh in
+    let written : IsWritten (fresh s c.args.cache_pages) = subst (λ v. IsWritten v) fresh_is c.in-Ok-new.ensures.written in
+    let empty = c.requires.empty in
+    let first = w.count in
+    let count = ap (λ (v : Cache). v.count) fresh_is in
+    c.new-in-Ok-new.ensures.sound (subst (λ (v : Cache). IsTrue v.store.is_faithful) (sym fresh_is) (w.keeps.faithful ∙ f)) (omega (arith, count, first, empty))
+    (subst (λ v. AreHeld (pages_of_cache v)) (sym fresh_is) (held a s _ c.in-Ok.payload c.args.cache_pages lawful empty w c.in-Ok-write_first.ensures.reads_back written f)) (count ∙ sym (ap (λ (v : Cache). v.store.count) fresh_is))
 
-pub returns-in-Ok-add_header-clause-header : goal.returns-in-Ok-add_header-clause-header
-returns-in-Ok-add_header-clause-header g c = λ f.
-    let fresh = ap (λ (v : Cache). v.store.is_faithful) c.in-Ok-new.ensures.fresh in
-    subst (λ v. payload_of v 0 ≡ Some (header_payload c.args.shape c.args.limits.now)) (sym (ap (λ (i : IndexView). i.cache) c.new-in-Ok-add_header.ensures.value))
-    (header_of _ _ c.args.shape c.args.limits.now _ (c.deref.ensures.value ∙ c.in-Ok.ensures.bytes) c.in-Ok-add_header.ensures.begins (fresh ∙ f))
+pub returns-in-Ok-new-clause-marked : goal.returns-in-Ok-new-clause-marked
+returns-in-Ok-new-clause-marked g c = λ f.
+    let a = g.S.PageStore.seen c.args.store in
+    let s = g.S.PageStore.seen c.write_first.new.store in
+    let written : IsWritten (fresh s c.args.cache_pages) = subst (λ v. IsWritten v) c.in-Ok-new.ensures.fresh c.in-Ok-new.ensures.written in
+    let unfinished : IsUnfinished c.in-Ok.payload = subst (λ p. IsUnfinished p) (sym c.in-Ok.ensures) (header_unfinished c.args.shape c.args.limits.now) in
+    subst (λ v. IsMarked v) (sym c.in-Ok-new.ensures.fresh ∙ sym (ap (λ (i : IndexView). i.cache) c.new-in-Ok-new.ensures.value))
+    (marked a s _ c.in-Ok.payload c.args.cache_pages (g.met.S.PageStore.lawful c.args.store) c.requires.empty c.in-Ok-write_first.ensures.written c.in-Ok-write_first.ensures.reads_back written unfinished f)
+
+pub returns-in-Ok-new-clause-header : goal.returns-in-Ok-new-clause-header
+returns-in-Ok-new-clause-header g c = λ f.
+    let a = g.S.PageStore.seen c.args.store in
+    let s = g.S.PageStore.seen c.write_first.new.store in
+    let written : IsWritten (fresh s c.args.cache_pages) = subst (λ v. IsWritten v) c.in-Ok-new.ensures.fresh c.in-Ok-new.ensures.written in
+    subst (λ v. payload_of v 0 ≡ Some (header_payload c.args.shape c.args.limits.now)) (sym c.in-Ok-new.ensures.fresh ∙ sym (ap (λ (i : IndexView). i.cache) c.new-in-Ok-new.ensures.value))
+    (payload a s _ c.in-Ok.payload c.args.cache_pages (g.met.S.PageStore.lawful c.args.store) c.requires.empty c.in-Ok-write_first.ensures.written c.in-Ok-write_first.ensures.reads_back written f ∙ ap Some c.in-Ok.ensures)

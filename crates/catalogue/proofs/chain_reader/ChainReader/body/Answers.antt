@@ -1,0 +1,15 @@
+use Rattle.std.proofs.Common.{sym, subst}
+use Rattle.pagecache.specs.Cache.{payload_of}
+use Rattle.catalogue.specs.ChainReader.{rest_of}
+use Rattle.catalogue.specs.Text.{body_text, IsBody}
+use Rattle.catalogue.proofs.SequenceLemmas.{Lacks}
+use Rattle.catalogue.proofs.WholeLemmas.{no_body}
+use Rattle.catalogue.proofs.chain_reader.ChainReader.body.Goals as goal
+
+pub returns-in-Err-clause-takes : goal.returns-in-Err-clause-takes
+returns-in-Err-clause-takes g c = λ fa.
+    let old = rest_of (payload_of c.args.cache.now) c.args.self.now in
+    record {
+      taken = tt;
+      lacks = λ b. subst (λ n. Lacks body_text (IsBody n) old) (sym c.in-1.is) (no_body old ((c.in-Err.ensures.takes fa).lacks b));
+    }

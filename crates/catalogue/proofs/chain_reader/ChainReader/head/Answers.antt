@@ -1,0 +1,18 @@
+use Rattle.std.proofs.Common.{◌∙◌}
+use Rattle.std.proofs.lemmas.Result.{err_from_is_err_and}
+use Rattle.pagecache.specs.Cache.{payload_of}
+use Rattle.catalogue.specs.ChainReader.{rest_of}
+use Rattle.catalogue.specs.Text.{head_text, IsHead}
+use Rattle.catalogue.proofs.EntryLemmas.{no_space}
+use Rattle.catalogue.proofs.SequenceLemmas.{lacks_err}
+use Rattle.catalogue.proofs.chain_reader.ChainReader.head.Goals as goal
+
+pub returns-in_err-space-clause-takes : goal.returns-in_err-space-clause-takes
+returns-in_err-space-clause-takes g c = λ fa.
+    let p = err_from_is_err_and c.from_residual-in_err-space.result c.from_residual-in_err-space.ensures.1 in
+    let old = rest_of (payload_of c.args.cache.now) c.args.self.now in
+    let mid = rest_of (payload_of c.i64.new.cache) c.i64.new.self in
+    let new = rest_of (payload_of c.space.new.cache) c.space.new.self in
+    let first = (c.in_ok-base.ensures.takes fa).taken in
+    lacks_err head_text IsHead old new c.from_residual-in_err-space.result c.in_err-space.field-0.0 p.0 p.1 p.2
+    (λ b. no_space c.in_ok-base.base old mid first.0 first.1 ((c.in_err-space.ensures.takes (c.in_ok-base.ensures.reads.store.faithful ∙ fa)).lacks b))

@@ -1,0 +1,25 @@
+use Rattle.std.proofs.Common.{◌∙◌}
+use Rattle.std.proofs.lemmas.Result.{err_from_is_err_and}
+use Rattle.pagecache.specs.Cache.{payload_of}
+use Rattle.catalogue.specs.ChainReader.{rest_of}
+use Rattle.catalogue.specs.Text.{space_text, IsSpace}
+use Rattle.catalogue.proofs.EntryLemmas.{no_crs, no_space_columns}
+use Rattle.catalogue.proofs.SequenceLemmas.{lacks_err}
+use Rattle.catalogue.proofs.chain_reader.ChainReader.space.Goals as goal
+
+pub returns-in_err-crs-clause-takes : goal.returns-in_err-crs-clause-takes
+returns-in_err-crs-clause-takes g c = λ fa.
+    let p = err_from_is_err_and c.from_residual.result c.from_residual.ensures.1 in
+    let old = rest_of (payload_of c.args.cache.now) c.args.self.now in
+    let new = rest_of (payload_of c.text.new.cache) c.text.new.self in
+    lacks_err space_text IsSpace old new c.from_residual.result c.in_err-crs.field-0.0 p.0 p.1 p.2 (λ b. no_crs old ((c.in_err-crs.ensures.takes fa).lacks b))
+
+pub returns-in_err-columns-clause-takes : goal.returns-in_err-columns-clause-takes
+returns-in_err-columns-clause-takes g c = λ fa.
+    let p = err_from_is_err_and c.from_residual-in_err-columns.result c.from_residual-in_err-columns.ensures.1 in
+    let old = rest_of (payload_of c.args.cache.now) c.args.self.now in
+    let mid = rest_of (payload_of c.text.new.cache) c.text.new.self in
+    let new = rest_of (payload_of c.counted_columns.new.cache) c.counted_columns.new.self in
+    let first = (c.in_ok-crs.ensures.takes fa).taken in
+    lacks_err space_text IsSpace old new c.from_residual-in_err-columns.result c.in_err-columns.field-0.0 p.0 p.1 p.2
+    (λ b. no_space_columns c.in_ok-crs.crs old mid first.0 first.1 ((c.in_err-columns.ensures.takes (c.in_ok-crs.ensures.reads.store.faithful ∙ fa)).lacks b))

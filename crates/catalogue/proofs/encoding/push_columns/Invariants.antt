@@ -1,0 +1,8 @@
+use Rattle.std.proofs.Common.{◌≡◌, ◌++◌, take}
+use Rattle.std.specs.List.{flat_map}
+use Rattle.catalogue.specs.Text.{column_text}
+use Rattle.catalogue.proofs.encoding.push_columns.Given as goal
+
+-- the columns so far
+abbrev pub invariant-loop-column : goal.invariant-loop-column
+invariant-loop-column l = l.writer ≡ record l.initial.writer { text = l.initial.writer.text ++ flat_map column_text (take l.column-index l.columns) }

@@ -1,0 +1,20 @@
+use Rattle.std.proofs.Common.{ap, ◌∙◌, arith, FitsSigned}
+use Rattle.std.specs.Int.{w64}
+use Rattle.std.proofs.lemmas.Int.{to_z-of_z, ints}
+use Rattle.tbnode.specs.Parts.{signed_bytes}
+use Rattle.catalogue.specs.Text.{columns_text, short_text, space_text}
+use Rattle.catalogue.specs.Saved.{head_of}
+use Rattle.catalogue.proofs.EncodingLemmas.{extended, then_pushed}
+use Rattle.catalogue.proofs.encoding.push_head.Goals as goal
+
+pub returns : goal.returns
+returns c =
+    let w = c.args.writer.now in
+    let head = c.args.head.now in
+    let value = c.millis.ensures.value in
+    let moment = c.millis.ensures.moment in
+    let fits : FitsSigned w64 c.millis.result = search (arith, ints) in
+    let base = c.in_ok-push_i64.ensures ∙ ap (λ z. extended w (signed_bytes z)) (to_z-of_z w64 c.millis.result fits ∙ value) in
+    let crs = c.in_ok-push_text.ensures ∙ ap (λ t. extended c.push_i64.new.writer (short_text t)) c.as_str.ensures in
+    let space = then_pushed c.push_columns.result c.push_i64.new.writer c.push_text.new.writer c.push_columns.new.writer (short_text head.crs) (columns_text head.columns) crs c.push_columns.ensures in
+    then_pushed c.push_columns.result w c.push_i64.new.writer c.push_columns.new.writer (signed_bytes head.base) (space_text (head_of head).space) base space

@@ -1,0 +1,145 @@
+//! The parts of a catalogue's text, as they are put behind one another.
+ghost use Rattle.std.specs.Prelude.{◌≡◌, ◌++◌, ◌∷◌, [], replicate, OnOk};
+ghost use Rattle.std.specs.List.{flat_map};
+ghost use Rattle.byteorder.specs.Endian.{big_bytes};
+ghost use Rattle.tbnode.specs.Parts.{signed_bytes};
+ghost use Rattle.catalogue.specs.Saved.{head_of};
+ghost use Rattle.catalogue.specs.Text.{column_text, columns_text, head_text, kept_text, row_text, short_text};
+
+use crate::chain_writer::ChainWriter;
+use crate::contents::Kept;
+use legs::BookHead;
+use mfcsv::{Column, Columns, Text, Values};
+use std::alloc::AllocError;
+use tbtree::Place;
+
+/// Puts a byte at the end of the text.
+pub(crate) fn push_byte(writer: &mut ChainWriter, n: u8) -> Result<(), AllocError>
+    ensures { OnOk result (writer.new ≡ record writer.old { text = writer.old.text ++ n ∷ [] }) }
+{
+    writer.push(&[n])
+}
+
+/// Puts a number of four bytes at the end of the text.
+pub(crate) fn push_u32(writer: &mut ChainWriter, n: u32) -> Result<(), AllocError>
+    ensures { OnOk result (writer.new ≡ record writer.old { text = writer.old.text ++ big_bytes 4 n }) }
+{
+    writer.push(&n.to_be_bytes())
+}
+
+/// Puts a number of eight bytes at the end of the text.
+pub(crate) fn push_u64(writer: &mut ChainWriter, n: u64) -> Result<(), AllocError>
+    ensures { OnOk result (writer.new ≡ record writer.old { text = writer.old.text ++ big_bytes 8 n }) }
+{
+    writer.push(&n.to_be_bytes())
+}
+
+/// Puts a number of eight bytes at the end of the text, as two's complement.
+pub(crate) fn push_i64(writer: &mut ChainWriter, n: i64) -> Result<(), AllocError>
+    ensures { OnOk result (writer.new ≡ record writer.old { text = writer.old.text ++ signed_bytes n }) }
+{
+    writer.push(&n.to_be_bytes())
+}
+
+/// Puts a text behind its length at the end.
+pub(crate) fn push_text(writer: &mut ChainWriter, text: &str) -> Result<(), AllocError>
+    ensures { OnOk result (writer.new ≡ record writer.old { text = writer.old.text ++ short_text text.now }) }
+{
+    push_u64(writer, text.len() as u64)?;
+    writer.push(text.as_bytes())
+}
+
+/// Puts an attribute column at the end of the text.
+pub(crate) fn push_column(writer: &mut ChainWriter, column: &Column) -> Result<(), AllocError>
+    ensures { OnOk result (writer.new ≡ record writer.old { text = writer.old.text ++ column_text column.now }) }
+{
+    push_text(writer, column.name.as_str())?;
+    push_text(writer, column.kind.as_str())
+}
+
+/// Puts attribute columns behind their number at the end of the text.
+pub(crate) fn push_columns(writer: &mut ChainWriter, columns: &Columns) -> Result<(), AllocError>
+    ensures { OnOk result (writer.new ≡ record writer.old { text = writer.old.text ++ columns_text columns.now }) }
+{
+    let columns = columns.as_slice();
+    push_u64(writer, columns.len() as u64)?;
+    for column in columns {
+        push_column(writer, column)?;
+    }
+    Ok(())
+}
+
+/// Puts what is kept of a head at the end of the text.
+pub(crate) fn push_head(writer: &mut ChainWriter, head: &BookHead) -> Result<(), AllocError>
+    ensures { OnOk result (writer.new ≡ record writer.old { text = writer.old.text ++ head_text (head_of head.now) }) }
+{
+    push_i64(writer, head.base.millis())?;
+    push_text(writer, head.crs.as_str())?;
+    push_columns(writer, &head.columns)
+}
+
+/// Puts the place of a feature at the end of the text.
+fn push_place(writer: &mut ChainWriter, place: &Place) -> Result<(), AllocError>
+    ensures { OnOk result (writer.new ≡ record writer.old {
+      text = writer.old.text
+          ++ (big_bytes 4 place.now.first ++ (big_bytes 4 place.now.last
+          ++ (big_bytes 4 place.now.last_index ++ big_bytes 8 place.now.legs)));
+    }) }
+{
+    push_u32(writer, place.first)?;
+    push_u32(writer, place.last)?;
+    push_u32(writer, place.last_index)?;
+    push_u64(writer, place.legs)
+}
+
+/// Puts what is kept of a feature beside its name at the end of the text.
+#[tactic(auto, unfolding(crate::specs::Text::kept_text))]
+fn push_kept(writer: &mut ChainWriter, kept: &Kept) -> Result<(), AllocError>
+    ensures { OnOk result (writer.new ≡ record writer.old { text = writer.old.text ++ kept_text kept.now }) }
+{
+    push_i64(writer, kept.end)?;
+    push_place(writer, &kept.place)
+}
+
+/// Puts a feature at the end of the text.
+pub(crate) fn push_feature(
+    writer: &mut ChainWriter,
+    name: &str,
+    kept: &Kept,
+) -> Result<(), AllocError>
+    ensures { OnOk result (writer.new
+        ≡ record writer.old { text = writer.old.text ++ (short_text name.now ++ kept_text kept.now) }) }
+{
+    push_text(writer, name)?;
+    push_kept(writer, kept)
+}
+
+/// Puts attribute values at the end of the text.
+fn push_texts(writer: &mut ChainWriter, values: &[Text]) -> Result<(), AllocError>
+    ensures { OnOk result (writer.new ≡ record writer.old { text = writer.old.text ++ row_text values.now }) }
+{
+    for value in values {
+        push_text(writer, value.as_str())?;
+    }
+    Ok(())
+}
+
+/// Puts that many blank values at the end of the text.
+fn push_blanks(writer: &mut ChainWriter, count: usize) -> Result<(), AllocError>
+    ensures { OnOk result (writer.new
+        ≡ record writer.old { text = writer.old.text ++ row_text (replicate count []) }) }
+{
+    'blanks: for _ in 0..count {
+        push_u64(writer, 0)?;
+    }
+    Ok(())
+}
+
+/// Puts a row of attribute values at the end of the text.
+pub(crate) fn push_row(writer: &mut ChainWriter, row: &Values) -> Result<(), AllocError>
+    ensures { OnOk result (writer.new ≡ record writer.old { text = writer.old.text ++ row_text row.now }) }
+{
+    let (values, blanks) = row.parts();
+    push_texts(writer, values)?;
+    push_blanks(writer, blanks)
+}

@@ -1,0 +1,36 @@
+//! Numbers of a text, big-endian.
+ghost use Rattle.std.specs.Prelude.{◌≡◌, FitsSigned, length};
+ghost use Rattle.std.specs.Int.{w64};
+ghost use Rattle.byteorder.specs.Endian.{big_bytes};
+ghost use Rattle.tbnode.specs.Parts.{signed_bytes};
+
+/// The number of eight bytes.
+pub(crate) fn u64_of(bytes: &[u8]) -> u64
+    requires { length bytes.now ≡ 8 }
+    ensures { big_bytes 8 result ≡ bytes.now }
+{
+    let mut array = [0; 8];
+    array.copy_from_slice(bytes);
+    u64::from_be_bytes(array)
+}
+
+/// The number of four bytes.
+pub(crate) fn u32_of(bytes: &[u8]) -> u32
+    requires { length bytes.now ≡ 4 }
+    ensures { big_bytes 4 result ≡ bytes.now }
+{
+    let mut array = [0; 4];
+    array.copy_from_slice(bytes);
+    u32::from_be_bytes(array)
+}
+
+/// The number of eight bytes, as two's complement.
+pub(crate) fn i64_of(bytes: &[u8]) -> i64
+    requires { length bytes.now ≡ 8 }
+    ensures bytes { signed_bytes result ≡ bytes.now }
+    ensures fits { FitsSigned w64 result }
+{
+    let mut array = [0; 8];
+    array.copy_from_slice(bytes);
+    i64::from_be_bytes(array)
+}
