@@ -1,6 +1,6 @@
 -- Why calls stopped.
-use Rattle.std.proofs.Common.{ℕ, ◌+◌, ◌^◌, ◌-◌, ◌≤◌, ◌≡◌, ◌∙◌, refl, sym, subst, min, arith, List, Option, Some, None, All, true, false, Bool, [], ◌∷◌, eqb, inl, inr, length, ◌<◌}
-use Rattle.std.specs.Prelude.{filter, Result, Err, IfErr, IsErrOf}
+use Rattle.std.proofs.Common.{ℕ, ◌+◌, ◌≤◌, ◌≡◌, ◌∙◌, refl, arith, List, Option, Some, None, All, false, Bool, [], ◌∷◌, eqb, inl, inr, length, ◌<◌}
+use Rattle.std.specs.Prelude.{filter}
 use Rattle.legs.specs.Legs.{LegView}
 use Rattle.legs.specs.Book.{Book}
 use Rattle.legs.specs.Law.{IsThere}
@@ -18,9 +18,9 @@ use Rattle.timebase.specs.Period.{PeriodView}
 use Rattle.legs.specs.Costs.{ShapeView, track_in_bound}
 use Rattle.trajdb.specs.Answers.{track_of}
 use Rattle.trajdb.specs.Picks.{Picks}
-use Rattle.trajdb.specs.Faults.{IsInside, run_fault_of}
+use Rattle.trajdb.specs.Faults.{run_fault_of}
 use Rattle.trajdb.specs.Database.{CoreView, IsSound}
-use Rattle.trajdb.specs.Calls.{IsLater, Leaves, features_bound, IsText, IsRefused, IsStopped, IsAsked, IsOfStore, IsQuestionFault, IsLoadFault, IsRunStop}
+use Rattle.trajdb.specs.Calls.{IsLater, Leaves, features_bound, IsText, IsRefused, IsStopped, IsRunStop}
 
 -- a text that was not made, of what is there
 pub text_refused : {I : Type 0} (g : Ghosts I) (old new : CoreView I) (P : Type 0) (fault : RunFault) → IsText P fault → (IsSound g old → P) → IsRefused g old new fault

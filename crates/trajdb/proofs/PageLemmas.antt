@@ -21,7 +21,7 @@ keeps_leaves g old new l = record {
   begun = λ b. l.begun ∙ b;
   idle = λ b f. l.index;
   pages = λ s h. record { begun = λ b. l.index.marked (h.begun (sym l.begun ∙ b)); idle = λ b f. l.index.clean (h.idle (sym l.begun ∙ b) (sym l.failed ∙ f)) };
-  written = λ s h. record { marked = l.index.marked; clean = λ k. inr (record { others = ap (drop 1) (l.index.written k); first = λ rise. l.index.written k }) };
+  written = λ s h. record { marked = l.index.marked; clean = λ k. inr (record { others = ap (drop 1) (l.index.written k); first = λ rise. l.index.written k; sound = l.index.sound }) };
 }
 
 pub keeps-refl : {I : Type 0} (g : Ghosts I) (a : CoreView I) → KeepsPages g a a
@@ -36,6 +36,7 @@ unwritten g a b c l k (inl m) = inl m
 unwritten g a b c l k (inr u) = inr (record {
   others = u.others ∙ ap (drop 1) (l.written k);
   first = λ rise. u.first (λ r. rise (let x = l.later.faults in omega (arith, x, r))) ∙ l.written k;
+  sound = λ s. u.sound (l.sound s);
 })
 
 left_after : {I : Type 0} (g : Ghosts I) (a b c : CoreView I) → (b.begun ≡ true) ⊎ (b.begun ≡ false) → b.failed ≡ false → KeepsPages g a b → HasPages g b → LeavesPages g b.index c.index → LeavesPages g a.index c.index

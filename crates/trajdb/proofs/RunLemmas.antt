@@ -1,5 +1,6 @@
 -- Runs over lines, one after another.
-use Rattle.std.proofs.Common.{ℕ, zero, suc, ◌+◌, ◌-◌, ◌≡◌, ◌∙◌, ◌++◌, ◌∷◌, [], ap, sym, subst, refl, List, length, take, drop, map, Option, arith, true, eqb, get_or, Bool, ◌<◌}
+use Rattle.std.proofs.Common.{ℕ, zero, suc, ◌+◌, ◌-◌, ◌≡◌, ◌∙◌, ◌++◌, ◌∷◌, [], ap, sym, subst, refl, List, length, take, drop, map, Option, arith, true, eqb, get_or, Bool, ◌<◌, inl, inr}
+use Rattle.std.specs.Prelude.{◌⊎◌, ◌↔◌}
 use Rattle.std.proofs.lemmas.Bool.Decides.{nat_tests}
 use Rattle.std.proofs.lemmas.List.{append_assoc, append-nil, take-append-drop}
 use Rattle.std.proofs.KnownBytes.{Appends-trans, Appends-nil, Appends-kept}
@@ -7,10 +8,11 @@ use Rattle.std.specs.Io.KnownBytes.{Appends, Keeps}
 use Rattle.legs.specs.Limits.{LimitsView}
 use Rattle.legs.specs.Book.{Book}
 use Rattle.trajdb.specs.Script.{lines_of, pieces_of, without_return}
-use Rattle.trajdb.specs.Answers.{IsLineText, line_book}
+use Rattle.trajdb.specs.declared.RunFault.{RunFault}
+use Rattle.trajdb.specs.Answers.{AcceptsLine, IsLineText, line_book}
 use Rattle.trajdb.specs.Calls.{Speaks, LoadsBy}
 use Rattle.trajdb.specs.Lines.{HasDone, HasCut, HasNotDone}
-use Rattle.trajdb.specs.Run.{IsRunText, run_book, HasRun, HasStopped, HasCutRun, IsPrefixOf}
+use Rattle.trajdb.specs.Run.{AcceptsSome, FailsAt, StopsAt, IsRunText, run_book, HasRun, HasStopped, HasCutRun, IsPrefixOf}
 
 -- named files
 abbrev pub Named : Type 0
@@ -189,3 +191,77 @@ at_unflushed limits files a b c old new lines rest k at kept =
 pub nil_from_length : {X : Type 0} (xs : List X) → eqb (length xs) 0 ≡ true → xs ≡ []
 nil_from_length [] e = refl
 nil_from_length (x ∷ xs) e = absurd (grind (arith, nat_tests))
+
+-- the lines that began the database, with one more
+accepts_last : (limits : LimitsView) (files : Named) (book : Book) (xs : List (List ℕ)) (y : List ℕ) → AcceptsSome limits files book xs ⊎ AcceptsLine limits files (run_book limits files book xs) y
+    → AcceptsSome limits files book (xs ++ y ∷ [])
+accepts_last limits files book [] y (inl h) = absurd h
+accepts_last limits files book [] y (inr a) = inl a
+accepts_last limits files book (x ∷ xs) y (inl (inl a)) = inl a
+accepts_last limits files book (x ∷ xs) y (inl (inr h)) = inr (accepts_last limits files (line_book limits files book x) xs y (inl h))
+accepts_last limits files book (x ∷ xs) y (inr a) = inr (accepts_last limits files (line_book limits files book x) xs y (inr a))
+
+accepts_split : (limits : LimitsView) (files : Named) (book : Book) (xs : List (List ℕ)) (y : List ℕ) → AcceptsSome limits files book (xs ++ y ∷ [])
+    → AcceptsSome limits files book xs ⊎ AcceptsLine limits files (run_book limits files book xs) y
+accepts_split limits files book [] y (inl a) = inr a
+accepts_split limits files book [] y (inr h) = absurd h
+accepts_split limits files book (x ∷ xs) y (inl a) = inl (inl a)
+accepts_split limits files book (x ∷ xs) y (inr h) = elim (accepts_split limits files (line_book limits files book x) xs y h) [ inl r ↦ inl (inr r) | inr a ↦ inr a ]
+
+accepts_of_take : (limits : LimitsView) (files : Named) (book : Book) (n : ℕ) (lines : List (List ℕ)) → AcceptsSome limits files book (take n lines) → AcceptsSome limits files book lines
+accepts_of_take limits files book zero [] h = absurd h
+accepts_of_take limits files book zero (x ∷ xs) h = absurd h
+accepts_of_take limits files book (suc n) [] h = absurd h
+accepts_of_take limits files book (suc n) (x ∷ xs) (inl a) = inl a
+accepts_of_take limits files book (suc n) (x ∷ xs) (inr h) = inr (accepts_of_take limits files (line_book limits files book x) n xs h)
+
+-- the database has begun exactly where it had, or one of the first k lines began it
+abbrev pub HasBegun : LimitsView → Named → Book → List (List ℕ) → Bool → Bool → ℕ → Type 0
+HasBegun limits files book lines was is k = (is ≡ true) ↔ ((was ≡ true) ⊎ AcceptsSome limits files book (take k lines))
+
+pub begun_start : (limits : LimitsView) (files : Named) (book : Book) (lines : List (List ℕ)) (was : Bool) → HasBegun limits files book lines was was 0
+begun_start limits files book lines was = (λ b. inl b, λ h. elim h [ inl b ↦ b | inr a ↦ absurd a ])
+
+module _ (limits : LimitsView) (files : Named) (a b : Option (List ℕ)) (old mid : Book) (lines : List (List ℕ)) (rest others line : List ℕ) (k : ℕ) (at : IsAt limits files a b old mid lines rest k) (e : lines_of rest ≡ line ∷ lines_of others) (was is new : Bool) (begun : HasBegun limits files old lines was is k) where
+  next_is : take (k + 1) lines ≡ take k lines ++ line ∷ []
+  next_is = (more_lines lines k line (lines_of others) (at.left ∙ e)).0
+
+  forth : (is ≡ true) ⊎ AcceptsLine limits files mid line → (was ≡ true) ⊎ AcceptsSome limits files old (take (k + 1) lines)
+  forth (inl t) = elim (begun.0 t) [
+    | inl w ↦ inl w
+    | inr h ↦ inr (subst (λ (l : List (List ℕ)). AcceptsSome limits files old l) (sym next_is) (accepts_last limits files old (take k lines) line (inl h)))
+  ]
+  forth (inr h) = inr (subst (λ (l : List (List ℕ)). AcceptsSome limits files old l) (sym next_is) (accepts_last limits files old (take k lines) line (inr (subst (λ (x : Book). AcceptsLine limits files x line) at.book h))))
+
+  back : (was ≡ true) ⊎ AcceptsSome limits files old (take (k + 1) lines) → (is ≡ true) ⊎ AcceptsLine limits files mid line
+  back (inl w) = inl (begun.1 (inl w))
+  back (inr h) = elim (accepts_split limits files old (take k lines) line (subst (λ (l : List (List ℕ)). AcceptsSome limits files old l) next_is h)) [
+    | inl r ↦ inl (begun.1 (inr r))
+    | inr l ↦ inr (subst (λ (x : Book). AcceptsLine limits files x line) (sym at.book) l)
+  ]
+
+  pub begun_more : ((new ≡ true) ↔ ((is ≡ true) ⊎ AcceptsLine limits files mid line)) → HasBegun limits files old lines was new (k + 1)
+  begun_more h = (λ t. forth (h.0 t), λ w. h.1 (back w))
+
+  -- the line was not answered
+  pub begun_only : (new ≡ true → (is ≡ true) ⊎ AcceptsLine limits files mid line) → new ≡ true → (was ≡ true) ⊎ AcceptsSome limits files old lines
+  begun_only h t = elim (forth (h t)) [ inl w ↦ inl w | inr r ↦ inr (accepts_of_take limits files old (k + 1) lines r) ]
+
+-- the end of the lines
+pub begun_end : (limits : LimitsView) (files : Named) (a b : Option (List ℕ)) (old mid : Book) (lines : List (List ℕ)) (rest : List ℕ) (k : ℕ) (was is : Bool) → IsAt limits files a b old mid lines rest k → rest ≡ []
+    → HasBegun limits files old lines was is k → (is ≡ true) ↔ ((was ≡ true) ⊎ AcceptsSome limits files old lines)
+begun_end limits files a b old mid lines rest k was is at e begun =
+    subst (λ (l : List (List ℕ)). (is ≡ true) ↔ ((was ≡ true) ⊎ AcceptsSome limits files old l)) (all_taken lines k (at.left ∙ ap lines_of e ∙ lines_none)) begun
+
+-- where the run is, be the database sound or not
+abbrev pub IsLeft : List (List ℕ) → List ℕ → ℕ → Type 0
+IsLeft lines rest k = drop k lines ≡ lines_of rest
+
+pub left_more : (lines : List (List ℕ)) (rest others line : List ℕ) (k : ℕ) → IsLeft lines rest k → lines_of rest ≡ line ∷ lines_of others → IsLeft lines others (k + 1)
+left_more lines rest others line k left e = (more_lines lines k line (lines_of others) (left ∙ e)).1
+
+pub left_stops : (files : Named) (failed : Bool) (fault : RunFault) (lines : List (List ℕ)) (rest others line : List ℕ) (k : ℕ) → IsLeft lines rest k → lines_of rest ≡ line ∷ lines_of others
+    → FailsAt files failed fault line → StopsAt files failed fault lines
+left_stops files failed fault lines rest others line k left e fails =
+    let nth = nth_line lines k line (lines_of others) (left ∙ e) in
+    (k, nth.0, subst (λ (l : List ℕ). FailsAt files failed fault l) (sym nth.1) fails)

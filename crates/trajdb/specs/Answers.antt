@@ -1,5 +1,5 @@
 -- What a command answers over a book, and what it makes of it. No index occurs here.
-use Rattle.std.specs.Prelude.{ℕ, ◌≡◌, ◌+◌, ◌∷◌, [], ◌++◌, List, length, map, slice_index_or, Option, Some, None, Result, Ok, Err, ℤ, pos, codes, decimal}
+use Rattle.std.specs.Prelude.{ℕ, ◌≡◌, ◌+◌, ◌∷◌, [], ◌++◌, List, length, map, slice_index_or, Option, Some, None, Result, Ok, Err, pos, codes, decimal}
 use Rattle.std.specs.List.{range_with_len}
 use Rattle.timebase.specs.Period.{PeriodView}
 use Rattle.mfcsv.specs.FileText.{file_text}
@@ -106,6 +106,11 @@ abbrev pub named_book : LimitsView → Book → Option (List ℕ) → Book
 named_book limits book (Some bytes) = book_with limits book bytes
 named_book limits book None = book
 
+-- the file is there, and is accepted into a book
+abbrev pub AcceptsNamed : LimitsView → Book → Option (List ℕ) → Type 0
+AcceptsNamed limits book (Some bytes) = (counts : Counts) × (load_of limits book bytes ≡ Ok counts)
+AcceptsNamed limits book None = ⊥
+
 -- the predicate holds of a leg taken alone
 abbrev pub HoldsOfLeg : Predicate → RectView → PeriodView → LegView → Type 0
 HoldsOfLeg predicate rect period leg = Holds predicate (leg ∷ []) rect period
@@ -156,6 +161,16 @@ book_then limits files book (Features predicate rect period) = book
 book_then limits files book (Trajectory name) = book
 book_then limits files book Write = book
 
+-- the command is a `load` of a file that is there and is accepted into the book, be it one without legs
+abbrev pub AcceptsBy : LimitsView → List (List ℕ × List ℕ) → Book → Command → Type 0
+AcceptsBy limits files book (Load name) = AcceptsNamed limits book (file_named files name)
+AcceptsBy limits files book Count = ⊥
+AcceptsBy limits files book (Box rect period) = ⊥
+AcceptsBy limits files book (Legs predicate rect period) = ⊥
+AcceptsBy limits files book (Features predicate rect period) = ⊥
+AcceptsBy limits files book (Trajectory name) = ⊥
+AcceptsBy limits files book Write = ⊥
+
 -- the text is what a line answers: nothing where it is no command
 abbrev pub IsSaid : LimitsView → List (List ℕ × List ℕ) → Book → Result (Option Command) LineCode → List ℕ → Type 0
 IsSaid limits files book (Ok (Some command)) text = IsAnswer limits files book command text
@@ -167,8 +182,17 @@ said_book limits files book (Ok (Some command)) = book_then limits files book co
 said_book limits files book (Ok None) = book
 said_book limits files book (Err code) = book
 
+abbrev pub AcceptsSaid : LimitsView → List (List ℕ × List ℕ) → Book → Result (Option Command) LineCode → Type 0
+AcceptsSaid limits files book (Ok (Some command)) = AcceptsBy limits files book command
+AcceptsSaid limits files book (Ok None) = ⊥
+AcceptsSaid limits files book (Err code) = ⊥
+
 unfoldable pub IsLineText : LimitsView → List (List ℕ × List ℕ) → Book → List ℕ → List ℕ → Type 0
 IsLineText limits files book line text = IsSaid limits files book (line_of line) text
 
 unfoldable pub line_book : LimitsView → List (List ℕ × List ℕ) → Book → List ℕ → Book
 line_book limits files book line = said_book limits files book (line_of line)
+
+-- so is the line
+unfoldable pub AcceptsLine : LimitsView → List (List ℕ × List ℕ) → Book → List ℕ → Type 0
+AcceptsLine limits files book line = AcceptsSaid limits files book (line_of line)

@@ -1,5 +1,5 @@
 -- What a call of a database leaves, and why it stopped.
-use Rattle.std.specs.Prelude.{ℕ, ◌≡◌, Bool, true, false, List, Option, Some, None, Result, Ok, Err, IsTrue, is_some, ◌≤◌, ◌+◌, ◌⊎◌, drop, length, sum_by, map}
+use Rattle.std.specs.Prelude.{ℕ, ◌≡◌, true, false, List, Option, Some, None, Result, Ok, Err, IsTrue, is_some, ◌⊎◌, ◌↔◌, drop, length, sum_by, map}
 use Rattle.std.specs.List.{range_with_len}
 use Rattle.timebase.specs.Period.{PeriodView}
 use Rattle.legs.specs.declared.head.BookHead.{BookHead}
@@ -17,7 +17,6 @@ use Rattle.querylang.specs.declared.Command.{Command}
 use Rattle.querylang.specs.declared.Command.TheVariants.{Load, Count, Box, Legs, Features, Trajectory, Write}
 use Rattle.trajdb.specs.Files.{file_named}
 use Rattle.trajdb.specs.Database.{CoreView, IsSound}
-use Rattle.trajdb.specs.Faults.{IsInside}
 use Rattle.trajdb.specs.declared.LoadFault.{LoadFault}
 use Rattle.trajdb.specs.declared.LoadFault.TheVariants.{Refused, Run}
 use Rattle.trajdb.specs.declared.RunFault.{RunFault}
@@ -38,10 +37,12 @@ pub record IsLater {I : Type 0} (g : Ghosts I) (old new : CoreView I) : Type 0 w
   pub limits : new.limits ≡ old.limits
   pub index : IsLaterIndex g old.index new.index
 
--- no page as written has changed but page 0, and that one only where the store failed
+-- no page as written has changed but page 0, and that one only where the store failed; the index is sound where
+-- it was
 pub record IsUnwritten {I : Type 0} (g : Ghosts I) (old new : I) : Type 0 where
   pub others : drop 1 (g.written new) ≡ drop 1 (g.written old)
   pub first : (HasRisen (g.faults old) (g.faults new) → ⊥) → g.written new ≡ g.written old
+  pub sound : g.is_sound old → g.is_sound new
 
 -- what a load leaves of the pages of an index, whatever it answers: page 0 stays marked; where no page was
 -- changed, page 0 is marked, or nothing was written
@@ -61,6 +62,14 @@ pub record KeepsPages {I : Type 0} (g : Ghosts I) (old new : CoreView I) : Type 
   pub idle : new.begun ≡ false → new.failed ≡ false → IndexLeaves g old.index new.index
   pub pages : IsSound g old → HasPages g old → HasPages g new
   pub written : IsSound g old → HasPages g old → LeavesPages g old.index new.index
+
+-- a sound database has begun exactly where it had, or an accepted file began it
+abbrev pub Begins : {I : Type 0} → Ghosts I → CoreView I → CoreView I → Type 0 → Type 0
+Begins g old new accepts = IsSound g old → (new.begun ≡ true) ↔ ((old.begun ≡ true) ⊎ accepts)
+
+-- nothing else begins it, whatever is answered
+abbrev pub BeginsOnly : {I : Type 0} → Ghosts I → CoreView I → CoreView I → Type 0 → Type 0
+BeginsOnly g old new accepts = IsSound g old → new.begun ≡ true → (old.begun ≡ true) ⊎ accepts
 
 -- a fault of a question over a sound database
 abbrev pub IsQuestionFault : RunFault → Type 0

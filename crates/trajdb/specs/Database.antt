@@ -1,5 +1,5 @@
 -- What a database stands for.
-use Rattle.std.specs.Prelude.{◌≡◌, Bool, false, List, ℕ, Result, Ok, Err}
+use Rattle.std.specs.Prelude.{◌≡◌, Bool, List, ℕ, Result, Ok, Err}
 use Rattle.mfcsv.specs.declared.File.{File}
 use Rattle.legs.specs.Legs.{LegView}
 use Rattle.legs.specs.Limits.{LimitsView, IsLimits}
@@ -8,8 +8,6 @@ use Rattle.legs.specs.Index.{CanFollowInTurn}
 use Rattle.legs.specs.declared.listed.Listed.{Ghosts}
 use Rattle.legs.specs.Tracks.{TracksView, StandsFor}
 use Rattle.legs.specs.Law.{IsBook}
-use Rattle.querylang.specs.declared.Command.{Command}
-use Rattle.querylang.specs.declared.Command.TheVariants.{Load, Count, Box, Legs, Features, Trajectory, Write}
 use Rattle.trajdb.specs.declared.Counts.{Counts}
 use Rattle.trajdb.specs.declared.FileCode.{FileCode}
 use Rattle.trajdb.specs.declared.FileCode.TheVariants.{Join}

@@ -1,10 +1,9 @@
 -- What contracts see of a database over pages.
-use Rattle.std.specs.Prelude.{ℕ, ◌≡◌}
+use Rattle.std.specs.Prelude.{◌≡◌}
 use Rattle.boxsearch.specs.Index.{IndexView, words}
-use Rattle.legs.specs.Book.{Book}
 use Rattle.pages.specs.Store.{Store, Faulted}
-use Rattle.trajdb.specs.Database.{CoreView, IsSound as IsSoundCore, Becomes as BecomesCore}
-use Rattle.trajdb.specs.Calls.{HasPages as HasPagesCore, KeepsPages as KeepsPagesCore, Leaves as LeavesCore}
+use Rattle.trajdb.specs.Database.{CoreView, IsSound as IsSoundCore}
+use Rattle.trajdb.specs.Calls.{HasPages as HasPagesCore}
 use Rattle.trajdb.specs.declared.OpenFault.{OpenFault}
 use Rattle.trajdb.specs.declared.OpenFault.TheVariants.{Memory, Store as StoreFailed, Damaged, StoreFull}
 

@@ -1,16 +1,23 @@
 -- The run of a script.
-use Rattle.std.specs.Prelude.{◌≡◌, ℕ, ◌-◌, List, [], ◌∷◌, ◌++◌, take, Option, Bool, true, false, ◌<◌, length, slice_index_or}
+use Rattle.std.specs.Prelude.{◌≡◌, ◌≢◌, ◌⊎◌, ℕ, ◌-◌, List, [], ◌∷◌, ◌++◌, take, Option, Bool, true, false, ◌<◌, length, slice_index_or}
 use Rattle.std.specs.Io.KnownBytes.{Appends}
 use Rattle.legs.specs.Limits.{LimitsView}
 use Rattle.legs.specs.Book.{Book}
 use Rattle.trajdb.specs.Database.{CoreView}
 use Rattle.trajdb.specs.Calls.{Speaks, LoadsBy}
-use Rattle.trajdb.specs.Answers.{IsLineText, line_book}
+use Rattle.trajdb.specs.declared.RunFault.{RunFault}
+use Rattle.trajdb.specs.declared.RunFault.TheVariants.{Memory}
+use Rattle.trajdb.specs.Answers.{AcceptsLine, IsLineText, line_book}
 
 -- the book after all lines
 abbrev pub run_book : LimitsView → List (List ℕ × List ℕ) → Book → List (List ℕ) → Book
 run_book limits files book [] = book
 run_book limits files book (line ∷ lines) = run_book limits files (line_book limits files book line) lines
+
+-- some line is a `load` of a file that is there and is accepted into the book after the lines before
+abbrev pub AcceptsSome : LimitsView → List (List ℕ × List ℕ) → Book → List (List ℕ) → Type 0
+AcceptsSome limits files book [] = ⊥
+AcceptsSome limits files book (line ∷ lines) = AcceptsLine limits files book line ⊎ AcceptsSome limits files (line_book limits files book line) lines
 
 -- the text is the answers to all lines, one after another, each over the book after the lines before
 abbrev pub IsRunText : LimitsView → List (List ℕ × List ℕ) → Book → List (List ℕ) → List ℕ → Type 0
@@ -36,6 +43,17 @@ pub record HasStopped (limits : LimitsView) (files : List (List ℕ × List ℕ)
   pub sends : Appends sent sent' text
   pub book : failed ≡ false → new ≡ run_book limits files old (take k lines)
   pub loads : failed ≡ true → LoadsBy files (slice_index_or lines k [])
+
+-- a line is not done, be the database sound or not: it is a command or a refused line; the database is failed
+-- only where it is a `load` of a file that is there, and always then, unless memory was wanted
+pub record FailsAt (files : List (List ℕ × List ℕ)) (failed : Bool) (fault : RunFault) (line : List ℕ) : Type 0 where
+  pub speaks : Speaks line
+  pub loads : failed ≡ true → LoadsBy files line
+  pub fails : LoadsBy files line → fault ≢ Memory → failed ≡ true
+
+-- some line is there, and is not done
+abbrev pub StopsAt : List (List ℕ × List ℕ) → Bool → RunFault → List (List ℕ) → Type 0
+StopsAt files failed fault lines = (k : ℕ) × (k < length lines) × FailsAt files failed fault (slice_index_or lines k [])
 
 abbrev pub IsPrefixOf : List ℕ → List ℕ → Type 0
 IsPrefixOf front all = (rest : List ℕ) × (all ≡ front ++ rest)

@@ -201,7 +201,7 @@ impl<I: Start> Core<I> {
 }
 
 impl<I: Start> Core<I> {
-    ghost use Rattle.std.specs.Prelude.{◌≡◌, IfErr, OnOk, Err, true, false};
+    ghost use Rattle.std.specs.Prelude.{◌≡◌, IfErr, OnOk, OnErr, Err, true, false};
     ghost use Rattle.trajdb.specs.Answers.{book_with, load_of};
     ghost use Rattle.trajdb.specs.Database.{IsRefused, IsTold, LoadGives, FailsBy, Becomes, IsSound};
     ghost use Rattle.trajdb.specs.Calls.{IsLater, IsLoadStop, KeepsPages};
@@ -226,8 +226,11 @@ impl<I: Start> Core<I> {
         // A refused file changes nothing.
         ensures refused { IfErr result (λ fault. IsRefused fault → self.new ≡ self.old) }
 
-        // What is left of the pages.
+        // An accepted file begins the database, and nothing else does.
         ensures begun { OnOk result (self.new.begun ≡ true) }
+        ensures idle { OnErr result (self.new.begun ≡ self.old.begun) }
+
+        // What is left of the pages.
         ensures pages { KeepsPages I.Listed self.old self.new }
 
         // A failed database does nothing.
@@ -249,9 +252,9 @@ impl<I: Start> Core<I> {
 
 impl<I: Start> Core<I> {
     ghost use Rattle.std.specs.Prelude.{◌≡◌, IfOk, IfErr, OnOk, OnErr, Some, true, false};
-    ghost use Rattle.trajdb.specs.Answers.{named_book, named_text};
+    ghost use Rattle.trajdb.specs.Answers.{named_book, named_text, AcceptsNamed};
     ghost use Rattle.trajdb.specs.Database.{Becomes, IsSound};
-    ghost use Rattle.trajdb.specs.Calls.{IsStopped, IsLater, KeepsPages};
+    ghost use Rattle.trajdb.specs.Calls.{Begins, BeginsOnly, IsStopped, IsLater, KeepsPages};
 
     /// The answer to `load` of a file.
     fn load_text(&mut self, alloc: Global, bytes: &[u8]) -> Result<Vec<u8>, RunFault>
@@ -263,6 +266,10 @@ impl<I: Start> Core<I> {
         ensures failed { OnErr result (self.new.failed ≡ true) }
         ensures stopped { IfErr result (IsStopped I.Listed self.old self.new) }
         ensures later { IsLater I.Listed self.old self.new }
+        ensures begins { OnOk result (Begins I.Listed self.old self.new
+            (AcceptsNamed self.old.limits self.old.book (Some bytes.now))) }
+        ensures only { BeginsOnly I.Listed self.old self.new
+            (AcceptsNamed self.old.limits self.old.book (Some bytes.now)) }
         ensures pages { KeepsPages I.Listed self.old self.new }
     {
         let text = match self.load(alloc, bytes) {
@@ -282,9 +289,9 @@ impl<I: Start> Core<I> {
 
 impl<I: Start> Core<I> {
     ghost use Rattle.std.specs.Prelude.{◌≡◌, IfOk, IfErr, IsErrOf, OnOk, OnErr, Err, true, false};
-    ghost use Rattle.trajdb.specs.Answers.{IsAnswer, book_then};
+    ghost use Rattle.trajdb.specs.Answers.{AcceptsBy, IsAnswer, book_then};
     ghost use Rattle.trajdb.specs.Database.{Becomes, IsSound};
-    ghost use Rattle.trajdb.specs.Calls.{AsksIn, IsStopped, IsLater, KeepsPages, Leaves, Loads};
+    ghost use Rattle.trajdb.specs.Calls.{AsksIn, Begins, BeginsOnly, IsStopped, IsLater, KeepsPages, Leaves, Loads};
 
     /// The whole answer to a command, with the named files at hand.
     ///
@@ -311,6 +318,12 @@ impl<I: Start> Core<I> {
         ensures failed { OnErr result (Loads files.now command.now → self.new.failed ≡ true) }
         ensures full { IsErrOf result RunFault.StoreFull → Loads files.now command.now }
         ensures stopped { IfErr result (IsStopped I.Listed self.old self.new) }
+
+        // An accepted file begins the database, and nothing else does.
+        ensures begins { OnOk result (Begins I.Listed self.old self.new
+            (AcceptsBy self.old.limits files.now self.old.book command.now)) }
+        ensures only { BeginsOnly I.Listed self.old self.new
+            (AcceptsBy self.old.limits files.now self.old.book command.now) }
         ensures pages { KeepsPages I.Listed self.old self.new }
 
         // A failed database does nothing.
@@ -340,13 +353,13 @@ impl<I: Start> Core<I> {
 }
 
 impl<I: Start> Core<I> {
-    ghost use Rattle.std.specs.Prelude.{◌≡◌, IfOk, IfErr, IsErrOf, OnOk, OnErr, Err, true, false};
-    ghost use Rattle.trajdb.specs.Answers.{IsLineText, line_book};
+    ghost use Rattle.std.specs.Prelude.{◌≡◌, ◌≢◌, IfOk, IfErr, IsErrOf, OnOk, OnErr, Err, true, false};
+    ghost use Rattle.trajdb.specs.Answers.{AcceptsLine, IsLineText, line_book};
     ghost use Rattle.trajdb.specs.Database.{Becomes, IsSound};
-    ghost use Rattle.trajdb.specs.Calls.{IsStopped, IsLater, KeepsPages, Leaves, LoadsBy, Speaks};
+    ghost use Rattle.trajdb.specs.Calls.{Begins, BeginsOnly, IsStopped, IsLater, KeepsPages, Leaves, LoadsBy, Speaks};
 
     /// The whole answer to a line of a script.
-    #[tactic(auto, unfolding(crate::specs::Answers::IsLineText, crate::specs::Answers::line_book, crate::specs::Calls::LoadsBy, crate::specs::Calls::Speaks))]
+    #[tactic(auto, unfolding(crate::specs::Answers::IsLineText, crate::specs::Answers::line_book, crate::specs::Answers::AcceptsLine, crate::specs::Calls::LoadsBy, crate::specs::Calls::Speaks))]
     fn answer(&mut self, alloc: Global, line: &[u8], files: &Files) -> Result<Vec<u8>, RunFault>
         requires { self.old.failed ≡ false }
         ensures text { IfOk result (λ text. IsSound I.Listed self.old
@@ -361,6 +374,12 @@ impl<I: Start> Core<I> {
         ensures failed { self.new.failed ≡ true → LoadsBy files.now line.now }
         ensures full { IsErrOf result RunFault.StoreFull → self.new.failed ≡ true }
         ensures stopped { IfErr result (IsStopped I.Listed self.old self.new) }
+        ensures fails { IfErr result (λ fault. LoadsBy files.now line.now → fault ≢ RunFault.Memory
+            → self.new.failed ≡ true) }
+        ensures begins { OnOk result (Begins I.Listed self.old self.new
+            (AcceptsLine self.old.limits files.now self.old.book line.now)) }
+        ensures only { BeginsOnly I.Listed self.old self.new
+            (AcceptsLine self.old.limits files.now self.old.book line.now) }
         ensures pages { KeepsPages I.Listed self.old self.new }
     {
         match parse_line(alloc, line) {
@@ -375,11 +394,12 @@ impl<I: Start> Core<I> {
 impl<I: Start> Core<I> {
     ghost use Rattle.std.specs.Prelude.{◌≡◌, ℕ, List, IfOk, IfErr, IsErrOf, OnOk, OnErr, Err, false, true};
     ghost use Rattle.trajdb.specs.Script.{lines_of, without_return};
+    ghost use Rattle.trajdb.specs.Answers.{AcceptsLine};
     ghost use Rattle.trajdb.specs.Faults.{IsInside};
     ghost use Rattle.trajdb.specs.Lines.{HasDone, HasCut, HasNotDone};
-    ghost use Rattle.trajdb.specs.Run.{Runs, Stops, IsCut};
+    ghost use Rattle.trajdb.specs.Run.{AcceptsSome, FailsAt, StopsAt, Runs, Stops, IsCut};
     ghost use Rattle.trajdb.specs.Database.{IsSound};
-    ghost use Rattle.trajdb.specs.Calls.{IsRunStop, IsLater, KeepsPages};
+    ghost use Rattle.trajdb.specs.Calls.{Begins, BeginsOnly, IsRunStop, IsLater, KeepsPages};
 
     /// One line of a script: its answer goes to the output.
     fn line<W: Write>(
@@ -409,6 +429,12 @@ impl<I: Start> Core<I> {
         ensures full { IsErrOf result RunFault.StoreFull → self.new.failed ≡ true }
         ensures stopped { IfErr result (IsRunStop I.Listed self.old self.new) }
         ensures later { IsLater I.Listed self.old self.new }
+        ensures fails { IfErr result (λ fault. IsInside fault
+            → FailsAt files.now self.new.failed fault line.now) }
+        ensures begins { OnOk result (Begins I.Listed self.old self.new
+            (AcceptsLine self.old.limits files.now self.old.book line.now)) }
+        ensures only { BeginsOnly I.Listed self.old self.new
+            (AcceptsLine self.old.limits files.now self.old.book line.now) }
         ensures pages { KeepsPages I.Listed self.old self.new }
     {
         match self.answer(alloc, line, files) {
@@ -447,9 +473,17 @@ impl<I: Start> Core<I> {
             (lines_of script.now)) }
         ensures kept { IfErr result (λ e. IsInside e → self.new.failed ≡ false
             → IsSound I.Listed self.old → IsSound I.Listed self.new) }
+        ensures stops { IfErr result (λ fault. IsInside fault → self.old.failed ≡ false
+            → StopsAt files.now self.new.failed fault (lines_of script.now)) }
         ensures full { IsErrOf result RunFault.StoreFull → self.new.failed ≡ true }
         ensures stopped { IfErr result (IsRunStop I.Listed self.old self.new) }
         ensures later { IsLater I.Listed self.old self.new }
+
+        // An accepted file begins the database, and nothing else does.
+        ensures begins { OnOk result (Begins I.Listed self.old self.new
+            (AcceptsSome self.old.limits files.now self.old.book (lines_of script.now))) }
+        ensures only { BeginsOnly I.Listed self.old self.new
+            (AcceptsSome self.old.limits files.now self.old.book (lines_of script.now)) }
         ensures pages { KeepsPages I.Listed self.old self.new }
 
         // A failed database does nothing.

@@ -37,15 +37,19 @@ impl<S: PageStore> Model for Db<S> {
 }
 
 impl<S: PageStore> Db<S> {
-    ghost use Rattle.std.specs.Prelude.{◌≡◌, ◌<◌, ℕ, List, IfOk, IfErr, IsErrOf, IsTrue, OnOk, OnErr, Err, true, false};
+    ghost use Rattle.std.specs.Prelude.{◌≡◌, ◌<◌, ℕ, List, Some, IfOk, IfErr, IsErrOf, IsTrue, OnOk, OnErr, Err, true, false};
+    ghost use Rattle.pages.specs.Sealed.{sealed};
+    ghost use Rattle.pages.specs.Store.{Keeps, Writes};
     ghost use Rattle.boxsearch.specs.Index.{words};
+    ghost use Rattle.catalogue.specs.Beginning.{IsLeft};
+    ghost use Rattle.catalogue.specs.Header.{header_payload};
     ghost use Rattle.legs.specs.Book.{empty_book};
     ghost use Rattle.trajdb.specs.Script.{lines_of};
-    ghost use Rattle.trajdb.specs.Answers.{IsAnswer, book_then, book_with, load_of};
+    ghost use Rattle.trajdb.specs.Answers.{AcceptsBy, IsAnswer, book_then, book_with, load_of};
     ghost use Rattle.trajdb.specs.Faults.{IsInside};
-    ghost use Rattle.trajdb.specs.Run.{Runs, Stops, IsCut};
+    ghost use Rattle.trajdb.specs.Run.{AcceptsSome, StopsAt, Runs, Stops, IsCut};
     ghost use Rattle.trajdb.specs.Database.{FailsBy, IsRefused, IsTold, LoadGives, Becomes};
-    ghost use Rattle.trajdb.specs.Calls.{AsksIn, IsLater, IsLoadStop, IsRunStop, IsStopped, KeepsPages, Leaves, Loads};
+    ghost use Rattle.trajdb.specs.Calls.{AsksIn, Begins, BeginsOnly, IsLater, IsLoadStop, IsRunStop, IsStopped, KeepsPages, Leaves, Loads};
     ghost use Rattle.trajdb.specs.Db.{HasPages, IsAllowed, IsCaused, IsSound};
     ghost use Rattle.trajdb.specs.declared.RunFault.{RunFault};
     ghost use Rattle.trajdb.specs.declared.LoadFault.{LoadFault};
@@ -67,11 +71,19 @@ impl<S: PageStore> Db<S> {
         ensures sound { IfOk result (λ db. IsTrue (S.seen store).is_faithful → IsSound db) }
         ensures book { IfOk result (λ db. db.book ≡ empty_book) }
         ensures limits { IfOk result (λ db. db.limits ≡ limits) }
+        ensures shape { IfOk result (λ db. words.plan db.index ≡ Some shape) }
+        ensures capacity { IfOk result (λ db. db.index.cache.capacity ≡ cache_pages) }
+        ensures stored { IfOk result (λ db. Writes 0 (sealed 0 (header_payload shape limits))
+            (S.seen store) db.index.cache.store) }
         ensures lives { IfOk result (λ db. db.failed ≡ false) }
         ensures begun { IfOk result (λ db. db.begun ≡ true) }
         ensures pages { IfOk result (λ db. IsTrue (S.seen store).is_faithful → HasPages db) }
         ensures only { IfErr result (λ back. IsTrue (S.seen store).is_faithful → IsAllowed back.1) }
         ensures caused { IfErr result (λ back. IsCaused (S.seen store) (S.seen back.0) back.1) }
+
+        // The store that is handed back.
+        ensures kept { IfErr result (λ back. Keeps (S.seen store) (S.seen back.0)) }
+        ensures left { IfErr result (λ back. IsLeft shape limits (S.seen store) (S.seen back.0)) }
     {
         let index = match begin(alloc, store, shape, cache_pages, &limits) {
             Ok(index) => index,
@@ -105,6 +117,7 @@ impl<S: PageStore> Db<S> {
         ensures later { IsLater words self.old self.new }
         ensures refused { IfErr result (λ fault. IsRefused fault → self.new ≡ self.old) }
         ensures begun { OnOk result (self.new.begun ≡ true) }
+        ensures idle { OnErr result (self.new.begun ≡ self.old.begun) }
         ensures pages { KeepsPages words self.old self.new }
         ensures was_failed { self.old.failed ≡ true
             → (result ≡ Err (LoadFault.Run RunFault.Failed)) × (self.new ≡ self.old) }
@@ -137,6 +150,12 @@ impl<S: PageStore> Db<S> {
         ensures failed { OnErr result (Loads files.now command.now → self.new.failed ≡ true) }
         ensures full { IsErrOf result RunFault.StoreFull → Loads files.now command.now }
         ensures stopped { IfErr result (IsStopped words self.old self.new) }
+
+        // An accepted file begins the database, and nothing else does.
+        ensures begins { OnOk result (Begins words self.old self.new
+            (AcceptsBy self.old.limits files.now self.old.book command.now)) }
+        ensures only { BeginsOnly words self.old self.new
+            (AcceptsBy self.old.limits files.now self.old.book command.now) }
         ensures pages { KeepsPages words self.old self.new }
 
         // A failed database does nothing.
@@ -174,9 +193,17 @@ impl<S: PageStore> Db<S> {
             (lines_of script.now)) }
         ensures kept { IfErr result (λ e. IsInside e → self.new.failed ≡ false → IsSound self.old
             → IsSound self.new) }
+        ensures stops { IfErr result (λ fault. IsInside fault → self.old.failed ≡ false
+            → StopsAt files.now self.new.failed fault (lines_of script.now)) }
         ensures full { IsErrOf result RunFault.StoreFull → self.new.failed ≡ true }
         ensures stopped { IfErr result (IsRunStop words self.old self.new) }
         ensures later { IsLater words self.old self.new }
+
+        // An accepted file begins the database, and nothing else does.
+        ensures begins { OnOk result (Begins words self.old self.new
+            (AcceptsSome self.old.limits files.now self.old.book (lines_of script.now))) }
+        ensures only { BeginsOnly words self.old self.new
+            (AcceptsSome self.old.limits files.now self.old.book (lines_of script.now)) }
         ensures pages { KeepsPages words self.old self.new }
 
         // A failed database does nothing.

@@ -1,4 +1,4 @@
-use Rattle.std.proofs.Common.{◌≡◌, ◌≤◌, ◌+◌, ◌-◌, length}
+use Rattle.std.proofs.Common.{◌≤◌, ◌+◌, ◌-◌, length}
 use Rattle.std.specs.List.{range_with_len}
 use Rattle.trajdb.specs.Answers.{HoldsOfFeature}
 use Rattle.trajdb.specs.Database.{IsSound}

@@ -1,5 +1,4 @@
 use Rattle.std.proofs.Common.{sym}
-use Rattle.trajdb.specs.Database.{CoreView, IsSound}
 use Rattle.trajdb.proofs.database.Core.join_file.Goals as goal
 
 pub returns-in-Ok-clause-legs : goal.returns-in-Ok-clause-legs

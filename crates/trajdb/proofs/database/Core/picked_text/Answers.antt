@@ -1,4 +1,4 @@
-use Rattle.std.proofs.Common.{◌∙◌, All}
+use Rattle.std.proofs.Common.{All}
 use Rattle.std.proofs.lemmas.Result.{IfErr-weaker}
 use Rattle.trajdb.specs.Answers.{HoldsOfLeg}
 use Rattle.legs.specs.Law.{IsThere}

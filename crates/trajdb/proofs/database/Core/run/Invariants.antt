@@ -2,19 +2,21 @@ use Rattle.std.proofs.Common.{◌≡◌, ℕ, length, false}
 use Rattle.trajdb.specs.Calls.{IsLater, KeepsPages}
 use Rattle.trajdb.specs.Script.{lines_of}
 use Rattle.trajdb.specs.Database.{IsSound}
-use Rattle.trajdb.proofs.RunLemmas.{IsAt}
+use Rattle.trajdb.proofs.RunLemmas.{HasBegun, IsAt, IsLeft}
 use Rattle.trajdb.proofs.database.Core.run.Given as goal
 
--- the database is not failed; and of a sound database so many lines are done
+-- the database is not failed, and some lines are left; and of a sound database so many lines are done
 abbrev pub invariant-loop-rest : goal.invariant-loop-rest
 invariant-loop-rest g l = record {
   lives : l.self.failed ≡ false;
   later : IsLater g.I.Listed l.initial.self l.self;
   pages : KeepsPages g.I.Listed l.initial.self l.self;
+  left : (k : ℕ) × IsLeft (lines_of l.script) l.rest k;
   at : IsSound g.I.Listed l.initial.self
       → IsSound g.I.Listed l.self
       × (k : ℕ)
-      × IsAt l.initial.self.limits l.files (g.W.Write.contents l.initial.out) (g.W.Write.contents l.out) l.initial.self.book l.self.book (lines_of l.script) l.rest k;
+      × IsAt l.initial.self.limits l.files (g.W.Write.contents l.initial.out) (g.W.Write.contents l.out) l.initial.self.book l.self.book (lines_of l.script) l.rest k
+      × HasBegun l.initial.self.limits l.files l.initial.self.book (lines_of l.script) l.initial.self.begun l.self.begun k;
 }
 
 abbrev pub decreases-loop-rest : goal.decreases-loop-rest
