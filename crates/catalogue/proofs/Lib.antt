@@ -11,4 +11,6 @@ pub mod WriterLemmas
 pub mod WholeLemmas
 pub mod HeaderLemmas
 pub mod EncodingLemmas
+pub mod SavingLemmas
 pub mod FieldsLemmas
+pub mod SaveLemmas

@@ -6,4 +6,5 @@ pub mod ChainWriter
 pub mod ChainSteps
 pub mod ChainReader
 pub mod Saved
+pub mod Saving
 pub mod Fields

@@ -1,7 +1,48 @@
 -- What a database keeps, as the text of its catalogue says it.
+use Rattle.std.specs.Prelude.{ℕ, ◌≡◌, Option, Some, None, take}
+use Rattle.legs.specs.Limits.{LimitsView}
 use Rattle.legs.specs.declared.head.BookHead.{BookHead}
+use Rattle.mfcsv.specs.declared.Dimension.TheVariants.{Two, Three}
+use Rattle.pages.specs.declared.payload.Kind.TheVariants.{Header}
+use Rattle.pages.specs.declared.payload.Payload.{Payload}
+use Rattle.pagecache.specs.Cache.{Cache, payload_of}
+use Rattle.tbtree.specs.declared.tree.TbTree.{TbTree}
+use Rattle.catalogue.specs.declared.header_fields.Fields.{Fields}
 use Rattle.catalogue.specs.declared.contents.Head.{Head}
 
 -- what is kept of a head beside its dimension, which stands in the header
 abbrev pub head_of : BookHead → Head
 head_of head = record { base = head.base; space = record { crs = head.crs; columns = head.columns } }
+
+-- how many dimensions a database has; 2 where no file was accepted
+abbrev pub dimension_of : Option BookHead → ℕ
+dimension_of None = 2
+dimension_of (Some head) = elim head.dimension [ Two ↦ 2 | Three ↦ 3 ]
+
+-- what page 0 says of a database behind how it begins
+abbrev pub fields_for : LimitsView → Option BookHead → TbTree → ℕ → ℕ → Fields
+fields_for limits head tree first length = record {
+  shape = tree.shape;
+  limits = limits;
+  root = tree.root;
+  levels = tree.levels;
+  leaves = tree.leaves;
+  first = first;
+  length = length;
+  dimension = dimension_of head;
+}
+
+-- page 0 is a header
+pub record HasHeader (c : Cache) : Type 0 where
+  pub payload : Payload
+  pub is : payload_of c 0 ≡ Some payload
+  pub kind : payload.kind ≡ Header
+
+-- page 0 begins as it did
+pub record KeepsFront (old new : Cache) : Type 0 where
+  pub was : Payload
+  pub before : payload_of old 0 ≡ Some was
+  pub payload : Payload
+  pub is : payload_of new 0 ≡ Some payload
+  pub kind : payload.kind ≡ was.kind
+  pub front : take 12 payload.bytes ≡ take 12 was.bytes

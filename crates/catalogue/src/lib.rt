@@ -11,11 +11,15 @@ mod fault;
 mod header;
 mod header_fields;
 mod numbers;
+mod saving;
 mod values;
 mod whole_text;
 
 pub use beginning::begin;
 pub use fault::CatalogueFault;
+pub use saving::{Catalogue, save};
 
+#[cfg(test)]
+mod save_tests;
 #[cfg(test)]
 mod tests;

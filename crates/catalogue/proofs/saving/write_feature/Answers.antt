@@ -1,0 +1,19 @@
+use Rattle.std.proofs.Common.{◌≡◌, ◌++◌, [], ap, ◌∙◌, List, ℕ}
+use Rattle.std.proofs.lemmas.List.{append-nil}
+use Rattle.catalogue.specs.Saving.{feature_at}
+use Rattle.catalogue.specs.Text.{feature_text, kept_text, short_text}
+use Rattle.catalogue.proofs.SavingLemmas.{pushed_only, saves_then, saves_same}
+use Rattle.catalogue.proofs.saving.write_feature.Goals as goal
+
+pub returns-clause-saves : goal.returns-clause-saves
+unfolding feature_at
+returns-clause-saves g c =
+    let cache = c.args.index.now.cache in
+    let bytes : List ℕ = short_text c.name_at.result.now ++ kept_text c.kept_at-kept.result in
+    let all = feature_text (feature_at c.args.tracks.now c.args.index.now.places c.args.feature) in
+    let kept = c.kept_at-kept.ensures ∙ ap (λ l. (feature_at c.args.tracks.now l c.args.feature).kept) c.places.ensures in
+    let same : bytes ++ [] ≡ all = append-nil bytes ∙ (λ i. short_text (c.name_at.ensures i) ++ kept_text (kept i)) in
+    saves_same (bytes ++ []) all cache c.write_text.new.index.cache c.args.writer.now c.write_text.new.writer c.write_text.result same
+    (saves_then bytes [] cache cache c.write_text.new.index.cache c.args.writer.now c.push_feature.new.writer c.write_text.new.writer c.write_text.result
+    (pushed_only bytes cache c.args.writer.now c.push_feature.new.writer c.in_ok-push_feature.ensures)
+    c.write_text.ensures.saves)

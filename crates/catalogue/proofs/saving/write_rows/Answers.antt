@@ -1,0 +1,28 @@
+use Rattle.std.proofs.Common.{◌+◌, ◌++◌, ap, sym, ◌∙◌, subst, Ok, take, List, ℕ}
+use Rattle.std.specs.List.{flat_map}
+use Rattle.byteorder.specs.Endian.{big_bytes}
+use Rattle.boxsearch.specs.Beside.{with_cache}
+use Rattle.catalogue.specs.Saving.{Saves}
+use Rattle.catalogue.specs.Text.{row_text}
+use Rattle.catalogue.proofs.SavingLemmas.{saves_then, saves_same, listed_more}
+use Rattle.catalogue.proofs.saving.write_rows.Goals as goal
+
+pub loop-row-preserved : goal.loop-row-preserved
+loop-row-preserved g c =
+    let inv = c.loop-row.invariant in
+    let a = c.args.index.now.cache in
+    let b = c.loop-row.index.cache in
+    let d = c.write_row.new.index.cache in
+    let rows = c.args.rows.now in
+    let front = big_bytes 4 c.args.count in
+    let n = c.loop-row.row-index in
+    let done : List ℕ = front ++ flat_map row_text (take n rows) in
+    let row : List (List ℕ) = c.row-item.result in
+    let more : Saves (row_text row) b d c.loop-row.writer c.write_row.new.writer (Ok tt) =
+    subst (λ r. Saves (row_text row) b d c.loop-row.writer c.write_row.new.writer r) c.in_ok-write_row.was c.write_row.ensures.saves in
+    record {
+      same = c.write_row.ensures.same ∙ ap (λ i. with_cache i d) inv.same;
+      saves = saves_same (done ++ row_text row) (front ++ flat_map row_text (take (n + 1) rows)) a d c.args.writer.now c.write_row.new.writer (Ok tt)
+          (listed_more row_text rows row _ front n c.loop-row-test.true (sym c.row-item.is))
+          (saves_then done (row_text row) a b d c.args.writer.now c.loop-row.writer c.write_row.new.writer (Ok tt) inv.saves more);
+    }

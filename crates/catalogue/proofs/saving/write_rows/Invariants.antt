@@ -1,0 +1,14 @@
+use Rattle.std.proofs.Common.{◌≡◌, ◌++◌, Ok, take}
+use Rattle.std.specs.List.{flat_map}
+use Rattle.byteorder.specs.Endian.{big_bytes}
+use Rattle.boxsearch.specs.Beside.{with_cache}
+use Rattle.catalogue.specs.Saving.{Saves}
+use Rattle.catalogue.specs.Text.{row_text}
+use Rattle.catalogue.proofs.saving.write_rows.Given as goal
+
+-- the number, and the rows so far
+abbrev pub invariant-loop-row : goal.invariant-loop-row
+invariant-loop-row g l = record {
+  same : l.index ≡ with_cache l.fn.index l.index.cache;
+  saves : Saves (big_bytes 4 l.fn.count ++ flat_map row_text (take l.row-index l.fn.rows)) l.fn.index.cache l.index.cache l.fn.writer l.writer (Ok tt);
+}

@@ -1,0 +1,100 @@
+//! A saved catalogue, byte by byte.
+use super::*;
+use legs::{BookHead, LegIndex, Limits, Tracks, join};
+use mfcsv::{Values, read_file};
+use pagecache::PageCache;
+use pages::MemStore;
+use std::alloc::Global;
+use std::hash::RandomState;
+use std::test::Fail;
+use tbtree::Shape;
+
+/// The example of the standard.
+const STANDARD: &str = "\
+@stboundedby,urn:x-ogc:def:crs:EPSG:6.6:4326,2D,50.23 9.23,50.31 9.27,2012-01-17T12:33:41Z,2012-01-17T12:37:00Z,sec
+@columns,mfidref,trajectory,state,xsd:token,\"type code\",xsd:integer
+a,10,150,11.0 2.0 12.0 3.0,walking,1
+b,10,190,10.0 2.0 11.0 3.0,walking,2
+a,150,190,12.0 3.0 10.0 3.0,walking,2
+c,10,190,12.0 1.0 10.0 2.0 11.0 3.0,vehicle,1
+";
+
+/// Page 0 of the example's store: how it begins, the shape, the limits, the tree, where the text is, and the dimension.
+const HEADER: [u8; 60] = [
+    77, 70, 84, 66, 0, 0, 0, 2, 0, 0, 0, 0, 0, 50, 0, 72, 0, 0, 0, 0, 1, 0, 0, 0, 0, 0, 0, 0, 0,
+    16, 0, 0, 0, 0, 0, 3, 0, 0, 0, 2, 0, 0, 0, 3, 0, 0, 0, 5, 0, 0, 0, 0, 0, 0, 1, 81, 0, 0, 0, 2,
+];
+
+/// The example's one catalogue page: its head and the text, as the page format has them.
+const TEXT: [u8; 353] = [
+    0, 0, 0, 0, 1, 81, 0, 0, 0, 0, 0, 0, 0, 0, 0, 0, 1, 0, 0, 1, 52, 235, 168, 148, 136, 0, 0, 0,
+    0, 0, 0, 0, 31, 117, 114, 110, 58, 120, 45, 111, 103, 99, 58, 100, 101, 102, 58, 99, 114, 115,
+    58, 69, 80, 83, 71, 58, 54, 46, 54, 58, 52, 51, 50, 54, 0, 0, 0, 0, 0, 0, 0, 2, 0, 0, 0, 0, 0,
+    0, 0, 5, 115, 116, 97, 116, 101, 0, 0, 0, 0, 0, 0, 0, 9, 120, 115, 100, 58, 116, 111, 107, 101,
+    110, 0, 0, 0, 0, 0, 0, 0, 9, 116, 121, 112, 101, 32, 99, 111, 100, 101, 0, 0, 0, 0, 0, 0, 0,
+    11, 120, 115, 100, 58, 105, 110, 116, 101, 103, 101, 114, 0, 0, 0, 3, 0, 0, 0, 0, 0, 0, 0, 1,
+    97, 0, 0, 1, 52, 235, 171, 122, 184, 0, 0, 0, 1, 0, 0, 0, 1, 0, 0, 0, 0, 0, 0, 0, 0, 0, 0, 0,
+    2, 0, 0, 0, 0, 0, 0, 0, 1, 98, 0, 0, 1, 52, 235, 171, 122, 184, 0, 0, 0, 2, 0, 0, 0, 2, 0, 0,
+    0, 1, 0, 0, 0, 0, 0, 0, 0, 1, 0, 0, 0, 0, 0, 0, 0, 1, 99, 0, 0, 1, 52, 235, 171, 122, 184, 0,
+    0, 0, 4, 0, 0, 0, 4, 0, 0, 0, 2, 0, 0, 0, 0, 0, 0, 0, 2, 0, 0, 0, 4, 0, 0, 0, 0, 0, 0, 0, 7,
+    119, 97, 108, 107, 105, 110, 103, 0, 0, 0, 0, 0, 0, 0, 1, 49, 0, 0, 0, 0, 0, 0, 0, 7, 119, 97,
+    108, 107, 105, 110, 103, 0, 0, 0, 0, 0, 0, 0, 1, 50, 0, 0, 0, 0, 0, 0, 0, 7, 119, 97, 108, 107,
+    105, 110, 103, 0, 0, 0, 0, 0, 0, 0, 1, 50, 0, 0, 0, 0, 0, 0, 0, 7, 118, 101, 104, 105, 99, 108,
+    101, 0, 0, 0, 0, 0, 0, 0, 1, 49,
+];
+
+/// The pages of the example, in an index and saved over `most` pages; the fault, if it is not saved.
+fn saved(
+    alloc: Global,
+    keys: RandomState,
+    most: u32,
+) -> Option<Result<PageCache<MemStore>, CatalogueFault>> {
+    let limits = Limits::new(1 << 24, 1 << 20)?;
+    let shape = Shape::new(50, 72)?;
+    let Ok(mut index) = begin(alloc, MemStore::new(alloc, most), shape, 4, &limits) else {
+        return None;
+    };
+    let file = read_file(alloc, STANDARD.as_bytes()).ok()?;
+    let mut tracks = Tracks::new(alloc, keys).ok()?;
+    let legs = join(alloc, None, &tracks, &limits, &file).ok()?;
+    index.add_all(legs.as_slice()).ok()?;
+    tracks.accept(&file, legs.as_slice()).ok()?;
+    let mut rows = Vec::new(alloc);
+    for entry in file.records.into_vec() {
+        rows.push(entry.attributes).ok()?;
+    }
+    let catalogue = Catalogue {
+        head: Some(BookHead::from(file.head)),
+        limits,
+        tracks,
+        rows,
+    };
+    // Saved twice: the second one takes the first one's page.
+    match save(alloc, &catalogue, &mut index).and_then(|()| save(alloc, &catalogue, &mut index)) {
+        Ok(()) => Some(Ok(index.into_cache())),
+        Err(fault) => Some(Err(fault)),
+    }
+}
+
+/// Whether page 0 and the catalogue page are these, and how many pages there are.
+fn as_wanted(cache: &mut PageCache<MemStore>) -> Option<(bool, bool, u32)> {
+    let header = cache.page(0).ok()?.bytes[..60] == HEADER[..];
+    let text = cache.page(5).ok()?.bytes[..TEXT.len()] == TEXT[..];
+    Some((header, text, cache.count()))
+}
+
+#[test]
+fn the_example_is_saved(rt: HostRuntime) -> Result<(), Fail> {
+    let keys = RandomState::new(&rt)?;
+    match saved(rt.alloc(), keys, 6) {
+        Some(Ok(mut cache)) => {
+            assert!(rt; as_wanted(&mut cache) == Some((true, true, 6)));
+        }
+        _ => return Err(Fail::from("not saved")),
+    }
+    match saved(rt.alloc(), keys, 5) {
+        Some(Err(fault)) => assert!(rt; fault == CatalogueFault::StoreFull),
+        _ => return Err(Fail::from("saved without room")),
+    }
+    Ok(())
+}

@@ -1,0 +1,346 @@
+//! A catalogue is saved.
+ghost use Rattle.std.specs.Prelude.{◌≡◌, ◌<◌, ◌≤◌, ◌^◌, ◌++◌, ◌∷◌, [], length, slice_get, unwrap_or, IfErr, IfOk, IsOk, IsTrue, OnErr, OnOk, Some};
+ghost use Rattle.pagecache.specs.Cache.{payload_of, Rests};
+ghost use Rattle.catalogue.specs.Chain.{text_at};
+ghost use Rattle.chains.specs.Reads.{OnlyReads};
+ghost use Rattle.tbtree.specs.Stands.{no_place};
+ghost use Rattle.byteorder.specs.Endian.{big_bytes};
+ghost use Rattle.boxsearch.specs.Beside.{with_cache, IsBeside};
+ghost use Rattle.boxsearch.specs.Index.{content, IsSound};
+ghost use Rattle.catalogue.specs.ChainSteps.{SparesTree};
+ghost use Rattle.catalogue.specs.Saved.{dimension_of, fields_for, head_of, HasHeader, KeepsFront};
+ghost use Rattle.catalogue.specs.Saving.{contents_of, end_of, feature_at, features_of, HasFew, HasFirst, IsAllowed, IsCaused, IsSaved, KeepsTree, PutsFields, Saves};
+ghost use Rattle.catalogue.specs.Text.{catalogue_text, feature_text, features_text, head_text, lists_text, row_text, rows_text};
+
+use crate::chain_reader::fault_of;
+use crate::chain_writer::ChainWriter;
+use crate::contents::Kept;
+use crate::encoding::{push_byte, push_feature, push_head, push_row, push_u32};
+use crate::fault::CatalogueFault;
+use crate::header_fields::{Fields, put_fields};
+use boxsearch::TreeIndex;
+use legs::{BookHead, Limits, Tracks};
+use mfcsv::{Dimension, Values};
+use pages::PageStore;
+use std::alloc::Global;
+use tbnode::fields::u32_at;
+use tbtree::{Place, TbTree};
+
+/// What a store keeps of a database beside its legs.
+#[derive(Drop)]
+pub struct Catalogue {
+    /// What the first accepted file gave, if a file was accepted.
+    pub head: Option<BookHead>,
+    /// How many legs and features there may be.
+    pub limits: Limits,
+    /// The features.
+    pub tracks: Tracks,
+    /// The attribute values of each record.
+    pub rows: Vec<Values>,
+}
+
+/// Writes the pages that the text fills.
+fn write_text<S: PageStore>(
+    writer: &mut ChainWriter,
+    index: &mut TreeIndex<S>,
+) -> Result<(), CatalogueFault>
+    ensures same { index.new ≡ with_cache index.old index.new.cache }
+    ensures saves { Saves [] index.old.cache index.new.cache writer.old writer.new result }
+{
+    match writer.write_full(index.cache_mut()) {
+        Ok(()) => Ok(()),
+        Err(fault) => Err(fault_of(fault)),
+    }
+}
+
+/// When a feature's last leg ends.
+fn end_at(tracks: &Tracks, feature: u32) -> i64
+    ensures { result ≡ end_of (slice_get tracks.now.tracks feature) }
+{
+    match tracks.track(feature) {
+        Some(track) => track.end.millis(),
+        None => 0,
+    }
+}
+
+/// The place of a feature.
+fn place_at(places: &[Place], feature: u32) -> Place
+    ensures { result ≡ unwrap_or (slice_get places.now feature) no_place }
+{
+    match places.get(feature as usize) {
+        Some(place) => *place,
+        None => Place::new(),
+    }
+}
+
+/// What is kept of a feature beside its name.
+#[tactic(auto, unfolding(crate::specs::Saving::feature_at))]
+fn kept_at(tracks: &Tracks, places: &[Place], feature: u32) -> Kept
+    ensures { result ≡ (feature_at tracks.now places.now feature).kept }
+{
+    let end = end_at(tracks, feature);
+    let place = place_at(places, feature);
+    Kept { end, place }
+}
+
+/// The name of a feature.
+#[tactic(auto, unfolding(crate::specs::Saving::feature_at))]
+fn name_at(tracks: &Tracks, feature: u32) -> &str
+    ensures { result.now ≡ unwrap_or (slice_get tracks.now.names feature) [] }
+{
+    match tracks.name(feature) {
+        Some(name) => name,
+        None => "",
+    }
+}
+
+/// Puts a feature at the end of the text.
+fn write_feature<S: PageStore>(
+    writer: &mut ChainWriter,
+    index: &mut TreeIndex<S>,
+    tracks: &Tracks,
+    feature: u32,
+) -> Result<(), CatalogueFault>
+    ensures same { index.new ≡ with_cache index.old index.new.cache }
+    ensures saves { Saves (feature_text (feature_at tracks.now index.old.places feature)) index.old.cache index.new.cache writer.old writer.new result }
+{
+    let kept = kept_at(tracks, index.places(), feature);
+    push_feature(writer, name_at(tracks, feature), &kept)?;
+    write_text(writer, index)
+}
+
+/// Puts the features behind their number at the end of the text.
+fn write_features<S: PageStore>(
+    writer: &mut ChainWriter,
+    index: &mut TreeIndex<S>,
+    tracks: &Tracks,
+    count: u32,
+) -> Result<(), CatalogueFault>
+    ensures same { index.new ≡ with_cache index.old index.new.cache }
+    ensures saves { count ≡ length tracks.now.names → Saves (features_text (features_of tracks.now index.old.places)) index.old.cache index.new.cache writer.old writer.new result }
+{
+    push_u32(writer, count)?;
+    for feature in 0..count {
+        write_feature(writer, index, tracks, feature)?;
+    }
+    Ok(())
+}
+
+/// Puts a row of attribute values at the end of the text.
+fn write_row<S: PageStore>(
+    writer: &mut ChainWriter,
+    index: &mut TreeIndex<S>,
+    row: &Values,
+) -> Result<(), CatalogueFault>
+    ensures same { index.new ≡ with_cache index.old index.new.cache }
+    ensures saves { Saves (row_text row.now) index.old.cache index.new.cache writer.old writer.new result }
+{
+    push_row(writer, row)?;
+    write_text(writer, index)
+}
+
+/// Puts the rows behind their number at the end of the text.
+fn write_rows<S: PageStore>(
+    writer: &mut ChainWriter,
+    index: &mut TreeIndex<S>,
+    rows: &[Values],
+    count: u32,
+) -> Result<(), CatalogueFault>
+    ensures same { index.new ≡ with_cache index.old index.new.cache }
+    ensures saves { count ≡ length rows.now
+        → Saves (rows_text rows.now) index.old.cache index.new.cache writer.old writer.new result }
+{
+    push_u32(writer, count)?;
+    for row in rows {
+        write_row(writer, index, row)?;
+    }
+    Ok(())
+}
+
+/// Puts the head of the first accepted file at the end of the text, behind the byte that says that there is one.
+fn write_head<S: PageStore>(
+    writer: &mut ChainWriter,
+    index: &mut TreeIndex<S>,
+    head: &BookHead,
+) -> Result<(), CatalogueFault>
+    ensures same { index.new ≡ with_cache index.old index.new.cache }
+    ensures saves { Saves (1 ∷ head_text (head_of head.now)) index.old.cache index.new.cache writer.old writer.new result }
+{
+    push_byte(writer, 1)?;
+    push_head(writer, head)?;
+    write_text(writer, index)
+}
+
+/// How many there are, as a number of four bytes.
+fn count_of(count: u64) -> Result<u32, CatalogueFault>
+    ensures ok { IfOk result (λ n. n ≡ count) }
+    ensures few { count < 2 ^ 32 → IsOk result }
+{
+    match u32::try_from(count) {
+        Ok(count) => Ok(count),
+        Err(_) => Err(CatalogueFault::Malformed),
+    }
+}
+
+/// Puts the features and the rows at the end of the text.
+fn write_lists<S: PageStore>(
+    writer: &mut ChainWriter,
+    index: &mut TreeIndex<S>,
+    tracks: &Tracks,
+    rows: &[Values],
+) -> Result<(), CatalogueFault>
+    ensures same { index.new ≡ with_cache index.old index.new.cache }
+    ensures saves { length tracks.now.names < 2 ^ 32 → length rows.now < 2 ^ 32
+        → Saves (features_text (features_of tracks.now index.old.places) ++ rows_text rows.now)
+        index.old.cache index.new.cache writer.old writer.new result }
+{
+    let features = count_of(tracks.feature_count())?;
+    let row_count = count_of(rows.len() as u64)?;
+    write_features(writer, index, tracks, features)?;
+    write_rows(writer, index, rows, row_count)
+}
+
+/// Puts the whole text of a catalogue at the end of an empty one; only what there are too many of for their number is
+/// `Malformed`.
+fn write_catalogue<S: PageStore>(
+    writer: &mut ChainWriter,
+    index: &mut TreeIndex<S>,
+    catalogue: &Catalogue,
+) -> Result<(), CatalogueFault>
+    ensures same { index.new ≡ with_cache index.old index.new.cache }
+    ensures saves { HasFew catalogue.now → Saves (catalogue_text (contents_of catalogue.now index.old.places)) index.old.cache index.new.cache writer.old writer.new result }
+{
+    match &catalogue.head {
+        None => match push_byte(writer, 0) {
+            Ok(()) => Ok(()),
+            Err(memory) => Err(CatalogueFault::from(memory)),
+        },
+        Some(head) => {
+            write_head(writer, index, head)?;
+            write_lists(writer, index, &catalogue.tracks, catalogue.rows.as_slice())
+        }
+    }
+}
+
+/// The first page of the earlier catalogue, 0 for none.
+fn earlier_page<S: PageStore>(index: &mut TreeIndex<S>) -> Result<u32, CatalogueFault>
+    ensures same { index.new ≡ with_cache index.old index.new.cache }
+    ensures reads { OnlyReads index.old.cache index.new.cache }
+    ensures only { IsTrue index.old.cache.store.is_faithful → 0 < index.old.cache.count
+        → HasFirst index.old.cache → IfErr result IsAllowed }
+    ensures caused { IfErr result (IsCaused index.old.cache index.new.cache) }
+{
+    match index.cache_mut().page(0) {
+        Ok(payload) => Ok(u32_at(&payload.bytes, 44)),
+        Err(fault) => Err(fault_of(fault)),
+    }
+}
+
+/// Writes to page 0 what it says of the tree and of the catalogue; how it begins stays.
+fn write_fields<S: PageStore>(
+    index: &mut TreeIndex<S>,
+    fields: &Fields,
+) -> Result<(), CatalogueFault>
+    ensures same { index.new ≡ with_cache index.old index.new.cache }
+    ensures puts { OnOk result (PutsFields fields.now index.old.cache index.new.cache) }
+    ensures rests { OnErr result (Rests index.old.cache index.new.cache) }
+    ensures only { IsTrue index.old.cache.store.is_faithful → 0 < index.old.cache.count
+        → HasFirst index.old.cache → IfErr result IsAllowed }
+    ensures caused { IfErr result (IsCaused index.old.cache index.new.cache) }
+{
+    match index.cache_mut().page_mut(0) {
+        Ok(payload) => {
+            put_fields(payload, fields);
+            Ok(())
+        }
+        Err(fault) => Err(fault_of(fault)),
+    }
+}
+
+/// Writes the whole text of a catalogue to its chain of pages, and answers the first page and the length of the text.
+fn write_whole<S: PageStore>(
+    alloc: Global,
+    catalogue: &Catalogue,
+    index: &mut TreeIndex<S>,
+    earlier: u32,
+) -> Result<(u32, u64), CatalogueFault>
+    ensures same { index.new ≡ with_cache index.old index.new.cache }
+    ensures kept { HasFew catalogue.now → KeepsTree index.old.cache index.new.cache }
+    ensures beside { OnOk result (HasFew catalogue.now → IsBeside index.old.cache index.new.cache) }
+    ensures text { IfOk result (λ r. HasFew catalogue.now → IsTrue index.old.cache.store.is_faithful
+        → text_at (payload_of index.new.cache) r.1 r.0
+        ≡ Some (catalogue_text (contents_of catalogue.now index.old.places))) }
+    ensures only { HasFew catalogue.now → IsTrue index.old.cache.store.is_faithful
+        → IfErr result IsAllowed }
+    ensures caused { HasFew catalogue.now → IfErr result (IsCaused index.old.cache index.new.cache) }
+{
+    let keys = catalogue.tracks.keys();
+    let mut writer = match ChainWriter::new(alloc, keys, index.cache_mut(), earlier) {
+        Ok(writer) => writer,
+        Err(fault) => return Err(fault_of(fault)),
+    };
+    write_catalogue(&mut writer, index, catalogue)?;
+    match writer.finish(index.cache_mut()) {
+        Ok(chain) => Ok(chain),
+        Err(fault) => Err(fault_of(fault)),
+    }
+}
+
+/// How many dimensions a database has; 2 where no file was accepted.
+fn dimension_of(head: &Option<BookHead>) -> u32
+    ensures { result ≡ dimension_of head.now }
+{
+    match head {
+        None => 2,
+        Some(head) => match head.dimension {
+            Dimension::Two => 2,
+            Dimension::Three => 3,
+        },
+    }
+}
+
+/// What page 0 says of a database behind how it begins.
+fn fields_for(catalogue: &Catalogue, tree: TbTree, first: u32, length: u64) -> Fields
+    ensures { result ≡ fields_for catalogue.now.limits catalogue.now.head tree first length }
+{
+    Fields {
+        shape: tree.shape,
+        limits: catalogue.limits,
+        root: tree.root,
+        levels: tree.levels,
+        leaves: tree.leaves,
+        first,
+        length,
+        dimension: dimension_of(&catalogue.head),
+    }
+}
+
+/// Keeps a catalogue in the pages of an index, beside those of its legs: the text in a chain of pages, those of an earlier
+/// catalogue first, and in page 0 where it is, with the limits and the tree. How page 0 begins stays, finished or not.
+///
+/// Refused for want of memory, and where the store fails or is full; the legs stay, and so does page 0.
+pub fn save<S: PageStore>(
+    alloc: Global,
+    catalogue: &Catalogue,
+    index: &mut TreeIndex<S>,
+) -> Result<(), CatalogueFault>
+    ensures same { index.new ≡ with_cache index.old index.new.cache }
+    ensures saved { OnOk result (HasFew catalogue.now → IsTrue index.old.cache.store.is_faithful
+        → 0 < index.old.cache.count → HasHeader index.old.cache → IsSaved catalogue.now index.new) }
+    ensures front { OnOk result (HasFew catalogue.now → IsTrue index.old.cache.store.is_faithful
+        → 0 < index.old.cache.count → KeepsFront index.old.cache index.new.cache) }
+    ensures first { OnErr result (HasFew catalogue.now → IsTrue index.old.cache.store.is_faithful
+        → 0 < index.old.cache.count → payload_of index.new.cache 0 ≡ payload_of index.old.cache 0) }
+    ensures tree { HasFew catalogue.now → SparesTree index.old.cache index.new.cache }
+    ensures beside { OnOk result (HasFew catalogue.now → IsBeside index.old.cache index.new.cache) }
+    ensures content { OnOk result (HasFew catalogue.now → content index.new ≡ content index.old) }
+    ensures sound { OnOk result (HasFew catalogue.now → IsSound index.old → IsSound index.new) }
+    ensures only { HasFew catalogue.now → IsSound index.old → IfErr result IsAllowed }
+    ensures caused { HasFew catalogue.now → IfErr result (IsCaused index.old.cache index.new.cache) }
+{
+    boxsearch::laws();
+    let earlier = earlier_page(index)?;
+    let (first, length) = write_whole(alloc, catalogue, index, earlier)?;
+    let fields = fields_for(catalogue, index.tree(), first, length);
+    write_fields(index, &fields)
+}
