@@ -242,7 +242,8 @@ impl ChainWriter {
 
     /// Puts bytes at the end of the text.
     pub(crate) fn push(&mut self, bytes: &[u8]) -> Result<(), AllocError>
-        ensures ok { OnOk result (self.new ≡ record self.old { text = self.old.text ++ bytes.now }) }
+        ensures ok { OnOk result (self.new
+            ≡ record self.old { text = self.old.text ++ bytes.now }) }
         ensures err { OnErr result (self.new ≡ self.old) }
     {
         self.text.extend_from_slice(bytes)
@@ -277,7 +278,8 @@ impl ChainWriter {
             → Holds cache.new (behind (done + 4040) self.new) text) }
         ensures passes { Passes cache.old cache.new }
         ensures length { OnOk result (KeepsLength cache.old cache.new) }
-        ensures tree { (text : List ℕ) → Holds cache.old (behind done self.old) text → SparesTree cache.old cache.new }
+        ensures tree { (text : List ℕ) → Holds cache.old (behind done self.old) text
+            → SparesTree cache.old cache.new }
         ensures only { (text : List ℕ) → Holds cache.old (behind done self.old) text
             → IsTrue cache.old.store.is_faithful → IfErr result IsAllowed }
         ensures caused { IfErr result (IsCaused cache.old cache.new) }
@@ -300,11 +302,14 @@ impl ChainWriter {
         &mut self,
         cache: &mut PageCache<S>,
     ) -> Result<(), CacheFault>
-        ensures holds { OnOk result ((text : List ℕ) → Holds cache.old self.old text → Holds cache.new self.new text) }
+        ensures holds { OnOk result ((text : List ℕ) → Holds cache.old self.old text
+            → Holds cache.new self.new text) }
         ensures short { OnOk result (length self.new.text ≤ 4040) }
         ensures passes { Passes cache.old cache.new }
-        ensures beside { OnOk result ((text : List ℕ) → Holds cache.old self.old text → IsBeside cache.old cache.new) }
-        ensures tree { (text : List ℕ) → Holds cache.old self.old text → SparesTree cache.old cache.new }
+        ensures beside { OnOk result ((text : List ℕ) → Holds cache.old self.old text
+            → IsBeside cache.old cache.new) }
+        ensures tree { (text : List ℕ) → Holds cache.old self.old text
+            → SparesTree cache.old cache.new }
         ensures only { (text : List ℕ) → Holds cache.old self.old text
             → IsTrue cache.old.store.is_faithful → IfErr result IsAllowed }
         ensures caused { IfErr result (IsCaused cache.old cache.new) }
@@ -339,12 +344,15 @@ impl ChainWriter {
     /// Writes the last page, and answers the first one and the length of the text.
     fn close<S: PageStore>(&self, cache: &mut PageCache<S>) -> Result<(u32, u64), CacheFault>
         requires { length self.now.text ≤ 4040 }
-        ensures text { IfOk result (λ r. (text : List ℕ) → Holds cache.old self.now text → 0 < length text
-            → IsTrue cache.old.store.is_faithful → (text_at (payload_of cache.new) r.1 r.0 ≡ Some text)
+        ensures text { IfOk result (λ r. (text : List ℕ) → Holds cache.old self.now text
+            → 0 < length text
+            → IsTrue cache.old.store.is_faithful
+            → (text_at (payload_of cache.new) r.1 r.0 ≡ Some text)
             × (r.1 ≡ length text) × (0 < r.0) × (r.0 < cache.new.count)) }
         ensures passes { Passes cache.old cache.new }
         ensures length { OnOk result (KeepsLength cache.old cache.new) }
-        ensures tree { (text : List ℕ) → Holds cache.old self.now text → SparesTree cache.old cache.new }
+        ensures tree { (text : List ℕ) → Holds cache.old self.now text
+            → SparesTree cache.old cache.new }
         ensures only { (text : List ℕ) → Holds cache.old self.now text
             → IsTrue cache.old.store.is_faithful → IfErr result IsAllowed }
         ensures caused { IfErr result (IsCaused cache.old cache.new) }
@@ -359,12 +367,16 @@ impl ChainWriter {
         mut self,
         cache: &mut PageCache<S>,
     ) -> Result<(u32, u64), CacheFault>
-        ensures text { IfOk result (λ r. (text : List ℕ) → Holds cache.old self text → 0 < length text
-            → IsTrue cache.old.store.is_faithful → (text_at (payload_of cache.new) r.1 r.0 ≡ Some text)
+        ensures text { IfOk result (λ r. (text : List ℕ) → Holds cache.old self text
+            → 0 < length text
+            → IsTrue cache.old.store.is_faithful
+            → (text_at (payload_of cache.new) r.1 r.0 ≡ Some text)
             × (r.1 ≡ length text) × (0 < r.0) × (r.0 < cache.new.count)) }
         ensures passes { Passes cache.old cache.new }
-        ensures beside { OnOk result ((text : List ℕ) → Holds cache.old self text → IsBeside cache.old cache.new) }
-        ensures tree { (text : List ℕ) → Holds cache.old self text → SparesTree cache.old cache.new }
+        ensures beside { OnOk result ((text : List ℕ) → Holds cache.old self text
+            → IsBeside cache.old cache.new) }
+        ensures tree { (text : List ℕ) → Holds cache.old self text
+            → SparesTree cache.old cache.new }
         ensures only { (text : List ℕ) → Holds cache.old self text
             → IsTrue cache.old.store.is_faithful → IfErr result IsAllowed }
         ensures caused { IfErr result (IsCaused cache.old cache.new) }

@@ -22,28 +22,32 @@ pub(crate) fn push_byte(writer: &mut ChainWriter, n: u8) -> Result<(), AllocErro
 
 /// Puts a number of four bytes at the end of the text.
 pub(crate) fn push_u32(writer: &mut ChainWriter, n: u32) -> Result<(), AllocError>
-    ensures { OnOk result (writer.new ≡ record writer.old { text = writer.old.text ++ big_bytes 4 n }) }
+    ensures { OnOk result (writer.new
+        ≡ record writer.old { text = writer.old.text ++ big_bytes 4 n }) }
 {
     writer.push(&n.to_be_bytes())
 }
 
 /// Puts a number of eight bytes at the end of the text.
 pub(crate) fn push_u64(writer: &mut ChainWriter, n: u64) -> Result<(), AllocError>
-    ensures { OnOk result (writer.new ≡ record writer.old { text = writer.old.text ++ big_bytes 8 n }) }
+    ensures { OnOk result (writer.new
+        ≡ record writer.old { text = writer.old.text ++ big_bytes 8 n }) }
 {
     writer.push(&n.to_be_bytes())
 }
 
 /// Puts a number of eight bytes at the end of the text, as two's complement.
 pub(crate) fn push_i64(writer: &mut ChainWriter, n: i64) -> Result<(), AllocError>
-    ensures { OnOk result (writer.new ≡ record writer.old { text = writer.old.text ++ signed_bytes n }) }
+    ensures { OnOk result (writer.new
+        ≡ record writer.old { text = writer.old.text ++ signed_bytes n }) }
 {
     writer.push(&n.to_be_bytes())
 }
 
 /// Puts a text behind its length at the end.
 pub(crate) fn push_text(writer: &mut ChainWriter, text: &str) -> Result<(), AllocError>
-    ensures { OnOk result (writer.new ≡ record writer.old { text = writer.old.text ++ short_text text.now }) }
+    ensures { OnOk result (writer.new
+        ≡ record writer.old { text = writer.old.text ++ short_text text.now }) }
 {
     push_u64(writer, text.len() as u64)?;
     writer.push(text.as_bytes())
@@ -51,7 +55,8 @@ pub(crate) fn push_text(writer: &mut ChainWriter, text: &str) -> Result<(), Allo
 
 /// Puts an attribute column at the end of the text.
 pub(crate) fn push_column(writer: &mut ChainWriter, column: &Column) -> Result<(), AllocError>
-    ensures { OnOk result (writer.new ≡ record writer.old { text = writer.old.text ++ column_text column.now }) }
+    ensures { OnOk result (writer.new
+        ≡ record writer.old { text = writer.old.text ++ column_text column.now }) }
 {
     push_text(writer, column.name.as_str())?;
     push_text(writer, column.kind.as_str())
@@ -59,7 +64,8 @@ pub(crate) fn push_column(writer: &mut ChainWriter, column: &Column) -> Result<(
 
 /// Puts attribute columns behind their number at the end of the text.
 pub(crate) fn push_columns(writer: &mut ChainWriter, columns: &Columns) -> Result<(), AllocError>
-    ensures { OnOk result (writer.new ≡ record writer.old { text = writer.old.text ++ columns_text columns.now }) }
+    ensures { OnOk result (writer.new
+        ≡ record writer.old { text = writer.old.text ++ columns_text columns.now }) }
 {
     let columns = columns.as_slice();
     push_u64(writer, columns.len() as u64)?;
@@ -71,7 +77,8 @@ pub(crate) fn push_columns(writer: &mut ChainWriter, columns: &Columns) -> Resul
 
 /// Puts what is kept of a head at the end of the text.
 pub(crate) fn push_head(writer: &mut ChainWriter, head: &BookHead) -> Result<(), AllocError>
-    ensures { OnOk result (writer.new ≡ record writer.old { text = writer.old.text ++ head_text (head_of head.now) }) }
+    ensures { OnOk result (writer.new
+        ≡ record writer.old { text = writer.old.text ++ head_text (head_of head.now) }) }
 {
     push_i64(writer, head.base.millis())?;
     push_text(writer, head.crs.as_str())?;
@@ -95,7 +102,8 @@ fn push_place(writer: &mut ChainWriter, place: &Place) -> Result<(), AllocError>
 /// Puts what is kept of a feature beside its name at the end of the text.
 #[tactic(auto, unfolding(crate::specs::Text::kept_text))]
 fn push_kept(writer: &mut ChainWriter, kept: &Kept) -> Result<(), AllocError>
-    ensures { OnOk result (writer.new ≡ record writer.old { text = writer.old.text ++ kept_text kept.now }) }
+    ensures { OnOk result (writer.new
+        ≡ record writer.old { text = writer.old.text ++ kept_text kept.now }) }
 {
     push_i64(writer, kept.end)?;
     push_place(writer, &kept.place)
@@ -116,7 +124,8 @@ pub(crate) fn push_feature(
 
 /// Puts attribute values at the end of the text.
 fn push_texts(writer: &mut ChainWriter, values: &[Text]) -> Result<(), AllocError>
-    ensures { OnOk result (writer.new ≡ record writer.old { text = writer.old.text ++ row_text values.now }) }
+    ensures { OnOk result (writer.new
+        ≡ record writer.old { text = writer.old.text ++ row_text values.now }) }
 {
     for value in values {
         push_text(writer, value.as_str())?;
@@ -137,7 +146,8 @@ fn push_blanks(writer: &mut ChainWriter, count: usize) -> Result<(), AllocError>
 
 /// Puts a row of attribute values at the end of the text.
 pub(crate) fn push_row(writer: &mut ChainWriter, row: &Values) -> Result<(), AllocError>
-    ensures { OnOk result (writer.new ≡ record writer.old { text = writer.old.text ++ row_text row.now }) }
+    ensures { OnOk result (writer.new
+        ≡ record writer.old { text = writer.old.text ++ row_text row.now }) }
 {
     let (values, blanks) = row.parts();
     push_texts(writer, values)?;

@@ -72,7 +72,8 @@ fn u16_of(bytes: &[u8]) -> u16
 fn shape_in(bytes: &[u8]) -> Option<Shape>
     requires { length bytes.now ≡ 4056 }
     ensures some { IfSome result (λ shape. SaysShape bytes.now shape) }
-    ensures none { result ≡ None → (shape : ShapeView) → IsShape shape → SaysShape bytes.now shape → ⊥ }
+    ensures none { result ≡ None → (shape : ShapeView) → IsShape shape
+        → SaysShape bytes.now shape → ⊥ }
 {
     let leaf = u16_of(part(bytes, 12, 2));
     let inner = u16_of(part(bytes, 14, 2));
@@ -83,7 +84,8 @@ fn shape_in(bytes: &[u8]) -> Option<Shape>
 fn limits_in(bytes: &[u8]) -> Option<Limits>
     requires { length bytes.now ≡ 4056 }
     ensures some { IfSome result (λ limits. SaysLimits bytes.now limits) }
-    ensures none { result ≡ None → (limits : LimitsView) → IsLimits limits → SaysLimits bytes.now limits → ⊥ }
+    ensures none { result ≡ None → (limits : LimitsView) → IsLimits limits
+        → SaysLimits bytes.now limits → ⊥ }
 {
     let legs = u64_of(part(bytes, 16, 8));
     let features = u32::try_from(u64_of(part(bytes, 24, 8))).ok()?;

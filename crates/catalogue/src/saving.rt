@@ -102,7 +102,8 @@ fn write_feature<S: PageStore>(
     feature: u32,
 ) -> Result<(), CatalogueFault>
     ensures same { index.new ≡ with_cache index.old index.new.cache }
-    ensures saves { Saves (feature_text (feature_at tracks.now index.old.places feature)) index.old.cache index.new.cache writer.old writer.new result }
+    ensures saves { Saves (feature_text (feature_at tracks.now index.old.places feature))
+        index.old.cache index.new.cache writer.old writer.new result }
 {
     let kept = kept_at(tracks, index.places(), feature);
     push_feature(writer, name_at(tracks, feature), &kept)?;
@@ -117,7 +118,8 @@ fn write_features<S: PageStore>(
     count: u32,
 ) -> Result<(), CatalogueFault>
     ensures same { index.new ≡ with_cache index.old index.new.cache }
-    ensures saves { count ≡ length tracks.now.names → Saves (features_text (features_of tracks.now index.old.places)) index.old.cache index.new.cache writer.old writer.new result }
+    ensures saves { count ≡ length tracks.now.names
+        → Saves (features_text (features_of tracks.now index.old.places)) index.old.cache index.new.cache writer.old writer.new result }
 {
     push_u32(writer, count)?;
     for feature in 0..count {
@@ -133,7 +135,8 @@ fn write_row<S: PageStore>(
     row: &Values,
 ) -> Result<(), CatalogueFault>
     ensures same { index.new ≡ with_cache index.old index.new.cache }
-    ensures saves { Saves (row_text row.now) index.old.cache index.new.cache writer.old writer.new result }
+    ensures saves { Saves (row_text row.now)
+        index.old.cache index.new.cache writer.old writer.new result }
 {
     push_row(writer, row)?;
     write_text(writer, index)
@@ -164,7 +167,8 @@ fn write_head<S: PageStore>(
     head: &BookHead,
 ) -> Result<(), CatalogueFault>
     ensures same { index.new ≡ with_cache index.old index.new.cache }
-    ensures saves { Saves (1 ∷ head_text (head_of head.now)) index.old.cache index.new.cache writer.old writer.new result }
+    ensures saves { Saves (1 ∷ head_text (head_of head.now))
+        index.old.cache index.new.cache writer.old writer.new result }
 {
     push_byte(writer, 1)?;
     push_head(writer, head)?;
@@ -208,7 +212,8 @@ fn write_catalogue<S: PageStore>(
     catalogue: &Catalogue,
 ) -> Result<(), CatalogueFault>
     ensures same { index.new ≡ with_cache index.old index.new.cache }
-    ensures saves { HasFew catalogue.now → Saves (catalogue_text (contents_of catalogue.now index.old.places)) index.old.cache index.new.cache writer.old writer.new result }
+    ensures saves { HasFew catalogue.now
+        → Saves (catalogue_text (contents_of catalogue.now index.old.places)) index.old.cache index.new.cache writer.old writer.new result }
 {
     match &catalogue.head {
         None => match push_byte(writer, 0) {
@@ -272,7 +277,8 @@ fn write_whole<S: PageStore>(
         ≡ Some (catalogue_text (contents_of catalogue.now index.old.places))) }
     ensures only { HasFew catalogue.now → IsTrue index.old.cache.store.is_faithful
         → IfErr result IsAllowed }
-    ensures caused { HasFew catalogue.now → IfErr result (IsCaused index.old.cache index.new.cache) }
+    ensures caused { HasFew catalogue.now → IfErr result (IsCaused
+        index.old.cache index.new.cache) }
 {
     let keys = catalogue.tracks.keys();
     let mut writer = match ChainWriter::new(alloc, keys, index.cache_mut(), earlier) {
@@ -336,7 +342,8 @@ pub fn save<S: PageStore>(
     ensures content { OnOk result (HasFew catalogue.now → content index.new ≡ content index.old) }
     ensures sound { OnOk result (HasFew catalogue.now → IsSound index.old → IsSound index.new) }
     ensures only { HasFew catalogue.now → IsSound index.old → IfErr result IsAllowed }
-    ensures caused { HasFew catalogue.now → IfErr result (IsCaused index.old.cache index.new.cache) }
+    ensures caused { HasFew catalogue.now → IfErr result (IsCaused
+        index.old.cache index.new.cache) }
 {
     boxsearch::laws();
     let earlier = earlier_page(index)?;
