@@ -77,6 +77,7 @@ module _ (old : IndexView) (c : Cache) (r : OnlyReads old.cache c) where
     content = same_content;
     sound = still_sound;
     spent = refl;
+    found_by = refl;
     later = record { plan = refl; faults = r.store.faults; asked = (let a = r.asked in omega (arith, clamps, a)) };
     clean = λ h n. r.changed n (h n);
     marked = still_marked;

@@ -14,3 +14,4 @@ pub mod AddLemmas
 pub mod NewLemmas
 pub mod MarkLemmas
 pub mod StartLemmas
+pub mod BoundLemmas

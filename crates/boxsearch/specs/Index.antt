@@ -1,6 +1,7 @@
 -- What contracts see of an index over pages.
-use Rattle.std.specs.Prelude.{ℕ, ◌≡◌, ◌<◌, ◌-◌, ◌^◌, ◌==◌, min, false, if◌then◌else◌, IsTrue, List, [], ◌∷◌, ◌++◌, take, drop, length, slice_get, Some, All}
+use Rattle.std.specs.Prelude.{ℕ, ◌≡◌, ◌<◌, ◌-◌, ◌^◌, ◌==◌, min, false, if◌then◌else◌, IsTrue, List, [], ◌∷◌, ◌++◌, map, take, drop, length, slice_get, Some, All}
 use Rattle.legs.specs.Costs.{ShapeView}
+use Rattle.legs.specs.Finding.{FeaturePlace, Finding}
 use Rattle.legs.specs.Index.{feature_count}
 use Rattle.legs.specs.Legs.{IsLeg, LegView}
 use Rattle.pages.specs.declared.payload.Kind.TheVariants.{Header}
@@ -70,6 +71,14 @@ marked payload = record { kind = Header; bytes = unfinished_front ++ drop 12 pay
 abbrev pub MarksFirst : Cache → Cache → Type 0
 MarksFirst old new = IsTrue old.store.is_faithful → (p : Payload) → payload_of old 0 ≡ Some p → payload_of new 0 ≡ Some (marked p)
 
+-- where a feature's legs are
+abbrev pub place_of : Place → FeaturePlace
+place_of p = record { first = p.first; last = p.last; last_index = p.last_index; legs = p.legs }
+
+-- the numbers by which it finds its legs
+abbrev pub found_by : IndexView → Finding
+found_by i = record { root = i.tree.root; levels = i.tree.levels; leaves = i.tree.leaves; legs = i.legs; places = map place_of i.places }
+
 -- what contracts say of an index over pages
 abbrev pub words : Ghosts IndexView
 words = record {
@@ -80,6 +89,7 @@ words = record {
   is_store_full = λ index. index.cache.count ≡ index.cache.store.most;
   asked = λ index. min index.cache.asked (2 ^ 64 - 1);
   plan = λ index. Some index.tree.shape;
+  found_by = λ index. found_by index;
   is_clean = λ index. IsClean index.cache;
   is_marked = λ index. IsMarked index.cache;
   written = λ index. written index;

@@ -6,3 +6,4 @@ pub mod Lending
 pub mod Putting
 pub mod Answers
 pub mod Marking
+pub mod Bounds

@@ -10,7 +10,7 @@ use timebase::Period;
 impl<S: PageStore> Listed for TreeIndex<S> {
     ghost use Rattle.std.specs.Prelude.{Some, min, ◌≡◌, ◌-◌, ◌^◌};
     ghost use Rattle.pagecache.specs.Cache.{IsClean};
-    ghost use Rattle.boxsearch.specs.Index.{content, written, IsSound, IsMarked};
+    ghost use Rattle.boxsearch.specs.Index.{content, found_by, written, IsSound, IsMarked};
 
     ghost content = { λ index. content index };
 
@@ -25,6 +25,8 @@ impl<S: PageStore> Listed for TreeIndex<S> {
     ghost asked = { λ index. min index.cache.asked (2 ^ 64 - 1) };
 
     ghost plan = { λ index. Some index.tree.shape };
+
+    ghost found_by = { λ index. found_by index };
 
     ghost is_clean = { λ index. IsClean index.cache };
 

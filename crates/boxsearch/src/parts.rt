@@ -1,7 +1,11 @@
 //! The parts of an index, for what is kept beside its tree.
-ghost use Rattle.std.specs.Prelude.{◌≡◌};
-ghost use Rattle.pagecache.specs.Cache.{Cache};
+ghost use Rattle.std.specs.Prelude.{ℕ, ◌≡◌, ◌≢◌, ◌<◌, ◌≤◌, ◌^◌, length, count_by, slice_get, IsTrue, None, Some};
+ghost use Rattle.std.specs.List.{sum_by};
+ghost use Rattle.legs.specs.Index.{is_of};
+ghost use Rattle.pagecache.specs.Cache.{payload_of, Cache};
+ghost use Rattle.tbtree.specs.declared.tree.Place.{Place};
 ghost use Rattle.boxsearch.specs.Beside.{with_cache, IsBeside};
+ghost use Rattle.boxsearch.specs.Bounds.{IsBounded};
 ghost use Rattle.boxsearch.specs.Index.{content, IndexView, IsSound};
 
 use crate::tree_index::TreeIndex;
@@ -64,6 +68,25 @@ pub fn laws()
         → content (with_cache index cache) ≡ content index }
     ensures sound { (index : IndexView) (cache : Cache) → IsBeside index.cache cache
         → IsSound index → IsSound (with_cache index cache) }
+
+    // A cache is beside another one where each page has the payload that it had.
+    ensures alike { (old new : Cache) → new.store.is_faithful ≡ old.store.is_faithful
+        → new.count ≡ old.count → new.store.count ≡ old.store.count
+        → (IsTrue old.store.is_faithful → (n : ℕ) → payload_of new n ≡ payload_of old n)
+        → IsBeside old new }
+
+    // There is a page 0, which has a payload.
+    ensures some_page { (index : IndexView) → IsSound index → 0 < index.cache.count }
+    ensures page_0 { (index : IndexView) → IsSound index → payload_of index.cache 0 ≢ None }
+
+    // The numbers of an index are those of its pages, and each place counts the legs of its feature.
+    ensures bounds { (index : IndexView) → IsSound index
+        → length (content index) ≤ 2 ^ 31 → IsBounded index }
+    ensures counts { (index : IndexView) → IsSound index → (feature : ℕ) (place : Place)
+        → slice_get index.places feature ≡ Some place
+        → place.legs ≡ count_by (is_of feature) (content index) }
+    ensures total { (index : IndexView) → IsSound index
+        → sum_by (λ (place : Place). place.legs) index.places ≡ length (content index) }
 {
     tbtree::laws();
 }

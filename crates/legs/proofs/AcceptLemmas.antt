@@ -90,7 +90,7 @@ accepted_records limits is (r ∷ records) b all lawful none =
       enough = omega (arith, others.enough, one_leg b r valid, length-append (record_legs b r) (records_legs (with_record b r) records));
     }
 
-first_or_ok : (faults : List (JoinCode × ℕ)) (all legs : List LegView) → first_or faults all ≡ Ok legs → (faults ≡ []) × (all ≡ legs)
+pub first_or_ok : (faults : List (JoinCode × ℕ)) (all legs : List LegView) → first_or faults all ≡ Ok legs → (faults ≡ []) × (all ≡ legs)
 first_or_ok [] all legs e = (refl, cc)
 first_or_ok (fault ∷ faults) all legs e = absurd (cc)
 

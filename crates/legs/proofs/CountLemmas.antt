@@ -102,3 +102,20 @@ names_inserted keys keys' key name t e fails named inserted =
       ap (map string_bytes) end ∙ map_push string_bytes keys key ∙ ap (λ n. map string_bytes keys ++ n ∷ []) named ∙ sym (ap (λ b. cond b (map string_bytes keys) (map string_bytes keys ++ name ∷ [])) is),
       ap length end ∙ length_push keys key,
     )
+
+-- whether a name is there
+pub name_there : (keys : List (String Global)) (name seen : List ℕ) (t : Bool) → seen ≡ name → t ≡ list_any (λ k. bytes_eq seen (string_bytes k)) keys → list_any (bytes_eq name) (map string_bytes keys) ≡ t
+name_there keys name seen t same e = ap (λ n. list_any (bytes_eq n) (map string_bytes keys)) (sym same) ∙ any-map (bytes_eq seen) string_bytes keys ∙ sym e
+
+-- a name that was not there stands at the end
+pub key_added : (keys keys' : List (String Global)) (key : String Global) → list_any (bytes_eq (string_bytes key)) (map string_bytes keys) ≡ false → keys' ≡ cond (list_any (string_eq key) keys) keys (keys ++ key ∷ [])
+    → (map string_bytes keys' ≡ map string_bytes keys ++ string_bytes key ∷ []) × (length keys' ≡ length keys + 1)
+key_added keys keys' key none inserted =
+    let new : list_any (string_eq key) keys ≡ false = sym (any-map (bytes_eq (string_bytes key)) string_bytes keys) ∙ none in
+    let end : keys' ≡ keys ++ key ∷ [] = inserted ∙ ap (λ b. cond b keys (keys ++ key ∷ [])) new in
+    (ap (map string_bytes) end ∙ map_push string_bytes keys key, ap length end ∙ length_push keys key)
+
+-- a feature more
+pub feature_added : (names names' : List (List ℕ)) (tracks tracks' : List Track) (legs rows : ℕ) (name : List ℕ) (track : Track) → names' ≡ names ++ name ∷ [] → tracks' ≡ tracks ++ track ∷ []
+    → view names' tracks' legs rows ≡ view (names ++ name ∷ []) (tracks ++ track ∷ []) legs rows
+feature_added names names' tracks tracks' legs rows name track n k = same_view (view names' tracks' legs rows) (view (names ++ name ∷ []) (tracks ++ track ∷ []) legs rows) n k refl refl

@@ -1,9 +1,9 @@
 -- Legs put at the end of an index, one after another.
-use Rattle.std.proofs.Common.{ℕ, ◌+◌, ◌-◌, ◌^◌, ◌≤◌, ◌≡◌, ◌∙◌, ◌++◌, ◌∷◌, [], ap, sym, subst, refl, List, min, arith, append_assoc}
+use Rattle.std.proofs.Common.{◌≡◌, ◌∙◌, ◌++◌, ◌∷◌, [], ap, sym, subst, refl, List, arith, append_assoc}
 use Rattle.std.proofs.lemmas.List.{append-nil}
 use Rattle.legs.specs.Legs.{LegView}
-use Rattle.legs.specs.Index.{CanFollowInTurn, HasRisen}
-use Rattle.legs.specs.Asking.{Ends, Grows, IsLater, Leaves, KeepsMarked}
+use Rattle.legs.specs.Index.{CanFollowInTurn}
+use Rattle.legs.specs.Asking.{Grows, IsLater, Leaves, KeepsMarked}
 use Rattle.legs.specs.declared.listed.Listed.{Ghosts}
 
 -- what is left to put makes of the index what all makes of it
@@ -41,6 +41,7 @@ leaves-refl g a = record {
   content = refl;
   sound = λ s. s;
   spent = refl;
+  found_by = refl;
   later = record { plan = refl; faults = omega arith; asked = omega arith };
   clean = λ c. c;
   marked = λ m. m;
@@ -52,6 +53,7 @@ leaves-trans g a b c p q = record {
   content = q.content ∙ p.content;
   sound = λ s. q.sound (p.sound s);
   spent = q.spent ∙ p.spent;
+  found_by = q.found_by ∙ p.found_by;
   later = later-trans g a b c p.later q.later;
   clean = λ x. q.clean (p.clean x);
   marked = λ x. q.marked (p.marked x);

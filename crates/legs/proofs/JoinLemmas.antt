@@ -1,6 +1,6 @@
 -- Joining a file, record by record.
-use Rattle.std.proofs.Common.{ℕ, ◌+◌, ◌≡◌, ◌∙◌, ap, sym, refl, List, [], ◌∷◌, ◌++◌, length, map, drop, Bool, true, false, cond, Option, Some, Ok, Err, inl, inr, append_assoc, ◌<◌, ◌≤◌, get_or, subst}
-use Rattle.std.specs.Prelude.{filter, bytes_eq, not}
+use Rattle.std.proofs.Common.{ℕ, ◌+◌, ◌≡◌, ◌∙◌, ap, sym, refl, List, [], ◌∷◌, ◌++◌, length, map, drop, Bool, false, cond, Option, Some, Ok, Err, inl, inr, append_assoc, ◌<◌, ◌≤◌, get_or, subst}
+use Rattle.std.specs.Prelude.{filter}
 use Rattle.std.proofs.lemmas.List.{append-nil, drop_more, drop_all}
 use Rattle.mfcsv.specs.declared.Head.{Head}
 use Rattle.legs.specs.declared.head.BookHead.{BookHead}

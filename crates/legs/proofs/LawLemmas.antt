@@ -1,26 +1,26 @@
 -- The law of a book with a file more.
-use Rattle.std.proofs.Common.{ℕ, zero, suc, ◌+◌, ◌<◌, ◌≤◌, ◌≡◌, ◌≢◌, ◌∙◌, ap, sym, refl, List, [], ◌∷◌, ◌++◌, length, map, get_or, true, false, eqb, arith, inl, inr, Option, Some, None, Ok, subst, AllPairs, Bool, ◌||◌, ltb}
+use Rattle.std.proofs.Common.{ℕ, zero, suc, ◌+◌, ◌<◌, ◌≤◌, ◌≡◌, ◌≢◌, ◌∙◌, ap, sym, refl, List, [], ◌∷◌, length, map, get_or, true, false, arith, inl, inr, Option, Some, None, Ok, subst, AllPairs, Bool, ◌||◌, ltb}
 use Rattle.std.specs.Prelude.{All, bytes_eq}
 use Rattle.std.specs.List.{range_with_len, list_any}
 use Rattle.std.proofs.lemmas.Bool.Decides.{nat_tests}
-use Rattle.std.proofs.lemmas.List.{append-nil, length-append, length_push}
+use Rattle.std.proofs.lemmas.List.{length-append, length_push}
 use Rattle.std.proofs.lemmas.List.Elements.{All-append, All-weaker, All-push, All-nil, All-head, All-tail, All-map}
 use Rattle.std.proofs.lemmas.List.Quantifiers.{all_pairs_push}
+use Rattle.mfcsv.specs.FileText.{HasWholeRows}
 use Rattle.mfcsv.specs.declared.File.{File}
 use Rattle.mfcsv.specs.declared.Head.{Head}
 use Rattle.legs.specs.declared.head.BookHead.{BookHead}
 use Rattle.mfcsv.specs.Views.{RecordView, IsRecord, leg_count}
 use Rattle.legs.specs.Legs.{LegView}
 use Rattle.legs.specs.Limits.{LimitsView, IsLimits}
-use Rattle.legs.specs.Index.{CanFollowInTurn}
-use Rattle.legs.specs.Book.{Book, empty_book, number_of, names_with, leg_at, record_legs, with_record, with_records, with_file, head_with, has_fault, faults_of, record_faults, joined}
+use Rattle.legs.specs.Book.{Book, empty_book, number_of, names_with, leg_at, record_legs, with_record, with_records, with_file, head_with, faults_of, record_faults, joined}
 use Rattle.legs.specs.Tracks.{IsLawful}
 use Rattle.legs.specs.Law.{IsName, IsThere, IsOrdered, IsBook}
-use Rattle.legs.specs.declared.joining.JoinCode.TheVariants.{F18, F19, F20}
 use Rattle.legs.proofs.NameLemmas.{known_or_new, names_with-known, names_with-new, text_self, any_is_first, length-names_with}
-use Rattle.legs.proofs.RecordLemmas.{lawful_more, with_record-names, with_record-legs, with_record-rows, with_record-head, follows_record, follow_append}
+use Rattle.legs.proofs.RecordLemmas.{lawful_more, with_record-names, with_record-legs, with_record-rows, follows_record, follow_append}
 use Rattle.legs.proofs.AcceptLemmas.{first_nil, second_nil, map_nil, faultless, few_after, one_leg, joined_is}
 use Rattle.legs.proofs.JoinLemmas.{free_of}
+use Rattle.legs.proofs.WidthLemmas.{rows_with_file}
 
 -- the law says what joining asks of a book
 pub lawful_of : (limits : LimitsView) (b : Book) → IsLimits limits → IsOrdered limits b → IsLawful b
@@ -37,7 +37,7 @@ or_false true b e = absurd (cc)
 or_false false b e = (refl, e)
 
 -- a name that is not there is another one
-other_at : (names : List (List ℕ)) (name : List ℕ) → list_any (bytes_eq name) names ≡ false → (k : ℕ) (d : List ℕ) → k < length names → get_or names k d ≢ name
+pub other_at : (names : List (List ℕ)) (name : List ℕ) → list_any (bytes_eq name) names ≡ false → (k : ℕ) (d : List ℕ) → k < length names → get_or names k d ≢ name
 other_at [] name none k d h = absurd (omega arith)
 other_at (n ∷ ns) name none zero d h = λ same.
     let first = (or_false (bytes_eq name n) (list_any (bytes_eq name) ns) none).0 in
@@ -119,8 +119,9 @@ headed None head e = absurd (cc)
 headed (Some first) head e = absurd (cc)
 
 -- a file that was joined keeps the law
-pub law_with_file : (limits : LimitsView) (book : Book) (file : File) (legs : List LegView) → IsLimits limits → All IsRecord file.records → IsBook limits book → joined limits book file ≡ Ok legs → IsBook limits (with_file book file)
-law_with_file limits book file legs is all law ok =
+pub law_with_file : (limits : LimitsView) (book : Book) (file : File) (legs : List LegView) → IsLimits limits → All IsRecord file.records → IsBook limits book → HasWholeRows file → joined limits book file ≡ Ok legs
+    → IsBook limits (with_file book file)
+law_with_file limits book file legs is all law whole ok =
     let now = with_records book file.records in
     let kept = ordered_all limits is file.records book all law.ordered (joined_is limits book file legs ok).0 in
     record {
@@ -136,6 +137,7 @@ law_with_file limits book file legs is all law ok =
         few_rows = kept.few_rows;
       };
       none = λ none. absurd (headed book.head file.head none);
+      rows = rows_with_file limits book file legs law whole ok;
     }
 
 -- a book without files keeps the law
@@ -153,4 +155,5 @@ law_empty limits = record {
     few_rows = omega arith;
   };
   none = λ none. refl;
+  rows = λ head at. absurd (cc);
 }

@@ -9,5 +9,6 @@ pub mod CountLemmas
 pub mod AcceptLemmas
 pub mod MomentLemmas
 pub mod GrowLemmas
+pub mod WidthLemmas
 pub mod LawLemmas
 pub mod OverLemmas

@@ -1,15 +1,15 @@
 -- Features whose last leg ends before a period.
-use Rattle.std.proofs.Common.{ℕ, ◌≡◌, ◌∙◌, ◌++◌, ◌∷◌, [], List, ap, sym, subst, refl, Bool, true, false, cond, eqb, arith, inl, inr, Option, Some, None, ℤ, ◌≤ℤ◌, ◌<ℤ◌, append_assoc, All}
-use Rattle.std.specs.Prelude.{filter, int_le}
+use Rattle.std.proofs.Common.{ℕ, ◌≡◌, ◌∙◌, ◌++◌, ◌∷◌, [], List, ap, sym, subst, refl, true, false, cond, eqb, arith, inl, inr, Option, Some, None, ℤ, ◌≤ℤ◌, ◌<ℤ◌, append_assoc, All}
+use Rattle.std.specs.Prelude.{filter}
 use Rattle.std.specs.Int.{int_max, int_min}
 use Rattle.std.specs.Option.{ForSome}
 use Rattle.std.proofs.lemmas.Bool.Decides.{nat_tests}
 use Rattle.std.proofs.lemmas.Int.{ints, clamps}
 use Rattle.std.proofs.lemmas.List.{append-nil}
-use Rattle.std.proofs.lemmas.List.Elements.{All-append, All-weaker, All-push, All-nil, All-head, All-tail}
+use Rattle.std.proofs.lemmas.List.Elements.{All-weaker, All-push, All-nil, All-head, All-tail}
 use Rattle.timebase.specs.Period.{PeriodView}
 use Rattle.legs.specs.Legs.{LegView, IsLeg, is_live}
-use Rattle.legs.specs.Index.{CanFollow, CanFollowInTurn, is_of, last_end, legs_of, live_legs_of}
+use Rattle.legs.specs.Index.{CanFollow, CanFollowInTurn, last_end, legs_of, live_legs_of}
 use Rattle.legs.proofs.BoxLemmas.{le_from}
 use Rattle.legs.proofs.NameLemmas.{cases_bool}
 use Rattle.legs.proofs.RecordLemmas.{last_end-push}

@@ -1,5 +1,5 @@
 -- What a call of an index leaves, and why it is refused.
-use Rattle.std.specs.Prelude.{ℕ, ◌≡◌, ◌≤◌, ◌+◌, ◌++◌, ◌∷◌, [], drop, Bool, true, List, Option, Result, Err, IfErr, IsErrOf, OnErr, OnOk}
+use Rattle.std.specs.Prelude.{ℕ, ◌≡◌, ◌≤◌, ◌++◌, ◌∷◌, [], drop, true, List, Option, Result, Err, IfErr, IsErrOf, OnErr, OnOk}
 use Rattle.legs.specs.Legs.{LegView}
 use Rattle.legs.specs.Index.{MayRefuse, MayRefuseLeg, HasRisen, CanFollowInTurn}
 use Rattle.legs.specs.Costs.{ShapeView, RisesBy, RisesAtMost, add_bound}
@@ -13,12 +13,13 @@ pub record IsLater {I : Type 0} (g : Ghosts I) (old new : I) : Type 0 where
   pub faults : g.faults old ≤ g.faults new
   pub asked : g.asked old ≤ g.asked new
 
--- what a question leaves, answered or not: the list, sound where it was, spent where it was; no page is
--- marked as changed, and where none was, none is written
+-- what a question leaves, answered or not: the list, sound where it was, spent where it was, and the numbers by
+-- which it finds its legs; no page is marked as changed, and where none was, none is written
 pub record Leaves {I : Type 0} (g : Ghosts I) (old new : I) : Type 0 where
   pub content : g.content new ≡ g.content old
   pub sound : g.is_sound old → g.is_sound new
   pub spent : g.is_spent new ≡ g.is_spent old
+  pub found_by : g.found_by new ≡ g.found_by old
   pub later : IsLater g old new
   pub clean : g.is_clean old → g.is_clean new
   pub marked : g.is_marked old → g.is_marked new

@@ -1,5 +1,5 @@
 -- How many pages a question of an index asks for, computed from the list of legs alone.
-use Rattle.std.specs.Prelude.{ℕ, zero, suc, ◌+◌, ◌-◌, ◌*◌, ◌<◌, ◌≡◌, ◌≤◌, ◌^◌, min, Bool, false, cond, nat_lt, List, [], ◌∷◌, length, filter, count_by, Option, Some, None, int_le}
+use Rattle.std.specs.Prelude.{ℕ, zero, suc, ◌+◌, ◌-◌, ◌*◌, ◌<◌, ◌≡◌, ◌≤◌, ◌^◌, min, Bool, false, cond, nat_lt, List, [], ◌∷◌, length, count_by, Option, Some, None, int_le}
 use Rattle.std.specs.Int.{div_ceil}
 use Rattle.std.specs.List.{list_any, range_with_len}
 use Rattle.timebase.specs.Period.{PeriodView}

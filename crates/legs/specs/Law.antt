@@ -1,5 +1,6 @@
 -- The law of a book.
-use Rattle.std.specs.Prelude.{ℕ, ◌≡◌, ◌≢◌, ◌≤◌, ◌<◌, List, [], length, All, AllPairs, None}
+use Rattle.std.specs.Prelude.{ℕ, ◌≡◌, ◌≢◌, ◌≤◌, ◌<◌, List, [], length, All, AllPairs, Some, None}
+use Rattle.legs.specs.declared.head.BookHead.{BookHead}
 use Rattle.legs.specs.Legs.{LegView}
 use Rattle.legs.specs.Index.{feature_count, last_end, CanFollowInTurn}
 use Rattle.legs.specs.Limits.{LimitsView}
@@ -35,3 +36,5 @@ pub record IsBook (limits : LimitsView) (book : Book) : Type 0 where
   pub ordered : IsOrdered limits book
   -- before the first accepted file there is nothing
   pub none : book.head ≡ None → book ≡ empty_book
+  -- each row has as many attribute values as the head has columns
+  pub rows : (head : BookHead) → book.head ≡ Some head → All (λ row. length row ≡ length head.columns) book.rows

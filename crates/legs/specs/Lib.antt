@@ -4,6 +4,7 @@ pub mod Index
 pub mod Blocks
 pub mod Hull
 pub mod Costs
+pub mod Finding
 pub mod Asking
 pub mod Law
 pub mod Limits

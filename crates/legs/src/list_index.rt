@@ -135,6 +135,7 @@ fn live_legs(alloc: Global, legs: &[Leg], period: &Period) -> Result<Vec<Leg>, A
 
 impl Listed for ListIndex {
     ghost use Rattle.std.specs.Prelude.{◌≡◌, false, All, None, []};
+    ghost use Rattle.legs.specs.Finding.{no_finding};
     ghost use Rattle.legs.specs.Legs.{IsLeg};
 
     ghost content = { λ index. index.legs };
@@ -150,6 +151,8 @@ impl Listed for ListIndex {
     ghost asked = { λ index. 0 };
 
     ghost plan = { λ index. None };
+
+    ghost found_by = { λ index. no_finding };
 
     ghost is_clean = { λ index. ⊥ };
 

@@ -6,6 +6,7 @@ pub trait Listed {
     ghost use Rattle.std.specs.Prelude.{ℕ, Bool, List, Option};
     ghost use Rattle.legs.specs.Legs.{LegView};
     ghost use Rattle.legs.specs.Costs.{ShapeView};
+    ghost use Rattle.legs.specs.Finding.{Finding};
 
     /// The legs in the index, in accepted order; of an index over pages, none where its store is not faithful.
     ghost content: { Self → List LegView };
@@ -27,6 +28,9 @@ pub trait Listed {
 
     /// The shape of its tree; none of an index that keeps a list.
     ghost plan: { Self → Option ShapeView };
+
+    /// The numbers by which it finds its legs; all zero of an index that keeps a list.
+    ghost found_by: { Self → Finding };
 
     /// No page is changed; never of an index that keeps a list.
     ghost is_clean: { Self → Type 0 };

@@ -194,6 +194,10 @@ fn accepted(alloc: Global, keys: RandomState) -> Option<Tracks> {
     Some(tracks)
 }
 
+fn text(alloc: Global, name: &str) -> Option<String> {
+    String::from_str(alloc, name).ok()
+}
+
 fn is_track(track: Option<Track>, end: i64, legs: u64) -> bool {
     match track {
         Some(track) => moments(track.end, track.end) == (end, end) && track.legs == legs,
@@ -223,6 +227,38 @@ fn accepts(alloc: Global, keys: RandomState) -> Option<bool> {
 fn a_file_is_accepted(rt: HostRuntime) -> Result<(), Fail> {
     let keys = RandomState::new(&rt)?;
     assert_holds!(rt, accepts, keys);
+    Ok(())
+}
+
+/// Features that are added one after another, the last by a name that is there.
+fn adds(alloc: Global, keys: RandomState) -> Option<bool> {
+    let mut tracks = Tracks::new(alloc, keys).ok()?;
+    let track = accepted(alloc, keys)?.track(0)?;
+    let first = tracks.add(text(alloc, "a")?, track).ok()?;
+    let second = tracks.add(text(alloc, "b")?, track).ok()?;
+    let again = tracks.add(text(alloc, "a")?, track).ok()?;
+    Some(
+        (first, second, again) == (true, true, false)
+            && (tracks.feature_count(), tracks.leg_count()) == (2, 8)
+            && tracks.feature("b") == Some(1)
+            && is_track(tracks.track(1), 1000, 4),
+    )
+}
+
+/// As many rows as legs, and one more.
+fn sets_rows(alloc: Global, keys: RandomState) -> Option<bool> {
+    let mut tracks = accepted(alloc, keys)?;
+    let refused = tracks.set_rows(6);
+    let before = tracks.row_count();
+    let set = tracks.set_rows(5);
+    Some((refused, before, set, tracks.row_count()) == (false, 3, true, 5))
+}
+
+#[test]
+fn tracks_are_read_back(rt: HostRuntime) -> Result<(), Fail> {
+    let keys = RandomState::new(&rt)?;
+    assert_holds!(rt, adds, keys);
+    assert_holds!(rt, sets_rows, keys);
     Ok(())
 }
 

@@ -77,7 +77,9 @@ fn insert_name(
 }
 
 impl Tracks {
-    ghost use Rattle.std.specs.Prelude.{ℕ, ◌≡◌, ◌≤◌, ◌<◌, ◌^◌, ◌++◌, ◌∷◌, [], Ok, length, map, fold, slice_get, OnOk, OnErr, IfOk, IsTrue, All};
+    ghost use Rattle.std.specs.Prelude.{ℕ, ◌≡◌, ◌≢◌, ◌≤◌, ◌<◌, ◌+◌, ◌-◌, ◌^◌, ◌++◌, ◌∷◌, [], Ok, true, false, if◌then◌else◌, length, map, min, nat_le, fold, slice_get, bytes_eq, OnOk, OnErr, IfOk, IsTrue, All};
+    ghost use Rattle.std.specs.List.{list_any};
+    ghost use Rattle.std.specs.String.{string_bytes};
     ghost use Rattle.std.specs.Option.{option_copied, option_map};
     ghost use Rattle.legs.specs.Limits.{LimitsView, IsLimits};
     ghost use Rattle.legs.specs.Book.{Book, empty_book, feature_of, joined, with_file, names_with};
@@ -86,11 +88,18 @@ impl Tracks {
     ghost use Rattle.legs.specs.Legs.{IsLeg};
     ghost use Rattle.legs.specs.Index.{live_legs_of};
     ghost use Rattle.legs.specs.Counting.{AddsNames, Extends};
+    ghost use Rattle.mfcsv.specs.FileText.{HasWholeRows};
 
     /// The tracks of a book without legs. Names are hashed with the keys, which a stranger who chooses the names
     /// of a file is not to know.
     pub fn new(alloc: Global, keys: RandomState) -> Result<Tracks, AllocError>
-        ensures { IfOk result (λ tracks. StandsFor tracks empty_book) }
+        ensures empty { IfOk result (λ tracks. StandsFor tracks empty_book) }
+        ensures none { IfOk result (λ tracks. tracks ≡ record {
+          names = [];
+          tracks = [];
+          legs = 0;
+          rows = 0;
+        }) }
     {
         Ok(Tracks {
             alloc,
@@ -177,7 +186,8 @@ impl Tracks {
             → StandsFor self.new (with_file book file.now)) }
         // The law of a book is kept.
         ensures law { OnOk result ((limits : LimitsView) (book : Book) → IsLimits limits
-            → IsBook limits book → joined limits book file.now ≡ Ok legs.now
+            → IsBook limits book → HasWholeRows file.now
+            → joined limits book file.now ≡ Ok legs.now
             → IsBook limits (with_file book file.now)) }
         ensures err { OnErr result (self.new ≡ self.old) }
     {
@@ -191,6 +201,44 @@ impl Tracks {
             .saturating_add(records.len() as u64)
             .min(self.legs);
         Ok(())
+    }
+
+    /// Adds a feature with its track, where its name is not there yet, and says whether it was new.
+    pub fn add(&mut self, name: String, track: Track) -> Result<bool, AllocError>
+        ensures added { IfOk result (λ new. new ≡ true
+            → All (λ other. other ≢ string_bytes name) self.old.names
+            × (self.new ≡ record {
+              names = self.old.names ++ string_bytes name ∷ [];
+              tracks = self.old.tracks ++ track ∷ [];
+              legs = min (self.old.legs + track.legs) (2 ^ 64 - 1);
+              rows = self.old.rows;
+            })) }
+        ensures there { IfOk result (λ new. new ≡ false
+            → IsTrue (list_any (bytes_eq (string_bytes name)) self.old.names)
+            × (self.new ≡ self.old)) }
+        ensures err { OnErr result (self.new ≡ self.old) }
+    {
+        if self.names.contains(name.as_str()) {
+            return Ok(false);
+        }
+        let legs = track.legs;
+        self.tracks.reserve(1)?;
+        self.names.insert(name)?;
+        self.tracks.push(track).unwrap();
+        self.legs = self.legs.saturating_add(legs);
+        Ok(true)
+    }
+
+    /// Sets the number of rows, where there are no more than legs, and says whether it did.
+    pub fn set_rows(&mut self, rows: u64) -> bool
+        ensures fits { result ≡ nat_le rows self.old.legs }
+        ensures set { self.new ≡ if result then record self.old { rows = rows } else self.old }
+    {
+        if rows > self.legs {
+            return false;
+        }
+        self.rows = rows;
+        true
     }
 
     /// Adds the names that are not there yet, each with an empty track.

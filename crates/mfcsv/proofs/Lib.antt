@@ -9,3 +9,4 @@ pub mod FaultLemmas
 pub mod AnswerLemmas
 pub mod WalkLemmas
 pub mod ReadLemmas
+pub mod WholeLemmas

@@ -1,5 +1,5 @@
 -- What the records of a file say: its text fault, or the file.
-use Rattle.std.specs.Prelude.{ℕ, ◌+◌, ◌&&◌, not, Bool, List, [], ◌∷◌, map, filter, find, length, Option, Some, None, option_and_then, option_to_list, Result, Ok, Err, ℤ}
+use Rattle.std.specs.Prelude.{ℕ, ◌≡◌, ◌+◌, ◌&&◌, not, Bool, All, List, [], ◌∷◌, map, filter, find, length, Option, Some, None, option_and_then, option_to_list, Result, Ok, Err, ℤ}
 use Rattle.std.specs.List.{list_all, flat_map}
 use Rattle.std.specs.Str.{is_utf8}
 use Rattle.timebase.specs.declared.Unit.{Unit}
@@ -132,3 +132,7 @@ text_of_rows rows =
 -- what the bytes of a file say
 abbrev pub file_text : List ℕ → Result File (Code × ℕ)
 file_text bytes = text_of_rows (rows_of bytes)
+
+-- each record has as many attribute values as there are columns
+abbrev pub HasWholeRows : File → Type 0
+HasWholeRows file = All (λ (r : RecordView). length r.attributes ≡ length file.head.columns) file.records

@@ -1,10 +1,10 @@
 //! Reading a file.
-ghost use Rattle.std.specs.Prelude.{◌≡◌, ◌++◌, [], true};
+ghost use Rattle.std.specs.Prelude.{◌≡◌, ◌++◌, [], true, IfOk};
 ghost use Rattle.std.specs.List.{list_all};
 ghost use Rattle.std.specs.Str.{is_utf8};
 ghost use Rattle.mfcsv.specs.Unread.{cells};
 ghost use Rattle.mfcsv.specs.Header.{kind_of, heads_after};
-ghost use Rattle.mfcsv.specs.FileText.{file_text, file_with, first_fault, line_of, no_heads, records_of};
+ghost use Rattle.mfcsv.specs.FileText.{HasWholeRows, file_text, file_with, first_fault, line_of, no_heads, records_of};
 ghost use Rattle.mfcsv.specs.Answer.{Gives, Judges, fault_at};
 
 use crate::data_record::read_record;
@@ -101,7 +101,8 @@ fn fault_at(number: u64, fault: RowFault) -> FileFault
 /// Byte order marks at the very start are dropped. The records are read one at a time; nothing is
 /// kept of one but what the file has of it.
 pub fn read_file(alloc: Global, bytes: &[u8]) -> Result<File, FileFault>
-    ensures { Gives result (file_text bytes.now) }
+    ensures text { Gives result (file_text bytes.now) }
+    ensures rows { IfOk result HasWholeRows }
 {
     let mut reader = read_rows(alloc, bytes);
     let mut row = StringRecord::new(alloc);

@@ -1,7 +1,8 @@
 //! The cache as its callers see it.
 ghost use Rattle.std.specs.Prelude.{◌≡◌, ◌<◌, ◌≤◌, Some, None, IsTrue, IfOk, IfErr, OnOk, OnErr, IsErrOf, length};
 ghost use Rattle.std.specs.Borrow.{sem};
-ghost use Rattle.pagecache.specs.Cache.{fresh, payload_of, Adds, Stays, SameLength, AsksOnce, IsNotAdded, IsStopped, IsWritten};
+ghost use Rattle.pagecache.specs.Cache.{fresh, payload_of, Adds, Stays, SameLength, AsksOnce, IsNotAdded, IsSettled, IsStopped, IsWritten};
+ghost use Rattle.pages.specs.Store.{IsLawful};
 ghost use Rattle.pages.specs.Zero.{zero_payload};
 ghost use Rattle.pagecache.specs.PageLends.{LendsPage, ShowsPage};
 
@@ -113,6 +114,7 @@ impl<S: PageStore> PageCache<S> {
     pub fn count(&self) -> u32
         ensures value { result ≡ self.now.count }
         ensures within { result ≤ self.now.store.count }
+        ensures settled { IsSettled self.now }
     {
         self.slots.count
     }
@@ -127,7 +129,9 @@ impl<S: PageStore> PageCache<S> {
 
     /// The store below, as it stands.
     pub fn store(&self) -> &S
-        ensures { S.seen result.now ≡ self.now.store }
+        ensures value { S.seen result.now ≡ self.now.store }
+        ensures settled { IsSettled self.now }
+        ensures lawful { IsLawful self.now.store }
     {
         &self.slots.store
     }

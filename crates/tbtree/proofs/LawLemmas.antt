@@ -15,9 +15,9 @@ use Rattle.legs.specs.Index.{CanFollowInTurn, legs_of}
 use Rattle.legs.specs.Legs.{LegView}
 use Rattle.tbtree.specs.Descent.{legs_met, pages_met, IsPruning, Descends, sort_by_ordinal, content_of, children_met, entries_in, legs_in, node_at, node_in, IsSameTree}
 use Rattle.tbtree.specs.Insert.{Stands, IsPlace}
-use Rattle.tbtree.specs.Nodes.{EntryView, InnerView, LeafView, Node, ALeaf, AnInner, Pages, HasLeaf}
+use Rattle.tbtree.specs.Nodes.{EntryView, Node, ALeaf, AnInner, Pages, HasLeaf}
 use Rattle.tbtree.specs.Shape.{IsShape}
-use Rattle.tbtree.specs.Stands.{NumbersStand, owner, pages_of, marks, leaf_of, no_place, head_or_zero, last_or}
+use Rattle.tbtree.specs.Stands.{owner, pages_of, marks, leaf_of, no_place, head_or_zero, last_or}
 use Rattle.tbtree.specs.declared.tree.TbTree.{TbTree}
 use Rattle.tbtree.proofs.BlockLemmas.{all_pass}
 use Rattle.tbtree.proofs.BlockLevels.{one_above}

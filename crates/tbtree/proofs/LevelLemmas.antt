@@ -7,7 +7,7 @@ use Rattle.tbtree.specs.Stands.{NumbersStand}
 use Rattle.tbtree.proofs.FullLemmas.{one_group}
 
 -- more than one group of m needs more than m elements
-wide_level : {X : Type 0} (m : ℕ) (xs : List X) → 0 < length xs → 1 < length (groups m xs) → m < length xs
+pub wide_level : {X : Type 0} (m : ℕ) (xs : List X) → 0 < length xs → 1 < length (groups m xs) → m < length xs
 wide_level m xs some many = ⊎_elim (λ (h : m < length xs). h) (λ (h : length xs ≤ m). absurd (let one = one_group m xs some h in omega (arith, one, many))) (cases_lt m (length xs))
 
 pub low_tree : {L : Type 0} (inner levels root count : ℕ) (runs : List (List L)) (pages : ℕ → List ℕ) → 2 ≤ inner → NumbersStand inner levels root count runs pages → 0 < length runs → length runs < 2 ^ 32 → levels < 34

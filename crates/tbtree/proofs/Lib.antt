@@ -34,3 +34,4 @@ pub mod StepDown
 pub mod DescentLemmas
 pub mod LawLemmas
 pub mod LegalLemmas
+pub mod LimitLemmas

@@ -7,3 +7,4 @@ pub mod Stands
 pub mod Way
 pub mod Insert
 pub mod Descent
+pub mod Bounds

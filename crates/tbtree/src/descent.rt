@@ -6,11 +6,13 @@ ghost use Rattle.legs.specs.Hull.{leg_boxes};
 ghost use Rattle.legs.specs.Index.{legs_of};
 ghost use Rattle.legs.specs.Legs.{IsLeg, LegView};
 ghost use Rattle.pagecache.specs.Cache.{Cache};
+ghost use Rattle.tbtree.specs.Bounds.{IsBounded, IsBoundedPlace};
 ghost use Rattle.tbtree.specs.Descent.{content_of, Descends, IsPruning, IsSameTree};
 ghost use Rattle.tbtree.specs.Insert.{IsPlace, Stands};
 ghost use Rattle.tbtree.specs.Nodes.{Pages, pages_of_cache};
 ghost use Rattle.tbtree.specs.Shape.{IsShape};
 ghost use Rattle.tbtree.specs.Stands.{no_place};
+ghost use Rattle.tbtree.specs.declared.tree.Place.{Place};
 ghost use Rattle.tbtree.specs.declared.tree.TbTree.{TbTree};
 
 /// What holds of the pages of a tree, and of pages that stand for legs, for the proofs of a caller. It does nothing.
@@ -48,6 +50,15 @@ pub fn laws()
     ensures absent { (nodes : Pages LegView BoxView) (tree : TbTree) (legs : List LegView)
         (pages : ℕ → List ℕ) (feature : ℕ) → IsShape tree.shape → Stands nodes tree legs pages
         → legs_of feature legs ≡ [] → IsPlace tree legs pages feature no_place }
+
+    // The numbers of a tree and of its places are those of its pages and legs.
+    ensures bounds { (nodes : Pages LegView BoxView) (tree : TbTree) (legs : List LegView)
+        (pages : ℕ → List ℕ) → IsShape tree.shape → Stands nodes tree legs pages
+        → IsBounded nodes tree legs }
+    ensures place_bounds { (nodes : Pages LegView BoxView) (tree : TbTree)
+        (legs : List LegView) (pages : ℕ → List ℕ) (feature : ℕ) (place : Place)
+        → Stands nodes tree legs pages → IsPlace tree legs pages feature place
+        → IsBoundedPlace nodes legs feature place }
 {
     tbnode::laws();
 }

@@ -1,4 +1,5 @@
 use Rattle.boxsearch.proofs.StartLemmas.{beside_content, beside_sound}
+use Rattle.boxsearch.proofs.BoundLemmas.{alike, all_counted, bounded, first_held, first_there, place_counts}
 use Rattle.boxsearch.proofs.parts.laws.Goals as goal
 
 pub returns-clause-content : goal.returns-clause-content
@@ -6,3 +7,21 @@ returns-clause-content c = beside_content (record { content = c.laws.ensures.sam
 
 pub returns-clause-sound : goal.returns-clause-sound
 returns-clause-sound c = beside_sound (record { content = c.laws.ensures.same; stands = c.laws.ensures.same_stands })
+
+pub returns-clause-alike : goal.returns-clause-alike
+returns-clause-alike c = alike
+
+pub returns-clause-some_page : goal.returns-clause-some_page
+returns-clause-some_page c = first_there (record { of = c.laws.ensures.bounds; place = c.laws.ensures.place_bounds })
+
+pub returns-clause-page_0 : goal.returns-clause-page_0
+returns-clause-page_0 c = first_held (record { of = c.laws.ensures.bounds; place = c.laws.ensures.place_bounds })
+
+pub returns-clause-bounds : goal.returns-clause-bounds
+returns-clause-bounds c = bounded (record { of = c.laws.ensures.bounds; place = c.laws.ensures.place_bounds })
+
+pub returns-clause-counts : goal.returns-clause-counts
+returns-clause-counts c = place_counts (record { of = c.laws.ensures.bounds; place = c.laws.ensures.place_bounds })
+
+pub returns-clause-total : goal.returns-clause-total
+returns-clause-total c = all_counted (record { of = c.laws.ensures.bounds; place = c.laws.ensures.place_bounds })

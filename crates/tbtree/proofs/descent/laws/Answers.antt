@@ -1,5 +1,6 @@
 use Rattle.tbtree.proofs.LawLemmas.{content_is, descends, height_is, legs_fit, absent_is, same_content, still_stands}
 use Rattle.tbtree.proofs.LegalLemmas.{content_lawful}
+use Rattle.tbtree.proofs.LimitLemmas.{bounded, bounded_place}
 use Rattle.tbtree.proofs.descent.laws.Goals as goal
 
 pub returns : goal.returns
@@ -12,4 +13,6 @@ returns c = record {
   height = height_is;
   fits = legs_fit;
   absent = absent_is;
+  bounds = bounded;
+  place_bounds = bounded_place;
 }

@@ -27,6 +27,6 @@ returns-clause-ok c = λ limits book is stands ok.
     (c.saturating_add.ensures ∙ ap (λ n. min (n + length c.as_slice-records.result.now) (2 ^ 64 - 1)) rows ∙ ap (λ rs. min (c.add_names.new.self.rows + length rs) (2 ^ 64 - 1)) c.as_slice-records.ensures))
 
 pub returns-clause-law : goal.returns-clause-law
-returns-clause-law c = λ limits book is law ok.
+returns-clause-law c = λ limits book is law whole ok.
     let adds = rw c.as_slice-records.ensures at c.in_ok-add_names.ensures.ok in
-    law_with_file limits book c.args.file.now c.args.legs.now is adds.lawful law ok
+    law_with_file limits book c.args.file.now c.args.legs.now is adds.lawful law whole ok

@@ -1,7 +1,6 @@
-use Rattle.std.proofs.Common.{◌≡◌, ◌∙◌, ◌<◌, ◌<ℤ◌, ap, sym, length, List, Option, Some, arith, IsTrue, true}
+use Rattle.std.proofs.Common.{◌≡◌, ◌∙◌, ◌<◌, ◌<ℤ◌, ap, sym, length, List, Some, arith}
 use Rattle.std.proofs.lemmas.Int.{ints}
 use Rattle.std.proofs.lemmas.Option.{slice_get_within, get_or_from_slice_get}
-use Rattle.timebase.specs.Period.{PeriodView}
 use Rattle.legs.specs.Index.{last_end}
 use Rattle.legs.specs.declared.tracks.Track.{Track}
 use Rattle.legs.proofs.OverLemmas.{over_is}
