@@ -144,7 +144,7 @@ written_length at p (q ∷ pages) written w =
     omega (arith, rest, n, e)
 
 -- how many pages a text fills
-pages_of : (n k : ℕ) → 0 < k → k ≤ 4040 → div_ceil (4040 * n + k) 4040 ≡ suc n
+pub pages_of : (n k : ℕ) → 0 < k → k ≤ 4040 → div_ceil (4040 * n + k) 4040 ≡ suc n
 pages_of n k some few = omega arith
 
 pub text_is_at : (at : ℕ → Option Payload) (p : ℕ) (pages written rest text : List ℕ) → text ≡ written ++ rest → AreWritten at (p ∷ pages) written → at (get_or (p ∷ pages) (length pages) 0) ≡ Some (part_payload 0 rest) → 0 < length rest → length rest ≤ 4040

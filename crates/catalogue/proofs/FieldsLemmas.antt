@@ -109,3 +109,7 @@ pub put_has : (payload : Payload) (f : Fields) (bytes : List ℕ) → length byt
 put_has payload f bytes len e = record {
   fields = ap (part 12 48) e ∙ part-put_same 12 (fields_bytes f) bytes 48 (sym (fields_length f)) (omega (arith, len));
 }
+
+-- what stands behind them stays
+pub rest_stays : (f : Fields) (bytes : List ℕ) → length bytes ≡ 4056 → drop 60 (put 12 (fields_bytes f) bytes) ≡ drop 60 bytes
+rest_stays f bytes len = let n = fields_length f in drop-put 12 (fields_bytes f) bytes 60 (omega (arith, n)) (omega (arith, len))

@@ -1,4 +1,5 @@
 pub mod BeginLemmas
+pub mod BuildLemmas
 pub mod ReaderLemmas
 pub mod ValueLemmas
 pub mod PrefixLemmas
@@ -14,3 +15,10 @@ pub mod EncodingLemmas
 pub mod SavingLemmas
 pub mod FieldsLemmas
 pub mod SaveLemmas
+pub mod RestoreLemmas
+pub mod SameLemmas
+pub mod OpenLemmas
+pub mod HeaderTextLemmas
+pub mod FinishLemmas
+pub mod RestLemmas
+pub mod CloseLemmas

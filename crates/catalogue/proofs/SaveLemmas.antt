@@ -1,55 +1,30 @@
 -- A catalogue in the pages of an index.
-use Rattle.std.proofs.Common.{ℕ, zero, suc, ◌≡◌, ◌+◌, ◌-◌, ◌<◌, ◌≤◌, ◌==◌, nat_le, ◌&&◌, min, cond, false, ⊎_elim, List, ◌++◌, length, refl, sym, ap, ◌∙◌, arith, IsTrue, Option, Some, None, option_map, option_and_then}
+use Rattle.std.proofs.Common.{ℕ, ◌≡◌, ◌<◌, ◌≤◌, ◌==◌, cond, false, ⊎_elim, List, sym, ap, ◌∙◌, arith, subst, IsTrue, Some, option_map}
 use Rattle.std.specs.Int.{div_ceil}
 use Rattle.std.proofs.lemmas.Bool.{cases_lt}
 use Rattle.std.proofs.lemmas.Bool.Decides.{nat_tests}
-use Rattle.pages.specs.declared.payload.Kind.TheVariants.{Header}
-use Rattle.pages.specs.declared.payload.Payload.{Payload}
+use Rattle.legs.specs.Limits.{IsLimits}
 use Rattle.pagecache.specs.Cache.{Cache, payload_of}
 use Rattle.chains.specs.Reads.{OnlyReads}
 use Rattle.tbnode.specs.Form.{node_of}
-use Rattle.tbnode.specs.Parts.{number_at}
 use Rattle.tbtree.specs.Descent.{node_in}
 use Rattle.tbtree.specs.Passes.{Passes}
+use Rattle.tbtree.specs.Shape.{IsShape}
+use Rattle.tbtree.specs.declared.tree.Place.{Place}
+use Rattle.tbtree.specs.declared.tree.TbTree.{TbTree}
 use Rattle.boxsearch.specs.Beside.{IsBeside}
-use Rattle.catalogue.specs.Chain.{most_used, is_catalogue, is_part, next_in, text_in, chain_text, text_at}
-use Rattle.catalogue.specs.Saved.{HasHeader, KeepsFront}
-use Rattle.catalogue.specs.Saving.{PutsFields}
+use Rattle.catalogue.specs.Chain.{most_used}
+use Rattle.catalogue.specs.ChainWriter.{HasText}
+use Rattle.catalogue.specs.Fields.{FitsFields, HasFields}
+use Rattle.catalogue.specs.Lasting.{Says}
+use Rattle.catalogue.specs.Saved.{fields_for, CatalogueView, KeepsFront}
+use Rattle.catalogue.specs.Saving.{contents_of, PutsFields}
+use Rattle.catalogue.specs.Text.{catalogue_text, IsWhole}
 use Rattle.catalogue.specs.declared.header_fields.Fields.{Fields}
-use Rattle.catalogue.proofs.ReaderLemmas.{some_none, some_same}
+use Rattle.catalogue.proofs.ReaderLemmas.{some_none}
 
 not_first : (n : ℕ) → 0 < n → (0 == n) ≡ false
 not_first n h = grind (arith, nat_tests, h)
-
--- no text lies in a header
-no_part : (used : ℕ) (payload : Payload) → payload.kind ≡ Header → is_part used payload ≡ false
-unfolding is_part
-no_part used payload e = ap (λ k. is_catalogue k && nat_le (16 + used) (length payload.bytes) && (number_at 2 4 payload.bytes == used) && ((number_at 2 6 payload.bytes == 0) && (number_at 8 8 payload.bytes == 0))) e
-
-module _ (at at' : ℕ → Option Payload) (others : (p : ℕ) → 0 < p → at' p ≡ at p) (p p' : Payload) (is : at 0 ≡ Some p) (is' : at' 0 ≡ Some p') (kind : p.kind ≡ Header) (kind' : p'.kind ≡ Header) where
-  abbrev go : (ℕ → Option Payload) → ℕ → ℕ → Payload → Option (List ℕ)
-  go at n left payload = cond (is_part (min most_used left) payload) (option_map (λ t. text_in (min most_used left) payload ++ t) (chain_text at n (left - most_used) (next_in payload))) None
-
-  header_none : (at : ℕ → Option Payload) (n left : ℕ) (payload : Payload) → payload.kind ≡ Header → go at n left payload ≡ None
-  header_none at n left payload e = ap (λ b. cond b (option_map (λ t. text_in (min most_used left) payload ++ t) (chain_text at n (left - most_used) (next_in payload))) None) (no_part (min most_used left) payload e)
-
-  same_chain : (n left q : ℕ) → chain_text at' n left q ≡ chain_text at n left q
-  same_chain zero left q = refl
-  same_chain (suc n) left q =
-      ⊎_elim
-      (λ (h : 0 < q). ap (option_and_then (go at' n left)) (others q h) ∙ inner (λ q. same_chain n (left - most_used) q) (at q))
-      (λ (h : q ≤ 0).
-      let z : 0 ≡ q = omega (arith, h) in
-      ap (λ k. option_and_then (go at' n left) (at' k)) (sym z) ∙ ap (option_and_then (go at' n left)) is' ∙ header_none at' n left p' kind'
-      ∙ sym (ap (λ k. option_and_then (go at n left) (at k)) (sym z) ∙ ap (option_and_then (go at n left)) is ∙ header_none at n left p kind))
-      (cases_lt 0 q) where
-        inner : ((q : ℕ) → chain_text at' n (left - most_used) q ≡ chain_text at n (left - most_used) q) → (o : Option Payload) → option_and_then (go at' n left) o ≡ option_and_then (go at n left) o
-        inner more None = refl
-        inner more (Some payload) = ap (λ x. cond (is_part (min most_used left) payload) (option_map (λ t. text_in (min most_used left) payload ++ t) x) None) (more (next_in payload))
-
-  pub same_text : (length first : ℕ) → text_at at' length first ≡ text_at at length first
-  unfolding text_at
-  same_text length first = same_chain (div_ceil length most_used) length first
 
 -- pages that are only read
 pub reads_beside : (a b : Cache) → OnlyReads a b → IsBeside a b
@@ -89,18 +64,40 @@ module _ (c d : Cache) (fields : Fields) (puts : PutsFields fields c d) where
         };
       }
 
-  module _ (a b : Cache) (reads : OnlyReads a b) (passes : Passes b c) (fa : IsTrue a.store.is_faithful) (some : 0 < a.count) where
+  puts_count : d.count ≡ c.count
+  puts_count = puts.lends.writes.count
+
+  module _ (a b : Cache) (reads : OnlyReads a b) (passes : Passes b c) (fa : IsTrue a.store.is_faithful) where
     fc : IsTrue c.store.is_faithful
     fc = passes.store.faithful ∙ reads.store.faithful ∙ fa
 
-    -- page 0 was as it had been
-    was_is : payload_of a 0 ≡ Some puts.was
-    was_is = sym (passes.first (reads.store.faithful ∙ fa) (let n = reads.count in omega (arith, some, n)) ∙ reads.payloads fa 0) ∙ puts.before fc
+    pub keeps_front : 0 < a.count → KeepsFront a d
+    keeps_front some = record {
+      was = puts.was;
+      before = sym (passes.first (reads.store.faithful ∙ fa) (let n = reads.count in omega (arith, some, n)) ∙ reads.payloads fa 0) ∙ puts.before fc;
+      payload = puts.now;
+      is = now_is fc;
+      kind = puts.kind;
+      front = puts.front;
+      rest = puts.rest;
+    }
 
-    pub keeps_front : KeepsFront a d
-    keeps_front = record { was = puts.was; before = was_is; payload = puts.now; is = now_is fc; kind = puts.kind; front = puts.front }
-
-    pub text_stays : HasHeader a → (length first : ℕ) → text_at (payload_of d) length first ≡ text_at (payload_of c) length first
-    text_stays h =
-        let same = ap (λ (p : Payload). p.kind) (some_same puts.was h.payload (sym was_is ∙ h.is)) ∙ h.kind in
-        same_text (payload_of c) (payload_of d) (other fc) puts.was puts.now (puts.before fc) (now_is fc) same (puts.kind ∙ same)
+    -- page 0 says where the text is, and the text is there
+    pub says : (catalogue : CatalogueView) (tree t : TbTree) (places ps : List Place) (first length : ℕ) → fields ≡ fields_for catalogue.limits catalogue.head t first length → FitsFields fields × IsShape fields.shape × IsLimits fields.limits → tree ≡ t → places ≡ ps
+        → HasText c length first (catalogue_text (contents_of catalogue ps)) → div_ceil length most_used ≤ c.count → IsWhole (contents_of catalogue ps) → Says (payload_of d) d.count catalogue tree places
+    says catalogue tree t places ps first length are fits same same_places text few whole =
+        let e : fields ≡ fields_for catalogue.limits catalogue.head tree first length = are ∙ ap (λ t. fields_for catalogue.limits catalogue.head t first length) (sym same) in
+        let n = puts_count in
+        record {
+          first = first;
+          length = length;
+          payload = puts.now;
+          is = now_is fc;
+          fields = subst (λ f. HasFields puts.now f) e puts.has;
+          fits = subst FitsFields e fits.0;
+          shape = subst (λ (f : Fields). IsShape f.shape) e fits.1;
+          limits = subst (λ (f : Fields). IsLimits f.limits) e fits.2;
+          few = omega (arith, few, n);
+          text = text (payload_of d) (other fc) ∙ ap (λ l. Some (catalogue_text (contents_of catalogue l))) (sym same_places);
+          whole = subst (λ l. IsWhole (contents_of catalogue l)) (sym same_places) whole;
+        }

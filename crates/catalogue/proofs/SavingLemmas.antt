@@ -1,9 +1,10 @@
 -- Bytes that are put behind one another while a text is saved.
-use Rattle.std.proofs.Common.{ℕ, zero, suc, ◌≡◌, ◌+◌, ◌<◌, ◌++◌, ◌∷◌, [], List, map, take, length, get_or, refl, sym, ap, ◌∙◌, arith, subst, IsTrue, Result, Ok, Err}
+use Rattle.std.proofs.Common.{ℕ, zero, suc, ◌≡◌, ◌+◌, ◌<◌, ◌++◌, ◌∷◌, [], List, map, length, refl, sym, ap, ◌∙◌, arith, subst, All, IsTrue, Some, Result, Ok, Err}
 use Rattle.std.specs.Prelude.{IfErr, OnErr}
 use Rattle.std.specs.List.{flat_map, range_with_len}
 use Rattle.std.proofs.lemmas.Grind.{flat_map-append}
-use Rattle.std.proofs.lemmas.List.{append_assoc, append-nil, length-append, map-append, take_more}
+use Rattle.std.proofs.lemmas.List.{append_assoc, append-nil, length-append, map-append}
+use Rattle.std.proofs.lemmas.List.Elements.{All-push}
 use Rattle.std.proofs.lemmas.Int.{clamps}
 use Rattle.pagecache.specs.Cache.{Cache, IsRefused}
 use Rattle.pagecache.specs.declared.fault.CacheFault.{CacheFault}
@@ -17,7 +18,12 @@ use Rattle.legs.specs.Legs.{LegView}
 use Rattle.boxsearch.specs.Beside.{IsBeside}
 use Rattle.catalogue.specs.ChainSteps.{SparesTree}
 use Rattle.catalogue.specs.ChainWriter.{Holds, WriterView}
-use Rattle.catalogue.specs.Saving.{HasFirst, IsAllowed, IsCaused, KeepsTree, Saves}
+use Rattle.std.specs.Option.{option_map}
+use Rattle.legs.specs.declared.head.BookHead.{BookHead}
+use Rattle.tbtree.specs.declared.tree.Place.{Place}
+use Rattle.catalogue.specs.Saved.{head_of, CatalogueView}
+use Rattle.catalogue.specs.Text.{HasFeatures, IsHead, IsNumber, IsRow, IsShortText, IsWhole}
+use Rattle.catalogue.specs.Saving.{contents_of, features_of, HasFirst, IsAllowed, IsCatalogue, IsCaused, KeepsTree, Puts, Saves}
 use Rattle.catalogue.specs.declared.fault.CatalogueFault.{CatalogueFault}
 use Rattle.catalogue.specs.declared.fault.CatalogueFault.TheVariants.{Memory, Store, StoreFull, Damaged, Unfinished, Version, Malformed}
 
@@ -79,12 +85,14 @@ grown c w bytes text h f =
 -- bytes that are only put behind the others
 pub pushed_only : (bytes : List ℕ) (c : Cache) (w v : WriterView) → v ≡ record w { text = w.text ++ bytes } → Saves bytes c c w v (Ok tt)
 pushed_only bytes c w v e = record {
-  passes = passes_refl c;
-  holds = λ text h. subst (λ v. Holds c v (text ++ bytes)) (sym e) (grown c w bytes text h);
-  beside = λ text h. record { faithful = refl; length = λ e. e; tree = λ f. same_tree_refl (pages_of_cache c) };
-  tree = λ text h f. same_tree_refl (pages_of_cache c);
+  puts = record {
+    passes = passes_refl c;
+    holds = λ text h. subst (λ v. Holds c v (text ++ bytes)) (sym e) (grown c w bytes text h);
+    beside = λ text h. record { faithful = refl; length = λ e. e; tree = λ f. same_tree_refl (pages_of_cache c) };
+    tree = λ text h f. same_tree_refl (pages_of_cache c);
+    caused = tt;
+  };
   only = λ text h f. tt;
-  caused = tt;
 }
 
 caused_after : (a b c : Cache) (e : CatalogueFault) → Passes a b → IsCaused b c e → IsCaused a c e
@@ -97,42 +105,32 @@ caused_after a b c Version p h = h
 caused_after a b c Malformed p h = tt
 
 -- some bytes, and others behind them
-pub saves_then : (first second : List ℕ) (a b c : Cache) (w v u : WriterView) (r : Result (Unit {0}) CatalogueFault) → Saves first a b w v (Ok tt) → Saves second b c v u r → Saves (first ++ second) a c w u r
-saves_then first second a b c w v u (Ok x) p q = record {
+pub puts_then : (first second : List ℕ) (a b c : Cache) (w v u : WriterView) (r : Result (Unit {0}) CatalogueFault) → Puts first a b w v (Ok tt) → Puts second b c v u r → Puts (first ++ second) a c w u r
+puts_then first second a b c w v u (Ok x) p q = record {
   passes = passes_trans a b c p.passes q.passes;
   holds = λ text h. subst (λ t. Holds c u t) (append_assoc text first second) (q.holds (text ++ first) (p.holds text h));
   beside = λ text h. beside_trans a b c (p.beside text h) (q.beside (text ++ first) (p.holds text h));
   tree = λ text h f. same_tree_trans (pages_of_cache a) (pages_of_cache b) (pages_of_cache c) (p.tree text h f) (q.tree (text ++ first) (p.holds text h) (p.passes.store.faithful ∙ f));
-  only = λ text h f. tt;
   caused = tt;
 }
-saves_then first second a b c w v u (Err e) p q = record {
+puts_then first second a b c w v u (Err e) p q = record {
   passes = passes_trans a b c p.passes q.passes;
   holds = tt;
   beside = tt;
   tree = λ text h f. same_tree_trans (pages_of_cache a) (pages_of_cache b) (pages_of_cache c) (p.tree text h f) (q.tree (text ++ first) (p.holds text h) (p.passes.store.faithful ∙ f));
-  only = λ text h f. q.only (text ++ first) (p.holds text h) (p.passes.store.faithful ∙ f);
   caused = caused_after a b c e p.passes q.caused;
 }
 
--- a refusal, whatever was to come
-pub saves_err : (some all : List ℕ) (a b : Cache) (w v : WriterView) (r : Result (Unit {0}) CatalogueFault) (f e : CatalogueFault) → r ≡ Err f → f ≡ e → Saves some a b w v (Err e) → Saves all a b w v r
-saves_err some all a b w v r f e is same s =
-    subst (λ r. Saves all a b w v r) (sym (is ∙ ap Err same)) (record { passes = s.passes; holds = tt; beside = tt; tree = s.tree; only = s.only; caused = s.caused })
-
--- memory ran out where bytes were to be put behind the others
-pub memory_err : (all : List ℕ) (c : Cache) (w v : WriterView) (r : Result (Unit {0}) CatalogueFault) → r ≡ Err Memory → Saves all c c w v r
-memory_err all c w v r e =
-    subst (λ r. Saves all c c w v r) (sym e) (record {
-      passes = passes_refl c;
-      holds = tt;
-      beside = tt;
-      tree = λ text h f. same_tree_refl (pages_of_cache c);
-      only = λ text h f. tt;
-      caused = tt;
-    })
+pub saves_then : (first second : List ℕ) (a b c : Cache) (w v u : WriterView) (r : Result (Unit {0}) CatalogueFault) → Saves first a b w v (Ok tt) → Saves second b c v u r → Saves (first ++ second) a c w u r
+saves_then first second a b c w v u r p q = record {
+  puts = puts_then first second a b c w v u r p.puts q.puts;
+  only = λ text h f. q.only (text ++ first) (p.puts.holds text h) (p.puts.passes.store.faithful ∙ f);
+}
 
 -- the bytes are these
+pub puts_same : (some all : List ℕ) (a b : Cache) (w v : WriterView) (r : Result (Unit {0}) CatalogueFault) → some ≡ all → Puts some a b w v r → Puts all a b w v r
+puts_same some all a b w v r e s = subst (λ l. Puts l a b w v r) e s
+
 pub saves_same : (some all : List ℕ) (a b : Cache) (w v : WriterView) (r : Result (Unit {0}) CatalogueFault) → some ≡ all → Saves some a b w v r → Saves all a b w v r
 saves_same some all a b w v r e s = subst (λ l. Saves l a b w v r) e s
 
@@ -149,18 +147,25 @@ named_more text f front n =
     ∙ ap (λ l. front ++ flat_map text l) (sym (map-append f (range_with_len 0 n) (n ∷ [])))
     ∙ ap (λ l. front ++ flat_map text (map f l)) (ap (λ k. range_with_len 0 n ++ k ∷ []) (let e : n ≡ 0 + n = omega arith in e) ∙ sym (range_push 0 n) ∙ ap (range_with_len 0) (let e : suc n ≡ n + 1 = omega arith in e))
 
--- one item more of a list
-pub listed_more : {V : Type 0} (text : V → List ℕ) (xs : List V) (x d : V) (front : List ℕ) (n : ℕ) → n < length xs → get_or xs n d ≡ x → (front ++ flat_map text (take n xs)) ++ text x ≡ front ++ flat_map text (take (n + 1) xs)
-listed_more text xs x d front n h e =
-    append_assoc front (flat_map text (take n xs)) (text x)
-    ∙ ap (λ l. front ++ (flat_map text (take n xs) ++ l)) (sym (append-nil (text x)))
-    ∙ ap (λ l. front ++ l) (sym (flat_map-append text (take n xs) (x ∷ [])))
-    ∙ ap (λ y. front ++ flat_map text (take n xs ++ y ∷ [])) (sym e)
-    ∙ ap (λ l. front ++ flat_map text l) (sym (take_more xs n d h))
+-- one item more of such
+pub all_named : {V : Type 0} (P : V → Type 0) (f : ℕ → V) (n : ℕ) → All P (map f (range_with_len 0 n)) → P (f n) → All P (map f (range_with_len 0 (n + 1)))
+all_named P f n all one =
+    subst (All P)
+    (sym (map-append f (range_with_len 0 n) (n ∷ []))
+    ∙ ap (map f) (ap (λ k. range_with_len 0 n ++ k ∷ []) (let e : n ≡ 0 + n = omega arith in e) ∙ sym (range_push 0 n) ∙ ap (range_with_len 0) (let e : suc n ≡ n + 1 = omega arith in e)))
+    (All-push P (map f (range_with_len 0 n)) (f n) all one)
 
--- what was to come is refused
-pub saves_stop : (first second all : List ℕ) (a b c : Cache) (w v u : WriterView) (r : Result (Unit {0}) CatalogueFault) (f e : CatalogueFault) → r ≡ Err f → f ≡ e → Saves first a b w v (Ok tt) → Saves second b c v u (Err e) → Saves all a c w u r
-saves_stop first second all a b c w v u r f e is same p q = saves_err (first ++ second) all a c w u r f e is same (saves_then first second a b c w v u (Err e) p q)
+-- values as many as the columns, in each row
+rows_whole : (n : ℕ) (rows : List (List (List ℕ))) → All (λ row. length row ≡ n) rows → All (All IsShortText) rows → All (IsRow n) rows
+rows_whole n rows many each = λ i d h. record { each = each i d h; many = many i d h }
+
+-- the head and the lists of a catalogue are whole
+pub whole_contents : (c : CatalogueView) (places : List Place) (head : BookHead) → c.head ≡ Some head → IsHead (head_of head) → HasFeatures (features_of c.tracks places) → All (All IsShortText) c.rows → IsNumber 32 (length c.rows) → IsCatalogue c → IsWhole (contents_of c places)
+whole_contents c places head is whole features rows few all =
+    subst (λ h. IsWhole (option_map (λ (x : BookHead). record { head = head_of x; lists = record { features = features_of c.tracks places; rows = c.rows } }) h)) (sym is) (record {
+      head = whole;
+      lists = record { features = features; rows = record { each = rows_whole (length head.columns) c.rows (all.rows head is) rows; few = few } };
+    })
 
 -- a page 0 that is there is not refused
 pub refused_allowed : (a b : Cache) (e : CacheFault) → IsRefused 0 e a b → IsTrue a.store.is_faithful → 0 < a.count → HasFirst a → IsAllowed (fault_of e)
@@ -174,7 +179,7 @@ pub guarded_error : {T E : Type 0} (P : E → Type 0) (r : Result T E) (e : E) �
 guarded_error P r e is h = subst (λ r. OnErr r (IfErr r P)) is h
 
 -- a text begun, put together and written
-module _ (bytes : List ℕ) (a b c d : Cache) (w v : WriterView) (begun : Passes a b) (held : Holds b w []) (beside : IsBeside a b) (put : Saves bytes b c w v (Ok tt)) where
+module _ (bytes : List ℕ) (a b c d : Cache) (w v : WriterView) (begun : Passes a b) (held : Holds b w []) (beside : IsBeside a b) (put : Puts bytes b c w v (Ok tt)) where
   holds_all : Holds c v ([] ++ bytes)
   holds_all = put.holds [] held
 

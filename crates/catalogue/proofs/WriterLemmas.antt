@@ -1,6 +1,7 @@
 -- The pages of a text, and what they hold after a step.
 use Rattle.std.proofs.Common.{ℕ, suc, ◌≡◌, ◌≢◌, ◌+◌, ◌-◌, ◌*◌, ◌<◌, ◌≤◌, ◌^◌, ◌||◌, true, false, cond, nat_eq, refl, sym, ap, ◌∙◌, subst, arith, List, [], ◌∷◌, ◌++◌, length, take, drop, get_or, All, AllPairs, IsTrue, Option, Some, Result, Ok, Err, OnOk, OnErr, ⊎_elim, length-append, append_assoc}
-use Rattle.std.specs.List.{IsDistinct, list_any}
+use Rattle.std.specs.Int.{div_ceil}
+use Rattle.std.specs.List.{AllByRecursion, IsDistinct, list_any}
 use Rattle.std.proofs.lemmas.Map.Steps.{length-le_from_distinct_below}
 use Rattle.std.proofs.lemmas.Bool.{cases_lt, false≢true}
 use Rattle.std.proofs.lemmas.Bool.Decides.{eqb_tells}
@@ -12,10 +13,10 @@ use Rattle.pages.specs.declared.payload.Payload.{Payload}
 use Rattle.pagecache.specs.Cache.{Cache, Lends, Rests, payload_of}
 use Rattle.tbtree.specs.Passes.{Passes}
 use Rattle.catalogue.proofs.SpareLemmas.{is_page, no_page, lends_spares, spares_trans, stays_spares}
-use Rattle.catalogue.proofs.ChainLemmas.{text_is_at, written_length}
-use Rattle.catalogue.specs.Chain.{part_payload, text_at}
+use Rattle.catalogue.proofs.ChainLemmas.{pages_of, text_is_at, written_length}
+use Rattle.catalogue.specs.Chain.{most_used, part_payload, text_at}
 use Rattle.catalogue.specs.ChainSteps.{Gives, IsNumber, IsPutBehind, SparesTree}
-use Rattle.catalogue.specs.ChainWriter.{AreWritten, Holds, HoldsText, IsOwn, WriterView}
+use Rattle.catalogue.specs.ChainWriter.{AreWritten, HasText, Holds, HoldsText, IsOwn, WriterView}
 
 -- a number that none of a list reaches is none of them
 pub not_among : (page n : ℕ) (ks : List ℕ) → n ≤ page → All (λ p. p < n) ks → list_any (nat_eq page) ks ≡ false
@@ -158,6 +159,18 @@ among_below xs q n all e = ⊎_elim (λ lt. lt) (λ ge. absurd (false≢true (sy
 pub few_pages : (xs : List ℕ) → IsDistinct nat_eq xs → All IsNumber xs → length xs ≤ 2 ^ 32
 few_pages xs apart all = length-le_from_distinct_below xs (2 ^ 32) apart (λ q e. among_below xs q (2 ^ 32) (All-weaker IsNumber (λ p. p < 2 ^ 32) (λ p o. o.small) xs all) e)
 
+-- numbers below another with no two equal are no more than it
+distinct : (xs : List ℕ) → AllPairs (λ a b. a ≢ b) xs → IsDistinct nat_eq xs
+unfolding IsDistinct
+distinct [] pairs = tt
+distinct (x ∷ xs) pairs = (others xs (λ k d h. pairs 0 (suc k) d (omega arith) (omega (arith, h))), distinct xs (λ i j d h k. pairs (suc i) (suc j) d (omega (arith, h)) (omega (arith, k)))) where
+  others : (ys : List ℕ) → All (λ y. x ≢ y) ys → AllByRecursion (λ y. nat_eq x y ≡ false) ys
+  others [] all = tt
+  others (y ∷ ys) all = (⊎_elim (λ t. absurd (All-head (λ y. x ≢ y) y ys all t.1)) (λ t. t.0) (eqb_tells x y), others ys (All-tail (λ y. x ≢ y) y ys all))
+
+few_below : (xs : List ℕ) (n : ℕ) → AllPairs (λ a b. a ≢ b) xs → All (λ p. p < n) xs → length xs ≤ n
+few_below xs n pairs all = length-le_from_distinct_below xs n (distinct xs pairs) (λ q e. among_below xs q n all e)
+
 -- the last page has another payload
 written_kept : (at new : ℕ → Option Payload) (l : ℕ) (pages written : List ℕ) → l ≡ get_or pages (length pages - 1) 0 → AllPairs (λ a b. a ≢ b) pages → AreWritten at pages written
     → ((p : ℕ) (x : Payload) → p ≢ l → at p ≡ Some x → new p ≡ Some x) → AreWritten new pages written
@@ -170,10 +183,17 @@ written_kept at new l (p ∷ p2 ∷ pages) written e apart w same =
     let ne : p ≢ l = λ z. apart 0 (suc (length (p2 ∷ pages) - 1)) 0 (omega arith) (omega arith) (z ∙ last) in
     (w.0, w.1, w.2, w.3, same p (part_payload p2 w.0) ne w.4, written_kept at new l (p2 ∷ pages) w.1 last tail w.5 same)
 
+-- page 0 has another payload
+written_there : (at new : ℕ → Option Payload) (pages written : List ℕ) → ((p : ℕ) → 0 < p → new p ≡ at p) → All (λ p. 0 < p) pages → AreWritten at pages written → AreWritten new pages written
+written_there at new [] written same above w = w
+written_there at new (p ∷ []) written same above w = w
+written_there at new (p ∷ p2 ∷ pages) written same above w =
+    (w.0, w.1, w.2, w.3, same p (All-head (λ p. 0 < p) p (p2 ∷ pages) above) ∙ w.4, written_there at new (p2 ∷ pages) w.1 same (All-tail (λ p. 0 < p) p (p2 ∷ pages) above) w.5)
+
 -- the last page is written, and no page comes after it
 module _ (a d : Cache) (rest text : List ℕ) (l : ℕ) (short : length rest ≤ 4040) (lends : Lends l (part_payload 0 rest) a d) (f : IsTrue a.store.is_faithful) (some : 0 < length text) where
   closed_pages : (pages : List ℕ) (earlier len first : ℕ) → l ≡ get_or pages (length pages - 1) 0 → first ≡ get_or pages 0 0 → len ≡ 4040 * (length pages - 1) + length rest → All IsNumber pages
-      → HoldsText (payload_of a) a.count (record { pages = pages; earlier = earlier; text = rest }) text → (text_at (payload_of d) len first ≡ Some text) × (len ≡ length text) × (0 < first) × (first < d.count)
+      → HoldsText (payload_of a) a.count (record { pages = pages; earlier = earlier; text = rest }) text → HasText d len first text × (len ≡ length text) × (0 < first) × (first < d.count) × (div_ceil len most_used ≤ d.count)
   closed_pages [] earlier len first at from size numbers h = absurd h.parts
   closed_pages (p ∷ pages) earlier len first at from size numbers h =
       let other : (q : ℕ) (x : Payload) → q ≢ l → payload_of a q ≡ Some x → payload_of d q ≡ Some x =
@@ -189,16 +209,21 @@ module _ (a d : Cache) (rest text : List ℕ) (l : ℕ) (short : length rest ≤
       let is_len : len ≡ length text = omega (arith, n, k, size, step) in
       let below : p < a.count = All-head (λ p. p < a.count) p pages h.below in
       let count = lends.writes.count in
+      let size_is : len ≡ 4040 * length pages + length rest = omega (arith, size, step) in
+      let pages_are : div_ceil len most_used ≡ suc (length pages) = ap (λ m. div_ceil m 4040) size_is ∙ pages_of (length pages) (length rest) left short in
+      let few : length (p ∷ pages) ≤ a.count = few_below (p ∷ pages) a.count h.apart h.below in
+      let all_above : All (λ p. 0 < p) (p ∷ pages) = All-weaker IsNumber (λ p. 0 < p) (λ p o. o.above) (p ∷ pages) numbers in
       let number : IsNumber p = All-head IsNumber p pages numbers in (
-        ap (λ m. text_at (payload_of d) m first) is_len ∙ ap (λ m. text_at (payload_of d) (length text) m) from
-            ∙ text_is_at (payload_of d) p pages h.written rest text h.all parts last left short (All-weaker IsNumber (λ p. p < 2 ^ 32) (λ p o. o.small) pages (All-tail IsNumber p pages numbers)),
+        λ at others. ap (λ m. text_at at m first) is_len ∙ ap (λ m. text_at at (length text) m) from
+            ∙ text_is_at at p pages h.written rest text h.all (written_there (payload_of d) at (p ∷ pages) h.written others all_above parts) (others _ (all_above (length pages) 0 (omega arith)) ∙ last) left short (All-weaker IsNumber (λ p. p < 2 ^ 32) (λ p o. o.small) pages (All-tail IsNumber p pages numbers)),
         is_len,
         subst (λ m. 0 < m) (sym from) number.above,
         subst (λ m. m < d.count) (sym from) (omega (arith, below, count)),
+        subst (λ m. m ≤ d.count) (sym pages_are) (omega (arith, few, count)),
       )
 
   pub closed : (w : WriterView) (bytes : List ℕ) (len first : ℕ) → bytes ≡ w.text → rest ≡ bytes → l ≡ get_or w.pages (length w.pages - 1) 0 → first ≡ get_or w.pages 0 0 → len ≡ 4040 * (length w.pages - 1) + length w.text → All IsNumber w.pages
-      → Holds a w text → (text_at (payload_of d) len first ≡ Some text) × (len ≡ length text) × (0 < first) × (first < d.count)
+      → Holds a w text → HasText d len first text × (len ≡ length text) × (0 < first) × (first < d.count) × (div_ceil len most_used ≤ d.count)
   closed w bytes len first e lent at from size numbers h =
       let same : w.text ≡ rest = sym e ∙ sym lent in
       closed_pages w.pages w.earlier len first at from (size ∙ ap (λ t. 4040 * (length w.pages - 1) + length t) same) numbers

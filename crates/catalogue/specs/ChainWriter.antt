@@ -6,7 +6,7 @@ use Rattle.pages.specs.declared.payload.Payload.{Payload}
 use Rattle.pagecache.specs.Cache.{Cache, payload_of}
 use Rattle.pagecache.specs.declared.fault.CacheFault.{CacheFault}
 use Rattle.pagecache.specs.declared.fault.CacheFault.TheVariants as cache
-use Rattle.catalogue.specs.Chain.{part_payload, most_used}
+use Rattle.catalogue.specs.Chain.{part_payload, most_used, text_at}
 
 -- the pages of the text so far, of which the last one is not written yet; the page of an earlier chain that comes next,
 -- 0 for none; and the text that is not written yet
@@ -43,6 +43,10 @@ pub record HoldsText (at : ℕ → Option Payload) (count : ℕ) (w : WriterView
 
 abbrev pub Holds : Cache → WriterView → List ℕ → Type 0
 Holds c w text = IsTrue c.store.is_faithful → HoldsText (payload_of c) c.count w text
+
+-- the text of that length is in the chain from page n on, whatever page 0 has
+abbrev pub HasText : Cache → ℕ → ℕ → List ℕ → Type 0
+HasText c length n text = (at : ℕ → Option Payload) → ((p : ℕ) → 0 < p → at p ≡ payload_of c p) → text_at at length n ≡ Some text
 
 -- the store failed where that is said, and is full where that is said
 abbrev pub IsCaused : Cache → Cache → CacheFault → Type 0

@@ -7,4 +7,10 @@ pub mod ChainSteps
 pub mod ChainReader
 pub mod Saved
 pub mod Saving
+pub mod Lasting
+pub mod Holding
+pub mod Closing
+pub mod Finishing
+pub mod Restoring
+pub mod Building
 pub mod Fields

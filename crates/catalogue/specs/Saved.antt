@@ -1,14 +1,23 @@
 -- What a database keeps, as the text of its catalogue says it.
-use Rattle.std.specs.Prelude.{ℕ, ◌≡◌, Option, Some, None, take}
+use Rattle.std.specs.Prelude.{ℕ, ◌≡◌, ◌≤◌, ◌^◌, ◌-◌, min, List, Option, Some, None, take, drop}
+use Rattle.pages.specs.Store as store
 use Rattle.legs.specs.Limits.{LimitsView}
+use Rattle.legs.specs.Tracks.{TracksView}
 use Rattle.legs.specs.declared.head.BookHead.{BookHead}
 use Rattle.mfcsv.specs.declared.Dimension.TheVariants.{Two, Three}
-use Rattle.pages.specs.declared.payload.Kind.TheVariants.{Header}
 use Rattle.pages.specs.declared.payload.Payload.{Payload}
 use Rattle.pagecache.specs.Cache.{Cache, payload_of}
 use Rattle.tbtree.specs.declared.tree.TbTree.{TbTree}
 use Rattle.catalogue.specs.declared.header_fields.Fields.{Fields}
 use Rattle.catalogue.specs.declared.contents.Head.{Head}
+
+-- what contracts see of a catalogue: what the first accepted file gave, the limits, the features, and the attribute values
+-- of each record
+pub record CatalogueView : Type 0 where
+  pub head : Option BookHead
+  pub limits : LimitsView
+  pub tracks : TracksView
+  pub rows : List (List (List ℕ))
 
 -- what is kept of a head beside its dimension, which stands in the header
 abbrev pub head_of : BookHead → Head
@@ -32,13 +41,7 @@ fields_for limits head tree first length = record {
   dimension = dimension_of head;
 }
 
--- page 0 is a header
-pub record HasHeader (c : Cache) : Type 0 where
-  pub payload : Payload
-  pub is : payload_of c 0 ≡ Some payload
-  pub kind : payload.kind ≡ Header
-
--- page 0 begins as it did
+-- page 0 begins as it did, and ends as it did behind its 60 first bytes
 pub record KeepsFront (old new : Cache) : Type 0 where
   pub was : Payload
   pub before : payload_of old 0 ≡ Some was
@@ -46,3 +49,12 @@ pub record KeepsFront (old new : Cache) : Type 0 where
   pub is : payload_of new 0 ≡ Some payload
   pub kind : payload.kind ≡ was.kind
   pub front : take 12 payload.bytes ≡ take 12 was.bytes
+  pub rest : drop 60 payload.bytes ≡ drop 60 was.bytes
+
+-- what every call leaves of a cache, answered or not
+pub record Continues (old new : Cache) : Type 0 where
+  pub store : store.Keeps old.store new.store
+  pub capacity : new.capacity ≡ old.capacity
+  pub count : old.count ≤ new.count
+  -- the count of asks did not fall; the greatest number that is counted stands for any greater one
+  pub asked : min old.asked (2 ^ 64 - 1) ≤ new.asked

@@ -1,16 +1,14 @@
 -- Helpers of private functions: a catalogue that is being saved.
-use Rattle.std.specs.Prelude.{ℕ, ◌≡◌, ◌≢◌, ◌<◌, ◌^◌, ◌++◌, List, [], map, take, length, Option, Some, None, unwrap_or, slice_get, IsTrue, Result, OnOk, IfErr, ℤ, pos}
+use Rattle.std.specs.Prelude.{ℕ, ◌≡◌, ◌≢◌, ◌<◌, ◌^◌, ◌++◌, List, [], map, take, drop, length, Option, Some, None, unwrap_or, slice_get, All, IsTrue, Result, OnOk, IfErr, ℤ, pos}
 use Rattle.std.specs.Option.{option_map}
 use Rattle.std.specs.List.{range_with_len}
+use Rattle.legs.specs.declared.head.BookHead.{BookHead}
 use Rattle.legs.specs.declared.tracks.Track.{Track}
 use Rattle.legs.specs.Tracks.{TracksView}
 use Rattle.pages.specs.Store.{Faulted}
 use Rattle.pages.specs.declared.payload.Payload.{Payload}
 use Rattle.pagecache.specs.Cache.{Cache, Lends, payload_of}
 use Rattle.catalogue.specs.Fields.{HasFields}
-use Rattle.catalogue.specs.Chain.{text_at}
-use Rattle.catalogue.specs.Text.{catalogue_text}
-use Rattle.boxsearch.specs.Index.{IndexView}
 use Rattle.catalogue.specs.declared.header_fields.Fields.{Fields}
 use Rattle.tbtree.specs.Passes.{Passes}
 use Rattle.tbtree.specs.Stands.{no_place}
@@ -18,12 +16,11 @@ use Rattle.tbtree.specs.declared.tree.Place.{Place}
 use Rattle.boxsearch.specs.Beside.{IsBeside}
 use Rattle.catalogue.specs.ChainSteps.{SparesTree}
 use Rattle.catalogue.specs.ChainWriter.{Holds, WriterView}
-use Rattle.catalogue.specs.Saved.{fields_for, head_of}
+use Rattle.catalogue.specs.Saved.{head_of, CatalogueView}
 use Rattle.catalogue.specs.declared.contents.Contents.{Contents}
 use Rattle.catalogue.specs.declared.contents.Feature.{Feature}
 use Rattle.catalogue.specs.declared.fault.CatalogueFault.{CatalogueFault}
 use Rattle.catalogue.specs.declared.fault.CatalogueFault.TheVariants.{Memory, Store, StoreFull, Damaged, Unfinished, Version, Malformed}
-use Rattle.catalogue.specs.declared.saving.Catalogue.{Catalogue}
 
 -- when a feature's last leg ends
 abbrev pub end_of : Option Track → ℤ
@@ -42,13 +39,18 @@ abbrev pub features_of : TracksView → List Place → List Feature
 features_of tracks places = map (feature_at tracks places) (range_with_len 0 (length tracks.names))
 
 -- what the text of a catalogue says
-abbrev pub contents_of : Catalogue → List Place → Option Contents
-contents_of c places = option_map (λ head. record { head = head_of head; lists = record { features = features_of c.tracks places; rows = c.rows.items } }) c.head
+abbrev pub contents_of : CatalogueView → List Place → Option Contents
+contents_of c places = option_map (λ head. record { head = head_of head; lists = record { features = features_of c.tracks places; rows = c.rows } }) c.head
 
 -- there are as few features and rows as four bytes can say
-pub record HasFew (c : Catalogue) : Type 0 where
+pub record HasFew (c : CatalogueView) : Type 0 where
   pub features : length c.tracks.names < 2 ^ 32
-  pub rows : length c.rows.items < 2 ^ 32
+  pub rows : length c.rows < 2 ^ 32
+
+-- and each row has a value for each column
+pub record IsCatalogue (c : CatalogueView) : Type 0 where
+  pub few : HasFew c
+  pub rows : (head : BookHead) → c.head ≡ Some head → All (λ row. length row ≡ length head.columns) c.rows
 
 -- the refusals over pages that are sound
 abbrev pub IsAllowed : CatalogueFault → Type 0
@@ -71,19 +73,23 @@ IsCaused old new Version = ⊥
 IsCaused old new Malformed = Unit {0}
 
 -- these bytes are put at the end of a text, of which some pages may be written
-pub record Saves (bytes : List ℕ) (old new : Cache) (w v : WriterView) (result : Result (Unit {0}) CatalogueFault) : Type 0 where
+pub record Puts (bytes : List ℕ) (old new : Cache) (w v : WriterView) (result : Result (Unit {0}) CatalogueFault) : Type 0 where
   pub passes : Passes old new
   pub holds : OnOk result ((text : List ℕ) → Holds old w text → Holds new v (text ++ bytes))
   pub beside : OnOk result ((text : List ℕ) → Holds old w text → IsBeside old new)
   pub tree : (text : List ℕ) → Holds old w text → SparesTree old new
-  pub only : (text : List ℕ) → Holds old w text → IsTrue old.store.is_faithful → IfErr result IsAllowed
   pub caused : IfErr result (IsCaused old new)
+
+-- and they are refused for want of memory or by the store alone
+pub record Saves (bytes : List ℕ) (old new : Cache) (w v : WriterView) (result : Result (Unit {0}) CatalogueFault) : Type 0 where
+  pub puts : Puts bytes old new w v result
+  pub only : (text : List ℕ) → Holds old w text → IsTrue old.store.is_faithful → IfErr result IsAllowed
 
 -- page 0 has a payload
 abbrev pub HasFirst : Cache → Type 0
 HasFirst c = IsTrue c.store.is_faithful → payload_of c 0 ≢ None
 
--- page 0 says these fields, and begins as it did; no other page has another payload
+-- page 0 says these fields, and begins and ends as it did; no other page has another payload
 pub record PutsFields (fields : Fields) (old new : Cache) : Type 0 where
   pub was : Payload
   pub now : Payload
@@ -92,17 +98,9 @@ pub record PutsFields (fields : Fields) (old new : Cache) : Type 0 where
   pub has : HasFields now fields
   pub kind : now.kind ≡ was.kind
   pub front : take 12 now.bytes ≡ take 12 was.bytes
+  pub rest : drop 60 now.bytes ≡ drop 60 was.bytes
 
 -- whatever is answered: page 0 is as it was, and the pages of a tree say what they said
 pub record KeepsTree (old new : Cache) : Type 0 where
   pub passes : Passes old new
   pub tree : SparesTree old new
-
--- a catalogue is in the pages of an index: page 0 says the limits, the tree and where the text is, and the text is there
-pub record IsSaved (c : Catalogue) (i : IndexView) : Type 0 where
-  pub first : ℕ
-  pub length : ℕ
-  pub payload : Payload
-  pub is : payload_of i.cache 0 ≡ Some payload
-  pub fields : HasFields payload (fields_for c.limits c.head i.tree first length)
-  pub text : text_at (payload_of i.cache) length first ≡ Some (catalogue_text (contents_of c i.places))

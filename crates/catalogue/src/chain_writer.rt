@@ -206,14 +206,14 @@ fn take_page<S: PageStore>(
 }
 
 impl ChainWriter {
-    ghost use Rattle.std.specs.Prelude.{List, ℕ, [], All, ◌≡◌, ◌+◌, ◌-◌, ◌*◌, ◌<◌, ◌≤◌, ◌++◌, OnOk, OnErr, IfOk, IfErr, IsTrue, Some, length, slice_index};
-    ghost use Rattle.pagecache.specs.Cache.{payload_of};
+    ghost use Rattle.std.specs.Prelude.{List, ℕ, [], All, ◌≡◌, ◌+◌, ◌-◌, ◌*◌, ◌<◌, ◌≤◌, ◌++◌, OnOk, OnErr, IfOk, IfErr, IsTrue, length, slice_index};
+    ghost use Rattle.std.specs.Int.{div_ceil};
     ghost use Rattle.tbtree.specs.Passes.{Passes, KeepsLength};
     ghost use Rattle.boxsearch.specs.Beside.{IsBeside};
     ghost use Rattle.catalogue.specs.Beginning.{IsAllowed};
-    ghost use Rattle.catalogue.specs.Chain.{text_at};
+    ghost use Rattle.catalogue.specs.Chain.{most_used};
     ghost use Rattle.catalogue.specs.ChainSteps.{behind, IsNumber, SparesTree};
-    ghost use Rattle.catalogue.specs.ChainWriter.{Holds, IsCaused};
+    ghost use Rattle.catalogue.specs.ChainWriter.{HasText, Holds, IsCaused};
 
     /// A writer of a text, to an earlier chain that begins at that page, 0 for none. The numbers of pages are hashed
     /// with the keys.
@@ -347,8 +347,9 @@ impl ChainWriter {
         ensures text { IfOk result (λ r. (text : List ℕ) → Holds cache.old self.now text
             → 0 < length text
             → IsTrue cache.old.store.is_faithful
-            → (text_at (payload_of cache.new) r.1 r.0 ≡ Some text)
-            × (r.1 ≡ length text) × (0 < r.0) × (r.0 < cache.new.count)) }
+            → HasText cache.new r.1 r.0 text
+            × (r.1 ≡ length text) × (0 < r.0) × (r.0 < cache.new.count)
+            × (div_ceil r.1 most_used ≤ cache.new.count)) }
         ensures passes { Passes cache.old cache.new }
         ensures length { OnOk result (KeepsLength cache.old cache.new) }
         ensures tree { (text : List ℕ) → Holds cache.old self.now text
@@ -370,8 +371,9 @@ impl ChainWriter {
         ensures text { IfOk result (λ r. (text : List ℕ) → Holds cache.old self text
             → 0 < length text
             → IsTrue cache.old.store.is_faithful
-            → (text_at (payload_of cache.new) r.1 r.0 ≡ Some text)
-            × (r.1 ≡ length text) × (0 < r.0) × (r.0 < cache.new.count)) }
+            → HasText cache.new r.1 r.0 text
+            × (r.1 ≡ length text) × (0 < r.0) × (r.0 < cache.new.count)
+            × (div_ceil r.1 most_used ≤ cache.new.count)) }
         ensures passes { Passes cache.old cache.new }
         ensures beside { OnOk result ((text : List ℕ) → Holds cache.old self text
             → IsBeside cache.old cache.new) }

@@ -1,4 +1,6 @@
 //! What the text of a catalogue says.
+ghost use Rattle.std.specs.Prelude.{◌≡◌};
+
 use mfcsv::{Columns, Text, Values};
 use std::marker::Model;
 use tbtree::Place;
@@ -45,6 +47,15 @@ impl Model for Rows {
     ghost Value = { List (List (List ℕ)) };
 
     ghost view = { λ a. a.rows.items };
+}
+
+impl Rows {
+    /// The rows.
+    pub(crate) fn into_vec(self) -> Vec<Values>
+        ensures { result.items ≡ self }
+    {
+        self.rows
+    }
 }
 
 /// The name of the coordinate reference system, and the attribute columns.

@@ -1,10 +1,10 @@
 //! The parts of a catalogue's text, as they are put behind one another.
-ghost use Rattle.std.specs.Prelude.{◌≡◌, ◌++◌, ◌∷◌, [], replicate, OnOk};
+ghost use Rattle.std.specs.Prelude.{◌≡◌, ◌++◌, ◌∷◌, [], replicate, All, OnOk};
 ghost use Rattle.std.specs.List.{flat_map};
 ghost use Rattle.byteorder.specs.Endian.{big_bytes};
 ghost use Rattle.tbnode.specs.Parts.{signed_bytes};
 ghost use Rattle.catalogue.specs.Saved.{head_of};
-ghost use Rattle.catalogue.specs.Text.{column_text, columns_text, head_text, kept_text, row_text, short_text};
+ghost use Rattle.catalogue.specs.Text.{column_text, columns_text, head_text, kept_text, row_text, short_text, HasColumns, IsColumn, IsHead, IsKept, IsPlace, IsShortText};
 
 use crate::chain_writer::ChainWriter;
 use crate::contents::Kept;
@@ -46,8 +46,9 @@ pub(crate) fn push_i64(writer: &mut ChainWriter, n: i64) -> Result<(), AllocErro
 
 /// Puts a text behind its length at the end.
 pub(crate) fn push_text(writer: &mut ChainWriter, text: &str) -> Result<(), AllocError>
-    ensures { OnOk result (writer.new
+    ensures pushed { OnOk result (writer.new
         ≡ record writer.old { text = writer.old.text ++ short_text text.now }) }
+    ensures whole { OnOk result (IsShortText text.now) }
 {
     push_u64(writer, text.len() as u64)?;
     writer.push(text.as_bytes())
@@ -55,8 +56,9 @@ pub(crate) fn push_text(writer: &mut ChainWriter, text: &str) -> Result<(), Allo
 
 /// Puts an attribute column at the end of the text.
 pub(crate) fn push_column(writer: &mut ChainWriter, column: &Column) -> Result<(), AllocError>
-    ensures { OnOk result (writer.new
+    ensures pushed { OnOk result (writer.new
         ≡ record writer.old { text = writer.old.text ++ column_text column.now }) }
+    ensures whole { OnOk result (IsColumn column.now) }
 {
     push_text(writer, column.name.as_str())?;
     push_text(writer, column.kind.as_str())
@@ -64,8 +66,9 @@ pub(crate) fn push_column(writer: &mut ChainWriter, column: &Column) -> Result<(
 
 /// Puts attribute columns behind their number at the end of the text.
 pub(crate) fn push_columns(writer: &mut ChainWriter, columns: &Columns) -> Result<(), AllocError>
-    ensures { OnOk result (writer.new
+    ensures pushed { OnOk result (writer.new
         ≡ record writer.old { text = writer.old.text ++ columns_text columns.now }) }
+    ensures whole { OnOk result (HasColumns columns.now) }
 {
     let columns = columns.as_slice();
     push_u64(writer, columns.len() as u64)?;
@@ -77,8 +80,9 @@ pub(crate) fn push_columns(writer: &mut ChainWriter, columns: &Columns) -> Resul
 
 /// Puts what is kept of a head at the end of the text.
 pub(crate) fn push_head(writer: &mut ChainWriter, head: &BookHead) -> Result<(), AllocError>
-    ensures { OnOk result (writer.new
+    ensures pushed { OnOk result (writer.new
         ≡ record writer.old { text = writer.old.text ++ head_text (head_of head.now) }) }
+    ensures whole { OnOk result (IsHead (head_of head.now)) }
 {
     push_i64(writer, head.base.millis())?;
     push_text(writer, head.crs.as_str())?;
@@ -87,11 +91,12 @@ pub(crate) fn push_head(writer: &mut ChainWriter, head: &BookHead) -> Result<(),
 
 /// Puts the place of a feature at the end of the text.
 fn push_place(writer: &mut ChainWriter, place: &Place) -> Result<(), AllocError>
-    ensures { OnOk result (writer.new ≡ record writer.old {
+    ensures pushed { OnOk result (writer.new ≡ record writer.old {
       text = writer.old.text
           ++ (big_bytes 4 place.now.first ++ (big_bytes 4 place.now.last
           ++ (big_bytes 4 place.now.last_index ++ big_bytes 8 place.now.legs)));
     }) }
+    ensures whole { OnOk result (IsPlace place.now) }
 {
     push_u32(writer, place.first)?;
     push_u32(writer, place.last)?;
@@ -102,8 +107,9 @@ fn push_place(writer: &mut ChainWriter, place: &Place) -> Result<(), AllocError>
 /// Puts what is kept of a feature beside its name at the end of the text.
 #[tactic(auto, unfolding(crate::specs::Text::kept_text))]
 fn push_kept(writer: &mut ChainWriter, kept: &Kept) -> Result<(), AllocError>
-    ensures { OnOk result (writer.new
+    ensures pushed { OnOk result (writer.new
         ≡ record writer.old { text = writer.old.text ++ kept_text kept.now }) }
+    ensures whole { OnOk result (IsKept kept.now) }
 {
     push_i64(writer, kept.end)?;
     push_place(writer, &kept.place)
@@ -115,8 +121,9 @@ pub(crate) fn push_feature(
     name: &str,
     kept: &Kept,
 ) -> Result<(), AllocError>
-    ensures { OnOk result (writer.new
+    ensures pushed { OnOk result (writer.new
         ≡ record writer.old { text = writer.old.text ++ (short_text name.now ++ kept_text kept.now) }) }
+    ensures whole { OnOk result (IsShortText name.now × IsKept kept.now) }
 {
     push_text(writer, name)?;
     push_kept(writer, kept)
@@ -124,8 +131,9 @@ pub(crate) fn push_feature(
 
 /// Puts attribute values at the end of the text.
 fn push_texts(writer: &mut ChainWriter, values: &[Text]) -> Result<(), AllocError>
-    ensures { OnOk result (writer.new
+    ensures pushed { OnOk result (writer.new
         ≡ record writer.old { text = writer.old.text ++ row_text values.now }) }
+    ensures whole { OnOk result (All IsShortText values.now) }
 {
     for value in values {
         push_text(writer, value.as_str())?;
@@ -135,8 +143,9 @@ fn push_texts(writer: &mut ChainWriter, values: &[Text]) -> Result<(), AllocErro
 
 /// Puts that many blank values at the end of the text.
 fn push_blanks(writer: &mut ChainWriter, count: usize) -> Result<(), AllocError>
-    ensures { OnOk result (writer.new
+    ensures pushed { OnOk result (writer.new
         ≡ record writer.old { text = writer.old.text ++ row_text (replicate count []) }) }
+    ensures whole { All IsShortText (replicate count []) }
 {
     'blanks: for _ in 0..count {
         push_u64(writer, 0)?;
@@ -146,8 +155,9 @@ fn push_blanks(writer: &mut ChainWriter, count: usize) -> Result<(), AllocError>
 
 /// Puts a row of attribute values at the end of the text.
 pub(crate) fn push_row(writer: &mut ChainWriter, row: &Values) -> Result<(), AllocError>
-    ensures { OnOk result (writer.new
+    ensures pushed { OnOk result (writer.new
         ≡ record writer.old { text = writer.old.text ++ row_text row.now }) }
+    ensures whole { OnOk result (All IsShortText row.now) }
 {
     let (values, blanks) = row.parts();
     push_texts(writer, values)?;

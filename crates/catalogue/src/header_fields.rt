@@ -1,5 +1,5 @@
 //! What page 0 of a store says beside how it begins.
-ghost use Rattle.std.specs.Prelude.{◌≡◌, length, take, None, IfSome};
+ghost use Rattle.std.specs.Prelude.{◌≡◌, length, take, drop, None, IfSome};
 ghost use Rattle.byteorder.specs.Endian.{big_bytes};
 ghost use Rattle.legs.specs.Costs.{ShapeView};
 ghost use Rattle.legs.specs.Limits.{LimitsView, IsLimits};
@@ -33,7 +33,8 @@ pub(crate) struct Fields {
 /// Writes these over the 48 bytes behind the first 12.
 fn put_bytes(bytes: &mut [u8], fields: &Fields)
     requires { length bytes.old ≡ 4056 }
-    ensures { bytes.new ≡ put 12 (fields_bytes fields.now) bytes.old }
+    ensures put { bytes.new ≡ put 12 (fields_bytes fields.now) bytes.old }
+    ensures fits { FitsFields fields.now × IsShape fields.now.shape × IsLimits fields.now.limits }
 {
     put_u16(bytes, 12, fields.shape.leaf());
     put_u16(bytes, 14, fields.shape.inner());
@@ -51,8 +52,10 @@ fn put_bytes(bytes: &mut [u8], fields: &Fields)
 pub(crate) fn put_fields(payload: &mut Payload, fields: &Fields)
     ensures put { payload.new
         ≡ record payload.old { bytes = put 12 (fields_bytes fields.now) payload.old.bytes } }
+    ensures fits { FitsFields fields.now × IsShape fields.now.shape × IsLimits fields.now.limits }
     ensures has { HasFields payload.new fields.now }
     ensures front { take 12 payload.new.bytes ≡ take 12 payload.old.bytes }
+    ensures rest { drop 60 payload.new.bytes ≡ drop 60 payload.old.bytes }
     ensures kind { payload.new.kind ≡ payload.old.kind }
 {
     put_bytes(&mut payload.bytes, fields);
@@ -95,6 +98,7 @@ fn limits_in(bytes: &[u8]) -> Option<Limits>
 /// What page 0 says; none where the shape or the limits are out of range.
 pub(crate) fn fields_of(payload: &Payload) -> Option<Fields>
     ensures some { IfSome result (λ fields. HasFields payload.now fields) }
+    ensures fits { IfSome result (λ fields. FitsFields fields × IsShape fields.shape × IsLimits fields.limits) }
     ensures none { result ≡ None → (fields : Fields) → IsShape fields.shape → IsLimits fields.limits
         → FitsFields fields → HasFields payload.now fields → ⊥ }
 {

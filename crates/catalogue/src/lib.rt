@@ -2,21 +2,32 @@
 #![tactic(auto)]
 
 mod beginning;
+mod building;
 mod chain_reader;
 mod chain_writer;
+mod closing;
 mod contents;
 mod encoding;
 mod entries;
 mod fault;
+mod finishing;
 mod header;
 mod header_fields;
 mod numbers;
+mod opening;
+mod page_zero;
+mod resting;
+mod restoring;
 mod saving;
 mod values;
 mod whole_text;
 
 pub use beginning::begin;
+pub use closing::{close, rest};
 pub use fault::CatalogueFault;
+pub use opening::open;
+pub use resting::laws;
+pub use restoring::restore;
 pub use saving::{Catalogue, save};
 
 #[cfg(test)]

@@ -1,10 +1,12 @@
 //! A saved catalogue, byte by byte.
 use super::*;
+use boxsearch::TreeIndex;
 use legs::{BookHead, LegIndex, Limits, Tracks, join};
 use mfcsv::{Values, read_file};
 use pagecache::PageCache;
-use pages::MemStore;
+use pages::{MemStore, PageStore};
 use std::alloc::Global;
+use std::fmt::Write;
 use std::hash::RandomState;
 use std::test::Fail;
 use tbtree::Shape;
@@ -43,12 +45,12 @@ const TEXT: [u8; 353] = [
     101, 0, 0, 0, 0, 0, 0, 0, 1, 49,
 ];
 
-/// The pages of the example, in an index and saved over `most` pages; the fault, if it is not saved.
-fn saved(
+/// The example in an index over at most so many pages, and its catalogue.
+fn example(
     alloc: Global,
     keys: RandomState,
     most: u32,
-) -> Option<Result<PageCache<MemStore>, CatalogueFault>> {
+) -> Option<(Catalogue, TreeIndex<MemStore>)> {
     let limits = Limits::new(1 << 24, 1 << 20)?;
     let shape = Shape::new(50, 72)?;
     let Ok(mut index) = begin(alloc, MemStore::new(alloc, most), shape, 4, &limits) else {
@@ -69,6 +71,16 @@ fn saved(
         tracks,
         rows,
     };
+    Some((catalogue, index))
+}
+
+/// The pages of the example, in an index and saved over `most` pages; the fault, if it is not saved.
+fn saved(
+    alloc: Global,
+    keys: RandomState,
+    most: u32,
+) -> Option<Result<PageCache<MemStore>, CatalogueFault>> {
+    let (catalogue, mut index) = example(alloc, keys, most)?;
     // Saved twice: the second one takes the first one's page.
     match save(alloc, &catalogue, &mut index).and_then(|()| save(alloc, &catalogue, &mut index)) {
         Ok(()) => Some(Ok(index.into_cache())),
@@ -96,5 +108,67 @@ fn the_example_is_saved(rt: HostRuntime) -> Result<(), Fail> {
         Some(Err(fault)) => assert!(rt; fault == CatalogueFault::StoreFull),
         _ => return Err(Fail::from("saved without room")),
     }
+    Ok(())
+}
+
+#[test]
+fn what_is_closed_is_opened(rt: HostRuntime) -> Result<(), Fail> {
+    let (alloc, keys) = (rt.alloc(), RandomState::new(&rt)?);
+    let Some((catalogue, index)) = example(alloc, keys, 6) else {
+        return Err(Fail::from("no example"));
+    };
+    let (store, answer) = close(alloc, &catalogue, index);
+    assert!(rt; answer == Ok(()) && store.len() == 6);
+    let Ok((again, mut index)) = open(alloc, keys, store, 4) else {
+        return Err(Fail::from("not opened"));
+    };
+    assert!(rt; again.tracks.feature_count() == 3 && again.tracks.leg_count() == 5);
+    assert!(rt;
+        again.tracks.name(1) == Some("b") && again.tracks.track(0) == catalogue.tracks.track(0)
+    );
+    assert!(rt; again.rows.len() == 4 && again.limits == catalogue.limits);
+    assert!(rt; index.len() == 5);
+    match index.track(0) {
+        Ok(legs) => assert!(rt; legs.len() == 2),
+        Err(_) => return Err(Fail::from("no track")),
+    }
+    // At rest its store is as it was.
+    assert!(rt; rest(index).len() == 6);
+    Ok(())
+}
+
+/// Adds a feature with a name by its number.
+fn add_feature(alloc: Global, tracks: &mut Tracks, number: u32) -> Option<()> {
+    let track = tracks.track(0)?;
+    let mut name = String::new(alloc);
+    write!(name, "feature {number}").ok()?;
+    tracks.add(name, track).ok()?;
+    Some(())
+}
+
+/// The catalogue of the example with so many features more.
+fn of_features(alloc: Global, keys: RandomState, count: u32) -> Option<Catalogue> {
+    let (mut catalogue, _) = example(alloc, keys, 6)?;
+    for number in 0..count {
+        add_feature(alloc, &mut catalogue.tracks, number)?;
+    }
+    Some(catalogue)
+}
+
+#[test]
+fn a_second_saving_takes_the_pages_of_the_first(rt: HostRuntime) -> Result<(), Fail> {
+    let (alloc, keys) = (rt.alloc(), RandomState::new(&rt)?);
+    let Some(catalogue) = of_features(alloc, keys, 100_000) else {
+        return Err(Fail::from("no catalogue"));
+    };
+    let Some((_, mut index)) = example(alloc, keys, 10_000) else {
+        return Err(Fail::from("no example"));
+    };
+    assert!(rt; save(alloc, &catalogue, &mut index) == Ok(()));
+    let count = index.cache_mut().count();
+    // A name and 36 bytes more for each feature, 4,040 bytes a page.
+    assert!(rt; 1_000 < count && count < 1_500);
+    assert!(rt; save(alloc, &catalogue, &mut index) == Ok(()));
+    assert!(rt; index.cache_mut().count() == count);
     Ok(())
 }

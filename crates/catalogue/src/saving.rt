@@ -1,16 +1,23 @@
 //! A catalogue is saved.
-ghost use Rattle.std.specs.Prelude.{◌≡◌, ◌<◌, ◌≤◌, ◌^◌, ◌++◌, ◌∷◌, [], length, slice_get, unwrap_or, IfErr, IfOk, IsOk, IsTrue, OnErr, OnOk, Some};
-ghost use Rattle.pagecache.specs.Cache.{payload_of, Rests};
-ghost use Rattle.catalogue.specs.Chain.{text_at};
+ghost use Rattle.std.specs.Prelude.{List, ℕ, ◌≡◌, ◌<◌, ◌≤◌, ◌^◌, ◌++◌, ◌∷◌, [], length, slice_get, unwrap_or, false, All, IfErr, IfOk, IsOk, IsTrue, OnErr, OnOk, Some};
+ghost use Rattle.std.specs.Int.{div_ceil};
+ghost use Rattle.pagecache.specs.Cache.{is_changed, page_of, payload_of, Rests};
+ghost use Rattle.catalogue.specs.Chain.{most_used};
+ghost use Rattle.catalogue.specs.ChainWriter.{HasText, Holds};
+ghost use Rattle.catalogue.specs.Lasting.{Says};
 ghost use Rattle.chains.specs.Reads.{OnlyReads};
 ghost use Rattle.tbtree.specs.Stands.{no_place};
 ghost use Rattle.byteorder.specs.Endian.{big_bytes};
 ghost use Rattle.boxsearch.specs.Beside.{with_cache, IsBeside};
 ghost use Rattle.boxsearch.specs.Index.{content, IsSound};
+ghost use Rattle.legs.specs.Limits.{IsLimits};
+ghost use Rattle.tbtree.specs.Shape.{IsShape};
+ghost use Rattle.catalogue.specs.Fields.{FitsFields};
 ghost use Rattle.catalogue.specs.ChainSteps.{SparesTree};
-ghost use Rattle.catalogue.specs.Saved.{dimension_of, fields_for, head_of, HasHeader, KeepsFront};
-ghost use Rattle.catalogue.specs.Saving.{contents_of, end_of, feature_at, features_of, HasFew, HasFirst, IsAllowed, IsCaused, IsSaved, KeepsTree, PutsFields, Saves};
-ghost use Rattle.catalogue.specs.Text.{catalogue_text, feature_text, features_text, head_text, lists_text, row_text, rows_text};
+ghost use Rattle.catalogue.specs.Saved.{dimension_of, fields_for, head_of, Continues, KeepsFront};
+ghost use Rattle.catalogue.specs.Saving.{contents_of, end_of, feature_at, features_of, HasFew, HasFirst, IsAllowed, IsCatalogue, IsCaused, KeepsTree, Puts, PutsFields, Saves};
+ghost use Rattle.catalogue.specs.declared.fault.CatalogueFault.TheVariants.{Malformed};
+ghost use Rattle.catalogue.specs.Text.{catalogue_text, feature_text, features_text, head_text, lists_text, row_text, rows_text, HasFeatures, IsFeature, IsHead, IsNumber, IsShortText, IsWhole};
 
 use crate::chain_reader::fault_of;
 use crate::chain_writer::ChainWriter;
@@ -23,6 +30,7 @@ use legs::{BookHead, Limits, Tracks};
 use mfcsv::{Dimension, Values};
 use pages::PageStore;
 use std::alloc::Global;
+use std::marker::Model;
 use tbnode::fields::u32_at;
 use tbtree::{Place, TbTree};
 
@@ -37,6 +45,14 @@ pub struct Catalogue {
     pub tracks: Tracks,
     /// The attribute values of each record.
     pub rows: Vec<Values>,
+}
+
+impl Model for Catalogue {
+    ghost use Rattle.catalogue.specs.Saved.{CatalogueView};
+
+    ghost Value = { CatalogueView };
+
+    ghost view = { λ a. record { head = a.head; limits = a.limits; tracks = a.tracks; rows = a.rows.items } };
 }
 
 /// Writes the pages that the text fills.
@@ -104,6 +120,7 @@ fn write_feature<S: PageStore>(
     ensures same { index.new ≡ with_cache index.old index.new.cache }
     ensures saves { Saves (feature_text (feature_at tracks.now index.old.places feature))
         index.old.cache index.new.cache writer.old writer.new result }
+    ensures whole { OnOk result (IsFeature (feature_at tracks.now index.old.places feature)) }
 {
     let kept = kept_at(tracks, index.places(), feature);
     push_feature(writer, name_at(tracks, feature), &kept)?;
@@ -119,7 +136,10 @@ fn write_features<S: PageStore>(
 ) -> Result<(), CatalogueFault>
     ensures same { index.new ≡ with_cache index.old index.new.cache }
     ensures saves { count ≡ length tracks.now.names
-        → Saves (features_text (features_of tracks.now index.old.places)) index.old.cache index.new.cache writer.old writer.new result }
+        → Saves (features_text (features_of tracks.now index.old.places))
+        index.old.cache index.new.cache writer.old writer.new result }
+    ensures whole { OnOk result (count ≡ length tracks.now.names
+        → HasFeatures (features_of tracks.now index.old.places)) }
 {
     push_u32(writer, count)?;
     for feature in 0..count {
@@ -137,6 +157,7 @@ fn write_row<S: PageStore>(
     ensures same { index.new ≡ with_cache index.old index.new.cache }
     ensures saves { Saves (row_text row.now)
         index.old.cache index.new.cache writer.old writer.new result }
+    ensures whole { OnOk result (All IsShortText row.now) }
 {
     push_row(writer, row)?;
     write_text(writer, index)
@@ -152,6 +173,7 @@ fn write_rows<S: PageStore>(
     ensures same { index.new ≡ with_cache index.old index.new.cache }
     ensures saves { count ≡ length rows.now
         → Saves (rows_text rows.now) index.old.cache index.new.cache writer.old writer.new result }
+    ensures whole { OnOk result (All (All IsShortText) rows.now) }
 {
     push_u32(writer, count)?;
     for row in rows {
@@ -169,6 +191,7 @@ fn write_head<S: PageStore>(
     ensures same { index.new ≡ with_cache index.old index.new.cache }
     ensures saves { Saves (1 ∷ head_text (head_of head.now))
         index.old.cache index.new.cache writer.old writer.new result }
+    ensures whole { OnOk result (IsHead (head_of head.now)) }
 {
     push_byte(writer, 1)?;
     push_head(writer, head)?;
@@ -179,6 +202,7 @@ fn write_head<S: PageStore>(
 fn count_of(count: u64) -> Result<u32, CatalogueFault>
     ensures ok { IfOk result (λ n. n ≡ count) }
     ensures few { count < 2 ^ 32 → IsOk result }
+    ensures many { IfErr result (λ fault. fault ≡ Malformed) }
 {
     match u32::try_from(count) {
         Ok(count) => Ok(count),
@@ -194,9 +218,14 @@ fn write_lists<S: PageStore>(
     rows: &[Values],
 ) -> Result<(), CatalogueFault>
     ensures same { index.new ≡ with_cache index.old index.new.cache }
-    ensures saves { length tracks.now.names < 2 ^ 32 → length rows.now < 2 ^ 32
-        → Saves (features_text (features_of tracks.now index.old.places) ++ rows_text rows.now)
+    ensures puts { Puts (features_text (features_of tracks.now index.old.places) ++ rows_text rows.now)
         index.old.cache index.new.cache writer.old writer.new result }
+    ensures only { length tracks.now.names < 2 ^ 32 → length rows.now < 2 ^ 32 → (text : List ℕ)
+        → Holds index.old.cache writer.old text → IsTrue index.old.cache.store.is_faithful
+        → IfErr result IsAllowed }
+    ensures features { OnOk result (HasFeatures (features_of tracks.now index.old.places)) }
+    ensures rows { OnOk result (All (All IsShortText) rows.now) }
+    ensures few { OnOk result (IsNumber 32 (length rows.now)) }
 {
     let features = count_of(tracks.feature_count())?;
     let row_count = count_of(rows.len() as u64)?;
@@ -212,8 +241,12 @@ fn write_catalogue<S: PageStore>(
     catalogue: &Catalogue,
 ) -> Result<(), CatalogueFault>
     ensures same { index.new ≡ with_cache index.old index.new.cache }
-    ensures saves { HasFew catalogue.now
-        → Saves (catalogue_text (contents_of catalogue.now index.old.places)) index.old.cache index.new.cache writer.old writer.new result }
+    ensures puts { Puts (catalogue_text (contents_of catalogue.now index.old.places))
+        index.old.cache index.new.cache writer.old writer.new result }
+    ensures only { HasFew catalogue.now → (text : List ℕ) → Holds index.old.cache writer.old text
+        → IsTrue index.old.cache.store.is_faithful → IfErr result IsAllowed }
+    ensures whole { OnOk result (IsCatalogue catalogue.now
+        → IsWhole (contents_of catalogue.now index.old.places)) }
 {
     match &catalogue.head {
         None => match push_byte(writer, 0) {
@@ -247,8 +280,13 @@ fn write_fields<S: PageStore>(
     fields: &Fields,
 ) -> Result<(), CatalogueFault>
     ensures same { index.new ≡ with_cache index.old index.new.cache }
+    ensures fits { OnOk result (FitsFields fields.now × IsShape fields.now.shape
+        × IsLimits fields.now.limits) }
     ensures puts { OnOk result (PutsFields fields.now index.old.cache index.new.cache) }
     ensures rests { OnErr result (Rests index.old.cache index.new.cache) }
+    ensures later { Continues index.old.cache index.new.cache }
+    ensures written { IsTrue index.old.cache.store.is_faithful → 0 < index.old.cache.count
+        → is_changed index.old.cache 0 ≡ false → page_of index.new.cache 0 ≡ page_of index.old.cache 0 }
     ensures only { IsTrue index.old.cache.store.is_faithful → 0 < index.old.cache.count
         → HasFirst index.old.cache → IfErr result IsAllowed }
     ensures caused { IfErr result (IsCaused index.old.cache index.new.cache) }
@@ -270,15 +308,17 @@ fn write_whole<S: PageStore>(
     earlier: u32,
 ) -> Result<(u32, u64), CatalogueFault>
     ensures same { index.new ≡ with_cache index.old index.new.cache }
-    ensures kept { HasFew catalogue.now → KeepsTree index.old.cache index.new.cache }
-    ensures beside { OnOk result (HasFew catalogue.now → IsBeside index.old.cache index.new.cache) }
-    ensures text { IfOk result (λ r. HasFew catalogue.now → IsTrue index.old.cache.store.is_faithful
-        → text_at (payload_of index.new.cache) r.1 r.0
-        ≡ Some (catalogue_text (contents_of catalogue.now index.old.places))) }
+    ensures kept { KeepsTree index.old.cache index.new.cache }
+    ensures beside { OnOk result (IsBeside index.old.cache index.new.cache) }
+    ensures text { IfOk result (λ r. IsTrue index.old.cache.store.is_faithful
+        → HasText index.new.cache r.1 r.0 (catalogue_text (contents_of catalogue.now index.old.places))) }
+    ensures few { IfOk result (λ r. IsTrue index.old.cache.store.is_faithful
+        → div_ceil r.1 most_used ≤ index.new.cache.count) }
+    ensures whole { OnOk result (IsCatalogue catalogue.now
+        → IsWhole (contents_of catalogue.now index.old.places)) }
     ensures only { HasFew catalogue.now → IsTrue index.old.cache.store.is_faithful
         → IfErr result IsAllowed }
-    ensures caused { HasFew catalogue.now → IfErr result (IsCaused
-        index.old.cache index.new.cache) }
+    ensures caused { IfErr result (IsCaused index.old.cache index.new.cache) }
 {
     let keys = catalogue.tracks.keys();
     let mut writer = match ChainWriter::new(alloc, keys, index.cache_mut(), earlier) {
@@ -331,19 +371,23 @@ pub fn save<S: PageStore>(
     index: &mut TreeIndex<S>,
 ) -> Result<(), CatalogueFault>
     ensures same { index.new ≡ with_cache index.old index.new.cache }
-    ensures saved { OnOk result (HasFew catalogue.now → IsTrue index.old.cache.store.is_faithful
-        → 0 < index.old.cache.count → HasHeader index.old.cache → IsSaved catalogue.now index.new) }
-    ensures front { OnOk result (HasFew catalogue.now → IsTrue index.old.cache.store.is_faithful
+    ensures saved { OnOk result (IsCatalogue catalogue.now → IsTrue index.old.cache.store.is_faithful
+        → Says (payload_of index.new.cache) index.new.cache.count catalogue.now index.new.tree index.new.places) }
+    ensures front { OnOk result (IsTrue index.old.cache.store.is_faithful
         → 0 < index.old.cache.count → KeepsFront index.old.cache index.new.cache) }
-    ensures first { OnErr result (HasFew catalogue.now → IsTrue index.old.cache.store.is_faithful
+    ensures first { OnErr result (IsTrue index.old.cache.store.is_faithful
         → 0 < index.old.cache.count → payload_of index.new.cache 0 ≡ payload_of index.old.cache 0) }
-    ensures tree { HasFew catalogue.now → SparesTree index.old.cache index.new.cache }
-    ensures beside { OnOk result (HasFew catalogue.now → IsBeside index.old.cache index.new.cache) }
-    ensures content { OnOk result (HasFew catalogue.now → content index.new ≡ content index.old) }
-    ensures sound { OnOk result (HasFew catalogue.now → IsSound index.old → IsSound index.new) }
+    ensures first_written { IsTrue index.old.cache.store.is_faithful → 0 < index.old.cache.count
+        → is_changed index.old.cache 0 ≡ false → page_of index.new.cache 0 ≡ page_of index.old.cache 0 }
+    ensures first_unmarked { OnErr result (0 < index.old.cache.count
+        → is_changed index.old.cache 0 ≡ false → is_changed index.new.cache 0 ≡ false) }
+    ensures later { Continues index.old.cache index.new.cache }
+    ensures tree { SparesTree index.old.cache index.new.cache }
+    ensures beside { OnOk result (IsBeside index.old.cache index.new.cache) }
+    ensures content { OnOk result (content index.new ≡ content index.old) }
+    ensures sound { OnOk result (IsSound index.old → IsSound index.new) }
     ensures only { HasFew catalogue.now → IsSound index.old → IfErr result IsAllowed }
-    ensures caused { HasFew catalogue.now → IfErr result (IsCaused
-        index.old.cache index.new.cache) }
+    ensures caused { IfErr result (IsCaused index.old.cache index.new.cache) }
 {
     boxsearch::laws();
     let earlier = earlier_page(index)?;

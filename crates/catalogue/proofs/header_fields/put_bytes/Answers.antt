@@ -8,8 +8,8 @@ use Rattle.catalogue.proofs.header_fields.put_bytes.Goals as goal
 at : (p n x y : ℕ) (bytes new : List ℕ) → x ≡ y → new ≡ put p (big_bytes n x) bytes → new ≡ put p (big_bytes n y) bytes
 at p n x y bytes new e is = is ∙ ap (λ k. put p (big_bytes n k) bytes) e
 
-pub returns : goal.returns
-returns c =
+pub returns-clause-put : goal.returns-clause-put
+returns-clause-put c =
     let f = c.args.fields.now in
     let n0 = c.requires in
     let n1 : length c.put_u16.new.bytes ≡ 4056 = omega arith in

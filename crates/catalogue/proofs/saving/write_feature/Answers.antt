@@ -1,7 +1,8 @@
-use Rattle.std.proofs.Common.{◌≡◌, ◌++◌, [], ap, ◌∙◌, List, ℕ}
+use Rattle.std.proofs.Common.{◌≡◌, ◌++◌, [], ap, ◌∙◌, subst, List, ℕ}
 use Rattle.std.proofs.lemmas.List.{append-nil}
 use Rattle.catalogue.specs.Saving.{feature_at}
-use Rattle.catalogue.specs.Text.{feature_text, kept_text, short_text}
+use Rattle.catalogue.specs.Text.{feature_text, kept_text, short_text, IsKept, IsShortText}
+use Rattle.catalogue.proofs.EncodingLemmas.{always}
 use Rattle.catalogue.proofs.SavingLemmas.{pushed_only, saves_then, saves_same}
 use Rattle.catalogue.proofs.saving.write_feature.Goals as goal
 
@@ -15,5 +16,12 @@ returns-clause-saves g c =
     let same : bytes ++ [] ≡ all = append-nil bytes ∙ (λ i. short_text (c.name_at.ensures i) ++ kept_text (kept i)) in
     saves_same (bytes ++ []) all cache c.write_text.new.index.cache c.args.writer.now c.write_text.new.writer c.write_text.result same
     (saves_then bytes [] cache cache c.write_text.new.index.cache c.args.writer.now c.push_feature.new.writer c.write_text.new.writer c.write_text.result
-    (pushed_only bytes cache c.args.writer.now c.push_feature.new.writer c.in_ok-push_feature.ensures)
+    (pushed_only bytes cache c.args.writer.now c.push_feature.new.writer c.in_ok-push_feature.ensures.pushed)
     c.write_text.ensures.saves)
+
+pub returns-clause-whole : goal.returns-clause-whole
+unfolding feature_at
+returns-clause-whole g c =
+    let whole = c.in_ok-push_feature.ensures.whole in
+    let kept = c.kept_at-kept.ensures ∙ ap (λ l. (feature_at c.args.tracks.now l c.args.feature).kept) c.places.ensures in
+    always c.write_text.result (record { name = subst IsShortText c.name_at.ensures whole.0; kept = subst IsKept kept whole.1 })

@@ -1,13 +1,13 @@
-use Rattle.std.proofs.Common.{◌≡◌, ◌+◌, ◌++◌, ap, sym, ◌∙◌, arith, subst, Ok, map, length, List, ℕ}
+use Rattle.std.proofs.Common.{◌≡◌, ◌+◌, ◌++◌, ap, sym, ◌∙◌, arith, subst, Ok, All, ◌<◌, ◌^◌, rules, map, length, List, ℕ}
 use Rattle.std.specs.List.{flat_map, range_with_len}
 use Rattle.std.proofs.lemmas.List.{length-map}
 use Rattle.std.proofs.lemmas.List.FromFn.{length-range_with_len}
 use Rattle.byteorder.specs.Endian.{big_bytes}
 use Rattle.boxsearch.specs.Beside.{with_cache}
 use Rattle.catalogue.specs.Saving.{feature_at, features_of, Saves}
-use Rattle.catalogue.specs.Text.{feature_text, features_text}
+use Rattle.catalogue.specs.Text.{feature_text, features_text, IsFeature}
 use Rattle.catalogue.specs.declared.contents.Feature.{Feature}
-use Rattle.catalogue.proofs.SavingLemmas.{saves_then, saves_same, named_more}
+use Rattle.catalogue.proofs.SavingLemmas.{saves_then, saves_same, named_more, all_named}
 use Rattle.catalogue.proofs.saving.write_features.Goals as goal
 
 pub loop-feature-preserved : goal.loop-feature-preserved
@@ -28,6 +28,19 @@ loop-feature-preserved g c =
       same = c.write_feature.ensures.same ∙ ap (λ i. with_cache i d) inv.same;
       saves = saves_same (done ++ feature_text (at n)) (front ++ flat_map feature_text (map at (range_with_len 0 (n + 1)))) a d c.args.writer.now c.write_feature.new.writer (Ok tt) (named_more feature_text at front n)
           (saves_then done (feature_text (at n)) a b d c.args.writer.now c.loop-feature.writer c.write_feature.new.writer (Ok tt) inv.saves more);
+      whole = all_named IsFeature at n inv.whole (subst (λ l. IsFeature (feature_at c.args.tracks.now l n)) same c.in_ok-write_feature.ensures.whole);
+    }
+
+pub returns-clause-whole : goal.returns-clause-whole
+returns-clause-whole g c = λ e.
+    let at : ℕ → Feature = feature_at c.args.tracks.now c.args.index.now.places in
+    let n = c.loop-feature.feature in
+    let all : n ≡ length c.args.tracks.now.names = omega (arith, e, c.loop-feature.auto.feature-end, c.loop-feature-test.false) in
+    let few : c.args.count < 2 ^ 32 = search rules in
+    let long = length-map (range_with_len 0 (length c.args.tracks.now.names)) at ∙ length-range_with_len 0 (length c.args.tracks.now.names) in
+    record {
+      each = subst (λ k. All IsFeature (map at (range_with_len 0 k))) all c.loop-feature.invariant.whole;
+      few = subst (λ k. k < 2 ^ 32) (e ∙ sym long) few;
     }
 
 pub returns-clause-saves : goal.returns-clause-saves

@@ -1,9 +1,9 @@
-use Rattle.std.proofs.Common.{◌≡◌, ◌++◌, Ok, map}
+use Rattle.std.proofs.Common.{◌≡◌, ◌++◌, Ok, All, map}
 use Rattle.std.specs.List.{flat_map, range_with_len}
 use Rattle.byteorder.specs.Endian.{big_bytes}
 use Rattle.boxsearch.specs.Beside.{with_cache}
 use Rattle.catalogue.specs.Saving.{feature_at, Saves}
-use Rattle.catalogue.specs.Text.{feature_text}
+use Rattle.catalogue.specs.Text.{feature_text, IsFeature}
 use Rattle.catalogue.proofs.saving.write_features.Given as goal
 
 -- the number, and the features so far
@@ -11,4 +11,5 @@ abbrev pub invariant-loop-feature : goal.invariant-loop-feature
 invariant-loop-feature g l = record {
   same : l.index ≡ with_cache l.fn.index l.index.cache;
   saves : Saves (big_bytes 4 l.fn.count ++ flat_map feature_text (map (feature_at l.fn.tracks l.fn.index.places) (range_with_len 0 l.feature))) l.fn.index.cache l.index.cache l.fn.writer l.writer (Ok tt);
+  whole : All IsFeature (map (feature_at l.fn.tracks l.fn.index.places) (range_with_len 0 l.feature));
 }

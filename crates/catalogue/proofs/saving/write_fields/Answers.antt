@@ -29,4 +29,5 @@ returns-in-Ok-clause-puts g c =
       has = c.put_fields.ensures.has;
       kind = c.put_fields.ensures.kind;
       front = c.put_fields.ensures.front;
+      rest = c.put_fields.ensures.rest;
     })

@@ -14,5 +14,5 @@ returns-clause-saves g c =
     (saves_then one (bytes ++ []) cache cache c.write_text.new.index.cache c.args.writer.now c.push_byte.new.writer c.write_text.new.writer c.write_text.result
     (pushed_only one cache c.args.writer.now c.push_byte.new.writer c.in_ok-push_byte.ensures)
     (saves_then bytes [] cache cache c.write_text.new.index.cache c.push_byte.new.writer c.push_head.new.writer c.write_text.new.writer c.write_text.result
-    (pushed_only bytes cache c.push_byte.new.writer c.push_head.new.writer c.in_ok-push_head.ensures)
+    (pushed_only bytes cache c.push_byte.new.writer c.push_head.new.writer c.in_ok-push_head.ensures.pushed)
     c.write_text.ensures.saves))

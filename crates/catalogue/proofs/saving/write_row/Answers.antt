@@ -10,5 +10,5 @@ returns-clause-saves g c =
     let bytes = row_text c.args.row.now in
     saves_same (bytes ++ []) bytes cache c.write_text.new.index.cache c.args.writer.now c.write_text.new.writer c.write_text.result (append-nil bytes)
     (saves_then bytes [] cache cache c.write_text.new.index.cache c.args.writer.now c.push_row.new.writer c.write_text.new.writer c.write_text.result
-    (pushed_only bytes cache c.args.writer.now c.push_row.new.writer c.in_ok-push_row.ensures)
+    (pushed_only bytes cache c.args.writer.now c.push_row.new.writer c.in_ok-push_row.ensures.pushed)
     c.write_text.ensures.saves)

@@ -1,10 +1,11 @@
-use Rattle.std.proofs.Common.{◌+◌, ◌++◌, ap, sym, ◌∙◌, subst, Ok, take, List, ℕ}
+use Rattle.std.proofs.Common.{◌+◌, ◌++◌, ap, sym, ◌∙◌, subst, Ok, All, arith, take, List, ℕ}
 use Rattle.std.specs.List.{flat_map}
 use Rattle.byteorder.specs.Endian.{big_bytes}
 use Rattle.boxsearch.specs.Beside.{with_cache}
 use Rattle.catalogue.specs.Saving.{Saves}
-use Rattle.catalogue.specs.Text.{row_text}
-use Rattle.catalogue.proofs.SavingLemmas.{saves_then, saves_same, listed_more}
+use Rattle.catalogue.specs.Text.{row_text, IsShortText}
+use Rattle.catalogue.proofs.EncodingLemmas.{all_more, all_taken, listed_more}
+use Rattle.catalogue.proofs.SavingLemmas.{saves_then, saves_same}
 use Rattle.catalogue.proofs.saving.write_rows.Goals as goal
 
 pub loop-row-preserved : goal.loop-row-preserved
@@ -25,4 +26,8 @@ loop-row-preserved g c =
       saves = saves_same (done ++ row_text row) (front ++ flat_map row_text (take (n + 1) rows)) a d c.args.writer.now c.write_row.new.writer (Ok tt)
           (listed_more row_text rows row _ front n c.loop-row-test.true (sym c.row-item.is))
           (saves_then done (row_text row) a b d c.args.writer.now c.loop-row.writer c.write_row.new.writer (Ok tt) inv.saves more);
+      whole = all_more (All IsShortText) rows row _ n c.loop-row-test.true c.row-item.is inv.whole c.in_ok-write_row.ensures.whole;
     }
+
+pub returns-clause-whole : goal.returns-clause-whole
+returns-clause-whole g c = all_taken (All IsShortText) c.args.rows.now c.loop-row.row-index (omega (arith, c.loop-row.auto.row-index-end, c.loop-row-test.false)) c.loop-row.invariant.whole

@@ -1,0 +1,312 @@
+-- A store that is closed.
+use Rattle.std.proofs.Common.{ℕ, zero, suc, ◌≡◌, ◌<◌, ◌≤◌, ◌==◌, ◌+◌, ◌^◌, true, false, Bool, ⊎_elim, List, [], ◌∷◌, map, take, length, get_or, refl, sym, ap, ◌∙◌, arith, subst, IsTrue, Option, Some, None, option_map, option_and_then, slice_get, unwrap_or, Result, Ok, Err, ◌≢◌}
+use Rattle.std.specs.Prelude.{IfErr, IsErrOf, All, AllPairs, fold, sum_by, count_by, if◌then◌else◌, ℤ, pos}
+use Rattle.std.specs.List.{range_with_len}
+use Rattle.std.proofs.lemmas.Bool.{cases_lt}
+use Rattle.std.proofs.lemmas.List.FromFn.{length-map-range_with_len, get_or-map-range_with_len}
+use Rattle.std.proofs.lemmas.List.Sums.{sum_by-cons}
+use Rattle.std.proofs.lemmas.Option.{get_or_from_slice_get, slice_get-get_or, slice_get_within, unwrap_or-slice_get}
+use Rattle.timebase.specs.Instant.{IsMoment}
+use Rattle.legs.specs.Book.{Book}
+use Rattle.legs.specs.Index.{feature_count, is_of, last_end}
+use Rattle.legs.specs.Law.{IsName}
+use Rattle.legs.specs.Legs.{IsLeg, LegView}
+use Rattle.legs.specs.declared.head.BookHead.{BookHead}
+use Rattle.legs.specs.declared.tracks.Track.{Track}
+use Rattle.pages.specs.Store.{IsLawful as IsLawfulStore, Store}
+use Rattle.pages.specs.Unsealed.{unsealed}
+use Rattle.pages.specs.declared.payload.Payload.{Payload}
+use Rattle.pagecache.specs.Cache.{fresh, page_of, pages_as_written, payload_of, sealed_payload, stored_payload, Cache, IsSettled}
+use Rattle.tbnode.specs.Form.{node_of}
+use Rattle.tbtree.specs.Descent.{node_in}
+use Rattle.tbtree.specs.Stands.{no_place}
+use Rattle.tbtree.specs.declared.tree.Place.{Place}
+use Rattle.boxsearch.specs.Beside.{IsBeside}
+use Rattle.boxsearch.specs.Bounds.{IsBounded}
+use Rattle.boxsearch.specs.Index.{content, IndexView, IsMarked, IsSound, IsUnfinished}
+use Rattle.catalogue.specs.Closing.{IsNoStoreFault}
+use Rattle.catalogue.specs.Finishing.{finished, Finishes, IsNotFinished, IsUnwrittenHeader, SaysUnfinished}
+use Rattle.catalogue.specs.Holding.{index_over, HoldsBook, IsOfBook, IsUnfinishedStore}
+use Rattle.catalogue.specs.Lasting.{payload_fault, tracks_of, IsKept, IsLawful, IsLawfulFeature, IsWithin, Says}
+use Rattle.catalogue.specs.Saved.{CatalogueView, KeepsFront}
+use Rattle.catalogue.specs.Saving.{end_of, feature_at, features_of, HasFew, IsCatalogue}
+use Rattle.catalogue.specs.declared.contents.Feature.{Feature}
+use Rattle.catalogue.specs.declared.fault.CatalogueFault.{CatalogueFault}
+use Rattle.catalogue.specs.declared.fault.CatalogueFault.TheVariants.{Memory, StoreFull, Damaged, Unfinished, Version, Malformed}
+use Rattle.catalogue.specs.declared.fault.CatalogueFault.TheVariants as fault
+use Rattle.catalogue.proofs.BuildLemmas.{map_range, none_some}
+use Rattle.catalogue.proofs.FinishLemmas.{finished_header, finished_says}
+use Rattle.catalogue.proofs.OpenLemmas.{fresh_payload}
+use Rattle.catalogue.proofs.ReaderLemmas.{some_none, some_same}
+use Rattle.catalogue.proofs.RestLemmas.{BesideLaws}
+
+map_both : {X Y Z : Type 0} (g : Y → Z) (f : X → Y) (xs : List X) → map g (map f xs) ≡ map (λ x. g (f x)) xs
+map_both g f [] = refl
+map_both g f (x ∷ xs) = let rest = map_both g f xs in λ i. g (f x) ∷ rest i
+
+map_from : {V : Type 0} (f : ℕ → V) (xs : List V) → ((k : ℕ) (x : V) → slice_get xs k ≡ Some x → f k ≡ x) → map f (range_with_len 0 (length xs)) ≡ xs
+map_from f xs h = map_range f xs 0 (λ k x e. ap f (let z : 0 + k ≡ k = omega arith in z) ∙ h k x e)
+
+All_from : {V : Type 0} (P : V → Type 0) (f : ℕ → V) (n : ℕ) → ((k : ℕ) → k < n → P (f k)) → All P (map f (range_with_len 0 n))
+All_from P f n h k d l =
+    let inside : k < n = let e = length-map-range_with_len f 0 n in omega (arith, e, l) in
+    subst P (sym (get_or-map-range_with_len f 0 n k k d inside (omega arith))) (h k inside)
+
+sum_by_map : {X Y : Type 0} (g : Y → ℕ) (f : X → Y) (xs : List X) → sum_by g (map f xs) ≡ sum_by (λ x. g (f x)) xs
+sum_by_map g f [] = refl
+sum_by_map g f (x ∷ xs) = sum_by-cons g (f x) (map f xs) ∙ ap (λ n. g (f x) + n) (sum_by_map g f xs) ∙ sym (sum_by-cons (λ y. g (f y)) x xs)
+
+nothing : {X : Type 0} (xs : List X) → length xs ≡ 0 → xs ≡ []
+nothing [] e = refl
+nothing (x ∷ xs) e = absurd (omega (arith, e))
+
+-- the last leg of a feature ends at a moment
+step_moment : (b : Bool) (leg : LegView) (end : Option ℤ) → IsLeg leg → ((e : ℤ) → end ≡ Some e → IsMoment e) → (e : ℤ) → (if b then Some leg.t1 else end) ≡ Some e → IsMoment e
+step_moment true leg end is h e same = subst IsMoment (some_same leg.t1 e same) is.t1
+step_moment false leg end is h e same = h e same
+
+ends : (feature : ℕ) (legs : List LegView) (end : Option ℤ) → All IsLeg legs → ((e : ℤ) → end ≡ Some e → IsMoment e) → (e : ℤ) → fold (λ end leg. if leg.feature == feature then Some leg.t1 else end) end legs ≡ Some e → IsMoment e
+ends feature [] end all h e same = h e same
+ends feature (leg ∷ legs) end all h e same =
+    ends feature legs (if leg.feature == feature then Some leg.t1 else end) (λ k d l. all (suc k) d (omega (arith, l)))
+    (step_moment (leg.feature == feature) leg end (all 0 leg (omega arith)) h) e same
+
+last_end_moment : (feature : ℕ) (legs : List LegView) → All IsLeg legs → (e : ℤ) → last_end feature legs ≡ Some e → IsMoment e
+last_end_moment feature legs all e same = ends feature legs None all (λ e none. absurd (none_some none)) e same
+
+-- the catalogue of a book has few features and rows
+module _ (c : CatalogueView) (book : Book) (of : IsOfBook c.limits book c) where
+  names_same : length c.tracks.names ≡ length book.names
+  names_same = ap length of.tracks.names
+
+  pub of_few : HasFew c
+  of_few = record {
+    features = let n = names_same in let f = of.tracks.lawful.few_names in omega (arith, n, f);
+    rows = let r = ap length of.rows in let f = of.tracks.lawful.few_legs in let l = of.law.ordered.few_rows in omega (arith, r, f, l);
+  }
+
+  pub of_catalogue : IsCatalogue c
+  of_catalogue = record {
+    few = of_few;
+    rows = λ head e. subst (λ rows. All (λ row. length row ≡ length head.columns) rows) (sym of.rows) (of.law.rows head (sym of.head ∙ e));
+  }
+
+-- what a sound index says of its places
+pub record PlaceLaws (i : IndexView) : Type 0 where
+  pub bounds : length (content i) ≤ 2 ^ 31 → IsBounded i
+  pub counts : (feature : ℕ) (place : Place) → slice_get i.places feature ≡ Some place → place.legs ≡ count_by (is_of feature) (content i)
+  pub total : sum_by (λ (place : Place). place.legs) i.places ≡ length (content i)
+
+-- a sound index with the catalogue of its book is lawful
+module _ (c : CatalogueView) (i : IndexView) (book : Book) (laws : PlaceLaws i) (sound : IsSound i) (of : IsOfBook c.limits book c) (legs : content i ≡ book.legs)
+    (dated : (head : BookHead) → c.head ≡ Some head → IsMoment head.base) where
+  abbrev n : ℕ
+  n = length c.tracks.names
+
+  abbrev fs : List Feature
+  fs = features_of c.tracks i.places
+
+  bounded : IsBounded i
+  bounded = laws.bounds (let f = of.tracks.lawful.few_legs in let l = ap length legs in omega (arith, f, l))
+
+  paired : length c.tracks.tracks ≡ n
+  paired = of.tracks.paired ∙ sym (ap length of.tracks.names)
+
+  placed : length i.places ≡ n
+  placed = sound.features ∙ ap feature_count legs ∙ of.law.ordered.numbered ∙ sym (ap length of.tracks.names)
+
+  all_legs : All IsLeg book.legs
+  all_legs = subst (All IsLeg) legs sound.lawful
+
+  names_are : map (λ (f : Feature). f.name) fs ≡ c.tracks.names
+  unfolding feature_at
+  names_are =
+      map_both (λ (f : Feature). f.name) (feature_at c.tracks i.places) (range_with_len 0 n)
+      ∙ map_from (λ k. unwrap_or (slice_get c.tracks.names k) []) c.tracks.names (λ k x e. ap (λ o. unwrap_or o []) e)
+
+  places_are : map (λ (f : Feature). f.kept.place) fs ≡ i.places
+  unfolding feature_at
+  places_are =
+      map_both (λ (f : Feature). f.kept.place) (feature_at c.tracks i.places) (range_with_len 0 n)
+      ∙ ap (λ m. map (λ k. unwrap_or (slice_get i.places k) no_place) (range_with_len 0 m)) (sym placed)
+      ∙ map_from (λ k. unwrap_or (slice_get i.places k) no_place) i.places (λ k x e. ap (λ o. unwrap_or o no_place) e)
+
+  abbrev track_at : ℕ → Track
+  track_at k = record { end = end_of (slice_get c.tracks.tracks k); legs = (unwrap_or (slice_get i.places k) no_place).legs }
+
+  track_is : (k : ℕ) (t : Track) → slice_get c.tracks.tracks k ≡ Some t → track_at k ≡ t
+  track_is k t e =
+      let inside : k < n = let l = slice_get_within c.tracks.tracks k t e in let p = paired in omega (arith, l, p) in
+      let at : slice_get i.places k ≡ Some (get_or i.places k no_place) = slice_get-get_or i.places k no_place (let p = placed in omega (arith, inside, p)) in
+      let here : get_or c.tracks.tracks k t ≡ t = get_or_from_slice_get c.tracks.tracks k t t e in
+      let counted = (of.tracks.each k t (let s = names_same c book of in omega (arith, inside, s))).count in
+      let end = ap end_of e in
+      let long : (unwrap_or (slice_get i.places k) no_place).legs ≡ t.legs =
+      ap (λ (o : Option Place). (unwrap_or o no_place).legs) at ∙ laws.counts k (get_or i.places k no_place) at ∙ ap (count_by (is_of k)) legs
+      ∙ counted ∙ ap (λ (x : Track). x.legs) here in
+      (λ j. record { end = end j; legs = long j })
+
+  tracks_same : map (λ (f : Feature). record { end = f.kept.end; legs = f.kept.place.legs }) fs ≡ c.tracks.tracks
+  unfolding feature_at
+  tracks_same =
+      map_both (λ (f : Feature). record { end = f.kept.end; legs = f.kept.place.legs }) (feature_at c.tracks i.places) (range_with_len 0 n)
+      ∙ ap (λ m. map track_at (range_with_len 0 m)) (sym paired)
+      ∙ map_from track_at c.tracks.tracks track_is
+
+  legs_same : sum_by (λ (f : Feature). f.kept.place.legs) fs ≡ c.tracks.legs
+  legs_same =
+      sym (sum_by_map (λ (p : Place). p.legs) (λ (f : Feature). f.kept.place) fs) ∙ ap (sum_by (λ (p : Place). p.legs)) places_are
+      ∙ laws.total ∙ ap length legs ∙ sym of.tracks.legs
+
+  tracks_are : c.tracks ≡ tracks_of fs (length c.rows)
+  tracks_are =
+      let names = sym names_are in
+      let tracks = sym tracks_same in
+      let sum = sym legs_same in
+      let rows = of.tracks.rows ∙ sym (ap length of.rows) in
+      (λ j. record { names = names j; tracks = tracks j; legs = sum j; rows = rows j })
+
+  fs_length : length fs ≡ n
+  fs_length = length-map-range_with_len (feature_at c.tracks i.places) 0 n
+
+  lawful_at : (k : ℕ) → k < n → IsLawfulFeature i.cache.count (feature_at c.tracks i.places k)
+  unfolding feature_at
+  lawful_at k l =
+      let nowhere : Track = record { end = pos 0; legs = 0 } in
+      let there : k < length book.names = let s = names_same c book of in omega (arith, l, s) in
+      let track = of.tracks.each k nowhere there in
+      let end : end_of (slice_get c.tracks.tracks k) ≡ (get_or c.tracks.tracks k nowhere).end =
+      ap end_of (slice_get-get_or c.tracks.tracks k nowhere (let p = paired in omega (arith, l, p))) in
+      let place = bounded.places k no_place (let p = placed in omega (arith, l, p)) in
+      let at = sym (unwrap_or-slice_get i.places k no_place) in
+      record {
+        name = subst IsName (sym (unwrap_or-slice_get c.tracks.names k [])) (subst (All IsName) (sym of.tracks.names) of.law.ordered.names k [] l);
+        end = subst IsMoment (sym end) (last_end_moment k book.legs all_legs (get_or c.tracks.tracks k nowhere).end track.end);
+        first = subst (λ (p : Place). p.first < i.cache.count) at place.0;
+        last = subst (λ (p : Place). p.last < i.cache.count) at place.1;
+      }
+
+  pub of_lawful : IsLawful i.cache.count c i.places
+  of_lawful = record {
+    features = fs;
+    tracks_are = tracks_are;
+    places_are = sym places_are;
+    each = All_from (IsLawfulFeature i.cache.count) (feature_at c.tracks i.places) n lawful_at;
+    apart = subst (AllPairs (λ a b. a ≢ b)) (sym (names_are ∙ of.tracks.names)) of.law.ordered.distinct;
+    few_features = let l = fs_length in let s = names_same c book of in let f = of.law.ordered.few_features in omega (arith, l, s, f);
+    few_legs = let l = of.tracks.legs in let f = of.law.ordered.few_legs in omega (arith, l, f);
+    few_rows = let l = of.tracks.legs in let r = ap length of.rows in let f = of.law.ordered.few_rows in omega (arith, l, r, f);
+    none = λ e. nothing fs (fs_length ∙ names_same c book of ∙ ap (λ (b : Book). length b.names) (of.law.none (sym of.head ∙ e)));
+    base = dated;
+  }
+
+  pub of_within : IsWithin i.cache.count i.tree
+  of_within = record { root = bounded.root; leaves = bounded.leaves; levels = bounded.levels }
+
+-- page 0 of the pages that are written is page 0 of the store
+first_page : {X Y : Type 0} (f : X → Option Y) (n : ℕ) (xs : List X) (y : Y) → option_and_then f (slice_get (take n xs) 0) ≡ Some y → option_and_then f (slice_get xs 0) ≡ Some y
+first_page f zero xs y e = absurd (none_some e)
+first_page f (suc n) [] y e = e
+first_page f (suc n) (x ∷ xs) y e = e
+
+-- so a store is not finished where its cache says so
+pub says_stored : (c : Cache) → SaysUnfinished c → IsUnfinishedStore c.store
+unfolding sealed_payload page_of pages_as_written stored_payload
+says_stored c s = record { payload = s.payload; is = first_page (unsealed 0) c.count c.store.pages s.payload s.sealed; unfinished = s.unfinished }
+
+-- a marked page 0 that stays as it is written
+module _ (a b : Cache) (m : IsMarked a) (same : page_of b 0 ≡ page_of a 0) where
+  pub still_says : SaysUnfinished b
+  unfolding sealed_payload
+  still_says = record { payload = m.payload; sealed = ap (option_and_then (unsealed 0)) same ∙ m.sealed; unfinished = m.unfinished }
+
+-- a marked page 0 that begins as it did
+module _ (a b : Cache) (m : IsMarked a) (settled : IsSettled a) (front : KeepsFront a b) where
+  was_is : front.was ≡ m.payload
+  was_is = some_same front.was m.payload (sym front.before ∙ settled m.faithful 0 m.unchanged ∙ m.sealed)
+
+  pub front_unfinished : IsUnfinished front.payload
+  front_unfinished = record {
+    kind = front.kind ∙ ap (λ (p : Payload). p.kind) was_is ∙ m.unfinished.kind;
+    front = front.front ∙ ap (λ (p : Payload). take 12 p.bytes) was_is ∙ m.unfinished.front;
+  }
+
+  pub front_unwritten : page_of b 0 ≡ page_of a 0 → IsUnwrittenHeader b
+  front_unwritten same = record { written = still_says a b m same; payload = front.payload; is = front.is; unfinished = front_unfinished }
+
+-- a saved index that is finished is held by its store
+module _ (laws : BesideLaws) (c : CatalogueView) (i : IndexView) (book : Book) (new : Cache) (sound : IsSound i) (of : IsOfBook c.limits book c) (legs : content i ≡ book.legs)
+    (lawful : IsLawful i.cache.count c i.places) (within : IsWithin i.cache.count i.tree) (says : Says (payload_of i.cache) i.cache.count c i.tree i.places)
+    (header : Payload) (is : payload_of i.cache 0 ≡ Some header) (unfinished : IsUnfinished header)
+    (f : Finishes i.cache new) (stored : IsLawfulStore new.store) (faithful : new.store.is_faithful ≡ i.cache.store.is_faithful) where
+  abbrev s : Store
+  s = new.store
+
+  was_unfinished : IsUnfinished f.header
+  was_unfinished = subst IsUnfinished (some_same header f.header (sym is ∙ f.was)) unfinished
+
+  kept : IsKept (stored_payload s) s.count c i.tree i.places
+  kept = subst (λ n. IsKept (stored_payload s) n c i.tree i.places) (sound.count ∙ sym f.length) (record {
+    says = finished_says (payload_of i.cache) (stored_payload s) f.header f.stored_rest f.was f.stored_first was_unfinished.kind i.cache.count c i.tree i.places says;
+    finished = ap payload_fault f.stored_first ∙ finished_header f.header was_unfinished;
+    within = within;
+    works = sound.works;
+    lawful = lawful;
+  })
+
+  at_fresh : (p : ℕ) → payload_of (fresh s 1) p ≡ stored_payload s p
+  at_fresh p = fresh_payload s 1 stored (faithful ∙ sound.faithful) p
+
+  other : (p : ℕ) → 0 < p → payload_of (fresh s 1) p ≡ payload_of i.cache p
+  other p h = at_fresh p ∙ f.stored_rest p h
+
+  beside : IsBeside i.cache (fresh s 1)
+  beside =
+      let count : i.cache.count ≡ s.count = sound.count ∙ sym f.length in
+      record {
+        faithful = faithful;
+        length = λ e. refl;
+        tree = λ _. record {
+          count = omega (arith, count);
+          held = λ p l e. (
+            omega (arith, count, l),
+            ⊎_elim
+                (λ (h : 0 < p). ap (option_map node_of) (sym (other p h)) ∙ e)
+                (λ (h : p ≤ 0). let z : 0 ≡ p = omega (arith, h) in
+                absurd (some_none (node_of (finished f.header)) (sym (ap (option_map node_of) (at_fresh 0 ∙ f.stored_first)) ∙ ap (λ k. option_map node_of (payload_of (fresh s 1) k)) z ∙ e)))
+                (cases_lt 0 p),
+          );
+          rest = λ p h. ap (λ o. node_in (option_map node_of o)) (other p h);
+        };
+      }
+
+  pub closed_holds : HoldsBook s c.limits book
+  closed_holds = record {
+    catalogue = c;
+    tree = i.tree;
+    places = i.places;
+    kept = kept;
+    of = of;
+    sound = subst (λ n. IsSound (index_over s i.tree i.places n)) (sound.counted ∙ ap length legs) (laws.sound i (fresh s 1) beside sound);
+    legs = laws.content i (fresh s 1) beside ∙ legs;
+  }
+
+-- of what refuses to finish a store, only want of memory is no fault of the store
+pub only_memory : {P : Type 0} (a b : Cache) (r : Result (Unit {0}) CatalogueFault) → IfErr r (IsNotFinished a b) → (IsErrOf r Memory → P) → IfErr r (λ e. IsNoStoreFault e → P)
+only_memory a b (Ok x) h f = tt
+only_memory a b (Err Memory) h f = λ _. f refl
+only_memory a b (Err fault.Store) h f = λ x. absurd x
+only_memory a b (Err StoreFull) h f = absurd h
+only_memory a b (Err (Damaged n)) h f = λ x. absurd x
+only_memory a b (Err Unfinished) h f = λ x. absurd x
+only_memory a b (Err Version) h f = λ x. absurd x
+only_memory a b (Err Malformed) h f = λ x. absurd x
+
+some_pages : {X Y : Type 0} (f : X → Option Y) (xs : List X) (y : Y) → option_and_then f (slice_get xs 0) ≡ Some y → 0 < length xs
+some_pages f [] y e = absurd (none_some e)
+some_pages f (x ∷ xs) y e = omega arith
+
+-- a store that is not finished has a page
+pub unfinished_there : (s : Store) → IsUnfinishedStore s → IsTrue s.is_faithful → IsLawfulStore s → 0 < s.count
+unfolding stored_payload
+unfinished_there s u faithful lawful = let l = some_pages (unsealed 0) s.pages u.payload u.is in let n = lawful.counted faithful in omega (arith, l, n)

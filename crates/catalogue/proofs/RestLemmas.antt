@@ -1,0 +1,124 @@
+-- A database of which no page is changed, and a store whose pages hold a book.
+use Rattle.std.proofs.Common.{ℕ, ◌≡◌, cond, List, [], ◌∷◌, map, take, length, refl, sym, ap, ◌∙◌, subst, IsTrue, Some, option_and_then, slice_get}
+use Rattle.std.proofs.Math.Seq.{take-length}
+use Rattle.legs.specs.Asking.{Leaves}
+use Rattle.legs.specs.Book.{Book}
+use Rattle.pages.specs.Store.{Store, IsLawful}
+use Rattle.pages.specs.Unsealed.{unsealed}
+use Rattle.pagecache.specs.Cache.{Cache, fresh, page_of, pages_as_written, payload_of, sealed_payload, stored_payload, IsSettled}
+use Rattle.tbtree.specs.declared.tree.Place.{Place}
+use Rattle.boxsearch.specs.Beside.{with_cache, IsBeside}
+use Rattle.boxsearch.specs.Index.{content, found_by, place_of, words, written, IndexView, IsMarked, IsSound}
+use Rattle.catalogue.specs.Holding.{index_over, payload_in, HoldsBook, IsAtRest, IsOfBook, IsUnfinishedStore}
+use Rattle.catalogue.specs.Lasting.{IsKept}
+use Rattle.catalogue.specs.Saved.{CatalogueView}
+
+-- the laws of an index that are cited here
+pub record BesideLaws : Type 0 where
+  pub content : (index : IndexView) (cache : Cache) → IsBeside index.cache cache → content (with_cache index cache) ≡ content index
+  pub sound : (index : IndexView) (cache : Cache) → IsBeside index.cache cache → IsSound index → IsSound (with_cache index cache)
+  pub alike : (old new : Cache) → new.store.is_faithful ≡ old.store.is_faithful → new.count ≡ old.count → new.store.count ≡ old.store.count
+      → (IsTrue old.store.is_faithful → (n : ℕ) → payload_of new n ≡ payload_of old n) → IsBeside old new
+
+heads : {X : Type 0} (x y : X) (xs ys : List X) → x ∷ xs ≡ y ∷ ys → x ≡ y
+heads x y xs ys e = cc
+
+tails : {X : Type 0} (x y : X) (xs ys : List X) → x ∷ xs ≡ y ∷ ys → xs ≡ ys
+tails x y xs ys e = cc
+
+the_same : {X : Type 0} (x y : X) → Some x ≡ Some y → x ≡ y
+the_same x y e = cc
+
+place_same : (p q : Place) → place_of p ≡ place_of q → p ≡ q
+place_same p q e = λ i. record { first = (e i).first; last = (e i).last; last_index = (e i).last_index; legs = (e i).legs }
+
+-- places are known by their numbers
+places_same : (ps qs : List Place) → map place_of ps ≡ map place_of qs → ps ≡ qs
+places_same [] [] e = refl
+places_same [] (q ∷ qs) e = absurd cc
+places_same (p ∷ ps) [] e = absurd cc
+places_same (p ∷ ps) (q ∷ qs) e =
+    let first = place_same p q (heads (place_of p) (place_of q) (map place_of ps) (map place_of qs) e) in
+    let rest = places_same ps qs (tails (place_of p) (place_of q) (map place_of ps) (map place_of qs) e) in
+    λ i. first i ∷ rest i
+
+-- what a question leaves of a database at rest is at rest
+module _ (c : CatalogueView) (a b : IndexView) (rest : IsAtRest c a) (leaves : Leaves words a b) where
+  tree_same : b.tree ≡ a.tree
+  tree_same =
+      let shape : b.tree.shape ≡ a.tree.shape = the_same b.tree.shape a.tree.shape leaves.later.plan in
+      let spent : b.tree.spent ≡ a.tree.spent = leaves.spent in
+      let found : found_by b ≡ found_by a = leaves.found_by in
+      λ i. record { shape = shape i; root = (found i).root; levels = (found i).levels; leaves = (found i).leaves; spent = spent i }
+
+  pub rest_stays : IsAtRest c b
+  rest_stays =
+      let found : found_by b ≡ found_by a = leaves.found_by in
+      let places : b.places ≡ a.places = places_same b.places a.places (λ i. (found i).places) in
+      let pages : written b ≡ written a = leaves.written rest.clean in
+      record {
+        clean = leaves.clean rest.clean;
+        legs = (λ i. (found i).legs) ∙ rest.legs;
+        kept = subst (λ w. IsKept (payload_in w) (length w) c b.tree b.places) (sym pages)
+            (subst (λ t. IsKept (payload_in (written a)) (length (written a)) c t b.places) (sym tree_same)
+            (subst (λ p. IsKept (payload_in (written a)) (length (written a)) c a.tree p) (sym places) rest.kept));
+      }
+
+-- a cache that counts all pages of its store
+module _ (c : Cache) (counts : c.count ≡ c.store.count) (lawful : IsLawful c.store) (f : IsTrue c.store.is_faithful) where
+  all_pages : take c.count c.store.pages ≡ c.store.pages
+  all_pages = ap (λ n. take n c.store.pages) (counts ∙ sym (lawful.counted f)) ∙ take-length c.store.pages
+
+  pub sealed_stored : (n : ℕ) → sealed_payload c n ≡ stored_payload c.store n
+  unfolding sealed_payload page_of pages_as_written stored_payload
+  sealed_stored n = ap (λ (pages : List (List ℕ)). option_and_then (unsealed n) (slice_get pages n)) all_pages
+
+-- a store whose page 0 is marked is not finished
+pub marked_store : (c : Cache) → IsMarked c → c.count ≡ c.store.count → IsLawful c.store → IsUnfinishedStore c.store
+marked_store c m counts lawful = record { payload = m.payload; is = sym (sealed_stored c counts lawful m.faithful 0) ∙ m.sealed; unfinished = m.unfinished }
+
+fresh_stored : (s : Store) (n : ℕ) → payload_of (fresh s 1) n ≡ sealed_payload (fresh s 1) n
+unfolding payload_of
+fresh_stored s n = refl
+
+stored_in : (s : Store) (n : ℕ) → payload_in s.pages n ≡ stored_payload s n
+unfolding payload_in stored_payload
+stored_in s n = refl
+
+-- at rest the pages of a store hold the book that a sound index and a catalogue are of
+module _ (laws : BesideLaws) (c : CatalogueView) (i : IndexView) (book : Book) (f : IsTrue i.cache.store.is_faithful) (lawful : IsLawful i.cache.store) (settled : IsSettled i.cache)
+    (rest : IsAtRest c i) (sound : IsSound i) (of : IsOfBook c.limits book c) (legs : content i ≡ book.legs) where
+  abbrev s : Store
+  s = i.cache.store
+
+  written_is : written i ≡ s.pages
+  unfolding pages_as_written
+  written_is = ap (λ b. cond b (pages_as_written i.cache) []) f ∙ all_pages i.cache sound.count lawful f
+
+  kept : IsKept (stored_payload s) s.count c i.tree i.places
+  kept =
+      subst (λ at. IsKept at s.count c i.tree i.places) (λ j n. stored_in s n j)
+      (subst (λ n. IsKept (payload_in s.pages) n c i.tree i.places) (lawful.counted f)
+      (subst (λ w. IsKept (payload_in w) (length w) c i.tree i.places) written_is rest.kept))
+
+  payloads : (n : ℕ) → payload_of (fresh s 1) n ≡ payload_of i.cache n
+  payloads n =
+      fresh_stored s n ∙ sealed_stored (fresh s 1) refl lawful f n
+      ∙ sym (settled f n (rest.clean n) ∙ sealed_stored i.cache sound.count lawful f n)
+
+  beside : IsBeside i.cache (fresh s 1)
+  beside = laws.alike i.cache (fresh s 1) refl (sym sound.count) refl (λ _. payloads)
+
+  legs_are : i.legs ≡ length book.legs
+  legs_are = sound.counted ∙ ap (λ l. length l) legs
+
+  pub rest_holds : HoldsBook s c.limits book
+  rest_holds = record {
+    catalogue = c;
+    tree = i.tree;
+    places = i.places;
+    kept = kept;
+    of = of;
+    sound = subst (λ n. IsSound (index_over s i.tree i.places n)) legs_are (laws.sound i (fresh s 1) beside sound);
+    legs = laws.content i (fresh s 1) beside ∙ legs;
+  }

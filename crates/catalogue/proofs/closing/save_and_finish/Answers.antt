@@ -1,0 +1,69 @@
+use Rattle.std.proofs.Common.{◌≡◌, ◌∙◌, ap, sym, subst, arith, Some}
+use Rattle.std.proofs.lemmas.Result.{err_from_is_err_and}
+use Rattle.timebase.specs.Instant.{IsMoment}
+use Rattle.legs.specs.Book.{Book}
+use Rattle.legs.specs.declared.head.BookHead.{BookHead}
+use Rattle.pagecache.specs.Cache.{IsSettled}
+use Rattle.boxsearch.specs.Index.{content, IndexView, IsMarked, IsSound}
+use Rattle.catalogue.specs.Closing.{IsNoStoreFault}
+use Rattle.catalogue.specs.Holding.{IsOfBook, IsUnfinishedStore}
+use Rattle.catalogue.specs.Saved.{CatalogueView}
+use Rattle.catalogue.specs.Saving.{IsAllowed}
+use Rattle.catalogue.proofs.CloseLemmas.{closed_holds, front_unfinished, front_unwritten, of_catalogue, of_few, of_lawful, of_within, only_memory, says_stored, still_says, PlaceLaws}
+use Rattle.catalogue.proofs.ReaderLemmas.{if_err_of, on_ok}
+use Rattle.catalogue.proofs.closing.save_and_finish.Goals as goal
+
+pub returns-in_err-save-clause-only : goal.returns-in_err-save-clause-only
+returns-in_err-save-clause-only g c =
+    let p = err_from_is_err_and c.from_residual.result c.from_residual.ensures.1 in
+    let catalogue = c.args.catalogue.now in
+    if_err_of (λ e. IsSound c.args.index.now → (book : Book) → IsOfBook catalogue.limits book catalogue → content c.args.index.now ≡ book.legs → IsAllowed e) c.from_residual.result p.0 c.in_err-save.field-0.0 p.1 p.2
+    (λ sound book of legs. c.in_err-save.ensures.only (of_few catalogue book of) (subst (λ (i : IndexView). IsSound i) (sym c.settled.ensures.same) sound))
+
+pub returns-in_err-save-clause-unfinished : goal.returns-in_err-save-clause-unfinished
+returns-in_err-save-clause-unfinished g c =
+    let p = err_from_is_err_and c.from_residual.result c.from_residual.ensures.1 in
+    let new = c.save.new.index.cache in
+    if_err_of (λ e. IsNoStoreFault e → IsSound c.args.index.now → IsMarked c.args.index.now.cache → IsUnfinishedStore new.store) c.from_residual.result p.0 c.in_err-save.field-0.0 p.1 p.2
+    (λ fault sound was.
+    let marked : IsMarked c.settled.new.index.cache = subst (λ (i : IndexView). IsMarked i.cache) (sym c.settled.ensures.same) was in
+    says_stored new (still_says c.settled.new.index.cache new marked (c.save.ensures.first_written marked.faithful marked.there marked.unchanged)))
+
+pub returns-clause-holds : goal.returns-clause-holds
+returns-clause-holds g c =
+    let i = c.settled.new.index in
+    let j = c.save.new.index in
+    let new = c.finish.new.index.cache in
+    let catalogue = c.args.catalogue.now in
+    let laws = c.laws.ensures in
+    let same : i ≡ c.args.index.now = c.settled.ensures.same in
+    let dated : (head : BookHead) → catalogue.head ≡ Some head → IsMoment head.base = λ head e. c.dated.ensures head (ap (λ (v : CatalogueView). v.head) c.catalogue.view_is ∙ e) in
+    on_ok c.finish.result (λ finishes lawful was_sound was_marked book of was_legs.
+    let sound : IsSound i = subst (λ (x : IndexView). IsSound x) (sym same) was_sound in
+    let marked : IsMarked i.cache = subst (λ (x : IndexView). IsMarked x.cache) (sym same) was_marked in
+    let settled : IsSettled i.cache = subst (λ (x : IndexView). IsSettled x.cache) (sym same) c.settled.ensures.settled in
+    let saved : IsSound j = c.in_ok-save.ensures.sound sound in
+    let legs : content j ≡ book.legs = c.in_ok-save.ensures.content ∙ ap (λ (x : IndexView). content x) same ∙ was_legs in
+    let places : PlaceLaws j = record { bounds = laws.bounds j saved; counts = laws.counts j saved; total = laws.total j saved } in
+    let front = c.in_ok-save.ensures.front marked.faithful marked.there in
+    closed_holds (record { content = laws.content; sound = laws.sound; alike = laws.alike }) catalogue j book new saved of legs
+    (of_lawful catalogue j book places saved of legs dated) (of_within catalogue j book places saved of legs dated)
+    (c.in_ok-save.ensures.saved (of_catalogue catalogue book of) sound.faithful)
+    front.payload front.is (front_unfinished i.cache j.cache marked settled front)
+    (finishes saved.faithful saved.count) lawful c.finish.ensures.later.store.faithful) c.finish.ensures.finishes
+
+pub returns-clause-unfinished : goal.returns-clause-unfinished
+returns-clause-unfinished g c =
+    let i = c.settled.new.index in
+    let j = c.save.new.index in
+    let new = c.finish.new.index.cache in
+    let same : i ≡ c.args.index.now = c.settled.ensures.same in
+    only_memory j.cache new c.finish.result c.finish.ensures.caused (λ memory sound was_marked.
+    let marked : IsMarked i.cache = subst (λ (x : IndexView). IsMarked x.cache) (sym same) was_marked in
+    let settled : IsSettled i.cache = subst (λ (x : IndexView). IsSettled x.cache) (sym same) c.settled.ensures.settled in
+    let front = c.in_ok-save.ensures.front marked.faithful marked.there in
+    let written = c.save.ensures.first_written marked.faithful marked.there marked.unchanged in
+    let some = marked.there in
+    let more = c.save.ensures.later.count in
+    says_stored new (c.finish.ensures.unfinished memory (c.save.ensures.later.store.faithful ∙ marked.faithful) (omega (arith, some, more))
+    (front_unwritten i.cache j.cache marked settled front written)))

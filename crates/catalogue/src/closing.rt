@@ -1,0 +1,107 @@
+//! A store is closed.
+ghost use Rattle.std.specs.Prelude.{◌≡◌, IfErr, OnOk, Some};
+ghost use Rattle.legs.specs.Book.{Book};
+ghost use Rattle.legs.specs.declared.head.BookHead.{BookHead};
+ghost use Rattle.pages.specs.Store.{IsLawful, Keeps};
+ghost use Rattle.pagecache.specs.Cache.{IsSettled};
+ghost use Rattle.timebase.specs.Instant.{IsMoment};
+ghost use Rattle.boxsearch.specs.Index.{content, IsMarked, IsSound};
+ghost use Rattle.catalogue.specs.Closing.{IsClosingFault, IsNoStoreFault};
+ghost use Rattle.catalogue.specs.Holding.{HoldsBook, IsOfBook, IsUnfinishedStore};
+ghost use Rattle.catalogue.specs.Saving.{IsAllowed, IsCaused};
+
+use crate::fault::CatalogueFault;
+use crate::finishing::finish;
+use crate::restoring::lawful;
+use crate::saving::{Catalogue, save};
+use boxsearch::TreeIndex;
+use legs::BookHead;
+use pages::PageStore;
+use std::alloc::Global;
+
+/// What holds of the base of any head, for the proofs of a caller. It does nothing.
+fn dated(head: &Option<BookHead>)
+    ensures { (first : BookHead) → head.now ≡ Some first → IsMoment first.base }
+{
+    match head {
+        None => {}
+        Some(head) => {
+            let _ = head.base.millis();
+        }
+    }
+}
+
+/// What holds of the cache of any index, for the proofs of a caller. It does nothing.
+fn settled<S: PageStore>(index: &mut TreeIndex<S>)
+    ensures same { index.new ≡ index.old }
+    ensures settled { IsSettled index.old.cache }
+    ensures lawful { IsLawful index.old.cache.store }
+{
+    let _ = index.cache_mut().store();
+}
+
+/// Saves the catalogue, writes all that is changed, and marks the store as finished.
+fn save_and_finish<S: PageStore>(
+    alloc: Global,
+    catalogue: &Catalogue,
+    index: &mut TreeIndex<S>,
+) -> Result<(), CatalogueFault>
+    ensures holds { OnOk result (IsLawful index.new.cache.store → IsSound index.old
+        → IsMarked index.old.cache → (book : Book)
+        → IsOfBook catalogue.now.limits book catalogue.now → content index.old ≡ book.legs
+        → HoldsBook index.new.cache.store catalogue.now.limits book) }
+    ensures only { IfErr result (λ fault. IsSound index.old → (book : Book)
+        → IsOfBook catalogue.now.limits book catalogue.now → content index.old ≡ book.legs
+        → IsAllowed fault) }
+    ensures unfinished { IfErr result (λ fault. IsNoStoreFault fault → IsSound index.old
+        → IsMarked index.old.cache → IsUnfinishedStore index.new.cache.store) }
+    ensures keeps { Keeps index.old.cache.store index.new.cache.store }
+    ensures caused { IfErr result (IsCaused index.old.cache index.new.cache) }
+{
+    boxsearch::laws();
+    dated(&catalogue.head);
+    settled(index);
+    save(alloc, catalogue, index)?;
+    finish(index)
+}
+
+/// Closes the store of a database: its catalogue is saved, all that is changed is written, and page 0 says last that the
+/// store is finished. The store is handed back, whatever is answered.
+///
+/// Refused for want of memory, and where the store fails or is full. Where memory ran out or the store is full, its page 0
+/// still says that it is not finished.
+pub fn close<S: PageStore>(
+    alloc: Global,
+    catalogue: &Catalogue,
+    mut index: TreeIndex<S>,
+) -> (S, Result<(), CatalogueFault>)
+    // The store then holds the book that index and catalogue are of.
+    ensures holds { OnOk result.1 (IsSound index → IsMarked index.cache → (book : Book)
+        → IsOfBook catalogue.now.limits book catalogue.now → content index ≡ book.legs
+        → HoldsBook (S.seen result.0) catalogue.now.limits book) }
+    ensures only { IfErr result.1 (λ fault. IsSound index → (book : Book)
+        → IsOfBook catalogue.now.limits book catalogue.now → content index ≡ book.legs
+        → IsAllowed fault) }
+    ensures unfinished { IfErr result.1 (λ fault. IsNoStoreFault fault → IsSound index → IsMarked index.cache
+        → IsUnfinishedStore (S.seen result.0)) }
+    ensures keeps { Keeps index.cache.store (S.seen result.0) }
+    ensures lawful { IsLawful (S.seen result.0) }
+    ensures caused { IfErr result.1 (IsClosingFault index.cache.store (S.seen result.0)) }
+{
+    let result = save_and_finish(alloc, catalogue, &mut index);
+    let cache = index.into_cache();
+    lawful(&cache);
+    cache.count();
+    (cache.into_store(), result)
+}
+
+/// The store of an index that is at rest, as it stands; nothing is written.
+pub fn rest<S: PageStore>(index: TreeIndex<S>) -> S
+    ensures store { S.seen result ≡ index.cache.store }
+    ensures lawful { IsLawful index.cache.store }
+    ensures settled { IsSettled index.cache }
+{
+    let cache = index.into_cache();
+    let _ = cache.store();
+    cache.into_store()
+}

@@ -1,0 +1,79 @@
+//! A store is marked as finished.
+ghost use Rattle.std.specs.Prelude.{◌≡◌, ◌≢◌, ◌<◌, IfErr, IsErrOf, IsTrue, None, OnErr, OnOk};
+ghost use Rattle.pagecache.specs.Cache.{payload_of, IsWritten, Rests, SameLength, Stays};
+ghost use Rattle.boxsearch.specs.Beside.{with_cache};
+ghost use Rattle.catalogue.specs.Finishing.{finished, Finishes, IsLaterCache, IsNotFinished, IsNotWritten, IsUnwrittenHeader, SaysUnfinished, SetsState};
+ghost use Rattle.catalogue.specs.Lasting.{IsStop};
+
+use crate::chain_reader::fault_of;
+use crate::fault::CatalogueFault;
+use boxsearch::TreeIndex;
+use pages::{PageStore, Payload};
+use tbnode::fields::put_u32;
+
+/// The state of a finished store.
+const FINISHED: u32 = 1;
+
+/// Writes all that is changed to the store.
+fn write_all<S: PageStore>(index: &mut TreeIndex<S>) -> Result<(), CatalogueFault>
+    ensures same { index.new ≡ with_cache index.old index.new.cache }
+    ensures written { OnOk result (IsWritten index.new.cache) }
+    ensures stays { Stays index.old.cache index.new.cache }
+    ensures length { SameLength index.old.cache index.new.cache }
+    ensures asked { index.new.cache.asked ≡ index.old.cache.asked }
+    ensures memory { IsErrOf result CatalogueFault.Memory
+        → index.new.cache ≡ index.old.cache }
+    ensures caused { IfErr result (IsNotWritten index.old.cache index.new.cache) }
+{
+    match index.cache_mut().flush() {
+        Ok(()) => Ok(()),
+        Err(fault) => Err(fault_of(fault)),
+    }
+}
+
+/// Makes a header say that the store is finished.
+fn set_finished(payload: &mut Payload)
+    ensures { payload.new ≡ finished payload.old }
+{
+    put_u32(&mut payload.bytes, 8, FINISHED);
+}
+
+/// Makes page 0 say that the store is finished; it is not written yet.
+fn set_state<S: PageStore>(index: &mut TreeIndex<S>) -> Result<(), CatalogueFault>
+    ensures same { index.new ≡ with_cache index.old index.new.cache }
+    ensures sets { OnOk result (SetsState index.old.cache index.new.cache) }
+    ensures rests { OnErr result (Rests index.old.cache index.new.cache) }
+    ensures only { IsTrue index.old.cache.store.is_faithful → 0 < index.old.cache.count
+        → payload_of index.old.cache 0 ≢ None → IfErr result IsStop }
+    ensures caused { IfErr result (IsNotFinished index.old.cache index.new.cache) }
+{
+    match index.cache_mut().page_mut(0) {
+        Ok(payload) => {
+            set_finished(payload);
+            Ok(())
+        }
+        Err(fault) => Err(fault_of(fault)),
+    }
+}
+
+/// Marks the store of an index as finished: all that is changed is written, then page 0 says so, and is written last.
+///
+/// Refused for want of memory, and where the store fails; page 0 as written then still says that the store is not
+/// finished, unless it was its own writing that failed.
+pub(crate) fn finish<S: PageStore>(index: &mut TreeIndex<S>) -> Result<(), CatalogueFault>
+    ensures same { index.new ≡ with_cache index.old index.new.cache }
+    ensures finishes { OnOk result (IsTrue index.old.cache.store.is_faithful
+        → index.old.cache.count ≡ index.old.cache.store.count
+        → Finishes index.old.cache index.new.cache) }
+    ensures later { IsLaterCache index.old.cache index.new.cache }
+    ensures unfinished { IsErrOf result CatalogueFault.Memory
+        → IsTrue index.old.cache.store.is_faithful → 0 < index.old.cache.count
+        → IsUnwrittenHeader index.old.cache → SaysUnfinished index.new.cache }
+    ensures only { IsTrue index.old.cache.store.is_faithful → 0 < index.old.cache.count
+        → payload_of index.old.cache 0 ≢ None → IfErr result IsStop }
+    ensures caused { IfErr result (IsNotFinished index.old.cache index.new.cache) }
+{
+    write_all(index)?;
+    set_state(index)?;
+    write_all(index)
+}

@@ -1,0 +1,32 @@
+//! What holds of a database at rest, for the proofs of a caller.
+ghost use Rattle.std.specs.Prelude.{ℕ, ◌≡◌, ◌<◌, IsTrue, Some};
+ghost use Rattle.legs.specs.Asking.{Leaves};
+ghost use Rattle.legs.specs.Book.{Book};
+ghost use Rattle.pages.specs.Store.{IsLawful, Store};
+ghost use Rattle.pagecache.specs.Cache.{stored_payload, Cache, IsSettled};
+ghost use Rattle.boxsearch.specs.Index.{content, words, IndexView, IsMarked, IsSound};
+ghost use Rattle.catalogue.specs.Holding.{HoldsBook, IsAtRest, IsOfBook, IsUnfinishedStore};
+ghost use Rattle.catalogue.specs.Lasting.{first_fault};
+ghost use Rattle.catalogue.specs.Saved.{CatalogueView};
+ghost use Rattle.catalogue.specs.declared.fault.CatalogueFault.{CatalogueFault};
+
+/// What holds of databases at rest and of stores that are not finished, for the proofs of a caller. It does nothing.
+pub fn laws()
+    // What a question leaves of a database at rest is at rest.
+    ensures rests { (c : CatalogueView) (a b : IndexView) → IsAtRest c a → Leaves words a b → IsAtRest c b }
+
+    // At rest the pages of a store hold the book that catalogue and index are of.
+    ensures holds { (c : CatalogueView) (index : IndexView) (book : Book)
+        → IsTrue index.cache.store.is_faithful → IsLawful index.cache.store → IsSettled index.cache
+        → IsAtRest c index → IsSound index → IsOfBook c.limits book c → content index ≡ book.legs
+        → HoldsBook index.cache.store c.limits book }
+
+    // A store whose page 0 is marked is not finished; such a store has a page 0, and it is said where it is opened.
+    ensures marked { (cache : Cache) → IsMarked cache → cache.count ≡ cache.store.count
+        → IsLawful cache.store → IsUnfinishedStore cache.store }
+    ensures there { (s : Store) → IsUnfinishedStore s → IsTrue s.is_faithful → IsLawful s → 0 < s.count }
+    ensures unfinished { (s : Store) → IsUnfinishedStore s → 0 < s.count
+        → first_fault s.count (stored_payload s 0) ≡ Some CatalogueFault.Unfinished }
+{
+    boxsearch::laws();
+}
