@@ -6,3 +6,4 @@ pub mod FileLemmas
 pub mod RunLemmas
 pub mod FaultLemmas
 pub mod PageLemmas
+pub mod LastingLemmas

@@ -1,12 +1,11 @@
 -- What calls leave of the pages.
 use Rattle.std.proofs.Common.{◌≡◌, ◌∙◌, refl, sym, ap, Bool, true, false, inl, inr, arith, drop}
 use Rattle.std.specs.Prelude.{◌⊎◌}
-use Rattle.legs.proofs.GrowLemmas.{leaves-trans as index_leaves-trans}
 use Rattle.legs.specs.Asking.{Leaves as IndexLeaves}
 use Rattle.legs.specs.declared.listed.Listed.{Ghosts}
 use Rattle.trajdb.specs.Database.{CoreView, IsSound}
 use Rattle.trajdb.specs.Calls.{HasPages, IsUnwritten, KeepsPages, Leaves, LeavesPages}
-use Rattle.trajdb.proofs.FaultLemmas.{leaves-refl}
+use Rattle.trajdb.proofs.FaultLemmas.{leaves-refl, leaves-trans}
 
 either : (b : Bool) → (b ≡ true) ⊎ (b ≡ false)
 either true = inl refl
@@ -19,7 +18,7 @@ clash b t f = let e : true ≡ false = sym t ∙ f in cc
 keeps_leaves : {I : Type 0} (g : Ghosts I) (old new : CoreView I) → Leaves g old new → KeepsPages g old new
 keeps_leaves g old new l = record {
   begun = λ b. l.begun ∙ b;
-  idle = λ b f. l.index;
+  idle = λ b f. l;
   pages = λ s h. record { begun = λ b. l.index.marked (h.begun (sym l.begun ∙ b)); idle = λ b f. l.index.clean (h.idle (sym l.begun ∙ b) (sym l.failed ∙ f)) };
   written = λ s h. record { marked = l.index.marked; clean = λ k. inr (record { others = ap (drop 1) (l.index.written k); first = λ rise. l.index.written k; sound = l.index.sound }) };
 }
@@ -42,14 +41,14 @@ unwritten g a b c l k (inr u) = inr (record {
 left_after : {I : Type 0} (g : Ghosts I) (a b c : CoreView I) → (b.begun ≡ true) ⊎ (b.begun ≡ false) → b.failed ≡ false → KeepsPages g a b → HasPages g b → LeavesPages g b.index c.index → LeavesPages g a.index c.index
 left_after g a b c (inl t) lives p h r = record { marked = λ m. r.marked (h.begun t); clean = λ k. inl (r.marked (h.begun t)) }
 left_after g a b c (inr n) lives p h r =
-    let l = p.idle n lives in
+    let l = (p.idle n lives).index in
     record { marked = λ m. r.marked (l.marked m); clean = λ k. unwritten g a.index b.index c.index l k (r.clean (l.clean k)) }
 
 -- one call after others, that did not fail it
 pub keeps-trans : {I : Type 0} (g : Ghosts I) (a b c : CoreView I) → b.failed ≡ false → (IsSound g a → IsSound g b) → KeepsPages g a b → KeepsPages g b c → KeepsPages g a c
 keeps-trans g a b c lives sound p q = record {
   begun = λ t. q.begun (p.begun t);
-  idle = λ n f. index_leaves-trans g a.index b.index c.index (p.idle (unbegun g b c q n (either b.begun)) lives) (q.idle n f);
+  idle = λ n f. leaves-trans g a b c (p.idle (unbegun g b c q n (either b.begun)) lives) (q.idle n f);
   pages = λ s h. q.pages (sound s) (p.pages s h);
   written = λ s h. left_after g a b c (either b.begun) lives p (p.pages s h) (q.written (sound s) (p.pages s h));
 }

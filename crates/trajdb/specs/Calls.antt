@@ -55,11 +55,11 @@ pub record HasPages {I : Type 0} (g : Ghosts I) (core : CoreView I) : Type 0 whe
   pub begun : core.begun ≡ true → g.is_marked core.index
   pub idle : core.begun ≡ false → core.failed ≡ false → g.is_clean core.index
 
--- what a call leaves of the pages, whatever it answers: until a file is accepted its index is as a question
--- leaves it, be the database sound or not
+-- what a call leaves of the pages, whatever it answers: until a file is accepted it is as a question leaves
+-- it, be the database sound or not
 pub record KeepsPages {I : Type 0} (g : Ghosts I) (old new : CoreView I) : Type 0 where
   pub begun : old.begun ≡ true → new.begun ≡ true
-  pub idle : new.begun ≡ false → new.failed ≡ false → IndexLeaves g old.index new.index
+  pub idle : new.begun ≡ false → new.failed ≡ false → Leaves g old new
   pub pages : IsSound g old → HasPages g old → HasPages g new
   pub written : IsSound g old → HasPages g old → LeavesPages g old.index new.index
 

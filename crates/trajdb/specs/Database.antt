@@ -1,5 +1,6 @@
 -- What a database stands for.
-use Rattle.std.specs.Prelude.{◌≡◌, Bool, List, ℕ, Result, Ok, Err}
+use Rattle.std.specs.Prelude.{◌≡◌, Bool, false, List, ℕ, Result, Ok, Err}
+use Rattle.mfcsv.specs.FileText.{HasWholeRows}
 use Rattle.mfcsv.specs.declared.File.{File}
 use Rattle.legs.specs.Legs.{LegView}
 use Rattle.legs.specs.Limits.{LimitsView, IsLimits}
@@ -8,6 +9,7 @@ use Rattle.legs.specs.Index.{CanFollowInTurn}
 use Rattle.legs.specs.declared.listed.Listed.{Ghosts}
 use Rattle.legs.specs.Tracks.{TracksView, StandsFor}
 use Rattle.legs.specs.Law.{IsBook}
+use Rattle.catalogue.specs.Saved.{CatalogueView}
 use Rattle.trajdb.specs.declared.Counts.{Counts}
 use Rattle.trajdb.specs.declared.FileCode.{FileCode}
 use Rattle.trajdb.specs.declared.FileCode.TheVariants.{Join}
@@ -25,6 +27,21 @@ pub record CoreView (I : Type 0) : Type 0 where
   pub begun : Bool
   pub failed : Bool
 
+-- a database of a catalogue and the index of its legs, into which no file was accepted since it was made
+abbrev pub restored : {I : Type 0} → Ghosts I → CatalogueView → I → CoreView I
+restored g c index = record {
+  index = index;
+  tracks = c.tracks;
+  book = record { head = c.head; names = c.tracks.names; legs = g.content index; rows = c.rows };
+  limits = c.limits;
+  begun = false;
+  failed = false;
+}
+
+-- the catalogue of a database
+abbrev pub catalogue_of : {I : Type 0} → CoreView I → CatalogueView
+catalogue_of core = record { head = core.book.head; limits = core.limits; tracks = core.tracks; rows = core.book.rows }
+
 -- a database whose index is sound, whose tracks are those of its book, which keeps the law
 pub record IsSound {I : Type 0} (g : Ghosts I) (core : CoreView I) : Type 0 where
   pub index : g.is_sound core.index
@@ -32,9 +49,9 @@ pub record IsSound {I : Type 0} (g : Ghosts I) (core : CoreView I) : Type 0 wher
   pub tracks : StandsFor core.tracks core.book
   pub law : IsBook core.limits core.book
 
--- a file is joined to a book by these legs
+-- a file is joined to a book by these legs, and each of its records has a value for each column
 abbrev pub Accepts : LimitsView → Book → File → List LegView → Type 0
-Accepts limits book file legs = (joined limits book file ≡ Ok legs) × CanFollowInTurn book.legs legs
+Accepts limits book file legs = (joined limits book file ≡ Ok legs) × CanFollowInTurn book.legs legs × HasWholeRows file
 
 -- what `load` answers: exactly the counts or exactly the fault, or that the database could not tell
 abbrev pub FaultIs : LoadFault → Result Counts (FileCode × ℕ) → Type 0

@@ -5,7 +5,7 @@ use Rattle.pages.specs.Store.{Store, Faulted}
 use Rattle.trajdb.specs.Database.{CoreView, IsSound as IsSoundCore}
 use Rattle.trajdb.specs.Calls.{HasPages as HasPagesCore}
 use Rattle.trajdb.specs.declared.OpenFault.{OpenFault}
-use Rattle.trajdb.specs.declared.OpenFault.TheVariants.{Memory, Store as StoreFailed, Damaged, StoreFull}
+use Rattle.trajdb.specs.declared.OpenFault.TheVariants.{Memory, Store as StoreFailed, Damaged, StoreFull, Unfinished, Version, Malformed}
 
 abbrev pub DbView : Type 0
 DbView = CoreView IndexView
@@ -24,6 +24,9 @@ IsAllowed Memory = Unit {0}
 IsAllowed StoreFailed = Unit {0}
 IsAllowed (Damaged page) = ⊥
 IsAllowed StoreFull = Unit {0}
+IsAllowed Unfinished = ⊥
+IsAllowed Version = ⊥
+IsAllowed Malformed = ⊥
 
 -- the store failed where that is said, and has no room for any page where that is said
 abbrev pub IsCaused : Store → Store → OpenFault → Type 0
@@ -31,3 +34,6 @@ IsCaused old new Memory = Unit {0}
 IsCaused old new StoreFailed = Faulted old new
 IsCaused old new (Damaged page) = Unit {0}
 IsCaused old new StoreFull = old.most ≡ 0
+IsCaused old new Unfinished = ⊥
+IsCaused old new Version = ⊥
+IsCaused old new Malformed = ⊥

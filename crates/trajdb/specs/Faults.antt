@@ -1,8 +1,11 @@
 -- The faults of a run, and of a new database.
+use Rattle.std.specs.Prelude.{Result, Ok, Err}
 use Rattle.legs.specs.declared.index.IndexFault.{IndexFault}
 use Rattle.legs.specs.declared.index.IndexFault.TheVariants as index
 use Rattle.pagecache.specs.declared.fault.CacheFault.{CacheFault}
 use Rattle.pagecache.specs.declared.fault.CacheFault.TheVariants as cache
+use Rattle.catalogue.specs.declared.fault.CatalogueFault.{CatalogueFault}
+use Rattle.catalogue.specs.declared.fault.CatalogueFault.TheVariants as catalogue
 use Rattle.trajdb.specs.declared.OpenFault.{OpenFault}
 use Rattle.trajdb.specs.declared.OpenFault.TheVariants as opening
 use Rattle.trajdb.specs.declared.RunFault.{RunFault}
@@ -32,3 +35,27 @@ open_fault_of cache.Store = opening.Store
 open_fault_of (cache.Damaged page) = opening.Damaged page
 open_fault_of cache.StoreFull = opening.StoreFull
 open_fault_of cache.Memory = opening.Memory
+
+-- what a fault of the catalogue is to a database that is opened
+abbrev pub opened_fault_of : CatalogueFault → OpenFault
+opened_fault_of catalogue.Memory = opening.Memory
+opened_fault_of catalogue.Store = opening.Store
+opened_fault_of catalogue.StoreFull = opening.StoreFull
+opened_fault_of (catalogue.Damaged page) = opening.Damaged page
+opened_fault_of catalogue.Unfinished = opening.Unfinished
+opened_fault_of catalogue.Version = opening.Version
+opened_fault_of catalogue.Malformed = opening.Malformed
+
+-- and to one that is closed
+abbrev pub closed_fault_of : CatalogueFault → RunFault
+closed_fault_of catalogue.Memory = Memory
+closed_fault_of catalogue.Store = Store
+closed_fault_of catalogue.StoreFull = StoreFull
+closed_fault_of (catalogue.Damaged page) = Damaged page
+closed_fault_of catalogue.Unfinished = Damaged 0
+closed_fault_of catalogue.Version = Damaged 0
+closed_fault_of catalogue.Malformed = Damaged 0
+
+abbrev pub closed_answer : Result (Unit {0}) CatalogueFault → Result (Unit {0}) RunFault
+closed_answer (Ok x) = Ok x
+closed_answer (Err fault) = Err (closed_fault_of fault)

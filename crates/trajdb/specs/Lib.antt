@@ -9,3 +9,4 @@ pub mod Calls
 pub mod Run
 pub mod Lines
 pub mod Db
+pub mod Lasting

@@ -92,6 +92,7 @@ impl<I: Start> Core<I> {
 
 impl<I: Start> Core<I> {
     ghost use Rattle.std.specs.Prelude.{◌≡◌, IfOk, IfErr, OnOk, OnErr, true, false};
+    ghost use Rattle.mfcsv.specs.FileText.{HasWholeRows};
     ghost use Rattle.legs.specs.Book.{book_after, joined, with_file};
     ghost use Rattle.trajdb.specs.Answers.{book_by, book_with, counts_or, joined_counts, load_of};
     ghost use Rattle.trajdb.specs.Database.{IsRefused, IsTold, LoadGives, JoinRefusal, Accepts, Becomes, IsSound};
@@ -126,6 +127,7 @@ impl<I: Start> Core<I> {
 
     /// The legs by which a file is joined, or its first joining fault.
     fn join_file(&self, alloc: Global, file: &File) -> Result<Vec<Leg>, LoadFault>
+        requires { HasWholeRows file.now }
         ensures legs { IfOk result (λ legs. IsSound I.Listed self.now
             → Accepts self.now.limits self.now.book file.now legs.items) }
         ensures refused { IfErr result (λ fault. IsSound I.Listed self.now
@@ -144,6 +146,7 @@ impl<I: Start> Core<I> {
 
     /// Accepts a file whose text has no fault.
     fn accept(&mut self, alloc: Global, file: File) -> Result<Counts, LoadFault>
+        requires { HasWholeRows file }
         ensures counts { IsSound I.Listed self.old
             → LoadGives result (counts_or file (joined self.old.limits self.old.book file)) }
         ensures becomes { IsTold result

@@ -25,7 +25,7 @@ impl<S: PageStore> Start for TreeIndex<S> {
 /// A database over a store of pages: files are accepted into it, and scripts are run over it.
 #[derive(Drop)]
 pub struct Db<S: PageStore> {
-    core: Core<TreeIndex<S>>,
+    pub(crate) core: Core<TreeIndex<S>>,
 }
 
 impl<S: PageStore> Model for Db<S> {
@@ -51,6 +51,7 @@ impl<S: PageStore> Db<S> {
     ghost use Rattle.trajdb.specs.Database.{FailsBy, IsRefused, IsTold, LoadGives, Becomes};
     ghost use Rattle.trajdb.specs.Calls.{AsksIn, Begins, BeginsOnly, IsLater, IsLoadStop, IsRunStop, IsStopped, KeepsPages, Leaves, Loads};
     ghost use Rattle.trajdb.specs.Db.{HasPages, IsAllowed, IsCaused, IsSound};
+    ghost use Rattle.trajdb.specs.Lasting.{IsIdle};
     ghost use Rattle.trajdb.specs.declared.RunFault.{RunFault};
     ghost use Rattle.trajdb.specs.declared.LoadFault.{LoadFault};
 
@@ -119,9 +120,11 @@ impl<S: PageStore> Db<S> {
         ensures begun { OnOk result (self.new.begun ≡ true) }
         ensures idle { OnErr result (self.new.begun ≡ self.old.begun) }
         ensures pages { KeepsPages words self.old self.new }
+        ensures rests { IsIdle self.old → IsIdle self.new }
         ensures was_failed { self.old.failed ≡ true
             → (result ≡ Err (LoadFault.Run RunFault.Failed)) × (self.new ≡ self.old) }
     {
+        catalogue::laws();
         self.core.load(alloc, bytes)
     }
 
@@ -157,11 +160,13 @@ impl<S: PageStore> Db<S> {
         ensures only { BeginsOnly words self.old self.new
             (AcceptsBy self.old.limits files.now self.old.book command.now) }
         ensures pages { KeepsPages words self.old self.new }
+        ensures rests { IsIdle self.old → IsIdle self.new }
 
         // A failed database does nothing.
         ensures was_failed { self.old.failed ≡ true → (result ≡ Err RunFault.Failed)
             × (self.new ≡ self.old) }
     {
+        catalogue::laws();
         self.core.command(alloc, command, files)
     }
 
@@ -205,12 +210,14 @@ impl<S: PageStore> Db<S> {
         ensures only { BeginsOnly words self.old self.new
             (AcceptsSome self.old.limits files.now self.old.book (lines_of script.now)) }
         ensures pages { KeepsPages words self.old self.new }
+        ensures rests { IsIdle self.old → IsIdle self.new }
 
         // A failed database does nothing.
         ensures was_failed { self.old.failed ≡ true → (result ≡ Err RunFault.Failed)
             × (self.new ≡ self.old) }
         ensures was_failed_output { self.old.failed ≡ true → out.new ≡ out.old }
     {
+        catalogue::laws();
         self.core.run(alloc, script, files, out)
     }
 }

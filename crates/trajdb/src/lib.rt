@@ -7,12 +7,14 @@ mod answer;
 mod database;
 mod db;
 mod files;
+mod lasting;
 mod load;
 mod output;
 mod questions;
 mod script;
 mod start;
 
+use catalogue::CatalogueFault;
 pub use database::Core;
 pub use db::Db;
 pub use files::Files;
@@ -101,6 +103,24 @@ impl<T: Drop> From<AllocFailed<T>> for RunFault {
     }
 }
 
+impl From<CatalogueFault> for RunFault {
+    ghost use Rattle.trajdb.specs.Faults.{closed_fault_of};
+
+    ghost from_gives = { λ e r. r ≡ closed_fault_of e };
+
+    fn from(fault: CatalogueFault) -> RunFault {
+        match fault {
+            CatalogueFault::Memory => RunFault::Memory,
+            CatalogueFault::Store => RunFault::Store,
+            CatalogueFault::StoreFull => RunFault::StoreFull,
+            CatalogueFault::Damaged(page) => RunFault::Damaged(page),
+            CatalogueFault::Unfinished | CatalogueFault::Version | CatalogueFault::Malformed => {
+                RunFault::Damaged(0)
+            }
+        }
+    }
+}
+
 impl From<IndexFault> for RunFault {
     ghost use Rattle.trajdb.specs.Faults.{run_fault_of};
 
@@ -117,7 +137,7 @@ impl From<IndexFault> for RunFault {
     }
 }
 
-/// Why a database was not made.
+/// Why a database was not made, or not opened.
 #[derive(Clone, Copy, PartialEq, Eq, Debug, Error)]
 pub enum OpenFault {
     /// Memory ran out.
@@ -132,6 +152,33 @@ pub enum OpenFault {
     /// The page store has no room for a page.
     #[error("the store is full")]
     StoreFull,
+    /// The store was not finished: files were accepted, and it was not closed then.
+    #[error("the store is not finished")]
+    Unfinished,
+    /// The store has another version.
+    #[error("the store has another version")]
+    Version,
+    /// It is no store, or what it says is not in order.
+    #[error("the store is malformed")]
+    Malformed,
+}
+
+impl From<CatalogueFault> for OpenFault {
+    ghost use Rattle.trajdb.specs.Faults.{opened_fault_of};
+
+    ghost from_gives = { λ e r. r ≡ opened_fault_of e };
+
+    fn from(fault: CatalogueFault) -> OpenFault {
+        match fault {
+            CatalogueFault::Memory => OpenFault::Memory,
+            CatalogueFault::Store => OpenFault::Store,
+            CatalogueFault::StoreFull => OpenFault::StoreFull,
+            CatalogueFault::Damaged(page) => OpenFault::Damaged(page),
+            CatalogueFault::Unfinished => OpenFault::Unfinished,
+            CatalogueFault::Version => OpenFault::Version,
+            CatalogueFault::Malformed => OpenFault::Malformed,
+        }
+    }
 }
 
 impl From<CacheFault> for OpenFault {
@@ -169,6 +216,8 @@ impl From<RunFault> for LoadFault {
     }
 }
 
+#[cfg(test)]
+mod lasting_tests;
 #[cfg(test)]
 mod page_tests;
 #[cfg(test)]

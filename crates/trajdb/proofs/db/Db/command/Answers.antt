@@ -1,4 +1,11 @@
+use Rattle.trajdb.proofs.LastingLemmas.{keeps_idle}
 use Rattle.trajdb.proofs.db.Db.command.Goals as goal
 
 pub returns-clause-question : goal.returns-clause-question
 returns-clause-question g c = rw (← c.self.view_is) c.command.ensures.question
+
+pub returns-clause-rests : goal.returns-clause-rests
+returns-clause-rests g c = rw (← c.self.view_is) (keeps_idle c.laws.ensures.rests _ _ c.command.ensures.pages)
+
+pub returns-clause-begins : goal.returns-clause-begins
+returns-clause-begins g c = rw (← c.self.view_is) c.command.ensures.begins

@@ -1,4 +1,8 @@
+use Rattle.trajdb.proofs.LastingLemmas.{keeps_idle}
 use Rattle.trajdb.proofs.db.Db.run.Goals as goal
 
 pub returns-clause-refused : goal.returns-clause-refused
 returns-clause-refused g c = rw (← c.self.view_is) c.run.ensures.refused
+
+pub returns-clause-rests : goal.returns-clause-rests
+returns-clause-rests g c = rw (← c.self.view_is) (keeps_idle c.laws.ensures.rests _ _ c.run.ensures.pages)

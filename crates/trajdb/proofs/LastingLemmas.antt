@@ -1,0 +1,103 @@
+-- A database that lasts between runs.
+use Rattle.std.proofs.Common.{◌≡◌, refl, sym, ap, ◌∙◌, subst, true, false, Result, Ok, Err, IsTrue}
+use Rattle.std.specs.Prelude.{IfErr, OnOk}
+use Rattle.legs.specs.Book.{Book}
+use Rattle.legs.specs.Law.{IsBook}
+use Rattle.legs.specs.Limits.{IsLimits, LimitsView}
+use Rattle.legs.specs.Tracks.{StandsFor}
+use Rattle.boxsearch.specs.Index.{content, words, IndexView, IsMarked, IsSound as IsSoundIndex}
+use Rattle.catalogue.specs.Holding.{AnswersBook, HoldsBook, IsAtRest, IsOfBook, IsUnfinishedStore}
+use Rattle.catalogue.specs.Lasting as catalogue
+use Rattle.catalogue.specs.Saved.{CatalogueView}
+use Rattle.catalogue.specs.Saving.{IsAllowed}
+use Rattle.catalogue.specs.declared.fault.CatalogueFault.{CatalogueFault}
+use Rattle.catalogue.specs.declared.fault.CatalogueFault.TheVariants as fault
+use Rattle.pages.specs.Store.{Store, IsLawful}
+use Rattle.pagecache.specs.Cache.{IsSettled}
+use Rattle.catalogue.specs.Closing.{IsNoStoreFault}
+use Rattle.catalogue.specs.declared.fault.CatalogueFault.TheVariants.{Memory, StoreFull, Damaged, Unfinished, Version, Malformed}
+use Rattle.legs.specs.Asking.{Leaves as IndexLeaves}
+use Rattle.trajdb.specs.Calls.{IsLoadFault, KeepsPages}
+use Rattle.trajdb.specs.Database.{catalogue_of, restored}
+use Rattle.trajdb.specs.Db.{DbView, HasPages, IsSound}
+use Rattle.trajdb.specs.Faults.{closed_answer, opened_fault_of}
+use Rattle.trajdb.specs.Lasting.{HasBook, IsFaultless, IsIdle, IsStop}
+
+-- a book that is answered is that of the database
+pub opened_book : (limits : LimitsView) (book : Book) (c : CatalogueView) (index : IndexView) (db : DbView) → db ≡ restored words c index → IsLimits db.limits → AnswersBook limits book c index → HasBook limits book db
+opened_book limits book c index db is lawful answers =
+    let of = answers.of in
+    let same : (restored words c index).book ≡ book = (λ i. record { head = of.head i; names = of.tracks.names i; legs = answers.legs i; rows = of.rows i }) in
+    let all : db.book ≡ book = ap (λ (d : DbView). d.book) is ∙ same in
+    let limits_are : db.limits ≡ limits = ap (λ (d : DbView). d.limits) is ∙ of.limits_are in
+    record {
+      sound = record {
+        index = subst (λ (d : DbView). words.is_sound d.index) (sym is) answers.sound;
+        limits = lawful;
+        tracks = subst (λ (b : Book). StandsFor db.tracks b) (sym all) (subst (λ (d : DbView). StandsFor d.tracks book) (sym is) of.tracks);
+        law = subst (λ (b : Book). IsBook db.limits b) (sym all) (subst (λ l. IsBook l book) (sym limits_are) of.law);
+      };
+      book_is = all;
+      limits_are = limits_are;
+    }
+
+-- want of memory and a store that failed stay so
+pub stopped : (e : CatalogueFault) → catalogue.IsStop e → IsStop (opened_fault_of e)
+stopped Memory h = tt
+stopped fault.Store h = tt
+stopped StoreFull h = h
+stopped (Damaged page) h = h
+stopped Unfinished h = h
+stopped Version h = h
+stopped Malformed h = h
+
+-- a database that is as a question leaves it is at rest where it was
+pub keeps_idle : ((c : CatalogueView) (a b : IndexView) → IsAtRest c a → IndexLeaves words a b → IsAtRest c b) → (old new : DbView) → KeepsPages words old new → IsIdle old → IsIdle new
+keeps_idle rests old new keeps idle begun lives =
+    let leaves = keeps.idle begun lives in
+    let rest = idle (sym leaves.begun ∙ begun) (sym leaves.failed ∙ lives) in
+    let book = sym leaves.book in
+    let tracks = sym leaves.tracks in
+    let limits = sym leaves.limits in
+    let same : catalogue_of old ≡ catalogue_of new = (λ i. record { head = (book i).head; limits = limits i; tracks = tracks i; rows = (book i).rows }) in
+    subst (λ c. IsAtRest c new.index) same (rests (catalogue_of old) old.index new.index rest leaves.index)
+
+-- the catalogue of a sound database is that of its book
+pub own_book : (db : DbView) → IsSound db → IsOfBook db.limits db.book (catalogue_of db)
+own_book db sound = record { head = refl; limits_are = refl; rows = refl; tracks = sound.tracks; law = sound.law }
+
+-- the store of a database at rest holds its book
+pub rest_book : ((c : CatalogueView) (i : IndexView) (book : Book) → IsTrue i.cache.store.is_faithful → IsLawful i.cache.store → IsSettled i.cache → IsAtRest c i → IsSoundIndex i → IsOfBook c.limits book c → content i ≡ book.legs → HoldsBook i.cache.store c.limits book)
+    → (db : DbView) → content db.index ≡ db.book.legs → IsLawful db.index.cache.store → IsSettled db.index.cache → IsSound db → IsIdle db → db.begun ≡ false → db.failed ≡ false → HoldsBook db.index.cache.store db.limits db.book
+rest_book holds db legs lawful settled sound idle begun lives = holds (catalogue_of db) db.index db.book sound.index.faithful lawful settled (idle begun lives) sound.index (own_book db sound) legs
+
+-- so does the store that is closed
+pub closed_holds : (db : DbView) (s : Store) (answer : Result (Unit {0}) CatalogueFault) → content db.index ≡ db.book.legs
+    → OnOk answer (IsSoundIndex db.index → IsMarked db.index.cache → (book : Book) → IsOfBook db.limits book (catalogue_of db) → content db.index ≡ book.legs → HoldsBook s db.limits book)
+    → db.begun ≡ true → OnOk (closed_answer answer) (IsSound db → HasPages db → IsIdle db → HoldsBook s db.limits db.book)
+closed_holds db s (Ok x) legs h begun = λ sound pages idle. h sound.index (pages.begun begun) db.book (own_book db sound) legs
+closed_holds db s (Err e) legs h begun = tt
+
+pub closed_unfinished : (db : DbView) (s : Store) (answer : Result (Unit {0}) CatalogueFault)
+    → IfErr answer (λ fault. IsNoStoreFault fault → IsSoundIndex db.index → IsMarked db.index.cache → IsUnfinishedStore s)
+    → db.begun ≡ true → IfErr (closed_answer answer) (λ fault. IsFaultless fault → IsSound db → HasPages db → db.failed ≡ false → IsUnfinishedStore s)
+closed_unfinished db s (Ok x) h begun = tt
+closed_unfinished db s (Err Memory) h begun = λ f sound pages lives. h tt sound.index (pages.begun begun)
+closed_unfinished db s (Err fault.Store) h begun = λ f. absurd f
+closed_unfinished db s (Err StoreFull) h begun = λ f sound pages lives. h tt sound.index (pages.begun begun)
+closed_unfinished db s (Err (Damaged n)) h begun = λ f. absurd f
+closed_unfinished db s (Err Unfinished) h begun = λ f. absurd f
+closed_unfinished db s (Err Version) h begun = λ f. absurd f
+closed_unfinished db s (Err Malformed) h begun = λ f. absurd f
+
+pub closed_only : (db : DbView) (answer : Result (Unit {0}) CatalogueFault) → content db.index ≡ db.book.legs
+    → IfErr answer (λ fault. IsSoundIndex db.index → (book : Book) → IsOfBook db.limits book (catalogue_of db) → content db.index ≡ book.legs → IsAllowed fault)
+    → IfErr (closed_answer answer) (λ fault. IsSound db → db.failed ≡ false → IsLoadFault fault)
+closed_only db (Ok x) legs h = tt
+closed_only db (Err Memory) legs h = λ sound lives. tt
+closed_only db (Err fault.Store) legs h = λ sound lives. tt
+closed_only db (Err StoreFull) legs h = λ sound lives. tt
+closed_only db (Err (Damaged n)) legs h = λ sound lives. h sound.index db.book (own_book db sound) legs
+closed_only db (Err Unfinished) legs h = λ sound lives. h sound.index db.book (own_book db sound) legs
+closed_only db (Err Version) legs h = λ sound lives. h sound.index db.book (own_book db sound) legs
+closed_only db (Err Malformed) legs h = λ sound lives. h sound.index db.book (own_book db sound) legs

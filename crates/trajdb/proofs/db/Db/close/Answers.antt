@@ -1,0 +1,63 @@
+use Rattle.std.proofs.Common.{◌≡◌, ◌∙◌, ap, sym, subst, true, false}
+use Rattle.std.specs.Prelude.{IfErr, OnOk}
+use Rattle.legs.specs.Book.{Book}
+use Rattle.pages.specs.Store.{Store, IsLawful}
+use Rattle.pagecache.specs.Cache.{IsSettled}
+use Rattle.boxsearch.specs.Index.{content, IndexView, IsMarked, IsSound as IsSoundIndex}
+use Rattle.catalogue.specs.Closing.{IsNoStoreFault}
+use Rattle.catalogue.specs.Holding.{HoldsBook, IsOfBook, IsUnfinishedStore}
+use Rattle.catalogue.specs.Saved.{CatalogueView}
+use Rattle.catalogue.specs.Saving.{IsAllowed}
+use Rattle.trajdb.specs.Calls.{IsLoadFault}
+use Rattle.trajdb.specs.Db.{DbView, HasPages, IsSound}
+use Rattle.trajdb.specs.Faults.{closed_answer}
+use Rattle.trajdb.specs.Lasting.{IsFaultless, IsIdle}
+use Rattle.trajdb.proofs.LastingLemmas.{rest_book, closed_holds, closed_only, closed_unfinished}
+use Rattle.trajdb.proofs.db.Db.close.Goals as goal
+
+pub returns-then-not-begun-clause-holds : goal.returns-then-not-begun-clause-holds
+returns-then-not-begun-clause-holds g c = λ sound pages idle.
+    let core = c.self.inside.core in
+    let is = c.self.view_is in
+    let index = c.into_parts-catalogue.ensures.index in
+    let begun : core.begun ≡ false = sym (λ i. (c.self-inside.view_is i).core.begun) ∙ c.if-not-begun.true in
+    let lives : core.failed ≡ false = sym (λ i. (c.self-inside.view_is i).core.failed) ∙ c.if-failed.false in
+    let lawful = subst (λ (x : IndexView). IsLawful x.cache.store) index c.rest-then-not-begun.ensures.lawful in
+    let settled = subst (λ (x : IndexView). IsSettled x.cache) index c.rest-then-not-begun.ensures.settled in
+    let store = c.rest-then-not-begun.ensures.store ∙ ap (λ (x : IndexView). x.cache.store) index in
+    subst (λ (d : DbView). HoldsBook (g.S.PageStore.seen c.rest-then-not-begun.result) d.limits d.book) is
+    (subst (λ (s : Store). HoldsBook s core.limits core.book) (sym store)
+    (rest_book c.laws.ensures.holds core c.into_parts-catalogue.ensures.legs lawful settled (subst IsSound (sym is) sound) (subst IsIdle (sym is) idle) begun lives))
+
+pub returns-clause-holds : goal.returns-clause-holds
+returns-clause-holds g c =
+    let core = c.self.inside.core in
+    let answer = c.close-store.result.1 in
+    let s = g.S.PageStore.seen c.close-store.result.0 in
+    let begun : core.begun ≡ true = sym (λ i. (c.self-inside.view_is i).core.begun) ∙ c.if-not-begun.false in
+    let first = subst (λ (x : IndexView). OnOk answer (IsSoundIndex x → IsMarked x.cache → (book : Book) → IsOfBook c.into_parts-catalogue.result.0.limits book c.into_parts-catalogue.result.0 → content x ≡ book.legs → HoldsBook s c.into_parts-catalogue.result.0.limits book)) c.into_parts-catalogue.ensures.index c.close-store.ensures.holds in
+    let second = subst (λ (k : CatalogueView). OnOk answer (IsSoundIndex core.index → IsMarked core.index.cache → (book : Book) → IsOfBook k.limits book k → content core.index ≡ book.legs → HoldsBook s k.limits book)) c.into_parts-catalogue.ensures.catalogue first in
+    subst (λ r. OnOk r (IsSound c.args.self → HasPages c.args.self → IsIdle c.args.self → HoldsBook s c.args.self.limits c.args.self.book)) (sym c.closed.ensures)
+    (subst (λ (d : DbView). OnOk (closed_answer answer) (IsSound d → HasPages d → IsIdle d → HoldsBook s d.limits d.book)) c.self.view_is
+    (closed_holds core s answer c.into_parts-catalogue.ensures.legs second begun))
+
+pub returns-clause-only : goal.returns-clause-only
+returns-clause-only g c =
+    let core = c.self.inside.core in
+    let answer = c.close-store.result.1 in
+    let first = subst (λ (x : IndexView). IfErr answer (λ fault. IsSoundIndex x → (book : Book) → IsOfBook c.into_parts-catalogue.result.0.limits book c.into_parts-catalogue.result.0 → content x ≡ book.legs → IsAllowed fault)) c.into_parts-catalogue.ensures.index c.close-store.ensures.only in
+    let second = subst (λ (k : CatalogueView). IfErr answer (λ fault. IsSoundIndex core.index → (book : Book) → IsOfBook k.limits book k → content core.index ≡ book.legs → IsAllowed fault)) c.into_parts-catalogue.ensures.catalogue first in
+    subst (λ r. IfErr r (λ fault. IsSound c.args.self → c.args.self.failed ≡ false → IsLoadFault fault)) (sym c.closed.ensures)
+    (subst (λ (d : DbView). IfErr (closed_answer answer) (λ fault. IsSound d → d.failed ≡ false → IsLoadFault fault)) c.self.view_is
+    (closed_only core answer c.into_parts-catalogue.ensures.legs second))
+
+pub returns-clause-unfinished : goal.returns-clause-unfinished
+returns-clause-unfinished g c =
+    let core = c.self.inside.core in
+    let answer = c.close-store.result.1 in
+    let s = g.S.PageStore.seen c.close-store.result.0 in
+    let begun : core.begun ≡ true = sym (λ i. (c.self-inside.view_is i).core.begun) ∙ c.if-not-begun.false in
+    let first = subst (λ (x : IndexView). IfErr answer (λ fault. IsNoStoreFault fault → IsSoundIndex x → IsMarked x.cache → IsUnfinishedStore s)) c.into_parts-catalogue.ensures.index c.close-store.ensures.unfinished in
+    subst (λ r. IfErr r (λ fault. IsFaultless fault → IsSound c.args.self → HasPages c.args.self → c.args.self.failed ≡ false → IsUnfinishedStore s)) (sym c.closed.ensures)
+    (subst (λ (d : DbView). IfErr (closed_answer answer) (λ fault. IsFaultless fault → IsSound d → HasPages d → d.failed ≡ false → IsUnfinishedStore s)) c.self.view_is
+    (closed_unfinished core s answer first begun))

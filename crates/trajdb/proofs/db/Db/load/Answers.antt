@@ -1,0 +1,5 @@
+use Rattle.trajdb.proofs.LastingLemmas.{keeps_idle}
+use Rattle.trajdb.proofs.db.Db.load.Goals as goal
+
+pub returns-clause-rests : goal.returns-clause-rests
+returns-clause-rests g c = rw (← c.self.view_is) (keeps_idle c.laws.ensures.rests _ _ c.load.ensures.pages)

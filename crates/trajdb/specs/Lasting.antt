@@ -1,0 +1,72 @@
+-- A database that lasts between runs.
+use Rattle.std.specs.Prelude.{◌≡◌, ◌⊎◌, false, Option, Some, None, Result, Ok, Err}
+use Rattle.legs.specs.Book.{Book}
+use Rattle.legs.specs.Limits.{LimitsView}
+use Rattle.pages.specs.Store.{Store, Faulted}
+use Rattle.catalogue.specs.Holding.{IsAtRest}
+use Rattle.catalogue.specs.declared.fault.CatalogueFault.{CatalogueFault}
+use Rattle.trajdb.specs.Database.{catalogue_of}
+use Rattle.trajdb.specs.Db.{DbView, IsSound}
+use Rattle.trajdb.specs.Faults.{opened_fault_of}
+use Rattle.trajdb.specs.declared.OpenFault.{OpenFault}
+use Rattle.trajdb.specs.declared.RunFault.{RunFault}
+use Rattle.trajdb.specs.declared.RunFault.TheVariants as run
+use Rattle.trajdb.specs.declared.OpenFault.TheVariants.{Memory, Store as StoreFailed, Damaged, StoreFull, Unfinished, Version, Malformed}
+
+-- a database that has neither begun nor failed is at rest: its pages as written, of a finished store, keep its catalogue
+abbrev pub IsIdle : DbView → Type 0
+IsIdle db = db.begun ≡ false → db.failed ≡ false → IsAtRest (catalogue_of db) db.index
+
+-- a sound database with this book under these limits
+pub record HasBook (limits : LimitsView) (book : Book) (db : DbView) : Type 0 where
+  pub sound : IsSound db
+  pub book_is : db.book ≡ book
+  pub limits_are : db.limits ≡ limits
+
+-- memory ran out, or the store failed
+abbrev pub IsStop : OpenFault → Type 0
+IsStop Memory = Unit {0}
+IsStop StoreFailed = Unit {0}
+IsStop (Damaged page) = ⊥
+IsStop StoreFull = ⊥
+IsStop Unfinished = ⊥
+IsStop Version = ⊥
+IsStop Malformed = ⊥
+
+-- the fault of page 0 is answered, where it has one; memory and the store may stop before
+abbrev pub ComesFirst : Option CatalogueFault → OpenFault → Type 0
+ComesFirst (Some first) fault = (fault ≡ opened_fault_of first) ⊎ IsStop fault
+ComesFirst None fault = Unit {0}
+
+-- the store failed where that is said, and none is full
+abbrev pub IsOpeningFault : Store → Store → OpenFault → Type 0
+IsOpeningFault old new Memory = Unit {0}
+IsOpeningFault old new StoreFailed = Faulted old new
+IsOpeningFault old new (Damaged page) = Unit {0}
+IsOpeningFault old new StoreFull = ⊥
+IsOpeningFault old new Unfinished = Unit {0}
+IsOpeningFault old new Version = Unit {0}
+IsOpeningFault old new Malformed = Unit {0}
+
+-- a store that was not finished is refused as such, but for memory and a store that failed
+abbrev pub IsUnfinishedAnswer : {X Y : Type 0} → Result X (Y × OpenFault) → Type 0
+IsUnfinishedAnswer (Ok db) = ⊥
+IsUnfinishedAnswer (Err back) = (back.1 ≡ OpenFault.Unfinished) ⊎ IsStop back.1
+
+-- no store failed
+abbrev pub IsFaultless : RunFault → Type 0
+IsFaultless run.Memory = Unit {0}
+IsFaultless run.Store = ⊥
+IsFaultless (run.Damaged page) = ⊥
+IsFaultless run.StoreFull = Unit {0}
+IsFaultless run.Failed = ⊥
+IsFaultless run.Output = ⊥
+
+-- why a database was not closed: the store failed, or is full, where that is said
+abbrev pub IsClosingFault : Store → Store → RunFault → Type 0
+IsClosingFault old new run.Memory = Unit {0}
+IsClosingFault old new run.Store = Faulted old new
+IsClosingFault old new (run.Damaged page) = Unit {0}
+IsClosingFault old new run.StoreFull = new.count ≡ new.most
+IsClosingFault old new run.Failed = Unit {0}
+IsClosingFault old new run.Output = ⊥

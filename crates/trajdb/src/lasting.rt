@@ -1,0 +1,192 @@
+//! A database that lasts between runs.
+ghost use Rattle.std.specs.Prelude.{◌≡◌};
+ghost use Rattle.trajdb.specs.Faults.{closed_answer};
+
+use crate::database::Core;
+use crate::db::Db;
+use crate::start::Start;
+use crate::{OpenFault, RunFault};
+use catalogue::{Catalogue, CatalogueFault};
+use pages::PageStore;
+use std::alloc::Global;
+use std::hash::RandomState;
+
+/// What closing answers, as an answer of the database.
+fn closed(answer: Result<(), CatalogueFault>) -> Result<(), RunFault>
+    ensures { result ≡ closed_answer answer }
+{
+    match answer {
+        Ok(()) => Ok(()),
+        Err(fault) => Err(RunFault::from(fault)),
+    }
+}
+
+impl<I: Start> Core<I> {
+    ghost use Rattle.std.specs.Prelude.{◌≡◌, false};
+    ghost use Rattle.legs.specs.Limits.{IsLimits};
+    ghost use Rattle.trajdb.specs.Database.{catalogue_of, restored};
+
+    /// A database of a catalogue that was read back and the index of its legs, into which no file was accepted since.
+    fn restored(catalogue: Catalogue, index: I) -> Core<I>
+        ensures core { result ≡ restored I.Listed catalogue index }
+        ensures limits { IsLimits result.limits }
+    {
+        let Catalogue {
+            head,
+            limits,
+            tracks,
+            rows,
+        } = catalogue;
+        prove!(limits.legs() > 0);
+        Core {
+            index,
+            head,
+            tracks,
+            rows,
+            limits,
+            begun: false,
+            failed: false,
+        }
+    }
+
+    /// What is kept of a database: its catalogue, and the index of its legs.
+    fn into_parts(self) -> (Catalogue, I)
+        ensures catalogue { result.0 ≡ catalogue_of self }
+        ensures index { result.1 ≡ self.index }
+        ensures legs { I.content self.index ≡ self.book.legs }
+    {
+        let Core {
+            index,
+            head,
+            tracks,
+            rows,
+            limits,
+            ..
+        } = self;
+        let catalogue = Catalogue {
+            head,
+            limits,
+            tracks,
+            rows,
+        };
+        (catalogue, index)
+    }
+}
+
+impl<S: PageStore> Db<S> {
+    ghost use Rattle.std.specs.Prelude.{◌≡◌, ◌<◌, IsTrue, IfErr, IfOk, MatchResult, OnOk, None, Ok, Err, true, false};
+    ghost use Rattle.legs.specs.Book.{Book};
+    ghost use Rattle.legs.specs.Limits.{LimitsView};
+    ghost use Rattle.pages.specs.Store.{Keeps, Stays};
+    ghost use Rattle.pagecache.specs.Cache.{stored_payload};
+    ghost use Rattle.catalogue.specs.Holding.{HoldsBook, IsUnfinishedStore};
+    ghost use Rattle.catalogue.specs.Lasting.{first_fault};
+    ghost use Rattle.trajdb.specs.Calls.{IsLoadFault};
+    ghost use Rattle.trajdb.specs.Db.{HasPages, IsSound};
+    ghost use Rattle.trajdb.specs.Lasting.{ComesFirst, HasBook, IsClosingFault, IsFaultless, IsIdle, IsOpeningFault, IsStop, IsUnfinishedAnswer};
+    ghost use Rattle.trajdb.specs.declared.RunFault.{RunFault};
+
+    /// Opens the database that a store keeps, with a cache of at most that many pages, at least 1. Nothing is written
+    /// before a file is accepted. Names are hashed with the keys, which a stranger who chooses the names of a file is not
+    /// to know.
+    ///
+    /// Where it is refused the store is handed back. Of page 0 it is said first that it is not there (`Malformed`), is
+    /// damaged, is no header (`Malformed`), has another version, is of a store that was not finished, or of one in another
+    /// state (`Malformed`); then the first page that is damaged, or malformed, as met.
+    pub fn open(
+        alloc: Global,
+        keys: RandomState,
+        store: S,
+        cache_pages: usize,
+    ) -> Result<Db<S>, (S, OpenFault)>
+        requires cache_pages { 0 < cache_pages }
+
+        // A store whose pages hold a book gives a sound database with that book.
+        ensures book { IfOk result (λ db. IsTrue (S.seen store).is_faithful
+            → (limits : LimitsView) (book : Book) → HoldsBook (S.seen store) limits book
+            → HasBook limits book db) }
+        ensures holds { IfErr result (λ back. IsTrue (S.seen store).is_faithful
+            → (limits : LimitsView) (book : Book) → HoldsBook (S.seen store) limits book
+            → IsStop back.1) }
+
+        // The pages as written keep what the database knows.
+        ensures idle { IfOk result (λ db. IsTrue (S.seen store).is_faithful → IsIdle db) }
+        ensures begun { IfOk result (λ db. db.begun ≡ false) }
+        ensures lives { IfOk result (λ db. db.failed ≡ false) }
+        ensures capacity { IfOk result (λ db. db.index.cache.capacity ≡ cache_pages) }
+
+        // Page 0 comes first.
+        ensures first { IfErr result (λ back. IsTrue (S.seen store).is_faithful
+            → ComesFirst (first_fault (S.seen store).count (stored_payload (S.seen store) 0))
+            back.1) }
+        ensures finished { IfOk result (λ db. IsTrue (S.seen store).is_faithful
+            → first_fault (S.seen store).count (stored_payload (S.seen store) 0) ≡ None) }
+
+        // A store that was not finished is refused as such.
+        ensures unfinished { IsTrue (S.seen store).is_faithful → 0 < (S.seen store).count
+            → IsUnfinishedStore (S.seen store) → IsUnfinishedAnswer result }
+
+        // The store stays as it is.
+        ensures stored { IfOk result (λ db. Stays (S.seen store) db.index.cache.store) }
+        ensures back { IfErr result (λ back. Stays (S.seen store) (S.seen back.0)) }
+        ensures caused { IfErr result (λ back. IsOpeningFault (S.seen store) (S.seen back.0)
+            back.1) }
+    {
+        catalogue::laws();
+        match catalogue::open(alloc, keys, store, cache_pages) {
+            Ok((catalogue, index)) => Ok(Db {
+                core: Core::restored(catalogue, index),
+            }),
+            Err((store, fault)) => Err((store, OpenFault::from(fault))),
+        }
+    }
+
+    /// Closes the database: what its store is to keep is saved, all that is changed is written, and page 0 says last that
+    /// the store is finished. The store is handed back, whatever is answered.
+    ///
+    /// Nothing is written where the database was opened and no file was accepted since, and where it failed; a failed one
+    /// answers `Failed`. Refused for want of memory, and where the store fails or is full. Where memory ran out or the
+    /// store is full, page 0 then still says that the store is not finished.
+    pub fn close(self, alloc: Global) -> (S, Result<(), RunFault>)
+        // The store then holds the book.
+        ensures holds { OnOk result.1 (IsSound self → HasPages self → IsIdle self
+            → HoldsBook (S.seen result.0) self.limits self.book) }
+        ensures only { IfErr result.1 (λ fault. IsSound self → self.failed ≡ false
+            → IsLoadFault fault) }
+        ensures unfinished { IfErr result.1 (λ fault. IsFaultless fault → IsSound self → HasPages self
+            → self.failed ≡ false → IsUnfinishedStore (S.seen result.0)) }
+
+        // Nothing is written before a file is accepted, and of a failed database.
+        ensures idle { self.failed ≡ false → self.begun ≡ false → (result.1 ≡ Ok tt)
+            × (S.seen result.0 ≡ self.index.cache.store) }
+        ensures failed { self.failed ≡ true → (result.1 ≡ Err RunFault.Failed)
+            × (S.seen result.0 ≡ self.index.cache.store) }
+        ensures keeps { Keeps self.index.cache.store (S.seen result.0) }
+        ensures caused { IfErr result.1 (IsClosingFault self.index.cache.store (S.seen result.0)) }
+    {
+        catalogue::laws();
+        let (failed, begun) = (self.core.failed, self.core.begun);
+        let (catalogue, index) = self.core.into_parts();
+        if failed {
+            return (catalogue::rest(index), Err(RunFault::Failed));
+        }
+        if !begun {
+            return (catalogue::rest(index), Ok(()));
+        }
+        let (store, result) = catalogue::close(alloc, &catalogue, index);
+        (store, closed(result))
+    }
+
+    /// Gives the store as it stands: what was changed and not written is lost.
+    pub fn abandon(self) -> S
+        ensures store { S.seen result ≡ self.index.cache.store }
+
+        // Where a file was accepted, it is the store of one that was not finished.
+        ensures unfinished { IsSound self → HasPages self → self.begun ≡ true
+            → IsUnfinishedStore (S.seen result) }
+    {
+        catalogue::laws();
+        let (_, index) = self.core.into_parts();
+        catalogue::rest(index)
+    }
+}

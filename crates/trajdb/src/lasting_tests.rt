@@ -1,0 +1,246 @@
+//! A database that is closed and opened again.
+use super::*;
+use crate::tests::{STANDARD, over};
+use legs::Limits;
+use pages::{Fuse, MemStore, PageStore, seal, unseal};
+use std::alloc::Global;
+use std::hash::RandomState;
+use std::test::Fail;
+
+/// The header lines of the example.
+const HEAD: &str = "\
+@stboundedby,urn:x-ogc:def:crs:EPSG:6.6:4326,2D,50.23 9.23,50.31 9.27,2012-01-17T12:33:41Z,2012-01-17T12:37:00Z,sec
+@columns,mfidref,trajectory,state,xsd:token,\"type code\",xsd:integer
+";
+
+/// The example, its header lines alone, and a leg behind them.
+fn files(alloc: Global) -> Result<Files, RunFault> {
+    let mut files = Files::new(alloc);
+    files.add("S1.csv", Vec::from_slice(alloc, STANDARD.as_bytes())?)?;
+    files.add("head.csv", Vec::from_slice(alloc, HEAD.as_bytes())?)?;
+    let mut more = Vec::from_slice(alloc, HEAD.as_bytes())?;
+    more.extend_from_slice(b"d,0,1,0 0\n")?;
+    files.add("more.csv", more)?;
+    Ok(files)
+}
+
+/// What a script answers.
+fn said<S: PageStore>(
+    alloc: Global,
+    db: &mut Db<S>,
+    script: &str,
+) -> (Vec<u8>, Result<(), RunFault>) {
+    let mut out = Vec::new(alloc);
+    let result = match files(alloc) {
+        Ok(files) => db.run(alloc, script.as_bytes(), &files, &mut out),
+        Err(fault) => Err(fault),
+    };
+    (out, result)
+}
+
+/// The example in a new database over a store.
+fn loaded<S: PageStore + Drop>(
+    alloc: Global,
+    keys: RandomState,
+    store: S,
+) -> Result<Db<S>, RunFault> {
+    let limits = Limits::new(1000, 1000).ok_or(RunFault::Failed)?;
+    let mut db = over(alloc, keys, store, limits, (50, 72, 256))?;
+    said(alloc, &mut db, "load S1.csv").1?;
+    Ok(db)
+}
+
+/// The store of at most so many pages in which the example is closed, and what `close` answers.
+fn closed(
+    alloc: Global,
+    keys: RandomState,
+    most: u32,
+) -> Result<(MemStore, Result<(), RunFault>), RunFault> {
+    let db = loaded(alloc, keys, MemStore::new(alloc, most))?;
+    Ok(db.close(alloc))
+}
+
+/// A database over a store that is opened with so many pages in memory, or why it is not.
+fn opened<S: PageStore + Drop>(
+    alloc: Global,
+    keys: RandomState,
+    store: S,
+    cache_pages: usize,
+) -> Result<Db<S>, OpenFault> {
+    match Db::open(alloc, keys, store, cache_pages.max(1)) {
+        Ok(db) => Ok(db),
+        Err((_, fault)) => Err(fault),
+    }
+}
+
+/// The features that cross, and how much there is.
+const QUESTIONS: &str =
+    "features crosses 11.5 2.5 13 4 2012-01-17T12:33:41Z 2012-01-17T12:37:00Z\ncount";
+
+#[test]
+fn what_is_closed_is_opened(rt: HostRuntime) -> Result<(), Fail> {
+    let (alloc, keys) = (rt.alloc(), RandomState::new(&rt)?);
+    let (store, answer) = closed(alloc, keys, 100).map_err(|_| "not loaded")?;
+    assert!(rt; answer == Ok(()) && store.len() == 6);
+    let mut db = opened(alloc, keys, store, 256).map_err(|_| "not opened")?;
+    let (text, answer) = said(alloc, &mut db, QUESTIONS);
+    assert!(rt; answer == Ok(()) && text.as_slice() == b"ok 1\na\nok 1\n5,3\n".as_slice());
+
+    // A refused file begins nothing: the store stays finished.
+    let (text, answer) = said(alloc, &mut db, "load S1.csv");
+    assert!(rt; answer == Ok(()) && text.as_slice() == b"refused F18 at 3\n".as_slice());
+    let mut db = opened(alloc, keys, db.abandon(), 1).map_err(|_| "not opened again")?;
+    let (text, answer) = said(alloc, &mut db, "count");
+    assert!(rt; answer == Ok(()) && text.as_slice() == b"ok 1\n5,3\n".as_slice());
+
+    // An accepted one does, even where it has no leg.
+    let (text, answer) = said(alloc, &mut db, "load head.csv");
+    assert!(rt; answer == Ok(()) && text.as_slice() == b"ok 1\n0,0,0\n".as_slice());
+    assert!(rt; opened(alloc, keys, db.abandon(), 256).err() == Some(OpenFault::Unfinished));
+    Ok(())
+}
+
+#[test]
+fn legs_are_added_to_what_was_opened(rt: HostRuntime) -> Result<(), Fail> {
+    let (alloc, keys) = (rt.alloc(), RandomState::new(&rt)?);
+    let (store, _) = closed(alloc, keys, 100).map_err(|_| "not loaded")?;
+    let mut db = opened(alloc, keys, store, 2).map_err(|_| "not opened")?;
+    let (text, answer) = said(alloc, &mut db, "load more.csv\ncount");
+    assert!(rt; answer == Ok(()) && text.as_slice() == b"ok 1\n1,1,1\nok 1\n6,4\n".as_slice());
+    let (store, answer) = db.close(alloc);
+    assert!(rt; answer == Ok(()));
+    let mut db = opened(alloc, keys, store, 2).map_err(|_| "not opened again")?;
+    let (text, answer) = said(alloc, &mut db, "count\ntrajectory d\ntrajectory b");
+    assert!(rt; answer == Ok(()));
+    assert!(rt;
+        text.as_slice()
+            == b"ok 1\n6,4\nok 1\nd,0,1,0 0 0 0,,\nok 1\nb,10,190,10 2 11 3,walking,2\n".as_slice()
+    );
+    Ok(())
+}
+
+#[test]
+fn a_store_that_is_abandoned_is_unfinished(rt: HostRuntime) -> Result<(), Fail> {
+    let (alloc, keys) = (rt.alloc(), RandomState::new(&rt)?);
+    let db = loaded(alloc, keys, MemStore::new(alloc, 100)).map_err(|_| "not loaded")?;
+    assert!(rt; opened(alloc, keys, db.abandon(), 256).err() == Some(OpenFault::Unfinished));
+    assert!(rt;
+        opened(alloc, keys, MemStore::new(alloc, 100), 256).err() == Some(OpenFault::Malformed)
+    );
+    Ok(())
+}
+
+/// Page 0 sealed again with other bytes at these places of its payload.
+fn change(store: &mut MemStore, bytes: &[(usize, u8)]) -> Option<()> {
+    if store.len() == 0 {
+        return None;
+    }
+    let mut page = [0; 4096];
+    store.read(0, &mut page).ok()?;
+    let mut payload = unseal(0, &page).ok()?;
+    for (place, byte) in bytes {
+        if let Some(old) = payload.bytes.get_mut(*place) {
+            *old = *byte;
+        }
+    }
+    store.write(0, &seal(0, &payload)).ok()
+}
+
+#[test]
+fn page_0_is_tested_in_order(rt: HostRuntime) -> Result<(), Fail> {
+    let (alloc, keys) = (rt.alloc(), RandomState::new(&rt)?);
+    // The magic, the version, the state, and the length of the catalogue's text.
+    let cases: [(&[(usize, u8)], OpenFault); 5] = [
+        (&[(0, 0), (11, 0)], OpenFault::Malformed),
+        (&[(7, 9), (11, 0)], OpenFault::Version),
+        (&[(11, 0)], OpenFault::Unfinished),
+        (&[(11, 2)], OpenFault::Malformed),
+        (&[(55, 80)], OpenFault::Malformed),
+    ];
+    for (bytes, fault) in cases {
+        let (mut store, _) = closed(alloc, keys, 100).map_err(|_| "not loaded")?;
+        assert!(rt; change(&mut store, bytes).is_some());
+        assert!(rt; opened(alloc, keys, store, 256).err() == Some(fault));
+    }
+    let (mut store, _) = closed(alloc, keys, 100).map_err(|_| "not loaded")?;
+    if store.len() > 1 {
+        store.set_byte(0, 50, 1);
+        store.set_byte(1, 100, 1);
+    }
+    assert!(rt; opened(alloc, keys, store, 256).err() == Some(OpenFault::Damaged(0)));
+    Ok(())
+}
+
+#[test]
+fn a_page_that_is_damaged_is_named(rt: HostRuntime) -> Result<(), Fail> {
+    let (alloc, keys) = (rt.alloc(), RandomState::new(&rt)?);
+    let (mut store, _) = closed(alloc, keys, 100).map_err(|_| "not loaded")?;
+    if store.len() > 1 {
+        store.set_byte(1, 100, 1);
+    }
+    let mut db = opened(alloc, keys, store, 1).map_err(|_| "not opened")?;
+    let (text, answer) = said(alloc, &mut db, "count\ntrajectory a");
+    assert!(rt;
+        answer == Err(RunFault::Damaged(1)) && text.as_slice() == b"ok 1\n5,3\n".as_slice()
+    );
+    Ok(())
+}
+
+#[test]
+fn a_store_without_room_stays_unfinished(rt: HostRuntime) -> Result<(), Fail> {
+    let (alloc, keys) = (rt.alloc(), RandomState::new(&rt)?);
+    // The example has five pages, and its catalogue one.
+    let (store, answer) = closed(alloc, keys, 5).map_err(|_| "not loaded")?;
+    assert!(rt; answer == Err(RunFault::StoreFull));
+    assert!(rt; opened(alloc, keys, store, 256).err() == Some(OpenFault::Unfinished));
+
+    let (store, answer) = closed(alloc, keys, 6).map_err(|_| "not loaded")?;
+    assert!(rt; answer == Ok(()));
+    let mut db = opened(alloc, keys, store, 256).map_err(|_| "not opened")?;
+    let (text, answer) = said(alloc, &mut db, "load more.csv");
+    assert!(rt; answer == Err(RunFault::StoreFull) && text.is_empty());
+    let (store, answer) = db.close(alloc);
+    assert!(rt; answer == Err(RunFault::Failed));
+    assert!(rt; opened(alloc, keys, store, 256).err() == Some(OpenFault::Unfinished));
+    Ok(())
+}
+
+/// Opens and closes over a store that fails once, when so many calls have passed: whether it failed.
+fn fused(alloc: Global, keys: RandomState, calls: u64) -> Result<bool, RunFault> {
+    let (store, _) = closed(alloc, keys, 100)?;
+    let mut db = match Db::open(alloc, keys, Fuse::new(store, calls, true), 1) {
+        Ok(db) => db,
+        // The store is handed back, and is opened then.
+        Err((fuse, OpenFault::Store)) => {
+            return match opened(alloc, keys, fuse.into_inner(), 1) {
+                Ok(_) => Ok(true),
+                Err(_) => Err(RunFault::Failed),
+            };
+        }
+        Err(_) => return Err(RunFault::Failed),
+    };
+    match said(alloc, &mut db, "load head.csv").1 {
+        Ok(()) | Err(RunFault::Store) => {}
+        Err(fault) => return Err(fault),
+    }
+    let (fuse, answer) = db.close(alloc);
+    match (answer, opened(alloc, keys, fuse.into_inner(), 1)) {
+        (Ok(()), Ok(_)) => Ok(false),
+        (Err(RunFault::Store | RunFault::Failed), _) => Ok(true),
+        _ => Err(RunFault::Failed),
+    }
+}
+
+#[test]
+fn a_store_that_fails_is_said_to(rt: HostRuntime) -> Result<(), Fail> {
+    let (alloc, keys) = (rt.alloc(), RandomState::new(&rt)?);
+    let mut last = 0;
+    for calls in 0..40 {
+        if fused(alloc, keys, calls).map_err(|_| "another answer")? {
+            last = calls;
+        }
+    }
+    // Opening, a load and closing make so many calls at least, and not so many.
+    assert!(rt; 5 < last && last < 39);
+    Ok(())
+}
