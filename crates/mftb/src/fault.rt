@@ -9,6 +9,8 @@ use trajdb::{OpenFault, RunFault};
 pub(crate) enum Fault<'a> {
     /// The script could not be run to its end.
     Run(RunFault),
+    /// The database was not made or opened.
+    Open(OpenFault),
     /// The script or a file of that name could not be read, or is too long.
     CannotRead(&'a str),
 }
@@ -27,12 +29,7 @@ impl From<RunFault> for Fault<'_> {
 
 impl From<OpenFault> for Fault<'_> {
     fn from(fault: OpenFault) -> Self {
-        Fault::Run(match fault {
-            OpenFault::Memory => RunFault::Memory,
-            OpenFault::Store => RunFault::Store,
-            OpenFault::Damaged(page) => RunFault::Damaged(page),
-            OpenFault::StoreFull => RunFault::StoreFull,
-        })
+        Fault::Open(fault)
     }
 }
 
@@ -40,10 +37,17 @@ impl From<OpenFault> for Fault<'_> {
 impl Display for Fault<'_> {
     fn fmt<W: fmt::Write>(&self, f: &mut Formatter<W>) -> fmt::Result {
         match self {
-            Fault::Run(RunFault::Memory) => f.write_str("memory"),
-            Fault::Run(RunFault::Store) => f.write_str("store"),
-            Fault::Run(RunFault::Damaged(page)) => write!(f, "page {page} damaged"),
-            Fault::Run(RunFault::StoreFull) => f.write_str("store full"),
+            Fault::Run(RunFault::Memory) | Fault::Open(OpenFault::Memory) => f.write_str("memory"),
+            Fault::Run(RunFault::Store) | Fault::Open(OpenFault::Store) => f.write_str("store"),
+            Fault::Run(RunFault::Damaged(page)) | Fault::Open(OpenFault::Damaged(page)) => {
+                write!(f, "page {page} damaged")
+            }
+            Fault::Run(RunFault::StoreFull) | Fault::Open(OpenFault::StoreFull) => {
+                f.write_str("store full")
+            }
+            Fault::Open(OpenFault::Unfinished) => f.write_str("store unfinished"),
+            Fault::Open(OpenFault::Version) => f.write_str("store version"),
+            Fault::Open(OpenFault::Malformed) => f.write_str("store malformed"),
             Fault::Run(RunFault::Failed) => f.write_str("failed"),
             Fault::Run(RunFault::Output) => f.write_str("output"),
             Fault::CannotRead(name) => write!(f, "cannot read {name}"),

@@ -1,32 +1,32 @@
 //! The program, over any runtime and writers.
-ghost use Rattle.std.specs.Prelude.{◌≤◌, OnOk};
-ghost use Rattle.legs.specs.Limits.{limits_of};
+ghost use Rattle.std.specs.Prelude.{◌≡◌, ◌<◌, ◌≤◌, false, Ok, IfOk, IsTrue, OnOk};
+ghost use Rattle.legs.specs.Limits.{limits_of, LimitsView};
 ghost use Rattle.legs.specs.Book.{Book, empty_book};
 ghost use Rattle.trajdb.specs.Script.{lines_of};
-ghost use Rattle.trajdb.specs.Run.{HasRun};
+ghost use Rattle.catalogue.specs.Holding.{HoldsBook};
+ghost use Rattle.trajdb.specs.Db.{HasPages, IsSound};
+ghost use Rattle.trajdb.specs.Lasting.{HasBook, IsIdle};
+ghost use Rattle.mftb.specs.Answers.{Answers};
 
 use crate::fault::Fault;
 use crate::words::{Run, read_words};
 use clap::error::ErrorKind;
 use legs::Limits;
-use pages::MemStore;
+use pages::{FileStore, PageStore};
 use std::alloc::Global;
 use std::fs::File;
 use std::hash::RandomState;
 use std::io::{Read, Write};
 use std::random::RandomSource;
-use std::{io, mem, rt};
+use std::{io, rt};
 use tbtree::Shape;
-use trajdb::{Db, Files, RunFault};
+use trajdb::{Db, Files, OpenFault, RunFault};
 
 /// The most bytes that a script or a file may have.
 const MOST_BYTES: u64 = 1 << 30;
 
 /// The most legs of a database.
 const MOST_LEGS: u64 = 1 << 24;
-
-/// How many pages the cache of a database holds.
-const CACHE_PAGES: usize = 256;
 
 /// The most features of a database.
 const MOST_FEATURES: u32 = 1 << 20;
@@ -60,33 +60,104 @@ fn read_files<'a, R: rt::Files + AllocGlobal>(
     Ok(files)
 }
 
-/// Runs the script over an empty database.
-fn answer<'a, W: Write>(
+/// Whether there is no file of that name, or one without bytes.
+fn is_absent<R: rt::Files<File = File>>(rt: &R, name: &str) -> bool {
+    match File::open(rt, name) {
+        Ok(file) => match file.metadata() {
+            Ok(metadata) => metadata.len() == 0,
+            Err(_) => false,
+        },
+        Err(error) => error.kind() == io::ErrorKind::NotFound,
+    }
+}
+
+/// How much a new database may hold.
+fn limits() -> Limits
+    ensures { result ≡ limits_of 16777216 1048576 }
+{
+    Limits::new(MOST_LEGS, MOST_FEATURES).unwrap()
+}
+
+/// The database of a store, or a new one over a store without pages that is to be made.
+fn database<S: PageStore>(
     alloc: Global,
     keys: RandomState,
+    store: S,
+    is_new: bool,
+    cache_pages: u32,
+) -> Result<Db<S>, (S, OpenFault)>
+    requires { 0 < cache_pages }
+    ensures new { IfOk result (λ db. IsTrue is_new → IsTrue (S.seen store).is_faithful
+        → (S.seen store).count ≡ 0 → HasBook (limits_of 16777216 1048576) empty_book db) }
+    ensures kept { IfOk result (λ db. is_new ≡ false → IsTrue (S.seen store).is_faithful
+        → (limits : LimitsView) (book : Book) → HoldsBook (S.seen store) limits book
+        → HasBook limits book db) }
+    ensures pages { IfOk result (λ db. IsTrue (S.seen store).is_faithful → HasPages db) }
+    ensures idle { IfOk result (λ db. IsTrue (S.seen store).is_faithful → IsIdle db) }
+    ensures lives { IfOk result (λ db. db.failed ≡ false) }
+{
+    if is_new && store.len() == 0 {
+        let shape = Shape::new(50, 72).unwrap();
+        return Db::create(alloc, keys, store, shape, cache_pages as usize, limits());
+    }
+    Db::open(alloc, keys, store, cache_pages as usize)
+}
+
+/// Runs the script over a database, and closes it.
+fn run_and_close<S: PageStore, W: Write>(
+    alloc: Global,
+    mut database: Db<S>,
     script: &[u8],
     files: &Files,
     out: &mut W,
-) -> Result<(), Fault<'a>>
-    // What was sent is exactly the text of the run over the empty book.
-    ensures { OnOk result ((book : Book) × HasRun (limits_of 16777216 1048576) files.now
-        (W.contents out.old) (W.contents out.new) empty_book book (lines_of script.now)) }
+) -> (S, Result<(), RunFault>)
+    // What was sent is exactly the text of the run over the book, and the store then holds the book after it.
+    ensures { OnOk result.1 (IsSound database → HasPages database → IsIdle database
+        → Answers database.limits database.book files.now (W.contents out.old) (W.contents out.new)
+        (lines_of script.now) (S.seen result.0)) }
 {
-    let limits = Limits::new(MOST_LEGS, MOST_FEATURES).unwrap();
-    let shape = Shape::new(50, 72).unwrap();
-    let store = MemStore::new(alloc, u32::MAX);
-    let mut database = match Db::create(alloc, keys, store, shape, CACHE_PAGES, limits) {
-        Ok(database) => database,
-        Err((_, fault)) => return Err(Fault::from(fault)),
-    };
-    database.run(alloc, script, files, out)?;
-    // The program ends here: its memory goes back whole, and not piece by piece.
-    mem::forget(database);
-    Ok(())
+    let ran = database.run(alloc, script, files, out);
+    let (store, closed) = database.close(alloc);
+    match ran {
+        Ok(()) => (store, closed),
+        Err(fault) => (store, Err(fault)),
+    }
 }
 
-/// Reads all that is named, and then runs the script.
-fn run<'a, R: rt::Files + AllocGlobal + RandomSource, W: Write>(
+/// What a run answers, as an answer of the program.
+fn answer_of<'a>(ran: Result<(), RunFault>) -> Result<(), Fault<'a>>
+    ensures { OnOk result (ran ≡ Ok tt) }
+{
+    match ran {
+        Ok(()) => Ok(()),
+        Err(fault) => Err(Fault::Run(fault)),
+    }
+}
+
+/// Runs the script over the database of a store, and closes it.
+fn answer<'a, S: PageStore, W: Write>(
+    alloc: Global,
+    database: Result<Db<S>, (S, OpenFault)>,
+    script: &[u8],
+    files: &Files,
+    out: &mut W,
+) -> (S, Result<(), Fault<'a>>)
+    // What was sent is exactly the text of the run over the book, and the store then holds the book after it.
+    ensures { OnOk result.1 (IfOk database (λ db. IsSound db → HasPages db → IsIdle db
+        → Answers db.limits db.book files.now (W.contents out.old) (W.contents out.new)
+        (lines_of script.now) (S.seen result.0))) }
+{
+    match database {
+        Ok(database) => {
+            let (store, result) = run_and_close(alloc, database, script, files, out);
+            (store, answer_of(result))
+        }
+        Err((store, fault)) => (store, Err(Fault::Open(fault))),
+    }
+}
+
+/// Reads all that is named, opens the store, and then runs the script.
+fn run<'a, R: rt::Files<File = File> + AllocGlobal + RandomSource, W: Write>(
     rt: &R,
     run: &Run<'a>,
     out: &mut W,
@@ -96,13 +167,19 @@ fn run<'a, R: rt::Files + AllocGlobal + RandomSource, W: Write>(
     let Ok(keys) = RandomState::new(rt) else {
         return Err(Fault::Run(RunFault::Memory));
     };
-    answer(rt.alloc(), keys, &script, &files, out)
+    let is_new = is_absent(rt, run.store);
+    let Ok(store) = FileStore::open(rt, run.store) else {
+        return Err(Fault::Run(RunFault::Store));
+    };
+    let database = database(rt.alloc(), keys, store, is_new, run.cache_pages.max(1));
+    let (_store, result) = answer(rt.alloc(), database, &script, &files, out);
+    result
 }
 
 /// Runs the program, and answers its exit status: 0, or 2 for wrong words, or 1 for any other fault.
 ///
 /// `words` has the program's name first. Answers and help go to `out`, faults to `faults`.
-pub fn start<R: rt::Files + AllocGlobal + RandomSource, W: Write, V: Write>(
+pub fn start<R: rt::Files<File = File> + AllocGlobal + RandomSource, W: Write, V: Write>(
     rt: &R,
     words: &[String],
     out: &mut W,

@@ -44,15 +44,62 @@ fn owned(alloc: Global, words: &[&str]) -> Result<Vec<String>, Fail> {
 fn a_script_is_run(rt: HostRuntime) -> Result<(), Fail> {
     fs::write(&rt, "S1.csv", STANDARD)?;
     fs::write(&rt, "script.txt", SCRIPT)?;
+    fs::write(&rt, "first.mftb", "")?;
     let words = owned(
         rt.alloc(),
-        &["mftb", "run", "store", "script.txt", "S1.csv"],
+        &["mftb", "run", "first.mftb", "script.txt", "S1.csv"],
     )?;
     let (mut out, mut faults) = (Vec::new(rt.alloc()), Vec::new(rt.alloc()));
     let status = start(&rt, &words, &mut out, &mut faults);
     assert_eq!(rt; status, 0);
     assert!(rt; out.as_slice() == ANSWERS.as_bytes());
     assert!(rt; faults.is_empty());
+    Ok(())
+}
+
+/// What the program answers to words: its status, its output, and its faults.
+fn answer(rt: &HostRuntime, words: &[&str]) -> Result<(u8, Vec<u8>, Vec<u8>), Fail> {
+    let words = owned(rt.alloc(), words)?;
+    let (mut out, mut faults) = (Vec::new(rt.alloc()), Vec::new(rt.alloc()));
+    let status = start(rt, &words, &mut out, &mut faults);
+    Ok((status, out, faults))
+}
+
+#[test]
+fn a_second_run_meets_what_the_first_one_loaded(rt: HostRuntime) -> Result<(), Fail> {
+    fs::write(&rt, "S1.csv", STANDARD)?;
+    fs::write(&rt, "script.txt", SCRIPT)?;
+    fs::write(&rt, "count.txt", "count\n")?;
+    fs::write(&rt, "again.txt", "load S1.csv\n")?;
+    fs::write(&rt, "two.mftb", "")?;
+    let (status, out, faults) = answer(&rt, &["mftb", "run", "two.mftb", "script.txt", "S1.csv"])?;
+    assert!(rt; status == 0 && out.as_slice() == ANSWERS.as_bytes() && faults.is_empty());
+    let words = ["mftb", "run", "--cache-pages", "1", "two.mftb", "count.txt"];
+    let (status, out, faults) = answer(&rt, &words)?;
+    assert!(rt; status == 0 && out.as_slice() == "ok 1\n5,3\n".as_bytes() && faults.is_empty());
+    let (status, out, _) = answer(&rt, &["mftb", "run", "two.mftb", "again.txt", "S1.csv"])?;
+    assert!(rt; status == 0 && out.as_slice() == "refused F18 at 3\n".as_bytes());
+    Ok(())
+}
+
+#[test]
+fn a_file_that_is_no_store_is_not_touched(rt: HostRuntime) -> Result<(), Fail> {
+    fs::write(&rt, "count.txt", "count\n")?;
+    fs::write(&rt, "letter.txt", "Dear captain")?;
+    let (status, out, faults) = answer(&rt, &["mftb", "run", "letter.txt", "count.txt"])?;
+    assert!(rt; status == 1 && out.is_empty());
+    assert!(rt; faults.as_slice() == "mftb: store malformed\n".as_bytes());
+    assert!(rt; fs::read(&rt, "letter.txt")?.as_slice() == "Dear captain".as_bytes());
+    let words = [
+        "mftb",
+        "run",
+        "--cache-pages",
+        "0",
+        "letter.txt",
+        "count.txt",
+    ];
+    let (status, _, faults) = answer(&rt, &words)?;
+    assert!(rt; status == 2 && !faults.is_empty());
     Ok(())
 }
 
