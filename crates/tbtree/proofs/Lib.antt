@@ -35,3 +35,12 @@ pub mod DescentLemmas
 pub mod LawLemmas
 pub mod LegalLemmas
 pub mod LimitLemmas
+pub mod RisingLists
+pub mod OwnedLists
+pub mod TurnLemmas
+pub mod LeafChains
+pub mod CheckLemmas
+pub mod CheckTree
+pub mod HeldLemmas
+pub mod HeldChains
+pub mod HeldTree

@@ -17,10 +17,10 @@ abbrev pub IsUp : List ℕ → Type 0
 IsUp [] = Unit {0}
 IsUp (x ∷ xs) = AreAbove x xs × IsUp xs
 
-abbrev times : ℕ → List ℕ → ℕ
+abbrev pub times : ℕ → List ℕ → ℕ
 times n xs = count_by (λ m. m == n) xs
 
-abbrev weight : Bool → ℕ
+abbrev pub weight : Bool → ℕ
 weight b = cond b 1 0
 
 times-cons : (n x : ℕ) (xs : List ℕ) → times n (x ∷ xs) ≡ weight (x == n) + times n xs
@@ -49,7 +49,7 @@ not_below a b xs ys u e =
     (λ l. l)
     (cases_lt a b)
 
-same_in_order : (xs ys : List ℕ) → IsUp xs → IsUp ys → ((n : ℕ) → times n xs ≡ times n ys) → xs ≡ ys
+pub same_in_order : (xs ys : List ℕ) → IsUp xs → IsUp ys → ((n : ℕ) → times n xs ≡ times n ys) → xs ≡ ys
 same_in_order [] [] u v e = refl
 same_in_order [] (y ∷ ys) u v e = absurd (let p = one y in omega (arith, e y, times-cons y y ys, p))
 same_in_order (x ∷ xs) [] u v e = absurd (let p = one x in omega (arith, e x, times-cons x x xs, p))

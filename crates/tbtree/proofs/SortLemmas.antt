@@ -7,7 +7,7 @@ use Rattle.legs.specs.Legs.{LegView}
 use Rattle.tbtree.specs.Descent.{insert_by_ordinal, sort_by_ordinal}
 use Rattle.tbtree.proofs.OrdinalOrder.{AreAbove, IsUp, lower}
 
-abbrev number : LegView → ℕ
+abbrev pub number : LegView → ℕ
 number leg = leg.ordinal
 
 insert_moves : (x : LegView) (xs : List LegView) → IsPermutation (x ∷ xs) (insert_by_ordinal x xs)

@@ -8,3 +8,4 @@ pub mod Way
 pub mod Insert
 pub mod Descent
 pub mod Bounds
+pub mod Check

@@ -1,12 +1,15 @@
 //! What holds of the pages of a tree.
 ghost use Rattle.std.specs.Prelude.{ℕ, [], List, Bool, ◌≡◌, ◌<◌, ◌*◌, ◌-◌, ◌≤◌, All, length};
+ghost use Rattle.std.specs.List.Sorted.{IsPermutation, IsNonDecreasingBy};
 ghost use Rattle.legs.specs.Boxes.{BoxView};
 ghost use Rattle.legs.specs.Costs.{height, leaves_of};
 ghost use Rattle.legs.specs.Hull.{leg_boxes};
 ghost use Rattle.legs.specs.Index.{legs_of};
 ghost use Rattle.legs.specs.Legs.{IsLeg, LegView};
+ghost use Rattle.legs.specs.declared.tracks.Track.{Track};
 ghost use Rattle.pagecache.specs.Cache.{Cache};
 ghost use Rattle.tbtree.specs.Bounds.{IsBounded, IsBoundedPlace};
+ghost use Rattle.tbtree.specs.Check.{HoldLegs, IsChecked, IsRising};
 ghost use Rattle.tbtree.specs.Descent.{content_of, Descends, IsPruning, IsSameTree};
 ghost use Rattle.tbtree.specs.Insert.{IsPlace, Stands};
 ghost use Rattle.tbtree.specs.Nodes.{Pages, pages_of_cache};
@@ -59,6 +62,20 @@ pub fn laws()
         (legs : List LegView) (pages : ℕ → List ℕ) (feature : ℕ) (place : Place)
         → Stands nodes tree legs pages → IsPlace tree legs pages feature place
         → IsBoundedPlace nodes legs feature place }
+
+    // Pages that a check finds whole hold a list of legs, with the places and the tracks of its features.
+    ensures checked { (nodes : Pages LegView BoxView) (tree : TbTree) (rows total : ℕ)
+        (places : List Place) (tracks : List Track) → IsShape tree.shape
+        → IsChecked nodes tree rows total places tracks → HoldLegs nodes tree rows total places tracks }
+
+    // And pages that hold one are found whole.
+    ensures held { (nodes : Pages LegView BoxView) (tree : TbTree) (rows total : ℕ)
+        (places : List Place) (tracks : List Track) → IsShape tree.shape
+        → HoldLegs nodes tree rows total places tracks → IsChecked nodes tree rows total places tracks }
+
+    // Numbers that rise are the only order of theirs in which none is below the one before it.
+    ensures in_order { (number : ℕ → ℕ) (rising ordered : List ℕ) → IsRising number rising
+        → IsPermutation rising ordered → IsNonDecreasingBy number ordered → ordered ≡ rising }
 {
     tbnode::laws();
 }

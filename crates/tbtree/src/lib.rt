@@ -13,6 +13,7 @@ mod tree;
 pub use descent::laws;
 pub use fault::TreeFault;
 pub use insertion::insert;
+pub use payloads::cover_of;
 pub use shape::Shape;
 pub use tree::{Place, TbTree};
 

@@ -77,8 +77,9 @@ fn cover_of_inner(page: &Inner<'_>) -> Box3
     bounds
 }
 
-/// The least box that holds all that a payload has as a page of a tree.
-pub(crate) fn cover_of(payload: &Payload) -> Option<Box3>
+/// The least box that holds all that a payload has as a page of a tree: the legs of a leaf, or the boxes of an inner page;
+/// `None` where it is neither.
+pub fn cover_of(payload: &Payload) -> Option<Box3>
     ensures { result ≡ cover_of_node (node_of payload.now) }
 {
     if let Some(leaf) = tbnode::leaf(payload) {

@@ -1,3 +1,6 @@
+use Rattle.tbtree.proofs.CheckTree.{hold}
+use Rattle.tbtree.proofs.HeldTree.{checked}
+use Rattle.tbtree.proofs.RisingLists.{in_order_once}
 use Rattle.tbtree.proofs.LawLemmas.{content_is, descends, height_is, legs_fit, absent_is, same_content, still_stands}
 use Rattle.tbtree.proofs.LegalLemmas.{content_lawful}
 use Rattle.tbtree.proofs.LimitLemmas.{bounded, bounded_place}
@@ -15,4 +18,7 @@ returns c = record {
   absent = absent_is;
   bounds = bounded;
   place_bounds = bounded_place;
+  checked = hold;
+  held = checked;
+  in_order = in_order_once;
 }
