@@ -15,3 +15,14 @@ pub mod NewLemmas
 pub mod MarkLemmas
 pub mod StartLemmas
 pub mod BoundLemmas
+pub mod WalkLemmas
+pub mod WalkedLemmas
+pub mod SurveyLemmas
+pub mod OrderLemmas
+pub mod CheckingLemmas
+pub mod SoundLemmas
+pub mod GroupLemmas
+pub mod LevelsLemmas
+pub mod SpanLemmas
+pub mod OverLemmas
+pub mod StandLemmas

@@ -7,3 +7,7 @@ pub mod Putting
 pub mod Answers
 pub mod Marking
 pub mod Bounds
+pub mod Walking
+pub mod Ordering
+pub mod Checking
+pub mod Levels

@@ -94,3 +94,13 @@ pub(crate) fn of_pages(given: Result<(), CacheFault>) -> Result<(), IndexFault>
         Err(fault) => Err(of_cache(fault)),
     }
 }
+
+/// What a check answers.
+pub(crate) fn checked(given: Result<(), SearchFault>) -> Result<(), IndexFault>
+    ensures { result ≡ answered (λ fault. of_search fault) given }
+{
+    match given {
+        Ok(()) => Ok(()),
+        Err(fault) => Err(of_search(fault)),
+    }
+}

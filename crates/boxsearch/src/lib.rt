@@ -2,19 +2,25 @@
 #![tactic(auto)]
 
 mod answers;
+mod checking;
 mod descent;
 mod fault;
+mod levels;
 mod listed;
 mod marking;
 mod nodes;
+mod ordering;
 mod parts;
 mod tree_index;
+mod walking;
 
 pub use descent::search;
 pub use fault::SearchFault;
 pub use parts::laws;
 pub use tree_index::TreeIndex;
 
+#[cfg(test)]
+mod check_tests;
 #[cfg(test)]
 mod index_tests;
 #[cfg(test)]

@@ -28,7 +28,8 @@ impl<S: PageStore> TreeIndex<S> {
         places: Vec<Place>,
         legs: u64,
     ) -> TreeIndex<S>
-        ensures { result ≡ record { cache = cache; tree = tree; places = places.items; legs = legs } }
+        ensures { result
+            ≡ record { cache = cache; tree = tree; places = places.items; legs = legs } }
     {
         TreeIndex {
             alloc,

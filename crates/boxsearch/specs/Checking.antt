@@ -1,0 +1,28 @@
+-- A check of an index over pages.
+use Rattle.std.specs.Prelude.{ℕ, ◌≡◌, ◌≢◌, ◌≤◌, ◌<◌, List, length, slice_index_or, All, None}
+use Rattle.legs.specs.Index.{feature_count, last_end}
+use Rattle.legs.specs.Legs.{LegView}
+use Rattle.legs.specs.Limits.{most}
+use Rattle.legs.specs.Tracks.{TracksView, IsTrack}
+use Rattle.legs.specs.declared.tracks.Track.{Track}
+
+-- the tracks are those of the legs: features are numbered from 0 in the order of their first legs, each name has a leg, and
+-- each leg one of so many rows, of which there are no more than legs
+pub record AreTracksOf (tracks : TracksView) (rows : ℕ) (legs : List LegView) : Type 0 where
+  pub paired : length tracks.tracks ≡ length tracks.names
+  pub numbered : feature_count legs ≡ length tracks.names
+  pub each : (feature : ℕ) (d : Track) → feature < length tracks.names → IsTrack (slice_index_or tracks.tracks feature d) legs feature
+  pub led : (feature : ℕ) → feature < length tracks.names → last_end feature legs ≢ None
+  pub legs_are : tracks.legs ≡ length legs
+  pub rows_are : tracks.rows ≡ rows
+  pub in_rows : All (λ leg. leg.row < rows) legs
+  pub few_rows : rows ≤ length legs
+  pub few_names : length tracks.names ≤ most
+
+-- the numbers of the tracks are those of so many rows and legs
+pub record Agree (tracks : TracksView) (rows legs : ℕ) : Type 0 where
+  pub paired : length tracks.tracks ≡ length tracks.names
+  pub legs_are : tracks.legs ≡ legs
+  pub rows_are : tracks.rows ≡ rows
+  pub few_rows : rows ≤ legs
+  pub few_names : length tracks.names ≤ most

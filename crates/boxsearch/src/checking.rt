@@ -1,0 +1,215 @@
+//! A check of an index: its pages hold one list of legs.
+ghost use Rattle.std.specs.Prelude.{ℕ, ◌≡◌, ◌≢◌, ◌<◌, ◌≤◌, ◌^◌, ◌↔◌, List, None, length, map, IfErr, IfOk, OnOk, IsTrue};
+ghost use Rattle.std.specs.List.{All};
+ghost use Rattle.std.specs.List.Sorted.{IsPermutation, IsNonDecreasingBy};
+ghost use Rattle.pagecache.specs.Cache.{Cache};
+ghost use Rattle.chains.specs.Chains.{AreHeld};
+ghost use Rattle.chains.specs.Reads.{OnlyReads};
+ghost use Rattle.legs.specs.declared.tracks.Track.{Track};
+ghost use Rattle.tbtree.specs.Check.{first_on, AreChains, IsChecked, IsRising};
+ghost use Rattle.tbtree.specs.Nodes.{pages_of_cache};
+ghost use Rattle.tbtree.specs.Shape.{IsShape};
+ghost use Rattle.boxsearch.specs.Checking.{Agree};
+ghost use Rattle.boxsearch.specs.Faults.{IsAllowed, IsCaused};
+ghost use Rattle.boxsearch.specs.Walking.{Surveys};
+ghost use Rattle.boxsearch.specs.Ordering.{IsWhole};
+ghost use Rattle.boxsearch.specs.declared.fault.SearchFault.{SearchFault};
+ghost use Rattle.boxsearch.specs.declared.walking.Met.{Met};
+ghost use Rattle.boxsearch.specs.declared.walking.Survey.{Survey};
+
+use crate::answers::checked;
+use crate::fault::SearchFault;
+use crate::levels::check_tree;
+use crate::ordering::{are_once, have_legs, leaves_rise, name_last, rise, sort_leaves};
+use crate::tree_index::TreeIndex;
+use crate::walking::{Survey, walk_all};
+use legs::{IndexFault, Tracks};
+use pagecache::PageCache;
+use pages::PageStore;
+use std::alloc::Global;
+use tbtree::{Place, TbTree};
+
+/// The most features that any limit allows.
+const MOST_FEATURES: u64 = 2_147_483_648;
+
+/// Reads a page, for its seal.
+fn read_page<S: PageStore>(cache: &mut PageCache<S>, page: u32) -> Result<(), SearchFault>
+    requires { page < cache.old.count }
+    ensures held { IsTrue cache.old.store.is_faithful
+        → OnOk result ((pages_of_cache cache.old).at page ≢ None) }
+    ensures only { IsTrue cache.old.store.is_faithful → (pages_of_cache cache.old).at page ≢ None
+        → IfErr result IsAllowed }
+    ensures reads { OnlyReads cache.old cache.new }
+    ensures caused { IfErr result (IsCaused cache.old cache.new) }
+    ensures works { IfErr result (λ fault. fault ≢ SearchFault.Spent) }
+{
+    match cache.page(page) {
+        Ok(_) => Ok(()),
+        Err(fault) => Err(SearchFault::of(fault, page)),
+    }
+}
+
+/// Reads each page once, for its seal. A page that the store has beyond those of the cache is
+/// malformed, and so is page 0 where there is none.
+#[tactic(auto, using(crate::proofs::ReadLemmas::reading))]
+fn read_pages<S: PageStore>(cache: &mut PageCache<S>) -> Result<(), SearchFault>
+    ensures held { IsTrue cache.old.store.is_faithful
+        → OnOk result (AreHeld (pages_of_cache cache.old)) }
+    ensures some { OnOk result (0 < cache.old.count) }
+    ensures count { OnOk result (cache.old.count ≡ cache.old.store.count) }
+    ensures only { IsTrue cache.old.store.is_faithful → AreHeld (pages_of_cache cache.old)
+        → 0 < cache.old.count
+        → cache.old.count ≡ cache.old.store.count → IfErr result IsAllowed }
+    ensures reads { OnlyReads cache.old cache.new }
+    ensures caused { IfErr result (IsCaused cache.old cache.new) }
+    ensures works { IfErr result (λ fault. fault ≢ SearchFault.Spent) }
+{
+    let count = cache.count();
+    for page in 0..count {
+        read_page(cache, page)?;
+    }
+    if count == 0 || cache.store().len() != count {
+        return Err(SearchFault::Malformed(count));
+    }
+    Ok(())
+}
+
+/// Whether a survey is whole: each feature has a leg, each ordinal below the total stands once, and
+/// features are in the order of their first legs. The ordinals are put in order.
+fn is_whole(places: &[Place], total: u64, survey: &mut Survey) -> bool
+    ensures whole { IsTrue result → IsWhole places.now total survey.old }
+    ensures only { IsWhole places.now total survey.old → IsTrue result }
+    ensures leaves { survey.new.leaves ≡ survey.old.leaves }
+{
+    if survey.ordinals.len() as u64 != total {
+        return false;
+    }
+    if !have_legs(places) {
+        return false;
+    }
+    if !are_once(&mut survey.ordinals) {
+        return false;
+    }
+    rise(survey.firsts.as_slice())
+}
+
+/// Puts the leaves of a survey in the order of their first legs; whether these are distinct.
+fn put_in_order(survey: &mut Survey) -> bool
+    ensures moved { IsPermutation survey.old.leaves.items survey.new.leaves.items }
+    ensures rises { IsNonDecreasingBy (λ (m : Met). m.first) survey.new.leaves.items }
+    ensures strict { IsTrue result ↔ IsRising (λ (m : Met). m.first) survey.new.leaves.items }
+{
+    sort_leaves(&mut survey.leaves);
+    leaves_rise(survey.leaves.as_slice())
+}
+
+/// Whether the tracks have so many legs and rows, and no more features than any limit allows.
+fn agree(tracks: &Tracks, rows: u64, legs: u64) -> bool
+    ensures { IsTrue result ↔ Agree tracks.now rows legs }
+{
+    let _ = tracks.track(0);
+    tracks.leg_count() == legs
+        && tracks.row_count() == rows
+        && tracks.feature_count() <= MOST_FEATURES
+}
+
+/// Tests that the pages hold one list of so many legs under a tree, with the places and the tracks
+/// of its features, and a row of so many for each leg. The first page that fails is malformed; page
+/// 0 where what it keeps does.
+#[tactic(auto, using(crate::proofs::ReadLemmas::reading))]
+pub(crate) fn check_pages<S: PageStore>(
+    alloc: Global,
+    cache: &mut PageCache<S>,
+    tree: &TbTree,
+    places: &[Place],
+    tracks: &Tracks,
+    rows: u64,
+    legs: u64,
+) -> Result<(), SearchFault>
+    ensures checked { IsTrue cache.old.store.is_faithful
+        → OnOk result (IsChecked (pages_of_cache cache.old) tree.now rows legs places.now
+        tracks.now.tracks) }
+    ensures agree { OnOk result (Agree tracks.now rows legs) }
+    ensures count { OnOk result (cache.old.count ≡ cache.old.store.count) }
+    ensures shape { IsShape tree.now.shape }
+    ensures only { IsTrue cache.old.store.is_faithful → cache.old.count ≡ cache.old.store.count
+        → length places.now < 2 ^ 32 → Agree tracks.now rows legs
+        → IsChecked (pages_of_cache cache.old) tree.now rows legs places.now tracks.now.tracks
+        → IfErr result IsAllowed }
+    ensures reads { OnlyReads cache.old cache.new }
+    ensures caused { IfErr result (IsCaused cache.old cache.new) }
+    ensures works { IfErr result (λ fault. fault ≢ SearchFault.Spent) }
+{
+    tbtree::laws();
+    let most = u64::from(tree.shape.leaf());
+    read_pages(cache)?;
+    let mut survey = walk_all(alloc, cache, most, rows, places, tracks)?;
+    if !is_whole(places, legs, &mut survey) {
+        return Err(SearchFault::Malformed(0));
+    }
+    if !agree(tracks, rows, legs) {
+        return Err(SearchFault::Malformed(0));
+    }
+    if !put_in_order(&mut survey) {
+        return Err(SearchFault::Malformed(0));
+    }
+    check_tree(alloc, cache, tree, survey.leaves.as_slice())?;
+    if !name_last(places, survey.leaves.as_slice()) {
+        return Err(SearchFault::Malformed(0));
+    }
+    Ok(())
+}
+
+impl<S: PageStore> TreeIndex<S> {
+    ghost use Rattle.std.specs.Prelude.{◌≡◌, Err, IfErr, IsErrOf, OnOk, IsTrue, true};
+    ghost use Rattle.legs.specs.Asking.{Leaves};
+    ghost use Rattle.legs.specs.Index.{MayRefuse, HasRisen};
+    ghost use Rattle.legs.specs.declared.index.IndexFault.{IndexFault};
+    ghost use Rattle.chains.specs.Reads.{OnlyReads};
+    ghost use Rattle.boxsearch.specs.Beside.{with_cache};
+    ghost use Rattle.boxsearch.specs.Checking.{AreTracksOf};
+    ghost use Rattle.boxsearch.specs.Index.{content, words, IsSound};
+
+    /// Tests that its pages, whoever made them, hold one list of legs, which its tree, its places,
+    /// these tracks and so many rows of attribute values are of. Each page is asked of the cache for
+    /// its seal, then the leaves of each feature along its chain, then the tree from the root down;
+    /// where the cache was flushed, what it gives are the pages as written.
+    ///
+    /// The first page that fails is `Damaged`: the last leaf of a feature that ends elsewhere than
+    /// its track or its place says, and page 0 where the numbers of all legs, of the tree, or of the
+    /// rows do. A spent index is `Spent`.
+    pub fn check(&mut self, tracks: &Tracks, rows: u64) -> Result<(), IndexFault>
+        // What passes is sound, and the tracks are those of its legs; what is sound passes.
+        ensures sound { OnOk result (IsTrue self.old.cache.store.is_faithful → IsSound self.new) }
+        ensures tracks { OnOk result (IsTrue self.old.cache.store.is_faithful
+            → AreTracksOf tracks.now rows (content self.new)) }
+        ensures only { IsSound self.old → AreTracksOf tracks.now rows (content self.old)
+            → IfErr result MayRefuse }
+
+        // Nothing changes.
+        ensures same { self.new ≡ with_cache self.old self.new.cache }
+        ensures reads { OnlyReads self.old.cache self.new.cache }
+        ensures leaves { Leaves words self.old self.new }
+
+        ensures was_spent { self.old.tree.spent ≡ true
+            → (result ≡ Err IndexFault.Spent) × (self.new ≡ self.old) }
+        ensures works { IsErrOf result IndexFault.Spent → self.old.tree.spent ≡ true }
+        ensures store { IsErrOf result IndexFault.Store
+            → HasRisen self.old.cache.store.faults self.new.cache.store.faults }
+        ensures full { IsErrOf result IndexFault.StoreFull → ⊥ }
+    {
+        if self.tree.spent {
+            return Err(IndexFault::Spent);
+        }
+        tbtree::laws();
+        checked(check_pages(
+            self.alloc,
+            &mut self.cache,
+            &self.tree,
+            self.places.as_slice(),
+            tracks,
+            rows,
+            self.legs,
+        ))
+    }
+}

@@ -1,0 +1,312 @@
+//! The way along the chain of a feature, for a check.
+ghost use Rattle.std.specs.Prelude.{ℕ, ◌≡◌, ◌≢◌, ◌-◌, ◌<◌, ◌↔◌, ◌++◌, ◌∷◌, [], List, None, Some, map, length, slice_get, unwrap_or, ◌^◌, IfOk, IfErr, IsTrue, OnOk};
+ghost use Rattle.legs.specs.Boxes.{BoxView};
+ghost use Rattle.legs.specs.Legs.{LegView};
+ghost use Rattle.pagecache.specs.Cache.{Cache};
+ghost use Rattle.tbnode.specs.Form.{node_of};
+ghost use Rattle.chains.specs.Reads.{OnlyReads};
+ghost use Rattle.tbtree.specs.Check.{last_leg, legs_on, first_ordinal, ComesAfter, ComeInTurn, IsLeafOf, AreLeavesOf, AreChains};
+ghost use Rattle.tbtree.specs.Descent.{legs_in};
+ghost use Rattle.tbtree.specs.Nodes.{pages_of_cache, LeafView, ALeaf};
+ghost use Rattle.boxsearch.specs.Faults.{IsAllowed, IsCaused};
+ghost use Rattle.boxsearch.specs.Walking.{after, IsAtEnd, IsNextNode, Notes, Surveys, TakesLeaf, Walks};
+ghost use Rattle.boxsearch.specs.declared.fault.SearchFault.{SearchFault};
+
+use crate::fault::SearchFault;
+use legs::{Box3, Leg, Track, Tracks};
+use pagecache::PageCache;
+use pages::{PageStore, Payload};
+use std::alloc::{AllocError, Global};
+use tbnode::Leaf;
+use tbtree::{Place, cover_of};
+
+/// A leaf that was met: the ordinal of its first leg, its page, and the least box that holds its
+/// legs.
+#[derive(Clone, Copy, PartialEq, Eq, Debug)]
+pub(crate) struct Met {
+    pub(crate) first: u64,
+    pub(crate) page: u32,
+    pub(crate) bounds: Box3,
+}
+
+/// What the ways along the chains found: the ordinal of each leg, each leaf, and the ordinal of
+/// each feature's first leg.
+#[derive(Drop)]
+pub(crate) struct Survey {
+    pub(crate) ordinals: Vec<u64>,
+    pub(crate) leaves: Vec<Met>,
+    pub(crate) firsts: Vec<u64>,
+}
+
+/// How far the way along a feature's chain has come: the page that it came from (0 at first) and
+/// the one that is next (0 for none), how many legs are left, and the last leg.
+#[derive(Clone, Copy)]
+pub(crate) struct Walk {
+    pub(crate) feature: u32,
+    pub(crate) previous: u32,
+    pub(crate) page: u32,
+    pub(crate) left: u64,
+    pub(crate) last: Option<Leg>,
+}
+
+/// Whether a leg comes after the one before it in its feature.
+fn comes_after(last: &Option<Leg>, leg: &Leg) -> bool
+    ensures { IsTrue result ↔ ComesAfter last.now leg.now }
+{
+    match last {
+        None => true,
+        Some(last) => last.ordinal < leg.ordinal && last.t1 <= leg.t0,
+    }
+}
+
+/// Whether a leg of a feature, with a row of so many, comes after the one before it.
+fn is_next_leg(feature: u32, rows: u64, last: &Option<Leg>, leg: &Leg) -> bool
+    ensures { IsTrue result ↔ ComeInTurn feature rows last.now (leg.now ∷ []) }
+{
+    leg.feature == feature && u64::from(leg.row) < rows && comes_after(last, leg)
+}
+
+/// Notes the ordinals of a leaf's legs, as long as each comes after the one before it; whether each
+/// does.
+fn take_legs(
+    leaf: &Leaf<'_>,
+    feature: u32,
+    rows: u64,
+    last: &mut Option<Leg>,
+    ordinals: &mut Vec<u64>,
+) -> Result<bool, AllocError>
+    ensures turn { IfOk result (λ whole. IsTrue whole
+        → ComeInTurn feature rows last.old leaf.now.legs) }
+    ensures last { IfOk result (λ whole. IsTrue whole
+        → last.new ≡ last_leg last.old leaf.now.legs) }
+    ensures noted { IfOk result (λ whole. IsTrue whole
+        → ordinals.new.items ≡ ordinals.old.items ++ map (λ leg. leg.ordinal) leaf.now.legs) }
+    ensures whole { IfOk result (λ whole. ComeInTurn feature rows last.old leaf.now.legs
+        → IsTrue whole) }
+{
+    for i in 0..leaf.len() {
+        let leg = leaf.leg(i);
+        if !is_next_leg(feature, rows, last, &leg) {
+            return Ok(false);
+        }
+        ordinals.push(leg.ordinal)?;
+        *last = Some(leg);
+    }
+    Ok(true)
+}
+
+/// Whether a leaf is the next one of a way.
+fn is_next(leaf: &Leaf<'_>, walk: &Walk, most: u64) -> bool
+    ensures { IsTrue result ↔ IsNextNode most walk.now (Some (ALeaf leaf.now)) }
+{
+    let head = leaf.head();
+    head.feature == walk.feature
+        && head.previous == walk.previous
+        && leaf.len() as u64 == most.min(walk.left)
+}
+
+/// Takes the payload of the next page of a way, where it is the leaf that is next; whether it is.
+fn take_payload(
+    payload: &Payload,
+    walk: &mut Walk,
+    most: u64,
+    rows: u64,
+    survey: &mut Survey,
+) -> Result<bool, AllocError>
+    ensures next { IfOk result (λ whole. IsTrue whole
+        → IsNextNode most walk.old (node_of payload.now)) }
+    ensures turn { IfOk result (λ whole. IsTrue whole
+        → ComeInTurn walk.old.feature rows walk.old.last (legs_in (Some (node_of payload.now)))) }
+    ensures walk { IfOk result (λ whole. IsTrue whole
+        → walk.new ≡ after most walk.old (Some (node_of payload.now))) }
+    ensures noted { IfOk result (λ whole. IsTrue whole
+        → Notes (Some (node_of payload.now)) walk.old.page survey.old survey.new) }
+    ensures whole { IfOk result (λ whole. IsNextNode most walk.old (node_of payload.now)
+        → ComeInTurn walk.old.feature rows walk.old.last (legs_in (Some (node_of payload.now)))
+        → IsTrue whole) }
+{
+    let Some(leaf) = tbnode::leaf(payload) else {
+        return Ok(false);
+    };
+    prove!(leaf.len() > 0);
+    let Some(bounds) = cover_of(payload) else {
+        return Ok(false);
+    };
+    if !is_next(&leaf, walk, most) {
+        return Ok(false);
+    }
+    let first = leaf.leg(0).ordinal;
+    survey.leaves.push(Met {
+        first,
+        page: walk.page,
+        bounds,
+    })?;
+    let whole = take_legs(
+        &leaf,
+        walk.feature,
+        rows,
+        &mut walk.last,
+        &mut survey.ordinals,
+    )?;
+    walk.previous = walk.page;
+    walk.page = leaf.head().next;
+    walk.left = walk.left.saturating_sub(most);
+    Ok(whole)
+}
+
+/// Takes the next leaf of a way. Where its page is not that leaf it is malformed; where no page is
+/// named, or none is there, the page that names it is.
+fn take_leaf<S: PageStore>(
+    cache: &mut PageCache<S>,
+    walk: &mut Walk,
+    most: u64,
+    rows: u64,
+    survey: &mut Survey,
+) -> Result<(), SearchFault>
+    ensures taken { IsTrue cache.old.store.is_faithful → 0 < walk.old.left
+        → OnOk result (TakesLeaf (pages_of_cache cache.old) most rows walk.old walk.new survey.old
+        survey.new) }
+    ensures left { OnOk result (walk.new.left ≡ walk.old.left - most) }
+    ensures only { IsTrue cache.old.store.is_faithful
+        → IsLeafOf (pages_of_cache cache.old) most walk.old.feature walk.old.previous
+        walk.old.left walk.old.page
+        → ComeInTurn walk.old.feature rows walk.old.last
+        (legs_in ((pages_of_cache cache.old).at walk.old.page))
+        → IfErr result IsAllowed }
+    ensures reads { OnlyReads cache.old cache.new }
+    ensures caused { IfErr result (IsCaused cache.old cache.new) }
+    ensures works { IfErr result (λ fault. fault ≢ SearchFault.Spent) }
+{
+    if walk.page == 0 {
+        return Err(SearchFault::Malformed(walk.previous));
+    }
+    let payload = match cache.page(walk.page) {
+        Ok(payload) => payload,
+        Err(fault) => return Err(SearchFault::of(fault, walk.previous)),
+    };
+    let page = walk.page;
+    if take_payload(payload, walk, most, rows, survey)? {
+        Ok(())
+    } else {
+        Err(SearchFault::Malformed(page))
+    }
+}
+
+/// Whether the last leg of a way, if any, ends when the track does.
+fn ends(last: &Option<Leg>, track: &Track) -> bool
+    ensures { IsTrue result ↔ ((leg : LegView) → last.now ≡ Some leg → leg.t1 ≡ track.now.end) }
+{
+    match last {
+        None => true,
+        Some(leg) => leg.t1 == track.end,
+    }
+}
+
+/// Whether a way has come to the end of a feature's chain, as its place and its track say it.
+fn is_at_end(walk: &Walk, place: &Place, track: &Track) -> bool
+    ensures { IsTrue result ↔ IsAtEnd walk.now place.now track.now }
+{
+    walk.page == 0
+        && walk.previous == place.last
+        && track.legs == place.legs
+        && ends(&walk.last, track)
+}
+
+/// Notes the leaves of a feature, along its chain from the first to the last, as its place and its
+/// track say them.
+pub(crate) fn walk_chain<S: PageStore>(
+    cache: &mut PageCache<S>,
+    most: u64,
+    rows: u64,
+    feature: u32,
+    place: &Place,
+    track: &Track,
+    survey: &mut Survey,
+) -> Result<(), SearchFault>
+    requires { 0 < most }
+    ensures walked { IsTrue cache.old.store.is_faithful
+        → OnOk result (Walks (pages_of_cache cache.old) most rows feature place.now track.now
+        survey.old survey.new) }
+    ensures only { IsTrue cache.old.store.is_faithful → (pages : List ℕ)
+        → AreLeavesOf (pages_of_cache cache.old) most rows feature place.now track.now pages
+        → IfErr result IsAllowed }
+    ensures reads { OnlyReads cache.old cache.new }
+    ensures caused { IfErr result (IsCaused cache.old cache.new) }
+    ensures works { IfErr result (λ fault. fault ≢ SearchFault.Spent) }
+{
+    let mut walk = Walk {
+        feature,
+        previous: 0,
+        page: place.first,
+        left: place.legs,
+        last: None,
+    };
+    'leaves: for _ in 0..place.legs.div_ceil(most) {
+        take_leaf(cache, &mut walk, most, rows, survey)?;
+    }
+    if !is_at_end(&walk, place, track) {
+        return Err(SearchFault::Malformed(walk.previous));
+    }
+    Ok(())
+}
+
+/// The ordinal at a place; 0 where there is none.
+fn ordinal_at(ordinals: &[u64], place: usize) -> u64
+    ensures { result ≡ unwrap_or (slice_get ordinals.now place) 0 }
+{
+    match ordinals.get(place) {
+        Some(ordinal) => *ordinal,
+        None => 0,
+    }
+}
+
+/// Whether there are as many tracks as places.
+fn are_paired(places: &[Place], tracks: &Tracks) -> bool
+    ensures { IsTrue result ↔ (length tracks.now.tracks ≡ length places.now) }
+{
+    let _ = tracks.track(0);
+    tracks.feature_count() == places.len() as u64
+}
+
+/// Notes the leaves of each feature along its chain, as the places and the tracks say them.
+pub(crate) fn walk_all<S: PageStore>(
+    alloc: Global,
+    cache: &mut PageCache<S>,
+    most: u64,
+    rows: u64,
+    places: &[Place],
+    tracks: &Tracks,
+) -> Result<Survey, SearchFault>
+    requires { 0 < most }
+    ensures surveyed { IfOk result (λ survey. IsTrue cache.old.store.is_faithful
+        → Surveys (pages_of_cache cache.old) most rows places.now tracks.now.tracks survey) }
+    ensures only { IsTrue cache.old.store.is_faithful → length places.now < 2 ^ 32
+        → (chains : List (List ℕ))
+        → AreChains (pages_of_cache cache.old) most rows 0 places.now tracks.now.tracks chains
+        → IfErr result IsAllowed }
+    ensures reads { OnlyReads cache.old cache.new }
+    ensures caused { IfErr result (IsCaused cache.old cache.new) }
+    ensures works { IfErr result (λ fault. fault ≢ SearchFault.Spent) }
+{
+    let mut survey = Survey {
+        ordinals: Vec::new(alloc),
+        leaves: Vec::new(alloc),
+        firsts: Vec::new(alloc),
+    };
+    if !are_paired(places, tracks) {
+        return Err(SearchFault::Malformed(0));
+    }
+    if places.len() > u32::MAX as usize {
+        return Err(SearchFault::Malformed(0));
+    }
+    for feature in 0..places.len() as u32 {
+        let Some(track) = tracks.track(feature) else {
+            return Err(SearchFault::Malformed(0));
+        };
+        let start = survey.ordinals.len();
+        let place = &places[feature as usize];
+        walk_chain(cache, most, rows, feature, place, &track, &mut survey)?;
+        survey.firsts.push(ordinal_at(&survey.ordinals, start))?;
+    }
+    Ok(survey)
+}
