@@ -1,15 +1,14 @@
 -- A catalogue that is made of what its text says.
-use Rattle.std.proofs.Common.{◌||◌, inl, inr, ℕ, zero, suc, ◌≡◌, ◌≢◌, ◌+◌, ◌-◌, ◌*◌, ◌<◌, ◌≤◌, ◌^◌, ◌++◌, ◌∷◌, [], Bool, true, false, List, min, map, length, get_or, refl, sym, ap, ◌∙◌, arith, subst, IsTrue, Option, Some, None, nat_le}
+use Rattle.std.proofs.Common.{◌||◌, inl, inr, ℕ, zero, suc, ◌≡◌, ◌≢◌, ◌+◌, ◌-◌, ◌<◌, ◌≤◌, ◌^◌, ◌++◌, ◌∷◌, [], Bool, true, false, List, min, map, length, get_or, refl, sym, ap, ◌∙◌, arith, subst, IsTrue, Option, Some, None, nat_le}
 use Rattle.std.proofs.lemmas.Bool.Decides.{nat_tests}
-use Rattle.std.specs.Prelude.{All, AllPairs, sum_by, slice_get, bytes_eq, unwrap_or, option_map, ◌⊎◌, Result, Err, IfErr}
+use Rattle.std.specs.Prelude.{All, AllPairs, sum_by, slice_get, bytes_eq, unwrap_or, option_map, ◌⊎◌}
 use Rattle.std.specs.List.{list_any, range_with_len}
 use Rattle.std.proofs.lemmas.Int.{clamps}
-use Rattle.std.proofs.lemmas.List.{get_or-map, length-append, length-map, map-append}
+use Rattle.std.proofs.lemmas.List.{length-append, length-map, map-append}
 use Rattle.std.proofs.Math.ListN.{get_or-append}
 use Rattle.std.proofs.Math.Seq.{get_or-append_seam}
 use Rattle.std.proofs.lemmas.List.Quantifiers.{all_pairs_push}
 use Rattle.std.proofs.lemmas.List.Elements.{All-append}
-use Rattle.std.proofs.lemmas.List.Folds.{list_any_none}
 use Rattle.std.proofs.lemmas.List.Sums.{sum_by-append}
 use Rattle.std.proofs.lemmas.Option.{slice_get-map}
 use Rattle.std.proofs.lemmas.Slice.Eq.{bytes_eq-Decides}
@@ -18,17 +17,16 @@ use Rattle.legs.specs.declared.head.BookHead.{BookHead}
 use Rattle.legs.specs.declared.tracks.Track.{Track}
 use Rattle.tbtree.specs.declared.tree.Place.{Place}
 use Rattle.catalogue.specs.Building.{capped, with_track, AddsFeature, AreLawful, IsKnown, IsOf}
-use Rattle.catalogue.specs.Lasting.{tracks_of, IsLawful, IsLawfulFeature}
+use Rattle.catalogue.specs.Lasting.{tracks_of, IsLawfulFeature}
 use Rattle.catalogue.specs.Saved.{dimension_of, head_of, CatalogueView}
 use Rattle.timebase.specs.Instant.{IsMoment}
 use Rattle.catalogue.specs.declared.header_fields.Fields.{Fields}
-use Rattle.catalogue.specs.Saving.{contents_of, end_of, feature_at, features_of}
+use Rattle.catalogue.specs.Saving.{end_of, feature_at, features_of}
 use Rattle.tbtree.specs.Stands.{no_place}
+use Rattle.catalogue.specs.Text.{leg_sum, AreFew}
 use Rattle.catalogue.specs.declared.building.Known.{Known}
 use Rattle.catalogue.specs.declared.contents.Contents.{Contents}
 use Rattle.catalogue.specs.declared.contents.Feature.{Feature}
-use Rattle.catalogue.specs.declared.contents.Kept.{Kept}
-use Rattle.catalogue.specs.declared.fault.CatalogueFault.{CatalogueFault}
 
 -- a list that is made of the numbers of its places
 pub map_range : {V : Type 0} (f : ℕ → V) (xs : List V) (a : ℕ) → ((k : ℕ) (x : V) → slice_get xs k ≡ Some x → f (a + k) ≡ x) → map f (range_with_len a (length xs)) ≡ xs
@@ -186,6 +184,19 @@ module _ (count : ℕ) (fields : Fields) (contents : Contents) (c : CatalogueVie
       let least = of.lawful.few_legs in
       let limit = ap (λ l. l.legs) of.limits in
       omega (arith, clamps, rows, legs, sum, few, least, limit, most)
+
+-- a lawful catalogue has no more legs than the limit, and no more rows than legs, and so have the contents that it is of
+pub contents_few : (count : ℕ) (fields : Fields) (contents : Option Contents) (c : CatalogueView) (places : List Place) → IsOf count fields contents c places → AreFew fields.limits.legs contents
+contents_few count fields None c places of = tt
+contents_few count fields (Some contents) c places of =
+    let same = (of_contents count fields contents c places of).2 in
+    let fs = ap (λ (k : Contents). k.lists.features) same in
+    let rows = ap (λ (k : Contents). length k.lists.rows) same in
+    let sum : c.tracks.legs ≡ leg_sum contents.lists.features = ap (λ (t : TracksView). t.legs) of.lawful.tracks_are ∙ ap leg_sum fs in
+    let few = of.lawful.few_rows in
+    let most = of.lawful.few_legs in
+    let limit = ap (λ l. l.legs) of.limits in
+    record { legs = omega (arith, sum, most, limit); rows = omega (arith, rows, sum, few) }
 
 -- a lawful catalogue of contents
 pub whole_is : (count : ℕ) (fields : Fields) (contents : Contents) (c : CatalogueView) (places : List Place) (known : Known) (h : BookHead)

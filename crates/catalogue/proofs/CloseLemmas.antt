@@ -29,7 +29,8 @@ use Rattle.catalogue.specs.Finishing.{finished, Finishes, IsNotFinished, IsUnwri
 use Rattle.catalogue.specs.Holding.{index_over, HoldsBook, IsOfBook, IsUnfinishedStore}
 use Rattle.catalogue.specs.Lasting.{payload_fault, tracks_of, IsKept, IsLawful, IsLawfulFeature, IsWithin, Says}
 use Rattle.catalogue.specs.Saved.{CatalogueView, KeepsFront}
-use Rattle.catalogue.specs.Saving.{end_of, feature_at, features_of, HasFew, IsCatalogue}
+use Rattle.catalogue.specs.Saving.{contents_of, end_of, feature_at, features_of, HasFew, IsCatalogue}
+use Rattle.catalogue.specs.Text.{IsWhole}
 use Rattle.catalogue.specs.declared.contents.Feature.{Feature}
 use Rattle.catalogue.specs.declared.fault.CatalogueFault.{CatalogueFault}
 use Rattle.catalogue.specs.declared.fault.CatalogueFault.TheVariants.{Memory, StoreFull, Damaged, Unfinished, Version, Malformed}
@@ -236,7 +237,7 @@ module _ (a b : Cache) (m : IsMarked a) (settled : IsSettled a) (front : KeepsFr
 
 -- a saved index that is finished is held by its store
 module _ (laws : BesideLaws) (c : CatalogueView) (i : IndexView) (book : Book) (new : Cache) (sound : IsSound i) (of : IsOfBook c.limits book c) (legs : content i ≡ book.legs)
-    (lawful : IsLawful i.cache.count c i.places) (within : IsWithin i.cache.count i.tree) (says : Says (payload_of i.cache) i.cache.count c i.tree i.places)
+    (lawful : IsLawful i.cache.count c i.places) (within : IsWithin i.cache.count i.tree) (says : Says (payload_of i.cache) i.cache.count c i.tree i.places) (whole : IsWhole (contents_of c i.places))
     (header : Payload) (is : payload_of i.cache 0 ≡ Some header) (unfinished : IsUnfinished header)
     (f : Finishes i.cache new) (stored : IsLawfulStore new.store) (faithful : new.store.is_faithful ≡ i.cache.store.is_faithful) where
   abbrev s : Store
@@ -248,6 +249,7 @@ module _ (laws : BesideLaws) (c : CatalogueView) (i : IndexView) (book : Book) (
   kept : IsKept (stored_payload s) s.count c i.tree i.places
   kept = subst (λ n. IsKept (stored_payload s) n c i.tree i.places) (sound.count ∙ sym f.length) (record {
     says = finished_says (payload_of i.cache) (stored_payload s) f.header f.stored_rest f.was f.stored_first was_unfinished.kind i.cache.count c i.tree i.places says;
+    whole = whole;
     finished = ap payload_fault f.stored_first ∙ finished_header f.header was_unfinished;
     within = within;
     works = sound.works;
@@ -280,12 +282,13 @@ module _ (laws : BesideLaws) (c : CatalogueView) (i : IndexView) (book : Book) (
         };
       }
 
-  pub closed_holds : HoldsBook s c.limits book
+  pub closed_holds : HoldsBook s i.tree.shape c.limits book
   closed_holds = record {
     catalogue = c;
     tree = i.tree;
     places = i.places;
     kept = kept;
+    shape_is = refl;
     of = of;
     sound = subst (λ n. IsSound (index_over s i.tree i.places n)) (sound.counted ∙ ap length legs) (laws.sound i (fresh s 1) beside sound);
     legs = laws.content i (fresh s 1) beside ∙ legs;

@@ -1,10 +1,11 @@
 -- Columns, features, rows and what is made of them: what is lacking where a part is not there.
-use Rattle.std.proofs.Common.{ℕ, ◌≡◌, ◌<◌, List, ◌++◌, length, refl, sym, subst, All, ℤ, Option, option_map}
+use Rattle.std.proofs.Common.{ℕ, ◌≡◌, ◌<◌, ◌-◌, ◌^◌, min, List, ◌++◌, length, refl, sym, ap, arith, subst, All, ℤ, Option, Some, option_map}
+use Rattle.std.proofs.lemmas.Int.{clamps}
 use Rattle.std.specs.List.{flat_map}
 use Rattle.byteorder.specs.Endian.{big_bytes}
 use Rattle.mfcsv.specs.declared.Column.{Column}
 use Rattle.tbnode.specs.Parts.{signed_bytes}
-use Rattle.catalogue.specs.Text.{short_text, column_text, columns_text, contents_text, feature_text, features_text, head_text, kept_text, lists_text, row_text, rows_text, space_text, AreColumns, AreContents, AreFeatures, AreLists, AreRows, HasColumns, HasFeatures, HasRows, IsColumn, IsFeature, IsHead, IsKept, IsNumber, IsRow, IsShortText, IsSigned, IsSpace}
+use Rattle.catalogue.specs.Text.{short_text, column_text, columns_text, contents_text, feature_text, features_text, head_text, kept_text, lists_text, row_text, rows_text, space_text, leg_sum, AreColumns, AreFeatures, AreFewRows, AreLists, AreRead, AreRows, HasColumns, HasFeatures, HasRows, IsColumn, IsFeature, IsHead, IsKept, IsNumber, IsRead, IsRow, IsShortText, IsSigned, IsSpace}
 use Rattle.catalogue.specs.declared.contents.Contents.{Contents}
 use Rattle.catalogue.specs.declared.contents.Feature.{Feature}
 use Rattle.catalogue.specs.declared.contents.Head.{Head}
@@ -37,11 +38,20 @@ no_base old h = first_lacks signed_bytes space_text IsSigned IsSpace signed_free
 pub no_space : (a : ℤ) (old mid : Option (List ℕ)) → IsSigned a → old ≡ option_map (λ s. signed_bytes a ++ s) mid → Lacks space_text IsSpace mid → Lacks head_text IsHead old
 no_space a old mid h is l = second_lacks signed_bytes space_text IsSigned IsSpace signed_free (λ (v : Head). v.base) (λ (v : Head). v.space) IsHead (λ v k. (k.base, k.space)) a old mid h is l
 
-pub no_features_list : (columns : ℕ) (old : Option (List ℕ)) → Lacks features_text HasFeatures old → Lacks lists_text (AreLists columns) old
-no_features_list columns old h = first_lacks features_text rows_text HasFeatures (HasRows columns) features_free (λ (v : Lists). v.features) (λ (v : Lists). v.rows) (AreLists columns) (λ v k. (k.features, k.rows)) old h
+pub no_features_list : (columns most : ℕ) (old : Option (List ℕ)) → Lacks features_text HasFeatures old → Lacks lists_text (AreRead columns most) old
+no_features_list columns most old h = first_lacks features_text rows_text HasFeatures (HasRows columns) features_free (λ (v : Lists). v.features) (λ (v : Lists). v.rows) (AreRead columns most) (λ v k. (k.are.features, k.are.rows)) old h
 
-pub no_rows_list : (columns : ℕ) (a : List Feature) (old mid : Option (List ℕ)) → HasFeatures a → old ≡ option_map (λ s. features_text a ++ s) mid → Lacks rows_text (HasRows columns) mid → Lacks lists_text (AreLists columns) old
-no_rows_list columns a old mid h is l = second_lacks features_text rows_text HasFeatures (HasRows columns) features_free (λ (v : Lists). v.features) (λ (v : Lists). v.rows) (AreLists columns) (λ v k. (k.features, k.rows)) a old mid h is l
+pub no_rows_list : (columns most legs : ℕ) (a : List Feature) (old mid : Option (List ℕ)) → legs ≡ min (leg_sum a) (2 ^ 64 - 1) → HasFeatures a → old ≡ option_map (λ s. features_text a ++ s) mid → Lacks rows_text (AreFewRows columns legs) mid → Lacks lists_text (AreRead columns most) old
+no_rows_list columns most legs a old mid sum h is l = dependent_lacks features_text rows_text HasFeatures (HasRows columns) features_free (λ (v : Lists). v.features) (λ (v : Lists). v.rows) (AreRead columns most) (λ v k. (k.are.features, k.are.rows)) a old mid h is
+    (λ v t k same e. l v.rows t (record {
+      has = k.are.rows;
+      few = let s = ap leg_sum same in let few = k.few.rows in let n = k.are.rows.few in omega (arith, clamps, sum, s, few, n);
+    }) e)
+
+-- there are more legs than so many
+pub too_many_legs : (columns most : ℕ) (a : List Feature) (old mid : Option (List ℕ)) → HasFeatures a → old ≡ option_map (λ s. features_text a ++ s) mid → most < leg_sum a → Lacks lists_text (AreRead columns most) old
+too_many_legs columns most a old mid h is l = dependent_lacks features_text rows_text HasFeatures (HasRows columns) features_free (λ (v : Lists). v.features) (λ (v : Lists). v.rows) (AreRead columns most) (λ v k. (k.are.features, k.are.rows)) a old mid h is
+    (λ v t k same e. absurd (let s = ap leg_sum same in let few = k.few.legs in omega (arith, l, s, few)))
 
 -- where one is not there, so many are not
 pub no_columns : (xs : List Column) (old mid : Option (List ℕ)) (n : ℕ) → All IsColumn xs → length xs < n → old ≡ option_map (λ s. flat_map column_text xs ++ s) mid → Lacks column_text IsColumn mid → Lacks (λ l. flat_map column_text l) (AreColumns n) old
@@ -71,17 +81,22 @@ pub no_counted_features : (count : ℕ) (old mid : Option (List ℕ)) → IsNumb
 no_counted_features count old mid h is l = dependent_lacks (big_bytes 4) (λ l. flat_map feature_text l) (IsNumber 32) (λ _. Unit {0}) (numbers_free 4 32 refl) (λ (l : List Feature). length l) (λ (l : List Feature). l) HasFeatures (λ v k. (k.few, tt)) count old mid h is
     (λ v t k same e. l v t (record { each = k.each; many = sym same }) e)
 
-pub no_row_count : (columns : ℕ) (old : Option (List ℕ)) → Lacks (big_bytes 4) (IsNumber 32) old → Lacks rows_text (HasRows columns) old
-no_row_count columns old h = first_lacks (big_bytes 4) (λ l. flat_map row_text l) (IsNumber 32) (λ _. Unit {0}) (numbers_free 4 32 refl) (λ (l : List (List (List ℕ))). length l) (λ (l : List (List (List ℕ))). l) (HasRows columns) (λ v k. (k.few, tt)) old h
+pub no_row_count : (columns most : ℕ) (old : Option (List ℕ)) → Lacks (big_bytes 4) (IsNumber 32) old → Lacks rows_text (AreFewRows columns most) old
+no_row_count columns most old h = first_lacks (big_bytes 4) (λ l. flat_map row_text l) (IsNumber 32) (λ _. Unit {0}) (numbers_free 4 32 refl) (λ (l : List (List (List ℕ))). length l) (λ (l : List (List (List ℕ))). l) (AreFewRows columns most) (λ v k. (k.has.few, tt)) old h
 
-pub no_counted_rows : (columns : ℕ) (count : ℕ) (old mid : Option (List ℕ)) → IsNumber 32 count → old ≡ option_map (λ s. big_bytes 4 count ++ s) mid → Lacks (λ l. flat_map row_text l) (AreRows columns count) mid → Lacks rows_text (HasRows columns) old
-no_counted_rows columns count old mid h is l = dependent_lacks (big_bytes 4) (λ l. flat_map row_text l) (IsNumber 32) (λ _. Unit {0}) (numbers_free 4 32 refl) (λ (l : List (List (List ℕ))). length l) (λ (l : List (List (List ℕ))). l) (HasRows columns) (λ v k. (k.few, tt)) count old mid h is
-    (λ v t k same e. l v t (record { each = k.each; many = sym same }) e)
+pub no_counted_rows : (columns most : ℕ) (count : ℕ) (old mid : Option (List ℕ)) → IsNumber 32 count → old ≡ option_map (λ s. big_bytes 4 count ++ s) mid → Lacks (λ l. flat_map row_text l) (AreRows columns count) mid → Lacks rows_text (AreFewRows columns most) old
+no_counted_rows columns most count old mid h is l = dependent_lacks (big_bytes 4) (λ l. flat_map row_text l) (IsNumber 32) (λ _. Unit {0}) (numbers_free 4 32 refl) (λ (l : List (List (List ℕ))). length l) (λ (l : List (List (List ℕ))). l) (AreFewRows columns most) (λ v k. (k.has.few, tt)) count old mid h is
+    (λ v t k same e. l v t (record { each = k.has.each; many = sym same }) e)
+
+-- there are more than so many
+pub too_many_rows : (columns most : ℕ) (count : ℕ) (old mid : Option (List ℕ)) → IsNumber 32 count → old ≡ option_map (λ s. big_bytes 4 count ++ s) mid → most < count → Lacks rows_text (AreFewRows columns most) old
+too_many_rows columns most count old mid h is l = dependent_lacks (big_bytes 4) (λ l. flat_map row_text l) (IsNumber 32) (λ _. Unit {0}) (numbers_free 4 32 refl) (λ (l : List (List (List ℕ))). length l) (λ (l : List (List (List ℕ))). l) (AreFewRows columns most) (λ v k. (k.has.few, tt)) count old mid h is
+    (λ v t k same e. absurd (let few = k.few in omega (arith, l, same, few)))
 
 -- a whole text
-pub no_head : (old : Option (List ℕ)) → Lacks head_text IsHead old → Lacks contents_text AreContents old
-no_head old h = first_lacks head_text lists_text IsHead (λ _. Unit {0}) head_free (λ (v : Contents). v.head) (λ (v : Contents). v.lists) AreContents (λ v k. (k.head, tt)) old h
+pub no_head : (most : ℕ) (old : Option (List ℕ)) → Lacks head_text IsHead old → Lacks contents_text (λ contents. IsRead most (Some contents)) old
+no_head most old h = first_lacks head_text lists_text IsHead (λ _. Unit {0}) head_free (λ (v : Contents). v.head) (λ (v : Contents). v.lists) (λ contents. IsRead most (Some contents)) (λ v k. (k.whole.head, tt)) old h
 
-pub no_lists : (head : Head) (old mid : Option (List ℕ)) → IsHead head → old ≡ option_map (λ s. head_text head ++ s) mid → Lacks lists_text (AreLists (length head.space.columns)) mid → Lacks contents_text AreContents old
-no_lists head old mid h is l = dependent_lacks head_text lists_text IsHead (λ _. Unit {0}) head_free (λ (v : Contents). v.head) (λ (v : Contents). v.lists) AreContents (λ v k. (k.head, tt)) head old mid h is
-    (λ v t k same e. l v.lists t (subst (λ (x : Head). AreLists (length x.space.columns) v.lists) (sym same) k.lists) e)
+pub no_lists : (most : ℕ) (head : Head) (old mid : Option (List ℕ)) → IsHead head → old ≡ option_map (λ s. head_text head ++ s) mid → Lacks lists_text (AreRead (length head.space.columns) most) mid → Lacks contents_text (λ contents. IsRead most (Some contents)) old
+no_lists most head old mid h is l = dependent_lacks head_text lists_text IsHead (λ _. Unit {0}) head_free (λ (v : Contents). v.head) (λ (v : Contents). v.lists) (λ contents. IsRead most (Some contents)) (λ v k. (k.whole.head, tt)) head old mid h is
+    (λ v t k same e. l v.lists t (record { are = subst (λ (x : Head). AreLists (length x.space.columns) v.lists) (sym same) k.whole.lists; few = k.few }) e)

@@ -103,7 +103,6 @@ finished_says at at' p others is is' kind count c tree places s = record {
   limits = s.limits;
   few = s.few;
   text = same_text at at' others p (finished p) is is' kind kind s.length s.first ∙ s.text;
-  whole = s.whole;
 }
 
 not_first : (n : ℕ) → 0 < n → (0 == n) ≡ false

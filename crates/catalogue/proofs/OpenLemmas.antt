@@ -1,12 +1,12 @@
 -- A store that is opened.
-use Rattle.std.proofs.Common.{ℕ, ◌≡◌, ◌<◌, ◌≤◌, [], List, true, length, take, refl, sym, ap, ◌∙◌, arith, subst, IsTrue, Option, Some, None, if◌then◌else◌, option_and_then, slice_get}
+use Rattle.std.proofs.Common.{ℕ, ◌≡◌, [], List, true, length, refl, sym, ap, ◌∙◌, arith, subst, IsTrue, Option, if◌then◌else◌, option_and_then, slice_get}
 use Rattle.std.proofs.lemmas.List.{take_all}
 use Rattle.legs.specs.Book.{Book}
-use Rattle.legs.specs.Legs.{LegView}
+use Rattle.legs.specs.Costs.{ShapeView}
 use Rattle.legs.specs.Limits.{LimitsView}
 use Rattle.pages.specs.Store.{Store, IsLawful, Stays}
 use Rattle.pages.specs.declared.payload.Payload.{Payload}
-use Rattle.pagecache.specs.Cache.{fresh, pages_as_written, page_of, payload_of, sealed_payload, stored_payload, in_memory, Cache, IsClean, IsWritten}
+use Rattle.pagecache.specs.Cache.{fresh, pages_as_written, page_of, payload_of, sealed_payload, stored_payload, Cache, IsClean, IsWritten}
 use Rattle.pages.specs.Unsealed.{unsealed}
 use Rattle.chains.specs.Reads.{OnlyReads}
 use Rattle.boxsearch.specs.Beside.{with_cache, IsBeside}
@@ -14,7 +14,7 @@ use Rattle.boxsearch.specs.Index.{content, written, IndexView, IsSound}
 use Rattle.tbtree.specs.declared.tree.Place.{Place}
 use Rattle.tbtree.specs.declared.tree.TbTree.{TbTree}
 use Rattle.catalogue.specs.Holding.{index_over, payload_in, AnswersBook, HoldsBook, IsAtRest, IsOfBook}
-use Rattle.catalogue.specs.Lasting.{IsKept, IsStop}
+use Rattle.catalogue.specs.Lasting.{IsKept, IsStop, IsTrulyDamaged}
 use Rattle.catalogue.specs.declared.fault.CatalogueFault.{CatalogueFault}
 use Rattle.catalogue.specs.declared.fault.CatalogueFault.TheVariants.{Memory, StoreFull, Damaged, Unfinished, Version, Malformed}
 use Rattle.catalogue.specs.declared.fault.CatalogueFault.TheVariants as fault
@@ -70,7 +70,7 @@ module _ (a b : Cache) (reads : OnlyReads a b) (clean : IsWritten a) (count : a.
           → (IsTrue old.store.is_faithful → (n : ℕ) → payload_of new n ≡ payload_of old n) → IsBeside old new)
           (same_content : (i : IndexView) (k : Cache) → IsBeside i.cache k → content (with_cache i k) ≡ content i)
           (same_sound : (i : IndexView) (k : Cache) → IsBeside i.cache k → IsSound i → IsSound (with_cache i k))
-          (limits : LimitsView) (book : Book) (h : HoldsBook a.store limits book) where
+          (shape : ShapeView) (limits : LimitsView) (book : Book) (h : HoldsBook a.store shape limits book) where
         same : IsSame c h.catalogue tree h.tree places h.places
         same = kept_same (stored_payload a.store) a.store.count c h.catalogue tree h.tree places h.places kept_stored h.kept
 
@@ -89,18 +89,29 @@ module _ (a b : Cache) (reads : OnlyReads a b) (clean : IsWritten a) (count : a.
             let k = sym cache in
             (λ i. record { cache = k i; tree = t i; places = p i; legs = l i })
 
-        pub opened_book : AnswersBook limits book c index
+        pub opened_book : AnswersBook shape limits book c index
         opened_book = record {
+          shape_is = ap (λ (t : TbTree). t.shape) (tree_is ∙ same.tree_is) ∙ h.shape_is;
           of = of;
           sound = subst IsSound this (same_sound (index_over a.store h.tree h.places (length book.legs)) b beside h.sound);
           legs = ap (λ i. content i) (sym this) ∙ same_content (index_over a.store h.tree h.places (length book.legs)) b beside ∙ h.legs;
         }
 
 -- what is held is kept
-pub opened_held : (a : Cache) → IsWritten a → a.count ≡ a.store.count → IsTrue a.store.is_faithful → (limits : LimitsView) (book : Book) (h : HoldsBook a.store limits book) → IsKept (payload_of a) a.count h.catalogue h.tree h.places
-opened_held a clean count fa limits book h =
+pub opened_held : (a : Cache) → IsWritten a → a.count ≡ a.store.count → IsTrue a.store.is_faithful → (shape : ShapeView) (limits : LimitsView) (book : Book) (h : HoldsBook a.store shape limits book) → IsKept (payload_of a) a.count h.catalogue h.tree h.places
+opened_held a clean count fa shape limits book h =
     let at : payload_of a ≡ stored_payload a.store = (λ i n. clean.stored fa count n i) in
     subst (λ n. IsKept (payload_of a) n h.catalogue h.tree h.places) (sym count) (subst (λ (f : ℕ → Option Payload). IsKept f a.store.count h.catalogue h.tree h.places) (sym at) h.kept)
+
+-- a page that is damaged in a cache that has read none is so in its store
+pub opened_damaged : (a : Cache) → IsWritten a → a.count ≡ a.store.count → (e : CatalogueFault) → IsTrulyDamaged a.store.is_faithful (payload_of a) a.count e → IsTrulyDamaged a.store.is_faithful (stored_payload a.store) a.store.count e
+opened_damaged a clean count Memory h = tt
+opened_damaged a clean count fault.Store h = tt
+opened_damaged a clean count StoreFull h = tt
+opened_damaged a clean count (Damaged n) h = (let l = h.0 in omega (arith, l, count), λ fa. sym (clean.stored fa count n) ∙ h.1 fa)
+opened_damaged a clean count Unfinished h = tt
+opened_damaged a clean count Version h = tt
+opened_damaged a clean count Malformed h = tt
 
 -- what is no other fault is memory or the store
 pub stop_of : (e : CatalogueFault) → ((IsStop e → ⊥) → ⊥) → IsStop e

@@ -1,7 +1,8 @@
 -- The text that is left in a chain of pages.
-use Rattle.std.proofs.Common.{ℕ, suc, ◌≡◌, ◌-◌, ◌<◌, ◌≤◌, ◌==◌, min, Bool, true, false, cond, List, [], ◌++◌, drop, length, refl, sym, ap, ◌∙◌, arith, subst, IsTrue, Option, Some, None, option_map, option_and_then, Result, Ok, Err, OnOk}
+use Rattle.std.proofs.Common.{ℕ, suc, ◌≡◌, ◌-◌, ◌<◌, ◌≤◌, ◌==◌, min, Bool, true, false, cond, List, [], ◌++◌, drop, length, refl, sym, ap, ◌∙◌, arith, subst, ⊎_elim, IsTrue, Option, Some, None, option_map, option_and_then, Result, Ok, Err, OnOk}
 use Rattle.std.specs.Prelude.{IfErr}
 use Rattle.std.specs.Int.{div_ceil}
+use Rattle.std.proofs.lemmas.Bool.{cases_lt}
 use Rattle.std.proofs.lemmas.Grind.{div_ceil_times}
 use Rattle.std.proofs.lemmas.Int.{clamps}
 use Rattle.std.proofs.lemmas.List.{append-nil, append_assoc, drop-append-le}
@@ -11,7 +12,7 @@ use Rattle.pagecache.specs.declared.fault.CacheFault.{CacheFault}
 use Rattle.pagecache.specs.declared.fault.CacheFault.TheVariants as cache
 use Rattle.chains.specs.Reads.{OnlyReads}
 use Rattle.catalogue.specs.Chain.{most_used, is_part, next_in, text_in, chain_text, text_at}
-use Rattle.catalogue.specs.ChainReader.{ReaderView, fault_of, rest_of, IsBroken, IsPageFault, TakesPart}
+use Rattle.catalogue.specs.ChainReader.{ReaderView, fault_of, rest_of, IsBroken, IsPageFault, IsReadFault, TakesPart}
 use Rattle.catalogue.specs.declared.fault.CatalogueFault.{CatalogueFault}
 use Rattle.catalogue.specs.declared.fault.CatalogueFault.TheVariants.{Memory, Store, StoreFull, Damaged, Unfinished, Version, Malformed}
 
@@ -140,6 +141,21 @@ refused_none n a b cache.Store h k f = absurd k
 refused_none n a b (cache.Damaged m) h k f = h.1 f
 refused_none n a b cache.StoreFull h k f = absurd k
 refused_none n a b cache.Memory h k f = absurd k
+
+-- a page that is not read for a fault of its own is there, and has no payload
+pub refused_read : (n : ℕ) (a b : Cache) (e : CacheFault) → Rests a b → (a.count ≤ n → e ≡ cache.NoPage) → IsRefused n e a b → IsReadFault a b (fault_of e)
+refused_read n a b cache.NoPage rests out h = tt
+refused_read n a b cache.Store rests out h = h
+refused_read n a b (cache.Damaged m) rests out h =
+    let count = rests.stays.count in
+    let same : n ≡ m = sym h.0 in (
+      ⊎_elim (λ (l : n < a.count). omega (arith, l, count, same)) (λ (l : a.count ≤ n). absurd (damaged_not (out l))) (cases_lt n a.count),
+      λ fb. let fa = sym rests.stays.keeps.store.faithful ∙ fb in ap (payload_of b) (sym same) ∙ rests.stays.payloads fa n ∙ h.1 fa,
+    ) where
+      damaged_not : cache.Damaged m ≡ cache.NoPage → ⊥
+      damaged_not e = absurd cc
+refused_read n a b cache.StoreFull rests out h = h
+refused_read n a b cache.Memory rests out h = tt
 
 -- the next page is read
 module _ (a b : Cache) (old : ReaderView) (n : ℕ) (named : n ≡ old.next) (rests : Rests a b) (some : 0 < old.left) where

@@ -112,12 +112,13 @@ module _ (laws : BesideLaws) (c : CatalogueView) (i : IndexView) (book : Book) (
   legs_are : i.legs ≡ length book.legs
   legs_are = sound.counted ∙ ap (λ l. length l) legs
 
-  pub rest_holds : HoldsBook s c.limits book
+  pub rest_holds : HoldsBook s i.tree.shape c.limits book
   rest_holds = record {
     catalogue = c;
     tree = i.tree;
     places = i.places;
     kept = kept;
+    shape_is = refl;
     of = of;
     sound = subst (λ n. IsSound (index_over s i.tree i.places n)) legs_are (laws.sound i (fresh s 1) beside sound);
     legs = laws.content i (fresh s 1) beside ∙ legs;

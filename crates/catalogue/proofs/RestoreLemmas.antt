@@ -1,6 +1,5 @@
 -- What page 0 and the text say is told apart, and makes a catalogue that is kept.
-use Rattle.std.proofs.Common.{ℕ, ◌≡◌, ◌<◌, ◌≤◌, ◌^◌, ◌++◌, [], List, false, refl, sym, ap, ◌∙◌, arith, subst, Option, Some, None}
-use Rattle.std.proofs.lemmas.List.{append-nil}
+use Rattle.std.proofs.Common.{ℕ, ◌≡◌, ◌++◌, [], List, refl, sym, ap, ◌∙◌, arith, subst, Option, Some}
 use Rattle.byteorder.specs.Endian.{big_bytes}
 use Rattle.legs.specs.Limits.{IsLimits}
 use Rattle.pages.specs.declared.payload.Payload.{Payload}
@@ -9,14 +8,15 @@ use Rattle.tbtree.specs.declared.tree.Place.{Place}
 use Rattle.tbtree.specs.declared.tree.TbTree.{TbTree}
 use Rattle.catalogue.specs.Building.{tree_of, IsOf}
 use Rattle.catalogue.specs.Fields.{fields_bytes, FitsFields, HasFields}
-use Rattle.catalogue.specs.Lasting.{header_fault, payload_fault, IsKept, IsStop, IsWithin}
-use Rattle.catalogue.specs.Restoring.{HeaderSays, HoldsContents, IsRest, SaysFields}
+use Rattle.catalogue.specs.Lasting.{payload_fault, IsKept, IsStop, IsTrulyDamaged, IsWithin}
+use Rattle.catalogue.specs.Restoring.{HoldsContents, IsRest, SaysFields}
 use Rattle.catalogue.specs.Saved.{fields_for, CatalogueView}
 use Rattle.catalogue.specs.Saving.{contents_of}
 use Rattle.catalogue.specs.Text.{catalogue_text, IsWhole}
 use Rattle.catalogue.specs.declared.contents.Contents.{Contents}
 use Rattle.catalogue.specs.declared.header_fields.Fields.{Fields}
-use Rattle.pages.specs.Store.{Store}
+use Rattle.pagecache.specs.Cache.{payload_of, Cache}
+use Rattle.chains.specs.Reads.{OnlyReads}
 use Rattle.catalogue.specs.ChainReader.{IsBroken, IsReadFault}
 use Rattle.catalogue.specs.declared.fault.CatalogueFault.{CatalogueFault}
 use Rattle.catalogue.specs.declared.fault.CatalogueFault.TheVariants.{Memory, StoreFull, Damaged, Unfinished, Version, Malformed}
@@ -77,8 +77,8 @@ rest_kept at count fields c places says rest =
         limits = subst IsLimits (sym rest.of.limits) says.says.limits;
         few = rest.holds.few;
         text = rest.holds.text ∙ ap (λ k. Some (catalogue_text k)) (sym is);
-        whole = subst (λ k. IsWhole k) (sym is) rest.holds.whole;
       };
+      whole = subst (λ k. IsWhole k) (sym is) rest.holds.whole;
       finished = ap payload_fault says.is ∙ says.says.finished;
       within = rest.within;
       works = refl;
@@ -111,12 +111,12 @@ module _ (at : ℕ → Option Payload) (count : ℕ) (c : CatalogueView) (tree :
   kept_rest = record {
     within = subst (IsWithin count) (sym kept_tree) k.within;
     contents = contents_of c places;
-    holds = record { few = k.says.few; text = k.says.text; whole = k.says.whole };
+    holds = record { few = k.says.few; text = k.says.text; whole = k.whole };
     of = record { contents_are = refl; limits = refl; dimension = refl; lawful = k.lawful };
   }
 
 -- a fault of reading that is none of memory and of the store is one of the pages
-pub broken_of : (old new : Store) (e : CatalogueFault) → IsReadFault old new e → (IsStop e → ⊥) → IsBroken e
+pub broken_of : (old new : Cache) (e : CatalogueFault) → IsReadFault old new e → (IsStop e → ⊥) → IsBroken e
 broken_of old new Memory h not = absurd (not tt)
 broken_of old new fault.Store h not = absurd (not tt)
 broken_of old new StoreFull h not = absurd h
@@ -124,6 +124,20 @@ broken_of old new (Damaged n) h not = tt
 broken_of old new Unfinished h not = absurd h
 broken_of old new Version h not = absurd h
 broken_of old new Malformed h not = tt
+
+-- a page that a reading says to be damaged was so before
+pub damaged_of : (a b c : Cache) (e : CatalogueFault) → OnlyReads a b → OnlyReads b c → IsReadFault b c e → IsTrulyDamaged a.store.is_faithful (payload_of a) a.count e
+damaged_of a b c Memory p q h = tt
+damaged_of a b c fault.Store p q h = tt
+damaged_of a b c StoreFull p q h = tt
+damaged_of a b c (Damaged n) p q h =
+    let l = h.0 in
+    let m = q.count in
+    let k = p.count in
+    (omega (arith, l, m, k), λ fa. let fb = p.store.faithful ∙ fa in sym (q.payloads fb n ∙ p.payloads fa n) ∙ h.1 (q.store.faithful ∙ fb))
+damaged_of a b c Unfinished p q h = tt
+damaged_of a b c Version p q h = tt
+damaged_of a b c Malformed p q h = tt
 
 -- a text says no lawful catalogue, where what was read of it is none
 pub no_rest : (at : ℕ → Option Payload) (count : ℕ) (fields : Fields) (contents : Option Contents) → HoldsContents at count fields.first fields.length contents

@@ -1,8 +1,7 @@
 -- Pages keep one catalogue, one tree and one list of places.
-use Rattle.std.proofs.Common.{ℕ, ◌≡◌, ◌≤◌, ◌⊎◌, inl, inr, [], ◌∷◌, List, length, map, refl, sym, ap, ◌∙◌, arith, subst, Option, Some, None, option_map}
+use Rattle.std.proofs.Common.{ℕ, ◌≡◌, ◌≤◌, inl, inr, [], ◌∷◌, List, length, map, refl, sym, ap, ◌∙◌, arith, subst, Option, Some, None, option_map}
 use Rattle.legs.specs.Tracks.{TracksView}
 use Rattle.legs.specs.declared.head.BookHead.{BookHead}
-use Rattle.legs.specs.Limits.{LimitsView}
 use Rattle.mfcsv.specs.declared.Dimension.{Dimension}
 use Rattle.mfcsv.specs.declared.Dimension.TheVariants.{Two, Three}
 use Rattle.pages.specs.declared.payload.Payload.{Payload}
@@ -11,11 +10,9 @@ use Rattle.tbtree.specs.declared.tree.TbTree.{TbTree}
 use Rattle.catalogue.specs.Building.{number_of, tree_of, IsOf}
 use Rattle.catalogue.specs.Lasting.{tracks_of, IsKept, IsLawful}
 use Rattle.catalogue.specs.Restoring.{IsRest}
-use Rattle.catalogue.specs.Saved.{dimension_of, fields_for, head_of, CatalogueView}
+use Rattle.catalogue.specs.Saved.{dimension_of, head_of, CatalogueView}
 use Rattle.catalogue.specs.Saving.{contents_of, features_of}
 use Rattle.catalogue.specs.declared.contents.Contents.{Contents}
-use Rattle.catalogue.specs.declared.contents.Feature.{Feature}
-use Rattle.catalogue.specs.declared.contents.Head.{Head}
 use Rattle.catalogue.specs.declared.header_fields.Fields.{Fields}
 use Rattle.catalogue.proofs.BuildLemmas.{none_some, of_contents, some_or_none}
 use Rattle.catalogue.proofs.RestoreLemmas.{contents_same, fields_kept, fields_same, kept_fields, kept_rest, kept_tree}

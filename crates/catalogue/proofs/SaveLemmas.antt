@@ -19,7 +19,7 @@ use Rattle.catalogue.specs.Fields.{FitsFields, HasFields}
 use Rattle.catalogue.specs.Lasting.{Says}
 use Rattle.catalogue.specs.Saved.{fields_for, CatalogueView, KeepsFront}
 use Rattle.catalogue.specs.Saving.{contents_of, PutsFields}
-use Rattle.catalogue.specs.Text.{catalogue_text, IsWhole}
+use Rattle.catalogue.specs.Text.{catalogue_text}
 use Rattle.catalogue.specs.declared.header_fields.Fields.{Fields}
 use Rattle.catalogue.proofs.ReaderLemmas.{some_none}
 
@@ -84,8 +84,8 @@ module _ (c d : Cache) (fields : Fields) (puts : PutsFields fields c d) where
 
     -- page 0 says where the text is, and the text is there
     pub says : (catalogue : CatalogueView) (tree t : TbTree) (places ps : List Place) (first length : ℕ) → fields ≡ fields_for catalogue.limits catalogue.head t first length → FitsFields fields × IsShape fields.shape × IsLimits fields.limits → tree ≡ t → places ≡ ps
-        → HasText c length first (catalogue_text (contents_of catalogue ps)) → div_ceil length most_used ≤ c.count → IsWhole (contents_of catalogue ps) → Says (payload_of d) d.count catalogue tree places
-    says catalogue tree t places ps first length are fits same same_places text few whole =
+        → HasText c length first (catalogue_text (contents_of catalogue ps)) → div_ceil length most_used ≤ c.count → Says (payload_of d) d.count catalogue tree places
+    says catalogue tree t places ps first length are fits same same_places text few =
         let e : fields ≡ fields_for catalogue.limits catalogue.head tree first length = are ∙ ap (λ t. fields_for catalogue.limits catalogue.head t first length) (sym same) in
         let n = puts_count in
         record {
@@ -99,5 +99,4 @@ module _ (c d : Cache) (fields : Fields) (puts : PutsFields fields c d) where
           limits = subst (λ (f : Fields). IsLimits f.limits) e fits.2;
           few = omega (arith, few, n);
           text = text (payload_of d) (other fc) ∙ ap (λ l. Some (catalogue_text (contents_of catalogue l))) (sym same_places);
-          whole = subst (λ l. IsWhole (contents_of catalogue l)) (sym same_places) whole;
         }

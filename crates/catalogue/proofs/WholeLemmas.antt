@@ -9,7 +9,7 @@ use Rattle.pages.specs.declared.payload.Payload.{Payload}
 use Rattle.tbnode.specs.Parts.{part}
 use Rattle.catalogue.specs.Chain.{most_used, is_catalogue, is_part, next_in, text_in, chain_text, text_at}
 use Rattle.catalogue.specs.ChainReader.{ReaderView, rest_of}
-use Rattle.catalogue.specs.Text.{body_text, catalogue_text, IsBody, IsWhole}
+use Rattle.catalogue.specs.Text.{body_text, catalogue_text, IsBody, IsRead, IsWhole}
 use Rattle.catalogue.specs.declared.contents.Contents.{Contents}
 use Rattle.catalogue.proofs.ReaderLemmas.{some_none, some_same, text_end}
 use Rattle.catalogue.proofs.PrefixLemmas.{whole_free}
@@ -92,17 +92,17 @@ module _ (at : ℕ → Option Payload) where
         last next e = named next (next == 0) refl (sym (ap (option_map (λ t. r.bytes ++ t)) (text_end at next)) ∙ e)
 
 -- where the contents are not there, nor is the whole
-pub no_body : (old : Option (List ℕ)) → ((c : Contents) (t : List ℕ) → IsWhole (Some c) → old ≢ Some (body_text (Some c) ++ t)) → Lacks body_text (IsBody 1) old
-no_body old h None t k e = absurd (let f = k.flag_is in omega (arith, f))
-no_body old h (Some c) t k e = h c t k.whole e
+pub no_body : (most : ℕ) (old : Option (List ℕ)) → ((c : Contents) (t : List ℕ) → IsRead most (Some c) → old ≢ Some (body_text (Some c) ++ t)) → Lacks body_text (IsBody most 1) old
+no_body most old h None t k e = absurd (let f = k.flag_is in omega (arith, f))
+no_body most old h (Some c) t k e = h c t k.read e
 
-pub no_whole : (old : Option (List ℕ)) → Lacks catalogue_text IsWhole old → (c : Option Contents) → IsWhole c → old ≢ Some (catalogue_text c)
-no_whole old h c k e = h c [] k (e ∙ ap Some (sym (append-nil (catalogue_text c))))
+pub no_whole : (most : ℕ) (old : Option (List ℕ)) → Lacks catalogue_text (IsRead most) old → (c : Option Contents) → IsRead most c → old ≢ Some (catalogue_text c)
+no_whole most old h c k e = h c [] k (e ∙ ap Some (sym (append-nil (catalogue_text c))))
 
 -- where something is left behind it
 behind : (a b : Option Contents) (new : Option (List ℕ)) → IsWhole a → IsWhole b → option_map (λ s. catalogue_text a ++ s) new ≡ Some (catalogue_text b) → new ≡ Some []
 behind a b None h k e = absurd (some_none (catalogue_text b) (sym e))
 behind a b (Some s) h k e = ap Some (whole_free a b s [] h k (some_same (catalogue_text a ++ s) (catalogue_text b) e ∙ sym (append-nil (catalogue_text b)))).1
 
-pub left_over : (old new : Option (List ℕ)) (a b : Option Contents) → IsWhole a → IsWhole b → old ≡ option_map (λ s. catalogue_text a ++ s) new → (new ≡ Some [] → ⊥) → old ≢ Some (catalogue_text b)
-left_over old new a b h k is n e = n (behind a b new h k (sym is ∙ e))
+pub left_over : (most : ℕ) (old new : Option (List ℕ)) (a b : Option Contents) → IsRead most a → IsRead most b → old ≡ option_map (λ s. catalogue_text a ++ s) new → (new ≡ Some [] → ⊥) → old ≢ Some (catalogue_text b)
+left_over most old new a b h k is n e = n (behind a b new h.whole k.whole (sym is ∙ e))

@@ -9,8 +9,9 @@ use Rattle.pagecache.specs.declared.fault.CacheFault.{CacheFault}
 use Rattle.pagecache.specs.declared.fault.CacheFault.TheVariants as cache
 use Rattle.catalogue.specs.Header.{header_payload}
 
--- what is left of an empty store whose page 0 was to be this payload: there is no page but page 0; of a faithful
--- store there is none, or page 0 as written is exactly the seal of the payload, or the store failed
+-- what is left of an empty store whose page 0 was to be this payload: there is no page but page 0;
+-- of a faithful store there is none, or page 0 as written is exactly the seal of the payload, or
+-- the store failed
 pub record IsFirst (payload : Payload) (old new : Store) : Type 0 where
   pub few : new.count ≤ 1
   pub first : IsTrue old.is_faithful → (new.pages ≡ []) ⊎ ((new.pages ≡ sealed 0 payload ∷ []) ⊎ Faulted old new)

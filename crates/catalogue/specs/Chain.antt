@@ -11,8 +11,8 @@ use Rattle.tbnode.specs.Parts.{number_at, part}
 abbrev pub most_used : ℕ
 most_used = 4040
 
--- the payload of a page of the chain: the number of the page after it, 0 for none; how many bytes of the text it has;
--- ten zeros, those bytes, and zeros behind them
+-- the payload of a page of the chain: the number of the page after it, 0 for none; how many bytes
+-- of the text it has; ten zeros, those bytes, and zeros behind them
 unfoldable pub part_payload : ℕ → List ℕ → Payload
 part_payload next text = record {
   kind = Catalogue;
@@ -25,8 +25,8 @@ is_catalogue Leaf = false
 is_catalogue Inner = false
 is_catalogue Catalogue = true
 
--- it has the form of a page of the chain with so many bytes of the text, for which there is room; what stands behind
--- them may be anything
+-- it has the form of a page of the chain with so many bytes of the text, for which there is room;
+-- what stands behind them may be anything
 unfoldable pub is_part : ℕ → Payload → Bool
 is_part used payload =
     is_catalogue payload.kind && nat_le (16 + used) (length payload.bytes) && (number_at 2 4 payload.bytes == used)
@@ -48,6 +48,7 @@ chain_text at (suc n) left p =
     (option_map (λ t. text_in (min most_used left) payload ++ t) (chain_text at n (left - most_used) (next_in payload)))
     None) (at p)
 
--- the text of that length in the chain of pages from page p on, each of which but the last one is full
+-- the text of that length in the chain of pages from page p on, each of which but the last one is
+-- full
 unfoldable pub text_at : (ℕ → Option Payload) → ℕ → ℕ → Option (List ℕ)
 text_at at length p = chain_text at (div_ceil length most_used) length p

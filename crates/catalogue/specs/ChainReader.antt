@@ -1,15 +1,17 @@
 -- Helpers of private functions: a text that is being read from a chain of pages.
 use Rattle.std.specs.Prelude.{ℕ, ◌≡◌, ◌≢◌, ◌-◌, min, true, false, List, ◌++◌, Option, Some, option_map, Result, IfOk, IfErr}
-use Rattle.pages.specs.Store.{Store as StoreView, Faulted}
+use Rattle.pages.specs.Store.{Faulted}
+use Rattle.pagecache.specs.Cache.{payload_of, Cache}
 use Rattle.pagecache.specs.declared.fault.CacheFault.{CacheFault}
 use Rattle.pagecache.specs.declared.fault.CacheFault.TheVariants as cache
 use Rattle.pages.specs.declared.payload.Payload.{Payload}
 use Rattle.catalogue.specs.Chain.{most_used, is_part, next_in, text_in, text_at}
+use Rattle.catalogue.specs.Lasting.{IsDamagedPage}
 use Rattle.catalogue.specs.declared.fault.CatalogueFault.{CatalogueFault}
 use Rattle.catalogue.specs.declared.fault.CatalogueFault.TheVariants.{Memory, Store, StoreFull, Damaged, Unfinished, Version, Malformed}
 
--- the page of the chain that comes next, 0 for none; how many bytes of the text stand there and in the pages behind it;
--- and the bytes that were read and are not taken yet
+-- the page of the chain that comes next, 0 for none; how many bytes of the text stand there and in
+-- the pages behind it; and the bytes that were read and are not taken yet
 pub record ReaderView : Type 0 where
   pub next : ℕ
   pub left : ℕ
@@ -27,12 +29,13 @@ fault_of (cache.Damaged n) = Damaged n
 fault_of cache.StoreFull = StoreFull
 fault_of cache.Memory = Memory
 
--- the store failed where that is said; a call that only reads says nothing of a full or unfinished store
-abbrev pub IsReadFault : StoreView → StoreView → CatalogueFault → Type 0
+-- the store failed where that is said; a page that is said to be damaged is so; a call that only
+-- reads says nothing of a full or unfinished store
+abbrev pub IsReadFault : Cache → Cache → CatalogueFault → Type 0
 IsReadFault old new Memory = Unit {0}
-IsReadFault old new Store = Faulted old new
+IsReadFault old new Store = Faulted old.store new.store
 IsReadFault old new StoreFull = ⊥
-IsReadFault old new (Damaged page) = Unit {0}
+IsReadFault old new (Damaged page) = IsDamagedPage new.store.is_faithful (payload_of new) new.count page
 IsReadFault old new Unfinished = ⊥
 IsReadFault old new Version = ⊥
 IsReadFault old new Malformed = Unit {0}
@@ -74,8 +77,8 @@ IsTextFault Unfinished = ⊥
 IsTextFault Version = ⊥
 IsTextFault Malformed = Unit {0}
 
--- what reading a value leaves of the text that is left: what stands behind the value's own text. Where the pages are said
--- to be damaged or malformed, no such value's text stands there
+-- what reading a value leaves of the text that is left: what stands behind the value's own text.
+-- Where the pages are said to be damaged or malformed, no such value's text stands there
 pub record Takes {V : Type 0} (text : V → List ℕ) (is_value : V → Type 0) (old new : Option (List ℕ)) (result : Result V CatalogueFault) : Type 0 where
   pub taken : IfOk result (λ v. is_value v × (old ≡ option_map (λ t. text v ++ t) new))
   pub lacks : IfErr result (λ e. IsBroken e → (v : V) (t : List ℕ) → is_value v → old ≢ Some (text v ++ t))

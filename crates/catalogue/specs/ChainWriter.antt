@@ -8,8 +8,8 @@ use Rattle.pagecache.specs.declared.fault.CacheFault.{CacheFault}
 use Rattle.pagecache.specs.declared.fault.CacheFault.TheVariants as cache
 use Rattle.catalogue.specs.Chain.{part_payload, most_used, text_at}
 
--- the pages of the text so far, of which the last one is not written yet; the page of an earlier chain that comes next,
--- 0 for none; and the text that is not written yet
+-- the pages of the text so far, of which the last one is not written yet; the page of an earlier
+-- chain that comes next, 0 for none; and the text that is not written yet
 pub record WriterView : Type 0 where
   pub pages : List ℕ
   pub earlier : ℕ
@@ -30,8 +30,8 @@ pub record IsOwn (at : ℕ → Option Payload) (p : ℕ) : Type 0 where
   pub is : at p ≡ Some payload
   pub kind : payload.kind ≡ Catalogue
 
--- the text so far is what the pages have and what is not written yet, of which there is some where a page is full; the
--- pages are there, and no two are one
+-- the text so far is what the pages have and what is not written yet, of which there is some where
+-- a page is full; the pages are there, and no two are one
 pub record HoldsText (at : ℕ → Option Payload) (count : ℕ) (w : WriterView) (text : List ℕ) : Type 0 where
   pub written : List ℕ
   pub all : text ≡ written ++ w.text

@@ -7,8 +7,8 @@ use Rattle.pages.specs.declared.payload.Payload.{Payload}
 use Rattle.tbnode.specs.Parts.{part}
 use Rattle.catalogue.specs.declared.header_fields.Fields.{Fields}
 
--- the shape and the limits; the root of the tree, its levels and its leaves, four bytes each; the first page of the
--- catalogue, in four, and the length of its text, in eight; and the dimension
+-- the shape and the limits; the root of the tree, its levels and its leaves, four bytes each; the
+-- first page of the catalogue, in four, and the length of its text, in eight; and the dimension
 unfoldable pub fields_bytes : Fields → List ℕ
 fields_bytes f =
     big_bytes 2 f.shape.leaf ++ (big_bytes 2 f.shape.inner ++ (big_bytes 8 f.limits.legs ++ (big_bytes 8 f.limits.features

@@ -1,4 +1,4 @@
--- What finishing makes of the pages of an index.
+-- Helpers of private functions: what finishing makes of the pages of an index.
 use Rattle.std.specs.Prelude.{ℕ, ◌≡◌, ◌≤◌, ◌<◌, ◌-◌, ◌^◌, min, Some, IsTrue}
 use Rattle.byteorder.specs.Endian.{big_bytes}
 use Rattle.pages.specs.Store as store
@@ -39,7 +39,8 @@ pub record IsUnwrittenHeader (c : Cache) : Type 0 where
   pub is : payload_of c 0 ≡ Some payload
   pub unfinished : IsUnfinished payload
 
--- the same cache, later: there are as many pages, in the store too, and the count of asks did not fall
+-- the same cache, later: there are as many pages, in the store too, and the count of asks did not
+-- fall
 pub record IsLaterCache (old new : Cache) : Type 0 where
   pub store : store.Keeps old.store new.store
   pub capacity : new.capacity ≡ old.capacity

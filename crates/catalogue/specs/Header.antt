@@ -8,11 +8,13 @@ use Rattle.pages.specs.Zero.{zero_payload}
 use Rattle.pages.specs.declared.payload.Kind.TheVariants.{Header}
 use Rattle.pages.specs.declared.payload.Payload.{Payload}
 
--- no root, no levels, no leaves and no catalogue page, four bytes each, and no catalogue text, in eight
+-- no root, no levels, no leaves and no catalogue page, four bytes each, and no catalogue text, in
+-- eight
 abbrev pub empty_bytes : List ℕ
 empty_bytes = big_bytes 8 0 ++ (big_bytes 8 0 ++ big_bytes 8 0)
 
--- the header of a new store: it is not finished; the shape, the limits, nothing else, and dimension 2
+-- the header of a new store: it is not finished; the shape, the limits, nothing else, and dimension
+-- 2
 unfoldable pub header_bytes : ShapeView → LimitsView → List ℕ
 header_bytes shape limits =
     unfinished_front ++ ((big_bytes 2 shape.leaf ++ big_bytes 2 shape.inner)

@@ -1,6 +1,7 @@
 -- A store whose pages hold a book.
-use Rattle.std.specs.Prelude.{ℕ, ◌≡◌, List, length, slice_get, Option, Some, option_and_then, IsTrue}
+use Rattle.std.specs.Prelude.{ℕ, ◌≡◌, List, length, slice_get, Option, Some, option_and_then}
 use Rattle.legs.specs.Book.{Book}
+use Rattle.legs.specs.Costs.{ShapeView}
 use Rattle.legs.specs.Law.{IsBook}
 use Rattle.legs.specs.Limits.{LimitsView}
 use Rattle.legs.specs.Tracks.{StandsFor}
@@ -32,12 +33,14 @@ pub record IsOfBook (limits : LimitsView) (book : Book) (c : CatalogueView) : Ty
 abbrev pub index_over : Store → TbTree → List Place → ℕ → IndexView
 index_over s tree places legs = record { cache = fresh s 1; tree = tree; places = places; legs = legs }
 
--- the pages of a finished store hold a book under limits: they keep its catalogue, and a tree that stands for its legs
-pub record HoldsBook (s : Store) (limits : LimitsView) (book : Book) : Type 0 where
+-- the pages of a finished store hold a book under limits: they keep its catalogue, and a tree of
+-- that shape that stands for its legs
+pub record HoldsBook (s : Store) (shape : ShapeView) (limits : LimitsView) (book : Book) : Type 0 where
   pub catalogue : CatalogueView
   pub tree : TbTree
   pub places : List Place
   pub kept : IsKept (stored_payload s) s.count catalogue tree places
+  pub shape_is : tree.shape ≡ shape
   pub of : IsOfBook limits book catalogue
   pub sound : IsSound (index_over s tree places (length book.legs))
   pub legs : content (index_over s tree places (length book.legs)) ≡ book.legs
@@ -46,14 +49,17 @@ pub record HoldsBook (s : Store) (limits : LimitsView) (book : Book) : Type 0 wh
 unfoldable pub payload_in : List (List ℕ) → ℕ → Option Payload
 payload_in pages n = option_and_then (unsealed n) (slice_get pages n)
 
--- no page is changed, and the pages as written, of a finished store, keep the catalogue, the tree and the places
+-- no page is changed, and the pages as written, of a finished store, keep the catalogue, the tree
+-- and the places
 pub record IsAtRest (c : CatalogueView) (index : IndexView) : Type 0 where
   pub clean : IsClean index.cache
   pub legs : index.legs ≡ c.tracks.legs
   pub kept : IsKept (payload_in (written index)) (length (written index)) c index.tree index.places
 
--- a book is opened: the catalogue is its own, and the index is sound and has its legs
-pub record AnswersBook (limits : LimitsView) (book : Book) (c : CatalogueView) (index : IndexView) : Type 0 where
+-- a book is opened: the catalogue is its own, and the index is sound, of that shape, and has its
+-- legs
+pub record AnswersBook (shape : ShapeView) (limits : LimitsView) (book : Book) (c : CatalogueView) (index : IndexView) : Type 0 where
+  pub shape_is : index.tree.shape ≡ shape
   pub of : IsOfBook limits book c
   pub sound : IsSound index
   pub legs : content index ≡ book.legs

@@ -1,5 +1,5 @@
 -- What the pages of a store keep of a database beside its legs.
-use Rattle.std.specs.Prelude.{ℕ, ◌≡◌, ◌≢◌, ◌≤◌, ◌<◌, ◌==◌, ◌&&◌, ◌⊎◌, nat_lt, Bool, true, false, if◌then◌else◌, List, [], map, length, sum_by, All, AllPairs, Option, Some, None, IsTrue}
+use Rattle.std.specs.Prelude.{ℕ, ◌≡◌, ◌≢◌, ◌≤◌, ◌<◌, ◌==◌, ◌&&◌, ◌⊎◌, nat_lt, Bool, true, false, if◌then◌else◌, List, [], map, length, All, AllPairs, Option, Some, None, IsTrue}
 use Rattle.std.specs.Int.{div_ceil}
 use Rattle.timebase.specs.Instant.{IsMoment}
 use Rattle.legs.specs.Law.{IsName}
@@ -18,7 +18,7 @@ use Rattle.catalogue.specs.Chain.{most_used, text_at}
 use Rattle.catalogue.specs.Fields.{FitsFields, HasFields}
 use Rattle.catalogue.specs.Saved.{fields_for, CatalogueView}
 use Rattle.catalogue.specs.Saving.{contents_of}
-use Rattle.catalogue.specs.Text.{catalogue_text, IsWhole}
+use Rattle.catalogue.specs.Text.{catalogue_text, leg_sum, IsWhole}
 use Rattle.catalogue.specs.declared.contents.Feature.{Feature}
 use Rattle.catalogue.specs.declared.fault.CatalogueFault.{CatalogueFault}
 use Rattle.catalogue.specs.declared.fault.CatalogueFault.TheVariants.{Memory, Store, StoreFull, Damaged, Unfinished, Version, Malformed}
@@ -47,6 +47,20 @@ payload_fault (Some payload) = header_fault payload
 
 abbrev pub first_fault : ℕ → Option Payload → Option CatalogueFault
 first_fault count first = if nat_lt 0 count then payload_fault first else Some Malformed
+
+-- that page of so many is there, and, where the store is faithful, has no payload
+abbrev pub IsDamagedPage : Bool → (ℕ → Option Payload) → ℕ → ℕ → Type 0
+IsDamagedPage faithful at count page = (page < count) × (IsTrue faithful → at page ≡ None)
+
+-- a page that is said to be damaged is so
+abbrev pub IsTrulyDamaged : Bool → (ℕ → Option Payload) → ℕ → CatalogueFault → Type 0
+IsTrulyDamaged faithful at count Memory = Unit {0}
+IsTrulyDamaged faithful at count Store = Unit {0}
+IsTrulyDamaged faithful at count StoreFull = Unit {0}
+IsTrulyDamaged faithful at count (Damaged page) = IsDamagedPage faithful at count page
+IsTrulyDamaged faithful at count Unfinished = Unit {0}
+IsTrulyDamaged faithful at count Version = Unit {0}
+IsTrulyDamaged faithful at count Malformed = Unit {0}
 
 -- memory ran out, or the store failed
 abbrev pub IsStop : CatalogueFault → Type 0
@@ -91,12 +105,13 @@ abbrev pub tracks_of : List Feature → ℕ → TracksView
 tracks_of features rows = record {
   names = map (λ f. f.name) features;
   tracks = map (λ f. record { end = f.kept.end; legs = f.kept.place.legs }) features;
-  legs = sum_by (λ f. f.kept.place.legs) features;
+  legs = leg_sum features;
   rows = rows;
 }
 
--- a lawful catalogue of so many pages: its features have names and places of their own; there are no more features and
--- legs than the limits, and no more rows than legs; where no file was accepted there is no feature
+-- a lawful catalogue of so many pages: its features have names and places of their own; there are
+-- no more features and legs than the limits, and no more rows than legs; where no file was accepted
+-- there is no feature
 pub record IsLawful (count : ℕ) (c : CatalogueView) (places : List Place) : Type 0 where
   pub features : List Feature
   pub tracks_are : c.tracks ≡ tracks_of features (length c.rows)
@@ -109,7 +124,8 @@ pub record IsLawful (count : ℕ) (c : CatalogueView) (places : List Place) : Ty
   pub none : c.head ≡ None → features ≡ []
   pub base : (head : BookHead) → c.head ≡ Some head → IsMoment head.base
 
--- page 0 of so many pages says the limits, the tree and where the text of a catalogue is, and the text is there
+-- page 0 of so many pages says the limits, the tree and where the text of a catalogue is, and the
+-- text is there
 pub record Says (at : ℕ → Option Payload) (count : ℕ) (c : CatalogueView) (tree : TbTree) (places : List Place) : Type 0 where
   pub first : ℕ
   pub length : ℕ
@@ -121,11 +137,12 @@ pub record Says (at : ℕ → Option Payload) (count : ℕ) (c : CatalogueView) 
   pub limits : IsLimits c.limits
   pub few : div_ceil length most_used ≤ count
   pub text : text_at at length first ≡ Some (catalogue_text (contents_of c places))
-  pub whole : IsWhole (contents_of c places)
 
--- the pages of a finished store keep a catalogue, a tree and the places of its features
+-- the pages of a finished store keep a catalogue, a tree and the places of its features; in the
+-- text of the catalogue all fits, and each row has a value for each column
 pub record IsKept (at : ℕ → Option Payload) (count : ℕ) (c : CatalogueView) (tree : TbTree) (places : List Place) : Type 0 where
   pub says : Says at count c tree places
+  pub whole : IsWhole (contents_of c places)
   pub finished : payload_fault (at 0) ≡ None
   pub within : IsWithin count tree
   pub works : tree.spent ≡ false

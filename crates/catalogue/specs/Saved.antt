@@ -11,8 +11,8 @@ use Rattle.tbtree.specs.declared.tree.TbTree.{TbTree}
 use Rattle.catalogue.specs.declared.header_fields.Fields.{Fields}
 use Rattle.catalogue.specs.declared.contents.Head.{Head}
 
--- what contracts see of a catalogue: what the first accepted file gave, the limits, the features, and the attribute values
--- of each record
+-- what contracts see of a catalogue: what the first accepted file gave, the limits, the features,
+-- and the attribute values of each record
 pub record CatalogueView : Type 0 where
   pub head : Option BookHead
   pub limits : LimitsView

@@ -1,4 +1,4 @@
--- Helpers of private functions: a catalogue that is being saved.
+-- A catalogue that is saved, and helpers of the private functions that save it.
 use Rattle.std.specs.Prelude.{ℕ, ◌≡◌, ◌≢◌, ◌<◌, ◌^◌, ◌++◌, List, [], map, take, drop, length, Option, Some, None, unwrap_or, slice_get, All, IsTrue, Result, OnOk, IfErr, ℤ, pos}
 use Rattle.std.specs.Option.{option_map}
 use Rattle.std.specs.List.{range_with_len}

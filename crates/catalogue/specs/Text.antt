@@ -1,5 +1,5 @@
 -- The text of a catalogue.
-use Rattle.std.specs.Prelude.{ℕ, ◌≡◌, ◌^◌, ◌<◌, ◌++◌, ◌∷◌, [], ℤ, FitsSigned, List, length, IsUtf8, All, Option, Some, None}
+use Rattle.std.specs.Prelude.{ℕ, ◌≡◌, ◌^◌, ◌<◌, ◌≤◌, ◌++◌, ◌∷◌, [], ℤ, FitsSigned, List, length, sum_by, IsUtf8, All, Option, Some, None}
 use Rattle.std.specs.Int.{w64}
 use Rattle.std.specs.List.{flat_map}
 use Rattle.byteorder.specs.Endian.{big_bytes}
@@ -25,7 +25,8 @@ column_text column = short_text column.name ++ short_text column.kind
 abbrev pub columns_text : List Column → List ℕ
 columns_text columns = big_bytes 8 (length columns) ++ flat_map column_text columns
 
--- the head of the first accepted file, but for its dimension: the base, the CRS, and the attribute columns
+-- the head of the first accepted file, but for its dimension: the base, the CRS, and the attribute
+-- columns
 abbrev pub space_text : Space → List ℕ
 space_text space = short_text space.crs ++ columns_text space.columns
 
@@ -154,7 +155,37 @@ abbrev pub IsWhole : Option Contents → Type 0
 IsWhole None = Unit {0}
 IsWhole (Some contents) = AreContents contents
 
--- what stands behind that byte
-pub record IsBody (flag : ℕ) (contents : Option Contents) : Type 0 where
+-- how many legs features have
+abbrev pub leg_sum : List Feature → ℕ
+leg_sum features = sum_by (λ f. f.kept.place.legs) features
+
+-- Helpers of private functions: what is read of a text.
+
+-- no more rows than that
+pub record AreFewRows (columns most : ℕ) (rows : List (List (List ℕ))) : Type 0 where
+  pub has : HasRows columns rows
+  pub few : length rows ≤ most
+
+-- no more legs than that, and no more rows than legs
+pub record HasFewLegs (most : ℕ) (lists : Lists) : Type 0 where
+  pub legs : leg_sum lists.features ≤ most
+  pub rows : length lists.rows ≤ leg_sum lists.features
+
+-- features and rows that are read
+pub record AreRead (columns most : ℕ) (lists : Lists) : Type 0 where
+  pub are : AreLists columns lists
+  pub few : HasFewLegs most lists
+
+-- a whole text that is read
+abbrev pub AreFew : ℕ → Option Contents → Type 0
+AreFew most None = Unit {0}
+AreFew most (Some contents) = HasFewLegs most contents.lists
+
+pub record IsRead (most : ℕ) (contents : Option Contents) : Type 0 where
   pub whole : IsWhole contents
+  pub few : AreFew most contents
+
+-- what stands behind its first byte
+pub record IsBody (most flag : ℕ) (contents : Option Contents) : Type 0 where
+  pub read : IsRead most contents
   pub flag_is : flag_of contents ≡ flag

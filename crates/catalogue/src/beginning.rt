@@ -35,10 +35,12 @@ fn write_first<S: PageStore>(store: &mut S, payload: &Payload) -> Result<(), Cac
     Ok(())
 }
 
-/// An index without legs over an empty store, to which it adds page 0: the header of a store that is not finished, of
-/// this shape and these limits, written whole at once. The cache holds at most that many pages, at least 1.
+/// An index without legs over an empty store, to which it adds page 0: the header of a store that
+/// is not finished, of this shape and these limits, written whole at once. The cache holds at most
+/// that many pages, at least 1.
 ///
-/// Refused for want of memory, and where the store fails or has no room for a page; the store is then handed back.
+/// Refused for want of memory, and where the store fails or has no room for a page; the store is
+/// then handed back.
 pub fn begin<S: PageStore>(
     alloc: Global,
     store: S,

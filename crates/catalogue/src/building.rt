@@ -111,7 +111,8 @@ fn dimension_from(dimension: u32) -> Option<Dimension>
     }
 }
 
-/// The head of the first accepted file, where its base is a moment, and there are 2 or 3 dimensions.
+/// The head of the first accepted file, where its base is a moment, and there are 2 or 3
+/// dimensions.
 fn head_from(head: Head, dimension: u32) -> Option<BookHead>
     ensures some { IfSome result (λ h. (head_of h ≡ head) × (dimension_of (Some h) ≡ dimension)
         × IsMoment h.base) }
@@ -203,7 +204,8 @@ fn whole_catalogue(
     Ok((catalogue, places))
 }
 
-/// The catalogue that page 0 of so many pages and the text say, and the places of its features, where it is lawful.
+/// The catalogue that page 0 of so many pages and the text say, and the places of its features,
+/// where it is lawful.
 pub(crate) fn catalogue_of(
     alloc: Global,
     keys: RandomState,

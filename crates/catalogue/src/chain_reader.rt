@@ -119,7 +119,7 @@ impl ChainReader {
         ensures broken { IfErr result (λ e. IsBroken e → IsTrue cache.old.store.is_faithful
             → rest_of (payload_of cache.old) self.old ≡ None) }
         ensures reads { OnlyReads cache.old cache.new }
-        ensures caused { IfErr result (IsReadFault cache.old.store cache.new.store) }
+        ensures caused { IfErr result (IsReadFault cache.old cache.new) }
     {
         match cache.page(self.next) {
             Ok(payload) => self.take_page(payload),
@@ -140,7 +140,7 @@ impl ChainReader {
             → (text : List ℕ) → rest_of (payload_of cache.old) self.old ≡ Some text
             → length text < len) }
         ensures reads { OnlyReads cache.old cache.new }
-        ensures caused { IfErr result (IsReadFault cache.old.store cache.new.store) }
+        ensures caused { IfErr result (IsReadFault cache.old cache.new) }
     {
         while self.bytes.len() - self.taken < len {
             if self.left == 0 {

@@ -20,7 +20,8 @@ use tbnode::fields::{put, put_u16, put_u32, u32_at};
 /// How many bytes of the text a page has at most.
 const FULL: usize = 4040;
 
-/// Writes a text to a chain of pages: to those of an earlier chain first, and to new ones behind them.
+/// Writes a text to a chain of pages: to those of an earlier chain first, and to new ones behind
+/// them.
 #[derive(Drop)]
 pub(crate) struct ChainWriter {
     /// The pages of the text so far; all but the last one are written.
@@ -126,14 +127,16 @@ fn add_above<S: PageStore>(cache: &mut PageCache<S>) -> Result<u32, CacheFault>
     Ok(page)
 }
 
-/// The page of an earlier chain that comes next, and what comes after it; none where there is no such page.
+/// The page of an earlier chain that comes next, and what comes after it; none where there is no
+/// such page.
 fn reused<S: PageStore>(
     pages: &IndexSet<u32, RandomState>,
     earlier: u32,
     cache: &mut PageCache<S>,
 ) -> Result<Option<u32>, CacheFault>
     ensures above { IfOk result (λ o. IfSome o (λ next. 0 < earlier)) }
-    ensures apart { IfOk result (λ o. IfSome o (λ next. contains nat_eq pages.now earlier ≡ false)) }
+    ensures apart { IfOk result (λ o. IfSome o (λ next.
+        contains nat_eq pages.now earlier ≡ false)) }
     ensures gives { IfOk result (λ o. IfSome o (λ next. Gives cache.old earlier cache.new)) }
     ensures length { KeepsLength cache.old cache.new }
     ensures count { cache.new.count ≡ cache.old.count }
@@ -149,7 +152,8 @@ fn reused<S: PageStore>(
     following(cache, earlier)
 }
 
-/// A page that is none of these: that of the earlier chain, else a new one; and what comes next in the earlier chain.
+/// A page that is none of these: that of the earlier chain, else a new one; and what comes next in
+/// the earlier chain.
 fn next_page<S: PageStore>(
     pages: &IndexSet<u32, RandomState>,
     earlier: u32,
@@ -215,8 +219,8 @@ impl ChainWriter {
     ghost use Rattle.catalogue.specs.ChainSteps.{behind, IsNumber, SparesTree};
     ghost use Rattle.catalogue.specs.ChainWriter.{HasText, Holds, IsCaused};
 
-    /// A writer of a text, to an earlier chain that begins at that page, 0 for none. The numbers of pages are hashed
-    /// with the keys.
+    /// A writer of a text, to an earlier chain that begins at that page, 0 for none. The numbers of
+    /// pages are hashed with the keys.
     pub(crate) fn new<S: PageStore>(
         alloc: Global,
         keys: RandomState,
@@ -266,7 +270,8 @@ impl ChainWriter {
         self.text.len()
     }
 
-    /// Writes the last page full, with the bytes behind the first ones that are not written, and takes another page.
+    /// Writes the last page full, with the bytes behind the first ones that are not written, and
+    /// takes another page.
     fn write_part<S: PageStore>(
         &mut self,
         cache: &mut PageCache<S>,
@@ -363,7 +368,8 @@ impl ChainWriter {
         Ok((self.first(), self.text_len()))
     }
 
-    /// Writes what is not written yet, and answers the first page and the length of the text in bytes.
+    /// Writes what is not written yet, and answers the first page and the length of the text in
+    /// bytes.
     pub(crate) fn finish<S: PageStore>(
         mut self,
         cache: &mut PageCache<S>,

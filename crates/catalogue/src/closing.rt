@@ -49,7 +49,7 @@ fn save_and_finish<S: PageStore>(
     ensures holds { OnOk result (IsLawful index.new.cache.store → IsSound index.old
         → IsMarked index.old.cache → (book : Book)
         → IsOfBook catalogue.now.limits book catalogue.now → content index.old ≡ book.legs
-        → HoldsBook index.new.cache.store catalogue.now.limits book) }
+        → HoldsBook index.new.cache.store index.old.tree.shape catalogue.now.limits book) }
     ensures only { IfErr result (λ fault. IsSound index.old → (book : Book)
         → IsOfBook catalogue.now.limits book catalogue.now → content index.old ≡ book.legs
         → IsAllowed fault) }
@@ -65,11 +65,11 @@ fn save_and_finish<S: PageStore>(
     finish(index)
 }
 
-/// Closes the store of a database: its catalogue is saved, all that is changed is written, and page 0 says last that the
-/// store is finished. The store is handed back, whatever is answered.
+/// Closes the store of a database: its catalogue is saved, all that is changed is written, and page
+/// 0 says last that the store is finished. The store is handed back, whatever is answered.
 ///
-/// Refused for want of memory, and where the store fails or is full. Where memory ran out or the store is full, its page 0
-/// still says that it is not finished.
+/// Refused for want of memory, and where the store fails or is full. Where memory ran out or the
+/// store is full, its page 0 still says that it is not finished.
 pub fn close<S: PageStore>(
     alloc: Global,
     catalogue: &Catalogue,
@@ -78,12 +78,12 @@ pub fn close<S: PageStore>(
     // The store then holds the book that index and catalogue are of.
     ensures holds { OnOk result.1 (IsSound index → IsMarked index.cache → (book : Book)
         → IsOfBook catalogue.now.limits book catalogue.now → content index ≡ book.legs
-        → HoldsBook (S.seen result.0) catalogue.now.limits book) }
+        → HoldsBook (S.seen result.0) index.tree.shape catalogue.now.limits book) }
     ensures only { IfErr result.1 (λ fault. IsSound index → (book : Book)
         → IsOfBook catalogue.now.limits book catalogue.now → content index ≡ book.legs
         → IsAllowed fault) }
-    ensures unfinished { IfErr result.1 (λ fault. IsNoStoreFault fault → IsSound index → IsMarked index.cache
-        → IsUnfinishedStore (S.seen result.0)) }
+    ensures unfinished { IfErr result.1 (λ fault. IsNoStoreFault fault → IsSound index
+        → IsMarked index.cache → IsUnfinishedStore (S.seen result.0)) }
     ensures keeps { Keeps index.cache.store (S.seen result.0) }
     ensures lawful { IsLawful (S.seen result.0) }
     ensures caused { IfErr result.1 (IsClosingFault index.cache.store (S.seen result.0)) }
@@ -91,6 +91,8 @@ pub fn close<S: PageStore>(
     let result = save_and_finish(alloc, catalogue, &mut index);
     let cache = index.into_cache();
     lawful(&cache);
+    // For its contract alone: the cache counts no more pages than the store, of which `StoreFull`
+    // is said.
     cache.count();
     (cache.into_store(), result)
 }

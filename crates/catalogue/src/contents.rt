@@ -5,8 +5,8 @@ use mfcsv::{Columns, Text, Values};
 use std::marker::Model;
 use tbtree::Place;
 
-/// What is kept of a feature beside its name: when its last leg ends, in milliseconds since 1970-01-01T00:00:00Z, and its
-/// place in the tree.
+/// What is kept of a feature beside its name: when its last leg ends, in milliseconds since
+/// 1970-01-01T00:00:00Z, and its place in the tree.
 #[derive(Clone, Copy, PartialEq, Eq, Debug)]
 pub(crate) struct Kept {
     pub(crate) end: i64,
@@ -65,8 +65,8 @@ pub(crate) struct Space {
     pub(crate) columns: Columns,
 }
 
-/// What is kept of the head of the first accepted file beside its dimension: the start instant, in milliseconds since
-/// 1970-01-01T00:00:00Z, the coordinate reference system and the columns.
+/// What is kept of the head of the first accepted file beside its dimension: the start instant, in
+/// milliseconds since 1970-01-01T00:00:00Z, the coordinate reference system and the columns.
 #[derive(Debug, Drop)]
 pub(crate) struct Head {
     pub(crate) base: i64,

@@ -1,13 +1,14 @@
 //! What a text says of columns, features and rows.
-ghost use Rattle.std.specs.Prelude.{◌≡◌, length, IsTrue, IfErr};
+ghost use Rattle.std.specs.Prelude.{◌≡◌, ◌-◌, ◌^◌, min, length, IsTrue, IfErr};
 ghost use Rattle.std.specs.List.{flat_map};
 ghost use Rattle.pagecache.specs.Cache.{payload_of};
-ghost use Rattle.catalogue.specs.Text.{kept_text, IsKept};
+ghost use Rattle.catalogue.specs.Text.{kept_text, leg_sum, IsKept};
 
 use crate::chain_reader::ChainReader;
 use crate::contents::{Contents, Feature, Features, Head, Kept, Lists, Rows, Space};
 use crate::fault::CatalogueFault;
 use crate::numbers::{i64_of, u32_of, u64_of};
+use legs::Limits;
 use mfcsv::{Column, Columns, Values};
 use pagecache::PageCache;
 use pages::PageStore;
@@ -33,9 +34,22 @@ fn kept_of(bytes: &[u8]) -> Kept
     }
 }
 
+/// How many legs features have; 2^64 - 1 stands for any greater number.
+fn leg_sum(features: &Features) -> u64
+    ensures { result ≡ min (leg_sum features.now) (2 ^ 64 - 1) }
+{
+    let features = features.features.as_slice();
+    let mut legs: u64 = 0;
+    for feature in features {
+        legs = legs.saturating_add(feature.kept.place.legs);
+    }
+    legs
+}
+
 impl ChainReader {
+    ghost use Rattle.std.specs.Prelude.{Some};
     ghost use Rattle.catalogue.specs.ChainReader.{rest_of, IsReadFault, Takes};
-    ghost use Rattle.catalogue.specs.Text.{column_text, columns_text, contents_text, feature_text, features_text, head_text, kept_text, lists_text, row_text, rows_text, short_text, space_text, AreColumns, AreContents, AreFeatures, AreLists, AreRows, IsColumn, IsFeature, IsHead, IsKept, IsRow, IsShortText, IsSpace, HasColumns, HasFeatures, HasRows};
+    ghost use Rattle.catalogue.specs.Text.{column_text, columns_text, contents_text, feature_text, features_text, head_text, kept_text, lists_text, row_text, rows_text, short_text, space_text, AreColumns, AreFeatures, AreFewRows, AreRead, AreRows, IsColumn, IsFeature, IsHead, IsKept, IsRead, IsRow, IsShortText, IsSpace, HasColumns, HasFeatures};
     ghost use Rattle.chains.specs.Reads.{OnlyReads};
 
     /// An attribute column.
@@ -45,9 +59,10 @@ impl ChainReader {
         cache: &mut PageCache<S>,
     ) -> Result<Column, CatalogueFault>
         ensures takes { IsTrue cache.old.store.is_faithful → Takes column_text IsColumn
-            (rest_of (payload_of cache.old) self.old) (rest_of (payload_of cache.new) self.new) result }
+            (rest_of (payload_of cache.old) self.old) (rest_of (payload_of cache.new) self.new)
+            result }
         ensures reads { OnlyReads cache.old cache.new }
-        ensures caused { IfErr result (IsReadFault cache.old.store cache.new.store) }
+        ensures caused { IfErr result (IsReadFault cache.old cache.new) }
     {
         let name = self.text(alloc, cache)?;
         let kind = self.text(alloc, cache)?;
@@ -63,9 +78,10 @@ impl ChainReader {
     ) -> Result<Columns, CatalogueFault>
         ensures takes { IsTrue cache.old.store.is_faithful → Takes (λ
             columns. flat_map column_text columns) (AreColumns count)
-            (rest_of (payload_of cache.old) self.old) (rest_of (payload_of cache.new) self.new) result }
+            (rest_of (payload_of cache.old) self.old) (rest_of (payload_of cache.new) self.new)
+            result }
         ensures reads { OnlyReads cache.old cache.new }
-        ensures caused { IfErr result (IsReadFault cache.old.store cache.new.store) }
+        ensures caused { IfErr result (IsReadFault cache.old cache.new) }
     {
         let mut columns = Vec::new(alloc);
         for _ in 0..count {
@@ -81,9 +97,10 @@ impl ChainReader {
         cache: &mut PageCache<S>,
     ) -> Result<Columns, CatalogueFault>
         ensures takes { IsTrue cache.old.store.is_faithful → Takes columns_text HasColumns
-            (rest_of (payload_of cache.old) self.old) (rest_of (payload_of cache.new) self.new) result }
+            (rest_of (payload_of cache.old) self.old) (rest_of (payload_of cache.new) self.new)
+            result }
         ensures reads { OnlyReads cache.old cache.new }
-        ensures caused { IfErr result (IsReadFault cache.old.store cache.new.store) }
+        ensures caused { IfErr result (IsReadFault cache.old cache.new) }
     {
         let count = self.u64(cache)?;
         self.columns(alloc, cache, count)
@@ -92,9 +109,10 @@ impl ChainReader {
     /// What is kept of a feature beside its name.
     fn kept<S: PageStore>(&mut self, cache: &mut PageCache<S>) -> Result<Kept, CatalogueFault>
         ensures takes { IsTrue cache.old.store.is_faithful → Takes kept_text IsKept
-            (rest_of (payload_of cache.old) self.old) (rest_of (payload_of cache.new) self.new) result }
+            (rest_of (payload_of cache.old) self.old) (rest_of (payload_of cache.new) self.new)
+            result }
         ensures reads { OnlyReads cache.old cache.new }
-        ensures caused { IfErr result (IsReadFault cache.old.store cache.new.store) }
+        ensures caused { IfErr result (IsReadFault cache.old cache.new) }
     {
         self.fill(cache, 28)?;
         let kept = kept_of(self.ahead(28));
@@ -109,9 +127,10 @@ impl ChainReader {
         cache: &mut PageCache<S>,
     ) -> Result<Feature, CatalogueFault>
         ensures takes { IsTrue cache.old.store.is_faithful → Takes feature_text IsFeature
-            (rest_of (payload_of cache.old) self.old) (rest_of (payload_of cache.new) self.new) result }
+            (rest_of (payload_of cache.old) self.old) (rest_of (payload_of cache.new) self.new)
+            result }
         ensures reads { OnlyReads cache.old cache.new }
-        ensures caused { IfErr result (IsReadFault cache.old.store cache.new.store) }
+        ensures caused { IfErr result (IsReadFault cache.old cache.new) }
     {
         let name = self.text(alloc, cache)?;
         let kept = self.kept(cache)?;
@@ -127,9 +146,10 @@ impl ChainReader {
     ) -> Result<Features, CatalogueFault>
         ensures takes { IsTrue cache.old.store.is_faithful → Takes (λ
             features. flat_map feature_text features) (AreFeatures count)
-            (rest_of (payload_of cache.old) self.old) (rest_of (payload_of cache.new) self.new) result }
+            (rest_of (payload_of cache.old) self.old) (rest_of (payload_of cache.new) self.new)
+            result }
         ensures reads { OnlyReads cache.old cache.new }
-        ensures caused { IfErr result (IsReadFault cache.old.store cache.new.store) }
+        ensures caused { IfErr result (IsReadFault cache.old cache.new) }
     {
         let mut features = Vec::new(alloc);
         for _ in 0..count {
@@ -145,9 +165,10 @@ impl ChainReader {
         cache: &mut PageCache<S>,
     ) -> Result<Features, CatalogueFault>
         ensures takes { IsTrue cache.old.store.is_faithful → Takes features_text HasFeatures
-            (rest_of (payload_of cache.old) self.old) (rest_of (payload_of cache.new) self.new) result }
+            (rest_of (payload_of cache.old) self.old) (rest_of (payload_of cache.new) self.new)
+            result }
         ensures reads { OnlyReads cache.old cache.new }
-        ensures caused { IfErr result (IsReadFault cache.old.store cache.new.store) }
+        ensures caused { IfErr result (IsReadFault cache.old cache.new) }
     {
         let count = self.u32(cache)?;
         self.features(alloc, cache, count)
@@ -161,9 +182,10 @@ impl ChainReader {
         columns: u64,
     ) -> Result<Values, CatalogueFault>
         ensures takes { IsTrue cache.old.store.is_faithful → Takes row_text (IsRow columns)
-            (rest_of (payload_of cache.old) self.old) (rest_of (payload_of cache.new) self.new) result }
+            (rest_of (payload_of cache.old) self.old) (rest_of (payload_of cache.new) self.new)
+            result }
         ensures reads { OnlyReads cache.old cache.new }
-        ensures caused { IfErr result (IsReadFault cache.old.store cache.new.store) }
+        ensures caused { IfErr result (IsReadFault cache.old cache.new) }
     {
         let mut values = Vec::new(alloc);
         for _ in 0..columns {
@@ -182,9 +204,10 @@ impl ChainReader {
     ) -> Result<Rows, CatalogueFault>
         ensures takes { IsTrue cache.old.store.is_faithful → Takes (λ
             rows. flat_map row_text rows) (AreRows columns count)
-            (rest_of (payload_of cache.old) self.old) (rest_of (payload_of cache.new) self.new) result }
+            (rest_of (payload_of cache.old) self.old) (rest_of (payload_of cache.new) self.new)
+            result }
         ensures reads { OnlyReads cache.old cache.new }
-        ensures caused { IfErr result (IsReadFault cache.old.store cache.new.store) }
+        ensures caused { IfErr result (IsReadFault cache.old cache.new) }
     {
         let mut rows = Vec::new(alloc);
         for _ in 0..count {
@@ -193,19 +216,25 @@ impl ChainReader {
         Ok(Rows { rows })
     }
 
-    /// Rows behind their number.
+    /// Rows behind their number; `Malformed` where there are more than that, before any is read.
     fn counted_rows<S: PageStore>(
         &mut self,
         alloc: Global,
         cache: &mut PageCache<S>,
         columns: u64,
+        most: u64,
     ) -> Result<Rows, CatalogueFault>
-        ensures takes { IsTrue cache.old.store.is_faithful → Takes rows_text (HasRows columns)
-            (rest_of (payload_of cache.old) self.old) (rest_of (payload_of cache.new) self.new) result }
+        ensures takes { IsTrue cache.old.store.is_faithful
+            → Takes rows_text (AreFewRows columns most)
+            (rest_of (payload_of cache.old) self.old) (rest_of (payload_of cache.new) self.new)
+            result }
         ensures reads { OnlyReads cache.old cache.new }
-        ensures caused { IfErr result (IsReadFault cache.old.store cache.new.store) }
+        ensures caused { IfErr result (IsReadFault cache.old cache.new) }
     {
         let count = self.u32(cache)?;
+        if u64::from(count) > most {
+            return Err(CatalogueFault::Malformed);
+        }
         self.rows(alloc, cache, columns, count)
     }
 
@@ -216,9 +245,10 @@ impl ChainReader {
         cache: &mut PageCache<S>,
     ) -> Result<Space, CatalogueFault>
         ensures takes { IsTrue cache.old.store.is_faithful → Takes space_text IsSpace
-            (rest_of (payload_of cache.old) self.old) (rest_of (payload_of cache.new) self.new) result }
+            (rest_of (payload_of cache.old) self.old) (rest_of (payload_of cache.new) self.new)
+            result }
         ensures reads { OnlyReads cache.old cache.new }
-        ensures caused { IfErr result (IsReadFault cache.old.store cache.new.store) }
+        ensures caused { IfErr result (IsReadFault cache.old cache.new) }
     {
         let crs = self.text(alloc, cache)?;
         let columns = self.counted_columns(alloc, cache)?;
@@ -232,29 +262,38 @@ impl ChainReader {
         cache: &mut PageCache<S>,
     ) -> Result<Head, CatalogueFault>
         ensures takes { IsTrue cache.old.store.is_faithful → Takes head_text IsHead
-            (rest_of (payload_of cache.old) self.old) (rest_of (payload_of cache.new) self.new) result }
+            (rest_of (payload_of cache.old) self.old) (rest_of (payload_of cache.new) self.new)
+            result }
         ensures reads { OnlyReads cache.old cache.new }
-        ensures caused { IfErr result (IsReadFault cache.old.store cache.new.store) }
+        ensures caused { IfErr result (IsReadFault cache.old cache.new) }
     {
         let base = self.i64(cache)?;
         let space = self.space(alloc, cache)?;
         Ok(Head { base, space })
     }
 
-    /// The features and the rows.
+    /// The features and the rows; `Malformed` where there are more legs than the limit, or more
+    /// rows than legs, before any row is read.
     fn lists<S: PageStore>(
         &mut self,
         alloc: Global,
         cache: &mut PageCache<S>,
         columns: u64,
+        limits: &Limits,
     ) -> Result<Lists, CatalogueFault>
-        ensures takes { IsTrue cache.old.store.is_faithful → Takes lists_text (AreLists columns)
-            (rest_of (payload_of cache.old) self.old) (rest_of (payload_of cache.new) self.new) result }
+        ensures takes { IsTrue cache.old.store.is_faithful
+            → Takes lists_text (AreRead columns limits.now.legs)
+            (rest_of (payload_of cache.old) self.old) (rest_of (payload_of cache.new) self.new)
+            result }
         ensures reads { OnlyReads cache.old cache.new }
-        ensures caused { IfErr result (IsReadFault cache.old.store cache.new.store) }
+        ensures caused { IfErr result (IsReadFault cache.old cache.new) }
     {
         let features = self.counted_features(alloc, cache)?;
-        let rows = self.counted_rows(alloc, cache, columns)?;
+        let legs = leg_sum(&features);
+        if legs > limits.legs() {
+            return Err(CatalogueFault::Malformed);
+        }
+        let rows = self.counted_rows(alloc, cache, columns, legs)?;
         Ok(Lists { features, rows })
     }
 
@@ -263,15 +302,18 @@ impl ChainReader {
         &mut self,
         alloc: Global,
         cache: &mut PageCache<S>,
+        limits: &Limits,
     ) -> Result<Contents, CatalogueFault>
-        ensures takes { IsTrue cache.old.store.is_faithful → Takes contents_text AreContents
-            (rest_of (payload_of cache.old) self.old) (rest_of (payload_of cache.new) self.new) result }
+        ensures takes { IsTrue cache.old.store.is_faithful → Takes contents_text
+            (λ contents. IsRead limits.now.legs (Some contents))
+            (rest_of (payload_of cache.old) self.old) (rest_of (payload_of cache.new) self.new)
+            result }
         ensures reads { OnlyReads cache.old cache.new }
-        ensures caused { IfErr result (IsReadFault cache.old.store cache.new.store) }
+        ensures caused { IfErr result (IsReadFault cache.old cache.new) }
     {
         let head = self.head(alloc, cache)?;
         let columns = head.space.columns.as_slice().len() as u64;
-        let lists = self.lists(alloc, cache, columns)?;
+        let lists = self.lists(alloc, cache, columns, limits)?;
         Ok(Contents { head, lists })
     }
 }

@@ -56,10 +56,11 @@ fn set_state<S: PageStore>(index: &mut TreeIndex<S>) -> Result<(), CatalogueFaul
     }
 }
 
-/// Marks the store of an index as finished: all that is changed is written, then page 0 says so, and is written last.
+/// Marks the store of an index as finished: all that is changed is written, then page 0 says so,
+/// and is written last.
 ///
-/// Refused for want of memory, and where the store fails; page 0 as written then still says that the store is not
-/// finished, unless it was its own writing that failed.
+/// Refused for want of memory, and where the store fails; page 0 as written then still says that
+/// the store is not finished, unless it was its own writing that failed.
 pub(crate) fn finish<S: PageStore>(index: &mut TreeIndex<S>) -> Result<(), CatalogueFault>
     ensures same { index.new ≡ with_cache index.old index.new.cache }
     ensures finishes { OnOk result (IsTrue index.old.cache.store.is_faithful

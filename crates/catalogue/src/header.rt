@@ -55,8 +55,8 @@ fn push_empty(bytes: &mut Vec<u8>) -> Result<(), AllocError>
     push_u64(bytes, 0)
 }
 
-/// How the header of a new store begins: it is not finished, has no leg and no catalogue, and has this shape and these
-/// limits.
+/// How the header of a new store begins: it is not finished, has no leg and no catalogue, and has
+/// this shape and these limits.
 #[tactic(auto, unfolding(crate::specs::Header::header_bytes))]
 fn new_bytes(alloc: Global, shape: &Shape, limits: &Limits) -> Result<Vec<u8>, AllocError>
     ensures { IfOk result (λ bytes. bytes.items ≡ header_bytes shape.now limits.now) }

@@ -98,7 +98,8 @@ fn limits_in(bytes: &[u8]) -> Option<Limits>
 /// What page 0 says; none where the shape or the limits are out of range.
 pub(crate) fn fields_of(payload: &Payload) -> Option<Fields>
     ensures some { IfSome result (λ fields. HasFields payload.now fields) }
-    ensures fits { IfSome result (λ fields. FitsFields fields × IsShape fields.shape × IsLimits fields.limits) }
+    ensures fits { IfSome result (λ fields. FitsFields fields × IsShape fields.shape
+        × IsLimits fields.limits) }
     ensures none { result ≡ None → (fields : Fields) → IsShape fields.shape → IsLimits fields.limits
         → FitsFields fields → HasFields payload.now fields → ⊥ }
 {

@@ -1,4 +1,5 @@
-//! The catalogue of a database in pages: its header in page 0.
+//! The catalogue of a database in pages: it is saved, restored, and a store is begun, opened and
+//! closed.
 #![tactic(auto)]
 
 mod beginning;

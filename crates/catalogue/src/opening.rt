@@ -1,12 +1,13 @@
 //! A store is opened.
 ghost use Rattle.std.specs.Prelude.{◌≡◌, ◌<◌, IsTrue, IfErr, IfOk, None};
 ghost use Rattle.legs.specs.Book.{Book};
+ghost use Rattle.legs.specs.Costs.{ShapeView};
 ghost use Rattle.legs.specs.Limits.{LimitsView};
 ghost use Rattle.pages.specs.Store.{Stays};
 ghost use Rattle.pagecache.specs.Cache.{stored_payload, IsWritten};
 ghost use Rattle.boxsearch.specs.Index.{IndexView};
 ghost use Rattle.catalogue.specs.Holding.{AnswersBook, HoldsBook, IsAtRest, IsUnfinishedStore};
-ghost use Rattle.catalogue.specs.Lasting.{first_fault, ComesFirst, IsReadingFault, IsStop};
+ghost use Rattle.catalogue.specs.Lasting.{first_fault, ComesFirst, IsReadingFault, IsStop, IsTrulyDamaged};
 
 use crate::fault::CatalogueFault;
 use crate::restoring::{lawful, restore};
@@ -28,10 +29,11 @@ fn open_cache<S: PageStore>(
     ensures rest { IfOk result (λ r. IsTrue cache.store.is_faithful → IsAtRest r.0 r.1) }
     ensures capacity { IfOk result (λ r. r.1.cache.capacity ≡ cache.capacity) }
     ensures book { IfOk result (λ r. IsTrue cache.store.is_faithful
-        → (limits : LimitsView) (book : Book) → HoldsBook cache.store limits book
-        → AnswersBook limits book r.0 r.1) }
+        → (shape : ShapeView) (limits : LimitsView) (book : Book)
+        → HoldsBook cache.store shape limits book → AnswersBook shape limits book r.0 r.1) }
     ensures holds { IfErr result (λ back. IsTrue cache.store.is_faithful
-        → (limits : LimitsView) (book : Book) → HoldsBook cache.store limits book → IsStop back.1) }
+        → (shape : ShapeView) (limits : LimitsView) (book : Book)
+        → HoldsBook cache.store shape limits book → IsStop back.1) }
     ensures first { IfErr result (λ back. IsTrue cache.store.is_faithful
         → ComesFirst (first_fault cache.store.count (stored_payload cache.store 0)) back.1) }
     ensures finished { IfOk result (λ r. IsTrue cache.store.is_faithful
@@ -39,6 +41,8 @@ fn open_cache<S: PageStore>(
     ensures stored { IfOk result (λ r. Stays cache.store r.1.cache.store) }
     ensures back { IfErr result (λ back. Stays cache.store (S.seen back.0)) }
     ensures caused { IfErr result (λ back. IsReadingFault cache.store (S.seen back.0) back.1) }
+    ensures damaged { IfErr result (λ back. IsTrulyDamaged cache.store.is_faithful
+        (stored_payload cache.store) cache.store.count back.1) }
 {
     boxsearch::laws();
     lawful(&cache);
@@ -48,8 +52,8 @@ fn open_cache<S: PageStore>(
     }
 }
 
-/// Opens a store, with a cache of at most that many pages, at least 1: the catalogue that its pages keep, and the index
-/// of its legs. Nothing is written.
+/// Opens a store, with a cache of at most that many pages, at least 1: the catalogue that its pages
+/// keep, and the index of its legs. Nothing is written.
 ///
 /// The store is handed back where it is refused, as by [`restore`].
 pub fn open<S: PageStore>(
@@ -64,10 +68,11 @@ pub fn open<S: PageStore>(
 
     // A store whose pages hold a book is opened, and gives that book.
     ensures book { IfOk result (λ r. IsTrue (S.seen store).is_faithful
-        → (limits : LimitsView) (book : Book) → HoldsBook (S.seen store) limits book
-        → AnswersBook limits book r.0 r.1) }
+        → (shape : ShapeView) (limits : LimitsView) (book : Book)
+        → HoldsBook (S.seen store) shape limits book → AnswersBook shape limits book r.0 r.1) }
     ensures holds { IfErr result (λ back. IsTrue (S.seen store).is_faithful
-        → (limits : LimitsView) (book : Book) → HoldsBook (S.seen store) limits book → IsStop back.1) }
+        → (shape : ShapeView) (limits : LimitsView) (book : Book)
+        → HoldsBook (S.seen store) shape limits book → IsStop back.1) }
 
     // Page 0 comes first.
     ensures first { IfErr result (λ back. IsTrue (S.seen store).is_faithful
@@ -79,6 +84,10 @@ pub fn open<S: PageStore>(
     ensures stored { IfOk result (λ r. Stays (S.seen store) r.1.cache.store) }
     ensures back { IfErr result (λ back. Stays (S.seen store) (S.seen back.0)) }
     ensures caused { IfErr result (λ back. IsReadingFault (S.seen store) (S.seen back.0) back.1) }
+
+    // A page that is said to be damaged is so.
+    ensures damaged { IfErr result (λ back. IsTrulyDamaged (S.seen store).is_faithful
+        (stored_payload (S.seen store)) (S.seen store).count back.1) }
 {
     let cache = match PageCache::new(alloc, store, cache_pages) {
         Ok(cache) => cache,

@@ -1,12 +1,13 @@
 //! Page 0 of a store that is read back.
-ghost use Rattle.std.specs.Prelude.{◌≡◌, ◌↔◌, IsTrue, IfErr, IfOk, OnOk, Some, None};
+ghost use Rattle.std.specs.Prelude.{ℕ, Bool, Option, ◌≡◌, ◌↔◌, IsTrue, IfErr, IfOk, OnOk, Some, None};
 ghost use Rattle.legs.specs.Limits.{IsLimits};
 ghost use Rattle.pages.specs.Store.{Store};
+ghost use Rattle.pages.specs.declared.payload.Payload.{Payload};
 ghost use Rattle.pagecache.specs.Cache.{payload_of};
 ghost use Rattle.tbtree.specs.Shape.{IsShape};
 ghost use Rattle.chains.specs.Reads.{OnlyReads};
 ghost use Rattle.catalogue.specs.Fields.{FitsFields, HasFields};
-ghost use Rattle.catalogue.specs.Lasting.{first_fault, header_fault, state_fault, ComesFirst, IsReadingFault, IsStop};
+ghost use Rattle.catalogue.specs.Lasting.{first_fault, header_fault, state_fault, ComesFirst, IsReadingFault, IsStop, IsTrulyDamaged};
 ghost use Rattle.catalogue.specs.Restoring.{result_of, HeaderSays, IsHeaderFault, SaysFields};
 ghost use Rattle.catalogue.specs.declared.header_fields.Fields.{Fields};
 
@@ -27,6 +28,8 @@ const VERSION: u32 = 2;
 fn test_state(state: u32) -> Result<(), CatalogueFault>
     ensures value { result ≡ result_of (state_fault state) }
     ensures caused { IfErr result (λ e. (old new : Store) → IsReadingFault old new e) }
+    ensures damaged { IfErr result (λ e. (faithful : Bool) (at : ℕ → Option Payload) (count : ℕ)
+        → IsTrulyDamaged faithful at count e) }
 {
     match state {
         0 => Err(CatalogueFault::Unfinished),
@@ -40,6 +43,8 @@ fn test_state(state: u32) -> Result<(), CatalogueFault>
 fn test_header(payload: &Payload) -> Result<(), CatalogueFault>
     ensures value { result ≡ result_of (header_fault payload.now) }
     ensures caused { IfErr result (λ e. (old new : Store) → IsReadingFault old new e) }
+    ensures damaged { IfErr result (λ e. (faithful : Bool) (at : ℕ → Option Payload) (count : ℕ)
+        → IsTrulyDamaged faithful at count e) }
 {
     let bytes = &payload.bytes;
     match payload.kind {
@@ -61,6 +66,8 @@ fn header_of(payload: &Payload) -> Result<Fields, CatalogueFault>
     ensures says { IfOk result (λ fields. HeaderSays payload.now fields) }
     ensures fault { IfErr result (IsHeaderFault payload.now) }
     ensures caused { IfErr result (λ e. (old new : Store) → IsReadingFault old new e) }
+    ensures damaged { IfErr result (λ e. (faithful : Bool) (at : ℕ → Option Payload) (count : ℕ)
+        → IsTrulyDamaged faithful at count e) }
 {
     test_header(payload)?;
     match fields_of(payload) {
@@ -79,6 +86,8 @@ pub(crate) fn read_header<S: PageStore>(cache: &mut PageCache<S>) -> Result<Fiel
         → (fields : Fields) → SaysFields cache.old.count (payload_of cache.old 0) fields → ⊥) }
     ensures reads { OnlyReads cache.old cache.new }
     ensures caused { IfErr result (IsReadingFault cache.old.store cache.new.store) }
+    ensures damaged { IfErr result (IsTrulyDamaged cache.old.store.is_faithful
+        (payload_of cache.old) cache.old.count) }
 {
     match cache.page(0) {
         Ok(payload) => header_of(payload),

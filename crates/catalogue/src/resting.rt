@@ -10,21 +10,25 @@ ghost use Rattle.catalogue.specs.Lasting.{first_fault};
 ghost use Rattle.catalogue.specs.Saved.{CatalogueView};
 ghost use Rattle.catalogue.specs.declared.fault.CatalogueFault.{CatalogueFault};
 
-/// What holds of databases at rest and of stores that are not finished, for the proofs of a caller. It does nothing.
+/// What holds of databases at rest and of stores that are not finished, for the proofs of a caller.
+/// It does nothing.
 pub fn laws()
     // What a question leaves of a database at rest is at rest.
-    ensures rests { (c : CatalogueView) (a b : IndexView) → IsAtRest c a → Leaves words a b → IsAtRest c b }
+    ensures rests { (c : CatalogueView) (a b : IndexView) → IsAtRest c a → Leaves words a b
+        → IsAtRest c b }
 
     // At rest the pages of a store hold the book that catalogue and index are of.
     ensures holds { (c : CatalogueView) (index : IndexView) (book : Book)
         → IsTrue index.cache.store.is_faithful → IsLawful index.cache.store → IsSettled index.cache
         → IsAtRest c index → IsSound index → IsOfBook c.limits book c → content index ≡ book.legs
-        → HoldsBook index.cache.store c.limits book }
+        → HoldsBook index.cache.store index.tree.shape c.limits book }
 
-    // A store whose page 0 is marked is not finished; such a store has a page 0, and it is said where it is opened.
+    // A store whose page 0 is marked is not finished; such a store has a page 0, and it is said
+    // where it is opened.
     ensures marked { (cache : Cache) → IsMarked cache → cache.count ≡ cache.store.count
         → IsLawful cache.store → IsUnfinishedStore cache.store }
-    ensures there { (s : Store) → IsUnfinishedStore s → IsTrue s.is_faithful → IsLawful s → 0 < s.count }
+    ensures there { (s : Store) → IsUnfinishedStore s → IsTrue s.is_faithful → IsLawful s
+        → 0 < s.count }
     ensures unfinished { (s : Store) → IsUnfinishedStore s → 0 < s.count
         → first_fault s.count (stored_payload s 0) ≡ Some CatalogueFault.Unfinished }
 {

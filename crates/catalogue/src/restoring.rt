@@ -7,9 +7,10 @@ ghost use Rattle.chains.specs.Reads.{OnlyReads};
 ghost use Rattle.catalogue.specs.Chain.{most_used};
 ghost use Rattle.catalogue.specs.ChainReader.{IsBroken, IsReadFault};
 ghost use Rattle.catalogue.specs.Building.{tree_of};
-ghost use Rattle.catalogue.specs.Lasting.{first_fault, ComesFirst, IsKept, IsReadingFault, IsStop};
+ghost use Rattle.catalogue.specs.Lasting.{first_fault, ComesFirst, IsKept, IsReadingFault, IsStop, IsTrulyDamaged};
 ghost use Rattle.catalogue.specs.Restoring.{HoldsContents, IsRest};
 ghost use Rattle.catalogue.specs.Saved.{CatalogueView};
+ghost use Rattle.catalogue.specs.Text.{AreFew};
 ghost use Rattle.tbtree.specs.declared.tree.Place.{Place};
 ghost use Rattle.tbtree.specs.declared.tree.TbTree.{TbTree};
 ghost use Rattle.catalogue.specs.declared.contents.Contents.{Contents};
@@ -42,21 +43,24 @@ fn read_contents<S: PageStore>(
     fields: &Fields,
 ) -> Result<Option<Contents>, CatalogueFault>
     ensures holds { IfOk result (λ contents. IsTrue cache.old.store.is_faithful
-        → HoldsContents (payload_of cache.old) cache.old.count fields.now.first fields.now.length contents) }
+        → HoldsContents (payload_of cache.old) cache.old.count fields.now.first fields.now.length
+        contents) }
     ensures broken { IfErr result (λ e. IsBroken e → IsTrue cache.old.store.is_faithful
-        → (contents : Option Contents)
-        → HoldsContents (payload_of cache.old) cache.old.count fields.now.first fields.now.length contents → ⊥) }
+        → (contents : Option Contents) → AreFew fields.now.limits.legs contents
+        → HoldsContents (payload_of cache.old) cache.old.count fields.now.first fields.now.length
+        contents → ⊥) }
     ensures reads { OnlyReads cache.old cache.new }
-    ensures caused { IfErr result (IsReadFault cache.old.store cache.new.store) }
+    ensures caused { IfErr result (IsReadFault cache.old cache.new) }
 {
     if !is_short(cache, fields.length) {
         return Err(CatalogueFault::Malformed);
     }
     let mut reader = ChainReader::new(alloc, fields.first, fields.length);
-    reader.whole(alloc, cache)
+    reader.whole(alloc, cache, &fields.limits)
 }
 
-/// What stands behind page 0: a lawful catalogue and the places of its features, where the tree is within the pages.
+/// What stands behind page 0: a lawful catalogue and the places of its features, where the tree is
+/// within the pages.
 fn read_rest<S: PageStore>(
     alloc: Global,
     keys: RandomState,
@@ -69,7 +73,7 @@ fn read_rest<S: PageStore>(
         → (c : CatalogueView) (places : List Place)
         → IsRest (payload_of cache.old) cache.old.count fields.now c places → ⊥) }
     ensures reads { OnlyReads cache.old cache.new }
-    ensures caused { IfErr result (IsReadFault cache.old.store cache.new.store) }
+    ensures caused { IfErr result (IsReadFault cache.old cache.new) }
 {
     let count = cache.count();
     if !is_within(count, fields) {
@@ -115,6 +119,8 @@ fn read_back<S: PageStore>(
         → IsKept (payload_of cache.old) cache.old.count c tree places → ⊥) }
     ensures reads { OnlyReads cache.old cache.new }
     ensures caused { IfErr result (IsReadingFault cache.old.store cache.new.store) }
+    ensures damaged { IfErr result (IsTrulyDamaged cache.old.store.is_faithful
+        (payload_of cache.old) cache.old.count) }
 {
     let fields = read_header(cache)?;
     let (catalogue, places) = read_rest(alloc, keys, cache, &fields)?;
@@ -134,9 +140,10 @@ pub(crate) fn lawful<S: PageStore>(cache: &PageCache<S>)
 
 /// The catalogue that the pages of a finished store keep, and the index of its legs.
 ///
-/// The cache is handed back where they keep none, memory runs out, or the store fails. Of page 0 it is said first that it
-/// is not there (`Malformed`), is damaged, is no header (`Malformed`), has another version, is of a store that was not
-/// finished, or of one in another state (`Malformed`); then the first page that is damaged, or malformed, as met.
+/// The cache is handed back where they keep none, memory runs out, or the store fails. Of page 0 it
+/// is said first that it is not there (`Malformed`), is damaged, is no header (`Malformed`), has
+/// another version, is of a store that was not finished, or of one in another state (`Malformed`);
+/// then the first page that is damaged, or malformed, as met.
 pub fn restore<S: PageStore>(
     alloc: Global,
     keys: RandomState,
@@ -155,6 +162,8 @@ pub fn restore<S: PageStore>(
     ensures back { IfErr result (λ back. OnlyReads cache back.0) }
     ensures back_lawful { IfErr result (λ back. IsLawful back.0.store) }
     ensures caused { IfErr result (λ back. IsReadingFault cache.store back.0.store back.1) }
+    ensures damaged { IfErr result (λ back. IsTrulyDamaged cache.store.is_faithful
+        (payload_of cache) cache.count back.1) }
 {
     let result = read_back(alloc, keys, &mut cache);
     lawful(&cache);

@@ -21,7 +21,8 @@ a,150,190,12.0 3.0 10.0 3.0,walking,2
 c,10,190,12.0 1.0 10.0 2.0 11.0 3.0,vehicle,1
 ";
 
-/// Page 0 of the example's store: how it begins, the shape, the limits, the tree, where the text is, and the dimension.
+/// Page 0 of the example's store: how it begins, the shape, the limits, the tree, where the text
+/// is, and the dimension.
 const HEADER: [u8; 60] = [
     77, 70, 84, 66, 0, 0, 0, 2, 0, 0, 0, 0, 0, 50, 0, 72, 0, 0, 0, 0, 1, 0, 0, 0, 0, 0, 0, 0, 0,
     16, 0, 0, 0, 0, 0, 3, 0, 0, 0, 2, 0, 0, 0, 3, 0, 0, 0, 5, 0, 0, 0, 0, 0, 0, 1, 81, 0, 0, 0, 2,
@@ -74,7 +75,8 @@ fn example(
     Some((catalogue, index))
 }
 
-/// The pages of the example, in an index and saved over `most` pages; the fault, if it is not saved.
+/// The pages of the example, in an index and saved over `most` pages; the fault, if it is not
+/// saved.
 fn saved(
     alloc: Global,
     keys: RandomState,

@@ -182,7 +182,8 @@ fn write_rows<S: PageStore>(
     Ok(())
 }
 
-/// Puts the head of the first accepted file at the end of the text, behind the byte that says that there is one.
+/// Puts the head of the first accepted file at the end of the text, behind the byte that says that
+/// there is one.
 fn write_head<S: PageStore>(
     writer: &mut ChainWriter,
     index: &mut TreeIndex<S>,
@@ -218,7 +219,8 @@ fn write_lists<S: PageStore>(
     rows: &[Values],
 ) -> Result<(), CatalogueFault>
     ensures same { index.new ≡ with_cache index.old index.new.cache }
-    ensures puts { Puts (features_text (features_of tracks.now index.old.places) ++ rows_text rows.now)
+    ensures puts { Puts
+        (features_text (features_of tracks.now index.old.places) ++ rows_text rows.now)
         index.old.cache index.new.cache writer.old writer.new result }
     ensures only { length tracks.now.names < 2 ^ 32 → length rows.now < 2 ^ 32 → (text : List ℕ)
         → Holds index.old.cache writer.old text → IsTrue index.old.cache.store.is_faithful
@@ -233,8 +235,8 @@ fn write_lists<S: PageStore>(
     write_rows(writer, index, rows, row_count)
 }
 
-/// Puts the whole text of a catalogue at the end of an empty one; only what there are too many of for their number is
-/// `Malformed`.
+/// Puts the whole text of a catalogue at the end of an empty one; only what there are too many of
+/// for their number is `Malformed`.
 fn write_catalogue<S: PageStore>(
     writer: &mut ChainWriter,
     index: &mut TreeIndex<S>,
@@ -286,7 +288,8 @@ fn write_fields<S: PageStore>(
     ensures rests { OnErr result (Rests index.old.cache index.new.cache) }
     ensures later { Continues index.old.cache index.new.cache }
     ensures written { IsTrue index.old.cache.store.is_faithful → 0 < index.old.cache.count
-        → is_changed index.old.cache 0 ≡ false → page_of index.new.cache 0 ≡ page_of index.old.cache 0 }
+        → is_changed index.old.cache 0 ≡ false
+        → page_of index.new.cache 0 ≡ page_of index.old.cache 0 }
     ensures only { IsTrue index.old.cache.store.is_faithful → 0 < index.old.cache.count
         → HasFirst index.old.cache → IfErr result IsAllowed }
     ensures caused { IfErr result (IsCaused index.old.cache index.new.cache) }
@@ -300,7 +303,8 @@ fn write_fields<S: PageStore>(
     }
 }
 
-/// Writes the whole text of a catalogue to its chain of pages, and answers the first page and the length of the text.
+/// Writes the whole text of a catalogue to its chain of pages, and answers the first page and the
+/// length of the text.
 fn write_whole<S: PageStore>(
     alloc: Global,
     catalogue: &Catalogue,
@@ -311,7 +315,8 @@ fn write_whole<S: PageStore>(
     ensures kept { KeepsTree index.old.cache index.new.cache }
     ensures beside { OnOk result (IsBeside index.old.cache index.new.cache) }
     ensures text { IfOk result (λ r. IsTrue index.old.cache.store.is_faithful
-        → HasText index.new.cache r.1 r.0 (catalogue_text (contents_of catalogue.now index.old.places))) }
+        → HasText index.new.cache r.1 r.0
+        (catalogue_text (contents_of catalogue.now index.old.places))) }
     ensures few { IfOk result (λ r. IsTrue index.old.cache.store.is_faithful
         → div_ceil r.1 most_used ≤ index.new.cache.count) }
     ensures whole { OnOk result (IsCatalogue catalogue.now
@@ -361,24 +366,30 @@ fn fields_for(catalogue: &Catalogue, tree: TbTree, first: u32, length: u64) -> F
     }
 }
 
-/// Keeps a catalogue in the pages of an index, beside those of its legs: the text in a chain of pages, those of an earlier
-/// catalogue first, and in page 0 where it is, with the limits and the tree. How page 0 begins stays, finished or not.
+/// Keeps a catalogue in the pages of an index, beside those of its legs: the text in a chain of
+/// pages, those of an earlier catalogue first, and in page 0 where it is, with the limits and the
+/// tree. How page 0 begins stays, finished or not.
 ///
-/// Refused for want of memory, and where the store fails or is full; the legs stay, and so does page 0.
+/// Refused for want of memory, and where the store fails or is full; the legs stay, and so does
+/// page 0.
 pub fn save<S: PageStore>(
     alloc: Global,
     catalogue: &Catalogue,
     index: &mut TreeIndex<S>,
 ) -> Result<(), CatalogueFault>
     ensures same { index.new ≡ with_cache index.old index.new.cache }
-    ensures saved { OnOk result (IsCatalogue catalogue.now → IsTrue index.old.cache.store.is_faithful
-        → Says (payload_of index.new.cache) index.new.cache.count catalogue.now index.new.tree index.new.places) }
+    ensures saved { OnOk result (IsTrue index.old.cache.store.is_faithful
+        → Says (payload_of index.new.cache) index.new.cache.count catalogue.now index.new.tree
+        index.new.places) }
+    ensures whole { OnOk result (IsCatalogue catalogue.now
+        → IsWhole (contents_of catalogue.now index.new.places)) }
     ensures front { OnOk result (IsTrue index.old.cache.store.is_faithful
         → 0 < index.old.cache.count → KeepsFront index.old.cache index.new.cache) }
     ensures first { OnErr result (IsTrue index.old.cache.store.is_faithful
         → 0 < index.old.cache.count → payload_of index.new.cache 0 ≡ payload_of index.old.cache 0) }
     ensures first_written { IsTrue index.old.cache.store.is_faithful → 0 < index.old.cache.count
-        → is_changed index.old.cache 0 ≡ false → page_of index.new.cache 0 ≡ page_of index.old.cache 0 }
+        → is_changed index.old.cache 0 ≡ false
+        → page_of index.new.cache 0 ≡ page_of index.old.cache 0 }
     ensures first_unmarked { OnErr result (0 < index.old.cache.count
         → is_changed index.old.cache 0 ≡ false → is_changed index.new.cache 0 ≡ false) }
     ensures later { Continues index.old.cache index.new.cache }

@@ -5,8 +5,8 @@ use pages::{Fuse, MemStore, PageStore};
 use std::alloc::Global;
 use tbtree::Shape;
 
-/// What page 0 of a new store over so many pages begins with, and how many pages there are; or why none is begun, and
-/// how many pages there are then.
+/// What page 0 of a new store over so many pages begins with, and how many pages there are; or why
+/// none is begun, and how many pages there are then.
 fn begun(alloc: Global, most: u32) -> Option<Result<([u8; 60], u32), (CacheFault, u32)>> {
     let shape = Shape::new(50, 72)?;
     let limits = Limits::new(1 << 24, 1 << 20)?;
@@ -39,7 +39,8 @@ fn a_store_without_room_is_handed_back(rt: HostRuntime) {
     assert!(rt; begun(rt.alloc(), 0) == Some(Err((CacheFault::StoreFull, 0))));
 }
 
-/// Why none is begun over a store of which the call after so many fails, and how many pages there are then.
+/// Why none is begun over a store of which the call after so many fails, and how many pages there
+/// are then.
 fn failed(alloc: Global, calls: u64) -> Option<(CacheFault, u32)> {
     let shape = Shape::new(50, 72)?;
     let limits = Limits::new(1 << 24, 1 << 20)?;

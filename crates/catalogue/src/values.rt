@@ -23,9 +23,10 @@ impl ChainReader {
         cache: &mut PageCache<S>,
     ) -> Result<u8, CatalogueFault>
         ensures takes { IsTrue cache.old.store.is_faithful → Takes (λ n. n ∷ []) (IsNumber 8)
-            (rest_of (payload_of cache.old) self.old) (rest_of (payload_of cache.new) self.new) result }
+            (rest_of (payload_of cache.old) self.old) (rest_of (payload_of cache.new) self.new)
+            result }
         ensures reads { OnlyReads cache.old cache.new }
-        ensures caused { IfErr result (IsReadFault cache.old.store cache.new.store) }
+        ensures caused { IfErr result (IsReadFault cache.old cache.new) }
     {
         self.fill(cache, 1)?;
         let value = self.ahead(1)[0];
@@ -39,9 +40,10 @@ impl ChainReader {
         cache: &mut PageCache<S>,
     ) -> Result<u32, CatalogueFault>
         ensures takes { IsTrue cache.old.store.is_faithful → Takes (big_bytes 4) (IsNumber 32)
-            (rest_of (payload_of cache.old) self.old) (rest_of (payload_of cache.new) self.new) result }
+            (rest_of (payload_of cache.old) self.old) (rest_of (payload_of cache.new) self.new)
+            result }
         ensures reads { OnlyReads cache.old cache.new }
-        ensures caused { IfErr result (IsReadFault cache.old.store cache.new.store) }
+        ensures caused { IfErr result (IsReadFault cache.old cache.new) }
     {
         self.fill(cache, 4)?;
         let value = u32_of(self.ahead(4));
@@ -55,9 +57,10 @@ impl ChainReader {
         cache: &mut PageCache<S>,
     ) -> Result<u64, CatalogueFault>
         ensures takes { IsTrue cache.old.store.is_faithful → Takes (big_bytes 8) (IsNumber 64)
-            (rest_of (payload_of cache.old) self.old) (rest_of (payload_of cache.new) self.new) result }
+            (rest_of (payload_of cache.old) self.old) (rest_of (payload_of cache.new) self.new)
+            result }
         ensures reads { OnlyReads cache.old cache.new }
-        ensures caused { IfErr result (IsReadFault cache.old.store cache.new.store) }
+        ensures caused { IfErr result (IsReadFault cache.old cache.new) }
     {
         self.fill(cache, 8)?;
         let value = u64_of(self.ahead(8));
@@ -71,9 +74,10 @@ impl ChainReader {
         cache: &mut PageCache<S>,
     ) -> Result<i64, CatalogueFault>
         ensures takes { IsTrue cache.old.store.is_faithful → Takes signed_bytes IsSigned
-            (rest_of (payload_of cache.old) self.old) (rest_of (payload_of cache.new) self.new) result }
+            (rest_of (payload_of cache.old) self.old) (rest_of (payload_of cache.new) self.new)
+            result }
         ensures reads { OnlyReads cache.old cache.new }
-        ensures caused { IfErr result (IsReadFault cache.old.store cache.new.store) }
+        ensures caused { IfErr result (IsReadFault cache.old cache.new) }
     {
         self.fill(cache, 8)?;
         let value = i64_of(self.ahead(8));
@@ -85,7 +89,8 @@ impl ChainReader {
     fn ready_text(&self, alloc: Global, len: usize) -> Result<Text, CatalogueFault>
         requires { len ≤ length self.now.bytes }
         ensures text { IfOk result (λ text. (text ≡ take len self.now.bytes) × IsUtf8 text) }
-        ensures broken { IsErrOf result CatalogueFault.Malformed → IsUtf8 (take len self.now.bytes) → ⊥ }
+        ensures broken { IsErrOf result CatalogueFault.Malformed
+            → IsUtf8 (take len self.now.bytes) → ⊥ }
         ensures memory { IfErr result IsTextFault }
     {
         let mut bytes = Vec::new(alloc);
@@ -103,9 +108,10 @@ impl ChainReader {
         cache: &mut PageCache<S>,
     ) -> Result<Text, CatalogueFault>
         ensures takes { IsTrue cache.old.store.is_faithful → Takes short_text IsShortText
-            (rest_of (payload_of cache.old) self.old) (rest_of (payload_of cache.new) self.new) result }
+            (rest_of (payload_of cache.old) self.old) (rest_of (payload_of cache.new) self.new)
+            result }
         ensures reads { OnlyReads cache.old cache.new }
-        ensures caused { IfErr result (IsReadFault cache.old.store cache.new.store) }
+        ensures caused { IfErr result (IsReadFault cache.old cache.new) }
     {
         let len = self.u64(cache)? as usize;
         self.fill(cache, len)?;

@@ -1,5 +1,5 @@
-use Rattle.std.proofs.Common.{◌∙◌, sym, subst, IsTrue}
-use Rattle.std.specs.Prelude.{All, bytes_eq}
+use Rattle.std.proofs.Common.{subst, IsTrue}
+use Rattle.std.specs.Prelude.{bytes_eq}
 use Rattle.std.specs.List.{list_any}
 use Rattle.catalogue.proofs.BuildLemmas.{there_not}
 use Rattle.catalogue.proofs.building.add_feature.Goals as goal

@@ -1,8 +1,7 @@
-use Rattle.std.proofs.Common.{◌≡◌, ◌∙◌, ◌++◌, ◌∷◌, [], ap, sym, subst, List}
+use Rattle.std.proofs.Common.{◌≡◌, ◌∙◌, ◌++◌, ◌∷◌, [], ap, sym, subst}
 use Rattle.std.specs.Vec.Iter.{into_iter_items}
 use Rattle.std.proofs.lemmas.List.{append_assoc}
 use Rattle.std.proofs.lemmas.Result.{err_from_is_err_and}
-use Rattle.catalogue.specs.declared.contents.Feature.{Feature}
 use Rattle.catalogue.specs.Building.{AreLawful}
 use Rattle.catalogue.proofs.ReaderLemmas.{if_err_of}
 use Rattle.catalogue.proofs.BuildLemmas.{known_more, known_not}

@@ -1,6 +1,5 @@
-use Rattle.std.proofs.Common.{◌≡◌, ◌∙◌, ◌<◌, ◌≤◌, ◌-◌, ◌^◌, ap, sym, subst, refl, arith, length, nat_le, Some, IsTrue, true, false}
+use Rattle.std.proofs.Common.{◌≡◌, ◌∙◌, ◌<◌, ◌-◌, ◌^◌, ap, sym, refl, arith, length, nat_le, Some, true, false}
 use Rattle.std.proofs.lemmas.Result.{err_from_is_err_and}
-use Rattle.legs.specs.Tracks.{TracksView}
 use Rattle.catalogue.specs.ChainReader.{IsBroken}
 use Rattle.catalogue.specs.Building.{IsOf}
 use Rattle.catalogue.specs.Saved.{CatalogueView}

@@ -6,7 +6,7 @@ use Rattle.legs.specs.declared.head.BookHead.{BookHead}
 use Rattle.pagecache.specs.Cache.{IsSettled}
 use Rattle.boxsearch.specs.Index.{content, IndexView, IsMarked, IsSound}
 use Rattle.catalogue.specs.Closing.{IsNoStoreFault}
-use Rattle.catalogue.specs.Holding.{IsOfBook, IsUnfinishedStore}
+use Rattle.catalogue.specs.Holding.{HoldsBook, IsOfBook, IsUnfinishedStore}
 use Rattle.catalogue.specs.Saved.{CatalogueView}
 use Rattle.catalogue.specs.Saving.{IsAllowed}
 use Rattle.catalogue.proofs.CloseLemmas.{closed_holds, front_unfinished, front_unwritten, of_catalogue, of_few, of_lawful, of_within, only_memory, says_stored, still_says, PlaceLaws}
@@ -46,11 +46,13 @@ returns-clause-holds g c =
     let legs : content j ≡ book.legs = c.in_ok-save.ensures.content ∙ ap (λ (x : IndexView). content x) same ∙ was_legs in
     let places : PlaceLaws j = record { bounds = laws.bounds j saved; counts = laws.counts j saved; total = laws.total j saved } in
     let front = c.in_ok-save.ensures.front marked.faithful marked.there in
-    closed_holds (record { content = laws.content; sound = laws.sound; alike = laws.alike }) catalogue j book new saved of legs
+    let shape = ap (λ (x : IndexView). x.tree.shape) c.save.ensures.same ∙ ap (λ (x : IndexView). x.tree.shape) same in
+    subst (λ t. HoldsBook new.store t catalogue.limits book) shape
+    (closed_holds (record { content = laws.content; sound = laws.sound; alike = laws.alike }) catalogue j book new saved of legs
     (of_lawful catalogue j book places saved of legs dated) (of_within catalogue j book places saved of legs dated)
-    (c.in_ok-save.ensures.saved (of_catalogue catalogue book of) sound.faithful)
+    (c.in_ok-save.ensures.saved sound.faithful) (c.in_ok-save.ensures.whole (of_catalogue catalogue book of))
     front.payload front.is (front_unfinished i.cache j.cache marked settled front)
-    (finishes saved.faithful saved.count) lawful c.finish.ensures.later.store.faithful) c.finish.ensures.finishes
+    (finishes saved.faithful saved.count) lawful c.finish.ensures.later.store.faithful)) c.finish.ensures.finishes
 
 pub returns-clause-unfinished : goal.returns-clause-unfinished
 returns-clause-unfinished g c =

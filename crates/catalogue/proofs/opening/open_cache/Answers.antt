@@ -1,5 +1,5 @@
-use Rattle.std.proofs.Common.{◌≡◌, ◌∙◌, ap, sym, subst, refl}
-use Rattle.catalogue.proofs.OpenLemmas.{opened_book, opened_held, opened_rest, opened_stays, stop_of}
+use Rattle.std.proofs.Common.{sym, subst, refl}
+use Rattle.catalogue.proofs.OpenLemmas.{opened_book, opened_damaged, opened_held, opened_rest, opened_stays, stop_of}
 use Rattle.pages.specs.Store.{Stays}
 use Rattle.catalogue.proofs.opening.open_cache.Goals as goal
 
@@ -9,19 +9,22 @@ returns-in-Ok-clause-rest g c = λ fa.
     opened_rest c.args.cache r.1.cache c.in-Ok.ensures.reads c.requires.written c.requires.count c.lawful.ensures fa r.0 r.1.tree r.1.places (c.in-Ok.ensures.kept fa) r.1 refl refl refl c.in-Ok.ensures.legs
 
 pub returns-in-Ok-clause-book : goal.returns-in-Ok-clause-book
-returns-in-Ok-clause-book g c = λ fa limits book h.
+returns-in-Ok-clause-book g c = λ fa shape limits book h.
     let r = c.in-Ok.restored in
     opened_book c.args.cache r.1.cache c.in-Ok.ensures.reads c.requires.written c.requires.count c.lawful.ensures fa r.0 r.1.tree r.1.places (c.in-Ok.ensures.kept fa) r.1 refl refl refl c.in-Ok.ensures.legs
-    c.laws.ensures.alike c.laws.ensures.content c.laws.ensures.sound limits book h
+    c.laws.ensures.alike c.laws.ensures.content c.laws.ensures.sound shape limits book h
 
 pub returns-in-Ok-clause-stored : goal.returns-in-Ok-clause-stored
 returns-in-Ok-clause-stored g c = opened_stays c.args.cache c.in-Ok.restored.1.cache c.in-Ok.ensures.reads c.requires.written c.requires.count c.lawful.ensures c.in-Ok.ensures.lawful
 
 pub returns-in-Err-clause-holds : goal.returns-in-Err-clause-holds
-returns-in-Err-clause-holds g c = λ fa limits book h.
+returns-in-Err-clause-holds g c = λ fa shape limits book h.
     let a = c.args.cache in
-    let kept = opened_held a c.requires.written c.requires.count fa limits book h in
+    let kept = opened_held a c.requires.written c.requires.count fa shape limits book h in
     stop_of c.in-Err.fault (λ not. c.in-Err.ensures.broken fa not h.catalogue h.tree h.places kept)
+
+pub returns-in-Err-clause-damaged : goal.returns-in-Err-clause-damaged
+returns-in-Err-clause-damaged g c = opened_damaged c.args.cache c.requires.written c.requires.count c.in-Err.fault c.in-Err.ensures.damaged
 
 pub returns-in-Err-clause-back : goal.returns-in-Err-clause-back
 returns-in-Err-clause-back g c =

@@ -1,15 +1,14 @@
-use Rattle.std.proofs.Common.{◌≡◌, ◌∙◌, ◌<◌, ap, sym, subst, List, ℕ, IsTrue, Option}
-use Rattle.std.specs.Prelude.{IfErr, Result}
+use Rattle.std.proofs.Common.{◌≡◌, ◌∙◌, sym, subst, List, ℕ, IsTrue, Option}
 use Rattle.std.proofs.lemmas.Result.{err_from_is_err_and}
 use Rattle.pages.specs.declared.payload.Payload.{Payload}
 use Rattle.pagecache.specs.Cache.{payload_of}
 use Rattle.tbtree.specs.declared.tree.Place.{Place}
 use Rattle.tbtree.specs.declared.tree.TbTree.{TbTree}
-use Rattle.catalogue.specs.Lasting.{IsKept, IsStop}
-use Rattle.catalogue.specs.Restoring.{IsRest, SaysFields}
+use Rattle.catalogue.specs.Lasting.{IsKept, IsStop, IsTrulyDamaged}
+use Rattle.catalogue.specs.Restoring.{IsRest}
 use Rattle.catalogue.specs.Saved.{CatalogueView}
 use Rattle.catalogue.proofs.ReaderLemmas.{if_err_of, reads_trans}
-use Rattle.catalogue.proofs.RestoreLemmas.{broken_of, fields_kept, kept_fields, no_kept, rest_kept}
+use Rattle.catalogue.proofs.RestoreLemmas.{broken_of, damaged_of, fields_kept, kept_fields, no_kept, rest_kept}
 use Rattle.catalogue.proofs.restoring.read_back.Goals as goal
 
 pub returns-in_err-fields-clause-broken : goal.returns-in_err-fields-clause-broken
@@ -29,11 +28,18 @@ returns-in_err-catalogue-clause-broken g c =
     let reads = c.in_ok-fields.ensures.reads in
     if_err_of (λ e. IsTrue c.args.cache.now.store.is_faithful → (IsStop e → ⊥) → (k : CatalogueView) (tree : TbTree) (places : List Place) → IsKept at count k tree places → ⊥) c.from_residual-in_err-catalogue.result p.0 c.in_err-catalogue.field-0.0 p.1 p.2
     (λ fa not.
-    let broken = broken_of mid.store c.read_rest.new.cache.store c.in_err-catalogue.field-0.0 c.in_err-catalogue.ensures.caused not in
+    let broken = broken_of mid c.read_rest.new.cache c.in_err-catalogue.field-0.0 c.in_err-catalogue.ensures.caused not in
     let same : payload_of mid ≡ at = (λ i n. reads.payloads fa n i) in
     let none = c.in_err-catalogue.ensures.broken broken (reads.store.faithful ∙ fa) in
     no_kept at count c.in_ok-fields.fields (c.in_ok-fields.ensures.says fa)
     (λ k places rest. none k places (subst (λ n. IsRest (payload_of mid) n c.in_ok-fields.fields k places) (sym reads.count) (subst (λ (f : ℕ → Option Payload). IsRest f count c.in_ok-fields.fields k places) (sym same) rest))))
+
+pub returns-in_err-catalogue-clause-damaged : goal.returns-in_err-catalogue-clause-damaged
+returns-in_err-catalogue-clause-damaged g c =
+    let p = err_from_is_err_and c.from_residual-in_err-catalogue.result c.from_residual-in_err-catalogue.ensures.1 in
+    let a = c.args.cache.now in
+    if_err_of (λ e. IsTrulyDamaged a.store.is_faithful (payload_of a) a.count e) c.from_residual-in_err-catalogue.result p.0 c.in_err-catalogue.field-0.0 p.1 p.2
+    (damaged_of a c.read_header.new.cache c.read_rest.new.cache c.in_err-catalogue.field-0.0 c.in_ok-fields.ensures.reads c.in_err-catalogue.ensures.reads c.in_err-catalogue.ensures.caused)
 
 pub returns-clause-kept : goal.returns-clause-kept
 returns-clause-kept g c = λ fa.

@@ -1,14 +1,24 @@
-use Rattle.std.proofs.Common.{◌≡◌, ◌∙◌, ◌<◌, ap, sym, subst, List, ℕ, IsTrue}
-use Rattle.std.specs.Prelude.{IfErr, Result}
+use Rattle.std.proofs.Common.{subst, List, IsTrue}
+use Rattle.std.proofs.lemmas.Result.{err_from_is_err_and}
 use Rattle.pagecache.specs.Cache.{payload_of}
 use Rattle.tbtree.specs.declared.tree.Place.{Place}
 use Rattle.catalogue.specs.ChainReader.{IsBroken}
 use Rattle.catalogue.specs.Building.{IsOf}
 use Rattle.catalogue.specs.Restoring.{IsRest}
 use Rattle.catalogue.specs.Saved.{CatalogueView}
-use Rattle.catalogue.proofs.ReaderLemmas.{if_err}
+use Rattle.catalogue.proofs.BuildLemmas.{contents_few}
+use Rattle.catalogue.proofs.ReaderLemmas.{if_err, if_err_of}
 use Rattle.catalogue.proofs.RestoreLemmas.{no_rest}
 use Rattle.catalogue.proofs.restoring.read_rest.Goals as goal
+
+pub returns-in_err-contents-clause-broken : goal.returns-in_err-contents-clause-broken
+returns-in_err-contents-clause-broken g c =
+    let p = err_from_is_err_and c.from_residual.result c.from_residual.ensures.1 in
+    let at = payload_of c.args.cache.now in
+    let count = c.args.cache.now.count in
+    let fields = c.args.fields.now in
+    if_err_of (λ e. IsBroken e → IsTrue c.args.cache.now.store.is_faithful → (k : CatalogueView) (places : List Place) → IsRest at count fields k places → ⊥) c.from_residual.result p.0 c.in_err-contents.field-0.0 p.1 p.2
+    (λ b fa k places rest. c.in_err-contents.ensures.broken b fa rest.contents (contents_few count fields rest.contents k places rest.of) rest.holds)
 
 pub returns-clause-broken : goal.returns-clause-broken
 returns-clause-broken g c =

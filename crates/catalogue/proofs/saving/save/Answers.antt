@@ -1,6 +1,8 @@
 use Rattle.std.proofs.Common.{◌≡◌, ◌∙◌, ap, sym, subst, Result, Ok, Err, OnOk}
 use Rattle.boxsearch.specs.Beside.{with_cache}
 use Rattle.boxsearch.specs.Index.{content, IndexView, IsSound}
+use Rattle.catalogue.specs.Saving.{contents_of}
+use Rattle.catalogue.specs.Text.{IsWhole}
 use Rattle.catalogue.proofs.ReaderLemmas.{on_ok}
 use Rattle.catalogue.proofs.SavingLemmas.{beside_trans}
 use Rattle.catalogue.proofs.SaveLemmas.{reads_beside, puts_beside, keeps_front, says}
@@ -35,14 +37,20 @@ returns-clause-saved g c =
     let earlier = ap (λ (i : IndexView). i.places) c.earlier_page.ensures.same in
     let places = ap (λ (i : IndexView). i.places) fields ∙ ap (λ (i : IndexView). i.places) c.write_whole.ensures.same in
     let tree = sym (c.tree.ensures ∙ sym (ap (λ (i : IndexView). i.tree) fields)) in
-    on_both c.write_fields.result (λ puts fits all fa.
+    on_both c.write_fields.result (λ puts fits fa.
     let reads = c.earlier_page.ensures.reads in
     let fb = reads.store.faithful ∙ fa in
     says x d c.fields_for-fields.result puts a b reads c.write_whole.ensures.kept.passes fa catalogue c.write_fields.new.index.tree c.tree.result c.write_fields.new.index.places c.earlier_page.new.index.places first length
-    c.fields_for-fields.ensures fits tree places (c.in_ok-first.ensures.text fb) (c.in_ok-first.ensures.few fb) (c.in_ok-first.ensures.whole all)) c.write_fields.ensures.puts c.write_fields.ensures.fits where
+    c.fields_for-fields.ensures fits tree places (c.in_ok-first.ensures.text fb) (c.in_ok-first.ensures.few fb)) c.write_fields.ensures.puts c.write_fields.ensures.fits where
       on_both : {T E : Type 0} {P Q R : Type 0} (r : Result T E) → (P → Q → R) → OnOk r P → OnOk r Q → OnOk r R
       on_both (Ok x) f p q = f p q
       on_both (Err e) f p q = tt
+
+pub returns-clause-whole : goal.returns-clause-whole
+returns-clause-whole g c =
+    let catalogue = c.args.catalogue.now in
+    let places = ap (λ (i : IndexView). i.places) c.write_fields.ensures.same ∙ ap (λ (i : IndexView). i.places) c.write_whole.ensures.same in
+    on_ok c.write_fields.result (λ fits all. subst (λ l. IsWhole (contents_of catalogue l)) (sym places) (c.in_ok-first.ensures.whole all)) c.write_fields.ensures.fits
 
 pub returns-clause-content : goal.returns-clause-content
 returns-clause-content g c =

@@ -11,5 +11,5 @@ returns-in-Err-clause-takes g c = λ fa.
     let old = rest_of (payload_of c.args.cache.now) c.args.self.now in
     record {
       taken = tt;
-      lacks = λ b. subst (λ n. Lacks body_text (IsBody n) old) (sym c.in-1.is) (no_body old ((c.in-Err.ensures.takes fa).lacks b));
+      lacks = λ b. subst (λ n. Lacks body_text (IsBody c.args.limits.now.legs n) old) (sym c.in-1.is) (no_body c.args.limits.now.legs old ((c.in-Err.ensures.takes fa).lacks b));
     }

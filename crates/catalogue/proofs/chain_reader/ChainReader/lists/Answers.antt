@@ -1,10 +1,11 @@
-use Rattle.std.proofs.Common.{◌∙◌}
+use Rattle.std.proofs.Common.{◌∙◌, arith}
+use Rattle.std.proofs.lemmas.Int.{clamps}
 use Rattle.std.proofs.lemmas.Result.{err_from_is_err_and}
 use Rattle.pagecache.specs.Cache.{payload_of}
 use Rattle.catalogue.specs.ChainReader.{rest_of}
-use Rattle.catalogue.specs.Text.{lists_text, AreLists}
-use Rattle.catalogue.proofs.EntryLemmas.{no_rows_list}
-use Rattle.catalogue.proofs.SequenceLemmas.{lacks_err}
+use Rattle.catalogue.specs.Text.{features_text, lists_text, rows_text, AreRead}
+use Rattle.catalogue.proofs.EntryLemmas.{no_rows_list, too_many_legs}
+use Rattle.catalogue.proofs.SequenceLemmas.{lacks_err, taken_both}
 use Rattle.catalogue.proofs.chain_reader.ChainReader.lists.Goals as goal
 
 pub returns-in_err-rows-clause-takes : goal.returns-in_err-rows-clause-takes
@@ -14,5 +15,33 @@ returns-in_err-rows-clause-takes g c = λ fa.
     let mid = rest_of (payload_of c.counted_features.new.cache) c.counted_features.new.self in
     let new = rest_of (payload_of c.counted_rows.new.cache) c.counted_rows.new.self in
     let first = (c.in_ok-features.ensures.takes fa).taken in
-    lacks_err lists_text (AreLists c.args.columns) old new c.from_residual-in_err-rows.result c.in_err-rows.field-0.0 p.0 p.1 p.2
-    (λ b. no_rows_list c.args.columns c.in_ok-features.features old mid first.0 first.1 ((c.in_err-rows.ensures.takes (c.in_ok-features.ensures.reads.store.faithful ∙ fa)).lacks b))
+    lacks_err lists_text (AreRead c.args.columns c.args.limits.now.legs) old new c.from_residual-in_err-rows.result c.in_err-rows.field-0.0 p.0 p.1 p.2
+    (λ b. no_rows_list c.args.columns c.args.limits.now.legs c.leg_sum-legs.result c.in_ok-features.features old mid c.leg_sum-legs.ensures first.0 first.1 ((c.in_err-rows.ensures.takes (c.in_ok-features.ensures.reads.store.faithful ∙ fa)).lacks b))
+
+pub returns-then-legs-clause-takes : goal.returns-then-legs-clause-takes
+returns-then-legs-clause-takes g c = λ fa.
+    let old = rest_of (payload_of c.args.cache.now) c.args.self.now in
+    let mid = rest_of (payload_of c.counted_features.new.cache) c.counted_features.new.self in
+    let first = (c.in_ok-features.ensures.takes fa).taken in
+    let sum = c.leg_sum-legs.ensures in
+    let limit = c.legs.ensures.value in
+    record { taken = tt; lacks = λ b. too_many_legs c.args.columns c.args.limits.now.legs c.in_ok-features.features old mid first.0 first.1 (omega (arith, clamps, sum, limit, c.if-legs.true)) }
+
+pub returns-clause-takes : goal.returns-clause-takes
+returns-clause-takes g c = λ fa.
+    let old = rest_of (payload_of c.args.cache.now) c.args.self.now in
+    let mid = rest_of (payload_of c.counted_features.new.cache) c.counted_features.new.self in
+    let new = rest_of (payload_of c.counted_rows.new.cache) c.counted_rows.new.self in
+    let features = (c.in_ok-features.ensures.takes fa).taken in
+    let rows = (c.in_ok-rows.ensures.takes (c.in_ok-features.ensures.reads.store.faithful ∙ fa)).taken in
+    let sum = c.leg_sum-legs.ensures in
+    let limit = c.legs.ensures.value in
+    let least = c.legs.ensures.limits.few_legs in
+    let few = rows.0.few in
+    record {
+      taken = (
+        record { are = record { features = features.0; rows = rows.0.has }; few = record { legs = omega (arith, clamps, sum, limit, least, c.if-legs.false); rows = omega (arith, clamps, sum, few) } },
+        taken_both lists_text (AreRead c.args.columns c.args.limits.now.legs) (features_text c.in_ok-features.features) (rows_text c.in_ok-rows.rows) old mid new features.1 rows.1,
+      );
+      lacks = tt;
+    }
