@@ -1,7 +1,8 @@
 -- A database that lasts between runs.
-use Rattle.std.proofs.Common.{◌≡◌, refl, sym, ap, ◌∙◌, subst, true, false, Result, Ok, Err, IsTrue}
+use Rattle.std.proofs.Common.{ℕ, Bool, Option, ◌≡◌, refl, sym, ap, ◌∙◌, subst, true, false, Result, Ok, Err, IsTrue}
 use Rattle.std.specs.Prelude.{IfErr, OnOk}
 use Rattle.legs.specs.Book.{Book}
+use Rattle.legs.specs.Costs.{ShapeView}
 use Rattle.legs.specs.Law.{IsBook}
 use Rattle.legs.specs.Limits.{IsLimits, LimitsView}
 use Rattle.legs.specs.Tracks.{StandsFor}
@@ -13,6 +14,7 @@ use Rattle.catalogue.specs.Saving.{IsAllowed}
 use Rattle.catalogue.specs.declared.fault.CatalogueFault.{CatalogueFault}
 use Rattle.catalogue.specs.declared.fault.CatalogueFault.TheVariants as fault
 use Rattle.pages.specs.Store.{Store, IsLawful}
+use Rattle.pages.specs.declared.payload.Payload.{Payload}
 use Rattle.pagecache.specs.Cache.{IsSettled}
 use Rattle.catalogue.specs.Closing.{IsNoStoreFault}
 use Rattle.catalogue.specs.declared.fault.CatalogueFault.TheVariants.{Memory, StoreFull, Damaged, Unfinished, Version, Malformed}
@@ -21,11 +23,11 @@ use Rattle.trajdb.specs.Calls.{IsLoadFault, KeepsPages}
 use Rattle.trajdb.specs.Database.{catalogue_of, restored}
 use Rattle.trajdb.specs.Db.{DbView, HasPages, IsSound}
 use Rattle.trajdb.specs.Faults.{closed_answer, opened_fault_of}
-use Rattle.trajdb.specs.Lasting.{HasBook, IsFaultless, IsIdle, IsStop}
+use Rattle.trajdb.specs.Lasting.{HasBook, IsFaultless, IsIdle, IsStop, IsTrulyDamaged}
 
 -- a book that is answered is that of the database
-pub opened_book : (limits : LimitsView) (book : Book) (c : CatalogueView) (index : IndexView) (db : DbView) → db ≡ restored words c index → IsLimits db.limits → AnswersBook limits book c index → HasBook limits book db
-opened_book limits book c index db is lawful answers =
+pub opened_book : (shape : ShapeView) (limits : LimitsView) (book : Book) (c : CatalogueView) (index : IndexView) (db : DbView) → db ≡ restored words c index → IsLimits db.limits → AnswersBook shape limits book c index → HasBook shape limits book db
+opened_book shape limits book c index db is lawful answers =
     let of = answers.of in
     let same : (restored words c index).book ≡ book = (λ i. record { head = of.head i; names = of.tracks.names i; legs = answers.legs i; rows = of.rows i }) in
     let all : db.book ≡ book = ap (λ (d : DbView). d.book) is ∙ same in
@@ -37,9 +39,20 @@ opened_book limits book c index db is lawful answers =
         tracks = subst (λ (b : Book). StandsFor db.tracks b) (sym all) (subst (λ (d : DbView). StandsFor d.tracks book) (sym is) of.tracks);
         law = subst (λ (b : Book). IsBook db.limits b) (sym all) (subst (λ l. IsBook l book) (sym limits_are) of.law);
       };
+      shape_is = ap (λ (d : DbView). d.index.tree.shape) is ∙ answers.shape_is;
       book_is = all;
       limits_are = limits_are;
     }
+
+-- a page that is damaged is said to be
+pub damaged_still : (faithful : Bool) (at : ℕ → Option Payload) (count : ℕ) (e : CatalogueFault) → catalogue.IsTrulyDamaged faithful at count e → IsTrulyDamaged faithful at count (opened_fault_of e)
+damaged_still faithful at count Memory h = tt
+damaged_still faithful at count fault.Store h = tt
+damaged_still faithful at count StoreFull h = tt
+damaged_still faithful at count (Damaged page) h = h
+damaged_still faithful at count Unfinished h = tt
+damaged_still faithful at count Version h = tt
+damaged_still faithful at count Malformed h = tt
 
 -- want of memory and a store that failed stay so
 pub stopped : (e : CatalogueFault) → catalogue.IsStop e → IsStop (opened_fault_of e)
@@ -67,14 +80,14 @@ pub own_book : (db : DbView) → IsSound db → IsOfBook db.limits db.book (cata
 own_book db sound = record { head = refl; limits_are = refl; rows = refl; tracks = sound.tracks; law = sound.law }
 
 -- the store of a database at rest holds its book
-pub rest_book : ((c : CatalogueView) (i : IndexView) (book : Book) → IsTrue i.cache.store.is_faithful → IsLawful i.cache.store → IsSettled i.cache → IsAtRest c i → IsSoundIndex i → IsOfBook c.limits book c → content i ≡ book.legs → HoldsBook i.cache.store c.limits book)
-    → (db : DbView) → content db.index ≡ db.book.legs → IsLawful db.index.cache.store → IsSettled db.index.cache → IsSound db → IsIdle db → db.begun ≡ false → db.failed ≡ false → HoldsBook db.index.cache.store db.limits db.book
+pub rest_book : ((c : CatalogueView) (i : IndexView) (book : Book) → IsTrue i.cache.store.is_faithful → IsLawful i.cache.store → IsSettled i.cache → IsAtRest c i → IsSoundIndex i → IsOfBook c.limits book c → content i ≡ book.legs → HoldsBook i.cache.store i.tree.shape c.limits book)
+    → (db : DbView) → content db.index ≡ db.book.legs → IsLawful db.index.cache.store → IsSettled db.index.cache → IsSound db → IsIdle db → db.begun ≡ false → db.failed ≡ false → HoldsBook db.index.cache.store db.index.tree.shape db.limits db.book
 rest_book holds db legs lawful settled sound idle begun lives = holds (catalogue_of db) db.index db.book sound.index.faithful lawful settled (idle begun lives) sound.index (own_book db sound) legs
 
 -- so does the store that is closed
 pub closed_holds : (db : DbView) (s : Store) (answer : Result (Unit {0}) CatalogueFault) → content db.index ≡ db.book.legs
-    → OnOk answer (IsSoundIndex db.index → IsMarked db.index.cache → (book : Book) → IsOfBook db.limits book (catalogue_of db) → content db.index ≡ book.legs → HoldsBook s db.limits book)
-    → db.begun ≡ true → OnOk (closed_answer answer) (IsSound db → HasPages db → IsIdle db → HoldsBook s db.limits db.book)
+    → OnOk answer (IsSoundIndex db.index → IsMarked db.index.cache → (book : Book) → IsOfBook db.limits book (catalogue_of db) → content db.index ≡ book.legs → HoldsBook s db.index.tree.shape db.limits book)
+    → db.begun ≡ true → OnOk (closed_answer answer) (IsSound db → HasPages db → IsIdle db → HoldsBook s db.index.tree.shape db.limits db.book)
 closed_holds db s (Ok x) legs h begun = λ sound pages idle. h sound.index (pages.begun begun) db.book (own_book db sound) legs
 closed_holds db s (Err e) legs h begun = tt
 

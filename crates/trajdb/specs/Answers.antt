@@ -70,6 +70,13 @@ abbrev pub load_text : Result Counts (FileCode × ℕ) → List ℕ
 load_text (Ok counts) = counts_text counts
 load_text (Err fault) = codes "refused " ++ file_code fault.0 ++ codes " at " ++ decimal fault.1 ++ 10 ∷ []
 
+-- the text is an answer to `load`: counts, or a refusal
+abbrev pub IsCountsText : List ℕ → Type 0
+IsCountsText text = (counts : Counts) × (text ≡ counts_text counts)
+
+abbrev pub IsFileRefusal : List ℕ → Type 0
+IsFileRefusal text = (fault : FileCode × ℕ) × (text ≡ load_text (Err fault))
+
 -- the answer to `count`
 abbrev pub count_text : Book → List ℕ
 count_text book = ok_text 1 ++ decimal (length book.legs) ++ 44 ∷ [] ++ decimal (length book.names) ++ 10 ∷ []

@@ -1,5 +1,5 @@
 -- What a call of a database leaves, and why it stopped.
-use Rattle.std.specs.Prelude.{ℕ, ◌≡◌, true, false, List, Option, Some, None, Result, Ok, Err, IsTrue, is_some, ◌⊎◌, ◌↔◌, drop, length, sum_by, map}
+use Rattle.std.specs.Prelude.{ℕ, ◌≡◌, ◌<◌, [], slice_index_or, true, false, List, Option, Some, None, Result, Ok, Err, IsTrue, is_some, ◌⊎◌, ◌↔◌, drop, length, sum_by, map}
 use Rattle.std.specs.List.{range_with_len}
 use Rattle.timebase.specs.Period.{PeriodView}
 use Rattle.legs.specs.declared.head.BookHead.{BookHead}
@@ -11,10 +11,13 @@ use Rattle.predicates.specs.Near.{box_near}
 use Rattle.legs.specs.Index.{HasRisen}
 use Rattle.legs.specs.Asking.{IsLater as IsLaterIndex, Leaves as IndexLeaves}
 use Rattle.legs.specs.declared.listed.Listed.{Ghosts}
+use Rattle.mfcsv.specs.FileText.{file_text}
+use Rattle.mfcsv.specs.declared.File.{File}
 use Rattle.querylang.specs.Line.{line_of}
 use Rattle.querylang.specs.declared.LineCode.{LineCode}
 use Rattle.querylang.specs.declared.Command.{Command}
 use Rattle.querylang.specs.declared.Command.TheVariants.{Load, Count, Box, Legs, Features, Trajectory, Write}
+use Rattle.trajdb.specs.Answers.{IsCountsText, IsFileRefusal}
 use Rattle.trajdb.specs.Files.{file_named}
 use Rattle.trajdb.specs.Database.{CoreView, IsSound}
 use Rattle.trajdb.specs.declared.LoadFault.{LoadFault}
@@ -163,6 +166,47 @@ LoadsIn files (Err code) = ⊥
 -- so is the line
 unfoldable pub LoadsBy : List (List ℕ × List ℕ) → List ℕ → Type 0
 LoadsBy files line = LoadsIn files (line_of line)
+
+-- the text of a file has no fault
+abbrev pub IsWholeFile : List ℕ → Type 0
+IsWholeFile bytes = (file : File) × (file_text bytes ≡ Ok file)
+
+-- a file is there, and its text has no fault
+abbrev pub NamesWhole : Option (List ℕ) → Type 0
+NamesWhole None = ⊥
+NamesWhole (Some bytes) = IsWholeFile bytes
+
+-- the command is a `load` of such a file
+abbrev pub LoadsWhole : List (List ℕ × List ℕ) → Command → Type 0
+LoadsWhole files (Load name) = NamesWhole (file_named files name)
+LoadsWhole files Count = ⊥
+LoadsWhole files (Box rect period) = ⊥
+LoadsWhole files (Legs predicate rect period) = ⊥
+LoadsWhole files (Features predicate rect period) = ⊥
+LoadsWhole files (Trajectory name) = ⊥
+LoadsWhole files Write = ⊥
+
+abbrev pub LoadsWholeIn : List (List ℕ × List ℕ) → Result (Option Command) LineCode → Type 0
+LoadsWholeIn files (Ok (Some command)) = LoadsWhole files command
+LoadsWholeIn files (Ok None) = ⊥
+LoadsWholeIn files (Err code) = ⊥
+
+-- so is the line
+unfoldable pub LoadsWholeBy : List (List ℕ × List ℕ) → List ℕ → Type 0
+LoadsWholeBy files line = LoadsWholeIn files (line_of line)
+
+-- so is some line
+abbrev pub LoadsWholeSome : List (List ℕ × List ℕ) → List (List ℕ) → Type 0
+LoadsWholeSome files lines = (k : ℕ) × (k < length lines) × LoadsWholeBy files (slice_index_or lines k [])
+
+-- be the database sound or not, it begins only where this holds
+abbrev pub BeginsBy : {I : Type 0} → CoreView I → CoreView I → Type 0 → Type 0
+BeginsBy old new loads = new.begun ≡ true → (old.begun ≡ true) ⊎ loads
+
+-- a file is told of: by counts, and the database has begun, or by a refusal, which changes nothing
+abbrev pub TellsLoad : {I : Type 0} → CoreView I → CoreView I → List ℕ → Type 0
+TellsLoad old new text =
+    (IsCountsText text × (new.begun ≡ true)) ⊎ (IsFileRefusal text × (new ≡ old))
 
 -- the line is a command, or is refused
 unfoldable pub Speaks : List ℕ → Type 0

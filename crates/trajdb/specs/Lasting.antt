@@ -1,9 +1,12 @@
 -- A database that lasts between runs.
-use Rattle.std.specs.Prelude.{◌≡◌, ◌⊎◌, false, Option, Some, None, Result, Ok, Err}
+use Rattle.std.specs.Prelude.{ℕ, ◌≡◌, ◌⊎◌, Bool, true, false, Option, Some, None, Result, Ok, Err}
 use Rattle.legs.specs.Book.{Book}
+use Rattle.legs.specs.Costs.{ShapeView}
 use Rattle.legs.specs.Limits.{LimitsView}
 use Rattle.pages.specs.Store.{Store, Faulted}
+use Rattle.pages.specs.declared.payload.Payload.{Payload}
 use Rattle.catalogue.specs.Holding.{IsAtRest}
+use Rattle.catalogue.specs.Lasting.{IsDamagedPage}
 use Rattle.catalogue.specs.declared.fault.CatalogueFault.{CatalogueFault}
 use Rattle.trajdb.specs.Database.{catalogue_of}
 use Rattle.trajdb.specs.Db.{DbView, IsSound}
@@ -17,9 +20,10 @@ use Rattle.trajdb.specs.declared.OpenFault.TheVariants.{Memory, Store as StoreFa
 abbrev pub IsIdle : DbView → Type 0
 IsIdle db = db.begun ≡ false → db.failed ≡ false → IsAtRest (catalogue_of db) db.index
 
--- a sound database with this book under these limits
-pub record HasBook (limits : LimitsView) (book : Book) (db : DbView) : Type 0 where
+-- a sound database with this book under these limits, whose tree has this shape
+pub record HasBook (shape : ShapeView) (limits : LimitsView) (book : Book) (db : DbView) : Type 0 where
   pub sound : IsSound db
+  pub shape_is : db.index.tree.shape ≡ shape
   pub book_is : db.book ≡ book
   pub limits_are : db.limits ≡ limits
 
@@ -48,6 +52,16 @@ IsOpeningFault old new Unfinished = Unit {0}
 IsOpeningFault old new Version = Unit {0}
 IsOpeningFault old new Malformed = Unit {0}
 
+-- a page that is said to be damaged is so
+abbrev pub IsTrulyDamaged : Bool → (ℕ → Option Payload) → ℕ → OpenFault → Type 0
+IsTrulyDamaged faithful at count Memory = Unit {0}
+IsTrulyDamaged faithful at count StoreFailed = Unit {0}
+IsTrulyDamaged faithful at count (Damaged page) = IsDamagedPage faithful at count page
+IsTrulyDamaged faithful at count StoreFull = Unit {0}
+IsTrulyDamaged faithful at count Unfinished = Unit {0}
+IsTrulyDamaged faithful at count Version = Unit {0}
+IsTrulyDamaged faithful at count Malformed = Unit {0}
+
 -- a store that was not finished is refused as such, but for memory and a store that failed
 abbrev pub IsUnfinishedAnswer : {X Y : Type 0} → Result X (Y × OpenFault) → Type 0
 IsUnfinishedAnswer (Ok db) = ⊥
@@ -62,11 +76,12 @@ IsFaultless run.StoreFull = Unit {0}
 IsFaultless run.Failed = ⊥
 IsFaultless run.Output = ⊥
 
--- why a database was not closed: the store failed, or is full, where that is said
-abbrev pub IsClosingFault : Store → Store → RunFault → Type 0
-IsClosingFault old new run.Memory = Unit {0}
-IsClosingFault old new run.Store = Faulted old new
-IsClosingFault old new (run.Damaged page) = Unit {0}
-IsClosingFault old new run.StoreFull = new.count ≡ new.most
-IsClosingFault old new run.Failed = Unit {0}
-IsClosingFault old new run.Output = ⊥
+-- why a database was not closed: the store failed, or is full, where that is said; or the database
+-- is failed
+abbrev pub IsClosingFault : DbView → Store → RunFault → Type 0
+IsClosingFault db new run.Memory = Unit {0}
+IsClosingFault db new run.Store = Faulted db.index.cache.store new
+IsClosingFault db new (run.Damaged page) = Unit {0}
+IsClosingFault db new run.StoreFull = new.count ≡ new.most
+IsClosingFault db new run.Failed = db.failed ≡ true
+IsClosingFault db new run.Output = ⊥

@@ -96,7 +96,7 @@ impl<I: Start> Core<I> {
     ghost use Rattle.legs.specs.Book.{book_after, joined, with_file};
     ghost use Rattle.trajdb.specs.Answers.{book_by, book_with, counts_or, joined_counts, load_of};
     ghost use Rattle.trajdb.specs.Database.{IsRefused, IsTold, LoadGives, JoinRefusal, Accepts, Becomes, IsSound};
-    ghost use Rattle.trajdb.specs.Calls.{IsJoinStop, IsLater, IsLoadFault, IsLoadStop, IsOfStore, LeavesPages};
+    ghost use Rattle.trajdb.specs.Calls.{IsJoinStop, IsLater, IsLoadFault, IsLoadStop, IsOfStore, IsWholeFile, LeavesPages};
 
     /// Takes in a file that was joined.
     fn take(&mut self, file: File, legs: &[Leg]) -> Result<(), RunFault>
@@ -186,6 +186,7 @@ impl<I: Start> Core<I> {
         ensures failed { self.new.failed ≡ self.old.failed }
         ensures refused { IfErr result (λ fault. IsRefused fault → self.new ≡ self.old) }
         ensures begun { OnOk result (self.new.begun ≡ true) }
+        ensures whole { OnOk result (IsWholeFile bytes.now) }
         ensures idle { OnErr result (self.new.begun ≡ self.old.begun) }
         ensures marks { OnOk result (IsSound I.Listed self.old → I.is_clean self.old.index
             → I.is_marked self.new.index) }
@@ -207,7 +208,7 @@ impl<I: Start> Core<I> {
     ghost use Rattle.std.specs.Prelude.{◌≡◌, IfErr, OnOk, OnErr, Err, true, false};
     ghost use Rattle.trajdb.specs.Answers.{book_with, load_of};
     ghost use Rattle.trajdb.specs.Database.{IsRefused, IsTold, LoadGives, FailsBy, Becomes, IsSound};
-    ghost use Rattle.trajdb.specs.Calls.{IsLater, IsLoadStop, KeepsPages};
+    ghost use Rattle.trajdb.specs.Calls.{IsLater, IsLoadStop, IsWholeFile, KeepsPages};
 
     /// Accepts a file, whole or not at all: how many data records, legs and distinct features it has,
     /// or the first fault of its text, or else of its joining.
@@ -231,6 +232,7 @@ impl<I: Start> Core<I> {
 
         // An accepted file begins the database, and nothing else does.
         ensures begun { OnOk result (self.new.begun ≡ true) }
+        ensures whole { OnOk result (IsWholeFile bytes.now) }
         ensures idle { OnErr result (self.new.begun ≡ self.old.begun) }
 
         // What is left of the pages.
@@ -255,9 +257,9 @@ impl<I: Start> Core<I> {
 
 impl<I: Start> Core<I> {
     ghost use Rattle.std.specs.Prelude.{◌≡◌, IfOk, IfErr, OnOk, OnErr, Some, true, false};
-    ghost use Rattle.trajdb.specs.Answers.{named_book, named_text, AcceptsNamed};
+    ghost use Rattle.trajdb.specs.Answers.{named_book, named_text, AcceptsNamed, IsCountsText};
     ghost use Rattle.trajdb.specs.Database.{Becomes, IsSound};
-    ghost use Rattle.trajdb.specs.Calls.{Begins, BeginsOnly, IsStopped, IsLater, KeepsPages};
+    ghost use Rattle.trajdb.specs.Calls.{Begins, BeginsBy, BeginsOnly, IsStopped, IsLater, IsWholeFile, KeepsPages, TellsLoad};
 
     /// The answer to `load` of a file.
     fn load_text(&mut self, alloc: Global, bytes: &[u8]) -> Result<Vec<u8>, RunFault>
@@ -273,6 +275,9 @@ impl<I: Start> Core<I> {
             (AcceptsNamed self.old.limits self.old.book (Some bytes.now))) }
         ensures only { BeginsOnly I.Listed self.old self.new
             (AcceptsNamed self.old.limits self.old.book (Some bytes.now)) }
+        ensures whole { BeginsBy self.old self.new (IsWholeFile bytes.now) }
+        ensures told { IfOk result (λ text. BeginsBy self.old self.new (IsCountsText text.items)) }
+        ensures told_load { IfOk result (λ text. TellsLoad self.old self.new text.items) }
         ensures pages { KeepsPages I.Listed self.old self.new }
     {
         let text = match self.load(alloc, bytes) {
@@ -292,9 +297,9 @@ impl<I: Start> Core<I> {
 
 impl<I: Start> Core<I> {
     ghost use Rattle.std.specs.Prelude.{◌≡◌, IfOk, IfErr, IsErrOf, OnOk, OnErr, Err, true, false};
-    ghost use Rattle.trajdb.specs.Answers.{AcceptsBy, IsAnswer, book_then};
+    ghost use Rattle.trajdb.specs.Answers.{AcceptsBy, IsAnswer, IsCountsText, book_then};
     ghost use Rattle.trajdb.specs.Database.{Becomes, IsSound};
-    ghost use Rattle.trajdb.specs.Calls.{AsksIn, Begins, BeginsOnly, IsStopped, IsLater, KeepsPages, Leaves, Loads};
+    ghost use Rattle.trajdb.specs.Calls.{AsksIn, Begins, BeginsBy, BeginsOnly, IsStopped, IsLater, KeepsPages, Leaves, Loads, LoadsWhole, TellsLoad};
 
     /// The whole answer to a command, with the named files at hand.
     ///
@@ -313,8 +318,8 @@ impl<I: Start> Core<I> {
         ensures asks { OnOk result (AsksIn I.Listed self.old self.new command.now) }
         ensures later { IsLater I.Listed self.old self.new }
 
-        // All but a `load` of a file that is there leave the book; where that load is refused, the database
-        // is failed.
+        // All but a `load` of a file that is there leave the book; where that load is refused, the
+        // database is failed.
         ensures question { (Loads files.now command.now → ⊥) → Leaves I.Listed self.old self.new }
         ensures refused { OnErr result (self.new.failed ≡ false
             → Leaves I.Listed self.old self.new) }
@@ -327,6 +332,14 @@ impl<I: Start> Core<I> {
             (AcceptsBy self.old.limits files.now self.old.book command.now)) }
         ensures only { BeginsOnly I.Listed self.old self.new
             (AcceptsBy self.old.limits files.now self.old.book command.now) }
+
+        // Be the database sound or not, a `load` of a file that is there is answered with counts,
+        // and begins it, or with a refusal that changes nothing; and only one of a file without a
+        // fault of its text, answered with counts, begins it.
+        ensures told_load { IfOk result (λ text. Loads files.now command.now
+            → TellsLoad self.old self.new text.items) }
+        ensures whole { BeginsBy self.old self.new (LoadsWhole files.now command.now) }
+        ensures told { IfOk result (λ text. BeginsBy self.old self.new (IsCountsText text.items)) }
         ensures pages { KeepsPages I.Listed self.old self.new }
 
         // A failed database does nothing.
@@ -359,10 +372,10 @@ impl<I: Start> Core<I> {
     ghost use Rattle.std.specs.Prelude.{◌≡◌, ◌≢◌, IfOk, IfErr, IsErrOf, OnOk, OnErr, Err, true, false};
     ghost use Rattle.trajdb.specs.Answers.{AcceptsLine, IsLineText, line_book};
     ghost use Rattle.trajdb.specs.Database.{Becomes, IsSound};
-    ghost use Rattle.trajdb.specs.Calls.{Begins, BeginsOnly, IsStopped, IsLater, KeepsPages, Leaves, LoadsBy, Speaks};
+    ghost use Rattle.trajdb.specs.Calls.{Begins, BeginsBy, BeginsOnly, IsStopped, IsLater, KeepsPages, Leaves, LoadsBy, LoadsWholeBy, Speaks};
 
     /// The whole answer to a line of a script.
-    #[tactic(auto, unfolding(crate::specs::Answers::IsLineText, crate::specs::Answers::line_book, crate::specs::Answers::AcceptsLine, crate::specs::Calls::LoadsBy, crate::specs::Calls::Speaks))]
+    #[tactic(auto, unfolding(crate::specs::Answers::IsLineText, crate::specs::Answers::line_book, crate::specs::Answers::AcceptsLine, crate::specs::Calls::LoadsBy, crate::specs::Calls::LoadsWholeBy, crate::specs::Calls::Speaks))]
     fn answer(&mut self, alloc: Global, line: &[u8], files: &Files) -> Result<Vec<u8>, RunFault>
         requires { self.old.failed ≡ false }
         ensures text { IfOk result (λ text. IsSound I.Listed self.old
@@ -383,6 +396,7 @@ impl<I: Start> Core<I> {
             (AcceptsLine self.old.limits files.now self.old.book line.now)) }
         ensures only { BeginsOnly I.Listed self.old self.new
             (AcceptsLine self.old.limits files.now self.old.book line.now) }
+        ensures whole { BeginsBy self.old self.new (LoadsWholeBy files.now line.now) }
         ensures pages { KeepsPages I.Listed self.old self.new }
     {
         match parse_line(alloc, line) {
@@ -402,7 +416,7 @@ impl<I: Start> Core<I> {
     ghost use Rattle.trajdb.specs.Lines.{HasDone, HasCut, HasNotDone};
     ghost use Rattle.trajdb.specs.Run.{AcceptsSome, FailsAt, StopsAt, Runs, Stops, IsCut};
     ghost use Rattle.trajdb.specs.Database.{IsSound};
-    ghost use Rattle.trajdb.specs.Calls.{Begins, BeginsOnly, IsRunStop, IsLater, KeepsPages};
+    ghost use Rattle.trajdb.specs.Calls.{Begins, BeginsBy, BeginsOnly, IsRunStop, IsLater, KeepsPages, LoadsWholeBy, LoadsWholeSome};
 
     /// One line of a script: its answer goes to the output.
     fn line<W: Write>(
@@ -438,6 +452,7 @@ impl<I: Start> Core<I> {
             (AcceptsLine self.old.limits files.now self.old.book line.now)) }
         ensures only { BeginsOnly I.Listed self.old self.new
             (AcceptsLine self.old.limits files.now self.old.book line.now) }
+        ensures whole { BeginsBy self.old self.new (LoadsWholeBy files.now line.now) }
         ensures pages { KeepsPages I.Listed self.old self.new }
     {
         match self.answer(alloc, line, files) {
@@ -487,6 +502,11 @@ impl<I: Start> Core<I> {
             (AcceptsSome self.old.limits files.now self.old.book (lines_of script.now))) }
         ensures only { BeginsOnly I.Listed self.old self.new
             (AcceptsSome self.old.limits files.now self.old.book (lines_of script.now)) }
+
+        // Be the database sound or not, only a line that is a `load` of a file without a fault of
+        // its text begins it.
+        ensures whole { BeginsBy self.old self.new
+            (LoadsWholeSome files.now (lines_of script.now)) }
         ensures pages { KeepsPages I.Listed self.old self.new }
 
         // A failed database does nothing.

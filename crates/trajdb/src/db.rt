@@ -45,11 +45,11 @@ impl<S: PageStore> Db<S> {
     ghost use Rattle.catalogue.specs.Header.{header_payload};
     ghost use Rattle.legs.specs.Book.{empty_book};
     ghost use Rattle.trajdb.specs.Script.{lines_of};
-    ghost use Rattle.trajdb.specs.Answers.{AcceptsBy, IsAnswer, book_then, book_with, load_of};
+    ghost use Rattle.trajdb.specs.Answers.{AcceptsBy, IsAnswer, IsCountsText, book_then, book_with, load_of};
     ghost use Rattle.trajdb.specs.Faults.{IsInside};
     ghost use Rattle.trajdb.specs.Run.{AcceptsSome, StopsAt, Runs, Stops, IsCut};
     ghost use Rattle.trajdb.specs.Database.{FailsBy, IsRefused, IsTold, LoadGives, Becomes};
-    ghost use Rattle.trajdb.specs.Calls.{AsksIn, Begins, BeginsOnly, IsLater, IsLoadStop, IsRunStop, IsStopped, KeepsPages, Leaves, Loads};
+    ghost use Rattle.trajdb.specs.Calls.{AsksIn, Begins, BeginsBy, BeginsOnly, IsLater, IsLoadStop, IsRunStop, IsStopped, IsWholeFile, KeepsPages, Leaves, Loads, LoadsWhole, LoadsWholeSome, TellsLoad};
     ghost use Rattle.trajdb.specs.Db.{HasPages, IsAllowed, IsCaused, IsSound};
     ghost use Rattle.trajdb.specs.Lasting.{IsIdle};
     ghost use Rattle.trajdb.specs.declared.RunFault.{RunFault};
@@ -118,6 +118,7 @@ impl<S: PageStore> Db<S> {
         ensures later { IsLater words self.old self.new }
         ensures refused { IfErr result (λ fault. IsRefused fault → self.new ≡ self.old) }
         ensures begun { OnOk result (self.new.begun ≡ true) }
+        ensures whole { OnOk result (IsWholeFile bytes.now) }
         ensures idle { OnErr result (self.new.begun ≡ self.old.begun) }
         ensures pages { KeepsPages words self.old self.new }
         ensures rests { IsIdle self.old → IsIdle self.new }
@@ -145,8 +146,8 @@ impl<S: PageStore> Db<S> {
         ensures asks { OnOk result (AsksIn words self.old self.new command.now) }
         ensures later { IsLater words self.old self.new }
 
-        // All but a `load` of a file that is there leave the book; where that load is refused, the database
-        // is failed.
+        // All but a `load` of a file that is there leave the book; where that load is refused, the
+        // database is failed.
         ensures question { (Loads files.now command.now → ⊥) → Leaves words self.old self.new }
         ensures refused { OnErr result (self.new.failed ≡ false
             → Leaves words self.old self.new) }
@@ -159,6 +160,14 @@ impl<S: PageStore> Db<S> {
             (AcceptsBy self.old.limits files.now self.old.book command.now)) }
         ensures only { BeginsOnly words self.old self.new
             (AcceptsBy self.old.limits files.now self.old.book command.now) }
+
+        // Be the database sound or not, a `load` of a file that is there is answered with counts,
+        // and begins it, or with a refusal that changes nothing; and only one of a file without a
+        // fault of its text, answered with counts, begins it.
+        ensures told_load { IfOk result (λ text. Loads files.now command.now
+            → TellsLoad self.old self.new text.items) }
+        ensures whole { BeginsBy self.old self.new (LoadsWhole files.now command.now) }
+        ensures told { IfOk result (λ text. BeginsBy self.old self.new (IsCountsText text.items)) }
         ensures pages { KeepsPages words self.old self.new }
         ensures rests { IsIdle self.old → IsIdle self.new }
 
@@ -209,6 +218,11 @@ impl<S: PageStore> Db<S> {
             (AcceptsSome self.old.limits files.now self.old.book (lines_of script.now))) }
         ensures only { BeginsOnly words self.old self.new
             (AcceptsSome self.old.limits files.now self.old.book (lines_of script.now)) }
+
+        // Be the database sound or not, only a line that is a `load` of a file without a fault of
+        // its text begins it.
+        ensures whole { BeginsBy self.old self.new
+            (LoadsWholeSome files.now (lines_of script.now)) }
         ensures pages { KeepsPages words self.old self.new }
         ensures rests { IsIdle self.old → IsIdle self.new }
 

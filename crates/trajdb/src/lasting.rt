@@ -76,6 +76,7 @@ impl<I: Start> Core<I> {
 impl<S: PageStore> Db<S> {
     ghost use Rattle.std.specs.Prelude.{◌≡◌, ◌<◌, IsTrue, IfErr, IfOk, MatchResult, OnOk, None, Ok, Err, true, false};
     ghost use Rattle.legs.specs.Book.{Book};
+    ghost use Rattle.legs.specs.Costs.{ShapeView};
     ghost use Rattle.legs.specs.Limits.{LimitsView};
     ghost use Rattle.pages.specs.Store.{Keeps, Stays};
     ghost use Rattle.pagecache.specs.Cache.{stored_payload};
@@ -83,7 +84,7 @@ impl<S: PageStore> Db<S> {
     ghost use Rattle.catalogue.specs.Lasting.{first_fault};
     ghost use Rattle.trajdb.specs.Calls.{IsLoadFault};
     ghost use Rattle.trajdb.specs.Db.{HasPages, IsSound};
-    ghost use Rattle.trajdb.specs.Lasting.{ComesFirst, HasBook, IsClosingFault, IsFaultless, IsIdle, IsOpeningFault, IsStop, IsUnfinishedAnswer};
+    ghost use Rattle.trajdb.specs.Lasting.{ComesFirst, HasBook, IsClosingFault, IsFaultless, IsIdle, IsOpeningFault, IsStop, IsTrulyDamaged, IsUnfinishedAnswer};
     ghost use Rattle.trajdb.specs.declared.RunFault.{RunFault};
 
     /// Opens the database that a store keeps, with a cache of at most that many pages, at least 1. Nothing is written
@@ -103,11 +104,11 @@ impl<S: PageStore> Db<S> {
 
         // A store whose pages hold a book gives a sound database with that book.
         ensures book { IfOk result (λ db. IsTrue (S.seen store).is_faithful
-            → (limits : LimitsView) (book : Book) → HoldsBook (S.seen store) limits book
-            → HasBook limits book db) }
+            → (shape : ShapeView) (limits : LimitsView) (book : Book)
+            → HoldsBook (S.seen store) shape limits book → HasBook shape limits book db) }
         ensures holds { IfErr result (λ back. IsTrue (S.seen store).is_faithful
-            → (limits : LimitsView) (book : Book) → HoldsBook (S.seen store) limits book
-            → IsStop back.1) }
+            → (shape : ShapeView) (limits : LimitsView) (book : Book)
+            → HoldsBook (S.seen store) shape limits book → IsStop back.1) }
 
         // The pages as written keep what the database knows.
         ensures idle { IfOk result (λ db. IsTrue (S.seen store).is_faithful → IsIdle db) }
@@ -131,6 +132,10 @@ impl<S: PageStore> Db<S> {
         ensures back { IfErr result (λ back. Stays (S.seen store) (S.seen back.0)) }
         ensures caused { IfErr result (λ back. IsOpeningFault (S.seen store) (S.seen back.0)
             back.1) }
+
+        // A page that is said to be damaged is so.
+        ensures damaged { IfErr result (λ back. IsTrulyDamaged (S.seen store).is_faithful
+            (stored_payload (S.seen store)) (S.seen store).count back.1) }
     {
         catalogue::laws();
         match catalogue::open(alloc, keys, store, cache_pages) {
@@ -150,7 +155,7 @@ impl<S: PageStore> Db<S> {
     pub fn close(self, alloc: Global) -> (S, Result<(), RunFault>)
         // The store then holds the book.
         ensures holds { OnOk result.1 (IsSound self → HasPages self → IsIdle self
-            → HoldsBook (S.seen result.0) self.limits self.book) }
+            → HoldsBook (S.seen result.0) self.index.tree.shape self.limits self.book) }
         ensures only { IfErr result.1 (λ fault. IsSound self → self.failed ≡ false
             → IsLoadFault fault) }
         ensures unfinished { IfErr result.1 (λ fault. IsFaultless fault → IsSound self → HasPages self
@@ -162,7 +167,7 @@ impl<S: PageStore> Db<S> {
         ensures failed { self.failed ≡ true → (result.1 ≡ Err RunFault.Failed)
             × (S.seen result.0 ≡ self.index.cache.store) }
         ensures keeps { Keeps self.index.cache.store (S.seen result.0) }
-        ensures caused { IfErr result.1 (IsClosingFault self.index.cache.store (S.seen result.0)) }
+        ensures caused { IfErr result.1 (IsClosingFault self (S.seen result.0)) }
     {
         catalogue::laws();
         let (failed, begun) = (self.core.failed, self.core.begun);

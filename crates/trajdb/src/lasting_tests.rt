@@ -187,6 +187,18 @@ fn a_page_that_is_damaged_is_named(rt: HostRuntime) -> Result<(), Fail> {
 }
 
 #[test]
+fn a_page_of_the_catalogue_that_is_damaged_is_named(rt: HostRuntime) -> Result<(), Fail> {
+    let (alloc, keys) = (rt.alloc(), RandomState::new(&rt)?);
+    let (mut store, _) = closed(alloc, keys, 100).map_err(|_| "not loaded")?;
+    // The last of the six pages, behind the text.
+    if store.len() > 5 {
+        store.set_byte(5, 4000, 1);
+    }
+    assert!(rt; opened(alloc, keys, store, 256).err() == Some(OpenFault::Damaged(5)));
+    Ok(())
+}
+
+#[test]
 fn a_store_without_room_stays_unfinished(rt: HostRuntime) -> Result<(), Fail> {
     let (alloc, keys) = (rt.alloc(), RandomState::new(&rt)?);
     // The example has five pages, and its catalogue one.
@@ -203,6 +215,28 @@ fn a_store_without_room_stays_unfinished(rt: HostRuntime) -> Result<(), Fail> {
     assert!(rt; answer == Err(RunFault::Failed));
     assert!(rt; opened(alloc, keys, store, 256).err() == Some(OpenFault::Unfinished));
     Ok(())
+}
+
+/// What `count` answers over the example.
+const COUNT: &str = "ok 1\n5,3\n";
+
+/// Whether a store failed before its database was closed or at that: such a store opens as one that
+/// was not finished, or whose page 0 was not written whole, or with the example, which it has.
+fn failed_at_closing(
+    alloc: Global,
+    keys: RandomState,
+    (store, answer): (MemStore, Result<(), RunFault>),
+) -> Result<bool, RunFault> {
+    let is_kept = match opened(alloc, keys, store, 1) {
+        Ok(mut db) => said(alloc, &mut db, "count").0.as_slice() == COUNT.as_bytes(),
+        Err(OpenFault::Unfinished | OpenFault::Damaged(0)) => answer.is_err(),
+        Err(_) => false,
+    };
+    match answer {
+        Ok(()) if is_kept => Ok(false),
+        Err(RunFault::Store | RunFault::Failed) if is_kept => Ok(true),
+        _ => Err(RunFault::Failed),
+    }
 }
 
 /// Opens and closes over a store that fails once, when so many calls have passed: whether it failed.
@@ -224,23 +258,37 @@ fn fused(alloc: Global, keys: RandomState, calls: u64) -> Result<bool, RunFault>
         Err(fault) => return Err(fault),
     }
     let (fuse, answer) = db.close(alloc);
-    match (answer, opened(alloc, keys, fuse.into_inner(), 1)) {
-        (Ok(()), Ok(_)) => Ok(false),
-        (Err(RunFault::Store | RunFault::Failed), _) => Ok(true),
-        _ => Err(RunFault::Failed),
-    }
+    failed_at_closing(alloc, keys, (fuse.into_inner(), answer))
+}
+
+/// Makes a database of the example and closes it over a store that fails once, when so many calls
+/// have passed: whether it failed. Where it failed before the closing, its store is not looked at.
+fn fused_example(alloc: Global, keys: RandomState, calls: u64) -> Result<bool, RunFault> {
+    let store = Fuse::new(MemStore::new(alloc, 100), calls, true);
+    let db = match loaded(alloc, keys, store) {
+        Ok(db) => db,
+        Err(RunFault::Store) => return Ok(true),
+        Err(fault) => return Err(fault),
+    };
+    let (fuse, answer) = db.close(alloc);
+    failed_at_closing(alloc, keys, (fuse.into_inner(), answer))
 }
 
 #[test]
 fn a_store_that_fails_is_said_to(rt: HostRuntime) -> Result<(), Fail> {
     let (alloc, keys) = (rt.alloc(), RandomState::new(&rt)?);
-    let mut last = 0;
+    let (mut last, mut last_of_example) = (0, 0);
     for calls in 0..40 {
         if fused(alloc, keys, calls).map_err(|_| "another answer")? {
             last = calls;
         }
+        if fused_example(alloc, keys, calls).map_err(|_| "another answer of the example")? {
+            last_of_example = calls;
+        }
     }
-    // Opening, a load and closing make so many calls at least, and not so many.
+    // Opening, a load and closing make so many calls at least, and not so many; so do making and
+    // closing.
     assert!(rt; 5 < last && last < 39);
+    assert!(rt; 5 < last_of_example && last_of_example < 39);
     Ok(())
 }

@@ -217,6 +217,8 @@ impl From<RunFault> for LoadFault {
 }
 
 #[cfg(test)]
+mod failing_tests;
+#[cfg(test)]
 mod lasting_tests;
 #[cfg(test)]
 mod page_tests;

@@ -1,4 +1,4 @@
-use Rattle.std.proofs.Common.{◌≡◌, ◌+◌, ◌∙◌, ap, refl, sym, subst, true}
+use Rattle.std.proofs.Common.{inl, ◌≡◌, ◌+◌, ◌∙◌, ap, refl, sym, subst, true}
 use Rattle.std.specs.Prelude.{◌⊎◌, ◌↔◌}
 use Rattle.trajdb.specs.Answers.{AcceptsLine}
 use Rattle.trajdb.specs.Script.{lines_of}
@@ -7,7 +7,7 @@ use Rattle.trajdb.specs.Database.{CoreView}
 use Rattle.trajdb.specs.Lines.{HasDone, HasCut}
 use Rattle.trajdb.proofs.FaultLemmas.{later-refl, later-trans}
 use Rattle.trajdb.proofs.PageLemmas.{keeps-refl, keeps-trans}
-use Rattle.trajdb.proofs.RunLemmas.{left_more, left_stops, begun_end, begun_more, begun_only, begun_start, at_start, at_more, at_cut, at_end, at_unflushed, next_line, nil_from_length}
+use Rattle.trajdb.proofs.RunLemmas.{whole_more, left_more, left_stops, begun_end, begun_more, begun_only, begun_start, at_start, at_more, at_cut, at_end, at_unflushed, next_line, nil_from_length}
 use Rattle.trajdb.proofs.database.Core.run.Goals as goal
 
 pub returns-in-Err-clause-output : goal.returns-in-Err-clause-output
@@ -23,6 +23,10 @@ loop-rest-preserved g c = record {
   lives = c.in-Ok.ensures.lives;
   later = later-trans g.I.Listed c.args.self.now c.loop-rest.self c.line.new.self c.loop-rest.invariant.later c.line.ensures.later;
   pages = keeps-trans g.I.Listed c.args.self.now c.loop-rest.self c.line.new.self c.loop-rest.invariant.lives (λ s. (c.loop-rest.invariant.at s).0) c.loop-rest.invariant.pages c.line.ensures.pages;
+  whole =
+      let left = c.loop-rest.invariant.left in
+      let next = next_line c.loop-rest.rest.now c.first_piece.result.0.now c.first_piece.result.1.now c.without_return.result.now c.first_piece.ensures.pieces c.without_return.ensures in
+      whole_more _ _ _ _ _ left.0 left.1 next _ _ _ c.loop-rest.invariant.whole c.line.ensures.whole;
   left =
       let left = c.loop-rest.invariant.left in
       let next = next_line c.loop-rest.rest.now c.first_piece.result.0.now c.first_piece.result.1.now c.without_return.result.now c.first_piece.ensures.pieces c.without_return.ensures in
@@ -48,7 +52,7 @@ returns-in-Err-flush-clause-output g c = λ is sound.
     at_unflushed _ _ _ _ _ _ _ _ _ _ at.2 c.in-Err-flush.ensures.bytes
 
 pub loop-rest-init : goal.loop-rest-init
-loop-rest-init g c = record { lives = ap (λ (v : CoreView g.row.I.Denot). v.failed) (sym c.self.view_is) ∙ c.if-self.false; later = later-refl g.I.Listed _; pages = keeps-refl g.I.Listed _; left = (0, refl); at = λ sound. (sound, 0, at_start _ _ _ _ _, begun_start c.args.self.now.limits c.args.files.now c.args.self.now.book (lines_of c.args.script.now) c.args.self.now.begun) }
+loop-rest-init g c = record { lives = ap (λ (v : CoreView g.row.I.Denot). v.failed) (sym c.self.view_is) ∙ c.if-self.false; later = later-refl g.I.Listed _; pages = keeps-refl g.I.Listed _; whole = λ b. inl b; left = (0, refl); at = λ sound. (sound, 0, at_start _ _ _ _ _, begun_start c.args.self.now.limits c.args.files.now c.args.self.now.book (lines_of c.args.script.now) c.args.self.now.begun) }
 
 pub returns-in-Err-clause-pages : goal.returns-in-Err-clause-pages
 returns-in-Err-clause-pages g c = keeps-trans g.I.Listed c.args.self.now c.loop-rest.self c.line.new.self c.loop-rest.invariant.lives (λ s. (c.loop-rest.invariant.at s).0) c.loop-rest.invariant.pages c.line.ensures.pages
@@ -87,3 +91,9 @@ returns-in-Err-clause-stops g c = λ inside lives.
     let left = c.loop-rest.invariant.left in
     let next = next_line c.loop-rest.rest.now c.first_piece.result.0.now c.first_piece.result.1.now c.without_return.result.now c.first_piece.ensures.pieces c.without_return.ensures in
     left_stops _ _ _ _ _ _ _ left.0 left.1 next (c.in-Err.ensures.fails inside)
+
+pub returns-in-Err-clause-whole : goal.returns-in-Err-clause-whole
+returns-in-Err-clause-whole g c =
+    let left = c.loop-rest.invariant.left in
+    let next = next_line c.loop-rest.rest.now c.first_piece.result.0.now c.first_piece.result.1.now c.without_return.result.now c.first_piece.ensures.pieces c.without_return.ensures in
+    whole_more _ _ _ _ _ left.0 left.1 next _ _ _ c.loop-rest.invariant.whole c.line.ensures.whole

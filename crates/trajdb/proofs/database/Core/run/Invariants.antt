@@ -1,5 +1,5 @@
 use Rattle.std.proofs.Common.{◌≡◌, ℕ, length, false}
-use Rattle.trajdb.specs.Calls.{IsLater, KeepsPages}
+use Rattle.trajdb.specs.Calls.{BeginsBy, IsLater, KeepsPages, LoadsWholeSome}
 use Rattle.trajdb.specs.Script.{lines_of}
 use Rattle.trajdb.specs.Database.{IsSound}
 use Rattle.trajdb.proofs.RunLemmas.{HasBegun, IsAt, IsLeft}
@@ -11,6 +11,7 @@ invariant-loop-rest g l = record {
   lives : l.self.failed ≡ false;
   later : IsLater g.I.Listed l.initial.self l.self;
   pages : KeepsPages g.I.Listed l.initial.self l.self;
+  whole : BeginsBy l.initial.self l.self (LoadsWholeSome l.files (lines_of l.script));
   left : (k : ℕ) × IsLeft (lines_of l.script) l.rest k;
   at : IsSound g.I.Listed l.initial.self
       → IsSound g.I.Listed l.self

@@ -25,8 +25,8 @@ returns-then-not-begun-clause-holds g c = λ sound pages idle.
     let lawful = subst (λ (x : IndexView). IsLawful x.cache.store) index c.rest-then-not-begun.ensures.lawful in
     let settled = subst (λ (x : IndexView). IsSettled x.cache) index c.rest-then-not-begun.ensures.settled in
     let store = c.rest-then-not-begun.ensures.store ∙ ap (λ (x : IndexView). x.cache.store) index in
-    subst (λ (d : DbView). HoldsBook (g.S.PageStore.seen c.rest-then-not-begun.result) d.limits d.book) is
-    (subst (λ (s : Store). HoldsBook s core.limits core.book) (sym store)
+    subst (λ (d : DbView). HoldsBook (g.S.PageStore.seen c.rest-then-not-begun.result) d.index.tree.shape d.limits d.book) is
+    (subst (λ (s : Store). HoldsBook s core.index.tree.shape core.limits core.book) (sym store)
     (rest_book c.laws.ensures.holds core c.into_parts-catalogue.ensures.legs lawful settled (subst IsSound (sym is) sound) (subst IsIdle (sym is) idle) begun lives))
 
 pub returns-clause-holds : goal.returns-clause-holds
@@ -35,10 +35,10 @@ returns-clause-holds g c =
     let answer = c.close-store.result.1 in
     let s = g.S.PageStore.seen c.close-store.result.0 in
     let begun : core.begun ≡ true = sym (λ i. (c.self-inside.view_is i).core.begun) ∙ c.if-not-begun.false in
-    let first = subst (λ (x : IndexView). OnOk answer (IsSoundIndex x → IsMarked x.cache → (book : Book) → IsOfBook c.into_parts-catalogue.result.0.limits book c.into_parts-catalogue.result.0 → content x ≡ book.legs → HoldsBook s c.into_parts-catalogue.result.0.limits book)) c.into_parts-catalogue.ensures.index c.close-store.ensures.holds in
-    let second = subst (λ (k : CatalogueView). OnOk answer (IsSoundIndex core.index → IsMarked core.index.cache → (book : Book) → IsOfBook k.limits book k → content core.index ≡ book.legs → HoldsBook s k.limits book)) c.into_parts-catalogue.ensures.catalogue first in
-    subst (λ r. OnOk r (IsSound c.args.self → HasPages c.args.self → IsIdle c.args.self → HoldsBook s c.args.self.limits c.args.self.book)) (sym c.closed.ensures)
-    (subst (λ (d : DbView). OnOk (closed_answer answer) (IsSound d → HasPages d → IsIdle d → HoldsBook s d.limits d.book)) c.self.view_is
+    let first = subst (λ (x : IndexView). OnOk answer (IsSoundIndex x → IsMarked x.cache → (book : Book) → IsOfBook c.into_parts-catalogue.result.0.limits book c.into_parts-catalogue.result.0 → content x ≡ book.legs → HoldsBook s x.tree.shape c.into_parts-catalogue.result.0.limits book)) c.into_parts-catalogue.ensures.index c.close-store.ensures.holds in
+    let second = subst (λ (k : CatalogueView). OnOk answer (IsSoundIndex core.index → IsMarked core.index.cache → (book : Book) → IsOfBook k.limits book k → content core.index ≡ book.legs → HoldsBook s core.index.tree.shape k.limits book)) c.into_parts-catalogue.ensures.catalogue first in
+    subst (λ r. OnOk r (IsSound c.args.self → HasPages c.args.self → IsIdle c.args.self → HoldsBook s c.args.self.index.tree.shape c.args.self.limits c.args.self.book)) (sym c.closed.ensures)
+    (subst (λ (d : DbView). OnOk (closed_answer answer) (IsSound d → HasPages d → IsIdle d → HoldsBook s d.index.tree.shape d.limits d.book)) c.self.view_is
     (closed_holds core s answer c.into_parts-catalogue.ensures.legs second begun))
 
 pub returns-clause-only : goal.returns-clause-only

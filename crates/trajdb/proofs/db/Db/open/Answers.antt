@@ -1,12 +1,18 @@
-use Rattle.std.proofs.Common.{◌≡◌, ◌∙◌, ap, sym, subst}
-use Rattle.trajdb.specs.Lasting.{IsStop}
-use Rattle.trajdb.proofs.LastingLemmas.{opened_book, stopped}
+use Rattle.std.proofs.Common.{sym, subst}
+use Rattle.pagecache.specs.Cache.{stored_payload}
+use Rattle.trajdb.specs.Lasting.{IsStop, IsTrulyDamaged}
+use Rattle.trajdb.proofs.LastingLemmas.{damaged_still, opened_book, stopped}
 use Rattle.trajdb.proofs.db.Db.open.Goals as goal
 
 pub returns-in-Ok-clause-book : goal.returns-in-Ok-clause-book
-returns-in-Ok-clause-book g c = λ fa limits book h.
-    opened_book limits book c.in-Ok.catalogue c.in-Ok.index c.restored.result c.restored.ensures.core c.restored.ensures.limits (c.in-Ok.ensures.book fa limits book h)
+returns-in-Ok-clause-book g c = λ fa shape limits book h.
+    opened_book shape limits book c.in-Ok.catalogue c.in-Ok.index c.restored.result c.restored.ensures.core c.restored.ensures.limits (c.in-Ok.ensures.book fa shape limits book h)
 
 pub returns-in-Err-clause-holds : goal.returns-in-Err-clause-holds
-returns-in-Err-clause-holds g c = λ fa limits book h.
-    subst IsStop (sym c.from.ensures) (stopped c.in-Err.fault (c.in-Err.ensures.holds fa limits book h))
+returns-in-Err-clause-holds g c = λ fa shape limits book h.
+    subst IsStop (sym c.from.ensures) (stopped c.in-Err.fault (c.in-Err.ensures.holds fa shape limits book h))
+
+pub returns-in-Err-clause-damaged : goal.returns-in-Err-clause-damaged
+returns-in-Err-clause-damaged g c =
+    let s = g.S.PageStore.seen c.args.store in
+    subst (IsTrulyDamaged s.is_faithful (stored_payload s) s.count) (sym c.from.ensures) (damaged_still s.is_faithful (stored_payload s) s.count c.in-Err.fault c.in-Err.ensures.damaged)
