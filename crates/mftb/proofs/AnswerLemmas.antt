@@ -1,7 +1,8 @@
 -- What a run of the program sends, and what its store then holds.
-use Rattle.std.proofs.Common.{ℕ, ◌≡◌, List, Option, Result, Ok, Err, subst}
+use Rattle.std.proofs.Common.{ℕ, ◌≡◌, List, Option, Some, Result, Ok, Err, subst}
 use Rattle.std.specs.Prelude.{IfOk, OnOk}
 use Rattle.legs.specs.Book.{empty_book}
+use Rattle.legs.specs.Costs.{ShapeView}
 use Rattle.legs.specs.Limits.{LimitsView}
 use Rattle.pages.specs.Store.{Store}
 use Rattle.boxsearch.specs.Index.{words}
@@ -13,17 +14,21 @@ use Rattle.trajdb.specs.Run.{Runs}
 use Rattle.trajdb.specs.declared.RunFault.{RunFault}
 use Rattle.mftb.specs.Answers.{Answers}
 
+pub the_same : (x y : ShapeView) → Some x ≡ Some y → x ≡ y
+the_same x y e = cc
+
 -- a run that is answered, and a database that is closed then
 pub answered : (old new : DbView) (s : Store) (files : List (List ℕ × List ℕ)) (sent sent' : Option (List ℕ)) (lines : List (List ℕ)) (r : Result (Unit {0}) RunFault)
-    → (IsSound old → Runs files sent sent' old new lines) → (IsSound old → IsSound new) → KeepsPages words old new → (IsIdle old → IsIdle new) → new.limits ≡ old.limits
-    → OnOk r (IsSound new → HasPages new → IsIdle new → HoldsBook s new.limits new.book)
-    → OnOk r (IsSound old → HasPages old → IsIdle old → Answers old.limits old.book files sent sent' lines s)
-answered old new s files sent sent' lines (Ok x) runs sound keeps idle limits holds = λ is pages rests. record {
+    → (IsSound old → Runs files sent sent' old new lines) → (IsSound old → IsSound new) → KeepsPages words old new → (IsIdle old → IsIdle new) → new.limits ≡ old.limits → words.plan new.index ≡ words.plan old.index
+    → OnOk r (IsSound new → HasPages new → IsIdle new → HoldsBook s new.index.tree.shape new.limits new.book)
+    → OnOk r (IsSound old → HasPages old → IsIdle old → Answers old.index.tree.shape old.limits old.book files sent sent' lines s)
+answered old new s files sent sent' lines (Ok x) runs sound keeps idle limits plan holds = λ is pages rests. record {
   after = new.book;
   run = runs is;
-  holds = subst (λ l. HoldsBook s l new.book) limits (holds (sound is) (keeps.pages is pages) (idle rests));
+  holds = subst (λ k. HoldsBook s k old.limits new.book) (the_same new.index.tree.shape old.index.tree.shape plan)
+      (subst (λ l. HoldsBook s new.index.tree.shape l new.book) limits (holds (sound is) (keeps.pages is pages) (idle rests)));
 }
-answered old new s files sent sent' lines (Err e) runs sound keeps idle limits holds = tt
+answered old new s files sent sent' lines (Err e) runs sound keeps idle limits plan holds = tt
 
 -- what is said of an answer is said where more is known
 pub more_known : {T E : Type 0} (P Q : T → Type 0) (r : Result T E) → ((x : T) → P x → Q x) → IfOk r P → IfOk r Q
@@ -31,10 +36,10 @@ more_known P Q (Ok x) f h = f x h
 more_known P Q (Err e) f h = tt
 
 -- a new database has the empty book
-pub created : {E : Type 0} (r : Result DbView E) (limits : LimitsView) (faithful : Type 0) → IfOk r (λ db. faithful → IsSound db) → IfOk r (λ db. db.book ≡ empty_book) → IfOk r (λ db. db.limits ≡ limits)
-    → IfOk r (λ db. faithful → HasBook limits empty_book db)
-created (Ok db) limits faithful sound book is = λ f. record { sound = sound f; book_is = book; limits_are = is }
-created (Err e) limits faithful sound book is = tt
+pub created : {E : Type 0} (r : Result DbView E) (shape : ShapeView) (limits : LimitsView) (faithful : Type 0) → IfOk r (λ db. words.plan db.index ≡ Some shape) → IfOk r (λ db. faithful → IsSound db) → IfOk r (λ db. db.book ≡ empty_book) → IfOk r (λ db. db.limits ≡ limits)
+    → IfOk r (λ db. faithful → HasBook shape limits empty_book db)
+created (Ok db) shape limits faithful plan sound book is = λ f. record { sound = sound f; shape_is = the_same db.index.tree.shape shape plan; book_is = book; limits_are = is }
+created (Err e) shape limits faithful plan sound book is = tt
 
 -- an answer that is given only where another one is
 pub given : {E F : Type 0} (P : Type 0) (r : Result (Unit {0}) E) (s : Result (Unit {0}) F) → OnOk r (s ≡ Ok tt) → OnOk s P → OnOk r P

@@ -1,12 +1,13 @@
 //! The program, over any runtime and writers.
 ghost use Rattle.std.specs.Prelude.{◌≡◌, ◌<◌, ◌≤◌, false, Ok, IfOk, IsTrue, OnOk};
+ghost use Rattle.legs.specs.Costs.{ShapeView};
 ghost use Rattle.legs.specs.Limits.{limits_of, LimitsView};
 ghost use Rattle.legs.specs.Book.{Book, empty_book};
 ghost use Rattle.trajdb.specs.Script.{lines_of};
 ghost use Rattle.catalogue.specs.Holding.{HoldsBook};
 ghost use Rattle.trajdb.specs.Db.{HasPages, IsSound};
 ghost use Rattle.trajdb.specs.Lasting.{HasBook, IsIdle};
-ghost use Rattle.mftb.specs.Answers.{Answers};
+ghost use Rattle.mftb.specs.Answers.{new_shape, Answers};
 
 use crate::fault::Fault;
 use crate::words::{Run, read_words};
@@ -88,10 +89,11 @@ fn database<S: PageStore>(
 ) -> Result<Db<S>, (S, OpenFault)>
     requires { 0 < cache_pages }
     ensures new { IfOk result (λ db. IsTrue is_new → IsTrue (S.seen store).is_faithful
-        → (S.seen store).count ≡ 0 → HasBook (limits_of 16777216 1048576) empty_book db) }
+        → (S.seen store).count ≡ 0
+        → HasBook new_shape (limits_of 16777216 1048576) empty_book db) }
     ensures kept { IfOk result (λ db. is_new ≡ false → IsTrue (S.seen store).is_faithful
-        → (limits : LimitsView) (book : Book) → HoldsBook (S.seen store) limits book
-        → HasBook limits book db) }
+        → (shape : ShapeView) (limits : LimitsView) (book : Book)
+        → HoldsBook (S.seen store) shape limits book → HasBook shape limits book db) }
     ensures pages { IfOk result (λ db. IsTrue (S.seen store).is_faithful → HasPages db) }
     ensures idle { IfOk result (λ db. IsTrue (S.seen store).is_faithful → IsIdle db) }
     ensures lives { IfOk result (λ db. db.failed ≡ false) }
@@ -111,10 +113,11 @@ fn run_and_close<S: PageStore, W: Write>(
     files: &Files,
     out: &mut W,
 ) -> (S, Result<(), RunFault>)
-    // What was sent is exactly the text of the run over the book, and the store then holds the book after it.
+    // What was sent is exactly the text of the run over the book, and the store then holds the book
+    // after it, in a tree of the same shape.
     ensures { OnOk result.1 (IsSound database → HasPages database → IsIdle database
-        → Answers database.limits database.book files.now (W.contents out.old) (W.contents out.new)
-        (lines_of script.now) (S.seen result.0)) }
+        → Answers database.index.tree.shape database.limits database.book files.now
+        (W.contents out.old) (W.contents out.new) (lines_of script.now) (S.seen result.0)) }
 {
     let ran = database.run(alloc, script, files, out);
     let (store, closed) = database.close(alloc);
@@ -142,10 +145,11 @@ fn answer<'a, S: PageStore, W: Write>(
     files: &Files,
     out: &mut W,
 ) -> (S, Result<(), Fault<'a>>)
-    // What was sent is exactly the text of the run over the book, and the store then holds the book after it.
+    // What was sent is exactly the text of the run over the book, and the store then holds the book
+    // after it, in a tree of the same shape.
     ensures { OnOk result.1 (IfOk database (λ db. IsSound db → HasPages db → IsIdle db
-        → Answers db.limits db.book files.now (W.contents out.old) (W.contents out.new)
-        (lines_of script.now) (S.seen result.0))) }
+        → Answers db.index.tree.shape db.limits db.book files.now (W.contents out.old)
+        (W.contents out.new) (lines_of script.now) (S.seen result.0))) }
 {
     match database {
         Ok(database) => {

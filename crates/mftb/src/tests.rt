@@ -83,6 +83,28 @@ fn a_second_run_meets_what_the_first_one_loaded(rt: HostRuntime) -> Result<(), F
 }
 
 #[test]
+fn what_was_loaded_is_kept_where_the_output_fails(rt: HostRuntime) -> Result<(), Fail> {
+    fs::write(&rt, "S1.csv", STANDARD)?;
+    fs::write(&rt, "script.txt", SCRIPT)?;
+    fs::write(&rt, "count.txt", "count\n")?;
+    fs::write(&rt, "cut.mftb", "")?;
+    let words = owned(
+        rt.alloc(),
+        &["mftb", "run", "cut.mftb", "script.txt", "S1.csv"],
+    )?;
+    // There is room for the first line of the first answer.
+    let mut room = [0u8; 5];
+    let mut full = room.as_mut_slice();
+    let mut faults = Vec::new(rt.alloc());
+    let status = start(&rt, &words, &mut full, &mut faults);
+    assert!(rt; status == 1 && faults.as_slice() == "mftb: output\n".as_bytes());
+    assert!(rt; room.as_slice() == "ok 1\n".as_bytes());
+    let (status, out, faults) = answer(&rt, &["mftb", "run", "cut.mftb", "count.txt"])?;
+    assert!(rt; status == 0 && out.as_slice() == "ok 1\n5,3\n".as_bytes() && faults.is_empty());
+    Ok(())
+}
+
+#[test]
 fn a_file_that_is_no_store_is_not_touched(rt: HostRuntime) -> Result<(), Fail> {
     fs::write(&rt, "count.txt", "count\n")?;
     fs::write(&rt, "letter.txt", "Dear captain")?;

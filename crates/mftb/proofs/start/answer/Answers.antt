@@ -11,6 +11,6 @@ pub returns-in-Ok : goal.returns-in-Ok
 returns-in-Ok g c =
     let s = g.S.PageStore.seen c.run_and_close-store.result.0 in
     let db = c.in-Ok.database in
-    subst (λ k. OnOk c.answer_of.result (IfOk k (λ (d : DbView). IsSound d → HasPages d → IsIdle d → Answers d.limits d.book c.args.files.now (g.W.Write.contents c.args.out.now) (g.W.Write.contents c.run_and_close-store.new.out) (lines_of c.args.script.now) s))) (sym c.in-Ok.is)
-    (given (IsSound db → HasPages db → IsIdle db → Answers db.limits db.book c.args.files.now (g.W.Write.contents c.args.out.now) (g.W.Write.contents c.run_and_close-store.new.out) (lines_of c.args.script.now) s)
+    subst (λ k. OnOk c.answer_of.result (IfOk k (λ (d : DbView). IsSound d → HasPages d → IsIdle d → Answers d.index.tree.shape d.limits d.book c.args.files.now (g.W.Write.contents c.args.out.now) (g.W.Write.contents c.run_and_close-store.new.out) (lines_of c.args.script.now) s))) (sym c.in-Ok.is)
+    (given (IsSound db → HasPages db → IsIdle db → Answers db.index.tree.shape db.limits db.book c.args.files.now (g.W.Write.contents c.args.out.now) (g.W.Write.contents c.run_and_close-store.new.out) (lines_of c.args.script.now) s)
     c.answer_of.result c.run_and_close-store.result.1 c.answer_of.ensures c.run_and_close-store.ensures)
