@@ -37,22 +37,22 @@ coord_from : (z : ℤ) → is_some (units_within z) ≡ true → IsInRange z
 coord_from z e = leb-true (unsigned_abs z) most (some_if (nat_le (unsigned_abs z) most) z e)
 
 -- three tests
-and_three : (a b c : Bool) → (a && b && c) ≡ true → (a ≡ true) × (b ≡ true) × (c ≡ true)
+pub and_three : (a b c : Bool) → (a && b && c) ≡ true → (a ≡ true) × (b ≡ true) × (c ≡ true)
 and_three a b c e = (and_left a b (and_left (a && b) c e), and_right a b (and_left (a && b) c e), and_right (a && b) c e)
 
-legs_moments : (l : LegView) → has_moments l ≡ true → (int_lt l.t0 l.t1 ≡ true) × (is_some (some_moment l.t0) ≡ true) × (is_some (some_moment l.t1) ≡ true)
+pub legs_moments : (l : LegView) → has_moments l ≡ true → (int_lt l.t0 l.t1 ≡ true) × (is_some (some_moment l.t0) ≡ true) × (is_some (some_moment l.t1) ≡ true)
 unfolding has_moments
 legs_moments l e = and_three (int_lt l.t0 l.t1) (is_some (some_moment l.t0)) (is_some (some_moment l.t1)) e
 
-legs_start : (l : LegView) → has_start l ≡ true → (is_some (units_within l.x0) ≡ true) × (is_some (units_within l.y0) ≡ true) × (is_some (units_within l.z0) ≡ true)
+pub legs_start : (l : LegView) → has_start l ≡ true → (is_some (units_within l.x0) ≡ true) × (is_some (units_within l.y0) ≡ true) × (is_some (units_within l.z0) ≡ true)
 unfolding has_start
 legs_start l e = and_three (is_some (units_within l.x0)) (is_some (units_within l.y0)) (is_some (units_within l.z0)) e
 
-legs_end : (l : LegView) → has_end l ≡ true → (is_some (units_within l.x1) ≡ true) × (is_some (units_within l.y1) ≡ true) × (is_some (units_within l.z1) ≡ true)
+pub legs_end : (l : LegView) → has_end l ≡ true → (is_some (units_within l.x1) ≡ true) × (is_some (units_within l.y1) ≡ true) × (is_some (units_within l.z1) ≡ true)
 unfolding has_end
 legs_end l e = and_three (is_some (units_within l.x1)) (is_some (units_within l.y1)) (is_some (units_within l.z1)) e
 
-is_leg-from : (l : LegView) → has_moments l ≡ true → has_start l ≡ true → has_end l ≡ true → IsLeg l
+pub is_leg-from : (l : LegView) → has_moments l ≡ true → has_start l ≡ true → has_end l ≡ true → IsLeg l
 is_leg-from l moments start end =
     let t = legs_moments l moments in
     let a = legs_start l start in

@@ -60,7 +60,7 @@ fn position(x: i64, y: i64, z: i64) -> Option<Position> {
 }
 
 /// The first leg of feature `a` of the standard's example.
-fn first() -> Option<Leg> {
+pub(crate) fn first() -> Option<Leg> {
     let (t0, t1) = (Ms::new(1_326_803_631_000)?, Ms::new(1_326_803_771_000)?);
     let from = position(110_000_000, 20_000_000, 0)?;
     let to = position(120_000_000, 30_000_000, 0)?;
@@ -68,7 +68,7 @@ fn first() -> Option<Leg> {
 }
 
 /// Its second leg.
-fn second() -> Option<Leg> {
+pub(crate) fn second() -> Option<Leg> {
     let (t0, t1) = (Ms::new(1_326_803_771_000)?, Ms::new(1_326_803_811_000)?);
     let from = position(120_000_000, 30_000_000, 0)?;
     let to = position(100_000_000, 30_000_000, 0)?;
