@@ -1,24 +1,24 @@
 -- Pages that a check finds whole hold a list of legs: their tree, and the places and tracks of its features.
-use Rattle.std.proofs.Common.{◌≡◌, ◌≢◌, ℕ, zero, suc, ◌+◌, ◌-◌, ◌*◌, ◌^◌, ◌<◌, ◌≤◌, ◌==◌, List, [], ◌∷◌, ◌++◌, length, map, take, drop, Option, Some, None, slice_get, refl, sym, ap, ◌∙◌, arith, subst, ⊎_elim}
+use Rattle.std.proofs.Common.{◌≡◌, ◌≢◌, ℕ, zero, suc, ◌+◌, ◌-◌, ◌*◌, ◌^◌, ◌<◌, ◌≤◌, List, [], ◌∷◌, ◌++◌, length, map, take, drop, Option, Some, None, slice_get, refl, sym, ap, ◌∙◌, arith, subst, ⊎_elim}
 use Rattle.std.specs.List.{filter, count_by, range_with_len}
 use Rattle.std.specs.Option.{option_map}
 use Rattle.std.specs.Cmp.{nat_eq_equiv}
 use Rattle.std.proofs.lemmas.Bool.{cases_lt, cases_eq}
 use Rattle.std.proofs.lemmas.List.{length-map}
 use Rattle.std.proofs.lemmas.List.Sums.{length-filter}
-use Rattle.legs.specs.Blocks.{groups, block, joined, level}
+use Rattle.legs.specs.Blocks.{block, level}
 use Rattle.legs.specs.Boxes.{BoxView}
 use Rattle.legs.specs.Costs.{leg_feature, leaves_of}
 use Rattle.legs.specs.Hull.{leg_boxes}
-use Rattle.legs.specs.Index.{feature_count, is_of, legs_of, last_end}
+use Rattle.legs.specs.Index.{feature_count, is_of, legs_of}
 use Rattle.legs.specs.Legs.{LegView}
 use Rattle.legs.specs.Tracks.{IsTrack}
 use Rattle.legs.specs.declared.tracks.Track.{Track}
-use Rattle.tbtree.specs.Check.{legs_on, first_on, first_ordinal, last_leg, IsChecked, IsOver, IsRising, HoldLegs}
+use Rattle.tbtree.specs.Check.{legs_on, first_on, first_ordinal, last_leg, IsChecked, IsRising, HoldLegs}
 use Rattle.tbtree.specs.Insert.{IsPlace, Stands}
-use Rattle.tbtree.specs.Nodes.{Pages, InnerView, ALeaf, AnInner, children}
+use Rattle.tbtree.specs.Nodes.{Pages, InnerView, children}
 use Rattle.tbtree.specs.Shape.{IsShape}
-use Rattle.tbtree.specs.Stands.{owner, marks, pages_of, page_at, head_or_zero, last_or, LeavesStand, NumbersStand, PlaceStands, TreeStands}
+use Rattle.tbtree.specs.Stands.{marks, pages_of, page_at, head_or_zero, last_or, LeavesStand, NumbersStand, TreeStands}
 use Rattle.tbtree.specs.declared.tree.Place.{Place}
 use Rattle.tbtree.specs.declared.tree.TbTree.{TbTree}
 use Rattle.tbtree.proofs.BlockLemmas.{groups-map}
@@ -26,7 +26,7 @@ use Rattle.tbtree.proofs.BlockLevels.{groups_of_level}
 use Rattle.tbtree.proofs.CheckLemmas.{get_map, get_some, get_few, none_behind, legs, numbers, chain, own_legs, few, led, not_none, as_many, legs_in_turn, runs_are, runs_rising, legs_rise, leaves_stand, own_pages, leaf_firsts, first_is, Chain, turn_row, order_chain, as_many_places, h}
 use Rattle.tbtree.proofs.GroupLemmas.{some_none, some_same, group_beyond, get-take, get-drop}
 use Rattle.tbtree.proofs.KeyRuns.{is}
-use Rattle.tbtree.proofs.LeafChains.{legs_at, own, pair, marks_pair, pages_own, drop_pair, all_legs, split_at, leaves_own}
+use Rattle.tbtree.proofs.LeafChains.{legs_at, own, pair, marks_pair, pages_own, drop_pair, all_legs, leaves_own}
 use Rattle.tbtree.proofs.OwnedLists.{of_get}
 use Rattle.tbtree.proofs.RisingLists.{rising_once, not_own, in_filter}
 use Rattle.tbtree.proofs.SortLemmas.{number}
@@ -252,7 +252,7 @@ module _ (nodes : Pages LegView BoxView) (tree : TbTree) (rows total : ℕ) (pla
   some_leg : (f : ℕ) → f < length places → legs_of f ls ≢ []
   some_leg f l =
       let k = chain_of f l in
-      subst (λ l. l ≢ []) (sym (own_legs nodes tree rows total places tracks shape c f k.0 k.1)) (not_none nodes tree rows total places tracks shape c (legs_on nodes k.0) (led nodes tree rows total places tracks shape c f k.0 k.1))
+      subst (λ l. l ≢ []) (sym (own_legs nodes tree rows total places tracks shape c f k.0 k.1)) (not_none (legs_on nodes k.0) (led nodes tree rows total places tracks shape c f k.0 k.1))
 
   -- a feature with legs is counted
   feature_in : (f : ℕ) (xs : List LegView) → legs_of f xs ≢ [] → f + 1 ≤ feature_count xs

@@ -1,5 +1,5 @@
 -- The leaves of a feature, linked one with the next, are its legs in groups.
-use Rattle.std.proofs.Common.{◌≡◌, ◌≢◌, ℕ, zero, suc, ◌+◌, ◌-◌, ◌*◌, ◌<◌, ◌≤◌, ◌==◌, min, true, false, cond, List, [], ◌∷◌, ◌++◌, length, map, take, drop, Option, Some, None, slice_get, refl, sym, ap, ◌∙◌, arith, subst, ⊎_elim}
+use Rattle.std.proofs.Common.{◌≡◌, ◌≢◌, ℕ, zero, suc, ◌+◌, ◌-◌, ◌<◌, ◌≤◌, List, [], ◌∷◌, ◌++◌, length, map, take, drop, Some, slice_get, refl, sym, ap, ◌∙◌, arith, subst, ⊎_elim}
 use Rattle.std.specs.List.{filter, flat_map, range_with_len}
 use Rattle.std.proofs.lemmas.Bool.{cases_eq, cases_lt}
 use Rattle.std.proofs.lemmas.List.{take_all, drop_all, length-take, length-take-le, length-drop, take-append-drop}
@@ -12,7 +12,6 @@ use Rattle.tbtree.specs.Nodes.{Pages, ALeaf}
 use Rattle.tbtree.specs.Stands.{head_or_zero, last_or}
 use Rattle.tbtree.specs.declared.tree.Place.{Place}
 use Rattle.tbtree.proofs.BlockLemmas.{all_pass}
-use Rattle.tbtree.proofs.GroupLemmas.{some_none, some_same}
 use Rattle.tbtree.proofs.KeyRuns.{is, of_key_runs}
 use Rattle.tbtree.proofs.LeafChains.{legs_at, groups_first, groups_only}
 use Rattle.tbtree.proofs.OwnedLists.{AreOf, AreOwned}

@@ -1,6 +1,6 @@
 -- Pages that hold a list of legs pass a check: the chain of each feature has its leaves in the order of the tree.
-use Rattle.std.proofs.Common.{◌≡◌, ◌≢◌, ℕ, zero, suc, ◌+◌, ◌<◌, ◌≤◌, ◌==◌, List, [], ◌∷◌, ◌++◌, length, map, take, drop, Option, Some, None, slice_get, refl, sym, ap, ◌∙◌, arith, subst, ⊎_elim}
-use Rattle.std.specs.List.{filter, flat_map, range_with_len, count_by}
+use Rattle.std.proofs.Common.{◌≡◌, ℕ, suc, ◌+◌, ◌<◌, ◌≤◌, List, [], ◌∷◌, ◌++◌, length, map, take, drop, Some, None, slice_get, refl, sym, ap, ◌∙◌, arith, subst, ⊎_elim}
+use Rattle.std.specs.List.{filter, range_with_len}
 use Rattle.std.specs.List.Sorted.{IsPermutation}
 use Rattle.std.specs.Option.{option_map}
 use Rattle.std.proofs.lemmas.Bool.{cases_lt, eqb-true}
@@ -8,31 +8,29 @@ use Rattle.std.proofs.lemmas.List.{length-map}
 use Rattle.std.proofs.lemmas.List.FromFn.{length-map-range_with_len}
 use Rattle.std.proofs.lemmas.List.Sorted.{IsPermutation-map}
 use Rattle.std.proofs.lemmas.List.Sums.{length-filter}
-use Rattle.legs.specs.Blocks.{groups, joined, level}
+use Rattle.legs.specs.Blocks.{groups, joined}
 use Rattle.legs.specs.Boxes.{BoxView}
 use Rattle.legs.specs.Costs.{leg_feature, leaves_of}
 use Rattle.legs.specs.Hull.{leg_boxes}
-use Rattle.legs.specs.Index.{feature_count, is_of, legs_of}
+use Rattle.legs.specs.Index.{is_of, legs_of}
 use Rattle.legs.specs.Legs.{LegView}
-use Rattle.legs.specs.Tracks.{IsTrack}
 use Rattle.legs.specs.declared.tracks.Track.{Track}
-use Rattle.tbtree.specs.Check.{legs_on, first_on, first_ordinal, last_leg, ComeInTurn, AreLeavesFrom, AreLeavesOf, AreChains, IsChecked, IsOver, IsRising, HoldLegs}
+use Rattle.tbtree.specs.Check.{HoldChains, legs_on, first_on, first_ordinal, last_leg, ComeInTurn, AreLeavesFrom, AreLeavesOf, AreChains, IsChecked, IsOver, IsRising, HoldLegs}
 use Rattle.tbtree.specs.Descent.{legs_in}
-use Rattle.tbtree.specs.Insert.{IsPlace}
 use Rattle.tbtree.specs.Nodes.{Pages, ALeaf}
 use Rattle.tbtree.specs.Shape.{IsShape}
-use Rattle.tbtree.specs.Stands.{owner, marks, pages_of, page_at, head_or_zero, last_or, leaf_of, LeavesStand, TreeStands}
+use Rattle.tbtree.specs.Stands.{owner, marks, pages_of, head_or_zero, last_or, leaf_of, TreeStands}
 use Rattle.tbtree.specs.declared.tree.Place.{Place}
 use Rattle.tbtree.specs.declared.tree.TbTree.{TbTree}
-use Rattle.tbtree.proofs.CheckLemmas.{get_of_map, get_map, get_few, get_some, runs_rising}
+use Rattle.tbtree.proofs.CheckLemmas.{get_of_map, get_map, get_few, runs_rising}
 use Rattle.tbtree.proofs.CheckTree.{level_map}
-use Rattle.tbtree.proofs.GroupLemmas.{some_none, some_same}
+use Rattle.tbtree.proofs.GroupLemmas.{some_same}
 use Rattle.tbtree.proofs.HeldChains.{same_map, map_none, rising_unmap, flat_joined, filter_of, owned_range, get_range, rising_range, joined_groups, length_none, AreLinked, leaves_from, chains_from}
 use Rattle.tbtree.proofs.HeldLemmas.{split_filter, come_in_turn, numbers_are, numbers_rise, firsts_rise, none_beyond}
 use Rattle.tbtree.proofs.KeyRuns.{is, gathered}
 use Rattle.tbtree.proofs.LeafChains.{legs_at, own, pair, marks_pair, pages_own, take_pair, drop_pair, filter_legs}
 use Rattle.tbtree.proofs.OwnRuns.{own_runs}
-use Rattle.tbtree.proofs.OwnedLists.{AreOf, AreOwned, joined_map, owned_at, owned_beyond}
+use Rattle.tbtree.proofs.OwnedLists.{AreOwned, joined_map, owned_at, owned_beyond}
 use Rattle.tbtree.proofs.PlaceLemmas.{as_many}
 use Rattle.tbtree.proofs.SortLemmas.{number}
 use Rattle.tbtree.proofs.TurnLemmas.{ends_at, get_split}
@@ -234,4 +232,15 @@ module _ (nodes : Pages LegView BoxView) (tree : TbTree) (rows total : ℕ) (pla
     pages = c.pages;
     over = over;
     last_index = last_index;
+  }
+
+  -- what the chains hold are the legs
+  pub chains_hold : HoldChains nodes n rows total places tracks c.legs
+  chains_hold = record {
+    chains = chains;
+    are_chains = are_chains;
+    some = some_legs;
+    moved = moved;
+    numbered = numbers_are c.legs c.stands.in_turn ∙ ap (range_with_len 0) c.counted;
+    firsts = firsts;
   }

@@ -1,29 +1,22 @@
 -- The leaves along the chains of the features, in the order of their first legs, are the runs of the legs.
-use Rattle.std.proofs.Common.{◌≡◌, ◌≢◌, ℕ, zero, suc, ◌+◌, ◌-◌, ◌*◌, ◌<◌, ◌≤◌, ◌==◌, min, nat_lt, lt-ltb, le-ltb, Bool, true, false, cond, List, [], ◌∷◌, ◌++◌, length, map, take, drop, Option, Some, None, slice_get, refl, sym, ap, ◌∙◌, arith, subst, ⊎_elim, length-append}
-use Rattle.std.specs.List.{filter, flat_map, zip, range_with_len}
-use Rattle.std.specs.List.Sorted.{IsPermutation, IsNonDecreasingBy}
-use Rattle.std.proofs.lemmas.Bool.{cases_lt, cases_eq}
+use Rattle.std.proofs.Common.{◌≡◌, ℕ, zero, suc, ◌+◌, ◌-◌, ◌*◌, ◌<◌, ◌≤◌, ◌==◌, min, nat_lt, lt-ltb, le-ltb, true, false, cond, List, [], ◌∷◌, ◌++◌, length, map, take, drop, Option, Some, None, slice_get, refl, sym, ap, ◌∙◌, arith, subst, ⊎_elim, length-append}
+use Rattle.std.specs.List.{filter}
+use Rattle.std.proofs.lemmas.Bool.{cases_lt}
 use Rattle.std.proofs.lemmas.List.{append-nil}
-use Rattle.std.proofs.lemmas.List.Elements.{filter-append}
-use Rattle.legs.specs.Blocks.{runs, runs_after, begins, groups, block, joined}
+use Rattle.legs.specs.Blocks.{runs_after, begins, groups, block}
 use Rattle.legs.specs.Boxes.{BoxView}
 use Rattle.legs.specs.Costs.{leg_feature}
 use Rattle.legs.specs.Legs.{LegView}
-use Rattle.legs.specs.declared.tracks.Track.{Track}
-use Rattle.tbtree.specs.Check.{next_in, legs_on, first_on, first_ordinal, ComeInTurn, AreLeavesFrom, AreLeavesOf, AreChains, IsPast, IsRising}
+use Rattle.tbtree.specs.Check.{next_in, legs_on, first_on, first_ordinal, ComeInTurn, AreLeavesFrom, IsPast, IsRising}
 use Rattle.tbtree.specs.Descent.{legs_in}
-use Rattle.tbtree.specs.Nodes.{Pages, Node, LeafView, ALeaf}
-use Rattle.tbtree.specs.Stands.{owner, marks, pages_of, head_or_zero, last_or, LeavesStand}
-use Rattle.tbtree.specs.declared.tree.Place.{Place}
+use Rattle.tbtree.specs.Nodes.{Pages, ALeaf}
+use Rattle.tbtree.specs.Stands.{owner, marks, pages_of, head_or_zero, last_or}
 use Rattle.tbtree.proofs.GroupLemmas.{some_none, some_same, group_at, same_by_get}
 use Rattle.tbtree.proofs.KeyRuns.{is}
-use Rattle.tbtree.proofs.OrdinalOrder.{IsUp, up_from_sorted}
-use Rattle.tbtree.proofs.OwnRuns.{own_runs}
-use Rattle.tbtree.proofs.OwnedLists.{AreOf, AreOwned, of_append, owned_at, owned_beyond}
-use Rattle.tbtree.proofs.RisingLists.{one_order, own_order, own_first}
+use Rattle.tbtree.proofs.OrdinalOrder.{IsUp}
+use Rattle.tbtree.proofs.OwnedLists.{AreOf}
 use Rattle.tbtree.proofs.SortLemmas.{number}
-use Rattle.tbtree.proofs.TurnLemmas.{turn_append, turn_of, turn_rising}
-use Rattle.tbtree.proofs.Widening.{nil_cons}
+use Rattle.tbtree.proofs.TurnLemmas.{turn_append}
 
 module _ {X : Type 0} where
   pub split_at : (xs : List X) (i : ℕ) (x : X) → slice_get xs i ≡ Some x → xs ≡ take i xs ++ x ∷ drop (suc i) xs

@@ -39,6 +39,7 @@ pub mod RisingLists
 pub mod OwnedLists
 pub mod TurnLemmas
 pub mod LeafChains
+pub mod ChainLemmas
 pub mod CheckLemmas
 pub mod CheckTree
 pub mod HeldLemmas

@@ -11,7 +11,7 @@ use Rattle.tbtree.specs.Check.{last_leg, first_ordinal, ComesAfter, ComeInTurn, 
 use Rattle.tbtree.proofs.GroupLemmas.{some_none, some_same}
 use Rattle.tbtree.proofs.KeyRuns.{is}
 use Rattle.tbtree.proofs.OwnedLists.{AreOf, numbered_at}
-use Rattle.tbtree.proofs.RisingLists.{own_first, not_own, past_lower, past_get, IsIn}
+use Rattle.tbtree.proofs.RisingLists.{own_first, not_own, past_lower, past_get}
 use Rattle.tbtree.proofs.SortLemmas.{number}
 use Rattle.tbtree.proofs.Widening.{cons_head, nil_cons}
 

@@ -1,5 +1,5 @@
 -- What a check finds in the pages of a tree: the leaves along the chain of each feature, and the levels above them.
-use Rattle.std.specs.Prelude.{ℕ, suc, ◌≡◌, ◌≢◌, ◌+◌, ◌-◌, ◌<◌, ◌≤◌, min, List, [], ◌∷◌, map, length, slice_get, Option, Some, None, ◌≤ℤ◌}
+use Rattle.std.specs.Prelude.{ℕ, suc, ◌≡◌, ◌≢◌, ◌-◌, ◌<◌, ◌≤◌, min, List, [], ◌∷◌, map, length, slice_get, Option, Some, None, ◌≤ℤ◌}
 use Rattle.std.specs.List.{flat_map, range_with_len}
 use Rattle.std.specs.List.Sorted.{IsPermutation}
 use Rattle.legs.specs.Blocks.{joined, level}
@@ -129,6 +129,17 @@ pub record IsChecked (nodes : Pages LegView BoxView) (tree : TbTree) (rows total
   pub pages : ℕ → List ℕ
   pub over : IsOver nodes tree order pages
   pub last_index : (f : ℕ) (place : Place) → slice_get places f ≡ Some place → slice_get order place.last_index ≡ Some place.last
+
+-- the chains of the features, whatever stands above them, hold a list of so many legs: each feature has its leaves, some;
+-- the legs of all leaves, in the order of their ordinals, which are their places, are the list; and features are numbered
+-- in the order of their first legs
+pub record HoldChains (nodes : Pages LegView BoxView) (most rows total : ℕ) (places : List Place) (tracks : List Track) (legs : List LegView) : Type 0 where
+  pub chains : List (List ℕ)
+  pub are_chains : AreChains nodes most rows 0 places tracks chains
+  pub some : (f : ℕ) (place : Place) → slice_get places f ≡ Some place → 0 < place.legs
+  pub moved : IsPermutation (legs_on nodes (joined chains)) legs
+  pub numbered : map (λ leg. leg.ordinal) legs ≡ range_with_len 0 total
+  pub firsts : IsRising (λ pages. first_ordinal (legs_on nodes pages)) chains
 
 -- pages that hold a list of so many legs, with the places and the tracks of its features
 pub record HoldLegs (nodes : Pages LegView BoxView) (tree : TbTree) (rows total : ℕ) (places : List Place) (tracks : List Track) : Type 0 where

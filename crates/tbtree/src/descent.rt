@@ -1,16 +1,17 @@
 //! What holds of the pages of a tree.
-ghost use Rattle.std.specs.Prelude.{ℕ, [], List, Bool, ◌≡◌, ◌<◌, ◌*◌, ◌-◌, ◌≤◌, All, length};
+ghost use Rattle.std.specs.Prelude.{ℕ, [], List, Bool, ◌≡◌, ◌<◌, ◌*◌, ◌-◌, ◌≤◌, All, length, map};
+ghost use Rattle.std.specs.List.{range_with_len};
 ghost use Rattle.std.specs.List.Sorted.{IsPermutation, IsNonDecreasingBy};
 ghost use Rattle.legs.specs.Boxes.{BoxView};
 ghost use Rattle.legs.specs.Costs.{height, leaves_of};
 ghost use Rattle.legs.specs.Hull.{leg_boxes};
-ghost use Rattle.legs.specs.Index.{legs_of};
+ghost use Rattle.legs.specs.Index.{legs_of, CanFollowInTurn};
 ghost use Rattle.legs.specs.Legs.{IsLeg, LegView};
 ghost use Rattle.legs.specs.declared.tracks.Track.{Track};
 ghost use Rattle.pagecache.specs.Cache.{Cache};
 ghost use Rattle.tbtree.specs.Bounds.{IsBounded, IsBoundedPlace};
-ghost use Rattle.tbtree.specs.Check.{HoldLegs, IsChecked, IsRising};
-ghost use Rattle.tbtree.specs.Descent.{content_of, Descends, IsPruning, IsSameTree};
+ghost use Rattle.tbtree.specs.Check.{HoldChains, HoldLegs, IsChecked, IsRising};
+ghost use Rattle.tbtree.specs.Descent.{content_of, sort_by_ordinal, Descends, IsPruning, IsSameTree};
 ghost use Rattle.tbtree.specs.Insert.{IsPlace, Stands};
 ghost use Rattle.tbtree.specs.Nodes.{Pages, pages_of_cache};
 ghost use Rattle.tbtree.specs.Shape.{IsShape};
@@ -72,6 +73,26 @@ pub fn laws()
     ensures held { (nodes : Pages LegView BoxView) (tree : TbTree) (rows total : ℕ)
         (places : List Place) (tracks : List Track) → IsShape tree.shape
         → HoldLegs nodes tree rows total places tracks → IsChecked nodes tree rows total places tracks }
+
+    // The legs that chains hold may follow one another, and they are one list alone. Where pages hold a list, it is
+    // the one that its chains hold.
+    ensures chained { (nodes : Pages LegView BoxView) (most rows total : ℕ)
+        (places : List Place) (tracks : List Track) (legs : List LegView) → 0 < most
+        → HoldChains nodes most rows total places tracks legs → CanFollowInTurn [] legs }
+    ensures one_list { (nodes : Pages LegView BoxView) (most rows total : ℕ)
+        (places : List Place) (tracks : List Track) (a b : List LegView)
+        → HoldChains nodes most rows total places tracks a
+        → HoldChains nodes most rows total places tracks b → a ≡ b }
+    ensures held_chains { (nodes : Pages LegView BoxView) (tree : TbTree) (rows total : ℕ)
+        (places : List Place) (tracks : List Track) → IsShape tree.shape
+        → (held : HoldLegs nodes tree rows total places tracks)
+        → HoldChains nodes tree.shape.leaf rows total places tracks held.legs }
+
+    // Legs with each ordinal below a total once are, in their order, numbered by their places.
+    ensures numbered { (all : List LegView) (total : ℕ)
+        → IsPermutation (map (λ leg. leg.ordinal) all) (range_with_len 0 total)
+        → IsPermutation all (sort_by_ordinal all)
+        × (map (λ leg. leg.ordinal) (sort_by_ordinal all) ≡ range_with_len 0 total) }
 
     // Numbers that rise are the only order of theirs in which none is below the one before it.
     ensures in_order { (number : ℕ → ℕ) (rising ordered : List ℕ) → IsRising number rising
