@@ -18,11 +18,14 @@ pub mod BoundLemmas
 pub mod WalkLemmas
 pub mod WalkedLemmas
 pub mod SurveyLemmas
+pub mod OldLemmas
 pub mod OrderLemmas
 pub mod CheckingLemmas
+pub mod TakingLemmas
 pub mod SoundLemmas
 pub mod GroupLemmas
 pub mod LevelsLemmas
 pub mod SpanLemmas
 pub mod OverLemmas
 pub mod StandLemmas
+pub mod FlushLemmas

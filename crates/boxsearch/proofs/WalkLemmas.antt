@@ -19,14 +19,21 @@ turn_first f rows last leg rest h = (h.0, h.1, h.2, tt)
 pub turn_rest : (f rows : ℕ) (last : Option LegView) (leg : LegView) (rest : List LegView) → ComeInTurn f rows last (leg ∷ rest) → ComeInTurn f rows (Some leg) rest
 turn_rest f rows last leg rest h = h.3
 
-both_some : (a : BoxView) (b : Option BoxView) → (c : BoxView) × (both leg_boxes (Some a) b ≡ Some c)
-both_some a None = (a, refl)
-both_some a (Some b) = (leg_boxes.cover a b, refl)
+drop_end : (legs : List LegView) (i : ℕ) → length legs ≡ i → drop i legs ≡ []
+drop_end [] zero e = refl
+drop_end [] (suc i) e = absurd (omega arith)
+drop_end (x ∷ legs) zero e = absurd (omega arith)
+drop_end (x ∷ legs) (suc i) e = drop_end legs i (omega arith)
 
--- a leg has a box, and so have legs
-pub hull_some : (legs : List LegView) → 0 < length legs → (b : BoxView) × (hull leg_boxes legs ≡ Some b)
-hull_some [] l = absurd (omega (arith, l))
-hull_some (x ∷ legs) l = both_some (leg_boxes.of x) (hull leg_boxes legs)
+drop_next : (legs : List LegView) (i : ℕ) (leg : LegView) → slice_get legs i ≡ Some leg → drop i legs ≡ leg ∷ drop (suc i) legs
+drop_next legs i leg e = let s : i + 1 ≡ suc i = omega arith in drop_at legs i leg e ∙ ap (λ n. leg ∷ drop n legs) s
+
+-- the least box of legs, from the last one on
+pub hull_at_end : (legs : List LegView) (i : ℕ) (leg : LegView) → suc i ≡ length legs → slice_get legs i ≡ Some leg → hull leg_boxes (drop i legs) ≡ Some (leg_boxes.of leg)
+hull_at_end legs i leg end at = ap (hull leg_boxes) (drop_next legs i leg at) ∙ ap (λ rest. both leg_boxes (Some (leg_boxes.of leg)) (hull leg_boxes rest)) (drop_end legs (suc i) (sym end))
+
+pub hull_before : (legs : List LegView) (i : ℕ) (leg : LegView) (b : BoxView) → slice_get legs i ≡ Some leg → hull leg_boxes (drop (suc i) legs) ≡ Some b → hull leg_boxes (drop i legs) ≡ Some (leg_boxes.cover (leg_boxes.of leg) b)
+hull_before legs i leg b at held = ap (hull leg_boxes) (drop_next legs i leg at) ∙ ap (both leg_boxes (Some (leg_boxes.of leg))) held
 
 pub same_some : {X : Type 0} (x y : X) → Some x ≡ Some y → x ≡ y
 same_some {X} x y e = ap (λ (o : Option X). elim o as (λ _. X) [ Some z ↦ z | None ↦ x ]) e

@@ -11,22 +11,27 @@ use Rattle.std.proofs.lemmas.List.Elements.{All-nil, All-cons, All-append}
 use Rattle.legs.specs.Boxes.{BoxView}
 use Rattle.legs.specs.Legs.{LegView}
 use Rattle.legs.specs.declared.tracks.Track.{Track}
+use Rattle.pages.specs.declared.payload.Payload.{Payload}
 use Rattle.pagecache.specs.Cache.{Cache, payload_of}
 use Rattle.tbnode.specs.Form.{node_of}
 use Rattle.chains.specs.Reads.{OnlyReads}
 use Rattle.tbtree.specs.Check.{next_in, legs_on, last_leg, ComeInTurn, IsLeafOf, AreLeavesFrom, AreLeavesOf}
 use Rattle.tbtree.specs.Descent.{legs_in}
-use Rattle.tbtree.specs.Nodes.{Pages, pages_of_cache}
+use Rattle.tbtree.specs.Nodes.{Pages, Node, pages_of_cache}
 use Rattle.tbtree.specs.Stands.{last_or}
 use Rattle.tbtree.specs.declared.tree.Place.{Place}
-use Rattle.boxsearch.specs.Walking.{after, IsAtEnd, IsMet, Notes, NotesAll, TakesLeaf, Walks}
+use Rattle.boxsearch.specs.Walking.{after, pages_by, IsAtEnd, IsMet, Notes, NotesAll, TakesLeaf, Walks}
 use Rattle.boxsearch.specs.declared.walking.Met.{Met}
 use Rattle.boxsearch.specs.declared.walking.Survey.{Survey}
 use Rattle.boxsearch.specs.declared.walking.Walk.{Walk}
 
+-- what is only read says the same, whatever node a payload says
+pub same_by : (node : Payload → Option (Node LegView BoxView)) (old new : Cache) → OnlyReads old new → IsTrue old.store.is_faithful → pages_by node new ≡ pages_by node old
+same_by node old new r fa = λ i. record { at = λ p. option_map node (r.payloads fa p i); count = r.count i }
+
 -- what is only read says the same of a tree
 pub same_pages : (old new : Cache) → OnlyReads old new → IsTrue old.store.is_faithful → pages_of_cache new ≡ pages_of_cache old
-same_pages old new r fa = λ i. record { at = λ p. option_map node_of (r.payloads fa p i); count = r.count i }
+same_pages old new = same_by node_of old new
 
 turn_append : (f rows : ℕ) (d : Option LegView) (xs ys : List LegView) → ComeInTurn f rows d (xs ++ ys) → ComeInTurn f rows (last_leg d xs) ys
 turn_append f rows d [] ys h = h

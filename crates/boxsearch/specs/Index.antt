@@ -1,5 +1,5 @@
 -- What contracts see of an index over pages.
-use Rattle.std.specs.Prelude.{ℕ, ◌≡◌, ◌<◌, ◌-◌, ◌^◌, ◌==◌, min, false, if◌then◌else◌, IsTrue, List, [], ◌∷◌, ◌++◌, map, take, drop, length, slice_get, Some, All}
+use Rattle.std.specs.Prelude.{ℕ, ◌≡◌, ◌<◌, ◌-◌, ◌^◌, ◌==◌, min, Bool, true, false, if◌then◌else◌, IsTrue, List, [], ◌∷◌, ◌++◌, map, take, drop, length, slice_get, Option, Some, All}
 use Rattle.legs.specs.Costs.{ShapeView}
 use Rattle.legs.specs.Finding.{FeaturePlace, Finding}
 use Rattle.legs.specs.Index.{feature_count}
@@ -8,6 +8,7 @@ use Rattle.pages.specs.declared.payload.Kind.TheVariants.{Header}
 use Rattle.pages.specs.declared.payload.Payload.{Payload}
 use Rattle.legs.specs.declared.listed.Listed.{Ghosts}
 use Rattle.pagecache.specs.Cache.{Cache, IsClean, is_changed, pages_as_written, payload_of, sealed_payload}
+use Rattle.tbnode.specs.Parts.{number_at}
 use Rattle.tbtree.specs.Descent.{content_of}
 use Rattle.tbtree.specs.Insert.{Stands, IsPlace}
 use Rattle.tbtree.specs.Nodes.{pages_of_cache}
@@ -54,7 +55,25 @@ pub record IsUnfinished (payload : Payload) : Type 0 where
   pub kind : payload.kind ≡ Header
   pub front : take 12 payload.bytes ≡ unfinished_front
 
--- page 0 as written is such a header, and is not changed
+-- the header of a finished store: the letters MFTB, version 2 and state 1
+pub record IsFinished (payload : Payload) : Type 0 where
+  pub kind : payload.kind ≡ Header
+  pub letters : number_at 4 0 payload.bytes ≡ 1296454722
+  pub version : number_at 4 4 payload.bytes ≡ 2
+  pub state : number_at 4 8 payload.bytes ≡ 1
+
+-- the header of a store that is not finished where its database has begun, and of a finished one where it has not
+abbrev pub HasState : Bool → Payload → Type 0
+HasState true payload = IsUnfinished payload
+HasState false payload = IsFinished payload
+
+-- page 0 is such a header
+pub record SaysState (begun : Bool) (first : Option Payload) : Type 0 where
+  pub payload : Payload
+  pub is : first ≡ Some payload
+  pub state : HasState begun payload
+
+-- page 0 as written is the header of a store that is not finished, and is not changed
 pub record IsMarked (c : Cache) : Type 0 where
   pub faithful : IsTrue c.store.is_faithful
   pub there : 0 < c.count

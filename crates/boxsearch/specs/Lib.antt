@@ -8,6 +8,7 @@ pub mod Answers
 pub mod Marking
 pub mod Bounds
 pub mod Walking
+pub mod OldStore
 pub mod Ordering
 pub mod Checking
 pub mod Levels

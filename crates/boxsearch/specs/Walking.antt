@@ -1,11 +1,13 @@
 -- Helpers of private functions: the way along the chain of a feature.
-use Rattle.std.specs.Prelude.{ℕ, ◌≡◌, ◌≢◌, ◌-◌, ◌<◌, ◌++◌, ◌∷◌, min, [], List, map, length, Option, Some, None}
+use Rattle.std.specs.Prelude.{ℕ, ◌≡◌, ◌≢◌, ◌-◌, ◌<◌, ◌++◌, ◌∷◌, min, [], List, map, length, Option, Some, None, option_map}
 use Rattle.std.specs.List.{All}
 use Rattle.legs.specs.Boxes.{BoxView}
 use Rattle.legs.specs.Hull.{hull, leg_boxes}
 use Rattle.legs.specs.Legs.{LegView}
 use Rattle.legs.specs.Blocks.{joined}
 use Rattle.legs.specs.declared.tracks.Track.{Track}
+use Rattle.pages.specs.declared.payload.Payload.{Payload}
+use Rattle.pagecache.specs.Cache.{Cache, payload_of}
 use Rattle.tbtree.specs.Check.{next_in, legs_on, last_leg, first_ordinal, ComeInTurn, IsLeafOf, AreLeavesOf, AreChains}
 use Rattle.tbtree.specs.Descent.{legs_in}
 use Rattle.tbtree.specs.Nodes.{Pages, Node, LeafView, ALeaf}
@@ -13,6 +15,10 @@ use Rattle.tbtree.specs.declared.tree.Place.{Place}
 use Rattle.boxsearch.specs.declared.walking.Met.{Met}
 use Rattle.boxsearch.specs.declared.walking.Survey.{Survey}
 use Rattle.boxsearch.specs.declared.walking.Walk.{Walk}
+
+-- the pages of a cache, by the node that a payload says
+abbrev pub pages_by : (Payload → Option (Node LegView BoxView)) → Cache → Pages LegView BoxView
+pages_by node cache = record { at = λ p. option_map node (payload_of cache p); count = cache.count }
 
 -- the node is the next leaf of the way
 pub record IsNextNode (most : ℕ) (walk : Walk) (node : Option (Node LegView BoxView)) : Type 0 where

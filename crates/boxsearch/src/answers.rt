@@ -44,7 +44,7 @@ fn of_chain(fault: ChainFault) -> IndexFault
 }
 
 /// How a fault of a search is answered.
-fn of_search(fault: SearchFault) -> IndexFault
+pub(crate) fn of_search(fault: SearchFault) -> IndexFault
     ensures { result ≡ of_search fault }
 {
     match fault {

@@ -33,7 +33,8 @@ fn leg(ordinal: u32) -> Option<Leg> {
     Leg::new(u64::from(ordinal), ordinal % 2, t0, t1, from, to, ordinal)
 }
 
-/// An index of that many legs in leaves of two under inner pages of two.
+/// An index of that many legs in leaves of two under inner pages of two, whose page 0 says that the
+/// store is not finished.
 ///
 /// Of six legs the leaves of feature 0 are the pages 1, of its legs 0 and 2, and 4, of its leg 4;
 /// those of feature 1 are the pages 2, of its legs 1 and 3, and 7, of its leg 5. Page 3 is above 1
@@ -44,6 +45,7 @@ fn grown(alloc: Global, legs: u32) -> Option<TreeIndex<MemStore>> {
     };
     cache.add_page(Kind::Header).ok()?;
     let mut index = TreeIndex::new(alloc, cache, Shape::new(2, 2)?);
+    index.mark().ok()?;
     for ordinal in 0..legs {
         index.add(leg(ordinal)?).ok()?;
     }
@@ -95,7 +97,7 @@ fn told(
     index: &mut TreeIndex<MemStore>,
 ) -> Option<Option<IndexFault>> {
     let tracks = tracks(alloc, keys, &SOUND)?;
-    Some(index.check(&tracks, 6).err())
+    Some(index.check(&tracks, 6, true).err())
 }
 
 /// What that many legs are refused with, twice.
@@ -107,8 +109,8 @@ fn told_twice(
 ) -> Option<[Option<IndexFault>; 2]> {
     let mut index = grown(alloc, legs)?;
     let tracks = tracks(alloc, keys, beside)?;
-    let first = index.check(&tracks, beside.rows).err();
-    let second = index.check(&tracks, beside.rows).err();
+    let first = index.check(&tracks, beside.rows, true).err();
+    let second = index.check(&tracks, beside.rows, true).err();
     Some([first, second])
 }
 
@@ -205,7 +207,7 @@ fn told_beside(
 ) -> Option<Option<IndexFault>> {
     let mut index = grown(alloc, 6)?;
     let tracks = tracks(alloc, keys, beside)?;
-    Some(index.check(&tracks, rows).err())
+    Some(index.check(&tracks, rows, true).err())
 }
 
 #[test]
@@ -279,6 +281,148 @@ fn a_page_that_lies_is_named(rt: HostRuntime) -> Result<(), Fail> {
     Ok(())
 }
 
+/// Whether the database has begun, the place and the value of four bytes of page 0, and whether it
+/// is named.
+const STATES: [(bool, usize, u32, bool); 10] = [
+    // The state is 0 where the database has begun, and 1 where it has not.
+    (true, 8, 0, false),
+    (false, 8, 1, false),
+    (true, 8, 1, true),
+    (false, 8, 0, true),
+    (true, 8, 2, true),
+    (false, 8, 2, true),
+    // Other letters, and another version.
+    (true, 0, 0x4d46_5443, true),
+    (true, 4, 1, true),
+    (true, 4, 3, true),
+    // What stands behind the state is not looked at.
+    (true, 12, 77, false),
+];
+
+/// What six legs are refused with where page 0 has that value at a place.
+fn told_of_state(
+    alloc: Global,
+    keys: RandomState,
+    (place, value): (usize, u32),
+    begun: bool,
+) -> Option<Option<IndexFault>> {
+    let mut index = grown(alloc, 6)?;
+    let payload = index.cache.page_mut(0).ok()?;
+    if place > 4000 {
+        return None;
+    }
+    put_u32(&mut payload.bytes, place, value);
+    let tracks = tracks(alloc, keys, &SOUND)?;
+    Some(index.check(&tracks, 6, begun).err())
+}
+
+#[test]
+fn page_0_says_whether_the_database_has_begun(rt: HostRuntime) -> Result<(), Fail> {
+    let keys = RandomState::new(&rt)?;
+    for (begun, place, value, named) in STATES {
+        let told = told_of_state(rt.alloc(), keys, (place, value), begun);
+        let wanted = if named {
+            Some(IndexFault::Damaged(0))
+        } else {
+            None
+        };
+        assert!(rt;
+            told == Some(wanted),
+            "{begun}, {value} at {place}: {told:?}"
+        );
+    }
+    Ok(())
+}
+
+/// An index over the pages that another one has written, of which one byte of a page is altered.
+fn with_byte(
+    alloc: Global,
+    mut index: TreeIndex<MemStore>,
+    page: u32,
+    place: usize,
+) -> Option<TreeIndex<MemStore>> {
+    index.flush().ok()?;
+    let tree = index.tree;
+    let places = index.places.clone().ok()?;
+    let mut store = index.into_cache().into_store();
+    if place >= 4096 || page >= store.len() {
+        return None;
+    }
+    store.set_byte(page, place, 7);
+    let Ok(cache) = PageCache::new(alloc, store, 2) else {
+        return None;
+    };
+    Some(TreeIndex::from_parts(alloc, cache, tree, places, 6))
+}
+
+/// What six legs are refused with where page 0 is no header and a byte of a page is altered: in its
+/// payload, among the zero bytes of its head, or in its seal.
+fn told_sealed(
+    alloc: Global,
+    keys: RandomState,
+    page: u32,
+    place: usize,
+) -> Option<Option<IndexFault>> {
+    let mut index = grown(alloc, 6)?;
+    put_u32(&mut index.cache.page_mut(0).ok()?.bytes, 0, 0);
+    let mut index = with_byte(alloc, index, page, place)?;
+    told(alloc, keys, &mut index)
+}
+
+#[test]
+fn seals_come_first(rt: HostRuntime) -> Result<(), Fail> {
+    let keys = RandomState::new(&rt)?;
+    for page in [1, 6, 7] {
+        for place in [5, 100, 4095] {
+            let told = told_sealed(rt.alloc(), keys, page, place);
+            assert!(rt;
+                told == Some(Some(IndexFault::Damaged(page))),
+                "at {place} of {page}: {told:?}"
+            );
+        }
+    }
+    Ok(())
+}
+
+/// Pairs of lies: a page, and the place and the value of four bytes of its payload.
+const TWO_LIES: [[(u32, usize, u32); 2]; 3] = [
+    // The state of page 0, and the feature of a leaf.
+    [(0, 8, 1), (1, 0, 1)],
+    // The page before a leaf, and a box.
+    [(7, 4, 1), (6, 52, 5)],
+    // A leg's ordinal, and a box.
+    [(7, 20, 4), (6, 52, 5)],
+];
+
+/// What six legs are refused with where two pages lie.
+fn told_of_both(
+    alloc: Global,
+    keys: RandomState,
+    lies: &[(u32, usize, u32)],
+) -> Option<Option<IndexFault>> {
+    let mut index = grown(alloc, 6)?;
+    for (page, place, value) in lies {
+        let payload = index.cache.page_mut(*page).ok()?;
+        if *place > 4000 {
+            return None;
+        }
+        put_u32(&mut payload.bytes, *place, *value);
+    }
+    told(alloc, keys, &mut index)
+}
+
+#[test]
+fn the_state_comes_before_the_chains_and_these_before_the_tree(
+    rt: HostRuntime,
+) -> Result<(), Fail> {
+    let keys = RandomState::new(&rt)?;
+    let [first, second, third] = &TWO_LIES;
+    assert!(rt; told_of_both(rt.alloc(), keys, first) == Some(Some(IndexFault::Damaged(0))));
+    assert!(rt; told_of_both(rt.alloc(), keys, second) == Some(Some(IndexFault::Damaged(7))));
+    assert!(rt; told_of_both(rt.alloc(), keys, third) == Some(Some(IndexFault::Damaged(0))));
+    Ok(())
+}
+
 /// Exchanges the first two entries of an inner page.
 fn exchange(payload: &mut Payload) {
     let (mut first, mut second) = ([0; 56], [0; 56]);
@@ -318,7 +462,7 @@ fn told_renumbered(alloc: Global, keys: RandomState) -> Option<Option<IndexFault
     index.places.as_mut_slice().reverse();
     let ends = [6000, 5000, 0];
     let tracks = tracks(alloc, keys, &Beside { ends, ..SOUND })?;
-    Some(index.check(&tracks, 6).err())
+    Some(index.check(&tracks, 6, true).err())
 }
 
 #[test]
@@ -509,7 +653,7 @@ fn told_torn(alloc: Global, keys: RandomState) -> Option<Option<IndexFault>> {
     }
     let mut index = TreeIndex::from_parts(alloc, cache, tree, places, 6);
     let tracks = tracks(alloc, keys, &SOUND)?;
-    Some(index.check(&tracks, 6).err())
+    Some(index.check(&tracks, 6, true).err())
 }
 
 #[test]

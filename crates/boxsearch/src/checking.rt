@@ -2,7 +2,7 @@
 ghost use Rattle.std.specs.Prelude.{ℕ, ◌≡◌, ◌≢◌, ◌<◌, ◌≤◌, ◌^◌, ◌↔◌, List, None, length, map, IfErr, IfOk, OnOk, IsTrue};
 ghost use Rattle.std.specs.List.{All};
 ghost use Rattle.std.specs.List.Sorted.{IsPermutation, IsNonDecreasingBy};
-ghost use Rattle.pagecache.specs.Cache.{Cache};
+ghost use Rattle.pagecache.specs.Cache.{payload_of, Cache};
 ghost use Rattle.chains.specs.Chains.{AreHeld};
 ghost use Rattle.chains.specs.Reads.{OnlyReads};
 ghost use Rattle.legs.specs.declared.tracks.Track.{Track};
@@ -11,6 +11,7 @@ ghost use Rattle.tbtree.specs.Nodes.{pages_of_cache};
 ghost use Rattle.tbtree.specs.Shape.{IsShape};
 ghost use Rattle.boxsearch.specs.Checking.{Agree};
 ghost use Rattle.boxsearch.specs.Faults.{IsAllowed, IsCaused};
+ghost use Rattle.boxsearch.specs.Index.{SaysState};
 ghost use Rattle.boxsearch.specs.Walking.{Surveys};
 ghost use Rattle.boxsearch.specs.Ordering.{IsWhole};
 ghost use Rattle.boxsearch.specs.declared.fault.SearchFault.{SearchFault};
@@ -20,9 +21,10 @@ ghost use Rattle.boxsearch.specs.declared.walking.Survey.{Survey};
 use crate::answers::checked;
 use crate::fault::SearchFault;
 use crate::levels::check_tree;
+use crate::marking::has_state;
 use crate::ordering::{are_once, have_legs, leaves_rise, name_last, rise, sort_leaves};
 use crate::tree_index::TreeIndex;
-use crate::walking::{Survey, walk_all};
+use crate::walking::{Cached, Survey, walk_all};
 use legs::{IndexFault, Tracks};
 use pagecache::PageCache;
 use pages::PageStore;
@@ -74,9 +76,30 @@ fn read_pages<S: PageStore>(cache: &mut PageCache<S>) -> Result<(), SearchFault>
     Ok(())
 }
 
+/// Reads page 0, and tests that it is the header of a store that is not finished where its database
+/// has begun, and of a finished one where it has not.
+fn check_state<S: PageStore>(cache: &mut PageCache<S>, begun: bool) -> Result<(), SearchFault>
+    ensures says { IsTrue cache.old.store.is_faithful
+        → OnOk result (SaysState begun (payload_of cache.old 0)) }
+    ensures only { IsTrue cache.old.store.is_faithful → SaysState begun (payload_of cache.old 0)
+        → 0 < cache.old.count → IfErr result IsAllowed }
+    ensures reads { OnlyReads cache.old cache.new }
+    ensures caused { IfErr result (IsCaused cache.old cache.new) }
+    ensures works { IfErr result (λ fault. fault ≢ SearchFault.Spent) }
+{
+    let payload = match cache.page(0) {
+        Ok(payload) => payload,
+        Err(fault) => return Err(SearchFault::of(fault, 0)),
+    };
+    if !has_state(payload, begun) {
+        return Err(SearchFault::Malformed(0));
+    }
+    Ok(())
+}
+
 /// Whether a survey is whole: each feature has a leg, each ordinal below the total stands once, and
 /// features are in the order of their first legs. The ordinals are put in order.
-fn is_whole(places: &[Place], total: u64, survey: &mut Survey) -> bool
+pub(crate) fn is_whole(places: &[Place], total: u64, survey: &mut Survey) -> bool
     ensures whole { IsTrue result → IsWhole places.now total survey.old }
     ensures only { IsWhole places.now total survey.old → IsTrue result }
     ensures leaves { survey.new.leaves ≡ survey.old.leaves }
@@ -94,7 +117,7 @@ fn is_whole(places: &[Place], total: u64, survey: &mut Survey) -> bool
 }
 
 /// Puts the leaves of a survey in the order of their first legs; whether these are distinct.
-fn put_in_order(survey: &mut Survey) -> bool
+pub(crate) fn put_in_order(survey: &mut Survey) -> bool
     ensures moved { IsPermutation survey.old.leaves.items survey.new.leaves.items }
     ensures rises { IsNonDecreasingBy (λ (m : Met). m.first) survey.new.leaves.items }
     ensures strict { IsTrue result ↔ IsRising (λ (m : Met). m.first) survey.new.leaves.items }
@@ -104,7 +127,7 @@ fn put_in_order(survey: &mut Survey) -> bool
 }
 
 /// Whether the tracks have so many legs and rows, and no more features than any limit allows.
-fn agree(tracks: &Tracks, rows: u64, legs: u64) -> bool
+pub(crate) fn agree(tracks: &Tracks, rows: u64, legs: u64) -> bool
     ensures { IsTrue result ↔ Agree tracks.now rows legs }
 {
     let _ = tracks.track(0);
@@ -114,8 +137,8 @@ fn agree(tracks: &Tracks, rows: u64, legs: u64) -> bool
 }
 
 /// Tests that the pages hold one list of so many legs under a tree, with the places and the tracks
-/// of its features, and a row of so many for each leg. The first page that fails is malformed; page
-/// 0 where what it keeps does.
+/// of its features, and a row of so many for each leg, and that page 0 says whether the database has
+/// begun. The first page that fails is malformed; page 0 where what it keeps does.
 #[tactic(auto, using(crate::proofs::ReadLemmas::reading))]
 pub(crate) fn check_pages<S: PageStore>(
     alloc: Global,
@@ -125,7 +148,10 @@ pub(crate) fn check_pages<S: PageStore>(
     tracks: &Tracks,
     rows: u64,
     legs: u64,
+    begun: bool,
 ) -> Result<(), SearchFault>
+    ensures says { IsTrue cache.old.store.is_faithful
+        → OnOk result (SaysState begun (payload_of cache.old 0)) }
     ensures checked { IsTrue cache.old.store.is_faithful
         → OnOk result (IsChecked (pages_of_cache cache.old) tree.now rows legs places.now
         tracks.now.tracks) }
@@ -133,6 +159,7 @@ pub(crate) fn check_pages<S: PageStore>(
     ensures count { OnOk result (cache.old.count ≡ cache.old.store.count) }
     ensures shape { IsShape tree.now.shape }
     ensures only { IsTrue cache.old.store.is_faithful → cache.old.count ≡ cache.old.store.count
+        → SaysState begun (payload_of cache.old 0)
         → length places.now < 2 ^ 32 → Agree tracks.now rows legs
         → IsChecked (pages_of_cache cache.old) tree.now rows legs places.now tracks.now.tracks
         → IfErr result IsAllowed }
@@ -143,7 +170,8 @@ pub(crate) fn check_pages<S: PageStore>(
     tbtree::laws();
     let most = u64::from(tree.shape.leaf());
     read_pages(cache)?;
-    let mut survey = walk_all(alloc, cache, most, rows, places, tracks)?;
+    check_state(cache, begun)?;
+    let mut survey = walk_all::<Cached<S>>(alloc, cache, most, rows, places, tracks)?;
     if !is_whole(places, legs, &mut survey) {
         return Err(SearchFault::Malformed(0));
     }
@@ -172,19 +200,23 @@ impl<S: PageStore> TreeIndex<S> {
 
     /// Tests that its pages, whoever made them, hold one list of legs, which its tree, its places,
     /// these tracks and so many rows of attribute values are of. Each page is asked of the cache for
-    /// its seal, then the leaves of each feature along its chain, then the tree from the root down;
-    /// where the cache was flushed, what it gives are the pages as written.
+    /// its seal, then page 0, which is the header of a store that is not finished where the database
+    /// has begun, and of a finished one where it has not, then the leaves of each feature along its
+    /// chain, then the tree from the root down; where the cache was flushed, what it gives are the
+    /// pages as written.
     ///
     /// The first page that fails is `Damaged`: the last leaf of a feature that ends elsewhere than
     /// its track or its place says, and page 0 where the numbers of all legs, of the tree, or of the
     /// rows do. A spent index is `Spent`.
-    pub fn check(&mut self, tracks: &Tracks, rows: u64) -> Result<(), IndexFault>
+    pub fn check(&mut self, tracks: &Tracks, rows: u64, begun: bool) -> Result<(), IndexFault>
         // What passes is sound, and the tracks are those of its legs; what is sound passes.
         ensures sound { OnOk result (IsTrue self.old.cache.store.is_faithful → IsSound self.new) }
         ensures tracks { OnOk result (IsTrue self.old.cache.store.is_faithful
             → AreTracksOf tracks.now rows (content self.new)) }
+        ensures says { OnOk result (IsTrue self.old.cache.store.is_faithful
+            → SaysState begun (payload_of self.new.cache 0)) }
         ensures only { IsSound self.old → AreTracksOf tracks.now rows (content self.old)
-            → IfErr result MayRefuse }
+            → SaysState begun (payload_of self.old.cache 0) → IfErr result MayRefuse }
 
         // Nothing changes.
         ensures same { self.new ≡ with_cache self.old self.new.cache }
@@ -210,6 +242,7 @@ impl<S: PageStore> TreeIndex<S> {
             tracks,
             rows,
             self.legs,
+            begun,
         ))
     }
 }

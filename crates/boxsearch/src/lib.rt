@@ -5,10 +5,12 @@ mod answers;
 mod checking;
 mod descent;
 mod fault;
+mod leaves;
 mod levels;
 mod listed;
 mod marking;
 mod nodes;
+mod old_store;
 mod ordering;
 mod parts;
 mod tree_index;
@@ -16,6 +18,7 @@ mod walking;
 
 pub use descent::search;
 pub use fault::SearchFault;
+pub use old_store::take_old_legs;
 pub use parts::laws;
 pub use tree_index::TreeIndex;
 
@@ -23,5 +26,7 @@ pub use tree_index::TreeIndex;
 mod check_tests;
 #[cfg(test)]
 mod index_tests;
+#[cfg(test)]
+mod old_store_tests;
 #[cfg(test)]
 mod tests;

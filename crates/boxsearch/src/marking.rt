@@ -2,14 +2,22 @@
 ghost use Rattle.std.specs.Prelude.{◌≡◌, ◌<◌, ◌↔◌, drop, IsTrue, IfErr, OnErr, OnOk};
 ghost use Rattle.pages.specs.Store.{Faulted};
 ghost use Rattle.pagecache.specs.Cache.{IsClean, pages_as_written};
-ghost use Rattle.boxsearch.specs.Index.{marked, IsMarked, IsUnfinished, MarksFirst};
+ghost use Rattle.boxsearch.specs.Index.{marked, HasState, IsFinished, IsMarked, IsUnfinished, MarksFirst};
 ghost use Rattle.boxsearch.specs.Marking.{Marks, IsNotMarked};
 
 use pagecache::{CacheFault, PageCache};
 use pages::{Kind, PageStore, Payload};
+use tbnode::fields::u32_at;
 
 /// How the header of a store begins that is not finished: `MFTB`, the version, and the state 0.
 const UNFINISHED: [u8; 12] = [77, 70, 84, 66, 0, 0, 0, 2, 0, 0, 0, 0];
+
+/// The letters `MFTB` as a number, the version, and the state of a finished store.
+const MAGIC: u32 = 0x4d46_5442;
+
+const VERSION: u32 = 2;
+
+const FINISHED: u32 = 1;
 
 /// Whether a payload is the header of a store that is not finished.
 fn is_unfinished(payload: &Payload) -> bool
@@ -18,6 +26,31 @@ fn is_unfinished(payload: &Payload) -> bool
     match payload.kind {
         Kind::Header => payload.bytes[..12] == UNFINISHED[..],
         _ => false,
+    }
+}
+
+/// Whether a payload is the header of a finished store.
+fn is_finished(payload: &Payload) -> bool
+    ensures { IsTrue result ↔ IsFinished payload.now }
+{
+    match payload.kind {
+        Kind::Header => {
+            u32_at(&payload.bytes, 0) == MAGIC
+                && u32_at(&payload.bytes, 4) == VERSION
+                && u32_at(&payload.bytes, 8) == FINISHED
+        }
+        _ => false,
+    }
+}
+
+/// Whether a payload is the header of a store that is not finished where its database has begun,
+/// and of a finished one where it has not.
+pub(crate) fn has_state(payload: &Payload, begun: bool) -> bool
+    ensures { IsTrue result ↔ HasState begun payload.now }
+{
+    match begun {
+        true => is_unfinished(payload),
+        false => is_finished(payload),
     }
 }
 

@@ -1,12 +1,12 @@
 //! The parts of an index, for what is kept beside its tree.
-ghost use Rattle.std.specs.Prelude.{ℕ, ◌≡◌, ◌≢◌, ◌<◌, ◌≤◌, ◌^◌, length, count_by, slice_get, IsTrue, None, Some};
+ghost use Rattle.std.specs.Prelude.{ℕ, ◌≡◌, ◌≢◌, ◌<◌, ◌≤◌, ◌^◌, [], true, length, count_by, slice_get, IsTrue, None, Some};
 ghost use Rattle.std.specs.List.{sum_by};
-ghost use Rattle.legs.specs.Index.{is_of};
-ghost use Rattle.pagecache.specs.Cache.{payload_of, Cache};
+ghost use Rattle.legs.specs.Index.{is_of, CanFollowInTurn};
+ghost use Rattle.pagecache.specs.Cache.{payload_of, Cache, IsClean, IsSettled};
 ghost use Rattle.tbtree.specs.declared.tree.Place.{Place};
 ghost use Rattle.boxsearch.specs.Beside.{with_cache, IsBeside};
 ghost use Rattle.boxsearch.specs.Bounds.{IsBounded};
-ghost use Rattle.boxsearch.specs.Index.{content, IndexView, IsSound};
+ghost use Rattle.boxsearch.specs.Index.{content, IndexView, IsMarked, IsSound, SaysState};
 
 use crate::tree_index::TreeIndex;
 use pagecache::PageCache;
@@ -75,6 +75,14 @@ pub fn laws()
         → new.count ≡ old.count → new.store.count ≡ old.store.count
         → (IsTrue old.store.is_faithful → (n : ℕ) → payload_of new n ≡ payload_of old n)
         → IsBeside old new }
+
+    // The legs of a sound one follow one another from the first.
+    ensures in_turn { (index : IndexView) → IsSound index → CanFollowInTurn [] (content index) }
+
+    // Page 0 is marked where it says that the store is not finished, and no page is changed.
+    ensures marked { (index : IndexView) → IsSound index → IsSettled index.cache
+        → IsClean index.cache → SaysState true (payload_of index.cache 0)
+        → IsMarked index.cache }
 
     // There is a page 0, which has a payload.
     ensures some_page { (index : IndexView) → IsSound index → 0 < index.cache.count }

@@ -30,12 +30,15 @@ impl<S: PageStore> Model for TreeIndex<S> {
 }
 
 impl<S: PageStore> TreeIndex<S> {
-    ghost use Rattle.std.specs.Prelude.{ℕ, ◌≡◌, ◌<◌, [], false, length, slice_get, IsTrue, OnErr, OnOk};
-    ghost use Rattle.pagecache.specs.Cache.{payload_of};
+    ghost use Rattle.std.specs.Prelude.{ℕ, ◌≡◌, ◌<◌, [], false, length, slice_get, IfErr, IsTrue, OnErr, OnOk};
+    ghost use Rattle.pagecache.specs.Cache.{payload_of, IsSettled, IsWritten};
     ghost use Rattle.tbtree.specs.Nodes.{pages_of_cache};
     ghost use Rattle.chains.specs.Chains.{AreHeld};
     ghost use Rattle.boxsearch.specs.Index.{content, new_index, words, IsSound, MarksFirst, with_place};
-    ghost use Rattle.legs.specs.Asking.{Starts, Refusals};
+    ghost use Rattle.legs.specs.Asking.{Leaves, Starts, Refusals};
+    ghost use Rattle.legs.specs.Index.{MayRefuse};
+    ghost use Rattle.chains.specs.Reads.{OnlyReads};
+    ghost use Rattle.boxsearch.specs.Beside.{with_cache};
     ghost use Rattle.boxsearch.specs.Putting.{Puts};
 
     /// An index without legs over the pages of a cache. It is sound where the store is faithful, has a page 0, all its
@@ -74,6 +77,35 @@ impl<S: PageStore> TreeIndex<S> {
         }
         tbtree::laws();
         of_pages(mark_page(&mut self.cache))
+    }
+
+    /// Writes all that is changed to the store, and makes the store last. Nothing is written where no page is changed.
+    ///
+    /// Refused are a spent index, want of memory, and a store that fails.
+    pub fn flush(&mut self) -> Result<(), IndexFault>
+        ensures written { OnOk result (IsWritten self.new.cache) }
+
+        // Nothing else changes.
+        ensures same { self.new ≡ with_cache self.old self.new.cache }
+        ensures reads { OnlyReads self.old.cache self.new.cache }
+        ensures leaves { Leaves words self.old self.new }
+        ensures asked { self.new.cache.asked ≡ self.old.cache.asked }
+
+        ensures refusals { Refusals words self.old self.new result }
+        ensures works { IfErr result (λ fault. self.old.tree.spent ≡ false → MayRefuse fault) }
+    {
+        if self.tree.spent {
+            return Err(IndexFault::Spent);
+        }
+        of_pages(self.cache.flush())
+    }
+
+    /// How many pages its cache counts.
+    pub fn page_count(&self) -> u32
+        ensures value { result ≡ self.now.cache.count }
+        ensures settled { IsSettled self.now.cache }
+    {
+        self.cache.count()
     }
 
     /// The cache of its pages, as it stands.

@@ -7,18 +7,19 @@ ghost use Rattle.tbnode.specs.Form.{node_of};
 ghost use Rattle.chains.specs.Reads.{OnlyReads};
 ghost use Rattle.tbtree.specs.Check.{last_leg, legs_on, first_ordinal, ComesAfter, ComeInTurn, IsLeafOf, AreLeavesOf, AreChains};
 ghost use Rattle.tbtree.specs.Descent.{legs_in};
-ghost use Rattle.tbtree.specs.Nodes.{pages_of_cache, LeafView, ALeaf};
+ghost use Rattle.tbtree.specs.Nodes.{LeafView, ALeaf};
 ghost use Rattle.boxsearch.specs.Faults.{IsAllowed, IsCaused};
-ghost use Rattle.boxsearch.specs.Walking.{after, IsAtEnd, IsNextNode, Notes, Surveys, TakesLeaf, Walks};
+ghost use Rattle.boxsearch.specs.Walking.{after, pages_by, IsAtEnd, IsNextNode, Notes, Surveys, TakesLeaf, Walks};
 ghost use Rattle.boxsearch.specs.declared.fault.SearchFault.{SearchFault};
 
 use crate::fault::SearchFault;
+use crate::leaves::{AnyLeaf, bounds_of};
 use legs::{Box3, Leg, Track, Tracks};
 use pagecache::PageCache;
 use pages::{PageStore, Payload};
 use std::alloc::{AllocError, Global};
-use tbnode::Leaf;
-use tbtree::{Place, cover_of};
+use std::marker::PhantomData;
+use tbtree::Place;
 
 /// A leaf that was met: the ordinal of its first leg, its page, and the least box that holds its
 /// legs.
@@ -68,20 +69,20 @@ fn is_next_leg(feature: u32, rows: u64, last: &Option<Leg>, leg: &Leg) -> bool
 
 /// Notes the ordinals of a leaf's legs, as long as each comes after the one before it; whether each
 /// does.
-fn take_legs(
-    leaf: &Leaf<'_>,
+fn take_legs<L: AnyLeaf>(
+    leaf: &L,
     feature: u32,
     rows: u64,
     last: &mut Option<Leg>,
     ordinals: &mut Vec<u64>,
 ) -> Result<bool, AllocError>
     ensures turn { IfOk result (λ whole. IsTrue whole
-        → ComeInTurn feature rows last.old leaf.now.legs) }
+        → ComeInTurn feature rows last.old (L.says leaf.now).legs) }
     ensures last { IfOk result (λ whole. IsTrue whole
-        → last.new ≡ last_leg last.old leaf.now.legs) }
+        → last.new ≡ last_leg last.old (L.says leaf.now).legs) }
     ensures noted { IfOk result (λ whole. IsTrue whole
-        → ordinals.new.items ≡ ordinals.old.items ++ map (λ leg. leg.ordinal) leaf.now.legs) }
-    ensures whole { IfOk result (λ whole. ComeInTurn feature rows last.old leaf.now.legs
+        → ordinals.new.items ≡ ordinals.old.items ++ map (λ leg. leg.ordinal) (L.says leaf.now).legs) }
+    ensures whole { IfOk result (λ whole. ComeInTurn feature rows last.old (L.says leaf.now).legs
         → IsTrue whole) }
 {
     for i in 0..leaf.len() {
@@ -96,13 +97,58 @@ fn take_legs(
 }
 
 /// Whether a leaf is the next one of a way.
-fn is_next(leaf: &Leaf<'_>, walk: &Walk, most: u64) -> bool
-    ensures { IsTrue result ↔ IsNextNode most walk.now (Some (ALeaf leaf.now)) }
+fn is_next<L: AnyLeaf>(leaf: &L, walk: &Walk, most: u64) -> bool
+    ensures { IsTrue result ↔ IsNextNode most walk.now (Some (ALeaf (L.says leaf.now))) }
 {
     let head = leaf.head();
     head.feature == walk.feature
         && head.previous == walk.previous
         && leaf.len() as u64 == most.min(walk.left)
+}
+
+/// Takes a leaf, where it is the one that is next; whether it is.
+pub(crate) fn take_next<L: AnyLeaf>(
+    leaf: &L,
+    walk: &mut Walk,
+    most: u64,
+    rows: u64,
+    survey: &mut Survey,
+) -> Result<bool, AllocError>
+    ensures next { IfOk result (λ whole. IsTrue whole
+        → IsNextNode most walk.old (Some (ALeaf (L.says leaf.now)))) }
+    ensures turn { IfOk result (λ whole. IsTrue whole
+        → ComeInTurn walk.old.feature rows walk.old.last (L.says leaf.now).legs) }
+    ensures walk { IfOk result (λ whole. IsTrue whole
+        → walk.new ≡ after most walk.old (Some (Some (ALeaf (L.says leaf.now))))) }
+    ensures noted { IfOk result (λ whole. IsTrue whole
+        → Notes (Some (Some (ALeaf (L.says leaf.now)))) walk.old.page survey.old survey.new) }
+    ensures whole { IfOk result (λ whole.
+        IsNextNode most walk.old (Some (ALeaf (L.says leaf.now)))
+        → ComeInTurn walk.old.feature rows walk.old.last (L.says leaf.now).legs
+        → IsTrue whole) }
+{
+    if !is_next(leaf, walk, most) {
+        return Ok(false);
+    }
+    prove!(leaf.len() > 0);
+    let first = leaf.leg(0).ordinal;
+    let bounds = bounds_of(leaf);
+    survey.leaves.push(Met {
+        first,
+        page: walk.page,
+        bounds,
+    })?;
+    let whole = take_legs(
+        leaf,
+        walk.feature,
+        rows,
+        &mut walk.last,
+        &mut survey.ordinals,
+    )?;
+    walk.previous = walk.page;
+    walk.page = leaf.head().next;
+    walk.left = walk.left.saturating_sub(most);
+    Ok(whole)
 }
 
 /// Takes the payload of the next page of a way, where it is the leaf that is next; whether it is.
@@ -125,70 +171,94 @@ fn take_payload(
         → ComeInTurn walk.old.feature rows walk.old.last (legs_in (Some (node_of payload.now)))
         → IsTrue whole) }
 {
-    let Some(leaf) = tbnode::leaf(payload) else {
-        return Ok(false);
-    };
-    prove!(leaf.len() > 0);
-    let Some(bounds) = cover_of(payload) else {
-        return Ok(false);
-    };
-    if !is_next(&leaf, walk, most) {
-        return Ok(false);
+    match tbnode::leaf(payload) {
+        Some(leaf) => take_next(&leaf, walk, most, rows, survey),
+        None => Ok(false),
     }
-    let first = leaf.leg(0).ordinal;
-    survey.leaves.push(Met {
-        first,
-        page: walk.page,
-        bounds,
-    })?;
-    let whole = take_legs(
-        &leaf,
-        walk.feature,
-        rows,
-        &mut walk.last,
-        &mut survey.ordinals,
-    )?;
-    walk.previous = walk.page;
-    walk.page = leaf.head().next;
-    walk.left = walk.left.saturating_sub(most);
-    Ok(whole)
 }
 
-/// Takes the next leaf of a way. Where its page is not that leaf it is malformed; where no page is
-/// named, or none is there, the page that names it is.
-fn take_leaf<S: PageStore>(
-    cache: &mut PageCache<S>,
-    walk: &mut Walk,
-    most: u64,
-    rows: u64,
-    survey: &mut Survey,
-) -> Result<(), SearchFault>
-    ensures taken { IsTrue cache.old.store.is_faithful → 0 < walk.old.left
-        → OnOk result (TakesLeaf (pages_of_cache cache.old) most rows walk.old walk.new survey.old
-        survey.new) }
-    ensures left { OnOk result (walk.new.left ≡ walk.old.left - most) }
-    ensures only { IsTrue cache.old.store.is_faithful
-        → IsLeafOf (pages_of_cache cache.old) most walk.old.feature walk.old.previous
-        walk.old.left walk.old.page
-        → ComeInTurn walk.old.feature rows walk.old.last
-        (legs_in ((pages_of_cache cache.old).at walk.old.page))
-        → IfErr result IsAllowed }
-    ensures reads { OnlyReads cache.old cache.new }
-    ensures caused { IfErr result (IsCaused cache.old cache.new) }
-    ensures works { IfErr result (λ fault. fault ≢ SearchFault.Spent) }
-{
-    if walk.page == 0 {
-        return Err(SearchFault::Malformed(walk.previous));
-    }
-    let payload = match cache.page(walk.page) {
-        Ok(payload) => payload,
-        Err(fault) => return Err(SearchFault::of(fault, walk.previous)),
-    };
-    let page = walk.page;
-    if take_payload(payload, walk, most, rows, survey)? {
-        Ok(())
-    } else {
-        Err(SearchFault::Malformed(page))
+/// How the leaves of chains are read.
+pub(crate) trait LeafReader {
+    ghost use Rattle.std.specs.Prelude.{◌≡◌, ◌≢◌, ◌-◌, ◌<◌, Option, IfErr, IsTrue, OnOk};
+    ghost use Rattle.legs.specs.Boxes.{BoxView};
+    ghost use Rattle.legs.specs.Legs.{LegView};
+    ghost use Rattle.pages.specs.declared.payload.Payload.{Payload};
+    ghost use Rattle.pagecache.specs.Cache.{Cache};
+    ghost use Rattle.tbnode.specs.Nodes.{Node};
+    ghost use Rattle.chains.specs.Reads.{OnlyReads};
+    ghost use Rattle.tbtree.specs.Check.{ComeInTurn, IsLeafOf};
+    ghost use Rattle.tbtree.specs.Descent.{legs_in};
+    ghost use Rattle.boxsearch.specs.Faults.{IsAllowed, IsCaused};
+    ghost use Rattle.boxsearch.specs.Walking.{pages_by, TakesLeaf};
+    ghost use Rattle.boxsearch.specs.declared.fault.SearchFault.{SearchFault};
+
+    /// What they are read from.
+    type Source;
+
+    /// What contracts see of it: a cache of its pages.
+    ghost seen: { Self.Source → Cache };
+
+    /// The node that a payload says.
+    ghost node: { Payload → Option (Node LegView BoxView) };
+
+    /// Takes the next leaf of a way. Where its page is not that leaf it is malformed; where no page
+    /// is named, or none is there, the page that names it is.
+    fn take_leaf(
+        source: &mut Self::Source,
+        walk: &mut Walk,
+        most: u64,
+        rows: u64,
+        survey: &mut Survey,
+    ) -> Result<(), SearchFault>
+        ensures taken { IsTrue (seen source.old).store.is_faithful → 0 < walk.old.left
+            → OnOk result (TakesLeaf (pages_by node (seen source.old)) most rows walk.old walk.new
+            survey.old survey.new) }
+        ensures left { OnOk result (walk.new.left ≡ walk.old.left - most) }
+        ensures only { IsTrue (seen source.old).store.is_faithful
+            → IsLeafOf (pages_by node (seen source.old)) most walk.old.feature walk.old.previous
+            walk.old.left walk.old.page
+            → ComeInTurn walk.old.feature rows walk.old.last
+            (legs_in ((pages_by node (seen source.old)).at walk.old.page))
+            → IfErr result IsAllowed }
+        ensures reads { OnlyReads (seen source.old) (seen source.new) }
+        ensures caused { IfErr result (IsCaused (seen source.old) (seen source.new)) }
+        ensures works { IfErr result (λ fault. fault ≢ SearchFault.Spent) };
+}
+
+/// Leaves of the present version, which are read from a cache.
+pub(crate) struct Cached<S: PageStore> {
+    store: PhantomData<S>,
+}
+
+impl<S: PageStore> LeafReader for Cached<S> {
+    ghost use Rattle.tbnode.specs.Form.{node_of};
+
+    type Source = PageCache<S>;
+
+    ghost seen = { λ cache. cache };
+
+    ghost node = { node_of };
+
+    fn take_leaf(
+        cache: &mut PageCache<S>,
+        walk: &mut Walk,
+        most: u64,
+        rows: u64,
+        survey: &mut Survey,
+    ) -> Result<(), SearchFault> {
+        if walk.page == 0 {
+            return Err(SearchFault::Malformed(walk.previous));
+        }
+        let payload = match cache.page(walk.page) {
+            Ok(payload) => payload,
+            Err(fault) => return Err(SearchFault::of(fault, walk.previous)),
+        };
+        let page = walk.page;
+        if take_payload(payload, walk, most, rows, survey)? {
+            Ok(())
+        } else {
+            Err(SearchFault::Malformed(page))
+        }
     }
 }
 
@@ -214,8 +284,8 @@ fn is_at_end(walk: &Walk, place: &Place, track: &Track) -> bool
 
 /// Notes the leaves of a feature, along its chain from the first to the last, as its place and its
 /// track say them.
-pub(crate) fn walk_chain<S: PageStore>(
-    cache: &mut PageCache<S>,
+pub(crate) fn walk_chain<R: LeafReader>(
+    source: &mut R::Source,
     most: u64,
     rows: u64,
     feature: u32,
@@ -224,14 +294,14 @@ pub(crate) fn walk_chain<S: PageStore>(
     survey: &mut Survey,
 ) -> Result<(), SearchFault>
     requires { 0 < most }
-    ensures walked { IsTrue cache.old.store.is_faithful
-        → OnOk result (Walks (pages_of_cache cache.old) most rows feature place.now track.now
+    ensures walked { IsTrue (R.seen source.old).store.is_faithful
+        → OnOk result (Walks (pages_by R.node (R.seen source.old)) most rows feature place.now track.now
         survey.old survey.new) }
-    ensures only { IsTrue cache.old.store.is_faithful → (pages : List ℕ)
-        → AreLeavesOf (pages_of_cache cache.old) most rows feature place.now track.now pages
+    ensures only { IsTrue (R.seen source.old).store.is_faithful → (pages : List ℕ)
+        → AreLeavesOf (pages_by R.node (R.seen source.old)) most rows feature place.now track.now pages
         → IfErr result IsAllowed }
-    ensures reads { OnlyReads cache.old cache.new }
-    ensures caused { IfErr result (IsCaused cache.old cache.new) }
+    ensures reads { OnlyReads (R.seen source.old) (R.seen source.new) }
+    ensures caused { IfErr result (IsCaused (R.seen source.old) (R.seen source.new)) }
     ensures works { IfErr result (λ fault. fault ≢ SearchFault.Spent) }
 {
     let mut walk = Walk {
@@ -242,7 +312,7 @@ pub(crate) fn walk_chain<S: PageStore>(
         last: None,
     };
     'leaves: for _ in 0..place.legs.div_ceil(most) {
-        take_leaf(cache, &mut walk, most, rows, survey)?;
+        R::take_leaf(source, &mut walk, most, rows, survey)?;
     }
     if !is_at_end(&walk, place, track) {
         return Err(SearchFault::Malformed(walk.previous));
@@ -269,23 +339,23 @@ fn are_paired(places: &[Place], tracks: &Tracks) -> bool
 }
 
 /// Notes the leaves of each feature along its chain, as the places and the tracks say them.
-pub(crate) fn walk_all<S: PageStore>(
+pub(crate) fn walk_all<R: LeafReader>(
     alloc: Global,
-    cache: &mut PageCache<S>,
+    source: &mut R::Source,
     most: u64,
     rows: u64,
     places: &[Place],
     tracks: &Tracks,
 ) -> Result<Survey, SearchFault>
     requires { 0 < most }
-    ensures surveyed { IfOk result (λ survey. IsTrue cache.old.store.is_faithful
-        → Surveys (pages_of_cache cache.old) most rows places.now tracks.now.tracks survey) }
-    ensures only { IsTrue cache.old.store.is_faithful → length places.now < 2 ^ 32
+    ensures surveyed { IfOk result (λ survey. IsTrue (R.seen source.old).store.is_faithful
+        → Surveys (pages_by R.node (R.seen source.old)) most rows places.now tracks.now.tracks survey) }
+    ensures only { IsTrue (R.seen source.old).store.is_faithful → length places.now < 2 ^ 32
         → (chains : List (List ℕ))
-        → AreChains (pages_of_cache cache.old) most rows 0 places.now tracks.now.tracks chains
+        → AreChains (pages_by R.node (R.seen source.old)) most rows 0 places.now tracks.now.tracks chains
         → IfErr result IsAllowed }
-    ensures reads { OnlyReads cache.old cache.new }
-    ensures caused { IfErr result (IsCaused cache.old cache.new) }
+    ensures reads { OnlyReads (R.seen source.old) (R.seen source.new) }
+    ensures caused { IfErr result (IsCaused (R.seen source.old) (R.seen source.new)) }
     ensures works { IfErr result (λ fault. fault ≢ SearchFault.Spent) }
 {
     let mut survey = Survey {
@@ -305,7 +375,7 @@ pub(crate) fn walk_all<S: PageStore>(
         };
         let start = survey.ordinals.len();
         let place = &places[feature as usize];
-        walk_chain(cache, most, rows, feature, place, &track, &mut survey)?;
+        walk_chain::<R>(source, most, rows, feature, place, &track, &mut survey)?;
         survey.firsts.push(ordinal_at(&survey.ordinals, start))?;
     }
     Ok(survey)

@@ -1,5 +1,6 @@
 use Rattle.boxsearch.proofs.StartLemmas.{beside_content, beside_sound}
 use Rattle.boxsearch.proofs.BoundLemmas.{alike, all_counted, bounded, first_held, first_there, place_counts}
+use Rattle.boxsearch.proofs.FlushLemmas.{in_turn, marked_of}
 use Rattle.boxsearch.proofs.parts.laws.Goals as goal
 
 pub returns-clause-content : goal.returns-clause-content
@@ -25,3 +26,9 @@ returns-clause-counts c = place_counts (record { of = c.laws.ensures.bounds; pla
 
 pub returns-clause-total : goal.returns-clause-total
 returns-clause-total c = all_counted (record { of = c.laws.ensures.bounds; place = c.laws.ensures.place_bounds })
+
+pub returns-clause-in_turn : goal.returns-clause-in_turn
+returns-clause-in_turn c = in_turn
+
+pub returns-clause-marked : goal.returns-clause-marked
+returns-clause-marked c = marked_of

@@ -4,24 +4,24 @@ use Rattle.boxsearch.proofs.WalkLemmas.{drop_at, turn_next, turn_first, turn_res
 use Rattle.boxsearch.proofs.walking.take_legs.Goals as goal
 
 pub returns-then-not-is_next_leg-clause-whole : goal.returns-then-not-is_next_leg-clause-whole
-returns-then-not-is_next_leg-clause-whole c = λ h.
-    let legs = c.args.leaf.now.legs in
+returns-then-not-is_next_leg-clause-whole g c = λ h.
+    let legs = (g.L.AnyLeaf.says c.args.leaf.now).legs in
     let leg = c.leg-leg.result in
-    let d = drop_at legs c.loop-i.i leg c.leg-leg.ensures.value in
+    let d = drop_at legs c.loop-i.i leg c.leg-leg.ensures in
     let rest = subst (ComeInTurn c.args.feature c.args.rows c.loop-i.last) d (c.loop-i.invariant.back h) in
     let fits = turn_first c.args.feature c.args.rows c.loop-i.last leg (drop (c.loop-i.i + 1) legs) rest in
     sym c.if-not-is_next_leg.true ∙ c.is_next_leg.ensures.1 fits
 
 pub loop-i-preserved : goal.loop-i-preserved
-loop-i-preserved c =
-    let legs = c.args.leaf.now.legs in
+loop-i-preserved g c =
+    let legs = (g.L.AnyLeaf.says c.args.leaf.now).legs in
     let f = c.args.feature in
     let rows = c.args.rows in
     let i = c.loop-i.i in
     let last = c.loop-i.last in
     let leg = c.leg-leg.result in
     let inv = c.loop-i.invariant in
-    let d : drop i legs ≡ leg ∷ drop (i + 1) legs = drop_at legs i leg c.leg-leg.ensures.value in
+    let d : drop i legs ≡ leg ∷ drop (i + 1) legs = drop_at legs i leg c.leg-leg.ensures in
     let one : ComeInTurn f rows last (leg ∷ []) = c.is_next_leg.ensures.0 c.if-not-is_next_leg.false in
     record {
       on = λ h. inv.on (subst (ComeInTurn f rows last) (sym d) (turn_next f rows last leg (drop (i + 1) legs) one h));

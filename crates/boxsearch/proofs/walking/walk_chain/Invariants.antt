@@ -1,13 +1,13 @@
 use Rattle.std.proofs.Common.{◌≡◌, ◌-◌, ◌*◌}
 use Rattle.std.specs.Prelude.{IsTrue}
 use Rattle.chains.specs.Reads.{OnlyReads}
-use Rattle.tbtree.specs.Nodes.{pages_of_cache}
+use Rattle.boxsearch.specs.Walking.{pages_by}
 use Rattle.boxsearch.proofs.WalkedLemmas.{Walked}
 use Rattle.boxsearch.proofs.walking.walk_chain.Given as goal
 
 abbrev pub invariant-leaves : goal.invariant-leaves
 invariant-leaves g l = record {
-  reads : OnlyReads l.initial.cache l.cache;
+  reads : OnlyReads (g.R.LeafReader.seen l.initial.source) (g.R.LeafReader.seen l.source);
   left : l.walk.left ≡ l.place.legs - l.counter * l.most;
-  walked : IsTrue l.initial.cache.store.is_faithful → Walked (pages_of_cache l.initial.cache) l.most l.rows l.feature l.place l.walk l.initial.survey l.survey;
+  walked : IsTrue (g.R.LeafReader.seen l.initial.source).store.is_faithful → Walked (pages_by g.R.LeafReader.node (g.R.LeafReader.seen l.initial.source)) l.most l.rows l.feature l.place l.walk l.initial.survey l.survey;
 }

@@ -1,0 +1,19 @@
+use Rattle.std.specs.Prelude.{◌≡◌, List, [], IsTrue}
+use Rattle.legs.specs.Asking.{IsLater}
+use Rattle.legs.specs.Legs.{LegView}
+use Rattle.pages.specs.Store.{Stays}
+use Rattle.pagecache.specs.Cache.{fresh}
+use Rattle.tbnode.specs.OldForm.{old_node_of}
+use Rattle.boxsearch.specs.OldStore.{HaveLegsOf, IsNumbered}
+use Rattle.boxsearch.specs.Walking.{pages_by}
+use Rattle.boxsearch.proofs.TakingLemmas.{Brought}
+use Rattle.boxsearch.proofs.old_store.bring.Given as goal
+
+abbrev pub invariant-legs : goal.invariant-legs
+invariant-legs g l = record {
+  stays : Stays (g.S.PageStore.seen l.initial.old) (g.S.PageStore.seen l.old);
+  later : IsLater g.I.Listed l.initial.index l.index;
+  brought : IsTrue (g.S.PageStore.seen l.initial.old).is_faithful → g.I.Listed.is_sound l.initial.index → g.I.Listed.content l.initial.index ≡ [] → (list : List LegView)
+      → HaveLegsOf (pages_by old_node_of (fresh (g.S.PageStore.seen l.initial.old) 1)) l.leaves list → IsNumbered l.legs list
+      → Brought g.I.Listed l.initial.index l.index l.opened.entries l.ordinal-counter list;
+}

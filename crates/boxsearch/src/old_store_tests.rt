@@ -1,0 +1,203 @@
+//! The legs of a store of version 1, brought into an index.
+ghost use Rattle.std.specs.Prelude.{◌≤◌};
+
+use super::*;
+use fixedpoint::Coord;
+use legs::{IndexFault, Leg, LegIndex, ListIndex, Track, Tracks};
+use mfcsv::Position;
+use pages::{Fuse, Kind, MemStore, PageStore, Payload, seal};
+use std::alloc::Global;
+use std::hash::RandomState;
+use std::test::Fail;
+use tbnode::fields::{put_i64, put_u16, put_u32, put_u64};
+use tbtree::Place;
+use timebase::Ms;
+
+fn point(x: u32) -> Option<Position> {
+    let zero = Coord::new(0)?;
+    Some(Position {
+        x: Coord::new(i64::from(x))?,
+        y: zero,
+        z: zero,
+    })
+}
+
+/// A leg of a second of one of two features in turn.
+fn leg(ordinal: u32) -> Option<Leg> {
+    let start = i64::from(ordinal).wrapping_mul(1000);
+    let (t0, t1) = (Ms::new(start)?, Ms::new(start.wrapping_add(1000))?);
+    let (from, to) = (point(ordinal)?, point(ordinal.wrapping_add(1))?);
+    Leg::new(u64::from(ordinal), ordinal % 2, t0, t1, from, to, ordinal)
+}
+
+/// Writes that leg at a place of a payload, over 64 bytes.
+fn put_leg(payload: &mut Payload, place: usize, ordinal: u32)
+    requires { place ≤ 3000 }
+{
+    let n = i64::from(ordinal);
+    put_u64(&mut payload.bytes, place, u64::from(ordinal));
+    put_i64(&mut payload.bytes, place + 8, n.wrapping_mul(1000));
+    put_i64(
+        &mut payload.bytes,
+        place + 16,
+        n.wrapping_add(1).wrapping_mul(1000),
+    );
+    put_i64(&mut payload.bytes, place + 24, n);
+    put_i64(&mut payload.bytes, place + 40, n.wrapping_add(1));
+    put_u32(&mut payload.bytes, place + 56, ordinal);
+}
+
+/// A leaf of version 1 of a feature, with so many of two legs.
+fn leaf(feature: u32, previous: u32, next: u32, count: u16, legs: [u32; 2]) -> Payload {
+    let mut payload = Payload::zero(Kind::Leaf);
+    put_u32(&mut payload.bytes, 0, feature);
+    put_u32(&mut payload.bytes, 4, previous);
+    put_u32(&mut payload.bytes, 8, next);
+    put_u16(&mut payload.bytes, 12, count);
+    put_leg(&mut payload, 16, legs[0]);
+    put_leg(&mut payload, 80, legs[1]);
+    payload
+}
+
+/// Five legs of two features in turn: feature 0 on the pages 1 and 3, feature 1 on page 2.
+fn old_store(alloc: Global, next: u32) -> Option<MemStore> {
+    let mut store = MemStore::new(alloc, 10);
+    let header = Payload {
+        kind: Kind::Header,
+        bytes: [0; 4056],
+    };
+    store.write(0, &seal(0, &header)).ok()?;
+    store.write(1, &seal(1, &leaf(0, 0, next, 2, [0, 2]))).ok()?;
+    store.write(2, &seal(2, &leaf(1, 0, 0, 2, [1, 3]))).ok()?;
+    store.write(3, &seal(3, &leaf(0, 1, 0, 1, [4, 0]))).ok()?;
+    Some(store)
+}
+
+fn places() -> [Place; 2] {
+    [
+        Place {
+            first: 1,
+            last: 3,
+            last_index: 2,
+            legs: 3,
+        },
+        Place {
+            first: 2,
+            last: 2,
+            last_index: 1,
+            legs: 2,
+        },
+    ]
+}
+
+fn tracks(alloc: Global, keys: RandomState) -> Option<Tracks> {
+    let mut tracks = Tracks::new(alloc, keys).ok()?;
+    let first = Track {
+        end: Ms::new(5000)?,
+        legs: 3,
+    };
+    let second = Track {
+        end: Ms::new(4000)?,
+        legs: 2,
+    };
+    tracks.add(String::from_str(alloc, "a").ok()?, first).ok()?;
+    tracks.add(String::from_str(alloc, "b").ok()?, second).ok()?;
+    if tracks.set_rows(5) {
+        Some(tracks)
+    } else {
+        None
+    }
+}
+
+/// What bringing is answered with, and how many legs are brought, each the right one.
+fn brought<S: PageStore>(
+    alloc: Global,
+    keys: RandomState,
+    store: &mut S,
+) -> Option<(Option<IndexFault>, u64)> {
+    let mut index = ListIndex::new(alloc);
+    let tracks = tracks(alloc, keys)?;
+    let fault = take_old_legs(alloc, keys, store, 2, &places(), &tracks, 5, &mut index).err();
+    Some((fault, index.len()))
+}
+
+/// The legs of a feature, once they are brought into a list.
+fn legs_of(alloc: Global, keys: RandomState, feature: u32) -> Option<Vec<Leg>> {
+    let mut index = ListIndex::new(alloc);
+    let mut store = old_store(alloc, 3)?;
+    let tracks = tracks(alloc, keys)?;
+    take_old_legs(
+        alloc,
+        keys,
+        &mut store,
+        2,
+        &places(),
+        &tracks,
+        5,
+        &mut index,
+    )
+    .ok()?;
+    index.track(feature).ok()
+}
+
+#[test]
+fn legs_come_in_order(rt: HostRuntime) -> Result<(), Fail> {
+    let keys = RandomState::new(&rt)?;
+    let first = legs_of(rt.alloc(), keys, 0).ok_or("not brought")?;
+    assert!(rt; first.len() == 3 && first.first().copied() == leg(0));
+    assert!(rt; first.get(1).copied() == leg(2) && first.get(2).copied() == leg(4));
+    let second = legs_of(rt.alloc(), keys, 1).ok_or("not brought")?;
+    assert!(rt; second.len() == 2 && second.first().copied() == leg(1));
+    assert!(rt; second.get(1).copied() == leg(3));
+    Ok(())
+}
+
+/// A store of which the leaf behind the first is said to be that page, and one with a byte altered.
+fn broken(
+    alloc: Global,
+    keys: RandomState,
+    next: u32,
+    altered: bool,
+) -> Option<Option<IndexFault>> {
+    let mut store = old_store(alloc, next)?;
+    if altered && store.len() > 3 {
+        store.set_byte(3, 100, 1);
+    }
+    let (fault, legs) = brought(alloc, keys, &mut store)?;
+    if legs == 0 { Some(fault) } else { None }
+}
+
+#[test]
+fn a_chain_that_fails_is_damaged(rt: HostRuntime) -> Result<(), Fail> {
+    let keys = RandomState::new(&rt)?;
+    for (next, altered, page) in [(2, false, 2), (0, false, 1), (3, true, 3)] {
+        let told = broken(rt.alloc(), keys, next, altered);
+        assert!(rt;
+            told == Some(Some(IndexFault::Damaged(page))),
+            "{next}: {told:?}"
+        );
+    }
+    Ok(())
+}
+
+/// What is answered where the store fails once, when so many calls have passed.
+fn fused(alloc: Global, keys: RandomState, calls: u64) -> Option<Option<IndexFault>> {
+    let mut store = Fuse::new(old_store(alloc, 3)?, calls, true);
+    Some(brought(alloc, keys, &mut store)?.0)
+}
+
+#[test]
+fn each_failed_call_is_a_store_fault(rt: HostRuntime) -> Result<(), Fail> {
+    let keys = RandomState::new(&rt)?;
+    for calls in 0..7 {
+        let told = fused(rt.alloc(), keys, calls);
+        // Three leaves are read twice.
+        let wanted = if calls < 6 {
+            Some(IndexFault::Store)
+        } else {
+            None
+        };
+        assert!(rt; told == Some(wanted), "{calls}: {told:?}");
+    }
+    Ok(())
+}
