@@ -70,10 +70,10 @@ module _ (bytes : List ℕ) where
   length-part p m h = length-take-le m (drop p bytes) (let l = length-drop p bytes in omega (arith, l))
 
   -- one part behind another
-  joined : (p m n : ℕ) (a l : List ℕ) → part p m bytes ≡ a → part (p + m) n bytes ≡ l → part p (m + n) bytes ≡ a ++ l
+  pub joined : (p m n : ℕ) (a l : List ℕ) → part p m bytes ≡ a → part (p + m) n bytes ≡ l → part p (m + n) bytes ≡ a ++ l
   joined p m n a l e f = split_part p m n ∙ (λ i. e i ++ f i)
 
-  cut : (p m n : ℕ) (a l : List ℕ) → p + m ≤ length bytes → length a ≡ m → part p (m + n) bytes ≡ a ++ l → (part p m bytes ≡ a) × (part (p + m) n bytes ≡ l)
+  pub cut : (p m n : ℕ) (a l : List ℕ) → p + m ≤ length bytes → length a ≡ m → part p (m + n) bytes ≡ a ++ l → (part p m bytes ≡ a) × (part (p + m) n bytes ≡ l)
   cut p m n a l h len e = same_front (part p m bytes) a (part (p + m) n bytes) l (length-part p m h ∙ sym len) (sym (split_part p m n) ∙ e)
 
 pub fields_length : (f : Fields) → length (fields_bytes f) ≡ 48

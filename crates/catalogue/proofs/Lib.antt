@@ -22,3 +22,8 @@ pub mod HeaderTextLemmas
 pub mod FinishLemmas
 pub mod RestLemmas
 pub mod CloseLemmas
+pub mod StateLemmas
+pub mod OldHeaderLemmas
+pub mod LentLemmas
+pub mod OldStoreLemmas
+pub mod OldBookLemmas

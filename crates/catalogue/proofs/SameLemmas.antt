@@ -39,7 +39,7 @@ no_head k l e = elim (some_or_none k.head) [
 ]
 
 -- catalogues of one content
-of_same : (count : ℕ) (fields : Fields) (contents : Option Contents) (c d : CatalogueView) (places others : List Place) → IsOf count fields contents c places → IsOf count fields contents d others → (c ≡ d) × (places ≡ others)
+pub of_same : (count : ℕ) (fields : Fields) (contents : Option Contents) (c d : CatalogueView) (places others : List Place) → IsOf count fields contents c places → IsOf count fields contents d others → (c ≡ d) × (places ≡ others)
 of_same count fields None c d places others p q =
     let hc : c.head ≡ None = no_head c places p.contents_are in
     let hd : d.head ≡ None = no_head d others q.contents_are in

@@ -14,3 +14,5 @@ pub mod Finishing
 pub mod Restoring
 pub mod Building
 pub mod Fields
+pub mod OldStore
+pub mod OldReading

@@ -93,7 +93,7 @@ impl ChainReader {
     }
 
     /// Takes in a page of the chain.
-    fn take_page(&mut self, payload: &Payload) -> Result<(), CatalogueFault>
+    pub(crate) fn take_page(&mut self, payload: &Payload) -> Result<(), CatalogueFault>
         requires { 0 < self.old.left }
         ensures taken { OnOk result (TakesPart payload.now self.old self.new) }
         ensures broken { IfErr result (IsPageFault payload.now self.old) }

@@ -62,7 +62,7 @@ pub(crate) fn put_fields(payload: &mut Payload, fields: &Fields)
 }
 
 /// The number of two bytes.
-fn u16_of(bytes: &[u8]) -> u16
+pub(crate) fn u16_of(bytes: &[u8]) -> u16
     requires { length bytes.now ≡ 2 }
     ensures { big_bytes 2 result ≡ bytes.now }
 {
@@ -84,7 +84,7 @@ fn shape_in(bytes: &[u8]) -> Option<Shape>
 }
 
 /// The limits that page 0 says; none where they are out of range.
-fn limits_in(bytes: &[u8]) -> Option<Limits>
+pub(crate) fn limits_in(bytes: &[u8]) -> Option<Limits>
     requires { length bytes.now ≡ 4056 }
     ensures some { IfSome result (λ limits. SaysLimits bytes.now limits) }
     ensures none { result ≡ None → (limits : LimitsView) → IsLimits limits

@@ -14,7 +14,10 @@ mod fault;
 mod finishing;
 mod header;
 mod header_fields;
+mod lent_store;
 mod numbers;
+mod old_header;
+mod old_store;
 mod opening;
 mod page_zero;
 mod resting;
@@ -31,6 +34,8 @@ pub use resting::laws;
 pub use restoring::restore;
 pub use saving::{Catalogue, save};
 
+#[cfg(test)]
+mod old_tests;
 #[cfg(test)]
 mod save_tests;
 #[cfg(test)]

@@ -1,10 +1,10 @@
 //! What holds of a database at rest, for the proofs of a caller.
-ghost use Rattle.std.specs.Prelude.{ℕ, ◌≡◌, ◌<◌, IsTrue, Some};
+ghost use Rattle.std.specs.Prelude.{ℕ, ◌≡◌, ◌<◌, IsTrue, Some, false, true};
 ghost use Rattle.legs.specs.Asking.{Leaves};
 ghost use Rattle.legs.specs.Book.{Book};
 ghost use Rattle.pages.specs.Store.{IsLawful, Store};
-ghost use Rattle.pagecache.specs.Cache.{stored_payload, Cache, IsSettled};
-ghost use Rattle.boxsearch.specs.Index.{content, words, IndexView, IsMarked, IsSound};
+ghost use Rattle.pagecache.specs.Cache.{payload_of, stored_payload, Cache, IsSettled};
+ghost use Rattle.boxsearch.specs.Index.{content, words, IndexView, IsMarked, IsSound, SaysState};
 ghost use Rattle.catalogue.specs.Holding.{HoldsBook, IsAtRest, IsOfBook, IsUnfinishedStore};
 ghost use Rattle.catalogue.specs.Lasting.{first_fault};
 ghost use Rattle.catalogue.specs.Saved.{CatalogueView};
@@ -22,6 +22,13 @@ pub fn laws()
         → IsTrue index.cache.store.is_faithful → IsLawful index.cache.store → IsSettled index.cache
         → IsAtRest c index → IsSound index → IsOfBook c.limits book c → content index ≡ book.legs
         → HoldsBook index.cache.store index.tree.shape c.limits book }
+
+    // At rest page 0 is the header of a finished store, and where it is marked of one that is not.
+    ensures finished_state { (c : CatalogueView) (index : IndexView)
+        → IsTrue index.cache.store.is_faithful → IsSettled index.cache → IsAtRest c index
+        → SaysState false (payload_of index.cache 0) }
+    ensures marked_state { (cache : Cache) → IsSettled cache → IsMarked cache
+        → SaysState true (payload_of cache 0) }
 
     // A store whose page 0 is marked is not finished; such a store has a page 0, and it is said
     // where it is opened.

@@ -3,6 +3,7 @@ use Rattle.std.proofs.lemmas.Bool.Decides.{nat_tests}
 use Rattle.catalogue.proofs.CloseLemmas.{unfinished_there}
 use Rattle.catalogue.proofs.FinishLemmas.{unfinished_header}
 use Rattle.catalogue.proofs.RestLemmas.{marked_store, rest_holds, rest_stays}
+use Rattle.catalogue.proofs.StateLemmas.{marked_state, rest_state}
 use Rattle.pagecache.specs.Cache.{stored_payload}
 use Rattle.catalogue.specs.Lasting.{payload_fault}
 use Rattle.catalogue.specs.declared.fault.CatalogueFault.TheVariants.{Malformed}
@@ -25,3 +26,9 @@ returns-clause-unfinished c = λ s u some.
 
 pub returns-clause-there : goal.returns-clause-there
 returns-clause-there c = unfinished_there
+
+pub returns-clause-finished_state : goal.returns-clause-finished_state
+returns-clause-finished_state c = rest_state
+
+pub returns-clause-marked_state : goal.returns-clause-marked_state
+returns-clause-marked_state c = marked_state

@@ -1,0 +1,127 @@
+//! Page 0 of a store of version 1.
+use crate::fault::CatalogueFault;
+use crate::old_store::read_old;
+use pagecache::PageCache;
+use pages::{Kind, MemStore, PageStore, Payload, seal};
+use std::alloc::Global;
+use std::hash::RandomState;
+use std::test::Fail;
+
+/// How page 0 of a finished store of version 1 begins into which no file was accepted: the letters
+/// `MFTB`, the version, the state, 63 legs and 72 entries, the limits of 2^24 legs and 2^20
+/// features, no tree, and a text of one byte in page 1. What stands behind that is not looked at.
+const HEADER: [u8; 60] = [
+    77, 70, 84, 66, 0, 0, 0, 1, 0, 0, 0, 1, 0, 63, 0, 72, 0, 0, 0, 0, 1, 0, 0, 0, 0, 0, 0, 0, 0,
+    16, 0, 0, 0, 0, 0, 0, 0, 0, 0, 0, 0, 0, 0, 0, 0, 0, 0, 1, 0, 0, 0, 0, 0, 0, 0, 1, 9, 9, 9, 9,
+];
+
+/// How page 1 begins: no page comes next, one byte of the text, ten zeros, and that byte.
+const TEXT: [u8; 60] = [
+    0, 0, 0, 0, 0, 1, 0, 0, 0, 0, 0, 0, 0, 0, 0, 0, 0, 9, 9, 9, 9, 9, 9, 9, 9, 9, 9, 9, 9, 9, 9, 9,
+    9, 9, 9, 9, 9, 9, 9, 9, 9, 9, 9, 9, 9, 9, 9, 9, 9, 9, 9, 9, 9, 9, 9, 9, 9, 9, 9, 9,
+];
+
+/// Makes a payload begin so.
+fn set_front(payload: &mut Payload, bytes: &[u8; 60]) {
+    payload.bytes[..60].copy_from_slice(bytes);
+}
+
+/// A page of a kind that begins so.
+fn page(number: u32, kind: Kind, bytes: &[u8; 60]) -> [u8; 4096] {
+    let mut payload = Payload::zero(kind);
+    set_front(&mut payload, bytes);
+    seal(number, &payload)
+}
+
+/// Page 0 with another byte at a place.
+fn header(place: usize, byte: u8) -> [u8; 4096] {
+    let mut bytes = HEADER;
+    if place < 60 {
+        bytes[place] = byte;
+    }
+    page(0, Kind::Header, &bytes)
+}
+
+/// What is read of a store of these pages: the most legs of a leaf as it was and as it will be,
+/// the most entries of an inner page, and how many features there are.
+fn read(
+    alloc: Global,
+    keys: RandomState,
+    pages: &[[u8; 4096]],
+) -> Option<Result<(u16, u16, u16, u64), CatalogueFault>> {
+    let mut store = MemStore::new(alloc, 4);
+    for page in pages {
+        let number = store.len();
+        if number < store.most() {
+            store.write(number, page).ok()?;
+        }
+    }
+    let Ok(mut cache) = PageCache::new(alloc, MemStore::new(alloc, 4), 1) else {
+        return None;
+    };
+    match read_old(alloc, keys, &mut store, &mut cache) {
+        Ok(old) => Some(Ok((
+            old.leaf,
+            old.shape.leaf(),
+            old.shape.inner(),
+            old.catalogue.tracks.feature_count(),
+        ))),
+        Err(fault) => Some(Err(fault)),
+    }
+}
+
+/// What is read where page 0 has another byte at a place.
+fn read_with(
+    alloc: Global,
+    keys: RandomState,
+    place: usize,
+    byte: u8,
+) -> Option<Result<(u16, u16, u16, u64), CatalogueFault>> {
+    let pages = [header(place, byte), page(1, Kind::Catalogue, &TEXT)];
+    read(alloc, keys, &pages)
+}
+
+#[test]
+fn a_finished_store_is_read(rt: HostRuntime) -> Result<(), Fail> {
+    let (alloc, keys) = (rt.alloc(), RandomState::new(&rt)?);
+    assert!(rt; read_with(alloc, keys, 7, 1) == Some(Ok((63, 50, 72, 0))));
+    assert!(rt; read_with(alloc, keys, 13, 2) == Some(Ok((2, 2, 72, 0))));
+    assert!(rt; read_with(alloc, keys, 15, 2) == Some(Ok((63, 50, 2, 0))));
+    Ok(())
+}
+
+#[test]
+fn page_0_is_no_header_of_version_1(rt: HostRuntime) -> Result<(), Fail> {
+    let (alloc, keys) = (rt.alloc(), RandomState::new(&rt)?);
+    let malformed = Some(Err(CatalogueFault::Malformed));
+    assert!(rt; read(alloc, keys, &[]) == malformed);
+    assert!(rt; read(alloc, keys, &[page(0, Kind::Leaf, &HEADER)]) == malformed);
+    assert!(rt; read_with(alloc, keys, 0, 78) == malformed);
+    assert!(rt; read_with(alloc, keys, 7, 2) == Some(Err(CatalogueFault::Version)));
+    assert!(rt; read_with(alloc, keys, 11, 0) == Some(Err(CatalogueFault::Unfinished)));
+    assert!(rt; read_with(alloc, keys, 11, 2) == malformed);
+    Ok(())
+}
+
+#[test]
+fn page_0_is_out_of_range(rt: HostRuntime) -> Result<(), Fail> {
+    let (alloc, keys) = (rt.alloc(), RandomState::new(&rt)?);
+    let malformed = Some(Err(CatalogueFault::Malformed));
+    assert!(rt; read_with(alloc, keys, 13, 1) == malformed);
+    assert!(rt; read_with(alloc, keys, 13, 64) == malformed);
+    assert!(rt; read_with(alloc, keys, 15, 73) == malformed);
+    assert!(rt; read_with(alloc, keys, 35, 2) == malformed);
+    assert!(rt; read_with(alloc, keys, 55, 2) == malformed);
+    Ok(())
+}
+
+#[test]
+fn a_page_is_missing_or_damaged(rt: HostRuntime) -> Result<(), Fail> {
+    let (alloc, keys) = (rt.alloc(), RandomState::new(&rt)?);
+    let text = page(1, Kind::Catalogue, &TEXT);
+    let first = header(7, 1);
+    assert!(rt; read(alloc, keys, &[text, text]) == Some(Err(CatalogueFault::Damaged(0))));
+    assert!(rt; read(alloc, keys, &[first, first]) == Some(Err(CatalogueFault::Damaged(1))));
+    assert!(rt; read(alloc, keys, &[first]) == Some(Err(CatalogueFault::Malformed)));
+    Ok(())
+}
