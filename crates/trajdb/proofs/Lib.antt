@@ -7,3 +7,5 @@ pub mod RunLemmas
 pub mod FaultLemmas
 pub mod PageLemmas
 pub mod LastingLemmas
+pub mod CheckLemmas
+pub mod SoundLemmas

@@ -15,7 +15,7 @@ clash : (b : Bool) → b ≡ true → b ≡ false → ⊥
 clash b t f = let e : true ≡ false = sym t ∙ f in cc
 
 -- a question leaves them
-keeps_leaves : {I : Type 0} (g : Ghosts I) (old new : CoreView I) → Leaves g old new → KeepsPages g old new
+pub keeps_leaves : {I : Type 0} (g : Ghosts I) (old new : CoreView I) → Leaves g old new → KeepsPages g old new
 keeps_leaves g old new l = record {
   begun = λ b. l.begun ∙ b;
   idle = λ b f. l;

@@ -18,7 +18,7 @@ use Rattle.trajdb.specs.declared.LoadFault.{LoadFault}
 use Rattle.trajdb.specs.declared.LoadFault.TheVariants.{Refused, Run}
 
 -- what contracts see of a database: its index, its tracks, its book by the list of legs for which the index
--- stands, its limits, whether it has begun (it accepted a file since it was made), and whether it failed
+-- stands, its limits, whether it has begun (it was made, or accepted a file since it was opened), and whether it failed
 pub record CoreView (I : Type 0) : Type 0 where
   pub index : I
   pub tracks : TracksView

@@ -10,3 +10,4 @@ pub mod Run
 pub mod Lines
 pub mod Db
 pub mod Lasting
+pub mod Checking

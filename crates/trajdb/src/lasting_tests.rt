@@ -14,7 +14,7 @@ const HEAD: &str = "\
 ";
 
 /// The example, its header lines alone, and a leg behind them.
-fn files(alloc: Global) -> Result<Files, RunFault> {
+pub(crate) fn files(alloc: Global) -> Result<Files, RunFault> {
     let mut files = Files::new(alloc);
     files.add("S1.csv", Vec::from_slice(alloc, STANDARD.as_bytes())?)?;
     files.add("head.csv", Vec::from_slice(alloc, HEAD.as_bytes())?)?;
@@ -25,7 +25,7 @@ fn files(alloc: Global) -> Result<Files, RunFault> {
 }
 
 /// What a script answers.
-fn said<S: PageStore>(
+pub(crate) fn said<S: PageStore>(
     alloc: Global,
     db: &mut Db<S>,
     script: &str,
@@ -39,7 +39,7 @@ fn said<S: PageStore>(
 }
 
 /// The example in a new database over a store.
-fn loaded<S: PageStore + Drop>(
+pub(crate) fn loaded<S: PageStore + Drop>(
     alloc: Global,
     keys: RandomState,
     store: S,
@@ -51,7 +51,7 @@ fn loaded<S: PageStore + Drop>(
 }
 
 /// The store of at most so many pages in which the example is closed, and what `close` answers.
-fn closed(
+pub(crate) fn closed(
     alloc: Global,
     keys: RandomState,
     most: u32,
@@ -61,7 +61,7 @@ fn closed(
 }
 
 /// A database over a store that is opened with so many pages in memory, or why it is not.
-fn opened<S: PageStore + Drop>(
+pub(crate) fn opened<S: PageStore + Drop>(
     alloc: Global,
     keys: RandomState,
     store: S,

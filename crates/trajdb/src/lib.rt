@@ -4,6 +4,7 @@
 ghost use Rattle.std.specs.Prelude.{◌≡◌};
 
 mod answer;
+mod checking;
 mod database;
 mod db;
 mod files;
@@ -57,6 +58,17 @@ pub struct Counts {
     /// The legs of its records.
     pub legs: u64,
     /// The distinct features of its records.
+    pub features: u64,
+}
+
+/// What a check that passed has found.
+#[derive(Clone, Copy, PartialEq, Eq, Debug)]
+pub struct Report {
+    /// How many pages the store has.
+    pub pages: u32,
+    /// How many legs the book has.
+    pub legs: u64,
+    /// How many features.
     pub features: u64,
 }
 
@@ -216,6 +228,8 @@ impl From<RunFault> for LoadFault {
     }
 }
 
+#[cfg(test)]
+mod checking_tests;
 #[cfg(test)]
 mod failing_tests;
 #[cfg(test)]

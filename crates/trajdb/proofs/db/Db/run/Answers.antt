@@ -6,3 +6,6 @@ returns-clause-refused g c = rw (← c.self.view_is) c.run.ensures.refused
 
 pub returns-clause-rests : goal.returns-clause-rests
 returns-clause-rests g c = rw (← c.self.view_is) (keeps_idle c.laws.ensures.rests _ _ c.run.ensures.pages)
+
+pub returns-clause-begins : goal.returns-clause-begins
+returns-clause-begins g c = rw (← c.self.view_is) c.run.ensures.begins

@@ -1,0 +1,239 @@
+//! A database is checked.
+ghost use Rattle.std.specs.Prelude.{◌≡◌, ◌<◌, ◌^◌, ◌↔◌, All, IsTrue, length};
+ghost use Rattle.legs.specs.Law.{IsName};
+ghost use Rattle.trajdb.specs.Checking.{AreNames, FitsHead, IsOwnName};
+
+use crate::database::Core;
+use crate::db::Db;
+use crate::start::Start;
+use crate::{Report, RunFault};
+use boxsearch::TreeIndex;
+use legs::{BookHead, IndexFault, Tracks};
+use mfcsv::Values;
+use pages::PageStore;
+
+/// Whether a name has 1 to 255 bytes.
+fn is_name(name: &str) -> bool
+    ensures { IsTrue result ↔ IsName name.now }
+{
+    let len = name.len();
+    1 <= len && len <= 255
+}
+
+/// Whether the name of that number has 1 to 255 bytes, and is found at its number.
+fn is_own_name(tracks: &Tracks, feature: u32) -> bool
+    requires { length tracks.now.names < 2 ^ 32 }
+    ensures { IsTrue result ↔ IsOwnName tracks.now.names feature }
+{
+    match tracks.name(feature) {
+        None => true,
+        Some(name) => is_name(name) && tracks.feature(name) == Some(feature),
+    }
+}
+
+/// Whether each name has 1 to 255 bytes, and no two are the same.
+fn are_names(tracks: &Tracks) -> bool
+    requires { length tracks.now.names < 2 ^ 32 }
+    ensures { IsTrue result ↔ AreNames tracks.now.names }
+{
+    for feature in 0..tracks.feature_count() as u32 {
+        if !is_own_name(tracks, feature) {
+            return false;
+        }
+    }
+    true
+}
+
+/// Whether a row has that many attribute values.
+fn has_columns(row: &Values, columns: usize) -> bool
+    ensures { IsTrue result ↔ (length row.now ≡ columns) }
+{
+    let (values, blanks) = row.parts();
+    blanks <= columns && values.len() == columns - blanks
+}
+
+/// Whether each row has that many attribute values.
+fn have_columns(rows: &[Values], columns: usize) -> bool
+    ensures { IsTrue result ↔ All (λ row. length row ≡ columns) rows.now }
+{
+    for row in rows {
+        if !has_columns(row, columns) {
+            return false;
+        }
+    }
+    true
+}
+
+/// Whether so many names and these rows stand beside a head: before the first accepted file there
+/// is no name, and each row has a value for each column.
+fn fits_head(head: &Option<BookHead>, features: u64, rows: &[Values]) -> bool
+    ensures { IsTrue result ↔ FitsHead head.now features rows.now }
+{
+    match head {
+        None => features == 0,
+        Some(head) => have_columns(rows, head.columns.as_slice().len()),
+    }
+}
+
+impl<I: Start> Core<I> {
+    ghost use Rattle.std.specs.Prelude.{◌↔◌, IsTrue};
+    ghost use Rattle.trajdb.specs.Checking.{KeepsLaw};
+
+    /// Whether its names, its numbers and its rows are those of a book under its limits.
+    fn keeps_law(&self) -> bool
+        ensures { IsTrue result ↔ KeepsLaw self.now }
+    {
+        let features = self.tracks.feature_count();
+        if self.tracks.leg_count() > self.limits.legs() {
+            return false;
+        }
+        if features > u64::from(self.limits.features()) {
+            return false;
+        }
+        are_names(&self.tracks) && fits_head(&self.head, features, self.rows.as_slice())
+    }
+}
+
+impl<S: PageStore> Core<TreeIndex<S>> {
+    ghost use Rattle.std.specs.Prelude.{ℕ, ◌≡◌, IfErr, IfOk, IsErrOf, IsTrue, OnOk, false};
+    ghost use Rattle.legs.specs.Asking.{Refusals};
+    ghost use Rattle.legs.specs.Index.{HasRisen, MayRefuse};
+    ghost use Rattle.legs.specs.Limits.{IsLimits};
+    ghost use Rattle.legs.specs.declared.index.IndexFault.{IndexFault};
+    ghost use Rattle.pagecache.specs.Cache.{payload_of, IsClean};
+    ghost use Rattle.boxsearch.specs.Checking.{AreTracksOf};
+    ghost use Rattle.boxsearch.specs.Index.{content, words, IsSound, SaysState};
+    ghost use Rattle.trajdb.specs.Calls.{IsAsked, IsQuestionFault, Leaves};
+    ghost use Rattle.trajdb.specs.Checking.{Reports};
+    ghost use Rattle.trajdb.specs.Db as db;
+    ghost use Rattle.trajdb.specs.Lasting.{IsIdle};
+
+    /// Writes all that is changed.
+    fn flush(&mut self) -> Result<(), IndexFault>
+        ensures written { OnOk result (IsClean self.new.index.cache) }
+        ensures leaves { Leaves words self.old self.new }
+        ensures payloads { IsTrue self.old.index.cache.store.is_faithful → (page : ℕ)
+            → payload_of self.new.index.cache page ≡ payload_of self.old.index.cache page }
+        ensures faithful { self.new.index.cache.store.is_faithful
+            ≡ self.old.index.cache.store.is_faithful }
+        ensures legs { content self.new.index ≡ self.new.book.legs }
+        ensures refusals { Refusals words self.old.index self.new.index result }
+    {
+        self.index.flush()
+    }
+
+    /// Checks its index.
+    fn check_index(&mut self) -> Result<(), IndexFault>
+        ensures sound { OnOk result (IsTrue self.old.index.cache.store.is_faithful
+            → IsSound self.new.index) }
+        ensures tracks { OnOk result (IsTrue self.old.index.cache.store.is_faithful
+            → AreTracksOf self.new.tracks (length self.new.book.rows) (content self.new.index)) }
+        ensures says { OnOk result (IsTrue self.old.index.cache.store.is_faithful
+            → SaysState self.new.begun (payload_of self.new.index.cache 0)) }
+        ensures only { IsSound self.old.index
+            → AreTracksOf self.old.tracks (length self.old.book.rows) (content self.old.index)
+            → SaysState self.old.begun (payload_of self.old.index.cache 0)
+            → IfErr result MayRefuse }
+        ensures leaves { Leaves words self.old self.new }
+        ensures payloads { IsTrue self.old.index.cache.store.is_faithful → (page : ℕ)
+            → payload_of self.new.index.cache page ≡ payload_of self.old.index.cache page }
+        ensures legs { content self.new.index ≡ self.new.book.legs }
+        ensures names { self.new.tracks.names ≡ self.new.book.names }
+        ensures limits { IsLimits self.new.limits }
+        ensures store { IsErrOf result IndexFault.Store
+            → HasRisen (words.faults self.old.index) (words.faults self.new.index) }
+        ensures full { IsErrOf result IndexFault.StoreFull → ⊥ }
+    {
+        prove!(self.limits.legs() > 0);
+        let rows = self.rows.len() as u64;
+        self.index.check(&self.tracks, rows, self.begun)
+    }
+
+    /// Checks its pages, and what stands beside them.
+    pub(crate) fn check(&mut self) -> Result<Report, RunFault>
+        requires { self.old.failed ≡ false }
+        ensures sound { OnOk result (IsTrue self.old.index.cache.store.is_faithful
+            → db.IsSound self.new) }
+        ensures has_pages { OnOk result (IsTrue self.old.index.cache.store.is_faithful
+            → db.HasPages self.new) }
+        ensures report { IfOk result (λ report. IsTrue self.old.index.cache.store.is_faithful
+            → Reports self.new report) }
+        ensures written { OnOk result (IsClean self.new.index.cache) }
+        ensures only { IfErr result (λ fault. db.IsSound self.old → db.HasPages self.old
+            → IsIdle self.old → IsQuestionFault fault) }
+        ensures leaves { Leaves words self.old self.new }
+        ensures payloads { IsTrue self.old.index.cache.store.is_faithful → (page : ℕ)
+            → payload_of self.new.index.cache page ≡ payload_of self.old.index.cache page }
+        ensures store { IfErr result (IsAsked words self.old.index self.new.index) }
+    {
+        catalogue::laws();
+        boxsearch::laws();
+        // For its clause: a page that is not changed is as written.
+        let _ = self.index.page_count();
+        self.flush()?;
+        self.check_index()?;
+        if !self.keeps_law() {
+            return Err(RunFault::Damaged(0));
+        }
+        Ok(Report {
+            pages: self.index.page_count(),
+            legs: self.tracks.leg_count(),
+            features: self.tracks.feature_count(),
+        })
+    }
+}
+
+impl<S: PageStore> Db<S> {
+    ghost use Rattle.std.specs.Prelude.{ℕ, ◌≡◌, Err, IfErr, IfOk, IsTrue, OnOk, false, true};
+    ghost use Rattle.pagecache.specs.Cache.{payload_of, IsClean};
+    ghost use Rattle.boxsearch.specs.Index.{words};
+    ghost use Rattle.trajdb.specs.Calls.{IsAsked, IsQuestionFault, KeepsPages, Leaves};
+    ghost use Rattle.trajdb.specs.Checking.{Reports};
+    ghost use Rattle.trajdb.specs.Db.{HasPages, IsSound};
+    ghost use Rattle.trajdb.specs.Lasting.{IsIdle};
+    ghost use Rattle.trajdb.specs.declared.RunFault.{RunFault};
+
+    /// Tests that the pages of its store, whoever made them, and what is known beside them hold one
+    /// book: all that is changed is written; each page is asked of the cache for its seal; page 0 is
+    /// the header of a store that is not finished where the database was made, or has accepted a
+    /// file since it was opened, and of a finished one else; then the leaves are walked feature by
+    /// feature, then the tree from the root down. How many pages the store has, and legs and
+    /// features the book.
+    ///
+    /// `Damaged` names the first page that fails, and page 0 where what is known beside the pages
+    /// does. Refused as well for want of memory, and where the store fails; a failed database is
+    /// `Failed`. Whatever is answered, the book stays.
+    pub fn check(&mut self) -> Result<Report, RunFault>
+        // What passes is sound, whoever made the pages, and the report is true.
+        ensures sound { OnOk result (IsTrue self.old.index.cache.store.is_faithful
+            → IsSound self.new) }
+        ensures has_pages { OnOk result (IsTrue self.old.index.cache.store.is_faithful
+            → HasPages self.new) }
+        ensures report { IfOk result (λ report. IsTrue self.old.index.cache.store.is_faithful
+            → Reports self.new report) }
+        ensures lives { OnOk result (self.new.failed ≡ false) }
+
+        // What is sound passes.
+        ensures only { IfErr result (λ fault. IsSound self.old → HasPages self.old
+            → IsIdle self.old → self.old.failed ≡ false → IsQuestionFault fault) }
+
+        // The book stays, and each page has the payload that it had; once it has passed, all that
+        // was changed is written, and nothing is where nothing was changed.
+        ensures leaves { Leaves words self.old self.new }
+        ensures payloads { IsTrue self.old.index.cache.store.is_faithful → (page : ℕ)
+            → payload_of self.new.index.cache page ≡ payload_of self.old.index.cache page }
+        ensures written { OnOk result (IsClean self.new.index.cache) }
+        ensures pages { KeepsPages words self.old self.new }
+        ensures rests { IsIdle self.old → IsIdle self.new }
+
+        ensures store { IfErr result (IsAsked words self.old.index self.new.index) }
+        ensures was_failed { self.old.failed ≡ true
+            → (result ≡ Err RunFault.Failed) × (self.new ≡ self.old) }
+    {
+        catalogue::laws();
+        if self.core.failed {
+            return Err(RunFault::Failed);
+        }
+        self.core.check()
+    }
+}
