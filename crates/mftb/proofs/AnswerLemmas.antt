@@ -1,18 +1,20 @@
 -- What a run of the program sends, and what its store then holds.
-use Rattle.std.proofs.Common.{ℕ, ◌≡◌, List, Option, Some, Result, Ok, Err, subst}
+use Rattle.std.proofs.Common.{ℕ, ◌≡◌, ◌∙◌, ap, sym, length, false, IsTrue, List, Option, Some, Result, Ok, Err, subst}
 use Rattle.std.specs.Prelude.{IfOk, OnOk}
-use Rattle.legs.specs.Book.{empty_book}
+use Rattle.legs.specs.Book.{Book, empty_book}
 use Rattle.legs.specs.Costs.{ShapeView}
 use Rattle.legs.specs.Limits.{LimitsView}
 use Rattle.pages.specs.Store.{Store}
 use Rattle.boxsearch.specs.Index.{words}
 use Rattle.catalogue.specs.Holding.{HoldsBook}
-use Rattle.trajdb.specs.Calls.{KeepsPages}
+use Rattle.trajdb.specs.Calls.{KeepsPages, Leaves}
 use Rattle.trajdb.specs.Db.{DbView, HasPages, IsSound}
 use Rattle.trajdb.specs.Lasting.{HasBook, IsIdle}
 use Rattle.trajdb.specs.Run.{Runs}
 use Rattle.trajdb.specs.declared.RunFault.{RunFault}
-use Rattle.mftb.specs.Answers.{Answers}
+use Rattle.trajdb.specs.Checking.{Reports}
+use Rattle.trajdb.specs.declared.Report.{Report}
+use Rattle.mftb.specs.Answers.{Answers, Checks}
 
 pub the_same : (x y : ShapeView) → Some x ≡ Some y → x ≡ y
 the_same x y e = cc
@@ -45,3 +47,33 @@ created (Err e) shape limits faithful plan sound book is = tt
 pub given : {E F : Type 0} (P : Type 0) (r : Result (Unit {0}) E) (s : Result (Unit {0}) F) → OnOk r (s ≡ Ok tt) → OnOk s P → OnOk r P
 given P (Ok x) s is h = subst (λ k. OnOk k P) is h
 given P (Err e) s is h = tt
+
+-- a database that was opened and checked, and is closed then
+module _ (old new : DbView) (s : Store) (leaves : Leaves words old new) (rests : IsIdle old → IsIdle new) (same : new.failed ≡ false → new.begun ≡ false → s ≡ new.index.cache.store) where
+  shape_same : new.index.tree.shape ≡ old.index.tree.shape
+  shape_same = the_same new.index.tree.shape old.index.tree.shape leaves.index.later.plan
+
+  pub still_holds : HoldsBook s new.index.tree.shape new.limits new.book → HoldsBook s old.index.tree.shape old.limits old.book
+  still_holds h =
+      subst (λ b. HoldsBook s old.index.tree.shape old.limits b) leaves.book
+      (subst (λ l. HoldsBook s old.index.tree.shape l new.book) leaves.limits
+      (subst (λ k. HoldsBook s k new.limits new.book) shape_same h))
+
+  pub checks : (report : Report) → new.failed ≡ false → (IsSound new → HasPages new → IsIdle new → HoldsBook s new.index.tree.shape new.limits new.book)
+      → (IsTrue old.index.cache.store.is_faithful → IsSound new) → (IsTrue old.index.cache.store.is_faithful → HasPages new) → (IsTrue old.index.cache.store.is_faithful → Reports new report)
+      → IsTrue old.index.cache.store.is_faithful → IsIdle old → old.begun ≡ false → Checks s old.index.tree.shape old.limits old.book report
+  checks report lives holds sound pages reports fa idle unbegun =
+      let r = reports fa in
+      record {
+        holds = still_holds (holds (sound fa) (pages fa) (rests idle));
+        pages = r.pages ∙ ap (λ (k : Store). k.count) (sym (same lives (leaves.begun ∙ unbegun)));
+        legs = r.legs ∙ ap (λ (b : Book). length b.legs) leaves.book;
+        features = r.features ∙ ap (λ (b : Book). length b.names) leaves.book;
+      }
+
+  pub keeps : {E : Type 0} (closed : Result (Unit {0}) E) → OnOk closed (IsSound new → HasPages new → IsIdle new → HoldsBook s new.index.tree.shape new.limits new.book) → (new.failed ≡ false → new.begun ≡ false → closed ≡ Ok tt)
+      → KeepsPages words old new → IsSound old → HasPages old → IsIdle old → old.begun ≡ false → old.failed ≡ false → HoldsBook s old.index.tree.shape old.limits old.book
+  keeps closed holds idle pages sound has rest unbegun lives =
+      let e = idle (leaves.failed ∙ lives) (leaves.begun ∙ unbegun) in
+      let h = subst (λ r. OnOk r (IsSound new → HasPages new → IsIdle new → HoldsBook s new.index.tree.shape new.limits new.book)) e holds in
+      still_holds (h (leaves.sound sound) (pages.pages sound has) (rests rest))

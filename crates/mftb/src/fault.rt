@@ -1,13 +1,13 @@
-//! Why a run failed.
+//! Why the program failed.
 use std::alloc::AllocError;
 use std::fmt;
 use std::fmt::{Display, Formatter};
 use trajdb::{OpenFault, RunFault};
 
-/// Why a run failed.
+/// Why the program failed.
 #[derive(Clone, Copy, PartialEq, Eq, Debug)]
 pub(crate) enum Fault<'a> {
-    /// The script could not be run to its end.
+    /// A run or a check was not brought to its end.
     Run(RunFault),
     /// The database was not made or opened.
     Open(OpenFault),

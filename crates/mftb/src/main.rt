@@ -1,4 +1,4 @@
-//! A trajectory database on the command line: `mftb run STORE SCRIPT [FILES]...`.
+//! A trajectory database on the command line: `mftb run STORE SCRIPT [FILES]...`, `mftb check STORE`.
 #![tactic(auto)]
 
 mod fault;

@@ -7,10 +7,10 @@ ghost use Rattle.trajdb.specs.Script.{lines_of};
 ghost use Rattle.catalogue.specs.Holding.{HoldsBook};
 ghost use Rattle.trajdb.specs.Db.{HasPages, IsSound};
 ghost use Rattle.trajdb.specs.Lasting.{HasBook, IsIdle};
-ghost use Rattle.mftb.specs.Answers.{new_shape, Answers};
+ghost use Rattle.mftb.specs.Answers.{new_shape, Answers, Checks};
 
 use crate::fault::Fault;
-use crate::words::{Run, read_words};
+use crate::words::{Check, Run, Task, read_words};
 use clap::error::ErrorKind;
 use legs::Limits;
 use pages::{FileStore, PageStore};
@@ -21,7 +21,7 @@ use std::io::{Read, Write};
 use std::random::RandomSource;
 use std::{io, rt};
 use tbtree::Shape;
-use trajdb::{Db, Files, OpenFault, RunFault};
+use trajdb::{Db, Files, OpenFault, Report, RunFault};
 
 /// The most bytes that a script or a file may have.
 const MOST_BYTES: u64 = 1 << 30;
@@ -180,6 +180,83 @@ fn run<'a, R: rt::Files<File = File> + AllocGlobal + RandomSource, W: Write>(
     result
 }
 
+/// Checks a database that was opened, and gives its store back.
+fn check_and_close<S: PageStore>(
+    alloc: Global,
+    mut database: Db<S>,
+) -> (S, Result<Report, RunFault>)
+    // The store then holds the book that was opened, and the report is that of it.
+    ensures checks { IfOk result.1 (λ report. IsTrue database.index.cache.store.is_faithful
+        → IsIdle database → database.begun ≡ false
+        → Checks (S.seen result.0) database.index.tree.shape database.limits database.book report) }
+
+    // A book that the store held it holds, whatever is answered.
+    ensures kept { IsSound database → HasPages database → IsIdle database
+        → database.begun ≡ false → database.failed ≡ false
+        → HoldsBook (S.seen result.0) database.index.tree.shape database.limits database.book }
+{
+    let checked = database.check();
+    let (store, closed) = database.close(alloc);
+    let report = match checked {
+        Ok(report) => report,
+        Err(fault) => return (store, Err(fault)),
+    };
+    match closed {
+        Ok(()) => (store, Ok(report)),
+        Err(fault) => (store, Err(fault)),
+    }
+}
+
+/// Sends what a check that passed has found.
+fn send_report<'a, W: Write>(report: &Report, out: &mut W) -> Result<(), Fault<'a>> {
+    let Report {
+        pages,
+        legs,
+        features,
+    } = *report;
+    if writeln!(out, "ok 1\n{pages},{legs},{features}").is_err() {
+        return Err(Fault::Run(RunFault::Output));
+    }
+    match out.flush() {
+        Ok(()) => Ok(()),
+        Err(_) => Err(Fault::Run(RunFault::Output)),
+    }
+}
+
+/// Opens the store, and checks its database. No page is written; a file that is absent is made,
+/// without a byte.
+fn check<'a, R: rt::Files<File = File> + AllocGlobal + RandomSource, W: Write>(
+    rt: &R,
+    check: &Check<'a>,
+    out: &mut W,
+) -> Result<(), Fault<'a>> {
+    let Ok(keys) = RandomState::new(rt) else {
+        return Err(Fault::Run(RunFault::Memory));
+    };
+    let Ok(store) = FileStore::open(rt, check.store) else {
+        return Err(Fault::Run(RunFault::Store));
+    };
+    let cache_pages = check.cache_pages.max(1) as usize;
+    let database = match Db::open(rt.alloc(), keys, store, cache_pages) {
+        Ok(database) => database,
+        Err((_, fault)) => return Err(Fault::Open(fault)),
+    };
+    let (_store, checked) = check_and_close(rt.alloc(), database);
+    send_report(&checked?, out)
+}
+
+/// Does what the program is asked to do.
+fn perform<'a, R: rt::Files<File = File> + AllocGlobal + RandomSource, W: Write>(
+    rt: &R,
+    task: &Task<'a>,
+    out: &mut W,
+) -> Result<(), Fault<'a>> {
+    match task {
+        Task::Run(task) => run(rt, task, out),
+        Task::Check(task) => check(rt, task, out),
+    }
+}
+
 /// Runs the program, and answers its exit status: 0, or 2 for wrong words, or 1 for any other fault.
 ///
 /// `words` has the program's name first. Answers and help go to `out`, faults to `faults`.
@@ -206,7 +283,7 @@ pub fn start<R: rt::Files<File = File> + AllocGlobal + RandomSource, W: Write, V
             return 0;
         }
     };
-    match run(rt, &words, out) {
+    match perform(rt, &words, out) {
         Ok(()) => 0,
         Err(fault) => {
             let _ = writeln!(faults, "mftb: {fault}");

@@ -126,6 +126,44 @@ fn a_file_that_is_no_store_is_not_touched(rt: HostRuntime) -> Result<(), Fail> {
 }
 
 #[test]
+fn a_store_is_checked(rt: HostRuntime) -> Result<(), Fail> {
+    fs::write(&rt, "S1.csv", STANDARD)?;
+    fs::write(&rt, "script.txt", SCRIPT)?;
+    fs::write(&rt, "sound.mftb", "")?;
+    let words = ["mftb", "run", "sound.mftb", "script.txt", "S1.csv"];
+    assert_eq!(rt; answer(&rt, &words)?.0, 0);
+    let mut bytes = fs::read(&rt, "sound.mftb")?;
+    let (status, out, faults) = answer(&rt, &["mftb", "check", "sound.mftb"])?;
+    assert!(rt; status == 0 && out.as_slice() == "ok 1\n6,5,3\n".as_bytes() && faults.is_empty());
+    assert!(rt; fs::read(&rt, "sound.mftb")?.as_slice() == bytes.as_slice());
+
+    // A byte of page 2.
+    if let Some(byte) = bytes.get_mut(9000) {
+        *byte = 77;
+    }
+    fs::write(&rt, "altered.mftb", bytes.as_slice())?;
+    let words = ["mftb", "check", "--cache-pages", "1", "altered.mftb"];
+    let (status, out, faults) = answer(&rt, &words)?;
+    assert!(rt; status == 1 && out.is_empty());
+    assert!(rt; faults.as_slice() == "mftb: page 2 damaged\n".as_bytes());
+    assert!(rt; fs::read(&rt, "altered.mftb")?.as_slice() == bytes.as_slice());
+    Ok(())
+}
+
+#[test]
+fn a_file_without_a_page_is_no_store(rt: HostRuntime) -> Result<(), Fail> {
+    fs::write(&rt, "letter.txt", "Dear captain")?;
+    for name in ["letter.txt", "absent.mftb"] {
+        let (status, out, faults) = answer(&rt, &["mftb", "check", name])?;
+        assert!(rt; status == 1 && out.is_empty());
+        assert!(rt; faults.as_slice() == "mftb: store malformed\n".as_bytes());
+    }
+    assert!(rt; fs::read(&rt, "letter.txt")?.as_slice() == "Dear captain".as_bytes());
+    assert!(rt; fs::read(&rt, "absent.mftb")?.is_empty());
+    Ok(())
+}
+
+#[test]
 fn what_cannot_be_read_has_a_line(rt: HostRuntime) -> Result<(), Fail> {
     let words = owned(rt.alloc(), &["mftb", "run", "store", "no such script"])?;
     let (mut out, mut faults) = (Vec::new(rt.alloc()), Vec::new(rt.alloc()));
@@ -138,7 +176,7 @@ fn what_cannot_be_read_has_a_line(rt: HostRuntime) -> Result<(), Fail> {
 
 #[test]
 fn other_words_are_refused(rt: HostRuntime) -> Result<(), Fail> {
-    let words = owned(rt.alloc(), &["mftb", "check", "store"])?;
+    let words = owned(rt.alloc(), &["mftb", "chart", "store"])?;
     let (mut out, mut faults) = (Vec::new(rt.alloc()), Vec::new(rt.alloc()));
     let status = start(&rt, &words, &mut out, &mut faults);
     assert_eq!(rt; status, 2);

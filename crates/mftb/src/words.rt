@@ -1,6 +1,6 @@
 //! The words of the command line.
-use clap::{Arg, ArgAction, Command, Error, value_parser};
-use std::alloc::Global;
+use clap::{Arg, ArgAction, ArgMatches, Command, Error, value_parser};
+use std::alloc::{AllocError, Global};
 
 /// What `mftb run` is asked to do.
 #[derive(Drop)]
@@ -15,6 +15,24 @@ pub(crate) struct Run<'a> {
     pub(crate) files: Vec<&'a str>,
 }
 
+/// What `mftb check` is asked to do.
+#[derive(Clone, Copy)]
+pub(crate) struct Check<'a> {
+    /// The name of the file that keeps the database.
+    pub(crate) store: &'a str,
+    /// How many pages its cache holds at most, at least 1.
+    pub(crate) cache_pages: u32,
+}
+
+/// What the program is asked to do.
+#[derive(Drop)]
+pub(crate) enum Task<'a> {
+    /// To run a script.
+    Run(Run<'a>),
+    /// To check a store.
+    Check(Check<'a>),
+}
+
 /// How many pages the cache of a database holds where no other number is given.
 const CACHE_PAGES: u32 = 256;
 
@@ -25,8 +43,19 @@ fn required<'a>(alloc: Global, name: &'a str, help: &'a str) -> Arg<'a> {
         .action(ArgAction::Set)
 }
 
-fn mftb<'a>(alloc: Global) -> Result<Command<'a>, Error> {
-    let run = Command::new(alloc, "run")
+/// The word `--cache-pages N`.
+fn cache_pages<'a>(alloc: Global) -> Arg<'a> {
+    Arg::new(alloc, "cache-pages")
+        .long("cache-pages")
+        .value_name("N")
+        .help("How many pages of the file are kept in memory, 4096 bytes each")
+        .value_parser(value_parser!(u32).range(1..))
+        .default_value("256")
+}
+
+/// The words of `mftb run`.
+fn run_command<'a>(alloc: Global) -> Result<Command<'a>, AllocError> {
+    Command::new(alloc, "run")
         .about("Runs a script over the database that a file keeps, and prints its answers")
         .arg(required(
             alloc,
@@ -39,41 +68,59 @@ fn mftb<'a>(alloc: Global) -> Result<Command<'a>, Error> {
                 .help("The files that the script may load, by these names")
                 .num_args(0..),
         )?
-        .arg(
-            Arg::new(alloc, "cache-pages")
-                .long("cache-pages")
-                .value_name("N")
-                .help("How many pages of the file are kept in memory, 4096 bytes each")
-                .value_parser(value_parser!(u32).range(1..))
-                .default_value("256"),
-        )?;
-    let command = Command::new(alloc, "mftb")
+        .arg(cache_pages(alloc))
+}
+
+/// The words of `mftb check`.
+fn check_command<'a>(alloc: Global) -> Result<Command<'a>, AllocError> {
+    Command::new(alloc, "check")
+        .about("Checks that the pages of a file hold one database")
+        .arg(required(alloc, "STORE", "The file that keeps the database"))?
+        .arg(cache_pages(alloc))
+}
+
+fn mftb<'a>(alloc: Global) -> Result<Command<'a>, AllocError> {
+    Command::new(alloc, "mftb")
         .about("A trajectory database")
         .version("0.1.0")
         .subcommand_required(true)
-        .subcommand(run)?;
-    Ok(command)
+        .subcommand(run_command(alloc)?)?
+        .subcommand(check_command(alloc)?)
 }
 
-/// Reads the words, of which the first is the program's name.
-pub(crate) fn read_words<'a>(alloc: Global, words: &'a [String]) -> Result<Run<'a>, Error> {
-    let matches = mftb(alloc)?.try_get_matches_from(words)?;
+/// How many pages the cache is to hold.
+fn cache_pages_of(matches: &ArgMatches) -> u32 {
+    matches.get_one("cache-pages").unwrap_or(CACHE_PAGES)
+}
+
+/// What `mftb run` is asked to do.
+fn run_of<'a>(alloc: Global, matches: &ArgMatches<'a>) -> Result<Run<'a>, Error> {
     let mut files = Vec::new(alloc);
-    let Some((_, run)) = matches.subcommand() else {
-        return Ok(Run {
-            store: "",
-            cache_pages: CACHE_PAGES,
-            script: "",
-            files,
-        });
-    };
-    for name in run.get_strs("FILES").unwrap_or(&[]) {
+    for name in matches.get_strs("FILES").unwrap_or(&[]) {
         files.push(*name)?;
     }
     Ok(Run {
-        store: run.get_str("STORE").unwrap_or(""),
-        cache_pages: run.get_one("cache-pages").unwrap_or(CACHE_PAGES),
-        script: run.get_str("SCRIPT").unwrap_or(""),
+        store: matches.get_str("STORE").unwrap_or(""),
+        cache_pages: cache_pages_of(matches),
+        script: matches.get_str("SCRIPT").unwrap_or(""),
         files,
     })
+}
+
+/// Reads the words, of which the first is the program's name.
+pub(crate) fn read_words<'a>(alloc: Global, words: &'a [String]) -> Result<Task<'a>, Error> {
+    let matches = mftb(alloc)?.try_get_matches_from(words)?;
+    match matches.subcommand() {
+        Some(("check", matches)) => Ok(Task::Check(Check {
+            store: matches.get_str("STORE").unwrap_or(""),
+            cache_pages: cache_pages_of(matches),
+        })),
+        Some((_, matches)) => Ok(Task::Run(run_of(alloc, matches)?)),
+        None => Ok(Task::Run(Run {
+            store: "",
+            cache_pages: CACHE_PAGES,
+            script: "",
+            files: Vec::new(alloc),
+        })),
+    }
 }
