@@ -56,7 +56,8 @@ fn read_payload<S: PageStore>(store: &mut S, page: u32, from: u32) -> Result<Pay
         → page < (S.seen store.old).count
         → payload_of (fresh (S.seen store.old) 1) page ≢ None → IsAllowed fault) }
     ensures stays { Stays (S.seen store.old) (S.seen store.new) }
-    ensures caused { IfErr result (IsCaused (fresh (S.seen store.old) 1) (fresh (S.seen store.new) 1)) }
+    ensures caused { IfErr result
+        (IsCaused (fresh (S.seen store.old) 1) (fresh (S.seen store.new) 1)) }
     ensures works { IfErr result (λ fault. fault ≢ SearchFault.Spent) }
 {
     if page >= store.len() {
@@ -154,7 +155,8 @@ fn survey_leaves<S: PageStore>(
         → AreSurveyed (pages_by old_node_of (fresh (S.seen store.old) 1)) most rows
         tracks.now.legs places.now tracks.now.tracks survey.leaves.items) }
     ensures reads { OnlyReads (fresh (S.seen store.old) 1) (fresh (S.seen store.new) 1) }
-    ensures caused { IfErr result (IsCaused (fresh (S.seen store.old) 1) (fresh (S.seen store.new) 1)) }
+    ensures caused { IfErr result
+        (IsCaused (fresh (S.seen store.old) 1) (fresh (S.seen store.new) 1)) }
     ensures works { IfErr result (λ fault. fault ≢ SearchFault.Spent) }
 {
     let legs = tracks.leg_count();
@@ -191,7 +193,8 @@ fn open_leaf<S: PageStore>(store: &mut S, page: u32, opened: &mut Opened) -> Res
         → AreAmong (legs_in ((pages_by old_node_of (fresh (S.seen store.old) 1)).at page)) legs
         → StandByOrdinal legs opened.new.entries) }
     ensures stays { Stays (S.seen store.old) (S.seen store.new) }
-    ensures caused { IfErr result (IsCaused (fresh (S.seen store.old) 1) (fresh (S.seen store.new) 1)) }
+    ensures caused { IfErr result
+        (IsCaused (fresh (S.seen store.old) 1) (fresh (S.seen store.new) 1)) }
     ensures works { IfErr result (λ fault. fault ≢ SearchFault.Spent) }
 {
     let payload = match read_payload(store, page, 0) {
@@ -207,7 +210,8 @@ fn open_leaf<S: PageStore>(store: &mut S, page: u32, opened: &mut Opened) -> Res
     }
 }
 
-/// How many leaves are opened, of so many that were, once the next one is where it begins with a leg.
+/// How many leaves are opened, of so many that were, once the next one is where it begins with a
+/// leg.
 fn open_next<S: PageStore>(
     store: &mut S,
     leaves: &[Met],
@@ -220,7 +224,8 @@ fn open_next<S: PageStore>(
         → HaveLegsOf (pages_by old_node_of (fresh (S.seen store.old) 1)) leaves.now legs
         → StandByOrdinal legs opened.new.entries) }
     ensures stays { Stays (S.seen store.old) (S.seen store.new) }
-    ensures caused { IfErr result (IsCaused (fresh (S.seen store.old) 1) (fresh (S.seen store.new) 1)) }
+    ensures caused { IfErr result
+        (IsCaused (fresh (S.seen store.old) 1) (fresh (S.seen store.new) 1)) }
     ensures works { IfErr result (λ fault. fault ≢ SearchFault.Spent) }
 {
     match leaves.get(next) {
@@ -237,8 +242,8 @@ fn open_next<S: PageStore>(
 
 /// Puts the legs of the store, in their accepted order, at the end of an index without legs. Each
 /// leaf is read twice, and in memory are kept 64 bytes or so a leaf, 8 bytes a leg while the chains
-/// are walked, and then only the legs of those leaves that have been opened and not used up: at most
-/// one leaf a feature.
+/// are walked, and then only the legs of leaves that are opened and not used up: at most one leaf a
+/// feature.
 ///
 /// A store whose chains a check would refuse is `Damaged`, with the page that the check names.
 pub fn take_old_legs<S: PageStore, I: LegIndex>(
@@ -304,7 +309,8 @@ fn bring<S: PageStore, I: LegIndex>(
         → HaveLegsOf (pages_by old_node_of (fresh (S.seen old.old) 1)) leaves.now list
         → IsNumbered legs list → I.is_marked index.new }
     ensures store { IsErrOf result IndexFault.Store
-        → Faulted (S.seen old.old) (S.seen old.new) ⊎ HasRisen (I.faults index.old) (I.faults index.new) }
+        → Faulted (S.seen old.old) (S.seen old.new)
+        ⊎ HasRisen (I.faults index.old) (I.faults index.new) }
     ensures full { IsErrOf result IndexFault.StoreFull → I.is_store_full index.new }
     ensures later { IsLater I.Listed index.old index.new }
 {
