@@ -18,7 +18,6 @@ use Rattle.legs.specs.declared.tracks.Track.{Track}
 use Rattle.tbtree.specs.Check.{HoldChains, legs_on, first_on, first_ordinal, last_leg, ComeInTurn, AreLeavesFrom, AreLeavesOf, AreChains, IsChecked, IsOver, IsRising, HoldLegs}
 use Rattle.tbtree.specs.Descent.{legs_in}
 use Rattle.tbtree.specs.Nodes.{Pages, ALeaf}
-use Rattle.tbtree.specs.Shape.{IsShape}
 use Rattle.tbtree.specs.Stands.{owner, marks, pages_of, head_or_zero, last_or, leaf_of, TreeStands}
 use Rattle.tbtree.specs.declared.tree.Place.{Place}
 use Rattle.tbtree.specs.declared.tree.TbTree.{TbTree}
@@ -43,12 +42,9 @@ drop_split : {X : Type 0} (xs : List X) (x : X) (ys : List X) → drop (suc (len
 drop_split [] x ys = refl
 drop_split (z ∷ xs) x ys = drop_split xs x ys
 
-module _ (nodes : Pages LegView BoxView) (tree : TbTree) (rows total : ℕ) (places : List Place) (tracks : List Track) (shape : IsShape tree.shape) (c : HoldLegs nodes tree rows total places tracks) where
+module _ (nodes : Pages LegView BoxView) (tree : TbTree) (rows total : ℕ) (places : List Place) (tracks : List Track) (some_leaf : 0 < tree.shape.leaf) (c : HoldLegs nodes tree rows total places tracks) where
   abbrev n : ℕ
   n = tree.shape.leaf
-
-  some_leaf : 0 < n
-  some_leaf = let l = shape.least_leaf in omega (arith, l)
 
   abbrev order : List ℕ
   order = c.pages 0

@@ -84,7 +84,7 @@ pub fn laws()
         → HoldChains nodes most rows total places tracks a
         → HoldChains nodes most rows total places tracks b → a ≡ b }
     ensures held_chains { (nodes : Pages LegView BoxView) (tree : TbTree) (rows total : ℕ)
-        (places : List Place) (tracks : List Track) → IsShape tree.shape
+        (places : List Place) (tracks : List Track) → 0 < tree.shape.leaf
         → (held : HoldLegs nodes tree rows total places tracks)
         → HoldChains nodes tree.shape.leaf rows total places tracks held.legs }
 

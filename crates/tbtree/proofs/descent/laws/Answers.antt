@@ -1,3 +1,4 @@
+use Rattle.std.proofs.Common.{◌<◌, ◌≤◌, arith}
 use Rattle.tbtree.proofs.ChainLemmas.{chained, one_list}
 use Rattle.tbtree.proofs.CheckTree.{hold}
 use Rattle.tbtree.proofs.HeldTree.{checked, chains_hold}
@@ -22,7 +23,7 @@ returns c = record {
   bounds = bounded;
   place_bounds = bounded_place;
   checked = hold;
-  held = checked;
+  held = λ nodes tree rows total places tracks shape. checked nodes tree rows total places tracks (let l = shape.least_leaf in omega (arith, l));
   chained = λ nodes most rows total places tracks legs some. chained nodes most rows total places tracks some legs;
   one_list = one_list;
   held_chains = chains_hold;
