@@ -1,5 +1,5 @@
 -- What a check found, and what its pages hold.
-use Rattle.std.proofs.Common.{◌≡◌, ◌≢◌, ℕ, zero, suc, ◌+◌, ◌-◌, ◌<◌, ◌≤◌, List, [], ◌∷◌, ◌++◌, length, map, get_or, Option, Some, None, slice_get, refl, sym, ap, ◌∙◌, arith, subst}
+use Rattle.std.proofs.Common.{◌≡◌, ℕ, zero, suc, ◌-◌, ◌<◌, List, [], ◌∷◌, length, map, get_or, Some, None, slice_get, refl, sym, ap, ◌∙◌, arith, subst}
 use Rattle.std.specs.List.{All, range_with_len}
 use Rattle.std.specs.List.Sorted.{IsPermutation, IsNonDecreasingBy}
 use Rattle.std.proofs.lemmas.List.Elements.{All-head, All-tail, All-nil, All-cons, All-append, All-weaker}
@@ -9,15 +9,14 @@ use Rattle.legs.specs.Boxes.{BoxView}
 use Rattle.legs.specs.Legs.{LegView}
 use Rattle.legs.specs.declared.tracks.Track.{Track}
 use Rattle.chains.specs.Chains.{AreHeld}
-use Rattle.tbtree.specs.Check.{next_in, legs_on, first_on, first_ordinal, AreLeavesFrom, AreLeavesOf, AreChains, IsChecked, IsOver, IsPast, IsRising}
+use Rattle.tbtree.specs.Check.{next_in, legs_on, first_on, first_ordinal, AreLeavesFrom, AreChains, IsChecked, IsOver, IsPast, IsRising}
 use Rattle.tbtree.specs.Nodes.{Pages}
 use Rattle.tbtree.specs.declared.tree.Place.{Place}
 use Rattle.tbtree.specs.declared.tree.TbTree.{TbTree}
-use Rattle.boxsearch.specs.Ordering.{HaveLegs, IsWhole, NameLast}
+use Rattle.boxsearch.specs.Ordering.{IsWhole, NameLast}
 use Rattle.boxsearch.specs.Walking.{IsMet, Surveys}
 use Rattle.boxsearch.specs.declared.walking.Met.{Met}
 use Rattle.boxsearch.specs.declared.walking.Survey.{Survey}
-use Rattle.boxsearch.proofs.OrderLemmas.{at_less}
 use Rattle.boxsearch.proofs.SurveyLemmas.{get_at}
 use Rattle.boxsearch.proofs.WalkLemmas.{same_some}
 use Rattle.std.proofs.lemmas.List.{length-map}
@@ -100,7 +99,7 @@ at_default [] i x d e = let none : None ≡ Some x = e in absurd (cc)
 at_default (y ∷ xs) zero x d e = same_some y x e
 at_default (y ∷ xs) (suc i) x d e = at_default xs i x d e
 
-map_at : (ms : List Met) (i : ℕ) (m : Met) → slice_get ms i ≡ Some m → slice_get (map page_of ms) i ≡ Some m.page
+pub map_at : (ms : List Met) (i : ℕ) (m : Met) → slice_get ms i ≡ Some m → slice_get (map page_of ms) i ≡ Some m.page
 map_at [] i m e = let none : None ≡ Some m = e in absurd (cc)
 map_at (n ∷ ms) zero m e = ap (λ (n : Met). Some n.page) (same_some n m e)
 map_at (n ∷ ms) (suc i) m e = map_at ms i m e

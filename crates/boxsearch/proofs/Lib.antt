@@ -22,6 +22,8 @@ pub mod OldLemmas
 pub mod OrderLemmas
 pub mod CheckingLemmas
 pub mod TakingLemmas
+pub mod SurveyedLemmas
+pub mod OpenedLemmas
 pub mod SoundLemmas
 pub mod GroupLemmas
 pub mod LevelsLemmas

@@ -1,5 +1,5 @@
 -- What is read of a store of version 1.
-use Rattle.std.proofs.Common.{◌≡◌, ◌<◌, ◌≤◌, ◌∙◌, ℕ, zero, suc, List, [], ◌∷◌, take, drop, length, slice_get, Option, Some, None, Result, Ok, Err, refl, sym, ap, subst, arith, IsTrue}
+use Rattle.std.proofs.Common.{◌≡◌, ◌<◌, ◌∙◌, ℕ, zero, suc, List, [], ◌∷◌, take, drop, length, slice_get, Option, Some, None, Ok, Err, refl, sym, ap, arith, IsTrue}
 use Rattle.std.proofs.lemmas.Int.{clamps}
 use Rattle.std.specs.Option.{option_and_then, option_map, ok_or}
 use Rattle.pages.specs.Store.{Store, IsLawful, Stays}

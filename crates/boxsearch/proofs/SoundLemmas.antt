@@ -1,9 +1,9 @@
 -- An index whose pages hold a list of legs is sound, and a sound one's do.
-use Rattle.std.proofs.Common.{◌≡◌, ◌≢◌, ℕ, zero, suc, ◌+◌, ◌<◌, ◌≤◌, ◌==◌, false, true, cond, if◌then◌else◌, List, [], ◌∷◌, length, fold, get_or, Option, Some, None, slice_get, refl, sym, ap, ◌∙◌, arith, subst, IsTrue}
-use Rattle.std.specs.List.{All, filter}
+use Rattle.std.proofs.Common.{◌≡◌, ℕ, suc, ◌<◌, ◌==◌, false, true, cond, if◌then◌else◌, List, [], ◌∷◌, length, fold, Some, None, slice_get, refl, sym, ap, ◌∙◌, arith, subst, IsTrue}
+use Rattle.std.specs.List.{All}
 use Rattle.std.proofs.lemmas.List.Elements.{All-nil, All-cons}
 use Rattle.legs.specs.Boxes.{BoxView}
-use Rattle.legs.specs.Index.{feature_count, is_of, last_end, legs_of}
+use Rattle.legs.specs.Index.{feature_count, legs_of}
 use Rattle.legs.specs.Legs.{IsLeg, LegView}
 use Rattle.legs.specs.Tracks.{TracksView, IsTrack}
 use Rattle.legs.specs.declared.tracks.Track.{Track}
@@ -13,7 +13,6 @@ use Rattle.tbtree.specs.Descent.{content_of}
 use Rattle.tbtree.specs.Insert.{Stands, IsPlace}
 use Rattle.tbtree.specs.Nodes.{Pages, pages_of_cache}
 use Rattle.tbtree.specs.Shape.{IsShape}
-use Rattle.tbtree.specs.declared.tree.Place.{Place}
 use Rattle.tbtree.specs.declared.tree.TbTree.{TbTree}
 use Rattle.std.specs.Prelude.{Result, Ok, Err, OnOk}
 use Rattle.boxsearch.specs.declared.fault.SearchFault.{SearchFault}
@@ -22,7 +21,6 @@ use Rattle.boxsearch.specs.Index.{content, IndexView, IsSound}
 use Rattle.boxsearch.proofs.CheckingLemmas.{at_default}
 use Rattle.boxsearch.proofs.OrderLemmas.{at_less}
 use Rattle.boxsearch.proofs.SurveyLemmas.{get_at}
-use Rattle.boxsearch.proofs.WalkLemmas.{same_some}
 
 -- a feature without legs ends nowhere
 none_ends : (f : ℕ) (legs : List LegView) → legs_of f legs ≡ [] → fold (λ end leg. if leg.feature == f then Some leg.t1 else end) None legs ≡ None

@@ -1,6 +1,6 @@
 -- What the ways along the chains of all features found.
-use Rattle.std.proofs.Common.{◌≡◌, ◌≢◌, ℕ, zero, suc, ◌+◌, ◌<◌, ◌≤◌, List, [], ◌∷◌, ◌++◌, length, map, drop, Option, Some, None, slice_get, refl, sym, ap, ◌∙◌, arith, subst, append_assoc, IsTrue}
-use Rattle.std.specs.List.{flat_map, All}
+use Rattle.std.proofs.Common.{◌≡◌, ℕ, zero, suc, ◌+◌, ◌<◌, ◌≤◌, List, [], ◌∷◌, ◌++◌, length, map, drop, Some, None, slice_get, refl, sym, ap, ◌∙◌, arith, subst, append_assoc}
+use Rattle.std.specs.List.{All}
 use Rattle.std.specs.Option.{unwrap_or}
 use Rattle.std.proofs.lemmas.List.{append-nil, map-append}
 use Rattle.std.proofs.lemmas.List.Concat.{flat_map-append}
@@ -13,7 +13,7 @@ use Rattle.tbtree.specs.Check.{legs_on, first_ordinal, AreLeavesOf, AreChains}
 use Rattle.tbtree.specs.Descent.{legs_in}
 use Rattle.tbtree.specs.Nodes.{Pages}
 use Rattle.tbtree.specs.declared.tree.Place.{Place}
-use Rattle.boxsearch.specs.Walking.{IsMet, NotesAll, Surveys, Walks}
+use Rattle.boxsearch.specs.Walking.{IsMet, Surveys, Walks}
 use Rattle.boxsearch.specs.declared.walking.Met.{Met}
 use Rattle.boxsearch.specs.declared.walking.Survey.{Survey}
 use Rattle.boxsearch.proofs.WalkLemmas.{drop_at, same_some}

@@ -1,5 +1,5 @@
 -- What the legs of a store of version 1 are, by what its chains say.
-use Rattle.std.proofs.Common.{◌≡◌, ◌≢◌, ◌<◌, ◌≤◌, ◌+◌, ◌∙◌, ◌++◌, ◌∷◌, ℕ, zero, suc, List, [], map, take, drop, length, slice_get, Option, Some, None, Result, Ok, Err, IsErrOf, OnOk, Bool, true, false, cond, nat_eq, refl, sym, ap, subst, arith, IsTrue}
+use Rattle.std.proofs.Common.{◌≡◌, ◌≤◌, ◌+◌, ◌∙◌, ◌++◌, ◌∷◌, ℕ, zero, suc, List, [], map, take, drop, length, slice_get, Option, Some, None, Result, Ok, Err, IsErrOf, IfErr, OnOk, Bool, true, false, cond, nat_eq, refl, sym, ap, subst, arith}
 use Rattle.std.specs.List.{All, range_with_len}
 use Rattle.std.specs.List.Sorted.{IsPermutation, IsNonDecreasingBy}
 use Rattle.std.proofs.lemmas.List.Sorted.{IsPermutation-map, IsPermutation-sym, All-permutation}
@@ -15,7 +15,7 @@ use Rattle.legs.specs.declared.listed.Listed.{Ghosts}
 use Rattle.pages.specs.Store.{Store, Stays, Faulted, HasRisen}
 use Rattle.legs.specs.Legs.{LegView}
 use Rattle.legs.specs.declared.tracks.Track.{Track}
-use Rattle.tbtree.specs.Check.{first_ordinal, legs_on, AreChains, HoldChains, IsRising}
+use Rattle.tbtree.specs.Check.{first_ordinal, legs_on, HoldChains, IsRising}
 use Rattle.tbnode.specs.Nodes.{as_leaf}
 use Rattle.tbtree.specs.Descent.{legs_in, sort_by_ordinal}
 use Rattle.tbtree.specs.Nodes.{Pages, Node, LeafView, ALeaf, AnInner}
@@ -29,7 +29,7 @@ use Rattle.boxsearch.specs.Answers.{of_search}
 use Rattle.boxsearch.specs.Faults.{IsCaused}
 use Rattle.boxsearch.specs.declared.fault.SearchFault.{SearchFault}
 use Rattle.boxsearch.specs.declared.fault.SearchFault.TheVariants.{Cache as OfCache, Malformed, Spent, Memory}
-use Rattle.boxsearch.specs.OldStore.{pages_of_old, AreAmong, AreSurveyed, HaveLegsOf, IsNumbered, IsOneOf, StandByOrdinal}
+use Rattle.boxsearch.specs.OldStore.{AreAmong, AreSurveyed, HaveLegsOf, IsNumbered, IsOneOf, StandByOrdinal}
 use Rattle.boxsearch.specs.Ordering.{IsWhole}
 use Rattle.boxsearch.specs.Walking.{IsMet, Surveys}
 use Rattle.boxsearch.specs.declared.walking.Met.{Met}
@@ -143,10 +143,14 @@ length_range : (a n : ℕ) → length (range_with_len a n) ≡ n
 length_range a zero = refl
 length_range a (suc n) = ap (λ n. suc n) (length_range (a + 1) n)
 
+pub length_numbered : (total : ℕ) (list : List LegView) → IsNumbered total list → length list ≡ total
+length_numbered total list numbered = sym (length-map list (λ leg. leg.ordinal)) ∙ ap length numbered.numbers ∙ length_range 0 total
+
+pub numbered_at : (total : ℕ) (list : List LegView) (i : ℕ) (leg : LegView) → IsNumbered total list → slice_get list i ≡ Some leg → leg.ordinal ≡ i
+numbered_at total list i leg numbered e = (let o = number_at 0 total list i leg numbered.numbers e in omega (arith, o))
+
 pub all_taken : (total n : ℕ) (list : List LegView) → IsNumbered total list → total ≤ n → take n list ≡ list
-all_taken total n list numbered l =
-    let e : length list ≡ total = sym (length-map list (λ leg. leg.ordinal)) ∙ ap length numbered.numbers ∙ length_range 0 total in
-    take_past list n (omega (arith, e, l))
+all_taken total n list numbered l = (let e = length_numbered total list numbered in take_past list n (omega (arith, e, l)))
 
 pub later_refl : {I : Type 0} (g : Ghosts I) (a : I) → IsLater g a a
 later_refl g a = record { plan = refl; faults = omega arith; asked = omega arith }
@@ -185,12 +189,12 @@ store_failed old new Spent h e = let no : index.Spent ≡ index.Store = e in abs
 store_failed old new Memory h e = let no : index.Memory ≡ index.Store = e in absurd (cc)
 
 module _ {X : Type 0} (P : X → Type 0) where
-  all_get : (xs : List X) (i : ℕ) (x : X) → All P xs → slice_get xs i ≡ Some x → P x
+  pub all_get : (xs : List X) (i : ℕ) (x : X) → All P xs → slice_get xs i ≡ Some x → P x
   all_get [] i x a e = let none : None ≡ Some x = e in absurd (cc)
   all_get (y ∷ ys) zero x a e = subst P (some_same y x e) (All-head P y ys a)
   all_get (y ∷ ys) (suc i) x a e = all_get ys i x (All-tail P y ys a) e
 
-  all_from : (xs : List X) → ((i : ℕ) (x : X) → slice_get xs i ≡ Some x → P x) → All P xs
+  pub all_from : (xs : List X) → ((i : ℕ) (x : X) → slice_get xs i ≡ Some x → P x) → All P xs
   all_from [] h = All-nil P
   all_from (x ∷ xs) h = All-cons P x xs (h 0 x refl) (all_from xs (λ i. h (suc i)))
 
@@ -242,3 +246,7 @@ same_err x y e = ap (λ (r : Result (Unit {0}) IndexFault). elim r as (λ _. Ind
 pub on_ok : {T P Q : Type 0} (r : Result T IndexFault) → (P → Q) → OnOk r P → OnOk r Q
 on_ok (Ok x) f p = f p
 on_ok (Err e) f p = p
+
+pub on_err : {T : Type 0} {P Q : IndexFault → Type 0} (r : Result T IndexFault) → ((fault : IndexFault) → P fault → Q fault) → IfErr r P → IfErr r Q
+on_err (Ok x) f p = tt
+on_err (Err e) f p = f e p

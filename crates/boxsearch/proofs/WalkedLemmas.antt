@@ -1,7 +1,6 @@
 -- How far the way along the chain of a feature has come.
-use Rattle.std.proofs.Common.{◌≡◌, ◌≢◌, ℕ, zero, suc, ◌+◌, ◌-◌, ◌*◌, ◌<◌, ◌≤◌, min, List, [], ◌∷◌, ◌++◌, length, map, Option, Some, None, refl, sym, ap, ◌∙◌, arith, subst, append_assoc, IsTrue}
+use Rattle.std.proofs.Common.{◌≡◌, ℕ, suc, ◌+◌, ◌-◌, ◌*◌, ◌<◌, ◌≤◌, List, [], ◌∷◌, ◌++◌, map, Option, Some, None, refl, sym, ap, ◌∙◌, arith, subst, append_assoc, IsTrue}
 use Rattle.std.specs.Int.{div_ceil}
-use Rattle.std.specs.List.{flat_map, All}
 use Rattle.std.proofs.lemmas.Grind.{div_ceil_times}
 use Rattle.std.proofs.lemmas.Nat.{mul-le}
 use Rattle.std.specs.Option.{option_map}
@@ -12,7 +11,7 @@ use Rattle.legs.specs.Boxes.{BoxView}
 use Rattle.legs.specs.Legs.{LegView}
 use Rattle.legs.specs.declared.tracks.Track.{Track}
 use Rattle.pages.specs.declared.payload.Payload.{Payload}
-use Rattle.pagecache.specs.Cache.{Cache, payload_of}
+use Rattle.pagecache.specs.Cache.{Cache}
 use Rattle.tbnode.specs.Form.{node_of}
 use Rattle.chains.specs.Reads.{OnlyReads}
 use Rattle.tbtree.specs.Check.{next_in, legs_on, last_leg, ComeInTurn, IsLeafOf, AreLeavesFrom, AreLeavesOf}
@@ -20,7 +19,7 @@ use Rattle.tbtree.specs.Descent.{legs_in}
 use Rattle.tbtree.specs.Nodes.{Pages, Node, pages_of_cache}
 use Rattle.tbtree.specs.Stands.{last_or}
 use Rattle.tbtree.specs.declared.tree.Place.{Place}
-use Rattle.boxsearch.specs.Walking.{after, pages_by, IsAtEnd, IsMet, Notes, NotesAll, TakesLeaf, Walks}
+use Rattle.boxsearch.specs.Walking.{after, pages_by, IsAtEnd, IsMet, NotesAll, TakesLeaf, Walks}
 use Rattle.boxsearch.specs.declared.walking.Met.{Met}
 use Rattle.boxsearch.specs.declared.walking.Survey.{Survey}
 use Rattle.boxsearch.specs.declared.walking.Walk.{Walk}
@@ -33,11 +32,11 @@ same_by node old new r fa = λ i. record { at = λ p. option_map node (r.payload
 pub same_pages : (old new : Cache) → OnlyReads old new → IsTrue old.store.is_faithful → pages_of_cache new ≡ pages_of_cache old
 same_pages old new = same_by node_of old new
 
-turn_append : (f rows : ℕ) (d : Option LegView) (xs ys : List LegView) → ComeInTurn f rows d (xs ++ ys) → ComeInTurn f rows (last_leg d xs) ys
+pub turn_append : (f rows : ℕ) (d : Option LegView) (xs ys : List LegView) → ComeInTurn f rows d (xs ++ ys) → ComeInTurn f rows (last_leg d xs) ys
 turn_append f rows d [] ys h = h
 turn_append f rows d (x ∷ xs) ys h = turn_append f rows (Some x) xs ys h.3
 
-turn_before : (f rows : ℕ) (d : Option LegView) (xs ys : List LegView) → ComeInTurn f rows d (xs ++ ys) → ComeInTurn f rows d xs
+pub turn_before : (f rows : ℕ) (d : Option LegView) (xs ys : List LegView) → ComeInTurn f rows d (xs ++ ys) → ComeInTurn f rows d xs
 turn_before f rows d [] ys h = tt
 turn_before f rows d (x ∷ xs) ys h = (h.0, h.1, h.2, turn_before f rows (Some x) xs ys h.3)
 

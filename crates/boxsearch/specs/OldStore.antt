@@ -1,5 +1,5 @@
 -- A store of version 1.
-use Rattle.std.specs.Prelude.{ℕ, ◌≡◌, List, [], map, nat_eq, slice_get, Some, option_map}
+use Rattle.std.specs.Prelude.{ℕ, ◌≡◌, ◌≤◌, ◌<◌, List, [], map, nat_eq, slice_get, Some, IsSome, option_map}
 use Rattle.std.specs.Map.{lookup}
 use Rattle.std.specs.List.{All, range_with_len}
 use Rattle.std.specs.List.Sorted.{IsPermutation, IsNonDecreasingBy}
@@ -16,7 +16,7 @@ use Rattle.tbnode.specs.OldForm.{old_node_of}
 use Rattle.legs.specs.declared.tracks.Track.{Track}
 use Rattle.tbtree.specs.Check.{first_ordinal, legs_on, AreChains, IsRising}
 use Rattle.tbtree.specs.Descent.{legs_in}
-use Rattle.tbtree.specs.Nodes.{Pages}
+use Rattle.tbtree.specs.Nodes.{Pages, LeafView, ALeaf}
 use Rattle.tbtree.specs.declared.tree.Place.{Place}
 use Rattle.boxsearch.specs.Ordering.{HaveLegs}
 use Rattle.boxsearch.specs.Walking.{IsMet}
@@ -63,3 +63,42 @@ HaveLegsOf nodes leaves legs = (k : ℕ) (m : Met) → slice_get leaves k ≡ So
 pub record IsNumbered (total : ℕ) (legs : List LegView) : Type 0 where
   pub in_turn : CanFollowInTurn [] legs
   pub numbers : map (λ leg. leg.ordinal) legs ≡ range_with_len 0 total
+
+-- the page is there, and is a leaf
+pub record IsReadable (nodes : Pages LegView BoxView) (page : ℕ) : Type 0 where
+  pub within : page < nodes.count
+  pub leaf : LeafView LegView
+  pub is : nodes.at page ≡ Some (Some (ALeaf leaf))
+
+-- the page of each leaf is there, and is a leaf
+abbrev pub AreReadable : Pages LegView BoxView → List Met → Type 0
+AreReadable nodes leaves = (k : ℕ) (m : Met) → slice_get leaves k ≡ Some m → IsReadable nodes m.page
+
+-- the leg is on one of the leaves, and that one begins with it or an earlier one
+pub record IsOnOne (nodes : Pages LegView BoxView) (leaves : List Met) (leg : LegView) : Type 0 where
+  pub place : ℕ
+  pub met : Met
+  pub at : slice_get leaves place ≡ Some met
+  pub begun : met.first ≤ leg.ordinal
+  pub has : IsOneOf (legs_in (nodes.at met.page)) leg
+
+-- the leaves can be read, no two begin with the same leg, and each leg of the list is on one of them
+pub record HaveEachOf (nodes : Pages LegView BoxView) (leaves : List Met) (legs : List LegView) : Type 0 where
+  pub readable : AreReadable nodes leaves
+  pub rises : IsRising (λ (m : Met). m.first) leaves
+  pub each : (leg : LegView) → IsOneOf legs leg → IsOnOne nodes leaves leg
+
+-- a leg of that ordinal is opened
+abbrev pub IsOpened : List (ℕ × LegView) → ℕ → Type 0
+IsOpened opened o = IsSome (lookup (nat_eq o) opened)
+
+-- each of the legs is opened, and what was opened still is
+pub record Opens (legs : List LegView) (old new : List (ℕ × LegView)) : Type 0 where
+  pub kept : (o : ℕ) → IsOpened old o → IsOpened new o
+  pub each : (leg : LegView) → IsOneOf legs leg → IsOpened new leg.ordinal
+
+-- of the leaves before `next` each leg from an ordinal on is opened, and those from `next` on begin with `first` or later
+pub record AreOpened (nodes : Pages LegView BoxView) (leaves : List Met) (next ordinal first : ℕ) (opened : List (ℕ × LegView)) : Type 0 where
+  pub done : (k : ℕ) (m : Met) → slice_get leaves k ≡ Some m → k < next
+      → (leg : LegView) → IsOneOf (legs_in (nodes.at m.page)) leg → ordinal ≤ leg.ordinal → IsOpened opened leg.ordinal
+  pub left : (k : ℕ) (m : Met) → slice_get leaves k ≡ Some m → next ≤ k → first ≤ m.first

@@ -1,5 +1,5 @@
 -- Helpers of private functions: what a check asks of the leaves and legs of all features together.
-use Rattle.std.specs.Prelude.{ℕ, ◌≡◌, ◌<◌, List, map, length, slice_get, Some}
+use Rattle.std.specs.Prelude.{ℕ, ◌≡◌, ◌<◌, List, map, slice_get, Some}
 use Rattle.tbtree.specs.declared.tree.Place.{Place}
 use Rattle.std.specs.List.{range_with_len}
 use Rattle.std.specs.List.Sorted.{IsPermutation}

@@ -1,5 +1,5 @@
 -- Helpers of private functions: the way along the chain of a feature.
-use Rattle.std.specs.Prelude.{ℕ, ◌≡◌, ◌≢◌, ◌-◌, ◌<◌, ◌++◌, ◌∷◌, min, [], List, map, length, Option, Some, None, option_map}
+use Rattle.std.specs.Prelude.{ℕ, ◌≡◌, ◌-◌, ◌++◌, ◌∷◌, min, [], List, map, length, Option, Some, option_map}
 use Rattle.std.specs.List.{All}
 use Rattle.legs.specs.Boxes.{BoxView}
 use Rattle.legs.specs.Hull.{hull, leg_boxes}

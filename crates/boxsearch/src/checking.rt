@@ -117,7 +117,7 @@ pub(crate) fn is_whole(places: &[Place], total: u64, survey: &mut Survey) -> boo
 }
 
 /// Puts the leaves of a survey in the order of their first legs; whether these are distinct.
-pub(crate) fn put_in_order(survey: &mut Survey) -> bool
+fn put_in_order(survey: &mut Survey) -> bool
     ensures moved { IsPermutation survey.old.leaves.items survey.new.leaves.items }
     ensures rises { IsNonDecreasingBy (λ (m : Met). m.first) survey.new.leaves.items }
     ensures strict { IsTrue result ↔ IsRising (λ (m : Met). m.first) survey.new.leaves.items }

@@ -12,12 +12,24 @@ use tbnode::fields::u32_at;
 /// How the header of a store begins that is not finished: `MFTB`, the version, and the state 0.
 const UNFINISHED: [u8; 12] = [77, 70, 84, 66, 0, 0, 0, 2, 0, 0, 0, 0];
 
-/// The letters `MFTB` as a number, the version, and the state of a finished store.
-const MAGIC: u32 = 0x4d46_5442;
-
-const VERSION: u32 = 2;
-
+/// The state of a finished store.
 const FINISHED: u32 = 1;
+
+/// The letters that a header begins with, as a number.
+#[tactic(auto, unfolding(tbnode::specs::Parts::number_at, tbnode::specs::Parts::part))]
+fn letters() -> u32
+    ensures { result ≡ 1296454722 }
+{
+    u32_at(&UNFINISHED, 0)
+}
+
+/// The version, which stands behind them.
+#[tactic(auto, unfolding(tbnode::specs::Parts::number_at, tbnode::specs::Parts::part))]
+fn version() -> u32
+    ensures { result ≡ 2 }
+{
+    u32_at(&UNFINISHED, 4)
+}
 
 /// Whether a payload is the header of a store that is not finished.
 fn is_unfinished(payload: &Payload) -> bool
@@ -35,8 +47,8 @@ fn is_finished(payload: &Payload) -> bool
 {
     match payload.kind {
         Kind::Header => {
-            u32_at(&payload.bytes, 0) == MAGIC
-                && u32_at(&payload.bytes, 4) == VERSION
+            u32_at(&payload.bytes, 0) == letters()
+                && u32_at(&payload.bytes, 4) == version()
                 && u32_at(&payload.bytes, 8) == FINISHED
         }
         _ => false,

@@ -1,23 +1,26 @@
 //! The legs of a lent store of version 1.
-ghost use Rattle.std.specs.Prelude.{ℕ, ◌≡◌, ◌≢◌, ◌-◌, ◌<◌, ◌^◌, List, Some, [], ◌⊎◌, None, IsErrOf, IfOk, IfErr, IsTrue, OnOk};
+ghost use Rattle.std.specs.Prelude.{ℕ, ◌≡◌, ◌≢◌, ◌+◌, ◌-◌, ◌<◌, ◌^◌, List, Some, [], ◌⊎◌, None, IsErrOf, IfOk, IfErr, IsTrue, OnOk};
 ghost use Rattle.legs.specs.Asking.{IsLater};
-ghost use Rattle.legs.specs.Index.{HasRisen};
+ghost use Rattle.legs.specs.Index.{HasRisen, MayRefuseLeg};
 ghost use Rattle.legs.specs.Legs.{LegView};
 ghost use Rattle.legs.specs.declared.index.IndexFault.{IndexFault};
 ghost use Rattle.pages.specs.Store.{Faulted, Stays};
 ghost use Rattle.pagecache.specs.Cache.{fresh, payload_of};
 ghost use Rattle.tbnode.specs.OldForm.{old_node_of};
-ghost use Rattle.tbtree.specs.Check.{ComeInTurn, HoldChains};
+ghost use Rattle.tbtree.specs.Check.{ComeInTurn, HoldChains, IsRising};
 ghost use Rattle.tbtree.specs.Descent.{legs_in};
+ghost use Rattle.boxsearch.specs.Checking.{Agree};
 ghost use Rattle.boxsearch.specs.Faults.{IsAllowed, IsCaused};
 ghost use Rattle.chains.specs.Reads.{OnlyReads};
-ghost use Rattle.boxsearch.specs.OldStore.{pages_of_old, unsealing, AreAmong, AreSurveyed, HaveLegsOf, IsNumbered, StandByOrdinal};
+ghost use Rattle.boxsearch.specs.OldStore.{pages_of_old, unsealing, AreAmong, AreOpened, AreReadable, AreSurveyed, HaveEachOf, HaveLegsOf, IsNumbered, IsReadable, Opens, StandByOrdinal};
 ghost use Rattle.boxsearch.specs.Walking.{after, pages_by, IsNextNode, Notes};
 ghost use Rattle.boxsearch.specs.declared.fault.SearchFault.{SearchFault};
+ghost use Rattle.boxsearch.specs.declared.walking.Met.{Met};
 
 use crate::answers::of_search;
-use crate::checking::{agree, is_whole, put_in_order};
+use crate::checking::{agree, is_whole};
 use crate::fault::SearchFault;
+use crate::ordering::sort_leaves;
 use crate::walking::{LeafReader, Met, Survey, Walk, take_next, walk_all};
 use legs::{IndexFault, Leg, LegIndex, Tracks};
 use pagecache::CacheFault;
@@ -154,6 +157,10 @@ fn survey_leaves<S: PageStore>(
     ensures surveyed { IfOk result (λ survey. IsTrue (S.seen store.old).is_faithful
         → AreSurveyed (pages_by old_node_of (fresh (S.seen store.old) 1)) most rows
         tracks.now.legs places.now tracks.now.tracks survey.leaves.items) }
+    ensures only { IfErr result (λ fault. IsTrue (S.seen store.old).is_faithful
+        → Agree tracks.now rows tracks.now.legs → (legs : List LegView)
+        → HoldChains (pages_by old_node_of (fresh (S.seen store.old) 1)) most rows tracks.now.legs
+        places.now tracks.now.tracks legs → IsAllowed fault) }
     ensures reads { OnlyReads (fresh (S.seen store.old) 1) (fresh (S.seen store.new) 1) }
     ensures caused { IfErr result
         (IsCaused (fresh (S.seen store.old) 1) (fresh (S.seen store.new) 1)) }
@@ -167,16 +174,15 @@ fn survey_leaves<S: PageStore>(
     if !agree(tracks, rows, legs) {
         return Err(SearchFault::Malformed(0));
     }
-    if !put_in_order(&mut survey) {
-        return Err(SearchFault::Malformed(0));
-    }
+    sort_leaves(&mut survey.leaves);
     Ok(survey)
 }
 
 /// Puts the legs of a leaf to those of opened leaves, by their ordinals.
 fn put_legs(leaf: &OldLeaf<'_>, opened: &mut Opened) -> Result<(), AllocFailed<(u64, Leg)>>
-    ensures { OnOk result ((legs : List LegView) → StandByOrdinal legs opened.old.entries
+    ensures stand { OnOk result ((legs : List LegView) → StandByOrdinal legs opened.old.entries
         → AreAmong leaf.now.legs legs → StandByOrdinal legs opened.new.entries) }
+    ensures opens { OnOk result (Opens leaf.now.legs opened.old.entries opened.new.entries) }
 {
     for i in 0..leaf.len() {
         let leg = leaf.leg(i);
@@ -192,6 +198,11 @@ fn open_leaf<S: PageStore>(store: &mut S, page: u32, opened: &mut Opened) -> Res
         → StandByOrdinal legs opened.old.entries
         → AreAmong (legs_in ((pages_by old_node_of (fresh (S.seen store.old) 1)).at page)) legs
         → StandByOrdinal legs opened.new.entries) }
+    ensures opens { OnOk result (IsTrue (S.seen store.old).is_faithful
+        → Opens (legs_in ((pages_by old_node_of (fresh (S.seen store.old) 1)).at page))
+        opened.old.entries opened.new.entries) }
+    ensures only { IfErr result (λ fault. IsTrue (S.seen store.old).is_faithful
+        → IsReadable (pages_by old_node_of (fresh (S.seen store.old) 1)) page → IsAllowed fault) }
     ensures stays { Stays (S.seen store.old) (S.seen store.new) }
     ensures caused { IfErr result
         (IsCaused (fresh (S.seen store.old) 1) (fresh (S.seen store.new) 1)) }
@@ -223,6 +234,15 @@ fn open_next<S: PageStore>(
         → StandByOrdinal legs opened.old.entries
         → HaveLegsOf (pages_by old_node_of (fresh (S.seen store.old) 1)) leaves.now legs
         → StandByOrdinal legs opened.new.entries) }
+    ensures on { IfOk result (λ later. IsTrue (S.seen store.old).is_faithful
+        → IsRising (λ (m : Met). m.first) leaves.now
+        → AreOpened (pages_by old_node_of (fresh (S.seen store.old) 1)) leaves.now next ordinal
+        ordinal opened.old.entries
+        → AreOpened (pages_by old_node_of (fresh (S.seen store.old) 1)) leaves.now later ordinal
+        (ordinal + 1) opened.new.entries) }
+    ensures only { IfErr result (λ fault. IsTrue (S.seen store.old).is_faithful
+        → AreReadable (pages_by old_node_of (fresh (S.seen store.old) 1)) leaves.now
+        → IsAllowed fault) }
     ensures stays { Stays (S.seen store.old) (S.seen store.new) }
     ensures caused { IfErr result
         (IsCaused (fresh (S.seen store.old) 1) (fresh (S.seen store.new) 1)) }
@@ -234,7 +254,7 @@ fn open_next<S: PageStore>(
                 return Ok(next);
             }
             open_leaf(store, leaf.page, opened)?;
-            Ok(next.saturating_add(1))
+            Ok(next + 1)
         }
         None => Ok(next),
     }
@@ -262,6 +282,13 @@ pub fn take_old_legs<S: PageStore, I: LegIndex>(
         → I.content index.old ≡ [] → I.is_sound index.new
         × HoldChains (pages_of_old (S.seen old.old)) most rows tracks.now.legs places.now
         tracks.now.tracks (I.content index.new)) }
+
+    // Whole chains are brought, but for memory, a store that failed, or a full one.
+    ensures only { IfErr result (λ fault. IsTrue (S.seen old.old).is_faithful
+        → I.is_sound index.old → I.content index.old ≡ []
+        → Agree tracks.now rows tracks.now.legs → (legs : List LegView)
+        → HoldChains (pages_of_old (S.seen old.old)) most rows tracks.now.legs places.now
+        tracks.now.tracks legs → MayRefuseLeg fault) }
 
     // The store is only read, and the index stays marked.
     ensures stays { Stays (S.seen old.old) (S.seen old.new) }
@@ -303,6 +330,11 @@ fn bring<S: PageStore, I: LegIndex>(
         → I.content index.old ≡ [] → (list : List LegView)
         → HaveLegsOf (pages_by old_node_of (fresh (S.seen old.old) 1)) leaves.now list
         → IsNumbered legs list → I.is_sound index.new × (I.content index.new ≡ list)) }
+    ensures only { IfErr result (λ fault. IsTrue (S.seen old.old).is_faithful
+        → I.is_sound index.old → I.content index.old ≡ [] → (list : List LegView)
+        → HaveLegsOf (pages_by old_node_of (fresh (S.seen old.old) 1)) leaves.now list
+        → HaveEachOf (pages_by old_node_of (fresh (S.seen old.old) 1)) leaves.now list
+        → IsNumbered legs list → MayRefuseLeg fault) }
     ensures stays { Stays (S.seen old.old) (S.seen old.new) }
     ensures marked { IsTrue (S.seen old.old).is_faithful → I.is_sound index.old
         → I.content index.old ≡ [] → I.is_marked index.old → (list : List LegView)

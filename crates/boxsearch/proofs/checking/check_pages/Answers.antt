@@ -1,4 +1,4 @@
-use Rattle.std.proofs.Common.{ℕ, ◌≡◌, ◌<◌, List, map, slice_get, Some, sym, ap, ◌∙◌, subst, arith, IsTrue}
+use Rattle.std.proofs.Common.{◌<◌, sym, ◌∙◌, subst}
 use Rattle.std.specs.List.{All}
 use Rattle.std.specs.List.Sorted.{IsPermutation}
 use Rattle.std.proofs.lemmas.Bool.{true≢false}
@@ -6,7 +6,7 @@ use Rattle.std.proofs.lemmas.List.Sorted.{IsPermutation-refl}
 use Rattle.std.proofs.lemmas.Result.{err_from_is_err_and}
 use Rattle.legs.specs.Boxes.{BoxView}
 use Rattle.legs.specs.Legs.{LegView}
-use Rattle.tbtree.specs.Check.{AreChains, IsChecked, IsOver}
+use Rattle.tbtree.specs.Check.{AreChains, IsOver}
 use Rattle.tbtree.specs.Nodes.{Pages, pages_of_cache}
 use Rattle.boxsearch.specs.Index.{SaysState}
 use Rattle.boxsearch.specs.Levels.{StandsOver, pages_of_leaves}

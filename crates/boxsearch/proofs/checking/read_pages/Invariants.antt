@@ -1,4 +1,4 @@
-use Rattle.std.proofs.Common.{ℕ, ◌≡◌, ◌≢◌, ◌<◌, None}
+use Rattle.std.proofs.Common.{ℕ, ◌≢◌, ◌<◌, None}
 use Rattle.std.specs.Prelude.{IsTrue}
 use Rattle.chains.specs.Reads.{OnlyReads}
 use Rattle.tbtree.specs.Nodes.{pages_of_cache}

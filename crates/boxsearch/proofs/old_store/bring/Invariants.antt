@@ -4,8 +4,10 @@ use Rattle.legs.specs.Legs.{LegView}
 use Rattle.pages.specs.Store.{Stays}
 use Rattle.pagecache.specs.Cache.{fresh}
 use Rattle.tbnode.specs.OldForm.{old_node_of}
-use Rattle.boxsearch.specs.OldStore.{HaveLegsOf, IsNumbered}
+use Rattle.tbtree.specs.Check.{IsRising}
+use Rattle.boxsearch.specs.OldStore.{AreOpened, HaveLegsOf, IsNumbered}
 use Rattle.boxsearch.specs.Walking.{pages_by}
+use Rattle.boxsearch.specs.declared.walking.Met.{Met}
 use Rattle.boxsearch.proofs.TakingLemmas.{Brought}
 use Rattle.boxsearch.proofs.old_store.bring.Given as goal
 
@@ -16,4 +18,6 @@ invariant-legs g l = record {
   brought : IsTrue (g.S.PageStore.seen l.initial.old).is_faithful → g.I.Listed.is_sound l.initial.index → g.I.Listed.content l.initial.index ≡ [] → (list : List LegView)
       → HaveLegsOf (pages_by old_node_of (fresh (g.S.PageStore.seen l.initial.old) 1)) l.leaves list → IsNumbered l.legs list
       → Brought g.I.Listed l.initial.index l.index l.opened.entries l.ordinal-counter list;
+  opened : IsTrue (g.S.PageStore.seen l.initial.old).is_faithful → IsRising (λ (m : Met). m.first) l.leaves
+      → AreOpened (pages_by old_node_of (fresh (g.S.PageStore.seen l.initial.old) 1)) l.leaves l.next l.ordinal-counter l.ordinal-counter l.opened.entries;
 }

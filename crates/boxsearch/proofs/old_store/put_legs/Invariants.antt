@@ -1,7 +1,11 @@
-use Rattle.std.specs.Prelude.{List}
+use Rattle.std.specs.Prelude.{ℕ, ◌≡◌, ◌<◌, List, Some, slice_get}
 use Rattle.legs.specs.Legs.{LegView}
-use Rattle.boxsearch.specs.OldStore.{AreAmong, StandByOrdinal}
+use Rattle.boxsearch.specs.OldStore.{AreAmong, IsOpened, StandByOrdinal}
 use Rattle.boxsearch.proofs.old_store.put_legs.Given as goal
 
 abbrev pub invariant-loop-i : goal.invariant-loop-i
-invariant-loop-i l = (legs : List LegView) → StandByOrdinal legs l.initial.opened.entries → AreAmong l.leaf.legs legs → StandByOrdinal legs l.opened.entries
+invariant-loop-i l = record {
+  stand : (legs : List LegView) → StandByOrdinal legs l.initial.opened.entries → AreAmong l.leaf.legs legs → StandByOrdinal legs l.opened.entries;
+  kept : (o : ℕ) → IsOpened l.initial.opened.entries o → IsOpened l.opened.entries o;
+  each : (j : ℕ) (leg : LegView) → j < l.i → slice_get l.leaf.legs j ≡ Some leg → IsOpened l.opened.entries leg.ordinal;
+}

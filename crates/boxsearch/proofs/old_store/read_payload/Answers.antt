@@ -1,4 +1,4 @@
-use Rattle.std.proofs.Common.{ℕ, ◌≡◌, ◌<◌, ◌∙◌, sym, ap, arith, subst}
+use Rattle.std.proofs.Common.{◌<◌, ◌∙◌, sym, ap, arith, subst}
 use Rattle.pages.specs.Unsealed.{unsealed}
 use Rattle.pages.specs.declared.payload.PageFault.TheVariants.{Damaged}
 use Rattle.pagecache.specs.Cache.{fresh}

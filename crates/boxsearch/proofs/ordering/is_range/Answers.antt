@@ -1,4 +1,4 @@
-use Rattle.std.proofs.Common.{ℕ, ◌≡◌, ◌+◌, ◌<◌, get_or, length, Some, slice_get, refl, sym, arith}
+use Rattle.std.proofs.Common.{◌≡◌, get_or, length, refl, sym, arith}
 use Rattle.std.proofs.lemmas.Bool.{true≢false}
 use Rattle.std.proofs.lemmas.Option.{slice_get-get_or}
 use Rattle.boxsearch.proofs.OrderLemmas.{below_more, range_at, range_from, at_less}

@@ -1,4 +1,4 @@
-use Rattle.std.proofs.Common.{ℕ, ◌≡◌, ◌+◌, ◌<◌, ◌≤◌, get_or, refl, sym, arith}
+use Rattle.std.proofs.Common.{refl, sym, arith}
 use Rattle.std.proofs.lemmas.Bool.{true≢false}
 use Rattle.boxsearch.proofs.OrderLemmas.{rising_more, rising_all, not_rising}
 use Rattle.boxsearch.proofs.ordering.rise.Goals as goal

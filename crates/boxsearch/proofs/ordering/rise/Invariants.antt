@@ -1,5 +1,4 @@
 use Rattle.std.proofs.Common.{◌≤◌}
-use Rattle.boxsearch.specs.declared.walking.Met.{Met}
 use Rattle.boxsearch.proofs.OrderLemmas.{IsRisingBelow}
 use Rattle.boxsearch.proofs.ordering.rise.Given as goal
 

@@ -1,4 +1,4 @@
-use Rattle.std.proofs.Common.{◌≡◌, ◌+◌, ◌∷◌, [], ◌++◌, drop, map, Some, slice_get, sym, ap, ◌∙◌, subst, append_assoc}
+use Rattle.std.proofs.Common.{◌≡◌, ◌+◌, ◌∷◌, [], ◌++◌, drop, map, sym, ap, ◌∙◌, subst, append_assoc}
 use Rattle.tbtree.specs.Check.{last_leg, ComeInTurn}
 use Rattle.boxsearch.proofs.WalkLemmas.{drop_at, turn_next, turn_first, turn_rest}
 use Rattle.boxsearch.proofs.walking.take_legs.Goals as goal

@@ -1,4 +1,3 @@
-use Rattle.std.proofs.Common.{◌≡◌}
 use Rattle.std.specs.Prelude.{IsTrue}
 use Rattle.chains.specs.Reads.{OnlyReads}
 use Rattle.boxsearch.specs.Walking.{pages_by}

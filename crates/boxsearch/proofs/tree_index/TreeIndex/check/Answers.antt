@@ -1,11 +1,11 @@
-use Rattle.std.proofs.Common.{◌≡◌, ◌<◌, length, sym, ap, ◌∙◌, subst, false, List, IsTrue}
+use Rattle.std.proofs.Common.{◌≡◌, ◌<◌, length, sym, ◌∙◌, subst, List, IsTrue}
 use Rattle.std.specs.Prelude.{IfErr, OnOk}
 use Rattle.legs.specs.Asking.{Leaves}
 use Rattle.legs.specs.Index.{MayRefuse}
 use Rattle.tbtree.specs.Check.{HoldLegs, IsChecked}
 use Rattle.tbtree.specs.Nodes.{pages_of_cache}
 use Rattle.tbtree.specs.declared.tree.Place.{Place}
-use Rattle.boxsearch.specs.Answers.{answered, of_search}
+use Rattle.boxsearch.specs.Answers.{of_search}
 use Rattle.boxsearch.specs.Checking.{Agree, AreTracksOf}
 use Rattle.boxsearch.specs.Faults.{IsAllowed}
 use Rattle.boxsearch.specs.Index.{IndexView, words, content, IsSound, SaysState}
