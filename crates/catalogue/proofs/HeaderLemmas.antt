@@ -31,6 +31,11 @@ pub payload_is : (shape : ShapeView) (limits : LimitsView) (bytes : List ℕ) (z
 unfolding header_payload zero_payload
 payload_is shape limits bytes zero set e z s = s ∙ ap (λ (p : Payload). record p { bytes = bytes ++ drop 60 p.bytes }) z ∙ ap (λ (l : List ℕ). record (zero_payload Header) { bytes = l ++ drop 60 (zero_payload Header).bytes }) e
 
+-- a store whose page 0 is the seal of a payload, alone, has that payload there
+pub first_stored : (a s : Store) (page : List ℕ) (p : Payload) → IsLawful a → a.count ≡ 0 → Writes 0 page a s → unsealed 0 page ≡ Some p → IsTrue a.is_faithful → stored_payload s 0 ≡ Some p
+unfolding stored_payload
+first_stored a s page p l empty w back f = ap (λ (pages : List (List ℕ)). option_and_then (unsealed 0) (slice_get pages 0)) (one_page a s page l empty w f) ∙ back
+
 -- a cache over a store whose page 0 is the seal of a payload, alone
 module _ (a s : Store) (page : List ℕ) (p : Payload) (capacity : ℕ) (l : IsLawful a) (empty : a.count ≡ 0) (w : Writes 0 page a s) (back : unsealed 0 page ≡ Some p) (written : IsWritten (fresh s capacity)) where
   abbrev cache : Cache

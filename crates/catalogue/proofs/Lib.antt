@@ -27,3 +27,4 @@ pub mod OldHeaderLemmas
 pub mod LentLemmas
 pub mod OldStoreLemmas
 pub mod OldBookLemmas
+pub mod MigrateLemmas

@@ -16,3 +16,4 @@ pub mod Building
 pub mod Fields
 pub mod OldStore
 pub mod OldReading
+pub mod Migrating

@@ -1,12 +1,13 @@
 //! A new store.
-ghost use Rattle.std.specs.Prelude.{◌≡◌, ◌<◌, [], Some, false, IfOk, IfErr, IsTrue, OnErr, OnOk};
+ghost use Rattle.std.specs.Prelude.{◌≡◌, ◌<◌, ◌⊎◌, [], Some, false, IfOk, IfErr, IsTrue, OnErr, OnOk};
 ghost use Rattle.pages.specs.Sealed.{sealed};
 ghost use Rattle.pages.specs.Unsealed.{unsealed};
-ghost use Rattle.pages.specs.Store.{Keeps, Writes};
+ghost use Rattle.pages.specs.Store.{Faulted, Keeps, Writes};
 ghost use Rattle.pagecache.specs.Cache.{IsClean, IsWritten, payload_of};
 ghost use Rattle.boxsearch.specs.Index.{content, IsMarked, IsSound};
 ghost use Rattle.catalogue.specs.Beginning.{IsAllowed, IsCaused, IsLeft, IsFirst};
 ghost use Rattle.catalogue.specs.Header.{header_payload};
+ghost use Rattle.catalogue.specs.Migrating.{IsLeftOver};
 
 use crate::header::new_payload;
 use boxsearch::TreeIndex;
@@ -24,6 +25,8 @@ fn write_first<S: PageStore>(store: &mut S, payload: &Payload) -> Result<(), Cac
     ensures reads_back { OnOk result (unsealed 0 (sealed 0 payload.now) ≡ Some payload.now) }
     ensures keeps { Keeps (S.seen store.old) (S.seen store.new) }
     ensures left { OnErr result (IsFirst payload.now (S.seen store.old) (S.seen store.new)) }
+    ensures unwritten { OnErr result (IsTrue (S.seen store.old).is_faithful
+        → ((S.seen store.new).pages ≡ []) ⊎ Faulted (S.seen store.old) (S.seen store.new)) }
     ensures only { IfErr result IsAllowed }
     ensures caused { IfErr result (IsCaused (S.seen store.old) (S.seen store.new)) }
 {
@@ -71,6 +74,8 @@ pub fn begin<S: PageStore>(
     ensures kept { IfErr result (λ back. Keeps (S.seen store) (S.seen back.0)) }
     ensures left { IfErr result (λ back. IsLeft shape limits.now (S.seen store)
         (S.seen back.0)) }
+    ensures over { IfErr result (λ back. IsTrue (S.seen store).is_faithful
+        → IsLeftOver (S.seen store) (S.seen back.0)) }
 {
     let mut store = store;
     let payload = match new_payload(alloc, &shape, limits) {

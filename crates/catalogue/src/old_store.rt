@@ -1,5 +1,5 @@
 //! The catalogue of a finished store of version 1, which is lent and read.
-ghost use Rattle.std.specs.Prelude.{◌≡◌, List, Option, IsTrue, IfErr, IfOk};
+ghost use Rattle.std.specs.Prelude.{◌≡◌, ◌≤◌, List, None, Option, IsTrue, IfErr, IfOk};
 ghost use Rattle.legs.specs.Book.{Book};
 ghost use Rattle.legs.specs.Costs.{ShapeView};
 ghost use Rattle.legs.specs.Limits.{LimitsView};
@@ -48,6 +48,9 @@ pub(crate) struct OldRestored {
 fn read_old_header<S: PageStore>(lent: &mut S) -> Result<OldFields, CatalogueFault>
     ensures says { IfOk result (λ old. IsTrue (S.seen lent.old).is_faithful
         → SaysOldFields (S.seen lent.old).count (stored_payload (S.seen lent.old) 0) old) }
+    ensures leaf { IfOk result (λ old. 2 ≤ old.leaf) }
+    ensures finished { IfOk result (λ old. IsTrue (S.seen lent.old).is_faithful
+        → old_first_fault (S.seen lent.old).count (stored_payload (S.seen lent.old) 0) ≡ None) }
     ensures first { IfErr result (λ e. IsTrue (S.seen lent.old).is_faithful → ComesFirst
         (old_first_fault (S.seen lent.old).count (stored_payload (S.seen lent.old) 0)) e) }
     ensures broken { IfErr result (λ e. IsTrue (S.seen lent.old).is_faithful → (IsStop e → ⊥)
@@ -142,6 +145,8 @@ pub(crate) fn read_old<S: PageStore, T: PageStore>(
         → IsTrue cache.old.store.is_faithful → AnswersOld (stored_payload (S.seen lent.old))
         (S.seen lent.old).count r.catalogue r.leaf r.shape r.places.items) }
 
+    ensures leaf { IfOk result (λ r. 2 ≤ r.leaf) }
+
     // A store whose pages hold a book is read, and gives that book but for its legs.
     ensures book { IfOk result (λ r. IsTrue (S.seen lent.old).is_faithful
         → IsTrue cache.old.store.is_faithful
@@ -157,6 +162,8 @@ pub(crate) fn read_old<S: PageStore, T: PageStore>(
     // Page 0 comes first.
     ensures first { IfErr result (λ e. IsTrue (S.seen lent.old).is_faithful → ComesFirst
         (old_first_fault (S.seen lent.old).count (stored_payload (S.seen lent.old) 0)) e) }
+    ensures finished { IfOk result (λ r. IsTrue (S.seen lent.old).is_faithful
+        → old_first_fault (S.seen lent.old).count (stored_payload (S.seen lent.old) 0) ≡ None) }
     ensures broken { IfErr result (λ e. IsTrue (S.seen lent.old).is_faithful
         → IsTrue cache.old.store.is_faithful → (IsStop e → ⊥)
         → (c : CatalogueView) (tree : TbTree) (places : List Place)

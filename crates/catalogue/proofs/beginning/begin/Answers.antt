@@ -1,10 +1,11 @@
-use Rattle.std.proofs.Common.{◌≡◌, ap, sym, subst, ◌∙◌, arith, IsTrue, Some}
+use Rattle.std.proofs.Common.{inl, inr, ◌≡◌, ap, sym, subst, ◌∙◌, arith, IsTrue, Some}
 use Rattle.tbtree.specs.Nodes.{pages_of_cache}
 use Rattle.chains.specs.Chains.{AreHeld}
 use Rattle.pagecache.specs.Cache.{Cache, IsWritten, fresh, payload_of}
 use Rattle.boxsearch.specs.Index.{IndexView, IsMarked, IsUnfinished}
 use Rattle.catalogue.specs.Header.{header_payload}
-use Rattle.catalogue.proofs.HeaderLemmas.{header_unfinished, held, marked, payload}
+use Rattle.catalogue.specs.Holding.{IsUnfinishedStore}
+use Rattle.catalogue.proofs.HeaderLemmas.{first_stored, header_unfinished, held, marked, payload}
 use Rattle.catalogue.proofs.beginning.begin.Goals as goal
 
 pub returns-in-Ok-new-clause-sound : goal.returns-in-Ok-new-clause-sound
@@ -37,3 +38,13 @@ returns-in-Ok-new-clause-header g c = λ f.
     let written : IsWritten (fresh s c.args.cache_pages) = subst (λ v. IsWritten v) c.in-Ok-new.ensures.fresh c.in-Ok-new.ensures.written in
     subst (λ v. payload_of v 0 ≡ Some (header_payload c.args.shape c.args.limits.now)) (sym c.in-Ok-new.ensures.fresh ∙ sym (ap (λ (i : IndexView). i.cache) c.new-in-Ok-new.ensures.value))
     (payload a s _ c.in-Ok.payload c.args.cache_pages (g.met.S.PageStore.lawful c.args.store) c.requires.empty c.in-Ok-write_first.ensures.written c.in-Ok-write_first.ensures.reads_back written f ∙ ap Some c.in-Ok.ensures)
+
+pub returns-in-Err-new-clause-over : goal.returns-in-Err-new-clause-over
+returns-in-Err-new-clause-over g c = λ f.
+    let a = g.S.PageStore.seen c.args.store in
+    let s = g.S.PageStore.seen c.write_first.new.store in
+    let w = c.in-Ok-write_first.ensures in
+    let is = first_stored a s _ c.in-Ok.payload (g.met.S.PageStore.lawful c.args.store) c.requires.empty w.written w.reads_back f in
+    let unfinished : IsUnfinished c.in-Ok.payload = subst (λ p. IsUnfinished p) (sym c.in-Ok.ensures) (header_unfinished c.args.shape c.args.limits.now) in
+    let left : IsUnfinishedStore s = record { payload = c.in-Ok.payload; is = is; unfinished = unfinished } in
+    inr (inl (subst (λ store. IsUnfinishedStore (g.S.PageStore.seen store)) (sym c.in-Err-new.ensures.back) left))

@@ -1,0 +1,47 @@
+-- A store of version 1 that is brought over into a new store.
+use Rattle.std.specs.Prelude.{ℕ, ◌≡◌, ◌≤◌, ◌⊎◌, List, []}
+use Rattle.legs.specs.declared.index.IndexFault.{IndexFault}
+use Rattle.legs.specs.declared.index.IndexFault.TheVariants as index
+use Rattle.pages.specs.Store.{Store as StoreView, Faulted}
+use Rattle.pagecache.specs.Cache.{stored_payload}
+use Rattle.tbtree.specs.Check.{HoldChains}
+use Rattle.tbtree.specs.declared.tree.Place.{Place}
+use Rattle.boxsearch.specs.Index.{content, IndexView, IsSound}
+use Rattle.boxsearch.specs.OldStore.{pages_of_old}
+use Rattle.catalogue.specs.Holding.{IsUnfinishedStore}
+use Rattle.catalogue.specs.OldStore.{AnswersOld}
+use Rattle.catalogue.specs.Saved.{CatalogueView}
+use Rattle.catalogue.specs.declared.fault.CatalogueFault.{CatalogueFault}
+use Rattle.catalogue.specs.declared.fault.CatalogueFault.TheVariants.{Memory, Store, StoreFull, Damaged, Unfinished, Version, Malformed}
+
+-- how a fault of bringing legs over is answered
+abbrev pub brought_fault : IndexFault → CatalogueFault
+brought_fault index.Memory = Memory
+brought_fault index.Store = Store
+brought_fault (index.Damaged page) = Damaged page
+brought_fault index.StoreFull = StoreFull
+brought_fault index.Spent = Malformed
+
+-- what the pages of a finished store of version 1 keep is brought over: the catalogue, the shape that comes nearest, and
+-- the list of legs that the chains of its features hold, of which the index is sound
+pub record IsBrought (s : StoreView) (c : CatalogueView) (index : IndexView) : Type 0 where
+  pub leaf : ℕ
+  pub places : List Place
+  pub kept : AnswersOld (stored_payload s) s.count c leaf index.tree.shape places
+  pub sound : IsSound index
+  pub legs : HoldChains (pages_of_old s) leaf c.tracks.rows c.tracks.legs places c.tracks.tracks (content index)
+
+-- what is left of an empty store into which nothing was brought over: it has no page, or a page 0 of a store that is
+-- not finished, or page 0 alone, whose write failed
+abbrev pub IsLeftOver : StoreView → StoreView → Type 0
+IsLeftOver old new = (new.pages ≡ []) ⊎ (IsUnfinishedStore new ⊎ ((new.count ≤ 1) × Faulted old new))
+
+-- one of two stores failed where that is said, and the second, which is new, is full where that is said
+abbrev pub IsMigratingFault : (old after new left : StoreView) → CatalogueFault → Type 0
+IsMigratingFault old after new left Memory = Unit {0}
+IsMigratingFault old after new left Store = Faulted old after ⊎ Faulted new left
+IsMigratingFault old after new left StoreFull = left.count ≡ left.most
+IsMigratingFault old after new left (Damaged page) = Unit {0}
+IsMigratingFault old after new left Unfinished = Unit {0}
+IsMigratingFault old after new left Version = Unit {0}
+IsMigratingFault old after new left Malformed = Unit {0}
