@@ -22,14 +22,15 @@ use Rattle.legs.specs.Asking.{Leaves as IndexLeaves}
 use Rattle.trajdb.specs.Calls.{IsLoadFault, KeepsPages}
 use Rattle.trajdb.specs.Database.{catalogue_of, restored}
 use Rattle.trajdb.specs.Db.{DbView, HasPages, IsSound}
+use Rattle.trajdb.specs.Db.{IsAllowed as IsAllowedOpening}
 use Rattle.trajdb.specs.Faults.{closed_answer, opened_fault_of}
 use Rattle.trajdb.specs.Lasting.{HasBook, IsFaultless, IsIdle, IsStop, IsTrulyDamaged}
 
 -- a book that is answered is that of the database
-pub opened_book : (shape : ShapeView) (limits : LimitsView) (book : Book) (c : CatalogueView) (index : IndexView) (db : DbView) → db ≡ restored words c index → IsLimits db.limits → AnswersBook shape limits book c index → HasBook shape limits book db
-opened_book shape limits book c index db is lawful answers =
+pub opened_book : (shape : ShapeView) (limits : LimitsView) (book : Book) (c : CatalogueView) (index : IndexView) (begun : Bool) (db : DbView) → db ≡ restored words c index begun → IsLimits db.limits → AnswersBook shape limits book c index → HasBook shape limits book db
+opened_book shape limits book c index begun db is lawful answers =
     let of = answers.of in
-    let same : (restored words c index).book ≡ book = (λ i. record { head = of.head i; names = of.tracks.names i; legs = answers.legs i; rows = of.rows i }) in
+    let same : (restored words c index begun).book ≡ book = (λ i. record { head = of.head i; names = of.tracks.names i; legs = answers.legs i; rows = of.rows i }) in
     let all : db.book ≡ book = ap (λ (d : DbView). d.book) is ∙ same in
     let limits_are : db.limits ≡ limits = ap (λ (d : DbView). d.limits) is ∙ of.limits_are in
     record {
@@ -63,6 +64,16 @@ stopped (Damaged page) h = h
 stopped Unfinished h = h
 stopped Version h = h
 stopped Malformed h = h
+
+-- and so does a new store that is full
+pub allowed_opening : (e : CatalogueFault) → IsAllowed e → IsAllowedOpening (opened_fault_of e)
+allowed_opening Memory h = tt
+allowed_opening fault.Store h = tt
+allowed_opening StoreFull h = tt
+allowed_opening (Damaged page) h = h
+allowed_opening Unfinished h = h
+allowed_opening Version h = h
+allowed_opening Malformed h = h
 
 -- a database that is as a question leaves it is at rest where it was
 pub keeps_idle : ((c : CatalogueView) (a b : IndexView) → IsAtRest c a → IndexLeaves words a b → IsAtRest c b) → (old new : DbView) → KeepsPages words old new → IsIdle old → IsIdle new

@@ -27,14 +27,15 @@ pub record CoreView (I : Type 0) : Type 0 where
   pub begun : Bool
   pub failed : Bool
 
--- a database of a catalogue and the index of its legs, into which no file was accepted since it was made
-abbrev pub restored : {I : Type 0} → Ghosts I → CatalogueView → I → CoreView I
-restored g c index = record {
+-- a database of a catalogue and the index of its legs, which was made, or into which no file was accepted since it was
+-- opened
+abbrev pub restored : {I : Type 0} → Ghosts I → CatalogueView → I → Bool → CoreView I
+restored g c index begun = record {
   index = index;
   tracks = c.tracks;
   book = record { head = c.head; names = c.tracks.names; legs = g.content index; rows = c.rows };
   limits = c.limits;
-  begun = false;
+  begun = begun;
   failed = false;
 }
 

@@ -85,3 +85,13 @@ IsClosingFault db new (run.Damaged page) = Unit {0}
 IsClosingFault db new run.StoreFull = new.count ≡ new.most
 IsClosingFault db new run.Failed = db.failed ≡ true
 IsClosingFault db new run.Output = ⊥
+
+-- one of two stores failed where that is said, and the second, which is new, is full where that is said
+abbrev pub IsMigratingFault : (old after new left : Store) → OpenFault → Type 0
+IsMigratingFault old after new left Memory = Unit {0}
+IsMigratingFault old after new left StoreFailed = Faulted old after ⊎ Faulted new left
+IsMigratingFault old after new left (Damaged page) = Unit {0}
+IsMigratingFault old after new left StoreFull = left.count ≡ left.most
+IsMigratingFault old after new left Unfinished = Unit {0}
+IsMigratingFault old after new left Version = Unit {0}
+IsMigratingFault old after new left Malformed = Unit {0}

@@ -26,9 +26,10 @@ impl<I: Start> Core<I> {
     ghost use Rattle.legs.specs.Limits.{IsLimits};
     ghost use Rattle.trajdb.specs.Database.{catalogue_of, restored};
 
-    /// A database of a catalogue that was read back and the index of its legs, into which no file was accepted since.
-    fn restored(catalogue: Catalogue, index: I) -> Core<I>
-        ensures core { result ≡ restored I.Listed catalogue index }
+    /// A database of a catalogue and the index of its legs: one that was made, or one that was opened
+    /// and into which no file was accepted since.
+    pub(crate) fn restored(catalogue: Catalogue, index: I, begun: bool) -> Core<I>
+        ensures core { result ≡ restored I.Listed catalogue index begun }
         ensures limits { IsLimits result.limits }
     {
         let Catalogue {
@@ -44,7 +45,7 @@ impl<I: Start> Core<I> {
             tracks,
             rows,
             limits,
-            begun: false,
+            begun,
             failed: false,
         }
     }
@@ -140,7 +141,7 @@ impl<S: PageStore> Db<S> {
         catalogue::laws();
         match catalogue::open(alloc, keys, store, cache_pages) {
             Ok((catalogue, index)) => Ok(Db {
-                core: Core::restored(catalogue, index),
+                core: Core::restored(catalogue, index, false),
             }),
             Err((store, fault)) => Err((store, OpenFault::from(fault))),
         }

@@ -131,7 +131,7 @@ fn a_store_that_is_abandoned_is_unfinished(rt: HostRuntime) -> Result<(), Fail> 
 }
 
 /// Page 0 sealed again with other bytes at these places of its payload.
-fn change(store: &mut MemStore, bytes: &[(usize, u8)]) -> Option<()> {
+pub(crate) fn change(store: &mut MemStore, bytes: &[(usize, u8)]) -> Option<()> {
     if store.len() == 0 {
         return None;
     }

@@ -10,6 +10,7 @@ mod db;
 mod files;
 mod lasting;
 mod load;
+mod migrating;
 mod output;
 mod questions;
 mod script;
@@ -235,6 +236,10 @@ mod failing_tests;
 #[cfg(test)]
 mod lasting_tests;
 #[cfg(test)]
+mod migrating_tests;
+#[cfg(test)]
 mod page_tests;
 #[cfg(test)]
 mod tests;
+#[cfg(test)]
+mod version_1;

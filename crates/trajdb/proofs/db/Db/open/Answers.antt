@@ -1,4 +1,4 @@
-use Rattle.std.proofs.Common.{sym, subst}
+use Rattle.std.proofs.Common.{sym, subst, false}
 use Rattle.pagecache.specs.Cache.{stored_payload}
 use Rattle.trajdb.specs.Lasting.{IsStop, IsTrulyDamaged}
 use Rattle.trajdb.proofs.LastingLemmas.{damaged_still, opened_book, stopped}
@@ -6,7 +6,7 @@ use Rattle.trajdb.proofs.db.Db.open.Goals as goal
 
 pub returns-in-Ok-clause-book : goal.returns-in-Ok-clause-book
 returns-in-Ok-clause-book g c = λ fa shape limits book h.
-    opened_book shape limits book c.in-Ok.catalogue c.in-Ok.index c.restored.result c.restored.ensures.core c.restored.ensures.limits (c.in-Ok.ensures.book fa shape limits book h)
+    opened_book shape limits book c.in-Ok.catalogue c.in-Ok.index false c.restored.result c.restored.ensures.core c.restored.ensures.limits (c.in-Ok.ensures.book fa shape limits book h)
 
 pub returns-in-Err-clause-holds : goal.returns-in-Err-clause-holds
 returns-in-Err-clause-holds g c = λ fa shape limits book h.

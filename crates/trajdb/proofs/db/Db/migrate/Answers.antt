@@ -1,0 +1,13 @@
+use Rattle.std.proofs.Common.{sym, subst, true}
+use Rattle.catalogue.specs.OldStore.{present_shape}
+use Rattle.trajdb.specs.Db.{IsAllowed}
+use Rattle.trajdb.proofs.LastingLemmas.{allowed_opening, opened_book}
+use Rattle.trajdb.proofs.db.Db.migrate.Goals as goal
+
+pub returns-in-Ok-clause-book : goal.returns-in-Ok-clause-book
+returns-in-Ok-clause-book g c = λ fa fb shape limits book h.
+    opened_book (present_shape shape) limits book c.in-Ok.catalogue c.in-Ok.index true c.restored.result c.restored.ensures.core c.restored.ensures.limits (c.in-Ok.ensures.book fa fb shape limits book h)
+
+pub returns-in-Err-clause-holds : goal.returns-in-Err-clause-holds
+returns-in-Err-clause-holds g c = λ fa fb shape limits book h.
+    subst IsAllowed (sym c.from.ensures) (allowed_opening c.in-Err.fault (c.in-Err.ensures.holds fa fb shape limits book h))

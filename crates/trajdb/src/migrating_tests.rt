@@ -1,0 +1,312 @@
+//! A store of version 1 that is brought over.
+use super::*;
+use crate::lasting_tests::{change, opened, said};
+use crate::version_1::version_1;
+use pages::{Fuse, MemStore, PageStore};
+use std::alloc::Global;
+use std::hash::RandomState;
+use std::test::Fail;
+
+/// The questions of the example.
+const QUESTIONS: &str = "\
+count
+legs ever 11.5 2.5 13 4 2012-01-17T12:33:41Z 2012-01-17T12:37:00Z
+features crosses 11.5 2.5 13 4 2012-01-17T12:33:41Z 2012-01-17T12:37:00Z
+legs enters 11.5 2.5 13 4 2012-01-17T12:33:41Z 2012-01-17T12:37:00Z
+legs leaves 11.5 2.5 13 4 2012-01-17T12:33:41Z 2012-01-17T12:37:00Z
+legs crosses 11.5 2.5 13 4 2012-01-17T12:33:41Z 2012-01-17T12:37:00Z
+features always 10 2 11 3 2012-01-17T12:33:41Z 2012-01-17T12:37:00Z
+features enters 10 2 11 3 2012-01-17T12:33:41Z 2012-01-17T12:37:00Z
+features ever 10 2 11 3 2012-01-17T12:33:41Z 2012-01-17T12:37:00Z
+write
+load S1.csv
+";
+
+const ANSWERS: &str = "\
+ok 1
+5,3
+ok 2
+a,10,150,11 2 12 3,walking,1
+a,150,190,12 3 10 3,walking,2
+ok 1
+a
+ok 1
+a,10,150,11 2 12 3,walking,1
+ok 1
+a,150,190,12 3 10 3,walking,2
+ok 0
+ok 1
+b
+ok 1
+c
+ok 3
+a
+b
+c
+ok 7
+@stboundedby,urn:x-ogc:def:crs:EPSG:6.6:4326,2D,10 1,12 3,2012-01-17T12:33:41.000Z,2012-01-17T12:36:51.000Z,sec
+@columns,mfidref,trajectory,state,xsd:token,type code,xsd:integer
+a,10,150,11 2 12 3,walking,1
+b,10,190,10 2 11 3,walking,2
+a,150,190,12 3 10 3,walking,2
+c,10,100,12 1 10 2,vehicle,1
+c,100,190,10 2 11 3,vehicle,1
+refused F18 at 3
+";
+
+/// A store of version 1 brought over into another one, with so many pages in memory, or why it is
+/// not, with what is left.
+fn migrated<S: PageStore, T: PageStore + Drop>(
+    alloc: Global,
+    keys: RandomState,
+    old: &mut S,
+    new: T,
+    cache_pages: usize,
+) -> Result<Db<T>, (T, OpenFault)> {
+    if new.len() != 0 {
+        return Err((new, OpenFault::Malformed));
+    }
+    Db::migrate(alloc, keys, old, new, cache_pages.max(1))
+}
+
+/// Whether two stores have the same pages.
+fn are_same(a: &mut MemStore, b: &mut MemStore) -> Option<bool> {
+    if a.len() != b.len() {
+        return Some(false);
+    }
+    let (mut left, mut right) = ([0; 4096], [0; 4096]);
+    for number in 0..a.len() {
+        if number < a.len() && number < b.len() {
+            a.read(number, &mut left).ok()?;
+            b.read(number, &mut right).ok()?;
+            if left != right {
+                return Some(false);
+            }
+        }
+    }
+    Some(true)
+}
+
+#[test]
+fn the_example_is_brought_over(rt: HostRuntime) -> Result<(), Fail> {
+    let (alloc, keys) = (rt.alloc(), RandomState::new(&rt)?);
+    let mut old = version_1(alloc).ok_or("no store")?;
+    let new = MemStore::new(alloc, 100);
+    let mut db = migrated(alloc, keys, &mut old, new, 1).map_err(|_| "not brought over")?;
+    let (text, answer) = said(alloc, &mut db, QUESTIONS);
+    assert!(rt; answer == Ok(()) && text.as_slice() == ANSWERS.as_bytes());
+
+    // They are kept, and the store passes a check, which the old one was not changed by.
+    let (store, answer) = db.close(alloc);
+    assert!(rt; answer == Ok(()) && store.len() == 6);
+    let mut db = opened(alloc, keys, store, 2).map_err(|_| "not opened")?;
+    let (text, answer) = said(alloc, &mut db, QUESTIONS);
+    assert!(rt; answer == Ok(()) && text.as_slice() == ANSWERS.as_bytes());
+    assert!(rt;
+        db.check()
+            == Ok(Report {
+                pages: 6,
+                legs: 5,
+                features: 3
+            })
+    );
+    let mut same = version_1(alloc).ok_or("no store")?;
+    assert!(rt; are_same(&mut old, &mut same) == Some(true));
+
+    // What was brought over is of the present version.
+    let mut store = db.abandon();
+    let new = MemStore::new(alloc, 100);
+    let fault = migrated(alloc, keys, &mut store, new, 1).map_err(|back| back.1);
+    assert!(rt; fault.err() == Some(OpenFault::Version));
+    Ok(())
+}
+
+#[test]
+fn a_store_of_version_1_is_not_opened(rt: HostRuntime) -> Result<(), Fail> {
+    let (alloc, keys) = (rt.alloc(), RandomState::new(&rt)?);
+    let store = version_1(alloc).ok_or("no store")?;
+    assert!(rt; opened(alloc, keys, store, 256).err() == Some(OpenFault::Version));
+    Ok(())
+}
+
+/// What is left of a new store into which nothing was brought over.
+#[derive(Clone, Copy, PartialEq, Eq, Debug)]
+enum Left {
+    /// No page.
+    Nothing,
+    /// A store that is not finished.
+    Unfinished,
+    /// Page 0 alone.
+    First,
+    /// Anything else.
+    More,
+}
+
+fn what_is_left<T: PageStore + Drop>(alloc: Global, keys: RandomState, store: T) -> Left {
+    let pages = store.len();
+    match opened(alloc, keys, store, 1).err() {
+        _ if pages == 0 => Left::Nothing,
+        Some(OpenFault::Unfinished) => Left::Unfinished,
+        _ if pages == 1 => Left::First,
+        _ => Left::More,
+    }
+}
+
+/// Why a store of version 1 is not brought over into one with room for so many pages, and what is
+/// left of that.
+fn refused<S: PageStore>(
+    alloc: Global,
+    keys: RandomState,
+    old: &mut S,
+    most: u32,
+) -> Option<(OpenFault, Left)> {
+    match migrated(alloc, keys, old, MemStore::new(alloc, most), 1) {
+        Ok(_) => None,
+        Err((new, fault)) => Some((fault, what_is_left(alloc, keys, new))),
+    }
+}
+
+#[test]
+fn page_0_is_tested_first(rt: HostRuntime) -> Result<(), Fail> {
+    let (alloc, keys) = (rt.alloc(), RandomState::new(&rt)?);
+    // The magic, the version and the state.
+    let cases: [(&[(usize, u8)], OpenFault); 4] = [
+        (&[(0, 0), (11, 0)], OpenFault::Malformed),
+        (&[(7, 2), (11, 0)], OpenFault::Version),
+        (&[(11, 0)], OpenFault::Unfinished),
+        (&[(11, 2)], OpenFault::Malformed),
+    ];
+    for (bytes, fault) in cases {
+        let mut old = version_1(alloc).ok_or("no store")?;
+        assert!(rt; change(&mut old, bytes).is_some());
+        assert!(rt; refused(alloc, keys, &mut old, 100) == Some((fault, Left::Nothing)));
+    }
+    let mut none = MemStore::new(alloc, 10);
+    let told = refused(alloc, keys, &mut none, 100);
+    assert!(rt; told == Some((OpenFault::Malformed, Left::Nothing)));
+    Ok(())
+}
+
+#[test]
+fn a_page_that_is_damaged_is_said(rt: HostRuntime) -> Result<(), Fail> {
+    let (alloc, keys) = (rt.alloc(), RandomState::new(&rt)?);
+    // Page 0 and the catalogue are read before the new store is begun, the leaves after it, and
+    // the root not at all.
+    for (page, left) in [
+        (0, Some(Left::Nothing)),
+        (1, Some(Left::Unfinished)),
+        (2, Some(Left::Unfinished)),
+        (3, None),
+        (4, Some(Left::Unfinished)),
+        (5, Some(Left::Nothing)),
+    ] {
+        let mut old = version_1(alloc).ok_or("no store")?;
+        if page < old.len() {
+            old.set_byte(page, 100, 1);
+        }
+        let told = refused(alloc, keys, &mut old, 100);
+        let wanted = left.map(|left| (OpenFault::Damaged(page), left));
+        assert!(rt; told == wanted, "{page}: {told:?}");
+    }
+    Ok(())
+}
+
+#[test]
+fn a_new_store_may_be_full(rt: HostRuntime) -> Result<(), Fail> {
+    let (alloc, keys) = (rt.alloc(), RandomState::new(&rt)?);
+    for most in 0..7 {
+        let mut old = version_1(alloc).ok_or("no store")?;
+        let told = refused(alloc, keys, &mut old, most);
+        let wanted = match most {
+            0 => Some((OpenFault::StoreFull, Left::Nothing)),
+            // Page 0, three leaves and the root.
+            1..5 => Some((OpenFault::StoreFull, Left::Unfinished)),
+            _ => None,
+        };
+        assert!(rt; told == wanted, "{most}: {told:?}");
+    }
+    Ok(())
+}
+
+/// Why nothing is brought over where one of the two stores fails once, or for good, when so many of
+/// its calls have passed, and what is left.
+fn fused(
+    alloc: Global,
+    keys: RandomState,
+    (calls, once, is_old): (u64, bool, bool),
+) -> Option<Option<(OpenFault, Left)>> {
+    let old = version_1(alloc)?;
+    let new = MemStore::new(alloc, 100);
+    if is_old {
+        let mut old = Fuse::new(old, calls, once);
+        return Some(refused(alloc, keys, &mut old, 100));
+    }
+    let mut old = old;
+    match migrated(alloc, keys, &mut old, Fuse::new(new, calls, once), 1) {
+        Ok(_) => Some(None),
+        Err((new, fault)) => Some(Some((fault, what_is_left(alloc, keys, new.into_inner())))),
+    }
+}
+
+#[test]
+fn each_call_of_either_store_may_fail(rt: HostRuntime) -> Result<(), Fail> {
+    let (alloc, keys) = (rt.alloc(), RandomState::new(&rt)?);
+    for (once, is_old) in [(true, true), (false, true), (true, false), (false, false)] {
+        let mut whole = 0u32;
+        for calls in 0..60 {
+            let told = fused(alloc, keys, (calls, once, is_old)).ok_or("no store")?;
+            match told {
+                None => whole = whole.saturating_add(1),
+                Some((fault, left)) => {
+                    assert!(rt;
+                        fault == OpenFault::Store && left != Left::More && whole == 0,
+                        "{calls}: {told:?}"
+                    );
+                }
+            }
+        }
+        // Page 0, the catalogue, and three leaves twice, are eight calls of the old store.
+        assert!(rt; if is_old { whole == 52 } else { 0 < whole && whole < 55 }, "{whole}");
+    }
+    Ok(())
+}
+
+/// Why a store is not brought over, or how many legs and features are counted once it is: `Failed`
+/// where these are not the example's.
+fn counted(
+    alloc: Global,
+    keys: RandomState,
+    old: &mut MemStore,
+) -> Result<Result<(), RunFault>, OpenFault> {
+    let mut db = match migrated(alloc, keys, old, MemStore::new(alloc, 100), 1) {
+        Ok(db) => db,
+        Err((_, fault)) => return Err(fault),
+    };
+    let (text, answer) = said(alloc, &mut db, "count");
+    if answer == Ok(()) && text.as_slice() != b"ok 1\n5,3\n".as_slice() {
+        return Ok(Err(RunFault::Failed));
+    }
+    Ok(answer)
+}
+
+/// Passes wherever memory runs out, too; it is run with each allocation refused in turn.
+#[test]
+fn no_wrong_store_without_memory(rt: HostRuntime) -> Result<(), Fail> {
+    let alloc = rt.alloc();
+    let keys = match RandomState::new(&rt) {
+        Ok(keys) => keys,
+        Err(_) => RandomState::new(&rt)?,
+    };
+    let Some(mut old) = version_1(alloc) else {
+        return Ok(());
+    };
+    let told = counted(alloc, keys, &mut old);
+    // A store in memory fails where it finds no room for a page.
+    assert!(rt;
+        match told {
+            Ok(answer) => answer == Ok(()) || answer == Err(RunFault::Memory),
+            Err(fault) => fault == OpenFault::Memory || fault == OpenFault::Store,
+        }
+    );
+    Ok(())
+}
