@@ -1,5 +1,5 @@
 -- What a run of the program sends, and what its store then holds.
-use Rattle.std.proofs.Common.{ℕ, ◌≡◌, ◌∙◌, ap, sym, length, false, IsTrue, List, Option, Some, Result, Ok, Err, subst}
+use Rattle.std.proofs.Common.{ℕ, ◌≡◌, ◌∙◌, ap, sym, length, true, false, IsTrue, List, Option, Some, Result, Ok, Err, subst}
 use Rattle.std.specs.Prelude.{IfOk, OnOk}
 use Rattle.legs.specs.Book.{Book, empty_book}
 use Rattle.legs.specs.Costs.{ShapeView}
@@ -77,3 +77,17 @@ module _ (old new : DbView) (s : Store) (leaves : Leaves words old new) (rests :
       let e = idle (leaves.failed ∙ lives) (leaves.begun ∙ unbegun) in
       let h = subst (λ r. OnOk r (IsSound new → HasPages new → IsIdle new → HoldsBook s new.index.tree.shape new.limits new.book)) e holds in
       still_holds (h (leaves.sound sound) (pages.pages sound has) (rests rest))
+
+-- a database that was made with a book and is closed leaves a store that holds it
+pub closed_book : (db : DbView) (s : Store) (ran : Result (Unit {0}) RunFault) → OnOk ran (IsSound db → HasPages db → IsIdle db → HoldsBook s db.index.tree.shape db.limits db.book) → ran ≡ Ok tt
+    → (shape : ShapeView) (limits : LimitsView) (book : Book) → HasBook shape limits book db → HasPages db → db.begun ≡ true → HoldsBook s shape limits book
+closed_book db s ran holds is shape limits book has pages begun =
+    let closed = subst (λ r. OnOk r (IsSound db → HasPages db → IsIdle db → HoldsBook s db.index.tree.shape db.limits db.book)) is holds in
+    let idle : IsIdle db = λ not lives. (let wrong : true ≡ false = sym begun ∙ not in absurd cc) in
+    subst (λ b. HoldsBook s shape limits b) has.book_is
+    (subst (λ l. HoldsBook s shape l db.book) has.limits_are
+    (subst (λ t. HoldsBook s t db.limits db.book) has.shape_is (closed has.sound pages idle)))
+
+pub map_ok : {T E : Type 0} (r : Result T E) {P Q : Type 0} → OnOk r P → (P → Q) → OnOk r Q
+map_ok (Ok x) h f = f h
+map_ok (Err e) h f = tt

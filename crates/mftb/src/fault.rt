@@ -9,10 +9,12 @@ use trajdb::{OpenFault, RunFault};
 pub(crate) enum Fault<'a> {
     /// A run or a check was not brought to its end.
     Run(RunFault),
-    /// The database was not made or opened.
+    /// The database was not made, opened or brought over.
     Open(OpenFault),
     /// The script or a file of that name could not be read, or is too long.
     CannotRead(&'a str),
+    /// The file that a store was to be brought over into is there, and has bytes.
+    NotEmpty,
 }
 
 impl From<AllocError> for Fault<'_> {
@@ -51,6 +53,7 @@ impl Display for Fault<'_> {
             Fault::Run(RunFault::Failed) => f.write_str("failed"),
             Fault::Run(RunFault::Output) => f.write_str("output"),
             Fault::CannotRead(name) => write!(f, "cannot read {name}"),
+            Fault::NotEmpty => f.write_str("new store not empty"),
         }
     }
 }

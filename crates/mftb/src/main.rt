@@ -1,4 +1,5 @@
-//! A trajectory database on the command line: `mftb run STORE SCRIPT [FILES]...`, `mftb check STORE`.
+//! A trajectory database on the command line: `mftb run STORE SCRIPT [FILES]...`, `mftb check STORE`,
+//! `mftb migrate OLD NEW`.
 #![tactic(auto)]
 
 mod fault;

@@ -4,13 +4,15 @@ ghost use Rattle.legs.specs.Costs.{ShapeView};
 ghost use Rattle.legs.specs.Limits.{limits_of, LimitsView};
 ghost use Rattle.legs.specs.Book.{Book, empty_book};
 ghost use Rattle.trajdb.specs.Script.{lines_of};
+ghost use Rattle.pages.specs.Store.{Stays};
 ghost use Rattle.catalogue.specs.Holding.{HoldsBook};
+ghost use Rattle.catalogue.specs.OldStore.{present_shape, HoldsOldBook};
 ghost use Rattle.trajdb.specs.Db.{HasPages, IsSound};
 ghost use Rattle.trajdb.specs.Lasting.{HasBook, IsIdle};
 ghost use Rattle.mftb.specs.Answers.{new_shape, Answers, Checks};
 
 use crate::fault::Fault;
-use crate::words::{Check, Run, Task, read_words};
+use crate::words::{CACHE_PAGES, Check, Migrate, Run, Task, read_words};
 use clap::error::ErrorKind;
 use legs::Limits;
 use pages::{FileStore, PageStore};
@@ -207,6 +209,14 @@ fn check_and_close<S: PageStore>(
     }
 }
 
+/// Sends the last of an answer, of which this was written.
+fn send<'a, W: Write>(written: io::Result<()>, out: &mut W) -> Result<(), Fault<'a>> {
+    if written.is_err() || out.flush().is_err() {
+        return Err(Fault::Run(RunFault::Output));
+    }
+    Ok(())
+}
+
 /// Sends what a check that passed has found.
 fn send_report<'a, W: Write>(report: &Report, out: &mut W) -> Result<(), Fault<'a>> {
     let Report {
@@ -214,13 +224,8 @@ fn send_report<'a, W: Write>(report: &Report, out: &mut W) -> Result<(), Fault<'
         legs,
         features,
     } = *report;
-    if writeln!(out, "ok 1\n{pages},{legs},{features}").is_err() {
-        return Err(Fault::Run(RunFault::Output));
-    }
-    match out.flush() {
-        Ok(()) => Ok(()),
-        Err(_) => Err(Fault::Run(RunFault::Output)),
-    }
+    let written = writeln!(out, "ok 1\n{pages},{legs},{features}");
+    send(written, out)
 }
 
 /// Opens the store, and checks its database. No page is written; a file that is absent is made,
@@ -245,6 +250,72 @@ fn check<'a, R: rt::Files<File = File> + AllocGlobal + RandomSource, W: Write>(
     send_report(&checked?, out)
 }
 
+/// Brings a store of version 1 over into an empty one, and closes that.
+fn migrate_and_close<'a, S: PageStore, T: PageStore>(
+    alloc: Global,
+    keys: RandomState,
+    old: &mut S,
+    new: T,
+) -> (T, Result<(), Fault<'a>>)
+    requires { (T.seen new).count ≡ 0 }
+    // The new store then holds the book that the other holds.
+    ensures holds { OnOk result.1 (IsTrue (S.seen old.old).is_faithful
+        → IsTrue (T.seen new).is_faithful
+        → (shape : ShapeView) (limits : LimitsView) (book : Book)
+        → HoldsOldBook (S.seen old.old) shape limits book
+        → HoldsBook (T.seen result.0) (present_shape shape) limits book) }
+
+    // The store of version 1 stays as it is.
+    ensures stays { Stays (S.seen old.old) (S.seen old.new) }
+{
+    match Db::migrate(alloc, keys, old, new, CACHE_PAGES as usize) {
+        Ok(database) => {
+            let (store, closed) = database.close(alloc);
+            (store, answer_of(closed))
+        }
+        Err((store, fault)) => (store, Err(Fault::Open(fault))),
+    }
+}
+
+/// Why a file is not taken for a new store: it has bytes, or is not opened.
+fn not_new<'a, R: rt::Files<File = File> + AllocGlobal>(rt: &R, name: &str) -> Fault<'a> {
+    match FileStore::open(rt, name) {
+        Ok(_) => Fault::NotEmpty,
+        Err(_) => Fault::Run(RunFault::Store),
+    }
+}
+
+/// Brings a store of version 1 over into a new file. Where there is no store of version 1, no file
+/// is made.
+fn migrate<'a, R: rt::Files<File = File> + AllocGlobal + RandomSource, W: Write>(
+    rt: &R,
+    migrate: &Migrate<'a>,
+    out: &mut W,
+) -> Result<(), Fault<'a>> {
+    if !is_absent(rt, migrate.new) {
+        return Err(not_new(rt, migrate.new));
+    }
+    if is_absent(rt, migrate.old) {
+        return Err(Fault::Open(OpenFault::Malformed));
+    }
+    let Ok(keys) = RandomState::new(rt) else {
+        return Err(Fault::Run(RunFault::Memory));
+    };
+    let Ok(mut old) = FileStore::open(rt, migrate.old) else {
+        return Err(Fault::Run(RunFault::Store));
+    };
+    let Ok(new) = FileStore::open(rt, migrate.new) else {
+        return Err(Fault::Run(RunFault::Store));
+    };
+    if new.len() != 0 {
+        return Err(Fault::NotEmpty);
+    }
+    let (_new, migrated) = migrate_and_close(rt.alloc(), keys, &mut old, new);
+    migrated?;
+    let written = writeln!(out, "ok 0");
+    send(written, out)
+}
+
 /// Does what the program is asked to do.
 fn perform<'a, R: rt::Files<File = File> + AllocGlobal + RandomSource, W: Write>(
     rt: &R,
@@ -254,6 +325,7 @@ fn perform<'a, R: rt::Files<File = File> + AllocGlobal + RandomSource, W: Write>
     match task {
         Task::Run(task) => run(rt, task, out),
         Task::Check(task) => check(rt, task, out),
+        Task::Migrate(task) => migrate(rt, task, out),
     }
 }
 

@@ -1,5 +1,6 @@
 //! The program over files that the tests write.
 use super::start;
+use pages::{Kind, Payload, seal};
 use std::alloc::Global;
 use std::fs;
 use std::process::Abort;
@@ -147,6 +148,94 @@ fn a_store_is_checked(rt: HostRuntime) -> Result<(), Fail> {
     assert!(rt; status == 1 && out.is_empty());
     assert!(rt; faults.as_slice() == "mftb: page 2 damaged\n".as_bytes());
     assert!(rt; fs::read(&rt, "altered.mftb")?.as_slice() == bytes.as_slice());
+    Ok(())
+}
+
+/// How page 0 of a finished store of version 1 begins into which no file was accepted: the letters
+/// `MFTB`, the version, the state, 63 legs and 72 entries, the limits of 2^24 legs and 2^20
+/// features, no tree, and a text of one byte in page 1.
+const HEADER: [u8; 60] = [
+    77, 70, 84, 66, 0, 0, 0, 1, 0, 0, 0, 1, 0, 63, 0, 72, 0, 0, 0, 0, 1, 0, 0, 0, 0, 0, 0, 0, 0,
+    16, 0, 0, 0, 0, 0, 0, 0, 0, 0, 0, 0, 0, 0, 0, 0, 0, 0, 1, 0, 0, 0, 0, 0, 0, 0, 1, 0, 0, 0, 0,
+];
+
+/// How page 1 begins: no page comes next, one byte of the text, ten zeros, and that byte, 0.
+const TEXT: [u8; 60] = [
+    0, 0, 0, 0, 0, 1, 0, 0, 0, 0, 0, 0, 0, 0, 0, 0, 0, 0, 0, 0, 0, 0, 0, 0, 0, 0, 0, 0, 0, 0, 0, 0,
+    0, 0, 0, 0, 0, 0, 0, 0, 0, 0, 0, 0, 0, 0, 0, 0, 0, 0, 0, 0, 0, 0, 0, 0, 0, 0, 0, 0,
+];
+
+/// Makes a payload begin so.
+fn set_front(payload: &mut Payload, bytes: &[u8; 60]) {
+    payload.bytes[..60].copy_from_slice(bytes);
+}
+
+/// A page of a kind that begins so.
+fn page(number: u32, kind: Kind, bytes: &[u8; 60]) -> [u8; 4096] {
+    let mut payload = Payload::zero(kind);
+    set_front(&mut payload, bytes);
+    seal(number, &payload)
+}
+
+/// A store of version 1.
+fn version_1(alloc: Global) -> Result<Vec<u8>, Fail> {
+    let mut bytes = Vec::from_slice(alloc, page(0, Kind::Header, &HEADER).as_slice())?;
+    bytes.extend_from_slice(page(1, Kind::Catalogue, &TEXT).as_slice())?;
+    Ok(bytes)
+}
+
+/// Whether the program fails with that line alone.
+fn fails(rt: &HostRuntime, words: &[&str], line: &str) -> Result<bool, Fail> {
+    let (status, out, faults) = answer(rt, words)?;
+    Ok(status == 1 && out.is_empty() && faults.as_slice() == line.as_bytes())
+}
+
+#[test]
+fn a_store_of_version_1_is_brought_over(rt: HostRuntime) -> Result<(), Fail> {
+    let bytes = version_1(rt.alloc())?;
+    fs::write(&rt, "old.mftb", bytes.as_slice())?;
+    fs::write(&rt, "new.mftb", "")?;
+    fs::write(&rt, "count.txt", "count\n")?;
+    let (status, out, faults) = answer(&rt, &["mftb", "migrate", "old.mftb", "new.mftb"])?;
+    assert!(rt; status == 0 && out.as_slice() == "ok 0\n".as_bytes() && faults.is_empty());
+    assert!(rt; fs::read(&rt, "old.mftb")?.as_slice() == bytes.as_slice());
+    let (status, out, faults) = answer(&rt, &["mftb", "run", "new.mftb", "count.txt"])?;
+    assert!(rt; status == 0 && out.as_slice() == "ok 1\n0,0\n".as_bytes() && faults.is_empty());
+
+    // The new store is there now.
+    let words = ["mftb", "migrate", "old.mftb", "new.mftb"];
+    assert!(rt; fails(&rt, &words, "mftb: new store not empty\n")?);
+    Ok(())
+}
+
+#[test]
+fn only_a_store_of_version_1_is_brought_over(rt: HostRuntime) -> Result<(), Fail> {
+    fs::write(&rt, "S1.csv", STANDARD)?;
+    fs::write(&rt, "script.txt", SCRIPT)?;
+    fs::write(&rt, "present.mftb", "")?;
+    fs::write(&rt, "other.mftb", "")?;
+    let words = ["mftb", "run", "present.mftb", "script.txt", "S1.csv"];
+    assert_eq!(rt; answer(&rt, &words)?.0, 0);
+    let words = ["mftb", "migrate", "present.mftb", "other.mftb"];
+    assert!(rt; fails(&rt, &words, "mftb: store version\n")?);
+    assert!(rt; fs::read(&rt, "other.mftb")?.is_empty());
+
+    // A file that is not there is not made.
+    let words = ["mftb", "migrate", "nothing.mftb", "other.mftb"];
+    assert!(rt; fails(&rt, &words, "mftb: store malformed\n")?);
+    assert!(rt; fs::read(&rt, "nothing.mftb").is_err());
+    Ok(())
+}
+
+#[test]
+fn a_store_of_version_1_is_said(rt: HostRuntime) -> Result<(), Fail> {
+    let bytes = version_1(rt.alloc())?;
+    fs::write(&rt, "former.mftb", bytes.as_slice())?;
+    fs::write(&rt, "count.txt", "count\n")?;
+    let words = ["mftb", "run", "former.mftb", "count.txt"];
+    assert!(rt; fails(&rt, &words, "mftb: store version\n")?);
+    assert!(rt; fails(&rt, &["mftb", "check", "former.mftb"], "mftb: store version\n")?);
+    assert!(rt; fs::read(&rt, "former.mftb")?.as_slice() == bytes.as_slice());
     Ok(())
 }
 

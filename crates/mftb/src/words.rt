@@ -24,6 +24,15 @@ pub(crate) struct Check<'a> {
     pub(crate) cache_pages: u32,
 }
 
+/// What `mftb migrate` is asked to do.
+#[derive(Clone, Copy)]
+pub(crate) struct Migrate<'a> {
+    /// The name of the file that keeps a database of version 1.
+    pub(crate) old: &'a str,
+    /// The name of the file that is to keep it.
+    pub(crate) new: &'a str,
+}
+
 /// What the program is asked to do.
 #[derive(Drop)]
 pub(crate) enum Task<'a> {
@@ -31,10 +40,12 @@ pub(crate) enum Task<'a> {
     Run(Run<'a>),
     /// To check a store.
     Check(Check<'a>),
+    /// To bring a store of version 1 over.
+    Migrate(Migrate<'a>),
 }
 
 /// How many pages the cache of a database holds where no other number is given.
-const CACHE_PAGES: u32 = 256;
+pub(crate) const CACHE_PAGES: u32 = 256;
 
 fn required<'a>(alloc: Global, name: &'a str, help: &'a str) -> Arg<'a> {
     Arg::new(alloc, name)
@@ -79,13 +90,30 @@ fn check_command<'a>(alloc: Global) -> Result<Command<'a>, AllocError> {
         .arg(cache_pages(alloc))
 }
 
+/// The words of `mftb migrate`.
+fn migrate_command<'a>(alloc: Global) -> Result<Command<'a>, AllocError> {
+    Command::new(alloc, "migrate")
+        .about("Brings the database of a file of version 1 over into a new file")
+        .arg(required(
+            alloc,
+            "OLD",
+            "The file of version 1; it is read and not written",
+        ))?
+        .arg(required(
+            alloc,
+            "NEW",
+            "The file that is to keep the database; it is absent or empty",
+        ))
+}
+
 fn mftb<'a>(alloc: Global) -> Result<Command<'a>, AllocError> {
     Command::new(alloc, "mftb")
         .about("A trajectory database")
         .version("0.1.0")
         .subcommand_required(true)
         .subcommand(run_command(alloc)?)?
-        .subcommand(check_command(alloc)?)
+        .subcommand(check_command(alloc)?)?
+        .subcommand(migrate_command(alloc)?)
 }
 
 /// How many pages the cache is to hold.
@@ -114,6 +142,10 @@ pub(crate) fn read_words<'a>(alloc: Global, words: &'a [String]) -> Result<Task<
         Some(("check", matches)) => Ok(Task::Check(Check {
             store: matches.get_str("STORE").unwrap_or(""),
             cache_pages: cache_pages_of(matches),
+        })),
+        Some(("migrate", matches)) => Ok(Task::Migrate(Migrate {
+            old: matches.get_str("OLD").unwrap_or(""),
+            new: matches.get_str("NEW").unwrap_or(""),
         })),
         Some((_, matches)) => Ok(Task::Run(run_of(alloc, matches)?)),
         None => Ok(Task::Run(Run {
