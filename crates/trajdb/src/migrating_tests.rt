@@ -266,7 +266,14 @@ fn each_call_of_either_store_may_fail(rt: HostRuntime) -> Result<(), Fail> {
             }
         }
         // Page 0, the catalogue, and three leaves twice, are eight calls of the old store.
-        assert!(rt; if is_old { whole == 52 } else { 0 < whole && whole < 55 }, "{whole}");
+        assert!(rt;
+            if is_old {
+                whole == 52
+            } else {
+                0 < whole && whole < 55
+            },
+            "{whole}"
+        );
     }
     Ok(())
 }
