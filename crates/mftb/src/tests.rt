@@ -234,7 +234,13 @@ fn a_store_of_version_1_is_said(rt: HostRuntime) -> Result<(), Fail> {
     fs::write(&rt, "count.txt", "count\n")?;
     let words = ["mftb", "run", "former.mftb", "count.txt"];
     assert!(rt; fails(&rt, &words, "mftb: store version\n")?);
-    assert!(rt; fails(&rt, &["mftb", "check", "former.mftb"], "mftb: store version\n")?);
+    assert!(rt;
+        fails(
+            &rt,
+            &["mftb", "check", "former.mftb"],
+            "mftb: store version\n"
+        )?
+    );
     assert!(rt; fs::read(&rt, "former.mftb")?.as_slice() == bytes.as_slice());
     Ok(())
 }
