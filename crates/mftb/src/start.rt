@@ -285,8 +285,8 @@ fn not_new<'a, R: rt::Files<File = File> + AllocGlobal>(rt: &R, name: &str) -> F
     }
 }
 
-/// Brings a store of version 1 over into a new file. Where there is no store of version 1, no file
-/// is made.
+/// Brings a store of version 1 over into a new file. Where the old one is absent or has no bytes, no
+/// file is made.
 fn migrate<'a, R: rt::Files<File = File> + AllocGlobal + RandomSource, W: Write>(
     rt: &R,
     migrate: &Migrate<'a>,
