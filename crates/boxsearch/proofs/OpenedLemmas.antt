@@ -5,6 +5,7 @@ use Rattle.std.specs.Map.{lookup}
 use Rattle.std.specs.Option.{IsSome}
 use Rattle.std.proofs.lemmas.Bool.{cases_lt, eqb-true}
 use Rattle.legs.specs.Boxes.{BoxView}
+use Rattle.legs.specs.declared.index.IndexFault.TheVariants as index
 use Rattle.legs.specs.Index.{MayRefuseLeg}
 use Rattle.legs.specs.Legs.{LegView}
 use Rattle.pagecache.specs.declared.fault.CacheFault.TheVariants as cache
@@ -31,6 +32,20 @@ allowed_leg (OfCache cache.Memory) h = tt
 allowed_leg (Malformed n) h = absurd h
 allowed_leg Spent h = absurd h
 allowed_leg Memory h = tt
+
+-- what works is not said to be spent
+pub works_leg : (fault : SearchFault) → (fault ≡ Spent → ⊥) → of_search fault ≡ index.Spent → ⊥
+works_leg (OfCache cache.NoPage) h e = let no : index.Damaged 0 ≡ index.Spent = e in absurd (cc)
+works_leg (OfCache cache.Store) h e = let no : index.Store ≡ index.Spent = e in absurd (cc)
+works_leg (OfCache (cache.Damaged n)) h e = let no : index.Damaged n ≡ index.Spent = e in absurd (cc)
+works_leg (OfCache cache.StoreFull) h e = let no : index.StoreFull ≡ index.Spent = e in absurd (cc)
+works_leg (OfCache cache.Memory) h e = let no : index.Memory ≡ index.Spent = e in absurd (cc)
+works_leg (Malformed n) h e = let no : index.Damaged n ≡ index.Spent = e in absurd (cc)
+works_leg Spent h e = h refl
+works_leg Memory h e = let no : index.Memory ≡ index.Spent = e in absurd (cc)
+
+pub damaged_works : (n : ℕ) → index.Damaged n ≡ index.Spent → ⊥
+damaged_works n e = absurd (cc)
 
 pub not_none : {X : Type 0} (o : Option X) → ((x : X) → o ≡ Some x → ⊥) → IsSome o → ⊥
 not_none None h s = let no : false ≡ true = s in absurd (cc)

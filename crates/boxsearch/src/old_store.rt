@@ -265,7 +265,8 @@ fn open_next<S: PageStore>(
 /// are walked, and then only the legs of leaves that are opened and not used up: at most one leaf a
 /// feature.
 ///
-/// A store whose chains a check would refuse is `Damaged`, with the page that the check names.
+/// A store whose chains a check would refuse is `Damaged`, with the page at which the walk along them
+/// fails. What is said of memory no clause says.
 pub fn take_old_legs<S: PageStore, I: LegIndex>(
     alloc: Global,
     keys: RandomState,
@@ -297,6 +298,8 @@ pub fn take_old_legs<S: PageStore, I: LegIndex>(
     ensures later { IsLater I.Listed index.old index.new }
 
     // Why it is refused.
+    ensures works { IfErr result (λ fault. IsTrue (S.seen old.old).is_faithful
+        → I.is_sound index.old → I.content index.old ≡ [] → fault ≢ IndexFault.Spent) }
     ensures store { IsErrOf result IndexFault.Store
         → Faulted (S.seen old.old) (S.seen old.new)
         ⊎ HasRisen (I.faults index.old) (I.faults index.new) }
@@ -335,6 +338,10 @@ fn bring<S: PageStore, I: LegIndex>(
         → HaveLegsOf (pages_by old_node_of (fresh (S.seen old.old) 1)) leaves.now list
         → HaveEachOf (pages_by old_node_of (fresh (S.seen old.old) 1)) leaves.now list
         → IsNumbered legs list → MayRefuseLeg fault) }
+    ensures works { IfErr result (λ fault. IsTrue (S.seen old.old).is_faithful
+        → I.is_sound index.old → I.content index.old ≡ [] → (list : List LegView)
+        → HaveLegsOf (pages_by old_node_of (fresh (S.seen old.old) 1)) leaves.now list
+        → IsNumbered legs list → fault ≢ IndexFault.Spent) }
     ensures stays { Stays (S.seen old.old) (S.seen old.new) }
     ensures marked { IsTrue (S.seen old.old).is_faithful → I.is_sound index.old
         → I.content index.old ≡ [] → I.is_marked index.old → (list : List LegView)

@@ -29,7 +29,7 @@ use Rattle.catalogue.specs.Beginning.{IsCaused}
 use Rattle.catalogue.specs.ChainReader.{fault_of}
 use Rattle.catalogue.specs.Holding.{AnswersBook, IsUnfinishedStore}
 use Rattle.catalogue.specs.Lasting.{IsStop}
-use Rattle.catalogue.specs.Migrating.{brought_fault, IsLeftOver, IsMigratingFault}
+use Rattle.catalogue.specs.Migrating.{brought_fault, IsLeftOver, IsLegFault, IsMigratingFault}
 use Rattle.catalogue.specs.OldStore.{present_shape, AnswersOldBook, IsOldReadingFault}
 use Rattle.catalogue.specs.Saved.{CatalogueView}
 use Rattle.catalogue.specs.Saving.{IsAllowed}
@@ -95,6 +95,16 @@ allowed_leg index.Store h = tt
 allowed_leg (index.Damaged page) h = h
 allowed_leg index.StoreFull h = tt
 allowed_leg index.Spent h = h
+
+-- where it cannot be that nothing stopped it, it stopped, or a page is damaged
+pub leg_stop : (e : CatalogueFault) → ((IsStop e → ⊥) → ⊥) → IsLegFault e
+leg_stop Memory h = tt
+leg_stop Store h = tt
+leg_stop StoreFull h = tt
+leg_stop (Damaged page) h = tt
+leg_stop Unfinished h = h (λ s. s)
+leg_stop Version h = h (λ s. s)
+leg_stop Malformed h = h (λ s. s)
 
 pub allowed_stop : (e : CatalogueFault) → IsStop e → IsAllowed e
 allowed_stop Memory h = tt

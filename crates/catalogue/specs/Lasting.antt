@@ -82,10 +82,20 @@ IsReadingFault old new Unfinished = Unit {0}
 IsReadingFault old new Version = Unit {0}
 IsReadingFault old new Malformed = Unit {0}
 
+-- what can be said where page 0 is right: neither its state nor its version
+abbrev pub IsBehindFirst : CatalogueFault → Type 0
+IsBehindFirst Memory = Unit {0}
+IsBehindFirst Store = Unit {0}
+IsBehindFirst StoreFull = Unit {0}
+IsBehindFirst (Damaged page) = Unit {0}
+IsBehindFirst Unfinished = ⊥
+IsBehindFirst Version = ⊥
+IsBehindFirst Malformed = Unit {0}
+
 -- a fault of page 0 is answered, where there is one; memory and the store may stop before
 abbrev pub ComesFirst : Option CatalogueFault → CatalogueFault → Type 0
 ComesFirst (Some first) fault = (fault ≡ first) ⊎ IsStop fault
-ComesFirst None fault = Unit {0}
+ComesFirst None fault = IsBehindFirst fault
 
 -- the tree is one of so many pages
 pub record IsWithin (count : ℕ) (tree : TbTree) : Type 0 where

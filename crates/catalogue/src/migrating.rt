@@ -13,10 +13,13 @@ ghost use Rattle.boxsearch.specs.Checking.{Agree};
 ghost use Rattle.boxsearch.specs.Index.{content, words, IsMarked, IsSound};
 ghost use Rattle.boxsearch.specs.OldStore.{pages_of_old};
 ghost use Rattle.catalogue.specs.Holding.{AnswersBook, IsUnfinishedStore};
-ghost use Rattle.catalogue.specs.Lasting.{ComesFirst, IsStop};
-ghost use Rattle.catalogue.specs.Migrating.{brought_fault, IsBrought, IsLeftOver, IsMigratingFault};
-ghost use Rattle.catalogue.specs.OldStore.{old_first_fault, present_shape, AnswersOld, AnswersOldBook, HoldsOldBook, IsOldReadingFault};
+ghost use Rattle.catalogue.specs.Lasting.{ComesFirst, IsBehindFirst, IsStop};
+ghost use Rattle.catalogue.specs.Migrating.{brought_fault, IsBrought, IsLeftOver, IsLegFault, IsMigratingFault};
+ghost use Rattle.catalogue.specs.OldStore.{old_first_fault, present_shape, AnswersOld, AnswersOldBook, HoldsOldBook, IsKeptOld, IsOldReadingFault};
+ghost use Rattle.catalogue.specs.Saved.{CatalogueView};
 ghost use Rattle.catalogue.specs.Saving.{IsAllowed};
+ghost use Rattle.tbtree.specs.declared.tree.Place.{Place};
+ghost use Rattle.tbtree.specs.declared.tree.TbTree.{TbTree};
 
 use crate::beginning::begin;
 use crate::chain_reader::fault_of;
@@ -72,6 +75,11 @@ fn read_beside<S: PageStore, T: PageStore>(
         (old_first_fault (S.seen old.old).count (stored_payload (S.seen old.old) 0)) back.1) }
     ensures finished { IfOk result (λ r. IsTrue (S.seen old.old).is_faithful
         → old_first_fault (S.seen old.old).count (stored_payload (S.seen old.old) 0) ≡ None) }
+    ensures broken { IfErr result (λ back. IsTrue (S.seen old.old).is_faithful
+        → IsTrue (T.seen new).is_faithful → (IsStop back.1 → ⊥)
+        → (c : CatalogueView) (tree : TbTree) (places : List Place)
+        → IsKeptOld (stored_payload (S.seen old.old)) (S.seen old.old).count c tree places
+        → ⊥) }
     ensures stays { Stays (S.seen old.old) (S.seen old.new) }
     ensures stored { IfOk result (λ r. Stays (T.seen new) (T.seen r.1)) }
     ensures back { IfErr result (λ back. Stays (T.seen new) (T.seen back.0)) }
@@ -127,6 +135,9 @@ fn bring_legs<S: PageStore, T: PageStore>(
         → content index ≡ [] → Agree tracks.now tracks.now.rows tracks.now.legs
         → (legs : List LegView) → HoldChains (pages_of_old (S.seen old.old)) leaf tracks.now.rows
         tracks.now.legs places.now tracks.now.tracks legs → IsAllowed back.1) }
+    ensures works { IfErr result (λ back. IsTrue (S.seen old.old).is_faithful → IsSound index
+        → content index ≡ [] → IsLegFault back.1) }
+    ensures behind { IfErr result (λ back. IsBehindFirst back.1) }
     ensures stays { Stays (S.seen old.old) (S.seen old.new) }
     ensures caused { IfErr result (λ back. IsMigratingFault (S.seen old.old) (S.seen old.new)
         index.cache.store (T.seen back.0) back.1) }
@@ -150,7 +161,7 @@ fn bring_legs<S: PageStore, T: PageStore>(
 /// said first that it is not there (`Malformed`), is damaged, is no header (`Malformed`), has
 /// another version, is of a store that was not finished, or of one in another state (`Malformed`);
 /// then the first page that is damaged, or malformed, as met; a chain of leaves that is not whole
-/// is `Damaged`, as a check says it.
+/// is `Damaged`, with the page at which the walk along it fails (no clause says which).
 ///
 /// Where it is refused the new store is handed back: without pages, with a page 0 that says that it
 /// is not finished, or with page 0 alone, whose write failed.
@@ -178,11 +189,19 @@ pub fn migrate<S: PageStore, T: PageStore>(
         → (shape : ShapeView) (limits : LimitsView) (book : Book)
         → HoldsOldBook (S.seen old.old) shape limits book → IsAllowed back.1) }
 
+    // Where the pages keep a catalogue, nothing else than a page of a leaf is said of them.
+    ensures kept { IfErr result (λ back. IsTrue (S.seen old.old).is_faithful
+        → IsTrue (T.seen new).is_faithful → (c : CatalogueView) (tree : TbTree) (places : List Place)
+        → IsKeptOld (stored_payload (S.seen old.old)) (S.seen old.old).count c tree places
+        → IsLegFault back.1) }
+
     // Page 0 of the new store says that it is not finished, and that of the other comes first.
     ensures marked { IfOk result (λ r. IsTrue (S.seen old.old).is_faithful
         → IsTrue (T.seen new).is_faithful → IsMarked r.1.cache) }
     ensures first { IfErr result (λ back. IsTrue (S.seen old.old).is_faithful → ComesFirst
         (old_first_fault (S.seen old.old).count (stored_payload (S.seen old.old) 0)) back.1) }
+    ensures finished { IfOk result (λ r. IsTrue (S.seen old.old).is_faithful
+        → old_first_fault (S.seen old.old).count (stored_payload (S.seen old.old) 0) ≡ None) }
 
     // The store of version 1 stays as it is; of the other this is left.
     ensures stays { Stays (S.seen old.old) (S.seen old.new) }

@@ -1,20 +1,25 @@
 -- What a run of the program sends, and what its store then holds.
-use Rattle.std.proofs.Common.{ℕ, ◌≡◌, ◌∙◌, ap, sym, length, true, false, IsTrue, List, Option, Some, Result, Ok, Err, subst}
-use Rattle.std.specs.Prelude.{IfOk, OnOk}
+use Rattle.std.proofs.Common.{ℕ, ◌≡◌, ◌∙◌, ap, sym, inl, inr, length, true, false, IsTrue, List, Option, Some, Result, Ok, Err, subst}
+use Rattle.std.specs.Prelude.{IfErr, IfOk, OnOk}
 use Rattle.legs.specs.Book.{Book, empty_book}
 use Rattle.legs.specs.Costs.{ShapeView}
 use Rattle.legs.specs.Limits.{LimitsView}
 use Rattle.pages.specs.Store.{Store}
 use Rattle.boxsearch.specs.Index.{words}
-use Rattle.catalogue.specs.Holding.{HoldsBook}
-use Rattle.trajdb.specs.Calls.{KeepsPages, Leaves}
-use Rattle.trajdb.specs.Db.{DbView, HasPages, IsSound}
-use Rattle.trajdb.specs.Lasting.{HasBook, IsIdle}
+use Rattle.catalogue.specs.Holding.{HoldsBook, IsUnfinishedStore}
+use Rattle.catalogue.specs.Migrating.{IsLeftOver}
+use Rattle.trajdb.specs.Calls.{IsLoadFault, KeepsPages, Leaves}
+use Rattle.trajdb.specs.Db.{DbView, HasPages, IsAllowed, IsSound}
+use Rattle.trajdb.specs.Lasting.{HasBook, IsFaultless, IsIdle}
 use Rattle.trajdb.specs.Run.{Runs}
+use Rattle.trajdb.specs.declared.OpenFault.{OpenFault}
+use Rattle.trajdb.specs.declared.OpenFault.TheVariants as opening
 use Rattle.trajdb.specs.declared.RunFault.{RunFault}
+use Rattle.trajdb.specs.declared.RunFault.TheVariants as run
 use Rattle.trajdb.specs.Checking.{Reports}
 use Rattle.trajdb.specs.declared.Report.{Report}
-use Rattle.mftb.specs.Answers.{Answers, Checks}
+use Rattle.mftb.specs.Answers.{Answers, Checks, IsNotOver}
+use Rattle.mftb.specs.declared.fault.Fault.TheVariants.{Run, Open}
 
 pub the_same : (x y : ShapeView) → Some x ≡ Some y → x ≡ y
 the_same x y e = cc
@@ -88,6 +93,25 @@ closed_book db s ran holds is shape limits book has pages begun =
     (subst (λ l. HoldsBook s shape l db.book) has.limits_are
     (subst (λ t. HoldsBook s t db.limits db.book) has.shape_is (closed has.sound pages idle)))
 
-pub map_ok : {T E : Type 0} (r : Result T E) {P Q : Type 0} → OnOk r P → (P → Q) → OnOk r Q
-map_ok (Ok x) h f = f h
-map_ok (Err e) h f = tt
+-- what is said of a fault
+pub err_of : {T E : Type 0} (P : E → Type 0) (r : Result T E) (e : E) → r ≡ Err e → IfErr r P → P e
+err_of P r e is h = subst (λ k. IfErr k P) is h
+
+-- why a store that holds a book is not brought over
+pub over_open : (new left : Store) (e : OpenFault) → IsAllowed e → IsLeftOver new left → IsNotOver new left (Open e)
+over_open new left opening.Memory a l = l
+over_open new left opening.Store a l = l
+over_open new left (opening.Damaged page) a l = a
+over_open new left opening.StoreFull a l = l
+over_open new left opening.Unfinished a l = a
+over_open new left opening.Version a l = a
+over_open new left opening.Malformed a l = a
+
+-- or not closed
+pub over_run : (new left : Store) (e : RunFault) → IsLoadFault e → (IsFaultless e → IsUnfinishedStore left) → IsNotOver new left (Run e)
+over_run new left run.Memory a u = inr (inl (u tt))
+over_run new left run.Store a u = tt
+over_run new left (run.Damaged page) a u = a
+over_run new left run.StoreFull a u = inr (inl (u tt))
+over_run new left run.Failed a u = a
+over_run new left run.Output a u = a

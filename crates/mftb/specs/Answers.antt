@@ -5,8 +5,13 @@ use Rattle.legs.specs.Costs.{ShapeView}
 use Rattle.legs.specs.Limits.{LimitsView}
 use Rattle.pages.specs.Store.{Store}
 use Rattle.catalogue.specs.Holding.{HoldsBook}
+use Rattle.catalogue.specs.Migrating.{IsLeftOver}
 use Rattle.trajdb.specs.Run.{HasRun}
+use Rattle.trajdb.specs.declared.OpenFault.TheVariants as opening
 use Rattle.trajdb.specs.declared.Report.{Report}
+use Rattle.trajdb.specs.declared.RunFault.TheVariants as run
+use Rattle.mftb.specs.declared.fault.Fault.{Fault}
+use Rattle.mftb.specs.declared.fault.Fault.TheVariants.{Run, Open, CannotRead, NotEmpty}
 
 -- the shape of the tree of a new database
 abbrev pub new_shape : ShapeView
@@ -26,3 +31,23 @@ pub record Checks (store : Store) (shape : ShapeView) (limits : LimitsView) (boo
   pub pages : report.pages ≡ store.count
   pub legs : report.legs ≡ length book.legs
   pub features : report.features ≡ length book.names
+
+-- why a store of version 1 that holds a book is not brought over: memory ran out or the new store is full, which then
+-- has no page, or says that it is not finished, or has a page 0 alone, whose write failed; or a store failed, and where
+-- that was said of a closing, nothing is said of what it left
+abbrev pub IsNotOver : (new left : Store) → Fault → Type 0
+IsNotOver new left (Run run.Memory) = IsLeftOver new left
+IsNotOver new left (Run run.Store) = Unit {0}
+IsNotOver new left (Run (run.Damaged page)) = ⊥
+IsNotOver new left (Run run.StoreFull) = IsLeftOver new left
+IsNotOver new left (Run run.Failed) = ⊥
+IsNotOver new left (Run run.Output) = ⊥
+IsNotOver new left (Open opening.Memory) = IsLeftOver new left
+IsNotOver new left (Open opening.Store) = IsLeftOver new left
+IsNotOver new left (Open (opening.Damaged page)) = ⊥
+IsNotOver new left (Open opening.StoreFull) = IsLeftOver new left
+IsNotOver new left (Open opening.Unfinished) = ⊥
+IsNotOver new left (Open opening.Version) = ⊥
+IsNotOver new left (Open opening.Malformed) = ⊥
+IsNotOver new left (CannotRead name) = ⊥
+IsNotOver new left NotEmpty = ⊥

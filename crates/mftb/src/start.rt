@@ -1,15 +1,16 @@
 //! The program, over any runtime and writers.
-ghost use Rattle.std.specs.Prelude.{◌≡◌, ◌<◌, ◌≤◌, false, Ok, IfOk, IsTrue, OnOk};
+ghost use Rattle.std.specs.Prelude.{◌≡◌, ◌<◌, ◌≤◌, false, None, Ok, IfErr, IfOk, IsTrue, OnOk};
 ghost use Rattle.legs.specs.Costs.{ShapeView};
 ghost use Rattle.legs.specs.Limits.{limits_of, LimitsView};
 ghost use Rattle.legs.specs.Book.{Book, empty_book};
 ghost use Rattle.trajdb.specs.Script.{lines_of};
 ghost use Rattle.pages.specs.Store.{Stays};
 ghost use Rattle.catalogue.specs.Holding.{HoldsBook};
-ghost use Rattle.catalogue.specs.OldStore.{present_shape, HoldsOldBook};
+ghost use Rattle.pagecache.specs.Cache.{stored_payload};
+ghost use Rattle.catalogue.specs.OldStore.{old_first_fault, present_shape, HoldsOldBook};
 ghost use Rattle.trajdb.specs.Db.{HasPages, IsSound};
 ghost use Rattle.trajdb.specs.Lasting.{HasBook, IsIdle};
-ghost use Rattle.mftb.specs.Answers.{new_shape, Answers, Checks};
+ghost use Rattle.mftb.specs.Answers.{new_shape, Answers, Checks, IsNotOver};
 
 use crate::fault::Fault;
 use crate::words::{CACHE_PAGES, Check, Migrate, Run, Task, read_words};
@@ -26,7 +27,7 @@ use tbtree::Shape;
 use trajdb::{Db, Files, OpenFault, Report, RunFault};
 
 /// The most bytes that a script or a file may have.
-const MOST_BYTES: u64 = 1 << 30;
+pub(crate) const MOST_BYTES: u64 = 1 << 30;
 
 /// The most legs of a database.
 const MOST_LEGS: u64 = 1 << 24;
@@ -34,18 +35,22 @@ const MOST_LEGS: u64 = 1 << 24;
 /// The most features of a database.
 const MOST_FEATURES: u32 = 1 << 20;
 
-/// The bytes of the file of that name.
-fn read_named<'a, R: rt::Files + AllocGlobal>(rt: &R, name: &'a str) -> Result<Vec<u8>, Fault<'a>> {
+/// The bytes of the file of that name, which has no more than so many.
+pub(crate) fn read_named<'a, R: rt::Files + AllocGlobal>(
+    rt: &R,
+    name: &'a str,
+    most: u64,
+) -> Result<Vec<u8>, Fault<'a>> {
     let fault = |error: io::Error| match error.kind() {
         io::ErrorKind::OutOfMemory => Fault::Run(RunFault::Memory),
         _ => Fault::CannotRead(name),
     };
     let file = File::open(rt, name).map_err(fault)?;
     let mut bytes = Vec::new(rt.alloc());
-    file.take(MOST_BYTES + 1)
+    file.take(most.saturating_add(1))
         .read_to_end(&mut bytes)
         .map_err(fault)?;
-    if bytes.len() as u64 > MOST_BYTES {
+    if bytes.len() as u64 > most {
         return Err(Fault::CannotRead(name));
     }
     Ok(bytes)
@@ -58,7 +63,7 @@ fn read_files<'a, R: rt::Files + AllocGlobal>(
 ) -> Result<Files, Fault<'a>> {
     let mut files = Files::new(rt.alloc());
     for name in names {
-        files.add(name, read_named(rt, name)?)?;
+        files.add(name, read_named(rt, name, MOST_BYTES)?)?;
     }
     Ok(files)
 }
@@ -82,7 +87,7 @@ fn limits() -> Limits
 }
 
 /// The database of a store, or a new one over a store without pages that is to be made.
-fn database<S: PageStore>(
+pub(crate) fn database<S: PageStore>(
     alloc: Global,
     keys: RandomState,
     store: S,
@@ -108,7 +113,7 @@ fn database<S: PageStore>(
 }
 
 /// Runs the script over a database, and closes it.
-fn run_and_close<S: PageStore, W: Write>(
+pub(crate) fn run_and_close<S: PageStore, W: Write>(
     alloc: Global,
     mut database: Db<S>,
     script: &[u8],
@@ -168,7 +173,7 @@ fn run<'a, R: rt::Files<File = File> + AllocGlobal + RandomSource, W: Write>(
     run: &Run<'a>,
     out: &mut W,
 ) -> Result<(), Fault<'a>> {
-    let script = read_named(rt, run.script)?;
+    let script = read_named(rt, run.script, MOST_BYTES)?;
     let files = read_files(rt, &run.files)?;
     let Ok(keys) = RandomState::new(rt) else {
         return Err(Fault::Run(RunFault::Memory));
@@ -265,13 +270,26 @@ fn migrate_and_close<'a, S: PageStore, T: PageStore>(
         → HoldsOldBook (S.seen old.old) shape limits book
         → HoldsBook (T.seen result.0) (present_shape shape) limits book) }
 
+    // It was a finished one of version 1; one that holds a book is refused for memory, a store that
+    // failed, or a full one alone, and then the new one is not taken for a finished one.
+    ensures finished { OnOk result.1 (IsTrue (S.seen old.old).is_faithful
+        → old_first_fault (S.seen old.old).count (stored_payload (S.seen old.old) 0) ≡ None) }
+    ensures left { IfErr result.1 (λ fault. IsTrue (S.seen old.old).is_faithful
+        → IsTrue (T.seen new).is_faithful
+        → (shape : ShapeView) (limits : LimitsView) (book : Book)
+        → HoldsOldBook (S.seen old.old) shape limits book
+        → IsNotOver (T.seen new) (T.seen result.0) fault) }
+
     // The store of version 1 stays as it is.
     ensures stays { Stays (S.seen old.old) (S.seen old.new) }
 {
     match Db::migrate(alloc, keys, old, new, CACHE_PAGES as usize) {
         Ok(database) => {
             let (store, closed) = database.close(alloc);
-            (store, answer_of(closed))
+            match closed {
+                Ok(()) => (store, Ok(())),
+                Err(fault) => (store, Err(Fault::Run(fault))),
+            }
         }
         Err((store, fault)) => (store, Err(Fault::Open(fault))),
     }

@@ -37,10 +37,20 @@ IsStop Unfinished = ⊥
 IsStop Version = ⊥
 IsStop Malformed = ⊥
 
+-- what can be said where page 0 is right: neither its state nor its version
+abbrev pub IsBehindFirst : OpenFault → Type 0
+IsBehindFirst Memory = Unit {0}
+IsBehindFirst StoreFailed = Unit {0}
+IsBehindFirst (Damaged page) = Unit {0}
+IsBehindFirst StoreFull = Unit {0}
+IsBehindFirst Unfinished = ⊥
+IsBehindFirst Version = ⊥
+IsBehindFirst Malformed = Unit {0}
+
 -- the fault of page 0 is answered, where it has one; memory and the store may stop before
 abbrev pub ComesFirst : Option CatalogueFault → OpenFault → Type 0
 ComesFirst (Some first) fault = (fault ≡ opened_fault_of first) ⊎ IsStop fault
-ComesFirst None fault = Unit {0}
+ComesFirst None fault = IsBehindFirst fault
 
 -- the store failed where that is said, and none is full
 abbrev pub IsOpeningFault : Store → Store → OpenFault → Type 0
@@ -85,6 +95,17 @@ IsClosingFault db new (run.Damaged page) = Unit {0}
 IsClosingFault db new run.StoreFull = new.count ≡ new.most
 IsClosingFault db new run.Failed = db.failed ≡ true
 IsClosingFault db new run.Output = ⊥
+
+-- why a store whose pages keep a catalogue is not brought over: memory ran out, a store failed or is full, or a page,
+-- as of a chain of leaves that is not whole, is damaged
+abbrev pub IsLegFault : OpenFault → Type 0
+IsLegFault Memory = Unit {0}
+IsLegFault StoreFailed = Unit {0}
+IsLegFault (Damaged page) = Unit {0}
+IsLegFault StoreFull = Unit {0}
+IsLegFault Unfinished = ⊥
+IsLegFault Version = ⊥
+IsLegFault Malformed = ⊥
 
 -- one of two stores failed where that is said, and the second, which is new, is full where that is said
 abbrev pub IsMigratingFault : (old after new left : Store) → OpenFault → Type 0

@@ -7,17 +7,20 @@ use std::alloc::Global;
 use std::hash::RandomState;
 
 impl<T: PageStore> Db<T> {
-    ghost use Rattle.std.specs.Prelude.{◌≡◌, ◌<◌, IsTrue, IfErr, IfOk, false, true};
+    ghost use Rattle.std.specs.Prelude.{◌≡◌, ◌<◌, List, None, IsTrue, IfErr, IfOk, false, true};
     ghost use Rattle.legs.specs.Book.{Book};
     ghost use Rattle.legs.specs.Costs.{ShapeView};
     ghost use Rattle.legs.specs.Limits.{LimitsView};
     ghost use Rattle.pages.specs.Store.{Stays};
     ghost use Rattle.pagecache.specs.Cache.{stored_payload};
     ghost use Rattle.catalogue.specs.Migrating.{IsBrought, IsLeftOver};
-    ghost use Rattle.catalogue.specs.OldStore.{old_first_fault, present_shape, HoldsOldBook};
+    ghost use Rattle.tbtree.specs.declared.tree.Place.{Place};
+    ghost use Rattle.tbtree.specs.declared.tree.TbTree.{TbTree};
+    ghost use Rattle.catalogue.specs.OldStore.{old_first_fault, present_shape, HoldsOldBook, IsKeptOld};
+    ghost use Rattle.catalogue.specs.Saved.{CatalogueView};
     ghost use Rattle.trajdb.specs.Database.{catalogue_of};
     ghost use Rattle.trajdb.specs.Db.{HasPages, IsAllowed};
-    ghost use Rattle.trajdb.specs.Lasting.{ComesFirst, HasBook, IsMigratingFault};
+    ghost use Rattle.trajdb.specs.Lasting.{ComesFirst, HasBook, IsLegFault, IsMigratingFault};
 
     /// Brings the database of a finished store of version 1 over into an empty store, with a cache of
     /// at most that many pages, at least 1: the same legs, names, attribute values, base, coordinate
@@ -27,14 +30,16 @@ impl<T: PageStore> Db<T> {
     ///
     /// The store of version 1 is lent: it is read, each page by its seal, and never written. The
     /// legs are put in one by one; of them are kept in memory 64 bytes or so a leaf, 8 bytes a leg
-    /// while the chains are walked, and then the legs of at most one leaf a feature.
+    /// while the chains are walked, and then the legs of at most one leaf a feature. What is said of
+    /// memory, and of how many pages are in it, no clause says.
     ///
     /// Of page 0 of the lent store it is said first that it is not there (`Malformed`), is damaged, is
     /// no header (`Malformed`), has another version than 1, is of a store that was not finished, or of
     /// one in another state (`Malformed`); then the first page that is damaged, or malformed, as met;
-    /// where the leaves of the features are not whole, a page is `Damaged` as in a check. `StoreFull`
-    /// is the new store. Where it is refused the new store is handed back: without pages, with a page
-    /// 0 that says that it is not finished, or with page 0 alone, whose write failed.
+    /// where the leaves of the features are not whole, `Damaged` is the page at which the walk along
+    /// them fails (no clause says which). `StoreFull` is the new store. Where it is refused the new
+    /// store is handed back: without pages, with a page 0 that says that it is not finished, or with
+    /// page 0 alone, whose write failed.
     pub fn migrate<S: PageStore>(
         alloc: Global,
         keys: RandomState,
@@ -56,10 +61,15 @@ impl<T: PageStore> Db<T> {
             → (shape : ShapeView) (limits : LimitsView) (book : Book)
             → HoldsOldBook (S.seen old.old) shape limits book → IsAllowed back.1) }
 
-        // Whatever the pages keep is brought over.
+        // Whatever the pages keep is brought over, or a leaf is damaged.
         ensures brought { IfOk result (λ db. IsTrue (S.seen old.old).is_faithful
             → IsTrue (T.seen new).is_faithful
             → IsBrought (S.seen old.old) (catalogue_of db) db.index) }
+        ensures kept { IfErr result (λ back. IsTrue (S.seen old.old).is_faithful
+            → IsTrue (T.seen new).is_faithful
+            → (c : CatalogueView) (tree : TbTree) (places : List Place)
+            → IsKeptOld (stored_payload (S.seen old.old)) (S.seen old.old).count c tree places
+            → IsLegFault back.1) }
 
         // It has begun: page 0 of the new store says that it is not finished.
         ensures begun { IfOk result (λ db. db.begun ≡ true) }
@@ -70,6 +80,8 @@ impl<T: PageStore> Db<T> {
         // Page 0 comes first.
         ensures first { IfErr result (λ back. IsTrue (S.seen old.old).is_faithful → ComesFirst
             (old_first_fault (S.seen old.old).count (stored_payload (S.seen old.old) 0)) back.1) }
+        ensures finished { IfOk result (λ db. IsTrue (S.seen old.old).is_faithful
+            → old_first_fault (S.seen old.old).count (stored_payload (S.seen old.old) 0) ≡ None) }
 
         // The store of version 1 stays as it is; of the other this is left.
         ensures stays { Stays (S.seen old.old) (S.seen old.new) }

@@ -9,7 +9,7 @@ use Rattle.legs.specs.Index.{MayRefuseLeg}
 use Rattle.boxsearch.specs.OldStore.{AreOpened, AreReadable, HaveLegsOf}
 use Rattle.boxsearch.specs.Walking.{pages_by}
 use Rattle.boxsearch.proofs.OldLemmas.{reads_stays}
-use Rattle.boxsearch.proofs.OpenedLemmas.{allowed_leg, next_opened, not_none, opened_none, opened_taken}
+use Rattle.boxsearch.proofs.OpenedLemmas.{allowed_leg, damaged_works, next_opened, not_none, opened_none, opened_taken, works_leg}
 use Rattle.boxsearch.proofs.TakingLemmas.{same_err, all_taken, brought_none, brought_on, next_follows, later_refl, later_trans, risen_after, stays_refl, stays_trans, stand_taken, store_failed}
 use Rattle.boxsearch.proofs.WalkedLemmas.{same_by}
 use Rattle.boxsearch.proofs.old_store.bring.Goals as goal
@@ -144,3 +144,23 @@ returns-in_err-add-clause-only g c =
     let stand = c.in-Ok.ensures.opened (inv.stays.keeps.faithful ∙ fa) list b.stand (subst (λ nodes. HaveLegsOf nodes c.args.leaves.now list) (sym same) have) in
     let at : lookup (nat_eq n) c.open_next.new.opened.entries ≡ Some c.in-Some.leg = sym c.remove.ensures.value ∙ c.in-Some.is in
     c.in_err-add.ensures.refusals.sound b.sound (next_follows g.I.Listed c.args.index.now c.legs.index c.legs.opened.entries c.open_next.new.opened.entries n c.args.legs list b numbered stand c.in-Some.leg at))
+
+pub returns-in-Err-clause-works : goal.returns-in-Err-clause-works
+returns-in-Err-clause-works g c = λ fa sound empty list have numbered e. works_leg c.in-Err.fault c.in-Err.ensures.works (sym c.of_search.ensures ∙ e)
+
+pub returns-in_default-clause-works : goal.returns-in_default-clause-works
+returns-in_default-clause-works g c = λ fa sound empty list have numbered. damaged_works 0
+
+pub returns-in_err-add-clause-works : goal.returns-in_err-add-clause-works
+returns-in_err-add-clause-works g c =
+    let p = err_from_is_err_and c.from_residual.result c.from_residual.ensures.1 in
+    rw (p.1, p.2) (λ fa sound empty list have numbered.
+    let first = g.S.PageStore.seen c.args.old.now in
+    let now = g.S.PageStore.seen c.legs.old in
+    let inv = c.legs.invariant in
+    let n = c.legs.ordinal-counter in
+    let b = inv.brought fa sound empty list have numbered in
+    let same = same_by old_node_of (fresh first 1) (fresh now 1) (reads_stays first now inv.stays) fa in
+    let stand = c.in-Ok.ensures.opened (inv.stays.keeps.faithful ∙ fa) list b.stand (subst (λ nodes. HaveLegsOf nodes c.args.leaves.now list) (sym same) have) in
+    let at : lookup (nat_eq n) c.open_next.new.opened.entries ≡ Some c.in-Some.leg = sym c.remove.ensures.value ∙ c.in-Some.is in
+    λ e. subst MayRefuseLeg e (c.in_err-add.ensures.refusals.sound b.sound (next_follows g.I.Listed c.args.index.now c.legs.index c.legs.opened.entries c.open_next.new.opened.entries n c.args.legs list b numbered stand c.in-Some.leg at)))

@@ -8,7 +8,7 @@ use Rattle.legs.specs.Index.{MayRefuseLeg}
 use Rattle.boxsearch.specs.OldStore.{pages_of_old, HaveEachOf, HaveLegsOf, IsNumbered}
 use Rattle.boxsearch.specs.Walking.{pages_by}
 use Rattle.boxsearch.proofs.OldLemmas.{same_old, stays_read}
-use Rattle.boxsearch.proofs.OpenedLemmas.{allowed_leg}
+use Rattle.boxsearch.proofs.OpenedLemmas.{allowed_leg, works_leg}
 use Rattle.boxsearch.proofs.SurveyedLemmas.{have_each}
 use Rattle.boxsearch.proofs.TakingLemmas.{held_list, legs_are, on_err, on_ok, stays_trans}
 use Rattle.boxsearch.proofs.WalkedLemmas.{same_by}
@@ -94,3 +94,26 @@ returns-clause-only g c = on_err c.bring.result (λ fault h fa sound empty agree
     let each_there = subst (λ nodes. HaveEachOf nodes c.as_slice.result.now list) same (subst (λ ms. HaveEachOf nodes ms list) back each) in
     let total_is = subst (λ n. IsNumbered n list) (sym c.leg_count.ensures) numbered in
     h (reads.store.faithful ∙ fa) sound empty list there each_there total_is) c.bring.ensures.only
+
+pub returns-in-Err-clause-works : goal.returns-in-Err-clause-works
+returns-in-Err-clause-works g c = λ fa sound empty e. works_leg c.in-Err.fault c.in-Err.ensures.works (sym c.of_search.ensures ∙ e)
+
+pub returns-clause-works : goal.returns-clause-works
+returns-clause-works g c = on_err c.bring.result (λ fault h fa sound empty.
+    let first = g.S.PageStore.seen c.args.old.now in
+    let mid = g.S.PageStore.seen c.survey_leaves.new.store in
+    let reads = c.survey_leaves.ensures.reads in
+    let total = c.args.tracks.now.legs in
+    let places = c.args.places.now in
+    let tracks = c.args.tracks.now.tracks in
+    let nodes = pages_by old_node_of (fresh first 1) in
+    let leaves = c.in-Ok.survey.leaves.items in
+    let s = c.in-Ok.ensures.surveyed fa in
+    let list = sort_by_ordinal (legs_on nodes (joined s.chains)) in
+    let n = c.laws.ensures.numbered (legs_on nodes (joined s.chains)) total s.once in
+    let held : HoldChains nodes c.args.most c.args.rows total places tracks list = held_list nodes c.args.most c.args.rows total places tracks leaves s n in
+    let numbered : IsNumbered total list = record { in_turn = c.laws.ensures.chained nodes c.args.most c.args.rows total places tracks list c.requires held; numbers = n.1 } in
+    let have : HaveLegsOf nodes leaves list = legs_are nodes c.args.most c.args.rows total places tracks leaves s n in
+    let there = subst (λ nodes. HaveLegsOf nodes c.as_slice.result.now list) (sym (same_by old_node_of (fresh first 1) (fresh mid 1) reads fa)) (subst (λ ms. HaveLegsOf nodes ms list) (sym c.as_slice.ensures.value) have) in
+    let total_is = subst (λ n. IsNumbered n list) (sym c.leg_count.ensures) numbered in
+    h (reads.store.faithful ∙ fa) sound empty list there total_is) c.bring.ensures.works

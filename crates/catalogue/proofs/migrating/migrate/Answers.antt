@@ -8,7 +8,7 @@ use Rattle.boxsearch.specs.Index.{content}
 use Rattle.boxsearch.specs.OldStore.{pages_of_old}
 use Rattle.catalogue.specs.OldStore.{AnswersOld}
 use Rattle.catalogue.specs.Saved.{CatalogueView}
-use Rattle.catalogue.proofs.MigrateLemmas.{allowed_stop, book_agrees, book_brought, book_chains, caused_beginning, chains_as, old_pages_stay, same_shape}
+use Rattle.catalogue.proofs.MigrateLemmas.{allowed_stop, book_agrees, book_brought, book_chains, caused_beginning, chains_as, leg_stop, old_pages_stay, same_shape}
 use Rattle.catalogue.proofs.migrating.migrate.Goals as goal
 
 pub returns-in-Err-clause-holds : goal.returns-in-Err-clause-holds
@@ -71,3 +71,6 @@ returns-in-Err-bring_legs-clause-holds g c = λ fa fb shape limits book h.
     c.in-Err-bring_legs.ensures.only fm (c.in-Ok-begin.ensures.sound ft) c.in-Ok-begin.ensures.empty (subst (λ (t : TracksView). Agree t t.rows t.legs) same agrees) book.legs
     (chains_as (pages_of_old mid) read.leaf tracks c.catalogue.inside.tracks read.places.items c.as_slice.result.now book.legs same (sym c.as_slice.ensures.value)
     (subst (λ nodes. HoldChains nodes read.leaf tracks.rows tracks.legs read.places.items tracks.tracks book.legs) (sym (old_pages_stay s mid fa stays)) chains))
+
+pub returns-in-Err-clause-kept : goal.returns-in-Err-clause-kept
+returns-in-Err-clause-kept g c = λ fa fb catalogue tree places kept. leg_stop c.in-Err.back.1 (λ no. c.in-Err.ensures.broken fa fb no catalogue tree places kept)

@@ -1,7 +1,8 @@
 use Rattle.std.proofs.Common.{sym, subst, true}
 use Rattle.catalogue.specs.OldStore.{present_shape}
 use Rattle.trajdb.specs.Db.{IsAllowed}
-use Rattle.trajdb.proofs.LastingLemmas.{allowed_opening, opened_book}
+use Rattle.trajdb.specs.Lasting.{IsLegFault}
+use Rattle.trajdb.proofs.LastingLemmas.{allowed_opening, leg_opening, opened_book}
 use Rattle.trajdb.proofs.db.Db.migrate.Goals as goal
 
 pub returns-in-Ok-clause-book : goal.returns-in-Ok-clause-book
@@ -11,3 +12,7 @@ returns-in-Ok-clause-book g c = λ fa fb shape limits book h.
 pub returns-in-Err-clause-holds : goal.returns-in-Err-clause-holds
 returns-in-Err-clause-holds g c = λ fa fb shape limits book h.
     subst IsAllowed (sym c.from.ensures) (allowed_opening c.in-Err.fault (c.in-Err.ensures.holds fa fb shape limits book h))
+
+pub returns-in-Err-clause-kept : goal.returns-in-Err-clause-kept
+returns-in-Err-clause-kept g c = λ fa fb catalogue tree places kept.
+    subst IsLegFault (sym c.from.ensures) (leg_opening c.in-Err.fault (c.in-Err.ensures.kept fa fb catalogue tree places kept))
