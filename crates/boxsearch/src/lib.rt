@@ -21,12 +21,3 @@ pub use fault::SearchFault;
 pub use old_store::take_old_legs;
 pub use parts::laws;
 pub use tree_index::TreeIndex;
-
-#[cfg(test)]
-mod check_tests;
-#[cfg(test)]
-mod index_tests;
-#[cfg(test)]
-mod old_store_tests;
-#[cfg(test)]
-mod tests;

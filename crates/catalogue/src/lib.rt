@@ -35,10 +35,3 @@ pub use opening::open;
 pub use resting::laws;
 pub use restoring::restore;
 pub use saving::{Catalogue, save};
-
-#[cfg(test)]
-mod old_tests;
-#[cfg(test)]
-mod save_tests;
-#[cfg(test)]
-mod tests;

@@ -7,6 +7,3 @@ mod retrieval;
 
 pub use fault::ChainFault;
 pub use retrieval::{laws, trajectory, trajectory_in};
-
-#[cfg(test)]
-mod tests;

@@ -1,10 +1,15 @@
 //! The program over files that the tests write.
-use super::start;
-use pages::{Kind, Payload, seal};
+use crate::fault::Fault;
+use crate::start::{MOST_BYTES, database, read_named, run_and_close, start};
+use crate::words::{Task, read_words};
+use pages::{Fuse, Kind, MemStore, Payload, seal};
 use std::alloc::Global;
 use std::fs;
+use std::hash::RandomState;
+use std::io::Write;
 use std::process::Abort;
 use std::test::Fail;
+use trajdb::{Files, OpenFault, RunFault};
 
 /// The example of the standard.
 const STANDARD: &str = "\
@@ -194,7 +199,6 @@ fn fails(rt: &HostRuntime, words: &[&str], line: &str) -> Result<bool, Fail> {
 fn a_store_of_version_1_is_brought_over(rt: HostRuntime) -> Result<(), Fail> {
     let bytes = version_1(rt.alloc())?;
     fs::write(&rt, "old.mftb", bytes.as_slice())?;
-    fs::write(&rt, "new.mftb", "")?;
     fs::write(&rt, "count.txt", "count\n")?;
     let (status, out, faults) = answer(&rt, &["mftb", "migrate", "old.mftb", "new.mftb"])?;
     assert!(rt; status == 0 && out.as_slice() == "ok 0\n".as_bytes() && faults.is_empty());
@@ -202,9 +206,11 @@ fn a_store_of_version_1_is_brought_over(rt: HostRuntime) -> Result<(), Fail> {
     let (status, out, faults) = answer(&rt, &["mftb", "run", "new.mftb", "count.txt"])?;
     assert!(rt; status == 0 && out.as_slice() == "ok 1\n0,0\n".as_bytes() && faults.is_empty());
 
-    // The new store is there now.
+    // The new store is there now, and stays.
+    let made = fs::read(&rt, "new.mftb")?;
     let words = ["mftb", "migrate", "old.mftb", "new.mftb"];
     assert!(rt; fails(&rt, &words, "mftb: new store not empty\n")?);
+    assert!(rt; fs::read(&rt, "new.mftb")?.as_slice() == made.as_slice());
     Ok(())
 }
 
@@ -224,6 +230,27 @@ fn only_a_store_of_version_1_is_brought_over(rt: HostRuntime) -> Result<(), Fail
     let words = ["mftb", "migrate", "nothing.mftb", "other.mftb"];
     assert!(rt; fails(&rt, &words, "mftb: store malformed\n")?);
     assert!(rt; fs::read(&rt, "nothing.mftb").is_err());
+    Ok(())
+}
+
+#[test]
+fn a_store_of_version_1_may_be_unfinished_or_damaged(rt: HostRuntime) -> Result<(), Fail> {
+    let mut header = HEADER;
+    header[11] = 0;
+    fs::write(&rt, "left.mftb", page(0, Kind::Header, &header).as_slice())?;
+    fs::write(&rt, "over.mftb", "")?;
+    let words = ["mftb", "migrate", "left.mftb", "over.mftb"];
+    assert!(rt; fails(&rt, &words, "mftb: store unfinished\n")?);
+
+    // A byte of page 1.
+    let mut bytes = version_1(rt.alloc())?;
+    if let Some(byte) = bytes.get_mut(5000) {
+        *byte = 77;
+    }
+    fs::write(&rt, "bent.mftb", bytes.as_slice())?;
+    let words = ["mftb", "migrate", "bent.mftb", "over.mftb"];
+    assert!(rt; fails(&rt, &words, "mftb: page 1 damaged\n")?);
+    assert!(rt; fs::read(&rt, "over.mftb")?.is_empty());
     Ok(())
 }
 
@@ -266,6 +293,80 @@ fn what_cannot_be_read_has_a_line(rt: HostRuntime) -> Result<(), Fail> {
     assert_eq!(rt; status, 1);
     assert!(rt; out.is_empty());
     assert!(rt; faults.as_slice() == "mftb: cannot read no such script\n".as_bytes());
+    Ok(())
+}
+
+#[test]
+fn all_is_read_before_the_store_is_made(rt: HostRuntime) -> Result<(), Fail> {
+    fs::write(&rt, "count.txt", "count\n")?;
+    let words = ["mftb", "run", "made.mftb", "absent.txt"];
+    assert!(rt; fails(&rt, &words, "mftb: cannot read absent.txt\n")?);
+    let words = ["mftb", "run", "made.mftb", "count.txt", "absent.csv"];
+    assert!(rt; fails(&rt, &words, "mftb: cannot read absent.csv\n")?);
+    assert!(rt; fs::read(&rt, "made.mftb").is_err());
+    Ok(())
+}
+
+#[test]
+fn a_file_that_is_too_long_is_not_read(rt: HostRuntime) -> Result<(), Fail> {
+    fs::write(&rt, "five.txt", "12345")?;
+    assert!(rt; read_named(&rt, "five.txt", 5)?.as_slice() == b"12345".as_slice());
+    assert!(rt; read_named(&rt, "five.txt", 4).err() == Some(Fault::CannotRead("five.txt")));
+    assert_eq!(rt; MOST_BYTES, 1_073_741_824);
+    Ok(())
+}
+
+#[test]
+fn each_fault_has_its_line(rt: HostRuntime) -> Result<(), Fail> {
+    let lines = [
+        (Fault::Run(RunFault::Memory), "memory"),
+        (Fault::Run(RunFault::Store), "store"),
+        (Fault::Run(RunFault::Damaged(7)), "page 7 damaged"),
+        (Fault::Run(RunFault::StoreFull), "store full"),
+        (Fault::Run(RunFault::Failed), "failed"),
+        (Fault::Run(RunFault::Output), "output"),
+        (Fault::Open(OpenFault::Memory), "memory"),
+        (Fault::Open(OpenFault::Store), "store"),
+        (Fault::Open(OpenFault::Damaged(7)), "page 7 damaged"),
+        (Fault::Open(OpenFault::StoreFull), "store full"),
+        (Fault::Open(OpenFault::Unfinished), "store unfinished"),
+        (Fault::Open(OpenFault::Version), "store version"),
+        (Fault::Open(OpenFault::Malformed), "store malformed"),
+        (Fault::CannotRead("a.csv"), "cannot read a.csv"),
+        (Fault::NotEmpty, "new store not empty"),
+    ];
+    for (fault, line) in lines {
+        let mut said = Vec::new(rt.alloc());
+        write!(said, "{fault}")?;
+        assert!(rt; said.as_slice() == line.as_bytes());
+    }
+    Ok(())
+}
+
+#[test]
+fn the_first_fault_is_said(rt: HostRuntime) -> Result<(), Fail> {
+    let (alloc, keys) = (rt.alloc(), RandomState::new(&rt)?);
+    let mut files = Files::new(alloc);
+    files.add("S1.csv", Vec::from_slice(alloc, STANDARD.as_bytes())?)?;
+    // Page 0 is written and made to last, and the third call fails: the load, and then the closing.
+    let store = Fuse::new(MemStore::new(alloc, 100), 2, false);
+    let Ok(db) = database(alloc, keys, store, true, 1) else {
+        return Err("no database".into());
+    };
+    let mut out = Vec::new(alloc);
+    let (_, answer) = run_and_close(alloc, db, b"load S1.csv".as_slice(), &files, &mut out);
+    assert!(rt; answer == Err(RunFault::Store) && out.is_empty());
+    Ok(())
+}
+
+#[test]
+fn a_cache_has_256_pages(rt: HostRuntime) -> Result<(), Fail> {
+    let words = owned(rt.alloc(), &["mftb", "run", "a", "b"])?;
+    let asked = read_words(rt.alloc(), &words).ok().ok_or("no words")?;
+    assert!(rt; matches!(asked, Task::Run(run) if run.cache_pages == 256));
+    let words = owned(rt.alloc(), &["mftb", "check", "a"])?;
+    let asked = read_words(rt.alloc(), &words).ok().ok_or("no words")?;
+    assert!(rt; matches!(asked, Task::Check(check) if check.cache_pages == 256));
     Ok(())
 }
 

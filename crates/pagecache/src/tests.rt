@@ -217,7 +217,7 @@ fn agrees<S: PageStore>(
             }
             let added = cache.add_page(Kind::Leaf)?;
             let is_next = added as usize == map.len();
-            map.push(0).map_err(|_| CacheFault::Memory)?;
+            map.push(0).ok().ok_or(CacheFault::Memory)?;
             Ok(is_next)
         }
         1 => cache.flush().map(|()| true),
@@ -264,8 +264,8 @@ fn calls_at_random(rt: HostRuntime) -> Result<(), Fail> {
     Ok(())
 }
 
-/// Passes wherever memory runs out, too: each call is right or is refused. It was run with each
-/// growth refused in turn.
+/// Passes wherever memory runs out, too: each call is right or is refused; it is run with each
+/// allocation refused in turn.
 #[test]
 fn no_wrong_answer_without_memory(rt: HostRuntime) {
     if let Ok((right, refused)) = agreeing(rt.alloc(), 2, 60) {

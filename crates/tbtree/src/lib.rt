@@ -16,6 +16,3 @@ pub use insertion::insert;
 pub use payloads::cover_of;
 pub use shape::Shape;
 pub use tree::{Place, TbTree};
-
-#[cfg(test)]
-mod tests;

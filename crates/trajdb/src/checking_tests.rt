@@ -21,11 +21,13 @@ fn found(pages: u32, legs: u64, features: u64) -> Result<Report, RunFault> {
 #[test]
 fn the_example_passes(rt: HostRuntime) -> Result<(), Fail> {
     let (alloc, keys) = (rt.alloc(), RandomState::new(&rt)?);
-    let mut db = loaded(alloc, keys, MemStore::new(alloc, 100)).map_err(|_| "not loaded")?;
+    let mut db = loaded(alloc, keys, MemStore::new(alloc, 100))
+        .ok()
+        .ok_or("not loaded")?;
     assert!(rt; db.check() == found(5, 5, 3) && db.check() == found(5, 5, 3));
     let (store, answer) = db.close(alloc);
     assert!(rt; answer == Ok(()));
-    let mut db = opened(alloc, keys, store, 1).map_err(|_| "not opened")?;
+    let mut db = opened(alloc, keys, store, 1).ok().ok_or("not opened")?;
     assert!(rt; db.check() == found(6, 5, 3));
     let (text, answer) = said(alloc, &mut db, "load more.csv");
     assert!(rt; answer == Ok(()) && text.as_slice() == b"ok 1\n1,1,1\n".as_slice());
@@ -33,7 +35,9 @@ fn the_example_passes(rt: HostRuntime) -> Result<(), Fail> {
 
     let limits = Limits::new(9, 9).ok_or("limits")?;
     let store = MemStore::new(alloc, 2);
-    let mut db = over(alloc, keys, store, limits, (50, 72, 1)).map_err(|_| "not made")?;
+    let mut db = over(alloc, keys, store, limits, (50, 72, 1))
+        .ok()
+        .ok_or("not made")?;
     assert!(rt; db.check() == found(1, 0, 0));
     assert!(rt; said(alloc, &mut db, "load head.csv").1 == Ok(()) && db.check() == found(1, 0, 0));
     assert!(rt; said(alloc, &mut db, "load S1.csv").1 == Err(RunFault::StoreFull));
@@ -81,11 +85,11 @@ fn lying(
     if number >= store.len() || place > 4000 {
         return Err(RunFault::Failed);
     }
-    store.read(number, &mut page).map_err(|_| RunFault::Store)?;
-    let mut payload = unseal(number, &page).map_err(|_| RunFault::Damaged(number))?;
+    store.read(number, &mut page).ok().ok_or(RunFault::Store)?;
+    let mut payload = unseal(number, &page).ok().ok_or(RunFault::Damaged(number))?;
     put_u32(&mut payload.bytes, place, value);
     let page = seal(number, &payload);
-    store.write(number, &page).map_err(|_| RunFault::Store)?;
+    store.write(number, &page).ok().ok_or(RunFault::Store)?;
     Ok(store)
 }
 
@@ -104,8 +108,10 @@ write
 fn pages_that_lie_are_named(rt: HostRuntime) -> Result<(), Fail> {
     let (alloc, keys) = (rt.alloc(), RandomState::new(&rt)?);
     for (page, place, value, named) in LIES {
-        let store = lying(alloc, keys, page, place, value).map_err(|_| "no such place")?;
-        let mut db = opened(alloc, keys, store, 1).map_err(|_| "not opened")?;
+        let store = lying(alloc, keys, page, place, value)
+            .ok()
+            .ok_or("no such place")?;
+        let mut db = opened(alloc, keys, store, 1).ok().ok_or("not opened")?;
         let told = db.check();
         assert!(rt;
             told == Err(RunFault::Damaged(named)),
@@ -120,22 +126,35 @@ fn pages_that_lie_are_named(rt: HostRuntime) -> Result<(), Fail> {
 }
 
 #[test]
+fn a_leg_whose_row_is_missing_is_damage_of_the_catalogue(rt: HostRuntime) -> Result<(), Fail> {
+    let (alloc, keys) = (rt.alloc(), RandomState::new(&rt)?);
+    let store = lying(alloc, keys, 2, 88, 4).ok().ok_or("no such place")?;
+    let mut db = opened(alloc, keys, store, 1).ok().ok_or("not opened")?;
+    for question in ["trajectory b", "write"] {
+        let (text, answer) = said(alloc, &mut db, question);
+        assert!(rt; text.is_empty() && answer == Err(RunFault::Damaged(0)));
+    }
+    Ok(())
+}
+
+#[test]
 fn entries_in_another_order_are_told(rt: HostRuntime) -> Result<(), Fail> {
     let (alloc, keys) = (rt.alloc(), RandomState::new(&rt)?);
-    let (mut store, _) = closed(alloc, keys, 100).map_err(|_| "not loaded")?;
+    let (mut store, _) = closed(alloc, keys, 100).ok().ok_or("not loaded")?;
     let mut page = [0; 4096];
     if store.len() > 3 {
-        store.read(3, &mut page).map_err(|_| "not read")?;
-        let mut payload = unseal(3, &page).map_err(|_| "not sealed")?;
+        store.read(3, &mut page).ok().ok_or("not read")?;
+        let mut payload = unseal(3, &page).ok().ok_or("not sealed")?;
         let mut first = [0; 56];
         first.copy_from_slice(&payload.bytes[16..72]);
         payload.bytes.copy_within(72..128, 16);
         payload.bytes[72..128].copy_from_slice(&first);
         store
             .write(3, &seal(3, &payload))
-            .map_err(|_| "not written")?;
+            .ok()
+            .ok_or("not written")?;
     }
-    let mut db = opened(alloc, keys, store, 256).map_err(|_| "not opened")?;
+    let mut db = opened(alloc, keys, store, 256).ok().ok_or("not opened")?;
     assert!(rt; db.check() == Err(RunFault::Damaged(3)));
     Ok(())
 }
@@ -173,7 +192,7 @@ fn a_check_of_a_store_that_cannot_be_read_is_asked_again(rt: HostRuntime) -> Res
     let (alloc, keys) = (rt.alloc(), RandomState::new(&rt)?);
     let (mut failed, mut passed) = (0u32, 0u32);
     for calls in 0..30 {
-        let (store, _) = closed(alloc, keys, 100).map_err(|_| "not loaded")?;
+        let (store, _) = closed(alloc, keys, 100).ok().ok_or("not loaded")?;
         let Ok(mut db) = opened(alloc, keys, Fuse::new(store, calls, true), 1) else {
             continue;
         };

@@ -342,8 +342,8 @@ fn check_output<R: Abort + AllocGlobal>(
 #[test]
 fn an_output_that_fails_has_a_prefix(rt: HostRuntime) -> Result<(), Fail> {
     let keys = RandomState::new(&rt)?;
-    check_output(&rt, keys, 1).map_err(|_| "no database")?;
-    check_output(&rt, keys, 1000).map_err(|_| "no database")?;
+    check_output(&rt, keys, 1).ok().ok_or("no database")?;
+    check_output(&rt, keys, 1000).ok().ok_or("no database")?;
     Ok(())
 }
 
@@ -353,14 +353,15 @@ fn a_file_that_is_cut_adds_nothing_or_is_accepted(rt: HostRuntime) -> Result<(),
     let none = Files::new(alloc);
     for end in 0..STANDARD.len() {
         let store = MemStore::new(alloc, 100);
-        let mut db = database(alloc, keys, store, 1).map_err(|_| "no database")?;
+        let mut db = database(alloc, keys, store, 1).ok().ok_or("no database")?;
         let bytes = STANDARD.as_bytes();
         match db.load(alloc, &bytes[..end]) {
             Ok(_) => {}
             Err(LoadFault::Refused { .. }) => {
                 let count = db
                     .command(alloc, &Command::Count, &none)
-                    .map_err(|_| "a count")?;
+                    .ok()
+                    .ok_or("a count")?;
                 assert!(rt; count.as_slice() == "ok 1\n0,0\n".as_bytes(), "at {end}");
             }
             Err(LoadFault::Run(fault)) => assert!(rt; false, "at {end}: {fault:?}"),
@@ -416,7 +417,7 @@ fn load_answer(
 fn hostile_files_are_refused(rt: HostRuntime) -> Result<(), Fail> {
     let (alloc, keys) = (rt.alloc(), RandomState::new(&rt)?);
     for (head, rest, want) in HOSTILE {
-        let text = load_answer(alloc, keys, head, rest).map_err(|_| "a run")?;
+        let text = load_answer(alloc, keys, head, rest).ok().ok_or("a run")?;
         assert!(rt; text.as_slice() == want.as_bytes(), "{want}");
     }
     Ok(())

@@ -80,16 +80,18 @@ const QUESTIONS: &str =
 #[test]
 fn what_is_closed_is_opened(rt: HostRuntime) -> Result<(), Fail> {
     let (alloc, keys) = (rt.alloc(), RandomState::new(&rt)?);
-    let (store, answer) = closed(alloc, keys, 100).map_err(|_| "not loaded")?;
+    let (store, answer) = closed(alloc, keys, 100).ok().ok_or("not loaded")?;
     assert!(rt; answer == Ok(()) && store.len() == 6);
-    let mut db = opened(alloc, keys, store, 256).map_err(|_| "not opened")?;
+    let mut db = opened(alloc, keys, store, 256).ok().ok_or("not opened")?;
     let (text, answer) = said(alloc, &mut db, QUESTIONS);
     assert!(rt; answer == Ok(()) && text.as_slice() == b"ok 1\na\nok 1\n5,3\n".as_slice());
 
     // A refused file begins nothing: the store stays finished.
     let (text, answer) = said(alloc, &mut db, "load S1.csv");
     assert!(rt; answer == Ok(()) && text.as_slice() == b"refused F18 at 3\n".as_slice());
-    let mut db = opened(alloc, keys, db.abandon(), 1).map_err(|_| "not opened again")?;
+    let mut db = opened(alloc, keys, db.abandon(), 1)
+        .ok()
+        .ok_or("not opened again")?;
     let (text, answer) = said(alloc, &mut db, "count");
     assert!(rt; answer == Ok(()) && text.as_slice() == b"ok 1\n5,3\n".as_slice());
 
@@ -103,13 +105,15 @@ fn what_is_closed_is_opened(rt: HostRuntime) -> Result<(), Fail> {
 #[test]
 fn legs_are_added_to_what_was_opened(rt: HostRuntime) -> Result<(), Fail> {
     let (alloc, keys) = (rt.alloc(), RandomState::new(&rt)?);
-    let (store, _) = closed(alloc, keys, 100).map_err(|_| "not loaded")?;
-    let mut db = opened(alloc, keys, store, 2).map_err(|_| "not opened")?;
+    let (store, _) = closed(alloc, keys, 100).ok().ok_or("not loaded")?;
+    let mut db = opened(alloc, keys, store, 2).ok().ok_or("not opened")?;
     let (text, answer) = said(alloc, &mut db, "load more.csv\ncount");
     assert!(rt; answer == Ok(()) && text.as_slice() == b"ok 1\n1,1,1\nok 1\n6,4\n".as_slice());
     let (store, answer) = db.close(alloc);
     assert!(rt; answer == Ok(()));
-    let mut db = opened(alloc, keys, store, 2).map_err(|_| "not opened again")?;
+    let mut db = opened(alloc, keys, store, 2)
+        .ok()
+        .ok_or("not opened again")?;
     let (text, answer) = said(alloc, &mut db, "count\ntrajectory d\ntrajectory b");
     assert!(rt; answer == Ok(()));
     assert!(rt;
@@ -122,7 +126,9 @@ fn legs_are_added_to_what_was_opened(rt: HostRuntime) -> Result<(), Fail> {
 #[test]
 fn a_store_that_is_abandoned_is_unfinished(rt: HostRuntime) -> Result<(), Fail> {
     let (alloc, keys) = (rt.alloc(), RandomState::new(&rt)?);
-    let db = loaded(alloc, keys, MemStore::new(alloc, 100)).map_err(|_| "not loaded")?;
+    let db = loaded(alloc, keys, MemStore::new(alloc, 100))
+        .ok()
+        .ok_or("not loaded")?;
     assert!(rt; opened(alloc, keys, db.abandon(), 256).err() == Some(OpenFault::Unfinished));
     assert!(rt;
         opened(alloc, keys, MemStore::new(alloc, 100), 256).err() == Some(OpenFault::Malformed)
@@ -158,11 +164,11 @@ fn page_0_is_tested_in_order(rt: HostRuntime) -> Result<(), Fail> {
         (&[(55, 80)], OpenFault::Malformed),
     ];
     for (bytes, fault) in cases {
-        let (mut store, _) = closed(alloc, keys, 100).map_err(|_| "not loaded")?;
+        let (mut store, _) = closed(alloc, keys, 100).ok().ok_or("not loaded")?;
         assert!(rt; change(&mut store, bytes).is_some());
         assert!(rt; opened(alloc, keys, store, 256).err() == Some(fault));
     }
-    let (mut store, _) = closed(alloc, keys, 100).map_err(|_| "not loaded")?;
+    let (mut store, _) = closed(alloc, keys, 100).ok().ok_or("not loaded")?;
     if store.len() > 1 {
         store.set_byte(0, 50, 1);
         store.set_byte(1, 100, 1);
@@ -174,11 +180,11 @@ fn page_0_is_tested_in_order(rt: HostRuntime) -> Result<(), Fail> {
 #[test]
 fn a_page_that_is_damaged_is_named(rt: HostRuntime) -> Result<(), Fail> {
     let (alloc, keys) = (rt.alloc(), RandomState::new(&rt)?);
-    let (mut store, _) = closed(alloc, keys, 100).map_err(|_| "not loaded")?;
+    let (mut store, _) = closed(alloc, keys, 100).ok().ok_or("not loaded")?;
     if store.len() > 1 {
         store.set_byte(1, 100, 1);
     }
-    let mut db = opened(alloc, keys, store, 1).map_err(|_| "not opened")?;
+    let mut db = opened(alloc, keys, store, 1).ok().ok_or("not opened")?;
     let (text, answer) = said(alloc, &mut db, "count\ntrajectory a");
     assert!(rt;
         answer == Err(RunFault::Damaged(1)) && text.as_slice() == b"ok 1\n5,3\n".as_slice()
@@ -189,7 +195,7 @@ fn a_page_that_is_damaged_is_named(rt: HostRuntime) -> Result<(), Fail> {
 #[test]
 fn a_page_of_the_catalogue_that_is_damaged_is_named(rt: HostRuntime) -> Result<(), Fail> {
     let (alloc, keys) = (rt.alloc(), RandomState::new(&rt)?);
-    let (mut store, _) = closed(alloc, keys, 100).map_err(|_| "not loaded")?;
+    let (mut store, _) = closed(alloc, keys, 100).ok().ok_or("not loaded")?;
     // The last of the six pages, behind the text.
     if store.len() > 5 {
         store.set_byte(5, 4000, 1);
@@ -202,13 +208,13 @@ fn a_page_of_the_catalogue_that_is_damaged_is_named(rt: HostRuntime) -> Result<(
 fn a_store_without_room_stays_unfinished(rt: HostRuntime) -> Result<(), Fail> {
     let (alloc, keys) = (rt.alloc(), RandomState::new(&rt)?);
     // The example has five pages, and its catalogue one.
-    let (store, answer) = closed(alloc, keys, 5).map_err(|_| "not loaded")?;
+    let (store, answer) = closed(alloc, keys, 5).ok().ok_or("not loaded")?;
     assert!(rt; answer == Err(RunFault::StoreFull));
     assert!(rt; opened(alloc, keys, store, 256).err() == Some(OpenFault::Unfinished));
 
-    let (store, answer) = closed(alloc, keys, 6).map_err(|_| "not loaded")?;
+    let (store, answer) = closed(alloc, keys, 6).ok().ok_or("not loaded")?;
     assert!(rt; answer == Ok(()));
-    let mut db = opened(alloc, keys, store, 256).map_err(|_| "not opened")?;
+    let mut db = opened(alloc, keys, store, 256).ok().ok_or("not opened")?;
     let (text, answer) = said(alloc, &mut db, "load more.csv");
     assert!(rt; answer == Err(RunFault::StoreFull) && text.is_empty());
     let (store, answer) = db.close(alloc);
@@ -279,10 +285,13 @@ fn a_store_that_fails_is_said_to(rt: HostRuntime) -> Result<(), Fail> {
     let (alloc, keys) = (rt.alloc(), RandomState::new(&rt)?);
     let (mut last, mut last_of_example) = (0, 0);
     for calls in 0..40 {
-        if fused(alloc, keys, calls).map_err(|_| "another answer")? {
+        if fused(alloc, keys, calls).ok().ok_or("another answer")? {
             last = calls;
         }
-        if fused_example(alloc, keys, calls).map_err(|_| "another answer of the example")? {
+        if fused_example(alloc, keys, calls)
+            .ok()
+            .ok_or("another answer of the example")?
+        {
             last_of_example = calls;
         }
     }
@@ -290,5 +299,43 @@ fn a_store_that_fails_is_said_to(rt: HostRuntime) -> Result<(), Fail> {
     // closing.
     assert!(rt; 5 < last && last < 39);
     assert!(rt; 5 < last_of_example && last_of_example < 39);
+    Ok(())
+}
+
+/// Whether a fault is one of want of memory: a store in memory fails where it finds no room.
+fn is_want(fault: RunFault) -> bool {
+    fault == RunFault::Memory || fault == RunFault::Store
+}
+
+/// Whether the example, closed and opened again, is counted and found sound, or memory runs out.
+fn is_kept(alloc: Global, keys: RandomState) -> bool {
+    let (store, answer) = match closed(alloc, keys, 100) {
+        Ok(closed) => closed,
+        Err(fault) => return is_want(fault),
+    };
+    if let Err(fault) = answer {
+        return is_want(fault);
+    }
+    let mut db = match opened(alloc, keys, store, 1) {
+        Ok(db) => db,
+        Err(fault) => return fault == OpenFault::Memory,
+    };
+    let (text, answer) = said(alloc, &mut db, "count");
+    let is_told = match answer {
+        Ok(()) => text.as_slice() == b"ok 1\n5,3\n".as_slice(),
+        Err(fault) => is_want(fault),
+    };
+    is_told && matches!(db.check(), Ok(_) | Err(RunFault::Memory))
+}
+
+/// Passes wherever memory runs out, too; it is run with each allocation refused in turn.
+#[test]
+fn no_wrong_book_without_memory(rt: HostRuntime) -> Result<(), Fail> {
+    let alloc = rt.alloc();
+    let keys = match RandomState::new(&rt) {
+        Ok(keys) => keys,
+        Err(_) => RandomState::new(&rt)?,
+    };
+    assert!(rt; is_kept(alloc, keys));
     Ok(())
 }

@@ -92,14 +92,16 @@ fn the_example_is_brought_over(rt: HostRuntime) -> Result<(), Fail> {
     let (alloc, keys) = (rt.alloc(), RandomState::new(&rt)?);
     let mut old = version_1(alloc).ok_or("no store")?;
     let new = MemStore::new(alloc, 100);
-    let mut db = migrated(alloc, keys, &mut old, new, 1).map_err(|_| "not brought over")?;
+    let mut db = migrated(alloc, keys, &mut old, new, 1)
+        .ok()
+        .ok_or("not brought over")?;
     let (text, answer) = said(alloc, &mut db, QUESTIONS);
     assert!(rt; answer == Ok(()) && text.as_slice() == ANSWERS.as_bytes());
 
     // They are kept, and the store passes a check, which the old one was not changed by.
     let (store, answer) = db.close(alloc);
     assert!(rt; answer == Ok(()) && store.len() == 6);
-    let mut db = opened(alloc, keys, store, 2).map_err(|_| "not opened")?;
+    let mut db = opened(alloc, keys, store, 2).ok().ok_or("not opened")?;
     let (text, answer) = said(alloc, &mut db, QUESTIONS);
     assert!(rt; answer == Ok(()) && text.as_slice() == ANSWERS.as_bytes());
     assert!(rt;
@@ -147,7 +149,7 @@ fn what_is_left<T: PageStore + Drop>(alloc: Global, keys: RandomState, store: T)
     match opened(alloc, keys, store, 1).err() {
         _ if pages == 0 => Left::Nothing,
         Some(OpenFault::Unfinished) => Left::Unfinished,
-        _ if pages == 1 => Left::First,
+        Some(_) if pages == 1 => Left::First,
         _ => Left::More,
     }
 }

@@ -70,7 +70,9 @@ fn a_question_asks_for_so_many_pages(rt: HostRuntime) -> Result<(), Fail> {
         ("write", 0, 6),
     ] {
         for cache_pages in [1, 256] {
-            let pages = asked(rt.alloc(), keys, cache_pages, line).map_err(|_| "a run")?;
+            let pages = asked(rt.alloc(), keys, cache_pages, line)
+                .ok()
+                .ok_or("a run")?;
             assert!(rt; least <= pages && pages <= most, "{line}: {pages}");
         }
     }
@@ -104,7 +106,8 @@ fn a_store_without_room_fails_the_database(rt: HostRuntime) -> Result<(), Fail> 
         Err(_) => refused(rt.alloc(), keys),
         answer => answer,
     }
-    .map_err(|_| "a run")?;
+    .ok()
+    .ok_or("a run")?;
     assert!(rt; load == Some(RunFault::StoreFull) && sent == 0);
     assert!(rt; later == [Some(RunFault::Failed), Some(RunFault::Failed)]);
     Ok(())
@@ -119,8 +122,8 @@ fn in_a_file<R: rt::Files<File = File> + AllocGlobal>(
     keys: RandomState,
 ) -> Result<Db<FileStore>, RunFault> {
     let alloc = rt.alloc();
-    fs::write(rt, FILE, b"").map_err(|_| RunFault::Store)?;
-    let store = FileStore::open(rt, FILE).map_err(|_| RunFault::Store)?;
+    fs::write(rt, FILE, b"").ok().ok_or(RunFault::Store)?;
+    let store = FileStore::open(rt, FILE).ok().ok_or(RunFault::Store)?;
     let files = named_files(alloc)?;
     let mut db = database(alloc, keys, store, (50, 72, 1))?;
     let script = b"load S1.csv\ntrajectory b";
@@ -183,10 +186,11 @@ fn answers_are_those_of_the_pages(rt: HostRuntime) -> Result<(), Fail> {
         Err(_) => in_a_file(&rt, keys),
         answer => answer,
     }
-    .map_err(|_| "a run")?;
+    .ok()
+    .ok_or("a run")?;
     assert!(rt; change(&rt).is_some());
     for (line, want) in CHANGED {
-        let got = answer(rt.alloc(), &mut db, line).map_err(|_| "a run")?;
+        let got = answer(rt.alloc(), &mut db, line).ok().ok_or("a run")?;
         assert!(rt; got.as_slice() == want.as_bytes(), "{line}");
     }
     Ok(())

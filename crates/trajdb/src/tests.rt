@@ -278,8 +278,12 @@ fn check_paged<R: Abort + AllocGlobal>(
 ) -> Result<(), Fail> {
     let (leaf, inner) = shape;
     let alloc = rt.alloc();
-    let narrow = run_paged(alloc, keys, limits, (leaf, inner, 1), script).map_err(|_| "a run")?;
-    let wide = run_paged(alloc, keys, limits, (leaf, inner, 256), script).map_err(|_| "a run")?;
+    let narrow = run_paged(alloc, keys, limits, (leaf, inner, 1), script)
+        .ok()
+        .ok_or("a run")?;
+    let wide = run_paged(alloc, keys, limits, (leaf, inner, 256), script)
+        .ok()
+        .ok_or("a run")?;
     assert!(rt; narrow.0.as_slice() == want.as_bytes(), "{want}");
     assert!(rt; wide.0.as_slice() == want.as_bytes(), "{want}");
     assert_eq!(rt; narrow.1, wide.1, "{want}");
@@ -294,7 +298,7 @@ fn check_under<R: Abort + AllocGlobal + RandomSource>(
 ) -> Result<(), Fail> {
     let keys = RandomState::new(rt)?;
     for (script, want) in scripts {
-        let got = run(rt.alloc(), keys, limits, script).map_err(|_| "a run")?;
+        let got = run(rt.alloc(), keys, limits, script).ok().ok_or("a run")?;
         assert!(rt; got.as_slice() == want.as_bytes(), "{want}");
         check_paged(rt, keys, limits, (2, 2), (script, want))?;
         check_paged(rt, keys, limits, (50, 72), (script, want))?;
@@ -620,7 +624,8 @@ fn a_file_is_loaded_and_a_command_answered(rt: HostRuntime) -> Result<(), Fail> 
         Err(RunFault::Memory) => load_and_count(rt.alloc(), keys, limits),
         answer => answer,
     }
-    .map_err(|_| "a run")?;
+    .ok()
+    .ok_or("a run")?;
     let want = Counts {
         records: 4,
         legs: 5,

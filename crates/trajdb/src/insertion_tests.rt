@@ -1,10 +1,11 @@
-use super::*;
+//! Insertion into a tree: its pages as the worked trees have them, and stores that fail.
 use fixedpoint::Coord;
 use legs::Leg;
 use mfcsv::Position;
 use pagecache::{CacheFault, PageCache};
 use pages::{Fuse, Kind, MemStore, PageStore};
 use std::alloc::Global;
+use tbtree::{Place, Shape, TbTree, TreeFault, insert};
 use timebase::Ms;
 
 /// A point of the x axis.

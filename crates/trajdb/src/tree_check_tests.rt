@@ -1,7 +1,8 @@
+//! An index that is checked: each lie of a page, and of what is kept beside the pages, is told.
 ghost use Rattle.std.specs.Prelude.{◌≡◌, ◌≤◌};
 ghost use Rattle.pages.specs.Store.{HasRisen};
 
-use super::*;
+use boxsearch::TreeIndex;
 use fixedpoint::Coord;
 use legs::{IndexFault, Leg, LegIndex, Track, Tracks};
 use mfcsv::Position;
@@ -260,7 +261,7 @@ fn told_of_lie(
     value: u32,
 ) -> Option<Option<IndexFault>> {
     let mut index = grown(alloc, 6)?;
-    let payload = index.cache.page_mut(page).ok()?;
+    let payload = index.cache_mut().page_mut(page).ok()?;
     if place > 4000 {
         return None;
     }
@@ -307,7 +308,7 @@ fn told_of_state(
     begun: bool,
 ) -> Option<Option<IndexFault>> {
     let mut index = grown(alloc, 6)?;
-    let payload = index.cache.page_mut(0).ok()?;
+    let payload = index.cache_mut().page_mut(0).ok()?;
     if place > 4000 {
         return None;
     }
@@ -342,8 +343,8 @@ fn with_byte(
     place: usize,
 ) -> Option<TreeIndex<MemStore>> {
     index.flush().ok()?;
-    let tree = index.tree;
-    let places = index.places.clone().ok()?;
+    let tree = index.tree();
+    let places = Vec::from_slice(alloc, index.places()).ok()?;
     let mut store = index.into_cache().into_store();
     if place >= 4096 || page >= store.len() {
         return None;
@@ -364,7 +365,7 @@ fn told_sealed(
     place: usize,
 ) -> Option<Option<IndexFault>> {
     let mut index = grown(alloc, 6)?;
-    put_u32(&mut index.cache.page_mut(0).ok()?.bytes, 0, 0);
+    put_u32(&mut index.cache_mut().page_mut(0).ok()?.bytes, 0, 0);
     let mut index = with_byte(alloc, index, page, place)?;
     told(alloc, keys, &mut index)
 }
@@ -402,7 +403,7 @@ fn told_of_both(
 ) -> Option<Option<IndexFault>> {
     let mut index = grown(alloc, 6)?;
     for (page, place, value) in lies {
-        let payload = index.cache.page_mut(*page).ok()?;
+        let payload = index.cache_mut().page_mut(*page).ok()?;
         if *place > 4000 {
             return None;
         }
@@ -435,7 +436,7 @@ fn exchange(payload: &mut Payload) {
 /// What six legs are refused with where the first two entries of a page are exchanged.
 fn told_exchanged(alloc: Global, keys: RandomState, page: u32) -> Option<Option<IndexFault>> {
     let mut index = grown(alloc, 6)?;
-    exchange(index.cache.page_mut(page).ok()?);
+    exchange(index.cache_mut().page_mut(page).ok()?);
     told(alloc, keys, &mut index)
 }
 
@@ -457,9 +458,16 @@ fn entries_in_another_order_are_told(rt: HostRuntime) -> Result<(), Fail> {
 fn told_renumbered(alloc: Global, keys: RandomState) -> Option<Option<IndexFault>> {
     let mut index = grown(alloc, 6)?;
     for (page, feature) in [(1, 1), (4, 1), (2, 0), (7, 0)] {
-        put_u32(&mut index.cache.page_mut(page).ok()?.bytes, 0, feature);
+        put_u32(
+            &mut index.cache_mut().page_mut(page).ok()?.bytes,
+            0,
+            feature,
+        );
     }
-    index.places.as_mut_slice().reverse();
+    let mut places = Vec::from_slice(alloc, index.places()).ok()?;
+    places.as_mut_slice().reverse();
+    let tree = index.tree();
+    let mut index = TreeIndex::from_parts(alloc, index.into_cache(), tree, places, 6);
     let ends = [6000, 5000, 0];
     let tracks = tracks(alloc, keys, &Beside { ends, ..SOUND })?;
     Some(index.check(&tracks, 6, true).err())
@@ -500,8 +508,8 @@ fn told_under(
     legs: u64,
 ) -> Option<Option<IndexFault>> {
     let index = grown(alloc, 6)?;
-    let sound = index.tree;
-    let places = index.places.clone().ok()?;
+    let sound = index.tree();
+    let places = Vec::from_slice(alloc, index.places()).ok()?;
     let cache = index.into_cache();
     let tree = TbTree {
         root,
@@ -544,8 +552,11 @@ const WRONG_PLACES: [(u32, u32, u32, u64, u32); 7] = [
 
 /// What six legs are refused with where feature 0 has another place.
 fn told_at(alloc: Global, keys: RandomState, place: Place) -> Option<Option<IndexFault>> {
-    let mut index = grown(alloc, 6)?;
-    *index.places.get_mut(0)? = place;
+    let index = grown(alloc, 6)?;
+    let mut places = Vec::from_slice(alloc, index.places()).ok()?;
+    *places.get_mut(0)? = place;
+    let tree = index.tree();
+    let mut index = TreeIndex::from_parts(alloc, index.into_cache(), tree, places, 6);
     told(alloc, keys, &mut index)
 }
 
@@ -636,8 +647,8 @@ impl<S: PageStore> PageStore for Torn<S> {
 /// writing was said to have failed.
 fn told_torn(alloc: Global, keys: RandomState) -> Option<Option<IndexFault>> {
     let index = grown(alloc, 6)?;
-    let tree = index.tree;
-    let places = index.places.clone().ok()?;
+    let tree = index.tree();
+    let places = Vec::from_slice(alloc, index.places()).ok()?;
     let mut cache = index.into_cache();
     cache.flush().ok()?;
     let store = Torn {

@@ -1,4 +1,5 @@
-use super::*;
+//! A search of a tree: the pages that it asks for, and pages that lie.
+use boxsearch::{SearchFault, search};
 use fixedpoint::Coord;
 use legs::{Box3, Leg};
 use mfcsv::Position;

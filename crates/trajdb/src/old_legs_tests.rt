@@ -1,7 +1,7 @@
 //! The legs of a store of version 1, brought into an index.
 ghost use Rattle.std.specs.Prelude.{◌≤◌};
 
-use super::*;
+use boxsearch::take_old_legs;
 use fixedpoint::Coord;
 use legs::{IndexFault, Leg, LegIndex, ListIndex, Track, Tracks};
 use mfcsv::Position;

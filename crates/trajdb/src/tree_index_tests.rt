@@ -1,4 +1,5 @@
-use super::*;
+//! An index of legs over pages: what it finds and asks for, over legs drawn by chance, and stores that fail.
+use boxsearch::TreeIndex;
 use fixedpoint::Coord;
 use legs::{Box3, IndexFault, Leg, LegIndex, ListIndex};
 use mfcsv::Position;
@@ -48,23 +49,18 @@ fn filled(
 
 /// The index as it is, through a fresh cache of that capacity.
 fn reopened(
+    alloc: Global,
     index: TreeIndex<Fuse<MemStore>>,
     capacity: usize,
 ) -> Option<TreeIndex<Fuse<MemStore>>> {
-    let (alloc, tree, legs) = (index.alloc, index.tree, index.legs);
-    let places = index.places.clone().ok()?;
+    let (tree, legs) = (index.tree(), index.len());
+    let places = Vec::from_slice(alloc, index.places()).ok()?;
     let mut cache = index.into_cache();
     cache.flush().ok()?;
     let Ok(cache) = PageCache::new(alloc, cache.into_store(), capacity.max(1)) else {
         return None;
     };
-    Some(TreeIndex {
-        alloc,
-        cache,
-        tree,
-        places,
-        legs,
-    })
+    Some(TreeIndex::from_parts(alloc, cache, tree, places, legs))
 }
 
 /// A leg of the example of the standard, by its seconds and its ends in whole degrees.
@@ -446,7 +442,7 @@ fn is_found(alloc: Global, (leaf, inner): (u16, u16), count: u32, features: u32)
     let mut wide = filled(alloc, shape, 256, plain.legs.as_slice())?;
     let boxes = box_asks(alloc, &mut wide, &mut plain)?;
     let tracks = feature_asks(alloc, &mut wide, &mut plain)?;
-    let mut narrow = reopened(wide, 1)?;
+    let mut narrow = reopened(alloc, wide, 1)?;
     let same_boxes = box_asks(alloc, &mut narrow, &mut plain)?.as_slice() == boxes.as_slice();
     let same_tracks = feature_asks(alloc, &mut narrow, &mut plain)?.as_slice() == tracks.as_slice();
     Some(same_boxes && same_tracks)

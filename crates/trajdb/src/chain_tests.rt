@@ -1,4 +1,5 @@
-use super::*;
+//! The legs of a feature by its leaves: the pages that are asked for, and pages that lie.
+use chains::{ChainFault, trajectory, trajectory_in};
 use fixedpoint::Coord;
 use legs::{Leg, LegIndex, ListIndex};
 use mfcsv::Position;

@@ -1,7 +1,5 @@
 //! Page 0 of a store of version 1.
-use crate::fault::CatalogueFault;
-use crate::old_store::read_old;
-use pagecache::PageCache;
+use catalogue::{CatalogueFault, migrate};
 use pages::{Kind, MemStore, PageStore, Payload, seal};
 use std::alloc::Global;
 use std::hash::RandomState;
@@ -42,13 +40,13 @@ fn header(place: usize, byte: u8) -> [u8; 4096] {
     page(0, Kind::Header, &bytes)
 }
 
-/// What is read of a store of these pages: the most legs of a leaf as it was and as it will be,
-/// the most entries of an inner page, and how many features there are.
+/// What is brought over of a store of these pages: the most legs of a leaf as it will be, the most
+/// entries of an inner page, and how many features there are.
 fn read(
     alloc: Global,
     keys: RandomState,
     pages: &[[u8; 4096]],
-) -> Option<Result<(u16, u16, u16, u64), CatalogueFault>> {
+) -> Option<Result<(u16, u16, u64), CatalogueFault>> {
     let mut store = MemStore::new(alloc, 4);
     for page in pages {
         let number = store.len();
@@ -56,17 +54,13 @@ fn read(
             store.write(number, page).ok()?;
         }
     }
-    let Ok(mut cache) = PageCache::new(alloc, MemStore::new(alloc, 4), 1) else {
-        return None;
-    };
-    match read_old(alloc, keys, &mut store, &mut cache) {
-        Ok(old) => Some(Ok((
-            old.leaf,
-            old.shape.leaf(),
-            old.shape.inner(),
-            old.catalogue.tracks.feature_count(),
-        ))),
-        Err(fault) => Some(Err(fault)),
+    match migrate(alloc, keys, &mut store, MemStore::new(alloc, 4), 1) {
+        Ok((catalogue, index)) => {
+            let shape = index.tree().shape;
+            let features = catalogue.tracks.feature_count();
+            Some(Ok((shape.leaf(), shape.inner(), features)))
+        }
+        Err((_, fault)) => Some(Err(fault)),
     }
 }
 
@@ -76,7 +70,7 @@ fn read_with(
     keys: RandomState,
     place: usize,
     byte: u8,
-) -> Option<Result<(u16, u16, u16, u64), CatalogueFault>> {
+) -> Option<Result<(u16, u16, u64), CatalogueFault>> {
     let pages = [header(place, byte), page(1, Kind::Catalogue, &TEXT)];
     read(alloc, keys, &pages)
 }
@@ -84,9 +78,9 @@ fn read_with(
 #[test]
 fn a_finished_store_is_read(rt: HostRuntime) -> Result<(), Fail> {
     let (alloc, keys) = (rt.alloc(), RandomState::new(&rt)?);
-    assert!(rt; read_with(alloc, keys, 7, 1) == Some(Ok((63, 50, 72, 0))));
-    assert!(rt; read_with(alloc, keys, 13, 2) == Some(Ok((2, 2, 72, 0))));
-    assert!(rt; read_with(alloc, keys, 15, 2) == Some(Ok((63, 50, 2, 0))));
+    assert!(rt; read_with(alloc, keys, 7, 1) == Some(Ok((50, 72, 0))));
+    assert!(rt; read_with(alloc, keys, 13, 2) == Some(Ok((2, 72, 0))));
+    assert!(rt; read_with(alloc, keys, 15, 2) == Some(Ok((50, 2, 0))));
     Ok(())
 }
 
