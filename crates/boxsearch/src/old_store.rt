@@ -266,7 +266,8 @@ fn open_next<S: PageStore>(
 /// feature.
 ///
 /// A store whose chains a check would refuse is `Damaged`, with the page at which the walk along them
-/// fails. What is said of memory no clause says.
+/// fails, or page 0 where all of them do not have the legs that are to be. No clause says which, nor
+/// what is said of memory.
 pub fn take_old_legs<S: PageStore, I: LegIndex>(
     alloc: Global,
     keys: RandomState,

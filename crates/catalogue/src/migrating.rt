@@ -13,7 +13,7 @@ ghost use Rattle.boxsearch.specs.Checking.{Agree};
 ghost use Rattle.boxsearch.specs.Index.{content, words, IsMarked, IsSound};
 ghost use Rattle.boxsearch.specs.OldStore.{pages_of_old};
 ghost use Rattle.catalogue.specs.Holding.{AnswersBook, IsUnfinishedStore};
-ghost use Rattle.catalogue.specs.Lasting.{ComesFirst, IsBehindFirst, IsStop};
+ghost use Rattle.catalogue.specs.Lasting.{ComesFirst, IsBehindFirst, IsStop, IsTrulyDamaged};
 ghost use Rattle.catalogue.specs.Migrating.{brought_fault, IsBrought, IsLeftOver, IsLegFault, IsMigratingFault};
 ghost use Rattle.catalogue.specs.OldStore.{old_first_fault, present_shape, AnswersOld, AnswersOldBook, HoldsOldBook, IsKeptOld, IsOldReadingFault};
 ghost use Rattle.catalogue.specs.Saved.{CatalogueView};
@@ -80,6 +80,8 @@ fn read_beside<S: PageStore, T: PageStore>(
         → (c : CatalogueView) (tree : TbTree) (places : List Place)
         → IsKeptOld (stored_payload (S.seen old.old)) (S.seen old.old).count c tree places
         → ⊥) }
+    ensures damaged { IfErr result (λ back. IsTrulyDamaged (S.seen old.old).is_faithful
+        (stored_payload (S.seen old.old)) (S.seen old.old).count back.1) }
     ensures stays { Stays (S.seen old.old) (S.seen old.new) }
     ensures stored { IfOk result (λ r. Stays (T.seen new) (T.seen r.1)) }
     ensures back { IfErr result (λ back. Stays (T.seen new) (T.seen back.0)) }
@@ -161,7 +163,8 @@ fn bring_legs<S: PageStore, T: PageStore>(
 /// said first that it is not there (`Malformed`), is damaged, is no header (`Malformed`), has
 /// another version, is of a store that was not finished, or of one in another state (`Malformed`);
 /// then the first page that is damaged, or malformed, as met; a chain of leaves that is not whole
-/// is `Damaged`, with the page at which the walk along it fails (no clause says which).
+/// is `Damaged`, with the page at which the walk along it fails, or page 0 where all of them do not
+/// have the legs that are to be (no clause says which).
 ///
 /// Where it is refused the new store is handed back: without pages, with a page 0 that says that it
 /// is not finished, or with page 0 alone, whose write failed.
@@ -189,11 +192,18 @@ pub fn migrate<S: PageStore, T: PageStore>(
         → (shape : ShapeView) (limits : LimitsView) (book : Book)
         → HoldsOldBook (S.seen old.old) shape limits book → IsAllowed back.1) }
 
-    // Where the pages keep a catalogue, nothing else than a page of a leaf is said of them.
+    // Where the pages keep a catalogue, only memory, the two stores and a damaged page stop it; where
+    // they keep none, a page that is said to be damaged is so.
     ensures kept { IfErr result (λ back. IsTrue (S.seen old.old).is_faithful
         → IsTrue (T.seen new).is_faithful → (c : CatalogueView) (tree : TbTree) (places : List Place)
         → IsKeptOld (stored_payload (S.seen old.old)) (S.seen old.old).count c tree places
         → IsLegFault back.1) }
+    ensures damaged { IfErr result (λ back. IsTrue (S.seen old.old).is_faithful
+        → IsTrue (T.seen new).is_faithful
+        → ((c : CatalogueView) (tree : TbTree) (places : List Place)
+        → IsKeptOld (stored_payload (S.seen old.old)) (S.seen old.old).count c tree places → ⊥)
+        → IsTrulyDamaged (S.seen old.old).is_faithful
+        (stored_payload (S.seen old.old)) (S.seen old.old).count back.1) }
 
     // Page 0 of the new store says that it is not finished, and that of the other comes first.
     ensures marked { IfOk result (λ r. IsTrue (S.seen old.old).is_faithful
@@ -205,6 +215,7 @@ pub fn migrate<S: PageStore, T: PageStore>(
 
     // The store of version 1 stays as it is; of the other this is left.
     ensures stays { Stays (S.seen old.old) (S.seen old.new) }
+    ensures faults { IfOk result (λ r. (T.seen new).faults ≤ r.1.cache.store.faults) }
     ensures left { IfErr result (λ back. IsTrue (S.seen old.old).is_faithful
         → IsTrue (T.seen new).is_faithful → IsLeftOver (T.seen new) (T.seen back.0)) }
     ensures caused { IfErr result (λ back. IsMigratingFault (S.seen old.old) (S.seen old.new)

@@ -1,5 +1,6 @@
 -- What a run of the program sends, and what its store then holds.
-use Rattle.std.proofs.Common.{ℕ, ◌≡◌, ◌∙◌, ap, sym, inl, inr, length, true, false, IsTrue, List, Option, Some, Result, Ok, Err, subst}
+use Rattle.std.proofs.lemmas.Int.{clamps}
+use Rattle.std.proofs.Common.{arith, ℕ, ◌≡◌, ◌≤◌, ◌∙◌, ap, sym, inl, inr, length, true, false, IsTrue, List, Option, Some, Result, Ok, Err, subst}
 use Rattle.std.specs.Prelude.{IfErr, IfOk, OnOk}
 use Rattle.legs.specs.Book.{Book, empty_book}
 use Rattle.legs.specs.Costs.{ShapeView}
@@ -10,7 +11,7 @@ use Rattle.catalogue.specs.Holding.{HoldsBook, IsUnfinishedStore}
 use Rattle.catalogue.specs.Migrating.{IsLeftOver}
 use Rattle.trajdb.specs.Calls.{IsLoadFault, KeepsPages, Leaves}
 use Rattle.trajdb.specs.Db.{DbView, HasPages, IsAllowed, IsSound}
-use Rattle.trajdb.specs.Lasting.{HasBook, IsFaultless, IsIdle}
+use Rattle.trajdb.specs.Lasting.{HasBook, IsClosingFault, IsFaultless, IsIdle}
 use Rattle.trajdb.specs.Run.{Runs}
 use Rattle.trajdb.specs.declared.OpenFault.{OpenFault}
 use Rattle.trajdb.specs.declared.OpenFault.TheVariants as opening
@@ -18,7 +19,7 @@ use Rattle.trajdb.specs.declared.RunFault.{RunFault}
 use Rattle.trajdb.specs.declared.RunFault.TheVariants as run
 use Rattle.trajdb.specs.Checking.{Reports}
 use Rattle.trajdb.specs.declared.Report.{Report}
-use Rattle.mftb.specs.Answers.{Answers, Checks, IsNotOver}
+use Rattle.mftb.specs.Answers.{Answers, Checks, IsNotOver, IsOverFault}
 use Rattle.mftb.specs.declared.fault.Fault.TheVariants.{Run, Open}
 
 pub the_same : (x y : ShapeView) → Some x ≡ Some y → x ≡ y
@@ -106,6 +107,15 @@ over_open new left opening.StoreFull a l = l
 over_open new left opening.Unfinished a l = a
 over_open new left opening.Version a l = a
 over_open new left opening.Malformed a l = a
+
+-- a store that is full, or that failed, in the closing
+pub closing_fault : (old after new left : Store) (db : DbView) (e : RunFault) → db.failed ≡ false → new.faults ≤ db.index.cache.store.faults → IsClosingFault db left e → IsOverFault old after new left (Run e)
+closing_fault old after new left db run.Memory lives l h = tt
+closing_fault old after new left db run.Store lives l h = omega (arith, clamps, l, h)
+closing_fault old after new left db (run.Damaged page) lives l h = tt
+closing_fault old after new left db run.StoreFull lives l h = h
+closing_fault old after new left db run.Failed lives l h = let wrong : true ≡ false = sym h ∙ lives in absurd cc
+closing_fault old after new left db run.Output lives l h = h
 
 -- or not closed
 pub over_run : (new left : Store) (e : RunFault) → IsLoadFault e → (IsFaultless e → IsUnfinishedStore left) → IsNotOver new left (Run e)

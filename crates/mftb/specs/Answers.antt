@@ -3,9 +3,12 @@ use Rattle.std.specs.Prelude.{ℕ, ◌≡◌, List, length, Option}
 use Rattle.legs.specs.Book.{Book}
 use Rattle.legs.specs.Costs.{ShapeView}
 use Rattle.legs.specs.Limits.{LimitsView}
-use Rattle.pages.specs.Store.{Store}
+use Rattle.pages.specs.Store.{Store, Faulted}
+use Rattle.boxsearch.specs.Index.{IndexView}
 use Rattle.catalogue.specs.Holding.{HoldsBook}
-use Rattle.catalogue.specs.Migrating.{IsLeftOver}
+use Rattle.catalogue.specs.Migrating.{IsBrought, IsLeftOver}
+use Rattle.catalogue.specs.Saved.{CatalogueView}
+use Rattle.trajdb.specs.Lasting.{IsMigratingFault}
 use Rattle.trajdb.specs.Run.{HasRun}
 use Rattle.trajdb.specs.declared.OpenFault.TheVariants as opening
 use Rattle.trajdb.specs.declared.Report.{Report}
@@ -32,9 +35,27 @@ pub record Checks (store : Store) (shape : ShapeView) (limits : LimitsView) (boo
   pub legs : report.legs ≡ length book.legs
   pub features : report.features ≡ length book.names
 
+-- a finished store of version 1, whose pages keep a catalogue, and chains of leaves that hold one list of legs
+pub record WasWhole (s : Store) : Type 0 where
+  pub catalogue : CatalogueView
+  pub index : IndexView
+  pub brought : IsBrought s catalogue index
+
+-- a store failed, or is full, where that is said of bringing one over: either store, or in the closing the new one
+abbrev pub IsOverFault : (old after new left : Store) → Fault → Type 0
+IsOverFault old after new left (Run run.Memory) = Unit {0}
+IsOverFault old after new left (Run run.Store) = Faulted new left
+IsOverFault old after new left (Run (run.Damaged page)) = Unit {0}
+IsOverFault old after new left (Run run.StoreFull) = left.count ≡ left.most
+IsOverFault old after new left (Run run.Failed) = ⊥
+IsOverFault old after new left (Run run.Output) = ⊥
+IsOverFault old after new left (Open fault) = IsMigratingFault old after new left fault
+IsOverFault old after new left (CannotRead name) = ⊥
+IsOverFault old after new left NotEmpty = ⊥
+
 -- why a store of version 1 that holds a book is not brought over: memory ran out or the new store is full, which then
 -- has no page, or says that it is not finished, or has a page 0 alone, whose write failed; or a store failed, and where
--- that was said of a closing, nothing is said of what it left
+-- the new one did in the closing, nothing is said of what it has
 abbrev pub IsNotOver : (new left : Store) → Fault → Type 0
 IsNotOver new left (Run run.Memory) = IsLeftOver new left
 IsNotOver new left (Run run.Store) = Unit {0}

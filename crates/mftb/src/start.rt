@@ -10,7 +10,7 @@ ghost use Rattle.pagecache.specs.Cache.{stored_payload};
 ghost use Rattle.catalogue.specs.OldStore.{old_first_fault, present_shape, HoldsOldBook};
 ghost use Rattle.trajdb.specs.Db.{HasPages, IsSound};
 ghost use Rattle.trajdb.specs.Lasting.{HasBook, IsIdle};
-ghost use Rattle.mftb.specs.Answers.{new_shape, Answers, Checks, IsNotOver};
+ghost use Rattle.mftb.specs.Answers.{new_shape, Answers, Checks, IsNotOver, IsOverFault, WasWhole};
 
 use crate::fault::Fault;
 use crate::words::{CACHE_PAGES, Check, Migrate, Run, Task, read_words};
@@ -270,15 +270,20 @@ fn migrate_and_close<'a, S: PageStore, T: PageStore>(
         → HoldsOldBook (S.seen old.old) shape limits book
         → HoldsBook (T.seen result.0) (present_shape shape) limits book) }
 
-    // It was a finished one of version 1; one that holds a book is refused for memory, a store that
-    // failed, or a full one alone, and then the new one is not taken for a finished one.
+    // It was a finished one of version 1, whose catalogue and chains of leaves are whole; one that
+    // holds a book is refused for memory, a store that failed, or a full one alone, and then the new
+    // one is not taken for a finished one, unless it failed in the closing.
     ensures finished { OnOk result.1 (IsTrue (S.seen old.old).is_faithful
         → old_first_fault (S.seen old.old).count (stored_payload (S.seen old.old) 0) ≡ None) }
+    ensures whole { OnOk result.1 (IsTrue (S.seen old.old).is_faithful
+        → IsTrue (T.seen new).is_faithful → WasWhole (S.seen old.old)) }
     ensures left { IfErr result.1 (λ fault. IsTrue (S.seen old.old).is_faithful
         → IsTrue (T.seen new).is_faithful
         → (shape : ShapeView) (limits : LimitsView) (book : Book)
         → HoldsOldBook (S.seen old.old) shape limits book
         → IsNotOver (T.seen new) (T.seen result.0) fault) }
+    ensures caused { IfErr result.1 (IsOverFault (S.seen old.old) (S.seen old.new) (T.seen new)
+        (T.seen result.0)) }
 
     // The store of version 1 stays as it is.
     ensures stays { Stays (S.seen old.old) (S.seen old.new) }

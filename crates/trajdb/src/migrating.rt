@@ -7,7 +7,7 @@ use std::alloc::Global;
 use std::hash::RandomState;
 
 impl<T: PageStore> Db<T> {
-    ghost use Rattle.std.specs.Prelude.{◌≡◌, ◌<◌, List, None, IsTrue, IfErr, IfOk, false, true};
+    ghost use Rattle.std.specs.Prelude.{◌≡◌, ◌<◌, ◌≤◌, List, None, IsTrue, IfErr, IfOk, false, true};
     ghost use Rattle.legs.specs.Book.{Book};
     ghost use Rattle.legs.specs.Costs.{ShapeView};
     ghost use Rattle.legs.specs.Limits.{LimitsView};
@@ -20,7 +20,7 @@ impl<T: PageStore> Db<T> {
     ghost use Rattle.catalogue.specs.Saved.{CatalogueView};
     ghost use Rattle.trajdb.specs.Database.{catalogue_of};
     ghost use Rattle.trajdb.specs.Db.{HasPages, IsAllowed};
-    ghost use Rattle.trajdb.specs.Lasting.{ComesFirst, HasBook, IsLegFault, IsMigratingFault};
+    ghost use Rattle.trajdb.specs.Lasting.{ComesFirst, HasBook, IsLegFault, IsMigratingFault, IsTrulyDamaged};
 
     /// Brings the database of a finished store of version 1 over into an empty store, with a cache of
     /// at most that many pages, at least 1: the same legs, names, attribute values, base, coordinate
@@ -37,7 +37,8 @@ impl<T: PageStore> Db<T> {
     /// no header (`Malformed`), has another version than 1, is of a store that was not finished, or of
     /// one in another state (`Malformed`); then the first page that is damaged, or malformed, as met;
     /// where the leaves of the features are not whole, `Damaged` is the page at which the walk along
-    /// them fails (no clause says which). `StoreFull` is the new store. Where it is refused the new
+    /// them fails, or page 0 where all of them do not have the legs that are to be (no clause says
+    /// which). `StoreFull` is the new store. Where it is refused the new
     /// store is handed back: without pages, with a page 0 that says that it is not finished, or with
     /// page 0 alone, whose write failed.
     pub fn migrate<S: PageStore>(
@@ -61,7 +62,8 @@ impl<T: PageStore> Db<T> {
             → (shape : ShapeView) (limits : LimitsView) (book : Book)
             → HoldsOldBook (S.seen old.old) shape limits book → IsAllowed back.1) }
 
-        // Whatever the pages keep is brought over, or a leaf is damaged.
+        // Whatever the pages keep is brought over, but for memory, the two stores and a damaged page;
+        // where they keep no catalogue, a page that is said to be damaged is so.
         ensures brought { IfOk result (λ db. IsTrue (S.seen old.old).is_faithful
             → IsTrue (T.seen new).is_faithful
             → IsBrought (S.seen old.old) (catalogue_of db) db.index) }
@@ -70,6 +72,13 @@ impl<T: PageStore> Db<T> {
             → (c : CatalogueView) (tree : TbTree) (places : List Place)
             → IsKeptOld (stored_payload (S.seen old.old)) (S.seen old.old).count c tree places
             → IsLegFault back.1) }
+        ensures damaged { IfErr result (λ back. IsTrue (S.seen old.old).is_faithful
+            → IsTrue (T.seen new).is_faithful
+            → ((c : CatalogueView) (tree : TbTree) (places : List Place)
+            → IsKeptOld (stored_payload (S.seen old.old)) (S.seen old.old).count c tree places
+            → ⊥)
+            → IsTrulyDamaged (S.seen old.old).is_faithful
+            (stored_payload (S.seen old.old)) (S.seen old.old).count back.1) }
 
         // It has begun: page 0 of the new store says that it is not finished.
         ensures begun { IfOk result (λ db. db.begun ≡ true) }
@@ -85,6 +94,7 @@ impl<T: PageStore> Db<T> {
 
         // The store of version 1 stays as it is; of the other this is left.
         ensures stays { Stays (S.seen old.old) (S.seen old.new) }
+        ensures faults { IfOk result (λ db. (T.seen new).faults ≤ db.index.cache.store.faults) }
         ensures left { IfErr result (λ back. IsTrue (S.seen old.old).is_faithful
             → IsTrue (T.seen new).is_faithful → IsLeftOver (T.seen new) (T.seen back.0)) }
         ensures caused { IfErr result (λ back. IsMigratingFault (S.seen old.old) (S.seen old.new)

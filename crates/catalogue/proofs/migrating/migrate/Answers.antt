@@ -74,3 +74,9 @@ returns-in-Err-bring_legs-clause-holds g c = λ fa fb shape limits book h.
 
 pub returns-in-Err-clause-kept : goal.returns-in-Err-clause-kept
 returns-in-Err-clause-kept g c = λ fa fb catalogue tree places kept. leg_stop c.in-Err.back.1 (λ no. c.in-Err.ensures.broken fa fb no catalogue tree places kept)
+
+pub returns-in-Err-bring_legs-clause-damaged : goal.returns-in-Err-bring_legs-clause-damaged
+returns-in-Err-bring_legs-clause-damaged g c = λ fa fb none.
+    let read = c.in-Ok.read.0 in
+    let answers = c.in-Ok.ensures.kept fa fb in
+    absurd (none read.catalogue answers.tree read.places.items answers.kept)
