@@ -302,9 +302,10 @@ fn a_store_that_fails_is_said_to(rt: HostRuntime) -> Result<(), Fail> {
     Ok(())
 }
 
-/// Whether a fault is one of want of memory: a store in memory fails where it finds no room.
-fn is_want(fault: RunFault) -> bool {
-    fault == RunFault::Memory || fault == RunFault::Store
+/// Whether a fault is one of want of memory: a store, and an output, that are kept in memory fail
+/// where they find no room.
+pub(crate) fn is_want(fault: RunFault) -> bool {
+    matches!(fault, RunFault::Memory | RunFault::Store | RunFault::Output)
 }
 
 /// Whether the example, closed and opened again, is counted and found sound, or memory runs out.
@@ -325,7 +326,16 @@ fn is_kept(alloc: Global, keys: RandomState) -> bool {
         Ok(()) => text.as_slice() == b"ok 1\n5,3\n".as_slice(),
         Err(fault) => is_want(fault),
     };
-    is_told && matches!(db.check(), Ok(_) | Err(RunFault::Memory))
+    let report = Report {
+        pages: 6,
+        legs: 5,
+        features: 3,
+    };
+    is_told
+        && match db.check() {
+            Ok(found) => found == report,
+            Err(fault) => fault == RunFault::Memory,
+        }
 }
 
 /// Passes wherever memory runs out, too; it is run with each allocation refused in turn.

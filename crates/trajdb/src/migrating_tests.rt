@@ -1,6 +1,6 @@
 //! A store of version 1 that is brought over.
 use super::*;
-use crate::lasting_tests::{change, opened, said};
+use crate::lasting_tests::{change, is_want, opened, said};
 use crate::version_1::version_1;
 use pages::{Fuse, MemStore, PageStore};
 use std::alloc::Global;
@@ -149,7 +149,7 @@ fn what_is_left<T: PageStore + Drop>(alloc: Global, keys: RandomState, store: T)
     match opened(alloc, keys, store, 1).err() {
         _ if pages == 0 => Left::Nothing,
         Some(OpenFault::Unfinished) => Left::Unfinished,
-        Some(_) if pages == 1 => Left::First,
+        Some(OpenFault::Damaged(0)) if pages == 1 => Left::First,
         _ => Left::More,
     }
 }
@@ -313,7 +313,8 @@ fn no_wrong_store_without_memory(rt: HostRuntime) -> Result<(), Fail> {
     // A store in memory fails where it finds no room for a page.
     assert!(rt;
         match told {
-            Ok(answer) => answer == Ok(()) || answer == Err(RunFault::Memory),
+            Ok(Ok(())) => true,
+            Ok(Err(fault)) => is_want(fault),
             Err(fault) => fault == OpenFault::Memory || fault == OpenFault::Store,
         }
     );
