@@ -359,14 +359,21 @@ fn the_first_fault_is_said(rt: HostRuntime) -> Result<(), Fail> {
     Ok(())
 }
 
+/// How many pages words ask for.
+fn pages_asked(alloc: Global, words: &[&str]) -> Result<u32, Fail> {
+    let words = owned(alloc, words)?;
+    let task = read_words(alloc, &words).ok().ok_or("no words")?;
+    match &task {
+        Task::Run(run) => Ok(run.cache_pages),
+        Task::Check(check) => Ok(check.cache_pages),
+        Task::Migrate(_) => Err(Fail::from("a migration")),
+    }
+}
+
 #[test]
 fn a_cache_has_256_pages(rt: HostRuntime) -> Result<(), Fail> {
-    let words = owned(rt.alloc(), &["mftb", "run", "a", "b"])?;
-    let asked = read_words(rt.alloc(), &words).ok().ok_or("no words")?;
-    assert!(rt; matches!(asked, Task::Run(run) if run.cache_pages == 256));
-    let words = owned(rt.alloc(), &["mftb", "check", "a"])?;
-    let asked = read_words(rt.alloc(), &words).ok().ok_or("no words")?;
-    assert!(rt; matches!(asked, Task::Check(check) if check.cache_pages == 256));
+    assert_eq!(rt; pages_asked(rt.alloc(), &["mftb", "run", "a", "b"])?, 256);
+    assert_eq!(rt; pages_asked(rt.alloc(), &["mftb", "check", "a"])?, 256);
     Ok(())
 }
 
