@@ -85,6 +85,11 @@ def instant(text):
     return moment
 
 
+def date(moment):
+    text = (EPOCH + timedelta(milliseconds=moment)).isoformat(timespec="milliseconds")
+    return text.replace("+00:00", "Z")
+
+
 def names_instant(text):
     """Whether a date and time has an offset from UTC."""
     return datetime.fromisoformat(text).tzinfo is not None
@@ -103,7 +108,8 @@ def shown(value):
 class Book:
     """The legs of the files that were accepted."""
 
-    legs, base, columns = [], None, None
+    def __init__(self):
+        self.legs, self.base, self.columns = [], None, None
 
     def load(self, path):
         with open(path, newline="", encoding="utf-8") as file:
@@ -135,14 +141,31 @@ class Book:
         times = [shown(Fraction(moment - self.base, 1000)) for moment in (leg.t0, leg.t1)]
         return [leg.name, *times, " ".join(map(shown, leg.start + leg.end)), *leg.values]
 
+    def file(self):
+        """The whole book as a file."""
+        crs, dimension, *columns = self.columns
+        axes = range({"2D": 2, "3D": 3}[dimension])
+        places = [place for leg in self.legs for place in (leg.start, leg.end)]
+        corners = [
+            " ".join(shown(best((place[axis] for place in places), default=Fraction(0))) for axis in axes)
+            for best in (min, max)
+        ]
+        end = max([self.base, *(leg.t1 for leg in self.legs)])
+        head = ["@stboundedby", crs, dimension, *corners, date(self.base), date(end), "sec"]
+        return [head, columns, *map(self.record, self.legs)]
+
     def answer(self, folder, word, rest):
         own = {}
         for leg in self.legs:
             own.setdefault(leg.name, []).append(leg)
         if word == "load":
             return self.load(folder / rest)
+        if word == "write" and self.columns is None:
+            return [["refused Q10"]]
         if word == "count":
             rows = [[len(self.legs), len(own)]]
+        elif word == "write":
+            rows = self.file()
         elif word == "trajectory":
             rows = [self.record(leg) for leg in own.get(rest, [])]
         else:
@@ -157,9 +180,14 @@ class Book:
                 rows = [self.record(leg) for leg in self.legs if pick(leg, *asked)]
         return [[f"ok {len(rows)}"], *rows]
 
+    def run(self, folder, script, out):
+        """Writes the answers to the lines of a script, whose files are in a folder."""
+        for line in script.splitlines():
+            if line.strip() and not line.startswith("#"):
+                answer = self.answer(folder, *(line.split(None, 1) + [""])[:2])
+                csv.writer(out, lineterminator="\n").writerows(answer)
 
-folder, book = Path(sys.argv[1]), Book()
-for line in (folder / "script.txt").read_text().splitlines():
-    if line.strip() and not line.startswith("#"):
-        answer = book.answer(folder, *(line.split(None, 1) + [""])[:2])
-        csv.writer(sys.stdout, lineterminator="\n").writerows(answer)
+
+if __name__ == "__main__":
+    examples = Path(sys.argv[1])
+    Book().run(examples, (examples / "script.txt").read_text(), sys.stdout)

@@ -155,13 +155,17 @@ pub(crate) fn change(store: &mut MemStore, bytes: &[(usize, u8)]) -> Option<()> 
 #[test]
 fn page_0_is_tested_in_order(rt: HostRuntime) -> Result<(), Fail> {
     let (alloc, keys) = (rt.alloc(), RandomState::new(&rt)?);
-    // The magic, the version, the state, and the length of the catalogue's text.
-    let cases: [(&[(usize, u8)], OpenFault); 5] = [
+    // The magic, the version, the state, the shape, the limits, the length of the catalogue's text,
+    // and the dimension.
+    let cases: [(&[(usize, u8)], OpenFault); 8] = [
         (&[(0, 0), (11, 0)], OpenFault::Malformed),
         (&[(7, 9), (11, 0)], OpenFault::Version),
         (&[(11, 0)], OpenFault::Unfinished),
         (&[(11, 2)], OpenFault::Malformed),
+        (&[(13, 1)], OpenFault::Malformed),
+        (&[(16, 255)], OpenFault::Malformed),
         (&[(55, 80)], OpenFault::Malformed),
+        (&[(59, 4)], OpenFault::Malformed),
     ];
     for (bytes, fault) in cases {
         let (mut store, _) = closed(alloc, keys, 100).ok().ok_or("not loaded")?;

@@ -104,6 +104,7 @@ fn page_0_is_out_of_range(rt: HostRuntime) -> Result<(), Fail> {
     assert!(rt; read_with(alloc, keys, 13, 1) == malformed);
     assert!(rt; read_with(alloc, keys, 13, 64) == malformed);
     assert!(rt; read_with(alloc, keys, 15, 73) == malformed);
+    assert!(rt; read_with(alloc, keys, 16, 255) == malformed);
     assert!(rt; read_with(alloc, keys, 35, 2) == malformed);
     assert!(rt; read_with(alloc, keys, 55, 2) == malformed);
     Ok(())
