@@ -113,29 +113,35 @@ fn the_example_is_saved(rt: HostRuntime) -> Result<(), Fail> {
     Ok(())
 }
 
+/// Whether a catalogue that is read back is that of the example.
+fn is_again(catalogue: &Catalogue, again: &Catalogue) -> bool {
+    again.tracks.feature_count() == 3
+        && again.tracks.leg_count() == 5
+        && again.tracks.name(1) == Some("b")
+        && again.tracks.track(0) == catalogue.tracks.track(0)
+        && again.rows.len() == 4
+        && again.limits == catalogue.limits
+}
+
+/// How many legs an index has, and how many of them the first feature.
+fn legs_of(index: &mut TreeIndex<MemStore>) -> Option<(u64, usize)> {
+    match index.track(0) {
+        Ok(legs) => Some((index.len(), legs.len())),
+        Err(_) => None,
+    }
+}
+
 #[test]
 fn what_is_closed_is_opened(rt: HostRuntime) -> Result<(), Fail> {
     let (alloc, keys) = (rt.alloc(), RandomState::new(&rt)?);
-    let Some((catalogue, index)) = example(alloc, keys, 6) else {
-        return Err(Fail::from("no example"));
-    };
+    let (catalogue, index) = example(alloc, keys, 6).ok_or("no example")?;
     let (store, answer) = close(alloc, &catalogue, index);
     assert!(rt; answer == Ok(()) && store.len() == 6);
-    let Ok((again, mut index)) = open(alloc, keys, store, 4) else {
-        return Err(Fail::from("not opened"));
-    };
-    assert!(rt; again.tracks.feature_count() == 3 && again.tracks.leg_count() == 5);
-    assert!(rt;
-        again.tracks.name(1) == Some("b") && again.tracks.track(0) == catalogue.tracks.track(0)
-    );
-    assert!(rt; again.rows.len() == 4 && again.limits == catalogue.limits);
-    assert!(rt; index.len() == 5);
-    match index.track(0) {
-        Ok(legs) => assert!(rt; legs.len() == 2),
-        Err(_) => return Err(Fail::from("no track")),
-    }
+    let (again, mut index) = open(alloc, keys, store, 4).ok().ok_or("not opened")?;
+    let is_again = is_again(&catalogue, &again);
+    let legs = legs_of(&mut index);
     // At rest its store is as it was.
-    assert!(rt; rest(index).len() == 6);
+    assert!(rt; is_again && legs == Some((5, 2)) && rest(index).len() == 6);
     Ok(())
 }
 

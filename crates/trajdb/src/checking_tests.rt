@@ -18,30 +18,53 @@ fn found(pages: u32, legs: u64, features: u64) -> Result<Report, RunFault> {
     })
 }
 
+/// What checks find of the example: twice where it was loaded, once where it was opened, and once
+/// with a leg more.
+fn checks_of_the_example(
+    alloc: Global,
+    keys: RandomState,
+) -> Option<[Result<Report, RunFault>; 4]> {
+    let mut db = loaded(alloc, keys, MemStore::new(alloc, 100)).ok()?;
+    let (first, second) = (db.check(), db.check());
+    let (store, _) = db.close(alloc);
+    let mut db = opened(alloc, keys, store, 1).ok()?;
+    let third = db.check();
+    said(alloc, &mut db, "load more.csv").1.ok()?;
+    Some([first, second, third, db.check()])
+}
+
 #[test]
 fn the_example_passes(rt: HostRuntime) -> Result<(), Fail> {
     let (alloc, keys) = (rt.alloc(), RandomState::new(&rt)?);
-    let mut db = loaded(alloc, keys, MemStore::new(alloc, 100))
-        .ok()
-        .ok_or("not loaded")?;
-    assert!(rt; db.check() == found(5, 5, 3) && db.check() == found(5, 5, 3));
-    let (store, answer) = db.close(alloc);
-    assert!(rt; answer == Ok(()));
-    let mut db = opened(alloc, keys, store, 1).ok().ok_or("not opened")?;
-    assert!(rt; db.check() == found(6, 5, 3));
-    let (text, answer) = said(alloc, &mut db, "load more.csv");
-    assert!(rt; answer == Ok(()) && text.as_slice() == b"ok 1\n1,1,1\n".as_slice());
-    assert!(rt; db.check() == found(7, 6, 4));
+    let wanted = [
+        found(5, 5, 3),
+        found(5, 5, 3),
+        found(6, 5, 3),
+        found(7, 6, 4),
+    ];
+    assert!(rt; checks_of_the_example(alloc, keys) == Some(wanted));
+    Ok(())
+}
 
-    let limits = Limits::new(9, 9).ok_or("limits")?;
-    let store = MemStore::new(alloc, 2);
-    let mut db = over(alloc, keys, store, limits, (50, 72, 1))
-        .ok()
-        .ok_or("not made")?;
-    assert!(rt; db.check() == found(1, 0, 0));
-    assert!(rt; said(alloc, &mut db, "load head.csv").1 == Ok(()) && db.check() == found(1, 0, 0));
-    assert!(rt; said(alloc, &mut db, "load S1.csv").1 == Err(RunFault::StoreFull));
-    assert!(rt; db.check() == Err(RunFault::Failed));
+/// What checks find in a store of at most two pages: at first, with a head, and behind a load for
+/// which there is no room.
+fn checks_of_two_pages(alloc: Global, keys: RandomState) -> Option<[Result<Report, RunFault>; 3]> {
+    let limits = Limits::new(9, 9)?;
+    let mut db = over(alloc, keys, MemStore::new(alloc, 2), limits, (50, 72, 1)).ok()?;
+    let empty = db.check();
+    said(alloc, &mut db, "load head.csv").1.ok()?;
+    let head = db.check();
+    match said(alloc, &mut db, "load S1.csv").1 {
+        Err(RunFault::StoreFull) => Some([empty, head, db.check()]),
+        _ => None,
+    }
+}
+
+#[test]
+fn an_empty_book_passes(rt: HostRuntime) -> Result<(), Fail> {
+    let (alloc, keys) = (rt.alloc(), RandomState::new(&rt)?);
+    let wanted = [found(1, 0, 0), found(1, 0, 0), Err(RunFault::Failed)];
+    assert!(rt; checks_of_two_pages(alloc, keys) == Some(wanted));
     Ok(())
 }
 

@@ -88,42 +88,6 @@ fn are_same(a: &mut MemStore, b: &mut MemStore) -> Option<bool> {
 }
 
 #[test]
-fn the_example_is_brought_over(rt: HostRuntime) -> Result<(), Fail> {
-    let (alloc, keys) = (rt.alloc(), RandomState::new(&rt)?);
-    let mut old = version_1(alloc).ok_or("no store")?;
-    let new = MemStore::new(alloc, 100);
-    let mut db = migrated(alloc, keys, &mut old, new, 1)
-        .ok()
-        .ok_or("not brought over")?;
-    let (text, answer) = said(alloc, &mut db, QUESTIONS);
-    assert!(rt; answer == Ok(()) && text.as_slice() == ANSWERS.as_bytes());
-
-    // They are kept, and the store passes a check, which the old one was not changed by.
-    let (store, answer) = db.close(alloc);
-    assert!(rt; answer == Ok(()) && store.len() == 6);
-    let mut db = opened(alloc, keys, store, 2).ok().ok_or("not opened")?;
-    let (text, answer) = said(alloc, &mut db, QUESTIONS);
-    assert!(rt; answer == Ok(()) && text.as_slice() == ANSWERS.as_bytes());
-    assert!(rt;
-        db.check()
-            == Ok(Report {
-                pages: 6,
-                legs: 5,
-                features: 3
-            })
-    );
-    let mut same = version_1(alloc).ok_or("no store")?;
-    assert!(rt; are_same(&mut old, &mut same) == Some(true));
-
-    // What was brought over is of the present version.
-    let mut store = db.abandon();
-    let new = MemStore::new(alloc, 100);
-    let fault = migrated(alloc, keys, &mut store, new, 1).map_err(|back| back.1);
-    assert!(rt; fault.err() == Some(OpenFault::Version));
-    Ok(())
-}
-
-#[test]
 fn a_store_of_version_1_is_not_opened(rt: HostRuntime) -> Result<(), Fail> {
     let (alloc, keys) = (rt.alloc(), RandomState::new(&rt)?);
     let store = version_1(alloc).ok_or("no store")?;
@@ -166,6 +130,51 @@ fn refused<S: PageStore>(
         Ok(_) => None,
         Err((new, fault)) => Some((fault, what_is_left(alloc, keys, new))),
     }
+}
+
+/// Whether the questions of the example have their answers.
+fn is_answered<S: PageStore>(alloc: Global, db: &mut Db<S>) -> bool {
+    let (text, answer) = said(alloc, db, QUESTIONS);
+    answer == Ok(()) && text.as_slice() == ANSWERS.as_bytes()
+}
+
+/// The store into which the example was brought over, asked and closed, where the old one was not
+/// changed by it.
+fn brought_over(alloc: Global, keys: RandomState) -> Option<MemStore> {
+    let mut old = version_1(alloc)?;
+    let mut db = migrated(alloc, keys, &mut old, MemStore::new(alloc, 100), 1).ok()?;
+    let is_answered = is_answered(alloc, &mut db);
+    let (store, answer) = db.close(alloc);
+    let mut same = version_1(alloc)?;
+    if is_answered && answer == Ok(()) && are_same(&mut old, &mut same) == Some(true) {
+        Some(store)
+    } else {
+        None
+    }
+}
+
+#[test]
+fn the_example_is_brought_over(rt: HostRuntime) -> Result<(), Fail> {
+    let (alloc, keys) = (rt.alloc(), RandomState::new(&rt)?);
+    let store = brought_over(alloc, keys).ok_or("not brought over")?;
+    let mut db = opened(alloc, keys, store, 2).ok().ok_or("not opened")?;
+    let is_answered = is_answered(alloc, &mut db);
+    let report = db.check();
+    assert!(rt;
+        is_answered
+            && report
+                == Ok(Report {
+                    pages: 6,
+                    legs: 5,
+                    features: 3
+                })
+    );
+
+    // What was brought over is of the present version.
+    let mut store = db.abandon();
+    let again = refused(alloc, keys, &mut store, 100);
+    assert!(rt; again == Some((OpenFault::Version, Left::Nothing)));
+    Ok(())
 }
 
 #[test]
