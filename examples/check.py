@@ -2,7 +2,7 @@
 """Prints the answers to an example's script, worked out apart from the program: check.py FOLDER.
 
 It is plain and slow: each question goes through all legs, and moments and places are Fractions. It
-reads only what the examples have. Anything else stops it, rather than being guessed at.
+reads only what the examples and tools/random-scripts have. Anything else stops it, rather than being guessed at.
 """
 import csv
 import sys
