@@ -1,0 +1,4 @@
+pub mod Names
+pub mod Part
+pub mod Raw
+pub mod Written

@@ -1,0 +1,18 @@
+-- Which part a feature belongs to.
+use Rattle.std.specs.Prelude.{ℕ, ◌+◌, ◌*◌, ◌%◌, ◌==◌, Bool, List, fold}
+
+-- one byte more of a name
+abbrev pub number_with : ℕ → ℕ → ℕ
+number_with number c = (number * 257 + c) % 4294967291
+
+-- the number of a name: its bytes as digits to the base 257, modulo 2^32 - 5, which is a prime
+abbrev pub number_of : List ℕ → ℕ
+number_of name = fold number_with 0 name
+
+-- the part, of n, that a name belongs to
+unfoldable pub part_of : ℕ → List ℕ → ℕ
+part_of n name = number_of name % n
+
+-- the name belongs to part k of n
+abbrev pub is_in : ℕ → ℕ → List ℕ → Bool
+is_in k n name = part_of n name == k

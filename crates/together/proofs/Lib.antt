@@ -1,0 +1,10 @@
+mod ListLemmas
+mod ToldLemmas
+mod BareLemmas
+mod NamedLemmas
+mod FeatureLemmas
+mod LateLemmas
+mod CountLemmas
+mod FaultLemmas
+mod LoadLemmas
+mod MergeLemmas

@@ -1,0 +1,94 @@
+-- Files that are taken in, one after another.
+use Rattle.std.proofs.Common.{[], ◌∷◌, ◌≡◌, ◌∙◌, ℕ, ap, sym, refl, subst, arith, List, Ok, Err, Result}
+use Rattle.mfcsv.specs.FileText.{file_text}
+use Rattle.mfcsv.specs.declared.Code.{Code}
+use Rattle.mfcsv.specs.declared.File.{File}
+use Rattle.legs.specs.Legs.{LegView}
+use Rattle.legs.specs.Book.{Book, book_after, joined, with_file}
+use Rattle.legs.specs.Limits.{LimitsView}
+use Rattle.legs.specs.declared.joining.JoinCode.{JoinCode}
+use Rattle.parts.specs.Names.{part_of}
+use Rattle.parts.specs.Part.{said_part}
+use Rattle.trajdb.specs.Answers.{book_by, book_with, counts_or, joined_counts, load_of}
+use Rattle.trajdb.specs.declared.Counts.{Counts}
+use Rattle.together.specs.Parts.{IsPartOf, IsTold}
+use Rattle.together.specs.Joining.{file_part}
+use Rattle.together.specs.Loading.{ArePartTexts, EmptyLaw, IsPartText, LoadLaw, Takes, TakesAll, book_of}
+use Rattle.together.proofs.FaultLemmas.{after_is, stay_law}
+use Rattle.together.proofs.LateLemmas.{part_law}
+
+-- a file is taken in where its bytes are read and it is joined
+legs_of_counts : (file : File) (r : Result (List LegView) (JoinCode × ℕ)) (counts : Counts) → counts_or file r ≡ Ok counts → (legs : List LegView) × (r ≡ Ok legs)
+legs_of_counts file (Ok legs) counts e = (legs, refl)
+legs_of_counts file (Err fault) counts e = absurd (cc)
+
+record IsTaken (limits : LimitsView) (book : Book) (said : Result File (Code × ℕ)) : Type 0 where
+  file : File
+  legs : List LegView
+  reads : said ≡ Ok file
+  joins : joined limits book file ≡ Ok legs
+
+taken_by : (limits : LimitsView) (book : Book) (said : Result File (Code × ℕ)) (counts : Counts) → joined_counts limits book said ≡ Ok counts → IsTaken limits book said
+taken_by limits book (Ok file) counts e =
+    let legs = legs_of_counts file (joined limits book file) counts e in
+    record { file = file; legs = legs.0; reads = refl; joins = legs.1 }
+taken_by limits book (Err fault) counts e = absurd (cc)
+
+taken : (limits : LimitsView) (book : Book) (bytes : List ℕ) → Takes limits book bytes → IsTaken limits book (file_text bytes)
+unfolding load_of
+taken limits book bytes takes = taken_by limits book (file_text bytes) takes.0 takes.1
+
+joined_part : (limits : LimitsView) (part : Book) (said : Result File (Code × ℕ)) (file : File) → IsTaken limits part said → said ≡ Ok file → (legs : List LegView) × (joined limits part file ≡ Ok legs)
+joined_part limits part said file is e =
+    let same : Ok is.file ≡ Ok file = sym is.reads ∙ e in
+    (is.legs, subst (λ (r : Result File (Code × ℕ)). joined_or limits part is.legs r) same is.joins)
+  where
+    joined_or : LimitsView → Book → List LegView → Result File (Code × ℕ) → Type 0
+    joined_or limits part legs (Ok file) = joined limits part file ≡ Ok legs
+    joined_or limits part legs (Err fault) = ⊥
+
+book_is : (limits : LimitsView) (book : Book) (bytes : List ℕ) (file : File) → file_text bytes ≡ Ok file → book_with limits book bytes ≡ book_after limits book file
+unfolding book_with
+book_is limits book bytes file e = ap (book_by limits book) e
+
+record StayParts (k n : ℕ) (whole part : Book) : Type 0 where
+  of : IsPartOf (part_of n) k whole part
+  whole_told : IsTold whole
+  part_told : IsTold part
+
+load_one : (k n : ℕ) (whole part : Book) (limits : LimitsView) (bytes own : List ℕ) → StayParts k n whole part → IsPartText k n bytes own → Takes limits whole bytes → Takes limits part own
+    → StayParts k n (book_with limits whole bytes) (book_with limits part own)
+load_one k n whole part limits bytes own is text takes own_takes =
+    let t = taken limits whole bytes takes in
+    let says : file_text own ≡ Ok (file_part (part_of n) k t.file) = text ∙ ap (said_part k n) t.reads in
+    let j = joined_part limits part (file_text own) (file_part (part_of n) k t.file) (taken limits part own own_takes) says in
+    let a : book_with limits whole bytes ≡ with_file whole t.file = book_is limits whole bytes t.file t.reads ∙ after_is limits whole t.file t.legs t.joins in
+    let b : book_with limits part own ≡ with_file part (file_part (part_of n) k t.file) = book_is limits part own (file_part (part_of n) k t.file) says ∙ after_is limits part (file_part (part_of n) k t.file) j.0 j.1 in
+    let c = book_is limits whole bytes t.file t.reads in
+    let d = book_is limits part own (file_part (part_of n) k t.file) says in
+    let later = part_law (part_of n) k whole part t.file.records is.of is.whole_told is.part_told in
+    let after = stay_law (part_of n) k whole part limits t.file t.legs j.0 is.of is.whole_told is.part_told t.joins j.1 in
+    record {
+      of = rw (c, d) after;
+      whole_told = rw a (record { distinct = later.1.distinct; there = λ i d less. let h = later.1.there i d less in record { feature = h.feature; row = h.row } });
+      part_told = rw b (record { distinct = later.2.distinct; there = λ i d less. let h = later.2.there i d less in record { feature = h.feature; row = h.row } });
+    }
+
+load_all : (k n : ℕ) (whole part : Book) (limits : LimitsView) (files owns : List (List ℕ)) → StayParts k n whole part → ArePartTexts k n files owns → TakesAll limits whole files → TakesAll limits part owns
+    → StayParts k n (book_of limits whole files) (book_of limits part owns)
+load_all k n whole part limits [] owns is texts takes own_takes = subst (λ (l : List (List ℕ)). StayParts k n whole (book_of limits part l)) (sym texts) is
+load_all k n whole part limits (bytes ∷ files) [] is texts takes own_takes = absurd texts
+load_all k n whole part limits (bytes ∷ files) (own ∷ owns) is texts takes own_takes =
+    load_all k n (book_with limits whole bytes) (book_with limits part own) limits files owns
+    (load_one k n whole part limits bytes own is texts.0 takes.0 own_takes.0) texts.1 takes.1 own_takes.1
+
+pub load_law : LoadLaw
+load_law k n whole part limits files owns of is own_is texts takes own_takes =
+    let now = load_all k n whole part limits files owns (record { of = of; whole_told = is; part_told = own_is }) texts takes own_takes in
+    (now.of, now.whole_told, now.part_told)
+
+pub empty_law : EmptyLaw
+empty_law k n = (
+  record { head = refl; names = refl; legs = refl },
+  record { distinct = λ i j d e less. absurd (omega arith); there = λ i d less. absurd (omega arith) },
+)

@@ -1,0 +1,41 @@
+-- A part of a book, by a function that gives each name the number of its part.
+use Rattle.std.specs.Prelude.{ℕ, ◌≡◌, ◌≢◌, ◌==◌, ◌++◌, ◌∷◌, [], Bool, if◌then◌else◌, List, filter, All, AllPairs}
+use Rattle.mfcsv.specs.Views.{RecordView}
+use Rattle.legs.specs.Book.{Book, with_record, is_before, name_end}
+use Rattle.legs.specs.Law.{IsThere}
+use Rattle.writer.specs.Entries.{EntryView}
+use Rattle.together.specs.Told.{all_told}
+
+-- a name of part k
+abbrev pub is_in : (List ℕ → ℕ) → ℕ → List ℕ → Bool
+is_in f k name = f name == k
+
+-- the names, the legs and the records of part k, in their order
+abbrev pub own_names : (List ℕ → ℕ) → ℕ → List (List ℕ) → List (List ℕ)
+own_names f k names = filter (is_in f k) names
+
+abbrev pub own_legs : (List ℕ → ℕ) → ℕ → List EntryView → List EntryView
+own_legs f k entries = filter (λ e. is_in f k e.name) entries
+
+abbrev pub own_records : (List ℕ → ℕ) → ℕ → List RecordView → List RecordView
+own_records f k records = filter (λ r. is_in f k r.mfidref) records
+
+-- the book is part k of the whole: it has its head, the names of the part, and its legs but for their numbers
+pub record IsPartOf (f : List ℕ → ℕ) (k : ℕ) (whole part : Book) : Type 0 where
+  pub head : part.head ≡ whole.head
+  pub names : part.names ≡ own_names f k whole.names
+  pub legs : all_told part ≡ own_legs f k (all_told whole)
+
+-- what the laws ask of a book: no name twice, and the feature and the row of each leg are there; each lawful book is
+-- so
+pub record IsTold (book : Book) : Type 0 where
+  pub distinct : AllPairs (λ a b. a ≢ b) book.names
+  pub there : All (IsThere book) book.legs
+
+-- the records that begin before their feature's last leg ends, given the records before them: those with fault F18
+abbrev pub late_one : Book → RecordView → List RecordView
+late_one book r = if is_before r.t0 (name_end book r.mfidref) then r ∷ [] else []
+
+abbrev pub late : Book → List RecordView → List RecordView
+late book [] = []
+late book (r ∷ records) = late_one book r ++ late (with_record book r) records

@@ -1,0 +1,35 @@
+-- What answers tell of a book's legs: all but the numbers that the book gives them.
+use Rattle.std.specs.Prelude.{ℕ, ◌∷◌, [], ◌++◌, List, length, map, slice_index_or, Option, decimal}
+use Rattle.legs.specs.declared.head.BookHead.{BookHead}
+use Rattle.legs.specs.Legs.{LegView}
+use Rattle.legs.specs.Book.{Book}
+use Rattle.writer.specs.Entries.{EntryView}
+use Rattle.writer.specs.File.{entries_text, features_text}
+use Rattle.trajdb.specs.Answers.{frame_of, name_of, ok_text}
+
+-- a leg without its numbers
+abbrev pub bare : LegView → LegView
+bare leg = record leg { ordinal = 0; feature = 0; row = 0 }
+
+-- a leg with its name and attribute values, without its numbers
+abbrev pub told_leg : Book → LegView → EntryView
+told_leg book leg = record { name = name_of book leg.feature; leg = bare leg; values = slice_index_or book.rows leg.row [] }
+
+abbrev pub told : Book → List LegView → List EntryView
+told book legs = map (told_leg book) legs
+
+-- all legs of a book, told
+abbrev pub all_told : Book → List EntryView
+all_told book = told book book.legs
+
+-- the answer of legs that are told
+abbrev pub told_text : Option BookHead → List EntryView → List ℕ
+told_text head entries = ok_text (length entries) ++ entries_text (frame_of head) entries
+
+-- the answer of names
+abbrev pub told_names_text : List (List ℕ) → List ℕ
+told_names_text names = ok_text (length names) ++ features_text names
+
+-- the answer of counts
+abbrev pub told_count_text : ℕ → ℕ → List ℕ
+told_count_text legs features = ok_text 1 ++ decimal legs ++ 44 ∷ [] ++ decimal features ++ 10 ∷ []
