@@ -44,7 +44,7 @@ pub record Laws : Type 0 where
 abbrev pub made : IndexView → ℕ → IndexView
 made old feature = record old { places = with_place old.places feature }
 
-feature_count-push : (legs : List LegView) (leg : LegView) → feature_count (legs ++ leg ∷ []) ≡ max (feature_count legs) (leg.feature + 1)
+pub feature_count-push : (legs : List LegView) (leg : LegView) → feature_count (legs ++ leg ∷ []) ≡ max (feature_count legs) (leg.feature + 1)
 feature_count-push legs leg = fold-append (λ count l. max count (l.feature + 1)) 0 legs (leg ∷ [])
 
 module _ (laws : Laws) (old new : IndexView) (leg : LegView) where

@@ -31,3 +31,8 @@ pub mod SpanLemmas
 pub mod OverLemmas
 pub mod StandLemmas
 pub mod FlushLemmas
+pub mod TakingTurns
+pub mod TurnSteps
+pub mod TurnOrder
+pub mod AllLemmas
+pub mod TurnNumbers

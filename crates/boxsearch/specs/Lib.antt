@@ -12,3 +12,5 @@ pub mod OldStore
 pub mod Ordering
 pub mod Checking
 pub mod Levels
+pub mod Taking
+pub mod Turns

@@ -3,6 +3,8 @@ use Rattle.std.specs.Prelude.{◌≡◌, ◌≤◌, ◌+◌, ◌*◌, ◌-◌, �
 use Rattle.legs.specs.Legs.{LegView}
 use Rattle.tbtree.specs.Faults.{IsCaused}
 use Rattle.tbtree.specs.Insert.{Inserts}
+use Rattle.tbtree.specs.Joining.{Joins}
+use Rattle.tbtree.specs.declared.tree.TbTree.{TbTree}
 use Rattle.tbtree.specs.Nodes.{pages_of_cache}
 use Rattle.tbtree.specs.Passes.{Passes, KeepsLength}
 use Rattle.tbtree.specs.declared.fault.TreeFault.{TreeFault}
@@ -16,6 +18,8 @@ pub record Puts (old new : IndexView) (leg : LegView) (result : Result (Unit {0}
   pub places : new.places ≡ set old.places leg.feature is
   pub inserts : IsTrue old.cache.store.is_faithful
       → Inserts (pages_of_cache old.cache) (pages_of_cache new.cache) old.tree new.tree was is leg result
+  pub joins : IsTrue old.cache.store.is_faithful
+      → Joins (pages_of_cache old.cache) (pages_of_cache new.cache) old.tree new.tree was is leg result
   pub shape : new.tree.shape ≡ old.tree.shape
   pub passes : Passes old.cache new.cache
   pub count : OnOk result (KeepsLength old.cache new.cache)
@@ -25,3 +29,7 @@ pub record Puts (old new : IndexView) (leg : LegView) (result : Result (Unit {0}
   pub works : OnOk result (new.tree.spent ≡ false)
   pub spent : OnErr result (new.tree.spent ≡ true)
   pub legs : OnOk result (new.legs ≡ min (old.legs + 1) (2 ^ 64 - 1))
+
+-- an index that refuses all calls
+abbrev pub spent_from : IndexView → IndexView
+spent_from i = record i { tree = record i.tree { spent = true } }

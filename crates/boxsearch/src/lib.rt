@@ -5,6 +5,7 @@ mod answers;
 mod checking;
 mod descent;
 mod fault;
+mod joining;
 mod leaves;
 mod levels;
 mod listed;
@@ -14,6 +15,7 @@ mod old_store;
 mod ordering;
 mod parts;
 mod tree_index;
+mod turns;
 mod walking;
 
 pub use descent::search;

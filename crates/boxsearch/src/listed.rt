@@ -1,7 +1,9 @@
 //! What contracts see of an index over pages, and its calls.
 use crate::answers::{found, insertion, retrieval};
 use crate::descent::search;
+use crate::joining::join_all;
 use crate::tree_index::TreeIndex;
+use crate::turns::turns_of;
 use chains::{trajectory, trajectory_in};
 use legs::{Box3, IndexFault, Leg, LegIndex, Listed};
 use pages::PageStore;
@@ -67,6 +69,23 @@ impl<S: PageStore> LegIndex for TreeIndex<S> {
             return Err(IndexFault::Spent);
         }
         insertion(self.put(leg))
+    }
+
+    fn add_all(&mut self, legs: &[Leg]) -> Result<(), IndexFault> {
+        if self.tree.spent {
+            return Err(IndexFault::Spent);
+        }
+        tbtree::laws();
+        tbtree::order_laws();
+        let most = u64::from(self.tree.shape.leaf());
+        let turns = match turns_of(self.alloc, self.places.as_slice(), most, legs) {
+            Ok(turns) => turns,
+            Err(_fault) => {
+                self.tree.spent = true;
+                return Err(IndexFault::Memory);
+            }
+        };
+        join_all(self, legs, turns.as_slice())
     }
 
     fn search(&mut self, query: &Box3) -> Result<Vec<Leg>, IndexFault> {

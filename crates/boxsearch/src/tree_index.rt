@@ -30,7 +30,7 @@ impl<S: PageStore> Model for TreeIndex<S> {
 }
 
 impl<S: PageStore> TreeIndex<S> {
-    ghost use Rattle.std.specs.Prelude.{ℕ, ◌≡◌, ◌<◌, [], false, length, slice_get, IfErr, IsTrue, OnErr, OnOk};
+    ghost use Rattle.std.specs.Prelude.{ℕ, ◌≡◌, ◌<◌, ◌↔◌, [], false, length, slice_get, IfErr, IsTrue, OnErr, OnOk};
     ghost use Rattle.pagecache.specs.Cache.{payload_of, IsSettled, IsWritten};
     ghost use Rattle.tbtree.specs.Nodes.{pages_of_cache};
     ghost use Rattle.chains.specs.Chains.{AreHeld};
@@ -39,7 +39,7 @@ impl<S: PageStore> TreeIndex<S> {
     ghost use Rattle.legs.specs.Index.{MayRefuse};
     ghost use Rattle.chains.specs.Reads.{OnlyReads};
     ghost use Rattle.boxsearch.specs.Beside.{with_cache};
-    ghost use Rattle.boxsearch.specs.Putting.{Puts};
+    ghost use Rattle.boxsearch.specs.Putting.{Puts, spent_from};
 
     /// An index without legs over the pages of a cache. It is sound where the store is faithful, has a page 0, all its
     /// pages are sealed, and the cache counts all of them.
@@ -132,6 +132,20 @@ impl<S: PageStore> TreeIndex<S> {
             self.places.push(Place::new())?;
         }
         Ok(())
+    }
+
+    /// Refuses all calls from now on.
+    pub(crate) fn spend(&mut self)
+        ensures { self.new ≡ spent_from self.old }
+    {
+        self.tree.spent = true;
+    }
+
+    /// Whether there is a place for a feature.
+    pub(crate) fn has_place(&self, feature: usize) -> bool
+        ensures { IsTrue result ↔ (feature < length self.now.places) }
+    {
+        feature < self.places.len()
     }
 
     /// Puts a leg into the tree, at the place of its feature.

@@ -9,7 +9,7 @@ use Rattle.legs.specs.Index.{CanFollow, CanFollowInTurn}
 use Rattle.tbnode.specs.Edits.{TakesLeg}
 use Rattle.tbtree.specs.Nodes.{LeafView}
 use Rattle.tbtree.specs.Shape.{IsShape}
-use Rattle.tbtree.proofs.TakeLemmas.{takes_leg}
+use Rattle.tbtree.proofs.TakeLemmas.{can_join, takes_leg}
 use Rattle.tbtree.proofs.LevelLemmas.{low_tree}
 use Rattle.std.proofs.lemmas.Option.{slice_get_within, slice_get-get_or}
 use Rattle.legs.specs.Blocks.{leaves, level}
@@ -20,6 +20,7 @@ use Rattle.tbtree.specs.Nodes.{Pages, HasLeaf}
 use Rattle.tbtree.specs.Stands.{page_at, owner, marks, leaf_of, PlaceStands, NumbersStand, LeavesStand, TreeStands}
 use Rattle.tbtree.specs.Way.{Hanging, Hung, Hangs}
 use Rattle.tbtree.specs.Insert.{Grows, Begins, Stands, IsPlace, Inserted, Inserts}
+use Rattle.tbtree.specs.Joining.{CanJoin, Holds, Joined, Joins}
 use Rattle.legs.specs.Legs.{LegView}
 use Rattle.tbtree.specs.declared.tree.Place.{Place}
 use Rattle.legs.specs.Boxes.{BoxView}
@@ -115,12 +116,10 @@ legs_below : (n f : ℕ) (legs : List LegView) → 0 < n → count_by (λ l. leg
 legs_below zero f legs h = absurd (omega (arith, h))
 legs_below (suc m) f legs h = few_of_key leg_feature m f legs
 
-inserted : (new : Pages LegView BoxView) (tree tree' : TbTree) (legs : List LegView) (pages : ℕ → List ℕ) (y : LegView) (after : Place) → tree'.shape.leaf ≡ tree.shape.leaf → tree'.shape.inner ≡ tree.shape.inner → CanFollowInTurn [] legs → CanFollow legs y
-    → Added leg_boxes leg_feature tree.shape.inner tree.shape.leaf tree'.levels tree'.root tree'.leaves new legs pages y after → Inserted new tree tree' legs pages y after
-inserted new tree tree' legs pages y after el ei in_turn w a = record {
+inserted : (new : Pages LegView BoxView) (tree tree' : TbTree) (legs : List LegView) (pages : ℕ → List ℕ) (y : LegView) (after : Place) → tree'.shape.leaf ≡ tree.shape.leaf → tree'.shape.inner ≡ tree.shape.inner → Added leg_boxes leg_feature tree.shape.inner tree.shape.leaf tree'.levels tree'.root tree'.leaves new legs pages y after → Joined new tree tree' legs pages y after
+inserted new tree tree' legs pages y after el ei a = record {
   pages = a.pages;
   stands = record {
-    in_turn = follow_push [] legs y in_turn w;
     tree_stands = subst (λ n. TreeStands leg_boxes leg_feature tree'.shape.inner tree'.levels tree'.root new (leaves leg_feature n (legs ++ y ∷ [])) a.pages) (sym el)
         (subst (λ n. TreeStands leg_boxes leg_feature n tree'.levels tree'.root new (leaves leg_feature tree.shape.leaf (legs ++ y ∷ [])) a.pages) (sym ei) a.tree);
     leaves_are = a.leaves_are ∙ ap (λ n. length (leaves leg_feature n (legs ++ y ∷ []))) (sym el);
@@ -131,19 +130,19 @@ inserted new tree tree' legs pages y after el ei in_turn w a = record {
 
 -- the feature's last leaf has room
 pub inserts_last : (old new : Pages LegView BoxView) (tree : TbTree) (place after : Place) (y : LegView) (res : Result (Unit {0}) TreeFault) → IsShape tree.shape → 0 < place.legs % tree.shape.leaf → OnOk res (after ≡ record place { legs = place.legs + 1 })
-    → Grows leg_boxes leg_feature tree.shape.inner tree.shape.leaf tree.levels tree.root old new place.last_index y (λ leaf. TakesLeg leaf y) res → Inserts old new tree tree place after y res
+    → Grows leg_boxes leg_feature tree.shape.inner tree.shape.leaf tree.levels tree.root old new place.last_index y (λ leaf. TakesLeg leaf y) res → Joins old new tree tree place after y res
 inserts_last old new tree place after y res shape h e grows legs pages st at w =
     let lf : 0 < tree.shape.leaf = let least = shape.least_leaf in omega (arith, least) in
     (elim tree.shape.leaf as (λ n. tree.shape.leaf ≡ n → 0 < n → 0 < place.legs % n → Grows leg_boxes leg_feature tree.shape.inner n tree.levels tree.root old new place.last_index y (λ leaf. TakesLeg leaf y) res → TreeStands leg_boxes leg_feature tree.shape.inner tree.levels tree.root old (leaves leg_feature n legs) pages
-    → tree.leaves ≡ length (leaves leg_feature n legs) → PlaceStands leg_feature legs (marks leg_feature (leaves leg_feature n legs) (pages 0)) y.feature place → Gives res (λ _. Inserted new tree tree legs pages y after)) [
+    → tree.leaves ≡ length (leaves leg_feature n legs) → PlaceStands leg_feature legs (marks leg_feature (leaves leg_feature n legs) (pages 0)) y.feature place → Gives res (λ _. Joined new tree tree legs pages y after)) [
       | zero ↦ λ u z h g t l p. absurd (omega (arith, z))
       | suc m ↦ λ u z h g t l p.
           let r = last_run leg_boxes leg_feature tree.shape.inner tree.levels tree.root m old.count y place legs pages h t.numbers p in
           let few : length (r.x ∷ r.xs) < 50 = let most = shape.most_leaf in let short = r.few in omega (arith, u, most, short) in
-          let gives = g (leaves leg_feature (suc m) legs) pages r.x r.xs r.is r.few (λ (leaf : LeafView LegView) of same. takes_leg m legs y place.last_index r.x r.xs leaf st.in_turn w r.is r.owner few of same) t in
-          (elim res as (λ res. OnOk res (after ≡ record place { legs = place.legs + 1 }) → Gives res (λ _. TreeStands leg_boxes leg_feature tree.shape.inner tree.levels tree.root new (set (leaves leg_feature (suc m) legs) place.last_index ((r.x ∷ r.xs) ++ y ∷ [])) pages) → Gives res (λ _. Inserted new tree tree legs pages y after)) [
+          let gives = g (leaves leg_feature (suc m) legs) pages r.x r.xs r.is r.few (λ (leaf : LeafView LegView) of same. takes_leg m legs y place.last_index r.x r.xs leaf w r.is r.owner few of same) t in
+          (elim res as (λ res. OnOk res (after ≡ record place { legs = place.legs + 1 }) → Gives res (λ _. TreeStands leg_boxes leg_feature tree.shape.inner tree.levels tree.root new (set (leaves leg_feature (suc m) legs) place.last_index ((r.x ∷ r.xs) ++ y ∷ [])) pages) → Gives res (λ _. Joined new tree tree legs pages y after)) [
             | Ok v ↦ λ e gives.
-                inserted new tree tree legs pages y after refl refl st.in_turn w
+                inserted new tree tree legs pages y after refl refl
                 (subst (λ n. Added leg_boxes leg_feature tree.shape.inner n tree.levels tree.root tree.leaves new legs pages y after) (sym u)
                 (added_last leg_boxes leg_feature tree.shape.inner tree.levels tree.root m new y place after legs pages tree.leaves h e l p r gives))
             | Err x ↦ λ e gives. gives
@@ -156,12 +155,12 @@ filled zero legs h i e = omega (arith, h)
 filled (suc m) legs h i e = run_some leg_feature m [] legs i e
 
 -- the leaf that has been begun is to be hung
-begun_hanging : (old mid : Pages LegView BoxView) (tree : TbTree) (place : Place) (y : LegView) (page : ℕ) (legs : List LegView) (pages : ℕ → List ℕ) → 0 < tree.shape.leaf → Begins leg_feature old place.last y mid page → Stands old tree legs pages → IsPlace tree legs pages y.feature place
+begun_hanging : (old mid : Pages LegView BoxView) (tree : TbTree) (place : Place) (y : LegView) (page : ℕ) (legs : List LegView) (pages : ℕ → List ℕ) → 0 < tree.shape.leaf → Begins leg_feature old place.last y mid page → Holds old tree legs pages → IsPlace tree legs pages y.feature place
     → Hanging leg_boxes leg_feature tree.shape.inner tree.levels tree.root mid (leaves leg_feature tree.shape.leaf legs) y pages old.count 0
 begun_hanging old mid tree place y page legs pages lf b st at = hanging leg_boxes leg_feature tree.shape.inner tree.levels tree.root old mid (leaves leg_feature tree.shape.leaf legs) place y page legs pages (filled tree.shape.leaf legs lf) st.tree_stands at b
 
 -- and what hang_leaf gives for it
-begun_hangs : (old mid new : Pages LegView BoxView) (tree : TbTree) (place : Place) (y : LegView) (page : ℕ) (box : BoxView) (res : Result Top TreeFault) (legs : List LegView) (pages : ℕ → List ℕ) → 0 < tree.shape.leaf → Begins leg_feature old place.last y mid page → Stands old tree legs pages → IsPlace tree legs pages y.feature place
+begun_hangs : (old mid new : Pages LegView BoxView) (tree : TbTree) (place : Place) (y : LegView) (page : ℕ) (box : BoxView) (res : Result Top TreeFault) (legs : List LegView) (pages : ℕ → List ℕ) → 0 < tree.shape.leaf → Begins leg_feature old place.last y mid page → Holds old tree legs pages → IsPlace tree legs pages y.feature place
     → box ≡ leg_boxes.of y → Hangs leg_boxes leg_feature tree.shape.inner tree.levels tree.root mid new 0 tree.leaves page box res → Gives res (λ top. Hung leg_boxes leg_feature tree.shape.inner top.levels top.root new (leaves leg_feature tree.shape.leaf legs) y (pages 0) old.count)
 begun_hangs old mid new tree place y page box res legs pages lf b st at eb hangs =
     let rs = leaves leg_feature tree.shape.leaf legs in
@@ -172,12 +171,12 @@ pub inserts_begun : (old mid new : Pages LegView BoxView) (tree tree' : TbTree) 
     → Begins leg_feature old place.last y mid page → box ≡ leg_boxes.of y → Hangs leg_boxes leg_feature tree.shape.inner tree.levels tree.root mid new 0 tree.leaves page box (Ok (record { root = tree'.root; levels = tree'.levels }))
     → tree' ≡ record tree { root = tree'.root; levels = tree'.levels; leaves = tree.leaves + 1 }
     → (place.last ≡ 0 → after.first ≡ page) → (0 < place.last → after.first ≡ place.first) → after.last ≡ page → after.last_index ≡ tree.leaves → after.legs ≡ place.legs + 1
-    → Inserts old new tree tree' place after y (Ok tt)
+    → Joins old new tree tree' place after y (Ok tt)
 inserts_begun old mid new tree tree' place after y page box lf h b eb hangs et f0 f1 la ia ga legs pages st at w =
     let lv : tree'.leaves ≡ tree.leaves + 1 = ap (λ (t : TbTree). t.leaves) et in
     let is : page ≡ old.count = b.adds.number in
     let hung = begun_hangs old mid new tree place y page box (Ok (record { root = tree'.root; levels = tree'.levels })) legs pages lf b st at eb hangs in
-    inserted new tree tree' legs pages y after (ap (λ (t : TbTree). t.shape.leaf) et) (ap (λ (t : TbTree). t.shape.inner) et) st.in_turn w
+    inserted new tree tree' legs pages y after (ap (λ (t : TbTree). t.shape.leaf) et) (ap (λ (t : TbTree). t.shape.inner) et)
     ((elim tree.shape.leaf as (λ n. 0 < n → place.legs % n ≡ 0 → TreeStands leg_boxes leg_feature tree.shape.inner tree.levels tree.root old (leaves leg_feature n legs) pages → tree.leaves ≡ length (leaves leg_feature n legs)
     → PlaceStands leg_feature legs (marks leg_feature (leaves leg_feature n legs) (pages 0)) y.feature place → Hung leg_boxes leg_feature tree.shape.inner tree'.levels tree'.root new (leaves leg_feature n legs) y (pages 0) old.count
     → Added leg_boxes leg_feature tree.shape.inner n tree'.levels tree'.root tree'.leaves new legs pages y after) [
@@ -189,11 +188,11 @@ inserts_begun old mid new tree tree' place after y page box lf h b eb hangs et f
     ]) lf h st.tree_stands st.leaves_are at hung)
 
 pub hang_not : (old mid new after : Pages LegView BoxView) (tree tree' : TbTree) (place place' : Place) (y : LegView) (page : ℕ) (box : BoxView) (x : TreeFault) → 0 < tree.shape.leaf → Begins leg_feature old place.last y mid page → box ≡ leg_boxes.of y
-    → Hangs leg_boxes leg_feature tree.shape.inner tree.levels tree.root mid new 0 tree.leaves page box (Err x) → Inserts old after tree tree' place place' y (Err x)
+    → Hangs leg_boxes leg_feature tree.shape.inner tree.levels tree.root mid new 0 tree.leaves page box (Err x) → Joins old after tree tree' place place' y (Err x)
 hang_not old mid new after tree tree' place place' y page box x lf b eb hangs legs pages st at w = begun_hangs old mid new tree place y page box (Err x) legs pages lf b st at eb hangs
 
 -- the feature's last leaf is there
-last_leaf : (old : Pages LegView BoxView) (tree : TbTree) (place : Place) (y : LegView) (legs : List LegView) (pages : ℕ → List ℕ) → Stands old tree legs pages → IsPlace tree legs pages y.feature place → 0 < place.last → HasLeaf old place.last
+last_leaf : (old : Pages LegView BoxView) (tree : TbTree) (place : Place) (y : LegView) (legs : List LegView) (pages : ℕ → List ℕ) → Holds old tree legs pages → IsPlace tree legs pages y.feature place → 0 < place.last → HasLeaf old place.last
 last_leaf old tree place y legs pages st at h =
     let rs = leaves leg_feature tree.shape.leaf legs in
     let t = st.tree_stands in
@@ -203,11 +202,11 @@ last_leaf old tree place y legs pages st at h =
     let r = get_or rs place.last_index [] in
     record { above = h; leaf = leaf_of (owner leg_feature r) (marks leg_feature rs (pages 0)) place.last_index r; is = t.leaves place.last_index place.last r a (slice_get-get_or rs place.last_index [] l) }
 
-pub add_not : (old new : Pages LegView BoxView) (tree tree' : TbTree) (place place' : Place) (y : LegView) (x : TreeFault) → ((0 < place.last → HasLeaf old place.last) → IsAllowed x) → Inserts old new tree tree' place place' y (Err x)
+pub add_not : (old new : Pages LegView BoxView) (tree tree' : TbTree) (place place' : Place) (y : LegView) (x : TreeFault) → ((0 < place.last → HasLeaf old place.last) → IsAllowed x) → Joins old new tree tree' place place' y (Err x)
 add_not old new tree tree' place place' y x only legs pages st at w = only (last_leaf old tree place y legs pages st at)
 
 -- no count is past its type
-pub few_enough : (old new : Pages LegView BoxView) (tree tree' : TbTree) (place place' : Place) (y : LegView) (x : TreeFault) → IsShape tree.shape → old.count < 2 ^ 32 → (tree.leaves < old.count → tree.levels < 34 → place.legs < 2 ^ 64 - 1 → ⊥) → Inserts old new tree tree' place place' y (Err x)
+pub few_enough : (old new : Pages LegView BoxView) (tree tree' : TbTree) (place place' : Place) (y : LegView) (x : TreeFault) → IsShape tree.shape → old.count < 2 ^ 32 → (tree.leaves < old.count → tree.levels < 34 → place.legs < 2 ^ 64 - 1 → ⊥) → Joins old new tree tree' place place' y (Err x)
 few_enough old new tree tree' place place' y x shape few most legs pages st at w =
     let n = st.tree_stands.numbers in
     let rs = leaves leg_feature tree.shape.leaf legs in
@@ -223,7 +222,7 @@ few_enough old new tree tree' place place' y x shape few most legs pages st at w
     absurd (most (omega (arith, a, lp, l)) low (let c = at.legs_are in omega (arith, c, f, p)))
 
 -- a tree without levels has no legs
-pub none_without_levels : (old new : Pages LegView BoxView) (tree tree' : TbTree) (place place' : Place) (y : LegView) (x : TreeFault) → tree.levels ≡ 0 → place.legs % tree.shape.leaf ≢ 0 → Inserts old new tree tree' place place' y (Err x)
+pub none_without_levels : (old new : Pages LegView BoxView) (tree tree' : TbTree) (place place' : Place) (y : LegView) (x : TreeFault) → tree.levels ≡ 0 → place.legs % tree.shape.leaf ≢ 0 → Joins old new tree tree' place place' y (Err x)
 none_without_levels old new tree tree' place place' y x e h legs pages st at w =
     let n = st.tree_stands.numbers in
     let above : 0 < place.legs = ⊎_elim (λ (u : place.legs ≡ 0). absurd (h (ap (λ k. k % tree.shape.leaf) u ∙ zero-mod tree.shape.leaf))) (λ (u : place.legs ≢ 0). omega (arith, u)) (cases_eq place.legs 0) in
@@ -231,12 +230,19 @@ none_without_levels old new tree tree' place place' y x e h legs pages st at w =
     absurd (some_none place.last (sym a ∙ ap (λ l. slice_get l place.last_index) (n.no_more 0 (omega (arith, e)))))
 
 -- whether a tree is spent is no matter of its pages
-respent : (nodes : Pages LegView BoxView) (tree : TbTree) (b b' : Bool) (legs : List LegView) (pages : ℕ → List ℕ) → Stands nodes (record tree { spent = b }) legs pages → Stands nodes (record tree { spent = b' }) legs pages
-respent nodes tree b b' legs pages v = record { in_turn = v.in_turn; tree_stands = v.tree_stands; leaves_are = v.leaves_are }
+respent : (nodes : Pages LegView BoxView) (tree : TbTree) (b b' : Bool) (legs : List LegView) (pages : ℕ → List ℕ) → Holds nodes (record tree { spent = b }) legs pages → Holds nodes (record tree { spent = b' }) legs pages
+respent nodes tree b b' legs pages v = record { tree_stands = v.tree_stands; leaves_are = v.leaves_are }
 
-pub inserts_spent : (old new : Pages LegView BoxView) (tree tree' : TbTree) (a b b' : Bool) (place after : Place) (y : LegView) (res : Result (Unit {0}) TreeFault) → Inserts old new (record tree { spent = a }) tree' place after y res
-    → Inserts old new (record tree { spent = b }) (record tree' { spent = b' }) place after y res
+pub inserts_spent : (old new : Pages LegView BoxView) (tree tree' : TbTree) (a b b' : Bool) (place after : Place) (y : LegView) (res : Result (Unit {0}) TreeFault) → Joins old new (record tree { spent = a }) tree' place after y res
+    → Joins old new (record tree { spent = b }) (record tree' { spent = b' }) place after y res
 inserts_spent old new tree tree' a b b' place after y (Ok u) f legs pages st at w =
     let i = f legs pages (respent old tree b a legs pages st) at w in
     record { pages = i.pages; stands = respent new tree' tree'.spent b' (legs ++ y ∷ []) i.pages i.stands; placed = i.placed; others = i.others }
 inserts_spent old new tree tree' a b b' place after y (Err x) f legs pages st at w = f legs pages (respent old tree b a legs pages st) at w
+
+-- legs in turn are joined by a leg that may follow them
+pub inserts_joined : (old new : Pages LegView BoxView) (tree tree' : TbTree) (place after : Place) (y : LegView) (res : Result (Unit {0}) TreeFault) → Joins old new tree tree' place after y res → Inserts old new tree tree' place after y res
+inserts_joined old new tree tree' place after y (Ok u) f legs pages st at w =
+    let i = f legs pages (record { tree_stands = st.tree_stands; leaves_are = st.leaves_are }) at (can_join legs y st.in_turn w) in
+    record { pages = i.pages; stands = record { in_turn = follow_push [] legs y st.in_turn w; tree_stands = i.stands.tree_stands; leaves_are = i.stands.leaves_are }; placed = i.placed; others = i.others }
+inserts_joined old new tree tree' place after y (Err x) f legs pages st at w = f legs pages (record { tree_stands = st.tree_stands; leaves_are = st.leaves_are }) at (can_join legs y st.in_turn w)

@@ -15,6 +15,7 @@ use Rattle.legs.specs.Index.{CanFollowInTurn, legs_of}
 use Rattle.legs.specs.Legs.{LegView}
 use Rattle.tbtree.specs.Descent.{legs_met, pages_met, IsPruning, Descends, sort_by_ordinal, content_of, children_met, entries_in, legs_in, node_at, node_in, IsSameTree}
 use Rattle.tbtree.specs.Insert.{Stands, IsPlace}
+use Rattle.tbtree.specs.Joining.{Holds}
 use Rattle.tbtree.specs.Nodes.{EntryView, Node, ALeaf, AnInner, Pages, HasLeaf}
 use Rattle.tbtree.specs.Shape.{IsShape}
 use Rattle.tbtree.specs.Stands.{owner, pages_of, marks, leaf_of, no_place, head_or_zero, last_or}
@@ -143,8 +144,8 @@ runs_short : (n : ℕ) (legs : List LegView) → 0 < n → (i : ℕ) (r : List L
 runs_short zero legs h i r e = absurd (omega (arith, h))
 runs_short (suc m) legs h i r e = run_short leg_feature m [] legs i r e
 
-pub legs_fit : (nodes : Pages LegView BoxView) (tree : TbTree) (legs : List LegView) (pages : ℕ → List ℕ) → IsShape tree.shape → Stands nodes tree legs pages → length legs ≤ nodes.count * tree.shape.leaf
-legs_fit nodes tree legs pages shape st =
+pub held_fit : (nodes : Pages LegView BoxView) (tree : TbTree) (legs : List LegView) (pages : ℕ → List ℕ) → IsShape tree.shape → Holds nodes tree legs pages → length legs ≤ nodes.count * tree.shape.leaf
+held_fit nodes tree legs pages shape st =
     let n = st.tree_stands.numbers in
     let rs = leaves_of tree.shape legs in
     let some : 0 < tree.shape.leaf = let h = shape.least_leaf in omega (arith, h) in
@@ -157,6 +158,9 @@ legs_fit nodes tree legs pages shape st =
     let e : length rs * tree.shape.leaf ≤ nodes.count * tree.shape.leaf = mul-le (length rs) tree.shape.leaf nodes.count tree.shape.leaf (omega (arith, d, few)) (omega arith) in
     omega (arith, p, a, b, c, e)
 
+pub legs_fit : (nodes : Pages LegView BoxView) (tree : TbTree) (legs : List LegView) (pages : ℕ → List ℕ) → IsShape tree.shape → Stands nodes tree legs pages → length legs ≤ nodes.count * tree.shape.leaf
+legs_fit nodes tree legs pages shape st = held_fit nodes tree legs pages shape (record { tree_stands = st.tree_stands; leaves_are = st.leaves_are })
+
 -- no page is of a feature that has no run
 no_pages : (f : ℕ) (rs : List (List LegView)) (ps : List ℕ) → filter (λ r. owner leg_feature r == f) rs ≡ [] → pages_of f (marks leg_feature rs ps) ≡ []
 no_pages f [] ps e = refl
@@ -167,8 +171,8 @@ no_pages f (r ∷ rs) (p ∷ ps) e =
       | false ↦ λ e. no_pages f rs ps e
     ]) e
 
-pub absent_is : (nodes : Pages LegView BoxView) (tree : TbTree) (legs : List LegView) (pages : ℕ → List ℕ) (f : ℕ) → IsShape tree.shape → Stands nodes tree legs pages → legs_of f legs ≡ [] → IsPlace tree legs pages f no_place
-absent_is nodes tree legs pages f shape st e =
+pub none_of : (tree : TbTree) (legs : List LegView) (pages : ℕ → List ℕ) (f : ℕ) → IsShape tree.shape → legs_of f legs ≡ [] → IsPlace tree legs pages f no_place
+none_of tree legs pages f shape e =
     let some : 0 < tree.shape.leaf = let h = shape.least_leaf in omega (arith, h) in
     let rs = leaves_of tree.shape legs in
     let own : filter (λ r. owner leg_feature r == f) rs ≡ [] = own_runs leg_feature tree.shape.leaf f legs some ∙ ap (groups tree.shape.leaf) e in
@@ -180,6 +184,9 @@ absent_is nodes tree legs pages f shape st e =
       last_index = λ h. absurd (omega (arith, h));
       none = λ h. (refl, refl, refl);
     }
+
+pub absent_is : (nodes : Pages LegView BoxView) (tree : TbTree) (legs : List LegView) (pages : ℕ → List ℕ) (f : ℕ) → IsShape tree.shape → Stands nodes tree legs pages → legs_of f legs ≡ [] → IsPlace tree legs pages f no_place
+absent_is nodes tree legs pages f shape st e = none_of tree legs pages f shape e
 
 module _ {L B : Type 0} where
   abbrev entries_of : Option (Node L B) → List (EntryView B)

@@ -45,3 +45,5 @@ pub mod CheckTree
 pub mod HeldLemmas
 pub mod HeldChains
 pub mod HeldTree
+pub mod BlockOrder
+pub mod TakenOrder

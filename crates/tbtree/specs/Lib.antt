@@ -6,6 +6,8 @@ pub mod Shape
 pub mod Stands
 pub mod Way
 pub mod Insert
+pub mod Order
+pub mod Joining
 pub mod Descent
 pub mod Bounds
 pub mod Check

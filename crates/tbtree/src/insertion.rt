@@ -8,6 +8,7 @@ ghost use Rattle.tbtree.specs.Nodes.{pages_of_cache, HasLeaf};
 ghost use Rattle.tbtree.specs.Passes.{Passes, KeepsLength};
 ghost use Rattle.tbtree.specs.Way.{IsOnWay, Hangs};
 ghost use Rattle.tbtree.specs.Insert.{Grows, Begins, Inserts};
+ghost use Rattle.tbtree.specs.Joining.{Joins};
 ghost use Rattle.tbtree.specs.Shape.{IsShape};
 ghost use Rattle.tbtree.specs.declared.fault.TreeFault.{TreeFault};
 
@@ -161,7 +162,7 @@ fn into_last<S: PageStore>(
     requires room { 0 < place.old.legs % tree.now.shape.leaf }
     requires few_legs { place.old.legs < 2 ^ 64 - 1 }
     ensures inserts { IsTrue cache.old.store.is_faithful
-        → Inserts (pages_of_cache cache.old) (pages_of_cache cache.new) tree.now tree.now
+        → Joins (pages_of_cache cache.old) (pages_of_cache cache.new) tree.now tree.now
         place.old place.new leg.now result }
     ensures passes { Passes cache.old cache.new }
     ensures length { OnOk result (KeepsLength cache.old cache.new) }
@@ -234,7 +235,7 @@ fn begin<S: PageStore>(
     requires few_leaves { tree.old.leaves < 2 ^ 32 - 1 }
     requires few_levels { tree.old.levels < 2 ^ 16 - 1 }
     ensures inserts { IsTrue cache.old.store.is_faithful
-        → Inserts (pages_of_cache cache.old) (pages_of_cache cache.new) tree.old tree.new
+        → Joins (pages_of_cache cache.old) (pages_of_cache cache.new) tree.old tree.new
         place.old place.new leg.now result }
     ensures spent { tree.new.spent ≡ tree.old.spent }
     ensures shape { tree.new.shape ≡ tree.old.shape }
@@ -272,7 +273,7 @@ fn put<S: PageStore>(
     leg: &Leg,
 ) -> Result<(), TreeFault>
     ensures inserts { IsTrue cache.old.store.is_faithful
-        → Inserts (pages_of_cache cache.old) (pages_of_cache cache.new) tree.old tree.new
+        → Joins (pages_of_cache cache.old) (pages_of_cache cache.new) tree.old tree.new
         place.old place.new leg.now result }
     ensures spent { tree.new.spent ≡ tree.old.spent }
     ensures shape { tree.new.shape ≡ tree.old.shape }
@@ -306,6 +307,10 @@ pub fn insert<S: PageStore>(
     // Pages that stand for legs stand for them with one more, which may follow them.
     ensures inserts { tree.old.spent ≡ false → IsTrue cache.old.store.is_faithful
         → Inserts (pages_of_cache cache.old) (pages_of_cache cache.new) tree.old tree.new
+        place.old place.new leg result }
+    // So do pages that hold legs in any order, where its ordinal is above those of its feature's legs.
+    ensures joins { tree.old.spent ≡ false → IsTrue cache.old.store.is_faithful
+        → Joins (pages_of_cache cache.old) (pages_of_cache cache.new) tree.old tree.new
         place.old place.new leg result }
     ensures shape { tree.new.shape ≡ tree.old.shape }
 

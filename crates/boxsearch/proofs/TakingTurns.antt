@@ -1,0 +1,222 @@
+-- Legs put into an index in any order in which each feature's ordinals rise.
+use Rattle.std.proofs.Common.{ℕ, zero, suc, All, drop, get_or, ◌≡◌, ◌≢◌, ◌≤◌, ◌<◌, ◌+◌, ◌*◌, ◌-◌, ◌^◌, max, min, refl, sym, ap, ◌∙◌, arith, subst, ⊎_elim, true, false, List, [], ◌∷◌, ◌++◌, length, set, Some, slice_get, Result, Ok, Err, OnOk, OnErr, append_assoc}
+use Rattle.std.specs.Prelude.{IfErr, IfOk, IsErrOf}
+use Rattle.std.proofs.lemmas.Bool.{cases_eq, true≢false}
+use Rattle.std.proofs.lemmas.Int.{clamps}
+use Rattle.std.proofs.lemmas.List.{length_push, length-set, append-nil}
+use Rattle.std.proofs.lemmas.Nat.{mul-le}
+use Rattle.legs.specs.Asking.{IsLater}
+use Rattle.legs.specs.Boxes.{BoxView}
+use Rattle.legs.specs.Index.{HasRisen, MayRefuseLeg, feature_count, legs_of}
+use Rattle.legs.specs.Legs.{LegView}
+use Rattle.legs.specs.Places.{no_leg}
+use Rattle.legs.specs.declared.index.IndexFault.{IndexFault}
+use Rattle.legs.specs.declared.index.IndexFault.TheVariants as index
+use Rattle.tbtree.specs.Faults.{Gives, IsAllowed, IsCaused}
+use Rattle.tbtree.specs.Insert.{IsPlace}
+use Rattle.tbtree.specs.Joining.{CanTake, CanTakeInTurn, Holds, Joined}
+use Rattle.tbtree.specs.Nodes.{Pages, pages_of_cache}
+use Rattle.tbtree.specs.Shape.{IsShape}
+use Rattle.tbtree.specs.Stands.{no_place}
+use Rattle.tbtree.specs.declared.fault.TreeFault.{TreeFault}
+use Rattle.tbtree.specs.declared.tree.Place.{Place}
+use Rattle.tbtree.specs.declared.tree.TbTree.{TbTree}
+use Rattle.boxsearch.specs.Answers.{answered, of_tree}
+use Rattle.boxsearch.specs.Index.{IndexView, words, IsMarked, with_place}
+use Rattle.boxsearch.specs.Putting.{Puts, spent_from}
+use Rattle.boxsearch.specs.Taking.{HoldsLegs, Taking, taken}
+use Rattle.boxsearch.specs.declared.turns.Turn.{Turn}
+use Rattle.boxsearch.proofs.AddLemmas.{Laws, made, refusals, marked_after, feature_count-push}
+use Rattle.boxsearch.proofs.AnswerLemmas.{each_fault, tree_allowed}
+use Rattle.boxsearch.proofs.PlaceLemmas.{get-set_same, get-set_other, made_places, length-made, some_same}
+use Rattle.boxsearch.proofs.TrackLemmas.{no_legs}
+
+-- the laws of a tree that are cited here
+pub record OrderLaws : Type 0 where
+  pub fits : (nodes : Pages LegView BoxView) (tree : TbTree) (legs : List LegView) (pages : ℕ → List ℕ) → IsShape tree.shape → Holds nodes tree legs pages → length legs ≤ nodes.count * tree.shape.leaf
+  pub absent : (tree : TbTree) (legs : List LegView) (pages : ℕ → List ℕ) (feature : ℕ) → IsShape tree.shape → legs_of feature legs ≡ [] → IsPlace tree legs pages feature no_place
+
+module _ (laws : OrderLaws) (old new : IndexView) (leg : LegView) (before : List LegView) (r : Result (Unit {0}) TreeFault) (p : Puts (made old leg.feature) new leg r) (s : HoldsLegs old before) where
+  abbrev longer : List LegView
+  longer = before ++ leg ∷ []
+
+  placed_made : (f : ℕ) (place : Place) → slice_get (with_place old.places leg.feature) f ≡ Some place → IsPlace old.tree before s.pages f place
+  placed_made =
+      made_places (λ f place. IsPlace old.tree before s.pages f place) old.places leg.feature s.placed
+      (laws.absent old.tree before s.pages (length old.places) s.shape (no_legs before (length old.places) (let n = s.features in omega (arith, n))))
+
+  pub gives : CanTake before leg → Gives r (λ _. Joined (pages_of_cache new.cache) old.tree new.tree before s.pages leg p.is)
+  gives w = p.joins s.faithful before s.pages s.holds (placed_made leg.feature p.was p.found) w.joins
+
+  module _ (w : CanTake before leg) (i : Joined (pages_of_cache new.cache) old.tree new.tree before s.pages leg p.is) where
+    still_shape : IsShape new.tree.shape
+    still_shape = subst (λ shape. IsShape shape) (sym p.shape) s.shape
+
+    few_legs : length longer ≤ 2 ^ 64 - 1
+    few_legs =
+        let fits = laws.fits (pages_of_cache new.cache) new.tree longer i.pages still_shape i.stands in
+        let most = still_shape.most_leaf in
+        let few = p.few in
+        let m : new.cache.count * new.tree.shape.leaf ≤ 2 ^ 32 * 50 = mul-le new.cache.count new.tree.shape.leaf (2 ^ 32) 50 (omega (arith, few)) most in
+        omega (arith, fits, m)
+
+    as_many_places : length new.places ≡ feature_count longer
+    as_many_places =
+        let n = s.features in
+        let low = w.feature in
+        let a : length new.places ≡ length (with_place old.places leg.feature) = ap length p.places ∙ length-set (with_place old.places leg.feature) leg.feature p.is in
+        let b = length-made old.places leg.feature (omega (arith, n, low)) in
+        let c = feature_count-push before leg in
+        omega (arith, a, b, c, n)
+
+    new_places : (f : ℕ) (place : Place) → slice_get new.places f ≡ Some place → IsPlace new.tree longer i.pages f place
+    new_places f place h =
+        let at : slice_get (set (with_place old.places leg.feature) leg.feature p.is) f ≡ Some place = ap (λ (l : List Place). slice_get l f) (sym p.places) ∙ h in
+        ⊎_elim
+        (λ (e : f ≡ leg.feature).
+        let same : p.is ≡ place = some_same p.is place (sym (get-set_same (with_place old.places leg.feature) leg.feature p.is p.was p.found) ∙ ap (slice_get (set (with_place old.places leg.feature) leg.feature p.is)) (sym e) ∙ at) in
+        subst (λ f. IsPlace new.tree longer i.pages f place) (sym e) (subst (λ q. IsPlace new.tree longer i.pages leg.feature q) same i.placed))
+        (λ (u : f ≢ leg.feature).
+        i.others f place u (placed_made f place (sym (get-set_other (with_place old.places leg.feature) leg.feature f p.is u) ∙ at)))
+        (cases_eq f leg.feature)
+
+    pub held_after : new.cache.count ≡ new.cache.store.count → new.tree.spent ≡ false → new.legs ≡ min (old.legs + 1) (2 ^ 64 - 1) → HoldsLegs new longer
+    held_after count works legs = record {
+      faithful = p.passes.store.faithful ∙ s.faithful;
+      works = works;
+      shape = still_shape;
+      count = count;
+      pages = i.pages;
+      holds = i.stands;
+      counted = (let few = few_legs in let n = s.counted in let a = length_push before leg in omega (arith, clamps, few, n, a, legs));
+      features = as_many_places;
+      placed = new_places;
+    }
+
+module _ (laws : OrderLaws) (old new : IndexView) (leg : LegView) where
+  takes : (r : Result (Unit {0}) TreeFault) → Puts (made old leg.feature) new leg r → OnOk (answered (λ fault. of_tree fault) r) ((before : List LegView) → HoldsLegs old before → CanTakeInTurn before (leg ∷ []) → HoldsLegs new (before ++ leg ∷ []))
+  takes (Ok tt) p = λ before s w. held_after laws old new leg before (Ok tt) p s w.0 (gives laws old new leg before (Ok tt) p s w.0) (p.count s.count) p.works p.legs
+  takes (Err x) p = tt
+
+  on_answer : (P : Type 0) (r : Result (Unit {0}) TreeFault) → OnOk r P → OnOk (answered (λ fault. of_tree fault) r) P
+  on_answer P (Ok tt) h = h
+  on_answer P (Err x) h = tt
+
+  shape_kept : (r : Result (Unit {0}) TreeFault) → new.tree.shape ≡ old.tree.shape → OnOk r (new.tree.shape ≡ old.tree.shape)
+  shape_kept (Ok tt) h = h
+  shape_kept (Err x) h = tt
+
+  allowed : (r : Result (Unit {0}) TreeFault) → Puts (made old leg.feature) new leg r → IfErr r (λ fault. (before : List LegView) → HoldsLegs old before → CanTakeInTurn before (leg ∷ []) → IsAllowed fault)
+  allowed (Ok tt) p = tt
+  allowed (Err x) p = λ before s w. gives laws old new leg before (Err x) p s w.0
+
+  pub joined : Laws → (r : Result (Unit {0}) TreeFault) → old.tree.spent ≡ false → Puts (made old leg.feature) new leg r → Taking old new (leg ∷ []) (answered (λ fault. of_tree fault) r)
+  joined rules r works p =
+      let said = refusals rules old new leg r works p in
+      record {
+        takes = takes r p;
+        shape = on_answer (new.tree.shape ≡ old.tree.shape) r (shape_kept r p.shape);
+        works = on_answer (new.tree.spent ≡ false) r p.works;
+        spent = said.spent;
+        refused = each_fault (λ fault. of_tree fault) (λ fault. (before : List LegView) → HoldsLegs old before → CanTakeInTurn before (leg ∷ []) → IsAllowed fault)
+            (λ fault. (before : List LegView) → HoldsLegs old before → CanTakeInTurn before (leg ∷ []) → MayRefuseLeg fault) (λ x h before s w. tree_allowed x (h before s w)) r (allowed r p);
+        store = said.store;
+        full = said.full;
+        marked = marked_after old.cache new.cache p.passes;
+      }
+
+-- as far as a loop over legs has come, from an index to what it is now
+pub record IsTaking (old now : IndexView) (all left : List LegView) : Type 0 where
+  pub going : (before : List LegView) → HoldsLegs old before → CanTakeInTurn before all
+      → (done : List LegView) × HoldsLegs now (before ++ done) × CanTakeInTurn (before ++ done) left × (done ++ left ≡ all)
+  pub works : now.tree.spent ≡ false
+  pub shape : now.tree.shape ≡ old.tree.shape
+  pub marked : IsMarked old.cache → IsMarked now.cache
+  pub faults : old.cache.store.faults ≤ now.cache.store.faults
+
+pub taking_start : (old : IndexView) (all : List LegView) → old.tree.spent ≡ false → IsTaking old old all all
+taking_start old all works = record {
+  going = λ before s w. ([], subst (λ l. HoldsLegs old l) (sym (append-nil before)) s, subst (λ l. CanTakeInTurn l all) (sym (append-nil before)) w, refl);
+  works = works;
+  shape = refl;
+  marked = λ m. m;
+  faults = omega arith;
+}
+
+pub taking_more : (old now new : IndexView) (all left : List LegView) (leg : LegView) → IsTaking old now all (leg ∷ left) → Taking now new (leg ∷ []) (Ok tt) → IsLater words now new → IsTaking old new all left
+taking_more old now new all left leg so_far more later = record {
+  going = λ before s w.
+      let at = so_far.going before s w in
+      let done = at.0 in
+      let same : (before ++ done) ++ leg ∷ [] ≡ before ++ (done ++ leg ∷ []) = append_assoc before done (leg ∷ []) in (
+        done ++ leg ∷ [],
+        subst (λ l. HoldsLegs new l) same (more.takes (before ++ done) at.1 (at.2.0, tt)),
+        subst (λ l. CanTakeInTurn l left) same at.2.1,
+        append_assoc done (leg ∷ []) left ∙ at.3,
+      );
+  works = more.works;
+  shape = more.shape ∙ so_far.shape;
+  marked = λ m. more.marked (so_far.marked m);
+  faults = let a = so_far.faults in let b = later.faults in omega (arith, a, b);
+}
+
+pub taking_end : (old now : IndexView) (all : List LegView) → IsTaking old now all [] → Taking old now all (Ok tt)
+taking_end old now all so_far = record {
+  takes = λ before s w.
+      let at = so_far.going before s w in
+      let same : at.0 ≡ all = sym (append-nil at.0) ∙ at.3 in
+      subst (λ l. HoldsLegs now (before ++ l)) same at.1;
+  shape = so_far.shape;
+  works = so_far.works;
+  spent = tt;
+  refused = tt;
+  store = λ e. absurd cc;
+  full = λ e. absurd cc;
+  marked = so_far.marked;
+}
+
+pub taking_refused : (old now new : IndexView) (all left : List LegView) (leg : LegView) (fault : IndexFault) → IsTaking old now all (leg ∷ left) → Taking now new (leg ∷ []) (Err fault) → Taking old new all (Err fault)
+taking_refused old now new all left leg fault so_far more = record {
+  takes = tt;
+  shape = tt;
+  works = tt;
+  spent = more.spent;
+  refused = λ before s w. (let at = so_far.going before s w in more.refused (before ++ at.0) at.1 (at.2.0, tt));
+  store = λ e. (let a = so_far.faults in let b = more.store e in omega (arith, clamps, a, b));
+  full = more.full;
+  marked = λ m. more.marked (so_far.marked m);
+}
+
+-- memory that runs out before a leg is put spends the index
+pub taking_none : (old mid new : IndexView) (legs : List LegView) → new ≡ spent_from mid → mid.cache ≡ old.cache → Taking old new legs (Err index.Memory)
+taking_none old mid new legs is same =
+    let cache : new.cache ≡ old.cache = ap (λ (v : IndexView). v.cache) is ∙ same in
+    record {
+      takes = tt;
+      shape = tt;
+      works = tt;
+      spent = ap (λ (v : IndexView). v.tree.spent) is;
+      refused = λ before s w. tt;
+      store = λ e. absurd cc;
+      full = λ e. absurd cc;
+      marked = λ m. subst (λ c. IsMarked c) (sym cache) m;
+    }
+
+pub drop_next : {X : Type 0} (xs : List X) (k : ℕ) (d : X) → k < length xs → drop k xs ≡ get_or xs k d ∷ drop (suc k) xs
+drop_next [] k d l = absurd (omega (arith, l))
+drop_next (x ∷ xs) zero d l = refl
+drop_next (x ∷ xs) (suc k) d l = drop_next xs k d (omega (arith, l))
+
+pub get_any : {X : Type 0} (xs : List X) (i : ℕ) (d e : X) → i < length xs → get_or xs i d ≡ get_or xs i e
+get_any [] i d e l = absurd (omega (arith, l))
+get_any (x ∷ xs) zero d e l = refl
+get_any (x ∷ xs) (suc i) d e l = get_any xs i d e (omega (arith, l))
+
+-- the next leg that is taken
+pub taken_next : (legs : List LegView) (turns : List Turn) (k : ℕ) (d : Turn) (leg : LegView) → k < length turns → All (λ (turn : Turn). turn.place < length legs) turns → leg ≡ get_or legs (get_or turns k d).place leg
+    → taken legs (drop k turns) ≡ leg ∷ taken legs (drop (k + 1) turns)
+taken_next legs turns k d leg l within is =
+    let p = (get_or turns k d).place in
+    let next : k + 1 ≡ suc k = omega arith in
+    let here : get_or legs p no_leg ≡ leg = get_any legs p no_leg leg (within k d l) ∙ sym is in
+    ap (taken legs) (drop_next turns k d l) ∙ ap (λ x. x ∷ taken legs (drop (suc k) turns)) here ∙ ap (λ n. leg ∷ taken legs (drop n turns)) (sym next)

@@ -1,0 +1,34 @@
+-- The order in which elements fill run after run, the runs in order of their first elements.
+use Rattle.std.specs.Prelude.{ℕ, suc, ◌==◌, cond, nat_lt, List, [], ◌∷◌, ◌++◌, map}
+use Rattle.legs.specs.Blocks.{begins}
+
+module _ {X : Type 0} where
+  -- an element with the number of its run is put among others, behind the last whose number is not higher
+  abbrev pub put_in : ℕ × X → List (ℕ × X) → List (ℕ × X)
+  put_in p [] = p ∷ []
+  put_in p (q ∷ qs) = cond (nat_lt p.0 q.0) (p ∷ q ∷ qs) (q ∷ put_in p qs)
+
+  abbrev pub put_all : List (ℕ × X) → List (ℕ × X) → List (ℕ × X)
+  put_all out [] = out
+  put_all out (p ∷ ps) = put_all (put_in p out) ps
+
+  abbrev pub elements : List (ℕ × X) → List X
+  elements ps = map (λ p. p.1) ps
+
+module _ {X : Type 0} (key : X → ℕ) (n : ℕ) where
+  -- the number of the run that takes x, after those before it; it is `made` where x begins one
+  abbrev pub run_for : (ℕ → ℕ) → List X → ℕ → X → ℕ
+  run_for last before made x = cond (begins key n before x) made (last (key x))
+
+  abbrev pub with_last : (ℕ → ℕ) → ℕ → ℕ → ℕ → ℕ
+  with_last last f v g = cond (g == f) v (last g)
+
+  -- each element with the number of its run
+  abbrev pub numbered : (ℕ → ℕ) → List X → ℕ → List X → List (ℕ × X)
+  numbered last before made [] = []
+  numbered last before made (x ∷ xs) =
+      (run_for last before made x, x) ∷ numbered (with_last last (key x) (run_for last before made x)) (before ++ x ∷ []) (suc made) xs
+
+  -- run by run: those that go on runs that are there, which are numbered by their keys, and then each new run
+  abbrev pub in_blocks : ℕ → List X → List X → List X
+  in_blocks made before xs = elements (put_all [] (numbered (λ f. f) before made xs))
