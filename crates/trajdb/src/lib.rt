@@ -228,34 +228,3 @@ impl From<RunFault> for LoadFault {
         LoadFault::Run(fault)
     }
 }
-
-#[cfg(test)]
-mod catalogue_tests;
-#[cfg(test)]
-mod chain_tests;
-#[cfg(test)]
-mod checking_tests;
-#[cfg(test)]
-mod failing_tests;
-#[cfg(test)]
-mod insertion_tests;
-#[cfg(test)]
-mod lasting_tests;
-#[cfg(test)]
-mod migrating_tests;
-#[cfg(test)]
-mod old_header_tests;
-#[cfg(test)]
-mod old_legs_tests;
-#[cfg(test)]
-mod page_tests;
-#[cfg(test)]
-mod search_tests;
-#[cfg(test)]
-mod tests;
-#[cfg(test)]
-mod tree_check_tests;
-#[cfg(test)]
-mod tree_index_tests;
-#[cfg(test)]
-mod version_1;

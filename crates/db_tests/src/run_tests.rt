@@ -1,5 +1,4 @@
 //! Worked scripts over worked files.
-use super::*;
 use legs::{Limits, ListIndex};
 use pages::{MemStore, PageStore};
 use querylang::Command;
@@ -10,6 +9,7 @@ use std::process::Abort;
 use std::random::RandomSource;
 use std::test::Fail;
 use tbtree::Shape;
+use trajdb::{Core, Counts, Db, Files, LoadFault, OpenFault, RunFault};
 
 /// The example of the standard.
 pub(crate) const STANDARD: &str = "\

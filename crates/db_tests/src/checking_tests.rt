@@ -1,13 +1,13 @@
 //! Databases that are checked.
-use super::*;
 use crate::lasting_tests::{closed, loaded, opened, said};
-use crate::tests::over;
+use crate::run_tests::over;
 use legs::Limits;
 use pages::{Fuse, MemStore, PageStore, seal, unseal};
 use std::alloc::Global;
 use std::hash::RandomState;
 use std::test::Fail;
 use tbnode::fields::put_u32;
+use trajdb::{Report, RunFault};
 
 /// A report of so many pages, legs and features.
 fn found(pages: u32, legs: u64, features: u64) -> Result<Report, RunFault> {

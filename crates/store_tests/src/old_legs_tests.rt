@@ -1,10 +1,9 @@
 //! The legs of a store of version 1, brought into an index.
 ghost use Rattle.std.specs.Prelude.{◌≤◌};
 
+use crate::samples::leg_in_turn;
 use boxsearch::take_old_legs;
-use fixedpoint::Coord;
 use legs::{IndexFault, Leg, LegIndex, ListIndex, Track, Tracks};
-use mfcsv::Position;
 use pages::{Fuse, Kind, MemStore, PageStore, Payload, seal};
 use std::alloc::Global;
 use std::hash::RandomState;
@@ -12,23 +11,6 @@ use std::test::Fail;
 use tbnode::fields::{put_i64, put_u16, put_u32, put_u64};
 use tbtree::Place;
 use timebase::Ms;
-
-fn point(x: u32) -> Option<Position> {
-    let zero = Coord::new(0)?;
-    Some(Position {
-        x: Coord::new(i64::from(x))?,
-        y: zero,
-        z: zero,
-    })
-}
-
-/// A leg of a second of one of two features in turn.
-fn leg(ordinal: u32) -> Option<Leg> {
-    let start = i64::from(ordinal).wrapping_mul(1000);
-    let (t0, t1) = (Ms::new(start)?, Ms::new(start.wrapping_add(1000))?);
-    let (from, to) = (point(ordinal)?, point(ordinal.wrapping_add(1))?);
-    Leg::new(u64::from(ordinal), ordinal % 2, t0, t1, from, to, ordinal)
-}
 
 /// Writes that leg at a place of a payload, over 64 bytes.
 fn put_leg(payload: &mut Payload, place: usize, ordinal: u32)
@@ -144,11 +126,11 @@ fn legs_of(alloc: Global, keys: RandomState, feature: u32) -> Option<Vec<Leg>> {
 fn legs_come_in_order(rt: HostRuntime) -> Result<(), Fail> {
     let keys = RandomState::new(&rt)?;
     let first = legs_of(rt.alloc(), keys, 0).ok_or("not brought")?;
-    assert!(rt; first.len() == 3 && first.first().copied() == leg(0));
-    assert!(rt; first.get(1).copied() == leg(2) && first.get(2).copied() == leg(4));
+    assert!(rt; first.len() == 3 && first.first().copied() == leg_in_turn(0));
+    assert!(rt; first.get(1).copied() == leg_in_turn(2) && first.get(2).copied() == leg_in_turn(4));
     let second = legs_of(rt.alloc(), keys, 1).ok_or("not brought")?;
-    assert!(rt; second.len() == 2 && second.first().copied() == leg(1));
-    assert!(rt; second.get(1).copied() == leg(3));
+    assert!(rt; second.len() == 2 && second.first().copied() == leg_in_turn(1));
+    assert!(rt; second.get(1).copied() == leg_in_turn(3));
     Ok(())
 }
 

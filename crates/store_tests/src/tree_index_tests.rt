@@ -1,8 +1,8 @@
 //! An index of legs over pages: what it finds and asks for, over legs drawn by chance, and stores that fail.
+use crate::numbers::{Numbers, feed};
+use crate::samples::example;
 use boxsearch::TreeIndex;
-use fixedpoint::Coord;
 use legs::{Box3, IndexFault, Leg, LegIndex, ListIndex};
-use mfcsv::Position;
 use pagecache::PageCache;
 use pages::{Fuse, Kind, MemStore, PageStore, unseal};
 use std::alloc::Global;
@@ -63,31 +63,6 @@ fn reopened(
     Some(TreeIndex::from_parts(alloc, cache, tree, places, legs))
 }
 
-/// A leg of the example of the standard, by its seconds and its ends in whole degrees.
-fn worked(numbers: (u64, u32, u32), times: (i64, i64), ends: [i64; 4]) -> Option<Leg> {
-    let degrees = |n: i64| Coord::new(n.wrapping_mul(10_000_000));
-    let at = |n: i64| Ms::new(n.wrapping_mul(1000).wrapping_add(1_326_803_621_000));
-    let [x0, y0, x1, y1] = ends;
-    let z = degrees(0)?;
-    let (x, y) = (degrees(x0)?, degrees(y0)?);
-    let from = Position { x, y, z };
-    let (x, y) = (degrees(x1)?, degrees(y1)?);
-    let to = Position { x, y, z };
-    let (ordinal, feature, row) = numbers;
-    Leg::new(ordinal, feature, at(times.0)?, at(times.1)?, from, to, row)
-}
-
-/// The five legs of the example, which has three features.
-fn example() -> Option<[Leg; 5]> {
-    Some([
-        worked((0, 0, 0), (10, 150), [11, 2, 12, 3])?,
-        worked((1, 1, 1), (10, 190), [10, 2, 11, 3])?,
-        worked((2, 0, 2), (150, 190), [12, 3, 10, 3])?,
-        worked((3, 2, 3), (10, 100), [12, 1, 10, 2])?,
-        worked((4, 2, 3), (100, 190), [10, 2, 11, 3])?,
-    ])
-}
-
 /// The box of the example's question.
 fn question() -> Box3 {
     Box3 {
@@ -136,47 +111,7 @@ fn the_last_feature_of_the_example_is_one_page(rt: HostRuntime) {
     assert_eq!(rt; asked, 1);
 }
 
-/// Numbers without a pattern.
-#[derive(Clone, Copy)]
-struct Numbers {
-    seed: u64,
-}
-
 impl Numbers {
-    /// A number below another one, which is not 0.
-    fn below(&mut self, end: u32) -> u32 {
-        let seed = self.seed.wrapping_mul(6_364_136_223_846_793_005);
-        self.seed = seed.wrapping_add(1_442_695_040_888_963_407);
-        ((self.seed >> 33) as u32) % end.max(1)
-    }
-
-    /// A point of a square of the plane.
-    fn point(&mut self) -> Option<Position> {
-        Some(Position {
-            x: Coord::new(i64::from(self.below(1 << 20)))?,
-            y: Coord::new(i64::from(self.below(1 << 20)))?,
-            z: Coord::new(0)?,
-        })
-    }
-
-    /// A leg in a second of its ordinal and its feature. Some legs of a feature begin when its last one ends.
-    fn leg(&mut self, ordinal: u32, feature: u32) -> Option<Leg> {
-        let second = i64::from(ordinal).wrapping_add(i64::from(feature).wrapping_mul(12));
-        let start = second.wrapping_mul(1000);
-        let t0 = start.wrapping_add(i64::from(self.below(2)).wrapping_mul(250));
-        let t1 = start.wrapping_add(i64::from(self.below(3)).wrapping_mul(250).wrapping_add(500));
-        let (from, to) = (self.point()?, self.point()?);
-        Leg::new(
-            u64::from(ordinal),
-            feature,
-            Ms::new(t0)?,
-            Ms::new(t1)?,
-            from,
-            to,
-            ordinal,
-        )
-    }
-
     /// The first or the last corner of the box of one of the legs.
     fn corner(&mut self, legs: &[Leg]) -> Option<[i64; 3]> {
         let end = u32::try_from(legs.len()).ok()?;
@@ -221,19 +156,6 @@ fn point([x, y, t]: [i64; 3]) -> Box3 {
 /// The least box that holds two points.
 fn between(one: [i64; 3], other: [i64; 3]) -> Box3 {
     point(one).cover(&point(other))
-}
-
-/// That many legs of that many features, which come in the order of their first legs.
-fn feed(alloc: Global, count: u32, features: u32) -> Option<Vec<Leg>> {
-    let mut numbers = Numbers { seed: 1 };
-    let mut legs = Vec::new(alloc);
-    let mut known = 0u32;
-    for ordinal in 0..count {
-        let feature = numbers.below(features).min(known);
-        known = known.max(feature.wrapping_add(1));
-        legs.push(numbers.leg(ordinal, feature)?).ok()?;
-    }
-    Some(legs)
 }
 
 /// The last leaf of a feature: its place among the leaves, and for how many legs it has room.
@@ -403,7 +325,7 @@ fn box_asks(
     index: &mut TreeIndex<Fuse<MemStore>>,
     plain: &mut Plain,
 ) -> Option<Vec<u64>> {
-    let mut numbers = Numbers { seed: 2 };
+    let mut numbers = Numbers::new(2);
     let mut asks = Vec::new(alloc);
     asks.push(searched(index, plain, &Box3::everything())?)
         .ok()?;
@@ -420,7 +342,7 @@ fn feature_asks(
     index: &mut TreeIndex<Fuse<MemStore>>,
     plain: &mut Plain,
 ) -> Option<Vec<u64>> {
-    let mut numbers = Numbers { seed: 3 };
+    let mut numbers = Numbers::new(3);
     let mut asks = Vec::new(alloc);
     asks.push(tracked(index, plain, 1000)?).ok()?;
     for _ in 0..10 {
@@ -519,7 +441,7 @@ fn a_leg_that_the_store_refuses_spends_the_index(rt: HostRuntime) {
 fn is_answered(alloc: Global, ordinal: u32, feature: u32) -> Option<bool> {
     let legs = feed(alloc, 5, 2)?;
     let mut index = filled(alloc, Shape::new(2, 2)?, 2, legs.as_slice())?;
-    let stray = Numbers { seed: 4 }.leg(ordinal, feature)?;
+    let stray = Numbers::new(4).leg(ordinal, feature)?;
     if index.add(stray).is_err() {
         return is_spent(&mut index, stray);
     }

@@ -1,11 +1,11 @@
 //! A store of version 1 that is brought over.
-use super::*;
 use crate::lasting_tests::{change, is_want, opened, said};
 use crate::version_1::version_1;
 use pages::{Fuse, MemStore, PageStore};
 use std::alloc::Global;
 use std::hash::RandomState;
 use std::test::Fail;
+use trajdb::{Db, OpenFault, Report, RunFault};
 
 /// The questions of the example.
 const QUESTIONS: &str = "\

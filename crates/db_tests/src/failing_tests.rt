@@ -1,6 +1,5 @@
 //! Stores and outputs that fail, want of memory, and files that are cut or hostile.
-use super::*;
-use crate::tests::{STANDARD, over};
+use crate::run_tests::{STANDARD, over};
 use legs::{Limits, ListIndex};
 use pages::{Fuse, MemStore, PageStore};
 use querylang::Command;
@@ -10,6 +9,7 @@ use std::io;
 use std::io::{ErrorKind, Write};
 use std::process::Abort;
 use std::test::Fail;
+use trajdb::{Core, Db, Files, LoadFault, Report, RunFault};
 
 /// The lines of a script over the example, and what each answers. The first three are the
 /// program's example.

@@ -1,30 +1,14 @@
 //! The legs of a feature by its leaves: the pages that are asked for, and pages that lie.
+use crate::numbers::feed;
+use crate::samples::leg;
 use chains::{ChainFault, trajectory, trajectory_in};
-use fixedpoint::Coord;
 use legs::{Leg, LegIndex, ListIndex};
-use mfcsv::Position;
 use pagecache::{CacheFault, PageCache};
 use pages::{Fuse, Kind, MemStore, Payload};
 use std::alloc::Global;
 use tbnode::{init_leaf, leaf, push_leg, set_next};
 use tbtree::{Place, Shape, TbTree, insert};
 use timebase::{Ms, Period};
-
-/// A leg of a second, from its ordinal's place on the x axis to the next.
-fn leg(ordinal: u32, feature: u32) -> Option<Leg> {
-    let at = |x: i64| {
-        let x = Coord::new(x)?;
-        let zero = Coord::new(0)?;
-        Some(Position {
-            x,
-            y: zero,
-            z: zero,
-        })
-    };
-    let (from, to) = (i64::from(ordinal), i64::from(ordinal) + 1);
-    let (t0, t1) = (Ms::new(from * 1000)?, Ms::new(to * 1000)?);
-    Leg::new(u64::from(ordinal), feature, t0, t1, at(from)?, at(to)?, 0)
-}
 
 /// A cache of two pages with that many legs of one feature behind a page 0, and their place. The store fails the
 /// call of that number for good.
@@ -37,7 +21,7 @@ fn grown(alloc: Global, legs: u32, calls: u64) -> Option<(PageCache<Fuse<MemStor
     let mut tree = TbTree::new(Shape::new(2, 2)?);
     let mut place = Place::new();
     for ordinal in 0..legs {
-        insert(&mut tree, &mut cache, &mut place, leg(ordinal, 0)?).ok()?;
+        insert(&mut tree, &mut cache, &mut place, leg(ordinal, 0, 0)?).ok()?;
     }
     Some((cache, place))
 }
@@ -105,10 +89,10 @@ fn forge(payload: &mut Payload, forged: &Forged) -> Option<()> {
     init_leaf(
         payload,
         forged.previous,
-        &leg(forged.first, forged.feature)?,
+        &leg(forged.first, forged.feature, 0)?,
     );
     for more in 1..forged.legs {
-        let leg = leg(forged.first.wrapping_add(more), forged.feature)?;
+        let leg = leg(forged.first.wrapping_add(more), forged.feature, 0)?;
         if !leaf(payload)?.takes(&leg) {
             return None;
         }
@@ -203,61 +187,6 @@ fn a_store_that_failed_is_said_to_have_failed(rt: HostRuntime) {
         }
     }
     assert!(rt; refused, "no call failed");
-}
-
-/// Numbers without a pattern.
-#[derive(Clone, Copy)]
-struct Numbers {
-    seed: u64,
-}
-
-impl Numbers {
-    /// A number below another one, which is not 0.
-    fn below(&mut self, end: u32) -> u32 {
-        let seed = self.seed.wrapping_mul(6_364_136_223_846_793_005);
-        self.seed = seed.wrapping_add(1_442_695_040_888_963_407);
-        ((self.seed >> 33) as u32) % end.max(1)
-    }
-
-    /// A point of a square of the plane.
-    fn point(&mut self) -> Option<Position> {
-        Some(Position {
-            x: Coord::new(i64::from(self.below(1 << 20)))?,
-            y: Coord::new(i64::from(self.below(1 << 20)))?,
-            z: Coord::new(0)?,
-        })
-    }
-
-    /// A leg in a second of its ordinal and its feature. Some legs of a feature begin when its last one ends.
-    fn leg(&mut self, ordinal: u32, feature: u32) -> Option<Leg> {
-        let second = i64::from(ordinal).wrapping_add(i64::from(feature).wrapping_mul(12));
-        let start = second.wrapping_mul(1000);
-        let t0 = start.wrapping_add(i64::from(self.below(2)).wrapping_mul(250));
-        let t1 = start.wrapping_add(i64::from(self.below(3)).wrapping_mul(250).wrapping_add(500));
-        let (from, to) = (self.point()?, self.point()?);
-        Leg::new(
-            u64::from(ordinal),
-            feature,
-            Ms::new(t0)?,
-            Ms::new(t1)?,
-            from,
-            to,
-            ordinal,
-        )
-    }
-}
-
-/// Ten thousand legs of that many features, which come in the order of their first legs.
-fn feed(alloc: Global, features: u32) -> Option<Vec<Leg>> {
-    let mut numbers = Numbers { seed: 1 };
-    let mut legs = Vec::new(alloc);
-    let mut known = 0u32;
-    for ordinal in 0..10_000 {
-        let feature = numbers.below(features).min(known);
-        known = known.max(feature.wrapping_add(1));
-        legs.push(numbers.leg(ordinal, feature)?).ok()?;
-    }
-    Some(legs)
 }
 
 /// The places of that many features without legs.
@@ -402,7 +331,7 @@ fn ask_all(
 /// Whether random legs of that many features are read as a list has them, and at three capacities with as many asks.
 fn is_read(alloc: Global, (leaf, inner): (u16, u16), features: u32) -> Option<bool> {
     let shape = Shape::new(leaf, inner)?;
-    let legs = feed(alloc, features)?;
+    let legs = feed(alloc, 10_000, features)?;
     let (mut store, places) = stored(alloc, shape, features, legs.as_slice())?;
     let mut list = listed(alloc, legs.as_slice())?;
     let mut wide = None;

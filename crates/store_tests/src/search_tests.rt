@@ -1,8 +1,7 @@
 //! A search of a tree: the pages that it asks for, and pages that lie.
+use crate::samples::point;
 use boxsearch::{SearchFault, search};
-use fixedpoint::Coord;
 use legs::{Box3, Leg};
-use mfcsv::Position;
 use pagecache::{CacheFault, PageCache};
 use pages::{Fuse, Kind, MemStore};
 use std::alloc::Global;
@@ -12,19 +11,11 @@ use timebase::Ms;
 
 /// A leg of a second of feature 0, ten units long on the x axis, behind those of lower ordinals.
 fn leg(ordinal: u32) -> Option<Leg> {
-    let at = |x: i64| {
-        let x = Coord::new(x)?;
-        let zero = Coord::new(0)?;
-        Some(Position {
-            x,
-            y: zero,
-            z: zero,
-        })
-    };
-    let (from, to) = (i64::from(ordinal), i64::from(ordinal) + 1);
-    let (t0, t1) = (Ms::new(from * 1000)?, Ms::new(to * 1000)?);
-    let (start, end) = (at(from * 10)?, at(to * 10)?);
-    Leg::new(u64::from(ordinal), 0, t0, t1, start, end, 0)
+    let start = i64::from(ordinal).wrapping_mul(1000);
+    let (t0, t1) = (Ms::new(start)?, Ms::new(start.wrapping_add(1000))?);
+    let from = point(ordinal.wrapping_mul(10))?;
+    let to = point(ordinal.wrapping_mul(10).wrapping_add(10))?;
+    Leg::new(u64::from(ordinal), 0, t0, t1, from, to, 0)
 }
 
 /// A box from 45 to 50 on the x axis, at all times.

@@ -2,10 +2,9 @@
 ghost use Rattle.std.specs.Prelude.{◌≡◌, ◌≤◌};
 ghost use Rattle.pages.specs.Store.{HasRisen};
 
+use crate::samples::leg_in_turn;
 use boxsearch::TreeIndex;
-use fixedpoint::Coord;
-use legs::{IndexFault, Leg, LegIndex, Track, Tracks};
-use mfcsv::Position;
+use legs::{IndexFault, LegIndex, Track, Tracks};
 use pagecache::PageCache;
 use pages::{Kind, MemStore, PageStore, Payload, StoreFault};
 use std::alloc::Global;
@@ -14,25 +13,6 @@ use std::test::Fail;
 use tbnode::fields::put_u32;
 use tbtree::{Place, Shape, TbTree};
 use timebase::Ms;
-
-/// A point of the x axis.
-fn point(x: u32) -> Option<Position> {
-    let zero = Coord::new(0)?;
-    Some(Position {
-        x: Coord::new(i64::from(x))?,
-        y: zero,
-        z: zero,
-    })
-}
-
-/// A leg of a second of one of two features in turn, from its ordinal's place on the x axis to the
-/// next, with a row of its own.
-fn leg(ordinal: u32) -> Option<Leg> {
-    let start = i64::from(ordinal).wrapping_mul(1000);
-    let (t0, t1) = (Ms::new(start)?, Ms::new(start.wrapping_add(1000))?);
-    let (from, to) = (point(ordinal)?, point(ordinal.wrapping_add(1))?);
-    Leg::new(u64::from(ordinal), ordinal % 2, t0, t1, from, to, ordinal)
-}
 
 /// An index of that many legs in leaves of two under inner pages of two, whose page 0 says that the
 /// store is not finished.
@@ -48,7 +28,7 @@ fn grown(alloc: Global, legs: u32) -> Option<TreeIndex<MemStore>> {
     let mut index = TreeIndex::new(alloc, cache, Shape::new(2, 2)?);
     index.mark().ok()?;
     for ordinal in 0..legs {
-        index.add(leg(ordinal)?).ok()?;
+        index.add(leg_in_turn(ordinal)?).ok()?;
     }
     Some(index)
 }

@@ -1,11 +1,11 @@
 //! A database that is closed and opened again.
-use super::*;
-use crate::tests::{STANDARD, over};
+use crate::run_tests::{STANDARD, over};
 use legs::Limits;
 use pages::{Fuse, MemStore, PageStore, seal, unseal};
 use std::alloc::Global;
 use std::hash::RandomState;
 use std::test::Fail;
+use trajdb::{Db, Files, OpenFault, Report, RunFault};
 
 /// The header lines of the example.
 const HEAD: &str = "\

@@ -1,6 +1,5 @@
 //! The pages of a database: how many it asks for, a store that has no room, and pages that others change.
-use super::*;
-use crate::tests::{named_files, over};
+use crate::run_tests::{named_files, over};
 use legs::Limits;
 use pages::{FileStore, MemStore, PageStore, seal, unseal};
 use querylang::Command;
@@ -9,6 +8,7 @@ use std::fs::File;
 use std::hash::RandomState;
 use std::test::Fail;
 use std::{fs, rt};
+use trajdb::{Db, Files, RunFault};
 
 /// A new database over a store without pages, with so many to a leaf, to an inner page and in memory.
 fn database<S: PageStore + Drop>(

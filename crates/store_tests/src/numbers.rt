@@ -1,0 +1,68 @@
+//! Legs drawn by chance, the same ones in each run.
+use fixedpoint::Coord;
+use legs::Leg;
+use mfcsv::Position;
+use rand_core::utils::NextWord;
+use rand_pcg::Pcg32;
+use std::alloc::Global;
+use timebase::Ms;
+
+/// Numbers without a pattern.
+#[derive(Drop)]
+pub(crate) struct Numbers {
+    words: Pcg32,
+}
+
+impl Numbers {
+    /// Those of a stream.
+    pub(crate) fn new(stream: u64) -> Numbers {
+        Numbers {
+            words: Pcg32::new(42, stream),
+        }
+    }
+
+    /// A number below another one, which is not 0.
+    pub(crate) fn below(&mut self, end: u32) -> u32 {
+        self.words.next_word() % end.max(1)
+    }
+
+    /// A point of a square of the plane.
+    fn point(&mut self) -> Option<Position> {
+        Some(Position {
+            x: Coord::new(i64::from(self.below(1 << 20)))?,
+            y: Coord::new(i64::from(self.below(1 << 20)))?,
+            z: Coord::new(0)?,
+        })
+    }
+
+    /// A leg in a second of its ordinal and its feature. Some legs of a feature begin when its last one ends.
+    pub(crate) fn leg(&mut self, ordinal: u32, feature: u32) -> Option<Leg> {
+        let second = i64::from(ordinal).wrapping_add(i64::from(feature).wrapping_mul(12));
+        let start = second.wrapping_mul(1000);
+        let t0 = start.wrapping_add(i64::from(self.below(2)).wrapping_mul(250));
+        let t1 = start.wrapping_add(i64::from(self.below(3)).wrapping_mul(250).wrapping_add(500));
+        let (from, to) = (self.point()?, self.point()?);
+        Leg::new(
+            u64::from(ordinal),
+            feature,
+            Ms::new(t0)?,
+            Ms::new(t1)?,
+            from,
+            to,
+            ordinal,
+        )
+    }
+}
+
+/// That many legs of that many features, which come in the order of their first legs.
+pub(crate) fn feed(alloc: Global, count: u32, features: u32) -> Option<Vec<Leg>> {
+    let mut numbers = Numbers::new(1);
+    let mut legs = Vec::new(alloc);
+    let mut known = 0u32;
+    for ordinal in 0..count {
+        let feature = numbers.below(features).min(known);
+        known = known.max(feature.wrapping_add(1));
+        legs.push(numbers.leg(ordinal, feature)?).ok()?;
+    }
+    Some(legs)
+}
