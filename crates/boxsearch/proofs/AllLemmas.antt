@@ -1,8 +1,8 @@
 -- What all legs of a slice make of an index.
-use Rattle.std.proofs.Common.{ℕ, ◌≡◌, ◌∙◌, ◌++◌, [], length, true, false, List, All, ap, sym, subst, Result, Ok, Err, OnOk, OnErr}
+use Rattle.std.proofs.Common.{ℕ, ◌≡◌, ◌∙◌, ◌++◌, [], length, false, List, All, ap, sym, subst, Result, Ok, Err, OnOk}
 use Rattle.std.specs.Prelude.{IfErr}
 use Rattle.std.proofs.lemmas.Bool.{true≢false}
-use Rattle.legs.specs.Asking.{Ends, Grows, LegRefusals}
+use Rattle.legs.specs.Asking.{Grows, LegRefusals}
 use Rattle.legs.specs.Boxes.{BoxView}
 use Rattle.legs.specs.Index.{CanFollowInTurn, MayRefuseLeg, feature_count}
 use Rattle.legs.specs.Legs.{IsLeg, LegView}

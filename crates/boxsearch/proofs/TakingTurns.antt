@@ -1,18 +1,18 @@
 -- Legs put into an index in any order in which each feature's ordinals rise.
-use Rattle.std.proofs.Common.{ℕ, zero, suc, All, drop, get_or, ◌≡◌, ◌≢◌, ◌≤◌, ◌<◌, ◌+◌, ◌*◌, ◌-◌, ◌^◌, max, min, refl, sym, ap, ◌∙◌, arith, subst, ⊎_elim, true, false, List, [], ◌∷◌, ◌++◌, length, set, Some, slice_get, Result, Ok, Err, OnOk, OnErr, append_assoc}
-use Rattle.std.specs.Prelude.{IfErr, IfOk, IsErrOf}
-use Rattle.std.proofs.lemmas.Bool.{cases_eq, true≢false}
+use Rattle.std.proofs.Common.{ℕ, zero, suc, All, drop, get_or, ◌≡◌, ◌≢◌, ◌≤◌, ◌<◌, ◌+◌, ◌*◌, ◌-◌, ◌^◌, min, refl, sym, ap, ◌∙◌, arith, subst, ⊎_elim, false, List, [], ◌∷◌, ◌++◌, length, set, Some, slice_get, Result, Ok, Err, OnOk, append_assoc}
+use Rattle.std.specs.Prelude.{IfErr}
+use Rattle.std.proofs.lemmas.Bool.{cases_eq}
 use Rattle.std.proofs.lemmas.Int.{clamps}
 use Rattle.std.proofs.lemmas.List.{length_push, length-set, append-nil}
 use Rattle.std.proofs.lemmas.Nat.{mul-le}
 use Rattle.legs.specs.Asking.{IsLater}
 use Rattle.legs.specs.Boxes.{BoxView}
-use Rattle.legs.specs.Index.{HasRisen, MayRefuseLeg, feature_count, legs_of}
+use Rattle.legs.specs.Index.{MayRefuseLeg, feature_count, legs_of}
 use Rattle.legs.specs.Legs.{LegView}
 use Rattle.legs.specs.Places.{no_leg}
 use Rattle.legs.specs.declared.index.IndexFault.{IndexFault}
 use Rattle.legs.specs.declared.index.IndexFault.TheVariants as index
-use Rattle.tbtree.specs.Faults.{Gives, IsAllowed, IsCaused}
+use Rattle.tbtree.specs.Faults.{Gives, IsAllowed}
 use Rattle.tbtree.specs.Insert.{IsPlace}
 use Rattle.tbtree.specs.Joining.{CanTake, CanTakeInTurn, Holds, Joined}
 use Rattle.tbtree.specs.Nodes.{Pages, pages_of_cache}

@@ -1,5 +1,5 @@
 -- The numbers of turns are those of the order.
-use Rattle.std.proofs.Common.{ℕ, zero, suc, ◌≡◌, ◌≢◌, ◌≤◌, ◌<◌, ◌+◌, ◌-◌, ◌%◌, ◌^◌, ◌==◌, cond, true, false, min, max, refl, sym, ap, ◌∙◌, arith, subst, ⊎_elim, eq-eqb, List, [], ◌∷◌, ◌++◌, map, drop, length, append_assoc, get_or, Some, slice_get}
+use Rattle.std.proofs.Common.{ℕ, zero, suc, ◌≡◌, ◌≢◌, ◌≤◌, ◌<◌, ◌+◌, ◌-◌, ◌%◌, ◌^◌, ◌==◌, cond, true, false, min, max, refl, sym, ap, ◌∙◌, arith, ⊎_elim, eq-eqb, List, [], ◌∷◌, ◌++◌, map, length, append_assoc, get_or}
 use Rattle.std.specs.Prelude.{slice_set}
 use Rattle.std.specs.List.{count_by}
 use Rattle.std.proofs.Math.Nat.{suc-mod, zero-mod, mod-lt}
@@ -22,7 +22,7 @@ use Rattle.boxsearch.specs.declared.turns.Open.{Open}
 use Rattle.boxsearch.specs.declared.turns.Turn.{Turn}
 use Rattle.boxsearch.proofs.AddLemmas.{feature_count-push}
 use Rattle.boxsearch.proofs.TrackLemmas.{no_legs}
-use Rattle.boxsearch.proofs.TurnSteps.{length_after, length_with, opened_length, next_leg}
+use Rattle.boxsearch.proofs.TurnSteps.{length_after, length_with, opened_length}
 
 abbrev counts : ℕ → List LegView → ℕ
 counts f legs = count_by (λ z. leg_feature z == f) legs

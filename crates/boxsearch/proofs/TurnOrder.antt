@@ -1,21 +1,18 @@
 -- Turns in order take the legs leaf by leaf.
-use Rattle.std.proofs.Common.{ℕ, zero, suc, ◌≡◌, ◌≢◌, ◌≤◌, ◌<◌, ◌+◌, ◌*◌, ◌%◌, ◌^◌, ◌==◌, cond, nat_lt, true, false, max, refl, sym, ap, ◌∙◌, arith, subst, ⊎_elim, eq-eqb, lt-ltb, le-ltb, List, [], ◌∷◌, ◌++◌, map, drop, length, append_assoc, get_or, All}
+use Rattle.std.proofs.Common.{ℕ, zero, suc, ◌≡◌, ◌≤◌, ◌<◌, ◌+◌, ◌*◌, ◌%◌, ◌^◌, cond, nat_lt, true, false, refl, sym, ap, ◌∙◌, arith, subst, ⊎_elim, lt-ltb, le-ltb, List, [], ◌∷◌, ◌++◌, map, length, get_or, All}
 use Rattle.std.specs.List.Sorted.{IsPermutation, IsNonDecreasingBy}
-use Rattle.std.proofs.lemmas.Bool.{cases_eq, cases_lt}
+use Rattle.std.proofs.lemmas.Bool.{cases_lt}
 use Rattle.std.proofs.lemmas.List.{append-nil, length-map}
-use Rattle.std.proofs.lemmas.List.Elements.{All-nil, All-cons, All-head, All-tail}
+use Rattle.std.proofs.lemmas.List.Elements.{All-nil, All-cons}
 use Rattle.std.proofs.lemmas.List.Sorted.{IsPermutation-refl, IsPermutation-sym, IsPermutation-cons, IsPermutation-trans, IsPermutation-middle, IsPermutation-append_left, IsPermutation-map, All-permutation, IsNonDecreasingBy-short, IsNonDecreasingBy-from_default}
 use Rattle.std.proofs.Math.Nat.{mod-eq_of_lt, mul-add-mod_self_right}
-use Rattle.legs.specs.Costs.{leg_feature}
-use Rattle.legs.specs.Index.{feature_count, CanFollowInTurn}
 use Rattle.legs.specs.Legs.{LegView}
 use Rattle.legs.specs.Places.{no_leg}
 use Rattle.tbtree.specs.Check.{IsPast, IsRising}
-use Rattle.tbtree.specs.Joining.{leaf_by_leaf}
-use Rattle.tbtree.specs.Order.{put_in, put_all, elements, numbered}
+use Rattle.tbtree.specs.Order.{put_in, put_all, elements}
 use Rattle.tbtree.specs.declared.tree.Place.{Place}
-use Rattle.boxsearch.specs.Taking.{taken, ArePlacesOf, AreTurns}
-use Rattle.boxsearch.specs.Turns.{leaf_for, open_after, opened_from, turn_number, turns_from, Fit}
+use Rattle.boxsearch.specs.Taking.{taken, AreTurns}
+use Rattle.boxsearch.specs.Turns.{leaf_for, open_after, opened_from, turn_number, turns_from}
 use Rattle.boxsearch.specs.declared.turns.Open.{Open}
 use Rattle.boxsearch.specs.declared.turns.Turn.{Turn}
 use Rattle.boxsearch.proofs.TurnNumbers.{numbers_are}

@@ -1,11 +1,11 @@
 -- The turns of legs, leg by leg.
-use Rattle.std.proofs.Common.{ℕ, zero, suc, ◌≡◌, ◌≢◌, ◌≤◌, ◌<◌, ◌+◌, ◌==◌, max, false, cond, refl, sym, ap, ◌∙◌, arith, subst, ⊎_elim, eq-eqb, List, [], ◌∷◌, ◌++◌, drop, length, append_assoc, get_or}
+use Rattle.std.proofs.Common.{ℕ, suc, ◌≡◌, ◌≢◌, ◌≤◌, ◌<◌, ◌+◌, ◌==◌, max, false, cond, refl, sym, ap, ◌∙◌, arith, subst, ⊎_elim, eq-eqb, List, [], ◌∷◌, ◌++◌, drop, length, append_assoc, get_or}
 use Rattle.std.proofs.lemmas.Bool.{cases_eq}
 use Rattle.std.proofs.lemmas.Bool.Decides.{nat_tests}
 use Rattle.std.proofs.lemmas.List.{length_push, length-set}
 use Rattle.legs.specs.Legs.{LegView}
 use Rattle.tbtree.specs.declared.tree.Place.{Place}
-use Rattle.boxsearch.specs.Turns.{leaf_for, open_after, open_at, open_with, opened_from, turns_from, Fit}
+use Rattle.boxsearch.specs.Turns.{leaf_for, open_after, open_with, opened_from, turns_from, Fit}
 use Rattle.boxsearch.specs.declared.turns.Open.{Open}
 use Rattle.boxsearch.specs.declared.turns.Turn.{Turn}
 use Rattle.boxsearch.proofs.TakingTurns.{drop_next}

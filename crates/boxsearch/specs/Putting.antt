@@ -4,7 +4,6 @@ use Rattle.legs.specs.Legs.{LegView}
 use Rattle.tbtree.specs.Faults.{IsCaused}
 use Rattle.tbtree.specs.Insert.{Inserts}
 use Rattle.tbtree.specs.Joining.{Joins}
-use Rattle.tbtree.specs.declared.tree.TbTree.{TbTree}
 use Rattle.tbtree.specs.Nodes.{pages_of_cache}
 use Rattle.tbtree.specs.Passes.{Passes, KeepsLength}
 use Rattle.tbtree.specs.declared.fault.TreeFault.{TreeFault}

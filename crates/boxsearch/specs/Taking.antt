@@ -1,7 +1,7 @@
 -- An index whose legs came in any order, and what legs make of it.
-use Rattle.std.specs.Prelude.{ℕ, ◌≡◌, ◌<◌, ◌==◌, List, [], ◌++◌, map, length, slice_get, slice_index_or, Some, IsTrue, true, false, All, Result, OnOk, OnErr, IfErr, IsErrOf}
+use Rattle.std.specs.Prelude.{ℕ, ◌≡◌, ◌==◌, List, [], ◌++◌, map, length, slice_get, slice_index_or, Some, IsTrue, true, false, Result, OnOk, OnErr, IfErr, IsErrOf}
 use Rattle.legs.specs.Costs.{leg_feature}
-use Rattle.legs.specs.Index.{feature_count, is_of, CanFollowInTurn, HasRisen, MayRefuseLeg}
+use Rattle.legs.specs.Index.{feature_count, CanFollowInTurn, HasRisen, MayRefuseLeg}
 use Rattle.legs.specs.Legs.{LegView}
 use Rattle.legs.specs.Places.{no_leg}
 use Rattle.legs.specs.declared.index.IndexFault.{IndexFault}

@@ -59,11 +59,7 @@ fn take(ends: &mut Vec<Open>, most: u64, feature: usize, made: u32) -> Result<u3
         return Err(IndexFault::Spent);
     }
     let last = ends[feature];
-    let leaf = if last.filled == 0 {
-        made
-    } else {
-        last.leaf
-    };
+    let leaf = if last.filled == 0 { made } else { last.leaf };
     ends[feature] = Open {
         filled: last.filled.saturating_add(1) % most,
         leaf,

@@ -1,5 +1,5 @@
 -- Elements in the order of blocks have the runs that they have in their own order.
-use Rattle.std.proofs.Common.{ℕ, zero, suc, ◌+◌, ◌%◌, ◌<◌, ◌≤◌, ◌≡◌, ◌≢◌, ◌==◌, Bool, true, false, cond, nat_lt, List, [], ◌∷◌, ◌++◌, take, refl, sym, ap, ◌∙◌, arith, subst, append_assoc, ⊎_elim, eq-eqb, lt-ltb, le-ltb}
+use Rattle.std.proofs.Common.{ℕ, suc, ◌+◌, ◌%◌, ◌<◌, ◌≤◌, ◌≡◌, ◌≢◌, ◌==◌, true, false, cond, nat_lt, List, [], ◌∷◌, ◌++◌, take, refl, sym, ap, ◌∙◌, arith, subst, append_assoc, ⊎_elim, eq-eqb, lt-ltb, le-ltb}
 use Rattle.std.specs.List.{filter, count_by}
 use Rattle.std.specs.List.Sorted.{IsPermutation}
 use Rattle.std.specs.Cmp.{nat_eq_equiv}
@@ -241,12 +241,12 @@ module _ {X : Type 0} (key : X → ℕ) (n : ℕ) where
           (let z = last_mine in omega (arith, z), a_low)
           (each_map (λ (p : ℕ × X). (p.0 ≤ last (key p.1)) × (p.0 < made)) (λ (p : ℕ × X). (p.0 ≤ last' (key p.1)) × (p.0 < suc made)) out (λ p k. (
             ⊎_elim
-            (λ (e : key p.1 ≡ key x).
-            let z : last' (key p.1) ≡ a = ap last' e ∙ last_mine in
-            let y : last (key p.1) ≡ last (key x) = ap last e in
-            both (p.0 ≤ last' (key p.1)) (λ t. let w = a_begun t in omega (arith, z, w, k.1)) (λ t. let w = a_goes_on t in omega (arith, z, w, y, k.0)))
-            (λ (u : key p.1 ≢ key x). let z = last_other (key p.1) u in omega (arith, z, k.0))
-            (cases_eq (key p.1) (key x)),
+                (λ (e : key p.1 ≡ key x).
+                let z : last' (key p.1) ≡ a = ap last' e ∙ last_mine in
+                let y : last (key p.1) ≡ last (key x) = ap last e in
+                both (p.0 ≤ last' (key p.1)) (λ t. let w = a_begun t in omega (arith, z, w, k.1)) (λ t. let w = a_goes_on t in omega (arith, z, w, y, k.0)))
+                (λ (u : key p.1 ≢ key x). let z = last_other (key p.1) u in omega (arith, z, k.0))
+                (cases_eq (key p.1) (key x)),
             omega (arith, k.1),
           )) h.known);
       below = λ f z. ⊎_elim

@@ -19,8 +19,8 @@ use Rattle.legs.specs.Costs.{leg_feature}
 use Rattle.tbtree.specs.Nodes.{Pages, HasLeaf}
 use Rattle.tbtree.specs.Stands.{page_at, owner, marks, leaf_of, PlaceStands, NumbersStand, LeavesStand, TreeStands}
 use Rattle.tbtree.specs.Way.{Hanging, Hung, Hangs}
-use Rattle.tbtree.specs.Insert.{Grows, Begins, Stands, IsPlace, Inserted, Inserts}
-use Rattle.tbtree.specs.Joining.{CanJoin, Holds, Joined, Joins}
+use Rattle.tbtree.specs.Insert.{Grows, Begins, IsPlace, Inserts}
+use Rattle.tbtree.specs.Joining.{Holds, Joined, Joins}
 use Rattle.legs.specs.Legs.{LegView}
 use Rattle.tbtree.specs.declared.tree.Place.{Place}
 use Rattle.legs.specs.Boxes.{BoxView}

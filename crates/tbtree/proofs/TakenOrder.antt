@@ -1,9 +1,9 @@
 -- Legs leaf by leaf may be put into an index, and leave what they leave in their own order.
-use Rattle.std.proofs.Common.{ℕ, zero, suc, ◌+◌, ◌%◌, ◌<◌, ◌≤◌, ◌≡◌, ◌≢◌, ◌==◌, max, Bool, true, false, cond, nat_lt, List, [], ◌∷◌, ◌++◌, All, length, fold, refl, sym, ap, ◌∙◌, arith, subst, append_assoc, ⊎_elim, eq-eqb, lt-ltb, le-ltb, Some, slice_get, get_or}
+use Rattle.std.proofs.Common.{ℕ, suc, ◌+◌, ◌%◌, ◌<◌, ◌≤◌, ◌≡◌, ◌≢◌, ◌==◌, max, Bool, true, false, cond, List, [], ◌∷◌, ◌++◌, All, length, refl, sym, ap, ◌∙◌, arith, subst, append_assoc, ⊎_elim, eq-eqb, lt-ltb, le-ltb, get_or}
 use Rattle.std.specs.List.{filter, count_by}
 use Rattle.std.specs.List.Sorted.{IsPermutation}
 use Rattle.std.proofs.Math.Nat.{zero-mod}
-use Rattle.std.proofs.lemmas.Bool.{cases_eq, cases_lt, eqb-true}
+use Rattle.std.proofs.lemmas.Bool.{cases_eq, cases_lt}
 use Rattle.std.proofs.lemmas.List.{append-nil}
 use Rattle.std.proofs.lemmas.List.Elements.{filter-append}
 use Rattle.std.proofs.lemmas.List.Sums.{fold-append, length-filter}
@@ -13,15 +13,13 @@ use Rattle.legs.specs.Blocks.{begins, leaves, runs}
 use Rattle.legs.specs.Boxes.{BoxView}
 use Rattle.legs.specs.Costs.{leg_feature, leaves_of}
 use Rattle.legs.specs.Hull.{leg_boxes}
-use Rattle.legs.specs.Index.{CanFollow, CanFollowInTurn, feature_count, legs_of}
+use Rattle.legs.specs.Index.{CanFollowInTurn, feature_count, legs_of}
 use Rattle.legs.specs.Legs.{LegView}
 use Rattle.tbtree.specs.Check.{IsPast, IsRising}
-use Rattle.tbtree.specs.Insert.{IsPlace, Stands}
-use Rattle.tbtree.specs.Joining.{CanJoin, CanTake, CanTakeInTurn, Holds, IsReordered, leaf_by_leaf}
+use Rattle.tbtree.specs.Joining.{CanJoin, CanTakeInTurn, Holds, IsReordered, leaf_by_leaf}
 use Rattle.tbtree.specs.Nodes.{Pages}
-use Rattle.tbtree.specs.Order.{put_in, put_all, elements, run_for, with_last, numbered, in_blocks}
+use Rattle.tbtree.specs.Order.{put_in, put_all, elements, run_for, with_last, numbered}
 use Rattle.tbtree.specs.Stands.{TreeStands, PlaceStands, marks}
-use Rattle.tbtree.specs.declared.tree.Place.{Place}
 use Rattle.tbtree.specs.declared.tree.TbTree.{TbTree}
 use Rattle.tbtree.proofs.BlockOrder.{Each, IsUpFrom, PassesOthers, IsPut, ahead, count_differ, passes, begun_last, next_put, order_kept, order_moves, order_runs, start}
 use Rattle.tbtree.proofs.GroupLemmas.{some_same}
@@ -29,7 +27,7 @@ use Rattle.tbtree.proofs.HeldLemmas.{get_append, none_beyond, numbers_rise}
 use Rattle.tbtree.proofs.KeyRuns.{is}
 use Rattle.tbtree.proofs.OrdinalOrder.{all_from_get}
 use Rattle.tbtree.proofs.RisingLists.{in_filter}
-use Rattle.tbtree.proofs.RoomLemmas.{push_same, push_other}
+use Rattle.tbtree.proofs.RoomLemmas.{push_other}
 use Rattle.tbtree.proofs.SortLemmas.{number}
 use Rattle.tbtree.proofs.TurnLemmas.{counted, count_most, get_split, rising_get}
 
@@ -186,19 +184,19 @@ module _ (leaf : ℕ) (before legs : List LegView) where
           leaves_are = held.leaves_are ∙ ap length same;
         };
         places = λ f place p. (
-          let q = subst (λ rs. PlaceStands leg_feature (before ++ turns) (marks leg_feature rs (pages 0)) f place) same p in
-          record {
-            first = q.first;
-            last = q.last;
-            legs_are = q.legs_are ∙ sym (length-filter (is leg_feature f) (before ++ turns)) ∙ ap length (kept_behind f) ∙ length-filter (is leg_feature f) (before ++ legs);
-            last_index = q.last_index;
-            none = q.none;
-          }
-        );
+            let q = subst (λ rs. PlaceStands leg_feature (before ++ turns) (marks leg_feature rs (pages 0)) f place) same p in
+            record {
+              first = q.first;
+              last = q.last;
+              legs_are = q.legs_are ∙ sym (length-filter (is leg_feature f) (before ++ turns)) ∙ ap length (kept_behind f) ∙ length-filter (is leg_feature f) (before ++ legs);
+              last_index = q.last_index;
+              none = q.none;
+            }
+            );
         as_many = sym (length_permutation (before ++ turns) (before ++ legs) moves);
         features = (
-          let a = features_most (before ++ turns) (before ++ legs) moves in
-          let b = features_most (before ++ legs) (before ++ turns) (IsPermutation-sym (before ++ turns) (before ++ legs) moves) in
-          omega (arith, a, b)
-        );
+            let a = features_most (before ++ turns) (before ++ legs) moves in
+            let b = features_most (before ++ legs) (before ++ turns) (IsPermutation-sym (before ++ turns) (before ++ legs) moves) in
+            omega (arith, a, b)
+            );
       }

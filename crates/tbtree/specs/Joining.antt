@@ -4,7 +4,7 @@ use Rattle.legs.specs.Legs.{LegView}
 use Rattle.legs.specs.Boxes.{BoxView}
 use Rattle.legs.specs.Costs.{leg_feature, leaves_of}
 use Rattle.legs.specs.Hull.{leg_boxes}
-use Rattle.legs.specs.Index.{CanFollowInTurn, feature_count}
+use Rattle.legs.specs.Index.{feature_count}
 use Rattle.tbtree.specs.Faults.{Gives}
 use Rattle.tbtree.specs.Nodes.{Pages}
 use Rattle.tbtree.specs.Stands.{TreeStands}

@@ -38,5 +38,4 @@ pub fn order_laws()
     ensures absent { (tree : TbTree) (legs : List LegView) (pages : ℕ → List ℕ) (feature : ℕ)
         → IsShape tree.shape → legs_of feature legs ≡ []
         → IsPlace tree legs pages feature no_place }
-{
-}
+{}

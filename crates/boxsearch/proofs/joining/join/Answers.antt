@@ -1,6 +1,5 @@
 use Rattle.std.proofs.Common.{◌≡◌, ap, subst, sym, ◌∙◌, ◌∷◌, []}
 use Rattle.legs.specs.Legs.{LegView}
-use Rattle.boxsearch.specs.Index.{IndexView}
 use Rattle.boxsearch.specs.Putting.{Puts}
 use Rattle.boxsearch.specs.Taking.{Taking}
 use Rattle.boxsearch.proofs.AddLemmas.{Laws, made}

@@ -1,8 +1,5 @@
-use Rattle.std.proofs.Common.{◌≡◌, ◌∷◌, ◌+◌, ◌<◌, [], drop, length, refl, arith, ap, subst, sym, ◌∙◌}
-use Rattle.std.specs.Prelude.{Err}
+use Rattle.std.proofs.Common.{◌+◌, ◌<◌, drop, length, refl, arith, subst, ◌∙◌}
 use Rattle.std.proofs.lemmas.Result.{err_from_is_err_and}
-use Rattle.legs.specs.Legs.{LegView}
-use Rattle.boxsearch.specs.Index.{words}
 use Rattle.boxsearch.specs.Taking.{taken}
 use Rattle.boxsearch.proofs.TakingTurns.{IsTaking, taking_start, taking_more, taking_refused, taken_next}
 use Rattle.boxsearch.proofs.joining.join_all.Goals as goal

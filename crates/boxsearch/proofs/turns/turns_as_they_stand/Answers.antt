@@ -1,7 +1,7 @@
-use Rattle.std.proofs.Common.{◌≡◌, ◌∙◌, ◌++◌, drop, ◌<◌, ◌≤◌, ◌+◌, ap, sym, subst, refl, arith, length}
+use Rattle.std.proofs.Common.{◌≡◌, ◌∙◌, ◌++◌, drop, ◌<◌, ◌+◌, ap, sym, subst, refl, arith, length}
 use Rattle.std.proofs.lemmas.Result.{err_from_is_err_and}
 use Rattle.legs.specs.Legs.{LegView}
-use Rattle.boxsearch.specs.Turns.{Fit, turns_from, opened_from}
+use Rattle.boxsearch.specs.Turns.{Fit, turns_from}
 use Rattle.boxsearch.proofs.TurnSteps.{opened_length, turns_step, fit_next, fit_step}
 use Rattle.boxsearch.proofs.turns.turns_as_they_stand.Goals as goal
 

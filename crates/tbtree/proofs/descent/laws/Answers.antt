@@ -1,4 +1,4 @@
-use Rattle.std.proofs.Common.{◌<◌, ◌≤◌, arith}
+use Rattle.std.proofs.Common.{arith}
 use Rattle.tbtree.proofs.ChainLemmas.{chained, one_list}
 use Rattle.tbtree.proofs.CheckTree.{hold}
 use Rattle.tbtree.proofs.HeldTree.{checked, chains_hold}

@@ -1,9 +1,7 @@
-use Rattle.std.proofs.Common.{◌≡◌, ◌<◌, ◌≤◌, ◌∙◌, ◌+◌, ◌^◌, false, true, List, length, All, ap, subst, sym, arith, refl}
-use Rattle.std.specs.Prelude.{OnOk}
-use Rattle.std.specs.List.Sorted.{IsPermutation}
+use Rattle.std.proofs.Common.{◌≡◌, ◌<◌, ◌∙◌, false, List, length, All, ap, subst, sym, arith, refl}
 use Rattle.std.proofs.lemmas.Bool.{true≢false}
 use Rattle.boxsearch.specs.Index.{IndexView}
-use Rattle.boxsearch.specs.Taking.{Taking, AreTurns}
+use Rattle.boxsearch.specs.Taking.{AreTurns}
 use Rattle.boxsearch.specs.declared.turns.Turn.{Turn}
 use Rattle.boxsearch.proofs.AddLemmas.{Laws}
 use Rattle.boxsearch.proofs.AllLemmas.{AllLaws, all_added, all_refusals}
