@@ -1,4 +1,6 @@
 //! Why the program failed.
+ghost use Rattle.std.specs.Prelude.{◌≤◌};
+
 use std::alloc::AllocError;
 use std::fmt;
 use std::fmt::{Display, Formatter};
@@ -15,6 +17,20 @@ pub(crate) enum Fault<'a> {
     CannotRead(&'a str),
     /// The file that a store was to be brought over into is there, and has bytes.
     NotEmpty,
+    /// There is no part of that number among so many.
+    NoPart(u32, u32),
+}
+
+impl Fault<'_> {
+    /// The exit status of the program: 2 where its words are wrong, else 1.
+    pub(crate) fn status(&self) -> u8
+        ensures { result ≤ 2 }
+    {
+        match self {
+            Fault::NoPart(..) => 2,
+            _ => 1,
+        }
+    }
 }
 
 impl From<AllocError> for Fault<'_> {
@@ -54,6 +70,9 @@ impl Display for Fault<'_> {
             Fault::Run(RunFault::Output) => f.write_str("output"),
             Fault::CannotRead(name) => write!(f, "cannot read {name}"),
             Fault::NotEmpty => f.write_str("new store not empty"),
+            Fault::NoPart(part, parts) => {
+                write!(f, "no part {part} of {parts}: parts are numbered from 0")
+            }
         }
     }
 }

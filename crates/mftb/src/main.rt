@@ -1,8 +1,9 @@
 //! A trajectory database on the command line: `mftb run STORE SCRIPT [FILES]...`, `mftb check STORE`,
-//! `mftb migrate OLD NEW`.
+//! `mftb migrate OLD NEW`, `mftb part K N FILE`.
 #![tactic(auto)]
 
 mod fault;
+mod file_part;
 mod start;
 mod words;
 

@@ -13,6 +13,7 @@ ghost use Rattle.trajdb.specs.Lasting.{HasBook, IsIdle};
 ghost use Rattle.mftb.specs.Answers.{new_shape, Answers, Checks, IsNotOver, IsOverFault, WasWhole};
 
 use crate::fault::Fault;
+use crate::file_part::print_part;
 use crate::words::{CACHE_PAGES, Check, Migrate, Run, Task, read_words};
 use clap::error::ErrorKind;
 use legs::Limits;
@@ -215,7 +216,7 @@ fn check_and_close<S: PageStore>(
 }
 
 /// Sends the last of an answer, of which this was written.
-fn send<'a, W: Write>(written: io::Result<()>, out: &mut W) -> Result<(), Fault<'a>> {
+pub(crate) fn send<'a, W: Write>(written: io::Result<()>, out: &mut W) -> Result<(), Fault<'a>> {
     if written.is_err() || out.flush().is_err() {
         return Err(Fault::Run(RunFault::Output));
     }
@@ -349,6 +350,7 @@ fn perform<'a, R: rt::Files<File = File> + AllocGlobal + RandomSource, W: Write>
         Task::Run(task) => run(rt, task, out),
         Task::Check(task) => check(rt, task, out),
         Task::Migrate(task) => migrate(rt, task, out),
+        Task::Part(task) => print_part(rt, task, out),
     }
 }
 
@@ -382,7 +384,7 @@ pub fn start<R: rt::Files<File = File> + AllocGlobal + RandomSource, W: Write, V
         Ok(()) => 0,
         Err(fault) => {
             let _ = writeln!(faults, "mftb: {fault}");
-            1
+            fault.status()
         }
     }
 }

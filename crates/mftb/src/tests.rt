@@ -377,6 +377,28 @@ fn a_cache_has_256_pages(rt: HostRuntime) -> Result<(), Fail> {
     Ok(())
 }
 
+/// Part 1 of 2 of the example: the features `a` and `c`.
+const PART: &str = "
+@stboundedby,urn:x-ogc:def:crs:EPSG:6.6:4326,2D,50.23 9.23,50.31 9.27,2012-01-17T12:33:41Z,2012-01-17T12:37:00Z,sec
+@columns,mfidref,trajectory,state,xsd:token,type code,xsd:integer
+a,10,150,11.0 2.0 12.0 3.0,walking,1
+\"\"
+a,150,190,12.0 3.0 10.0 3.0,walking,2
+c,10,190,12.0 1.0 10.0 2.0 11.0 3.0,vehicle,1
+";
+
+#[test]
+fn a_part_of_a_file_is_printed(rt: HostRuntime) -> Result<(), Fail> {
+    fs::write(&rt, "whole.csv", STANDARD)?;
+    let (status, out, _) = answer(&rt, &["mftb", "part", "1", "2", "whole.csv"])?;
+    let printed = status == 0 && out.as_slice() == PART.as_bytes();
+    let (status, out, faults) = answer(&rt, &["mftb", "part", "2", "2", "whole.csv"])?;
+    let line = b"mftb: no part 2 of 2: parts are numbered from 0\n";
+    let refused = status == 2 && out.is_empty() && faults.as_slice() == line.as_slice();
+    assert_eq!(rt; (printed, refused), (true, true));
+    Ok(())
+}
+
 #[test]
 fn other_words_are_refused(rt: HostRuntime) -> Result<(), Fail> {
     let words = owned(rt.alloc(), &["mftb", "chart", "store"])?;

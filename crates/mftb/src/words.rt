@@ -33,6 +33,17 @@ pub(crate) struct Migrate<'a> {
     pub(crate) new: &'a str,
 }
 
+/// What `mftb part` is asked to do.
+#[derive(Clone, Copy)]
+pub(crate) struct Part<'a> {
+    /// The number of the part, from 0.
+    pub(crate) part: u32,
+    /// How many parts there are, at least 1.
+    pub(crate) parts: u32,
+    /// The name of the file.
+    pub(crate) file: &'a str,
+}
+
 /// What the program is asked to do.
 #[derive(Drop)]
 pub(crate) enum Task<'a> {
@@ -42,6 +53,8 @@ pub(crate) enum Task<'a> {
     Check(Check<'a>),
     /// To bring a store of version 1 over.
     Migrate(Migrate<'a>),
+    /// To print a part of a file.
+    Part(Part<'a>),
 }
 
 /// How many pages the cache of a database holds where no other number is given.
@@ -106,6 +119,21 @@ fn migrate_command<'a>(alloc: Global) -> Result<Command<'a>, AllocError> {
         ))
 }
 
+/// The words of `mftb part`.
+fn part_command<'a>(alloc: Global) -> Result<Command<'a>, AllocError> {
+    Command::new(alloc, "part")
+        .about("Prints the part of a file that has the features of one of several parts")
+        .arg(
+            required(alloc, "K", "The number of the part, from 0")
+                .value_parser(value_parser!(u32).range(0..)),
+        )?
+        .arg(
+            required(alloc, "N", "How many parts there are")
+                .value_parser(value_parser!(u32).range(1..)),
+        )?
+        .arg(required(alloc, "FILE", "The file; it is read and not written"))
+}
+
 fn mftb<'a>(alloc: Global) -> Result<Command<'a>, AllocError> {
     Command::new(alloc, "mftb")
         .about("A trajectory database")
@@ -113,7 +141,8 @@ fn mftb<'a>(alloc: Global) -> Result<Command<'a>, AllocError> {
         .subcommand_required(true)
         .subcommand(run_command(alloc)?)?
         .subcommand(check_command(alloc)?)?
-        .subcommand(migrate_command(alloc)?)
+        .subcommand(migrate_command(alloc)?)?
+        .subcommand(part_command(alloc)?)
 }
 
 /// How many pages the cache is to hold.
@@ -146,6 +175,11 @@ pub(crate) fn read_words<'a>(alloc: Global, words: &'a [String]) -> Result<Task<
         Some(("migrate", matches)) => Ok(Task::Migrate(Migrate {
             old: matches.get_str("OLD").unwrap_or(""),
             new: matches.get_str("NEW").unwrap_or(""),
+        })),
+        Some(("part", matches)) => Ok(Task::Part(Part {
+            part: matches.get_one("K").unwrap_or(0),
+            parts: matches.get_one("N").unwrap_or(1),
+            file: matches.get_str("FILE").unwrap_or(""),
         })),
         Some((_, matches)) => Ok(Task::Run(run_of(alloc, matches)?)),
         None => Ok(Task::Run(Run {

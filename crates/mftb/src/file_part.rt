@@ -1,0 +1,47 @@
+//! The part of a file that has the features of one of several parts.
+ghost use Rattle.std.specs.Prelude.{◌≡◌, ◌<◌, OnOk};
+ghost use Rattle.mftb.specs.Parts.{SendsPart};
+
+use crate::fault::Fault;
+use crate::start::{MOST_BYTES, read_named};
+use crate::words::Part;
+use parts::part;
+use std::alloc::Global;
+use std::io::Write;
+use std::rt;
+use trajdb::RunFault;
+
+/// Sends part `k` of `n` of a file.
+fn send_part<'a, W: Write>(
+    alloc: Global,
+    k: u32,
+    n: u32,
+    bytes: &[u8],
+    out: &mut W,
+) -> Result<(), Fault<'a>>
+    requires { k < n }
+    // What was sent says exactly the records of the part, under their numbers in the whole, or the fault of the whole.
+    ensures { OnOk result (SendsPart k n bytes.now (W.contents out.old) (W.contents out.new)) }
+{
+    let text = part(alloc, u64::from(k), u64::from(n), bytes)?;
+    if out.write_all(text.as_slice()).is_err() {
+        return Err(Fault::Run(RunFault::Output));
+    }
+    if out.flush().is_err() {
+        return Err(Fault::Run(RunFault::Output));
+    }
+    Ok(())
+}
+
+/// Reads a file, and prints its part.
+pub(crate) fn print_part<'a, R: rt::Files + AllocGlobal, W: Write>(
+    rt: &R,
+    task: &Part<'a>,
+    out: &mut W,
+) -> Result<(), Fault<'a>> {
+    if task.part >= task.parts {
+        return Err(Fault::NoPart(task.part, task.parts));
+    }
+    let bytes = read_named(rt, task.file, MOST_BYTES)?;
+    send_part(rt.alloc(), task.part, task.parts, &bytes, out)
+}
