@@ -13,12 +13,12 @@ use Rattle.together.specs.Parts.{own_legs, own_names}
 use Rattle.together.specs.Joining.{CountLaw}
 use Rattle.together.proofs.FeatureLemmas.{range_within}
 
-sum-agree : (L : ℕ → Type 0) (u v : ℕ → ℕ) → ((k : ℕ) → L k → u k ≡ v k) → (ks : List ℕ) → All L ks → sum_by u ks ≡ sum_by v ks
+pub sum-agree : (L : ℕ → Type 0) (u v : ℕ → ℕ) → ((k : ℕ) → L k → u k ≡ v k) → (ks : List ℕ) → All L ks → sum_by u ks ≡ sum_by v ks
 sum-agree L u v same [] all = refl
 sum-agree L u v same (k ∷ ks) all =
     sum_by-cons u k ks ∙ ap (λ x. x + sum_by u ks) (same k (All-head L k ks all)) ∙ ap (λ x. v k + x) (sum-agree L u v same ks (All-tail L k ks all)) ∙ sym (sum_by-cons v k ks)
 
-sum-plus : (u v : ℕ → ℕ) (ks : List ℕ) → sum_by (λ k. u k + v k) ks ≡ sum_by u ks + sum_by v ks
+pub sum-plus : (u v : ℕ → ℕ) (ks : List ℕ) → sum_by (λ k. u k + v k) ks ≡ sum_by u ks + sum_by v ks
 sum-plus u v [] = omega arith
 sum-plus u v (k ∷ ks) =
     let e : (u k + v k) + (sum_by u ks + sum_by v ks) ≡ (u k + sum_by u ks) + (v k + sum_by v ks) = omega arith in

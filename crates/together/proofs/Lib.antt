@@ -5,6 +5,8 @@ mod NamedLemmas
 mod FeatureLemmas
 mod LateLemmas
 mod CountLemmas
+mod SumLemmas
+mod RiseLemmas
 mod FaultLemmas
 mod LoadLemmas
 mod MergeLemmas

@@ -4,3 +4,4 @@ pub mod Laws
 pub mod Joining
 pub mod Loading
 pub mod Merging
+pub mod Counting

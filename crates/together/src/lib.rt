@@ -8,6 +8,7 @@
 
 ghost use Rattle.together.specs.Laws.{BoxLaw, FeaturesLaw, LateLaw, LegsLaw, LegsText, NamesText, PartLaw, TrajectoryLaw};
 ghost use Rattle.together.specs.Joining.{AcceptLaw, BookLaw, CountLaw, FaultsLaw, FirstLaw, FitsLaw, LeastLaw, PartFaultsLaw, StayLaw};
+ghost use Rattle.together.specs.Counting.{LoadCountLaw, RisesLaw};
 ghost use Rattle.together.specs.Loading.{EmptyLaw, LoadLaw};
 ghost use Rattle.together.specs.Merging.{BoxMerge, FeaturesAnswerMerge, LegsAnswerMerge, LegsMerge, NamesMerge};
 
@@ -39,6 +40,8 @@ pub fn joining_laws()
     ensures first { FirstLaw }
     ensures least { LeastLaw }
     ensures after { StayLaw }
+    ensures rises { RisesLaw }
+    ensures counted { LoadCountLaw }
 {}
 
 /// How stores that take in files, and the parts of the files, stay a store and its part, for the

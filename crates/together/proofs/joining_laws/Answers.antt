@@ -1,5 +1,7 @@
 use Rattle.together.proofs.FaultLemmas.{accept_law, faults_law, first_law, fits_law, part_faults_law, stay_law}
 use Rattle.together.proofs.LateLemmas.{late_law, least_law, part_law}
+use Rattle.together.proofs.RiseLemmas.{rises_law}
+use Rattle.together.proofs.SumLemmas.{load_count_law}
 use Rattle.together.proofs.joining_laws.Goals as goal
 
 pub returns-clause-late : goal.returns-clause-late
@@ -28,3 +30,9 @@ returns-clause-after c = stay_law
 
 pub returns-clause-least : goal.returns-clause-least
 returns-clause-least c = least_law
+
+pub returns-clause-rises : goal.returns-clause-rises
+returns-clause-rises c = rises_law
+
+pub returns-clause-counted : goal.returns-clause-counted
+returns-clause-counted c = load_count_law
