@@ -10,3 +10,4 @@ mod RiseLemmas
 mod FaultLemmas
 mod LoadLemmas
 mod MergeLemmas
+mod LineLemmas

@@ -5,3 +5,4 @@ pub mod Joining
 pub mod Loading
 pub mod Merging
 pub mod Counting
+pub mod Asking

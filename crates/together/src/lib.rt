@@ -8,6 +8,7 @@
 
 ghost use Rattle.together.specs.Laws.{BoxLaw, FeaturesLaw, LateLaw, LegsLaw, LegsText, NamesText, PartLaw, TrajectoryLaw};
 ghost use Rattle.together.specs.Joining.{AcceptLaw, BookLaw, CountLaw, FaultsLaw, FirstLaw, FitsLaw, LeastLaw, PartFaultsLaw, StayLaw};
+ghost use Rattle.together.specs.Asking.{LineLaw};
 ghost use Rattle.together.specs.Counting.{LoadCountLaw, RisesLaw};
 ghost use Rattle.together.specs.Loading.{EmptyLaw, LoadLaw};
 ghost use Rattle.together.specs.Merging.{BoxMerge, FeaturesAnswerMerge, LegsAnswerMerge, LegsMerge, NamesMerge};
@@ -27,6 +28,7 @@ pub fn answer_laws()
     ensures features_answer_merge { FeaturesAnswerMerge }
     ensures counts { CountLaw }
     ensures book { BookLaw }
+    ensures lines { LineLaw }
 {}
 
 /// How parts take in the parts of a file, for the proofs of a caller. It does nothing.

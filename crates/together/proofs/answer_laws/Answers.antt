@@ -4,6 +4,7 @@ use Rattle.together.proofs.FaultLemmas.{book_law}
 use Rattle.together.proofs.FeatureLemmas.{features_law}
 use Rattle.together.proofs.NamedLemmas.{trajectory_law}
 use Rattle.together.proofs.ToldLemmas.{box_law, legs_law, legs_told, names_told}
+use Rattle.together.proofs.LineLemmas.{line_law}
 use Rattle.together.proofs.answer_laws.Goals as goal
 
 pub returns-clause-legs_text : goal.returns-clause-legs_text
@@ -44,3 +45,6 @@ returns-clause-legs_answer_merge c = legs_answer_merge
 
 pub returns-clause-features_answer_merge : goal.returns-clause-features_answer_merge
 returns-clause-features_answer_merge c = features_answer_merge
+
+pub returns-clause-lines : goal.returns-clause-lines
+returns-clause-lines c = line_law
