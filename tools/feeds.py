@@ -280,19 +280,21 @@ class Legs:
         self.gap, self.counts = options.gap, counts
         self.leaves_out = options.most is not None
         self.speed = Speed(options.most or options.usual, options.in_degrees)
+        self.is_over = over_date_line if options.in_degrees else lambda one, two: False
         # Of each feature the last position that was kept, and whether that is in a leg.
         self.last = {name: (begin, True) for name, begin in begins.items()}
         # Of a feature whose first position is in no leg, one that was too fast from there.
         self.doubts = {}
 
     def of(self, positions):
-        last, gap, exceeded, nothing = self.last, self.gap, self.speed.exceeded, (None, True)
+        last, gap, nothing = self.last, self.gap, (None, True)
+        is_over, exceeded = self.is_over, self.speed.exceeded
         for here in positions:
             before, in_leg = last.get(here.feature, nothing)
             makes_leg = before is not None and (
                 0 < here.moment - before.moment <= gap
                 and here.segment == before.segment
-                and not over_date_line(before.place[0], here.place[0])
+                and not is_over(before.place[0], here.place[0])
             )
             if makes_leg:
                 if exceeded(before, here):
@@ -339,7 +341,7 @@ class Legs:
 
     def agree(self, one, two):
         near = 0 < two.moment - one.moment <= self.gap and one.segment == two.segment
-        apart = over_date_line(one.place[0], two.place[0]) or self.speed.exceeded(one, two)
+        apart = self.is_over(one.place[0], two.place[0]) or self.speed.exceeded(one, two)
         return near and not apart
 
 

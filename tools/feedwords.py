@@ -5,6 +5,7 @@ import csv
 from texts import bound, duration, number, speed
 
 LONGITUDE_LATITUDE = "urn:ogc:def:crs:OGC:1.3:CRS84"
+WITH_ELEVATION = "longitude-latitude-degrees-elevation-metres"
 
 
 def column_list(text):

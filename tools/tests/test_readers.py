@@ -77,7 +77,7 @@ class Readers(Case):
                 self.assertEqual((ended.returncode, ended.stdout), (status, ""))
 
     def test_help_has_an_example(self):
-        for tool in "from_ais", "from_movebank", "from_gpx", "draw":
+        for tool in "from_ais", "from_csv", "from_movebank", "from_gpx", "draw":
             self.assertIn(f"example:\n  tools/{tool} ", self.made(tool, "--help"))
 
 
