@@ -23,12 +23,12 @@ def reports(day):
     a day, and ship 6 at each midnight.
     """
     first = START + timedelta(days=day)
-    for second in range(0, 86_411, 240):
+    for second in sorted([*range(0, 86_411, 240), 3, 86_403]):
         for ship in range(7):
             silent = second < 9000 or second > 80_000
             if ship == 3 and silent or ship == 4 and day % 2 or ship == 5 and second != 43_200:
                 continue
-            if ship == 6 and 0 < second < 86_400:
+            if ship == 6 and second % 86_400:
                 continue
             moment = first + timedelta(seconds=second + ship)
             if ship == 6 or moment <= first + timedelta(days=1, seconds=10):
@@ -91,7 +91,7 @@ class Days(Case):
     def test_what_is_said_of_a_seam(self):
         self.ends("from_ais", "day0", "--state", "s", "-o", "a")
         said = self.ends("from_ais", "--after", "s", "day1", "-o", "b")
-        self.assertIn("left out: 4 not later than s", said)
+        self.assertIn("left out: 7 not later than s", said)
         self.assertNotIn("already loaded?", said)
 
     def test_a_day_that_was_loaded(self):
@@ -101,7 +101,7 @@ class Days(Case):
         self.assertEqual(
             said,
             "from_ais: nothing here is later than s; already loaded? '0' is here from "
-            "2024-06-03T00:00:00Z to 2024-06-04T00:00:00Z, and ended at 2024-06-04T00:00:00Z; "
+            "2024-06-03T00:00:00Z to 2024-06-04T00:00:03Z, and ended at 2024-06-04T00:00:03Z; "
             "nothing is written\n",
         )
         self.assertEqual(self.read("b"), "as it was")

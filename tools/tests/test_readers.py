@@ -91,6 +91,14 @@ class Samples(Case):
             "us-positions.csv",
         ),
         "ais-dk": ("dk-ships.csv", "from_ais", "dk-positions.csv"),
+        "taxis": (
+            "cabs.csv",
+            "from_csv",
+            *"--id taxi --x lon --y lat --tz Europe/Berlin --gap 5m --columns state".split(),
+            "--time",
+            "local time",
+            "trips.csv",
+        ),
         "movebank": (
             "animals.csv",
             "from_movebank",
