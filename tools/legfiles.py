@@ -5,25 +5,17 @@ import stat
 import tempfile
 from contextlib import contextmanager, suppress
 from decimal import ROUND_HALF_EVEN, Decimal
-from typing import NamedTuple
+from itertools import chain
 
 from sources import as_text, opened
 from texts import PLAIN_DECIMAL, Refused, read_instant
 
 
-class Record(NamedTuple):
-    """A record: a feature's name, its first and last time field, its coordinates and values."""
-
-    line: int
-    name: str
-    first: str
-    last: str
-    trajectory: str
-    values: list
-
-
 class LegFile:
-    """A file of legs; what its header lines say is there once its first record was read."""
+    """A file of legs; what its header lines say is there once its first record was read.
+
+    A record is a list: name, first and last time field, trajectory, and the values.
+    """
 
     def __init__(self, path):
         self.path, self.head, self.columns, self.types = path, None, [], []
@@ -31,15 +23,28 @@ class LegFile:
 
     def __iter__(self):
         with opened(self.path) as raw:
-            table = csv.reader(as_text(raw))
-            for row in table:
-                self.line = table.line_num
-                if len(row) > 3 and row[0][:1] not in "@ \t":
-                    yield Record(self.line, row[0].rstrip(" \t"), *row[1:4], row[4:])
+            lines = iter(as_text(raw))
+            for line in lines:
+                self.line += 1
+                # A line without a quote is a record, cut at its commas.
+                if '"' in line:
+                    row = self.quoted(line, lines)
+                else:
+                    row = line.rstrip("\r\n").split(",")
+                name = row[0]
+                if len(row) > 3 and name[:1] not in "@ \t" and name[-1] not in " \t":
+                    yield row
                 elif any(text.strip(" \t") for text in row):
                     yield from self.odd([text.strip(" \t") for text in row])
         if not self.head:
             raise Refused(f"{self.path}: there is no line @stboundedby")
+
+    def quoted(self, line, lines):
+        """A record with quotes, which may go on over lines."""
+        table = csv.reader(chain([line], lines))
+        row = next(table)
+        self.line += table.line_num - 1
+        return row
 
     def odd(self, fields):
         """Takes a header line, or gives a record with blanks around its name."""
@@ -50,7 +55,9 @@ class LegFile:
             elif fields[0].lower() == "@columns":
                 self.columns, self.types = fields[3::2], fields[4::2]
             elif not fields[0].startswith("@"):
-                yield Record(self.line, *fields[:4], fields[4:])
+                if len(fields) < 4:
+                    raise ValueError("too few fields")
+                yield fields
         except (ValueError, IndexError, KeyError, TypeError):
             raise self.refused() from None
 
@@ -73,17 +80,17 @@ class LegFile:
 
 
 @contextmanager
-def beside(path):
-    """A text file that takes its name when all of it is there; what else is no file is written."""
-    how = {"encoding": "utf-8", "newline": "\n"}
+def beside(path, mode="w"):
+    """A file that takes its name when all of it is there; what is no plain file is just written."""
+    how = {} if "b" in mode else {"encoding": "utf-8", "newline": "\n"}
     target = os.path.realpath(path)
     if os.path.exists(target) and not stat.S_ISREG(os.stat(target).st_mode):
-        with open(target, "w", **how) as out:
+        with open(target, mode, **how) as out:
             yield out
         return
     with named(path):
         folder, name = os.path.split(target)
-        out = tempfile.NamedTemporaryFile("w", dir=folder, prefix=f".{name}.", delete=False, **how)
+        out = tempfile.NamedTemporaryFile(mode, dir=folder, prefix=f".{name}.", delete=False, **how)
     try:
         with out:
             yield out

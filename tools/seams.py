@@ -32,12 +32,12 @@ def read_state(path, options):
 def read_legs(path, options):
     """The last position of each feature of a file of legs."""
     file, ends = LegFile(path), {}
-    for record in file:
+    for name, _, last, trajectory, *values in file:
         try:
-            moment = file.milliseconds(record.last)
-            if record.name not in ends or ends[record.name][0] <= moment:
-                place = coordinates(" ".join(record.trajectory.split()[-file.dimension :]))
-                ends[record.name] = moment, place, tuple(record.values)
+            moment = file.milliseconds(last)
+            if name not in ends or ends[name][0] <= moment:
+                place = coordinates(" ".join(trajectory.split()[-file.dimension :]))
+                ends[name] = moment, place, tuple(values)
         except (ValueError, BadLine):
             raise file.refused() from None
     columns = zip(file.columns, file.types)
