@@ -119,7 +119,9 @@ def corner(texts, sign):
     # As floats keep the order, they only spare most comparisons of the decimals.
     most = max(near)
     found = dict.fromkeys(text for text, number in zip(texts, near) if number == most)
-    return max(found, key=lambda text: sign * Decimal(text)) if len(found) > 1 else next(iter(found))
+    return (
+        max(found, key=lambda text: sign * Decimal(text)) if len(found) > 1 else next(iter(found))
+    )
 
 
 class Sieve:

@@ -146,7 +146,9 @@ def add_cuts(parser):
     parser.add_argument(
         "--from", dest="start", type=bound, metavar="T", help="leave out what is before"
     )
-    parser.add_argument("--to", dest="end", type=bound, metavar="T", help="leave out what is after")
+    parser.add_argument(
+        "--to", dest="end", type=bound, metavar="T", help="leave out what is after"
+    )
     parser.add_argument(
         "--bbox",
         nargs=4,

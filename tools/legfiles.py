@@ -23,21 +23,23 @@ class LegFile:
 
     def __iter__(self):
         with opened(self.path) as raw:
-            lines = iter(as_text(raw))
-            for line in lines:
-                self.line += 1
-                # A line without a quote is a record, cut at its commas.
-                if '"' in line:
-                    row = self.quoted(line, lines)
-                else:
-                    row = line.rstrip("\r\n").split(",")
-                name = row[0]
-                if len(row) > 3 and name[:1] not in "@ \t" and name[-1] not in " \t":
-                    yield row
-                elif any(text.strip(" \t") for text in row):
-                    yield from self.odd([text.strip(" \t") for text in row])
+            yield from self.records(iter(as_text(raw)))
         if not self.head:
             raise Refused(f"{self.path}: there is no line @stboundedby")
+
+    def records(self, lines):
+        for line in lines:
+            self.line += 1
+            # A line without a quote is a record, cut at its commas.
+            if '"' in line:
+                row = self.quoted(line, lines)
+            else:
+                row = line.rstrip("\r\n").split(",")
+            name = row[0]
+            if len(row) > 3 and name[:1] not in "@ \t" and name[-1] not in " \t":
+                yield row
+            elif any(text.strip(" \t") for text in row):
+                yield from self.odd([text.strip(" \t") for text in row])
 
     def quoted(self, line, lines):
         """A record with quotes, which may go on over lines."""
@@ -90,7 +92,9 @@ def beside(path, mode="w"):
         return
     with named(path):
         folder, name = os.path.split(target)
-        out = tempfile.NamedTemporaryFile(mode, dir=folder, prefix=f".{name}.", delete=False, **how)
+        out = tempfile.NamedTemporaryFile(
+            mode, dir=folder, prefix=f".{name}.", delete=False, **how
+        )
     try:
         with out:
             yield out

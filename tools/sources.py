@@ -1,4 +1,4 @@
-"""The files of a feed as they come: plain, packed (.gz, or .zip with one file), or standard input."""
+"""The files of a feed as they come: plain, packed (.gz, or .zip with one), or standard input."""
 import csv
 import gzip
 import io
@@ -22,16 +22,18 @@ NOT_A_LETTER = re.compile("[^0-9a-z]")
 def opened(path):
     """The bytes of a file, unpacked where it is packed; `-` is standard input."""
     with open(0 if path == "-" else path, "rb", closefd=path != "-") as raw:
-        start = raw.peek(4)[:4]
         try:
-            if start[:2] == b"\x1f\x8b":
-                yield gzip.open(raw)
-            elif start == b"PK\x03\x04":
-                yield only_file(path, raw)
-            else:
-                yield raw
+            yield unpacked(path, raw)
         except UNPACKING as why:
             raise Refused(f"{path} cannot be unpacked: {why}") from None
+
+
+def unpacked(path, raw):
+    """What is read of a file, by its first bytes."""
+    start = raw.peek(4)[:4]
+    if start[:2] == b"\x1f\x8b":
+        return gzip.open(raw)
+    return only_file(path, raw) if start == b"PK\x03\x04" else raw
 
 
 def only_file(path, raw):

@@ -21,7 +21,7 @@ MILLISECOND = timedelta(milliseconds=1)
 FIRST, END = (
     (datetime(year, 1, 1, tzinfo=timezone.utc) - EPOCH) // MILLISECOND for year in (1, 9999)
 )
-# Of a unit of times since 1970 its milliseconds, and the size of a number from which on it is meant.
+# Of a unit of times since 1970 its milliseconds, and from what size on a number is meant so.
 UNITS = {"s": ("1000", 0), "ms": ("1", 1e11), "us": ("0.001", 1e14), "ns": ("0.000001", 1e17)}
 DAYS = ["%Y/%m/%d", "%Y.%m.%d", "%d.%m.%Y", "%d-%b-%Y", "%d %b %Y", "%d %B %Y", "%b %d, %Y"]
 CLOCKS = ["%H:%M:%S", "%H:%M:%S.%f", "%H:%M", "%I:%M:%S %p", "%I:%M %p"]

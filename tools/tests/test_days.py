@@ -1,4 +1,4 @@
-"""Day after day: what comes in is packed, cut and seamed, and what goes out is whole or not there."""
+"""Day after day: what comes in is packed, cut and seamed, and what goes out is whole or absent."""
 import csv
 import gzip
 import io
@@ -63,7 +63,9 @@ class Days(Case):
         """The legs of all days, each converted after the one before."""
         made = []
         for number, name in enumerate(self.names):
-            seam = [word.format(number - 1) for word in after] if number or "--state" in after else []
+            seam = (
+                [word.format(number - 1) for word in after] if number or "--state" in after else []
+            )
             self.ends("from_ais", *seam, *words, "--gap", gap, name, "-o", f"l{number}")
             made.append(self.read(f"l{number}"))
         return legs(made)
@@ -200,6 +202,8 @@ class Outputs(Case):
             cwd=self.folder,
             stdin=subprocess.PIPE,
             stderr=subprocess.PIPE,
+            # Where the tests run in the background, the key would be ignored.
+            preexec_fn=lambda: signal.signal(signal.SIGINT, signal.SIG_DFL),
         )
         tool.stdin.write((US + LINE.format(1, 0) * 20_000).encode())
         tool.stdin.flush()

@@ -1,4 +1,5 @@
 """Pictures, as parsed SVG, and one as pixels."""
+import importlib.util
 import math
 import os
 import re
@@ -81,10 +82,15 @@ class Pictures(Case):
         )
 
     def test_features_of_an_answer_are_coloured(self):
-        self.write("a", self.H.format("2D", "sec") + "".join(
-            f"{name},{10 * step},{10 * step + 10},{step} {y} {step + 1} {y},q{name}\n"
-            for step in range(3) for y, name in enumerate("xyz")
-        ))
+        self.write(
+            "a",
+            self.H.format("2D", "sec")
+            + "".join(
+                f"{name},{10 * step},{10 * step + 10},{step} {y} {step + 1} {y},q{name}\n"
+                for step in range(3)
+                for y, name in enumerate("xyz")
+            ),
+        )
         self.write("b", "ok 1\n9,9,3\nok 1\n9,3\nok 2\nz\nx\n")
         whole, own = self.draw("a", "--answer", "b", "--box", "0", "0", "3", "2")
         self.assertEqual(own, {"z": ["ink"], "x": ["ink"]})
@@ -97,15 +103,21 @@ class Pictures(Case):
 
     def test_nothing_vanishes(self):
         for more in 0, 30_000:
-            self.write("a", self.H.format("2D", "sec") + "".join(
-                f"f{spot},0,10,{spot % 30} {spot // 30} {spot % 30}.0001 {spot // 30},q\n"
-                for spot in range(900)
-            ) + "m,0,10,5 5 5 5.01,q\n" * more)
+            self.write(
+                "a",
+                self.H.format("2D", "sec")
+                + "".join(
+                    f"f{spot},0,10,{spot % 30} {spot // 30} {spot % 30}.0001 {spot // 30},q\n"
+                    for spot in range(900)
+                )
+                + "m,0,10,5 5 5 5.01,q\n" * more,
+            )
             whole, _ = self.draw("a", "--view", "-1", "-1", "31", "31")
             ways = "".join(it.get("d") for it in whole.findall(f".//{SVG}path[@class='leg']")[:1])
-            found = {(int(float(x) // 20), int(float(y) // 20)) for x, y in re.findall(
-                r"M([0-9.]+) ([0-9.]+)", ways
-            )}
+            found = {
+                (int(float(x) // 20), int(float(y) // 20))
+                for x, y in re.findall(r"M([0-9.]+) ([0-9.]+)", ways)
+            }
             self.assertEqual(len(found), 900)
 
     def test_degrees_are_as_wide_as_on_the_earth(self):
@@ -129,14 +141,20 @@ class Pictures(Case):
         self.write("a", self.H.format("2D", "sec") + "x,0,10,0 0 90 90,q\n")
         whole, _ = self.draw("a", "--view", "0", "0", "10", "10", "--box", "0", "0", "5", "5")
         box = next(it for it in whole.iter(SVG + "rect") if it.get("class") == "box")
-        self.assertEqual([box.get(it) for it in ("x", "y", "width", "height")], ["0", "320"] + ["320"] * 2)
+        self.assertEqual(
+            [box.get(it) for it in ("x", "y", "width", "height")], ["0", "320"] + ["320"] * 2
+        )
 
     def test_one_bad_leg_does_not_set_the_frame(self):
-        legs = [f"x,{t},{t + 1},{t % 7} {t % 5} {(t + 1) % 7} {(t + 1) % 5},q\n" for t in range(40)]
+        legs = [
+            f"x,{t},{t + 1},{t % 7} {t % 5} {(t + 1) % 7} {(t + 1) % 5},q\n" for t in range(40)
+        ]
         self.write("a", self.H.format("2D", "sec") + "".join(legs) + "x,40,41,5 0 5000 70,q\n")
         for words, least, most in ([], 4, 20), (["--whole"], 4000, 9000):
             whole, _ = self.draw("a", *words)
-            marks = [it.text for it in whole.iter(SVG + "text") if it.get("class") == "small middle"]
+            marks = [
+                it.text for it in whole.iter(SVG + "text") if it.get("class") == "small middle"
+            ]
             self.assertTrue(least < max(map(float, marks)) < most, marks)
 
     def test_a_question_by_its_number(self):
@@ -172,10 +190,16 @@ class Pictures(Case):
         self.assertIn("draw: no leg of the answer is in the files; its times are taken", said)
 
     def test_a_picture_as_pixels(self):
-        self.write("a", self.H.format("2D", "sec") + "x,0,10,0 0 9 0,q\ny,0,10,0 5 9 5,q\nz,0,10,0 9 9 9,q\n")
+        self.write(
+            "a",
+            self.H.format("2D", "sec") + "x,0,10,0 0 9 0,q\ny,0,10,0 5 9 5,q\nz,0,10,0 9 9 9,q\n",
+        )
         self.write("b", "ok 2\nx\nz\n")
         if not shutil.which("rsvg-convert"):
-            print("rsvg-convert (librsvg2-bin) is not there: no picture is drawn as PNG", file=sys.stderr)
+            print(
+                "rsvg-convert (librsvg2-bin) is not there: no picture is drawn as PNG",
+                file=sys.stderr,
+            )
             said = self.ends("draw", "a", "-o", "c.png", status=2)
             self.assertIn("c.png takes rsvg-convert (Debian's package librsvg2-bin)", said)
             return
@@ -183,6 +207,25 @@ class Pictures(Case):
         colours = Counter(pixels(Path(self.folder, "c.png").read_bytes()))
         for colour, is_there in ("1f6fb4", True), ("c55a00", True), ("1b7f3b", False):
             self.assertEqual(colours[bytes.fromhex(colour)] > 500, is_there, colour)
+
+    def test_coastlines(self):
+        head = self.H.replace("local", CRS).format("2D", "sec")
+        self.write("a", head + "x,0,10,0 0 9 9,q\n")
+        if not importlib.util.find_spec("shapefile"):
+            print("pyshp (python3-pyshp) is not there: no coastline is drawn", file=sys.stderr)
+            said = self.ends("draw", "a", "--coast", "s.shp", "-o", "c", status=1)
+            self.assertIn("Debian's python3-pyshp", said)
+            return
+        import shapefile
+
+        with shapefile.Writer(str(self.folder / "s.shp"), shapeType=shapefile.POLYLINE) as out:
+            out.field("name", "C")
+            for line in [(-5, 4), (14, 4)], [(50, 50), (60, 60)]:
+                out.line([line])
+                out.record("x")
+        whole, _ = self.draw("a", "--coast", "s.shp", "--view", "0", "0", "9", "9")
+        way = whole.find(f".//{SVG}path[@class='coast']").get("d")
+        self.assertEqual(way.count("M"), 1)
 
     def test_other_kinds_of_pictures_are_refused(self):
         self.write("a", self.H.format("2D", "sec") + "x,0,10,0 0 9 0,q\n")
@@ -195,7 +238,9 @@ class Pictures(Case):
             for step in range(100):
                 for ship in range(1000):
                     x, y = ship % 40 + step / 120, ship // 40 + math.sin(step / 9 + ship)
-                    file.write(f"s{ship},{step},{step + 1},{x:.4f} {y:.4f} {x + 1 / 120:.4f} {y:.4f},q\n")
+                    file.write(
+                        f"s{ship},{step},{step + 1},{x:.4f} {y:.4f} {x + 1 / 120:.4f} {y:.4f},q\n"
+                    )
         self.write("b", "ok 3\ns7\ns8\ns9\n")
         _, own = self.draw("a", "--answer", "b", "--whole")
         self.assertEqual(list(own), ["s7", "s8", "s9"])
@@ -205,7 +250,10 @@ class Pictures(Case):
         inks = whole.findall(f".//{SVG}path[@class='ink']")
         self.assertEqual(len(inks), 10)
         status, clock, processor, most = measure("draw", "a", "-o", "c", folder=self.folder)
-        print(f"a picture of 100,000 legs: {processor:.1f} s of a processor, {most:.0f} MB", file=sys.stderr)
+        print(
+            f"a picture of 100,000 legs: {processor:.1f} s of a processor, {most:.0f} MB",
+            file=sys.stderr,
+        )
         self.assertEqual(status, 0)
         self.assertLess(processor, 10)
         self.assertLess(most, 200)

@@ -1,4 +1,4 @@
-"""The pages' commands, run as they stand; what they make and say must be what lies and stands there."""
+"""The pages' commands, run as they stand: what they make and say must lie and stand there."""
 import re
 import shutil
 import subprocess
