@@ -358,7 +358,7 @@ def field(text):
     return text
 
 
-@lru_cache(maxsize=10_000)
+@lru_cache(maxsize=2000)
 def seconds(milliseconds):
     """A span in seconds, as the shortest decimal."""
     whole, part = divmod(milliseconds, 1000)
