@@ -1,0 +1,52 @@
+"""The pages' commands, run as they stand: what they make and say must lie and stand there."""
+import re
+import shutil
+import subprocess
+
+from common import FEEDS, ROOT, Case
+
+COMMAND = re.compile(r"^    ((?:cd |\.\./\.\./\.\./tools/).*|for (?:.*\n)+?    done)$", re.M)
+
+
+class Pages(Case):
+    def test_commands_do_what_the_pages_say(self):
+        for path in [*(ROOT / "docs").glob("FROM_*.md"), ROOT / "docs" / "DAILY.md"]:
+            with self.subTest(path.name):
+                text = path.read_text()
+                commands = COMMAND.findall(text)
+                self.assertGreater(len(commands), 2)
+                self.follow(text, commands)
+
+    def follow(self, text, commands):
+        """Runs a page's commands in copies of its folders; what they say must stand in it."""
+        top = self.folder / "top"
+        shutil.copytree(FEEDS, top / "examples" / "feeds")
+        self.addCleanup(shutil.rmtree, top, ignore_errors=True)
+        (top / "tools").symlink_to(ROOT / "tools")
+        # The program's part is tested by examples/run.
+        (top / "mftb").write_text("#!/bin/sh\n")
+        (top / "mftb").chmod(0o755)
+        place = top
+        for command in commands:
+            if command.startswith("cd "):
+                place /= command[3:]
+                continue
+            ended = subprocess.run(
+                ["bash", "-c", command], cwd=place, capture_output=True, text=True
+            )
+            for line in ended.stderr.splitlines():
+                self.assertIn(line, text)
+        for path in FEEDS.glob("*/*.*"):
+            made = top / "examples" / "feeds" / path.parent.name / path.name
+            self.assertEqual(path.read_bytes(), made.read_bytes(), path.name)
+        shutil.rmtree(top)
+
+    def test_pages_and_tools_have_the_same_words(self):
+        """Each option that a page names is one of a tool's."""
+        tools = "from_ais", "from_csv", "from_gpx", "from_movebank", "draw"
+        known = set(re.findall(r"--[a-z0-9-]+", " ".join(self.made(it, "--help") for it in tools)))
+        # Options of the program.
+        known |= {"--cache-pages"}
+        for path in [*(ROOT / "docs").glob("FROM_*.md"), ROOT / "docs" / "DAILY.md"]:
+            said = set(re.findall(r"(?<![\w-])--[a-z][a-z0-9-]+", path.read_text()))
+            self.assertLessEqual(said, known, path.name)
