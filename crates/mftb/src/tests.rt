@@ -366,7 +366,7 @@ fn pages_asked(alloc: Global, words: &[&str]) -> Result<u32, Fail> {
     match &task {
         Task::Run(run) => Ok(run.cache_pages),
         Task::Check(check) => Ok(check.cache_pages),
-        Task::Migrate(_) => Err(Fail::from("a migration")),
+        Task::Migrate(_) | Task::Part(_) => Err(Fail::from("no cache of a database")),
     }
 }
 
