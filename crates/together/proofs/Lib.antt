@@ -11,3 +11,4 @@ mod FaultLemmas
 mod LoadLemmas
 mod MergeLemmas
 mod LineLemmas
+mod ScriptLemmas

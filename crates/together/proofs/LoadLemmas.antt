@@ -51,12 +51,12 @@ book_is : (limits : LimitsView) (book : Book) (bytes : List ℕ) (file : File) �
 unfolding book_with
 book_is limits book bytes file e = ap (book_by limits book) e
 
-record StayParts (k n : ℕ) (whole part : Book) : Type 0 where
-  of : IsPartOf (part_of n) k whole part
-  whole_told : IsTold whole
-  part_told : IsTold part
+pub record StayParts (k n : ℕ) (whole part : Book) : Type 0 where
+  pub of : IsPartOf (part_of n) k whole part
+  pub whole_told : IsTold whole
+  pub part_told : IsTold part
 
-load_one : (k n : ℕ) (whole part : Book) (limits : LimitsView) (bytes own : List ℕ) → StayParts k n whole part → IsPartText k n bytes own → Takes limits whole bytes → Takes limits part own
+pub load_one : (k n : ℕ) (whole part : Book) (limits : LimitsView) (bytes own : List ℕ) → StayParts k n whole part → IsPartText k n bytes own → Takes limits whole bytes → Takes limits part own
     → StayParts k n (book_with limits whole bytes) (book_with limits part own)
 load_one k n whole part limits bytes own is text takes own_takes =
     let t = taken limits whole bytes takes in

@@ -6,3 +6,4 @@ pub mod Loading
 pub mod Merging
 pub mod Counting
 pub mod Asking
+pub mod Scripts

@@ -11,6 +11,7 @@ ghost use Rattle.together.specs.Joining.{AcceptLaw, BookLaw, CountLaw, FaultsLaw
 ghost use Rattle.together.specs.Asking.{LineLaw};
 ghost use Rattle.together.specs.Counting.{LoadCountLaw, RisesLaw};
 ghost use Rattle.together.specs.Loading.{EmptyLaw, LoadLaw};
+ghost use Rattle.together.specs.Scripts.{ScriptLaw};
 ghost use Rattle.together.specs.Merging.{BoxMerge, FeaturesAnswerMerge, LegsAnswerMerge, LegsMerge, NamesMerge};
 
 /// What the answers of parts are, for the proofs of a caller. It does nothing.
@@ -51,4 +52,5 @@ pub fn joining_laws()
 pub fn loading_laws()
     ensures none { EmptyLaw }
     ensures all { LoadLaw }
+    ensures script { ScriptLaw }
 {}
