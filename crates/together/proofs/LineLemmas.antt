@@ -1,5 +1,5 @@
 -- What each line of a script answers over a whole and over its parts.
-use Rattle.std.proofs.Common.{[], ◌∷◌, ◌<◌, ◌≡◌, ◌∙◌, ℕ, ap, sym, refl, length, map, List, Option, Some, None, Result, Ok, Err}
+use Rattle.std.proofs.Common.{◌<◌, ◌≡◌, ◌∙◌, ℕ, ap, sym, length, map, List, Option, Some, None, Result, Ok, Err}
 use Rattle.std.specs.Prelude.{sum_by}
 use Rattle.std.specs.List.{range_with_len}
 use Rattle.timebase.specs.Period.{PeriodView}
@@ -13,9 +13,9 @@ use Rattle.querylang.specs.Line.{line_of}
 use Rattle.querylang.specs.declared.LineCode.{LineCode}
 use Rattle.querylang.specs.declared.Command.{Command}
 use Rattle.querylang.specs.declared.Command.TheVariants.{Load, Count, Box, Legs, Features, Trajectory, Write}
-use Rattle.trajdb.specs.Answers.{IsAnswer, IsFeaturesAnswer, IsLegsAnswer, IsLineText, IsSaid, legs_text, name_of, names_text, track_of}
+use Rattle.trajdb.specs.Answers.{IsAnswer, IsFeaturesAnswer, IsLegsAnswer, IsLineText, IsSaid, legs_text, name_of, track_of}
 use Rattle.together.specs.Told.{told, told_count_text, told_names_text, told_text}
-use Rattle.together.specs.Parts.{own_legs, own_names}
+use Rattle.together.specs.Parts.{own_legs}
 use Rattle.together.specs.Joining.{ArePartsOf}
 use Rattle.together.specs.Asking.{AnswerTogether, CountsTogether, LegsTogether, LineLaw, NamesTogether, SayTogether}
 use Rattle.together.proofs.CountLemmas.{count_law}

@@ -1,20 +1,20 @@
 -- Files that are taken in, one after another.
-use Rattle.std.proofs.Common.{[], ◌∷◌, ◌≡◌, ◌∙◌, ℕ, ap, sym, refl, subst, arith, List, Ok, Err, Result}
+use Rattle.std.proofs.Common.{[], ◌∷◌, ◌<◌, ◌≡◌, ◌∙◌, ℕ, ap, sym, refl, subst, arith, List, Ok, Err, Result}
 use Rattle.mfcsv.specs.FileText.{file_text}
 use Rattle.mfcsv.specs.declared.Code.{Code}
 use Rattle.mfcsv.specs.declared.File.{File}
 use Rattle.legs.specs.Legs.{LegView}
-use Rattle.legs.specs.Book.{Book, book_after, joined, with_file}
+use Rattle.legs.specs.Book.{Book, book_after, file_faults, first_or, joined, records_legs, with_file}
 use Rattle.legs.specs.Limits.{LimitsView}
 use Rattle.legs.specs.declared.joining.JoinCode.{JoinCode}
 use Rattle.parts.specs.Names.{part_of}
 use Rattle.parts.specs.Part.{said_part}
-use Rattle.trajdb.specs.Answers.{book_by, book_with, counts_or, joined_counts, load_of}
+use Rattle.trajdb.specs.Answers.{book_by, book_with, counts_of, counts_or, joined_counts, load_of}
 use Rattle.trajdb.specs.declared.Counts.{Counts}
 use Rattle.together.specs.Parts.{IsPartOf, IsTold}
 use Rattle.together.specs.Joining.{file_part}
-use Rattle.together.specs.Loading.{ArePartTexts, EmptyLaw, IsPartText, LoadLaw, Takes, TakesAll, book_of}
-use Rattle.together.proofs.FaultLemmas.{after_is, stay_law}
+use Rattle.together.specs.Loading.{ArePartTexts, EmptyLaw, IsPartText, LoadLaw, Takes, TakesAll, TakesLaw, TextLaw, book_of}
+use Rattle.together.proofs.FaultLemmas.{accept_law, after_is, stay_law}
 use Rattle.together.proofs.LateLemmas.{part_law}
 
 -- a file is taken in where its bytes are read and it is joined
@@ -92,3 +92,35 @@ empty_law k n = (
   record { head = refl; names = refl; legs = refl },
   record { distinct = λ i j d e less. absurd (omega arith); there = λ i d less. absurd (omega arith) },
 )
+
+pub text_law : TextLaw
+unfolding load_of
+text_law k n limits whole part bytes own fault text e =
+    let own_fault : file_text own ≡ Err fault = text ∙ ap (said_part k n) e in
+    ap (joined_counts limits part) own_fault ∙ sym (ap (joined_counts limits whole) e)
+
+-- a file without a fault is taken in, and one that is taken in has none
+no_fault : (faults : List (JoinCode × ℕ)) (all legs : List LegView) → first_or faults all ≡ Ok legs → faults ≡ []
+no_fault [] all legs e = refl
+no_fault (fault ∷ faults) all legs e = absurd (cc)
+
+takes_without : (limits : LimitsView) (book : Book) (bytes : List ℕ) (file : File) → file_text bytes ≡ Ok file → file_faults limits book file ≡ [] → Takes limits book bytes
+unfolding load_of
+takes_without limits book bytes file e none =
+    let all = records_legs book file.records in
+    (counts_of file all, ap (joined_counts limits book) e ∙ ap (λ (faults : List (JoinCode × ℕ)). counts_or file (first_or faults all)) none)
+
+has_none : (limits : LimitsView) (book : Book) (bytes : List ℕ) (file : File) → file_text bytes ≡ Ok file → Takes limits book bytes → file_faults limits book file ≡ []
+has_none limits book bytes file e takes =
+    let joins = joined_part limits book (file_text bytes) file (taken limits book bytes takes) e in
+    no_fault (file_faults limits book file) (records_legs book file.records) joins.0 joins.1
+
+pub takes_law : TakesLaw
+takes_law n limits whole parts bytes own file are texts e fits =
+    let accepts = accept_law (part_of n) n whole parts limits file are fits in
+    let says = λ (k : ℕ) (less : k < n). texts k less ∙ ap (said_part k n) e in (
+      λ takes k less.
+          takes_without limits (parts k) (own k) (file_part (part_of n) k file) (says k less) (accepts.0 (has_none limits whole bytes file e takes) k less),
+      λ takes.
+          takes_without limits whole bytes file e (accepts.1 (λ k less. has_none limits (parts k) (own k) (file_part (part_of n) k file) (says k less) (takes k less))),
+    )

@@ -1,13 +1,12 @@
 -- The records of a file have rising numbers.
-use Rattle.std.proofs.Common.{[], ◌∷◌, ◌++◌, ◌+◌, ◌<◌, ◌≤◌, ◌≡◌, ◌∙◌, ◌⊎◌, ℕ, ℤ, ap, sym, refl, subst, arith, flat_map, inl, inr, List, Option, Some, None, option_to_list, Ok, Err}
+use Rattle.std.proofs.Common.{[], ◌∷◌, ◌++◌, ◌+◌, ◌≤◌, ◌≡◌, ◌⊎◌, ℕ, ℤ, ap, sym, refl, subst, arith, flat_map, inl, inr, List, Option, Some, None, option_to_list, Ok}
 use Rattle.std.specs.Prelude.{codes}
 use Rattle.std.proofs.lemmas.Bool.{cases_Bool}
-use Rattle.timebase.specs.declared.Unit.{Unit}
 use Rattle.mfcsv.specs.Rows.{Row, field, rows_of, same_word}
 use Rattle.mfcsv.specs.Views.{BoundsView, ColumnsView, HeadsView, RecordView}
 use Rattle.mfcsv.specs.Header.{heads_after, is_blank_row, is_header_row, kind_of}
 use Rattle.mfcsv.specs.DataRecord.{record_of, record_with}
-use Rattle.mfcsv.specs.FileText.{Line, clock_before, columns_before, dimension_before, file_at, file_text, file_with, faults_of, first_or, heads_from, line_of, lines_from, no_heads, records_of, text_of_rows}
+use Rattle.mfcsv.specs.FileText.{Line, clock_before, columns_before, dimension_before, file_at, file_with, faults_of, first_or, heads_from, line_of, lines_from, no_heads, records_of, text_of_rows}
 use Rattle.mfcsv.specs.declared.Code.{Code}
 use Rattle.mfcsv.specs.declared.Dimension.{Dimension}
 use Rattle.mfcsv.specs.declared.File.{File}

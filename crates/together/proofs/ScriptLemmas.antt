@@ -1,5 +1,5 @@
 -- A script over a whole and over its parts.
-use Rattle.std.proofs.Common.{[], ◌∷◌, ◌++◌, ◌<◌, ◌≤◌, ◌≡◌, ◌∙◌, ◌⊎◌, ℕ, ap, sym, refl, subst, arith, inl, inr, List, Option, Some, None, Result, Ok, Err}
+use Rattle.std.proofs.Common.{[], ◌∷◌, ◌++◌, ◌<◌, ◌≤◌, ◌≡◌, ◌⊎◌, ℕ, ap, sym, refl, subst, arith, inl, inr, List, Option, Some, None, Result, Ok, Err}
 use Rattle.std.specs.Prelude.{nat_lt}
 use Rattle.std.proofs.lemmas.Bool.{cases_Bool}
 use Rattle.std.proofs.lemmas.Bool.Decides.{nat_tests}
@@ -17,7 +17,7 @@ use Rattle.querylang.specs.declared.Command.{Command}
 use Rattle.querylang.specs.declared.Command.TheVariants.{Load, Count, Box, Legs, Features, Trajectory, Write}
 use Rattle.trajdb.specs.Answers.{AcceptsLine, AcceptsNamed, AcceptsSaid, IsLineText, book_by, book_with, counts_of, counts_or, joined_counts, line_book, load_of, named_book, said_book}
 use Rattle.trajdb.specs.Files.{file_named}
-use Rattle.trajdb.specs.Run.{IsRunText, run_book}
+use Rattle.trajdb.specs.Run.{IsRunText}
 use Rattle.trajdb.specs.declared.Counts.{Counts}
 use Rattle.together.specs.Joining.{ArePartsOf}
 use Rattle.together.specs.Loading.{IsPartText, Takes}

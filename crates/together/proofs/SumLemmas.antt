@@ -1,6 +1,6 @@
 -- What `load` counts of a file is the sum of what it counts of the parts.
-use Rattle.std.proofs.Common.{[], ◌∷◌, ◌++◌, ◌+◌, ◌<◌, ◌≤◌, ◌≡◌, ◌∙◌, ◌==◌, ℕ, zero, suc, ap, sym, refl, arith, List, Bool, true, false, cond, filter, length, inl, inr, map, Ok, Err}
-use Rattle.std.specs.Prelude.{All, sum_by}
+use Rattle.std.proofs.Common.{[], ◌∷◌, ◌+◌, ◌<◌, ◌≤◌, ◌≡◌, ◌∙◌, ◌==◌, ℕ, zero, suc, ap, sym, refl, arith, List, Bool, true, false, cond, filter, length, inl, inr, Ok}
+use Rattle.std.specs.Prelude.{sum_by}
 use Rattle.std.specs.List.{range_with_len}
 use Rattle.std.proofs.lemmas.Bool.{cases_Bool}
 use Rattle.std.proofs.lemmas.Bool.Decides.{nat_tests}
@@ -13,7 +13,7 @@ use Rattle.legs.specs.Counting.{names_after}
 use Rattle.legs.specs.Legs.{LegView}
 use Rattle.legs.specs.declared.joining.JoinCode.{JoinCode}
 use Rattle.legs.proofs.RecordLemmas.{with_record-names}
-use Rattle.together.specs.Parts.{IsTold, is_in, own_names, own_records}
+use Rattle.together.specs.Parts.{IsTold, own_names, own_records}
 use Rattle.together.specs.Counting.{LoadCountLaw}
 use Rattle.together.proofs.CountLemmas.{sum-agree, sum-plus, sum_parts}
 use Rattle.together.proofs.FeatureLemmas.{range_within}

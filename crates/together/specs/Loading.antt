@@ -1,12 +1,15 @@
 -- How the stores of parts stay the parts of the store of the whole, file by file.
-use Rattle.std.specs.Prelude.{ℕ, ◌≡◌, List, [], ◌∷◌, fold, Ok}
+use Rattle.std.specs.Prelude.{ℕ, ◌≡◌, ◌<◌, List, [], ◌∷◌, fold, Ok, Err}
 use Rattle.mfcsv.specs.FileText.{file_text}
+use Rattle.mfcsv.specs.declared.Code.{Code}
+use Rattle.mfcsv.specs.declared.File.{File}
 use Rattle.legs.specs.Book.{Book, empty_book}
 use Rattle.legs.specs.Limits.{LimitsView}
 use Rattle.parts.specs.Names.{part_of}
 use Rattle.parts.specs.Part.{said_part}
 use Rattle.trajdb.specs.Answers.{book_with, load_of}
 use Rattle.trajdb.specs.declared.Counts.{Counts}
+use Rattle.together.specs.Joining.{ArePartsOf, Fits}
 use Rattle.together.specs.Parts.{IsPartOf, IsTold}
 
 -- the bytes say part k of n of what others say, as `part` of the crate `parts` makes them
@@ -42,3 +45,17 @@ LoadLaw =
 -- books without files are a book and its part
 abbrev pub EmptyLaw : Type 0
 EmptyLaw = (k n : ℕ) → IsPartOf (part_of n) k empty_book empty_book × IsTold empty_book
+
+-- a file whose text has a fault is refused alike by the whole and by each part
+abbrev pub TextLaw : Type 0
+TextLaw =
+    (k n : ℕ) (limits : LimitsView) (whole part : Book) (bytes own : List ℕ) (fault : Code × ℕ) → IsPartText k n bytes own → file_text bytes ≡ Err fault
+    → load_of limits part own ≡ load_of limits whole bytes
+
+-- where the limits hold in the end, the whole takes a file in exactly where each part takes in its part
+abbrev pub TakesLaw : Type 0
+TakesLaw =
+    (n : ℕ) (limits : LimitsView) (whole : Book) (parts : ℕ → Book) (bytes : List ℕ) (own : ℕ → List ℕ) (file : File) → ArePartsOf (part_of n) n whole parts
+    → ((k : ℕ) → k < n → IsPartText k n bytes (own k)) → file_text bytes ≡ Ok file → Fits limits whole file.records
+    → (Takes limits whole bytes → (k : ℕ) → k < n → Takes limits (parts k) (own k))
+    × (((k : ℕ) → k < n → Takes limits (parts k) (own k)) → Takes limits whole bytes)

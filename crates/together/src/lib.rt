@@ -10,7 +10,7 @@ ghost use Rattle.together.specs.Laws.{BoxLaw, FeaturesLaw, LateLaw, LegsLaw, Leg
 ghost use Rattle.together.specs.Joining.{AcceptLaw, BookLaw, CountLaw, FaultsLaw, FirstLaw, FitsLaw, LeastLaw, PartFaultsLaw, StayLaw};
 ghost use Rattle.together.specs.Asking.{LineLaw};
 ghost use Rattle.together.specs.Counting.{LoadCountLaw, RisesLaw};
-ghost use Rattle.together.specs.Loading.{EmptyLaw, LoadLaw};
+ghost use Rattle.together.specs.Loading.{EmptyLaw, LoadLaw, TakesLaw, TextLaw};
 ghost use Rattle.together.specs.Scripts.{ScriptLaw};
 ghost use Rattle.together.specs.Merging.{BoxMerge, FeaturesAnswerMerge, LegsAnswerMerge, LegsMerge, NamesMerge};
 
@@ -52,5 +52,7 @@ pub fn joining_laws()
 pub fn loading_laws()
     ensures none { EmptyLaw }
     ensures all { LoadLaw }
+    ensures text { TextLaw }
+    ensures takes { TakesLaw }
     ensures script { ScriptLaw }
 {}

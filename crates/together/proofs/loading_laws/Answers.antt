@@ -1,4 +1,4 @@
-use Rattle.together.proofs.LoadLemmas.{empty_law, load_law}
+use Rattle.together.proofs.LoadLemmas.{empty_law, load_law, takes_law, text_law}
 use Rattle.together.proofs.ScriptLemmas.{script_law}
 use Rattle.together.proofs.loading_laws.Goals as goal
 
@@ -10,3 +10,9 @@ returns-clause-all c = load_law
 
 pub returns-clause-script : goal.returns-clause-script
 returns-clause-script c = script_law
+
+pub returns-clause-text : goal.returns-clause-text
+returns-clause-text c = text_law
+
+pub returns-clause-takes : goal.returns-clause-takes
+returns-clause-takes c = takes_law
