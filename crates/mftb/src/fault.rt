@@ -15,6 +15,8 @@ pub(crate) enum Fault<'a> {
     CannotRead(&'a str),
     /// The file that a store was to be brought over into is there, and has bytes.
     NotEmpty,
+    /// Another run holds the store.
+    InUse,
 }
 
 impl From<AllocError> for Fault<'_> {
@@ -54,6 +56,7 @@ impl Display for Fault<'_> {
             Fault::Run(RunFault::Output) => f.write_str("output"),
             Fault::CannotRead(name) => write!(f, "cannot read {name}"),
             Fault::NotEmpty => f.write_str("new store not empty"),
+            Fault::InUse => f.write_str("store in use"),
         }
     }
 }

@@ -2,8 +2,23 @@
 //! `mftb migrate OLD NEW`.
 #![tactic(auto)]
 
+mod answering;
+mod beside;
+mod check;
 mod fault;
+mod folder;
+mod held_file;
+mod locks;
+mod migrate;
+mod names;
+mod noted;
+mod opening;
+mod read_only;
+mod reading;
+mod run;
+mod session;
 mod start;
+mod system_folder;
 mod words;
 
 use start::start;

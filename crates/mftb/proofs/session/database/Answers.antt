@@ -9,7 +9,7 @@ use Rattle.trajdb.specs.Db.{DbView}
 use Rattle.trajdb.specs.Lasting.{HasBook}
 use Rattle.mftb.specs.Answers.{new_shape}
 use Rattle.mftb.proofs.AnswerLemmas.{created, more_known, the_same}
-use Rattle.mftb.proofs.start.database.Goals as goal
+use Rattle.mftb.proofs.session.database.Goals as goal
 
 pub returns-then-len-eq0-clause-new : goal.returns-then-len-eq0-clause-new
 returns-then-len-eq0-clause-new g c =
