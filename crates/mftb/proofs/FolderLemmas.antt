@@ -1,14 +1,13 @@
 -- What a run on a copy makes of a store's name.
-use Rattle.std.proofs.Common.{ℕ, ◌≡◌, refl, sym, subst, [], ◌∷◌, true, false, Bool, IsTrue, List, Option, Some, None, Result, Ok, Err}
+use Rattle.std.proofs.Common.{ℕ, ◌≡◌, refl, sym, subst, [], ◌∷◌, true, false, IsTrue, List, Option, Some, None, Result, Ok, Err}
 use Rattle.std.specs.Prelude.{is_ok, IfOk, IfSome, IsOk, OnOk}
-use Rattle.legs.specs.Book.{Book, empty_book}
+use Rattle.legs.specs.Book.{Book}
 use Rattle.legs.specs.Costs.{ShapeView}
-use Rattle.legs.specs.Limits.{limits_of, LimitsView}
+use Rattle.legs.specs.Limits.{LimitsView}
 use Rattle.pages.specs.Store.{Store}
-use Rattle.catalogue.specs.Holding.{HoldsBook}
 use Rattle.trajdb.specs.Db.{DbView, HasPages, IsSound}
 use Rattle.trajdb.specs.Lasting.{HasBook, IsIdle}
-use Rattle.mftb.specs.Answers.{new_shape, Answers}
+use Rattle.mftb.specs.Answers.{Answers}
 use Rattle.mftb.specs.Folder.{History, IsKept, RunsBeside, store_in}
 
 -- what a folder tells of a store's name is faithful

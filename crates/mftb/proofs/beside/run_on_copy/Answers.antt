@@ -1,5 +1,5 @@
-use Rattle.std.proofs.Common.{◌≡◌, refl, sym, subst, false, IsTrue, Some}
-use Rattle.std.specs.Prelude.{IfOk, IfSome, OnOk}
+use Rattle.std.proofs.Common.{◌≡◌, refl, sym, subst, false, IsTrue}
+use Rattle.std.specs.Prelude.{IfSome, OnOk}
 use Rattle.legs.specs.Book.{Book, empty_book}
 use Rattle.legs.specs.Costs.{ShapeView}
 use Rattle.legs.specs.Limits.{limits_of, LimitsView}
@@ -9,7 +9,7 @@ use Rattle.trajdb.specs.Db.{DbView}
 use Rattle.trajdb.specs.Lasting.{HasBook}
 use Rattle.trajdb.specs.Script.{lines_of}
 use Rattle.mftb.specs.Answers.{new_shape}
-use Rattle.mftb.specs.Folder.{History, IsKept, RunsBeside, store_in}
+use Rattle.mftb.specs.Folder.{IsKept, RunsBeside, store_in}
 use Rattle.mftb.proofs.FolderLemmas.{beside, each, only_if, tells, under}
 use Rattle.mftb.proofs.beside.run_on_copy.Goals as goal
 

@@ -1,4 +1,4 @@
-use Rattle.std.proofs.Common.{◌≡◌, ◌∙◌, ap, sym, subst, false, IsTrue, Some}
+use Rattle.std.proofs.Common.{◌≡◌, ◌∙◌, sym, subst, false, IsTrue, Some}
 use Rattle.std.specs.Prelude.{IfOk}
 use Rattle.boxsearch.specs.Index.{words}
 use Rattle.legs.specs.Book.{empty_book, Book}
