@@ -14,7 +14,7 @@ use Rattle.trajdb.specs.declared.OpenFault.TheVariants as opening
 use Rattle.trajdb.specs.declared.Report.{Report}
 use Rattle.trajdb.specs.declared.RunFault.TheVariants as run
 use Rattle.mftb.specs.declared.fault.Fault.{Fault}
-use Rattle.mftb.specs.declared.fault.Fault.TheVariants.{Run, Open, CannotRead, NotEmpty, NoPart}
+use Rattle.mftb.specs.declared.fault.Fault.TheVariants.{Run, Open, CannotRead, NotEmpty, NoPart, InUse}
 
 -- the shape of the tree of a new database
 abbrev pub new_shape : ShapeView
@@ -53,6 +53,7 @@ IsOverFault old after new left (Open fault) = IsMigratingFault old after new lef
 IsOverFault old after new left (CannotRead name) = ⊥
 IsOverFault old after new left NotEmpty = ⊥
 IsOverFault old after new left (NoPart part parts) = ⊥
+IsOverFault old after new left InUse = ⊥
 
 -- why a store of version 1 that holds a book is not brought over: memory ran out or the new store is full, which then
 -- has no page, or says that it is not finished, or has a page 0 alone, whose write failed; or a store failed, and where
@@ -74,3 +75,4 @@ IsNotOver new left (Open opening.Malformed) = ⊥
 IsNotOver new left (CannotRead name) = ⊥
 IsNotOver new left NotEmpty = ⊥
 IsNotOver new left (NoPart part parts) = ⊥
+IsNotOver new left InUse = ⊥

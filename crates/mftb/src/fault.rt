@@ -19,6 +19,8 @@ pub(crate) enum Fault<'a> {
     NotEmpty,
     /// There is no part of that number among so many.
     NoPart(u32, u32),
+    /// Another run holds the store.
+    InUse,
 }
 
 impl Fault<'_> {
@@ -73,6 +75,7 @@ impl Display for Fault<'_> {
             Fault::NoPart(part, parts) => {
                 write!(f, "no part {part} of {parts}: parts are numbered from 0")
             }
+            Fault::InUse => f.write_str("store in use"),
         }
     }
 }

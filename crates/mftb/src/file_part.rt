@@ -3,7 +3,7 @@ ghost use Rattle.std.specs.Prelude.{◌≡◌, ◌<◌, OnOk};
 ghost use Rattle.mftb.specs.Parts.{SendsPart};
 
 use crate::fault::Fault;
-use crate::start::{MOST_BYTES, read_named};
+use crate::reading::{MOST_BYTES, read_named};
 use crate::words::Part;
 use parts::part;
 use std::alloc::Global;

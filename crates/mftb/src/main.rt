@@ -2,9 +2,24 @@
 //! `mftb migrate OLD NEW`, `mftb part K N FILE`.
 #![tactic(auto)]
 
+mod answering;
+mod beside;
+mod check;
 mod fault;
 mod file_part;
+mod folder;
+mod held_file;
+mod locks;
+mod migrate;
+mod names;
+mod noted;
+mod opening;
+mod read_only;
+mod reading;
+mod run;
+mod session;
 mod start;
+mod system_folder;
 mod words;
 
 use start::start;

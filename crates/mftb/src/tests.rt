@@ -1,6 +1,8 @@
 //! The program over files that the tests write.
 use crate::fault::Fault;
-use crate::start::{MOST_BYTES, database, read_named, run_and_close, start};
+use crate::reading::{MOST_BYTES, read_named};
+use crate::session::{database, run_and_close};
+use crate::start::start;
 use crate::words::{Task, read_words};
 use pages::{Fuse, Kind, MemStore, Payload, seal};
 use std::alloc::Global;
@@ -88,25 +90,66 @@ fn a_second_run_meets_what_the_first_one_loaded(rt: HostRuntime) -> Result<(), F
     Ok(())
 }
 
-#[test]
-fn what_was_loaded_is_kept_where_the_output_fails(rt: HostRuntime) -> Result<(), Fail> {
-    fs::write(&rt, "S1.csv", STANDARD)?;
-    fs::write(&rt, "script.txt", SCRIPT)?;
-    fs::write(&rt, "count.txt", "count\n")?;
-    fs::write(&rt, "cut.mftb", "")?;
-    let words = owned(
-        rt.alloc(),
-        &["mftb", "run", "cut.mftb", "script.txt", "S1.csv"],
-    )?;
-    // There is room for the first line of the first answer.
+/// What the program says where its output takes the first line of the first answer alone.
+fn cut(rt: &HostRuntime, words: &[&str]) -> Result<bool, Fail> {
+    let words = owned(rt.alloc(), words)?;
     let mut room = [0u8; 5];
     let mut full = room.as_mut_slice();
     let mut faults = Vec::new(rt.alloc());
-    let status = start(&rt, &words, &mut full, &mut faults);
-    assert!(rt; status == 1 && faults.as_slice() == "mftb: output\n".as_bytes());
-    assert!(rt; room.as_slice() == "ok 1\n".as_bytes());
-    let (status, out, faults) = answer(&rt, &["mftb", "run", "cut.mftb", "count.txt"])?;
+    let status = start(rt, &words, &mut full, &mut faults);
+    let is_said = status == 1 && faults.as_slice() == "mftb: output\n".as_bytes();
+    Ok(is_said && room.as_slice() == "ok 1\n".as_bytes())
+}
+
+#[test]
+fn a_store_stays_where_the_output_fails(rt: HostRuntime) -> Result<(), Fail> {
+    fs::write(&rt, "S1.csv", STANDARD)?;
+    fs::write(&rt, "script.txt", SCRIPT)?;
+    fs::write(&rt, "cut.mftb", "")?;
+    assert!(rt; cut(&rt, &["mftb", "run", "cut.mftb", "script.txt", "S1.csv"])?);
+    assert!(rt; fs::read(&rt, "cut.mftb")?.is_empty());
+    assert!(rt; fs::read(&rt, "cut.mftb.mftb-copy").is_err());
+    assert!(rt; fs::read(&rt, "cut.mftb.mftb-lock").is_err());
+    Ok(())
+}
+
+#[test]
+fn what_was_loaded_in_place_is_kept_where_the_output_fails(rt: HostRuntime) -> Result<(), Fail> {
+    fs::write(&rt, "S1.csv", STANDARD)?;
+    fs::write(&rt, "script.txt", SCRIPT)?;
+    fs::write(&rt, "count.txt", "count\n")?;
+    fs::write(&rt, "kept.mftb", "")?;
+    let words = [
+        "mftb",
+        "run",
+        "--in-place",
+        "kept.mftb",
+        "script.txt",
+        "S1.csv",
+    ];
+    assert!(rt; cut(&rt, &words)?);
+    let (status, out, faults) = answer(&rt, &["mftb", "run", "kept.mftb", "count.txt"])?;
     assert!(rt; status == 0 && out.as_slice() == "ok 1\n5,3\n".as_bytes() && faults.is_empty());
+    Ok(())
+}
+
+#[test]
+fn a_store_is_in_use(rt: HostRuntime) -> Result<(), Fail> {
+    fs::write(&rt, "S1.csv", STANDARD)?;
+    fs::write(&rt, "again.txt", "load S1.csv\n")?;
+    fs::write(&rt, "held.mftb", "")?;
+    let held = fs::open(&rt, "held.mftb")?;
+    assert!(rt; held.try_lock().is_ok());
+    let line = "mftb: store in use\n";
+    assert!(rt;
+        fails(
+            &rt,
+            &["mftb", "run", "held.mftb", "again.txt", "S1.csv"],
+            line
+        )?
+    );
+    assert!(rt; fails(&rt, &["mftb", "check", "held.mftb"], line)?);
+    assert!(rt; fs::read(&rt, "held.mftb")?.is_empty());
     Ok(())
 }
 
@@ -334,6 +377,7 @@ fn each_fault_has_its_line(rt: HostRuntime) -> Result<(), Fail> {
         (Fault::Open(OpenFault::Malformed), "store malformed"),
         (Fault::CannotRead("a.csv"), "cannot read a.csv"),
         (Fault::NotEmpty, "new store not empty"),
+        (Fault::InUse, "store in use"),
     ];
     for (fault, line) in lines {
         let mut said = Vec::new(rt.alloc());

@@ -13,6 +13,8 @@ pub(crate) struct Run<'a> {
     pub(crate) script: &'a str,
     /// The names of the files that it may load.
     pub(crate) files: Vec<&'a str>,
+    /// Whether the store is written as it lies there.
+    pub(crate) in_place: bool,
 }
 
 /// What `mftb check` is asked to do.
@@ -92,7 +94,15 @@ fn run_command<'a>(alloc: Global) -> Result<Command<'a>, AllocError> {
                 .help("The files that the script may load, by these names")
                 .num_args(0..),
         )?
-        .arg(cache_pages(alloc))
+        .arg(cache_pages(alloc))?
+        .arg(
+            Arg::new(alloc, "in-place")
+                .long("in-place")
+                .help(
+                    "Load into the file itself and not into a copy: what is killed then loses the store",
+                )
+                .action(ArgAction::SetTrue),
+        )
 }
 
 /// The words of `mftb check`.
@@ -161,6 +171,7 @@ fn run_of<'a>(alloc: Global, matches: &ArgMatches<'a>) -> Result<Run<'a>, Error>
         cache_pages: cache_pages_of(matches),
         script: matches.get_str("SCRIPT").unwrap_or(""),
         files,
+        in_place: matches.get_flag("in-place"),
     })
 }
 
@@ -187,6 +198,7 @@ pub(crate) fn read_words<'a>(alloc: Global, words: &'a [String]) -> Result<Task<
             cache_pages: CACHE_PAGES,
             script: "",
             files: Vec::new(alloc),
+            in_place: false,
         })),
     }
 }

@@ -1,10 +1,10 @@
-use Rattle.std.proofs.Common.{◌≡◌, subst}
+use Rattle.std.proofs.Common.{subst}
 use Rattle.std.specs.Prelude.{OnOk}
 use Rattle.catalogue.specs.Holding.{HoldsBook}
 use Rattle.trajdb.specs.Db.{HasPages, IsSound}
 use Rattle.trajdb.specs.Lasting.{IsIdle}
 use Rattle.mftb.proofs.AnswerLemmas.{checks, keeps}
-use Rattle.mftb.proofs.start.check_and_close.Goals as goal
+use Rattle.mftb.proofs.check.check_and_close.Goals as goal
 
 pub returns-in-Ok-closed-clause-checks : goal.returns-in-Ok-closed-clause-checks
 returns-in-Ok-closed-clause-checks g c =

@@ -5,10 +5,10 @@ use Rattle.trajdb.specs.Lasting.{IsIdle}
 use Rattle.trajdb.specs.Script.{lines_of}
 use Rattle.mftb.specs.Answers.{Answers}
 use Rattle.mftb.proofs.AnswerLemmas.{given}
-use Rattle.mftb.proofs.start.answer.Goals as goal
+use Rattle.mftb.proofs.session.answer.Goals as goal
 
-pub returns-in-Ok : goal.returns-in-Ok
-returns-in-Ok g c =
+pub returns-in-Ok-clause-runs : goal.returns-in-Ok-clause-runs
+returns-in-Ok-clause-runs g c =
     let s = g.S.PageStore.seen c.run_and_close-store.result.0 in
     let db = c.in-Ok.database in
     subst (λ k. OnOk c.answer_of.result (IfOk k (λ (d : DbView). IsSound d → HasPages d → IsIdle d → Answers d.index.tree.shape d.limits d.book c.args.files.now (g.W.Write.contents c.args.out.now) (g.W.Write.contents c.run_and_close-store.new.out) (lines_of c.args.script.now) s))) (sym c.in-Ok.is)

@@ -6,7 +6,7 @@ use Rattle.trajdb.specs.Db.{HasPages, IsSound}
 use Rattle.trajdb.specs.Database.{catalogue_of}
 use Rattle.trajdb.specs.Lasting.{IsClosingFault, IsFaultless}
 use Rattle.mftb.proofs.AnswerLemmas.{closed_book, closing_fault, err_of, over_open, over_run}
-use Rattle.mftb.proofs.start.migrate_and_close.Goals as goal
+use Rattle.mftb.proofs.migrate.migrate_and_close.Goals as goal
 
 pub returns-in-Ok-closed-clause-holds : goal.returns-in-Ok-closed-clause-holds
 returns-in-Ok-closed-clause-holds g c = λ fa fb shape limits book h.

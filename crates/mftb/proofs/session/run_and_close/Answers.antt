@@ -1,6 +1,6 @@
 use Rattle.trajdb.specs.Script.{lines_of}
 use Rattle.mftb.proofs.AnswerLemmas.{answered}
-use Rattle.mftb.proofs.start.run_and_close.Goals as goal
+use Rattle.mftb.proofs.session.run_and_close.Goals as goal
 
 pub returns-in-Ok : goal.returns-in-Ok
 returns-in-Ok g c =

@@ -1,4 +1,4 @@
-use Rattle.std.proofs.Common.{◌≡◌, ◌∙◌, ap, sym, subst, false, IsTrue, Some}
+use Rattle.std.proofs.Common.{◌≡◌, ◌∙◌, sym, subst, false, IsTrue, Some}
 use Rattle.std.specs.Prelude.{IfOk}
 use Rattle.boxsearch.specs.Index.{words}
 use Rattle.legs.specs.Book.{empty_book, Book}
@@ -9,7 +9,7 @@ use Rattle.trajdb.specs.Db.{DbView}
 use Rattle.trajdb.specs.Lasting.{HasBook}
 use Rattle.mftb.specs.Answers.{new_shape}
 use Rattle.mftb.proofs.AnswerLemmas.{created, more_known, the_same}
-use Rattle.mftb.proofs.start.database.Goals as goal
+use Rattle.mftb.proofs.session.database.Goals as goal
 
 pub returns-then-len-eq0-clause-new : goal.returns-then-len-eq0-clause-new
 returns-then-len-eq0-clause-new g c =

@@ -1,0 +1,56 @@
+-- What a run on a copy makes of a store's name.
+use Rattle.std.proofs.Common.{ℕ, ◌≡◌, refl, sym, subst, [], ◌∷◌, true, false, IsTrue, List, Option, Some, None, Result, Ok, Err}
+use Rattle.std.specs.Prelude.{is_ok, IfOk, IfSome, IsOk, OnOk}
+use Rattle.legs.specs.Book.{Book}
+use Rattle.legs.specs.Costs.{ShapeView}
+use Rattle.legs.specs.Limits.{LimitsView}
+use Rattle.pages.specs.Store.{Store}
+use Rattle.trajdb.specs.Db.{DbView, HasPages, IsSound}
+use Rattle.trajdb.specs.Lasting.{HasBook, IsIdle}
+use Rattle.mftb.specs.Answers.{Answers}
+use Rattle.mftb.specs.Folder.{History, IsKept, RunsBeside, store_in}
+
+-- what a folder tells of a store's name is faithful
+pub tells : (past : History) → IsTrue (store_in past).is_faithful
+tells [] = refl
+tells (None ∷ past) = refl
+tells (Some bytes ∷ past) = refl
+
+-- a database that is opened with a book over the copy, and answers; the copy is then kept
+module _ {E F G : Type 0} (opened : Result DbView E) (ran : Result (Unit {0}) F) (kept : Result (Unit {0}) G) (files : List (List ℕ × List ℕ)) (sent sent' : Option (List ℕ)) (lines : List (List ℕ)) (first last : Store) (was is : Option History)
+    (pages : IfOk opened (λ db. IsTrue first.is_faithful → HasPages db)) (idle : IfOk opened (λ db. IsTrue first.is_faithful → IsIdle db)) (ok : OnOk ran (IsOk opened)) (done : ran ≡ Ok tt)
+    (answers : OnOk ran (IfOk opened (λ db. IsSound db → HasPages db → IsIdle db → Answers db.index.tree.shape db.limits db.book files sent sent' lines last)))
+    (keeps : OnOk kept (IsKept last was is)) where
+  pub beside : (o : Result DbView E) → o ≡ opened → (k : Result (Unit {0}) G) → k ≡ kept → (shape : ShapeView) (limits : LimitsView) (book : Book) → IsTrue first.is_faithful → IfOk opened (HasBook shape limits book) → OnOk kept (RunsBeside shape limits book files sent sent' lines was is)
+  beside o e (Err f) k shape limits book faithful has = subst (λ r. OnOk r (RunsBeside shape limits book files sent sent' lines was is)) k tt
+  beside (Err f) e (Ok x) k shape limits book faithful has =
+      let wrong : false ≡ true = subst (λ r. is_ok r ≡ true) (sym e) (subst (λ r. OnOk r (IsOk opened)) done ok) in absurd cc
+  beside (Ok db) e (Ok x) k shape limits book faithful has =
+      let h = subst (λ r. IfOk r (HasBook shape limits book)) (sym e) has in
+      let p = subst (λ r. IfOk r (λ d. IsTrue first.is_faithful → HasPages d)) (sym e) pages in
+      let i = subst (λ r. IfOk r (λ d. IsTrue first.is_faithful → IsIdle d)) (sym e) idle in
+      let a = subst (λ r. IfOk r (λ d. IsSound d → HasPages d → IsIdle d → Answers d.index.tree.shape d.limits d.book files sent sent' lines last)) (sym e)
+      (subst (λ r. OnOk r (IfOk opened (λ d. IsSound d → HasPages d → IsIdle d → Answers d.index.tree.shape d.limits d.book files sent sent' lines last))) done answers) in
+      subst (λ r. OnOk r (RunsBeside shape limits book files sent sent' lines was is)) k (record {
+        store = last;
+        answers = subst (λ b. Answers shape limits b files sent sent' lines last) h.book_is
+            (subst (λ l. Answers shape l db.book files sent sent' lines last) h.limits_are
+            (subst (λ t. Answers t db.limits db.book files sent sent' lines last) h.shape_is (a h.sound (p faithful) (i faithful))));
+        kept = subst (λ r. OnOk r (IsKept last was is)) (sym k) keeps;
+      })
+
+-- a result that is given only where a fact holds has it
+pub under : {G : Type 0} (kept : Result (Unit {0}) G) (was : Option History) (P : History → Type 0) → ((past : History) → was ≡ Some past → OnOk kept (P past)) → OnOk kept (IfSome was P)
+under (Err e) was P f = tt
+under (Ok x) None P f = tt
+under (Ok x) (Some past) P f = f past refl
+
+-- what is said under premises is said of each answer
+pub each : {G : Type 0} {A : Type 0} (kept : Result (Unit {0}) G) (P : A → Type 0) → ((a : A) → OnOk kept (P a)) → OnOk kept ((a : A) → P a)
+each (Err e) P f = tt
+each (Ok x) P f = f
+
+-- what a database is under premises
+pub only_if : {T E : Type 0} (P Q : T → Type 0) (r : Result T E) → ((x : T) → P x → Q x) → IfOk r P → IfOk r Q
+only_if P Q (Ok x) f h = f x h
+only_if P Q (Err e) f h = tt

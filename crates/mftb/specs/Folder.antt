@@ -1,0 +1,51 @@
+-- What the name of a store stands for, from moment to moment, and what a run makes of it.
+use Rattle.std.specs.Prelude.{ℕ, ◌≡◌, ◌⊎◌, List, [], ◌∷◌, Option, Some, None, ⊤}
+use Rattle.legs.specs.Book.{Book}
+use Rattle.legs.specs.Costs.{ShapeView}
+use Rattle.legs.specs.Limits.{LimitsView}
+use Rattle.pages.specs.Store.{Store}
+use Rattle.pages.specs.Bytes.{whole_pages}
+use Rattle.mftb.specs.Answers.{Answers}
+
+-- the bytes of the file of that name at each moment so far, the last one first; `None` where there was no file
+abbrev pub History : Type 0
+History = List (Option (List ℕ))
+
+-- the store of what the name stands for now: one without a page where there is no file
+abbrev pub store_in : History → Store
+store_in [] = whole_pages []
+store_in (None ∷ past) = whole_pages []
+store_in (Some bytes ∷ past) = whole_pages bytes
+
+-- a store has the same pages as another one
+abbrev pub HasPagesOf : Store → Store → Type 0
+HasPagesOf store other = record store { faults = 0 } ≡ other
+
+-- a store has the pages of what the name stands for, where a folder tells it
+abbrev pub HasPagesHeld : Store → Option History → Type 0
+HasPagesHeld store (Some past) = HasPagesOf store (store_in past)
+HasPagesHeld store None = ⊤
+
+-- the name stands for a file of these pages now, and did at each moment before for what it stood for then: nothing came
+-- between
+pub record IsNext (store : Store) (old new : History) : Type 0 where
+  pub bytes : List ℕ
+  pub pages : HasPagesOf store (whole_pages bytes)
+  pub next : new ≡ Some bytes ∷ old
+
+-- that, where a folder tells it
+abbrev pub IsReplaced : Store → Option History → Option History → Type 0
+IsReplaced store (Some old) (Some new) = IsNext store old new
+IsReplaced store (Some old) None = ⊥
+IsReplaced store None (Some new) = ⊥
+IsReplaced store None None = ⊤
+
+-- the name stands for a file of these pages now: nothing came between, or nothing has changed
+abbrev pub IsKept : Store → Option History → Option History → Type 0
+IsKept store old new = IsReplaced store old new ⊎ ((new ≡ old) × HasPagesHeld store old)
+
+-- the store of a run over a book that is answered, and of which nothing else than its pages takes the name
+pub record RunsBeside (shape : ShapeView) (limits : LimitsView) (book : Book) (files : List (List ℕ × List ℕ)) (sent sent' : Option (List ℕ)) (lines : List (List ℕ)) (old new : Option History) : Type 0 where
+  pub store : Store
+  pub answers : Answers shape limits book files sent sent' lines store
+  pub kept : IsKept store old new

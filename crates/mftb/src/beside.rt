@@ -1,0 +1,93 @@
+//! A run that works on a copy beside the store.
+ghost use Rattle.std.specs.Prelude.{◌≡◌, ◌<◌, IfSome, IsTrue, OnErr, OnOk, false};
+ghost use Rattle.legs.specs.Book.{Book, empty_book};
+ghost use Rattle.legs.specs.Costs.{ShapeView};
+ghost use Rattle.legs.specs.Limits.{limits_of, LimitsView};
+ghost use Rattle.catalogue.specs.Holding.{HoldsBook};
+ghost use Rattle.trajdb.specs.Script.{lines_of};
+ghost use Rattle.mftb.specs.Answers.{new_shape};
+ghost use Rattle.mftb.specs.Folder.{IsKept, RunsBeside, store_in};
+
+use crate::fault::Fault;
+use crate::folder::Folder;
+use crate::session::{answer, database};
+use std::alloc::Global;
+use std::hash::RandomState;
+use std::io::Write;
+use trajdb::Files;
+
+/// How the database of a store is made or opened.
+#[derive(Clone, Copy)]
+pub(crate) struct Opening {
+    pub(crate) alloc: Global,
+    pub(crate) keys: RandomState,
+    /// Whether it is made where the store has no page.
+    pub(crate) is_new: bool,
+    /// How many pages its cache holds at most.
+    pub(crate) cache_pages: u32,
+}
+
+/// Gives the store's name to a copy, where a page of it was written, and takes it away otherwise.
+fn keep<'a, F: Folder>(folder: &mut F, store: F::Store) -> Result<(), Fault<'a>>
+    ensures kept { OnOk result (IsKept (F.Store.PageStore.seen store) (F.held folder.old)
+        (F.held folder.new)) }
+    ensures stays { OnErr result (F.held folder.new ≡ F.held folder.old) }
+{
+    if !folder.differs(&store) {
+        folder.discard();
+        return Ok(());
+    }
+    match folder.replace(store) {
+        Ok(()) => Ok(()),
+        Err(fault) => {
+            folder.discard();
+            Err(fault)
+        }
+    }
+}
+
+/// Runs a script over a copy of the store, which then takes the store's name. Where the run is not
+/// brought to its end, the store stays as it is.
+pub(crate) fn run_on_copy<'a, F: Folder, W: Write>(
+    folder: &mut F,
+    how: Opening,
+    script: &[u8],
+    files: &Files,
+    out: &mut W,
+) -> Result<(), Fault<'a>>
+    requires { 0 < how.cache_pages }
+
+    // What was sent is exactly the text of the run over the book that the store held, or the empty one
+    // where it is made; the store's name stood for what it stood for until, at one moment, it was given
+    // to a file that holds the book after it.
+    ensures runs { OnOk result (IfSome (F.held folder.old) (λ past. how.is_new ≡ false
+        → (shape : ShapeView) (limits : LimitsView) (book : Book)
+        → HoldsBook (store_in past) shape limits book
+        → RunsBeside shape limits book files.now (W.contents out.old) (W.contents out.new)
+        (lines_of script.now) (F.held folder.old) (F.held folder.new))) }
+    ensures new { OnOk result (IfSome (F.held folder.old) (λ past. IsTrue how.is_new
+        → (store_in past).count ≡ 0
+        → RunsBeside new_shape (limits_of 16777216 1048576) empty_book files.now
+        (W.contents out.old) (W.contents out.new) (lines_of script.now)
+        (F.held folder.old) (F.held folder.new))) }
+
+    // Where it is refused the name stands for what it stood for, all along.
+    ensures stays { OnErr result (F.held folder.new ≡ F.held folder.old) }
+{
+    let store = match folder.copy() {
+        Ok(store) => store,
+        Err(fault) => {
+            folder.discard();
+            return Err(fault);
+        }
+    };
+    let database = database(how.alloc, how.keys, store, how.is_new, how.cache_pages);
+    let (store, answered) = answer(how.alloc, database, script, files, out);
+    match answered {
+        Ok(()) => keep(folder, store),
+        Err(fault) => {
+            folder.discard();
+            Err(fault)
+        }
+    }
+}

@@ -1,0 +1,64 @@
+//! What a run reads before it opens a store.
+use crate::fault::Fault;
+use querylang::{Command, LineFault, parse_line};
+use std::alloc::Global;
+use std::fs::File;
+use std::io::Read;
+use std::{io, rt};
+use trajdb::{Files, RunFault};
+
+/// The most bytes that a script or a file may have.
+pub(crate) const MOST_BYTES: u64 = 1 << 30;
+
+/// The bytes of the file of that name, which has no more than so many.
+pub(crate) fn read_named<'a, R: rt::Files + AllocGlobal>(
+    rt: &R,
+    name: &'a str,
+    most: u64,
+) -> Result<Vec<u8>, Fault<'a>> {
+    let fault = |error: io::Error| match error.kind() {
+        io::ErrorKind::OutOfMemory => Fault::Run(RunFault::Memory),
+        _ => Fault::CannotRead(name),
+    };
+    let file = File::open(rt, name).map_err(fault)?;
+    let mut bytes = Vec::new(rt.alloc());
+    file.take(most.saturating_add(1))
+        .read_to_end(&mut bytes)
+        .map_err(fault)?;
+    if bytes.len() as u64 > most {
+        return Err(Fault::CannotRead(name));
+    }
+    Ok(bytes)
+}
+
+/// The files of those names.
+pub(crate) fn read_files<'a, R: rt::Files + AllocGlobal>(
+    rt: &R,
+    names: &[&'a str],
+) -> Result<Files, Fault<'a>> {
+    let mut files = Files::new(rt.alloc());
+    for name in names {
+        files.add(name, read_named(rt, name, MOST_BYTES)?)?;
+    }
+    Ok(files)
+}
+
+/// Whether a line of a script is a `load`.
+fn is_load(alloc: Global, line: &[u8]) -> Result<bool, RunFault> {
+    match parse_line(alloc, line) {
+        Ok(Some(Command::Load(_))) => Ok(true),
+        Ok(_) | Err(LineFault::Refused(_)) => Ok(false),
+        Err(LineFault::Memory) => Err(RunFault::Memory),
+    }
+}
+
+/// Whether some line of a script is a `load`. A CR at a line's end, which a run drops, makes no
+/// other command a `load`.
+pub(crate) fn has_load(alloc: Global, script: &[u8]) -> Result<bool, RunFault> {
+    for line in script.split(|c| *c == b'\n') {
+        if is_load(alloc, line)? {
+            return Ok(true);
+        }
+    }
+    Ok(false)
+}

@@ -1,0 +1,121 @@
+//! `mftb run`: a script over the database that a file keeps.
+ghost use Rattle.std.specs.Prelude.{◌<◌};
+
+use crate::beside::{Opening, run_on_copy};
+use crate::fault::Fault;
+use crate::locks::hold_name;
+use crate::names::Names;
+use crate::opening::{is_absent, is_special, open_asked, open_in_place, sweep};
+use crate::reading::{MOST_BYTES, has_load, read_files, read_named};
+use crate::session::{answer, database};
+use crate::system_folder::SystemFolder;
+use crate::words::Run;
+use pages::PageStore;
+use std::fs::File;
+use std::hash::RandomState;
+use std::io::Write;
+use std::random::RandomSource;
+use std::{fs, rt};
+use trajdb::{Files, RunFault};
+
+/// Runs a script over a store as it lies there.
+fn run_over<'a, S: PageStore + Drop, W: Write>(
+    store: S,
+    how: Opening,
+    script: &[u8],
+    files: &Files,
+    out: &mut W,
+) -> Result<(), Fault<'a>>
+    requires { 0 < how.cache_pages }
+{
+    let opened = database(how.alloc, how.keys, store, how.is_new, how.cache_pages);
+    let (_store, result) = answer(how.alloc, opened, script, files, out);
+    result
+}
+
+/// Runs a script that only asks over a store that is there. It is opened to be read alone.
+fn ask<'a, R: rt::Files<File = File>, W: Write>(
+    rt: &R,
+    names: &Names,
+    how: Opening,
+    script: &[u8],
+    files: &Files,
+    out: &mut W,
+) -> Result<(), Fault<'a>>
+    requires { 0 < how.cache_pages }
+{
+    sweep(rt, names);
+    run_over(open_asked(rt, names)?, how, script, files, out)
+}
+
+/// Runs a script that may write over the store as it lies there. Where the folder may not be written,
+/// the lock of the store's file alone keeps others out.
+fn run_in_place<'a, R: rt::Files<File = File>, W: Write>(
+    rt: &R,
+    names: &Names,
+    how: Opening,
+    script: &[u8],
+    files: &Files,
+    out: &mut W,
+) -> Result<(), Fault<'a>>
+    requires { 0 < how.cache_pages }
+{
+    let lock = match hold_name(rt, names.lock.as_str()) {
+        Err(Fault::InUse) => return Err(Fault::InUse),
+        held => held.ok(),
+    };
+    let result = match open_in_place(rt, names) {
+        Ok(store) => run_over(store, how, script, files, out),
+        Err(fault) => Err(fault),
+    };
+    if lock.is_some() {
+        let _ = fs::remove_file(rt, names.copy.as_str());
+        let _ = fs::remove_file(rt, names.lock.as_str());
+    }
+    result
+}
+
+/// Runs a script that may write over a copy of the store.
+fn run_beside<'a, R: rt::Files<File = File>, W: Write>(
+    rt: &R,
+    names: &Names,
+    how: Opening,
+    script: &[u8],
+    files: &Files,
+    out: &mut W,
+) -> Result<(), Fault<'a>>
+    requires { 0 < how.cache_pages }
+{
+    let mut folder = SystemFolder::take(rt, names)?;
+    let result = run_on_copy(&mut folder, how, script, files, out);
+    folder.give_back();
+    result
+}
+
+/// Reads all that is named, opens the store, and then runs the script.
+pub(crate) fn run<'a, R: rt::Files<File = File> + AllocGlobal + RandomSource, W: Write>(
+    rt: &R,
+    run: &Run<'a>,
+    out: &mut W,
+) -> Result<(), Fault<'a>> {
+    let alloc = rt.alloc();
+    let script = read_named(rt, run.script, MOST_BYTES)?;
+    let files = read_files(rt, &run.files)?;
+    let Ok(keys) = RandomState::new(rt) else {
+        return Err(Fault::Run(RunFault::Memory));
+    };
+    let names = Names::new(rt, run.store)?;
+    let how = Opening {
+        alloc,
+        keys,
+        is_new: is_absent(rt, names.store.as_str()),
+        cache_pages: run.cache_pages.max(1),
+    };
+    if !how.is_new && !has_load(alloc, &script)? {
+        ask(rt, &names, how, &script, &files, out)
+    } else if run.in_place || is_special(rt, names.store.as_str()) {
+        run_in_place(rt, &names, how, &script, &files, out)
+    } else {
+        run_beside(rt, &names, how, &script, &files, out)
+    }
+}
