@@ -8,12 +8,14 @@ mod check;
 mod fault;
 mod file_part;
 mod folder;
+mod followed;
 mod held_file;
 mod locks;
 mod migrate;
 mod names;
 mod noted;
 mod opening;
+mod progress;
 mod read_only;
 mod reading;
 mod run;
@@ -23,7 +25,7 @@ mod system_folder;
 mod words;
 
 use start::start;
-use std::io::{ErrorKind, Write};
+use std::io::{ErrorKind, IsTerminal, Write};
 use std::process::ExitCode;
 use std::{env, io};
 
@@ -38,8 +40,15 @@ fn command_line(rt: &HostRuntime) -> io::Result<Vec<String>> {
 
 fn main(rt: HostRuntime) -> ExitCode {
     let mut faults = rt.stderr();
+    let is_terminal = faults.is_terminal();
     match command_line(&rt) {
-        Ok(words) => ExitCode::from(start(&rt, &words, &mut io::writer(&rt), &mut faults)),
+        Ok(words) => ExitCode::from(start(
+            &rt,
+            &words,
+            &mut io::writer(&rt),
+            &mut faults,
+            is_terminal,
+        )),
         Err(error) if error.kind() == ErrorKind::OutOfMemory => {
             let _ = writeln!(faults, "mftb: memory");
             ExitCode::from(1)

@@ -1,22 +1,28 @@
 //! A store that knows whether it was written.
 ghost use Rattle.std.specs.Prelude.{◌≡◌};
 
+use crate::progress::Progress;
 use pages::{PageStore, StoreFault};
+use std::io::Eprint;
+use std::rt::Clock;
 
-/// A store over another one that knows whether a page was to be written.
+/// A store over another one that knows whether a page was to be written, and tells of each page that is
+/// read or written.
 #[derive(Drop)]
-pub(crate) struct Noted<S> {
+pub(crate) struct Noted<'a, 'b, S, R: Clock + Eprint> {
     store: S,
+    progress: &'a Progress<'b, R>,
     is_written: bool,
 }
 
-impl<S: PageStore> Noted<S> {
+impl<'a, 'b, S: PageStore, R: Clock + Eprint> Noted<'a, 'b, S, R> {
     /// The store over that one, of which nothing was written.
-    pub(crate) fn new(store: S) -> Noted<S>
-        ensures { ⟦<Noted<S> as PageStore>⟧.seen result ≡ S.seen store }
+    pub(crate) fn new(store: S, progress: &'a Progress<'b, R>) -> Noted<'a, 'b, S, R>
+        ensures { ⟦<Noted<'a, 'b, S, R> as PageStore>⟧.seen result ≡ S.seen store }
     {
         Noted {
             store,
+            progress,
             is_written: false,
         }
     }
@@ -27,7 +33,7 @@ impl<S: PageStore> Noted<S> {
     }
 }
 
-impl<S: PageStore> PageStore for Noted<S> {
+impl<'a, 'b, S: PageStore, R: Clock + Eprint> PageStore for Noted<'a, 'b, S, R> {
     ghost seen = { λ s. S.seen s.store };
 
     ghost lawful = { λ s. S.lawful s.store };
@@ -41,11 +47,13 @@ impl<S: PageStore> PageStore for Noted<S> {
     }
 
     fn read(&mut self, number: u32, page: &mut [u8; 4096]) -> Result<(), StoreFault> {
+        self.progress.page();
         self.store.read(number, page)
     }
 
     fn write(&mut self, number: u32, page: &[u8; 4096]) -> Result<(), StoreFault> {
         self.is_written = true;
+        self.progress.page();
         self.store.write(number, page)
     }
 

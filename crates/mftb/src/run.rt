@@ -3,9 +3,12 @@ ghost use Rattle.std.specs.Prelude.{◌<◌};
 
 use crate::beside::{Opening, run_on_copy};
 use crate::fault::Fault;
+use crate::followed::Followed;
 use crate::locks::hold_name;
 use crate::names::Names;
+use crate::noted::Noted;
 use crate::opening::{is_absent, is_special, open_asked, open_in_place, sweep};
+use crate::progress::{Progress, Told};
 use crate::reading::{MOST_BYTES, has_load, read_files, read_named};
 use crate::session::{answer, database};
 use crate::system_folder::SystemFolder;
@@ -13,7 +16,7 @@ use crate::words::Run;
 use pages::PageStore;
 use std::fs::File;
 use std::hash::RandomState;
-use std::io::Write;
+use std::io::{Eprint, Write};
 use std::random::RandomSource;
 use std::{fs, rt};
 use trajdb::{Files, RunFault};
@@ -34,9 +37,10 @@ fn run_over<'a, S: PageStore + Drop, W: Write>(
 }
 
 /// Runs a script that only asks over a store that is there. It is opened to be read alone.
-fn ask<'a, R: rt::Files<File = File>, W: Write>(
+fn ask<'a, R: rt::Files<File = File> + rt::Clock + Eprint, W: Write>(
     rt: &R,
     names: &Names,
+    progress: &Progress<'_, R>,
     how: Opening,
     script: &[u8],
     files: &Files,
@@ -45,14 +49,21 @@ fn ask<'a, R: rt::Files<File = File>, W: Write>(
     requires { 0 < how.cache_pages }
 {
     sweep(rt, names);
-    run_over(open_asked(rt, names)?, how, script, files, out)
+    run_over(
+        Noted::new(open_asked(rt, names)?, progress),
+        how,
+        script,
+        files,
+        out,
+    )
 }
 
 /// Runs a script that may write over the store as it lies there. Where the folder may not be written,
 /// the lock of the store's file alone keeps others out.
-fn run_in_place<'a, R: rt::Files<File = File>, W: Write>(
+fn run_in_place<'a, R: rt::Files<File = File> + rt::Clock + Eprint, W: Write>(
     rt: &R,
     names: &Names,
+    progress: &Progress<'_, R>,
     how: Opening,
     script: &[u8],
     files: &Files,
@@ -65,7 +76,7 @@ fn run_in_place<'a, R: rt::Files<File = File>, W: Write>(
         held => held.ok(),
     };
     let result = match open_in_place(rt, names) {
-        Ok(store) => run_over(store, how, script, files, out),
+        Ok(store) => run_over(Noted::new(store, progress), how, script, files, out),
         Err(fault) => Err(fault),
     };
     if lock.is_some() {
@@ -76,9 +87,10 @@ fn run_in_place<'a, R: rt::Files<File = File>, W: Write>(
 }
 
 /// Runs a script that may write over a copy of the store.
-fn run_beside<'a, R: rt::Files<File = File>, W: Write>(
+fn run_beside<'a, R: rt::Files<File = File> + rt::Clock + Eprint, W: Write>(
     rt: &R,
     names: &Names,
+    progress: &Progress<'_, R>,
     how: Opening,
     script: &[u8],
     files: &Files,
@@ -86,18 +98,18 @@ fn run_beside<'a, R: rt::Files<File = File>, W: Write>(
 ) -> Result<(), Fault<'a>>
     requires { 0 < how.cache_pages }
 {
-    let mut folder = SystemFolder::take(rt, names)?;
+    let mut folder = SystemFolder::take(rt, names, progress)?;
     let result = run_on_copy(&mut folder, how, script, files, out);
     folder.give_back();
     result
 }
 
 /// Reads all that is named, opens the store, and then runs the script.
-pub(crate) fn run<'a, R: rt::Files<File = File> + AllocGlobal + RandomSource, W: Write>(
-    rt: &R,
-    run: &Run<'a>,
-    out: &mut W,
-) -> Result<(), Fault<'a>> {
+pub(crate) fn run<
+    'a,
+    R: rt::Files<File = File> + rt::Clock + Eprint + AllocGlobal + RandomSource,
+    W: Write,
+>(rt: &R, run: &Run<'a>, out: &mut W, is_terminal: bool) -> Result<(), Fault<'a>> {
     let alloc = rt.alloc();
     let script = read_named(rt, run.script, MOST_BYTES)?;
     let files = read_files(rt, &run.files)?;
@@ -111,11 +123,15 @@ pub(crate) fn run<'a, R: rt::Files<File = File> + AllocGlobal + RandomSource, W:
         is_new: is_absent(rt, names.store.as_str()),
         cache_pages: run.cache_pages.max(1),
     };
-    if !how.is_new && !has_load(alloc, &script)? {
-        ask(rt, &names, how, &script, &files, out)
+    let progress = Progress::new(rt, Told::new(run.progress, is_terminal), &script);
+    let out = &mut Followed::new(out, &progress);
+    let result = if !how.is_new && !has_load(alloc, &script)? {
+        ask(rt, &names, &progress, how, &script, &files, out)
     } else if run.in_place || is_special(rt, names.store.as_str()) {
-        run_in_place(rt, &names, how, &script, &files, out)
+        run_in_place(rt, &names, &progress, how, &script, &files, out)
     } else {
-        run_beside(rt, &names, how, &script, &files, out)
-    }
+        run_beside(rt, &names, &progress, how, &script, &files, out)
+    };
+    progress.clear();
+    result
 }

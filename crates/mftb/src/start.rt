@@ -9,18 +9,18 @@ use crate::run::run;
 use crate::words::{Task, read_words};
 use clap::error::ErrorKind;
 use std::fs::File;
-use std::io::Write;
+use std::io::{Eprint, Write};
 use std::random::RandomSource;
 use std::rt;
 
 /// Does what the program is asked to do.
-fn perform<'a, R: rt::Files<File = File> + AllocGlobal + RandomSource, W: Write>(
-    rt: &R,
-    task: &Task<'a>,
-    out: &mut W,
-) -> Result<(), Fault<'a>> {
+fn perform<
+    'a,
+    R: rt::Files<File = File> + rt::Clock + Eprint + AllocGlobal + RandomSource,
+    W: Write,
+>(rt: &R, task: &Task<'a>, out: &mut W, is_terminal: bool) -> Result<(), Fault<'a>> {
     match task {
-        Task::Run(task) => run(rt, task, out),
+        Task::Run(task) => run(rt, task, out, is_terminal),
         Task::Check(task) => check(rt, task, out),
         Task::Migrate(task) => migrate(rt, task, out),
         Task::Part(task) => print_part(rt, task, out),
@@ -30,12 +30,12 @@ fn perform<'a, R: rt::Files<File = File> + AllocGlobal + RandomSource, W: Write>
 /// Runs the program, and answers its exit status: 0, or 2 for wrong words, or 1 for any other fault.
 ///
 /// `words` has the program's name first. Answers and help go to `out`, faults to `faults`.
-pub fn start<R: rt::Files<File = File> + AllocGlobal + RandomSource, W: Write, V: Write>(
-    rt: &R,
-    words: &[String],
-    out: &mut W,
-    faults: &mut V,
-) -> u8
+/// What a long run is doing is said on standard error, which may be a terminal.
+pub fn start<
+    R: rt::Files<File = File> + rt::Clock + Eprint + AllocGlobal + RandomSource,
+    W: Write,
+    V: Write,
+>(rt: &R, words: &[String], out: &mut W, faults: &mut V, is_terminal: bool) -> u8
     ensures status { result ≤ 2 }
 {
     let words = match read_words(rt.alloc(), words) {
@@ -53,7 +53,7 @@ pub fn start<R: rt::Files<File = File> + AllocGlobal + RandomSource, W: Write, V
             return 0;
         }
     };
-    match perform(rt, &words, out) {
+    match perform(rt, &words, out, is_terminal) {
         Ok(()) => 0,
         Err(fault) => {
             let _ = writeln!(faults, "mftb: {fault}");

@@ -7,10 +7,12 @@ use crate::held_file::HeldFile;
 use crate::locks::{Hold, hold_name, open_held};
 use crate::names::Names;
 use crate::noted::Noted;
+use crate::progress::Progress;
 use pages::{FileStore, PageStore};
 use std::fs::{File, Metadata};
+use std::io::Eprint;
 use std::os::unix::fs::{MetadataExt, OpenOptionsExt, chown};
-use std::rt::Files;
+use std::rt::{Clock, Files};
 use std::{fs, io};
 use trajdb::RunFault;
 
@@ -23,9 +25,10 @@ const NEW_MODE: u32 = 0o666;
 /// The folder of a store's file. A run that has it holds the store alone among runs that may write,
 /// and shares it with those that ask. No contract says what the folder holds.
 #[derive(Drop)]
-pub(crate) struct SystemFolder<'a, R: Files<File = File>> {
+pub(crate) struct SystemFolder<'a, 'p, R: Files<File = File> + Clock + Eprint> {
     rt: &'a R,
     names: &'a Names,
+    progress: &'a Progress<'p, R>,
     /// The store's file, where there is one.
     store: Option<File>,
     /// The file whose lock is held.
@@ -78,9 +81,13 @@ fn make_copy<R: Files<File = File>>(
     Ok(copy)
 }
 
-impl<'a, R: Files<File = File>> SystemFolder<'a, R> {
+impl<'a, 'p, R: Files<File = File> + Clock + Eprint> SystemFolder<'a, 'p, R> {
     /// Takes the folder of a store, and what a run left there that was killed is taken away.
-    pub(crate) fn take<'b>(rt: &'a R, names: &'a Names) -> Result<SystemFolder<'a, R>, Fault<'b>> {
+    pub(crate) fn take<'b>(
+        rt: &'a R,
+        names: &'a Names,
+        progress: &'a Progress<'p, R>,
+    ) -> Result<SystemFolder<'a, 'p, R>, Fault<'b>> {
         let lock = hold_name(rt, names.lock.as_str())?;
         let taken = match remove(rt, names.copy.as_str()) {
             Ok(()) => take_store(rt, names),
@@ -90,6 +97,7 @@ impl<'a, R: Files<File = File>> SystemFolder<'a, R> {
             Ok(store) => Ok(SystemFolder {
                 rt,
                 names,
+                progress,
                 store,
                 lock,
             }),
@@ -106,29 +114,29 @@ impl<'a, R: Files<File = File>> SystemFolder<'a, R> {
     }
 }
 
-impl<'a, R: Files<File = File>> Folder for SystemFolder<'a, R> {
-    type Store = Noted<FileStore<HeldFile<File>>>;
+impl<'a, 'p, R: Files<File = File> + Clock + Eprint> Folder for SystemFolder<'a, 'p, R> {
+    type Store = Noted<'a, 'p, FileStore<HeldFile<File>>, R>;
 
     ghost held = { λ _. None };
 
-    fn copy<'b>(&mut self) -> Result<Noted<FileStore<HeldFile<File>>>, Fault<'b>> {
+    fn copy<'b>(&mut self) -> Result<Noted<'a, 'p, FileStore<HeldFile<File>>, R>, Fault<'b>> {
         let fault = Fault::Run(RunFault::Store);
         let Ok(copy) = make_copy(self.rt, self.names.copy.as_str(), &mut self.store) else {
             return Err(fault);
         };
         match FileStore::new(HeldFile::new(copy)) {
-            Ok(store) => Ok(Noted::new(store)),
+            Ok(store) => Ok(Noted::new(store, self.progress)),
             Err(_) => Err(fault),
         }
     }
 
-    fn differs(&self, store: &Noted<FileStore<HeldFile<File>>>) -> bool {
+    fn differs(&self, store: &Noted<'a, 'p, FileStore<HeldFile<File>>, R>) -> bool {
         store.is_written()
     }
 
     fn replace<'b>(
         &mut self,
-        mut store: Noted<FileStore<HeldFile<File>>>,
+        mut store: Noted<'a, 'p, FileStore<HeldFile<File>>, R>,
     ) -> Result<(), Fault<'b>> {
         let (copy, name) = (self.names.copy.as_str(), self.names.store.as_str());
         if store.sync().is_err() || fs::rename(self.rt, copy, name).is_err() {

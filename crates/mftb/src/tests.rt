@@ -58,7 +58,7 @@ fn a_script_is_run(rt: HostRuntime) -> Result<(), Fail> {
         &["mftb", "run", "first.mftb", "script.txt", "S1.csv"],
     )?;
     let (mut out, mut faults) = (Vec::new(rt.alloc()), Vec::new(rt.alloc()));
-    let status = start(&rt, &words, &mut out, &mut faults);
+    let status = start(&rt, &words, &mut out, &mut faults, false);
     assert_eq!(rt; status, 0);
     assert!(rt; out.as_slice() == ANSWERS.as_bytes());
     assert!(rt; faults.is_empty());
@@ -69,7 +69,7 @@ fn a_script_is_run(rt: HostRuntime) -> Result<(), Fail> {
 fn answer(rt: &HostRuntime, words: &[&str]) -> Result<(u8, Vec<u8>, Vec<u8>), Fail> {
     let words = owned(rt.alloc(), words)?;
     let (mut out, mut faults) = (Vec::new(rt.alloc()), Vec::new(rt.alloc()));
-    let status = start(rt, &words, &mut out, &mut faults);
+    let status = start(rt, &words, &mut out, &mut faults, false);
     Ok((status, out, faults))
 }
 
@@ -96,7 +96,7 @@ fn cut(rt: &HostRuntime, words: &[&str]) -> Result<bool, Fail> {
     let mut room = [0u8; 5];
     let mut full = room.as_mut_slice();
     let mut faults = Vec::new(rt.alloc());
-    let status = start(rt, &words, &mut full, &mut faults);
+    let status = start(rt, &words, &mut full, &mut faults, false);
     let is_said = status == 1 && faults.as_slice() == "mftb: output\n".as_bytes();
     Ok(is_said && room.as_slice() == "ok 1\n".as_bytes())
 }
@@ -332,7 +332,7 @@ fn a_file_without_a_page_is_no_store(rt: HostRuntime) -> Result<(), Fail> {
 fn what_cannot_be_read_has_a_line(rt: HostRuntime) -> Result<(), Fail> {
     let words = owned(rt.alloc(), &["mftb", "run", "store", "no such script"])?;
     let (mut out, mut faults) = (Vec::new(rt.alloc()), Vec::new(rt.alloc()));
-    let status = start(&rt, &words, &mut out, &mut faults);
+    let status = start(&rt, &words, &mut out, &mut faults, false);
     assert_eq!(rt; status, 1);
     assert!(rt; out.is_empty());
     assert!(rt; faults.as_slice() == "mftb: cannot read no such script\n".as_bytes());
@@ -447,13 +447,13 @@ fn a_part_of_a_file_is_printed(rt: HostRuntime) -> Result<(), Fail> {
 fn other_words_are_refused(rt: HostRuntime) -> Result<(), Fail> {
     let words = owned(rt.alloc(), &["mftb", "chart", "store"])?;
     let (mut out, mut faults) = (Vec::new(rt.alloc()), Vec::new(rt.alloc()));
-    let status = start(&rt, &words, &mut out, &mut faults);
+    let status = start(&rt, &words, &mut out, &mut faults, false);
     assert_eq!(rt; status, 2);
     assert!(rt; out.is_empty());
     assert!(rt; !faults.is_empty());
 
     let words = owned(rt.alloc(), &["mftb", "--help"])?;
-    let status = start(&rt, &words, &mut out, &mut Vec::new(rt.alloc()));
+    let status = start(&rt, &words, &mut out, &mut Vec::new(rt.alloc()), false);
     assert_eq!(rt; status, 0);
     assert!(rt; !out.is_empty());
     Ok(())
@@ -463,7 +463,7 @@ fn other_words_are_refused(rt: HostRuntime) -> Result<(), Fail> {
 fn the_version_is_printed(rt: HostRuntime) -> Result<(), Fail> {
     let words = owned(rt.alloc(), &["mftb", "--version"])?;
     let (mut out, mut faults) = (Vec::new(rt.alloc()), Vec::new(rt.alloc()));
-    let status = start(&rt, &words, &mut out, &mut faults);
+    let status = start(&rt, &words, &mut out, &mut faults, false);
     assert_eq!(rt; status, 0);
     assert!(rt; out.as_slice() == "mftb 0.1.0\n".as_bytes());
     assert!(rt; faults.is_empty());

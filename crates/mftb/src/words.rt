@@ -15,6 +15,8 @@ pub(crate) struct Run<'a> {
     pub(crate) files: Vec<&'a str>,
     /// Whether the store is written as it lies there.
     pub(crate) in_place: bool,
+    /// Whether it is said what the run is doing.
+    pub(crate) progress: bool,
 }
 
 /// What `mftb check` is asked to do.
@@ -102,6 +104,12 @@ fn run_command<'a>(alloc: Global) -> Result<Command<'a>, AllocError> {
                     "Load into the file itself and not into a copy: what is killed then loses the store",
                 )
                 .action(ArgAction::SetTrue),
+        )?
+        .arg(
+            Arg::new(alloc, "progress")
+                .long("progress")
+                .help("Say on standard error what the run is doing")
+                .action(ArgAction::SetTrue),
         )
 }
 
@@ -172,6 +180,7 @@ fn run_of<'a>(alloc: Global, matches: &ArgMatches<'a>) -> Result<Run<'a>, Error>
         script: matches.get_str("SCRIPT").unwrap_or(""),
         files,
         in_place: matches.get_flag("in-place"),
+        progress: matches.get_flag("progress"),
     })
 }
 
@@ -199,6 +208,7 @@ pub(crate) fn read_words<'a>(alloc: Global, words: &'a [String]) -> Result<Task<
             script: "",
             files: Vec::new(alloc),
             in_place: false,
+            progress: false,
         })),
     }
 }
