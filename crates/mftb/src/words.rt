@@ -141,14 +141,12 @@ fn migrate_command<'a>(alloc: Global) -> Result<Command<'a>, AllocError> {
 fn part_command<'a>(alloc: Global) -> Result<Command<'a>, AllocError> {
     Command::new(alloc, "part")
         .about("Prints the part of a file that has the features of one of several parts")
-        .arg(
-            required(alloc, "K", "The number of the part, from 0")
-                .value_parser(value_parser!(u32).range(0..)),
-        )?
-        .arg(
-            required(alloc, "N", "How many parts there are")
-                .value_parser(value_parser!(u32).range(1..)),
-        )?
+        .arg(required(alloc, "K", "The number of the part, from 0").value_parser(value_parser!(
+            u32
+        ).range(0..)))?
+        .arg(required(alloc, "N", "How many parts there are").value_parser(value_parser!(u32).range(
+            1..,
+        )))?
         .arg(required(alloc, "FILE", "The file; it is read and not written"))
 }
 

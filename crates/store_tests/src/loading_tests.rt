@@ -8,12 +8,7 @@ use std::alloc::Global;
 use tbtree::Shape;
 
 /// An index without legs over a new store, through a cache of two pages. The store fails the call of that number.
-fn empty(
-    alloc: Global,
-    shape: Shape,
-    calls: u64,
-    once: bool,
-) -> Option<TreeIndex<Fuse<MemStore>>> {
+fn empty(alloc: Global, shape: Shape, calls: u64, once: bool) -> Option<TreeIndex<Fuse<MemStore>>> {
     let Ok(mut cache) = PageCache::new(alloc, MemStore::new(alloc, 30_000), 1) else {
         return None;
     };
