@@ -1,5 +1,6 @@
 -- The names of features of which a predicate holds.
-use Rattle.std.proofs.Common.{[], ◌∷◌, ◌<◌, ◌≡◌, ◌∙◌, ℕ, ap, sym, refl, subst, arith, List, Bool, true, false, cond, filter, length, map}
+use Rattle.std.proofs.Common.{[], ◌∷◌, ◌<◌, ◌≡◌, ◌∙◌, ℕ, ap, sym, refl, subst, arith, List, Bool, true, false, cond, filter, length, map, ◌==◌}
+use Rattle.std.proofs.lemmas.Bool.Decides.{nat_tests}
 use Rattle.std.specs.Prelude.{All, bytes_eq}
 use Rattle.std.specs.List.{range_with_len}
 use Rattle.std.proofs.lemmas.List.Elements.{filter_passes}
@@ -17,10 +18,10 @@ use Rattle.trajdb.specs.Picks.{Picks}
 use Rattle.trajdb.specs.Answers.{HoldsOfFeature, name_of}
 use Rattle.together.specs.Told.{all_told, bare, told}
 use Rattle.together.specs.Parts.{IsTold, is_in, own_legs, own_names}
-use Rattle.together.specs.Laws.{FeaturesLaw}
+use Rattle.together.specs.Laws.{FeaturesLaw, TrackLaw}
 use Rattle.together.proofs.ListLemmas.{picks-agree, picks-filter, picks-map, picks-same}
 use Rattle.together.proofs.BareLemmas.{bare_holds, holds_bare}
-use Rattle.together.proofs.NamedLemmas.{told_of}
+use Rattle.together.proofs.NamedLemmas.{told_of, track_told}
 
 -- the legs of a name in what is told
 abbrev bare_of : List EntryView → List ℕ → List LegView
@@ -79,3 +80,8 @@ features_law f k whole part predicate rect period all own of is own_is a b =
     (λ name i held. subst (λ (l : List LegView). Holds predicate l rect period) (same name i) held) (λ name i held. subst (λ (l : List LegView). Holds predicate l rect period) (sym (same name i)) held)
     (own_names f k whole.names) (map (name_of part) own) (filter_passes (is_in f k) whole.names) U in
     picks-same (HoldsOfName predicate rect period (all_told whole)) (own_names f k whole.names) (map (name_of part) own) (own_names f k (map (name_of whole) all)) T W
+
+pub track_law : TrackLaw
+track_law f whole part name of is own =
+    let mine : is_in f (f name) name ≡ true = grind (arith, nat_tests) in
+    track_told part name own ∙ ap (filter (λ e. bytes_eq name e.name)) of.legs ∙ own_of f (f name) name (all_told whole) mine ∙ sym (track_told whole name is)

@@ -47,6 +47,12 @@ TrajectoryLaw =
     (f : List ℕ → ℕ) (k : ℕ) (whole part : Book) (name : List ℕ) → IsPartOf f k whole part → IsTold whole → IsTold part
     → told part (track_of (feature_of part.names name) part.legs) ≡ own_legs f k (told whole (track_of (feature_of whole.names name) whole.legs))
 
+-- and of the part that has the name it is the whole's
+abbrev pub TrackLaw : Type 0
+TrackLaw =
+    (f : List ℕ → ℕ) (whole part : Book) (name : List ℕ) → IsPartOf f (f name) whole part → IsTold whole → IsTold part
+    → told part (track_of (feature_of part.names name) part.legs) ≡ told whole (track_of (feature_of whole.names name) whole.legs)
+
 -- the records of a file that come too early for the part are those of the whole that are of the part
 abbrev pub LateLaw : Type 0
 LateLaw =

@@ -6,7 +6,7 @@
 //! records and faults) and `specs/Loading.antt` (many files).
 #![tactic(auto)]
 
-ghost use Rattle.together.specs.Laws.{BoxLaw, FeaturesLaw, LateLaw, LegsLaw, LegsText, NamesText, PartLaw, TrajectoryLaw};
+ghost use Rattle.together.specs.Laws.{BoxLaw, FeaturesLaw, LateLaw, LegsLaw, LegsText, NamesText, PartLaw, TrackLaw, TrajectoryLaw};
 ghost use Rattle.together.specs.Joining.{AcceptLaw, BookLaw, CountLaw, FaultsLaw, FirstLaw, FitsLaw, LeastLaw, PartFaultsLaw, StayLaw};
 ghost use Rattle.together.specs.Asking.{LineLaw};
 ghost use Rattle.together.specs.Counting.{LoadCountLaw, RisesLaw};
@@ -22,6 +22,7 @@ pub fn answer_laws()
     ensures by_predicate { LegsLaw }
     ensures of_features { FeaturesLaw }
     ensures trajectory { TrajectoryLaw }
+    ensures track { TrackLaw }
     ensures legs_merge { LegsMerge }
     ensures names_merge { NamesMerge }
     ensures box_merge { BoxMerge }

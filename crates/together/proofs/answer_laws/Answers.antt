@@ -1,7 +1,7 @@
 use Rattle.together.proofs.MergeLemmas.{box_merge, features_answer_merge, legs_answer_merge, legs_merge, names_merge}
 use Rattle.together.proofs.CountLemmas.{count_law}
 use Rattle.together.proofs.FaultLemmas.{book_law}
-use Rattle.together.proofs.FeatureLemmas.{features_law}
+use Rattle.together.proofs.FeatureLemmas.{features_law, track_law}
 use Rattle.together.proofs.NamedLemmas.{trajectory_law}
 use Rattle.together.proofs.ToldLemmas.{box_law, legs_law, legs_told, names_told}
 use Rattle.together.proofs.LineLemmas.{line_law}
@@ -48,3 +48,6 @@ returns-clause-features_answer_merge c = features_answer_merge
 
 pub returns-clause-lines : goal.returns-clause-lines
 returns-clause-lines c = line_law
+
+pub returns-clause-track : goal.returns-clause-track
+returns-clause-track c = track_law
