@@ -29,8 +29,11 @@ pub(crate) fn is_special<R: Files<File = File>>(rt: &R, name: &str) -> bool {
     }
 }
 
-/// Takes away what a run left beside a store that was killed, where no run works there.
+/// Takes away the copy that a run left beside a store that was killed, where no run works there.
 pub(crate) fn sweep<R: Files<File = File>>(rt: &R, names: &Names) {
+    if !is_left(rt, names.copy.as_str()) {
+        return;
+    }
     let mut how = File::options();
     how.read(true);
     if let Ok(Some(_lock)) = open_held(rt, names.lock.as_str(), &how, Hold::Alone) {

@@ -3,7 +3,7 @@ use Rattle.std.specs.Prelude.{ℕ, suc, ◌==◌, cond, nat_lt, List, [], ◌∷
 use Rattle.legs.specs.Blocks.{begins}
 
 module _ {X : Type 0} where
-  -- an element with the number of its run is put among others, behind the last whose number is not higher
+  -- an element with the number of its run is put among others, before the first whose number is higher
   abbrev pub put_in : ℕ × X → List (ℕ × X) → List (ℕ × X)
   put_in p [] = p ∷ []
   put_in p (q ∷ qs) = cond (nat_lt p.0 q.0) (p ∷ q ∷ qs) (q ∷ put_in p qs)
