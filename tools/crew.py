@@ -47,7 +47,7 @@ def workers(options):
     threads = options.workers or len(os.sched_getaffinity(0))
     with tempfile.TemporaryDirectory() as folder:
         local = {"n_workers": 1, "threads_per_worker": threads, "processes": False, "local_directory": folder}
-        with LocalCluster(dashboard_address=None, silence_logs=logging.CRITICAL, **local) as cluster, Client(cluster) as client:
+        with LocalCluster(dashboard_address=":0", silence_logs=logging.CRITICAL, **local) as cluster, Client(cluster) as client:
             yield client
 
 

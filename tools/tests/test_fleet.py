@@ -33,7 +33,7 @@ FIRST = HEAD.format("sec") + "d,0,10,0 0 1 1\na,0,10,1 0 2 0\nb,5,15,2 0 3 0\nc,
 CLUSTER = """
 import sys, distributed
 if __name__ == "__main__":
-    with distributed.LocalCluster(n_workers=2, threads_per_worker=1, dashboard_address=None, silence_logs=50) as cluster:
+    with distributed.LocalCluster(n_workers=2, threads_per_worker=1, dashboard_address=":0", silence_logs=50) as cluster:
         print(cluster.scheduler_address, flush=True)
         sys.stdin.read()
 """
