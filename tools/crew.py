@@ -1,12 +1,12 @@
-"""The workers of a fleet: those of this machine, or of a cluster, and what is said while they work."""
+"""The workers of a fleet: threads of this machine, or those of a Dask cluster, and what is said while they work."""
 import importlib.util
 import logging
 import os
 import queue
 import statistics
 import sys
-import tempfile
 import time
+from concurrent.futures import ThreadPoolExecutor
 from contextlib import contextmanager
 
 import fleetpart
@@ -18,44 +18,64 @@ MISSING = "distributed is missing: apt-get install python3-distributed"
 STEP, SLOW, TIMES = 0.5, 10, 3
 
 
-def need_distributed():
-    """Goes on in Debian's Python where this one has no `distributed`."""
-    if importlib.util.find_spec("distributed"):
+def need_distributed(options):
+    """For a cluster, goes on in Debian's Python where this one has no `distributed`."""
+    if not options.scheduler or importlib.util.find_spec("distributed"):
         return
     if os.path.realpath(sys.executable) == os.path.realpath(DEBIAN) or not os.path.isdir(PACKAGE):
         raise Refused(MISSING)
     os.execv(DEBIAN, [DEBIAN, *sys.argv])
 
 
+class Here:
+    """Threads of this process, each of which starts programs, which do the work."""
+
+    def __init__(self, pool):
+        self.submit = pool.submit
+
+    def names(self):
+        return set()
+
+
+class There:
+    """The workers of a cluster."""
+
+    def __init__(self, client):
+        self.client = client
+
+    def submit(self, task, *job):
+        return self.client.submit(task, *job, pure=False)
+
+    def names(self):
+        return set(self.client.scheduler_info()["workers"])
+
+
 @contextmanager
 def workers(options):
-    """A client of the cluster that is named, or of threads of this process; each starts programs, which do the work."""
-    from distributed import Client, LocalCluster
+    """The workers of the cluster that is named, or threads of this process."""
+    if not options.scheduler:
+        with ThreadPoolExecutor(options.workers or len(os.sched_getaffinity(0))) as pool:
+            yield Here(pool)
+        return
+    from distributed import Client
 
     # What matters of what they log is said in a line of the tool's own.
     for name in "distributed", "asyncio", "tornado":
         logging.getLogger(name).setLevel(logging.CRITICAL)
-    if options.scheduler:
-        try:
-            client = Client(options.scheduler, timeout=10)
-        except (OSError, ValueError) as fault:
-            raise Refused(f"no scheduler at {options.scheduler}: {fault}") from None
-        with client:
-            client.upload_file(fleetpart.__file__)
-            yield client
-        return
-    threads = options.workers or len(os.sched_getaffinity(0))
-    with tempfile.TemporaryDirectory() as folder:
-        local = {"n_workers": 1, "threads_per_worker": threads, "processes": False, "local_directory": folder}
-        with LocalCluster(dashboard_address=":0", silence_logs=logging.CRITICAL, **local) as cluster, Client(cluster) as client:
-            yield client
+    try:
+        client = Client(options.scheduler, timeout=10)
+    except (OSError, ValueError) as fault:
+        raise Refused(f"no scheduler at {options.scheduler}: {fault}") from None
+    with client:
+        client.upload_file(fleetpart.__file__)
+        yield There(client)
 
 
 class Progress:
     """What is said of parts at work: a bar on a terminal, and a line for each part that is slow or fails."""
 
-    def __init__(self, client, title, count):
-        self.client, self.title, self.count = client, title, count
+    def __init__(self, crew, title, count):
+        self.crew, self.title, self.count = crew, title, count
         self.bar, self.begun, self.took = sys.stderr.isatty(), time.monotonic(), []
         self.slow, self.failed, self.workers = set(), {}, set()
 
@@ -65,7 +85,7 @@ class Progress:
     def look(self, waiting):
         """Says which of the parts that are waited for are slow, and how many workers are lost."""
         seconds = time.monotonic() - self.begun
-        there = set(self.client.scheduler_info()["workers"])
+        there = self.crew.names()
         if self.workers - there:
             self.say(f"{several(len(self.workers - there), 'worker')} lost; what was at work there runs again elsewhere")
         self.workers = there
@@ -96,14 +116,14 @@ class Progress:
             print("\r\033[K", end="", file=sys.stderr, flush=True)
 
 
-def gather(client, title, task, jobs):
+def gather(crew, title, task, jobs):
     """What a task gives for each job, the words of which begin with a part. Refused where a part fails, when all ended."""
-    futures = [client.submit(task, *job, pure=False) for job in jobs]
-    numbers = {future.key: job[0].number for future, job in zip(futures, jobs)}
+    futures = [crew.submit(task, *job) for job in jobs]
+    numbers = {id(future): job[0].number for future, job in zip(futures, jobs)}
     ended, waiting = queue.SimpleQueue(), set(numbers.values())
     for future in futures:
         future.add_done_callback(ended.put)
-    progress, looked = Progress(client, title, len(jobs)), 0
+    progress, looked = Progress(crew, title, len(jobs)), 0
     while waiting:
         if time.monotonic() - looked > STEP:
             progress.look(waiting)
@@ -112,9 +132,9 @@ def gather(client, title, task, jobs):
             future = ended.get(timeout=STEP)
         except queue.Empty:
             continue
-        waiting.discard(numbers[future.key])
-        progress.ended(numbers[future.key], future.exception())
+        waiting.discard(numbers[id(future)])
+        progress.ended(numbers[id(future)], future.exception())
     progress.close()
     if progress.failed:
         raise Refused(f"{title}: {several(len(progress.failed), 'part')} of {len(jobs)} failed")
-    return client.gather(futures)
+    return [future.result() for future in futures]

@@ -12,6 +12,7 @@ import subprocess
 import sys
 import time
 import unittest
+from contextlib import contextmanager
 from decimal import Decimal
 from importlib.machinery import SourceFileLoader
 from pathlib import Path
@@ -66,7 +67,7 @@ def program():
 
 PYTHON, PROGRAM = python(), program()
 if not PYTHON:
-    print(f"test_fleet: fleets are not tested: {crew.MISSING}", file=sys.stderr)
+    print(f"test_fleet: fleets on a cluster are not tested: {crew.MISSING}", file=sys.stderr)
 
 
 def answers(text):
@@ -144,15 +145,16 @@ class Small(Case):
         self.assertIn("cut short", run("fleet", "status", self.folder, folder=self.folder).stderr)
 
 
-@unittest.skipUnless(PYTHON, crew.MISSING)
 class Fleet(Case):
     def setUp(self):
         super().setUp()
+        self.where = ["--workers", "2"]
         self.write("first.csv", FIRST)
 
     def fleet(self, command, *words, status=0, used=PROGRAM):
         """What a command prints, and what it says, where it ends with a status."""
         given = [] if command == "status" else ["--program", used]
+        given += self.where if command in ("load", "ask", "check") else []
         ended = run("fleet", command, "ships", *given, *words, folder=self.folder)
         self.assertEqual(ended.returncode, status, ended.stdout + ended.stderr)
         return ended.stdout if status == 0 else (ended.stdout, ended.stderr)
@@ -160,7 +162,7 @@ class Fleet(Case):
     def made(self):
         """A fleet of four parts with the first file."""
         self.fleet("new", "--parts", "4")
-        self.assertEqual(self.fleet("load", "first.csv", "--workers", "2"), "ok 1\n4,4,4\n")
+        self.assertEqual(self.fleet("load", "first.csv"), "ok 1\n4,4,4\n")
 
     def one_store(self, lines):
         """What one store answers."""
@@ -178,12 +180,12 @@ class Fleet(Case):
         self.fleet("new", "--parts", "4")
         for line, (head, rows) in zip(loads, answers(self.one_store(loads))):
             if head == "ok 1":
-                self.assertEqual(answers(self.fleet("load", line[5:], "--workers", "2")), [(head, rows)])
+                self.assertEqual(answers(self.fleet("load", line[5:])), [(head, rows)])
             else:
                 self.assertEqual(self.fleet("load", line[5:], status=1)[0], head + "\n")
         wanted = answers(self.one_store(asked))
         self.write("script", "".join(line + "\r\n" for line in asked))
-        given = answers(self.fleet("ask", "script", "--workers", "2"))
+        given = answers(self.fleet("ask", "script"))
         for line, one, many in zip(asked, wanted, given, strict=True):
             self.assertEqual(many, (one[0], in_order(line, one[1])), line)
 
@@ -281,20 +283,38 @@ class Fleet(Case):
         with manifest.loading(self.folder / "ships"):
             self.assertEqual(self.untouched("load", "first.csv")[1], "fleet: another load works on ships\n")
 
+    @contextmanager
+    def cluster(self):
+        """A cluster of two workers of this machine."""
+        with subprocess.Popen([PYTHON, "-c", CLUSTER], stdin=subprocess.PIPE, stdout=subprocess.PIPE, text=True) as cluster:
+            self.where = ["--scheduler", cluster.stdout.readline().strip()]
+            yield
+            cluster.stdin.close()
+
+    @unittest.skipUnless(PYTHON, crew.MISSING)
+    def test_two_workers_of_a_cluster_answer_as_one_store_does(self):
+        with self.cluster():
+            for path in (ROOT / "examples" / "junction").glob("*.csv"):
+                (self.folder / path.name).write_bytes(path.read_bytes())
+            self.agrees((ROOT / "examples" / "junction" / "script.txt").read_text().splitlines() + ["write"])
+            self.assertRegex(self.fleet("check"), r"\Aok 1\n")
+            store = Path("ships", manifest.read(self.folder / "ships").parts[3].store)
+            self.write(store, "")
+            self.assertIn("fleet: part 3: the store is not there\n", self.fleet("check", status=1)[1])
+
+    @unittest.skipUnless(PYTHON, crew.MISSING)
     def test_a_worker_is_killed_in_the_middle_of_a_load(self):
         self.fleet("new", "--parts", "4")
         used, mark = self.waits()
-        with subprocess.Popen([PYTHON, "-c", CLUSTER], stdin=subprocess.PIPE, stdout=subprocess.PIPE, text=True) as cluster:
-            words = [ROOT / "tools" / "fleet", "load", "ships", "first.csv", "--program", used]
-            words += ["--scheduler", cluster.stdout.readline().strip()]
+        with self.cluster():
+            words = [ROOT / "tools" / "fleet", "load", "ships", "first.csv", "--program", used, *self.where]
             load = subprocess.Popen(words, cwd=self.folder, stdout=subprocess.PIPE, stderr=subprocess.PIPE, text=True)
             for process in self.wait_for(mark):
                 os.kill(process, signal.SIGKILL)
             printed, said = load.communicate(timeout=120)
-            cluster.stdin.close()
-        self.assertEqual((printed, load.returncode), ("ok 1\n4,4,4\n", 0), said)
-        self.assertEqual(self.left(), [])
-        self.assertRegex(self.fleet("check"), r",4,4\n\Z")
+            self.assertEqual((printed, load.returncode), ("ok 1\n4,4,4\n", 0), said)
+            self.assertEqual(self.left(), [])
+            self.assertRegex(self.fleet("check"), r",4,4\n\Z")
 
     def test_a_load_that_is_killed_leaves_the_fleet_as_it_was(self):
         self.made()
