@@ -1,12 +1,15 @@
-"""The workers of a fleet: threads of this machine, or those of a Dask cluster, and what is said while they work."""
+"""The workers of a fleet: processes of this machine, or those of a Dask cluster, and what is said while they work."""
+import ctypes
 import importlib.util
 import logging
+import multiprocessing
 import os
 import queue
+import signal
 import statistics
 import sys
 import time
-from concurrent.futures import ThreadPoolExecutor
+from concurrent.futures import ProcessPoolExecutor
 from contextlib import contextmanager
 
 import fleetpart
@@ -14,6 +17,7 @@ from texts import Refused, several
 
 DEBIAN, PACKAGE = "/usr/bin/python3", "/usr/lib/python3/dist-packages/distributed"
 MISSING = "distributed is missing: apt-get install python3-distributed"
+PR_SET_PDEATHSIG = 1
 # Seconds between two looks; a part is slow from so many seconds on, and so many times what half of the others took.
 STEP, SLOW, TIMES = 0.5, 10, 3
 
@@ -28,7 +32,7 @@ def need_distributed(options):
 
 
 class Here:
-    """Threads of this process, each of which starts programs, which do the work."""
+    """Processes of this machine, each of which starts programs, which do the work."""
 
     def __init__(self, pool):
         self.submit = pool.submit
@@ -50,11 +54,18 @@ class There:
         return set(self.client.scheduler_info()["workers"])
 
 
+def begin_here():
+    """A process of this machine ends when it is interrupted, without a word, and when the tool ends, however it does."""
+    signal.signal(signal.SIGINT, signal.SIG_DFL)
+    ctypes.CDLL(None).prctl(PR_SET_PDEATHSIG, signal.SIGKILL)
+
+
 @contextmanager
 def workers(options):
-    """The workers of the cluster that is named, or threads of this process."""
+    """The workers of the cluster that is named, or processes of this machine."""
     if not options.scheduler:
-        with ThreadPoolExecutor(options.workers or len(os.sched_getaffinity(0))) as pool:
+        count = options.workers or len(os.sched_getaffinity(0))
+        with ProcessPoolExecutor(count, multiprocessing.get_context("fork"), begin_here) as pool:
             yield Here(pool)
         return
     from distributed import Client
