@@ -12,7 +12,7 @@ import subprocess
 import sys
 import time
 import unittest
-from contextlib import contextmanager
+from contextlib import contextmanager, redirect_stderr
 from decimal import Decimal
 from importlib.machinery import SourceFileLoader
 from pathlib import Path
@@ -130,6 +130,17 @@ class Small(Case):
         ]
         self.assertEqual(merging.head_of(parts), [line % (b"-10 2", b"10 40", ends[2]), b"@columns"])
         self.assertEqual(merging.head_of(parts[1:2]), parts[1].first)
+
+    def test_a_slow_part_and_a_lost_worker_are_said_once(self):
+        workers = mock.Mock(names=mock.Mock(side_effect=[{"a", "b"}, {"a"}, {"a", "c"}]))
+        progress = crew.Progress(workers, "load", 4)
+        progress.begun -= 40
+        progress.took = [9, 11, 12]
+        with redirect_stderr(io.StringIO()) as said:
+            for _ in range(3):
+                progress.look({3})
+        lost = "fleet: 1 worker lost; what was at work there runs again elsewhere\n"
+        self.assertEqual(said.getvalue(), f"fleet: part 3 is slow: 40 s so far; half of the parts took under 11 s\n{lost}")
 
     def test_a_manifest_that_is_cut_short_or_altered_is_named(self):
         held = [manifest.Held(f"part-{number}-new.mftb", 0, 0) for number in range(2)]
