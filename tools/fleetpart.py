@@ -1,0 +1,228 @@
+"""What a worker of a fleet does with one part, which is a plain store: it loads, asks and checks it by the program.
+
+This file stands alone, since it is sent to workers that are elsewhere. A leg of a part's answers is kept as a line: its
+start, its name and its record, so that lines in the order of their bytes are legs by start and then by name. A feature
+has never two legs of one start. What would end a line, or come before the byte between two of its parts, is written
+as two bytes.
+"""
+import os
+import re
+import shutil
+import subprocess
+import tempfile
+import uuid
+from itertools import chain, islice
+from pathlib import Path
+from typing import NamedTuple
+
+PRIME = 4294967291
+# No moment is further from another, in milliseconds.
+FAR = 10**15
+# Lines of an answer that are sorted in memory; more are sorted by `sort`, on disk.
+BATCH = 100_000
+RARE, PAIR = re.compile(rb"[\x00-\x0a]"), re.compile(rb"\x02(.)")
+QUOTED = re.compile(rb'"((?:[^"]|"")*)",?')
+WORD = re.compile(rb"[^ \t]*")
+
+
+class Fault(Exception):
+    """Why a part cannot do its work: the program's own message, mostly."""
+
+
+class Part(NamedTuple):
+    """A part: its number of so many, its store, the folder for what does not last, and the program."""
+
+    number: int
+    parts: int
+    store: str
+    work: str
+    program: str
+
+
+class Loaded(NamedTuple):
+    """What a part answered to files, up to the first one that it refused, and its new store."""
+
+    answers: list
+    store: str
+    legs: int
+    features: int
+
+
+class Said(NamedTuple):
+    """A part's answer: a refusal, or the records that are put first and where the lines of the others begin."""
+
+    refusal: str
+    first: list
+    count: int
+    place: int
+
+
+def part_of(name, parts):
+    """The part of a name, which is bytes."""
+    number = 0
+    for byte in name:
+        number = (number * 257 + byte) % PRIME
+    return number % parts
+
+
+def words_of(line):
+    """The first word of a line of a script, and the rest of it."""
+    word = WORD.match(line)[0]
+    return word.decode(errors="replace"), line[len(word) :].strip(b" \t")
+
+
+def fault_of(status, message):
+    """The fault of a run of the program that ended with a status other than 0."""
+    lines = message.decode(errors="replace").strip().splitlines()
+    if status < 0:
+        return Fault(f"the program was ended by signal {-status}")
+    return Fault(lines[-1] if lines else f"the program ended with status {status}")
+
+
+def printed(part, *words, **given):
+    """What the program prints."""
+    ended = subprocess.run([part.program, *words], stderr=subprocess.PIPE, stdin=subprocess.DEVNULL, **given)
+    if ended.returncode:
+        raise fault_of(ended.returncode, ended.stderr)
+    return ended.stdout
+
+
+def need_store(part):
+    """A store that is absent or empty would be made anew by the program, and answer as if nothing had been loaded."""
+    if not os.path.isfile(part.store) or not os.path.getsize(part.store):
+        raise Fault("the store is not there")
+
+
+# Loading
+
+
+def load(part, files):
+    """Loads the part of each file into a copy of the store, until one is refused."""
+    need_store(part)
+    copy = Path(part.store).with_name(f"part-{part.number}-{uuid.uuid4().hex}.mftb")
+    shutil.copyfile(part.store, copy)
+    answers, counts = [], (0, 0)
+    for file in files:
+        answer, counts = load_file(part, file, copy)
+        answers.append(answer)
+        if answer.startswith("refused"):
+            copy.unlink()
+            break
+    return Loaded(answers, copy.name, *counts)
+
+
+def load_file(part, file, store):
+    """The answer to the part of a file, and how many legs and features the store then has."""
+    with tempfile.TemporaryDirectory(dir=part.work) as folder:
+        with open(f"{folder}/part.csv", "wb") as out:
+            printed(part, "part", str(part.number), str(part.parts), file, stdout=out)
+        Path(folder, "script").write_text("load part.csv\ncount\n")
+        words = "run", str(store), "script", "part.csv"
+        lines = printed(part, *words, cwd=folder, stdout=subprocess.PIPE).decode().splitlines()
+    legs, features = map(int, lines[-1].split(","))
+    return (lines[0] if lines[0].startswith("refused") else lines[1]), (legs, features)
+
+
+def check(part):
+    """The pages, legs and features of a store that passes its check."""
+    need_store(part)
+    return [int(word) for word in printed(part, "check", part.store, stdout=subprocess.PIPE).split(b"\n")[1].split(b",")]
+
+
+# Asking
+
+
+def ask(part, lines):
+    """The answers to the lines of a script, and the file with their records, in order."""
+    need_store(part)
+    words = [words_of(line)[0] for line in lines]
+    folder = tempfile.mkdtemp(dir=part.work)
+    Path(folder, "script").write_bytes(b"".join(line + b"\r\n" for line in lines))
+    path, answers = Path(folder, "answers"), []
+    command = [part.program, "run", part.store, f"{folder}/script"]
+    with open(path, "wb") as out, open(f"{folder}/message", "w+b") as message:
+        streams = {"stdin": subprocess.DEVNULL, "stdout": subprocess.PIPE, "stderr": message}
+        with subprocess.Popen(command, bufsize=1 << 20, **streams) as running:
+            try:
+                for word in words:
+                    answers.append(answer(word, running.stdout, out, folder))
+            except EOFError:
+                pass
+        message.seek(0)
+        if running.returncode:
+            raise fault_of(running.returncode, message.read())
+    if len(answers) != len(words):
+        raise Fault(f"{len(answers)} answers to {len(words)} questions")
+    return answers, str(path)
+
+
+def answer(word, stream, out, folder):
+    """Reads an answer, and appends its records to a file as lines, in order."""
+    head = record(stream).decode()
+    if head.startswith("refused "):
+        return Said(head, [], 0, 0)
+    count = int(head.removeprefix("ok "))
+    ahead = {"count": 1, "write": 2}.get(word, 0)
+    first = [record(stream) for _ in range(ahead)]
+    line_of = name_line if word == "features" else leg_line
+    place = out.tell()
+    sort_into(out, (line_of(record(stream)) for _ in range(count - ahead)), folder)
+    return Said("", first, count - ahead, place)
+
+
+def record(stream):
+    """The next record, in which line ends may be quoted."""
+    line = stream.readline()
+    while line.count(b'"') % 2:
+        more = stream.readline()
+        if not more:
+            raise EOFError
+        line += more
+    if not line.endswith(b"\n"):
+        raise EOFError
+    return line[:-1]
+
+
+def sort_into(out, lines, folder):
+    """Appends lines in order; however many there are, few are held in memory."""
+    batch = list(islice(lines, BATCH))
+    if len(batch) < BATCH:
+        out.writelines(sorted(batch))
+        return
+    out.flush()
+    command = ["sort", "-S", "64M", "-T", folder]
+    with subprocess.Popen(command, stdin=subprocess.PIPE, stdout=out, env={**os.environ, "LC_ALL": "C"}) as sort:
+        sort.stdin.writelines(chain(batch, lines))
+    if sort.returncode:
+        raise Fault("the answer cannot be sorted: is the disk full?")
+    out.seek(0, os.SEEK_END)
+
+
+def name_and_rest(text):
+    """The name of a record, without its quotes, and the fields behind it."""
+    if not text.startswith(b'"'):
+        name, _, rest = text.partition(b",")
+        return name, rest
+    found = QUOTED.match(text)
+    return found[1].replace(b'""', b'"'), text[found.end() :]
+
+
+def leg_line(text):
+    name, rest = name_and_rest(text)
+    start = round(float(rest.partition(b",")[0]) * 1000) + FAR
+    return b"%016d%b\1%b\n" % (start, kept(name), kept(text))
+
+
+def name_line(text):
+    return b"%b\1%b\n" % (kept(name_and_rest(text)[0]), kept(text))
+
+
+def kept(text):
+    """A text without the eleven least bytes; the order of texts stays."""
+    return RARE.sub(lambda found: bytes([2, found[0][0] + 32]), text) if RARE.search(text) else text
+
+
+def text_of(line):
+    """The record of a line."""
+    text = line[line.index(b"\1") + 1 : -1]
+    return PAIR.sub(lambda found: bytes([found[1][0] - 32]), text) if b"\2" in text else text
