@@ -44,6 +44,10 @@ IsReplaced store None None = ⊤
 abbrev pub IsKept : Store → Option History → Option History → Type 0
 IsKept store old new = IsReplaced store old new ⊎ ((new ≡ old) × HasPagesHeld store old)
 
+-- the name stands for a file now that was made so, or for what it stood for
+abbrev pub IsKeptOnce : Option History → Option History → Type 0
+IsKeptOnce old new = (store : Store) × IsKept store old new
+
 -- the store of a run over a book that is answered, and of which nothing else than its pages takes the name
 pub record RunsBeside (shape : ShapeView) (limits : LimitsView) (book : Book) (files : List (List ℕ × List ℕ)) (sent sent' : Option (List ℕ)) (lines : List (List ℕ)) (old new : Option History) : Type 0 where
   pub store : Store

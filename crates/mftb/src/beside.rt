@@ -6,7 +6,7 @@ ghost use Rattle.legs.specs.Limits.{limits_of, LimitsView};
 ghost use Rattle.catalogue.specs.Holding.{HoldsBook};
 ghost use Rattle.trajdb.specs.Script.{lines_of};
 ghost use Rattle.mftb.specs.Answers.{new_shape};
-ghost use Rattle.mftb.specs.Folder.{IsKept, RunsBeside, store_in};
+ghost use Rattle.mftb.specs.Folder.{IsKept, IsKeptOnce, RunsBeside, store_in};
 
 use crate::fault::Fault;
 use crate::folder::Folder;
@@ -70,6 +70,9 @@ pub(crate) fn run_on_copy<'a, F: Folder, W: Write>(
         → RunsBeside new_shape (limits_of 16777216 1048576) empty_book files.now
         (W.contents out.old) (W.contents out.new) (lines_of script.now)
         (F.held folder.old) (F.held folder.new))) }
+
+    // Whatever the store held, the name was given to another file once at most.
+    ensures once { OnOk result (IsKeptOnce (F.held folder.old) (F.held folder.new)) }
 
     // Where it is refused the name stands for what it stood for, all along.
     ensures stays { OnErr result (F.held folder.new ≡ F.held folder.old) }
