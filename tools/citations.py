@@ -42,6 +42,7 @@ class Target:
     parts: tuple = ()
     functions: list = field(default_factory=list)
     file: object = None
+    is_there: bool = True
 
 
 def elsewhere(crates, parts, clause=None):
@@ -50,9 +51,10 @@ def elsewhere(crates, parts, clause=None):
         function.said()
         for crate in crates.values()
         for function in crate.functions
-        if function.name == parts[-1] and (clause is None or clause in function.clauses)
+        if function.name == parts[-1] and (clause is None or clause in function.clauses | function.conditions)
     }
-    found |= {f"{crate.name}::{'::'.join(parts)}" for crate in crates.values() if crate.has(parts)}
+    if clause is None:
+        found |= {f"{crate.name}::{'::'.join(parts)}" for crate in crates.values() if crate.has(parts)}
     return "; there is " + ", ".join(sorted(found)[:4]) if found else ""
 
 
@@ -79,7 +81,7 @@ class Reader:
     def take(self, said, gap, behind):
         if gap == ":" and self.targets:
             self.is_of = True
-        if self.is_of and gap in (":", ",", "and", ", and"):
+        if self.is_of and gap in (":", ",", "and", ", and") and re.match(r"[\w-]+$", said):
             return self.cite(said)
         is_next = bool(self.targets) and (gap in (",", "and", ", and") or gap.endswith((";", "; the private")))
         goes_on = self.is_of is False and gap in (",", "and", ", and")
@@ -130,14 +132,13 @@ class Reader:
     def resolved(self, said, crate, parts):
         if not crate.has(parts):
             self.fault(f"there is no {said}{elsewhere(self.crates, parts)}")
-        return Target(said, crate, parts, crate.at(parts))
+        return Target(said, crate, parts, crate.at(parts), is_there=crate.has(parts))
 
     def cite(self, name):
         """A clause, test or edit of all targets."""
-        if not re.match(r"[\w-]+$", name):
-            return 0
         for target in self.targets:
-            self.cite_of(target, name)
+            if target.is_there:
+                self.cite_of(target, name)
         return 1
 
     def cite_of(self, target, name):

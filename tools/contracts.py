@@ -51,6 +51,7 @@ class Crate:
     definitions: dict = field(default_factory=dict)
     fields: dict = field(default_factory=dict)
     edits: set = field(default_factory=set)
+    words: set = field(default_factory=set)
 
     def at(self, parts):
         """The functions at a path: in a type or a trait, or free ones."""
@@ -128,6 +129,8 @@ def read_crate(folder):
         read_source(crate, path, modules)
     for path in sorted((folder / "specs").rglob("*.antt")):
         read_definitions(crate, path)
+    texts = [path for part in ("src", "specs") for path in (folder / part).rglob("*") if path.is_file()]
+    crate.words = {word for path in texts for word in re.findall(r"\w+", path.read_text())}
     shown = shown_by(folder / "src" / "lib.rt")
     for function in crate.functions:
         function.is_shown = not function.modules or (function.owner or function.name) in shown
