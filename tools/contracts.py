@@ -50,6 +50,7 @@ class Crate:
     ghosts: set = field(default_factory=set)
     definitions: dict = field(default_factory=dict)
     fields: dict = field(default_factory=dict)
+    places: dict = field(default_factory=dict)
     edits: set = field(default_factory=set)
     words: set = field(default_factory=set)
 
@@ -106,6 +107,7 @@ def read_definitions(crate, path):
         if found := DEFINED.match(line):
             whole = found[1] or found[2]
             crate.definitions.setdefault(whole, (path, number))
+            crate.places.setdefault(whole, []).append((path, number))
             crate.fields.setdefault(whole, set())
         elif whole and (found := FIELD.match(line)):
             crate.fields[whole].add(found[1])

@@ -148,3 +148,8 @@ class Promises(Case):
                 "docs/DEFINITIONS.md:7: there is no file crates/low/specs/No.antt",
             ],
         )
+
+    def test_rows_of_the_theorem_stand_in_their_files(self):
+        row = "| %d | `%s` | what it says | `crates/low/specs/Law.antt` |\n"
+        said = self.said(**{"docs/THEOREM.md": "# The theorem\n\n" + row % (1, "IsLaw") + row % (2, "IsLow")})
+        self.assertEqual(said, ["docs/THEOREM.md:4: crates/low/specs/Law.antt does not define IsLow"])
