@@ -11,7 +11,7 @@ SPAN = re.compile(r"`([^`]+)`")
 NAME = re.compile(r"[A-Za-z_]\w*(?:::\w+)*$")
 TOPS = ("crates/", "tools/", "docs/", "examples/", "bench/", ".ci/")
 LINK = re.compile(r"\]\(([^)\s]+)\)")
-ITS = re.compile(r"(?:, `[^`]+`)*(?:: | \()(?:its clause|their clauses)")
+ITS = re.compile(r"(?:, `[^`]+`)*:? ?\(?(?:its clause|their clauses)")
 
 
 @dataclass
@@ -93,7 +93,7 @@ class Reader:
         self.targets = self.targets + [target] if goes_on else [target]
         if target.functions:
             self.cited.functions |= {function.said() for function in target.functions}
-            if ITS.match(" ".join(behind.split("\n"))):
+            if ITS.match(" ".join(behind.split())):
                 self.own(target)
         return 1 if target.functions or target.file or target.parts else 0
 
