@@ -1,46 +1,13 @@
 -- One call after another.
-use Rattle.std.proofs.Common.{◌∙◌, refl, sym, arith}
-use Rattle.std.proofs.lemmas.Int.{clamps}
+use Rattle.std.proofs.Common.{◌∙◌, sym, arith}
 use Rattle.pagecache.specs.Cache.{Cache}
 use Rattle.pagecache.specs.declared.fault.CacheFault.{CacheFault}
 use Rattle.pagecache.specs.declared.fault.CacheFault.TheVariants as cache
 use Rattle.boxsearch.specs.Faults.{IsCaused, IsCausedInCache}
 use Rattle.chains.specs.Reads.{OnlyReads}
+pub use Rattle.chains.proofs.ReadLemmas.{reads_refl, reads_trans}
 use Rattle.boxsearch.specs.declared.fault.SearchFault.{SearchFault}
 use Rattle.boxsearch.specs.declared.fault.SearchFault.TheVariants.{Cache as OfCache, Malformed, Spent, Memory}
-
-pub reads_refl : (a : Cache) → OnlyReads a a
-reads_refl a = record {
-  store = record { most = refl; faithful = refl; faults = omega arith };
-  capacity = refl;
-  count = refl;
-  length = refl;
-  asked = omega (arith, clamps);
-  payloads = λ f n. refl;
-  changed = λ n u. u;
-  written = λ f n h u. refl;
-  unwritten = record { clean = λ f h. refl; from = λ f k h. refl };
-}
-
-pub reads_trans : (a b c : Cache) → OnlyReads a b → OnlyReads b c → OnlyReads a c
-reads_trans a b c p q = record {
-  store = record {
-    most = q.store.most ∙ p.store.most;
-    faithful = q.store.faithful ∙ p.store.faithful;
-    faults = omega (arith, p.store.faults, q.store.faults);
-  };
-  capacity = q.capacity ∙ p.capacity;
-  count = q.count ∙ p.count;
-  length = q.length ∙ p.length;
-  asked = omega (arith, clamps, p.asked, q.asked);
-  payloads = λ f n. q.payloads (p.store.faithful ∙ f) n ∙ p.payloads f n;
-  changed = λ n u. q.changed n (p.changed n u);
-  written = λ f n h u. q.written (p.store.faithful ∙ f) n (omega (arith, h, p.count)) (p.changed n u) ∙ p.written f n h u;
-  unwritten = record {
-    clean = λ f h. q.unwritten.clean (p.store.faithful ∙ f) (λ n. p.changed n (h n)) ∙ p.unwritten.clean f h;
-    from = λ f k h. q.unwritten.from (p.store.faithful ∙ f) k (λ n l. p.changed n (h n l)) ∙ p.unwritten.from f k h;
-  };
-}
 
 caused_in_cache : (a b c : Cache) (e : CacheFault) → OnlyReads a b → IsCausedInCache b c e → IsCausedInCache a c e
 caused_in_cache a b c cache.NoPage p h = h

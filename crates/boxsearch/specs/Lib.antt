@@ -7,10 +7,5 @@ pub mod Putting
 pub mod Answers
 pub mod Marking
 pub mod Bounds
-pub mod Walking
-pub mod OldStore
-pub mod Ordering
-pub mod Checking
-pub mod Levels
 pub mod Taking
 pub mod Turns

@@ -43,8 +43,8 @@ fn of_chain(fault: ChainFault) -> IndexFault
     }
 }
 
-/// How a fault of a search is answered.
-pub(crate) fn of_search(fault: SearchFault) -> IndexFault
+/// How an index says a fault of a search: a page that is malformed is `Damaged`.
+pub fn of_search(fault: SearchFault) -> IndexFault
     ensures { result ≡ of_search fault }
 {
     match fault {
@@ -92,15 +92,5 @@ pub(crate) fn of_pages(given: Result<(), CacheFault>) -> Result<(), IndexFault>
     match given {
         Ok(()) => Ok(()),
         Err(fault) => Err(of_cache(fault)),
-    }
-}
-
-/// What a check answers.
-pub(crate) fn checked(given: Result<(), SearchFault>) -> Result<(), IndexFault>
-    ensures { result ≡ answered (λ fault. of_search fault) given }
-{
-    match given {
-        Ok(()) => Ok(()),
-        Err(fault) => Err(of_search(fault)),
     }
 }

@@ -26,7 +26,7 @@ pub enum SearchFault {
 
 impl SearchFault {
     /// Why a page was not lent. That there is none of its number is said as that page being malformed.
-    pub(crate) fn of(fault: CacheFault, page: u32) -> SearchFault
+    pub fn of(fault: CacheFault, page: u32) -> SearchFault
         ensures { result ≡ fault_of page fault }
     {
         match fault {

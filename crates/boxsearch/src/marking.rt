@@ -57,7 +57,7 @@ fn is_finished(payload: &Payload) -> bool
 
 /// Whether a payload is the header of a store that is not finished where its database has begun,
 /// and of a finished one where it has not.
-pub(crate) fn has_state(payload: &Payload, begun: bool) -> bool
+pub fn has_state(payload: &Payload, begun: bool) -> bool
     ensures { IsTrue result ↔ HasState begun payload.now }
 {
     match begun {

@@ -12,10 +12,11 @@ use crate::tree_index::TreeIndex;
 use pagecache::PageCache;
 use pages::PageStore;
 use std::alloc::Global;
+use std::mem;
 use tbtree::{Place, TbTree};
 
 impl<S: PageStore> TreeIndex<S> {
-    ghost use Rattle.std.specs.Prelude.{◌≡◌};
+    ghost use Rattle.std.specs.Prelude.{◌≡◌, []};
     ghost use Rattle.std.specs.Borrow.{sem};
     ghost use Rattle.boxsearch.specs.Lending.{LendsCache};
 
@@ -52,6 +53,33 @@ impl<S: PageStore> TreeIndex<S> {
         ensures { result.now ≡ self.now.places }
     {
         self.places.as_slice()
+    }
+
+    /// What its lists take their memory from.
+    pub fn allocator(&self) -> Global {
+        self.alloc
+    }
+
+    /// How many legs it counts.
+    pub fn leg_count(&self) -> u64
+        ensures { result ≡ self.now.legs }
+    {
+        self.legs
+    }
+
+    /// Gives the places away, for as long as its cache is lent to who needs both; `put_places` brings them back.
+    pub fn take_places(&mut self) -> Vec<Place>
+        ensures taken { result.items ≡ self.old.places }
+        ensures rest { self.new ≡ record self.old { places = [] } }
+    {
+        mem::replace(&mut self.places, Vec::new(self.alloc))
+    }
+
+    /// Brings places back, or other ones.
+    pub fn put_places(&mut self, places: Vec<Place>)
+        ensures { self.new ≡ record self.old { places = places.items } }
+    {
+        self.places = places;
     }
 
     /// The cache of its pages, for what is kept in pages beside those of the tree.

@@ -23,8 +23,3 @@ pub mod FinishLemmas
 pub mod RestLemmas
 pub mod CloseLemmas
 pub mod StateLemmas
-pub mod OldHeaderLemmas
-pub mod LentLemmas
-pub mod OldStoreLemmas
-pub mod OldBookLemmas
-pub mod MigrateLemmas

@@ -8,6 +8,7 @@ use Rattle.pages.specs.declared.payload.Payload.{Payload}
 use Rattle.pagecache.specs.declared.fault.CacheFault.{CacheFault}
 use Rattle.pagecache.specs.declared.fault.CacheFault.TheVariants as cache
 use Rattle.catalogue.specs.Header.{header_payload}
+use Rattle.catalogue.specs.Holding.{IsUnfinishedStore}
 
 -- what is left of an empty store whose page 0 was to be this payload: there is no page but page 0;
 -- of a faithful store there is none, or page 0 as written is exactly the seal of the payload, or
@@ -19,6 +20,11 @@ pub record IsFirst (payload : Payload) (old new : Store) : Type 0 where
 -- of one that was not begun: page 0 was to be the unfinished header of this shape and these limits
 abbrev pub IsLeft : ShapeView → LimitsView → Store → Store → Type 0
 IsLeft shape limits old new = IsFirst (header_payload shape limits) old new
+
+-- what is left of an empty store into which nothing was brought: it has no page, or a page 0 of a store that is
+-- not finished, or page 0 alone, whose write failed
+abbrev pub IsLeftOver : Store → Store → Type 0
+IsLeftOver old new = (new.pages ≡ []) ⊎ (IsUnfinishedStore new ⊎ ((new.count ≤ 1) × Faulted old new))
 
 -- the refusals over a faithful store
 abbrev pub IsAllowed : CacheFault → Type 0

@@ -14,6 +14,3 @@ pub mod Finishing
 pub mod Restoring
 pub mod Building
 pub mod Fields
-pub mod OldStore
-pub mod OldReading
-pub mod Migrating

@@ -7,7 +7,7 @@ ghost use Rattle.pagecache.specs.Cache.{IsClean, IsWritten, payload_of};
 ghost use Rattle.boxsearch.specs.Index.{content, IsMarked, IsSound};
 ghost use Rattle.catalogue.specs.Beginning.{IsAllowed, IsCaused, IsLeft, IsFirst};
 ghost use Rattle.catalogue.specs.Header.{header_payload};
-ghost use Rattle.catalogue.specs.Migrating.{IsLeftOver};
+ghost use Rattle.catalogue.specs.Beginning.{IsLeftOver};
 
 use crate::header::new_payload;
 use boxsearch::TreeIndex;

@@ -130,7 +130,7 @@ fn head_from(head: Head, dimension: u32) -> Option<BookHead>
 }
 
 /// Whether the tree is one of so many pages.
-pub(crate) fn is_within(count: u32, fields: &Fields) -> bool
+pub fn is_within(count: u32, fields: &Fields) -> bool
     ensures { IsTrue result ↔ IsWithin count (tree_of fields.now) }
 {
     fields.root < count && fields.leaves <= count && fields.levels <= 32
@@ -206,7 +206,7 @@ fn whole_catalogue(
 
 /// The catalogue that page 0 of so many pages and the text say, and the places of its features,
 /// where it is lawful.
-pub(crate) fn catalogue_of(
+pub fn catalogue_of(
     alloc: Global,
     keys: RandomState,
     count: u32,

@@ -13,10 +13,10 @@ use std::marker::Model;
 use tbnode::fields::{part, u16_at, u32_at, u64_at};
 
 /// How many bytes of a text a page has at most.
-pub(crate) const MOST_USED: u64 = 4040;
+pub const MOST_USED: u64 = 4040;
 
 /// How a fault of the cache is answered where a page is read.
-pub(crate) fn fault_of(fault: CacheFault) -> CatalogueFault
+pub fn fault_of(fault: CacheFault) -> CatalogueFault
     ensures { result ≡ fault_of fault }
 {
     match fault {
@@ -45,7 +45,7 @@ fn is_part(payload: &Payload, used: u64) -> bool
 
 /// Reads a text from a chain of pages, as much at a time as is asked for.
 #[derive(Drop)]
-pub(crate) struct ChainReader {
+pub struct ChainReader {
     /// The page of the chain that comes next, 0 for none.
     pub(crate) next: u32,
     /// How many bytes of the text stand there and in the pages behind it.
@@ -72,7 +72,7 @@ impl ChainReader {
     ghost use Rattle.chains.specs.Reads.{OnlyReads};
 
     /// Reads a text of that length from the chain that begins with a page.
-    pub(crate) fn new(alloc: Global, first: u32, length: u64) -> ChainReader
+    pub fn new(alloc: Global, first: u32, length: u64) -> ChainReader
         ensures { result ≡ record { next = first; left = length; bytes = [] } }
     {
         ChainReader {
@@ -81,6 +81,20 @@ impl ChainReader {
             bytes: Vec::new(alloc),
             taken: 0,
         }
+    }
+
+    /// The page of the chain that comes next, 0 for none.
+    pub fn next_page(&self) -> u32
+        ensures { result ≡ self.now.next }
+    {
+        self.next
+    }
+
+    /// How many bytes of the text stand there and in the pages behind it.
+    pub fn left(&self) -> u64
+        ensures { result ≡ self.now.left }
+    {
+        self.left
     }
 
     /// Lets go of the bytes that are taken.
@@ -93,7 +107,7 @@ impl ChainReader {
     }
 
     /// Takes in a page of the chain.
-    pub(crate) fn take_page(&mut self, payload: &Payload) -> Result<(), CatalogueFault>
+    pub fn take_page(&mut self, payload: &Payload) -> Result<(), CatalogueFault>
         requires { 0 < self.old.left }
         ensures taken { OnOk result (TakesPart payload.now self.old self.new) }
         ensures broken { IfErr result (IsPageFault payload.now self.old) }

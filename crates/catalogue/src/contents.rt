@@ -8,21 +8,21 @@ use tbtree::Place;
 /// What is kept of a feature beside its name: when its last leg ends, in milliseconds since
 /// 1970-01-01T00:00:00Z, and its place in the tree.
 #[derive(Clone, Copy, PartialEq, Eq, Debug)]
-pub(crate) struct Kept {
-    pub(crate) end: i64,
-    pub(crate) place: Place,
+pub struct Kept {
+    pub end: i64,
+    pub place: Place,
 }
 
 /// A feature.
 #[derive(Debug, Drop)]
-pub(crate) struct Feature {
-    pub(crate) name: Text,
-    pub(crate) kept: Kept,
+pub struct Feature {
+    pub name: Text,
+    pub kept: Kept,
 }
 
 /// The features in the order of their numbers, seen by contracts as a list.
 #[derive(Debug, Drop)]
-pub(crate) struct Features {
+pub struct Features {
     pub(crate) features: Vec<Feature>,
 }
 
@@ -37,7 +37,7 @@ impl Model for Features {
 
 /// The rows of attribute values, seen by contracts as a list.
 #[derive(Debug, Drop)]
-pub(crate) struct Rows {
+pub struct Rows {
     pub(crate) rows: Vec<Values>,
 }
 
@@ -60,29 +60,29 @@ impl Rows {
 
 /// The name of the coordinate reference system, and the attribute columns.
 #[derive(Debug, Drop)]
-pub(crate) struct Space {
-    pub(crate) crs: Text,
-    pub(crate) columns: Columns,
+pub struct Space {
+    pub crs: Text,
+    pub columns: Columns,
 }
 
 /// What is kept of the head of the first accepted file beside its dimension: the start instant, in
 /// milliseconds since 1970-01-01T00:00:00Z, the coordinate reference system and the columns.
 #[derive(Debug, Drop)]
-pub(crate) struct Head {
-    pub(crate) base: i64,
-    pub(crate) space: Space,
+pub struct Head {
+    pub base: i64,
+    pub space: Space,
 }
 
 /// The features and the rows.
 #[derive(Debug, Drop)]
-pub(crate) struct Lists {
-    pub(crate) features: Features,
-    pub(crate) rows: Rows,
+pub struct Lists {
+    pub features: Features,
+    pub rows: Rows,
 }
 
 /// All that a text says of a database into which a file was accepted.
 #[derive(Debug, Drop)]
-pub(crate) struct Contents {
-    pub(crate) head: Head,
-    pub(crate) lists: Lists,
+pub struct Contents {
+    pub head: Head,
+    pub lists: Lists,
 }

@@ -16,18 +16,18 @@ use tbtree::Shape;
 
 /// The shape and the limits of a database, its tree, and its catalogue.
 #[derive(Clone, Copy)]
-pub(crate) struct Fields {
-    pub(crate) shape: Shape,
-    pub(crate) limits: Limits,
+pub struct Fields {
+    pub shape: Shape,
+    pub limits: Limits,
     /// The page of the tree's root, 0 for none.
-    pub(crate) root: u32,
-    pub(crate) levels: u32,
-    pub(crate) leaves: u32,
+    pub root: u32,
+    pub levels: u32,
+    pub leaves: u32,
     /// The first page of the catalogue's text, 0 for none.
-    pub(crate) first: u32,
+    pub first: u32,
     /// How long that text is.
-    pub(crate) length: u64,
-    pub(crate) dimension: u32,
+    pub length: u64,
+    pub dimension: u32,
 }
 
 /// Writes these over the 48 bytes behind the first 12.
@@ -62,7 +62,7 @@ pub(crate) fn put_fields(payload: &mut Payload, fields: &Fields)
 }
 
 /// The number of two bytes.
-pub(crate) fn u16_of(bytes: &[u8]) -> u16
+pub fn u16_of(bytes: &[u8]) -> u16
     requires { length bytes.now ≡ 2 }
     ensures { big_bytes 2 result ≡ bytes.now }
 {
@@ -84,7 +84,7 @@ fn shape_in(bytes: &[u8]) -> Option<Shape>
 }
 
 /// The limits that page 0 says; none where they are out of range.
-pub(crate) fn limits_in(bytes: &[u8]) -> Option<Limits>
+pub fn limits_in(bytes: &[u8]) -> Option<Limits>
     requires { length bytes.now ≡ 4056 }
     ensures some { IfSome result (λ limits. SaysLimits bytes.now limits) }
     ensures none { result ≡ None → (limits : LimitsView) → IsLimits limits

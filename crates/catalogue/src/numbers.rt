@@ -5,7 +5,7 @@ ghost use Rattle.byteorder.specs.Endian.{big_bytes};
 ghost use Rattle.tbnode.specs.Parts.{signed_bytes};
 
 /// The number of eight bytes.
-pub(crate) fn u64_of(bytes: &[u8]) -> u64
+pub fn u64_of(bytes: &[u8]) -> u64
     requires { length bytes.now ≡ 8 }
     ensures { big_bytes 8 result ≡ bytes.now }
 {
@@ -15,7 +15,7 @@ pub(crate) fn u64_of(bytes: &[u8]) -> u64
 }
 
 /// The number of four bytes.
-pub(crate) fn u32_of(bytes: &[u8]) -> u32
+pub fn u32_of(bytes: &[u8]) -> u32
     requires { length bytes.now ≡ 4 }
     ensures { big_bytes 4 result ≡ bytes.now }
 {

@@ -19,13 +19,13 @@ use pages::{Kind, PageStore, Payload};
 use tbnode::fields::u32_at;
 
 /// The letters `MFTB` at the beginning of a header, as a number.
-pub(crate) const MAGIC: u32 = 0x4d46_5442;
+pub const MAGIC: u32 = 0x4d46_5442;
 
 /// The version of the format.
 const VERSION: u32 = 2;
 
 /// Whether the state of a store is that of a finished one.
-pub(crate) fn test_state(state: u32) -> Result<(), CatalogueFault>
+pub fn test_state(state: u32) -> Result<(), CatalogueFault>
     ensures value { result ≡ result_of (state_fault state) }
     ensures caused { IfErr result (λ e. (old new : Store) → IsReadingFault old new e) }
     ensures damaged { IfErr result (λ e. (faithful : Bool) (at : ℕ → Option Payload) (count : ℕ)

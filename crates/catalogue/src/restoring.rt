@@ -132,7 +132,7 @@ fn read_back<S: PageStore>(
 }
 
 /// What holds of the store below any cache, for the proofs of a caller. It does nothing.
-pub(crate) fn lawful<S: PageStore>(cache: &PageCache<S>)
+pub fn lawful<S: PageStore>(cache: &PageCache<S>)
     ensures { IsLawful cache.now.store }
 {
     let _ = cache.store();

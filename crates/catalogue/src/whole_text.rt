@@ -76,7 +76,7 @@ impl ChainReader {
 
     /// The whole text, to its end; `Malformed` where it says more legs than the limit, or more
     /// rows than legs, before any row is read.
-    pub(crate) fn whole<S: PageStore>(
+    pub fn whole<S: PageStore>(
         &mut self,
         alloc: Global,
         cache: &mut PageCache<S>,

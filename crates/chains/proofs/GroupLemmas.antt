@@ -11,76 +11,8 @@ use Rattle.std.proofs.lemmas.Nat.{div-add-mod', mul-le}
 use Rattle.std.proofs.lemmas.Option.{slice_get_within, slice_get-get_or, get_or_from_slice_get}
 use Rattle.std.proofs.Math.Nat.{add-mod_right, mod-eq_of_lt, mul-add-mod_self_right}
 use Rattle.legs.specs.Blocks.{same, begins, runs_after, groups, block, joined}
-
--- where c and c + d are multiples of k and d is not 0, d is at least k
-pub step_of_multiple : (c d k : ℕ) → c % k ≡ 0 → (c + d) % k ≡ 0 → 0 < d → 0 < k → k ≤ d
-step_of_multiple c d k e f h z =
-    let q : c / k * k + c % k ≡ c = div-add-mod' c k in
-    let split : (c / k * k + d) % k ≡ d % k = mul-add-mod_self_right (c / k) k d in
-    let same_sum : c / k * k + d ≡ c + d = omega (arith, q, e) in
-    let g : d % k ≡ 0 = sym split ∙ ap (λ n. n % k) same_sum ∙ f in
-    ⊎_elim (λ l. absurd (let r : d % k ≡ d = mod-eq_of_lt l in omega (arith, r, g))) (λ l. l) (cases_lt d k)
-
-pub all_pass : {X : Type 0} (xs : List X) → filter (λ _. true) xs ≡ xs
-all_pass [] = refl
-all_pass (x ∷ xs) = ap (λ l. x ∷ l) (all_pass xs)
-
-pub count_all : {X : Type 0} (xs : List X) → count_by (λ _. true) xs ≡ length xs
-count_all xs = sym (length-filter (λ _. true) xs) ∙ ap length (all_pass xs)
-
-pub some_none : {Y : Type 0} (y : Y) → Some y ≡ None → ⊥
-some_none {Y} y e = subst (λ (o : Option Y). elim o as (λ _. Type 0) [ Some _ ↦ Unit {0} | None ↦ ⊥ ]) e tt
-
-pub some_same : {Y : Type 0} (x y : Y) → Some x ≡ Some y → x ≡ y
-some_same {Y} x y e = ap (λ (o : Option Y). elim o as (λ _. Y) [ Some z ↦ z | None ↦ x ]) e
-
-module _ {X : Type 0} where
-  -- the n elements at s, if s is within
-  abbrev slot : ℕ → ℕ → List X → Option (List X)
-  slot n s xs = cond (nat_lt s (length xs)) (Some (take n (drop s xs))) None
-
-  slot_more : (n s : ℕ) (x : X) (xs : List X) → slot n s xs ≡ slot n (suc s) (x ∷ xs)
-  slot_more n s x xs = ap (λ b. cond b (Some (take n (drop s xs))) None) (⊎_elim (λ h. lt-ltb _ _ h ∙ sym (lt-ltb _ _ (omega (arith, h)))) (λ h. le-ltb _ _ h ∙ sym (le-ltb _ _ (omega (arith, h)))) (cases_lt s (length xs)))
-
-  group_after : (m : ℕ) (before xs : List X) (r j s : ℕ) → (length before + r) % suc m ≡ 0 → r ≤ m → r + j * suc m ≡ s → slice_get (runs_after (λ _. 0) (suc m) before xs) j ≡ slot (suc m) s xs
-  group_after m before [] r j s e l q = ap (λ b. cond b (Some (take (suc m) (drop s []))) None) (sym (le-ltb s 0 (omega arith)))
-  group_after m before (x ∷ xs) zero zero zero e l q =
-      let b : (count_by (λ _. true) before % suc m == 0) ≡ true = eq-eqb _ 0 (ap (λ n. n % suc m) (count_all before ∙ omega arith) ∙ e) in
-      ap (λ b. slice_get (cond b (take (suc m) (x ∷ filter (λ _. true) xs) ∷ runs_after (λ _. 0) (suc m) (before ++ x ∷ []) xs) (runs_after (λ _. 0) (suc m) (before ++ x ∷ []) xs)) 0) b
-      ∙ ap (λ l. Some (take (suc m) (x ∷ l))) (all_pass xs)
-      ∙ ap (λ b. cond b (Some (take (suc m) (x ∷ xs))) None) (sym (lt-ltb 0 (suc (length xs)) (omega arith)))
-  group_after m before (x ∷ xs) zero zero (suc s) e l q = absurd (omega (arith, q))
-  group_after m before (x ∷ xs) zero (suc j) zero e l q = absurd (omega (arith, q))
-  group_after m before (x ∷ xs) zero (suc j) (suc s) e l q =
-      let b : (count_by (λ _. true) before % suc m == 0) ≡ true = eq-eqb _ 0 (ap (λ n. n % suc m) (count_all before ∙ omega arith) ∙ e) in
-      let w : (length (before ++ x ∷ []) + m) % suc m ≡ 0 = ap (λ n. n % suc m) (omega (arith, length-append before (x ∷ []))) ∙ add-mod_right (length before + 0) (suc m) ∙ e in
-      ap (λ b. slice_get (cond b (take (suc m) (x ∷ filter (λ _. true) xs) ∷ runs_after (λ _. 0) (suc m) (before ++ x ∷ []) xs) (runs_after (λ _. 0) (suc m) (before ++ x ∷ []) xs)) (suc j)) b
-      ∙ group_after m (before ++ x ∷ []) xs m j s w (omega arith) (omega (arith, q))
-      ∙ slot_more (suc m) s x xs
-  group_after m before (x ∷ xs) (suc r) j zero e l q = absurd (omega (arith, q))
-  group_after m before (x ∷ xs) (suc r) j (suc s) e l q =
-      let w : (length (before ++ x ∷ []) + r) % suc m ≡ 0 = ap (λ n. n % suc m) (omega (arith, length-append before (x ∷ []))) ∙ e in
-      (elim (count_by (λ _. true) before % suc m == 0) as (λ b. (count_by (λ _. true) before % suc m == 0) ≡ b → slice_get (cond b (take (suc m) (x ∷ filter (λ _. true) xs) ∷ runs_after (λ _. 0) (suc m) (before ++ x ∷ []) xs) (runs_after (λ _. 0) (suc m) (before ++ x ∷ []) xs)) j ≡ slot (suc m) (suc s) (x ∷ xs)) [
-        | true ↦ λ b.
-            let z : length before % suc m ≡ 0 = ap (λ n. n % suc m) (sym (count_all before)) ∙ eqb-true _ 0 b in
-            absurd (let k : suc m ≤ suc r = step_of_multiple (length before) (suc r) (suc m) z e (omega arith) (omega arith) in omega (arith, k, l))
-        | false ↦ λ b. group_after m (before ++ x ∷ []) xs r j s w (omega (arith, l)) (omega (arith, q)) ∙ slot_more (suc m) s x xs
-      ]) refl
-
-  -- the j-th group, where there is one
-  pub group_at : (n : ℕ) (xs : List X) (j : ℕ) → 0 < n → slice_get (groups n xs) j ≡ cond (nat_lt (j * n) (length xs)) (Some (block n j xs)) None
-  group_at zero xs j h = absurd (omega (arith, h))
-  group_at (suc m) xs j h = group_after m [] xs 0 j (j * suc m) (mod-eq_of_lt (omega arith)) (omega arith) (omega arith)
-
-  pub group_is : (n : ℕ) (xs : List X) (j : ℕ) → 0 < n → j * n < length xs → slice_get (groups n xs) j ≡ Some (block n j xs)
-  group_is n xs j h l = group_at n xs j h ∙ ap (λ b. cond b (Some (block n j xs)) None) (lt-ltb _ _ l)
-
-  pub group_within : (n : ℕ) (xs : List X) (j : ℕ) → 0 < n → j * n < length xs → j < length (groups n xs)
-  group_within n xs j h l = slice_get_within (groups n xs) j _ (group_is n xs j h l)
-
-  pub group_beyond : (n : ℕ) (xs : List X) (j : ℕ) → 0 < n → j < length (groups n xs) → j * n < length xs
-  group_beyond n xs j h l =
-      ⊎_elim (λ k. k) (λ k. absurd (some_none _ (sym (slice_get-get_or (groups n xs) j [] l) ∙ group_at n xs j h ∙ ap (λ b. cond b (Some (block n j xs)) None) (le-ltb _ _ k)))) (cases_lt (j * n) (length xs))
+pub use Rattle.tbtree.proofs.BlockLemmas.{all_pass}
+pub use Rattle.tbtree.proofs.GroupLemmas.{some_none, some_same, group_is, group_within, group_beyond}
 
 module _ {X : Type 0} where
   take_add : (a b k : ℕ) (l : List X) → a + b ≡ k → take k l ≡ take a l ++ take b (drop a l)

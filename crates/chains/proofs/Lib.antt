@@ -3,7 +3,6 @@ pub mod GroupLemmas
 pub mod KeepLemmas
 pub mod StepLemmas
 pub mod FaultLemmas
-pub mod OwnLemmas
 pub mod BackLemmas
 pub mod PlaceLemmas
 pub mod RiseLemmas

@@ -19,7 +19,7 @@ use Rattle.chains.specs.Chains.{IsPlaceChain, IsChain, NamesNone, last_link, wal
 use Rattle.chains.specs.Trajectory.{HasFeature}
 use Rattle.chains.proofs.BackLemmas.{IsBack, Counted, StopsRight, onto, length_onto, back_of, back_none, counted_onto, is_chain, walk_blocks}
 use Rattle.chains.proofs.GroupLemmas.{all_pass, group_beyond, groups_of_one, groups_ceil, joined_groups, length_group}
-use Rattle.chains.proofs.OwnLemmas.{own_runs}
+use Rattle.tbtree.proofs.OwnRuns.{own_runs}
 use Rattle.chains.proofs.StepLemmas.{true_false}
 
 -- each leaf has a page

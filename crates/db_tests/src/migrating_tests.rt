@@ -1,6 +1,7 @@
 //! A store of version 1 that is brought over.
 use crate::lasting_tests::{change, is_want, opened, said};
 use crate::version_1::version_1;
+use migration::Migrate;
 use pages::{Fuse, MemStore, PageStore};
 use std::alloc::Global;
 use std::hash::RandomState;

@@ -8,7 +8,7 @@ use Rattle.legs.specs.Limits.{LimitsView}
 use Rattle.pages.specs.Store.{Store}
 use Rattle.boxsearch.specs.Index.{words}
 use Rattle.catalogue.specs.Holding.{HoldsBook, IsUnfinishedStore}
-use Rattle.catalogue.specs.Migrating.{IsLeftOver}
+use Rattle.catalogue.specs.Beginning.{IsLeftOver}
 use Rattle.trajdb.specs.Calls.{IsLoadFault, KeepsPages, Leaves}
 use Rattle.trajdb.specs.Db.{DbView, HasPages, IsAllowed, IsSound}
 use Rattle.trajdb.specs.Lasting.{HasBook, IsClosingFault, IsFaultless, IsIdle}

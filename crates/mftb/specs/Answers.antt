@@ -6,9 +6,10 @@ use Rattle.legs.specs.Limits.{LimitsView}
 use Rattle.pages.specs.Store.{Store, Faulted}
 use Rattle.boxsearch.specs.Index.{IndexView}
 use Rattle.catalogue.specs.Holding.{HoldsBook}
-use Rattle.catalogue.specs.Migrating.{IsBrought, IsLeftOver}
+use Rattle.catalogue.specs.Beginning.{IsLeftOver}
+use Rattle.version1.specs.Migrating.{IsBrought}
 use Rattle.catalogue.specs.Saved.{CatalogueView}
-use Rattle.trajdb.specs.Lasting.{IsMigratingFault}
+use Rattle.migration.specs.Bringing.{IsMigratingFault}
 use Rattle.trajdb.specs.Run.{HasRun}
 use Rattle.trajdb.specs.declared.OpenFault.TheVariants as opening
 use Rattle.trajdb.specs.declared.Report.{Report}

@@ -6,7 +6,7 @@ ghost use Rattle.legs.specs.Book.{Book};
 ghost use Rattle.pages.specs.Store.{Stays};
 ghost use Rattle.catalogue.specs.Holding.{HoldsBook};
 ghost use Rattle.pagecache.specs.Cache.{stored_payload};
-ghost use Rattle.catalogue.specs.OldStore.{old_first_fault, present_shape, HoldsOldBook};
+ghost use Rattle.version1.specs.OldStore.{old_first_fault, present_shape, HoldsOldBook};
 ghost use Rattle.mftb.specs.Answers.{IsNotOver, IsOverFault, WasWhole};
 
 use crate::answering::send;
@@ -14,6 +14,7 @@ use crate::fault::Fault;
 use crate::names::Names;
 use crate::opening::{is_absent, open_asked, open_in_place};
 use crate::words::{CACHE_PAGES, Migrate};
+use migration::Migrate as _;
 use pages::{FileStore, PageStore};
 use std::alloc::Global;
 use std::fs::File;

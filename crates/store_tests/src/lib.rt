@@ -15,6 +15,8 @@ mod numbers;
 #[cfg(test)]
 mod old_header_tests;
 #[cfg(test)]
+mod old_leaf_tests;
+#[cfg(test)]
 mod old_legs_tests;
 #[cfg(test)]
 mod samples;

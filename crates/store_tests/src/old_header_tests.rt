@@ -1,9 +1,10 @@
 //! Page 0 of a store of version 1.
-use catalogue::{CatalogueFault, migrate};
+use catalogue::CatalogueFault;
 use pages::{Kind, MemStore, PageStore, Payload, seal};
 use std::alloc::Global;
 use std::hash::RandomState;
 use std::test::Fail;
+use version1::migrate;
 
 /// How page 0 of a finished store of version 1 begins into which no file was accepted: the letters
 /// `MFTB`, the version, the state, 63 legs and 72 entries, the limits of 2^24 legs and 2^20

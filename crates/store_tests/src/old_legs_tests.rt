@@ -2,7 +2,6 @@
 ghost use Rattle.std.specs.Prelude.{◌≤◌};
 
 use crate::samples::leg_in_turn;
-use boxsearch::take_old_legs;
 use legs::{IndexFault, Leg, LegIndex, ListIndex, Track, Tracks};
 use pages::{Fuse, Kind, MemStore, PageStore, Payload, seal};
 use std::alloc::Global;
@@ -11,6 +10,7 @@ use std::test::Fail;
 use tbnode::fields::{put_i64, put_u16, put_u32, put_u64};
 use tbtree::Place;
 use timebase::Ms;
+use version1::take_old_legs;
 
 /// Writes that leg at a place of a payload, over 64 bytes.
 fn put_leg(payload: &mut Payload, place: usize, ordinal: u32)

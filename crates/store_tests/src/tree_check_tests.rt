@@ -13,6 +13,7 @@ use std::test::Fail;
 use tbnode::fields::put_u32;
 use tbtree::{Place, Shape, TbTree};
 use timebase::Ms;
+use treecheck::check;
 
 /// An index of that many legs in leaves of two under inner pages of two, whose page 0 says that the
 /// store is not finished.
@@ -78,7 +79,7 @@ fn told(
     index: &mut TreeIndex<MemStore>,
 ) -> Option<Option<IndexFault>> {
     let tracks = tracks(alloc, keys, &SOUND)?;
-    Some(index.check(&tracks, 6, true).err())
+    Some(check(index, &tracks, 6, true).err())
 }
 
 /// What that many legs are refused with, twice.
@@ -90,8 +91,8 @@ fn told_twice(
 ) -> Option<[Option<IndexFault>; 2]> {
     let mut index = grown(alloc, legs)?;
     let tracks = tracks(alloc, keys, beside)?;
-    let first = index.check(&tracks, beside.rows, true).err();
-    let second = index.check(&tracks, beside.rows, true).err();
+    let first = check(&mut index, &tracks, beside.rows, true).err();
+    let second = check(&mut index, &tracks, beside.rows, true).err();
     Some([first, second])
 }
 
@@ -188,7 +189,7 @@ fn told_beside(
 ) -> Option<Option<IndexFault>> {
     let mut index = grown(alloc, 6)?;
     let tracks = tracks(alloc, keys, beside)?;
-    Some(index.check(&tracks, rows, true).err())
+    Some(check(&mut index, &tracks, rows, true).err())
 }
 
 #[test]
@@ -294,7 +295,7 @@ fn told_of_state(
     }
     put_u32(&mut payload.bytes, place, value);
     let tracks = tracks(alloc, keys, &SOUND)?;
-    Some(index.check(&tracks, 6, begun).err())
+    Some(check(&mut index, &tracks, 6, begun).err())
 }
 
 #[test]
@@ -450,7 +451,7 @@ fn told_renumbered(alloc: Global, keys: RandomState) -> Option<Option<IndexFault
     let mut index = TreeIndex::from_parts(alloc, index.into_cache(), tree, places, 6);
     let ends = [6000, 5000, 0];
     let tracks = tracks(alloc, keys, &Beside { ends, ..SOUND })?;
-    Some(index.check(&tracks, 6, true).err())
+    Some(check(&mut index, &tracks, 6, true).err())
 }
 
 #[test]
@@ -644,7 +645,7 @@ fn told_torn(alloc: Global, keys: RandomState) -> Option<Option<IndexFault>> {
     }
     let mut index = TreeIndex::from_parts(alloc, cache, tree, places, 6);
     let tracks = tracks(alloc, keys, &SOUND)?;
-    Some(index.check(&tracks, 6, true).err())
+    Some(check(&mut index, &tracks, 6, true).err())
 }
 
 #[test]

@@ -8,4 +8,3 @@ pub mod LeafLemmas
 pub mod InnerLemmas
 pub mod RestLemmas
 pub mod LawLemmas
-pub mod OldLemmas

@@ -23,7 +23,7 @@ fn has_moments(bytes: &[u8]) -> bool
 }
 
 /// Whether a coordinate is in range.
-pub(crate) fn has_coord(bytes: &[u8], place: usize) -> bool
+pub fn has_coord(bytes: &[u8], place: usize) -> bool
     requires { place + 8 ≤ length bytes.now }
     ensures { result ≡ is_some (units_within (signed_at place bytes.now)) }
 {
@@ -65,7 +65,7 @@ pub(crate) fn ordinal_in(bytes: &[u8]) -> u64
 }
 
 /// The coordinate at a place.
-pub(crate) fn coord_at(bytes: &[u8], place: usize) -> Coord
+pub fn coord_at(bytes: &[u8], place: usize) -> Coord
     requires within { place + 8 ≤ length bytes.now }
     requires lawful { IsTrue (is_some (units_within (signed_at place bytes.now))) }
     ensures { result ≡ signed_at place bytes.now }
@@ -74,7 +74,7 @@ pub(crate) fn coord_at(bytes: &[u8], place: usize) -> Coord
 }
 
 /// The moment at a place.
-pub(crate) fn moment_at(bytes: &[u8], place: usize) -> Ms
+pub fn moment_at(bytes: &[u8], place: usize) -> Ms
     requires within { place + 8 ≤ length bytes.now }
     requires lawful { IsTrue (is_some (some_moment (signed_at place bytes.now))) }
     ensures { result ≡ signed_at place bytes.now }

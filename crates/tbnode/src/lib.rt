@@ -9,19 +9,15 @@ mod entries;
 pub mod fields;
 mod form;
 mod laid;
-mod old;
-mod old_laid;
 mod views;
 
 pub use edit::{init_inner, init_leaf, push_entry, push_leg, set_next, widen};
 pub use entries::Entry;
 pub use form::{inner, laws, leaf};
-pub use old::{MOST_OLD_LEGS, OldLeaf, old_leaf};
+pub use laid::{coord_at, has_coord, moment_at};
 pub use views::{Inner, InnerHead, Leaf, LeafHead, MOST_ENTRIES, MOST_LEGS};
 
 #[cfg(test)]
 mod examples;
-#[cfg(test)]
-mod old_tests;
 #[cfg(test)]
 mod tests;

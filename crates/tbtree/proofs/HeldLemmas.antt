@@ -9,12 +9,11 @@ use Rattle.std.proofs.lemmas.List.Sums.{fold-append}
 use Rattle.legs.specs.Costs.{leg_feature}
 use Rattle.legs.specs.Index.{feature_count, last_end, legs_of, CanFollow, CanFollowInTurn}
 use Rattle.legs.specs.Legs.{LegView}
-use Rattle.tbtree.specs.Check.{last_leg, first_ordinal, ComesAfter, ComeInTurn, IsRising}
-use Rattle.tbtree.proofs.CheckLemmas.{get_few}
+use Rattle.tbtree.specs.Turn.{last_leg, first_ordinal, ComesAfter, ComeInTurn, IsRising}
 use Rattle.tbtree.proofs.GroupLemmas.{some_none, some_same}
 use Rattle.tbtree.proofs.KeyRuns.{is}
 use Rattle.tbtree.proofs.OwnedLists.{numbered_at, numbered_rise}
-use Rattle.tbtree.proofs.RisingLists.{own_first, not_own, past_get}
+use Rattle.tbtree.proofs.RisingLists.{get_few, own_first, not_own, past_get}
 use Rattle.tbtree.proofs.SortLemmas.{number}
 use Rattle.tbtree.proofs.TurnLemmas.{counted, ends_at, get_split}
 use Rattle.tbtree.proofs.Widening.{cons_head, cons_tail, nil_cons}

@@ -38,12 +38,6 @@ pub mod LimitLemmas
 pub mod RisingLists
 pub mod OwnedLists
 pub mod TurnLemmas
-pub mod LeafChains
-pub mod ChainLemmas
-pub mod CheckLemmas
-pub mod CheckTree
 pub mod HeldLemmas
-pub mod HeldChains
-pub mod HeldTree
 pub mod BlockOrder
 pub mod TakenOrder

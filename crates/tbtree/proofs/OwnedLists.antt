@@ -7,7 +7,7 @@ use Rattle.std.proofs.lemmas.List.Elements.{filter-append}
 use Rattle.std.proofs.lemmas.List.Sorted.{IsPermutation-trans, IsPermutation-sym, IsPermutation-map}
 use Rattle.legs.specs.Blocks.{joined}
 use Rattle.legs.specs.Legs.{LegView}
-use Rattle.tbtree.specs.Check.{IsPast, IsRising}
+use Rattle.tbtree.specs.Turn.{IsPast, IsRising}
 use Rattle.tbtree.specs.Descent.{sort_by_ordinal}
 use Rattle.tbtree.proofs.BlockLemmas.{all_pass}
 use Rattle.tbtree.proofs.GroupLemmas.{some_none, some_same}

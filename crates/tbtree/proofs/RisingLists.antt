@@ -1,12 +1,12 @@
 -- Lists whose elements' numbers rise.
-use Rattle.std.proofs.Common.{◌≡◌, ◌≢◌, ℕ, zero, suc, ◌+◌, ◌<◌, ◌≤◌, ◌==◌, Bool, true, false, cond, List, [], ◌∷◌, map, Some, slice_get, refl, sym, ap, ◌∙◌, arith, subst, ⊎_elim, eq-eqb}
+use Rattle.std.proofs.Common.{◌≡◌, ◌≢◌, ℕ, zero, suc, ◌+◌, ◌<◌, ◌≤◌, ◌==◌, Bool, true, false, cond, List, [], ◌∷◌, length, map, Some, slice_get, refl, sym, ap, ◌∙◌, arith, subst, ⊎_elim, eq-eqb}
 use Rattle.std.specs.List.{filter, sum_by, All}
 use Rattle.std.specs.List.Sorted.{IsPermutation, IsNonDecreasingBy}
 use Rattle.std.proofs.lemmas.Bool.{cases_eq}
 use Rattle.std.proofs.lemmas.List.Sums.{sum_by-cons}
 use Rattle.std.proofs.lemmas.List.Elements.{All-head, All-tail, All-nil, All-cons}
 use Rattle.std.proofs.lemmas.List.Sorted.{sum_by-IsPermutation, All-permutation}
-use Rattle.tbtree.specs.Check.{IsPast, IsRising}
+use Rattle.tbtree.specs.Turn.{IsPast, IsRising}
 use Rattle.tbtree.proofs.BlockLemmas.{all_pass}
 use Rattle.tbtree.proofs.GroupLemmas.{some_none, some_same}
 use Rattle.tbtree.proofs.KeyRuns.{is}
@@ -18,6 +18,11 @@ module _ {X : Type 0} where
   -- the element is one of the list
   abbrev pub IsIn : List X → X → Type 0
   IsIn xs x = (i : ℕ) × (slice_get xs i ≡ Some x)
+
+  pub get_few : (xs : List X) (i : ℕ) (x : X) → slice_get xs i ≡ Some x → i < length xs
+  get_few [] i x e = absurd (some_none x (sym e))
+  get_few (y ∷ xs) zero x e = omega arith
+  get_few (y ∷ xs) (suc i) x e = (let l = get_few xs i x e in omega (arith, l))
 
   pub all_in : (xs : List X) → All (IsIn xs) xs
   all_in xs = all_from_get (IsIn xs) xs (λ i x e. (i, e))

@@ -15,7 +15,7 @@ use Rattle.legs.specs.Costs.{leg_feature, leaves_of}
 use Rattle.legs.specs.Hull.{leg_boxes}
 use Rattle.legs.specs.Index.{CanFollowInTurn, feature_count, legs_of}
 use Rattle.legs.specs.Legs.{LegView}
-use Rattle.tbtree.specs.Check.{IsPast, IsRising}
+use Rattle.tbtree.specs.Turn.{IsPast, IsRising}
 use Rattle.tbtree.specs.Joining.{CanJoin, CanTakeInTurn, Holds, IsReordered, leaf_by_leaf}
 use Rattle.tbtree.specs.Nodes.{Pages}
 use Rattle.tbtree.specs.Order.{put_in, put_all, elements, run_for, with_last, numbered}

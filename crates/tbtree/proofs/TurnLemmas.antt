@@ -7,7 +7,7 @@ use Rattle.std.proofs.lemmas.List.Elements.{filter-append}
 use Rattle.legs.specs.Costs.{leg_feature}
 use Rattle.legs.specs.Index.{feature_count, last_end, CanFollow, CanFollowInTurn}
 use Rattle.legs.specs.Legs.{LegView}
-use Rattle.tbtree.specs.Check.{last_leg, first_ordinal, ComesAfter, ComeInTurn, IsPast, IsRising}
+use Rattle.tbtree.specs.Turn.{last_leg, first_ordinal, ComesAfter, ComeInTurn, IsPast, IsRising}
 use Rattle.tbtree.proofs.GroupLemmas.{some_none, some_same}
 use Rattle.tbtree.proofs.KeyRuns.{is}
 use Rattle.tbtree.proofs.OwnedLists.{AreOf, numbered_at}

@@ -10,4 +10,4 @@ pub mod Order
 pub mod Joining
 pub mod Descent
 pub mod Bounds
-pub mod Check
+pub mod Turn

@@ -10,12 +10,12 @@ ghost use Rattle.legs.specs.Legs.{IsLeg, LegView};
 ghost use Rattle.legs.specs.declared.tracks.Track.{Track};
 ghost use Rattle.pagecache.specs.Cache.{Cache};
 ghost use Rattle.tbtree.specs.Bounds.{IsBounded, IsBoundedPlace};
-ghost use Rattle.tbtree.specs.Check.{HoldChains, HoldLegs, IsChecked, IsRising};
 ghost use Rattle.tbtree.specs.Descent.{content_of, sort_by_ordinal, Descends, IsPruning, IsSameTree};
 ghost use Rattle.tbtree.specs.Insert.{IsPlace, Stands};
 ghost use Rattle.tbtree.specs.Nodes.{Pages, pages_of_cache};
 ghost use Rattle.tbtree.specs.Shape.{IsShape};
 ghost use Rattle.tbtree.specs.Stands.{no_place};
+ghost use Rattle.tbtree.specs.Turn.{IsRising};
 ghost use Rattle.tbtree.specs.declared.tree.Place.{Place};
 ghost use Rattle.tbtree.specs.declared.tree.TbTree.{TbTree};
 
@@ -63,36 +63,6 @@ pub fn laws()
         (legs : List LegView) (pages : ℕ → List ℕ) (feature : ℕ) (place : Place)
         → Stands nodes tree legs pages → IsPlace tree legs pages feature place
         → IsBoundedPlace nodes legs feature place }
-
-    // Pages that a check finds whole hold a list of legs, with the places and the tracks of its features.
-    ensures checked { (nodes : Pages LegView BoxView) (tree : TbTree) (rows total : ℕ)
-        (places : List Place) (tracks : List Track) → IsShape tree.shape
-        → IsChecked nodes tree rows total places tracks → HoldLegs nodes tree rows total places tracks }
-
-    // And pages that hold one are found whole.
-    ensures held { (nodes : Pages LegView BoxView) (tree : TbTree) (rows total : ℕ)
-        (places : List Place) (tracks : List Track) → IsShape tree.shape
-        → HoldLegs nodes tree rows total places tracks → IsChecked nodes tree rows total places tracks }
-
-    // The legs that chains hold may follow one another, and they are one list alone. Where pages hold a list, it is
-    // the one that its chains hold.
-    ensures chained { (nodes : Pages LegView BoxView) (most rows total : ℕ)
-        (places : List Place) (tracks : List Track) (legs : List LegView) → 0 < most
-        → HoldChains nodes most rows total places tracks legs → CanFollowInTurn [] legs }
-    ensures one_list { (nodes : Pages LegView BoxView) (most rows total : ℕ)
-        (places : List Place) (tracks : List Track) (a b : List LegView)
-        → HoldChains nodes most rows total places tracks a
-        → HoldChains nodes most rows total places tracks b → a ≡ b }
-    ensures held_chains { (nodes : Pages LegView BoxView) (tree : TbTree) (rows total : ℕ)
-        (places : List Place) (tracks : List Track) → 0 < tree.shape.leaf
-        → (held : HoldLegs nodes tree rows total places tracks)
-        → HoldChains nodes tree.shape.leaf rows total places tracks held.legs }
-
-    // Legs with each ordinal below a total once are, in their order, numbered by their places.
-    ensures numbered { (all : List LegView) (total : ℕ)
-        → IsPermutation (map (λ leg. leg.ordinal) all) (range_with_len 0 total)
-        → IsPermutation all (sort_by_ordinal all)
-        × (map (λ leg. leg.ordinal) (sort_by_ordinal all) ≡ range_with_len 0 total) }
 
     // Numbers that rise are the only order of theirs in which none is below the one before it.
     ensures in_order { (number : ℕ → ℕ) (rising ordered : List ℕ) → IsRising number rising

@@ -9,7 +9,6 @@ use Rattle.legs.specs.Tracks.{StandsFor}
 use Rattle.boxsearch.specs.Index.{content, words, IndexView, IsMarked, IsSound as IsSoundIndex}
 use Rattle.catalogue.specs.Holding.{AnswersBook, HoldsBook, IsAtRest, IsOfBook, IsUnfinishedStore}
 use Rattle.catalogue.specs.Lasting as catalogue
-use Rattle.catalogue.specs.Migrating.{IsLegFault as IsOldLegFault}
 use Rattle.catalogue.specs.Saved.{CatalogueView}
 use Rattle.catalogue.specs.Saving.{IsAllowed}
 use Rattle.catalogue.specs.declared.fault.CatalogueFault.{CatalogueFault}
@@ -25,17 +24,7 @@ use Rattle.trajdb.specs.Database.{catalogue_of, restored}
 use Rattle.trajdb.specs.Db.{DbView, HasPages, IsSound}
 use Rattle.trajdb.specs.Db.{IsAllowed as IsAllowedOpening}
 use Rattle.trajdb.specs.Faults.{closed_answer, opened_fault_of}
-use Rattle.trajdb.specs.Lasting.{HasBook, IsFaultless, IsIdle, IsLegFault, IsStop, IsTrulyDamaged}
-
--- why a store that keeps a catalogue is not brought over
-pub leg_opening : (e : CatalogueFault) → IsOldLegFault e → IsLegFault (opened_fault_of e)
-leg_opening fault.Memory h = tt
-leg_opening fault.Store h = tt
-leg_opening fault.StoreFull h = tt
-leg_opening (fault.Damaged page) h = tt
-leg_opening fault.Unfinished h = h
-leg_opening fault.Version h = h
-leg_opening fault.Malformed h = h
+use Rattle.trajdb.specs.Lasting.{HasBook, IsFaultless, IsIdle, IsStop, IsTrulyDamaged}
 
 -- a book that is answered is that of the database
 pub opened_book : (shape : ShapeView) (limits : LimitsView) (book : Book) (c : CatalogueView) (index : IndexView) (begun : Bool) (db : DbView) → db ≡ restored words c index begun → IsLimits db.limits → AnswersBook shape limits book c index → HasBook shape limits book db

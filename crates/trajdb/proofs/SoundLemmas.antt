@@ -8,7 +8,7 @@ use Rattle.legs.specs.Legs.{LegView}
 use Rattle.legs.specs.Limits.{IsLimits}
 use Rattle.legs.specs.Tracks.{StandsFor}
 use Rattle.legs.specs.declared.head.BookHead.{BookHead}
-use Rattle.boxsearch.specs.Checking.{AreTracksOf}
+use Rattle.treecheck.specs.Checking.{AreTracksOf}
 use Rattle.std.specs.Prelude.{IfErr}
 use Rattle.legs.specs.Index.{MayRefuse}
 use Rattle.legs.specs.declared.index.IndexFault.{IndexFault}

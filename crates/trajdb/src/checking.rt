@@ -101,7 +101,7 @@ impl<S: PageStore> Core<TreeIndex<S>> {
     ghost use Rattle.legs.specs.Limits.{IsLimits};
     ghost use Rattle.legs.specs.declared.index.IndexFault.{IndexFault};
     ghost use Rattle.pagecache.specs.Cache.{payload_of, IsClean};
-    ghost use Rattle.boxsearch.specs.Checking.{AreTracksOf};
+    ghost use Rattle.treecheck.specs.Checking.{AreTracksOf};
     ghost use Rattle.boxsearch.specs.Index.{content, words, IsSound, SaysState};
     ghost use Rattle.trajdb.specs.Calls.{IsAsked, IsQuestionFault, Leaves};
     ghost use Rattle.trajdb.specs.Checking.{Reports};
@@ -146,7 +146,7 @@ impl<S: PageStore> Core<TreeIndex<S>> {
     {
         prove!(self.limits.legs() > 0);
         let rows = self.rows.len() as u64;
-        self.index.check(&self.tracks, rows, self.begun)
+        treecheck::check(&mut self.index, &self.tracks, rows, self.begun)
     }
 
     /// Checks its pages, and what stands beside them.

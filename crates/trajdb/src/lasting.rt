@@ -6,6 +6,7 @@ use crate::database::Core;
 use crate::db::Db;
 use crate::start::Start;
 use crate::{OpenFault, RunFault};
+use boxsearch::TreeIndex;
 use catalogue::{Catalogue, CatalogueFault};
 use pages::PageStore;
 use std::alloc::Global;
@@ -78,12 +79,14 @@ impl<S: PageStore> Db<S> {
     ghost use Rattle.std.specs.Prelude.{◌≡◌, ◌<◌, IsTrue, IfErr, IfOk, MatchResult, OnOk, None, Ok, Err, true, false};
     ghost use Rattle.legs.specs.Book.{Book};
     ghost use Rattle.legs.specs.Costs.{ShapeView};
-    ghost use Rattle.legs.specs.Limits.{LimitsView};
+    ghost use Rattle.legs.specs.Limits.{IsLimits, LimitsView};
+    ghost use Rattle.boxsearch.specs.Index.{words};
     ghost use Rattle.pages.specs.Store.{Keeps, Stays};
     ghost use Rattle.pagecache.specs.Cache.{stored_payload};
     ghost use Rattle.catalogue.specs.Holding.{HoldsBook, IsUnfinishedStore};
     ghost use Rattle.catalogue.specs.Lasting.{first_fault};
     ghost use Rattle.trajdb.specs.Calls.{IsLoadFault};
+    ghost use Rattle.trajdb.specs.Database.{restored};
     ghost use Rattle.trajdb.specs.Db.{HasPages, IsSound};
     ghost use Rattle.trajdb.specs.Lasting.{ComesFirst, HasBook, IsClosingFault, IsFaultless, IsIdle, IsOpeningFault, IsStop, IsTrulyDamaged, IsUnfinishedAnswer};
     ghost use Rattle.trajdb.specs.declared.RunFault.{RunFault};
@@ -144,6 +147,17 @@ impl<S: PageStore> Db<S> {
                 core: Core::restored(catalogue, index, false),
             }),
             Err((store, fault)) => Err((store, OpenFault::from(fault))),
+        }
+    }
+
+    /// A database of these parts: what is known beside the legs, and their index; whether it has
+    /// begun. It is sound where they belong together, which is not tested.
+    pub fn from_parts(catalogue: Catalogue, index: TreeIndex<S>, begun: bool) -> Db<S>
+        ensures parts { result ≡ restored words catalogue index begun }
+        ensures limits { IsLimits result.limits }
+    {
+        Db {
+            core: Core::restored(catalogue, index, begun),
         }
     }
 

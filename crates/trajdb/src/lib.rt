@@ -10,7 +10,6 @@ mod db;
 mod files;
 mod lasting;
 mod load;
-mod migrating;
 mod output;
 mod questions;
 mod script;

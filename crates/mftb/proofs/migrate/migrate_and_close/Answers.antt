@@ -1,6 +1,6 @@
 use Rattle.std.proofs.Common.{◌≡◌, false}
 use Rattle.catalogue.specs.Holding.{IsUnfinishedStore}
-use Rattle.catalogue.specs.OldStore.{present_shape}
+use Rattle.version1.specs.OldStore.{present_shape}
 use Rattle.trajdb.specs.Calls.{IsLoadFault}
 use Rattle.trajdb.specs.Db.{HasPages, IsSound}
 use Rattle.trajdb.specs.Database.{catalogue_of}

@@ -1,13 +1,7 @@
-use Rattle.std.proofs.Common.{arith}
-use Rattle.tbtree.proofs.ChainLemmas.{chained, one_list}
-use Rattle.tbtree.proofs.CheckTree.{hold}
-use Rattle.tbtree.proofs.HeldTree.{checked, chains_hold}
-use Rattle.tbtree.proofs.RisingLists.{in_order_once}
 use Rattle.tbtree.proofs.LawLemmas.{content_is, descends, height_is, legs_fit, absent_is, same_content, still_stands}
 use Rattle.tbtree.proofs.LegalLemmas.{content_lawful}
 use Rattle.tbtree.proofs.LimitLemmas.{bounded, bounded_place}
-use Rattle.tbtree.proofs.OwnedLists.{numbered}
-use Rattle.tbtree.proofs.SortLemmas.{sort_moves}
+use Rattle.tbtree.proofs.RisingLists.{in_order_once}
 use Rattle.tbtree.proofs.descent.laws.Goals as goal
 
 pub returns : goal.returns
@@ -22,11 +16,5 @@ returns c = record {
   absent = absent_is;
   bounds = bounded;
   place_bounds = bounded_place;
-  checked = hold;
-  held = λ nodes tree rows total places tracks shape. checked nodes tree rows total places tracks (let l = shape.least_leaf in omega (arith, l));
-  chained = λ nodes most rows total places tracks legs some. chained nodes most rows total places tracks some legs;
-  one_list = one_list;
-  held_chains = chains_hold;
-  numbered = λ all total once. (sort_moves all, numbered all total once);
   in_order = in_order_once;
 }

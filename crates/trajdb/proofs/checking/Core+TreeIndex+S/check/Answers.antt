@@ -2,7 +2,7 @@ use Rattle.std.proofs.Common.{ℕ, ◌≡◌, ◌∙◌, ap, sym, subst, length,
 use Rattle.std.proofs.lemmas.Bool.{true≢false}
 use Rattle.std.proofs.lemmas.Result.{err_from_is_err_and}
 use Rattle.pagecache.specs.Cache.{payload_of, IsSettled}
-use Rattle.boxsearch.specs.Checking.{AreTracksOf}
+use Rattle.treecheck.specs.Checking.{AreTracksOf}
 use Rattle.boxsearch.specs.Index.{words, IndexView, SaysState}
 use Rattle.trajdb.specs.Checking.{KeepsLaw}
 use Rattle.trajdb.specs.Db.{DbView, IsSound}

@@ -1,0 +1,19 @@
+use Rattle.std.proofs.Common.{sym, subst, true}
+use Rattle.version1.specs.OldStore.{present_shape}
+use Rattle.trajdb.specs.Db.{IsAllowed}
+use Rattle.trajdb.proofs.LastingLemmas.{allowed_opening, opened_book}
+use Rattle.migration.specs.Bringing.{IsLegFault}
+use Rattle.migration.proofs.BringingLemmas.{leg_opening}
+use Rattle.migration.proofs.migrating.DbMigrate.migrate.Goals as goal
+
+pub returns-in-Ok-clause-book : goal.returns-in-Ok-clause-book
+returns-in-Ok-clause-book g c = λ fa fb shape limits book h.
+    opened_book (present_shape shape) limits book c.in-Ok.catalogue c.in-Ok.index true c.from_parts.result c.from_parts.ensures.parts c.from_parts.ensures.limits (c.in-Ok.ensures.book fa fb shape limits book h)
+
+pub returns-in-Err-clause-holds : goal.returns-in-Err-clause-holds
+returns-in-Err-clause-holds g c = λ fa fb shape limits book h.
+    subst IsAllowed (sym c.from.ensures) (allowed_opening c.in-Err.fault (c.in-Err.ensures.holds fa fb shape limits book h))
+
+pub returns-in-Err-clause-kept : goal.returns-in-Err-clause-kept
+returns-in-Err-clause-kept g c = λ fa fb catalogue tree places kept.
+    subst IsLegFault (sym c.from.ensures) (leg_opening c.in-Err.fault (c.in-Err.ensures.kept fa fb catalogue tree places kept))

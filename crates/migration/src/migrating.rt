@@ -1,0 +1,119 @@
+//! `Db::migrate`: a database of version 1 is brought over.
+use pages::PageStore;
+use std::alloc::Global;
+use std::hash::RandomState;
+use trajdb::{Db, OpenFault};
+
+/// Bringing a database of version 1 over into a new store: with it `Db::migrate` is a call of
+/// [`Db`].
+pub trait Migrate<T: PageStore> {
+    ghost use Rattle.std.specs.Prelude.{◌≡◌, ◌<◌, ◌≤◌, List, None, IsTrue, IfErr, IfOk, false, true};
+    ghost use Rattle.legs.specs.Book.{Book};
+    ghost use Rattle.legs.specs.Costs.{ShapeView};
+    ghost use Rattle.legs.specs.Limits.{LimitsView};
+    ghost use Rattle.pages.specs.Store.{Stays};
+    ghost use Rattle.pagecache.specs.Cache.{stored_payload};
+    ghost use Rattle.catalogue.specs.Beginning.{IsLeftOver};
+    ghost use Rattle.catalogue.specs.Saved.{CatalogueView};
+    ghost use Rattle.tbtree.specs.declared.tree.Place.{Place};
+    ghost use Rattle.tbtree.specs.declared.tree.TbTree.{TbTree};
+    ghost use Rattle.version1.specs.Migrating.{IsBrought};
+    ghost use Rattle.version1.specs.OldStore.{old_first_fault, present_shape, HoldsOldBook, IsKeptOld};
+    ghost use Rattle.trajdb.specs.Database.{catalogue_of};
+    ghost use Rattle.trajdb.specs.Db.{HasPages, IsAllowed};
+    ghost use Rattle.trajdb.specs.Lasting.{ComesFirst, HasBook, IsTrulyDamaged};
+    ghost use Rattle.migration.specs.Bringing.{IsLegFault, IsMigratingFault};
+
+    /// Brings the database of a finished store of version 1 over into an empty store, with a cache of
+    /// at most that many pages, at least 1: the same legs, names, attribute values, base, coordinate
+    /// reference system, columns and limits, in two dimensions. A leaf takes as many legs as before,
+    /// but 50 at most; an inner page takes as many entries. Names and legs are hashed with the keys,
+    /// which a stranger who chooses the names of a file is not to know.
+    ///
+    /// The store of version 1 is lent: it is read, each page by its seal, and never written. The
+    /// legs are put in one by one; of them are kept in memory 64 bytes or so a leaf, 8 bytes a leg
+    /// while the chains are walked, and then the legs of at most one leaf a feature. What is said of
+    /// memory, and of how many pages are in it, no clause says.
+    ///
+    /// Of page 0 of the lent store it is said first that it is not there (`Malformed`), is damaged, is
+    /// no header (`Malformed`), has another version than 1, is of a store that was not finished, or of
+    /// one in another state (`Malformed`); then the first page that is damaged, or malformed, as met;
+    /// where the leaves of the features are not whole, `Damaged` is the page at which the walk along
+    /// them fails, or page 0 where all of them do not have the legs that are to be (no clause says
+    /// which). `StoreFull` is the new store. Where it is refused the new
+    /// store is handed back: without pages, with a page 0 that says that it is not finished, or with
+    /// page 0 alone, whose write failed.
+    fn migrate<S: PageStore>(
+        alloc: Global,
+        keys: RandomState,
+        old: &mut S,
+        new: T,
+        cache_pages: usize,
+    ) -> Result<Db<T>, (T, OpenFault)>
+        requires empty { (T.seen new).count ≡ 0 }
+        requires cache_pages { 0 < cache_pages }
+
+        // A store whose pages hold a book gives a sound database with that book.
+        ensures book { IfOk result (λ db. IsTrue (S.seen old.old).is_faithful
+            → IsTrue (T.seen new).is_faithful
+            → (shape : ShapeView) (limits : LimitsView) (book : Book)
+            → HoldsOldBook (S.seen old.old) shape limits book
+            → HasBook (present_shape shape) limits book db) }
+        ensures holds { IfErr result (λ back. IsTrue (S.seen old.old).is_faithful
+            → IsTrue (T.seen new).is_faithful
+            → (shape : ShapeView) (limits : LimitsView) (book : Book)
+            → HoldsOldBook (S.seen old.old) shape limits book → IsAllowed back.1) }
+
+        // Whatever the pages keep is brought over, but for memory, the two stores and a damaged page;
+        // where they keep no catalogue, a page that is said to be damaged is so.
+        ensures brought { IfOk result (λ db. IsTrue (S.seen old.old).is_faithful
+            → IsTrue (T.seen new).is_faithful
+            → IsBrought (S.seen old.old) (catalogue_of db) db.index) }
+        ensures kept { IfErr result (λ back. IsTrue (S.seen old.old).is_faithful
+            → IsTrue (T.seen new).is_faithful
+            → (c : CatalogueView) (tree : TbTree) (places : List Place)
+            → IsKeptOld (stored_payload (S.seen old.old)) (S.seen old.old).count c tree places
+            → IsLegFault back.1) }
+        ensures damaged { IfErr result (λ back. IsTrue (S.seen old.old).is_faithful
+            → IsTrue (T.seen new).is_faithful
+            → ((c : CatalogueView) (tree : TbTree) (places : List Place)
+            → IsKeptOld (stored_payload (S.seen old.old)) (S.seen old.old).count c tree places
+            → ⊥)
+            → IsTrulyDamaged (S.seen old.old).is_faithful
+            (stored_payload (S.seen old.old)) (S.seen old.old).count back.1) }
+
+        // It has begun: page 0 of the new store says that it is not finished.
+        ensures begun { IfOk result (λ db. db.begun ≡ true) }
+        ensures lives { IfOk result (λ db. db.failed ≡ false) }
+        ensures pages { IfOk result (λ db. IsTrue (S.seen old.old).is_faithful
+            → IsTrue (T.seen new).is_faithful → HasPages db) }
+
+        // Page 0 comes first.
+        ensures first { IfErr result (λ back. IsTrue (S.seen old.old).is_faithful → ComesFirst
+            (old_first_fault (S.seen old.old).count (stored_payload (S.seen old.old) 0)) back.1) }
+        ensures finished { IfOk result (λ db. IsTrue (S.seen old.old).is_faithful
+            → old_first_fault (S.seen old.old).count (stored_payload (S.seen old.old) 0) ≡ None) }
+
+        // The store of version 1 stays as it is; of the other this is left.
+        ensures stays { Stays (S.seen old.old) (S.seen old.new) }
+        ensures faults { IfOk result (λ db. (T.seen new).faults ≤ db.index.cache.store.faults) }
+        ensures left { IfErr result (λ back. IsTrue (S.seen old.old).is_faithful
+            → IsTrue (T.seen new).is_faithful → IsLeftOver (T.seen new) (T.seen back.0)) }
+        ensures caused { IfErr result (λ back. IsMigratingFault (S.seen old.old) (S.seen old.new)
+            (T.seen new) (T.seen back.0) back.1) };
+}
+
+impl<T: PageStore> Migrate<T> for Db<T> {
+    fn migrate<S: PageStore>(
+        alloc: Global,
+        keys: RandomState,
+        old: &mut S,
+        new: T,
+        cache_pages: usize,
+    ) -> Result<Db<T>, (T, OpenFault)> {
+        match version1::migrate(alloc, keys, old, new, cache_pages) {
+            Ok((catalogue, index)) => Ok(Db::from_parts(catalogue, index, true)),
+            Err((store, fault)) => Err((store, OpenFault::from(fault))),
+        }
+    }
+}

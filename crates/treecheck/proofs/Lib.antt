@@ -1,0 +1,17 @@
+pub mod ChainLemmas
+pub mod CheckLemmas
+pub mod CheckTree
+pub mod HeldChains
+pub mod HeldTree
+pub mod LeafChains
+pub mod CheckingLemmas
+pub mod GroupLemmas
+pub mod LevelsLemmas
+pub mod OrderLemmas
+pub mod OverLemmas
+pub mod SoundLemmas
+pub mod SpanLemmas
+pub mod StandLemmas
+pub mod SurveyLemmas
+pub mod WalkLemmas
+pub mod WalkedLemmas

@@ -1,0 +1,115 @@
+use Rattle.std.proofs.Common.{◌≡◌, ◌<◌, length, false, sym, ap, ◌∙◌, subst, List, IsTrue}
+use Rattle.std.specs.Prelude.{IfErr, OnOk}
+use Rattle.legs.specs.Asking.{Leaves}
+use Rattle.legs.specs.Index.{MayRefuse}
+use Rattle.pagecache.specs.Cache.{Cache, payload_of}
+use Rattle.chains.specs.Reads.{OnlyReads}
+use Rattle.treecheck.specs.Check.{HoldLegs, IsChecked}
+use Rattle.tbtree.specs.Nodes.{pages_of_cache}
+use Rattle.tbtree.specs.Shape.{IsShape}
+use Rattle.tbtree.specs.declared.tree.Place.{Place}
+use Rattle.tbtree.specs.declared.tree.TbTree.{TbTree}
+use Rattle.boxsearch.specs.Answers.{of_search}
+use Rattle.boxsearch.specs.Beside.{with_cache}
+use Rattle.boxsearch.specs.Faults.{IsAllowed}
+use Rattle.boxsearch.specs.Index.{IndexView, words, content, IsSound, SaysState}
+use Rattle.boxsearch.proofs.AnswerLemmas.{each_fault, each_value, search_allowed}
+use Rattle.boxsearch.proofs.IndexLemmas.{reads_leave}
+use Rattle.boxsearch.proofs.ResultLemmas.{now_says}
+use Rattle.treecheck.specs.Checking.{Agree, AreTracksOf}
+use Rattle.treecheck.proofs.SoundLemmas.{TreeLaws, ended, sound, tracks_are, agrees, few, held, passed}
+use Rattle.treecheck.proofs.WalkedLemmas.{same_pages}
+use Rattle.treecheck.proofs.checking.check.Goals as goal
+
+pub returns-clause-same : goal.returns-clause-same
+returns-clause-same g c =
+    let left : IndexView = c.check_index-given.new.index in
+    subst (λ (v : IndexView). v ≡ with_cache c.args.index.now v.cache) (sym c.put_places.ensures)
+    (ended c.args.index.now c.take_places-places.new.self left c.take_places-places.result.items c.take_places-places.ensures.rest c.check_index-given.ensures.same c.take_places-places.ensures.taken)
+
+pub returns-clause-sound : goal.returns-clause-sound
+returns-clause-sound g c =
+    let index : IndexView = c.args.index.now in
+    let lent : IndexView = c.take_places-places.new.self in
+    let left : IndexView = c.check_index-given.new.index in
+    let given = c.check_index-given in
+    let rest = c.take_places-places.ensures.rest in
+    let new : IndexView = record index { cache = left.cache } in
+    let ends : c.put_places.new.self ≡ new = c.put_places.ensures ∙ ended index lent left c.take_places-places.result.items rest given.ensures.same c.take_places-places.ensures.taken in
+    let tracks = c.args.tracks.now in
+    let rows = c.args.rows in
+    let places : List Place = c.as_slice.result.now in
+    let laws : TreeLaws = record { content = c.laws.ensures.content; lawful = c.laws.ensures.lawful } in
+    let value : places ≡ index.places = c.as_slice.ensures.value ∙ c.take_places-places.ensures.taken in
+    let works : index.tree.spent ≡ false = sym (ap (λ (v : TbTree). v.spent) c.tree.ensures) ∙ c.if-tree.false in
+    subst (λ (v : IndexView). OnOk c.checked.result (IsTrue index.cache.store.is_faithful → IsSound v)) (sym ends)
+    (subst (λ r. OnOk r (IsTrue index.cache.store.is_faithful → IsSound new)) (sym c.checked.ensures)
+    (each_value (λ fault. of_search fault) (λ _. IsTrue index.cache.store.is_faithful → IsSound new) given.result
+    (passed given.result (IsTrue index.cache.store.is_faithful) (IsChecked (pages_of_cache index.cache) index.tree rows index.legs places tracks.tracks) (Agree tracks rows index.legs) (index.cache.count ≡ index.cache.store.count) (IsSound new)
+    (subst (λ (v : IndexView). IsTrue v.cache.store.is_faithful → OnOk given.result (IsChecked (pages_of_cache v.cache) v.tree rows v.legs places tracks.tracks)) rest given.ensures.checked)
+    (subst (λ (v : IndexView). OnOk given.result (Agree tracks rows v.legs)) rest given.ensures.agree)
+    (subst (λ (v : IndexView). OnOk given.result (v.cache.count ≡ v.cache.store.count)) rest given.ensures.count)
+    (λ fa k a n.
+    let reads : OnlyReads index.cache left.cache = subst (λ (v : IndexView). OnlyReads v.cache left.cache) rest given.ensures.reads in
+    let shape : IsShape index.tree.shape = subst (λ (v : IndexView). IsShape v.tree.shape) rest given.ensures.shape in
+    let h = subst (λ nodes. HoldLegs nodes index.tree rows index.legs index.places tracks.tracks) (sym (same_pages index.cache left.cache reads fa))
+    (subst (λ places. HoldLegs (pages_of_cache index.cache) index.tree rows index.legs places tracks.tracks) value (c.laws-2.ensures.checked (pages_of_cache index.cache) index.tree rows index.legs places tracks.tracks shape k)) in
+    sound laws new tracks rows (reads.store.faithful ∙ fa) works shape (reads.count ∙ n ∙ sym reads.length) h))))
+
+pub returns-clause-tracks : goal.returns-clause-tracks
+returns-clause-tracks g c =
+    let index : IndexView = c.args.index.now in
+    let lent : IndexView = c.take_places-places.new.self in
+    let left : IndexView = c.check_index-given.new.index in
+    let given = c.check_index-given in
+    let rest = c.take_places-places.ensures.rest in
+    let new : IndexView = record index { cache = left.cache } in
+    let ends : c.put_places.new.self ≡ new = c.put_places.ensures ∙ ended index lent left c.take_places-places.result.items rest given.ensures.same c.take_places-places.ensures.taken in
+    let tracks = c.args.tracks.now in
+    let rows = c.args.rows in
+    let places : List Place = c.as_slice.result.now in
+    let laws : TreeLaws = record { content = c.laws.ensures.content; lawful = c.laws.ensures.lawful } in
+    let value : places ≡ index.places = c.as_slice.ensures.value ∙ c.take_places-places.ensures.taken in
+    let works : index.tree.spent ≡ false = sym (ap (λ (v : TbTree). v.spent) c.tree.ensures) ∙ c.if-tree.false in
+    subst (λ (v : IndexView). OnOk c.checked.result (IsTrue index.cache.store.is_faithful → AreTracksOf tracks rows (content v))) (sym ends)
+    (subst (λ r. OnOk r (IsTrue index.cache.store.is_faithful → AreTracksOf tracks rows (content new))) (sym c.checked.ensures)
+    (each_value (λ fault. of_search fault) (λ _. IsTrue index.cache.store.is_faithful → AreTracksOf tracks rows (content new)) given.result
+    (passed given.result (IsTrue index.cache.store.is_faithful) (IsChecked (pages_of_cache index.cache) index.tree rows index.legs places tracks.tracks) (Agree tracks rows index.legs) (index.cache.count ≡ index.cache.store.count) (AreTracksOf tracks rows (content new))
+    (subst (λ (v : IndexView). IsTrue v.cache.store.is_faithful → OnOk given.result (IsChecked (pages_of_cache v.cache) v.tree rows v.legs places tracks.tracks)) rest given.ensures.checked)
+    (subst (λ (v : IndexView). OnOk given.result (Agree tracks rows v.legs)) rest given.ensures.agree)
+    (subst (λ (v : IndexView). OnOk given.result (v.cache.count ≡ v.cache.store.count)) rest given.ensures.count)
+    (λ fa k a n.
+    let reads : OnlyReads index.cache left.cache = subst (λ (v : IndexView). OnlyReads v.cache left.cache) rest given.ensures.reads in
+    let shape : IsShape index.tree.shape = subst (λ (v : IndexView). IsShape v.tree.shape) rest given.ensures.shape in
+    let h = subst (λ nodes. HoldLegs nodes index.tree rows index.legs index.places tracks.tracks) (sym (same_pages index.cache left.cache reads fa))
+    (subst (λ places. HoldLegs (pages_of_cache index.cache) index.tree rows index.legs places tracks.tracks) value (c.laws-2.ensures.checked (pages_of_cache index.cache) index.tree rows index.legs places tracks.tracks shape k)) in
+    tracks_are laws new tracks rows (reads.store.faithful ∙ fa) works shape (reads.count ∙ n ∙ sym reads.length) h a))))
+
+pub returns-clause-only : goal.returns-clause-only
+returns-clause-only g c = λ s a says.
+    let index : IndexView = c.args.index.now in
+    let given = c.check_index-given in
+    let rest = c.take_places-places.ensures.rest in
+    let tracks = c.args.tracks.now in
+    let rows = c.args.rows in
+    let places : List Place = c.as_slice.result.now in
+    let laws : TreeLaws = record { content = c.laws.ensures.content; lawful = c.laws.ensures.lawful } in
+    let back : index.places ≡ places = sym (c.as_slice.ensures.value ∙ c.take_places-places.ensures.taken) in
+    let k = c.laws-2.ensures.held (pages_of_cache index.cache) index.tree rows index.legs index.places tracks.tracks s.shape (held laws index tracks rows s a) in
+    let allowed = subst (λ (v : IndexView). IsTrue v.cache.store.is_faithful → v.cache.count ≡ v.cache.store.count → SaysState c.args.begun (payload_of v.cache 0)
+        → length places < 4294967296 → Agree tracks rows v.legs → IsChecked (pages_of_cache v.cache) v.tree rows v.legs places tracks.tracks → IfErr given.result IsAllowed) rest given.ensures.only in
+    subst (λ r. IfErr r MayRefuse) (sym c.checked.ensures)
+    (each_fault (λ fault. of_search fault) IsAllowed MayRefuse (λ x h. search_allowed x h) given.result
+    (allowed s.faithful s.count says (subst (λ (places : List Place). length places < 4294967296) back (few laws index tracks rows s a)) (agrees laws index tracks rows s a)
+    (subst (λ places. IsChecked (pages_of_cache index.cache) index.tree rows index.legs places tracks.tracks) back k)))
+
+pub returns-clause-leaves : goal.returns-clause-leaves
+returns-clause-leaves g c =
+    let index : IndexView = c.args.index.now in
+    let lent : IndexView = c.take_places-places.new.self in
+    let left : IndexView = c.check_index-given.new.index in
+    let given = c.check_index-given in
+    let rest = c.take_places-places.ensures.rest in
+    let ends : c.put_places.new.self ≡ with_cache index left.cache = c.put_places.ensures ∙ ended index lent left c.take_places-places.result.items rest given.ensures.same c.take_places-places.ensures.taken in
+    let reads : OnlyReads index.cache left.cache = subst (λ (v : IndexView). OnlyReads v.cache left.cache) rest given.ensures.reads in
+    subst (λ (v : IndexView). Leaves words index v) (sym ends) (reads_leave index left.cache reads)

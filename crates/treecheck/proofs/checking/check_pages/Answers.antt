@@ -1,0 +1,126 @@
+use Rattle.std.proofs.Common.{◌<◌, sym, ◌∙◌, subst}
+use Rattle.std.specs.List.{All}
+use Rattle.std.specs.List.Sorted.{IsPermutation}
+use Rattle.std.proofs.lemmas.Bool.{true≢false}
+use Rattle.std.proofs.lemmas.List.Sorted.{IsPermutation-refl}
+use Rattle.std.proofs.lemmas.Result.{err_from_is_err_and}
+use Rattle.legs.specs.Boxes.{BoxView}
+use Rattle.legs.specs.Legs.{LegView}
+use Rattle.treecheck.specs.Check.{AreChains, IsOver}
+use Rattle.tbtree.specs.Nodes.{Pages, pages_of_cache}
+use Rattle.boxsearch.specs.Index.{SaysState}
+use Rattle.treecheck.specs.Levels.{StandsOver, pages_of_leaves}
+use Rattle.treecheck.specs.Walking.{IsMet, Surveys}
+use Rattle.treecheck.specs.Ordering.{NameLast}
+use Rattle.treecheck.specs.declared.walking.Met.{Met}
+use Rattle.boxsearch.proofs.ReadLemmas.{reads_trans}
+use Rattle.treecheck.proofs.WalkedLemmas.{same_pages}
+use Rattle.treecheck.proofs.CheckingLemmas.{checked, are_met, within, whole, strict, over, last}
+use Rattle.treecheck.proofs.checking.check_pages.Goals as goal
+
+pub returns-in_err-survey-clause-only : goal.returns-in_err-survey-clause-only
+returns-in_err-survey-clause-only g c = λ fa same says few agrees k.
+    let p = err_from_is_err_and c.from_residual-in_err-survey.result c.from_residual-in_err-survey.ensures.1 in
+    let old = c.args.cache.now in
+    let reads = reads_trans old c.read_pages.new.cache c.check_state.new.cache c.read_pages.ensures.reads c.check_state.ensures.reads in
+    let most = c.from-most.ensures ∙ c.leaf.ensures.value in
+    rw (p.1, p.2) (c.in_err-survey.ensures.only (reads.store.faithful ∙ fa) few k.chains
+    (subst (λ nodes. AreChains nodes c.from-most.result c.args.rows 0 c.args.places.now c.args.tracks.now.tracks k.chains) (sym (same_pages old c.check_state.new.cache reads fa))
+    (subst (λ n. AreChains (pages_of_cache old) n c.args.rows 0 c.args.places.now c.args.tracks.now.tracks k.chains) (sym most) k.are_chains)))
+
+pub returns-then-not-is_whole-clause-only : goal.returns-then-not-is_whole-clause-only
+returns-then-not-is_whole-clause-only g c = λ fa same says few agrees k.
+    let old = c.args.cache.now in
+    let reads = reads_trans old c.read_pages.new.cache c.check_state.new.cache c.read_pages.ensures.reads c.check_state.ensures.reads in
+    let most = c.from-most.ensures ∙ c.leaf.ensures.value in
+    let survey = c.in_ok-survey.survey in
+    let sv = subst (λ nodes. Surveys nodes c.args.tree.now.shape.leaf c.args.rows c.args.places.now c.args.tracks.now.tracks survey) (same_pages old c.check_state.new.cache reads fa)
+    (subst (λ n. Surveys (pages_of_cache c.check_state.new.cache) n c.args.rows c.args.places.now c.args.tracks.now.tracks survey) most (c.in_ok-survey.ensures.surveyed (reads.store.faithful ∙ fa))) in
+    let w = whole (pages_of_cache old) c.args.tree.now c.args.rows c.args.legs c.args.places.now c.args.tracks.now.tracks survey survey.leaves.items sv (IsPermutation-refl survey.leaves.items) k in
+    true≢false (sym (c.is_whole.ensures.only w) ∙ c.if-not-is_whole.true)
+
+pub returns-then-not-put_in_order-clause-only : goal.returns-then-not-put_in_order-clause-only
+returns-then-not-put_in_order-clause-only g c = λ fa same says few agrees k.
+    let old = c.args.cache.now in
+    let reads = reads_trans old c.read_pages.new.cache c.check_state.new.cache c.read_pages.ensures.reads c.check_state.ensures.reads in
+    let most = c.from-most.ensures ∙ c.leaf.ensures.value in
+    let survey = c.in_ok-survey.survey in
+    let sv = subst (λ nodes. Surveys nodes c.args.tree.now.shape.leaf c.args.rows c.args.places.now c.args.tracks.now.tracks survey) (same_pages old c.check_state.new.cache reads fa)
+    (subst (λ n. Surveys (pages_of_cache c.check_state.new.cache) n c.args.rows c.args.places.now c.args.tracks.now.tracks survey) most (c.in_ok-survey.ensures.surveyed (reads.store.faithful ∙ fa))) in
+    let leaves = c.put_in_order.new.survey.leaves.items in
+    let moved : IsPermutation survey.leaves.items leaves = subst (λ v. IsPermutation v.items leaves) c.is_whole.ensures.leaves c.put_in_order.ensures.moved in
+    let r = strict (pages_of_cache old) c.args.tree.now c.args.rows c.args.legs c.args.places.now c.args.tracks.now.tracks survey leaves sv moved k c.laws.ensures.in_order c.put_in_order.ensures.rises in
+    true≢false (sym (c.put_in_order.ensures.strict.1 r) ∙ c.if-not-put_in_order.true)
+
+pub returns-in_err-check_tree-clause-only : goal.returns-in_err-check_tree-clause-only
+returns-in_err-check_tree-clause-only g c = λ fa same says few agrees k.
+    let p = err_from_is_err_and c.from_residual-in_err-check_tree.result c.from_residual-in_err-check_tree.ensures.1 in
+    let old = c.args.cache.now in
+    let reads = reads_trans old c.read_pages.new.cache c.check_state.new.cache c.read_pages.ensures.reads c.check_state.ensures.reads in
+    let later = reads_trans old c.check_state.new.cache c.walk_all.new.source reads c.walk_all.ensures.reads in
+    let most = c.from-most.ensures ∙ c.leaf.ensures.value in
+    let survey = c.in_ok-survey.survey in
+    let sv = subst (λ nodes. Surveys nodes c.args.tree.now.shape.leaf c.args.rows c.args.places.now c.args.tracks.now.tracks survey) (same_pages old c.check_state.new.cache reads fa)
+    (subst (λ n. Surveys (pages_of_cache c.check_state.new.cache) n c.args.rows c.args.places.now c.args.tracks.now.tracks survey) most (c.in_ok-survey.ensures.surveyed (reads.store.faithful ∙ fa))) in
+    let leaves = c.put_in_order.new.survey.leaves.items in
+    let moved : IsPermutation survey.leaves.items leaves = subst (λ v. IsPermutation v.items leaves) c.is_whole.ensures.leaves c.put_in_order.ensures.moved in
+    let mets = are_met (pages_of_cache old) c.args.tree.now c.args.rows c.args.legs c.args.places.now c.args.tracks.now.tracks survey leaves sv moved in
+    let ov = over (pages_of_cache old) c.args.tree.now c.args.rows c.args.legs c.args.places.now c.args.tracks.now.tracks survey leaves sv moved k c.laws.ensures.in_order c.put_in_order.ensures.rises in
+    let back = sym (same_pages old c.walk_all.new.source later fa) in
+    let value = c.as_slice.ensures.value in
+    rw (p.1, p.2) (c.in_err-check_tree.ensures.only (later.store.faithful ∙ fa)
+    (subst (λ ms. All (λ (m : Met). IsMet ((pages_of_cache c.walk_all.new.source).at m.page) m) ms) (sym value) (subst (λ (nodes : Pages LegView BoxView). All (λ (m : Met). IsMet (nodes.at m.page) m) leaves) back mets))
+    k.pages
+    (subst (λ ms. IsOver (pages_of_cache c.walk_all.new.source) c.args.tree.now (pages_of_leaves ms) k.pages) (sym value) (subst (λ nodes. IsOver nodes c.args.tree.now (pages_of_leaves leaves) k.pages) back ov)))
+
+pub returns-then-not-name_last-clause-only : goal.returns-then-not-name_last-clause-only
+returns-then-not-name_last-clause-only g c = λ fa same says few agrees k.
+    let old = c.args.cache.now in
+    let reads = reads_trans old c.read_pages.new.cache c.check_state.new.cache c.read_pages.ensures.reads c.check_state.ensures.reads in
+    let most = c.from-most.ensures ∙ c.leaf.ensures.value in
+    let survey = c.in_ok-survey.survey in
+    let sv = subst (λ nodes. Surveys nodes c.args.tree.now.shape.leaf c.args.rows c.args.places.now c.args.tracks.now.tracks survey) (same_pages old c.check_state.new.cache reads fa)
+    (subst (λ n. Surveys (pages_of_cache c.check_state.new.cache) n c.args.rows c.args.places.now c.args.tracks.now.tracks survey) most (c.in_ok-survey.ensures.surveyed (reads.store.faithful ∙ fa))) in
+    let leaves = c.put_in_order.new.survey.leaves.items in
+    let moved : IsPermutation survey.leaves.items leaves = subst (λ v. IsPermutation v.items leaves) c.is_whole.ensures.leaves c.put_in_order.ensures.moved in
+    let l = last (pages_of_cache old) c.args.tree.now c.args.rows c.args.legs c.args.places.now c.args.tracks.now.tracks survey leaves sv moved k c.laws.ensures.in_order c.put_in_order.ensures.rises in
+    true≢false (sym (c.name_last.ensures.1 (subst (NameLast c.args.places.now) (sym c.as_slice-2.ensures.value) l)) ∙ c.if-not-name_last.true)
+
+pub returns-clause-checked : goal.returns-clause-checked
+returns-clause-checked g c = λ fa.
+    let old = c.args.cache.now in
+    let reads = reads_trans old c.read_pages.new.cache c.check_state.new.cache c.read_pages.ensures.reads c.check_state.ensures.reads in
+    let later = reads_trans old c.check_state.new.cache c.walk_all.new.source reads c.walk_all.ensures.reads in
+    let most = c.from-most.ensures ∙ c.leaf.ensures.value in
+    let survey = c.in_ok-survey.survey in
+    let sv = subst (λ nodes. Surveys nodes c.args.tree.now.shape.leaf c.args.rows c.args.places.now c.args.tracks.now.tracks survey) (same_pages old c.check_state.new.cache reads fa)
+    (subst (λ n. Surveys (pages_of_cache c.check_state.new.cache) n c.args.rows c.args.places.now c.args.tracks.now.tracks survey) most (c.in_ok-survey.ensures.surveyed (reads.store.faithful ∙ fa))) in
+    let leaves = c.put_in_order.new.survey.leaves.items in
+    let moved : IsPermutation survey.leaves.items leaves = subst (λ v. IsPermutation v.items leaves) c.is_whole.ensures.leaves c.put_in_order.ensures.moved in
+    let mets = are_met (pages_of_cache old) c.args.tree.now c.args.rows c.args.legs c.args.places.now c.args.tracks.now.tracks survey leaves sv moved in
+    let in_pages = within (pages_of_cache old) c.args.tree.now c.args.rows c.args.legs c.args.places.now c.args.tracks.now.tracks survey leaves sv moved in
+    let back = sym (same_pages old c.walk_all.new.source later fa) in
+    let value = c.as_slice.ensures.value in
+    let stands = c.in_ok-check_tree.ensures.over (later.store.faithful ∙ fa)
+    (subst (λ ms. All (λ (m : Met). IsMet ((pages_of_cache c.walk_all.new.source).at m.page) m) ms) (sym value) (subst (λ (nodes : Pages LegView BoxView). All (λ (m : Met). IsMet (nodes.at m.page) m) leaves) back mets))
+    (subst (λ ms. All (λ p. (0 < p) × (p < c.walk_all.new.source.count)) (pages_of_leaves ms)) (sym value) (subst (λ n. All (λ p. (0 < p) × (p < n)) (pages_of_leaves leaves)) (sym later.count) in_pages)) in
+    let st = subst (λ nodes. StandsOver nodes c.args.tree.now (pages_of_leaves leaves)) (same_pages old c.walk_all.new.source later fa) (subst (λ ms. StandsOver (pages_of_cache c.walk_all.new.source) c.args.tree.now (pages_of_leaves ms)) value stands) in
+    checked (pages_of_cache old) c.args.tree.now c.args.rows c.args.legs c.args.places.now c.args.tracks.now.tracks survey leaves sv moved
+    c.in_ok-read_pages.ensures.some (c.in_ok-read_pages.ensures.held fa) (c.is_whole.ensures.whole c.if-not-is_whole.false)
+    (c.put_in_order.ensures.strict.0 c.if-not-put_in_order.false) st.pages st.is_over
+    (subst (NameLast c.args.places.now) c.as_slice-2.ensures.value (c.name_last.ensures.0 c.if-not-name_last.false))
+
+pub returns-then-not-agree-clause-only : goal.returns-then-not-agree-clause-only
+returns-then-not-agree-clause-only g c = λ fa same says few agrees k. true≢false (sym (c.agree.ensures.1 agrees) ∙ c.if-not-agree.true)
+
+pub returns-in_err-check_state-clause-only : goal.returns-in_err-check_state-clause-only
+returns-in_err-check_state-clause-only g c = λ fa same says few agrees k.
+    let p = err_from_is_err_and c.from_residual-in_err-check_state.result c.from_residual-in_err-check_state.ensures.1 in
+    let reads = c.read_pages.ensures.reads in
+    let some = c.in_ok-read_pages.ensures.some in
+    rw (p.1, p.2) (c.in_err-check_state.ensures.only (reads.store.faithful ∙ fa) (subst (SaysState c.args.begun) (sym (reads.payloads fa 0)) says) (subst (λ n. 0 < n) (sym reads.count) some))
+
+pub returns-clause-says : goal.returns-clause-says
+returns-clause-says g c = λ fa.
+    let reads = c.read_pages.ensures.reads in
+    subst (SaysState c.args.begun) (reads.payloads fa 0) (c.in_ok-check_state.ensures.says (reads.store.faithful ∙ fa))

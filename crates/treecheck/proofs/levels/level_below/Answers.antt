@@ -1,0 +1,65 @@
+use Rattle.std.proofs.Common.{suc, ◌≡◌, ◌+◌, ◌<◌, ◌≤◌, arith, sym, ap, ◌∙◌, Some, slice_get, get_or, subst, ⊎_elim}
+use Rattle.std.proofs.lemmas.Bool.{cases_lt}
+use Rattle.std.proofs.lemmas.Option.{slice_get-get_or, slice_get_within}
+use Rattle.std.proofs.lemmas.Result.{err_from_is_err_and}
+use Rattle.std.proofs.lemmas.List.{take_all}
+use Rattle.std.specs.List.{flat_map}
+use Rattle.legs.specs.Blocks.{block}
+use Rattle.tbtree.specs.Nodes.{pages_of_cache}
+use Rattle.boxsearch.proofs.ReadLemmas.{reads_trans}
+use Rattle.boxsearch.proofs.PushLemmas.{some_same}
+use Rattle.boxsearch.proofs.SameLemmas.{flat_more}
+use Rattle.treecheck.proofs.WalkedLemmas.{same_pages}
+use Rattle.treecheck.specs.Levels.{named_by, StandsAbove}
+use Rattle.treecheck.proofs.levels.level_below.Goals as goal
+
+pub loop-i-preserved : goal.loop-i-preserved
+loop-i-preserved g c =
+    let old = c.args.cache.now in
+    let pages = c.args.pages.now in
+    let i = c.loop-i.i in
+    let inv = c.loop-i.invariant in
+    let page = get_or pages i 0 in
+    let at : slice_get pages i ≡ Some page = slice_get-get_or pages i 0 c.loop-i-test.true in
+    record {
+      reads = reads_trans old c.loop-i.cache c.take_page.new.cache inv.reads c.take_page.ensures.reads;
+      named = λ fa.
+          let same = same_pages old c.loop-i.cache inv.reads fa in
+          let next : i + 1 ≡ suc i = omega arith in
+          flat_more (named_by (pages_of_cache old)) pages i (i + 1) page c.loop-i.below.items c.take_page.new.below.items (named_by (pages_of_cache c.loop-i.cache) page) at next
+          (ap (λ nodes. named_by nodes page) same) (c.in_ok-take_page.ensures.pushed (inv.reads.store.faithful ∙ fa)) (inv.named fa);
+      above = λ fa j p l e.
+          let same = same_pages old c.loop-i.cache inv.reads fa in
+          let here : StandsAbove (pages_of_cache old) c.args.level c.args.width (block c.args.span i c.args.leaves.now) page =
+          subst (λ under. StandsAbove (pages_of_cache old) c.args.level c.args.width under page) c.block-under.ensures
+          (subst (λ nodes. StandsAbove nodes c.args.level c.args.width c.block-under.result.now page) same (c.in_ok-take_page.ensures.above (inv.reads.store.faithful ∙ fa))) in
+          ⊎_elim
+          (λ (k : j < i). inv.above fa j p k e)
+          (λ (k : i ≤ j).
+          let s : i ≡ j = omega (arith, k, l) in
+          let q : page ≡ p = some_same page p (sym at ∙ ap (slice_get pages) s ∙ e) in
+          subst (λ p. StandsAbove (pages_of_cache old) c.args.level c.args.width (block c.args.span j c.args.leaves.now) p) q
+          (subst (λ i. StandsAbove (pages_of_cache old) c.args.level c.args.width (block c.args.span i c.args.leaves.now) page) s here))
+          (cases_lt j i);
+    }
+
+pub returns-in_err-take_page-clause-only : goal.returns-in_err-take_page-clause-only
+returns-in_err-take_page-clause-only g c = λ fa all.
+    let p = err_from_is_err_and c.from_residual.result c.from_residual.ensures.1 in
+    let old = c.args.cache.now in
+    let inv = c.loop-i.invariant in
+    let i = c.loop-i.i in
+    let page = get_or c.args.pages.now i 0 in
+    let at : slice_get c.args.pages.now i ≡ Some page = slice_get-get_or c.args.pages.now i 0 c.loop-i-test.true in
+    let same = same_pages old c.loop-i.cache inv.reads fa in
+    let here = subst (λ under. StandsAbove (pages_of_cache old) c.args.level c.args.width under page) (sym c.block-under.ensures) (all i page at) in
+    rw (p.1, p.2) (c.in_err-take_page.ensures.only (inv.reads.store.faithful ∙ fa) (subst (λ nodes. StandsAbove nodes c.args.level c.args.width c.block-under.result.now page) (sym same) here))
+
+pub returns-clause-above : goal.returns-clause-above
+returns-clause-above g c = λ fa j p e.
+    let w = slice_get_within c.args.pages.now j p e in
+    c.loop-i.invariant.above fa j p (omega (arith, w, c.loop-i-test.false)) e
+
+pub returns-clause-named : goal.returns-clause-named
+returns-clause-named g c = λ fa.
+    c.loop-i.invariant.named fa ∙ ap (flat_map (named_by (pages_of_cache c.args.cache.now))) (take_all c.loop-i.i c.args.pages.now c.loop-i-test.false)

@@ -1,0 +1,286 @@
+//! A check of an index: its pages hold one list of legs.
+ghost use Rattle.std.specs.Prelude.{◌≡◌, ◌≢◌, ◌<◌, ◌^◌, ◌↔◌, Err, None, length, IfErr, IsErrOf, OnOk, IsTrue, true};
+ghost use Rattle.std.specs.List.{All};
+ghost use Rattle.std.specs.List.Sorted.{IsPermutation, IsNonDecreasingBy};
+ghost use Rattle.pagecache.specs.Cache.{payload_of, Cache};
+ghost use Rattle.chains.specs.Chains.{AreHeld};
+ghost use Rattle.chains.specs.Reads.{OnlyReads};
+ghost use Rattle.legs.specs.declared.tracks.Track.{Track};
+ghost use Rattle.treecheck.specs.Check.{first_on, AreChains, IsChecked};
+ghost use Rattle.tbtree.specs.Turn.{IsRising};
+ghost use Rattle.tbtree.specs.Nodes.{pages_of_cache};
+ghost use Rattle.tbtree.specs.Shape.{IsShape};
+ghost use Rattle.treecheck.specs.Checking.{Agree, AreTracksOf};
+ghost use Rattle.boxsearch.specs.Faults.{IsAllowed, IsCaused};
+ghost use Rattle.boxsearch.specs.Answers.{answered, of_search};
+ghost use Rattle.boxsearch.specs.Beside.{with_cache};
+ghost use Rattle.boxsearch.specs.Index.{content, words, IsSound, SaysState};
+ghost use Rattle.legs.specs.Asking.{Leaves};
+ghost use Rattle.legs.specs.Index.{MayRefuse, HasRisen};
+ghost use Rattle.legs.specs.declared.index.IndexFault.{IndexFault};
+ghost use Rattle.treecheck.specs.Walking.{Surveys};
+ghost use Rattle.treecheck.specs.Ordering.{IsWhole};
+ghost use Rattle.boxsearch.specs.declared.fault.SearchFault.{SearchFault};
+ghost use Rattle.treecheck.specs.declared.walking.Met.{Met};
+ghost use Rattle.treecheck.specs.declared.walking.Survey.{Survey};
+
+use crate::holding::laws;
+use crate::levels::check_tree;
+use crate::ordering::{are_once, have_legs, leaves_rise, name_last, rise, sort_leaves};
+use crate::walking::{Cached, Survey, walk_all};
+use boxsearch::{SearchFault, TreeIndex, has_state, of_search};
+use legs::{IndexFault, LegIndex, Tracks};
+use pagecache::PageCache;
+use pages::PageStore;
+use std::alloc::Global;
+use tbtree::{Place, TbTree};
+
+/// The most features that any limit allows.
+const MOST_FEATURES: u64 = 2_147_483_648;
+
+/// Reads a page, for its seal.
+fn read_page<S: PageStore>(cache: &mut PageCache<S>, page: u32) -> Result<(), SearchFault>
+    requires { page < cache.old.count }
+    ensures held { IsTrue cache.old.store.is_faithful
+        → OnOk result ((pages_of_cache cache.old).at page ≢ None) }
+    ensures only { IsTrue cache.old.store.is_faithful → (pages_of_cache cache.old).at page ≢ None
+        → IfErr result IsAllowed }
+    ensures reads { OnlyReads cache.old cache.new }
+    ensures caused { IfErr result (IsCaused cache.old cache.new) }
+    ensures works { IfErr result (λ fault. fault ≢ SearchFault.Spent) }
+{
+    match cache.page(page) {
+        Ok(_) => Ok(()),
+        Err(fault) => Err(SearchFault::of(fault, page)),
+    }
+}
+
+/// Reads each page once, for its seal. A page that the store has beyond those of the cache is
+/// malformed, and so is page 0 where there is none.
+#[tactic(auto, using(boxsearch::proofs::ReadLemmas::reading))]
+fn read_pages<S: PageStore>(cache: &mut PageCache<S>) -> Result<(), SearchFault>
+    ensures held { IsTrue cache.old.store.is_faithful
+        → OnOk result (AreHeld (pages_of_cache cache.old)) }
+    ensures some { OnOk result (0 < cache.old.count) }
+    ensures count { OnOk result (cache.old.count ≡ cache.old.store.count) }
+    ensures only { IsTrue cache.old.store.is_faithful → AreHeld (pages_of_cache cache.old)
+        → 0 < cache.old.count
+        → cache.old.count ≡ cache.old.store.count → IfErr result IsAllowed }
+    ensures reads { OnlyReads cache.old cache.new }
+    ensures caused { IfErr result (IsCaused cache.old cache.new) }
+    ensures works { IfErr result (λ fault. fault ≢ SearchFault.Spent) }
+{
+    let count = cache.count();
+    for page in 0..count {
+        read_page(cache, page)?;
+    }
+    if count == 0 || cache.store().len() != count {
+        return Err(SearchFault::Malformed(count));
+    }
+    Ok(())
+}
+
+/// Reads page 0, and tests that it is the header of a store that is not finished where its database
+/// has begun, and of a finished one where it has not.
+fn check_state<S: PageStore>(cache: &mut PageCache<S>, begun: bool) -> Result<(), SearchFault>
+    ensures says { IsTrue cache.old.store.is_faithful
+        → OnOk result (SaysState begun (payload_of cache.old 0)) }
+    ensures only { IsTrue cache.old.store.is_faithful → SaysState begun (payload_of cache.old 0)
+        → 0 < cache.old.count → IfErr result IsAllowed }
+    ensures reads { OnlyReads cache.old cache.new }
+    ensures caused { IfErr result (IsCaused cache.old cache.new) }
+    ensures works { IfErr result (λ fault. fault ≢ SearchFault.Spent) }
+{
+    let payload = match cache.page(0) {
+        Ok(payload) => payload,
+        Err(fault) => return Err(SearchFault::of(fault, 0)),
+    };
+    if !has_state(payload, begun) {
+        return Err(SearchFault::Malformed(0));
+    }
+    Ok(())
+}
+
+/// Whether a survey is whole: each feature has a leg, each ordinal below the total stands once, and
+/// features are in the order of their first legs. The ordinals are put in order.
+pub fn is_whole(places: &[Place], total: u64, survey: &mut Survey) -> bool
+    ensures whole { IsTrue result → IsWhole places.now total survey.old }
+    ensures only { IsWhole places.now total survey.old → IsTrue result }
+    ensures leaves { survey.new.leaves ≡ survey.old.leaves }
+{
+    if survey.ordinals.len() as u64 != total {
+        return false;
+    }
+    if !have_legs(places) {
+        return false;
+    }
+    if !are_once(&mut survey.ordinals) {
+        return false;
+    }
+    rise(survey.firsts.as_slice())
+}
+
+/// Puts the leaves of a survey in the order of their first legs; whether these are distinct.
+fn put_in_order(survey: &mut Survey) -> bool
+    ensures moved { IsPermutation survey.old.leaves.items survey.new.leaves.items }
+    ensures rises { IsNonDecreasingBy (λ (m : Met). m.first) survey.new.leaves.items }
+    ensures strict { IsTrue result ↔ IsRising (λ (m : Met). m.first) survey.new.leaves.items }
+{
+    sort_leaves(&mut survey.leaves);
+    leaves_rise(survey.leaves.as_slice())
+}
+
+/// Whether the tracks have so many legs and rows, and no more features than any limit allows.
+pub fn agree(tracks: &Tracks, rows: u64, legs: u64) -> bool
+    ensures { IsTrue result ↔ Agree tracks.now rows legs }
+{
+    let _ = tracks.track(0);
+    tracks.leg_count() == legs
+        && tracks.row_count() == rows
+        && tracks.feature_count() <= MOST_FEATURES
+}
+
+/// Tests that the pages hold one list of so many legs under a tree, with the places and the tracks
+/// of its features, and a row of so many for each leg, and that page 0 says whether the database has
+/// begun. The first page that fails is malformed; page 0 where what it keeps does.
+#[tactic(auto, using(boxsearch::proofs::ReadLemmas::reading))]
+pub fn check_pages<S: PageStore>(
+    alloc: Global,
+    cache: &mut PageCache<S>,
+    tree: &TbTree,
+    places: &[Place],
+    tracks: &Tracks,
+    rows: u64,
+    legs: u64,
+    begun: bool,
+) -> Result<(), SearchFault>
+    ensures says { IsTrue cache.old.store.is_faithful
+        → OnOk result (SaysState begun (payload_of cache.old 0)) }
+    ensures checked { IsTrue cache.old.store.is_faithful
+        → OnOk result (IsChecked (pages_of_cache cache.old) tree.now rows legs places.now
+        tracks.now.tracks) }
+    ensures agree { OnOk result (Agree tracks.now rows legs) }
+    ensures count { OnOk result (cache.old.count ≡ cache.old.store.count) }
+    ensures shape { IsShape tree.now.shape }
+    ensures only { IsTrue cache.old.store.is_faithful → cache.old.count ≡ cache.old.store.count
+        → SaysState begun (payload_of cache.old 0)
+        → length places.now < 2 ^ 32 → Agree tracks.now rows legs
+        → IsChecked (pages_of_cache cache.old) tree.now rows legs places.now tracks.now.tracks
+        → IfErr result IsAllowed }
+    ensures reads { OnlyReads cache.old cache.new }
+    ensures caused { IfErr result (IsCaused cache.old cache.new) }
+    ensures works { IfErr result (λ fault. fault ≢ SearchFault.Spent) }
+{
+    tbtree::laws();
+    let most = u64::from(tree.shape.leaf());
+    read_pages(cache)?;
+    check_state(cache, begun)?;
+    let mut survey = walk_all::<Cached<S>>(alloc, cache, most, rows, places, tracks)?;
+    if !is_whole(places, legs, &mut survey) {
+        return Err(SearchFault::Malformed(0));
+    }
+    if !agree(tracks, rows, legs) {
+        return Err(SearchFault::Malformed(0));
+    }
+    if !put_in_order(&mut survey) {
+        return Err(SearchFault::Malformed(0));
+    }
+    check_tree(alloc, cache, tree, survey.leaves.as_slice())?;
+    if !name_last(places, survey.leaves.as_slice()) {
+        return Err(SearchFault::Malformed(0));
+    }
+    Ok(())
+}
+
+/// Checks the pages of an index, whose places are apart.
+fn check_index<S: PageStore>(
+    alloc: Global,
+    index: &mut TreeIndex<S>,
+    places: &[Place],
+    tracks: &Tracks,
+    rows: u64,
+    begun: bool,
+) -> Result<(), SearchFault>
+    ensures says { IsTrue index.old.cache.store.is_faithful
+        → OnOk result (SaysState begun (payload_of index.old.cache 0)) }
+    ensures checked { IsTrue index.old.cache.store.is_faithful
+        → OnOk result (IsChecked (pages_of_cache index.old.cache) index.old.tree rows
+        index.old.legs places.now tracks.now.tracks) }
+    ensures agree { OnOk result (Agree tracks.now rows index.old.legs) }
+    ensures count { OnOk result (index.old.cache.count ≡ index.old.cache.store.count) }
+    ensures shape { IsShape index.old.tree.shape }
+    ensures only { IsTrue index.old.cache.store.is_faithful
+        → index.old.cache.count ≡ index.old.cache.store.count
+        → SaysState begun (payload_of index.old.cache 0)
+        → length places.now < 2 ^ 32 → Agree tracks.now rows index.old.legs
+        → IsChecked (pages_of_cache index.old.cache) index.old.tree rows index.old.legs places.now
+        tracks.now.tracks
+        → IfErr result IsAllowed }
+    ensures same { index.new ≡ with_cache index.old index.new.cache }
+    ensures reads { OnlyReads index.old.cache index.new.cache }
+    ensures caused { IfErr result (IsCaused index.old.cache index.new.cache) }
+    ensures works { IfErr result (λ fault. fault ≢ SearchFault.Spent) }
+{
+    let tree = index.tree();
+    let legs = index.leg_count();
+    check_pages(alloc, index.cache_mut(), &tree, places, tracks, rows, legs, begun)
+}
+
+/// What a check answers, as an index says it.
+fn checked(given: Result<(), SearchFault>) -> Result<(), IndexFault>
+    ensures { result ≡ answered (λ fault. of_search fault) given }
+{
+    match given {
+        Ok(()) => Ok(()),
+        Err(fault) => Err(of_search(fault)),
+    }
+}
+
+/// Tests that the pages of an index, whoever made them, hold one list of legs, which its tree, its
+/// places, these tracks and so many rows of attribute values are of. Each page is asked of the
+/// cache for its seal, then page 0, which is the header of a store that is not finished where the
+/// database has begun, and of a finished one where it has not, then the leaves of each feature
+/// along its chain, then the tree from the root down; where the cache was flushed, what it gives
+/// are the pages as written.
+///
+/// The first page that fails is `Damaged`: the last leaf of a feature that ends elsewhere than its
+/// track or its place says, and page 0 where the numbers of all legs, of the tree, or of the rows
+/// do. A spent index is `Spent`.
+pub fn check<S: PageStore>(
+    index: &mut TreeIndex<S>,
+    tracks: &Tracks,
+    rows: u64,
+    begun: bool,
+) -> Result<(), IndexFault>
+    // What passes is sound, and the tracks are those of its legs; what is sound passes.
+    ensures sound { OnOk result (IsTrue index.old.cache.store.is_faithful → IsSound index.new) }
+    ensures tracks { OnOk result (IsTrue index.old.cache.store.is_faithful
+        → AreTracksOf tracks.now rows (content index.new)) }
+    ensures says { OnOk result (IsTrue index.old.cache.store.is_faithful
+        → SaysState begun (payload_of index.new.cache 0)) }
+    ensures only { IsSound index.old → AreTracksOf tracks.now rows (content index.old)
+        → SaysState begun (payload_of index.old.cache 0) → IfErr result MayRefuse }
+
+    // Nothing changes.
+    ensures same { index.new ≡ with_cache index.old index.new.cache }
+    ensures reads { OnlyReads index.old.cache index.new.cache }
+    ensures leaves { Leaves words index.old index.new }
+
+    ensures was_spent { index.old.tree.spent ≡ true
+        → (result ≡ Err IndexFault.Spent) × (index.new ≡ index.old) }
+    ensures works { IsErrOf result IndexFault.Spent → index.old.tree.spent ≡ true }
+    ensures store { IsErrOf result IndexFault.Store
+        → HasRisen index.old.cache.store.faults index.new.cache.store.faults }
+    ensures full { IsErrOf result IndexFault.StoreFull → ⊥ }
+{
+    if index.tree().spent {
+        return Err(IndexFault::Spent);
+    }
+    tbtree::laws();
+    laws();
+    let alloc = index.allocator();
+    let places = index.take_places();
+    let given = check_index(alloc, index, places.as_slice(), tracks, rows, begun);
+    index.put_places(places);
+    checked(given)
+}

@@ -1,0 +1,310 @@
+//! The levels of a tree over its leaves, for a check.
+ghost use Rattle.std.specs.Prelude.{ℕ, ◌≡◌, ◌≢◌, ◌<◌, ◌≤◌, ◌^◌, ◌↔◌, ◌++◌, Some, List, length, map, All, IfOk, IfErr, IfSome, IsSome, IsTrue, OnOk};
+ghost use Rattle.std.specs.List.{flat_map};
+ghost use Rattle.legs.specs.Blocks.{block, groups};
+ghost use Rattle.legs.specs.Boxes.{BoxView};
+ghost use Rattle.tbnode.specs.Form.{node_of};
+ghost use Rattle.chains.specs.Reads.{OnlyReads};
+ghost use Rattle.treecheck.specs.Check.{IsOver};
+ghost use Rattle.tbtree.specs.Descent.{entries_in};
+ghost use Rattle.tbtree.specs.Nodes.{pages_of_cache, AnInner, InnerView, boxes, children};
+ghost use Rattle.pagecache.specs.Cache.{Cache};
+ghost use Rattle.boxsearch.specs.Faults.{IsAllowed, IsCaused};
+ghost use Rattle.treecheck.specs.Levels.{cover_of_leaves, pages_of_leaves, named_by, AllStandAbove, IsAbove, IsHeight, LevelsStandAbove, StandsAbove, StandsOver};
+ghost use Rattle.treecheck.specs.Walking.{IsMet};
+ghost use Rattle.boxsearch.specs.declared.fault.SearchFault.{SearchFault};
+
+use boxsearch::SearchFault;
+use crate::walking::Met;
+use legs::Box3;
+use pagecache::PageCache;
+use pages::{PageStore, Payload};
+use std::alloc::{AllocError, Global};
+use tbnode::{Entry, Inner};
+use tbtree::TbTree;
+
+/// The `place`-th `len` leaves, or as many of them as there are.
+fn block(leaves: &[Met], len: usize, place: usize) -> &[Met]
+    ensures { result.now ≡ block len place leaves.now }
+{
+    let rest = &leaves[place.saturating_mul(len).min(leaves.len())..];
+    &rest[..len.min(rest.len())]
+}
+
+/// The least box that holds some leaves; `None` without a leaf.
+fn cover_of(leaves: &[Met]) -> Option<Box3>
+    ensures { result ≡ cover_of_leaves leaves.now }
+{
+    let mut bounds = None;
+    for i in 0..leaves.len() {
+        let leaf = &leaves[leaves.len() - 1 - i];
+        bounds = match bounds {
+            None => Some(leaf.bounds),
+            Some(after) => Some(leaf.bounds.cover(&after)),
+        };
+    }
+    bounds
+}
+
+/// Whether bounds are the least box that holds some leaves.
+fn are_bounds(bounds: &Box3, leaves: &[Met]) -> bool
+    ensures { IsTrue result ↔ (Some bounds.now ≡ cover_of_leaves leaves.now) }
+{
+    match cover_of(leaves) {
+        None => false,
+        Some(least) => *bounds == least,
+    }
+}
+
+/// Whether an inner page has a box for each `width` of some leaves, the least that holds them.
+fn has_boxes(inner: &Inner<'_>, width: usize, leaves: &[Met]) -> bool
+    requires { 0 < width }
+    ensures { IsTrue result
+        ↔ (map Some (boxes inner.now) ≡ map cover_of_leaves (groups width leaves.now)) }
+{
+    if inner.len() != leaves.len().div_ceil(width) {
+        return false;
+    }
+    for i in 0..inner.len() {
+        if !are_bounds(&inner.entry(i).bounds, block(leaves, width, i)) {
+            return false;
+        }
+    }
+    true
+}
+
+/// Whether an inner page names the pages of some leaves, in order.
+fn has_leaves(inner: &Inner<'_>, leaves: &[Met]) -> bool
+    ensures { IsTrue result ↔ (children inner.now ≡ pages_of_leaves leaves.now) }
+{
+    if inner.len() != leaves.len() {
+        return false;
+    }
+    for i in 0..inner.len() {
+        if inner.entry(i).child != leaves[i].page {
+            return false;
+        }
+    }
+    true
+}
+
+/// Whether an inner page stands above some leaves, with an entry for each `width` of them.
+fn is_above(inner: &Inner<'_>, level: u32, width: usize, leaves: &[Met]) -> bool
+    requires { 0 < width }
+    ensures { IsTrue result ↔ IsAbove level width leaves.now inner.now }
+{
+    u32::from(inner.head().level) == level
+        && has_boxes(inner, width, leaves)
+        && (level != 1 || has_leaves(inner, leaves))
+}
+
+/// Adds the pages that an inner page names.
+fn push_named(inner: &Inner<'_>, below: &mut Vec<u32>) -> Result<(), AllocError>
+    ensures { OnOk result (below.new.items ≡ below.old.items ++ children inner.now) }
+{
+    for i in 0..inner.len() {
+        below.push(inner.entry(i).child)?;
+    }
+    Ok(())
+}
+
+/// Adds the pages that a payload names, where it is an inner page that stands above some leaves.
+fn take_inner(
+    payload: &Payload,
+    page: u32,
+    level: u32,
+    width: usize,
+    leaves: &[Met],
+    below: &mut Vec<u32>,
+) -> Result<(), SearchFault>
+    requires { 0 < width }
+    ensures above { OnOk result ((inner : InnerView BoxView)
+        × (node_of payload.now ≡ Some (AnInner inner))
+        × IsAbove level width leaves.now inner) }
+    ensures pushed { OnOk result (below.new.items
+        ≡ below.old.items ++ map (λ e. e.child) (entries_in (Some (node_of payload.now)))) }
+    ensures only { (inner : InnerView BoxView) → node_of payload.now ≡ Some (AnInner inner)
+        → IsAbove level width leaves.now inner → IfErr result IsAllowed }
+    ensures caused { (old new : Cache) → IfErr result (IsCaused old new) }
+    ensures works { IfErr result (λ fault. fault ≢ SearchFault.Spent) }
+{
+    let Some(inner) = tbnode::inner(payload) else {
+        return Err(SearchFault::Malformed(page));
+    };
+    if !is_above(&inner, level, width, leaves) {
+        return Err(SearchFault::Malformed(page));
+    }
+    push_named(&inner, below)?;
+    Ok(())
+}
+
+/// Adds the pages that a page names, where it is an inner page that stands above some leaves.
+fn take_page<S: PageStore>(
+    cache: &mut PageCache<S>,
+    page: u32,
+    level: u32,
+    width: usize,
+    leaves: &[Met],
+    below: &mut Vec<u32>,
+) -> Result<(), SearchFault>
+    requires { 0 < width }
+    ensures above { IsTrue cache.old.store.is_faithful
+        → OnOk result (StandsAbove (pages_of_cache cache.old) level width leaves.now page) }
+    ensures pushed { IsTrue cache.old.store.is_faithful
+        → OnOk result (below.new.items
+        ≡ below.old.items ++ named_by (pages_of_cache cache.old) page) }
+    ensures only { IsTrue cache.old.store.is_faithful
+        → StandsAbove (pages_of_cache cache.old) level width leaves.now page
+        → IfErr result IsAllowed }
+    ensures reads { OnlyReads cache.old cache.new }
+    ensures caused { IfErr result (IsCaused cache.old cache.new) }
+    ensures works { IfErr result (λ fault. fault ≢ SearchFault.Spent) }
+{
+    if page == 0 {
+        return Err(SearchFault::Malformed(page));
+    }
+    let payload = match cache.page(page) {
+        Ok(payload) => payload,
+        Err(fault) => return Err(SearchFault::of(fault, page)),
+    };
+    take_inner(payload, page, level, width, leaves, below)
+}
+
+/// The pages that some pages name, where each is an inner page that stands above its `span` of the
+/// leaves.
+#[tactic(auto, using(boxsearch::proofs::ReadLemmas::reading))]
+fn level_below<S: PageStore>(
+    alloc: Global,
+    cache: &mut PageCache<S>,
+    pages: &[u32],
+    level: u32,
+    width: usize,
+    span: usize,
+    leaves: &[Met],
+) -> Result<Vec<u32>, SearchFault>
+    requires { 0 < width }
+    ensures above { IsTrue cache.old.store.is_faithful
+        → OnOk result (AllStandAbove (pages_of_cache cache.old) level width span leaves.now
+        pages.now) }
+    ensures named { IsTrue cache.old.store.is_faithful
+        → IfOk result (λ below. below.items
+        ≡ flat_map (named_by (pages_of_cache cache.old)) pages.now) }
+    ensures only { IsTrue cache.old.store.is_faithful
+        → AllStandAbove (pages_of_cache cache.old) level width span leaves.now pages.now
+        → IfErr result IsAllowed }
+    ensures reads { OnlyReads cache.old cache.new }
+    ensures caused { IfErr result (IsCaused cache.old cache.new) }
+    ensures works { IfErr result (λ fault. fault ≢ SearchFault.Spent) }
+{
+    let mut below = Vec::new(alloc);
+    for i in 0..pages.len() {
+        let under = block(leaves, span, i);
+        take_page(cache, pages[i], level, width, under, &mut below)?;
+    }
+    Ok(below)
+}
+
+/// Tests the levels above some leaves, from the root down; `span` is how many leaves the root may
+/// stand above.
+#[tactic(auto, using(boxsearch::proofs::ReadLemmas::reading))]
+fn check_levels<S: PageStore>(
+    alloc: Global,
+    cache: &mut PageCache<S>,
+    root: u32,
+    inner: usize,
+    height: u32,
+    span: usize,
+    leaves: &[Met],
+) -> Result<(), SearchFault>
+    requires inner { 0 < inner }
+    requires span { span ≡ inner ^ height }
+    ensures stand { IsTrue cache.old.store.is_faithful
+        → OnOk result (LevelsStandAbove (pages_of_cache cache.old) inner height root leaves.now) }
+    ensures only { IsTrue cache.old.store.is_faithful
+        → LevelsStandAbove (pages_of_cache cache.old) inner height root leaves.now
+        → IfErr result IsAllowed }
+    ensures reads { OnlyReads cache.old cache.new }
+    ensures caused { IfErr result (IsCaused cache.old cache.new) }
+    ensures works { IfErr result (λ fault. fault ≢ SearchFault.Spent) }
+{
+    let mut pages = Vec::new(alloc);
+    pages.push(root)?;
+    let mut span = span;
+    for level in 0..height {
+        let width = span / inner;
+        pages = level_below(alloc, cache, &pages, height - level, width, span, leaves)?;
+        span = width;
+    }
+    Ok(())
+}
+
+/// How many leaves a root of that height may stand above, where that is the height of a tree over
+/// so many leaves.
+fn span_of(inner: usize, height: u32, leaves: usize) -> Option<usize>
+    requires inner { inner ≤ 72 }
+    requires leaves { leaves < 2 ^ 32 }
+    ensures some { IfSome result (λ span. span ≡ inner ^ height) }
+    ensures height { IfSome result (λ _. IsHeight inner leaves height) }
+    ensures none { IsHeight inner leaves height → IsSome result }
+{
+    if leaves == 0 {
+        return None;
+    }
+    let mut span = 1;
+    'levels: for _ in 0..height {
+        if span >= leaves {
+            return None;
+        }
+        span *= inner;
+    }
+    if span < leaves {
+        return None;
+    }
+    Some(span)
+}
+
+/// Tests that a tree stands over leaves in that order: page by page, from the root down.
+///
+/// A page that does not stand above its leaves is `Malformed`. Page 0 is said to be so where the
+/// tree says another number of leaves or of levels than there are, or another root than its only
+/// leaf.
+#[tactic(auto, using(boxsearch::proofs::ReadLemmas::reading))]
+pub fn check_tree<S: PageStore>(
+    alloc: Global,
+    cache: &mut PageCache<S>,
+    tree: &TbTree,
+    leaves: &[Met],
+) -> Result<(), SearchFault>
+    ensures over { IsTrue cache.old.store.is_faithful
+        → All (λ m. IsMet ((pages_of_cache cache.old).at m.page) m) leaves.now
+        → All (λ p. (0 < p) × (p < cache.old.count)) (pages_of_leaves leaves.now)
+        → OnOk result (StandsOver (pages_of_cache cache.old) tree.now
+        (pages_of_leaves leaves.now)) }
+    ensures only { IsTrue cache.old.store.is_faithful
+        → All (λ m. IsMet ((pages_of_cache cache.old).at m.page) m) leaves.now
+        → (pages : ℕ → List ℕ)
+        → IsOver (pages_of_cache cache.old) tree.now (pages_of_leaves leaves.now) pages
+        → IfErr result IsAllowed }
+    ensures reads { OnlyReads cache.old cache.new }
+    ensures caused { IfErr result (IsCaused cache.old cache.new) }
+    ensures works { IfErr result (λ fault. fault ≢ SearchFault.Spent) }
+{
+    if leaves.len() as u64 != u64::from(tree.leaves) {
+        return Err(SearchFault::Malformed(0));
+    }
+    if tree.levels == 0 {
+        if tree.leaves != 0 || tree.root != 0 {
+            return Err(SearchFault::Malformed(0));
+        }
+        return Ok(());
+    }
+    let inner = usize::from(tree.shape.inner());
+    let height = tree.levels - 1;
+    let Some(span) = span_of(inner, height, leaves.len()) else {
+        return Err(SearchFault::Malformed(0));
+    };
+    if height == 0 && leaves[0].page != tree.root {
+        return Err(SearchFault::Malformed(0));
+    }
+    check_levels(alloc, cache, tree.root, inner, height, span, leaves)
+}

@@ -1,0 +1,117 @@
+-- The pages of a lent store, which stay as they are.
+use Rattle.std.proofs.Common.{ℕ, zero, suc, ◌≡◌, ◌<◌, ◌≤◌, ◌∙◌, List, [], ◌∷◌, length, refl, sym, ap, arith, subst, IsTrue, Option, Some, None, option_and_then, slice_get, Ok, Err}
+use Rattle.std.specs.Option.{ok_or}
+use Rattle.std.proofs.lemmas.Int.{clamps}
+use Rattle.pages.specs.Store.{Store as StoreView, IsLawful, Stays}
+use Rattle.pages.specs.Unsealed.{unsealed}
+use Rattle.pages.specs.declared.payload.PageFault.{PageFault}
+use Rattle.pages.specs.declared.payload.Payload.{Payload}
+use Rattle.pagecache.specs.Cache.{stored_payload}
+use Rattle.catalogue.specs.ChainReader.{ReaderView, rest_of, IsBroken, IsPageFault, TakesPart}
+use Rattle.version1.specs.OldReading.{IsLentFault, IsUnread}
+use Rattle.catalogue.specs.declared.fault.CatalogueFault.{CatalogueFault}
+use Rattle.catalogue.specs.declared.fault.CatalogueFault.TheVariants.{Memory, Store, StoreFull, Damaged, Unfinished, Version, Malformed}
+use Rattle.catalogue.proofs.ReaderLemmas.{page_broken, rest_broken, rest_none, rest_step}
+
+pub stored_read : (s : StoreView) (n : ℕ) (page : List ℕ) → slice_get s.pages n ≡ Some page → stored_payload s n ≡ unsealed n page
+unfolding stored_payload
+stored_read s n page e = ap (option_and_then (unsealed n)) e
+
+pub ok_some : (o : Option Payload) (f : PageFault) (x : Payload) → ok_or o f ≡ Ok x → o ≡ Some x
+ok_some None f x e = let wrong : Err f ≡ Ok x = e in absurd (cc)
+ok_some (Some y) f x e = let same : Ok y ≡ Ok x = e in let s : y ≡ x = cc in ap (λ z. Some z) s
+
+pub ok_none : (o : Option Payload) (f g : PageFault) → ok_or o f ≡ Err g → o ≡ None
+ok_none None f g e = refl
+ok_none (Some y) f g e = let wrong : Ok y ≡ Err g = e in absurd (cc)
+
+-- behind the last page there is none
+none_behind : {X : Type 0} (xs : List X) (n : ℕ) → length xs ≤ n → slice_get xs n ≡ None
+none_behind [] n l = refl
+none_behind (x ∷ xs) zero l = absurd (omega (arith, l))
+none_behind (x ∷ xs) (suc n) l = none_behind xs n (omega (arith, l))
+
+pub stored_none : (s : StoreView) (n : ℕ) → IsLawful s → s.count ≤ n → IsTrue s.is_faithful → stored_payload s n ≡ None
+unfolding stored_payload
+stored_none s n lawful l fa = ap (option_and_then (unsealed n)) (none_behind s.pages n (let c = lawful.counted fa in omega (arith, c, l)))
+
+-- a page that is not read for a fault of its own has no payload
+pub unread_none : (n : ℕ) (a b : StoreView) (e : CatalogueFault) → IsLawful a → IsUnread n a b e → IsBroken e → IsTrue a.is_faithful → stored_payload a n ≡ None
+unread_none n a b Memory lawful h k fa = absurd k
+unread_none n a b Store lawful h k fa = absurd k
+unread_none n a b StoreFull lawful h k fa = absurd k
+unread_none n a b (Damaged m) lawful h k fa = h.1.1 fa
+unread_none n a b Unfinished lawful h k fa = absurd k
+unread_none n a b Version lawful h k fa = absurd k
+unread_none n a b Malformed lawful h k fa = stored_none a n lawful h fa
+
+pub unread_lent : (n : ℕ) (a b : StoreView) (e : CatalogueFault) → IsUnread n a b e → IsLentFault a b e
+unread_lent n a b Memory h = absurd h
+unread_lent n a b Store h = h
+unread_lent n a b StoreFull h = absurd h
+unread_lent n a b (Damaged m) h = subst (λ k. (k < a.count) × (IsTrue a.is_faithful → stored_payload a k ≡ None)) (sym h.0) h.1
+unread_lent n a b Unfinished h = absurd h
+unread_lent n a b Version h = absurd h
+unread_lent n a b Malformed h = tt
+
+-- a page that has not the form of one of the chain
+pub part_lent : (payload : Payload) (r : ReaderView) (a b : StoreView) (e : CatalogueFault) → IsPageFault payload r e → IsLentFault a b e
+part_lent payload r a b Memory h = tt
+part_lent payload r a b Store h = absurd h
+part_lent payload r a b StoreFull h = absurd h
+part_lent payload r a b (Damaged m) h = absurd h
+part_lent payload r a b Unfinished h = absurd h
+part_lent payload r a b Version h = absurd h
+part_lent payload r a b Malformed h = tt
+
+-- the next page is read
+module _ (s : StoreView) (old : ReaderView) (n : ℕ) (named : n ≡ old.next) (some : 0 < old.left) where
+  pub lent_loaded : (new : ReaderView) (payload : Payload) → stored_payload s n ≡ Some payload → TakesPart payload old new → rest_of (stored_payload s) new ≡ rest_of (stored_payload s) old
+  lent_loaded new payload here t = rest_step (stored_payload s) old new payload some (ap (stored_payload s) (sym named) ∙ here) t
+
+  pub lent_not_taken : (payload : Payload) → stored_payload s n ≡ Some payload → (e : CatalogueFault) → IsPageFault payload old e → IsBroken e → rest_of (stored_payload s) old ≡ None
+  lent_not_taken payload here e h b = rest_broken (stored_payload s) old payload some (ap (stored_payload s) (sym named) ∙ here) (page_broken payload old e h b)
+
+  pub lent_not_read : stored_payload s n ≡ None → rest_of (stored_payload s) old ≡ None
+  lent_not_read none = rest_none (stored_payload s) old some (ap (stored_payload s) (sym named) ∙ none)
+
+-- a store that stays and stays
+pub stays_trans : (a b c : StoreView) → Stays a b → Stays b c → Stays a c
+stays_trans a b c p q = record {
+  keeps = record {
+    most = q.keeps.most ∙ p.keeps.most;
+    faithful = q.keeps.faithful ∙ p.keeps.faithful;
+    faults = omega (arith, p.keeps.faults, q.keeps.faults);
+  };
+  count = q.count ∙ p.count;
+  pages = λ fa. q.pages (p.keeps.faithful ∙ fa) ∙ p.pages fa;
+}
+
+-- and has the payloads that it had
+pub stays_payload : (a b : StoreView) → Stays a b → IsTrue a.is_faithful → stored_payload b ≡ stored_payload a
+unfolding stored_payload
+stays_payload a b s fa = λ i n. option_and_then (unsealed n) (slice_get (s.pages fa i) n)
+
+-- a fault that came later
+pub later_fault : (a b c : StoreView) (e : CatalogueFault) → Stays a b → Stays b c → IsLentFault b c e → IsLentFault a c e
+later_fault a b c Memory p q h = tt
+later_fault a b c Store p q h = let x = p.keeps.faults in omega (arith, clamps, h, x)
+later_fault a b c StoreFull p q h = absurd h
+later_fault a b c (Damaged m) p q h =
+    let l = h.0 in
+    let k = p.count in
+    (omega (arith, l, k), λ fa. ap (λ (f : ℕ → Option Payload). f m) (sym (stays_payload a b p fa)) ∙ h.1 (p.keeps.faithful ∙ fa))
+later_fault a b c Unfinished p q h = absurd h
+later_fault a b c Version p q h = absurd h
+later_fault a b c Malformed p q h = tt
+
+-- what is said of the text that is left in a store that stayed
+module _ (a b : StoreView) (s : Stays a b) (fa : IsTrue a.is_faithful) where
+  faithful : IsTrue b.is_faithful
+  faithful = s.keeps.faithful ∙ fa
+
+  pub lent_same : (old new : ReaderView) → (IsTrue b.is_faithful → rest_of (stored_payload b) new ≡ rest_of (stored_payload b) old) → rest_of (stored_payload a) new ≡ rest_of (stored_payload a) old
+  lent_same old new h = subst (λ (at : ℕ → Option Payload). rest_of at new ≡ rest_of at old) (stays_payload a b s fa) (h faithful)
+
+  pub lent_none : (old : ReaderView) → (IsTrue b.is_faithful → rest_of (stored_payload b) old ≡ None) → rest_of (stored_payload a) old ≡ None
+  lent_none old h = subst (λ (at : ℕ → Option Payload). rest_of at old ≡ None) (stays_payload a b s fa) (h faithful)

@@ -1,0 +1,34 @@
+use Rattle.std.proofs.Common.{◌≡◌, ◌∙◌, sym, IsTrue, None}
+use Rattle.std.proofs.lemmas.Result.{err_from_is_err_and}
+use Rattle.pagecache.specs.Cache.{stored_payload}
+use Rattle.catalogue.specs.ChainReader.{rest_of, IsBroken}
+use Rattle.version1.specs.OldReading.{IsLentFault}
+use Rattle.catalogue.proofs.ReaderLemmas.{if_err_of}
+use Rattle.version1.proofs.LentLemmas.{later_fault, lent_none, lent_same, stays_trans}
+use Rattle.version1.proofs.lent_store.fill_lent.Goals as goal
+
+pub loop-store-preserved : goal.loop-store-preserved
+loop-store-preserved g c =
+    let a = g.S.PageStore.seen c.args.store.now in
+    let b = g.S.PageStore.seen c.loop-store.store in
+    record {
+      stays = stays_trans a b (g.S.PageStore.seen c.load_lent.new.store) c.loop-store.invariant.stays c.in_ok-load_lent.ensures.stays;
+      same = λ fa. lent_same a b c.loop-store.invariant.stays fa c.loop-store.reader c.load_lent.new.reader c.in_ok-load_lent.ensures.same ∙ c.loop-store.invariant.same fa;
+    }
+
+pub returns-in_err-load_lent-clause-broken : goal.returns-in_err-load_lent-clause-broken
+returns-in_err-load_lent-clause-broken g c =
+    let p = err_from_is_err_and c.from_residual.result c.from_residual.ensures.1 in
+    let a = g.S.PageStore.seen c.args.store.now in
+    let b = g.S.PageStore.seen c.loop-store.store in
+    if_err_of (λ e. IsBroken e → IsTrue a.is_faithful → rest_of (stored_payload a) c.args.reader.now ≡ None) c.from_residual.result p.0 c.in_err-load_lent.field-0.0 p.1 p.2
+    (λ broken fa. sym (c.loop-store.invariant.same fa) ∙ lent_none a b c.loop-store.invariant.stays fa c.loop-store.reader (c.in_err-load_lent.ensures.broken broken))
+
+pub returns-in_err-load_lent-clause-caused : goal.returns-in_err-load_lent-clause-caused
+returns-in_err-load_lent-clause-caused g c =
+    let p = err_from_is_err_and c.from_residual.result c.from_residual.ensures.1 in
+    let a = g.S.PageStore.seen c.args.store.now in
+    let b = g.S.PageStore.seen c.loop-store.store in
+    let d = g.S.PageStore.seen c.load_lent.new.store in
+    if_err_of (λ e. IsLentFault a d e) c.from_residual.result p.0 c.in_err-load_lent.field-0.0 p.1 p.2
+    (later_fault a b d c.in_err-load_lent.field-0.0 c.loop-store.invariant.stays c.in_err-load_lent.ensures.stays c.in_err-load_lent.ensures.caused)

@@ -1,0 +1,15 @@
+use Rattle.std.proofs.Common.{◌≡◌, IsTrue}
+use Rattle.pages.specs.Store.{Stays}
+use Rattle.pagecache.specs.Cache.{stored_payload}
+use Rattle.catalogue.specs.ChainReader.{rest_of}
+use Rattle.version1.proofs.lent_store.fill_lent.Given as goal
+
+abbrev pub invariant-loop-store : goal.invariant-loop-store
+invariant-loop-store g l = record {
+  stays : Stays (g.S.PageStore.seen l.initial.store) (g.S.PageStore.seen l.store);
+  same : IsTrue (g.S.PageStore.seen l.initial.store).is_faithful
+      → rest_of (stored_payload (g.S.PageStore.seen l.initial.store)) l.reader ≡ rest_of (stored_payload (g.S.PageStore.seen l.initial.store)) l.initial.reader;
+}
+
+abbrev pub decreases-loop-store : goal.decreases-loop-store
+decreases-loop-store g l = l.reader.left

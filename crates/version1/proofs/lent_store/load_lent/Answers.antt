@@ -1,0 +1,21 @@
+use Rattle.std.proofs.Common.{ap}
+use Rattle.catalogue.specs.ChainReader.{IsPageFault}
+use Rattle.catalogue.proofs.ReaderLemmas.{on_ok, if_err}
+use Rattle.version1.proofs.LentLemmas.{lent_loaded, lent_not_taken, lent_not_read, unread_none}
+use Rattle.version1.proofs.lent_store.load_lent.Goals as goal
+
+pub returns-in-Ok-clause-same : goal.returns-in-Ok-clause-same
+returns-in-Ok-clause-same g c =
+    on_ok c.take_page.result (λ t fa. lent_loaded (g.S.PageStore.seen c.args.store.now) c.args.reader.now c.next_page.result c.next_page.ensures c.requires c.take_page.new.self c.in-Ok.payload (c.in-Ok.ensures.payload fa) t) c.take_page.ensures.taken
+
+pub returns-in-Ok-clause-broken : goal.returns-in-Ok-clause-broken
+returns-in-Ok-clause-broken g c =
+    if_err (λ e. IsPageFault c.in-Ok.payload c.args.reader.now e) _ c.take_page.result
+    (λ e h b fa. lent_not_taken (g.S.PageStore.seen c.args.store.now) c.args.reader.now c.next_page.result c.next_page.ensures c.requires c.in-Ok.payload (c.in-Ok.ensures.payload fa) e h b)
+    c.take_page.ensures.broken
+
+pub returns-in-Err-clause-broken : goal.returns-in-Err-clause-broken
+returns-in-Err-clause-broken g c = λ b fa.
+    let s = g.S.PageStore.seen c.args.store.now in
+    lent_not_read s c.args.reader.now c.next_page.result c.next_page.ensures c.requires
+    (unread_none c.next_page.result s (g.S.PageStore.seen c.read_sealed.new.store) c.in-Err.fault (g.met.S.PageStore.lawful c.args.store.now) c.in-Err.ensures.fault b fa)

@@ -1,0 +1,119 @@
+use Rattle.std.proofs.Common.{◌∙◌, sym, subst}
+use Rattle.legs.specs.Blocks.{joined}
+use Rattle.pagecache.specs.Cache.{fresh}
+use Rattle.version1.specs.OldForm.{old_node_of}
+use Rattle.treecheck.specs.Check.{legs_on, HoldChains}
+use Rattle.tbtree.specs.Descent.{sort_by_ordinal}
+use Rattle.legs.specs.Index.{MayRefuseLeg}
+use Rattle.version1.specs.OldLegs.{pages_of_old, HaveEachOf, HaveLegsOf, IsNumbered}
+use Rattle.treecheck.specs.Walking.{pages_by}
+use Rattle.version1.proofs.OldLemmas.{same_old, stays_read}
+use Rattle.version1.proofs.OpenedLemmas.{allowed_leg, works_leg}
+use Rattle.version1.proofs.SurveyedLemmas.{have_each}
+use Rattle.version1.proofs.TakingLemmas.{held_list, legs_are, on_err, on_ok, stays_trans}
+use Rattle.treecheck.proofs.WalkedLemmas.{same_by}
+use Rattle.version1.proofs.old_legs.take_old_legs.Goals as goal
+
+pub returns-in-Err-clause-stays : goal.returns-in-Err-clause-stays
+returns-in-Err-clause-stays g c =
+    stays_read (g.S.PageStore.seen c.args.old.now) (g.S.PageStore.seen c.survey_leaves.new.store) (g.met.S.PageStore.lawful c.args.old.now) (g.met.S.PageStore.lawful c.survey_leaves.new.store) c.survey_leaves.ensures.reads
+
+pub returns-clause-stays : goal.returns-clause-stays
+returns-clause-stays g c =
+    stays_trans (g.S.PageStore.seen c.args.old.now) (g.S.PageStore.seen c.survey_leaves.new.store) (g.S.PageStore.seen c.bring.new.old)
+    (stays_read (g.S.PageStore.seen c.args.old.now) (g.S.PageStore.seen c.survey_leaves.new.store) (g.met.S.PageStore.lawful c.args.old.now) (g.met.S.PageStore.lawful c.survey_leaves.new.store) c.survey_leaves.ensures.reads)
+    c.bring.ensures.stays
+
+pub returns-clause-brought : goal.returns-clause-brought
+returns-clause-brought g c = on_ok c.bring.result (λ h fa sound empty.
+    let first = g.S.PageStore.seen c.args.old.now in
+    let mid = g.S.PageStore.seen c.survey_leaves.new.store in
+    let reads = c.survey_leaves.ensures.reads in
+    let total = c.args.tracks.now.legs in
+    let places = c.args.places.now in
+    let tracks = c.args.tracks.now.tracks in
+    let nodes = pages_by old_node_of (fresh first 1) in
+    let leaves = c.in-Ok.survey.leaves.items in
+    let s = c.in-Ok.ensures.surveyed fa in
+    let list = sort_by_ordinal (legs_on nodes (joined s.chains)) in
+    let n = c.laws.ensures.numbered (legs_on nodes (joined s.chains)) total s.once in
+    let held : HoldChains nodes c.args.most c.args.rows total places tracks list = held_list nodes c.args.most c.args.rows total places tracks leaves s n in
+    let numbered : IsNumbered total list = record { in_turn = c.laws.ensures.chained nodes c.args.most c.args.rows total places tracks list c.requires held; numbers = n.1 } in
+    let have : HaveLegsOf nodes leaves list = legs_are nodes c.args.most c.args.rows total places tracks leaves s n in
+    let there = subst (λ nodes. HaveLegsOf nodes c.as_slice.result.now list) (sym (same_by old_node_of (fresh first 1) (fresh mid 1) reads fa)) (subst (λ ms. HaveLegsOf nodes ms list) (sym c.as_slice.ensures.value) have) in
+    let total_is = subst (λ n. IsNumbered n list) (sym c.leg_count.ensures) numbered in
+    let r = h (reads.store.faithful ∙ fa) sound empty list there total_is in
+    (r.0, subst (HoldChains (pages_of_old first) c.args.most c.args.rows total places tracks) (sym r.1) (subst (λ nodes. HoldChains nodes c.args.most c.args.rows total places tracks list) (same_old first (g.met.S.PageStore.lawful c.args.old.now) fa) held))) c.bring.ensures.brought
+
+pub returns-clause-marked : goal.returns-clause-marked
+returns-clause-marked g c = λ fa sound empty marked.
+    let first = g.S.PageStore.seen c.args.old.now in
+    let mid = g.S.PageStore.seen c.survey_leaves.new.store in
+    let reads = c.survey_leaves.ensures.reads in
+    let total = c.args.tracks.now.legs in
+    let places = c.args.places.now in
+    let tracks = c.args.tracks.now.tracks in
+    let nodes = pages_by old_node_of (fresh first 1) in
+    let leaves = c.in-Ok.survey.leaves.items in
+    let s = c.in-Ok.ensures.surveyed fa in
+    let list = sort_by_ordinal (legs_on nodes (joined s.chains)) in
+    let n = c.laws.ensures.numbered (legs_on nodes (joined s.chains)) total s.once in
+    let held : HoldChains nodes c.args.most c.args.rows total places tracks list = held_list nodes c.args.most c.args.rows total places tracks leaves s n in
+    let numbered : IsNumbered total list = record { in_turn = c.laws.ensures.chained nodes c.args.most c.args.rows total places tracks list c.requires held; numbers = n.1 } in
+    let have : HaveLegsOf nodes leaves list = legs_are nodes c.args.most c.args.rows total places tracks leaves s n in
+    let there = subst (λ nodes. HaveLegsOf nodes c.as_slice.result.now list) (sym (same_by old_node_of (fresh first 1) (fresh mid 1) reads fa)) (subst (λ ms. HaveLegsOf nodes ms list) (sym c.as_slice.ensures.value) have) in
+    let total_is = subst (λ n. IsNumbered n list) (sym c.leg_count.ensures) numbered in
+    c.bring.ensures.marked (reads.store.faithful ∙ fa) sound empty marked list there total_is
+
+pub returns-in-Err-clause-only : goal.returns-in-Err-clause-only
+returns-in-Err-clause-only g c = λ fa sound empty agrees legs held.
+    let first = g.S.PageStore.seen c.args.old.now in
+    let there = subst (λ nodes. HoldChains nodes c.args.most c.args.rows c.args.tracks.now.legs c.args.places.now c.args.tracks.now.tracks legs) (sym (same_old first (g.met.S.PageStore.lawful c.args.old.now) fa)) held in
+    subst MayRefuseLeg (sym c.of_search.ensures) (allowed_leg c.in-Err.fault (c.in-Err.ensures.only fa agrees legs there))
+
+pub returns-clause-only : goal.returns-clause-only
+returns-clause-only g c = on_err c.bring.result (λ fault h fa sound empty agrees legs held.
+    let first = g.S.PageStore.seen c.args.old.now in
+    let mid = g.S.PageStore.seen c.survey_leaves.new.store in
+    let reads = c.survey_leaves.ensures.reads in
+    let total = c.args.tracks.now.legs in
+    let places = c.args.places.now in
+    let tracks = c.args.tracks.now.tracks in
+    let nodes = pages_by old_node_of (fresh first 1) in
+    let leaves = c.in-Ok.survey.leaves.items in
+    let s = c.in-Ok.ensures.surveyed fa in
+    let list = sort_by_ordinal (legs_on nodes (joined s.chains)) in
+    let n = c.laws.ensures.numbered (legs_on nodes (joined s.chains)) total s.once in
+    let all : HoldChains nodes c.args.most c.args.rows total places tracks list = held_list nodes c.args.most c.args.rows total places tracks leaves s n in
+    let numbered : IsNumbered total list = record { in_turn = c.laws.ensures.chained nodes c.args.most c.args.rows total places tracks list c.requires all; numbers = n.1 } in
+    let have : HaveLegsOf nodes leaves list = legs_are nodes c.args.most c.args.rows total places tracks leaves s n in
+    let each : HaveEachOf nodes leaves list = have_each nodes c.args.most c.args.rows total places tracks leaves c.requires s list n.0 in
+    let same = sym (same_by old_node_of (fresh first 1) (fresh mid 1) reads fa) in
+    let back = sym c.as_slice.ensures.value in
+    let there = subst (λ nodes. HaveLegsOf nodes c.as_slice.result.now list) same (subst (λ ms. HaveLegsOf nodes ms list) back have) in
+    let each_there = subst (λ nodes. HaveEachOf nodes c.as_slice.result.now list) same (subst (λ ms. HaveEachOf nodes ms list) back each) in
+    let total_is = subst (λ n. IsNumbered n list) (sym c.leg_count.ensures) numbered in
+    h (reads.store.faithful ∙ fa) sound empty list there each_there total_is) c.bring.ensures.only
+
+pub returns-in-Err-clause-works : goal.returns-in-Err-clause-works
+returns-in-Err-clause-works g c = λ fa sound empty e. works_leg c.in-Err.fault c.in-Err.ensures.works (sym c.of_search.ensures ∙ e)
+
+pub returns-clause-works : goal.returns-clause-works
+returns-clause-works g c = on_err c.bring.result (λ fault h fa sound empty.
+    let first = g.S.PageStore.seen c.args.old.now in
+    let mid = g.S.PageStore.seen c.survey_leaves.new.store in
+    let reads = c.survey_leaves.ensures.reads in
+    let total = c.args.tracks.now.legs in
+    let places = c.args.places.now in
+    let tracks = c.args.tracks.now.tracks in
+    let nodes = pages_by old_node_of (fresh first 1) in
+    let leaves = c.in-Ok.survey.leaves.items in
+    let s = c.in-Ok.ensures.surveyed fa in
+    let list = sort_by_ordinal (legs_on nodes (joined s.chains)) in
+    let n = c.laws.ensures.numbered (legs_on nodes (joined s.chains)) total s.once in
+    let held : HoldChains nodes c.args.most c.args.rows total places tracks list = held_list nodes c.args.most c.args.rows total places tracks leaves s n in
+    let numbered : IsNumbered total list = record { in_turn = c.laws.ensures.chained nodes c.args.most c.args.rows total places tracks list c.requires held; numbers = n.1 } in
+    let have : HaveLegsOf nodes leaves list = legs_are nodes c.args.most c.args.rows total places tracks leaves s n in
+    let there = subst (λ nodes. HaveLegsOf nodes c.as_slice.result.now list) (sym (same_by old_node_of (fresh first 1) (fresh mid 1) reads fa)) (subst (λ ms. HaveLegsOf nodes ms list) (sym c.as_slice.ensures.value) have) in
+    let total_is = subst (λ n. IsNumbered n list) (sym c.leg_count.ensures) numbered in
+    h (reads.store.faithful ∙ fa) sound empty list there total_is) c.bring.ensures.works

@@ -1,0 +1,5 @@
+pub mod OldForm
+pub mod OldLegs
+pub mod Migrating
+pub mod OldReading
+pub mod OldStore

@@ -1,0 +1,53 @@
+-- A store of version 1 that is brought over into a new store.
+use Rattle.std.specs.Prelude.{ℕ, ◌≡◌, ◌≤◌, ◌⊎◌, List, []}
+use Rattle.legs.specs.declared.index.IndexFault.{IndexFault}
+use Rattle.legs.specs.declared.index.IndexFault.TheVariants as index
+use Rattle.pages.specs.Store.{Store as StoreView, Faulted}
+use Rattle.pagecache.specs.Cache.{stored_payload}
+use Rattle.treecheck.specs.Check.{HoldChains}
+use Rattle.tbtree.specs.declared.tree.Place.{Place}
+use Rattle.boxsearch.specs.Index.{content, IndexView, IsSound}
+use Rattle.version1.specs.OldLegs.{pages_of_old}
+use Rattle.catalogue.specs.Holding.{IsUnfinishedStore}
+use Rattle.version1.specs.OldStore.{AnswersOld}
+use Rattle.catalogue.specs.Saved.{CatalogueView}
+use Rattle.catalogue.specs.declared.fault.CatalogueFault.{CatalogueFault}
+use Rattle.catalogue.specs.declared.fault.CatalogueFault.TheVariants.{Memory, Store, StoreFull, Damaged, Unfinished, Version, Malformed}
+
+-- how a fault of bringing legs over is answered
+abbrev pub brought_fault : IndexFault → CatalogueFault
+brought_fault index.Memory = Memory
+brought_fault index.Store = Store
+brought_fault (index.Damaged page) = Damaged page
+brought_fault index.StoreFull = StoreFull
+brought_fault index.Spent = Malformed
+
+-- why a store whose pages keep a catalogue is not brought over: memory ran out, a store failed or is full, or a page,
+-- as of a chain of leaves that is not whole, is damaged
+abbrev pub IsLegFault : CatalogueFault → Type 0
+IsLegFault Memory = Unit {0}
+IsLegFault Store = Unit {0}
+IsLegFault StoreFull = Unit {0}
+IsLegFault (Damaged page) = Unit {0}
+IsLegFault Unfinished = ⊥
+IsLegFault Version = ⊥
+IsLegFault Malformed = ⊥
+
+-- what the pages of a finished store of version 1 keep is brought over: the catalogue, the shape that comes nearest, and
+-- the list of legs that the chains of its features hold, of which the index is sound
+pub record IsBrought (s : StoreView) (c : CatalogueView) (index : IndexView) : Type 0 where
+  pub leaf : ℕ
+  pub places : List Place
+  pub kept : AnswersOld (stored_payload s) s.count c leaf index.tree.shape places
+  pub sound : IsSound index
+  pub legs : HoldChains (pages_of_old s) leaf c.tracks.rows c.tracks.legs places c.tracks.tracks (content index)
+
+-- one of two stores failed where that is said, and the second, which is new, is full where that is said
+abbrev pub IsMigratingFault : (old after new left : StoreView) → CatalogueFault → Type 0
+IsMigratingFault old after new left Memory = Unit {0}
+IsMigratingFault old after new left Store = Faulted old after ⊎ Faulted new left
+IsMigratingFault old after new left StoreFull = left.count ≡ left.most
+IsMigratingFault old after new left (Damaged page) = Unit {0}
+IsMigratingFault old after new left Unfinished = Unit {0}
+IsMigratingFault old after new left Version = Unit {0}
+IsMigratingFault old after new left Malformed = Unit {0}

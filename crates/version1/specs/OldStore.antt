@@ -1,0 +1,131 @@
+-- A finished store of version 1, as it is read to be brought over. Its page 0 has another version, leaves of up to 63
+-- legs, and no dimension, which was 2; its catalogue is that of the present version.
+use Rattle.std.specs.Prelude.{ℕ, ◌≡◌, ◌≤◌, ◌==◌, ◌⊎◌, ◌&&◌, ◌++◌, nat_lt, min, false, if◌then◌else◌, List, length, Option, Some, None}
+use Rattle.std.specs.Int.{div_ceil}
+use Rattle.byteorder.specs.Endian.{big_bytes}
+use Rattle.legs.specs.Book.{Book}
+use Rattle.legs.specs.Costs.{ShapeView}
+use Rattle.legs.specs.Limits.{IsLimits, LimitsView}
+use Rattle.pages.specs.Store.{Store as StoreView, Faulted}
+use Rattle.pages.specs.declared.payload.Payload.{Payload}
+use Rattle.pagecache.specs.Cache.{stored_payload}
+use Rattle.tbnode.specs.Parts.{number_at, part}
+use Rattle.treecheck.specs.Check.{HoldLegs}
+use Rattle.tbtree.specs.declared.tree.Place.{Place}
+use Rattle.tbtree.specs.declared.tree.TbTree.{TbTree}
+use Rattle.version1.specs.OldLegs.{pages_of_old}
+use Rattle.catalogue.specs.Chain.{most_used, text_at}
+use Rattle.catalogue.specs.Fields.{FitsFields}
+use Rattle.catalogue.specs.Holding.{IsOfBook}
+use Rattle.catalogue.specs.Lasting.{is_header, state_fault, IsLawful, IsWithin}
+use Rattle.catalogue.specs.Saved.{dimension_of, fields_for, CatalogueView}
+use Rattle.catalogue.specs.Saving.{contents_of}
+use Rattle.catalogue.specs.Text.{catalogue_text, IsWhole}
+use Rattle.catalogue.specs.declared.fault.CatalogueFault.{CatalogueFault}
+use Rattle.catalogue.specs.declared.fault.CatalogueFault.TheVariants.{Memory, Store, StoreFull, Damaged, Unfinished, Version, Malformed}
+use Rattle.catalogue.specs.declared.header_fields.Fields.{Fields}
+
+-- a leaf has room for 2 to 63 legs, an inner page for 2 to 72 entries
+pub record IsOldShape (shape : ShapeView) : Type 0 where
+  pub least_leaf : 2 ≤ shape.leaf
+  pub most_leaf : shape.leaf ≤ 63
+  pub least_inner : 2 ≤ shape.inner
+  pub most_inner : shape.inner ≤ 72
+
+-- the shape of the present version that comes nearest: a leaf has room for 50 legs at most
+abbrev pub present_shape : ShapeView → ShapeView
+present_shape shape = record { leaf = min shape.leaf 50; inner = shape.inner }
+
+-- the shape and the limits; the root of the tree, its levels and its leaves, four bytes each; the first page of the
+-- catalogue, in four, and the length of its text, in eight
+unfoldable pub old_fields_bytes : Fields → List ℕ
+old_fields_bytes f =
+    big_bytes 2 f.shape.leaf ++ (big_bytes 2 f.shape.inner ++ (big_bytes 8 f.limits.legs ++ (big_bytes 8 f.limits.features
+    ++ (big_bytes 4 f.root ++ (big_bytes 4 f.levels ++ (big_bytes 4 f.leaves ++ (big_bytes 4 f.first ++ big_bytes 8 f.length)))))))
+
+-- the 44 bytes behind the first 12 say these; what stands behind them may be anything
+pub record HasOldFields (payload : Payload) (f : Fields) : Type 0 where
+  pub fields : part 12 44 payload.bytes ≡ old_fields_bytes f
+
+-- what is wrong with the header of a store: it begins with the letters MFTB, version 1 and the state
+unfoldable pub old_header_fault : Payload → Option CatalogueFault
+old_header_fault payload =
+    if is_header payload.kind && (number_at 4 0 payload.bytes == 1296454722)
+    then (if number_at 4 4 payload.bytes == 1 then state_fault (number_at 4 8 payload.bytes) else Some Version)
+    else Some Malformed
+
+-- with page 0: a store has one, and it has a payload
+abbrev pub old_payload_fault : Option Payload → Option CatalogueFault
+old_payload_fault None = Some (Damaged 0)
+old_payload_fault (Some payload) = old_header_fault payload
+
+abbrev pub old_first_fault : ℕ → Option Payload → Option CatalogueFault
+old_first_fault count first = if nat_lt 0 count then old_payload_fault first else Some Malformed
+
+-- page 0 of so many pages says the limits, the tree and where the text of a catalogue of two dimensions is, and the
+-- text is there
+pub record SaysOld (at : ℕ → Option Payload) (count : ℕ) (c : CatalogueView) (tree : TbTree) (places : List Place) : Type 0 where
+  pub first : ℕ
+  pub length : ℕ
+  pub payload : Payload
+  pub is : at 0 ≡ Some payload
+  pub fields : HasOldFields payload (fields_for c.limits c.head tree first length)
+  pub fits : FitsFields (fields_for c.limits c.head tree first length)
+  pub shape : IsOldShape tree.shape
+  pub limits : IsLimits c.limits
+  pub dimension : dimension_of c.head ≡ 2
+  pub few : div_ceil length most_used ≤ count
+  pub text : text_at at length first ≡ Some (catalogue_text (contents_of c places))
+
+-- the pages of a finished store of version 1 keep a catalogue, a tree and the places of its features; in the text of
+-- the catalogue all fits, and each row has a value for each column
+pub record IsKeptOld (at : ℕ → Option Payload) (count : ℕ) (c : CatalogueView) (tree : TbTree) (places : List Place) : Type 0 where
+  pub says : SaysOld at count c tree places
+  pub whole : IsWhole (contents_of c places)
+  pub finished : old_payload_fault (at 0) ≡ None
+  pub within : IsWithin count tree
+  pub works : tree.spent ≡ false
+  pub lawful : IsLawful count c places
+
+-- the pages of a finished store of version 1 hold a book under limits: they keep its catalogue, and a tree of that
+-- shape that holds its legs
+pub record HoldsOldBook (s : StoreView) (shape : ShapeView) (limits : LimitsView) (book : Book) : Type 0 where
+  pub catalogue : CatalogueView
+  pub tree : TbTree
+  pub places : List Place
+  pub kept : IsKeptOld (stored_payload s) s.count catalogue tree places
+  pub shape_is : tree.shape ≡ shape
+  pub of : IsOfBook limits book catalogue
+  pub hold : HoldLegs (pages_of_old s) tree (length book.rows) (length book.legs) places catalogue.tracks.tracks
+  pub legs : hold.legs ≡ book.legs
+
+-- what is read of the pages of a finished store of version 1 is kept there: a catalogue and the places of its
+-- features, with a tree whose leaves have room for so many legs, and the shape of the present version that comes
+-- nearest to its own
+pub record AnswersOld (at : ℕ → Option Payload) (count : ℕ) (c : CatalogueView) (leaf : ℕ) (shape : ShapeView) (places : List Place) : Type 0 where
+  pub tree : TbTree
+  pub kept : IsKeptOld at count c tree places
+  pub leaf_is : tree.shape.leaf ≡ leaf
+  pub shape_is : shape ≡ present_shape tree.shape
+
+-- one of two stores failed where that is said; a call that only reads says nothing of a full store
+abbrev pub IsOldReadingFault : (old new below after : StoreView) → CatalogueFault → Type 0
+IsOldReadingFault old new below after Memory = Unit {0}
+IsOldReadingFault old new below after Store = Faulted old new ⊎ Faulted below after
+IsOldReadingFault old new below after StoreFull = ⊥
+IsOldReadingFault old new below after (Damaged page) = Unit {0}
+IsOldReadingFault old new below after Unfinished = Unit {0}
+IsOldReadingFault old new below after Version = Unit {0}
+IsOldReadingFault old new below after Malformed = Unit {0}
+
+-- a book that is held is read but for its legs: the catalogue is its own; the leaf is that of the
+-- shape, and the other shape comes nearest; and with the places the pages hold its legs, in a tree
+-- of that shape
+pub record AnswersOldBook (s : StoreView) (shape : ShapeView) (limits : LimitsView) (book : Book) (c : CatalogueView) (leaf : ℕ) (near : ShapeView) (places : List Place) : Type 0 where
+  pub leaf_is : shape.leaf ≡ leaf
+  pub shape_is : near ≡ present_shape shape
+  pub of : IsOfBook limits book c
+  pub tree : TbTree
+  pub tree_shape : tree.shape ≡ shape
+  pub hold : HoldLegs (pages_of_old s) tree (length book.rows) (length book.legs) places c.tracks.tracks
+  pub legs : hold.legs ≡ book.legs

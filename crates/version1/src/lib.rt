@@ -1,0 +1,14 @@
+//! A store of version 1, as it is brought over into a new one. Nothing below knows of that version.
+#![tactic(auto)]
+
+mod lent_store;
+mod migrating;
+mod old_header;
+mod old_laid;
+mod old_form;
+mod old_legs;
+mod old_store;
+
+pub use migrating::migrate;
+pub use old_form::{MOST_OLD_LEGS, OldLeaf, laws, old_leaf};
+pub use old_legs::take_old_legs;
