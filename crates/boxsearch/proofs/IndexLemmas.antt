@@ -12,6 +12,7 @@ use Rattle.tbtree.specs.Descent.{content_of}
 use Rattle.tbtree.specs.Insert.{Stands, IsPlace}
 use Rattle.tbtree.specs.Nodes.{pages_of_cache}
 use Rattle.boxsearch.specs.Beside.{with_cache}
+use Rattle.boxsearch.specs.Telling.{Tells, Denies}
 use Rattle.boxsearch.specs.Index.{IndexView, words, content, written, IsSound, IsMarked}
 
 pub content_is : (i : IndexView) → IsTrue i.cache.store.is_faithful → content i ≡ content_of (pages_of_cache i.cache) i.tree
@@ -75,6 +76,9 @@ module _ (old : IndexView) (c : Cache) (r : OnlyReads old.cache c) where
   pub reads_leave : Leaves words old new
   reads_leave = record {
     content = same_content;
+    told = λ q legs h f. subst (λ n. Tells n old.tree old.places q legs) (same_pages old.cache c r f) (h (r.store.faithful ∙ f));
+    denied = λ q page h f. subst (λ n. Denies n old.tree old.places q page) (same_pages old.cache c r f) (h (r.store.faithful ∙ f));
+    counted = refl;
     sound = still_sound;
     spent = refl;
     found_by = refl;

@@ -10,6 +10,7 @@ pub mod IndexLemmas
 pub mod PlaceLemmas
 pub mod TrackLemmas
 pub mod QuestionLemmas
+pub mod TellLemmas
 pub mod AddLemmas
 pub mod NewLemmas
 pub mod MarkLemmas

@@ -49,9 +49,17 @@ IsCaused old new (Malformed n) = Unit {0}
 IsCaused old new Spent = Unit {0}
 IsCaused old new Memory = Unit {0}
 
--- P of the page that is said to be malformed
-abbrev pub IfMalformed : (ℕ → Type 0) → SearchFault → Type 0
-IfMalformed P (OfCache fault) = Unit {0}
-IfMalformed P (Malformed n) = P n
-IfMalformed P Spent = Unit {0}
-IfMalformed P Memory = Unit {0}
+-- P of the page that is said to be damaged
+abbrev pub IfNamedInCache : (ℕ → Type 0) → CacheFault → Type 0
+IfNamedInCache P cache.NoPage = Unit {0}
+IfNamedInCache P cache.Store = Unit {0}
+IfNamedInCache P (cache.Damaged n) = P n
+IfNamedInCache P cache.StoreFull = Unit {0}
+IfNamedInCache P cache.Memory = Unit {0}
+
+-- P of the page that is said to be damaged or malformed
+abbrev pub IfNamed : (ℕ → Type 0) → SearchFault → Type 0
+IfNamed P (OfCache fault) = IfNamedInCache P fault
+IfNamed P (Malformed n) = P n
+IfNamed P Spent = Unit {0}
+IfNamed P Memory = Unit {0}

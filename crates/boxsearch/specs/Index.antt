@@ -4,6 +4,7 @@ use Rattle.legs.specs.Costs.{ShapeView}
 use Rattle.legs.specs.Finding.{FeaturePlace, Finding}
 use Rattle.legs.specs.Index.{feature_count}
 use Rattle.legs.specs.Legs.{IsLeg, LegView}
+use Rattle.legs.specs.Questions.{Question}
 use Rattle.pages.specs.declared.payload.Kind.TheVariants.{Header}
 use Rattle.pages.specs.declared.payload.Payload.{Payload}
 use Rattle.legs.specs.declared.listed.Listed.{Ghosts}
@@ -16,6 +17,7 @@ use Rattle.tbtree.specs.Shape.{IsShape}
 use Rattle.tbtree.specs.Stands.{empty_tree, no_place}
 use Rattle.tbtree.specs.declared.tree.Place.{Place}
 use Rattle.tbtree.specs.declared.tree.TbTree.{TbTree}
+use Rattle.boxsearch.specs.Telling.{Tells, Denies}
 
 -- the cache of its pages, its tree, the place of each feature, and how many legs it has
 pub record IndexView : Type 0 where
@@ -27,6 +29,13 @@ pub record IndexView : Type 0 where
 -- the legs that its pages say; none where its store is not faithful
 abbrev pub content : IndexView → List LegView
 content i = if i.cache.store.is_faithful then content_of (pages_of_cache i.cache) i.tree else []
+
+-- what its pages say to a question, and which page says nothing to it; anything where its store is not faithful
+abbrev pub tells : IndexView → Question → List LegView → Type 0
+tells i question legs = IsTrue i.cache.store.is_faithful → Tells (pages_of_cache i.cache) i.tree i.places question legs
+
+abbrev pub denies : IndexView → Question → ℕ → Type 0
+denies i question page = IsTrue i.cache.store.is_faithful → Denies (pages_of_cache i.cache) i.tree i.places question page
 
 -- the pages as written; none where its store is not faithful
 abbrev pub written : IndexView → List (List ℕ)
@@ -102,6 +111,9 @@ found_by i = record { root = i.tree.root; levels = i.tree.levels; leaves = i.tre
 abbrev pub words : Ghosts IndexView
 words = record {
   content = λ index. content index;
+  tells = λ index question legs. tells index question legs;
+  denies = λ index question page. denies index question page;
+  counted = λ index. index.legs;
   is_sound = λ index. IsSound index;
   is_spent = λ index. index.tree.spent;
   faults = λ index. index.cache.store.faults;

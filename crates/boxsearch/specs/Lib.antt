@@ -1,5 +1,6 @@
 pub mod Faults
 pub mod Way
+pub mod Telling
 pub mod Index
 pub mod Beside
 pub mod Lending

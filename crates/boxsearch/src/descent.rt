@@ -9,7 +9,7 @@ ghost use Rattle.chains.specs.Reads.{OnlyReads};
 ghost use Rattle.tbtree.specs.Descent.{children_met, hits, legs_met, met_count, HasInner, IsInOrder};
 ghost use Rattle.tbtree.specs.Insert.{Stands};
 ghost use Rattle.tbtree.specs.Nodes.{pages_of_cache, HasLeaf};
-ghost use Rattle.boxsearch.specs.Faults.{Gives, IsAllowed, IsCaused, IfMalformed};
+ghost use Rattle.boxsearch.specs.Faults.{Gives, IsAllowed, IsCaused, IfNamed};
 ghost use Rattle.boxsearch.specs.Way.{meets, IsWay, IsOffWay};
 ghost use Rattle.boxsearch.specs.declared.fault.SearchFault.{SearchFault};
 
@@ -37,8 +37,8 @@ fn next_level<S: PageStore>(
         → OnOk result (All (λ p. HasInner (pages_of_cache cache.old) p level) pages.now) }
     ensures only { IsTrue cache.old.store.is_faithful
         → All (λ p. HasInner (pages_of_cache cache.old) p level) pages.now → IfErr result IsAllowed }
-    ensures malformed { IsTrue cache.old.store.is_faithful
-        → IfErr result (IfMalformed (λ n. (i : ℕ) × (slice_get pages.now i ≡ Some n)
+    ensures named { IsTrue cache.old.store.is_faithful
+        → IfErr result (IfNamed (λ n. (i : ℕ) × (slice_get pages.now i ≡ Some n)
         × (HasInner (pages_of_cache cache.old) n level → ⊥))) }
     ensures reads { OnlyReads cache.old cache.new }
     ensures caused { IfErr result (IsCaused cache.old cache.new) }
@@ -68,8 +68,8 @@ fn legs_in<S: PageStore>(
         → OnOk result (All (λ p. HasLeaf (pages_of_cache cache.old) p) pages.now) }
     ensures only { IsTrue cache.old.store.is_faithful
         → All (λ p. HasLeaf (pages_of_cache cache.old) p) pages.now → IfErr result IsAllowed }
-    ensures malformed { IsTrue cache.old.store.is_faithful
-        → IfErr result (IfMalformed (λ n. (i : ℕ) × (slice_get pages.now i ≡ Some n)
+    ensures named { IsTrue cache.old.store.is_faithful
+        → IfErr result (IfNamed (λ n. (i : ℕ) × (slice_get pages.now i ≡ Some n)
         × (HasLeaf (pages_of_cache cache.old) n → ⊥))) }
     ensures reads { OnlyReads cache.old cache.new }
     ensures caused { IfErr result (IsCaused cache.old cache.new) }
@@ -116,8 +116,8 @@ fn collected<S: PageStore>(
     ensures only { IsTrue cache.old.store.is_faithful
         → IsWay query.now (pages_of_cache cache.old) tree.now.root tree.now.levels
         → IfErr result IsAllowed }
-    ensures malformed { IsTrue cache.old.store.is_faithful
-        → IfErr result (IfMalformed (IsOffWay query.now (pages_of_cache cache.old) tree.now.root
+    ensures named { IsTrue cache.old.store.is_faithful
+        → IfErr result (IfNamed (IsOffWay query.now (pages_of_cache cache.old) tree.now.root
         tree.now.levels)) }
     ensures reads { OnlyReads cache.old cache.new }
     ensures caused { IfErr result (IsCaused cache.old cache.new) }
@@ -163,8 +163,8 @@ pub fn search<S: PageStore>(
         (search_cost query.now (Some tree.now.shape) legs)) }
 
     // Of any pages: the legs of the pages that are met, in order, and only where each of them is what the tree expects;
-    // where each is, nothing else refuses. A page that is said to be malformed is one that is not, or the first one
-    // that is met beyond as many as there are.
+    // where each is, nothing else refuses. A page that is said to be malformed or damaged is one that is not, or the
+    // first one that is met beyond as many as there are.
     ensures met { IsTrue cache.old.store.is_faithful
         → IfOk result (λ found. IsInOrder (legs_met leg_boxes (meets query.now)
         (pages_of_cache cache.old) tree.now.root tree.now.levels) found.items) }
@@ -173,8 +173,8 @@ pub fn search<S: PageStore>(
     ensures only { tree.now.spent ≡ false → IsTrue cache.old.store.is_faithful
         → IsWay query.now (pages_of_cache cache.old) tree.now.root tree.now.levels
         → IfErr result IsAllowed }
-    ensures malformed { IsTrue cache.old.store.is_faithful
-        → IfErr result (IfMalformed (IsOffWay query.now (pages_of_cache cache.old) tree.now.root
+    ensures named { IsTrue cache.old.store.is_faithful
+        → IfErr result (IfNamed (IsOffWay query.now (pages_of_cache cache.old) tree.now.root
         tree.now.levels)) }
     ensures met_asked { IsTrue cache.old.store.is_faithful
         → OnOk result (RisesBy cache.old.asked cache.new.asked

@@ -12,9 +12,15 @@ use timebase::Period;
 impl<S: PageStore> Listed for TreeIndex<S> {
     ghost use Rattle.std.specs.Prelude.{Some, min, ◌≡◌, ◌-◌, ◌^◌};
     ghost use Rattle.pagecache.specs.Cache.{IsClean};
-    ghost use Rattle.boxsearch.specs.Index.{content, found_by, written, IsSound, IsMarked};
+    ghost use Rattle.boxsearch.specs.Index.{content, denies, found_by, tells, written, IsSound, IsMarked};
 
     ghost content = { λ index. content index };
+
+    ghost tells = { λ index question legs. tells index question legs };
+
+    ghost denies = { λ index question page. denies index question page };
+
+    ghost counted = { λ index. index.legs };
 
     ghost is_sound = { λ index. IsSound index };
 

@@ -8,7 +8,7 @@ ghost use Rattle.tbnode.specs.Form.{node_of};
 ghost use Rattle.chains.specs.Reads.{OnlyReads};
 ghost use Rattle.tbtree.specs.Descent.{children_met, entries_in, hits, legs_in, HasInner};
 ghost use Rattle.tbtree.specs.Nodes.{pages_of_cache, AnInner, ALeaf, InnerView, LeafView, HasLeaf};
-ghost use Rattle.boxsearch.specs.Faults.{IsAllowed, IsCaused, IfMalformed};
+ghost use Rattle.boxsearch.specs.Faults.{IsAllowed, IsCaused, IfNamed};
 ghost use Rattle.boxsearch.specs.Way.{meets};
 ghost use Rattle.boxsearch.specs.declared.fault.SearchFault.{SearchFault};
 
@@ -63,7 +63,7 @@ fn push_inner(
         × (node_of payload.now ≡ Some (AnInner inner)) × (inner.level ≡ level)) }
     ensures only { (inner : InnerView BoxView) → node_of payload.now ≡ Some (AnInner inner)
         → inner.level ≡ level → IfErr result IsAllowed }
-    ensures malformed { IfErr result (IfMalformed (λ n. (n ≡ page)
+    ensures named { IfErr result (IfNamed (λ n. (n ≡ page)
         × ((inner : InnerView BoxView) → node_of payload.now ≡ Some (AnInner inner)
         → inner.level ≡ level → ⊥))) }
     ensures caused { (old new : Cache) → IfErr result (IsCaused old new) }
@@ -93,7 +93,7 @@ fn push_leaf(
         × (node_of payload.now ≡ Some (ALeaf leaf))) }
     ensures only { (leaf : LeafView LegView) → node_of payload.now ≡ Some (ALeaf leaf)
         → IfErr result IsAllowed }
-    ensures malformed { IfErr result (IfMalformed (λ n. (n ≡ page)
+    ensures named { IfErr result (IfNamed (λ n. (n ≡ page)
         × ((leaf : LeafView LegView) → node_of payload.now ≡ Some (ALeaf leaf) → ⊥))) }
     ensures caused { (old new : Cache) → IfErr result (IsCaused old new) }
     ensures works { IfErr result (λ fault. fault ≢ SearchFault.Spent) }
@@ -120,8 +120,8 @@ pub(crate) fn push_children<S: PageStore>(
         → OnOk result (HasInner (pages_of_cache cache.old) page level) }
     ensures only { IsTrue cache.old.store.is_faithful
         → HasInner (pages_of_cache cache.old) page level → IfErr result IsAllowed }
-    ensures malformed { IsTrue cache.old.store.is_faithful
-        → IfErr result (IfMalformed (λ n. (n ≡ page)
+    ensures named { IsTrue cache.old.store.is_faithful
+        → IfErr result (IfNamed (λ n. (n ≡ page)
         × (HasInner (pages_of_cache cache.old) page level → ⊥))) }
     ensures reads { OnlyReads cache.old cache.new }
     ensures caused { IfErr result (IsCaused cache.old cache.new) }
@@ -153,8 +153,8 @@ pub(crate) fn push_legs<S: PageStore>(
         → OnOk result (HasLeaf (pages_of_cache cache.old) page) }
     ensures only { IsTrue cache.old.store.is_faithful
         → HasLeaf (pages_of_cache cache.old) page → IfErr result IsAllowed }
-    ensures malformed { IsTrue cache.old.store.is_faithful
-        → IfErr result (IfMalformed (λ n. (n ≡ page)
+    ensures named { IsTrue cache.old.store.is_faithful
+        → IfErr result (IfNamed (λ n. (n ≡ page)
         × (HasLeaf (pages_of_cache cache.old) page → ⊥))) }
     ensures reads { OnlyReads cache.old cache.new }
     ensures caused { IfErr result (IsCaused cache.old cache.new) }

@@ -148,6 +148,53 @@ fn pages_that_lie_are_named(rt: HostRuntime) -> Result<(), Fail> {
     Ok(())
 }
 
+/// The example, closed, with one byte of a page altered, so that its seal is broken.
+fn damaged(alloc: Global, keys: RandomState, number: u32) -> Result<MemStore, RunFault> {
+    let (mut store, _) = closed(alloc, keys, 100)?;
+    let mut page = [0; 4096];
+    if number >= store.len() {
+        return Err(RunFault::Failed);
+    }
+    store.read(number, &mut page).ok().ok_or(RunFault::Store)?;
+    page[100] ^= 1;
+    store.write(number, &page).ok().ok_or(RunFault::Store)?;
+    Ok(store)
+}
+
+/// Which page each question names, 0 where it is answered, and 9 where it is refused otherwise.
+fn named(alloc: Global, keys: RandomState, store: MemStore) -> Option<[u32; 7]> {
+    let mut db = opened(alloc, keys, store, 1).ok()?;
+    let mut pages = [9; 7];
+    for (page, question) in pages.iter_mut().zip(QUESTIONS.split('\n')) {
+        *page = match said(alloc, &mut db, question).1 {
+            Ok(()) => 0,
+            Err(RunFault::Damaged(page)) => page,
+            Err(_) => 9,
+        };
+    }
+    Some(pages)
+}
+
+/// The leaf of the first feature, and the root, each damaged, and malformed under a right seal. The
+/// trajectory of the last feature meets neither, and `features` and `trajectory` do not meet the root.
+#[test]
+fn a_question_over_damage_names_it(rt: HostRuntime) -> Result<(), Fail> {
+    let (alloc, keys) = (rt.alloc(), RandomState::new(&rt)?);
+    let leaf = [0, 1, 1, 1, 0, 1, 1];
+    let root = [0, 3, 3, 0, 0, 0, 3];
+    let broken = damaged(alloc, keys, 1).ok().ok_or("a store")?;
+    assert!(rt; named(alloc, keys, broken) == Some(leaf));
+    let forged = lying(alloc, keys, 1, 12, 0x0033_0000)
+        .ok()
+        .ok_or("a store")?;
+    assert!(rt; named(alloc, keys, forged) == Some(leaf));
+    let broken = damaged(alloc, keys, 3).ok().ok_or("a store")?;
+    assert!(rt; named(alloc, keys, broken) == Some(root));
+    let forged = lying(alloc, keys, 3, 16, 3).ok().ok_or("a store")?;
+    assert!(rt; named(alloc, keys, forged) == Some(root));
+    Ok(())
+}
+
 #[test]
 fn a_leg_whose_row_is_missing_is_damage_of_the_catalogue(rt: HostRuntime) -> Result<(), Fail> {
     let (alloc, keys) = (rt.alloc(), RandomState::new(&rt)?);

@@ -39,6 +39,9 @@ later-trans g a b c p q = record {
 pub leaves-refl : {I : Type 0} (g : Ghosts I) (a : I) → Leaves g a a
 leaves-refl g a = record {
   content = refl;
+  told = λ q l h. h;
+  denied = λ q n h. h;
+  counted = refl;
   sound = λ s. s;
   spent = refl;
   found_by = refl;
@@ -51,6 +54,9 @@ leaves-refl g a = record {
 pub leaves-trans : {I : Type 0} (g : Ghosts I) (a b c : I) → Leaves g a b → Leaves g b c → Leaves g a c
 leaves-trans g a b c p q = record {
   content = q.content ∙ p.content;
+  told = λ x l h. p.told x l (q.told x l h);
+  denied = λ x n h. p.denied x n (q.denied x n h);
+  counted = q.counted ∙ p.counted;
   sound = λ s. q.sound (p.sound s);
   spent = q.spent ∙ p.spent;
   found_by = q.found_by ∙ p.found_by;

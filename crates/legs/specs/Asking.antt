@@ -4,8 +4,9 @@ use Rattle.legs.specs.Legs.{LegView}
 use Rattle.legs.specs.Index.{MayRefuse, MayRefuseLeg, HasRisen, CanFollowInTurn}
 use Rattle.legs.specs.Costs.{ShapeView, RisesBy, RisesAtMost, add_bound}
 use Rattle.legs.specs.declared.index.IndexFault.{IndexFault}
-use Rattle.legs.specs.declared.index.IndexFault.TheVariants.{Store, StoreFull, Spent}
+use Rattle.legs.specs.declared.index.IndexFault.TheVariants.{Memory, Store, Damaged, StoreFull, Spent}
 use Rattle.legs.specs.declared.listed.Listed.{Ghosts}
+use Rattle.legs.specs.Questions.{Question}
 
 -- the same index, later: its shape is the same, and what is counted did not fall
 pub record IsLater {I : Type 0} (g : Ghosts I) (old new : I) : Type 0 where
@@ -13,10 +14,13 @@ pub record IsLater {I : Type 0} (g : Ghosts I) (old new : I) : Type 0 where
   pub faults : g.faults old ≤ g.faults new
   pub asked : g.asked old ≤ g.asked new
 
--- what a question leaves, answered or not: the list, sound where it was, spent where it was, and the numbers by
--- which it finds its legs; no page is marked as changed, and where none was, none is written
+-- what a question leaves, answered or not: the list, and what its pages say, sound where it was, spent where it was, and
+-- the numbers by which it finds its legs; no page is marked as changed, and where none was, none is written
 pub record Leaves {I : Type 0} (g : Ghosts I) (old new : I) : Type 0 where
   pub content : g.content new ≡ g.content old
+  pub told : (question : Question) (legs : List LegView) → g.tells new question legs → g.tells old question legs
+  pub denied : (question : Question) (page : ℕ) → g.denies new question page → g.denies old question page
+  pub counted : g.counted new ≡ g.counted old
   pub sound : g.is_sound old → g.is_sound new
   pub spent : g.is_spent new ≡ g.is_spent old
   pub found_by : g.found_by new ≡ g.found_by old
@@ -24,6 +28,15 @@ pub record Leaves {I : Type 0} (g : Ghosts I) (old new : I) : Type 0 where
   pub clean : g.is_clean old → g.is_clean new
   pub marked : g.is_marked old → g.is_marked new
   pub written : g.is_clean old → g.written new ≡ g.written old
+
+-- why a question is not answered, be the index sound or not: memory ran out, a store failed, a page that is met is not
+-- what it is to be there, or an `add` was refused
+abbrev pub Denies : {I : Type 0} → Ghosts I → I → Question → IndexFault → Type 0
+Denies g index question Memory = Unit {0}
+Denies g index question Store = Unit {0}
+Denies g index question (Damaged page) = g.denies index question page
+Denies g index question StoreFull = ⊥
+Denies g index question Spent = g.is_spent index ≡ true
 
 -- why a question is refused: an index that is spent always says so, and stays as it is; a sound one refuses
 -- for want of memory or a store that failed alone, and the latter only where a fault was counted; none says

@@ -1,6 +1,7 @@
 pub mod Legs
 pub mod Boxes
 pub mod Index
+pub mod Questions
 pub mod Blocks
 pub mod Hull
 pub mod Costs

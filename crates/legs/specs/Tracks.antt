@@ -1,5 +1,6 @@
 -- What is kept of a book beside its legs, and how it stands for the book.
-use Rattle.std.specs.Prelude.{ℕ, ◌≡◌, ◌<◌, ◌≤◌, List, length, count_by, slice_index_or, All, Some, None, ◌≢◌}
+use Rattle.std.specs.Prelude.{ℕ, ◌≡◌, ◌<◌, ◌<ℤ◌, ◌≤◌, List, length, count_by, slice_get, slice_index_or, All, Some, None, ◌≢◌}
+use Rattle.timebase.specs.Period.{PeriodView}
 use Rattle.legs.specs.Legs.{LegView}
 use Rattle.legs.specs.Index.{feature_count, last_end, is_of}
 use Rattle.legs.specs.Limits.{most}
@@ -36,3 +37,9 @@ pub record StandsFor (tracks : TracksView) (book : Book) : Type 0 where
   pub legs : tracks.legs ≡ length book.legs
   pub rows : tracks.rows ≡ length book.rows
   pub lawful : IsLawful book
+
+-- the last leg of a feature ends before a period, as its track says
+pub record IsOver (tracks : TracksView) (feature : ℕ) (period : PeriodView) : Type 0 where
+  pub track : Track
+  pub there : slice_get tracks.tracks feature ≡ Some track
+  pub before : track.end <ℤ period.start

@@ -30,16 +30,21 @@ pub enum IndexFault {
 ///
 /// A refused `add` leaves an index spent: it answers `Spent` to every later call but
 /// `len`, `spent` and `asked`, and stays as it is. Any other refusal leaves the list as it was.
+///
+/// A question is answered by what the pages say, whoever wrote them, and by nothing else: where a page that is met is
+/// not what it is to be there, it is `Damaged`, with that page.
 pub trait LegIndex: Listed {
-    ghost use Rattle.std.specs.Prelude.{◌≡◌, ◌∷◌, [], true, false, length, All, OnOk, IfOk};
+    ghost use Rattle.std.specs.Prelude.{◌≡◌, ◌∷◌, [], true, false, length, All, OnOk, IfOk, MatchResult};
     ghost use Rattle.legs.specs.Legs.{IsLeg};
     ghost use Rattle.legs.specs.Index.{legs_in_box, legs_of, live_legs_of};
+    ghost use Rattle.legs.specs.Questions.{InBox, OfFeature};
     ghost use Rattle.legs.specs.Costs.{search_cost, track_cost, track_in_bound};
-    ghost use Rattle.legs.specs.Asking.{AddAsks, Asks, AsksAtMost, Grows, IsLater, KeepsMarked, Leaves, LegRefusals, Refusals};
+    ghost use Rattle.legs.specs.Asking.{AddAsks, Asks, AsksAtMost, Denies, Grows, IsLater, KeepsMarked, Leaves, LegRefusals, Refusals};
 
     /// How many legs there are.
     fn len(&self) -> u64
-        ensures { Self.is_sound self.now → result ≡ length (Self.content self.now) };
+        ensures value { Self.is_sound self.now → result ≡ length (Self.content self.now) }
+        ensures counted { result ≡ Self.counted self.now };
 
     /// Whether an `add` was refused.
     fn spent(&self) -> bool
@@ -79,6 +84,8 @@ pub trait LegIndex: Listed {
     fn search(&mut self, query: &Box3) -> Result<Vec<Leg>, IndexFault>
         ensures found { IfOk result (λ legs. Self.is_sound self.old
             → legs.items ≡ legs_in_box query.now (Self.content self.old)) }
+        ensures told { MatchResult result (λ legs. Self.tells self.old (InBox query.now) legs.items)
+            (λ fault. Denies Self.Listed self.old (InBox query.now) fault) }
         ensures asks { OnOk result (Asks Self.Listed self.old self.new (search_cost query.now)) }
         ensures leaves { Leaves Self.Listed self.old self.new }
         ensures refusals { Refusals Self.Listed self.old self.new result };
@@ -87,6 +94,9 @@ pub trait LegIndex: Listed {
     fn track(&mut self, feature: u32) -> Result<Vec<Leg>, IndexFault>
         ensures found { IfOk result (λ legs. Self.is_sound self.old
             → legs.items ≡ legs_of feature (Self.content self.old)) }
+        ensures told { MatchResult result
+            (λ legs. Self.tells self.old (OfFeature feature None) legs.items)
+            (λ fault. Denies Self.Listed self.old (OfFeature feature None) fault) }
         ensures asks { OnOk result (Asks Self.Listed self.old self.new (track_cost feature)) }
         ensures leaves { Leaves Self.Listed self.old self.new }
         ensures refusals { Refusals Self.Listed self.old self.new result };
@@ -95,6 +105,9 @@ pub trait LegIndex: Listed {
     fn track_in(&mut self, feature: u32, period: &Period) -> Result<Vec<Leg>, IndexFault>
         ensures found { IfOk result (λ legs. Self.is_sound self.old
             → legs.items ≡ live_legs_of feature period.now (Self.content self.old)) }
+        ensures told { MatchResult result
+            (λ legs. Self.tells self.old (OfFeature feature (Some period.now)) legs.items)
+            (λ fault. Denies Self.Listed self.old (OfFeature feature (Some period.now)) fault) }
         ensures asks { OnOk result (AsksAtMost Self.Listed self.old self.new
             (track_in_bound feature period.now)) }
         ensures leaves { Leaves Self.Listed self.old self.new }

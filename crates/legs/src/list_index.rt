@@ -135,12 +135,20 @@ fn live_legs(alloc: Global, legs: &[Leg], period: &Period) -> Result<Vec<Leg>, A
 
 impl Listed for ListIndex {
     ghost use Rattle.std.specs.Prelude.{◌≡◌, false, All, None, []};
+    ghost use Rattle.std.specs.Prelude.{length};
     ghost use Rattle.legs.specs.Finding.{no_finding};
     ghost use Rattle.legs.specs.Legs.{IsLeg};
+    ghost use Rattle.legs.specs.Questions.{answer_in};
 
     ghost content = { λ index. index.legs };
 
     ghost is_sound = { λ index. (index.spent ≡ false) × All IsLeg index.legs };
+
+    ghost tells = { λ index question legs. legs ≡ answer_in question index.legs };
+
+    ghost denies = { λ index question page. ⊥ };
+
+    ghost counted = { λ index. length index.legs };
 
     ghost is_spent = { λ index. index.spent };
 

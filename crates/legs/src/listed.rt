@@ -7,12 +7,23 @@ pub trait Listed {
     ghost use Rattle.legs.specs.Legs.{LegView};
     ghost use Rattle.legs.specs.Costs.{ShapeView};
     ghost use Rattle.legs.specs.Finding.{Finding};
+    ghost use Rattle.legs.specs.Questions.{Question};
 
     /// The legs in the index, in accepted order; of an index over pages, none where its store is not faithful.
     ghost content: { Self → List LegView };
 
     /// The index stands for its list, and every call answers by it.
     ghost is_sound: { Self → Type 0 };
+
+    /// What its pages, whoever wrote them, say to a question: these legs, where each page that is met is what it is to
+    /// be there. Of an index over a store that is not faithful nothing is known, and it says anything.
+    ghost tells: { Self → Question → List LegView → Type 0 };
+
+    /// Its pages say nothing to a question: the page of that number is met, and is not what it is to be there.
+    ghost denies: { Self → Question → ℕ → Type 0 };
+
+    /// How many legs it counts.
+    ghost counted: { Self → ℕ };
 
     /// An `add` was refused.
     ghost is_spent: { Self → Bool };

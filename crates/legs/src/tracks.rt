@@ -77,13 +77,13 @@ fn insert_name(
 }
 
 impl Tracks {
-    ghost use Rattle.std.specs.Prelude.{ℕ, ◌≡◌, ◌≢◌, ◌≤◌, ◌<◌, ◌+◌, ◌-◌, ◌^◌, ◌++◌, ◌∷◌, [], Ok, true, false, if◌then◌else◌, length, map, min, nat_le, fold, slice_get, bytes_eq, OnOk, OnErr, IfOk, IsTrue, All};
+    ghost use Rattle.std.specs.Prelude.{ℕ, ◌≡◌, ◌↔◌, ◌≢◌, ◌≤◌, ◌<◌, ◌+◌, ◌-◌, ◌^◌, ◌++◌, ◌∷◌, [], Ok, true, false, if◌then◌else◌, length, map, min, nat_le, fold, slice_get, bytes_eq, OnOk, OnErr, IfOk, IsTrue, All};
     ghost use Rattle.std.specs.List.{list_any};
     ghost use Rattle.std.specs.String.{string_bytes};
     ghost use Rattle.std.specs.Option.{option_copied, option_map};
     ghost use Rattle.legs.specs.Limits.{LimitsView, IsLimits};
     ghost use Rattle.legs.specs.Book.{Book, empty_book, feature_of, joined, with_file, names_with};
-    ghost use Rattle.legs.specs.Tracks.{StandsFor};
+    ghost use Rattle.legs.specs.Tracks.{IsOver, StandsFor};
     ghost use Rattle.legs.specs.Law.{IsBook};
     ghost use Rattle.legs.specs.Legs.{IsLeg};
     ghost use Rattle.legs.specs.Index.{live_legs_of};
@@ -167,7 +167,8 @@ impl Tracks {
     /// Whether the last leg of the feature of that number ends before a period, so that none of its legs has a
     /// moment in it.
     pub fn is_over(&self, feature: u32, period: &Period) -> bool
-        ensures { IsTrue result → (limits : LimitsView) (book : Book) → StandsFor self.now book
+        ensures exact { IsTrue result ↔ IsOver self.now feature period.now }
+        ensures none { IsTrue result → (limits : LimitsView) (book : Book) → StandsFor self.now book
             → IsBook limits book → All IsLeg book.legs
             → live_legs_of feature period.now book.legs ≡ [] }
     {

@@ -26,7 +26,7 @@ use Rattle.trajdb.specs.Calls.{IsLater, Leaves, features_bound, IsText, IsRefuse
 pub text_refused : {I : Type 0} (g : Ghosts I) (old new : CoreView I) (P : Type 0) (fault : RunFault) → IsText P fault → (IsSound g old → P) → IsRefused g old new fault
 text_refused g old new P Memory text there = record { sound = λ s. tt; store = tt }
 text_refused g old new P Store text there = absurd text
-text_refused g old new P (Damaged page) text there = record { sound = λ s. text (there s); store = tt }
+text_refused g old new P (Damaged page) text there = record { sound = λ s. text.1 (there s); store = tt }
 text_refused g old new P StoreFull text there = absurd text
 text_refused g old new P Failed text there = absurd text
 text_refused g old new P Output text there = absurd text
@@ -34,7 +34,7 @@ text_refused g old new P Output text there = absurd text
 pub text_weaker : (P Q : Type 0) (fault : RunFault) → IsText P fault → (Q → P) → IsText Q fault
 text_weaker P Q Memory text more = tt
 text_weaker P Q Store text more = absurd text
-text_weaker P Q (Damaged page) text more = λ q. text (more q)
+text_weaker P Q (Damaged page) text more = (text.0, λ q. text.1 (more q))
 text_weaker P Q StoreFull text more = absurd text
 text_weaker P Q Failed text more = absurd text
 text_weaker P Q Output text more = absurd text

@@ -5,6 +5,8 @@ pub mod BookLemmas
 pub mod FileLemmas
 pub mod RunLemmas
 pub mod FaultLemmas
+pub mod TellingLemmas
+pub mod TracedLemmas
 pub mod PageLemmas
 pub mod LastingLemmas
 pub mod CheckLemmas

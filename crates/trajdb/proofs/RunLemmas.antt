@@ -46,7 +46,7 @@ cons_parts : (x y : List ℕ) (xs ys : List (List ℕ)) → x ∷ xs ≡ y ∷ y
 cons_parts x y xs ys e = (cc, cc)
 
 -- one more line, where that line is the next
-more_lines : (lines : List (List ℕ)) (k : ℕ) (line : List ℕ) (others : List (List ℕ)) → drop k lines ≡ line ∷ others → (take (k + 1) lines ≡ take k lines ++ line ∷ []) × (drop (k + 1) lines ≡ others)
+pub more_lines : (lines : List (List ℕ)) (k : ℕ) (line : List ℕ) (others : List (List ℕ)) → drop k lines ≡ line ∷ others → (take (k + 1) lines ≡ take k lines ++ line ∷ []) × (drop (k + 1) lines ≡ others)
 more_lines [] zero line others e = cc
 more_lines [] (suc k) line others e = cc
 more_lines (x ∷ xs) zero line others e = (ap (λ l. l ∷ []) (cons_parts x line xs others e).0, (cons_parts x line xs others e).1)
@@ -107,7 +107,7 @@ at_cut limits files a b c old mid new lines rest others line k at e cut =
       },
     )
 
-nth_line : (lines : List (List ℕ)) (k : ℕ) (line : List ℕ) (others : List (List ℕ)) → drop k lines ≡ line ∷ others → (k < length lines) × (get_or lines k [] ≡ line)
+pub nth_line : (lines : List (List ℕ)) (k : ℕ) (line : List ℕ) (others : List (List ℕ)) → drop k lines ≡ line ∷ others → (k < length lines) × (get_or lines k [] ≡ line)
 nth_line [] zero line others e = absurd (cc)
 nth_line [] (suc k) line others e = absurd (cc)
 nth_line (x ∷ xs) zero line others e = (omega arith, (cons_parts x line xs others e).0)
@@ -129,11 +129,11 @@ at_refused limits files a b c old mid new failed lines rest others line k at e s
       },
     )
 
-lines_none : lines_of [] ≡ []
+pub lines_none : lines_of [] ≡ []
 unfolding pieces_of
 lines_none = refl
 
-all_taken : (lines : List (List ℕ)) (k : ℕ) → drop k lines ≡ [] → take k lines ≡ lines
+pub all_taken : (lines : List (List ℕ)) (k : ℕ) → drop k lines ≡ [] → take k lines ≡ lines
 all_taken lines k e = sym (append-nil (take k lines)) ∙ ap (λ l. take k lines ++ l) (sym e) ∙ take-append-drop k lines
 
 pub at_end : (limits : LimitsView) (files : Named) (a b c : Option (List ℕ)) (old new : Book) (lines : List (List ℕ)) (rest : List ℕ) (k : ℕ) → IsAt limits files a b old new lines rest k → rest ≡ [] → Keeps b c → HasRun limits files a c old new lines

@@ -1,13 +1,9 @@
 -- A database that passes a check is sound.
-use Rattle.std.proofs.Common.{ℕ, ◌<◌, ◌≤◌, ◌≡◌, ◌∙◌, refl, sym, ap, arith, subst, true, false, List, [], ◌∷◌, length, Option, Some, None, Result, Ok, Err, All, IsTrue}
-use Rattle.std.proofs.lemmas.List.Elements.{All-weaker}
-use Rattle.legs.specs.Book.{Book, empty_book}
-use Rattle.legs.specs.Index.{feature_count, CanFollowInTurn}
-use Rattle.legs.specs.Law.{IsBook, IsOrdered, IsThere}
-use Rattle.legs.specs.Legs.{LegView}
+use Rattle.std.proofs.Common.{ℕ, ◌≤◌, ◌≡◌, ◌∙◌, refl, sym, ap, arith, subst, true, false, List, [], ◌∷◌, length, Result, Ok, Err, All, IsTrue}
+use Rattle.legs.specs.Book.{Book}
+use Rattle.legs.specs.Index.{CanFollowInTurn}
+use Rattle.legs.specs.Law.{IsThere}
 use Rattle.legs.specs.Limits.{IsLimits}
-use Rattle.legs.specs.Tracks.{StandsFor}
-use Rattle.legs.specs.declared.head.BookHead.{BookHead}
 use Rattle.treecheck.specs.Checking.{AreTracksOf}
 use Rattle.std.specs.Prelude.{IfErr}
 use Rattle.legs.specs.Index.{MayRefuse}
@@ -21,7 +17,7 @@ use Rattle.trajdb.specs.Calls.{IsQuestionFault}
 use Rattle.trajdb.specs.Database.{catalogue_of}
 use Rattle.trajdb.specs.Faults.{run_fault_of}
 use Rattle.trajdb.specs.Lasting.{IsIdle}
-use Rattle.trajdb.specs.Checking.{AreNames, FitsHead, KeepsLaw}
+use Rattle.trajdb.specs.Checking.{KeepsLaw}
 use Rattle.trajdb.specs.Db.{DbView, HasPages, IsSound}
 use Rattle.trajdb.proofs.CheckLemmas.{counted, none_counted}
 

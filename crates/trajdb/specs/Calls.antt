@@ -139,11 +139,11 @@ IsRunStop g old new StoreFull = g.is_store_full new.index
 IsRunStop g old new Failed = IsSound g old → old.failed ≡ false → ⊥
 IsRunStop g old new Output = Unit {0}
 
--- why a text was not made, of what is there where P holds
+-- why a text was not made, of what is there where P holds; where something is not, page 0 is named
 abbrev pub IsText : Type 0 → RunFault → Type 0
 IsText P Memory = Unit {0}
 IsText P Store = ⊥
-IsText P (Damaged page) = P → ⊥
+IsText P (Damaged page) = (page ≡ 0) × (P → ⊥)
 IsText P StoreFull = ⊥
 IsText P Failed = ⊥
 IsText P Output = ⊥

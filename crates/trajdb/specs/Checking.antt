@@ -1,5 +1,5 @@
 -- What a check finds of a database.
-use Rattle.std.specs.Prelude.{ℕ, ◌≡◌, ◌≢◌, ◌≤◌, ◌<◌, List, [], length, slice_get, All, AllPairs, Option, Some, None}
+use Rattle.std.specs.Prelude.{ℕ, ◌≡◌, ◌≢◌, ◌≤◌, List, length, slice_get, All, AllPairs, Option, Some, None}
 use Rattle.legs.specs.Book.{feature_of}
 use Rattle.legs.specs.Law.{IsName}
 use Rattle.legs.specs.declared.head.BookHead.{BookHead}

@@ -7,6 +7,7 @@ pub mod Answers
 pub mod Database
 pub mod Calls
 pub mod Run
+pub mod Telling
 pub mod Lines
 pub mod Db
 pub mod Lasting

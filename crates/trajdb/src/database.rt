@@ -300,6 +300,7 @@ impl<I: Start> Core<I> {
     ghost use Rattle.trajdb.specs.Answers.{AcceptsBy, IsAnswer, IsCountsText, book_then};
     ghost use Rattle.trajdb.specs.Database.{Becomes, IsSound};
     ghost use Rattle.trajdb.specs.Calls.{AsksIn, Begins, BeginsBy, BeginsOnly, IsStopped, IsLater, KeepsPages, Leaves, Loads, LoadsWhole, TellsLoad};
+    ghost use Rattle.trajdb.specs.Telling.{IsToldAnswer, NamesBy};
 
     /// The whole answer to a command, with the named files at hand.
     ///
@@ -315,6 +316,11 @@ impl<I: Start> Core<I> {
         ensures becomes { OnOk result (Becomes I.Listed self.old self.new
             (book_then self.old.limits files.now self.old.book command.now)) }
         ensures lives { OnOk result (self.new.failed ≡ false) }
+        // Be the database sound or not, an answer is what the pages that were met say, and a page that is named is
+        // one that was met and is not what it is to be there.
+        ensures says { IfOk result (λ text.
+            IsToldAnswer I.Listed self.old files.now command.now text.items) }
+        ensures named { IfErr result (NamesBy I.Listed self.old command.now) }
         ensures asks { OnOk result (AsksIn I.Listed self.old self.new command.now) }
         ensures later { IsLater I.Listed self.old self.new }
 
@@ -373,9 +379,10 @@ impl<I: Start> Core<I> {
     ghost use Rattle.trajdb.specs.Answers.{AcceptsLine, IsLineText, line_book};
     ghost use Rattle.trajdb.specs.Database.{Becomes, IsSound};
     ghost use Rattle.trajdb.specs.Calls.{Begins, BeginsBy, BeginsOnly, IsStopped, IsLater, KeepsPages, Leaves, LoadsBy, LoadsWholeBy, Speaks};
+    ghost use Rattle.trajdb.specs.Telling.{NamesLine, TellsLine};
 
     /// The whole answer to a line of a script.
-    #[tactic(auto, unfolding(crate::specs::Answers::IsLineText, crate::specs::Answers::line_book, crate::specs::Answers::AcceptsLine, crate::specs::Calls::LoadsBy, crate::specs::Calls::LoadsWholeBy, crate::specs::Calls::Speaks))]
+    #[tactic(auto, unfolding(crate::specs::Answers::IsLineText, crate::specs::Answers::line_book, crate::specs::Answers::AcceptsLine, crate::specs::Calls::LoadsBy, crate::specs::Calls::LoadsWholeBy, crate::specs::Calls::Speaks, crate::specs::Telling::TellsLine, crate::specs::Telling::NamesLine))]
     fn answer(&mut self, alloc: Global, line: &[u8], files: &Files) -> Result<Vec<u8>, RunFault>
         requires { self.old.failed ≡ false }
         ensures text { IfOk result (λ text. IsSound I.Listed self.old
@@ -383,6 +390,9 @@ impl<I: Start> Core<I> {
         ensures becomes { OnOk result (Becomes I.Listed self.old self.new
             (line_book self.old.limits files.now self.old.book line.now)) }
         ensures lives { OnOk result (self.new.failed ≡ false) }
+        ensures says { IfOk result (λ text.
+            TellsLine I.Listed files.now self.old self.new line.now text.items) }
+        ensures named { IfErr result (NamesLine I.Listed files.now self.old line.now) }
         ensures later { IsLater I.Listed self.old self.new }
         ensures speaks { OnErr result (Speaks line.now) }
         ensures refused { OnErr result (self.new.failed ≡ false
@@ -417,6 +427,7 @@ impl<I: Start> Core<I> {
     ghost use Rattle.trajdb.specs.Run.{AcceptsSome, FailsAt, StopsAt, Runs, Stops, IsCut};
     ghost use Rattle.trajdb.specs.Database.{IsSound};
     ghost use Rattle.trajdb.specs.Calls.{Begins, BeginsBy, BeginsOnly, IsRunStop, IsLater, KeepsPages, LoadsWholeBy, LoadsWholeSome};
+    ghost use Rattle.trajdb.specs.Telling.{HasCutTold, HasNamed, HasTold, TellsCut, TellsRun, TellsStop};
 
     /// One line of a script: its answer goes to the output.
     fn line<W: Write>(
@@ -448,6 +459,12 @@ impl<I: Start> Core<I> {
         ensures later { IsLater I.Listed self.old self.new }
         ensures fails { IfErr result (λ fault. IsInside fault
             → FailsAt files.now self.new.failed fault line.now) }
+        ensures says { OnOk result (HasTold I.Listed files.now (W.contents out.old)
+            (W.contents out.new) self.old self.new line.now) }
+        ensures says_cut { IsErrOf result RunFault.Output → HasCutTold I.Listed files.now
+            (W.contents out.old) (W.contents out.new) self.old self.new line.now }
+        ensures named { IfErr result (λ fault. IsInside fault → HasNamed I.Listed files.now
+            (W.contents out.old) (W.contents out.new) self.old line.now fault) }
         ensures begins { OnOk result (Begins I.Listed self.old self.new
             (AcceptsLine self.old.limits files.now self.old.book line.now)) }
         ensures only { BeginsOnly I.Listed self.old self.new
@@ -475,6 +492,17 @@ impl<I: Start> Core<I> {
             self.old self.new (lines_of script.now)) }
         ensures sound { OnOk result (IsSound I.Listed self.old → IsSound I.Listed self.new) }
         ensures lives { OnOk result (self.new.failed ≡ false) }
+
+        // Be the database sound or not: what was sent is the answers to lines, one after another, each by what the
+        // pages say that were met, and a page that is named is one that the next line met and is not what it is to
+        // be there.
+        ensures says { OnOk result (TellsRun I.Listed files.now (W.contents out.old)
+            (W.contents out.new) self.old self.new (lines_of script.now)) }
+        ensures says_cut { IsErrOf result RunFault.Output → TellsCut I.Listed files.now
+            (W.contents out.old) (W.contents out.new) self.old self.new (lines_of script.now) }
+        ensures named { IfErr result (λ fault. IsInside fault → self.old.failed ≡ false
+            → TellsStop I.Listed files.now (W.contents out.old) (W.contents out.new) self.old
+            fault (lines_of script.now)) }
 
         // Where the output fails.
         ensures output { IsErrOf result RunFault.Output → IsSound I.Listed self.old

@@ -50,6 +50,7 @@ impl<S: PageStore> Db<S> {
     ghost use Rattle.trajdb.specs.Run.{AcceptsSome, StopsAt, Runs, Stops, IsCut};
     ghost use Rattle.trajdb.specs.Database.{FailsBy, IsRefused, IsTold, LoadGives, Becomes};
     ghost use Rattle.trajdb.specs.Calls.{AsksIn, Begins, BeginsBy, BeginsOnly, IsLater, IsLoadStop, IsRunStop, IsStopped, IsWholeFile, KeepsPages, Leaves, Loads, LoadsWhole, LoadsWholeSome, TellsLoad};
+    ghost use Rattle.trajdb.specs.Telling.{IsToldAnswer, NamesBy, TellsCut, TellsRun, TellsStop};
     ghost use Rattle.trajdb.specs.Db.{HasPages, IsAllowed, IsCaused, IsSound};
     ghost use Rattle.trajdb.specs.Lasting.{IsIdle};
     ghost use Rattle.trajdb.specs.declared.RunFault.{RunFault};
@@ -143,6 +144,12 @@ impl<S: PageStore> Db<S> {
         ensures becomes { OnOk result (Becomes words self.old self.new
             (book_then self.old.limits files.now self.old.book command.now)) }
         ensures lives { OnOk result (self.new.failed ≡ false) }
+
+        // Be the database sound or not, an answer is what the pages that were met say, and a page
+        // that is named is one that was met and is not what it is to be there.
+        ensures says { IfOk result (λ text.
+            IsToldAnswer words self.old files.now command.now text.items) }
+        ensures named { IfErr result (NamesBy words self.old command.now) }
         ensures asks { OnOk result (AsksIn words self.old self.new command.now) }
         ensures later { IsLater words self.old self.new }
 
@@ -193,6 +200,17 @@ impl<S: PageStore> Db<S> {
             self.old self.new (lines_of script.now)) }
         ensures sound { OnOk result (IsSound self.old → IsSound self.new) }
         ensures lives { OnOk result (self.new.failed ≡ false) }
+
+        // Be the database sound or not: what was sent is the answers to lines, one after another,
+        // each by what the pages say that were met, and a page that is named is one that the next
+        // line met and is not what it is to be there.
+        ensures says { OnOk result (TellsRun words files.now (W.contents out.old)
+            (W.contents out.new) self.old self.new (lines_of script.now)) }
+        ensures says_cut { IsErrOf result RunFault.Output → TellsCut words files.now
+            (W.contents out.old) (W.contents out.new) self.old self.new (lines_of script.now) }
+        ensures named { IfErr result (λ fault. IsInside fault → self.old.failed ≡ false
+            → TellsStop words files.now (W.contents out.old) (W.contents out.new) self.old fault
+            (lines_of script.now)) }
 
         // Where the output fails.
         ensures output { IsErrOf result RunFault.Output → IsSound self.old → IsCut files.now

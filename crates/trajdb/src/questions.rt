@@ -47,7 +47,9 @@ impl<I: Start> Core<I> {
     ghost use Rattle.legs.specs.Costs.{search_cost, track_in_bound};
     ghost use Rattle.predicates.specs.Near.{box_near};
     ghost use Rattle.legs.specs.Law.{IsThere};
+    ghost use Rattle.legs.specs.Questions.{InBox, OfFeature};
     ghost use Rattle.trajdb.specs.Database.{IsSound};
+    ghost use Rattle.trajdb.specs.Telling.{AreLive, ArePickedOf, AreToldOf, DeniesFile, DeniesLegs, DeniesSome, DeniesTrack, HoldsLive, IsToldFeatures, IsToldFile, IsToldLegs, IsToldPicks, IsToldTrack, Names, PicksLive};
     ghost use Rattle.trajdb.specs.Calls.{IsText, IsRefused, Leaves, Asks, AsksAtMost, features_bound, track_asks, write_asks};
 
     /// How legs are written.
@@ -107,6 +109,10 @@ impl<I: Start> Core<I> {
     pub(crate) fn legs_in(&mut self, rect: &Rect, period: &Period) -> Result<Vec<Leg>, RunFault>
         ensures found { IfOk result (λ legs. IsSound I.Listed self.old
             → legs.items ≡ legs_in_box (box_over rect.now period.now) self.old.book.legs) }
+        ensures says { IfOk result (λ legs. I.tells self.old.index
+            (InBox (box_over rect.now period.now)) legs.items) }
+        ensures named { IfErr result (Names I.Listed self.old
+            (DeniesLegs I.Listed self.old (InBox (box_over rect.now period.now)))) }
         ensures asks { OnOk result (Asks I.Listed self.old self.new (search_cost
             (box_over rect.now period.now))) }
         ensures leaves { Leaves I.Listed self.old self.new }
@@ -119,6 +125,11 @@ impl<I: Start> Core<I> {
     pub(crate) fn legs_of(&mut self, alloc: Global, name: &str) -> Result<Vec<Leg>, RunFault>
         ensures found { IfOk result (λ legs. IsSound I.Listed self.old
             → legs.items ≡ track_of (feature_of self.old.book.names name.now) self.old.book.legs) }
+        ensures says { IfOk result (λ legs. length self.old.book.names ≤ most
+            → AreToldOf I.Listed self.old (feature_of self.old.book.names name.now) legs.items) }
+        ensures named { IfErr result (Names I.Listed self.old
+            (λ page. length self.old.book.names ≤ most
+            → DeniesTrack I.Listed self.old (feature_of self.old.book.names name.now) page)) }
         ensures asks { OnOk result (Asks I.Listed self.old self.new (track_asks (feature_of
             self.old.book.names name.now))) }
         ensures leaves { Leaves I.Listed self.old self.new }
@@ -140,6 +151,11 @@ impl<I: Start> Core<I> {
     ) -> Result<Vec<Leg>, RunFault>
         ensures found { IfOk result (λ legs. IsSound I.Listed self.old
             → Picks (HoldsOfLeg predicate rect.now period.now) self.old.book.legs legs.items) }
+        ensures says { IfOk result (λ legs. ArePickedOf I.Listed self.old predicate
+            rect.now period.now legs.items) }
+        ensures named { IfErr result (Names I.Listed self.old
+            (DeniesLegs I.Listed self.old
+            (InBox (box_near predicate rect.now period.now)))) }
         ensures asks { OnOk result (Asks I.Listed self.old self.new (search_cost
             (box_near predicate rect.now period.now))) }
         ensures leaves { Leaves I.Listed self.old self.new }
@@ -159,6 +175,9 @@ impl<I: Start> Core<I> {
     ) -> Result<Vec<Leg>, RunFault>
         ensures found { IfOk result (λ legs. IsSound I.Listed self.old
             → legs.items ≡ live_legs_of feature period.now self.old.book.legs) }
+        ensures says { IfOk result (λ legs. AreLive I.Listed self.old period.now feature legs.items) }
+        ensures named { IfErr result (Names I.Listed self.old
+            (λ page. I.denies self.old.index (OfFeature feature (Some period.now)) page)) }
         ensures asks { OnOk result (AsksAtMost I.Listed self.old self.new
             (track_in_bound feature period.now)) }
         ensures leaves { Leaves I.Listed self.old self.new }
@@ -182,6 +201,10 @@ impl<I: Start> Core<I> {
         ensures holds { IfOk result (λ yes. IsSound I.Listed self.old
             → IsTrue yes ↔ HoldsOfFeature predicate rect.now period.now
             self.old.book.legs feature) }
+        ensures says { IfOk result (λ yes. HoldsLive I.Listed self.old predicate
+            rect.now period.now feature (IsTrue yes)) }
+        ensures named { IfErr result (Names I.Listed self.old
+            (λ page. I.denies self.old.index (OfFeature feature (Some period.now)) page)) }
         ensures asks { OnOk result (AsksAtMost I.Listed self.old self.new
             (track_in_bound feature period.now)) }
         ensures leaves { Leaves I.Listed self.old self.new }
@@ -209,6 +232,12 @@ impl<I: Start> Core<I> {
         ensures found { IfOk result (λ features. IsSound I.Listed self.old
             → Picks (HoldsOfFeature predicate rect.now period.now self.old.book.legs)
             (range_with_len 0 (length self.old.book.names)) features.items) }
+        ensures says { IfOk result (λ features. length self.old.book.names ≤ most
+            → PicksLive I.Listed self.old predicate rect.now period.now
+            (range_with_len 0 (length self.old.book.names)) features.items) }
+        ensures named { IfErr result (Names I.Listed self.old
+            (λ page. length self.old.book.names ≤ most
+            → DeniesSome I.Listed self.old period.now page)) }
         ensures asks { OnOk result (AsksAtMost I.Listed self.old self.new (features_bound
             (range_with_len 0 (length self.old.book.names)) period.now)) }
         ensures leaves { Leaves I.Listed self.old self.new }
@@ -277,6 +306,9 @@ impl<I: Start> Core<I> {
     fn all_legs(&mut self) -> Result<Vec<Leg>, RunFault>
         ensures found { IfOk result (λ legs. IsSound I.Listed self.old
             → legs.items ≡ self.old.book.legs) }
+        ensures says { IfOk result (λ legs. I.tells self.old.index (InBox everything) legs.items) }
+        ensures named { IfErr result (Names I.Listed self.old
+            (DeniesLegs I.Listed self.old (InBox everything))) }
         ensures asks { OnOk result (Asks I.Listed self.old self.new (search_cost everything)) }
         ensures leaves { Leaves I.Listed self.old self.new }
         ensures refused { IfErr result (IsRefused I.Listed self.old self.new) }
@@ -288,6 +320,9 @@ impl<I: Start> Core<I> {
     pub(crate) fn write_text(&mut self, alloc: Global) -> Result<Vec<u8>, RunFault>
         ensures text { IfOk result (λ text. IsSound I.Listed self.old
             → text.items ≡ write_text self.old.book.head self.old.book) }
+        ensures says { IfOk result (λ text. IsToldFile I.Listed self.old self.old.book.head text.items) }
+        ensures named { IfErr result (Names I.Listed self.old
+            (DeniesFile I.Listed self.old self.old.book.head)) }
         ensures asks { OnOk result (Asks I.Listed self.old self.new
             (write_asks self.old.book.head)) }
         ensures leaves { Leaves I.Listed self.old self.new }
@@ -313,6 +348,10 @@ impl<I: Start> Core<I> {
         ensures text { IfOk result (λ text. IsSound I.Listed self.old
             → text.items ≡ legs_text self.old.book (legs_in_box (box_over rect.now period.now)
             self.old.book.legs)) }
+        ensures says { IfOk result (λ text. IsToldLegs I.Listed self.old
+            (InBox (box_over rect.now period.now)) text.items) }
+        ensures named { IfErr result (Names I.Listed self.old
+            (DeniesLegs I.Listed self.old (InBox (box_over rect.now period.now)))) }
         ensures asks { OnOk result (Asks I.Listed self.old self.new (search_cost
             (box_over rect.now period.now))) }
         ensures leaves { Leaves I.Listed self.old self.new }
@@ -327,6 +366,11 @@ impl<I: Start> Core<I> {
         ensures text { IfOk result (λ text. IsSound I.Listed self.old
             → text.items ≡ legs_text self.old.book (track_of (feature_of
             self.old.book.names name.now) self.old.book.legs)) }
+        ensures says { IfOk result (λ text. length self.old.book.names ≤ most
+            → IsToldTrack I.Listed self.old (feature_of self.old.book.names name.now) text.items) }
+        ensures named { IfErr result (Names I.Listed self.old
+            (λ page. length self.old.book.names ≤ most
+            → DeniesTrack I.Listed self.old (feature_of self.old.book.names name.now) page)) }
         ensures asks { OnOk result (Asks I.Listed self.old self.new (track_asks (feature_of
             self.old.book.names name.now))) }
         ensures leaves { Leaves I.Listed self.old self.new }
@@ -346,6 +390,11 @@ impl<I: Start> Core<I> {
     ) -> Result<Vec<u8>, RunFault>
         ensures text { IfOk result (λ text. IsSound I.Listed self.old
             → IsLegsAnswer self.old.book predicate rect.now period.now text.items) }
+        ensures says { IfOk result (λ text. IsToldPicks I.Listed self.old predicate
+            rect.now period.now text.items) }
+        ensures named { IfErr result (Names I.Listed self.old
+            (DeniesLegs I.Listed self.old
+            (InBox (box_near predicate rect.now period.now)))) }
         ensures asks { OnOk result (Asks I.Listed self.old self.new (search_cost
             (box_near predicate rect.now period.now))) }
         ensures leaves { Leaves I.Listed self.old self.new }
@@ -365,6 +414,11 @@ impl<I: Start> Core<I> {
     ) -> Result<Vec<u8>, RunFault>
         ensures text { IfOk result (λ text. IsSound I.Listed self.old
             → IsFeaturesAnswer self.old.book predicate rect.now period.now text.items) }
+        ensures says { IfOk result (λ text. length self.old.book.names ≤ most
+            → IsToldFeatures I.Listed self.old predicate rect.now period.now text.items) }
+        ensures named { IfErr result (Names I.Listed self.old
+            (λ page. length self.old.book.names ≤ most
+            → DeniesSome I.Listed self.old period.now page)) }
         ensures asks { OnOk result (AsksAtMost I.Listed self.old self.new
             (features_bound (range_with_len 0 (length self.old.book.names)) period.now)) }
         ensures leaves { Leaves I.Listed self.old self.new }

@@ -62,8 +62,8 @@ returns-in_err-spend-clause-only g c = λ fa way.
     let few = few_on_way c.args.query.now (pages_of_cache c.args.cache.now) root c.args.tree.now.levels 0 now (omega (arith, c.requires.levels)) rooted way in
     absurd (omega (arith, e.0, few, c.count.ensures.value))
 
-pub returns-in_err-spend-clause-malformed : goal.returns-in_err-spend-clause-malformed
-returns-in_err-spend-clause-malformed g c = λ fa.
+pub returns-in_err-spend-clause-named : goal.returns-in_err-spend-clause-named
+returns-in_err-spend-clause-named g c = λ fa.
     let p = err_from_is_err_and c.from_residual-in_err-spend.result c.from_residual-in_err-spend.ensures.1 in
     let nodes = pages_of_cache c.args.cache.now in
     let query = c.args.query.now in
@@ -86,8 +86,8 @@ returns-in_err-pages-clause-only g c = λ fa way.
     (omega (arith, c.loop-level-test.true)) (omega (arith, c.loop-level-test.true)) (c.deref-in-loop-level.ensures.value ∙ inv.found fa) way in
     rw (p.1, p.2) (c.in_err-pages.ensures.only (inv.reads.store.faithful ∙ fa) here)
 
-pub returns-in_err-pages-clause-malformed : goal.returns-in_err-pages-clause-malformed
-returns-in_err-pages-clause-malformed g c = λ fa.
+pub returns-in_err-pages-clause-named : goal.returns-in_err-pages-clause-named
+returns-in_err-pages-clause-named g c = λ fa.
     let p = err_from_is_err_and c.from_residual-in_err-pages.result c.from_residual-in_err-pages.ensures.1 in
     let old = c.args.cache.now in
     let query = c.args.query.now in
@@ -103,7 +103,7 @@ returns-in_err-pages-clause-malformed g c = λ fa.
     (IsOffWay query (pages_of_cache old) root levels)
     _
     (λ q h. inner_off_way old c.loop-level.cache inv.reads fa query root levels (level - 1) (levels - level) h.0 q now some last (c.deref-in-loop-level.ensures.value ∙ inv.found fa) h.1 h.2)
-    (c.in_err-pages.ensures.malformed (inv.reads.store.faithful ∙ fa)))
+    (c.in_err-pages.ensures.named (inv.reads.store.faithful ∙ fa)))
 
 pub returns-in_err-spend-2-clause-only : goal.returns-in_err-spend-2-clause-only
 returns-in_err-spend-2-clause-only g c = λ fa way.
@@ -123,8 +123,8 @@ returns-in_err-spend-2-clause-only g c = λ fa way.
     let so_far = inv.left fa in
     absurd (omega (arith, e.0, few, so_far))
 
-pub returns-in_err-spend-2-clause-malformed : goal.returns-in_err-spend-2-clause-malformed
-returns-in_err-spend-2-clause-malformed g c = λ fa.
+pub returns-in_err-spend-2-clause-named : goal.returns-in_err-spend-2-clause-named
+returns-in_err-spend-2-clause-named g c = λ fa.
     let p = err_from_is_err_and c.from_residual-in_err-spend-2.result c.from_residual-in_err-spend-2.ensures.1 in
     let old = c.args.cache.now in
     let nodes = pages_of_cache old in
@@ -183,8 +183,8 @@ returns-clause-only g c = λ fa way.
     let here = leaves_on_way c.args.cache.now c.loop-level.cache inv.reads fa c.args.query.now c.args.tree.now.root levels (level - 1) c.deref-2.result.now last (c.deref-2.ensures.value ∙ inv.found fa) way in
     c.legs_in.ensures.only (inv.reads.store.faithful ∙ fa) here
 
-pub returns-clause-malformed : goal.returns-clause-malformed
-returns-clause-malformed g c = λ fa.
+pub returns-clause-named : goal.returns-clause-named
+returns-clause-named g c = λ fa.
     let old = c.args.cache.now in
     let query = c.args.query.now in
     let root = c.args.tree.now.root in
@@ -200,7 +200,7 @@ returns-clause-malformed g c = λ fa.
     fault
     (λ q k. leaf_off_way old c.loop-level.cache inv.reads fa query root levels (level - 1) k.0 q now last (c.deref-2.ensures.value ∙ inv.found fa) k.1 k.2)
     h)
-    (c.legs_in.ensures.malformed (inv.reads.store.faithful ∙ fa))
+    (c.legs_in.ensures.named (inv.reads.store.faithful ∙ fa))
 
 pub returns-clause-asked : goal.returns-clause-asked
 returns-clause-asked g c = λ fa.

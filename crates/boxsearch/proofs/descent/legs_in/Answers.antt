@@ -48,8 +48,8 @@ returns-in_err-push_legs-clause-only g c = λ fa all.
     let here = leaf_after c.args.cache.now c.loop-page.cache inv.reads fa page (all i 0 c.loop-page-test.true) in
     rw (p.1, p.2) (c.in_err-push_legs.ensures.only (inv.reads.store.faithful ∙ fa) here)
 
-pub returns-in_err-push_legs-clause-malformed : goal.returns-in_err-push_legs-clause-malformed
-returns-in_err-push_legs-clause-malformed g c = λ fa.
+pub returns-in_err-push_legs-clause-named : goal.returns-in_err-push_legs-clause-named
+returns-in_err-push_legs-clause-named g c = λ fa.
     let p = err_from_is_err_and c.from_residual.result c.from_residual.ensures.1 in
     let inv = c.loop-page.invariant in
     let pages = c.args.pages.now in
@@ -61,4 +61,4 @@ returns-in_err-push_legs-clause-malformed g c = λ fa.
     (λ n. (k : ℕ) × (slice_get pages k ≡ Some n) × (HasLeaf (pages_of_cache c.args.cache.now) n → ⊥))
     _
     (λ n h. (i, at ∙ ap Some (sym h.0), λ has. h.1 (leaf_after c.args.cache.now c.loop-page.cache inv.reads fa page (subst (λ m. HasLeaf (pages_of_cache c.args.cache.now) m) h.0 has))))
-    (c.in_err-push_legs.ensures.malformed (inv.reads.store.faithful ∙ fa)))
+    (c.in_err-push_legs.ensures.named (inv.reads.store.faithful ∙ fa)))

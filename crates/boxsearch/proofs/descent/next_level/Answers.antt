@@ -47,8 +47,8 @@ returns-in_err-push_children-clause-only g c = λ fa all.
     let here = inner_after c.args.cache.now c.loop-page.cache inv.reads fa page c.args.level (all i 0 c.loop-page-test.true) in
     rw (p.1, p.2) (c.in_err-push_children.ensures.only (inv.reads.store.faithful ∙ fa) here)
 
-pub returns-in_err-push_children-clause-malformed : goal.returns-in_err-push_children-clause-malformed
-returns-in_err-push_children-clause-malformed g c = λ fa.
+pub returns-in_err-push_children-clause-named : goal.returns-in_err-push_children-clause-named
+returns-in_err-push_children-clause-named g c = λ fa.
     let p = err_from_is_err_and c.from_residual.result c.from_residual.ensures.1 in
     let inv = c.loop-page.invariant in
     let pages = c.args.pages.now in
@@ -60,4 +60,4 @@ returns-in_err-push_children-clause-malformed g c = λ fa.
     (λ n. (k : ℕ) × (slice_get pages k ≡ Some n) × (HasInner (pages_of_cache c.args.cache.now) n c.args.level → ⊥))
     _
     (λ n h. (i, at ∙ ap Some (sym h.0), λ has. h.1 (inner_after c.args.cache.now c.loop-page.cache inv.reads fa page c.args.level (subst (λ m. HasInner (pages_of_cache c.args.cache.now) m c.args.level) h.0 has))))
-    (c.in_err-push_children.ensures.malformed (inv.reads.store.faithful ∙ fa)))
+    (c.in_err-push_children.ensures.named (inv.reads.store.faithful ∙ fa)))

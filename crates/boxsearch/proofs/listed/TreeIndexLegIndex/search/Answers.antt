@@ -1,11 +1,13 @@
 use Rattle.std.proofs.Common.{◌≡◌, ◌-◌, ◌^◌, min, subst, sym, Some}
-use Rattle.std.specs.Prelude.{IfOk, OnOk}
-use Rattle.legs.specs.Asking.{Leaves, Refusals}
+use Rattle.std.specs.Prelude.{IfOk, MatchResult, OnOk}
+use Rattle.legs.specs.Asking.{Denies, Leaves, Refusals}
+use Rattle.legs.specs.Questions.{InBox}
 use Rattle.legs.specs.Costs.{RisesBy, search_cost}
 use Rattle.legs.specs.Index.{legs_in_box}
 use Rattle.boxsearch.specs.Answers.{answered, of_search}
-use Rattle.boxsearch.specs.Index.{IndexView, words, content, IsSound}
+use Rattle.boxsearch.specs.Index.{IndexView, words, content, tells, IsSound}
 use Rattle.boxsearch.proofs.IndexLemmas.{reads_leave}
+use Rattle.boxsearch.proofs.TellLemmas.{search_told}
 use Rattle.boxsearch.proofs.QuestionLemmas.{search_asked, search_found, search_refusals}
 use Rattle.boxsearch.proofs.ResultLemmas.{on_ok}
 use Rattle.boxsearch.proofs.TrackLemmas.{rises_capped}
@@ -42,3 +44,11 @@ returns-clause-refusals g c =
     subst (λ i. Refusals words i new c.found.result) c.self.view_is
     (subst (λ r. Refusals words inside new r) (sym c.found.ensures)
     (search_refusals inside c.search.new.cache c.search.result (λ legs v. v.items ≡ legs_in_box q legs) c.search.ensures.found c.search.ensures.spent c.search.ensures.caused))
+
+pub returns-clause-told : goal.returns-clause-told
+returns-clause-told g c =
+    let inside : IndexView = record { cache = c.self.inside.cache; tree = c.self.inside.tree; places = c.self.inside.places.items; legs = c.self.inside.legs } in
+    let q = c.args.query.now in
+    subst (λ i. MatchResult c.found.result (λ legs. tells i (InBox q) legs.items) (λ fault. Denies words i (InBox q) fault)) c.self.view_is
+    (subst (λ r. MatchResult r (λ legs. tells inside (InBox q) legs.items) (λ fault. Denies words inside (InBox q) fault)) (sym c.found.ensures)
+    (search_told inside c.search.new.cache q (λ legs. legs.items) c.search.result c.search.ensures.way c.search.ensures.met c.search.ensures.named c.search.ensures.caused c.search.ensures.works))

@@ -1,12 +1,14 @@
-use Rattle.std.proofs.Common.{◌≡◌, ◌-◌, ◌^◌, min, ap, subst, sym, ◌∙◌, arith, false, slice_get, Some}
-use Rattle.std.specs.Prelude.{IfOk, OnOk}
-use Rattle.legs.specs.Asking.{Leaves, Refusals}
+use Rattle.std.proofs.Common.{◌≡◌, ◌-◌, ◌^◌, min, ap, subst, sym, ◌∙◌, arith, false, slice_get, Some, None}
+use Rattle.std.specs.Prelude.{IfOk, MatchResult, OnOk}
+use Rattle.legs.specs.Asking.{Denies, Leaves, Refusals}
+use Rattle.legs.specs.Questions.{OfFeature}
 use Rattle.legs.specs.Costs.{RisesBy, track_cost}
 use Rattle.legs.specs.Index.{legs_of}
 use Rattle.boxsearch.specs.Answers.{answered, of_chain}
-use Rattle.boxsearch.specs.Index.{IndexView, words, content, IsSound}
+use Rattle.boxsearch.specs.Index.{IndexView, words, content, tells, IsSound}
 use Rattle.boxsearch.proofs.IndexLemmas.{reads_leave}
 use Rattle.boxsearch.proofs.ResultLemmas.{on_ok}
+use Rattle.boxsearch.proofs.TellLemmas.{none_told, track_told}
 use Rattle.boxsearch.proofs.TrackLemmas.{absent, absent_cost, rises_capped, track_asked, track_found, track_refusals}
 use Rattle.boxsearch.proofs.listed.TreeIndexLegIndex.track.Goals as goal
 
@@ -51,3 +53,15 @@ returns-clause-refusals g c =
     subst (λ i. Refusals words i new c.retrieval.result) c.self.view_is
     (subst (λ r. Refusals words inside new r) (sym c.retrieval.ensures)
     (track_refusals inside f c.in-Some.place c.trajectory.new.cache c.trajectory.result at (λ legs feature v. v.items ≡ legs_of feature legs) works c.trajectory.ensures.found c.trajectory.ensures.caused))
+
+pub returns-in_default-clause-told : goal.returns-in_default-clause-told
+returns-in_default-clause-told g c = none_told c.args.self.now c.args.feature None c.new.result.items (sym c.place.ensures ∙ c.in_default.is) c.new.ensures.items
+
+pub returns-clause-told : goal.returns-clause-told
+returns-clause-told g c =
+    let inside : IndexView = record { cache = c.self.inside.cache; tree = c.self.inside.tree; places = c.self.inside.places.items; legs = c.self.inside.legs } in
+    let f = c.args.feature in
+    let at : slice_get inside.places f ≡ Some c.in-Some.place = ap (λ (i : IndexView). slice_get i.places f) c.self.view_is ∙ sym c.place.ensures ∙ c.in-Some.is in
+    subst (λ i. MatchResult c.retrieval.result (λ legs. tells i (OfFeature f None) legs.items) (λ fault. Denies words i (OfFeature f None) fault)) c.self.view_is
+    (subst (λ r. MatchResult r (λ legs. tells inside (OfFeature f None) legs.items) (λ fault. Denies words inside (OfFeature f None) fault)) (sym c.retrieval.ensures)
+    (track_told inside c.trajectory.new.cache f None c.in-Some.place at (λ legs. legs.items) c.trajectory.result c.trajectory.ensures.chain c.trajectory.ensures.legs c.trajectory.ensures.named c.trajectory.ensures.caused))

@@ -1,13 +1,15 @@
 use Rattle.std.proofs.Common.{◌≡◌, ◌-◌, ◌^◌, min, ap, subst, sym, ◌∙◌, false, slice_get, Some}
-use Rattle.std.specs.Prelude.{IfOk, OnOk, filter}
-use Rattle.legs.specs.Asking.{Leaves, Refusals}
+use Rattle.std.specs.Prelude.{IfOk, MatchResult, OnOk, filter}
+use Rattle.legs.specs.Asking.{Denies, Leaves, Refusals}
+use Rattle.legs.specs.Questions.{OfFeature}
 use Rattle.legs.specs.Costs.{RisesAtMost, track_in_bound}
 use Rattle.legs.specs.Index.{live_legs_of}
 use Rattle.legs.specs.Legs.{is_live}
 use Rattle.boxsearch.specs.Answers.{answered, of_chain}
-use Rattle.boxsearch.specs.Index.{IndexView, words, content, IsSound}
+use Rattle.boxsearch.specs.Index.{IndexView, words, content, tells, IsSound}
 use Rattle.boxsearch.proofs.IndexLemmas.{reads_leave}
 use Rattle.boxsearch.proofs.ResultLemmas.{on_ok}
+use Rattle.boxsearch.proofs.TellLemmas.{none_told, track_told}
 use Rattle.boxsearch.proofs.TrackLemmas.{absent, rises_capped_most, track_asked, track_found, track_refusals}
 use Rattle.boxsearch.proofs.listed.TreeIndexLegIndex.track_in.Goals as goal
 
@@ -49,3 +51,15 @@ returns-clause-refusals g c =
     subst (λ i. Refusals words i new c.retrieval.result) c.self.view_is
     (subst (λ r. Refusals words inside new r) (sym c.retrieval.ensures)
     (track_refusals inside f c.in-Some.place c.trajectory_in.new.cache c.trajectory_in.result at (λ legs feature v. v.items ≡ live_legs_of feature c.args.period.now legs) works c.trajectory_in.ensures.found c.trajectory_in.ensures.caused))
+
+pub returns-in_default-clause-told : goal.returns-in_default-clause-told
+returns-in_default-clause-told g c = none_told c.args.self.now c.args.feature (Some c.args.period.now) c.new.result.items (sym c.place.ensures ∙ c.in_default.is) c.new.ensures.items
+
+pub returns-clause-told : goal.returns-clause-told
+returns-clause-told g c =
+    let inside : IndexView = record { cache = c.self.inside.cache; tree = c.self.inside.tree; places = c.self.inside.places.items; legs = c.self.inside.legs } in
+    let f = c.args.feature in
+    let at : slice_get inside.places f ≡ Some c.in-Some.place = ap (λ (i : IndexView). slice_get i.places f) c.self.view_is ∙ sym c.place.ensures ∙ c.in-Some.is in
+    subst (λ i. MatchResult c.retrieval.result (λ legs. tells i (OfFeature f (Some c.args.period.now)) legs.items) (λ fault. Denies words i (OfFeature f (Some c.args.period.now)) fault)) c.self.view_is
+    (subst (λ r. MatchResult r (λ legs. tells inside (OfFeature f (Some c.args.period.now)) legs.items) (λ fault. Denies words inside (OfFeature f (Some c.args.period.now)) fault)) (sym c.retrieval.ensures)
+    (track_told inside c.trajectory_in.new.cache f (Some c.args.period.now) c.in-Some.place at (λ legs. legs.items) c.trajectory_in.result c.trajectory_in.ensures.chain c.trajectory_in.ensures.legs c.trajectory_in.ensures.named c.trajectory_in.ensures.caused))

@@ -1,11 +1,9 @@
-use Rattle.std.proofs.Common.{ℕ, ◌≡◌, ◌∙◌, ap, sym, subst, length, IsTrue}
+use Rattle.std.proofs.Common.{◌∙◌, ap, sym, subst, length}
 use Rattle.std.proofs.lemmas.Bool.{true≢false}
 use Rattle.std.proofs.lemmas.Result.{err_from_is_err_and}
-use Rattle.pagecache.specs.Cache.{payload_of, IsSettled}
-use Rattle.treecheck.specs.Checking.{AreTracksOf}
-use Rattle.boxsearch.specs.Index.{words, IndexView, SaysState}
-use Rattle.trajdb.specs.Checking.{KeepsLaw}
-use Rattle.trajdb.specs.Db.{DbView, IsSound}
+use Rattle.pagecache.specs.Cache.{IsSettled}
+use Rattle.boxsearch.specs.Index.{words}
+use Rattle.trajdb.specs.Db.{DbView}
 use Rattle.trajdb.proofs.FaultLemmas.{leaves-trans}
 use Rattle.trajdb.proofs.SoundLemmas.{has_pages_of, law_of, question_fault, says_of, says_still, sound_of, tracks_of}
 use Rattle.trajdb.proofs.checking.Core+TreeIndex+S.check.Goals as goal

@@ -1,8 +1,10 @@
-use Rattle.std.proofs.Common.{◌∙◌, All}
-use Rattle.std.proofs.lemmas.Result.{IfErr-weaker}
+use Rattle.std.proofs.Common.{◌∙◌, All, subst, sym}
+use Rattle.std.proofs.lemmas.Result.{IfErr-weaker, IfOk-weaker}
+use Rattle.legs.specs.Questions.{InBox}
 use Rattle.legs.specs.Boxes.{box_of, box_over, boxes_meet}
 use Rattle.legs.specs.Law.{IsThere}
 use Rattle.trajdb.proofs.FaultLemmas.{text_refused, there_among}
+use Rattle.trajdb.proofs.TellingLemmas.{legs_names, shown_legs}
 use Rattle.trajdb.proofs.database.Core.box_text.Goals as goal
 
 pub returns-clause-refused : goal.returns-clause-refused
@@ -11,3 +13,13 @@ returns-clause-refused g c =
     text_refused g.I.Listed c.args.self.now c.legs_in.new.self (All (IsThere c.legs_in.new.self.book) c.as_slice.result.now) fault text (λ sound.
     there_among c.args.self.now.book c.legs_in.new.self.book (λ leg. boxes_meet (box_of leg) (box_over c.args.rect.now c.args.period.now)) c.as_slice.result.now
     sound.law.ordered.there c.in_ok-legs.ensures.leaves.book (c.as_slice.ensures.value ∙ c.in_ok-legs.ensures.found sound))) c.legs_text.ensures.fault
+
+pub returns-clause-named : goal.returns-clause-named
+returns-clause-named g c =
+    IfErr-weaker c.legs_text.result _ _ (λ fault text.
+    legs_names g.I.Listed c.args.self.now c.legs_in.new.self.book (InBox (box_over c.args.rect.now c.args.period.now)) c.in_ok-legs.legs.items c.as_slice.result.now fault c.in_ok-legs.ensures.leaves.book c.in_ok-legs.ensures.says
+    (λ all. subst (All (IsThere c.args.self.now.book)) (sym c.as_slice.ensures.value) all) text) c.legs_text.ensures.fault
+
+pub returns-clause-says : goal.returns-clause-says
+returns-clause-says g c =
+    IfOk-weaker c.legs_text.result _ _ (λ text h. (c.in_ok-legs.legs.items, c.in_ok-legs.ensures.says, h ∙ shown_legs c.args.self.now.book c.legs_in.new.self.book c.as_slice.result.now c.in_ok-legs.legs.items c.in_ok-legs.ensures.leaves.book c.as_slice.ensures.value)) c.legs_text.ensures.text

@@ -5,3 +5,9 @@ returns-in-Trajectory-clause-text g c = rw (c.in-Trajectory.is, ← c.as_str-in-
 
 pub returns-in-Trajectory-clause-asks : goal.returns-in-Trajectory-clause-asks
 returns-in-Trajectory-clause-asks g c = rw (c.in-Trajectory.is, ← c.as_str-in-Trajectory.ensures) c.track_text.ensures.asks
+
+pub returns-in-Trajectory-clause-says : goal.returns-in-Trajectory-clause-says
+returns-in-Trajectory-clause-says g c = rw (c.in-Trajectory.is, ← c.as_str-in-Trajectory.ensures) c.track_text.ensures.says
+
+pub returns-in-Trajectory-clause-named : goal.returns-in-Trajectory-clause-named
+returns-in-Trajectory-clause-named g c = rw (c.in-Trajectory.is, ← c.as_str-in-Trajectory.ensures) c.track_text.ensures.named

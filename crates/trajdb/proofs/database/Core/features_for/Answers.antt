@@ -6,6 +6,8 @@ use Rattle.trajdb.specs.Answers.{HoldsOfFeature}
 use Rattle.legs.specs.Costs.{track_in_bound}
 use Rattle.trajdb.proofs.FaultLemmas.{leaves-refl, leaves-trans, bound_more}
 use Rattle.trajdb.proofs.PickLemmas.{IsPicking, picking-start, picking-yes, picking-no, picking-end, range_more, range_none, range_all}
+use Rattle.std.proofs.lemmas.Result.{err_from_is_err_and}
+use Rattle.trajdb.proofs.TellingLemmas.{IsPickingLive, live_before, live_end, live_no, live_yes, some_names}
 use Rattle.trajdb.proofs.database.Core.features_for.Goals as goal
 use Rattle.trajdb.proofs.database.Core.features_for.Goals.{then-branch+in_ok-push, else-branch}
 
@@ -18,6 +20,11 @@ loop-feature-init g c = record {
       let P : ℕ → Type 0 = HoldsOfFeature c.args.predicate c.args.rect.now c.args.period.now book.legs in
       subst (λ (l : List ℕ). IsPicking P (range_with_len 0 (length book.names)) l c.new-features.result.items) (sym (range_all (length book.names)))
       (subst (λ (l : List ℕ). IsPicking P (range_with_len 0 (length book.names)) (range_with_len 0 (length book.names)) l) (sym c.new-features.ensures.items) (picking-start P (range_with_len 0 (length book.names))));
+  live = λ few.
+      let book = c.args.self.now.book in
+      let L = IsPickingLive g.I.Listed c.args.self.now c.args.predicate c.args.rect.now c.args.period.now (range_with_len 0 (length book.names)) in
+      subst (λ (l : List ℕ). L l c.new-features.result.items) (sym (range_all (length book.names)))
+      (subst (λ (l : List ℕ). L (range_with_len 0 (length book.names)) l) (sym c.new-features.ensures.items) (λ rest h. h));
 }
 
 pub loop-feature-preserved : goal.loop-feature-preserved
@@ -51,6 +58,28 @@ loop-feature-preserved g c = record {
             subst (λ (l : List ℕ). IsPicking P all others l) (sym (ap (λ v. v.items) w.features-is))
             (picking-no P all others c.loop-feature.features.items c.loop-feature.feature so_far (λ h. absurd (let t : IsTrue false = sym w.if-branch.false ∙ holds.1 h in cc)))
       ];
+  live = λ few.
+      let old = c.args.self.now in
+      let n : ℕ = length old.book.names in
+      let all : List ℕ = range_with_len 0 (length old.book.names) in
+      let L = IsPickingLive g.I.Listed old c.args.predicate c.args.rect.now c.args.period.now all in
+      let same : length c.loop-feature.self.book.names ≡ length old.book.names = ap (λ (b : Book). length b.names) c.loop-feature.invariant.leaves.book in
+      let count = c.feature_count-feature-end.ensures few in
+      let test = c.loop-feature-test.true in
+      let less : c.loop-feature.feature < length old.book.names = omega (arith, count, test) in
+      let others : List ℕ = range_with_len (c.loop-feature.feature + 1) (length old.book.names - (c.loop-feature.feature + 1)) in
+      let so_far = subst (λ (l : List ℕ). L l c.loop-feature.features.items) (range_more c.loop-feature.feature (length old.book.names) less) (c.loop-feature.invariant.live few) in
+      let told = c.in_ok-holds_for.ensures.says in
+      let live = live_before g.I.Listed old c.loop-feature.self c.loop-feature.invariant.leaves c.args.period.now c.loop-feature.feature told.0 told.1 in
+      elim c.if-branch.branch [
+        | then-branch+in_ok-push w ↦
+            subst (λ (l : List ℕ). L others l) (sym (ap (λ v. v.items) w.features-is ∙ w.in_ok-push.ensures.items))
+            (live_yes g.I.Listed old c.args.predicate c.args.rect.now c.args.period.now all others c.loop-feature.features.items c.loop-feature.feature told.0 so_far live (told.2.0 w.if-branch.true))
+        | else-branch w ↦
+            subst (λ (l : List ℕ). L others l) (sym (ap (λ v. v.items) w.features-is))
+            (live_no g.I.Listed old c.args.predicate c.args.rect.now c.args.period.now all others c.loop-feature.features.items c.loop-feature.feature told.0 so_far live
+            (λ h. absurd (let t : IsTrue false = sym w.if-branch.false ∙ told.2.1 h in cc)))
+      ];
 }
 
 pub returns-clause-found : goal.returns-clause-found
@@ -62,3 +91,20 @@ returns-clause-found g c = λ s.
     let over = c.loop-feature-test.false in
     picking-end P (range_with_len 0 (length book.names)) c.loop-feature.features.items
     (subst (λ (l : List ℕ). IsPicking P (range_with_len 0 (length book.names)) l c.loop-feature.features.items) (range_none c.loop-feature.feature (length book.names) (omega (arith, count, over))) (c.loop-feature.invariant.picked s))
+
+pub returns-clause-says : goal.returns-clause-says
+returns-clause-says g c = λ few.
+    let old = c.args.self.now in
+    let L = IsPickingLive g.I.Listed old c.args.predicate c.args.rect.now c.args.period.now (range_with_len 0 (length old.book.names)) in
+    let count = c.feature_count-feature-end.ensures few in
+    let over = c.loop-feature-test.false in
+    live_end g.I.Listed old c.args.predicate c.args.rect.now c.args.period.now (range_with_len 0 (length old.book.names)) c.loop-feature.features.items
+    (subst (λ (l : List ℕ). L l c.loop-feature.features.items) (range_none c.loop-feature.feature (length old.book.names) (omega (arith, count, over))) (c.loop-feature.invariant.live few))
+
+pub returns-in_err-holds_for-clause-named : goal.returns-in_err-holds_for-clause-named
+returns-in_err-holds_for-clause-named g c =
+    let p = err_from_is_err_and c.from_residual.result c.from_residual.ensures.1 in
+    let test = c.loop-feature-test.true in
+    rw (p.1, p.2)
+    (some_names g.I.Listed c.args.self.now c.loop-feature.self c.loop-feature.invariant.leaves c.args.period.now c.loop-feature.feature _
+    (λ few. let count = c.feature_count-feature-end.ensures few in omega (arith, count, test)) c.in_err-holds_for.ensures.named)

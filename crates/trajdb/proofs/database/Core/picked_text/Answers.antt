@@ -1,5 +1,6 @@
-use Rattle.std.proofs.Common.{All}
-use Rattle.std.proofs.lemmas.Result.{IfErr-weaker}
+use Rattle.std.proofs.Common.{All, ◌∙◌}
+use Rattle.std.proofs.lemmas.Result.{IfErr-weaker, IfOk-weaker}
+use Rattle.trajdb.proofs.TellingLemmas.{picked_names, shown_legs}
 use Rattle.trajdb.specs.Answers.{HoldsOfLeg}
 use Rattle.legs.specs.Law.{IsThere}
 use Rattle.trajdb.proofs.FaultLemmas.{text_refused, there_picked}
@@ -11,3 +12,13 @@ returns-clause-refused g c =
     text_refused g.I.Listed c.args.self.now c.legs_for.new.self (All (IsThere c.legs_for.new.self.book) c.as_slice.result.now) fault text (λ sound.
     there_picked c.args.self.now.book c.legs_for.new.self.book (HoldsOfLeg c.args.predicate c.args.rect.now c.args.period.now) c.as_slice.result.now c.in_ok-legs.legs.items
     sound.law.ordered.there c.in_ok-legs.ensures.leaves.book c.as_slice.ensures.value (c.in_ok-legs.ensures.found sound))) c.legs_text.ensures.fault
+
+pub returns-clause-says : goal.returns-clause-says
+returns-clause-says g c =
+    IfOk-weaker c.legs_text.result _ _ (λ text h. (c.in_ok-legs.legs.items, c.in_ok-legs.ensures.says, h ∙ shown_legs c.args.self.now.book c.legs_for.new.self.book c.as_slice.result.now c.in_ok-legs.legs.items c.in_ok-legs.ensures.leaves.book c.as_slice.ensures.value)) c.legs_text.ensures.text
+
+pub returns-clause-named : goal.returns-clause-named
+returns-clause-named g c =
+    IfErr-weaker c.legs_text.result _ _ (λ fault text.
+    picked_names g.I.Listed c.args.self.now c.args.predicate c.args.rect.now c.args.period.now c.legs_for.new.self.book c.in_ok-legs.legs.items c.as_slice.result.now fault c.in_ok-legs.ensures.leaves.book c.in_ok-legs.ensures.says
+    c.as_slice.ensures.value text) c.legs_text.ensures.fault

@@ -8,6 +8,7 @@ use Rattle.trajdb.specs.Lines.{HasDone, HasCut}
 use Rattle.trajdb.proofs.FaultLemmas.{later-refl, later-trans}
 use Rattle.trajdb.proofs.PageLemmas.{keeps-refl, keeps-trans}
 use Rattle.trajdb.proofs.RunLemmas.{whole_more, left_more, left_stops, begun_end, begun_more, begun_only, begun_start, at_start, at_more, at_cut, at_end, at_unflushed, next_line, nil_from_length}
+use Rattle.trajdb.proofs.TracedLemmas.{traced_start, traced_more, traced_cut, traced_stop, traced_end, traced_unflushed}
 use Rattle.trajdb.proofs.database.Core.run.Goals as goal
 
 pub returns-in-Err-clause-output : goal.returns-in-Err-clause-output
@@ -31,6 +32,10 @@ loop-rest-preserved g c = record {
       let left = c.loop-rest.invariant.left in
       let next = next_line c.loop-rest.rest.now c.first_piece.result.0.now c.first_piece.result.1.now c.without_return.result.now c.first_piece.ensures.pieces c.without_return.ensures in
       (left.0 + 1, left_more _ _ _ _ left.0 left.1 next);
+  traced =
+      let traced = c.loop-rest.invariant.traced in
+      let next = next_line c.loop-rest.rest.now c.first_piece.result.0.now c.first_piece.result.1.now c.without_return.result.now c.first_piece.ensures.pieces c.without_return.ensures in
+      (traced.0 + 1, traced_more g.I.Listed c.args.files.now _ _ _ _ _ _ _ _ _ _ traced.0 traced.1 next c.in-Ok.ensures.says);
   at = λ sound.
       let at = c.loop-rest.invariant.at sound in
       let next = next_line c.loop-rest.rest.now c.first_piece.result.0.now c.first_piece.result.1.now c.without_return.result.now c.first_piece.ensures.pieces c.without_return.ensures in
@@ -52,7 +57,7 @@ returns-in-Err-flush-clause-output g c = λ is sound.
     at_unflushed _ _ _ _ _ _ _ _ _ _ at.2 c.in-Err-flush.ensures.bytes
 
 pub loop-rest-init : goal.loop-rest-init
-loop-rest-init g c = record { lives = ap (λ (v : CoreView g.row.I.Denot). v.failed) (sym c.self.view_is) ∙ c.if-self.false; later = later-refl g.I.Listed _; pages = keeps-refl g.I.Listed _; whole = λ b. inl b; left = (0, refl); at = λ sound. (sound, 0, at_start _ _ _ _ _, begun_start c.args.self.now.limits c.args.files.now c.args.self.now.book (lines_of c.args.script.now) c.args.self.now.begun) }
+loop-rest-init g c = record { lives = ap (λ (v : CoreView g.row.I.Denot). v.failed) (sym c.self.view_is) ∙ c.if-self.false; later = later-refl g.I.Listed _; pages = keeps-refl g.I.Listed _; whole = λ b. inl b; left = (0, refl); traced = (0, traced_start g.I.Listed c.args.files.now _ _ _); at = λ sound. (sound, 0, at_start _ _ _ _ _, begun_start c.args.self.now.limits c.args.files.now c.args.self.now.book (lines_of c.args.script.now) c.args.self.now.begun) }
 
 pub returns-in-Err-clause-pages : goal.returns-in-Err-clause-pages
 returns-in-Err-clause-pages g c = keeps-trans g.I.Listed c.args.self.now c.loop-rest.self c.line.new.self c.loop-rest.invariant.lives (λ s. (c.loop-rest.invariant.at s).0) c.loop-rest.invariant.pages c.line.ensures.pages
@@ -97,3 +102,25 @@ returns-in-Err-clause-whole g c =
     let left = c.loop-rest.invariant.left in
     let next = next_line c.loop-rest.rest.now c.first_piece.result.0.now c.first_piece.result.1.now c.without_return.result.now c.first_piece.ensures.pieces c.without_return.ensures in
     whole_more _ _ _ _ _ left.0 left.1 next _ _ _ c.loop-rest.invariant.whole c.line.ensures.whole
+
+pub returns-in-Err-clause-says_cut : goal.returns-in-Err-clause-says_cut
+returns-in-Err-clause-says_cut g c = λ is.
+    let traced = c.loop-rest.invariant.traced in
+    let next = next_line c.loop-rest.rest.now c.first_piece.result.0.now c.first_piece.result.1.now c.without_return.result.now c.first_piece.ensures.pieces c.without_return.ensures in
+    traced_cut g.I.Listed c.args.files.now _ _ _ _ _ _ _ _ _ _ traced.0 traced.1 next (c.in-Err.ensures.says_cut is)
+
+pub returns-in-Err-clause-named : goal.returns-in-Err-clause-named
+returns-in-Err-clause-named g c = λ inside lives.
+    let traced = c.loop-rest.invariant.traced in
+    let next = next_line c.loop-rest.rest.now c.first_piece.result.0.now c.first_piece.result.1.now c.without_return.result.now c.first_piece.ensures.pieces c.without_return.ensures in
+    traced_stop g.I.Listed c.args.files.now _ _ _ _ _ c.line.new.self _ _ _ _ traced.0 traced.1 next c.in-Err.fault (c.in-Err.ensures.named inside)
+
+pub returns-in-Ok-flush-clause-says : goal.returns-in-Ok-flush-clause-says
+returns-in-Ok-flush-clause-says g c =
+    let traced = c.loop-rest.invariant.traced in
+    traced_end g.I.Listed c.args.files.now _ _ _ _ _ _ _ traced.0 traced.1 (nil_from_length c.loop-rest.rest.now (sym c.is_empty.ensures ∙ c.loop-rest-test.false)) c.in-Ok-flush.ensures.bytes
+
+pub returns-in-Err-flush-clause-says_cut : goal.returns-in-Err-flush-clause-says_cut
+returns-in-Err-flush-clause-says_cut g c = λ is.
+    let traced = c.loop-rest.invariant.traced in
+    traced_unflushed g.I.Listed c.args.files.now _ _ _ _ _ _ _ traced.0 traced.1 c.in-Err-flush.ensures.bytes

@@ -3,9 +3,11 @@ use Rattle.trajdb.specs.Calls.{BeginsBy, IsLater, KeepsPages, LoadsWholeSome}
 use Rattle.trajdb.specs.Script.{lines_of}
 use Rattle.trajdb.specs.Database.{IsSound}
 use Rattle.trajdb.proofs.RunLemmas.{HasBegun, IsAt, IsLeft}
+use Rattle.trajdb.proofs.TracedLemmas.{IsTracedAt}
 use Rattle.trajdb.proofs.database.Core.run.Given as goal
 
--- the database is not failed, and some lines are left; and of a sound database so many lines are done
+-- the database is not failed, some lines are left, and those before them are told; and of a sound database so many lines
+-- are done
 abbrev pub invariant-loop-rest : goal.invariant-loop-rest
 invariant-loop-rest g l = record {
   lives : l.self.failed ≡ false;
@@ -13,6 +15,7 @@ invariant-loop-rest g l = record {
   pages : KeepsPages g.I.Listed l.initial.self l.self;
   whole : BeginsBy l.initial.self l.self (LoadsWholeSome l.files (lines_of l.script));
   left : (k : ℕ) × IsLeft (lines_of l.script) l.rest k;
+  traced : (k : ℕ) × IsTracedAt g.I.Listed l.files (g.W.Write.contents l.initial.out) (g.W.Write.contents l.out) l.initial.self l.self (lines_of l.script) l.rest k;
   at : IsSound g.I.Listed l.initial.self
       → IsSound g.I.Listed l.self
       × (k : ℕ)

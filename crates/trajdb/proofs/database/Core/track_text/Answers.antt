@@ -1,5 +1,7 @@
-use Rattle.std.proofs.Common.{◌∙◌, All}
-use Rattle.std.proofs.lemmas.Result.{IfErr-weaker}
+use Rattle.std.proofs.Common.{◌≤◌, ◌∙◌, All, length}
+use Rattle.legs.specs.Limits.{most}
+use Rattle.std.proofs.lemmas.Result.{IfErr-weaker, IfOk-weaker}
+use Rattle.trajdb.proofs.TellingLemmas.{shown_legs, track_names}
 use Rattle.legs.specs.Book.{feature_of}
 use Rattle.legs.specs.Law.{IsThere}
 use Rattle.trajdb.proofs.FaultLemmas.{text_refused, there_track}
@@ -11,3 +13,13 @@ returns-clause-refused g c =
     text_refused g.I.Listed c.args.self.now c.legs_of.new.self (All (IsThere c.legs_of.new.self.book) c.as_slice.result.now) fault text (λ sound.
     there_track c.args.self.now.book c.legs_of.new.self.book (feature_of c.args.self.now.book.names c.args.name.now) c.as_slice.result.now
     sound.law.ordered.there c.in_ok-legs.ensures.leaves.book (c.as_slice.ensures.value ∙ c.in_ok-legs.ensures.found sound))) c.legs_text.ensures.fault
+
+pub returns-clause-says : goal.returns-clause-says
+returns-clause-says g c =
+    IfOk-weaker c.legs_text.result _ _ (λ text h few. (c.in_ok-legs.legs.items, c.in_ok-legs.ensures.says few, h ∙ shown_legs c.args.self.now.book c.legs_of.new.self.book c.as_slice.result.now c.in_ok-legs.legs.items c.in_ok-legs.ensures.leaves.book c.as_slice.ensures.value)) c.legs_text.ensures.text
+
+pub returns-clause-named : goal.returns-clause-named
+returns-clause-named g c =
+    IfErr-weaker c.legs_text.result _ _ (λ fault text.
+    track_names g.I.Listed c.args.self.now (length c.args.self.now.book.names ≤ most) (feature_of c.args.self.now.book.names c.args.name.now) c.legs_of.new.self.book c.in_ok-legs.legs.items c.as_slice.result.now fault c.in_ok-legs.ensures.leaves.book c.in_ok-legs.ensures.says
+    c.as_slice.ensures.value text) c.legs_text.ensures.fault

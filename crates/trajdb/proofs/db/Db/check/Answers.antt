@@ -1,9 +1,5 @@
-use Rattle.std.proofs.Common.{◌≡◌, false, subst, Result, Ok, Err}
-use Rattle.std.specs.Prelude.{IfErr}
 use Rattle.boxsearch.specs.Index.{words}
 use Rattle.trajdb.specs.Calls.{IsQuestionFault}
-use Rattle.trajdb.specs.Db.{DbView, HasPages, IsSound}
-use Rattle.trajdb.specs.Lasting.{IsIdle}
 use Rattle.trajdb.proofs.LastingLemmas.{keeps_idle}
 use Rattle.trajdb.proofs.PageLemmas.{keeps_leaves}
 use Rattle.trajdb.proofs.SoundLemmas.{while_alive}

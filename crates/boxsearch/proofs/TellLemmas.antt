@@ -1,0 +1,109 @@
+-- What an index over pages tells, and why it does not.
+use Rattle.std.proofs.Common.{ℕ, ◌≡◌, ◌≢◌, ◌∙◌, refl, sym, ap, subst, true, false, List, [], IsTrue, Option, Some, None, option_map, slice_get, Result, Ok, Err}
+use Rattle.std.specs.Prelude.{IfOk, IfErr, OnOk, MatchResult, Bool}
+use Rattle.legs.specs.Asking.{Denies}
+use Rattle.legs.specs.Hull.{leg_boxes}
+use Rattle.legs.specs.Legs.{LegView}
+use Rattle.legs.specs.Boxes.{BoxView}
+use Rattle.legs.specs.Questions.{InBox, OfFeature}
+use Rattle.legs.specs.declared.index.IndexFault.{IndexFault}
+use Rattle.timebase.specs.Period.{PeriodView}
+use Rattle.pages.specs.declared.payload.Payload.{Payload}
+use Rattle.pagecache.specs.Cache.{Cache, IsRefused, payload_of}
+use Rattle.pagecache.specs.declared.fault.CacheFault.{CacheFault}
+use Rattle.pagecache.specs.declared.fault.CacheFault.TheVariants as cache
+use Rattle.tbnode.specs.Form.{node_of}
+use Rattle.chains.specs.Chains.{IsPlaceChain, chain_fault, chain_legs}
+use Rattle.chains.specs.Faults as chains
+use Rattle.chains.specs.declared.fault.ChainFault.{ChainFault}
+use Rattle.chains.specs.declared.fault.ChainFault.TheVariants as chain
+use Rattle.tbtree.specs.Descent.{legs_met, HasInner, IsInOrder}
+use Rattle.tbtree.specs.Nodes.{HasLeaf, pages_of_cache}
+use Rattle.tbtree.specs.declared.tree.Place.{Place}
+use Rattle.boxsearch.specs.Answers.{answered, of_chain, of_search}
+use Rattle.boxsearch.specs.Faults.{IsCaused, IfNamed, fault_of}
+use Rattle.boxsearch.specs.Index.{IndexView, words, tells}
+use Rattle.boxsearch.specs.Telling.{TellsTrack, DeniesTrack}
+use Rattle.boxsearch.specs.Way.{meets, IsWay, IsOffWay}
+use Rattle.boxsearch.specs.declared.fault.SearchFault.{SearchFault}
+use Rattle.boxsearch.specs.declared.fault.SearchFault.TheVariants as search
+use Rattle.boxsearch.proofs.PlaceLemmas.{some_none}
+
+-- a page without a payload is no page of a tree
+none_there : {N : Type 0} (f : Payload → N) (o : Option Payload) (x : N) → o ≡ None → option_map f o ≡ Some x → ⊥
+none_there f o x e h = some_none x (sym h ∙ ap (option_map f) e)
+
+module _ (old new : Cache) (page : ℕ) where
+  pub refused_inner : (level : ℕ) (fault : CacheFault) → IsRefused page fault old new → IsTrue old.store.is_faithful
+      → IfNamed (λ n. (n ≡ page) × (HasInner (pages_of_cache old) page level → ⊥)) (fault_of page fault)
+  refused_inner level cache.NoPage h f = (refl, λ has. none_there node_of (payload_of old page) _ (h.1 f) has.is)
+  refused_inner level cache.Store h f = tt
+  refused_inner level (cache.Damaged m) h f = (h.0, λ has. none_there node_of (payload_of old page) _ (h.1 f) has.is)
+  refused_inner level cache.StoreFull h f = tt
+  refused_inner level cache.Memory h f = tt
+
+  pub refused_leaf : (fault : CacheFault) → IsRefused page fault old new → IsTrue old.store.is_faithful
+      → IfNamed (λ n. (n ≡ page) × (HasLeaf (pages_of_cache old) page → ⊥)) (fault_of page fault)
+  refused_leaf cache.NoPage h f = (refl, λ has. none_there node_of (payload_of old page) _ (h.1 f) has.is)
+  refused_leaf cache.Store h f = tt
+  refused_leaf (cache.Damaged m) h f = (h.0, λ has. none_there node_of (payload_of old page) _ (h.1 f) has.is)
+  refused_leaf cache.StoreFull h f = tt
+  refused_leaf cache.Memory h f = tt
+
+not_false : (b : Bool) → (b ≡ false → ⊥) → b ≡ true
+not_false true h = refl
+not_false false h = absurd (h refl)
+
+-- of a search
+module _ (i : IndexView) (c : Cache) (query : BoxView) where
+  search_denies : (fault : SearchFault)
+      → (IsTrue i.cache.store.is_faithful → IfNamed (IsOffWay query (pages_of_cache i.cache) i.tree.root i.tree.levels) fault)
+      → IsCaused i.cache c fault → (i.tree.spent ≡ false → fault ≢ search.Spent) → Denies words i (InBox query) (of_search fault)
+  search_denies (search.Cache cache.NoPage) named caused works = absurd caused
+  search_denies (search.Cache cache.Store) named caused works = tt
+  search_denies (search.Cache (cache.Damaged n)) named caused works = named
+  search_denies (search.Cache cache.StoreFull) named caused works = caused
+  search_denies (search.Cache cache.Memory) named caused works = tt
+  search_denies (search.Malformed n) named caused works = named
+  search_denies search.Spent named caused works = not_false i.tree.spent (λ e. works e refl)
+  search_denies search.Memory named caused works = tt
+
+  pub search_told : {A : Type 0} (items : A → List LegView) (r : Result A SearchFault)
+      → (IsTrue i.cache.store.is_faithful → OnOk r (IsWay query (pages_of_cache i.cache) i.tree.root i.tree.levels))
+      → (IsTrue i.cache.store.is_faithful → IfOk r (λ found. IsInOrder (legs_met leg_boxes (meets query) (pages_of_cache i.cache) i.tree.root i.tree.levels) (items found)))
+      → (IsTrue i.cache.store.is_faithful → IfErr r (IfNamed (IsOffWay query (pages_of_cache i.cache) i.tree.root i.tree.levels)))
+      → IfErr r (IsCaused i.cache c) → (i.tree.spent ≡ false → IfErr r (λ fault. fault ≢ search.Spent))
+      → MatchResult (answered (λ fault. of_search fault) r) (λ found. tells i (InBox query) (items found)) (λ fault. Denies words i (InBox query) fault)
+  search_told items (Ok found) way met named caused works = λ f. record { way = way f; met = met f }
+  search_told items (Err fault) way met named caused works = search_denies fault named caused works
+
+-- of a retrieval
+module _ (i : IndexView) (c : Cache) (feature : ℕ) (period : Option PeriodView) (place : Place) (at : slice_get i.places feature ≡ Some place) where
+  abbrev nodes_fault : Option ℕ
+  nodes_fault = chain_fault (pages_of_cache i.cache) period i.tree.shape place
+
+  here_denied : (n : ℕ) → nodes_fault ≡ Some n → DeniesTrack (pages_of_cache i.cache) i.tree.shape period (slice_get i.places feature) n
+  here_denied n e = subst (λ o. DeniesTrack (pages_of_cache i.cache) i.tree.shape period o n) (sym at) e
+
+  track_denies : (fault : ChainFault) → (IsTrue i.cache.store.is_faithful → chains.IsNamed (pages_of_cache i.cache) nodes_fault fault)
+      → chains.IsCaused i.cache c fault → Denies words i (OfFeature feature period) (of_chain fault)
+  track_denies (chain.Cache cache.NoPage) named caused = absurd caused
+  track_denies (chain.Cache cache.Store) named caused = tt
+  track_denies (chain.Cache (cache.Damaged n)) named caused = λ f. here_denied n (named f)
+  track_denies (chain.Cache cache.StoreFull) named caused = caused
+  track_denies (chain.Cache cache.Memory) named caused = tt
+  track_denies (chain.Malformed n) named caused = λ f. here_denied n (named f).0
+  track_denies chain.Memory named caused = tt
+
+  pub track_told : {A : Type 0} (items : A → List LegView) (r : Result A ChainFault)
+      → (IsTrue i.cache.store.is_faithful → OnOk r (IsPlaceChain (pages_of_cache i.cache) period i.tree.shape place))
+      → (IsTrue i.cache.store.is_faithful → IfOk r (λ found. items found ≡ chain_legs (pages_of_cache i.cache) period i.tree.shape place))
+      → (IsTrue i.cache.store.is_faithful → IfErr r (chains.IsNamed (pages_of_cache i.cache) nodes_fault))
+      → IfErr r (chains.IsCaused i.cache c)
+      → MatchResult (answered (λ fault. of_chain fault) r) (λ found. tells i (OfFeature feature period) (items found)) (λ fault. Denies words i (OfFeature feature period) fault)
+  track_told items (Ok found) chain legs named caused = λ f. subst (λ o. TellsTrack (pages_of_cache i.cache) i.tree.shape period o (items found)) (sym at) (chain f, legs f)
+  track_told items (Err fault) chain legs named caused = track_denies fault named caused
+
+-- of a feature that is not there
+pub none_told : (i : IndexView) (feature : ℕ) (period : Option PeriodView) (legs : List LegView) → slice_get i.places feature ≡ None → legs ≡ [] → tells i (OfFeature feature period) legs
+none_told i feature period legs at e = λ f. subst (λ o. TellsTrack (pages_of_cache i.cache) i.tree.shape period o legs) (sym at) e

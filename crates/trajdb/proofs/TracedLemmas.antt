@@ -1,0 +1,94 @@
+-- Runs over lines, one after another, each by what is told.
+use Rattle.std.proofs.Common.{ℕ, ◌+◌, ◌≡◌, ◌∙◌, ◌++◌, ◌∷◌, [], ap, sym, subst, refl, List, take, drop, Option}
+use Rattle.std.proofs.lemmas.List.{append_assoc, append-nil, take-append-drop}
+use Rattle.std.proofs.KnownBytes.{Appends-trans, Appends-nil, Appends-kept}
+use Rattle.std.specs.Io.KnownBytes.{Appends, Keeps}
+use Rattle.legs.specs.declared.listed.Listed.{Ghosts}
+use Rattle.trajdb.specs.Database.{CoreView}
+use Rattle.trajdb.specs.Script.{lines_of}
+use Rattle.trajdb.specs.Telling.{HasCutTold, HasNamed, HasTold, NamesLine, TellsCut, TellsLine, TellsLines, TellsRun, TellsStop}
+use Rattle.trajdb.specs.declared.RunFault.{RunFault}
+use Rattle.trajdb.proofs.RunLemmas.{Named, all_taken, lines_none, more_lines, nth_line}
+
+module _ {I : Type 0} (g : Ghosts I) (files : Named) where
+  -- lines and then one more
+  tells-more : (old mid new : CoreView I) (xs : List (List ℕ)) (y text next : List ℕ) → TellsLines g files old mid xs text → TellsLine g files mid new y next
+      → TellsLines g files old new (xs ++ y ∷ []) (text ++ next)
+  tells-more old mid new [] y text next (same, e) line =
+      (new, next, [], ap (λ t. t ++ next) e ∙ sym (append-nil next), subst (λ core. TellsLine g files core new y next) same line, (refl, refl))
+  tells-more old mid new (x ∷ xs) y text next (between, first, others, e, said, rest) line = (
+    between,
+    first,
+    others ++ next,
+    ap (λ t. t ++ next) e ∙ append_assoc first others next,
+    said,
+    tells-more between mid new xs y others next rest line,
+  )
+
+  -- k lines are done, and these bytes of the script are left
+  pub record IsTracedAt (sent now : Option (List ℕ)) (old new : CoreView I) (lines : List (List ℕ)) (rest : List ℕ) (k : ℕ) : Type 0 where
+    pub text : List ℕ
+    pub tells : TellsLines g files old new (take k lines) text
+    pub sends : Appends sent now text
+    pub left : drop k lines ≡ lines_of rest
+
+  pub traced_start : (sent : Option (List ℕ)) (old : CoreView I) (script : List ℕ) → IsTracedAt sent sent old old (lines_of script) script 0
+  traced_start sent old script = record { text = []; tells = (refl, refl); sends = Appends-nil sent; left = refl }
+
+  module _ (a b c : Option (List ℕ)) (old mid new : CoreView I) (lines : List (List ℕ)) (rest others line : List ℕ) (k : ℕ) (at : IsTracedAt a b old mid lines rest k) (e : lines_of rest ≡ line ∷ lines_of others) where
+    next_at : drop k lines ≡ line ∷ lines_of others
+    next_at = at.left ∙ e
+
+    tells_next : (text : List ℕ) → TellsLine g files mid new line text → TellsLines g files old new (take (k + 1) lines) (at.text ++ text)
+    tells_next text said =
+        subst (λ (l : List (List ℕ)). TellsLines g files old new l (at.text ++ text)) (sym (more_lines lines k line (lines_of others) next_at).0)
+        (tells-more old mid new (take k lines) line at.text text at.tells said)
+
+    pub traced_more : HasTold g files b c mid new line → IsTracedAt a c old new lines others (k + 1)
+    traced_more done = record {
+      text = at.text ++ done.text;
+      tells = tells_next done.text done.tells;
+      sends = Appends-trans a b c at.text done.text at.sends done.sends;
+      left = (more_lines lines k line (lines_of others) next_at).1;
+    }
+
+    pub traced_cut : HasCutTold g files b c mid new line → TellsCut g files a c old new lines
+    traced_cut cut = record {
+      k = k + 1;
+      text = at.text ++ cut.text;
+      tells = tells_next cut.text cut.tells;
+      written = at.text ++ take cut.n cut.text;
+      sends = Appends-trans a b c at.text (take cut.n cut.text) at.sends cut.sends;
+      prefix = (drop cut.n cut.text, ap (λ t. at.text ++ t) (sym (take-append-drop cut.n cut.text)) ∙ sym (append_assoc at.text (take cut.n cut.text) (drop cut.n cut.text)));
+    }
+
+    pub traced_stop : (fault : RunFault) → HasNamed g files b c mid line fault → TellsStop g files a c old fault lines
+    traced_stop fault stop =
+        let nth = nth_line lines k line (lines_of others) next_at in record {
+          k = k;
+          within = nth.0;
+          mid = mid;
+          text = at.text;
+          tells = at.tells;
+          sends = Appends-kept a b c at.text at.sends stop.sends;
+          names = subst (λ (l : List ℕ). NamesLine g files mid l fault) (sym nth.1) stop.names;
+        }
+
+  module _ (a b c : Option (List ℕ)) (old new : CoreView I) (lines : List (List ℕ)) (rest : List ℕ) (k : ℕ) (at : IsTracedAt a b old new lines rest k) where
+    pub traced_end : rest ≡ [] → Keeps b c → TellsRun g files a c old new lines
+    traced_end e kept =
+        let all = all_taken lines k (at.left ∙ ap lines_of e ∙ lines_none) in record {
+          text = at.text;
+          tells = subst (λ (l : List (List ℕ)). TellsLines g files old new l at.text) all at.tells;
+          sends = Appends-kept a b c at.text at.sends kept;
+        }
+
+    pub traced_unflushed : Keeps b c → TellsCut g files a c old new lines
+    traced_unflushed kept = record {
+      k = k;
+      text = at.text;
+      tells = at.tells;
+      written = at.text;
+      sends = Appends-kept a b c at.text at.sends kept;
+      prefix = ([], sym (append-nil at.text));
+    }

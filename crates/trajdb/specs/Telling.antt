@@ -1,0 +1,209 @@
+-- What a database answers by what the pages of its index say, be it sound or not: nothing else is answered, and where a
+-- page that is met is not what it is to be there, that page is named.
+use Rattle.std.specs.Prelude.{ℕ, ◌≡◌, ◌≤◌, ◌<◌, ◌++◌, ◌⊎◌, ◌↔◌, List, [], ◌∷◌, length, take, slice_index_or, All, Option, Some, None, Result, Ok, Err, true, codes, decimal}
+use Rattle.std.specs.Io.KnownBytes.{Appends, Keeps}
+use Rattle.std.specs.List.{range_with_len}
+use Rattle.timebase.specs.Period.{PeriodView}
+use Rattle.legs.specs.Legs.{LegView}
+use Rattle.legs.specs.Boxes.{RectView, box_over, everything}
+use Rattle.legs.specs.Book.{feature_of}
+use Rattle.legs.specs.Law.{IsThere}
+use Rattle.legs.specs.Limits.{most}
+use Rattle.legs.specs.Questions.{Question, InBox, OfFeature}
+use Rattle.legs.specs.Tracks.{IsOver}
+use Rattle.legs.specs.declared.head.BookHead.{BookHead}
+use Rattle.legs.specs.declared.listed.Listed.{Ghosts}
+use Rattle.predicates.specs.Near.{box_near}
+use Rattle.predicates.specs.Predicates.{Holds}
+use Rattle.predicates.specs.declared.Predicate.{Predicate}
+use Rattle.querylang.specs.CodeText.{code_text}
+use Rattle.querylang.specs.Line.{line_of}
+use Rattle.querylang.specs.declared.LineCode.{LineCode}
+use Rattle.querylang.specs.declared.Command.{Command}
+use Rattle.querylang.specs.declared.Command.TheVariants.{Load, Count, Box, Legs, Features, Trajectory, Write}
+use Rattle.trajdb.specs.Answers.{HoldsOfLeg, IsCountsText, IsFileRefusal, file_answer, legs_text, names_text, ok_text, refusal_text}
+use Rattle.trajdb.specs.Calls.{Leaves, Loads, TellsLoad}
+use Rattle.trajdb.specs.Database.{CoreView}
+use Rattle.trajdb.specs.Files.{file_named}
+use Rattle.trajdb.specs.Picks.{Picks}
+use Rattle.trajdb.specs.Run.{IsPrefixOf}
+use Rattle.trajdb.specs.declared.RunFault.{RunFault}
+use Rattle.trajdb.specs.declared.RunFault.TheVariants.{Memory, Store, Damaged, StoreFull, Failed, Output}
+
+module _ {I : Type 0} (g : Ghosts I) (core : CoreView I) where
+  -- the answer of the legs that the index tells
+  abbrev pub IsToldLegs : Question → List ℕ → Type 0
+  IsToldLegs question text = (legs : List LegView) × g.tells core.index question legs × (text ≡ legs_text core.book legs)
+
+  -- exactly those of the legs that the index tells, in order, for which, each taken alone, a predicate holds
+  abbrev pub ArePickedOf : Predicate → RectView → PeriodView → List LegView → Type 0
+  ArePickedOf predicate rect period picked =
+      (legs : List LegView) × g.tells core.index (InBox (box_near predicate rect period)) legs × Picks (HoldsOfLeg predicate rect period) legs picked
+
+  -- and their answer
+  abbrev pub IsToldPicks : Predicate → RectView → PeriodView → List ℕ → Type 0
+  IsToldPicks predicate rect period text = (picked : List LegView) × ArePickedOf predicate rect period picked × (text ≡ legs_text core.book picked)
+
+  -- the legs of a feature that are live in a period: none of one whose last leg ends before it, else what the index tells
+  abbrev pub AreLive : PeriodView → ℕ → List LegView → Type 0
+  AreLive period feature legs = (IsOver core.tracks feature period × (legs ≡ [])) ⊎ g.tells core.index (OfFeature feature (Some period)) legs
+
+  -- P is so exactly where a predicate holds for them
+  abbrev pub HoldsLive : Predicate → RectView → PeriodView → ℕ → Type 0 → Type 0
+  HoldsLive predicate rect period feature P = (legs : List LegView) × AreLive period feature legs × (P ↔ Holds predicate legs rect period)
+
+  -- picked are exactly those of the features for whose live legs a predicate holds, in order
+  abbrev pub PicksLive : Predicate → RectView → PeriodView → List ℕ → List ℕ → Type 0
+  PicksLive predicate rect period [] picked = picked ≡ []
+  PicksLive predicate rect period (feature ∷ features) picked =
+      (legs : List LegView) × AreLive period feature legs
+      × ((Holds predicate legs rect period × (others : List ℕ) × (picked ≡ feature ∷ others) × PicksLive predicate rect period features others)
+      ⊎ ((Holds predicate legs rect period → ⊥) × PicksLive predicate rect period features picked))
+
+  abbrev pub IsToldFeatures : Predicate → RectView → PeriodView → List ℕ → Type 0
+  IsToldFeatures predicate rect period text =
+      (picked : List ℕ) × PicksLive predicate rect period (range_with_len 0 (length core.book.names)) picked × (text ≡ names_text core.book picked)
+
+  -- a feature's legs, if there is one, and their answer
+  abbrev pub AreToldOf : Option ℕ → List LegView → Type 0
+  AreToldOf (Some feature) legs = g.tells core.index (OfFeature feature None) legs
+  AreToldOf None legs = legs ≡ []
+
+  abbrev pub IsToldTrack : Option ℕ → List ℕ → Type 0
+  IsToldTrack feature text = (legs : List LegView) × AreToldOf feature legs × (text ≡ legs_text core.book legs)
+
+  -- the answer of all legs as a file, where there is a head
+  abbrev pub IsToldFile : Option BookHead → List ℕ → Type 0
+  IsToldFile (Some head) text = (legs : List LegView) × g.tells core.index (InBox everything) legs × (text ≡ file_answer core.book head legs)
+  IsToldFile None text = text ≡ refusal_text (codes "Q10")
+
+  -- how many legs the index counts, and how many features there are
+  abbrev pub told_count : List ℕ
+  told_count = ok_text 1 ++ decimal (g.counted core.index) ++ 44 ∷ [] ++ decimal (length core.book.names) ++ 10 ∷ []
+
+  -- counts or a refusal of a file that is there
+  abbrev pub IsToldLoad : Option (List ℕ) → List ℕ → Type 0
+  IsToldLoad (Some bytes) text = IsCountsText text ⊎ IsFileRefusal text
+  IsToldLoad None text = text ≡ refusal_text (codes "Q9")
+
+  -- the text is what a command answers by what is told; of features and of a name, of a database of no more features than
+  -- any limit allows
+  abbrev pub IsToldAnswer : List (List ℕ × List ℕ) → Command → List ℕ → Type 0
+  IsToldAnswer files (Load name) text = IsToldLoad (file_named files name) text
+  IsToldAnswer files Count text = text ≡ told_count
+  IsToldAnswer files (Box rect period) text = IsToldLegs (InBox (box_over rect period)) text
+  IsToldAnswer files (Legs predicate rect period) text = IsToldPicks predicate rect period text
+  IsToldAnswer files (Features predicate rect period) text = length core.book.names ≤ most → IsToldFeatures predicate rect period text
+  IsToldAnswer files (Trajectory name) text = length core.book.names ≤ most → IsToldTrack (feature_of core.book.names name) text
+  IsToldAnswer files Write text = IsToldFile core.book.head text
+
+  -- the page is met by a question, and is not what it is to be there; or it is page 0, for a leg that is told whose name or
+  -- row of values the catalogue lacks
+  abbrev pub DeniesLegs : Question → ℕ → Type 0
+  DeniesLegs question page =
+      g.denies core.index question page
+      ⊎ ((page ≡ 0) × (legs : List LegView) × g.tells core.index question legs × (All (IsThere core.book) legs → ⊥))
+
+  -- so is it for a feature's legs, if there is one; for those of some feature; and for all legs, where there is a head
+  abbrev pub DeniesTrack : Option ℕ → ℕ → Type 0
+  DeniesTrack (Some feature) page = DeniesLegs (OfFeature feature None) page
+  DeniesTrack None page = ⊥
+
+  abbrev pub DeniesSome : PeriodView → ℕ → Type 0
+  DeniesSome period page = (feature : ℕ) × (feature < length core.book.names) × g.denies core.index (OfFeature feature (Some period)) page
+
+  abbrev pub DeniesFile : Option BookHead → ℕ → Type 0
+  DeniesFile (Some head) page = DeniesLegs (InBox everything) page
+  DeniesFile None page = ⊥
+
+  -- a page that is named is such a one; the database is said to be failed only where it was, or its index refused a leg
+  abbrev pub Names : (ℕ → Type 0) → RunFault → Type 0
+  Names P Memory = Unit {0}
+  Names P Store = Unit {0}
+  Names P (Damaged page) = P page
+  Names P StoreFull = Unit {0}
+  Names P Failed = (core.failed ≡ true) ⊎ (g.is_spent core.index ≡ true)
+  Names P Output = Unit {0}
+
+  -- why a question is refused: a page that it names is one that it met; of `load` this says nothing
+  abbrev pub NamesBy : Command → RunFault → Type 0
+  NamesBy (Load name) fault = Unit {0}
+  NamesBy Count fault = Names (λ page. ⊥) fault
+  NamesBy (Box rect period) fault = Names (DeniesLegs (InBox (box_over rect period))) fault
+  NamesBy (Legs predicate rect period) fault = Names (DeniesLegs (InBox (box_near predicate rect period))) fault
+  NamesBy (Features predicate rect period) fault = Names (λ page. length core.book.names ≤ most → DeniesSome period page) fault
+  NamesBy (Trajectory name) fault = Names (λ page. length core.book.names ≤ most → DeniesTrack (feature_of core.book.names name) page) fault
+  NamesBy Write fault = Names (DeniesFile core.book.head) fault
+
+-- what a command leaves, be the database sound or not: a question all that is known of the book, and a `load` of a file
+-- that is there what its answer tells
+pub record LeftBy {I : Type 0} (g : Ghosts I) (files : List (List ℕ × List ℕ)) (old new : CoreView I) (command : Command) (text : List ℕ) : Type 0 where
+  pub question : (Loads files command → ⊥) → Leaves g old new
+  pub load : Loads files command → TellsLoad old new text
+
+module _ {I : Type 0} (g : Ghosts I) (files : List (List ℕ × List ℕ)) where
+  -- the text is what a line answers by what is told, and this is left
+  abbrev pub TellsSaid : (old new : CoreView I) → Result (Option Command) LineCode → List ℕ → Type 0
+  TellsSaid old new (Ok (Some command)) text = IsToldAnswer g old files command text × LeftBy g files old new command text
+  TellsSaid old new (Ok None) text = (text ≡ []) × (new ≡ old)
+  TellsSaid old new (Err code) text = (text ≡ refusal_text (code_text code)) × (new ≡ old)
+
+  unfoldable pub TellsLine : (old new : CoreView I) → List ℕ → List ℕ → Type 0
+  TellsLine old new line text = TellsSaid old new (line_of line) text
+
+  -- the text is the answers to lines, one after another, each by what is told after the lines before
+  abbrev pub TellsLines : (old new : CoreView I) → List (List ℕ) → List ℕ → Type 0
+  TellsLines old new [] text = (new ≡ old) × (text ≡ [])
+  TellsLines old new (line ∷ lines) text =
+      (mid : CoreView I) × (first : List ℕ) × (others : List ℕ) × (text ≡ first ++ others) × TellsLine old mid line first × TellsLines mid new lines others
+
+  -- why a line was not answered
+  abbrev pub NamesSaid : CoreView I → Result (Option Command) LineCode → RunFault → Type 0
+  NamesSaid core (Ok (Some command)) fault = NamesBy g core command fault
+  NamesSaid core (Ok None) fault = fault ≡ Memory
+  NamesSaid core (Err code) fault = fault ≡ Memory
+
+  unfoldable pub NamesLine : CoreView I → List ℕ → RunFault → Type 0
+  NamesLine core line fault = NamesSaid core (line_of line) fault
+
+  -- all lines are done, and their answers and nothing else were sent
+  pub record TellsRun (sent sent' : Option (List ℕ)) (old new : CoreView I) (lines : List (List ℕ)) : Type 0 where
+    pub text : List ℕ
+    pub tells : TellsLines old new lines text
+    pub sends : Appends sent sent' text
+
+  -- the first k lines are done, and their answers, whole, and nothing else were sent; this is why the next was not answered
+  pub record TellsStop (sent sent' : Option (List ℕ)) (old : CoreView I) (fault : RunFault) (lines : List (List ℕ)) : Type 0 where
+    pub k : ℕ
+    pub within : k < length lines
+    pub mid : CoreView I
+    pub text : List ℕ
+    pub tells : TellsLines old mid (take k lines) text
+    pub sends : Appends sent sent' text
+    pub names : NamesLine mid (slice_index_or lines k []) fault
+
+  -- the first k lines are done, and what was sent is a prefix of their answers
+  pub record TellsCut (sent sent' : Option (List ℕ)) (old new : CoreView I) (lines : List (List ℕ)) : Type 0 where
+    pub k : ℕ
+    pub text : List ℕ
+    pub tells : TellsLines old new (take k lines) text
+    pub written : List ℕ
+    pub sends : Appends sent sent' written
+    pub prefix : IsPrefixOf written text
+
+  -- a line is done, and of its answer the first n bytes were sent, or all
+  pub record HasTold (sent sent' : Option (List ℕ)) (old new : CoreView I) (line : List ℕ) : Type 0 where
+    pub text : List ℕ
+    pub tells : TellsLine old new line text
+    pub sends : Appends sent sent' text
+
+  pub record HasCutTold (sent sent' : Option (List ℕ)) (old new : CoreView I) (line : List ℕ) : Type 0 where
+    pub text : List ℕ
+    pub tells : TellsLine old new line text
+    pub n : ℕ
+    pub sends : Appends sent sent' (take n text)
+
+  -- a line is not answered, nothing was sent, and this is why
+  pub record HasNamed (sent sent' : Option (List ℕ)) (core : CoreView I) (line : List ℕ) (fault : RunFault) : Type 0 where
+    pub sends : Keeps sent sent'
+    pub names : NamesLine core line fault
