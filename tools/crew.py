@@ -34,8 +34,8 @@ def need_distributed(options):
 class Here:
     """Processes of this machine, each of which starts programs, which do the work."""
 
-    def __init__(self, pool):
-        self.submit = pool.submit
+    def __init__(self, pool, count):
+        self.submit, self.count = pool.submit, count
 
     def names(self):
         return set()
@@ -53,6 +53,10 @@ class There:
     def names(self):
         return set(self.client.scheduler_info()["workers"])
 
+    @property
+    def count(self):
+        return max(1, len(self.names()))
+
 
 def begin_here():
     """A process of this machine ends when it is interrupted, without a word, and when the tool ends, however it does."""
@@ -66,7 +70,7 @@ def workers(options):
     if not options.scheduler:
         count = options.workers or len(os.sched_getaffinity(0))
         with ProcessPoolExecutor(count, multiprocessing.get_context("fork"), begin_here) as pool:
-            yield Here(pool)
+            yield Here(pool, count)
         return
     from distributed import Client
 

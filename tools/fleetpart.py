@@ -39,10 +39,21 @@ class Part(NamedTuple):
     program: str
 
 
-class Loaded(NamedTuple):
-    """What a part answered to files, up to the first one that it refused, and its new store."""
+class Cut(NamedTuple):
+    """Parts of a file to be cut out: the number of the first one, how many, of how many, and the folder of their texts."""
 
-    answers: list
+    number: int
+    count: int
+    parts: int
+    file: str
+    folder: str
+    program: str
+
+
+class Loaded(NamedTuple):
+    """What a part answered to a file, and its new store."""
+
+    answer: str
     store: str
     legs: int
     features: int
@@ -62,7 +73,7 @@ def part_of(name, parts):
     number = 0
     for byte in name:
         number = (number * 257 + byte) % PRIME
-    return number % parts
+    return number**3 % PRIME % parts
 
 
 def words_of(line):
@@ -96,31 +107,33 @@ def need_store(part):
 # Loading
 
 
-def load(part, files):
-    """Loads the part of each file into a copy of the store, until one is refused."""
+def cut(task):
+    """Cuts parts out of a file, by one pass for each 16."""
+    os.makedirs(task.folder, exist_ok=True)
+    some = "--first", str(task.number), "--count", str(task.count)
+    ended = subprocess.run(
+        [task.program, "parts", str(task.parts), task.file, task.folder, *some],
+        stdin=subprocess.DEVNULL,
+        stdout=subprocess.DEVNULL,
+        stderr=subprocess.PIPE,
+    )
+    if ended.returncode:
+        raise fault_of(ended.returncode, ended.stderr)
+
+
+def load(part, texts):
+    """Loads the part of a file, out of the folder of its parts, into a copy of the store."""
     need_store(part)
     copy = Path(part.store).with_name(f"part-{part.number}-{uuid.uuid4().hex}.mftb")
     shutil.copyfile(part.store, copy)
-    answers, counts = [], (0, 0)
-    for file in files:
-        answer, counts = load_file(part, file, copy)
-        answers.append(answer)
-        if answer.startswith("refused"):
-            copy.unlink()
-            break
-    return Loaded(answers, copy.name, *counts)
-
-
-def load_file(part, file, store):
-    """The answer to the part of a file, and how many legs and features the store then has."""
     with tempfile.TemporaryDirectory(dir=part.work) as folder:
-        with open(f"{folder}/part.csv", "wb") as out:
-            printed(part, "part", str(part.number), str(part.parts), file, stdout=out)
         Path(folder, "script").write_text("load part.csv\ncount\n")
-        words = "run", str(store), "script", "part.csv"
+        os.symlink(os.path.join(texts, f"part-{part.number}.csv"), f"{folder}/part.csv")
+        # The store is a copy already: nobody else has it, and what is broken off is left over.
+        words = "run", "--in-place", str(copy), "script", "part.csv"
         lines = printed(part, *words, cwd=folder, stdout=subprocess.PIPE).decode().splitlines()
-    legs, features = map(int, lines[-1].split(","))
-    return (lines[0] if lines[0].startswith("refused") else lines[1]), (legs, features)
+    refused = lines[0].startswith("refused")
+    return Loaded(lines[0] if refused else lines[1], copy.name, *map(int, lines[-1].split(",")))
 
 
 def check(part):

@@ -1,6 +1,9 @@
 """The manifest of a fleet: a file of JSON that names the stores of its parts, and is replaced at once.
 
-    {"fleet": 1, "parts": [{"store": "part-0-new.mftb", "legs": 0, "features": 0}], "files": []}
+    {"fleet": 2, "names": "cubes modulo 4294967291", "parts": [{"store": "part-0-new.mftb", "legs": 0, "features": 0}],
+     "files": []}
+
+`names` is the function that gave each name its part; a fleet of another one is refused.
 
 A load works on copies of the stores and then renames a new manifest over the old one; a store that no manifest names is
 left over, and goes with the next load. Locks on two files of the folder keep loads apart, and keep the stores that
@@ -18,6 +21,9 @@ from typing import NamedTuple
 from texts import Refused
 
 NAME = "fleet.json"
+FORM, NAMES = 2, "cubes modulo 4294967291"
+# What the first fleets had.
+OLD_FORM, OLD_NAMES = 1, "numbers modulo 4294967291"
 STORE = re.compile(r"part-[0-9]+-[0-9a-z]+\.mftb")
 LEFT_OVER = re.compile(rf"{STORE.pattern}|work-.*|{re.escape(NAME)}\.new")
 
@@ -45,8 +51,9 @@ def read(folder):
     path = Path(folder, NAME)
     try:
         said = json.loads(path.read_text())
+        need_names(folder, said)
         parts = [Held(held["store"], held["legs"], held["features"]) for held in said["parts"]]
-        sound = said["fleet"] == 1 and parts and all(map(is_held, parts))
+        sound = said["fleet"] == FORM and parts and all(map(is_held, parts))
         if not sound or not all(isinstance(name, str) for name in said["files"]):
             raise ValueError("it says something else")
     except FileNotFoundError:
@@ -58,6 +65,15 @@ def read(folder):
     return Manifest(parts, said["files"])
 
 
+def need_names(folder, said):
+    """Refuses a fleet whose names fell to their parts by another function."""
+    names = OLD_NAMES if said["fleet"] == OLD_FORM else said["names"]
+    if not isinstance(names, str):
+        raise ValueError("it names no function of names")
+    if names != NAMES:
+        raise Refused(f"{folder} deals names out by {names}, and this tool by {NAMES}: make a new fleet, and load its files again")
+
+
 def is_held(held):
     """Whether what is said of a part can be so."""
     counts = all(type(count) is int and count >= 0 for count in held[1:])
@@ -66,7 +82,7 @@ def is_held(held):
 
 def write(folder, manifest):
     """Puts a manifest in the place of the old one; it is on the disk before it gets its name."""
-    said = {"fleet": 1, "parts": [held._asdict() for held in manifest.parts], "files": manifest.files}
+    said = {"fleet": FORM, "names": NAMES, "parts": [held._asdict() for held in manifest.parts], "files": manifest.files}
     new = Path(folder, NAME + ".new")
     with open(new, "w") as out:
         json.dump(said, out, indent=1)

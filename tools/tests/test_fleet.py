@@ -29,8 +29,8 @@ from texts import Refused  # noqa: E402
 
 HERE = Path(__file__).resolve().parent
 HEAD = "@stboundedby,local,2D,0 0,9 9,2024-01-01T00:00:00Z,2024-01-01T00:01:00Z,{}\n@columns,mfidref,trajectory\n"
-# One leg of each of d, a, b and c, which are of the parts 0 to 3.
-FIRST = HEAD.format("sec") + "d,0,10,0 0 1 1\na,0,10,1 0 2 0\nb,5,15,2 0 3 0\nc,-1.5,20,3 0 -4 0.25\n"
+# One leg of each of d, a, ac and c, which are of the parts 0 to 3.
+FIRST = HEAD.format("sec") + "d,0,10,0 0 1 1\na,0,10,1 0 2 0\nac,5,15,2 0 3 0\nc,-1.5,20,3 0 -4 0.25\n"
 CLUSTER = """
 import sys, distributed
 if __name__ == "__main__":
@@ -40,7 +40,7 @@ if __name__ == "__main__":
 """
 # A program that is found at work on part 1, once.
 WAITS = """#!/bin/sh
-if [ "$1 $2" = "part 1" ] && [ ! -e {mark} ]; then
+if [ "$1 $2" = "run --in-place" ] && [ ! -e {mark} ] && [ "${{3#*part-1-}}" != "$3" ]; then
     echo $PPID $$ > {mark}.new && mv {mark}.new {mark}
     sleep 60
     exit 1
@@ -59,8 +59,7 @@ def python():
 def program():
     """The program, or what stands in for it."""
     for path in [os.environ.get("MFTB"), ROOT / "crates" / "mftb" / "out" / "mftb"]:
-        words = "part", "0", "1", ROOT / "examples" / "standard" / "S1.csv"
-        if path and os.path.exists(path) and subprocess.run([path, *words], capture_output=True).returncode == 0:
+        if path and os.path.exists(path) and not subprocess.run([path, "parts", "--help"], capture_output=True).returncode:
             return str(path)
     return str(HERE / "standin")
 
@@ -97,8 +96,8 @@ class Small(Case):
         prime = 4294967291
         for name in [b"", b"a", b"235098765", "Zoë".encode(), b"\xff" * 255]:
             number = sum(b * pow(257, i, prime) for i, b in enumerate(reversed(name)))
-            self.assertEqual(fleetpart.part_of(name, 7), number % prime % 7)
-        self.assertEqual([fleetpart.part_of(name.encode(), 4) for name in "dabc"], [0, 1, 2, 3])
+            self.assertEqual(fleetpart.part_of(name, 7), pow(number, 3, prime) % 7)
+        self.assertEqual([fleetpart.part_of(name, 4) for name in (b"d", b"a", b"ac", b"c")], [0, 1, 2, 3])
 
     def test_lines_are_legs_by_start_and_name(self):
         names = [b"", b"\0", b"\n", b"\n\n", b"\x0b", b" ", b"a", b"a\0", b"a\1", b"a\x0a", b'a"b,c', b"ab", b"\xc3\xab"]
@@ -148,12 +147,27 @@ class Small(Case):
         path = self.folder / "fleet.json"
         whole = path.read_text()
         self.assertEqual(manifest.read(self.folder), manifest.Manifest(held, ["a"]))
-        others = [whole.replace(*pair) for pair in [("part-0", "../0"), (": 0", ": -1"), ('"fleet": 1', '"fleet": 2')]]
-        for text in [*(whole[:length] for length in range(len(whole) - 2)), *others, "[]", '{"fleet": 1, "parts": []}']:
+        others = [whole.replace(*pair) for pair in [("part-0", "../0"), (": 0", ": -1"), ('"fleet": 2', '"fleet": 3')]]
+        for text in [*(whole[:length] for length in range(len(whole) - 2)), *others, "[]", '{"fleet": 2, "parts": []}']:
             path.write_text(text)
             with self.assertRaisesRegex(Refused, "fleet.json is no manifest"):
                 manifest.read(self.folder)
         self.assertIn("cut short", run("fleet", "status", self.folder, folder=self.folder).stderr)
+
+    def test_a_fleet_of_another_function_of_names_is_refused(self):
+        held = [manifest.Held("part-0-new.mftb", 0, 0)]
+        manifest.write(self.folder, manifest.Manifest(held, []))
+        path = self.folder / "fleet.json"
+        said = json.loads(path.read_text())
+        for older in {**said, "fleet": 1}, {**said, "names": "numbers"}:
+            path.write_text(json.dumps(older))
+            with self.assertRaisesRegex(Refused, "deals names out by numbers.*make a new fleet"):
+                manifest.read(self.folder)
+
+    def test_a_refusal_is_of_the_text_first_and_then_of_the_least_record(self):
+        fleet = SourceFileLoader("fleet", str(ROOT / "tools" / "fleet")).load_module()
+        refusals = [f"refused {what}" for what in ("F13 at 9", "F8 at 0", "F18 at 3", "F10 at 7")]
+        self.assertEqual(sorted(reversed(refusals), key=fleet.place_of), [refusals[i] for i in (0, 1, 2, 3)])
 
 
 class Fleet(Case):
@@ -249,7 +263,7 @@ class Fleet(Case):
         self.write("script", "# all\nwrite\n\nCOUNT\n")
         written = HEAD.format("sec").replace("0 0,9 9", "-4 0,3 1").replace(":00Z", ":00.000Z").replace("01:00.0", "00:20.0")
         text = self.fleet("ask", "script")
-        legs = "c,-1.5,20,3 0 -4 0.25\na,0,10,1 0 2 0\nd,0,10,0 0 1 1\nb,5,15,2 0 3 0\n"
+        legs = "c,-1.5,20,3 0 -4 0.25\na,0,10,1 0 2 0\nd,0,10,0 0 1 1\nac,5,15,2 0 3 0\n"
         self.assertEqual(text, f"ok 6\n{written}{legs}refused Q2\n")
         self.write("all.csv", text.partition("\n")[2].removesuffix("refused Q2\n"))
         self.assertEqual(self.one_store(["load all.csv"]), "ok 1\n4,4,4\n")
@@ -263,15 +277,23 @@ class Fleet(Case):
         self.assertRegex(self.fleet("check"), r"\Aok 1\n[0-9]+,4,4\n\Z")
         self.assertIn("4 parts, 1 file, 4 legs, 4 features\n", self.fleet("status"))
 
+    def test_two_files_are_loaded_at_once(self):
+        self.made()
+        self.write("two.csv", HEAD.format("sec") + "d,10,11,0 0\n")
+        self.write("three.csv", HEAD.format("sec") + "d,11,12,0 0\nac,20,21,0 0\n")
+        self.assertEqual(self.fleet("load", "two.csv", "three.csv"), "ok 1\n1,1,1\nok 1\n2,2,2\n")
+        self.assertEqual(self.left(), [])
+        self.assertRegex(self.fleet("check"), r",7,4\n\Z")
+
     def test_a_file_is_refused_by_one_part_and_by_several(self):
         self.made()
-        self.write("one.csv", HEAD.format("sec") + "d,10,11,0 0\na,9,10,0 0\nb,20,21,0 0\n")
+        self.write("one.csv", HEAD.format("sec") + "d,10,11,0 0\na,9,10,0 0\nac,20,21,0 0\n")
         said = self.untouched("load", "one.csv")
         self.assertEqual(said, ("refused F18 at 4\n", "fleet: one.csv is refused by part 1; nothing was loaded\n"))
-        self.write("two.csv", HEAD.format("sec") + "d,10,11,0 0\nc,9,10,0 0\nb,20,21,0 0\na,9,10,0 0\n")
+        self.write("two.csv", HEAD.format("sec") + "d,10,11,0 0\nc,9,10,0 0\nac,20,21,0 0\na,9,10,0 0\n")
         said = self.untouched("load", "two.csv")
         self.assertEqual(said, ("refused F18 at 4\n", "fleet: two.csv is refused by 2 of 4 parts; nothing was loaded\n"))
-        self.write("good.csv", HEAD.format("sec") + "b,30,31,0 0\n")
+        self.write("good.csv", HEAD.format("sec") + "ac,30,31,0 0\n")
         said = self.untouched("load", "good.csv", "two.csv")
         self.assertEqual(said[0], "refused F18 at 4\n")
         self.assertEqual(self.fleet("load", "good.csv"), "ok 1\n1,1,1\n")
@@ -282,7 +304,7 @@ class Fleet(Case):
         legs = "d,{},0 0\na,{},0 0\n".format(times.format("Z"), times.format(""))
         self.write("text.csv", HEAD.format("absolute") + legs)
         said = self.untouched("load", "text.csv")
-        self.assertEqual(said, ("refused F13 at 4\n", "fleet: text.csv is refused by 4 of 4 parts; nothing was loaded\n"))
+        self.assertEqual(said, ("refused F13 at 4\n", "fleet: text.csv is refused by part 1; nothing was loaded\n"))
 
     def test_what_is_no_question_or_no_file_is_said(self):
         self.made()

@@ -1,7 +1,8 @@
 -- What a run of the program sends, and what its store then holds.
 use Rattle.std.proofs.lemmas.Int.{clamps}
-use Rattle.std.proofs.Common.{arith, ℕ, ◌≡◌, ◌≤◌, ◌∙◌, ap, sym, inl, inr, length, true, false, IsTrue, List, Option, Some, Result, Ok, Err, subst}
-use Rattle.std.specs.Prelude.{IfErr, IfOk, OnOk}
+use Rattle.std.proofs.Common.{arith, ℕ, ◌≡◌, ◌≤◌, ◌∙◌, ap, refl, sym, inl, inr, [], append-nil, length, true, false, Bool, IsTrue, List, Option, Some, Result, Ok, Err, subst}
+use Rattle.std.proofs.lemmas.List.{take_all}
+use Rattle.std.specs.Prelude.{IfErr, IfOk, IsErr, IsErrOf, OnErr, OnOk}
 use Rattle.legs.specs.Book.{Book, empty_book}
 use Rattle.legs.specs.Costs.{ShapeView}
 use Rattle.legs.specs.Limits.{LimitsView}
@@ -12,14 +13,15 @@ use Rattle.catalogue.specs.Beginning.{IsLeftOver}
 use Rattle.trajdb.specs.Calls.{IsLoadFault, KeepsPages, Leaves}
 use Rattle.trajdb.specs.Db.{DbView, HasPages, IsAllowed, IsSound}
 use Rattle.trajdb.specs.Lasting.{HasBook, IsClosingFault, IsFaultless, IsIdle}
-use Rattle.trajdb.specs.Run.{Runs}
+use Rattle.trajdb.specs.Faults.{IsInside}
+use Rattle.trajdb.specs.Run.{HasCutRun, HasRun, HasStopped, IsCut, IsRunText, Runs, Stops}
 use Rattle.trajdb.specs.declared.OpenFault.{OpenFault}
 use Rattle.trajdb.specs.declared.OpenFault.TheVariants as opening
 use Rattle.trajdb.specs.declared.RunFault.{RunFault}
 use Rattle.trajdb.specs.declared.RunFault.TheVariants as run
 use Rattle.trajdb.specs.Checking.{Reports}
 use Rattle.trajdb.specs.declared.Report.{Report}
-use Rattle.mftb.specs.Answers.{Answers, Checks, IsNotOver, IsOverFault}
+use Rattle.mftb.specs.Answers.{Answers, Checks, IsNotOver, IsOverFault, SendsFront}
 use Rattle.mftb.specs.declared.fault.Fault.TheVariants.{Run, Open}
 
 pub the_same : (x y : ShapeView) → Some x ≡ Some y → x ≡ y
@@ -37,6 +39,55 @@ answered old new s files sent sent' lines (Ok x) runs sound keeps idle limits pl
       (subst (λ l. HoldsBook s new.index.tree.shape l new.book) limits (holds (sound is) (keeps.pages is pages) (idle rests)));
 }
 answered old new s files sent sent' lines (Err e) runs sound keeps idle limits plan holds = tt
+
+-- what was sent of a run that was done, and whose database was then not closed
+pub front_done : (limits : LimitsView) (book new : Book) (files : List (List ℕ × List ℕ)) (sent sent' : Option (List ℕ)) (lines : List (List ℕ)) → HasRun limits files sent sent' book new lines → SendsFront limits book files sent sent' lines
+front_done limits book new files sent sent' lines r = record {
+  front = r.text;
+  sends = r.sends;
+  done = length lines;
+  text = r.text;
+  answers = subst (λ l. IsRunText limits files book l r.text) (sym (take_all (length lines) lines (omega arith))) r.answers;
+  is_front = ([], sym (append-nil r.text));
+}
+
+-- of one that stopped at a line
+pub front_stopped : (limits : LimitsView) (book new : Book) (files : List (List ℕ × List ℕ)) (sent sent' : Option (List ℕ)) (lines : List (List ℕ)) (failed : Bool) (k : ℕ) → HasStopped limits files sent sent' book new failed lines k → SendsFront limits book files sent sent' lines
+front_stopped limits book new files sent sent' lines failed k s = record { front = s.text; sends = s.sends; done = k; text = s.text; answers = s.answers; is_front = ([], sym (append-nil s.text)) }
+
+-- of one whose output failed
+pub front_cut : (limits : LimitsView) (book new : Book) (files : List (List ℕ × List ℕ)) (sent sent' : Option (List ℕ)) (lines : List (List ℕ)) (k : ℕ) → HasCutRun limits files sent sent' book new lines k → SendsFront limits book files sent sent' lines
+front_cut limits book new files sent sent' lines k c = record { front = c.written; sends = c.sends; done = k; text = c.all; answers = c.answers; is_front = c.prefix }
+
+-- of one that is refused
+module _ (old new : DbView) (files : List (List ℕ × List ℕ)) (sent sent' : Option (List ℕ)) (lines : List (List ℕ)) where
+  stopped : Stops files sent sent' old new lines → SendsFront old.limits old.book files sent sent' lines
+  stopped s = front_stopped old.limits old.book new.book files sent sent' lines new.failed s.0 s.1
+
+  pub front_sent : (e : RunFault) → (IsErrOf {T = Unit {0}} {E = RunFault} (Err e) run.Output → IsSound old → IsCut files sent sent' old new lines) → (IsInside e → old.failed ≡ false → IsSound old → Stops files sent sent' old new lines)
+      → IsSound old → old.failed ≡ false → SendsFront old.limits old.book files sent sent' lines
+  front_sent run.Memory cut stops sound lives = stopped (stops tt lives sound)
+  front_sent run.Store cut stops sound lives = stopped (stops tt lives sound)
+  front_sent (run.Damaged page) cut stops sound lives = stopped (stops tt lives sound)
+  front_sent run.StoreFull cut stops sound lives = stopped (stops tt lives sound)
+  front_sent run.Failed cut stops sound lives = stopped (stops tt lives sound)
+  front_sent run.Output cut stops sound lives = let c = cut refl sound in front_cut old.limits old.book new.book files sent sent' lines c.0 c.1
+
+-- a fact holds where there is an error
+pub on_error : {T E : Type 0} (P : Type 0) (r : Result T E) → P → OnErr r P
+on_error P (Ok x) h = tt
+on_error P (Err e) h = h
+
+-- a refusal that is given only where another one is
+pub refused_by : {E F : Type 0} (P : Type 0) (r : Result (Unit {0}) E) (s : Result (Unit {0}) F) → OnErr r (IsErr s) → OnErr s P → OnErr r P
+refused_by P (Ok x) s is h = tt
+refused_by P (Err e) (Ok x) is h = let wrong : false ≡ true = is in absurd cc
+refused_by P (Err e) (Err f) is h = h
+
+-- no database is opened of a store without pages
+pub no_pages : {E : Type 0} (r : Result DbView E) (s : Store) → s.count ≡ 0 → IfOk r (λ db. IsTrue s.is_faithful → (shape : ShapeView) (limits : LimitsView) (book : Book) → HoldsBook s shape limits book → HasBook shape limits book db)
+no_pages (Ok db) s none = λ f shape limits book h. let root = h.kept.within.root in absurd (omega (arith, none, root))
+no_pages (Err e) s none = tt
 
 -- what is said of an answer is said where more is known
 pub more_known : {T E : Type 0} (P Q : T → Type 0) (r : Result T E) → ((x : T) → P x → Q x) → IfOk r P → IfOk r Q

@@ -1,20 +1,57 @@
 -- What a run on a copy makes of a store's name.
-use Rattle.std.proofs.Common.{ℕ, ◌≡◌, refl, sym, subst, [], ◌∷◌, true, false, IsTrue, List, Option, Some, None, Result, Ok, Err}
+use Rattle.std.proofs.Common.{ℕ, ◌≡◌, refl, sym, subst, inl, inr, [], ◌∷◌, true, false, IsTrue, List, Option, Some, None, Result, Ok, Err}
 use Rattle.std.specs.Prelude.{is_ok, IfOk, IfSome, IsOk, OnOk}
 use Rattle.legs.specs.Book.{Book}
 use Rattle.legs.specs.Costs.{ShapeView}
 use Rattle.legs.specs.Limits.{LimitsView}
 use Rattle.pages.specs.Store.{Store}
+use Rattle.pagecache.specs.Cache.{page_of, pages_as_written, payload_of, sealed_payload, stored_payload}
+use Rattle.catalogue.specs.Holding.{HoldsBook}
 use Rattle.trajdb.specs.Db.{DbView, HasPages, IsSound}
 use Rattle.trajdb.specs.Lasting.{HasBook, IsIdle}
 use Rattle.mftb.specs.Answers.{Answers}
-use Rattle.mftb.specs.Folder.{History, IsKept, RunsBeside, store_in}
+use Rattle.mftb.specs.Folder.{History, HoldsNow, IsKept, RunsBeside, store_in}
 
 -- what a folder tells of a store's name is faithful
 pub tells : (past : History) → IsTrue (store_in past).is_faithful
 tells [] = refl
-tells (None ∷ past) = refl
-tells (Some bytes ∷ past) = refl
+tells (now ∷ past) = refl
+
+-- how often a store failed is no part of the book that it holds
+pub faults_apart : (s : Store) (shape : ShapeView) (limits : LimitsView) (book : Book) → HoldsBook s shape limits book → HoldsBook (record s { faults = 0 }) shape limits book
+unfolding stored_payload payload_of sealed_payload page_of pages_as_written
+faults_apart s shape limits book h = record {
+  catalogue = h.catalogue;
+  tree = h.tree;
+  places = h.places;
+  kept = h.kept;
+  shape_is = h.shape_is;
+  of = h.of;
+  sound = record {
+    faithful = h.sound.faithful;
+    works = h.sound.works;
+    shape = h.sound.shape;
+    count = h.sound.count;
+    pages = h.sound.pages;
+    stands = h.sound.stands;
+    lawful = h.sound.lawful;
+    counted = h.sound.counted;
+    features = h.sound.features;
+    placed = h.sound.placed;
+  };
+  legs = h.legs;
+}
+
+-- what a name stands for that was given to a store that holds a book, or that was left to what has its pages
+pub held_now : (s : Store) (shape : ShapeView) (limits : LimitsView) (book : Book) (was is : Option History) → HoldsBook s shape limits book → IsKept s was is → HoldsNow shape limits book is
+held_now s shape limits book (Some old) (Some new) h (inl n) =
+    subst (λ k. HoldsBook (store_in k) shape limits book) (sym n.next) (subst (λ k. HoldsBook k shape limits book) n.are (faults_apart s shape limits book h))
+held_now s shape limits book (Some old) None h (inl n) = tt
+held_now s shape limits book None (Some new) h (inl n) = absurd n
+held_now s shape limits book None None h (inl n) = tt
+held_now s shape limits book (Some old) is h (inr n) =
+    subst (HoldsNow shape limits book) (sym n.0) (subst (λ k. HoldsBook k shape limits book) n.1 (faults_apart s shape limits book h))
+held_now s shape limits book None is h (inr n) = subst (HoldsNow shape limits book) (sym n.0) tt
 
 -- a database that is opened with a book over the copy, and answers; the copy is then kept
 module _ {E F G : Type 0} (opened : Result DbView E) (ran : Result (Unit {0}) F) (kept : Result (Unit {0}) G) (files : List (List ℕ × List ℕ)) (sent sent' : Option (List ℕ)) (lines : List (List ℕ)) (first last : Store) (was is : Option History)
@@ -31,12 +68,16 @@ module _ {E F G : Type 0} (opened : Result DbView E) (ran : Result (Unit {0}) F)
       let i = subst (λ r. IfOk r (λ d. IsTrue first.is_faithful → IsIdle d)) (sym e) idle in
       let a = subst (λ r. IfOk r (λ d. IsSound d → HasPages d → IsIdle d → Answers d.index.tree.shape d.limits d.book files sent sent' lines last)) (sym e)
       (subst (λ r. OnOk r (IfOk opened (λ d. IsSound d → HasPages d → IsIdle d → Answers d.index.tree.shape d.limits d.book files sent sent' lines last))) done answers) in
+      let answer : Answers shape limits book files sent sent' lines last =
+      subst (λ b. Answers shape limits b files sent sent' lines last) h.book_is
+      (subst (λ l. Answers shape l db.book files sent sent' lines last) h.limits_are
+      (subst (λ t. Answers t db.limits db.book files sent sent' lines last) h.shape_is (a h.sound (p faithful) (i faithful)))) in
+      let kept_is = subst (λ r. OnOk r (IsKept last was is)) (sym k) keeps in
       subst (λ r. OnOk r (RunsBeside shape limits book files sent sent' lines was is)) k (record {
         store = last;
-        answers = subst (λ b. Answers shape limits b files sent sent' lines last) h.book_is
-            (subst (λ l. Answers shape l db.book files sent sent' lines last) h.limits_are
-            (subst (λ t. Answers t db.limits db.book files sent sent' lines last) h.shape_is (a h.sound (p faithful) (i faithful))));
-        kept = subst (λ r. OnOk r (IsKept last was is)) (sym k) keeps;
+        answers = answer;
+        kept = kept_is;
+        held = held_now last shape limits answer.after was is answer.holds kept_is;
       })
 
 -- a result that is given only where a fact holds has it

@@ -1,5 +1,6 @@
 -- What a run of the program sends, and what its store then holds.
-use Rattle.std.specs.Prelude.{ℕ, ◌≡◌, List, length, Option}
+use Rattle.std.specs.Prelude.{ℕ, ◌≡◌, List, length, take, Option}
+use Rattle.std.specs.Io.KnownBytes.{Appends}
 use Rattle.legs.specs.Book.{Book}
 use Rattle.legs.specs.Costs.{ShapeView}
 use Rattle.legs.specs.Limits.{LimitsView}
@@ -10,12 +11,12 @@ use Rattle.catalogue.specs.Beginning.{IsLeftOver}
 use Rattle.version1.specs.Migrating.{IsBrought}
 use Rattle.catalogue.specs.Saved.{CatalogueView}
 use Rattle.migration.specs.Bringing.{IsMigratingFault}
-use Rattle.trajdb.specs.Run.{HasRun}
+use Rattle.trajdb.specs.Run.{HasRun, IsPrefixOf, IsRunText}
 use Rattle.trajdb.specs.declared.OpenFault.TheVariants as opening
 use Rattle.trajdb.specs.declared.Report.{Report}
 use Rattle.trajdb.specs.declared.RunFault.TheVariants as run
 use Rattle.mftb.specs.declared.fault.Fault.{Fault}
-use Rattle.mftb.specs.declared.fault.Fault.TheVariants.{Run, Open, CannotRead, NotEmpty, NoPart, InUse}
+use Rattle.mftb.specs.declared.fault.Fault.TheVariants.{Run, Open, CannotRead, CannotWrite, NotEmpty, NoPart, InUse}
 
 -- the shape of the tree of a new database
 abbrev pub new_shape : ShapeView
@@ -27,6 +28,15 @@ pub record Answers (shape : ShapeView) (limits : LimitsView) (book : Book) (file
   pub after : Book
   pub run : HasRun limits files sent sent' book after lines
   pub holds : HoldsBook store shape limits after
+
+-- what was sent is the front of the answers to the first lines, each over the book after the lines before
+pub record SendsFront (limits : LimitsView) (book : Book) (files : List (List ℕ × List ℕ)) (sent sent' : Option (List ℕ)) (lines : List (List ℕ)) : Type 0 where
+  pub front : List ℕ
+  pub sends : Appends sent sent' front
+  pub done : ℕ
+  pub text : List ℕ
+  pub answers : IsRunText limits files book (take done lines) text
+  pub is_front : IsPrefixOf front text
 
 -- the store holds the book, in a tree of that shape; the report says how many pages the store has, and how many legs and
 -- features the book
@@ -52,6 +62,7 @@ IsOverFault old after new left (Run run.Failed) = ⊥
 IsOverFault old after new left (Run run.Output) = ⊥
 IsOverFault old after new left (Open fault) = IsMigratingFault old after new left fault
 IsOverFault old after new left (CannotRead name) = ⊥
+IsOverFault old after new left (CannotWrite name) = ⊥
 IsOverFault old after new left NotEmpty = ⊥
 IsOverFault old after new left (NoPart part parts) = ⊥
 IsOverFault old after new left InUse = ⊥
@@ -74,6 +85,7 @@ IsNotOver new left (Open opening.Unfinished) = ⊥
 IsNotOver new left (Open opening.Version) = ⊥
 IsNotOver new left (Open opening.Malformed) = ⊥
 IsNotOver new left (CannotRead name) = ⊥
+IsNotOver new left (CannotWrite name) = ⊥
 IsNotOver new left NotEmpty = ⊥
 IsNotOver new left (NoPart part parts) = ⊥
 IsNotOver new left InUse = ⊥

@@ -1,21 +1,29 @@
 -- What the name of a store stands for, from moment to moment, and what a run makes of it.
-use Rattle.std.specs.Prelude.{ℕ, ◌≡◌, ◌⊎◌, List, [], ◌∷◌, Option, Some, None, ⊤}
+use Rattle.std.specs.Prelude.{ℕ, ◌≡◌, ◌⊎◌, ◌^◌, ◌-◌, List, [], ◌∷◌, length, Option, Some, None, IfSome, true, ⊤}
 use Rattle.legs.specs.Book.{Book}
 use Rattle.legs.specs.Costs.{ShapeView}
 use Rattle.legs.specs.Limits.{LimitsView}
 use Rattle.pages.specs.Store.{Store}
-use Rattle.pages.specs.Bytes.{whole_pages}
+use Rattle.catalogue.specs.Holding.{HoldsBook}
 use Rattle.mftb.specs.Answers.{Answers}
 
--- the bytes of the file of that name at each moment so far, the last one first; `None` where there was no file
+-- the pages of the file of that name at each moment so far, the last one first; `None` where there was no file
 abbrev pub History : Type 0
-History = List (Option (List ℕ))
+History = List (Option (List (List ℕ)))
 
--- the store of what the name stands for now: one without a page where there is no file
+-- the store of a file of these pages
+abbrev pub file_store : List (List ℕ) → Store
+file_store pages = record { count = length pages; most = 2 ^ 32 - 1; faults = 0; is_faithful = true; pages = pages }
+
+-- the pages of a file, or none where there is no file
+abbrev pub pages_in : Option (List (List ℕ)) → List (List ℕ)
+pages_in None = []
+pages_in (Some pages) = pages
+
+-- the store of what the name stands for now
 abbrev pub store_in : History → Store
-store_in [] = whole_pages []
-store_in (None ∷ past) = whole_pages []
-store_in (Some bytes ∷ past) = whole_pages bytes
+store_in [] = file_store []
+store_in (now ∷ past) = file_store (pages_in now)
 
 -- a store has the same pages as another one
 abbrev pub HasPagesOf : Store → Store → Type 0
@@ -29,9 +37,9 @@ HasPagesHeld store None = ⊤
 -- the name stands for a file of these pages now, and did at each moment before for what it stood for then: nothing came
 -- between
 pub record IsNext (store : Store) (old new : History) : Type 0 where
-  pub bytes : List ℕ
-  pub pages : HasPagesOf store (whole_pages bytes)
-  pub next : new ≡ Some bytes ∷ old
+  pub pages : List (List ℕ)
+  pub are : HasPagesOf store (file_store pages)
+  pub next : new ≡ Some pages ∷ old
 
 -- that, where a folder tells it
 abbrev pub IsReplaced : Store → Option History → Option History → Type 0
@@ -48,8 +56,14 @@ IsKept store old new = IsReplaced store old new ⊎ ((new ≡ old) × HasPagesHe
 abbrev pub IsKeptOnce : Option History → Option History → Type 0
 IsKeptOnce old new = (store : Store) × IsKept store old new
 
--- the store of a run over a book that is answered, and of which nothing else than its pages takes the name
+-- what the name stands for now holds the book, where a folder tells it
+abbrev pub HoldsNow : ShapeView → LimitsView → Book → Option History → Type 0
+HoldsNow shape limits book held = IfSome held (λ now. HoldsBook (store_in now) shape limits book)
+
+-- the store of a run over a book that is answered, and of which nothing else than its pages takes the name, which then
+-- stands for a file that holds the book after the run: a later run finds it
 pub record RunsBeside (shape : ShapeView) (limits : LimitsView) (book : Book) (files : List (List ℕ × List ℕ)) (sent sent' : Option (List ℕ)) (lines : List (List ℕ)) (old new : Option History) : Type 0 where
   pub store : Store
   pub answers : Answers shape limits book files sent sent' lines store
   pub kept : IsKept store old new
+  pub held : HoldsNow shape limits answers.after new

@@ -1,11 +1,49 @@
 -- What the program sends of a file that is split by feature.
-use Rattle.std.specs.Prelude.{ℕ, ◌≡◌, List, Option}
+use Rattle.std.specs.Prelude.{ℕ, ◌≡◌, ◌≤◌, ◌+◌, ◌++◌, ◌∷◌, ◌⊎◌, [], List, Option, Some, None, length, map, take}
+use Rattle.std.specs.List.{range_with_len}
 use Rattle.std.specs.Io.KnownBytes.{Appends}
 use Rattle.mfcsv.specs.FileText.{file_text}
-use Rattle.parts.specs.Part.{said_part}
+use Rattle.parts.specs.Part.{said_part, whole_part}
+use Rattle.trajdb.specs.Run.{IsPrefixOf}
 
--- the text that was sent says what part k of n of the file is to say
+-- a text says what part k of n of the file is to say
+abbrev pub SaysPart : (k n : ℕ) → List ℕ → List ℕ → Type 0
+SaysPart k n bytes text = file_text text ≡ said_part k n (file_text bytes)
+
+-- the text that was sent says it
 pub record SendsPart (k n : ℕ) (bytes : List ℕ) (sent sent' : Option (List ℕ)) : Type 0 where
   pub text : List ℕ
   pub appended : Appends sent sent' text
-  pub says : file_text text ≡ said_part k n (file_text bytes)
+  pub says : SaysPart k n bytes text
+
+-- what was sent is the front of a text that says it, or nothing
+pub record SendsSome (k n : ℕ) (bytes : List ℕ) (sent sent' : Option (List ℕ)) : Type 0 where
+  pub front : List ℕ
+  pub appended : Appends sent sent' front
+  pub of : (front ≡ []) ⊎ ((text : List ℕ) × SaysPart k n bytes text × IsPrefixOf front text)
+
+-- parts that were put into a folder, in order, with their texts
+abbrev pub Puts : Type 0
+Puts = List (ℕ × List ℕ)
+
+-- with more behind them, where a folder tells it
+abbrev pub with_puts : Option Puts → Puts → Option Puts
+with_puts (Some before) more = Some (before ++ more)
+with_puts None more = None
+
+-- texts of parts from that number on
+abbrev pub numbered : ℕ → List (List ℕ) → Puts
+numbered part [] = []
+numbered part (text ∷ texts) = (part, text) ∷ numbered (part + 1) texts
+
+-- the parts of n of these bytes from one on, so many
+abbrev pub parts_from : ℕ → ℕ → ℕ → List ℕ → Puts
+parts_from first count n bytes = map (λ k. (k, whole_part k n bytes)) (range_with_len first count)
+
+-- the first ones of these were put, and no other
+abbrev pub HasFirst : ℕ → ℕ → ℕ → List ℕ → Option Puts → Option Puts → Type 0
+HasFirst first count n bytes old new = (some : ℕ) × (some ≤ count) × (new ≡ with_puts old (parts_from first some n bytes))
+
+-- the same of texts
+abbrev pub HasFirstTexts : ℕ → List (List ℕ) → Option Puts → Option Puts → Type 0
+HasFirstTexts part texts old new = (count : ℕ) × (count ≤ length texts) × (new ≡ with_puts old (numbered part (take count texts)))

@@ -1,20 +1,20 @@
 //! A run that works on a copy beside the store.
-ghost use Rattle.std.specs.Prelude.{◌≡◌, ◌<◌, IfSome, IsTrue, OnErr, OnOk, false};
+ghost use Rattle.std.specs.Prelude.{◌≡◌, ◌<◌, IfSome, IsTrue, OnErr, OnOk};
 ghost use Rattle.legs.specs.Book.{Book, empty_book};
 ghost use Rattle.legs.specs.Costs.{ShapeView};
 ghost use Rattle.legs.specs.Limits.{limits_of, LimitsView};
 ghost use Rattle.catalogue.specs.Holding.{HoldsBook};
 ghost use Rattle.trajdb.specs.Script.{lines_of};
 ghost use Rattle.mftb.specs.Answers.{new_shape};
-ghost use Rattle.mftb.specs.Folder.{IsKept, IsKeptOnce, RunsBeside, store_in};
+ghost use Rattle.mftb.specs.Folder.{IsKept, IsKeptOnce, IsReplaced, RunsBeside, store_in};
 
 use crate::fault::Fault;
-use crate::folder::Folder;
+use crate::folder::{Folder, Lasting};
 use crate::session::{answer, database};
 use std::alloc::Global;
 use std::hash::RandomState;
 use std::io::Write;
-use trajdb::Files;
+use trajdb::{Files, RunFault};
 
 /// How the database of a store is made or opened.
 #[derive(Clone, Copy)]
@@ -27,17 +27,38 @@ pub(crate) struct Opening {
     pub(crate) cache_pages: u32,
 }
 
+/// Gives the store's name to a copy whose pages are on the disk, and makes that last.
+fn give<'a, F: Folder>(folder: &mut F, mut store: F::Store) -> Result<(), Fault<'a>>
+    ensures replaced { OnOk result (IsReplaced (F.Store.PageStore.seen store) (F.held folder.old)
+        (F.held folder.new)) }
+    ensures stays { OnErr result (F.held folder.new ≡ F.held folder.old) }
+    ensures settled { OnOk result (IsTrue (F.is_settled folder.new)) }
+{
+    if store.make_last().is_err() {
+        return Err(Fault::Run(RunFault::Store));
+    }
+    match folder.replace(store) {
+        Ok(()) => {
+            folder.settle();
+            Ok(())
+        }
+        Err(fault) => Err(fault),
+    }
+}
+
 /// Gives the store's name to a copy, where a page of it was written, and takes it away otherwise.
 fn keep<'a, F: Folder>(folder: &mut F, store: F::Store) -> Result<(), Fault<'a>>
     ensures kept { OnOk result (IsKept (F.Store.PageStore.seen store) (F.held folder.old)
         (F.held folder.new)) }
     ensures stays { OnErr result (F.held folder.new ≡ F.held folder.old) }
+    ensures settled { OnOk result (IsTrue (F.is_settled folder.old)
+        → IsTrue (F.is_settled folder.new)) }
 {
     if !folder.differs(&store) {
         folder.discard();
         return Ok(());
     }
-    match folder.replace(store) {
+    match give(folder, store) {
         Ok(()) => Ok(()),
         Err(fault) => {
             folder.discard();
@@ -60,8 +81,8 @@ pub(crate) fn run_on_copy<'a, F: Folder, W: Write>(
     // What was sent is exactly the text of the run over the book that the store held, or the empty one
     // where it is made; the store's name stood for what it stood for until, at one moment, it was given
     // to a file that holds the book after it.
-    ensures runs { OnOk result (IfSome (F.held folder.old) (λ past. how.is_new ≡ false
-        → (shape : ShapeView) (limits : LimitsView) (book : Book)
+    ensures runs { OnOk result (IfSome (F.held folder.old)
+        (λ past. (shape : ShapeView) (limits : LimitsView) (book : Book)
         → HoldsBook (store_in past) shape limits book
         → RunsBeside shape limits book files.now (W.contents out.old) (W.contents out.new)
         (lines_of script.now) (F.held folder.old) (F.held folder.new))) }
@@ -71,8 +92,11 @@ pub(crate) fn run_on_copy<'a, F: Folder, W: Write>(
         (W.contents out.old) (W.contents out.new) (lines_of script.now)
         (F.held folder.old) (F.held folder.new))) }
 
-    // Whatever the store held, the name was given to another file once at most.
+    // Whatever the store held, the name was given to another file once at most, and that is on the
+    // disk as far as the system can make it so.
     ensures once { OnOk result (IsKeptOnce (F.held folder.old) (F.held folder.new)) }
+    ensures settled { OnOk result (IsTrue (F.is_settled folder.old)
+        → IsTrue (F.is_settled folder.new)) }
 
     // Where it is refused the name stands for what it stood for, all along.
     ensures stays { OnErr result (F.held folder.new ≡ F.held folder.old) }

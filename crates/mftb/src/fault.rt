@@ -15,6 +15,8 @@ pub(crate) enum Fault<'a> {
     Open(OpenFault),
     /// The script or a file of that name could not be read, or is too long.
     CannotRead(&'a str),
+    /// A file of a part could not be written into the folder of that name.
+    CannotWrite(&'a str),
     /// The file that a store was to be brought over into is there, and has bytes.
     NotEmpty,
     /// There is no part of that number among so many.
@@ -71,6 +73,7 @@ impl Display for Fault<'_> {
             Fault::Run(RunFault::Failed) => f.write_str("failed"),
             Fault::Run(RunFault::Output) => f.write_str("output"),
             Fault::CannotRead(name) => write!(f, "cannot read {name}"),
+            Fault::CannotWrite(name) => write!(f, "cannot write {name}"),
             Fault::NotEmpty => f.write_str("new store not empty"),
             Fault::NoPart(part, parts) => {
                 write!(f, "no part {part} of {parts}: parts are numbered from 0")

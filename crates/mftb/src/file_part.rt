@@ -1,7 +1,8 @@
 //! The part of a file that has the features of one of several parts.
-ghost use Rattle.std.specs.Prelude.{◌≡◌, ◌<◌, OnOk};
-ghost use Rattle.mftb.specs.Parts.{SendsPart};
+ghost use Rattle.std.specs.Prelude.{◌<◌, OnErr, OnOk};
+ghost use Rattle.mftb.specs.Parts.{SendsPart, SendsSome};
 
+use crate::answering::send_all;
 use crate::fault::Fault;
 use crate::reading::{MOST_BYTES, read_named};
 use crate::words::Part;
@@ -20,17 +21,15 @@ fn send_part<'a, W: Write>(
     out: &mut W,
 ) -> Result<(), Fault<'a>>
     requires { k < n }
-    // What was sent says exactly the records of the part, under their numbers in the whole, or the fault of the whole.
-    ensures { OnOk result (SendsPart k n bytes.now (W.contents out.old) (W.contents out.new)) }
+    // What was sent says exactly the records of the part, under their numbers in the whole, or the
+    // fault of the whole; where it is refused, what was sent is the front of such a text, or nothing.
+    ensures sends { OnOk result (SendsPart k n bytes.now (W.contents out.old) (W.contents out.new)) }
+    ensures cut { OnErr result (SendsSome k n bytes.now (W.contents out.old) (W.contents out.new)) }
 {
-    let text = part(alloc, u64::from(k), u64::from(n), bytes)?;
-    if out.write_all(text.as_slice()).is_err() {
-        return Err(Fault::Run(RunFault::Output));
+    match part(alloc, u64::from(k), u64::from(n), bytes) {
+        Ok(text) => send_all(out, &text),
+        Err(_) => Err(Fault::Run(RunFault::Memory)),
     }
-    if out.flush().is_err() {
-        return Err(Fault::Run(RunFault::Output));
-    }
-    Ok(())
 }
 
 /// Reads a file, and prints its part.

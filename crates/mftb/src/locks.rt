@@ -18,18 +18,26 @@ pub(crate) enum Hold {
     Shared,
 }
 
-/// Takes the lock of a file, at once or not at all. A file system without locks gives none, and
-/// stops nobody.
-fn lock<'a>(file: &File, hold: Hold) -> Result<(), Fault<'a>> {
+/// A file that a run holds open.
+#[derive(Drop)]
+pub(crate) struct Held {
+    pub(crate) file: File,
+    /// Whether its lock is held. A file system without locks gives none, and stops nobody.
+    pub(crate) is_locked: bool,
+}
+
+/// Takes the lock of a file, at once or not at all, and answers whether it was given: a file system
+/// without locks gives none.
+fn lock<'a>(file: &File, hold: Hold) -> Result<bool, Fault<'a>> {
     let taken = match hold {
         Hold::Alone => file.try_lock(),
         Hold::Shared => file.try_lock_shared(),
     };
     match taken {
-        Ok(()) => Ok(()),
+        Ok(()) => Ok(true),
         Err(TryLockError::WouldBlock) => Err(Fault::InUse),
         Err(TryLockError::Error(error)) => match error.kind() {
-            io::ErrorKind::Unsupported => Ok(()),
+            io::ErrorKind::Unsupported => Ok(false),
             _ => Err(Fault::Run(RunFault::Store)),
         },
     }
@@ -41,7 +49,7 @@ fn is_same(one: &Metadata, other: &Metadata) -> bool {
 }
 
 /// Whether a name is that of an open file.
-fn is_named<R: Files<File = File>>(rt: &R, name: &str, file: &File) -> bool {
+pub(crate) fn is_named<R: Files<File = File>>(rt: &R, name: &str, file: &File) -> bool {
     match (fs::metadata(rt, name), file.metadata()) {
         (Ok(named), Ok(open)) => is_same(&named, &open),
         _ => false,
@@ -52,7 +60,7 @@ fn is_named<R: Files<File = File>>(rt: &R, name: &str, file: &File) -> bool {
 #[derive(Drop)]
 enum Met {
     /// The file, held.
-    Held(File),
+    Held(Held),
     /// There is none of that name.
     Absent,
     /// Another file has that name by now.
@@ -72,9 +80,9 @@ fn look<'a, R: Files<File = File>>(
         Err(error) if error.kind() == io::ErrorKind::AlreadyExists => return Ok(Met::Passed),
         Err(_) => return Err(Fault::Run(RunFault::Store)),
     };
-    lock(&file, hold)?;
+    let is_locked = lock(&file, hold)?;
     if is_named(rt, name, &file) {
-        Ok(Met::Held(file))
+        Ok(Met::Held(Held { file, is_locked }))
     } else {
         Ok(Met::Passed)
     }
@@ -87,10 +95,10 @@ pub(crate) fn open_held<'a, R: Files<File = File>>(
     name: &str,
     how: &OpenOptions,
     hold: Hold,
-) -> Result<Option<File>, Fault<'a>> {
+) -> Result<Option<Held>, Fault<'a>> {
     for _ in 0..MOST_LOOKS {
         match look(rt, name, how, hold)? {
-            Met::Held(file) => return Ok(Some(file)),
+            Met::Held(held) => return Ok(Some(held)),
             Met::Absent => return Ok(None),
             Met::Passed => {}
         }
@@ -115,10 +123,10 @@ fn look_or_make<'a, R: Files<File = File>>(rt: &R, name: &str) -> Result<Met, Fa
 }
 
 /// Opens the file of a name, which only has to be there, or makes it, and holds it alone.
-pub(crate) fn hold_name<'a, R: Files<File = File>>(rt: &R, name: &str) -> Result<File, Fault<'a>> {
+pub(crate) fn hold_name<'a, R: Files<File = File>>(rt: &R, name: &str) -> Result<Held, Fault<'a>> {
     for _ in 0..MOST_LOOKS {
-        if let Met::Held(file) = look_or_make(rt, name)? {
-            return Ok(file);
+        if let Met::Held(held) = look_or_make(rt, name)? {
+            return Ok(held);
         }
     }
     Err(Fault::InUse)

@@ -1,5 +1,5 @@
 //! A trajectory database on the command line: `mftb run STORE SCRIPT [FILES]...`, `mftb check STORE`,
-//! `mftb migrate OLD NEW`, `mftb part K N FILE`.
+//! `mftb migrate OLD NEW`, `mftb part K N FILE`, `mftb parts N FILE DIR`.
 #![tactic(auto)]
 
 mod answering;
@@ -7,6 +7,7 @@ mod beside;
 mod check;
 mod fault;
 mod file_part;
+mod file_parts;
 mod folder;
 mod followed;
 mod held_file;
@@ -15,6 +16,7 @@ mod migrate;
 mod names;
 mod noted;
 mod opening;
+mod part_files;
 mod progress;
 mod read_only;
 mod reading;
@@ -60,5 +62,9 @@ fn main(rt: HostRuntime) -> ExitCode {
     }
 }
 
+#[cfg(test)]
+mod copy_tests;
+#[cfg(test)]
+mod memory_folder;
 #[cfg(test)]
 mod tests;

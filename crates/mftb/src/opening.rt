@@ -29,14 +29,17 @@ pub(crate) fn is_special<R: Files<File = File>>(rt: &R, name: &str) -> bool {
     }
 }
 
-/// Takes away the copy that a run left beside a store that was killed, where no run works there.
+/// Takes away the copy that a run left beside a store that was killed, where no run works there: the
+/// lock says so, and where there are no locks the copy stays.
 pub(crate) fn sweep<R: Files<File = File>>(rt: &R, names: &Names) {
     if !is_left(rt, names.copy.as_str()) {
         return;
     }
     let mut how = File::options();
     how.read(true);
-    if let Ok(Some(_lock)) = open_held(rt, names.lock.as_str(), &how, Hold::Alone) {
+    if let Ok(Some(lock)) = open_held(rt, names.lock.as_str(), &how, Hold::Alone)
+        && lock.is_locked
+    {
         let _ = fs::remove_file(rt, names.copy.as_str());
         let _ = fs::remove_file(rt, names.lock.as_str());
     }
@@ -54,10 +57,10 @@ fn open_store<'a, R: Files<File = File>>(
     how: &OpenOptions,
     hold: Hold,
 ) -> Result<FileStore<HeldFile<File>>, Fault<'a>> {
-    let Some(file) = open_held(rt, name, how, hold)? else {
+    let Some(held) = open_held(rt, name, how, hold)? else {
         return Err(Fault::Run(RunFault::Store));
     };
-    match FileStore::new(HeldFile::new(file)) {
+    match FileStore::new(HeldFile::new(held.file)) {
         Ok(store) => Ok(store),
         Err(_) => Err(Fault::Run(RunFault::Store)),
     }

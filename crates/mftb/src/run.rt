@@ -79,8 +79,10 @@ fn run_in_place<'a, R: rt::Files<File = File> + rt::Clock + Eprint, W: Write>(
         Ok(store) => run_over(Noted::new(store, progress), how, script, files, out),
         Err(fault) => Err(fault),
     };
-    if lock.is_some() {
-        let _ = fs::remove_file(rt, names.copy.as_str());
+    if let Some(lock) = lock {
+        if lock.is_locked {
+            let _ = fs::remove_file(rt, names.copy.as_str());
+        }
         let _ = fs::remove_file(rt, names.lock.as_str());
     }
     result

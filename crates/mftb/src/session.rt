@@ -1,5 +1,5 @@
 //! A database over a store of any kind: it is made or opened, a script is run, and it is closed.
-ghost use Rattle.std.specs.Prelude.{◌≡◌, ◌<◌, false, Ok, IfOk, IsOk, IsTrue, OnOk};
+ghost use Rattle.std.specs.Prelude.{◌≡◌, ◌<◌, false, Ok, IfOk, IsErr, IsOk, IsTrue, OnErr, OnOk};
 ghost use Rattle.legs.specs.Costs.{ShapeView};
 ghost use Rattle.legs.specs.Limits.{limits_of, LimitsView};
 ghost use Rattle.legs.specs.Book.{Book, empty_book};
@@ -7,7 +7,7 @@ ghost use Rattle.trajdb.specs.Script.{lines_of};
 ghost use Rattle.catalogue.specs.Holding.{HoldsBook};
 ghost use Rattle.trajdb.specs.Db.{HasPages, IsSound};
 ghost use Rattle.trajdb.specs.Lasting.{HasBook, IsIdle};
-ghost use Rattle.mftb.specs.Answers.{new_shape, Answers};
+ghost use Rattle.mftb.specs.Answers.{new_shape, Answers, SendsFront};
 
 use crate::fault::Fault;
 use legs::Limits;
@@ -43,7 +43,7 @@ pub(crate) fn database<S: PageStore>(
     ensures new { IfOk result (λ db. IsTrue is_new → IsTrue (S.seen store).is_faithful
         → (S.seen store).count ≡ 0
         → HasBook new_shape (limits_of 16777216 1048576) empty_book db) }
-    ensures kept { IfOk result (λ db. is_new ≡ false → IsTrue (S.seen store).is_faithful
+    ensures kept { IfOk result (λ db. IsTrue (S.seen store).is_faithful
         → (shape : ShapeView) (limits : LimitsView) (book : Book)
         → HoldsBook (S.seen store) shape limits book → HasBook shape limits book db) }
     ensures pages { IfOk result (λ db. IsTrue (S.seen store).is_faithful → HasPages db) }
@@ -67,9 +67,14 @@ pub(crate) fn run_and_close<S: PageStore, W: Write>(
 ) -> (S, Result<(), RunFault>)
     // What was sent is exactly the text of the run over the book, and the store then holds the book
     // after it, in a tree of the same shape.
-    ensures { OnOk result.1 (IsSound database → HasPages database → IsIdle database
+    ensures runs { OnOk result.1 (IsSound database → HasPages database → IsIdle database
         → Answers database.index.tree.shape database.limits database.book files.now
         (W.contents out.old) (W.contents out.new) (lines_of script.now) (S.seen result.0)) }
+
+    // Where it is refused, what was sent is the front of that text.
+    ensures sent { OnErr result.1 (IsSound database → database.failed ≡ false
+        → SendsFront database.limits database.book files.now (W.contents out.old)
+        (W.contents out.new) (lines_of script.now)) }
 {
     let ran = database.run(alloc, script, files, out);
     let (store, closed) = database.close(alloc);
@@ -81,7 +86,8 @@ pub(crate) fn run_and_close<S: PageStore, W: Write>(
 
 /// What a run answers, as an answer of the program.
 fn answer_of<'a>(ran: Result<(), RunFault>) -> Result<(), Fault<'a>>
-    ensures { OnOk result (ran ≡ Ok tt) }
+    ensures ok { OnOk result (ran ≡ Ok tt) }
+    ensures err { OnErr result (IsErr ran) }
 {
     match ran {
         Ok(()) => Ok(()),
@@ -103,6 +109,13 @@ pub(crate) fn answer<'a, S: PageStore, W: Write>(
         → Answers db.index.tree.shape db.limits db.book files.now (W.contents out.old)
         (W.contents out.new) (lines_of script.now) (S.seen result.0))) }
     ensures opened { OnOk result.1 (IsOk database) }
+
+    // Where it is refused, what was sent is the front of that text, and nothing where there is no
+    // database.
+    ensures sent { OnErr result.1 (IfOk database (λ db. IsSound db → db.failed ≡ false
+        → SendsFront db.limits db.book files.now (W.contents out.old) (W.contents out.new)
+        (lines_of script.now))) }
+    ensures unsent { OnErr database (W.contents out.new ≡ W.contents out.old) }
 {
     match database {
         Ok(database) => {

@@ -4,6 +4,7 @@ ghost use Rattle.std.specs.Prelude.{◌≤◌};
 use crate::check::check;
 use crate::fault::Fault;
 use crate::file_part::print_part;
+use crate::file_parts::write_parts;
 use crate::migrate::migrate;
 use crate::run::run;
 use crate::words::{Task, read_words};
@@ -24,6 +25,7 @@ fn perform<
         Task::Check(task) => check(rt, task, out),
         Task::Migrate(task) => migrate(rt, task, out),
         Task::Part(task) => print_part(rt, task, out),
+        Task::Parts(task) => write_parts(rt, task),
     }
 }
 

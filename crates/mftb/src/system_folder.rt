@@ -1,16 +1,16 @@
 //! The folder of a store's file, as the system has it.
-ghost use Rattle.std.specs.Prelude.{None};
+ghost use Rattle.std.specs.Prelude.{◌≡◌, None};
 
 use crate::fault::Fault;
 use crate::folder::Folder;
 use crate::held_file::HeldFile;
-use crate::locks::{Hold, hold_name, open_held};
+use crate::locks::{Held, Hold, hold_name, is_named, open_held};
 use crate::names::Names;
 use crate::noted::Noted;
 use crate::progress::Progress;
-use pages::{FileStore, PageStore};
+use pages::FileStore;
 use std::fs::{File, Metadata};
-use std::io::Eprint;
+use std::io::{Eprint, Read, Write};
 use std::os::unix::fs::{MetadataExt, OpenOptionsExt, chown};
 use std::rt::{Clock, Files};
 use std::{fs, io};
@@ -18,6 +18,9 @@ use trajdb::RunFault;
 
 /// Who may read and write a copy while it is made: its maker.
 const OWN_MODE: u32 = 0o600;
+
+/// How many bytes are copied by one call of the system.
+const CHUNK: usize = 65_536;
 
 /// Who may read and write a new file, but for what the system takes off.
 const NEW_MODE: u32 = 0o666;
@@ -31,8 +34,12 @@ pub(crate) struct SystemFolder<'a, 'p, R: Files<File = File> + Clock + Eprint> {
     progress: &'a Progress<'p, R>,
     /// The store's file, where there is one.
     store: Option<File>,
-    /// The file whose lock is held.
-    lock: File,
+    /// The file that only has to be there, and whose lock is held where the file system has locks.
+    lock: Held,
+    /// Whether the file beside the store is this run's own copy.
+    is_made: bool,
+    /// Whether the system was asked to make each name last that was given.
+    is_settled: bool,
 }
 
 /// Takes a file's name away, where it has one.
@@ -48,7 +55,18 @@ fn remove<'a, R: Files>(rt: &R, name: &str) -> Result<(), Fault<'a>> {
 fn take_store<'a, R: Files<File = File>>(rt: &R, names: &Names) -> Result<Option<File>, Fault<'a>> {
     let mut how = File::options();
     how.read(true).write(true);
-    open_held(rt, names.store.as_str(), &how, Hold::Shared)
+    match open_held(rt, names.store.as_str(), &how, Hold::Shared)? {
+        Some(held) => Ok(Some(held.file)),
+        None => Ok(None),
+    }
+}
+
+/// Takes away the copy that a killed run left, where the lock says that no run works there.
+fn clear<'a, R: Files<File = File>>(rt: &R, names: &Names, lock: &Held) -> Result<(), Fault<'a>> {
+    if lock.is_locked {
+        return remove(rt, names.copy.as_str());
+    }
+    Ok(())
 }
 
 /// Gives a file the rights, and where the system lets it the owner and the group, of another one.
@@ -64,21 +82,49 @@ fn set_rights<R: Files<File = File>>(
     file.set_permissions(like.permissions())
 }
 
-/// Makes the file of a name, a copy of another one where there is one.
-fn make_copy<R: Files<File = File>>(
+/// Makes the file of a name that no other run has made.
+fn make<'a, R: Files<File = File>>(rt: &R, name: &str, mode: u32) -> Result<File, Fault<'a>> {
+    let mut how = File::options();
+    how.read(true).write(true).create_new(true).mode(mode);
+    match how.open(rt, name) {
+        Ok(copy) => Ok(copy),
+        Err(error) if error.kind() == io::ErrorKind::AlreadyExists => Err(Fault::InUse),
+        Err(_) => Err(Fault::Run(RunFault::Store)),
+    }
+}
+
+/// Whether the store's name is still that of its file, or there still is none.
+fn is_still<R: Files<File = File>>(rt: &R, name: &str, store: &Option<File>) -> bool {
+    match store {
+        Some(store) => is_named(rt, name, store),
+        None => fs::metadata(rt, name).is_err(),
+    }
+}
+
+/// Copies the bytes of a file to another one, from where both stand.
+fn copy_bytes(from: &mut File, to: &mut File) -> io::Result<()> {
+    let mut chunk = [0u8; CHUNK];
+    let mut left = from.metadata()?.len();
+    while left > 0 {
+        let count = from.read(&mut chunk)?;
+        if count == 0 {
+            return Err(io::Error::from(io::ErrorKind::UnexpectedEof));
+        }
+        to.write_all(&chunk[..count])?;
+        left = left.saturating_sub(count as u64);
+    }
+    Ok(())
+}
+
+/// Makes a new file a copy of another one, with its rights.
+fn fill<R: Files<File = File>>(
     rt: &R,
     name: &str,
-    store: &mut Option<File>,
-) -> io::Result<File> {
-    let mut how = File::options();
-    how.read(true).write(true).create_new(true);
-    how.mode(if store.is_some() { OWN_MODE } else { NEW_MODE });
-    let mut copy = how.open(rt, name)?;
-    if let Some(store) = store {
-        io::copy(store, &mut copy)?;
-        set_rights(rt, name, &copy, &store.metadata()?)?;
-    }
-    Ok(copy)
+    copy: &mut File,
+    store: &mut File,
+) -> io::Result<()> {
+    copy_bytes(store, copy)?;
+    set_rights(rt, name, copy, &store.metadata()?)
 }
 
 impl<'a, 'p, R: Files<File = File> + Clock + Eprint> SystemFolder<'a, 'p, R> {
@@ -89,7 +135,7 @@ impl<'a, 'p, R: Files<File = File> + Clock + Eprint> SystemFolder<'a, 'p, R> {
         progress: &'a Progress<'p, R>,
     ) -> Result<SystemFolder<'a, 'p, R>, Fault<'b>> {
         let lock = hold_name(rt, names.lock.as_str())?;
-        let taken = match remove(rt, names.copy.as_str()) {
+        let taken = match clear(rt, names, &lock) {
             Ok(()) => take_store(rt, names),
             Err(fault) => Err(fault),
         };
@@ -100,6 +146,8 @@ impl<'a, 'p, R: Files<File = File> + Clock + Eprint> SystemFolder<'a, 'p, R> {
                 progress,
                 store,
                 lock,
+                is_made: false,
+                is_settled: true,
             }),
             Err(fault) => {
                 let _ = fs::remove_file(rt, names.lock.as_str());
@@ -112,6 +160,30 @@ impl<'a, 'p, R: Files<File = File> + Clock + Eprint> SystemFolder<'a, 'p, R> {
     pub(crate) fn give_back(self) {
         let _ = fs::remove_file(self.rt, self.names.lock.as_str());
     }
+
+    /// Makes the copy. Where there are no locks, another run may have replaced the store before, whose
+    /// copy this one would take back: it is refused then.
+    fn make_copy<'b>(&mut self) -> Result<File, Fault<'b>>
+        ensures { self.new.is_settled ≡ self.old.is_settled }
+    {
+        let (rt, name) = (self.rt, self.names.copy.as_str());
+        let mode = if self.store.is_some() {
+            OWN_MODE
+        } else {
+            NEW_MODE
+        };
+        let mut copy = make(rt, name, mode)?;
+        self.is_made = true;
+        if !is_still(rt, self.names.store.as_str(), &self.store) {
+            return Err(Fault::InUse);
+        }
+        if let Some(store) = &mut self.store
+            && fill(rt, name, &mut copy, store).is_err()
+        {
+            return Err(Fault::Run(RunFault::Store));
+        }
+        Ok(copy)
+    }
 }
 
 impl<'a, 'p, R: Files<File = File> + Clock + Eprint> Folder for SystemFolder<'a, 'p, R> {
@@ -119,14 +191,13 @@ impl<'a, 'p, R: Files<File = File> + Clock + Eprint> Folder for SystemFolder<'a,
 
     ghost held = { λ _. None };
 
+    ghost is_settled = { λ s. s.is_settled };
+
     fn copy<'b>(&mut self) -> Result<Noted<'a, 'p, FileStore<HeldFile<File>>, R>, Fault<'b>> {
-        let fault = Fault::Run(RunFault::Store);
-        let Ok(copy) = make_copy(self.rt, self.names.copy.as_str(), &mut self.store) else {
-            return Err(fault);
-        };
+        let copy = self.make_copy()?;
         match FileStore::new(HeldFile::new(copy)) {
             Ok(store) => Ok(Noted::new(store, self.progress)),
-            Err(_) => Err(fault),
+            Err(_) => Err(Fault::Run(RunFault::Store)),
         }
     }
 
@@ -136,17 +207,26 @@ impl<'a, 'p, R: Files<File = File> + Clock + Eprint> Folder for SystemFolder<'a,
 
     fn replace<'b>(
         &mut self,
-        mut store: Noted<'a, 'p, FileStore<HeldFile<File>>, R>,
+        _store: Noted<'a, 'p, FileStore<HeldFile<File>>, R>,
     ) -> Result<(), Fault<'b>> {
         let (copy, name) = (self.names.copy.as_str(), self.names.store.as_str());
-        if store.sync().is_err() || fs::rename(self.rt, copy, name).is_err() {
+        self.is_settled = false;
+        if fs::rename(self.rt, copy, name).is_err() {
             return Err(Fault::Run(RunFault::Store));
         }
-        self.names.sync(self.rt);
+        self.is_made = false;
         Ok(())
     }
 
+    fn settle(&mut self) {
+        self.names.sync(self.rt);
+        self.is_settled = true;
+    }
+
     fn discard(&mut self) {
-        let _ = fs::remove_file(self.rt, self.names.copy.as_str());
+        if self.is_made {
+            let _ = fs::remove_file(self.rt, self.names.copy.as_str());
+            self.is_made = false;
+        }
     }
 }

@@ -410,7 +410,9 @@ fn pages_asked(alloc: Global, words: &[&str]) -> Result<u32, Fail> {
     match &task {
         Task::Run(run) => Ok(run.cache_pages),
         Task::Check(check) => Ok(check.cache_pages),
-        Task::Migrate(_) | Task::Part(_) => Err(Fail::from("no cache of a database")),
+        Task::Migrate(_) | Task::Part(_) | Task::Parts(_) => Err(Fail::from(
+            "no cache of a database",
+        )),
     }
 }
 
@@ -426,7 +428,7 @@ const PART: &str = "
 @stboundedby,urn:x-ogc:def:crs:EPSG:6.6:4326,2D,50.23 9.23,50.31 9.27,2012-01-17T12:33:41Z,2012-01-17T12:37:00Z,sec
 @columns,mfidref,trajectory,state,xsd:token,type code,xsd:integer
 a,10,150,11.0 2.0 12.0 3.0,walking,1
-\"\"
+ 
 a,150,190,12.0 3.0 10.0 3.0,walking,2
 c,10,190,12.0 1.0 10.0 2.0 11.0 3.0,vehicle,1
 ";
@@ -440,6 +442,35 @@ fn a_part_of_a_file_is_printed(rt: HostRuntime) -> Result<(), Fail> {
     let line = b"mftb: no part 2 of 2: parts are numbered from 0\n";
     let refused = status == 2 && out.is_empty() && faults.as_slice() == line.as_slice();
     assert_eq!(rt; (printed, refused), (true, true));
+    Ok(())
+}
+
+#[test]
+fn all_parts_of_a_file_are_written(rt: HostRuntime) -> Result<(), Fail> {
+    fs::write(&rt, "whole.csv", STANDARD)?;
+    let (status, out, _) = answer(&rt, &["mftb", "parts", "2", "whole.csv", "."])?;
+    let written = status == 0
+        && out.is_empty()
+        && fs::read(&rt, "part-1.csv")?.as_slice() == PART.as_bytes();
+    let (status, _, faults) = answer(&rt, &["mftb", "parts", "2", "whole.csv", "none"])?;
+    let (status_two, _, _) = answer(
+        &rt,
+        &[
+            "mftb",
+            "parts",
+            "2",
+            "whole.csv",
+            ".",
+            "--first",
+            "1",
+            "--count",
+            "2",
+        ],
+    )?;
+    let refused = status_two == 2
+        && status == 1
+        && faults.as_slice() == b"mftb: cannot write none\n".as_slice();
+    assert_eq!(rt; (written, refused), (true, true));
     Ok(())
 }
 

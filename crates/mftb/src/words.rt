@@ -48,6 +48,21 @@ pub(crate) struct Part<'a> {
     pub(crate) file: &'a str,
 }
 
+/// What `mftb parts` is asked to do.
+#[derive(Clone, Copy)]
+pub(crate) struct Parts<'a> {
+    /// How many parts there are, at least 1.
+    pub(crate) parts: u32,
+    /// The number of the first part that is written, from 0.
+    pub(crate) first: u32,
+    /// How many are written; else all from that one on.
+    pub(crate) count: Option<u32>,
+    /// The name of the file.
+    pub(crate) file: &'a str,
+    /// The name of the folder that takes the files of the parts.
+    pub(crate) folder: &'a str,
+}
+
 /// What the program is asked to do.
 #[derive(Drop)]
 pub(crate) enum Task<'a> {
@@ -59,6 +74,8 @@ pub(crate) enum Task<'a> {
     Migrate(Migrate<'a>),
     /// To print a part of a file.
     Part(Part<'a>),
+    /// To write all parts of a file.
+    Parts(Parts<'a>),
 }
 
 /// How many pages the cache of a database holds where no other number is given.
@@ -79,6 +96,15 @@ fn cache_pages<'a>(alloc: Global) -> Arg<'a> {
         .help("How many pages of the file are kept in memory, 4096 bytes each")
         .value_parser(value_parser!(u32).range(1..))
         .default_value("256")
+}
+
+/// A word `--NAME N`.
+fn number<'a>(alloc: Global, name: &'a str, value: &'a str, help: &'a str) -> Arg<'a> {
+    Arg::new(alloc, name)
+        .long(name)
+        .value_name(value)
+        .help(help)
+        .value_parser(value_parser!(u32).range(0..))
 }
 
 /// The words of `mftb run`.
@@ -150,6 +176,23 @@ fn part_command<'a>(alloc: Global) -> Result<Command<'a>, AllocError> {
         .arg(required(alloc, "FILE", "The file; it is read and not written"))
 }
 
+/// The words of `mftb parts`.
+fn parts_command<'a>(alloc: Global) -> Result<Command<'a>, AllocError> {
+    Command::new(alloc, "parts")
+        .about("Writes the parts of a file into a folder, 16 by one pass")
+        .arg(required(alloc, "N", "How many parts there are").value_parser(value_parser!(u32).range(
+            1..,
+        )))?
+        .arg(required(alloc, "FILE", "The file; it is read and not written"))?
+        .arg(required(
+            alloc,
+            "DIR",
+            "The folder; part K is its file part-K.csv, which is replaced where it is there",
+        ))?
+        .arg(number(alloc, "first", "K", "Write no part before this one"))?
+        .arg(number(alloc, "count", "C", "Write only so many parts"))
+}
+
 fn mftb<'a>(alloc: Global) -> Result<Command<'a>, AllocError> {
     Command::new(alloc, "mftb")
         .about("A trajectory database")
@@ -158,7 +201,8 @@ fn mftb<'a>(alloc: Global) -> Result<Command<'a>, AllocError> {
         .subcommand(run_command(alloc)?)?
         .subcommand(check_command(alloc)?)?
         .subcommand(migrate_command(alloc)?)?
-        .subcommand(part_command(alloc)?)
+        .subcommand(part_command(alloc)?)?
+        .subcommand(parts_command(alloc)?)
 }
 
 /// How many pages the cache is to hold.
@@ -198,6 +242,13 @@ pub(crate) fn read_words<'a>(alloc: Global, words: &'a [String]) -> Result<Task<
             part: matches.get_one("K").unwrap_or(0),
             parts: matches.get_one("N").unwrap_or(1),
             file: matches.get_str("FILE").unwrap_or(""),
+        })),
+        Some(("parts", matches)) => Ok(Task::Parts(Parts {
+            parts: matches.get_one("N").unwrap_or(1),
+            first: matches.get_one("first").unwrap_or(0),
+            count: matches.get_one("count"),
+            file: matches.get_str("FILE").unwrap_or(""),
+            folder: matches.get_str("DIR").unwrap_or(""),
         })),
         Some((_, matches)) => Ok(Task::Run(run_of(alloc, matches)?)),
         None => Ok(Task::Run(Run {

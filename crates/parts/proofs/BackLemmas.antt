@@ -11,7 +11,7 @@ use Rattle.csv.specs.declared.parser.State.TheVariants as st
 use Rattle.csv.proofs.RoundTrip.{read-write}
 use Rattle.mfcsv.specs.Rows.{Row, cut, rows_of, without_marks}
 use Rattle.mfcsv.proofs.UnreadLemmas.{next-between}
-use Rattle.parts.specs.Part.{blank_row, fields_part, row_part, stays, text_part, whole_part}
+use Rattle.parts.specs.Part.{blank_fields, blank_row, fields_part, row_part, stays, text_part, whole_part}
 use Rattle.parts.specs.Written.{record_text, record_writer}
 
 -- a writer of records of any length writes a record as the default one does
@@ -132,7 +132,7 @@ kept_row : (k n : ℕ) (fields : List (List ℕ)) → read_back fields ≡ field
 unfolding cut
 kept_row k n fields some = by (stays k n (map cut fields))
   where
-    by : (b : Bool) → map cut (read_back (cond b fields blank_row)) ≡ cond b (map cut fields) blank_row
+    by : (b : Bool) → map cut (read_back (cond b fields blank_fields)) ≡ cond b (map cut fields) blank_row
     by true = ap (map cut) some
     by false = refl
 

@@ -59,7 +59,7 @@ blank_kind row e = rw e refl
 blank_is_text : list_all is_utf8 blank_row ≡ true
 blank_is_text = ap (λ b. b && true) (is_utf8-from_IsUtf8 [] IsUtf8-nil)
 
-blank_faults : (number : ℕ) (heads : HeadsView) → faults_of (line_of number heads blank_row) ≡ []
+pub blank_faults : (number : ℕ) (heads : HeadsView) → faults_of (line_of number heads blank_row) ≡ []
 unfolding has_fault kind_of
 blank_faults number heads = rw blank_is_text refl
 
@@ -72,7 +72,7 @@ unfolding kind_of
 blank_records number heads = no_records number heads blank_row (kind_of blank_row) refl refl
 
 -- the header lines after what stands in the place of a record
-no_header-heads : (number : ℕ) (heads : HeadsView) (row : Row) → is_header_row row ≡ false → heads_after number heads row ≡ heads
+pub no_header-heads : (number : ℕ) (heads : HeadsView) (row : Row) → is_header_row row ≡ false → heads_after number heads row ≡ heads
 unfolding kind_of
 no_header-heads number heads row h = elim (cases_Bool (is_blank_row row)) [
   | inl e ↦ heads_after-skipped number heads row (rw e refl)
@@ -82,7 +82,7 @@ no_header-heads number heads row h = elim (cases_Bool (is_blank_row row)) [
 goes_heads : (k n number : ℕ) (heads : HeadsView) (row : Row) → stays k n row ≡ false → heads_after number heads blank_row ≡ heads_after number heads row
 goes_heads k n number heads row e = blank_heads number heads ∙ sym (no_header-heads number heads row (goes k n row e).0)
 
-heads_one : (k n number : ℕ) (heads : HeadsView) (row : Row) → heads_after number heads (row_part k n row) ≡ heads_after number heads row
+pub heads_one : (k n number : ℕ) (heads : HeadsView) (row : Row) → heads_after number heads (row_part k n row) ≡ heads_after number heads row
 heads_one k n number heads row = by (stays k n row) refl
   where
     by : (b : Bool) → stays k n row ≡ b → heads_after number heads (cond b row blank_row) ≡ heads_after number heads row
@@ -90,7 +90,7 @@ heads_one k n number heads row = by (stays k n row) refl
     by false e = goes_heads k n number heads row e
 
 -- its faults
-faults_one : (k n number : ℕ) (heads : HeadsView) (row : Row) → faults_of (line_of number heads row) ≡ [] → faults_of (line_of number heads (row_part k n row)) ≡ []
+pub faults_one : (k n number : ℕ) (heads : HeadsView) (row : Row) → faults_of (line_of number heads row) ≡ [] → faults_of (line_of number heads (row_part k n row)) ≡ []
 faults_one k n number heads row none = by (stays k n row)
   where
     by : (b : Bool) → faults_of (line_of number heads (cond b row blank_row)) ≡ []
@@ -158,12 +158,12 @@ second_nil [] ys e = e
 second_nil (x ∷ xs) ys e = absurd (let s : x ∷ (xs ++ ys) ≡ [] = e in (cc))
 
 -- all records
-heads_all : (k n number : ℕ) (heads : HeadsView) (rows : List Row) → heads_from number heads (map (row_part k n) rows) ≡ heads_from number heads rows
+pub heads_all : (k n number : ℕ) (heads : HeadsView) (rows : List Row) → heads_from number heads (map (row_part k n) rows) ≡ heads_from number heads rows
 heads_all k n number heads [] = refl
 heads_all k n number heads (row ∷ rows) =
     ap (λ (h : HeadsView). heads_from (number + 1) h (map (row_part k n) rows)) (heads_one k n number heads row) ∙ heads_all k n (number + 1) (heads_after number heads row) rows
 
-faults_all : (k n number : ℕ) (heads : HeadsView) (rows : List Row) → flat_map faults_of (lines_from number heads rows) ≡ [] → flat_map faults_of (lines_from number heads (map (row_part k n) rows)) ≡ []
+pub faults_all : (k n number : ℕ) (heads : HeadsView) (rows : List Row) → flat_map faults_of (lines_from number heads rows) ≡ [] → flat_map faults_of (lines_from number heads (map (row_part k n) rows)) ≡ []
 faults_all k n number heads [] none = refl
 faults_all k n number heads (row ∷ rows) none =
     let here : List (Code × ℕ) = faults_of (line_of number heads row) in
@@ -173,7 +173,7 @@ faults_all k n number heads (row ∷ rows) none =
     ∙ ap (λ (h : HeadsView). flat_map faults_of (lines_from (number + 1) h (map (row_part k n) rows))) (heads_one k n number heads row)
     ∙ faults_all k n (number + 1) (heads_after number heads row) rows (second_nil here behind none)
 
-records_all : (k n number : ℕ) (heads : HeadsView) (rows : List Row) → flat_map records_of (lines_from number heads (map (row_part k n) rows)) ≡ filter (is_own k n) (flat_map records_of (lines_from number heads rows))
+pub records_all : (k n number : ℕ) (heads : HeadsView) (rows : List Row) → flat_map records_of (lines_from number heads (map (row_part k n) rows)) ≡ filter (is_own k n) (flat_map records_of (lines_from number heads rows))
 records_all k n number heads [] = refl
 records_all k n number heads (row ∷ rows) =
     ap (λ (rs : List RecordView). rs ++ flat_map records_of (lines_from (number + 1) (heads_after number heads (row_part k n row)) (map (row_part k n) rows))) (records_one k n number heads row)
@@ -188,7 +188,7 @@ said_at k n (Some dimension) (Some start) bounds line records = refl
 said_at k n (Some dimension) None bounds line records = refl
 said_at k n None start bounds line records = refl
 
-said_with : (k n : ℕ) (bounds : Option BoundsView) (columns : Option ColumnsView) (records : List RecordView) → file_with bounds columns (filter (is_own k n) records) ≡ said_part k n (file_with bounds columns records)
+pub said_with : (k n : ℕ) (bounds : Option BoundsView) (columns : Option ColumnsView) (records : List RecordView) → file_with bounds columns (filter (is_own k n) records) ≡ said_part k n (file_with bounds columns records)
 said_with k n (Some bounds) (Some line) records = said_at k n bounds.dimension bounds.start bounds line records
 said_with k n (Some bounds) None records = refl
 said_with k n None columns records = refl

@@ -1,4 +1,6 @@
 pub mod Names
 pub mod Part
+pub mod Faults
 pub mod Raw
+pub mod Texts
 pub mod Written

@@ -1,5 +1,5 @@
 -- A part of a file.
-use Rattle.std.specs.Prelude.{ℕ, ◌||◌, Bool, if◌then◌else◌, List, [], ◌∷◌, filter, map, Result, Ok, Err}
+use Rattle.std.specs.Prelude.{ℕ, ◌==◌, ◌||◌, Bool, true, if◌then◌else◌, List, [], ◌∷◌, Option, Some, None, filter, map, Result, Ok, Err}
 use Rattle.std.specs.List.{flat_map}
 use Rattle.csv.specs.Reading.{records, default_config}
 use Rattle.mfcsv.specs.Rows.{Row, cut, field, without_marks}
@@ -7,7 +7,7 @@ use Rattle.mfcsv.specs.Header.{is_header_row}
 use Rattle.mfcsv.specs.Views.{RecordView}
 use Rattle.mfcsv.specs.declared.Code.{Code}
 use Rattle.mfcsv.specs.declared.File.{File}
-use Rattle.parts.specs.Names.{is_in}
+use Rattle.parts.specs.Names.{is_in, part_of}
 use Rattle.parts.specs.Written.{record_text}
 
 -- the record of a file belongs to part k of n
@@ -27,7 +27,20 @@ said_part k n (Err fault) = Err fault
 unfoldable pub stays : ℕ → ℕ → Row → Bool
 stays k n row = is_header_row row || is_in k n (field row 0)
 
--- a record of one blank field
+-- the part that has a record alone; none where each part has it
+unfoldable pub owner_of : ℕ → Row → Option ℕ
+owner_of n row = if is_header_row row then None else Some (part_of n (field row 0))
+
+-- whether part k has a record of that owner
+abbrev pub has : ℕ → Option ℕ → Bool
+has k (Some part) = part == k
+has k None = true
+
+-- a record of one blank field, as it is written: a space is shorter than a pair of quotes
+abbrev pub blank_fields : List (List ℕ)
+blank_fields = (32 ∷ []) ∷ []
+
+-- and as it is read
 abbrev pub blank_row : Row
 blank_row = [] ∷ []
 
@@ -37,7 +50,7 @@ row_part k n row = if stays k n row then row else blank_row
 
 -- the same of the fields of a record as they stand in the bytes
 abbrev pub fields_part : ℕ → ℕ → List (List ℕ) → List (List ℕ)
-fields_part k n fields = if stays k n (map cut fields) then fields else blank_row
+fields_part k n fields = if stays k n (map cut fields) then fields else blank_fields
 
 -- the text of what stands in the place of a record
 abbrev pub text_part : ℕ → ℕ → List (List ℕ) → List ℕ

@@ -2,19 +2,23 @@
 //!
 //! [`part`] gives part k of n of a file: a file with the same header lines that says exactly the
 //! records of the features of that part, each under its number in the whole, or exactly the fault of
-//! the whole. What a part is stands in `specs/Part.antt`.
+//! the whole. [`parts`] gives several parts by one pass, and leaves it to their readers to find faults.
+//! What a part is stands in `specs/Part.antt`.
 #![tactic(auto)]
 
-ghost use Rattle.std.specs.Prelude.{◌≡◌, ◌<◌, IfOk};
+ghost use Rattle.std.specs.Prelude.{◌≡◌, ◌<◌, ◌≤◌, ◌+◌, map, is_ok, Ok, IfOk};
+ghost use Rattle.std.specs.List.{range_with_len};
 ghost use Rattle.mfcsv.specs.FileText.{file_text};
-ghost use Rattle.parts.specs.Part.{said_part};
+ghost use Rattle.parts.specs.Faults.{FaultLaw};
+ghost use Rattle.parts.specs.Part.{file_part, said_part, whole_part};
 
 mod cutting;
 mod names;
 mod reading;
 mod records;
+mod texts;
 
-use crate::cutting::whole_part;
+use crate::cutting::whole_parts;
 use mfcsv::{FileFault, read_file};
 pub use names::part_of;
 use std::alloc::{AllocError, Global};
@@ -28,6 +32,29 @@ fn copy_of(alloc: Global, bytes: &[u8]) -> Result<Vec<u8>, AllocError>
     Ok(copy)
 }
 
+/// Whether the bytes of a file have no fault.
+fn is_whole(alloc: Global, bytes: &[u8]) -> Result<bool, AllocError>
+    ensures { IfOk result (λ whole. whole ≡ is_ok (file_text bytes.now)) }
+{
+    match read_file(alloc, bytes) {
+        Ok(_) => Ok(true),
+        Err(FileFault::Refused { .. }) => Ok(false),
+        Err(FileFault::Memory) => Err(AllocError),
+    }
+}
+
+/// The text of part `k` of `n`.
+fn whole_part(alloc: Global, k: u64, n: u64, bytes: &[u8]) -> Result<Vec<u8>, AllocError>
+    requires { k < n }
+    ensures { IfOk result (λ text. text.items ≡ whole_part k n bytes.now) }
+{
+    let mut texts = whole_parts(alloc, k, 1, n, bytes)?;
+    match texts.pop() {
+        Some(text) => Ok(text),
+        None => unreachable!(),
+    }
+}
+
 /// Part `k` of `n` of a file: its features are those of which [`part_of`] is `k`.
 ///
 /// A record of another feature leaves a blank record in its place, so every record keeps its number.
@@ -36,12 +63,41 @@ pub fn part(alloc: Global, k: u64, n: u64, bytes: &[u8]) -> Result<Vec<u8>, Allo
     requires { k < n }
     ensures { IfOk result (λ text. file_text text.items ≡ said_part k n (file_text bytes.now)) }
 {
-    match read_file(alloc, bytes) {
-        Ok(_) => whole_part(alloc, k, n, bytes),
-        Err(FileFault::Refused { .. }) => copy_of(alloc, bytes),
-        Err(FileFault::Memory) => Err(AllocError),
+    if is_whole(alloc, bytes)? {
+        whole_part(alloc, k, n, bytes)
+    } else {
+        copy_of(alloc, bytes)
     }
 }
+
+/// The parts of `n` from `first` on, so many, in that order, by one pass over a file.
+///
+/// The file is not looked through for faults: a record that has one stays in the part that its name falls
+/// to, and so do header lines in each part. See [`fault_laws`].
+pub fn parts(
+    alloc: Global,
+    first: u64,
+    count: u64,
+    n: u64,
+    bytes: &[u8],
+) -> Result<Vec<Vec<u8>>, AllocError>
+    requires some { 0 < n }
+    requires within { first + count ≤ n }
+    // Each record stays in its place, or leaves a blank one there.
+    ensures texts { IfOk result (λ texts. map (λ text. text.items) texts.items
+        ≡ map (λ k. whole_part k n bytes.now) (range_with_len first count)) }
+    // Of a file without a fault each part says the same head, and its own records under their numbers.
+    ensures says { IfOk (file_text bytes.now) (λ file. IfOk result (λ texts.
+        map (λ text. file_text text.items) texts.items
+        ≡ map (λ k. Ok (file_part k n file)) (range_with_len first count))) }
+{
+    whole_parts(alloc, first, count, n, bytes)
+}
+
+/// What the parts of a file with a fault say, for the proofs of a caller. It does nothing.
+pub fn fault_laws()
+    ensures { FaultLaw }
+{}
 
 #[cfg(test)]
 mod tests;

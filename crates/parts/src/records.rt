@@ -28,7 +28,7 @@ impl Model for Records {
 impl Records {
     ghost use Rattle.std.specs.Prelude.{◌≡◌, ◌++◌, ◌∷◌, [], IfOk, OnOk, false};
     ghost use Rattle.csv.specs.Records.{fields_of};
-    ghost use Rattle.parts.specs.Part.{blank_row};
+    ghost use Rattle.parts.specs.Part.{blank_fields};
     ghost use Rattle.parts.specs.Written.{record_text, written};
 
     /// A line end, and no record.
@@ -59,13 +59,13 @@ impl Records {
         }
     }
 
-    /// Writes a record of one blank field behind the others.
+    /// Writes a record of one blank field behind the others: a space, in two bytes with its line end.
     pub(crate) fn push_blank(&mut self) -> Result<(), AllocError>
         requires { self.old.refused ≡ false }
-        ensures { OnOk result (self.new ≡ written (self.old.text ++ record_text blank_row)) }
+        ensures { OnOk result (self.new ≡ written (self.old.text ++ record_text blank_fields)) }
     {
         self.refused = true;
-        match self.writer.write_fields(&[b"".as_slice()]) {
+        match self.writer.write_fields(&[b" ".as_slice()]) {
             Ok(()) => {
                 self.refused = false;
                 Ok(())

@@ -1,4 +1,4 @@
-use crate::{part, part_of};
+use crate::{part, part_of, parts};
 use mfcsv::{FileFault, read_file};
 use std::test::Fail;
 
@@ -7,8 +7,8 @@ const HEAD: &str =
 
 #[test]
 fn numbers(rt: HostRuntime) {
-    assert!(rt; part_of(1000, b"a") == 97);
-    assert!(rt; part_of(1000000, b"ab") == 97 * 257 + 98);
+    assert!(rt; part_of(1000, b"a") == 673);
+    assert!(rt; part_of(1000000, b"ab") == 49824);
     assert!(rt; part_of(2, b"a") == 1);
     assert!(rt; part_of(2, b"b") == 0);
 }
@@ -21,10 +21,8 @@ fn halves(rt: HostRuntime) -> Result<(), Fail> {
     )?;
     let zero = part(alloc, 0, 2, text.as_bytes())?;
     let one = part(alloc, 1, 2, text.as_bytes())?;
-    let wanted_zero = format!(in alloc; "\n{HEAD}\"\"\n b ,0,10,0 0 10 0\n\"\"\n")?;
-    let wanted_one = format!(in alloc;
-        "\n{HEAD}a,0,10,0 0 10 0,\"x,\ny\"\n\"\"\na,10,20,10 0 0 0\n"
-    )?;
+    let wanted_zero = format!(in alloc; "\n{HEAD} \n b ,0,10,0 0 10 0\n \n")?;
+    let wanted_one = format!(in alloc; "\n{HEAD}a,0,10,0 0 10 0,\"x,\ny\"\n \na,10,20,10 0 0 0\n")?;
     assert!(rt; zero.as_slice() == wanted_zero.as_bytes());
     assert!(rt; one.as_slice() == wanted_one.as_bytes());
     let Ok(file) = read_file(alloc, one.as_slice()) else {
@@ -52,5 +50,18 @@ fn faults_stay(rt: HostRuntime) -> Result<(), Fail> {
             Err(FileFault::Refused { number: 4, .. })
         )
     );
+    Ok(())
+}
+
+#[test]
+fn one_pass(rt: HostRuntime) -> Result<(), Fail> {
+    let alloc = rt.alloc();
+    let text = format!(in alloc; "{HEAD}a,0,10,0 0 10 0\n b ,0,10,0 0 10 0\n")?;
+    let both = parts(alloc, 1, 2, 3, text.as_bytes())?;
+    assert!(rt; both.len() == 2);
+    for (place, half) in both.iter().enumerate() {
+        let alone = part(alloc, 1 + place as u64, 3, text.as_bytes())?;
+        assert!(rt; half.as_slice() == alone.as_slice());
+    }
     Ok(())
 }

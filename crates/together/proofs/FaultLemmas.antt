@@ -15,8 +15,8 @@ use Rattle.legs.proofs.LawLemmas.{law_with_file}
 use Rattle.legs.proofs.RecordLemmas.{with_record-legs, with_record-names}
 use Rattle.writer.specs.Entries.{EntryView}
 use Rattle.together.specs.Told.{all_told, told_leg}
-use Rattle.together.specs.Parts.{IsPartOf, IsTold, is_in, late, late_one, own_records}
-use Rattle.together.specs.Joining.{AcceptLaw, BookLaw, FaultsLaw, FirstLaw, Fits, FitsLaw, PartFaultsLaw, StayLaw, file_part, late_fault}
+use Rattle.together.specs.Parts.{IsPartOf, is_in, late, late_one, own_records}
+use Rattle.together.specs.Joining.{AcceptLaw, BookLaw, FaultsLaw, FirstLaw, FitsLaw, PartFaultsLaw, PartFitsLaw, StayLaw, file_part, late_fault}
 use Rattle.together.proofs.LateLemmas.{late_law, names_longer, part_law}
 
 pub book_law : BookLaw
@@ -79,8 +79,8 @@ shorter {X} p (x ∷ xs) = by (p x) (shorter p xs)
     by true h = omega arith
     by false h = omega arith
 
-part_fits : (f : List ℕ → ℕ) (k : ℕ) (whole part : Book) (limits : LimitsView) (records : List RecordView) → IsPartOf f k whole part → IsTold whole → IsTold part → Fits limits whole records → Fits limits part (own_records f k records)
-part_fits f k whole part limits records of is own_is fits =
+pub part_fits_law : PartFitsLaw
+part_fits_law f k whole part limits records of is own_is fits =
     let later = (part_law f k whole part records of is own_is).0 in
     let after = with_records whole records in
     let own = with_records part (own_records f k records) in
@@ -95,13 +95,10 @@ part_fits f k whole part limits records of is own_is fits =
     record { legs = omega (arith, a, b, c, d, few); features = omega (arith, g, h, few_names) }
 
 pub part_faults_law : PartFaultsLaw
-part_faults_law f k whole part limits file of is own_is fits =
-    let own_fits = part_fits f k whole part limits file.records of is own_is fits in (
-      own_fits,
-      ap (λ head. head_faults head file.head ++ record_faults limits part (own_records f k file.records)) of.head
-          ∙ ap (λ (l : List (JoinCode × ℕ)). head_faults whole.head file.head ++ l)
-          (faults_law limits part (own_records f k file.records) own_fits ∙ ap (map late_fault) (late_law f k whole part file.records of is own_is)),
-    )
+part_faults_law f k whole part own_limits file of is own_is own_fits =
+    ap (λ head. head_faults head file.head ++ record_faults own_limits part (own_records f k file.records)) of.head
+    ∙ ap (λ (l : List (JoinCode × ℕ)). head_faults whole.head file.head ++ l)
+    (faults_law own_limits part (own_records f k file.records) own_fits ∙ ap (map late_fault) (late_law f k whole part file.records of is own_is))
 
 -- the first record, and all
 pub first_law : FirstLaw
@@ -118,11 +115,11 @@ append_nil : {X : Type 0} (xs ys : List X) → xs ≡ [] → ys ≡ [] → xs ++
 append_nil xs ys e g = ap (λ l. l ++ ys) e ∙ g
 
 pub accept_law : AcceptLaw
-accept_law f n whole parts limits file are fits =
+accept_law f n whole parts limits own_limits file are fits own_fits =
     let heads : List (JoinCode × ℕ) = head_faults whole.head file.head in
     let early : List RecordView = late whole file.records in
     let all = ap (λ (l : List (JoinCode × ℕ)). heads ++ l) (faults_law limits whole file.records fits) in
-    let each = λ (k : ℕ) (less : k < n). (part_faults_law f k whole (parts k) limits file (are.each k less) are.whole_told (are.each_told k less) fits).1 in (
+    let each = λ (k : ℕ) (less : k < n). part_faults_law f k whole (parts k) (own_limits k) file (are.each k less) are.whole_told (are.each_told k less) (own_fits k less) in (
       (λ none k less.
           let joint : heads ++ map late_fault early ≡ [] = sym all ∙ none in
           let no_early : early ≡ [] = map_nil late_fault early (second_nil heads (map late_fault early) joint) in
@@ -138,7 +135,7 @@ pub after_is : (limits : LimitsView) (book : Book) (file : File) (legs : List Le
 after_is limits book file legs e = rw (e, book_after) refl
 
 pub stay_law : StayLaw
-stay_law f k whole part limits file a b of is own_is ok own_ok =
+stay_law f k whole part limits own_limits file a b of is own_is ok own_ok =
     let later = (part_law f k whole part file.records of is own_is).0 in
     let now : IsPartOf f k (with_file whole file) (with_file part (file_part f k file)) = record { head = ap (λ head. head_with head file.head) of.head; names = later.names; legs = later.legs } in
-    rw (after_is limits whole file a ok, after_is limits part (file_part f k file) b own_ok) now
+    rw (after_is limits whole file a ok, after_is own_limits part (file_part f k file) b own_ok) now

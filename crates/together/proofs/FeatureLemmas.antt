@@ -1,5 +1,5 @@
 -- The names of features of which a predicate holds.
-use Rattle.std.proofs.Common.{[], ◌∷◌, ◌<◌, ◌≡◌, ◌∙◌, ℕ, ap, sym, refl, subst, arith, List, Bool, true, false, cond, filter, length, map, ◌==◌}
+use Rattle.std.proofs.Common.{[], ◌∷◌, ◌<◌, ◌≡◌, ◌∙◌, ℕ, ap, sym, refl, subst, arith, List, Bool, true, false, cond, filter, length, map}
 use Rattle.std.proofs.lemmas.Bool.Decides.{nat_tests}
 use Rattle.std.specs.Prelude.{All, bytes_eq}
 use Rattle.std.specs.List.{range_with_len}

@@ -78,27 +78,27 @@ counts_together f n whole parts text own are says own_says =
       each = own_says;
     }
 
-answer_together : (f : List ℕ → ℕ) (n : ℕ) (whole : Book) (parts : ℕ → Book) (limits : LimitsView) (files : List (List ℕ × List ℕ)) (own_files : ℕ → List (List ℕ × List ℕ)) (command : Command) (text : List ℕ) (own : ℕ → List ℕ) → ArePartsOf f n whole parts
-    → IsAnswer limits files whole command text → ((k : ℕ) → k < n → IsAnswer limits (own_files k) (parts k) command (own k))
+answer_together : (f : List ℕ → ℕ) (n : ℕ) (whole : Book) (parts : ℕ → Book) (limits : LimitsView) (own_limits : ℕ → LimitsView) (files : List (List ℕ × List ℕ)) (own_files : ℕ → List (List ℕ × List ℕ)) (command : Command) (text : List ℕ) (own : ℕ → List ℕ) → ArePartsOf f n whole parts
+    → IsAnswer limits files whole command text → ((k : ℕ) → k < n → IsAnswer (own_limits k) (own_files k) (parts k) command (own k))
     → AnswerTogether f n whole.head command text own
-answer_together f n whole parts limits files own_files (Load name) text own are says own_says = tt
-answer_together f n whole parts limits files own_files Count text own are says own_says = counts_together f n whole parts text own are says own_says
-answer_together f n whole parts limits files own_files (Box rect period) text own are says own_says = box_together f n whole parts rect period text own are says own_says
-answer_together f n whole parts limits files own_files (Legs predicate rect period) text own are says own_says = legs_together f n whole parts predicate rect period text own are says own_says
-answer_together f n whole parts limits files own_files (Features predicate rect period) text own are says own_says = features_together f n whole parts predicate rect period text own are says own_says
-answer_together f n whole parts limits files own_files (Trajectory name) text own are says own_says =
+answer_together f n whole parts limits own_limits files own_files (Load name) text own are says own_says = tt
+answer_together f n whole parts limits own_limits files own_files Count text own are says own_says = counts_together f n whole parts text own are says own_says
+answer_together f n whole parts limits own_limits files own_files (Box rect period) text own are says own_says = box_together f n whole parts rect period text own are says own_says
+answer_together f n whole parts limits own_limits files own_files (Legs predicate rect period) text own are says own_says = legs_together f n whole parts predicate rect period text own are says own_says
+answer_together f n whole parts limits own_limits files own_files (Features predicate rect period) text own are says own_says = features_together f n whole parts predicate rect period text own are says own_says
+answer_together f n whole parts limits own_limits files own_files (Trajectory name) text own are says own_says =
     same_legs f n whole parts (track_of (feature_of whole.names name) whole.legs) (λ k. track_of (feature_of (parts k).names name) (parts k).legs) text own are says own_says
     (λ k less. trajectory_law f k whole (parts k) name (are.each k less) are.whole_told (are.each_told k less))
-answer_together f n whole parts limits files own_files Write text own are says own_says = tt
+answer_together f n whole parts limits own_limits files own_files Write text own are says own_says = tt
 
-said_together : (f : List ℕ → ℕ) (n : ℕ) (whole : Book) (parts : ℕ → Book) (limits : LimitsView) (files : List (List ℕ × List ℕ)) (own_files : ℕ → List (List ℕ × List ℕ)) (said : Result (Option Command) LineCode) (text : List ℕ) (own : ℕ → List ℕ) → ArePartsOf f n whole parts
-    → IsSaid limits files whole said text → ((k : ℕ) → k < n → IsSaid limits (own_files k) (parts k) said (own k))
+said_together : (f : List ℕ → ℕ) (n : ℕ) (whole : Book) (parts : ℕ → Book) (limits : LimitsView) (own_limits : ℕ → LimitsView) (files : List (List ℕ × List ℕ)) (own_files : ℕ → List (List ℕ × List ℕ)) (said : Result (Option Command) LineCode) (text : List ℕ) (own : ℕ → List ℕ) → ArePartsOf f n whole parts
+    → IsSaid limits files whole said text → ((k : ℕ) → k < n → IsSaid (own_limits k) (own_files k) (parts k) said (own k))
     → SayTogether f n whole.head said text own
-said_together f n whole parts limits files own_files (Ok (Some command)) text own are says own_says = answer_together f n whole parts limits files own_files command text own are says own_says
-said_together f n whole parts limits files own_files (Ok None) text own are says own_says = (says, own_says)
-said_together f n whole parts limits files own_files (Err code) text own are says own_says = λ k less. own_says k less ∙ sym says
+said_together f n whole parts limits own_limits files own_files (Ok (Some command)) text own are says own_says = answer_together f n whole parts limits own_limits files own_files command text own are says own_says
+said_together f n whole parts limits own_limits files own_files (Ok None) text own are says own_says = (says, own_says)
+said_together f n whole parts limits own_limits files own_files (Err code) text own are says own_says = λ k less. own_says k less ∙ sym says
 
 pub line_law : LineLaw
 unfolding IsLineText
-line_law f n whole parts limits files own_files line text own are says own_says =
-    said_together f n whole parts limits files own_files (line_of line) text own are says own_says
+line_law f n whole parts limits own_limits files own_files line text own are says own_says =
+    said_together f n whole parts limits own_limits files own_files (line_of line) text own are says own_says

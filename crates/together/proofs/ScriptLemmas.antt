@@ -63,17 +63,17 @@ refused_named : (limits : LimitsView) (book : Book) (file : Option (List ℕ)) �
 refused_named limits book (Some bytes) none = refused limits book bytes none
 refused_named limits book None none = refl
 
-module _ (n : ℕ) (limits : LimitsView) (whole : Book) (parts : ℕ → Book) (are : ArePartsOf (part_of n) n whole parts) where
+module _ (n : ℕ) (limits : LimitsView) (own_limits : ℕ → LimitsView) (whole : Book) (parts : ℕ → Book) (are : ArePartsOf (part_of n) n whole parts) where
   -- a file that all accept
   all_accept : (bytes : List ℕ) (own : ℕ → Option (List ℕ)) → ((k : ℕ) → k < n → (text : List ℕ) × (own k ≡ Some text) × IsPartText k n bytes text)
-      → Takes limits whole bytes → ((k : ℕ) → k < n → AcceptsNamed limits (parts k) (own k))
-      → ArePartsOf (part_of n) n (book_with limits whole bytes) (λ k. named_book limits (parts k) (own k))
+      → Takes limits whole bytes → ((k : ℕ) → k < n → AcceptsNamed (own_limits k) (parts k) (own k))
+      → ArePartsOf (part_of n) n (book_with limits whole bytes) (λ k. named_book (own_limits k) (parts k) (own k))
   all_accept bytes own texts takes own_takes =
       let now = λ (k : ℕ) (less : k < n).
       let text = texts k less in
-      let own_take : Takes limits (parts k) text.0 = subst (λ (it : Option (List ℕ)). AcceptsNamed limits (parts k) it) text.1 (own_takes k less) in
-      let one = load_one k n whole (parts k) limits bytes text.0 (record { of = are.each k less; whole_told = are.whole_told; part_told = are.each_told k less }) text.2 takes own_take in
-      subst (λ (book : Book). StayParts k n (book_with limits whole bytes) book) (sym (ap (named_book limits (parts k)) text.1)) one in
+      let own_take : Takes (own_limits k) (parts k) text.0 = subst (λ (it : Option (List ℕ)). AcceptsNamed (own_limits k) (parts k) it) text.1 (own_takes k less) in
+      let one = load_one k n whole (parts k) limits (own_limits k) bytes text.0 (record { of = are.each k less; whole_told = are.whole_told; part_told = are.each_told k less }) text.2 takes own_take in
+      subst (λ (book : Book). StayParts k n (book_with limits whole bytes) book) (sym (ap (named_book (own_limits k) (parts k)) text.1)) one in
       record {
         some = are.some;
         within = are.within;
@@ -83,11 +83,11 @@ module _ (n : ℕ) (limits : LimitsView) (whole : Book) (parts : ℕ → Book) (
       }
 
   -- one that none accepts
-  none_accepts : (file : Option (List ℕ)) (own : ℕ → Option (List ℕ)) → (AcceptsNamed limits whole file → ⊥) → ((k : ℕ) → k < n → AcceptsNamed limits (parts k) (own k) → ⊥)
-      → ArePartsOf (part_of n) n (named_book limits whole file) (λ k. named_book limits (parts k) (own k))
+  none_accepts : (file : Option (List ℕ)) (own : ℕ → Option (List ℕ)) → (AcceptsNamed limits whole file → ⊥) → ((k : ℕ) → k < n → AcceptsNamed (own_limits k) (parts k) (own k) → ⊥)
+      → ArePartsOf (part_of n) n (named_book limits whole file) (λ k. named_book (own_limits k) (parts k) (own k))
   none_accepts file own none own_none =
       let same = refused_named limits whole file none in
-      let own_same = λ (k : ℕ) (less : k < n). refused_named limits (parts k) (own k) (own_none k less) in
+      let own_same = λ (k : ℕ) (less : k < n). refused_named (own_limits k) (parts k) (own k) (own_none k less) in
       record {
         some = are.some;
         within = are.within;
@@ -98,17 +98,17 @@ module _ (n : ℕ) (limits : LimitsView) (whole : Book) (parts : ℕ → Book) (
 
   module _ (files : List (List ℕ × List ℕ)) (own_files : ℕ → List (List ℕ × List ℕ)) (have : HaveParts n files own_files) where
     load_keeps : (name : List ℕ) (file : Option (List ℕ)) → file_named files name ≡ file
-        → (AcceptsNamed limits whole file × ((k : ℕ) → k < n → AcceptsNamed limits (parts k) (file_named (own_files k) name)))
-        ⊎ ((AcceptsNamed limits whole file → ⊥) × ((k : ℕ) → k < n → AcceptsNamed limits (parts k) (file_named (own_files k) name) → ⊥))
-        → ArePartsOf (part_of n) n (named_book limits whole file) (λ k. named_book limits (parts k) (file_named (own_files k) name))
+        → (AcceptsNamed limits whole file × ((k : ℕ) → k < n → AcceptsNamed (own_limits k) (parts k) (file_named (own_files k) name)))
+        ⊎ ((AcceptsNamed limits whole file → ⊥) × ((k : ℕ) → k < n → AcceptsNamed (own_limits k) (parts k) (file_named (own_files k) name) → ⊥))
+        → ArePartsOf (part_of n) n (named_book limits whole file) (λ k. named_book (own_limits k) (parts k) (file_named (own_files k) name))
     load_keeps name (Some bytes) e (inl all) = all_accept bytes (λ k. file_named (own_files k) name) (λ k less. have name bytes e k less) all.0 all.1
     load_keeps name None e (inl all) = absurd all.0
     load_keeps name file e (inr none) = none_accepts file (λ k. file_named (own_files k) name) none.0 none.1
 
     said_keeps : (said : Result (Option Command) LineCode)
-        → (AcceptsSaid limits files whole said × ((k : ℕ) → k < n → AcceptsSaid limits (own_files k) (parts k) said))
-        ⊎ ((AcceptsSaid limits files whole said → ⊥) × ((k : ℕ) → k < n → AcceptsSaid limits (own_files k) (parts k) said → ⊥))
-        → ArePartsOf (part_of n) n (said_book limits files whole said) (λ k. said_book limits (own_files k) (parts k) said)
+        → (AcceptsSaid limits files whole said × ((k : ℕ) → k < n → AcceptsSaid (own_limits k) (own_files k) (parts k) said))
+        ⊎ ((AcceptsSaid limits files whole said → ⊥) × ((k : ℕ) → k < n → AcceptsSaid (own_limits k) (own_files k) (parts k) said → ⊥))
+        → ArePartsOf (part_of n) n (said_book limits files whole said) (λ k. said_book (own_limits k) (own_files k) (parts k) said)
     said_keeps (Ok (Some (Load name))) agree = load_keeps name (file_named files name) refl agree
     said_keeps (Ok (Some Count)) agree = are
     said_keeps (Ok (Some (Box rect period))) agree = are
@@ -119,17 +119,17 @@ module _ (n : ℕ) (limits : LimitsView) (whole : Book) (parts : ℕ → Book) (
     said_keeps (Ok None) agree = are
     said_keeps (Err code) agree = are
 
-    line_keeps : (line : List ℕ) → AllOrNone n limits files own_files whole parts line → ArePartsOf (part_of n) n (line_book limits files whole line) (λ k. line_book limits (own_files k) (parts k) line)
+    line_keeps : (line : List ℕ) → AllOrNone n limits own_limits files own_files whole parts line → ArePartsOf (part_of n) n (line_book limits files whole line) (λ k. line_book (own_limits k) (own_files k) (parts k) line)
     unfolding AcceptsLine line_book
     line_keeps line agree = said_keeps (line_of line) agree
 
 pub script_law : ScriptLaw
-script_law n limits files own_files whole parts [] text own are have agree says own_says = ((says, own_says), are)
-script_law n limits files own_files whole parts (line ∷ lines) text own are have agree says own_says =
-    let P : ℕ → List ℕ × List ℕ → Type 0 = λ k p. (own k ≡ p.0 ++ p.1) × IsLineText limits (own_files k) (parts k) line p.0 × IsRunText limits (own_files k) (line_book limits (own_files k) (parts k) line) lines p.1 in
+script_law n limits own_limits files own_files whole parts [] text own are have agree says own_says = ((says, own_says), are)
+script_law n limits own_limits files own_files whole parts (line ∷ lines) text own are have agree says own_says =
+    let P : ℕ → List ℕ × List ℕ → Type 0 = λ k p. (own k ≡ p.0 ++ p.1) × IsLineText (own_limits k) (own_files k) (parts k) line p.0 × IsRunText (own_limits k) (own_files k) (line_book (own_limits k) (own_files k) (parts k) line) lines p.1 in
     let g : (h : ℕ → List ℕ × List ℕ) × ((k : ℕ) → k < n → P k (h k)) = choose n ([], []) P (λ k less. let s = own_says k less in ((s.0, s.1), (s.2, s.3, s.4))) in
-    let more = script_law n limits files own_files (line_book limits files whole line) (λ k. line_book limits (own_files k) (parts k) line) lines says.1 (λ k. (g.0 k).1)
-    (line_keeps n limits whole parts are files own_files have line agree.0) have agree.1 says.4 (λ k less. (g.1 k less).2) in (
+    let more = script_law n limits own_limits files own_files (line_book limits files whole line) (λ k. line_book (own_limits k) (own_files k) (parts k) line) lines says.1 (λ k. (g.0 k).1)
+    (line_keeps n limits own_limits whole parts are files own_files have line agree.0) have agree.1 says.4 (λ k less. (g.1 k less).2) in (
       (
         says.0,
         says.1,
@@ -137,7 +137,7 @@ script_law n limits files own_files whole parts (line ∷ lines) text own are ha
         λ k. (g.0 k).1,
         says.2,
         λ k less. (g.1 k less).0,
-        line_law (part_of n) n whole parts limits files own_files line says.0 (λ k. (g.0 k).0) are says.3 (λ k less. (g.1 k less).1),
+        line_law (part_of n) n whole parts limits own_limits files own_files line says.0 (λ k. (g.0 k).0) are says.3 (λ k less. (g.1 k less).1),
         more.0,
       ),
       more.1,

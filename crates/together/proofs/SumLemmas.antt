@@ -105,7 +105,7 @@ ok_legs [] all legs e = cc
 ok_legs (fault ∷ faults) all legs e = absurd (cc)
 
 pub load_count_law : LoadCountLaw
-load_count_law f n whole parts limits file legs own are ok own_ok =
+load_count_law f n whole parts limits own_limits file legs own are ok own_ok =
     let w : RecordView → ℕ = legs_in in
     let all : length legs ≡ sum_by legs_in file.records = ap length (ok_legs _ _ legs ok) ∙ all_legs whole file.records in
     let each = λ (k : ℕ) (less : k < n). ap length (ok_legs _ _ (own k) (own_ok k less)) ∙ all_legs (parts k) (own_records f k file.records) in

@@ -54,6 +54,6 @@ module _ (f : List ℕ → ℕ) (n : ℕ) where
 -- each line of a script
 abbrev pub LineLaw : Type 0
 LineLaw =
-    (f : List ℕ → ℕ) (n : ℕ) (whole : Book) (parts : ℕ → Book) (limits : LimitsView) (files : List (List ℕ × List ℕ)) (own_files : ℕ → List (List ℕ × List ℕ)) (line text : List ℕ) (own : ℕ → List ℕ) → ArePartsOf f n whole parts
-    → IsLineText limits files whole line text → ((k : ℕ) → k < n → IsLineText limits (own_files k) (parts k) line (own k))
+    (f : List ℕ → ℕ) (n : ℕ) (whole : Book) (parts : ℕ → Book) (limits : LimitsView) (own_limits : ℕ → LimitsView) (files : List (List ℕ × List ℕ)) (own_files : ℕ → List (List ℕ × List ℕ)) (line text : List ℕ) (own : ℕ → List ℕ) → ArePartsOf f n whole parts
+    → IsLineText limits files whole line text → ((k : ℕ) → k < n → IsLineText (own_limits k) (own_files k) (parts k) line (own k))
     → SayTogether f n whole.head (line_of line) text own

@@ -19,8 +19,8 @@ pub record IsSumOf (n : ℕ) (all : Counts) (each : ℕ → Counts) : Type 0 whe
 -- `load`: the counts of a file that the whole takes in, and each part its part, are the sums of the parts'
 abbrev pub LoadCountLaw : Type 0
 LoadCountLaw =
-    (f : List ℕ → ℕ) (n : ℕ) (whole : Book) (parts : ℕ → Book) (limits : LimitsView) (file : File) (legs : List LegView) (own : ℕ → List LegView) → ArePartsOf f n whole parts
-    → joined limits whole file ≡ Ok legs → ((k : ℕ) → k < n → joined limits (parts k) (file_part f k file) ≡ Ok (own k))
+    (f : List ℕ → ℕ) (n : ℕ) (whole : Book) (parts : ℕ → Book) (limits : LimitsView) (own_limits : ℕ → LimitsView) (file : File) (legs : List LegView) (own : ℕ → List LegView) → ArePartsOf f n whole parts
+    → joined limits whole file ≡ Ok legs → ((k : ℕ) → k < n → joined (own_limits k) (parts k) (file_part f k file) ≡ Ok (own k))
     → IsSumOf n (counts_of file legs) (λ k. counts_of (file_part f k file) (own k))
 
 -- the records of a file have rising numbers, from 1 on

@@ -7,10 +7,10 @@
 #![tactic(auto)]
 
 ghost use Rattle.together.specs.Laws.{BoxLaw, FeaturesLaw, LateLaw, LegsLaw, LegsText, NamesText, PartLaw, TrackLaw, TrajectoryLaw};
-ghost use Rattle.together.specs.Joining.{AcceptLaw, BookLaw, CountLaw, FaultsLaw, FirstLaw, FitsLaw, LeastLaw, PartFaultsLaw, StayLaw};
+ghost use Rattle.together.specs.Joining.{AcceptLaw, BookLaw, CountLaw, FaultsLaw, FirstLaw, FitsLaw, LeastLaw, PartFaultsLaw, PartFitsLaw, StayLaw};
 ghost use Rattle.together.specs.Asking.{LineLaw};
 ghost use Rattle.together.specs.Counting.{LoadCountLaw, RisesLaw};
-ghost use Rattle.together.specs.Loading.{EmptyLaw, LoadLaw, TakesLaw, TextLaw};
+ghost use Rattle.together.specs.Loading.{EmptyLaw, FirstTextLaw, LoadLaw, TakesLaw, TextLaw};
 ghost use Rattle.together.specs.Scripts.{ScriptLaw};
 ghost use Rattle.together.specs.Merging.{BoxMerge, FeaturesAnswerMerge, LegsAnswerMerge, LegsMerge, NamesMerge};
 
@@ -39,6 +39,7 @@ pub fn joining_laws()
     ensures stays { PartLaw }
     ensures faults { FaultsLaw }
     ensures fits { FitsLaw }
+    ensures part_fits { PartFitsLaw }
     ensures part_faults { PartFaultsLaw }
     ensures accepts { AcceptLaw }
     ensures first { FirstLaw }
@@ -54,6 +55,7 @@ pub fn loading_laws()
     ensures none { EmptyLaw }
     ensures all { LoadLaw }
     ensures text { TextLaw }
+    ensures first_text { FirstTextLaw }
     ensures takes { TakesLaw }
     ensures script { ScriptLaw }
 {}

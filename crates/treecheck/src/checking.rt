@@ -223,7 +223,16 @@ fn check_index<S: PageStore>(
 {
     let tree = index.tree();
     let legs = index.leg_count();
-    check_pages(alloc, index.cache_mut(), &tree, places, tracks, rows, legs, begun)
+    check_pages(
+        alloc,
+        index.cache_mut(),
+        &tree,
+        places,
+        tracks,
+        rows,
+        legs,
+        begun,
+    )
 }
 
 /// What a check answers, as an index says it.

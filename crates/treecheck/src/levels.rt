@@ -14,8 +14,8 @@ ghost use Rattle.treecheck.specs.Levels.{cover_of_leaves, pages_of_leaves, named
 ghost use Rattle.treecheck.specs.Walking.{IsMet};
 ghost use Rattle.boxsearch.specs.declared.fault.SearchFault.{SearchFault};
 
-use boxsearch::SearchFault;
 use crate::walking::Met;
+use boxsearch::SearchFault;
 use legs::Box3;
 use pagecache::PageCache;
 use pages::{PageStore, Payload};

@@ -13,8 +13,8 @@ ghost use Rattle.boxsearch.specs.Faults.{IsAllowed, IsCaused};
 ghost use Rattle.treecheck.specs.Walking.{after, pages_by, IsAtEnd, IsNextNode, Notes, Surveys, TakesLeaf, Walks};
 ghost use Rattle.boxsearch.specs.declared.fault.SearchFault.{SearchFault};
 
-use boxsearch::SearchFault;
 use crate::leaves::{AnyLeaf, bounds_of};
+use boxsearch::SearchFault;
 use legs::{Box3, Leg, Track, Tracks};
 use pagecache::PageCache;
 use pages::{PageStore, Payload};

@@ -3,9 +3,9 @@
 
 mod lent_store;
 mod migrating;
+mod old_form;
 mod old_header;
 mod old_laid;
-mod old_form;
 mod old_legs;
 mod old_store;
 

@@ -20,7 +20,9 @@ ghost use Rattle.version1.specs.declared.old_header.OldFields.{OldFields};
 
 use crate::lent_store::{fill_lent, read_sealed};
 use crate::old_header::{OldFields, old_header_of};
-use catalogue::{Catalogue, CatalogueFault, ChainReader, Contents, Fields, MOST_USED, catalogue_of, is_within};
+use catalogue::{
+    Catalogue, CatalogueFault, ChainReader, Contents, Fields, MOST_USED, catalogue_of, is_within,
+};
 use pagecache::PageCache;
 use pages::PageStore;
 use std::alloc::Global;

@@ -1,4 +1,4 @@
-use Rattle.together.proofs.FaultLemmas.{accept_law, faults_law, first_law, fits_law, part_faults_law, stay_law}
+use Rattle.together.proofs.FaultLemmas.{accept_law, faults_law, first_law, fits_law, part_faults_law, part_fits_law, stay_law}
 use Rattle.together.proofs.LateLemmas.{late_law, least_law, part_law}
 use Rattle.together.proofs.RiseLemmas.{rises_law}
 use Rattle.together.proofs.SumLemmas.{load_count_law}
@@ -18,6 +18,9 @@ returns-clause-fits c = fits_law
 
 pub returns-clause-part_faults : goal.returns-clause-part_faults
 returns-clause-part_faults c = part_faults_law
+
+pub returns-clause-part_fits : goal.returns-clause-part_fits
+returns-clause-part_fits c = part_fits_law
 
 pub returns-clause-accepts : goal.returns-clause-accepts
 returns-clause-accepts c = accept_law

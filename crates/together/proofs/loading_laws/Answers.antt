@@ -1,4 +1,4 @@
-use Rattle.together.proofs.LoadLemmas.{empty_law, load_law, takes_law, text_law}
+use Rattle.together.proofs.LoadLemmas.{empty_law, first_text_law, load_law, takes_law, text_law}
 use Rattle.together.proofs.ScriptLemmas.{script_law}
 use Rattle.together.proofs.loading_laws.Goals as goal
 
@@ -13,6 +13,9 @@ returns-clause-script c = script_law
 
 pub returns-clause-text : goal.returns-clause-text
 returns-clause-text c = text_law
+
+pub returns-clause-first_text : goal.returns-clause-first_text
+returns-clause-first_text c = first_text_law
 
 pub returns-clause-takes : goal.returns-clause-takes
 returns-clause-takes c = takes_law

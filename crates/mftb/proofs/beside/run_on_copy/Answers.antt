@@ -1,4 +1,4 @@
-use Rattle.std.proofs.Common.{◌≡◌, refl, sym, subst, false, IsTrue}
+use Rattle.std.proofs.Common.{◌≡◌, refl, sym, subst, IsTrue}
 use Rattle.std.specs.Prelude.{IfSome, OnOk}
 use Rattle.legs.specs.Book.{Book, empty_book}
 use Rattle.legs.specs.Costs.{ShapeView}
@@ -21,18 +21,17 @@ returns-in-Ok-answered-clause-runs g c =
     let last = g.F.Store.PageStore.seen c.answer-store.result.0 in
     let opened = c.database-database.result in
     let kept = subst (λ h. OnOk c.keep.result (IsKept last h is)) c.copy.ensures.stays c.keep.ensures.kept in
-    under c.keep.result was (λ past. c.args.how.is_new ≡ false → (shape : ShapeView) → (limits : LimitsView) → (book : Book) → HoldsBook (store_in past) shape limits book → RunsBeside shape limits book c.args.files.now (g.W.Write.contents c.args.out.now) (g.W.Write.contents c.answer-store.new.out) (lines_of c.args.script.now) was is) (λ past e.
+    under c.keep.result was (λ past. (shape : ShapeView) → (limits : LimitsView) → (book : Book) → HoldsBook (store_in past) shape limits book → RunsBeside shape limits book c.args.files.now (g.W.Write.contents c.args.out.now) (g.W.Write.contents c.answer-store.new.out) (lines_of c.args.script.now) was is) (λ past e.
     let same = subst (λ h. IfSome h (λ p. first ≡ store_in p)) e c.in-Ok.ensures.copies in
     let faithful = subst (λ (s : Store). IsTrue s.is_faithful) (sym same) (tells past) in
-    each c.keep.result (λ n. (shape : ShapeView) → (limits : LimitsView) → (book : Book) → HoldsBook (store_in past) shape limits book → RunsBeside shape limits book c.args.files.now (g.W.Write.contents c.args.out.now) (g.W.Write.contents c.answer-store.new.out) (lines_of c.args.script.now) was is) (λ n.
     each c.keep.result (λ shape. (limits : LimitsView) → (book : Book) → HoldsBook (store_in past) shape limits book → RunsBeside shape limits book c.args.files.now (g.W.Write.contents c.args.out.now) (g.W.Write.contents c.answer-store.new.out) (lines_of c.args.script.now) was is) (λ shape.
     each c.keep.result (λ limits. (book : Book) → HoldsBook (store_in past) shape limits book → RunsBeside shape limits book c.args.files.now (g.W.Write.contents c.args.out.now) (g.W.Write.contents c.answer-store.new.out) (lines_of c.args.script.now) was is) (λ limits.
     each c.keep.result (λ book. HoldsBook (store_in past) shape limits book → RunsBeside shape limits book c.args.files.now (g.W.Write.contents c.args.out.now) (g.W.Write.contents c.answer-store.new.out) (lines_of c.args.script.now) was is) (λ book.
     each c.keep.result (λ h. RunsBeside shape limits book c.args.files.now (g.W.Write.contents c.args.out.now) (g.W.Write.contents c.answer-store.new.out) (lines_of c.args.script.now) was is) (λ (h : HoldsBook (store_in past) shape limits book).
     beside opened c.answer-store.result.1 c.keep.result c.args.files.now (g.W.Write.contents c.args.out.now) (g.W.Write.contents c.answer-store.new.out) (lines_of c.args.script.now) first last was is c.database-database.ensures.pages c.database-database.ensures.idle c.answer-store.ensures.opened c.in-Ok-answered.is c.answer-store.ensures.runs kept
     opened refl c.keep.result refl shape limits book faithful
-    (only_if (λ (db : DbView). c.args.how.is_new ≡ false → IsTrue first.is_faithful → (shape : ShapeView) (limits : LimitsView) (book : Book) → HoldsBook first shape limits book → HasBook shape limits book db) (HasBook shape limits book) opened
-    (λ db f. f n faithful shape limits book (subst (λ s. HoldsBook s shape limits book) (sym same) h)) c.database-database.ensures.kept)))))))
+    (only_if (λ (db : DbView). IsTrue first.is_faithful → (shape : ShapeView) (limits : LimitsView) (book : Book) → HoldsBook first shape limits book → HasBook shape limits book db) (HasBook shape limits book) opened
+    (λ db f. f faithful shape limits book (subst (λ s. HoldsBook s shape limits book) (sym same) h)) c.database-database.ensures.kept))))))
 
 pub returns-in-Ok-answered-clause-new : goal.returns-in-Ok-answered-clause-new
 returns-in-Ok-answered-clause-new g c =

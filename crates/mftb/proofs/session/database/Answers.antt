@@ -1,14 +1,13 @@
-use Rattle.std.proofs.Common.{◌≡◌, ◌∙◌, sym, subst, false, IsTrue, Some}
+use Rattle.std.proofs.Common.{◌≡◌, ◌∙◌, rules, sym, subst, IsTrue, Some}
 use Rattle.std.specs.Prelude.{IfOk}
 use Rattle.boxsearch.specs.Index.{words}
-use Rattle.legs.specs.Book.{empty_book, Book}
+use Rattle.legs.specs.Book.{empty_book}
 use Rattle.legs.specs.Costs.{ShapeView}
 use Rattle.legs.specs.Limits.{limits_of, LimitsView}
-use Rattle.catalogue.specs.Holding.{HoldsBook}
 use Rattle.trajdb.specs.Db.{DbView}
 use Rattle.trajdb.specs.Lasting.{HasBook}
 use Rattle.mftb.specs.Answers.{new_shape}
-use Rattle.mftb.proofs.AnswerLemmas.{created, more_known, the_same}
+use Rattle.mftb.proofs.AnswerLemmas.{created, more_known, no_pages, the_same}
 use Rattle.mftb.proofs.session.database.Goals as goal
 
 pub returns-then-len-eq0-clause-new : goal.returns-then-len-eq0-clause-new
@@ -20,8 +19,5 @@ returns-then-len-eq0-clause-new g c =
     (subst (λ (k : ShapeView). IfOk c.create.result (λ (db : DbView). words.plan db.index ≡ Some k)) (the_same c.unwrap-shape.result new_shape (sym c.unwrap-shape.ensures ∙ c.new.ensures)) c.create.ensures.shape) c.create.ensures.sound c.create.ensures.book
     (subst (λ (l : LimitsView). IfOk c.create.result (λ (db : DbView). db.limits ≡ l)) c.limits.ensures c.create.ensures.limits))
 
-pub returns-clause-kept : goal.returns-clause-kept
-returns-clause-kept g c =
-    let s = g.S.PageStore.seen c.args.store in
-    more_known (λ (db : DbView). IsTrue s.is_faithful → (shape : ShapeView) (limits : LimitsView) (book : Book) → HoldsBook s shape limits book → HasBook shape limits book db)
-    (λ db. c.args.is_new ≡ false → IsTrue s.is_faithful → (shape : ShapeView) (limits : LimitsView) (book : Book) → HoldsBook s shape limits book → HasBook shape limits book db) c.open.result (λ db h n. h) c.open.ensures.book
+pub returns-then-len-eq0-clause-kept : goal.returns-then-len-eq0-clause-kept
+returns-then-len-eq0-clause-kept g c = no_pages c.create.result (g.S.PageStore.seen c.args.store) (search rules)

@@ -97,7 +97,7 @@ returns-clause-only g c = λ s a says.
     let back : index.places ≡ places = sym (c.as_slice.ensures.value ∙ c.take_places-places.ensures.taken) in
     let k = c.laws-2.ensures.held (pages_of_cache index.cache) index.tree rows index.legs index.places tracks.tracks s.shape (held laws index tracks rows s a) in
     let allowed = subst (λ (v : IndexView). IsTrue v.cache.store.is_faithful → v.cache.count ≡ v.cache.store.count → SaysState c.args.begun (payload_of v.cache 0)
-        → length places < 4294967296 → Agree tracks rows v.legs → IsChecked (pages_of_cache v.cache) v.tree rows v.legs places tracks.tracks → IfErr given.result IsAllowed) rest given.ensures.only in
+    → length places < 4294967296 → Agree tracks rows v.legs → IsChecked (pages_of_cache v.cache) v.tree rows v.legs places tracks.tracks → IfErr given.result IsAllowed) rest given.ensures.only in
     subst (λ r. IfErr r MayRefuse) (sym c.checked.ensures)
     (each_fault (λ fault. of_search fault) IsAllowed MayRefuse (λ x h. search_allowed x h) given.result
     (allowed s.faithful s.count says (subst (λ (places : List Place). length places < 4294967296) back (few laws index tracks rows s a)) (agrees laws index tracks rows s a)

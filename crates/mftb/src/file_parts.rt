@@ -1,0 +1,73 @@
+//! The files of all parts of a file, in a folder of the system.
+ghost use Rattle.std.specs.Prelude.{None};
+
+use crate::fault::Fault;
+use crate::part_files::{PartFolder, put_parts};
+use crate::reading::{MOST_BYTES, read_named};
+use crate::words::Parts;
+use std::fs::File;
+use std::io::Write;
+use std::rt::Files;
+use std::{fs, io};
+use trajdb::RunFault;
+
+/// A folder of the system. No contract says what it holds.
+#[derive(Drop)]
+struct SystemParts<'a, R: Files<File = File> + AllocGlobal> {
+    rt: &'a R,
+    folder: &'a str,
+}
+
+/// Makes the file of a name, of those bytes.
+fn write_file<R: Files<File = File>>(rt: &R, name: &str, bytes: &[u8]) -> io::Result<()> {
+    let mut file = File::create(rt, name)?;
+    file.write_all(bytes)
+}
+
+impl<'a, R: Files<File = File> + AllocGlobal> PartFolder for SystemParts<'a, R> {
+    ghost puts = { λ _. None };
+
+    fn put(&mut self, part: u64, text: &[u8]) -> Result<(), RunFault> {
+        let alloc = self.rt.alloc();
+        let name = format!(in alloc; "{}/part-{part}.csv", self.folder)?;
+        let beside = format!(in alloc; "{name}.new")?;
+        let (name, beside) = (name.as_str(), beside.as_str());
+        if write_file(self.rt, beside, text).is_err()
+            || fs::rename(self.rt, beside, name).is_err()
+        {
+            let _ = fs::remove_file(self.rt, beside);
+            return Err(RunFault::Output);
+        }
+        Ok(())
+    }
+}
+
+/// Reads a file, and puts parts of it into a folder.
+pub(crate) fn write_parts<'a, R: Files<File = File> + AllocGlobal>(
+    rt: &R,
+    task: &Parts<'a>,
+) -> Result<(), Fault<'a>> {
+    if task.first >= task.parts {
+        return Err(Fault::NoPart(task.first, task.parts));
+    }
+    let most = task.parts - task.first;
+    let count = task.count.unwrap_or(most);
+    if count > most {
+        return Err(Fault::NoPart(task.parts, task.parts));
+    }
+    let bytes = read_named(rt, task.file, MOST_BYTES)?;
+    let mut folder = SystemParts {
+        rt,
+        folder: task.folder,
+    };
+    let (n, first, count) = (
+        u64::from(task.parts),
+        u64::from(task.first),
+        u64::from(count),
+    );
+    match put_parts(rt.alloc(), &mut folder, n, first, count, &bytes) {
+        Ok(()) => Ok(()),
+        Err(RunFault::Output) => Err(Fault::CannotWrite(task.folder)),
+        Err(fault) => Err(Fault::Run(fault)),
+    }
+}
