@@ -1,8 +1,8 @@
 -- What a database tells, and which page it names.
-use Rattle.std.proofs.Common.{ℕ, ◌≡◌, ◌∙◌, ◌<◌, ◌≤◌, ◌++◌, ◌∷◌, [], List, All, Option, Some, None, refl, sym, subst, inl, inr, length, arith, true}
-use Rattle.std.specs.Prelude.{◌⊎◌}
+use Rattle.std.proofs.Common.{ℕ, ◌≡◌, ◌∙◌, ◌+◌, ◌<◌, ◌≤◌, ◌++◌, ◌∷◌, [], ap, map, take, get_or, List, All, Option, Some, None, Result, Ok, Err, IfOk, refl, sym, subst, inl, inr, length, arith, true}
+use Rattle.std.specs.Prelude.{◌⊎◌, OnOk}
 use Rattle.std.specs.List.{range_with_len}
-use Rattle.std.proofs.lemmas.List.{append_assoc, append-nil}
+use Rattle.std.proofs.lemmas.List.{append_assoc, append-nil, map-append, take_more}
 use Rattle.std.proofs.lemmas.List.Elements.{All-nil, All-cons, All-head, All-tail}
 use Rattle.std.proofs.lemmas.List.FromFn.{get_or-range_with_len, length-range_with_len}
 use Rattle.timebase.specs.Period.{PeriodView}
@@ -140,6 +140,22 @@ module _ {I : Type 0} (g : Ghosts I) (old now : CoreView I) (leaves : Leaves g o
 pub shown_legs : (old new : Book) (a b : List LegView) → new ≡ old → a ≡ b → legs_text new a ≡ legs_text old b
 shown_legs old new a b same e = (λ i. legs_text (same i) (e i))
 
+-- and are there
+pub there_legs : (old new : Book) (a b : List LegView) → new ≡ old → a ≡ b → All (IsThere new) a → All (IsThere old) b
+there_legs old new a b same e h =
+    subst (All (IsThere old)) e (subst (λ (k : Book). All (IsThere k) a) same h)
+
+-- one more of a list that is shown
+pub map_more : {X Y : Type 0} (f : X → Y) (xs : List X) (i : ℕ) (x : X) (ys zs : List Y) → i < length xs → x ≡ get_or xs i x → ys ≡ map f (take i xs) → zs ≡ ys ++ f x ∷ [] → zs ≡ map f (take (i + 1) xs)
+map_more f xs i x ys zs less at so_far more =
+    more ∙ ap (λ l. l ++ f x ∷ []) so_far ∙ ap (λ y. map f (take i xs) ++ f y ∷ []) at
+    ∙ sym (ap (map f) (take_more xs i x less) ∙ map-append f (take i xs) (get_or xs i x ∷ []))
+
+-- what holds where there is an answer holds beside what holds of it
+pub ok_both : {T E : Type 0} (r : Result T E) (P : T → Type 0) (Q : Type 0) → IfOk r P → OnOk r Q → IfOk r (λ t. P t × Q)
+ok_both (Ok t) P Q p q = (p, q)
+ok_both (Err e) P Q p q = tt
+
 pub shown_names : (old new : Book) (a b : List ℕ) → new ≡ old → a ≡ b → names_text new a ≡ names_text old b
 shown_names old new a b same e = (λ i. names_text (same i) (e i))
 
@@ -166,8 +182,8 @@ module _ {I : Type 0} (g : Ghosts I) (core : CoreView I) where
       (λ all. subst (All (IsThere core.book)) (sym e) (picks_all (HoldsOfLeg predicate rect period) (IsThere core.book) legs picked all picks)) text
 
   -- as a file
-  pub file_says : (o : Option BookHead) (head : BookHead) (legs : List LegView) (text : List ℕ) → o ≡ Some head → g.tells core.index (InBox everything) legs → text ≡ file_answer core.book head legs → IsToldFile g core o text
-  file_says o head legs text e told h = subst (λ o. IsToldFile g core o text) (sym e) (legs, told, h)
+  pub file_says : (o : Option BookHead) (head : BookHead) (legs : List LegView) (text : List ℕ) → o ≡ Some head → g.tells core.index (InBox everything) legs → All (IsThere core.book) legs → text ≡ file_answer core.book head legs → IsToldFile g core o text
+  file_says o head legs text e told there h = subst (λ o. IsToldFile g core o text) (sym e) (legs, told, there, h)
 
   pub file_names : (o : Option BookHead) (head : BookHead) (new : Book) (legs shown : List LegView) (fault : RunFault) → o ≡ Some head → new ≡ core.book → g.tells core.index (InBox everything) legs → shown ≡ legs
       → IsText (All (IsThere new) shown) fault → Names g core (DeniesFile g core o) fault

@@ -5,6 +5,7 @@ use Rattle.std.proofs.KnownBytes.{Appends-trans, Appends-nil, Appends-kept}
 use Rattle.std.specs.Io.KnownBytes.{Appends, Keeps}
 use Rattle.legs.specs.declared.listed.Listed.{Ghosts}
 use Rattle.trajdb.specs.Database.{CoreView}
+use Rattle.trajdb.specs.Calls.{Leaves, LoadsBy}
 use Rattle.trajdb.specs.Script.{lines_of}
 use Rattle.trajdb.specs.Telling.{HasCutTold, HasNamed, HasTold, NamesLine, TellsCut, TellsLine, TellsLines, TellsRun, TellsStop}
 use Rattle.trajdb.specs.declared.RunFault.{RunFault}
@@ -62,7 +63,7 @@ module _ {I : Type 0} (g : Ghosts I) (files : Named) where
       prefix = (drop cut.n cut.text, ap (λ t. at.text ++ t) (sym (take-append-drop cut.n cut.text)) ∙ sym (append_assoc at.text (take cut.n cut.text) (drop cut.n cut.text)));
     }
 
-    pub traced_stop : (fault : RunFault) → HasNamed g files b c mid line fault → TellsStop g files a c old fault lines
+    pub traced_stop : (fault : RunFault) → HasNamed g files b c mid new line fault → TellsStop g files a c old new fault lines
     traced_stop fault stop =
         let nth = nth_line lines k line (lines_of others) next_at in record {
           k = k;
@@ -72,6 +73,7 @@ module _ {I : Type 0} (g : Ghosts I) (files : Named) where
           tells = at.tells;
           sends = Appends-kept a b c at.text at.sends stop.sends;
           names = subst (λ (l : List ℕ). NamesLine g files mid l fault) (sym nth.1) stop.names;
+          left = subst (λ (l : List ℕ). (LoadsBy files l → ⊥) → Leaves g mid new) (sym nth.1) stop.left;
         }
 
   module _ (a b c : Option (List ℕ)) (old new : CoreView I) (lines : List (List ℕ)) (rest : List ℕ) (k : ℕ) (at : IsTracedAt a b old new lines rest k) where

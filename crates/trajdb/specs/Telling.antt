@@ -1,6 +1,7 @@
 -- What a database answers by what the pages of its index say, be it sound or not: nothing else is answered, and where a
--- page that is met is not what it is to be there, that page is named.
-use Rattle.std.specs.Prelude.{ℕ, ◌≡◌, ◌≤◌, ◌<◌, ◌++◌, ◌⊎◌, ◌↔◌, List, [], ◌∷◌, length, take, slice_index_or, All, Option, Some, None, Result, Ok, Err, true, codes, decimal}
+-- page that is met is not what it is to be there, or the catalogue lacks a name or a row of what is to be shown, that page
+-- is named.
+use Rattle.std.specs.Prelude.{ℕ, ◌≡◌, ◌≤◌, ◌<◌, ◌++◌, ◌⊎◌, ◌↔◌, List, [], ◌∷◌, length, take, slice_index_or, All, Option, Some, None, Result, Ok, Err, true, false, codes, decimal}
 use Rattle.std.specs.Io.KnownBytes.{Appends, Keeps}
 use Rattle.std.specs.List.{range_with_len}
 use Rattle.timebase.specs.Period.{PeriodView}
@@ -22,7 +23,7 @@ use Rattle.querylang.specs.declared.LineCode.{LineCode}
 use Rattle.querylang.specs.declared.Command.{Command}
 use Rattle.querylang.specs.declared.Command.TheVariants.{Load, Count, Box, Legs, Features, Trajectory, Write}
 use Rattle.trajdb.specs.Answers.{HoldsOfLeg, IsCountsText, IsFileRefusal, file_answer, legs_text, names_text, ok_text, refusal_text}
-use Rattle.trajdb.specs.Calls.{Leaves, Loads, TellsLoad}
+use Rattle.trajdb.specs.Calls.{IsLater, Leaves, Loads, LoadsBy, TellsLoad}
 use Rattle.trajdb.specs.Database.{CoreView}
 use Rattle.trajdb.specs.Files.{file_named}
 use Rattle.trajdb.specs.Picks.{Picks}
@@ -31,9 +32,14 @@ use Rattle.trajdb.specs.declared.RunFault.{RunFault}
 use Rattle.trajdb.specs.declared.RunFault.TheVariants.{Memory, Store, Damaged, StoreFull, Failed, Output}
 
 module _ {I : Type 0} (g : Ghosts I) (core : CoreView I) where
+  -- the text shows legs, of each of which the catalogue has the name and the row of values
+  abbrev pub ShowsLegs : List LegView → List ℕ → Type 0
+  ShowsLegs legs text = All (IsThere core.book) legs × (text ≡ legs_text core.book legs)
+
   -- the answer of the legs that the index tells
   abbrev pub IsToldLegs : Question → List ℕ → Type 0
-  IsToldLegs question text = (legs : List LegView) × g.tells core.index question legs × (text ≡ legs_text core.book legs)
+  IsToldLegs question text =
+      (legs : List LegView) × g.tells core.index question legs × ShowsLegs legs text
 
   -- exactly those of the legs that the index tells, in order, for which, each taken alone, a predicate holds
   abbrev pub ArePickedOf : Predicate → RectView → PeriodView → List LegView → Type 0
@@ -42,7 +48,8 @@ module _ {I : Type 0} (g : Ghosts I) (core : CoreView I) where
 
   -- and their answer
   abbrev pub IsToldPicks : Predicate → RectView → PeriodView → List ℕ → Type 0
-  IsToldPicks predicate rect period text = (picked : List LegView) × ArePickedOf predicate rect period picked × (text ≡ legs_text core.book picked)
+  IsToldPicks predicate rect period text =
+      (picked : List LegView) × ArePickedOf predicate rect period picked × ShowsLegs picked text
 
   -- the legs of a feature that are live in a period: none of one whose last leg ends before it, else what the index tells
   abbrev pub AreLive : PeriodView → ℕ → List LegView → Type 0
@@ -70,11 +77,13 @@ module _ {I : Type 0} (g : Ghosts I) (core : CoreView I) where
   AreToldOf None legs = legs ≡ []
 
   abbrev pub IsToldTrack : Option ℕ → List ℕ → Type 0
-  IsToldTrack feature text = (legs : List LegView) × AreToldOf feature legs × (text ≡ legs_text core.book legs)
+  IsToldTrack feature text = (legs : List LegView) × AreToldOf feature legs × ShowsLegs legs text
 
   -- the answer of all legs as a file, where there is a head
   abbrev pub IsToldFile : Option BookHead → List ℕ → Type 0
-  IsToldFile (Some head) text = (legs : List LegView) × g.tells core.index (InBox everything) legs × (text ≡ file_answer core.book head legs)
+  IsToldFile (Some head) text =
+      (legs : List LegView) × g.tells core.index (InBox everything) legs
+      × All (IsThere core.book) legs × (text ≡ file_answer core.book head legs)
   IsToldFile None text = text ≡ refusal_text (codes "Q10")
 
   -- how many legs the index counts, and how many features there are
@@ -125,21 +134,31 @@ module _ {I : Type 0} (g : Ghosts I) (core : CoreView I) where
   Names P Failed = (core.failed ≡ true) ⊎ (g.is_spent core.index ≡ true)
   Names P Output = Unit {0}
 
-  -- why a question is refused: a page that it names is one that it met; of `load` this says nothing
-  abbrev pub NamesBy : Command → RunFault → Type 0
-  NamesBy (Load name) fault = Unit {0}
-  NamesBy Count fault = Names (λ page. ⊥) fault
-  NamesBy (Box rect period) fault = Names (DeniesLegs (InBox (box_over rect period))) fault
-  NamesBy (Legs predicate rect period) fault = Names (DeniesLegs (InBox (box_near predicate rect period))) fault
-  NamesBy (Features predicate rect period) fault = Names (λ page. length core.book.names ≤ most → DeniesSome period page) fault
-  NamesBy (Trajectory name) fault = Names (λ page. length core.book.names ≤ most → DeniesTrack (feature_of core.book.names name) page) fault
-  NamesBy Write fault = Names (DeniesFile core.book.head) fault
+  -- a file that is not there meets no page; of one that is there this says nothing
+  abbrev pub NamesLoad : Option (List ℕ) → RunFault → Type 0
+  NamesLoad (Some bytes) fault = Unit {0}
+  NamesLoad None fault = Names (λ page. ⊥) fault
 
--- what a command leaves, be the database sound or not: a question all that is known of the book, and a `load` of a file
--- that is there what its answer tells
+  -- why a command is refused: a page that a question names is one that it met
+  abbrev pub NamesBy : List (List ℕ × List ℕ) → Command → RunFault → Type 0
+  NamesBy files (Load name) fault = NamesLoad (file_named files name) fault
+  NamesBy files Count fault = Names (λ page. ⊥) fault
+  NamesBy files (Box rect period) fault = Names (DeniesLegs (InBox (box_over rect period))) fault
+  NamesBy files (Legs predicate rect period) fault =
+      Names (DeniesLegs (InBox (box_near predicate rect period))) fault
+  NamesBy files (Features predicate rect period) fault =
+      Names (λ page. length core.book.names ≤ most → DeniesSome period page) fault
+  NamesBy files (Trajectory name) fault =
+      Names (λ page. length core.book.names ≤ most → DeniesTrack (feature_of core.book.names name) page) fault
+  NamesBy files Write fault = Names (DeniesFile core.book.head) fault
+
+-- what a command that is answered leaves, be the database sound or not: a question all that is known of the book, and a
+-- `load` of a file that is there what its answer tells; the database is not failed
 pub record LeftBy {I : Type 0} (g : Ghosts I) (files : List (List ℕ × List ℕ)) (old new : CoreView I) (command : Command) (text : List ℕ) : Type 0 where
   pub question : (Loads files command → ⊥) → Leaves g old new
   pub load : Loads files command → TellsLoad old new text
+  pub later : IsLater g old new
+  pub lives : new.failed ≡ false
 
 module _ {I : Type 0} (g : Ghosts I) (files : List (List ℕ × List ℕ)) where
   -- the text is what a line answers by what is told, and this is left
@@ -159,7 +178,7 @@ module _ {I : Type 0} (g : Ghosts I) (files : List (List ℕ × List ℕ)) where
 
   -- why a line was not answered
   abbrev pub NamesSaid : CoreView I → Result (Option Command) LineCode → RunFault → Type 0
-  NamesSaid core (Ok (Some command)) fault = NamesBy g core command fault
+  NamesSaid core (Ok (Some command)) fault = NamesBy g core files command fault
   NamesSaid core (Ok None) fault = fault ≡ Memory
   NamesSaid core (Err code) fault = fault ≡ Memory
 
@@ -172,8 +191,9 @@ module _ {I : Type 0} (g : Ghosts I) (files : List (List ℕ × List ℕ)) where
     pub tells : TellsLines old new lines text
     pub sends : Appends sent sent' text
 
-  -- the first k lines are done, and their answers, whole, and nothing else were sent; this is why the next was not answered
-  pub record TellsStop (sent sent' : Option (List ℕ)) (old : CoreView I) (fault : RunFault) (lines : List (List ℕ)) : Type 0 where
+  -- the first k lines are done, and their answers, whole, and nothing else were sent; this is why the next was not answered,
+  -- and, where it is no `load` of a file that is there, it changed nothing
+  pub record TellsStop (sent sent' : Option (List ℕ)) (old new : CoreView I) (fault : RunFault) (lines : List (List ℕ)) : Type 0 where
     pub k : ℕ
     pub within : k < length lines
     pub mid : CoreView I
@@ -181,6 +201,7 @@ module _ {I : Type 0} (g : Ghosts I) (files : List (List ℕ × List ℕ)) where
     pub tells : TellsLines old mid (take k lines) text
     pub sends : Appends sent sent' text
     pub names : NamesLine mid (slice_index_or lines k []) fault
+    pub left : (LoadsBy files (slice_index_or lines k []) → ⊥) → Leaves g mid new
 
   -- the first k lines are done, and what was sent is a prefix of their answers
   pub record TellsCut (sent sent' : Option (List ℕ)) (old new : CoreView I) (lines : List (List ℕ)) : Type 0 where
@@ -203,7 +224,9 @@ module _ {I : Type 0} (g : Ghosts I) (files : List (List ℕ × List ℕ)) where
     pub n : ℕ
     pub sends : Appends sent sent' (take n text)
 
-  -- a line is not answered, nothing was sent, and this is why
-  pub record HasNamed (sent sent' : Option (List ℕ)) (core : CoreView I) (line : List ℕ) (fault : RunFault) : Type 0 where
+  -- a line is not answered, nothing was sent, and this is why; where it is no `load` of a file that is there, it changed
+  -- nothing
+  pub record HasNamed (sent sent' : Option (List ℕ)) (old new : CoreView I) (line : List ℕ) (fault : RunFault) : Type 0 where
     pub sends : Keeps sent sent'
-    pub names : NamesLine core line fault
+    pub names : NamesLine old line fault
+    pub left : (LoadsBy files line → ⊥) → Leaves g old new

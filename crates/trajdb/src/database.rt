@@ -320,7 +320,7 @@ impl<I: Start> Core<I> {
         // one that was met and is not what it is to be there.
         ensures says { IfOk result (λ text.
             IsToldAnswer I.Listed self.old files.now command.now text.items) }
-        ensures named { IfErr result (NamesBy I.Listed self.old command.now) }
+        ensures named { IfErr result (NamesBy I.Listed self.old files.now command.now) }
         ensures asks { OnOk result (AsksIn I.Listed self.old self.new command.now) }
         ensures later { IsLater I.Listed self.old self.new }
 
@@ -464,7 +464,7 @@ impl<I: Start> Core<I> {
         ensures says_cut { IsErrOf result RunFault.Output → HasCutTold I.Listed files.now
             (W.contents out.old) (W.contents out.new) self.old self.new line.now }
         ensures named { IfErr result (λ fault. IsInside fault → HasNamed I.Listed files.now
-            (W.contents out.old) (W.contents out.new) self.old line.now fault) }
+            (W.contents out.old) (W.contents out.new) self.old self.new line.now fault) }
         ensures begins { OnOk result (Begins I.Listed self.old self.new
             (AcceptsLine self.old.limits files.now self.old.book line.now)) }
         ensures only { BeginsOnly I.Listed self.old self.new
@@ -502,7 +502,7 @@ impl<I: Start> Core<I> {
             (W.contents out.old) (W.contents out.new) self.old self.new (lines_of script.now) }
         ensures named { IfErr result (λ fault. IsInside fault → self.old.failed ≡ false
             → TellsStop I.Listed files.now (W.contents out.old) (W.contents out.new) self.old
-            fault (lines_of script.now)) }
+            self.new fault (lines_of script.now)) }
 
         // Where the output fails.
         ensures output { IsErrOf result RunFault.Output → IsSound I.Listed self.old

@@ -149,7 +149,7 @@ impl<S: PageStore> Db<S> {
         // that is named is one that was met and is not what it is to be there.
         ensures says { IfOk result (λ text.
             IsToldAnswer words self.old files.now command.now text.items) }
-        ensures named { IfErr result (NamesBy words self.old command.now) }
+        ensures named { IfErr result (NamesBy words self.old files.now command.now) }
         ensures asks { OnOk result (AsksIn words self.old self.new command.now) }
         ensures later { IsLater words self.old self.new }
 
@@ -209,8 +209,8 @@ impl<S: PageStore> Db<S> {
         ensures says_cut { IsErrOf result RunFault.Output → TellsCut words files.now
             (W.contents out.old) (W.contents out.new) self.old self.new (lines_of script.now) }
         ensures named { IfErr result (λ fault. IsInside fault → self.old.failed ≡ false
-            → TellsStop words files.now (W.contents out.old) (W.contents out.new) self.old fault
-            (lines_of script.now)) }
+            → TellsStop words files.now (W.contents out.old) (W.contents out.new) self.old self.new
+            fault (lines_of script.now)) }
 
         // Where the output fails.
         ensures output { IsErrOf result RunFault.Output → IsSound self.old → IsCut files.now

@@ -10,6 +10,7 @@ mod db;
 mod files;
 mod lasting;
 mod load;
+mod lookups;
 mod output;
 mod questions;
 mod script;

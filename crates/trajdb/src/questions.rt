@@ -74,6 +74,7 @@ impl<I: Start> Core<I> {
     /// The name of a feature.
     fn name(&self, feature: u32) -> Result<&str, RunFault>
         ensures name { IfOk result (λ name. name.now ≡ name_of self.now.book feature) }
+        ensures there { OnOk result (feature < length self.now.book.names) }
         ensures fault { IfErr result (IsText (feature < length self.now.book.names)) }
     {
         match self.tracks.name(feature) {
@@ -85,6 +86,7 @@ impl<I: Start> Core<I> {
     /// A leg with the name of its feature and the attribute values of its record.
     fn entry<'a>(&'a self, leg: &'a Leg) -> Result<Entry<'a>, RunFault>
         ensures entry { IfOk result (λ entry. entry ≡ entry_of self.now.book leg.now) }
+        ensures there { OnOk result (IsThere self.now.book leg.now) }
         ensures fault { IfErr result (IsText (IsThere self.now.book leg.now)) }
     {
         let name = self.name(leg.feature)?;
@@ -97,6 +99,7 @@ impl<I: Start> Core<I> {
     /// The answer of legs.
     pub(crate) fn legs_text(&self, alloc: Global, legs: &[Leg]) -> Result<Vec<u8>, RunFault>
         ensures text { IfOk result (λ text. text.items ≡ legs_text self.now.book legs.now) }
+        ensures there { OnOk result (All (IsThere self.now.book) legs.now) }
         ensures fault { IfErr result (IsText (All (IsThere self.now.book) legs.now)) }
     {
         let entries = self.entries(alloc, legs)?;
@@ -281,6 +284,7 @@ impl<I: Start> Core<I> {
     fn entries<'a>(&'a self, alloc: Global, legs: &'a [Leg]) -> Result<Vec<Entry<'a>>, RunFault>
         ensures entries { IfOk result (λ entries. entries.items ≡ map (entry_of
             self.now.book) legs.now) }
+        ensures there { OnOk result (All (IsThere self.now.book) legs.now) }
         ensures fault { IfErr result (IsText (All (IsThere self.now.book) legs.now)) }
     {
         let mut entries = Vec::with_capacity(alloc, legs.len())?;
@@ -294,6 +298,7 @@ impl<I: Start> Core<I> {
     fn file_text(&self, alloc: Global, head: &BookHead, legs: &[Leg]) -> Result<Vec<u8>, RunFault>
         ensures text { IfOk result (λ text. text.items ≡ file_answer
             self.now.book head.now legs.now) }
+        ensures there { OnOk result (All (IsThere self.now.book) legs.now) }
         ensures fault { IfErr result (IsText (All (IsThere self.now.book) legs.now)) }
     {
         let entries = self.entries(alloc, legs)?;

@@ -1,0 +1,98 @@
+//! What is looked up in a database by who answers in a way of their own: legs, and what is known of the book without a
+//! look at a page.
+ghost use Rattle.std.specs.Prelude.{◌≡◌};
+
+use crate::RunFault;
+use crate::db::Db;
+use legs::{BookHead, Leg, LegIndex, Limits, Rect};
+use pages::PageStore;
+use predicates::Predicate;
+use std::alloc::Global;
+use timebase::Period;
+
+impl<S: PageStore> Db<S> {
+    ghost use Rattle.std.specs.Prelude.{◌≡◌, Err, false, IfErr, IfOk, length, OnOk, option_copied, slice_get, true};
+    ghost use Rattle.legs.specs.Costs.{search_cost};
+    ghost use Rattle.legs.specs.Questions.{InBox};
+    ghost use Rattle.predicates.specs.Near.{box_near};
+    ghost use Rattle.boxsearch.specs.Index.{words};
+    ghost use Rattle.trajdb.specs.Answers.{HoldsOfLeg};
+    ghost use Rattle.trajdb.specs.Calls.{Asks, IsRefused, Leaves};
+    ghost use Rattle.trajdb.specs.Db.{HasPages, IsSound};
+    ghost use Rattle.trajdb.specs.Lasting.{IsIdle};
+    ghost use Rattle.trajdb.specs.Picks.{Picks};
+    ghost use Rattle.trajdb.specs.Telling.{ArePickedOf, DeniesLegs, Names};
+    ghost use Rattle.trajdb.specs.declared.RunFault.{RunFault};
+
+    /// The legs for which, each taken alone, a predicate holds with a rectangle over a period, in the order of the book.
+    pub fn legs(
+        &mut self,
+        alloc: Global,
+        predicate: Predicate,
+        rect: &Rect,
+        period: &Period,
+    ) -> Result<Vec<Leg>, RunFault>
+        ensures found { IfOk result (λ legs. IsSound self.old
+            → Picks (HoldsOfLeg predicate rect.now period.now) self.old.book.legs legs.items) }
+
+        // Be the database sound or not, they are picked of the legs that the pages say that were
+        // met, and a page that is named is one that was met and is not what it is to be there.
+        ensures says { IfOk result (λ legs.
+            ArePickedOf words self.old predicate rect.now period.now legs.items) }
+        ensures named { IfErr result (Names words self.old
+            (DeniesLegs words self.old (InBox (box_near predicate rect.now period.now)))) }
+        ensures asks { OnOk result (Asks words self.old self.new
+            (search_cost (box_near predicate rect.now period.now))) }
+        ensures leaves { Leaves words self.old self.new }
+        ensures refused { IfErr result (λ fault. self.old.failed ≡ false
+            → IsRefused words self.old self.new fault) }
+        ensures pages { HasPages self.old → HasPages self.new }
+        ensures rests { IsIdle self.old → IsIdle self.new }
+
+        // A failed database does nothing.
+        ensures was_failed { self.old.failed ≡ true → (result ≡ Err RunFault.Failed)
+            × (self.new ≡ self.old) }
+    {
+        catalogue::laws();
+        if self.core.failed {
+            return Err(RunFault::Failed);
+        }
+        self.core.legs_for(alloc, predicate, rect, period)
+    }
+
+    /// The name of the feature of a number; `None` where there is none.
+    pub fn name(&self, feature: u32) -> Option<&str>
+        ensures { option_copied result ≡ slice_get self.now.book.names feature }
+    {
+        self.core.tracks.name(feature)
+    }
+
+    /// What the first file said of all; `None` where no file was accepted.
+    pub fn head(&self) -> Option<&BookHead>
+        ensures { option_copied result ≡ self.now.book.head }
+    {
+        self.core.head.as_ref()
+    }
+
+    /// How many legs the index counts.
+    pub fn leg_count(&self) -> u64
+        ensures counted { result ≡ words.counted self.now.index }
+        ensures legs { IsSound self.now → result ≡ length self.now.book.legs }
+    {
+        self.core.index.len()
+    }
+
+    /// How many features there are.
+    pub fn feature_count(&self) -> u64
+        ensures { result ≡ length self.now.book.names }
+    {
+        self.core.tracks.feature_count()
+    }
+
+    /// How much the database may hold.
+    pub fn limits(&self) -> Limits
+        ensures { result ≡ self.now.limits }
+    {
+        self.core.limits
+    }
+}
