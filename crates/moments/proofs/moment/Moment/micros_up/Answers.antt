@@ -1,0 +1,34 @@
+use Rattle.std.proofs.Common.{arith, subst, sym, ◌∙◌, ℤ, pos, ◌-ℤ◌, ◌*ℤ◌, ◌≡◌, to_z, of_z, w64}
+use Rattle.std.specs.Int.{int_div_euclid, w128}
+use Rattle.std.proofs.lemmas.Int.{ints}
+use Rattle.moments.specs.Fractions.{IsCeiling}
+use Rattle.moments.proofs.Quotients.{ceiling_is, micros_up_in}
+use Rattle.moments.proofs.moment.Moment.micros_up.Goals as goal
+
+ceiling_of : (c : goal.After-div_euclid)
+    → to_z w64 (of_z w64 (pos 0 -ℤ to_z w64 (of_z w64 (to_z w128 (of_z w128 c.div_euclid.result))))) ≡ pos 0 -ℤ int_div_euclid ((pos 0 -ℤ c.args.self.num) *ℤ pos 1000) (pos c.args.self.den)
+ceiling_of c =
+    let m = c.args.self in
+    let after = m.in_time.0 in
+    let before = m.in_time.1 in
+    let num : to_z w128 (of_z w128 (to_z w128 (of_z w128 (pos 0 -ℤ to_z w128 (of_z w128 m.num))) *ℤ pos 1000)) ≡ (pos 0 -ℤ m.num) *ℤ pos 1000 = omega (arith, ints, after, before) in
+    let den : to_z w128 m.den ≡ pos m.den = omega (arith, ints) in
+    let is : c.div_euclid.result ≡ int_div_euclid ((pos 0 -ℤ m.num) *ℤ pos 1000) (pos m.den) = c.div_euclid.ensures ∙ (λ i. int_div_euclid (num i) (den i)) in
+    let within = micros_up_in m.num m.den m.positive m.in_time in
+    let least = within.0 in
+    let most = within.1 in
+    omega (arith, ints, is, least, most)
+
+pub returns-clause-ceiling : goal.returns-clause-ceiling
+returns-clause-ceiling c =
+    let m = c.args.self in
+    subst (λ (q : ℤ). IsCeiling (pos 1000) m.num m.den q) (sym (ceiling_of c)) (ceiling_is m.num (pos 1000) m.den m.positive)
+
+pub returns-clause-small : goal.returns-clause-small
+returns-clause-small c =
+    let m = c.args.self in
+    let within = micros_up_in m.num m.den m.positive m.in_time in
+    let least = within.0 in
+    let most = within.1 in
+    let e = ceiling_of c in
+    omega (arith, ints, e, least, most)

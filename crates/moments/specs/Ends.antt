@@ -1,0 +1,24 @@
+-- What a stay begins and ends by.
+use Rattle.std.specs.Prelude.{◌≡◌, ℤ, pos, ◌*ℤ◌}
+use Rattle.timebase.specs.Period.{PeriodView}
+use Rattle.moments.specs.declared.ends.End.{End}
+use Rattle.moments.specs.declared.ends.End.TheVariants.{Leg, Period, Edge}
+use Rattle.moments.specs.declared.moment.Moment.{Moment}
+use Rattle.moments.specs.declared.stay.Stay.{Stay}
+
+-- the moment is that whole millisecond
+abbrev pub IsMilli : Moment → ℤ → Type 0
+IsMilli moment at = moment.num ≡ at *ℤ pos moment.den
+
+-- the moment is the leg's own end; or else the period's; or neither
+abbrev pub IsEndBy : Moment → ℤ → ℤ → End → Type 0
+IsEndBy moment leg period Leg = IsMilli moment leg
+IsEndBy moment leg period Period = (IsMilli moment leg → ⊥) × IsMilli moment period
+IsEndBy moment leg period Edge = (IsMilli moment leg → ⊥) × (IsMilli moment period → ⊥)
+
+-- so of the first moment of a stay, the leg's start and the period's, and of the last and their ends
+abbrev pub IsBegunBy : PeriodView → Stay → End → Type 0
+IsBegunBy period stay end = IsEndBy stay.enters stay.leg.t0 period.start end
+
+abbrev pub IsEndedBy : PeriodView → Stay → End → Type 0
+IsEndedBy period stay end = IsEndBy stay.leaves stay.leg.t1 period.end end

@@ -1,0 +1,6 @@
+pub mod Fractions
+pub mod Parts
+pub mod Stays
+pub mod Ends
+pub mod Visits
+pub mod Asking

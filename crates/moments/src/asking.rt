@@ -1,0 +1,63 @@
+//! The stays that a database tells.
+ghost use Rattle.std.specs.Prelude.{◌≡◌, Err, false, IfErr, IfOk, map, OnOk, true};
+ghost use Rattle.legs.specs.Boxes.{box_over};
+ghost use Rattle.legs.specs.Costs.{search_cost};
+ghost use Rattle.legs.specs.Questions.{InBox};
+ghost use Rattle.boxsearch.specs.Index.{words};
+ghost use Rattle.trajdb.specs.Answers.{HoldsOfLeg};
+ghost use Rattle.trajdb.specs.Calls.{Asks, IsRefused, Leaves};
+ghost use Rattle.trajdb.specs.Db.{HasPages, IsSound};
+ghost use Rattle.trajdb.specs.Lasting.{IsIdle};
+ghost use Rattle.trajdb.specs.Picks.{Picks};
+ghost use Rattle.trajdb.specs.Telling.{DeniesLegs, Names};
+ghost use Rattle.trajdb.specs.declared.RunFault.{RunFault};
+ghost use Rattle.predicates.specs.declared.Predicate.{Predicate};
+ghost use Rattle.moments.specs.Asking.{AreTold};
+ghost use Rattle.moments.specs.Stays.{AreStays};
+
+use crate::listing::stays_of;
+use crate::stay::Stay;
+use legs::Rect;
+use pages::PageStore;
+use predicates::Predicate;
+use std::alloc::Global;
+use timebase::Period;
+use trajdb::{Db, RunFault};
+
+/// The stays of a database's legs in a rectangle in a period, in the order of `legs ever`.
+///
+/// Refused for want of memory, where the store fails, and where a page that is met is not what it is to be there.
+pub fn stays<S: PageStore>(
+    db: &mut Db<S>,
+    alloc: Global,
+    rect: &Rect,
+    period: &Period,
+) -> Result<Vec<Stay>, RunFault>
+    ensures found { IfOk result (λ stays. IsSound db.old
+        → AreStays rect.now period.now db.old.book.legs stays.items) }
+
+    // Each leg that `legs ever` tells is there once, in that order.
+    ensures ever { IfOk result (λ stays. IsSound db.old
+        → Picks (HoldsOfLeg Predicate.Ever rect.now period.now) db.old.book.legs
+        (map (λ stay. stay.leg) stays.items)) }
+
+    // Be the database sound or not, they are the stays of what the pages say that were met, and a
+    // page that is named is one that was met and is not what it is to be there.
+    ensures says { IfOk result (λ stays. AreTold words db.old rect.now period.now stays.items) }
+    ensures named { IfErr result (Names words db.old
+        (DeniesLegs words db.old (InBox (box_over rect.now period.now)))) }
+    ensures asks { OnOk result (Asks words db.old db.new
+        (search_cost (box_over rect.now period.now))) }
+    ensures leaves { Leaves words db.old db.new }
+    ensures refused { IfErr result (λ fault. db.old.failed ≡ false
+        → IsRefused words db.old db.new fault) }
+    ensures pages { HasPages db.old → HasPages db.new }
+    ensures rests { IsIdle db.old → IsIdle db.new }
+
+    // A failed database does nothing.
+    ensures was_failed { db.old.failed ≡ true → (result ≡ Err RunFault.Failed)
+        × (db.new ≡ db.old) }
+{
+    let legs = db.legs(alloc, Predicate::Ever, rect, period)?;
+    Ok(stays_of(alloc, legs.as_slice(), rect, period)?)
+}

@@ -1,0 +1,19 @@
+//! When legs are inside a rectangle: the first and the last moment of each, as exact fractions of a millisecond.
+#![tactic(auto)]
+
+mod asking;
+mod ends;
+mod listing;
+mod moment;
+mod stay;
+mod visits;
+
+pub use asking::stays;
+pub use ends::End;
+pub use listing::stays_of;
+pub use moment::Moment;
+pub use stay::{Stay, stay_of};
+pub use visits::{Dwell, Visit, dwells_of, visits_of};
+
+#[cfg(test)]
+mod tests;

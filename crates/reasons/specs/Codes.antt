@@ -1,0 +1,36 @@
+-- How the codes of refusals are printed.
+use Rattle.std.specs.Prelude.{ℕ, List, codes}
+use Rattle.reasons.specs.declared.codes.Code.{Code}
+use Rattle.reasons.specs.declared.codes.Code.TheVariants.{F1, F2, F3, F4, F5, F6, F7, F8, F9, F10, F11, F12, F13, F14, F15, F16, F17, F18, F19, F20, Q1, Q2, Q3, Q4, Q5, Q6, Q7, Q8, Q9, Q10}
+
+abbrev pub code_text : Code → List ℕ
+code_text F1 = codes "F1"
+code_text F2 = codes "F2"
+code_text F3 = codes "F3"
+code_text F4 = codes "F4"
+code_text F5 = codes "F5"
+code_text F6 = codes "F6"
+code_text F7 = codes "F7"
+code_text F8 = codes "F8"
+code_text F9 = codes "F9"
+code_text F10 = codes "F10"
+code_text F11 = codes "F11"
+code_text F12 = codes "F12"
+code_text F13 = codes "F13"
+code_text F14 = codes "F14"
+code_text F15 = codes "F15"
+code_text F16 = codes "F16"
+code_text F17 = codes "F17"
+code_text F18 = codes "F18"
+code_text F19 = codes "F19"
+code_text F20 = codes "F20"
+code_text Q1 = codes "Q1"
+code_text Q2 = codes "Q2"
+code_text Q3 = codes "Q3"
+code_text Q4 = codes "Q4"
+code_text Q5 = codes "Q5"
+code_text Q6 = codes "Q6"
+code_text Q7 = codes "Q7"
+code_text Q8 = codes "Q8"
+code_text Q9 = codes "Q9"
+code_text Q10 = codes "Q10"

@@ -1,0 +1,27 @@
+//! How a value that someone else wrote is shown.
+use std::fmt;
+
+/// How many characters of a value are shown.
+const MOST: usize = 60;
+
+/// A value as it is shown on a terminal: on one line, no character of it is a command, and a long one is
+/// cut behind 60 characters.
+#[derive(Clone, Copy)]
+pub struct Shown<'a>(pub &'a str);
+
+/// Whether a character may move the cursor, or turn what stands beside it.
+fn is_command(c: char) -> bool {
+    c.is_control() || matches!(c, '\u{2028}'..='\u{202e}' | '\u{2066}'..='\u{2069}')
+}
+
+impl fmt::Display for Shown<'_> {
+    fn fmt<W: fmt::Write>(&self, f: &mut fmt::Formatter<W>) -> fmt::Result {
+        for (place, c) in self.0.chars().enumerate() {
+            if place == MOST {
+                return f.write_str("...");
+            }
+            f.write_char(if is_command(c) { '\u{fffd}' } else { c })?;
+        }
+        Ok(())
+    }
+}
