@@ -2,7 +2,7 @@
 use Rattle.std.proofs.lemmas.Int.{clamps}
 use Rattle.std.proofs.Common.{arith, ℕ, ◌≡◌, ◌≤◌, ◌∙◌, ap, refl, sym, inl, inr, [], append-nil, length, true, false, Bool, IsTrue, List, Option, Some, Result, Ok, Err, subst}
 use Rattle.std.proofs.lemmas.List.{take_all}
-use Rattle.std.specs.Prelude.{IfErr, IfOk, IsErr, IsErrOf, OnErr, OnOk}
+use Rattle.std.specs.Prelude.{IfErr, IfOk, IsErrOf, OnErr, OnOk}
 use Rattle.legs.specs.Book.{Book, empty_book}
 use Rattle.legs.specs.Costs.{ShapeView}
 use Rattle.legs.specs.Limits.{LimitsView}
@@ -79,10 +79,9 @@ on_error P (Ok x) h = tt
 on_error P (Err e) h = h
 
 -- a refusal that is given only where another one is
-pub refused_by : {E F : Type 0} (P : Type 0) (r : Result (Unit {0}) E) (s : Result (Unit {0}) F) → OnErr r (IsErr s) → OnErr s P → OnErr r P
-refused_by P (Ok x) s is h = tt
-refused_by P (Err e) (Ok x) is h = let wrong : false ≡ true = is in absurd cc
-refused_by P (Err e) (Err f) is h = h
+pub refused_by : {E F : Type 0} (P : Type 0) (r : Result (Unit {0}) E) (s : Result (Unit {0}) F) (wrap : F → E) → IfErr r (λ fault. (why : F) × (s ≡ Err why) × (fault ≡ wrap why)) → OnErr s P → OnErr r P
+refused_by P (Ok x) s wrap is h = tt
+refused_by P (Err e) s wrap (why, is, same) h = subst (λ k. OnErr k P) is h
 
 -- no database is opened of a store without pages
 pub no_pages : {E : Type 0} (r : Result DbView E) (s : Store) → s.count ≡ 0 → IfOk r (λ db. IsTrue s.is_faithful → (shape : ShapeView) (limits : LimitsView) (book : Book) → HoldsBook s shape limits book → HasBook shape limits book db)

@@ -1,16 +1,18 @@
 -- What a run on a copy makes of a store's name.
-use Rattle.std.proofs.Common.{ℕ, ◌≡◌, refl, sym, subst, inl, inr, [], ◌∷◌, true, false, IsTrue, List, Option, Some, None, Result, Ok, Err}
-use Rattle.std.specs.Prelude.{is_ok, IfOk, IfSome, IsOk, OnOk}
-use Rattle.legs.specs.Book.{Book}
+use Rattle.std.proofs.Common.{ℕ, ◌≡◌, refl, sym, subst, inl, inr, [], ◌∷◌, true, false, Bool, IsTrue, List, Option, Some, None, Result, Ok, Err}
+use Rattle.std.proofs.KnownBytes.{Appends-nil}
+use Rattle.std.specs.Prelude.{is_ok, IfOk, IfSome, IsOk, OnErr, OnOk}
+use Rattle.legs.specs.Book.{Book, empty_book}
 use Rattle.legs.specs.Costs.{ShapeView}
-use Rattle.legs.specs.Limits.{LimitsView}
+use Rattle.legs.specs.Limits.{limits_of, LimitsView}
 use Rattle.pages.specs.Store.{Store}
 use Rattle.pagecache.specs.Cache.{page_of, pages_as_written, payload_of, sealed_payload, stored_payload}
 use Rattle.catalogue.specs.Holding.{HoldsBook}
 use Rattle.trajdb.specs.Db.{DbView, HasPages, IsSound}
 use Rattle.trajdb.specs.Lasting.{HasBook, IsIdle}
-use Rattle.mftb.specs.Answers.{Answers}
-use Rattle.mftb.specs.Folder.{History, HoldsNow, IsKept, RunsBeside, store_in}
+use Rattle.mftb.specs.Answers.{Answers, SendsFront, new_shape}
+use Rattle.mftb.specs.Folder.{BeginsWith, History, HoldsNow, IsKept, RunsBeside, store_in}
+use Rattle.mftb.proofs.AnswerLemmas.{front_done}
 
 -- what a folder tells of a store's name is faithful
 pub tells : (past : History) → IsTrue (store_in past).is_faithful
@@ -80,11 +82,61 @@ module _ {E F G : Type 0} (opened : Result DbView E) (ran : Result (Unit {0}) F)
         held = held_now last shape limits answer.after was is answer.holds kept_is;
       })
 
+-- the database that is opened over a copy has the book that the run begins with
+pub begun_with : {E : Type 0} (opened : Result DbView E) (first past : Store) → first ≡ past → (is_new : Bool) (shape : ShapeView) (limits : LimitsView) (book : Book) → IsTrue first.is_faithful
+    → IfOk opened (λ db. IsTrue is_new → IsTrue first.is_faithful → first.count ≡ 0 → HasBook new_shape (limits_of 16777216 1048576) empty_book db)
+    → IfOk opened (λ db. IsTrue first.is_faithful → (shape : ShapeView) (limits : LimitsView) (book : Book) → HoldsBook first shape limits book → HasBook shape limits book db)
+    → BeginsWith is_new past shape limits book → IfOk opened (HasBook shape limits book)
+begun_with (Err e) first past same is_new shape limits book faithful new kept begins = tt
+begun_with (Ok db) first past same is_new shape limits book faithful new kept (inl h) =
+    kept faithful shape limits book (subst (λ s. HoldsBook s shape limits book) (sym same) h)
+begun_with (Ok db) first past same is_new shape limits book faithful new kept (inr (n, z, s, l, b)) =
+    subst (λ t. HasBook t limits book db) (sym s)
+    (subst (λ m. HasBook new_shape m book db) (sym l)
+    (subst (λ k. HasBook new_shape (limits_of 16777216 1048576) k db) (sym b) (new n faithful (subst (λ (k : Store). k.count ≡ 0) (sym same) z))))
+
+-- nothing was sent
+pub front_none : (limits : LimitsView) (book : Book) (files : List (List ℕ × List ℕ)) (sent : Option (List ℕ)) (lines : List (List ℕ)) → SendsFront limits book files sent sent lines
+front_none limits book files sent lines = record { front = []; sends = Appends-nil sent; done = 0; text = []; answers = refl; is_front = ([], refl) }
+
+-- what is sent of a run that is refused, over the database that was opened with a book, or over none
+pub front_opened : {E F : Type 0} (opened : Result DbView E) (ran : Result (Unit {0}) F) (files : List (List ℕ × List ℕ)) (sent sent' : Option (List ℕ)) (lines : List (List ℕ)) (shape : ShapeView) (limits : LimitsView) (book : Book) (fault : F) → ran ≡ Err fault
+    → IfOk opened (λ db. db.failed ≡ false) → OnErr ran (IfOk opened (λ db. IsSound db → db.failed ≡ false → SendsFront db.limits db.book files sent sent' lines)) → OnErr opened (sent' ≡ sent)
+    → IfOk opened (HasBook shape limits book) → SendsFront limits book files sent sent' lines
+front_opened (Err e) ran files sent sent' lines shape limits book fault is lives front unsent has = subst (λ s. SendsFront limits book files sent s lines) (sym unsent) (front_none limits book files sent lines)
+front_opened (Ok db) ran files sent sent' lines shape limits book fault is lives front unsent has =
+    let sends = subst (λ r. OnErr r (IsSound db → db.failed ≡ false → SendsFront db.limits db.book files sent sent' lines)) is front in
+    subst (λ b. SendsFront limits b files sent sent' lines) has.book_is (subst (λ l. SendsFront l db.book files sent sent' lines) has.limits_are (sends has.sound lives))
+
+-- and of one that is answered
+pub front_answered : {E F : Type 0} (opened : Result DbView E) (ran : Result (Unit {0}) F) (files : List (List ℕ × List ℕ)) (sent sent' : Option (List ℕ)) (lines : List (List ℕ)) (last : Store) (shape : ShapeView) (limits : LimitsView) (book : Book) → ran ≡ Ok tt
+    → IfOk opened HasPages → IfOk opened IsIdle → OnOk ran (IsOk opened) → OnOk ran (IfOk opened (λ db. IsSound db → HasPages db → IsIdle db → Answers db.index.tree.shape db.limits db.book files sent sent' lines last))
+    → IfOk opened (HasBook shape limits book) → SendsFront limits book files sent sent' lines
+front_answered (Err e) ran files sent sent' lines last shape limits book done pages idle ok answers has =
+    let not : IsOk {T = DbView} (Err e) = subst (λ r. OnOk r (IsOk {T = DbView} (Err e))) done ok in
+    let wrong : false ≡ true = not in absurd cc
+front_answered (Ok db) ran files sent sent' lines last shape limits book done pages idle ok answers has =
+    let a = (subst (λ r. OnOk r (IsSound db → HasPages db → IsIdle db → Answers db.index.tree.shape db.limits db.book files sent sent' lines last)) done answers) has.sound pages idle in
+    subst (λ b. SendsFront limits b files sent sent' lines) has.book_is
+    (subst (λ l. SendsFront l db.book files sent sent' lines) has.limits_are
+    (front_done db.limits db.book a.after files sent sent' lines a.run))
+
 -- a result that is given only where a fact holds has it
 pub under : {G : Type 0} (kept : Result (Unit {0}) G) (was : Option History) (P : History → Type 0) → ((past : History) → was ≡ Some past → OnOk kept (P past)) → OnOk kept (IfSome was P)
 under (Err e) was P f = tt
 under (Ok x) None P f = tt
 under (Ok x) (Some past) P f = f past refl
+
+-- a fact holds where there is something
+pub some_only : (was : Option History) (P : History → Type 0) → ((past : History) → was ≡ Some past → P past) → IfSome was P
+some_only None P f = tt
+some_only (Some past) P f = f past refl
+
+-- and one that is refused
+pub under_err : {G : Type 0} (kept : Result (Unit {0}) G) (was : Option History) (P : History → Type 0) → ((past : History) → was ≡ Some past → P past) → OnErr kept (IfSome was P)
+under_err (Ok x) was P f = tt
+under_err (Err e) None P f = tt
+under_err (Err e) (Some past) P f = f past refl
 
 -- what is said under premises is said of each answer
 pub each : {G : Type 0} {A : Type 0} (kept : Result (Unit {0}) G) (P : A → Type 0) → ((a : A) → OnOk kept (P a)) → OnOk kept ((a : A) → P a)

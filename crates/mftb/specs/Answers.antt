@@ -16,7 +16,7 @@ use Rattle.trajdb.specs.declared.OpenFault.TheVariants as opening
 use Rattle.trajdb.specs.declared.Report.{Report}
 use Rattle.trajdb.specs.declared.RunFault.TheVariants as run
 use Rattle.mftb.specs.declared.fault.Fault.{Fault}
-use Rattle.mftb.specs.declared.fault.Fault.TheVariants.{Run, Open, CannotRead, CannotWrite, NotEmpty, NoPart, InUse}
+use Rattle.mftb.specs.declared.fault.Fault.TheVariants.{Run, Open, CannotRead, CannotWrite, NotEmpty, NoPart, InUse, NoStore, NoSuchStore, Bounds}
 
 -- the shape of the tree of a new database
 abbrev pub new_shape : ShapeView
@@ -66,6 +66,9 @@ IsOverFault old after new left (CannotWrite name) = ⊥
 IsOverFault old after new left NotEmpty = ⊥
 IsOverFault old after new left (NoPart part parts) = ⊥
 IsOverFault old after new left InUse = ⊥
+IsOverFault old after new left (NoStore cause) = ⊥
+IsOverFault old after new left NoSuchStore = ⊥
+IsOverFault old after new left (Bounds code) = ⊥
 
 -- why a store of version 1 that holds a book is not brought over: memory ran out or the new store is full, which then
 -- has no page, or says that it is not finished, or has a page 0 alone, whose write failed; or a store failed, and where
@@ -89,3 +92,6 @@ IsNotOver new left (CannotWrite name) = ⊥
 IsNotOver new left NotEmpty = ⊥
 IsNotOver new left (NoPart part parts) = ⊥
 IsNotOver new left InUse = ⊥
+IsNotOver new left (NoStore cause) = ⊥
+IsNotOver new left NoSuchStore = ⊥
+IsNotOver new left (Bounds code) = ⊥

@@ -1,11 +1,11 @@
 -- What the name of a store stands for, from moment to moment, and what a run makes of it.
-use Rattle.std.specs.Prelude.{ℕ, ◌≡◌, ◌⊎◌, ◌^◌, ◌-◌, List, [], ◌∷◌, length, Option, Some, None, IfSome, true, ⊤}
-use Rattle.legs.specs.Book.{Book}
+use Rattle.std.specs.Prelude.{ℕ, ◌≡◌, ◌⊎◌, ◌^◌, ◌-◌, List, [], ◌∷◌, length, Bool, Option, Some, None, IfSome, IsTrue, true, ⊤}
+use Rattle.legs.specs.Book.{Book, empty_book}
 use Rattle.legs.specs.Costs.{ShapeView}
-use Rattle.legs.specs.Limits.{LimitsView}
+use Rattle.legs.specs.Limits.{limits_of, LimitsView}
 use Rattle.pages.specs.Store.{Store}
 use Rattle.catalogue.specs.Holding.{HoldsBook}
-use Rattle.mftb.specs.Answers.{Answers}
+use Rattle.mftb.specs.Answers.{Answers, new_shape}
 
 -- the pages of the file of that name at each moment so far, the last one first; `None` where there was no file
 abbrev pub History : Type 0
@@ -24,6 +24,13 @@ pages_in (Some pages) = pages
 abbrev pub store_in : History → Store
 store_in [] = file_store []
 store_in (now ∷ past) = file_store (pages_in now)
+
+-- a run begins with a book: the one that a store holds, or the empty one, where the store has no page and is made
+abbrev pub BeginsWith : Bool → Store → ShapeView → LimitsView → Book → Type 0
+BeginsWith is_new store shape limits book =
+    HoldsBook store shape limits book
+    ⊎ (IsTrue is_new × (store.count ≡ 0) × (shape ≡ new_shape)
+    × (limits ≡ limits_of 16777216 1048576) × (book ≡ empty_book))
 
 -- a store has the same pages as another one
 abbrev pub HasPagesOf : Store → Store → Type 0

@@ -1,12 +1,11 @@
 //! A run that works on a copy beside the store.
 ghost use Rattle.std.specs.Prelude.{◌≡◌, ◌<◌, IfSome, IsTrue, OnErr, OnOk};
-ghost use Rattle.legs.specs.Book.{Book, empty_book};
+ghost use Rattle.legs.specs.Book.{Book};
 ghost use Rattle.legs.specs.Costs.{ShapeView};
-ghost use Rattle.legs.specs.Limits.{limits_of, LimitsView};
-ghost use Rattle.catalogue.specs.Holding.{HoldsBook};
+ghost use Rattle.legs.specs.Limits.{LimitsView};
 ghost use Rattle.trajdb.specs.Script.{lines_of};
-ghost use Rattle.mftb.specs.Answers.{new_shape};
-ghost use Rattle.mftb.specs.Folder.{IsKept, IsKeptOnce, IsReplaced, RunsBeside, store_in};
+ghost use Rattle.mftb.specs.Answers.{SendsFront};
+ghost use Rattle.mftb.specs.Folder.{BeginsWith, IsKept, IsKeptOnce, IsReplaced, RunsBeside, store_in};
 
 use crate::fault::Fault;
 use crate::folder::{Folder, Lasting};
@@ -83,14 +82,9 @@ pub(crate) fn run_on_copy<'a, F: Folder, W: Write>(
     // to a file that holds the book after it.
     ensures runs { OnOk result (IfSome (F.held folder.old)
         (λ past. (shape : ShapeView) (limits : LimitsView) (book : Book)
-        → HoldsBook (store_in past) shape limits book
+        → BeginsWith how.is_new (store_in past) shape limits book
         → RunsBeside shape limits book files.now (W.contents out.old) (W.contents out.new)
         (lines_of script.now) (F.held folder.old) (F.held folder.new))) }
-    ensures new { OnOk result (IfSome (F.held folder.old) (λ past. IsTrue how.is_new
-        → (store_in past).count ≡ 0
-        → RunsBeside new_shape (limits_of 16777216 1048576) empty_book files.now
-        (W.contents out.old) (W.contents out.new) (lines_of script.now)
-        (F.held folder.old) (F.held folder.new))) }
 
     // Whatever the store held, the name was given to another file once at most, and that is on the
     // disk as far as the system can make it so.
@@ -98,8 +92,14 @@ pub(crate) fn run_on_copy<'a, F: Folder, W: Write>(
     ensures settled { OnOk result (IsTrue (F.is_settled folder.old)
         → IsTrue (F.is_settled folder.new)) }
 
-    // Where it is refused the name stands for what it stood for, all along.
+    // Where it is refused the name stands for what it stood for, all along, and what was sent is the
+    // front of that text.
     ensures stays { OnErr result (F.held folder.new ≡ F.held folder.old) }
+    ensures sent { OnErr result (IfSome (F.held folder.old)
+        (λ past. (shape : ShapeView) (limits : LimitsView) (book : Book)
+        → BeginsWith how.is_new (store_in past) shape limits book
+        → SendsFront limits book files.now (W.contents out.old) (W.contents out.new)
+        (lines_of script.now))) }
 {
     let store = match folder.copy() {
         Ok(store) => store,

@@ -1,6 +1,8 @@
 //! Why the program failed.
 ghost use Rattle.std.specs.Prelude.{◌≤◌};
 
+use crate::cause::Cause;
+use querylang::LineCode;
 use std::alloc::AllocError;
 use std::fmt;
 use std::fmt::{Display, Formatter};
@@ -23,6 +25,12 @@ pub(crate) enum Fault<'a> {
     NoPart(u32, u32),
     /// Another run holds the store.
     InUse,
+    /// A call of the system on the store's file, or on what lies beside it, failed.
+    NoStore(Cause),
+    /// There is no such store, and none is to be made.
+    NoSuchStore,
+    /// The rectangle or the period is refused, as a line of a script would be.
+    Bounds(LineCode),
 }
 
 impl Fault<'_> {
@@ -31,8 +39,18 @@ impl Fault<'_> {
         ensures { result ≤ 2 }
     {
         match self {
-            Fault::NoPart(..) => 2,
+            Fault::NoPart(..) | Fault::Bounds(_) => 2,
             _ => 1,
+        }
+    }
+
+    /// Whether a store that failed is the fault.
+    pub(crate) fn is_of_store(&self) -> bool {
+        match self {
+            Fault::Run(fault) => *fault == RunFault::Store,
+            Fault::Open(fault) => *fault == OpenFault::Store,
+            Fault::NoStore(_) => true,
+            _ => false,
         }
     }
 }
@@ -55,12 +73,25 @@ impl From<OpenFault> for Fault<'_> {
     }
 }
 
+/// Why a rectangle or a period is refused.
+fn bounds_text(code: LineCode) -> &'static str {
+    match code {
+        LineCode::Q5 => "a coordinate is no number, or out of range",
+        LineCode::Q6 => "X1 is above X2, or Y1 above Y2",
+        LineCode::Q7 => "T1 or T2 is no instant, or out of range",
+        LineCode::Q8 => "T1 is after T2",
+        _ => "X1 Y1 X2 Y2 T1 T2 are one word each",
+    }
+}
+
 /// What the fault's line says after `mftb: `.
 impl Display for Fault<'_> {
     fn fmt<W: fmt::Write>(&self, f: &mut Formatter<W>) -> fmt::Result {
         match self {
             Fault::Run(RunFault::Memory) | Fault::Open(OpenFault::Memory) => f.write_str("memory"),
-            Fault::Run(RunFault::Store) | Fault::Open(OpenFault::Store) => f.write_str("store"),
+            Fault::Run(RunFault::Store) | Fault::Open(OpenFault::Store) | Fault::NoStore(_) => {
+                f.write_str("store")
+            }
             Fault::Run(RunFault::Damaged(page)) | Fault::Open(OpenFault::Damaged(page)) => {
                 write!(f, "page {page} damaged")
             }
@@ -79,6 +110,8 @@ impl Display for Fault<'_> {
                 write!(f, "no part {part} of {parts}: parts are numbered from 0")
             }
             Fault::InUse => f.write_str("store in use"),
+            Fault::NoSuchStore => f.write_str("no such store"),
+            Fault::Bounds(code) => f.write_str(bounds_text(*code)),
         }
     }
 }

@@ -1,10 +1,10 @@
 //! The locks by which runs that work on one store at once tell each other.
+use crate::cause::Cause;
 use crate::fault::Fault;
 use std::fs::{File, Metadata, OpenOptions, TryLockError};
 use std::os::unix::fs::MetadataExt;
 use std::rt::Files;
 use std::{fs, io};
-use trajdb::RunFault;
 
 /// How often a name is looked up again that another run gave to another file meanwhile.
 const MOST_LOOKS: u32 = 1000;
@@ -38,7 +38,7 @@ fn lock<'a>(file: &File, hold: Hold) -> Result<bool, Fault<'a>> {
         Err(TryLockError::WouldBlock) => Err(Fault::InUse),
         Err(TryLockError::Error(error)) => match error.kind() {
             io::ErrorKind::Unsupported => Ok(false),
-            _ => Err(Fault::Run(RunFault::Store)),
+            kind => Err(Fault::NoStore(Cause::from(kind))),
         },
     }
 }
@@ -78,7 +78,7 @@ fn look<'a, R: Files<File = File>>(
         Ok(file) => file,
         Err(error) if error.kind() == io::ErrorKind::NotFound => return Ok(Met::Absent),
         Err(error) if error.kind() == io::ErrorKind::AlreadyExists => return Ok(Met::Passed),
-        Err(_) => return Err(Fault::Run(RunFault::Store)),
+        Err(error) => return Err(Fault::NoStore(Cause::from(error.kind()))),
     };
     let is_locked = lock(&file, hold)?;
     if is_named(rt, name, &file) {
@@ -114,7 +114,7 @@ fn look_or_make<'a, R: Files<File = File>>(rt: &R, name: &str) -> Result<Met, Fa
         Met::Absent => {
             how.write(true).create_new(true);
             match look(rt, name, &how, Hold::Alone)? {
-                Met::Absent => Err(Fault::Run(RunFault::Store)),
+                Met::Absent => Err(Fault::NoStore(Cause::Absent)),
                 met => Ok(met),
             }
         }

@@ -1,9 +1,14 @@
 //! A trajectory database on the command line: `mftb run STORE SCRIPT [FILES]...`, `mftb check STORE`,
-//! `mftb migrate OLD NEW`, `mftb part K N FILE`, `mftb parts N FILE DIR`.
+//! `mftb migrate OLD NEW`, `mftb part K N FILE`, `mftb parts N FILE DIR`,
+//! `mftb moments STORE X1 Y1 X2 Y2 T1 T2`, `mftb info STORE`.
 #![tactic(auto)]
 
 mod answering;
+mod asked;
 mod beside;
+mod bounds;
+mod catalogued;
+mod cause;
 mod check;
 mod fault;
 mod file_part;
@@ -11,20 +16,30 @@ mod file_parts;
 mod folder;
 mod followed;
 mod held_file;
+mod info;
+mod info_text;
 mod locks;
 mod migrate;
+mod moments_text;
 mod names;
 mod noted;
+mod notes;
 mod opening;
+mod outcome;
 mod part_files;
+mod passages;
 mod progress;
+mod reach;
 mod read_only;
 mod reading;
+mod root;
 mod run;
 mod session;
 mod start;
 mod system_folder;
+mod telling;
 mod words;
+mod wrote;
 
 use start::start;
 use std::io::{ErrorKind, IsTerminal, Write};

@@ -94,7 +94,8 @@ pub(crate) fn migrate<'a, R: Files<File = File> + AllocGlobal + RandomSource, W:
         return Err(Fault::Run(RunFault::Memory));
     };
     let mut old = open_asked(rt, &Names::new(rt, migrate.old)?)?;
-    let new = open_in_place(rt, &Names::new(rt, migrate.new)?)?;
+    let names = Names::new(rt, migrate.new)?;
+    let new = open_in_place(rt, &names)?;
     if new.len() != 0 {
         return Err(Fault::NotEmpty);
     }

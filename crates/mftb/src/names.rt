@@ -1,6 +1,8 @@
 //! The names of a store and of what lies beside it while a run works on a copy.
+use crate::cause::Cause;
 use crate::fault::Fault;
 use std::alloc::Global;
+use std::cell::Cell;
 use std::fs::File;
 use std::path::Path;
 use std::rt::Files;
@@ -16,6 +18,8 @@ pub(crate) struct Names {
     pub(crate) copy: String,
     /// An empty file whose lock the run holds.
     pub(crate) lock: String,
+    /// Why a call on a file failed last that is written.
+    pub(crate) cause: Cell<Option<Cause>>,
 }
 
 /// The name of a store's file, behind links; as it was given where there is none yet.
@@ -36,7 +40,21 @@ impl Names {
         let store = resolved(rt, store)?;
         let copy = format!(in alloc; "{store}.mftb-copy")?;
         let lock = format!(in alloc; "{store}.mftb-lock")?;
-        Ok(Names { store, copy, lock })
+        let cause = Cell::new(None);
+        Ok(Names {
+            store,
+            copy,
+            lock,
+            cause,
+        })
+    }
+
+    /// A fault, with the cause that was noted where it is one of the store.
+    pub(crate) fn caused<'a>(&self, fault: Fault<'a>) -> Fault<'a> {
+        match self.cause.get() {
+            Some(cause) if fault.is_of_store() => Fault::NoStore(cause),
+            _ => fault,
+        }
     }
 
     /// Makes the names of the folder last, where the system can.

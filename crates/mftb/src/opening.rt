@@ -1,4 +1,5 @@
 //! How the file of a store is opened, and held, for what a run does with it.
+use crate::cause::Cause;
 use crate::fault::Fault;
 use crate::held_file::HeldFile;
 use crate::locks::{Hold, open_held};
@@ -8,7 +9,6 @@ use pages::FileStore;
 use std::fs::{File, OpenOptions};
 use std::rt::Files;
 use std::{fs, io};
-use trajdb::RunFault;
 
 /// Whether there is no file of that name, or one without bytes.
 pub(crate) fn is_absent<R: Files<File = File>>(rt: &R, name: &str) -> bool {
@@ -50,19 +50,24 @@ fn is_left<R: Files<File = File>>(rt: &R, name: &str) -> bool {
     fs::symlink_metadata(rt, name).is_ok()
 }
 
-/// The store of a file that is opened so, and held.
-fn open_store<'a, R: Files<File = File>>(
+/// The file of a store that is opened so, and held.
+fn open_file<'a, R: Files<File = File>>(
     rt: &R,
     name: &str,
     how: &OpenOptions,
     hold: Hold,
-) -> Result<FileStore<HeldFile<File>>, Fault<'a>> {
-    let Some(held) = open_held(rt, name, how, hold)? else {
-        return Err(Fault::Run(RunFault::Store));
-    };
-    match FileStore::new(HeldFile::new(held.file)) {
+) -> Result<File, Fault<'a>> {
+    match open_held(rt, name, how, hold)? {
+        Some(held) => Ok(held.file),
+        None => Err(Fault::NoStore(Cause::Absent)),
+    }
+}
+
+/// The store of a file that is read alone.
+fn store_of<'a>(file: File) -> Result<FileStore<HeldFile<'static, File>>, Fault<'a>> {
+    match FileStore::new(HeldFile::new(file)) {
         Ok(store) => Ok(store),
-        Err(_) => Err(Fault::Run(RunFault::Store)),
+        Err(_) => Err(Fault::NoStore(Cause::Other)),
     }
 }
 
@@ -71,22 +76,27 @@ fn open_store<'a, R: Files<File = File>>(
 pub(crate) fn open_asked<'a, R: Files<File = File>>(
     rt: &R,
     names: &Names,
-) -> Result<ReadOnly<FileStore<HeldFile<File>>>, Fault<'a>> {
+) -> Result<ReadOnly<FileStore<HeldFile<'static, File>>>, Fault<'a>> {
     let name = names.store.as_str();
     let mut how = File::options();
     how.read(true);
     if !is_left(rt, name) {
         how.write(true).create(true);
     }
-    Ok(ReadOnly::new(open_store(rt, name, &how, Hold::Shared)?))
+    let file = open_file(rt, name, &how, Hold::Shared)?;
+    Ok(ReadOnly::new(store_of(file)?))
 }
 
 /// Opens a store to be written as it lies there, alone; a file that is absent is made.
-pub(crate) fn open_in_place<'a, R: Files<File = File>>(
+pub(crate) fn open_in_place<'a, 'n, R: Files<File = File>>(
     rt: &R,
-    names: &Names,
-) -> Result<FileStore<HeldFile<File>>, Fault<'a>> {
+    names: &'n Names,
+) -> Result<FileStore<HeldFile<'n, File>>, Fault<'a>> {
     let mut how = File::options();
     how.read(true).write(true).create(true);
-    open_store(rt, names.store.as_str(), &how, Hold::Alone)
+    let file = open_file(rt, names.store.as_str(), &how, Hold::Alone)?;
+    match FileStore::new(HeldFile::noted(file, &names.cause)) {
+        Ok(store) => Ok(store),
+        Err(_) => Err(Fault::NoStore(Cause::Other)),
+    }
 }

@@ -1,4 +1,6 @@
 //! What a long run is doing, said on standard error.
+use crate::notes::Place;
+use reasons::cut;
 use std::cell::Cell;
 use std::fmt;
 use std::fmt::{Display, Formatter};
@@ -71,7 +73,10 @@ pub(crate) struct Progress<'a, R: Clock + Eprint> {
     told: Told,
     begin: Option<Instant>,
     script: &'a [u8],
-    /// Where the script goes on behind the line that the run is at.
+    /// Where the line begins that the run is at, and where it ends, without its line end.
+    start: Cell<usize>,
+    end: Cell<usize>,
+    /// Where the script goes on behind that line.
     place: Cell<usize>,
     line: Cell<u64>,
     command: Cell<&'a str>,
@@ -88,7 +93,7 @@ pub(crate) struct Progress<'a, R: Clock + Eprint> {
 /// The first word of a line, or `?` for one that is no name of a command; `None` where the line has no
 /// answer.
 fn command_of(line: &[u8]) -> Option<&str> {
-    let line = line.trim_ascii();
+    let line = cut(line);
     if line.is_empty() || line.starts_with(b"#".as_slice()) {
         return None;
     }
@@ -122,6 +127,8 @@ impl<'a, R: Clock + Eprint> Progress<'a, R> {
             told,
             begin: Instant::now(rt).ok(),
             script,
+            start: Cell::new(0),
+            end: Cell::new(0),
             place: Cell::new(0),
             line: Cell::new(0),
             command: Cell::new(""),
@@ -138,14 +145,33 @@ impl<'a, R: Clock + Eprint> Progress<'a, R> {
     fn go_on(&self) {
         let rest = self.script.get(self.place.get()..);
         for line in rest.unwrap_or(b"".as_slice()).split(|c| *c == b'\n') {
-            let end = self.place.get().saturating_add(line.len());
+            let start = self.place.get();
+            let end = start.saturating_add(line.len());
             self.place.set(end.saturating_add(1));
             self.line.set(self.line.get().saturating_add(1));
-            if let Some(command) = command_of(line) {
+            let text = line.strip_suffix(b"\r".as_slice()).unwrap_or(line);
+            if let Some(command) = command_of(text) {
+                self.start.set(start);
+                self.end.set(start.saturating_add(text.len()));
                 self.command.set(command);
                 break;
             }
         }
+    }
+
+    /// Where the line stands that the run is at, and the line.
+    pub(crate) fn at(&self) -> (Place, &'a [u8]) {
+        let place = Place {
+            line: self.line.get(),
+            start: self.start.get(),
+            end: self.end.get(),
+        };
+        (place, place.text_in(self.script))
+    }
+
+    /// How many legs were loaded so far.
+    pub(crate) fn legs(&self) -> u64 {
+        self.legs.get()
     }
 
     /// How many milliseconds the run has lasted.

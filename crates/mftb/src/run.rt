@@ -1,5 +1,6 @@
 //! `mftb run`: a script over the database that a file keeps.
-ghost use Rattle.std.specs.Prelude.{◌<◌};
+ghost use Rattle.std.specs.Prelude.{◌≡◌, ◌<◌, IsTrue};
+ghost use Rattle.mftb.specs.declared.outcome.Outcome.{Outcome};
 
 use crate::beside::{Opening, run_on_copy};
 use crate::fault::Fault;
@@ -7,12 +8,16 @@ use crate::followed::Followed;
 use crate::locks::hold_name;
 use crate::names::Names;
 use crate::noted::Noted;
+use crate::notes::Notes;
 use crate::opening::{is_absent, is_special, open_asked, open_in_place, sweep};
+use crate::outcome::Outcome;
 use crate::progress::{Progress, Told};
+use crate::reach::{Reach, reach_of};
 use crate::reading::{MOST_BYTES, has_load, read_files, read_named};
 use crate::session::{answer, database};
 use crate::system_folder::SystemFolder;
-use crate::words::Run;
+use crate::telling::{Given, tell, tell_made};
+use crate::words::{Run, Telling};
 use pages::PageStore;
 use std::fs::File;
 use std::hash::RandomState;
@@ -106,12 +111,50 @@ fn run_beside<'a, R: rt::Files<File = File> + rt::Clock + Eprint, W: Write>(
     result
 }
 
+/// How a run ended in which so many lines and files were refused.
+fn outcome_of(is_strict: bool, refused: u64) -> Outcome
+    ensures { result ≡ Outcome.Refused → IsTrue is_strict × (0 < refused) }
+{
+    if is_strict && refused > 0 {
+        Outcome::Refused
+    } else {
+        Outcome::Done
+    }
+}
+
+/// Runs a script over the store of those names, in the way that it asks for.
+fn run_named<'a, R: rt::Files<File = File> + rt::Clock + Eprint, W: Write>(
+    rt: &R,
+    run: &Run<'a>,
+    names: &Names,
+    progress: &Progress<'_, R>,
+    how: Opening,
+    script: &[u8],
+    files: &Files,
+    out: &mut W,
+) -> Result<(), Fault<'a>>
+    requires { 0 < how.cache_pages }
+{
+    if !how.is_new && !has_load(how.alloc, script)? {
+        ask(rt, names, progress, how, script, files, out)
+    } else if run.in_place || is_special(rt, names.store.as_str()) {
+        run_in_place(rt, names, progress, how, script, files, out)
+    } else {
+        run_beside(rt, names, progress, how, script, files, out)
+    }
+}
+
+/// Whether the store of that name has no legs, where that is to be known.
+fn is_without_legs<R: rt::Files<File = File>>(rt: &R, name: &str, is_told: bool) -> bool {
+    is_told && reach_of(rt, name) == Reach::Nowhere
+}
+
 /// Reads all that is named, opens the store, and then runs the script.
 pub(crate) fn run<
     'a,
     R: rt::Files<File = File> + rt::Clock + Eprint + AllocGlobal + RandomSource,
     W: Write,
->(rt: &R, run: &Run<'a>, out: &mut W, is_terminal: bool) -> Result<(), Fault<'a>> {
+>(rt: &R, run: &Run<'a>, out: &mut W, is_terminal: bool) -> Result<Outcome, Fault<'a>> {
     let alloc = rt.alloc();
     let script = read_named(rt, run.script, MOST_BYTES)?;
     let files = read_files(rt, &run.files)?;
@@ -125,15 +168,27 @@ pub(crate) fn run<
         is_new: is_absent(rt, names.store.as_str()),
         cache_pages: run.cache_pages.max(1),
     };
-    let progress = Progress::new(rt, Told::new(run.progress, is_terminal), &script);
-    let out = &mut Followed::new(out, &progress);
-    let result = if !how.is_new && !has_load(alloc, &script)? {
-        ask(rt, &names, &progress, how, &script, &files, out)
-    } else if run.in_place || is_special(rt, names.store.as_str()) {
-        run_in_place(rt, &names, &progress, how, &script, &files, out)
-    } else {
-        run_beside(rt, &names, &progress, how, &script, &files, out)
-    };
+    if how.is_new && run.is_existing {
+        return Err(Fault::NoSuchStore);
+    }
+    let is_shown = is_terminal && run.telling != Telling::Never;
+    let progress = Progress::new(rt, Told::new(run.progress, is_shown), &script);
+    let is_told = run.telling.is_told(is_terminal);
+    let is_empty = how.is_new || is_without_legs(rt, names.store.as_str(), is_told);
+    let mut out = Followed::new(out, &progress, Notes::new(alloc, is_told, is_empty));
+    let ended = run_named(rt, run, &names, &progress, how, &script, &files, &mut out);
     progress.clear();
-    result
+    if ended.is_ok() && is_told && how.is_new && !has_load(alloc, &script)? {
+        tell_made(rt, run.store);
+    }
+    let given = Given {
+        name: run.script,
+        script: &script,
+        files: &files,
+    };
+    tell(rt, run.store, &given, out.notes());
+    match ended {
+        Ok(()) => Ok(outcome_of(run.is_strict, out.notes().refused())),
+        Err(fault) => Err(names.caused(fault)),
+    }
 }

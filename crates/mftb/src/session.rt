@@ -1,5 +1,5 @@
 //! A database over a store of any kind: it is made or opened, a script is run, and it is closed.
-ghost use Rattle.std.specs.Prelude.{◌≡◌, ◌<◌, false, Ok, IfOk, IsErr, IsOk, IsTrue, OnErr, OnOk};
+ghost use Rattle.std.specs.Prelude.{◌≡◌, ◌<◌, false, Ok, Err, IfErr, IfOk, IsOk, IsTrue, OnErr, OnOk};
 ghost use Rattle.legs.specs.Costs.{ShapeView};
 ghost use Rattle.legs.specs.Limits.{limits_of, LimitsView};
 ghost use Rattle.legs.specs.Book.{Book, empty_book};
@@ -87,7 +87,8 @@ pub(crate) fn run_and_close<S: PageStore, W: Write>(
 /// What a run answers, as an answer of the program.
 fn answer_of<'a>(ran: Result<(), RunFault>) -> Result<(), Fault<'a>>
     ensures ok { OnOk result (ran ≡ Ok tt) }
-    ensures err { OnErr result (IsErr ran) }
+    ensures err { IfErr result (λ fault. (why : RunFault) × (ran ≡ Err why)
+        × (fault ≡ Fault.Run why)) }
 {
     match ran {
         Ok(()) => Ok(()),

@@ -1,12 +1,17 @@
 //! The program, over any runtime and writers.
-ghost use Rattle.std.specs.Prelude.{◌≤◌};
+ghost use Rattle.std.specs.Prelude.{◌≡◌, ◌≤◌, codes, Any, IsTrue};
+ghost use Rattle.std.specs.String.{string_bytes};
 
 use crate::check::check;
 use crate::fault::Fault;
 use crate::file_part::print_part;
 use crate::file_parts::write_parts;
+use crate::info::print_info;
 use crate::migrate::migrate;
+use crate::outcome::Outcome;
+use crate::passages::print_moments;
 use crate::run::run;
+use crate::telling::Before;
 use crate::words::{Task, read_words};
 use clap::error::ErrorKind;
 use std::fs::File;
@@ -14,34 +19,66 @@ use std::io::{Eprint, Write};
 use std::random::RandomSource;
 use std::rt;
 
+/// How the program ended that has nothing to say of what it did.
+fn done<'a>(ended: Result<(), Fault<'a>>) -> Result<Outcome, Fault<'a>> {
+    match ended {
+        Ok(()) => Ok(Outcome::Done),
+        Err(fault) => Err(fault),
+    }
+}
+
 /// Does what the program is asked to do.
 fn perform<
     'a,
     R: rt::Files<File = File> + rt::Clock + Eprint + AllocGlobal + RandomSource,
     W: Write,
->(rt: &R, task: &Task<'a>, out: &mut W, is_terminal: bool) -> Result<(), Fault<'a>> {
+>(rt: &R, task: &Task<'a>, out: &mut W, is_terminal: bool) -> Result<Outcome, Fault<'a>> {
     match task {
         Task::Run(task) => run(rt, task, out, is_terminal),
-        Task::Check(task) => check(rt, task, out),
-        Task::Migrate(task) => migrate(rt, task, out),
-        Task::Part(task) => print_part(rt, task, out),
-        Task::Parts(task) => write_parts(rt, task),
+        Task::Check(task) => done(check(rt, task, out)),
+        Task::Migrate(task) => done(migrate(rt, task, out)),
+        Task::Part(task) => done(print_part(rt, task, out)),
+        Task::Parts(task) => done(write_parts(rt, task)),
+        Task::Moments(task) => done(print_moments(rt, task, out)),
+        Task::Info(task) => done(print_info(rt, task, out)),
     }
 }
 
-/// Runs the program, and answers its exit status: 0, or 2 for wrong words, or 1 for any other fault.
+/// Whether a word is `--strict`.
+fn is_strict(word: &str) -> bool
+    ensures { IsTrue result → word.now ≡ codes "--strict" }
+{
+    word == "--strict"
+}
+
+/// Whether one of the words is `--strict`.
+fn has_strict(words: &[String]) -> bool
+    ensures { IsTrue result → Any (λ w. string_bytes w ≡ codes "--strict") words.now }
+{
+    for i in 0..words.len() {
+        if is_strict(words[i].as_str()) {
+            return true;
+        }
+    }
+    false
+}
+
+/// Runs the program, and answers its exit status: 0, or 3 where a line or a file was refused and
+/// `--strict` is among the words, or 2 for wrong words, or 1 for any other fault.
 ///
 /// `words` has the program's name first. Answers and help go to `out`, faults to `faults`.
-/// What a long run is doing is said on standard error, which may be a terminal.
+/// What a long run is doing, and in words what went wrong, is said on standard error, which may be a
+/// terminal.
 pub fn start<
     R: rt::Files<File = File> + rt::Clock + Eprint + AllocGlobal + RandomSource,
     W: Write,
     V: Write,
 >(rt: &R, words: &[String], out: &mut W, faults: &mut V, is_terminal: bool) -> u8
-    ensures status { result ≤ 2 }
+    ensures status { result ≤ 3 }
+    ensures strict { result ≡ 3 → Any (λ w. string_bytes w ≡ codes "--strict") words.now }
 {
-    let words = match read_words(rt.alloc(), words) {
-        Ok(words) => words,
+    let task = match read_words(rt.alloc(), words) {
+        Ok(task) => task,
         Err(error) if error.kind() == ErrorKind::OutOfMemory => {
             let _ = writeln!(faults, "mftb: memory");
             return 1;
@@ -55,10 +92,13 @@ pub fn start<
             return 0;
         }
     };
-    match perform(rt, &words, out, is_terminal) {
-        Ok(()) => 0,
+    let before = Before::new(rt, &task, is_terminal);
+    match perform(rt, &task, out, is_terminal) {
+        Ok(Outcome::Refused) if has_strict(words) => 3,
+        Ok(_) => 0,
         Err(fault) => {
             let _ = writeln!(faults, "mftb: {fault}");
+            before.tell(rt, &task, &fault);
             fault.status()
         }
     }

@@ -1,6 +1,7 @@
 //! The folder of a store's file, as the system has it.
 ghost use Rattle.std.specs.Prelude.{◌≡◌, None};
 
+use crate::cause::Cause;
 use crate::fault::Fault;
 use crate::folder::Folder;
 use crate::held_file::HeldFile;
@@ -14,7 +15,6 @@ use std::io::{Eprint, Read, Write};
 use std::os::unix::fs::{MetadataExt, OpenOptionsExt, chown};
 use std::rt::{Clock, Files};
 use std::{fs, io};
-use trajdb::RunFault;
 
 /// Who may read and write a copy while it is made: its maker.
 const OWN_MODE: u32 = 0o600;
@@ -47,7 +47,7 @@ fn remove<'a, R: Files>(rt: &R, name: &str) -> Result<(), Fault<'a>> {
     match fs::remove_file(rt, name) {
         Ok(()) => Ok(()),
         Err(error) if error.kind() == io::ErrorKind::NotFound => Ok(()),
-        Err(_) => Err(Fault::Run(RunFault::Store)),
+        Err(error) => Err(Fault::NoStore(Cause::from(error.kind()))),
     }
 }
 
@@ -89,7 +89,7 @@ fn make<'a, R: Files<File = File>>(rt: &R, name: &str, mode: u32) -> Result<File
     match how.open(rt, name) {
         Ok(copy) => Ok(copy),
         Err(error) if error.kind() == io::ErrorKind::AlreadyExists => Err(Fault::InUse),
-        Err(_) => Err(Fault::Run(RunFault::Store)),
+        Err(error) => Err(Fault::NoStore(Cause::from(error.kind()))),
     }
 }
 
@@ -178,41 +178,41 @@ impl<'a, 'p, R: Files<File = File> + Clock + Eprint> SystemFolder<'a, 'p, R> {
             return Err(Fault::InUse);
         }
         if let Some(store) = &mut self.store
-            && fill(rt, name, &mut copy, store).is_err()
+            && let Err(error) = fill(rt, name, &mut copy, store)
         {
-            return Err(Fault::Run(RunFault::Store));
+            return Err(Fault::NoStore(Cause::from(error.kind())));
         }
         Ok(copy)
     }
 }
 
 impl<'a, 'p, R: Files<File = File> + Clock + Eprint> Folder for SystemFolder<'a, 'p, R> {
-    type Store = Noted<'a, 'p, FileStore<HeldFile<File>>, R>;
+    type Store = Noted<'a, 'p, FileStore<HeldFile<'a, File>>, R>;
 
     ghost held = { λ _. None };
 
     ghost is_settled = { λ s. s.is_settled };
 
-    fn copy<'b>(&mut self) -> Result<Noted<'a, 'p, FileStore<HeldFile<File>>, R>, Fault<'b>> {
+    fn copy<'b>(&mut self) -> Result<Noted<'a, 'p, FileStore<HeldFile<'a, File>>, R>, Fault<'b>> {
         let copy = self.make_copy()?;
-        match FileStore::new(HeldFile::new(copy)) {
+        match FileStore::new(HeldFile::noted(copy, &self.names.cause)) {
             Ok(store) => Ok(Noted::new(store, self.progress)),
-            Err(_) => Err(Fault::Run(RunFault::Store)),
+            Err(_) => Err(Fault::NoStore(Cause::Other)),
         }
     }
 
-    fn differs(&self, store: &Noted<'a, 'p, FileStore<HeldFile<File>>, R>) -> bool {
+    fn differs(&self, store: &Noted<'a, 'p, FileStore<HeldFile<'a, File>>, R>) -> bool {
         store.is_written()
     }
 
     fn replace<'b>(
         &mut self,
-        _store: Noted<'a, 'p, FileStore<HeldFile<File>>, R>,
+        _store: Noted<'a, 'p, FileStore<HeldFile<'a, File>>, R>,
     ) -> Result<(), Fault<'b>> {
         let (copy, name) = (self.names.copy.as_str(), self.names.store.as_str());
         self.is_settled = false;
-        if fs::rename(self.rt, copy, name).is_err() {
-            return Err(Fault::Run(RunFault::Store));
+        if let Err(error) = fs::rename(self.rt, copy, name) {
+            return Err(Fault::NoStore(Cause::from(error.kind())));
         }
         self.is_made = false;
         Ok(())

@@ -410,7 +410,8 @@ fn pages_asked(alloc: Global, words: &[&str]) -> Result<u32, Fail> {
     match &task {
         Task::Run(run) => Ok(run.cache_pages),
         Task::Check(check) => Ok(check.cache_pages),
-        Task::Migrate(_) | Task::Part(_) | Task::Parts(_) => Err(Fail::from(
+        Task::Moments(moments) => Ok(moments.cache_pages),
+        Task::Migrate(_) | Task::Part(_) | Task::Parts(_) | Task::Info(_) => Err(Fail::from(
             "no cache of a database",
         )),
     }

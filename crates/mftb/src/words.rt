@@ -2,6 +2,28 @@
 use clap::{Arg, ArgAction, ArgMatches, Command, Error, value_parser};
 use std::alloc::{AllocError, Global};
 
+/// When it is said in words what went wrong.
+#[derive(Clone, Copy, PartialEq, Eq, Debug)]
+pub(crate) enum Telling {
+    /// On a terminal.
+    OnTerminal,
+    /// Always.
+    Always,
+    /// Never.
+    Never,
+}
+
+impl Telling {
+    /// Whether it is said, on a terminal or elsewhere.
+    pub(crate) fn is_told(self, is_terminal: bool) -> bool {
+        match self {
+            Telling::OnTerminal => is_terminal,
+            Telling::Always => true,
+            Telling::Never => false,
+        }
+    }
+}
+
 /// What `mftb run` is asked to do.
 #[derive(Drop)]
 pub(crate) struct Run<'a> {
@@ -17,6 +39,12 @@ pub(crate) struct Run<'a> {
     pub(crate) in_place: bool,
     /// Whether it is said what the run is doing.
     pub(crate) progress: bool,
+    /// When it is said why a line or a file was refused.
+    pub(crate) telling: Telling,
+    /// Whether a line or a file that is refused changes the status.
+    pub(crate) is_strict: bool,
+    /// Whether a store that is absent is refused.
+    pub(crate) is_existing: bool,
 }
 
 /// What `mftb check` is asked to do.
@@ -26,6 +54,8 @@ pub(crate) struct Check<'a> {
     pub(crate) store: &'a str,
     /// How many pages its cache holds at most, at least 1.
     pub(crate) cache_pages: u32,
+    /// When it is said why it could not be read.
+    pub(crate) telling: Telling,
 }
 
 /// What `mftb migrate` is asked to do.
@@ -63,6 +93,46 @@ pub(crate) struct Parts<'a> {
     pub(crate) folder: &'a str,
 }
 
+/// A rectangle and a period, as they were written.
+#[derive(Clone, Copy)]
+pub(crate) struct Bounds<'a> {
+    /// X1, Y1, X2 and Y2.
+    pub(crate) corners: [&'a str; 4],
+    /// T1 and T2.
+    pub(crate) times: [&'a str; 2],
+}
+
+/// What is printed of stays.
+#[derive(Clone, Copy)]
+pub(crate) enum Rows {
+    /// A record a leg.
+    Legs,
+    /// A record a visit.
+    Visits,
+    /// A record a feature.
+    Dwell,
+}
+
+/// What `mftb moments` is asked to do.
+#[derive(Clone, Copy)]
+pub(crate) struct Moments<'a> {
+    /// The name of the file that keeps the database.
+    pub(crate) store: &'a str,
+    /// How many pages its cache holds at most, at least 1.
+    pub(crate) cache_pages: u32,
+    pub(crate) bounds: Bounds<'a>,
+    pub(crate) rows: Rows,
+}
+
+/// What `mftb info` is asked to do.
+#[derive(Clone, Copy)]
+pub(crate) struct Info<'a> {
+    /// The name of the file that keeps the database.
+    pub(crate) store: &'a str,
+    /// Whether it is printed as JSON.
+    pub(crate) is_json: bool,
+}
+
 /// What the program is asked to do.
 #[derive(Drop)]
 pub(crate) enum Task<'a> {
@@ -76,6 +146,10 @@ pub(crate) enum Task<'a> {
     Part(Part<'a>),
     /// To write all parts of a file.
     Parts(Parts<'a>),
+    /// To say when legs are inside a rectangle.
+    Moments(Moments<'a>),
+    /// To say what a store holds.
+    Info(Info<'a>),
 }
 
 /// How many pages the cache of a database holds where no other number is given.
@@ -96,6 +170,34 @@ fn cache_pages<'a>(alloc: Global) -> Arg<'a> {
         .help("How many pages of the file are kept in memory, 4096 bytes each")
         .value_parser(value_parser!(u32).range(1..))
         .default_value("256")
+}
+
+/// A word `--NAME` without a value.
+fn flag<'a>(alloc: Global, name: &'a str, help: &'a str) -> Arg<'a> {
+    Arg::new(alloc, name)
+        .long(name)
+        .help(help)
+        .action(ArgAction::SetTrue)
+}
+
+/// The word `--explain`.
+fn explain<'a>(alloc: Global) -> Result<Arg<'a>, AllocError> {
+    flag(
+        alloc,
+        "explain",
+        "Say on standard error, in words, what went wrong; on a terminal it is said anyway",
+    )
+    .conflicts_with("quiet")
+}
+
+/// The word `-q`.
+fn quiet<'a>(alloc: Global) -> Arg<'a> {
+    flag(
+        alloc,
+        "quiet",
+        "Say on standard error only why the run could not go on",
+    )
+    .short('q')
 }
 
 /// A word `--NAME N`.
@@ -123,20 +225,28 @@ fn run_command<'a>(alloc: Global) -> Result<Command<'a>, AllocError> {
                 .num_args(0..),
         )?
         .arg(cache_pages(alloc))?
-        .arg(
-            Arg::new(alloc, "in-place")
-                .long("in-place")
-                .help(
-                    "Load into the file itself and not into a copy: what is killed then loses the store",
-                )
-                .action(ArgAction::SetTrue),
-        )?
-        .arg(
-            Arg::new(alloc, "progress")
-                .long("progress")
-                .help("Say on standard error what the run is doing")
-                .action(ArgAction::SetTrue),
-        )
+        .arg(flag(
+            alloc,
+            "in-place",
+            "Load into the file itself and not into a copy: what is killed then loses the store",
+        ))?
+        .arg(flag(
+            alloc,
+            "existing",
+            "Refuse a STORE that is absent or empty, and make none",
+        ))?
+        .arg(flag(
+            alloc,
+            "strict",
+            "End with status 3 where a line or a file was refused",
+        ))?
+        .arg(explain(alloc)?)?
+        .arg(quiet(alloc))?
+        .arg(flag(
+            alloc,
+            "progress",
+            "Say on standard error what the run is doing",
+        ))
 }
 
 /// The words of `mftb check`.
@@ -144,7 +254,9 @@ fn check_command<'a>(alloc: Global) -> Result<Command<'a>, AllocError> {
     Command::new(alloc, "check")
         .about("Checks that the pages of a file hold one database")
         .arg(required(alloc, "STORE", "The file that keeps the database"))?
-        .arg(cache_pages(alloc))
+        .arg(cache_pages(alloc))?
+        .arg(explain(alloc)?)?
+        .arg(quiet(alloc))
 }
 
 /// The words of `mftb migrate`.
@@ -193,6 +305,50 @@ fn parts_command<'a>(alloc: Global) -> Result<Command<'a>, AllocError> {
         .arg(number(alloc, "count", "C", "Write only so many parts"))
 }
 
+/// A word of a rectangle or a period; a number may be below 0.
+fn bound<'a>(alloc: Global, name: &'a str, help: &'a str) -> Arg<'a> {
+    required(alloc, name, help).allow_negative_numbers(true)
+}
+
+/// The words of a rectangle and a period.
+fn with_bounds<'a>(alloc: Global, command: Command<'a>) -> Result<Command<'a>, AllocError> {
+    command
+        .arg(bound(alloc, "X1", "The least x"))?
+        .arg(bound(alloc, "Y1", "The least y"))?
+        .arg(bound(alloc, "X2", "The greatest x"))?
+        .arg(bound(alloc, "Y2", "The greatest y"))?
+        .arg(bound(alloc, "T1", "The first moment, as 2012-01-17T12:33:41Z"))?
+        .arg(bound(alloc, "T2", "The last moment"))
+}
+
+/// The words of `mftb moments`.
+fn moments_command<'a>(alloc: Global) -> Result<Command<'a>, AllocError> {
+    let command = Command::new(alloc, "moments")
+        .about("Prints when legs are inside a rectangle in a period, as exact fractions")
+        .arg(required(alloc, "STORE", "The file that keeps the database"))?;
+    let dwell = flag(
+        alloc,
+        "dwell",
+        "Print a record a feature: how long it stays in all",
+    );
+    with_bounds(alloc, command)?
+        .arg(flag(
+            alloc,
+            "visits",
+            "Print a record a visit: the stays of a feature, joined over legs without a gap",
+        ))?
+        .arg(dwell.conflicts_with("visits")?)?
+        .arg(cache_pages(alloc))
+}
+
+/// The words of `mftb info`.
+fn info_command<'a>(alloc: Global) -> Result<Command<'a>, AllocError> {
+    Command::new(alloc, "info")
+        .about("Prints what the database of a file holds")
+        .arg(required(alloc, "STORE", "The file that keeps the database"))?
+        .arg(flag(alloc, "json", "Print one object of JSON"))
+}
+
 fn mftb<'a>(alloc: Global) -> Result<Command<'a>, AllocError> {
     Command::new(alloc, "mftb")
         .about("A trajectory database")
@@ -202,12 +358,25 @@ fn mftb<'a>(alloc: Global) -> Result<Command<'a>, AllocError> {
         .subcommand(check_command(alloc)?)?
         .subcommand(migrate_command(alloc)?)?
         .subcommand(part_command(alloc)?)?
-        .subcommand(parts_command(alloc)?)
+        .subcommand(parts_command(alloc)?)?
+        .subcommand(moments_command(alloc)?)?
+        .subcommand(info_command(alloc)?)
 }
 
 /// How many pages the cache is to hold.
 fn cache_pages_of(matches: &ArgMatches) -> u32 {
     matches.get_one("cache-pages").unwrap_or(CACHE_PAGES)
+}
+
+/// When it is to be said in words what went wrong.
+fn telling_of(matches: &ArgMatches) -> Telling {
+    if matches.get_flag("quiet") {
+        Telling::Never
+    } else if matches.get_flag("explain") {
+        Telling::Always
+    } else {
+        Telling::OnTerminal
+    }
 }
 
 /// What `mftb run` is asked to do.
@@ -223,7 +392,38 @@ fn run_of<'a>(alloc: Global, matches: &ArgMatches<'a>) -> Result<Run<'a>, Error>
         files,
         in_place: matches.get_flag("in-place"),
         progress: matches.get_flag("progress"),
+        telling: telling_of(matches),
+        is_strict: matches.get_flag("strict"),
+        is_existing: matches.get_flag("existing"),
     })
+}
+
+/// A word that is there.
+fn word_of<'a>(matches: &ArgMatches<'a>, name: &str) -> &'a str {
+    matches.get_str(name).unwrap_or("")
+}
+
+/// What `mftb moments` is asked to do.
+fn moments_of<'a>(matches: &ArgMatches<'a>) -> Moments<'a> {
+    let corners = [
+        word_of(matches, "X1"),
+        word_of(matches, "Y1"),
+        word_of(matches, "X2"),
+        word_of(matches, "Y2"),
+    ];
+    let times = [word_of(matches, "T1"), word_of(matches, "T2")];
+    Moments {
+        store: word_of(matches, "STORE"),
+        cache_pages: cache_pages_of(matches),
+        bounds: Bounds { corners, times },
+        rows: if matches.get_flag("visits") {
+            Rows::Visits
+        } else if matches.get_flag("dwell") {
+            Rows::Dwell
+        } else {
+            Rows::Legs
+        },
+    }
 }
 
 /// Reads the words, of which the first is the program's name.
@@ -233,6 +433,7 @@ pub(crate) fn read_words<'a>(alloc: Global, words: &'a [String]) -> Result<Task<
         Some(("check", matches)) => Ok(Task::Check(Check {
             store: matches.get_str("STORE").unwrap_or(""),
             cache_pages: cache_pages_of(matches),
+            telling: telling_of(matches),
         })),
         Some(("migrate", matches)) => Ok(Task::Migrate(Migrate {
             old: matches.get_str("OLD").unwrap_or(""),
@@ -250,6 +451,11 @@ pub(crate) fn read_words<'a>(alloc: Global, words: &'a [String]) -> Result<Task<
             file: matches.get_str("FILE").unwrap_or(""),
             folder: matches.get_str("DIR").unwrap_or(""),
         })),
+        Some(("moments", matches)) => Ok(Task::Moments(moments_of(matches))),
+        Some(("info", matches)) => Ok(Task::Info(Info {
+            store: word_of(matches, "STORE"),
+            is_json: matches.get_flag("json"),
+        })),
         Some((_, matches)) => Ok(Task::Run(run_of(alloc, matches)?)),
         None => Ok(Task::Run(Run {
             store: "",
@@ -258,6 +464,9 @@ pub(crate) fn read_words<'a>(alloc: Global, words: &'a [String]) -> Result<Task<
             files: Vec::new(alloc),
             in_place: false,
             progress: false,
+            telling: Telling::OnTerminal,
+            is_strict: false,
+            is_existing: false,
         })),
     }
 }

@@ -4,6 +4,7 @@ use Rattle.trajdb.specs.Db.{DbView, HasPages, IsSound}
 use Rattle.trajdb.specs.Lasting.{IsIdle}
 use Rattle.trajdb.specs.Script.{lines_of}
 use Rattle.mftb.specs.Answers.{Answers, SendsFront}
+use Rattle.mftb.specs.declared.fault.Fault.TheVariants.{Run}
 use Rattle.mftb.proofs.AnswerLemmas.{given, refused_by}
 use Rattle.mftb.proofs.session.answer.Goals as goal
 
@@ -22,4 +23,4 @@ returns-in-Ok-clause-sent g c =
     let sent' = g.W.Write.contents c.run_and_close-store.new.out in
     subst (λ k. OnErr c.answer_of.result (IfOk k (λ (d : DbView). IsSound d → d.failed ≡ false → SendsFront d.limits d.book c.args.files.now sent sent' (lines_of c.args.script.now)))) (sym c.in-Ok.is)
     (refused_by (IsSound db → db.failed ≡ false → SendsFront db.limits db.book c.args.files.now sent sent' (lines_of c.args.script.now))
-    c.answer_of.result c.run_and_close-store.result.1 c.answer_of.ensures.err c.run_and_close-store.ensures.sent)
+    c.answer_of.result c.run_and_close-store.result.1 Run c.answer_of.ensures.err c.run_and_close-store.ensures.sent)

@@ -1,0 +1,43 @@
+//! Databases that are only asked.
+use crate::fault::Fault;
+use crate::held_file::HeldFile;
+use crate::names::Names;
+use crate::opening::{is_absent, open_asked, sweep};
+use crate::read_only::ReadOnly;
+use pages::{FileStore, PageStore};
+use std::fs::File;
+use std::hash::RandomState;
+use std::random::RandomSource;
+use std::rt::Files;
+use trajdb::{Db, RunFault};
+
+/// The store of a file that is read alone.
+pub(crate) type AskedStore = ReadOnly<FileStore<HeldFile<'static, File>>>;
+
+/// The store of a file that is there, opened to be read alone; none is made.
+pub(crate) fn store_to_ask<'a, R: Files<File = File> + AllocGlobal>(
+    rt: &R,
+    store: &'a str,
+) -> Result<AskedStore, Fault<'a>> {
+    let names = Names::new(rt, store)?;
+    if is_absent(rt, names.store.as_str()) {
+        return Err(Fault::CannotRead(store));
+    }
+    sweep(rt, &names);
+    open_asked(rt, &names)
+}
+
+/// The database of a store.
+pub(crate) fn database_to_ask<'a, R: AllocGlobal + RandomSource, S: PageStore + Drop>(
+    rt: &R,
+    store: S,
+    cache_pages: u32,
+) -> Result<Db<S>, Fault<'a>> {
+    let Ok(keys) = RandomState::new(rt) else {
+        return Err(Fault::Run(RunFault::Memory));
+    };
+    match Db::open(rt.alloc(), keys, store, cache_pages.max(1) as usize) {
+        Ok(database) => Ok(database),
+        Err((_, fault)) => Err(Fault::Open(fault)),
+    }
+}

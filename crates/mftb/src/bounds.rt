@@ -1,0 +1,19 @@
+//! A rectangle and a period on the command line.
+use crate::fault::Fault;
+use crate::words::Bounds;
+use querylang::{Command, LineCode, LineFault, parse_line};
+use std::alloc::Global;
+use trajdb::RunFault;
+
+/// Reads a rectangle and a period as a line `box X1 Y1 X2 Y2 T1 T2` of a script is read: the command of that line.
+pub(crate) fn read_bounds<'a>(alloc: Global, bounds: &Bounds<'_>) -> Result<Command, Fault<'a>> {
+    let [x1, y1, x2, y2] = bounds.corners;
+    let [t1, t2] = bounds.times;
+    let line = format!(in alloc; "box {x1} {y1} {x2} {y2} {t1} {t2}")?;
+    match parse_line(alloc, line.as_bytes()) {
+        Ok(Some(command)) => Ok(command),
+        Ok(None) => Err(Fault::Bounds(LineCode::Q3)),
+        Err(LineFault::Refused(code)) => Err(Fault::Bounds(code)),
+        Err(LineFault::Memory) => Err(Fault::Run(RunFault::Memory)),
+    }
+}

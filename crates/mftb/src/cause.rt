@@ -1,0 +1,70 @@
+//! Why a file of the system was not opened, made, read or written.
+use crate::reading::MOST_BYTES;
+use std::fmt::{Display, Formatter};
+use std::fs::File;
+use std::rt::Files;
+use std::{fmt, fs, io};
+
+/// Why a file of the system was not opened, made, read or written.
+#[derive(Clone, Copy, PartialEq, Eq, Debug)]
+pub(crate) enum Cause {
+    /// There is none of that name.
+    Absent,
+    /// There is no right to do so.
+    NoRight,
+    /// It is a folder.
+    Folder,
+    /// What stands before its name is no folder.
+    NoFolder,
+    /// The disk, or what one may have of it, is full.
+    Full,
+    /// The disk may not be written.
+    ReadOnly,
+    /// It is too long.
+    TooLong,
+    /// Anything else.
+    Other,
+}
+
+impl From<io::ErrorKind> for Cause {
+    fn from(kind: io::ErrorKind) -> Cause {
+        match kind {
+            io::ErrorKind::NotFound => Cause::Absent,
+            io::ErrorKind::PermissionDenied => Cause::NoRight,
+            io::ErrorKind::IsADirectory => Cause::Folder,
+            io::ErrorKind::NotADirectory => Cause::NoFolder,
+            io::ErrorKind::StorageFull | io::ErrorKind::QuotaExceeded => Cause::Full,
+            io::ErrorKind::ReadOnlyFilesystem => Cause::ReadOnly,
+            io::ErrorKind::FileTooLarge => Cause::TooLong,
+            _ => Cause::Other,
+        }
+    }
+}
+
+impl Display for Cause {
+    fn fmt<W: fmt::Write>(&self, f: &mut Formatter<W>) -> fmt::Result {
+        f.write_str(match self {
+            Cause::Absent => "there is no such file or folder",
+            Cause::NoRight => "there is no right to do so",
+            Cause::Folder => "it is a folder",
+            Cause::NoFolder => "what stands before its name is no folder",
+            Cause::Full => "the disk is full",
+            Cause::ReadOnly => "the disk may not be written",
+            Cause::TooLong => "it is too long: at most 1073741824 bytes",
+            Cause::Other => "the system refused a call",
+        })
+    }
+}
+
+/// Why the script or a file of that name was not read, as a look at it tells now.
+pub(crate) fn cause_of_reading<R: Files<File = File>>(rt: &R, name: &str) -> Cause {
+    match fs::metadata(rt, name) {
+        Ok(about) if about.is_dir() => return Cause::Folder,
+        Ok(about) if about.len() > MOST_BYTES => return Cause::TooLong,
+        _ => {}
+    }
+    match File::open(rt, name) {
+        Ok(_) => Cause::Other,
+        Err(error) => Cause::from(error.kind()),
+    }
+}
