@@ -41,13 +41,18 @@ def spots(found, width):
                 yield (left, top, left + width, top + 15), (x, y), away
 
 
-def names(view, groups, others, box):
-    """A name beside each feature that is coloured, where there is room; the list beside has all."""
+def names(view, groups, others, box, marks=()):
+    """A name beside each feature that is coloured, and each mark's words, where there is room.
+
+    A mark is its words, its colour's number and its place in pixels.
+    """
     hits = [piece for found in groups.values() for piece in found] + edges(view, box)
     # What a name had better not cover, and how bad it is.
     lines = [(piece, 10) for piece in hits[:600]] + [(piece, 3) for piece in others[:600]]
     taken = []
-    for number, (name, found) in enumerate(list(groups.items())[:ROWS]):
+    wanted = [(name, number, found) for number, (name, found) in enumerate(groups.items())][:ROWS]
+    wanted += [(words, number, [(place, place)]) for words, number, place in marks][:ROWS]
+    for name, number, found in wanted:
         best = best_spot(view, found, text_width(name) + 4, lines, taken) if found else None
         if best:
             taken.append(best[0])

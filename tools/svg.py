@@ -97,6 +97,14 @@ def many(inks):
         yield f'<g class="{kind}">{path("ink", ink.path())}</g>' if ink else ""
 
 
+def rings(marks):
+    """A ring at each place that is marked."""
+    for words, number, (x, y) in marks:
+        where = f'cx="{px(x)}" cy="{px(y)}" r="5"'
+        ring = f'<circle class="cross" {where} fill="none" stroke="currentColor" stroke-width="2"/>'
+        yield f'<g class="{colour(number)}">{ring}<title>{clean(words)}</title></g>'
+
+
 def asked(view, box):
     """The rectangle that was asked for; without width or height it is a line."""
     (left, bottom), (right, top) = view.at(box[:2]), view.at(box[2:])

@@ -68,6 +68,25 @@ class Pictures(Case):
         self.assertEqual((classes.count("flat"), classes.count("box")), (2, 0))
         self.assertIn("flat", self.drawn(text, "ok 0\n", "--box", "5", "5", "5", "5")[1])
 
+    def test_crossings_are_rings_with_their_times(self):
+        text = self.H.format("2D", "sec") + "x,0,10,0 5 10 5,q\ny,0,10,5 0 5 10,q\n"
+        answer = "ok 2\nx,0,10,0 5 10 5,q\ny,0,10,5 0 5 10,q\n"
+        names = "feature,enters,leaves,enters_at,leaves_at,x_in,y_in,x_out,y_out,enters_by,leaves_by\n"
+        day = "2019-12-31T23:00:0{}.000000Z"
+        ends = day.format(4), day.format(6)
+        rows = f"x,4000,6000,{ends[0]},{ends[1]},4,5,6,5,edge,edge\ny,0,6000,{day.format(0)},{ends[1]},5,0,5,6,leg,edge\n"
+        self.write("m", names + rows)
+        texts, classes = self.drawn(text, answer, "--moments", "m", "--box", "4", "4", "6", "6")
+        self.assertEqual(classes.count("cross"), 3)
+        touch = f"x,4000,4000,{ends[0]},{ends[0]},4,5,4,5,edge,edge\n"
+        self.write("m", names + touch)
+        self.assertEqual(self.drawn(text, answer, "--moments", "m", "--box", "4", "4", "6", "6")[1].count("cross"), 1)
+        self.assertEqual(texts.count("23:00:06.000000"), 2)
+        self.assertEqual(texts.count("23:00:04.000000"), 1)
+        self.write("m", "feature,enters\nx,4\n")
+        words = "a", "--answer", "b", "--moments", "m", "-o", "c"
+        self.assertIn("m line 2: not what mftb moments prints", self.ends("draw", *words, status=1))
+
     def test_three_dimensions_and_other_units(self):
         text = self.H.format("3D", "minute") + "x,0,1.5,0 0 5 4 4 9,q\n"
         texts, _ = self.drawn(text, "ok 1\nx,0,90,0 0 5 4 4 9,q\n")

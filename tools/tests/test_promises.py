@@ -104,8 +104,10 @@ class Promises(Case):
         self.assertEqual(said, ["docs/PROMISES.md:5: low has no must-fail edit wronger-body"])
 
     def test_a_call_of_the_surface_that_nothing_cites(self):
-        said = self.page("; `Thing::second` (its clause)", "")
-        self.assertEqual(said, ["docs/PROMISES.md:0: no item cites low::Thing::second"])
+        page = PAGE.replace("; `Thing::second` (its clause)", "")
+        self.assertEqual(self.said(**{"docs/PROMISES.md": page}), [])
+        said = self.said(**{"docs/PROMISES.md": page, "crates/low/README.md": OWN.replace(", `Thing::second`: its clause", "")})
+        self.assertIn("crates/low/README.md:0: neither it nor a promise cites low::Thing::second", said)
 
     def test_a_clause_that_no_page_cites(self):
         said = self.said(**{"crates/low/src/lib.rt": SOURCE.replace("    ensures value", "    ensures more { x }\n    ensures value")})
