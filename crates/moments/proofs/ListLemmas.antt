@@ -1,10 +1,12 @@
 -- Stays of legs, one after another.
-use Rattle.std.proofs.Common.{◌++◌, ◌∷◌, [], List, sym, subst, refl, inl, inr}
+use Rattle.std.proofs.Common.{◌++◌, ◌∷◌, [], All, List, sym, subst, refl, inl, inr}
+use Rattle.std.proofs.lemmas.List.Elements.{All-cons, All-nil}
 use Rattle.std.proofs.lemmas.List.{append_assoc, append-nil}
 use Rattle.timebase.specs.Period.{PeriodView}
 use Rattle.legs.specs.Legs.{LegView}
 use Rattle.legs.specs.Boxes.{RectView}
 use Rattle.clipping.specs.Inside.{HasMomentInside}
+use Rattle.moments.specs.Lengths.{IsNoLater}
 use Rattle.moments.specs.Stays.{AreStays, IsStay}
 use Rattle.moments.specs.declared.stay.Stay.{Stay}
 
@@ -22,3 +24,14 @@ module _ (rect : RectView) (period : PeriodView) (all : List LegView) where
 
   pub staying-end : (stays : List Stay) → IsStaying [] stays → AreStays rect period all stays
   staying-end stays so_far = subst (λ (l : List Stay). AreStays rect period all l) (append-nil stays) (so_far [] refl)
+
+  -- the last moment of a stay is not before its first
+  not_turned : (leg : LegView) (stay : Stay) → IsStay rect period leg stay → IsNoLater stay.enters stay.leaves
+  not_turned leg stay is = is.first.least stay.leaves.num stay.leaves.den is.last.inside
+
+pub none_turns : (rect : RectView) (period : PeriodView) (legs : List LegView) (stays : List Stay) → AreStays rect period legs stays → All (λ stay. IsNoLater stay.enters stay.leaves) stays
+none_turns rect period [] stays e = subst (All (λ (stay : Stay). IsNoLater stay.enters stay.leaves)) (sym e) (All-nil (λ (stay : Stay). IsNoLater stay.enters stay.leaves))
+none_turns rect period (leg ∷ legs) stays (inl (stay, others, e, is, rest)) =
+    subst (All (λ (stay : Stay). IsNoLater stay.enters stay.leaves)) (sym e)
+    (All-cons (λ (stay : Stay). IsNoLater stay.enters stay.leaves) stay others (not_turned rect period legs leg stay is) (none_turns rect period legs others rest))
+none_turns rect period (leg ∷ legs) stays (inr (none, rest)) = none_turns rect period legs stays rest

@@ -1,9 +1,10 @@
 -- Fractions in lowest terms.
-use Rattle.std.proofs.Common.{ℕ, ◌*◌, ◌/◌, ◌%◌, ◌<◌, ◌≤◌, ◌≡◌, ◌∙◌, ℤ, pos, negsuc, neg_ℤ, ◌*ℤ◌, ◌≤ℤ◌, ◌<ℤ◌, unsigned_abs, arith, ap, sym, subst}
+use Rattle.std.proofs.Common.{ℕ, ◌+◌, ◌-◌, ◌*◌, ◌/◌, ◌%◌, ◌<◌, ◌≤◌, ◌≡◌, ◌∙◌, ℤ, pos, negsuc, neg_ℤ, ◌+ℤ◌, ◌-ℤ◌, ◌*ℤ◌, ◌≤ℤ◌, ◌<ℤ◌, unsigned_abs, arith, ap, sym, subst, inl, inr}
 use Rattle.std.proofs.lemmas.Int.{ints, quot-rem, unsigned_abs-mul}
 use Rattle.std.proofs.lemmas.Nat.{div-add-mod'}
-use Rattle.std.proofs.lemmas.Nat.Gcd.{dvd_refl, IsGcd-from_mod, le_of_dvd, mod-eq-zero_of_dvd}
-use Rattle.std.proofs.Math.Nat.{one-dvd, dvd-mul_right, mul-dvd-mul_right, pos_of_dvd_of_pos}
+use Rattle.std.proofs.lemmas.Nat.Gcd.{dvd_refl, dvd_trans, IsGcd-from_mod, le_of_dvd, mod-eq-zero_of_dvd}
+use Rattle.std.specs.Prelude.{◌⊎◌}
+use Rattle.std.proofs.Math.Nat.{one-dvd, dvd-add, dvd-sub, dvd-mul_left, dvd-mul_right, mul-dvd-mul_right, pos_of_dvd_of_pos}
 use Rattle.std.specs.Int.{IsGcd, ◌∣◌}
 use Rattle.std.specs.Int.RustNames.{int_div, int_rem}
 use Rattle.clipping.proofs.Products.{products}
@@ -81,3 +82,30 @@ module _ (n m : ℤ) (d e g : ℕ) (positive : 0 < d) (common : IsGcd d (unsigne
       let a : m *ℤ pos d ≡ m *ℤ (pos e *ℤ pos g) = ap (λ x. m *ℤ x) (sym w) in
       let b : n *ℤ pos e ≡ (m *ℤ pos g) *ℤ pos e = ap (λ x. x *ℤ pos e) (sym is) in
       omega (arith, ints, products, a, b)
+
+-- the magnitude of a sum
+abs_sum : (m t : ℤ) → (unsigned_abs (m +ℤ t) ≡ unsigned_abs m + unsigned_abs t) ⊎ (unsigned_abs (m +ℤ t) ≡ unsigned_abs m - unsigned_abs t + (unsigned_abs t - unsigned_abs m))
+abs_sum (pos a) (pos b) = inl (omega (arith, ints))
+abs_sum (pos a) (negsuc b) = inr (omega (arith, ints))
+abs_sum (negsuc a) (pos b) = inr (omega (arith, ints))
+abs_sum (negsuc a) (negsuc b) = inl (omega (arith, ints))
+
+divides_sum : (k : ℕ) (m t : ℤ) → k ∣ unsigned_abs m → k ∣ unsigned_abs t → k ∣ unsigned_abs (m +ℤ t)
+divides_sum k m t p q = by (abs_sum m t)
+  where
+    by : (unsigned_abs (m +ℤ t) ≡ unsigned_abs m + unsigned_abs t) ⊎ (unsigned_abs (m +ℤ t) ≡ unsigned_abs m - unsigned_abs t + (unsigned_abs t - unsigned_abs m)) → k ∣ unsigned_abs (m +ℤ t)
+    by (inl e) = subst (λ x. k ∣ x) (sym e) (dvd-add k p q)
+    by (inr e) = subst (λ x. k ∣ x) (sym e) (dvd-add k (dvd-sub k p q) (dvd-sub k q p))
+
+-- a fraction in lowest terms, less a whole number
+pub lowest_less : (n b : ℤ) (d : ℕ) → IsLowest n d → IsLowest (n -ℤ b *ℤ pos d) d
+lowest_less n b d lowest = (
+  one-dvd (unsigned_abs (n -ℤ b *ℤ pos d)),
+  one-dvd d,
+  λ k p q.
+      let t : ℤ = b *ℤ pos d in
+      let times : unsigned_abs t ≡ unsigned_abs b * d = unsigned_abs-mul b (pos d) in
+      let whole : k ∣ unsigned_abs t = subst (λ x. k ∣ x) (sym times) (dvd_trans k q (dvd-mul_left d (unsigned_abs b))) in
+      let back : n -ℤ t +ℤ t ≡ n = omega (arith, ints) in
+      lowest.2 k (subst (λ z. k ∣ unsigned_abs z) back (divides_sum k (n -ℤ t) t p whole)) q,
+)

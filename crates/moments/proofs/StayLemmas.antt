@@ -14,7 +14,7 @@ use Rattle.clipping.specs.declared.line.Cut.{Cut}
 use Rattle.clipping.specs.declared.line.Frac.{Frac}
 use Rattle.moments.specs.Fractions.{IsInTime, IsSame}
 use Rattle.moments.specs.Parts.{IsAt, IsPart, IsWhole}
-use Rattle.moments.specs.Stays.{IsCoordAt, IsFirst, IsLast}
+use Rattle.moments.specs.Stays.{IsCoordAt, IsFirst, IsInsideFrom, IsLast}
 use Rattle.moments.proofs.Quotients.{negative_times, sum_times}
 
 grouped : (a b z : ℤ) → (a *ℤ b) *ℤ z ≡ a *ℤ (b *ℤ z)
@@ -46,6 +46,16 @@ order_from t w n m d e rises h =
     let y = grouped n e w in
     let z = grouped m d w in
     cancel (n *ℤ e) (m *ℤ d) w rises (omega (arith, ints, a, b, x, y, z, h))
+
+order_to : (t w n m d e : ℤ) → pos 0 ≤ℤ w → (n *ℤ e) ≤ℤ (m *ℤ d) → ((n -ℤ t *ℤ d) *ℤ (e *ℤ w)) ≤ℤ ((m -ℤ t *ℤ e) *ℤ (d *ℤ w))
+order_to t w n m d e rises h =
+    let a = difference_times n (t *ℤ d) (e *ℤ w) in
+    let b = difference_times m (t *ℤ e) (d *ℤ w) in
+    let x = crossed t d e w in
+    let y = grouped n e w in
+    let z = grouped m d w in
+    let s = scale (n *ℤ e) (m *ℤ d) w rises h in
+    omega (arith, ints, a, b, x, y, z, s)
 
 module _ (leg : LegView) (rect : RectView) (period : PeriodView) (cut : Cut) (rises : leg.t0 <ℤ leg.t1) (clip : IsClip leg rect period cut) (n : ℤ) (d : ℕ) (positive : 0 < d) where
   w0 : pos 0 <ℤ duration leg
@@ -105,6 +115,29 @@ module _ (leg : LegView) (rect : RectView) (period : PeriodView) (cut : Cut) (ri
             order_from leg.t0 (duration leg) m n (pos q) (pos d) w0
             (through (m -ℤ leg.t0 *ℤ pos q) (pos q *ℤ duration leg) cut.hi.num cut.hi.den s k (wide q q1) cut.hi.positive d0 within.before above);
       }
+
+module _ (leg : LegView) (rect : RectView) (period : PeriodView) (cut : Cut) (rises : leg.t0 <ℤ leg.t1) (clip : IsClip leg rect period cut) (n m : ℤ) (d e : ℕ) (low : 0 < d) (high : 0 < e) where
+  pub between_is : IsAt leg cut.lo n d → IsAt leg cut.hi m e → IsInsideFrom leg rect period n m d e
+  between_is from to j q one after before =
+      let w : ℤ = duration leg in
+      let w0 : pos 0 ≤ℤ w = omega (arith, ints, rises) in
+      let first = place_of leg rect period cut rises clip n d low cut.lo from in
+      let last = place_of leg rect period cut rises clip m e high cut.hi to in
+      let s : ℤ = n -ℤ leg.t0 *ℤ pos d in
+      let k : ℤ = pos d *ℤ w in
+      let r : ℤ = m -ℤ leg.t0 *ℤ pos e in
+      let l : ℤ = pos e *ℤ w in
+      let i : ℤ = j -ℤ leg.t0 *ℤ pos q in
+      let h : ℤ = pos q *ℤ w in
+      let k0 : pos 0 <ℤ k = wide leg rect period cut rises clip n d low d (omega (arith, low)) in
+      let l0 : pos 0 <ℤ l = wide leg rect period cut rises clip n d low e (omega (arith, high)) in
+      let h0 : pos 0 <ℤ h = wide leg rect period cut rises clip n d low q one in
+      let begins : (cut.lo.num *ℤ k) ≤ℤ (s *ℤ cut.lo.den) = omega (arith, ints, first) in
+      let ends : (r *ℤ cut.hi.den) ≤ℤ (cut.hi.num *ℤ l) = omega (arith, ints, last) in
+      (clip j q one).1 (record {
+        after = through cut.lo.num cut.lo.den s k i h cut.lo.positive k0 h0 begins (order_to leg.t0 w n j (pos d) (pos q) w0 after);
+        before = through i h r l cut.hi.num cut.hi.den h0 l0 cut.hi.positive (order_to leg.t0 w j m (pos q) (pos e) w0 before) ends;
+      })
 
 -- a whole number at a part is one at the moment
 pub coord_is : (leg : LegView) (part : Frac) (a b n u : ℤ) (d : ℕ) → leg.t0 <ℤ leg.t1 → 0 < d → IsAt leg part n d → IsWhole part a b u → IsCoordAt leg a b n d u

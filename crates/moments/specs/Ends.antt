@@ -1,5 +1,5 @@
 -- What a stay begins and ends by.
-use Rattle.std.specs.Prelude.{◌≡◌, ℤ, pos, ◌*ℤ◌}
+use Rattle.std.specs.Prelude.{ℕ, List, codes, ◌≡◌, ℤ, pos, ◌*ℤ◌}
 use Rattle.timebase.specs.Period.{PeriodView}
 use Rattle.moments.specs.declared.ends.End.{End}
 use Rattle.moments.specs.declared.ends.End.TheVariants.{Leg, Period, Edge}
@@ -22,3 +22,9 @@ IsBegunBy period stay end = IsEndBy stay.enters stay.leg.t0 period.start end
 
 abbrev pub IsEndedBy : PeriodView → Stay → End → Type 0
 IsEndedBy period stay end = IsEndBy stay.leaves stay.leg.t1 period.end end
+
+-- an end as it is printed
+abbrev pub end_text : End → List ℕ
+end_text Leg = codes "leg"
+end_text Period = codes "period"
+end_text Edge = codes "edge"

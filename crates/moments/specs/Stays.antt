@@ -1,5 +1,5 @@
 -- Stays of legs in a rectangle: fractions n / d of a millisecond, whole numbers with d above 0.
-use Rattle.std.specs.Prelude.{ℕ, ◌≡◌, ◌⊎◌, List, [], ◌∷◌, ℤ, pos, ◌+ℤ◌, ◌*ℤ◌, ◌≤ℤ◌, ◌<ℤ◌}
+use Rattle.std.specs.Prelude.{ℕ, ◌≡◌, ◌≤◌, ◌⊎◌, List, [], ◌∷◌, ℤ, pos, ◌+ℤ◌, ◌*ℤ◌, ◌≤ℤ◌, ◌<ℤ◌}
 use Rattle.timebase.specs.Period.{PeriodView}
 use Rattle.mfcsv.specs.declared.Position.{Position}
 use Rattle.legs.specs.Legs.{LegView}
@@ -18,6 +18,10 @@ module _ (leg : LegView) (rect : RectView) (period : PeriodView) where
     pub inside : IsMomentInside leg rect period n d
     pub greatest : (m : ℤ) (e : ℕ) → IsMomentInside leg rect period m e → (m *ℤ pos d) ≤ℤ (n *ℤ pos e)
 
+  -- it is inside at each moment from n / d to m / e
+  abbrev pub IsInsideFrom : (n m : ℤ) (d e : ℕ) → Type 0
+  IsInsideFrom n m d e = (j : ℤ) (q : ℕ) → 1 ≤ q → (n *ℤ pos q) ≤ℤ (j *ℤ pos d) → (j *ℤ pos e) ≤ℤ (m *ℤ pos q) → IsMomentInside leg rect period j q
+
 -- u is the greatest whole number that is at most what goes evenly from a to b in a leg's duration, at the moment n / d
 pub record IsCoordAt (leg : LegView) (a b n : ℤ) (d : ℕ) (u : ℤ) : Type 0 where
   pub most : (u *ℤ (pos d *ℤ duration leg)) ≤ℤ scaled_at leg a b n d
@@ -29,11 +33,13 @@ pub record IsPositionAt (leg : LegView) (n : ℤ) (d : ℕ) (position : Position
   pub y : IsCoordAt leg leg.y0 leg.y1 n d position.y
   pub z : IsCoordAt leg leg.z0 leg.z1 n d position.z
 
--- the stay is of the leg, from the first moment at which it is inside to the last, and has its positions at both
+-- the stay is of the leg, from the first moment at which it is inside to the last, and at each between; it has the leg's
+-- positions at both
 pub record IsStay (rect : RectView) (period : PeriodView) (leg : LegView) (stay : Stay) : Type 0 where
   pub same : stay.leg ≡ leg
   pub first : IsFirst leg rect period stay.enters.num stay.enters.den
   pub last : IsLast leg rect period stay.leaves.num stay.leaves.den
+  pub between : IsInsideFrom leg rect period stay.enters.num stay.leaves.num stay.enters.den stay.leaves.den
   pub entry : IsPositionAt leg stay.enters.num stay.enters.den stay.entry
   pub exit : IsPositionAt leg stay.leaves.num stay.leaves.den stay.exit
 

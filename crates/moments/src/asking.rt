@@ -1,5 +1,5 @@
 //! The stays that a database tells.
-ghost use Rattle.std.specs.Prelude.{◌≡◌, Err, false, IfErr, IfOk, map, OnOk, true};
+ghost use Rattle.std.specs.Prelude.{◌≡◌, All, Err, false, IfErr, IfOk, map, OnOk, true};
 ghost use Rattle.legs.specs.Boxes.{box_over};
 ghost use Rattle.legs.specs.Costs.{search_cost};
 ghost use Rattle.legs.specs.Questions.{InBox};
@@ -9,10 +9,11 @@ ghost use Rattle.trajdb.specs.Calls.{Asks, IsRefused, Leaves};
 ghost use Rattle.trajdb.specs.Db.{HasPages, IsSound};
 ghost use Rattle.trajdb.specs.Lasting.{IsIdle};
 ghost use Rattle.trajdb.specs.Picks.{Picks};
-ghost use Rattle.trajdb.specs.Telling.{DeniesLegs, Names};
+ghost use Rattle.trajdb.specs.Telling.{Names};
 ghost use Rattle.trajdb.specs.declared.RunFault.{RunFault};
 ghost use Rattle.predicates.specs.declared.Predicate.{Predicate};
 ghost use Rattle.moments.specs.Asking.{AreTold};
+ghost use Rattle.moments.specs.Lengths.{IsNoLater};
 ghost use Rattle.moments.specs.Stays.{AreStays};
 
 use crate::listing::stays_of;
@@ -41,11 +42,15 @@ pub fn stays<S: PageStore>(
         → Picks (HoldsOfLeg Predicate.Ever rect.now period.now) db.old.book.legs
         (map (λ stay. stay.leg) stays.items)) }
 
-    // Be the database sound or not, they are the stays of what the pages say that were met, and a
-    // page that is named is one that was met and is not what it is to be there.
+    // None ends before it begins.
+    ensures ordered { IfOk result (λ stays. All (λ stay. IsNoLater stay.enters stay.leaves) stays.items) }
+
+    // Be the database sound or not, they are the stays of what the pages that were met say, and a
+    // page that is named is one that was met and is not what it is to be there, or the first one
+    // that was met beyond as many as the store has.
     ensures says { IfOk result (λ stays. AreTold words db.old rect.now period.now stays.items) }
     ensures named { IfErr result (Names words db.old
-        (DeniesLegs words db.old (InBox (box_over rect.now period.now)))) }
+        (λ page. words.denies db.old.index (InBox (box_over rect.now period.now)) page)) }
     ensures asks { OnOk result (Asks words db.old db.new
         (search_cost (box_over rect.now period.now))) }
     ensures leaves { Leaves words db.old db.new }

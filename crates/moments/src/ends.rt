@@ -13,13 +13,18 @@ pub enum End {
     Leg,
     /// The period does.
     Period,
-    /// Neither: the leg goes over an edge of the rectangle there.
+    /// Neither: the leg meets an edge of the rectangle there.
     Edge,
 }
 
 impl End {
+    ghost use Rattle.std.specs.Prelude.{◌≡◌};
+    ghost use Rattle.moments.specs.Ends.{end_text};
+
     /// The end as it is printed.
-    pub fn as_str(self) -> &'static str {
+    pub fn as_str(self) -> &'static str
+        ensures { result.now ≡ end_text self }
+    {
         match self {
             End::Leg => "leg",
             End::Period => "period",

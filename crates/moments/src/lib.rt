@@ -2,6 +2,7 @@
 #![tactic(auto)]
 
 mod asking;
+mod dwells;
 mod ends;
 mod listing;
 mod moment;
@@ -9,11 +10,14 @@ mod stay;
 mod visits;
 
 pub use asking::stays;
+pub use dwells::{Dwell, dwells_of};
 pub use ends::End;
 pub use listing::stays_of;
 pub use moment::Moment;
 pub use stay::{Stay, stay_of};
-pub use visits::{Dwell, Visit, dwells_of, visits_of};
+pub use visits::{Visit, visits_of};
 
+#[cfg(test)]
+mod database_tests;
 #[cfg(test)]
 mod tests;

@@ -1,5 +1,6 @@
 //! The stays of legs in a rectangle.
-ghost use Rattle.std.specs.Prelude.{IfOk};
+ghost use Rattle.std.specs.Prelude.{All, IfOk};
+ghost use Rattle.moments.specs.Lengths.{IsNoLater};
 ghost use Rattle.moments.specs.Stays.{AreStays};
 
 use crate::stay::{Stay, stay_of};
@@ -14,7 +15,10 @@ pub fn stays_of(
     rect: &Rect,
     period: &Period,
 ) -> Result<Vec<Stay>, AllocError>
-    ensures { IfOk result (λ stays. AreStays rect.now period.now legs.now stays.items) }
+    ensures stays { IfOk result (λ stays. AreStays rect.now period.now legs.now stays.items) }
+
+    // None ends before it begins.
+    ensures ordered { IfOk result (λ stays. All (λ stay. IsNoLater stay.enters stay.leaves) stays.items) }
 {
     let mut stays = Vec::new(alloc);
     for leg in legs {

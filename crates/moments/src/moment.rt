@@ -39,7 +39,8 @@ fn exact_quotient(num: i128, divisor: u64) -> i128
 
 impl Moment {
     ghost use Rattle.std.specs.Prelude.{◌<◌, ◌^◌, ◌≡◌, ◌-ℤ◌, ◌*ℤ◌, pos, unsigned_abs};
-    ghost use Rattle.moments.specs.Fractions.{IsCeiling, IsFloor, IsInTime, IsSame};
+    ghost use Rattle.moments.specs.Fractions.{IsCeiling, IsFloor, IsInTime, IsLowest, IsSame};
+    ghost use Rattle.moments.specs.Lengths.{micros_down, micros_up};
 
     /// The moment `num` / `den`.
     pub(crate) fn new(num: i128, den: u64) -> Moment
@@ -57,13 +58,15 @@ impl Moment {
 
     /// The numerator of the moment since a base, over the same denominator: in milliseconds, in lowest terms.
     pub fn since(self, base: Ms) -> i128
-        ensures { result ≡ self.num -ℤ base *ℤ pos self.den }
+        ensures value { result ≡ self.num -ℤ base *ℤ pos self.den }
+        ensures lowest { IsLowest result self.den }
     {
         self.num - base.millis() as i128 * self.den as i128
     }
 
     /// The moment in microseconds since 1970-01-01T00:00:00Z, rounded down.
     pub fn micros_down(self) -> i64
+        ensures value { result ≡ micros_down self }
         ensures floor { IsFloor (pos 1000) self.num self.den result }
         ensures small { unsigned_abs result < 2 ^ 58 }
     {
@@ -72,6 +75,7 @@ impl Moment {
 
     /// The moment in microseconds since 1970-01-01T00:00:00Z, rounded up.
     pub fn micros_up(self) -> i64
+        ensures value { result ≡ micros_up self }
         ensures ceiling { IsCeiling (pos 1000) self.num self.den result }
         ensures small { unsigned_abs result < 2 ^ 58 }
     {

@@ -1,5 +1,10 @@
 //! Visits of features: stays that go on over several legs, joined.
-ghost use Rattle.std.specs.Prelude.{◌<◌, length, MatchOption, ⊤};
+ghost use Rattle.std.specs.Prelude.{◌≡◌, ◌<◌, ◌++◌, ◌∷◌, [], All, get_or, IfOk, length, MatchOption, ℕ, set, Some};
+ghost use Rattle.std.specs.BTreeMap.{get};
+ghost use Rattle.std.specs.Ordering.{nat_cmp};
+ghost use Rattle.moments.specs.Lengths.{IsNoLater, not_below_0};
+ghost use Rattle.moments.specs.Places.{last_place};
+ghost use Rattle.moments.specs.Visits.{visit_of, visit_with, visits_of, visits_with};
 
 use crate::moment::Moment;
 use crate::stay::Stay;
@@ -23,9 +28,17 @@ pub struct Visit {
     pub legs: u64,
 }
 
+/// A number, or 0 in the place of one below 0.
+fn not_below_0(number: i64) -> u64
+    ensures { result ≡ not_below_0 number }
+{
+    if number < 0 { 0 } else { number.unsigned_abs() }
+}
+
 impl Visit {
-    ghost use Rattle.std.specs.Prelude.{◌↔◌, ◌≡◌, IsTrue};
-    ghost use Rattle.moments.specs.Visits.{GoesOn, visit_of, visit_with};
+    ghost use Rattle.std.specs.Prelude.{◌≡◌};
+    ghost use Rattle.moments.specs.Lengths.{IsBetween, IsNoLater, least_of, most_of};
+    ghost use Rattle.moments.specs.Visits.{goes_on, visit_of, visit_with};
 
     /// The visit of one stay.
     fn of(stay: &Stay) -> Visit
@@ -43,7 +56,7 @@ impl Visit {
 
     /// Whether a stay of the same feature begins at the moment at which the visit ends.
     fn goes_on(&self, stay: &Stay) -> bool
-        ensures { IsTrue result ↔ GoesOn self.now stay.now }
+        ensures { result ≡ goes_on self.now stay.now }
     {
         self.leaves.num == stay.enters.num && self.leaves.den == stay.enters.den
     }
@@ -61,16 +74,29 @@ impl Visit {
     }
 
     /// How long the visit lasts, in whole microseconds: at least the first number and at most the second.
-    pub fn lasts(&self) -> (u64, u64) {
+    pub fn lasts(&self) -> (u64, u64)
+        ensures least { result.0 ≡ least_of self.now }
+        ensures most { result.1 ≡ most_of self.now }
+
+        // Of a visit that does not end before it begins, as none of `visits_of` does.
+        ensures between { IsNoLater self.now.enters self.now.leaves
+            → IsBetween self.now.enters self.now.leaves result.0 result.1 }
+    {
         let least = self.leaves.micros_down() - self.enters.micros_up();
         let most = self.leaves.micros_up() - self.enters.micros_down();
-        (least.max(0) as u64, most.max(0) as u64)
+        (not_below_0(least), not_below_0(most))
     }
 }
 
 /// The place of the visit that a stay goes on: the last one of its feature, if it ends where the stay begins.
 fn place_of(last: &BTreeMap<u32, usize>, visits: &[Visit], stay: &Stay) -> Option<usize>
-    ensures { MatchOption result ⊤ (λ place. place < length visits.now) }
+    requires places { (f : ℕ) → get nat_cmp last.now f ≡ last_place (λ visit. visit.feature) f visits.now }
+    ensures { MatchOption result
+        (visits_with visits.now stay.now ≡ visits.now ++ visit_of stay.now ∷ [])
+        (λ place. (place < length visits.now)
+        × (last_place (λ visit. visit.feature) stay.now.leg.feature visits.now ≡ Some place)
+        × (visits_with visits.now stay.now
+        ≡ set visits.now place (visit_with (get_or visits.now place (visit_of stay.now)) stay.now))) }
 {
     let place = *last.get(&stay.leg.feature)?;
     if place < visits.len() && visits[place].goes_on(stay) {
@@ -80,8 +106,15 @@ fn place_of(last: &BTreeMap<u32, usize>, visits: &[Visit], stay: &Stay) -> Optio
     }
 }
 
-/// The visits of stays, in the order of their first stays. The stays of each feature are in the order of time.
-pub fn visits_of(alloc: Global, stays: &[Stay]) -> Result<Vec<Visit>, AllocError> {
+/// The visits of stays, in the order of their first stays. Where the stays of a feature are not in the order of time, its
+/// visits may overlap.
+pub fn visits_of(alloc: Global, stays: &[Stay]) -> Result<Vec<Visit>, AllocError>
+    ensures value { IfOk result (λ visits. visits.items ≡ visits_of stays.now) }
+
+    // Where no stay ends before it begins, as none of `stays_of` does, no visit does.
+    ensures ordered { IfOk result (λ visits. All (λ stay. IsNoLater stay.enters stay.leaves) stays.now
+        → All (λ visit. IsNoLater visit.enters visit.leaves) visits.items) }
+{
     let mut visits = Vec::new(alloc);
     let mut last = BTreeMap::new(alloc);
     for stay in stays {
@@ -94,58 +127,4 @@ pub fn visits_of(alloc: Global, stays: &[Stay]) -> Result<Vec<Visit>, AllocError
         }
     }
     Ok(visits)
-}
-
-/// How long a feature stays in all.
-#[derive(Clone, Copy, PartialEq, Eq, Debug)]
-pub struct Dwell {
-    pub feature: u32,
-    /// How many visits it pays.
-    pub visits: u64,
-    /// It stays for at least so many microseconds,
-    pub least: u64,
-    /// and for at most so many.
-    pub most: u64,
-}
-
-impl Dwell {
-    /// No visit of a feature.
-    fn new(feature: u32) -> Dwell {
-        Dwell {
-            feature,
-            visits: 0,
-            least: 0,
-            most: 0,
-        }
-    }
-
-    /// With a visit more.
-    fn with(self, visit: &Visit) -> Dwell {
-        let (least, most) = visit.lasts();
-        Dwell {
-            feature: self.feature,
-            visits: self.visits.saturating_add(1),
-            least: self.least.saturating_add(least),
-            most: self.most.saturating_add(most),
-        }
-    }
-}
-
-/// How long each feature stays, in the order of the features' first visits.
-pub fn dwells_of(alloc: Global, visits: &[Visit]) -> Result<Vec<Dwell>, AllocError> {
-    let mut dwells: Vec<Dwell> = Vec::new(alloc);
-    let mut places = BTreeMap::new(alloc);
-    for visit in visits {
-        let place = match places.get(&visit.feature) {
-            Some(place) => *place,
-            None => dwells.len(),
-        };
-        if place >= dwells.len() {
-            places.insert(visit.feature, dwells.len())?;
-            dwells.push(Dwell::new(visit.feature).with(visit))?;
-        } else {
-            dwells[place] = dwells[place].with(visit);
-        }
-    }
-    Ok(dwells)
 }

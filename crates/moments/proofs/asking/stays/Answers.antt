@@ -13,7 +13,7 @@ returns-clause-found g c = λ s.
     let period = c.args.period.now in
     let near = c.in_ok-legs.legs.items in
     let stays = c.in_ok-stays_of.field-0.items in
-    let are = subst (λ (l : List LegView). AreStays rect period l stays) c.as_slice.ensures.value c.in_ok-stays_of.ensures in
+    let are = subst (λ (l : List LegView). AreStays rect period l stays) c.as_slice.ensures.value c.in_ok-stays_of.ensures.stays in
     stays_of_all rect period c.args.db.now.book.legs near stays (c.in_ok-legs.ensures.found s) are
 
 pub returns-clause-ever : goal.returns-clause-ever
@@ -22,7 +22,7 @@ returns-clause-ever g c = λ s.
     let period = c.args.period.now in
     let near = c.in_ok-legs.legs.items in
     let stays = c.in_ok-stays_of.field-0.items in
-    let are = subst (λ (l : List LegView). AreStays rect period l stays) c.as_slice.ensures.value c.in_ok-stays_of.ensures in
+    let are = subst (λ (l : List LegView). AreStays rect period l stays) c.as_slice.ensures.value c.in_ok-stays_of.ensures.stays in
     let picks = c.in_ok-legs.ensures.found s in
     subst (λ (l : List LegView). Picks (HoldsOfLeg Ever rect period) c.args.db.now.book.legs l) (sym (legs_of_stays rect period c.args.db.now.book.legs near stays picks are)) picks
 
@@ -32,6 +32,6 @@ returns-clause-says g c =
     let period = c.args.period.now in
     let near = c.in_ok-legs.legs.items in
     let stays = c.in_ok-stays_of.field-0.items in
-    let are = subst (λ (l : List LegView). AreStays rect period l stays) c.as_slice.ensures.value c.in_ok-stays_of.ensures in
+    let are = subst (λ (l : List LegView). AreStays rect period l stays) c.as_slice.ensures.value c.in_ok-stays_of.ensures.stays in
     let told = c.in_ok-legs.ensures.says in
     (told.0, told.1, stays_of_all rect period told.0 near stays told.2 are)

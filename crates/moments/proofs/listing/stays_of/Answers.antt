@@ -1,8 +1,9 @@
 use Rattle.std.proofs.Common.{◌≡◌, ◌∙◌, ◌∷◌, ◌+◌, List, sym, subst, ap, drop, arith}
 use Rattle.std.proofs.lemmas.List.{drop_more, drop_all}
 use Rattle.legs.specs.Legs.{LegView}
+use Rattle.moments.specs.Stays.{AreStays}
 use Rattle.moments.specs.declared.stay.Stay.{Stay}
-use Rattle.moments.proofs.ListLemmas.{IsStaying, staying-yes, staying-no, staying-end}
+use Rattle.moments.proofs.ListLemmas.{IsStaying, none_turns, staying-yes, staying-no, staying-end}
 use Rattle.moments.proofs.listing.stays_of.Goals as goal
 use Rattle.moments.proofs.listing.stays_of.Goals.{in-Some+in_ok-push, in_default}
 
@@ -22,8 +23,14 @@ loop-leg-preserved c =
           subst (λ (l : List Stay). IsStaying rect period all others l) (sym (ap (λ v. v.items) w.stays-is)) (staying-no rect period all others c.loop-leg.stays.items c.leg-item.result so_far w.in_default.ensures)
     ]
 
-pub returns : goal.returns
-returns c =
+are_stays : (c : goal.After-loop-leg) → AreStays c.args.rect.now c.args.period.now c.args.legs.now c.loop-leg.stays.items
+are_stays c =
     let over = c.loop-leg-test.false in
     staying-end c.args.rect.now c.args.period.now c.args.legs.now c.loop-leg.stays.items
     (subst (λ (l : List LegView). IsStaying c.args.rect.now c.args.period.now c.args.legs.now l c.loop-leg.stays.items) (drop_all c.loop-leg.leg-index c.args.legs.now (omega (arith, over))) c.loop-leg.invariant)
+
+pub returns-clause-stays : goal.returns-clause-stays
+returns-clause-stays c = are_stays c
+
+pub returns-clause-ordered : goal.returns-clause-ordered
+returns-clause-ordered c = none_turns c.args.rect.now c.args.period.now c.args.legs.now c.loop-leg.stays.items (are_stays c)

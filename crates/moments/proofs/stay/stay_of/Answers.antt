@@ -6,7 +6,7 @@ use Rattle.clipping.specs.declared.line.Frac.{Frac}
 use Rattle.moments.specs.Parts.{IsAt, IsWhole}
 use Rattle.moments.specs.Stays.{IsPositionAt}
 use Rattle.moments.specs.declared.moment.Moment.{Moment}
-use Rattle.moments.proofs.StayLemmas.{coord_is, first_is, high_part, last_is, low_part}
+use Rattle.moments.proofs.StayLemmas.{between_is, coord_is, first_is, high_part, last_is, low_part}
 use Rattle.moments.proofs.stay.stay_of.Goals as goal
 
 pub returns-in_err-cut : goal.returns-in_err-cut
@@ -48,6 +48,7 @@ returns c =
       same = refl;
       first = first_is leg rect period cut rises clip enters.num enters.den enters.positive c.moment_at.ensures.at;
       last = last_is leg rect period cut rises clip leaves.num leaves.den leaves.positive c.moment_at-2.ensures.at;
+      between = between_is leg rect period cut rises clip enters.num leaves.num enters.den leaves.den enters.positive leaves.positive c.moment_at.ensures.at c.moment_at-2.ensures.at;
       entry = position_is leg cut.lo enters c.position_at.result rises c.moment_at.ensures.at c.position_at.ensures.x c.position_at.ensures.y c.position_at.ensures.z;
       exit = position_is leg cut.hi leaves c.position_at-2.result rises c.moment_at-2.ensures.at c.position_at-2.ensures.x c.position_at-2.ensures.y c.position_at-2.ensures.z;
     }

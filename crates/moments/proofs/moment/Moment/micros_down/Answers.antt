@@ -18,6 +18,9 @@ floor_of c =
     let most = within.1 in
     omega (arith, ints, is, least, most)
 
+pub returns-clause-value : goal.returns-clause-value
+returns-clause-value c = floor_of c
+
 pub returns-clause-floor : goal.returns-clause-floor
 returns-clause-floor c =
     let m = c.args.self in

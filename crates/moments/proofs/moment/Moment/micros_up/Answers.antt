@@ -19,6 +19,9 @@ ceiling_of c =
     let most = within.1 in
     omega (arith, ints, is, least, most)
 
+pub returns-clause-value : goal.returns-clause-value
+returns-clause-value c = ceiling_of c
+
 pub returns-clause-ceiling : goal.returns-clause-ceiling
 returns-clause-ceiling c =
     let m = c.args.self in

@@ -1,0 +1,115 @@
+-- How long it is between two moments, by their whole microseconds.
+use Rattle.std.proofs.Common.{ℕ, ◌+◌, ◌<◌, ◌≤◌, ◌≡◌, ◌∙◌, ℤ, pos, negsuc, ◌+ℤ◌, ◌-ℤ◌, ◌*ℤ◌, ◌≤ℤ◌, ◌<ℤ◌, unsigned_abs, arith, ap, sym, subst, refl}
+use Rattle.std.proofs.lemmas.Int.{ints}
+use Rattle.clipping.proofs.Products.{products, difference_times_is}
+use Rattle.clipping.proofs.Fractions.{scale}
+use Rattle.moments.specs.Lengths.{IsBetween, IsNoLater, least_of, micros_down, micros_up, most_of, not_below_0}
+use Rattle.moments.specs.declared.visits.Visit.{Visit}
+use Rattle.moments.proofs.Quotients.{below_strictly_from, ceiling_is, floor_is, sum_times}
+
+-- between the moments n / d and m / e go by so many microseconds, times both denominators
+abbrev pub scaled : ℤ → ℕ → ℤ → ℕ → ℤ
+scaled n d m e = (m *ℤ pos d -ℤ n *ℤ pos e) *ℤ pos 1000
+
+positive_z : (d : ℕ) → pos 0 ≤ℤ pos d
+positive_z d = omega (arith, ints)
+
+module _ (n m : ℤ) (d e : ℕ) (a b : ℤ) where
+  spread : (a -ℤ b) *ℤ (pos d *ℤ pos e) ≡ (a *ℤ pos e) *ℤ pos d -ℤ (b *ℤ pos d) *ℤ pos e
+  spread =
+      let p = difference_times_is a b (pos d *ℤ pos e) in
+      omega (arith, ints, products, p)
+
+  scaled_is : scaled n d m e ≡ (m *ℤ pos 1000) *ℤ pos d -ℤ (n *ℤ pos 1000) *ℤ pos e
+  scaled_is =
+      let p = difference_times_is (m *ℤ pos d) (n *ℤ pos e) (pos 1000) in
+      omega (arith, ints, products, p)
+
+  -- from a number that is at least the first to one that is at most the second
+  pub at_least : (a *ℤ pos e) ≤ℤ (m *ℤ pos 1000) → (n *ℤ pos 1000) ≤ℤ (b *ℤ pos d) → ((a -ℤ b) *ℤ (pos d *ℤ pos e)) ≤ℤ scaled n d m e
+  at_least f c =
+      let x = scale (a *ℤ pos e) (m *ℤ pos 1000) (pos d) (positive_z d) f in
+      let y = scale (n *ℤ pos 1000) (b *ℤ pos d) (pos e) (positive_z e) c in
+      let s = spread in
+      let t = scaled_is in
+      omega (arith, ints, x, y, s, t)
+
+  pub at_most : (m *ℤ pos 1000) ≤ℤ (a *ℤ pos e) → (b *ℤ pos d) ≤ℤ (n *ℤ pos 1000) → scaled n d m e ≤ℤ ((a -ℤ b) *ℤ (pos d *ℤ pos e))
+  at_most c f =
+      let x = scale (m *ℤ pos 1000) (a *ℤ pos e) (pos d) (positive_z d) c in
+      let y = scale (b *ℤ pos d) (n *ℤ pos 1000) (pos e) (positive_z e) f in
+      let s = spread in
+      let t = scaled_is in
+      omega (arith, ints, x, y, s, t)
+
+-- the same with 0 in the place of a number below 0
+pub least_holds : (z q s : ℤ) → pos 0 ≤ℤ s → (z *ℤ q) ≤ℤ s → (pos (not_below_0 z) *ℤ q) ≤ℤ s
+least_holds (pos k) q s h l = l
+least_holds (negsuc k) q s h l = omega (arith, ints)
+
+pub most_holds : (z q s : ℤ) → pos 0 ≤ℤ q → s ≤ℤ (z *ℤ q) → s ≤ℤ (pos (not_below_0 z) *ℤ q)
+most_holds (pos k) q s h l = l
+most_holds (negsuc k) q s h l = let x = scale (negsuc k) (pos 0) q h (omega (arith, ints)) in omega (arith, ints, x)
+
+-- the whole number above a fraction is at most one more than that below it
+pub next_to : (z : ℤ) (d : ℕ) (floor ceiling : ℤ) → 0 < d → (z <ℤ ((floor +ℤ pos 1) *ℤ pos d)) → ((ceiling *ℤ pos d) <ℤ (z +ℤ pos d)) → ceiling ≤ℤ (floor +ℤ pos 1)
+next_to z d floor ceiling positive below above =
+    let s = sum_times (floor +ℤ pos 1) (pos 1) (pos d) in
+    let less = below_strictly_from ceiling (floor +ℤ pos 1 +ℤ pos 1) d positive (omega (arith, ints, below, above, s)) in
+    omega (arith, ints, less)
+
+pub near_by : (a b p q : ℤ) → p ≤ℤ (a +ℤ pos 1) → b ≤ℤ (q +ℤ pos 1) → not_below_0 (p -ℤ q) ≤ (not_below_0 (a -ℤ b) + 2)
+near_by a b p q x y = by (p -ℤ q) (a -ℤ b) (omega (arith, ints, x, y))
+  where
+    by : (most least : ℤ) → most ≤ℤ (least +ℤ pos 2) → not_below_0 most ≤ (not_below_0 least + 2)
+    by (pos j) (pos k) h = omega (arith, ints, h)
+    by (pos j) (negsuc k) h = omega (arith, ints, h)
+    by (negsuc j) (pos k) h = omega (arith, ints)
+    by (negsuc j) (negsuc k) h = omega (arith, ints)
+
+-- a number that is not below 0, and one that is
+pub not_below_is : (z : ℤ) → pos 0 ≤ℤ z → unsigned_abs z ≡ not_below_0 z
+not_below_is (pos n) h = refl
+not_below_is (negsuc n) h = absurd (omega (arith, ints, h))
+
+pub below_is : (z : ℤ) → z <ℤ pos 0 → 0 ≡ not_below_0 z
+below_is (pos n) h = absurd (omega (arith, ints, h))
+below_is (negsuc n) h = refl
+
+-- the least and the most of a visit
+pub always_near : (visit : Visit) → most_of visit ≤ (least_of visit + 2)
+always_near visit =
+    let one = visit.enters in
+    let other = visit.leaves in
+    let floor = floor_is (other.num *ℤ pos 1000) other.den other.positive in
+    let floor' = floor_is (one.num *ℤ pos 1000) one.den one.positive in
+    let ceiling = ceiling_is one.num (pos 1000) one.den one.positive in
+    let ceiling' = ceiling_is other.num (pos 1000) other.den other.positive in
+    near_by (micros_down other) (micros_up one) (micros_up other) (micros_down one) (next_to (other.num *ℤ pos 1000) other.den (micros_down other) (micros_up other) other.positive floor.1 ceiling'.1)
+    (next_to (one.num *ℤ pos 1000) one.den (micros_down one) (micros_up one) one.positive floor'.1 ceiling.1)
+
+-- a visit that does not end before it begins lasts as long as is said
+pub between_of : (visit : Visit) → IsNoLater visit.enters visit.leaves → IsBetween visit.enters visit.leaves (least_of visit) (most_of visit)
+between_of visit order =
+    let one = visit.enters in
+    let other = visit.leaves in
+    let n = one.num in
+    let m = other.num in
+    let d = one.den in
+    let e = other.den in
+    let a : ℤ = micros_down other in
+    let b : ℤ = micros_up one in
+    let p : ℤ = micros_up other in
+    let q : ℤ = micros_down one in
+    let floor = floor_is (m *ℤ pos 1000) e other.positive in
+    let floor' = floor_is (n *ℤ pos 1000) d one.positive in
+    let ceiling = ceiling_is n (pos 1000) d one.positive in
+    let ceiling' = ceiling_is m (pos 1000) e other.positive in
+    let s : ℤ = scaled n d m e in
+    let s0 : pos 0 ≤ℤ s = let o = order in omega (arith, ints, o) in
+    let scale0 : pos 0 ≤ℤ (pos d *ℤ pos e) = omega (arith, ints) in
+    record {
+      least_is = least_holds (a -ℤ b) (pos d *ℤ pos e) s s0 (at_least n m d e a b floor.0 ceiling.0);
+      most_is = most_holds (p -ℤ q) (pos d *ℤ pos e) s scale0 (at_most n m d e p q ceiling'.0 floor'.0);
+      near = always_near visit;
+    }
