@@ -31,22 +31,6 @@ use Rattle.trajdb.specs.declared.RunFault.TheVariants.{Memory, Store, Damaged, S
 use Rattle.trajdb.proofs.FaultLemmas.{picks_all}
 
 module _ {I : Type 0} (g : Ghosts I) (core : CoreView I) where
-  -- the index denies a question
-  pub asked_names : (question : Question) (fault : IndexFault) → Denies g core.index question fault → Names g core (DeniesLegs g core question) (run_fault_of fault)
-  asked_names question index.Memory h = tt
-  asked_names question index.Store h = tt
-  asked_names question (index.Damaged page) h = inl h
-  asked_names question index.StoreFull h = tt
-  asked_names question index.Spent h = inr h
-
-  pub live_names : (feature : ℕ) (period : PeriodView) (fault : IndexFault) → Denies g core.index (OfFeature feature (Some period)) fault
-      → Names g core (λ page. g.denies core.index (OfFeature feature (Some period)) page) (run_fault_of fault)
-  live_names feature period index.Memory h = tt
-  live_names feature period index.Store h = tt
-  live_names feature period (index.Damaged page) h = h
-  live_names feature period index.StoreFull h = tt
-  live_names feature period index.Spent h = inr h
-
   pub names_weaker : (P Q : ℕ → Type 0) (fault : RunFault) → ((page : ℕ) → P page → Q page) → Names g core P fault → Names g core Q fault
   names_weaker P Q Memory more h = tt
   names_weaker P Q Store more h = tt
@@ -54,6 +38,10 @@ module _ {I : Type 0} (g : Ghosts I) (core : CoreView I) where
   names_weaker P Q StoreFull more h = tt
   names_weaker P Q Failed more h = h
   names_weaker P Q Output more h = tt
+
+  -- a page that the index denies is one that is named of the legs that are shown
+  pub denied_names : (question : Question) (fault : RunFault) → Names g core (λ page. g.denies core.index question page) fault → Names g core (DeniesLegs g core question) fault
+  denied_names question fault h = names_weaker (λ page. g.denies core.index question page) (DeniesLegs g core question) fault (λ page denied. inl denied) h
 
   pub memory_names : (P : ℕ → Type 0) (fault : RunFault) → fault ≡ Memory → Names g core P fault
   memory_names P fault e = subst (Names g core P) (sym e) tt
@@ -146,9 +134,9 @@ there_legs old new a b same e h =
     subst (All (IsThere old)) e (subst (λ (k : Book). All (IsThere k) a) same h)
 
 -- one more of a list that is shown
-pub map_more : {X Y : Type 0} (f : X → Y) (xs : List X) (i : ℕ) (x : X) (ys zs : List Y) → i < length xs → x ≡ get_or xs i x → ys ≡ map f (take i xs) → zs ≡ ys ++ f x ∷ [] → zs ≡ map f (take (i + 1) xs)
-map_more f xs i x ys zs less at so_far more =
-    more ∙ ap (λ l. l ++ f x ∷ []) so_far ∙ ap (λ y. map f (take i xs) ++ f y ∷ []) at
+pub map_more : {X Y : Type 0} (f : X → Y) (xs : List X) (i : ℕ) (x : X) (y : Y) (ys zs : List Y) → i < length xs → x ≡ get_or xs i x → ys ≡ map f (take i xs) → zs ≡ ys ++ y ∷ [] → y ≡ f x → zs ≡ map f (take (i + 1) xs)
+map_more f xs i x y ys zs less at so_far more is =
+    more ∙ ap (λ y. ys ++ y ∷ []) is ∙ ap (λ l. l ++ f x ∷ []) so_far ∙ ap (λ y. map f (take i xs) ++ f y ∷ []) at
     ∙ sym (ap (map f) (take_more xs i x less) ∙ map-append f (take i xs) (get_or xs i x ∷ []))
 
 -- what holds where there is an answer holds beside what holds of it
@@ -192,8 +180,8 @@ module _ {I : Type 0} (g : Ghosts I) (core : CoreView I) where
       (legs_names g core new (InBox everything) legs shown fault same told (λ all. subst (All (IsThere core.book)) (sym e) all) text)
 
   -- and a fault of reading all legs
-  pub file_names_read : (o : Option BookHead) (head : BookHead) (fault : RunFault) → o ≡ Some head → Names g core (DeniesLegs g core (InBox everything)) fault → Names g core (DeniesFile g core o) fault
-  file_names_read o head fault h names = subst (λ o. Names g core (DeniesFile g core o) fault) (sym h) names
+  pub file_names_read : (o : Option BookHead) (head : BookHead) (fault : RunFault) → o ≡ Some head → Names g core (λ page. g.denies core.index (InBox everything) page) fault → Names g core (DeniesFile g core o) fault
+  file_names_read o head fault h names = subst (λ o. Names g core (DeniesFile g core o) fault) (sym h) (denied_names g core (InBox everything) fault names)
 
 -- of a feature that is there, where it is known
 module _ {I : Type 0} (g : Ghosts I) (core : CoreView I) (F : Type 0) (o : Option ℕ) (feature : ℕ) (there : F → o ≡ Some feature) where

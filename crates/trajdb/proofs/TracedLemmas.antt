@@ -6,6 +6,7 @@ use Rattle.std.specs.Io.KnownBytes.{Appends, Keeps}
 use Rattle.legs.specs.declared.listed.Listed.{Ghosts}
 use Rattle.trajdb.specs.Database.{CoreView}
 use Rattle.trajdb.specs.Calls.{Leaves, LoadsBy}
+use Rattle.trajdb.specs.Run.{FailsAt}
 use Rattle.trajdb.specs.Script.{lines_of}
 use Rattle.trajdb.specs.Telling.{HasCutTold, HasNamed, HasTold, NamesLine, TellsCut, TellsLine, TellsLines, TellsRun, TellsStop}
 use Rattle.trajdb.specs.declared.RunFault.{RunFault}
@@ -73,6 +74,7 @@ module _ {I : Type 0} (g : Ghosts I) (files : Named) where
           tells = at.tells;
           sends = Appends-kept a b c at.text at.sends stop.sends;
           names = subst (λ (l : List ℕ). NamesLine g files mid l fault) (sym nth.1) stop.names;
+          fails = subst (λ (l : List ℕ). FailsAt files new.failed fault l) (sym nth.1) stop.fails;
           left = subst (λ (l : List ℕ). (LoadsBy files l → ⊥) → Leaves g mid new) (sym nth.1) stop.left;
         }
 

@@ -27,7 +27,7 @@ use Rattle.trajdb.specs.Calls.{IsLater, Leaves, Loads, LoadsBy, TellsLoad}
 use Rattle.trajdb.specs.Database.{CoreView}
 use Rattle.trajdb.specs.Files.{file_named}
 use Rattle.trajdb.specs.Picks.{Picks}
-use Rattle.trajdb.specs.Run.{IsPrefixOf}
+use Rattle.trajdb.specs.Run.{FailsAt, IsPrefixOf}
 use Rattle.trajdb.specs.declared.RunFault.{RunFault}
 use Rattle.trajdb.specs.declared.RunFault.TheVariants.{Memory, Store, Damaged, StoreFull, Failed, Output}
 
@@ -191,8 +191,8 @@ module _ {I : Type 0} (g : Ghosts I) (files : List (List ℕ × List ℕ)) where
     pub tells : TellsLines old new lines text
     pub sends : Appends sent sent' text
 
-  -- the first k lines are done, and their answers, whole, and nothing else were sent; this is why the next was not answered,
-  -- and, where it is no `load` of a file that is there, it changed nothing
+  -- the first k lines are done, and their answers, whole, and nothing else were sent; this is why the next was not answered;
+  -- the database failed by it only where it is a `load` of a file that is there, and else it changed nothing
   pub record TellsStop (sent sent' : Option (List ℕ)) (old new : CoreView I) (fault : RunFault) (lines : List (List ℕ)) : Type 0 where
     pub k : ℕ
     pub within : k < length lines
@@ -201,6 +201,7 @@ module _ {I : Type 0} (g : Ghosts I) (files : List (List ℕ × List ℕ)) where
     pub tells : TellsLines old mid (take k lines) text
     pub sends : Appends sent sent' text
     pub names : NamesLine mid (slice_index_or lines k []) fault
+    pub fails : FailsAt files new.failed fault (slice_index_or lines k [])
     pub left : (LoadsBy files (slice_index_or lines k []) → ⊥) → Leaves g mid new
 
   -- the first k lines are done, and what was sent is a prefix of their answers
@@ -229,4 +230,5 @@ module _ {I : Type 0} (g : Ghosts I) (files : List (List ℕ × List ℕ)) where
   pub record HasNamed (sent sent' : Option (List ℕ)) (old new : CoreView I) (line : List ℕ) (fault : RunFault) : Type 0 where
     pub sends : Keeps sent sent'
     pub names : NamesLine old line fault
+    pub fails : FailsAt files new.failed fault line
     pub left : (LoadsBy files line → ⊥) → Leaves g old new

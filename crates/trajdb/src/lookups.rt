@@ -21,7 +21,7 @@ impl<S: PageStore> Db<S> {
     ghost use Rattle.trajdb.specs.Db.{HasPages, IsSound};
     ghost use Rattle.trajdb.specs.Lasting.{IsIdle};
     ghost use Rattle.trajdb.specs.Picks.{Picks};
-    ghost use Rattle.trajdb.specs.Telling.{ArePickedOf, DeniesLegs, Names};
+    ghost use Rattle.trajdb.specs.Telling.{ArePickedOf, Names};
     ghost use Rattle.trajdb.specs.declared.RunFault.{RunFault};
 
     /// The legs for which, each taken alone, a predicate holds with a rectangle over a period, in the order of the book.
@@ -35,12 +35,13 @@ impl<S: PageStore> Db<S> {
         ensures found { IfOk result (λ legs. IsSound self.old
             → Picks (HoldsOfLeg predicate rect.now period.now) self.old.book.legs legs.items) }
 
-        // Be the database sound or not, they are picked of the legs that the pages say that were
-        // met, and a page that is named is one that was met and is not what it is to be there.
+        // Be the database sound or not, they are picked of the legs that the pages that were met say, and a page
+        // that is named is one that was met and is not what it is to be there, or the first one that was met beyond
+        // as many as the store has.
         ensures says { IfOk result (λ legs.
             ArePickedOf words self.old predicate rect.now period.now legs.items) }
         ensures named { IfErr result (Names words self.old
-            (DeniesLegs words self.old (InBox (box_near predicate rect.now period.now)))) }
+            (λ page. words.denies self.old.index (InBox (box_near predicate rect.now period.now)) page)) }
         ensures asks { OnOk result (Asks words self.old self.new
             (search_cost (box_near predicate rect.now period.now))) }
         ensures leaves { Leaves words self.old self.new }

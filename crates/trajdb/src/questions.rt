@@ -115,7 +115,7 @@ impl<I: Start> Core<I> {
         ensures says { IfOk result (λ legs. I.tells self.old.index
             (InBox (box_over rect.now period.now)) legs.items) }
         ensures named { IfErr result (Names I.Listed self.old
-            (DeniesLegs I.Listed self.old (InBox (box_over rect.now period.now)))) }
+            (λ page. I.denies self.old.index (InBox (box_over rect.now period.now)) page)) }
         ensures asks { OnOk result (Asks I.Listed self.old self.new (search_cost
             (box_over rect.now period.now))) }
         ensures leaves { Leaves I.Listed self.old self.new }
@@ -157,8 +157,8 @@ impl<I: Start> Core<I> {
         ensures says { IfOk result (λ legs. ArePickedOf I.Listed self.old predicate
             rect.now period.now legs.items) }
         ensures named { IfErr result (Names I.Listed self.old
-            (DeniesLegs I.Listed self.old
-            (InBox (box_near predicate rect.now period.now)))) }
+            (λ page. I.denies self.old.index
+            (InBox (box_near predicate rect.now period.now)) page)) }
         ensures asks { OnOk result (Asks I.Listed self.old self.new (search_cost
             (box_near predicate rect.now period.now))) }
         ensures leaves { Leaves I.Listed self.old self.new }
@@ -313,7 +313,7 @@ impl<I: Start> Core<I> {
             → legs.items ≡ self.old.book.legs) }
         ensures says { IfOk result (λ legs. I.tells self.old.index (InBox everything) legs.items) }
         ensures named { IfErr result (Names I.Listed self.old
-            (DeniesLegs I.Listed self.old (InBox everything))) }
+            (λ page. I.denies self.old.index (InBox everything) page)) }
         ensures asks { OnOk result (Asks I.Listed self.old self.new (search_cost everything)) }
         ensures leaves { Leaves I.Listed self.old self.new }
         ensures refused { IfErr result (IsRefused I.Listed self.old self.new) }

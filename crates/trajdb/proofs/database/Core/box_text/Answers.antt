@@ -1,10 +1,10 @@
 use Rattle.std.proofs.Common.{◌∙◌, All, subst, sym}
-use Rattle.std.proofs.lemmas.Result.{IfErr-weaker, IfOk-weaker}
+use Rattle.std.proofs.lemmas.Result.{IfErr-weaker, IfOk-weaker, err_from_is_err_and}
 use Rattle.legs.specs.Questions.{InBox}
 use Rattle.legs.specs.Boxes.{box_of, box_over, boxes_meet}
 use Rattle.legs.specs.Law.{IsThere}
 use Rattle.trajdb.proofs.FaultLemmas.{text_refused, there_among}
-use Rattle.trajdb.proofs.TellingLemmas.{legs_names, ok_both, shown_legs, there_legs}
+use Rattle.trajdb.proofs.TellingLemmas.{denied_names, legs_names, ok_both, shown_legs, there_legs}
 use Rattle.trajdb.proofs.database.Core.box_text.Goals as goal
 
 pub returns-clause-refused : goal.returns-clause-refused
@@ -30,3 +30,8 @@ returns-clause-says g c =
     let value = c.as_slice.ensures.value in
     IfOk-weaker c.legs_text.result _ _ (λ text h. (legs, c.in_ok-legs.ensures.says, (there_legs old now shown legs same value h.1, h.0 ∙ shown_legs old now shown legs same value)))
     (ok_both c.legs_text.result _ _ c.legs_text.ensures.text c.legs_text.ensures.there)
+
+pub returns-in_err-legs-clause-named : goal.returns-in_err-legs-clause-named
+returns-in_err-legs-clause-named g c =
+    let p = err_from_is_err_and c.from_residual.result c.from_residual.ensures.1 in
+    rw (p.1, p.2) (denied_names g.I.Listed c.args.self.now (InBox (box_over c.args.rect.now c.args.period.now)) _ c.in_err-legs.ensures.named)
