@@ -281,6 +281,9 @@ class Explained(Case):
         self.assertIn("line 1: unknown command '\ufffd[31mred'\n", said)
         self.assertIn(f"line 2: unknown command '{'y' * 60}...'\n", said)
         self.assertNotIn("\x1b", said)
+        _, said = self.ask("\ufeffcount\nco\u00a0unt\n".encode())
+        self.assertIn("line 1: unknown command '\ufffdcount'\n", said)
+        self.assertIn("line 2: unknown command 'co\ufffdunt'\n", said)
 
     def test_the_answers_stay_as_they_are(self):
         """With the words and without, also where the store is a new one; and all of it is silent without."""
@@ -341,7 +344,9 @@ class Explained(Case):
         for script in ("count\n", "load walk.csv\n"):
             for options in (("--existing",), ("--existing", "--explain"), ("--existing", "-q")):
                 out, said = self.ask(script, "walk.csv", options=options, status=1)
-                self.assertEqual((out, said), ("", "mftb: no such store\n"))
+                why = "mftb: store: there is no such file, or one without a byte; --existing makes none\n"
+                told = why if "--explain" in options else ""
+                self.assertEqual((out, said), ("", "mftb: no such store\n" + told))
         self.put("empty", "")
         self.assertEqual(self.ask("count\n", options=("--existing",), store="empty", status=1)[0], "")
         self.assertEqual(Path(self.folder, "empty").read_bytes(), b"")
@@ -429,6 +434,27 @@ class Explained(Case):
                 _, said = self.run_mftb("check", "--explain", store, status=1)
                 self.assertEqual(said, f"mftb: store\nmftb: {store}: {why}\n")
 
+    def test_a_file_that_is_no_store(self):
+        self.put("walk.csv", WALK)
+        why = "mftb: walk.csv: its pages are not those of a store; is it a file of another kind?\n"
+        _, said = self.ask("count\n", store="walk.csv", status=1)
+        self.assertEqual(said, "mftb: store malformed\n" + why)
+        self.assertEqual(self.ask("count\n", options=(), store="walk.csv", status=1)[1], "mftb: store malformed\n")
+
+    def test_which_word_of_a_rectangle(self):
+        self.loaded()
+        words = ["store", "0", "0", "1,5", "1", *PERIOD.split()]
+        _, shown = self.shown("moments", *words)
+        self.assertEqual(
+            shown,
+            "mftb: a coordinate is no number, or out of range\r\nmftb: X2 '1,5' is no plain decimal number\r\n",
+        )
+        _, said = self.run_mftb("moments", *words, status=2)
+        self.assertEqual(said, "mftb: a coordinate is no number, or out of range\n")
+        for word in ("", "1 5", "1\t5"):
+            _, said = self.run_mftb("moments", "store", "0", "0", word, "1", *PERIOD.split(), status=2)
+            self.assertEqual(said, "mftb: X1 Y1 X2 Y2 T1 T2 are one word each\n")
+
     def as_nobody(self, *words):
         """What `mftb` says to a user without rights."""
         self.folder.chmod(0o755)
@@ -473,7 +499,7 @@ class Explained(Case):
         _, said = self.run_mftb("check", "--explain", "absent", status=1)
         self.assertEqual(said, "mftb: store malformed\nmftb: there was no file absent: an empty one was made\n")
         _, said = self.run_mftb("check", "--explain", "absent", status=1)
-        self.assertEqual(said, "mftb: store malformed\n")
+        self.assertNotIn("was made", said)
         _, said = self.run_mftb("check", "other", status=1)
         self.assertEqual(said, "mftb: store malformed\n")
 

@@ -69,6 +69,10 @@ class Info(Case):
     def test_quoted_words_in_three_dimensions(self):
         self.check(QUOTED, 'urn "x", y', 3, [("a\\b", "xsd:token")])
 
+    def test_what_is_not_seen_stands_as_its_number(self):
+        self.load(QUOTED.replace(", y", "\u202e\u009by"))
+        self.assertEqual(dict(self.lines())["crs"], 'urn "x"\\u{202e}\\u{9b}y')
+
     def test_a_store_without_a_file(self):
         self.write("count", "count\n")
         self.asked("run", "store", "count")
@@ -80,6 +84,8 @@ class Info(Case):
     def test_refusals(self):
         self.assertEqual(self.asked("info", "absent", status=1), ("", "mftb: cannot read absent\n"))
         self.assertFalse((self.folder / "absent").exists())
+        self.write("short", "no store\n")
+        self.assertEqual(self.asked("info", "short", status=1), ("", "mftb: store malformed\n"))
         self.load(QUOTED)
         bytes_ = bytearray((self.folder / "store").read_bytes())
         bytes_[4096 + 100] ^= 1

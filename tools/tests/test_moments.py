@@ -166,7 +166,7 @@ class Moments(Case):
             self.assertEqual(int(visits), count)
             self.assertLessEqual(Fraction(least) * 1000, total)
             self.assertLessEqual(total, Fraction(most) * 1000)
-            self.assertLessEqual(Fraction(most) - Fraction(least), Fraction(4 * count, 10**6))
+            self.assertLessEqual(Fraction(most) - Fraction(least), Fraction(2 * count, 10**6))
         return wanted
 
     def test_harbour(self):

@@ -22,6 +22,8 @@ pub(crate) enum Cause {
     ReadOnly,
     /// It is too long.
     TooLong,
+    /// It has no byte.
+    Empty,
     /// Anything else.
     Other,
 }
@@ -51,6 +53,7 @@ impl Display for Cause {
             Cause::Full => "the disk is full",
             Cause::ReadOnly => "the disk may not be written",
             Cause::TooLong => "it is too long: at most 1073741824 bytes",
+            Cause::Empty => "it has no byte",
             Cause::Other => "the system refused a call",
         })
     }
@@ -61,6 +64,7 @@ pub(crate) fn cause_of_reading<R: Files<File = File>>(rt: &R, name: &str) -> Cau
     match fs::metadata(rt, name) {
         Ok(about) if about.is_dir() => return Cause::Folder,
         Ok(about) if about.len() > MOST_BYTES => return Cause::TooLong,
+        Ok(about) if about.is_file() && about.len() == 0 => return Cause::Empty,
         _ => {}
     }
     match File::open(rt, name) {

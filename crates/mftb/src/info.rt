@@ -37,9 +37,14 @@ pub(crate) fn print_info<'a, R: Files<File = File> + AllocGlobal + RandomSource,
     let alloc = rt.alloc();
     let mut store = store_to_ask(rt, task.store)?;
     let pages = store.len();
-    let header = read_header(&mut store)?;
-    let extent = read_extent(&mut store, &header)?;
+    let header = read_header(&mut store);
+    let extent = match &header {
+        Ok(header) => read_extent(&mut store, header),
+        Err(fault) => Err(*fault),
+    };
+    // Why the database is not opened comes first.
     let database = database_to_ask(rt, store, CACHE_PAGES)?;
+    let (header, extent) = (header?, extent?);
     let said = Said {
         version: header.version,
         pages,

@@ -4,6 +4,7 @@ use crate::wrote::wrote;
 use fixedpoint::{Coord, push_coord};
 use legs::{BookHead, Box3};
 use mfcsv::{Column, Dimension};
+use reasons::is_seen;
 use std::io::Write;
 use timebase::{Ms, push_instant};
 use trajdb::RunFault;
@@ -46,12 +47,13 @@ fn push_corners(text: &mut Vec<u8>, bounds: &Box3, between: &str) -> Result<(), 
     push_bound(text, bounds.y_max)
 }
 
-/// Appends a text on one line: a byte that commands a terminal stands there as its number.
+/// Appends a text on one line: a character that commands a terminal, or is not seen, stands there as its number.
 fn push_plain(text: &mut Vec<u8>, said: &str) -> Result<(), RunFault> {
-    for byte in said.as_bytes() {
-        match *byte {
-            0..=31 | 127 => wrote(write!(text, "\\x{:02x}", *byte))?,
-            _ => text.push(*byte)?,
+    for c in said.chars() {
+        if is_seen(c) {
+            wrote(write!(text, "{c}"))?;
+        } else {
+            wrote(write!(text, "\\u{{{:x}}}", c as u32))?;
         }
     }
     Ok(())

@@ -1,10 +1,10 @@
 //! How far the legs of a store reach, as its file says.
+use crate::root::{box_below, root_of};
 use legs::Box3;
 use pages::{Kind, Payload, unseal};
 use std::fs::File;
 use std::os::unix::fs::FileExt;
 use std::rt::Files;
-use tbnode::{Inner, Leaf, inner, leaf};
 
 /// How many bytes a page has.
 const PAGE: u64 = 4096;
@@ -28,41 +28,12 @@ fn read_page<F: FileExt>(file: &F, number: u32) -> Option<Payload> {
     unseal(number, &page).ok()
 }
 
-/// The box of the legs of a leaf.
-fn box_of_leaf(leaf: &Leaf) -> Box3 {
-    let count = leaf.len();
-    let mut whole = Box3::of(&leaf.leg(0));
-    for place in 1..count {
-        whole = whole.cover(&Box3::of(&leaf.leg(place)));
-    }
-    whole
-}
-
-/// The box of the entries of an inner page.
-fn box_of_inner(inner: &Inner) -> Box3 {
-    let count = inner.len();
-    let mut whole = inner.entry(0).bounds;
-    for place in 1..count {
-        whole = whole.cover(&inner.entry(place).bounds);
-    }
-    whole
-}
-
 /// How far the legs reach below a page.
 fn reach_below(payload: &Payload) -> Reach {
-    if let Some(inner) = inner(payload) {
-        return Reach::Within(box_of_inner(&inner));
-    }
-    match leaf(payload) {
-        Some(leaf) => Reach::Within(box_of_leaf(&leaf)),
+    match box_below(payload) {
+        Some(bounds) => Reach::Within(bounds),
         None => Reach::Unknown,
     }
-}
-
-/// The page of the root that a header names; 0 where there is no tree.
-fn root_of(header: &Payload) -> u32 {
-    let bytes = &header.bytes;
-    u32::from_be_bytes([bytes[32], bytes[33], bytes[34], bytes[35]])
 }
 
 /// How far the legs of the store in a file reach: by page 0 and the root of its tree.

@@ -46,13 +46,18 @@ fn payload_of<'a, S: PageStore>(store: &mut S, number: u32) -> Result<Payload, F
     }
 }
 
+/// The page of the root that page 0 names; 0 where there is no tree.
+pub(crate) fn root_of(header: &Payload) -> u32 {
+    u32_at(&header.bytes, 32)
+}
+
 /// What page 0 says.
 pub(crate) fn read_header<'a, S: PageStore>(store: &mut S) -> Result<Header, Fault<'a>> {
     let payload = payload_of(store, 0)?;
     Ok(Header {
         version: u32_at(&payload.bytes, 4),
         state: u32_at(&payload.bytes, 8),
-        root: u32_at(&payload.bytes, 32),
+        root: root_of(&payload),
     })
 }
 
@@ -86,12 +91,17 @@ fn is_in_range(bounds: &Box3) -> bool {
         && Ms::new(bounds.t_max).is_some()
 }
 
-/// The box over the legs below a page of a tree; `None` where it is no page of one.
-fn box_below(payload: &Payload) -> Option<Box3> {
-    match (tbnode::inner(payload), tbnode::leaf(payload)) {
-        (Some(inner), _) => Some(inner_box(&inner)),
-        (None, Some(leaf)) => Some(leaf_box(&leaf)),
-        (None, None) => None,
+/// The box over the legs below a page of a tree; `None` where it is no page of one, or out of range.
+pub(crate) fn box_below(payload: &Payload) -> Option<Box3> {
+    let bounds = match (tbnode::inner(payload), tbnode::leaf(payload)) {
+        (Some(inner), _) => inner_box(&inner),
+        (None, Some(leaf)) => leaf_box(&leaf),
+        (None, None) => return None,
+    };
+    if is_in_range(&bounds) {
+        Some(bounds)
+    } else {
+        None
     }
 }
 
@@ -107,7 +117,7 @@ pub(crate) fn read_extent<'a, S: PageStore>(
     }
     let payload = payload_of(store, root)?;
     match box_below(&payload) {
-        Some(bounds) if is_in_range(&bounds) => Ok(Some(bounds)),
-        _ => Err(Fault::Run(RunFault::Damaged(root))),
+        Some(bounds) => Ok(Some(bounds)),
+        None => Err(Fault::Run(RunFault::Damaged(root))),
     }
 }

@@ -1,20 +1,21 @@
 //! What is said of a run, in words, on standard error.
+use crate::bounds::line_of;
 use crate::catalogued::catalogue_of;
 use crate::cause::{Cause, cause_of_reading};
 use crate::fault::Fault;
 use crate::notes::{Note, Notes, Place, What};
 use crate::reach::{Reach, reach_of};
-use crate::words::{Task, Telling};
+use crate::words::{Bounds, Task, Telling};
 use catalogue::Catalogue;
 use legs::Box3;
-use querylang::{Command, parse_line};
+use querylang::{Command, LineCode, parse_line};
 use reasons::{Code, Known, Refusal, Shown, file_words, line_words, reach_words};
 use std::alloc::{AllocError, Global};
 use std::fs::File;
 use std::io::Eprint;
 use std::random::RandomSource;
 use std::{fs, rt};
-use trajdb::Files;
+use trajdb::{Files, OpenFault};
 
 /// The name in a command.
 fn name_in(command: &Command) -> &str {
@@ -243,6 +244,74 @@ fn is_missing<R: rt::Files<File = File>>(rt: &R, name: &str) -> bool {
     fs::symlink_metadata(rt, name).is_err()
 }
 
+/// Why a store was not opened, beyond what the fault's line says.
+fn opening_words(fault: &Fault) -> Option<&'static str> {
+    match fault {
+        Fault::NoSuchStore => Some(
+            "there is no such file, or one without a byte; --existing makes none",
+        ),
+        Fault::Open(OpenFault::Malformed) => {
+            Some("its pages are not those of a store; is it a file of another kind?")
+        }
+        Fault::Open(OpenFault::Version) => {
+            Some("another version made it; mftb migrate OLD NEW brings a store of version 1 over")
+        }
+        Fault::Open(OpenFault::Unfinished) => {
+            Some("what wrote it was cut short; load its files into a new store")
+        }
+        Fault::InUse => Some("another run holds it"),
+        _ => None,
+    }
+}
+
+/// Which word of a rectangle and a period is refused, and why.
+fn bounds_words(alloc: Global, bounds: &Bounds, code: LineCode) -> Option<String> {
+    if code == LineCode::Q3 {
+        // That is said of the line of a script.
+        return None;
+    }
+    let line = line_of(alloc, bounds).ok()?;
+    let code = Code::read(code.as_str())?;
+    line_words(alloc, line.as_bytes(), code).ok()
+}
+
+/// Says why a fault is so, where that is known.
+fn tell_cause<R: rt::Files<File = File> + Eprint + AllocGlobal>(
+    rt: &R,
+    task: &Task,
+    store: &str,
+    fault: &Fault,
+) {
+    match fault {
+        Fault::CannotRead(name) => {
+            let (name, cause) = (Shown(name), cause_of_reading(rt, name));
+            let _ = eprintln!(rt; "mftb: {name}: {cause}");
+        }
+        Fault::Bounds(code) => {
+            if let Task::Moments(task) = task
+                && let Some(words) = bounds_words(rt.alloc(), &task.bounds, *code)
+            {
+                let words = words.as_str();
+                let _ = eprintln!(rt; "mftb: {words}");
+            }
+        }
+        fault if fault.is_of_store() => {
+            let cause = match fault {
+                Fault::NoStore(cause) => *cause,
+                _ => Cause::Other,
+            };
+            let (name, cause) = (Shown(store), cause_of_store(rt, store, cause));
+            let _ = eprintln!(rt; "mftb: {name}: {cause}");
+        }
+        fault => {
+            if let Some(words) = opening_words(fault) {
+                let name = Shown(store);
+                let _ = eprintln!(rt; "mftb: {name}: {words}");
+            }
+        }
+    }
+}
+
 /// What is known before the program begins, to say more of a fault: whether that is to be said, and
 /// whether a store that is checked is absent.
 #[derive(Clone, Copy)]
@@ -263,7 +332,7 @@ impl Before {
 
     /// Says, below the line of a fault, why it is so, and that a check made the file that it was to
     /// check.
-    pub(crate) fn tell<R: rt::Files<File = File> + Eprint>(
+    pub(crate) fn tell<R: rt::Files<File = File> + Eprint + AllocGlobal>(
         self,
         rt: &R,
         task: &Task,
@@ -273,24 +342,11 @@ impl Before {
             return;
         }
         let store = failed_store(rt, task);
-        match fault {
-            Fault::CannotRead(name) => {
-                let (name, cause) = (Shown(name), cause_of_reading(rt, name));
-                let _ = eprintln!(rt; "mftb: {name}: {cause}");
-            }
-            Fault::NoStore(cause) => {
-                let (name, cause) = (Shown(store), cause_of_store(rt, store, *cause));
-                let _ = eprintln!(rt; "mftb: {name}: {cause}");
-            }
-            fault if fault.is_of_store() => {
-                let (name, cause) = (Shown(store), cause_of_store(rt, store, Cause::Other));
-                let _ = eprintln!(rt; "mftb: {name}: {cause}");
-            }
-            _ => {}
-        }
         if self.is_absent && !is_missing(rt, store) {
             let name = Shown(store);
             let _ = eprintln!(rt; "mftb: there was no file {name}: an empty one was made");
+        } else {
+            tell_cause(rt, task, store, fault);
         }
     }
 }

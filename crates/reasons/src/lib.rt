@@ -21,4 +21,4 @@ pub use known::Known;
 pub use line_reasons::line_words;
 pub use reach::reach_words;
 pub use refusal::Refusal;
-pub use shown::Shown;
+pub use shown::{Shown, is_seen};
