@@ -54,12 +54,22 @@ class Store:
         self.program, self.path = program(named), path
 
     def read_info(self):
-        """Asks the store for its first instant, its dimension and its columns."""
-        info = json.loads(said([self.program, "info", "--json", self.path])[0])
+        """Asks the store for its first instant, its dimension, its columns, and where and when its legs are."""
+        text = said([self.program, "info", "--json", self.path])[0]
+        try:
+            self.take(json.loads(text))
+        except (ValueError, KeyError, TypeError):
+            raise Refused(f"{self.program} does not say what {self.path} holds; is it mftb?") from None
+
+    def take(self, info):
+        """Takes what `mftb info` says."""
         # A store without an accepted file says none of these.
         self.crs, self.dimension = info["crs"] or "", info["dimension"] or 2
         self.start = read_instant(info["start"]) if info["start"] else 0
         self.columns = [(column["name"], column["type"]) for column in info["columns"] or []]
+        # The least x and y and the greatest ones, and two moments; nothing without a leg.
+        self.extent = info["extent"]
+        self.first, self.last = (info[it] and read_instant(info[it]) for it in ("first", "last"))
 
     def run(self, script, files=(), words=()):
         """Runs a script: a file of its answers, which goes when it is closed, and whether a line was refused."""

@@ -8,8 +8,10 @@ from fixes import DEGREE
 WIDTH, LEAST, GREATEST = 640, 320, 640
 # From so many legs on ink is kept by pixel.
 MANY = 20_000
-# The pixels of a row.
-ROW = WIDTH + 1
+# From a pixel to the one below it; twice the width, so that of two pixels the difference says how far they are apart.
+ROW = 2 * WIDTH + 1
+# So many ways from a pixel to another one are kept.
+WAYS = 4096
 DEGREES = re.compile(r"crs:?84|[^0-9]4326$|degrees", re.I)
 METRES = re.compile(r"metres?|meters?", re.I)
 NAUTICAL, MILE = 1852, 1609.344
@@ -146,24 +148,35 @@ class Ink:
 
     def __init__(self, view, many=MANY):
         self.high, self.many, self.pieces, self.cells = view.height, many, [], None
+        # The steps from a pixel to another one that were worked out already.
+        self.ways = {}
 
     def __bool__(self):
         return bool(self.pieces) or self.cells is not None
 
-    def add(self, name, x, y, u, v):
-        """Takes a leg of a feature, from one pixel to another one, which is seen."""
+    def add(self, name, x, y, u, v, is_within=False):
+        """Takes a leg of a feature that is seen, from one pixel to another one; both may be known to be in the plot."""
         cells = self.cells
         if cells is None:
             self.pieces.append((name, (x, y), (u, v)))
             if len(self.pieces) > self.many:
                 self.spill()
             return
-        a, b, c, d = int(x), int(y), int(u), int(v)
-        if 0 <= a <= WIDTH and 0 <= b <= self.high:
-            cells[b * ROW + a] = 1
-            if a == c and b == d:
-                return
-        self.mark(x, y, u, v)
+        if not is_within:
+            self.mark(x, y, u, v)
+            return
+        start = int(y) * ROW + int(x)
+        way = int(v) * ROW + int(u) - start
+        cells[start] = 1
+        if way:
+            for step in self.ways.get(way) or self.way(way):
+                cells[start + step] = 1
+
+    def way(self, way):
+        """The steps along a way, which are kept."""
+        if len(self.ways) == WAYS:
+            self.ways.clear()
+        return self.ways.setdefault(way, steps(way))
 
     def spill(self):
         """Begins to keep ink by pixel."""
@@ -195,6 +208,15 @@ class Ink:
             for run in re.finditer(b"\x01+", self.cells[y * ROW : (y + 1) * ROW]):
                 words.append(f"M{run.start()}.5 {y}.5h{run.end() - run.start() - 1}")
         return "".join(words)
+
+
+def steps(way):
+    """From the first pixel of a line to each of its pixels, as differences in the order of pixels; from it to the last
+    is the way."""
+    down = round(way / ROW)
+    across = way - down * ROW
+    count = max(abs(across), abs(down), 1)
+    return tuple({round(down * k / count) * ROW + round(across * k / count) for k in range(count + 1)})
 
 
 def clipped(x, y, u, v, wide, high):

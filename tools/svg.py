@@ -117,9 +117,9 @@ def asked(view, box):
 # Beside the plot and below it
 
 
-def key(labels, box):
+def key(labels, box, kind):
     """The list beside the plot: what is grey, what was asked for, and the features."""
-    rows = ['<path class="leg" d="M0 -4h24"/><text x="32">legs of the files</text>']
+    rows = [f'<path class="leg" d="M0 -4h24"/><text x="32">legs of the {kind}</text>']
     if box:
         flat = box[0] == box[2] or box[1] == box[3]
         sign = (

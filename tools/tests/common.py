@@ -10,6 +10,7 @@ from pathlib import Path
 
 ROOT = Path(__file__).resolve().parent.parent.parent
 FEEDS = ROOT / "examples" / "feeds"
+BUILT = ROOT / "tools" / "out" / "mftb-unproved"
 CRS = "urn:ogc:def:crs:OGC:1.3:CRS84"
 US = "MMSI,BaseDateTime,LAT,LON,SOG,VesselName\n"
 
@@ -25,6 +26,11 @@ def cases(path):
         name, command = head.strip().split("\n$ ")
         texts = dict(part.split("\n", 1) for part in parts)
         yield name, command, {key: text.rstrip("\n") + "\n" for key, text in texts.items()}
+
+
+def has_info():
+    """Whether the build without proofs is there, and tells of a store."""
+    return BUILT.exists() and not subprocess.run([BUILT, "info", "--help"], capture_output=True).returncode
 
 
 def run(tool, *words, folder, given=None):

@@ -5,32 +5,25 @@ import os
 import re
 import shutil
 import struct
+import subprocess
 import sys
+import unittest
 import zlib
 from collections import Counter
 from pathlib import Path
 from xml.etree import ElementTree
 
-from common import CRS, Case, measure, run
+from common import BUILT, CRS, Case, has_info, measure, run
 
 SVG = "{http://www.w3.org/2000/svg}"
 LINE = re.compile(r"^(M[-0-9. ]+([LHVhv][-0-9. ]+|Z)+)+$")
 
 
-class Pictures(Case):
+class Drawn(Case):
     H = (
         "@stboundedby,local,{},0 0,1 1,2020-01-01T00:00:00+01:00,2020-01-02T00:00:00Z,{}\n"
         "@columns,mfidref,trajectory,kind\n"
     )
-
-    def drawn(self, text, answer, *words):
-        """The texts and the classes of a picture, which is well-formed."""
-        self.write("a", text)
-        self.write("b", answer)
-        self.made("draw", "a", "--answer", "b", *words, "-o", "c")
-        whole = self.parsed("c")
-        texts = [it.text for it in whole.iter(SVG + "text")]
-        return texts, [it.get("class") for it in whole.iter()]
 
     def parsed(self, name):
         """A picture, none of whose paths is without a line."""
@@ -49,6 +42,20 @@ class Pictures(Case):
             if name is not None:
                 own[name.text] = [path.get("class") for path in group.iter(SVG + "path")]
         return whole, own
+
+    def texts(self, whole):
+        return [it.text for it in whole.iter(SVG + "text")]
+
+
+class Pictures(Drawn):
+    def drawn(self, text, answer, *words):
+        """The texts and the classes of a picture, which is well-formed."""
+        self.write("a", text)
+        self.write("b", answer)
+        self.made("draw", "a", "--answer", "b", *words, "-o", "c")
+        whole = self.parsed("c")
+        texts = [it.text for it in whole.iter(SVG + "text")]
+        return texts, [it.get("class") for it in whole.iter()]
 
     def test_names_a_rectangle_and_a_period(self):
         text = self.H.format("2D", "sec") + 'x,0,10,0 0 1 1 2 1,q\n"a, <b>",0,20,0 0 2 2,r\n'
@@ -251,6 +258,12 @@ class Pictures(Case):
         said = self.ends("draw", "a", "-o", "c.jpg", status=2)
         self.assertIn("c.jpg: pictures are .svg or .png", said)
 
+    def test_features_that_are_not_there(self):
+        self.write("a", self.H.format("2D", "sec") + "x,0,10,0 0 9 0,q\n")
+        self.write("b", "ok 1\nz\n")
+        said = self.ends("draw", "a", "--answer", "b", "-o", "c", status=1)
+        self.assertEqual(said, "draw: no feature of the answer is in the files\n")
+
     def test_a_hundred_thousand_legs(self):
         with open(self.folder / "a", "w") as file:
             file.write(self.H.format("2D", "sec"))
@@ -299,6 +312,146 @@ class Pictures(Case):
 
     def test_those_of_the_examples_are_up_to_date(self):
         self.made("pictures", "--check")
+
+
+class ManyOfAStore(Drawn):
+    """Pictures of many legs that a program prints."""
+
+    INFO = (
+        '{"crs": "local", "dimension": 2, "start": "2020-01-01T00:00:00.000Z", "columns": [], "extent": [0, 0, 90, 90], '
+        '"first": "2020-01-01T00:00:00.000Z", "last": "2020-01-01T00:00:09.000Z"}'
+    )
+
+    def drawn_twice(self, records, *words):
+        """The grey path of a picture of records, which is the same from a file and from a store."""
+        self.write("answer", f"ok {len(records)}\n{''.join(records)}")
+        self.write("program", f"#!/bin/sh\n[ $1 = info ] && exec echo '{self.INFO}'\nexec cat answer\n")
+        (self.folder / "program").chmod(0o755)
+        self.write("a", self.H.format("2D", "sec") + "".join(records))
+        pictures = [self.draw(*source, *words)[0] for source in (["a"], ["--store", "store", "--program", "./program"])]
+        one, two = (it.find(f".//{SVG}path[@class='leg']").get("d") for it in pictures)
+        self.assertEqual(one, two)
+        return one
+
+    def test_no_pixel_vanishes(self):
+        legs = []
+        for leg in range(120):
+            x, y = leg * 7919 % 9001 / 100, leg * 7907 % 8999 / 100
+            legs.append((x, y, x + leg * 5 % 13 - 6, y + leg * 7 % 13 - 6))
+        # So many that ink is kept by pixel, and a name with a line end.
+        records = ["m,0,9,1 1 1.01 1\n"] * 21_000 + ['"a\nb, ""c""",0,9,1 1 1 1\n']
+        records += [f"s{leg % 9},0,9,{x:.2f} {y:.2f} {u:.2f} {v:.2f}\n" for leg, (x, y, u, v) in enumerate(legs)]
+        found = set()
+        way = self.drawn_twice(records, "--view", "0", "0", "90", "90")
+        for x, y, wide in re.findall(r"M([0-9]+)\.5 ([0-9]+)\.5h([0-9]+)", way):
+            found |= {(int(x) + step, int(y)) for step in range(int(wide) + 1)}
+        self.assertLess(os.path.getsize(self.folder / "c"), 100_000)
+        scale, near = 640 / 90, set()
+        for x, y, u, v in [*legs, (1, 1, 1.01, 1)]:
+            for part in range(101):
+                right, up = (x + (u - x) * part / 100) * scale, (y + (v - y) * part / 100) * scale
+                around = {(int(right) + i, int(640 - up) + j) for i in (-1, 0, 1) for j in (-1, 0, 1)}
+                near |= around
+                is_seen = 0 < right < 640 and 0 < up < 640
+                self.assertTrue(not is_seen or around & found, (x, y, u, v))
+        self.assertLessEqual(found, near)
+@unittest.skipUnless(has_info(), "tools/unproved has made no build yet")
+class FromStore(Drawn):
+    """Pictures of a store are those of its files."""
+
+    HERE = [
+        'x,0,30,0 0 1 1 2 1 3 0,q\n"a, ""b""",0,20,0 2 3 2,r\nstill,0,9,1 1.5,\n',
+        'x,30,40,3 0 4 0,q\n"a, ""b""",20,40,3 2 3 3,s\nfar,0,40,9 9 9 8,t\n',
+    ]
+
+    def ask(self, *lines):
+        """Writes the answers to lines, over a new store of two files, whose corners are those of their legs."""
+        for name, text in zip("ad", self.HERE):
+            self.write(name, self.H.replace("1 1", "9 9").format("2D", "sec") + text)
+        self.run_script("load a", "load d", *lines)
+
+    def run_script(self, *lines):
+        (self.folder / "store").unlink(missing_ok=True)
+        self.write("s", "".join(f"{line}\n" for line in lines))
+        command = [BUILT, "run", "-q", "store", "s", *(name for name in "ad" if f"load {name}" in lines)]
+        self.write("b", subprocess.run(command, cwd=self.folder, capture_output=True, text=True, check=True).stdout)
+
+    def stored(self, *words):
+        return self.draw("--store", "store", "--program", BUILT, *words)
+
+    def inks(self, whole):
+        """What is drawn of legs, and the values beside the frame."""
+        kinds = "leg", "dot", "hit", "start", "head", "ink"
+        paths = [(it.get("class"), it.get("d")) for it in whole.iter(SVG + "path") if it.get("class") in kinds]
+        return paths, [it.text for it in whole.iter(SVG + "text") if "small" in it.get("class", "")]
+
+    def test_the_ink_is_that_of_the_files(self):
+        period = "2019-12-31T23:00:00Z 2019-12-31T23:00:40Z"
+        for question, words in [
+            (f"legs ever 2.5 0 3 3 {period}", ["--box", "2.5", "0", "3", "3"]),
+            (f"legs ever 2.5 0 3 3 {period}", ["--view", "-1", "-1", "10", "10", "--label", "kind"]),
+            (f"features ever 2.5 0 3 3 {period}", ["--box", "2.5", "0", "3", "3", "--label", "kind"]),
+            (f"features ever 2.5 0 3 3 {period}", []),
+            (f"features ever 2.5 0 3 3 {period}", ["--whole"]),
+            ("count", []),
+        ]:
+            with self.subTest(question, words=words):
+                self.ask(question)
+                one, named = self.draw("a", "d", "--answer", "b", *words)
+                two, found = self.stored("--answer", "b", *words)
+                self.assertEqual((named, self.inks(one)), (found, self.inks(two)))
+                said = [text.replace("files", "store") for text in self.texts(one)[1:]]
+                self.assertEqual(self.texts(two), ["store", *said])
+
+    def test_a_period_cuts(self):
+        self.ask()
+        whole, _ = self.stored("--period", "2019-12-31T23:00:30.001Z", "2019-12-31T23:05:00Z")
+        self.assertIn("Legs of the store: 2019-12-31 23:00:30.001 to 23:00:40 UTC", self.texts(whole))
+        way = next(it.get("d") for it in whole.iter(SVG + "path") if it.get("class") == "leg")
+        self.assertEqual(way.count("M"), 3)
+        self.write("b", "ok 2\nx\nstill\n")
+        _, own = self.stored("--period", "2019-12-31T23:00:31Z", "2019-12-31T23:05:00Z", "--answer", "b")
+        self.assertEqual(own, {"x": ["ink"]})
+        words = ["--store", "store", "--program", BUILT, "-o", "c", "--period"]
+        said = self.ends("draw", *words, "2021-01-01", "2021-01-02", status=1)
+        own = "its legs are from 2019-12-31T23:00:00Z to 2019-12-31T23:00:40Z"
+        self.assertEqual(said, f"draw: store: there is no leg in this period; {own}\n")
+        self.assertIn("T1 is after T2", self.ends("draw", *words, "2021-01-02", "2021-01-01", status=2))
+        said = self.ends("draw", "a", *words, "2021-01-01", "2021-01-02", status=2)
+        self.assertIn("--period takes --store, and no FILE", said)
+
+    def test_frame_and_base_are_those_of_the_store(self):
+        """The corners of the header lines are not the legs', and the file that was loaded first is the later one."""
+        self.write("a", self.H.format("2D", "sec") + "x,0,10,-30 0 70 1,q\n")
+        self.write("d", self.H.replace("T00:00:00+", "T00:10:00+").format("2D", "sec") + "y,0,20,1 1 2 2,q\n")
+        self.run_script("load d", "load a", "trajectory y")
+        whole, _ = self.stored("--answer", "b", "--whole")
+        self.assertIn("Legs of the store: 2019-12-31 23:00:00 to 23:10:20 UTC", self.texts(whole))
+        self.assertIn("Legs in colour: 2019-12-31 23:10:00 to 23:10:20 UTC", self.texts(whole))
+        marks = [float(it.text) for it in whole.iter(SVG + "text") if it.get("class") == "small middle"]
+        self.assertEqual((min(marks), max(marks)), (-40, 80))
+
+    def test_refusals(self):
+        self.run_script("count")
+        words = ["--store", "store", "-o", "c", "--program"]
+        said = self.ends("draw", *words, BUILT, status=1)
+        self.assertEqual(said, "draw: store: there is no leg in this store\n")
+        said = self.ends("draw", "--store", "none", "-o", "c", "--program", BUILT, status=1)
+        self.assertEqual(said, "mftb: cannot read none\ndraw: mftb info ended with status 1\n")
+        said = self.ends("draw", *words, "/bin/echo", status=1)
+        self.assertEqual(said, "draw: /bin/echo does not say what store holds; is it mftb?\n")
+        self.assertIn("a FILE is wanted, or --store", self.ends("draw", "-o", "c", status=2))
+        self.ask()
+        self.write("broken", f'#!/bin/sh\n[ $1 = info ] && exec {BUILT} "$@"\ncat answer\nexit 4\n')
+        (self.folder / "broken").chmod(0o755)
+        for answer, said in [
+            ("ok 2\nx,0,1,0 0 1 1,q\n", "mftb run ended with status 4"),
+            ("ok 2\nx,0,1,0 0 1 1,q\nx,1", "mftb run printed what is no leg"),
+            ("refused Q5\n", "mftb run printed 'refused Q5', which is no answer"),
+        ]:
+            self.write("answer", answer)
+            self.assertEqual(self.ends("draw", *words, "./broken", status=1), f"draw: {said}\n")
+            self.assertFalse((self.folder / "c").exists())
 
 
 def pixels(data):

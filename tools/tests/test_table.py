@@ -7,9 +7,8 @@ import sqlite3
 import subprocess
 import unittest
 
-from common import ROOT, Case
+from common import BUILT, ROOT, Case, has_info
 
-BUILT = ROOT / "tools" / "out" / "mftb-unproved"
 HEAD = (
     "@stboundedby,urn:ogc:def:crs:OGC:1.3:CRS84,{},,,2024-06-03T09:00:00Z,,sec\n"
     "@columns,mfidref,trajectory,speed,xsd:double,gear,xsd:token\n"
@@ -17,11 +16,6 @@ HEAD = (
 FLAT = HEAD.format("2D") + "a,0,10,0 0 10 0,1.50,up\n" 'a,10,30.25,10 0 10 5,,down\n"b, c",0,10,0 9 10 9,007,\n'
 PERIOD = "2024-06-03T09:00:00Z 2024-06-03T10:00:00Z"
 SCRIPT = f"load day.csv\ncount\n# a comment\nbox 9 0 11 6 {PERIOD}\nfeatures ever 0 0 11 10 {PERIOD}\nlegs near 0 0 1 1 {PERIOD}\ntrajectory b, c\n"
-
-
-def has_info():
-    """Whether the build without proofs is there, and tells of a store."""
-    return BUILT.exists() and not subprocess.run([BUILT, "info", "--help"], capture_output=True).returncode
 
 
 @unittest.skipUnless(has_info(), "tools/unproved has made no build yet")
@@ -82,6 +76,14 @@ class Tables(Case):
         self.assertIn("LINESTRING Z (0 0 1, 10 0 2)", text)
         text = self.table("store", "--ask", f"box 9 0 11 6 {PERIOD}")
         self.assertIn("x0,y0,z0,x1,y1,z1,speed,gear\n", text)
+
+    def test_a_question_without_a_script_has_its_number_and_its_words(self):
+        self.table("store", "script", "day.csv", status=3)
+        ever, track = f"features ever 0 0 11 10 {PERIOD}", "trajectory b, c"
+        rows = list(csv.DictReader(io.StringIO(self.table("store", "--ask", ever, "--ask", track))))
+        named = [(row["question"], row["words"], row["feature"]) for row in rows]
+        self.assertEqual(len(self.table("store", "--format", "csv", "script", script=f"{ever}\n").splitlines()), 3)
+        self.assertEqual(named, [("1", ever, "a"), ("1", ever, "b, c"), ("2", track, "b, c")])
 
     def test_a_store_without_an_accepted_file(self):
         (self.folder / "store").touch()
