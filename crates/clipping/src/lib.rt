@@ -11,6 +11,3 @@ mod moments;
 pub use inside::inside_at;
 pub use line::{Cut, Frac};
 pub use moments::{clip, live};
-
-#[cfg(test)]
-mod tests;

@@ -194,6 +194,3 @@ pub fn push_offset(out: &mut Vec<u8>, offset: Offset) -> Result<(), Memory>
 {
     printing::push_number(out, offset.millis, 3)
 }
-
-#[cfg(test)]
-mod tests;

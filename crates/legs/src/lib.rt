@@ -28,6 +28,3 @@ pub use list_index::ListIndex;
 pub use listed::Listed;
 pub use std::alloc::AllocError as Memory;
 pub use tracks::{Track, Tracks};
-
-#[cfg(test)]
-mod tests;

@@ -377,6 +377,3 @@ pub struct File {
     pub head: Head,
     pub records: Records,
 }
-
-#[cfg(test)]
-mod tests;

@@ -5,14 +5,9 @@
 #![tactic(auto)]
 
 mod cache;
-#[cfg(test)]
-mod examples;
 mod fault;
 mod slots;
 
 pub use cache::PageCache;
 pub use fault::CacheFault;
 pub use std::alloc::AllocError as Memory;
-
-#[cfg(test)]
-mod tests;

@@ -24,6 +24,3 @@ pub use payload::{Kind, PageFault, Payload};
 pub use sealing::{seal, unseal};
 pub use store::{PageStore, StoreFault};
 pub use system_file::SystemFile;
-
-#[cfg(test)]
-mod tests;

@@ -98,6 +98,3 @@ pub fn parts(
 pub fn fault_laws()
     ensures { FaultLaw }
 {}
-
-#[cfg(test)]
-mod tests;

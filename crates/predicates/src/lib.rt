@@ -48,6 +48,3 @@ pub fn holds(predicate: Predicate, legs: &[Leg], rect: &Rect, period: &Period) -
 {
     course_of(legs, rect, period).answer(predicate)
 }
-
-#[cfg(test)]
-mod tests;

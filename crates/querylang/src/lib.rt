@@ -153,6 +153,3 @@ pub enum Command {
     /// The whole database as a file.
     Write,
 }
-
-#[cfg(test)]
-mod tests;

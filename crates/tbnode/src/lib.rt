@@ -16,8 +16,3 @@ pub use entries::Entry;
 pub use form::{inner, laws, leaf};
 pub use laid::{coord_at, has_coord, moment_at};
 pub use views::{Inner, InnerHead, Leaf, LeafHead, MOST_ENTRIES, MOST_LEGS};
-
-#[cfg(test)]
-mod examples;
-#[cfg(test)]
-mod tests;

@@ -217,6 +217,3 @@ pub fn read_time(unit: Unit, start: Ms, text: &str) -> Result<Ms, TimeFault>
         Unit::Absolute => read_instant(text),
     }
 }
-
-#[cfg(test)]
-mod tests;

@@ -81,6 +81,3 @@ pub fn push_file(
     let text = file::file_text(alloc, head, entries)?;
     out.extend_from_slice(text.as_slice())
 }
-
-#[cfg(test)]
-mod tests;

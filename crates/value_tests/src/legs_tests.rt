@@ -1,7 +1,7 @@
 //! Each public call once, with room enough. Worked files and scripts are tested in the crate of the
 //! database, over the list index.
-use super::*;
 use fixedpoint::Coord;
+use legs::*;
 use mfcsv::{File, Position, read_file};
 use std::alloc::Global;
 use std::hash::RandomState;

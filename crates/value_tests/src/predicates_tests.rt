@@ -1,10 +1,11 @@
 //! Legs that cross, touch, miss and leave rectangles, with gaps and jumps.
-use super::*;
 use fixedpoint::Coord;
+use legs::{Leg, Rect};
 use mfcsv::Position;
+use predicates::*;
 use std::process::Abort;
 use std::test::Fail;
-use timebase::Ms;
+use timebase::{Ms, Period};
 
 /// So many units of 10^-7.
 const ONE: i64 = 10_000_000;

@@ -6,12 +6,10 @@ ghost use Rattle.tbnode.specs.Nodes.{LeafView, InnerView, EntryView, ALeaf, AnIn
 ghost use Rattle.tbnode.specs.Form.{node_of};
 ghost use Rattle.tbnode.specs.Edits.{TakesLeg, leaf_with_leg, inner_with_entry, inner_with_wider};
 
-use crate::edit::{push_entry, push_leg, widen};
-use crate::entries::Entry;
-use crate::form::{inner, leaf};
 use legs::{Box3, Leg};
 use pages::Payload;
 use std::alloc::{AllocError, Global};
+use tbnode::{Entry, inner, leaf, push_entry, push_leg, widen};
 
 /// Puts a leg into a leaf of fewer than `most` legs that takes it.
 pub(crate) fn grow(payload: &mut Payload, most: usize, leg: &Leg) -> bool

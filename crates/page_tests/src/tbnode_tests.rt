@@ -1,11 +1,11 @@
 //! Worked bytes, each byte changed in turn, full pages, and payloads without a form.
 ghost use Rattle.std.specs.Prelude.{◌<◌};
 
-use super::*;
 use fixedpoint::Coord;
 use legs::{Box3, Leg};
 use mfcsv::Position;
 use pages::{Kind, Payload};
+use tbnode::*;
 use timebase::Ms;
 
 /// The leaf of feature `a` of the standard's example, written by hand from the layout.

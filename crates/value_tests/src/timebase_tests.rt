@@ -1,5 +1,6 @@
-use super::*;
+use fixedpoint::Offset;
 use std::test::Fail;
+use timebase::*;
 
 #[test]
 fn instants_read_as_jiff_reads_them(rt: HostRuntime) -> Result<(), Fail> {

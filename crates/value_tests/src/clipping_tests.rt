@@ -1,5 +1,5 @@
 //! A leg that crosses, touches or misses a rectangle.
-use super::*;
+use clipping::*;
 use fixedpoint::Coord;
 use legs::{Leg, Rect};
 use mfcsv::Position;

@@ -1,8 +1,9 @@
 //! The worked files of the format, and what no clause says.
-use super::*;
+use mfcsv::*;
 use std::alloc::Global;
 use std::process::Abort;
 use std::test::Fail;
+use timebase::Ms;
 
 /// The example of the standard.
 const STANDARD: &str = "\

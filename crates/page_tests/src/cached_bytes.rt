@@ -1,10 +1,9 @@
 //! What callers write. Each function is proved from the contracts of the cache alone.
 ghost use Rattle.std.specs.Prelude.{ℕ, ◌≡◌, ◌<◌, false, IsTrue, OnOk, OnErr, IfOk, IfErr};
 ghost use Rattle.pagecache.specs.Cache.{Rests, IsRefused, payload_of, is_changed};
-ghost use Rattle.pagecache.specs.Examples.{AddsByte, ComparesByte, CopiesByte, ReadsByte, WritesByte};
+ghost use Rattle.page_tests.specs.CachedBytes.{AddsByte, ComparesByte, CopiesByte, ReadsByte, WritesByte};
 
-use crate::cache::PageCache;
-use crate::fault::CacheFault;
+use pagecache::{CacheFault, PageCache};
 use pages::{Kind, PageStore};
 
 /// A byte of a page.

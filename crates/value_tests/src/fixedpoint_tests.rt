@@ -1,4 +1,4 @@
-use super::*;
+use fixedpoint::*;
 use std::test::Fail;
 
 /// The longest number text: 40 bytes.

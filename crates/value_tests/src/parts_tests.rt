@@ -1,5 +1,5 @@
-use crate::{part, part_of, parts};
 use mfcsv::{FileFault, read_file};
+use parts::{part, part_of, parts};
 use std::test::Fail;
 
 const HEAD: &str =

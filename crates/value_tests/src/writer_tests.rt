@@ -1,8 +1,10 @@
-use super::*;
 use fixedpoint::Coord;
-use mfcsv::{Column, Columns, Dimension, Position, Text};
+use legs::{BookHead, Leg};
+use mfcsv::{Column, Columns, Dimension, Position, Text, Values};
+use std::alloc::Global;
 use std::test::Fail;
 use timebase::Ms;
+use writer::*;
 
 /// 2020-01-01T00:00:00Z.
 const BASE: i64 = 1_577_836_800_000;

@@ -1,7 +1,7 @@
 //! Worked pages, their digests from another program; stores that fail; files.
 ghost use Rattle.std.specs.Prelude.{◌<◌};
 
-use super::*;
+use pages::*;
 use sha2::{Digest, Sha256};
 use std::alloc::{AllocError, Global};
 use std::test::Fail;

@@ -1,8 +1,8 @@
 //! Worked calls over a store in memory, over one that fails at each call in turn, and at random.
 ghost use Rattle.std.specs.Prelude.{◌<◌};
 
-use crate::examples::{add_with_byte, byte, copy_byte, same_byte, set_byte};
-use crate::{CacheFault, Memory, PageCache};
+use crate::cached_bytes::{add_with_byte, byte, copy_byte, same_byte, set_byte};
+use pagecache::{CacheFault, Memory, PageCache};
 use pages::{Fuse, Kind, MemStore, PageStore, Payload, seal};
 use std::alloc::Global;
 use std::test::Fail;

@@ -1,4 +1,4 @@
-use super::*;
+use querylang::*;
 use std::alloc::Global;
 use std::test::Fail;
 

@@ -1,7 +1,7 @@
 use Rattle.std.proofs.Common.{◌∙◌}
 use Rattle.pages.specs.Zero.{zero_payload}
 use Rattle.pagecache.proofs.CallerLemmas.{adds-writes, payload_of-added}
-use Rattle.pagecache.proofs.examples.add_with_byte.Goals as goal
+use Rattle.page_tests.proofs.cached_bytes.add_with_byte.Goals as goal
 
 pub returns : goal.returns
 returns g c = λ f.

@@ -1,0 +1,22 @@
+//! Tests of what stands below a store: numbers, moments, files, legs, rectangles, predicates, scripts, answers and
+//! the parts of a file.
+#![tactic(auto)]
+
+#[cfg(test)]
+mod clipping_tests;
+#[cfg(test)]
+mod fixedpoint_tests;
+#[cfg(test)]
+mod legs_tests;
+#[cfg(test)]
+mod mfcsv_tests;
+#[cfg(test)]
+mod parts_tests;
+#[cfg(test)]
+mod predicates_tests;
+#[cfg(test)]
+mod querylang_tests;
+#[cfg(test)]
+mod timebase_tests;
+#[cfg(test)]
+mod writer_tests;
