@@ -151,6 +151,25 @@ class Promises(Case):
             ],
         )
 
+    def test_definitions_on_the_page_of_a_crate_stand_in_its_files(self):
+        text = OWN + "\n## Definitions\n\n**A law** (`Law.antt`). `IsLaw`, `is_more`.\n\n**None** (`No.antt`).\n\n## More\n\n`is_less`.\n"
+        said = self.said(**{"crates/low/README.md": text})
+        self.assertEqual(
+            said,
+            [
+                "crates/low/README.md:13: crates/low has no definition is_more",
+                "crates/low/README.md:15: there is no file crates/low/specs/No.antt",
+            ],
+        )
+
+    def test_a_definition_is_no_citation_of_a_call_of_its_name(self):
+        page = PAGE.replace("`low::first`: `value`; `Thing::second` (its clause)", "`Thing::second` (its clause)")
+        text = OWN.replace("`first`: `value`, ", "") + "\n## %s\n\nIt is `first`: `value`.\n"
+        pages = {"docs/PROMISES.md": page.replace("`Thing", "`low::Thing")}
+        self.assertEqual(self.said(**pages, **{"crates/low/README.md": text % "More"}), [])
+        said = self.said(**pages, **{"crates/low/README.md": text % "Definitions"})
+        self.assertIn("crates/low/README.md:0: neither it nor a promise cites low::first: value", said)
+
     def test_rows_of_the_theorem_stand_in_their_files(self):
         row = "| %d | `%s` | what it says | `crates/low/specs/Law.antt` |\n"
         said = self.said(**{"docs/THEOREM.md": "# The theorem\n\n" + row % (1, "IsLaw") + row % (2, "IsLow")})
