@@ -1,5 +1,5 @@
 -- What page 0 says of the state of a store.
-use Rattle.std.proofs.Common.{ℕ, ◌≡◌, ◌&&◌, [], cond, eqb, Bool, true, false, refl, sym, ap, ◌∙◌, arith, subst, IsTrue, Option, Some, None, option_and_then, slice_get}
+use Rattle.std.proofs.Common.{ℕ, ◌≡◌, ◌&&◌, [], cond, eqb, true, false, refl, sym, ap, ◌∙◌, arith, subst, IsTrue, Option, Some, None, option_and_then, slice_get}
 use Rattle.std.proofs.lemmas.Bool.Decides.{nat_tests}
 use Rattle.pages.specs.Unsealed.{unsealed}
 use Rattle.pages.specs.declared.payload.Kind.{Kind}
@@ -12,7 +12,7 @@ use Rattle.catalogue.specs.Holding.{payload_in, IsAtRest}
 use Rattle.catalogue.specs.Lasting.{header_fault, is_header, payload_fault, state_fault}
 use Rattle.catalogue.specs.Saved.{CatalogueView}
 use Rattle.catalogue.specs.declared.fault.CatalogueFault.{CatalogueFault}
-use Rattle.catalogue.specs.declared.fault.CatalogueFault.TheVariants.{Damaged, Malformed, Unfinished, Version}
+use Rattle.catalogue.specs.declared.fault.CatalogueFault.TheVariants.{Malformed, Unfinished, Version}
 
 kind_is : (k : Kind) → is_header k ≡ true → k ≡ Header
 kind_is Header e = refl

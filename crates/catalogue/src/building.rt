@@ -16,7 +16,8 @@ use crate::fault::CatalogueFault;
 use crate::header_fields::Fields;
 use crate::saving::Catalogue;
 use legs::{BookHead, Limits, Track, Tracks};
-use mfcsv::{Dimension, Values};
+use mfcsv::Dimension;
+use rows::Rows;
 use std::alloc::{AllocError, Global};
 use std::hash::RandomState;
 use tbtree::Place;
@@ -164,7 +165,7 @@ fn empty_catalogue(
         head: None,
         limits: fields.limits,
         tracks: Tracks::new(alloc, keys)?,
-        rows: Vec::new(alloc),
+        rows: Rows::new(alloc),
     };
     Ok((catalogue, Vec::new(alloc)))
 }
@@ -188,11 +189,10 @@ fn whole_catalogue(
         return Err(CatalogueFault::Malformed);
     };
     let Known { mut tracks, places } = known_of(alloc, keys, count, features)?;
-    let rows = rows.into_vec();
     if !is_few(&tracks, &fields.limits) {
         return Err(CatalogueFault::Malformed);
     }
-    if !tracks.set_rows(rows.as_slice().len() as u64) {
+    if !tracks.set_rows(rows.len() as u64) {
         return Err(CatalogueFault::Malformed);
     }
     let catalogue = Catalogue {

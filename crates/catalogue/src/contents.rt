@@ -1,7 +1,8 @@
 //! What the text of a catalogue says.
 ghost use Rattle.std.specs.Prelude.{◌≡◌};
 
-use mfcsv::{Columns, Text, Values};
+use mfcsv::{Columns, Text};
+use rows::Rows;
 use std::marker::Model;
 use tbtree::Place;
 
@@ -35,29 +36,6 @@ impl Model for Features {
     ghost view = { λ a. a.features.items };
 }
 
-/// The rows of attribute values, seen by contracts as a list.
-#[derive(Debug, Drop)]
-pub struct Rows {
-    pub(crate) rows: Vec<Values>,
-}
-
-impl Model for Rows {
-    ghost use Rattle.std.specs.Prelude.{List, ℕ};
-
-    ghost Value = { List (List (List ℕ)) };
-
-    ghost view = { λ a. a.rows.items };
-}
-
-impl Rows {
-    /// The rows.
-    pub(crate) fn into_vec(self) -> Vec<Values>
-        ensures { result.items ≡ self }
-    {
-        self.rows
-    }
-}
-
 /// The name of the coordinate reference system, and the attribute columns.
 #[derive(Debug, Drop)]
 pub struct Space {
@@ -74,14 +52,14 @@ pub struct Head {
 }
 
 /// The features and the rows.
-#[derive(Debug, Drop)]
+#[derive(Drop)]
 pub struct Lists {
     pub features: Features,
     pub rows: Rows,
 }
 
 /// All that a text says of a database into which a file was accepted.
-#[derive(Debug, Drop)]
+#[derive(Drop)]
 pub struct Contents {
     pub head: Head,
     pub lists: Lists,

@@ -9,7 +9,8 @@ ghost use Rattle.catalogue.specs.Text.{column_text, columns_text, head_text, kep
 use crate::chain_writer::ChainWriter;
 use crate::contents::Kept;
 use legs::BookHead;
-use mfcsv::{Column, Columns, Text, Values};
+use mfcsv::{Column, Columns};
+use rows::Row;
 use std::alloc::AllocError;
 use tbtree::Place;
 
@@ -129,37 +130,14 @@ pub(crate) fn push_feature(
     push_kept(writer, kept)
 }
 
-/// Puts attribute values at the end of the text.
-fn push_texts(writer: &mut ChainWriter, values: &[Text]) -> Result<(), AllocError>
-    ensures pushed { OnOk result (writer.new
-        ≡ record writer.old { text = writer.old.text ++ row_text values.now }) }
-    ensures whole { OnOk result (All IsShortText values.now) }
-{
-    for value in values {
-        push_text(writer, value.as_str())?;
-    }
-    Ok(())
-}
-
-/// Puts that many blank values at the end of the text.
-fn push_blanks(writer: &mut ChainWriter, count: usize) -> Result<(), AllocError>
-    ensures pushed { OnOk result (writer.new
-        ≡ record writer.old { text = writer.old.text ++ row_text (replicate count []) }) }
-    ensures whole { All IsShortText (replicate count []) }
-{
-    'blanks: for _ in 0..count {
-        push_u64(writer, 0)?;
-    }
-    Ok(())
-}
-
 /// Puts a row of attribute values at the end of the text.
-pub(crate) fn push_row(writer: &mut ChainWriter, row: &Values) -> Result<(), AllocError>
+pub(crate) fn push_row(writer: &mut ChainWriter, row: &Row<'_>) -> Result<(), AllocError>
     ensures pushed { OnOk result (writer.new
         ≡ record writer.old { text = writer.old.text ++ row_text row.now }) }
     ensures whole { OnOk result (All IsShortText row.now) }
 {
-    let (values, blanks) = row.parts();
-    push_texts(writer, values)?;
-    push_blanks(writer, blanks)
+    'values: for i in 0..row.len() {
+        push_text(writer, row.value(i))?;
+    }
+    Ok(())
 }

@@ -5,13 +5,14 @@ ghost use Rattle.pagecache.specs.Cache.{payload_of};
 ghost use Rattle.catalogue.specs.Text.{kept_text, leg_sum, IsKept};
 
 use crate::chain_reader::ChainReader;
-use crate::contents::{Contents, Feature, Features, Head, Kept, Lists, Rows, Space};
+use crate::contents::{Contents, Feature, Features, Head, Kept, Lists, Space};
 use crate::fault::CatalogueFault;
 use crate::numbers::{i64_of, u32_of, u64_of};
 use legs::Limits;
 use mfcsv::{Column, Columns, Values};
 use pagecache::PageCache;
 use pages::PageStore;
+use rows::Rows;
 use std::alloc::Global;
 use tbnode::fields::part;
 use tbtree::Place;
@@ -209,11 +210,11 @@ impl ChainReader {
         ensures reads { OnlyReads cache.old cache.new }
         ensures caused { IfErr result (IsReadFault cache.old cache.new) }
     {
-        let mut rows = Vec::new(alloc);
+        let mut rows = Rows::new(alloc);
         for _ in 0..count {
-            rows.push(self.row(alloc, cache, columns)?)?;
+            rows.push(&self.row(alloc, cache, columns)?)?;
         }
-        Ok(Rows { rows })
+        Ok(rows)
     }
 
     /// Rows behind their number; `Malformed` where there are more than that, before any is read.

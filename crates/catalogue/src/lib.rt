@@ -33,7 +33,7 @@ pub use saving::{Catalogue, save};
 // What a reader of another version of the format needs: the text of a catalogue is the same there.
 pub use building::{catalogue_of, is_within};
 pub use chain_reader::{ChainReader, MOST_USED, fault_of};
-pub use contents::{Contents, Feature, Features, Head, Kept, Lists, Rows, Space};
+pub use contents::{Contents, Feature, Features, Head, Kept, Lists, Space};
 pub use header_fields::{Fields, limits_in, u16_of};
 pub use numbers::{u32_of, u64_of};
 pub use page_zero::{MAGIC, test_state};

@@ -27,8 +27,9 @@ use crate::fault::CatalogueFault;
 use crate::header_fields::{Fields, put_fields};
 use boxsearch::TreeIndex;
 use legs::{BookHead, Limits, Tracks};
-use mfcsv::{Dimension, Values};
+use mfcsv::Dimension;
 use pages::PageStore;
+use rows::{Row, Rows};
 use std::alloc::Global;
 use std::marker::Model;
 use tbnode::fields::u32_at;
@@ -44,7 +45,7 @@ pub struct Catalogue {
     /// The features.
     pub tracks: Tracks,
     /// The attribute values of each record.
-    pub rows: Vec<Values>,
+    pub rows: Rows,
 }
 
 impl Model for Catalogue {
@@ -52,7 +53,7 @@ impl Model for Catalogue {
 
     ghost Value = { CatalogueView };
 
-    ghost view = { λ a. record { head = a.head; limits = a.limits; tracks = a.tracks; rows = a.rows.items } };
+    ghost view = { λ a. record { head = a.head; limits = a.limits; tracks = a.tracks; rows = a.rows } };
 }
 
 /// Writes the pages that the text fills.
@@ -152,7 +153,7 @@ fn write_features<S: PageStore>(
 fn write_row<S: PageStore>(
     writer: &mut ChainWriter,
     index: &mut TreeIndex<S>,
-    row: &Values,
+    row: &Row<'_>,
 ) -> Result<(), CatalogueFault>
     ensures same { index.new ≡ with_cache index.old index.new.cache }
     ensures saves { Saves (row_text row.now)
@@ -167,7 +168,7 @@ fn write_row<S: PageStore>(
 fn write_rows<S: PageStore>(
     writer: &mut ChainWriter,
     index: &mut TreeIndex<S>,
-    rows: &[Values],
+    rows: &Rows,
     count: u32,
 ) -> Result<(), CatalogueFault>
     ensures same { index.new ≡ with_cache index.old index.new.cache }
@@ -176,8 +177,11 @@ fn write_rows<S: PageStore>(
     ensures whole { OnOk result (All (All IsShortText) rows.now) }
 {
     push_u32(writer, count)?;
-    for row in rows {
-        write_row(writer, index, row)?;
+    for i in 0..rows.len() {
+        let Some(row) = rows.row(i) else {
+            unreachable!()
+        };
+        write_row(writer, index, &row)?;
     }
     Ok(())
 }
@@ -216,7 +220,7 @@ fn write_lists<S: PageStore>(
     writer: &mut ChainWriter,
     index: &mut TreeIndex<S>,
     tracks: &Tracks,
-    rows: &[Values],
+    rows: &Rows,
 ) -> Result<(), CatalogueFault>
     ensures same { index.new ≡ with_cache index.old index.new.cache }
     ensures puts { Puts
@@ -257,7 +261,7 @@ fn write_catalogue<S: PageStore>(
         },
         Some(head) => {
             write_head(writer, index, head)?;
-            write_lists(writer, index, &catalogue.tracks, catalogue.rows.as_slice())
+            write_lists(writer, index, &catalogue.tracks, &catalogue.rows)
         }
     }
 }

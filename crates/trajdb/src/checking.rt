@@ -9,8 +9,8 @@ use crate::start::Start;
 use crate::{Report, RunFault};
 use boxsearch::TreeIndex;
 use legs::{BookHead, IndexFault, Tracks};
-use mfcsv::Values;
 use pages::PageStore;
+use rows::Rows;
 
 /// Whether a name has 1 to 255 bytes.
 fn is_name(name: &str) -> bool
@@ -44,34 +44,14 @@ fn are_names(tracks: &Tracks) -> bool
     true
 }
 
-/// Whether a row has that many attribute values.
-fn has_columns(row: &Values, columns: usize) -> bool
-    ensures { IsTrue result ↔ (length row.now ≡ columns) }
-{
-    let (values, blanks) = row.parts();
-    blanks <= columns && values.len() == columns - blanks
-}
-
-/// Whether each row has that many attribute values.
-fn have_columns(rows: &[Values], columns: usize) -> bool
-    ensures { IsTrue result ↔ All (λ row. length row ≡ columns) rows.now }
-{
-    for row in rows {
-        if !has_columns(row, columns) {
-            return false;
-        }
-    }
-    true
-}
-
 /// Whether so many names and these rows stand beside a head: before the first accepted file there
 /// is no name, and each row has a value for each column.
-fn fits_head(head: &Option<BookHead>, features: u64, rows: &[Values]) -> bool
+fn fits_head(head: &Option<BookHead>, features: u64, rows: &Rows) -> bool
     ensures { IsTrue result ↔ FitsHead head.now features rows.now }
 {
     match head {
         None => features == 0,
-        Some(head) => have_columns(rows, head.columns.as_slice().len()),
+        Some(head) => rows.have(head.columns.as_slice().len()),
     }
 }
 
@@ -90,7 +70,7 @@ impl<I: Start> Core<I> {
         if features > u64::from(self.limits.features()) {
             return false;
         }
-        are_names(&self.tracks) && fits_head(&self.head, features, self.rows.as_slice())
+        are_names(&self.tracks) && fits_head(&self.head, features, &self.rows)
     }
 }
 

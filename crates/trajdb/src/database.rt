@@ -9,8 +9,9 @@ use crate::script::{first_piece, without_return};
 use crate::start::{Start, put_legs};
 use crate::{Counts, FileCode, LoadFault, RunFault};
 use legs::{BookHead, JoinFault, Leg, Limits, Tracks, join};
-use mfcsv::{File, FileFault, Values, read_file};
+use mfcsv::{File, FileFault, read_file};
 use querylang::{Command, LineFault, parse_line};
+use rows::Rows;
 use std::alloc::{AllocError, Global};
 use std::hash::RandomState;
 use std::io::Write;
@@ -22,7 +23,7 @@ pub struct Core<I: Start> {
     pub(crate) index: I,
     pub(crate) head: Option<BookHead>,
     pub(crate) tracks: Tracks,
-    pub(crate) rows: Vec<Values>,
+    pub(crate) rows: Rows,
     pub(crate) limits: Limits,
     /// Whether a file was accepted since the database was made.
     pub(crate) begun: bool,
@@ -37,7 +38,7 @@ impl<I: Start> Model for Core<I> {
     ghost view = { λ a. record {
       index = a.index;
       tracks = a.tracks;
-      book = record { head = a.head; names = a.tracks.names; legs = I.content a.index; rows = a.rows.items };
+      book = record { head = a.head; names = a.tracks.names; legs = I.content a.index; rows = a.rows };
       limits = a.limits;
       begun = a.begun;
       failed = a.failed;
@@ -73,7 +74,7 @@ impl<I: Start> Core<I> {
                 index,
                 head: None,
                 tracks,
-                rows: Vec::new(alloc),
+                rows: Rows::new(alloc),
                 limits,
                 begun,
                 failed: false,

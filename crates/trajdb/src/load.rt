@@ -6,7 +6,8 @@ ghost use Rattle.legs.specs.Book.{head_with};
 
 use indexmap::IndexSet;
 use legs::BookHead;
-use mfcsv::{Head, Record, Records, Values};
+use mfcsv::{Head, Record, Records};
+use rows::Rows;
 use std::alloc::{AllocError, Global};
 use std::hash::RandomState;
 
@@ -20,12 +21,12 @@ pub(crate) fn keep_head(first: &mut Option<BookHead>, head: Head)
 }
 
 /// Keeps the attribute values of each record.
-pub(crate) fn push_rows(rows: &mut Vec<Values>, records: Records) -> Result<(), AllocError>
-    ensures { OnOk result (rows.new.items ≡ rows.old.items ++ map (λ
+pub(crate) fn push_rows(rows: &mut Rows, records: Records) -> Result<(), AllocError>
+    ensures { OnOk result (rows.new ≡ rows.old ++ map (λ
         (r : RecordView). r.attributes) records) }
 {
     for entry in records.into_vec() {
-        rows.push(entry.attributes)?;
+        rows.push(&entry.attributes)?;
     }
     Ok(())
 }

@@ -90,7 +90,7 @@ impl<I: Start> Core<I> {
         ensures fault { IfErr result (IsText (IsThere self.now.book leg.now)) }
     {
         let name = self.name(leg.feature)?;
-        let Some(values) = self.rows.get(leg.row as usize) else {
+        let Some(values) = self.rows.row(leg.row as usize) else {
             return Err(RunFault::Damaged(0));
         };
         Ok(Entry { name, leg, values })

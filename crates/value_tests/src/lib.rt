@@ -17,6 +17,8 @@ mod predicates_tests;
 #[cfg(test)]
 mod querylang_tests;
 #[cfg(test)]
+mod rows_tests;
+#[cfg(test)]
 mod timebase_tests;
 #[cfg(test)]
 mod writer_tests;

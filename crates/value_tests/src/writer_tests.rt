@@ -1,6 +1,7 @@
 use fixedpoint::Coord;
 use legs::{BookHead, Leg};
 use mfcsv::{Column, Columns, Dimension, Position, Text, Values};
+use rows::Rows;
 use std::alloc::Global;
 use std::test::Fail;
 use timebase::Ms;
@@ -26,11 +27,12 @@ fn text(alloc: Global, text: &str) -> Result<Text, Fail> {
     Ok(Text::from(String::from_str(alloc, text)?))
 }
 
-/// A value, and that many blank ones.
-fn values(alloc: Global, first: &str, blanks: usize) -> Result<Values, Fail> {
+/// Puts a row of a value, and that many blank ones, behind others.
+fn push(alloc: Global, rows: &mut Rows, first: &str, blanks: usize) -> Result<(), Fail> {
     let mut values = Vec::new(alloc);
     values.push(text(alloc, first)?)?;
-    Ok(Values::with_blanks(values, blanks))
+    rows.push(&Values::with_blanks(values, blanks))?;
+    Ok(())
 }
 
 fn head(alloc: Global, dimension: Dimension, columns: Vec<Column>) -> Result<BookHead, Fail> {
@@ -66,7 +68,9 @@ fn a_file_without_legs_is_two_lines(rt: HostRuntime) -> Result<(), Fail> {
 fn a_record_counts_from_the_base(rt: HostRuntime) -> Result<(), Fail> {
     let leg = Leg::new(0, 0, at(-1)?, at(2)?, position(1, 0)?, position(2, 0)?, 0).ok_or("a leg")?;
     let mut out = Vec::new(rt.alloc());
-    let none = Values::with_blanks(Vec::new(rt.alloc()), 0);
+    let mut rows = Rows::new(rt.alloc());
+    rows.push(&Values::with_blanks(Vec::new(rt.alloc()), 0))?;
+    let none = rows.row(0).ok_or("a row")?;
     for dimension in [Dimension::Two, Dimension::Three] {
         let base = at(0)?;
         let frame = Frame { dimension, base };
@@ -75,10 +79,6 @@ fn a_record_counts_from_the_base(rt: HostRuntime) -> Result<(), Fail> {
     let wanted = "a,-1,2,0.5 0 1 0\na,-1,2,0.5 0 -0.0000001 1 0 -0.0000001\n";
     assert_eq!(rt; out.as_slice(), wanted.as_bytes());
     Ok(())
-}
-
-fn entry<'a>(name: &'a str, leg: &'a Leg, values: &'a Values) -> Entry<'a> {
-    Entry { name, leg, values }
 }
 
 #[test]
@@ -94,9 +94,21 @@ fn a_file_is_bounded_by_all_legs(rt: HostRuntime) -> Result<(), Fail> {
     let long = Leg::new(0, 0, at(0)?, at(100)?, from, to, 0).ok_or("a leg")?;
     let (from, to) = (position(14, 8)?, position(4, 18)?);
     let short = Leg::new(1, 1, at(10)?, at(90)?, from, to, 1).ok_or("a leg")?;
-    let walking = values(alloc, "walking", 1)?;
-    let on_foot = values(alloc, "on, foot", 0)?;
-    let entries = [entry("a", &long, &walking), entry("b", &short, &on_foot)];
+    let mut rows = Rows::new(alloc);
+    push(alloc, &mut rows, "walking", 1)?;
+    push(alloc, &mut rows, "on, foot", 0)?;
+    let entries = [
+        Entry {
+            name: "a",
+            leg: &long,
+            values: rows.row(0).ok_or("a row")?,
+        },
+        Entry {
+            name: "b",
+            leg: &short,
+            values: rows.row(1).ok_or("a row")?,
+        },
+    ];
     let mut out = Vec::new(alloc);
     push_file(alloc, &mut out, &head, &entries)?;
     let wanted =

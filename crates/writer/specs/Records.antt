@@ -1,5 +1,5 @@
 -- The texts of records.
-use Rattle.std.specs.Prelude.{List, ℕ, true, ◌∷◌, ◌++◌, [], ℤ, ◌-ℤ◌}
+use Rattle.std.specs.Prelude.{List, ℕ, true, ◌∷◌, ◌++◌, [], ◌-ℤ◌}
 use Rattle.csv.specs.Writing.{row_text, default_writer, with_flexible}
 use Rattle.csv.specs.declared.writer.WriterBuilder.{WriterBuilder}
 use Rattle.fixedpoint.specs.NumberText.{coord_text, offset_text}

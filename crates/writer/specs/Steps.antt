@@ -1,5 +1,5 @@
 -- Helpers of private functions: what the steps of writing a file say.
-use Rattle.std.specs.Prelude.{List, [], ◌∷◌, ◌≡◌, ℤ, pos}
+use Rattle.std.specs.Prelude.{List, [], ◌∷◌, ◌≡◌, pos}
 use Rattle.std.specs.Int.{int_max, int_min}
 use Rattle.writer.specs.Entries.{EntryView}
 use Rattle.writer.specs.File.{xs, ys, zs, least, greatest}

@@ -1,6 +1,7 @@
 //! Entries of a file, and how their legs are written.
 use legs::Leg;
-use mfcsv::{Dimension, Values};
+use mfcsv::Dimension;
+use rows::Row;
 use std::marker::Model;
 use timebase::Ms;
 
@@ -16,7 +17,7 @@ pub struct Frame {
 pub struct Entry<'a> {
     pub name: &'a str,
     pub leg: &'a Leg,
-    pub values: &'a Values,
+    pub values: Row<'a>,
 }
 
 impl<'a> Model for Entry<'a> {
@@ -24,5 +25,5 @@ impl<'a> Model for Entry<'a> {
 
     ghost Value = { EntryView };
 
-    ghost view = { λ a. record { name = a.name.now; leg = a.leg.now; values = a.values.now } };
+    ghost view = { λ a. record { name = a.name.now; leg = a.leg.now; values = a.values } };
 }

@@ -8,7 +8,8 @@ use crate::entry::Frame;
 use crate::records::Records;
 use fixedpoint::{Coord, Offset, push_coord, push_offset};
 use legs::Leg;
-use mfcsv::{Dimension, Position, Text, Values};
+use mfcsv::{Dimension, Position};
+use rows::Row;
 use std::alloc::{AllocError, Global};
 use timebase::Ms;
 
@@ -86,36 +87,15 @@ fn write_positions(text: &mut Vec<u8>, dimension: Dimension, leg: &Leg) -> Resul
     push_point(text, dimension, end_of(leg))
 }
 
-/// Puts attribute values behind the other fields.
-fn push_texts<'a>(fields: &mut Vec<&'a [u8]>, values: &'a [Text]) -> Result<(), AllocError>
-    ensures { OnOk result (map (λ f. f.now) fields.new.items ≡ map (λ f. f.now) fields.old.items
-        ++ values.entry.now) }
-{
-    for value in values {
-        fields.push(value.as_str().as_bytes())?;
-    }
-    Ok(())
-}
-
-/// Puts that many blank values behind the other fields.
-fn push_blanks(fields: &mut Vec<&[u8]>, count: usize) -> Result<(), AllocError>
-    ensures { OnOk result (map (λ f. f.now) fields.new.items ≡ map (λ f. f.now) fields.old.items
-        ++ replicate count []) }
-{
-    'blanks: for _ in 0..count {
-        fields.push(&[])?;
-    }
-    Ok(())
-}
-
 /// Puts the attribute values of a record behind the other fields.
-fn push_values<'a>(fields: &mut Vec<&'a [u8]>, values: &'a Values) -> Result<(), AllocError>
+fn push_values<'a>(fields: &mut Vec<&'a [u8]>, values: &'a Row<'a>) -> Result<(), AllocError>
     ensures { OnOk result (map (λ f. f.now) fields.new.items ≡ map (λ f. f.now) fields.old.items
         ++ values.entry.now) }
 {
-    let (texts, blanks) = values.parts();
-    push_texts(fields, texts)?;
-    push_blanks(fields, blanks)
+    'values: for i in 0..values.len() {
+        fields.push(values.value(i).as_bytes())?;
+    }
+    Ok(())
 }
 
 /// Buffers for the fields of a record, which last over an answer.
@@ -157,7 +137,7 @@ fn leg_row<'a>(
     start: &'a [u8],
     end: &'a [u8],
     positions: &'a [u8],
-    values: &'a Values,
+    values: &'a Row<'a>,
 ) -> Result<Vec<&'a [u8]>, AllocError>
     ensures { IfOk result (λ row. map (λ f. f.now) row.items
         ≡ name.entry.now ∷ start.entry.now ∷ end.entry.now ∷ positions.entry.now ∷ values.entry.now) }
@@ -172,18 +152,18 @@ fn leg_row<'a>(
 }
 
 /// Writes a leg's record behind those that were written.
-pub(crate) fn write_leg(
+pub(crate) fn write_leg<'a>(
     alloc: Global,
     records: &mut Records,
     buffers: &mut Buffers,
-    name: &str,
+    name: &'a str,
     frame: &Frame,
     leg: &Leg,
-    values: &Values,
+    values: &'a Row<'a>,
 ) -> Result<(), AllocError>
     requires { records.old.refused ≡ false }
     ensures { OnOk result (records.new ≡ written (records.old.text
-        ++ leg_record name.now frame.now leg.now values.now)) }
+        ++ leg_record name.entry.now frame.now leg.now values.entry.now)) }
 {
     buffers.write(frame, leg)?;
     let fields = leg_row(

@@ -15,8 +15,8 @@ mod records;
 pub use entry::{Entry, Frame};
 use leg::{Buffers, write_leg};
 use legs::{BookHead, Leg};
-use mfcsv::Values;
 use records::Records;
+use rows::Row;
 pub use std::alloc::AllocError as Memory;
 use std::alloc::Global;
 
@@ -28,7 +28,7 @@ pub fn push_leg_record(
     name: &str,
     frame: Frame,
     leg: &Leg,
-    values: &Values,
+    values: &Row<'_>,
 ) -> Result<(), Memory>
     ensures ok { OnOk result (out.new.items ≡ out.old.items
         ++ leg_record name.now frame leg.now values.now) }

@@ -23,17 +23,17 @@ pub returns-then-not-set_rows-clause-broken : goal.returns-then-not-set_rows-cla
 returns-then-not-set_rows-clause-broken c = λ b k places of.
     let most : c.args.fields.now.limits.legs < 2 ^ 64 - 1 = let l = c.is_few.ensures.limits.few_legs in omega (arith, l) in
     let few = of_rows c.args.count c.args.fields.now c.args.contents k places of c.in_ok-tracks.field-0.tracks c.in_ok-tracks.ensures.known.tracks most in
-    let len : length c.as_slice.result.now ≡ length c.args.contents.lists.rows = ap length (c.as_slice.ensures.value ∙ c.into_vec-rows.ensures) in
-    let fits : nat_le (length c.as_slice.result.now) c.in_ok-tracks.field-0.tracks.legs ≡ false = sym c.set_rows.ensures.fits ∙ c.if-not-set_rows.true in
-    too_many (length c.as_slice.result.now) c.in_ok-tracks.field-0.tracks.legs fits (omega (arith, len, few))
+    let len : c.len.result ≡ length c.args.contents.lists.rows = c.len.ensures in
+    let fits : nat_le (c.len.result) c.in_ok-tracks.field-0.tracks.legs ≡ false = sym c.set_rows.ensures.fits ∙ c.if-not-set_rows.true in
+    too_many (c.len.result) c.in_ok-tracks.field-0.tracks.legs fits (omega (arith, len, few))
 
 pub returns-clause-is : goal.returns-clause-is
 returns-clause-is c =
     let most : c.args.fields.now.limits.legs < 2 ^ 64 - 1 = let l = c.is_few.ensures.limits.few_legs in omega (arith, l) in
     let few = c.is_few.ensures.few.0 (let e = c.if-not-is_few.false in (cc)) in
-    let len : length c.as_slice.result.now ≡ length c.args.contents.lists.rows = ap length (c.as_slice.ensures.value ∙ c.into_vec-rows.ensures) in
-    let fits = no_more (length c.as_slice.result.now) c.in_ok-tracks.field-0.tracks.legs (sym c.if-not-set_rows.ensures.fits) in
+    let len : c.len.result ≡ length c.args.contents.lists.rows = c.len.ensures in
+    let fits = no_more (c.len.result) c.in_ok-tracks.field-0.tracks.legs (sym c.if-not-set_rows.ensures.fits) in
     let is = c.in_ok-tracks.ensures.known in
     let head = c.in-Some.ensures.some in
     whole_is c.args.count c.args.fields.now c.args.contents _ _ c.in_ok-tracks.field-0 c.in-Some.head is head.2 head.0 head.1 few.0 few.1 most (omega (arith, len, fits))
-    refl refl (c.if-not-set_rows.ensures.set ∙ ap (λ n. record c.in_ok-tracks.field-0.tracks { rows = n }) len) c.into_vec-rows.ensures refl
+    refl refl (c.if-not-set_rows.ensures.set ∙ ap (λ n. record c.in_ok-tracks.field-0.tracks { rows = n }) len) refl refl

@@ -1,10 +1,15 @@
-use Rattle.std.proofs.Common.{All, [], replicate, subst}
-use Rattle.std.proofs.lemmas.List.Elements.{All-append}
-use Rattle.catalogue.specs.Text.{IsShortText}
-use Rattle.catalogue.proofs.EncodingLemmas.{always}
+use Rattle.std.proofs.Common.{[], arith}
+use Rattle.catalogue.specs.Text.{short_text, IsShortText}
+use Rattle.catalogue.proofs.EncodingLemmas.{all_more, all_taken, pushed_more}
 use Rattle.catalogue.proofs.encoding.push_row.Goals as goal
 
+pub values-preserved : goal.values-preserved
+values-preserved c =
+    let i = c.values.i in
+    record {
+      pushed = pushed_more short_text c.args.writer.now c.values.writer c.push_text.new.writer c.args.row.now c.value.result.now [] i (omega (arith, c.values-test.true, c.len-i-end.ensures)) c.value.ensures c.values.invariant.pushed c.in_ok-push_text.ensures.pushed;
+      whole = all_more IsShortText c.args.row.now c.value.result.now [] i (omega (arith, c.values-test.true, c.len-i-end.ensures)) c.value.ensures c.values.invariant.whole c.in_ok-push_text.ensures.whole;
+    }
+
 pub returns-clause-whole : goal.returns-clause-whole
-returns-clause-whole c =
-    let r = c.parts-blanks.result in
-    always c.push_blanks.result (subst (All IsShortText) c.parts-blanks.ensures (All-append IsShortText r.0.now (replicate r.1 []) c.in_ok-push_texts.ensures.whole c.push_blanks.ensures.whole))
+returns-clause-whole c = all_taken IsShortText c.args.row.now c.values.i (omega (arith, c.values-test.false, c.len-i-end.ensures)) c.values.invariant.whole

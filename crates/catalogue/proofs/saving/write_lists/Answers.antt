@@ -13,7 +13,7 @@ returns-clause-puts g c =
     let rows = rows_text c.args.rows.now in
     let first : Saves features a b c.args.writer.now c.write_features.new.writer (Ok tt) =
     subst (λ r. Saves features a b c.args.writer.now c.write_features.new.writer r) c.in_ok-write_features.was (c.write_features.ensures.saves (c.in_ok-features.ensures.ok ∙ c.feature_count.ensures)) in
-    puts_then features rows a b d c.args.writer.now c.write_features.new.writer c.write_rows.new.writer c.write_rows.result first.puts (c.write_rows.ensures.saves c.in_ok-row_count.ensures.ok).puts
+    puts_then features rows a b d c.args.writer.now c.write_features.new.writer c.write_rows.new.writer c.write_rows.result first.puts (c.write_rows.ensures.saves (c.in_ok-row_count.ensures.ok ∙ c.len.ensures)).puts
 
 pub returns-clause-only : goal.returns-clause-only
 returns-clause-only g c = λ few_names few_rows text h f.
@@ -22,4 +22,4 @@ returns-clause-only g c = λ few_names few_rows text h f.
     let features = features_text (features_of c.args.tracks.now c.args.index.now.places) in
     let first : Saves features a b c.args.writer.now c.write_features.new.writer (Ok tt) =
     subst (λ r. Saves features a b c.args.writer.now c.write_features.new.writer r) c.in_ok-write_features.was (c.write_features.ensures.saves (c.in_ok-features.ensures.ok ∙ c.feature_count.ensures)) in
-    (c.write_rows.ensures.saves c.in_ok-row_count.ensures.ok).only (text ++ features) (first.puts.holds text h) (first.puts.passes.store.faithful ∙ f)
+    (c.write_rows.ensures.saves (c.in_ok-row_count.ensures.ok ∙ c.len.ensures)).only (text ++ features) (first.puts.holds text h) (first.puts.passes.store.faithful ∙ f)

@@ -19,7 +19,7 @@ returns-in_err-row-clause-takes g c = λ fa.
     let new = rest_of (payload_of c.row.new.cache) c.row.new.self in
     let inv = c.loop.invariant in
     lacks_err (λ l. flat_map row_text l) (AreRows c.args.columns c.args.count) old new c.from_residual.result c.in_err-row.field-0.0 p.0 p.1 p.2
-    (λ b. no_rows c.args.columns c.loop.rows.items old mid c.args.count (inv.each fa) (omega (arith, inv.many, c.loop-test.true)) (inv.taken fa) ((c.in_err-row.ensures.takes (inv.reads.store.faithful ∙ fa)).lacks b))
+    (λ b. no_rows c.args.columns c.loop.rows old mid c.args.count (inv.each fa) (omega (arith, inv.many, c.loop-test.true)) (inv.taken fa) ((c.in_err-row.ensures.takes (inv.reads.store.faithful ∙ fa)).lacks b))
 
 pub loop-preserved : goal.loop-preserved
 loop-preserved g c =
@@ -27,10 +27,10 @@ loop-preserved g c =
     let mid = rest_of (payload_of c.loop.cache) c.loop.self in
     let new = rest_of (payload_of c.row.new.cache) c.row.new.self in
     let inv = c.loop.invariant in
-    let xs = c.loop.rows.items in
-    let ys = c.push.new.self.items in
+    let xs = c.loop.rows in
+    let ys = c.push.new.self in
     let x = c.in_ok-row.field-0 in
-    let items = c.in_ok-push.ensures.items in
+    let items = c.in_ok-push.ensures.pushed in
     record {
       reads = reads_trans c.args.cache.now c.loop.cache c.row.new.cache inv.reads c.row.ensures.reads;
       each = λ fa. all_pushed row_text (IsRow c.args.columns) (row_free c.args.columns) xs ys x items (inv.each fa) (c.in_ok-row.ensures.takes (inv.reads.store.faithful ∙ fa)).taken.0;

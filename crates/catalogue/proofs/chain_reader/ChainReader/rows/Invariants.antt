@@ -10,7 +10,7 @@ use Rattle.catalogue.proofs.chain_reader.ChainReader.rows.Given as goal
 abbrev pub invariant-loop : goal.invariant-loop
 invariant-loop g l = record {
   reads : OnlyReads l.initial.cache l.cache;
-  each : IsTrue l.initial.cache.store.is_faithful → All (IsRow l.fn.columns) l.rows.items;
-  many : length l.rows.items ≡ l.counter;
-  taken : IsTrue l.initial.cache.store.is_faithful → rest_of (payload_of l.initial.cache) l.initial.self ≡ option_map (λ t. flat_map row_text l.rows.items ++ t) (rest_of (payload_of l.cache) l.self);
+  each : IsTrue l.initial.cache.store.is_faithful → All (IsRow l.fn.columns) l.rows;
+  many : length l.rows ≡ l.counter;
+  taken : IsTrue l.initial.cache.store.is_faithful → rest_of (payload_of l.initial.cache) l.initial.self ≡ option_map (λ t. flat_map row_text l.rows ++ t) (rest_of (payload_of l.cache) l.self);
 }

@@ -8,11 +8,11 @@ use Rattle.trajdb.proofs.database.Core.take.Goals as goal
 pub returns-clause-taken : goal.returns-clause-taken
 returns-clause-taken g c =
     rw (← c.self.view_is) (λ accepts sound.
-    let book : Book = record { head = c.self.inside.head; names = c.self.inside.tracks.names; legs = g.I.Listed.content c.self.inside.index; rows = c.self.inside.rows.items } in
+    let book : Book = record { head = c.self.inside.head; names = c.self.inside.tracks.names; legs = g.I.Listed.content c.self.inside.index; rows = c.self.inside.rows } in
     let tracks = c.in_ok-accept.ensures.ok c.self.inside.limits book sound.limits sound.tracks accepts.0 in
     let law = c.in_ok-accept.ensures.law c.self.inside.limits book sound.limits sound.law accepts.2 accepts.0 in
     let ends = c.in_ok-put_legs.ensures.added sound.index accepts.1 in
-    let same = with_file-parts c.self.inside.limits book c.args.file c.args.legs.now (g.I.Listed.content c.put_legs.new.index) c.keep_head.new.first c.accept.new.self.names c.push_rows.new.rows.items
+    let same = with_file-parts c.self.inside.limits book c.args.file c.args.legs.now (g.I.Listed.content c.put_legs.new.index) c.keep_head.new.first c.accept.new.self.names c.push_rows.new.rows
     accepts.0 c.keep_head.ensures tracks.names ends.content c.in_ok-push_rows.ensures in (
       record {
         index = ends.sound;

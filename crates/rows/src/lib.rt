@@ -1,0 +1,8 @@
+//! Rows of attribute values, kept close together: all values of all rows stand in one text.
+#![tactic(auto)]
+
+mod row;
+mod rows;
+
+pub use row::Row;
+pub use rows::Rows;

@@ -1,0 +1,130 @@
+//! The rows.
+ghost use Rattle.std.specs.Prelude.{ℕ, List, ◌≡◌, ◌++◌, ◌∷◌, [], OnOk, OnErr, IsTrue, IsUtf8, All};
+ghost use Rattle.csv.specs.Records.{fields_of, partial_of};
+
+use crate::row::{Place, Row};
+use csv::ByteRecord;
+use mfcsv::{Text, Values};
+use std::alloc::{AllocError, Global};
+use std::marker::Model;
+
+/// Rows of attribute values, seen by contracts as the list of these rows.
+///
+/// All values stand in one text, one after another, with 8 bytes for each value and 16 for each row beside
+/// it. Blank values at a row's end are counted, not kept.
+#[derive(Drop)]
+pub struct Rows {
+    values: ByteRecord,
+    places: Vec<Place>,
+    /// Whether no value was left half written, for want of memory.
+    is_whole: bool,
+}
+
+impl Model for Rows {
+    ghost use Rattle.std.specs.Prelude.{ℕ, List, ◌≡◌, [], IsTrue};
+    ghost use Rattle.csv.specs.Records.{fields_of, partial_of};
+    ghost use Rattle.rows.specs.Rows.{rows_of, AreIn};
+
+    ghost Value = { List (List (List ℕ)) };
+
+    ghost view = { λ a. rows_of (fields_of a.values) a.places.items };
+
+    ghost invariant = { λ a. AreIn (fields_of a.values) a.places.items
+        × (IsTrue a.is_whole → partial_of a.values ≡ []) };
+}
+
+/// Makes a value that was left half written one that no row has.
+fn close(values: &mut ByteRecord, is_whole: bool) -> Result<(), AllocError>
+    ensures more { (some : List (List ℕ)) × (fields_of values.new ≡ fields_of values.old ++ some) }
+    ensures whole { OnOk result ((IsTrue is_whole → partial_of values.old ≡ [])
+        → partial_of values.new ≡ []) }
+{
+    if is_whole {
+        return Ok(());
+    }
+    values.push_field(&[])
+}
+
+/// Puts values behind the others.
+fn push_values(values: &mut ByteRecord, texts: &[Text]) -> Result<(), AllocError>
+    ensures fields { OnOk result (partial_of values.old ≡ []
+        → fields_of values.new ≡ fields_of values.old ++ texts.now) }
+    ensures partial { OnOk result (partial_of values.old ≡ [] → partial_of values.new ≡ []) }
+    ensures more { (some : List (List ℕ)) × (fields_of values.new ≡ fields_of values.old ++ some) }
+    ensures texts { OnOk result (All IsUtf8 texts.now) }
+{
+    for text in texts {
+        values.push_field(text.as_str().as_bytes())?;
+    }
+    Ok(())
+}
+
+impl Rows {
+    ghost use Rattle.std.specs.Prelude.{ℕ, ◌≡◌, ◌↔◌, ◌++◌, ◌∷◌, [], length, slice_get, OnOk, OnErr, IsTrue, All};
+
+    /// No row.
+    pub fn new(alloc: Global) -> Rows
+        ensures { result ≡ [] }
+    {
+        Rows {
+            values: ByteRecord::new(alloc),
+            places: Vec::new(alloc),
+            is_whole: true,
+        }
+    }
+
+    /// How many rows there are.
+    pub fn len(&self) -> usize
+        ensures { result ≡ length self.now }
+    {
+        self.places.len()
+    }
+
+    /// The row of that number, counted from 0.
+    pub fn row(&self, i: usize) -> Option<Row<'_>>
+        ensures { result ≡ slice_get self.now i }
+    {
+        let place = self.places.get(i).copied()?;
+        Some(Row {
+            values: &self.values,
+            place,
+        })
+    }
+
+    /// Puts a row behind the others. It is refused where memory runs out, or a row has 2^32 values, and then
+    /// the rows are as before.
+    pub fn push(&mut self, row: &Values) -> Result<(), AllocError>
+        ensures pushed { OnOk result (self.new ≡ self.old ++ row.now ∷ []) }
+        ensures stays { OnErr result (self.new ≡ self.old) }
+    {
+        let (texts, blanks) = row.parts();
+        let (Ok(count), Ok(blanks)) = (u32::try_from(texts.len()), u32::try_from(blanks)) else {
+            return Err(AllocError);
+        };
+        let is_whole = self.is_whole;
+        self.is_whole = false;
+        close(&mut self.values, is_whole)?;
+        let first = self.values.len();
+        push_values(&mut self.values, texts)?;
+        self.is_whole = true;
+        self.places.push(Place {
+            first,
+            count,
+            blanks,
+        })?;
+        Ok(())
+    }
+
+    /// Whether each row has so many values.
+    pub fn have(&self, count: usize) -> bool
+        ensures { IsTrue result ↔ All (λ row. length row ≡ count) self.now }
+    {
+        for i in 0..self.places.len() {
+            let place = self.places[i];
+            if place.count as usize + place.blanks as usize != count {
+                return false;
+            }
+        }
+        true
+    }
+}
