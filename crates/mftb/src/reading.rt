@@ -1,10 +1,10 @@
 //! What a run reads before it opens a store.
-use crate::fault::Fault;
 use querylang::{Command, LineFault, parse_line};
+use sessions::{Cause, Fault};
 use std::alloc::Global;
 use std::fs::File;
 use std::io::Read;
-use std::{io, rt};
+use std::{fs, io, rt};
 use trajdb::{Files, RunFault};
 
 /// The most bytes that a script or a file may have.
@@ -61,4 +61,18 @@ pub(crate) fn has_load(alloc: Global, script: &[u8]) -> Result<bool, RunFault> {
         }
     }
     Ok(false)
+}
+
+/// Why the script or a file of that name was not read, as a look at it tells now.
+pub(crate) fn cause_of_reading<R: rt::Files<File = File>>(rt: &R, name: &str) -> Cause {
+    match fs::metadata(rt, name) {
+        Ok(about) if about.is_dir() => return Cause::Folder,
+        Ok(about) if about.len() > MOST_BYTES => return Cause::TooLong,
+        Ok(about) if about.is_file() && about.len() == 0 => return Cause::Empty,
+        _ => {}
+    }
+    match File::open(rt, name) {
+        Ok(_) => Cause::Other,
+        Err(error) => Cause::from(error.kind()),
+    }
 }
