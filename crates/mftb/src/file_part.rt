@@ -1,7 +1,6 @@
 //! The part of a file that has the features of one of several parts.
-use crate::reading::{MOST_BYTES, read_named};
 use crate::words::Part;
-use sessions::{Fault, send_part};
+use sessions::{Fault, MOST_BYTES, read_named, send_part};
 use std::io::Write;
 use std::rt;
 

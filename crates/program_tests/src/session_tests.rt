@@ -1,6 +1,7 @@
-//! The lines of faults, and a session over a store that fails.
+//! How long a file may be, the lines of faults, and a session over a store that fails.
 use pages::{Fuse, MemStore};
-use sessions::{Fault, database, run_and_close};
+use sessions::{Fault, MOST_BYTES, database, read_named, run_and_close};
+use std::fs;
 use std::hash::RandomState;
 use std::io::Write;
 use std::test::Fail;
@@ -15,6 +16,15 @@ b,10,190,10.0 2.0 11.0 3.0,walking,2
 a,150,190,12.0 3.0 10.0 3.0,walking,2
 c,10,190,12.0 1.0 10.0 2.0 11.0 3.0,vehicle,1
 ";
+
+#[test]
+fn a_file_that_is_too_long_is_not_read(rt: HostRuntime) -> Result<(), Fail> {
+    fs::write(&rt, "five.txt", "12345")?;
+    assert!(rt; read_named(&rt, "five.txt", 5)?.as_slice() == b"12345".as_slice());
+    assert!(rt; read_named(&rt, "five.txt", 4).err() == Some(Fault::CannotRead("five.txt")));
+    assert_eq!(rt; MOST_BYTES, 1_073_741_824);
+    Ok(())
+}
 
 #[test]
 fn each_fault_has_its_line(rt: HostRuntime) -> Result<(), Fail> {

@@ -18,11 +18,13 @@ use trajdb::{Files, RunFault};
 /// How the database of a store is made or opened.
 #[derive(Clone, Copy)]
 pub struct Opening {
+    /// Where its memory comes from.
     pub alloc: Global,
+    /// With what its names are hashed: a stranger who chooses the names of a file is not to know it.
     pub keys: RandomState,
     /// Whether it is made where the store has no page.
     pub is_new: bool,
-    /// How many pages its cache holds at most.
+    /// How many pages its cache holds at most, of 4096 bytes each; at least 1.
     pub cache_pages: u32,
 }
 
@@ -66,8 +68,13 @@ fn keep<'a, F: Folder>(folder: &mut F, store: F::Store) -> Result<(), Fault<'a>>
     }
 }
 
-/// Runs a script over a copy of the store, which then takes the store's name. Where the run is not
-/// brought to its end, the store stays as it is.
+/// Runs a script over a copy of the store, which then takes the store's name, where a page of it was
+/// written. Where the run is not brought to its end, the store stays as it is, and the copy is taken
+/// away.
+///
+/// `script` and `files` are bytes as they were read; the answers go to `out`. It is refused as the
+/// folder refuses it (`Folder::copy`, `Folder::replace`), as `answer` does, and with `Store` where the
+/// copy is not made to last.
 pub fn run_on_copy<'a, F: Folder, W: Write>(
     folder: &mut F,
     how: Opening,

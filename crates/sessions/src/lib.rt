@@ -12,6 +12,7 @@ mod migrating;
 mod part;
 mod part_files;
 mod read_only;
+mod reading;
 mod session;
 
 pub use answering::{send, send_all};
@@ -24,4 +25,5 @@ pub use migrating::migrate_and_close;
 pub use part::send_part;
 pub use part_files::{PartFolder, put_parts};
 pub use read_only::ReadOnly;
+pub use reading::{MOST_BYTES, read_named};
 pub use session::{CACHE_PAGES, answer, database, run_and_close};

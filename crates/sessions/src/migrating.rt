@@ -17,7 +17,12 @@ use std::alloc::Global;
 use std::hash::RandomState;
 use trajdb::Db;
 
-/// Brings a store of version 1 over into an empty one, and closes that.
+/// Brings a store of version 1 over into an empty one, with a cache of `CACHE_PAGES` pages, closes that,
+/// and gives it back. Names are hashed with the keys, which a stranger who chooses the names of a file
+/// is not to know.
+///
+/// Where it is not brought over, `Open`, as `migration::Migrate::migrate` says it; where the new store
+/// is not closed, `Run`.
 pub fn migrate_and_close<'a, S: PageStore, T: PageStore>(
     alloc: Global,
     keys: RandomState,

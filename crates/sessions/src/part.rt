@@ -9,7 +9,8 @@ use std::alloc::Global;
 use std::io::Write;
 use trajdb::RunFault;
 
-/// Sends part `k` of `n` of a file.
+/// Sends part `k` of `n` of a file, of which these are the bytes; parts are numbered from 0. Where there
+/// is no memory for its text, `Memory`, and where that is not all sent, `Output`.
 pub fn send_part<'a, W: Write>(
     alloc: Global,
     k: u32,

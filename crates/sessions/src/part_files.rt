@@ -18,7 +18,8 @@ pub trait PartFolder {
     /// The parts that were put into it so far, with their texts, in order, where the folder tells it.
     ghost puts: { Self → Option Puts };
 
-    /// Gives the name of a part to a file of that text, in one step.
+    /// Gives the name of a part, by its number from 0, to a file of that text, in one step. Where it is
+    /// refused, the names stand for what they stood for.
     fn put(&mut self, part: u64, text: &[u8]) -> Result<(), RunFault>
         ensures put { OnOk result (puts self.new ≡ with_puts (puts self.old) ((part, text.now) ∷ [])) }
         ensures stays { OnErr result (puts self.new ≡ puts self.old) };
@@ -42,7 +43,8 @@ fn put_texts<F: PartFolder>(folder: &mut F, first: u64, texts: &[Vec<u8>]) -> Re
     Ok(())
 }
 
-/// Puts the parts of `n` of a file from `first` on, so many, into a folder.
+/// Puts the parts of `n` of a file from `first` on, so many, into a folder; parts are numbered from 0.
+/// Where there is no memory for their texts, `Memory`; else it is refused as the folder refuses it.
 pub fn put_parts<F: PartFolder>(
     alloc: Global,
     folder: &mut F,

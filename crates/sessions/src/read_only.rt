@@ -15,7 +15,7 @@ pub struct ReadOnly<S> {
 }
 
 impl<S: PageStore> ReadOnly<S> {
-    /// The store over that one.
+    /// The store over that one, of which no call has failed.
     pub fn new(store: S) -> ReadOnly<S>
         ensures { ⟦<ReadOnly<S> as PageStore>⟧.seen result ≡ record (S.seen store) { faults = 0 } }
     {

@@ -34,7 +34,11 @@ fn limits() -> Limits
     Limits::new(MOST_LEGS, MOST_FEATURES).unwrap()
 }
 
-/// The database of a store, or a new one over a store without pages that is to be made.
+/// The database of a store, or a new one over a store without pages that is to be made, for at most
+/// 16777216 legs and 1048576 features. Its cache holds at most that many pages, of 4096 bytes each; names
+/// are hashed with the keys, which a stranger who chooses the names of a file is not to know.
+///
+/// Where it is refused, the store is handed back, and why, as `Db::create` and `Db::open` say it.
 pub fn database<S: PageStore>(
     alloc: Global,
     keys: RandomState,
@@ -60,7 +64,10 @@ pub fn database<S: PageStore>(
     Db::open(alloc, keys, store, cache_pages as usize)
 }
 
-/// Runs the script over a database, and closes it.
+/// Runs the script over a database, closes it, and gives its store back. `script` and `files` are bytes
+/// as they were read; the answers go to `out`.
+///
+/// Where both the run and the closing are refused, why the run is.
 pub fn run_and_close<S: PageStore, W: Write>(
     alloc: Global,
     mut database: Db<S>,
@@ -99,7 +106,8 @@ fn answer_of<'a>(ran: Result<(), RunFault>) -> Result<(), Fault<'a>>
     }
 }
 
-/// Runs the script over the database of a store, and closes it.
+/// Runs the script over the database of a store, closes it, and gives the store back, as
+/// `run_and_close` does (`Run`). Where there is no database it is refused as that was (`Open`).
 pub fn answer<'a, S: PageStore, W: Write>(
     alloc: Global,
     database: Result<Db<S>, (S, OpenFault)>,
