@@ -1,4 +1,5 @@
-//! Tests of what the program calls: sessions over stores and folders in memory, and when legs are inside a rectangle.
+//! Tests of what the program calls: sessions over stores and folders in memory, and when legs are
+//! inside a rectangle.
 #![tactic(auto)]
 
 #[cfg(test)]

@@ -36,8 +36,8 @@ fn send_each<'a, W: Write>(out: &mut W, bytes: &[u8]) -> Result<(), Fault<'a>>
     Ok(())
 }
 
-/// Sends all the bytes, and what the output keeps of them for a while; no byte that was taken is sent
-/// again. Where they are not all sent, `Output`: then the output has a front of them.
+/// Sends all the bytes, and what the output keeps of them for a while; no byte that was taken is
+/// sent again. Where they are not all sent, `Output`: then the output has a front of them.
 pub fn send_all<'a, W: Write>(out: &mut W, bytes: &[u8]) -> Result<(), Fault<'a>>
     ensures sent { OnOk result (Appends (W.contents out.old) (W.contents out.new) bytes.now) }
     ensures part { OnErr result ((n : ℕ) × Appends (W.contents out.old) (W.contents out.new)

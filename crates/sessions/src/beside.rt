@@ -20,7 +20,8 @@ use trajdb::{Files, RunFault};
 pub struct Opening {
     /// Where its memory comes from.
     pub alloc: Global,
-    /// With what its names are hashed: a stranger who chooses the names of a file is not to know it.
+    /// With what its names are hashed: a stranger who chooses the names of a file is not to know
+    /// it.
     pub keys: RandomState,
     /// Whether it is made where the store has no page.
     pub is_new: bool,
@@ -68,13 +69,13 @@ fn keep<'a, F: Folder>(folder: &mut F, store: F::Store) -> Result<(), Fault<'a>>
     }
 }
 
-/// Runs a script over a copy of the store, which then takes the store's name, where a page of it was
-/// written. Where the run is not brought to its end, the store stays as it is, and the copy is taken
-/// away.
+/// Runs a script over a copy of the store, which then takes the store's name, where a page of it
+/// was written. Where the run is not brought to its end, the store stays as it is, and the copy is
+/// taken away.
 ///
 /// `script` and `files` are bytes as they were read; the answers go to `out`. It is refused as the
-/// folder refuses it (`Folder::copy`, `Folder::replace`), as `answer` does, and with `Store` where the
-/// copy is not made to last.
+/// folder refuses it (`Folder::copy`, `Folder::replace`), as `answer` does, and with `Store` where
+/// the copy is not made to last.
 pub fn run_on_copy<'a, F: Folder, W: Write>(
     folder: &mut F,
     how: Opening,
@@ -84,9 +85,9 @@ pub fn run_on_copy<'a, F: Folder, W: Write>(
 ) -> Result<(), Fault<'a>>
     requires { 0 < how.cache_pages }
 
-    // What was sent is exactly the text of the run over the book that the store held, or the empty one
-    // where it is made; the store's name stood for what it stood for until, at one moment, it was given
-    // to a file that holds the book after it.
+    // What was sent is exactly the text of the run over the book that the store held, or the empty
+    // one where it is made; the store's name stood for what it stood for until, at one moment, it
+    // was given to a file that holds the book after it.
     ensures runs { OnOk result (IfSome (F.held folder.old)
         (λ past. (shape : ShapeView) (limits : LimitsView) (book : Book)
         → BeginsWith how.is_new (store_in past) shape limits book
@@ -99,8 +100,8 @@ pub fn run_on_copy<'a, F: Folder, W: Write>(
     ensures settled { OnOk result (IsTrue (F.is_settled folder.old)
         → IsTrue (F.is_settled folder.new)) }
 
-    // Where it is refused the name stands for what it stood for, all along, and what was sent is the
-    // front of that text.
+    // Where it is refused the name stands for what it stood for, all along, and what was sent is
+    // the front of that text.
     ensures stays { OnErr result (F.held folder.new ≡ F.held folder.old) }
     ensures sent { OnErr result (IfSome (F.held folder.old)
         (λ past. (shape : ShapeView) (limits : LimitsView) (book : Book)

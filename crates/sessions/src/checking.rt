@@ -9,8 +9,8 @@ use pages::PageStore;
 use std::alloc::Global;
 use trajdb::{Db, Report, RunFault};
 
-/// Checks a database that was opened, closes it, and gives its store back: what the check has found,
-/// or why it does not pass, or, where it passed, why it was not closed.
+/// Checks a database that was opened, closes it, and gives its store back: what the check has
+/// found, or why it does not pass, or, where it passed, why it was not closed.
 pub fn check_and_close<S: PageStore>(
     alloc: Global,
     mut database: Db<S>,

@@ -33,8 +33,8 @@ pub trait Folder {
     ghost is_settled: { Self → Bool };
 
     /// Makes a copy of the store's file beside it, or a new file where there is none, and opens it.
-    /// What is then written to it changes the copy alone. Where it is refused, `discard` takes away what
-    /// was made.
+    /// What is then written to it changes the copy alone. Where it is refused, `discard` takes away
+    /// what was made.
     fn copy<'a>(&mut self) -> Result<Self::Store, Fault<'a>>
         ensures stays { held self.new ≡ held self.old }
         ensures settled { is_settled self.new ≡ is_settled self.old }
@@ -45,8 +45,8 @@ pub trait Folder {
     fn differs(&self, store: &Self::Store) -> bool
         ensures { result ≡ false → HasPagesHeld (Self.Store.PageStore.seen store.now) (held self.now) };
 
-    /// Gives the store's name to the copy, in one step. All that was written to it is on the disk. Where
-    /// it is refused, the name stands for what it stood for.
+    /// Gives the store's name to the copy, in one step. All that was written to it is on the disk.
+    /// Where it is refused, the name stands for what it stood for.
     fn replace<'a>(&mut self, store: Self::Store) -> Result<(), Fault<'a>>
         requires { IsTrue (Self.Store.is_lasting store) }
         ensures replaced { OnOk result (IsReplaced (Self.Store.PageStore.seen store)

@@ -1,5 +1,6 @@
-//! What the program does with a store, said by contracts: it is made or opened, asked, run over as it
-//! lies there or on a copy beside it, checked, and brought over; and what is sent of the parts of a file.
+//! What the program does with a store, said by contracts: it is made or opened, asked, run over as
+//! it lies there or on a copy beside it, checked, and brought over; and what is sent of the parts
+//! of a file.
 #![tactic(auto)]
 
 mod answering;

@@ -17,12 +17,12 @@ use std::alloc::Global;
 use std::hash::RandomState;
 use trajdb::Db;
 
-/// Brings a store of version 1 over into an empty one, with a cache of `CACHE_PAGES` pages, closes that,
-/// and gives it back. Names are hashed with the keys, which a stranger who chooses the names of a file
-/// is not to know.
+/// Brings a store of version 1 over into an empty one, with a cache of `CACHE_PAGES` pages, closes
+/// that, and gives it back. Names are hashed with the keys, which a stranger who chooses the names
+/// of a file is not to know.
 ///
-/// Where it is not brought over, `Open`, as `migration::Migrate::migrate` says it; where the new store
-/// is not closed, `Run`.
+/// Where it is not brought over, `Open`, as `migration::Migrate::migrate` says it; where the new
+/// store is not closed, `Run`.
 pub fn migrate_and_close<'a, S: PageStore, T: PageStore>(
     alloc: Global,
     keys: RandomState,
@@ -38,8 +38,8 @@ pub fn migrate_and_close<'a, S: PageStore, T: PageStore>(
         → HoldsBook (T.seen result.0) (present_shape shape) limits book) }
 
     // It was a finished one of version 1, whose catalogue and chains of leaves are whole; one that
-    // holds a book is refused for memory, a store that failed, or a full one alone, and then the new
-    // one is not taken for a finished one, unless it failed in the closing.
+    // holds a book is refused for memory, a store that failed, or a full one alone, and then the
+    // new one is not taken for a finished one, unless it failed in the closing.
     ensures finished { OnOk result.1 (IsTrue (S.seen old.old).is_faithful
         → old_first_fault (S.seen old.old).count (stored_payload (S.seen old.old) 0) ≡ None) }
     ensures whole { OnOk result.1 (IsTrue (S.seen old.old).is_faithful

@@ -9,8 +9,8 @@ use std::alloc::Global;
 use std::io::Write;
 use trajdb::RunFault;
 
-/// Sends part `k` of `n` of a file, of which these are the bytes; parts are numbered from 0. Where there
-/// is no memory for its text, `Memory`, and where that is not all sent, `Output`.
+/// Sends part `k` of `n` of a file, of which these are the bytes; parts are numbered from 0. Where
+/// there is no memory for its text, `Memory`, and where that is not all sent, `Output`.
 pub fn send_part<'a, W: Write>(
     alloc: Global,
     k: u32,
@@ -20,7 +20,8 @@ pub fn send_part<'a, W: Write>(
 ) -> Result<(), Fault<'a>>
     requires { k < n }
     // What was sent says exactly the records of the part, under their numbers in the whole, or the
-    // fault of the whole; where it is refused, what was sent is the front of such a text, or nothing.
+    // fault of the whole; where it is refused, what was sent is the front of such a text, or
+    // nothing.
     ensures sends { OnOk result (SendsPart k n bytes.now (W.contents out.old) (W.contents out.new)) }
     ensures cut { OnErr result (SendsSome k n bytes.now (W.contents out.old) (W.contents out.new)) }
 {

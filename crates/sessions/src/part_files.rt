@@ -15,11 +15,12 @@ const PARTS_AT_ONCE: u64 = 16;
 /// A folder may tell contracts what was put into it, and then that is said exactly. A folder of the
 /// system tells nothing.
 pub trait PartFolder {
-    /// The parts that were put into it so far, with their texts, in order, where the folder tells it.
+    /// The parts that were put into it so far, with their texts, in order, where the folder tells
+    /// it.
     ghost puts: { Self → Option Puts };
 
-    /// Gives the name of a part, by its number from 0, to a file of that text, in one step. Where it is
-    /// refused, the names stand for what they stood for.
+    /// Gives the name of a part, by its number from 0, to a file of that text, in one step. Where
+    /// it is refused, the names stand for what they stood for.
     fn put(&mut self, part: u64, text: &[u8]) -> Result<(), RunFault>
         ensures put { OnOk result (puts self.new ≡ with_puts (puts self.old) ((part, text.now) ∷ [])) }
         ensures stays { OnErr result (puts self.new ≡ puts self.old) };
@@ -43,8 +44,9 @@ fn put_texts<F: PartFolder>(folder: &mut F, first: u64, texts: &[Vec<u8>]) -> Re
     Ok(())
 }
 
-/// Puts the parts of `n` of a file from `first` on, so many, into a folder; parts are numbered from 0.
-/// Where there is no memory for their texts, `Memory`; else it is refused as the folder refuses it.
+/// Puts the parts of `n` of a file from `first` on, so many, into a folder; parts are numbered from
+/// 0. Where there is no memory for their texts, `Memory`; else it is refused as the folder refuses
+/// it.
 pub fn put_parts<F: PartFolder>(
     alloc: Global,
     folder: &mut F,
@@ -55,7 +57,8 @@ pub fn put_parts<F: PartFolder>(
 ) -> Result<(), RunFault>
     requires some { 0 < n }
     requires within { first + count ≤ n }
-    // Each part is put once, in order, and says what `parts` says of it; the file is not looked through for faults.
+    // Each part is put once, in order, and says what `parts` says of it; the file is not looked
+    // through for faults.
     ensures all { OnOk result (F.puts folder.new
         ≡ with_puts (F.puts folder.old) (parts_from first count n bytes.now)) }
     // Where one is not put, only parts before it were.

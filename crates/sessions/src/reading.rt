@@ -11,8 +11,8 @@ use trajdb::RunFault;
 pub const MOST_BYTES: u64 = 1 << 30;
 
 /// The bytes of the file of that name, which has no more than so many: where it has more, or is not
-/// read, `CannotRead`, and where there is no memory for them `Memory`. A long one is read before it is
-/// refused.
+/// read, `CannotRead`, and where there is no memory for them `Memory`. A long one is read before it
+/// is refused.
 pub fn read_named<'a, R: rt::Files + AllocGlobal>(
     rt: &R,
     name: &'a str,

@@ -35,8 +35,8 @@ fn limits() -> Limits
 }
 
 /// The database of a store, or a new one over a store without pages that is to be made, for at most
-/// 16777216 legs and 1048576 features. Its cache holds at most that many pages, of 4096 bytes each; names
-/// are hashed with the keys, which a stranger who chooses the names of a file is not to know.
+/// 16777216 legs and 1048576 features. Its cache holds at most that many pages, of 4096 bytes each;
+/// names are hashed with the keys, which a stranger who chooses the names of a file is not to know.
 ///
 /// Where it is refused, the store is handed back, and why, as `Db::create` and `Db::open` say it.
 pub fn database<S: PageStore>(
@@ -64,8 +64,8 @@ pub fn database<S: PageStore>(
     Db::open(alloc, keys, store, cache_pages as usize)
 }
 
-/// Runs the script over a database, closes it, and gives its store back. `script` and `files` are bytes
-/// as they were read; the answers go to `out`.
+/// Runs the script over a database, closes it, and gives its store back. `script` and `files` are
+/// bytes as they were read; the answers go to `out`.
 ///
 /// Where both the run and the closing are refused, why the run is.
 pub fn run_and_close<S: PageStore, W: Write>(
