@@ -1,10 +1,9 @@
 //! Databases that are only asked.
-use crate::fault::Fault;
 use crate::held_file::HeldFile;
 use crate::names::Names;
 use crate::opening::{is_absent, open_asked, sweep};
-use crate::read_only::ReadOnly;
 use pages::{FileStore, PageStore};
+use sessions::{Fault, ReadOnly};
 use std::fs::File;
 use std::hash::RandomState;
 use std::random::RandomSource;

@@ -1,7 +1,7 @@
 //! A rectangle and a period on the command line.
-use crate::fault::Fault;
 use crate::words::Bounds;
 use querylang::{Command, LineCode, LineFault, parse_line};
+use sessions::Fault;
 use std::alloc::{AllocError, Global};
 use trajdb::RunFault;
 

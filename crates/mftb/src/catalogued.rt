@@ -1,9 +1,9 @@
 //! What a store keeps beside its legs, as its file has it.
 use crate::held_file::HeldFile;
-use crate::read_only::ReadOnly;
 use catalogue::{Catalogue, restore};
 use pagecache::PageCache;
 use pages::FileStore;
+use sessions::ReadOnly;
 use std::fs::File;
 use std::hash::RandomState;
 use std::random::RandomSource;

@@ -1,10 +1,8 @@
 //! The files of all parts of a file, in a folder of the system.
 ghost use Rattle.std.specs.Prelude.{None};
 
-use crate::fault::Fault;
-use crate::part_files::{PartFolder, put_parts};
-use crate::reading::{MOST_BYTES, read_named};
 use crate::words::Parts;
+use sessions::{Fault, MOST_BYTES, PartFolder, put_parts, read_named};
 use std::fs::File;
 use std::io::Write;
 use std::rt::Files;

@@ -1,8 +1,8 @@
 //! A file of the system that a run holds open.
 ghost use Rattle.std.specs.Prelude.{None};
 
-use crate::cause::Cause;
 use pages::ByteFile;
+use sessions::Cause;
 use std::cell::Cell;
 use std::fs::{File, OpenFile};
 use std::io;

@@ -1,12 +1,11 @@
 //! `mftb info`: what a store holds.
-use crate::answering::send_all;
 use crate::asked::{database_to_ask, store_to_ask};
-use crate::fault::Fault;
 use crate::info_text::{push_json, push_lines};
 use crate::root::{read_extent, read_header};
-use crate::words::{CACHE_PAGES, Info};
+use crate::words::Info;
 use legs::{BookHead, Box3, Limits};
 use pages::PageStore;
+use sessions::{CACHE_PAGES, Fault, send_all};
 use std::fs::File;
 use std::io::Write;
 use std::random::RandomSource;

@@ -1,6 +1,5 @@
 //! The locks by which runs that work on one store at once tell each other.
-use crate::cause::Cause;
-use crate::fault::Fault;
+use sessions::{Cause, Fault};
 use std::fs::{File, Metadata, OpenOptions, TryLockError};
 use std::os::unix::fs::MetadataExt;
 use std::rt::Files;

@@ -3,17 +3,12 @@
 //! `mftb moments STORE X1 Y1 X2 Y2 T1 T2`, `mftb info STORE`.
 #![tactic(auto)]
 
-mod answering;
 mod asked;
-mod beside;
 mod bounds;
 mod catalogued;
-mod cause;
 mod check;
-mod fault;
 mod file_part;
 mod file_parts;
-mod folder;
 mod followed;
 mod held_file;
 mod info;
@@ -26,15 +21,12 @@ mod noted;
 mod notes;
 mod opening;
 mod outcome;
-mod part_files;
 mod passages;
 mod progress;
 mod reach;
-mod read_only;
 mod reading;
 mod root;
 mod run;
-mod session;
 mod start;
 mod system_folder;
 mod telling;
@@ -76,10 +68,3 @@ fn main(rt: HostRuntime) -> ExitCode {
         }
     }
 }
-
-#[cfg(test)]
-mod copy_tests;
-#[cfg(test)]
-mod memory_folder;
-#[cfg(test)]
-mod tests;

@@ -1,73 +1,15 @@
 //! `mftb migrate`: a store of version 1 is brought over into a new one.
-ghost use Rattle.std.specs.Prelude.{◌≡◌, None, IfErr, IsTrue, OnOk};
-ghost use Rattle.legs.specs.Costs.{ShapeView};
-ghost use Rattle.legs.specs.Limits.{LimitsView};
-ghost use Rattle.legs.specs.Book.{Book};
-ghost use Rattle.pages.specs.Store.{Stays};
-ghost use Rattle.catalogue.specs.Holding.{HoldsBook};
-ghost use Rattle.pagecache.specs.Cache.{stored_payload};
-ghost use Rattle.version1.specs.OldStore.{old_first_fault, present_shape, HoldsOldBook};
-ghost use Rattle.mftb.specs.Answers.{IsNotOver, IsOverFault, WasWhole};
-
-use crate::answering::send;
-use crate::fault::Fault;
 use crate::names::Names;
 use crate::opening::{is_absent, open_asked, open_in_place};
-use crate::words::{CACHE_PAGES, Migrate};
-use migration::Migrate as _;
+use crate::words::Migrate;
 use pages::{FileStore, PageStore};
-use std::alloc::Global;
+use sessions::{Fault, migrate_and_close, send};
 use std::fs::File;
 use std::hash::RandomState;
 use std::io::Write;
 use std::random::RandomSource;
 use std::rt::Files;
-use trajdb::{Db, OpenFault, RunFault};
-
-/// Brings a store of version 1 over into an empty one, and closes that.
-fn migrate_and_close<'a, S: PageStore, T: PageStore>(
-    alloc: Global,
-    keys: RandomState,
-    old: &mut S,
-    new: T,
-) -> (T, Result<(), Fault<'a>>)
-    requires { (T.seen new).count ≡ 0 }
-    // The new store then holds the book that the other holds.
-    ensures holds { OnOk result.1 (IsTrue (S.seen old.old).is_faithful
-        → IsTrue (T.seen new).is_faithful
-        → (shape : ShapeView) (limits : LimitsView) (book : Book)
-        → HoldsOldBook (S.seen old.old) shape limits book
-        → HoldsBook (T.seen result.0) (present_shape shape) limits book) }
-
-    // It was a finished one of version 1, whose catalogue and chains of leaves are whole; one that
-    // holds a book is refused for memory, a store that failed, or a full one alone, and then the new
-    // one is not taken for a finished one, unless it failed in the closing.
-    ensures finished { OnOk result.1 (IsTrue (S.seen old.old).is_faithful
-        → old_first_fault (S.seen old.old).count (stored_payload (S.seen old.old) 0) ≡ None) }
-    ensures whole { OnOk result.1 (IsTrue (S.seen old.old).is_faithful
-        → IsTrue (T.seen new).is_faithful → WasWhole (S.seen old.old)) }
-    ensures left { IfErr result.1 (λ fault. IsTrue (S.seen old.old).is_faithful
-        → IsTrue (T.seen new).is_faithful
-        → (shape : ShapeView) (limits : LimitsView) (book : Book)
-        → HoldsOldBook (S.seen old.old) shape limits book
-        → IsNotOver (T.seen new) (T.seen result.0) fault) }
-    ensures caused { IfErr result.1 (IsOverFault (S.seen old.old) (S.seen old.new) (T.seen new)
-        (T.seen result.0)) }
-
-    // The store of version 1 stays as it is.
-    ensures stays { Stays (S.seen old.old) (S.seen old.new) }
-{
-    match Db::migrate(alloc, keys, old, new, CACHE_PAGES as usize) {
-        Ok(database) => {
-            let (store, closed) = database.close(alloc);
-            match closed {
-                Ok(()) => (store, Ok(())),
-                Err(fault) => (store, Err(Fault::Run(fault))),
-            }
-        }
-        Err((store, fault)) => (store, Err(Fault::Open(fault))),
-    }
-}
+use trajdb::{OpenFault, RunFault};
 
 /// Why a file is not taken for a new store: it has bytes, or is not opened.
 fn not_new<'a, R: Files<File = File> + AllocGlobal>(rt: &R, name: &str) -> Fault<'a> {

@@ -1,6 +1,5 @@
 //! The names of a store and of what lies beside it while a run works on a copy.
-use crate::cause::Cause;
-use crate::fault::Fault;
+use sessions::{Cause, Fault};
 use std::alloc::Global;
 use std::cell::Cell;
 use std::fs::File;

@@ -1,9 +1,9 @@
 //! A store that knows whether it was written, and whether that was made to last.
 ghost use Rattle.std.specs.Prelude.{◌≡◌};
 
-use crate::folder::Lasting;
 use crate::progress::Progress;
 use pages::{PageStore, StoreFault};
+use sessions::Lasting;
 use std::io::Eprint;
 use std::rt::Clock;
 

@@ -1,11 +1,9 @@
 //! How the file of a store is opened, and held, for what a run does with it.
-use crate::cause::Cause;
-use crate::fault::Fault;
 use crate::held_file::HeldFile;
 use crate::locks::{Hold, open_held};
 use crate::names::Names;
-use crate::read_only::ReadOnly;
 use pages::FileStore;
+use sessions::{Cause, Fault, ReadOnly};
 use std::fs::{File, OpenOptions};
 use std::rt::Files;
 use std::{fs, io};

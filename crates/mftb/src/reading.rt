@@ -1,35 +1,10 @@
 //! What a run reads before it opens a store.
-use crate::fault::Fault;
 use querylang::{Command, LineFault, parse_line};
+use sessions::{Cause, Fault, MOST_BYTES, read_named};
 use std::alloc::Global;
 use std::fs::File;
-use std::io::Read;
-use std::{io, rt};
+use std::{fs, rt};
 use trajdb::{Files, RunFault};
-
-/// The most bytes that a script or a file may have.
-pub(crate) const MOST_BYTES: u64 = 1 << 30;
-
-/// The bytes of the file of that name, which has no more than so many.
-pub(crate) fn read_named<'a, R: rt::Files + AllocGlobal>(
-    rt: &R,
-    name: &'a str,
-    most: u64,
-) -> Result<Vec<u8>, Fault<'a>> {
-    let fault = |error: io::Error| match error.kind() {
-        io::ErrorKind::OutOfMemory => Fault::Run(RunFault::Memory),
-        _ => Fault::CannotRead(name),
-    };
-    let file = File::open(rt, name).map_err(fault)?;
-    let mut bytes = Vec::new(rt.alloc());
-    file.take(most.saturating_add(1))
-        .read_to_end(&mut bytes)
-        .map_err(fault)?;
-    if bytes.len() as u64 > most {
-        return Err(Fault::CannotRead(name));
-    }
-    Ok(bytes)
-}
 
 /// The files of those names.
 pub(crate) fn read_files<'a, R: rt::Files + AllocGlobal>(
@@ -61,4 +36,18 @@ pub(crate) fn has_load(alloc: Global, script: &[u8]) -> Result<bool, RunFault> {
         }
     }
     Ok(false)
+}
+
+/// Why the script or a file of that name was not read, as a look at it tells now.
+pub(crate) fn cause_of_reading<R: rt::Files<File = File>>(rt: &R, name: &str) -> Cause {
+    match fs::metadata(rt, name) {
+        Ok(about) if about.is_dir() => return Cause::Folder,
+        Ok(about) if about.len() > MOST_BYTES => return Cause::TooLong,
+        Ok(about) if about.is_file() && about.len() == 0 => return Cause::Empty,
+        _ => {}
+    }
+    match File::open(rt, name) {
+        Ok(_) => Cause::Other,
+        Err(error) => Cause::from(error.kind()),
+    }
 }

@@ -1,8 +1,8 @@
 //! What the first page of a store and the root of its tree say.
-use crate::fault::Fault;
 use fixedpoint::Coord;
 use legs::Box3;
 use pages::{PageStore, Payload, unseal};
+use sessions::Fault;
 use tbnode::fields::u32_at;
 use tbnode::{Inner, Leaf};
 use timebase::Ms;

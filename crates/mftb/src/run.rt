@@ -2,8 +2,6 @@
 ghost use Rattle.std.specs.Prelude.{◌≡◌, ◌<◌, IsTrue};
 ghost use Rattle.mftb.specs.declared.outcome.Outcome.{Outcome};
 
-use crate::beside::{Opening, run_on_copy};
-use crate::fault::Fault;
 use crate::followed::Followed;
 use crate::locks::hold_name;
 use crate::names::Names;
@@ -13,12 +11,12 @@ use crate::opening::{is_absent, is_special, open_asked, open_in_place, sweep};
 use crate::outcome::Outcome;
 use crate::progress::{Progress, Told};
 use crate::reach::{Reach, reach_of};
-use crate::reading::{MOST_BYTES, has_load, read_files, read_named};
-use crate::session::{answer, database};
+use crate::reading::{has_load, read_files};
 use crate::system_folder::SystemFolder;
 use crate::telling::{Given, tell, tell_made};
 use crate::words::{Run, Telling};
 use pages::PageStore;
+use sessions::{Fault, MOST_BYTES, Opening, answer, database, read_named, run_on_copy};
 use std::fs::File;
 use std::hash::RandomState;
 use std::io::{Eprint, Write};

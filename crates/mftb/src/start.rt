@@ -3,7 +3,6 @@ ghost use Rattle.std.specs.Prelude.{◌≡◌, ◌≤◌, codes, Any, IsTrue};
 ghost use Rattle.std.specs.String.{string_bytes};
 
 use crate::check::check;
-use crate::fault::Fault;
 use crate::file_part::print_part;
 use crate::file_parts::write_parts;
 use crate::info::print_info;
@@ -14,6 +13,7 @@ use crate::run::run;
 use crate::telling::Before;
 use crate::words::{Task, read_words};
 use clap::error::ErrorKind;
+use sessions::Fault;
 use std::fs::File;
 use std::io::{Eprint, Write};
 use std::random::RandomSource;

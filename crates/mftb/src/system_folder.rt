@@ -1,15 +1,13 @@
 //! The folder of a store's file, as the system has it.
 ghost use Rattle.std.specs.Prelude.{◌≡◌, None};
 
-use crate::cause::Cause;
-use crate::fault::Fault;
-use crate::folder::Folder;
 use crate::held_file::HeldFile;
 use crate::locks::{Held, Hold, hold_name, is_named, open_held};
 use crate::names::Names;
 use crate::noted::Noted;
 use crate::progress::Progress;
 use pages::FileStore;
+use sessions::{Cause, Fault, Folder};
 use std::fs::{File, Metadata};
 use std::io::{Eprint, Read, Write};
 use std::os::unix::fs::{MetadataExt, OpenOptionsExt, chown};

@@ -1,5 +1,6 @@
 //! The words of the command line.
 use clap::{Arg, ArgAction, ArgMatches, Command, Error, value_parser};
+use sessions::CACHE_PAGES;
 use std::alloc::{AllocError, Global};
 
 /// When it is said in words what went wrong.
@@ -151,9 +152,6 @@ pub(crate) enum Task<'a> {
     /// To say what a store holds.
     Info(Info<'a>),
 }
-
-/// How many pages the cache of a database holds where no other number is given.
-pub(crate) const CACHE_PAGES: u32 = 256;
 
 fn required<'a>(alloc: Global, name: &'a str, help: &'a str) -> Arg<'a> {
     Arg::new(alloc, name)

@@ -16,8 +16,3 @@ pub use listing::stays_of;
 pub use moment::Moment;
 pub use stay::{Stay, stay_of};
 pub use visits::{Visit, visits_of};
-
-#[cfg(test)]
-mod database_tests;
-#[cfg(test)]
-mod tests;

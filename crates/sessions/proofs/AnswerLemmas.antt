@@ -1,0 +1,177 @@
+-- What a run of the program sends, and what its store then holds.
+use Rattle.std.proofs.lemmas.Int.{clamps}
+use Rattle.std.proofs.Common.{arith, ℕ, ◌≡◌, ◌≤◌, ◌∙◌, ap, refl, sym, inl, inr, [], append-nil, length, true, false, Bool, IsTrue, List, Option, Some, Result, Ok, Err, subst}
+use Rattle.std.proofs.lemmas.List.{take_all}
+use Rattle.std.specs.Prelude.{IfErr, IfOk, IsErrOf, OnErr, OnOk}
+use Rattle.legs.specs.Book.{Book, empty_book}
+use Rattle.legs.specs.Costs.{ShapeView}
+use Rattle.legs.specs.Limits.{LimitsView}
+use Rattle.pages.specs.Store.{Store}
+use Rattle.boxsearch.specs.Index.{words}
+use Rattle.catalogue.specs.Holding.{HoldsBook, IsUnfinishedStore}
+use Rattle.catalogue.specs.Beginning.{IsLeftOver}
+use Rattle.trajdb.specs.Calls.{IsLoadFault, KeepsPages, Leaves}
+use Rattle.trajdb.specs.Db.{DbView, HasPages, IsAllowed, IsSound}
+use Rattle.trajdb.specs.Lasting.{HasBook, IsClosingFault, IsFaultless, IsIdle}
+use Rattle.trajdb.specs.Faults.{IsInside}
+use Rattle.trajdb.specs.Run.{HasCutRun, HasRun, HasStopped, IsCut, IsRunText, Runs, Stops}
+use Rattle.trajdb.specs.declared.OpenFault.{OpenFault}
+use Rattle.trajdb.specs.declared.OpenFault.TheVariants as opening
+use Rattle.trajdb.specs.declared.RunFault.{RunFault}
+use Rattle.trajdb.specs.declared.RunFault.TheVariants as run
+use Rattle.trajdb.specs.Checking.{Reports}
+use Rattle.trajdb.specs.declared.Report.{Report}
+use Rattle.sessions.specs.Answers.{Answers, Checks, IsNotOver, IsOverFault, SendsFront}
+use Rattle.sessions.specs.declared.fault.Fault.TheVariants.{Run, Open}
+
+pub the_same : (x y : ShapeView) → Some x ≡ Some y → x ≡ y
+the_same x y e = cc
+
+-- a run that is answered, and a database that is closed then
+pub answered : (old new : DbView) (s : Store) (files : List (List ℕ × List ℕ)) (sent sent' : Option (List ℕ)) (lines : List (List ℕ)) (r : Result (Unit {0}) RunFault)
+    → (IsSound old → Runs files sent sent' old new lines) → (IsSound old → IsSound new) → KeepsPages words old new → (IsIdle old → IsIdle new) → new.limits ≡ old.limits → words.plan new.index ≡ words.plan old.index
+    → OnOk r (IsSound new → HasPages new → IsIdle new → HoldsBook s new.index.tree.shape new.limits new.book)
+    → OnOk r (IsSound old → HasPages old → IsIdle old → Answers old.index.tree.shape old.limits old.book files sent sent' lines s)
+answered old new s files sent sent' lines (Ok x) runs sound keeps idle limits plan holds = λ is pages rests. record {
+  after = new.book;
+  run = runs is;
+  holds = subst (λ k. HoldsBook s k old.limits new.book) (the_same new.index.tree.shape old.index.tree.shape plan)
+      (subst (λ l. HoldsBook s new.index.tree.shape l new.book) limits (holds (sound is) (keeps.pages is pages) (idle rests)));
+}
+answered old new s files sent sent' lines (Err e) runs sound keeps idle limits plan holds = tt
+
+-- what was sent of a run that was done, and whose database was then not closed
+pub front_done : (limits : LimitsView) (book new : Book) (files : List (List ℕ × List ℕ)) (sent sent' : Option (List ℕ)) (lines : List (List ℕ)) → HasRun limits files sent sent' book new lines → SendsFront limits book files sent sent' lines
+front_done limits book new files sent sent' lines r = record {
+  front = r.text;
+  sends = r.sends;
+  done = length lines;
+  text = r.text;
+  answers = subst (λ l. IsRunText limits files book l r.text) (sym (take_all (length lines) lines (omega arith))) r.answers;
+  is_front = ([], sym (append-nil r.text));
+}
+
+-- of one that stopped at a line
+pub front_stopped : (limits : LimitsView) (book new : Book) (files : List (List ℕ × List ℕ)) (sent sent' : Option (List ℕ)) (lines : List (List ℕ)) (failed : Bool) (k : ℕ) → HasStopped limits files sent sent' book new failed lines k → SendsFront limits book files sent sent' lines
+front_stopped limits book new files sent sent' lines failed k s = record { front = s.text; sends = s.sends; done = k; text = s.text; answers = s.answers; is_front = ([], sym (append-nil s.text)) }
+
+-- of one whose output failed
+pub front_cut : (limits : LimitsView) (book new : Book) (files : List (List ℕ × List ℕ)) (sent sent' : Option (List ℕ)) (lines : List (List ℕ)) (k : ℕ) → HasCutRun limits files sent sent' book new lines k → SendsFront limits book files sent sent' lines
+front_cut limits book new files sent sent' lines k c = record { front = c.written; sends = c.sends; done = k; text = c.all; answers = c.answers; is_front = c.prefix }
+
+-- of one that is refused
+module _ (old new : DbView) (files : List (List ℕ × List ℕ)) (sent sent' : Option (List ℕ)) (lines : List (List ℕ)) where
+  stopped : Stops files sent sent' old new lines → SendsFront old.limits old.book files sent sent' lines
+  stopped s = front_stopped old.limits old.book new.book files sent sent' lines new.failed s.0 s.1
+
+  pub front_sent : (e : RunFault) → (IsErrOf {T = Unit {0}} {E = RunFault} (Err e) run.Output → IsSound old → IsCut files sent sent' old new lines) → (IsInside e → old.failed ≡ false → IsSound old → Stops files sent sent' old new lines)
+      → IsSound old → old.failed ≡ false → SendsFront old.limits old.book files sent sent' lines
+  front_sent run.Memory cut stops sound lives = stopped (stops tt lives sound)
+  front_sent run.Store cut stops sound lives = stopped (stops tt lives sound)
+  front_sent (run.Damaged page) cut stops sound lives = stopped (stops tt lives sound)
+  front_sent run.StoreFull cut stops sound lives = stopped (stops tt lives sound)
+  front_sent run.Failed cut stops sound lives = stopped (stops tt lives sound)
+  front_sent run.Output cut stops sound lives = let c = cut refl sound in front_cut old.limits old.book new.book files sent sent' lines c.0 c.1
+
+-- a fact holds where there is an error
+pub on_error : {T E : Type 0} (P : Type 0) (r : Result T E) → P → OnErr r P
+on_error P (Ok x) h = tt
+on_error P (Err e) h = h
+
+-- a refusal that is given only where another one is
+pub refused_by : {E F : Type 0} (P : Type 0) (r : Result (Unit {0}) E) (s : Result (Unit {0}) F) (wrap : F → E) → IfErr r (λ fault. (why : F) × (s ≡ Err why) × (fault ≡ wrap why)) → OnErr s P → OnErr r P
+refused_by P (Ok x) s wrap is h = tt
+refused_by P (Err e) s wrap (why, is, same) h = subst (λ k. OnErr k P) is h
+
+-- no database is opened of a store without pages
+pub no_pages : {E : Type 0} (r : Result DbView E) (s : Store) → s.count ≡ 0 → IfOk r (λ db. IsTrue s.is_faithful → (shape : ShapeView) (limits : LimitsView) (book : Book) → HoldsBook s shape limits book → HasBook shape limits book db)
+no_pages (Ok db) s none = λ f shape limits book h. let root = h.kept.within.root in absurd (omega (arith, none, root))
+no_pages (Err e) s none = tt
+
+-- what is said of an answer is said where more is known
+pub more_known : {T E : Type 0} (P Q : T → Type 0) (r : Result T E) → ((x : T) → P x → Q x) → IfOk r P → IfOk r Q
+more_known P Q (Ok x) f h = f x h
+more_known P Q (Err e) f h = tt
+
+-- a new database has the empty book
+pub created : {E : Type 0} (r : Result DbView E) (shape : ShapeView) (limits : LimitsView) (faithful : Type 0) → IfOk r (λ db. words.plan db.index ≡ Some shape) → IfOk r (λ db. faithful → IsSound db) → IfOk r (λ db. db.book ≡ empty_book) → IfOk r (λ db. db.limits ≡ limits)
+    → IfOk r (λ db. faithful → HasBook shape limits empty_book db)
+created (Ok db) shape limits faithful plan sound book is = λ f. record { sound = sound f; shape_is = the_same db.index.tree.shape shape plan; book_is = book; limits_are = is }
+created (Err e) shape limits faithful plan sound book is = tt
+
+-- an answer that is given only where another one is
+pub given : {E F : Type 0} (P : Type 0) (r : Result (Unit {0}) E) (s : Result (Unit {0}) F) → OnOk r (s ≡ Ok tt) → OnOk s P → OnOk r P
+given P (Ok x) s is h = subst (λ k. OnOk k P) is h
+given P (Err e) s is h = tt
+
+-- a database that was opened and checked, and is closed then
+module _ (old new : DbView) (s : Store) (leaves : Leaves words old new) (rests : IsIdle old → IsIdle new) (same : new.failed ≡ false → new.begun ≡ false → s ≡ new.index.cache.store) where
+  shape_same : new.index.tree.shape ≡ old.index.tree.shape
+  shape_same = the_same new.index.tree.shape old.index.tree.shape leaves.index.later.plan
+
+  pub still_holds : HoldsBook s new.index.tree.shape new.limits new.book → HoldsBook s old.index.tree.shape old.limits old.book
+  still_holds h =
+      subst (λ b. HoldsBook s old.index.tree.shape old.limits b) leaves.book
+      (subst (λ l. HoldsBook s old.index.tree.shape l new.book) leaves.limits
+      (subst (λ k. HoldsBook s k new.limits new.book) shape_same h))
+
+  pub checks : (report : Report) → new.failed ≡ false → (IsSound new → HasPages new → IsIdle new → HoldsBook s new.index.tree.shape new.limits new.book)
+      → (IsTrue old.index.cache.store.is_faithful → IsSound new) → (IsTrue old.index.cache.store.is_faithful → HasPages new) → (IsTrue old.index.cache.store.is_faithful → Reports new report)
+      → IsTrue old.index.cache.store.is_faithful → IsIdle old → old.begun ≡ false → Checks s old.index.tree.shape old.limits old.book report
+  checks report lives holds sound pages reports fa idle unbegun =
+      let r = reports fa in
+      record {
+        holds = still_holds (holds (sound fa) (pages fa) (rests idle));
+        pages = r.pages ∙ ap (λ (k : Store). k.count) (sym (same lives (leaves.begun ∙ unbegun)));
+        legs = r.legs ∙ ap (λ (b : Book). length b.legs) leaves.book;
+        features = r.features ∙ ap (λ (b : Book). length b.names) leaves.book;
+      }
+
+  pub keeps : {E : Type 0} (closed : Result (Unit {0}) E) → OnOk closed (IsSound new → HasPages new → IsIdle new → HoldsBook s new.index.tree.shape new.limits new.book) → (new.failed ≡ false → new.begun ≡ false → closed ≡ Ok tt)
+      → KeepsPages words old new → IsSound old → HasPages old → IsIdle old → old.begun ≡ false → old.failed ≡ false → HoldsBook s old.index.tree.shape old.limits old.book
+  keeps closed holds idle pages sound has rest unbegun lives =
+      let e = idle (leaves.failed ∙ lives) (leaves.begun ∙ unbegun) in
+      let h = subst (λ r. OnOk r (IsSound new → HasPages new → IsIdle new → HoldsBook s new.index.tree.shape new.limits new.book)) e holds in
+      still_holds (h (leaves.sound sound) (pages.pages sound has) (rests rest))
+
+-- a database that was made with a book and is closed leaves a store that holds it
+pub closed_book : (db : DbView) (s : Store) (ran : Result (Unit {0}) RunFault) → OnOk ran (IsSound db → HasPages db → IsIdle db → HoldsBook s db.index.tree.shape db.limits db.book) → ran ≡ Ok tt
+    → (shape : ShapeView) (limits : LimitsView) (book : Book) → HasBook shape limits book db → HasPages db → db.begun ≡ true → HoldsBook s shape limits book
+closed_book db s ran holds is shape limits book has pages begun =
+    let closed = subst (λ r. OnOk r (IsSound db → HasPages db → IsIdle db → HoldsBook s db.index.tree.shape db.limits db.book)) is holds in
+    let idle : IsIdle db = λ not lives. (let wrong : true ≡ false = sym begun ∙ not in absurd cc) in
+    subst (λ b. HoldsBook s shape limits b) has.book_is
+    (subst (λ l. HoldsBook s shape l db.book) has.limits_are
+    (subst (λ t. HoldsBook s t db.limits db.book) has.shape_is (closed has.sound pages idle)))
+
+-- what is said of a fault
+pub err_of : {T E : Type 0} (P : E → Type 0) (r : Result T E) (e : E) → r ≡ Err e → IfErr r P → P e
+err_of P r e is h = subst (λ k. IfErr k P) is h
+
+-- why a store that holds a book is not brought over
+pub over_open : (new left : Store) (e : OpenFault) → IsAllowed e → IsLeftOver new left → IsNotOver new left (Open e)
+over_open new left opening.Memory a l = l
+over_open new left opening.Store a l = l
+over_open new left (opening.Damaged page) a l = a
+over_open new left opening.StoreFull a l = l
+over_open new left opening.Unfinished a l = a
+over_open new left opening.Version a l = a
+over_open new left opening.Malformed a l = a
+
+-- a store that is full, or that failed, in the closing
+pub closing_fault : (old after new left : Store) (db : DbView) (e : RunFault) → db.failed ≡ false → new.faults ≤ db.index.cache.store.faults → IsClosingFault db left e → IsOverFault old after new left (Run e)
+closing_fault old after new left db run.Memory lives l h = tt
+closing_fault old after new left db run.Store lives l h = omega (arith, clamps, l, h)
+closing_fault old after new left db (run.Damaged page) lives l h = tt
+closing_fault old after new left db run.StoreFull lives l h = h
+closing_fault old after new left db run.Failed lives l h = let wrong : true ≡ false = sym h ∙ lives in absurd cc
+closing_fault old after new left db run.Output lives l h = h
+
+-- or not closed
+pub over_run : (new left : Store) (e : RunFault) → IsLoadFault e → (IsFaultless e → IsUnfinishedStore left) → IsNotOver new left (Run e)
+over_run new left run.Memory a u = inr (inl (u tt))
+over_run new left run.Store a u = tt
+over_run new left (run.Damaged page) a u = a
+over_run new left run.StoreFull a u = inr (inl (u tt))
+over_run new left run.Failed a u = a
+over_run new left run.Output a u = a

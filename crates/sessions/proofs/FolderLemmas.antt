@@ -1,0 +1,149 @@
+-- What a run on a copy makes of a store's name.
+use Rattle.std.proofs.Common.{ℕ, ◌≡◌, refl, sym, subst, inl, inr, [], ◌∷◌, true, false, Bool, IsTrue, List, Option, Some, None, Result, Ok, Err}
+use Rattle.std.proofs.KnownBytes.{Appends-nil}
+use Rattle.std.specs.Prelude.{is_ok, IfOk, IfSome, IsOk, OnErr, OnOk}
+use Rattle.legs.specs.Book.{Book, empty_book}
+use Rattle.legs.specs.Costs.{ShapeView}
+use Rattle.legs.specs.Limits.{limits_of, LimitsView}
+use Rattle.pages.specs.Store.{Store}
+use Rattle.pagecache.specs.Cache.{page_of, pages_as_written, payload_of, sealed_payload, stored_payload}
+use Rattle.catalogue.specs.Holding.{HoldsBook}
+use Rattle.trajdb.specs.Db.{DbView, HasPages, IsSound}
+use Rattle.trajdb.specs.Lasting.{HasBook, IsIdle}
+use Rattle.sessions.specs.Answers.{Answers, SendsFront, new_shape}
+use Rattle.sessions.specs.Folder.{BeginsWith, History, HoldsNow, IsKept, RunsBeside, store_in}
+use Rattle.sessions.proofs.AnswerLemmas.{front_done}
+
+-- what a folder tells of a store's name is faithful
+pub tells : (past : History) → IsTrue (store_in past).is_faithful
+tells [] = refl
+tells (now ∷ past) = refl
+
+-- how often a store failed is no part of the book that it holds
+pub faults_apart : (s : Store) (shape : ShapeView) (limits : LimitsView) (book : Book) → HoldsBook s shape limits book → HoldsBook (record s { faults = 0 }) shape limits book
+unfolding stored_payload payload_of sealed_payload page_of pages_as_written
+faults_apart s shape limits book h = record {
+  catalogue = h.catalogue;
+  tree = h.tree;
+  places = h.places;
+  kept = h.kept;
+  shape_is = h.shape_is;
+  of = h.of;
+  sound = record {
+    faithful = h.sound.faithful;
+    works = h.sound.works;
+    shape = h.sound.shape;
+    count = h.sound.count;
+    pages = h.sound.pages;
+    stands = h.sound.stands;
+    lawful = h.sound.lawful;
+    counted = h.sound.counted;
+    features = h.sound.features;
+    placed = h.sound.placed;
+  };
+  legs = h.legs;
+}
+
+-- what a name stands for that was given to a store that holds a book, or that was left to what has its pages
+pub held_now : (s : Store) (shape : ShapeView) (limits : LimitsView) (book : Book) (was is : Option History) → HoldsBook s shape limits book → IsKept s was is → HoldsNow shape limits book is
+held_now s shape limits book (Some old) (Some new) h (inl n) =
+    subst (λ k. HoldsBook (store_in k) shape limits book) (sym n.next) (subst (λ k. HoldsBook k shape limits book) n.are (faults_apart s shape limits book h))
+held_now s shape limits book (Some old) None h (inl n) = tt
+held_now s shape limits book None (Some new) h (inl n) = absurd n
+held_now s shape limits book None None h (inl n) = tt
+held_now s shape limits book (Some old) is h (inr n) =
+    subst (HoldsNow shape limits book) (sym n.0) (subst (λ k. HoldsBook k shape limits book) n.1 (faults_apart s shape limits book h))
+held_now s shape limits book None is h (inr n) = subst (HoldsNow shape limits book) (sym n.0) tt
+
+-- a database that is opened with a book over the copy, and answers; the copy is then kept
+module _ {E F G : Type 0} (opened : Result DbView E) (ran : Result (Unit {0}) F) (kept : Result (Unit {0}) G) (files : List (List ℕ × List ℕ)) (sent sent' : Option (List ℕ)) (lines : List (List ℕ)) (first last : Store) (was is : Option History)
+    (pages : IfOk opened (λ db. IsTrue first.is_faithful → HasPages db)) (idle : IfOk opened (λ db. IsTrue first.is_faithful → IsIdle db)) (ok : OnOk ran (IsOk opened)) (done : ran ≡ Ok tt)
+    (answers : OnOk ran (IfOk opened (λ db. IsSound db → HasPages db → IsIdle db → Answers db.index.tree.shape db.limits db.book files sent sent' lines last)))
+    (keeps : OnOk kept (IsKept last was is)) where
+  pub beside : (o : Result DbView E) → o ≡ opened → (k : Result (Unit {0}) G) → k ≡ kept → (shape : ShapeView) (limits : LimitsView) (book : Book) → IsTrue first.is_faithful → IfOk opened (HasBook shape limits book) → OnOk kept (RunsBeside shape limits book files sent sent' lines was is)
+  beside o e (Err f) k shape limits book faithful has = subst (λ r. OnOk r (RunsBeside shape limits book files sent sent' lines was is)) k tt
+  beside (Err f) e (Ok x) k shape limits book faithful has =
+      let wrong : false ≡ true = subst (λ r. is_ok r ≡ true) (sym e) (subst (λ r. OnOk r (IsOk opened)) done ok) in absurd cc
+  beside (Ok db) e (Ok x) k shape limits book faithful has =
+      let h = subst (λ r. IfOk r (HasBook shape limits book)) (sym e) has in
+      let p = subst (λ r. IfOk r (λ d. IsTrue first.is_faithful → HasPages d)) (sym e) pages in
+      let i = subst (λ r. IfOk r (λ d. IsTrue first.is_faithful → IsIdle d)) (sym e) idle in
+      let a = subst (λ r. IfOk r (λ d. IsSound d → HasPages d → IsIdle d → Answers d.index.tree.shape d.limits d.book files sent sent' lines last)) (sym e)
+      (subst (λ r. OnOk r (IfOk opened (λ d. IsSound d → HasPages d → IsIdle d → Answers d.index.tree.shape d.limits d.book files sent sent' lines last))) done answers) in
+      let answer : Answers shape limits book files sent sent' lines last =
+      subst (λ b. Answers shape limits b files sent sent' lines last) h.book_is
+      (subst (λ l. Answers shape l db.book files sent sent' lines last) h.limits_are
+      (subst (λ t. Answers t db.limits db.book files sent sent' lines last) h.shape_is (a h.sound (p faithful) (i faithful)))) in
+      let kept_is = subst (λ r. OnOk r (IsKept last was is)) (sym k) keeps in
+      subst (λ r. OnOk r (RunsBeside shape limits book files sent sent' lines was is)) k (record {
+        store = last;
+        answers = answer;
+        kept = kept_is;
+        held = held_now last shape limits answer.after was is answer.holds kept_is;
+      })
+
+-- the database that is opened over a copy has the book that the run begins with
+pub begun_with : {E : Type 0} (opened : Result DbView E) (first past : Store) → first ≡ past → (is_new : Bool) (shape : ShapeView) (limits : LimitsView) (book : Book) → IsTrue first.is_faithful
+    → IfOk opened (λ db. IsTrue is_new → IsTrue first.is_faithful → first.count ≡ 0 → HasBook new_shape (limits_of 16777216 1048576) empty_book db)
+    → IfOk opened (λ db. IsTrue first.is_faithful → (shape : ShapeView) (limits : LimitsView) (book : Book) → HoldsBook first shape limits book → HasBook shape limits book db)
+    → BeginsWith is_new past shape limits book → IfOk opened (HasBook shape limits book)
+begun_with (Err e) first past same is_new shape limits book faithful new kept begins = tt
+begun_with (Ok db) first past same is_new shape limits book faithful new kept (inl h) =
+    kept faithful shape limits book (subst (λ s. HoldsBook s shape limits book) (sym same) h)
+begun_with (Ok db) first past same is_new shape limits book faithful new kept (inr (n, z, s, l, b)) =
+    subst (λ t. HasBook t limits book db) (sym s)
+    (subst (λ m. HasBook new_shape m book db) (sym l)
+    (subst (λ k. HasBook new_shape (limits_of 16777216 1048576) k db) (sym b) (new n faithful (subst (λ (k : Store). k.count ≡ 0) (sym same) z))))
+
+-- nothing was sent
+pub front_none : (limits : LimitsView) (book : Book) (files : List (List ℕ × List ℕ)) (sent : Option (List ℕ)) (lines : List (List ℕ)) → SendsFront limits book files sent sent lines
+front_none limits book files sent lines = record { front = []; sends = Appends-nil sent; done = 0; text = []; answers = refl; is_front = ([], refl) }
+
+-- what is sent of a run that is refused, over the database that was opened with a book, or over none
+pub front_opened : {E F : Type 0} (opened : Result DbView E) (ran : Result (Unit {0}) F) (files : List (List ℕ × List ℕ)) (sent sent' : Option (List ℕ)) (lines : List (List ℕ)) (shape : ShapeView) (limits : LimitsView) (book : Book) (fault : F) → ran ≡ Err fault
+    → IfOk opened (λ db. db.failed ≡ false) → OnErr ran (IfOk opened (λ db. IsSound db → db.failed ≡ false → SendsFront db.limits db.book files sent sent' lines)) → OnErr opened (sent' ≡ sent)
+    → IfOk opened (HasBook shape limits book) → SendsFront limits book files sent sent' lines
+front_opened (Err e) ran files sent sent' lines shape limits book fault is lives front unsent has = subst (λ s. SendsFront limits book files sent s lines) (sym unsent) (front_none limits book files sent lines)
+front_opened (Ok db) ran files sent sent' lines shape limits book fault is lives front unsent has =
+    let sends = subst (λ r. OnErr r (IsSound db → db.failed ≡ false → SendsFront db.limits db.book files sent sent' lines)) is front in
+    subst (λ b. SendsFront limits b files sent sent' lines) has.book_is (subst (λ l. SendsFront l db.book files sent sent' lines) has.limits_are (sends has.sound lives))
+
+-- and of one that is answered
+pub front_answered : {E F : Type 0} (opened : Result DbView E) (ran : Result (Unit {0}) F) (files : List (List ℕ × List ℕ)) (sent sent' : Option (List ℕ)) (lines : List (List ℕ)) (last : Store) (shape : ShapeView) (limits : LimitsView) (book : Book) → ran ≡ Ok tt
+    → IfOk opened HasPages → IfOk opened IsIdle → OnOk ran (IsOk opened) → OnOk ran (IfOk opened (λ db. IsSound db → HasPages db → IsIdle db → Answers db.index.tree.shape db.limits db.book files sent sent' lines last))
+    → IfOk opened (HasBook shape limits book) → SendsFront limits book files sent sent' lines
+front_answered (Err e) ran files sent sent' lines last shape limits book done pages idle ok answers has =
+    let not : IsOk {T = DbView} (Err e) = subst (λ r. OnOk r (IsOk {T = DbView} (Err e))) done ok in
+    let wrong : false ≡ true = not in absurd cc
+front_answered (Ok db) ran files sent sent' lines last shape limits book done pages idle ok answers has =
+    let a = (subst (λ r. OnOk r (IsSound db → HasPages db → IsIdle db → Answers db.index.tree.shape db.limits db.book files sent sent' lines last)) done answers) has.sound pages idle in
+    subst (λ b. SendsFront limits b files sent sent' lines) has.book_is
+    (subst (λ l. SendsFront l db.book files sent sent' lines) has.limits_are
+    (front_done db.limits db.book a.after files sent sent' lines a.run))
+
+-- a result that is given only where a fact holds has it
+pub under : {G : Type 0} (kept : Result (Unit {0}) G) (was : Option History) (P : History → Type 0) → ((past : History) → was ≡ Some past → OnOk kept (P past)) → OnOk kept (IfSome was P)
+under (Err e) was P f = tt
+under (Ok x) None P f = tt
+under (Ok x) (Some past) P f = f past refl
+
+-- a fact holds where there is something
+pub some_only : (was : Option History) (P : History → Type 0) → ((past : History) → was ≡ Some past → P past) → IfSome was P
+some_only None P f = tt
+some_only (Some past) P f = f past refl
+
+-- and one that is refused
+pub under_err : {G : Type 0} (kept : Result (Unit {0}) G) (was : Option History) (P : History → Type 0) → ((past : History) → was ≡ Some past → P past) → OnErr kept (IfSome was P)
+under_err (Ok x) was P f = tt
+under_err (Err e) None P f = tt
+under_err (Err e) (Some past) P f = f past refl
+
+-- what is said under premises is said of each answer
+pub each : {G : Type 0} {A : Type 0} (kept : Result (Unit {0}) G) (P : A → Type 0) → ((a : A) → OnOk kept (P a)) → OnOk kept ((a : A) → P a)
+each (Err e) P f = tt
+each (Ok x) P f = f
+
+-- what a database is under premises
+pub only_if : {T E : Type 0} (P Q : T → Type 0) (r : Result T E) → ((x : T) → P x → Q x) → IfOk r P → IfOk r Q
+only_if P Q (Ok x) f h = f x h
+only_if P Q (Err e) f h = tt

@@ -1,0 +1,23 @@
+use Rattle.std.proofs.Common.{◌≡◌, ◌∙◌, rules, sym, subst, IsTrue, Some}
+use Rattle.std.specs.Prelude.{IfOk}
+use Rattle.boxsearch.specs.Index.{words}
+use Rattle.legs.specs.Book.{empty_book}
+use Rattle.legs.specs.Costs.{ShapeView}
+use Rattle.legs.specs.Limits.{limits_of, LimitsView}
+use Rattle.trajdb.specs.Db.{DbView}
+use Rattle.trajdb.specs.Lasting.{HasBook}
+use Rattle.sessions.specs.Answers.{new_shape}
+use Rattle.sessions.proofs.AnswerLemmas.{created, more_known, no_pages, the_same}
+use Rattle.sessions.proofs.session.database.Goals as goal
+
+pub returns-then-len-eq0-clause-new : goal.returns-then-len-eq0-clause-new
+returns-then-len-eq0-clause-new g c =
+    let s = g.S.PageStore.seen c.args.store in
+    more_known (λ (db : DbView). IsTrue s.is_faithful → HasBook new_shape (limits_of 16777216 1048576) empty_book db)
+    (λ db. IsTrue c.args.is_new → IsTrue s.is_faithful → s.count ≡ 0 → HasBook new_shape (limits_of 16777216 1048576) empty_book db) c.create.result (λ db h n f z. h f)
+    (created c.create.result new_shape (limits_of 16777216 1048576) (IsTrue s.is_faithful)
+    (subst (λ (k : ShapeView). IfOk c.create.result (λ (db : DbView). words.plan db.index ≡ Some k)) (the_same c.unwrap-shape.result new_shape (sym c.unwrap-shape.ensures ∙ c.new.ensures)) c.create.ensures.shape) c.create.ensures.sound c.create.ensures.book
+    (subst (λ (l : LimitsView). IfOk c.create.result (λ (db : DbView). db.limits ≡ l)) c.limits.ensures c.create.ensures.limits))
+
+pub returns-then-len-eq0-clause-kept : goal.returns-then-len-eq0-clause-kept
+returns-then-len-eq0-clause-kept g c = no_pages c.create.result (g.S.PageStore.seen c.args.store) (search rules)

@@ -1,0 +1,76 @@
+-- What the name of a store stands for, from moment to moment, and what a run makes of it.
+use Rattle.std.specs.Prelude.{ℕ, ◌≡◌, ◌⊎◌, ◌^◌, ◌-◌, List, [], ◌∷◌, length, Bool, Option, Some, None, IfSome, IsTrue, true, ⊤}
+use Rattle.legs.specs.Book.{Book, empty_book}
+use Rattle.legs.specs.Costs.{ShapeView}
+use Rattle.legs.specs.Limits.{limits_of, LimitsView}
+use Rattle.pages.specs.Store.{Store}
+use Rattle.catalogue.specs.Holding.{HoldsBook}
+use Rattle.sessions.specs.Answers.{Answers, new_shape}
+
+-- the pages of the file of that name at each moment so far, the last one first; `None` where there was no file
+abbrev pub History : Type 0
+History = List (Option (List (List ℕ)))
+
+-- the store of a file of these pages
+abbrev pub file_store : List (List ℕ) → Store
+file_store pages = record { count = length pages; most = 2 ^ 32 - 1; faults = 0; is_faithful = true; pages = pages }
+
+-- the pages of a file, or none where there is no file
+abbrev pub pages_in : Option (List (List ℕ)) → List (List ℕ)
+pages_in None = []
+pages_in (Some pages) = pages
+
+-- the store of what the name stands for now
+abbrev pub store_in : History → Store
+store_in [] = file_store []
+store_in (now ∷ past) = file_store (pages_in now)
+
+-- a run begins with a book: the one that a store holds, or the empty one, where the store has no page and is made
+abbrev pub BeginsWith : Bool → Store → ShapeView → LimitsView → Book → Type 0
+BeginsWith is_new store shape limits book =
+    HoldsBook store shape limits book
+    ⊎ (IsTrue is_new × (store.count ≡ 0) × (shape ≡ new_shape)
+    × (limits ≡ limits_of 16777216 1048576) × (book ≡ empty_book))
+
+-- a store has the same pages as another one
+abbrev pub HasPagesOf : Store → Store → Type 0
+HasPagesOf store other = record store { faults = 0 } ≡ other
+
+-- a store has the pages of what the name stands for, where a folder tells it
+abbrev pub HasPagesHeld : Store → Option History → Type 0
+HasPagesHeld store (Some past) = HasPagesOf store (store_in past)
+HasPagesHeld store None = ⊤
+
+-- the name stands for a file of these pages now, and did at each moment before for what it stood for then: nothing came
+-- between
+pub record IsNext (store : Store) (old new : History) : Type 0 where
+  pub pages : List (List ℕ)
+  pub are : HasPagesOf store (file_store pages)
+  pub next : new ≡ Some pages ∷ old
+
+-- that, where a folder tells it
+abbrev pub IsReplaced : Store → Option History → Option History → Type 0
+IsReplaced store (Some old) (Some new) = IsNext store old new
+IsReplaced store (Some old) None = ⊥
+IsReplaced store None (Some new) = ⊥
+IsReplaced store None None = ⊤
+
+-- the name stands for a file of these pages now: nothing came between, or nothing has changed
+abbrev pub IsKept : Store → Option History → Option History → Type 0
+IsKept store old new = IsReplaced store old new ⊎ ((new ≡ old) × HasPagesHeld store old)
+
+-- the name stands for a file now that was made so, or for what it stood for
+abbrev pub IsKeptOnce : Option History → Option History → Type 0
+IsKeptOnce old new = (store : Store) × IsKept store old new
+
+-- what the name stands for now holds the book, where a folder tells it
+abbrev pub HoldsNow : ShapeView → LimitsView → Book → Option History → Type 0
+HoldsNow shape limits book held = IfSome held (λ now. HoldsBook (store_in now) shape limits book)
+
+-- the store of a run over a book that is answered, and of which nothing else than its pages takes the name, which then
+-- stands for a file that holds the book after the run: a later run finds it
+pub record RunsBeside (shape : ShapeView) (limits : LimitsView) (book : Book) (files : List (List ℕ × List ℕ)) (sent sent' : Option (List ℕ)) (lines : List (List ℕ)) (old new : Option History) : Type 0 where
+  pub store : Store
+  pub answers : Answers shape limits book files sent sent' lines store
+  pub kept : IsKept store old new
+  pub held : HoldsNow shape limits answers.after new

@@ -1,0 +1,128 @@
+//! A run that works on a copy beside the store.
+ghost use Rattle.std.specs.Prelude.{◌≡◌, ◌<◌, IfSome, IsTrue, OnErr, OnOk};
+ghost use Rattle.legs.specs.Book.{Book};
+ghost use Rattle.legs.specs.Costs.{ShapeView};
+ghost use Rattle.legs.specs.Limits.{LimitsView};
+ghost use Rattle.trajdb.specs.Script.{lines_of};
+ghost use Rattle.sessions.specs.Answers.{SendsFront};
+ghost use Rattle.sessions.specs.Folder.{BeginsWith, IsKept, IsKeptOnce, IsReplaced, RunsBeside, store_in};
+
+use crate::fault::Fault;
+use crate::folder::{Folder, Lasting};
+use crate::session::{answer, database};
+use std::alloc::Global;
+use std::hash::RandomState;
+use std::io::Write;
+use trajdb::{Files, RunFault};
+
+/// How the database of a store is made or opened.
+#[derive(Clone, Copy)]
+pub struct Opening {
+    /// Where its memory comes from.
+    pub alloc: Global,
+    /// With what its names are hashed: a stranger who chooses the names of a file is not to know
+    /// it.
+    pub keys: RandomState,
+    /// Whether it is made where the store has no page.
+    pub is_new: bool,
+    /// How many pages its cache holds at most, of 4096 bytes each; at least 1.
+    pub cache_pages: u32,
+}
+
+/// Gives the store's name to a copy whose pages are on the disk, and makes that last.
+fn give<'a, F: Folder>(folder: &mut F, mut store: F::Store) -> Result<(), Fault<'a>>
+    ensures replaced { OnOk result (IsReplaced (F.Store.PageStore.seen store) (F.held folder.old)
+        (F.held folder.new)) }
+    ensures stays { OnErr result (F.held folder.new ≡ F.held folder.old) }
+    ensures settled { OnOk result (IsTrue (F.is_settled folder.new)) }
+{
+    if store.make_last().is_err() {
+        return Err(Fault::Run(RunFault::Store));
+    }
+    match folder.replace(store) {
+        Ok(()) => {
+            folder.settle();
+            Ok(())
+        }
+        Err(fault) => Err(fault),
+    }
+}
+
+/// Gives the store's name to a copy, where a page of it was written, and takes it away otherwise.
+fn keep<'a, F: Folder>(folder: &mut F, store: F::Store) -> Result<(), Fault<'a>>
+    ensures kept { OnOk result (IsKept (F.Store.PageStore.seen store) (F.held folder.old)
+        (F.held folder.new)) }
+    ensures stays { OnErr result (F.held folder.new ≡ F.held folder.old) }
+    ensures settled { OnOk result (IsTrue (F.is_settled folder.old)
+        → IsTrue (F.is_settled folder.new)) }
+{
+    if !folder.differs(&store) {
+        folder.discard();
+        return Ok(());
+    }
+    match give(folder, store) {
+        Ok(()) => Ok(()),
+        Err(fault) => {
+            folder.discard();
+            Err(fault)
+        }
+    }
+}
+
+/// Runs a script over a copy of the store, which then takes the store's name, where a page of it
+/// was written. Where the run is not brought to its end, the store stays as it is, and the copy is
+/// taken away.
+///
+/// `script` and `files` are bytes as they were read; the answers go to `out`. It is refused as the
+/// folder refuses it (`Folder::copy`, `Folder::replace`), as `answer` does, and with `Store` where
+/// the copy is not made to last.
+pub fn run_on_copy<'a, F: Folder, W: Write>(
+    folder: &mut F,
+    how: Opening,
+    script: &[u8],
+    files: &Files,
+    out: &mut W,
+) -> Result<(), Fault<'a>>
+    requires { 0 < how.cache_pages }
+
+    // What was sent is exactly the text of the run over the book that the store held, or the empty
+    // one where it is made; the store's name stood for what it stood for until, at one moment, it
+    // was given to a file that holds the book after it.
+    ensures runs { OnOk result (IfSome (F.held folder.old)
+        (λ past. (shape : ShapeView) (limits : LimitsView) (book : Book)
+        → BeginsWith how.is_new (store_in past) shape limits book
+        → RunsBeside shape limits book files.now (W.contents out.old) (W.contents out.new)
+        (lines_of script.now) (F.held folder.old) (F.held folder.new))) }
+
+    // Whatever the store held, the name was given to another file once at most, and that is on the
+    // disk as far as the system can make it so.
+    ensures once { OnOk result (IsKeptOnce (F.held folder.old) (F.held folder.new)) }
+    ensures settled { OnOk result (IsTrue (F.is_settled folder.old)
+        → IsTrue (F.is_settled folder.new)) }
+
+    // Where it is refused the name stands for what it stood for, all along, and what was sent is
+    // the front of that text.
+    ensures stays { OnErr result (F.held folder.new ≡ F.held folder.old) }
+    ensures sent { OnErr result (IfSome (F.held folder.old)
+        (λ past. (shape : ShapeView) (limits : LimitsView) (book : Book)
+        → BeginsWith how.is_new (store_in past) shape limits book
+        → SendsFront limits book files.now (W.contents out.old) (W.contents out.new)
+        (lines_of script.now))) }
+{
+    let store = match folder.copy() {
+        Ok(store) => store,
+        Err(fault) => {
+            folder.discard();
+            return Err(fault);
+        }
+    };
+    let database = database(how.alloc, how.keys, store, how.is_new, how.cache_pages);
+    let (store, answered) = answer(how.alloc, database, script, files, out);
+    match answered {
+        Ok(()) => keep(folder, store),
+        Err(fault) => {
+            folder.discard();
+            Err(fault)
+        }
+    }
+}

@@ -1,0 +1,117 @@
+//! Why the program failed.
+ghost use Rattle.std.specs.Prelude.{◌≤◌};
+
+use crate::cause::Cause;
+use querylang::LineCode;
+use std::alloc::AllocError;
+use std::fmt;
+use std::fmt::{Display, Formatter};
+use trajdb::{OpenFault, RunFault};
+
+/// Why the program failed.
+#[derive(Clone, Copy, PartialEq, Eq, Debug)]
+pub enum Fault<'a> {
+    /// A run or a check was not brought to its end.
+    Run(RunFault),
+    /// The database was not made, opened or brought over.
+    Open(OpenFault),
+    /// The script or a file of that name could not be read, or is too long.
+    CannotRead(&'a str),
+    /// A file of a part could not be written into the folder of that name.
+    CannotWrite(&'a str),
+    /// The file that a store was to be brought over into is there, and has bytes.
+    NotEmpty,
+    /// There is no part of that number among so many.
+    NoPart(u32, u32),
+    /// Another run holds the store.
+    InUse,
+    /// A call of the system on the store's file, or on what lies beside it, failed.
+    NoStore(Cause),
+    /// There is no such store, and none is to be made.
+    NoSuchStore,
+    /// The rectangle or the period is refused, as a line of a script would be.
+    Bounds(LineCode),
+}
+
+impl Fault<'_> {
+    /// The exit status of the program: 2 where its words are wrong, else 1.
+    pub fn status(&self) -> u8
+        ensures { result ≤ 2 }
+    {
+        match self {
+            Fault::NoPart(..) | Fault::Bounds(_) => 2,
+            _ => 1,
+        }
+    }
+
+    /// Whether a store that failed is the fault.
+    pub fn is_of_store(&self) -> bool {
+        match self {
+            Fault::Run(fault) => *fault == RunFault::Store,
+            Fault::Open(fault) => *fault == OpenFault::Store,
+            Fault::NoStore(_) => true,
+            _ => false,
+        }
+    }
+}
+
+impl From<AllocError> for Fault<'_> {
+    fn from(_: AllocError) -> Self {
+        Fault::Run(RunFault::Memory)
+    }
+}
+
+impl From<RunFault> for Fault<'_> {
+    fn from(fault: RunFault) -> Self {
+        Fault::Run(fault)
+    }
+}
+
+impl From<OpenFault> for Fault<'_> {
+    fn from(fault: OpenFault) -> Self {
+        Fault::Open(fault)
+    }
+}
+
+/// Why a rectangle or a period is refused.
+fn bounds_text(code: LineCode) -> &'static str {
+    match code {
+        LineCode::Q5 => "a coordinate is no number, or out of range",
+        LineCode::Q6 => "X1 is above X2, or Y1 above Y2",
+        LineCode::Q7 => "T1 or T2 is no instant, or out of range",
+        LineCode::Q8 => "T1 is after T2",
+        _ => "X1 Y1 X2 Y2 T1 T2 are one word each",
+    }
+}
+
+/// What the fault's line says after `mftb: `.
+impl Display for Fault<'_> {
+    fn fmt<W: fmt::Write>(&self, f: &mut Formatter<W>) -> fmt::Result {
+        match self {
+            Fault::Run(RunFault::Memory) | Fault::Open(OpenFault::Memory) => f.write_str("memory"),
+            Fault::Run(RunFault::Store) | Fault::Open(OpenFault::Store) | Fault::NoStore(_) => {
+                f.write_str("store")
+            }
+            Fault::Run(RunFault::Damaged(page)) | Fault::Open(OpenFault::Damaged(page)) => {
+                write!(f, "page {page} damaged")
+            }
+            Fault::Run(RunFault::StoreFull) | Fault::Open(OpenFault::StoreFull) => {
+                f.write_str("store full")
+            }
+            Fault::Open(OpenFault::Unfinished) => f.write_str("store unfinished"),
+            Fault::Open(OpenFault::Version) => f.write_str("store version"),
+            Fault::Open(OpenFault::Malformed) => f.write_str("store malformed"),
+            Fault::Run(RunFault::Failed) => f.write_str("failed"),
+            Fault::Run(RunFault::Output) => f.write_str("output"),
+            Fault::CannotRead(name) => write!(f, "cannot read {name}"),
+            Fault::CannotWrite(name) => write!(f, "cannot write {name}"),
+            Fault::NotEmpty => f.write_str("new store not empty"),
+            Fault::NoPart(part, parts) => {
+                write!(f, "no part {part} of {parts}: parts are numbered from 0")
+            }
+            Fault::InUse => f.write_str("store in use"),
+            Fault::NoSuchStore => f.write_str("no such store"),
+            Fault::Bounds(code) => f.write_str(bounds_text(*code)),
+        }
+    }
+}

@@ -1,0 +1,65 @@
+//! The contract of the folder that a store's file is in.
+ghost use Rattle.std.specs.Prelude.{◌≡◌, Bool, Option, IfOk, IfSome, IsTrue, OnErr, OnOk, false};
+ghost use Rattle.pages.specs.Store.{Stays};
+ghost use Rattle.sessions.specs.Folder.{HasPagesHeld, History, IsReplaced, store_in};
+
+use crate::fault::Fault;
+use pages::{PageStore, StoreFault};
+
+/// A store of which it is known whether all that was written to it is on the disk.
+pub trait Lasting: PageStore {
+    /// Whether all that was written is on the disk, as far as is known.
+    ghost is_lasting: { Self → Bool };
+
+    /// Makes what was written last, as on a disk. Where that fails, it may last or not.
+    fn make_last(&mut self) -> Result<(), StoreFault>
+        ensures made { OnOk result (IsTrue (is_lasting self.new)) }
+        ensures stays { Stays (Self.seen self.old) (Self.seen self.new) };
+}
+
+/// The folder of a store's file: what is done beside that file, and to its name.
+///
+/// A folder may tell contracts what the name of the store has stood for, and then that is said
+/// exactly. A folder of the system tells nothing.
+pub trait Folder {
+    /// The store of a copy beside the store's file.
+    type Store: Lasting + Drop;
+
+    /// What the store's name stood for at each moment so far, the last one first, where the folder
+    /// tells it.
+    ghost held: { Self → Option History };
+
+    /// Whether each name that was given is on the disk, as far as the system can make it so.
+    ghost is_settled: { Self → Bool };
+
+    /// Makes a copy of the store's file beside it, or a new file where there is none, and opens it.
+    /// What is then written to it changes the copy alone. Where it is refused, `discard` takes away
+    /// what was made.
+    fn copy<'a>(&mut self) -> Result<Self::Store, Fault<'a>>
+        ensures stays { held self.new ≡ held self.old }
+        ensures settled { is_settled self.new ≡ is_settled self.old }
+        ensures copies { IfOk result (λ store. IfSome (held self.old)
+            (λ past. Self.Store.PageStore.seen store ≡ store_in past)) };
+
+    /// Whether the copy may have other pages than the store's file.
+    fn differs(&self, store: &Self::Store) -> bool
+        ensures { result ≡ false → HasPagesHeld (Self.Store.PageStore.seen store.now) (held self.now) };
+
+    /// Gives the store's name to the copy, in one step. All that was written to it is on the disk.
+    /// Where it is refused, the name stands for what it stood for.
+    fn replace<'a>(&mut self, store: Self::Store) -> Result<(), Fault<'a>>
+        requires { IsTrue (Self.Store.is_lasting store) }
+        ensures replaced { OnOk result (IsReplaced (Self.Store.PageStore.seen store)
+            (held self.old) (held self.new)) }
+        ensures stays { OnErr result (held self.new ≡ held self.old) };
+
+    /// Makes the name that was given last, where the system can.
+    fn settle(&mut self)
+        ensures stays { held self.new ≡ held self.old }
+        ensures settled { IsTrue (is_settled self.new) };
+
+    /// Takes away the copy, where there is one that this folder made.
+    fn discard(&mut self)
+        ensures stays { held self.new ≡ held self.old }
+        ensures settled { is_settled self.new ≡ is_settled self.old };
+}

@@ -1,0 +1,68 @@
+//! A store of version 1 that is brought over into a new one, and closed.
+ghost use Rattle.std.specs.Prelude.{◌≡◌, None, IfErr, IsTrue, OnOk};
+ghost use Rattle.legs.specs.Costs.{ShapeView};
+ghost use Rattle.legs.specs.Limits.{LimitsView};
+ghost use Rattle.legs.specs.Book.{Book};
+ghost use Rattle.pages.specs.Store.{Stays};
+ghost use Rattle.catalogue.specs.Holding.{HoldsBook};
+ghost use Rattle.pagecache.specs.Cache.{stored_payload};
+ghost use Rattle.version1.specs.OldStore.{old_first_fault, present_shape, HoldsOldBook};
+ghost use Rattle.sessions.specs.Answers.{IsNotOver, IsOverFault, WasWhole};
+
+use crate::fault::Fault;
+use crate::session::CACHE_PAGES;
+use migration::Migrate;
+use pages::PageStore;
+use std::alloc::Global;
+use std::hash::RandomState;
+use trajdb::Db;
+
+/// Brings a store of version 1 over into an empty one, with a cache of `CACHE_PAGES` pages, closes
+/// that, and gives it back. Names are hashed with the keys, which a stranger who chooses the names
+/// of a file is not to know.
+///
+/// Where it is not brought over, `Open`, as `migration::Migrate::migrate` says it; where the new
+/// store is not closed, `Run`.
+pub fn migrate_and_close<'a, S: PageStore, T: PageStore>(
+    alloc: Global,
+    keys: RandomState,
+    old: &mut S,
+    new: T,
+) -> (T, Result<(), Fault<'a>>)
+    requires { (T.seen new).count ≡ 0 }
+    // The new store then holds the book that the other holds.
+    ensures holds { OnOk result.1 (IsTrue (S.seen old.old).is_faithful
+        → IsTrue (T.seen new).is_faithful
+        → (shape : ShapeView) (limits : LimitsView) (book : Book)
+        → HoldsOldBook (S.seen old.old) shape limits book
+        → HoldsBook (T.seen result.0) (present_shape shape) limits book) }
+
+    // It was a finished one of version 1, whose catalogue and chains of leaves are whole; one that
+    // holds a book is refused for memory, a store that failed, or a full one alone, and then the
+    // new one is not taken for a finished one, unless it failed in the closing.
+    ensures finished { OnOk result.1 (IsTrue (S.seen old.old).is_faithful
+        → old_first_fault (S.seen old.old).count (stored_payload (S.seen old.old) 0) ≡ None) }
+    ensures whole { OnOk result.1 (IsTrue (S.seen old.old).is_faithful
+        → IsTrue (T.seen new).is_faithful → WasWhole (S.seen old.old)) }
+    ensures left { IfErr result.1 (λ fault. IsTrue (S.seen old.old).is_faithful
+        → IsTrue (T.seen new).is_faithful
+        → (shape : ShapeView) (limits : LimitsView) (book : Book)
+        → HoldsOldBook (S.seen old.old) shape limits book
+        → IsNotOver (T.seen new) (T.seen result.0) fault) }
+    ensures caused { IfErr result.1 (IsOverFault (S.seen old.old) (S.seen old.new) (T.seen new)
+        (T.seen result.0)) }
+
+    // The store of version 1 stays as it is.
+    ensures stays { Stays (S.seen old.old) (S.seen old.new) }
+{
+    match Db::migrate(alloc, keys, old, new, CACHE_PAGES as usize) {
+        Ok(database) => {
+            let (store, closed) = database.close(alloc);
+            match closed {
+                Ok(()) => (store, Ok(())),
+                Err(fault) => (store, Err(Fault::Run(fault))),
+            }
+        }
+        Err((store, fault)) => (store, Err(Fault::Open(fault))),
+    }
+}

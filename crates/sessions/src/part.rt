@@ -1,0 +1,32 @@
+//! The part of a file that has the features of one of several parts.
+ghost use Rattle.std.specs.Prelude.{◌<◌, OnErr, OnOk};
+ghost use Rattle.sessions.specs.Parts.{SendsPart, SendsSome};
+
+use crate::answering::send_all;
+use crate::fault::Fault;
+use parts::part;
+use std::alloc::Global;
+use std::io::Write;
+use trajdb::RunFault;
+
+/// Sends part `k` of `n` of a file, of which these are the bytes; parts are numbered from 0. Where
+/// there is no memory for its text, `Memory`, and where that is not all sent, `Output`.
+pub fn send_part<'a, W: Write>(
+    alloc: Global,
+    k: u32,
+    n: u32,
+    bytes: &[u8],
+    out: &mut W,
+) -> Result<(), Fault<'a>>
+    requires { k < n }
+    // What was sent says exactly the records of the part, under their numbers in the whole, or the
+    // fault of the whole; where it is refused, what was sent is the front of such a text, or
+    // nothing.
+    ensures sends { OnOk result (SendsPart k n bytes.now (W.contents out.old) (W.contents out.new)) }
+    ensures cut { OnErr result (SendsSome k n bytes.now (W.contents out.old) (W.contents out.new)) }
+{
+    match part(alloc, u64::from(k), u64::from(n), bytes) {
+        Ok(text) => send_all(out, &text),
+        Err(_) => Err(Fault::Run(RunFault::Memory)),
+    }
+}

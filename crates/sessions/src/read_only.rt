@@ -1,0 +1,73 @@
+//! A store that cannot be written.
+ghost use Rattle.std.specs.Prelude.{◌≡◌, ◌≤◌, IsErr, OnErr, OnOk};
+ghost use Rattle.pages.specs.Store.{HasRisen, Faulted, Stays, Tears, Writes};
+
+use pages::{PageStore, StoreFault};
+
+/// A store over another one whose pages are read and never written: each `write` is refused, and
+/// none reaches the store below.
+///
+/// Each failure counts as a fault. It is faithful where the store below is.
+#[derive(Drop)]
+pub struct ReadOnly<S> {
+    store: S,
+    faults: u64,
+}
+
+impl<S: PageStore> ReadOnly<S> {
+    /// The store over that one, of which no call has failed.
+    pub fn new(store: S) -> ReadOnly<S>
+        ensures { ⟦<ReadOnly<S> as PageStore>⟧.seen result ≡ record (S.seen store) { faults = 0 } }
+    {
+        ReadOnly { store, faults: 0 }
+    }
+
+    /// Counts a fault.
+    fn failed(&mut self) -> StoreFault
+        ensures store { self.new.store ≡ self.old.store }
+        ensures cause { HasRisen self.old.faults self.new.faults }
+        ensures faults { self.old.faults ≤ self.new.faults }
+    {
+        self.faults = self.faults.saturating_add(1);
+        StoreFault
+    }
+}
+
+impl<S: PageStore> PageStore for ReadOnly<S> {
+    ghost use Rattle.pages.specs.Store.{Store, IsLawful};
+
+    ghost seen = { λ s. record (S.seen s.store) { faults = s.faults } };
+
+    ghost lawful = { λ s. let l = S.lawful s.store in
+        record { within = l.within; small = l.small; counted = l.counted } };
+
+    fn len(&self) -> u32 {
+        self.store.len()
+    }
+
+    fn most(&self) -> u32 {
+        self.store.most()
+    }
+
+    fn read(&mut self, number: u32, page: &mut [u8; 4096]) -> Result<(), StoreFault> {
+        match self.store.read(number, page) {
+            Ok(()) => Ok(()),
+            Err(_) => Err(self.failed()),
+        }
+    }
+
+    /// Refuses to write a page: no page changes.
+    fn write(&mut self, _number: u32, _page: &[u8; 4096]) -> Result<(), StoreFault>
+        ensures refused { IsErr result }
+        ensures stays { Stays (⟦<ReadOnly<S> as PageStore>⟧.seen self.old) (⟦<ReadOnly<S> as PageStore>⟧.seen self.new) }
+        ensures written { OnOk result (Writes _number _page.now (⟦<ReadOnly<S> as PageStore>⟧.seen self.old) (⟦<ReadOnly<S> as PageStore>⟧.seen self.new)) }
+        ensures torn { OnErr result (Tears _number (⟦<ReadOnly<S> as PageStore>⟧.seen self.old) (⟦<ReadOnly<S> as PageStore>⟧.seen self.new)) }
+        ensures cause { OnErr result (Faulted (⟦<ReadOnly<S> as PageStore>⟧.seen self.old) (⟦<ReadOnly<S> as PageStore>⟧.seen self.new)) }
+    {
+        Err(self.failed())
+    }
+
+    fn sync(&mut self) -> Result<(), StoreFault> {
+        Ok(())
+    }
+}

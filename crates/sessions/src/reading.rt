@@ -1,0 +1,36 @@
+//! Files of the system that are read whole.
+ghost use Rattle.std.specs.Prelude.{◌≤◌, IfOk, vec_len};
+
+use crate::fault::Fault;
+use std::fs::File;
+use std::io::Read;
+use std::{io, rt};
+use trajdb::RunFault;
+
+/// The most bytes that a script or a file may have.
+pub const MOST_BYTES: u64 = 1 << 30;
+
+/// The bytes of the file of that name, which has no more than so many: where it has more, or is not
+/// read, `CannotRead`, and where there is no memory for them `Memory`. A long one is read before it
+/// is refused.
+pub fn read_named<'a, R: rt::Files + AllocGlobal>(
+    rt: &R,
+    name: &'a str,
+    most: u64,
+) -> Result<Vec<u8>, Fault<'a>>
+    ensures { IfOk result (λ bytes. vec_len bytes ≤ most) }
+{
+    let fault = |error: io::Error| match error.kind() {
+        io::ErrorKind::OutOfMemory => Fault::Run(RunFault::Memory),
+        _ => Fault::CannotRead(name),
+    };
+    let file = File::open(rt, name).map_err(fault)?;
+    let mut bytes = Vec::new(rt.alloc());
+    file.take(most.saturating_add(1))
+        .read_to_end(&mut bytes)
+        .map_err(fault)?;
+    if bytes.len() as u64 > most {
+        return Err(Fault::CannotRead(name));
+    }
+    Ok(bytes)
+}

@@ -1,0 +1,139 @@
+//! A database over a store of any kind: it is made or opened, a script is run, and it is closed.
+ghost use Rattle.std.specs.Prelude.{◌≡◌, ◌<◌, false, Ok, Err, IfErr, IfOk, IsOk, IsTrue, OnErr, OnOk};
+ghost use Rattle.legs.specs.Costs.{ShapeView};
+ghost use Rattle.legs.specs.Limits.{limits_of, LimitsView};
+ghost use Rattle.legs.specs.Book.{Book, empty_book};
+ghost use Rattle.trajdb.specs.Script.{lines_of};
+ghost use Rattle.catalogue.specs.Holding.{HoldsBook};
+ghost use Rattle.trajdb.specs.Db.{HasPages, IsSound};
+ghost use Rattle.trajdb.specs.Lasting.{HasBook, IsIdle};
+ghost use Rattle.sessions.specs.Answers.{new_shape, Answers, SendsFront};
+
+use crate::fault::Fault;
+use legs::Limits;
+use pages::PageStore;
+use std::alloc::Global;
+use std::hash::RandomState;
+use std::io::Write;
+use tbtree::Shape;
+use trajdb::{Db, Files, OpenFault, RunFault};
+
+/// How many pages the cache of a database holds where no other number is given, of 4096 bytes each.
+pub const CACHE_PAGES: u32 = 256;
+
+/// The most legs of a database.
+const MOST_LEGS: u64 = 1 << 24;
+
+/// The most features of a database.
+const MOST_FEATURES: u32 = 1 << 20;
+
+/// How much a new database may hold.
+fn limits() -> Limits
+    ensures { result ≡ limits_of 16777216 1048576 }
+{
+    Limits::new(MOST_LEGS, MOST_FEATURES).unwrap()
+}
+
+/// The database of a store, or a new one over a store without pages that is to be made, for at most
+/// 16777216 legs and 1048576 features. Its cache holds at most that many pages, of 4096 bytes each;
+/// names are hashed with the keys, which a stranger who chooses the names of a file is not to know.
+///
+/// Where it is refused, the store is handed back, and why, as `Db::create` and `Db::open` say it.
+pub fn database<S: PageStore>(
+    alloc: Global,
+    keys: RandomState,
+    store: S,
+    is_new: bool,
+    cache_pages: u32,
+) -> Result<Db<S>, (S, OpenFault)>
+    requires { 0 < cache_pages }
+    ensures new { IfOk result (λ db. IsTrue is_new → IsTrue (S.seen store).is_faithful
+        → (S.seen store).count ≡ 0
+        → HasBook new_shape (limits_of 16777216 1048576) empty_book db) }
+    ensures kept { IfOk result (λ db. IsTrue (S.seen store).is_faithful
+        → (shape : ShapeView) (limits : LimitsView) (book : Book)
+        → HoldsBook (S.seen store) shape limits book → HasBook shape limits book db) }
+    ensures pages { IfOk result (λ db. IsTrue (S.seen store).is_faithful → HasPages db) }
+    ensures idle { IfOk result (λ db. IsTrue (S.seen store).is_faithful → IsIdle db) }
+    ensures lives { IfOk result (λ db. db.failed ≡ false) }
+{
+    if is_new && store.len() == 0 {
+        let shape = Shape::new(50, 72).unwrap();
+        return Db::create(alloc, keys, store, shape, cache_pages as usize, limits());
+    }
+    Db::open(alloc, keys, store, cache_pages as usize)
+}
+
+/// Runs the script over a database, closes it, and gives its store back. `script` and `files` are
+/// bytes as they were read; the answers go to `out`.
+///
+/// Where both the run and the closing are refused, why the run is.
+pub fn run_and_close<S: PageStore, W: Write>(
+    alloc: Global,
+    mut database: Db<S>,
+    script: &[u8],
+    files: &Files,
+    out: &mut W,
+) -> (S, Result<(), RunFault>)
+    // What was sent is exactly the text of the run over the book, and the store then holds the book
+    // after it, in a tree of the same shape.
+    ensures runs { OnOk result.1 (IsSound database → HasPages database → IsIdle database
+        → Answers database.index.tree.shape database.limits database.book files.now
+        (W.contents out.old) (W.contents out.new) (lines_of script.now) (S.seen result.0)) }
+
+    // Where it is refused, what was sent is the front of that text.
+    ensures sent { OnErr result.1 (IsSound database → database.failed ≡ false
+        → SendsFront database.limits database.book files.now (W.contents out.old)
+        (W.contents out.new) (lines_of script.now)) }
+{
+    let ran = database.run(alloc, script, files, out);
+    let (store, closed) = database.close(alloc);
+    match ran {
+        Ok(()) => (store, closed),
+        Err(fault) => (store, Err(fault)),
+    }
+}
+
+/// What a run answers, as an answer of the program.
+fn answer_of<'a>(ran: Result<(), RunFault>) -> Result<(), Fault<'a>>
+    ensures ok { OnOk result (ran ≡ Ok tt) }
+    ensures err { IfErr result (λ fault. (why : RunFault) × (ran ≡ Err why)
+        × (fault ≡ Fault.Run why)) }
+{
+    match ran {
+        Ok(()) => Ok(()),
+        Err(fault) => Err(Fault::Run(fault)),
+    }
+}
+
+/// Runs the script over the database of a store, closes it, and gives the store back, as
+/// `run_and_close` does (`Run`). Where there is no database it is refused as that was (`Open`).
+pub fn answer<'a, S: PageStore, W: Write>(
+    alloc: Global,
+    database: Result<Db<S>, (S, OpenFault)>,
+    script: &[u8],
+    files: &Files,
+    out: &mut W,
+) -> (S, Result<(), Fault<'a>>)
+    // What was sent is exactly the text of the run over the book, and the store then holds the book
+    // after it, in a tree of the same shape.
+    ensures runs { OnOk result.1 (IfOk database (λ db. IsSound db → HasPages db → IsIdle db
+        → Answers db.index.tree.shape db.limits db.book files.now (W.contents out.old)
+        (W.contents out.new) (lines_of script.now) (S.seen result.0))) }
+    ensures opened { OnOk result.1 (IsOk database) }
+
+    // Where it is refused, what was sent is the front of that text, and nothing where there is no
+    // database.
+    ensures sent { OnErr result.1 (IfOk database (λ db. IsSound db → db.failed ≡ false
+        → SendsFront db.limits db.book files.now (W.contents out.old) (W.contents out.new)
+        (lines_of script.now))) }
+    ensures unsent { OnErr database (W.contents out.new ≡ W.contents out.old) }
+{
+    match database {
+        Ok(database) => {
+            let (store, result) = run_and_close(alloc, database, script, files, out);
+            (store, answer_of(result))
+        }
+        Err((store, fault)) => (store, Err(Fault::Open(fault))),
+    }
+}
