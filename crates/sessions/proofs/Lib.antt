@@ -1,3 +1,4 @@
 pub mod AnswerLemmas
 pub mod FolderLemmas
+mod LeftLemmas
 pub mod PutLemmas

@@ -1,19 +1,21 @@
 -- What a run of the program sends, and what its store then holds.
-use Rattle.std.specs.Prelude.{ℕ, ◌≡◌, List, length, take, Option}
+use Rattle.std.specs.Prelude.{ℕ, ◌≡◌, ◌≢◌, ◌⊎◌, ◌<◌, ◌-◌, [], List, length, take, slice_index_or, Option}
 use Rattle.std.specs.Io.KnownBytes.{Appends}
 use Rattle.legs.specs.Book.{Book}
 use Rattle.legs.specs.Costs.{ShapeView}
 use Rattle.legs.specs.Limits.{LimitsView}
 use Rattle.pages.specs.Store.{Store, Faulted}
 use Rattle.boxsearch.specs.Index.{IndexView}
-use Rattle.catalogue.specs.Holding.{HoldsBook}
+use Rattle.catalogue.specs.Holding.{HoldsBook, IsUnfinishedStore}
 use Rattle.catalogue.specs.Beginning.{IsLeftOver}
 use Rattle.version1.specs.Migrating.{IsBrought}
 use Rattle.catalogue.specs.Saved.{CatalogueView}
 use Rattle.migration.specs.Bringing.{IsMigratingFault}
-use Rattle.trajdb.specs.Run.{HasRun, IsPrefixOf, IsRunText}
+use Rattle.trajdb.specs.Calls.{LoadsBy}
+use Rattle.trajdb.specs.Run.{run_book, HasRun, IsPrefixOf, IsRunText}
 use Rattle.trajdb.specs.declared.OpenFault.TheVariants as opening
 use Rattle.trajdb.specs.declared.Report.{Report}
+use Rattle.trajdb.specs.declared.RunFault.{RunFault}
 use Rattle.trajdb.specs.declared.RunFault.TheVariants as run
 use Rattle.sessions.specs.declared.fault.Fault.{Fault}
 use Rattle.sessions.specs.declared.fault.Fault.TheVariants.{Run, Open, CannotRead, CannotWrite, NotEmpty, NoPart, InUse, NoStore, NoSuchStore, Bounds}
@@ -37,6 +39,28 @@ pub record SendsFront (limits : LimitsView) (book : Book) (files : List (List �
   pub text : List ℕ
   pub answers : IsRunText limits files book (take done lines) text
   pub is_front : IsPrefixOf front text
+
+-- a store holds a book, or is one that is not finished, or has failed
+abbrev pub IsLeftWith : ShapeView → LimitsView → Book → Store → Store → Type 0
+IsLeftWith shape limits book old new = HoldsBook new shape limits book ⊎ (IsUnfinishedStore new ⊎ Faulted old new)
+
+-- line k + 1 is there, and is a `load` of a file that is there
+abbrev pub IsAtLoad : List (List ℕ × List ℕ) → List (List ℕ) → ℕ → Type 0
+IsAtLoad files lines k = (k < length lines) × LoadsBy files (slice_index_or lines k [])
+
+-- what a run leaves that was not brought to its end: the answers to some first lines were sent, all of them, or where
+-- the output failed a front that has all but the last one; and the store is left with the book after these lines, or
+-- the next line is a `load` of a file, which failed
+pub record LeavesStore (shape : ShapeView) (limits : LimitsView) (book : Book) (files : List (List ℕ × List ℕ)) (sent sent' : Option (List ℕ)) (lines : List (List ℕ)) (fault : RunFault) (old new : Store) : Type 0 where
+  pub done : ℕ
+  pub text : List ℕ
+  pub answers : IsRunText limits files book (take done lines) text
+  pub front : List ℕ
+  pub sends : Appends sent sent' front
+  pub is_front : IsPrefixOf front text
+  pub all : fault ≢ run.Output → front ≡ text
+  pub cut : fault ≡ run.Output → (before : List ℕ) × IsRunText limits files book (take (done - 1) lines) before × IsPrefixOf before front
+  pub left : IsLeftWith shape limits (run_book limits files book (take done lines)) old new ⊎ ((fault ≢ run.Output) × IsAtLoad files lines done)
 
 -- the store holds the book, in a tree of that shape; the report says how many pages the store has, and how many legs and
 -- features the book

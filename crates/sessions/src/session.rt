@@ -7,7 +7,7 @@ ghost use Rattle.trajdb.specs.Script.{lines_of};
 ghost use Rattle.catalogue.specs.Holding.{HoldsBook};
 ghost use Rattle.trajdb.specs.Db.{HasPages, IsSound};
 ghost use Rattle.trajdb.specs.Lasting.{HasBook, IsIdle};
-ghost use Rattle.sessions.specs.Answers.{new_shape, Answers, SendsFront};
+ghost use Rattle.sessions.specs.Answers.{new_shape, Answers, LeavesStore, SendsFront};
 
 use crate::fault::Fault;
 use legs::Limits;
@@ -85,6 +85,13 @@ pub fn run_and_close<S: PageStore, W: Write>(
     ensures sent { OnErr result.1 (IsSound database → database.failed ≡ false
         → SendsFront database.limits database.book files.now (W.contents out.old)
         (W.contents out.new) (lines_of script.now)) }
+
+    // The store is then left with the book after the lines that were done, or it is one that is not
+    // finished, or has failed; unless it is the load of a file that failed.
+    ensures left { IfErr result.1 (λ fault. IsSound database → HasPages database → IsIdle database
+        → database.failed ≡ false → LeavesStore database.index.tree.shape database.limits
+        database.book files.now (W.contents out.old) (W.contents out.new) (lines_of script.now) fault
+        database.index.cache.store (S.seen result.0)) }
 {
     let ran = database.run(alloc, script, files, out);
     let (store, closed) = database.close(alloc);

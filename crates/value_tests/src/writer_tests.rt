@@ -1,7 +1,7 @@
 use fixedpoint::Coord;
 use legs::{BookHead, Leg};
 use mfcsv::{Column, Columns, Dimension, Position, Text, Values};
-use rows::Rows;
+use rows::{Row, Rows};
 use std::alloc::Global;
 use std::test::Fail;
 use timebase::Ms;
@@ -81,6 +81,10 @@ fn a_record_counts_from_the_base(rt: HostRuntime) -> Result<(), Fail> {
     Ok(())
 }
 
+fn entry<'a>(name: &'a str, leg: &'a Leg, values: Row<'a>) -> Entry<'a> {
+    Entry { name, leg, values }
+}
+
 #[test]
 fn a_file_is_bounded_by_all_legs(rt: HostRuntime) -> Result<(), Fail> {
     let alloc = rt.alloc();
@@ -97,18 +101,9 @@ fn a_file_is_bounded_by_all_legs(rt: HostRuntime) -> Result<(), Fail> {
     let mut rows = Rows::new(alloc);
     push(alloc, &mut rows, "walking", 1)?;
     push(alloc, &mut rows, "on, foot", 0)?;
-    let entries = [
-        Entry {
-            name: "a",
-            leg: &long,
-            values: rows.row(0).ok_or("a row")?,
-        },
-        Entry {
-            name: "b",
-            leg: &short,
-            values: rows.row(1).ok_or("a row")?,
-        },
-    ];
+    let walking = entry("a", &long, rows.row(0).ok_or("a row")?);
+    let on_foot = entry("b", &short, rows.row(1).ok_or("a row")?);
+    let entries = [walking, on_foot];
     let mut out = Vec::new(alloc);
     push_file(alloc, &mut out, &head, &entries)?;
     let wanted =
