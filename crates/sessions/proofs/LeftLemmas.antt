@@ -51,8 +51,7 @@ module _ (old new : DbView) (s : Store) (files : List (List ℕ × List ℕ)) (s
     (only : IfErr closed (λ e. IsSound new → new.failed ≡ false → IsLoadFault e))
     (unfinished : IfErr closed (λ e. IsFaultless e → IsSound new → HasPages new → new.failed ≡ false → IsUnfinishedStore s))
     (caused : IfErr closed (IsClosingFault new s)) where
-
-  Leaves : RunFault → Type 0
+  abbrev Leaves : RunFault → Type 0
   Leaves e = LeavesStore old.index.tree.shape old.limits old.book files sent sent' lines e old.index.cache.store s
 
   -- it was closed with the book after some lines
@@ -91,16 +90,16 @@ module _ (old new : DbView) (s : Store) (files : List (List ℕ × List ℕ)) (s
   stopped_at : (e : RunFault) → IsInside e → (new.failed ≡ false → IsSound old → IsSound new) → (k : ℕ) → HasStopped old.limits files sent sent' old.book new.book new.failed lines k
       → IsSound old → HasPages old → IsIdle old → Leaves e
   stopped_at e inside kept k st was pages rests = record {
-        done = k;
-        text = st.text;
-        answers = st.answers;
-        front = st.text;
-        sends = st.sends;
-        is_front = ([], sym (append-nil st.text));
-        all = λ n. refl;
-        cut = λ o. absurd (inside_not e inside o);
-        left = by_state new.failed refl;
-      } where
+    done = k;
+    text = st.text;
+    answers = st.answers;
+    front = st.text;
+    sends = st.sends;
+    is_front = ([], sym (append-nil st.text));
+    all = λ n. refl;
+    cut = λ o. absurd (inside_not e inside o);
+    left = by_state new.failed refl;
+  } where
     by_state : (b : Bool) → new.failed ≡ b → IsLeftWith old.index.tree.shape old.limits (run_book old.limits files old.book (take k lines)) old.index.cache.store s ⊎ ((e ≢ run.Output) × IsAtLoad files lines k)
     by_state true is = inr (inside_not e inside, (st.within, st.loads is))
     by_state false is = inl (left k is was (kept is was) pages rests (st.book is))
@@ -108,16 +107,16 @@ module _ (old new : DbView) (s : Store) (files : List (List ℕ × List ℕ)) (s
   -- its output failed
   cut_at : (k : ℕ) → HasCutRun old.limits files sent sent' old.book new.book lines k → new.failed ≡ false → IsSound new → IsSound old → HasPages old → IsIdle old → Leaves run.Output
   cut_at k c lives sound was pages rests = record {
-        done = k;
-        text = c.all;
-        answers = c.answers;
-        front = c.written;
-        sends = c.sends;
-        is_front = c.prefix;
-        all = λ n. absurd (n refl);
-        cut = λ o. (c.before, c.earlier, c.whole);
-        left = inl (left k lives was sound pages rests c.book);
-      }
+    done = k;
+    text = c.all;
+    answers = c.answers;
+    front = c.written;
+    sends = c.sends;
+    is_front = c.prefix;
+    all = λ n. absurd (n refl);
+    cut = λ o. (c.before, c.earlier, c.whole);
+    left = inl (left k lives was sound pages rests c.book);
+  }
 
   pub after : (e : RunFault) → (IsErrOf {T = Unit {0}} {E = RunFault} (Err e) run.Output → IsSound old → IsCut files sent sent' old new lines)
       → (IsErrOf {T = Unit {0}} {E = RunFault} (Err e) run.Output → IsSound old → IsSound new) → (IsErrOf {T = Unit {0}} {E = RunFault} (Err e) run.Output → new.failed ≡ false)
@@ -129,3 +128,9 @@ module _ (old new : DbView) (s : Store) (files : List (List ℕ × List ℕ)) (s
   after run.StoreFull cut sound lives stops kept was pages rests lived = let st = stops tt lived was in stopped_at run.StoreFull tt (kept tt) st.0 st.1 was pages rests
   after run.Failed cut sound lives stops kept was pages rests lived = let st = stops tt lived was in stopped_at run.Failed tt (kept tt) st.0 st.1 was pages rests
   after run.Output cut sound lives stops kept was pages rests lived = let c = cut refl was in cut_at c.0 c.1 (lives refl) (sound refl was) was pages rests
+
+-- what is said of a refusal is said of another one that is given only where it is
+pub left_by : {F : Type 0} (P : RunFault → Type 0) (r : Result (Unit {0}) F) (s : Result (Unit {0}) RunFault) (wrap : RunFault → F) → IfErr r (λ fault. (why : RunFault) × (s ≡ Err why) × (fault ≡ wrap why)) → IfErr s P
+    → IfErr r (λ fault. (why : RunFault) × (fault ≡ wrap why) × P why)
+left_by P (Ok x) s wrap is h = tt
+left_by P (Err e) s wrap (why, is, same) h = (why, same, err_of P s why is h)

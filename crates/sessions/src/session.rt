@@ -134,6 +134,12 @@ pub fn answer<'a, S: PageStore, W: Write>(
     ensures sent { OnErr result.1 (IfOk database (λ db. IsSound db → db.failed ≡ false
         → SendsFront db.limits db.book files.now (W.contents out.old) (W.contents out.new)
         (lines_of script.now))) }
+
+    // The store is then left as the run leaves it, and the fault is the run's own.
+    ensures left { IfOk database (λ db. IfErr result.1 (λ fault. (why : RunFault)
+        × (fault ≡ Fault.Run why) × (IsSound db → HasPages db → IsIdle db → db.failed ≡ false
+        → LeavesStore db.index.tree.shape db.limits db.book files.now (W.contents out.old)
+        (W.contents out.new) (lines_of script.now) why db.index.cache.store (S.seen result.0)))) }
     ensures unsent { OnErr database (W.contents out.new ≡ W.contents out.old) }
 {
     match database {

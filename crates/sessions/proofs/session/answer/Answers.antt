@@ -1,11 +1,13 @@
 use Rattle.std.proofs.Common.{◌≡◌, false, sym, subst}
-use Rattle.std.specs.Prelude.{IfOk, OnErr, OnOk}
+use Rattle.std.specs.Prelude.{IfErr, IfOk, OnErr, OnOk}
 use Rattle.trajdb.specs.Db.{DbView, HasPages, IsSound}
 use Rattle.trajdb.specs.Lasting.{IsIdle}
 use Rattle.trajdb.specs.Script.{lines_of}
-use Rattle.sessions.specs.Answers.{Answers, SendsFront}
+use Rattle.trajdb.specs.declared.RunFault.{RunFault}
+use Rattle.sessions.specs.Answers.{Answers, LeavesStore, SendsFront}
 use Rattle.sessions.specs.declared.fault.Fault.TheVariants.{Run}
 use Rattle.sessions.proofs.AnswerLemmas.{given, refused_by}
+use Rattle.sessions.proofs.LeftLemmas.{left_by}
 use Rattle.sessions.proofs.session.answer.Goals as goal
 
 pub returns-in-Ok-clause-runs : goal.returns-in-Ok-clause-runs
@@ -24,3 +26,14 @@ returns-in-Ok-clause-sent g c =
     subst (λ k. OnErr c.answer_of.result (IfOk k (λ (d : DbView). IsSound d → d.failed ≡ false → SendsFront d.limits d.book c.args.files.now sent sent' (lines_of c.args.script.now)))) (sym c.in-Ok.is)
     (refused_by (IsSound db → db.failed ≡ false → SendsFront db.limits db.book c.args.files.now sent sent' (lines_of c.args.script.now))
     c.answer_of.result c.run_and_close-store.result.1 Run c.answer_of.ensures.err c.run_and_close-store.ensures.sent)
+
+pub returns-in-Ok-clause-left : goal.returns-in-Ok-clause-left
+returns-in-Ok-clause-left g c =
+    let db = c.in-Ok.database in
+    let s = g.S.PageStore.seen c.run_and_close-store.result.0 in
+    let sent = g.W.Write.contents c.args.out.now in
+    let sent' = g.W.Write.contents c.run_and_close-store.new.out in
+    let lines = lines_of c.args.script.now in
+    subst (λ k. IfOk k (λ (d : DbView). IfErr c.answer_of.result (λ fault. (why : RunFault) × (fault ≡ Run why) × (IsSound d → HasPages d → IsIdle d → d.failed ≡ false → LeavesStore d.index.tree.shape d.limits d.book c.args.files.now sent sent' lines why d.index.cache.store s)))) (sym c.in-Ok.is)
+    (left_by (λ why. IsSound db → HasPages db → IsIdle db → db.failed ≡ false → LeavesStore db.index.tree.shape db.limits db.book c.args.files.now sent sent' lines why db.index.cache.store s)
+    c.answer_of.result c.run_and_close-store.result.1 Run c.answer_of.ensures.err c.run_and_close-store.ensures.left)
