@@ -2,9 +2,10 @@
 use boxsearch::TreeIndex;
 use catalogue::{Catalogue, CatalogueFault, begin, close, open, rest, save};
 use legs::{BookHead, LegIndex, Limits, Tracks, join};
-use mfcsv::{Values, read_file};
+use mfcsv::read_file;
 use pagecache::{CacheFault, PageCache};
 use pages::{Fuse, MemStore, PageStore};
+use rows::Rows;
 use std::alloc::Global;
 use std::fmt::Write;
 use std::hash::RandomState;
@@ -62,9 +63,9 @@ fn example(
     let legs = join(alloc, None, &tracks, &limits, &file).ok()?;
     index.add_all(legs.as_slice()).ok()?;
     tracks.accept(&file, legs.as_slice()).ok()?;
-    let mut rows = Vec::new(alloc);
+    let mut rows = Rows::new(alloc);
     for entry in file.records.into_vec() {
-        rows.push(entry.attributes).ok()?;
+        rows.push(&entry.attributes).ok()?;
     }
     let catalogue = Catalogue {
         head: Some(BookHead::from(file.head)),

@@ -7,31 +7,37 @@ const FORTY: &str = "0000000000000000000000000000000000000001";
 /// One digit more.
 const FORTY_ONE: &str = "00000000000000000000000000000000000000001";
 
+/// Texts, and their units of 10^-7.
+const COORDINATES: [(&str, i64); 11] = [
+    ("1.", 10_000_000),
+    (".5", 5_000_000),
+    ("+5", 50_000_000),
+    ("-0", 0),
+    ("1.00000005", 10_000_001),
+    ("-1.00000005", -10_000_001),
+    ("1.00000004999", 10_000_000),
+    ("-0.00000005", -1),
+    (FORTY, 10_000_000),
+    ("100000000.00000004", 1_000_000_000_000_000),
+    ("-100000000.00000004", -1_000_000_000_000_000),
+];
+
 #[test]
 fn coordinates_read_to_the_nearest_unit(rt: HostRuntime) -> Result<(), Fail> {
-    for (text, units) in [
-        ("1.", 10_000_000),
-        (".5", 5_000_000),
-        ("+5", 50_000_000),
-        ("-0", 0),
-        ("1.00000005", 10_000_001),
-        ("-1.00000005", -10_000_001),
-        ("1.00000004999", 10_000_000),
-        ("-0.00000005", -1),
-        (FORTY, 10_000_000),
-        ("100000000.00000004", 1_000_000_000_000_000),
-        ("-100000000.00000004", -1_000_000_000_000_000),
-    ] {
-        assert_eq!(rt; read_coord(text).map(Coord::units), Ok(units), "at {text}");
+    for (text, units) in &COORDINATES {
+        assert_eq!(rt; read_coord(text).map(Coord::units), Ok(*units), "at {text}");
     }
     Ok(())
 }
 
+/// Texts that are no numbers.
+const NO_NUMBERS: [&str; 11] = [
+    "", ".", "+", "-.", "1e3", "1.2.3", "--1", "1 ", "0x1", "\u{663}", FORTY_ONE,
+];
+
 #[test]
 fn texts_that_are_no_numbers_are_refused(rt: HostRuntime) -> Result<(), Fail> {
-    for text in [
-        "", ".", "+", "-.", "1e3", "1.2.3", "--1", "1 ", "0x1", "\u{663}", FORTY_ONE,
-    ] {
+    for text in &NO_NUMBERS {
         assert_eq!(rt; read_coord(text), Err(NumberFault::Shape), "at {text}");
         assert_eq!(rt; read_offset(text), Err(NumberFault::Shape), "at {text}");
     }
@@ -59,42 +65,52 @@ fn numbers_past_the_greatest_are_refused(rt: HostRuntime) -> Result<(), Fail> {
     Ok(())
 }
 
+/// Texts, and their milliseconds.
+const OFFSETS: [(&str, i64); 6] = [
+    ("10", 10_000),
+    ("0.0005", 1),
+    ("-0.0005", -1),
+    ("0.00049", 0),
+    ("1000000000000", 1_000_000_000_000_000),
+    ("-1000000000000.0004", -1_000_000_000_000_000),
+];
+
 #[test]
 fn offsets_read_to_the_nearest_millisecond(rt: HostRuntime) -> Result<(), Fail> {
-    for (text, millis) in [
-        ("10", 10_000),
-        ("0.0005", 1),
-        ("-0.0005", -1),
-        ("0.00049", 0),
-        ("1000000000000", 1_000_000_000_000_000),
-        ("-1000000000000.0004", -1_000_000_000_000_000),
-    ] {
+    for (text, millis) in &OFFSETS {
         assert_eq!(rt;
             read_offset(text).map(Offset::millis),
-            Ok(millis),
+            Ok(*millis),
             "at {text}"
         );
     }
     Ok(())
 }
 
+/// Texts of minutes, and their milliseconds.
+const MINUTES: [(&str, Result<i64, NumberFault>); 12] = [
+    ("0.5", Ok(30_000)),
+    ("0.000025", Ok(2)),
+    ("-0.000025", Ok(-2)),
+    ("0.00000833", Ok(0)),
+    ("0.00000834", Ok(1)),
+    ("0.00000833333333333333333333333333333333", Ok(0)),
+    ("-.99999999999999999999999999999999999999", Ok(-60_000)),
+    ("16666666666.66667", Ok(1_000_000_000_000_000)),
+    ("16666666666.666675", Err(NumberFault::Range)),
+    ("16666666667", Err(NumberFault::Range)),
+    ("1m", Err(NumberFault::Shape)),
+    (".", Err(NumberFault::Shape)),
+];
+
 #[test]
 fn minutes_read_to_the_nearest_millisecond(rt: HostRuntime) -> Result<(), Fail> {
-    for (text, millis) in [
-        ("0.5", Ok(30_000)),
-        ("0.000025", Ok(2)),
-        ("-0.000025", Ok(-2)),
-        ("0.00000833", Ok(0)),
-        ("0.00000834", Ok(1)),
-        ("0.00000833333333333333333333333333333333", Ok(0)),
-        ("-.99999999999999999999999999999999999999", Ok(-60_000)),
-        ("16666666666.66667", Ok(1_000_000_000_000_000)),
-        ("16666666666.666675", Err(NumberFault::Range)),
-        ("16666666667", Err(NumberFault::Range)),
-        ("1m", Err(NumberFault::Shape)),
-        (".", Err(NumberFault::Shape)),
-    ] {
-        assert_eq!(rt; read_minutes(text).map(Offset::millis), millis, "at {text}");
+    for (text, millis) in &MINUTES {
+        assert_eq!(rt;
+            read_minutes(text).map(Offset::millis),
+            *millis,
+            "at {text}"
+        );
     }
     Ok(())
 }
@@ -113,18 +129,21 @@ fn only_numbers_of_units_in_range_are_kept(rt: HostRuntime) -> Result<(), Fail> 
     Ok(())
 }
 
+/// Texts of coordinates, and what is printed of them.
+const PRINTED_COORDINATES: [(&str, &str); 8] = [
+    ("1.00000005", "1.0000001"),
+    ("-1.00000005", "-1.0000001"),
+    ("-0", "0"),
+    ("+0.50", "0.5"),
+    ("-.25", "-0.25"),
+    ("0012", "12"),
+    ("100000000.00000004", "100000000"),
+    ("-99999999.9999999", "-99999999.9999999"),
+];
+
 #[test]
 fn coordinates_print_the_shortest_exact_text(rt: HostRuntime) -> Result<(), Fail> {
-    for (read, printed) in [
-        ("1.00000005", "1.0000001"),
-        ("-1.00000005", "-1.0000001"),
-        ("-0", "0"),
-        ("+0.50", "0.5"),
-        ("-.25", "-0.25"),
-        ("0012", "12"),
-        ("100000000.00000004", "100000000"),
-        ("-99999999.9999999", "-99999999.9999999"),
-    ] {
+    for (read, printed) in &PRINTED_COORDINATES {
         let coord = read_coord(read)?;
         let mut out = Vec::new(rt.alloc());
         if push_coord(&mut out, coord).is_err() {
@@ -135,17 +154,20 @@ fn coordinates_print_the_shortest_exact_text(rt: HostRuntime) -> Result<(), Fail
     Ok(())
 }
 
+/// Milliseconds, and what is printed of them.
+const PRINTED_OFFSETS: [(i64, &str); 5] = [
+    (0, "0"),
+    (1, "0.001"),
+    (-1500, "-1.5"),
+    (60_000, "60"),
+    (999_999_999_999_999, "999999999999.999"),
+];
+
 #[test]
 fn offsets_print_in_seconds(rt: HostRuntime) -> Result<(), Fail> {
-    for (millis, printed) in [
-        (0, "0"),
-        (1, "0.001"),
-        (-1500, "-1.5"),
-        (60_000, "60"),
-        (999_999_999_999_999, "999999999999.999"),
-    ] {
+    for (millis, printed) in &PRINTED_OFFSETS {
         let mut out = Vec::new(rt.alloc());
-        let offset = Offset::new(millis).ok_or("in range")?;
+        let offset = Offset::new(*millis).ok_or("in range")?;
         if push_offset(&mut out, offset).is_err() {
             push_offset(&mut out, offset)?;
         }

@@ -17,32 +17,35 @@ fn said(alloc: Global, line: &[u8]) -> Result<String, Fail> {
     })
 }
 
+/// Lines, and what they are read as.
+const COMMANDS: [(&str, &str); 11] = [
+    ("", "none"),
+    (" \t ", "none"),
+    (" # load x", "none"),
+    ("load a.csv", "load<a.csv>"),
+    ("\tload  two  words \t", "load<two  words>"),
+    ("trajectory a, b", "trajectory<a, b>"),
+    (" count ", "count"),
+    ("write", "write"),
+    (
+        "box 0 0 1 1 2020-01-01T00:00:00Z 2020-01-01T00:00:01Z",
+        "box",
+    ),
+    (
+        "legs ever 0 0 1 1 2020-01-01T00:00:00Z 2020-01-01T00:00:01Z",
+        "legs",
+    ),
+    (
+        "features bypasses 0 0 1 1 2020-01-01T00:00:00Z 2020-01-01T00:00:01Z",
+        "features",
+    ),
+];
+
 #[test]
 fn commands_are_read(rt: HostRuntime) -> Result<(), Fail> {
-    for (line, want) in [
-        ("", "none"),
-        (" \t ", "none"),
-        (" # load x", "none"),
-        ("load a.csv", "load<a.csv>"),
-        ("\tload  two  words \t", "load<two  words>"),
-        ("trajectory a, b", "trajectory<a, b>"),
-        (" count ", "count"),
-        ("write", "write"),
-        (
-            "box 0 0 1 1 2020-01-01T00:00:00Z 2020-01-01T00:00:01Z",
-            "box",
-        ),
-        (
-            "legs ever 0 0 1 1 2020-01-01T00:00:00Z 2020-01-01T00:00:01Z",
-            "legs",
-        ),
-        (
-            "features bypasses 0 0 1 1 2020-01-01T00:00:00Z 2020-01-01T00:00:01Z",
-            "features",
-        ),
-    ] {
+    for (line, want) in &COMMANDS {
         let got = said(rt.alloc(), line.as_bytes())?;
-        assert_eq!(rt; got.as_str(), want, "at {line}");
+        assert_eq!(rt; got.as_str(), *want, "at {line}");
     }
     Ok(())
 }
