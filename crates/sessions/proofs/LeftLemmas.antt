@@ -1,136 +1,154 @@
--- What a run leaves in its store that was not brought to its end.
-use Rattle.std.proofs.lemmas.Int.{clamps}
-use Rattle.std.proofs.Common.{arith, ℕ, ◌≡◌, ◌≢◌, ◌≤◌, ◌⊎◌, ◌∙◌, refl, sym, inl, inr, [], append-nil, length, take, true, false, Bool, List, Option, Result, Ok, Err, subst}
+-- What a run and its closing leave, whatever they answer.
+use Rattle.std.proofs.Common.{arith, ℕ, ◌≡◌, ◌≢◌, ◌⊎◌, ◌∙◌, refl, sym, inl, inr, [], append-nil, length, take, true, false, Bool, List, Option, Result, Ok, Err, subst}
 use Rattle.std.proofs.lemmas.List.{take_all}
-use Rattle.std.specs.Prelude.{IfErr, IsErrOf, OnOk}
-use Rattle.pages.specs.Store.{Faulted, Store}
+use Rattle.std.specs.Prelude.{IfErr, IfOk, IsErrOf, OnErr, OnOk}
+use Rattle.pages.specs.Store.{Store}
 use Rattle.boxsearch.specs.Index.{words}
 use Rattle.catalogue.specs.Holding.{HoldsBook, IsUnfinishedStore}
-use Rattle.trajdb.specs.Calls.{IsLoadFault, KeepsPages}
+use Rattle.trajdb.specs.Calls.{BeginsOnly, IsLoadFault, KeepsPages}
 use Rattle.trajdb.specs.Db.{DbView, HasPages, IsSound}
-use Rattle.trajdb.specs.Lasting.{IsClosingFault, IsFaultless, IsIdle}
+use Rattle.trajdb.specs.Lasting.{IsFaultless, IsIdle}
 use Rattle.trajdb.specs.Faults.{IsInside}
-use Rattle.trajdb.specs.Run.{HasCutRun, HasStopped, IsCut, IsRunText, Runs, Stops, run_book}
+use Rattle.trajdb.specs.Run.{run_book, AcceptsSome, HasCutRun, HasRun, HasStopped, IsCut, IsRunText, Runs, Stops}
 use Rattle.trajdb.specs.declared.RunFault.{RunFault}
 use Rattle.trajdb.specs.declared.RunFault.TheVariants as run
-use Rattle.sessions.specs.Answers.{IsAtLoad, IsLeftWith, LeavesStore}
-use Rattle.sessions.proofs.AnswerLemmas.{err_of, the_same}
+use Rattle.sessions.specs.Answers.{said, Answers, ClosesWith, Ends, FailsToLoad, SendsFront}
+use Rattle.sessions.specs.declared.fault.Fault.{Fault}
+use Rattle.sessions.proofs.AnswerLemmas.{answered, front_done, front_sent, the_same}
 
--- a fault inside is none of the output, and so is one of a load
+-- a fault inside is none of the output
 inside_not : (e : RunFault) → IsInside e → e ≡ run.Output → ⊥
 inside_not e h o = subst IsInside o h
 
-load_not : (e : RunFault) → IsLoadFault e → e ≡ run.Output → ⊥
-load_not e h o = subst IsLoadFault o h
-
--- what is said of each refusal
-if_err : {T E : Type 0} (P : E → Type 0) (r : Result T E) → ((e : E) → r ≡ Err e → P e) → IfErr r P
-if_err P (Ok x) f = tt
-if_err P (Err e) f = f e refl
-
--- a database, whose store is not older than another one, was closed
-module _ (db : DbView) (old s : Store) (later : old.faults ≤ db.index.cache.store.faults) where
-  refused : (e : RunFault) → IsLoadFault e → (IsFaultless e → IsUnfinishedStore s) → IsClosingFault db s e → IsUnfinishedStore s ⊎ Faulted old s
-  refused run.Memory a u c = inl (u tt)
-  refused run.Store a u c = inr (omega (arith, clamps, later, c))
-  refused (run.Damaged page) a u c = absurd a
-  refused run.StoreFull a u c = inl (u tt)
-  refused run.Failed a u c = absurd a
-  refused run.Output a u c = absurd a
-
-  pub closed_with : (closed : Result (Unit {0}) RunFault) → OnOk closed (IsSound db → HasPages db → IsIdle db → HoldsBook s db.index.tree.shape db.limits db.book)
-      → IfErr closed (λ e. IsSound db → db.failed ≡ false → IsLoadFault e) → IfErr closed (λ e. IsFaultless e → IsSound db → HasPages db → db.failed ≡ false → IsUnfinishedStore s) → IfErr closed (IsClosingFault db s)
-      → db.failed ≡ false → IsSound db → HasPages db → IsIdle db → IsLeftWith db.index.tree.shape db.limits db.book old s
-  closed_with (Ok x) holds only unfinished caused lives sound pages idle = inl (holds sound pages idle)
-  closed_with (Err e) holds only unfinished caused lives sound pages idle = inr (refused e (only sound lives) (λ f. unfinished f sound pages lives) caused)
-
--- a run over a database was refused, or its closing then
+-- a run over a database, and its closing
 module _ (old new : DbView) (s : Store) (files : List (List ℕ × List ℕ)) (sent sent' : Option (List ℕ)) (lines : List (List ℕ)) (closed : Result (Unit {0}) RunFault)
-    (keeps : KeepsPages words old new) (idle : IsIdle old → IsIdle new) (limits : new.limits ≡ old.limits) (plan : words.plan new.index ≡ words.plan old.index) (later : old.index.cache.store.faults ≤ new.index.cache.store.faults)
+    (keeps : KeepsPages words old new) (idle : IsIdle old → IsIdle new) (limits : new.limits ≡ old.limits) (plan : words.plan new.index ≡ words.plan old.index) (begins : BeginsOnly words old new (AcceptsSome old.limits files old.book lines))
     (holds : OnOk closed (IsSound new → HasPages new → IsIdle new → HoldsBook s new.index.tree.shape new.limits new.book))
     (only : IfErr closed (λ e. IsSound new → new.failed ≡ false → IsLoadFault e))
     (unfinished : IfErr closed (λ e. IsFaultless e → IsSound new → HasPages new → new.failed ≡ false → IsUnfinishedStore s))
-    (caused : IfErr closed (IsClosingFault new s)) where
-  abbrev Leaves : RunFault → Type 0
-  Leaves e = LeavesStore old.index.tree.shape old.limits old.book files sent sent' lines e old.index.cache.store s
+    (rests : new.failed ≡ false → new.begun ≡ false → closed ≡ Ok tt) (fails : new.failed ≡ true → closed ≡ Err run.Failed) where
+
+  abbrev pub Ended : Result (Unit {0}) RunFault → Type 0
+  Ended ran = Ends old.index.tree.shape old.limits old.book old.begun files sent sent' lines ran closed s
 
   -- it was closed with the book after some lines
-  left : (k : ℕ) → new.failed ≡ false → IsSound old → IsSound new → HasPages old → IsIdle old → new.book ≡ run_book old.limits files old.book (take k lines)
-      → IsLeftWith old.index.tree.shape old.limits (run_book old.limits files old.book (take k lines)) old.index.cache.store s
-  left k lives is sound pages rests book =
-      subst (λ b. IsLeftWith old.index.tree.shape old.limits b old.index.cache.store s) book
-      (subst (λ l. IsLeftWith old.index.tree.shape l new.book old.index.cache.store s) limits
-      (subst (λ t. IsLeftWith t new.limits new.book old.index.cache.store s) (the_same new.index.tree.shape old.index.tree.shape plan)
-      (closed_with new old.index.cache.store s later closed holds only unfinished caused lives sound (keeps.pages is pages) (idle rests))))
+  closes : (r : Result (Unit {0}) RunFault) → OnOk r (IsSound new → HasPages new → IsIdle new → HoldsBook s new.index.tree.shape new.limits new.book)
+      → IfErr r (λ e. IsSound new → new.failed ≡ false → IsLoadFault e) → IfErr r (λ e. IsFaultless e → IsSound new → HasPages new → new.failed ≡ false → IsUnfinishedStore s)
+      → new.failed ≡ false → IsSound new → HasPages new → IsIdle new → ClosesWith new.index.tree.shape new.limits new.book r s
+  closes (Ok x) h o u lives sound pages is_idle = h sound pages is_idle
+  closes (Err e) h o u lives sound pages is_idle = (o sound lives, λ f. u f sound pages lives)
 
-  -- all lines were done, and it was not closed
-  unclosed : (e : RunFault) → closed ≡ Err e → Runs files sent sent' old new lines → IsSound new → new.failed ≡ false → IsSound old → HasPages old → Leaves e
-  unclosed e is r sound lives was pages =
-      let load : IsLoadFault e = err_of (λ f. IsSound new → new.failed ≡ false → IsLoadFault f) closed e is only sound lives in
+  closed_with : (k : ℕ) → new.failed ≡ false → IsSound old → IsSound new → HasPages old → IsIdle old → new.book ≡ run_book old.limits files old.book (take k lines)
+      → ClosesWith old.index.tree.shape old.limits (run_book old.limits files old.book (take k lines)) closed s
+  closed_with k lives was sound pages is_idle book =
+      subst (λ b. ClosesWith old.index.tree.shape old.limits b closed s) book
+      (subst (λ l. ClosesWith old.index.tree.shape l new.book closed s) limits
+      (subst (λ t. ClosesWith t new.limits new.book closed s) (the_same new.index.tree.shape old.index.tree.shape plan)
+      (closes closed holds only unfinished lives sound (keeps.pages was pages) (idle is_idle))))
+
+  -- and without a fault, where nothing began it
+  unbegun : new.failed ≡ false → IsSound old → old.begun ≡ false → (AcceptsSome old.limits files old.book lines → ⊥) → closed ≡ Ok tt
+  unbegun lives was not none = by_begun new.begun refl where
+    by_begun : (b : Bool) → new.begun ≡ b → closed ≡ Ok tt
+    by_begun false is = rests lives is
+    by_begun true is = wrong (begins was is) where
+      wrong : ((old.begun ≡ true) ⊎ AcceptsSome old.limits files old.book lines) → closed ≡ Ok tt
+      wrong (inl begun) = let w : true ≡ false = sym begun ∙ not in absurd cc
+      wrong (inr accepts) = absurd (none accepts)
+
+  left_with : (k : ℕ) (ran : Result (Unit {0}) RunFault) → new.failed ≡ false → IsSound old → IsSound new → HasPages old → IsIdle old → new.book ≡ run_book old.limits files old.book (take k lines)
+      → (ClosesWith old.index.tree.shape old.limits (run_book old.limits files old.book (take k lines)) closed s × (old.begun ≡ false → (AcceptsSome old.limits files old.book lines → ⊥) → closed ≡ Ok tt)) ⊎ FailsToLoad files lines k ran closed
+  left_with k ran lives was sound pages is_idle book = inl (closed_with k lives was sound pages is_idle book, unbegun lives was)
+
+  -- all lines were done
+  pub all_done : Runs files sent sent' old new lines → new.failed ≡ false → IsSound new → IsSound old → HasPages old → IsIdle old → Ended (Ok tt)
+  all_done r lives sound was pages is_idle =
+      let all : take (length lines) lines ≡ lines = take_all (length lines) lines (omega arith) in
       record {
         done = length lines;
         text = r.text;
-        answers = subst (λ l. IsRunText old.limits files old.book l r.text) (sym (take_all (length lines) lines (omega arith))) r.answers;
+        answers = subst (λ l. IsRunText old.limits files old.book l r.text) (sym all) r.answers;
         front = r.text;
         sends = r.sends;
         is_front = ([], sym (append-nil r.text));
+        whole = refl;
         all = λ n. refl;
-        cut = λ o. absurd (load_not e load o);
-        left = inl (inr (refused new old.index.cache.store s later e load
-            (λ f. err_of (λ g. IsFaultless g → IsSound new → HasPages new → new.failed ≡ false → IsUnfinishedStore s) closed e is unfinished f sound (keeps.pages was pages) lives)
-            (err_of (IsClosingFault new s) closed e is caused)));
+        cut = λ o. cc o;
+        left = left_with (length lines) (Ok tt) lives was sound pages is_idle (subst (λ l. new.book ≡ run_book old.limits files old.book l) (sym all) r.book);
       }
-
-  pub after_all : (IsSound old → Runs files sent sent' old new lines) → (IsSound old → IsSound new) → new.failed ≡ false
-      → IfErr closed (λ e. IsSound old → HasPages old → IsIdle old → old.failed ≡ false → Leaves e)
-  after_all runs sound lives = if_err (λ e. IsSound old → HasPages old → IsIdle old → old.failed ≡ false → Leaves e) closed
-      (λ e is was pages rests lived. unclosed e is (runs was) (sound was) lives was pages)
 
   -- it stopped at a line
   stopped_at : (e : RunFault) → IsInside e → (new.failed ≡ false → IsSound old → IsSound new) → (k : ℕ) → HasStopped old.limits files sent sent' old.book new.book new.failed lines k
-      → IsSound old → HasPages old → IsIdle old → Leaves e
-  stopped_at e inside kept k st was pages rests = record {
-    done = k;
-    text = st.text;
-    answers = st.answers;
-    front = st.text;
-    sends = st.sends;
-    is_front = ([], sym (append-nil st.text));
-    all = λ n. refl;
-    cut = λ o. absurd (inside_not e inside o);
-    left = by_state new.failed refl;
-  } where
-    by_state : (b : Bool) → new.failed ≡ b → IsLeftWith old.index.tree.shape old.limits (run_book old.limits files old.book (take k lines)) old.index.cache.store s ⊎ ((e ≢ run.Output) × IsAtLoad files lines k)
-    by_state true is = inr (inside_not e inside, (st.within, st.loads is))
-    by_state false is = inl (left k is was (kept is was) pages rests (st.book is))
+      → IsSound old → HasPages old → IsIdle old → Ended (Err e)
+  stopped_at e inside kept k st was pages is_idle = record {
+        done = k;
+        text = st.text;
+        answers = st.answers;
+        front = st.text;
+        sends = st.sends;
+        is_front = ([], sym (append-nil st.text));
+        whole = tt;
+        all = λ n. refl;
+        cut = λ o. absurd (inside_not e inside (same_err e run.Output o));
+        left = by_state new.failed refl;
+      } where
+    same_err : (x y : RunFault) → Err {A = Unit {0}} x ≡ Err y → x ≡ y
+    same_err x y o = cc
+
+    by_state : (b : Bool) → new.failed ≡ b → (ClosesWith old.index.tree.shape old.limits (run_book old.limits files old.book (take k lines)) closed s × (old.begun ≡ false → (AcceptsSome old.limits files old.book lines → ⊥) → closed ≡ Ok tt)) ⊎ FailsToLoad files lines k (Err e) closed
+    by_state true is = inr (record { fault = e; ran_is = refl; inside = inside_not e inside; at = (st.within, st.loads is); closed_is = fails is })
+    by_state false is = left_with k (Err e) is was (kept is was) pages is_idle (st.book is)
 
   -- its output failed
-  cut_at : (k : ℕ) → HasCutRun old.limits files sent sent' old.book new.book lines k → new.failed ≡ false → IsSound new → IsSound old → HasPages old → IsIdle old → Leaves run.Output
-  cut_at k c lives sound was pages rests = record {
-    done = k;
-    text = c.all;
-    answers = c.answers;
-    front = c.written;
-    sends = c.sends;
-    is_front = c.prefix;
-    all = λ n. absurd (n refl);
-    cut = λ o. (c.before, c.earlier, c.whole);
-    left = inl (left k lives was sound pages rests c.book);
-  }
+  cut_at : (k : ℕ) → HasCutRun old.limits files sent sent' old.book new.book lines k → new.failed ≡ false → IsSound new → IsSound old → HasPages old → IsIdle old → Ended (Err run.Output)
+  cut_at k c lives sound was pages is_idle = record {
+        done = k;
+        text = c.all;
+        answers = c.answers;
+        front = c.written;
+        sends = c.sends;
+        is_front = c.prefix;
+        whole = tt;
+        all = λ n. absurd (n refl);
+        cut = λ o. (c.before, c.earlier, c.whole);
+        left = left_with k (Err run.Output) lives was sound pages is_idle c.book;
+      }
 
-  pub after : (e : RunFault) → (IsErrOf {T = Unit {0}} {E = RunFault} (Err e) run.Output → IsSound old → IsCut files sent sent' old new lines)
+  pub refused : (e : RunFault) → (IsErrOf {T = Unit {0}} {E = RunFault} (Err e) run.Output → IsSound old → IsCut files sent sent' old new lines)
       → (IsErrOf {T = Unit {0}} {E = RunFault} (Err e) run.Output → IsSound old → IsSound new) → (IsErrOf {T = Unit {0}} {E = RunFault} (Err e) run.Output → new.failed ≡ false)
       → (IsInside e → old.failed ≡ false → IsSound old → Stops files sent sent' old new lines) → (IsInside e → new.failed ≡ false → IsSound old → IsSound new)
-      → IsSound old → HasPages old → IsIdle old → old.failed ≡ false → Leaves e
-  after run.Memory cut sound lives stops kept was pages rests lived = let st = stops tt lived was in stopped_at run.Memory tt (kept tt) st.0 st.1 was pages rests
-  after run.Store cut sound lives stops kept was pages rests lived = let st = stops tt lived was in stopped_at run.Store tt (kept tt) st.0 st.1 was pages rests
-  after (run.Damaged page) cut sound lives stops kept was pages rests lived = let st = stops tt lived was in stopped_at (run.Damaged page) tt (kept tt) st.0 st.1 was pages rests
-  after run.StoreFull cut sound lives stops kept was pages rests lived = let st = stops tt lived was in stopped_at run.StoreFull tt (kept tt) st.0 st.1 was pages rests
-  after run.Failed cut sound lives stops kept was pages rests lived = let st = stops tt lived was in stopped_at run.Failed tt (kept tt) st.0 st.1 was pages rests
-  after run.Output cut sound lives stops kept was pages rests lived = let c = cut refl was in cut_at c.0 c.1 (lives refl) (sound refl was) was pages rests
+      → IsSound old → HasPages old → IsIdle old → old.failed ≡ false → Ended (Err e)
+  refused run.Memory cut sound lives stops kept was pages is_idle lived = let st = stops tt lived was in stopped_at run.Memory tt (kept tt) st.0 st.1 was pages is_idle
+  refused run.Store cut sound lives stops kept was pages is_idle lived = let st = stops tt lived was in stopped_at run.Store tt (kept tt) st.0 st.1 was pages is_idle
+  refused (run.Damaged page) cut sound lives stops kept was pages is_idle lived = let st = stops tt lived was in stopped_at (run.Damaged page) tt (kept tt) st.0 st.1 was pages is_idle
+  refused run.StoreFull cut sound lives stops kept was pages is_idle lived = let st = stops tt lived was in stopped_at run.StoreFull tt (kept tt) st.0 st.1 was pages is_idle
+  refused run.Failed cut sound lives stops kept was pages is_idle lived = let st = stops tt lived was in stopped_at run.Failed tt (kept tt) st.0 st.1 was pages is_idle
+  refused run.Output cut sound lives stops kept was pages is_idle lived = let c = cut refl was in cut_at c.0 c.1 (lives refl) (sound refl was) was pages is_idle
 
--- what is said of a refusal is said of another one that is given only where it is
-pub left_by : {F : Type 0} (P : RunFault → Type 0) (r : Result (Unit {0}) F) (s : Result (Unit {0}) RunFault) (wrap : RunFault → F) → IfErr r (λ fault. (why : RunFault) × (s ≡ Err why) × (fault ≡ wrap why)) → IfErr s P
-    → IfErr r (λ fault. (why : RunFault) × (fault ≡ wrap why) × P why)
-left_by P (Ok x) s wrap is h = tt
-left_by P (Err e) s wrap (why, is, same) h = (why, same, err_of P s why is h)
+  pub ended : (ran : Result (Unit {0}) RunFault) → OnOk ran (IsSound old → Runs files sent sent' old new lines) → OnOk ran (IsSound old → IsSound new) → OnOk ran (new.failed ≡ false)
+      → (IsErrOf ran run.Output → IsSound old → IsCut files sent sent' old new lines) → (IsErrOf ran run.Output → IsSound old → IsSound new) → (IsErrOf ran run.Output → new.failed ≡ false)
+      → IfErr ran (λ e. IsInside e → old.failed ≡ false → IsSound old → Stops files sent sent' old new lines) → IfErr ran (λ e. IsInside e → new.failed ≡ false → IsSound old → IsSound new)
+      → IsSound old → HasPages old → IsIdle old → old.failed ≡ false → Ended ran
+  ended (Ok x) runs sound lives cut cut_sound cut_lives stops kept was pages is_idle lived = all_done (runs was) lives (sound was) was pages is_idle
+  ended (Err e) runs sound lives cut cut_sound cut_lives stops kept was pages is_idle lived = refused e cut cut_sound cut_lives stops kept was pages is_idle lived
+
+-- a run that is answered, and a database that is closed then
+pub answered_both : (old new : DbView) (s : Store) (files : List (List ℕ × List ℕ)) (sent sent' : Option (List ℕ)) (lines : List (List ℕ)) (ran closed : Result (Unit {0}) RunFault)
+    → OnOk ran (IsSound old → Runs files sent sent' old new lines) → OnOk ran (IsSound old → IsSound new) → KeepsPages words old new → (IsIdle old → IsIdle new) → new.limits ≡ old.limits → words.plan new.index ≡ words.plan old.index
+    → OnOk closed (IsSound new → HasPages new → IsIdle new → HoldsBook s new.index.tree.shape new.limits new.book)
+    → OnOk ran (OnOk closed (IsSound old → HasPages old → IsIdle old → Answers old.index.tree.shape old.limits old.book files sent sent' lines s))
+answered_both old new s files sent sent' lines (Ok x) closed runs sound keeps idle limits plan holds = answered old new s files sent sent' lines closed runs sound keeps idle limits plan holds
+answered_both old new s files sent sent' lines (Err e) closed runs sound keeps idle limits plan holds = tt
+
+-- what was sent, whatever is answered
+pub sends_front : (old new : DbView) (files : List (List ℕ × List ℕ)) (sent sent' : Option (List ℕ)) (lines : List (List ℕ)) (ran : Result (Unit {0}) RunFault)
+    → OnOk ran (IsSound old → Runs files sent sent' old new lines) → (IsErrOf ran run.Output → IsSound old → IsCut files sent sent' old new lines) → IfErr ran (λ e. IsInside e → old.failed ≡ false → IsSound old → Stops files sent sent' old new lines)
+    → IsSound old → old.failed ≡ false → SendsFront old.limits old.book files sent sent' lines
+sends_front old new files sent sent' lines (Ok x) runs cut stops sound lives = front_done old.limits old.book new.book files sent sent' lines (runs sound)
+sends_front old new files sent sent' lines (Err e) runs cut stops sound lives = front_sent old new files sent sent' lines e cut stops sound lives
+
+-- what is said of both is said of their answer
+pub on_said : (P : Type 0) (ran closed : Result (Unit {0}) RunFault) (r : Result (Unit {0}) Fault) → r ≡ said ran closed → OnOk ran (OnOk closed P) → OnOk r P
+on_said P (Ok x) (Ok y) r is h = subst (λ k. OnOk k P) (sym is) h
+on_said P (Ok x) (Err e) r is h = subst (λ k. OnOk k P) (sym is) tt
+on_said P (Err e) closed r is h = subst (λ k. OnOk k P) (sym is) tt

@@ -1,5 +1,5 @@
 -- What a run of the program sends, and what its store then holds.
-use Rattle.std.specs.Prelude.{ℕ, ◌≡◌, ◌≢◌, ◌⊎◌, ◌<◌, ◌-◌, [], List, length, take, slice_index_or, Option}
+use Rattle.std.specs.Prelude.{ℕ, ◌≡◌, ◌≢◌, ◌⊎◌, ◌<◌, ◌-◌, [], List, length, take, slice_index_or, Bool, false, Option, Result, Ok, Err, OnOk}
 use Rattle.std.specs.Io.KnownBytes.{Appends}
 use Rattle.legs.specs.Book.{Book}
 use Rattle.legs.specs.Costs.{ShapeView}
@@ -11,8 +11,9 @@ use Rattle.catalogue.specs.Beginning.{IsLeftOver}
 use Rattle.version1.specs.Migrating.{IsBrought}
 use Rattle.catalogue.specs.Saved.{CatalogueView}
 use Rattle.migration.specs.Bringing.{IsMigratingFault}
-use Rattle.trajdb.specs.Calls.{LoadsBy}
-use Rattle.trajdb.specs.Run.{run_book, HasRun, IsPrefixOf, IsRunText}
+use Rattle.trajdb.specs.Calls.{IsLoadFault, LoadsBy}
+use Rattle.trajdb.specs.Lasting.{IsFaultless}
+use Rattle.trajdb.specs.Run.{run_book, AcceptsSome, HasRun, IsPrefixOf, IsRunText}
 use Rattle.trajdb.specs.declared.OpenFault.TheVariants as opening
 use Rattle.trajdb.specs.declared.Report.{Report}
 use Rattle.trajdb.specs.declared.RunFault.{RunFault}
@@ -40,27 +41,47 @@ pub record SendsFront (limits : LimitsView) (book : Book) (files : List (List �
   pub answers : IsRunText limits files book (take done lines) text
   pub is_front : IsPrefixOf front text
 
--- a store holds a book, or is one that is not finished, or has failed
-abbrev pub IsLeftWith : ShapeView → LimitsView → Book → Store → Store → Type 0
-IsLeftWith shape limits book old new = HoldsBook new shape limits book ⊎ (IsUnfinishedStore new ⊎ Faulted old new)
+-- what the closing of a database with a book leaves, by what it answered: the store holds the book, or where memory ran
+-- out or the store is full, it is one that is not finished; of a store that failed nothing is said
+abbrev pub ClosesWith : ShapeView → LimitsView → Book → Result (Unit {0}) RunFault → Store → Type 0
+ClosesWith shape limits book (Ok x) store = HoldsBook store shape limits book
+ClosesWith shape limits book (Err fault) store = IsLoadFault fault × (IsFaultless fault → IsUnfinishedStore store)
 
 -- line k + 1 is there, and is a `load` of a file that is there
 abbrev pub IsAtLoad : List (List ℕ × List ℕ) → List (List ℕ) → ℕ → Type 0
 IsAtLoad files lines k = (k < length lines) × LoadsBy files (slice_index_or lines k [])
 
--- what a run leaves that was not brought to its end: the answers to some first lines were sent, all of them, or where
--- the output failed a front that has all but the last one; and the store is left with the book after these lines, or
--- the next line is a `load` of a file, which failed
-pub record LeavesStore (shape : ShapeView) (limits : LimitsView) (book : Book) (files : List (List ℕ × List ℕ)) (sent sent' : Option (List ℕ)) (lines : List (List ℕ)) (fault : RunFault) (old new : Store) : Type 0 where
+-- a run stopped at line k + 1, which is a `load` of a file, and its database was not closed but abandoned
+pub record FailsToLoad (files : List (List ℕ × List ℕ)) (lines : List (List ℕ)) (k : ℕ) (ran closed : Result (Unit {0}) RunFault) : Type 0 where
+  pub fault : RunFault
+  pub ran_is : ran ≡ Err fault
+  pub inside : fault ≢ run.Output
+  pub at : IsAtLoad files lines k
+  pub closed_is : closed ≡ Err run.Failed
+
+-- what a run over a database and its closing leave, whatever they answer: the answers to some first lines were sent, and
+-- to all lines where nothing is said to have failed; all of these answers, or where the output failed a front of them
+-- that has all but the last one. The database was closed with the book after these lines, and without a fault where it
+-- had not begun and no file was accepted; or the next line is a `load` of a file, which failed
+pub record Ends (shape : ShapeView) (limits : LimitsView) (book : Book) (begun : Bool) (files : List (List ℕ × List ℕ)) (sent sent' : Option (List ℕ)) (lines : List (List ℕ)) (ran closed : Result (Unit {0}) RunFault) (store : Store) : Type 0 where
   pub done : ℕ
   pub text : List ℕ
   pub answers : IsRunText limits files book (take done lines) text
   pub front : List ℕ
   pub sends : Appends sent sent' front
   pub is_front : IsPrefixOf front text
-  pub all : fault ≢ run.Output → front ≡ text
-  pub cut : fault ≡ run.Output → (before : List ℕ) × IsRunText limits files book (take (done - 1) lines) before × IsPrefixOf before front
-  pub left : IsLeftWith shape limits (run_book limits files book (take done lines)) old new ⊎ ((fault ≢ run.Output) × IsAtLoad files lines done)
+  pub whole : OnOk ran (done ≡ length lines)
+  pub all : ran ≢ Err run.Output → front ≡ text
+  pub cut : ran ≡ Err run.Output → (before : List ℕ) × IsRunText limits files book (take (done - 1) lines) before × IsPrefixOf before front
+  pub left : (ClosesWith shape limits (run_book limits files book (take done lines)) closed store
+      × (begun ≡ false → (AcceptsSome limits files book lines → ⊥) → closed ≡ Ok tt))
+      ⊎ FailsToLoad files lines done ran closed
+
+-- how a run and its closing are answered: the run's own fault comes first
+abbrev pub said : Result (Unit {0}) RunFault → Result (Unit {0}) RunFault → Result (Unit {0}) Fault
+said (Ok x) (Ok y) = Ok tt
+said (Ok x) (Err fault) = Err (Run fault)
+said (Err fault) closed = Err (Run fault)
 
 -- the store holds the book, in a tree of that shape; the report says how many pages the store has, and how many legs and
 -- features the book

@@ -1,5 +1,5 @@
 //! A database over a store of any kind: it is made or opened, a script is run, and it is closed.
-ghost use Rattle.std.specs.Prelude.{◌≡◌, ◌<◌, false, Ok, Err, IfErr, IfOk, IsOk, IsTrue, OnErr, OnOk};
+ghost use Rattle.std.specs.Prelude.{◌≡◌, ◌<◌, false, Result, Err, IfErr, IfOk, IsOk, IsTrue, OnErr, OnOk};
 ghost use Rattle.legs.specs.Costs.{ShapeView};
 ghost use Rattle.legs.specs.Limits.{limits_of, LimitsView};
 ghost use Rattle.legs.specs.Book.{Book, empty_book};
@@ -7,7 +7,7 @@ ghost use Rattle.trajdb.specs.Script.{lines_of};
 ghost use Rattle.catalogue.specs.Holding.{HoldsBook};
 ghost use Rattle.trajdb.specs.Db.{HasPages, IsSound};
 ghost use Rattle.trajdb.specs.Lasting.{HasBook, IsIdle};
-ghost use Rattle.sessions.specs.Answers.{new_shape, Answers, LeavesStore, SendsFront};
+ghost use Rattle.sessions.specs.Answers.{new_shape, said, Answers, Ends, SendsFront};
 
 use crate::fault::Fault;
 use legs::Limits;
@@ -64,51 +64,51 @@ pub fn database<S: PageStore>(
     Db::open(alloc, keys, store, cache_pages as usize)
 }
 
-/// Runs the script over a database, closes it, and gives its store back. `script` and `files` are
-/// bytes as they were read; the answers go to `out`.
-///
-/// Where both the run and the closing are refused, why the run is.
+/// Runs the script over a database, closes it, and gives its store back, with what the run and what
+/// the closing came to. `script` and `files` are bytes as they were read; the answers go to `out`.
 pub fn run_and_close<S: PageStore, W: Write>(
     alloc: Global,
     mut database: Db<S>,
     script: &[u8],
     files: &Files,
     out: &mut W,
-) -> (S, Result<(), RunFault>)
-    // What was sent is exactly the text of the run over the book, and the store then holds the book
-    // after it, in a tree of the same shape.
-    ensures runs { OnOk result.1 (IsSound database → HasPages database → IsIdle database
-        → Answers database.index.tree.shape database.limits database.book files.now
-        (W.contents out.old) (W.contents out.new) (lines_of script.now) (S.seen result.0)) }
+) -> (S, Result<(), RunFault>, Result<(), RunFault>)
+    // Where neither is refused, what was sent is exactly the text of the run over the book, and the
+    // store then holds the book after it, in a tree of the same shape.
+    ensures runs { OnOk result.1 (OnOk result.2 (IsSound database → HasPages database
+        → IsIdle database → Answers database.index.tree.shape database.limits database.book
+        files.now (W.contents out.old) (W.contents out.new) (lines_of script.now)
+        (S.seen result.0))) }
 
-    // Where it is refused, what was sent is the front of that text.
-    ensures sent { OnErr result.1 (IsSound database → database.failed ≡ false
+    // Whatever is answered, what was sent is the front of that text.
+    ensures sent { IsSound database → database.failed ≡ false
         → SendsFront database.limits database.book files.now (W.contents out.old)
-        (W.contents out.new) (lines_of script.now)) }
+        (W.contents out.new) (lines_of script.now) }
 
-    // The store is then left with the book after the lines that were done, or it is one that is not
-    // finished, or has failed; unless it is the load of a file that failed.
-    ensures left { IfErr result.1 (λ fault. IsSound database → HasPages database → IsIdle database
-        → database.failed ≡ false → LeavesStore database.index.tree.shape database.limits
-        database.book files.now (W.contents out.old) (W.contents out.new) (lines_of script.now) fault
-        database.index.cache.store (S.seen result.0)) }
+    // The database was closed with the book after the lines that were done, unless it is the load of
+    // a file that failed.
+    ensures ends { IsSound database → HasPages database → IsIdle database
+        → database.failed ≡ false → Ends database.index.tree.shape database.limits database.book
+        database.begun files.now (W.contents out.old) (W.contents out.new) (lines_of script.now)
+        result.1 result.2 (S.seen result.0) }
 {
     let ran = database.run(alloc, script, files, out);
     let (store, closed) = database.close(alloc);
-    match ran {
-        Ok(()) => (store, closed),
-        Err(fault) => (store, Err(fault)),
-    }
+    (store, ran, closed)
 }
 
-/// What a run answers, as an answer of the program.
-fn answer_of<'a>(ran: Result<(), RunFault>) -> Result<(), Fault<'a>>
-    ensures ok { OnOk result (ran ≡ Ok tt) }
-    ensures err { IfErr result (λ fault. (why : RunFault) × (ran ≡ Err why)
-        × (fault ≡ Fault.Run why)) }
+/// What a run and its closing answer, as an answer of the program: the run's own fault comes first.
+fn answer_of<'a>(
+    ran: Result<(), RunFault>,
+    closed: Result<(), RunFault>,
+) -> Result<(), Fault<'a>>
+    ensures { result ≡ said ran closed }
 {
     match ran {
-        Ok(()) => Ok(()),
+        Ok(()) => match closed {
+            Ok(()) => Ok(()),
+            Err(fault) => Err(Fault::Run(fault)),
+        },
         Err(fault) => Err(Fault::Run(fault)),
     }
 }
@@ -134,18 +134,22 @@ pub fn answer<'a, S: PageStore, W: Write>(
     ensures sent { OnErr result.1 (IfOk database (λ db. IsSound db → db.failed ≡ false
         → SendsFront db.limits db.book files.now (W.contents out.old) (W.contents out.new)
         (lines_of script.now))) }
-
-    // The store is then left as the run leaves it, and the fault is the run's own.
-    ensures left { IfOk database (λ db. IfErr result.1 (λ fault. (why : RunFault)
-        × (fault ≡ Fault.Run why) × (IsSound db → HasPages db → IsIdle db → db.failed ≡ false
-        → LeavesStore db.index.tree.shape db.limits db.book files.now (W.contents out.old)
-        (W.contents out.new) (lines_of script.now) why db.index.cache.store (S.seen result.0)))) }
     ensures unsent { OnErr database (W.contents out.new ≡ W.contents out.old) }
+
+    // The store is left as the run and its closing leave it, whose fault is answered; where there is
+    // no database it is the one that was given back.
+    ensures ends { IfOk database (λ db. (ran : Result (Unit {0}) RunFault)
+        × (closed : Result (Unit {0}) RunFault) × (result.1 ≡ said ran closed)
+        × (IsSound db → HasPages db → IsIdle db → db.failed ≡ false → Ends db.index.tree.shape
+        db.limits db.book db.begun files.now (W.contents out.old) (W.contents out.new)
+        (lines_of script.now) ran closed (S.seen result.0))) }
+    ensures refused { IfErr database (λ back. (S.seen result.0 ≡ S.seen back.0)
+        × (result.1 ≡ Err (Fault.Open back.1))) }
 {
     match database {
         Ok(database) => {
-            let (store, result) = run_and_close(alloc, database, script, files, out);
-            (store, answer_of(result))
+            let (store, ran, closed) = run_and_close(alloc, database, script, files, out);
+            (store, answer_of(ran, closed))
         }
         Err((store, fault)) => (store, Err(Fault::Open(fault))),
     }
