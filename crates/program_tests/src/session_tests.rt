@@ -1,6 +1,6 @@
 //! How long a file may be, the lines of faults, and a session over a store that fails.
 use pages::{Fuse, MemStore};
-use sessions::{Fault, MOST_BYTES, database, read_named, run_and_close};
+use sessions::{Fault, MOST_BYTES, answer, database, read_named, run_and_close};
 use std::fs;
 use std::hash::RandomState;
 use std::io::Write;
@@ -61,11 +61,43 @@ fn the_first_fault_is_said(rt: HostRuntime) -> Result<(), Fail> {
     files.add("S1.csv", Vec::from_slice(alloc, STANDARD.as_bytes())?)?;
     // Page 0 is written and made to last, and the third call fails: the load, and then the closing.
     let store = Fuse::new(MemStore::new(alloc, 100), 2, false);
-    let Ok(db) = database(alloc, keys, store, true, 1) else {
+    let opened = database(alloc, keys, store, true, 1);
+    let mut out = Vec::new(alloc);
+    let (_, said) = answer(alloc, opened, b"load S1.csv".as_slice(), &files, &mut out);
+    assert!(rt; said == Err(Fault::Run(RunFault::Store)) && out.is_empty());
+    Ok(())
+}
+
+/// What a script that only asks sends of a store that is there.
+fn asked(rt: &HostRuntime, store: MemStore, script: &[u8]) -> Result<Vec<u8>, Fail> {
+    let (alloc, keys) = (rt.alloc(), RandomState::new(rt)?);
+    let Ok(db) = database(alloc, keys, store, false, 1) else {
         return Err("no database".into());
     };
     let mut out = Vec::new(alloc);
-    let (_, answer) = run_and_close(alloc, db, b"load S1.csv".as_slice(), &files, &mut out);
-    assert!(rt; answer == Err(RunFault::Store) && out.is_empty());
+    match run_and_close(alloc, db, script, &Files::new(alloc), &mut out) {
+        (_, Ok(()), Ok(())) => Ok(out),
+        _ => Err("a question is refused".into()),
+    }
+}
+
+#[test]
+fn a_store_is_closed_where_the_output_fails(rt: HostRuntime) -> Result<(), Fail> {
+    let (alloc, keys) = (rt.alloc(), RandomState::new(&rt)?);
+    let mut files = Files::new(alloc);
+    files.add("S1.csv", Vec::from_slice(alloc, STANDARD.as_bytes())?)?;
+    let Ok(db) = database(alloc, keys, MemStore::new(alloc, 100), true, 1) else {
+        return Err("no database".into());
+    };
+    // The first line of the first answer.
+    let mut room = [0u8; 5];
+    let mut out = room.as_mut_slice();
+    let script = b"load S1.csv\ncount\n".as_slice();
+    let (store, ran, closed) = run_and_close(alloc, db, script, &files, &mut out);
+    assert!(rt; ran == Err(RunFault::Output) && closed.is_ok());
+    assert_eq!(rt;
+        asked(&rt, store, b"count\n".as_slice())?.as_slice(),
+        b"ok 1\n5,3\n".as_slice()
+    );
     Ok(())
 }

@@ -1,7 +1,7 @@
 -- What a run and its closing leave, whatever they answer.
-use Rattle.std.proofs.Common.{arith, ℕ, ◌≡◌, ◌≢◌, ◌⊎◌, ◌∙◌, refl, sym, inl, inr, [], append-nil, length, take, true, false, Bool, List, Option, Result, Ok, Err, subst}
+use Rattle.std.proofs.Common.{arith, ℕ, ◌≡◌, ◌<◌, ◌⊎◌, ◌∙◌, refl, sym, inl, inr, [], append-nil, length, take, true, false, Bool, List, Option, Result, Ok, Err, subst}
 use Rattle.std.proofs.lemmas.List.{take_all}
-use Rattle.std.specs.Prelude.{IfErr, IfOk, IsErrOf, OnErr, OnOk}
+use Rattle.std.specs.Prelude.{IfErr, IsErrOf, OnOk}
 use Rattle.pages.specs.Store.{Store}
 use Rattle.boxsearch.specs.Index.{words}
 use Rattle.catalogue.specs.Holding.{HoldsBook, IsUnfinishedStore}
@@ -9,7 +9,7 @@ use Rattle.trajdb.specs.Calls.{BeginsOnly, IsLoadFault, KeepsPages}
 use Rattle.trajdb.specs.Db.{DbView, HasPages, IsSound}
 use Rattle.trajdb.specs.Lasting.{IsFaultless, IsIdle}
 use Rattle.trajdb.specs.Faults.{IsInside}
-use Rattle.trajdb.specs.Run.{run_book, AcceptsSome, HasCutRun, HasRun, HasStopped, IsCut, IsRunText, Runs, Stops}
+use Rattle.trajdb.specs.Run.{run_book, AcceptsSome, HasCutRun, HasStopped, IsCut, IsRunText, Runs, Stops}
 use Rattle.trajdb.specs.declared.RunFault.{RunFault}
 use Rattle.trajdb.specs.declared.RunFault.TheVariants as run
 use Rattle.sessions.specs.Answers.{said, Answers, ClosesWith, Ends, FailsToLoad, SendsFront}
@@ -27,7 +27,6 @@ module _ (old new : DbView) (s : Store) (files : List (List ℕ × List ℕ)) (s
     (only : IfErr closed (λ e. IsSound new → new.failed ≡ false → IsLoadFault e))
     (unfinished : IfErr closed (λ e. IsFaultless e → IsSound new → HasPages new → new.failed ≡ false → IsUnfinishedStore s))
     (rests : new.failed ≡ false → new.begun ≡ false → closed ≡ Ok tt) (fails : new.failed ≡ true → closed ≡ Err run.Failed) where
-
   abbrev pub Ended : Result (Unit {0}) RunFault → Type 0
   Ended ran = Ends old.index.tree.shape old.limits old.book old.begun files sent sent' lines ran closed s
 
@@ -81,18 +80,18 @@ module _ (old new : DbView) (s : Store) (files : List (List ℕ × List ℕ)) (s
   stopped_at : (e : RunFault) → IsInside e → (new.failed ≡ false → IsSound old → IsSound new) → (k : ℕ) → HasStopped old.limits files sent sent' old.book new.book new.failed lines k
       → IsSound old → HasPages old → IsIdle old → Ended (Err e)
   stopped_at e inside kept k st was pages is_idle = record {
-        done = k;
-        text = st.text;
-        answers = st.answers;
-        front = st.text;
-        sends = st.sends;
-        is_front = ([], sym (append-nil st.text));
-        whole = tt;
-        all = λ n. refl;
-        cut = λ o. absurd (inside_not e inside (same_err e run.Output o));
-        left = by_state new.failed refl;
-      } where
-    same_err : (x y : RunFault) → Err {A = Unit {0}} x ≡ Err y → x ≡ y
+    done = k;
+    text = st.text;
+    answers = st.answers;
+    front = st.text;
+    sends = st.sends;
+    is_front = ([], sym (append-nil st.text));
+    whole = tt;
+    all = λ n. refl;
+    cut = λ o. absurd (inside_not e inside (same_err e run.Output o));
+    left = by_state new.failed refl;
+  } where
+    same_err : (x y : RunFault) → ◌≡◌ {A = Result (Unit {0}) RunFault} (Err x) (Err y) → x ≡ y
     same_err x y o = cc
 
     by_state : (b : Bool) → new.failed ≡ b → (ClosesWith old.index.tree.shape old.limits (run_book old.limits files old.book (take k lines)) closed s × (old.begun ≡ false → (AcceptsSome old.limits files old.book lines → ⊥) → closed ≡ Ok tt)) ⊎ FailsToLoad files lines k (Err e) closed
@@ -102,17 +101,17 @@ module _ (old new : DbView) (s : Store) (files : List (List ℕ × List ℕ)) (s
   -- its output failed
   cut_at : (k : ℕ) → HasCutRun old.limits files sent sent' old.book new.book lines k → new.failed ≡ false → IsSound new → IsSound old → HasPages old → IsIdle old → Ended (Err run.Output)
   cut_at k c lives sound was pages is_idle = record {
-        done = k;
-        text = c.all;
-        answers = c.answers;
-        front = c.written;
-        sends = c.sends;
-        is_front = c.prefix;
-        whole = tt;
-        all = λ n. absurd (n refl);
-        cut = λ o. (c.before, c.earlier, c.whole);
-        left = left_with k (Err run.Output) lives was sound pages is_idle c.book;
-      }
+    done = k;
+    text = c.all;
+    answers = c.answers;
+    front = c.written;
+    sends = c.sends;
+    is_front = c.prefix;
+    whole = tt;
+    all = λ n. absurd (n refl);
+    cut = λ o. (c.before, c.earlier, c.whole);
+    left = left_with k (Err run.Output) lives was sound pages is_idle c.book;
+  }
 
   pub refused : (e : RunFault) → (IsErrOf {T = Unit {0}} {E = RunFault} (Err e) run.Output → IsSound old → IsCut files sent sent' old new lines)
       → (IsErrOf {T = Unit {0}} {E = RunFault} (Err e) run.Output → IsSound old → IsSound new) → (IsErrOf {T = Unit {0}} {E = RunFault} (Err e) run.Output → new.failed ≡ false)
@@ -152,3 +151,16 @@ pub on_said : (P : Type 0) (ran closed : Result (Unit {0}) RunFault) (r : Result
 on_said P (Ok x) (Ok y) r is h = subst (λ k. OnOk k P) (sym is) h
 on_said P (Ok x) (Err e) r is h = subst (λ k. OnOk k P) (sym is) tt
 on_said P (Err e) closed r is h = subst (λ k. OnOk k P) (sym is) tt
+
+-- what is said of each refusal is said where more is known
+pub always_so : {T E : Type 0} (P : E → Type 0) (H : Type 0) (r : Result T E) → IfErr r P → IfErr r (λ e. H → P e)
+always_so P H (Ok x) p = tt
+always_so P H (Err e) p = λ h. p
+
+-- a store without pages of which one is to be made is none that stays
+pub never : {T E : Type 0} (P : E → Type 0) (b : Bool) (n : ℕ) (r : Result T E) → b ≡ true → n ≡ 0 → IfErr r (λ e. (b ≡ false) ⊎ (0 < n) → P e)
+never P b n (Ok x) is none = tt
+never {T} {E} P b n (Err e) is none = wrong where
+  wrong : (b ≡ false) ⊎ (0 < n) → P e
+  wrong (inl not) = let w : true ≡ false = sym is ∙ not in absurd cc
+  wrong (inr some) = absurd (omega (arith, some, none))

@@ -2,7 +2,7 @@
 ghost use Rattle.std.specs.Prelude.{◌≤◌, IfOk, vec_len};
 
 use crate::fault::Fault;
-use std::fs::File;
+use std::fs::{File, OpenFile};
 use std::io::Read;
 use std::{io, rt};
 use trajdb::RunFault;
@@ -11,8 +11,7 @@ use trajdb::RunFault;
 pub const MOST_BYTES: u64 = 1 << 30;
 
 /// The bytes of the file of that name, which has no more than so many: where it has more, or is not
-/// read, `CannotRead`, and where there is no memory for them `Memory`. A long one is read before it
-/// is refused.
+/// read, `CannotRead`, and where there is no memory for them `Memory`.
 pub fn read_named<'a, R: rt::Files + AllocGlobal>(
     rt: &R,
     name: &'a str,
@@ -25,6 +24,10 @@ pub fn read_named<'a, R: rt::Files + AllocGlobal>(
         _ => Fault::CannotRead(name),
     };
     let file = File::open(rt, name).map_err(fault)?;
+    // A long file of the disk is not read first.
+    if file.metadata().map_err(fault)?.len() > most {
+        return Err(Fault::CannotRead(name));
+    }
     let mut bytes = Vec::new(rt.alloc());
     file.take(most.saturating_add(1))
         .read_to_end(&mut bytes)

@@ -1,10 +1,11 @@
 //! A database over a store of any kind: it is made or opened, a script is run, and it is closed.
-ghost use Rattle.std.specs.Prelude.{◌≡◌, ◌<◌, false, Result, Err, IfErr, IfOk, IsOk, IsTrue, OnErr, OnOk};
+ghost use Rattle.std.specs.Prelude.{◌≡◌, ◌<◌, ◌⊎◌, false, Result, Err, IfErr, IfOk, IsOk, IsTrue, OnErr, OnOk};
 ghost use Rattle.legs.specs.Costs.{ShapeView};
 ghost use Rattle.legs.specs.Limits.{limits_of, LimitsView};
 ghost use Rattle.legs.specs.Book.{Book, empty_book};
 ghost use Rattle.trajdb.specs.Script.{lines_of};
 ghost use Rattle.catalogue.specs.Holding.{HoldsBook};
+ghost use Rattle.pages.specs.Store.{Stays};
 ghost use Rattle.trajdb.specs.Db.{HasPages, IsSound};
 ghost use Rattle.trajdb.specs.Lasting.{HasBook, IsIdle};
 ghost use Rattle.sessions.specs.Answers.{new_shape, said, Answers, Ends, SendsFront};
@@ -56,6 +57,10 @@ pub fn database<S: PageStore>(
     ensures pages { IfOk result (λ db. IsTrue (S.seen store).is_faithful → HasPages db) }
     ensures idle { IfOk result (λ db. IsTrue (S.seen store).is_faithful → IsIdle db) }
     ensures lives { IfOk result (λ db. db.failed ≡ false) }
+
+    // A store that has a page, or of which none is to be made, stays where it is refused.
+    ensures stays { IfErr result (λ back. (is_new ≡ false) ⊎ (0 < (S.seen store).count)
+        → Stays (S.seen store) (S.seen back.0)) }
 {
     if is_new && store.len() == 0 {
         let shape = Shape::new(50, 72).unwrap();
@@ -98,10 +103,7 @@ pub fn run_and_close<S: PageStore, W: Write>(
 }
 
 /// What a run and its closing answer, as an answer of the program: the run's own fault comes first.
-fn answer_of<'a>(
-    ran: Result<(), RunFault>,
-    closed: Result<(), RunFault>,
-) -> Result<(), Fault<'a>>
+fn answer_of<'a>(ran: Result<(), RunFault>, closed: Result<(), RunFault>) -> Result<(), Fault<'a>>
     ensures { result ≡ said ran closed }
 {
     match ran {

@@ -1,4 +1,4 @@
-use Rattle.std.proofs.Common.{◌≡◌, ◌∙◌, rules, sym, subst, IsTrue, Some}
+use Rattle.std.proofs.Common.{◌≡◌, ◌<◌, ◌⊎◌, ◌∙◌, false, rules, sym, subst, IsTrue, Some}
 use Rattle.std.specs.Prelude.{IfOk}
 use Rattle.boxsearch.specs.Index.{words}
 use Rattle.legs.specs.Book.{empty_book}
@@ -7,7 +7,9 @@ use Rattle.legs.specs.Limits.{limits_of, LimitsView}
 use Rattle.trajdb.specs.Db.{DbView}
 use Rattle.trajdb.specs.Lasting.{HasBook}
 use Rattle.sessions.specs.Answers.{new_shape}
+use Rattle.pages.specs.Store.{Stays}
 use Rattle.sessions.proofs.AnswerLemmas.{created, more_known, no_pages, the_same}
+use Rattle.sessions.proofs.LeftLemmas.{always_so, never}
 use Rattle.sessions.proofs.session.database.Goals as goal
 
 pub returns-then-len-eq0-clause-new : goal.returns-then-len-eq0-clause-new
@@ -21,3 +23,14 @@ returns-then-len-eq0-clause-new g c =
 
 pub returns-then-len-eq0-clause-kept : goal.returns-then-len-eq0-clause-kept
 returns-then-len-eq0-clause-kept g c = no_pages c.create.result (g.S.PageStore.seen c.args.store) (search rules)
+
+pub returns-then-len-eq0-clause-stays : goal.returns-then-len-eq0-clause-stays
+returns-then-len-eq0-clause-stays g c =
+    let s = g.S.PageStore.seen c.args.store in
+    let none : s.count ≡ 0 = sym c.len.ensures ∙ c.if-len-eq0.true in
+    never (λ back. Stays s (g.S.PageStore.seen back.0)) c.args.is_new s.count c.create.result c.if-is_new.true none
+
+pub returns-clause-stays : goal.returns-clause-stays
+returns-clause-stays g c =
+    let s = g.S.PageStore.seen c.args.store in
+    always_so (λ back. Stays s (g.S.PageStore.seen back.0)) ((c.args.is_new ≡ false) ⊎ (0 < s.count)) c.open.result c.open.ensures.back
