@@ -3,6 +3,7 @@ import fcntl
 import hashlib
 import resource
 import subprocess
+import time
 import unittest
 from pathlib import Path
 
@@ -227,6 +228,14 @@ class Program(Case):
 
     def test_what_cannot_be_read_has_a_line(self):
         self.fails("mftb: cannot read no such script\n", "run", "store", "no such script")
+
+    def test_a_file_that_is_too_long_is_refused_unread(self):
+        self.write("count.txt", "count\n")
+        with open(self.path("long.csv"), "wb") as long:
+            long.truncate((1 << 30) + 1)
+        begin = time.monotonic()
+        self.fails("mftb: cannot read long.csv\n", "run", "made.mftb", "count.txt", "long.csv")
+        self.assertLess(time.monotonic() - begin, 10)
 
     def test_all_is_read_before_the_store_is_made(self):
         self.write("count.txt", "count\n")
