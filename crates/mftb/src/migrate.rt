@@ -42,7 +42,9 @@ pub(crate) fn migrate<'a, R: Files<File = File> + AllocGlobal + RandomSource, W:
         return Err(Fault::NotEmpty);
     }
     let (_new, migrated) = migrate_and_close(rt.alloc(), keys, &mut old, new);
-    migrated?;
+    if let Err(fault) = migrated {
+        return Err(names.caused(fault));
+    }
     let written = writeln!(out, "ok 0");
     send(written, out)
 }
