@@ -109,16 +109,22 @@ pub(crate) fn push_lines(text: &mut Vec<u8>, said: &Said<'_>) -> Result<(), RunF
     Ok(())
 }
 
+/// Appends a character of a string of JSON, by a byte of its UTF-8.
+fn push_escaped(text: &mut Vec<u8>, byte: u8) -> Result<(), RunFault> {
+    if byte < b' ' {
+        return wrote(write!(text, "\\u{byte:04x}"));
+    }
+    if byte == b'"' || byte == b'\\' {
+        text.push(b'\\')?;
+    }
+    Ok(text.push(byte)?)
+}
+
 /// Appends a text as a string of JSON.
 fn push_string(text: &mut Vec<u8>, said: &str) -> Result<(), RunFault> {
     text.push(b'"')?;
     for byte in said.as_bytes() {
-        match *byte {
-            b'"' => text.extend_from_slice(b"\\\"")?,
-            b'\\' => text.extend_from_slice(b"\\\\")?,
-            0..=31 => wrote(write!(text, "\\u{:04x}", *byte))?,
-            _ => text.push(*byte)?,
-        }
+        push_escaped(text, *byte)?;
     }
     Ok(text.push(b'"')?)
 }

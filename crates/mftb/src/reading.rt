@@ -6,6 +6,19 @@ use std::fs::File;
 use std::{fs, rt};
 use trajdb::{Files, RunFault};
 
+/// Reads the file of that name, to stand beside others.
+fn add_file<'a, R: rt::Files + AllocGlobal>(
+    rt: &R,
+    files: &mut Files,
+    name: &'a str,
+) -> Result<(), Fault<'a>> {
+    let bytes = read_named(rt, name, MOST_BYTES)?;
+    match files.add(name, bytes) {
+        Ok(()) => Ok(()),
+        Err(_) => Err(Fault::Run(RunFault::Memory)),
+    }
+}
+
 /// The files of those names.
 pub(crate) fn read_files<'a, R: rt::Files + AllocGlobal>(
     rt: &R,
@@ -13,7 +26,7 @@ pub(crate) fn read_files<'a, R: rt::Files + AllocGlobal>(
 ) -> Result<Files, Fault<'a>> {
     let mut files = Files::new(rt.alloc());
     for name in names {
-        files.add(name, read_named(rt, name, MOST_BYTES)?)?;
+        add_file(rt, &mut files, name)?;
     }
     Ok(files)
 }
