@@ -17,19 +17,24 @@ pub(crate) struct Frame {
     pub(crate) dimension: Dimension,
 }
 
-/// Appends the name of a feature, quoted where it needs it.
+/// Appends a name, quoted where it needs it.
+fn push_quoted(alloc: Global, text: &mut Vec<u8>, name: &str) -> Result<(), RunFault> {
+    push_features(alloc, text, &[name])?;
+    text.pop();
+    Ok(())
+}
+
+/// Appends the name of a feature.
 fn push_name<S: PageStore>(
     alloc: Global,
     text: &mut Vec<u8>,
     database: &Db<S>,
     feature: u32,
 ) -> Result<(), RunFault> {
-    let Some(name) = database.name(feature) else {
-        return Err(RunFault::Damaged(0));
-    };
-    push_features(alloc, text, &[name])?;
-    text.pop();
-    Ok(())
+    match database.name(feature) {
+        Some(name) => push_quoted(alloc, text, name),
+        None => Err(RunFault::Damaged(0)),
+    }
 }
 
 /// Appends a comma and a moment as a fraction of milliseconds since the base.
