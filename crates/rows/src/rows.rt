@@ -10,8 +10,8 @@ use std::marker::Model;
 
 /// Rows of attribute values, seen by contracts as the list of these rows.
 ///
-/// All values stand in one text, one after another, with 8 bytes for each value and 16 for each row beside
-/// it. Blank values at a row's end are counted, not kept.
+/// All values stand in one text, one after another, with 8 bytes for each value and 16 for each row
+/// beside it. Blank values that `Values` counts at a row's end are counted here too, not kept.
 #[derive(Drop)]
 pub struct Rows {
     values: ByteRecord,
@@ -91,8 +91,8 @@ impl Rows {
         })
     }
 
-    /// Puts a row behind the others. It is refused where memory runs out, or a row has 2^32 values, and then
-    /// the rows are as before.
+    /// Puts a row behind the others. It is refused where memory runs out, and where the row has 2^32
+    /// values that are kept, or as many blank ones; then the rows are as before.
     pub fn push(&mut self, row: &Values) -> Result<(), AllocError>
         ensures pushed { OnOk result (self.new ≡ self.old ++ row.now ∷ []) }
         ensures stays { OnErr result (self.new ≡ self.old) }
