@@ -2,6 +2,7 @@ pub mod Faults
 pub mod Way
 pub mod Telling
 pub mod Index
+pub mod Known
 pub mod Beside
 pub mod Lending
 pub mod Putting

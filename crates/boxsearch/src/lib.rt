@@ -5,6 +5,7 @@ mod answers;
 mod descent;
 mod fault;
 mod joining;
+mod known;
 mod listed;
 mod marking;
 mod nodes;

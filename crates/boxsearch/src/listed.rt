@@ -2,6 +2,7 @@
 use crate::answers::{found, insertion, retrieval};
 use crate::descent::search;
 use crate::joining::join_all;
+use crate::known::make_room;
 use crate::tree_index::TreeIndex;
 use crate::turns::turns_of;
 use chains::{trajectory, trajectory_in};
@@ -105,8 +106,13 @@ impl<S: PageStore> LegIndex for TreeIndex<S> {
         let Some(place) = self.place(feature) else {
             return Ok(Vec::new(self.alloc));
         };
+        let feature = feature as usize;
+        if make_room(self.alloc, &mut self.known, feature).is_err() {
+            return Err(IndexFault::Memory);
+        }
         let shape = self.tree.shape;
-        retrieval(trajectory(self.alloc, &mut self.cache, &shape, &place))
+        let spans = &mut self.known[feature];
+        retrieval(trajectory(self.alloc, &mut self.cache, &shape, &place, spans))
     }
 
     fn track_in(&mut self, feature: u32, period: &Period) -> Result<Vec<Leg>, IndexFault> {
@@ -116,7 +122,12 @@ impl<S: PageStore> LegIndex for TreeIndex<S> {
         let Some(place) = self.place(feature) else {
             return Ok(Vec::new(self.alloc));
         };
+        let feature = feature as usize;
+        if make_room(self.alloc, &mut self.known, feature).is_err() {
+            return Err(IndexFault::Memory);
+        }
         let shape = self.tree.shape;
-        retrieval(trajectory_in(self.alloc, &mut self.cache, &shape, &place, period))
+        let spans = &mut self.known[feature];
+        retrieval(trajectory_in(self.alloc, &mut self.cache, &shape, &place, period, spans))
     }
 }

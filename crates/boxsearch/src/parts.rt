@@ -38,6 +38,7 @@ impl<S: PageStore> TreeIndex<S> {
             tree,
             places,
             legs,
+            known: Vec::new(alloc),
         }
     }
 
@@ -72,6 +73,7 @@ impl<S: PageStore> TreeIndex<S> {
         ensures taken { result.items ≡ self.old.places }
         ensures rest { self.new ≡ record self.old { places = [] } }
     {
+        self.known = Vec::new(self.alloc);
         mem::replace(&mut self.places, Vec::new(self.alloc))
     }
 
@@ -79,6 +81,7 @@ impl<S: PageStore> TreeIndex<S> {
     pub fn put_places(&mut self, places: Vec<Place>)
         ensures { self.new ≡ record self.old { places = places.items } }
     {
+        self.known = Vec::new(self.alloc);
         self.places = places;
     }
 
@@ -87,6 +90,7 @@ impl<S: PageStore> TreeIndex<S> {
         ensures* lends { sem 𝓛 (LendsCache S.row S.PageStore self.entry result) }
         ensures value { result.now ≡ self.old.cache }
     {
+        self.known = Vec::new(self.alloc);
         &mut self.cache
     }
 }

@@ -1,6 +1,7 @@
 //! An index of legs over pages.
 use crate::answers::of_pages;
 use crate::marking::mark_page;
+use chains::LeafSpan;
 use legs::{IndexFault, Leg};
 use pagecache::PageCache;
 use pages::PageStore;
@@ -12,6 +13,9 @@ use tbtree::{Place, Shape, TbTree, TreeFault, insert};
 ///
 /// It stands for the legs that its pages say, and keeps no leg beside them. A page that is not there or not what the
 /// tree expects is answered as `Damaged`.
+///
+/// What it keeps beside them are the spans of the leaves that were read, by feature, until a page may be another one: a
+/// leaf that is known to be off a period is not read again.
 #[derive(Drop)]
 pub struct TreeIndex<S: PageStore> {
     pub(crate) alloc: Global,
@@ -19,6 +23,7 @@ pub struct TreeIndex<S: PageStore> {
     pub(crate) tree: TbTree,
     pub(crate) places: Vec<Place>,
     pub(crate) legs: u64,
+    pub(crate) known: Vec<Vec<LeafSpan>>,
 }
 
 impl<S: PageStore> Model for TreeIndex<S> {
@@ -26,7 +31,12 @@ impl<S: PageStore> Model for TreeIndex<S> {
 
     ghost Value = { IndexView };
 
+    ghost use Rattle.std.specs.Prelude.{map};
+    ghost use Rattle.boxsearch.specs.Known.{AreKnown};
+
     ghost view = { λ a. record { cache = a.cache; tree = a.tree; places = a.places.items; legs = a.legs } };
+
+    ghost invariant = { λ a. AreKnown a.cache a.tree.shape a.places.items (map (λ spans. spans.items) a.known.items) };
 }
 
 impl<S: PageStore> TreeIndex<S> {
@@ -56,6 +66,7 @@ impl<S: PageStore> TreeIndex<S> {
             tree: TbTree::new(shape),
             places: Vec::new(alloc),
             legs: 0,
+            known: Vec::new(alloc),
         }
     }
 
@@ -76,6 +87,7 @@ impl<S: PageStore> TreeIndex<S> {
             return Err(IndexFault::Spent);
         }
         tbtree::laws();
+        self.known = Vec::new(self.alloc);
         of_pages(mark_page(&mut self.cache))
     }
 
@@ -97,6 +109,7 @@ impl<S: PageStore> TreeIndex<S> {
         if self.tree.spent {
             return Err(IndexFault::Spent);
         }
+        self.known = Vec::new(self.alloc);
         of_pages(self.cache.flush())
     }
 
@@ -128,6 +141,7 @@ impl<S: PageStore> TreeIndex<S> {
             ≡ record self.old { places = with_place self.old.places feature }) }
         ensures err { OnErr result (self.new ≡ self.old) }
     {
+        self.known = Vec::new(self.alloc);
         if feature == self.places.len() {
             self.places.push(Place::new())?;
         }
@@ -154,6 +168,7 @@ impl<S: PageStore> TreeIndex<S> {
         requires feature { leg.feature < length self.old.places }
         ensures { Puts self.old self.new leg result }
     {
+        self.known = Vec::new(self.alloc);
         let feature = leg.feature as usize;
         let mut place = self.places[feature];
         let result = insert(&mut self.tree, &mut self.cache, &mut place, leg);

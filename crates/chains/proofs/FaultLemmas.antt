@@ -54,7 +54,7 @@ module _ {L : Type 0} (leaf : LeafView L) where
             not_from_false (leaf.previous == 0) (ne_eqb leaf.previous 0 (p.one_before (omega (arith, o))))
       ]) refl
 
-  fits_to : (link : Link) (spot : Spot) → fits leaf link spot ≡ true → Fits leaf link spot
+  pub fits_to : (link : Link) (spot : Spot) → fits leaf link spot ≡ true → Fits leaf link spot
   unfolding fits
   fits_to link spot e =
       let a = and_parts (is_of_feature link.feature leaf.feature) _ e in
@@ -67,7 +67,7 @@ module _ {L : Type 0} (leaf : LeafView L) where
         placed = placed_to link.page spot c.1;
       }
 
-  fits_from : (link : Link) (spot : Spot) → Fits leaf link spot → fits leaf link spot ≡ true
+  pub fits_from : (link : Link) (spot : Spot) → Fits leaf link spot → fits leaf link spot ≡ true
   unfolding fits
   fits_from link spot f =
       and_from (is_of_feature link.feature leaf.feature) _ (feature_from link.feature leaf.feature f.feature_is)

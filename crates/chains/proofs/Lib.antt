@@ -2,7 +2,9 @@ pub mod ReadLemmas
 pub mod GroupLemmas
 pub mod KeepLemmas
 pub mod StepLemmas
+pub mod SpanLemmas
 pub mod FaultLemmas
+pub mod WalkLemmas
 pub mod BackLemmas
 pub mod PlaceLemmas
 pub mod RiseLemmas

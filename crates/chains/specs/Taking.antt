@@ -5,27 +5,37 @@ use Rattle.legs.specs.Legs.{LegView}
 use Rattle.legs.specs.Boxes.{BoxView}
 use Rattle.tbtree.specs.Nodes.{Pages, Node, LeafView, ALeaf}
 use Rattle.chains.specs.Links.{Takes, fits, is_linked}
+use Rattle.chains.specs.Spans.{Learns}
 use Rattle.chains.specs.declared.fault.ChainFault.{ChainFault}
 use Rattle.chains.specs.declared.fault.ChainFault.TheVariants.{Cache as OfCache, Malformed, Memory}
 use Rattle.chains.specs.declared.leaves.Link.{Link}
 use Rattle.chains.specs.declared.leaves.Spot.{Spot}
+use Rattle.chains.specs.declared.spans.LeafSpan.{LeafSpan}
 
--- the node is the leaf of the link, and is taken
+-- what is learned of a leaf: the spans before and after it, and how many leaves were passed
+pub record Lesson : Type 0 where
+  pub old : List LeafSpan
+  pub new : List LeafSpan
+  pub passed : ℕ
+
+-- the node is the leaf of the link, and is taken, and learned
 pub record TakesNode (node : Option (Node LegView BoxView)) (link : Link) (spot : Spot) (period : Option PeriodView)
-    (old new : List LegView) (result : Option Link) : Type 0 where
+    (old new : List LegView) (lesson : Lesson) (result : Option Link) : Type 0 where
   pub leaf : LeafView LegView
   pub is : node ≡ Some (ALeaf leaf)
   pub fit : fits leaf link spot ≡ true
   pub takes : Takes leaf link.page period old new result
+  pub learns : Learns lesson.old lesson.new lesson.passed link.page leaf
 
 -- the page of the link is
 pub record TakesPage (nodes : Pages LegView BoxView) (link : Link) (spot : Spot) (period : Option PeriodView)
-    (old new : List LegView) (result : Option Link) : Type 0 where
+    (old new : List LegView) (lesson : Lesson) (result : Option Link) : Type 0 where
   pub leaf : LeafView LegView
   pub above : link.page ≢ 0
   pub is : nodes.at link.page ≡ Some (Some (ALeaf leaf))
   pub fit : fits leaf link spot ≡ true
   pub takes : Takes leaf link.page period old new result
+  pub learns : Learns lesson.old lesson.new lesson.passed link.page leaf
 
 -- a node is refused for want of memory, or because it does not fit; then its page is named
 abbrev pub IsNodeFault : Bool → ℕ → ChainFault → Type 0

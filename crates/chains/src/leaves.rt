@@ -1,5 +1,5 @@
 //! One leaf on the way back along a chain.
-ghost use Rattle.std.specs.Prelude.{◌≡◌, ◌≢◌, ◌+◌, ◌-◌, ◌*◌, ◌≤◌, ◌++◌, ◌↔◌, None, Some, min, filter, reverse, OnOk, IfOk, IfErr, IsTrue};
+ghost use Rattle.std.specs.Prelude.{◌≡◌, ◌≢◌, ◌+◌, ◌-◌, ◌*◌, ◌≤◌, ◌++◌, ◌↔◌, None, Some, min, filter, reverse, OnOk, OnErr, IfOk, IfErr, IsTrue};
 ghost use Rattle.legs.specs.Legs.{LegView};
 ghost use Rattle.pagecache.specs.Cache.{Cache, AsksOnce};
 ghost use Rattle.tbnode.specs.Form.{node_of};
@@ -10,6 +10,7 @@ ghost use Rattle.chains.specs.Reads.{OnlyReads};
 ghost use Rattle.chains.specs.Taking.{TakesNode, TakesPage, IsNodeFault, fault_at};
 
 use crate::fault::ChainFault;
+use crate::spans::{LeafSpan, learn};
 use legs::Leg;
 use pagecache::PageCache;
 use pages::{PageStore, Payload};
@@ -124,16 +125,21 @@ fn is_end(leaf: &Leaf<'_>, period: &Option<Period>) -> bool
     }
 }
 
-/// Takes the kept legs of a payload, and gives the link to the leaf before it; none where nothing before is kept.
+/// Takes the kept legs of a payload, makes its span known, and gives the link to the leaf before it; none where nothing
+/// before is kept.
 fn take_node(
     payload: &Payload,
     link: &Link,
     spot: &Spot,
     period: &Option<Period>,
     found: &mut Vec<Leg>,
+    spans: &mut Vec<LeafSpan>,
+    passed: usize,
 ) -> Result<Option<Link>, ChainFault>
     ensures taken { IfOk result (TakesNode (node_of payload.now) link.now spot.now period.now
-        found.old.items found.new.items) }
+        found.old.items found.new.items
+        (record { old = spans.old.items; new = spans.new.items; passed = passed })) }
+    ensures forgets { OnErr result (spans.new.items ≡ spans.old.items) }
     ensures named { IfErr result
         (IsNodeFault (fits_node (node_of payload.now) link.now spot.now) link.now.page) }
     ensures caused { (old new : Cache) → IfErr result (IsCaused old new) }
@@ -145,6 +151,7 @@ fn take_node(
         return Err(ChainFault::Malformed(link.page));
     }
     push_kept(&leaf, period, found)?;
+    learn(spans, passed, &leaf, link.page)?;
     if is_end(&leaf, period) {
         return Ok(None);
     }
@@ -156,18 +163,22 @@ fn take_node(
     }))
 }
 
-/// Takes the kept legs of the leaf that the link leads to, which is to have that spot, and gives the link to the leaf
-/// before it; none where nothing before is kept.
+/// Takes the kept legs of the leaf that the link leads to, which is to have that spot, makes its span known, and gives
+/// the link to the leaf before it; none where nothing before is kept. So many leaves after it were passed.
 pub(crate) fn take<S: PageStore>(
     cache: &mut PageCache<S>,
     link: &Link,
     spot: &Spot,
     period: &Option<Period>,
     found: &mut Vec<Leg>,
+    spans: &mut Vec<LeafSpan>,
+    passed: usize,
 ) -> Result<Option<Link>, ChainFault>
     ensures taken { IsTrue cache.old.store.is_faithful
         → IfOk result (TakesPage (pages_of_cache cache.old) link.now spot.now period.now
-        found.old.items found.new.items) }
+        found.old.items found.new.items
+        (record { old = spans.old.items; new = spans.new.items; passed = passed })) }
+    ensures forgets { OnErr result (spans.new.items ≡ spans.old.items) }
     ensures named { IsTrue cache.old.store.is_faithful
         → IfErr result (IsNamed (pages_of_cache cache.old)
         (fault_at (pages_of_cache cache.old) link.now spot.now)) }
@@ -183,5 +194,5 @@ pub(crate) fn take<S: PageStore>(
         Ok(payload) => payload,
         Err(fault) => return Err(ChainFault::of(fault, link.page)),
     };
-    take_node(payload, link, spot, period, found)
+    take_node(payload, link, spot, period, found, spans, passed)
 }

@@ -4,6 +4,8 @@
 mod fault;
 mod leaves;
 mod retrieval;
+mod spans;
 
 pub use fault::ChainFault;
 pub use retrieval::{laws, trajectory, trajectory_in};
+pub use spans::LeafSpan;

@@ -1,10 +1,11 @@
 //! The legs of a feature.
-ghost use Rattle.std.specs.Prelude.{ℕ, ◌≡◌, ◌+◌, ◌≤◌, ◌↔◌, List, Option, Some, None, reverse, OnOk, IfOk, IfErr, IsTrue};
+ghost use Rattle.std.specs.Prelude.{ℕ, suc, ◌≡◌, ◌+◌, ◌-◌, ◌^◌, ◌<◌, ◌≤◌, ◌↔◌, List, Option, Some, None, drop, reverse, slice_get, OnErr, OnOk, IfOk, IfErr, IsTrue};
 ghost use Rattle.std.specs.Int.{div_ceil};
 ghost use Rattle.legs.specs.Boxes.{BoxView};
 ghost use Rattle.legs.specs.Costs.{ShapeView, RisesBy, RisesAtMost, track_cost, track_in_bound};
 ghost use Rattle.legs.specs.Index.{legs_of, live_legs_of};
 ghost use Rattle.legs.specs.Legs.{LegView};
+ghost use Rattle.pagecache.specs.Cache.{Cache};
 ghost use Rattle.tbtree.specs.Nodes.{Pages, pages_of_cache};
 ghost use Rattle.tbtree.specs.Shape.{IsShape};
 ghost use Rattle.tbtree.specs.declared.tree.Place.{Place};
@@ -12,10 +13,15 @@ ghost use Rattle.timebase.specs.Period.{PeriodView};
 ghost use Rattle.chains.specs.Chains.{AreHeld, IsPlaceChain, chain_fault, chain_legs, chain_cost, is_stray};
 ghost use Rattle.chains.specs.Faults.{IsAllowed, IsCaused, IsNamed, IsOfHeld, Gives};
 ghost use Rattle.chains.specs.Reads.{OnlyReads};
+ghost use Rattle.chains.specs.Links.{spot_of};
+ghost use Rattle.chains.specs.Spans.{AreSpans, AsksAs, IsKnown, known_cost, pass_at};
+ghost use Rattle.chains.specs.Taking.{TakesPage, fault_at};
 ghost use Rattle.chains.specs.Trajectory.{HasFeature};
+ghost use Rattle.chains.specs.declared.spans.LeafSpan.{LeafSpan};
 
 use crate::fault::ChainFault;
 use crate::leaves::{Link, spot_of, take};
+use crate::spans::{LeafSpan, Passing, pass};
 use legs::Leg;
 use pagecache::PageCache;
 use pages::PageStore;
@@ -30,7 +36,61 @@ fn is_stray(place: &Place) -> bool
     place.legs == 0 && (place.first != 0 || place.last != 0)
 }
 
+/// Where a walk back along a chain is: the link to the leaf, how many leaves there are before it, and how many after it
+/// were passed.
+#[derive(Clone, Copy)]
+struct Cursor {
+    link: Link,
+    left: u64,
+    passed: usize,
+}
+
+/// Takes the kept legs of the leaf at a cursor, of the chain of a place in leaves of `most` legs, and gives the link to
+/// the leaf before it; none where nothing before is kept. A leaf that is known to be off the period is not read, and one
+/// that is read is known from then on.
+fn step<S: PageStore>(
+    cache: &mut PageCache<S>,
+    place: &Place,
+    most: u64,
+    at: &Cursor,
+    period: &Option<Period>,
+    found: &mut Vec<Leg>,
+    spans: &mut Vec<LeafSpan>,
+) -> Result<Option<Link>, ChainFault>
+    requires known { IsTrue cache.old.store.is_faithful
+        → AreSpans (pages_of_cache cache.old) most place.now.legs place.now.first
+        (drop at.now.passed spans.old.items) (suc at.now.left) at.now.link }
+    requires room { at.now.passed < 2 ^ 64 - 1 }
+    ensures taken { IsTrue cache.old.store.is_faithful
+        → IfOk result (TakesPage (pages_of_cache cache.old) at.now.link
+        (spot_of most place.now.legs place.now.first at.now.left) period.now
+        found.old.items found.new.items
+        (record { old = spans.old.items; new = spans.new.items; passed = at.now.passed })) }
+    ensures forgets { OnErr result (spans.new.items ≡ spans.old.items) }
+    ensures named { IsTrue cache.old.store.is_faithful
+        → IfErr result (IsNamed (pages_of_cache cache.old) (fault_at (pages_of_cache cache.old)
+        at.now.link (spot_of most place.now.legs place.now.first at.now.left))) }
+    ensures reads { OnlyReads cache.old cache.new }
+    ensures caused { IfErr result (IsCaused cache.old cache.new) }
+    ensures asked { IfOk result (λ back. AsksAs (pass_at
+        (slice_get spans.old.items at.now.passed)
+        (slice_get spans.old.items (suc at.now.passed)) at.now.left period.now)
+        back cache.old cache.new) }
+    ensures most { cache.new.asked ≤ cache.old.asked + 1 }
+{
+    match pass(spans.as_slice(), at.passed, at.left, period) {
+        Passing::End => Ok(None),
+        Passing::Over(back) => Ok(Some(back)),
+        Passing::Into => {
+            let spot = spot_of(place, most, at.left);
+            take(cache, &at.link, &spot, period, found, spans, at.passed)
+        }
+    }
+}
+
 /// The kept legs of a chain, from the last leaf back to the first, or to one that starts before the period; in reverse.
+///
+/// What is known of its last leaves is used, and more of them are known after it.
 #[tactic(auto, using(crate::proofs::ReadLemmas::reading))]
 fn walk_back<S: PageStore>(
     alloc: Global,
@@ -38,7 +98,10 @@ fn walk_back<S: PageStore>(
     shape: &Shape,
     place: &Place,
     period: &Option<Period>,
+    spans: &mut Vec<LeafSpan>,
 ) -> Result<Vec<Leg>, ChainFault>
+    requires known { IsTrue cache.old.store.is_faithful
+        → IsKnown (pages_of_cache cache.old) shape.now place.now spans.old.items }
     ensures found { IsTrue cache.old.store.is_faithful
         → IfOk result (λ found. found.items
         ≡ reverse (chain_legs (pages_of_cache cache.old) period.now shape.now place.now)) }
@@ -52,12 +115,14 @@ fn walk_back<S: PageStore>(
     ensures caused { IfErr result (IsCaused cache.old cache.new) }
     ensures asked { IsTrue cache.old.store.is_faithful
         → OnOk result (RisesBy cache.old.asked cache.new.asked
-        (chain_cost (pages_of_cache cache.old) period.now shape.now place.now)) }
+        (known_cost (pages_of_cache cache.old) period.now shape.now place.now spans.old.items)) }
     ensures within { IsTrue cache.old.store.is_faithful
         → OnOk result (RisesAtMost cache.old.asked cache.new.asked
         (chain_cost (pages_of_cache cache.old) period.now shape.now place.now)) }
     ensures most { cache.new.asked
         ≤ cache.old.asked + div_ceil place.now.legs shape.now.leaf }
+    ensures learns { IsTrue cache.old.store.is_faithful
+        → IsKnown (pages_of_cache cache.old) shape.now place.now spans.new.items }
     ensures shape { IsShape shape.now }
 {
     let most = u64::from(shape.leaf());
@@ -65,6 +130,7 @@ fn walk_back<S: PageStore>(
         return Err(ChainFault::Malformed(0));
     }
     let mut left = place.legs.div_ceil(most);
+    let mut passed = 0;
     let mut link = Link {
         page: place.last,
         next: 0,
@@ -73,11 +139,12 @@ fn walk_back<S: PageStore>(
     let mut found = Vec::new(alloc);
     'leaves: while left > 0 {
         left -= 1;
-        let spot = spot_of(place, most, left);
-        let Some(back) = take(cache, &link, &spot, period, &mut found)? else {
+        let at = Cursor { link, left, passed };
+        let Some(back) = step(cache, place, most, &at, period, &mut found, spans)? else {
             return Ok(found);
         };
         link = back;
+        passed += 1;
     }
     Ok(found)
 }
@@ -93,7 +160,11 @@ pub fn trajectory<S: PageStore>(
     cache: &mut PageCache<S>,
     shape: &Shape,
     place: &Place,
+    spans: &mut Vec<LeafSpan>,
 ) -> Result<Vec<Leg>, ChainFault>
+    requires known { IsTrue cache.old.store.is_faithful
+        → IsKnown (pages_of_cache cache.old) shape.now place.now spans.old.items }
+
     // Of pages that stand for a list: exactly the feature's legs; only a failed store and want of memory refuse.
     ensures found { IsTrue cache.old.store.is_faithful → (legs : List LegView) (feature : ℕ)
         → HasFeature (pages_of_cache cache.old) shape.now place.now feature legs
@@ -131,13 +202,17 @@ pub fn trajectory<S: PageStore>(
         → OnOk result (RisesAtMost cache.old.asked cache.new.asked
         (chain_cost (pages_of_cache cache.old) None shape.now place.now)) }
 
+    // What is known of the chain's last leaves, after it as before it.
+    ensures learns { IsTrue cache.old.store.is_faithful
+        → IsKnown (pages_of_cache cache.old) shape.now place.now spans.new.items }
+
     // Over any store; what is said of payloads, over a faithful one.
     ensures reads { OnlyReads cache.old cache.new }
     ensures caused { IfErr result (IsCaused cache.old cache.new) }
     ensures most { cache.new.asked
         ≤ cache.old.asked + div_ceil place.now.legs shape.now.leaf }
 {
-    let mut found = walk_back(alloc, cache, shape, place, &None)?;
+    let mut found = walk_back(alloc, cache, shape, place, &None, spans)?;
     found.reverse();
     Ok(found)
 }
@@ -154,7 +229,11 @@ pub fn trajectory_in<S: PageStore>(
     shape: &Shape,
     place: &Place,
     period: &Period,
+    spans: &mut Vec<LeafSpan>,
 ) -> Result<Vec<Leg>, ChainFault>
+    requires known { IsTrue cache.old.store.is_faithful
+        → IsKnown (pages_of_cache cache.old) shape.now place.now spans.old.items }
+
     // Of pages that stand for a list: exactly the feature's live legs; only a failed store and want of memory refuse.
     ensures found { IsTrue cache.old.store.is_faithful → (legs : List LegView) (feature : ℕ)
         → HasFeature (pages_of_cache cache.old) shape.now place.now feature legs
@@ -187,10 +266,15 @@ pub fn trajectory_in<S: PageStore>(
         (chain_fault (pages_of_cache cache.old) (Some period.now) shape.now place.now)) }
     ensures walked { IsTrue cache.old.store.is_faithful
         → OnOk result (RisesBy cache.old.asked cache.new.asked
-        (chain_cost (pages_of_cache cache.old) (Some period.now) shape.now place.now)) }
+        (known_cost (pages_of_cache cache.old) (Some period.now) shape.now place.now
+        spans.old.items)) }
     ensures within { IsTrue cache.old.store.is_faithful
         → OnOk result (RisesAtMost cache.old.asked cache.new.asked
         (chain_cost (pages_of_cache cache.old) (Some period.now) shape.now place.now)) }
+
+    // What is known of the chain's last leaves, after it as before it.
+    ensures learns { IsTrue cache.old.store.is_faithful
+        → IsKnown (pages_of_cache cache.old) shape.now place.now spans.new.items }
 
     // Over any store; what is said of payloads, over a faithful one.
     ensures reads { OnlyReads cache.old cache.new }
@@ -198,7 +282,7 @@ pub fn trajectory_in<S: PageStore>(
     ensures most { cache.new.asked
         ≤ cache.old.asked + div_ceil place.now.legs shape.now.leaf }
 {
-    let mut found = walk_back(alloc, cache, shape, place, &Some(*period))?;
+    let mut found = walk_back(alloc, cache, shape, place, &Some(*period), spans)?;
     found.reverse();
     Ok(found)
 }
@@ -209,4 +293,10 @@ pub fn laws()
     ensures whole { (nodes : Pages LegView BoxView) (period : Option PeriodView)
         (shape : ShapeView) (place : Place) → chain_fault nodes period shape place ≡ None
         ↔ IsPlaceChain nodes period shape place }
+
+    // What is known lasts where pages are only read.
+    ensures lasts { (old new : Cache) (shape : ShapeView) (place : Place) (spans : List LeafSpan)
+        → OnlyReads old new → IsTrue old.store.is_faithful
+        → IsKnown (pages_of_cache old) shape place spans
+        → IsKnown (pages_of_cache new) shape place spans }
 {}

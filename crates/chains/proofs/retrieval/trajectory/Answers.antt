@@ -7,6 +7,7 @@ use Rattle.tbtree.specs.Nodes.{pages_of_cache}
 use Rattle.chains.specs.Chains.{chain_legs}
 use Rattle.chains.proofs.FaultLemmas.{allowed_of, whole_from, whole_to}
 use Rattle.chains.proofs.PlaceLemmas.{whole_chain, whole_walk, whole_cost, walked_all}
+use Rattle.chains.proofs.SpanLemmas.{cost_whole}
 use Rattle.chains.proofs.retrieval.trajectory.Goals as goal
 
 pub returns-in_err-found-clause-found : goal.returns-in_err-found-clause-found
@@ -37,8 +38,9 @@ returns-clause-asked g c = λ fa legs f h below.
     let some : 0 < shape.leaf = let least = c.walk_back.ensures.shape.least_leaf in omega (arith, least) in
     let asked = c.in_ok-found.ensures.asked fa below in
     let all = walked_all nodes (div_ceil place.legs shape.leaf) place.last in
+    let each = cost_whole nodes c.args.spans.now.items (div_ceil place.legs shape.leaf) place.last in
     let cost = whole_cost nodes shape place f legs some h in
-    omega (arith, asked, all, cost)
+    omega (arith, asked, all, each, cost)
 
 pub returns-clause-legs : goal.returns-clause-legs
 returns-clause-legs g c = λ fa.
@@ -53,3 +55,10 @@ returns-in_err-found-clause-only g c = λ fa h.
 
 pub returns-clause-chain : goal.returns-clause-chain
 returns-clause-chain g c = λ fa. whole_to (pages_of_cache c.args.cache.now) None c.args.shape.now c.args.place.now (c.in_ok-found.ensures.whole fa)
+
+pub returns-clause-walked : goal.returns-clause-walked
+returns-clause-walked g c = λ fa below.
+    let place = c.args.place.now in
+    let each = cost_whole (pages_of_cache c.args.cache.now) c.args.spans.now.items (div_ceil place.legs c.args.shape.now.leaf) place.last in
+    let asked = c.in_ok-found.ensures.asked fa below in
+    omega (arith, asked, each)

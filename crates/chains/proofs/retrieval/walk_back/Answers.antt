@@ -1,12 +1,17 @@
-use Rattle.std.proofs.Common.{rules, ◌≡◌, ◌-◌, suc, arith, ap, sym, ◌∙◌, ◌++◌}
+use Rattle.std.proofs.Common.{rules, ◌≡◌, ◌+◌, ◌-◌, suc, arith, ap, subst, sym, ◌∙◌, ◌++◌, drop, slice_get, Some, None}
 use Rattle.std.specs.Prelude.{reverse}
+use Rattle.std.proofs.lemmas.List.{append-nil}
 use Rattle.std.proofs.lemmas.Result.{err_from_is_err_and}
 use Rattle.tbtree.specs.Nodes.{pages_of_cache}
-use Rattle.chains.specs.Chains.{fault_from, walk, walked}
+use Rattle.std.specs.Int.{div_ceil}
+use Rattle.chains.specs.Chains.{fault_from, last_link, walk, walked}
+use Rattle.chains.specs.Spans.{AreSpans, AsksAs, IsKnown, pass_at, walked_by}
+use Rattle.chains.proofs.SpanLemmas.{IsOnWay, all_known, asks_last, asks_on, at_start, cost_none, past_read, rest_same, spans_last}
+use Rattle.chains.proofs.WalkLemmas.{linked_by}
 use Rattle.chains.specs.Links.{fits, is_end, link_back, spot_of}
 use Rattle.chains.specs.Taking.{fault_at}
 use Rattle.chains.proofs.ReadLemmas.{reads_trans}
-use Rattle.chains.proofs.StepLemmas.{same_at, goes_on, ends, found_on, found_end, asked_on, asked_end, fault_on, fault_end, fault_stops, fault_before, named_after, one_more}
+use Rattle.chains.proofs.StepLemmas.{same_at, goes_on, ends, found_on, found_end, asked_on, asked_end, fault_on, fault_end, fault_stops, fault_before, named_after}
 use Rattle.chains.proofs.retrieval.walk_back.Goals as goal
 
 pub leaves-preserved : goal.leaves-preserved
@@ -21,17 +26,27 @@ leaves-preserved g c =
     let n = c.leaves.left in
     let rest = c.leaves.left - 1 in
     let inv = c.leaves.invariant in
+    let blocks = div_ceil legs shape.leaf in
+    let start = last_link c.args.place.now in
     let less : n ≡ suc rest = omega (arith, c.leaves-test.true) in
     let most : c.from-most.result ≡ shape.leaf = search rules in
-    let spot : c.spot_of-spot.result ≡ spot_of shape.leaf legs first rest = c.spot_of-spot.ensures ∙ ap (λ m. spot_of m legs first rest) most in
+    let spot : spot_of c.from-most.result legs first rest ≡ spot_of shape.leaf legs first rest = ap (λ m. spot_of m legs first rest) most in
     record {
-      reads = reads_trans old c.leaves.cache c.take.new.cache inv.reads c.take.ensures.reads;
+      reads = reads_trans old c.leaves.cache c.step.new.cache inv.reads c.step.ensures.reads;
+      way = λ fa.
+          let t = c.in_ok-back.ensures.taken (inv.reads.store.faithful ∙ fa) in
+          let is = sym (same_at old c.leaves.cache inv.reads fa link.page) ∙ t.is in
+          let s = goes_on (is_end period t.leaf.legs) c.in-Some.back (link_back link.page t.leaf) (sym c.in-Some.is ∙ t.takes.link) in
+          let fit = ap (λ p. fits t.leaf link p) (sym spot) ∙ t.fit in
+          let past = past_read nodes shape.leaf legs first blocks start c.leaves.passed c.leaves.spans.items c.step.new.spans.items n rest link t.leaf (inv.way fa) less (linked_by nodes link (spot_of shape.leaf legs first rest) t.leaf t.above is fit) t.learns in
+          let next : c.leaves.passed + 1 ≡ suc c.leaves.passed = omega arith in
+          rw (next, s.1) past;
       found = λ fa.
           let t = c.in_ok-back.ensures.taken (inv.reads.store.faithful ∙ fa) in
           let is = sym (same_at old c.leaves.cache inv.reads fa link.page) ∙ t.is in
           let s = goes_on (is_end period t.leaf.legs) c.in-Some.back (link_back link.page t.leaf) (sym c.in-Some.is ∙ t.takes.link) in
-          ap (λ b. c.take.new.found.items ++ reverse (walk nodes period rest b.page)) s.1
-          ∙ found_on nodes period link t.leaf is rest n less c.leaves.found.items c.take.new.found.items _ s.0 t.takes.legs (inv.found fa);
+          ap (λ b. c.step.new.found.items ++ reverse (walk nodes period rest b.page)) s.1
+          ∙ found_on nodes period link t.leaf is rest n less c.leaves.found.items c.step.new.found.items _ s.0 t.takes.legs (inv.found fa);
       fault = λ fa.
           let t = c.in_ok-back.ensures.taken (inv.reads.store.faithful ∙ fa) in
           let is = sym (same_at old c.leaves.cache inv.reads fa link.page) ∙ t.is in
@@ -43,11 +58,17 @@ leaves-preserved g c =
           let t = c.in_ok-back.ensures.taken (inv.reads.store.faithful ∙ fa) in
           let is = sym (same_at old c.leaves.cache inv.reads fa link.page) ∙ t.is in
           let s = goes_on (is_end period t.leaf.legs) c.in-Some.back (link_back link.page t.leaf) (sym c.in-Some.is ∙ t.takes.link) in
-          let one = one_more c.leaves.cache.asked c.take.new.cache.asked c.in_ok-back.ensures.asked l in
-          let so_far = inv.asked fa one.0 in
-          let more = asked_on nodes period link t.leaf is rest n less s.0 in
-          let same = ap (λ b. walked nodes period rest b.page) s.1 in
-          omega (arith, one.1, so_far, more, same);
+          let spans = c.leaves.spans.items in
+          let passed = c.leaves.passed in
+          let asks : AsksAs (pass_at (slice_get spans passed) (slice_get spans (suc passed)) rest period) (Some c.in-Some.back) c.leaves.cache c.step.new.cache =
+          subst (λ back. AsksAs (pass_at (slice_get spans passed) (slice_get spans (suc passed)) rest period) back c.leaves.cache c.step.new.cache) c.in-Some.is c.in_ok-back.ensures.asked in
+          let on = asks_on nodes period passed spans rest n link.page less t.leaf is c.leaves.cache c.step.new.cache c.in-Some.back asks s.0 l in
+          let so_far = inv.asked fa on.0 in
+          let next : passed + 1 ≡ suc passed = omega arith in
+          let same = ap (λ k. walked_by nodes period (drop k c.step.new.spans.items) rest c.in-Some.back.page) next
+          ∙ ap (λ l. walked_by nodes period l rest c.in-Some.back.page) (rest_same passed link.page spans c.step.new.spans.items t.leaf (inv.way fa).within t.learns)
+          ∙ ap (λ b. walked_by nodes period (drop (suc passed) spans) rest b.page) s.1 in
+          omega (arith, on.1, so_far, same);
       within = λ fa.
           let t = c.in_ok-back.ensures.taken (inv.reads.store.faithful ∙ fa) in
           let is = sym (same_at old c.leaves.cache inv.reads fa link.page) ∙ t.is in
@@ -55,8 +76,9 @@ leaves-preserved g c =
           let so_far = inv.within fa in
           let more = asked_on nodes period link t.leaf is rest n less s.0 in
           let same = ap (λ b. walked nodes period rest b.page) s.1 in
-          omega (arith, c.take.ensures.most, so_far, more, same);
-      few = omega (arith, c.take.ensures.most, inv.few, less);
+          omega (arith, c.step.ensures.most, so_far, more, same);
+      passed = omega (arith, inv.passed, less);
+      few = omega (arith, c.step.ensures.most, inv.few, less);
     }
 
 pub returns-in_err-back-clause-named : goal.returns-in_err-back-clause-named
@@ -70,8 +92,8 @@ returns-in_err-back-clause-named g c = λ fa.
     let inv = c.leaves.invariant in
     let less : c.leaves.left ≡ suc rest = omega (arith, c.leaves-test.true) in
     let most : c.from-most.result ≡ shape.leaf = search rules in
-    let spot : c.spot_of-spot.result ≡ spot_of shape.leaf place.legs place.first rest = c.spot_of-spot.ensures ∙ ap (λ m. spot_of m place.legs place.first rest) most in
-    let same = ap (λ s. fault_at (pages_of_cache old) link s) (sym spot) ∙ fault_before old c.leaves.cache link c.spot_of-spot.result inv.reads fa in
+    let spot : spot_of c.from-most.result place.legs place.first rest ≡ spot_of shape.leaf place.legs place.first rest = ap (λ m. spot_of m place.legs place.first rest) most in
+    let same = ap (λ s. fault_at (pages_of_cache old) link s) (sym spot) ∙ fault_before old c.leaves.cache link (spot_of c.from-most.result place.legs place.first rest) inv.reads fa in
     rw (p.1, p.2) (named_after old c.leaves.cache _ _ _ inv.reads fa
     (λ q s. sym (inv.fault fa) ∙ fault_stops (pages_of_cache old) c.args.period.now shape.leaf place.legs place.first rest c.leaves.left link q less (same ∙ s))
     (c.in_err-back.ensures.named (inv.reads.store.faithful ∙ fa)))
@@ -85,7 +107,7 @@ returns-in_default-clause-found g c = λ fa.
     let t = c.in_ok-back.ensures.taken (inv.reads.store.faithful ∙ fa) in
     let is = sym (same_at old c.leaves.cache inv.reads fa link.page) ∙ t.is in
     let s = ends (is_end c.args.period.now t.leaf.legs) (link_back link.page t.leaf) (sym c.in_default.is ∙ t.takes.link) in
-    found_end (pages_of_cache old) c.args.period.now link t.leaf is (c.leaves.left - 1) c.leaves.left less c.leaves.found.items c.take.new.found.items _ s t.takes.legs (inv.found fa)
+    found_end (pages_of_cache old) c.args.period.now link t.leaf is (c.leaves.left - 1) c.leaves.left less c.leaves.found.items c.step.new.found.items _ s t.takes.legs (inv.found fa)
 
 pub returns-in_default-clause-whole : goal.returns-in_default-clause-whole
 returns-in_default-clause-whole g c = λ fa.
@@ -97,7 +119,7 @@ returns-in_default-clause-whole g c = λ fa.
     let inv = c.leaves.invariant in
     let less : c.leaves.left ≡ suc rest = omega (arith, c.leaves-test.true) in
     let most : c.from-most.result ≡ shape.leaf = search rules in
-    let spot : c.spot_of-spot.result ≡ spot_of shape.leaf place.legs place.first rest = c.spot_of-spot.ensures ∙ ap (λ m. spot_of m place.legs place.first rest) most in
+    let spot : spot_of c.from-most.result place.legs place.first rest ≡ spot_of shape.leaf place.legs place.first rest = ap (λ m. spot_of m place.legs place.first rest) most in
     let t = c.in_ok-back.ensures.taken (inv.reads.store.faithful ∙ fa) in
     let is = sym (same_at old c.leaves.cache inv.reads fa link.page) ∙ t.is in
     let s = ends (is_end c.args.period.now t.leaf.legs) (link_back link.page t.leaf) (sym c.in_default.is ∙ t.takes.link) in
@@ -107,16 +129,50 @@ returns-in_default-clause-whole g c = λ fa.
 pub returns-in_default-clause-asked : goal.returns-in_default-clause-asked
 returns-in_default-clause-asked g c = λ fa below.
     let old = c.args.cache.now in
+    let nodes = pages_of_cache old in
+    let period = c.args.period.now in
     let link = c.leaves.link in
+    let rest = c.leaves.left - 1 in
     let inv = c.leaves.invariant in
-    let less : c.leaves.left ≡ suc (c.leaves.left - 1) = omega (arith, c.leaves-test.true) in
+    let less : c.leaves.left ≡ suc rest = omega (arith, c.leaves-test.true) in
     let t = c.in_ok-back.ensures.taken (inv.reads.store.faithful ∙ fa) in
     let is = sym (same_at old c.leaves.cache inv.reads fa link.page) ∙ t.is in
-    let s = ends (is_end c.args.period.now t.leaf.legs) (link_back link.page t.leaf) (sym c.in_default.is ∙ t.takes.link) in
-    let one = one_more c.leaves.cache.asked c.take.new.cache.asked c.in_ok-back.ensures.asked below in
-    let so_far = inv.asked fa one.0 in
-    let last = asked_end (pages_of_cache old) c.args.period.now link t.leaf is (c.leaves.left - 1) c.leaves.left less s in
-    omega (arith, one.1, so_far, last)
+    let s = ends (is_end period t.leaf.legs) (link_back link.page t.leaf) (sym c.in_default.is ∙ t.takes.link) in
+    let spans = c.leaves.spans.items in
+    let passed = c.leaves.passed in
+    let asks : AsksAs (pass_at (slice_get spans passed) (slice_get spans (suc passed)) rest period) None c.leaves.cache c.step.new.cache =
+    subst (λ back. AsksAs (pass_at (slice_get spans passed) (slice_get spans (suc passed)) rest period) back c.leaves.cache c.step.new.cache) c.in_default.is c.in_ok-back.ensures.asked in
+    let last = asks_last nodes period passed spans rest c.leaves.left link.page less t.leaf is c.leaves.cache c.step.new.cache asks s below in
+    let so_far = inv.asked fa last.0 in
+    omega (arith, last.1, so_far)
+
+pub returns-in_default-clause-learns : goal.returns-in_default-clause-learns
+returns-in_default-clause-learns g c = λ fa.
+    let old = c.args.cache.now in
+    let nodes = pages_of_cache old in
+    let shape = c.args.shape.now in
+    let place = c.args.place.now in
+    let link = c.leaves.link in
+    let rest = c.leaves.left - 1 in
+    let inv = c.leaves.invariant in
+    let less : c.leaves.left ≡ suc rest = omega (arith, c.leaves-test.true) in
+    let most : c.from-most.result ≡ shape.leaf = search rules in
+    let spot : spot_of c.from-most.result place.legs place.first rest ≡ spot_of shape.leaf place.legs place.first rest = ap (λ m. spot_of m place.legs place.first rest) most in
+    let t = c.in_ok-back.ensures.taken (inv.reads.store.faithful ∙ fa) in
+    let is = sym (same_at old c.leaves.cache inv.reads fa link.page) ∙ t.is in
+    let fit = ap (λ p. fits t.leaf link p) (sym spot) ∙ t.fit in
+    let past = past_read nodes shape.leaf place.legs place.first (div_ceil place.legs shape.leaf) (last_link place) c.leaves.passed c.leaves.spans.items c.step.new.spans.items c.leaves.left rest link t.leaf (inv.way fa) less
+    (linked_by nodes link (spot_of shape.leaf place.legs place.first rest) t.leaf t.above is fit) t.learns in
+    all_known nodes shape.leaf place.legs place.first (div_ceil place.legs shape.leaf) (last_link place) (suc c.leaves.passed) c.step.new.spans.items rest (link_back link.page t.leaf) past
+
+pub returns-clause-asked : goal.returns-clause-asked
+returns-clause-asked g c = λ fa below.
+    let nodes = pages_of_cache c.args.cache.now in
+    let inv = c.leaves.invariant in
+    let none : c.leaves.left ≡ 0 = omega (arith, c.leaves-test.false) in
+    let all = inv.asked fa below in
+    let no_more = ap (λ n. walked_by nodes c.args.period.now (drop c.leaves.passed c.leaves.spans.items) n c.leaves.link.page) none ∙ cost_none nodes c.args.period.now (drop c.leaves.passed c.leaves.spans.items) c.leaves.link.page in
+    omega (arith, all, no_more)
 
 pub returns-in_default-clause-within : goal.returns-in_default-clause-within
 returns-in_default-clause-within g c = λ fa.
@@ -129,4 +185,23 @@ returns-in_default-clause-within g c = λ fa.
     let s = ends (is_end c.args.period.now t.leaf.legs) (link_back link.page t.leaf) (sym c.in_default.is ∙ t.takes.link) in
     let so_far = inv.within fa in
     let last = asked_end (pages_of_cache old) c.args.period.now link t.leaf is (c.leaves.left - 1) c.leaves.left less s in
-    omega (arith, c.take.ensures.most, so_far, last)
+    omega (arith, c.step.ensures.most, so_far, last)
+
+pub step-requires-clause-known : goal.step-requires-clause-known
+step-requires-clause-known g c = λ fa.
+    let old = c.args.cache.now in
+    let shape = c.args.shape.now in
+    let place = c.args.place.now in
+    let inv = c.leaves.invariant in
+    let was = sym inv.reads.store.faithful ∙ fa in
+    let most : c.from-most.result ≡ shape.leaf = search rules in
+    let n : c.leaves.left ≡ suc (c.leaves.left - 1) = omega (arith, c.leaves-test.true) in
+    let ahead = spans_last (pages_of_cache old) (pages_of_cache c.leaves.cache) (same_at old c.leaves.cache inv.reads was) shape.leaf place.legs place.first (drop c.leaves.passed c.leaves.spans.items) c.leaves.left c.leaves.link (inv.way was).ahead in
+    rw most (subst (λ k. AreSpans (pages_of_cache c.leaves.cache) shape.leaf place.legs place.first (drop c.leaves.passed c.leaves.spans.items) k c.leaves.link) n ahead)
+
+pub returns-clause-found : goal.returns-clause-found
+returns-clause-found g c = λ fa.
+    let nodes = pages_of_cache c.args.cache.now in
+    let inv = c.leaves.invariant in
+    let none : c.leaves.left ≡ 0 = omega (arith, c.leaves-test.false) in
+    sym (append-nil c.leaves.found.items) ∙ sym (ap (λ n. c.leaves.found.items ++ reverse (walk nodes c.args.period.now n c.leaves.link.page)) none) ∙ inv.found fa

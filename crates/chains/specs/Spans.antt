@@ -1,0 +1,98 @@
+-- What is known of the leaves of a chain that were read: a memory of its last leaves.
+use Rattle.std.specs.Prelude.{ℕ, ℤ, zero, suc, ◌≡◌, ◌≢◌, ◌+◌, ◌<◌, ◌++◌, ◌≤ℤ◌, Bool, cond, List, [], ◌∷◌, length, if◌then◌else◌, int_lt, int_le, Option, Some, None, All}
+use Rattle.std.specs.Int.{div_ceil}
+use Rattle.timebase.specs.Period.{PeriodView}
+use Rattle.legs.specs.Boxes.{BoxView}
+use Rattle.legs.specs.Costs.{ShapeView}
+use Rattle.legs.specs.Legs.{LegView}
+use Rattle.pagecache.specs.Cache.{Cache, AsksOnce}
+use Rattle.tbtree.specs.Nodes.{Pages, LeafView}
+use Rattle.tbtree.specs.declared.tree.Place.{Place}
+use Rattle.chains.specs.Chains.{IsLinked, last_link, legs_in, previous_of, walked}
+use Rattle.chains.specs.Links.{is_end, link_back, spot_of}
+use Rattle.chains.specs.declared.leaves.Link.{Link}
+use Rattle.chains.specs.declared.spans.LeafSpan.{LeafSpan}
+use Rattle.chains.specs.declared.spans.Passing.{Passing}
+use Rattle.chains.specs.declared.spans.Passing.TheVariants.{Into, Over, End}
+
+-- a leg, which does not end before it starts, is within a span of time
+pub record IsWithin (start end : ℤ) (leg : LegView) : Type 0 where
+  pub starts : start ≤ℤ leg.t0
+  pub rises : leg.t0 ≤ℤ leg.t1
+  pub ends : leg.t1 ≤ℤ end
+
+-- it is the span of the leaf on that page: the leaf has legs, and all of them are within it
+pub record IsSpanOf (span : LeafSpan) (page : ℕ) (leaf : LeafView LegView) : Type 0 where
+  pub page_is : span.page ≡ page
+  pub feature_is : span.feature ≡ leaf.feature
+  pub some : 0 < length leaf.legs
+  pub each : All (IsWithin span.start span.end) leaf.legs
+
+-- on the way back along n leaves of a chain of so many legs these are the spans of the leaves that are met, one after
+-- another, as far as they are known
+abbrev pub AreSpans : Pages LegView BoxView → (most legs first : ℕ) → List LeafSpan → ℕ → Link → Type 0
+AreSpans nodes most legs first [] n link = Unit {0}
+AreSpans nodes most legs first (span ∷ spans) zero link = ⊥
+AreSpans nodes most legs first (span ∷ spans) (suc n) link =
+    (leaf : LeafView LegView) × IsLinked nodes link (spot_of most legs first n) leaf × IsSpanOf span link.page leaf
+    × AreSpans nodes most legs first spans n (link_back link.page leaf)
+
+-- these are the spans of the last leaves of the place's chain, from the last one back
+abbrev pub IsKnown : Pages LegView BoxView → ShapeView → Place → List LeafSpan → Type 0
+IsKnown nodes shape place spans =
+    AreSpans nodes shape.leaf place.legs place.first spans (div_ceil place.legs shape.leaf) (last_link place)
+
+-- the link from a known leaf to the one before it
+abbrev pub link_over : LeafSpan → ℕ → Link
+link_over span before = record { page = before; next = span.page; feature = Some span.feature }
+
+-- a known leaf after the period is passed where the page before it is known too, or where there is none
+abbrev pub over : LeafSpan → Option LeafSpan → ℕ → Passing
+over span (Some before) left = Over (link_over span before.page)
+over span None zero = Over (link_over span 0)
+over span None (suc left) = Into
+
+-- what a walk does at a leaf with that span, if it is known, the span of the leaf before it, if it is, and so many
+-- leaves before it
+abbrev pub pass_at : Option LeafSpan → Option LeafSpan → ℕ → Option PeriodView → Passing
+pass_at None before left period = Into
+pass_at (Some span) before left None = Into
+pass_at (Some span) before left (Some period) =
+    if int_lt span.end period.start then End else if int_le span.start period.end then Into else over span before left
+
+-- the page of a leaf that is read was asked for once; no page of one that is passed, and this is the link over it; none
+-- where the walk ends, and then there is no link
+abbrev pub AsksAs : Passing → Option Link → Cache → Cache → Type 0
+AsksAs Into back old new = AsksOnce old new
+AsksAs (Over link) back old new = (new.asked ≡ old.asked) × (back ≡ Some link)
+AsksAs End back old new = (new.asked ≡ old.asked) × (back ≡ None)
+
+-- the span of a leaf has been put behind those that are known, where it is the next one
+pub record Learns (old new : List LeafSpan) (passed page : ℕ) (leaf : LeafView LegView) : Type 0 where
+  pub same : passed ≢ length old → new ≡ old
+  pub next : passed ≡ length old → (span : LeafSpan) × IsSpanOf span page leaf × (new ≡ old ++ span ∷ [])
+
+-- the pages that are read for a leaf and those before it: no more where the walk ends there, none for it where it is passed
+abbrev pub read_cost : Passing → Bool → ℕ → ℕ
+read_cost Into ends before = 1 + cond ends 0 before
+read_cost (Over link) ends before = before
+read_cost End ends before = 0
+
+-- the first of the spans
+abbrev pub next_span : List LeafSpan → Option LeafSpan
+next_span [] = None
+next_span (span ∷ spans) = Some span
+
+module _ (nodes : Pages LegView BoxView) (period : Option PeriodView) where
+  -- how many of n leaves from page p back are read, where these are the spans of the first ones
+  abbrev pub walked_by : List LeafSpan → ℕ → ℕ → ℕ
+  walked_by [] n p = walked nodes period n p
+  walked_by (span ∷ spans) zero p = 0
+  walked_by (span ∷ spans) (suc n) p =
+      read_cost (pass_at (Some span) (next_span spans) n period) (is_end period (legs_in (nodes.at p)))
+      (walked_by spans n (previous_of (nodes.at p)))
+
+-- how many leaves of the place's chain are read, where these are the spans of its last ones
+abbrev pub known_cost : Pages LegView BoxView → Option PeriodView → ShapeView → Place → List LeafSpan → ℕ
+known_cost nodes period shape place spans =
+    walked_by nodes period spans (div_ceil place.legs shape.leaf) place.last
