@@ -22,3 +22,4 @@ pub mod TurnSteps
 pub mod TurnOrder
 pub mod AllLemmas
 pub mod TurnNumbers
+pub mod KnownLemmas

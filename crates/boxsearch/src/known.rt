@@ -15,7 +15,7 @@ pub(crate) fn make_room(
     ensures widens { Widens (map (λ spans. spans.items) known.old.items)
         (map (λ spans. spans.items) known.new.items) }
 {
-    while known.len() <= feature {
+    'room: while known.len() <= feature {
         known.push(Vec::new(alloc))?;
     }
     Ok(())

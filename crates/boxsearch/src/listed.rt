@@ -96,6 +96,7 @@ impl<S: PageStore> LegIndex for TreeIndex<S> {
     }
 
     fn search(&mut self, query: &Box3) -> Result<Vec<Leg>, IndexFault> {
+        chains::laws();
         found(search(self.alloc, &mut self.cache, &self.tree, query))
     }
 
@@ -106,6 +107,7 @@ impl<S: PageStore> LegIndex for TreeIndex<S> {
         let Some(place) = self.place(feature) else {
             return Ok(Vec::new(self.alloc));
         };
+        chains::laws();
         let feature = feature as usize;
         if make_room(self.alloc, &mut self.known, feature).is_err() {
             return Err(IndexFault::Memory);
@@ -122,6 +124,7 @@ impl<S: PageStore> LegIndex for TreeIndex<S> {
         let Some(place) = self.place(feature) else {
             return Ok(Vec::new(self.alloc));
         };
+        chains::laws();
         let feature = feature as usize;
         if make_room(self.alloc, &mut self.known, feature).is_err() {
             return Err(IndexFault::Memory);

@@ -1,4 +1,4 @@
-use Rattle.std.proofs.Common.{◌≡◌, ◌-◌, ◌^◌, min, subst, sym, Some}
+use Rattle.std.proofs.Common.{◌≡◌, ◌-◌, ◌^◌, ◌∙◌, min, subst, sym, Some}
 use Rattle.std.specs.Prelude.{IfOk, MatchResult, OnOk}
 use Rattle.legs.specs.Asking.{Denies, Leaves, Refusals}
 use Rattle.legs.specs.Questions.{InBox}
@@ -52,3 +52,9 @@ returns-clause-told g c =
     subst (λ i. MatchResult c.found.result (λ legs. tells i (InBox q) legs.items) (λ fault. Denies words i (InBox q) fault)) c.self.view_is
     (subst (λ r. MatchResult r (λ legs. tells inside (InBox q) legs.items) (λ fault. Denies words inside (InBox q) fault)) (sym c.found.ensures)
     (search_told inside c.search.new.cache q (λ legs. legs.items) c.search.result c.search.ensures.way c.search.ensures.met c.search.ensures.named c.search.ensures.caused c.search.ensures.works))
+
+pub invariant_of-self : goal.invariant_of-self
+invariant_of-self g c = λ fa f place spans at known.
+    let reads = c.search.ensures.reads in
+    let was = sym reads.store.faithful ∙ fa in
+    c.laws.ensures.lasts c.self.inside.cache c.search.new.cache c.self.inside.tree.shape place spans reads was (c.self.invariant was f place spans at known)

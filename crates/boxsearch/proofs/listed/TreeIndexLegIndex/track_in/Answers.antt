@@ -1,4 +1,4 @@
-use Rattle.std.proofs.Common.{◌≡◌, ◌-◌, ◌^◌, min, ap, subst, sym, ◌∙◌, false, slice_get, Some}
+use Rattle.std.proofs.Common.{◌≡◌, ◌-◌, ◌^◌, ◌<◌, length, min, ap, subst, sym, ◌∙◌, false, slice_get, Some}
 use Rattle.std.specs.Prelude.{IfOk, MatchResult, OnOk, filter}
 use Rattle.legs.specs.Asking.{Denies, Leaves, Refusals}
 use Rattle.legs.specs.Questions.{OfFeature}
@@ -8,6 +8,9 @@ use Rattle.legs.specs.Legs.{is_live}
 use Rattle.boxsearch.specs.Answers.{answered, of_chain}
 use Rattle.boxsearch.specs.Index.{IndexView, words, content, tells, IsSound}
 use Rattle.boxsearch.proofs.IndexLemmas.{reads_leave}
+use Rattle.boxsearch.proofs.KnownLemmas.{known_after, known_of, of_answer}
+use Rattle.tbtree.specs.Nodes.{pages_of_cache}
+use Rattle.chains.specs.Spans.{IsKnown}
 use Rattle.boxsearch.proofs.ResultLemmas.{on_ok}
 use Rattle.boxsearch.proofs.TellLemmas.{none_told, track_told}
 use Rattle.boxsearch.proofs.TrackLemmas.{absent, rises_capped_most, track_asked, track_found, track_refusals}
@@ -63,3 +66,22 @@ returns-clause-told g c =
     subst (λ i. MatchResult c.retrieval.result (λ legs. tells i (OfFeature f (Some c.args.period.now)) legs.items) (λ fault. Denies words i (OfFeature f (Some c.args.period.now)) fault)) c.self.view_is
     (subst (λ r. MatchResult r (λ legs. tells inside (OfFeature f (Some c.args.period.now)) legs.items) (λ fault. Denies words inside (OfFeature f (Some c.args.period.now)) fault)) (sym c.retrieval.ensures)
     (track_told inside c.trajectory_in.new.cache f (Some c.args.period.now) c.in-Some.place at (λ legs. legs.items) c.trajectory_in.result c.trajectory_in.ensures.chain c.trajectory_in.ensures.legs c.trajectory_in.ensures.named c.trajectory_in.ensures.caused))
+
+pub trajectory_in-requires : goal.trajectory_in-requires
+trajectory_in-requires g c =
+    let inside = c.self.inside in
+    let at : slice_get inside.places.items c.args.feature ≡ Some c.in-Some.place = ap (λ (i : IndexView). slice_get i.places c.args.feature) c.self.view_is ∙ sym c.place.ensures ∙ c.in-Some.is in
+    let room = of_answer c.make_room.result (c.args.feature < length c.make_room.new.known.items) (sym c.is_err.ensures.value ∙ c.if-is_err.false) c.make_room.ensures.room in
+    record {
+      known = λ fa. subst (λ v. IsKnown (pages_of_cache inside.cache) inside.tree.shape c.in-Some.place v.items) (sym c.index_mut-spans.ensures.value)
+          (known_of (λ v. v.items) inside.cache inside.cache inside.tree.shape inside.places.items inside.known.items c.make_room.new.known.items c.args.feature c.in-Some.place c.self.invariant c.make_room.ensures.widens at c.index_mut-spans.result.now room fa);
+    }
+
+pub invariant_of-self-2 : goal.invariant_of-self-2
+invariant_of-self-2 g c =
+    let inside = c.self.inside in
+    let new = c.trajectory_in.new.cache in
+    let reads = c.trajectory_in.ensures.reads in
+    let at : slice_get inside.places.items c.args.feature ≡ Some c.in-Some.place = ap (λ (i : IndexView). slice_get i.places c.args.feature) c.self.view_is ∙ sym c.place.ensures ∙ c.in-Some.is in
+    known_after (λ v. v.items) inside.cache new inside.tree.shape inside.places.items inside.known.items c.make_room.new.known.items c.args.feature c.in-Some.place c.self.invariant c.make_room.ensures.widens at c.trajectory_in.new.spans reads
+    (λ place spans fa h. c.laws.ensures.lasts inside.cache new inside.tree.shape place spans reads fa h) c.trajectory_in.ensures.learns
