@@ -1,12 +1,13 @@
 -- What is known of the leaves of a chain, along a walk back.
-use Rattle.std.proofs.Common.{ℕ, zero, suc, ◌+◌, ◌-◌, ◌^◌, ◌≡◌, ◌≤◌, ◌<◌, ◌==◌, Bool, true, false, cond, List, [], ◌∷◌, ◌++◌, take, drop, length, refl, sym, ap, ◌∙◌, arith, subst, append_assoc, get_or, ⊎_elim, Option, Some, None, slice_get, ℤ, pos, ◌≤ℤ◌, ◌<ℤ◌, All, IsTrue}
+use Rattle.std.proofs.Common.{ℕ, zero, suc, ◌+◌, ◌-◌, ◌^◌, ◌≡◌, ◌≤◌, ◌<◌, ◌==◌, ◌&&◌, Bool, true, false, cond, List, [], ◌∷◌, ◌++◌, take, drop, length, refl, sym, ap, ◌∙◌, arith, subst, append_assoc, get_or, ⊎_elim, Option, Some, None, slice_get, ℤ, pos, ◌≤ℤ◌, ◌<ℤ◌, All, IsTrue}
 use Rattle.std.specs.Prelude.{int_le, int_lt, if◌then◌else◌, ◌≢◌}
 use Rattle.std.specs.Int.{div_ceil, int_max, int_min}
-use Rattle.std.specs.List.{filter}
-use Rattle.std.proofs.lemmas.Bool.{cases_eq}
+use Rattle.std.specs.List.{count_by, filter}
+use Rattle.std.proofs.lemmas.Bool.{cases_eq, true≢false}
 use Rattle.std.proofs.lemmas.Int.{ints, clamps}
 use Rattle.std.proofs.lemmas.List.{drop_all, length_push, take_all}
 use Rattle.std.proofs.lemmas.List.Elements.{All-head, All-more, All-same, All-tail, All-weaker}
+use Rattle.std.proofs.lemmas.List.Sums.{sum_by-cons}
 use Rattle.std.proofs.lemmas.Option.{get_or_from_slice_get, slice_get-get_or, slice_get_within}
 use Rattle.timebase.specs.Period.{PeriodView}
 use Rattle.legs.specs.Boxes.{BoxView}
@@ -18,7 +19,7 @@ use Rattle.tbtree.specs.declared.tree.Place.{Place}
 use Rattle.chains.specs.Chains.{IsLinked, last_link, legs_in, previous_of, walked}
 use Rattle.chains.specs.Links.{begins_before, is_end, is_kept, link_back, spot_of}
 use Rattle.chains.specs.Reads.{OnlyReads}
-use Rattle.chains.specs.Spans.{AreSpans, AsksAs, IsKnown, IsSpanOf, IsWithin, Learns, link_over, next_span, over, pass_at, read_cost, walked_by}
+use Rattle.chains.specs.Spans.{AreSpans, AsksAs, IsKnown, IsSpanOf, IsWithin, Learns, ReachBack, link_over, may_meet, next_span, over, pass_at, read_cost, walked_by}
 use Rattle.chains.specs.declared.leaves.Link.{Link}
 use Rattle.chains.specs.declared.spans.LeafSpan.{LeafSpan}
 use Rattle.chains.specs.declared.spans.Passing.{Passing}
@@ -410,6 +411,28 @@ module _ (nodes : Pages LegView BoxView) (period : Option PeriodView) (passed : 
       → (old.asked < 2 ^ 64 - 1) × (new.asked ≡ old.asked + walked_by nodes period (drop passed spans) n p)
   asks_last h z l = last_by act_here refl h z l
 
+-- at most as many, also where the counter is at its end
+module _ (nodes : Pages LegView BoxView) (period : Option PeriodView) (passed : ℕ) (spans : List LeafSpan) (rest n p : ℕ) (e : n ≡ suc rest) (leaf : LeafView LegView) (is : nodes.at p ≡ Some (Some (ALeaf leaf))) (old new : Cache) where
+  few_on_by : (act : Passing) (back : Link) → act ≡ pass_at (slice_get spans passed) (slice_get spans (suc passed)) rest period → AsksAs act (Some back) old new → is_end period leaf.legs ≡ false
+      → new.asked + walked_by nodes period (drop (suc passed) spans) rest leaf.previous ≤ old.asked + walked_by nodes period (drop passed spans) n p
+  few_on_by Into back a h z = let c = cost_on nodes period passed spans rest n p e leaf a is z in omega (arith, clamps, h, c)
+  few_on_by (Over link) back a h z = let c = cost_over nodes period passed spans rest n p e link leaf a is in omega (arith, h.0, c)
+  few_on_by End back a h z = absurd (some_none back h.1)
+
+  pub few_on : (back : Link) → AsksAs (pass_at (slice_get spans passed) (slice_get spans (suc passed)) rest period) (Some back) old new → is_end period leaf.legs ≡ false
+      → new.asked + walked_by nodes period (drop (suc passed) spans) rest leaf.previous ≤ old.asked + walked_by nodes period (drop passed spans) n p
+  few_on back h z = few_on_by (pass_at (slice_get spans passed) (slice_get spans (suc passed)) rest period) back refl h z
+
+  few_last_by : (act : Passing) → act ≡ pass_at (slice_get spans passed) (slice_get spans (suc passed)) rest period → AsksAs act None old new → is_end period leaf.legs ≡ true
+      → new.asked ≤ old.asked + walked_by nodes period (drop passed spans) n p
+  few_last_by Into a h z = let c = cost_last nodes period passed spans rest n p e leaf a is z in omega (arith, clamps, h, c)
+  few_last_by (Over link) a h z = absurd (some_none link (sym h.1))
+  few_last_by End a h z = let c = cost_end nodes period passed spans rest n p e a in omega (arith, h.0, c)
+
+  pub few_last : AsksAs (pass_at (slice_get spans passed) (slice_get spans (suc passed)) rest period) None old new → is_end period leaf.legs ≡ true
+      → new.asked ≤ old.asked + walked_by nodes period (drop passed spans) n p
+  few_last h z = few_last_by (pass_at (slice_get spans passed) (slice_get spans (suc passed)) rest period) refl h z
+
 -- where there is no period each leaf is read
 pub cost_whole : (nodes : Pages LegView BoxView) (spans : List LeafSpan) (n p : ℕ) → walked_by nodes None spans n p ≡ walked nodes None n p
 cost_whole nodes [] n p = refl
@@ -428,3 +451,61 @@ pub known_lasts : (old new : Cache) (shape : ShapeView) (place : Place) (spans :
     → IsKnown (pages_of_cache old) shape place spans → IsKnown (pages_of_cache new) shape place spans
 known_lasts old new shape place spans r f h =
     spans_last (pages_of_cache old) (pages_of_cache new) (same_at old new r f) shape.leaf place.legs place.first spans (div_ceil place.legs shape.leaf) (last_link place) h
+
+lt_lt : (x y : ℤ) → x <ℤ y → int_lt x y ≡ false → ⊥
+lt_lt x y h e = true≢false (sym (lt_to x y h) ∙ e)
+
+le_to : (x y : ℤ) → x ≤ℤ y → int_le x y ≡ true
+le_to x y h = grind (arith, ints)
+
+into_most : (ends : Bool) (before : ℕ) → read_cost Into ends before ≤ 1 + before
+into_most true before = omega arith
+into_most false before = omega arith
+
+-- what is read where all is known back to the period
+module _ (nodes : Pages LegView BoxView) (period : PeriodView) where
+  abbrev cost : List LeafSpan → ℕ → ℕ → ℕ
+  cost spans n p = walked_by nodes (Some period) spans n p
+
+  ended : (span : LeafSpan) (spans : List LeafSpan) (n p : ℕ) → span.end <ℤ period.start → cost (span ∷ spans) n p ≡ 0
+  ended span spans zero p off = refl
+  ended span spans (suc n) p off =
+      ap (λ (b : Bool). read_cost (if b then End else if int_le span.start period.end then Into else over span (next_span spans) n) (is_end (Some period) (legs_in (nodes.at p))) (cost spans n (previous_of (nodes.at p))))
+      (lt_to span.end period.start off)
+
+  -- a leaf after the period is passed, since the one before it is known or is not there
+  over_cost : (span : LeafSpan) (spans : List LeafSpan) (n : ℕ) → ReachBack period spans n → (ends : Bool) (before : ℕ) → read_cost (over span (next_span spans) n) ends before ≡ before
+  over_cost span [] zero back ends before = refl
+  over_cost span [] (suc n) back ends before = absurd (omega (arith, back))
+  over_cost span (next ∷ spans) n back ends before = refl
+
+  one_more_of : (span : LeafSpan) (spans : List LeafSpan) → count_by (may_meet period) (span ∷ spans) ≡ cond (may_meet period span) 1 0 + count_by (may_meet period) spans
+  one_more_of span spans = sum_by-cons (λ x. cond (may_meet period x) 1 0) span spans
+
+  pub known_few : (spans : List LeafSpan) (n p : ℕ) → ReachBack period spans n → cost spans n p ≤ count_by (may_meet period) spans
+  known_few [] n p back = let z = ap (λ k. walked nodes (Some period) k p) back in omega (arith, z)
+  known_few (span ∷ spans) zero p back = omega arith
+  known_few (span ∷ spans) (suc n) p back =
+      (elim (int_lt span.end period.start) as (λ v. int_lt span.end period.start ≡ v → cost (span ∷ spans) (suc n) p ≤ count_by (may_meet period) (span ∷ spans)) [
+        | true ↦ λ z. let none = ended span spans (suc n) p (lt_from span.end period.start z) in omega (arith, none)
+        | false ↦ λ z.
+            let rest : ReachBack period spans n = ⊎_elim (λ (off : span.end <ℤ period.start). absurd (lt_lt span.end period.start off z)) (λ b. subst (ReachBack period spans) (let k : suc n - 1 ≡ n = omega arith in k) b) back in
+            let reaches : int_le period.start span.end ≡ true = le_to period.start span.end (not_lt span.end period.start z) in
+            let before = cost spans n (previous_of (nodes.at p)) in
+            let ends = is_end (Some period) (legs_in (nodes.at p)) in
+            let on = known_few spans n (previous_of (nodes.at p)) rest in
+            let count = one_more_of span spans in
+            let meets : may_meet period span ≡ int_le span.start period.end = ap (λ (b : Bool). b && int_le span.start period.end) reaches in
+            let here : cost (span ∷ spans) (suc n) p ≡ read_cost (if int_le span.start period.end then Into else over span (next_span spans) n) ends before =
+            ap (λ (b : Bool). read_cost (if b then End else if int_le span.start period.end then Into else over span (next_span spans) n) ends before) z in
+            (elim (int_le span.start period.end) as (λ v. may_meet period span ≡ v → cost (span ∷ spans) (suc n) p ≡ read_cost (if v then Into else over span (next_span spans) n) ends before
+            → cost (span ∷ spans) (suc n) p ≤ count_by (may_meet period) (span ∷ spans)) [
+              | true ↦ λ m here.
+                  let one : cond (may_meet period span) 1 0 ≡ 1 = ap (λ (b : Bool). let k : ℕ = cond b 1 0 in k) m in
+                  let most : read_cost Into ends before ≤ 1 + before = into_most ends before in
+                  omega (arith, here, most, on, count, one)
+              | false ↦ λ m here.
+                  let o = over_cost span spans n rest ends before in
+                  omega (arith, here, o, on, count)
+            ]) meets here
+      ]) refl

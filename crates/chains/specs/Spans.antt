@@ -1,5 +1,5 @@
 -- What is known of the leaves of a chain that were read: a memory of its last leaves.
-use Rattle.std.specs.Prelude.{ℕ, ℤ, zero, suc, ◌≡◌, ◌≢◌, ◌+◌, ◌<◌, ◌++◌, ◌≤ℤ◌, Bool, cond, List, [], ◌∷◌, length, if◌then◌else◌, int_lt, int_le, Option, Some, None, All}
+use Rattle.std.specs.Prelude.{ℕ, ℤ, zero, suc, ◌≡◌, ◌≢◌, ◌+◌, ◌-◌, ◌<◌, ◌++◌, ◌&&◌, ◌⊎◌, ◌≤ℤ◌, ◌<ℤ◌, Bool, cond, List, [], ◌∷◌, length, if◌then◌else◌, int_lt, int_le, Option, Some, None, All}
 use Rattle.std.specs.Int.{div_ceil}
 use Rattle.timebase.specs.Period.{PeriodView}
 use Rattle.legs.specs.Boxes.{BoxView}
@@ -96,3 +96,16 @@ module _ (nodes : Pages LegView BoxView) (period : Option PeriodView) where
 abbrev pub known_cost : Pages LegView BoxView → Option PeriodView → ShapeView → Place → List LeafSpan → ℕ
 known_cost nodes period shape place spans =
     walked_by nodes period spans (div_ceil place.legs shape.leaf) place.last
+
+-- a leaf with that span may have a leg in the period
+abbrev pub may_meet : PeriodView → LeafSpan → Bool
+may_meet period span = int_le period.start span.end && int_le span.start period.end
+
+-- of n leaves from the last one back, these are the spans of all, or of all down to one that ends before the period
+abbrev pub ReachBack : PeriodView → List LeafSpan → ℕ → Type 0
+ReachBack period [] n = n ≡ 0
+ReachBack period (span ∷ spans) n = (span.end <ℤ period.start) ⊎ ReachBack period spans (n - 1)
+
+-- what is known of the place's chain reaches back to the period
+abbrev pub IsKnownBackTo : PeriodView → ShapeView → Place → List LeafSpan → Type 0
+IsKnownBackTo period shape place spans = ReachBack period spans (div_ceil place.legs shape.leaf)

@@ -1,5 +1,5 @@
 //! The legs of a feature.
-ghost use Rattle.std.specs.Prelude.{ℕ, suc, ◌≡◌, ◌+◌, ◌-◌, ◌^◌, ◌<◌, ◌≤◌, ◌↔◌, List, Option, Some, None, drop, reverse, slice_get, OnErr, OnOk, IfOk, IfErr, IsTrue};
+ghost use Rattle.std.specs.Prelude.{ℕ, suc, ◌≡◌, ◌+◌, ◌-◌, ◌^◌, ◌<◌, ◌≤◌, ◌↔◌, List, Option, Some, None, count_by, drop, reverse, slice_get, OnErr, OnOk, IfOk, IfErr, IsTrue};
 ghost use Rattle.std.specs.Int.{div_ceil};
 ghost use Rattle.legs.specs.Boxes.{BoxView};
 ghost use Rattle.legs.specs.Costs.{ShapeView, RisesBy, RisesAtMost, track_cost, track_in_bound};
@@ -14,7 +14,7 @@ ghost use Rattle.chains.specs.Chains.{AreHeld, IsPlaceChain, chain_fault, chain_
 ghost use Rattle.chains.specs.Faults.{IsAllowed, IsCaused, IsNamed, IsOfHeld, Gives};
 ghost use Rattle.chains.specs.Reads.{OnlyReads};
 ghost use Rattle.chains.specs.Links.{spot_of};
-ghost use Rattle.chains.specs.Spans.{AreSpans, AsksAs, IsKnown, known_cost, pass_at};
+ghost use Rattle.chains.specs.Spans.{AreSpans, AsksAs, IsKnown, IsKnownBackTo, known_cost, may_meet, pass_at};
 ghost use Rattle.chains.specs.Taking.{TakesPage, fault_at};
 ghost use Rattle.chains.specs.Trajectory.{HasFeature};
 ghost use Rattle.chains.specs.declared.spans.LeafSpan.{LeafSpan};
@@ -115,6 +115,9 @@ fn walk_back<S: PageStore>(
     ensures caused { IfErr result (IsCaused cache.old cache.new) }
     ensures asked { IsTrue cache.old.store.is_faithful
         → OnOk result (RisesBy cache.old.asked cache.new.asked
+        (known_cost (pages_of_cache cache.old) period.now shape.now place.now spans.old.items)) }
+    ensures few { IsTrue cache.old.store.is_faithful
+        → OnOk result (RisesAtMost cache.old.asked cache.new.asked
         (known_cost (pages_of_cache cache.old) period.now shape.now place.now spans.old.items)) }
     ensures within { IsTrue cache.old.store.is_faithful
         → OnOk result (RisesAtMost cache.old.asked cache.new.asked
@@ -271,6 +274,12 @@ pub fn trajectory_in<S: PageStore>(
     ensures within { IsTrue cache.old.store.is_faithful
         → OnOk result (RisesAtMost cache.old.asked cache.new.asked
         (chain_cost (pages_of_cache cache.old) (Some period.now) shape.now place.now)) }
+
+    // Where what is known reaches back to the period, only leaves are read that may have a leg in it.
+    ensures known { IsTrue cache.old.store.is_faithful
+        → IsKnownBackTo period.now shape.now place.now spans.old.items
+        → OnOk result (RisesAtMost cache.old.asked cache.new.asked
+        (count_by (may_meet period.now) spans.old.items)) }
 
     // What is known of the chain's last leaves, after it as before it.
     ensures learns { IsTrue cache.old.store.is_faithful

@@ -7,6 +7,8 @@ use Rattle.chains.specs.Chains.{chain_legs}
 use Rattle.chains.proofs.PeriodLemmas.{live_walk, few_walked}
 use Rattle.chains.proofs.FaultLemmas.{allowed_of, whole_from, whole_to}
 use Rattle.chains.proofs.PlaceLemmas.{whole_chain}
+use Rattle.std.specs.Int.{div_ceil}
+use Rattle.chains.proofs.SpanLemmas.{known_few}
 use Rattle.chains.proofs.retrieval.trajectory_in.Goals as goal
 
 pub returns-in_err-found-clause-found : goal.returns-in_err-found-clause-found
@@ -54,3 +56,10 @@ returns-in_err-found-clause-only g c = λ fa h.
 
 pub returns-clause-chain : goal.returns-clause-chain
 returns-clause-chain g c = λ fa. whole_to (pages_of_cache c.args.cache.now) (Some c.args.period.now) c.args.shape.now c.args.place.now (c.in_ok-found.ensures.whole fa)
+
+pub returns-clause-known : goal.returns-clause-known
+returns-clause-known g c = λ fa back.
+    let place = c.args.place.now in
+    let few = known_few (pages_of_cache c.args.cache.now) c.args.period.now c.args.spans.now.items (div_ceil place.legs c.args.shape.now.leaf) place.last back in
+    let asked = c.in_ok-found.ensures.few fa in
+    omega (arith, asked, few)

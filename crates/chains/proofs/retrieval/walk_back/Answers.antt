@@ -6,7 +6,7 @@ use Rattle.tbtree.specs.Nodes.{pages_of_cache}
 use Rattle.std.specs.Int.{div_ceil}
 use Rattle.chains.specs.Chains.{fault_from, last_link, walk, walked}
 use Rattle.chains.specs.Spans.{AreSpans, AsksAs, IsKnown, pass_at, walked_by}
-use Rattle.chains.proofs.SpanLemmas.{IsOnWay, all_known, asks_last, asks_on, at_start, cost_none, past_read, rest_same, spans_last}
+use Rattle.chains.proofs.SpanLemmas.{IsOnWay, all_known, asks_last, asks_on, cost_none, few_last, few_on, past_read, rest_same, spans_last}
 use Rattle.chains.proofs.WalkLemmas.{linked_by}
 use Rattle.chains.specs.Links.{fits, is_end, link_back, spot_of}
 use Rattle.chains.specs.Taking.{fault_at}
@@ -69,6 +69,21 @@ leaves-preserved g c =
           ∙ ap (λ l. walked_by nodes period l rest c.in-Some.back.page) (rest_same passed link.page spans c.step.new.spans.items t.leaf (inv.way fa).within t.learns)
           ∙ ap (λ b. walked_by nodes period (drop (suc passed) spans) rest b.page) s.1 in
           omega (arith, on.1, so_far, same);
+      some = λ fa.
+          let t = c.in_ok-back.ensures.taken (inv.reads.store.faithful ∙ fa) in
+          let is = sym (same_at old c.leaves.cache inv.reads fa link.page) ∙ t.is in
+          let s = goes_on (is_end period t.leaf.legs) c.in-Some.back (link_back link.page t.leaf) (sym c.in-Some.is ∙ t.takes.link) in
+          let spans = c.leaves.spans.items in
+          let passed = c.leaves.passed in
+          let asks : AsksAs (pass_at (slice_get spans passed) (slice_get spans (suc passed)) rest period) (Some c.in-Some.back) c.leaves.cache c.step.new.cache =
+          subst (λ back. AsksAs (pass_at (slice_get spans passed) (slice_get spans (suc passed)) rest period) back c.leaves.cache c.step.new.cache) c.in-Some.is c.in_ok-back.ensures.asked in
+          let on = few_on nodes period passed spans rest n link.page less t.leaf is c.leaves.cache c.step.new.cache c.in-Some.back asks s.0 in
+          let so_far = inv.some fa in
+          let next : passed + 1 ≡ suc passed = omega arith in
+          let same = ap (λ k. walked_by nodes period (drop k c.step.new.spans.items) rest c.in-Some.back.page) next
+          ∙ ap (λ l. walked_by nodes period l rest c.in-Some.back.page) (rest_same passed link.page spans c.step.new.spans.items t.leaf (inv.way fa).within t.learns)
+          ∙ ap (λ b. walked_by nodes period (drop (suc passed) spans) rest b.page) s.1 in
+          omega (arith, on, so_far, same);
       within = λ fa.
           let t = c.in_ok-back.ensures.taken (inv.reads.store.faithful ∙ fa) in
           let is = sym (same_at old c.leaves.cache inv.reads fa link.page) ∙ t.is in
@@ -145,6 +160,26 @@ returns-in_default-clause-asked g c = λ fa below.
     let last = asks_last nodes period passed spans rest c.leaves.left link.page less t.leaf is c.leaves.cache c.step.new.cache asks s below in
     let so_far = inv.asked fa last.0 in
     omega (arith, last.1, so_far)
+
+pub returns-in_default-clause-few : goal.returns-in_default-clause-few
+returns-in_default-clause-few g c = λ fa.
+    let old = c.args.cache.now in
+    let nodes = pages_of_cache old in
+    let period = c.args.period.now in
+    let link = c.leaves.link in
+    let rest = c.leaves.left - 1 in
+    let inv = c.leaves.invariant in
+    let less : c.leaves.left ≡ suc rest = omega (arith, c.leaves-test.true) in
+    let t = c.in_ok-back.ensures.taken (inv.reads.store.faithful ∙ fa) in
+    let is = sym (same_at old c.leaves.cache inv.reads fa link.page) ∙ t.is in
+    let s = ends (is_end period t.leaf.legs) (link_back link.page t.leaf) (sym c.in_default.is ∙ t.takes.link) in
+    let spans = c.leaves.spans.items in
+    let passed = c.leaves.passed in
+    let asks : AsksAs (pass_at (slice_get spans passed) (slice_get spans (suc passed)) rest period) None c.leaves.cache c.step.new.cache =
+    subst (λ back. AsksAs (pass_at (slice_get spans passed) (slice_get spans (suc passed)) rest period) back c.leaves.cache c.step.new.cache) c.in_default.is c.in_ok-back.ensures.asked in
+    let last = few_last nodes period passed spans rest c.leaves.left link.page less t.leaf is c.leaves.cache c.step.new.cache asks s in
+    let so_far = inv.some fa in
+    omega (arith, last, so_far)
 
 pub returns-in_default-clause-learns : goal.returns-in_default-clause-learns
 returns-in_default-clause-learns g c = λ fa.

@@ -25,6 +25,7 @@ invariant-leaves g l =
       fault : IsTrue old.store.is_faithful → fault_from nodes l.fn.period l.fn.shape.leaf place.legs place.first l.left l.link ≡ chain_fault nodes l.fn.period l.fn.shape place;
       asked : IsTrue old.store.is_faithful → l.cache.asked < 2 ^ 64 - 1
           → l.cache.asked + walked_by nodes l.fn.period (drop l.passed l.spans.items) l.left l.link.page ≡ old.asked + walked_by nodes l.fn.period l.fn.spans.items blocks place.last;
+      some : IsTrue old.store.is_faithful → l.cache.asked + walked_by nodes l.fn.period (drop l.passed l.spans.items) l.left l.link.page ≤ old.asked + walked_by nodes l.fn.period l.fn.spans.items blocks place.last;
       within : IsTrue old.store.is_faithful → l.cache.asked + walked nodes l.fn.period l.left l.link.page ≤ old.asked + walked nodes l.fn.period blocks place.last;
       passed : l.passed + l.left ≡ blocks;
       few : l.cache.asked + l.left ≤ old.asked + blocks;
