@@ -168,8 +168,8 @@ impl<S: PageStore> TreeIndex<S> {
         requires feature { leg.feature < length self.old.places }
         ensures { Puts self.old self.new leg result }
     {
-        self.known = Vec::new(self.alloc);
-        let feature = leg.feature as usize;
+        let (alloc, feature) = (self.alloc, leg.feature as usize);
+        self.known = Vec::new(alloc);
         let mut place = self.places[feature];
         let result = insert(&mut self.tree, &mut self.cache, &mut place, leg);
         self.places[feature] = place;
