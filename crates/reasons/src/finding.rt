@@ -142,16 +142,12 @@ impl Heads {
     }
 }
 
-/// What stands behind a byte order mark; `None` where the bytes do not begin with one.
-fn behind_mark(bytes: &[u8]) -> Option<&[u8]> {
-    bytes.strip_prefix(b"\xEF\xBB\xBF".as_slice())
-}
-
 /// The bytes without the byte order marks at their very start.
 fn without_marks(bytes: &[u8]) -> &[u8] {
+    let mark = b"\xEF\xBB\xBF".as_slice();
     let mut rest = bytes;
     for _ in 0..bytes.len() {
-        match behind_mark(rest) {
+        match rest.strip_prefix(mark) {
             Some(behind) => rest = behind,
             None => return rest,
         }

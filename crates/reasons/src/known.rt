@@ -15,19 +15,12 @@ pub struct Known<'a> {
     pub most_features: Option<u32>,
 }
 
-/// When the last leg of the feature of that name ends.
-fn end_of(tracks: &Tracks, name: &str) -> Option<Ms> {
-    let feature = tracks.feature(name)?;
-    let track = tracks.track(feature)?;
-    Some(track.end)
-}
-
 impl Known<'_> {
     /// When the last leg of the feature of that name ends.
     pub(crate) fn last_end(&self, name: &str) -> Option<Ms> {
-        match self.tracks {
-            Some(tracks) => end_of(tracks, name),
-            None => None,
-        }
+        let tracks = self.tracks?;
+        let feature = tracks.feature(name)?;
+        let track = tracks.track(feature)?;
+        Some(track.end)
     }
 }
