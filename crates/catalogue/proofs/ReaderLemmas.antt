@@ -12,7 +12,7 @@ use Rattle.pagecache.specs.declared.fault.CacheFault.{CacheFault}
 use Rattle.pagecache.specs.declared.fault.CacheFault.TheVariants as cache
 use Rattle.chains.specs.Reads.{OnlyReads}
 use Rattle.catalogue.specs.Chain.{most_used, is_part, next_in, text_in, chain_text, text_at}
-use Rattle.catalogue.specs.ChainReader.{ReaderView, fault_of, rest_of, IsBroken, IsPageFault, IsReadFault, TakesPart}
+use Rattle.catalogue.specs.ChainReader.{ReaderView, fault_of, rest_of, IsBroken, IsPageFault, IsReadFault, IsTextFault, TakesPart}
 use Rattle.catalogue.specs.declared.fault.CatalogueFault.{CatalogueFault}
 use Rattle.catalogue.specs.declared.fault.CatalogueFault.TheVariants.{Memory, Store, StoreFull, Damaged, Unfinished, Version, Malformed}
 
@@ -204,3 +204,31 @@ reads_trans a b c p q = record {
 -- what a fault says, at the exit of a `?`
 pub if_err_of : {T E : Type 0} (P : E → Type 0) (r : Result T E) (f e : E) → r ≡ Err f → f ≡ e → P e → IfErr r P
 if_err_of P r f e is same h = subst (λ r. IfErr r P) (sym (is ∙ ap Err same)) h
+
+-- a fault of a later reading
+pub later_fault : (a b c : Cache) (e : CatalogueFault) → OnlyReads a b → IsReadFault b c e → IsReadFault a c e
+later_fault a b c Memory reads h = tt
+later_fault a b c Store reads h = let faults = reads.store.faults in omega (arith, faults, h)
+later_fault a b c StoreFull reads h = h
+later_fault a b c (Damaged n) reads h = h
+later_fault a b c Unfinished reads h = h
+later_fault a b c Version reads h = h
+later_fault a b c Malformed reads h = tt
+
+-- at the exit of a `?`
+pub later : {T : Type 0} (a b c : Cache) (r : Result T CatalogueFault) (f e : CatalogueFault) → r ≡ Err f → f ≡ e → OnlyReads a b → IsReadFault b c e → IfErr r (IsReadFault a c)
+later a b c r f e is same reads h = if_err_of (IsReadFault a c) r f e is same (later_fault a b c e reads h)
+
+-- and at the end of a body
+pub later_end : {T : Type 0} (a b c : Cache) (r : Result T CatalogueFault) → OnlyReads a b → IfErr r (IsReadFault b c) → IfErr r (IsReadFault a c)
+later_end a b c r reads h = if_err (IsReadFault b c) (IsReadFault a c) r (λ e k. later_fault a b c e reads k) h
+
+-- one of bytes that are read
+pub text_read : (a b : Cache) (e : CatalogueFault) → IsTextFault e → IsReadFault a b e
+text_read a b Memory h = tt
+text_read a b Store h = absurd h
+text_read a b StoreFull h = absurd h
+text_read a b (Damaged n) h = absurd h
+text_read a b Unfinished h = absurd h
+text_read a b Version h = absurd h
+text_read a b Malformed h = tt

@@ -4,7 +4,7 @@ use Rattle.std.specs.Prelude.{IfErr}
 use Rattle.std.specs.List.{flat_map}
 use Rattle.std.proofs.lemmas.List.{append_assoc, append-nil}
 use Rattle.std.proofs.lemmas.List.Elements.{All-push}
-use Rattle.catalogue.specs.ChainReader.{IsBroken, Takes}
+use Rattle.catalogue.specs.ChainReader.{IsBroken, Takes, TakesInto}
 use Rattle.catalogue.specs.declared.fault.CatalogueFault.{CatalogueFault}
 use Rattle.catalogue.proofs.ReaderLemmas.{map_map, map_same, some_none, some_same}
 use Rattle.catalogue.proofs.PrefixLemmas.{IsFree, list_split}
@@ -16,6 +16,9 @@ Lacks {V = V} text ok old = (v : V) (t : List ℕ) → ok v → old ≢ Some (te
 module _ {V : Type 0} (text : V → List ℕ) (ok : V → Type 0) where
   pub lacks_err : (old new : Option (List ℕ)) (r : Result V CatalogueFault) (e f : CatalogueFault) → r ≡ Err f → f ≡ e → (IsBroken e → Lacks text ok old) → Takes text ok old new r
   lacks_err old new r e f is same h = subst (λ r. Takes text ok old new r) (sym (is ∙ ap Err same)) (record { taken = tt; lacks = h })
+
+  pub into_err : {T : Type 0} (is_put : V → Type 0) (old new : Option (List ℕ)) (r : Result T CatalogueFault) (e f : CatalogueFault) → r ≡ Err f → f ≡ e → (IsBroken e → Lacks text ok old) → TakesInto text ok is_put old new r
+  into_err is_put old new r e f is same h = subst (λ r. TakesInto text ok is_put old new r) (sym (is ∙ ap Err same)) (record { taken = tt; lacks = h })
 
   pub lacks_of : (old new : Option (List ℕ)) (r : Result V CatalogueFault) (e : CatalogueFault) → r ≡ Err e → Takes text ok old new r → IsBroken e → Lacks text ok old
   lacks_of old new r e is h = subst (λ r. IfErr r (λ e. IsBroken e → Lacks text ok old)) is h.lacks

@@ -82,3 +82,8 @@ IsTextFault Malformed = Unit {0}
 pub record Takes {V : Type 0} (text : V → List ℕ) (is_value : V → Type 0) (old new : Option (List ℕ)) (result : Result V CatalogueFault) : Type 0 where
   pub taken : IfOk result (λ v. is_value v × (old ≡ option_map (λ t. text v ++ t) new))
   pub lacks : IfErr result (λ e. IsBroken e → (v : V) (t : List ℕ) → is_value v → old ≢ Some (text v ++ t))
+
+-- the same where the value is put somewhere
+pub record TakesInto {V T : Type 0} (text : V → List ℕ) (is_value is_put : V → Type 0) (old new : Option (List ℕ)) (result : Result T CatalogueFault) : Type 0 where
+  pub taken : IfOk result (λ _. (v : V) × is_put v × is_value v × (old ≡ option_map (λ t. text v ++ t) new))
+  pub lacks : IfErr result (λ e. IsBroken e → (v : V) (t : List ℕ) → is_value v → old ≢ Some (text v ++ t))

@@ -9,10 +9,10 @@ use crate::contents::{Contents, Feature, Features, Head, Kept, Lists, Space};
 use crate::fault::CatalogueFault;
 use crate::numbers::{i64_of, u32_of, u64_of};
 use legs::Limits;
-use mfcsv::{Column, Columns, Values};
+use mfcsv::{Column, Columns};
 use pagecache::PageCache;
 use pages::PageStore;
-use rows::Rows;
+use rows::{GrowingRows, Rows};
 use std::alloc::Global;
 use tbnode::fields::part;
 use tbtree::Place;
@@ -48,8 +48,8 @@ fn leg_sum(features: &Features) -> u64
 }
 
 impl ChainReader {
-    ghost use Rattle.std.specs.Prelude.{Some};
-    ghost use Rattle.catalogue.specs.ChainReader.{rest_of, IsReadFault, Takes};
+    ghost use Rattle.std.specs.Prelude.{◌≡◌, ◌++◌, ◌∷◌, [], OnOk, Some};
+    ghost use Rattle.catalogue.specs.ChainReader.{rest_of, IsReadFault, Takes, TakesInto};
     ghost use Rattle.catalogue.specs.Text.{column_text, columns_text, contents_text, feature_text, features_text, head_text, kept_text, lists_text, row_text, rows_text, short_text, space_text, AreColumns, AreFeatures, AreFewRows, AreRead, AreRows, IsColumn, IsFeature, IsHead, IsKept, IsRead, IsRow, IsShortText, IsSpace, HasColumns, HasFeatures};
     ghost use Rattle.chains.specs.Reads.{OnlyReads};
 
@@ -175,24 +175,29 @@ impl ChainReader {
         self.features(alloc, cache, count)
     }
 
-    /// A row of so many attribute values.
+    /// A row of so many attribute values, put behind the others.
     fn row<S: PageStore>(
         &mut self,
-        alloc: Global,
         cache: &mut PageCache<S>,
         columns: u64,
-    ) -> Result<Values, CatalogueFault>
-        ensures takes { IsTrue cache.old.store.is_faithful → Takes row_text (IsRow columns)
+        rows: &mut GrowingRows,
+    ) -> Result<(), CatalogueFault>
+        requires { rows.old.row ≡ [] }
+        ensures takes { IsTrue cache.old.store.is_faithful → TakesInto row_text (IsRow columns)
+            (λ row. rows.new.rows ≡ rows.old.rows ++ row ∷ [])
             (rest_of (payload_of cache.old) self.old) (rest_of (payload_of cache.new) self.new)
             result }
+        ensures ended { OnOk result (rows.new.row ≡ []) }
         ensures reads { OnlyReads cache.old cache.new }
         ensures caused { IfErr result (IsReadFault cache.old cache.new) }
     {
-        let mut values = Vec::new(alloc);
         for _ in 0..columns {
-            values.push(self.text(alloc, cache)?)?;
+            self.value(cache, rows)?;
         }
-        Ok(Values::with_blanks(values, 0))
+        match rows.end_row() {
+            Ok(()) => Ok(()),
+            Err(_) => Err(CatalogueFault::Memory),
+        }
     }
 
     /// So many rows.
@@ -210,11 +215,11 @@ impl ChainReader {
         ensures reads { OnlyReads cache.old cache.new }
         ensures caused { IfErr result (IsReadFault cache.old cache.new) }
     {
-        let mut rows = Rows::new(alloc);
+        let mut rows = GrowingRows::new(alloc);
         for _ in 0..count {
-            rows.push(&self.row(alloc, cache, columns)?)?;
+            self.row(cache, columns, &mut rows)?;
         }
-        Ok(rows)
+        Ok(rows.into_rows())
     }
 
     /// Rows behind their number; `Malformed` where there are more than that, before any is read.

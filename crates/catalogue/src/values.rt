@@ -1,5 +1,5 @@
 //! The values of a text, as they are read one after another.
-ghost use Rattle.std.specs.Prelude.{◌≡◌, ◌∷◌, ◌≤◌, [], take, length, IsTrue, IsUtf8, IsErrOf, IfErr, IfOk};
+ghost use Rattle.std.specs.Prelude.{◌≡◌, ◌∷◌, ◌≤◌, [], take, length, IsTrue, IsUtf8, IsErrOf, IfErr, IfOk, OnOk};
 ghost use Rattle.byteorder.specs.Endian.{big_bytes};
 ghost use Rattle.pagecache.specs.Cache.{payload_of};
 ghost use Rattle.tbnode.specs.Parts.{signed_bytes};
@@ -10,12 +10,15 @@ use crate::numbers::{i64_of, u32_of, u64_of};
 use mfcsv::Text;
 use pagecache::PageCache;
 use pages::PageStore;
+use rows::GrowingRows;
 use std::alloc::Global;
+use std::str;
 
 impl ChainReader {
-    ghost use Rattle.catalogue.specs.ChainReader.{rest_of, IsReadFault, IsTextFault, Takes};
+    ghost use Rattle.catalogue.specs.ChainReader.{rest_of, IsReadFault, IsTextFault, Takes, TakesInto};
     ghost use Rattle.catalogue.specs.Text.{short_text, IsNumber, IsSigned, IsShortText};
     ghost use Rattle.chains.specs.Reads.{OnlyReads};
+    ghost use Rattle.rows.specs.Rows.{with_value};
 
     /// A number of one byte.
     pub(crate) fn byte<S: PageStore>(
@@ -99,6 +102,45 @@ impl ChainReader {
             Ok(text) => Ok(Text::from(text)),
             Err(_) => Err(CatalogueFault::Malformed),
         }
+    }
+
+    /// Puts the next bytes that stand ready, as a text, behind the values of the row that is begun;
+    /// `Malformed` where they are not UTF-8.
+    fn put_ready(&self, len: usize, rows: &mut GrowingRows) -> Result<(), CatalogueFault>
+        requires { len ≤ length self.now.bytes }
+        ensures put { OnOk result (rows.new ≡ with_value rows.old (take len self.now.bytes)) }
+        ensures text { OnOk result (IsUtf8 (take len self.now.bytes)) }
+        ensures broken { IsErrOf result CatalogueFault.Malformed
+            → IsUtf8 (take len self.now.bytes) → ⊥ }
+        ensures memory { IfErr result IsTextFault }
+    {
+        match str::from_utf8(self.ahead(len)) {
+            Ok(text) => match rows.push_value(text) {
+                Ok(()) => Ok(()),
+                Err(_) => Err(CatalogueFault::Memory),
+            },
+            Err(_) => Err(CatalogueFault::Malformed),
+        }
+    }
+
+    /// A text behind its length, put behind the values of the row that is begun.
+    pub(crate) fn value<S: PageStore>(
+        &mut self,
+        cache: &mut PageCache<S>,
+        rows: &mut GrowingRows,
+    ) -> Result<(), CatalogueFault>
+        ensures takes { IsTrue cache.old.store.is_faithful → TakesInto short_text IsShortText
+            (λ text. rows.new ≡ with_value rows.old text)
+            (rest_of (payload_of cache.old) self.old) (rest_of (payload_of cache.new) self.new)
+            result }
+        ensures reads { OnlyReads cache.old cache.new }
+        ensures caused { IfErr result (IsReadFault cache.old cache.new) }
+    {
+        let len = self.u64(cache)? as usize;
+        self.fill(cache, len)?;
+        self.put_ready(len, rows)?;
+        self.skip(len);
+        Ok(())
     }
 
     /// A text behind its length.

@@ -70,13 +70,18 @@ pub(crate) fn coordinate_fault(text: &str) -> Option<&'static str> {
     }
 }
 
+/// What is said of a word that is named and has a fault.
+fn word_fault(alloc: Global, name: &str, word: &str, fault: &str) -> Result<String, AllocError> {
+    let word = Shown(word);
+    format!(in alloc; "{name} '{word}' {fault}")
+}
+
 fn wrong_coordinate(alloc: Global, line: &str) -> Result<String, AllocError> {
     let first = corner_place(line);
     for (place, name) in ["X1", "Y1", "X2", "Y2"].into_iter().enumerate() {
         let word = word_at(line, first.saturating_add(place));
         if let Some(fault) = coordinate_fault(word) {
-            let word = Shown(word);
-            return format!(in alloc; "{name} '{word}' {fault}");
+            return word_fault(alloc, name, word, fault);
         }
     }
     String::from_str(alloc, Code::Q5.rule())
@@ -131,8 +136,7 @@ fn wrong_instant(alloc: Global, line: &str) -> Result<String, AllocError> {
     for (place, name) in ["T1", "T2"].into_iter().enumerate() {
         let word = word_at(line, first.saturating_add(place));
         if let Some(fault) = instant_fault(alloc, word)? {
-            let word = Shown(word);
-            return format!(in alloc; "{name} '{word}' {fault}");
+            return word_fault(alloc, name, word, fault);
         }
     }
     String::from_str(alloc, Code::Q7.rule())

@@ -32,37 +32,53 @@ fn coordinate_of(alloc: Global, units: i64) -> Result<String, AllocError> {
     String::from_str(alloc, str::from_utf8(bytes.as_slice()).unwrap_or(""))
 }
 
-/// Why a rectangle meets no leg.
-fn off_in_plane(alloc: Global, asked: &Box3, reach: &Box3) -> Result<String, AllocError> {
-    let x_min = coordinate_of(alloc, reach.x_min)?;
-    let x_max = coordinate_of(alloc, reach.x_max)?;
-    let y_min = coordinate_of(alloc, reach.y_min)?;
-    let y_max = coordinate_of(alloc, reach.y_max)?;
-    let hint = if meet_exchanged(asked, reach) {
+/// From one coordinate to another one, as they are printed.
+fn range_of(alloc: Global, least: i64, most: i64) -> Result<String, AllocError> {
+    let least = coordinate_of(alloc, least)?;
+    let most = coordinate_of(alloc, most)?;
+    let (least, most) = (least.as_str(), most.as_str());
+    format!(in alloc; "{least} to {most}")
+}
+
+/// What is said besides where a rectangle meets no leg.
+fn exchange_hint(asked: &Box3, reach: &Box3) -> &'static str {
+    if meet_exchanged(asked, reach) {
         "; with x and y exchanged it would"
     } else {
         ""
-    };
-    let (x_min, x_max) = (x_min.as_str(), x_max.as_str());
-    let (y_min, y_max) = (y_min.as_str(), y_max.as_str());
-    format!(in alloc;
-        "the rectangle does not meet x {x_min} to {x_max}, y {y_min} to {y_max}, where the store has legs{hint}"
-    )
+    }
 }
 
-/// Why a period meets no leg.
-fn off_in_time(alloc: Global, reach: &Box3) -> Result<Option<String>, AllocError> {
-    let (Some(begin), Some(end)) = (Ms::new(reach.t_min), Ms::new(reach.t_max)) else {
-        return Ok(None);
-    };
+/// Why a rectangle meets no leg.
+fn off_in_plane(alloc: Global, asked: &Box3, reach: &Box3) -> Result<String, AllocError> {
+    let x = range_of(alloc, reach.x_min, reach.x_max)?;
+    let y = range_of(alloc, reach.y_min, reach.y_max)?;
+    let (x, y, hint) = (x.as_str(), y.as_str(), exchange_hint(asked, reach));
+    format!(in alloc; "the rectangle does not meet x {x}, y {y}, where the store has legs{hint}")
+}
+
+/// From one moment to another one, as they are printed.
+fn period_of(alloc: Global, begin: Ms, end: Ms) -> Result<String, AllocError> {
     let begin = instant_of(alloc, begin)?;
     let begin = begin.as_str();
     let end = beside(alloc, end, begin)?;
     let end = end.as_str();
-    let words = format!(in alloc;
-        "the period does not meet {begin} to {end}, when the store has legs"
-    )?;
-    Ok(Some(words))
+    format!(in alloc; "{begin} to {end}")
+}
+
+/// Why a period meets no leg.
+fn off_in_time(alloc: Global, begin: Ms, end: Ms) -> Result<String, AllocError> {
+    let period = period_of(alloc, begin, end)?;
+    let period = period.as_str();
+    format!(in alloc; "the period does not meet {period}, when the store has legs")
+}
+
+/// The moments between which a store has legs.
+fn period_in(reach: &Box3) -> Option<(Ms, Ms)> {
+    match (Ms::new(reach.t_min), Ms::new(reach.t_max)) {
+        (Some(begin), Some(end)) => Some((begin, end)),
+        _ => None,
+    }
 }
 
 /// Why a rectangle and a period meet no leg of a store whose legs all lie in that box; `None` where the box does not
@@ -76,7 +92,10 @@ pub fn reach_words(
         return Ok(Some(off_in_plane(alloc, asked, reach)?));
     }
     if !meet(asked.t_min, asked.t_max, reach.t_min, reach.t_max) {
-        return off_in_time(alloc, reach);
+        return match period_in(reach) {
+            Some((begin, end)) => Ok(Some(off_in_time(alloc, begin, end)?)),
+            None => Ok(None),
+        };
     }
     Ok(None)
 }

@@ -10,20 +10,26 @@ pub struct Refusal {
     pub number: u64,
 }
 
+/// What stands between the word `refused` and the end of an answer's line.
+fn words_in(answer: &[u8]) -> Option<&str> {
+    let line = answer.strip_prefix(b"refused ".as_slice())?;
+    str::from_utf8(line.strip_suffix(b"\n".as_slice())?).ok()
+}
+
+/// The refusal with a code and a number, as they are printed.
+fn refusal_of(code: &str, number: &str) -> Option<Refusal> {
+    let code = Code::read(code)?;
+    let number = number.parse::<u64>().ok()?;
+    Some(Refusal { code, number })
+}
+
 impl Refusal {
     /// The refusal that an answer is; `None` where it is none.
     pub fn read(answer: &[u8]) -> Option<Refusal> {
-        let line = answer.strip_prefix(b"refused ".as_slice())?;
-        let text = str::from_utf8(line.strip_suffix(b"\n".as_slice())?).ok()?;
+        let text = words_in(answer)?;
         match text.split_once(" at ") {
-            Some((code, number)) => Some(Refusal {
-                code: Code::read(code)?,
-                number: number.parse::<u64>().ok()?,
-            }),
-            None => Some(Refusal {
-                code: Code::read(text)?,
-                number: 0,
-            }),
+            Some((code, number)) => refusal_of(code, number),
+            None => refusal_of(text, "0"),
         }
     }
 }

@@ -1,1 +1,2 @@
+mod GrowingLemmas
 mod RowLemmas

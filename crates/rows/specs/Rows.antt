@@ -1,5 +1,5 @@
 -- How rows stand in one list of values.
-use Rattle.std.specs.Prelude.{ℕ, List, ◌≤◌, ◌+◌, ◌++◌, [], length, map, take, drop, replicate, IsUtf8}
+use Rattle.std.specs.Prelude.{ℕ, List, ◌≤◌, ◌+◌, ◌++◌, ◌∷◌, [], length, map, take, drop, replicate, IsUtf8}
 use Rattle.std.specs.List.{All}
 use Rattle.rows.specs.declared.row.Place.{Place}
 
@@ -19,3 +19,25 @@ pub record IsIn (values : List (List ℕ)) (place : Place) : Type 0 where
 -- those of each place
 abbrev pub AreIn : List (List ℕ) → List Place → Type 0
 AreIn values places = All (IsIn values) places
+
+-- rows, and the values so far of one row more
+pub record Grown : Type 0 where
+  pub rows : List (List (List ℕ))
+  pub row : List (List ℕ)
+
+-- those at places, and the values from a number on
+abbrev pub grown : List (List ℕ) → List Place → ℕ → Grown
+grown values places first = record { rows = rows_of values places; row = drop first values }
+
+-- all of them are there, and are texts
+pub record AreGrown (values : List (List ℕ)) (places : List Place) (first : ℕ) : Type 0 where
+  pub rows : AreIn values places
+  pub begins : first ≤ length values
+  pub texts : All IsUtf8 (drop first values)
+
+-- with a value more, and with a row more: the one that was begun
+abbrev pub with_value : Grown → List ℕ → Grown
+with_value g value = record { rows = g.rows; row = g.row ++ value ∷ [] }
+
+abbrev pub with_row : Grown → Grown
+with_row g = record { rows = g.rows ++ g.row ∷ []; row = [] }

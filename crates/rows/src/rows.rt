@@ -61,6 +61,8 @@ fn push_values(values: &mut ByteRecord, texts: &[Text]) -> Result<(), AllocError
 
 impl Rows {
     ghost use Rattle.std.specs.Prelude.{ℕ, ◌≡◌, ◌↔◌, ◌++◌, ◌∷◌, [], length, slice_get, OnOk, OnErr, IsTrue, All};
+    ghost use Rattle.csv.specs.Records.{fields_of, partial_of};
+    ghost use Rattle.rows.specs.Rows.{rows_of, AreIn};
 
     /// No row.
     pub fn new(alloc: Global) -> Rows
@@ -70,6 +72,19 @@ impl Rows {
             values: ByteRecord::new(alloc),
             places: Vec::new(alloc),
             is_whole: true,
+        }
+    }
+
+    /// The rows at these places among values.
+    pub(crate) fn from_parts(values: ByteRecord, places: Vec<Place>, is_whole: bool) -> Rows
+        requires inside { AreIn (fields_of values) places.items }
+        requires whole { IsTrue is_whole → partial_of values ≡ [] }
+        ensures { result ≡ rows_of (fields_of values) places.items }
+    {
+        Rows {
+            values,
+            places,
+            is_whole,
         }
     }
 

@@ -7,7 +7,7 @@ use Rattle.catalogue.specs.ChainReader.{rest_of}
 use Rattle.catalogue.specs.Text.{column_text, IsColumn, AreColumns}
 use Rattle.catalogue.proofs.EntryLemmas.{no_columns}
 use Rattle.catalogue.proofs.PrefixLemmas.{column_free}
-use Rattle.catalogue.proofs.ReaderLemmas.{reads_trans}
+use Rattle.catalogue.proofs.ReaderLemmas.{later, reads_trans}
 use Rattle.catalogue.proofs.SequenceLemmas.{lacks_err, pushed, all_pushed}
 use Rattle.catalogue.proofs.chain_reader.ChainReader.columns.Goals as goal
 
@@ -50,3 +50,14 @@ returns-clause-takes g c = λ fa.
       );
       lacks = tt;
     }
+
+pub returns-in_err-column-clause-caused : goal.returns-in_err-column-clause-caused
+returns-in_err-column-clause-caused g c =
+    let p = err_from_is_err_and c.from_residual.result c.from_residual.ensures.1 in
+    later c.args.cache.now c.loop.cache c.column.new.cache c.from_residual.result p.0 c.in_err-column.field-0.0 p.1 p.2 c.loop.invariant.reads c.in_err-column.ensures.caused
+
+pub returns-in_err-column-clause-reads : goal.returns-in_err-column-clause-reads
+returns-in_err-column-clause-reads g c = reads_trans c.args.cache.now c.loop.cache c.column.new.cache c.loop.invariant.reads c.in_err-column.ensures.reads
+
+pub returns-in_err-push-clause-reads : goal.returns-in_err-push-clause-reads
+returns-in_err-push-clause-reads g c = reads_trans c.args.cache.now c.loop.cache c.column.new.cache c.loop.invariant.reads c.in_ok-column.ensures.reads

@@ -1,3 +1,4 @@
+use Rattle.catalogue.proofs.ReaderLemmas.{later, reads_trans}
 use Rattle.std.proofs.Common.{◌∙◌, ap, subst, length, Some}
 use Rattle.std.proofs.lemmas.Result.{err_from_is_err_and}
 use Rattle.pagecache.specs.Cache.{payload_of}
@@ -39,3 +40,14 @@ returns-clause-takes g c = λ fa.
       );
       lacks = tt;
     }
+
+pub returns-in_err-lists-clause-caused : goal.returns-in_err-lists-clause-caused
+returns-in_err-lists-clause-caused g c =
+    let p = err_from_is_err_and c.from_residual-in_err-lists.result c.from_residual-in_err-lists.ensures.1 in
+    later c.args.cache.now c.head.new.cache c.lists.new.cache c.from_residual-in_err-lists.result p.0 c.in_err-lists.field-0.0 p.1 p.2 c.in_ok-head.ensures.reads c.in_err-lists.ensures.caused
+
+pub returns-in_err-lists-clause-reads : goal.returns-in_err-lists-clause-reads
+returns-in_err-lists-clause-reads g c = reads_trans c.args.cache.now c.head.new.cache c.lists.new.cache c.in_ok-head.ensures.reads c.in_err-lists.ensures.reads
+
+pub returns-clause-reads : goal.returns-clause-reads
+returns-clause-reads g c = reads_trans c.args.cache.now c.head.new.cache c.lists.new.cache c.in_ok-head.ensures.reads c.in_ok-lists.ensures.reads

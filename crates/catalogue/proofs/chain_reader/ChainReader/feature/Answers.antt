@@ -1,3 +1,4 @@
+use Rattle.catalogue.proofs.ReaderLemmas.{later, reads_trans}
 use Rattle.std.proofs.Common.{◌∙◌}
 use Rattle.std.proofs.lemmas.Result.{err_from_is_err_and}
 use Rattle.pagecache.specs.Cache.{payload_of}
@@ -23,3 +24,14 @@ returns-in_err-kept-clause-takes g c = λ fa.
     let first = (c.in_ok-name.ensures.takes fa).taken in
     lacks_err feature_text IsFeature old new c.from_residual-in_err-kept.result c.in_err-kept.field-0.0 p.0 p.1 p.2
     (λ b. no_kept c.in_ok-name.name old mid first.0 first.1 ((c.in_err-kept.ensures.takes (c.in_ok-name.ensures.reads.store.faithful ∙ fa)).lacks b))
+
+pub returns-in_err-kept-clause-caused : goal.returns-in_err-kept-clause-caused
+returns-in_err-kept-clause-caused g c =
+    let p = err_from_is_err_and c.from_residual-in_err-kept.result c.from_residual-in_err-kept.ensures.1 in
+    later c.args.cache.now c.text.new.cache c.kept.new.cache c.from_residual-in_err-kept.result p.0 c.in_err-kept.field-0.0 p.1 p.2 c.in_ok-name.ensures.reads c.in_err-kept.ensures.caused
+
+pub returns-in_err-kept-clause-reads : goal.returns-in_err-kept-clause-reads
+returns-in_err-kept-clause-reads g c = reads_trans c.args.cache.now c.text.new.cache c.kept.new.cache c.in_ok-name.ensures.reads c.in_err-kept.ensures.reads
+
+pub returns-clause-reads : goal.returns-clause-reads
+returns-clause-reads g c = reads_trans c.args.cache.now c.text.new.cache c.kept.new.cache c.in_ok-name.ensures.reads c.in_ok-kept.ensures.reads

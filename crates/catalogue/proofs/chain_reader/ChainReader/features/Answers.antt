@@ -7,7 +7,7 @@ use Rattle.catalogue.specs.ChainReader.{rest_of}
 use Rattle.catalogue.specs.Text.{feature_text, IsFeature, AreFeatures}
 use Rattle.catalogue.proofs.EntryLemmas.{no_features}
 use Rattle.catalogue.proofs.PrefixLemmas.{feature_free}
-use Rattle.catalogue.proofs.ReaderLemmas.{reads_trans}
+use Rattle.catalogue.proofs.ReaderLemmas.{later, reads_trans}
 use Rattle.catalogue.proofs.SequenceLemmas.{lacks_err, pushed, all_pushed}
 use Rattle.catalogue.proofs.chain_reader.ChainReader.features.Goals as goal
 
@@ -45,3 +45,14 @@ returns-clause-takes g c = λ fa.
       taken = (record { each = inv.each fa; many = inv.many ∙ omega (arith, c.loop-test.false, c.loop.auto.counter-end) }, inv.taken fa);
       lacks = tt;
     }
+
+pub returns-in_err-feature-clause-caused : goal.returns-in_err-feature-clause-caused
+returns-in_err-feature-clause-caused g c =
+    let p = err_from_is_err_and c.from_residual.result c.from_residual.ensures.1 in
+    later c.args.cache.now c.loop.cache c.feature.new.cache c.from_residual.result p.0 c.in_err-feature.field-0.0 p.1 p.2 c.loop.invariant.reads c.in_err-feature.ensures.caused
+
+pub returns-in_err-feature-clause-reads : goal.returns-in_err-feature-clause-reads
+returns-in_err-feature-clause-reads g c = reads_trans c.args.cache.now c.loop.cache c.feature.new.cache c.loop.invariant.reads c.in_err-feature.ensures.reads
+
+pub returns-in_err-push-clause-reads : goal.returns-in_err-push-clause-reads
+returns-in_err-push-clause-reads g c = reads_trans c.args.cache.now c.loop.cache c.feature.new.cache c.loop.invariant.reads c.in_ok-feature.ensures.reads

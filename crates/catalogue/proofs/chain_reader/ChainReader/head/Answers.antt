@@ -1,3 +1,4 @@
+use Rattle.catalogue.proofs.ReaderLemmas.{later, reads_trans}
 use Rattle.std.proofs.Common.{◌∙◌}
 use Rattle.std.proofs.lemmas.Result.{err_from_is_err_and}
 use Rattle.pagecache.specs.Cache.{payload_of}
@@ -16,3 +17,17 @@ returns-in_err-space-clause-takes g c = λ fa.
     let first = (c.in_ok-base.ensures.takes fa).taken in
     lacks_err head_text IsHead old new c.from_residual-in_err-space.result c.in_err-space.field-0.0 p.0 p.1 p.2
     (λ b. no_space c.in_ok-base.base old mid first.0 first.1 ((c.in_err-space.ensures.takes (c.in_ok-base.ensures.reads.store.faithful ∙ fa)).lacks b))
+
+pub returns-in_err-space-clause-caused : goal.returns-in_err-space-clause-caused
+returns-in_err-space-clause-caused g c =
+    let p = err_from_is_err_and c.from_residual-in_err-space.result c.from_residual-in_err-space.ensures.1 in
+    later c.args.cache.now c.i64.new.cache c.space.new.cache c.from_residual-in_err-space.result p.0 c.in_err-space.field-0.0 p.1 p.2 c.in_ok-base.ensures.reads c.in_err-space.ensures.caused
+
+pub returns-in_err-base-clause-reads : goal.returns-in_err-base-clause-reads
+returns-in_err-base-clause-reads g c = c.in_err-base.ensures.reads
+
+pub returns-in_err-space-clause-reads : goal.returns-in_err-space-clause-reads
+returns-in_err-space-clause-reads g c = reads_trans c.args.cache.now c.i64.new.cache c.space.new.cache c.in_ok-base.ensures.reads c.in_err-space.ensures.reads
+
+pub returns-clause-reads : goal.returns-clause-reads
+returns-clause-reads g c = reads_trans c.args.cache.now c.i64.new.cache c.space.new.cache c.in_ok-base.ensures.reads c.in_ok-space.ensures.reads

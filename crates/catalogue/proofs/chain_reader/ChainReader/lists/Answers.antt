@@ -1,3 +1,4 @@
+use Rattle.catalogue.proofs.ReaderLemmas.{later, reads_trans}
 use Rattle.std.proofs.Common.{◌∙◌, arith}
 use Rattle.std.proofs.lemmas.Int.{clamps}
 use Rattle.std.proofs.lemmas.Result.{err_from_is_err_and}
@@ -45,3 +46,14 @@ returns-clause-takes g c = λ fa.
       );
       lacks = tt;
     }
+
+pub returns-in_err-rows-clause-caused : goal.returns-in_err-rows-clause-caused
+returns-in_err-rows-clause-caused g c =
+    let p = err_from_is_err_and c.from_residual-in_err-rows.result c.from_residual-in_err-rows.ensures.1 in
+    later c.args.cache.now c.counted_features.new.cache c.counted_rows.new.cache c.from_residual-in_err-rows.result p.0 c.in_err-rows.field-0.0 p.1 p.2 c.in_ok-features.ensures.reads c.in_err-rows.ensures.caused
+
+pub returns-in_err-rows-clause-reads : goal.returns-in_err-rows-clause-reads
+returns-in_err-rows-clause-reads g c = reads_trans c.args.cache.now c.counted_features.new.cache c.counted_rows.new.cache c.in_ok-features.ensures.reads c.in_err-rows.ensures.reads
+
+pub returns-clause-reads : goal.returns-clause-reads
+returns-clause-reads g c = reads_trans c.args.cache.now c.counted_features.new.cache c.counted_rows.new.cache c.in_ok-features.ensures.reads c.in_ok-rows.ensures.reads

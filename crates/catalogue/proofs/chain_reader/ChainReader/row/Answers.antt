@@ -1,51 +1,62 @@
-use Rattle.std.proofs.Common.{◌∙◌, ◌+◌, ◌++◌, sym, ap, subst, arith, length, option_map, All}
-use Rattle.std.specs.List.{flat_map}
-use Rattle.std.proofs.lemmas.List.{append-nil, length_push}
+use Rattle.std.proofs.Common.{◌∙◌, ◌+◌, ◌++◌, ◌∷◌, [], ap, arith, length, IsTrue}
+use Rattle.std.proofs.lemmas.List.{length_push}
 use Rattle.std.proofs.lemmas.Result.{err_from_is_err_and}
 use Rattle.pagecache.specs.Cache.{payload_of}
+use Rattle.rows.specs.Rows.{Grown}
 use Rattle.catalogue.specs.ChainReader.{rest_of}
-use Rattle.catalogue.specs.Text.{short_text, IsShortText, IsRow}
+use Rattle.catalogue.specs.Text.{short_text, row_text, IsShortText, IsRow}
 use Rattle.catalogue.proofs.EntryLemmas.{no_values}
 use Rattle.catalogue.proofs.PrefixLemmas.{short_free}
-use Rattle.catalogue.proofs.ReaderLemmas.{reads_trans}
-use Rattle.catalogue.proofs.SequenceLemmas.{lacks_err, pushed, all_pushed}
+use Rattle.catalogue.proofs.ReaderLemmas.{later, reads_trans}
+use Rattle.catalogue.proofs.SequenceLemmas.{into_err, pushed, all_pushed}
 use Rattle.catalogue.proofs.chain_reader.ChainReader.row.Goals as goal
 
-pub returns-in_err-text-clause-takes : goal.returns-in_err-text-clause-takes
-returns-in_err-text-clause-takes g c = λ fa.
+pub returns-in_err-value-clause-takes : goal.returns-in_err-value-clause-takes
+returns-in_err-value-clause-takes g c = λ fa.
     let p = err_from_is_err_and c.from_residual.result c.from_residual.ensures.1 in
     let old = rest_of (payload_of c.args.cache.now) c.args.self.now in
     let mid = rest_of (payload_of c.loop.cache) c.loop.self in
-    let new = rest_of (payload_of c.text.new.cache) c.text.new.self in
+    let new = rest_of (payload_of c.value.new.cache) c.value.new.self in
     let inv = c.loop.invariant in
-    lacks_err (λ l. flat_map short_text l) (IsRow c.args.columns) old new c.from_residual.result c.in_err-text.field-0.0 p.0 p.1 p.2
-    (λ b. no_values c.loop.values.items old mid c.args.columns (inv.each fa) (omega (arith, inv.many, c.loop-test.true)) (inv.taken fa) ((c.in_err-text.ensures.takes (inv.reads.store.faithful ∙ fa)).lacks b))
+    let many = inv.many fa in
+    into_err row_text (IsRow c.args.columns) _ old new c.from_residual.result c.in_err-value.field-0.0 p.0 p.1 p.2
+    (λ b. no_values c.loop.rows.row old mid c.args.columns (inv.each fa) (omega (arith, many, c.loop-test.true)) (inv.taken fa) ((c.in_err-value.ensures.takes (inv.reads.store.faithful ∙ fa)).lacks b))
 
 pub loop-preserved : goal.loop-preserved
 loop-preserved g c =
     let old = rest_of (payload_of c.args.cache.now) c.args.self.now in
     let mid = rest_of (payload_of c.loop.cache) c.loop.self in
-    let new = rest_of (payload_of c.text.new.cache) c.text.new.self in
+    let new = rest_of (payload_of c.value.new.cache) c.value.new.self in
     let inv = c.loop.invariant in
-    let xs = c.loop.values.items in
-    let ys = c.push.new.self.items in
-    let x = c.in_ok-text.field-0 in
-    let items = c.in_ok-push.ensures.items in
+    let xs = c.loop.rows.row in
+    let ys = c.value.new.rows.row in
+    let takes = λ (fa : IsTrue c.args.cache.now.store.is_faithful). (c.in_ok-value.ensures.takes (inv.reads.store.faithful ∙ fa)).taken in
     record {
-      reads = reads_trans c.args.cache.now c.loop.cache c.text.new.cache inv.reads c.text.ensures.reads;
-      each = λ fa. all_pushed short_text IsShortText short_free xs ys x items (inv.each fa) (c.in_ok-text.ensures.takes (inv.reads.store.faithful ∙ fa)).taken.0;
-      many = ap length items ∙ length_push xs x ∙ ap (λ n. n + 1) inv.many;
-      taken = λ fa. pushed short_text IsShortText short_free xs ys x old mid new items (inv.taken fa) (c.in_ok-text.ensures.takes (inv.reads.store.faithful ∙ fa)).taken.1;
+      reads = reads_trans c.args.cache.now c.loop.cache c.value.new.cache inv.reads c.value.ensures.reads;
+      others = λ fa. ap (λ (r : Grown). r.rows) (takes fa).1 ∙ inv.others fa;
+      each = λ fa. all_pushed short_text IsShortText short_free xs ys (takes fa).0 (ap (λ (r : Grown). r.row) (takes fa).1) (inv.each fa) (takes fa).2;
+      many = λ fa. ap length (ap (λ (r : Grown). r.row) (takes fa).1) ∙ length_push xs (takes fa).0 ∙ ap (λ n. n + 1) (inv.many fa);
+      taken = λ fa. pushed short_text IsShortText short_free xs ys (takes fa).0 old mid new (ap (λ (r : Grown). r.row) (takes fa).1) (inv.taken fa) (takes fa).3;
     }
 
-pub returns-clause-takes : goal.returns-clause-takes
-returns-clause-takes g c = λ fa.
+pub returns-in_err-value-clause-caused : goal.returns-in_err-value-clause-caused
+returns-in_err-value-clause-caused g c =
+    let p = err_from_is_err_and c.from_residual.result c.from_residual.ensures.1 in
+    later c.args.cache.now c.loop.cache c.value.new.cache c.from_residual.result p.0 c.in_err-value.field-0.0 p.1 p.2 c.loop.invariant.reads c.in_err-value.ensures.caused
+
+pub returns-in_err-value-clause-reads : goal.returns-in_err-value-clause-reads
+returns-in_err-value-clause-reads g c = reads_trans c.args.cache.now c.loop.cache c.value.new.cache c.loop.invariant.reads c.in_err-value.ensures.reads
+
+pub returns-in-Ok-clause-takes : goal.returns-in-Ok-clause-takes
+returns-in-Ok-clause-takes g c = λ fa.
     let inv = c.loop.invariant in
-    let new = rest_of (payload_of c.loop.cache) c.loop.self in
+    let many = inv.many fa in
     record {
       taken = (
-        record { each = subst (λ l. All IsShortText l) (sym (c.with_blanks.ensures ∙ append-nil c.loop.values.items)) (inv.each fa); many = ap length (c.with_blanks.ensures ∙ append-nil c.loop.values.items) ∙ inv.many ∙ omega (arith, c.loop-test.false, c.loop.auto.counter-end) },
-        inv.taken fa ∙ ap (λ l. option_map (λ t. flat_map short_text l ++ t) new) (sym (c.with_blanks.ensures ∙ append-nil c.loop.values.items)),
+        c.loop.rows.row,
+        ap (λ (r : Grown). r.rows) c.in-Ok.ensures ∙ ap (λ rs. rs ++ c.loop.rows.row ∷ []) (inv.others fa),
+        record { each = inv.each fa; many = many ∙ omega (arith, c.loop-test.false, c.loop.auto.counter-end) },
+        inv.taken fa,
       );
       lacks = tt;
     }

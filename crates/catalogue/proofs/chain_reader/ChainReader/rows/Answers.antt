@@ -1,4 +1,4 @@
-use Rattle.std.proofs.Common.{◌∙◌, ◌+◌, ap, arith, length}
+use Rattle.std.proofs.Common.{◌∙◌, ◌+◌, ap, arith, length, IsTrue}
 use Rattle.std.specs.List.{flat_map}
 use Rattle.std.proofs.lemmas.List.{length_push}
 use Rattle.std.proofs.lemmas.Result.{err_from_is_err_and}
@@ -7,7 +7,7 @@ use Rattle.catalogue.specs.ChainReader.{rest_of}
 use Rattle.catalogue.specs.Text.{row_text, IsRow, AreRows}
 use Rattle.catalogue.proofs.EntryLemmas.{no_rows}
 use Rattle.catalogue.proofs.PrefixLemmas.{row_free}
-use Rattle.catalogue.proofs.ReaderLemmas.{reads_trans}
+use Rattle.catalogue.proofs.ReaderLemmas.{later, reads_trans}
 use Rattle.catalogue.proofs.SequenceLemmas.{lacks_err, pushed, all_pushed}
 use Rattle.catalogue.proofs.chain_reader.ChainReader.rows.Goals as goal
 
@@ -18,8 +18,9 @@ returns-in_err-row-clause-takes g c = λ fa.
     let mid = rest_of (payload_of c.loop.cache) c.loop.self in
     let new = rest_of (payload_of c.row.new.cache) c.row.new.self in
     let inv = c.loop.invariant in
+    let many = inv.many fa in
     lacks_err (λ l. flat_map row_text l) (AreRows c.args.columns c.args.count) old new c.from_residual.result c.in_err-row.field-0.0 p.0 p.1 p.2
-    (λ b. no_rows c.args.columns c.loop.rows old mid c.args.count (inv.each fa) (omega (arith, inv.many, c.loop-test.true)) (inv.taken fa) ((c.in_err-row.ensures.takes (inv.reads.store.faithful ∙ fa)).lacks b))
+    (λ b. no_rows c.args.columns c.loop.rows.rows old mid c.args.count (inv.each fa) (omega (arith, many, c.loop-test.true)) (inv.taken fa) ((c.in_err-row.ensures.takes (inv.reads.store.faithful ∙ fa)).lacks b))
 
 pub loop-preserved : goal.loop-preserved
 loop-preserved g c =
@@ -27,21 +28,21 @@ loop-preserved g c =
     let mid = rest_of (payload_of c.loop.cache) c.loop.self in
     let new = rest_of (payload_of c.row.new.cache) c.row.new.self in
     let inv = c.loop.invariant in
-    let xs = c.loop.rows in
-    let ys = c.push.new.self in
-    let x = c.in_ok-row.field-0 in
-    let items = c.in_ok-push.ensures.pushed in
+    let xs = c.loop.rows.rows in
+    let ys = c.row.new.rows.rows in
+    let takes = λ (fa : IsTrue c.args.cache.now.store.is_faithful). (c.in_ok-row.ensures.takes (inv.reads.store.faithful ∙ fa)).taken in
     record {
       reads = reads_trans c.args.cache.now c.loop.cache c.row.new.cache inv.reads c.row.ensures.reads;
-      each = λ fa. all_pushed row_text (IsRow c.args.columns) (row_free c.args.columns) xs ys x items (inv.each fa) (c.in_ok-row.ensures.takes (inv.reads.store.faithful ∙ fa)).taken.0;
-      many = ap length items ∙ length_push xs x ∙ ap (λ n. n + 1) inv.many;
-      taken = λ fa. pushed row_text (IsRow c.args.columns) (row_free c.args.columns) xs ys x old mid new items (inv.taken fa) (c.in_ok-row.ensures.takes (inv.reads.store.faithful ∙ fa)).taken.1;
+      ended = c.in_ok-row.ensures.ended;
+      each = λ fa. all_pushed row_text (IsRow c.args.columns) (row_free c.args.columns) xs ys (takes fa).0 (takes fa).1 (inv.each fa) (takes fa).2;
+      many = λ fa. ap length (takes fa).1 ∙ length_push xs (takes fa).0 ∙ ap (λ n. n + 1) (inv.many fa);
+      taken = λ fa. pushed row_text (IsRow c.args.columns) (row_free c.args.columns) xs ys (takes fa).0 old mid new (takes fa).1 (inv.taken fa) (takes fa).3;
     }
 
-pub returns-clause-takes : goal.returns-clause-takes
-returns-clause-takes g c = λ fa.
-    let inv = c.loop.invariant in
-    record {
-      taken = (record { each = inv.each fa; many = inv.many ∙ omega (arith, c.loop-test.false, c.loop.auto.counter-end) }, inv.taken fa);
-      lacks = tt;
-    }
+pub returns-in_err-row-clause-caused : goal.returns-in_err-row-clause-caused
+returns-in_err-row-clause-caused g c =
+    let p = err_from_is_err_and c.from_residual.result c.from_residual.ensures.1 in
+    later c.args.cache.now c.loop.cache c.row.new.cache c.from_residual.result p.0 c.in_err-row.field-0.0 p.1 p.2 c.loop.invariant.reads c.in_err-row.ensures.caused
+
+pub returns-in_err-row-clause-reads : goal.returns-in_err-row-clause-reads
+returns-in_err-row-clause-reads g c = reads_trans c.args.cache.now c.loop.cache c.row.new.cache c.loop.invariant.reads c.in_err-row.ensures.reads

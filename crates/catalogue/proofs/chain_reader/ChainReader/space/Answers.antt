@@ -1,3 +1,4 @@
+use Rattle.catalogue.proofs.ReaderLemmas.{later, reads_trans}
 use Rattle.std.proofs.Common.{◌∙◌}
 use Rattle.std.proofs.lemmas.Result.{err_from_is_err_and}
 use Rattle.pagecache.specs.Cache.{payload_of}
@@ -23,3 +24,14 @@ returns-in_err-columns-clause-takes g c = λ fa.
     let first = (c.in_ok-crs.ensures.takes fa).taken in
     lacks_err space_text IsSpace old new c.from_residual-in_err-columns.result c.in_err-columns.field-0.0 p.0 p.1 p.2
     (λ b. no_space_columns c.in_ok-crs.crs old mid first.0 first.1 ((c.in_err-columns.ensures.takes (c.in_ok-crs.ensures.reads.store.faithful ∙ fa)).lacks b))
+
+pub returns-in_err-columns-clause-caused : goal.returns-in_err-columns-clause-caused
+returns-in_err-columns-clause-caused g c =
+    let p = err_from_is_err_and c.from_residual-in_err-columns.result c.from_residual-in_err-columns.ensures.1 in
+    later c.args.cache.now c.text.new.cache c.counted_columns.new.cache c.from_residual-in_err-columns.result p.0 c.in_err-columns.field-0.0 p.1 p.2 c.in_ok-crs.ensures.reads c.in_err-columns.ensures.caused
+
+pub returns-in_err-columns-clause-reads : goal.returns-in_err-columns-clause-reads
+returns-in_err-columns-clause-reads g c = reads_trans c.args.cache.now c.text.new.cache c.counted_columns.new.cache c.in_ok-crs.ensures.reads c.in_err-columns.ensures.reads
+
+pub returns-clause-reads : goal.returns-clause-reads
+returns-clause-reads g c = reads_trans c.args.cache.now c.text.new.cache c.counted_columns.new.cache c.in_ok-crs.ensures.reads c.in_ok-columns.ensures.reads
