@@ -11,3 +11,4 @@ pub mod PageLemmas
 pub mod LastingLemmas
 pub mod CheckLemmas
 pub mod SoundLemmas
+pub mod SafeLemmas

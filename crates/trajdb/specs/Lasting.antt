@@ -1,11 +1,12 @@
 -- A database that lasts between runs.
-use Rattle.std.specs.Prelude.{ℕ, ◌≡◌, ◌⊎◌, Bool, true, false, Option, Some, None, Result, Ok, Err}
+use Rattle.std.specs.Prelude.{ℕ, ◌≡◌, ◌≤◌, ◌⊎◌, drop, Bool, true, false, Option, Some, None, Result, Ok, Err, IsTrue}
 use Rattle.legs.specs.Book.{Book}
 use Rattle.legs.specs.Costs.{ShapeView}
 use Rattle.legs.specs.Limits.{LimitsView}
-use Rattle.pages.specs.Store.{Store, Faulted}
+use Rattle.pages.specs.Store.{Store, Faulted, IsLawful}
 use Rattle.pages.specs.declared.payload.Payload.{Payload}
-use Rattle.catalogue.specs.Holding.{IsAtRest}
+use Rattle.boxsearch.specs.Index.{written, IndexView, IsMarked, IsSound as IsSoundIndex}
+use Rattle.catalogue.specs.Holding.{HoldsBook, IsAtRest, IsUnfinishedStore}
 use Rattle.catalogue.specs.Lasting.{IsDamagedPage}
 use Rattle.catalogue.specs.declared.fault.CatalogueFault.{CatalogueFault}
 use Rattle.trajdb.specs.Database.{catalogue_of}
@@ -95,3 +96,27 @@ IsClosingFault db new (run.Damaged page) = Unit {0}
 IsClosingFault db new run.StoreFull = new.count ≡ new.most
 IsClosingFault db new run.Failed = db.failed ≡ true
 IsClosingFault db new run.Output = ⊥
+
+-- a store has the pages that it had, and holds a book that it held, but for page 0 where it failed since
+pub record IsUnchanged (was now : Store) : Type 0 where
+  pub others : drop 1 now.pages ≡ drop 1 was.pages
+  pub pages : (Faulted was now → ⊥) → now.pages ≡ was.pages
+  pub holds : (Faulted was now → ⊥) → (shape : ShapeView) (limits : LimitsView) (book : Book) → HoldsBook was shape limits book → HoldsBook now shape limits book
+
+-- a store that is left is refused as not finished where it is opened, or is the one that was
+abbrev pub IsSafeStore : Store → Store → Type 0
+IsSafeStore was left = IsUnfinishedStore left ⊎ IsUnchanged was left
+
+-- no page was written since the store of a sound index was this faithful one, but page 0 where it failed since
+pub record IsUntouched (was : Store) (index : IndexView) : Type 0 where
+  pub lawful : IsLawful was
+  pub faithful : IsTrue was.is_faithful
+  pub faults : was.faults ≤ index.cache.store.faults
+  pub sound : IsSoundIndex index
+  pub others : drop 1 (written index) ≡ drop 1 was.pages
+  pub pages : (Faulted was index.cache.store → ⊥) → written index ≡ was.pages
+
+-- a database, failed or not, keeps its store safe: page 0 as written is marked, or no page was written since the store was
+-- this one
+abbrev pub IsSafe : Store → DbView → Type 0
+IsSafe was db = IsMarked db.index.cache ⊎ IsUntouched was db.index

@@ -166,11 +166,12 @@ impl<S: PageStore> Core<TreeIndex<S>> {
 impl<S: PageStore> Db<S> {
     ghost use Rattle.std.specs.Prelude.{ℕ, ◌≡◌, Err, IfErr, IfOk, IsTrue, OnOk, false, true};
     ghost use Rattle.pagecache.specs.Cache.{payload_of, IsClean};
+    ghost use Rattle.pages.specs.Store.{Store};
     ghost use Rattle.boxsearch.specs.Index.{words};
     ghost use Rattle.trajdb.specs.Calls.{IsAsked, IsQuestionFault, KeepsPages, Leaves};
     ghost use Rattle.trajdb.specs.Checking.{Reports};
     ghost use Rattle.trajdb.specs.Db.{HasPages, IsSound};
-    ghost use Rattle.trajdb.specs.Lasting.{IsIdle};
+    ghost use Rattle.trajdb.specs.Lasting.{IsIdle, IsSafe};
     ghost use Rattle.trajdb.specs.declared.RunFault.{RunFault};
 
     /// Tests that the pages of its store, whoever made them, and what is known beside them hold one
@@ -205,6 +206,8 @@ impl<S: PageStore> Db<S> {
         ensures written { OnOk result (IsClean self.new.index.cache) }
         ensures pages { KeepsPages words self.old self.new }
         ensures rests { IsIdle self.old → IsIdle self.new }
+        ensures safe { (was : Store) → IsSound self.old → HasPages self.old → IsSafe was self.old
+            → IsSafe was self.new }
 
         ensures store { IfErr result (IsAsked words self.old.index self.new.index) }
         ensures was_failed { self.old.failed ≡ true

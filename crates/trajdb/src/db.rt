@@ -39,7 +39,7 @@ impl<S: PageStore> Model for Db<S> {
 impl<S: PageStore> Db<S> {
     ghost use Rattle.std.specs.Prelude.{◌≡◌, ◌<◌, ℕ, List, Some, IfOk, IfErr, IsErrOf, IsTrue, OnOk, OnErr, Err, true, false};
     ghost use Rattle.pages.specs.Sealed.{sealed};
-    ghost use Rattle.pages.specs.Store.{Keeps, Writes};
+    ghost use Rattle.pages.specs.Store.{Keeps, Store, Writes};
     ghost use Rattle.boxsearch.specs.Index.{words};
     ghost use Rattle.catalogue.specs.Beginning.{IsLeft};
     ghost use Rattle.catalogue.specs.Header.{header_payload};
@@ -52,7 +52,7 @@ impl<S: PageStore> Db<S> {
     ghost use Rattle.trajdb.specs.Calls.{AsksIn, Begins, BeginsBy, BeginsOnly, IsLater, IsLoadStop, IsRunStop, IsStopped, IsWholeFile, KeepsPages, Leaves, Loads, LoadsWhole, LoadsWholeSome, TellsLoad};
     ghost use Rattle.trajdb.specs.Telling.{IsToldAnswer, NamesBy, TellsCut, TellsRun, TellsStop};
     ghost use Rattle.trajdb.specs.Db.{HasPages, IsAllowed, IsCaused, IsSound};
-    ghost use Rattle.trajdb.specs.Lasting.{IsIdle};
+    ghost use Rattle.trajdb.specs.Lasting.{IsIdle, IsSafe};
     ghost use Rattle.trajdb.specs.declared.RunFault.{RunFault};
     ghost use Rattle.trajdb.specs.declared.LoadFault.{LoadFault};
 
@@ -80,6 +80,8 @@ impl<S: PageStore> Db<S> {
         ensures lives { IfOk result (λ db. db.failed ≡ false) }
         ensures begun { IfOk result (λ db. db.begun ≡ true) }
         ensures pages { IfOk result (λ db. IsTrue (S.seen store).is_faithful → HasPages db) }
+        ensures safe { IfOk result (λ db. IsTrue (S.seen store).is_faithful → (was : Store)
+            → IsSafe was db) }
         ensures only { IfErr result (λ back. IsTrue (S.seen store).is_faithful → IsAllowed back.1) }
         ensures caused { IfErr result (λ back. IsCaused (S.seen store) (S.seen back.0) back.1) }
 
@@ -123,6 +125,8 @@ impl<S: PageStore> Db<S> {
         ensures idle { OnErr result (self.new.begun ≡ self.old.begun) }
         ensures pages { KeepsPages words self.old self.new }
         ensures rests { IsIdle self.old → IsIdle self.new }
+        ensures safe { (was : Store) → IsSound self.old → HasPages self.old → IsSafe was self.old
+            → IsSafe was self.new }
         ensures was_failed { self.old.failed ≡ true
             → (result ≡ Err (LoadFault.Run RunFault.Failed)) × (self.new ≡ self.old) }
     {
@@ -177,6 +181,8 @@ impl<S: PageStore> Db<S> {
         ensures told { IfOk result (λ text. BeginsBy self.old self.new (IsCountsText text.items)) }
         ensures pages { KeepsPages words self.old self.new }
         ensures rests { IsIdle self.old → IsIdle self.new }
+        ensures safe { (was : Store) → IsSound self.old → HasPages self.old → IsSafe was self.old
+            → IsSafe was self.new }
 
         // A failed database does nothing.
         ensures was_failed { self.old.failed ≡ true → (result ≡ Err RunFault.Failed)
@@ -243,6 +249,8 @@ impl<S: PageStore> Db<S> {
             (LoadsWholeSome files.now (lines_of script.now)) }
         ensures pages { KeepsPages words self.old self.new }
         ensures rests { IsIdle self.old → IsIdle self.new }
+        ensures safe { (was : Store) → IsSound self.old → HasPages self.old → IsSafe was self.old
+            → IsSafe was self.new }
 
         // A failed database does nothing.
         ensures was_failed { self.old.failed ≡ true → (result ≡ Err RunFault.Failed)

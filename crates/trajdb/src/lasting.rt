@@ -81,14 +81,14 @@ impl<S: PageStore> Db<S> {
     ghost use Rattle.legs.specs.Costs.{ShapeView};
     ghost use Rattle.legs.specs.Limits.{IsLimits, LimitsView};
     ghost use Rattle.boxsearch.specs.Index.{words};
-    ghost use Rattle.pages.specs.Store.{Keeps, Stays};
+    ghost use Rattle.pages.specs.Store.{Keeps, Stays, Store};
     ghost use Rattle.pagecache.specs.Cache.{stored_payload};
     ghost use Rattle.catalogue.specs.Holding.{HoldsBook, IsUnfinishedStore};
     ghost use Rattle.catalogue.specs.Lasting.{first_fault};
     ghost use Rattle.trajdb.specs.Calls.{IsLoadFault};
     ghost use Rattle.trajdb.specs.Database.{restored};
     ghost use Rattle.trajdb.specs.Db.{HasPages, IsSound};
-    ghost use Rattle.trajdb.specs.Lasting.{ComesFirst, HasBook, IsClosingFault, IsFaultless, IsIdle, IsOpeningFault, IsStop, IsTrulyDamaged, IsUnfinishedAnswer};
+    ghost use Rattle.trajdb.specs.Lasting.{ComesFirst, HasBook, IsClosingFault, IsFaultless, IsIdle, IsOpeningFault, IsSafe, IsSafeStore, IsStop, IsTrulyDamaged, IsUnfinishedAnswer};
     ghost use Rattle.trajdb.specs.declared.RunFault.{RunFault};
 
     /// Opens the database that a store keeps, with a cache of at most that many pages, at least 1. Nothing is written
@@ -134,6 +134,8 @@ impl<S: PageStore> Db<S> {
         // The store stays as it is.
         ensures stored { IfOk result (λ db. Stays (S.seen store) db.index.cache.store) }
         ensures back { IfErr result (λ back. Stays (S.seen store) (S.seen back.0)) }
+        ensures safe { IfOk result (λ db. IsTrue (S.seen store).is_faithful → IsSound db
+            → IsSafe (S.seen store) db) }
         ensures caused { IfErr result (λ back. IsOpeningFault (S.seen store) (S.seen back.0)
             back.1) }
 
@@ -182,6 +184,11 @@ impl<S: PageStore> Db<S> {
         ensures failed { self.failed ≡ true → (result.1 ≡ Err RunFault.Failed)
             × (S.seen result.0 ≡ self.index.cache.store) }
         ensures keeps { Keeps self.index.cache.store (S.seen result.0) }
+
+        // What a load that failed leaves is refused as not finished, or is the store that was there
+        // before, but for page 0 where the store failed.
+        ensures safe { self.failed ≡ true → (was : Store) → IsSafe was self
+            → IsSafeStore was (S.seen result.0) }
         ensures caused { IfErr result.1 (IsClosingFault self (S.seen result.0)) }
     {
         catalogue::laws();
@@ -204,6 +211,9 @@ impl<S: PageStore> Db<S> {
         // Where a file was accepted, it is the store of one that was not finished.
         ensures unfinished { IsSound self → HasPages self → self.begun ≡ true
             → IsUnfinishedStore (S.seen result) }
+
+        // So it is where a load failed, or the store that was there before.
+        ensures safe { (was : Store) → IsSafe was self → IsSafeStore was (S.seen result) }
     {
         catalogue::laws();
         let (_, index) = self.core.into_parts();

@@ -11,8 +11,9 @@ use Rattle.catalogue.specs.Saving.{IsAllowed}
 use Rattle.trajdb.specs.Calls.{IsLoadFault}
 use Rattle.trajdb.specs.Db.{DbView, HasPages, IsSound}
 use Rattle.trajdb.specs.Faults.{closed_answer}
-use Rattle.trajdb.specs.Lasting.{IsFaultless, IsIdle}
+use Rattle.trajdb.specs.Lasting.{IsFaultless, IsIdle, IsSafe}
 use Rattle.trajdb.proofs.LastingLemmas.{rest_book, closed_holds, closed_only, closed_unfinished}
+use Rattle.trajdb.proofs.SafeLemmas.{left_safe}
 use Rattle.trajdb.proofs.db.Db.close.Goals as goal
 
 pub returns-then-not-begun-clause-holds : goal.returns-then-not-begun-clause-holds
@@ -61,3 +62,10 @@ returns-clause-unfinished g c =
     subst (λ r. IfErr r (λ fault. IsFaultless fault → IsSound c.args.self → HasPages c.args.self → c.args.self.failed ≡ false → IsUnfinishedStore s)) (sym c.closed.ensures)
     (subst (λ (d : DbView). IfErr (closed_answer answer) (λ fault. IsFaultless fault → IsSound d → HasPages d → d.failed ≡ false → IsUnfinishedStore s)) c.self.view_is
     (closed_unfinished core s answer first begun))
+
+pub returns-then-failed-clause-safe : goal.returns-then-failed-clause-safe
+returns-then-failed-clause-safe g c = λ failed was safe.
+    let index = c.into_parts-catalogue.ensures.index in
+    let lawful = subst (λ (x : IndexView). IsLawful x.cache.store) index c.rest.ensures.lawful in
+    let store = c.rest.ensures.store ∙ ap (λ (x : IndexView). x.cache.store) index in
+    left_safe was c.self.inside.core (g.S.PageStore.seen c.rest.result) store lawful (subst (IsSafe was) (sym c.self.view_is) safe)

@@ -1,4 +1,5 @@
 use Rattle.trajdb.proofs.LastingLemmas.{keeps_idle}
+use Rattle.trajdb.proofs.SafeLemmas.{keeps_safe}
 use Rattle.trajdb.proofs.db.Db.command.Goals as goal
 
 pub returns-clause-question : goal.returns-clause-question
@@ -9,3 +10,6 @@ returns-clause-rests g c = rw (← c.self.view_is) (keeps_idle c.laws.ensures.re
 
 pub returns-clause-begins : goal.returns-clause-begins
 returns-clause-begins g c = rw (← c.self.view_is) c.command.ensures.begins
+
+pub returns-clause-safe : goal.returns-clause-safe
+returns-clause-safe g c = rw (← c.self.view_is) (keeps_safe _ _ c.command.ensures.pages c.command.ensures.later.index.faults (λ failed. (c.command.ensures.was_failed failed).1))

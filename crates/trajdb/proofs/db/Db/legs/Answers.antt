@@ -1,6 +1,8 @@
+use Rattle.std.proofs.Common.{◌≡◌, ◌∙◌, sym, false}
 use Rattle.boxsearch.specs.Index.{words}
 use Rattle.trajdb.proofs.LastingLemmas.{keeps_idle}
 use Rattle.trajdb.proofs.PageLemmas.{keeps_leaves}
+use Rattle.trajdb.proofs.SafeLemmas.{leaves_safe}
 use Rattle.trajdb.proofs.db.Db.legs.Goals as goal
 
 pub returns-clause-found : goal.returns-clause-found
@@ -8,3 +10,8 @@ returns-clause-found g c = rw (← c.self.view_is) c.legs_for.ensures.found
 
 pub returns-clause-rests : goal.returns-clause-rests
 returns-clause-rests g c = rw (← c.self.view_is) (keeps_idle c.laws.ensures.rests _ _ (keeps_leaves words _ _ c.legs_for.ensures.leaves))
+
+pub returns-clause-safe : goal.returns-clause-safe
+returns-clause-safe g c =
+    let lives : c.self.inside.core.failed ≡ false = sym (λ i. (c.self-inside.view_is i).core.failed) ∙ c.if-self.false in
+    rw (← c.self.view_is) (leaves_safe _ _ c.legs_for.ensures.leaves lives)

@@ -1,7 +1,10 @@
 use Rattle.std.proofs.Common.{sym, subst, false}
+use Rattle.pages.specs.Store.{Stays}
 use Rattle.pagecache.specs.Cache.{stored_payload}
+use Rattle.trajdb.specs.Db.{DbView}
 use Rattle.trajdb.specs.Lasting.{IsStop, IsTrulyDamaged}
 use Rattle.trajdb.proofs.LastingLemmas.{damaged_still, opened_book, stopped}
+use Rattle.trajdb.proofs.SafeLemmas.{opened_safe}
 use Rattle.trajdb.proofs.db.Db.open.Goals as goal
 
 pub returns-in-Ok-clause-book : goal.returns-in-Ok-clause-book
@@ -16,3 +19,9 @@ pub returns-in-Err-clause-damaged : goal.returns-in-Err-clause-damaged
 returns-in-Err-clause-damaged g c =
     let s = g.S.PageStore.seen c.args.store in
     subst (IsTrulyDamaged s.is_faithful (stored_payload s) s.count) (sym c.from.ensures) (damaged_still s.is_faithful (stored_payload s) s.count c.in-Err.fault c.in-Err.ensures.damaged)
+
+pub returns-in-Ok-clause-safe : goal.returns-in-Ok-clause-safe
+returns-in-Ok-clause-safe g c = λ fa sound.
+    let s = g.S.PageStore.seen c.args.store in
+    let stays = subst (λ (d : DbView). Stays s d.index.cache.store) (sym c.restored.ensures.core) c.in-Ok.ensures.stored in
+    opened_safe s c.restored.result (g.met.S.PageStore.lawful c.args.store) fa stays sound
