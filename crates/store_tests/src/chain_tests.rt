@@ -34,9 +34,17 @@ fn read(alloc: Global, last: bool) -> Option<(Vec<u64>, u64)> {
     let asked = cache.asked();
     let found = if last {
         let period = Period::new(Ms::new(4500)?, Ms::new(5000)?)?;
-        trajectory_in(alloc, &mut cache, &shape, &place, &period).ok()?
+        trajectory_in(
+            alloc,
+            &mut cache,
+            &shape,
+            &place,
+            &period,
+            &mut Vec::new(alloc),
+        )
+        .ok()?
     } else {
-        trajectory(alloc, &mut cache, &shape, &place).ok()?
+        trajectory(alloc, &mut cache, &shape, &place, &mut Vec::new(alloc)).ok()?
     };
     let mut ordinals = Vec::new(alloc);
     for leg in &found {
@@ -65,7 +73,14 @@ fn looped(alloc: Global) -> Option<ChainFault> {
     let payload = cache.page_mut(place.last).ok()?;
     leaf(payload)?;
     set_next(payload, place.last);
-    trajectory(alloc, &mut cache, &Shape::new(2, 2)?, &place).err()
+    trajectory(
+        alloc,
+        &mut cache,
+        &Shape::new(2, 2)?,
+        &place,
+        &mut Vec::new(alloc),
+    )
+    .err()
 }
 
 #[test]
@@ -110,8 +125,11 @@ fn told(alloc: Global, legs: u32, forged: &Forged) -> Option<Result<usize, Chain
     forge(cache.page_mut(forged.page).ok()?, forged)?;
     let shape = Shape::new(2, 2)?;
     let period = Period::new(Ms::new(0)?, Ms::new(9000)?)?;
-    let all = trajectory(alloc, &mut cache, &shape, &place).map(|found| found.len());
-    let live = trajectory_in(alloc, &mut cache, &shape, &place, &period).map(|found| found.len());
+    let (mut none, mut other) = (Vec::new(alloc), Vec::new(alloc));
+    let all = trajectory(alloc, &mut cache, &shape, &place, &mut none).map(|found| found.len());
+    let live = trajectory_in(alloc, &mut cache, &shape, &place, &period, &mut other).map(
+        |found| found.len(),
+    );
     if all == live { Some(all) } else { None }
 }
 
@@ -170,7 +188,14 @@ fn a_leaf_that_is_forged_as_it_was_is_read(rt: HostRuntime) {
 /// Why five legs are not read where the store's call of that number fails, if they were inserted before.
 fn fault(alloc: Global, calls: u64) -> Option<ChainFault> {
     let (mut cache, place) = grown(alloc, 5, calls)?;
-    trajectory(alloc, &mut cache, &Shape::new(2, 2)?, &place).err()
+    trajectory(
+        alloc,
+        &mut cache,
+        &Shape::new(2, 2)?,
+        &place,
+        &mut Vec::new(alloc),
+    )
+    .err()
 }
 
 #[test]
@@ -276,8 +301,10 @@ fn asked(
 ) -> Option<u64> {
     let before = cache.asked();
     let found = match time {
-        Some(period) => trajectory_in(alloc, cache, shape, place, period).ok()?,
-        None => trajectory(alloc, cache, shape, place).ok()?,
+        Some(period) => {
+            trajectory_in(alloc, cache, shape, place, period, &mut Vec::new(alloc)).ok()?
+        }
+        None => trajectory(alloc, cache, shape, place, &mut Vec::new(alloc)).ok()?,
     };
     if found.as_slice() != wanted {
         return None;

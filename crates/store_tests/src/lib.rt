@@ -9,6 +9,8 @@ mod chain_tests;
 #[cfg(test)]
 mod insertion_tests;
 #[cfg(test)]
+mod known_tests;
+#[cfg(test)]
 mod loading_tests;
 #[cfg(test)]
 mod numbers;
