@@ -1,5 +1,5 @@
 -- One value behind another, and lists of values.
-use Rattle.std.proofs.Common.{ℕ, ◌≡◌, ◌≢◌, ◌<◌, List, [], ◌∷◌, ◌++◌, length, sym, ap, ◌∙◌, arith, subst, Option, Some, None, option_map, All, Result, Err}
+use Rattle.std.proofs.Common.{ℕ, ◌≡◌, ◌≢◌, ◌<◌, List, [], ◌∷◌, ◌++◌, length, sym, ap, ◌∙◌, arith, subst, Option, Some, None, option_map, All, Result, Ok, Err}
 use Rattle.std.specs.Prelude.{IfErr}
 use Rattle.std.specs.List.{flat_map}
 use Rattle.std.proofs.lemmas.List.{append_assoc, append-nil}
@@ -28,6 +28,15 @@ module _ {V : Type 0} (text : V → List ℕ) (ok : V → Type 0) where
   taken_both A a old mid new p q =
       p ∙ ap (option_map (λ t. A ++ t)) q ∙ map_map (λ t. A ++ t) (λ t. a ++ t) new
       ∙ map_same (λ t. A ++ (a ++ t)) (λ t. (A ++ a) ++ t) new (λ t. sym (append_assoc A a t))
+
+-- what stands behind a front makes a value with it
+pub takes_behind : {V : Type 0} (text second : V → List ℕ) (ok is_second : V → Type 0) (front : List ℕ) (old mid new : Option (List ℕ)) (r : Result V CatalogueFault)
+    → old ≡ option_map (λ t. front ++ t) mid → ((v : V) → is_second v → ok v × (front ++ second v ≡ text v)) → (Lacks second is_second mid → Lacks text ok old)
+    → Takes second is_second mid new r → Takes text ok old new r
+takes_behind text second ok is_second front old mid new (Ok v) is whole lacks h =
+    let w = whole v h.taken.0 in
+    record { taken = (w.0, taken_both text ok front (second v) old mid new is h.taken.1 ∙ ap (λ l. option_map (λ t. l ++ t) new) w.1); lacks = tt }
+takes_behind text second ok is_second front old mid new (Err e) is whole lacks h = record { taken = tt; lacks = λ b. lacks (h.lacks b) }
 
 module _ {A B V : Type 0} (first : A → List ℕ) (second : B → List ℕ) (is_first : A → Type 0) (is_second : B → Type 0) (free : IsFree first is_first)
     (left : V → A) (right : V → B) (ok : V → Type 0) (parts : (v : V) → ok v → is_first (left v) × is_second (right v)) where

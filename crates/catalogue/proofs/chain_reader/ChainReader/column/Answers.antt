@@ -3,9 +3,9 @@ use Rattle.std.proofs.Common.{◌∙◌}
 use Rattle.std.proofs.lemmas.Result.{err_from_is_err_and}
 use Rattle.pagecache.specs.Cache.{payload_of}
 use Rattle.catalogue.specs.ChainReader.{rest_of}
-use Rattle.catalogue.specs.Text.{column_text, IsColumn}
+use Rattle.catalogue.specs.Text.{column_text, IsColumn, short_text}
 use Rattle.catalogue.proofs.EntryLemmas.{no_column, no_kind}
-use Rattle.catalogue.proofs.SequenceLemmas.{lacks_err}
+use Rattle.catalogue.proofs.SequenceLemmas.{lacks_err, taken_both}
 use Rattle.catalogue.proofs.chain_reader.ChainReader.column.Goals as goal
 
 pub returns-in_err-name-clause-takes : goal.returns-in_err-name-clause-takes
@@ -35,3 +35,12 @@ returns-in_err-kind-clause-reads g c = reads_trans c.args.cache.now c.text.new.c
 
 pub returns-clause-reads : goal.returns-clause-reads
 returns-clause-reads g c = reads_trans c.args.cache.now c.text.new.cache c.text-2.new.cache c.in_ok-name.ensures.reads c.in_ok-kind.ensures.reads
+
+pub returns-clause-takes : goal.returns-clause-takes
+returns-clause-takes g c = λ fa.
+    let old = rest_of (payload_of c.args.cache.now) c.args.self.now in
+    let mid = rest_of (payload_of c.text.new.cache) c.text.new.self in
+    let new = rest_of (payload_of c.text-2.new.cache) c.text-2.new.self in
+    let name = (c.in_ok-name.ensures.takes fa).taken in
+    let kind = (c.in_ok-kind.ensures.takes (c.in_ok-name.ensures.reads.store.faithful ∙ fa)).taken in
+    record { taken = (record { name = name.0; kind = kind.0 }, taken_both column_text IsColumn (short_text c.in_ok-name.name) (short_text c.in_ok-kind.kind) old mid new name.1 kind.1); lacks = tt }

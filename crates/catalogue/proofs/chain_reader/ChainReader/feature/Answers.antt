@@ -3,9 +3,9 @@ use Rattle.std.proofs.Common.{◌∙◌}
 use Rattle.std.proofs.lemmas.Result.{err_from_is_err_and}
 use Rattle.pagecache.specs.Cache.{payload_of}
 use Rattle.catalogue.specs.ChainReader.{rest_of}
-use Rattle.catalogue.specs.Text.{feature_text, IsFeature}
+use Rattle.catalogue.specs.Text.{feature_text, IsFeature, short_text, kept_text}
 use Rattle.catalogue.proofs.EntryLemmas.{no_feature, no_kept}
-use Rattle.catalogue.proofs.SequenceLemmas.{lacks_err}
+use Rattle.catalogue.proofs.SequenceLemmas.{lacks_err, taken_both}
 use Rattle.catalogue.proofs.chain_reader.ChainReader.feature.Goals as goal
 
 pub returns-in_err-name-clause-takes : goal.returns-in_err-name-clause-takes
@@ -35,3 +35,12 @@ returns-in_err-kept-clause-reads g c = reads_trans c.args.cache.now c.text.new.c
 
 pub returns-clause-reads : goal.returns-clause-reads
 returns-clause-reads g c = reads_trans c.args.cache.now c.text.new.cache c.kept.new.cache c.in_ok-name.ensures.reads c.in_ok-kept.ensures.reads
+
+pub returns-clause-takes : goal.returns-clause-takes
+returns-clause-takes g c = λ fa.
+    let old = rest_of (payload_of c.args.cache.now) c.args.self.now in
+    let mid = rest_of (payload_of c.text.new.cache) c.text.new.self in
+    let new = rest_of (payload_of c.kept.new.cache) c.kept.new.self in
+    let name = (c.in_ok-name.ensures.takes fa).taken in
+    let kept = (c.in_ok-kept.ensures.takes (c.in_ok-name.ensures.reads.store.faithful ∙ fa)).taken in
+    record { taken = (record { name = name.0; kept = kept.0 }, taken_both feature_text IsFeature (short_text c.in_ok-name.name) (kept_text c.in_ok-kept.kept) old mid new name.1 kept.1); lacks = tt }

@@ -4,7 +4,7 @@ use Rattle.std.proofs.lemmas.Result.{err_from_is_err_and}
 use Rattle.pagecache.specs.Cache.{payload_of}
 use Rattle.catalogue.specs.ChainReader.{rest_of}
 use Rattle.catalogue.specs.Text.{head_text, IsHead}
-use Rattle.catalogue.proofs.EntryLemmas.{no_space}
+use Rattle.catalogue.proofs.EntryLemmas.{no_space, no_base}
 use Rattle.catalogue.proofs.SequenceLemmas.{lacks_err}
 use Rattle.catalogue.proofs.chain_reader.ChainReader.head.Goals as goal
 
@@ -31,3 +31,10 @@ returns-in_err-space-clause-reads g c = reads_trans c.args.cache.now c.i64.new.c
 
 pub returns-clause-reads : goal.returns-clause-reads
 returns-clause-reads g c = reads_trans c.args.cache.now c.i64.new.cache c.space.new.cache c.in_ok-base.ensures.reads c.in_ok-space.ensures.reads
+
+pub returns-in_err-base-clause-takes : goal.returns-in_err-base-clause-takes
+returns-in_err-base-clause-takes g c = λ fa.
+    let p = err_from_is_err_and c.from_residual.result c.from_residual.ensures.1 in
+    let old = rest_of (payload_of c.args.cache.now) c.args.self.now in
+    let new = rest_of (payload_of c.i64.new.cache) c.i64.new.self in
+    lacks_err head_text (IsHead) old new c.from_residual.result c.in_err-base.field-0.0 p.0 p.1 p.2 (λ b. no_base old ((c.in_err-base.ensures.takes fa).lacks b))

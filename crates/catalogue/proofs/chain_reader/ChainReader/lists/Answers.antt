@@ -5,7 +5,7 @@ use Rattle.std.proofs.lemmas.Result.{err_from_is_err_and}
 use Rattle.pagecache.specs.Cache.{payload_of}
 use Rattle.catalogue.specs.ChainReader.{rest_of}
 use Rattle.catalogue.specs.Text.{features_text, lists_text, rows_text, AreRead}
-use Rattle.catalogue.proofs.EntryLemmas.{no_rows_list, too_many_legs}
+use Rattle.catalogue.proofs.EntryLemmas.{no_rows_list, too_many_legs, no_features_list}
 use Rattle.catalogue.proofs.SequenceLemmas.{lacks_err, taken_both}
 use Rattle.catalogue.proofs.chain_reader.ChainReader.lists.Goals as goal
 
@@ -57,3 +57,10 @@ returns-in_err-rows-clause-reads g c = reads_trans c.args.cache.now c.counted_fe
 
 pub returns-clause-reads : goal.returns-clause-reads
 returns-clause-reads g c = reads_trans c.args.cache.now c.counted_features.new.cache c.counted_rows.new.cache c.in_ok-features.ensures.reads c.in_ok-rows.ensures.reads
+
+pub returns-in_err-features-clause-takes : goal.returns-in_err-features-clause-takes
+returns-in_err-features-clause-takes g c = λ fa.
+    let p = err_from_is_err_and c.from_residual.result c.from_residual.ensures.1 in
+    let old = rest_of (payload_of c.args.cache.now) c.args.self.now in
+    let new = rest_of (payload_of c.counted_features.new.cache) c.counted_features.new.self in
+    lacks_err lists_text (AreRead c.args.columns c.args.limits.now.legs) old new c.from_residual.result c.in_err-features.field-0.0 p.0 p.1 p.2 (λ b. no_features_list c.args.columns c.args.limits.now.legs old ((c.in_err-features.ensures.takes fa).lacks b))

@@ -3,9 +3,9 @@ use Rattle.std.proofs.Common.{◌∙◌}
 use Rattle.std.proofs.lemmas.Result.{err_from_is_err_and}
 use Rattle.pagecache.specs.Cache.{payload_of}
 use Rattle.catalogue.specs.ChainReader.{rest_of}
-use Rattle.catalogue.specs.Text.{space_text, IsSpace}
+use Rattle.catalogue.specs.Text.{space_text, IsSpace, short_text, columns_text}
 use Rattle.catalogue.proofs.EntryLemmas.{no_crs, no_space_columns}
-use Rattle.catalogue.proofs.SequenceLemmas.{lacks_err}
+use Rattle.catalogue.proofs.SequenceLemmas.{lacks_err, taken_both}
 use Rattle.catalogue.proofs.chain_reader.ChainReader.space.Goals as goal
 
 pub returns-in_err-crs-clause-takes : goal.returns-in_err-crs-clause-takes
@@ -35,3 +35,12 @@ returns-in_err-columns-clause-reads g c = reads_trans c.args.cache.now c.text.ne
 
 pub returns-clause-reads : goal.returns-clause-reads
 returns-clause-reads g c = reads_trans c.args.cache.now c.text.new.cache c.counted_columns.new.cache c.in_ok-crs.ensures.reads c.in_ok-columns.ensures.reads
+
+pub returns-clause-takes : goal.returns-clause-takes
+returns-clause-takes g c = λ fa.
+    let old = rest_of (payload_of c.args.cache.now) c.args.self.now in
+    let mid = rest_of (payload_of c.text.new.cache) c.text.new.self in
+    let new = rest_of (payload_of c.counted_columns.new.cache) c.counted_columns.new.self in
+    let crs = (c.in_ok-crs.ensures.takes fa).taken in
+    let columns = (c.in_ok-columns.ensures.takes (c.in_ok-crs.ensures.reads.store.faithful ∙ fa)).taken in
+    record { taken = (record { crs = crs.0; columns = columns.0 }, taken_both space_text IsSpace (short_text c.in_ok-crs.crs) (columns_text c.in_ok-columns.columns) old mid new crs.1 columns.1); lacks = tt }
