@@ -3,11 +3,12 @@ ghost use Rattle.std.specs.Prelude.{◌≡◌, All, Err, false, IfErr, IfOk, map
 ghost use Rattle.legs.specs.Boxes.{box_over};
 ghost use Rattle.legs.specs.Costs.{search_cost};
 ghost use Rattle.legs.specs.Questions.{InBox};
+ghost use Rattle.pages.specs.Store.{Store};
 ghost use Rattle.boxsearch.specs.Index.{words};
 ghost use Rattle.trajdb.specs.Answers.{HoldsOfLeg};
 ghost use Rattle.trajdb.specs.Calls.{Asks, IsRefused, Leaves};
 ghost use Rattle.trajdb.specs.Db.{HasPages, IsSound};
-ghost use Rattle.trajdb.specs.Lasting.{IsIdle};
+ghost use Rattle.trajdb.specs.Lasting.{IsIdle, IsSafe};
 ghost use Rattle.trajdb.specs.Picks.{Picks};
 ghost use Rattle.trajdb.specs.Telling.{Names};
 ghost use Rattle.trajdb.specs.declared.RunFault.{RunFault};
@@ -58,6 +59,8 @@ pub fn stays<S: PageStore>(
         → IsRefused words db.old db.new fault) }
     ensures pages { HasPages db.old → HasPages db.new }
     ensures rests { IsIdle db.old → IsIdle db.new }
+    ensures safe { (was : Store) → IsSound db.old → HasPages db.old → IsSafe was db.old
+        → IsSafe was db.new }
 
     // A failed database does nothing.
     ensures was_failed { db.old.failed ≡ true → (result ≡ Err RunFault.Failed)

@@ -7,7 +7,7 @@ use Rattle.boxsearch.specs.Index.{words}
 use Rattle.catalogue.specs.Holding.{HoldsBook, IsUnfinishedStore}
 use Rattle.trajdb.specs.Calls.{BeginsOnly, IsLoadFault, KeepsPages}
 use Rattle.trajdb.specs.Db.{DbView, HasPages, IsSound}
-use Rattle.trajdb.specs.Lasting.{IsFaultless, IsIdle}
+use Rattle.trajdb.specs.Lasting.{IsFaultless, IsIdle, IsSafe, IsSafeStore}
 use Rattle.trajdb.specs.Faults.{IsInside}
 use Rattle.trajdb.specs.Run.{run_book, AcceptsSome, HasCutRun, HasStopped, IsCut, IsRunText, Runs, Stops}
 use Rattle.trajdb.specs.declared.RunFault.{RunFault}
@@ -26,9 +26,10 @@ module _ (old new : DbView) (s : Store) (files : List (List ℕ × List ℕ)) (s
     (holds : OnOk closed (IsSound new → HasPages new → IsIdle new → HoldsBook s new.index.tree.shape new.limits new.book))
     (only : IfErr closed (λ e. IsSound new → new.failed ≡ false → IsLoadFault e))
     (unfinished : IfErr closed (λ e. IsFaultless e → IsSound new → HasPages new → new.failed ≡ false → IsUnfinishedStore s))
-    (rests : new.failed ≡ false → new.begun ≡ false → closed ≡ Ok tt) (fails : new.failed ≡ true → closed ≡ Err run.Failed) where
+    (rests : new.failed ≡ false → new.begun ≡ false → closed ≡ Ok tt) (fails : new.failed ≡ true → closed ≡ Err run.Failed)
+    (stays_safe : (first : Store) → IsSound old → HasPages old → IsSafe first old → IsSafe first new) (left_safe : new.failed ≡ true → (first : Store) → IsSafe first new → IsSafeStore first s) where
   abbrev pub Ended : Result (Unit {0}) RunFault → Type 0
-  Ended ran = Ends old.index.tree.shape old.limits old.book old.begun files sent sent' lines ran closed s
+  Ended ran = Ends old files sent sent' lines ran closed s
 
   -- it was closed with the book after some lines
   closes : (r : Result (Unit {0}) RunFault) → OnOk r (IsSound new → HasPages new → IsIdle new → HoldsBook s new.index.tree.shape new.limits new.book)
@@ -56,7 +57,7 @@ module _ (old new : DbView) (s : Store) (files : List (List ℕ × List ℕ)) (s
       wrong (inr accepts) = absurd (none accepts)
 
   left_with : (k : ℕ) (ran : Result (Unit {0}) RunFault) → new.failed ≡ false → IsSound old → IsSound new → HasPages old → IsIdle old → new.book ≡ run_book old.limits files old.book (take k lines)
-      → (ClosesWith old.index.tree.shape old.limits (run_book old.limits files old.book (take k lines)) closed s × (old.begun ≡ false → (AcceptsSome old.limits files old.book lines → ⊥) → closed ≡ Ok tt)) ⊎ FailsToLoad files lines k ran closed
+      → (ClosesWith old.index.tree.shape old.limits (run_book old.limits files old.book (take k lines)) closed s × (old.begun ≡ false → (AcceptsSome old.limits files old.book lines → ⊥) → closed ≡ Ok tt)) ⊎ FailsToLoad old files lines k ran closed s
   left_with k ran lives was sound pages is_idle book = inl (closed_with k lives was sound pages is_idle book, unbegun lives was)
 
   -- all lines were done
@@ -94,8 +95,15 @@ module _ (old new : DbView) (s : Store) (files : List (List ℕ × List ℕ)) (s
     same_err : (x y : RunFault) → ◌≡◌ {A = Result (Unit {0}) RunFault} (Err x) (Err y) → x ≡ y
     same_err x y o = cc
 
-    by_state : (b : Bool) → new.failed ≡ b → (ClosesWith old.index.tree.shape old.limits (run_book old.limits files old.book (take k lines)) closed s × (old.begun ≡ false → (AcceptsSome old.limits files old.book lines → ⊥) → closed ≡ Ok tt)) ⊎ FailsToLoad files lines k (Err e) closed
-    by_state true is = inr (record { fault = e; ran_is = refl; inside = inside_not e inside; at = (st.within, st.loads is); closed_is = fails is })
+    by_state : (b : Bool) → new.failed ≡ b → (ClosesWith old.index.tree.shape old.limits (run_book old.limits files old.book (take k lines)) closed s × (old.begun ≡ false → (AcceptsSome old.limits files old.book lines → ⊥) → closed ≡ Ok tt)) ⊎ FailsToLoad old files lines k (Err e) closed s
+    by_state true is = inr (record {
+      fault = e;
+      ran_is = refl;
+      inside = inside_not e inside;
+      at = (st.within, st.loads is);
+      closed_is = fails is;
+      safe = λ first safe. left_safe is first (stays_safe first was pages safe);
+    })
     by_state false is = left_with k (Err e) is was (kept is was) pages is_idle (st.book is)
 
   -- its output failed

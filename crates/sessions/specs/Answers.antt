@@ -1,5 +1,5 @@
 -- What a run of the program sends, and what its store then holds.
-use Rattle.std.specs.Prelude.{ℕ, ◌≡◌, ◌≢◌, ◌⊎◌, ◌<◌, ◌-◌, [], List, length, take, slice_index_or, Bool, false, Option, Result, Ok, Err, OnOk}
+use Rattle.std.specs.Prelude.{ℕ, ◌≡◌, ◌≢◌, ◌⊎◌, ◌<◌, ◌-◌, [], List, length, take, slice_index_or, false, Option, Result, Ok, Err, OnOk}
 use Rattle.std.specs.Io.KnownBytes.{Appends}
 use Rattle.legs.specs.Book.{Book}
 use Rattle.legs.specs.Costs.{ShapeView}
@@ -12,7 +12,8 @@ use Rattle.version1.specs.Migrating.{IsBrought}
 use Rattle.catalogue.specs.Saved.{CatalogueView}
 use Rattle.migration.specs.Bringing.{IsMigratingFault}
 use Rattle.trajdb.specs.Calls.{IsLoadFault, LoadsBy}
-use Rattle.trajdb.specs.Lasting.{IsFaultless}
+use Rattle.trajdb.specs.Db.{DbView}
+use Rattle.trajdb.specs.Lasting.{IsFaultless, IsSafe, IsSafeStore}
 use Rattle.trajdb.specs.Run.{run_book, AcceptsSome, HasRun, IsPrefixOf, IsRunText}
 use Rattle.trajdb.specs.declared.OpenFault.TheVariants as opening
 use Rattle.trajdb.specs.declared.Report.{Report}
@@ -51,31 +52,33 @@ ClosesWith shape limits book (Err fault) store = IsLoadFault fault × (IsFaultle
 abbrev pub IsAtLoad : List (List ℕ × List ℕ) → List (List ℕ) → ℕ → Type 0
 IsAtLoad files lines k = (k < length lines) × LoadsBy files (slice_index_or lines k [])
 
--- a run stopped at line k + 1, which is a `load` of a file, and its database was not closed but abandoned
-pub record FailsToLoad (files : List (List ℕ × List ℕ)) (lines : List (List ℕ)) (k : ℕ) (ran closed : Result (Unit {0}) RunFault) : Type 0 where
+-- a run over a database stopped at line k + 1, which is a `load` of a file, and the database was not closed but abandoned;
+-- the store is then one that is not finished, or the one that was there before, but for page 0 where the store failed
+pub record FailsToLoad (db : DbView) (files : List (List ℕ × List ℕ)) (lines : List (List ℕ)) (k : ℕ) (ran closed : Result (Unit {0}) RunFault) (store : Store) : Type 0 where
   pub fault : RunFault
   pub ran_is : ran ≡ Err fault
   pub inside : fault ≢ run.Output
   pub at : IsAtLoad files lines k
   pub closed_is : closed ≡ Err run.Failed
+  pub safe : (was : Store) → IsSafe was db → IsSafeStore was store
 
 -- what a run over a database and its closing leave, whatever they answer: the answers to some first lines were sent, and
 -- to all lines where nothing is said to have failed; all of these answers, or where the output failed a front of them
 -- that has all but the last one. The database was closed with the book after these lines, and without a fault where it
 -- had not begun and no file was accepted; or the next line is a `load` of a file, which failed
-pub record Ends (shape : ShapeView) (limits : LimitsView) (book : Book) (begun : Bool) (files : List (List ℕ × List ℕ)) (sent sent' : Option (List ℕ)) (lines : List (List ℕ)) (ran closed : Result (Unit {0}) RunFault) (store : Store) : Type 0 where
+pub record Ends (db : DbView) (files : List (List ℕ × List ℕ)) (sent sent' : Option (List ℕ)) (lines : List (List ℕ)) (ran closed : Result (Unit {0}) RunFault) (store : Store) : Type 0 where
   pub done : ℕ
   pub text : List ℕ
-  pub answers : IsRunText limits files book (take done lines) text
+  pub answers : IsRunText db.limits files db.book (take done lines) text
   pub front : List ℕ
   pub sends : Appends sent sent' front
   pub is_front : IsPrefixOf front text
   pub whole : OnOk ran (done ≡ length lines)
   pub all : ran ≢ Err run.Output → front ≡ text
-  pub cut : ran ≡ Err run.Output → (before : List ℕ) × IsRunText limits files book (take (done - 1) lines) before × IsPrefixOf before front
-  pub left : (ClosesWith shape limits (run_book limits files book (take done lines)) closed store
-      × (begun ≡ false → (AcceptsSome limits files book lines → ⊥) → closed ≡ Ok tt))
-      ⊎ FailsToLoad files lines done ran closed
+  pub cut : ran ≡ Err run.Output → (before : List ℕ) × IsRunText db.limits files db.book (take (done - 1) lines) before × IsPrefixOf before front
+  pub left : (ClosesWith db.index.tree.shape db.limits (run_book db.limits files db.book (take done lines)) closed store
+      × (db.begun ≡ false → (AcceptsSome db.limits files db.book lines → ⊥) → closed ≡ Ok tt))
+      ⊎ FailsToLoad db files lines done ran closed store
 
 -- how a run and its closing are answered: the run's own fault comes first
 abbrev pub said : Result (Unit {0}) RunFault → Result (Unit {0}) RunFault → Result (Unit {0}) Fault

@@ -7,7 +7,7 @@ ghost use Rattle.trajdb.specs.Script.{lines_of};
 ghost use Rattle.catalogue.specs.Holding.{HoldsBook};
 ghost use Rattle.pages.specs.Store.{Stays};
 ghost use Rattle.trajdb.specs.Db.{HasPages, IsSound};
-ghost use Rattle.trajdb.specs.Lasting.{HasBook, IsIdle};
+ghost use Rattle.trajdb.specs.Lasting.{HasBook, IsIdle, IsSafe};
 ghost use Rattle.sessions.specs.Answers.{new_shape, said, Answers, Ends, SendsFront};
 
 use crate::fault::Fault;
@@ -57,6 +57,8 @@ pub fn database<S: PageStore>(
     ensures pages { IfOk result (λ db. IsTrue (S.seen store).is_faithful → HasPages db) }
     ensures idle { IfOk result (λ db. IsTrue (S.seen store).is_faithful → IsIdle db) }
     ensures lives { IfOk result (λ db. db.failed ≡ false) }
+    ensures safe { IfOk result (λ db. IsTrue (S.seen store).is_faithful → IsSound db
+        → IsSafe (S.seen store) db) }
 
     // A store that has a page, or of which none is to be made, stays where it is refused.
     ensures stays { IfErr result (λ back. (is_new ≡ false) ⊎ (0 < (S.seen store).count)
@@ -91,11 +93,10 @@ pub fn run_and_close<S: PageStore, W: Write>(
         (W.contents out.new) (lines_of script.now) }
 
     // The database was closed with the book after the lines that were done, unless it is the load of
-    // a file that failed.
+    // a file that failed: the store is then not finished, or the one that was there before.
     ensures ends { IsSound database → HasPages database → IsIdle database
-        → database.failed ≡ false → Ends database.index.tree.shape database.limits database.book
-        database.begun files.now (W.contents out.old) (W.contents out.new) (lines_of script.now)
-        result.1 result.2 (S.seen result.0) }
+        → database.failed ≡ false → Ends database files.now (W.contents out.old)
+        (W.contents out.new) (lines_of script.now) result.1 result.2 (S.seen result.0) }
 {
     let ran = database.run(alloc, script, files, out);
     let (store, closed) = database.close(alloc);
@@ -142,9 +143,9 @@ pub fn answer<'a, S: PageStore, W: Write>(
     // no database it is the one that was given back.
     ensures ends { IfOk database (λ db. (ran : Result (Unit {0}) RunFault)
         × (closed : Result (Unit {0}) RunFault) × (result.1 ≡ said ran closed)
-        × (IsSound db → HasPages db → IsIdle db → db.failed ≡ false → Ends db.index.tree.shape
-        db.limits db.book db.begun files.now (W.contents out.old) (W.contents out.new)
-        (lines_of script.now) ran closed (S.seen result.0))) }
+        × (IsSound db → HasPages db → IsIdle db → db.failed ≡ false → Ends db files.now
+        (W.contents out.old) (W.contents out.new) (lines_of script.now) ran closed
+        (S.seen result.0))) }
     ensures refused { IfErr database (λ back. (S.seen result.0 ≡ S.seen back.0)
         × (result.1 ≡ Err (Fault.Open back.1))) }
 {

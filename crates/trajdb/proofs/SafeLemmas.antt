@@ -6,9 +6,9 @@ use Rattle.legs.specs.Book.{Book}
 use Rattle.legs.specs.Costs.{ShapeView}
 use Rattle.legs.specs.Limits.{LimitsView}
 use Rattle.pages.specs.Store.{Store, Stays, IsLawful}
-use Rattle.pagecache.specs.Cache.{Cache, page_of, pages_as_written, payload_of, sealed_payload, stored_payload}
+use Rattle.pagecache.specs.Cache.{page_of, pages_as_written, payload_of, sealed_payload, stored_payload}
 use Rattle.boxsearch.specs.Index.{words, written, IndexView, IsMarked, IsSound as IsSoundIndex}
-use Rattle.catalogue.specs.Holding.{HoldsBook, IsUnfinishedStore}
+use Rattle.catalogue.specs.Holding.{HoldsBook}
 use Rattle.catalogue.proofs.CloseLemmas.{says_stored}
 use Rattle.trajdb.specs.Calls.{IsUnwritten, KeepsPages, Leaves}
 use Rattle.trajdb.specs.Db.{DbView, HasPages, IsSound}

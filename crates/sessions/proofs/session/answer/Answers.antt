@@ -34,5 +34,5 @@ returns-in-Ok-clause-ends g c =
     let sent = g.W.Write.contents c.args.out.now in
     let sent' = g.W.Write.contents c.run_and_close-store.new.out in
     let lines = lines_of c.args.script.now in
-    subst (λ k. IfOk k (λ (d : DbView). (ran : Result (Unit {0}) RunFault) × (closed : Result (Unit {0}) RunFault) × (c.answer_of.result ≡ said ran closed) × (IsSound d → HasPages d → IsIdle d → d.failed ≡ false → Ends d.index.tree.shape d.limits d.book d.begun c.args.files.now sent sent' lines ran closed s))) (sym c.in-Ok.is)
+    subst (λ k. IfOk k (λ (d : DbView). (ran : Result (Unit {0}) RunFault) × (closed : Result (Unit {0}) RunFault) × (c.answer_of.result ≡ said ran closed) × (IsSound d → HasPages d → IsIdle d → d.failed ≡ false → Ends d c.args.files.now sent sent' lines ran closed s))) (sym c.in-Ok.is)
     (r.1, r.2, c.answer_of.ensures, c.run_and_close-store.ensures.ends)

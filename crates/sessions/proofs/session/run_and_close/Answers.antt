@@ -19,5 +19,5 @@ returns-clause-ends g c =
     let e = c.run-ran.ensures in
     let d = c.close-store.ensures in
     ended c.args.database c.run-ran.new.self (g.S.PageStore.seen c.close-store.result.0) c.args.files.now (g.W.Write.contents c.args.out.now) (g.W.Write.contents c.run-ran.new.out) (lines_of c.args.script.now) c.close-store.result.1
-    e.pages e.rests e.later.limits e.later.index.plan e.only d.holds d.only d.unfinished (λ lives not. (d.idle lives not).0) (λ f. (d.failed f).0) c.run-ran.result
+    e.pages e.rests e.later.limits e.later.index.plan e.only d.holds d.only d.unfinished (λ lives not. (d.idle lives not).0) (λ f. (d.failed f).0) e.safe d.safe c.run-ran.result
     e.ok e.sound e.lives e.output e.cut_sound e.cut_lives e.refused e.kept
