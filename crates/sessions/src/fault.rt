@@ -36,7 +36,8 @@ pub enum Fault<'a> {
 impl Fault<'_> {
     /// The exit status of the program: 2 where its words are wrong, else 1.
     pub fn status(&self) -> u8
-        ensures { result ≤ 2 }
+        ensures fails { 1 ≤ result }
+        ensures most { result ≤ 2 }
     {
         match self {
             Fault::NoPart(..) | Fault::Bounds(_) => 2,
