@@ -148,12 +148,12 @@ fn failed(alloc: Global, calls: u64) -> Option<(IndexFault, usize)> {
 
 #[test]
 fn a_walk_that_the_store_failed_is_made_anew(rt: HostRuntime) {
-    let mut refused = 0;
+    let mut refused = false;
     for calls in 0..200 {
         if let Some(told) = failed(rt.alloc(), calls) {
             assert_eq!(rt; told, (IndexFault::Store, 1), "at call {calls}");
-            refused += 1;
+            refused = true;
         }
     }
-    assert!(rt; refused > 0, "no call failed");
+    assert!(rt; refused, "no call failed");
 }
