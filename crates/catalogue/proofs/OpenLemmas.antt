@@ -97,11 +97,16 @@ module _ (a b : Cache) (reads : OnlyReads a b) (clean : IsWritten a) (count : a.
           legs = ap (λ i. content i) (sym this) ∙ same_content (index_over a.store h.tree h.places (length book.legs)) b beside ∙ h.legs;
         }
 
+-- what the pages of a store keep, a cache that has read none has
+pub kept_there : (a : Cache) → IsWritten a → a.count ≡ a.store.count → IsTrue a.store.is_faithful → (c : CatalogueView) (tree : TbTree) (places : List Place) → IsKept (stored_payload a.store) a.store.count c tree places
+    → IsKept (payload_of a) a.count c tree places
+kept_there a clean count fa c tree places kept =
+    let at : payload_of a ≡ stored_payload a.store = (λ i n. clean.stored fa count n i) in
+    subst (λ n. IsKept (payload_of a) n c tree places) (sym count) (subst (λ (f : ℕ → Option Payload). IsKept f a.store.count c tree places) (sym at) kept)
+
 -- what is held is kept
 pub opened_held : (a : Cache) → IsWritten a → a.count ≡ a.store.count → IsTrue a.store.is_faithful → (shape : ShapeView) (limits : LimitsView) (book : Book) (h : HoldsBook a.store shape limits book) → IsKept (payload_of a) a.count h.catalogue h.tree h.places
-opened_held a clean count fa shape limits book h =
-    let at : payload_of a ≡ stored_payload a.store = (λ i n. clean.stored fa count n i) in
-    subst (λ n. IsKept (payload_of a) n h.catalogue h.tree h.places) (sym count) (subst (λ (f : ℕ → Option Payload). IsKept f a.store.count h.catalogue h.tree h.places) (sym at) h.kept)
+opened_held a clean count fa shape limits book h = kept_there a clean count fa h.catalogue h.tree h.places h.kept
 
 -- a page that is damaged in a cache that has read none is so in its store
 pub opened_damaged : (a : Cache) → IsWritten a → a.count ≡ a.store.count → (e : CatalogueFault) → IsTrulyDamaged a.store.is_faithful (payload_of a) a.count e → IsTrulyDamaged a.store.is_faithful (stored_payload a.store) a.store.count e

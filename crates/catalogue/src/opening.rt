@@ -1,5 +1,5 @@
 //! A store is opened.
-ghost use Rattle.std.specs.Prelude.{◌≡◌, ◌<◌, IsTrue, IfErr, IfOk, None};
+ghost use Rattle.std.specs.Prelude.{◌≡◌, ◌<◌, IsTrue, IfErr, IfOk, List, None};
 ghost use Rattle.legs.specs.Book.{Book};
 ghost use Rattle.legs.specs.Costs.{ShapeView};
 ghost use Rattle.legs.specs.Limits.{LimitsView};
@@ -7,7 +7,10 @@ ghost use Rattle.pages.specs.Store.{Stays};
 ghost use Rattle.pagecache.specs.Cache.{stored_payload, IsWritten};
 ghost use Rattle.boxsearch.specs.Index.{IndexView};
 ghost use Rattle.catalogue.specs.Holding.{AnswersBook, HoldsBook, IsAtRest, IsUnfinishedStore};
-ghost use Rattle.catalogue.specs.Lasting.{first_fault, ComesFirst, IsReadingFault, IsStop, IsTrulyDamaged};
+ghost use Rattle.catalogue.specs.Lasting.{first_fault, ComesFirst, IsKept, IsReadingFault, IsStop, IsTrulyDamaged};
+ghost use Rattle.catalogue.specs.Saved.{CatalogueView};
+ghost use Rattle.tbtree.specs.declared.tree.Place.{Place};
+ghost use Rattle.tbtree.specs.declared.tree.TbTree.{TbTree};
 
 use crate::fault::CatalogueFault;
 use crate::restoring::{lawful, restore};
@@ -34,6 +37,9 @@ fn open_cache<S: PageStore>(
     ensures holds { IfErr result (λ back. IsTrue cache.store.is_faithful
         → (shape : ShapeView) (limits : LimitsView) (book : Book)
         → HoldsBook cache.store shape limits book → IsStop back.1) }
+    ensures kept { IfErr result (λ back. IsTrue cache.store.is_faithful
+        → (c : CatalogueView) (tree : TbTree) (places : List Place)
+        → IsKept (stored_payload cache.store) cache.store.count c tree places → IsStop back.1) }
     ensures first { IfErr result (λ back. IsTrue cache.store.is_faithful
         → ComesFirst (first_fault cache.store.count (stored_payload cache.store 0)) back.1) }
     ensures finished { IfOk result (λ r. IsTrue cache.store.is_faithful
@@ -73,6 +79,12 @@ pub fn open<S: PageStore>(
     ensures holds { IfErr result (λ back. IsTrue (S.seen store).is_faithful
         → (shape : ShapeView) (limits : LimitsView) (book : Book)
         → HoldsBook (S.seen store) shape limits book → IsStop back.1) }
+
+    // A store whose pages keep a catalogue is opened, but for memory and a store that failed.
+    ensures kept { IfErr result (λ back. IsTrue (S.seen store).is_faithful
+        → (c : CatalogueView) (tree : TbTree) (places : List Place)
+        → IsKept (stored_payload (S.seen store)) (S.seen store).count c tree places
+        → IsStop back.1) }
 
     // Page 0 comes first.
     ensures first { IfErr result (λ back. IsTrue (S.seen store).is_faithful

@@ -142,12 +142,16 @@ impl Heads {
     }
 }
 
+/// The bytes behind a byte order mark that they begin with.
+fn behind_mark(bytes: &[u8]) -> Option<&[u8]> {
+    bytes.strip_prefix(b"\xEF\xBB\xBF".as_slice())
+}
+
 /// The bytes without the byte order marks at their very start.
 fn without_marks(bytes: &[u8]) -> &[u8] {
-    let mark = b"\xEF\xBB\xBF".as_slice();
     let mut rest = bytes;
     for _ in 0..bytes.len() {
-        match rest.strip_prefix(mark) {
+        match behind_mark(rest) {
             Some(behind) => rest = behind,
             None => return rest,
         }

@@ -6,7 +6,7 @@ use crate::known::Known;
 use crate::line_reasons::instant_fault;
 use crate::shown::Shown;
 use legs::BookHead;
-use mfcsv::Dimension;
+use mfcsv::{Column, Dimension};
 use std::alloc::{AllocError, Global};
 
 /// A second header line of one tag.
@@ -119,6 +119,27 @@ fn is_column_of(found: &Found, head: &BookHead, column: usize) -> bool {
     }
 }
 
+/// A column that is another one than the store's of its place, both counted from 1.
+fn another_column(
+    alloc: Global,
+    number: usize,
+    name: &str,
+    kind: &str,
+    ours: &Column,
+) -> Result<String, AllocError> {
+    let (name, kind) = (Shown(name), Shown(kind));
+    let (our_name, our_kind) = (Shown(ours.name.as_str()), Shown(ours.kind.as_str()));
+    format!(in alloc;
+        "attribute column {number} is '{name}' of type '{kind}', and the store's is '{our_name}' of type '{our_kind}'"
+    )
+}
+
+/// A column beyond those of the store, counted from 1.
+fn no_column(alloc: Global, number: usize, name: &str) -> Result<String, AllocError> {
+    let name = Shown(name);
+    format!(in alloc; "attribute column {number}, '{name}', is none of the store's")
+}
+
 /// A column that is not the store's of that place, counted from 0.
 fn other_column(
     alloc: Global,
@@ -128,16 +149,13 @@ fn other_column(
 ) -> Result<String, AllocError> {
     let place = column.saturating_mul(2).saturating_add(3);
     let number = column.saturating_add(1);
-    let name = Shown(field_at(&found.row, place));
-    let kind = Shown(field_at(&found.row, place.saturating_add(1)));
+    let name = field_at(&found.row, place);
     match head.columns.as_slice().get(column) {
         Some(ours) => {
-            let (our_name, our_kind) = (Shown(ours.name.as_str()), Shown(ours.kind.as_str()));
-            format!(in alloc;
-                "attribute column {number} is '{name}' of type '{kind}', and the store's is '{our_name}' of type '{our_kind}'"
-            )
+            let kind = field_at(&found.row, place.saturating_add(1));
+            another_column(alloc, number, name, kind, ours)
         }
-        None => { format!(in alloc; "attribute column {number}, '{name}', is none of the store's") }
+        None => no_column(alloc, number, name),
     }
 }
 

@@ -18,9 +18,16 @@ pub struct Known<'a> {
 impl Known<'_> {
     /// When the last leg of the feature of that name ends.
     pub(crate) fn last_end(&self, name: &str) -> Option<Ms> {
-        let tracks = self.tracks?;
-        let feature = tracks.feature(name)?;
-        let track = tracks.track(feature)?;
-        Some(track.end)
+        match self.tracks {
+            Some(tracks) => last_end_in(tracks, name),
+            None => None,
+        }
     }
+}
+
+/// When the last leg of the feature of that name ends.
+fn last_end_in(tracks: &Tracks, name: &str) -> Option<Ms> {
+    let feature = tracks.feature(name)?;
+    let track = tracks.track(feature)?;
+    Some(track.end)
 }

@@ -76,7 +76,7 @@ impl<I: Start> Core<I> {
 }
 
 impl<S: PageStore> Db<S> {
-    ghost use Rattle.std.specs.Prelude.{◌≡◌, ◌<◌, IsTrue, IfErr, IfOk, MatchResult, OnOk, None, Ok, Err, true, false};
+    ghost use Rattle.std.specs.Prelude.{◌≡◌, ◌<◌, IsTrue, IfErr, IfOk, List, MatchResult, OnOk, None, Ok, Err, true, false};
     ghost use Rattle.legs.specs.Book.{Book};
     ghost use Rattle.legs.specs.Costs.{ShapeView};
     ghost use Rattle.legs.specs.Limits.{IsLimits, LimitsView};
@@ -84,7 +84,10 @@ impl<S: PageStore> Db<S> {
     ghost use Rattle.pages.specs.Store.{Keeps, Stays, Store};
     ghost use Rattle.pagecache.specs.Cache.{stored_payload};
     ghost use Rattle.catalogue.specs.Holding.{HoldsBook, IsUnfinishedStore};
-    ghost use Rattle.catalogue.specs.Lasting.{first_fault};
+    ghost use Rattle.catalogue.specs.Lasting.{first_fault, IsKept};
+    ghost use Rattle.catalogue.specs.Saved.{CatalogueView};
+    ghost use Rattle.tbtree.specs.declared.tree.Place.{Place};
+    ghost use Rattle.tbtree.specs.declared.tree.TbTree.{TbTree};
     ghost use Rattle.trajdb.specs.Calls.{IsLoadFault};
     ghost use Rattle.trajdb.specs.Database.{restored};
     ghost use Rattle.trajdb.specs.Db.{HasPages, IsSound};
@@ -113,6 +116,12 @@ impl<S: PageStore> Db<S> {
         ensures holds { IfErr result (λ back. IsTrue (S.seen store).is_faithful
             → (shape : ShapeView) (limits : LimitsView) (book : Book)
             → HoldsBook (S.seen store) shape limits book → IsStop back.1) }
+
+        // A store whose pages keep a catalogue is opened, but for memory and a store that failed.
+        ensures kept { IfErr result (λ back. IsTrue (S.seen store).is_faithful
+            → (c : CatalogueView) (tree : TbTree) (places : List Place)
+            → IsKept (stored_payload (S.seen store)) (S.seen store).count c tree places
+            → IsStop back.1) }
 
         // The pages as written keep what the database knows.
         ensures idle { IfOk result (λ db. IsTrue (S.seen store).is_faithful → IsIdle db) }

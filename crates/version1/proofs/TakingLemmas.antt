@@ -1,5 +1,5 @@
 -- What the legs of a store of version 1 are, by what its chains say.
-use Rattle.std.proofs.Common.{◌≡◌, ◌≤◌, ◌+◌, ◌∙◌, ◌++◌, ◌∷◌, ℕ, zero, suc, List, [], map, take, drop, length, slice_get, Option, Some, None, Result, Ok, Err, IsErrOf, IfErr, OnOk, Bool, true, false, cond, nat_eq, refl, sym, ap, subst, arith}
+use Rattle.std.proofs.Common.{◌≡◌, ◌≤◌, ◌+◌, ◌∙◌, ◌++◌, ◌∷◌, ℕ, zero, suc, List, [], map, take, drop, length, slice_get, Option, Some, None, Result, Ok, Err, IsErrOf, IfErr, OnOk, Bool, true, false, cond, nat_eq, refl, sym, ap, subst, arith, append_assoc}
 use Rattle.std.specs.List.{All, range_with_len}
 use Rattle.std.specs.List.Sorted.{IsPermutation, IsNonDecreasingBy}
 use Rattle.std.proofs.lemmas.List.Sorted.{IsPermutation-map, IsPermutation-sym, All-permutation}
@@ -7,7 +7,8 @@ use Rattle.std.proofs.lemmas.List.Elements.{All-head, All-tail, All-nil, All-con
 use Rattle.std.specs.Map.{lookup}
 use Rattle.std.proofs.lemmas.Bool.{eqb-true}
 use Rattle.std.proofs.lemmas.List.{length-map}
-use Rattle.legs.specs.Asking.{Grows, IsLater, KeepsMarked}
+use Rattle.legs.specs.Asking.{IsLater}
+use Rattle.legs.proofs.RecordLemmas.{follow_append}
 use Rattle.legs.specs.Blocks.{joined}
 use Rattle.legs.specs.Boxes.{BoxView}
 use Rattle.legs.specs.Index.{CanFollowInTurn}
@@ -31,6 +32,7 @@ use Rattle.boxsearch.specs.Faults.{IsCaused}
 use Rattle.boxsearch.specs.declared.fault.SearchFault.{SearchFault}
 use Rattle.boxsearch.specs.declared.fault.SearchFault.TheVariants.{Cache as OfCache, Malformed, Spent, Memory}
 use Rattle.version1.specs.OldLegs.{AreAmong, AreSurveyed, HaveLegsOf, IsNumbered, IsOneOf, StandByOrdinal}
+use Rattle.version1.specs.Waiting.{Holds, MayWait}
 use Rattle.treecheck.specs.Ordering.{IsWhole}
 use Rattle.treecheck.specs.Walking.{IsMet, Surveys}
 use Rattle.treecheck.specs.declared.walking.Met.{Met}
@@ -91,25 +93,28 @@ take_next (y ∷ ys) zero x e = ap (λ z. z ∷ []) (some_same y x e)
 take_next (y ∷ ys) (suc i) x e = (let s : suc i + 1 ≡ suc (i + 1) = omega arith in ap (λ n. take n (y ∷ ys)) s) ∙ ap (λ l. y ∷ l) (take_next ys i x e)
 
 module _ {I : Type 0} (g : Ghosts I) where
-  -- of the list so many legs are brought into the index
-  pub record Brought (first now : I) (opened : List (ℕ × LegView)) (n : ℕ) (list : List LegView) : Type 0 where
+  -- of the list so many legs are in the index, or wait behind those
+  pub record Brought (first now : I) (opened : List (ℕ × LegView)) (waiting : List LegView) (n : ℕ) (list : List LegView) : Type 0 where
     pub stand : StandByOrdinal list opened
-    pub sound : g.is_sound now
-    pub content : g.content now ≡ take n list
-    pub rest : CanFollowInTurn (g.content now) (drop n list)
+    pub may : MayWait g now waiting
+    pub content : g.content now ++ waiting ≡ take n list
+    pub rest : CanFollowInTurn (g.content now ++ waiting) (drop n list)
     pub marked : g.is_marked first → g.is_marked now
 
-  pub brought_none : (index : I) (opened : List (ℕ × LegView)) (total : ℕ) (list : List LegView) → opened ≡ [] → g.is_sound index → g.content index ≡ [] → IsNumbered total list → Brought index index opened 0 list
-  brought_none index opened total list none sound empty numbered = record {
-    stand = subst (StandByOrdinal list) (sym none) (λ o leg e. (let n : None ≡ Some leg = e in absurd (cc)));
-    sound = sound;
-    content = empty;
-    rest = subst (λ l. CanFollowInTurn l list) (sym empty) numbered.in_turn;
-    marked = λ m. m;
-  }
+  pub brought_none : (index : I) (opened : List (ℕ × LegView)) (waiting : List LegView) (total : ℕ) (list : List LegView) → opened ≡ [] → waiting ≡ [] → g.is_sound index → g.content index ≡ [] → IsNumbered total list
+      → Brought index index opened waiting 0 list
+  brought_none index opened waiting total list none no sound empty numbered =
+      let nothing : g.content index ++ waiting ≡ [] = ap (λ l. l ++ waiting) empty ∙ no in
+      record {
+        stand = subst (StandByOrdinal list) (sym none) (λ o leg e. (let n : None ≡ Some leg = e in absurd (cc)));
+        may = (sound, subst (CanFollowInTurn (g.content index)) (sym no) tt);
+        content = nothing;
+        rest = subst (λ l. CanFollowInTurn l list) (sym nothing) numbered.in_turn;
+        marked = λ m. m;
+      }
 
   -- the leg at the next ordinal is the next one
-  module _ (first now : I) (opened more : List (ℕ × LegView)) (n total : ℕ) (list : List LegView) (b : Brought first now opened n list) (numbered : IsNumbered total list) (stand : StandByOrdinal list more)
+  module _ (first now : I) (opened more : List (ℕ × LegView)) (waiting : List LegView) (n total : ℕ) (list : List LegView) (b : Brought first now opened waiting n list) (numbered : IsNumbered total list) (stand : StandByOrdinal list more)
       (leg : LegView) (at : lookup (nat_eq n) more ≡ Some leg) where
     pub next_leg : slice_get list n ≡ Some leg
     next_leg =
@@ -119,19 +124,24 @@ module _ {I : Type 0} (g : Ghosts I) where
         let same : i ≡ n = (let p = s.0 in omega (arith, o, p)) in
         subst (λ i. slice_get list i ≡ Some leg) same s.1.1
 
-    pub next_follows : CanFollowInTurn (g.content now) (leg ∷ [])
-    next_follows = let r = subst (CanFollowInTurn (g.content now)) (drop_at list n leg next_leg) b.rest in (r.0, tt)
+    next_rest : CanFollowInTurn (g.content now ++ waiting) (leg ∷ drop (n + 1) list)
+    next_rest = subst (CanFollowInTurn (g.content now ++ waiting)) (drop_at list n leg next_leg) b.rest
 
-    pub brought_on : (later : I) (left : List (ℕ × LegView)) (next : ℕ) → n + 1 ≡ next → StandByOrdinal list left → Grows g now later (leg ∷ []) → KeepsMarked g now later (leg ∷ []) → Brought first later left next list
-    brought_on later left next s keep grows marks =
-        let ends = grows b.sound next_follows in
-        let r = subst (CanFollowInTurn (g.content now)) (drop_at list n leg next_leg) b.rest in
+    pub next_waits : MayWait g now (waiting ++ leg ∷ [])
+    next_waits = (b.may.0, follow_append (g.content now) waiting (leg ∷ []) b.may.1 (next_rest.0, tt))
+
+    pub brought_on : (later : I) (left : List (ℕ × LegView)) (after : List LegView) (next : ℕ) → n + 1 ≡ next → StandByOrdinal list left
+        → (MayWait g now (waiting ++ leg ∷ []) → Holds g now later (waiting ++ leg ∷ []) after)
+        → (MayWait g now (waiting ++ leg ∷ []) → g.is_marked now → g.is_marked later) → Brought first later left after next list
+    brought_on later left after next s keep holds marks =
+        let h = holds next_waits in
+        let more : g.content later ++ after ≡ (g.content now ++ waiting) ++ leg ∷ [] = h.content ∙ sym (append_assoc (g.content now) waiting (leg ∷ [])) in
         record {
           stand = keep;
-          sound = ends.sound;
-          content = ends.content ∙ ap (λ l. l ++ leg ∷ []) b.content ∙ sym (take_next list n leg next_leg) ∙ ap (λ n. take n list) s;
-          rest = subst (λ n. CanFollowInTurn (g.content later) (drop n list)) s (subst (λ l. CanFollowInTurn l (drop (n + 1) list)) (sym ends.content) r.1);
-          marked = λ m. marks b.sound next_follows (b.marked m);
+          may = h.may;
+          content = more ∙ ap (λ l. l ++ leg ∷ []) b.content ∙ sym (take_next list n leg next_leg) ∙ ap (λ n. take n list) s;
+          rest = subst (λ n. CanFollowInTurn (g.content later ++ after) (drop n list)) s (subst (λ l. CanFollowInTurn l (drop (n + 1) list)) (sym more) next_rest.1);
+          marked = λ m. marks next_waits (b.marked m);
         }
 
 take_past : {X : Type 0} (xs : List X) (i : ℕ) → length xs ≤ i → take i xs ≡ xs

@@ -3,3 +3,4 @@ pub mod OldLegs
 pub mod Migrating
 pub mod OldReading
 pub mod OldStore
+pub mod Waiting

@@ -8,6 +8,7 @@ mod old_header;
 mod old_laid;
 mod old_legs;
 mod old_store;
+mod waiting;
 
 pub use migrating::migrate;
 pub use old_form::{MOST_OLD_LEGS, OldLeaf, laws, old_leaf};

@@ -156,7 +156,7 @@ fn bring_legs<S: PageStore, T: PageStore>(
 /// keep, and an index of its legs, with leaves of 50 legs at most, over a page 0 that says that the
 /// new store is not finished. The cache holds at most that many pages, at least 1.
 ///
-/// The legs are put in one by one, and of them is kept in memory what [`take_old_legs`] keeps. The
+/// The legs are put in many at a time, and of them is kept in memory what [`take_old_legs`] keeps. The
 /// store of version 1 is read, each page of it by its seal, and never written. Of its page 0 it is
 /// said first that it is not there (`Malformed`), is damaged, is no header (`Malformed`), has
 /// another version, is of a store that was not finished, or of one in another state (`Malformed`);

@@ -19,6 +19,7 @@ ghost use Rattle.boxsearch.specs.declared.fault.SearchFault.{SearchFault};
 ghost use Rattle.treecheck.specs.declared.walking.Met.{Met};
 
 use crate::old_form::{OldLeaf, old_leaf};
+use crate::waiting::{put_behind, put_waiting};
 use boxsearch::{SearchFault, of_search};
 use legs::{IndexFault, Leg, LegIndex, Tracks};
 use pagecache::CacheFault;
@@ -258,10 +259,10 @@ fn open_next<S: PageStore>(
     }
 }
 
-/// Puts the legs of the store, in their accepted order, at the end of an index without legs. Each
-/// leaf is read twice, and in memory are kept 64 bytes or so a leaf, 8 bytes a leg while the chains
-/// are walked, and then only the legs of leaves that are opened and not used up: at most one leaf a
-/// feature.
+/// Puts the legs of the store, in their accepted order, at the end of an index without legs, 65,536
+/// of them at a time. Each leaf is read twice, and in memory are kept 64 bytes or so a leaf, 8 bytes
+/// a leg while the chains are walked, and then only the legs that are next, and those of leaves that
+/// are opened and not used up: at most one leaf a feature.
 ///
 /// A store whose chains a check would refuse is `Damaged`, with the page at which the walk along them
 /// fails, or page 0 where all of them do not have the legs that are to be. No clause says which, nor
@@ -353,6 +354,7 @@ fn bring<S: PageStore, I: LegIndex>(
     ensures later { IsLater I.Listed index.old index.new }
 {
     let mut opened = HashMap::with_hasher(alloc, keys);
+    let mut waiting = Vec::new(alloc);
     let mut next = 0;
     'legs: for ordinal in 0..legs {
         next = match open_next(old, leaves, next, ordinal, &mut opened) {
@@ -362,7 +364,7 @@ fn bring<S: PageStore, I: LegIndex>(
         let Some(leg) = opened.remove(&ordinal) else {
             return Err(IndexFault::Damaged(0));
         };
-        index.add(leg)?;
+        put_behind(index, &mut waiting, leg)?;
     }
-    Ok(())
+    put_waiting(index, &mut waiting)
 }

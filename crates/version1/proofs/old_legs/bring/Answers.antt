@@ -1,4 +1,5 @@
 use Rattle.std.proofs.Common.{◌≡◌, ◌+◌, ◌∙◌, inl, inr, Err, IsErrOf, nat_eq, Some, refl, sym, ap, subst}
+use Rattle.std.proofs.lemmas.List.{append-nil}
 use Rattle.std.proofs.lemmas.Result.{err_from_is_err_and}
 use Rattle.legs.specs.declared.index.IndexFault.TheVariants.{Store}
 use Rattle.std.specs.Map.{lookup}
@@ -10,7 +11,7 @@ use Rattle.version1.specs.OldLegs.{AreOpened, AreReadable, HaveLegsOf}
 use Rattle.treecheck.specs.Walking.{pages_by}
 use Rattle.version1.proofs.OldLemmas.{reads_stays}
 use Rattle.version1.proofs.OpenedLemmas.{allowed_leg, damaged_works, next_opened, not_none, opened_none, opened_taken, works_leg}
-use Rattle.version1.proofs.TakingLemmas.{same_err, all_taken, brought_none, brought_on, next_follows, later_refl, later_trans, risen_after, stays_refl, stays_trans, stand_taken, store_failed}
+use Rattle.version1.proofs.TakingLemmas.{same_err, on_err, on_ok, all_taken, brought_none, brought_on, next_waits, later_refl, later_trans, risen_after, stays_refl, stays_trans, stand_taken, store_failed}
 use Rattle.treecheck.proofs.WalkedLemmas.{same_by}
 use Rattle.version1.proofs.old_legs.bring.Goals as goal
 
@@ -18,7 +19,7 @@ pub legs-init : goal.legs-init
 legs-init g c = record {
   stays = stays_refl (g.S.PageStore.seen c.args.old.now);
   later = later_refl g.I.Listed c.args.index.now;
-  brought = λ fa sound empty list have numbered. brought_none g.I.Listed c.args.index.now c.with_hasher-opened.result.entries c.args.legs list c.with_hasher-opened.ensures.empty sound empty numbered;
+  brought = λ fa sound empty list have numbered. brought_none g.I.Listed c.args.index.now c.with_hasher-opened.result.entries c.new-waiting.result.items c.args.legs list c.with_hasher-opened.ensures.empty c.new-waiting.ensures.empty sound empty numbered;
   opened = λ fa rises. opened_none (pages_by old_node_of (fresh (g.S.PageStore.seen c.args.old.now) 1)) c.args.leaves.now c.with_hasher-opened.result.entries;
 }
 
@@ -30,14 +31,14 @@ legs-preserved g c =
     let n = c.legs.ordinal-counter in
     record {
       stays = stays_trans first now (g.S.PageStore.seen c.open_next.new.store) inv.stays c.open_next.ensures.stays;
-      later = later_trans g.I.Listed c.args.index.now c.legs.index c.add.new.self inv.later c.add.ensures.later;
+      later = later_trans g.I.Listed c.args.index.now c.legs.index c.put_behind.new.index inv.later c.put_behind.ensures.later;
       brought = λ fa sound empty list have numbered.
           let b = inv.brought fa sound empty list have numbered in
           let same = same_by old_node_of (fresh first 1) (fresh now 1) (reads_stays first now inv.stays) fa in
           let stand = c.in-Ok.ensures.opened (inv.stays.keeps.faithful ∙ fa) list b.stand (subst (λ nodes. HaveLegsOf nodes c.args.leaves.now list) (sym same) have) in
           let at : lookup (nat_eq n) c.open_next.new.opened.entries ≡ Some c.in-Some.leg = sym c.remove.ensures.value ∙ c.in-Some.is in
-          brought_on g.I.Listed c.args.index.now c.legs.index c.legs.opened.entries c.open_next.new.opened.entries n c.args.legs list b numbered stand c.in-Some.leg at c.add.new.self c.remove.new.self.entries (n + 1) refl
-          (stand_taken list c.open_next.new.opened.entries c.remove.new.self.entries (nat_eq n) stand c.remove.ensures.updates.0) c.in_ok-add.ensures.added c.in_ok-add.ensures.marked;
+          brought_on g.I.Listed c.args.index.now c.legs.index c.legs.opened.entries c.open_next.new.opened.entries c.legs.waiting.items n c.args.legs list b numbered stand c.in-Some.leg at c.put_behind.new.index c.remove.new.self.entries c.put_behind.new.waiting.items (n + 1) refl
+          (stand_taken list c.open_next.new.opened.entries c.remove.new.self.entries (nat_eq n) stand c.remove.ensures.updates.0) c.in_ok-put_behind.ensures.holds c.in_ok-put_behind.ensures.marked;
       opened = λ fa rises.
           let nodes = pages_by old_node_of (fresh first 1) in
           let same = same_by old_node_of (fresh first 1) (fresh now 1) (reads_stays first now inv.stays) fa in
@@ -48,18 +49,33 @@ legs-preserved g c =
     }
 
 pub returns-clause-brought : goal.returns-clause-brought
-returns-clause-brought g c = λ fa sound empty list have numbered.
+returns-clause-brought g c = on_ok c.put_waiting.result (λ holds fa sound empty list have numbered.
     let b = c.legs.invariant.brought fa sound empty list have numbered in
-    (b.sound, b.content ∙ all_taken c.args.legs c.legs.ordinal-counter list numbered c.legs-test.false)
+    let h = holds b.may in
+    (h.may.0, sym (append-nil (g.I.Listed.content c.put_waiting.new.index)) ∙ h.content ∙ b.content ∙ all_taken c.args.legs c.legs.ordinal-counter list numbered c.legs-test.false)) c.put_waiting.ensures.holds
+
+pub returns-clause-only : goal.returns-clause-only
+returns-clause-only g c = on_err c.put_waiting.result (λ fault may fa sound empty list have each numbered.
+    may (c.legs.invariant.brought fa sound empty list have numbered).may) c.put_waiting.ensures.only
+
+pub returns-clause-works : goal.returns-clause-works
+returns-clause-works g c = on_err c.put_waiting.result (λ fault may fa sound empty list have numbered e.
+    subst MayRefuseLeg e (may (c.legs.invariant.brought fa sound empty list have numbered).may)) c.put_waiting.ensures.only
+
+pub returns-clause-store : goal.returns-clause-store
+returns-clause-store g c = λ e.
+    inr (risen_after (g.I.Listed.faults c.args.index.now) (g.I.Listed.faults c.legs.index) (g.I.Listed.faults c.put_waiting.new.index) c.legs.invariant.later.faults (c.put_waiting.ensures.store e))
 
 pub returns-clause-stays : goal.returns-clause-stays
 returns-clause-stays g c = c.legs.invariant.stays
 
 pub returns-clause-later : goal.returns-clause-later
-returns-clause-later g c = c.legs.invariant.later
+returns-clause-later g c = later_trans g.I.Listed c.args.index.now c.legs.index c.put_waiting.new.index c.legs.invariant.later c.put_waiting.ensures.later
 
 pub returns-clause-marked : goal.returns-clause-marked
-returns-clause-marked g c = λ fa sound empty marked list have numbered. (c.legs.invariant.brought fa sound empty list have numbered).marked marked
+returns-clause-marked g c = λ fa sound empty marked list have numbered.
+    let b = c.legs.invariant.brought fa sound empty list have numbered in
+    c.put_waiting.ensures.marked b.may (b.marked marked)
 
 pub returns-in-Err-clause-stays : goal.returns-in-Err-clause-stays
 returns-in-Err-clause-stays g c = stays_trans (g.S.PageStore.seen c.args.old.now) (g.S.PageStore.seen c.legs.old) (g.S.PageStore.seen c.open_next.new.store) c.legs.invariant.stays c.open_next.ensures.stays
@@ -67,8 +83,8 @@ returns-in-Err-clause-stays g c = stays_trans (g.S.PageStore.seen c.args.old.now
 pub returns-in_default-clause-stays : goal.returns-in_default-clause-stays
 returns-in_default-clause-stays g c = stays_trans (g.S.PageStore.seen c.args.old.now) (g.S.PageStore.seen c.legs.old) (g.S.PageStore.seen c.open_next.new.store) c.legs.invariant.stays c.open_next.ensures.stays
 
-pub returns-in_err-add-clause-stays : goal.returns-in_err-add-clause-stays
-returns-in_err-add-clause-stays g c = stays_trans (g.S.PageStore.seen c.args.old.now) (g.S.PageStore.seen c.legs.old) (g.S.PageStore.seen c.open_next.new.store) c.legs.invariant.stays c.open_next.ensures.stays
+pub returns-in_err-put_behind-clause-stays : goal.returns-in_err-put_behind-clause-stays
+returns-in_err-put_behind-clause-stays g c = stays_trans (g.S.PageStore.seen c.args.old.now) (g.S.PageStore.seen c.legs.old) (g.S.PageStore.seen c.open_next.new.store) c.legs.invariant.stays c.open_next.ensures.stays
 
 pub returns-in-Err-clause-later : goal.returns-in-Err-clause-later
 returns-in-Err-clause-later g c = c.legs.invariant.later
@@ -82,11 +98,11 @@ returns-in_default-clause-later g c = c.legs.invariant.later
 pub returns-in_default-clause-marked : goal.returns-in_default-clause-marked
 returns-in_default-clause-marked g c = λ fa sound empty marked list have numbered. (c.legs.invariant.brought fa sound empty list have numbered).marked marked
 
-pub returns-in_err-add-clause-later : goal.returns-in_err-add-clause-later
-returns-in_err-add-clause-later g c = later_trans g.I.Listed c.args.index.now c.legs.index c.add.new.self c.legs.invariant.later c.add.ensures.later
+pub returns-in_err-put_behind-clause-later : goal.returns-in_err-put_behind-clause-later
+returns-in_err-put_behind-clause-later g c = later_trans g.I.Listed c.args.index.now c.legs.index c.put_behind.new.index c.legs.invariant.later c.put_behind.ensures.later
 
-pub returns-in_err-add-clause-marked : goal.returns-in_err-add-clause-marked
-returns-in_err-add-clause-marked g c = λ fa sound empty marked list have numbered.
+pub returns-in_err-put_behind-clause-marked : goal.returns-in_err-put_behind-clause-marked
+returns-in_err-put_behind-clause-marked g c = λ fa sound empty marked list have numbered.
     let first = g.S.PageStore.seen c.args.old.now in
     let now = g.S.PageStore.seen c.legs.old in
     let inv = c.legs.invariant in
@@ -95,13 +111,13 @@ returns-in_err-add-clause-marked g c = λ fa sound empty marked list have number
     let same = same_by old_node_of (fresh first 1) (fresh now 1) (reads_stays first now inv.stays) fa in
     let stand = c.in-Ok.ensures.opened (inv.stays.keeps.faithful ∙ fa) list b.stand (subst (λ nodes. HaveLegsOf nodes c.args.leaves.now list) (sym same) have) in
     let at : lookup (nat_eq n) c.open_next.new.opened.entries ≡ Some c.in-Some.leg = sym c.remove.ensures.value ∙ c.in-Some.is in
-    c.add.ensures.marked b.sound (next_follows g.I.Listed c.args.index.now c.legs.index c.legs.opened.entries c.open_next.new.opened.entries n c.args.legs list b numbered stand c.in-Some.leg at) (b.marked marked)
+    c.put_behind.ensures.marked (next_waits g.I.Listed c.args.index.now c.legs.index c.legs.opened.entries c.open_next.new.opened.entries c.legs.waiting.items n c.args.legs list b numbered stand c.in-Some.leg at) (b.marked marked)
 
-pub returns-in_err-add-clause-store : goal.returns-in_err-add-clause-store
-returns-in_err-add-clause-store g c = λ e.
+pub returns-in_err-put_behind-clause-store : goal.returns-in_err-put_behind-clause-store
+returns-in_err-put_behind-clause-store g c = λ e.
     let p = err_from_is_err_and c.from_residual.result c.from_residual.ensures.1 in
-    inr (risen_after (g.I.Listed.faults c.args.index.now) (g.I.Listed.faults c.legs.index) (g.I.Listed.faults c.add.new.self) c.legs.invariant.later.faults
-    (c.add.ensures.refusals.store (subst (λ r. IsErrOf r Store) (p.1 ∙ ap (λ x. Err x) p.2 ∙ sym c.in_err-add.was) e)))
+    inr (risen_after (g.I.Listed.faults c.args.index.now) (g.I.Listed.faults c.legs.index) (g.I.Listed.faults c.put_behind.new.index) c.legs.invariant.later.faults
+    (c.put_behind.ensures.store (subst (λ r. IsErrOf r Store) (p.1 ∙ ap (λ x. Err x) p.2 ∙ sym c.in_err-put_behind.was) e)))
 
 pub returns-in-Err-clause-store : goal.returns-in-Err-clause-store
 returns-in-Err-clause-store g c = λ e.
@@ -131,8 +147,8 @@ returns-in_default-clause-only g c = λ fa sound empty list have each numbered.
     (subst (λ nodes. AreOpened nodes c.args.leaves.now c.in-Ok.next n (n + 1) c.open_next.new.opened.entries) same on) in
     not_none c.remove.result c.in_default.not-Some (subst IsSome (sym c.remove.ensures.value) there)
 
-pub returns-in_err-add-clause-only : goal.returns-in_err-add-clause-only
-returns-in_err-add-clause-only g c =
+pub returns-in_err-put_behind-clause-only : goal.returns-in_err-put_behind-clause-only
+returns-in_err-put_behind-clause-only g c =
     let p = err_from_is_err_and c.from_residual.result c.from_residual.ensures.1 in
     rw (p.1, p.2) (λ fa sound empty list have each numbered.
     let first = g.S.PageStore.seen c.args.old.now in
@@ -143,7 +159,7 @@ returns-in_err-add-clause-only g c =
     let same = same_by old_node_of (fresh first 1) (fresh now 1) (reads_stays first now inv.stays) fa in
     let stand = c.in-Ok.ensures.opened (inv.stays.keeps.faithful ∙ fa) list b.stand (subst (λ nodes. HaveLegsOf nodes c.args.leaves.now list) (sym same) have) in
     let at : lookup (nat_eq n) c.open_next.new.opened.entries ≡ Some c.in-Some.leg = sym c.remove.ensures.value ∙ c.in-Some.is in
-    c.in_err-add.ensures.refusals.sound b.sound (next_follows g.I.Listed c.args.index.now c.legs.index c.legs.opened.entries c.open_next.new.opened.entries n c.args.legs list b numbered stand c.in-Some.leg at))
+    c.in_err-put_behind.ensures.only (next_waits g.I.Listed c.args.index.now c.legs.index c.legs.opened.entries c.open_next.new.opened.entries c.legs.waiting.items n c.args.legs list b numbered stand c.in-Some.leg at))
 
 pub returns-in-Err-clause-works : goal.returns-in-Err-clause-works
 returns-in-Err-clause-works g c = λ fa sound empty list have numbered e. works_leg c.in-Err.fault c.in-Err.ensures.works (sym c.of_search.ensures ∙ e)
@@ -151,8 +167,8 @@ returns-in-Err-clause-works g c = λ fa sound empty list have numbered e. works_
 pub returns-in_default-clause-works : goal.returns-in_default-clause-works
 returns-in_default-clause-works g c = λ fa sound empty list have numbered. damaged_works 0
 
-pub returns-in_err-add-clause-works : goal.returns-in_err-add-clause-works
-returns-in_err-add-clause-works g c =
+pub returns-in_err-put_behind-clause-works : goal.returns-in_err-put_behind-clause-works
+returns-in_err-put_behind-clause-works g c =
     let p = err_from_is_err_and c.from_residual.result c.from_residual.ensures.1 in
     rw (p.1, p.2) (λ fa sound empty list have numbered.
     let first = g.S.PageStore.seen c.args.old.now in
@@ -163,4 +179,4 @@ returns-in_err-add-clause-works g c =
     let same = same_by old_node_of (fresh first 1) (fresh now 1) (reads_stays first now inv.stays) fa in
     let stand = c.in-Ok.ensures.opened (inv.stays.keeps.faithful ∙ fa) list b.stand (subst (λ nodes. HaveLegsOf nodes c.args.leaves.now list) (sym same) have) in
     let at : lookup (nat_eq n) c.open_next.new.opened.entries ≡ Some c.in-Some.leg = sym c.remove.ensures.value ∙ c.in-Some.is in
-    λ e. subst MayRefuseLeg e (c.in_err-add.ensures.refusals.sound b.sound (next_follows g.I.Listed c.args.index.now c.legs.index c.legs.opened.entries c.open_next.new.opened.entries n c.args.legs list b numbered stand c.in-Some.leg at)))
+    λ e. subst MayRefuseLeg e (c.in_err-put_behind.ensures.only (next_waits g.I.Listed c.args.index.now c.legs.index c.legs.opened.entries c.open_next.new.opened.entries c.legs.waiting.items n c.args.legs list b numbered stand c.in-Some.leg at)))

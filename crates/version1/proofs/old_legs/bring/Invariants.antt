@@ -17,7 +17,7 @@ invariant-legs g l = record {
   later : IsLater g.I.Listed l.initial.index l.index;
   brought : IsTrue (g.S.PageStore.seen l.initial.old).is_faithful → g.I.Listed.is_sound l.initial.index → g.I.Listed.content l.initial.index ≡ [] → (list : List LegView)
       → HaveLegsOf (pages_by old_node_of (fresh (g.S.PageStore.seen l.initial.old) 1)) l.leaves list → IsNumbered l.legs list
-      → Brought g.I.Listed l.initial.index l.index l.opened.entries l.ordinal-counter list;
+      → Brought g.I.Listed l.initial.index l.index l.opened.entries l.waiting.items l.ordinal-counter list;
   opened : IsTrue (g.S.PageStore.seen l.initial.old).is_faithful → IsRising (λ (m : Met). m.first) l.leaves
       → AreOpened (pages_by old_node_of (fresh (g.S.PageStore.seen l.initial.old) 1)) l.leaves l.next l.ordinal-counter l.ordinal-counter l.opened.entries;
 }
