@@ -103,11 +103,11 @@ module _ {I : Type 0} (g : Ghosts I) where
 
   pub brought_none : (index : I) (opened : List (ℕ × LegView)) (waiting : List LegView) (total : ℕ) (list : List LegView) → opened ≡ [] → waiting ≡ [] → g.is_sound index → g.content index ≡ [] → IsNumbered total list
       → Brought index index opened waiting 0 list
-  brought_none index opened waiting total list none no sound empty numbered =
-      let nothing : g.content index ++ waiting ≡ [] = ap (λ l. l ++ waiting) empty ∙ no in
+  brought_none index opened waiting total list none idle sound empty numbered =
+      let nothing : g.content index ++ waiting ≡ [] = ap (λ l. l ++ waiting) empty ∙ idle in
       record {
         stand = subst (StandByOrdinal list) (sym none) (λ o leg e. (let n : None ≡ Some leg = e in absurd (cc)));
-        may = (sound, subst (CanFollowInTurn (g.content index)) (sym no) tt);
+        may = (sound, subst (CanFollowInTurn (g.content index)) (sym idle) tt);
         content = nothing;
         rest = subst (λ l. CanFollowInTurn l list) (sym nothing) numbered.in_turn;
         marked = λ m. m;

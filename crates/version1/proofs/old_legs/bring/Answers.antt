@@ -19,7 +19,7 @@ pub legs-init : goal.legs-init
 legs-init g c = record {
   stays = stays_refl (g.S.PageStore.seen c.args.old.now);
   later = later_refl g.I.Listed c.args.index.now;
-  brought = λ fa sound empty list have numbered. brought_none g.I.Listed c.args.index.now c.with_hasher-opened.result.entries c.new-waiting.result.items c.args.legs list c.with_hasher-opened.ensures.empty c.new-waiting.ensures.empty sound empty numbered;
+  brought = λ fa sound empty list have numbered. brought_none g.I.Listed c.args.index.now c.with_hasher-opened.result.entries c.new-waiting.result.items c.args.legs list c.with_hasher-opened.ensures.empty c.new-waiting.ensures.items sound empty numbered;
   opened = λ fa rises. opened_none (pages_by old_node_of (fresh (g.S.PageStore.seen c.args.old.now) 1)) c.args.leaves.now c.with_hasher-opened.result.entries;
 }
 
