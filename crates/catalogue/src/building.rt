@@ -105,11 +105,13 @@ fn dimension_from(dimension: u32) -> Option<Dimension>
     ensures some { IfSome result (λ d. dimension ≡ number_of d) }
     ensures none { result ≡ None → (dimension ≢ 2) × (dimension ≢ 3) }
 {
-    match dimension {
-        2 => Some(Dimension::Two),
-        3 => Some(Dimension::Three),
-        _ => None,
+    if dimension == 2 {
+        return Some(Dimension::Two);
     }
+    if dimension == 3 {
+        return Some(Dimension::Three);
+    }
+    None
 }
 
 /// The head of the first accepted file, where its base is a moment, and there are 2 or 3

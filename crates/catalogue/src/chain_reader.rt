@@ -43,6 +43,14 @@ fn is_part(payload: &Payload, used: u64) -> bool
     }
 }
 
+/// Lets go of the first bytes, so many.
+fn drop_first(bytes: &mut Vec<u8>, count: usize)
+    requires { count ≤ length bytes.old.items }
+    ensures { bytes.new.items ≡ drop count bytes.old.items }
+{
+    bytes.drain(..count);
+}
+
 /// Reads a text from a chain of pages, as much at a time as is asked for.
 #[derive(Drop)]
 pub struct ChainReader {
@@ -101,9 +109,8 @@ impl ChainReader {
     fn forget(&mut self)
         ensures { self.new ≡ self.old }
     {
-        let taken = self.taken;
+        drop_first(&mut self.bytes, self.taken);
         self.taken = 0;
-        self.bytes.drain(..taken);
     }
 
     /// Takes in a page of the chain.

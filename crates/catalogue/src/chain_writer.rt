@@ -75,10 +75,10 @@ fn write_page<S: PageStore>(
 fn next_of(payload: &Payload) -> Option<u32>
     ensures { IfSome result (λ next. payload.now.kind ≡ Catalogue) }
 {
-    match payload.kind {
-        Kind::Catalogue => Some(u32_at(&payload.bytes, 0)),
-        _ => None,
+    if payload.kind != Kind::Catalogue {
+        return None;
     }
+    Some(u32_at(&payload.bytes, 0))
 }
 
 /// What comes after a page; none where it cannot be read, or is none of a catalogue.

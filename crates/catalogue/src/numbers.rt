@@ -4,14 +4,24 @@ ghost use Rattle.std.specs.Int.{w64};
 ghost use Rattle.byteorder.specs.Endian.{big_bytes};
 ghost use Rattle.tbnode.specs.Parts.{signed_bytes};
 
+/// Eight bytes to write over.
+fn eight() -> [u8; 8] {
+    [0; 8]
+}
+
 /// The number of eight bytes.
 pub fn u64_of(bytes: &[u8]) -> u64
     requires { length bytes.now ≡ 8 }
     ensures { big_bytes 8 result ≡ bytes.now }
 {
-    let mut array = [0; 8];
+    let mut array = eight();
     array.copy_from_slice(bytes);
     u64::from_be_bytes(array)
+}
+
+/// Four bytes to write over.
+fn four() -> [u8; 4] {
+    [0; 4]
 }
 
 /// The number of four bytes.
@@ -19,7 +29,7 @@ pub fn u32_of(bytes: &[u8]) -> u32
     requires { length bytes.now ≡ 4 }
     ensures { big_bytes 4 result ≡ bytes.now }
 {
-    let mut array = [0; 4];
+    let mut array = four();
     array.copy_from_slice(bytes);
     u32::from_be_bytes(array)
 }
@@ -30,7 +40,7 @@ pub(crate) fn i64_of(bytes: &[u8]) -> i64
     ensures bytes { signed_bytes result ≡ bytes.now }
     ensures fits { FitsSigned w64 result }
 {
-    let mut array = [0; 8];
+    let mut array = eight();
     array.copy_from_slice(bytes);
     i64::from_be_bytes(array)
 }

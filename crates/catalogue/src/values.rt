@@ -1,8 +1,10 @@
 //! The values of a text, as they are read one after another.
-ghost use Rattle.std.specs.Prelude.{◌≡◌, ◌∷◌, ◌≤◌, [], take, length, IsTrue, IsUtf8, IsErrOf, IfErr, IfOk, OnOk};
+ghost use Rattle.std.specs.Prelude.{◌≡◌, ◌∷◌, ◌≤◌, [], take, length, IsTrue, IsUtf8, IsErrOf, IfErr, IfOk, IfSome, None, OnOk};
 ghost use Rattle.byteorder.specs.Endian.{big_bytes};
 ghost use Rattle.pagecache.specs.Cache.{payload_of};
 ghost use Rattle.tbnode.specs.Parts.{signed_bytes};
+ghost use Rattle.rows.specs.Rows.{with_value};
+ghost use Rattle.catalogue.specs.declared.fault.CatalogueFault.{CatalogueFault};
 
 use crate::chain_reader::ChainReader;
 use crate::fault::CatalogueFault;
@@ -14,11 +16,32 @@ use rows::GrowingRows;
 use std::alloc::Global;
 use std::str;
 
+/// Bytes as a text; `None` where they are not UTF-8.
+fn text_of(bytes: &[u8]) -> Option<&str>
+    ensures some { IfSome result (λ text. (text.now ≡ bytes.now) × IsUtf8 bytes.now) }
+    ensures none { result ≡ None → IsUtf8 bytes.now → ⊥ }
+{
+    match str::from_utf8(bytes) {
+        Ok(text) => Some(text),
+        Err(_) => None,
+    }
+}
+
+/// Puts a text behind the values of the row that is begun.
+fn put_value(rows: &mut GrowingRows, text: &str) -> Result<(), CatalogueFault>
+    ensures put { OnOk result (rows.new ≡ with_value rows.old text.now) }
+    ensures memory { IfErr result (λ fault. fault ≡ CatalogueFault.Memory) }
+{
+    match rows.push_value(text) {
+        Ok(()) => Ok(()),
+        Err(_) => Err(CatalogueFault::Memory),
+    }
+}
+
 impl ChainReader {
     ghost use Rattle.catalogue.specs.ChainReader.{rest_of, IsReadFault, IsTextFault, Takes, TakesInto};
     ghost use Rattle.catalogue.specs.Text.{short_text, IsNumber, IsSigned, IsShortText};
     ghost use Rattle.chains.specs.Reads.{OnlyReads};
-    ghost use Rattle.rows.specs.Rows.{with_value};
 
     /// A number of one byte.
     pub(crate) fn byte<S: PageStore>(
@@ -114,12 +137,9 @@ impl ChainReader {
             → IsUtf8 (take len self.now.bytes) → ⊥ }
         ensures memory { IfErr result IsTextFault }
     {
-        match str::from_utf8(self.ahead(len)) {
-            Ok(text) => match rows.push_value(text) {
-                Ok(()) => Ok(()),
-                Err(_) => Err(CatalogueFault::Memory),
-            },
-            Err(_) => Err(CatalogueFault::Malformed),
+        match text_of(self.ahead(len)) {
+            Some(text) => put_value(rows, text),
+            None => Err(CatalogueFault::Malformed),
         }
     }
 

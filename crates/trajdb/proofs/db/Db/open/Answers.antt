@@ -15,6 +15,10 @@ pub returns-in-Err-clause-holds : goal.returns-in-Err-clause-holds
 returns-in-Err-clause-holds g c = λ fa shape limits book h.
     subst IsStop (sym c.from.ensures) (stopped c.in-Err.fault (c.in-Err.ensures.holds fa shape limits book h))
 
+pub returns-in-Err-clause-kept : goal.returns-in-Err-clause-kept
+returns-in-Err-clause-kept g c = λ fa k tree places kept.
+    subst IsStop (sym c.from.ensures) (stopped c.in-Err.fault (c.in-Err.ensures.kept fa k tree places kept))
+
 pub returns-in-Err-clause-damaged : goal.returns-in-Err-clause-damaged
 returns-in-Err-clause-damaged g c =
     let s = g.S.PageStore.seen c.args.store in
