@@ -25,6 +25,7 @@ use mfcsv::Code;
 use pagecache::CacheFault;
 pub use start::Start;
 use std::alloc::{AllocError, AllocFailed};
+use std::fmt;
 use thiserror::Error;
 
 /// The code of a file's refusal: a fault of its text, or of its joining to the database.
@@ -48,6 +49,17 @@ impl FileCode {
             FileCode::Text(code) => code.as_str(),
             FileCode::Join(code) => code.as_str(),
         }
+    }
+}
+
+impl fmt::Display for FileCode {
+    ghost use Rattle.std.specs.Prelude.{Some};
+    ghost use Rattle.trajdb.specs.Codes.{file_code};
+
+    ghost output = { λ c. Some (file_code c) };
+
+    fn fmt<W: fmt::Write>(&self, f: &mut fmt::Formatter<W>) -> fmt::Result {
+        f.write_str(self.as_str())
     }
 }
 
@@ -211,11 +223,13 @@ impl From<CacheFault> for OpenFault {
 }
 
 /// Why a file was not accepted.
-#[derive(Clone, Copy, PartialEq, Eq, Debug)]
+#[derive(Clone, Copy, PartialEq, Eq, Debug, Error)]
 pub enum LoadFault {
     /// The file's first fault, and the number of its record (0 for the whole file).
+    #[error("the file is refused: {code} at {number}")]
     Refused { code: FileCode, number: u64 },
     /// The database could not tell.
+    #[error("{0}")]
     Run(RunFault),
 }
 
