@@ -1,9 +1,9 @@
 -- Legs put into an index in any order in which each feature's ordinals rise.
-use Rattle.std.proofs.Common.{ℕ, zero, suc, All, drop, get_or, ◌≡◌, ◌≢◌, ◌≤◌, ◌<◌, ◌+◌, ◌*◌, ◌-◌, ◌^◌, min, refl, sym, ap, ◌∙◌, arith, subst, ⊎_elim, false, List, [], ◌∷◌, ◌++◌, length, set, Some, slice_get, Result, Ok, Err, OnOk, append_assoc}
+use Rattle.std.proofs.Common.{ℕ, zero, suc, All, drop, take, get_or, ◌≡◌, ◌≢◌, ◌≤◌, ◌<◌, ◌+◌, ◌*◌, ◌-◌, ◌^◌, min, max, refl, sym, ap, ◌∙◌, arith, subst, ⊎_elim, true, false, List, [], ◌∷◌, ◌++◌, length, set, Some, slice_get, Result, Ok, Err, OnOk, OnErr, append_assoc}
 use Rattle.std.specs.Prelude.{IfErr}
 use Rattle.std.proofs.lemmas.Bool.{cases_eq}
 use Rattle.std.proofs.lemmas.Int.{clamps}
-use Rattle.std.proofs.lemmas.List.{length_push, length-set, append-nil}
+use Rattle.std.proofs.lemmas.List.{length-append, length-drop, length-set, append-nil, take_all}
 use Rattle.std.proofs.lemmas.Nat.{mul-le}
 use Rattle.legs.specs.Asking.{IsLater}
 use Rattle.legs.specs.Boxes.{BoxView}
@@ -12,9 +12,9 @@ use Rattle.legs.specs.Legs.{LegView}
 use Rattle.legs.specs.Places.{no_leg}
 use Rattle.legs.specs.declared.index.IndexFault.{IndexFault}
 use Rattle.legs.specs.declared.index.IndexFault.TheVariants as index
-use Rattle.tbtree.specs.Faults.{Gives, IsAllowed}
+use Rattle.tbtree.specs.Faults.{Gives, IsAllowed, IsCaused}
 use Rattle.tbtree.specs.Insert.{IsPlace}
-use Rattle.tbtree.specs.Joining.{CanTake, CanTakeInTurn, Holds, Joined}
+use Rattle.tbtree.specs.Joining.{AllJoined, CanJoinInTurn, CanTakeInTurn, Holds}
 use Rattle.tbtree.specs.Nodes.{Pages, pages_of_cache}
 use Rattle.tbtree.specs.Shape.{IsShape}
 use Rattle.tbtree.specs.Stands.{no_place}
@@ -23,11 +23,11 @@ use Rattle.tbtree.specs.declared.tree.Place.{Place}
 use Rattle.tbtree.specs.declared.tree.TbTree.{TbTree}
 use Rattle.boxsearch.specs.Answers.{answered, of_tree}
 use Rattle.boxsearch.specs.Index.{IndexView, words, IsMarked, with_place}
-use Rattle.boxsearch.specs.Putting.{Puts, spent_from}
+use Rattle.boxsearch.specs.Putting.{PutsAll, spent_from}
 use Rattle.boxsearch.specs.Taking.{HoldsLegs, Taking, taken}
 use Rattle.boxsearch.specs.declared.turns.Turn.{Turn}
-use Rattle.boxsearch.proofs.AddLemmas.{Laws, made, refusals, marked_after, feature_count-push}
-use Rattle.boxsearch.proofs.AnswerLemmas.{each_fault, tree_allowed}
+use Rattle.boxsearch.proofs.AddLemmas.{made, marked_after, feature_count-push}
+use Rattle.boxsearch.proofs.AnswerLemmas.{each_fault, the_fault, SaidOfLeg, tree_said, tree_allowed}
 use Rattle.boxsearch.proofs.PlaceLemmas.{get-set_same, get-set_other, made_places, length-made, some_same}
 use Rattle.boxsearch.proofs.TrackLemmas.{no_legs}
 
@@ -36,19 +36,39 @@ pub record OrderLaws : Type 0 where
   pub fits : (nodes : Pages LegView BoxView) (tree : TbTree) (legs : List LegView) (pages : ℕ → List ℕ) → IsShape tree.shape → Holds nodes tree legs pages → length legs ≤ nodes.count * tree.shape.leaf
   pub absent : (tree : TbTree) (legs : List LegView) (pages : ℕ → List ℕ) (feature : ℕ) → IsShape tree.shape → legs_of feature legs ≡ [] → IsPlace tree legs pages feature no_place
 
-module _ (laws : OrderLaws) (old new : IndexView) (leg : LegView) (before : List LegView) (r : Result (Unit {0}) TreeFault) (p : Puts (made old leg.feature) new leg r) (s : HoldsLegs old before) where
-  abbrev longer : List LegView
-  longer = before ++ leg ∷ []
+-- legs that may be taken in turn may join in turn
+can_join_in_turn : (b ys : List LegView) → CanTakeInTurn b ys → CanJoinInTurn b ys
+can_join_in_turn b [] w = tt
+can_join_in_turn b (y ∷ ys) w = (w.0.joins, can_join_in_turn (b ++ y ∷ []) ys w.1)
 
-  placed_made : (f : ℕ) (place : Place) → slice_get (with_place old.places leg.feature) f ≡ Some place → IsPlace old.tree before s.pages f place
+-- the first of some legs of a feature is of a feature that is there, or of the next one
+head_fits : (f : ℕ) (b ys : List LegView) → 0 < length ys → All (λ y. y.feature ≡ f) ys → CanTakeInTurn b ys → f ≤ feature_count b
+head_fits f b [] some all w = absurd (omega (arith, some))
+head_fits f b (y ∷ ys) some all w = let low = w.0.feature in let own : y.feature ≡ f = all 0 y (omega arith) in omega (arith, low, own)
+
+-- how many features there are after some legs of one
+feature_count-run : (f : ℕ) (b ys : List LegView) → All (λ y. y.feature ≡ f) ys → 0 < length ys → feature_count (b ++ ys) ≡ max (feature_count b) (f + 1)
+feature_count-run f b [] all some = absurd (omega (arith, some))
+feature_count-run f b (y ∷ []) all some = feature_count-push b y ∙ ap (λ g. max (feature_count b) (g + 1)) (all 0 y (omega arith))
+feature_count-run f b (y ∷ z ∷ zs) all some =
+    let first = feature_count-push b y in
+    let own : y.feature ≡ f = all 0 y (omega arith) in
+    let more : feature_count ((b ++ y ∷ []) ++ z ∷ zs) ≡ max (feature_count (b ++ y ∷ [])) (f + 1) = feature_count-run f (b ++ y ∷ []) (z ∷ zs) (λ k d l. all (suc k) d (omega (arith, l))) (omega arith) in
+    ap feature_count (sym (append_assoc b (y ∷ []) (z ∷ zs))) ∙ more ∙ ap (λ n. max n (f + 1)) (first ∙ ap (λ g. max (feature_count b) (g + 1)) own) ∙ omega (arith, clamps)
+
+module _ (laws : OrderLaws) (old new : IndexView) (feature : ℕ) (legs before : List LegView) (some : 0 < length legs) (one : All (λ leg. leg.feature ≡ feature) legs) (r : Result (Unit {0}) TreeFault) (p : PutsAll (made old feature) new feature legs r) (s : HoldsLegs old before) where
+  abbrev longer : List LegView
+  longer = before ++ legs
+
+  placed_made : (f : ℕ) (place : Place) → slice_get (with_place old.places feature) f ≡ Some place → IsPlace old.tree before s.pages f place
   placed_made =
-      made_places (λ f place. IsPlace old.tree before s.pages f place) old.places leg.feature s.placed
+      made_places (λ f place. IsPlace old.tree before s.pages f place) old.places feature s.placed
       (laws.absent old.tree before s.pages (length old.places) s.shape (no_legs before (length old.places) (let n = s.features in omega (arith, n))))
 
-  pub gives : CanTake before leg → Gives r (λ _. Joined (pages_of_cache new.cache) old.tree new.tree before s.pages leg p.is)
-  gives w = p.joins s.faithful before s.pages s.holds (placed_made leg.feature p.was p.found) w.joins
+  pub gives : CanTakeInTurn before legs → Gives r (λ _. AllJoined (pages_of_cache new.cache) old.tree new.tree before s.pages feature legs p.is)
+  gives w = p.joins s.faithful feature before s.pages s.holds (placed_made feature p.was p.found) one (can_join_in_turn before legs w)
 
-  module _ (w : CanTake before leg) (i : Joined (pages_of_cache new.cache) old.tree new.tree before s.pages leg p.is) where
+  module _ (w : CanTakeInTurn before legs) (i : AllJoined (pages_of_cache new.cache) old.tree new.tree before s.pages feature legs p.is) where
     still_shape : IsShape new.tree.shape
     still_shape = subst (λ shape. IsShape shape) (sym p.shape) s.shape
 
@@ -63,67 +83,80 @@ module _ (laws : OrderLaws) (old new : IndexView) (leg : LegView) (before : List
     as_many_places : length new.places ≡ feature_count longer
     as_many_places =
         let n = s.features in
-        let low = w.feature in
-        let a : length new.places ≡ length (with_place old.places leg.feature) = ap length p.places ∙ length-set (with_place old.places leg.feature) leg.feature p.is in
-        let b = length-made old.places leg.feature (omega (arith, n, low)) in
-        let c = feature_count-push before leg in
+        let low = head_fits feature before legs some one w in
+        let a : length new.places ≡ length (with_place old.places feature) = ap length p.places ∙ length-set (with_place old.places feature) feature p.is in
+        let b = length-made old.places feature (omega (arith, n, low)) in
+        let c = feature_count-run feature before legs one some in
         omega (arith, a, b, c, n)
 
     new_places : (f : ℕ) (place : Place) → slice_get new.places f ≡ Some place → IsPlace new.tree longer i.pages f place
     new_places f place h =
-        let at : slice_get (set (with_place old.places leg.feature) leg.feature p.is) f ≡ Some place = ap (λ (l : List Place). slice_get l f) (sym p.places) ∙ h in
+        let at : slice_get (set (with_place old.places feature) feature p.is) f ≡ Some place = ap (λ (l : List Place). slice_get l f) (sym p.places) ∙ h in
         ⊎_elim
-        (λ (e : f ≡ leg.feature).
-        let same : p.is ≡ place = some_same p.is place (sym (get-set_same (with_place old.places leg.feature) leg.feature p.is p.was p.found) ∙ ap (slice_get (set (with_place old.places leg.feature) leg.feature p.is)) (sym e) ∙ at) in
-        subst (λ f. IsPlace new.tree longer i.pages f place) (sym e) (subst (λ q. IsPlace new.tree longer i.pages leg.feature q) same i.placed))
-        (λ (u : f ≢ leg.feature).
-        i.others f place u (placed_made f place (sym (get-set_other (with_place old.places leg.feature) leg.feature f p.is u) ∙ at)))
-        (cases_eq f leg.feature)
+        (λ (e : f ≡ feature).
+        let same : p.is ≡ place = some_same p.is place (sym (get-set_same (with_place old.places feature) feature p.is p.was p.found) ∙ ap (slice_get (set (with_place old.places feature) feature p.is)) (sym e) ∙ at) in
+        subst (λ f. IsPlace new.tree longer i.pages f place) (sym e) (subst (λ q. IsPlace new.tree longer i.pages feature q) same i.placed))
+        (λ (u : f ≢ feature).
+        i.others f place u (placed_made f place (sym (get-set_other (with_place old.places feature) feature f p.is u) ∙ at)))
+        (cases_eq f feature)
 
-    pub held_after : new.cache.count ≡ new.cache.store.count → new.tree.spent ≡ false → new.legs ≡ min (old.legs + 1) (2 ^ 64 - 1) → HoldsLegs new longer
-    held_after count works legs = record {
+    pub held_after : new.cache.count ≡ new.cache.store.count → new.tree.spent ≡ false → new.legs ≡ min (old.legs + length legs) (2 ^ 64 - 1) → HoldsLegs new longer
+    held_after count works counted = record {
       faithful = p.passes.store.faithful ∙ s.faithful;
       works = works;
       shape = still_shape;
       count = count;
       pages = i.pages;
       holds = i.stands;
-      counted = (let few = few_legs in let n = s.counted in let a = length_push before leg in omega (arith, clamps, few, n, a, legs));
+      counted = (let few = few_legs in let n = s.counted in let a = length-append before legs in omega (arith, clamps, few, n, a, counted));
       features = as_many_places;
       placed = new_places;
     }
 
-module _ (laws : OrderLaws) (old new : IndexView) (leg : LegView) where
-  takes : (r : Result (Unit {0}) TreeFault) → Puts (made old leg.feature) new leg r → OnOk (answered (λ fault. of_tree fault) r) ((before : List LegView) → HoldsLegs old before → CanTakeInTurn before (leg ∷ []) → HoldsLegs new (before ++ leg ∷ []))
-  takes (Ok tt) p = λ before s w. held_after laws old new leg before (Ok tt) p s w.0 (gives laws old new leg before (Ok tt) p s w.0) (p.count s.count) p.works p.legs
+module _ (laws : OrderLaws) (old new : IndexView) (feature : ℕ) (legs : List LegView) (some : 0 < length legs) (one : All (λ leg. leg.feature ≡ feature) legs) where
+  takes : (r : Result (Unit {0}) TreeFault) → PutsAll (made old feature) new feature legs r → OnOk (answered (λ fault. of_tree fault) r) ((before : List LegView) → HoldsLegs old before → CanTakeInTurn before legs → HoldsLegs new (before ++ legs))
+  takes (Ok tt) p = λ before s w. held_after laws old new feature legs before some one (Ok tt) p s w (gives laws old new feature legs before some one (Ok tt) p s w) (p.count s.count) p.works p.counted
   takes (Err x) p = tt
 
   on_answer : (P : Type 0) (r : Result (Unit {0}) TreeFault) → OnOk r P → OnOk (answered (λ fault. of_tree fault) r) P
   on_answer P (Ok tt) h = h
   on_answer P (Err x) h = tt
 
+  on_refusal : (P : Type 0) (r : Result (Unit {0}) TreeFault) → OnErr r P → OnErr (answered (λ fault. of_tree fault) r) P
+  on_refusal P (Ok tt) h = tt
+  on_refusal P (Err x) h = h
+
   shape_kept : (r : Result (Unit {0}) TreeFault) → new.tree.shape ≡ old.tree.shape → OnOk r (new.tree.shape ≡ old.tree.shape)
   shape_kept (Ok tt) h = h
   shape_kept (Err x) h = tt
 
-  allowed : (r : Result (Unit {0}) TreeFault) → Puts (made old leg.feature) new leg r → IfErr r (λ fault. (before : List LegView) → HoldsLegs old before → CanTakeInTurn before (leg ∷ []) → IsAllowed fault)
+  allowed : (r : Result (Unit {0}) TreeFault) → PutsAll (made old feature) new feature legs r → IfErr r (λ fault. (before : List LegView) → HoldsLegs old before → CanTakeInTurn before legs → IsAllowed fault)
   allowed (Ok tt) p = tt
-  allowed (Err x) p = λ before s w. gives laws old new leg before (Err x) p s w.0
+  allowed (Err x) p = λ before s w. gives laws old new feature legs before some one (Err x) p s w
 
-  pub joined : Laws → (r : Result (Unit {0}) TreeFault) → old.tree.spent ≡ false → Puts (made old leg.feature) new leg r → Taking old new (leg ∷ []) (answered (λ fault. of_tree fault) r)
-  joined rules r works p =
-      let said = refusals rules old new leg r works p in
+  pub joined : (r : Result (Unit {0}) TreeFault) → PutsAll (made old feature) new feature legs r → Taking old new legs (answered (λ fault. of_tree fault) r)
+  joined r p =
+      let say : TreeFault → IndexFault = λ fault. of_tree fault in
+      let said = each_fault say (IsCaused old.cache new.cache) (SaidOfLeg old.cache new.cache) (tree_said old.cache new.cache) r p.caused in
       record {
         takes = takes r p;
         shape = on_answer (new.tree.shape ≡ old.tree.shape) r (shape_kept r p.shape);
         works = on_answer (new.tree.spent ≡ false) r p.works;
-        spent = said.spent;
-        refused = each_fault (λ fault. of_tree fault) (λ fault. (before : List LegView) → HoldsLegs old before → CanTakeInTurn before (leg ∷ []) → IsAllowed fault)
-            (λ fault. (before : List LegView) → HoldsLegs old before → CanTakeInTurn before (leg ∷ []) → MayRefuseLeg fault) (λ x h before s w. tree_allowed x (h before s w)) r (allowed r p);
-        store = said.store;
-        full = said.full;
+        spent = on_refusal (new.tree.spent ≡ true) r p.spent;
+        refused = each_fault say (λ fault. (before : List LegView) → HoldsLegs old before → CanTakeInTurn before legs → IsAllowed fault)
+            (λ fault. (before : List LegView) → HoldsLegs old before → CanTakeInTurn before legs → MayRefuseLeg fault) (λ x h before s w. tree_allowed x (h before s w)) r (allowed r p);
+        store = λ e. the_fault (answered say r) (SaidOfLeg old.cache new.cache) index.Store e said;
+        full = λ e. the_fault (answered say r) (SaidOfLeg old.cache new.cache) index.StoreFull e said;
         marked = marked_after old.cache new.cache p.passes;
       }
+
+take_front : (b xs ys : List LegView) → CanTakeInTurn b (xs ++ ys) → CanTakeInTurn b xs
+take_front b [] ys w = tt
+take_front b (x ∷ xs) ys w = (w.0, take_front (b ++ x ∷ []) xs ys w.1)
+
+take_back : (b xs ys : List LegView) → CanTakeInTurn b (xs ++ ys) → CanTakeInTurn (b ++ xs) ys
+take_back b [] ys w = subst (λ l. CanTakeInTurn l ys) (sym (append-nil b)) w
+take_back b (x ∷ xs) ys w = subst (λ l. CanTakeInTurn l ys) (append_assoc b (x ∷ []) xs) (take_back (b ++ x ∷ []) xs ys w.1)
 
 -- as far as a loop over legs has come, from an index to what it is now
 pub record IsTaking (old now : IndexView) (all left : List LegView) : Type 0 where
@@ -143,16 +176,16 @@ taking_start old all works = record {
   faults = omega arith;
 }
 
-pub taking_more : (old now new : IndexView) (all left : List LegView) (leg : LegView) → IsTaking old now all (leg ∷ left) → Taking now new (leg ∷ []) (Ok tt) → IsLater words now new → IsTaking old new all left
-taking_more old now new all left leg so_far more later = record {
+pub taking_more : (old now new : IndexView) (all left run : List LegView) → IsTaking old now all (run ++ left) → Taking now new run (Ok tt) → IsLater words now new → IsTaking old new all left
+taking_more old now new all left run so_far more later = record {
   going = λ before s w.
       let at = so_far.going before s w in
       let done = at.0 in
-      let same : (before ++ done) ++ leg ∷ [] ≡ before ++ (done ++ leg ∷ []) = append_assoc before done (leg ∷ []) in (
-        done ++ leg ∷ [],
-        subst (λ l. HoldsLegs new l) same (more.takes (before ++ done) at.1 (at.2.0, tt)),
-        subst (λ l. CanTakeInTurn l left) same at.2.1,
-        append_assoc done (leg ∷ []) left ∙ at.3,
+      let same : (before ++ done) ++ run ≡ before ++ (done ++ run) = append_assoc before done run in (
+        done ++ run,
+        subst (λ l. HoldsLegs new l) same (more.takes (before ++ done) at.1 (take_front (before ++ done) run left at.2)),
+        subst (λ l. CanTakeInTurn l left) same (take_back (before ++ done) run left at.2),
+        append_assoc done run left ∙ at.3,
       );
   works = more.works;
   shape = more.shape ∙ so_far.shape;
@@ -175,13 +208,13 @@ taking_end old now all so_far = record {
   marked = so_far.marked;
 }
 
-pub taking_refused : (old now new : IndexView) (all left : List LegView) (leg : LegView) (fault : IndexFault) → IsTaking old now all (leg ∷ left) → Taking now new (leg ∷ []) (Err fault) → Taking old new all (Err fault)
-taking_refused old now new all left leg fault so_far more = record {
+pub taking_refused : (old now new : IndexView) (all left run : List LegView) (fault : IndexFault) → IsTaking old now all (run ++ left) → Taking now new run (Err fault) → Taking old new all (Err fault)
+taking_refused old now new all left run fault so_far more = record {
   takes = tt;
   shape = tt;
   works = tt;
   spent = more.spent;
-  refused = λ before s w. (let at = so_far.going before s w in more.refused (before ++ at.0) at.1 (at.2.0, tt));
+  refused = λ before s w. (let at = so_far.going before s w in more.refused (before ++ at.0) at.1 (take_front (before ++ at.0) run left at.2));
   store = λ e. (let a = so_far.faults in let b = more.store e in omega (arith, clamps, a, b));
   full = more.full;
   marked = λ m. more.marked (so_far.marked m);
@@ -201,6 +234,40 @@ taking_none old mid new legs is same =
       full = λ e. absurd cc;
       marked = λ m. subst (λ c. IsMarked c) (sym cache) m;
     }
+
+-- a feature that is more than the next one has no place, and spends the index
+pub taking_absent : (old mid new : IndexView) (feature : ℕ) (legs : List LegView) → 0 < length legs → All (λ leg. leg.feature ≡ feature) legs → mid ≡ made old feature → new ≡ spent_from mid → (feature < length mid.places → ⊥) → Taking old new legs (Err index.Spent)
+taking_absent old mid new feature legs some one made_is is none =
+    let cache : new.cache ≡ old.cache = ap (λ (v : IndexView). v.cache) is ∙ ap (λ (v : IndexView). v.cache) made_is in
+    record {
+      takes = tt;
+      shape = tt;
+      works = tt;
+      spent = ap (λ (v : IndexView). v.tree.spent) is;
+      refused = λ before s w. none
+          (let low = head_fits feature before legs some one w in
+          let n = s.features in
+          let m = length-made old.places feature (omega (arith, n, low)) in
+          omega (arith, clamps, m, ap (λ (v : IndexView). length v.places) made_is));
+      store = λ e. absurd cc;
+      full = λ e. absurd cc;
+      marked = λ m. subst (λ c. IsMarked c) (sym cache) m;
+    }
+
+drop_none : {X : Type 0} (k : ℕ) → let none : List X = [] in drop k none ≡ none
+drop_none zero = refl
+drop_none (suc k) = refl
+
+drop_add : {X : Type 0} (n m : ℕ) (xs : List X) → drop m (drop n xs) ≡ drop (n + m) xs
+drop_add zero m xs = ap (λ k. drop k xs) (omega arith)
+drop_add (suc n) m [] = drop_none m ∙ sym (drop_none (suc n + m))
+drop_add (suc n) m (x ∷ xs) = drop_add n m xs ∙ ap (λ k. drop k (x ∷ xs)) (let e : suc (n + m) ≡ suc n + m = omega arith in e)
+
+-- the legs of the next turns, and of those behind them
+pub taken_run : (legs run : List LegView) (turns : List Turn) (k : ℕ) → (let rest = take (length turns - k) (drop k turns) in taken legs rest ≡ run ++ taken legs (drop (length run) rest)) → taken legs (drop k turns) ≡ run ++ taken legs (drop (k + length run) turns)
+taken_run legs run turns k e =
+    let rest : take (length turns - k) (drop k turns) ≡ drop k turns = take_all (length turns - k) (drop k turns) (let d = length-drop k turns in omega (arith, d)) in
+    ap (taken legs) (sym rest) ∙ e ∙ ap (λ ts. run ++ taken legs (drop (length run) ts)) rest ∙ ap (λ ts. run ++ taken legs ts) (drop_add k (length run) turns)
 
 pub drop_next : {X : Type 0} (xs : List X) (k : ℕ) (d : X) → k < length xs → drop k xs ≡ get_or xs k d ∷ drop (suc k) xs
 drop_next [] k d l = absurd (omega (arith, l))

@@ -1,9 +1,9 @@
--- Helpers of private functions: what putting a leg into its tree makes of an index.
-use Rattle.std.specs.Prelude.{◌≡◌, ◌≤◌, ◌+◌, ◌*◌, ◌-◌, ◌^◌, ◌<◌, min, true, false, IsTrue, OnOk, OnErr, IfErr, Result, Some, slice_get, set}
+-- Helpers of private functions: what putting legs into its tree makes of an index.
+use Rattle.std.specs.Prelude.{ℕ, ◌≡◌, ◌≤◌, ◌+◌, ◌*◌, ◌-◌, ◌^◌, ◌<◌, min, true, false, IsTrue, OnOk, OnErr, IfErr, List, length, Result, Some, slice_get, set}
 use Rattle.legs.specs.Legs.{LegView}
 use Rattle.tbtree.specs.Faults.{IsCaused}
 use Rattle.tbtree.specs.Insert.{Inserts}
-use Rattle.tbtree.specs.Joining.{Joins}
+use Rattle.tbtree.specs.Joining.{Joins, JoinsAll}
 use Rattle.tbtree.specs.Nodes.{pages_of_cache}
 use Rattle.tbtree.specs.Passes.{Passes, KeepsLength}
 use Rattle.tbtree.specs.declared.fault.TreeFault.{TreeFault}
@@ -28,6 +28,23 @@ pub record Puts (old new : IndexView) (leg : LegView) (result : Result (Unit {0}
   pub works : OnOk result (new.tree.spent ≡ false)
   pub spent : OnErr result (new.tree.spent ≡ true)
   pub legs : OnOk result (new.legs ≡ min (old.legs + 1) (2 ^ 64 - 1))
+
+-- what putting legs of one feature makes of it
+pub record PutsAll (old new : IndexView) (feature : ℕ) (legs : List LegView) (result : Result (Unit {0}) TreeFault) : Type 0 where
+  pub was : Place
+  pub is : Place
+  pub found : slice_get old.places feature ≡ Some was
+  pub places : new.places ≡ set old.places feature is
+  pub joins : IsTrue old.cache.store.is_faithful
+      → JoinsAll (pages_of_cache old.cache) (pages_of_cache new.cache) old.tree new.tree was is legs result
+  pub shape : new.tree.shape ≡ old.tree.shape
+  pub passes : Passes old.cache new.cache
+  pub count : OnOk result (KeepsLength old.cache new.cache)
+  pub few : new.cache.count < 2 ^ 32
+  pub caused : IfErr result (IsCaused old.cache new.cache)
+  pub works : OnOk result (new.tree.spent ≡ false)
+  pub spent : OnErr result (new.tree.spent ≡ true)
+  pub counted : OnOk result (new.legs ≡ min (old.legs + length legs) (2 ^ 64 - 1))
 
 -- an index that refuses all calls
 abbrev pub spent_from : IndexView → IndexView

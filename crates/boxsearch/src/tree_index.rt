@@ -7,7 +7,7 @@ use pagecache::PageCache;
 use pages::PageStore;
 use std::alloc::{AllocError, Global};
 use std::marker::Model;
-use tbtree::{Place, Shape, TbTree, TreeFault, insert};
+use tbtree::{Place, Shape, TbTree, TreeFault, insert, insert_all};
 
 /// An index of legs in pages: a TB-tree, the places of its features, and the cache of its pages.
 ///
@@ -49,7 +49,7 @@ impl<S: PageStore> TreeIndex<S> {
     ghost use Rattle.legs.specs.Index.{MayRefuse};
     ghost use Rattle.chains.specs.Reads.{OnlyReads};
     ghost use Rattle.boxsearch.specs.Beside.{with_cache};
-    ghost use Rattle.boxsearch.specs.Putting.{Puts, spent_from};
+    ghost use Rattle.boxsearch.specs.Putting.{Puts, PutsAll, spent_from};
 
     /// An index without legs over the pages of a cache. It is sound where the store is faithful, has a page 0, all its
     /// pages are sealed, and the cache counts all of them.
@@ -176,6 +176,24 @@ impl<S: PageStore> TreeIndex<S> {
         prove!(self.cache.count() <= u32::MAX);
         if result.is_ok() {
             self.legs = self.legs.saturating_add(1);
+        }
+        result
+    }
+
+    /// Puts legs of one feature into the tree, at the place of that feature.
+    pub(crate) fn put_all(&mut self, feature: usize, legs: &[Leg]) -> Result<(), TreeFault>
+        requires works { self.old.tree.spent ≡ false }
+        requires feature { feature < length self.old.places }
+        ensures { PutsAll self.old self.new feature legs.now result }
+    {
+        let none = Vec::new(self.alloc);
+        self.known = none;
+        let mut place = self.places[feature];
+        let result = insert_all(&mut self.tree, &mut self.cache, &mut place, legs);
+        self.places[feature] = place;
+        prove!(self.cache.count() <= u32::MAX);
+        if result.is_ok() {
+            self.legs = self.legs.saturating_add(legs.len() as u64);
         }
         result
     }

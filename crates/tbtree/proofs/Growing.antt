@@ -1,5 +1,5 @@
--- The leaf at the end of the way takes the leg.
-use Rattle.std.proofs.Common.{ℕ, zero, suc, ◌/◌, ◌<◌, ◌^◌, ◌≡◌, ◌≢◌, List, [], ◌∷◌, ◌++◌, set, map, length, refl, sym, ap, ◌∙◌, arith, subst, ⊎_elim, Option, Some, None, slice_get}
+-- The leaf at the end of the way takes legs.
+use Rattle.std.proofs.Common.{ℕ, suc, ◌/◌, ◌<◌, ◌^◌, ◌≡◌, ◌≢◌, List, ◌∷◌, ◌++◌, set, map, length, refl, sym, ap, ◌∙◌, arith, subst, ⊎_elim, Option, Some, None, slice_get}
 use Rattle.std.specs.Prelude.{Result, Ok, Err, OnOk, IfErr}
 use Rattle.std.specs.List.{zip}
 use Rattle.std.proofs.Math.Nat.{pow-zero, div-one}
@@ -7,45 +7,41 @@ use Rattle.std.proofs.lemmas.Bool.{cases_eq}
 use Rattle.std.proofs.lemmas.List.{length-set, map-set}
 use Rattle.std.proofs.lemmas.Option.{slice_get_within, slice_get-map}
 use Rattle.legs.specs.Blocks.{groups, level}
-use Rattle.legs.specs.Hull.{Boxes}
+use Rattle.legs.specs.Hull.{Boxes, hull}
 use Rattle.tbtree.proofs.LawfulBoxes.{AreLawful}
-use Rattle.tbtree.specs.Nodes.{Pages, ALeaf, LeafView, Pushes, HasLeafRoom, with_leg}
+use Rattle.tbtree.specs.Nodes.{Pages, ALeaf, LeafView, Pushes, HasLeafRoom, with_legs}
 use Rattle.tbtree.specs.Stands.{page_at, owner, marks, leaf_of, LeavesStand, NumbersStand, TreeStands}
 use Rattle.tbtree.specs.Way.{Going, IsWidened, IsOnWay}
 use Rattle.tbtree.specs.Faults.{IsAllowed}
 use Rattle.tbtree.specs.declared.fault.TreeFault.{TreeFault}
 use Rattle.tbtree.specs.Insert.{Grows}
 use Rattle.tbtree.proofs.GroupLemmas.{some_same}
+use Rattle.tbtree.proofs.RoomLemmas.{set_same}
 use Rattle.tbtree.proofs.Widening.{get-set_same, get-set_other, groups_set, leaf_inner, leaf_same, pow_above}
 use Rattle.tbtree.proofs.WiderLemmas.{becomes_held, wider_grown, keep_inner}
 use Rattle.tbtree.proofs.WayLemmas.{one_level}
 
-set_same : {X : Type 0} (xs : List X) (i : ℕ) (v : X) → slice_get xs i ≡ Some v → set xs i v ≡ xs
-set_same [] i v h = refl
-set_same (x ∷ xs) zero v h = ap (λ z. z ∷ xs) (sym (some_same x v h))
-set_same (x ∷ xs) (suc i) v h = ap (λ l. x ∷ l) (set_same xs i v h)
-
 module _ {L : Type 0} (feature : L → ℕ) where
   -- a leaf that grows keeps its feature, and with it all links
-  pub marks_grown : (runs : List (List L)) (i : ℕ) (x : L) (xs : List L) (y : L) (ps : List ℕ) → slice_get runs i ≡ Some (x ∷ xs) → marks feature (set runs i ((x ∷ xs) ++ y ∷ [])) ps ≡ marks feature runs ps
-  marks_grown runs i x xs y ps e =
+  pub marks_grown : (runs : List (List L)) (i : ℕ) (x : L) (xs ys : List L) (ps : List ℕ) → slice_get runs i ≡ Some (x ∷ xs) → marks feature (set runs i ((x ∷ xs) ++ ys)) ps ≡ marks feature runs ps
+  marks_grown runs i x xs ys ps e =
       let at : slice_get (map (owner feature) runs) i ≡ Some (feature x) = slice_get-map (owner feature) runs i ∙ ap (λ (o : Option (List L)). elim o as (λ _. Option ℕ) [ Some r ↦ Some (owner feature r) | None ↦ None ]) e in
-      ap (λ os. zip os ps) (map-set (owner feature) runs i ((x ∷ xs) ++ y ∷ []) ∙ set_same (map (owner feature) runs) i (feature x) at)
+      ap (λ os. zip os ps) (map-set (owner feature) runs i ((x ∷ xs) ++ ys) ∙ set_same (map (owner feature) runs) i (feature x) at)
 
 module _ {L B : Type 0} (feature : L → ℕ) (inner levels root count : ℕ) (pages : ℕ → List ℕ) where
-  grow_leaves : (runs : List (List L)) (old new : Pages L B) (i c : ℕ) (x : L) (xs : List L) (y : L) → Pushes old c y new → NumbersStand inner levels root count runs pages → page_at pages 0 i ≡ Some c → slice_get runs i ≡ Some (x ∷ xs)
-      → LeavesStand old feature runs (pages 0) → LeavesStand new feature (set runs i ((x ∷ xs) ++ y ∷ [])) (pages 0)
-  grow_leaves runs old new i c x xs y w n at ri v j p r a b =
+  grow_leaves : (runs : List (List L)) (old new : Pages L B) (i c : ℕ) (x : L) (xs ys : List L) → Pushes old c ys new → NumbersStand inner levels root count runs pages → page_at pages 0 i ≡ Some c → slice_get runs i ≡ Some (x ∷ xs)
+      → LeavesStand old feature runs (pages 0) → LeavesStand new feature (set runs i ((x ∷ xs) ++ ys)) (pages 0)
+  grow_leaves runs old new i c x xs ys w n at ri v j p r a b =
       let ps = pages 0 in
-      let run' = (x ∷ xs) ++ y ∷ [] in
-      let m : marks feature (set runs i run') ps ≡ marks feature runs ps = marks_grown feature runs i x xs y ps ri in
+      let run' = (x ∷ xs) ++ ys in
+      let m : marks feature (set runs i run') ps ≡ marks feature runs ps = marks_grown feature runs i x xs ys ps ri in
       ⊎_elim
       (λ (e : j ≡ i).
       let u : p ≡ c = some_same p c (sym a ∙ ap (slice_get ps) e ∙ at) in
       let q : r ≡ run' = some_same r run' (sym b ∙ ap (slice_get (set runs i run')) e ∙ get-set_same runs i run' (x ∷ xs) ri) in
       let was : w.leaf ≡ leaf_of (feature x) (marks feature runs ps) i (x ∷ xs) = leaf_same B _ _ (some_same _ _ (sym w.was ∙ v i c (x ∷ xs) at ri)) in
       ap new.at u ∙ w.becomes.now
-      ∙ ap (λ (l : LeafView L). Some (Some (ALeaf (with_leg y l)))) was
+      ∙ ap (λ (l : LeafView L). Some (Some (ALeaf (with_legs ys l)))) was
       ∙ ap (λ ms. Some (Some (ALeaf (leaf_of (feature x) ms i run')))) (sym m)
       ∙ ap (λ j. Some (Some (ALeaf (leaf_of (feature x) (marks feature (set runs i run') ps) j run')))) (sym e)
       ∙ ap (λ r. Some (Some (ALeaf (leaf_of (owner feature r) (marks feature (set runs i run') ps) j r)))) (sym q))
@@ -56,11 +52,11 @@ module _ {L B : Type 0} (feature : L → ℕ) (inner levels root count : ℕ) (p
       (cases_eq j i)
 
 module _ {L : Type 0} (inner levels root count : ℕ) (pages : ℕ → List ℕ) where
-  grow_numbers : (runs : List (List L)) (i : ℕ) (r : List L) (y : L) → 0 < inner → slice_get runs i ≡ Some r
-      → NumbersStand inner levels root count runs pages → NumbersStand inner levels root count (set runs i (r ++ y ∷ [])) pages
-  grow_numbers runs i r y h ri n =
+  grow_numbers : (runs : List (List L)) (i : ℕ) (r ys : List L) → 0 < inner → slice_get runs i ≡ Some r
+      → NumbersStand inner levels root count runs pages → NumbersStand inner levels root count (set runs i (r ++ ys)) pages
+  grow_numbers runs i r ys h ri n =
       let il : i < length runs = slice_get_within runs i r ri in
-      let as_many : (k : ℕ) → length (level inner k (set runs i (r ++ y ∷ []))) ≡ length (level inner k runs) = λ k. ap length (groups_set (inner ^ k) runs i (r ++ y ∷ []) (pow_above inner k h) il) ∙ length-set (groups (inner ^ k) runs) _ _ in
+      let as_many : (k : ℕ) → length (level inner k (set runs i (r ++ ys))) ≡ length (level inner k runs) = λ k. ap length (groups_set (inner ^ k) runs i (r ++ ys) (pow_above inner k h) il) ∙ length-set (groups (inner ^ k) runs) _ _ in
       record {
         page_0 = n.page_0;
         one_each = λ k l. n.one_each k l ∙ sym (as_many k);
@@ -73,52 +69,48 @@ module _ {L : Type 0} (inner levels root count : ℕ) (pages : ℕ → List ℕ)
       }
 
 module _ {L B : Type 0} (s : Boxes L B) (laws : AreLawful s) (feature : L → ℕ) (inner levels root : ℕ) where
-  -- what has run i with y
-  abbrev with : List (List L) → ℕ → L → List L → L → List (List L)
-  with runs i x xs y = set runs i ((x ∷ xs) ++ y ∷ [])
+  -- what has run i with ys
+  abbrev with : List (List L) → ℕ → L → List L → List L → List (List L)
+  with runs i x xs ys = set runs i ((x ∷ xs) ++ ys)
 
   -- the way to the leaf of a run that grows
-  grow_going : (old : Pages L B) (i : ℕ) (y : L) (runs : List (List L)) (pages : ℕ → List ℕ) (x : L) (xs : List L) → 0 < inner → slice_get runs i ≡ Some (x ∷ xs) → TreeStands s feature inner levels root old runs pages
-      → Going s inner levels root old 0 i (s.of y) runs (with runs i x xs y) pages old.count i
-  grow_going old i y runs pages x xs h ri t = record {
+  grow_going : (old : Pages L B) (i : ℕ) (ys : List L) (box : B) (runs : List (List L)) (pages : ℕ → List ℕ) (x : L) (xs : List L) → 0 < inner → hull s ys ≡ Some box → slice_get runs i ≡ Some (x ∷ xs) → TreeStands s feature inner levels root old runs pages
+      → Going s inner levels root old 0 i box runs (with runs i x xs ys) pages old.count i
+  grow_going old i ys box runs pages x xs h b ri t = record {
     block = sym (ap (λ n. i / n) (pow-zero inner) ∙ div-one i);
-    wider = λ k l. wider_grown s laws (inner ^ k) runs i (x ∷ xs) y (pow_above inner k h) ri;
+    wider = λ k l. wider_grown s laws (inner ^ k) runs i (x ∷ xs) ys box (pow_above inner k h) b ri;
     numbers = t.numbers;
     above = λ k l. t.inners k;
   }
 
   -- its page is still as it was
-  grow_leaf : (old mid : Pages L B) (i c : ℕ) (y : L) (runs after : List (List L)) (pages : ℕ → List ℕ) → TreeStands s feature inner levels root old runs pages → IsWidened s inner old mid after pages 0 i c → LeavesStand mid feature runs (pages 0)
-  grow_leaf old mid i c y runs after pages t o j p r a b = o.kept.same p (one_level inner levels root old.count runs pages t.numbers 0 0 j p a (omega arith)) ∙ t.leaves j p r a b
+  grow_leaf : (old mid : Pages L B) (i c : ℕ) (runs after : List (List L)) (pages : ℕ → List ℕ) → TreeStands s feature inner levels root old runs pages → IsWidened s inner old mid after pages 0 i c → LeavesStand mid feature runs (pages 0)
+  grow_leaf old mid i c runs after pages t o j p r a b = o.kept.same p (one_level inner levels root old.count runs pages t.numbers 0 0 j p a (omega arith)) ∙ t.leaves j p r a b
 
-  -- the leaf takes the leg, and the nodes stand for the runs with it
-  grow : (old mid new : Pages L B) (i c : ℕ) (y : L) → 0 < inner → Pushes mid c y new → (runs : List (List L)) (pages : ℕ → List ℕ) (x : L) (xs : List L) → slice_get runs i ≡ Some (x ∷ xs)
-      → TreeStands s feature inner levels root old runs pages → IsWidened s inner old mid (with runs i x xs y) pages 0 i c → TreeStands s feature inner levels root new (with runs i x xs y) pages
-  grow old mid new i c y h w runs pages x xs ri t o =
+  -- the leaf takes the legs, and the nodes stand for the runs with them
+  grow : (old mid new : Pages L B) (i c : ℕ) (ys : List L) → 0 < inner → Pushes mid c ys new → (runs : List (List L)) (pages : ℕ → List ℕ) (x : L) (xs : List L) → slice_get runs i ≡ Some (x ∷ xs)
+      → TreeStands s feature inner levels root old runs pages → IsWidened s inner old mid (with runs i x xs ys) pages 0 i c → TreeStands s feature inner levels root new (with runs i x xs ys) pages
+  grow old mid new i c ys h w runs pages x xs ri t o =
       let n = t.numbers in
       let len : new.count ≡ old.count = w.counted ∙ o.kept.as_many in
-      let v = grow_leaf old mid i c y runs (with runs i x xs y) pages t o in
+      let v = grow_leaf old mid i c runs (with runs i x xs ys) pages t o in
       record {
         held = λ q l e. t.held q (omega (arith, l, len)) (o.kept.held q (becomes_held mid new c q _ w.becomes e).0);
-        numbers = subst (λ z. NumbersStand inner levels root z (with runs i x xs y) pages) (sym len) (grow_numbers inner levels root old.count pages runs i (x ∷ xs) y h ri n);
-        leaves = grow_leaves feature inner levels root old.count pages runs mid new i c x xs y w n o.found ri v;
+        numbers = subst (λ z. NumbersStand inner levels root z (with runs i x xs ys) pages) (sym len) (grow_numbers inner levels root old.count pages runs i (x ∷ xs) ys h ri n);
+        leaves = grow_leaves feature inner levels root old.count pages runs mid new i c x xs ys w n o.found ri v;
         inners = λ k j q a.
             let z = o.above k (omega arith) j q a in
             let u : q ≢ c = λ u. leaf_inner w.leaf z.page (some_same _ _ (sym w.was ∙ ap mid.at (sym u) ∙ z.is)) in
             keep_inner s mid new q (suc k) _ _ (w.becomes.rest q u) z;
       }
 
-  pub grow_way : (old mid new : Pages L B) (i p leaf : ℕ) (y : L) (can : LeafView L → Type 0) (box : B) → 0 < inner → box ≡ s.of y → IsOnWay s inner levels root old mid 0 i box (Ok p)
-      → (res : Result (Unit {0}) TreeFault) → OnOk res (Pushes mid p y new) → (HasLeafRoom mid p leaf can → IfErr res IsAllowed) → Grows s feature inner leaf levels root old new i y can res
-  grow_way old mid new i p leaf y can box h b on (Ok u) w only runs pages x xs ri few takes t =
-      let on' : IsOnWay s inner levels root old mid 0 i (s.of y) (Ok p) = subst (λ z. IsOnWay s inner levels root old mid 0 i z (Ok p)) b on in
-      grow old mid new i p y h w runs pages x xs ri t (on' runs (with runs i x xs y) pages old.count i (grow_going old i y runs pages x xs h ri t))
-  grow_way old mid new i p leaf y can box h b on (Err e) w only runs pages x xs ri few takes t =
-      let on' : IsOnWay s inner levels root old mid 0 i (s.of y) (Ok p) = subst (λ z. IsOnWay s inner levels root old mid 0 i z (Ok p)) b on in
-      let o = on' runs (with runs i x xs y) pages old.count i (grow_going old i y runs pages x xs h ri t) in
-      only (record { above = (t.numbers.within 0 i p o.found).0; leaf = leaf_of (feature x) (marks feature runs (pages 0)) i (x ∷ xs); is = grow_leaf old mid i p y runs (with runs i x xs y) pages t o i p (x ∷ xs) o.found ri; few = few; takes = takes (leaf_of (feature x) (marks feature runs (pages 0)) i (x ∷ xs)) refl refl })
+  pub grow_way : (old mid new : Pages L B) (i p : ℕ) (ys : List L) (can : LeafView L → Type 0) (box : B) → 0 < inner → hull s ys ≡ Some box → IsOnWay s inner levels root old mid 0 i box (Ok p)
+      → (res : Result (Unit {0}) TreeFault) → OnOk res (Pushes mid p ys new) → (HasLeafRoom mid p can → IfErr res IsAllowed) → Grows s feature inner levels root old new i ys can res
+  grow_way old mid new i p ys can box h b on (Ok u) w only runs pages x xs ri takes t =
+      grow old mid new i p ys h w runs pages x xs ri t (on runs (with runs i x xs ys) pages old.count i (grow_going old i ys box runs pages x xs h b ri t))
+  grow_way old mid new i p ys can box h b on (Err e) w only runs pages x xs ri takes t =
+      let o = on runs (with runs i x xs ys) pages old.count i (grow_going old i ys box runs pages x xs h b ri t) in
+      only (record { above = (t.numbers.within 0 i p o.found).0; leaf = leaf_of (feature x) (marks feature runs (pages 0)) i (x ∷ xs); is = grow_leaf old mid i p runs (with runs i x xs ys) pages t o i p (x ∷ xs) o.found ri; takes = takes (leaf_of (feature x) (marks feature runs (pages 0)) i (x ∷ xs)) refl refl })
 
-  pub grow_refused : (old mid new : Pages L B) (i leaf : ℕ) (y : L) (can : LeafView L → Type 0) (box : B) (e : TreeFault) → 0 < inner → box ≡ s.of y → IsOnWay s inner levels root old mid 0 i box (Err e) → Grows s feature inner leaf levels root old new i y can (Err e)
-  grow_refused old mid new i leaf y can box e h b on runs pages x xs ri few takes t =
-      let on' : IsOnWay s inner levels root old mid 0 i (s.of y) (Err e) = subst (λ z. IsOnWay s inner levels root old mid 0 i z (Err e)) b on in
-      on' runs (with runs i x xs y) pages old.count i (grow_going old i y runs pages x xs h ri t)
+  pub grow_refused : (old mid new : Pages L B) (i : ℕ) (ys : List L) (can : LeafView L → Type 0) (box : B) (e : TreeFault) → 0 < inner → hull s ys ≡ Some box → IsOnWay s inner levels root old mid 0 i box (Err e) → Grows s feature inner levels root old new i ys can (Err e)
+  grow_refused old mid new i ys can box e h b on runs pages x xs ri takes t = on runs (with runs i x xs ys) pages old.count i (grow_going old i ys box runs pages x xs h b ri t)

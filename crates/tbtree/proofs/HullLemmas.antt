@@ -20,23 +20,23 @@ module _ {L B : Type 0} (s : Boxes L B) (laws : AreLawful s) where
   both-comm (Some a) None = refl
   both-comm (Some a) (Some b) = ap Some (laws.comm a b)
 
-  pub hull_push : (ls : List L) (y : L) → hull s (ls ++ y ∷ []) ≡ both s (hull s ls) (Some (s.of y))
-  hull_push [] y = refl
-  hull_push (l ∷ ls) y = ap (both s (Some (s.of l))) (hull_push ls y) ∙ sym (both-assoc (Some (s.of l)) (hull s ls) (Some (s.of y)))
+  hull_append : (ls ys : List L) → hull s (ls ++ ys) ≡ both s (hull s ls) (hull s ys)
+  hull_append [] ys = refl
+  hull_append (l ∷ ls) ys = ap (both s (Some (s.of l))) (hull_append ls ys) ∙ sym (both-assoc (Some (s.of l)) (hull s ls) (hull s ys))
 
   -- a new leaf of one leg
   pub hull_of_push : (rs : List (List L)) (y : L) → hull_of s (rs ++ (y ∷ []) ∷ []) ≡ both s (hull_of s rs) (Some (s.of y))
   hull_of_push [] y = refl
   hull_of_push (r ∷ rs) y = ap (both s (hull s r)) (hull_of_push rs y) ∙ sym (both-assoc (hull s r) (hull_of s rs) (Some (s.of y)))
 
-  -- a leg more in one leaf
-  pub hull_of_grown : (rs : List (List L)) (i : ℕ) (r : List L) (y : L) → slice_get rs i ≡ Some r → hull_of s (set rs i (r ++ y ∷ [])) ≡ both s (hull_of s rs) (Some (s.of y))
-  hull_of_grown [] i r y e = absurd (some_none r (sym e))
-  hull_of_grown (q ∷ rs) zero r y e =
-      ap (λ h. both s h (hull_of s rs)) (hull_push r y) ∙ both-assoc (hull s r) (Some (s.of y)) (hull_of s rs)
-      ∙ ap (both s (hull s r)) (both-comm (Some (s.of y)) (hull_of s rs)) ∙ sym (both-assoc (hull s r) (hull_of s rs) (Some (s.of y)))
-      ∙ ap (λ r. both s (both s (hull s r) (hull_of s rs)) (Some (s.of y))) (sym (some_same q r e))
-  hull_of_grown (q ∷ rs) (suc i) r y e = ap (both s (hull s q)) (hull_of_grown rs i r y e) ∙ sym (both-assoc (hull s q) (hull_of s rs) (Some (s.of y)))
+  -- legs more in one leaf
+  pub hull_of_grown : (rs : List (List L)) (i : ℕ) (r ys : List L) → slice_get rs i ≡ Some r → hull_of s (set rs i (r ++ ys)) ≡ both s (hull_of s rs) (hull s ys)
+  hull_of_grown [] i r ys e = absurd (some_none r (sym e))
+  hull_of_grown (q ∷ rs) zero r ys e =
+      ap (λ h. both s h (hull_of s rs)) (hull_append r ys) ∙ both-assoc (hull s r) (hull s ys) (hull_of s rs)
+      ∙ ap (both s (hull s r)) (both-comm (hull s ys) (hull_of s rs)) ∙ sym (both-assoc (hull s r) (hull_of s rs) (hull s ys))
+      ∙ ap (λ r. both s (both s (hull s r) (hull_of s rs)) (hull s ys)) (sym (some_same q r e))
+  hull_of_grown (q ∷ rs) (suc i) r ys e = ap (both s (hull s q)) (hull_of_grown rs i r ys e) ∙ sym (both-assoc (hull s q) (hull_of s rs) (hull s ys))
 
   hull_of-append : (gs rs : List (List L)) → hull_of s (gs ++ rs) ≡ both s (hull_of s gs) (hull_of s rs)
   hull_of-append [] rs = refl

@@ -1,15 +1,16 @@
 -- One leg more, as insert's parts state it.
-use Rattle.std.proofs.Common.{ℕ, zero, suc, ◌+◌, ◌^◌, ◌%◌, ◌/◌, ◌<◌, ◌≤◌, ◌≡◌, ◌≢◌, Bool, List, [], ◌∷◌, ◌++◌, map, length, refl, sym, ap, ◌∙◌, arith, subst, ⊎_elim, Some, slice_get}
+use Rattle.std.proofs.Common.{ℕ, zero, suc, ◌+◌, ◌^◌, ◌%◌, ◌/◌, ◌<◌, ◌≤◌, ◌≡◌, ◌≢◌, All, Bool, List, [], ◌∷◌, ◌++◌, map, length, refl, sym, ap, ◌∙◌, arith, subst, ⊎_elim, Some, slice_get}
 use Rattle.std.specs.Prelude.{Result, Ok, Err, OnOk, ◌-◌, ◌*◌, ◌==◌, set, get_or}
 use Rattle.std.specs.List.{count_by}
 use Rattle.std.proofs.lemmas.Bool.{cases_eq, cases_lt}
 use Rattle.std.proofs.Math.Nat.{pow-zero, mod-one, div-one, zero-mod}
 use Rattle.std.proofs.lemmas.List.{length_push, append-nil, append_assoc}
+use Rattle.std.proofs.lemmas.List.Elements.{All-cons, All-nil}
 use Rattle.legs.specs.Index.{CanFollow, CanFollowInTurn}
-use Rattle.tbnode.specs.Edits.{TakesLeg}
 use Rattle.tbtree.specs.Nodes.{LeafView}
 use Rattle.tbtree.specs.Shape.{IsShape}
-use Rattle.tbtree.proofs.TakeLemmas.{can_join, takes_leg}
+use Rattle.tbtree.specs.Payloads.{TakesLegs}
+use Rattle.tbtree.proofs.TakeLemmas.{can_join, takes_legs}
 use Rattle.tbtree.proofs.LevelLemmas.{low_tree}
 use Rattle.std.proofs.lemmas.Option.{slice_get_within, slice_get-get_or}
 use Rattle.legs.specs.Blocks.{leaves, level}
@@ -20,7 +21,7 @@ use Rattle.tbtree.specs.Nodes.{Pages, HasLeaf}
 use Rattle.tbtree.specs.Stands.{page_at, owner, marks, leaf_of, PlaceStands, NumbersStand, LeavesStand, TreeStands}
 use Rattle.tbtree.specs.Way.{Hanging, Hung, Hangs}
 use Rattle.tbtree.specs.Insert.{Grows, Begins, IsPlace, Inserts}
-use Rattle.tbtree.specs.Joining.{Holds, Joined, Joins}
+use Rattle.tbtree.specs.Joining.{AllJoined, Holds, Joined, Joins, JoinsAll}
 use Rattle.legs.specs.Legs.{LegView}
 use Rattle.tbtree.specs.declared.tree.Place.{Place}
 use Rattle.legs.specs.Boxes.{BoxView}
@@ -116,38 +117,69 @@ legs_below : (n f : ℕ) (legs : List LegView) → 0 < n → count_by (λ l. leg
 legs_below zero f legs h = absurd (omega (arith, h))
 legs_below (suc m) f legs h = few_of_key leg_feature m f legs
 
-inserted : (new : Pages LegView BoxView) (tree tree' : TbTree) (legs : List LegView) (pages : ℕ → List ℕ) (y : LegView) (after : Place) → tree'.shape.leaf ≡ tree.shape.leaf → tree'.shape.inner ≡ tree.shape.inner → Added leg_boxes leg_feature tree.shape.inner tree.shape.leaf tree'.levels tree'.root tree'.leaves new legs pages y after → Joined new tree tree' legs pages y after
-inserted new tree tree' legs pages y after el ei a = record {
+inserted : (new : Pages LegView BoxView) (tree tree' : TbTree) (legs : List LegView) (pages : ℕ → List ℕ) (f : ℕ) (ys : List LegView) (after : Place) → tree'.shape.leaf ≡ tree.shape.leaf → tree'.shape.inner ≡ tree.shape.inner → Added leg_boxes leg_feature tree.shape.inner tree.shape.leaf tree'.levels tree'.root tree'.leaves new legs pages f ys after → AllJoined new tree tree' legs pages f ys after
+inserted new tree tree' legs pages f ys after el ei a = record {
   pages = a.pages;
   stands = record {
-    tree_stands = subst (λ n. TreeStands leg_boxes leg_feature tree'.shape.inner tree'.levels tree'.root new (leaves leg_feature n (legs ++ y ∷ [])) a.pages) (sym el)
-        (subst (λ n. TreeStands leg_boxes leg_feature n tree'.levels tree'.root new (leaves leg_feature tree.shape.leaf (legs ++ y ∷ [])) a.pages) (sym ei) a.tree);
-    leaves_are = a.leaves_are ∙ ap (λ n. length (leaves leg_feature n (legs ++ y ∷ []))) (sym el);
+    tree_stands = subst (λ n. TreeStands leg_boxes leg_feature tree'.shape.inner tree'.levels tree'.root new (leaves leg_feature n (legs ++ ys)) a.pages) (sym el)
+        (subst (λ n. TreeStands leg_boxes leg_feature n tree'.levels tree'.root new (leaves leg_feature tree.shape.leaf (legs ++ ys)) a.pages) (sym ei) a.tree);
+    leaves_are = a.leaves_are ∙ ap (λ n. length (leaves leg_feature n (legs ++ ys))) (sym el);
   };
-  placed = subst (λ n. PlaceStands leg_feature (legs ++ y ∷ []) (marks leg_feature (leaves leg_feature n (legs ++ y ∷ [])) (a.pages 0)) y.feature after) (sym el) a.placed;
-  others = λ f other ne p. subst (λ n. PlaceStands leg_feature (legs ++ y ∷ []) (marks leg_feature (leaves leg_feature n (legs ++ y ∷ [])) (a.pages 0)) f other) (sym el) (a.others f other ne p);
+  placed = subst (λ n. PlaceStands leg_feature (legs ++ ys) (marks leg_feature (leaves leg_feature n (legs ++ ys)) (a.pages 0)) f after) (sym el) a.placed;
+  others = λ g other ne p. subst (λ n. PlaceStands leg_feature (legs ++ ys) (marks leg_feature (leaves leg_feature n (legs ++ ys)) (a.pages 0)) g other) (sym el) (a.others g other ne p);
 }
 
+one_joined : (new : Pages LegView BoxView) (tree tree' : TbTree) (legs : List LegView) (pages : ℕ → List ℕ) (y : LegView) (after : Place) → AllJoined new tree tree' legs pages y.feature (y ∷ []) after → Joined new tree tree' legs pages y after
+one_joined new tree tree' legs pages y after a = record { pages = a.pages; stands = a.stands; placed = a.placed; others = a.others }
+
+one_own : (f : ℕ) (y : LegView) → y.feature ≡ f → All (λ y. y.feature ≡ f) (y ∷ [])
+one_own f y e = All-cons (λ y. y.feature ≡ f) y [] e (All-nil (λ y. y.feature ≡ f))
+
+-- one leg, as a list of legs
+pub joins_one : (old new : Pages LegView BoxView) (tree tree' : TbTree) (place after : Place) (y : LegView) (res : Result (Unit {0}) TreeFault) → JoinsAll old new tree tree' place after (y ∷ []) res → Joins old new tree tree' place after y res
+joins_one old new tree tree' place after y (Ok u) f legs pages st at w = one_joined new tree tree' legs pages y after (f y.feature legs pages st at (one_own y.feature y refl) (w, tt))
+joins_one old new tree tree' place after y (Err x) f legs pages st at w = f y.feature legs pages st at (one_own y.feature y refl) (w, tt)
+
+one_all : (old new : Pages LegView BoxView) (tree tree' : TbTree) (place after : Place) (y : LegView) (res : Result (Unit {0}) TreeFault) → Joins old new tree tree' place after y res → JoinsAll old new tree tree' place after (y ∷ []) res
+one_all old new tree tree' place after y (Ok u) h f legs pages st at all w =
+    let own : y.feature ≡ f = all 0 y (omega arith) in
+    let i = h legs pages st (subst (λ g. IsPlace tree legs pages g place) (sym own) at) w.0 in
+    record {
+      pages = i.pages;
+      stands = i.stands;
+      placed = subst (λ g. IsPlace tree' (legs ++ y ∷ []) i.pages g after) own i.placed;
+      others = λ g other ne p. i.others g other (λ e. ne (e ∙ own)) p;
+    }
+one_all old new tree tree' place after y (Err x) h f legs pages st at all w = h legs pages st (subst (λ g. IsPlace tree legs pages g place) (sym (all 0 y (omega arith))) at) w.0
+
+one_leg : (ys : List LegView) (y : LegView) → length ys ≡ 1 → slice_get ys 0 ≡ Some y → ys ≡ y ∷ []
+one_leg [] y e a = absurd (omega (arith, e))
+one_leg (z ∷ []) y e a = ap (λ z. z ∷ []) (some_same z y a)
+one_leg (z ∷ z' ∷ zs) y e a = absurd (omega (arith, e))
+
+-- what one leg gives, said of the list of it alone
+pub all_of_one : (old new : Pages LegView BoxView) (tree tree' : TbTree) (place after : Place) (ys : List LegView) (y : LegView) (res : Result (Unit {0}) TreeFault) → length ys ≡ 1 → slice_get ys 0 ≡ Some y → Joins old new tree tree' place after y res → JoinsAll old new tree tree' place after ys res
+all_of_one old new tree tree' place after ys y res e a h = subst (λ ys. JoinsAll old new tree tree' place after ys res) (sym (one_leg ys y e a)) (one_all old new tree tree' place after y res h)
+
 -- the feature's last leaf has room
-pub inserts_last : (old new : Pages LegView BoxView) (tree : TbTree) (place after : Place) (y : LegView) (res : Result (Unit {0}) TreeFault) → IsShape tree.shape → 0 < place.legs % tree.shape.leaf → OnOk res (after ≡ record place { legs = place.legs + 1 })
-    → Grows leg_boxes leg_feature tree.shape.inner tree.shape.leaf tree.levels tree.root old new place.last_index y (λ leaf. TakesLeg leaf y) res → Joins old new tree tree place after y res
-inserts_last old new tree place after y res shape h e grows legs pages st at w =
+pub inserts_last : (old new : Pages LegView BoxView) (tree : TbTree) (place after : Place) (ys : List LegView) (res : Result (Unit {0}) TreeFault) → IsShape tree.shape → 0 < place.legs % tree.shape.leaf → place.legs % tree.shape.leaf + length ys ≤ tree.shape.leaf → OnOk res (after ≡ record place { legs = place.legs + length ys })
+    → Grows leg_boxes leg_feature tree.shape.inner tree.levels tree.root old new place.last_index ys (λ leaf. TakesLegs tree.shape.leaf leaf ys) res → JoinsAll old new tree tree place after ys res
+inserts_last old new tree place after ys res shape h room e grows f legs pages st at all w =
     let lf : 0 < tree.shape.leaf = let least = shape.least_leaf in omega (arith, least) in
-    (elim tree.shape.leaf as (λ n. tree.shape.leaf ≡ n → 0 < n → 0 < place.legs % n → Grows leg_boxes leg_feature tree.shape.inner n tree.levels tree.root old new place.last_index y (λ leaf. TakesLeg leaf y) res → TreeStands leg_boxes leg_feature tree.shape.inner tree.levels tree.root old (leaves leg_feature n legs) pages
-    → tree.leaves ≡ length (leaves leg_feature n legs) → PlaceStands leg_feature legs (marks leg_feature (leaves leg_feature n legs) (pages 0)) y.feature place → Gives res (λ _. Joined new tree tree legs pages y after)) [
-      | zero ↦ λ u z h g t l p. absurd (omega (arith, z))
-      | suc m ↦ λ u z h g t l p.
-          let r = last_run leg_boxes leg_feature tree.shape.inner tree.levels tree.root m old.count y place legs pages h t.numbers p in
-          let few : length (r.x ∷ r.xs) < 50 = let most = shape.most_leaf in let short = r.few in omega (arith, u, most, short) in
-          let gives = g (leaves leg_feature (suc m) legs) pages r.x r.xs r.is r.few (λ (leaf : LeafView LegView) of same. takes_leg m legs y place.last_index r.x r.xs leaf w r.is r.owner few of same) t in
-          (elim res as (λ res. OnOk res (after ≡ record place { legs = place.legs + 1 }) → Gives res (λ _. TreeStands leg_boxes leg_feature tree.shape.inner tree.levels tree.root new (set (leaves leg_feature (suc m) legs) place.last_index ((r.x ∷ r.xs) ++ y ∷ [])) pages) → Gives res (λ _. Joined new tree tree legs pages y after)) [
+    (elim tree.shape.leaf as (λ n. tree.shape.leaf ≡ n → 0 < n → 0 < place.legs % n → place.legs % n + length ys ≤ n → Grows leg_boxes leg_feature tree.shape.inner tree.levels tree.root old new place.last_index ys (λ leaf. TakesLegs n leaf ys) res → TreeStands leg_boxes leg_feature tree.shape.inner tree.levels tree.root old (leaves leg_feature n legs) pages
+    → tree.leaves ≡ length (leaves leg_feature n legs) → PlaceStands leg_feature legs (marks leg_feature (leaves leg_feature n legs) (pages 0)) f place → Gives res (λ _. AllJoined new tree tree legs pages f ys after)) [
+      | zero ↦ λ u z h room g t l p. absurd (omega (arith, z))
+      | suc m ↦ λ u z h room g t l p.
+          let r = last_run leg_boxes leg_feature tree.shape.inner tree.levels tree.root m old.count f ys place legs pages all h room t.numbers p in
+          let gives = g (leaves leg_feature (suc m) legs) pages r.x r.xs r.is (λ (leaf : LeafView LegView) of same. takes_legs m (suc m) f legs ys place.last_index r.x r.xs leaf all w r.is r.owner r.few of same) t in
+          (elim res as (λ res. OnOk res (after ≡ record place { legs = place.legs + length ys }) → Gives res (λ _. TreeStands leg_boxes leg_feature tree.shape.inner tree.levels tree.root new (set (leaves leg_feature (suc m) legs) place.last_index ((r.x ∷ r.xs) ++ ys)) pages) → Gives res (λ _. AllJoined new tree tree legs pages f ys after)) [
             | Ok v ↦ λ e gives.
-                inserted new tree tree legs pages y after refl refl
-                (subst (λ n. Added leg_boxes leg_feature tree.shape.inner n tree.levels tree.root tree.leaves new legs pages y after) (sym u)
-                (added_last leg_boxes leg_feature tree.shape.inner tree.levels tree.root m new y place after legs pages tree.leaves h e l p r gives))
+                inserted new tree tree legs pages f ys after refl refl
+                (subst (λ n. Added leg_boxes leg_feature tree.shape.inner n tree.levels tree.root tree.leaves new legs pages f ys after) (sym u)
+                (added_last leg_boxes leg_feature tree.shape.inner tree.levels tree.root m new f ys place after legs pages tree.leaves all h e l p r gives))
             | Err x ↦ λ e gives. gives
           ]) e gives
-    ]) refl lf h grows st.tree_stands st.leaves_are at
+    ]) refl lf h room grows st.tree_stands st.leaves_are at
 
 -- no run of legs is empty
 filled : (n : ℕ) (legs : List LegView) → 0 < n → (i : ℕ) → slice_get (leaves leg_feature n legs) i ≢ Some []
@@ -176,16 +208,16 @@ inserts_begun old mid new tree tree' place after y page box lf h b eb hangs et f
     let lv : tree'.leaves ≡ tree.leaves + 1 = ap (λ (t : TbTree). t.leaves) et in
     let is : page ≡ old.count = b.adds.number in
     let hung = begun_hangs old mid new tree place y page box (Ok (record { root = tree'.root; levels = tree'.levels })) legs pages lf b st at eb hangs in
-    inserted new tree tree' legs pages y after (ap (λ (t : TbTree). t.shape.leaf) et) (ap (λ (t : TbTree). t.shape.inner) et)
+    one_joined new tree tree' legs pages y after (inserted new tree tree' legs pages y.feature (y ∷ []) after (ap (λ (t : TbTree). t.shape.leaf) et) (ap (λ (t : TbTree). t.shape.inner) et)
     ((elim tree.shape.leaf as (λ n. 0 < n → place.legs % n ≡ 0 → TreeStands leg_boxes leg_feature tree.shape.inner tree.levels tree.root old (leaves leg_feature n legs) pages → tree.leaves ≡ length (leaves leg_feature n legs)
     → PlaceStands leg_feature legs (marks leg_feature (leaves leg_feature n legs) (pages 0)) y.feature place → Hung leg_boxes leg_feature tree.shape.inner tree'.levels tree'.root new (leaves leg_feature n legs) y (pages 0) old.count
-    → Added leg_boxes leg_feature tree.shape.inner n tree'.levels tree'.root tree'.leaves new legs pages y after) [
+    → Added leg_boxes leg_feature tree.shape.inner n tree'.levels tree'.root tree'.leaves new legs pages y.feature (y ∷ []) after) [
       | zero ↦ λ z h t l p g. absurd (omega (arith, z))
       | suc m ↦ λ z h t l p g.
-          subst (λ k. Added leg_boxes leg_feature tree.shape.inner (suc m) tree'.levels tree'.root k new legs pages y after) (sym (lv ∙ ap (λ k. k + 1) l))
+          subst (λ k. Added leg_boxes leg_feature tree.shape.inner (suc m) tree'.levels tree'.root k new legs pages y.feature (y ∷ []) after) (sym (lv ∙ ap (λ k. k + 1) l))
           (added_begun leg_boxes leg_feature tree.shape.inner tree.levels tree.root m tree'.levels tree'.root old.count old new y place after legs pages h t p
           (λ z. f0 z ∙ is) f1 (la ∙ is) (ia ∙ l) ga g)
-    ]) lf h st.tree_stands st.leaves_are at hung)
+    ]) lf h st.tree_stands st.leaves_are at hung))
 
 pub hang_not : (old mid new after : Pages LegView BoxView) (tree tree' : TbTree) (place place' : Place) (y : LegView) (page : ℕ) (box : BoxView) (x : TreeFault) → 0 < tree.shape.leaf → Begins leg_feature old place.last y mid page → box ≡ leg_boxes.of y
     → Hangs leg_boxes leg_feature tree.shape.inner tree.levels tree.root mid new 0 tree.leaves page box (Err x) → Joins old after tree tree' place place' y (Err x)
@@ -206,8 +238,8 @@ pub add_not : (old new : Pages LegView BoxView) (tree tree' : TbTree) (place pla
 add_not old new tree tree' place place' y x only legs pages st at w = only (last_leaf old tree place y legs pages st at)
 
 -- no count is past its type
-pub few_enough : (old new : Pages LegView BoxView) (tree tree' : TbTree) (place place' : Place) (y : LegView) (x : TreeFault) → IsShape tree.shape → old.count < 2 ^ 32 → (tree.leaves < old.count → tree.levels < 34 → place.legs < 2 ^ 64 - 1 → ⊥) → Joins old new tree tree' place place' y (Err x)
-few_enough old new tree tree' place place' y x shape few most legs pages st at w =
+pub few_enough : (old new : Pages LegView BoxView) (tree tree' : TbTree) (place place' : Place) (ys : List LegView) (x : TreeFault) → IsShape tree.shape → old.count < 2 ^ 32 → (tree.leaves < old.count → tree.levels < 34 → place.legs < 2 ^ 64 - 51 → ⊥) → JoinsAll old new tree tree' place place' ys (Err x)
+few_enough old new tree tree' place place' ys x shape few most g legs pages st at all w =
     let n = st.tree_stands.numbers in
     let rs = leaves leg_feature tree.shape.leaf legs in
     let lf : 0 < tree.shape.leaf = let least = shape.least_leaf in omega (arith, least) in
@@ -217,13 +249,13 @@ few_enough old new tree tree' place place' y x shape few most legs pages st at w
     (λ (none : length rs ≤ 0). ⊎_elim (λ (h : tree.levels < 34). h) (λ (h : 34 ≤ tree.levels). absurd (let one = n.one_each 0 (omega (arith, h)) in let many = n.below_top 0 (omega (arith, h)) in omega (arith, one, many, lp, none))) (cases_lt tree.levels 34))
     (cases_lt 0 (length rs)) in
     let l = st.leaves_are in
-    let f = legs_below tree.shape.leaf y.feature legs lf in
+    let f = legs_below tree.shape.leaf g legs lf in
     let p : length rs * tree.shape.leaf ≤ (2 ^ 32 - 2) * 50 = mul-le (length rs) tree.shape.leaf (2 ^ 32 - 2) 50 (omega (arith, a, lp, few)) shape.most_leaf in
     absurd (most (omega (arith, a, lp, l)) low (let c = at.legs_are in omega (arith, c, f, p)))
 
 -- a tree without levels has no legs
-pub none_without_levels : (old new : Pages LegView BoxView) (tree tree' : TbTree) (place place' : Place) (y : LegView) (x : TreeFault) → tree.levels ≡ 0 → place.legs % tree.shape.leaf ≢ 0 → Joins old new tree tree' place place' y (Err x)
-none_without_levels old new tree tree' place place' y x e h legs pages st at w =
+pub none_without_levels : (old new : Pages LegView BoxView) (tree tree' : TbTree) (place place' : Place) (ys : List LegView) (x : TreeFault) → tree.levels ≡ 0 → place.legs % tree.shape.leaf ≢ 0 → JoinsAll old new tree tree' place place' ys (Err x)
+none_without_levels old new tree tree' place place' ys x e h f legs pages st at all w =
     let n = st.tree_stands.numbers in
     let above : 0 < place.legs = ⊎_elim (λ (u : place.legs ≡ 0). absurd (h (ap (λ k. k % tree.shape.leaf) u ∙ zero-mod tree.shape.leaf))) (λ (u : place.legs ≢ 0). omega (arith, u)) (cases_eq place.legs 0) in
     let a : slice_get (pages 0) place.last_index ≡ Some place.last = zip-second (map (owner leg_feature) (leaves leg_feature tree.shape.leaf legs)) (pages 0) place.last_index _ (at.last_index above).0 in
@@ -233,12 +265,12 @@ none_without_levels old new tree tree' place place' y x e h legs pages st at w =
 respent : (nodes : Pages LegView BoxView) (tree : TbTree) (b b' : Bool) (legs : List LegView) (pages : ℕ → List ℕ) → Holds nodes (record tree { spent = b }) legs pages → Holds nodes (record tree { spent = b' }) legs pages
 respent nodes tree b b' legs pages v = record { tree_stands = v.tree_stands; leaves_are = v.leaves_are }
 
-pub inserts_spent : (old new : Pages LegView BoxView) (tree tree' : TbTree) (a b b' : Bool) (place after : Place) (y : LegView) (res : Result (Unit {0}) TreeFault) → Joins old new (record tree { spent = a }) tree' place after y res
-    → Joins old new (record tree { spent = b }) (record tree' { spent = b' }) place after y res
-inserts_spent old new tree tree' a b b' place after y (Ok u) f legs pages st at w =
-    let i = f legs pages (respent old tree b a legs pages st) at w in
-    record { pages = i.pages; stands = respent new tree' tree'.spent b' (legs ++ y ∷ []) i.pages i.stands; placed = i.placed; others = i.others }
-inserts_spent old new tree tree' a b b' place after y (Err x) f legs pages st at w = f legs pages (respent old tree b a legs pages st) at w
+pub inserts_spent : (old new : Pages LegView BoxView) (tree tree' : TbTree) (a b b' : Bool) (place after : Place) (ys : List LegView) (res : Result (Unit {0}) TreeFault) → JoinsAll old new (record tree { spent = a }) tree' place after ys res
+    → JoinsAll old new (record tree { spent = b }) (record tree' { spent = b' }) place after ys res
+inserts_spent old new tree tree' a b b' place after ys (Ok u) h f legs pages st at all w =
+    let i = h f legs pages (respent old tree b a legs pages st) at all w in
+    record { pages = i.pages; stands = respent new tree' tree'.spent b' (legs ++ ys) i.pages i.stands; placed = i.placed; others = i.others }
+inserts_spent old new tree tree' a b b' place after ys (Err x) h f legs pages st at all w = h f legs pages (respent old tree b a legs pages st) at all w
 
 -- legs in turn are joined by a leg that may follow them
 pub inserts_joined : (old new : Pages LegView BoxView) (tree tree' : TbTree) (place after : Place) (y : LegView) (res : Result (Unit {0}) TreeFault) → Joins old new tree tree' place after y res → Inserts old new tree tree' place after y res

@@ -41,3 +41,5 @@ pub mod TurnLemmas
 pub mod HeldLemmas
 pub mod BlockOrder
 pub mod TakenOrder
+pub mod FillLemmas
+pub mod FillCosts

@@ -1,9 +1,9 @@
 -- The place of a feature, after one more leg.
-use Rattle.std.proofs.Common.{ℕ, zero, suc, ◌+◌, ◌-◌, ◌%◌, ◌<◌, ◌≤◌, ◌≡◌, ◌≢◌, ◌==◌, true, false, cond, List, [], ◌∷◌, ◌++◌, take, drop, set, get_or, map, length, refl, sym, ap, ◌∙◌, arith, subst, eq-eqb, ⊎_elim, ◌⊎◌, inl, inr, Some, slice_get}
-use Rattle.std.specs.List.{zip, filter}
+use Rattle.std.proofs.Common.{ℕ, zero, suc, ◌+◌, ◌-◌, ◌%◌, ◌<◌, ◌≤◌, ◌≡◌, ◌≢◌, ◌==◌, All, true, false, cond, List, [], ◌∷◌, ◌++◌, take, drop, set, get_or, map, length, refl, sym, ap, ◌∙◌, arith, subst, eq-eqb, ⊎_elim, ◌⊎◌, inl, inr, Some, slice_get}
+use Rattle.std.specs.List.{zip, filter, count_by}
 use Rattle.std.proofs.lemmas.Bool.{cases_eq, cases_lt}
 use Rattle.std.proofs.Math.Nat.{mod-eq_of_lt, pow-zero, div-one}
-use Rattle.std.proofs.lemmas.List.{length-map, append-nil, drop-append-le, drop_all, length_push, length-set}
+use Rattle.std.proofs.lemmas.List.{length-map, append-nil, drop-append-le, drop_all, length_push, length-append, length-set}
 use Rattle.std.proofs.lemmas.Option.{slice_get_within, slice_get-get_or}
 use Rattle.legs.specs.Blocks.{leaves, begins, runs_after, same, groups}
 use Rattle.legs.specs.Hull.{Boxes}
@@ -12,7 +12,7 @@ use Rattle.tbtree.specs.Stands.{owner, marks, pages_of, head_or_zero, last_or, P
 use Rattle.tbtree.specs.Way.{Hung}
 use Rattle.tbtree.specs.declared.tree.Place.{Place}
 use Rattle.tbtree.proofs.GroupLemmas.{some_none, some_same, get-drop, length-groups}
-use Rattle.tbtree.proofs.RoomLemmas.{neq-eqb, runs_last, runs_begun, push_same, push_other}
+use Rattle.tbtree.proofs.RoomLemmas.{neq-eqb, runs_grown, runs_begun, push_same, push_other, count_append, count_all_same, count_all_other}
 use Rattle.tbtree.proofs.BeginLemmas.{get-zip, get-push_last, get-push_other, marks_begun, pages_of-push, length-zip', zip-second}
 use Rattle.tbtree.proofs.Growing.{marks_grown}
 use Rattle.tbtree.proofs.Widening.{get-set_same}
@@ -88,33 +88,33 @@ head-push : (q : ℕ) (xs : List ℕ) → 0 < last_or 0 xs → head_or_zero (xs 
 head-push q [] h = absurd (omega (arith, h))
 head-push q (x ∷ xs) h = refl
 
--- the nodes stand for the legs with y, and each feature has its place
-pub record Added {L B : Type 0} (s : Boxes L B) (feature : L → ℕ) (inner leaf levels root leaves' : ℕ) (new : Pages L B) (legs : List L) (old_pages : ℕ → List ℕ) (y : L) (place : Place) : Type 0 where
+-- the nodes stand for the legs with ys, of the feature f, and each feature has its place
+pub record Added {L B : Type 0} (s : Boxes L B) (feature : L → ℕ) (inner leaf levels root leaves' : ℕ) (new : Pages L B) (legs : List L) (old_pages : ℕ → List ℕ) (f : ℕ) (ys : List L) (place : Place) : Type 0 where
   pub pages : ℕ → List ℕ
-  pub tree : TreeStands s feature inner levels root new (leaves feature leaf (legs ++ y ∷ [])) pages
-  pub leaves_are : leaves' ≡ length (leaves feature leaf (legs ++ y ∷ []))
-  pub placed : PlaceStands feature (legs ++ y ∷ []) (marks feature (leaves feature leaf (legs ++ y ∷ [])) (pages 0)) (feature y) place
-  pub others : (g : ℕ) (other : Place) → g ≢ feature y → PlaceStands feature legs (marks feature (leaves feature leaf legs) (old_pages 0)) g other → PlaceStands feature (legs ++ y ∷ []) (marks feature (leaves feature leaf (legs ++ y ∷ [])) (pages 0)) g other
+  pub tree : TreeStands s feature inner levels root new (leaves feature leaf (legs ++ ys)) pages
+  pub leaves_are : leaves' ≡ length (leaves feature leaf (legs ++ ys))
+  pub placed : PlaceStands feature (legs ++ ys) (marks feature (leaves feature leaf (legs ++ ys)) (pages 0)) f place
+  pub others : (g : ℕ) (other : Place) → g ≢ f → PlaceStands feature legs (marks feature (leaves feature leaf legs) (old_pages 0)) g other → PlaceStands feature (legs ++ ys) (marks feature (leaves feature leaf (legs ++ ys)) (pages 0)) g other
 
--- the run k, which has room, takes y
-pub record LastRun {L : Type 0} (feature : L → ℕ) (n : ℕ) (legs : List L) (y : L) (k : ℕ) : Type 0 where
+-- the run k, which has room, takes ys
+pub record LastRun {L : Type 0} (feature : L → ℕ) (n : ℕ) (legs : List L) (f : ℕ) (ys : List L) (k : ℕ) : Type 0 where
   pub x : L
   pub xs : List L
   pub is : slice_get (leaves feature n legs) k ≡ Some (x ∷ xs)
-  pub owner : feature x ≡ feature y
-  pub few : length (x ∷ xs) < n
-  pub becomes : leaves feature n (legs ++ y ∷ []) ≡ set (leaves feature n legs) k ((x ∷ xs) ++ y ∷ [])
+  pub owner : feature x ≡ f
+  pub few : length (x ∷ xs) + length ys ≤ n
+  pub becomes : leaves feature n (legs ++ ys) ≡ set (leaves feature n legs) k ((x ∷ xs) ++ ys)
 
 module _ {L B : Type 0} (s : Boxes L B) (feature : L → ℕ) (inner levels root : ℕ) where
   above_zero : (n k : ℕ) → 0 < k % suc n → 0 < k
   above_zero n k h = ⊎_elim (λ (u : k ≡ 0). absurd (let z : k % suc n ≡ 0 = ap (λ l. l % suc n) u ∙ mod-eq_of_lt (omega arith) in omega (arith, z, h))) (λ (u : k ≢ 0). omega (arith, u)) (cases_eq k 0)
 
   -- the last leaf of the feature has room
-  pub last_run : (m count : ℕ) (y : L) (place : Place) (legs : List L) (pages : ℕ → List ℕ) → 0 < place.legs % suc m → NumbersStand inner levels root count (leaves feature (suc m) legs) pages
-      → PlaceStands feature legs (marks feature (leaves feature (suc m) legs) (pages 0)) (feature y) place → LastRun feature (suc m) legs y place.last_index
-  last_run m count y place legs pages h numbers at =
+  pub last_run : (m count f : ℕ) (ys : List L) (place : Place) (legs : List L) (pages : ℕ → List ℕ) → All (λ y. feature y ≡ f) ys → 0 < place.legs % suc m → place.legs % suc m + length ys ≤ suc m
+      → NumbersStand inner levels root count (leaves feature (suc m) legs) pages
+      → PlaceStands feature legs (marks feature (leaves feature (suc m) legs) (pages 0)) f place → LastRun feature (suc m) legs f ys place.last_index
+  last_run m count f ys place legs pages all h room numbers at =
       let n = suc m in
-      let f = feature y in
       let rs = leaves feature n legs in
       let ps = pages 0 in
       let ms = marks feature rs ps in
@@ -123,47 +123,50 @@ module _ {L B : Type 0} (s : Boxes L B) (feature : L → ℕ) (inner levels root
       let li = at.last_index (above_zero m place.legs h) in
       let own : slice_get (map (owner feature) rs) k ≡ Some f = zip-first (map (owner feature) rs) ps k (f, place.last) li.0 in
       let kl : k < length rs = (let w = slice_get_within (map (owner feature) rs) k f own in let u = length-map rs (owner feature) in omega (arith, w, u)) in
-      let no : begins feature n legs y ≡ false = neq-eqb _ 0 (λ u. let z : place.legs % n ≡ 0 = ap (λ c. c % n) at.legs_are ∙ u in omega (arith, z, h)) in
+      let c : count_by (λ l. feature l == f) legs % n ≡ place.legs % n = ap (λ c. c % n) (sym at.legs_are) in
       let later : (j : ℕ) (q : List L) → k < j → slice_get rs j ≡ Some q → owner feature q ≢ f = λ j q l a.
       let jl : j < length rs = slice_get_within rs j q a in
       let pj : slice_get ps j ≡ Some (get_or ps j 0) = slice_get-get_or ps j 0 (omega (arith, jl, lp)) in
       let mj : slice_get ms j ≡ Some (owner feature q, get_or ps j 0) = get-zip (map (owner feature) rs) ps j _ _ (get-owner feature rs j q a) pj in
       none_of f (owner feature q) (get_or ps j 0) (drop (suc k) ms) (j - suc k) li.1 (get-drop (suc k) ms (j - suc k) j (omega (arith, l)) ∙ mj) in
-      (elim (get_or rs k []) as (λ r. slice_get rs k ≡ Some r → LastRun feature n legs y k) [
+      (elim (get_or rs k []) as (λ r. slice_get rs k ≡ Some r → LastRun feature n legs f ys k) [
         | [] ↦ λ rk. absurd (run_some feature m [] legs k rk)
         | x ∷ xs ↦ λ rk.
             let o : feature x ≡ f = some_same _ _ (sym (get-owner feature rs k (x ∷ xs) rk) ∙ own) in
-            let eq : leaves feature n (legs ++ y ∷ []) ≡ set rs k ((x ∷ xs) ++ y ∷ []) = runs_last feature n legs y k (x ∷ xs) (omega arith) no rk o later in
-            let short : length ((x ∷ xs) ++ y ∷ []) ≤ n = run_short feature m [] (legs ++ y ∷ []) k ((x ∷ xs) ++ y ∷ []) (ap (λ l. slice_get l k) eq ∙ get-set_same rs k _ (x ∷ xs) rk) in
-            record { x = x; xs = xs; is = rk; owner = o; few = (let u = length_push (x ∷ xs) y in omega (arith, u, short)); becomes = eq }
+            let eq : leaves feature n (legs ++ ys) ≡ set rs k ((x ∷ xs) ++ ys) = runs_grown feature m legs ys k f x xs all (λ _. omega (arith, c, h)) (omega (arith, c, room)) rk o later in
+            let short : length ((x ∷ xs) ++ ys) ≤ n = run_short feature m [] (legs ++ ys) k ((x ∷ xs) ++ ys) (ap (λ l. slice_get l k) eq ∙ get-set_same rs k _ (x ∷ xs) rk) in
+            record { x = x; xs = xs; is = rk; owner = o; few = (let u = length-append (x ∷ xs) ys in omega (arith, u, short)); becomes = eq }
       ]) (slice_get-get_or rs k [] kl)
 
-  pub added_last : (m : ℕ) (new : Pages L B) (y : L) (place after : Place) (legs : List L) (pages : ℕ → List ℕ) (leaves' : ℕ) → 0 < place.legs % suc m → after ≡ record place { legs = place.legs + 1 } → leaves' ≡ length (leaves feature (suc m) legs)
-      → PlaceStands feature legs (marks feature (leaves feature (suc m) legs) (pages 0)) (feature y) place → (r : LastRun feature (suc m) legs y place.last_index)
-      → TreeStands s feature inner levels root new (set (leaves feature (suc m) legs) place.last_index ((r.x ∷ r.xs) ++ y ∷ [])) pages → Added s feature inner (suc m) levels root leaves' new legs pages y after
-  added_last m new y place after legs pages leaves' h e lv at r tree =
+  pub added_last : (m : ℕ) (new : Pages L B) (f : ℕ) (ys : List L) (place after : Place) (legs : List L) (pages : ℕ → List ℕ) (leaves' : ℕ) → All (λ y. feature y ≡ f) ys → 0 < place.legs % suc m → after ≡ record place { legs = place.legs + length ys } → leaves' ≡ length (leaves feature (suc m) legs)
+      → PlaceStands feature legs (marks feature (leaves feature (suc m) legs) (pages 0)) f place → (r : LastRun feature (suc m) legs f ys place.last_index)
+      → TreeStands s feature inner levels root new (set (leaves feature (suc m) legs) place.last_index ((r.x ∷ r.xs) ++ ys)) pages → Added s feature inner (suc m) levels root leaves' new legs pages f ys after
+  added_last m new f ys place after legs pages leaves' all h e lv at r tree =
       let n = suc m in
-      let f = feature y in
       let rs = leaves feature n legs in
       let ps = pages 0 in
       let ms = marks feature rs ps in
-      let li = at.last_index (above_zero m place.legs h) in
-      let mk : marks feature (leaves feature n (legs ++ y ∷ [])) ps ≡ ms = ap (λ rs. marks feature rs ps) r.becomes ∙ marks_grown feature rs place.last_index r.x r.xs y ps r.is in
+      let some = above_zero m place.legs h in
+      let li = at.last_index some in
+      let mk : marks feature (leaves feature n (legs ++ ys)) ps ≡ ms = ap (λ rs. marks feature rs ps) r.becomes ∙ marks_grown feature rs place.last_index r.x r.xs ys ps r.is in
+      let mine : count_by (λ l. feature l == f) (legs ++ ys) ≡ count_by (λ l. feature l == f) legs + length ys = count_append feature m f legs ys ∙ ap (λ k. count_by (λ l. feature l == f) legs + k) (count_all_same feature m f ys all) in
+      let theirs : (g : ℕ) → g ≢ f → count_by (λ l. feature l == g) (legs ++ ys) ≡ count_by (λ l. feature l == g) legs = λ g u.
+      count_append feature m g legs ys ∙ ap (λ k. count_by (λ l. feature l == g) legs + k) (count_all_other feature m f g ys (λ e. u (sym e)) all) ∙ omega arith in
       record {
         pages = pages;
         tree = subst (λ rs. TreeStands s feature inner levels root new rs pages) (sym r.becomes) tree;
         leaves_are = lv ∙ sym (ap length r.becomes ∙ length-set rs place.last_index _);
-        placed = subst (λ ms. PlaceStands feature (legs ++ y ∷ []) ms f after) (sym mk) (subst (λ p. PlaceStands feature (legs ++ y ∷ []) ms f p) (sym e)
-            (record { first = at.first; last = at.last; legs_are = ap (λ c. c + 1) at.legs_are ∙ sym (push_same feature m f legs y refl); last_index = λ _. li; none = λ z. absurd (omega (arith, z)) }));
-        others = λ g other ne p. subst (λ ms. PlaceStands feature (legs ++ y ∷ []) ms g other) (sym mk)
-            (record { first = p.first; last = p.last; legs_are = p.legs_are ∙ sym (push_other feature m g legs y (λ u. ne (sym u))); last_index = p.last_index; none = p.none });
+        placed = subst (λ ms. PlaceStands feature (legs ++ ys) ms f after) (sym mk) (subst (λ p. PlaceStands feature (legs ++ ys) ms f p) (sym e)
+            (record { first = at.first; last = at.last; legs_are = ap (λ c. c + length ys) at.legs_are ∙ sym mine; last_index = λ _. li; none = λ z. absurd (omega (arith, z, some)) }));
+        others = λ g other ne p. subst (λ ms. PlaceStands feature (legs ++ ys) ms g other) (sym mk)
+            (record { first = p.first; last = p.last; legs_are = p.legs_are ∙ sym (theirs g ne); last_index = p.last_index; none = p.none });
       }
 
   -- a leaf of the feature is begun, and its page is hung
   pub added_begun : (m levels' root' count : ℕ) (old new : Pages L B) (y : L) (place after : Place) (legs : List L) (pages : ℕ → List ℕ) → place.legs % suc m ≡ 0
       → TreeStands s feature inner levels root old (leaves feature (suc m) legs) pages → PlaceStands feature legs (marks feature (leaves feature (suc m) legs) (pages 0)) (feature y) place
       → (place.last ≡ 0 → after.first ≡ count) → (0 < place.last → after.first ≡ place.first) → after.last ≡ count → after.last_index ≡ length (leaves feature (suc m) legs) → after.legs ≡ place.legs + 1
-      → Hung s feature inner levels' root' new (leaves feature (suc m) legs) y (pages 0) count → Added s feature inner (suc m) levels' root' (length (leaves feature (suc m) legs) + 1) new legs pages y after
+      → Hung s feature inner levels' root' new (leaves feature (suc m) legs) y (pages 0) count → Added s feature inner (suc m) levels' root' (length (leaves feature (suc m) legs) + 1) new legs pages (feature y) (y ∷ []) after
   added_begun m levels' root' count old new y place after legs pages h tree at f0 f1 la ia ga hung =
       let n = suc m in
       let f = feature y in

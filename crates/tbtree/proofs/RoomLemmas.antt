@@ -1,20 +1,44 @@
 -- Where a leg begins no run, it goes to the end of the last run of its key, which has room.
-use Rattle.std.proofs.Common.{ℕ, zero, suc, ◌+◌, ◌%◌, ◌<◌, ◌≤◌, ◌≡◌, ◌≢◌, ◌==◌, true, false, cond, ◌&&◌, nat_lt, List, [], ◌∷◌, ◌++◌, take, set, length, map, refl, sym, ap, ◌∙◌, arith, append_assoc, lt-ltb, le-ltb, eq-eqb, subst, ⊎_elim, Some, slice_get}
+use Rattle.std.proofs.Common.{ℕ, zero, suc, ◌+◌, ◌%◌, ◌<◌, ◌≤◌, ◌≡◌, ◌≢◌, ◌==◌, ◌/◌, ◌*◌, All, true, false, cond, ◌&&◌, nat_lt, List, [], ◌∷◌, ◌++◌, take, set, length, map, refl, sym, ap, ◌∙◌, arith, append_assoc, lt-ltb, le-ltb, eq-eqb, subst, ⊎_elim, Some, slice_get}
 use Rattle.std.specs.List.{filter, count_by}
 use Rattle.std.proofs.lemmas.List.Sums.{length-filter, sum_by-append, sum_by-cons}
-use Rattle.std.proofs.Math.Nat.{add-mod_right}
+use Rattle.std.proofs.Math.Nat.{add-mod_right, mod-eq_of_lt, mod_self, mul-add-mod_self_right}
+use Rattle.std.proofs.lemmas.Nat.{div-add-mod', mod_below}
 use Rattle.std.proofs.lemmas.Bool.{cases_lt, cases_eq, eqb-true}
 use Rattle.std.proofs.lemmas.List.{take_all, length-take-le, append-nil}
 use Rattle.legs.specs.Blocks.{same, begins, runs_after, runs, grown}
 use Rattle.tbtree.specs.Stands.{owner}
 use Rattle.tbtree.proofs.GroupLemmas.{some_none, some_same}
+use Rattle.tbtree.proofs.Widening.{get-set_same, get-set_other}
 use Rattle.tbtree.proofs.BlockLemmas.{step_of_multiple, runs-push, runs_after-full}
 
 pub neq-eqb : (a b : ℕ) → a ≢ b → (a == b) ≡ false
 neq-eqb a b h = (elim (a == b) as (λ v. (a == b) ≡ v → v ≡ false) [ true ↦ λ e. absurd (h (eqb-true a b e)) | false ↦ λ e. refl ]) refl
 
+-- k more, up to the next multiple
+mod_more : (c k n : ℕ) → (c + k) % n ≡ (c % n + k) % n
+mod_more c k n =
+    let d : c / n * n + c % n ≡ c = div-add-mod' c n in
+    ap (λ a. a % n) (let e : c + k ≡ c / n * n + (c % n + k) = omega (arith, d) in e) ∙ mul-add-mod_self_right (c / n) n (c % n + k)
+
+pub mod_below_next : (c k n : ℕ) → c % n + k < n → (c + k) % n ≡ c % n + k
+mod_below_next c k n l = mod_more c k n ∙ mod-eq_of_lt l
+
+pub mod_at_next : (c k n : ℕ) → c % n + k ≡ n → (c + k) % n ≡ 0
+mod_at_next c k n e = mod_more c k n ∙ ap (λ a. a % n) e ∙ mod_self n
+
+set_set : {X : Type 0} (xs : List X) (i : ℕ) (v w : X) → set (set xs i v) i w ≡ set xs i w
+set_set [] i v w = refl
+set_set (x ∷ xs) zero v w = refl
+set_set (x ∷ xs) (suc i) v w = ap (λ l. x ∷ l) (set_set xs i v w)
+
+pub set_same : {X : Type 0} (xs : List X) (i : ℕ) (v : X) → slice_get xs i ≡ Some v → set xs i v ≡ xs
+set_same [] i v h = refl
+set_same (x ∷ xs) zero v h = ap (λ z. z ∷ xs) (sym (some_same x v h))
+set_same (x ∷ xs) (suc i) v h = ap (λ l. x ∷ l) (set_same xs i v h)
+
 module _ {X : Type 0} (key : X → ℕ) (m : ℕ) where
-  abbrev count : ℕ → List X → ℕ
+  abbrev pub count : ℕ → List X → ℕ
   count f xs = count_by (λ z. key z == f) xs
 
   pub count_cons-same : (f : ℕ) (x : X) (xs : List X) → key x ≡ f → count f (x ∷ xs) ≡ 1 + count f xs
@@ -31,6 +55,15 @@ module _ {X : Type 0} (key : X → ℕ) (m : ℕ) where
 
   pub push_other : (f : ℕ) (b : List X) (x : X) → key x ≢ f → count f (b ++ x ∷ []) ≡ count f b
   push_other f b x e = count_append f b (x ∷ []) ∙ ap (λ k. count f b + k) (count_cons-other f x [] e) ∙ omega arith
+
+  -- elements of one key
+  pub count_all_same : (f : ℕ) (ys : List X) → All (λ y. key y ≡ f) ys → count f ys ≡ length ys
+  count_all_same f [] all = refl
+  count_all_same f (y ∷ ys) all = (let one = count_cons-same f y ys (all 0 y (omega arith)) in let more = count_all_same f ys (λ j d l. all (suc j) d (omega (arith, l))) in omega (arith, one, more))
+
+  pub count_all_other : (f g : ℕ) (ys : List X) → f ≢ g → All (λ y. key y ≡ f) ys → count g ys ≡ 0
+  count_all_other f g [] u all = refl
+  count_all_other f g (y ∷ ys) u all = count_cons-other g y ys (λ e. u (sym (all 0 y (omega arith)) ∙ e)) ∙ count_all_other f g ys u (λ j d l. all (suc j) d (omega (arith, l)))
 
   abbrev Has : ℕ → List X → List X → Type 0
   Has f b xs = (j : ℕ) × (r : List X) × (slice_get (runs_after key (suc m) b xs) j ≡ Some r) × (owner key r ≡ f)
@@ -172,6 +205,36 @@ runs_last key zero xs y i r h n e o none = absurd (omega (arith, h))
 runs_last key (suc m) xs y i r h n e o none =
     runs-push key (suc m) xs y h ∙ ap (λ b. map (grown key (suc m) y) (runs key (suc m) xs) ++ cond b ((y ∷ []) ∷ []) []) n
     ∙ append-nil (map (grown key (suc m) y) (runs key (suc m) xs)) ∙ grow_last key m [] xs y i r n e o none
+
+-- legs of one key that begin no run go there one after another
+pub runs_grown : {X : Type 0} (key : X → ℕ) (m : ℕ) (xs ys : List X) (i f : ℕ) (x : X) (r : List X) → All (λ y. key y ≡ f) ys → (0 < length ys → 0 < count key m f xs % suc m) → count key m f xs % suc m + length ys ≤ suc m
+    → slice_get (runs key (suc m) xs) i ≡ Some (x ∷ r) → key x ≡ f → ((j : ℕ) (q : List X) → i < j → slice_get (runs key (suc m) xs) j ≡ Some q → owner key q ≢ f)
+    → runs key (suc m) (xs ++ ys) ≡ set (runs key (suc m) xs) i ((x ∷ r) ++ ys)
+runs_grown key m xs [] i f x r all there room e o none = ap (runs key (suc m)) (append-nil xs) ∙ sym (ap (set (runs key (suc m) xs) i) (append-nil (x ∷ r)) ∙ set_same (runs key (suc m) xs) i (x ∷ r) e)
+runs_grown {X} key m xs (y ∷ ys) i f x r all there room e o none =
+    let n = suc m in
+    let c = count key m f xs in
+    let rs = runs key n xs in
+    let rs' = set rs i ((x ∷ r) ++ y ∷ []) in
+    let k : key y ≡ f = all 0 y (omega arith) in
+    let above : 0 < c % n = there (omega arith) in
+    let no : begins key n xs y ≡ false = neq-eqb _ 0 (λ (u : count key m (key y) xs % n ≡ 0). let z : c % n ≡ 0 = ap (λ g. count key m g xs % n) (sym k) ∙ u in omega (arith, z, above)) in
+    let one : runs key n (xs ++ y ∷ []) ≡ rs' = runs_last key n xs y i (x ∷ r) (omega arith) no e (o ∙ sym k) (λ j q l a u. none j q l a (u ∙ k)) in
+    let more : count key m f (xs ++ y ∷ []) ≡ c + 1 = push_same key m f xs y k in
+    let next : c % n + 1 < n → count key m f (xs ++ y ∷ []) % n ≡ c % n + 1 = λ l. ap (λ a. a % n) more ∙ mod_below_next c 1 n l in
+    let there' : 0 < length ys → 0 < count key m f (xs ++ y ∷ []) % n = λ l. let z = next (omega (arith, l, room)) in omega (arith, z) in
+    let room' : count key m f (xs ++ y ∷ []) % n + length ys ≤ n = ⊎_elim
+    (λ (l : 0 < length ys). let z = next (omega (arith, l, room)) in omega (arith, z, room))
+    (λ (l : length ys ≤ 0). let z = mod_below (count key m f (xs ++ y ∷ [])) n (omega arith) in omega (arith, l, z))
+    (cases_lt 0 (length ys)) in
+    let at : slice_get (runs key n (xs ++ y ∷ [])) i ≡ Some (x ∷ (r ++ y ∷ [])) = ap (λ l. slice_get l i) one ∙ get-set_same rs i ((x ∷ r) ++ y ∷ []) (x ∷ r) e in
+    let none' : (j : ℕ) (q : List X) → i < j → slice_get (runs key n (xs ++ y ∷ [])) j ≡ Some q → owner key q ≢ f =
+    λ j q l a. none j q l (sym (get-set_other rs i j ((x ∷ r) ++ y ∷ []) (λ u. omega (arith, l, u))) ∙ ap (λ l. slice_get l j) (sym one) ∙ a) in
+    ap (runs key n) (sym (append_assoc xs (y ∷ []) ys))
+    ∙ runs_grown key m (xs ++ y ∷ []) ys i f x (r ++ y ∷ []) (λ j d l. all (suc j) d (omega (arith, l))) there' room' at o none'
+    ∙ ap (λ l. set l i ((x ∷ (r ++ y ∷ [])) ++ ys)) one
+    ∙ set_set rs i ((x ∷ r) ++ y ∷ []) ((x ∷ (r ++ y ∷ [])) ++ ys)
+    ∙ ap (λ l. set rs i (x ∷ l)) (append_assoc r (y ∷ []) ys)
 
 -- a leg that begins a run begins it at the end, and no other changes
 pub runs_begun : {X : Type 0} (key : X → ℕ) (n : ℕ) (xs : List X) (y : X) → 0 < n → begins key n xs y ≡ true → runs key n (xs ++ y ∷ []) ≡ runs key n xs ++ (y ∷ []) ∷ []

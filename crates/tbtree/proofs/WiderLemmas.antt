@@ -4,7 +4,7 @@ use Rattle.std.proofs.lemmas.Nat.{div-add-mod'}
 use Rattle.std.proofs.lemmas.Bool.{cases_eq}
 use Rattle.std.proofs.lemmas.Option.{slice_get_within}
 use Rattle.legs.specs.Blocks.{groups, block}
-use Rattle.legs.specs.Hull.{Boxes, both, hull_of}
+use Rattle.legs.specs.Hull.{Boxes, both, hull, hull_of}
 use Rattle.tbtree.proofs.LawfulBoxes.{AreLawful}
 use Rattle.tbtree.specs.Nodes.{Pages, Node, Becomes, InnerView, children, boxes, with_wider, Widens}
 use Rattle.tbtree.specs.Stands.{page_at, NumbersStand, InnerStands, LevelStands}
@@ -26,16 +26,16 @@ module _ {L B : Type 0} (s : Boxes L B) (laws : AreLawful s) where
   }
 
   -- a leaf that grows
-  pub wider_grown : (m : ℕ) (runs : List (List L)) (i : ℕ) (r : List L) (y : L) → 0 < m → slice_get runs i ≡ Some r → Wider s m runs (set runs i (r ++ y ∷ [])) (i / m) (s.of y)
-  wider_grown m runs i r y h e =
+  pub wider_grown : (m : ℕ) (runs : List (List L)) (i : ℕ) (r ys : List L) (box : B) → 0 < m → hull s ys ≡ Some box → slice_get runs i ≡ Some r → Wider s m runs (set runs i (r ++ ys)) (i / m) box
+  wider_grown m runs i r ys box h b e =
       let il : i < length runs = slice_get_within runs i r e in
       let d : i / m * m + i % m ≡ i = div-add-mod' i m in
       record {
         was = block m (i / m) runs;
-        is = set (block m (i / m) runs) (i % m) (r ++ y ∷ []);
+        is = set (block m (i / m) runs) (i % m) (r ++ ys);
         found = group_is m runs (i / m) h (omega (arith, d, il));
-        becomes = groups_set m runs i (r ++ y ∷ []) h il;
-        holds = hull_of_grown s laws (block m (i / m) runs) (i % m) r y (get-block m runs i h ∙ e);
+        becomes = groups_set m runs i (r ++ ys) h il;
+        holds = hull_of_grown s laws (block m (i / m) runs) (i % m) r ys (get-block m runs i h ∙ e) ∙ ap (both s (hull_of s (block m (i / m) runs))) b;
       }
 
 -- a page that has become a node is not without one

@@ -12,15 +12,14 @@ use Rattle.tbtree.specs.declared.tree.Place.{Place}
 use Rattle.tbtree.specs.declared.tree.TbTree.{TbTree}
 use Rattle.tbtree.specs.declared.fault.TreeFault.{TreeFault}
 
--- pages that stood for runs stand for them with y at the end of run i, which has room and may take it
-abbrev pub Grows : {L B : Type 0} (s : Boxes L B) (feature : L → ℕ) (inner leaf levels root : ℕ) (old new : Pages L B) (i : ℕ) (y : L) (can : LeafView L → Type 0) (result : Result (Unit {0}) TreeFault) → Type 0
-Grows {L = L} s feature inner leaf levels root old new i y can result =
+-- pages that stood for runs stand for them with ys at the end of run i, which may take them
+abbrev pub Grows : {L B : Type 0} (s : Boxes L B) (feature : L → ℕ) (inner levels root : ℕ) (old new : Pages L B) (i : ℕ) (ys : List L) (can : LeafView L → Type 0) (result : Result (Unit {0}) TreeFault) → Type 0
+Grows {L = L} s feature inner levels root old new i ys can result =
     (runs : List (List L)) (pages : ℕ → List ℕ) (x : L) (xs : List L)
     → slice_get runs i ≡ Some (x ∷ xs)
-    → length (x ∷ xs) < leaf
     → ((l : LeafView L) → l.feature ≡ feature x → l.legs ≡ x ∷ xs → can l)
     → TreeStands s feature inner levels root old runs pages
-    → Gives result (λ _. TreeStands s feature inner levels root new (set runs i ((x ∷ xs) ++ y ∷ [])) pages)
+    → Gives result (λ _. TreeStands s feature inner levels root new (set runs i ((x ∷ xs) ++ ys)) pages)
 
 -- a leaf of y alone has been made, whose page is p, and the leaf last, where there is one, has it as its next
 pub record Begins {L B : Type 0} (feature : L → ℕ) (old : Pages L B) (last : ℕ) (y : L) (new : Pages L B) (p : ℕ) : Type 0 where

@@ -38,6 +38,27 @@ Joins old new tree tree' place place' y result =
     → CanJoin legs y
     → Gives result (λ _. Joined new tree tree' legs pages y place')
 
+-- legs of one feature may join legs, one after another
+abbrev pub CanJoinInTurn : List LegView → List LegView → Type 0
+CanJoinInTurn legs [] = Unit {0}
+CanJoinInTurn legs (y ∷ ys) = CanJoin legs y × CanJoinInTurn (legs ++ y ∷ []) ys
+
+-- they hold the legs with ys, of the feature f, at the end, and each feature has its place
+pub record AllJoined (nodes : Pages LegView BoxView) (old tree : TbTree) (legs : List LegView) (old_pages : ℕ → List ℕ) (f : ℕ) (ys : List LegView) (place : Place) : Type 0 where
+  pub pages : ℕ → List ℕ
+  pub stands : Holds nodes tree (legs ++ ys) pages
+  pub placed : IsPlace tree (legs ++ ys) pages f place
+  pub others : (g : ℕ) (other : Place) → g ≢ f → IsPlace old legs old_pages g other → IsPlace tree (legs ++ ys) pages g other
+
+abbrev pub JoinsAll : (old new : Pages LegView BoxView) (tree tree' : TbTree) (place place' : Place) (ys : List LegView) (result : Result (Unit {0}) TreeFault) → Type 0
+JoinsAll old new tree tree' place place' ys result =
+    (f : ℕ) (legs : List LegView) (pages : ℕ → List ℕ)
+    → Holds old tree legs pages
+    → IsPlace tree legs pages f place
+    → All (λ y. y.feature ≡ f) ys
+    → CanJoinInTurn legs ys
+    → Gives result (λ _. AllJoined new tree tree' legs pages f ys place')
+
 -- a leg may be put into the index of some legs: it may join them, and its feature is there, or is the next one
 pub record CanTake (legs : List LegView) (leg : LegView) : Type 0 where
   pub joins : CanJoin legs leg

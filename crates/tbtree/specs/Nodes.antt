@@ -1,11 +1,11 @@
 -- The pages of a tree.
-use Rattle.std.specs.Prelude.{ℕ, ◌≡◌, ◌≢◌, ◌+◌, ◌<◌, length, List, [], ◌∷◌, map, slice_get, Option, Some, None, option_map}
+use Rattle.std.specs.Prelude.{ℕ, ◌≡◌, ◌≢◌, ◌+◌, ◌<◌, length, List, [], ◌∷◌, ◌++◌, map, slice_get, Option, Some, None, option_map}
 use Rattle.legs.specs.Legs.{LegView}
 use Rattle.legs.specs.Boxes.{BoxView}
 use Rattle.legs.specs.Hull.{Boxes, hull, both}
 use Rattle.pagecache.specs.Cache.{Cache, payload_of}
 use Rattle.tbnode.specs.Form.{node_of}
-pub use Rattle.tbnode.specs.Nodes.{LeafView, EntryView, InnerView, Node, ALeaf, AnInner, with_leg, with_next, with_entry, with_wider, widened}
+pub use Rattle.tbnode.specs.Nodes.{LeafView, EntryView, InnerView, Node, ALeaf, AnInner, with_next, with_entry, with_wider, widened}
 
 -- the pages below an inner page, and their boxes
 abbrev pub children : {B : Type 0} → InnerView B → List ℕ
@@ -56,11 +56,15 @@ module _ {L B : Type 0} (s : Boxes L B) where
     pub rest : (q : ℕ) → new.at q ≡ old.at q
     pub counted : new.count ≡ old.count
 
--- the leaf p has y at its end
-pub record Pushes {L B : Type 0} (old : Pages L B) (p : ℕ) (y : L) (new : Pages L B) : Type 0 where
+-- a leaf with legs more at its end
+abbrev pub with_legs : {L : Type 0} → List L → LeafView L → LeafView L
+with_legs legs leaf = record leaf { legs = leaf.legs ++ legs }
+
+-- the leaf p has ys at its end
+pub record Pushes {L B : Type 0} (old : Pages L B) (p : ℕ) (ys : List L) (new : Pages L B) : Type 0 where
   pub leaf : LeafView L
   pub was : old.at p ≡ Some (Some (ALeaf leaf))
-  pub becomes : Becomes old p (ALeaf (with_leg y leaf)) new
+  pub becomes : Becomes old p (ALeaf (with_legs ys leaf)) new
   pub counted : new.count ≡ old.count
 
 -- the leaf p has q as its next
@@ -106,12 +110,11 @@ pub record HasLeaf {L B : Type 0} (nodes : Pages L B) (p : ℕ) : Type 0 where
   pub leaf : LeafView L
   pub is : nodes.at p ≡ Some (Some (ALeaf leaf))
 
--- the page p is a leaf that may take a leg more
-pub record HasLeafRoom {L B : Type 0} (nodes : Pages L B) (p most : ℕ) (can : LeafView L → Type 0) : Type 0 where
+-- the page p is a leaf that may take what it is to take
+pub record HasLeafRoom {L B : Type 0} (nodes : Pages L B) (p : ℕ) (can : LeafView L → Type 0) : Type 0 where
   pub above : 0 < p
   pub leaf : LeafView L
   pub is : nodes.at p ≡ Some (Some (ALeaf leaf))
-  pub few : length leaf.legs < most
   pub takes : can leaf
 
 -- the page p has something

@@ -1,10 +1,9 @@
 -- Helpers of private functions: what the private calls on one payload say of its node.
-use Rattle.std.specs.Prelude.{ℕ, ◌≡◌, ◌<◌, length, slice_get, Option, Some, None}
+use Rattle.std.specs.Prelude.{ℕ, ◌≡◌, ◌<◌, ◌≤◌, ◌+◌, ◌-◌, ◌==◌, ◌&&◌, nat_lt, Bool, true, List, [], ◌∷◌, length, slice_get, Option, Some, None}
 use Rattle.legs.specs.Legs.{LegView}
 use Rattle.legs.specs.Boxes.{BoxView}
 use Rattle.legs.specs.Hull.{leg_boxes}
-use Rattle.tbnode.specs.Edits.{TakesLeg}
-use Rattle.tbtree.specs.Nodes.{Node, ALeaf, AnInner, LeafView, InnerView, children, cover_of_page}
+use Rattle.tbtree.specs.Nodes.{Node, ALeaf, AnInner, LeafView, InnerView, children, cover_of_page, with_legs}
 
 -- the node is an inner page of the level, whose entry e has that child
 pub record IsEntry (node : Option (Node LegView BoxView)) (level e child : ℕ) : Type 0 where
@@ -23,12 +22,27 @@ pub record IsLeafNode (node : Option (Node LegView BoxView)) : Type 0 where
   pub leaf : LeafView LegView
   pub is : node ≡ Some (ALeaf leaf)
 
--- the node is a leaf of less than most legs that takes a leg
-pub record Takes (node : Option (Node LegView BoxView)) (most : ℕ) (leg : LegView) : Type 0 where
+-- each leg is of the feature, and its ordinal is above that of the one before it, the first one's above a number
+abbrev pub goes_on : ℕ → ℕ → List LegView → Bool
+goes_on feature ordinal [] = true
+goes_on feature ordinal (leg ∷ legs) = (leg.feature == feature) && (nat_lt ordinal leg.ordinal && goes_on feature leg.ordinal legs)
+
+-- the legs can be the next ones of a leaf, which then has at most so many: they are of its feature, and their ordinals rise from above its last leg's
+pub record TakesLegs (most : ℕ) (leaf : LeafView LegView) (legs : List LegView) : Type 0 where
+  pub room : length leaf.legs + length legs ≤ most
+  pub last : LegView
+  pub is_last : slice_get leaf.legs (length leaf.legs - 1) ≡ Some last
+  pub go_on : goes_on leaf.feature last.ordinal legs ≡ true
+
+-- the node is a leaf that takes legs
+pub record Takes (node : Option (Node LegView BoxView)) (most : ℕ) (legs : List LegView) : Type 0 where
   pub leaf : LeafView LegView
   pub is : node ≡ Some (ALeaf leaf)
-  pub few : length leaf.legs < most
-  pub takes : TakesLeg leaf leg
+  pub takes : TakesLegs most leaf legs
+
+-- the leaf with legs more
+abbrev pub leaf_with_legs : List LegView → LeafView LegView → Node LegView BoxView
+leaf_with_legs legs leaf = ALeaf (with_legs legs leaf)
 
 -- the node is an inner page of the level with less than most entries
 pub record IsRoomy (node : Option (Node LegView BoxView)) (level most : ℕ) : Type 0 where

@@ -1,19 +1,20 @@
 //! Insertion.
-ghost use Rattle.std.specs.Prelude.{ℕ, [], None, ◌≢◌, ◌≡◌, ◌<◌, ◌≤◌, ◌+◌, ◌-◌, ◌*◌, ◌%◌, ◌^◌, IfOk, IfErr, OnOk, OnErr, IsTrue, false, true, Err};
+ghost use Rattle.std.specs.Prelude.{ℕ, [], None, length, ◌≢◌, ◌≡◌, ◌<◌, ◌≤◌, ◌+◌, ◌-◌, ◌*◌, ◌%◌, ◌^◌, IfOk, IfErr, OnOk, OnErr, IsTrue, false, true, Err};
 ghost use Rattle.legs.specs.Costs.{leg_feature};
 ghost use Rattle.legs.specs.Hull.{leg_boxes};
-ghost use Rattle.tbnode.specs.Edits.{TakesLeg};
 ghost use Rattle.tbtree.specs.Faults.{IsAllowed, IsCaused};
 ghost use Rattle.tbtree.specs.Nodes.{pages_of_cache, HasLeaf};
 ghost use Rattle.tbtree.specs.Passes.{Passes, KeepsLength};
 ghost use Rattle.tbtree.specs.Way.{IsOnWay, Hangs};
 ghost use Rattle.tbtree.specs.Insert.{Grows, Begins, Inserts};
-ghost use Rattle.tbtree.specs.Joining.{Joins};
+ghost use Rattle.tbtree.specs.Joining.{Joins, JoinsAll};
+ghost use Rattle.tbtree.specs.Payloads.{TakesLegs};
 ghost use Rattle.tbtree.specs.Shape.{IsShape};
 ghost use Rattle.tbtree.specs.declared.fault.TreeFault.{TreeFault};
 
 use crate::fault::TreeFault;
 use crate::nodes;
+use crate::payloads::cover_of_legs;
 use crate::tree::{Place, TbTree, Top};
 use legs::{Box3, Leg};
 use pagecache::PageCache;
@@ -50,29 +51,30 @@ fn way<S: PageStore>(
     nodes::widen(cache, parent, level + 1, (at % inner) as usize, bounds)
 }
 
-/// Puts a leg at the end of the leaf of that number, which has room, and widens the boxes above it.
+/// Puts legs at the end of the leaf of that number, which has room, and widens the boxes above it once for all of them.
 #[tactic(auto, using(crate::proofs::PassLemmas::passing))]
-pub(crate) fn into_leaf<S: PageStore>(
+fn into_leaf<S: PageStore>(
     cache: &mut PageCache<S>,
     tree: &TbTree,
     number: u32,
-    leg: &Leg,
+    legs: &[Leg],
 ) -> Result<(), TreeFault>
     requires levels { 0 < tree.now.levels }
     requires few { tree.now.levels < 2 ^ 16 }
+    requires some { 0 < length legs.now }
     ensures grows { IsTrue cache.old.store.is_faithful
-        → Grows leg_boxes leg_feature tree.now.shape.inner tree.now.shape.leaf tree.now.levels
-        tree.now.root (pages_of_cache cache.old) (pages_of_cache cache.new) number leg.now
-        (λ leaf. TakesLeg leaf leg.now) result }
+        → Grows leg_boxes leg_feature tree.now.shape.inner tree.now.levels tree.now.root
+        (pages_of_cache cache.old) (pages_of_cache cache.new) number legs.now
+        (λ leaf. TakesLegs tree.now.shape.leaf leaf legs.now) result }
     ensures passes { Passes cache.old cache.new }
     ensures length { OnOk result (KeepsLength cache.old cache.new) }
     ensures caused { IfErr result (IsCaused cache.old cache.new) }
     ensures asked { cache.new.asked ≤ cache.old.asked + tree.now.levels }
 {
     let most = tree.shape.leaf();
-    let bounds = Box3::of(leg);
+    let bounds = cover_of_legs(legs);
     let page = way(cache, tree, number, 0, &bounds)?;
-    nodes::push_leg(cache, page, most, leg)
+    nodes::grow(cache, page, most, legs)
 }
 
 /// Makes a root above the old one, which is of that level, and a new block beside it.
@@ -128,6 +130,7 @@ fn hang<S: PageStore>(
     ensures caused { IfErr result (IsCaused cache.old cache.new) }
     ensures asked { IfOk result (λ top. cache.new.asked + 2 * level + 1
         ≤ cache.old.asked + 2 * top.levels) }
+    ensures higher { IfOk result (λ top. tree.now.levels ≤ top.levels) }
 {
     let inner = u32::from(tree.shape.inner());
     if u32::from(level) + 1 == tree.levels {
@@ -149,28 +152,32 @@ fn hang<S: PageStore>(
     })
 }
 
-/// Puts a leg into its feature's last leaf, which has room.
+/// Puts legs into their feature's last leaf, which has room for them.
 fn into_last<S: PageStore>(
     cache: &mut PageCache<S>,
     tree: &TbTree,
     place: &mut Place,
-    leg: &Leg,
+    legs: &[Leg],
 ) -> Result<(), TreeFault>
     requires levels { 0 < tree.now.levels }
     requires few { tree.now.levels < 2 ^ 16 }
     requires shape { IsShape tree.now.shape }
-    requires room { 0 < place.old.legs % tree.now.shape.leaf }
-    requires few_legs { place.old.legs < 2 ^ 64 - 1 }
+    requires some { 0 < length legs.now }
+    requires there { 0 < place.old.legs % tree.now.shape.leaf }
+    requires room { place.old.legs % tree.now.shape.leaf + length legs.now
+        ≤ tree.now.shape.leaf }
+    requires few_legs { place.old.legs + length legs.now < 2 ^ 64 }
     ensures inserts { IsTrue cache.old.store.is_faithful
-        → Joins (pages_of_cache cache.old) (pages_of_cache cache.new) tree.now tree.now
-        place.old place.new leg.now result }
+        → JoinsAll (pages_of_cache cache.old) (pages_of_cache cache.new) tree.now tree.now
+        place.old place.new legs.now result }
+    ensures legs { OnOk result (place.new.legs ≡ place.old.legs + length legs.now) }
     ensures passes { Passes cache.old cache.new }
     ensures length { OnOk result (KeepsLength cache.old cache.new) }
     ensures caused { IfErr result (IsCaused cache.old cache.new) }
     ensures asked { cache.new.asked ≤ cache.old.asked + tree.now.levels }
 {
-    into_leaf(cache, tree, place.last_index, leg)?;
-    place.legs += 1;
+    into_leaf(cache, tree, place.last_index, legs)?;
+    place.legs += legs.len() as u64;
     Ok(())
 }
 
@@ -211,6 +218,7 @@ fn hang_leaf<S: PageStore>(
     ensures length { OnOk result (KeepsLength cache.old cache.new) }
     ensures caused { IfErr result (IsCaused cache.old cache.new) }
     ensures asked { IfOk result (λ top. cache.new.asked + 1 ≤ cache.old.asked + 2 * top.levels) }
+    ensures higher { IfOk result (λ top. tree.now.levels ≤ top.levels) }
 {
     if tree.levels == 0 {
         return Ok(Top {
@@ -244,6 +252,9 @@ fn begin<S: PageStore>(
     ensures caused { IfErr result (IsCaused cache.old cache.new) }
     ensures asked { OnOk result (cache.new.asked
         ≤ cache.old.asked + (2 * tree.new.levels + 2)) }
+    ensures higher { OnOk result (tree.old.levels ≤ tree.new.levels) }
+    ensures leaves { OnOk result (tree.new.leaves ≡ tree.old.leaves + 1) }
+    ensures legs { OnOk result (place.new.legs ≡ place.old.legs + 1) }
 {
     let page = add_last(cache, place.last, leg)?;
     let bounds = Box3::of(leg);
@@ -265,16 +276,20 @@ fn begin<S: PageStore>(
     Ok(())
 }
 
-/// Puts a leg into its feature's last leaf, or into a new one.
-fn put<S: PageStore>(
+/// Puts legs into their feature's last leaf, which has room for them, or one leg into a new one.
+pub(crate) fn put<S: PageStore>(
     tree: &mut TbTree,
     cache: &mut PageCache<S>,
     place: &mut Place,
-    leg: &Leg,
+    legs: &[Leg],
 ) -> Result<(), TreeFault>
+    requires some { 0 < length legs.now }
+    requires there { 1 < length legs.now → 0 < place.old.legs % tree.old.shape.leaf }
+    requires room { 1 < length legs.now → place.old.legs % tree.old.shape.leaf + length legs.now
+        ≤ tree.old.shape.leaf }
     ensures inserts { IsTrue cache.old.store.is_faithful
-        → Joins (pages_of_cache cache.old) (pages_of_cache cache.new) tree.old tree.new
-        place.old place.new leg.now result }
+        → JoinsAll (pages_of_cache cache.old) (pages_of_cache cache.new) tree.old tree.new
+        place.old place.new legs.now result }
     ensures spent { tree.new.spent ≡ tree.old.spent }
     ensures shape { tree.new.shape ≡ tree.old.shape }
     ensures passes { Passes cache.old cache.new }
@@ -282,18 +297,28 @@ fn put<S: PageStore>(
     ensures caused { IfErr result (IsCaused cache.old cache.new) }
     ensures asked { OnOk result (cache.new.asked
         ≤ cache.old.asked + (2 * (tree.new.levels - 1) + 4)) }
+    ensures higher { OnOk result (tree.old.levels ≤ tree.new.levels) }
+    ensures legs { OnOk result (place.new.legs ≡ place.old.legs + length legs.now) }
+    ensures begun { place.old.legs % tree.old.shape.leaf ≡ 0
+        → OnOk result (tree.new.leaves ≡ tree.old.leaves + 1) }
+    ensures grown { 0 < place.old.legs % tree.old.shape.leaf
+        → OnOk result (tree.new.leaves ≡ tree.old.leaves) }
+    ensures begun_asked { place.old.legs % tree.old.shape.leaf ≡ 0
+        → OnOk result (cache.new.asked ≤ cache.old.asked + (2 * tree.new.levels + 2)) }
+    ensures grown_asked { 0 < place.old.legs % tree.old.shape.leaf
+        → OnOk result (cache.new.asked ≤ cache.old.asked + tree.old.levels) }
 {
     let leaf = u64::from(tree.shape.leaf());
-    if tree.leaves >= cache.count() || tree.levels >= MOST_LEVELS || place.legs == u64::MAX {
+    if tree.leaves >= cache.count() || tree.levels >= MOST_LEVELS || place.legs > u64::MAX - leaf {
         return Err(TreeFault::Malformed(tree.root));
     }
     if place.legs % leaf == 0 {
-        return begin(tree, cache, place, leg);
+        return begin(tree, cache, place, &legs[0]);
     }
     if tree.levels == 0 {
         return Err(TreeFault::Malformed(place.last));
     }
-    into_last(cache, tree, place, leg)
+    into_last(cache, tree, place, legs)
 }
 
 /// Puts a leg into the tree, at the place of its feature. Any refusal leaves the tree spent, and a spent tree is
@@ -331,7 +356,7 @@ pub fn insert<S: PageStore>(
         return Err(TreeFault::Spent);
     }
     tree.spent = true;
-    put(tree, cache, place, &leg)?;
+    put(tree, cache, place, &[leg])?;
     tree.spent = false;
     Ok(())
 }

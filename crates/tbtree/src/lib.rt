@@ -4,6 +4,7 @@
 
 mod descent;
 mod fault;
+mod filling;
 mod insertion;
 mod nodes;
 mod order;
@@ -13,6 +14,7 @@ mod tree;
 
 pub use descent::laws;
 pub use fault::TreeFault;
+pub use filling::insert_all;
 pub use insertion::insert;
 pub use order::order_laws;
 pub use payloads::cover_of;

@@ -1,13 +1,14 @@
 //! The pages of a tree in a cache: each call here changes one page, adds one, or reads one.
 ghost use Rattle.std.specs.Prelude.{◌≡◌, ◌+◌, ◌≤◌, ◌<◌, [], ◌∷◌, OnOk, IfOk, IfErr, IsTrue};
 ghost use Rattle.legs.specs.Hull.{leg_boxes};
-ghost use Rattle.tbnode.specs.Edits.{TakesLeg, new_leaf, new_inner};
+ghost use Rattle.tbnode.specs.Edits.{new_leaf, new_inner};
 ghost use Rattle.tbtree.specs.Faults.{IsAllowed, IsCaused};
 ghost use Rattle.tbtree.specs.Nodes.{pages_of_cache, AnInner, Adds, Attaches, Covers, HasCover, HasEntry, HasLeaf, HasLeafRoom, HasRoom, Links, Pushes, Widens};
 ghost use Rattle.tbtree.specs.Passes.{Passes, KeepsLength};
+ghost use Rattle.tbtree.specs.Payloads.{TakesLegs};
 
 use crate::fault::TreeFault;
-use crate::payloads::{child_of, cover_of, has_room, is_leaf, takes};
+use crate::payloads::{child_of, cover_of, has_room, is_leaf, push_legs, takes};
 use legs::{Box3, Leg};
 use pagecache::PageCache;
 use pages::{Kind, PageStore};
@@ -45,17 +46,19 @@ pub(crate) fn widen<S: PageStore>(
     Ok(child)
 }
 
-/// Puts a leg at the end of a leaf of less than `most` legs, which takes it.
-pub(crate) fn push_leg<S: PageStore>(
+/// Puts legs at the end of a leaf that takes them, and has at most `most` with them.
+pub(crate) fn grow<S: PageStore>(
     cache: &mut PageCache<S>,
     page: u32,
     most: u16,
-    leg: &Leg,
+    legs: &[Leg],
 ) -> Result<(), TreeFault>
+    requires { most ≤ 50 }
     ensures pushes { IsTrue cache.old.store.is_faithful
-        → OnOk result (Pushes (pages_of_cache cache.old) page leg.now (pages_of_cache cache.new)) }
+        → OnOk result (Pushes (pages_of_cache cache.old) page legs.now
+        (pages_of_cache cache.new)) }
     ensures only { IsTrue cache.old.store.is_faithful
-        → HasLeafRoom (pages_of_cache cache.old) page most (λ leaf. TakesLeg leaf leg.now)
+        → HasLeafRoom (pages_of_cache cache.old) page (λ leaf. TakesLegs most leaf legs.now)
         → IfErr result IsAllowed }
     ensures passes { Passes cache.old cache.new }
     ensures length { OnOk result (KeepsLength cache.old cache.new) }
@@ -69,10 +72,10 @@ pub(crate) fn push_leg<S: PageStore>(
         Ok(payload) => payload,
         Err(fault) => return Err(TreeFault::of(fault, page)),
     };
-    if !takes(payload, most, leg) {
+    if !takes(payload, most, legs) {
         return Err(TreeFault::Malformed(page));
     }
-    tbnode::push_leg(payload, leg);
+    push_legs(payload, legs);
     Ok(())
 }
 

@@ -1,9 +1,10 @@
 //! What a payload is as a page of a tree.
-ghost use Rattle.std.specs.Prelude.{◌≡◌, ◌↔◌, IfSome, IsTrue, None, Some};
+ghost use Rattle.std.specs.Prelude.{◌≡◌, ◌<◌, ◌≤◌, ◌↔◌, IfSome, IsTrue, None, Some, length, option_map};
 ghost use Rattle.legs.specs.Hull.{hull, leg_boxes};
 ghost use Rattle.tbnode.specs.Form.{node_of};
+ghost use Rattle.tbnode.specs.Nodes.{as_leaf};
 ghost use Rattle.tbtree.specs.Nodes.{boxes, cover_all, cover_of_page};
-ghost use Rattle.tbtree.specs.Payloads.{IsEntry, HasNoEntry, IsLeafNode, Takes, IsRoomy, cover_of_node};
+ghost use Rattle.tbtree.specs.Payloads.{IsEntry, HasNoEntry, IsLeafNode, Takes, TakesLegs, IsRoomy, cover_of_node, goes_on, leaf_with_legs};
 
 use legs::{Box3, Leg};
 use pages::Payload;
@@ -21,13 +22,47 @@ pub(crate) fn child_of(payload: &Payload, level: u16, entry: usize) -> Option<u3
     Some(page.entry(entry).child)
 }
 
-/// Whether a payload is a leaf of less than `most` legs that takes a leg.
-pub(crate) fn takes(payload: &Payload, most: u16, leg: &Leg) -> bool
-    ensures { IsTrue result ↔ Takes (node_of payload.now) most leg.now }
+/// Whether legs are of a feature, and their ordinals rise from above a number.
+fn goes_on(feature: u32, ordinal: u64, legs: &[Leg]) -> bool
+    ensures { result ≡ goes_on feature ordinal legs.now }
+{
+    let mut last = ordinal;
+    for leg in legs {
+        if leg.feature != feature || leg.ordinal <= last {
+            return false;
+        }
+        last = leg.ordinal;
+    }
+    true
+}
+
+/// Whether a leaf takes legs, and has at most `most` with them.
+fn leaf_takes(leaf: &Leaf<'_>, most: u16, legs: &[Leg]) -> bool
+    ensures { IsTrue result ↔ TakesLegs most leaf.now legs.now }
+{
+    let len = leaf.len();
+    let last = leaf.leg(len - 1);
+    len + legs.len() <= usize::from(most) && goes_on(leaf.head().feature, last.ordinal, legs)
+}
+
+/// Whether a payload is a leaf that takes legs, and has at most `most` with them.
+pub(crate) fn takes(payload: &Payload, most: u16, legs: &[Leg]) -> bool
+    ensures { IsTrue result ↔ Takes (node_of payload.now) most legs.now }
 {
     match tbnode::leaf(payload) {
-        Some(leaf) => leaf.len() < usize::from(most) && leaf.takes(leg),
+        Some(leaf) => leaf_takes(&leaf, most, legs),
         None => false,
+    }
+}
+
+/// Puts legs at the end of a leaf that takes them.
+pub(crate) fn push_legs(payload: &mut Payload, legs: &[Leg])
+    requires takes { Takes (node_of payload.old) 50 legs.now }
+    ensures { node_of payload.new
+        ≡ option_map (leaf_with_legs legs.now) (as_leaf (node_of payload.old)) }
+{
+    for leg in legs {
+        tbnode::push_leg(payload, leg);
     }
 }
 
@@ -60,6 +95,20 @@ fn cover_of_leaf(leaf: &Leaf<'_>) -> Box3
     'legs: while i > 0 {
         i -= 1;
         bounds = Box3::of(&leaf.leg(i)).cover(&bounds);
+    }
+    bounds
+}
+
+/// The least box that holds legs.
+pub(crate) fn cover_of_legs(legs: &[Leg]) -> Box3
+    requires some { 0 < length legs.now }
+    ensures { hull leg_boxes legs.now ≡ Some result }
+{
+    let mut i = legs.len() - 1;
+    let mut bounds = Box3::of(&legs[i]);
+    'legs: while i > 0 {
+        i -= 1;
+        bounds = Box3::of(&legs[i]).cover(&bounds);
     }
     bounds
 }

@@ -1,18 +1,49 @@
-use Rattle.std.proofs.Common.{◌<◌, ◌-◌, ◌^◌, arith}
+use Rattle.std.proofs.Common.{◌≡◌, ◌∙◌, ◌<◌, ◌≤◌, ◌-◌, ◌%◌, ◌^◌, ap, arith, length, slice_get, Some, sym, ⊎_elim}
+use Rattle.std.proofs.lemmas.Bool.{cases_lt}
+use Rattle.std.proofs.lemmas.Nat.{mod_below}
+use Rattle.std.proofs.lemmas.Option.{slice_get-get_or}
 use Rattle.tbtree.specs.declared.fault.TreeFault.TheVariants.{Malformed}
 use Rattle.tbtree.specs.Nodes.{pages_of_cache}
-use Rattle.tbtree.proofs.InsertLemmas.{few_enough}
+use Rattle.tbtree.proofs.InsertLemmas.{all_of_one, few_enough}
 use Rattle.tbtree.proofs.insertion.put.Goals as goal
-use Rattle.tbtree.proofs.insertion.put.Goals.{then-tree-count-via-then-tree-count, then-tree-count-via-else-tree-count+then-tree-ge-MOST_LEVELS, then-tree-count-via-else-tree-count+else-tree-ge-MOST_LEVELS+then-place}
+use Rattle.tbtree.proofs.insertion.put.Goals.{then-tree-count-via-then-tree-count, then-tree-count-via-else-tree-count+then-tree-ge-MOST_LEVELS, then-tree-count-via-else-tree-count+else-tree-ge-MOST_LEVELS+then-place-leaf}
 
 pub returns-then-tree-count-clause-inserts : goal.returns-then-tree-count-clause-inserts
 returns-then-tree-count-clause-inserts g c = λ fa.
     let tree = c.args.tree.now in
     let place = c.args.place.now in
     let count : c.args.cache.now.count < 2 ^ 32 = omega (arith, c.count.ensures.value) in
-    few_enough (pages_of_cache c.args.cache.now) (pages_of_cache c.args.cache.now) tree tree place place c.args.leg.now (Malformed tree.root) c.leaf.ensures.range count
-    (λ (a : tree.leaves < c.args.cache.now.count) (b : tree.levels < 34) (d : place.legs < 2 ^ 64 - 1). elim c.then-tree-count.branch [
+    let leaf : c.from-leaf.result ≡ tree.shape.leaf = c.from-leaf.ensures ∙ c.leaf.ensures.value in
+    let most = c.leaf.ensures.range.most_leaf in
+    few_enough (pages_of_cache c.args.cache.now) (pages_of_cache c.args.cache.now) tree tree place place c.args.legs.now (Malformed tree.root) c.leaf.ensures.range count
+    (λ (a : tree.leaves < c.args.cache.now.count) (b : tree.levels < 34) (d : place.legs < 2 ^ 64 - 51). elim c.then-tree-count.branch [
       | then-tree-count-via-then-tree-count w ↦ (let e = w.if-tree-count.true in omega (arith, a, e, c.count.ensures.value))
       | then-tree-count-via-else-tree-count+then-tree-ge-MOST_LEVELS w ↦ (let e = w.if-tree-ge-MOST_LEVELS.true in omega (arith, b, e))
-      | then-tree-count-via-else-tree-count+else-tree-ge-MOST_LEVELS+then-place w ↦ (let e = w.if-place.true in omega (arith, d, e))
+      | then-tree-count-via-else-tree-count+else-tree-ge-MOST_LEVELS+then-place-leaf w ↦ (let e = w.if-place-leaf.true in omega (arith, d, e, leaf, most))
     ])
+
+pub returns-then-place-leaf-eq0-clause-inserts : goal.returns-then-place-leaf-eq0-clause-inserts
+returns-then-place-leaf-eq0-clause-inserts g c = λ fa.
+    let tree = c.args.tree.now in
+    let place = c.args.place.now in
+    let legs = c.args.legs.now in
+    let leg = c.index-legs-0.result in
+    let leaf : c.from-leaf.result ≡ tree.shape.leaf = c.from-leaf.ensures ∙ c.leaf.ensures.value in
+    let full : place.legs % tree.shape.leaf ≡ 0 = ap (λ n. place.legs % n) (sym leaf) ∙ c.if-place-leaf-eq0.true in
+    let one : length legs ≡ 1 = ⊎_elim
+    (λ (more : 1 < length legs). absurd (let there = c.requires.there more in omega (arith, there, full)))
+    (λ (few : length legs ≤ 1). let some = c.requires.some in omega (arith, few, some))
+    (cases_lt 1 (length legs)) in
+    let here : slice_get legs 0 ≡ Some leg = slice_get-get_or legs 0 leg c.requires.some ∙ ap (λ l. Some l) (sym c.index-legs-0.is) in
+    all_of_one (pages_of_cache c.args.cache.now) (pages_of_cache c.begin.new.cache) tree c.begin.new.tree place c.begin.new.place legs leg c.begin.result one here (c.begin.ensures.inserts fa)
+
+pub into_last-requires-clause-room : goal.into_last-requires-clause-room
+into_last-requires-clause-room g c =
+    let n = c.args.tree.now.shape.leaf in
+    let legs = c.args.legs.now in
+    let least = c.leaf.ensures.range.least_leaf in
+    let below : c.args.place.now.legs % n < n = mod_below c.args.place.now.legs n (omega (arith, least)) in
+    ⊎_elim
+    (λ (more : 1 < length legs). c.requires.room more)
+    (λ (few : length legs ≤ 1). omega (arith, few, below))
+    (cases_lt 1 (length legs))

@@ -1,0 +1,109 @@
+//! Many legs of one feature, put in leaf by leaf.
+ghost use Rattle.std.specs.Prelude.{◌≡◌, ◌<◌, ◌≤◌, ◌+◌, ◌-◌, ◌*◌, ◌%◌, OnOk, OnErr, IfErr, IsTrue, false, true, Err, length};
+ghost use Rattle.tbtree.specs.Faults.{IsCaused};
+ghost use Rattle.tbtree.specs.Nodes.{pages_of_cache};
+ghost use Rattle.tbtree.specs.Passes.{Passes, KeepsLength};
+ghost use Rattle.tbtree.specs.Joining.{JoinsAll};
+ghost use Rattle.tbtree.specs.declared.fault.TreeFault.{TreeFault};
+
+use crate::fault::TreeFault;
+use crate::insertion::put;
+use crate::tree::{Place, TbTree};
+use legs::Leg;
+use pagecache::PageCache;
+use pages::PageStore;
+
+/// How many of `left` legs are put in at once, after so many of their feature in leaves of at most `leaf` legs: what
+/// the last leaf has room for, or one where a leaf is to be made.
+fn fitting(leaf: u16, legs: u64, left: usize) -> usize
+    requires leaf { 0 < leaf }
+    requires some { 0 < left }
+    ensures some { 0 < result }
+    ensures most { result ≤ left }
+    ensures there { 1 < result → 0 < legs % leaf }
+    ensures room { 1 < result → legs % leaf + result ≤ leaf }
+    ensures full { 0 < legs % leaf → result < left → legs % leaf + result ≡ leaf }
+{
+    let filled = legs % u64::from(leaf);
+    if filled == 0 {
+        return 1;
+    }
+    let room = (u64::from(leaf) - filled) as usize;
+    if room < left { room } else { left }
+}
+
+/// Puts legs of one feature into its last leaf, and then into new ones.
+#[tactic(auto, using(crate::proofs::PassLemmas::passing))]
+fn put_all<S: PageStore>(
+    tree: &mut TbTree,
+    cache: &mut PageCache<S>,
+    place: &mut Place,
+    legs: &[Leg],
+) -> Result<(), TreeFault>
+    ensures inserts { IsTrue cache.old.store.is_faithful
+        → JoinsAll (pages_of_cache cache.old) (pages_of_cache cache.new) tree.old tree.new
+        place.old place.new legs.now result }
+    ensures spent { tree.new.spent ≡ tree.old.spent }
+    ensures shape { tree.new.shape ≡ tree.old.shape }
+    ensures passes { Passes cache.old cache.new }
+    ensures length { OnOk result (KeepsLength cache.old cache.new) }
+    ensures caused { IfErr result (IsCaused cache.old cache.new) }
+    ensures asked { OnOk result (cache.new.asked ≤ cache.old.asked
+        + (tree.new.leaves - tree.old.leaves + 1) * (3 * tree.new.levels + 2)) }
+    ensures more { OnOk result (tree.old.leaves ≤ tree.new.leaves) }
+    ensures made { OnOk result ((tree.new.leaves - tree.old.leaves) * tree.old.shape.leaf
+        < length legs.now + tree.old.shape.leaf) }
+{
+    let leaf = tree.shape.leaf();
+    let mut from = 0;
+    'leaves: while from < legs.len() {
+        let many = fitting(leaf, place.legs, legs.len() - from);
+        put(tree, cache, place, &legs[from..from + many])?;
+        from += many;
+    }
+    Ok(())
+}
+
+/// Puts legs of one feature into the tree, one after another, at the place of the feature: what fills its last leaf, and
+/// then each new leaf. A leaf that takes several legs, and the pages above it, are looked at and widened once for all of
+/// them. Any refusal leaves the tree spent, and a spent tree is refused by `Spent`.
+pub fn insert_all<S: PageStore>(
+    tree: &mut TbTree,
+    cache: &mut PageCache<S>,
+    place: &mut Place,
+    legs: &[Leg],
+) -> Result<(), TreeFault>
+    // Pages that hold legs in any order hold them with these, each of which has an ordinal above those of its feature's
+    // legs before it.
+    ensures joins { tree.old.spent ≡ false → IsTrue cache.old.store.is_faithful
+        → JoinsAll (pages_of_cache cache.old) (pages_of_cache cache.new) tree.old tree.new
+        place.old place.new legs.now result }
+    ensures shape { tree.new.shape ≡ tree.old.shape }
+
+    // What is left of the cache, over any pages.
+    ensures passes { Passes cache.old cache.new }
+    ensures length { OnOk result (KeepsLength cache.old cache.new) }
+    ensures caused { IfErr result (IsCaused cache.old cache.new) }
+
+    // For each leaf that is made, and for one that is there, at most three times the root's height and two pages are asked
+    // for; and each leaf that is made but the last is filled.
+    ensures asked { OnOk result (cache.new.asked ≤ cache.old.asked
+        + (tree.new.leaves - tree.old.leaves + 1) * (3 * tree.new.levels + 2)) }
+    ensures more { OnOk result (tree.old.leaves ≤ tree.new.leaves) }
+    ensures made { OnOk result ((tree.new.leaves - tree.old.leaves) * tree.old.shape.leaf
+        < length legs.now + tree.old.shape.leaf) }
+
+    // A refusal is for good.
+    ensures works { OnOk result (tree.new.spent ≡ false) }
+    ensures spent { OnErr result (tree.new.spent ≡ true) }
+    ensures was_spent { tree.old.spent ≡ true → (result ≡ Err TreeFault.Spent)
+        × (tree.new ≡ tree.old) × (place.new ≡ place.old) × (cache.new ≡ cache.old) }
+{
+    if tree.spent {
+        return Err(TreeFault::Spent);
+    }
+    tree.spent = true;
+    put_all(tree, cache, place, legs)?;
+    tree.spent = false;
+    Ok(())
+}
