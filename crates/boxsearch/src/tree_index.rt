@@ -186,8 +186,8 @@ impl<S: PageStore> TreeIndex<S> {
         requires feature { feature < length self.old.places }
         ensures { PutsAll self.old self.new feature legs.now result }
     {
-        let none = Vec::new(self.alloc);
-        self.known = none;
+        let memory = self.alloc;
+        self.known = Vec::new(memory);
         let mut place = self.places[feature];
         let result = insert_all(&mut self.tree, &mut self.cache, &mut place, legs);
         self.places[feature] = place;
