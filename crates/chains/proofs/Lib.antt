@@ -10,3 +10,4 @@ pub mod PlaceLemmas
 pub mod RiseLemmas
 pub mod TimeLemmas
 pub mod PeriodLemmas
+mod AgainLemmas

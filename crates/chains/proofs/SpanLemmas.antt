@@ -1,6 +1,6 @@
 -- What is known of the leaves of a chain, along a walk back.
-use Rattle.std.proofs.Common.{ℕ, zero, suc, ◌+◌, ◌-◌, ◌^◌, ◌≡◌, ◌≤◌, ◌<◌, ◌==◌, ◌&&◌, Bool, true, false, cond, List, [], ◌∷◌, ◌++◌, take, drop, length, refl, sym, ap, ◌∙◌, arith, subst, append_assoc, get_or, ⊎_elim, Option, Some, None, slice_get, ℤ, pos, ◌≤ℤ◌, ◌<ℤ◌, All, IsTrue}
-use Rattle.std.specs.Prelude.{int_le, int_lt, if◌then◌else◌, ◌≢◌}
+use Rattle.std.proofs.Common.{ℕ, zero, suc, ◌+◌, ◌-◌, ◌^◌, ◌≡◌, ◌≤◌, ◌<◌, ◌&&◌, Bool, true, false, cond, List, [], ◌∷◌, ◌++◌, take, drop, length, refl, sym, ap, ◌∙◌, arith, subst, append_assoc, get_or, ⊎_elim, Option, Some, None, slice_get, ℤ, pos, ◌≤ℤ◌, ◌<ℤ◌, All, IsTrue}
+use Rattle.std.specs.Prelude.{int_le, int_lt, if◌then◌else◌}
 use Rattle.std.specs.Int.{div_ceil, int_max, int_min}
 use Rattle.std.specs.List.{count_by, filter}
 use Rattle.std.proofs.lemmas.Bool.{cases_eq, true≢false}

@@ -19,6 +19,7 @@ ghost use Rattle.chains.specs.Taking.{TakesPage, fault_at};
 ghost use Rattle.chains.specs.Trajectory.{HasFeature};
 ghost use Rattle.chains.specs.declared.spans.LeafSpan.{LeafSpan};
 
+use crate::again::take_again;
 use crate::fault::ChainFault;
 use crate::leaves::{Link, spot_of, take};
 use crate::spans::{LeafSpan, Passing, pass};
@@ -46,8 +47,8 @@ struct Cursor {
 }
 
 /// Takes the kept legs of the leaf at a cursor, of the chain of a place in leaves of `most` legs, and gives the link to
-/// the leaf before it; none where nothing before is kept. A leaf that is known to be off the period is not read, and one
-/// that is read is known from then on.
+/// the leaf before it; none where nothing before is kept. A leaf that is known to be off the period is not read, another
+/// one that is known is read without the test of its form, and each that is read is known from then on.
 fn step<S: PageStore>(
     cache: &mut PageCache<S>,
     place: &Place,
@@ -83,7 +84,11 @@ fn step<S: PageStore>(
         Passing::Over(back) => Ok(Some(back)),
         Passing::Into => {
             let spot = spot_of(place, most, at.left);
-            take(cache, &at.link, &spot, period, found, spans, at.passed)
+            if at.passed < spans.len() {
+                take_again(cache, &at.link, &spot, period, found)
+            } else {
+                take(cache, &at.link, &spot, period, found, spans, at.passed)
+            }
         }
     }
 }

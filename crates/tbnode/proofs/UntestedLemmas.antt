@@ -7,7 +7,6 @@ use Rattle.std.proofs.lemmas.Option.{same_Some, slice_get_past}
 use Rattle.timebase.specs.Period.{PeriodView}
 use Rattle.legs.specs.Legs.{LegView, is_live}
 use Rattle.pages.specs.declared.payload.Payload.{Payload}
-use Rattle.pages.specs.declared.payload.Kind.TheVariants.{Leaf}
 use Rattle.tbnode.specs.Nodes.{LeafView, ALeaf, as_leaf}
 use Rattle.tbnode.specs.Parts.{slot}
 use Rattle.tbnode.specs.Layout.{leg_of, is_leg}

@@ -5,8 +5,8 @@ use Rattle.std.proofs.lemmas.Result.{err_from_is_err_and}
 use Rattle.tbtree.specs.Nodes.{pages_of_cache}
 use Rattle.std.specs.Int.{div_ceil}
 use Rattle.chains.specs.Chains.{fault_from, last_link, walk, walked}
-use Rattle.chains.specs.Spans.{AreSpans, AsksAs, IsKnown, pass_at, walked_by}
-use Rattle.chains.proofs.SpanLemmas.{IsOnWay, all_known, asks_last, asks_on, cost_none, few_last, few_on, past_read, rest_same, spans_last}
+use Rattle.chains.specs.Spans.{AreSpans, AsksAs, pass_at, walked_by}
+use Rattle.chains.proofs.SpanLemmas.{all_known, asks_last, asks_on, cost_none, few_last, few_on, past_read, rest_same, spans_last}
 use Rattle.chains.proofs.WalkLemmas.{linked_by}
 use Rattle.chains.specs.Links.{fits, is_end, link_back, spot_of}
 use Rattle.chains.specs.Taking.{fault_at}

@@ -1,4 +1,4 @@
-use Rattle.std.proofs.Common.{◌≡◌, ◌≤◌, ◌<◌, ◌-◌, length, take, All}
+use Rattle.std.proofs.Common.{◌≤◌, ◌<◌, ◌-◌, length, take, All}
 use Rattle.chains.specs.Spans.{IsWithin}
 use Rattle.chains.proofs.spans.span_of.Given as goal
 

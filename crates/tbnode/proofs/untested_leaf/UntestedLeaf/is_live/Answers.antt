@@ -1,4 +1,4 @@
-use Rattle.std.proofs.Common.{sym, ◌∙◌, arith, subst}
+use Rattle.std.proofs.Common.{sym, arith, subst}
 use Rattle.tbnode.proofs.UntestedLemmas.{Says, live_there, none_live, says}
 use Rattle.tbnode.proofs.untested_leaf.UntestedLeaf.is_live.Goals as goal
 

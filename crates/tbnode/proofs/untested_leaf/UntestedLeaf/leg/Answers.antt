@@ -1,4 +1,4 @@
-use Rattle.std.proofs.Common.{sym, ◌∙◌, arith, subst}
+use Rattle.std.proofs.Common.{sym, arith, subst}
 use Rattle.tbnode.proofs.UntestedLemmas.{Says, leg_there, says}
 use Rattle.tbnode.proofs.untested_leaf.UntestedLeaf.leg.Goals as goal
 
