@@ -11,3 +11,4 @@ pub mod RiseLemmas
 pub mod TimeLemmas
 pub mod PeriodLemmas
 mod AgainLemmas
+pub mod ReachLemmas

@@ -7,6 +7,7 @@ ghost use Rattle.tbtree.specs.Nodes.{pages_of_cache};
 ghost use Rattle.chains.specs.Faults.{IsCaused, IsNamed};
 ghost use Rattle.chains.specs.Links.{spot_of, is_placed, head_fits, fits, fits_node, is_kept, is_end};
 ghost use Rattle.chains.specs.Reads.{OnlyReads};
+ghost use Rattle.chains.specs.Spans.{IsFront};
 ghost use Rattle.chains.specs.Taking.{TakesNode, TakesPage, IsNodeFault, fault_at};
 
 use crate::fault::ChainFault;
@@ -145,6 +146,7 @@ fn take_node(
         found.old.items found.new.items
         (record { old = spans.old.items; new = spans.new.items; passed = passed })) }
     ensures forgets { OnErr result (spans.new.items ≡ spans.old.items) }
+    ensures keeps { IsFront spans.old.items spans.new.items }
     ensures named { IfErr result
         (IsNodeFault (fits_node (node_of payload.now) link.now spot.now) link.now.page) }
     ensures caused { (old new : Cache) → IfErr result (IsCaused old new) }
@@ -184,6 +186,7 @@ pub(crate) fn take<S: PageStore>(
         found.old.items found.new.items
         (record { old = spans.old.items; new = spans.new.items; passed = passed })) }
     ensures forgets { OnErr result (spans.new.items ≡ spans.old.items) }
+    ensures keeps { IsFront spans.old.items spans.new.items }
     ensures named { IsTrue cache.old.store.is_faithful
         → IfErr result (IsNamed (pages_of_cache cache.old)
         (fault_at (pages_of_cache cache.old) link.now spot.now)) }
