@@ -11,11 +11,12 @@ use Rattle.pagecache.specs.Cache.{Cache}
 use Rattle.pagecache.specs.declared.fault.CacheFault.{CacheFault}
 use Rattle.pagecache.specs.declared.fault.CacheFault.TheVariants as cache
 use Rattle.tbnode.specs.Form.{node_of}
+use Rattle.tbnode.specs.declared.views.LeafHead.{LeafHead}
 use Rattle.tbtree.specs.Nodes.{Pages, pages_of_cache, Node, ALeaf, AnInner, LeafView}
 use Rattle.tbtree.specs.declared.tree.Place.{Place}
 use Rattle.chains.specs.Chains.{AreHeld, IsChain, IsPlaceChain, NamesNone, is_stray, chain_fault, fault_from, legs_in, link_past, last_link}
 use Rattle.chains.specs.Faults.{IsAllowed, IsAllowedOfCache, IsOfHeld, IsCaused, IsCausedInCache, IsNamed, IsNamedInCache}
-use Rattle.chains.specs.Links.{Fits, IsPlaced, fits, is_linked, is_of_feature, is_placed, is_end, link_back, spot_of}
+use Rattle.chains.specs.Links.{Fits, IsPlaced, fits, head_fits, is_linked, is_of_feature, is_placed, is_end, link_back, spot_of}
 use Rattle.chains.specs.declared.fault.ChainFault.{ChainFault}
 use Rattle.chains.specs.declared.fault.ChainFault.TheVariants.{Cache as OfCache, Malformed, Memory}
 use Rattle.chains.specs.declared.leaves.Link.{Link}
@@ -32,7 +33,7 @@ feature_from None f e = refl
 feature_from (Some w) f e = eq-eqb f w e
 
 module _ {L : Type 0} (leaf : LeafView L) where
-  placed_to : (page : ℕ) (spot : Spot) → is_placed leaf page spot ≡ true → IsPlaced leaf page spot
+  placed_to : (page : ℕ) (spot : Spot) → is_placed leaf.previous page spot ≡ true → IsPlaced leaf page spot
   placed_to page spot e =
       (elim (spot.before == 0) as (λ v. (spot.before == 0) ≡ v → cond v ((leaf.previous == 0) && (page == spot.first)) (not (leaf.previous == 0)) ≡ true → IsPlaced leaf page spot) [
         | true ↦ λ z f.
@@ -43,7 +44,7 @@ module _ {L : Type 0} (leaf : LeafView L) where
             record { one_before = λ l. eqb-false leaf.previous 0 (not-true (leaf.previous == 0) f); none_before = λ o. absurd (eqb-false spot.before 0 z o); first_is = λ o. absurd (eqb-false spot.before 0 z o) }
       ]) refl e
 
-  placed_from : (page : ℕ) (spot : Spot) → IsPlaced leaf page spot → is_placed leaf page spot ≡ true
+  placed_from : (page : ℕ) (spot : Spot) → IsPlaced leaf page spot → is_placed leaf.previous page spot ≡ true
   placed_from page spot p =
       (elim (spot.before == 0) as (λ v. (spot.before == 0) ≡ v → cond v ((leaf.previous == 0) && (page == spot.first)) (not (leaf.previous == 0)) ≡ true) [
         | true ↦ λ z.
@@ -73,6 +74,12 @@ module _ {L : Type 0} (leaf : LeafView L) where
       and_from (is_of_feature link.feature leaf.feature) _ (feature_from link.feature leaf.feature f.feature_is)
       (and_from (length leaf.legs == spot.count) _ (eq-eqb (length leaf.legs) spot.count f.count_is)
       (and_from (leaf.next == link.next) _ (eq-eqb leaf.next link.next f.next_is) (placed_from link.page spot f.placed)))
+
+-- a leaf fits by its head and its count of legs
+pub fits_by : (head : LeafHead) (count : ℕ) (leaf : LeafView LegView) (link : Link) (spot : Spot) → head.feature ≡ leaf.feature → head.previous ≡ leaf.previous → head.next ≡ leaf.next → count ≡ length leaf.legs
+    → head_fits head count link spot ≡ fits leaf link spot
+unfolding fits
+fits_by head count leaf link spot f p n c = λ i. head_fits (record { feature = f i; previous = p i; next = n i }) (c i) link spot
 
 -- what fits a link is a leaf
 linked_of : (o : Option (Option (Node LegView BoxView))) (link : Link) (spot : Spot) → is_linked o link spot ≡ true

@@ -1,15 +1,13 @@
 -- Groups of n consecutive elements, by their places.
-use Rattle.std.proofs.Common.{ℕ, zero, suc, ◌+◌, ◌-◌, ◌*◌, ◌/◌, ◌%◌, ◌<◌, ◌≤◌, ◌≡◌, ◌==◌, true, false, cond, nat_lt, List, [], ◌∷◌, ◌++◌, take, drop, get_or, length, refl, sym, ap, ◌∙◌, arith, lt-ltb, le-ltb, eq-eqb, subst, ⊎_elim, inl, inr, length-append, length-drop, Option, Some, None, slice_get}
+use Rattle.std.proofs.Common.{ℕ, zero, suc, ◌+◌, ◌-◌, ◌*◌, ◌<◌, ◌≤◌, ◌≡◌, true, false, cond, List, [], ◌∷◌, ◌++◌, take, drop, get_or, length, sym, ap, ◌∙◌, arith, subst, ⊎_elim, inl, inr, length-drop, Some, slice_get}
 use Rattle.std.specs.Prelude.{min}
 use Rattle.std.specs.Int.{div_ceil}
-use Rattle.std.specs.List.{filter, count_by}
-use Rattle.std.proofs.lemmas.Bool.{cases_lt, eqb-true}
+use Rattle.std.specs.List.{filter}
+use Rattle.std.proofs.lemmas.Bool.{cases_lt}
 use Rattle.std.proofs.lemmas.Grind.{div_ceil_times}
 use Rattle.std.proofs.lemmas.List.{take_all, drop_more, drop_all, drop-drop, length-take-le}
-use Rattle.std.proofs.lemmas.List.Sums.{length-filter}
-use Rattle.std.proofs.lemmas.Nat.{div-add-mod', mul-le}
-use Rattle.std.proofs.lemmas.Option.{slice_get_within, slice_get-get_or, get_or_from_slice_get}
-use Rattle.std.proofs.Math.Nat.{add-mod_right, mod-eq_of_lt, mul-add-mod_self_right}
+use Rattle.std.proofs.lemmas.Nat.{mul-le}
+use Rattle.std.proofs.lemmas.Option.{slice_get_within, get_or_from_slice_get}
 use Rattle.legs.specs.Blocks.{same, begins, runs_after, groups, block, joined}
 pub use Rattle.tbtree.proofs.BlockLemmas.{all_pass}
 pub use Rattle.tbtree.proofs.GroupLemmas.{some_none, some_same, group_is, group_within, group_beyond}

@@ -10,3 +10,5 @@ pub mod PlaceLemmas
 pub mod RiseLemmas
 pub mod TimeLemmas
 pub mod PeriodLemmas
+mod AgainLemmas
+pub mod ReachLemmas

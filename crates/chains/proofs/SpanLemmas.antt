@@ -1,6 +1,6 @@
 -- What is known of the leaves of a chain, along a walk back.
-use Rattle.std.proofs.Common.{ℕ, zero, suc, ◌+◌, ◌-◌, ◌^◌, ◌≡◌, ◌≤◌, ◌<◌, ◌==◌, ◌&&◌, Bool, true, false, cond, List, [], ◌∷◌, ◌++◌, take, drop, length, refl, sym, ap, ◌∙◌, arith, subst, append_assoc, get_or, ⊎_elim, Option, Some, None, slice_get, ℤ, pos, ◌≤ℤ◌, ◌<ℤ◌, All, IsTrue}
-use Rattle.std.specs.Prelude.{int_le, int_lt, if◌then◌else◌, ◌≢◌}
+use Rattle.std.proofs.Common.{ℕ, zero, suc, ◌+◌, ◌-◌, ◌^◌, ◌≡◌, ◌≤◌, ◌<◌, ◌&&◌, Bool, true, false, cond, List, [], ◌∷◌, ◌++◌, take, drop, length, refl, sym, ap, ◌∙◌, arith, subst, append_assoc, get_or, ⊎_elim, inl, inr, Option, Some, None, slice_get, ℤ, pos, ◌≤ℤ◌, ◌<ℤ◌, All, IsTrue}
+use Rattle.std.specs.Prelude.{◌⊎◌, Any, int_le, int_lt, if◌then◌else◌}
 use Rattle.std.specs.Int.{div_ceil, int_max, int_min}
 use Rattle.std.specs.List.{count_by, filter}
 use Rattle.std.proofs.lemmas.Bool.{cases_eq, true≢false}
@@ -64,6 +64,39 @@ within_more legs i leg s e s' e' at a b rises all =
 
 pub within_all : (legs : List LegView) (i : ℕ) (s e : ℤ) → length legs ≤ i → All (IsWithin s e) (take i legs) → All (IsWithin s e) legs
 within_all legs i s e long all = All-same (IsWithin s e) legs (take i legs) (sym (take_all i legs long)) all
+
+-- one of the first legs has that moment
+pub record HasAt (moment : LegView → ℤ) (legs : List LegView) (i : ℕ) (z : ℤ) : Type 0 where
+  pub place : ℕ
+  pub leg : LegView
+  pub within : place < i
+  pub is : slice_get legs place ≡ Some leg
+  pub has : moment leg ≡ z
+
+pub has_more : (moment : LegView → ℤ) (legs : List LegView) (i : ℕ) (leg : LegView) (z z' : ℤ) → slice_get legs i ≡ Some leg → (z' ≡ z) ⊎ (z' ≡ moment leg) → HasAt moment legs i z → HasAt moment legs (i + 1) z'
+has_more moment legs i leg z z' at which h =
+    let within = h.within in
+    ⊎_elim
+    (λ (e : z' ≡ z). record { place = h.place; leg = h.leg; within = omega (arith, within); is = h.is; has = h.has ∙ sym e })
+    (λ (e : z' ≡ moment leg). record { place = i; leg = leg; within = omega arith; is = at; has = sym e })
+    which
+
+pub least_of : (a b z : ℤ) → z ≡ int_min a b → (z ≡ a) ⊎ (z ≡ b)
+least_of a b z e =
+    (elim (int_le a b) as (λ v. int_le a b ≡ v → (z ≡ a) ⊎ (z ≡ b)) [
+      | true ↦ λ t. let h = le_from a b t in inl (omega (arith, ints, clamps, e, h))
+      | false ↦ λ t. let h = not_le a b t in inr (omega (arith, ints, clamps, e, h))
+    ]) refl
+
+pub greatest_of : (a b z : ℤ) → z ≡ int_max a b → (z ≡ a) ⊎ (z ≡ b)
+greatest_of a b z e =
+    (elim (int_le a b) as (λ v. int_le a b ≡ v → (z ≡ a) ⊎ (z ≡ b)) [
+      | true ↦ λ t. let h = le_from a b t in inr (omega (arith, ints, clamps, e, h))
+      | false ↦ λ t. let h = not_le a b t in inl (omega (arith, ints, clamps, e, h))
+    ]) refl
+
+pub has_any : (moment : LegView → ℤ) (legs : List LegView) (i : ℕ) (z : ℤ) → HasAt moment legs i z → Any (λ (leg : LegView). moment leg ≡ z) legs
+has_any moment legs i z h = (h.place, h.leg, slice_get_within legs h.place h.leg h.is, get_or_from_slice_get legs h.place h.leg h.leg h.is, h.has)
 
 -- a leg within a span that is off a period has no moment in it
 not_live : (period : PeriodView) (leg : LegView) → (int_max leg.t0 period.start ≤ℤ int_min leg.t1 period.end → ⊥) → is_live period leg ≡ false
@@ -202,7 +235,7 @@ leaf_of d None = d
 abbrev leaf_there : LeafView LegView → Option (Option (Node LegView BoxView))
 leaf_there leaf = Some (Some (ALeaf leaf))
 
-leaf_same : (a b : LeafView LegView) → leaf_there a ≡ leaf_there b → a ≡ b
+pub leaf_same : (a b : LeafView LegView) → leaf_there a ≡ leaf_there b → a ≡ b
 unfolding leaf_of
 leaf_same a b e = ap (λ (o : Option (Option (Node LegView BoxView))). leaf_of a o) e
 
@@ -229,12 +262,12 @@ module _ (nodes : Pages LegView BoxView) (most legs first : ℕ) where
     pub ahead : Spans (drop passed spans) n link
     pub behind : (more : List LeafSpan) → Spans more n link → Spans (take passed spans ++ more) blocks start
 
-  take_drop : (n : ℕ) (xs : List LeafSpan) → take n xs ++ drop n xs ≡ xs
+  pub take_drop : (n : ℕ) (xs : List LeafSpan) → take n xs ++ drop n xs ≡ xs
   take_drop zero xs = refl
   take_drop (suc n) [] = refl
   take_drop (suc n) (x ∷ xs) = ap (λ l. x ∷ l) (take_drop n xs)
 
-  take_more : (n : ℕ) (xs : List LeafSpan) (x : LeafSpan) (more : List LeafSpan) → slice_get xs n ≡ Some x → take (suc n) xs ++ more ≡ take n xs ++ (x ∷ more)
+  pub take_more : (n : ℕ) (xs : List LeafSpan) (x : LeafSpan) (more : List LeafSpan) → slice_get xs n ≡ Some x → take (suc n) xs ++ more ≡ take n xs ++ (x ∷ more)
   take_more n [] x more e = absurd (some_none x (sym e))
   take_more zero (y ∷ xs) x more e = ap (λ z. z ∷ more) (some_same y x e)
   take_more (suc n) (y ∷ xs) x more e = ap (λ l. y ∷ l) (take_more n xs x more e)
@@ -452,9 +485,6 @@ pub known_lasts : (old new : Cache) (shape : ShapeView) (place : Place) (spans :
 known_lasts old new shape place spans r f h =
     spans_last (pages_of_cache old) (pages_of_cache new) (same_at old new r f) shape.leaf place.legs place.first spans (div_ceil place.legs shape.leaf) (last_link place) h
 
-lt_lt : (x y : ℤ) → x <ℤ y → int_lt x y ≡ false → ⊥
-lt_lt x y h e = true≢false (sym (lt_to x y h) ∙ e)
-
 le_to : (x y : ℤ) → x ≤ℤ y → int_le x y ≡ true
 le_to x y h = grind (arith, ints)
 
@@ -474,38 +504,64 @@ module _ (nodes : Pages LegView BoxView) (period : PeriodView) where
       (lt_to span.end period.start off)
 
   -- a leaf after the period is passed, since the one before it is known or is not there
-  over_cost : (span : LeafSpan) (spans : List LeafSpan) (n : ℕ) → ReachBack period spans n → (ends : Bool) (before : ℕ) → read_cost (over span (next_span spans) n) ends before ≡ before
-  over_cost span [] zero back ends before = refl
-  over_cost span [] (suc n) back ends before = absurd (omega (arith, back))
-  over_cost span (next ∷ spans) n back ends before = refl
+  over_cost : (span : LeafSpan) (spans : List LeafSpan) (n p : ℕ) → ReachBack nodes (Some period) spans n p → (ends : Bool) (before : ℕ) → read_cost (over span (next_span spans) n) ends before ≡ before
+  over_cost span [] zero p back ends before = refl
+  over_cost span [] (suc n) p back ends before = absurd (omega (arith, back))
+  over_cost span (next ∷ spans) n p back ends before = refl
 
   one_more_of : (span : LeafSpan) (spans : List LeafSpan) → count_by (may_meet period) (span ∷ spans) ≡ cond (may_meet period span) 1 0 + count_by (may_meet period) spans
   one_more_of span spans = sum_by-cons (λ x. cond (may_meet period x) 1 0) span spans
 
-  pub known_few : (spans : List LeafSpan) (n p : ℕ) → ReachBack period spans n → cost spans n p ≤ count_by (may_meet period) spans
-  known_few [] n p back = let z = ap (λ k. walked nodes (Some period) k p) back in omega (arith, z)
-  known_few (span ∷ spans) zero p back = omega arith
-  known_few (span ∷ spans) (suc n) p back =
+  -- a known leaf at which a walk ends does not start after the period
+  not_after : (span : LeafSpan) (page : ℕ) (leaf : LeafView LegView) → period.start ≤ℤ period.end → IsSpanOf span page leaf → is_end (Some period) leaf.legs ≡ true → int_le span.start period.end ≡ false → ⊥
+  not_after span page leaf order s ends off =
+      true≢false (sym ends ∙ begins_not period span (not_le span.start period.end off) order leaf.legs s.each)
+
+  pub known_few : (most legs first : ℕ) (spans : List LeafSpan) (n : ℕ) (link : Link) → period.start ≤ℤ period.end → AreSpans nodes most legs first spans n link → ReachBack nodes (Some period) spans n link.page
+      → cost spans n link.page ≤ count_by (may_meet period) spans
+  known_few most legs first [] n link order h back = let z = ap (λ k. walked nodes (Some period) k link.page) back in omega (arith, z)
+  known_few most legs first (span ∷ spans) zero link order h back = omega arith
+  known_few most legs first (span ∷ spans) (suc n) link order h back =
+      let p = link.page in
+      let leaf = h.0 in
+      let legs_are : legs_in (nodes.at p) ≡ leaf.legs = ap legs_in h.1.is in
+      let back_is : previous_of (nodes.at p) ≡ leaf.previous = ap previous_of h.1.is in
+      let before = cost spans n (previous_of (nodes.at p)) in
+      let ends = is_end (Some period) (legs_in (nodes.at p)) in
+      let count = one_more_of span spans in
       (elim (int_lt span.end period.start) as (λ v. int_lt span.end period.start ≡ v → cost (span ∷ spans) (suc n) p ≤ count_by (may_meet period) (span ∷ spans)) [
         | true ↦ λ z. let none = ended span spans (suc n) p (lt_from span.end period.start z) in omega (arith, none)
         | false ↦ λ z.
-            let rest : ReachBack period spans n = ⊎_elim (λ (off : span.end <ℤ period.start). absurd (lt_lt span.end period.start off z)) (λ b. subst (ReachBack period spans) (let k : suc n - 1 ≡ n = omega arith in k) b) back in
             let reaches : int_le period.start span.end ≡ true = le_to period.start span.end (not_lt span.end period.start z) in
-            let before = cost spans n (previous_of (nodes.at p)) in
-            let ends = is_end (Some period) (legs_in (nodes.at p)) in
-            let on = known_few spans n (previous_of (nodes.at p)) rest in
-            let count = one_more_of span spans in
             let meets : may_meet period span ≡ int_le span.start period.end = ap (λ (b : Bool). b && int_le span.start period.end) reaches in
             let here : cost (span ∷ spans) (suc n) p ≡ read_cost (if int_le span.start period.end then Into else over span (next_span spans) n) ends before =
             ap (λ (b : Bool). read_cost (if b then End else if int_le span.start period.end then Into else over span (next_span spans) n) ends before) z in
-            (elim (int_le span.start period.end) as (λ v. may_meet period span ≡ v → cost (span ∷ spans) (suc n) p ≡ read_cost (if v then Into else over span (next_span spans) n) ends before
-            → cost (span ∷ spans) (suc n) p ≤ count_by (may_meet period) (span ∷ spans)) [
-              | true ↦ λ m here.
-                  let one : cond (may_meet period span) 1 0 ≡ 1 = ap (λ (b : Bool). let k : ℕ = cond b 1 0 in k) m in
-                  let most : read_cost Into ends before ≤ 1 + before = into_most ends before in
-                  omega (arith, here, most, on, count, one)
-              | false ↦ λ m here.
-                  let o = over_cost span spans n rest ends before in
-                  omega (arith, here, o, on, count)
-            ]) meets here
+            (elim (is_end (Some period) (legs_in (nodes.at p))) as (λ w. is_end (Some period) (legs_in (nodes.at p)) ≡ w → cost (span ∷ spans) (suc n) p ≤ count_by (may_meet period) (span ∷ spans)) [
+              | true ↦ λ w.
+                  let none : (act : Passing) → read_cost act ends before ≡ read_cost act true before = λ act. ap (λ (b : Bool). read_cost act b before) w in
+                  (elim (int_le span.start period.end) as (λ v. int_le span.start period.end ≡ v → may_meet period span ≡ v → cost (span ∷ spans) (suc n) p ≡ read_cost (if v then Into else over span (next_span spans) n) ends before
+                  → cost (span ∷ spans) (suc n) p ≤ count_by (may_meet period) (span ∷ spans)) [
+                    | true ↦ λ y m here.
+                        let one : cond (may_meet period span) 1 0 ≡ 1 = ap (λ (b : Bool). let k : ℕ = cond b 1 0 in k) m in
+                        let last : read_cost Into ends before ≡ 1 = none Into in
+                        omega (arith, here, last, count, one)
+                    | false ↦ λ y m here. absurd (not_after span p leaf order h.2 (ap (is_end (Some period)) (sym legs_are) ∙ w) y)
+                  ]) refl meets here
+              | false ↦ λ w.
+                  let rest : ReachBack nodes (Some period) spans n (previous_of (nodes.at p)) =
+                  ⊎_elim (λ (e : is_end (Some period) (legs_in (nodes.at p)) ≡ true). absurd (true≢false (sym e ∙ w)))
+                  (λ b. subst (λ k. ReachBack nodes (Some period) spans k (previous_of (nodes.at p))) (let k : suc n - 1 ≡ n = omega arith in k) b) back in
+                  let on : before ≤ count_by (may_meet period) spans =
+                  subst (λ q. cost spans n q ≤ count_by (may_meet period) spans) (sym back_is) (known_few most legs first spans n (link_back p leaf) order h.3 (subst (ReachBack nodes (Some period) spans n) back_is rest)) in
+                  (elim (int_le span.start period.end) as (λ v. may_meet period span ≡ v → cost (span ∷ spans) (suc n) p ≡ read_cost (if v then Into else over span (next_span spans) n) ends before
+                  → cost (span ∷ spans) (suc n) p ≤ count_by (may_meet period) (span ∷ spans)) [
+                    | true ↦ λ m here.
+                        let one : cond (may_meet period span) 1 0 ≡ 1 = ap (λ (b : Bool). let k : ℕ = cond b 1 0 in k) m in
+                        let most : read_cost Into ends before ≤ 1 + before = into_most ends before in
+                        omega (arith, here, most, on, count, one)
+                    | false ↦ λ m here.
+                        let o = over_cost span spans n (previous_of (nodes.at p)) rest ends before in
+                        omega (arith, here, o, on, count)
+                  ]) meets here
+            ]) refl
       ]) refl

@@ -1,5 +1,5 @@
 -- A known leaf that a walk passes, or at which it ends.
-use Rattle.std.proofs.Common.{ℕ, suc, ◌+◌, ◌≡◌, ◌≤◌, ◌<◌, ◌≤ℤ◌, Bool, true, false, List, [], ◌∷◌, ◌++◌, drop, length, refl, sym, ap, ◌∙◌, arith, subst, Option, Some, None, slice_get}
+use Rattle.std.proofs.Common.{ℕ, suc, ◌≡◌, ◌<◌, ◌≤ℤ◌, Bool, true, List, [], ◌++◌, drop, length, refl, sym, ap, ◌∙◌, arith, subst, Option, Some, None, slice_get}
 use Rattle.std.specs.Prelude.{reverse, if◌then◌else◌, IfSome}
 use Rattle.std.specs.List.{filter}
 use Rattle.std.proofs.lemmas.List.{append-nil}
@@ -8,14 +8,14 @@ use Rattle.legs.specs.Boxes.{BoxView}
 use Rattle.legs.specs.Legs.{LegView}
 use Rattle.tbtree.specs.Nodes.{Pages, LeafView, ALeaf}
 use Rattle.chains.specs.Chains.{IsLinked}
-use Rattle.chains.specs.Links.{Takes, is_end, is_kept, fits, link_back, spot_of}
-use Rattle.chains.specs.Spans.{AreSpans, IsSpanOf, Learns, over, pass_at}
-use Rattle.chains.specs.Taking.{Lesson, TakesPage}
+use Rattle.chains.specs.Links.{is_end, is_kept, fits, link_back, spot_of}
+use Rattle.chains.specs.Spans.{AreSpans, pass_at}
+use Rattle.chains.specs.Taking.{Lesson, TakesLeaf, TakesPage}
 use Rattle.chains.specs.declared.leaves.Link.{Link}
 use Rattle.chains.specs.declared.leaves.Spot.{Spot}
 use Rattle.chains.specs.declared.spans.LeafSpan.{LeafSpan}
-use Rattle.chains.specs.declared.spans.Passing.{Passing}
 use Rattle.chains.specs.declared.spans.Passing.TheVariants.{Over, End}
+use Rattle.chains.proofs.AgainLemmas.{there_at}
 use Rattle.chains.proofs.FaultLemmas.{fits_from, fits_to}
 use Rattle.chains.proofs.KeepLemmas.{drop_at}
 use Rattle.chains.proofs.SpanLemmas.{IsThere, ends_at, get_within, link_over_is, off_end, off_over, passes_over, there}
@@ -49,6 +49,24 @@ module _ (nodes : Pages LegView BoxView) (most legs first passed left : ℕ) (sp
         fit = ap (λ k. fits t.leaf link (spot_of most legs first k)) (sym same) ∙ fits_from t.leaf link (spot_of most legs first t.rest) t.linked.fits;
         takes = record { legs = sym (append-nil found) ∙ ap (λ l. found ++ reverse l) (sym none); link = link_is };
         learns = record { same = λ _. refl; next = λ z. absurd (omega (arith, long, z)) };
+      }
+
+  -- a known leaf, and what is taken of it
+  pub known_at : passed < length spans → (span : LeafSpan) × IsThere nodes most legs first span (drop (suc passed) spans) (suc left) link
+  known_at inside = let t = there_at spans passed inside in (t.0, here t.0 t.1)
+
+  pub steps_again : (period : Option PeriodView) (new : List LegView) (back : Option Link) (inside : passed < length spans) → TakesLeaf (known_at inside).1.leaf link (spot_of most legs first left) period found new back
+      → TakesPage nodes link (spot_of most legs first left) period found new lesson back
+  steps_again period new back inside takes =
+      let t = (known_at inside).1 in
+      let above = t.linked.above in
+      record {
+        leaf = t.leaf;
+        above = λ z. omega (arith, above, z);
+        is = t.linked.is;
+        fit = takes.fit;
+        takes = takes.takes;
+        learns = record { same = λ _. refl; next = λ z. absurd (omega (arith, inside, z)) };
       }
 
   pub steps_end : (period : Option PeriodView) → End ≡ pass_at (slice_get spans passed) (slice_get spans (suc passed)) left period → Taken period None

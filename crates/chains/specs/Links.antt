@@ -2,6 +2,7 @@
 use Rattle.std.specs.Prelude.{ℕ, ◌≡◌, ◌≢◌, ◌-◌, ◌*◌, ◌<◌, ◌++◌, ◌==◌, ◌&&◌, Bool, true, false, not, cond, min, if◌then◌else◌, List, [], ◌∷◌, filter, length, reverse, Option, Some, None, IfSome, int_lt}
 use Rattle.timebase.specs.Period.{PeriodView}
 use Rattle.legs.specs.Legs.{LegView, is_live}
+use Rattle.tbnode.specs.declared.views.LeafHead.{LeafHead}
 use Rattle.tbtree.specs.Nodes.{LeafView, Node, ALeaf, AnInner}
 use Rattle.chains.specs.declared.leaves.Link.{Link}
 use Rattle.chains.specs.declared.leaves.Spot.{Spot}
@@ -24,19 +25,25 @@ pub record Fits {L : Type 0} (leaf : LeafView L) (link : Link) (spot : Spot) : T
   pub feature_is : IfSome link.feature (λ feature. leaf.feature ≡ feature)
   pub placed : IsPlaced leaf link.page spot
 
--- the same as tests
-abbrev pub is_placed : {L : Type 0} → LeafView L → ℕ → Spot → Bool
-is_placed leaf page spot =
-    cond (spot.before == 0) ((leaf.previous == 0) && (page == spot.first)) (not (leaf.previous == 0))
+-- the same as tests, of a leaf's head and count of legs
+abbrev pub is_placed : ℕ → ℕ → Spot → Bool
+is_placed previous page spot = cond (spot.before == 0) ((previous == 0) && (page == spot.first)) (not (previous == 0))
 
 abbrev pub is_of_feature : Option ℕ → ℕ → Bool
 is_of_feature None feature = true
 is_of_feature (Some wanted) feature = feature == wanted
 
+abbrev pub head_fits : LeafHead → ℕ → Link → Spot → Bool
+head_fits head count link spot =
+    is_of_feature link.feature head.feature
+    && ((count == spot.count) && ((head.next == link.next) && is_placed head.previous link.page spot))
+
+-- what a leaf says of itself
+abbrev pub head_of : {L : Type 0} → LeafView L → LeafHead
+head_of leaf = record { feature = leaf.feature; previous = leaf.previous; next = leaf.next }
+
 unfoldable pub fits : {L : Type 0} → LeafView L → Link → Spot → Bool
-fits leaf link spot =
-    is_of_feature link.feature leaf.feature
-    && ((length leaf.legs == spot.count) && ((leaf.next == link.next) && is_placed leaf link.page spot))
+fits leaf link spot = head_fits (head_of leaf) (length leaf.legs) link spot
 
 -- the node is a leaf that fits
 abbrev pub fits_node : {L B : Type 0} → Option (Node L B) → Link → Spot → Bool

@@ -1,5 +1,5 @@
 -- What is known of the leaves of a chain that were read: a memory of its last leaves.
-use Rattle.std.specs.Prelude.{ℕ, ℤ, zero, suc, ◌≡◌, ◌≢◌, ◌+◌, ◌-◌, ◌<◌, ◌++◌, ◌&&◌, ◌⊎◌, ◌≤ℤ◌, ◌<ℤ◌, Bool, cond, List, [], ◌∷◌, length, if◌then◌else◌, int_lt, int_le, Option, Some, None, All}
+use Rattle.std.specs.Prelude.{ℕ, ℤ, zero, suc, ◌≡◌, ◌≢◌, ◌+◌, ◌-◌, ◌<◌, ◌++◌, ◌&&◌, ◌⊎◌, ◌≤ℤ◌, Bool, cond, List, [], ◌∷◌, length, if◌then◌else◌, int_lt, int_le, Option, Some, None, true, All, Any}
 use Rattle.std.specs.Int.{div_ceil}
 use Rattle.timebase.specs.Period.{PeriodView}
 use Rattle.legs.specs.Boxes.{BoxView}
@@ -21,12 +21,15 @@ pub record IsWithin (start end : ℤ) (leg : LegView) : Type 0 where
   pub rises : leg.t0 ≤ℤ leg.t1
   pub ends : leg.t1 ≤ℤ end
 
--- it is the span of the leaf on that page: the leaf has legs, and all of them are within it
+-- it is the least span of the leaf on that page: the leaf has legs, all of them are within it, one starts where it
+-- starts, and one ends where it ends
 pub record IsSpanOf (span : LeafSpan) (page : ℕ) (leaf : LeafView LegView) : Type 0 where
   pub page_is : span.page ≡ page
   pub feature_is : span.feature ≡ leaf.feature
   pub some : 0 < length leaf.legs
   pub each : All (IsWithin span.start span.end) leaf.legs
+  pub starts : Any (λ (leg : LegView). leg.t0 ≡ span.start) leaf.legs
+  pub ends : Any (λ (leg : LegView). leg.t1 ≡ span.end) leaf.legs
 
 -- on the way back along n leaves of a chain of so many legs these are the spans of the leaves that are met, one after
 -- another, as far as they are known
@@ -101,11 +104,18 @@ known_cost nodes period shape place spans =
 abbrev pub may_meet : PeriodView → LeafSpan → Bool
 may_meet period span = int_le period.start span.end && int_le span.start period.end
 
--- of n leaves from the last one back, these are the spans of all, or of all down to one that ends before the period
-abbrev pub ReachBack : PeriodView → List LeafSpan → ℕ → Type 0
-ReachBack period [] n = n ≡ 0
-ReachBack period (span ∷ spans) n = (span.end <ℤ period.start) ⊎ ReachBack period spans (n - 1)
+module _ (nodes : Pages LegView BoxView) (period : Option PeriodView) where
+  -- of n leaves from page p back, these are the spans of all, or of all down to the one at which a walk ends
+  abbrev pub ReachBack : List LeafSpan → ℕ → ℕ → Type 0
+  ReachBack [] n p = n ≡ 0
+  ReachBack (span ∷ spans) n p =
+      (is_end period (legs_in (nodes.at p)) ≡ true) ⊎ ReachBack spans (n - 1) (previous_of (nodes.at p))
 
--- what is known of the place's chain reaches back to the period
-abbrev pub IsKnownBackTo : PeriodView → ShapeView → Place → List LeafSpan → Type 0
-IsKnownBackTo period shape place spans = ReachBack period spans (div_ceil place.legs shape.leaf)
+-- what is known of the place's chain reaches back to where a walk for the period ends; without one it is known whole
+abbrev pub IsKnownBackTo : Pages LegView BoxView → Option PeriodView → ShapeView → Place → List LeafSpan → Type 0
+IsKnownBackTo nodes period shape place spans = ReachBack nodes period spans (div_ceil place.legs shape.leaf) place.last
+
+-- the spans that were known are the first of those that are known now
+pub record IsFront (old new : List LeafSpan) : Type 0 where
+  pub more : List LeafSpan
+  pub is : new ≡ old ++ more

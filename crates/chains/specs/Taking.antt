@@ -18,6 +18,12 @@ pub record Lesson : Type 0 where
   pub new : List LeafSpan
   pub passed : ℕ
 
+-- the leaf is the one of the link, and is taken
+pub record TakesLeaf (leaf : LeafView LegView) (link : Link) (spot : Spot) (period : Option PeriodView)
+    (old new : List LegView) (result : Option Link) : Type 0 where
+  pub fit : fits leaf link spot ≡ true
+  pub takes : Takes leaf link.page period old new result
+
 -- the node is the leaf of the link, and is taken, and learned
 pub record TakesNode (node : Option (Node LegView BoxView)) (link : Link) (spot : Spot) (period : Option PeriodView)
     (old new : List LegView) (lesson : Lesson) (result : Option Link) : Type 0 where

@@ -5,8 +5,9 @@ ghost use Rattle.pagecache.specs.Cache.{Cache, AsksOnce};
 ghost use Rattle.tbnode.specs.Form.{node_of};
 ghost use Rattle.tbtree.specs.Nodes.{pages_of_cache};
 ghost use Rattle.chains.specs.Faults.{IsCaused, IsNamed};
-ghost use Rattle.chains.specs.Links.{spot_of, is_placed, fits, fits_node, is_kept, is_end};
+ghost use Rattle.chains.specs.Links.{spot_of, is_placed, head_fits, fits, fits_node, is_kept, is_end};
 ghost use Rattle.chains.specs.Reads.{OnlyReads};
+ghost use Rattle.chains.specs.Spans.{IsFront};
 ghost use Rattle.chains.specs.Taking.{TakesNode, TakesPage, IsNodeFault, fault_at};
 
 use crate::fault::ChainFault;
@@ -15,7 +16,7 @@ use legs::Leg;
 use pagecache::PageCache;
 use pages::{PageStore, Payload};
 use std::alloc::AllocError;
-use tbnode::Leaf;
+use tbnode::{Leaf, LeafHead};
 use tbtree::Place;
 use timebase::Period;
 
@@ -57,11 +58,11 @@ pub(crate) fn spot_of(place: &Place, most: u64, before: u64) -> Spot
     }
 }
 
-/// Whether a leaf on a page names a leaf before it exactly where one is to be, and is the first one where none is.
-fn is_placed(leaf: &Leaf<'_>, page: u32, spot: &Spot) -> bool
-    ensures { result ≡ is_placed leaf.now page spot.now }
+/// Whether a leaf on a page, with that leaf before it, names one before it exactly where one is to be, and is the first
+/// one where none is.
+fn is_placed(previous: u32, page: u32, spot: &Spot) -> bool
+    ensures { result ≡ is_placed previous page spot.now }
 {
-    let previous = leaf.head().previous;
     if spot.before == 0 {
         previous == 0 && page == spot.first
     } else {
@@ -69,19 +70,24 @@ fn is_placed(leaf: &Leaf<'_>, page: u32, spot: &Spot) -> bool
     }
 }
 
-/// Whether a leaf is the one that the link leads to.
-#[tactic(auto, unfolding(crate::specs::Links::fits))]
-fn fits(leaf: &Leaf<'_>, link: &Link, spot: &Spot) -> bool
-    ensures { result ≡ fits leaf.now link.now spot.now }
+/// Whether a leaf with that head and so many legs is the one that the link leads to.
+pub(crate) fn head_fits(head: &LeafHead, count: usize, link: &Link, spot: &Spot) -> bool
+    ensures { result ≡ head_fits head.now count link.now spot.now }
 {
-    let head = leaf.head();
     let same = match link.feature {
         Some(feature) => head.feature == feature,
         None => true,
     };
-    same && leaf.len() as u64 == spot.count
+    same && count as u64 == spot.count
         && head.next == link.next
-        && is_placed(leaf, link.page, spot)
+        && is_placed(head.previous, link.page, spot)
+}
+
+/// Whether a leaf is the one that the link leads to.
+fn fits(leaf: &Leaf<'_>, link: &Link, spot: &Spot) -> bool
+    ensures { result ≡ fits leaf.now link.now spot.now }
+{
+    head_fits(&leaf.head(), leaf.len(), link, spot)
 }
 
 /// Whether a leg is kept: it is live in the period, where there is one.
@@ -140,6 +146,7 @@ fn take_node(
         found.old.items found.new.items
         (record { old = spans.old.items; new = spans.new.items; passed = passed })) }
     ensures forgets { OnErr result (spans.new.items ≡ spans.old.items) }
+    ensures keeps { IsFront spans.old.items spans.new.items }
     ensures named { IfErr result
         (IsNodeFault (fits_node (node_of payload.now) link.now spot.now) link.now.page) }
     ensures caused { (old new : Cache) → IfErr result (IsCaused old new) }
@@ -179,6 +186,7 @@ pub(crate) fn take<S: PageStore>(
         found.old.items found.new.items
         (record { old = spans.old.items; new = spans.new.items; passed = passed })) }
     ensures forgets { OnErr result (spans.new.items ≡ spans.old.items) }
+    ensures keeps { IsFront spans.old.items spans.new.items }
     ensures named { IsTrue cache.old.store.is_faithful
         → IfErr result (IsNamed (pages_of_cache cache.old)
         (fault_at (pages_of_cache cache.old) link.now spot.now)) }

@@ -1,6 +1,7 @@
 //! The legs of one feature, read along the chain of its leaves from the last one back.
 #![tactic(auto)]
 
+mod again;
 mod fault;
 mod leaves;
 mod retrieval;

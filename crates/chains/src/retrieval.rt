@@ -1,8 +1,8 @@
 //! The legs of a feature.
-ghost use Rattle.std.specs.Prelude.{ℕ, suc, ◌≡◌, ◌+◌, ◌-◌, ◌^◌, ◌<◌, ◌≤◌, ◌↔◌, List, Option, Some, None, count_by, drop, reverse, slice_get, OnErr, OnOk, IfOk, IfErr, IsTrue};
+ghost use Rattle.std.specs.Prelude.{ℕ, suc, ◌≡◌, ◌+◌, ◌-◌, ◌^◌, ◌<◌, ◌≤◌, ◌≤ℤ◌, ◌↔◌, List, Option, Some, None, count_by, drop, reverse, slice_get, OnErr, OnOk, IfOk, IfErr, IsTrue};
 ghost use Rattle.std.specs.Int.{div_ceil};
 ghost use Rattle.legs.specs.Boxes.{BoxView};
-ghost use Rattle.legs.specs.Costs.{ShapeView, RisesBy, RisesAtMost, track_cost, track_in_bound};
+ghost use Rattle.legs.specs.Costs.{ShapeView, RisesBy, RisesAtMost, known_bound, track_cost, track_in_bound};
 ghost use Rattle.legs.specs.Index.{legs_of, live_legs_of};
 ghost use Rattle.legs.specs.Legs.{LegView};
 ghost use Rattle.pagecache.specs.Cache.{Cache};
@@ -14,11 +14,12 @@ ghost use Rattle.chains.specs.Chains.{AreHeld, IsPlaceChain, chain_fault, chain_
 ghost use Rattle.chains.specs.Faults.{IsAllowed, IsCaused, IsNamed, IsOfHeld, Gives};
 ghost use Rattle.chains.specs.Reads.{OnlyReads};
 ghost use Rattle.chains.specs.Links.{spot_of};
-ghost use Rattle.chains.specs.Spans.{AreSpans, AsksAs, IsKnown, IsKnownBackTo, known_cost, may_meet, pass_at};
+ghost use Rattle.chains.specs.Spans.{AreSpans, AsksAs, IsFront, IsKnown, IsKnownBackTo, known_cost, may_meet, pass_at};
 ghost use Rattle.chains.specs.Taking.{TakesPage, fault_at};
 ghost use Rattle.chains.specs.Trajectory.{HasFeature};
 ghost use Rattle.chains.specs.declared.spans.LeafSpan.{LeafSpan};
 
+use crate::again::take_again;
 use crate::fault::ChainFault;
 use crate::leaves::{Link, spot_of, take};
 use crate::spans::{LeafSpan, Passing, pass};
@@ -46,8 +47,8 @@ struct Cursor {
 }
 
 /// Takes the kept legs of the leaf at a cursor, of the chain of a place in leaves of `most` legs, and gives the link to
-/// the leaf before it; none where nothing before is kept. A leaf that is known to be off the period is not read, and one
-/// that is read is known from then on.
+/// the leaf before it; none where nothing before is kept. A leaf that is known to be off the period is not read, another
+/// one that is known is read without the test of its form, and each that is read is known from then on.
 fn step<S: PageStore>(
     cache: &mut PageCache<S>,
     place: &Place,
@@ -67,6 +68,7 @@ fn step<S: PageStore>(
         found.old.items found.new.items
         (record { old = spans.old.items; new = spans.new.items; passed = at.now.passed })) }
     ensures forgets { OnErr result (spans.new.items ≡ spans.old.items) }
+    ensures keeps { IsFront spans.old.items spans.new.items }
     ensures named { IsTrue cache.old.store.is_faithful
         → IfErr result (IsNamed (pages_of_cache cache.old) (fault_at (pages_of_cache cache.old)
         at.now.link (spot_of most place.now.legs place.now.first at.now.left))) }
@@ -83,7 +85,11 @@ fn step<S: PageStore>(
         Passing::Over(back) => Ok(Some(back)),
         Passing::Into => {
             let spot = spot_of(place, most, at.left);
-            take(cache, &at.link, &spot, period, found, spans, at.passed)
+            if at.passed < spans.len() {
+                take_again(cache, &at.link, &spot, period, found)
+            } else {
+                take(cache, &at.link, &spot, period, found, spans, at.passed)
+            }
         }
     }
 }
@@ -126,6 +132,10 @@ fn walk_back<S: PageStore>(
         ≤ cache.old.asked + div_ceil place.now.legs shape.now.leaf }
     ensures learns { IsTrue cache.old.store.is_faithful
         → IsKnown (pages_of_cache cache.old) shape.now place.now spans.new.items }
+    ensures keeps { IsFront spans.old.items spans.new.items }
+    ensures recalls { IsTrue cache.old.store.is_faithful
+        → OnOk result (IsKnownBackTo (pages_of_cache cache.old) period.now shape.now place.now
+        spans.new.items) }
     ensures shape { IsShape shape.now }
 {
     let most = u64::from(shape.leaf());
@@ -205,9 +215,14 @@ pub fn trajectory<S: PageStore>(
         → OnOk result (RisesAtMost cache.old.asked cache.new.asked
         (chain_cost (pages_of_cache cache.old) None shape.now place.now)) }
 
-    // What is known of the chain's last leaves, after it as before it.
+    // What is known of the chain's last leaves, after it as before it: nothing is forgotten, and an answer leaves it
+    // known whole.
     ensures learns { IsTrue cache.old.store.is_faithful
         → IsKnown (pages_of_cache cache.old) shape.now place.now spans.new.items }
+    ensures keeps { IsFront spans.old.items spans.new.items }
+    ensures recalls { IsTrue cache.old.store.is_faithful → (period : Option PeriodView)
+        → OnOk result (IsKnownBackTo (pages_of_cache cache.old) period shape.now place.now
+        spans.new.items) }
 
     // Over any store; what is said of payloads, over a faithful one.
     ensures reads { OnlyReads cache.old cache.new }
@@ -275,15 +290,29 @@ pub fn trajectory_in<S: PageStore>(
         → OnOk result (RisesAtMost cache.old.asked cache.new.asked
         (chain_cost (pages_of_cache cache.old) (Some period.now) shape.now place.now)) }
 
-    // Where what is known reaches back to the period, only leaves are read that may have a leg in it.
+    // Where what is known reaches back to the period, only leaves are read that may have a leg in it; of pages that stand
+    // for a list, at most as many as the feature has that meet it.
     ensures known { IsTrue cache.old.store.is_faithful
-        → IsKnownBackTo period.now shape.now place.now spans.old.items
+        → IsKnownBackTo (pages_of_cache cache.old) (Some period.now) shape.now place.now
+        spans.old.items
         → OnOk result (RisesAtMost cache.old.asked cache.new.asked
         (count_by (may_meet period.now) spans.old.items)) }
+    ensures met { IsTrue cache.old.store.is_faithful → (legs : List LegView) (feature : ℕ)
+        → HasFeature (pages_of_cache cache.old) shape.now place.now feature legs
+        → IsKnownBackTo (pages_of_cache cache.old) (Some period.now) shape.now place.now
+        spans.old.items
+        → OnOk result (RisesAtMost cache.old.asked cache.new.asked
+        (known_bound feature period.now (Some shape.now) legs)) }
 
-    // What is known of the chain's last leaves, after it as before it.
+    // What is known of the chain's last leaves, after it as before it: nothing is forgotten, and an answer leaves it
+    // known back to the period, and to each that starts no earlier.
     ensures learns { IsTrue cache.old.store.is_faithful
         → IsKnown (pages_of_cache cache.old) shape.now place.now spans.new.items }
+    ensures keeps { IsFront spans.old.items spans.new.items }
+    ensures recalls { IsTrue cache.old.store.is_faithful → (later : PeriodView)
+        → period.now.start ≤ℤ later.start
+        → OnOk result (IsKnownBackTo (pages_of_cache cache.old) (Some later) shape.now place.now
+        spans.new.items) }
 
     // Over any store; what is said of payloads, over a faithful one.
     ensures reads { OnlyReads cache.old cache.new }
@@ -291,6 +320,7 @@ pub fn trajectory_in<S: PageStore>(
     ensures most { cache.new.asked
         ≤ cache.old.asked + div_ceil place.now.legs shape.now.leaf }
 {
+    prove!(period.start() <= period.end());
     let mut found = walk_back(alloc, cache, shape, place, &Some(*period), spans)?;
     found.reverse();
     Ok(found)

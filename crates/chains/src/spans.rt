@@ -1,14 +1,14 @@
 //! What is known of the leaves of a feature that were read: their spans of time.
 ghost use Rattle.std.specs.Prelude.{suc, ◌≡◌, ◌-◌, ◌^◌, ◌<◌, ◌≤ℤ◌, Some, slice_get, IfSome, OnErr, OnOk};
 ghost use Rattle.std.specs.Int.{int_max, int_min};
-ghost use Rattle.chains.specs.Spans.{IsSpanOf, Learns, pass_at, over, link_over};
+ghost use Rattle.chains.specs.Spans.{IsFront, IsSpanOf, Learns, pass_at, over, link_over};
 
 use crate::leaves::Link;
 use std::alloc::AllocError;
 use tbnode::Leaf;
 use timebase::{Ms, Period};
 
-/// What is known of a leaf: its page, its feature, and a span of time that has all its legs.
+/// What is known of a leaf: its page, its feature, and the least span of time that has all its legs.
 ///
 /// Such spans of a feature's leaves, from the last one back, are a memory of its chain: a leaf that is off a period is
 /// passed by its span, and not read again.
@@ -18,9 +18,9 @@ pub struct LeafSpan {
     pub page: u32,
     /// The feature of its legs.
     pub feature: u32,
-    /// No leg of it starts before this moment.
+    /// A leg of it starts at this moment, and none before.
     pub start: Ms,
-    /// No leg of it ends after this moment.
+    /// A leg of it ends at this moment, and none after.
     pub end: Ms,
 }
 
@@ -153,6 +153,7 @@ pub(crate) fn learn(
 ) -> Result<(), AllocError>
     ensures ok { OnOk result (Learns spans.old.items spans.new.items passed page leaf.now) }
     ensures err { OnErr result (spans.new.items ≡ spans.old.items) }
+    ensures keeps { IsFront spans.old.items spans.new.items }
 {
     if passed == spans.len() {
         spans.push(span_of(leaf, page))?;

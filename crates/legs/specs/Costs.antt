@@ -1,5 +1,5 @@
 -- How many pages a question of an index asks for, computed from the list of legs alone.
-use Rattle.std.specs.Prelude.{ℕ, zero, suc, ◌+◌, ◌-◌, ◌*◌, ◌<◌, ◌≡◌, ◌≤◌, ◌^◌, min, Bool, false, cond, nat_lt, List, [], ◌∷◌, length, count_by, Option, Some, None, int_le}
+use Rattle.std.specs.Prelude.{ℕ, zero, suc, ◌+◌, ◌-◌, ◌*◌, ◌<◌, ◌≡◌, ◌≤◌, ◌^◌, ◌&&◌, min, Bool, false, cond, nat_lt, List, [], ◌∷◌, length, count_by, Option, Some, None, int_le}
 use Rattle.std.specs.Int.{div_ceil}
 use Rattle.std.specs.List.{list_any, range_with_len}
 use Rattle.timebase.specs.Period.{PeriodView}
@@ -66,6 +66,15 @@ unfoldable pub track_in_bound : ℕ → PeriodView → Option ShapeView → List
 track_in_bound feature period None legs = 0
 track_in_bound feature period (Some shape) legs =
     min (div_ceil (length (legs_of feature legs)) shape.leaf) (1 + count_by (reaches period) (groups shape.leaf (legs_of feature legs)))
+
+-- some leg of the run starts at or before the period's end, and some leg of it ends at or after its start
+abbrev pub meets_period : PeriodView → List LegView → Bool
+meets_period period run = reaches period run && list_any (λ leg. int_le leg.t0 period.end) run
+
+-- the leaves of the feature that meet the period, where they are known; an index that keeps a list asks for nothing
+unfoldable pub known_bound : ℕ → PeriodView → Option ShapeView → List LegView → ℕ
+known_bound feature period None legs = 0
+known_bound feature period (Some shape) legs = count_by (meets_period period) (groups shape.leaf (legs_of feature legs))
 
 -- the height of the root above the leaves: how many levels have more than one block
 abbrev pub height : {L : Type 0} → ℕ → List (List L) → ℕ

@@ -1,9 +1,9 @@
 -- The legs of a leaf are lawful.
-use Rattle.std.proofs.Common.{◌≡◌, ℕ, ℤ, ◌<◌, ◌==◌, Bool, true, false, ◌&&◌, if◌then◌else◌, List, Some, None, refl, sym, ap, ◌∙◌, arith, subst, unsigned_abs, nat_le}
+use Rattle.std.proofs.Common.{◌≡◌, ℕ, ℤ, ◌<◌, ◌==◌, Bool, true, false, ◌&&◌, if◌then◌else◌, List, Option, Some, None, refl, sym, ap, ◌∙◌, arith, subst, unsigned_abs, nat_le, is_le, int_cmp}
 use Rattle.std.specs.Prelude.{◌<ℤ◌, ◌≤ℤ◌, int_le, int_lt}
 use Rattle.std.specs.Option.{is_some}
 use Rattle.std.specs.List.{All}
-use Rattle.std.proofs.lemmas.Bool.{false≢true, leb-true}
+use Rattle.std.proofs.lemmas.Bool.{false≢true, leb-true, eqb-true}
 use Rattle.std.proofs.lemmas.Int.{ints}
 use Rattle.std.proofs.lemmas.Option.{same_Some}
 use Rattle.fixedpoint.specs.Number.{IsInRange, units_within, most}
@@ -84,6 +84,32 @@ leg_is : (f : ℕ) (bytes : List ℕ) → is_leg bytes ≡ true → IsLeg (leg_o
 leg_is f bytes e =
     let t = leg_tests bytes e in
     with_feature f bytes (is_leg-from (leg_of 0 bytes) t.0 t.1 t.2)
+
+-- the last four bytes of a lawful leg are zero
+pub last_zero : (bytes : List ℕ) → is_leg bytes ≡ true → number_at 4 76 bytes ≡ 0
+unfolding is_leg
+last_zero bytes e =
+    let l = leg_of 0 bytes in
+    eqb-true (number_at 4 76 bytes) 0 (and_right (has_moments l && has_start l && has_end l) (number_at 4 76 bytes == 0) e)
+
+-- what is no value is none
+pub not_some : {T : Type 0} (o : Option T) → ((x : T) → o ≡ Some x → ⊥) → is_some o ≡ true → ⊥
+not_some None h e = false≢true e
+not_some (Some x) h e = h x refl
+
+-- a moment that is read is the number that was there
+pub moment_is : (t z : ℤ) → Some t ≡ some_moment z → t ≡ z
+moment_is t z e =
+    (elim (is_moment z) as (λ b. Some t ≡ (if b then Some z else None) → t ≡ z) [
+      | true ↦ λ h. same_Some t z h
+      | false ↦ λ h. absurd (false≢true (sym (ap is_some h)))
+    ]) e
+
+later : (a b : ℤ) → is_le (int_cmp b a) ≡ true → a <ℤ b → ⊥
+later a b h r = grind (arith, ints)
+
+pub not_after : (a b t u : ℤ) → t ≡ a → u ≡ b → a <ℤ b → is_le (int_cmp u t) ≡ true → ⊥
+not_after a b t u e f r h = later a b (subst (λ z. is_le (int_cmp b z) ≡ true) e (subst (λ z. is_le (int_cmp z t) ≡ true) f h)) r
 
 -- the numbers of a lawful leg are in range, and its moments rise
 module _ (bytes : List ℕ) (e : is_leg bytes ≡ true) where

@@ -8,3 +8,4 @@ pub mod LeafLemmas
 pub mod InnerLemmas
 pub mod RestLemmas
 pub mod LawLemmas
+pub mod UntestedLemmas

@@ -77,6 +77,14 @@ node_by Catalogue bytes = None
 unfoldable pub node_of : Payload → Option (Node LegView BoxView)
 node_of payload = node_by payload.kind payload.bytes
 
+-- P of the leaf that a payload says, where it says one
+abbrev pub OfLeaf : Payload → (LeafView LegView → Type 0) → Type 0
+OfLeaf payload P = (leaf : LeafView LegView) → node_of payload ≡ Some (ALeaf leaf) → P leaf
+
+-- the head counts from 1 to 50 legs
+unfoldable pub is_counted : List ℕ → Bool
+is_counted bytes = nat_le 1 (leg_count bytes) && nat_le (leg_count bytes) 50
+
 -- the legs of each leaf are lawful
 abbrev pub LegsAreLawful : Type 0
 LegsAreLawful = (payload : Payload) (leaf : LeafView LegView) → node_of payload ≡ Some (ALeaf leaf) → All IsLeg leaf.legs

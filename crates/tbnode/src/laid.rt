@@ -1,8 +1,9 @@
 //! A leg in 80 bytes.
-ghost use Rattle.std.specs.Prelude.{◌≡◌, ◌&&◌, ◌+◌, ◌≤◌, length, IsTrue};
+ghost use Rattle.std.specs.Prelude.{ℕ, ◌≡◌, ◌&&◌, ◌+◌, ◌≤◌, length, IsTrue, Some};
 ghost use Rattle.std.specs.Option.{is_some};
 ghost use Rattle.fixedpoint.specs.Number.{units_within};
 ghost use Rattle.timebase.specs.Instant.{some_moment};
+ghost use Rattle.legs.specs.Legs.{is_live};
 ghost use Rattle.tbnode.specs.Parts.{put, signed_at, signed_bytes};
 ghost use Rattle.tbnode.specs.Steps.{LegReadsBack};
 ghost use Rattle.tbnode.specs.Layout.{leg_bytes, leg_of, is_leg, has_moments, has_start, has_end};
@@ -10,7 +11,7 @@ ghost use Rattle.tbnode.specs.Layout.{leg_bytes, leg_of, is_leg, has_moments, ha
 use crate::fields::{i64_at, put_i64, put_u32, put_u64, u32_at, u64_at};
 use fixedpoint::Coord;
 use legs::Leg;
-use timebase::Ms;
+use timebase::{Ms, Period};
 
 /// Whether 80 bytes begin with an ordinal and two moments that rise.
 #[tactic(auto, unfolding(crate::specs::Layout::leg_of, crate::specs::Layout::has_moments))]
@@ -102,6 +103,84 @@ pub(crate) fn leg_in(bytes: &[u8], feature: u32) -> Leg
         y1: coord_at(bytes, 56),
         z1: coord_at(bytes, 64),
     }
+}
+
+/// The moment at a place, if it is in range.
+fn some_moment(bytes: &[u8], place: usize) -> Option<Ms>
+    requires { place + 8 ≤ length bytes.now }
+    ensures { result ≡ some_moment (signed_at place bytes.now) }
+{
+    Ms::new(i64_at(bytes, place))
+}
+
+/// The coordinate at a place, if it is in range.
+fn some_coord(bytes: &[u8], place: usize) -> Option<Coord>
+    requires { place + 8 ≤ length bytes.now }
+    ensures { result ≡ units_within (signed_at place bytes.now) }
+{
+    Coord::new(i64_at(bytes, place))
+}
+
+/// The leg of a feature that 80 bytes say, where they say a lawful one; else a lawful leg, or none.
+#[tactic(auto, using(crate::proofs::LawLemmas::lawful), unfolding(crate::specs::Layout::leg_of))]
+pub(crate) fn some_leg(bytes: &[u8], feature: u32) -> Option<Leg>
+    requires { length bytes.now ≡ 80 }
+    ensures { IsTrue (is_leg bytes.now) → result ≡ Some (leg_of feature bytes.now) }
+{
+    let Some(t0) = some_moment(bytes, 8) else {
+        return None;
+    };
+    let Some(t1) = some_moment(bytes, 16) else {
+        return None;
+    };
+    let Some(x0) = some_coord(bytes, 24) else {
+        return None;
+    };
+    let Some(y0) = some_coord(bytes, 32) else {
+        return None;
+    };
+    let Some(z0) = some_coord(bytes, 40) else {
+        return None;
+    };
+    let Some(x1) = some_coord(bytes, 48) else {
+        return None;
+    };
+    let Some(y1) = some_coord(bytes, 56) else {
+        return None;
+    };
+    let Some(z1) = some_coord(bytes, 64) else {
+        return None;
+    };
+    if t1 <= t0 {
+        return None;
+    }
+    if u32_at(bytes, 76) != 0 {
+        return None;
+    }
+    Some(Leg {
+        ordinal: u64_at(bytes, 0),
+        feature,
+        row: u32_at(bytes, 72),
+        t0,
+        t1,
+        x0,
+        y0,
+        z0,
+        x1,
+        y1,
+        z1,
+    })
+}
+
+/// Whether the leg that 80 bytes say is live in a period, of whatever feature it is.
+#[tactic(auto, unfolding(crate::specs::Layout::leg_of))]
+pub(crate) fn is_live_in(bytes: &[u8], period: &Period) -> bool
+    requires { length bytes.now ≡ 80 }
+    ensures { (feature : ℕ) → result ≡ is_live period.now (leg_of feature bytes.now) }
+{
+    let first = i64_at(bytes, 8).max(period.start().millis());
+    let last = i64_at(bytes, 16).min(period.end().millis());
+    first <= last
 }
 
 fn put_moment(bytes: &mut [u8], place: usize, at: Ms)

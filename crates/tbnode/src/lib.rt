@@ -9,10 +9,12 @@ mod entries;
 pub mod fields;
 mod form;
 mod laid;
+mod untested_leaf;
 mod views;
 
 pub use edit::{init_inner, init_leaf, push_entry, push_leg, set_next, widen};
 pub use entries::Entry;
 pub use form::{inner, laws, leaf};
 pub use laid::{coord_at, has_coord, moment_at};
+pub use untested_leaf::{UntestedLeaf, untested};
 pub use views::{Inner, InnerHead, Leaf, LeafHead, MOST_ENTRIES, MOST_LEGS};

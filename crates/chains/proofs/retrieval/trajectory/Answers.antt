@@ -7,6 +7,7 @@ use Rattle.tbtree.specs.Nodes.{pages_of_cache}
 use Rattle.chains.specs.Chains.{chain_legs}
 use Rattle.chains.proofs.FaultLemmas.{allowed_of, whole_from, whole_to}
 use Rattle.chains.proofs.PlaceLemmas.{whole_chain, whole_walk, whole_cost, walked_all}
+use Rattle.chains.proofs.ReachLemmas.{reach_any}
 use Rattle.chains.proofs.SpanLemmas.{cost_whole}
 use Rattle.chains.proofs.retrieval.trajectory.Goals as goal
 
@@ -62,3 +63,8 @@ returns-clause-walked g c = λ fa below.
     let each = cost_whole (pages_of_cache c.args.cache.now) c.args.spans.now.items (div_ceil place.legs c.args.shape.now.leaf) place.last in
     let asked = c.in_ok-found.ensures.asked fa below in
     omega (arith, asked, each)
+
+pub returns-clause-recalls : goal.returns-clause-recalls
+returns-clause-recalls g c = λ fa period.
+    let place = c.args.place.now in
+    reach_any (pages_of_cache c.args.cache.now) period c.walk_back.new.spans.items (div_ceil place.legs c.args.shape.now.leaf) place.last (c.in_ok-found.ensures.recalls fa)

@@ -6,7 +6,8 @@ use Rattle.tbtree.specs.Nodes.{pages_of_cache}
 use Rattle.std.specs.Int.{div_ceil}
 use Rattle.chains.specs.Chains.{fault_from, last_link, walk, walked}
 use Rattle.chains.specs.Spans.{AreSpans, AsksAs, IsKnown, pass_at, walked_by}
-use Rattle.chains.proofs.SpanLemmas.{IsOnWay, all_known, asks_last, asks_on, cost_none, few_last, few_on, past_read, rest_same, spans_last}
+use Rattle.chains.proofs.SpanLemmas.{all_known, asks_last, asks_on, cost_none, few_last, few_on, past_read, rest_same, spans_last}
+use Rattle.chains.proofs.ReachLemmas.{front_then, reached_all, reached_end, reached_on}
 use Rattle.chains.proofs.WalkLemmas.{linked_by}
 use Rattle.chains.specs.Links.{fits, is_end, link_back, spot_of}
 use Rattle.chains.specs.Taking.{fault_at}
@@ -92,6 +93,13 @@ leaves-preserved g c =
           let more = asked_on nodes period link t.leaf is rest n less s.0 in
           let same = ap (λ b. walked nodes period rest b.page) s.1 in
           omega (arith, c.step.ensures.most, so_far, more, same);
+      keeps = front_then c.args.spans.now.items c.leaves.spans.items c.step.new.spans.items inv.keeps c.step.ensures.keeps;
+      reached = λ fa.
+          let t = c.in_ok-back.ensures.taken (inv.reads.store.faithful ∙ fa) in
+          let is = sym (same_at old c.leaves.cache inv.reads fa link.page) ∙ t.is in
+          let s = goes_on (is_end period t.leaf.legs) c.in-Some.back (link_back link.page t.leaf) (sym c.in-Some.is ∙ t.takes.link) in
+          let next : c.leaves.passed + 1 ≡ suc c.leaves.passed = omega arith in
+          rw (next, s.1) (reached_on nodes period blocks c.args.place.now.last c.leaves.passed link.page c.leaves.spans.items c.step.new.spans.items n rest link.page t.leaf (inv.way fa).within t.learns less is (inv.reached fa));
       passed = omega (arith, inv.passed, less);
       few = omega (arith, c.step.ensures.most, inv.few, less);
     }
@@ -240,3 +248,39 @@ returns-clause-found g c = λ fa.
     let inv = c.leaves.invariant in
     let none : c.leaves.left ≡ 0 = omega (arith, c.leaves-test.false) in
     sym (append-nil c.leaves.found.items) ∙ sym (ap (λ n. c.leaves.found.items ++ reverse (walk nodes c.args.period.now n c.leaves.link.page)) none) ∙ inv.found fa
+
+pub returns-in_default-clause-recalls : goal.returns-in_default-clause-recalls
+returns-in_default-clause-recalls g c = λ fa.
+    let old = c.args.cache.now in
+    let nodes = pages_of_cache old in
+    let period = c.args.period.now in
+    let place = c.args.place.now in
+    let link = c.leaves.link in
+    let rest = c.leaves.left - 1 in
+    let inv = c.leaves.invariant in
+    let less : c.leaves.left ≡ suc rest = omega (arith, c.leaves-test.true) in
+    let t = c.in_ok-back.ensures.taken (inv.reads.store.faithful ∙ fa) in
+    let is = sym (same_at old c.leaves.cache inv.reads fa link.page) ∙ t.is in
+    let s = ends (is_end period t.leaf.legs) (link_back link.page t.leaf) (sym c.in_default.is ∙ t.takes.link) in
+    reached_end nodes period (div_ceil place.legs c.args.shape.now.leaf) place.last c.leaves.passed link.page c.leaves.spans.items c.step.new.spans.items c.leaves.left rest link.page t.leaf (inv.way fa).within t.learns less is (inv.reached fa) s
+
+pub returns-clause-recalls : goal.returns-clause-recalls
+returns-clause-recalls g c = λ fa.
+    let place = c.args.place.now in
+    let none : c.leaves.left ≡ 0 = omega (arith, c.leaves-test.false) in
+    reached_all (pages_of_cache c.args.cache.now) c.args.period.now (div_ceil place.legs c.args.shape.now.leaf) place.last c.leaves.passed c.leaves.spans.items c.leaves.left c.leaves.link.page none (c.leaves.invariant.reached fa)
+
+pub returns-in_err-back-clause-learns : goal.returns-in_err-back-clause-learns
+returns-in_err-back-clause-learns g c = λ fa.
+    let nodes = pages_of_cache c.args.cache.now in
+    let shape = c.args.shape.now in
+    let place = c.args.place.now in
+    let blocks = div_ceil place.legs shape.leaf in
+    subst (λ spans. IsKnown nodes shape place spans) (sym c.in_err-back.ensures.forgets)
+    (all_known nodes shape.leaf place.legs place.first blocks (last_link place) c.leaves.passed c.leaves.spans.items c.leaves.left c.leaves.link (c.leaves.invariant.way fa))
+
+pub returns-clause-learns : goal.returns-clause-learns
+returns-clause-learns g c = λ fa.
+    let shape = c.args.shape.now in
+    let place = c.args.place.now in
+    all_known (pages_of_cache c.args.cache.now) shape.leaf place.legs place.first (div_ceil place.legs shape.leaf) (last_link place) c.leaves.passed c.leaves.spans.items c.leaves.left c.leaves.link (c.leaves.invariant.way fa)

@@ -1,0 +1,14 @@
+use Rattle.std.proofs.Common.{ap, sym, ◌∙◌}
+use Rattle.std.proofs.lemmas.Result.{err_from_is_err_and}
+use Rattle.tbnode.specs.Form.{node_of}
+use Rattle.chains.proofs.GroupLemmas.{some_none}
+use Rattle.chains.proofs.again.take_node.Goals as goal
+
+pub returns-in_err-push_kept-clause-caused : goal.returns-in_err-push_kept-clause-caused
+returns-in_err-push_kept-clause-caused c = λ old new.
+    let p = err_from_is_err_and c.from_residual.result c.from_residual.ensures.1 in
+    rw (p.1, p.2) (c.in_err-push_kept.ensures.caused old new)
+
+pub returns-in-None-clause-named : goal.returns-in-None-clause-named
+returns-in-None-clause-named c = λ view e.
+    absurd (some_none _ (sym (c.is_end.ensures view (ap node_of c.in-Some.ensures.value ∙ e)) ∙ c.in-None.is))
