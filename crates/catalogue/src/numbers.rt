@@ -5,7 +5,7 @@ ghost use Rattle.byteorder.specs.Endian.{big_bytes};
 ghost use Rattle.tbnode.specs.Parts.{signed_bytes};
 
 /// Eight bytes to write over.
-fn eight() -> [u8; 8] {
+fn eight_zeros() -> [u8; 8] {
     [0; 8]
 }
 
@@ -14,13 +14,13 @@ pub fn u64_of(bytes: &[u8]) -> u64
     requires { length bytes.now ≡ 8 }
     ensures { big_bytes 8 result ≡ bytes.now }
 {
-    let mut array = eight();
+    let mut array = eight_zeros();
     array.copy_from_slice(bytes);
     u64::from_be_bytes(array)
 }
 
 /// Four bytes to write over.
-fn four() -> [u8; 4] {
+fn four_zeros() -> [u8; 4] {
     [0; 4]
 }
 
@@ -29,7 +29,7 @@ pub fn u32_of(bytes: &[u8]) -> u32
     requires { length bytes.now ≡ 4 }
     ensures { big_bytes 4 result ≡ bytes.now }
 {
-    let mut array = four();
+    let mut array = four_zeros();
     array.copy_from_slice(bytes);
     u32::from_be_bytes(array)
 }
@@ -40,7 +40,7 @@ pub(crate) fn i64_of(bytes: &[u8]) -> i64
     ensures bytes { signed_bytes result ≡ bytes.now }
     ensures fits { FitsSigned w64 result }
 {
-    let mut array = eight();
+    let mut array = eight_zeros();
     array.copy_from_slice(bytes);
     i64::from_be_bytes(array)
 }

@@ -120,7 +120,7 @@ fn is_column_of(found: &Found, head: &BookHead, column: usize) -> bool {
 }
 
 /// A column that is another one than the store's of its place, both counted from 1.
-fn another_column(
+fn differing_column(
     alloc: Global,
     number: usize,
     name: &str,
@@ -135,7 +135,7 @@ fn another_column(
 }
 
 /// A column beyond those of the store, counted from 1.
-fn no_column(alloc: Global, number: usize, name: &str) -> Result<String, AllocError> {
+fn surplus_column(alloc: Global, number: usize, name: &str) -> Result<String, AllocError> {
     let name = Shown(name);
     format!(in alloc; "attribute column {number}, '{name}', is none of the store's")
 }
@@ -153,9 +153,9 @@ fn other_column(
     match head.columns.as_slice().get(column) {
         Some(ours) => {
             let kind = field_at(&found.row, place.saturating_add(1));
-            another_column(alloc, number, name, kind, ours)
+            differing_column(alloc, number, name, kind, ours)
         }
-        None => no_column(alloc, number, name),
+        None => surplus_column(alloc, number, name),
     }
 }
 

@@ -25,7 +25,7 @@ impl Known<'_> {
     }
 }
 
-/// When the last leg of the feature of that name ends.
+/// When the last leg of the feature of that name ends, among these tracks.
 fn last_end_in(tracks: &Tracks, name: &str) -> Option<Ms> {
     let feature = tracks.feature(name)?;
     let track = tracks.track(feature)?;

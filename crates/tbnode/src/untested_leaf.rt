@@ -61,7 +61,7 @@ impl<'a> UntestedLeaf<'a> {
         usize::from(u16_at(&self.payload.bytes, 12))
     }
 
-    /// Leg `i`, from 0; `None` where there is none, and where what is there is no lawful leg.
+    /// Leg `i` of a leaf, from 0; `None` where there is none. Of a payload that is no leaf it is some lawful leg, or `None`.
     pub fn leg(&self, i: usize) -> Option<Leg>
         ensures { OfLeaf self.now (λ leaf. result ≡ slice_get leaf.legs i) }
     {

@@ -65,8 +65,9 @@ fn put_all<S: PageStore>(
 }
 
 /// Puts legs of one feature into the tree, one after another, at the place of the feature: what fills its last leaf, and
-/// then each new leaf. A leaf that takes several legs, and the pages above it, are looked at and widened once for all of
-/// them. Any refusal leaves the tree spent, and a spent tree is refused by `Spent`.
+/// then each new leaf. The last leaf, and the pages above it, are looked at and widened once for all the legs that it
+/// takes, and a leaf that is made once for its first leg and once for the others. Any refusal leaves the tree spent, and a
+/// spent tree is refused by `Spent`.
 pub fn insert_all<S: PageStore>(
     tree: &mut TbTree,
     cache: &mut PageCache<S>,
@@ -85,8 +86,8 @@ pub fn insert_all<S: PageStore>(
     ensures length { OnOk result (KeepsLength cache.old cache.new) }
     ensures caused { IfErr result (IsCaused cache.old cache.new) }
 
-    // For each leaf that is made, and for one that is there, at most three times the root's height and two pages are asked
-    // for; and each leaf that is made but the last is filled.
+    // For each leaf that is made, and for one that is there, at most three times the tree's levels, and two, pages are
+    // asked for; and no more leaves are made than fill up, but for the last.
     ensures asked { OnOk result (cache.new.asked ≤ cache.old.asked
         + (tree.new.leaves - tree.old.leaves + 1) * (3 * tree.new.levels + 2)) }
     ensures more { OnOk result (tree.old.leaves ≤ tree.new.leaves) }

@@ -1,4 +1,4 @@
--- Legs that wait until there are so many that they are put into an index together.
+-- Helpers of private functions: legs that wait until there are so many that they are put into an index together.
 use Rattle.std.specs.Prelude.{◌≡◌, List, [], ◌∷◌, ◌++◌}
 use Rattle.legs.specs.Index.{CanFollowInTurn}
 use Rattle.legs.specs.Legs.{LegView}

@@ -1,5 +1,5 @@
 //! Legs that wait until there are so many that they are put into an index together.
-ghost use Rattle.std.specs.Prelude.{◌≡◌, ◌∷◌, ◌++◌, [], IsErrOf, IfErr, OnOk};
+ghost use Rattle.std.specs.Prelude.{◌≡◌, ◌<◌, ◌∷◌, ◌++◌, [], length, IsErrOf, IfErr, OnOk};
 ghost use Rattle.legs.specs.Asking.{IsLater};
 ghost use Rattle.legs.specs.Index.{HasRisen, MayRefuseLeg};
 ghost use Rattle.legs.specs.declared.index.IndexFault.{IndexFault};
@@ -38,6 +38,8 @@ pub(crate) fn put_behind<I: LegIndex>(
     waiting: &mut Vec<Leg>,
     leg: Leg,
 ) -> Result<(), IndexFault>
+    requires few { length waiting.old.items < 65536 }
+    ensures few { OnOk result (length waiting.new.items < 65536) }
     ensures holds { OnOk result (MayWait I.Listed index.old (waiting.old.items ++ leg ∷ [])
         → Holds I.Listed index.old index.new (waiting.old.items ++ leg ∷ []) waiting.new.items) }
     ensures only { IfErr result (λ fault. MayWait I.Listed index.old

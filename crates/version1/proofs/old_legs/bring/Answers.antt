@@ -1,4 +1,4 @@
-use Rattle.std.proofs.Common.{◌≡◌, ◌+◌, ◌∙◌, inl, inr, Err, IsErrOf, nat_eq, Some, refl, sym, ap, subst}
+use Rattle.std.proofs.Common.{length, arith, ◌≡◌, ◌+◌, ◌∙◌, inl, inr, Err, IsErrOf, nat_eq, Some, refl, sym, ap, subst}
 use Rattle.std.proofs.lemmas.List.{append-nil}
 use Rattle.std.proofs.lemmas.Result.{err_from_is_err_and}
 use Rattle.legs.specs.declared.index.IndexFault.TheVariants.{Store}
@@ -19,6 +19,7 @@ pub legs-init : goal.legs-init
 legs-init g c = record {
   stays = stays_refl (g.S.PageStore.seen c.args.old.now);
   later = later_refl g.I.Listed c.args.index.now;
+  few = (let e = ap length c.new-waiting.ensures.items in omega (arith, e));
   brought = λ fa sound empty list have numbered. brought_none g.I.Listed c.args.index.now c.with_hasher-opened.result.entries c.new-waiting.result.items c.args.legs list c.with_hasher-opened.ensures.empty c.new-waiting.ensures.items sound empty numbered;
   opened = λ fa rises. opened_none (pages_by old_node_of (fresh (g.S.PageStore.seen c.args.old.now) 1)) c.args.leaves.now c.with_hasher-opened.result.entries;
 }
@@ -32,6 +33,7 @@ legs-preserved g c =
     record {
       stays = stays_trans first now (g.S.PageStore.seen c.open_next.new.store) inv.stays c.open_next.ensures.stays;
       later = later_trans g.I.Listed c.args.index.now c.legs.index c.put_behind.new.index inv.later c.put_behind.ensures.later;
+      few = c.in_ok-put_behind.ensures.few;
       brought = λ fa sound empty list have numbered.
           let b = inv.brought fa sound empty list have numbered in
           let same = same_by old_node_of (fresh first 1) (fresh now 1) (reads_stays first now inv.stays) fa in

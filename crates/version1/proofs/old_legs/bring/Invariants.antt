@@ -1,4 +1,4 @@
-use Rattle.std.specs.Prelude.{◌≡◌, List, [], IsTrue}
+use Rattle.std.specs.Prelude.{◌≡◌, ◌<◌, List, [], length, IsTrue}
 use Rattle.legs.specs.Asking.{IsLater}
 use Rattle.legs.specs.Legs.{LegView}
 use Rattle.pages.specs.Store.{Stays}
@@ -15,6 +15,7 @@ abbrev pub invariant-legs : goal.invariant-legs
 invariant-legs g l = record {
   stays : Stays (g.S.PageStore.seen l.initial.old) (g.S.PageStore.seen l.old);
   later : IsLater g.I.Listed l.initial.index l.index;
+  few : length l.waiting.items < 65536;
   brought : IsTrue (g.S.PageStore.seen l.initial.old).is_faithful → g.I.Listed.is_sound l.initial.index → g.I.Listed.content l.initial.index ≡ [] → (list : List LegView)
       → HaveLegsOf (pages_by old_node_of (fresh (g.S.PageStore.seen l.initial.old) 1)) l.leaves list → IsNumbered l.legs list
       → Brought g.I.Listed l.initial.index l.index l.opened.entries l.waiting.items l.ordinal-counter list;
