@@ -1,13 +1,13 @@
 -- Legs of one feature, put in part by part.
-use Rattle.std.proofs.Common.{ℕ, ◌+◌, ◌-◌, ◌≤◌, ◌≡◌, arith, All, List, [], ◌∷◌, ◌++◌, take, drop, length, sym, ap, ◌∙◌, subst, append_assoc, Result, Ok, Err}
-use Rattle.std.proofs.lemmas.List.{append-nil, take-append-drop, length-take-le, length-drop}
+use Rattle.std.proofs.Common.{ℕ, ◌+◌, ◌-◌, ◌≤◌, ◌≡◌, arith, All, List, [], ◌∷◌, ◌++◌, take, drop, length, sym, ap, ◌∙◌, subst, append_assoc, Result, Ok, Err, OnOk}
+use Rattle.std.proofs.lemmas.List.{append-nil, take-append-drop, length-take-le, length-drop, take_all}
 use Rattle.std.proofs.lemmas.List.Elements.{All-take, All-drop}
 use Rattle.std.proofs.Math.Seq.{take-add, take-append_seam, drop-append_seam}
 use Rattle.legs.specs.Boxes.{BoxView}
 use Rattle.legs.specs.Legs.{LegView}
 use Rattle.tbtree.specs.Insert.{IsPlace}
-use Rattle.tbtree.specs.Joining.{CanJoinInTurn, Holds, JoinsAll}
-use Rattle.tbtree.specs.Nodes.{Pages}
+use Rattle.tbtree.specs.Joining.{HasAtEnd, CanJoinInTurn, Holds, JoinsAll}
+use Rattle.tbtree.specs.Nodes.{Pages, Pushes}
 use Rattle.tbtree.specs.declared.fault.TreeFault.{TreeFault}
 use Rattle.tbtree.specs.declared.tree.Place.{Place}
 use Rattle.tbtree.specs.declared.tree.TbTree.{TbTree}
@@ -25,6 +25,11 @@ in_turn_front b (x ∷ xs) ys w = (w.0, in_turn_front (b ++ x ∷ []) xs ys w.1)
 in_turn_back : (b xs ys : List LegView) → CanJoinInTurn b (xs ++ ys) → CanJoinInTurn (b ++ xs) ys
 in_turn_back b [] ys w = subst (λ l. CanJoinInTurn l ys) (sym (append-nil b)) w
 in_turn_back b (x ∷ xs) ys w = subst (λ l. CanJoinInTurn l ys) (append_assoc b (x ∷ []) xs) (in_turn_back (b ++ x ∷ []) xs ys w.1)
+
+-- a leaf that takes legs has them at its end
+pub ends_pushed : (old new : Pages LegView BoxView) (p : ℕ) (ys : List LegView) (res : Result (Unit {0}) TreeFault) → OnOk res (Pushes old p ys new) → OnOk res (HasAtEnd new ys)
+ends_pushed old new p ys (Ok u) w = record { page = p; leaf = w.leaf; is = w.becomes.now }
+ends_pushed old new p ys (Err x) w = tt
 
 -- no leg changes nothing
 pub joins_none : (nodes : Pages LegView BoxView) (tree : TbTree) (place : Place) → JoinsAll nodes nodes tree tree place place [] (Ok tt)
@@ -80,3 +85,8 @@ module _ (a b c : Pages LegView BoxView) (t u v : TbTree) (p q r : Place) (legs 
   part_refused x first more =
       subst (λ l. JoinsAll a c t v p r l (Err x)) (ap (λ l. l ++ drop (n + k) legs) (sym (take-add n k legs)) ∙ take-append-drop (n + k) legs)
       (refused_front a c t v p r (take n legs ++ take k (drop n legs)) (drop (n + k) legs) x (then_joins a b c t u v p q r (take n legs) (take k (drop n legs)) (Err x) first (own_part (Err x) more)))
+
+-- all legs at once
+pub ends_all : (nodes : Pages LegView BoxView) (legs : List LegView) (n k : ℕ) → n ≡ 0 → k ≡ length legs → HasAtEnd nodes (take (n + k - n) (drop n legs)) → HasAtEnd nodes legs
+ends_all nodes legs n k z e h =
+    subst (λ l. HasAtEnd nodes l) (part_is legs n k ∙ ap (λ m. take k (drop m legs)) z ∙ ap (λ m. take m legs) e ∙ take_all (length legs) legs (omega arith)) h

@@ -1,12 +1,12 @@
 -- A leg more in a tree, whatever the order in which the legs before it came.
-use Rattle.std.specs.Prelude.{ℕ, ◌≡◌, ◌≢◌, ◌<◌, ◌≤◌, List, [], ◌∷◌, ◌++◌, length, All, Result}
+use Rattle.std.specs.Prelude.{ℕ, ◌≡◌, ◌≢◌, ◌<◌, ◌≤◌, List, [], ◌∷◌, ◌++◌, length, All, Some, Result}
 use Rattle.legs.specs.Legs.{LegView}
 use Rattle.legs.specs.Boxes.{BoxView}
 use Rattle.legs.specs.Costs.{leg_feature, leaves_of}
 use Rattle.legs.specs.Hull.{leg_boxes}
 use Rattle.legs.specs.Index.{feature_count}
 use Rattle.tbtree.specs.Faults.{Gives}
-use Rattle.tbtree.specs.Nodes.{Pages}
+use Rattle.tbtree.specs.Nodes.{Pages, LeafView, ALeaf, with_legs}
 use Rattle.tbtree.specs.Stands.{TreeStands}
 use Rattle.tbtree.specs.Insert.{IsPlace, Stands}
 use Rattle.tbtree.specs.Order.{in_blocks}
@@ -58,6 +58,12 @@ JoinsAll old new tree tree' place place' ys result =
     → All (λ y. y.feature ≡ f) ys
     → CanJoinInTurn legs ys
     → Gives result (λ _. AllJoined new tree tree' legs pages f ys place')
+
+-- some page is a leaf that has the legs at its end
+pub record HasAtEnd (nodes : Pages LegView BoxView) (legs : List LegView) : Type 0 where
+  pub page : ℕ
+  pub leaf : LeafView LegView
+  pub is : nodes.at page ≡ Some (Some (ALeaf (with_legs legs leaf)))
 
 -- a leg may be put into the index of some legs: it may join them, and its feature is there, or is the next one
 pub record CanTake (legs : List LegView) (leg : LegView) : Type 0 where

@@ -3,7 +3,7 @@ ghost use Rattle.std.specs.Prelude.{◌≡◌, ◌<◌, ◌≤◌, ◌+◌, ◌-
 ghost use Rattle.tbtree.specs.Faults.{IsCaused};
 ghost use Rattle.tbtree.specs.Nodes.{pages_of_cache};
 ghost use Rattle.tbtree.specs.Passes.{Passes, KeepsLength};
-ghost use Rattle.tbtree.specs.Joining.{JoinsAll};
+ghost use Rattle.tbtree.specs.Joining.{HasAtEnd, JoinsAll};
 ghost use Rattle.tbtree.specs.declared.fault.TreeFault.{TreeFault};
 
 use crate::fault::TreeFault;
@@ -53,6 +53,10 @@ fn put_all<S: PageStore>(
     ensures more { OnOk result (tree.old.leaves ≤ tree.new.leaves) }
     ensures made { OnOk result ((tree.new.leaves - tree.old.leaves) * tree.old.shape.leaf
         < length legs.now + tree.old.shape.leaf) }
+    ensures ends { IsTrue cache.old.store.is_faithful → 0 < length legs.now
+        → 0 < place.old.legs % tree.old.shape.leaf
+        → place.old.legs % tree.old.shape.leaf + length legs.now ≤ tree.old.shape.leaf
+        → OnOk result (HasAtEnd (pages_of_cache cache.new) legs.now) }
 {
     let leaf = tree.shape.leaf();
     let mut from = 0;
@@ -93,6 +97,12 @@ pub fn insert_all<S: PageStore>(
     ensures more { OnOk result (tree.old.leaves ≤ tree.new.leaves) }
     ensures made { OnOk result ((tree.new.leaves - tree.old.leaves) * tree.old.shape.leaf
         < length legs.now + tree.old.shape.leaf) }
+
+    // Over any faithful pages, legs for which the last leaf has room are at the end of a leaf.
+    ensures ends { IsTrue cache.old.store.is_faithful → 0 < length legs.now
+        → 0 < place.old.legs % tree.old.shape.leaf
+        → place.old.legs % tree.old.shape.leaf + length legs.now ≤ tree.old.shape.leaf
+        → OnOk result (HasAtEnd (pages_of_cache cache.new) legs.now) }
 
     // A refusal is for good.
     ensures works { OnOk result (tree.new.spent ≡ false) }

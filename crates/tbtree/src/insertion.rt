@@ -7,7 +7,7 @@ ghost use Rattle.tbtree.specs.Nodes.{pages_of_cache, HasLeaf};
 ghost use Rattle.tbtree.specs.Passes.{Passes, KeepsLength};
 ghost use Rattle.tbtree.specs.Way.{IsOnWay, Hangs};
 ghost use Rattle.tbtree.specs.Insert.{Grows, Begins, Inserts};
-ghost use Rattle.tbtree.specs.Joining.{Joins, JoinsAll};
+ghost use Rattle.tbtree.specs.Joining.{HasAtEnd, Joins, JoinsAll};
 ghost use Rattle.tbtree.specs.Payloads.{TakesLegs};
 ghost use Rattle.tbtree.specs.Shape.{IsShape};
 ghost use Rattle.tbtree.specs.declared.fault.TreeFault.{TreeFault};
@@ -66,6 +66,8 @@ fn into_leaf<S: PageStore>(
         → Grows leg_boxes leg_feature tree.now.shape.inner tree.now.levels tree.now.root
         (pages_of_cache cache.old) (pages_of_cache cache.new) number legs.now
         (λ leaf. TakesLegs tree.now.shape.leaf leaf legs.now) result }
+    ensures ends { IsTrue cache.old.store.is_faithful
+        → OnOk result (HasAtEnd (pages_of_cache cache.new) legs.now) }
     ensures passes { Passes cache.old cache.new }
     ensures length { OnOk result (KeepsLength cache.old cache.new) }
     ensures caused { IfErr result (IsCaused cache.old cache.new) }
@@ -170,6 +172,8 @@ fn into_last<S: PageStore>(
     ensures inserts { IsTrue cache.old.store.is_faithful
         → JoinsAll (pages_of_cache cache.old) (pages_of_cache cache.new) tree.now tree.now
         place.old place.new legs.now result }
+    ensures ends { IsTrue cache.old.store.is_faithful
+        → OnOk result (HasAtEnd (pages_of_cache cache.new) legs.now) }
     ensures legs { OnOk result (place.new.legs ≡ place.old.legs + length legs.now) }
     ensures passes { Passes cache.old cache.new }
     ensures length { OnOk result (KeepsLength cache.old cache.new) }
@@ -299,6 +303,9 @@ pub(crate) fn put<S: PageStore>(
         ≤ cache.old.asked + (2 * (tree.new.levels - 1) + 4)) }
     ensures higher { OnOk result (tree.old.levels ≤ tree.new.levels) }
     ensures legs { OnOk result (place.new.legs ≡ place.old.legs + length legs.now) }
+    ensures ends { IsTrue cache.old.store.is_faithful
+        → 0 < place.old.legs % tree.old.shape.leaf
+        → OnOk result (HasAtEnd (pages_of_cache cache.new) legs.now) }
     ensures begun { place.old.legs % tree.old.shape.leaf ≡ 0
         → OnOk result (tree.new.leaves ≡ tree.old.leaves + 1) }
     ensures grown { 0 < place.old.legs % tree.old.shape.leaf

@@ -1,9 +1,11 @@
-use Rattle.std.proofs.Common.{◌≡◌, ◌<◌, ◌≤◌, ◌+◌, ◌%◌, ◌∙◌, refl, ap, arith, length, subst, sym}
+use Rattle.std.proofs.Common.{◌≢◌, ⊎_elim, ◌≡◌, ◌<◌, ◌≤◌, ◌+◌, ◌%◌, ◌∙◌, refl, ap, arith, length, subst, sym}
+use Rattle.std.proofs.lemmas.Bool.{cases_eq, cases_lt}
 use Rattle.std.proofs.lemmas.Result.{err_from_is_err_and}
+use Rattle.tbtree.specs.declared.tree.Place.{Place}
 use Rattle.legs.specs.Costs.{ShapeView}
 use Rattle.tbtree.specs.Nodes.{pages_of_cache}
 use Rattle.tbtree.proofs.FillCosts.{filled_start, filled_part}
-use Rattle.tbtree.proofs.FillLemmas.{joins_none, length_part, part_joins, part_refused}
+use Rattle.tbtree.proofs.FillLemmas.{ends_all, joins_none, length_part, part_joins, part_refused}
 use Rattle.tbtree.proofs.PassLemmas.{passes_refl, passes_trans}
 use Rattle.tbtree.proofs.Still.{still}
 use Rattle.tbtree.proofs.filling.put_all.Goals as goal
@@ -20,6 +22,8 @@ leaves-init g c =
       shape = refl;
       passes = passes_refl cache;
       length_kept = λ e. e;
+      start = λ e. refl;
+      ends = λ fa above there room. absurd (omega (arith, above));
       filled = filled_start tree.shape.leaf (length c.args.legs.now) cache tree c.args.place.now (omega (arith, least));
     }
 
@@ -56,8 +60,26 @@ leaves-preserved g c =
       shape = put.shape ∙ so_far.shape;
       passes = passes_trans old now new so_far.passes put.passes;
       length_kept = λ e. put.length (so_far.length_kept e);
+      start = λ e. absurd (let some = fits.some in omega (arith, e, some));
+      ends = λ fa above there room. ⊎_elim
+          (λ (z : n ≡ 0).
+          let first : c.leaves.place.legs ≡ c.args.place.now.legs = ap (λ (p : Place). p.legs) (so_far.start z) in
+          let own_filled : filled ≡ c.args.place.now.legs % leaf = ap (λ m. m % leaf) first in
+          let all : k ≡ length legs = ⊎_elim
+          (λ (l : n + k < length legs). absurd (let f = full (omega (arith, own_filled, there)) l in omega (arith, f, own_filled, room, l, z)))
+          (λ (l : length legs ≤ n + k). let most = fits.most in omega (arith, l, most, z))
+          (cases_lt (n + k) (length legs)) in
+          (omega (arith, z, all), ends_all (pages_of_cache new) legs n k z all (put.ends (still _ _ so_far.passes.store.faithful fa) (omega (arith, same, own_filled, there)))))
+          (λ (u : n ≢ 0). absurd (let e = (so_far.ends fa (omega (arith, u)) there room).0 in let l = c.leaves-test.true in omega (arith, e, l)))
+          (cases_eq n 0);
       filled = filled_part leaf n k (length legs) old now new c.args.tree.now c.leaves.tree c.put.new.tree c.leaves.place c.put.new.place
           (let least = c.leaf-leaf.ensures.range.least_leaf in omega (arith, least)) so_far.filled c.leaves-test.true put.higher (put.legs ∙ ap (λ m. c.leaves.place.legs + m) (length_part legs n k (let most = fits.most in let within = so_far.within in omega (arith, most, within))))
           fits.some (λ many. subst (λ m. 0 < c.leaves.place.legs % m) own (fits.there many)) (λ many. subst (λ m. c.leaves.place.legs % m + k ≤ m) own (fits.room many)) full
           (λ z. put.begun (same ∙ z)) (λ z. put.begun_asked (same ∙ z)) (λ above. put.grown (omega (arith, same, above))) (λ above. put.grown_asked (omega (arith, same, above)));
     }
+
+pub returns-clause-ends : goal.returns-clause-ends
+returns-clause-ends g c = λ fa some there room.
+    let so_far = c.leaves.invariant in
+    let over = c.leaves-test.false in
+    (so_far.ends fa (omega (arith, over, some)) there room).1

@@ -1,6 +1,6 @@
-use Rattle.std.proofs.Common.{◌≡◌, ◌≤◌, ◌-◌, length, take}
+use Rattle.std.proofs.Common.{◌≡◌, ◌≤◌, ◌<◌, ◌+◌, ◌-◌, ◌%◌, length, take}
 use Rattle.std.specs.Prelude.{IsTrue, Ok}
-use Rattle.tbtree.specs.Joining.{JoinsAll}
+use Rattle.tbtree.specs.Joining.{HasAtEnd, JoinsAll}
 use Rattle.tbtree.specs.Nodes.{pages_of_cache}
 use Rattle.tbtree.specs.Passes.{Passes, KeepsLength}
 use Rattle.tbtree.proofs.FillCosts.{IsFilled}
@@ -18,5 +18,8 @@ invariant-leaves g l = record {
   shape : l.tree.shape ≡ l.fn.tree.shape;
   passes : Passes l.fn.cache l.cache;
   length_kept : KeepsLength l.fn.cache l.cache;
+  start : l.from ≡ 0 → l.place ≡ l.fn.place;
+  ends : IsTrue l.fn.cache.store.is_faithful → 0 < l.from → 0 < l.fn.place.legs % l.fn.tree.shape.leaf → l.fn.place.legs % l.fn.tree.shape.leaf + length l.legs ≤ l.fn.tree.shape.leaf
+      → (l.from ≡ length l.legs) × HasAtEnd (pages_of_cache l.cache) l.legs;
   filled : IsFilled l.fn.tree.shape.leaf l.from (length l.legs) l.fn.cache l.cache l.fn.tree l.tree l.place;
 }

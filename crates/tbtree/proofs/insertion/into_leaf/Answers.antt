@@ -8,9 +8,13 @@ use Rattle.tbtree.specs.Faults.{IsAllowed}
 use Rattle.tbtree.specs.Nodes.{pages_of_cache, LeafView, HasLeafRoom}
 use Rattle.tbtree.specs.Payloads.{TakesLegs}
 use Rattle.tbtree.proofs.LawfulBoxes.{lawful}
+use Rattle.tbtree.proofs.FillLemmas.{ends_pushed}
 use Rattle.tbtree.proofs.Growing.{grow_way, grow_refused}
 use Rattle.tbtree.proofs.Still.{still}
 use Rattle.tbtree.proofs.insertion.into_leaf.Goals as goal
+
+pub returns-clause-ends : goal.returns-clause-ends
+returns-clause-ends g c = λ fa. ends_pushed (pages_of_cache c.way.new.cache) (pages_of_cache c.grow.new.cache) c.in_ok-page.page c.args.legs.now c.grow.result (c.grow.ensures.pushes (still _ _ c.way.ensures.passes.store.faithful fa))
 
 pub returns-clause-grows : goal.returns-clause-grows
 returns-clause-grows g c = λ fa.
