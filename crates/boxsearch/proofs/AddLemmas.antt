@@ -42,7 +42,7 @@ pub record Laws : Type 0 where
   pub absent : (nodes : Pages LegView BoxView) (tree : TbTree) (legs : List LegView) (pages : ℕ → List ℕ) (feature : ℕ) → IsShape tree.shape → Stands nodes tree legs pages → legs_of feature legs ≡ [] → IsPlace tree legs pages feature no_place
 
 abbrev pub made : IndexView → ℕ → IndexView
-made old feature = record old { places = with_place old.places feature }
+made old feature = record old { places = with_place old.places feature; known = [] }
 
 pub feature_count-push : (legs : List LegView) (leg : LegView) → feature_count (legs ++ leg ∷ []) ≡ max (feature_count legs) (leg.feature + 1)
 feature_count-push legs leg = fold-append (λ count l. max count (l.feature + 1)) 0 legs (leg ∷ [])

@@ -1,5 +1,5 @@
 -- What is left of an index whose changed pages are written.
-use Rattle.std.proofs.Common.{◌≡◌, [], sym, ◌∙◌, arith, true, false, Result, Ok, Err}
+use Rattle.std.proofs.Common.{◌≡◌, List, [], sym, ◌∙◌, arith, true, false, Result, Ok, Err}
 use Rattle.std.specs.Prelude.{IfErr}
 use Rattle.std.proofs.lemmas.Bool.{true≢false}
 use Rattle.std.proofs.lemmas.Int.{clamps}
@@ -12,6 +12,7 @@ use Rattle.pagecache.specs.declared.fault.CacheFault.{CacheFault}
 use Rattle.pagecache.specs.declared.fault.CacheFault.TheVariants as cache
 use Rattle.chains.specs.Reads.{OnlyReads}
 use Rattle.boxsearch.specs.Answers.{answered, of_cache}
+use Rattle.chains.specs.declared.spans.LeafSpan.{LeafSpan}
 use Rattle.boxsearch.specs.Beside.{with_cache}
 use Rattle.boxsearch.specs.Index.{content, IndexView, words, IsMarked, IsSound, SaysState}
 use Rattle.boxsearch.proofs.AnswerLemmas.{each_fault, the_fault, Said}
@@ -51,8 +52,8 @@ stopped_allowed old c (cache.Damaged n) h s = h
 stopped_allowed old c cache.StoreFull h s = h
 stopped_allowed old c cache.Memory h s = tt
 
-pub flush_refusals : (old : IndexView) (c : Cache) (r : Result (Unit {0}) CacheFault) → old.tree.spent ≡ false → IfErr r (λ fault. IsStopped fault old.cache c) → Refusals words old (with_cache old c) (answered (λ fault. of_cache fault) r)
-flush_refusals old c r works caused =
+pub flush_refusals : (old : IndexView) (c : Cache) (known : List (List LeafSpan)) (r : Result (Unit {0}) CacheFault) → old.tree.spent ≡ false → IfErr r (λ fault. IsStopped fault old.cache c) → Refusals words old (with_cache old c known) (answered (λ fault. of_cache fault) r)
+flush_refusals old c known r works caused =
     let said = each_fault (λ fault. of_cache fault) (λ fault. IsStopped fault old.cache c) (Said old.cache c) (stopped_said old.cache c) r caused in
     record {
       was_spent = λ e. absurd (true≢false (sym e ∙ works));

@@ -1,5 +1,5 @@
 -- What a reading call leaves of an index over pages.
-use Rattle.std.proofs.Common.{◌≡◌, ◌<◌, refl, sym, ap, ◌∙◌, arith, subst, true, false, [], IsTrue, All, length, option_map, option_and_then, cond}
+use Rattle.std.proofs.Common.{◌≡◌, ◌<◌, refl, sym, ap, ◌∙◌, arith, subst, true, false, [], IsTrue, All, length, option_map, option_and_then, cond, List}
 use Rattle.std.proofs.lemmas.Int.{clamps}
 use Rattle.legs.specs.Asking.{Leaves}
 use Rattle.legs.specs.Index.{feature_count}
@@ -11,6 +11,7 @@ use Rattle.tbnode.specs.Form.{node_of}
 use Rattle.tbtree.specs.Descent.{content_of}
 use Rattle.tbtree.specs.Insert.{Stands, IsPlace}
 use Rattle.tbtree.specs.Nodes.{pages_of_cache}
+use Rattle.chains.specs.declared.spans.LeafSpan.{LeafSpan}
 use Rattle.boxsearch.specs.Beside.{with_cache}
 use Rattle.boxsearch.specs.Telling.{Tells, Denies}
 use Rattle.boxsearch.specs.Index.{IndexView, words, content, written, IsSound, IsMarked}
@@ -22,9 +23,9 @@ content_is i f = ap (λ b. cond b (content_of (pages_of_cache i.cache) i.tree) [
 pub same_pages : (old new : Cache) → OnlyReads old new → IsTrue old.store.is_faithful → pages_of_cache new ≡ pages_of_cache old
 same_pages old new r f = λ i. record { at = λ p. option_map node_of (r.payloads f p i); count = r.count i }
 
-module _ (old : IndexView) (c : Cache) (r : OnlyReads old.cache c) where
+module _ (old : IndexView) (c : Cache) (known : List (List LeafSpan)) (r : OnlyReads old.cache c) where
   abbrev new : IndexView
-  new = with_cache old c
+  new = with_cache old c known
 
   same_content : content new ≡ content old
   same_content =

@@ -23,3 +23,4 @@ pub mod TurnOrder
 pub mod AllLemmas
 pub mod TurnNumbers
 pub mod KnownLemmas
+pub mod KnowsLemmas

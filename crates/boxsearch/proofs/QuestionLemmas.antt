@@ -38,11 +38,11 @@ module _ {A : Type 0} (i : IndexView) (c : Cache) (r : Result A SearchFault) whe
   pub search_refusals : (P : List LegView → A → Type 0)
       → (i.tree.spent ≡ false → IsTrue i.cache.store.is_faithful → (legs : List LegView) (pages : ℕ → List ℕ) → Stands (pages_of_cache i.cache) i.tree legs pages → Gives r (P legs))
       → (i.tree.spent ≡ true → (r ≡ Err Spent) × (c ≡ i.cache))
-      → IfErr r (IsCaused i.cache c) → Refusals words i (with_cache i c) (answered (λ fault. of_search fault) r)
+      → IfErr r (IsCaused i.cache c) → Refusals words i (with_cache i c i.known) (answered (λ fault. of_search fault) r)
   search_refusals P gives spent caused =
       let said = each_fault say (IsCaused i.cache c) (Said i.cache c) (search_said i.cache c) r caused in
       record {
-        was_spent = λ e. (ap (answered say) (spent e).0, ap (λ v. with_cache i v) (spent e).1);
+        was_spent = λ e. (ap (answered say) (spent e).0, ap (λ v. with_cache i v i.known) (spent e).1);
         sound = each_fault say (λ fault. IsSound i → IsAllowed fault) (λ fault. IsSound i → MayRefuse fault) (λ x h s. search_allowed x (h s)) r
             (under IsAllowed r (λ s. faults_of (P (content i)) IsAllowed r (gives s.works s.faithful (content i) s.pages s.stands)));
         store = λ e. the_fault (answered say r) (Said i.cache c) index.Store e said;

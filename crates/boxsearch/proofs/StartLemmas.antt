@@ -23,6 +23,7 @@ use Rattle.boxsearch.specs.Marking.{Marks, IsNotMarked}
 use Rattle.pages.specs.declared.payload.Payload.{Payload}
 use Rattle.boxsearch.proofs.PlaceLemmas.{some_none}
 use Rattle.boxsearch.proofs.AnswerLemmas.{each_fault, each_value, the_fault, Said}
+use Rattle.chains.specs.declared.spans.LeafSpan.{LeafSpan}
 use Rattle.boxsearch.specs.Beside.{with_cache, IsBeside}
 use Rattle.boxsearch.proofs.ResultLemmas.{on_ok, on_err}
 
@@ -39,8 +40,8 @@ none_before : (o p : Option Payload) → (o ≢ None → p ≢ None) → p ≡ N
 none_before None p u e = refl
 none_before (Some x) p u e = absurd (u (some_none x) e)
 
-module _ (laws : FirstLaws) (old : IndexView) (c : Cache) (b : IsBeside old.cache c) where
-  pub beside_content : content (with_cache old c) ≡ content old
+module _ (laws : FirstLaws) (old : IndexView) (c : Cache) (known : List (List LeafSpan)) (b : IsBeside old.cache c) where
+  pub beside_content : content (with_cache old c known) ≡ content old
   beside_content =
       ap (λ b. cond b (content_of (pages_of_cache c) old.tree) []) b.faithful ∙
       (elim old.cache.store.is_faithful as (λ b. old.cache.store.is_faithful ≡ b → cond b (content_of (pages_of_cache c) old.tree) [] ≡ cond b (content_of (pages_of_cache old.cache) old.tree) []) [
@@ -48,7 +49,7 @@ module _ (laws : FirstLaws) (old : IndexView) (c : Cache) (b : IsBeside old.cach
         | false ↦ λ f. refl
       ]) refl
 
-  pub beside_sound : IsSound old → IsSound (with_cache old c)
+  pub beside_sound : IsSound old → IsSound (with_cache old c known)
   beside_sound s =
       let legs = beside_content in
       record {
@@ -64,9 +65,9 @@ module _ (laws : FirstLaws) (old : IndexView) (c : Cache) (b : IsBeside old.cach
         placed = λ f place e. subst (λ l. IsPlace old.tree l s.pages f place) (sym legs) (s.placed f place e);
       }
 
-module _ (laws : FirstLaws) (old : IndexView) (c : Cache) (m : Marks old.cache c) where
+module _ (laws : FirstLaws) (old : IndexView) (c : Cache) (known : List (List LeafSpan)) (m : Marks old.cache c) where
   abbrev new : IndexView
-  new = with_cache old c
+  new = with_cache old c known
 
   -- a page 0 without a payload had none
   first_none : IsTrue old.cache.store.is_faithful → option_map node_of (payload_of c 0) ≡ None → option_map node_of (payload_of old.cache 0) ≡ None
@@ -90,10 +91,10 @@ module _ (laws : FirstLaws) (old : IndexView) (c : Cache) (m : Marks old.cache c
   }
 
   same_content : content new ≡ content old
-  same_content = beside_content laws old c beside
+  same_content = beside_content laws old c known beside
 
   still_sound : IsSound old → IsSound new
-  still_sound = beside_sound laws old c beside
+  still_sound = beside_sound laws old c known beside
 
   written_is : (i : IndexView) → IsTrue i.cache.store.is_faithful → written i ≡ pages_as_written i.cache
   written_is i f = ap (λ b. cond b (pages_as_written i.cache) []) f
@@ -130,8 +131,8 @@ not_marked_allowed old c (cache.Damaged n) h s = s.stands.tree_stands.held 0 s.s
 not_marked_allowed old c cache.StoreFull h s = h
 not_marked_allowed old c cache.Memory h s = tt
 
-pub mark_refusals : (old : IndexView) (c : Cache) (r : Result (Unit {0}) CacheFault) → old.tree.spent ≡ false → IfErr r (IsNotMarked old.cache c) → Refusals words old (with_cache old c) (answered (λ fault. of_cache fault) r)
-mark_refusals old c r works caused =
+pub mark_refusals : (old : IndexView) (c : Cache) (known : List (List LeafSpan)) (r : Result (Unit {0}) CacheFault) → old.tree.spent ≡ false → IfErr r (IsNotMarked old.cache c) → Refusals words old (with_cache old c known) (answered (λ fault. of_cache fault) r)
+mark_refusals old c known r works caused =
     let said = each_fault (λ fault. of_cache fault) (IsNotMarked old.cache c) (Said old.cache c) (not_marked_said old.cache c) r caused in
     record {
       was_spent = λ e. absurd (true≢false (sym e ∙ works));

@@ -22,6 +22,7 @@ use Rattle.tbtree.specs.declared.tree.Place.{Place}
 use Rattle.boxsearch.specs.Answers.{answered, of_chain}
 use Rattle.boxsearch.specs.Index.{IndexView, words, content, IsSound}
 use Rattle.boxsearch.proofs.AnswerLemmas.{each_fault, each_value, faults_of, values_of, the_fault, under, under_ok, Said, chain_said, chain_allowed}
+use Rattle.chains.specs.declared.spans.LeafSpan.{LeafSpan}
 use Rattle.boxsearch.specs.Beside.{with_cache}
 use Rattle.boxsearch.proofs.PlaceLemmas.{some_none}
 
@@ -70,10 +71,10 @@ module _ {A : Type 0} (i : IndexView) (f : ℕ) (place : Place) (c : Cache) (r :
       (under_ok (λ _. Q (content i) f) r (λ s. asked s.faithful (content i) f (has_feature i f place s found)))
 
   -- why a retrieval is refused
-  pub track_refusals : (P : List LegView → ℕ → A → Type 0) → i.tree.spent ≡ false
+  pub track_refusals : (known : List (List LeafSpan)) (P : List LegView → ℕ → A → Type 0) → i.tree.spent ≡ false
       → (IsTrue i.cache.store.is_faithful → (legs : List LegView) (feature : ℕ) → HasFeature (pages_of_cache i.cache) i.tree.shape place feature legs → Gives r (P legs feature))
-      → IfErr r (IsCaused i.cache c) → Refusals words i (with_cache i c) (answered (λ fault. of_chain fault) r)
-  track_refusals P works gives caused =
+      → IfErr r (IsCaused i.cache c) → Refusals words i (with_cache i c known) (answered (λ fault. of_chain fault) r)
+  track_refusals known P works gives caused =
       let said = each_fault (λ fault. of_chain fault) (IsCaused i.cache c) (Said i.cache c) (chain_said i.cache c) r caused in
       record {
         was_spent = λ e. absurd (true≢false (sym e ∙ works));

@@ -17,14 +17,18 @@ use Rattle.tbtree.specs.Shape.{IsShape}
 use Rattle.tbtree.specs.Stands.{empty_tree, no_place}
 use Rattle.tbtree.specs.declared.tree.Place.{Place}
 use Rattle.tbtree.specs.declared.tree.TbTree.{TbTree}
+use Rattle.chains.specs.declared.spans.LeafSpan.{LeafSpan}
+use Rattle.boxsearch.specs.Known.{KnowsBackTo}
 use Rattle.boxsearch.specs.Telling.{Tells, Denies}
 
--- the cache of its pages, its tree, the place of each feature, and how many legs it has
+-- the cache of its pages, its tree, the place of each feature, how many legs it has, and what it knows of the leaves of
+-- each feature
 pub record IndexView : Type 0 where
   pub cache : Cache
   pub tree : TbTree
   pub places : List Place
   pub legs : ℕ
+  pub known : List (List LeafSpan)
 
 -- the legs that its pages say; none where its store is not faithful
 abbrev pub content : IndexView → List LegView
@@ -121,6 +125,7 @@ words = record {
   asked = λ index. min index.cache.asked (2 ^ 64 - 1);
   plan = λ index. Some index.tree.shape;
   found_by = λ index. found_by index;
+  knows = λ index feature start. KnowsBackTo index.cache index.tree.shape index.places index.known feature start;
   is_clean = λ index. IsClean index.cache;
   is_marked = λ index. IsMarked index.cache;
   written = λ index. written index;
@@ -132,4 +137,4 @@ with_place places feature = if feature == length places then places ++ no_place 
 
 -- an index without legs
 abbrev pub new_index : Cache → ShapeView → IndexView
-new_index cache shape = record { cache = cache; tree = empty_tree shape; places = []; legs = 0 }
+new_index cache shape = record { cache = cache; tree = empty_tree shape; places = []; legs = 0; known = [] }

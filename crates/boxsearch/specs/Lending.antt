@@ -1,4 +1,5 @@
 -- What an index ends as, once its cache comes back.
+use Rattle.std.specs.Prelude.{[]}
 use Rattle.std.specs.Borrow.{Lends, MutBor, Fml, RattleType}
 use Rattle.pages.specs.declared.store.PageStore as store
 use Rattle.pagecache.specs.Cache.{Cache}
@@ -7,6 +8,6 @@ use Rattle.boxsearch.specs.Index.{IndexView}
 use Rattle.boxsearch.specs.Beside.{with_cache}
 use Rattle.boxsearch.specs.contracts.tree_index.TreeIndex.{the_row}
 
--- the index with the cache that is left behind the reference
+-- the index with the cache that is left behind the reference, of whose leaves nothing is known
 abbrev pub LendsCache : (S : RattleType) → store.Ghosts S.Denot → MutBor IndexView → MutBor Cache → Fml
-LendsCache S g index r = Lends (the_row S g) (pagecache.the_row S g) index r (with_cache index.now)
+LendsCache S g index r = Lends (the_row S g) (pagecache.the_row S g) index r (λ cache. with_cache index.now cache [])

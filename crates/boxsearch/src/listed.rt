@@ -13,6 +13,7 @@ use timebase::Period;
 impl<S: PageStore> Listed for TreeIndex<S> {
     ghost use Rattle.std.specs.Prelude.{Some, min, ◌≡◌, ◌-◌, ◌^◌};
     ghost use Rattle.pagecache.specs.Cache.{IsClean};
+    ghost use Rattle.boxsearch.specs.Known.{KnowsBackTo};
     ghost use Rattle.boxsearch.specs.Index.{content, denies, found_by, tells, written, IsSound, IsMarked};
 
     ghost content = { λ index. content index };
@@ -36,6 +37,8 @@ impl<S: PageStore> Listed for TreeIndex<S> {
     ghost plan = { λ index. Some index.tree.shape };
 
     ghost found_by = { λ index. found_by index };
+
+    ghost knows = { λ index feature start. KnowsBackTo index.cache index.tree.shape index.places index.known feature start };
 
     ghost is_clean = { λ index. IsClean index.cache };
 

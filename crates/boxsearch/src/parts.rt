@@ -1,9 +1,10 @@
 //! The parts of an index, for what is kept beside its tree.
-ghost use Rattle.std.specs.Prelude.{ℕ, ◌≡◌, ◌≢◌, ◌<◌, ◌≤◌, ◌^◌, [], true, length, count_by, slice_get, IsTrue, None, Some};
+ghost use Rattle.std.specs.Prelude.{ℕ, ◌≡◌, ◌≢◌, ◌<◌, ◌≤◌, ◌^◌, [], true, List, length, count_by, slice_get, IsTrue, None, Some};
 ghost use Rattle.std.specs.List.{sum_by};
 ghost use Rattle.legs.specs.Index.{is_of, CanFollowInTurn};
 ghost use Rattle.pagecache.specs.Cache.{payload_of, Cache, IsClean, IsSettled};
 ghost use Rattle.tbtree.specs.declared.tree.Place.{Place};
+ghost use Rattle.chains.specs.declared.spans.LeafSpan.{LeafSpan};
 ghost use Rattle.boxsearch.specs.Beside.{with_cache, IsBeside};
 ghost use Rattle.boxsearch.specs.Bounds.{IsBounded};
 ghost use Rattle.boxsearch.specs.Index.{content, IndexView, IsMarked, IsSound, SaysState};
@@ -30,7 +31,7 @@ impl<S: PageStore> TreeIndex<S> {
         legs: u64,
     ) -> TreeIndex<S>
         ensures { result
-            ≡ record { cache = cache; tree = tree; places = places.items; legs = legs } }
+            ≡ record { cache = cache; tree = tree; places = places.items; legs = legs; known = [] } }
     {
         TreeIndex {
             alloc,
@@ -71,7 +72,7 @@ impl<S: PageStore> TreeIndex<S> {
     /// Gives the places away, for as long as its cache is lent to who needs both; `put_places` brings them back.
     pub fn take_places(&mut self) -> Vec<Place>
         ensures taken { result.items ≡ self.old.places }
-        ensures rest { self.new ≡ record self.old { places = [] } }
+        ensures rest { self.new ≡ record self.old { places = []; known = [] } }
     {
         self.known = Vec::new(self.alloc);
         mem::replace(&mut self.places, Vec::new(self.alloc))
@@ -79,7 +80,7 @@ impl<S: PageStore> TreeIndex<S> {
 
     /// Brings places back, or other ones.
     pub fn put_places(&mut self, places: Vec<Place>)
-        ensures { self.new ≡ record self.old { places = places.items } }
+        ensures { self.new ≡ record self.old { places = places.items; known = [] } }
     {
         self.known = Vec::new(self.alloc);
         self.places = places;
@@ -97,10 +98,10 @@ impl<S: PageStore> TreeIndex<S> {
 
 /// What holds of an index beside whose tree pages are written, for the proofs of a caller. It does nothing.
 pub fn laws()
-    ensures content { (index : IndexView) (cache : Cache) → IsBeside index.cache cache
-        → content (with_cache index cache) ≡ content index }
-    ensures sound { (index : IndexView) (cache : Cache) → IsBeside index.cache cache
-        → IsSound index → IsSound (with_cache index cache) }
+    ensures content { (index : IndexView) (cache : Cache) (known : List (List LeafSpan))
+        → IsBeside index.cache cache → content (with_cache index cache known) ≡ content index }
+    ensures sound { (index : IndexView) (cache : Cache) (known : List (List LeafSpan))
+        → IsBeside index.cache cache → IsSound index → IsSound (with_cache index cache known) }
 
     // A cache is beside another one where each page has the payload that it had.
     ensures alike { (old new : Cache) → new.store.is_faithful ≡ old.store.is_faithful

@@ -34,7 +34,7 @@ impl<S: PageStore> Model for TreeIndex<S> {
     ghost use Rattle.std.specs.Prelude.{map};
     ghost use Rattle.boxsearch.specs.Known.{AreKnown};
 
-    ghost view = { λ a. record { cache = a.cache; tree = a.tree; places = a.places.items; legs = a.legs } };
+    ghost view = { λ a. record { cache = a.cache; tree = a.tree; places = a.places.items; legs = a.legs; known = map (λ spans. spans.items) a.known.items } };
 
     ghost invariant = { λ a. AreKnown a.cache a.tree.shape a.places.items (map (λ spans. spans.items) a.known.items) };
 }
@@ -98,7 +98,7 @@ impl<S: PageStore> TreeIndex<S> {
         ensures written { OnOk result (IsWritten self.new.cache) }
 
         // Nothing else changes.
-        ensures same { self.new ≡ with_cache self.old self.new.cache }
+        ensures same { self.new ≡ with_cache self.old self.new.cache self.new.known }
         ensures reads { OnlyReads self.old.cache self.new.cache }
         ensures leaves { Leaves words self.old self.new }
         ensures asked { self.new.cache.asked ≡ self.old.cache.asked }
@@ -138,8 +138,8 @@ impl<S: PageStore> TreeIndex<S> {
     /// Makes a place for a feature that is the next one.
     pub(crate) fn make_place(&mut self, feature: usize) -> Result<(), AllocError>
         ensures ok { OnOk result (self.new
-            ≡ record self.old { places = with_place self.old.places feature }) }
-        ensures err { OnErr result (self.new ≡ self.old) }
+            ≡ record self.old { places = with_place self.old.places feature; known = [] }) }
+        ensures err { OnErr result (self.new ≡ record self.old { known = [] }) }
     {
         self.known = Vec::new(self.alloc);
         if feature == self.places.len() {

@@ -290,8 +290,8 @@ module _ (laws : BesideLaws) (c : CatalogueView) (i : IndexView) (book : Book) (
     kept = kept;
     shape_is = refl;
     of = of;
-    sound = subst (λ n. IsSound (index_over s i.tree i.places n)) (sound.counted ∙ ap length legs) (laws.sound i (fresh s 1) beside sound);
-    legs = laws.content i (fresh s 1) beside ∙ legs;
+    sound = subst (λ n. IsSound (index_over s i.tree i.places n)) (sound.counted ∙ ap length legs) (laws.sound i (fresh s 1) [] beside sound);
+    legs = laws.content i (fresh s 1) [] beside ∙ legs;
   }
 
 -- of what refuses to finish a store, only want of memory is no fault of the store

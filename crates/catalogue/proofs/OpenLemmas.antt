@@ -9,6 +9,7 @@ use Rattle.pages.specs.declared.payload.Payload.{Payload}
 use Rattle.pagecache.specs.Cache.{fresh, pages_as_written, page_of, payload_of, sealed_payload, stored_payload, Cache, IsClean, IsWritten}
 use Rattle.pages.specs.Unsealed.{unsealed}
 use Rattle.chains.specs.Reads.{OnlyReads}
+use Rattle.chains.specs.declared.spans.LeafSpan.{LeafSpan}
 use Rattle.boxsearch.specs.Beside.{with_cache, IsBeside}
 use Rattle.boxsearch.specs.Index.{content, written, IndexView, IsSound}
 use Rattle.tbtree.specs.declared.tree.Place.{Place}
@@ -68,8 +69,8 @@ module _ (a b : Cache) (reads : OnlyReads a b) (clean : IsWritten a) (count : a.
 
       module _ (alike : (old new : Cache) → new.store.is_faithful ≡ old.store.is_faithful → new.count ≡ old.count → new.store.count ≡ old.store.count
           → (IsTrue old.store.is_faithful → (n : ℕ) → payload_of new n ≡ payload_of old n) → IsBeside old new)
-          (same_content : (i : IndexView) (k : Cache) → IsBeside i.cache k → content (with_cache i k) ≡ content i)
-          (same_sound : (i : IndexView) (k : Cache) → IsBeside i.cache k → IsSound i → IsSound (with_cache i k))
+          (same_content : (i : IndexView) (k : Cache) (known : List (List LeafSpan)) → IsBeside i.cache k → content (with_cache i k known) ≡ content i)
+          (same_sound : (i : IndexView) (k : Cache) (known : List (List LeafSpan)) → IsBeside i.cache k → IsSound i → IsSound (with_cache i k known))
           (shape : ShapeView) (limits : LimitsView) (book : Book) (h : HoldsBook a.store shape limits book) where
         same : IsSame c h.catalogue tree h.tree places h.places
         same = kept_same (stored_payload a.store) a.store.count c h.catalogue tree h.tree places h.places kept_stored h.kept
@@ -81,20 +82,20 @@ module _ (a b : Cache) (reads : OnlyReads a b) (clean : IsWritten a) (count : a.
         beside = alike (fresh a.store 1) b reads.store.faithful (reads.count ∙ count) reads.length
             (λ f n. reads.payloads f n ∙ clean.stored f count n ∙ sym (fresh_payload a.store 1 lawful f n))
 
-        this : with_cache (index_over a.store h.tree h.places (length book.legs)) b ≡ index
+        this : with_cache (index_over a.store h.tree h.places (length book.legs)) b index.known ≡ index
         this =
             let t = sym same.tree_is ∙ sym tree_is in
             let p = sym same.places_are ∙ sym places_are in
             let l = sym of.tracks.legs ∙ sym legs in
             let k = sym cache in
-            (λ i. record { cache = k i; tree = t i; places = p i; legs = l i })
+            (λ i. record { cache = k i; tree = t i; places = p i; legs = l i; known = index.known })
 
         pub opened_book : AnswersBook shape limits book c index
         opened_book = record {
           shape_is = ap (λ (t : TbTree). t.shape) (tree_is ∙ same.tree_is) ∙ h.shape_is;
           of = of;
-          sound = subst IsSound this (same_sound (index_over a.store h.tree h.places (length book.legs)) b beside h.sound);
-          legs = ap (λ i. content i) (sym this) ∙ same_content (index_over a.store h.tree h.places (length book.legs)) b beside ∙ h.legs;
+          sound = subst IsSound this (same_sound (index_over a.store h.tree h.places (length book.legs)) b index.known beside h.sound);
+          legs = ap (λ i. content i) (sym this) ∙ same_content (index_over a.store h.tree h.places (length book.legs)) b index.known beside ∙ h.legs;
         }
 
 -- what the pages of a store keep, a cache that has read none has

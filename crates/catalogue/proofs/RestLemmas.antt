@@ -7,6 +7,7 @@ use Rattle.pages.specs.Store.{Store, IsLawful}
 use Rattle.pages.specs.Unsealed.{unsealed}
 use Rattle.pagecache.specs.Cache.{Cache, fresh, page_of, pages_as_written, payload_of, sealed_payload, stored_payload, IsSettled}
 use Rattle.tbtree.specs.declared.tree.Place.{Place}
+use Rattle.chains.specs.declared.spans.LeafSpan.{LeafSpan}
 use Rattle.boxsearch.specs.Beside.{with_cache, IsBeside}
 use Rattle.boxsearch.specs.Index.{content, found_by, place_of, words, written, IndexView, IsMarked, IsSound}
 use Rattle.catalogue.specs.Holding.{index_over, payload_in, HoldsBook, IsAtRest, IsOfBook, IsUnfinishedStore}
@@ -15,8 +16,8 @@ use Rattle.catalogue.specs.Saved.{CatalogueView}
 
 -- the laws of an index that are cited here
 pub record BesideLaws : Type 0 where
-  pub content : (index : IndexView) (cache : Cache) → IsBeside index.cache cache → content (with_cache index cache) ≡ content index
-  pub sound : (index : IndexView) (cache : Cache) → IsBeside index.cache cache → IsSound index → IsSound (with_cache index cache)
+  pub content : (index : IndexView) (cache : Cache) (known : List (List LeafSpan)) → IsBeside index.cache cache → content (with_cache index cache known) ≡ content index
+  pub sound : (index : IndexView) (cache : Cache) (known : List (List LeafSpan)) → IsBeside index.cache cache → IsSound index → IsSound (with_cache index cache known)
   pub alike : (old new : Cache) → new.store.is_faithful ≡ old.store.is_faithful → new.count ≡ old.count → new.store.count ≡ old.store.count
       → (IsTrue old.store.is_faithful → (n : ℕ) → payload_of new n ≡ payload_of old n) → IsBeside old new
 
@@ -120,6 +121,6 @@ module _ (laws : BesideLaws) (c : CatalogueView) (i : IndexView) (book : Book) (
     kept = kept;
     shape_is = refl;
     of = of;
-    sound = subst (λ n. IsSound (index_over s i.tree i.places n)) legs_are (laws.sound i (fresh s 1) beside sound);
-    legs = laws.content i (fresh s 1) beside ∙ legs;
+    sound = subst (λ n. IsSound (index_over s i.tree i.places n)) legs_are (laws.sound i (fresh s 1) [] beside sound);
+    legs = laws.content i (fresh s 1) [] beside ∙ legs;
   }

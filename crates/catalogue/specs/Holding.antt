@@ -1,5 +1,5 @@
 -- A store whose pages hold a book.
-use Rattle.std.specs.Prelude.{ℕ, ◌≡◌, List, length, slice_get, Option, Some, option_and_then}
+use Rattle.std.specs.Prelude.{ℕ, ◌≡◌, List, length, slice_get, Option, Some, option_and_then, []}
 use Rattle.legs.specs.Book.{Book}
 use Rattle.legs.specs.Costs.{ShapeView}
 use Rattle.legs.specs.Law.{IsBook}
@@ -31,7 +31,7 @@ pub record IsOfBook (limits : LimitsView) (book : Book) (c : CatalogueView) : Ty
 
 -- the index of a tree and of places over the pages of a store
 abbrev pub index_over : Store → TbTree → List Place → ℕ → IndexView
-index_over s tree places legs = record { cache = fresh s 1; tree = tree; places = places; legs = legs }
+index_over s tree places legs = record { cache = fresh s 1; tree = tree; places = places; legs = legs; known = [] }
 
 -- the pages of a finished store hold a book under limits: they keep its catalogue, and a tree of
 -- that shape that stands for its legs

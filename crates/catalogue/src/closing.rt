@@ -1,10 +1,11 @@
 //! A store is closed.
-ghost use Rattle.std.specs.Prelude.{◌≡◌, IfErr, OnOk, Some};
+ghost use Rattle.std.specs.Prelude.{◌≡◌, [], IfErr, OnOk, Some};
 ghost use Rattle.legs.specs.Book.{Book};
 ghost use Rattle.legs.specs.declared.head.BookHead.{BookHead};
 ghost use Rattle.pages.specs.Store.{IsLawful, Keeps};
 ghost use Rattle.pagecache.specs.Cache.{IsSettled};
 ghost use Rattle.timebase.specs.Instant.{IsMoment};
+ghost use Rattle.boxsearch.specs.Beside.{with_cache};
 ghost use Rattle.boxsearch.specs.Index.{content, IsMarked, IsSound};
 ghost use Rattle.catalogue.specs.Closing.{IsClosingFault, IsNoStoreFault};
 ghost use Rattle.catalogue.specs.Holding.{HoldsBook, IsOfBook, IsUnfinishedStore};
@@ -31,9 +32,10 @@ fn dated(head: &Option<BookHead>)
     }
 }
 
-/// What holds of the cache of any index, for the proofs of a caller. It does nothing.
+/// What holds of the cache of any index, for the proofs of a caller. It does nothing but that what is known of leaves
+/// is forgotten.
 fn settled<S: PageStore>(index: &mut TreeIndex<S>)
-    ensures same { index.new ≡ index.old }
+    ensures same { index.new ≡ with_cache index.old index.old.cache [] }
     ensures settled { IsSettled index.old.cache }
     ensures lawful { IsLawful index.old.cache.store }
 {

@@ -16,7 +16,7 @@ const FINISHED: u32 = 1;
 
 /// Writes all that is changed to the store.
 fn write_all<S: PageStore>(index: &mut TreeIndex<S>) -> Result<(), CatalogueFault>
-    ensures same { index.new ≡ with_cache index.old index.new.cache }
+    ensures same { index.new ≡ with_cache index.old index.new.cache index.new.known }
     ensures written { OnOk result (IsWritten index.new.cache) }
     ensures stays { Stays index.old.cache index.new.cache }
     ensures length { SameLength index.old.cache index.new.cache }
@@ -40,7 +40,7 @@ fn set_finished(payload: &mut Payload)
 
 /// Makes page 0 say that the store is finished; it is not written yet.
 fn set_state<S: PageStore>(index: &mut TreeIndex<S>) -> Result<(), CatalogueFault>
-    ensures same { index.new ≡ with_cache index.old index.new.cache }
+    ensures same { index.new ≡ with_cache index.old index.new.cache index.new.known }
     ensures sets { OnOk result (SetsState index.old.cache index.new.cache) }
     ensures rests { OnErr result (Rests index.old.cache index.new.cache) }
     ensures only { IsTrue index.old.cache.store.is_faithful → 0 < index.old.cache.count
@@ -62,7 +62,7 @@ fn set_state<S: PageStore>(index: &mut TreeIndex<S>) -> Result<(), CatalogueFaul
 /// Refused for want of memory, and where the store fails; page 0 as written then still says that
 /// the store is not finished, unless it was its own writing that failed.
 pub(crate) fn finish<S: PageStore>(index: &mut TreeIndex<S>) -> Result<(), CatalogueFault>
-    ensures same { index.new ≡ with_cache index.old index.new.cache }
+    ensures same { index.new ≡ with_cache index.old index.new.cache index.new.known }
     ensures finishes { OnOk result (IsTrue index.old.cache.store.is_faithful
         → index.old.cache.count ≡ index.old.cache.store.count
         → Finishes index.old.cache index.new.cache) }

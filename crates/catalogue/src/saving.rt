@@ -61,7 +61,7 @@ fn write_text<S: PageStore>(
     writer: &mut ChainWriter,
     index: &mut TreeIndex<S>,
 ) -> Result<(), CatalogueFault>
-    ensures same { index.new ≡ with_cache index.old index.new.cache }
+    ensures same { index.new ≡ with_cache index.old index.new.cache index.new.known }
     ensures saves { Saves [] index.old.cache index.new.cache writer.old writer.new result }
 {
     match writer.write_full(index.cache_mut()) {
@@ -118,7 +118,7 @@ fn write_feature<S: PageStore>(
     tracks: &Tracks,
     feature: u32,
 ) -> Result<(), CatalogueFault>
-    ensures same { index.new ≡ with_cache index.old index.new.cache }
+    ensures same { index.new ≡ with_cache index.old index.new.cache index.new.known }
     ensures saves { Saves (feature_text (feature_at tracks.now index.old.places feature))
         index.old.cache index.new.cache writer.old writer.new result }
     ensures whole { OnOk result (IsFeature (feature_at tracks.now index.old.places feature)) }
@@ -135,7 +135,7 @@ fn write_features<S: PageStore>(
     tracks: &Tracks,
     count: u32,
 ) -> Result<(), CatalogueFault>
-    ensures same { index.new ≡ with_cache index.old index.new.cache }
+    ensures same { index.new ≡ with_cache index.old index.new.cache index.new.known }
     ensures saves { count ≡ length tracks.now.names
         → Saves (features_text (features_of tracks.now index.old.places))
         index.old.cache index.new.cache writer.old writer.new result }
@@ -155,7 +155,7 @@ fn write_row<S: PageStore>(
     index: &mut TreeIndex<S>,
     row: &Row<'_>,
 ) -> Result<(), CatalogueFault>
-    ensures same { index.new ≡ with_cache index.old index.new.cache }
+    ensures same { index.new ≡ with_cache index.old index.new.cache index.new.known }
     ensures saves { Saves (row_text row.now)
         index.old.cache index.new.cache writer.old writer.new result }
     ensures whole { OnOk result (All IsShortText row.now) }
@@ -171,7 +171,7 @@ fn write_rows<S: PageStore>(
     rows: &Rows,
     count: u32,
 ) -> Result<(), CatalogueFault>
-    ensures same { index.new ≡ with_cache index.old index.new.cache }
+    ensures same { index.new ≡ with_cache index.old index.new.cache index.new.known }
     ensures saves { count ≡ length rows.now
         → Saves (rows_text rows.now) index.old.cache index.new.cache writer.old writer.new result }
     ensures whole { OnOk result (All (All IsShortText) rows.now) }
@@ -193,7 +193,7 @@ fn write_head<S: PageStore>(
     index: &mut TreeIndex<S>,
     head: &BookHead,
 ) -> Result<(), CatalogueFault>
-    ensures same { index.new ≡ with_cache index.old index.new.cache }
+    ensures same { index.new ≡ with_cache index.old index.new.cache index.new.known }
     ensures saves { Saves (1 ∷ head_text (head_of head.now))
         index.old.cache index.new.cache writer.old writer.new result }
     ensures whole { OnOk result (IsHead (head_of head.now)) }
@@ -222,7 +222,7 @@ fn write_lists<S: PageStore>(
     tracks: &Tracks,
     rows: &Rows,
 ) -> Result<(), CatalogueFault>
-    ensures same { index.new ≡ with_cache index.old index.new.cache }
+    ensures same { index.new ≡ with_cache index.old index.new.cache index.new.known }
     ensures puts { Puts
         (features_text (features_of tracks.now index.old.places) ++ rows_text rows.now)
         index.old.cache index.new.cache writer.old writer.new result }
@@ -246,7 +246,7 @@ fn write_catalogue<S: PageStore>(
     index: &mut TreeIndex<S>,
     catalogue: &Catalogue,
 ) -> Result<(), CatalogueFault>
-    ensures same { index.new ≡ with_cache index.old index.new.cache }
+    ensures same { index.new ≡ with_cache index.old index.new.cache index.new.known }
     ensures puts { Puts (catalogue_text (contents_of catalogue.now index.old.places))
         index.old.cache index.new.cache writer.old writer.new result }
     ensures only { HasFew catalogue.now → (text : List ℕ) → Holds index.old.cache writer.old text
@@ -268,7 +268,7 @@ fn write_catalogue<S: PageStore>(
 
 /// The first page of the earlier catalogue, 0 for none.
 fn earlier_page<S: PageStore>(index: &mut TreeIndex<S>) -> Result<u32, CatalogueFault>
-    ensures same { index.new ≡ with_cache index.old index.new.cache }
+    ensures same { index.new ≡ with_cache index.old index.new.cache index.new.known }
     ensures reads { OnlyReads index.old.cache index.new.cache }
     ensures only { IsTrue index.old.cache.store.is_faithful → 0 < index.old.cache.count
         → HasFirst index.old.cache → IfErr result IsAllowed }
@@ -285,7 +285,7 @@ fn write_fields<S: PageStore>(
     index: &mut TreeIndex<S>,
     fields: &Fields,
 ) -> Result<(), CatalogueFault>
-    ensures same { index.new ≡ with_cache index.old index.new.cache }
+    ensures same { index.new ≡ with_cache index.old index.new.cache index.new.known }
     ensures fits { OnOk result (FitsFields fields.now × IsShape fields.now.shape
         × IsLimits fields.now.limits) }
     ensures puts { OnOk result (PutsFields fields.now index.old.cache index.new.cache) }
@@ -315,7 +315,7 @@ fn write_whole<S: PageStore>(
     index: &mut TreeIndex<S>,
     earlier: u32,
 ) -> Result<(u32, u64), CatalogueFault>
-    ensures same { index.new ≡ with_cache index.old index.new.cache }
+    ensures same { index.new ≡ with_cache index.old index.new.cache index.new.known }
     ensures kept { KeepsTree index.old.cache index.new.cache }
     ensures beside { OnOk result (IsBeside index.old.cache index.new.cache) }
     ensures text { IfOk result (λ r. IsTrue index.old.cache.store.is_faithful
@@ -381,7 +381,7 @@ pub fn save<S: PageStore>(
     catalogue: &Catalogue,
     index: &mut TreeIndex<S>,
 ) -> Result<(), CatalogueFault>
-    ensures same { index.new ≡ with_cache index.old index.new.cache }
+    ensures same { index.new ≡ with_cache index.old index.new.cache index.new.known }
     ensures saved { OnOk result (IsTrue index.old.cache.store.is_faithful
         → Says (payload_of index.new.cache) index.new.cache.count catalogue.now index.new.tree
         index.new.places) }

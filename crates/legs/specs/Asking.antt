@@ -1,5 +1,5 @@
 -- What a call of an index leaves, and why it is refused.
-use Rattle.std.specs.Prelude.{ℕ, ◌≡◌, ◌≤◌, ◌++◌, ◌∷◌, [], drop, true, List, Option, Result, Err, IfErr, IsErrOf, OnErr, OnOk}
+use Rattle.std.specs.Prelude.{ℕ, ℤ, ◌≡◌, ◌≤◌, ◌++◌, ◌∷◌, [], drop, true, List, Option, Result, Err, IfErr, IsErrOf, OnErr, OnOk}
 use Rattle.legs.specs.Legs.{LegView}
 use Rattle.legs.specs.Index.{MayRefuse, MayRefuseLeg, HasRisen, CanFollowInTurn}
 use Rattle.legs.specs.Costs.{ShapeView, RisesBy, RisesAtMost, add_bound}
@@ -28,6 +28,10 @@ pub record Leaves {I : Type 0} (g : Ghosts I) (old new : I) : Type 0 where
   pub clean : g.is_clean old → g.is_clean new
   pub marked : g.is_marked old → g.is_marked new
   pub written : g.is_clean old → g.written new ≡ g.written old
+
+-- what is known of its features is known after a question, answered or not
+abbrev pub Recalls : {I : Type 0} → Ghosts I → I → I → Type 0
+Recalls g old new = (feature : ℕ) (start : ℤ) → g.knows old feature start → g.knows new feature start
 
 -- why a question is not answered, be the index sound or not: memory ran out, a store failed, a page that is met is not
 -- what it is to be there, or an `add` was refused

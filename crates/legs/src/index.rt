@@ -34,12 +34,12 @@ pub enum IndexFault {
 /// A question is answered by what the pages say, whoever wrote them, and by nothing else: where a page that is met is
 /// not what it is to be there, it is `Damaged`, with that page.
 pub trait LegIndex: Listed {
-    ghost use Rattle.std.specs.Prelude.{◌≡◌, ◌∷◌, [], true, false, length, All, OnOk, IfOk, MatchResult};
+    ghost use Rattle.std.specs.Prelude.{ℤ, ◌≤ℤ◌, ◌≡◌, ◌∷◌, [], true, false, length, All, OnOk, IfOk, MatchResult};
     ghost use Rattle.legs.specs.Legs.{IsLeg};
     ghost use Rattle.legs.specs.Index.{legs_in_box, legs_of, live_legs_of};
     ghost use Rattle.legs.specs.Questions.{InBox, OfFeature};
-    ghost use Rattle.legs.specs.Costs.{search_cost, track_cost, track_in_bound};
-    ghost use Rattle.legs.specs.Asking.{AddAsks, Asks, AsksAtMost, Denies, Grows, IsLater, KeepsMarked, Leaves, LegRefusals, Refusals};
+    ghost use Rattle.legs.specs.Costs.{known_bound, search_cost, track_cost, track_in_bound};
+    ghost use Rattle.legs.specs.Asking.{AddAsks, Asks, AsksAtMost, Denies, Grows, IsLater, KeepsMarked, Leaves, LegRefusals, Recalls, Refusals};
 
     /// How many legs there are.
     fn len(&self) -> u64
@@ -88,6 +88,7 @@ pub trait LegIndex: Listed {
             (λ fault. Denies Self.Listed self.old (InBox query.now) fault) }
         ensures asks { OnOk result (Asks Self.Listed self.old self.new (search_cost query.now)) }
         ensures leaves { Leaves Self.Listed self.old self.new }
+        ensures recalls { Recalls Self.Listed self.old self.new }
         ensures refusals { Refusals Self.Listed self.old self.new result };
 
     /// The legs of a feature, in accepted order; none for a feature that is not there.
@@ -98,10 +99,13 @@ pub trait LegIndex: Listed {
             (λ legs. Self.tells self.old (OfFeature feature None) legs.items)
             (λ fault. Denies Self.Listed self.old (OfFeature feature None) fault) }
         ensures asks { OnOk result (Asks Self.Listed self.old self.new (track_cost feature)) }
+        ensures learns { OnOk result ((start : ℤ) → Self.knows self.new feature start) }
         ensures leaves { Leaves Self.Listed self.old self.new }
+        ensures recalls { Recalls Self.Listed self.old self.new }
         ensures refusals { Refusals Self.Listed self.old self.new result };
 
-    /// The legs of a feature that have a moment in a period, in accepted order.
+    /// The legs of a feature that have a moment in a period, in accepted order. Once it is answered it is known which of
+    /// the feature's leaves meet a period that starts no earlier, and only these are asked for.
     fn track_in(&mut self, feature: u32, period: &Period) -> Result<Vec<Leg>, IndexFault>
         ensures found { IfOk result (λ legs. Self.is_sound self.old
             → legs.items ≡ live_legs_of feature period.now (Self.content self.old)) }
@@ -110,7 +114,12 @@ pub trait LegIndex: Listed {
             (λ fault. Denies Self.Listed self.old (OfFeature feature (Some period.now)) fault) }
         ensures asks { OnOk result (AsksAtMost Self.Listed self.old self.new
             (track_in_bound feature period.now)) }
+        ensures asks_known { OnOk result (Self.knows self.old feature period.now.start
+            → AsksAtMost Self.Listed self.old self.new (known_bound feature period.now)) }
+        ensures learns { OnOk result ((start : ℤ) → period.now.start ≤ℤ start
+            → Self.knows self.new feature start) }
         ensures leaves { Leaves Self.Listed self.old self.new }
+        ensures recalls { Recalls Self.Listed self.old self.new }
         ensures refusals { Refusals Self.Listed self.old self.new result };
 
     /// A sound index is not spent.

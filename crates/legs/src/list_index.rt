@@ -162,6 +162,8 @@ impl Listed for ListIndex {
 
     ghost found_by = { λ index. no_finding };
 
+    ghost knows = { λ index feature start. Unit {0} };
+
     ghost is_clean = { λ index. ⊥ };
 
     ghost is_marked = { λ index. ⊥ };
@@ -217,7 +219,7 @@ impl LegIndex for ListIndex {
         Ok(self.legs_of(feature)?)
     }
 
-    #[tactic(auto, unfolding(crate::specs::Costs::track_in_bound))]
+    #[tactic(auto, unfolding(crate::specs::Costs::track_in_bound, crate::specs::Costs::known_bound))]
     fn track_in(&mut self, feature: u32, period: &Period) -> Result<Vec<Leg>, IndexFault> {
         if self.spent {
             return Err(IndexFault::Spent);

@@ -3,7 +3,7 @@
 /// What contracts see of an index of legs. The words stand in a trait of their own, so that a definition can
 /// say of all of them what a call leaves.
 pub trait Listed {
-    ghost use Rattle.std.specs.Prelude.{ℕ, Bool, List, Option};
+    ghost use Rattle.std.specs.Prelude.{ℕ, ℤ, Bool, List, Option};
     ghost use Rattle.legs.specs.Legs.{LegView};
     ghost use Rattle.legs.specs.Costs.{ShapeView};
     ghost use Rattle.legs.specs.Finding.{Finding};
@@ -42,6 +42,10 @@ pub trait Listed {
 
     /// The numbers by which it finds its legs; all zero of an index that keeps a list.
     ghost found_by: { Self → Finding };
+
+    /// Of this feature what is known reaches back to that moment: a question for a period that starts no earlier asks for
+    /// no page that has no leg in it.
+    ghost knows: { Self → ℕ → ℤ → Type 0 };
 
     /// No page is changed; never of an index that keeps a list.
     ghost is_clean: { Self → Type 0 };

@@ -1,5 +1,5 @@
 -- Why calls stopped.
-use Rattle.std.proofs.Common.{ℕ, ◌+◌, ◌≤◌, ◌≡◌, ◌∙◌, refl, arith, List, Option, Some, None, All, false, Bool, [], ◌∷◌, eqb, inl, inr, length, ◌<◌}
+use Rattle.std.proofs.Common.{ℕ, ◌+◌, ◌≤◌, ◌≡◌, ◌∙◌, refl, arith, List, Option, Some, None, All, false, Bool, [], ◌∷◌, eqb, inl, inr, length, ◌<◌, ⊎_elim, subst, sym}
 use Rattle.std.specs.Prelude.{filter}
 use Rattle.legs.specs.Legs.{LegView}
 use Rattle.legs.specs.Book.{Book}
@@ -11,16 +11,18 @@ use Rattle.legs.specs.Index.{HasRisen, MayRefuse}
 use Rattle.legs.specs.declared.listed.Listed.{Ghosts}
 use Rattle.legs.specs.declared.index.IndexFault.{IndexFault}
 use Rattle.legs.specs.declared.index.IndexFault.TheVariants as index
+use Rattle.legs.specs.Tracks.{IsOver, TracksView}
+use Rattle.legs.specs.Asking.{Recalls}
 use Rattle.trajdb.specs.declared.RunFault.{RunFault}
 use Rattle.trajdb.specs.declared.RunFault.TheVariants.{Memory, Store, Damaged, StoreFull, Failed, Output}
 use Rattle.std.specs.List.{range_with_len}
 use Rattle.timebase.specs.Period.{PeriodView}
-use Rattle.legs.specs.Costs.{ShapeView, track_in_bound}
+use Rattle.legs.specs.Costs.{ShapeView, track_in_bound, known_bound}
 use Rattle.trajdb.specs.Answers.{track_of}
 use Rattle.trajdb.specs.Picks.{Picks}
 use Rattle.trajdb.specs.Faults.{run_fault_of}
 use Rattle.trajdb.specs.Database.{CoreView, IsSound}
-use Rattle.trajdb.specs.Calls.{IsLater, Leaves, features_bound, IsText, IsRefused, IsStopped, IsRunStop}
+use Rattle.trajdb.specs.Calls.{IsLater, Leaves, features_bound, IsText, IsRefused, IsStopped, IsRunStop, KnowsOf, known_features_bound}
 
 -- a text that was not made, of what is there
 pub text_refused : {I : Type 0} (g : Ghosts I) (old new : CoreView I) (P : Type 0) (fault : RunFault) → IsText P fault → (IsSound g old → P) → IsRefused g old new fault
@@ -141,6 +143,17 @@ refused-after g a b c Output p q r = absurd r.store
 -- want of memory after questions
 pub memory_refused : {I : Type 0} (g : Ghosts I) (a b : CoreView I) (fault : RunFault) → fault ≡ Memory → IsRefused g a b fault
 memory_refused g a b fault e = rw e (record { sound = λ s. tt; store = tt })
+
+-- what is known of a feature is known after a question
+pub knows_kept : {I : Type 0} (g : Ghosts I) (a b : CoreView I) → Leaves g a b → Recalls g a.index b.index → (period : PeriodView) (feature : ℕ) → KnowsOf g a period feature → KnowsOf g b period feature
+knows_kept g a b leaves recalls period feature knows =
+    ⊎_elim
+    (λ (over : IsOver a.tracks feature period). inl (subst (λ (t : TracksView). IsOver t feature period) (sym leaves.tracks) over))
+    (λ (known : g.knows a.index feature period.start). inr (recalls feature period.start known))
+    knows
+
+pub known_more : (k : ℕ) (period : PeriodView) (plan : Option ShapeView) (legs : List LegView) → known_features_bound (range_with_len 0 (k + 1)) period plan legs ≡ known_features_bound (range_with_len 0 k) period plan legs + known_bound k period plan legs
+known_more k period plan legs = sum_by-map-range_with_len_more (λ bound. bound) (λ feature. known_bound feature period plan legs) 0 k k (let e : 0 + k ≡ k = omega arith in e)
 
 -- the bounds of features, with one more
 pub bound_more : (k : ℕ) (period : PeriodView) (plan : Option ShapeView) (legs : List LegView) → features_bound (range_with_len 0 (k + 1)) period plan legs ≡ features_bound (range_with_len 0 k) period plan legs + track_in_bound k period plan legs

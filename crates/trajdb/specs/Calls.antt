@@ -6,8 +6,9 @@ use Rattle.legs.specs.declared.head.BookHead.{BookHead}
 use Rattle.legs.specs.Legs.{LegView}
 use Rattle.legs.specs.Boxes.{box_over, everything}
 use Rattle.legs.specs.Book.{Book, feature_of}
-use Rattle.legs.specs.Costs.{ShapeView, RisesBy, RisesAtMost, search_cost, track_cost, track_in_bound}
+use Rattle.legs.specs.Costs.{ShapeView, RisesBy, RisesAtMost, known_bound, search_cost, track_cost, track_in_bound}
 use Rattle.predicates.specs.Near.{box_near}
+use Rattle.legs.specs.Tracks.{IsOver}
 use Rattle.legs.specs.Index.{HasRisen}
 use Rattle.legs.specs.Asking.{IsLater as IsLaterIndex, Leaves as IndexLeaves}
 use Rattle.legs.specs.declared.listed.Listed.{Ghosts}
@@ -221,6 +222,18 @@ track_asks None plan legs = 0
 abbrev pub features_bound : List ℕ → PeriodView → Option ShapeView → List LegView → ℕ
 features_bound features period plan legs = sum_by (λ bound. bound) (map (λ feature. track_in_bound feature period plan legs) features)
 
+-- the leaves of features that meet the period
+abbrev pub known_features_bound : List ℕ → PeriodView → Option ShapeView → List LegView → ℕ
+known_features_bound features period plan legs = sum_by (λ bound. bound) (map (λ feature. known_bound feature period plan legs) features)
+
+-- what is known of a feature reaches back to the period, or its last leg ends before it, so that nothing is asked
+abbrev pub KnowsOf : {I : Type 0} → Ghosts I → CoreView I → PeriodView → ℕ → Type 0
+KnowsOf g db period feature = IsOver db.tracks feature period ⊎ g.knows db.index feature period.start
+
+-- of each feature
+abbrev pub KnowsEach : {I : Type 0} → Ghosts I → CoreView I → PeriodView → Type 0
+KnowsEach g db period = (feature : ℕ) → feature < length db.book.names → KnowsOf g db period feature
+
 -- `write` searches everything, where there is a head
 abbrev pub write_asks : Option BookHead → Option ShapeView → List LegView → ℕ
 write_asks None plan legs = 0
@@ -247,3 +260,24 @@ AsksAtMost g old new bound = IsSound g old → RisesAtMost (g.asked old.index) (
 -- what a command over a sound database asked for
 abbrev pub AsksIn : {I : Type 0} → Ghosts I → CoreView I → CoreView I → Command → Type 0
 AsksIn g old new command = IsSound g old → AsksFor old.book (g.plan old.index) command (g.asked old.index) (g.asked new.index)
+
+-- of a sound database that knows each feature back to the period `features` asks for at most the leaves that meet it
+abbrev pub AsksKnown : {I : Type 0} → Ghosts I → CoreView I → CoreView I → Command → Type 0
+AsksKnown g old new (Load name) = Unit {0}
+AsksKnown g old new Count = Unit {0}
+AsksKnown g old new (Box rect period) = Unit {0}
+AsksKnown g old new (Legs predicate rect period) = Unit {0}
+AsksKnown g old new (Features predicate rect period) =
+    KnowsEach g old period → AsksAtMost g old new (known_features_bound (range_with_len 0 (length old.book.names)) period)
+AsksKnown g old new (Trajectory name) = Unit {0}
+AsksKnown g old new Write = Unit {0}
+
+-- a sound database that answered `features` knows each feature back to the period
+abbrev pub LearnsBy : {I : Type 0} → Ghosts I → CoreView I → CoreView I → Command → Type 0
+LearnsBy g old new (Load name) = Unit {0}
+LearnsBy g old new Count = Unit {0}
+LearnsBy g old new (Box rect period) = Unit {0}
+LearnsBy g old new (Legs predicate rect period) = Unit {0}
+LearnsBy g old new (Features predicate rect period) = IsSound g old → KnowsEach g new period
+LearnsBy g old new (Trajectory name) = Unit {0}
+LearnsBy g old new Write = Unit {0}

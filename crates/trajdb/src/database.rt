@@ -300,7 +300,7 @@ impl<I: Start> Core<I> {
     ghost use Rattle.std.specs.Prelude.{◌≡◌, IfOk, IfErr, IsErrOf, OnOk, OnErr, Err, true, false};
     ghost use Rattle.trajdb.specs.Answers.{AcceptsBy, IsAnswer, IsCountsText, book_then};
     ghost use Rattle.trajdb.specs.Database.{Becomes, IsSound};
-    ghost use Rattle.trajdb.specs.Calls.{AsksIn, Begins, BeginsBy, BeginsOnly, IsStopped, IsLater, KeepsPages, Leaves, Loads, LoadsWhole, TellsLoad};
+    ghost use Rattle.trajdb.specs.Calls.{AsksIn, AsksKnown, LearnsBy, Begins, BeginsBy, BeginsOnly, IsStopped, IsLater, KeepsPages, Leaves, Loads, LoadsWhole, TellsLoad};
     ghost use Rattle.trajdb.specs.Telling.{IsToldAnswer, NamesBy};
 
     /// The whole answer to a command, with the named files at hand.
@@ -323,6 +323,8 @@ impl<I: Start> Core<I> {
             IsToldAnswer I.Listed self.old files.now command.now text.items) }
         ensures named { IfErr result (NamesBy I.Listed self.old files.now command.now) }
         ensures asks { OnOk result (AsksIn I.Listed self.old self.new command.now) }
+        ensures asks_known { OnOk result (AsksKnown I.Listed self.old self.new command.now) }
+        ensures learns { OnOk result (LearnsBy I.Listed self.old self.new command.now) }
         ensures later { IsLater I.Listed self.old self.new }
 
         // All but a `load` of a file that is there leave the book; where that load is refused, the

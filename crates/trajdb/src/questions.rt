@@ -44,13 +44,14 @@ impl<I: Start> Core<I> {
     ghost use Rattle.legs.specs.Book.{feature_of};
     ghost use Rattle.trajdb.specs.Picks.{Picks};
     ghost use Rattle.trajdb.specs.Answers.{HoldsOfFeature, HoldsOfLeg, IsFeaturesAnswer, IsLegsAnswer, frame_of, entry_of, file_answer, legs_text, name_of, names_text, track_of, write_text};
-    ghost use Rattle.legs.specs.Costs.{search_cost, track_in_bound};
+    ghost use Rattle.legs.specs.Asking.{Recalls};
+    ghost use Rattle.legs.specs.Costs.{known_bound, search_cost, track_in_bound};
     ghost use Rattle.predicates.specs.Near.{box_near};
     ghost use Rattle.legs.specs.Law.{IsThere};
     ghost use Rattle.legs.specs.Questions.{InBox, OfFeature};
     ghost use Rattle.trajdb.specs.Database.{IsSound};
     ghost use Rattle.trajdb.specs.Telling.{AreLive, ArePickedOf, AreToldOf, DeniesFile, DeniesLegs, DeniesSome, DeniesTrack, HoldsLive, IsToldFeatures, IsToldFile, IsToldLegs, IsToldPicks, IsToldTrack, Names, PicksLive};
-    ghost use Rattle.trajdb.specs.Calls.{IsText, IsRefused, Leaves, Asks, AsksAtMost, features_bound, track_asks, write_asks};
+    ghost use Rattle.trajdb.specs.Calls.{IsText, IsRefused, Leaves, Asks, AsksAtMost, KnowsEach, KnowsOf, features_bound, known_features_bound, track_asks, write_asks};
 
     /// How legs are written.
     fn frame(&self) -> Frame
@@ -183,6 +184,10 @@ impl<I: Start> Core<I> {
             (λ page. I.denies self.old.index (OfFeature feature (Some period.now)) page)) }
         ensures asks { OnOk result (AsksAtMost I.Listed self.old self.new
             (track_in_bound feature period.now)) }
+        ensures asks_known { OnOk result (KnowsOf I.Listed self.old period.now feature
+            → AsksAtMost I.Listed self.old self.new (known_bound feature period.now)) }
+        ensures learns { OnOk result (KnowsOf I.Listed self.new period.now feature) }
+        ensures recalls { Recalls I.Listed self.old.index self.new.index }
         ensures leaves { Leaves I.Listed self.old self.new }
         ensures refused { IfErr result (IsRefused I.Listed self.old self.new) }
     {
@@ -210,6 +215,10 @@ impl<I: Start> Core<I> {
             (λ page. I.denies self.old.index (OfFeature feature (Some period.now)) page)) }
         ensures asks { OnOk result (AsksAtMost I.Listed self.old self.new
             (track_in_bound feature period.now)) }
+        ensures asks_known { OnOk result (KnowsOf I.Listed self.old period.now feature
+            → AsksAtMost I.Listed self.old self.new (known_bound feature period.now)) }
+        ensures learns { OnOk result (KnowsOf I.Listed self.new period.now feature) }
+        ensures recalls { Recalls I.Listed self.old.index self.new.index }
         ensures leaves { Leaves I.Listed self.old self.new }
         ensures refused { IfErr result (IsRefused I.Listed self.old self.new) }
     {
@@ -243,6 +252,11 @@ impl<I: Start> Core<I> {
             → DeniesSome I.Listed self.old period.now page)) }
         ensures asks { OnOk result (AsksAtMost I.Listed self.old self.new (features_bound
             (range_with_len 0 (length self.old.book.names)) period.now)) }
+        ensures asks_known { OnOk result (KnowsEach I.Listed self.old period.now
+            → AsksAtMost I.Listed self.old self.new (known_features_bound
+            (range_with_len 0 (length self.old.book.names)) period.now)) }
+        ensures learns { OnOk result (IsSound I.Listed self.old
+            → KnowsEach I.Listed self.new period.now) }
         ensures leaves { Leaves I.Listed self.old self.new }
         ensures refused { IfErr result (IsRefused I.Listed self.old self.new) }
     {
@@ -426,6 +440,11 @@ impl<I: Start> Core<I> {
             → DeniesSome I.Listed self.old period.now page)) }
         ensures asks { OnOk result (AsksAtMost I.Listed self.old self.new
             (features_bound (range_with_len 0 (length self.old.book.names)) period.now)) }
+        ensures asks_known { OnOk result (KnowsEach I.Listed self.old period.now
+            → AsksAtMost I.Listed self.old self.new (known_features_bound
+            (range_with_len 0 (length self.old.book.names)) period.now)) }
+        ensures learns { OnOk result (IsSound I.Listed self.old
+            → KnowsEach I.Listed self.new period.now) }
         ensures leaves { Leaves I.Listed self.old self.new }
         ensures refused { IfErr result (IsRefused I.Listed self.old self.new) }
     {

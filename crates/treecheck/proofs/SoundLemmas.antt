@@ -117,11 +117,12 @@ passed r F K A C S k a c s =
     ]) k a c
 
 -- an index whose places are given away, and brought back once its cache was lent, is the index over another cache
-pub ended : (index lent left : IndexView) (items : List Place) → lent ≡ record index { places = [] } → left ≡ with_cache lent left.cache → items ≡ index.places
-    → record left { places = items } ≡ with_cache index left.cache
+pub ended : (index lent left : IndexView) (items : List Place) → lent ≡ record index { places = []; known = [] } → left ≡ with_cache lent left.cache left.known → items ≡ index.places
+    → record left { places = items; known = [] } ≡ with_cache index left.cache []
 ended index lent left items rest same taken = λ i. record {
   cache = left.cache;
   tree = (ap (λ (v : IndexView). v.tree) same ∙ ap (λ (v : IndexView). v.tree) rest) i;
   places = taken i;
   legs = (ap (λ (v : IndexView). v.legs) same ∙ ap (λ (v : IndexView). v.legs) rest) i;
+  known = [];
 }

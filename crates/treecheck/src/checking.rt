@@ -216,7 +216,7 @@ fn check_index<S: PageStore>(
         → IsChecked (pages_of_cache index.old.cache) index.old.tree rows index.old.legs places.now
         tracks.now.tracks
         → IfErr result IsAllowed }
-    ensures same { index.new ≡ with_cache index.old index.new.cache }
+    ensures same { index.new ≡ with_cache index.old index.new.cache index.new.known }
     ensures reads { OnlyReads index.old.cache index.new.cache }
     ensures caused { IfErr result (IsCaused index.old.cache index.new.cache) }
     ensures works { IfErr result (λ fault. fault ≢ SearchFault.Spent) }
@@ -271,7 +271,7 @@ pub fn check<S: PageStore>(
         → SaysState begun (payload_of index.old.cache 0) → IfErr result MayRefuse }
 
     // Nothing changes.
-    ensures same { index.new ≡ with_cache index.old index.new.cache }
+    ensures same { index.new ≡ with_cache index.old index.new.cache index.new.known }
     ensures reads { OnlyReads index.old.cache index.new.cache }
     ensures leaves { Leaves words index.old index.new }
 

@@ -1,9 +1,10 @@
-use Rattle.std.proofs.Common.{◌≡◌, ◌∙◌, ap, sym, subst, arith, Some}
+use Rattle.std.proofs.Common.{◌≡◌, ◌∙◌, [], ap, refl, sym, subst, arith, Some}
 use Rattle.std.proofs.lemmas.Result.{err_from_is_err_and}
 use Rattle.timebase.specs.Instant.{IsMoment}
 use Rattle.legs.specs.Book.{Book}
 use Rattle.legs.specs.declared.head.BookHead.{BookHead}
 use Rattle.pagecache.specs.Cache.{IsSettled}
+use Rattle.boxsearch.specs.Beside.{with_cache}
 use Rattle.boxsearch.specs.Index.{content, IndexView, IsMarked, IsSound}
 use Rattle.catalogue.specs.Closing.{IsNoStoreFault}
 use Rattle.catalogue.specs.Holding.{HoldsBook, IsOfBook, IsUnfinishedStore}
@@ -18,7 +19,7 @@ returns-in_err-save-clause-only g c =
     let p = err_from_is_err_and c.from_residual.result c.from_residual.ensures.1 in
     let catalogue = c.args.catalogue.now in
     if_err_of (λ e. IsSound c.args.index.now → (book : Book) → IsOfBook catalogue.limits book catalogue → content c.args.index.now ≡ book.legs → IsAllowed e) c.from_residual.result p.0 c.in_err-save.field-0.0 p.1 p.2
-    (λ sound book of legs. c.in_err-save.ensures.only (of_few catalogue book of) (subst (λ (i : IndexView). IsSound i) (sym c.settled.ensures.same) sound))
+    (λ sound book of legs. c.in_err-save.ensures.only (of_few catalogue book of) (subst (λ (i : IndexView). IsSound i) (sym c.settled.ensures.same) (c.laws.ensures.sound c.args.index.now c.args.index.now.cache [] (c.laws.ensures.alike c.args.index.now.cache c.args.index.now.cache refl refl refl (λ _ n. refl)) sound)))
 
 pub returns-in_err-save-clause-unfinished : goal.returns-in_err-save-clause-unfinished
 returns-in_err-save-clause-unfinished g c =
@@ -36,10 +37,11 @@ returns-clause-holds g c =
     let new = c.finish.new.index.cache in
     let catalogue = c.args.catalogue.now in
     let laws = c.laws.ensures in
-    let same : i ≡ c.args.index.now = c.settled.ensures.same in
+    let same : i ≡ with_cache c.args.index.now c.args.index.now.cache [] = c.settled.ensures.same in
     let dated : (head : BookHead) → catalogue.head ≡ Some head → IsMoment head.base = λ head e. c.dated.ensures head (ap (λ (v : CatalogueView). v.head) c.catalogue.view_is ∙ e) in
     on_ok c.finish.result (λ finishes lawful was_sound was_marked book of was_legs.
-    let sound : IsSound i = subst (λ (x : IndexView). IsSound x) (sym same) was_sound in
+    let beside = laws.alike c.args.index.now.cache c.args.index.now.cache refl refl refl (λ _ n. refl) in
+    let sound : IsSound i = subst (λ (x : IndexView). IsSound x) (sym same) (laws.sound c.args.index.now c.args.index.now.cache [] beside was_sound) in
     let marked : IsMarked i.cache = subst (λ (x : IndexView). IsMarked x.cache) (sym same) was_marked in
     let settled : IsSettled i.cache = subst (λ (x : IndexView). IsSettled x.cache) (sym same) c.settled.ensures.settled in
     let saved : IsSound j = c.in_ok-save.ensures.sound sound in
@@ -59,7 +61,7 @@ returns-clause-unfinished g c =
     let i = c.settled.new.index in
     let j = c.save.new.index in
     let new = c.finish.new.index.cache in
-    let same : i ≡ c.args.index.now = c.settled.ensures.same in
+    let same : i ≡ with_cache c.args.index.now c.args.index.now.cache [] = c.settled.ensures.same in
     only_memory j.cache new c.finish.result c.finish.ensures.caused (λ memory sound was_marked.
     let marked : IsMarked i.cache = subst (λ (x : IndexView). IsMarked x.cache) (sym same) was_marked in
     let settled : IsSettled i.cache = subst (λ (x : IndexView). IsSettled x.cache) (sym same) c.settled.ensures.settled in

@@ -58,9 +58,9 @@ returns-clause-content g c =
     let b = c.earlier_page.new.index.cache in
     let x = c.write_whole.new.index.cache in
     let d = c.write_fields.new.index.cache in
-    let same : c.write_fields.new.index ≡ with_cache c.args.index.now d = c.write_fields.ensures.same ∙ ap (λ i. with_cache i d) (c.write_whole.ensures.same ∙ ap (λ i. with_cache i x) c.earlier_page.ensures.same) in
+    let same : c.write_fields.new.index ≡ with_cache c.args.index.now d c.write_fields.new.index.known = c.write_fields.ensures.same ∙ ap (λ i. with_cache i d c.write_fields.new.index.known) (c.write_whole.ensures.same ∙ ap (λ i. with_cache i x c.write_whole.new.index.known) c.earlier_page.ensures.same) in
     on_ok c.write_fields.result (λ puts. ap (λ i. content i) same
-    ∙ c.laws.ensures.content c.args.index.now d (beside_trans a b d (reads_beside a b c.earlier_page.ensures.reads) (beside_trans b x d c.in_ok-first.ensures.beside (puts_beside x d c.fields_for-fields.result puts)))) c.write_fields.ensures.puts
+    ∙ c.laws.ensures.content c.args.index.now d c.write_fields.new.index.known (beside_trans a b d (reads_beside a b c.earlier_page.ensures.reads) (beside_trans b x d c.in_ok-first.ensures.beside (puts_beside x d c.fields_for-fields.result puts)))) c.write_fields.ensures.puts
 
 pub returns-clause-sound : goal.returns-clause-sound
 returns-clause-sound g c =
@@ -68,6 +68,6 @@ returns-clause-sound g c =
     let b = c.earlier_page.new.index.cache in
     let x = c.write_whole.new.index.cache in
     let d = c.write_fields.new.index.cache in
-    let same : c.write_fields.new.index ≡ with_cache c.args.index.now d = c.write_fields.ensures.same ∙ ap (λ i. with_cache i d) (c.write_whole.ensures.same ∙ ap (λ i. with_cache i x) c.earlier_page.ensures.same) in
+    let same : c.write_fields.new.index ≡ with_cache c.args.index.now d c.write_fields.new.index.known = c.write_fields.ensures.same ∙ ap (λ i. with_cache i d c.write_fields.new.index.known) (c.write_whole.ensures.same ∙ ap (λ i. with_cache i x c.write_whole.new.index.known) c.earlier_page.ensures.same) in
     on_ok c.write_fields.result (λ puts sound. subst (λ i. IsSound i) (sym same)
-    (c.laws.ensures.sound c.args.index.now d (beside_trans a b d (reads_beside a b c.earlier_page.ensures.reads) (beside_trans b x d c.in_ok-first.ensures.beside (puts_beside x d c.fields_for-fields.result puts))) sound)) c.write_fields.ensures.puts
+    (c.laws.ensures.sound c.args.index.now d c.write_fields.new.index.known (beside_trans a b d (reads_beside a b c.earlier_page.ensures.reads) (beside_trans b x d c.in_ok-first.ensures.beside (puts_beside x d c.fields_for-fields.result puts))) sound)) c.write_fields.ensures.puts

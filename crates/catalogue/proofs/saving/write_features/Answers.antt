@@ -25,7 +25,7 @@ loop-feature-preserved g c =
     subst (λ r. Saves (feature_text (at n)) b d c.loop-feature.writer c.write_feature.new.writer r) c.in_ok-write_feature.was
     (subst (λ l. Saves (feature_text (feature_at c.args.tracks.now l n)) b d c.loop-feature.writer c.write_feature.new.writer c.write_feature.result) same c.write_feature.ensures.saves) in
     record {
-      same = c.write_feature.ensures.same ∙ ap (λ i. with_cache i d) inv.same;
+      same = c.write_feature.ensures.same ∙ ap (λ i. with_cache i d c.write_feature.new.index.known) inv.same;
       saves = saves_same (done ++ feature_text (at n)) (front ++ flat_map feature_text (map at (range_with_len 0 (n + 1)))) a d c.args.writer.now c.write_feature.new.writer (Ok tt) (named_more feature_text at front n)
           (saves_then done (feature_text (at n)) a b d c.args.writer.now c.loop-feature.writer c.write_feature.new.writer (Ok tt) inv.saves more);
       whole = all_named IsFeature at n inv.whole (subst (λ l. IsFeature (feature_at c.args.tracks.now l n)) same c.in_ok-write_feature.ensures.whole);

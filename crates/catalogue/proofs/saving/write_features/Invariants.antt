@@ -9,7 +9,7 @@ use Rattle.catalogue.proofs.saving.write_features.Given as goal
 -- the number, and the features so far
 abbrev pub invariant-loop-feature : goal.invariant-loop-feature
 invariant-loop-feature g l = record {
-  same : l.index ≡ with_cache l.fn.index l.index.cache;
+  same : l.index ≡ with_cache l.fn.index l.index.cache l.index.known;
   saves : Saves (big_bytes 4 l.fn.count ++ flat_map feature_text (map (feature_at l.fn.tracks l.fn.index.places) (range_with_len 0 l.feature))) l.fn.index.cache l.index.cache l.fn.writer l.writer (Ok tt);
   whole : All IsFeature (map (feature_at l.fn.tracks l.fn.index.places) (range_with_len 0 l.feature));
 }

@@ -25,7 +25,7 @@ loop-i-preserved g c =
     let more : Saves (row_text row) b d c.loop-i.writer c.write_row.new.writer (Ok tt) =
     subst (λ r. Saves (row_text row) b d c.loop-i.writer c.write_row.new.writer r) c.in_ok-write_row.was c.write_row.ensures.saves in
     record {
-      same = c.write_row.ensures.same ∙ ap (λ i. with_cache i d) inv.same;
+      same = c.write_row.ensures.same ∙ ap (λ i. with_cache i d c.write_row.new.index.known) inv.same;
       saves = saves_same (done ++ row_text row) (front ++ flat_map row_text (take (n + 1) rows)) a d c.args.writer.now c.write_row.new.writer (Ok tt)
           (listed_more row_text rows row row front n lt (sym is))
           (saves_then done (row_text row) a b d c.args.writer.now c.loop-i.writer c.write_row.new.writer (Ok tt) inv.saves more);

@@ -9,7 +9,7 @@ use Rattle.catalogue.proofs.saving.write_rows.Given as goal
 -- the number, and the rows so far
 abbrev pub invariant-loop-i : goal.invariant-loop-i
 invariant-loop-i g l = record {
-  same : l.index ≡ with_cache l.fn.index l.index.cache;
+  same : l.index ≡ with_cache l.fn.index l.index.cache l.index.known;
   saves : Saves (big_bytes 4 l.fn.count ++ flat_map row_text (take l.i l.fn.rows)) l.fn.index.cache l.index.cache l.fn.writer l.writer (Ok tt);
   whole : All (All IsShortText) (take l.i l.fn.rows);
 }

@@ -1,4 +1,4 @@
-use Rattle.std.proofs.Common.{◌≡◌, ◌<◌, length, false, sym, ap, ◌∙◌, subst, List, IsTrue}
+use Rattle.std.proofs.Common.{[], ◌≡◌, ◌<◌, length, false, sym, ap, ◌∙◌, subst, List, IsTrue}
 use Rattle.std.specs.Prelude.{IfErr, OnOk}
 use Rattle.legs.specs.Asking.{Leaves}
 use Rattle.legs.specs.Index.{MayRefuse}
@@ -24,7 +24,7 @@ use Rattle.treecheck.proofs.checking.check.Goals as goal
 pub returns-clause-same : goal.returns-clause-same
 returns-clause-same g c =
     let left : IndexView = c.check_index-given.new.index in
-    subst (λ (v : IndexView). v ≡ with_cache c.args.index.now v.cache) (sym c.put_places.ensures)
+    subst (λ (v : IndexView). v ≡ with_cache c.args.index.now v.cache v.known) (sym c.put_places.ensures)
     (ended c.args.index.now c.take_places-places.new.self left c.take_places-places.result.items c.take_places-places.ensures.rest c.check_index-given.ensures.same c.take_places-places.ensures.taken)
 
 pub returns-clause-sound : goal.returns-clause-sound
@@ -34,7 +34,7 @@ returns-clause-sound g c =
     let left : IndexView = c.check_index-given.new.index in
     let given = c.check_index-given in
     let rest = c.take_places-places.ensures.rest in
-    let new : IndexView = record index { cache = left.cache } in
+    let new : IndexView = record index { cache = left.cache; known = [] } in
     let ends : c.put_places.new.self ≡ new = c.put_places.ensures ∙ ended index lent left c.take_places-places.result.items rest given.ensures.same c.take_places-places.ensures.taken in
     let tracks = c.args.tracks.now in
     let rows = c.args.rows in
@@ -63,7 +63,7 @@ returns-clause-tracks g c =
     let left : IndexView = c.check_index-given.new.index in
     let given = c.check_index-given in
     let rest = c.take_places-places.ensures.rest in
-    let new : IndexView = record index { cache = left.cache } in
+    let new : IndexView = record index { cache = left.cache; known = [] } in
     let ends : c.put_places.new.self ≡ new = c.put_places.ensures ∙ ended index lent left c.take_places-places.result.items rest given.ensures.same c.take_places-places.ensures.taken in
     let tracks = c.args.tracks.now in
     let rows = c.args.rows in
@@ -110,6 +110,6 @@ returns-clause-leaves g c =
     let left : IndexView = c.check_index-given.new.index in
     let given = c.check_index-given in
     let rest = c.take_places-places.ensures.rest in
-    let ends : c.put_places.new.self ≡ with_cache index left.cache = c.put_places.ensures ∙ ended index lent left c.take_places-places.result.items rest given.ensures.same c.take_places-places.ensures.taken in
+    let ends : c.put_places.new.self ≡ with_cache index left.cache [] = c.put_places.ensures ∙ ended index lent left c.take_places-places.result.items rest given.ensures.same c.take_places-places.ensures.taken in
     let reads : OnlyReads index.cache left.cache = subst (λ (v : IndexView). OnlyReads v.cache left.cache) rest given.ensures.reads in
-    subst (λ (v : IndexView). Leaves words index v) (sym ends) (reads_leave index left.cache reads)
+    subst (λ (v : IndexView). Leaves words index v) (sym ends) (reads_leave index left.cache [] reads)

@@ -1,4 +1,4 @@
-use Rattle.std.proofs.Common.{◌≡◌, ◌-◌, ◌^◌, ◌∙◌, min, subst, sym, Some}
+use Rattle.std.proofs.Common.{◌≡◌, ◌-◌, ◌^◌, ◌∙◌, min, subst, sym, Some, map}
 use Rattle.std.specs.Prelude.{IfOk, MatchResult, OnOk}
 use Rattle.legs.specs.Asking.{Denies, Leaves, Refusals}
 use Rattle.legs.specs.Questions.{InBox}
@@ -15,7 +15,7 @@ use Rattle.boxsearch.proofs.listed.TreeIndexLegIndex.search.Goals as goal
 
 pub returns-clause-found : goal.returns-clause-found
 returns-clause-found g c =
-    let inside : IndexView = record { cache = c.self.inside.cache; tree = c.self.inside.tree; places = c.self.inside.places.items; legs = c.self.inside.legs } in
+    let inside : IndexView = record { cache = c.self.inside.cache; tree = c.self.inside.tree; places = c.self.inside.places.items; legs = c.self.inside.legs; known = map (λ spans. spans.items) c.self.inside.known.items } in
     let q = c.args.query.now in
     subst (λ i. IfOk c.found.result (λ legs. IsSound i → legs.items ≡ legs_in_box q (content i))) c.self.view_is
     (subst (λ r. IfOk r (λ legs. IsSound inside → legs.items ≡ legs_in_box q (content inside))) (sym c.found.ensures)
@@ -23,7 +23,7 @@ returns-clause-found g c =
 
 pub returns-clause-asks : goal.returns-clause-asks
 returns-clause-asks g c =
-    let inside : IndexView = record { cache = c.self.inside.cache; tree = c.self.inside.tree; places = c.self.inside.places.items; legs = c.self.inside.legs } in
+    let inside : IndexView = record { cache = c.self.inside.cache; tree = c.self.inside.tree; places = c.self.inside.places.items; legs = c.self.inside.legs; known = map (λ spans. spans.items) c.self.inside.known.items } in
     let q = c.args.query.now in
     let new = c.search.new.cache.asked in
     subst (λ i. OnOk c.found.result (IsSound i → RisesBy (min i.cache.asked (2 ^ 64 - 1)) (min new (2 ^ 64 - 1)) (search_cost q (Some i.tree.shape) (content i)))) c.self.view_is
@@ -33,12 +33,12 @@ returns-clause-asks g c =
 
 pub returns-clause-leaves : goal.returns-clause-leaves
 returns-clause-leaves g c =
-    let inside : IndexView = record { cache = c.self.inside.cache; tree = c.self.inside.tree; places = c.self.inside.places.items; legs = c.self.inside.legs } in
-    subst (λ i. Leaves words i (record inside { cache = c.search.new.cache })) c.self.view_is (reads_leave inside c.search.new.cache c.search.ensures.reads)
+    let inside : IndexView = record { cache = c.self.inside.cache; tree = c.self.inside.tree; places = c.self.inside.places.items; legs = c.self.inside.legs; known = map (λ spans. spans.items) c.self.inside.known.items } in
+    subst (λ i. Leaves words i (record inside { cache = c.search.new.cache })) c.self.view_is (reads_leave inside c.search.new.cache inside.known c.search.ensures.reads)
 
 pub returns-clause-refusals : goal.returns-clause-refusals
 returns-clause-refusals g c =
-    let inside : IndexView = record { cache = c.self.inside.cache; tree = c.self.inside.tree; places = c.self.inside.places.items; legs = c.self.inside.legs } in
+    let inside : IndexView = record { cache = c.self.inside.cache; tree = c.self.inside.tree; places = c.self.inside.places.items; legs = c.self.inside.legs; known = map (λ spans. spans.items) c.self.inside.known.items } in
     let q = c.args.query.now in
     let new : IndexView = record inside { cache = c.search.new.cache } in
     subst (λ i. Refusals words i new c.found.result) c.self.view_is
@@ -47,7 +47,7 @@ returns-clause-refusals g c =
 
 pub returns-clause-told : goal.returns-clause-told
 returns-clause-told g c =
-    let inside : IndexView = record { cache = c.self.inside.cache; tree = c.self.inside.tree; places = c.self.inside.places.items; legs = c.self.inside.legs } in
+    let inside : IndexView = record { cache = c.self.inside.cache; tree = c.self.inside.tree; places = c.self.inside.places.items; legs = c.self.inside.legs; known = map (λ spans. spans.items) c.self.inside.known.items } in
     let q = c.args.query.now in
     subst (λ i. MatchResult c.found.result (λ legs. tells i (InBox q) legs.items) (λ fault. Denies words i (InBox q) fault)) c.self.view_is
     (subst (λ r. MatchResult r (λ legs. tells inside (InBox q) legs.items) (λ fault. Denies words inside (InBox q) fault)) (sym c.found.ensures)

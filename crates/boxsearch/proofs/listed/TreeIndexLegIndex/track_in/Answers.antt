@@ -1,8 +1,12 @@
-use Rattle.std.proofs.Common.{◌≡◌, ◌-◌, ◌^◌, ◌<◌, length, min, ap, subst, sym, ◌∙◌, false, slice_get, Some}
+use Rattle.std.proofs.Common.{set, ◌≡◌, ◌-◌, ◌^◌, ◌<◌, length, min, ap, subst, sym, ◌∙◌, false, slice_get, Some, map, ℕ, ℤ, ◌≤ℤ◌, IsTrue, Option, arith}
 use Rattle.std.specs.Prelude.{IfOk, MatchResult, OnOk, filter}
+use Rattle.timebase.specs.Period.{PeriodView}
+use Rattle.boxsearch.specs.Known.{KnowsBackTo}
+use Rattle.boxsearch.proofs.AnswerLemmas.{each_value}
+use Rattle.boxsearch.proofs.KnowsLemmas.{known_back, learned, le_then, ok_all, ok_two, recalled}
 use Rattle.legs.specs.Asking.{Denies, Leaves, Refusals}
 use Rattle.legs.specs.Questions.{OfFeature}
-use Rattle.legs.specs.Costs.{RisesAtMost, track_in_bound}
+use Rattle.legs.specs.Costs.{RisesAtMost, known_bound, track_in_bound}
 use Rattle.legs.specs.Index.{live_legs_of}
 use Rattle.legs.specs.Legs.{is_live}
 use Rattle.boxsearch.specs.Answers.{answered, of_chain}
@@ -10,10 +14,10 @@ use Rattle.boxsearch.specs.Index.{IndexView, words, content, tells, IsSound}
 use Rattle.boxsearch.proofs.IndexLemmas.{reads_leave}
 use Rattle.boxsearch.proofs.KnownLemmas.{known_after, known_of, of_answer}
 use Rattle.tbtree.specs.Nodes.{pages_of_cache}
-use Rattle.chains.specs.Spans.{IsKnown}
+use Rattle.chains.specs.Spans.{IsKnown, IsKnownBackTo}
 use Rattle.boxsearch.proofs.ResultLemmas.{on_ok}
 use Rattle.boxsearch.proofs.TellLemmas.{none_told, track_told}
-use Rattle.boxsearch.proofs.TrackLemmas.{absent, rises_capped_most, track_asked, track_found, track_refusals}
+use Rattle.boxsearch.proofs.TrackLemmas.{absent, has_feature, rises_capped_most, track_asked, track_found, track_refusals}
 use Rattle.boxsearch.proofs.listed.TreeIndexLegIndex.track_in.Goals as goal
 
 pub returns-in_default-clause-found : goal.returns-in_default-clause-found
@@ -21,7 +25,7 @@ returns-in_default-clause-found g c = λ s. c.new.ensures.items ∙ sym (ap (fil
 
 pub returns-clause-found : goal.returns-clause-found
 returns-clause-found g c =
-    let inside : IndexView = record { cache = c.self.inside.cache; tree = c.self.inside.tree; places = c.self.inside.places.items; legs = c.self.inside.legs } in
+    let inside : IndexView = record { cache = c.self.inside.cache; tree = c.self.inside.tree; places = c.self.inside.places.items; legs = c.self.inside.legs; known = map (λ spans. spans.items) c.self.inside.known.items } in
     let f = c.args.feature in
     let at : slice_get inside.places f ≡ Some c.in-Some.place = ap (λ (i : IndexView). slice_get i.places f) c.self.view_is ∙ sym c.place.ensures ∙ c.in-Some.is in
     subst (λ i. IfOk c.retrieval.result (λ legs. IsSound i → legs.items ≡ live_legs_of f c.args.period.now (content i))) c.self.view_is
@@ -30,7 +34,7 @@ returns-clause-found g c =
 
 pub returns-clause-asks : goal.returns-clause-asks
 returns-clause-asks g c =
-    let inside : IndexView = record { cache = c.self.inside.cache; tree = c.self.inside.tree; places = c.self.inside.places.items; legs = c.self.inside.legs } in
+    let inside : IndexView = record { cache = c.self.inside.cache; tree = c.self.inside.tree; places = c.self.inside.places.items; legs = c.self.inside.legs; known = map (λ spans. spans.items) c.self.inside.known.items } in
     let f = c.args.feature in
     let new = c.trajectory_in.new.cache.asked in
     let at : slice_get inside.places f ≡ Some c.in-Some.place = ap (λ (i : IndexView). slice_get i.places f) c.self.view_is ∙ sym c.place.ensures ∙ c.in-Some.is in
@@ -41,26 +45,26 @@ returns-clause-asks g c =
 
 pub returns-clause-leaves : goal.returns-clause-leaves
 returns-clause-leaves g c =
-    let inside : IndexView = record { cache = c.self.inside.cache; tree = c.self.inside.tree; places = c.self.inside.places.items; legs = c.self.inside.legs } in
-    subst (λ i. Leaves words i (record inside { cache = c.trajectory_in.new.cache })) c.self.view_is (reads_leave inside c.trajectory_in.new.cache c.trajectory_in.ensures.reads)
+    let inside : IndexView = record { cache = c.self.inside.cache; tree = c.self.inside.tree; places = c.self.inside.places.items; legs = c.self.inside.legs; known = map (λ spans. spans.items) c.self.inside.known.items } in
+    subst (λ i. Leaves words i (record inside { cache = c.trajectory_in.new.cache; known = map (λ spans. spans.items) (set c.make_room.new.known.items c.args.feature c.trajectory_in.new.spans) })) c.self.view_is (reads_leave inside c.trajectory_in.new.cache (map (λ spans. spans.items) (set c.make_room.new.known.items c.args.feature c.trajectory_in.new.spans)) c.trajectory_in.ensures.reads)
 
 pub returns-clause-refusals : goal.returns-clause-refusals
 returns-clause-refusals g c =
-    let inside : IndexView = record { cache = c.self.inside.cache; tree = c.self.inside.tree; places = c.self.inside.places.items; legs = c.self.inside.legs } in
+    let inside : IndexView = record { cache = c.self.inside.cache; tree = c.self.inside.tree; places = c.self.inside.places.items; legs = c.self.inside.legs; known = map (λ spans. spans.items) c.self.inside.known.items } in
     let f = c.args.feature in
-    let new : IndexView = record inside { cache = c.trajectory_in.new.cache } in
+    let new : IndexView = record inside { cache = c.trajectory_in.new.cache; known = map (λ spans. spans.items) (set c.make_room.new.known.items c.args.feature c.trajectory_in.new.spans) } in
     let at : slice_get inside.places f ≡ Some c.in-Some.place = ap (λ (i : IndexView). slice_get i.places f) c.self.view_is ∙ sym c.place.ensures ∙ c.in-Some.is in
     let works : inside.tree.spent ≡ false = c.if-self.false in
     subst (λ i. Refusals words i new c.retrieval.result) c.self.view_is
     (subst (λ r. Refusals words inside new r) (sym c.retrieval.ensures)
-    (track_refusals inside f c.in-Some.place c.trajectory_in.new.cache c.trajectory_in.result at (λ legs feature v. v.items ≡ live_legs_of feature c.args.period.now legs) works c.trajectory_in.ensures.found c.trajectory_in.ensures.caused))
+    (track_refusals inside f c.in-Some.place c.trajectory_in.new.cache c.trajectory_in.result at (map (λ spans. spans.items) (set c.make_room.new.known.items c.args.feature c.trajectory_in.new.spans)) (λ legs feature v. v.items ≡ live_legs_of feature c.args.period.now legs) works c.trajectory_in.ensures.found c.trajectory_in.ensures.caused))
 
 pub returns-in_default-clause-told : goal.returns-in_default-clause-told
 returns-in_default-clause-told g c = none_told c.args.self.now c.args.feature (Some c.args.period.now) c.new.result.items (sym c.place.ensures ∙ c.in_default.is) c.new.ensures.items
 
 pub returns-clause-told : goal.returns-clause-told
 returns-clause-told g c =
-    let inside : IndexView = record { cache = c.self.inside.cache; tree = c.self.inside.tree; places = c.self.inside.places.items; legs = c.self.inside.legs } in
+    let inside : IndexView = record { cache = c.self.inside.cache; tree = c.self.inside.tree; places = c.self.inside.places.items; legs = c.self.inside.legs; known = map (λ spans. spans.items) c.self.inside.known.items } in
     let f = c.args.feature in
     let at : slice_get inside.places f ≡ Some c.in-Some.place = ap (λ (i : IndexView). slice_get i.places f) c.self.view_is ∙ sym c.place.ensures ∙ c.in-Some.is in
     subst (λ i. MatchResult c.retrieval.result (λ legs. tells i (OfFeature f (Some c.args.period.now)) legs.items) (λ fault. Denies words i (OfFeature f (Some c.args.period.now)) fault)) c.self.view_is
@@ -85,3 +89,55 @@ invariant_of-self-2 g c =
     let at : slice_get inside.places.items c.args.feature ≡ Some c.in-Some.place = ap (λ (i : IndexView). slice_get i.places c.args.feature) c.self.view_is ∙ sym c.place.ensures ∙ c.in-Some.is in
     known_after (λ v. v.items) inside.cache new inside.tree.shape inside.places.items inside.known.items c.make_room.new.known.items c.args.feature c.in-Some.place c.self.invariant c.make_room.ensures.widens at c.trajectory_in.new.spans reads
     (λ place spans fa h. c.laws.ensures.lasts inside.cache new inside.tree.shape place spans reads fa h) c.trajectory_in.ensures.learns
+
+pub returns-then-is_err-clause-recalls : goal.returns-then-is_err-clause-recalls
+returns-then-is_err-clause-recalls g c =
+    let inside : IndexView = record { cache = c.self.inside.cache; tree = c.self.inside.tree; places = c.self.inside.places.items; legs = c.self.inside.legs; known = map (λ spans. spans.items) c.self.inside.known.items } in
+    let after = map (λ spans. spans.items) c.make_room.new.known.items in
+    subst (λ (i : IndexView). (f : ℕ) (start : ℤ) → KnowsBackTo i.cache i.tree.shape i.places i.known f start → KnowsBackTo inside.cache inside.tree.shape inside.places after f start) c.self.view_is
+    (λ f start h fa place at. let k = h fa place at in (k.0, c.make_room.ensures.holds f k.0 k.1, k.2))
+
+pub returns-clause-recalls : goal.returns-clause-recalls
+returns-clause-recalls g c =
+    let inside : IndexView = record { cache = c.self.inside.cache; tree = c.self.inside.tree; places = c.self.inside.places.items; legs = c.self.inside.legs; known = map (λ spans. spans.items) c.self.inside.known.items } in
+    let f = c.args.feature in
+    let new = c.trajectory_in.new.cache in
+    let room = of_answer c.make_room.result (f < length c.make_room.new.known.items) (sym c.is_err.ensures.value ∙ c.if-is_err.false) c.make_room.ensures.room in
+    let after = map (λ spans. spans.items) (set c.make_room.new.known.items f c.trajectory_in.new.spans) in
+    subst (λ (i : IndexView). (f : ℕ) (start : ℤ) → KnowsBackTo i.cache i.tree.shape i.places i.known f start → KnowsBackTo new inside.tree.shape inside.places after f start) c.self.view_is
+    (recalled (λ v. v.items) inside.cache new inside.tree.shape inside.places c.self.inside.known.items c.make_room.new.known.items f c.trajectory_in.ensures.reads c.make_room.ensures.holds room c.index_mut-spans.result.now c.trajectory_in.new.spans c.index_mut-spans.ensures.value c.trajectory_in.ensures.keeps)
+
+pub returns-clause-learns : goal.returns-clause-learns
+returns-clause-learns g c =
+    let inside : IndexView = record { cache = c.self.inside.cache; tree = c.self.inside.tree; places = c.self.inside.places.items; legs = c.self.inside.legs; known = map (λ spans. spans.items) c.self.inside.known.items } in
+    let f = c.args.feature in
+    let new = c.trajectory_in.new.cache in
+    let room = of_answer c.make_room.result (f < length c.make_room.new.known.items) (sym c.is_err.ensures.value ∙ c.if-is_err.false) c.make_room.ensures.room in
+    let after = map (λ spans. spans.items) (set c.make_room.new.known.items f c.trajectory_in.new.spans) in
+    let at : slice_get inside.places f ≡ Some c.in-Some.place = ap (λ (i : IndexView). slice_get i.places f) c.self.view_is ∙ sym c.place.ensures ∙ c.in-Some.is in
+    let from = c.args.period.now.start in
+    let P = (start : ℤ) → from ≤ℤ start → KnowsBackTo new inside.tree.shape inside.places after f start in
+    let Back : PeriodView → Type 0 = λ period. IsKnownBackTo (pages_of_cache inside.cache) (Some period) inside.tree.shape c.in-Some.place c.trajectory_in.new.spans.items in
+    let back = ok_all c.trajectory_in.result (IsTrue inside.cache.store.is_faithful) (λ (period : PeriodView). from ≤ℤ period.start) Back c.trajectory_in.ensures.recalls in
+    subst (λ r. OnOk r P) (sym c.retrieval.ensures)
+    (each_value (λ fault. of_chain fault) (λ _. P) c.trajectory_in.result
+    (on_ok c.trajectory_in.result (λ (h : IsTrue inside.cache.store.is_faithful → (period : PeriodView) → from ≤ℤ period.start → Back period) start le. learned (λ v. v.items) inside.cache new inside.tree.shape inside.places c.self.inside.known.items c.make_room.new.known.items f c.trajectory_in.ensures.reads c.make_room.ensures.holds room c.index_mut-spans.result.now c.trajectory_in.new.spans c.index_mut-spans.ensures.value c.in-Some.place start at (λ fa period starts. h fa period (le_then from start period.start le starts))) back))
+
+pub returns-clause-asks_known : goal.returns-clause-asks_known
+returns-clause-asks_known g c =
+    let inside : IndexView = record { cache = c.self.inside.cache; tree = c.self.inside.tree; places = c.self.inside.places.items; legs = c.self.inside.legs; known = map (λ spans. spans.items) c.self.inside.known.items } in
+    let f = c.args.feature in
+    let new = c.trajectory_in.new.cache in
+    let room = of_answer c.make_room.result (f < length c.make_room.new.known.items) (sym c.is_err.ensures.value ∙ c.if-is_err.false) c.make_room.ensures.room in
+    let after = map (λ spans. spans.items) (set c.make_room.new.known.items f c.trajectory_in.new.spans) in
+    let at : slice_get inside.places f ≡ Some c.in-Some.place = ap (λ (i : IndexView). slice_get i.places f) c.self.view_is ∙ sym c.place.ensures ∙ c.in-Some.is in
+    let period = c.args.period.now in
+    let Knows : IndexView → Type 0 = λ i. KnowsBackTo i.cache i.tree.shape i.places i.known f period.start in
+    let Rises : IndexView → Type 0 = λ i. RisesAtMost (min i.cache.asked (2 ^ 64 - 1)) (min new.asked (2 ^ 64 - 1)) (known_bound f period (Some i.tree.shape) (content i)) in
+    subst (λ i. OnOk c.retrieval.result (Knows i → IsSound i → Rises i)) c.self.view_is
+    (subst (λ r. OnOk r (Knows inside → IsSound inside → Rises inside)) (sym c.retrieval.ensures)
+    (each_value (λ fault. of_chain fault) (λ _. Knows inside → IsSound inside → Rises inside) c.trajectory_in.result
+    (ok_two c.trajectory_in.result (Knows inside) (IsSound inside) (Rises inside)
+    (λ knows s. on_ok c.trajectory_in.result (rises_capped_most inside.cache.asked new.asked (known_bound f period (Some inside.tree.shape) (content inside)))
+    (c.trajectory_in.ensures.met s.faithful (content inside) f (has_feature inside f c.in-Some.place s at)
+    (known_back (λ v. v.items) inside.cache new inside.tree.shape inside.places c.self.inside.known.items c.make_room.new.known.items f c.trajectory_in.ensures.reads c.make_room.ensures.holds room c.index_mut-spans.result.now c.trajectory_in.new.spans c.index_mut-spans.ensures.value c.in-Some.place period at knows s.faithful))))))

@@ -1,4 +1,4 @@
-use Rattle.std.proofs.Common.{ℕ, ◌≡◌, ◌<◌, subst, sym, false, IsTrue, OnOk}
+use Rattle.std.proofs.Common.{ℕ, ◌≡◌, ◌<◌, subst, sym, false, IsTrue, OnOk, map}
 use Rattle.legs.specs.Asking.{Refusals, Starts}
 use Rattle.boxsearch.specs.Index.{IndexView, words, MarksFirst}
 use Rattle.pagecache.specs.Cache.{payload_of}
@@ -9,21 +9,21 @@ use Rattle.boxsearch.proofs.tree_index.TreeIndex.mark.Goals as goal
 
 pub returns-clause-starts : goal.returns-clause-starts
 returns-clause-starts g c =
-    let inside : IndexView = record { cache = c.self.inside.cache; tree = c.self.inside.tree; places = c.self.inside.places.items; legs = c.self.inside.legs } in
-    let new : IndexView = record inside { cache = c.mark_page.new.cache } in
+    let inside : IndexView = record { cache = c.self.inside.cache; tree = c.self.inside.tree; places = c.self.inside.places.items; legs = c.self.inside.legs; known = map (λ spans. spans.items) c.self.inside.known.items } in
+    let new : IndexView = record inside { cache = c.mark_page.new.cache; known = map (λ spans. spans.items) c.new.result.items } in
     let laws : FirstLaws = record { content = c.laws.ensures.same; stands = c.laws.ensures.same_stands } in
     subst (λ i. Starts words i new c.of_pages.result) c.self.view_is
     (subst (λ r. Starts words inside new r) (sym c.of_pages.ensures)
-    (starts laws inside c.mark_page.new.cache c.mark_page.ensures.marks c.mark_page.result c.mark_page.ensures.marked c.mark_page.ensures.others c.mark_page.ensures.first))
+    (starts laws inside c.mark_page.new.cache (map (λ spans. spans.items) c.new.result.items) c.mark_page.ensures.marks c.mark_page.result c.mark_page.ensures.marked c.mark_page.ensures.others c.mark_page.ensures.first))
 
 pub returns-clause-refusals : goal.returns-clause-refusals
 returns-clause-refusals g c =
-    let inside : IndexView = record { cache = c.self.inside.cache; tree = c.self.inside.tree; places = c.self.inside.places.items; legs = c.self.inside.legs } in
-    let new : IndexView = record inside { cache = c.mark_page.new.cache } in
+    let inside : IndexView = record { cache = c.self.inside.cache; tree = c.self.inside.tree; places = c.self.inside.places.items; legs = c.self.inside.legs; known = map (λ spans. spans.items) c.self.inside.known.items } in
+    let new : IndexView = record inside { cache = c.mark_page.new.cache; known = map (λ spans. spans.items) c.new.result.items } in
     let works : inside.tree.spent ≡ false = c.if-self.false in
     subst (λ i. Refusals words i new c.of_pages.result) c.self.view_is
     (subst (λ r. Refusals words inside new r) (sym c.of_pages.ensures)
-    (mark_refusals inside c.mark_page.new.cache c.mark_page.result works c.mark_page.ensures.caused))
+    (mark_refusals inside c.mark_page.new.cache (map (λ spans. spans.items) c.new.result.items) c.mark_page.result works c.mark_page.ensures.caused))
 
 pub returns-clause-header : goal.returns-clause-header
 returns-clause-header g c =

@@ -1,4 +1,4 @@
-use Rattle.std.proofs.Common.{◌≡◌, ◌+◌, ◌-◌, ◌^◌, ◌<◌, ◌∙◌, min, ap, subst, sym, arith, length, Some, slice_get, set}
+use Rattle.std.proofs.Common.{◌≡◌, ◌+◌, ◌-◌, ◌^◌, ◌<◌, ◌∙◌, min, ap, subst, sym, arith, length, Some, slice_get, set, map}
 use Rattle.std.proofs.lemmas.Option.{slice_get-get_or}
 use Rattle.legs.specs.Legs.{LegView}
 use Rattle.boxsearch.specs.Index.{IndexView}
@@ -9,7 +9,7 @@ use Rattle.boxsearch.proofs.tree_index.TreeIndex.put.Goals as goal
 pub returns-then-is_ok : goal.returns-then-is_ok
 returns-then-is_ok g c =
     let places = c.self.inside.places.items in
-    let new : IndexView = record { cache = c.insert-result.new.cache; tree = c.insert-result.new.tree; places = set places c.leg.inside.feature c.insert-result.new.place; legs = c.saturating_add-self-inside.result } in
+    let new : IndexView = record { cache = c.insert-result.new.cache; tree = c.insert-result.new.tree; places = set places c.leg.inside.feature c.insert-result.new.place; legs = c.saturating_add-self-inside.result; known = map (λ spans. spans.items) c.new.result.items } in
     let works = ap (λ (v : IndexView). v.tree.spent) c.self.view_is ∙ c.requires.works in
     let feature : c.leg.inside.feature ≡ c.args.leg.feature = ap (λ (l : LegView). l.feature) c.leg.view_is in
     let count = ap (λ (v : IndexView). length v.places) c.self.view_is in
@@ -36,7 +36,7 @@ returns-then-is_ok g c =
 pub returns-else-is_ok : goal.returns-else-is_ok
 returns-else-is_ok g c =
     let places = c.self.inside.places.items in
-    let new : IndexView = record { cache = c.insert-result.new.cache; tree = c.insert-result.new.tree; places = set places c.leg.inside.feature c.insert-result.new.place; legs = c.self.inside.legs } in
+    let new : IndexView = record { cache = c.insert-result.new.cache; tree = c.insert-result.new.tree; places = set places c.leg.inside.feature c.insert-result.new.place; legs = c.self.inside.legs; known = map (λ spans. spans.items) c.new.result.items } in
     let works = ap (λ (v : IndexView). v.tree.spent) c.self.view_is ∙ c.requires.works in
     let feature : c.leg.inside.feature ≡ c.args.leg.feature = ap (λ (l : LegView). l.feature) c.leg.view_is in
     let count = ap (λ (v : IndexView). length v.places) c.self.view_is in

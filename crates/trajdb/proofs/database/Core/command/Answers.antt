@@ -11,3 +11,6 @@ returns-in-Trajectory-clause-says g c = rw (c.in-Trajectory.is, ← c.as_str-in-
 
 pub returns-in-Trajectory-clause-named : goal.returns-in-Trajectory-clause-named
 returns-in-Trajectory-clause-named g c = rw (c.in-Trajectory.is, ← c.as_str-in-Trajectory.ensures) c.track_text.ensures.named
+
+pub returns-in-Features-clause-asks_known : goal.returns-in-Features-clause-asks_known
+returns-in-Features-clause-asks_known g c = rw (c.in-Features.is) c.features_text.ensures.asks_known

@@ -13,3 +13,9 @@ returns-clause-begins g c = rw (← c.self.view_is) c.command.ensures.begins
 
 pub returns-clause-safe : goal.returns-clause-safe
 returns-clause-safe g c = rw (← c.self.view_is) (keeps_safe _ _ c.command.ensures.pages c.command.ensures.later.index.faults (λ failed. (c.command.ensures.was_failed failed).1))
+
+pub returns-clause-asks_known : goal.returns-clause-asks_known
+returns-clause-asks_known g c = rw (← c.self.view_is) c.command.ensures.asks_known
+
+pub returns-clause-learns : goal.returns-clause-learns
+returns-clause-learns g c = rw (← c.self.view_is) c.command.ensures.learns
