@@ -1,4 +1,4 @@
-use Rattle.std.proofs.Common.{◌≡◌, ◌+◌, ◌-◌, ◌^◌, ◌<◌, ◌∙◌, min, ap, refl, subst, sym, arith, length, Some, set}
+use Rattle.std.proofs.Common.{◌≡◌, ◌+◌, ◌-◌, ◌^◌, ◌<◌, ◌∙◌, min, ap, refl, subst, sym, arith, length, map, Some, set}
 use Rattle.std.proofs.lemmas.Option.{slice_get-get_or}
 use Rattle.boxsearch.specs.Index.{IndexView}
 use Rattle.boxsearch.specs.Putting.{PutsAll}
@@ -8,7 +8,7 @@ use Rattle.boxsearch.proofs.tree_index.TreeIndex.put_all.Goals as goal
 pub returns-then-is_ok : goal.returns-then-is_ok
 returns-then-is_ok g c =
     let places = c.self.inside.places.items in
-    let new : IndexView = record { cache = c.insert_all-result.new.cache; tree = c.insert_all-result.new.tree; places = set places c.args.feature c.insert_all-result.new.place; legs = c.saturating_add-self-inside.result } in
+    let new : IndexView = record { cache = c.insert_all-result.new.cache; tree = c.insert_all-result.new.tree; places = set places c.args.feature c.insert_all-result.new.place; legs = c.saturating_add-self-inside.result; known = map (λ spans. spans.items) c.new.result.items } in
     let works = ap (λ (v : IndexView). v.tree.spent) c.self.view_is ∙ c.requires.works in
     let count = ap (λ (v : IndexView). length v.places) c.self.view_is in
     let below = c.requires.feature in
@@ -32,7 +32,7 @@ returns-then-is_ok g c =
 pub returns-else-is_ok : goal.returns-else-is_ok
 returns-else-is_ok g c =
     let places = c.self.inside.places.items in
-    let new : IndexView = record { cache = c.insert_all-result.new.cache; tree = c.insert_all-result.new.tree; places = set places c.args.feature c.insert_all-result.new.place; legs = c.self.inside.legs } in
+    let new : IndexView = record { cache = c.insert_all-result.new.cache; tree = c.insert_all-result.new.tree; places = set places c.args.feature c.insert_all-result.new.place; legs = c.self.inside.legs; known = map (λ spans. spans.items) c.new.result.items } in
     let works = ap (λ (v : IndexView). v.tree.spent) c.self.view_is ∙ c.requires.works in
     let count = ap (λ (v : IndexView). length v.places) c.self.view_is in
     let below = c.requires.feature in
