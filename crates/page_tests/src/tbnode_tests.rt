@@ -264,6 +264,49 @@ fn the_form_of_a_leaf(rt: HostRuntime) {
     assert!(rt; leaf(&payload).is_none() && inner(&payload).is_none());
 }
 
+/// Which of its two legs the worked leaf gives that is not tested, with another byte at a place; `None` where it is not
+/// given at all.
+fn untested_with(place: usize, byte: u8) -> Option<(bool, bool)>
+    requires { place < 4056 }
+{
+    let mut payload = worked_leaf_bytes();
+    payload.bytes[place] = byte;
+    let view = untested(&payload)?;
+    Some((view.leg(0).is_some(), view.leg(1).is_some()))
+}
+
+/// Changes of a byte of the worked leaf that is not tested, and which of its two legs it gives then.
+const UNTESTED: [(usize, u8, Option<(bool, bool)>); 10] = [
+    (13, 0, None),
+    (13, 1, Some((true, false))),
+    (13, 50, Some((true, true))),
+    (13, 51, None),
+    (14, 1, Some((true, true))),
+    (24, 127, Some((false, true))),
+    (95, 1, Some((false, true))),
+    (103, 0, Some((true, true))),
+    (112, 127, Some((true, false))),
+    (120, 127, Some((true, false))),
+];
+
+/// The first change after which other legs are given, if any.
+fn wrong_untested() -> Option<usize> {
+    for (place, byte, given) in &UNTESTED {
+        if *place < 4056 && untested_with(*place, *byte) != *given {
+            return Some(*place);
+        }
+    }
+    None
+}
+
+#[test]
+fn a_leaf_that_is_not_tested_gives_lawful_legs_alone(rt: HostRuntime) {
+    assert_eq!(rt; wrong_untested(), None);
+    let payload = worked_leaf_bytes();
+    let legs = untested(&payload).map(|view| (view.leg(0), view.leg(1), view.leg(2)));
+    assert!(rt; legs == Some((first(), second(), None)));
+}
+
 /// Pushes an entry where the payload is an inner page with room for it.
 fn hang(payload: &mut Payload, entry: &Entry) -> bool {
     let Some(view) = inner(payload) else {
