@@ -1,5 +1,6 @@
 //! Legs that are put into an index block by block: the same pages as leg by leg, and stores that fail meanwhile.
 use crate::numbers::feed;
+use crate::samples::leg;
 use boxsearch::TreeIndex;
 use legs::{Box3, IndexFault, Leg, LegIndex};
 use pagecache::PageCache;
@@ -110,4 +111,23 @@ fn a_file_that_the_store_refuses_spends_the_index(rt: HostRuntime) {
             assert_eq!(rt; refused, Some(true), "at call {calls}");
         }
     }
+}
+
+/// How many pages a file of eight legs of one feature asks for, in leaves of four and inner pages of two.
+fn asked_by_file(alloc: Global) -> Option<u64> {
+    let mut index = empty(alloc, Shape::new(4, 2)?, u64::MAX, false)?;
+    let mut legs = Vec::new(alloc);
+    for ordinal in 0..8 {
+        legs.push(leg(ordinal, 0, 0)?).ok()?;
+    }
+    let before = index.asked();
+    index.add_all(legs.as_slice()).ok()?;
+    index.asked().checked_sub(before)
+}
+
+#[test]
+fn a_leaf_is_asked_for_once_for_the_legs_that_go_on_it(rt: HostRuntime) {
+    // The first leaf: added, written to with its first leg, and with the others. The second one: the same, and the leaf
+    // before it, the old root, the new one, which is added and written to, and the new root once more for the others.
+    assert_eq!(rt; asked_by_file(rt.alloc()), Some(11));
 }
