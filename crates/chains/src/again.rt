@@ -93,8 +93,8 @@ fn take_node(
     period: &Option<Period>,
     found: &mut Vec<Leg>,
 ) -> Result<Option<Link>, ChainFault>
-    ensures taken { OfLeaf payload.now (λ leaf. IfOk result (TakesLeaf leaf link.now spot.now period.now
-        found.old.items found.new.items)) }
+    ensures taken { OfLeaf payload.now (λ leaf. IfOk result (TakesLeaf leaf link.now spot.now
+        period.now found.old.items found.new.items)) }
     ensures named { OfLeaf payload.now (λ leaf. IfErr result
         (IsNodeFault (fits leaf link.now spot.now) link.now.page)) }
     ensures caused { (old new : Cache) → IfErr result (IsCaused old new) }

@@ -44,7 +44,7 @@ pub trait Listed {
     ghost found_by: { Self → Finding };
 
     /// Of this feature what is known reaches back to that moment: a question for a period that starts no earlier asks for
-    /// no page that has no leg in it.
+    /// no page whose legs all end before it, or all start after it.
     ghost knows: { Self → ℕ → ℤ → Type 0 };
 
     /// No page is changed; never of an index that keeps a list.
