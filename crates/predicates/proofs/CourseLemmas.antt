@@ -282,3 +282,12 @@ live_from leg period answer e is ends = ends_from (is_live period leg) e (first_
 
 pub unlive_from : (leg : LegView) (period : PeriodView) (answer : Option (ℤ × ℤ)) → answer ≡ None → answer ≡ live_ends leg period → is_live period leg ≡ false
 unlive_from leg period answer is ends = no_ends_from (is_live period leg) (first_moment leg period, last_moment leg period) (sym is ∙ ends)
+
+-- inside at an end of the live stretch is inside at some moment
+pub inside_at_end : (leg : LegView) (rect : RectView) (period : PeriodView) (e : ℤ × ℤ) → live_ends leg period ≡ Some e
+    → (IsInside leg rect e.0 1 → HasMomentInside leg rect period) × (IsInside leg rect e.1 1 → HasMomentInside leg rect period)
+inside_at_end leg rect period e ends =
+    let from = live_from leg period (live_ends leg period) e ends refl in (
+      λ inside. (first_moment leg period, 1, record { moment = first_is leg period from.0; inside = subst (λ t. IsInside leg rect t 1) from.1 inside }),
+      λ inside. (last_moment leg period, 1, record { moment = last_is leg period from.0; inside = subst (λ t. IsInside leg rect t 1) from.2 inside }),
+    )

@@ -1,6 +1,6 @@
 -- The legs of which a predicate holds lie near.
-use Rattle.std.proofs.Common.{ℤ, pos, neg_ℤ, ◌≡◌, ◌≢◌, refl, Bool, true, ◌∷◌, [], arith}
-use Rattle.std.specs.Prelude.{◌&&◌, int_le}
+use Rattle.std.proofs.Common.{ℤ, neg_ℤ, ◌≡◌, ◌≢◌, refl, true, ◌∷◌, [], arith}
+use Rattle.std.specs.Prelude.{int_le}
 use Rattle.std.specs.Int.{int_max, int_min}
 use Rattle.std.proofs.lemmas.Int.{ints, clamps}
 use Rattle.fixedpoint.specs.Number.{IsInRange}

@@ -1,15 +1,16 @@
 //! What one pass over legs has to keep of them.
-ghost use Rattle.std.specs.Prelude.{List, [], ◌∷◌, ◌++◌, ◌↔◌, IsTrue};
-ghost use Rattle.legs.specs.Legs.{LegView};
+ghost use Rattle.std.specs.Prelude.{List, [], ◌∷◌, ◌++◌, ◌≡◌, ◌↔◌, IsTrue, Some};
+ghost use Rattle.legs.specs.Legs.{LegView, HasMoment};
 ghost use Rattle.legs.specs.Boxes.{RectView};
 ghost use Rattle.timebase.specs.Period.{PeriodView};
+ghost use Rattle.clipping.specs.Inside.{HasMomentInside, live_ends};
 ghost use Rattle.predicates.specs.Predicates.{Holds};
 ghost use Rattle.predicates.specs.Courses.{IsCourse};
 
 use crate::Predicate;
 use clipping::{clip, inside_at, live};
-use legs::{Leg, Rect};
-use timebase::Period;
+use legs::{Box3, Leg, Rect};
+use timebase::{Ms, Period};
 
 /// What legs have to do with a rectangle over a period.
 #[derive(Clone, Copy)]
@@ -26,6 +27,26 @@ pub(crate) struct Course {
     ever: bool,
 }
 
+/// Whether the box of a leg meets the box over a rectangle and a period; else the leg is inside the
+/// rectangle at no moment of the period.
+fn may_be_inside(leg: &Leg, rect: &Rect, period: &Period) -> bool
+    ensures { HasMomentInside leg.now rect.now period.now → IsTrue result }
+{
+    prove!(leg.t0.millis() < leg.t1.millis());
+    Box3::of(leg).meets(&Box3::new(rect, period))
+}
+
+/// Whether a leg is inside a rectangle at some moment of a period, as it is where it is known to be.
+fn is_ever_inside(leg: &Leg, rect: &Rect, period: &Period, is_known: bool) -> bool
+    requires { IsTrue is_known → HasMomentInside leg.now rect.now period.now }
+    ensures { IsTrue result ↔ HasMomentInside leg.now rect.now period.now }
+{
+    if is_known {
+        return true;
+    }
+    clip(leg, rect, period).is_some()
+}
+
 impl Course {
     /// The course of no legs.
     fn empty() -> Course
@@ -40,20 +61,48 @@ impl Course {
         }
     }
 
-    /// The course of one leg. It moves linearly: between two moments inside it is inside.
+    /// The course of one leg that has a moment and is inside at none.
+    fn outside() -> Course
+        ensures { (leg : LegView) (rect : RectView) (period : PeriodView)
+            → HasMoment leg period → (HasMomentInside leg rect period → ⊥)
+            → IsCourse result (leg ∷ []) rect period }
+    {
+        Course {
+            live: true,
+            first: false,
+            last: false,
+            always: false,
+            ever: false,
+        }
+    }
+
+    /// The course of one leg whose first and last moment in the period are those ends. It moves
+    /// linearly: between two moments inside it is inside.
+    fn between(leg: &Leg, rect: &Rect, period: &Period, ends: (Ms, Ms)) -> Course
+        requires { live_ends leg.now period.now ≡ Some ends }
+        ensures { IsCourse result (leg.now ∷ []) rect.now period.now }
+    {
+        let first = inside_at(leg, rect, ends.0);
+        let last = inside_at(leg, rect, ends.1);
+        Course {
+            live: true,
+            first,
+            last,
+            always: first && last,
+            ever: is_ever_inside(leg, rect, period, first || last),
+        }
+    }
+
+    /// The course of one leg. One whose box is off the rectangle is inside at no moment.
     fn of(leg: &Leg, rect: &Rect, period: &Period) -> Course
         ensures { IsCourse result (leg.now ∷ []) rect.now period.now }
     {
         match live(leg, period) {
             Some(ends) => {
-                let first = inside_at(leg, rect, ends.0);
-                let last = inside_at(leg, rect, ends.1);
-                Course {
-                    live: true,
-                    first,
-                    last,
-                    always: first && last,
-                    ever: clip(leg, rect, period).is_some(),
+                if may_be_inside(leg, rect, period) {
+                    Course::between(leg, rect, period, ends)
+                } else {
+                    Course::outside()
                 }
             }
             None => Course::empty(),

@@ -1,4 +1,4 @@
-use Rattle.std.proofs.Common.{◌∙◌, ◌≡◌, ap, sym, true}
+use Rattle.std.proofs.Common.{◌∙◌, ap, sym}
 use Rattle.legs.specs.Boxes.{BoxView, box_of, boxes_meet}
 use Rattle.predicates.specs.declared.Predicate.TheVariants.{Bypasses}
 use Rattle.predicates.proofs.NearLemmas.{meets_near, near_is}
