@@ -1,5 +1,5 @@
 -- What a call of a database leaves, and why it stopped.
-use Rattle.std.specs.Prelude.{ℕ, ◌≡◌, ◌<◌, [], slice_index_or, true, false, List, Option, Some, None, Result, Ok, Err, IsTrue, is_some, ◌⊎◌, ◌↔◌, drop, length, sum_by, map}
+use Rattle.std.specs.Prelude.{ℕ, ℤ, ◌≡◌, ◌<◌, [], slice_index_or, true, false, List, Option, Some, None, Result, Ok, Err, IsTrue, is_some, ◌⊎◌, ◌↔◌, drop, length, sum_by, map}
 use Rattle.std.specs.List.{range_with_len}
 use Rattle.timebase.specs.Period.{PeriodView}
 use Rattle.legs.specs.declared.head.BookHead.{BookHead}
@@ -234,6 +234,11 @@ KnowsOf g db period feature = IsOver db.tracks feature period ⊎ g.knows db.ind
 abbrev pub KnowsEach : {I : Type 0} → Ghosts I → CoreView I → PeriodView → Type 0
 KnowsEach g db period = (feature : ℕ) → feature < length db.book.names → KnowsOf g db period feature
 
+-- what is known of a feature that is there reaches back to any moment
+abbrev pub KnowsTrack : {I : Type 0} → Ghosts I → CoreView I → Option ℕ → Type 0
+KnowsTrack g db (Some feature) = (start : ℤ) → g.knows db.index feature start
+KnowsTrack g db None = Unit {0}
+
 -- `write` searches everything, where there is a head
 abbrev pub write_asks : Option BookHead → Option ShapeView → List LegView → ℕ
 write_asks None plan legs = 0
@@ -272,12 +277,13 @@ AsksKnown g old new (Features predicate rect period) =
 AsksKnown g old new (Trajectory name) = Unit {0}
 AsksKnown g old new Write = Unit {0}
 
--- a sound database that answered `features` knows each feature back to the period
+-- a sound database that answered `features` knows each feature back to the period, and one that answered `trajectory`
+-- knows that feature whole
 abbrev pub LearnsBy : {I : Type 0} → Ghosts I → CoreView I → CoreView I → Command → Type 0
 LearnsBy g old new (Load name) = Unit {0}
 LearnsBy g old new Count = Unit {0}
 LearnsBy g old new (Box rect period) = Unit {0}
 LearnsBy g old new (Legs predicate rect period) = Unit {0}
 LearnsBy g old new (Features predicate rect period) = IsSound g old → KnowsEach g new period
-LearnsBy g old new (Trajectory name) = Unit {0}
+LearnsBy g old new (Trajectory name) = IsSound g old → KnowsTrack g new (feature_of old.book.names name)
 LearnsBy g old new Write = Unit {0}

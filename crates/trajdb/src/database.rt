@@ -302,6 +302,7 @@ impl<I: Start> Core<I> {
     ghost use Rattle.trajdb.specs.Database.{Becomes, IsSound};
     ghost use Rattle.trajdb.specs.Calls.{AsksIn, AsksKnown, LearnsBy, Begins, BeginsBy, BeginsOnly, IsStopped, IsLater, KeepsPages, Leaves, Loads, LoadsWhole, TellsLoad};
     ghost use Rattle.trajdb.specs.Telling.{IsToldAnswer, NamesBy};
+    ghost use Rattle.legs.specs.Asking.{Recalls};
 
     /// The whole answer to a command, with the named files at hand.
     ///
@@ -325,6 +326,8 @@ impl<I: Start> Core<I> {
         ensures asks { OnOk result (AsksIn I.Listed self.old self.new command.now) }
         ensures asks_known { OnOk result (AsksKnown I.Listed self.old self.new command.now) }
         ensures learns { OnOk result (LearnsBy I.Listed self.old self.new command.now) }
+        ensures recalls { (Loads files.now command.now → ⊥)
+            → Recalls I.Listed self.old.index self.new.index }
         ensures later { IsLater I.Listed self.old self.new }
 
         // All but a `load` of a file that is there leave the book; where that load is refused, the

@@ -49,6 +49,7 @@ impl<S: PageStore> Db<S> {
     ghost use Rattle.trajdb.specs.Faults.{IsInside};
     ghost use Rattle.trajdb.specs.Run.{AcceptsSome, StopsAt, Runs, Stops, IsCut};
     ghost use Rattle.trajdb.specs.Database.{FailsBy, IsRefused, IsTold, LoadGives, Becomes};
+    ghost use Rattle.legs.specs.Asking.{Recalls};
     ghost use Rattle.trajdb.specs.Calls.{AsksIn, AsksKnown, LearnsBy, Begins, BeginsBy, BeginsOnly, IsLater, IsLoadStop, IsRunStop, IsStopped, IsWholeFile, KeepsPages, Leaves, Loads, LoadsWhole, LoadsWholeSome, TellsLoad};
     ghost use Rattle.trajdb.specs.Telling.{IsToldAnswer, NamesBy, TellsCut, TellsRun, TellsStop};
     ghost use Rattle.trajdb.specs.Db.{HasPages, IsAllowed, IsCaused, IsSound};
@@ -157,6 +158,8 @@ impl<S: PageStore> Db<S> {
         ensures asks { OnOk result (AsksIn words self.old self.new command.now) }
         ensures asks_known { OnOk result (AsksKnown words self.old self.new command.now) }
         ensures learns { OnOk result (LearnsBy words self.old self.new command.now) }
+        ensures recalls { (Loads files.now command.now → ⊥)
+            → Recalls words self.old.index self.new.index }
         ensures later { IsLater words self.old self.new }
 
         // All but a `load` of a file that is there leave the book; where that load is refused, the

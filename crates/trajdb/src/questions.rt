@@ -51,7 +51,7 @@ impl<I: Start> Core<I> {
     ghost use Rattle.legs.specs.Questions.{InBox, OfFeature};
     ghost use Rattle.trajdb.specs.Database.{IsSound};
     ghost use Rattle.trajdb.specs.Telling.{AreLive, ArePickedOf, AreToldOf, DeniesFile, DeniesLegs, DeniesSome, DeniesTrack, HoldsLive, IsToldFeatures, IsToldFile, IsToldLegs, IsToldPicks, IsToldTrack, Names, PicksLive};
-    ghost use Rattle.trajdb.specs.Calls.{IsText, IsRefused, Leaves, Asks, AsksAtMost, KnowsEach, KnowsOf, features_bound, known_features_bound, track_asks, write_asks};
+    ghost use Rattle.trajdb.specs.Calls.{IsText, IsRefused, Leaves, Asks, AsksAtMost, KnowsEach, KnowsOf, KnowsTrack, features_bound, known_features_bound, track_asks, write_asks};
 
     /// How legs are written.
     fn frame(&self) -> Frame
@@ -119,6 +119,7 @@ impl<I: Start> Core<I> {
             (λ page. I.denies self.old.index (InBox (box_over rect.now period.now)) page)) }
         ensures asks { OnOk result (Asks I.Listed self.old self.new (search_cost
             (box_over rect.now period.now))) }
+        ensures recalls { Recalls I.Listed self.old.index self.new.index }
         ensures leaves { Leaves I.Listed self.old self.new }
         ensures refused { IfErr result (IsRefused I.Listed self.old self.new) }
     {
@@ -136,6 +137,9 @@ impl<I: Start> Core<I> {
             → DeniesTrack I.Listed self.old (feature_of self.old.book.names name.now) page)) }
         ensures asks { OnOk result (Asks I.Listed self.old self.new (track_asks (feature_of
             self.old.book.names name.now))) }
+        ensures learns { OnOk result (length self.old.book.names ≤ most
+            → KnowsTrack I.Listed self.new (feature_of self.old.book.names name.now)) }
+        ensures recalls { Recalls I.Listed self.old.index self.new.index }
         ensures leaves { Leaves I.Listed self.old self.new }
         ensures refused { IfErr result (IsRefused I.Listed self.old self.new) }
     {
@@ -162,6 +166,7 @@ impl<I: Start> Core<I> {
             (InBox (box_near predicate rect.now period.now)) page)) }
         ensures asks { OnOk result (Asks I.Listed self.old self.new (search_cost
             (box_near predicate rect.now period.now))) }
+        ensures recalls { Recalls I.Listed self.old.index self.new.index }
         ensures leaves { Leaves I.Listed self.old self.new }
         ensures refused { IfErr result (IsRefused I.Listed self.old self.new) }
     {
@@ -257,6 +262,7 @@ impl<I: Start> Core<I> {
             (range_with_len 0 (length self.old.book.names)) period.now)) }
         ensures learns { OnOk result (IsSound I.Listed self.old
             → KnowsEach I.Listed self.new period.now) }
+        ensures recalls { Recalls I.Listed self.old.index self.new.index }
         ensures leaves { Leaves I.Listed self.old self.new }
         ensures refused { IfErr result (IsRefused I.Listed self.old self.new) }
     {
@@ -329,6 +335,7 @@ impl<I: Start> Core<I> {
         ensures named { IfErr result (Names I.Listed self.old
             (λ page. I.denies self.old.index (InBox everything) page)) }
         ensures asks { OnOk result (Asks I.Listed self.old self.new (search_cost everything)) }
+        ensures recalls { Recalls I.Listed self.old.index self.new.index }
         ensures leaves { Leaves I.Listed self.old self.new }
         ensures refused { IfErr result (IsRefused I.Listed self.old self.new) }
     {
@@ -344,6 +351,7 @@ impl<I: Start> Core<I> {
             (DeniesFile I.Listed self.old self.old.book.head)) }
         ensures asks { OnOk result (Asks I.Listed self.old self.new
             (write_asks self.old.book.head)) }
+        ensures recalls { Recalls I.Listed self.old.index self.new.index }
         ensures leaves { Leaves I.Listed self.old self.new }
         ensures refused { IfErr result (IsRefused I.Listed self.old self.new) }
     {
@@ -373,6 +381,7 @@ impl<I: Start> Core<I> {
             (DeniesLegs I.Listed self.old (InBox (box_over rect.now period.now)))) }
         ensures asks { OnOk result (Asks I.Listed self.old self.new (search_cost
             (box_over rect.now period.now))) }
+        ensures recalls { Recalls I.Listed self.old.index self.new.index }
         ensures leaves { Leaves I.Listed self.old self.new }
         ensures refused { IfErr result (IsRefused I.Listed self.old self.new) }
     {
@@ -392,6 +401,9 @@ impl<I: Start> Core<I> {
             → DeniesTrack I.Listed self.old (feature_of self.old.book.names name.now) page)) }
         ensures asks { OnOk result (Asks I.Listed self.old self.new (track_asks (feature_of
             self.old.book.names name.now))) }
+        ensures learns { OnOk result (length self.old.book.names ≤ most
+            → KnowsTrack I.Listed self.new (feature_of self.old.book.names name.now)) }
+        ensures recalls { Recalls I.Listed self.old.index self.new.index }
         ensures leaves { Leaves I.Listed self.old self.new }
         ensures refused { IfErr result (IsRefused I.Listed self.old self.new) }
     {
@@ -416,6 +428,7 @@ impl<I: Start> Core<I> {
             (InBox (box_near predicate rect.now period.now)))) }
         ensures asks { OnOk result (Asks I.Listed self.old self.new (search_cost
             (box_near predicate rect.now period.now))) }
+        ensures recalls { Recalls I.Listed self.old.index self.new.index }
         ensures leaves { Leaves I.Listed self.old self.new }
         ensures refused { IfErr result (IsRefused I.Listed self.old self.new) }
     {
@@ -445,6 +458,7 @@ impl<I: Start> Core<I> {
             (range_with_len 0 (length self.old.book.names)) period.now)) }
         ensures learns { OnOk result (IsSound I.Listed self.old
             → KnowsEach I.Listed self.new period.now) }
+        ensures recalls { Recalls I.Listed self.old.index self.new.index }
         ensures leaves { Leaves I.Listed self.old self.new }
         ensures refused { IfErr result (IsRefused I.Listed self.old self.new) }
     {
