@@ -22,4 +22,5 @@ pub mod HeaderTextLemmas
 pub mod FinishLemmas
 pub mod RestLemmas
 pub mod CloseLemmas
+pub mod RefusedLemmas
 pub mod StateLemmas

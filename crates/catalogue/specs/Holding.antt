@@ -1,5 +1,5 @@
 -- A store whose pages hold a book.
-use Rattle.std.specs.Prelude.{ℕ, ◌≡◌, List, length, slice_get, Option, Some, option_and_then, []}
+use Rattle.std.specs.Prelude.{ℕ, ◌≡◌, List, drop, length, slice_get, Option, Some, option_and_then, []}
 use Rattle.legs.specs.Book.{Book}
 use Rattle.legs.specs.Costs.{ShapeView}
 use Rattle.legs.specs.Law.{IsBook}
@@ -44,6 +44,13 @@ pub record HoldsBook (s : Store) (shape : ShapeView) (limits : LimitsView) (book
   pub of : IsOfBook limits book catalogue
   pub sound : IsSound (index_over s tree places (length book.legs))
   pub legs : content (index_over s tree places (length book.legs)) ≡ book.legs
+
+-- all pages of a store but page 0 are those of one that holds a book
+pub record HoldsButFirst (s : Store) (shape : ShapeView) (limits : LimitsView) (book : Book) : Type 0 where
+  pub whole : Store
+  pub holds : HoldsBook whole shape limits book
+  pub count : whole.count ≡ s.count
+  pub others : drop 1 whole.pages ≡ drop 1 s.pages
 
 -- the payload that page n of these seals
 unfoldable pub payload_in : List (List ℕ) → ℕ → Option Payload

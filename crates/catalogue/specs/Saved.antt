@@ -1,12 +1,12 @@
 -- What a database keeps, as the text of its catalogue says it.
-use Rattle.std.specs.Prelude.{ℕ, ◌≡◌, ◌≤◌, ◌^◌, ◌-◌, min, List, Option, Some, None, take, drop}
+use Rattle.std.specs.Prelude.{ℕ, ◌≡◌, ◌≤◌, ◌^◌, ◌-◌, false, min, List, Option, Some, None, take, drop}
 use Rattle.pages.specs.Store as store
 use Rattle.legs.specs.Limits.{LimitsView}
 use Rattle.legs.specs.Tracks.{TracksView}
 use Rattle.legs.specs.declared.head.BookHead.{BookHead}
 use Rattle.mfcsv.specs.declared.Dimension.TheVariants.{Two, Three}
 use Rattle.pages.specs.declared.payload.Payload.{Payload}
-use Rattle.pagecache.specs.Cache.{Cache, payload_of}
+use Rattle.pagecache.specs.Cache.{is_changed, payload_of, Cache, IsSettled}
 use Rattle.tbtree.specs.declared.tree.TbTree.{TbTree}
 use Rattle.catalogue.specs.declared.header_fields.Fields.{Fields}
 use Rattle.catalogue.specs.declared.contents.Head.{Head}
@@ -58,3 +58,8 @@ pub record Continues (old new : Cache) : Type 0 where
   pub count : old.count ≤ new.count
   -- the count of asks did not fall; the greatest number that is counted stands for any greater one
   pub asked : min old.asked (2 ^ 64 - 1) ≤ new.asked
+
+-- no page but page 0 is changed; so each other one is as written
+pub record IsWrittenButFirst (c : Cache) : Type 0 where
+  pub clean : (n : ℕ) → 1 ≤ n → is_changed c n ≡ false
+  pub settled : IsSettled c

@@ -1,5 +1,5 @@
 //! A store is closed.
-ghost use Rattle.std.specs.Prelude.{◌≡◌, [], IfErr, OnOk, Some};
+ghost use Rattle.std.specs.Prelude.{◌≡◌, ◌⊎◌, [], IfErr, OnErr, OnOk, Some};
 ghost use Rattle.legs.specs.Book.{Book};
 ghost use Rattle.legs.specs.declared.head.BookHead.{BookHead};
 ghost use Rattle.pages.specs.Store.{IsLawful, Keeps};
@@ -8,7 +8,7 @@ ghost use Rattle.timebase.specs.Instant.{IsMoment};
 ghost use Rattle.boxsearch.specs.Beside.{with_cache};
 ghost use Rattle.boxsearch.specs.Index.{content, IsMarked, IsSound};
 ghost use Rattle.catalogue.specs.Closing.{IsClosingFault, IsNoStoreFault};
-ghost use Rattle.catalogue.specs.Holding.{HoldsBook, IsOfBook, IsUnfinishedStore};
+ghost use Rattle.catalogue.specs.Holding.{HoldsBook, HoldsButFirst, IsOfBook, IsUnfinishedStore};
 ghost use Rattle.catalogue.specs.Saving.{IsAllowed, IsCaused};
 
 use crate::fault::CatalogueFault;
@@ -57,6 +57,11 @@ fn save_and_finish<S: PageStore>(
         → IsAllowed fault) }
     ensures unfinished { IfErr result (λ fault. IsNoStoreFault fault → IsSound index.old
         → IsMarked index.old.cache → IsUnfinishedStore index.new.cache.store) }
+    ensures refused { OnErr result (IsLawful index.new.cache.store → IsSound index.old
+        → IsMarked index.old.cache → (book : Book)
+        → IsOfBook catalogue.now.limits book catalogue.now → content index.old ≡ book.legs
+        → IsUnfinishedStore index.new.cache.store
+        ⊎ HoldsButFirst index.new.cache.store index.old.tree.shape catalogue.now.limits book) }
     ensures keeps { Keeps index.old.cache.store index.new.cache.store }
     ensures caused { IfErr result (IsCaused index.old.cache index.new.cache) }
 {
@@ -71,7 +76,8 @@ fn save_and_finish<S: PageStore>(
 /// 0 says last that the store is finished. The store is handed back, whatever is answered.
 ///
 /// Refused for want of memory, and where the store fails or is full. Where memory ran out or the
-/// store is full, its page 0 still says that it is not finished.
+/// store is full, its page 0 still says that it is not finished; where the store failed, it does, or
+/// it was the writing of page 0 that failed, and all other pages are those of the closed store.
 pub fn close<S: PageStore>(
     alloc: Global,
     catalogue: &Catalogue,
@@ -86,6 +92,12 @@ pub fn close<S: PageStore>(
         → IsAllowed fault) }
     ensures unfinished { IfErr result.1 (λ fault. IsNoStoreFault fault → IsSound index
         → IsMarked index.cache → IsUnfinishedStore (S.seen result.0)) }
+
+    // Before page 0 may say that the store is finished, all else is written.
+    ensures refused { OnErr result.1 (IsSound index → IsMarked index.cache → (book : Book)
+        → IsOfBook catalogue.now.limits book catalogue.now → content index ≡ book.legs
+        → IsUnfinishedStore (S.seen result.0)
+        ⊎ HoldsButFirst (S.seen result.0) index.tree.shape catalogue.now.limits book) }
     ensures keeps { Keeps index.cache.store (S.seen result.0) }
     ensures lawful { IsLawful (S.seen result.0) }
     ensures caused { IfErr result.1 (IsClosingFault index.cache.store (S.seen result.0)) }

@@ -1,7 +1,7 @@
 //! A catalogue is saved.
 ghost use Rattle.std.specs.Prelude.{List, ℕ, ◌≡◌, ◌<◌, ◌≤◌, ◌^◌, ◌++◌, ◌∷◌, [], length, slice_get, unwrap_or, false, All, IfErr, IfOk, IsOk, IsTrue, OnErr, OnOk, Some};
 ghost use Rattle.std.specs.Int.{div_ceil};
-ghost use Rattle.pagecache.specs.Cache.{is_changed, page_of, payload_of, Rests};
+ghost use Rattle.pagecache.specs.Cache.{is_changed, page_of, payload_of, IsClean, Rests};
 ghost use Rattle.catalogue.specs.Chain.{most_used};
 ghost use Rattle.catalogue.specs.ChainWriter.{HasText, Holds};
 ghost use Rattle.catalogue.specs.Lasting.{Says};
@@ -14,7 +14,7 @@ ghost use Rattle.legs.specs.Limits.{IsLimits};
 ghost use Rattle.tbtree.specs.Shape.{IsShape};
 ghost use Rattle.catalogue.specs.Fields.{FitsFields};
 ghost use Rattle.catalogue.specs.ChainSteps.{SparesTree};
-ghost use Rattle.catalogue.specs.Saved.{dimension_of, fields_for, head_of, Continues, KeepsFront};
+ghost use Rattle.catalogue.specs.Saved.{dimension_of, fields_for, head_of, Continues, IsWrittenButFirst, KeepsFront};
 ghost use Rattle.catalogue.specs.Saving.{contents_of, end_of, feature_at, features_of, HasFew, HasFirst, IsAllowed, IsCatalogue, IsCaused, KeepsTree, Puts, PutsFields, Saves};
 ghost use Rattle.catalogue.specs.declared.fault.CatalogueFault.TheVariants.{Malformed};
 ghost use Rattle.catalogue.specs.Text.{catalogue_text, feature_text, features_text, head_text, lists_text, row_text, rows_text, HasFeatures, IsFeature, IsHead, IsNumber, IsShortText, IsWhole};
@@ -24,6 +24,7 @@ use crate::chain_writer::ChainWriter;
 use crate::contents::Kept;
 use crate::encoding::{push_byte, push_feature, push_head, push_row, push_u32};
 use crate::fault::CatalogueFault;
+use crate::finishing::write_all;
 use crate::header_fields::{Fields, put_fields};
 use boxsearch::TreeIndex;
 use legs::{BookHead, Limits, Tracks};
@@ -309,7 +310,7 @@ fn write_fields<S: PageStore>(
 
 /// Writes the whole text of a catalogue to its chain of pages, and answers the first page and the
 /// length of the text.
-fn write_whole<S: PageStore>(
+fn write_chain<S: PageStore>(
     alloc: Global,
     catalogue: &Catalogue,
     index: &mut TreeIndex<S>,
@@ -339,6 +340,34 @@ fn write_whole<S: PageStore>(
         Ok(chain) => Ok(chain),
         Err(fault) => Err(fault_of(fault)),
     }
+}
+
+/// Writes the whole text of a catalogue to its chain of pages, and answers the first page and the
+/// length of the text; all that is changed is then written to the store.
+fn write_whole<S: PageStore>(
+    alloc: Global,
+    catalogue: &Catalogue,
+    index: &mut TreeIndex<S>,
+    earlier: u32,
+) -> Result<(u32, u64), CatalogueFault>
+    ensures same { index.new ≡ with_cache index.old index.new.cache index.new.known }
+    ensures kept { KeepsTree index.old.cache index.new.cache }
+    ensures beside { OnOk result (IsBeside index.old.cache index.new.cache) }
+    ensures text { IfOk result (λ r. IsTrue index.old.cache.store.is_faithful
+        → HasText index.new.cache r.1 r.0
+        (catalogue_text (contents_of catalogue.now index.old.places))) }
+    ensures few { IfOk result (λ r. IsTrue index.old.cache.store.is_faithful
+        → div_ceil r.1 most_used ≤ index.new.cache.count) }
+    ensures whole { OnOk result (IsCatalogue catalogue.now
+        → IsWhole (contents_of catalogue.now index.old.places)) }
+    ensures written { OnOk result (IsClean index.new.cache) }
+    ensures only { HasFew catalogue.now → IsTrue index.old.cache.store.is_faithful
+        → IfErr result IsAllowed }
+    ensures caused { IfErr result (IsCaused index.old.cache index.new.cache) }
+{
+    let chain = write_chain(alloc, catalogue, index, earlier)?;
+    write_all(index)?;
+    Ok(chain)
 }
 
 /// How many dimensions a database has; 2 where no file was accepted.
@@ -371,8 +400,9 @@ fn fields_for(catalogue: &Catalogue, tree: TbTree, first: u32, length: u64) -> F
 }
 
 /// Keeps a catalogue in the pages of an index, beside those of its legs: the text in a chain of
-/// pages, those of an earlier catalogue first, and in page 0 where it is, with the limits and the
-/// tree. How page 0 begins stays, finished or not.
+/// pages, those of an earlier catalogue first, which is then written with all else that is changed;
+/// and in page 0, which is not written yet, where it is, with the limits and the tree. How page 0
+/// begins stays, finished or not.
 ///
 /// Refused for want of memory, and where the store fails or is full; the legs stay, and so does
 /// page 0.
@@ -399,6 +429,7 @@ pub fn save<S: PageStore>(
     ensures later { Continues index.old.cache index.new.cache }
     ensures tree { SparesTree index.old.cache index.new.cache }
     ensures beside { OnOk result (IsBeside index.old.cache index.new.cache) }
+    ensures written { OnOk result (IsWrittenButFirst index.new.cache) }
     ensures content { OnOk result (content index.new ≡ content index.old) }
     ensures sound { OnOk result (IsSound index.old → IsSound index.new) }
     ensures only { HasFew catalogue.now → IsSound index.old → IfErr result IsAllowed }

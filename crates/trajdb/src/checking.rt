@@ -75,7 +75,7 @@ impl<I: Start> Core<I> {
 }
 
 impl<S: PageStore> Core<TreeIndex<S>> {
-    ghost use Rattle.std.specs.Prelude.{ℕ, ◌≡◌, IfErr, IfOk, IsErrOf, IsTrue, OnOk, false};
+    ghost use Rattle.std.specs.Prelude.{ℕ, ◌≡◌, IfErr, IfOk, IsErrOf, IsTrue, OnOk, false, true};
     ghost use Rattle.legs.specs.Asking.{Refusals};
     ghost use Rattle.legs.specs.Index.{HasRisen, MayRefuse};
     ghost use Rattle.legs.specs.Limits.{IsLimits};
@@ -87,6 +87,7 @@ impl<S: PageStore> Core<TreeIndex<S>> {
     ghost use Rattle.trajdb.specs.Checking.{Reports};
     ghost use Rattle.trajdb.specs.Db as db;
     ghost use Rattle.trajdb.specs.Lasting.{IsIdle};
+    ghost use Rattle.trajdb.specs.declared.RunFault.{RunFault};
 
     /// Writes all that is changed.
     fn flush(&mut self) -> Result<(), IndexFault>
@@ -98,6 +99,8 @@ impl<S: PageStore> Core<TreeIndex<S>> {
             ≡ self.old.index.cache.store.is_faithful }
         ensures legs { content self.new.index ≡ self.new.book.legs }
         ensures refusals { Refusals words self.old.index self.new.index result }
+        ensures works { IfErr result (λ fault. words.is_spent self.old.index ≡ false
+            → MayRefuse fault) }
     {
         self.index.flush()
     }
@@ -120,6 +123,7 @@ impl<S: PageStore> Core<TreeIndex<S>> {
         ensures legs { content self.new.index ≡ self.new.book.legs }
         ensures names { self.new.tracks.names ≡ self.new.book.names }
         ensures limits { IsLimits self.new.limits }
+        ensures works { IsErrOf result IndexFault.Spent → words.is_spent self.old.index ≡ true }
         ensures store { IsErrOf result IndexFault.Store
             → HasRisen (words.faults self.old.index) (words.faults self.new.index) }
         ensures full { IsErrOf result IndexFault.StoreFull → ⊥ }
@@ -141,6 +145,8 @@ impl<S: PageStore> Core<TreeIndex<S>> {
         ensures written { OnOk result (IsClean self.new.index.cache) }
         ensures only { IfErr result (λ fault. db.IsSound self.old → db.HasPages self.old
             → IsIdle self.old → IsQuestionFault fault) }
+        ensures works { IsErrOf result RunFault.Failed
+            → words.is_spent self.old.index ≡ true }
         ensures leaves { Leaves words self.old self.new }
         ensures payloads { IsTrue self.old.index.cache.store.is_faithful → (page : ℕ)
             → payload_of self.new.index.cache page ≡ payload_of self.old.index.cache page }
@@ -164,7 +170,7 @@ impl<S: PageStore> Core<TreeIndex<S>> {
 }
 
 impl<S: PageStore> Db<S> {
-    ghost use Rattle.std.specs.Prelude.{ℕ, ◌≡◌, Err, IfErr, IfOk, IsTrue, OnOk, false, true};
+    ghost use Rattle.std.specs.Prelude.{ℕ, ◌≡◌, ◌⊎◌, Err, IfErr, IfOk, IsErrOf, IsTrue, OnOk, false, true};
     ghost use Rattle.pagecache.specs.Cache.{payload_of, IsClean};
     ghost use Rattle.pages.specs.Store.{Store};
     ghost use Rattle.boxsearch.specs.Index.{words};
@@ -197,6 +203,8 @@ impl<S: PageStore> Db<S> {
         // What is sound passes.
         ensures only { IfErr result (λ fault. IsSound self.old → HasPages self.old
             → IsIdle self.old → self.old.failed ≡ false → IsQuestionFault fault) }
+        ensures works { IsErrOf result RunFault.Failed
+            → (self.old.failed ≡ true) ⊎ (words.is_spent self.old.index ≡ true) }
 
         // The book stays, and each page has the payload that it had; once it has passed, all that
         // was changed is written, and nothing is where nothing was changed.

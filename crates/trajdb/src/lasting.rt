@@ -76,14 +76,14 @@ impl<I: Start> Core<I> {
 }
 
 impl<S: PageStore> Db<S> {
-    ghost use Rattle.std.specs.Prelude.{◌≡◌, ◌<◌, IsTrue, IfErr, IfOk, List, MatchResult, OnOk, None, Ok, Err, true, false};
+    ghost use Rattle.std.specs.Prelude.{◌≡◌, ◌<◌, ◌⊎◌, IsTrue, IfErr, IfOk, List, MatchResult, OnErr, OnOk, None, Ok, Err, true, false};
     ghost use Rattle.legs.specs.Book.{Book};
     ghost use Rattle.legs.specs.Costs.{ShapeView};
     ghost use Rattle.legs.specs.Limits.{IsLimits, LimitsView};
     ghost use Rattle.boxsearch.specs.Index.{words};
     ghost use Rattle.pages.specs.Store.{Keeps, Stays, Store};
     ghost use Rattle.pagecache.specs.Cache.{stored_payload};
-    ghost use Rattle.catalogue.specs.Holding.{HoldsBook, IsUnfinishedStore};
+    ghost use Rattle.catalogue.specs.Holding.{HoldsBook, HoldsButFirst, IsUnfinishedStore};
     ghost use Rattle.catalogue.specs.Lasting.{first_fault, IsKept};
     ghost use Rattle.catalogue.specs.Saved.{CatalogueView};
     ghost use Rattle.tbtree.specs.declared.tree.Place.{Place};
@@ -176,8 +176,8 @@ impl<S: PageStore> Db<S> {
     /// the store is finished. The store is handed back, whatever is answered.
     ///
     /// Nothing is written where the database was opened and no file was accepted since, and where it failed; a failed one
-    /// answers `Failed`. Refused for want of memory, and where the store fails or is full. Where memory ran out or the
-    /// store is full, page 0 then still says that the store is not finished.
+    /// answers `Failed`. Refused for want of memory, and where the store fails or is full. Page 0 then still says that the
+    /// store is not finished, unless the store failed and all other pages are those of the closed store.
     pub fn close(self, alloc: Global) -> (S, Result<(), RunFault>)
         // The store then holds the book.
         ensures holds { OnOk result.1 (IsSound self → HasPages self → IsIdle self
@@ -186,6 +186,11 @@ impl<S: PageStore> Db<S> {
             → IsLoadFault fault) }
         ensures unfinished { IfErr result.1 (λ fault. IsFaultless fault → IsSound self → HasPages self
             → self.failed ≡ false → IsUnfinishedStore (S.seen result.0)) }
+
+        // Before page 0 may say that the store is finished, all else is written.
+        ensures refused { OnErr result.1 (IsSound self → HasPages self → self.failed ≡ false
+            → IsUnfinishedStore (S.seen result.0)
+            ⊎ HoldsButFirst (S.seen result.0) self.index.tree.shape self.limits self.book) }
 
         // Nothing is written before a file is accepted, and of a failed database.
         ensures idle { self.failed ≡ false → self.begun ≡ false → (result.1 ≡ Ok tt)

@@ -1,10 +1,11 @@
-use Rattle.std.proofs.Common.{ap, subst, sym, ◌∙◌}
+use Rattle.std.proofs.Common.{ap, subst, sym, ◌∙◌, ◌⊎◌}
 use Rattle.pages.specs.Store.{IsLawful, Store}
 use Rattle.pagecache.specs.Cache.{Cache}
 use Rattle.boxsearch.specs.Index.{IsMarked, IsSound}
 use Rattle.catalogue.specs.Closing.{IsNoStoreFault}
-use Rattle.catalogue.specs.Holding.{HoldsBook, IsUnfinishedStore}
+use Rattle.catalogue.specs.Holding.{HoldsBook, HoldsButFirst, IsUnfinishedStore}
 use Rattle.catalogue.proofs.ReaderLemmas.{if_err, on_ok}
+use Rattle.catalogue.proofs.RefusedLemmas.{map_err}
 use Rattle.catalogue.proofs.closing.close.Goals as goal
 
 pub returns-clause-holds : goal.returns-clause-holds
@@ -20,3 +21,11 @@ returns-clause-unfinished g c =
     let left = c.save_and_finish-result.new.index.cache.store in
     if_err (λ fault. IsNoStoreFault fault → IsSound c.args.index → IsMarked c.args.index.cache → IsUnfinishedStore left) _ c.save_and_finish-result.result
     (λ fault h none sound marked. subst IsUnfinishedStore (sym (c.into_store.ensures ∙ ap (λ (k : Cache). k.store) cache)) (h none sound marked)) c.save_and_finish-result.ensures.unfinished
+
+pub returns-clause-refused : goal.returns-clause-refused
+returns-clause-refused g c =
+    let cache = c.into_cache-cache.ensures in
+    let left = c.into_store.ensures ∙ ap (λ (k : Cache). k.store) cache in
+    map_err c.save_and_finish-result.result (λ refused sound marked book of legs.
+    subst (λ (s : Store). IsUnfinishedStore s ⊎ HoldsButFirst s c.args.index.tree.shape c.args.catalogue.now.limits book) (sym left)
+    (refused (subst (λ (k : Cache). IsLawful k.store) cache c.lawful.ensures) sound marked book of legs)) c.save_and_finish-result.ensures.refused

@@ -1,4 +1,4 @@
-use Rattle.std.proofs.Common.{◌≡◌, ◌∙◌, [], ap, refl, sym, subst, arith, Some}
+use Rattle.std.proofs.Common.{◌≡◌, ◌∙◌, [], ap, inl, inr, refl, sym, subst, arith, Some}
 use Rattle.std.proofs.lemmas.Result.{err_from_is_err_and}
 use Rattle.timebase.specs.Instant.{IsMoment}
 use Rattle.legs.specs.Book.{Book}
@@ -7,11 +7,12 @@ use Rattle.pagecache.specs.Cache.{IsSettled}
 use Rattle.boxsearch.specs.Beside.{with_cache}
 use Rattle.boxsearch.specs.Index.{content, IndexView, IsMarked, IsSound}
 use Rattle.catalogue.specs.Closing.{IsNoStoreFault}
-use Rattle.catalogue.specs.Holding.{HoldsBook, IsOfBook, IsUnfinishedStore}
+use Rattle.catalogue.specs.Holding.{HoldsBook, HoldsButFirst, IsOfBook, IsUnfinishedStore}
 use Rattle.catalogue.specs.Saved.{CatalogueView}
 use Rattle.catalogue.specs.Saving.{IsAllowed}
 use Rattle.catalogue.proofs.CloseLemmas.{closed_holds, front_unfinished, front_unwritten, of_catalogue, of_few, of_lawful, of_within, only_memory, says_stored, still_says, PlaceLaws}
 use Rattle.catalogue.proofs.ReaderLemmas.{if_err_of, on_ok}
+use Rattle.catalogue.proofs.RefusedLemmas.{any_err, behind_holds}
 use Rattle.catalogue.proofs.closing.save_and_finish.Goals as goal
 
 pub returns-in_err-save-clause-only : goal.returns-in_err-save-clause-only
@@ -71,3 +72,40 @@ returns-clause-unfinished g c =
     let more = c.save.ensures.later.count in
     says_stored new (c.finish.ensures.unfinished memory (c.save.ensures.later.store.faithful ∙ marked.faithful) (omega (arith, some, more))
     (front_unwritten i.cache j.cache marked settled front written)))
+
+pub returns-in_err-save-clause-refused : goal.returns-in_err-save-clause-refused
+returns-in_err-save-clause-refused g c =
+    let new = c.save.new.index.cache in
+    any_err c.from_residual.result (λ lawful sound was book of legs.
+    let marked : IsMarked c.settled.new.index.cache = subst (λ (i : IndexView). IsMarked i.cache) (sym c.settled.ensures.same) was in
+    inl (says_stored new (still_says c.settled.new.index.cache new marked (c.save.ensures.first_written marked.faithful marked.there marked.unchanged))))
+
+pub returns-clause-refused : goal.returns-clause-refused
+returns-clause-refused g c =
+    let i = c.settled.new.index in
+    let j = c.save.new.index in
+    let new = c.finish.new.index.cache in
+    let catalogue = c.args.catalogue.now in
+    let laws = c.laws.ensures in
+    let same : i ≡ with_cache c.args.index.now c.args.index.now.cache [] = c.settled.ensures.same in
+    let dated : (head : BookHead) → catalogue.head ≡ Some head → IsMoment head.base = λ head e. c.dated.ensures head (ap (λ (v : CatalogueView). v.head) c.catalogue.view_is ∙ e) in
+    any_err c.finish.result (λ lawful was_sound was_marked book of was_legs.
+    let beside = laws.alike c.args.index.now.cache c.args.index.now.cache refl refl refl (λ _ n. refl) in
+    let sound : IsSound i = subst (λ (x : IndexView). IsSound x) (sym same) (laws.sound c.args.index.now c.args.index.now.cache [] beside was_sound) in
+    let marked : IsMarked i.cache = subst (λ (x : IndexView). IsMarked x.cache) (sym same) was_marked in
+    let settled : IsSettled i.cache = subst (λ (x : IndexView). IsSettled x.cache) (sym same) c.settled.ensures.settled in
+    let saved : IsSound j = c.in_ok-save.ensures.sound sound in
+    let legs : content j ≡ book.legs = c.in_ok-save.ensures.content ∙ ap (λ (x : IndexView). content x) same ∙ was_legs in
+    let places : PlaceLaws j = record { bounds = laws.bounds j saved; counts = laws.counts j saved; total = laws.total j saved } in
+    let front = c.in_ok-save.ensures.front marked.faithful marked.there in
+    let shape = ap (λ (x : IndexView). x.tree.shape) c.save.ensures.same ∙ ap (λ (x : IndexView). x.tree.shape) same in
+    let later = c.finish.ensures.later in
+    let some = marked.there in
+    let more = c.save.ensures.later.count in
+    inr (subst (λ t. HoldsButFirst new.store t catalogue.limits book) shape
+    (behind_holds (record { content = laws.content; sound = laws.sound; alike = laws.alike }) catalogue j book new saved of legs
+    (of_lawful catalogue j book places saved of legs dated) (of_within catalogue j book places saved of legs dated)
+    (c.in_ok-save.ensures.saved sound.faithful) (c.in_ok-save.ensures.whole (of_catalogue catalogue book of))
+    front.payload front.is (front_unfinished i.cache j.cache marked settled front)
+    c.in_ok-save.ensures.written (omega (arith, some, more)) later lawful
+    (c.finish.ensures.others saved.faithful c.in_ok-save.ensures.written.clean))))

@@ -1,4 +1,6 @@
+use Rattle.std.proofs.Common.{◌∙◌}
 use Rattle.catalogue.proofs.FinishLemmas.{finishes, unwritten}
+use Rattle.catalogue.proofs.RefusedLemmas.{reads_others, sets_others}
 use Rattle.catalogue.proofs.ReaderLemmas.{on_ok}
 use Rattle.catalogue.proofs.finishing.finish.Goals as goal
 
@@ -16,3 +18,21 @@ returns-clause-unfinished g c = λ memory f some header.
     let b = c.write_all.new.index.cache in
     let d = c.set_state.new.index.cache in
     unwritten a b c.write_all.ensures.stays c.in_ok-write_all.ensures.written f d c.in_ok-set_state.ensures.sets c.write_all-2.new.index.cache (c.write_all-2.ensures.memory memory) some header
+
+pub returns-in_err-write_all-clause-others : goal.returns-in_err-write_all-clause-others
+returns-in_err-write_all-clause-others g c = λ f clean. (reads_others _ _ c.write_all.ensures.stays f clean).1
+
+pub returns-in_err-set_state-clause-others : goal.returns-in_err-set_state-clause-others
+returns-in_err-set_state-clause-others g c = λ f clean.
+    let b = reads_others _ _ c.write_all.ensures.stays f clean in
+    let d = reads_others _ _ c.in_err-set_state.ensures.rests.stays (c.write_all.ensures.stays.keeps.store.faithful ∙ f) b.0 in
+    d.1 ∙ b.1
+
+pub returns-clause-others : goal.returns-clause-others
+returns-clause-others g c = λ f clean.
+    let b = reads_others _ _ c.write_all.ensures.stays f clean in
+    let fb = c.write_all.ensures.stays.keeps.store.faithful ∙ f in
+    let sets = c.in_ok-set_state.ensures.sets in
+    let d = sets_others _ _ sets.lends.writes fb b.0 in
+    let e = reads_others _ _ c.write_all-2.ensures.stays (sets.lends.writes.keeps.store.faithful ∙ fb) d.0 in
+    e.1 ∙ d.1 ∙ b.1

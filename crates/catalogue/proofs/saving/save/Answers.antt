@@ -4,6 +4,7 @@ use Rattle.boxsearch.specs.Index.{content, IndexView, IsSound}
 use Rattle.catalogue.specs.Saving.{contents_of}
 use Rattle.catalogue.specs.Text.{IsWhole}
 use Rattle.catalogue.proofs.ReaderLemmas.{on_ok}
+use Rattle.catalogue.proofs.RefusedLemmas.{not_zero}
 use Rattle.catalogue.proofs.SavingLemmas.{beside_trans}
 use Rattle.catalogue.proofs.SaveLemmas.{reads_beside, puts_beside, keeps_front, says}
 use Rattle.catalogue.proofs.saving.save.Goals as goal
@@ -71,3 +72,10 @@ returns-clause-sound g c =
     let same : c.write_fields.new.index ≡ with_cache c.args.index.now d c.write_fields.new.index.known = c.write_fields.ensures.same ∙ ap (λ i. with_cache i d c.write_fields.new.index.known) (c.write_whole.ensures.same ∙ ap (λ i. with_cache i x c.write_whole.new.index.known) c.earlier_page.ensures.same) in
     on_ok c.write_fields.result (λ puts sound. subst (λ i. IsSound i) (sym same)
     (c.laws.ensures.sound c.args.index.now d c.write_fields.new.index.known (beside_trans a b d (reads_beside a b c.earlier_page.ensures.reads) (beside_trans b x d c.in_ok-first.ensures.beside (puts_beside x d c.fields_for-fields.result puts))) sound)) c.write_fields.ensures.puts
+
+pub returns-clause-written : goal.returns-clause-written
+returns-clause-written g c =
+    on_ok c.write_fields.result (λ puts. record {
+      clean = λ n h. puts.lends.writes.changed n (not_zero n h) (c.in_ok-first.ensures.written n);
+      settled = puts.lends.writes.keeps.settled;
+    }) c.write_fields.ensures.puts

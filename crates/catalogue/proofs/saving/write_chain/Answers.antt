@@ -6,7 +6,7 @@ use Rattle.catalogue.specs.ChainWriter.{Holds}
 use Rattle.catalogue.specs.Saving.{contents_of, Puts}
 use Rattle.catalogue.specs.Text.{catalogue_text}
 use Rattle.catalogue.proofs.SavingLemmas.{whole_kept, whole_beside}
-use Rattle.catalogue.proofs.saving.write_whole.Goals as goal
+use Rattle.catalogue.proofs.saving.write_chain.Goals as goal
 
 pub returns-in-Ok-finish-clause-kept : goal.returns-in-Ok-finish-clause-kept
 returns-in-Ok-finish-clause-kept g c =
