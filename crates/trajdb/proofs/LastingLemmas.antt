@@ -1,13 +1,13 @@
 -- A database that lasts between runs.
 use Rattle.std.proofs.Common.{ℕ, Bool, Option, ◌≡◌, refl, sym, ap, ◌∙◌, subst, true, false, Result, Ok, Err, IsTrue}
-use Rattle.std.specs.Prelude.{IfErr, OnOk}
+use Rattle.std.specs.Prelude.{◌⊎◌, IfErr, OnErr, OnOk}
 use Rattle.legs.specs.Book.{Book}
 use Rattle.legs.specs.Costs.{ShapeView}
 use Rattle.legs.specs.Law.{IsBook}
 use Rattle.legs.specs.Limits.{IsLimits, LimitsView}
 use Rattle.legs.specs.Tracks.{StandsFor}
 use Rattle.boxsearch.specs.Index.{content, words, IndexView, IsMarked, IsSound as IsSoundIndex}
-use Rattle.catalogue.specs.Holding.{AnswersBook, HoldsBook, IsAtRest, IsOfBook, IsUnfinishedStore}
+use Rattle.catalogue.specs.Holding.{AnswersBook, HoldsBook, HoldsButFirst, IsAtRest, IsOfBook, IsUnfinishedStore}
 use Rattle.catalogue.specs.Lasting as catalogue
 use Rattle.catalogue.specs.Saved.{CatalogueView}
 use Rattle.catalogue.specs.Saving.{IsAllowed}
@@ -101,6 +101,12 @@ pub closed_holds : (db : DbView) (s : Store) (answer : Result (Unit {0}) Catalog
     → db.begun ≡ true → OnOk (closed_answer answer) (IsSound db → HasPages db → IsIdle db → HoldsBook s db.index.tree.shape db.limits db.book)
 closed_holds db s (Ok x) legs h begun = λ sound pages idle. h sound.index (pages.begun begun) db.book (own_book db sound) legs
 closed_holds db s (Err e) legs h begun = tt
+
+pub closed_refused : (db : DbView) (s : Store) (answer : Result (Unit {0}) CatalogueFault) → content db.index ≡ db.book.legs
+    → OnErr answer (IsSoundIndex db.index → IsMarked db.index.cache → (book : Book) → IsOfBook db.limits book (catalogue_of db) → content db.index ≡ book.legs → IsUnfinishedStore s ⊎ HoldsButFirst s db.index.tree.shape db.limits book)
+    → db.begun ≡ true → OnErr (closed_answer answer) (IsSound db → HasPages db → db.failed ≡ false → IsUnfinishedStore s ⊎ HoldsButFirst s db.index.tree.shape db.limits db.book)
+closed_refused db s (Ok x) legs h begun = tt
+closed_refused db s (Err e) legs h begun = λ sound pages lives. h sound.index (pages.begun begun) db.book (own_book db sound) legs
 
 pub closed_unfinished : (db : DbView) (s : Store) (answer : Result (Unit {0}) CatalogueFault)
     → IfErr answer (λ fault. IsNoStoreFault fault → IsSoundIndex db.index → IsMarked db.index.cache → IsUnfinishedStore s)

@@ -9,6 +9,7 @@ use Rattle.std.specs.Prelude.{IfErr}
 use Rattle.legs.specs.Index.{MayRefuse}
 use Rattle.legs.specs.declared.index.IndexFault.{IndexFault}
 use Rattle.legs.specs.declared.index.IndexFault.TheVariants as index
+use Rattle.trajdb.specs.declared.RunFault.TheVariants.{Failed}
 use Rattle.pagecache.specs.Cache.{Cache, payload_of, IsClean, IsSettled}
 use Rattle.boxsearch.specs.Index.{content, IndexView, IsMarked, IsSound as IsSoundIndex, SaysState}
 use Rattle.catalogue.specs.Holding.{IsAtRest}
@@ -119,6 +120,14 @@ question_fault index.Store h = tt
 question_fault (index.Damaged page) h = h
 question_fault index.StoreFull h = h
 question_fault index.Spent h = h
+
+-- only an index that is spent fails a call
+pub failed_spent : (fault : IndexFault) → run_fault_of fault ≡ Failed → fault ≡ index.Spent
+failed_spent index.Memory h = cc
+failed_spent index.Store h = cc
+failed_spent (index.Damaged page) h = cc
+failed_spent index.StoreFull h = cc
+failed_spent index.Spent h = refl
 
 -- what page 0 of a sound database says
 pub says_of : (db : DbView)

@@ -1,11 +1,13 @@
-use Rattle.std.proofs.Common.{◌∙◌, ap, sym, subst, length}
+use Rattle.std.proofs.Common.{◌≡◌, ◌∙◌, Err, ap, sym, subst, length}
 use Rattle.std.proofs.lemmas.Bool.{true≢false}
 use Rattle.std.proofs.lemmas.Result.{err_from_is_err_and}
 use Rattle.pagecache.specs.Cache.{IsSettled}
 use Rattle.boxsearch.specs.Index.{words}
 use Rattle.trajdb.specs.Db.{DbView}
+use Rattle.trajdb.specs.Faults.{run_fault_of}
+use Rattle.trajdb.specs.declared.RunFault.TheVariants.{Failed}
 use Rattle.trajdb.proofs.FaultLemmas.{leaves-trans}
-use Rattle.trajdb.proofs.SoundLemmas.{has_pages_of, law_of, question_fault, says_of, says_still, sound_of, tracks_of}
+use Rattle.trajdb.proofs.SoundLemmas.{failed_spent, has_pages_of, law_of, question_fault, says_of, says_still, sound_of, tracks_of}
 use Rattle.trajdb.proofs.checking.Core+TreeIndex+S.check.Goals as goal
 
 pub returns-in_err-flush-clause-only : goal.returns-in_err-flush-clause-only
@@ -24,6 +26,14 @@ returns-in_err-check_index-clause-only g c =
     let s = leaves.sound sound in
     let says = says_of old c.laws.ensures.finished_state c.laws.ensures.marked_state settled sound pages idle c.requires in
     question_fault c.in_err-check_index.field-0.0 (c.in_err-check_index.ensures.only s.index (tracks_of mid s.tracks.names c.flush.ensures.legs s) (says_still old mid leaves.begun (c.flush.ensures.payloads sound.index.faithful 0) says)))
+
+pub returns-in_err-check_index-clause-works : goal.returns-in_err-check_index-clause-works
+returns-in_err-check_index-clause-works g c =
+    let p = err_from_is_err_and c.from_residual-in_err-check_index.result c.from_residual-in_err-check_index.ensures.1 in
+    rw (p.1, p.2) (λ failed.
+    let same : run_fault_of c.in_err-check_index.field-0.0 ≡ Failed = cc in
+    let spent = failed_spent c.in_err-check_index.field-0.0 same in
+    sym c.flush.ensures.leaves.index.spent ∙ c.in_err-check_index.ensures.works (ap Err spent))
 
 pub returns-in_err-check_index-clause-leaves : goal.returns-in_err-check_index-clause-leaves
 returns-in_err-check_index-clause-leaves g c = leaves-trans words c.args.self.now c.flush.new.self c.check_index.new.self c.flush.ensures.leaves c.check_index.ensures.leaves

@@ -1,3 +1,5 @@
+use Rattle.std.proofs.Common.{Result, Ok, Err}
+use Rattle.std.specs.Prelude.{OnOk}
 use Rattle.trajdb.proofs.database.Core.command.Goals as goal
 
 pub returns-in-Trajectory-clause-text : goal.returns-in-Trajectory-clause-text
@@ -14,3 +16,11 @@ returns-in-Trajectory-clause-named g c = rw (c.in-Trajectory.is, ← c.as_str-in
 
 pub returns-in-Features-clause-asks_known : goal.returns-in-Features-clause-asks_known
 returns-in-Features-clause-asks_known g c = rw (c.in-Features.is) c.features_text.ensures.asks_known
+
+pub returns-in-Trajectory-clause-learns : goal.returns-in-Trajectory-clause-learns
+returns-in-Trajectory-clause-learns g c =
+    rw (c.in-Trajectory.is, ← c.as_str-in-Trajectory.ensures)
+    (on_ok c.track_text.result (λ learns sound. learns sound.tracks.lawful.few_names) c.track_text.ensures.learns) where
+      on_ok : {T E : Type 0} {P Q : Type 0} (r : Result T E) → (P → Q) → OnOk r P → OnOk r Q
+      on_ok (Ok x) f p = f p
+      on_ok (Err e) f p = tt

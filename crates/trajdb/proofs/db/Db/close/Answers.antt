@@ -1,18 +1,18 @@
 use Rattle.std.proofs.Common.{◌≡◌, ◌∙◌, ap, sym, subst, true, false}
-use Rattle.std.specs.Prelude.{IfErr, OnOk}
+use Rattle.std.specs.Prelude.{◌⊎◌, IfErr, OnErr, OnOk}
 use Rattle.legs.specs.Book.{Book}
 use Rattle.pages.specs.Store.{Store, IsLawful}
 use Rattle.pagecache.specs.Cache.{IsSettled}
 use Rattle.boxsearch.specs.Index.{content, IndexView, IsMarked, IsSound as IsSoundIndex}
 use Rattle.catalogue.specs.Closing.{IsNoStoreFault}
-use Rattle.catalogue.specs.Holding.{HoldsBook, IsOfBook, IsUnfinishedStore}
+use Rattle.catalogue.specs.Holding.{HoldsBook, HoldsButFirst, IsOfBook, IsUnfinishedStore}
 use Rattle.catalogue.specs.Saved.{CatalogueView}
 use Rattle.catalogue.specs.Saving.{IsAllowed}
 use Rattle.trajdb.specs.Calls.{IsLoadFault}
 use Rattle.trajdb.specs.Db.{DbView, HasPages, IsSound}
 use Rattle.trajdb.specs.Faults.{closed_answer}
 use Rattle.trajdb.specs.Lasting.{IsFaultless, IsIdle, IsSafe}
-use Rattle.trajdb.proofs.LastingLemmas.{rest_book, closed_holds, closed_only, closed_unfinished}
+use Rattle.trajdb.proofs.LastingLemmas.{rest_book, closed_holds, closed_only, closed_refused, closed_unfinished}
 use Rattle.trajdb.proofs.SafeLemmas.{left_safe}
 use Rattle.trajdb.proofs.db.Db.close.Goals as goal
 
@@ -41,6 +41,18 @@ returns-clause-holds g c =
     subst (λ r. OnOk r (IsSound c.args.self → HasPages c.args.self → IsIdle c.args.self → HoldsBook s c.args.self.index.tree.shape c.args.self.limits c.args.self.book)) (sym c.closed.ensures)
     (subst (λ (d : DbView). OnOk (closed_answer answer) (IsSound d → HasPages d → IsIdle d → HoldsBook s d.index.tree.shape d.limits d.book)) c.self.view_is
     (closed_holds core s answer c.into_parts-catalogue.ensures.legs second begun))
+
+pub returns-clause-refused : goal.returns-clause-refused
+returns-clause-refused g c =
+    let core = c.self.inside.core in
+    let answer = c.close-store.result.1 in
+    let s = g.S.PageStore.seen c.close-store.result.0 in
+    let begun : core.begun ≡ true = sym (λ i. (c.self-inside.view_is i).core.begun) ∙ c.if-not-begun.false in
+    let first = subst (λ (x : IndexView). OnErr answer (IsSoundIndex x → IsMarked x.cache → (book : Book) → IsOfBook c.into_parts-catalogue.result.0.limits book c.into_parts-catalogue.result.0 → content x ≡ book.legs → IsUnfinishedStore s ⊎ HoldsButFirst s x.tree.shape c.into_parts-catalogue.result.0.limits book)) c.into_parts-catalogue.ensures.index c.close-store.ensures.refused in
+    let second = subst (λ (k : CatalogueView). OnErr answer (IsSoundIndex core.index → IsMarked core.index.cache → (book : Book) → IsOfBook k.limits book k → content core.index ≡ book.legs → IsUnfinishedStore s ⊎ HoldsButFirst s core.index.tree.shape k.limits book)) c.into_parts-catalogue.ensures.catalogue first in
+    subst (λ r. OnErr r (IsSound c.args.self → HasPages c.args.self → c.args.self.failed ≡ false → IsUnfinishedStore s ⊎ HoldsButFirst s c.args.self.index.tree.shape c.args.self.limits c.args.self.book)) (sym c.closed.ensures)
+    (subst (λ (d : DbView). OnErr (closed_answer answer) (IsSound d → HasPages d → d.failed ≡ false → IsUnfinishedStore s ⊎ HoldsButFirst s d.index.tree.shape d.limits d.book)) c.self.view_is
+    (closed_refused core s answer c.into_parts-catalogue.ensures.legs second begun))
 
 pub returns-clause-only : goal.returns-clause-only
 returns-clause-only g c =

@@ -19,3 +19,6 @@ returns-clause-asks_known g c = rw (← c.self.view_is) c.command.ensures.asks_k
 
 pub returns-clause-learns : goal.returns-clause-learns
 returns-clause-learns g c = rw (← c.self.view_is) c.command.ensures.learns
+
+pub returns-clause-recalls : goal.returns-clause-recalls
+returns-clause-recalls g c = rw (← c.self.view_is) c.command.ensures.recalls
