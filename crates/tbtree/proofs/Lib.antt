@@ -10,6 +10,7 @@ pub mod Widening
 pub mod FullLemmas
 pub mod RoomLemmas
 pub mod BeginLemmas
+pub mod NewRun
 pub mod PushLemmas
 pub mod WiderLemmas
 pub mod WayLemmas
