@@ -47,6 +47,7 @@ fn put_all<S: PageStore>(
     ensures asked { OnOk result (cache.new.asked ≤ cache.old.asked + tree.new.levels
         + (tree.new.leaves - tree.old.leaves) * (tree.new.levels + 2)) }
     ensures more { OnOk result (tree.old.leaves ≤ tree.new.leaves) }
+    ensures higher { OnOk result (tree.old.levels ≤ tree.new.levels) }
     ensures made { OnOk result ((tree.new.leaves - tree.old.leaves) * tree.old.shape.leaf
         < length legs.now + tree.old.shape.leaf) }
     ensures ends { IsTrue cache.old.store.is_faithful → 0 < length legs.now
@@ -91,6 +92,7 @@ pub fn insert_all<S: PageStore>(
     ensures asked { OnOk result (cache.new.asked ≤ cache.old.asked + tree.new.levels
         + (tree.new.leaves - tree.old.leaves) * (tree.new.levels + 2)) }
     ensures more { OnOk result (tree.old.leaves ≤ tree.new.leaves) }
+    ensures higher { OnOk result (tree.old.levels ≤ tree.new.levels) }
     ensures made { OnOk result ((tree.new.leaves - tree.old.leaves) * tree.old.shape.leaf
         < length legs.now + tree.old.shape.leaf) }
 

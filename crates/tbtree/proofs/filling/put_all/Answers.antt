@@ -22,6 +22,7 @@ leaves-init g c =
       shape = refl;
       passes = passes_refl cache;
       length_kept = λ e. e;
+      higher = omega arith;
       start = λ e. refl;
       ends = λ fa above there room. absurd (omega (arith, above));
       filled = filled_start tree.shape.leaf (length c.args.legs.now) cache tree c.args.place.now (omega (arith, least));
@@ -60,6 +61,7 @@ leaves-preserved g c =
       shape = put.shape ∙ so_far.shape;
       passes = passes_trans old now new so_far.passes put.passes;
       length_kept = λ e. put.length (so_far.length_kept e);
+      higher = (let was = so_far.higher in let now = put.higher in omega (arith, was, now));
       start = λ e. absurd (let some = fits.some in omega (arith, e, some));
       ends = λ fa above there room. ⊎_elim
           (λ (z : n ≡ 0).
