@@ -42,5 +42,6 @@ pub mod TurnLemmas
 pub mod HeldLemmas
 pub mod BlockOrder
 pub mod TakenOrder
+pub mod EndLemmas
 pub mod FillLemmas
 pub mod FillCosts

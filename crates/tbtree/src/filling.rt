@@ -51,7 +51,6 @@ fn put_all<S: PageStore>(
     ensures made { OnOk result ((tree.new.leaves - tree.old.leaves) * tree.old.shape.leaf
         < length legs.now + tree.old.shape.leaf) }
     ensures ends { IsTrue cache.old.store.is_faithful → 0 < length legs.now
-        → 0 < place.old.legs % tree.old.shape.leaf
         → place.old.legs % tree.old.shape.leaf + length legs.now ≤ tree.old.shape.leaf
         → OnOk result (HasAtEnd (pages_of_cache cache.new) legs.now) }
 {
@@ -96,9 +95,8 @@ pub fn insert_all<S: PageStore>(
     ensures made { OnOk result ((tree.new.leaves - tree.old.leaves) * tree.old.shape.leaf
         < length legs.now + tree.old.shape.leaf) }
 
-    // Over any faithful pages, legs for which the last leaf has room are at the end of a leaf.
+    // Over any faithful pages, legs for which the last leaf has room, or a new one, are at the end of a leaf.
     ensures ends { IsTrue cache.old.store.is_faithful → 0 < length legs.now
-        → 0 < place.old.legs % tree.old.shape.leaf
         → place.old.legs % tree.old.shape.leaf + length legs.now ≤ tree.old.shape.leaf
         → OnOk result (HasAtEnd (pages_of_cache cache.new) legs.now) }
 

@@ -3,7 +3,7 @@ ghost use Rattle.std.specs.Prelude.{ℕ, [], None, length, ◌≢◌, ◌≡◌,
 ghost use Rattle.legs.specs.Costs.{leg_feature};
 ghost use Rattle.legs.specs.Hull.{leg_boxes};
 ghost use Rattle.tbtree.specs.Faults.{IsAllowed, IsCaused};
-ghost use Rattle.tbtree.specs.Nodes.{pages_of_cache, HasLeaf};
+ghost use Rattle.tbtree.specs.Nodes.{pages_of_cache, HasLeaf, KeepsLeaves};
 ghost use Rattle.tbtree.specs.Passes.{Passes, KeepsLength};
 ghost use Rattle.tbtree.specs.Way.{IsOnWay, Hangs};
 ghost use Rattle.tbtree.specs.Insert.{Grows, Begins, Inserts};
@@ -38,6 +38,8 @@ fn way<S: PageStore>(
     ensures way { IsTrue cache.old.store.is_faithful
         → IsOnWay leg_boxes tree.now.shape.inner tree.now.levels tree.now.root
         (pages_of_cache cache.old) (pages_of_cache cache.new) level at bounds.now result }
+    ensures leaves { IsTrue cache.old.store.is_faithful
+        → OnOk result (KeepsLeaves (pages_of_cache cache.old) (pages_of_cache cache.new)) }
     ensures passes { Passes cache.old cache.new }
     ensures length { OnOk result (KeepsLength cache.old cache.new) }
     ensures caused { IfErr result (IsCaused cache.old cache.new) }
@@ -94,6 +96,8 @@ fn root_over<S: PageStore>(
         → Hangs leg_boxes leg_feature tree.now.shape.inner tree.now.levels tree.now.root
         (pages_of_cache cache.old) (pages_of_cache cache.new) level at child.now.child
         child.now.bounds result }
+    ensures leaves { IsTrue cache.old.store.is_faithful
+        → OnOk result (KeepsLeaves (pages_of_cache cache.old) (pages_of_cache cache.new)) }
     ensures passes { Passes cache.old cache.new }
     ensures length { OnOk result (KeepsLength cache.old cache.new) }
     ensures caused { IfErr result (IsCaused cache.old cache.new) }
@@ -127,6 +131,8 @@ fn hang<S: PageStore>(
         → Hangs leg_boxes leg_feature tree.now.shape.inner tree.now.levels tree.now.root
         (pages_of_cache cache.old) (pages_of_cache cache.new) level at child.now.child
         child.now.bounds result }
+    ensures leaves { IsTrue cache.old.store.is_faithful
+        → OnOk result (KeepsLeaves (pages_of_cache cache.old) (pages_of_cache cache.new)) }
     ensures passes { Passes cache.old cache.new }
     ensures length { OnOk result (KeepsLength cache.old cache.new) }
     ensures caused { IfErr result (IsCaused cache.old cache.new) }
@@ -197,6 +203,8 @@ fn add_last<S: PageStore>(
     ensures begins { IsTrue cache.old.store.is_faithful
         → IfOk result (Begins leg_feature (pages_of_cache cache.old) last legs.now
         (pages_of_cache cache.new)) }
+    ensures ends { IsTrue cache.old.store.is_faithful
+        → OnOk result (HasAtEnd (pages_of_cache cache.new) legs.now) }
     ensures only { IsTrue cache.old.store.is_faithful
         → (0 < last → HasLeaf (pages_of_cache cache.old) last)
         → are_of_one_leaf legs.now ≡ true → IfErr result IsAllowed }
@@ -225,6 +233,8 @@ fn hang_leaf<S: PageStore>(
         → Hangs leg_boxes leg_feature tree.now.shape.inner tree.now.levels tree.now.root
         (pages_of_cache cache.old) (pages_of_cache cache.new) 0 tree.now.leaves
         page.now.child page.now.bounds result }
+    ensures leaves { IsTrue cache.old.store.is_faithful
+        → OnOk result (KeepsLeaves (pages_of_cache cache.old) (pages_of_cache cache.new)) }
     ensures passes { Passes cache.old cache.new }
     ensures length { OnOk result (KeepsLength cache.old cache.new) }
     ensures caused { IfErr result (IsCaused cache.old cache.new) }
@@ -258,6 +268,8 @@ fn begin<S: PageStore>(
     ensures inserts { IsTrue cache.old.store.is_faithful
         → JoinsAll (pages_of_cache cache.old) (pages_of_cache cache.new) tree.old tree.new
         place.old place.new legs.now result }
+    ensures ends { IsTrue cache.old.store.is_faithful
+        → OnOk result (HasAtEnd (pages_of_cache cache.new) legs.now) }
     ensures spent { tree.new.spent ≡ tree.old.spent }
     ensures shape { tree.new.shape ≡ tree.old.shape }
     ensures passes { Passes cache.old cache.new }
@@ -312,7 +324,6 @@ pub(crate) fn put<S: PageStore>(
     ensures higher { OnOk result (tree.old.levels ≤ tree.new.levels) }
     ensures legs { OnOk result (place.new.legs ≡ place.old.legs + length legs.now) }
     ensures ends { IsTrue cache.old.store.is_faithful
-        → 0 < place.old.legs % tree.old.shape.leaf
         → OnOk result (HasAtEnd (pages_of_cache cache.new) legs.now) }
     ensures begun { place.old.legs % tree.old.shape.leaf ≡ 0
         → OnOk result (tree.new.leaves ≡ tree.old.leaves + 1) }

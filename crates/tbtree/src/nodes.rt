@@ -1,5 +1,5 @@
 //! The pages of a tree in a cache: each call here changes one page, adds one, or reads one.
-ghost use Rattle.std.specs.Prelude.{◌≡◌, ◌+◌, ◌≤◌, ◌<◌, [], ◌∷◌, OnOk, IfOk, IfErr, IsTrue, length, true};
+ghost use Rattle.std.specs.Prelude.{◌≡◌, ◌+◌, ◌≤◌, ◌<◌, [], ◌∷◌, OnOk, IfOk, IfErr, IsTrue, None, length, true};
 ghost use Rattle.legs.specs.Hull.{leg_boxes};
 ghost use Rattle.tbnode.specs.Edits.{new_inner};
 ghost use Rattle.tbtree.specs.Faults.{IsAllowed, IsCaused};
@@ -176,6 +176,7 @@ pub(crate) fn add_inner<S: PageStore>(
     ensures adds { IsTrue cache.old.store.is_faithful
         → IfOk result (Adds (pages_of_cache cache.old) (new_inner level entry.now)
         (pages_of_cache cache.new)) }
+    ensures fresh { (pages_of_cache cache.old).at cache.old.count ≡ None }
     ensures only { IsTrue cache.old.store.is_faithful → IfErr result IsAllowed }
     ensures passes { Passes cache.old cache.new }
     ensures length { OnOk result (KeepsLength cache.old cache.new) }
@@ -200,6 +201,7 @@ pub(crate) fn add_root<S: PageStore>(
         → IfOk result (Adds (pages_of_cache cache.old)
         (AnInner (record { level = level; entries = first.now ∷ second.now ∷ [] }))
         (pages_of_cache cache.new)) }
+    ensures fresh { (pages_of_cache cache.old).at cache.old.count ≡ None }
     ensures only { IsTrue cache.old.store.is_faithful → IfErr result IsAllowed }
     ensures passes { Passes cache.old cache.new }
     ensures length { OnOk result (KeepsLength cache.old cache.new) }

@@ -24,7 +24,7 @@ leaves-init g c =
       length_kept = λ e. e;
       higher = omega arith;
       start = λ e. refl;
-      ends = λ fa above there room. absurd (omega (arith, above));
+      ends = λ fa above room. absurd (omega (arith, above));
       filled = filled_start tree.shape.leaf (length c.args.legs.now) cache tree c.args.place.now (omega (arith, least));
     }
 
@@ -63,7 +63,7 @@ leaves-preserved g c =
       length_kept = λ e. put.length (so_far.length_kept e);
       higher = (let was = so_far.higher in let now = put.higher in omega (arith, was, now));
       start = λ e. absurd (let some = fits.some in omega (arith, e, some));
-      ends = λ fa above there room. ⊎_elim
+      ends = λ fa above room. ⊎_elim
           (λ (z : n ≡ 0).
           let first : c.leaves.place.legs ≡ c.args.place.now.legs = ap (λ (p : Place). p.legs) (so_far.start z) in
           let own_filled : filled ≡ c.args.place.now.legs % leaf = ap (λ m. m % leaf) first in
@@ -71,8 +71,8 @@ leaves-preserved g c =
           (λ (l : n + k < length legs). absurd (let f = full l in omega (arith, f, own_filled, room, l, z)))
           (λ (l : length legs ≤ n + k). let most = fits.most in omega (arith, l, most, z))
           (cases_lt (n + k) (length legs)) in
-          (omega (arith, z, all), ends_all (pages_of_cache new) legs n k z all (put.ends (still _ _ so_far.passes.store.faithful fa) (omega (arith, same, own_filled, there)))))
-          (λ (u : n ≢ 0). absurd (let e = (so_far.ends fa (omega (arith, u)) there room).0 in let l = c.leaves-test.true in omega (arith, e, l)))
+          (omega (arith, z, all), ends_all (pages_of_cache new) legs n k z all (put.ends (still _ _ so_far.passes.store.faithful fa))))
+          (λ (u : n ≢ 0). absurd (let e = (so_far.ends fa (omega (arith, u)) room).0 in let l = c.leaves-test.true in omega (arith, e, l)))
           (cases_eq n 0);
       filled = filled_part leaf n k (length legs) old now new c.args.tree.now c.leaves.tree c.put.new.tree c.leaves.place c.put.new.place
           fits.some so_far.filled c.leaves-test.true put.higher (put.legs ∙ ap (λ m. c.leaves.place.legs + m) (length_part legs n k (let most = fits.most in let within = so_far.within in omega (arith, most, within))))
@@ -81,7 +81,7 @@ leaves-preserved g c =
     }
 
 pub returns-clause-ends : goal.returns-clause-ends
-returns-clause-ends g c = λ fa some there room.
+returns-clause-ends g c = λ fa some room.
     let so_far = c.leaves.invariant in
     let over = c.leaves-test.false in
-    (so_far.ends fa (omega (arith, over, some)) there room).1
+    (so_far.ends fa (omega (arith, over, some)) room).1
