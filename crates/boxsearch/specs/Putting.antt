@@ -42,6 +42,10 @@ pub record PutsAll (old new : IndexView) (feature : ℕ) (legs : List LegView) (
   pub count : OnOk result (KeepsLength old.cache new.cache)
   pub few : new.cache.count < 2 ^ 32
   pub caused : IfErr result (IsCaused old.cache new.cache)
+  pub asked : OnOk result (new.cache.asked
+      ≤ old.cache.asked + new.tree.levels + (new.tree.leaves - old.tree.leaves) * (new.tree.levels + 2))
+  pub more : OnOk result (old.tree.leaves ≤ new.tree.leaves)
+  pub higher : OnOk result (old.tree.levels ≤ new.tree.levels)
   pub works : OnOk result (new.tree.spent ≡ false)
   pub spent : OnErr result (new.tree.spent ≡ true)
   pub counted : OnOk result (new.legs ≡ min (old.legs + length legs) (2 ^ 64 - 1))

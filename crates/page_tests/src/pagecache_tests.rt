@@ -67,6 +67,59 @@ fn a_store_that_is_full(rt: HostRuntime) -> Result<(), Fail> {
     Ok(())
 }
 
+/// A leaf's payload with one byte, and zeros beside it.
+fn with_byte(value: u8) -> Payload {
+    let mut payload = Payload::zero(Kind::Leaf);
+    payload.bytes[PLACE] = value;
+    payload
+}
+
+#[test]
+fn a_page_is_added_with_its_payload(rt: HostRuntime) -> Result<(), Fail> {
+    let mut cache = cache_over(rt.alloc(), MemStore::new(rt.alloc(), 2), 1)?;
+    assert!(rt; cache.add(with_byte(3)) == Ok(0));
+    assert!(rt; cache.add(with_byte(4)) == Ok(1));
+    assert!(rt; cache.add(with_byte(5)) == Err(CacheFault::StoreFull));
+    assert!(rt; cache.count() == 2 && cache.asked() == 3 && cache.held() == 1);
+    assert!(rt; byte(&mut cache, 0, PLACE) == Ok(3));
+    assert!(rt; byte(&mut cache, 1, PLACE) == Ok(4));
+    // It is written when it is added, and not lost where nothing is flushed.
+    let mut again = cache_over(rt.alloc(), cache.into_store(), 1)?;
+    assert!(rt; byte(&mut again, 1, PLACE) == Ok(4));
+    Ok(())
+}
+
+// A page that is added is one call of the store, and what stands there is not written again: a flush after it
+// makes the store last, as the second call.
+fn adding_is_one_call(alloc: Global) -> Result<bool, Memory> {
+    let store = Fuse::new(MemStore::new(alloc, 10), 2, false);
+    let mut cache = cache_over(alloc, store, 1)?;
+    Ok(
+        cache.add(with_byte(3)) == Ok(0)
+            && cache.flush() == Ok(())
+            && cache.flush() == Err(CacheFault::Store),
+    )
+}
+
+// The store fails the one call: no page is there, and the next one gets the number.
+fn failed_adding_adds_none(alloc: Global) -> Result<bool, Memory> {
+    let store = Fuse::new(MemStore::new(alloc, 10), 0, true);
+    let mut cache = cache_over(alloc, store, 1)?;
+    Ok(
+        cache.add(with_byte(3)) == Err(CacheFault::Store)
+            && cache.count() == 0
+            && cache.add(with_byte(4)) == Ok(0)
+            && byte(&mut cache, 0, PLACE) == Ok(4),
+    )
+}
+
+#[test]
+fn an_added_page_is_written_once(rt: HostRuntime) -> Result<(), Fail> {
+    assert!(rt; adding_is_one_call(rt.alloc())?);
+    assert!(rt; failed_adding_adds_none(rt.alloc())?);
+    Ok(())
+}
+
 /// Writes the seal of a payload under one number as the page of another one.
 fn misplace(store: &mut MemStore, number: u32, place: u32) -> bool {
     let page = seal(number, &Payload::zero(Kind::Leaf));

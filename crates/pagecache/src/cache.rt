@@ -72,6 +72,23 @@ impl<S: PageStore> PageCache<S> {
         self.slots.page_mut(number)
     }
 
+    /// Adds a page with a payload to the store, and returns its number, the count so far, which had no
+    /// payload. The page is sealed and written once, with that payload.
+    pub fn add(&mut self, payload: Payload) -> Result<u32, CacheFault>
+        ensures adds { OnOk result (Adds payload self.old self.new) }
+        ensures number { IfOk result (λ number. number ≡ self.old.count) }
+        ensures none_before { payload_of self.old self.old.count ≡ None }
+        ensures length { OnOk result (self.old.count ≡ self.old.store.count
+            → self.new.count ≡ self.new.store.count) }
+        ensures refused { OnErr result (Stays self.old self.new) }
+        ensures asks { AsksOnce self.old self.new }
+        ensures cause { IfErr result (λ fault. IsNotAdded fault self.old self.new) }
+        ensures full { self.old.count ≡ self.old.store.most
+            → result ≡ Err CacheFault.StoreFull }
+    {
+        self.slots.add(payload)
+    }
+
     /// Adds a page with a zero payload to the store, and returns its number, the count so far, which
     /// had no payload.
     pub fn add_page(&mut self, kind: Kind) -> Result<u32, CacheFault>
@@ -86,7 +103,7 @@ impl<S: PageStore> PageCache<S> {
         ensures full { self.old.count ≡ self.old.store.most
             → result ≡ Err CacheFault.StoreFull }
     {
-        self.slots.add_page(kind)
+        self.add(Payload::zero(kind))
     }
 
     /// Writes every changed page to the store, and makes the store last. A page that is not

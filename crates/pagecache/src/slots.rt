@@ -2,14 +2,13 @@
 ghost use Rattle.std.specs.Prelude.{ℕ, ◌≡◌, ◌<◌, ◌≤◌, false, Some, None, IsTrue, IsSome, OnOk, OnErr, IfOk, IfErr, IfNone, IfSome, IsErrOf, slice_get, slice_index, EachIndex, length};
 ghost use Rattle.std.specs.Borrow.{sem};
 ghost use Rattle.std.specs.Map.{keys_of};
-ghost use Rattle.pages.specs.Zero.{zero_payload};
 ghost use Rattle.pagecache.specs.Cache.{fresh, AsksOnce, Stays, SameLength, Adds, IsRefused, IsStopped, IsNotAdded, IsWritten, in_memory, sealed_payload, is_changed, payload_of};
 ghost use Rattle.pagecache.specs.SlotLends.{LendsSlot};
 ghost use Rattle.pagecache.specs.Slots.{HasFailed, HasRoom, IsFirst, IsSound, IsWithin, OnLeaving, Steps, changed_numbers, seen_of};
 
 use crate::fault::CacheFault;
 use lru::LruCache;
-use pages::{Kind, PageStore, Payload, seal, unseal};
+use pages::{PageStore, Payload, seal, unseal};
 use std::alloc::{AllocError, Global};
 use std::num::NonZeroUsize;
 
@@ -329,12 +328,12 @@ impl<S: PageStore> Slots<S> {
         }
     }
 
-    /// Adds a page with a zero payload, and counts one ask.
-    pub(crate) fn add_page(&mut self, kind: Kind) -> Result<u32, CacheFault>
+    /// Adds a page with a payload, and counts one ask.
+    pub(crate) fn add(&mut self, payload: Payload) -> Result<u32, CacheFault>
         requires { IsSound (seen_of S.seen self.old) }
         ensures sound { IsSound (seen_of S.seen self.new) }
         ensures adds { OnOk result
-            (Adds (zero_payload kind) (seen_of S.seen self.old) (seen_of S.seen self.new)) }
+            (Adds payload (seen_of S.seen self.old) (seen_of S.seen self.new)) }
         ensures number { IfOk result (λ number. number ≡ self.old.count) }
         ensures length { OnOk result (self.old.count ≡ (S.seen self.old.store).count
             → self.new.count ≡ (S.seen self.new.store).count) }
@@ -354,7 +353,6 @@ impl<S: PageStore> Slots<S> {
             Ok(()) => {}
             Err(fault) => return Err(fault),
         }
-        let payload = Payload::zero(kind);
         match self.append(&payload) {
             Ok(number) => {
                 // A page for which there is no memory stays in the store alone.

@@ -127,7 +127,8 @@ fn asked_by_file(alloc: Global) -> Option<u64> {
 
 #[test]
 fn a_leaf_is_asked_for_once_for_the_legs_that_go_on_it(rt: HostRuntime) {
-    // The first leaf: added, written to with its first leg, and with the others. The second one: the same, and the leaf
-    // before it, the old root, the new one, which is added and written to, and the new root once more for the others.
-    assert_eq!(rt; asked_by_file(rt.alloc()), Some(11));
+    // A page that is added is asked for once, with all that it has. The first leaf is added with its four legs, and is the
+    // root: one. The second is added with the other four, the leaf before it is linked to it, the old root, which is that
+    // leaf, is looked at for its box, and the new root is added with both: four more.
+    assert_eq!(rt; asked_by_file(rt.alloc()), Some(5));
 }

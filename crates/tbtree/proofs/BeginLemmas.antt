@@ -5,7 +5,7 @@ use Rattle.std.proofs.lemmas.Bool.{cases_eq, cases_lt}
 use Rattle.std.proofs.lemmas.List.{length-map, map-append, append-nil, take-append-le, take_all, drop-append-le, drop_all, length_push}
 use Rattle.std.proofs.lemmas.Option.{slice_get_within, slice_get-map}
 use Rattle.tbtree.specs.Nodes.{with_next, Pages, ALeaf, LeafView, Adds, Links}
-use Rattle.tbtree.specs.Stands.{owner, marks, leaf_of, pages_of, head_or_zero, last_or, LeavesStand}
+use Rattle.tbtree.specs.Stands.{owner, marks, new_leaf, leaf_of, pages_of, head_or_zero, last_or, LeavesStand}
 use Rattle.tbtree.proofs.GroupLemmas.{some_none, some_same}
 use Rattle.tbtree.proofs.RoomLemmas.{neq-eqb}
 use Rattle.tbtree.proofs.Widening.{leaf_same}
@@ -69,23 +69,23 @@ last_after f p d (m ∷ ms) (suc i) e =
     ])
 
 module _ {L : Type 0} (feature : L → ℕ) where
-  pub marks_begun : (runs : List (List L)) (ps : List ℕ) (y : L) (q : ℕ) → length ps ≡ length runs → marks feature (runs ++ (y ∷ []) ∷ []) (ps ++ q ∷ []) ≡ marks feature runs ps ++ (feature y, q) ∷ []
-  marks_begun runs ps y q e =
-      ap (λ os. zip os (ps ++ q ∷ [])) (map-append (owner feature) runs ((y ∷ []) ∷ []))
-      ∙ zip_push (map (owner feature) runs) ps (feature y) q (length-map runs (owner feature) ∙ sym e)
+  pub marks_begun : (runs : List (List L)) (ps : List ℕ) (ys : List L) (q : ℕ) → length ps ≡ length runs → marks feature (runs ++ ys ∷ []) (ps ++ q ∷ []) ≡ marks feature runs ps ++ (owner feature ys, q) ∷ []
+  marks_begun runs ps ys q e =
+      ap (λ os. zip os (ps ++ q ∷ [])) (map-append (owner feature) runs (ys ∷ []))
+      ∙ zip_push (map (owner feature) runs) ps (owner feature ys) q (length-map runs (owner feature) ∙ sym e)
 
 module _ {L B : Type 0} (feature : L → ℕ) where
-  pub begin_leaf : (runs : List (List L)) (ps : List ℕ) (old mid new : Pages L B) (q last : ℕ) (y : L) → length ps ≡ length runs → LeavesStand old feature runs ps
+  pub begin_leaf : (runs : List (List L)) (ps : List ℕ) (old mid new : Pages L B) (q last : ℕ) (ys : List L) → length ps ≡ length runs → LeavesStand old feature runs ps
       → ((i j p : ℕ) → slice_get ps i ≡ Some p → slice_get ps j ≡ Some p → i ≡ j) → ((i p : ℕ) → slice_get ps i ≡ Some p → (0 < p) × (p < old.count))
-      → last < old.count → last ≡ last_or 0 (pages_of (feature y) (marks feature runs ps))
-      → (0 < last → (k : ℕ) × (slice_get (marks feature runs ps) k ≡ Some (feature y, last)) × (pages_of (feature y) (drop (suc k) (marks feature runs ps)) ≡ []))
-      → Adds old (ALeaf (record { feature = feature y; previous = last; next = 0; legs = y ∷ [] })) mid q → (last ≡ 0 → new ≡ mid) → (0 < last → Links mid last q new)
-      → LeavesStand new feature (runs ++ (y ∷ []) ∷ []) (ps ++ q ∷ [])
-  begin_leaf runs ps old mid new q last y le v inj within lo la li add stay link i p r a b =
-      let f = feature y in
+      → last < old.count → last ≡ last_or 0 (pages_of (owner feature ys) (marks feature runs ps))
+      → (0 < last → (k : ℕ) × (slice_get (marks feature runs ps) k ≡ Some (owner feature ys, last)) × (pages_of (owner feature ys) (drop (suc k) (marks feature runs ps)) ≡ []))
+      → Adds old (ALeaf (new_leaf feature last ys)) mid q → (last ≡ 0 → new ≡ mid) → (0 < last → Links mid last q new)
+      → LeavesStand new feature (runs ++ ys ∷ []) (ps ++ q ∷ [])
+  begin_leaf runs ps old mid new q last ys le v inj within lo la li add stay link i p r a b =
+      let f = owner feature ys in
       let ms = marks feature runs ps in
-      let ms' = marks feature (runs ++ (y ∷ []) ∷ []) (ps ++ q ∷ []) in
-      let mp : ms' ≡ ms ++ (f, q) ∷ [] = marks_begun feature runs ps y q le in
+      let ms' = marks feature (runs ++ ys ∷ []) (ps ++ q ∷ []) in
+      let mp : ms' ≡ ms ++ (f, q) ∷ [] = marks_begun feature runs ps ys q le in
       let lm : length ms ≡ length ps = length-zip' (map (owner feature) runs) ps (length-map runs (owner feature) ∙ sym le) in
       let other : (p : ℕ) → p ≢ last → new.at p ≡ mid.at p = λ p u. ⊎_elim
       (λ (z : 0 < last). (link z).becomes.rest p u)
@@ -94,18 +94,18 @@ module _ {L B : Type 0} (feature : L → ℕ) where
       ⊎_elim
       (λ (e : i ≡ length ps).
       let pq : p ≡ q = some_same p q (sym a ∙ get-push_last ps q i e) in
-      let ry : r ≡ y ∷ [] = some_same r (y ∷ []) (sym b ∙ get-push_last runs (y ∷ []) i (e ∙ le)) in
-      let at : mid.at q ≡ Some (Some (ALeaf (record { feature = f; previous = last; next = 0; legs = y ∷ [] }))) = add.becomes.now in
+      let ry : r ≡ ys = some_same r ys (sym b ∙ get-push_last runs ys i (e ∙ le)) in
+      let at : mid.at q ≡ Some (Some (ALeaf (new_leaf feature last ys))) = add.becomes.now in
       let ne : q ≢ last = (let n = add.number in omega (arith, n, lo)) in
       let before : last ≡ last_or 0 (pages_of f (take i ms')) = la ∙ ap (λ l. last_or 0 (pages_of f l)) (sym (ap (take i) mp ∙ take-append-le i ms ((f, q) ∷ []) (omega (arith, e, lm)) ∙ take_all i ms (omega (arith, e, lm)))) in
       let after : 0 ≡ head_or_zero (pages_of f (drop (suc i) ms')) = ap (λ l. head_or_zero (pages_of f l)) (sym (ap (drop (suc i)) mp ∙ drop_all (suc i) (ms ++ (f, q) ∷ []) (let n = length_push ms (f, q) in omega (arith, n, e, lm)))) in
       ap new.at pq ∙ other q ne ∙ at
-      ∙ (λ i. Some (Some (ALeaf (record { feature = f; previous = before i; next = after i; legs = y ∷ [] }))))
+      ∙ (λ i. Some (Some (ALeaf (record { feature = f; previous = before i; next = after i; legs = ys }))))
       ∙ ap (λ r. Some (Some (ALeaf (leaf_of (owner feature r) ms' i r)))) (sym ry))
       (λ (e : i ≢ length ps).
       let G = owner feature r in
       let a' : slice_get ps i ≡ Some p = sym (get-push_other ps q i e) ∙ a in
-      let b' : slice_get runs i ≡ Some r = sym (get-push_other runs (y ∷ []) i (λ u. e (u ∙ sym le))) ∙ b in
+      let b' : slice_get runs i ≡ Some r = sym (get-push_other runs ys i (λ u. e (u ∙ sym le))) ∙ b in
       let was : old.at p ≡ Some (Some (ALeaf (leaf_of G ms i r))) = v i p r a' b' in
       let pl : p < old.count = (within i p a').1 in
       let mid_p : mid.at p ≡ old.at p = add.becomes.rest p (λ u. let n = add.number in omega (arith, pl, n, u)) in

@@ -12,9 +12,9 @@ use Rattle.tbtree.proofs.RoomLemmas.{mod_below_next, mod_at_next}
 pub record IsFilled (leaf n all : ℕ) (old now : Cache) (tree t : TbTree) (p : Place) : Type 0 where
   pub made : ℕ
   pub leaves : t.leaves ≡ tree.leaves + made
-  pub asked : now.asked ≤ old.asked + (made + 1) * (3 * t.levels + 2)
+  pub asked : now.asked ≤ old.asked + t.levels + made * (t.levels + 2)
   -- the last leaf is yet to be filled
-  pub spare : 0 < p.legs % leaf → n < all → now.asked + t.levels ≤ old.asked + (made + 1) * (3 * t.levels + 2)
+  pub spare : 0 < p.legs % leaf → n < all → now.asked ≤ old.asked + made * (t.levels + 2)
   pub even : p.legs % leaf ≡ 0 → made * leaf ≤ n
   pub uneven : made * leaf + p.legs % leaf ≤ n + leaf
 
@@ -31,41 +31,56 @@ filled_start leaf all old tree p h = record {
   uneven = (let l = mod_below p.legs leaf h in omega (arith, l));
 }
 
-module _ (leaf n k all : ℕ) (old now new : Cache) (tree t u : TbTree) (p q : Place) (two : 2 ≤ leaf) (f : IsFilled leaf n all old now tree t p) (more : n < all) (higher : t.levels ≤ u.levels) (legs : q.legs ≡ p.legs + k) where
-  wider : (f.made + 1) * (3 * t.levels + 2) ≤ (f.made + 1) * (3 * u.levels + 2)
-  wider = mul-le (f.made + 1) (3 * t.levels + 2) (f.made + 1) (3 * u.levels + 2) (omega arith) (omega (arith, higher))
+module _ (leaf n k all : ℕ) (old now new : Cache) (tree t u : TbTree) (p q : Place) (some : 0 < k)
+    (f : IsFilled leaf n all old now tree t p) (more : n < all) (higher : t.levels ≤ u.levels) (legs : q.legs ≡ p.legs + k)
+    (room : p.legs % leaf + k ≤ leaf) (full : n + k < all → p.legs % leaf + k ≡ leaf) where
+  wider : f.made * (t.levels + 2) ≤ f.made * (u.levels + 2)
+  wider = mul-le f.made (t.levels + 2) f.made (u.levels + 2) (omega arith) (omega (arith, higher))
 
-  begun : k ≡ 1 → p.legs % leaf ≡ 0 → u.leaves ≡ t.leaves + 1 → new.asked ≤ now.asked + (2 * u.levels + 2) → IsFilled leaf (n + k) all old new tree u q
-  begun one z l a =
+  at_end : p.legs % leaf + k ≡ leaf → q.legs % leaf ≡ 0
+  at_end e = ap (λ a. a % leaf) legs ∙ mod_at_next p.legs k leaf e
+
+  below : p.legs % leaf + k < leaf → q.legs % leaf ≡ p.legs % leaf + k
+  below e = ap (λ a. a % leaf) legs ∙ mod_below_next p.legs k leaf e
+
+  -- what is then left has no room
+  no_room : 0 < q.legs % leaf → n + k < all → ⊥
+  no_room above left = let z = at_end (full left) in omega (arith, z, above)
+
+  begun : p.legs % leaf ≡ 0 → u.leaves ≡ t.leaves + 1 → new.asked ≤ now.asked + (u.levels + 2) → IsFilled leaf (n + k) all old new tree u q
+  begun z l a =
       let made = f.made + 1 in
-      let c = 3 * u.levels + 2 in
-      let next : q.legs % leaf ≡ 1 = ap (λ a. a % leaf) (omega (arith, legs, one)) ∙ mod_below_next p.legs 1 leaf (omega (arith, z, two)) ∙ omega (arith, z) in
-      let sum : (made + 1) * c ≡ made * c + c = times_next made c in
-      let full : made * leaf ≡ f.made * leaf + leaf = times_next f.made leaf in
+      let c = u.levels + 2 in
+      let sum : made * c ≡ f.made * c + c = times_next f.made c in
+      let filled : made * leaf ≡ f.made * leaf + leaf = times_next f.made leaf in
       let before = f.asked in
       let w = wider in
       let e = f.even z in
       record {
         made = made;
         leaves = (let was = f.leaves in omega (arith, was, l));
-        asked = omega (arith, a, before, w, sum);
-        spare = λ _ _. omega (arith, a, before, w, sum);
-        even = λ e. absurd (omega (arith, e, next));
-        uneven = omega (arith, full, e, next, one);
+        asked = omega (arith, a, before, w, sum, higher);
+        spare = λ above left. absurd (no_room above left);
+        even = λ y. ⊎_elim
+            (λ (s : p.legs % leaf + k < leaf). absurd (let b = below s in omega (arith, b, y, some)))
+            (λ (s : leaf ≤ p.legs % leaf + k). omega (arith, s, z, e, filled))
+            (cases_lt (p.legs % leaf + k) leaf);
+        uneven = ⊎_elim
+            (λ (s : p.legs % leaf + k < leaf). let b = below s in omega (arith, b, z, e, filled))
+            (λ (s : leaf ≤ p.legs % leaf + k). let b = at_end (omega (arith, s, room)) in omega (arith, b, e, filled))
+            (cases_lt (p.legs % leaf + k) leaf);
       }
 
-  grown : 0 < p.legs % leaf → p.legs % leaf + k ≤ leaf → (n + k < all → p.legs % leaf + k ≡ leaf) → u.leaves ≡ t.leaves → new.asked ≤ now.asked + t.levels → IsFilled leaf (n + k) all old new tree u q
-  grown above room full l a =
+  grown : 0 < p.legs % leaf → u.leaves ≡ t.leaves → new.asked ≤ now.asked + t.levels → IsFilled leaf (n + k) all old new tree u q
+  grown above l a =
       let spare = f.spare above more in
       let w = wider in
       let was = f.uneven in
-      let at_end : p.legs % leaf + k ≡ leaf → q.legs % leaf ≡ 0 = λ e. ap (λ a. a % leaf) legs ∙ mod_at_next p.legs k leaf e in
-      let below : p.legs % leaf + k < leaf → q.legs % leaf ≡ p.legs % leaf + k = λ e. ap (λ a. a % leaf) legs ∙ mod_below_next p.legs k leaf e in
       record {
         made = f.made;
         leaves = l ∙ f.leaves;
-        asked = omega (arith, a, spare, w);
-        spare = λ some left. absurd (let z = at_end (full left) in omega (arith, z, some));
+        asked = omega (arith, a, spare, w, higher);
+        spare = λ above left. absurd (no_room above left);
         even = λ z. ⊎_elim
             (λ (e : p.legs % leaf + k < leaf). absurd (let b = below e in omega (arith, b, z, above)))
             (λ (e : leaf ≤ p.legs % leaf + k). omega (arith, e, was))
@@ -77,24 +92,20 @@ module _ (leaf n k all : ℕ) (old now new : Cache) (tree t u : TbTree) (p q : P
       }
 
   -- a part more
-  pub filled_part : 0 < k → (1 < k → 0 < p.legs % leaf) → (1 < k → p.legs % leaf + k ≤ leaf) → (0 < p.legs % leaf → n + k < all → p.legs % leaf + k ≡ leaf)
-      → (p.legs % leaf ≡ 0 → u.leaves ≡ t.leaves + 1) → (p.legs % leaf ≡ 0 → new.asked ≤ now.asked + (2 * u.levels + 2)) → (0 < p.legs % leaf → u.leaves ≡ t.leaves) → (0 < p.legs % leaf → new.asked ≤ now.asked + t.levels) → IsFilled leaf (n + k) all old new tree u q
-  filled_part some there room full b ba g ga =
-      let low : p.legs % leaf < leaf = mod_below p.legs leaf (omega (arith, two)) in
+  pub filled_part : (p.legs % leaf ≡ 0 → u.leaves ≡ t.leaves + 1) → (p.legs % leaf ≡ 0 → new.asked ≤ now.asked + (u.levels + 2)) → (0 < p.legs % leaf → u.leaves ≡ t.leaves) → (0 < p.legs % leaf → new.asked ≤ now.asked + t.levels)
+      → IsFilled leaf (n + k) all old new tree u q
+  filled_part b ba g ga =
       ⊎_elim
-      (λ (above : 0 < p.legs % leaf). grown above (⊎_elim (λ (many : 1 < k). room many) (λ (one : k ≤ 1). omega (arith, one, low)) (cases_lt 1 k)) (full above) (g above) (ga above))
-      (λ (none : p.legs % leaf ≤ 0).
-      let z : p.legs % leaf ≡ 0 = omega (arith, none) in
-      let one : k ≡ 1 = ⊎_elim (λ (many : 1 < k). absurd (let h = there many in omega (arith, h, z))) (λ (one : k ≤ 1). omega (arith, one, some)) (cases_lt 1 k) in
-      begun one z (b z) (ba z))
+      (λ (above : 0 < p.legs % leaf). grown above (g above) (ga above))
+      (λ (none : p.legs % leaf ≤ 0). let z : p.legs % leaf ≡ 0 = omega (arith, none) in begun z (b z) (ba z))
       (cases_lt 0 (p.legs % leaf))
 
 module _ (leaf n all : ℕ) (old now : Cache) (tree t : TbTree) (p : Place) (f : IsFilled leaf n all old now tree t p) where
   made_is : t.leaves - tree.leaves ≡ f.made
   made_is = let l = f.leaves in omega (arith, l)
 
-  pub filled_asked : now.asked ≤ old.asked + (t.leaves - tree.leaves + 1) * (3 * t.levels + 2)
-  filled_asked = subst (λ m. now.asked ≤ old.asked + (m + 1) * (3 * t.levels + 2)) (sym made_is) f.asked
+  pub filled_asked : now.asked ≤ old.asked + t.levels + (t.leaves - tree.leaves) * (t.levels + 2)
+  filled_asked = subst (λ m. now.asked ≤ old.asked + t.levels + m * (t.levels + 2)) (sym made_is) f.asked
 
   pub filled_made : 0 < leaf → n ≤ all → (t.leaves - tree.leaves) * leaf < all + leaf
   filled_made some within =

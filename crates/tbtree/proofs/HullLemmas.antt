@@ -24,11 +24,6 @@ module _ {L B : Type 0} (s : Boxes L B) (laws : AreLawful s) where
   hull_append [] ys = refl
   hull_append (l ∷ ls) ys = ap (both s (Some (s.of l))) (hull_append ls ys) ∙ sym (both-assoc (Some (s.of l)) (hull s ls) (hull s ys))
 
-  -- a new leaf of one leg
-  pub hull_of_push : (rs : List (List L)) (y : L) → hull_of s (rs ++ (y ∷ []) ∷ []) ≡ both s (hull_of s rs) (Some (s.of y))
-  hull_of_push [] y = refl
-  hull_of_push (r ∷ rs) y = ap (both s (hull s r)) (hull_of_push rs y) ∙ sym (both-assoc (hull s r) (hull_of s rs) (Some (s.of y)))
-
   -- legs more in one leaf
   pub hull_of_grown : (rs : List (List L)) (i : ℕ) (r ys : List L) → slice_get rs i ≡ Some r → hull_of s (set rs i (r ++ ys)) ≡ both s (hull_of s rs) (hull s ys)
   hull_of_grown [] i r ys e = absurd (some_none r (sym e))
@@ -42,6 +37,11 @@ module _ {L B : Type 0} (s : Boxes L B) (laws : AreLawful s) where
   hull_of-append [] rs = refl
   hull_of-append (g ∷ gs) rs = ap (both s (hull s g)) (hull_of-append gs rs) ∙ sym (both-assoc (hull s g) (hull_of s gs) (hull_of s rs))
 
+  -- a new leaf
+  pub hull_of_push : (rs : List (List L)) (ys : List L) (box : B) → hull s ys ≡ Some box
+      → hull_of s (rs ++ ys ∷ []) ≡ both s (hull_of s rs) (Some box)
+  hull_of_push rs ys box e = hull_of-append rs (ys ∷ []) ∙ ap (λ o. both s (hull_of s rs) (both s o None)) e
+
   -- the cover of some blocks' boxes is the box of all their legs
   pub cover_joined : (bs : List B) (gs : List (List (List L))) → map Some bs ≡ map (hull_of s) gs → cover_all s bs ≡ hull_of s (joined gs)
   cover_joined [] [] e = refl
@@ -53,6 +53,10 @@ module _ {L B : Type 0} (s : Boxes L B) (laws : AreLawful s) where
       ∙ sym (hull_of-append g (joined gs))
 
 module _ {L B : Type 0} (s : Boxes L B) where
+  -- the box of a leaf is that of the block of it alone
+  pub hull_alone : (ys : List L) (box : B) → hull s ys ≡ Some box → hull_of s (ys ∷ []) ≡ Some box
+  hull_alone ys box e = ap (λ o. both s o None) e
+
   pub hull_of_one : (rs : List (List L)) (r : List L) → length rs ≡ 1 → slice_get rs 0 ≡ Some r → hull_of s rs ≡ hull s r
   hull_of_one [] r e a = absurd (omega (arith, e))
   hull_of_one (q ∷ []) r e a = (elim (hull s q) as (λ o. both s o None ≡ o) [ Some b ↦ refl | None ↦ refl ]) ∙ ap (hull s) (some_same q r a)

@@ -1,5 +1,5 @@
 -- One leg more, as insert's parts state it.
-use Rattle.std.proofs.Common.{ℕ, zero, suc, ◌+◌, ◌^◌, ◌%◌, ◌/◌, ◌<◌, ◌≤◌, ◌≡◌, ◌≢◌, All, Bool, List, [], ◌∷◌, ◌++◌, map, length, refl, sym, ap, ◌∙◌, arith, subst, ⊎_elim, Some, slice_get}
+use Rattle.std.proofs.Common.{ℕ, zero, suc, ◌+◌, ◌^◌, ◌%◌, ◌/◌, ◌<◌, ◌≤◌, ◌≡◌, ◌≢◌, All, Bool, true, List, [], ◌∷◌, ◌++◌, map, length, refl, sym, ap, ◌∙◌, arith, subst, ⊎_elim, Some, slice_get}
 use Rattle.std.specs.Prelude.{Result, Ok, Err, OnOk, ◌-◌, ◌*◌, ◌==◌, set, get_or}
 use Rattle.std.specs.List.{count_by}
 use Rattle.std.proofs.lemmas.Bool.{cases_eq, cases_lt}
@@ -9,13 +9,13 @@ use Rattle.std.proofs.lemmas.List.Elements.{All-cons, All-nil}
 use Rattle.legs.specs.Index.{CanFollow, CanFollowInTurn}
 use Rattle.tbtree.specs.Nodes.{LeafView}
 use Rattle.tbtree.specs.Shape.{IsShape}
-use Rattle.tbtree.specs.Payloads.{TakesLegs}
-use Rattle.tbtree.proofs.TakeLemmas.{can_join, takes_legs}
+use Rattle.tbtree.specs.Payloads.{TakesLegs, are_of_one_leaf}
+use Rattle.tbtree.proofs.TakeLemmas.{can_join, of_one_leaf, takes_legs}
 use Rattle.tbtree.proofs.LevelLemmas.{low_tree}
 use Rattle.std.proofs.lemmas.Option.{slice_get_within, slice_get-get_or}
 use Rattle.legs.specs.Blocks.{leaves, level}
 use Rattle.legs.specs.Hull.{Boxes}
-use Rattle.legs.specs.Hull.{leg_boxes}
+use Rattle.legs.specs.Hull.{hull, leg_boxes}
 use Rattle.legs.specs.Costs.{leg_feature}
 use Rattle.tbtree.specs.Nodes.{Pages, HasLeaf}
 use Rattle.tbtree.specs.Stands.{page_at, owner, marks, leaf_of, PlaceStands, NumbersStand, LeavesStand, TreeStands}
@@ -42,9 +42,9 @@ use Rattle.std.proofs.lemmas.Nat.{mul-le}
 
 module _ {L B : Type 0} (s : Boxes L B) (feature : L → ℕ) (inner levels root : ℕ) where
   -- a leaf that has been begun is to be hung
-  pub hanging : (old new : Pages L B) (runs : List (List L)) (place : Place) (y : L) (page : ℕ) (ls : List L) (pages : ℕ → List ℕ) → ((i : ℕ) → slice_get runs i ≢ Some []) → TreeStands s feature inner levels root old runs pages
-      → PlaceStands feature ls (marks feature runs (pages 0)) (feature y) place → Begins feature old place.last y new page → Hanging s feature inner levels root new runs y pages old.count 0
-  hanging old new runs place y page ls pages filled t at w =
+  pub hanging : (old new : Pages L B) (runs : List (List L)) (place : Place) (ys : List L) (page : ℕ) (ls : List L) (pages : ℕ → List ℕ) → ((i : ℕ) → slice_get runs i ≢ Some []) → TreeStands s feature inner levels root old runs pages
+      → PlaceStands feature ls (marks feature runs (pages 0)) (owner feature ys) place → Begins feature old place.last ys new page → Hanging s feature inner levels root new runs ys pages old.count 0
+  hanging old new runs place ys page ls pages filled t at w =
       let n = t.numbers in
       let ms = marks feature runs (pages 0) in
       let legs_above : 0 < place.last → 0 < place.legs = λ h. ⊎_elim (λ (u : place.legs ≡ 0). absurd (let z = (at.none u).1 in omega (arith, z, h))) (λ (u : place.legs ≢ 0). omega (arith, u)) (cases_eq place.legs 0) in
@@ -65,8 +65,8 @@ module _ {L B : Type 0} (s : Boxes L B) (feature : L → ℕ) (inner levels root
         held = λ p l e. (let z = becomes_held old w.mid page p _ w.adds.becomes (⊎_elim (λ (z : 0 < place.last). (becomes_held w.mid new place.last p _ (w.links z).becomes e).0) (λ (z : place.last ≤ 0). ap (λ (l : Pages L B). l.at p) (sym (w.alone (omega (arith, z)))) ∙ e) (cases_lt 0 place.last)) in t.held p (let k = w.adds.number in let u = z.1 in omega (arith, l, len, k, u)) z.0);
         full = ap (λ m. length runs % m) (pow-zero inner) ∙ mod-one (length runs);
         filled = filled;
-        leaves = subst (λ q. LeavesStand new feature (runs ++ (y ∷ []) ∷ []) (pages 0 ++ q ∷ [])) w.adds.number
-            (begin_leaf feature runs (pages 0) old w.mid new page place.last y (as_many inner levels root old.count runs pages n) t.leaves
+        leaves = subst (λ q. LeavesStand new feature (runs ++ ys ∷ []) (pages 0 ++ q ∷ [])) w.adds.number
+            (begin_leaf feature runs (pages 0) old w.mid new page place.last ys (as_many inner levels root old.count runs pages n) t.leaves
             (λ i j p a b. (n.apart 0 i 0 j p a b).1) (n.within 0) last_within at.last
             (λ h. let k = at.last_index (legs_above h) in (place.last_index, k.0, k.1)) w.adds w.alone w.links);
         begun = λ k l. absurd (omega (arith, l));
@@ -80,13 +80,13 @@ module _ {L B : Type 0} (s : Boxes L B) (feature : L → ℕ) (inner levels root
 
   -- the first leaf is the root
   pub first_hung : (nodes : Pages L B) (j p : ℕ) (box : B) → levels ≡ 0 → Hangs s feature inner levels root nodes nodes 0 j p box (Ok (record { root = p; levels = 1 }))
-  first_hung nodes j p box e runs y pages count eb ep ej v =
+  first_hung nodes j p box e runs ys pages count eb ep ej v =
       let n = v.numbers in
-      let after = runs ++ (y ∷ []) ∷ [] in
+      let after = runs ++ ys ∷ [] in
       let is : p ≡ count = ep ∙ omega arith in
       let none : (k : ℕ) → pages k ≡ [] = λ k. n.no_more k (omega (arith, e)) in
       let g : grown_to 0 count pages 0 ≡ p ∷ [] = grown_below 0 count pages 0 (omega arith) ∙ (λ i. none 0 i ++ sym ep i ∷ []) in
-      let ar : length after ≡ 1 = length_push runs (y ∷ []) ∙ ap (λ r. length r + 1) (n.empty e).0 in
+      let ar : length after ≡ 1 = length_push runs ys ∙ ap (λ r. length r + 1) (n.empty e).0 in
       let one : length (level inner 0 after) ≡ 1 = one_group (inner ^ 0) after (omega (arith, ar)) (let z = pow-zero inner in omega (arith, ar, z)) in
       record {
         pages = grown_to 0 count pages;
@@ -103,7 +103,7 @@ module _ {L B : Type 0} (s : Boxes L B) (feature : L → ℕ) (inner levels root
             within = grown_within inner levels root count runs pages n 0;
             apart = grown_apart inner levels root count runs pages n 0;
           });
-          leaves = same_leaves s feature inner levels root 0 0 nodes nodes runs y pages count v (λ p l f. refl);
+          leaves = same_leaves s feature inner levels root 0 0 nodes nodes runs ys pages count v (λ p l f. refl);
           inners = λ k i q a. absurd (some_none q (sym a ∙ ap (λ l. slice_get l i) (grown_above 0 count pages (suc k) (omega arith) ∙ none (suc k))));
         };
       }
@@ -140,27 +140,6 @@ pub joins_one : (old new : Pages LegView BoxView) (tree tree' : TbTree) (place a
 joins_one old new tree tree' place after y (Ok u) f legs pages st at w = one_joined new tree tree' legs pages y after (f y.feature legs pages st at (one_own y.feature y refl) (w, tt))
 joins_one old new tree tree' place after y (Err x) f legs pages st at w = f y.feature legs pages st at (one_own y.feature y refl) (w, tt)
 
-one_all : (old new : Pages LegView BoxView) (tree tree' : TbTree) (place after : Place) (y : LegView) (res : Result (Unit {0}) TreeFault) → Joins old new tree tree' place after y res → JoinsAll old new tree tree' place after (y ∷ []) res
-one_all old new tree tree' place after y (Ok u) h f legs pages st at all w =
-    let own : y.feature ≡ f = all 0 y (omega arith) in
-    let i = h legs pages st (subst (λ g. IsPlace tree legs pages g place) (sym own) at) w.0 in
-    record {
-      pages = i.pages;
-      stands = i.stands;
-      placed = subst (λ g. IsPlace tree' (legs ++ y ∷ []) i.pages g after) own i.placed;
-      others = λ g other ne p. i.others g other (λ e. ne (e ∙ own)) p;
-    }
-one_all old new tree tree' place after y (Err x) h f legs pages st at all w = h legs pages st (subst (λ g. IsPlace tree legs pages g place) (sym (all 0 y (omega arith))) at) w.0
-
-one_leg : (ys : List LegView) (y : LegView) → length ys ≡ 1 → slice_get ys 0 ≡ Some y → ys ≡ y ∷ []
-one_leg [] y e a = absurd (omega (arith, e))
-one_leg (z ∷ []) y e a = ap (λ z. z ∷ []) (some_same z y a)
-one_leg (z ∷ z' ∷ zs) y e a = absurd (omega (arith, e))
-
--- what one leg gives, said of the list of it alone
-pub all_of_one : (old new : Pages LegView BoxView) (tree tree' : TbTree) (place after : Place) (ys : List LegView) (y : LegView) (res : Result (Unit {0}) TreeFault) → length ys ≡ 1 → slice_get ys 0 ≡ Some y → Joins old new tree tree' place after y res → JoinsAll old new tree tree' place after ys res
-all_of_one old new tree tree' place after ys y res e a h = subst (λ ys. JoinsAll old new tree tree' place after ys res) (sym (one_leg ys y e a)) (one_all old new tree tree' place after y res h)
-
 -- the feature's last leaf has room
 pub inserts_last : (old new : Pages LegView BoxView) (tree : TbTree) (place after : Place) (ys : List LegView) (res : Result (Unit {0}) TreeFault) → IsShape tree.shape → 0 < place.legs % tree.shape.leaf → place.legs % tree.shape.leaf + length ys ≤ tree.shape.leaf → OnOk res (after ≡ record place { legs = place.legs + length ys })
     → Grows leg_boxes leg_feature tree.shape.inner tree.levels tree.root old new place.last_index ys (λ leaf. TakesLegs tree.shape.leaf leaf ys) res → JoinsAll old new tree tree place after ys res
@@ -186,46 +165,55 @@ filled : (n : ℕ) (legs : List LegView) → 0 < n → (i : ℕ) → slice_get (
 filled zero legs h i e = omega (arith, h)
 filled (suc m) legs h i e = run_some leg_feature m [] legs i e
 
+-- legs of a feature have it
+owner_is : (f : ℕ) (ys : List LegView) → 0 < length ys → All (λ y. y.feature ≡ f) ys → owner leg_feature ys ≡ f
+owner_is f [] some all = absurd (omega (arith, some))
+owner_is f (y ∷ ys) some all = all 0 y (omega arith)
+
 -- the leaf that has been begun is to be hung
-begun_hanging : (old mid : Pages LegView BoxView) (tree : TbTree) (place : Place) (y : LegView) (page : ℕ) (legs : List LegView) (pages : ℕ → List ℕ) → 0 < tree.shape.leaf → Begins leg_feature old place.last y mid page → Holds old tree legs pages → IsPlace tree legs pages y.feature place
-    → Hanging leg_boxes leg_feature tree.shape.inner tree.levels tree.root mid (leaves leg_feature tree.shape.leaf legs) y pages old.count 0
-begun_hanging old mid tree place y page legs pages lf b st at = hanging leg_boxes leg_feature tree.shape.inner tree.levels tree.root old mid (leaves leg_feature tree.shape.leaf legs) place y page legs pages (filled tree.shape.leaf legs lf) st.tree_stands at b
+begun_hanging : (old mid : Pages LegView BoxView) (tree : TbTree) (place : Place) (ys : List LegView) (page f : ℕ) (legs : List LegView) (pages : ℕ → List ℕ) → 0 < tree.shape.leaf → owner leg_feature ys ≡ f → Begins leg_feature old place.last ys mid page → Holds old tree legs pages → IsPlace tree legs pages f place
+    → Hanging leg_boxes leg_feature tree.shape.inner tree.levels tree.root mid (leaves leg_feature tree.shape.leaf legs) ys pages old.count 0
+begun_hanging old mid tree place ys page f legs pages lf own b st at =
+    hanging leg_boxes leg_feature tree.shape.inner tree.levels tree.root old mid (leaves leg_feature tree.shape.leaf legs) place ys page legs pages (filled tree.shape.leaf legs lf) st.tree_stands (subst (λ g. IsPlace tree legs pages g place) (sym own) at) b
 
 -- and what hang_leaf gives for it
-begun_hangs : (old mid new : Pages LegView BoxView) (tree : TbTree) (place : Place) (y : LegView) (page : ℕ) (box : BoxView) (res : Result Top TreeFault) (legs : List LegView) (pages : ℕ → List ℕ) → 0 < tree.shape.leaf → Begins leg_feature old place.last y mid page → Holds old tree legs pages → IsPlace tree legs pages y.feature place
-    → box ≡ leg_boxes.of y → Hangs leg_boxes leg_feature tree.shape.inner tree.levels tree.root mid new 0 tree.leaves page box res → Gives res (λ top. Hung leg_boxes leg_feature tree.shape.inner top.levels top.root new (leaves leg_feature tree.shape.leaf legs) y (pages 0) old.count)
-begun_hangs old mid new tree place y page box res legs pages lf b st at eb hangs =
+begun_hangs : (old mid new : Pages LegView BoxView) (tree : TbTree) (place : Place) (ys : List LegView) (page f : ℕ) (box : BoxView) (res : Result Top TreeFault) (legs : List LegView) (pages : ℕ → List ℕ) → 0 < tree.shape.leaf → owner leg_feature ys ≡ f → Begins leg_feature old place.last ys mid page → Holds old tree legs pages → IsPlace tree legs pages f place
+    → hull leg_boxes ys ≡ Some box → Hangs leg_boxes leg_feature tree.shape.inner tree.levels tree.root mid new 0 tree.leaves page box res → Gives res (λ top. Hung leg_boxes leg_feature tree.shape.inner top.levels top.root new (leaves leg_feature tree.shape.leaf legs) ys (pages 0) old.count)
+begun_hangs old mid new tree place ys page f box res legs pages lf own b st at eb hangs =
     let rs = leaves leg_feature tree.shape.leaf legs in
-    hangs rs y pages old.count (sym eb) (b.adds.number ∙ omega arith) (st.leaves_are ∙ sym (ap (λ d. length rs / d) (pow-zero tree.shape.inner) ∙ div-one (length rs))) (begun_hanging old mid tree place y page legs pages lf b st at)
+    hangs rs ys pages old.count eb (b.adds.number ∙ omega arith) (st.leaves_are ∙ sym (ap (λ d. length rs / d) (pow-zero tree.shape.inner) ∙ div-one (length rs))) (begun_hanging old mid tree place ys page f legs pages lf own b st at)
 
 -- the feature has no leaf, or its last one is full
-pub inserts_begun : (old mid new : Pages LegView BoxView) (tree tree' : TbTree) (place after : Place) (y : LegView) (page : ℕ) (box : BoxView) → 0 < tree.shape.leaf → place.legs % tree.shape.leaf ≡ 0
-    → Begins leg_feature old place.last y mid page → box ≡ leg_boxes.of y → Hangs leg_boxes leg_feature tree.shape.inner tree.levels tree.root mid new 0 tree.leaves page box (Ok (record { root = tree'.root; levels = tree'.levels }))
+pub inserts_begun : (old mid new : Pages LegView BoxView) (tree tree' : TbTree) (place after : Place) (ys : List LegView) (page : ℕ) (box : BoxView) → 0 < length ys → length ys ≤ tree.shape.leaf → place.legs % tree.shape.leaf ≡ 0
+    → Begins leg_feature old place.last ys mid page → hull leg_boxes ys ≡ Some box → Hangs leg_boxes leg_feature tree.shape.inner tree.levels tree.root mid new 0 tree.leaves page box (Ok (record { root = tree'.root; levels = tree'.levels }))
     → tree' ≡ record tree { root = tree'.root; levels = tree'.levels; leaves = tree.leaves + 1 }
-    → (place.last ≡ 0 → after.first ≡ page) → (0 < place.last → after.first ≡ place.first) → after.last ≡ page → after.last_index ≡ tree.leaves → after.legs ≡ place.legs + 1
-    → Joins old new tree tree' place after y (Ok tt)
-inserts_begun old mid new tree tree' place after y page box lf h b eb hangs et f0 f1 la ia ga legs pages st at w =
+    → (place.last ≡ 0 → after.first ≡ page) → (0 < place.last → after.first ≡ place.first) → after.last ≡ page → after.last_index ≡ tree.leaves → after.legs ≡ place.legs + length ys
+    → JoinsAll old new tree tree' place after ys (Ok tt)
+inserts_begun old mid new tree tree' place after [] page box some room h b eb hangs et f0 f1 la ia ga f legs pages st at all w = absurd (omega (arith, some))
+inserts_begun old mid new tree tree' place after (y ∷ ys) page box some room h b eb hangs et f0 f1 la ia ga f legs pages st at all w =
     let lv : tree'.leaves ≡ tree.leaves + 1 = ap (λ (t : TbTree). t.leaves) et in
     let is : page ≡ old.count = b.adds.number in
-    let hung = begun_hangs old mid new tree place y page box (Ok (record { root = tree'.root; levels = tree'.levels })) legs pages lf b st at eb hangs in
-    one_joined new tree tree' legs pages y after (inserted new tree tree' legs pages y.feature (y ∷ []) after (ap (λ (t : TbTree). t.shape.leaf) et) (ap (λ (t : TbTree). t.shape.inner) et)
-    ((elim tree.shape.leaf as (λ n. 0 < n → place.legs % n ≡ 0 → TreeStands leg_boxes leg_feature tree.shape.inner tree.levels tree.root old (leaves leg_feature n legs) pages → tree.leaves ≡ length (leaves leg_feature n legs)
-    → PlaceStands leg_feature legs (marks leg_feature (leaves leg_feature n legs) (pages 0)) y.feature place → Hung leg_boxes leg_feature tree.shape.inner tree'.levels tree'.root new (leaves leg_feature n legs) y (pages 0) old.count
-    → Added leg_boxes leg_feature tree.shape.inner n tree'.levels tree'.root tree'.leaves new legs pages y.feature (y ∷ []) after) [
-      | zero ↦ λ z h t l p g. absurd (omega (arith, z))
-      | suc m ↦ λ z h t l p g.
-          subst (λ k. Added leg_boxes leg_feature tree.shape.inner (suc m) tree'.levels tree'.root k new legs pages y.feature (y ∷ []) after) (sym (lv ∙ ap (λ k. k + 1) l))
-          (added_begun leg_boxes leg_feature tree.shape.inner tree.levels tree.root m tree'.levels tree'.root old.count old new y place after legs pages h t p
+    let lf : 0 < tree.shape.leaf = omega (arith, some, room) in
+    let hung = begun_hangs old mid new tree place (y ∷ ys) page f box (Ok (record { root = tree'.root; levels = tree'.levels })) legs pages lf (owner_is f (y ∷ ys) some all) b st at eb hangs in
+    inserted new tree tree' legs pages f (y ∷ ys) after (ap (λ (t : TbTree). t.shape.leaf) et) (ap (λ (t : TbTree). t.shape.inner) et)
+    ((elim tree.shape.leaf as (λ n. 0 < n → length (y ∷ ys) ≤ n → place.legs % n ≡ 0 → TreeStands leg_boxes leg_feature tree.shape.inner tree.levels tree.root old (leaves leg_feature n legs) pages → tree.leaves ≡ length (leaves leg_feature n legs)
+    → PlaceStands leg_feature legs (marks leg_feature (leaves leg_feature n legs) (pages 0)) f place → Hung leg_boxes leg_feature tree.shape.inner tree'.levels tree'.root new (leaves leg_feature n legs) (y ∷ ys) (pages 0) old.count
+    → Added leg_boxes leg_feature tree.shape.inner n tree'.levels tree'.root tree'.leaves new legs pages f (y ∷ ys) after) [
+      | zero ↦ λ z few h t l p g. absurd (omega (arith, z))
+      | suc m ↦ λ z few h t l p g.
+          subst (λ k. Added leg_boxes leg_feature tree.shape.inner (suc m) tree'.levels tree'.root k new legs pages f (y ∷ ys) after) (sym (lv ∙ ap (λ k. k + 1) l))
+          (added_begun leg_boxes leg_feature tree.shape.inner tree.levels tree.root m tree'.levels tree'.root old.count f old new y ys place after legs pages all few h t p
           (λ z. f0 z ∙ is) f1 (la ∙ is) (ia ∙ l) ga g)
-    ]) lf h st.tree_stands st.leaves_are at hung))
+    ]) lf room h st.tree_stands st.leaves_are at hung)
 
-pub hang_not : (old mid new after : Pages LegView BoxView) (tree tree' : TbTree) (place place' : Place) (y : LegView) (page : ℕ) (box : BoxView) (x : TreeFault) → 0 < tree.shape.leaf → Begins leg_feature old place.last y mid page → box ≡ leg_boxes.of y
-    → Hangs leg_boxes leg_feature tree.shape.inner tree.levels tree.root mid new 0 tree.leaves page box (Err x) → Joins old after tree tree' place place' y (Err x)
-hang_not old mid new after tree tree' place place' y page box x lf b eb hangs legs pages st at w = begun_hangs old mid new tree place y page box (Err x) legs pages lf b st at eb hangs
+pub hang_not : (old mid new after : Pages LegView BoxView) (tree tree' : TbTree) (place place' : Place) (ys : List LegView) (page : ℕ) (box : BoxView) (x : TreeFault) → 0 < length ys → 0 < tree.shape.leaf → Begins leg_feature old place.last ys mid page → hull leg_boxes ys ≡ Some box
+    → Hangs leg_boxes leg_feature tree.shape.inner tree.levels tree.root mid new 0 tree.leaves page box (Err x) → JoinsAll old after tree tree' place place' ys (Err x)
+hang_not old mid new after tree tree' place place' ys page box x some lf b eb hangs f legs pages st at all w =
+    begun_hangs old mid new tree place ys page f box (Err x) legs pages lf (owner_is f ys some all) b st at eb hangs
 
 -- the feature's last leaf is there
-last_leaf : (old : Pages LegView BoxView) (tree : TbTree) (place : Place) (y : LegView) (legs : List LegView) (pages : ℕ → List ℕ) → Holds old tree legs pages → IsPlace tree legs pages y.feature place → 0 < place.last → HasLeaf old place.last
-last_leaf old tree place y legs pages st at h =
+last_leaf : (old : Pages LegView BoxView) (tree : TbTree) (place : Place) (f : ℕ) (legs : List LegView) (pages : ℕ → List ℕ) → Holds old tree legs pages → IsPlace tree legs pages f place → 0 < place.last → HasLeaf old place.last
+last_leaf old tree place f legs pages st at h =
     let rs = leaves leg_feature tree.shape.leaf legs in
     let t = st.tree_stands in
     let above : 0 < place.legs = ⊎_elim (λ (u : place.legs ≡ 0). absurd (let z = (at.none u).1 in omega (arith, z, h))) (λ (u : place.legs ≢ 0). omega (arith, u)) (cases_eq place.legs 0) in
@@ -234,8 +222,8 @@ last_leaf old tree place y legs pages st at h =
     let r = get_or rs place.last_index [] in
     record { above = h; leaf = leaf_of (owner leg_feature r) (marks leg_feature rs (pages 0)) place.last_index r; is = t.leaves place.last_index place.last r a (slice_get-get_or rs place.last_index [] l) }
 
-pub add_not : (old new : Pages LegView BoxView) (tree tree' : TbTree) (place place' : Place) (y : LegView) (x : TreeFault) → ((0 < place.last → HasLeaf old place.last) → IsAllowed x) → Joins old new tree tree' place place' y (Err x)
-add_not old new tree tree' place place' y x only legs pages st at w = only (last_leaf old tree place y legs pages st at)
+pub add_not : (old new : Pages LegView BoxView) (tree tree' : TbTree) (place place' : Place) (ys : List LegView) (x : TreeFault) → ((0 < place.last → HasLeaf old place.last) → are_of_one_leaf ys ≡ true → IsAllowed x) → JoinsAll old new tree tree' place place' ys (Err x)
+add_not old new tree tree' place place' ys x only f legs pages st at all w = only (last_leaf old tree place f legs pages st at) (of_one_leaf f legs ys all w)
 
 -- no count is past its type
 pub few_enough : (old new : Pages LegView BoxView) (tree tree' : TbTree) (place place' : Place) (ys : List LegView) (x : TreeFault) → IsShape tree.shape → old.count < 2 ^ 32 → (tree.leaves < old.count → tree.levels < 34 → place.legs < 2 ^ 64 - 51 → ⊥) → JoinsAll old new tree tree' place place' ys (Err x)

@@ -10,6 +10,7 @@ pub mod Widening
 pub mod FullLemmas
 pub mod RoomLemmas
 pub mod BeginLemmas
+pub mod NewRun
 pub mod PushLemmas
 pub mod WiderLemmas
 pub mod WayLemmas
@@ -41,5 +42,6 @@ pub mod TurnLemmas
 pub mod HeldLemmas
 pub mod BlockOrder
 pub mod TakenOrder
+pub mod EndLemmas
 pub mod FillLemmas
 pub mod FillCosts

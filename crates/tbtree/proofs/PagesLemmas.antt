@@ -86,30 +86,30 @@ module _ {L : Type 0} (inner levels root count : ℕ) (runs : List (List L)) (pa
         let s : length (pages k) / inner * inner + length (pages k) % inner ≡ length (pages k) = div-add-mod' (length (pages k)) inner in
         (ap (λ z. z * inner) e ∙ omega (arith, s, d'), e)
 
-    pub begun_level : (y : L) (k : ℕ) → k ≤ K → level inner k (runs ++ (y ∷ []) ∷ []) ≡ level inner k runs ++ ((y ∷ []) ∷ []) ∷ []
-    begun_level y k l = groups_push-new (inner ^ k) runs (y ∷ []) (pow_above inner k h) (full_below inner (length runs) h k K l full)
+    pub begun_level : (ys : List L) (k : ℕ) → k ≤ K → level inner k (runs ++ ys ∷ []) ≡ level inner k runs ++ (ys ∷ []) ∷ []
+    begun_level ys k l = groups_push-new (inner ^ k) runs ys (pow_above inner k h) (full_below inner (length runs) h k K l full)
 
-    pub as_many_begun : (y : L) (k : ℕ) → k ≤ K → length (level inner k (runs ++ (y ∷ []) ∷ [])) ≡ length (level inner k runs) + 1
-    as_many_begun y k l = ap length (begun_level y k l) ∙ length_push (level inner k runs) ((y ∷ []) ∷ [])
+    pub as_many_begun : (ys : List L) (k : ℕ) → k ≤ K → length (level inner k (runs ++ ys ∷ [])) ≡ length (level inner k runs) + 1
+    as_many_begun ys k l = ap length (begun_level ys k l) ∙ length_push (level inner k runs) (ys ∷ [])
 
-    pub as_many_pages : (M : ℕ) (y : L) (k : ℕ) → k ≤ K → k ≤ M → length (grown_to M count pages k) ≡ length (level inner k (runs ++ (y ∷ []) ∷ []))
-    as_many_pages M y k l l' = ap length (grown_below M count pages k l') ∙ length_push (pages k) (count + k) ∙ ap (λ z. z + 1) (n.one_each k (omega (arith, l, below))) ∙ sym (as_many_begun y k l)
+    pub as_many_pages : (M : ℕ) (ys : List L) (k : ℕ) → k ≤ K → k ≤ M → length (grown_to M count pages k) ≡ length (level inner k (runs ++ ys ∷ []))
+    as_many_pages M ys k l l' = ap length (grown_below M count pages k l') ∙ length_push (pages k) (count + k) ∙ ap (λ z. z + 1) (n.one_each k (omega (arith, l, below))) ∙ sym (as_many_begun ys k l)
 
-  pub hung_numbers : (K : ℕ) (y : L) → 0 < inner → suc K < levels → length runs % inner ^ K ≡ 0 → ((k : ℕ) → K < k → 0 < length runs % inner ^ k) → NumbersStand inner levels root (count + suc K) (runs ++ (y ∷ []) ∷ []) (grown_to K count pages)
-  hung_numbers K y h below full room =
+  pub hung_numbers : (K : ℕ) (ys : List L) → 0 < inner → suc K < levels → length runs % inner ^ K ≡ 0 → ((k : ℕ) → K < k → 0 < length runs % inner ^ k) → NumbersStand inner levels root (count + suc K) (runs ++ ys ∷ []) (grown_to K count pages)
+  hung_numbers K ys h below full room =
       let b : K < levels = omega (arith, below) in
-      let same : (k : ℕ) → K < k → length (level inner k (runs ++ (y ∷ []) ∷ [])) ≡ length (level inner k runs) = λ k l. as_many_same (inner ^ k) runs (y ∷ []) (pow_above inner k h) (room k l) in
+      let same : (k : ℕ) → K < k → length (level inner k (runs ++ ys ∷ [])) ≡ length (level inner k runs) = λ k l. as_many_same (inner ^ k) runs ys (pow_above inner k h) (room k l) in
       record {
         page_0 = (let z = n.page_0 in omega (arith, z));
         one_each = λ k l. ⊎_elim
-            (λ (u : k < suc K). as_many_pages K h b full K y k (omega (arith, u)) (omega (arith, u)))
+            (λ (u : k < suc K). as_many_pages K h b full K ys k (omega (arith, u)) (omega (arith, u)))
             (λ (u : suc K ≤ k). ap length (grown_above K count pages k (omega (arith, u))) ∙ n.one_each k l ∙ sym (same k (omega (arith, u))))
             (cases_lt k (suc K));
         no_more = λ k l. grown_above K count pages k (omega (arith, l, below)) ∙ n.no_more k l;
         below_top = λ k l.
             let w = n.below_top k l in
             ⊎_elim
-            (λ (u : k < suc K). let e = as_many_begun K h b full y k (omega (arith, u)) in omega (arith, e, w))
+            (λ (u : k < suc K). let e = as_many_begun K h b full ys k (omega (arith, u)) in omega (arith, e, w))
             (λ (u : suc K ≤ k). let e = same k (omega (arith, u)) in omega (arith, e, w))
             (cases_lt k (suc K));
         top = λ k e.
@@ -120,8 +120,8 @@ module _ {L : Type 0} (inner levels root count : ℕ) (runs : List (List L)) (pa
         apart = grown_apart K;
       }
 
-  pub rooted_numbers : (K : ℕ) (y : L) → 1 < inner → suc K ≡ levels → length runs % inner ^ K ≡ 0 → NumbersStand inner (suc levels) (count + suc K) (count + suc (suc K)) (runs ++ (y ∷ []) ∷ []) (grown_to (suc K) count pages)
-  rooted_numbers K y h e full =
+  pub rooted_numbers : (K : ℕ) (ys : List L) → 1 < inner → suc K ≡ levels → length runs % inner ^ K ≡ 0 → NumbersStand inner (suc levels) (count + suc K) (count + suc (suc K)) (runs ++ ys ∷ []) (grown_to (suc K) count pages)
+  rooted_numbers K ys h e full =
       let h' : 0 < inner = omega (arith, h) in
       let b : K < levels = omega (arith, e) in
       let one = (n.top K e).0 in
@@ -131,28 +131,28 @@ module _ {L : Type 0} (inner levels root count : ℕ) (runs : List (List L)) (pa
       let m : 0 < inner ^ K = pow_above inner K h' in
       let p : 2 * inner ^ K ≤ inner * inner ^ K = grind arith in
       let q : inner ^ K * inner ≡ inner * inner ^ K = omega arith in
-      let fits : length (runs ++ (y ∷ []) ∷ []) ≤ inner ^ suc K = (let u = length_push runs (y ∷ []) in let v = pow-suc inner K in omega (arith, u, v, p, q, d', m)) in
-      let last : length (level inner (suc K) (runs ++ (y ∷ []) ∷ [])) ≡ 1 = one_group (inner ^ suc K) (runs ++ (y ∷ []) ∷ []) (let u = length_push runs (y ∷ []) in omega (arith, u)) fits in
+      let fits : length (runs ++ ys ∷ []) ≤ inner ^ suc K = (let u = length_push runs ys in let v = pow-suc inner K in omega (arith, u, v, p, q, d', m)) in
+      let last : length (level inner (suc K) (runs ++ ys ∷ [])) ≡ 1 = one_group (inner ^ suc K) (runs ++ ys ∷ []) (let u = length_push runs ys in omega (arith, u)) fits in
       let new : grown_to (suc K) count pages (suc K) ≡ (count + suc K) ∷ [] = grown_below (suc K) count pages (suc K) (omega arith) ∙ ap (λ l. l ++ (count + suc K) ∷ []) (n.no_more (suc K) (omega (arith, e))) in
       record {
         page_0 = (let z = n.page_0 in omega (arith, z));
         one_each = λ k l. ⊎_elim
-            (λ (u : k < suc K). as_many_pages K h' b full (suc K) y k (omega (arith, u)) (omega (arith, u)))
+            (λ (u : k < suc K). as_many_pages K h' b full (suc K) ys k (omega (arith, u)) (omega (arith, u)))
             (λ (u : suc K ≤ k).
             let z : suc K ≡ k = omega (arith, u, l, e) in
-            subst (λ k. length (grown_to (suc K) count pages k) ≡ length (level inner k (runs ++ (y ∷ []) ∷ []))) z (ap length new ∙ sym last))
+            subst (λ k. length (grown_to (suc K) count pages k) ≡ length (level inner k (runs ++ ys ∷ []))) z (ap length new ∙ sym last))
             (cases_lt k (suc K));
         no_more = λ k l. grown_above (suc K) count pages k (omega (arith, l, e)) ∙ n.no_more k (omega (arith, l));
         below_top = λ k l.
             let u : k ≤ K = omega (arith, l, e) in
-            let w = as_many_begun K h' b full y k u in
+            let w = as_many_begun K h' b full ys k u in
             ⊎_elim
             (λ (z : k ≡ K). let o : length (level inner k runs) ≡ 1 = ap (λ k. length (level inner k runs)) z ∙ one in omega (arith, w, o))
             (λ (z : k ≢ K). let o = n.below_top k (omega (arith, u, z, e)) in omega (arith, w, o))
             (cases_eq k K);
         top = λ k l.
             let z : suc K ≡ k = omega (arith, l, e) in
-            subst (λ k. (length (level inner k (runs ++ (y ∷ []) ∷ [])) ≡ 1) × (page_at (grown_to (suc K) count pages) k 0 ≡ Some (count + suc K))) z (last, ap (λ l. slice_get l 0) new);
+            subst (λ k. (length (level inner k (runs ++ ys ∷ [])) ≡ 1) × (page_at (grown_to (suc K) count pages) k 0 ≡ Some (count + suc K))) z (last, ap (λ l. slice_get l 0) new);
         empty = λ z. absurd (omega (arith, z));
         within = grown_within (suc K);
         apart = grown_apart (suc K);

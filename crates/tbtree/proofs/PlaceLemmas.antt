@@ -12,9 +12,10 @@ use Rattle.tbtree.specs.Stands.{owner, marks, pages_of, head_or_zero, last_or, P
 use Rattle.tbtree.specs.Way.{Hung}
 use Rattle.tbtree.specs.declared.tree.Place.{Place}
 use Rattle.tbtree.proofs.GroupLemmas.{some_none, some_same, get-drop, length-groups}
-use Rattle.tbtree.proofs.RoomLemmas.{neq-eqb, runs_grown, runs_begun, push_same, push_other, count_append, count_all_same, count_all_other}
+use Rattle.tbtree.proofs.RoomLemmas.{neq-eqb, runs_grown, count_append, count_all_same, count_all_other}
 use Rattle.tbtree.proofs.BeginLemmas.{get-zip, get-push_last, get-push_other, marks_begun, pages_of-push, length-zip', zip-second}
 use Rattle.tbtree.proofs.Growing.{marks_grown}
+use Rattle.tbtree.proofs.NewRun.{runs_made}
 use Rattle.tbtree.proofs.Widening.{get-set_same}
 use Rattle.tbtree.proofs.BoundLemmas.{run_short}
 
@@ -163,30 +164,31 @@ module _ {L B : Type 0} (s : Boxes L B) (feature : L → ℕ) (inner levels root
       }
 
   -- a leaf of the feature is begun, and its page is hung
-  pub added_begun : (m levels' root' count : ℕ) (old new : Pages L B) (y : L) (place after : Place) (legs : List L) (pages : ℕ → List ℕ) → place.legs % suc m ≡ 0
-      → TreeStands s feature inner levels root old (leaves feature (suc m) legs) pages → PlaceStands feature legs (marks feature (leaves feature (suc m) legs) (pages 0)) (feature y) place
-      → (place.last ≡ 0 → after.first ≡ count) → (0 < place.last → after.first ≡ place.first) → after.last ≡ count → after.last_index ≡ length (leaves feature (suc m) legs) → after.legs ≡ place.legs + 1
-      → Hung s feature inner levels' root' new (leaves feature (suc m) legs) y (pages 0) count → Added s feature inner (suc m) levels' root' (length (leaves feature (suc m) legs) + 1) new legs pages (feature y) (y ∷ []) after
-  added_begun m levels' root' count old new y place after legs pages h tree at f0 f1 la ia ga hung =
+  pub added_begun : (m levels' root' count f : ℕ) (old new : Pages L B) (y : L) (ys : List L) (place after : Place) (legs : List L) (pages : ℕ → List ℕ) → All (λ z. feature z ≡ f) (y ∷ ys) → length (y ∷ ys) ≤ suc m → place.legs % suc m ≡ 0
+      → TreeStands s feature inner levels root old (leaves feature (suc m) legs) pages → PlaceStands feature legs (marks feature (leaves feature (suc m) legs) (pages 0)) f place
+      → (place.last ≡ 0 → after.first ≡ count) → (0 < place.last → after.first ≡ place.first) → after.last ≡ count → after.last_index ≡ length (leaves feature (suc m) legs) → after.legs ≡ place.legs + length (y ∷ ys)
+      → Hung s feature inner levels' root' new (leaves feature (suc m) legs) (y ∷ ys) (pages 0) count → Added s feature inner (suc m) levels' root' (length (leaves feature (suc m) legs) + 1) new legs pages f (y ∷ ys) after
+  added_begun m levels' root' count f old new y ys place after legs pages all few h tree at f0 f1 la ia ga hung =
       let n = suc m in
-      let f = feature y in
+      let own : feature y ≡ f = all 0 y (omega arith) in
+      let same : All (λ z. feature z ≡ feature y) ys = λ j d l. all (suc j) d (omega (arith, l)) ∙ sym own in
       let rs = leaves feature n legs in
       let ps = pages 0 in
       let ms = marks feature rs ps in
       let lp : length ps ≡ length rs = as_many inner levels root old.count rs pages tree.numbers in
       let lm : length ms ≡ length rs = length-marks feature rs ps lp in
-      let yes : begins feature n legs y ≡ true = eq-eqb _ 0 (ap (λ c. c % n) (sym at.legs_are) ∙ h) in
-      let eq : leaves feature n (legs ++ y ∷ []) ≡ rs ++ (y ∷ []) ∷ [] = runs_begun feature n legs y (omega arith) yes in
-      let mk : marks feature (leaves feature n (legs ++ y ∷ [])) (hung.pages 0) ≡ ms ++ (f, count) ∷ [] = (λ i. marks feature (eq i) (hung.leaves_are i)) ∙ marks_begun feature rs ps y count lp in
+      let yes : begins feature n legs y ≡ true = eq-eqb _ 0 (ap (λ g. count_by (λ z. feature z == g) legs % n) own ∙ ap (λ c. c % n) (sym at.legs_are) ∙ h) in
+      let eq : leaves feature n (legs ++ y ∷ ys) ≡ rs ++ (y ∷ ys) ∷ [] = runs_made feature m legs y ys yes same few in
+      let mk : marks feature (leaves feature n (legs ++ y ∷ ys)) (hung.pages 0) ≡ ms ++ (f, count) ∷ [] = (λ i. marks feature (eq i) (hung.leaves_are i)) ∙ marks_begun feature rs ps (y ∷ ys) count lp ∙ ap (λ g. ms ++ (g, count) ∷ []) own in
       let above : (i : ℕ) (m : ℕ × ℕ) → slice_get ms i ≡ Some m → 0 < m.1 = λ i m a. (tree.numbers.within 0 i (m.1) (zip-second (map (owner feature) rs) ps i m a)).0 in
       let mine : pages_of f (ms ++ (f, count) ∷ []) ≡ pages_of f ms ++ count ∷ [] = pages_of-push f ms (f, count) ∙ ap (λ b. pages_of f ms ++ cond b (count ∷ []) []) (eq-eqb f f refl) in
-      let past : (ms' : List (ℕ × ℕ)) → ms' ≡ ms ++ (f, count) ∷ [] → PlaceStands feature (legs ++ y ∷ []) ms' f after = λ ms' u. subst (λ ms. PlaceStands feature (legs ++ y ∷ []) ms f after) (sym u) (record {
+      let past : (ms' : List (ℕ × ℕ)) → ms' ≡ ms ++ (f, count) ∷ [] → PlaceStands feature (legs ++ y ∷ ys) ms' f after = λ ms' u. subst (λ ms. PlaceStands feature (legs ++ y ∷ ys) ms f after) (sym u) (record {
         first = ⊎_elim
             (λ (z : pages_of f ms ≡ []). f0 (at.last ∙ ap (last_or 0) z) ∙ sym (ap head_or_zero (mine ∙ ap (λ l. l ++ count ∷ []) z)))
             (λ (z : 0 < last_or 0 (pages_of f ms)). f1 (let w = at.last in omega (arith, w, z)) ∙ at.first ∙ sym (ap head_or_zero mine ∙ head-push count (pages_of f ms) z))
             (none_or_above f ms above);
         last = la ∙ sym (ap (last_or 0) mine ∙ last_or-push 0 count (pages_of f ms));
-        legs_are = ga ∙ ap (λ c. c + 1) at.legs_are ∙ sym (push_same feature m f legs y refl);
+        legs_are = ga ∙ ap (λ c. c + length (y ∷ ys)) at.legs_are ∙ sym (count_append feature m f legs (y ∷ ys) ∙ ap (λ k. count_by (λ l. feature l == f) legs + k) (count_all_same feature m f (y ∷ ys) all));
         last_index = λ _. (
           get-push_last ms (f, count) after.last_index (ia ∙ sym lm) ∙ (λ i. Some (f, sym la i)),
           ap (pages_of f) (drop_all (suc after.last_index) (ms ++ (f, count) ∷ []) (let u = length_push ms (f, count) in omega (arith, u, ia, lm))),
@@ -196,14 +198,14 @@ module _ {L B : Type 0} (s : Boxes L B) (feature : L → ℕ) (inner levels root
       record {
         pages = hung.pages;
         tree = subst (λ rs. TreeStands s feature inner levels' root' new rs hung.pages) (sym eq) hung.tree;
-        leaves_are = sym (ap length eq ∙ length_push rs (y ∷ []));
+        leaves_are = sym (ap length eq ∙ length_push rs (y ∷ ys));
         placed = past _ mk;
         others = λ g other ne p.
             let theirs : (xs : List (ℕ × ℕ)) → pages_of g (xs ++ (f, count) ∷ []) ≡ pages_of g xs = λ xs. pages_of-push g xs (f, count) ∙ ap (λ b. pages_of g xs ++ cond b (count ∷ []) []) (neq-eqb f g (λ u. ne (sym u))) ∙ append-nil (pages_of g xs) in
-            subst (λ ms. PlaceStands feature (legs ++ y ∷ []) ms g other) (sym mk) (record {
+            subst (λ ms. PlaceStands feature (legs ++ y ∷ ys) ms g other) (sym mk) (record {
               first = p.first ∙ sym (ap head_or_zero (theirs ms));
               last = p.last ∙ sym (ap (last_or 0) (theirs ms));
-              legs_are = p.legs_are ∙ sym (push_other feature m g legs y (λ u. ne (sym u)));
+              legs_are = p.legs_are ∙ sym (count_append feature m g legs (y ∷ ys) ∙ ap (λ k. count_by (λ l. feature l == g) legs + k) (count_all_other feature m f g (y ∷ ys) (λ e. ne (sym e)) all) ∙ omega arith);
               last_index = λ l.
                   let w = p.last_index l in
                   let i = other.last_index in

@@ -6,14 +6,14 @@ use Rattle.std.proofs.lemmas.Bool.{cases_eq, cases_lt}
 use Rattle.std.proofs.lemmas.List.{take_all, length-map}
 use Rattle.std.proofs.lemmas.Option.{slice_get-get_or, slice_get_within}
 use Rattle.legs.specs.Blocks.{block, level, joined}
-use Rattle.legs.specs.Hull.{Boxes, hull_of}
+use Rattle.legs.specs.Hull.{Boxes, hull, hull_of}
 use Rattle.tbtree.proofs.LawfulBoxes.{AreLawful}
 use Rattle.tbtree.specs.Nodes.{boxes, Pages, ALeaf, AnInner, Adds, Covers, HasCover, cover_of_page}
 use Rattle.tbtree.specs.Stands.{page_at, leaf_of, marks, owner, NumbersStand, InnerStands, LevelStands}
 use Rattle.tbtree.specs.Way.{Hanging, Hung}
 use Rattle.tbtree.proofs.GroupLemmas.{some_none, some_same, group_is}
 use Rattle.tbtree.proofs.BeginLemmas.{get-push_other}
-use Rattle.tbtree.proofs.HullLemmas.{cover_joined, hull_of_one, hull_some, cover_some}
+use Rattle.tbtree.proofs.HullLemmas.{cover_joined, hull_alone, hull_of_one, hull_some, cover_some}
 use Rattle.tbtree.proofs.JoinLemmas.{joined_blocks}
 use Rattle.tbtree.proofs.PagesLemmas.{grown_to, grown_below, grown_above, blocks_are, begun_level, rooted_numbers}
 use Rattle.tbtree.proofs.Widening.{pow_above}
@@ -38,8 +38,8 @@ module _ {L B : Type 0} (s : Boxes L B) (laws : AreLawful s) (feature : L → �
       omega (arith, d')
 
   -- what the old root has is all that there was
-  root_cover : (K : ℕ) (old mid : Pages L B) (runs : List (List L)) (y : L) (pages : ℕ → List ℕ) (count : ℕ) (f : B) → 0 < inner → suc K ≡ levels → Hanging s feature inner levels root old runs y pages count K → Covers s old root f mid → hull_of s runs ≡ Some f
-  root_cover zero old mid runs y pages count f h e v c =
+  root_cover : (K : ℕ) (old mid : Pages L B) (runs : List (List L)) (ys : List L) (pages : ℕ → List ℕ) (count : ℕ) (f : B) → 0 < inner → suc K ≡ levels → Hanging s feature inner levels root old runs ys pages count K → Covers s old root f mid → hull_of s runs ≡ Some f
+  root_cover zero old mid runs ys pages count f h e v c =
       let n = v.numbers in
       let one : length runs ≡ 1 = full_root 0 count runs pages h e n v.full ∙ pow-zero inner in
       let t = n.top 0 e in
@@ -47,10 +47,10 @@ module _ {L B : Type 0} (s : Boxes L B) (laws : AreLawful s) (feature : L → �
       let r = get_or runs 0 [] in
       let is : slice_get runs 0 ≡ Some r = slice_get-get_or runs 0 [] (omega (arith, one)) in
       let a : slice_get (pages 0 ++ count ∷ []) 0 ≡ Some root = get-push_other (pages 0) count 0 (λ u. omega (arith, lp, u)) ∙ t.1 in
-      let b : slice_get (runs ++ (y ∷ []) ∷ []) 0 ≡ Some r = get-push_other runs (y ∷ []) 0 (λ u. omega (arith, one, u)) ∙ is in
+      let b : slice_get (runs ++ ys ∷ []) 0 ≡ Some r = get-push_other runs ys 0 (λ u. omega (arith, one, u)) ∙ is in
       let leaf = v.leaves 0 root r a b in
       hull_of_one s runs r one is ∙ ap (cover_of_page s) (some_same _ _ (some_same _ _ (sym leaf ∙ c.is))) ∙ c.cover
-  root_cover (suc k) old mid runs y pages count f h e v c =
+  root_cover (suc k) old mid runs ys pages count f h e v c =
       let n = v.numbers in
       let N : length runs ≡ inner ^ k * inner = full_root (suc k) count runs pages h e n v.full ∙ pow-suc inner k in
       let t = n.top (suc k) e in
@@ -62,8 +62,8 @@ module _ {L B : Type 0} (s : Boxes L B) (laws : AreLawful s) (feature : L → �
       ap (hull_of s) (sym all) ∙ sym (cover_joined s laws (boxes g.page) (block inner 0 (level inner k runs)) g.boxes_are) ∙ ap (cover_of_page s) (some_same _ _ (some_same _ _ (sym g.is ∙ c.is))) ∙ c.cover
 
   -- and that is something
-  pub root_has : (K : ℕ) (old : Pages L B) (runs : List (List L)) (y : L) (pages : ℕ → List ℕ) (count : ℕ) → 0 < inner → suc K ≡ levels → Hanging s feature inner levels root old runs y pages count K → HasCover s old root
-  root_has zero old runs y pages count h e v =
+  pub root_has : (K : ℕ) (old : Pages L B) (runs : List (List L)) (ys : List L) (pages : ℕ → List ℕ) (count : ℕ) → 0 < inner → suc K ≡ levels → Hanging s feature inner levels root old runs ys pages count K → HasCover s old root
+  root_has zero old runs ys pages count h e v =
       let n = v.numbers in
       let one : length runs ≡ 1 = full_root 0 count runs pages h e n v.full ∙ pow-zero inner in
       let t = n.top 0 e in
@@ -71,10 +71,10 @@ module _ {L B : Type 0} (s : Boxes L B) (laws : AreLawful s) (feature : L → �
       let r = get_or runs 0 [] in
       let is : slice_get runs 0 ≡ Some r = slice_get-get_or runs 0 [] (omega (arith, one)) in
       let a : slice_get (pages 0 ++ count ∷ []) 0 ≡ Some root = get-push_other (pages 0) count 0 (λ u. omega (arith, lp, u)) ∙ t.1 in
-      let b : slice_get (runs ++ (y ∷ []) ∷ []) 0 ≡ Some r = get-push_other runs (y ∷ []) 0 (λ u. omega (arith, one, u)) ∙ is in
+      let b : slice_get (runs ++ ys ∷ []) 0 ≡ Some r = get-push_other runs ys 0 (λ u. omega (arith, one, u)) ∙ is in
       let c = hull_some s r (λ u. v.filled 0 (is ∙ ap Some u)) in
-      record { node = ALeaf (leaf_of (owner feature r) (marks feature (runs ++ (y ∷ []) ∷ []) (pages 0 ++ count ∷ [])) 0 r); is = v.leaves 0 root r a b; box = c.0; cover = c.1 }
-  root_has (suc k) old runs y pages count h e v =
+      record { node = ALeaf (leaf_of (owner feature r) (marks feature (runs ++ ys ∷ []) (pages 0 ++ count ∷ [])) 0 r); is = v.leaves 0 root r a b; box = c.0; cover = c.1 }
+  root_has (suc k) old runs ys pages count h e v =
       let n = v.numbers in
       let t = n.top (suc k) e in
       let g = v.inners k 0 root t.1 in
@@ -84,11 +84,11 @@ module _ {L B : Type 0} (s : Boxes L B) (laws : AreLawful s) (feature : L → �
       let c = cover_some s (boxes g.page) (omega (arith, as_many, some)) in
       record { node = AnInner g.page; is = g.is; box = c.0; cover = c.1 }
 
-  pub hang_root : (old mid new : Pages L B) (K j p q height : ℕ) (f box : B) (runs : List (List L)) (y : L) (pages : ℕ → List ℕ) (count : ℕ) → 1 < inner → suc K ≡ levels → height ≡ suc K → Covers s old root f mid
-      → Adds mid (AnInner (record { level = height; entries = record { child = root; bounds = f } ∷ record { child = p; bounds = box } ∷ [] })) new q → s.of y ≡ box → p ≡ count + K → j ≡ length runs / inner ^ K → Hanging s feature inner levels root old runs y pages count K → Hung s feature inner (suc levels) q new runs y (pages 0) count
-  hang_root old mid new K j p q height f box runs y pages count h e eh c w eb ep ej v =
+  pub hang_root : (old mid new : Pages L B) (K j p q height : ℕ) (f box : B) (runs : List (List L)) (ys : List L) (pages : ℕ → List ℕ) (count : ℕ) → 1 < inner → suc K ≡ levels → height ≡ suc K → Covers s old root f mid
+      → Adds mid (AnInner (record { level = height; entries = record { child = root; bounds = f } ∷ record { child = p; bounds = box } ∷ [] })) new q → hull s ys ≡ Some box → p ≡ count + K → j ≡ length runs / inner ^ K → Hanging s feature inner levels root old runs ys pages count K → Hung s feature inner (suc levels) q new runs ys (pages 0) count
+  hang_root old mid new K j p q height f box runs ys pages count h e eh c w eb ep ej v =
       let n = v.numbers in
-      let after = runs ++ (y ∷ []) ∷ [] in
+      let after = runs ++ ys ∷ [] in
       let h' : 0 < inner = omega (arith, h) in
       let b : K < levels = omega (arith, e) in
       let t = n.top K e in
@@ -102,16 +102,16 @@ module _ {L B : Type 0} (s : Boxes L B) (laws : AreLawful s) (feature : L → �
       let N : length runs ≡ inner ^ K = full_root K count runs pages h' e n v.full in
       let m : 0 < inner ^ K = pow_above inner K h' in
       let whole : slice_get (level inner K runs) 0 ≡ Some runs = group_is (inner ^ K) runs 0 m (let z : 0 * inner ^ K ≡ 0 = omega arith in omega (arith, z, N, m)) ∙ ap Some (first_block (inner ^ K) runs ∙ take_all (inner ^ K) runs (omega (arith, N))) in
-      let lv : level inner K after ≡ runs ∷ ((y ∷ []) ∷ []) ∷ [] = begun_level inner levels root count runs pages n K h' b v.full y K (omega arith) ∙ ap (λ l. l ++ ((y ∷ []) ∷ []) ∷ []) (one_is (level inner K runs) runs t.0 whole) in
+      let lv : level inner K after ≡ runs ∷ (ys ∷ []) ∷ [] = begun_level inner levels root count runs pages n K h' b v.full ys K (omega arith) ∙ ap (λ l. l ++ (ys ∷ []) ∷ []) (one_is (level inner K runs) runs t.0 whole) in
       let cs : block inner 0 (grown_to (suc K) count pages K) ≡ root ∷ p ∷ [] = ap (block inner 0) gK ∙ first_block inner (root ∷ p ∷ []) ∙ take_all inner (root ∷ p ∷ []) (omega (arith, h)) in
-      let bs : block inner 0 (level inner K after) ≡ runs ∷ ((y ∷ []) ∷ []) ∷ [] = ap (block inner 0) lv ∙ first_block inner (runs ∷ ((y ∷ []) ∷ []) ∷ []) ∙ take_all inner (runs ∷ ((y ∷ []) ∷ []) ∷ []) (omega (arith, h)) in
-      let covered : hull_of s runs ≡ Some f = root_cover K old mid runs y pages count f h' e v c in
+      let bs : block inner 0 (level inner K after) ≡ runs ∷ (ys ∷ []) ∷ [] = ap (block inner 0) lv ∙ first_block inner (runs ∷ (ys ∷ []) ∷ []) ∙ take_all inner (runs ∷ (ys ∷ []) ∷ []) (omega (arith, h)) in
+      let covered : hull_of s runs ≡ Some f = root_cover K old mid runs ys pages count f h' e v c in
       let top_page : InnerStands s new q (suc K) (block inner 0 (grown_to (suc K) count pages K)) (block inner 0 (level inner K after)) = record {
         page = record { level = height; entries = record { child = root; bounds = f } ∷ record { child = p; bounds = box } ∷ [] };
         is = new_page;
         height_is = eh;
         children_are = sym cs;
-        boxes_are = (λ i. sym covered i ∷ Some (sym eb i) ∷ []) ∙ ap (map (hull_of s)) (sym bs);
+        boxes_are = (λ i. sym covered i ∷ sym (hull_alone s ys box eb) i ∷ []) ∙ ap (map (hull_of s)) (sym bs);
       } in
       let top_pages : grown_to (suc K) count pages (suc K) ≡ q ∷ [] = grown_below (suc K) count pages (suc K) (omega arith) ∙ ap (λ l. l ++ (count + suc K) ∷ []) (n.no_more (suc K) (omega (arith, e))) ∙ ap (λ z. z ∷ []) (sym is) in
       let at_level : LevelStands s new inner after (grown_to (suc K) count pages) K = λ i r a.
@@ -127,10 +127,10 @@ module _ {L B : Type 0} (s : Boxes L B) (laws : AreLawful s) (feature : L → �
         tree = record {
           held = λ r l e. (let z = becomes_held mid new q r _ w.becomes e in v.held r (let k = v.as_many in let u = z.1 in omega (arith, l, len, is, k, u)) (sym (c.rest r) ∙ z.0));
           numbers = subst (λ z. NumbersStand inner (suc levels) q z after (grown_to (suc K) count pages)) (sym len)
-              (subst (λ z. NumbersStand inner (suc levels) z (count + suc (suc K)) after (grown_to (suc K) count pages)) (sym is) (rooted_numbers inner levels root count runs pages n K y h e v.full));
-          leaves = same_leaves s feature inner levels root K (suc K) old new runs y pages count v same;
+              (subst (λ z. NumbersStand inner (suc levels) z (count + suc (suc K)) after (grown_to (suc K) count pages)) (sym is) (rooted_numbers inner levels root count runs pages n K ys h e v.full));
+          leaves = same_leaves s feature inner levels root K (suc K) old new runs ys pages count v same;
           inners = λ k. ⊎_elim
-              (λ (l : k < K). below_level s feature inner levels root K (suc K) old new runs y pages count h' b (omega arith) v same k l)
+              (λ (l : k < K). below_level s feature inner levels root K (suc K) old new runs ys pages count h' b (omega arith) v same k l)
               (λ (l : K ≤ k). ⊎_elim
               (λ (z : K ≡ k). subst (λ k. LevelStands s new inner after (grown_to (suc K) count pages) k) z at_level)
               (λ (z : K ≢ k). λ i r a. absurd (some_none r (sym a ∙ ap (λ l. slice_get l i) (grown_above (suc K) count pages (suc k) (omega (arith, l, z)) ∙ n.no_more (suc k) (omega (arith, l, e))))))

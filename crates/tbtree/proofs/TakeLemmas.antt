@@ -15,7 +15,7 @@ use Rattle.tbnode.specs.Nodes.{as_leaf, with_leg}
 use Rattle.legs.specs.Boxes.{BoxView}
 use Rattle.tbtree.specs.Nodes.{LeafView, Node, ALeaf}
 use Rattle.tbtree.specs.Joining.{CanJoin, CanJoinInTurn}
-use Rattle.tbtree.specs.Payloads.{TakesLegs, Takes, goes_on, leaf_with_legs}
+use Rattle.tbtree.specs.Payloads.{TakesLegs, Takes, are_of_one_leaf, goes_on, leaf_with_legs}
 use Rattle.tbtree.proofs.GroupLemmas.{some_none, some_same}
 use Rattle.tbtree.proofs.Widening.{cons_head}
 use Rattle.tbtree.proofs.BeginLemmas.{get-push_last}
@@ -93,6 +93,14 @@ goes_on_in_turn f o legs (y ∷ ys) low all w =
     let own : y.feature ≡ f = all 0 y (omega arith) in
     let more : goes_on f y.ordinal ys ≡ true = goes_on_in_turn f y.ordinal (legs ++ y ∷ []) ys (λ y' own' w'. last_of legs y (λ l. l.feature ≡ y'.feature → l.ordinal < y'.ordinal) w' (own ∙ sym own')) (λ j d l. all (suc j) d (omega (arith, l))) w.1 in
     ap (λ b. b && (nat_lt o y.ordinal && goes_on f y.ordinal ys)) (eq-eqb _ _ own) ∙ ap (λ b. b && goes_on f y.ordinal ys) (lt-ltb _ _ (low y own w.0)) ∙ more
+
+-- legs that may join legs are those of one leaf
+pub of_one_leaf : (f : ℕ) (legs ys : List LegView) → All (λ y. y.feature ≡ f) ys → CanJoinInTurn legs ys → are_of_one_leaf ys ≡ true
+of_one_leaf f legs [] all w = refl
+of_one_leaf f legs (y ∷ ys) all w =
+    let own : y.feature ≡ f = all 0 y (omega arith) in
+    ap (λ g. goes_on g y.ordinal ys) own
+    ∙ goes_on_in_turn f y.ordinal (legs ++ y ∷ []) ys (λ y' own' w'. last_of legs y (λ l. l.feature ≡ y'.feature → l.ordinal < y'.ordinal) w' (own ∙ sym own')) (λ j d l. all (suc j) d (omega (arith, l))) w.1
 
 pub takes_legs : (m most f : ℕ) (legs ys : List LegView) (k : ℕ) (x : LegView) (xs : List LegView) (leaf : LeafView LegView) → All (λ y. y.feature ≡ f) ys → CanJoinInTurn legs ys → slice_get (leaves leg_feature (suc m) legs) k ≡ Some (x ∷ xs) → leg_feature x ≡ f
     → length (x ∷ xs) + length ys ≤ most → leaf.feature ≡ leg_feature x → leaf.legs ≡ x ∷ xs → TakesLegs most leaf ys

@@ -16,13 +16,14 @@ use Rattle.tbtree.proofs.Widening.{groups_set, widened_stands, widened_children,
 
 module _ {L B : Type 0} (s : Boxes L B) (laws : AreLawful s) where
   -- a leaf begun within a block that has room
-  pub wider_begun : (m : ℕ) (runs : List (List L)) (y : L) → 0 < m → 0 < length runs % m → Wider s m runs (runs ++ (y ∷ []) ∷ []) (length runs / m) (s.of y)
-  wider_begun m runs y h r = record {
+  pub wider_begun : (m : ℕ) (runs : List (List L)) (ys : List L) (box : B) → 0 < m → 0 < length runs % m
+      → hull s ys ≡ Some box → Wider s m runs (runs ++ ys ∷ []) (length runs / m) box
+  wider_begun m runs ys box h r e = record {
     was = block m (length runs / m) runs;
-    is = block m (length runs / m) runs ++ (y ∷ []) ∷ [];
+    is = block m (length runs / m) runs ++ ys ∷ [];
     found = group_is m runs (length runs / m) h (let d : length runs / m * m + length runs % m ≡ length runs = div-add-mod' (length runs) m in omega (arith, d, r));
-    becomes = groups_push-same m runs (y ∷ []) h r;
-    holds = hull_of_push s laws (block m (length runs / m) runs) y;
+    becomes = groups_push-same m runs ys h r;
+    holds = hull_of_push s laws (block m (length runs / m) runs) ys box e;
   }
 
   -- a leaf that grows

@@ -7,7 +7,7 @@ use Rattle.legs.specs.Hull.{Boxes, leg_boxes}
 use Rattle.legs.specs.Index.{CanFollow, CanFollowInTurn}
 use Rattle.tbtree.specs.Faults.{Gives}
 use Rattle.tbtree.specs.Nodes.{Pages, LeafView, ALeaf, Adds, Links}
-use Rattle.tbtree.specs.Stands.{marks, PlaceStands, TreeStands}
+use Rattle.tbtree.specs.Stands.{marks, new_leaf, PlaceStands, TreeStands}
 use Rattle.tbtree.specs.declared.tree.Place.{Place}
 use Rattle.tbtree.specs.declared.tree.TbTree.{TbTree}
 use Rattle.tbtree.specs.declared.fault.TreeFault.{TreeFault}
@@ -21,10 +21,11 @@ Grows {L = L} s feature inner levels root old new i ys can result =
     → TreeStands s feature inner levels root old runs pages
     → Gives result (λ _. TreeStands s feature inner levels root new (set runs i ((x ∷ xs) ++ ys)) pages)
 
--- a leaf of y alone has been made, whose page is p, and the leaf last, where there is one, has it as its next
-pub record Begins {L B : Type 0} (feature : L → ℕ) (old : Pages L B) (last : ℕ) (y : L) (new : Pages L B) (p : ℕ) : Type 0 where
+-- a leaf of ys has been made, whose page is p, and the leaf last, where there is one, has it as its next
+pub record Begins {L B : Type 0} (feature : L → ℕ) (old : Pages L B) (last : ℕ) (ys : List L)
+    (new : Pages L B) (p : ℕ) : Type 0 where
   pub mid : Pages L B
-  pub adds : Adds old (ALeaf (record { feature = feature y; previous = last; next = 0; legs = y ∷ [] })) mid p
+  pub adds : Adds old (ALeaf (new_leaf feature last ys)) mid p
   pub alone : last ≡ 0 → new ≡ mid
   pub links : 0 < last → Links mid last p new
 

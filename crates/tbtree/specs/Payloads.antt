@@ -2,8 +2,10 @@
 use Rattle.std.specs.Prelude.{ℕ, ◌≡◌, ◌<◌, ◌≤◌, ◌+◌, ◌-◌, ◌==◌, ◌&&◌, nat_lt, Bool, true, List, [], ◌∷◌, length, slice_get, Option, Some, None}
 use Rattle.legs.specs.Legs.{LegView}
 use Rattle.legs.specs.Boxes.{BoxView}
+use Rattle.legs.specs.Costs.{leg_feature}
 use Rattle.legs.specs.Hull.{leg_boxes}
 use Rattle.tbtree.specs.Nodes.{Node, ALeaf, AnInner, LeafView, InnerView, children, cover_of_page, with_legs}
+use Rattle.tbtree.specs.Stands.{new_leaf}
 
 -- the node is an inner page of the level, whose entry e has that child
 pub record IsEntry (node : Option (Node LegView BoxView)) (level e child : ℕ) : Type 0 where
@@ -43,6 +45,15 @@ pub record Takes (node : Option (Node LegView BoxView)) (most : ℕ) (legs : Lis
 -- the leaf with legs more
 abbrev pub leaf_with_legs : List LegView → LeafView LegView → Node LegView BoxView
 leaf_with_legs legs leaf = ALeaf (with_legs legs leaf)
+
+-- the legs are those of one leaf: of the first one's feature, their ordinals rising
+abbrev pub are_of_one_leaf : List LegView → Bool
+are_of_one_leaf [] = true
+are_of_one_leaf (leg ∷ legs) = goes_on leg.feature leg.ordinal legs
+
+-- a leaf of legs, with that leaf before it and none after it
+abbrev pub leaf_of_legs : ℕ → List LegView → Node LegView BoxView
+leaf_of_legs previous legs = ALeaf (new_leaf leg_feature previous legs)
 
 -- the node is an inner page of the level with less than most entries
 pub record IsRoomy (node : Option (Node LegView BoxView)) (level most : ℕ) : Type 0 where

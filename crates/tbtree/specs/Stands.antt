@@ -26,6 +26,11 @@ abbrev pub owner : {L : Type 0} → (L → ℕ) → List L → ℕ
 owner feature [] = 0
 owner feature (l ∷ ls) = feature l
 
+-- a leaf of legs, with that leaf before it and none after it
+abbrev pub new_leaf : {L : Type 0} → (L → ℕ) → ℕ → List L → LeafView L
+new_leaf feature previous legs =
+    record { feature = owner feature legs; previous = previous; next = 0; legs = legs }
+
 -- page j of level k
 abbrev pub page_at : (ℕ → List ℕ) → ℕ → ℕ → Option ℕ
 page_at pages k j = slice_get (pages k) j

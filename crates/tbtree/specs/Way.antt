@@ -2,7 +2,7 @@
 use Rattle.std.specs.Prelude.{ℕ, suc, ◌≡◌, ◌≢◌, ◌+◌, ◌/◌, ◌%◌, ◌^◌, ◌<◌, ◌≤◌, List, [], ◌∷◌, ◌++◌, set, length, slice_get, Some, Result, None}
 use Rattle.legs.specs.Blocks.{groups}
 use Rattle.tbtree.specs.Faults.{Gives}
-use Rattle.legs.specs.Hull.{Boxes, both, hull_of}
+use Rattle.legs.specs.Hull.{Boxes, both, hull, hull_of}
 use Rattle.tbtree.specs.Nodes.{Pages}
 use Rattle.tbtree.specs.declared.fault.TreeFault.{TreeFault}
 use Rattle.tbtree.specs.declared.tree.Top.{Top}
@@ -44,29 +44,29 @@ module _ {L B : Type 0} (s : Boxes L B) (inner : ℕ) where
       → Gives result (λ p. IsWidened old new after pages K j p)
 
 module _ {L B : Type 0} (s : Boxes L B) (feature : L → ℕ) (inner : ℕ) where
-  -- y begins a leaf, and with it a block of each level up to K. Their pages are count, count + 1 and so on, each the only child of the next. The last is not hung yet, and all else is as it was
-  pub record Hanging (levels root : ℕ) (nodes : Pages L B) (runs : List (List L)) (y : L) (pages : ℕ → List ℕ) (count K : ℕ) : Type 0 where
+  -- ys are a new leaf, and with it a block of each level up to K is new. Their pages are count, count + 1 and so on, each the only child of the next. The last is not hung yet, and all else is as it was
+  pub record Hanging (levels root : ℕ) (nodes : Pages L B) (runs : List (List L)) (ys : List L) (pages : ℕ → List ℕ) (count K : ℕ) : Type 0 where
     pub numbers : NumbersStand inner levels root count runs pages
     pub as_many : nodes.count ≡ count + suc K
     pub held : (p : ℕ) → p < nodes.count → nodes.at p ≢ None
     pub full : length runs % inner ^ K ≡ 0
     pub filled : (i : ℕ) → slice_get runs i ≢ Some []
-    pub leaves : LeavesStand nodes feature (runs ++ (y ∷ []) ∷ []) (pages 0 ++ count ∷ [])
-    pub begun : (k : ℕ) → k < K → InnerStands s nodes (count + suc k) (suc k) ((count + k) ∷ []) (((y ∷ []) ∷ []) ∷ [])
+    pub leaves : LeavesStand nodes feature (runs ++ ys ∷ []) (pages 0 ++ count ∷ [])
+    pub begun : (k : ℕ) → k < K → InnerStands s nodes (count + suc k) (suc k) ((count + k) ∷ []) ((ys ∷ []) ∷ [])
     pub inners : (k : ℕ) → LevelStands s nodes inner runs pages k
 
-  -- the nodes stand for the runs with y in a leaf of its own, whose page is count
-  pub record Hung (levels root : ℕ) (nodes : Pages L B) (runs : List (List L)) (y : L) (leaves : List ℕ) (count : ℕ) : Type 0 where
+  -- the nodes stand for the runs with ys in a leaf of their own, whose page is count
+  pub record Hung (levels root : ℕ) (nodes : Pages L B) (runs : List (List L)) (ys : List L) (leaves : List ℕ) (count : ℕ) : Type 0 where
     pub pages : ℕ → List ℕ
     pub leaves_are : pages 0 ≡ leaves ++ count ∷ []
-    pub tree : TreeStands s feature inner levels root nodes (runs ++ (y ∷ []) ∷ []) pages
+    pub tree : TreeStands s feature inner levels root nodes (runs ++ ys ∷ []) pages
 
   -- the page p of block j of level K is hung
   abbrev pub Hangs : (levels root : ℕ) (old new : Pages L B) (K j p : ℕ) (box : B) (result : Result Top TreeFault) → Type 0
   Hangs levels root old new K j p box result =
-      (runs : List (List L)) (y : L) (pages : ℕ → List ℕ) (count : ℕ)
-      → s.of y ≡ box
+      (runs : List (List L)) (ys : List L) (pages : ℕ → List ℕ) (count : ℕ)
+      → hull s ys ≡ Some box
       → p ≡ count + K
       → j ≡ length runs / inner ^ K
-      → Hanging levels root old runs y pages count K
-      → Gives result (λ top. Hung top.levels top.root new runs y (pages 0) count)
+      → Hanging levels root old runs ys pages count K
+      → Gives result (λ top. Hung top.levels top.root new runs ys (pages 0) count)

@@ -13,22 +13,18 @@ use legs::Leg;
 use pagecache::PageCache;
 use pages::PageStore;
 
-/// How many of `left` legs are put in at once, after so many of their feature in leaves of at most `leaf` legs: what
-/// the last leaf has room for, or one where a leaf is to be made.
+/// How many of `left` legs are put in at once, after so many of their feature in leaves of at most
+/// `leaf` legs: what the last leaf has room for, or what a leaf takes where one is to be made.
 fn fitting(leaf: u16, legs: u64, left: usize) -> usize
     requires leaf { 0 < leaf }
     requires some { 0 < left }
     ensures some { 0 < result }
     ensures most { result ≤ left }
-    ensures there { 1 < result → 0 < legs % leaf }
-    ensures room { 1 < result → legs % leaf + result ≤ leaf }
-    ensures full { 0 < legs % leaf → result < left → legs % leaf + result ≡ leaf }
+    ensures room { legs % leaf + result ≤ leaf }
+    ensures full { result < left → legs % leaf + result ≡ leaf }
 {
-    let filled = legs % u64::from(leaf);
-    if filled == 0 {
-        return 1;
-    }
-    let room = (u64::from(leaf) - filled) as usize;
+    let leaf = u64::from(leaf);
+    let room = (leaf - legs % leaf) as usize;
     if room < left { room } else { left }
 }
 
@@ -48,13 +44,13 @@ fn put_all<S: PageStore>(
     ensures passes { Passes cache.old cache.new }
     ensures length { OnOk result (KeepsLength cache.old cache.new) }
     ensures caused { IfErr result (IsCaused cache.old cache.new) }
-    ensures asked { OnOk result (cache.new.asked ≤ cache.old.asked
-        + (tree.new.leaves - tree.old.leaves + 1) * (3 * tree.new.levels + 2)) }
+    ensures asked { OnOk result (cache.new.asked ≤ cache.old.asked + tree.new.levels
+        + (tree.new.leaves - tree.old.leaves) * (tree.new.levels + 2)) }
     ensures more { OnOk result (tree.old.leaves ≤ tree.new.leaves) }
+    ensures higher { OnOk result (tree.old.levels ≤ tree.new.levels) }
     ensures made { OnOk result ((tree.new.leaves - tree.old.leaves) * tree.old.shape.leaf
         < length legs.now + tree.old.shape.leaf) }
     ensures ends { IsTrue cache.old.store.is_faithful → 0 < length legs.now
-        → 0 < place.old.legs % tree.old.shape.leaf
         → place.old.legs % tree.old.shape.leaf + length legs.now ≤ tree.old.shape.leaf
         → OnOk result (HasAtEnd (pages_of_cache cache.new) legs.now) }
 {
@@ -68,10 +64,10 @@ fn put_all<S: PageStore>(
     Ok(())
 }
 
-/// Puts legs of one feature into the tree, one after another, at the place of the feature: what fills its last leaf, and
-/// then each new leaf. The last leaf, and the pages above it, are looked at and widened once for all the legs that it
-/// takes, and a leaf that is made once for its first leg and once for the others. Any refusal leaves the tree spent, and a
-/// spent tree is refused by `Spent`.
+/// Puts legs of one feature into the tree, one after another, at the place of the feature: what fills
+/// its last leaf, and then each new leaf. The last leaf, and the pages above it, are looked at and
+/// widened once for all the legs that it takes, and so is each leaf that is made, which is added with
+/// all its legs. Any refusal leaves the tree spent, and a spent tree is refused by `Spent`.
 pub fn insert_all<S: PageStore>(
     tree: &mut TbTree,
     cache: &mut PageCache<S>,
@@ -90,17 +86,17 @@ pub fn insert_all<S: PageStore>(
     ensures length { OnOk result (KeepsLength cache.old cache.new) }
     ensures caused { IfErr result (IsCaused cache.old cache.new) }
 
-    // For each leaf that is made, and for one that is there, at most three times the tree's levels, and two, pages are
-    // asked for; and no more leaves are made than fill up, but for the last.
-    ensures asked { OnOk result (cache.new.asked ≤ cache.old.asked
-        + (tree.new.leaves - tree.old.leaves + 1) * (3 * tree.new.levels + 2)) }
+    // For the leaf that is there at most as many pages are asked for as the tree has levels, and for each leaf
+    // that is made two more; and no more leaves are made than fill up, but for the last.
+    ensures asked { OnOk result (cache.new.asked ≤ cache.old.asked + tree.new.levels
+        + (tree.new.leaves - tree.old.leaves) * (tree.new.levels + 2)) }
     ensures more { OnOk result (tree.old.leaves ≤ tree.new.leaves) }
+    ensures higher { OnOk result (tree.old.levels ≤ tree.new.levels) }
     ensures made { OnOk result ((tree.new.leaves - tree.old.leaves) * tree.old.shape.leaf
         < length legs.now + tree.old.shape.leaf) }
 
-    // Over any faithful pages, legs for which the last leaf has room are at the end of a leaf.
+    // Over any faithful pages, legs for which the last leaf has room, or a new one, are at the end of a leaf.
     ensures ends { IsTrue cache.old.store.is_faithful → 0 < length legs.now
-        → 0 < place.old.legs % tree.old.shape.leaf
         → place.old.legs % tree.old.shape.leaf + length legs.now ≤ tree.old.shape.leaf
         → OnOk result (HasAtEnd (pages_of_cache cache.new) legs.now) }
 

@@ -3,12 +3,12 @@ ghost use Rattle.std.specs.Prelude.{ℕ, [], None, length, ◌≢◌, ◌≡◌,
 ghost use Rattle.legs.specs.Costs.{leg_feature};
 ghost use Rattle.legs.specs.Hull.{leg_boxes};
 ghost use Rattle.tbtree.specs.Faults.{IsAllowed, IsCaused};
-ghost use Rattle.tbtree.specs.Nodes.{pages_of_cache, HasLeaf};
+ghost use Rattle.tbtree.specs.Nodes.{pages_of_cache, HasLeaf, KeepsLeaves};
 ghost use Rattle.tbtree.specs.Passes.{Passes, KeepsLength};
 ghost use Rattle.tbtree.specs.Way.{IsOnWay, Hangs};
 ghost use Rattle.tbtree.specs.Insert.{Grows, Begins, Inserts};
 ghost use Rattle.tbtree.specs.Joining.{HasAtEnd, Joins, JoinsAll};
-ghost use Rattle.tbtree.specs.Payloads.{TakesLegs};
+ghost use Rattle.tbtree.specs.Payloads.{TakesLegs, are_of_one_leaf};
 ghost use Rattle.tbtree.specs.Shape.{IsShape};
 ghost use Rattle.tbtree.specs.declared.fault.TreeFault.{TreeFault};
 
@@ -38,6 +38,8 @@ fn way<S: PageStore>(
     ensures way { IsTrue cache.old.store.is_faithful
         → IsOnWay leg_boxes tree.now.shape.inner tree.now.levels tree.now.root
         (pages_of_cache cache.old) (pages_of_cache cache.new) level at bounds.now result }
+    ensures leaves { IsTrue cache.old.store.is_faithful
+        → OnOk result (KeepsLeaves (pages_of_cache cache.old) (pages_of_cache cache.new)) }
     ensures passes { Passes cache.old cache.new }
     ensures length { OnOk result (KeepsLength cache.old cache.new) }
     ensures caused { IfErr result (IsCaused cache.old cache.new) }
@@ -94,10 +96,12 @@ fn root_over<S: PageStore>(
         → Hangs leg_boxes leg_feature tree.now.shape.inner tree.now.levels tree.now.root
         (pages_of_cache cache.old) (pages_of_cache cache.new) level at child.now.child
         child.now.bounds result }
+    ensures leaves { IsTrue cache.old.store.is_faithful
+        → OnOk result (KeepsLeaves (pages_of_cache cache.old) (pages_of_cache cache.new)) }
     ensures passes { Passes cache.old cache.new }
     ensures length { OnOk result (KeepsLength cache.old cache.new) }
     ensures caused { IfErr result (IsCaused cache.old cache.new) }
-    ensures asked { cache.new.asked ≤ cache.old.asked + 3 }
+    ensures asked { cache.new.asked ≤ cache.old.asked + 2 }
     ensures levels { IfOk result (λ top. top.levels ≡ tree.now.levels + 1) }
 {
     let bounds = nodes::cover(cache, tree.root)?;
@@ -127,11 +131,13 @@ fn hang<S: PageStore>(
         → Hangs leg_boxes leg_feature tree.now.shape.inner tree.now.levels tree.now.root
         (pages_of_cache cache.old) (pages_of_cache cache.new) level at child.now.child
         child.now.bounds result }
+    ensures leaves { IsTrue cache.old.store.is_faithful
+        → OnOk result (KeepsLeaves (pages_of_cache cache.old) (pages_of_cache cache.new)) }
     ensures passes { Passes cache.old cache.new }
     ensures length { OnOk result (KeepsLength cache.old cache.new) }
     ensures caused { IfErr result (IsCaused cache.old cache.new) }
-    ensures asked { IfOk result (λ top. cache.new.asked + 2 * level + 1
-        ≤ cache.old.asked + 2 * top.levels) }
+    ensures asked { IfOk result (λ top. cache.new.asked + level
+        ≤ cache.old.asked + top.levels) }
     ensures higher { IfOk result (λ top. tree.now.levels ≤ top.levels) }
 {
     let inner = u32::from(tree.shape.inner());
@@ -185,23 +191,32 @@ fn into_last<S: PageStore>(
     Ok(())
 }
 
-/// Makes a leaf of the leg alone, after the leaf `last`, if there is one.
+/// Makes a leaf of legs, after the leaf `last`, if there is one.
 #[tactic(auto, using(crate::proofs::PassLemmas::passing))]
-fn add_last<S: PageStore>(cache: &mut PageCache<S>, last: u32, leg: &Leg) -> Result<u32, TreeFault>
+fn add_last<S: PageStore>(
+    cache: &mut PageCache<S>,
+    last: u32,
+    legs: &[Leg],
+) -> Result<u32, TreeFault>
+    requires some { 0 < length legs.now }
+    requires few { length legs.now ≤ 50 }
     ensures begins { IsTrue cache.old.store.is_faithful
-        → IfOk result (Begins leg_feature (pages_of_cache cache.old) last leg.now
+        → IfOk result (Begins leg_feature (pages_of_cache cache.old) last legs.now
         (pages_of_cache cache.new)) }
+    ensures ends { IsTrue cache.old.store.is_faithful
+        → OnOk result (HasAtEnd (pages_of_cache cache.new) legs.now) }
     ensures only { IsTrue cache.old.store.is_faithful
-        → (0 < last → HasLeaf (pages_of_cache cache.old) last) → IfErr result IsAllowed }
+        → (0 < last → HasLeaf (pages_of_cache cache.old) last)
+        → are_of_one_leaf legs.now ≡ true → IfErr result IsAllowed }
     ensures passes { Passes cache.old cache.new }
     ensures length { OnOk result (KeepsLength cache.old cache.new) }
     ensures caused { IfErr result (IsCaused cache.old cache.new) }
-    ensures asked { cache.new.asked ≤ cache.old.asked + 3 }
+    ensures asked { cache.new.asked ≤ cache.old.asked + 2 }
 {
     if last == 0 {
-        return nodes::add_leaf(cache, last, leg);
+        return nodes::add_leaf(cache, last, legs);
     }
-    let page = nodes::add_leaf(cache, last, leg)?;
+    let page = nodes::add_leaf(cache, last, legs)?;
     nodes::link(cache, last, page)?;
     Ok(page)
 }
@@ -218,10 +233,12 @@ fn hang_leaf<S: PageStore>(
         → Hangs leg_boxes leg_feature tree.now.shape.inner tree.now.levels tree.now.root
         (pages_of_cache cache.old) (pages_of_cache cache.new) 0 tree.now.leaves
         page.now.child page.now.bounds result }
+    ensures leaves { IsTrue cache.old.store.is_faithful
+        → OnOk result (KeepsLeaves (pages_of_cache cache.old) (pages_of_cache cache.new)) }
     ensures passes { Passes cache.old cache.new }
     ensures length { OnOk result (KeepsLength cache.old cache.new) }
     ensures caused { IfErr result (IsCaused cache.old cache.new) }
-    ensures asked { IfOk result (λ top. cache.new.asked + 1 ≤ cache.old.asked + 2 * top.levels) }
+    ensures asked { IfOk result (λ top. cache.new.asked ≤ cache.old.asked + top.levels) }
     ensures higher { IfOk result (λ top. tree.now.levels ≤ top.levels) }
 {
     if tree.levels == 0 {
@@ -233,35 +250,39 @@ fn hang_leaf<S: PageStore>(
     hang(cache, tree, tree.leaves, 0, page)
 }
 
-/// Puts a leg into a leaf of its own.
+/// Puts legs into a leaf of their own.
 #[tactic(auto, using(crate::proofs::PassLemmas::passing))]
 fn begin<S: PageStore>(
     tree: &mut TbTree,
     cache: &mut PageCache<S>,
     place: &mut Place,
-    leg: &Leg,
+    legs: &[Leg],
 ) -> Result<(), TreeFault>
     requires shape { IsShape tree.old.shape }
+    requires some { 0 < length legs.now }
     requires full { place.old.legs % tree.old.shape.leaf ≡ 0 }
-    requires few_legs { place.old.legs < 2 ^ 64 - 1 }
+    requires room { length legs.now ≤ tree.old.shape.leaf }
+    requires few_legs { place.old.legs + length legs.now < 2 ^ 64 }
     requires few_leaves { tree.old.leaves < 2 ^ 32 - 1 }
     requires few_levels { tree.old.levels < 2 ^ 16 - 1 }
     ensures inserts { IsTrue cache.old.store.is_faithful
-        → Joins (pages_of_cache cache.old) (pages_of_cache cache.new) tree.old tree.new
-        place.old place.new leg.now result }
+        → JoinsAll (pages_of_cache cache.old) (pages_of_cache cache.new) tree.old tree.new
+        place.old place.new legs.now result }
+    ensures ends { IsTrue cache.old.store.is_faithful
+        → OnOk result (HasAtEnd (pages_of_cache cache.new) legs.now) }
     ensures spent { tree.new.spent ≡ tree.old.spent }
     ensures shape { tree.new.shape ≡ tree.old.shape }
     ensures passes { Passes cache.old cache.new }
     ensures length { OnOk result (KeepsLength cache.old cache.new) }
     ensures caused { IfErr result (IsCaused cache.old cache.new) }
     ensures asked { OnOk result (cache.new.asked
-        ≤ cache.old.asked + (2 * tree.new.levels + 2)) }
+        ≤ cache.old.asked + (tree.new.levels + 2)) }
     ensures higher { OnOk result (tree.old.levels ≤ tree.new.levels) }
     ensures leaves { OnOk result (tree.new.leaves ≡ tree.old.leaves + 1) }
-    ensures legs { OnOk result (place.new.legs ≡ place.old.legs + 1) }
+    ensures legs { OnOk result (place.new.legs ≡ place.old.legs + length legs.now) }
 {
-    let page = add_last(cache, place.last, leg)?;
-    let bounds = Box3::of(leg);
+    let page = add_last(cache, place.last, legs)?;
+    let bounds = cover_of_legs(legs);
     let leaf = Entry {
         child: page,
         bounds,
@@ -272,7 +293,7 @@ fn begin<S: PageStore>(
         first,
         last: page,
         last_index: tree.leaves,
-        legs: place.legs + 1,
+        legs: place.legs + legs.len() as u64,
     };
     tree.root = top.root;
     tree.levels = top.levels;
@@ -280,7 +301,7 @@ fn begin<S: PageStore>(
     Ok(())
 }
 
-/// Puts legs into their feature's last leaf, which has room for them, or one leg into a new one.
+/// Puts legs into their feature's last leaf, which has room for them, or into a new one.
 pub(crate) fn put<S: PageStore>(
     tree: &mut TbTree,
     cache: &mut PageCache<S>,
@@ -288,7 +309,6 @@ pub(crate) fn put<S: PageStore>(
     legs: &[Leg],
 ) -> Result<(), TreeFault>
     requires some { 0 < length legs.now }
-    requires there { 1 < length legs.now → 0 < place.old.legs % tree.old.shape.leaf }
     requires room { 1 < length legs.now → place.old.legs % tree.old.shape.leaf + length legs.now
         ≤ tree.old.shape.leaf }
     ensures inserts { IsTrue cache.old.store.is_faithful
@@ -304,14 +324,13 @@ pub(crate) fn put<S: PageStore>(
     ensures higher { OnOk result (tree.old.levels ≤ tree.new.levels) }
     ensures legs { OnOk result (place.new.legs ≡ place.old.legs + length legs.now) }
     ensures ends { IsTrue cache.old.store.is_faithful
-        → 0 < place.old.legs % tree.old.shape.leaf
         → OnOk result (HasAtEnd (pages_of_cache cache.new) legs.now) }
     ensures begun { place.old.legs % tree.old.shape.leaf ≡ 0
         → OnOk result (tree.new.leaves ≡ tree.old.leaves + 1) }
     ensures grown { 0 < place.old.legs % tree.old.shape.leaf
         → OnOk result (tree.new.leaves ≡ tree.old.leaves) }
     ensures begun_asked { place.old.legs % tree.old.shape.leaf ≡ 0
-        → OnOk result (cache.new.asked ≤ cache.old.asked + (2 * tree.new.levels + 2)) }
+        → OnOk result (cache.new.asked ≤ cache.old.asked + (tree.new.levels + 2)) }
     ensures grown_asked { 0 < place.old.legs % tree.old.shape.leaf
         → OnOk result (cache.new.asked ≤ cache.old.asked + tree.old.levels) }
 {
@@ -320,7 +339,7 @@ pub(crate) fn put<S: PageStore>(
         return Err(TreeFault::Malformed(tree.root));
     }
     if place.legs % leaf == 0 {
-        return begin(tree, cache, place, &legs[0]);
+        return begin(tree, cache, place, legs);
     }
     if tree.levels == 0 {
         return Err(TreeFault::Malformed(place.last));

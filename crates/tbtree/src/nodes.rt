@@ -1,17 +1,17 @@
 //! The pages of a tree in a cache: each call here changes one page, adds one, or reads one.
-ghost use Rattle.std.specs.Prelude.{◌≡◌, ◌+◌, ◌≤◌, ◌<◌, [], ◌∷◌, OnOk, IfOk, IfErr, IsTrue};
+ghost use Rattle.std.specs.Prelude.{◌≡◌, ◌+◌, ◌≤◌, ◌<◌, [], ◌∷◌, OnOk, IfOk, IfErr, IsTrue, None, length, true};
 ghost use Rattle.legs.specs.Hull.{leg_boxes};
-ghost use Rattle.tbnode.specs.Edits.{new_leaf, new_inner};
+ghost use Rattle.tbnode.specs.Edits.{new_inner};
 ghost use Rattle.tbtree.specs.Faults.{IsAllowed, IsCaused};
 ghost use Rattle.tbtree.specs.Nodes.{pages_of_cache, AnInner, Adds, Attaches, Covers, HasCover, HasEntry, HasLeaf, HasLeafRoom, HasRoom, Links, Pushes, Widens};
 ghost use Rattle.tbtree.specs.Passes.{Passes, KeepsLength};
-ghost use Rattle.tbtree.specs.Payloads.{TakesLegs};
+ghost use Rattle.tbtree.specs.Payloads.{TakesLegs, are_of_one_leaf, leaf_of_legs};
 
 use crate::fault::TreeFault;
-use crate::payloads::{child_of, cover_of, has_room, is_leaf, push_legs, takes};
+use crate::payloads::{child_of, cover_of, has_room, is_leaf, leaf_of_legs, push_legs, takes};
 use legs::{Box3, Leg};
 use pagecache::PageCache;
-use pages::{Kind, PageStore};
+use pages::{Kind, PageStore, Payload};
 use tbnode::Entry;
 
 /// Widens an entry of an inner page of that level, and gives its child.
@@ -141,23 +141,28 @@ pub(crate) fn attach<S: PageStore>(
     Ok(())
 }
 
-/// Adds a leaf of one leg.
+/// Adds a leaf of legs, which are of one feature and whose ordinals rise.
 pub(crate) fn add_leaf<S: PageStore>(
     cache: &mut PageCache<S>,
     previous: u32,
-    leg: &Leg,
+    legs: &[Leg],
 ) -> Result<u32, TreeFault>
+    requires some { 0 < length legs.now }
+    requires few { length legs.now ≤ 50 }
     ensures adds { IsTrue cache.old.store.is_faithful
-        → IfOk result (Adds (pages_of_cache cache.old) (new_leaf previous leg.now)
+        → IfOk result (Adds (pages_of_cache cache.old) (leaf_of_legs previous legs.now)
         (pages_of_cache cache.new)) }
-    ensures only { IsTrue cache.old.store.is_faithful → IfErr result IsAllowed }
+    ensures only { IsTrue cache.old.store.is_faithful
+        → are_of_one_leaf legs.now ≡ true → IfErr result IsAllowed }
     ensures passes { Passes cache.old cache.new }
     ensures length { OnOk result (KeepsLength cache.old cache.new) }
     ensures caused { IfErr result (IsCaused cache.old cache.new) }
-    ensures asked { cache.new.asked ≤ cache.old.asked + 2 }
+    ensures asked { cache.new.asked ≤ cache.old.asked + 1 }
 {
-    let page = cache.add_page(Kind::Leaf)?;
-    tbnode::init_leaf(cache.page_mut(page)?, previous, leg);
+    let Some(payload) = leaf_of_legs(previous, legs) else {
+        return Err(TreeFault::Malformed(previous));
+    };
+    let page = cache.add(payload)?;
     Ok(page)
 }
 
@@ -171,14 +176,16 @@ pub(crate) fn add_inner<S: PageStore>(
     ensures adds { IsTrue cache.old.store.is_faithful
         → IfOk result (Adds (pages_of_cache cache.old) (new_inner level entry.now)
         (pages_of_cache cache.new)) }
+    ensures fresh { (pages_of_cache cache.old).at cache.old.count ≡ None }
     ensures only { IsTrue cache.old.store.is_faithful → IfErr result IsAllowed }
     ensures passes { Passes cache.old cache.new }
     ensures length { OnOk result (KeepsLength cache.old cache.new) }
     ensures caused { IfErr result (IsCaused cache.old cache.new) }
-    ensures asked { cache.new.asked ≤ cache.old.asked + 2 }
+    ensures asked { cache.new.asked ≤ cache.old.asked + 1 }
 {
-    let page = cache.add_page(Kind::Inner)?;
-    tbnode::init_inner(cache.page_mut(page)?, level, entry);
+    let mut payload = Payload::zero(Kind::Inner);
+    tbnode::init_inner(&mut payload, level, entry);
+    let page = cache.add(payload)?;
     Ok(page)
 }
 
@@ -194,16 +201,17 @@ pub(crate) fn add_root<S: PageStore>(
         → IfOk result (Adds (pages_of_cache cache.old)
         (AnInner (record { level = level; entries = first.now ∷ second.now ∷ [] }))
         (pages_of_cache cache.new)) }
+    ensures fresh { (pages_of_cache cache.old).at cache.old.count ≡ None }
     ensures only { IsTrue cache.old.store.is_faithful → IfErr result IsAllowed }
     ensures passes { Passes cache.old cache.new }
     ensures length { OnOk result (KeepsLength cache.old cache.new) }
     ensures caused { IfErr result (IsCaused cache.old cache.new) }
-    ensures asked { cache.new.asked ≤ cache.old.asked + 2 }
+    ensures asked { cache.new.asked ≤ cache.old.asked + 1 }
 {
-    let page = cache.add_page(Kind::Inner)?;
-    let payload = cache.page_mut(page)?;
-    tbnode::init_inner(payload, level, first);
-    tbnode::push_entry(payload, second);
+    let mut payload = Payload::zero(Kind::Inner);
+    tbnode::init_inner(&mut payload, level, first);
+    tbnode::push_entry(&mut payload, second);
+    let page = cache.add(payload)?;
     Ok(page)
 }
 

@@ -1,13 +1,13 @@
 //! What a payload is as a page of a tree.
-ghost use Rattle.std.specs.Prelude.{◌≡◌, ◌<◌, ◌≤◌, ◌↔◌, IfSome, IsTrue, None, Some, length, option_map};
+ghost use Rattle.std.specs.Prelude.{◌≡◌, ◌<◌, ◌≤◌, ◌↔◌, IfSome, IsTrue, false, None, Some, length, option_map};
 ghost use Rattle.legs.specs.Hull.{hull, leg_boxes};
 ghost use Rattle.tbnode.specs.Form.{node_of};
 ghost use Rattle.tbnode.specs.Nodes.{as_leaf};
 ghost use Rattle.tbtree.specs.Nodes.{boxes, cover_all, cover_of_page};
-ghost use Rattle.tbtree.specs.Payloads.{IsEntry, HasNoEntry, IsLeafNode, Takes, TakesLegs, IsRoomy, cover_of_node, goes_on, leaf_with_legs};
+ghost use Rattle.tbtree.specs.Payloads.{IsEntry, HasNoEntry, IsLeafNode, Takes, TakesLegs, IsRoomy, are_of_one_leaf, cover_of_node, goes_on, leaf_of_legs, leaf_with_legs};
 
 use legs::{Box3, Leg};
-use pages::Payload;
+use pages::{Kind, Payload};
 use tbnode::{Inner, Leaf};
 
 /// The child of entry `entry` of a payload that is an inner page of that level.
@@ -64,6 +64,26 @@ pub(crate) fn push_legs(payload: &mut Payload, legs: &[Leg])
     for leg in legs {
         tbnode::push_leg(payload, leg);
     }
+}
+
+/// The payload of a leaf of legs, with that leaf before it and none after it; `None` where the legs are of two features, or
+/// their ordinals do not rise.
+pub(crate) fn leaf_of_legs(previous: u32, legs: &[Leg]) -> Option<Payload>
+    requires some { 0 < length legs.now }
+    requires few { length legs.now ≤ 50 }
+    ensures some { IfSome result
+        (λ payload. node_of payload ≡ Some (leaf_of_legs previous legs.now)) }
+    ensures none { result ≡ None → are_of_one_leaf legs.now ≡ false }
+{
+    let first = &legs[0];
+    let others = &legs[1..];
+    if !goes_on(first.feature, first.ordinal, others) {
+        return None;
+    }
+    let mut payload = Payload::zero(Kind::Leaf);
+    tbnode::init_leaf(&mut payload, previous, first);
+    push_legs(&mut payload, others);
+    Some(payload)
 }
 
 /// Whether a payload is a leaf.

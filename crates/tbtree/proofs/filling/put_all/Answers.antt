@@ -22,8 +22,9 @@ leaves-init g c =
       shape = refl;
       passes = passes_refl cache;
       length_kept = λ e. e;
+      higher = omega arith;
       start = λ e. refl;
-      ends = λ fa above there room. absurd (omega (arith, above));
+      ends = λ fa above room. absurd (omega (arith, above));
       filled = filled_start tree.shape.leaf (length c.args.legs.now) cache tree c.args.place.now (omega (arith, least));
     }
 
@@ -50,8 +51,8 @@ leaves-preserved g c =
     let same : c.leaves.place.legs % c.leaves.tree.shape.leaf ≡ filled = ap (λ m. c.leaves.place.legs % m) is in
     let own : c.leaf-leaf.result ≡ leaf = c.leaf-leaf.ensures.value in
     let fits = c.fitting-many.ensures in
-    let full : 0 < filled → n + k < length legs → filled + k ≡ leaf = λ above left.
-    (let f = fits.full (subst (λ m. 0 < c.leaves.place.legs % m) (sym own) above) (omega (arith, left)) in subst (λ m. c.leaves.place.legs % m + k ≡ m) own f) in
+    let full : n + k < length legs → filled + k ≡ leaf = λ left.
+    subst (λ m. c.leaves.place.legs % m + k ≡ m) own (fits.full (omega (arith, left))) in
     record {
       within = (let most = fits.most in let within = so_far.within in omega (arith, most, within));
       joins = λ fa. part_joins (pages_of_cache old) (pages_of_cache now) (pages_of_cache new) c.args.tree.now c.leaves.tree c.put.new.tree c.args.place.now c.leaves.place c.put.new.place
@@ -60,26 +61,27 @@ leaves-preserved g c =
       shape = put.shape ∙ so_far.shape;
       passes = passes_trans old now new so_far.passes put.passes;
       length_kept = λ e. put.length (so_far.length_kept e);
+      higher = (let was = so_far.higher in let now = put.higher in omega (arith, was, now));
       start = λ e. absurd (let some = fits.some in omega (arith, e, some));
-      ends = λ fa above there room. ⊎_elim
+      ends = λ fa above room. ⊎_elim
           (λ (z : n ≡ 0).
           let first : c.leaves.place.legs ≡ c.args.place.now.legs = ap (λ (p : Place). p.legs) (so_far.start z) in
           let own_filled : filled ≡ c.args.place.now.legs % leaf = ap (λ m. m % leaf) first in
           let all : k ≡ length legs = ⊎_elim
-          (λ (l : n + k < length legs). absurd (let f = full (omega (arith, own_filled, there)) l in omega (arith, f, own_filled, room, l, z)))
+          (λ (l : n + k < length legs). absurd (let f = full l in omega (arith, f, own_filled, room, l, z)))
           (λ (l : length legs ≤ n + k). let most = fits.most in omega (arith, l, most, z))
           (cases_lt (n + k) (length legs)) in
-          (omega (arith, z, all), ends_all (pages_of_cache new) legs n k z all (put.ends (still _ _ so_far.passes.store.faithful fa) (omega (arith, same, own_filled, there)))))
-          (λ (u : n ≢ 0). absurd (let e = (so_far.ends fa (omega (arith, u)) there room).0 in let l = c.leaves-test.true in omega (arith, e, l)))
+          (omega (arith, z, all), ends_all (pages_of_cache new) legs n k z all (put.ends (still _ _ so_far.passes.store.faithful fa))))
+          (λ (u : n ≢ 0). absurd (let e = (so_far.ends fa (omega (arith, u)) room).0 in let l = c.leaves-test.true in omega (arith, e, l)))
           (cases_eq n 0);
       filled = filled_part leaf n k (length legs) old now new c.args.tree.now c.leaves.tree c.put.new.tree c.leaves.place c.put.new.place
-          (let least = c.leaf-leaf.ensures.range.least_leaf in omega (arith, least)) so_far.filled c.leaves-test.true put.higher (put.legs ∙ ap (λ m. c.leaves.place.legs + m) (length_part legs n k (let most = fits.most in let within = so_far.within in omega (arith, most, within))))
-          fits.some (λ many. subst (λ m. 0 < c.leaves.place.legs % m) own (fits.there many)) (λ many. subst (λ m. c.leaves.place.legs % m + k ≤ m) own (fits.room many)) full
+          fits.some so_far.filled c.leaves-test.true put.higher (put.legs ∙ ap (λ m. c.leaves.place.legs + m) (length_part legs n k (let most = fits.most in let within = so_far.within in omega (arith, most, within))))
+          (subst (λ m. c.leaves.place.legs % m + k ≤ m) own fits.room) full
           (λ z. put.begun (same ∙ z)) (λ z. put.begun_asked (same ∙ z)) (λ above. put.grown (omega (arith, same, above))) (λ above. put.grown_asked (omega (arith, same, above)));
     }
 
 pub returns-clause-ends : goal.returns-clause-ends
-returns-clause-ends g c = λ fa some there room.
+returns-clause-ends g c = λ fa some room.
     let so_far = c.leaves.invariant in
     let over = c.leaves-test.false in
-    (so_far.ends fa (omega (arith, over, some)) there room).1
+    (so_far.ends fa (omega (arith, over, some)) room).1

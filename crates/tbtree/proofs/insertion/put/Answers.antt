@@ -1,10 +1,9 @@
-use Rattle.std.proofs.Common.{◌≡◌, ◌∙◌, ◌<◌, ◌≤◌, ◌-◌, ◌%◌, ◌^◌, ap, arith, length, slice_get, Some, sym, ⊎_elim}
+use Rattle.std.proofs.Common.{◌≡◌, ◌∙◌, ◌<◌, ◌≤◌, ◌-◌, ◌%◌, ◌^◌, arith, length, ⊎_elim}
 use Rattle.std.proofs.lemmas.Bool.{cases_lt}
 use Rattle.std.proofs.lemmas.Nat.{mod_below}
-use Rattle.std.proofs.lemmas.Option.{slice_get-get_or}
 use Rattle.tbtree.specs.declared.fault.TreeFault.TheVariants.{Malformed}
 use Rattle.tbtree.specs.Nodes.{pages_of_cache}
-use Rattle.tbtree.proofs.InsertLemmas.{all_of_one, few_enough}
+use Rattle.tbtree.proofs.InsertLemmas.{few_enough}
 use Rattle.tbtree.proofs.insertion.put.Goals as goal
 use Rattle.tbtree.proofs.insertion.put.Goals.{then-tree-count-via-then-tree-count, then-tree-count-via-else-tree-count+then-tree-ge-MOST_LEVELS, then-tree-count-via-else-tree-count+else-tree-ge-MOST_LEVELS+then-place-leaf}
 
@@ -22,20 +21,15 @@ returns-then-tree-count-clause-inserts g c = λ fa.
       | then-tree-count-via-else-tree-count+else-tree-ge-MOST_LEVELS+then-place-leaf w ↦ (let e = w.if-place-leaf.true in omega (arith, d, e, leaf, most))
     ])
 
-pub returns-then-place-leaf-eq0-clause-inserts : goal.returns-then-place-leaf-eq0-clause-inserts
-returns-then-place-leaf-eq0-clause-inserts g c = λ fa.
-    let tree = c.args.tree.now in
-    let place = c.args.place.now in
+pub begin-requires-clause-room : goal.begin-requires-clause-room
+begin-requires-clause-room g c =
+    let n = c.args.tree.now.shape.leaf in
     let legs = c.args.legs.now in
-    let leg = c.index-legs-0.result in
-    let leaf : c.from-leaf.result ≡ tree.shape.leaf = c.from-leaf.ensures ∙ c.leaf.ensures.value in
-    let full : place.legs % tree.shape.leaf ≡ 0 = ap (λ n. place.legs % n) (sym leaf) ∙ c.if-place-leaf-eq0.true in
-    let one : length legs ≡ 1 = ⊎_elim
-    (λ (more : 1 < length legs). absurd (let there = c.requires.there more in omega (arith, there, full)))
-    (λ (few : length legs ≤ 1). let some = c.requires.some in omega (arith, few, some))
-    (cases_lt 1 (length legs)) in
-    let here : slice_get legs 0 ≡ Some leg = slice_get-get_or legs 0 leg c.requires.some ∙ ap (λ l. Some l) (sym c.index-legs-0.is) in
-    all_of_one (pages_of_cache c.args.cache.now) (pages_of_cache c.begin.new.cache) tree c.begin.new.tree place c.begin.new.place legs leg c.begin.result one here (c.begin.ensures.inserts fa)
+    let least = c.leaf.ensures.range.least_leaf in
+    ⊎_elim
+    (λ (more : 1 < length legs). let room = c.requires.room more in omega (arith, room))
+    (λ (few : length legs ≤ 1). omega (arith, few, least))
+    (cases_lt 1 (length legs))
 
 pub into_last-requires-clause-room : goal.into_last-requires-clause-room
 into_last-requires-clause-room g c =

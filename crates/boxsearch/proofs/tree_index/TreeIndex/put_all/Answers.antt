@@ -24,6 +24,9 @@ returns-then-is_ok g c =
       count = c.insert_all-result.ensures.length;
       few = let a = c.if-prove.false in let b = c.count.ensures.value in omega (arith, a, b);
       caused = c.insert_all-result.ensures.caused;
+      asked = c.insert_all-result.ensures.asked;
+      more = c.insert_all-result.ensures.more;
+      higher = c.insert_all-result.ensures.higher;
       works = c.insert_all-result.ensures.works;
       spent = c.insert_all-result.ensures.spent;
       counted = let l : new.legs ≡ min (c.self.inside.legs + length c.args.legs.now) (2 ^ 64 - 1) = c.saturating_add-self-inside.ensures in on_any c.insert_all-result.result l;
@@ -48,6 +51,9 @@ returns-else-is_ok g c =
       count = c.insert_all-result.ensures.length;
       few = let a = c.if-prove.false in let b = c.count.ensures.value in omega (arith, a, b);
       caused = c.insert_all-result.ensures.caused;
+      asked = c.insert_all-result.ensures.asked;
+      more = c.insert_all-result.ensures.more;
+      higher = c.insert_all-result.ensures.higher;
       works = c.insert_all-result.ensures.works;
       spent = c.insert_all-result.ensures.spent;
       counted = on_none _ c.insert_all-result.result (sym c.is_ok.ensures.value ∙ c.if-is_ok.false);

@@ -2,7 +2,7 @@ use Rattle.std.proofs.Common.{◌≡◌, subst, None, arith}
 use Rattle.pagecache.specs.Cache.{payload_of}
 use Rattle.pagecache.specs.Slots.{seen_of}
 use Rattle.pagecache.proofs.CacheLemmas.{payload_of-above}
-use Rattle.pagecache.proofs.cache.PageCache.add_page.Goals as goal
+use Rattle.pagecache.proofs.cache.PageCache.add.Goals as goal
 
 pub returns-clause-none_before : goal.returns-clause-none_before
 returns-clause-none_before g c =
