@@ -15,6 +15,8 @@ use Rattle.legs.specs.Index.{feature_count, last_end, is_of}
 use Rattle.legs.specs.Book.{Book, leg_at, record_legs, records_legs, with_record, with_records, with_file, has_fault, faults_of, record_faults, head_faults, file_faults, first_or, joined}
 use Rattle.legs.specs.Tracks.{TracksView, IsLawful, StandsFor}
 use Rattle.legs.specs.Counting.{names_after, Extends, AddsNames, counted}
+use Rattle.legs.specs.Joining.{IsJoinedBy, JoinedView}
+use Rattle.legs.specs.Names.{fresh_names, names_and}
 use Rattle.legs.specs.declared.tracks.Track.{Track}
 use Rattle.legs.specs.declared.joining.JoinCode.{JoinCode}
 use Rattle.legs.specs.declared.joining.JoinCode.TheVariants.{F18, F19, F20}
@@ -187,18 +189,18 @@ last_of None h = absurd (h refl)
 last_of (Some e) h = (e, refl)
 
 -- the tracks stand for the book with the file
-pub accepted : (limits : LimitsView) (book : Book) (file : File) (legs : List LegView) (old mid new : TracksView) → IsLimits limits → StandsFor old book → joined limits book file ≡ Ok legs → AddsNames old mid file.records
+pub accepted : (limits : LimitsView) (book : Book) (file : File) (legs : List LegView) (old mid new : TracksView) → IsLimits limits → StandsFor old book → joined limits book file ≡ Ok legs → All IsRecord file.records → Extends old mid → mid.names ≡ names_after book.names file.records
     → length mid.tracks ≡ length mid.names → mid.rows ≤ mid.legs → new.names ≡ mid.names → new.tracks ≡ fold counted mid.tracks legs → new.legs ≡ min (mid.legs + length legs) (2 ^ 64 - 1) → new.rows ≡ min (min (mid.rows + length file.records) (2 ^ 64 - 1)) new.legs
     → StandsFor new (with_file book file)
-accepted limits book file legs old mid new is stands ok adds paired few names tracks all rows =
+accepted limits book file legs old mid new is stands ok valid extends adds paired few names tracks all rows =
     let found = joined_is limits book file legs ok in
-    let got = accepted_records limits is file.records book adds.lawful stands.lawful found.0 in
+    let got = accepted_records limits is file.records book valid stands.lawful found.0 in
     let legs_now : (with_records book file.records).legs ≡ book.legs ++ legs = got.legs ∙ ap (λ (ls : List LegView). book.legs ++ ls) found.1 in
     let count : length (with_records book file.records).legs ≡ length book.legs + length legs = ap length legs_now ∙ length-append book.legs legs in
-    let same : new.names ≡ (with_records book file.records).names = names ∙ adds.names ∙ ap (λ ns. names_after ns file.records) stands.names ∙ sym got.names in
+    let same : new.names ≡ (with_records book file.records).names = names ∙ adds ∙ sym got.names in
     let long : length new.tracks ≡ length new.names = ap length tracks ∙ length-counted mid.tracks legs ∙ paired ∙ ap length (sym names) in
     let enough : length file.records ≤ length legs = rw found.1 at got.enough in
-    let so_far : AreSoFar (fold counted mid.tracks legs) (book.legs ++ legs) = so_far_all mid.tracks book.legs legs (rw legs_now at got.lawful.few_legs) (so_far_start old mid book stands adds.extends) in
+    let so_far : AreSoFar (fold counted mid.tracks legs) (book.legs ++ legs) = so_far_all mid.tracks book.legs legs (rw legs_now at got.lawful.few_legs) (so_far_start old mid book stands extends) in
     let same_count = ap length same in
     record {
       names = same;
@@ -211,7 +213,12 @@ accepted limits book file legs old mid new is stands ok adds paired few names tr
             end = end.1 ∙ ap Some (track.end end.0 (ap (last_end f) (sym legs_now) ∙ end.1));
             count = ap (count_by (is_of f)) legs_now ∙ track.count;
           });
-      legs = omega (arith, all, count, stands.legs, adds.extends.legs, got.lawful.few_legs);
-      rows = omega (arith, all, rows, count, stands.legs, stands.rows, adds.extends.legs, adds.extends.rows, got.lawful.few_legs, got.rows, enough, few);
+      legs = omega (arith, all, count, stands.legs, extends.legs, got.lawful.few_legs);
+      rows = omega (arith, all, rows, count, stands.legs, stands.rows, extends.legs, extends.rows, got.lawful.few_legs, got.rows, enough, few);
       lawful = record { numbered = got.lawful.numbered; led = got.lawful.led; rows = got.lawful.rows; few_legs = got.lawful.few_legs; few_names = got.lawful.few_names };
     }
+
+-- the names that a joined file adds
+pub names_taken : (limits : LimitsView) (book : Book) (file : File) (by : JoinedView) (old mid : TracksView) → StandsFor old book → IsJoinedBy limits book file by → AddsNames old mid (fresh_names (length old.names) by.names.names by.names.latest)
+    → mid.names ≡ names_after book.names file.records
+names_taken limits book file by old mid stands is adds = adds.names ∙ ap (λ names. names_and names (fresh_names (length names) by.names.names by.names.latest)) stands.names ∙ is.fresh

@@ -5,11 +5,11 @@ use Rattle.std.specs.String.{string_bytes, string_eq}
 use Rattle.std.specs.List.{list_any}
 use Rattle.std.proofs.lemmas.Grind.{fold-append}
 use Rattle.std.proofs.lemmas.List.{append-nil, length_push, map_push, take_at}
-use Rattle.std.proofs.lemmas.List.Elements.{All-nil, All-append, All-push}
-use Rattle.mfcsv.specs.Views.{RecordView, IsRecord}
+use Rattle.std.proofs.lemmas.List.Elements.{All-nil, All-append}
 use Rattle.legs.specs.Book.{names_with}
 use Rattle.legs.specs.Tracks.{TracksView}
-use Rattle.legs.specs.Counting.{names_after, Extends, AddsNames}
+use Rattle.legs.specs.Counting.{Extends, AddsNames}
+use Rattle.legs.specs.Names.{names_and}
 use Rattle.legs.specs.declared.tracks.Track.{Track}
 use Rattle.legs.proofs.NameLemmas.{cases_bool}
 
@@ -42,17 +42,16 @@ extends_self t = record {
 }
 
 pub adds_none : (t : TracksView) → AddsNames t t []
-adds_none t = record { lawful = All-nil IsRecord; extends = extends_self t; names = refl }
+adds_none t = record { extends = extends_self t; names = refl }
 
 -- one name, with a track or without
-pub adds_one : (t t' : TracksView) (r : RecordView) → IsRecord r → (name : List ℕ) (fresh : List Track) → name ≡ r.mfidref → t'.names ≡ names_with t.names name
-    → t'.tracks ≡ t.tracks ++ fresh → All (λ track. track.legs ≡ 0) fresh → t'.legs ≡ t.legs → t'.rows ≡ t.rows → AddsNames t t' (r ∷ [])
-adds_one t t' r is name fresh named names tracks none legs rows =
+pub adds_one : (t t' : TracksView) (name : List ℕ) (fresh : List Track) → t'.names ≡ names_with t.names name
+    → t'.tracks ≡ t.tracks ++ fresh → All (λ track. track.legs ≡ 0) fresh → t'.legs ≡ t.legs → t'.rows ≡ t.rows → AddsNames t t' (name ∷ [])
+adds_one t t' name fresh names tracks none legs rows =
     let more = names_with-more t.names name in
     record {
-      lawful = All-push IsRecord [] r (All-nil IsRecord) is;
       extends = record { more_names = (more.0, names ∙ more.1); more_tracks = (fresh, tracks, none); legs = legs; rows = rows };
-      names = names ∙ ap (names_with t.names) named;
+      names = names;
     }
 
 pub extends_trans : (a b c : TracksView) → Extends a b → Extends b c → Extends a c
@@ -70,11 +69,10 @@ extends_trans a b c p q = record {
   rows = q.rows ∙ p.rows;
 }
 
-pub adds_append : (a b c : TracksView) (xs ys : List RecordView) → AddsNames a b xs → AddsNames b c ys → AddsNames a c (xs ++ ys)
+pub adds_append : (a b c : TracksView) (xs ys : List (List ℕ)) → AddsNames a b xs → AddsNames b c ys → AddsNames a c (xs ++ ys)
 adds_append a b c xs ys p q = record {
-  lawful = All-append IsRecord xs ys p.lawful q.lawful;
   extends = extends_trans a b c p.extends q.extends;
-  names = q.names ∙ ap (λ ns. names_after ns ys) p.names ∙ sym (fold-append (λ ns (r : RecordView). names_with ns r.mfidref) a.names xs ys);
+  names = q.names ∙ ap (λ ns. names_and ns ys) p.names ∙ sym (fold-append names_with a.names xs ys);
 }
 
 abbrev view : List (List ℕ) → List Track → ℕ → ℕ → TracksView

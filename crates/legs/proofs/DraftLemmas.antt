@@ -1,19 +1,19 @@
 -- Drafts of a book.
-use Rattle.std.proofs.Common.{ℕ, ◌+◌, ◌-◌, ◌^◌, ◌<◌, ◌≤◌, ◌≡◌, ◌∙◌, ap, sym, refl, List, [], ◌∷◌, ◌++◌, length, map, min, Bool, true, false, cond, arith, inl, inr, Option, Some, None, ℤ, pos}
+use Rattle.std.proofs.Common.{ℕ, ◌+◌, ◌-◌, ◌^◌, ◌<◌, ◌≤◌, ◌≡◌, ◌∙◌, ap, sym, refl, List, [], ◌∷◌, ◌++◌, length, map, min, Bool, true, false, cond, arith, inl, inr, Option, Some, None, ℤ, pos, get_or, nat_le}
 use Rattle.std.specs.Prelude.{bytes_eq, slice_get, filter, not, is_some}
 use Rattle.std.specs.Option.{option_map, option_and_then, option_or}
 use Rattle.std.proofs.lemmas.Bool.Decides.{nat_tests}
 use Rattle.std.proofs.lemmas.Option.{slice_get-get_or}
-use Rattle.std.proofs.lemmas.List.{length-append, length_push}
+use Rattle.std.proofs.lemmas.List.{append-nil, length-append, length_push}
 use mir.Val.{bool_byte}
-use Rattle.indexmap.specs.IndexMap.{get_by}
 use Rattle.std.proofs.lemmas.List.FromFn.{length-map-range_with_len}
 use Rattle.mfcsv.specs.Views.{RecordView, IsRecord, leg_count}
 use Rattle.std.specs.List.{range_with_len}
 use Rattle.legs.specs.Legs.{leg_of, step_at}
 use Rattle.legs.specs.Limits.{LimitsView, IsLimits, most}
 use Rattle.legs.specs.Index.{last_end}
-use Rattle.legs.specs.Book.{Book, feature_of, number_of, leg_at, record_legs, with_record, is_before, has_fault, faults_of}
+use Rattle.legs.specs.Book.{Book, feature_of, names_with, number_of, leg_at, record_legs, with_record, is_before, has_fault, faults_of}
+use Rattle.legs.specs.Names.{NamesView, fresh_names, met, names_and, with_latest}
 use Rattle.legs.specs.Tracks.{TracksView, IsLawful, StandsFor}
 use Rattle.legs.specs.Drafts.{latest_of, latest_in, known, IsDraft}
 use Rattle.legs.specs.Latest.{new_count, feature_or_next}
@@ -22,16 +22,18 @@ use Rattle.legs.specs.declared.draft.Latest.{Latest}
 use Rattle.legs.specs.declared.draft.Draft.{Draft}
 use Rattle.legs.specs.declared.joining.JoinCode.{JoinCode}
 use Rattle.legs.specs.declared.joining.JoinCode.TheVariants.{F18, F19, F20}
+use Rattle.legs.proofs.MetLemmas.{placed, with_latest-names, with_latest-paired, met_more, fresh-set, fresh-push, and_more, and-longer}
 use Rattle.legs.proofs.NameLemmas.{cases_bool, feature_of-known, feature_of-new, known_or_new, names_with-known, names_with-new}
 use Rattle.legs.proofs.RecordLemmas.{latest_of-with_record, lawful_more, with_record-names, with_record-legs, with_record-rows, known_cases, name_end-latest}
 
-pub known-first : (d : Draft) (name : List ℕ) (last : Latest) → get_by (λ key. bytes_eq name key.now) d.latest ≡ Some last → known d name ≡ Some last
+pub known-first : (d : Draft) (name : List ℕ) (i : ℕ) (last : Latest) → Some i ≡ feature_of d.names.names name → slice_get d.names.latest i ≡ Some last → known d name ≡ Some last
 unfolding known
-known-first d name last e = ap (λ o. option_or o (latest_in d.tracks.now name)) e
+known-first d name i last e f =
+    ap (λ o. option_or (option_and_then (slice_get d.names.latest) o) (latest_in d.tracks.now name)) (sym e) ∙ ap (λ o. option_or o (latest_in d.tracks.now name)) f
 
-pub known-next : (d : Draft) (name : List ℕ) → get_by (λ key. bytes_eq name key.now) d.latest ≡ None → known d name ≡ latest_in d.tracks.now name
+pub known-next : (d : Draft) (name : List ℕ) → None ≡ feature_of d.names.names name → known d name ≡ latest_in d.tracks.now name
 unfolding known
-known-next d name e = ap (λ o. option_or o (latest_in d.tracks.now name)) e
+known-next d name e = ap (λ o. option_or (option_and_then (slice_get d.names.latest) o) (latest_in d.tracks.now name)) (sym e)
 
 -- the tracks of a book know of its names what the book says
 pub latest_in-book : (t : TracksView) (b : Book) → StandsFor t b → (name : List ℕ) → latest_in t name ≡ latest_of b name
@@ -54,31 +56,92 @@ latest_in-book t b stands name =
     ]
 
 -- a draft before the first record
-pub draft_start : (d : Draft) (b : Book) → d.latest.entries ≡ [] → d.features ≡ length d.tracks.now.names → d.legs ≡ d.tracks.now.legs → d.rows ≡ d.tracks.now.rows → StandsFor d.tracks.now b → IsDraft d b
+pub draft_start : (d : Draft) (b : Book) → d.names ≡ record { names = []; latest = [] } → d.features ≡ length d.tracks.now.names → d.legs ≡ d.tracks.now.legs → d.rows ≡ d.tracks.now.rows → StandsFor d.tracks.now b → IsDraft d b
 draft_start d b none features legs rows stands = record {
   known = λ name. known-next d name (rw none refl) ∙ latest_in-book d.tracks.now b stands name;
   features = features ∙ ap length stands.names;
   legs = legs ∙ stands.legs;
   rows = rows ∙ stands.rows;
   few_names = rw stands.names (omega (arith, stands.lawful.few_names));
+  paired = rw none refl;
+  fresh = rw none stands.names;
   lawful = stands.lawful;
 }
 
 -- a draft with one record more
 pub known_more : (d d' : Draft) (name : List ℕ) (last : Latest) → d'.tracks.now ≡ d.tracks.now
-    → ((other : List ℕ) → get_by (λ key. bytes_eq other key.now) d'.latest ≡ cond (bytes_eq name other) (Some last) (get_by (λ key. bytes_eq other key.now) d.latest))
+    → ((other : List ℕ) → met d'.names other ≡ cond (bytes_eq name other) (Some last) (met d.names other))
     → (other : List ℕ) → known d' other ≡ cond (bytes_eq name other) (Some last) (known d other)
 unfolding known
 known_more d d' name last same found other =
-    ap (λ (t : TracksView). option_or (get_by (λ key. bytes_eq other key.now) d'.latest) (latest_in t other)) same
+    ap (λ (t : TracksView). option_or (met d'.names other) (latest_in t other)) same
     ∙ ap (λ o. option_or o (latest_in d.tracks.now other)) (found other)
     ∙ elim (cases_bool (bytes_eq name other)) [ inl e ↦ rw e refl | inr e ↦ rw e refl ]
 
+-- the latest that is known of a name, by its place
+known_at : (d : Draft) (name : List ℕ) (i : ℕ) → length d.names.latest ≡ length d.names.names → Some i ≡ feature_of d.names.names name → (was : Latest) × (slice_get d.names.latest i ≡ Some was) × (known d name ≡ Some was)
+known_at d name i paired e =
+    let p = placed d.names.names name i e in
+    let d0 : Latest = record { feature = 0; end = pos 0 } in
+    let at = slice_get-get_or d.names.latest i d0 (omega arith) in
+    (get_or d.names.latest i d0, at, known-first d name i (get_or d.names.latest i d0) e at)
+
+in_tracks : (t : TracksView) (name : List ℕ) (last : Latest) → latest_in t name ≡ Some last → last.feature < length t.names
+in_tracks t name last e =
+    elim (known_or_new t.names name) [
+      | inl there ↦
+          let n : ℕ = number_of t.names name in
+          let found : option_map (λ (track : Track). record { feature = n; end = track.end }) (slice_get t.tracks n) ≡ Some last =
+          sym (ap (option_and_then (λ feature. option_map (λ track. record { feature = feature; end = track.end }) (slice_get t.tracks feature))) (feature_of-known t.names name there)) ∙ e in
+          let is : last.feature ≡ n = by n (slice_get t.tracks n) found in
+          omega arith
+      | inr new ↦
+          absurd (let none : None ≡ Some last = sym (ap (option_and_then (λ feature. option_map (λ track. record { feature = feature; end = track.end }) (slice_get t.tracks feature))) (feature_of-new t.names name (omega arith))) ∙ e in (cc))
+    ]
+  where
+    by : (n : ℕ) (o : Option Track) → option_map (λ (track : Track). record { feature = n; end = track.end }) o ≡ Some last → last.feature ≡ n
+    by n None f = absurd (cc)
+    by n (Some track) f = ap (λ (x : Latest). x.feature) (let s : last ≡ record { feature = n; end = track.end } = cc in s)
+
+-- the names of a book with a record of a name that is known
+kept_names : (b : Book) (name : List ℕ) (was : Latest) → IsLawful b → latest_of b name ≡ Some was → names_with b.names name ≡ b.names
+kept_names b name was lawful e =
+    elim (known_cases b name lawful) [
+      | inl known ↦ names_with-known b.names name known.1.number
+      | inr new ↦ absurd (let s : None ≡ Some was = sym new.latest ∙ e in (cc))
+    ]
+
+-- the names that the tracks lack, with a record more
+pub fresh_more : (place : Option ℕ) (d : Draft) (b : Book) (name : List ℕ) (o : Option Latest) (feature : ℕ) (end : ℤ) → IsDraft d b → place ≡ feature_of d.names.names name → o ≡ latest_of b name → feature ≡ feature_or_next o d.features
+    → names_and d.tracks.now.names (fresh_names (length d.tracks.now.names) (with_latest place d.names name (record { feature = feature; end = end })).names (with_latest place d.names name (record { feature = feature; end = end })).latest)
+    ≡ names_with b.names name
+fresh_more (Some i) d b name o feature end draft at latest number =
+    let was = known_at d name i draft.paired at in
+    let known : latest_of b name ≡ Some was.0 = sym (draft.known name) ∙ was.2 in
+    let same : was.0.feature ≡ feature = sym (number ∙ ap (λ l. feature_or_next l d.features) (latest ∙ known)) in
+    ap (names_and d.tracks.now.names) (fresh-set (length d.tracks.now.names) d.names.names d.names.latest i (record { feature = feature; end = end }) was.0 was.1 same) ∙ draft.fresh ∙ sym (kept_names b name was.0 draft.lawful known)
+fresh_more None d b name None feature end draft at latest number =
+    let base : ℕ = length d.tracks.now.names in
+    let longer = and-longer d.tracks.now.names (fresh_names base d.names.names d.names.latest) in
+    let all = ap length draft.fresh in
+    let past : nat_le base feature ≡ true = let h : base ≤ feature = omega (arith, number, draft.features, all, longer) in grind (arith, nat_tests) in
+    ap (names_and d.tracks.now.names) (fresh-push base d.names.names d.names.latest name (record { feature = feature; end = end }) draft.paired ∙ ap (λ t. fresh_names base d.names.names d.names.latest ++ cond t (name ∷ []) []) past)
+    ∙ and_more d.tracks.now.names (fresh_names base d.names.names d.names.latest) name ∙ ap (λ ns. names_with ns name) draft.fresh
+fresh_more None d b name (Some was) feature end draft at latest number =
+    let base : ℕ = length d.tracks.now.names in
+    let found : latest_in d.tracks.now name ≡ Some was = sym (known-next d name at) ∙ draft.known name ∙ sym latest in
+    let small = in_tracks d.tracks.now name was found in
+    let below : nat_le base feature ≡ false = let h : feature < base = omega (arith, number, small) in grind (arith, nat_tests) in
+    ap (names_and d.tracks.now.names)
+    (fresh-push base d.names.names d.names.latest name (record { feature = feature; end = end }) draft.paired ∙ ap (λ t. fresh_names base d.names.names d.names.latest ++ cond t (name ∷ []) []) below ∙ append-nil (fresh_names base d.names.names d.names.latest))
+    ∙ draft.fresh ∙ sym (kept_names b name was draft.lawful (sym latest))
+
 pub draft_more : (d d' : Draft) (b : Book) (r : RecordView) (last : Latest) → IsRecord r → IsDraft d b → d'.tracks.now ≡ d.tracks.now
-    → ((other : List ℕ) → get_by (λ key. bytes_eq other key.now) d'.latest ≡ cond (bytes_eq r.mfidref other) (Some last) (get_by (λ key. bytes_eq other key.now) d.latest))
+    → ((other : List ℕ) → met d'.names other ≡ cond (bytes_eq r.mfidref other) (Some last) (met d.names other)) → length d'.names.latest ≡ length d'.names.names
+    → names_and d.tracks.now.names (fresh_names (length d.tracks.now.names) d'.names.names d'.names.latest) ≡ names_with b.names r.mfidref
     → last ≡ record { feature = number_of b.names r.mfidref; end = r.t1 } → d'.features ≡ length (with_record b r).names → d'.legs ≡ length (with_record b r).legs → d'.rows ≡ d.rows + 1
     → length (with_record b r).legs ≤ most → length (with_record b r).names ≤ most → IsDraft d' (with_record b r)
-draft_more d d' b r last is draft same found latest features legs rows few_legs few_names = record {
+draft_more d d' b r last is draft same found paired fresh latest features legs rows few_legs few_names = record {
   known = λ name.
       known_more d d' r.mfidref last same found name ∙ ap (λ o. cond (bytes_eq r.mfidref name) (Some last) o) (draft.known name)
       ∙ ap (λ l. cond (bytes_eq r.mfidref name) (Some l) (latest_of b name)) latest ∙ sym (latest_of-with_record b r is name);
@@ -86,6 +149,8 @@ draft_more d d' b r last is draft same found latest features legs rows few_legs 
   legs = legs;
   rows = rows ∙ (let e : d.rows + 1 ≡ length (b.rows ++ r.attributes ∷ []) = omega (arith, draft.rows, length_push b.rows r.attributes) in e) ∙ ap length (sym (with_record-rows b r));
   few_names = rw same draft.few_names;
+  paired = paired;
+  fresh = ap (λ (t : TracksView). names_and t.names (fresh_names (length t.names) d'.names.names d'.names.latest)) same ∙ fresh ∙ sym (with_record-names b r);
   lawful = lawful_more b r is draft.lawful few_legs few_names;
 }
 
@@ -174,19 +239,28 @@ number_found d b name latest draft e =
     ]
 
 -- a draft after the code has added a record
-pub added : (d d' : Draft) (b : Book) (r : RecordView) (name : List ℕ) (o : Option Latest) (feature : ℕ) (end : ℤ) (new count : ℕ) → IsRecord r → IsDraft d b → o ≡ latest_of b r.mfidref
-    → d'.tracks.now ≡ d.tracks.now → name ≡ r.mfidref
-    → ((other : List ℕ) → get_by (λ key. bytes_eq other key.now) d'.latest ≡ cond (bytes_eq name other) (Some (record { feature = feature; end = end })) (get_by (λ key. bytes_eq other key.now) d.latest))
+pub added : (d d' : Draft) (b : Book) (r : RecordView) (name : List ℕ) (place : Option ℕ) (o : Option Latest) (feature : ℕ) (end : ℤ) (new count : ℕ) → IsRecord r → IsDraft d b → o ≡ latest_of b r.mfidref
+    → d'.tracks.now ≡ d.tracks.now → name ≡ r.mfidref → place ≡ feature_of d.names.names r.mfidref → d'.names ≡ with_latest place d.names name (record { feature = feature; end = end })
     → feature ≡ feature_or_next o d.features → end ≡ r.t1 → new ≡ new_count o → count ≡ leg_count (length r.positions)
     → d'.features ≡ d.features + new → d'.legs ≡ d.legs + count → d'.rows ≡ d.rows + 1
     → d.legs + leg_count (length r.positions) ≤ most → d.features + new_count o ≤ most → IsDraft d' (with_record b r)
-added d d' b r name o feature end new count is draft latest same named found number ends news counts features legs rows few_legs few_features =
+added d d' b r name place o feature end new count is draft latest same named at put number ends news counts features legs rows few_legs few_features =
     let names : length (with_record b r).names ≡ length b.names + new_count o = names_more b r draft.lawful ∙ ap (λ l. length b.names + new_count l) (sym latest) in
     let all = count_more b r in
-    draft_more d d' b r (record { feature = feature; end = end }) is draft same (rw named at found)
+    let last : Latest = record { feature = feature; end = end } in
+    let now : d'.names ≡ with_latest place d.names r.mfidref last = put ∙ ap (λ n. with_latest place d.names n last) named in
+    let found : (other : List ℕ) → met d'.names other ≡ cond (bytes_eq r.mfidref other) (Some last) (met d.names other) = λ other. ap (λ (v : NamesView). met v other) now ∙ met_more place d.names r.mfidref last at draft.paired other in
+    let paired : length d'.names.latest ≡ length d'.names.names = rw now (with_latest-paired place d.names r.mfidref last draft.paired) in
+    let fresh : names_and d.tracks.now.names (fresh_names (length d.tracks.now.names) d'.names.names d'.names.latest) ≡ names_with b.names r.mfidref =
+    ap (λ (v : NamesView). names_and d.tracks.now.names (fresh_names (length d.tracks.now.names) v.names v.latest)) now ∙ fresh_more place d b r.mfidref o feature end draft at latest number in
+    draft_more d d' b r last is draft same found paired fresh
     (ap (λ f. record { feature = f; end = end }) (number ∙ number_found d b r.mfidref o draft latest) ∙ ap (λ e. record { feature = number_of b.names r.mfidref; end = e }) ends)
     (omega (arith, features, news, names, draft.features)) (omega (arith, legs, counts, all, draft.legs)) rows
     (omega (arith, all, draft.legs, few_legs)) (omega (arith, names, draft.features, few_features))
+
+-- the names of the file then
+pub names_put : (v v' : NamesView) (place : Option ℕ) (name given : List ℕ) (last : Latest) → v' ≡ with_latest place v given last → given ≡ name → place ≡ feature_of v.names name → v'.names ≡ names_with v.names name
+names_put v v' place name given last put named at = ap (λ (x : NamesView). x.names) (put ∙ ap (λ n. with_latest place v n last) named) ∙ with_latest-names place v name last at
 
 -- the legs that the code appends for a record
 pub appended : (d : Draft) (b : Book) (r : RecordView) (o : Option Latest) (feature : ℕ) → IsDraft d b → o ≡ latest_of b r.mfidref → feature ≡ feature_or_next o d.features

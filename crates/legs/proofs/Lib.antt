@@ -2,6 +2,7 @@ pub mod BoxLemmas
 pub mod CutLemmas
 pub mod PlaceLemmas
 pub mod NameLemmas
+pub mod MetLemmas
 pub mod RecordLemmas
 pub mod DraftLemmas
 pub mod JoinLemmas

@@ -70,6 +70,10 @@ abbrev pub head_with : Option BookHead → Head → Option BookHead
 head_with (Some first) head = Some first
 head_with None head = Some (kept_head head)
 
+-- the file of that head and those records
+abbrev pub file_of : Head → List RecordView → File
+file_of head records = record { head = head; records = records }
+
 -- the book with a file more
 abbrev pub with_file : Book → File → Book
 with_file book file = record (with_records book file.records) { head = head_with book.head file.head }

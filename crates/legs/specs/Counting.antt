@@ -1,8 +1,9 @@
 -- Helpers of private functions: how tracks take in a file, step by step.
 use Rattle.std.specs.Prelude.{ℕ, ◌≡◌, ◌+◌, ◌-◌, ◌^◌, min, List, ◌++◌, fold, All, slice_set, slice_index_or}
-use Rattle.mfcsv.specs.Views.{RecordView, IsRecord}
+use Rattle.mfcsv.specs.Views.{RecordView}
 use Rattle.legs.specs.Legs.{LegView}
 use Rattle.legs.specs.Book.{names_with}
+use Rattle.legs.specs.Names.{names_and}
 use Rattle.legs.specs.Tracks.{TracksView}
 use Rattle.legs.specs.declared.tracks.Track.{Track}
 
@@ -17,11 +18,10 @@ pub record Extends (old new : TracksView) : Type 0 where
   pub legs : new.legs ≡ old.legs
   pub rows : new.rows ≡ old.rows
 
--- the names of records were added, where they were not there yet
-pub record AddsNames (old new : TracksView) (records : List RecordView) : Type 0 where
-  pub lawful : All IsRecord records
+-- names were added, where they were not there yet
+pub record AddsNames (old new : TracksView) (added : List (List ℕ)) : Type 0 where
   pub extends : Extends old new
-  pub names : new.names ≡ names_after old.names records
+  pub names : new.names ≡ names_and old.names added
 
 -- a leg was counted in the track of its feature
 abbrev pub counted : List Track → LegView → List Track

@@ -1,9 +1,9 @@
 -- Helpers of private functions: a draft of a book: what is known of each name.
-use Rattle.std.specs.Prelude.{ℕ, ◌≡◌, ◌≤◌, ◌^◌, List, length, slice_get, Option, bytes_eq}
+use Rattle.std.specs.Prelude.{ℕ, ◌≡◌, ◌≤◌, ◌^◌, List, length, slice_get, Option}
 use Rattle.std.specs.Option.{option_and_then, option_map, option_or}
-use Rattle.indexmap.specs.IndexMap.{get_by}
 use Rattle.legs.specs.Index.{last_end}
 use Rattle.legs.specs.Book.{Book, feature_of}
+use Rattle.legs.specs.Names.{met, names_and, fresh_names}
 use Rattle.legs.specs.Tracks.{TracksView, IsLawful}
 use Rattle.legs.specs.declared.draft.Latest.{Latest}
 use Rattle.legs.specs.declared.draft.Draft.{Draft}
@@ -18,7 +18,7 @@ latest_in tracks name = option_and_then (λ feature. option_map (λ track. recor
 
 -- what a draft knows of a name: by a record of the file, or else by the tracks
 unfoldable pub known : Draft → List ℕ → Option Latest
-known draft name = option_or (get_by (λ key. bytes_eq name key.now) draft.latest) (latest_in draft.tracks.now name)
+known draft name = option_or (met draft.names name) (latest_in draft.tracks.now name)
 
 -- the draft is that of a lawful book
 pub record IsDraft (draft : Draft) (book : Book) : Type 0 where
@@ -27,4 +27,8 @@ pub record IsDraft (draft : Draft) (book : Book) : Type 0 where
   pub legs : draft.legs ≡ length book.legs
   pub rows : draft.rows ≡ length book.rows
   pub few_names : length draft.tracks.now.names ≤ 2 ^ 32
+  pub paired : length draft.names.latest ≡ length draft.names.names
+  -- the names of the features that the tracks lack are those that the file adds
+  pub fresh : names_and draft.tracks.now.names
+      (fresh_names (length draft.tracks.now.names) draft.names.names draft.names.latest) ≡ book.names
   pub lawful : IsLawful book

@@ -10,10 +10,12 @@ pub mod Asking
 pub mod Law
 pub mod Limits
 pub mod Book
+pub mod Names
 pub mod Tracks
 pub mod Places
 pub mod Counting
 pub mod FirstFault
 pub mod Latest
 pub mod Drafts
+pub mod Joining
 pub mod CodeText

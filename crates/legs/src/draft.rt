@@ -12,11 +12,10 @@ use crate::cutting::{leg_count, step_at};
 use crate::joining::{JoinCode, JoinFault};
 use crate::leg::Leg;
 use crate::limits::Limits;
+use crate::names::Names;
 use crate::tracks::Tracks;
-use indexmap::IndexMap;
 use mfcsv::Record;
 use std::alloc::{AllocError, Global};
-use std::hash::RandomState;
 use timebase::Ms;
 
 /// The number of a feature, and the end of its last leg.
@@ -26,15 +25,15 @@ pub(crate) struct Latest {
     pub(crate) end: Ms,
 }
 
-/// What is known of a book on the way: the tracks before the file, the latest of each name that the file's
+/// What is known of a book on the way: the tracks before the file, the names that the file's
 /// records so far have, and how many features, legs and rows there are.
 #[derive(Drop)]
 pub(crate) struct Draft<'a> {
-    tracks: &'a Tracks,
-    latest: IndexMap<&'a str, Latest, RandomState>,
-    features: u64,
-    legs: u64,
-    rows: u64,
+    pub(crate) tracks: &'a Tracks,
+    pub(crate) names: Names,
+    pub(crate) features: u64,
+    pub(crate) legs: u64,
+    pub(crate) rows: u64,
 }
 
 fn refused(code: JoinCode, record: &Record) -> JoinFault
@@ -87,10 +86,10 @@ fn push_legs(
 }
 
 impl<'a> Draft<'a> {
-    ghost use Rattle.std.specs.Prelude.{◌≡◌, ◌≤◌, ◌+◌, ◌^◌, ◌++◌, [], length, OnOk, IfErr, IfNone};
+    ghost use Rattle.std.specs.Prelude.{◌≡◌, ◌≤◌, ◌+◌, ◌^◌, ◌++◌, [], ◌<◌, length, OnOk, IfErr, IfNone, IfSome};
     ghost use Rattle.mfcsv.specs.Views.{IsRecord};
     ghost use Rattle.legs.specs.Limits.{most};
-    ghost use Rattle.legs.specs.Book.{Book, record_legs, with_record, faults_of};
+    ghost use Rattle.legs.specs.Book.{Book, feature_of, names_with, record_legs, with_record, faults_of};
     ghost use Rattle.legs.specs.Tracks.{StandsFor};
     ghost use Rattle.legs.specs.FirstFault.{IsFirstOf, first_code};
     ghost use Rattle.legs.specs.Drafts.{IsDraft, known, latest_of};
@@ -98,23 +97,27 @@ impl<'a> Draft<'a> {
     /// A book before a file's first record.
     pub(crate) fn new(alloc: Global, tracks: &'a Tracks) -> Draft<'a>
         ensures book { (book : Book) → StandsFor tracks.now book → IsDraft result book }
+        ensures names { result.names.names ≡ [] }
+        ensures tracks { result.tracks.now ≡ tracks.now }
         ensures few { result.rows ≤ result.legs }
     {
         Draft {
             tracks,
-            latest: IndexMap::with_hasher(alloc, tracks.keys()),
+            names: Names::new(alloc, tracks.keys()),
             features: tracks.feature_count(),
             legs: tracks.leg_count(),
             rows: tracks.row_count(),
         }
     }
 
-    /// What is known of a name.
-    fn latest(&self, name: &str) -> Option<Latest>
-        ensures { length self.now.tracks.now.names ≤ 2 ^ 32 → result ≡ known self.now name.now }
+    /// What is known of a name that has that place among those of the file, or none.
+    fn latest(&self, place: Option<usize>, name: &str) -> Option<Latest>
+        requires { IfSome place (λ place. place < length self.now.names.latest) }
+        ensures { place ≡ feature_of self.now.names.names name.now
+            → length self.now.tracks.now.names ≤ 2 ^ 32 → result ≡ known self.now name.now }
     {
-        match self.latest.get(name) {
-            Some(latest) => Some(*latest),
+        match place {
+            Some(place) => Some(self.names.latest(place)),
             None => {
                 let feature = self.tracks.feature(name)?;
                 let end = self.tracks.track(feature)?.end;
@@ -146,13 +149,16 @@ impl<'a> Draft<'a> {
         None
     }
 
-    /// Adds a record without a fault, of whose name `latest` is known.
+    /// Adds a record without a fault, of whose name the place in the file and `latest` are known.
     fn add(
         &mut self,
-        record: &'a Record,
+        record: &Record,
+        place: Option<usize>,
         latest: Option<Latest>,
         legs: &mut Vec<Leg>,
     ) -> Result<(), AllocError>
+        requires place { place ≡ feature_of self.old.names.names «record».now.mfidref }
+        requires within { IfSome place (λ place. place < length self.old.names.latest) }
         requires few_rows { self.old.rows ≤ self.old.legs }
         requires few_legs { self.old.legs + leg_count (length «record».now.positions) ≤ most }
         requires few_features { self.old.features + new_count latest ≤ most }
@@ -162,7 +168,10 @@ impl<'a> Draft<'a> {
         ensures legs { OnOk result ((book : Book) → IsDraft self.old book
             → latest ≡ latest_of book «record».now.mfidref
             → legs.new.items ≡ legs.old.items ++ record_legs book «record».now) }
-        ensures few_rows { OnOk result (self.new.rows ≤ self.new.legs) }
+        ensures names { OnOk result (self.new.names.names
+            ≡ names_with self.old.names.names «record».now.mfidref) }
+        ensures tracks { self.new.tracks ≡ self.old.tracks }
+        ensures few_rows { self.new.rows ≤ self.new.legs }
     {
         let feature = feature_or_next(latest, self.features);
         push_legs(legs, record, self.legs, feature, self.rows as u32)?;
@@ -170,10 +179,7 @@ impl<'a> Draft<'a> {
             feature,
             end: record.t1,
         };
-        match self.latest.insert(record.mfidref.as_str(), last) {
-            Ok(_) => {}
-            Err(_) => return Err(AllocError),
-        }
+        self.names.put(place, record.mfidref.as_str(), last)?;
         self.features += u64::from(latest.is_none());
         self.legs += leg_count(record) as u64;
         self.rows += 1;
@@ -184,7 +190,7 @@ impl<'a> Draft<'a> {
     pub(crate) fn join(
         &mut self,
         limits: &Limits,
-        record: &'a Record,
+        record: &Record,
         legs: &mut Vec<Leg>,
     ) -> Result<(), JoinFault>
         requires { self.old.rows ≤ self.old.legs }
@@ -194,15 +200,19 @@ impl<'a> Draft<'a> {
             → IsDraft self.new (with_record book «record».now)) }
         ensures legs { OnOk result ((book : Book) → IsDraft self.old book
             → legs.new.items ≡ legs.old.items ++ record_legs book «record».now) }
+        ensures names { OnOk result (self.new.names.names
+            ≡ names_with self.old.names.names «record».now.mfidref) }
+        ensures tracks { self.new.tracks ≡ self.old.tracks }
         ensures record { IsRecord «record».now }
-        ensures few_rows { OnOk result (self.new.rows ≤ self.new.legs) }
+        ensures few_rows { self.new.rows ≤ self.new.legs }
         ensures refused { IfErr result (λ fault. (book : Book) → IsDraft self.old book
             → IsFirstOf fault (faults_of limits.now book «record».now) «record».now.number) }
     {
-        let latest = self.latest(record.mfidref.as_str());
+        let place = self.names.find(record.mfidref.as_str());
+        let latest = self.latest(place, record.mfidref.as_str());
         match self.fault(limits, record, latest) {
             Some(code) => Err(refused(code, record)),
-            None => Ok(self.add(record, latest, legs)?),
+            None => Ok(self.add(record, place, latest, legs)?),
         }
     }
 }

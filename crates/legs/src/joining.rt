@@ -5,11 +5,11 @@ ghost use Rattle.std.specs.Option.{option_copied};
 ghost use Rattle.legs.specs.Index.{CanFollowInTurn};
 ghost use Rattle.legs.specs.Book.{Book, joined, IsRefusal, with_file, same_column, same_columns, same_dimension, same_space, head_faults};
 ghost use Rattle.legs.specs.Tracks.{StandsFor};
+ghost use Rattle.legs.specs.Joining.{IsJoinedBy};
 ghost use Rattle.legs.specs.FirstFault.{IsFirst};
 
-use crate::draft::Draft;
 use crate::head::BookHead;
-use crate::leg::Leg;
+use crate::joiner::{FileJoiner, Joined};
 use crate::limits::Limits;
 use crate::tracks::Tracks;
 use mfcsv::{Column, Dimension, File, Head};
@@ -136,7 +136,7 @@ fn same_pairs(first: &[Column], second: &[Column]) -> bool
 }
 
 /// Compares a file's head with the head of the first accepted file.
-fn check_head(first: Option<&BookHead>, head: &Head) -> Result<(), JoinFault>
+pub(crate) fn check_head(first: Option<&BookHead>, head: &Head) -> Result<(), JoinFault>
     ensures ok { OnOk result (head_faults (option_copied first.entry) head.now ≡ []) }
     ensures refused { IfErr result (λ fault. IsFirst fault (head_faults
         (option_copied first.entry) head.now)) }
@@ -159,28 +159,32 @@ fn check_head(first: Option<&BookHead>, head: &Head) -> Result<(), JoinFault>
     Ok(())
 }
 
-/// Joins a file whose text has no fault to a book: the legs that it adds, with their numbers, or the first
-/// joining fault. `head` is what the book keeps of the head of the first accepted file, if there is one.
+/// Joins a file whose text has no fault to a book: what it adds, its legs with their numbers among
+/// it, or the first joining fault. `head` is what the book keeps of the head of the first accepted
+/// file, if there is one.
 ///
-/// A file is refused where its CRS or its dimension (`F9`, at its `@stboundedby` record) or its columns (`F10`, at its `@columns`
-/// record) are not those of the first accepted file, and then at its first record that starts before its
-/// feature's last leg ends (`F18`), or with which there are more legs (`F19`) or features (`F20`) than the
-/// limits allow.
+/// A file is refused where its CRS or its dimension (`F9`, at its `@stboundedby` record) or its
+/// columns (`F10`, at its `@columns` record) are not those of the first accepted file, and then at
+/// its first record that starts before its feature's last leg ends (`F18`), or with which there are
+/// more legs (`F19`) or features (`F20`) than the limits allow.
 pub fn join(
     alloc: Global,
     head: Option<&BookHead>,
     tracks: &Tracks,
     limits: &Limits,
     file: &File,
-) -> Result<Vec<Leg>, JoinFault>
-    // The legs, for the book that the tracks stand for.
-    ensures legs { IfOk result (λ legs. (book : Book) → StandsFor tracks.now book
+) -> Result<Joined, JoinFault>
+    // What it adds, for the book that the tracks stand for.
+    ensures joined { IfOk result (λ by. (book : Book) → StandsFor tracks.now book
         → book.head ≡ option_copied head.entry
-        → joined limits.now book file.now ≡ Ok legs.items) }
-    ensures follow { IfOk result (λ legs. (book : Book) → StandsFor tracks.now book
-        → CanFollowInTurn book.legs legs.items) }
-    ensures book_legs { IfOk result (λ legs. (book : Book) → StandsFor tracks.now book
-        → (with_file book file.now).legs ≡ book.legs ++ legs.items) }
+        → IsJoinedBy limits.now book file.now by) }
+    ensures legs { IfOk result (λ by. (book : Book) → StandsFor tracks.now book
+        → book.head ≡ option_copied head.entry
+        → joined limits.now book file.now ≡ Ok by.legs) }
+    ensures follow { IfOk result (λ by. (book : Book) → StandsFor tracks.now book
+        → CanFollowInTurn book.legs by.legs) }
+    ensures book_legs { IfOk result (λ by. (book : Book) → StandsFor tracks.now book
+        → (with_file book file.now).legs ≡ book.legs ++ by.legs) }
     ensures book_rows { OnOk result ((book : Book)
         → (with_file book file.now).rows ≡ book.rows ++ map (λ r. r.attributes) file.now.records) }
 
@@ -189,12 +193,10 @@ pub fn join(
         → book.head ≡ option_copied head.entry
         → IsRefusal fault (joined limits.now book file.now)) }
 {
-    check_head(head, &file.head)?;
     let records = file.records.as_slice();
-    let mut draft = Draft::new(alloc, tracks);
-    let mut legs = Vec::new(alloc);
+    let mut joiner = FileJoiner::new(alloc, tracks, limits);
     for record in records {
-        draft.join(limits, record, &mut legs)?;
+        joiner.join(record)?;
     }
-    Ok(legs)
+    joiner.finish(head, &file.head)
 }

@@ -4,9 +4,11 @@ ghost use Rattle.std.specs.String.{string_bytes};
 ghost use Rattle.legs.specs.Book.{names_with};
 ghost use Rattle.legs.specs.Counting.{counted};
 
+use crate::draft::Latest;
+use crate::joiner::Joined;
 use crate::leg::Leg;
+use crate::names::Names;
 use indexmap::IndexSet;
-use mfcsv::{File, Record};
 use std::alloc::{AllocError, Global};
 use std::hash::RandomState;
 use std::marker::Model;
@@ -19,8 +21,8 @@ pub struct Track {
     pub legs: u64,
 }
 
-/// The names of a book's features in order of first acceptance, each with its track; the number of all legs,
-/// and of all rows of attribute values (one row for each record).
+/// The names of a book's features in order of first acceptance, each with its track; the number of
+/// all legs, and of all rows of attribute values (one row for each record).
 #[derive(Drop)]
 pub struct Tracks {
     alloc: Global,
@@ -82,7 +84,10 @@ impl Tracks {
     ghost use Rattle.std.specs.String.{string_bytes};
     ghost use Rattle.std.specs.Option.{option_copied, option_map};
     ghost use Rattle.legs.specs.Limits.{LimitsView, IsLimits};
-    ghost use Rattle.legs.specs.Book.{Book, empty_book, feature_of, joined, with_file, names_with};
+    ghost use Rattle.mfcsv.specs.declared.File.{File};
+    ghost use Rattle.legs.specs.Book.{Book, empty_book, feature_of, with_file};
+    ghost use Rattle.legs.specs.Joining.{IsJoinedBy};
+    ghost use Rattle.legs.specs.Names.{fresh_names};
     ghost use Rattle.legs.specs.Tracks.{IsOver, StandsFor};
     ghost use Rattle.legs.specs.Law.{IsBook};
     ghost use Rattle.legs.specs.Legs.{IsLeg};
@@ -90,8 +95,8 @@ impl Tracks {
     ghost use Rattle.legs.specs.Counting.{AddsNames, Extends};
     ghost use Rattle.mfcsv.specs.FileText.{HasWholeRows};
 
-    /// The tracks of a book without legs. Names are hashed with the keys, which a stranger who chooses the names
-    /// of a file is not to know.
+    /// The tracks of a book without legs. Names are hashed with the keys, which a stranger who
+    /// chooses the names of a file is not to know.
     pub fn new(alloc: Global, keys: RandomState) -> Result<Tracks, AllocError>
         ensures empty { IfOk result (λ tracks. StandsFor tracks empty_book) }
         ensures none { IfOk result (λ tracks. tracks ≡ record {
@@ -164,8 +169,8 @@ impl Tracks {
         self.tracks.get(feature as usize).copied()
     }
 
-    /// Whether the last leg of the feature of that number ends before a period, so that none of its legs has a
-    /// moment in it.
+    /// Whether the last leg of the feature of that number ends before a period, so that none of its
+    /// legs has a moment in it.
     pub fn is_over(&self, feature: u32, period: &Period) -> bool
         ensures exact { IsTrue result ↔ IsOver self.now feature period.now }
         ensures none { IsTrue result → (limits : LimitsView) (book : Book) → StandsFor self.now book
@@ -178,29 +183,26 @@ impl Tracks {
         }
     }
 
-    /// Takes a file into the tracks, with the legs by which `join` joined it: they then stand for the book with
-    /// that file. They are as before where memory runs out.
-    pub fn accept(&mut self, file: &File, legs: &[Leg]) -> Result<(), AllocError>
-        ensures ok { OnOk result ((limits : LimitsView) (book : Book) → IsLimits limits
-            → StandsFor self.old book
-            → joined limits book file.now ≡ Ok legs.now
-            → StandsFor self.new (with_file book file.now)) }
+    /// Takes a file into the tracks that was joined to their book: they then stand for the book
+    /// with that file. They are as before where memory runs out.
+    pub fn accept(&mut self, joined: &Joined) -> Result<(), AllocError>
+        ensures ok { OnOk result ((limits : LimitsView) (book : Book) (file : File)
+            → IsLimits limits → StandsFor self.old book
+            → IsJoinedBy limits book file joined.now
+            → StandsFor self.new (with_file book file)) }
         // The law of a book is kept.
-        ensures law { OnOk result ((limits : LimitsView) (book : Book) → IsLimits limits
-            → IsBook limits book → HasWholeRows file.now
-            → joined limits book file.now ≡ Ok legs.now
-            → IsBook limits (with_file book file.now)) }
+        ensures law { OnOk result ((limits : LimitsView) (book : Book) (file : File)
+            → IsLimits limits → IsBook limits book → HasWholeRows file
+            → IsJoinedBy limits book file joined.now
+            → IsBook limits (with_file book file)) }
         ensures err { OnErr result (self.new ≡ self.old) }
     {
-        let records = file.records.as_slice();
-        self.add_names(records)?;
+        self.add_names(&joined.names)?;
+        let legs = joined.legs.as_slice();
         count(&mut self.tracks, legs);
         self.legs = self.legs.saturating_add(legs.len() as u64);
         // A row has at least one leg.
-        self.rows = self
-            .rows
-            .saturating_add(records.len() as u64)
-            .min(self.legs);
+        self.rows = self.rows.saturating_add(joined.records).min(self.legs);
         Ok(())
     }
 
@@ -242,13 +244,14 @@ impl Tracks {
         true
     }
 
-    /// Adds the names that are not there yet, each with an empty track.
-    fn add_names(&mut self, records: &[Record]) -> Result<(), AllocError>
-        ensures ok { OnOk result (AddsNames self.old self.new records.now) }
+    /// Adds the names of the new features, each with an empty track.
+    fn add_names(&mut self, names: &Names) -> Result<(), AllocError>
+        ensures ok { OnOk result (AddsNames self.old self.new (fresh_names (length self.old.names)
+            names.now.names names.now.latest)) }
         ensures err { OnErr result (self.new ≡ self.old) }
     {
         let known = self.names.len();
-        match self.push_names(records) {
+        match self.push_names(names) {
             Ok(()) => Ok(()),
             Err(memory) => {
                 self.names.truncate(known);
@@ -259,28 +262,37 @@ impl Tracks {
     }
 
     /// The same, but some names may be there where memory runs out.
-    fn push_names(&mut self, records: &[Record]) -> Result<(), AllocError>
-        ensures ok { OnOk result (AddsNames self.old self.new records.now) }
+    fn push_names(&mut self, names: &Names) -> Result<(), AllocError>
+        ensures ok { OnOk result (AddsNames self.old self.new (fresh_names (length self.old.names)
+            names.now.names names.now.latest)) }
         ensures err { OnErr result (Extends self.old self.new) }
     {
-        for record in records {
-            self.push_name(record)?;
+        let known = self.feature_count();
+        for place in 0..names.len() {
+            self.push_new(known, names.name(place), names.latest(place))?;
         }
         Ok(())
     }
 
-    fn push_name(&mut self, added: &Record) -> Result<(), AllocError>
-        ensures ok { OnOk result (AddsNames self.old self.new (added.now ∷ [])) }
+    /// Adds a name where its feature has that number or a greater one.
+    fn push_new(&mut self, known: u64, name: &str, latest: Latest) -> Result<(), AllocError>
+        ensures ok { OnOk result (AddsNames self.old self.new
+            (if nat_le known latest.feature then name.now ∷ [] else [])) }
         ensures err { OnErr result (self.new ≡ self.old) }
     {
-        let name = added.mfidref.as_str();
+        if u64::from(latest.feature) < known {
+            return Ok(());
+        }
+        self.push_name(name, latest.end)
+    }
+
+    fn push_name(&mut self, name: &str, end: Ms) -> Result<(), AllocError>
+        ensures ok { OnOk result (AddsNames self.old self.new (name.now ∷ [])) }
+        ensures err { OnErr result (self.new ≡ self.old) }
+    {
         self.tracks.reserve(1)?;
         if insert_name(&mut self.names, self.alloc, name)? {
-            let track = Track {
-                end: added.t0,
-                legs: 0,
-            };
-            self.tracks.push(track).unwrap();
+            self.tracks.push(Track { end, legs: 0 }).unwrap();
         }
         Ok(())
     }

@@ -1,6 +1,5 @@
 -- The first fault of a record, by the kind of its line.
-use Rattle.std.proofs.Common.{[], ◌∷◌, ◌++◌, ◌≡◌, ◌∙◌, ℕ, List, Some, None, ap, is_some, option_to_list, refl, sym, true, false}
-use Rattle.std.proofs.lemmas.List.{append-nil}
+use Rattle.std.proofs.Common.{[], ◌∷◌, ◌≡◌, ◌∙◌, ℕ, Some, None, ap, is_some, option_to_list, refl, sym, true, false}
 use Rattle.std.specs.List.{list_all}
 use Rattle.std.specs.Str.{is_utf8}
 use Rattle.mfcsv.specs.Rows.{Row}
@@ -106,12 +105,10 @@ unfolding heads_after
 heads_after-other number heads row k = rw k refl
 
 -- a line that is skipped: no fault, the same header lines, no record
-pub skipped_line : (number : ℕ) (heads : HeadsView) (row : Row) (records : List RecordView) → list_all is_utf8 row ≡ true → kind_of row ≡ Skipped
-    → (first_fault heads row ≡ None) × ((heads ≡ heads_after number heads row) × (records ≡ records ++ records_of (line_of number heads row)))
-skipped_line number heads row records t k =
-    (skipped_fault heads row t k, (sym (heads_after-skipped number heads row k), sym (ap (λ (more : List RecordView). records ++ more) (no_records number heads row Skipped k refl) ∙ append-nil records)))
+pub skipped_line : (number : ℕ) (heads : HeadsView) (row : Row) → list_all is_utf8 row ≡ true → kind_of row ≡ Skipped
+    → (first_fault heads row ≡ None) × ((heads ≡ heads_after number heads row) × (records_of (line_of number heads row) ≡ []))
+skipped_line number heads row t k = (skipped_fault heads row t k, (sym (heads_after-skipped number heads row k), no_records number heads row Skipped k refl))
 
-pub other_line : (number : ℕ) (heads : HeadsView) (row : Row) (records : List RecordView) → list_all is_utf8 row ≡ true → kind_of row ≡ Other
-    → (first_fault heads row ≡ None) × ((heads ≡ heads_after number heads row) × (records ≡ records ++ records_of (line_of number heads row)))
-other_line number heads row records t k =
-    (other_fault heads row t k, (sym (heads_after-other number heads row k), sym (ap (λ (more : List RecordView). records ++ more) (no_records number heads row Other k refl) ∙ append-nil records)))
+pub other_line : (number : ℕ) (heads : HeadsView) (row : Row) → list_all is_utf8 row ≡ true → kind_of row ≡ Other
+    → (first_fault heads row ≡ None) × ((heads ≡ heads_after number heads row) × (records_of (line_of number heads row) ≡ []))
+other_line number heads row t k = (other_fault heads row t k, (sym (heads_after-other number heads row k), no_records number heads row Other k refl))

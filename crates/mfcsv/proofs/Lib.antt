@@ -9,4 +9,5 @@ pub mod FaultLemmas
 pub mod AnswerLemmas
 pub mod WalkLemmas
 pub mod ReadLemmas
+pub mod StageLemmas
 pub mod WholeLemmas

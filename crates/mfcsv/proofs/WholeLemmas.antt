@@ -164,7 +164,7 @@ first_or_ok : (faults : List (Code × ℕ)) (said : Result File (Code × ℕ)) (
 first_or_ok [] said file e = (refl, e)
 first_or_ok (fault ∷ faults) said file e = absurd (cc)
 
-whole_text : (rows : List Row) (file : File) → text_of_rows rows ≡ Ok file → HasWholeRows file
+pub whole_text : (rows : List Row) (file : File) → text_of_rows rows ≡ Ok file → HasWholeRows file
 unfolding text_of_rows
 whole_text rows file e =
     let heads : HeadsView = heads_from 1 no_heads rows in

@@ -5,5 +5,6 @@ pub mod Header
 pub mod DataRecord
 pub mod FileText
 pub mod Answer
+pub mod Left
 pub mod CodeText
 pub mod Placing

@@ -9,10 +9,12 @@ ghost use Rattle.std.specs.Prelude.{◌≡◌};
 mod data_record;
 mod header;
 mod read;
+mod reader;
 mod rows;
 
 use fixedpoint::Coord;
 pub use read::read_file;
+pub use reader::FileReader;
 use std::fmt;
 use std::marker::Model;
 use thiserror::Error;

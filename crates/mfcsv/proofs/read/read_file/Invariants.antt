@@ -1,15 +1,11 @@
-use Rattle.std.proofs.Common.{◌+◌, ◌≤◌, length}
-use Rattle.mfcsv.specs.Rows.{rows_of}
-use Rattle.mfcsv.specs.Unread.{IsBetweenRows, bytes_left, rows_left}
-use Rattle.mfcsv.proofs.WalkLemmas.{IsWalked}
+use Rattle.std.proofs.Common.{◌≡◌}
+use Rattle.mfcsv.specs.FileText.{file_text}
+use Rattle.mfcsv.specs.Left.{with_all}
 use Rattle.mfcsv.proofs.read.read_file.Given as goal
 
+-- the records so far, in front of what is left, are what all of the file says
 abbrev pub invariant-records : goal.invariant-records
-invariant-records l = record {
-  between : IsBetweenRows l.reader;
-  walked : IsWalked (rows_of l.bytes) (rows_left l.reader) l.number l.draft.heads l.draft.records.items;
-  counted : l.number + length (bytes_left l.reader) ≤ length l.bytes + 1;
-}
+invariant-records l = with_all l.records.items l.reader.text ≡ file_text l.bytes
 
 abbrev pub decreases-records : goal.decreases-records
-decreases-records l = length (bytes_left l.reader)
+decreases-records l = l.reader.most

@@ -1,22 +1,19 @@
 use Rattle.std.proofs.Common.{◌∙◌, ◌≡◌, ◌++◌, ◌∷◌, [], ap, refl, sym, List}
 use Rattle.std.proofs.lemmas.List.{append-nil}
 use Rattle.std.proofs.lemmas.List.Elements.{All-push, All-nil}
-use Rattle.mfcsv.specs.Views.{RecordView, IsRecord}
 use Rattle.legs.specs.declared.tracks.Track.{Track}
 use Rattle.legs.proofs.CountLemmas.{adds_one}
 use Rattle.legs.proofs.tracks.Tracks.push_name.Goals as goal
 
 pub returns-then-branch-clause-ok : goal.returns-then-branch-clause-ok
 returns-then-branch-clause-ok c =
-    let is : IsRecord c.args.added.now = rw c.added.view_is at c.added.invariant in
     rw (← c.self.view_is)
-    (adds_one _ _ c.args.added.now is c.as_str-name.result.now (record { end = c.added.inside.t0; legs = 0 } ∷ []) (c.as_str-name.ensures ∙ ap (λ (r : RecordView). r.mfidref) c.added.view_is) c.in_ok-insert_name.ensures.names
-    ((rw c.unwrap.ensures at c.push.ensures.items) ∙ ap (λ (ts : List Track). ts ++ record { end = c.added.inside.t0; legs = 0 } ∷ []) c.in_ok-reserve.ensures.items)
-    (All-push (λ (t : Track). t.legs ≡ 0) [] (record { end = c.added.inside.t0; legs = 0 }) (All-nil (λ (t : Track). t.legs ≡ 0)) refl) refl refl)
+    (adds_one _ _ c.args.name.now (record { end = c.args.end; legs = 0 } ∷ []) c.in_ok-insert_name.ensures.names
+    ((rw c.unwrap.ensures at c.push.ensures.items) ∙ ap (λ (ts : List Track). ts ++ record { end = c.args.end; legs = 0 } ∷ []) c.in_ok-reserve.ensures.items)
+    (All-push (λ (t : Track). t.legs ≡ 0) [] (record { end = c.args.end; legs = 0 }) (All-nil (λ (t : Track). t.legs ≡ 0)) refl) refl refl)
 
 pub returns-else-branch-clause-ok : goal.returns-else-branch-clause-ok
 returns-else-branch-clause-ok c =
-    let is : IsRecord c.args.added.now = rw c.added.view_is at c.added.invariant in
     rw (← c.self.view_is)
-    (adds_one _ _ c.args.added.now is c.as_str-name.result.now [] (c.as_str-name.ensures ∙ ap (λ (r : RecordView). r.mfidref) c.added.view_is) c.in_ok-insert_name.ensures.names
+    (adds_one _ _ c.args.name.now [] c.in_ok-insert_name.ensures.names
     (c.in_ok-reserve.ensures.items ∙ sym (append-nil c.self.inside.tracks.items)) (All-nil (λ (t : Track). t.legs ≡ 0)) refl refl)

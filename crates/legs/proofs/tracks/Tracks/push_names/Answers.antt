@@ -1,15 +1,16 @@
-use Rattle.std.proofs.Common.{◌∙◌, ◌≡◌, ◌<◌, ap, sym, arith, length, take, ◌++◌, ◌∷◌, [], ◌+◌}
-use Rattle.std.proofs.lemmas.List.{take_more}
-use Rattle.mfcsv.specs.Views.{RecordView}
-use Rattle.legs.proofs.CountLemmas.{adds_none, adds_append}
+use Rattle.std.proofs.Common.{cond, length, sym, ◌∙◌, ◌∷◌, [], nat_le, take}
+use Rattle.legs.specs.Names.{fresh_names}
+use Rattle.legs.proofs.CountLemmas.{adds_append}
+use Rattle.legs.proofs.MetLemmas.{fresh_next}
 use Rattle.legs.proofs.tracks.Tracks.push_names.Goals as goal
 
-pub loop-record-init : goal.loop-record-init
-loop-record-init c = adds_none c.args.self.now
-
-pub loop-record-preserved : goal.loop-record-preserved
-loop-record-preserved c =
-    let below : c.loop-record.record-index < length c.args.records.now = omega arith in
-    let more : take (c.loop-record.record-index + 1) c.args.records.now ≡ take c.loop-record.record-index c.args.records.now ++ c.record-item.result ∷ [] =
-    take_more c.args.records.now c.loop-record.record-index c.record-item.result below ∙ ap (λ (r : RecordView). take c.loop-record.record-index c.args.records.now ++ r ∷ []) (sym c.record-item.is) in
-    rw more (adds_append c.args.self.now c.loop-record.self c.push_name.new.self (take c.loop-record.record-index c.args.records.now) (c.record-item.result ∷ []) c.loop-record.invariant c.in_ok-push_name.ensures.ok)
+pub loop-place-preserved : goal.loop-place-preserved
+loop-place-preserved c =
+    let base = length c.args.self.now.names in
+    let names = c.args.names.now.names in
+    let latest = c.args.names.now.latest in
+    let i = c.loop-place.place in
+    let last = c.latest.result in
+    rw (fresh_next base names latest i c.name.result.now last (sym c.len-place-end.ensures.paired ∙ c.len-place-end.ensures.value) c.name.ensures c.latest.ensures)
+    (adds_append c.args.self.now c.loop-place.self c.push_new.new.self (fresh_names base (take i names) (take i latest)) (cond (nat_le base last.feature) (c.name.result.now ∷ []) []) c.loop-place.invariant
+    (rw c.feature_count-known.ensures at c.in_ok-push_new.ensures.ok))
