@@ -43,7 +43,8 @@ pub record PutsAll (old new : IndexView) (feature : ℕ) (legs : List LegView) (
   pub few : new.cache.count < 2 ^ 32
   pub caused : IfErr result (IsCaused old.cache new.cache)
   pub asked : OnOk result (new.cache.asked
-      ≤ old.cache.asked + new.tree.levels + (new.tree.leaves - old.tree.leaves) * (new.tree.levels + 2))
+      ≤ old.cache.asked + new.tree.levels
+      + (new.tree.leaves - old.tree.leaves) * (new.tree.levels + 2))
   pub more : OnOk result (old.tree.leaves ≤ new.tree.leaves)
   pub higher : OnOk result (old.tree.levels ≤ new.tree.levels)
   pub works : OnOk result (new.tree.spent ≡ false)

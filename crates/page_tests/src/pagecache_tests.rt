@@ -89,8 +89,8 @@ fn a_page_is_added_with_its_payload(rt: HostRuntime) -> Result<(), Fail> {
     Ok(())
 }
 
-// A page that is added is one call of the store, and what stands there is not written again: a flush after it
-// makes the store last, as the second call.
+// A page that is added is one call of the store, and what stands there is not written again: a
+// flush after it makes the store last, as the second call.
 fn adding_is_one_call(alloc: Global) -> Result<bool, Memory> {
     let store = Fuse::new(MemStore::new(alloc, 10), 2, false);
     let mut cache = cache_over(alloc, store, 1)?;

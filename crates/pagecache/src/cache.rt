@@ -72,8 +72,8 @@ impl<S: PageStore> PageCache<S> {
         self.slots.page_mut(number)
     }
 
-    /// Adds a page with a payload to the store, and returns its number, the count so far, which had no
-    /// payload. The page is sealed and written once, with that payload.
+    /// Adds a page with a payload to the store, and returns its number, the count so far, which had
+    /// no payload. The page is sealed and written at once, with that payload.
     pub fn add(&mut self, payload: Payload) -> Result<u32, CacheFault>
         ensures adds { OnOk result (Adds payload self.old self.new) }
         ensures number { IfOk result (λ number. number ≡ self.old.count) }

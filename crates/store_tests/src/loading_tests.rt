@@ -127,8 +127,9 @@ fn asked_by_file(alloc: Global) -> Option<u64> {
 
 #[test]
 fn a_leaf_is_asked_for_once_for_the_legs_that_go_on_it(rt: HostRuntime) {
-    // A page that is added is asked for once, with all that it has. The first leaf is added with its four legs, and is the
-    // root: one. The second is added with the other four, the leaf before it is linked to it, the old root, which is that
-    // leaf, is looked at for its box, and the new root is added with both: four more.
+    // A page that is added is asked for once, with all that it has. The first leaf is added with its
+    // four legs, and is the root: one. The second is added with the other four, the leaf before it is
+    // linked to it, the old root, which is that leaf, is looked at for its box, and the new root is
+    // added with both: four more.
     assert_eq!(rt; asked_by_file(rt.alloc()), Some(5));
 }

@@ -21,7 +21,8 @@ Grows {L = L} s feature inner levels root old new i ys can result =
     → TreeStands s feature inner levels root old runs pages
     → Gives result (λ _. TreeStands s feature inner levels root new (set runs i ((x ∷ xs) ++ ys)) pages)
 
--- a leaf of ys has been made, whose page is p, and the leaf last, where there is one, has it as its next
+-- a leaf of ys has been made, whose page is p, and the leaf last, where there is one, has it as its
+-- next
 pub record Begins {L B : Type 0} (feature : L → ℕ) (old : Pages L B) (last : ℕ) (ys : List L)
     (new : Pages L B) (p : ℕ) : Type 0 where
   pub mid : Pages L B

@@ -44,19 +44,24 @@ module _ {L B : Type 0} (s : Boxes L B) (inner : ℕ) where
       → Gives result (λ p. IsWidened old new after pages K j p)
 
 module _ {L B : Type 0} (s : Boxes L B) (feature : L → ℕ) (inner : ℕ) where
-  -- ys are a new leaf, and with it a block of each level up to K is new. Their pages are count, count + 1 and so on, each the only child of the next. The last is not hung yet, and all else is as it was
-  pub record Hanging (levels root : ℕ) (nodes : Pages L B) (runs : List (List L)) (ys : List L) (pages : ℕ → List ℕ) (count K : ℕ) : Type 0 where
+  -- ys are a new leaf, and with it a block of each level up to K is new. Their pages are count,
+  -- count + 1 and so on, each the only child of the next. The last is not hung yet, and all else is
+  -- as it was
+  pub record Hanging (levels root : ℕ) (nodes : Pages L B) (runs : List (List L)) (ys : List L)
+      (pages : ℕ → List ℕ) (count K : ℕ) : Type 0 where
     pub numbers : NumbersStand inner levels root count runs pages
     pub as_many : nodes.count ≡ count + suc K
     pub held : (p : ℕ) → p < nodes.count → nodes.at p ≢ None
     pub full : length runs % inner ^ K ≡ 0
     pub filled : (i : ℕ) → slice_get runs i ≢ Some []
     pub leaves : LeavesStand nodes feature (runs ++ ys ∷ []) (pages 0 ++ count ∷ [])
-    pub begun : (k : ℕ) → k < K → InnerStands s nodes (count + suc k) (suc k) ((count + k) ∷ []) ((ys ∷ []) ∷ [])
+    pub begun : (k : ℕ) → k < K
+        → InnerStands s nodes (count + suc k) (suc k) ((count + k) ∷ []) ((ys ∷ []) ∷ [])
     pub inners : (k : ℕ) → LevelStands s nodes inner runs pages k
 
   -- the nodes stand for the runs with ys in a leaf of their own, whose page is count
-  pub record Hung (levels root : ℕ) (nodes : Pages L B) (runs : List (List L)) (ys : List L) (leaves : List ℕ) (count : ℕ) : Type 0 where
+  pub record Hung (levels root : ℕ) (nodes : Pages L B) (runs : List (List L)) (ys : List L)
+      (leaves : List ℕ) (count : ℕ) : Type 0 where
     pub pages : ℕ → List ℕ
     pub leaves_are : pages 0 ≡ leaves ++ count ∷ []
     pub tree : TreeStands s feature inner levels root nodes (runs ++ ys ∷ []) pages

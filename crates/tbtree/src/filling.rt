@@ -64,10 +64,10 @@ fn put_all<S: PageStore>(
     Ok(())
 }
 
-/// Puts legs of one feature into the tree, one after another, at the place of the feature: what fills
-/// its last leaf, and then each new leaf. The last leaf, and the pages above it, are looked at and
-/// widened once for all the legs that it takes, and so is each leaf that is made, which is added with
-/// all its legs. Any refusal leaves the tree spent, and a spent tree is refused by `Spent`.
+/// Puts legs of one feature into the tree, one after another, at the place of the feature: what
+/// fills its last leaf, and then each new leaf. The last leaf, and the pages above it, are looked at
+/// and widened once for all the legs that it takes; a leaf that is made is added with all its legs.
+/// Any refusal leaves the tree spent, and a spent tree is refused by `Spent`.
 pub fn insert_all<S: PageStore>(
     tree: &mut TbTree,
     cache: &mut PageCache<S>,
@@ -86,8 +86,9 @@ pub fn insert_all<S: PageStore>(
     ensures length { OnOk result (KeepsLength cache.old cache.new) }
     ensures caused { IfErr result (IsCaused cache.old cache.new) }
 
-    // For the leaf that is there at most as many pages are asked for as the tree has levels, and for each leaf
-    // that is made two more; and no more leaves are made than fill up, but for the last.
+    // For the leaf that is there at most as many pages are asked for as the tree has levels, and for
+    // each leaf that is made at most two more; and no more leaves are made than fill up, but for the
+    // last.
     ensures asked { OnOk result (cache.new.asked ≤ cache.old.asked + tree.new.levels
         + (tree.new.leaves - tree.old.leaves) * (tree.new.levels + 2)) }
     ensures more { OnOk result (tree.old.leaves ≤ tree.new.leaves) }
@@ -95,7 +96,8 @@ pub fn insert_all<S: PageStore>(
     ensures made { OnOk result ((tree.new.leaves - tree.old.leaves) * tree.old.shape.leaf
         < length legs.now + tree.old.shape.leaf) }
 
-    // Over any faithful pages, legs for which the last leaf has room, or a new one, are at the end of a leaf.
+    // Over any faithful pages, legs for which the last leaf has room, or a new one where it is full,
+    // are at the end of a leaf.
     ensures ends { IsTrue cache.old.store.is_faithful → 0 < length legs.now
         → place.old.legs % tree.old.shape.leaf + length legs.now ≤ tree.old.shape.leaf
         → OnOk result (HasAtEnd (pages_of_cache cache.new) legs.now) }

@@ -66,8 +66,8 @@ pub(crate) fn push_legs(payload: &mut Payload, legs: &[Leg])
     }
 }
 
-/// The payload of a leaf of legs, with that leaf before it and none after it; `None` where the legs are of two features, or
-/// their ordinals do not rise.
+/// The payload of a leaf of legs, with that leaf before it and none after it; `None` where the legs
+/// are of two features, or their ordinals do not rise.
 pub(crate) fn leaf_of_legs(previous: u32, legs: &[Leg]) -> Option<Payload>
     requires some { 0 < length legs.now }
     requires few { length legs.now ≤ 50 }
