@@ -77,7 +77,7 @@ fn save_and_finish<S: PageStore>(
 ///
 /// Refused for want of memory, and where the store fails or is full. Where memory ran out or the
 /// store is full, its page 0 still says that it is not finished; where the store failed, it does, or
-/// it was the writing of page 0 that failed, and all other pages are those of the closed store.
+/// all pages but page 0 are written as those of the closed store.
 pub fn close<S: PageStore>(
     alloc: Global,
     catalogue: &Catalogue,

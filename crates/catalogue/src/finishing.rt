@@ -62,8 +62,8 @@ fn set_state<S: PageStore>(index: &mut TreeIndex<S>) -> Result<(), CatalogueFaul
 /// and is written last.
 ///
 /// Refused for want of memory, and where the store fails; page 0 as written then still says that
-/// the store is not finished, unless it was its own writing that failed. Where no other page is
-/// changed, no other one is written.
+/// the store is not finished, unless the store failed when it was to be written and to last. Where no
+/// other page is changed, no other one is written.
 pub(crate) fn finish<S: PageStore>(index: &mut TreeIndex<S>) -> Result<(), CatalogueFault>
     ensures same { index.new ≡ with_cache index.old index.new.cache index.new.known }
     ensures finishes { OnOk result (IsTrue index.old.cache.store.is_faithful

@@ -249,9 +249,10 @@ fn a_check_of_a_store_that_fails_is_asked_again(rt: HostRuntime) -> Result<(), F
             }
         }
     }
-    // The three leaves and the root are written, and made to last.
+    // The three leaves are as they were added; the root, which has had its third entry since, is
+    // written, and all is made to last.
     assert!(rt;
-        failed == 5 && passed > 0,
+        failed == 2 && passed > 0,
         "{failed} failed, {passed} passed"
     );
     Ok(())
