@@ -8,7 +8,7 @@ use Rattle.legs.specs.Hull.{Boxes, hull, hull_of}
 use Rattle.tbtree.proofs.LawfulBoxes.{AreLawful}
 use Rattle.tbtree.specs.Nodes.{EntryView, children, boxes, with_entry, Pages, AnInner, InnerView, Attaches, Adds, HasRoom}
 use Rattle.tbtree.specs.Stands.{page_at, LeavesStand, NumbersStand, InnerStands, LevelStands}
-use Rattle.tbtree.specs.Way.{Wider, IsWidened, Going, Hanging, Hung, Hangs}
+use Rattle.tbtree.specs.Way.{IsWidened, Going, Hanging, Hung, Hangs}
 use Rattle.tbtree.specs.declared.fault.TreeFault.{TreeFault}
 use Rattle.tbtree.specs.declared.tree.Top.{Top}
 use Rattle.std.specs.Prelude.{Result}

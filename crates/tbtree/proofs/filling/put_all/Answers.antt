@@ -1,4 +1,4 @@
-use Rattle.std.proofs.Common.{◌≢◌, ⊎_elim, ◌≡◌, ◌<◌, ◌≤◌, ◌+◌, ◌%◌, ◌∙◌, refl, ap, arith, length, subst, sym}
+use Rattle.std.proofs.Common.{◌≢◌, ⊎_elim, ◌≡◌, ◌<◌, ◌≤◌, ◌+◌, ◌%◌, ◌∙◌, refl, ap, arith, length, subst}
 use Rattle.std.proofs.lemmas.Bool.{cases_eq, cases_lt}
 use Rattle.std.proofs.lemmas.Result.{err_from_is_err_and}
 use Rattle.tbtree.specs.declared.tree.Place.{Place}
