@@ -1,9 +1,11 @@
 -- How rows stand in one list of values.
 use Rattle.std.proofs.Common.{ℕ, zero, suc, List, [], ◌∷◌, ◌++◌, ◌≡◌, ◌≤◌, ◌<◌, ◌+◌, length, map, take, drop, replicate, get_or, All, IsUtf8, Result, Ok, Err, OnErr, refl, subst, sym, ap, ◌∙◌, arith}
-use Rattle.std.proofs.lemmas.List.{length-append, length-take-le, length-drop, length-replicate, length-map, take-append-le, drop-append-le, get_or-take, get_or-drop, get_or_append_left, get_or-map, map-append}
+use Rattle.std.proofs.lemmas.List.{length-append, length-take-le, length-drop, length-replicate, length-map, take-append-le, drop-append-le, get_or-take, get_or-drop, get_or_append_left, get_or-map, map-append, drop-drop}
 use Rattle.std.proofs.lemmas.List.Elements.{All-map, All-append}
 use Rattle.std.proofs.Math.Seq.{drop-append_seam, take-length}
-use Rattle.rows.specs.Rows.{row_of, rows_of, IsIn, AreIn}
+use Rattle.std.specs.Prelude.{slice_get}
+use Rattle.csv.specs.Records.{field_at}
+use Rattle.rows.specs.Rows.{moved, row_of, rows_of, IsIn, AreIn}
 use Rattle.rows.specs.declared.row.Place.{Place}
 
 -- so many values are kept
@@ -93,3 +95,40 @@ place-has values places n i d inside lt all =
 pub on-err : {T E : Type 0} (r : Result T E) (P : Type 0) → P → OnErr r P
 on-err (Ok x) P p = tt
 on-err (Err e) P p = p
+
+-- rows behind others, whose values stand behind theirs and some that no row has
+moved-values : (before values : List (List ℕ)) (n : ℕ) (place : Place) → n ≡ length before → take place.count (drop (n + place.first) (before ++ values)) ≡ take place.count (drop place.first values)
+moved-values before values n place e =
+    ap (take place.count) (ap (λ m. drop (m + place.first) (before ++ values)) e ∙ sym (drop-drop place.first (length before) (before ++ values)) ∙ ap (drop place.first) (drop-append_seam before values))
+
+moved-in : (before values : List (List ℕ)) (n : ℕ) (place : Place) → n ≡ length before → IsIn values place → IsIn (before ++ values) (moved n place)
+moved-in before values n place e inside = record {
+  inside = omega (arith, e, inside.inside, length-append before values);
+  texts = subst (All IsUtf8) (sym (moved-values before values n place e)) inside.texts;
+}
+
+moved-all-in : (before values : List (List ℕ)) (n : ℕ) (places : List Place) → n ≡ length before → AreIn values places → AreIn (before ++ values) (map (moved n) places)
+moved-all-in before values n places e inside = All-map (IsIn (before ++ values)) (moved n) places (λ k d h. moved-in before values n (get_or places k d) e (inside k d h))
+
+moved-rows : (before values : List (List ℕ)) (n : ℕ) (places : List Place) → n ≡ length before → rows_of (before ++ values) (map (moved n) places) ≡ rows_of values places
+moved-rows before values n [] e = refl
+moved-rows before values n (place ∷ places) e =
+    ap (λ (xs : List (List ℕ)). (xs ++ replicate place.blanks []) ∷ rows_of (before ++ values) (map (moved n) places)) (moved-values before values n place e)
+    ∙ ap (λ (rows : List (List (List ℕ))). row_of values place ∷ rows) (moved-rows before values n places e)
+
+pub append-in : (values some others : List (List ℕ)) (places more : List Place) (n : ℕ) → n ≡ length (values ++ some) → AreIn values places → AreIn others more → AreIn ((values ++ some) ++ others) (places ++ map (moved n) more)
+append-in values some others places more n e inside within =
+    All-append (IsIn ((values ++ some) ++ others)) places (map (moved n) more) (stay-in (values ++ some) others places (stay-in values some places inside)) (moved-all-in (values ++ some) others n more e within)
+
+pub append-rows : (values some others : List (List ℕ)) (places more : List Place) (n : ℕ) → n ≡ length (values ++ some) → AreIn values places → rows_of ((values ++ some) ++ others) (places ++ map (moved n) more) ≡ rows_of values places ++ rows_of others more
+append-rows values some others places more n e inside =
+    map-append (row_of ((values ++ some) ++ others)) places (map (moved n) more)
+    ∙ ap (λ rs. rs ++ rows_of ((values ++ some) ++ others) (map (moved n) more)) (rows-stay (values ++ some) others places (stay-in values some places inside) ∙ rows-stay values some places inside)
+    ∙ ap (λ rs. rows_of values places ++ rs) (moved-rows (values ++ some) others n more e)
+
+-- the field at a place
+pub field_is : (fields : List (List ℕ)) (i : ℕ) → field_at fields i ≡ slice_get fields i
+unfolding field_at
+field_is [] i = refl
+field_is (f ∷ fs) zero = refl
+field_is (f ∷ fs) (suc i) = field_is fs i

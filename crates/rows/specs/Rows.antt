@@ -11,6 +11,10 @@ row_of values place = take place.count (drop place.first values) ++ replicate pl
 abbrev pub rows_of : List (List ℕ) → List Place → List (List (List ℕ))
 rows_of values places = map (row_of values) places
 
+-- the place of the same values behind so many others
+abbrev pub moved : ℕ → Place → Place
+moved before place = record place { first = before + place.first }
+
 -- all values of a place are there, and are texts
 pub record IsIn (values : List (List ℕ)) (place : Place) : Type 0 where
   pub inside : place.first + place.count ≤ length values

@@ -1,5 +1,7 @@
 //! The rows.
-ghost use Rattle.std.specs.Prelude.{ℕ, List, ◌≡◌, ◌++◌, ◌∷◌, [], OnOk, OnErr, IsTrue, IsUtf8, All};
+ghost use Rattle.std.specs.Prelude.{ℕ, List, ◌≡◌, ◌+◌, ◌<◌, ◌^◌, ◌++◌, ◌∷◌, [], map, OnOk, OnErr, IsTrue, IsUtf8, All};
+ghost use Rattle.rows.specs.Rows.{moved};
+ghost use Rattle.rows.specs.declared.row.Place.{Place};
 ghost use Rattle.csv.specs.Records.{fields_of, partial_of};
 
 use crate::row::{Place, Row};
@@ -55,6 +57,38 @@ fn push_values(values: &mut ByteRecord, texts: &[Text]) -> Result<(), AllocError
 {
     for text in texts {
         values.push_field(text.as_str().as_bytes())?;
+    }
+    Ok(())
+}
+
+/// Puts all values of one text behind those of another.
+fn push_fields(values: &mut ByteRecord, others: &ByteRecord) -> Result<(), AllocError>
+    ensures fields { OnOk result (partial_of values.old ≡ []
+        → fields_of values.new ≡ fields_of values.old ++ fields_of others.now) }
+    ensures partial { OnOk result (partial_of values.old ≡ [] → partial_of values.new ≡ []) }
+    ensures more { (some : List (List ℕ)) × (fields_of values.new ≡ fields_of values.old ++ some) }
+{
+    for i in 0..others.len() {
+        match others.get(i) {
+            Some(value) => values.push_field(value)?,
+            None => unreachable!(),
+        }
+    }
+    Ok(())
+}
+
+/// Puts places behind others, where that many values stand before theirs.
+fn push_places(places: &mut Vec<Place>, others: &[Place], before: usize) -> Result<(), AllocError>
+    requires { All (λ (place : Place). before + place.first < 2 ^ 64) others.now }
+    ensures pushed { OnOk result (places.new.items ≡ places.old.items ++ map (moved before) others.now) }
+    ensures more { (some : List Place) × (places.new.items ≡ places.old.items ++ some) }
+{
+    for place in others {
+        places.push(Place {
+            first: before + place.first,
+            count: place.count,
+            blanks: place.blanks,
+        })?;
     }
     Ok(())
 }
@@ -128,6 +162,33 @@ impl Rows {
             blanks,
         })?;
         Ok(())
+    }
+
+    /// Puts other rows behind these; where there is none yet they are taken as they are. The rows are
+    /// as before where memory runs out.
+    pub fn append(&mut self, other: Rows) -> Result<(), AllocError>
+        ensures appended { OnOk result (self.new ≡ self.old ++ other) }
+        ensures stays { OnErr result (self.new ≡ self.old) }
+    {
+        if self.places.is_empty() {
+            *self = other;
+            return Ok(());
+        }
+        let was_whole = self.is_whole;
+        self.is_whole = false;
+        close(&mut self.values, was_whole)?;
+        push_fields(&mut self.values, &other.values)?;
+        self.is_whole = true;
+        let all = self.values.len();
+        let own = other.values.len();
+        let known = self.places.len();
+        match push_places(&mut self.places, other.places.as_slice(), all - own) {
+            Ok(()) => Ok(()),
+            Err(memory) => {
+                self.places.truncate(known);
+                Err(memory)
+            }
+        }
     }
 
     /// Whether each row has so many values.
