@@ -15,12 +15,13 @@ use Rattle.mfcsv.specs.declared.FileFault.TheVariants.{Refused, Memory}
 use Rattle.mfcsv.specs.declared.reader.Stage.{Stage}
 use Rattle.mfcsv.specs.declared.reader.Stage.TheVariants.{Reading, Over, Failed}
 
--- what is left of a file: what it says, how many records there are at most, and whether it is known
--- that there is none
+-- what is left of a file: what it says, a number that falls with each record, whether it is known that
+-- there is none, and the fault that was told, if one was
 pub record LeftView : Type 0 where
   pub text : Result File (Code × ℕ)
   pub most : ℕ
   pub is_over : Bool
+  pub told : Option FileFault
 
 -- what records say behind those header lines, the first of that number: the file of the header lines
 -- and of the data records among them, or their first fault
@@ -42,6 +43,11 @@ abbrev pub is_over : Stage → Bool
 is_over Reading = false
 is_over Over = true
 is_over (Failed fault) = false
+
+abbrev pub told_by : Stage → Option FileFault
+told_by Reading = None
+told_by Over = None
+told_by (Failed fault) = Some fault
 
 -- the same with a record in front
 abbrev pub with_first : RecordView → Result File (Code × ℕ) → Result File (Code × ℕ)

@@ -139,7 +139,8 @@ pub(crate) enum Stage {
 }
 
 /// Reads a file record by record, seen by contracts as what is left of it: the file of its header
-/// lines and of the data records that are still to come, or the first fault of what is to come.
+/// lines and of the data records that are still to come, or the first fault of what is to come. Of the
+/// records of a file that turns out to have a fault nothing is said.
 #[derive(Drop)]
 pub struct FileReader<'a> {
     unread: Unread<'a>,
@@ -149,7 +150,7 @@ pub struct FileReader<'a> {
 impl<'a> Model for FileReader<'a> {
     ghost use Rattle.std.specs.Prelude.{◌≡◌, length};
     ghost use Rattle.mfcsv.specs.Unread.{bytes_left, rows_left};
-    ghost use Rattle.mfcsv.specs.Left.{IsUnread, LeftView, is_over, text_at};
+    ghost use Rattle.mfcsv.specs.Left.{IsUnread, LeftView, is_over, text_at, told_by};
     ghost use Rattle.mfcsv.specs.declared.reader.Stage.TheVariants.{Reading};
 
     ghost Value = { LeftView };
@@ -158,6 +159,7 @@ impl<'a> Model for FileReader<'a> {
       text = text_at a.stage a.unread.number a.unread.heads (rows_left a.unread.reader);
       most = length (bytes_left a.unread.reader);
       is_over = is_over a.stage;
+      told = told_by a.stage;
     } };
 
     ghost invariant = { λ a. a.stage ≡ Reading → IsUnread a.unread.reader a.unread.number };
@@ -176,7 +178,8 @@ fn end_of(heads: &Heads)
 }
 
 impl<'a> FileReader<'a> {
-    ghost use Rattle.std.specs.Prelude.{◌≡◌, ◌<◌, true, IfOk, IfSome};
+    ghost use Rattle.std.specs.Prelude.{◌≡◌, ◌<◌, true, Err, IfErr, IfOk, IfSome, Some};
+    ghost use Rattle.mfcsv.specs.declared.FileFault.{FileFault};
     ghost use Rattle.mfcsv.specs.FileText.{file_text};
     ghost use Rattle.mfcsv.specs.Left.{GivesHead, ReadsRecord};
 
@@ -203,6 +206,11 @@ impl<'a> FileReader<'a> {
     pub fn next_record(&mut self, alloc: Global) -> Result<Option<Record>, FileFault>
         ensures reads { ReadsRecord result self.old self.new }
         ensures fewer { IfOk result (λ found. IfSome found (λ _. self.new.most < self.old.most)) }
+
+        // Once a fault is told, nothing else is.
+        ensures told { IfErr result (λ fault. self.new.told ≡ Some fault) }
+        ensures stays { (fault : FileFault) → self.old.told ≡ Some fault
+            → (result ≡ Err fault) × (self.new ≡ self.old) }
     {
         match self.stage {
             Stage::Reading => {}
@@ -231,7 +239,8 @@ impl<'a> FileReader<'a> {
     /// # Errors
     /// F8 at 0 where a header line is missing; a fault that was told.
     pub fn into_head(self) -> Result<Head, FileFault>
-        ensures { self.entry.is_over ≡ true → GivesHead result self.entry.text }
+        ensures head { self.entry.is_over ≡ true → GivesHead result self.entry.text }
+        ensures told { (fault : FileFault) → self.entry.told ≡ Some fault → result ≡ Err fault }
     {
         let FileReader { unread, stage } = self;
         match stage {

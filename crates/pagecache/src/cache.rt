@@ -1,7 +1,7 @@
 //! The cache as its callers see it.
-ghost use Rattle.std.specs.Prelude.{◌≡◌, ◌<◌, ◌≤◌, Some, None, IsTrue, IfOk, IfErr, OnOk, OnErr, IsErrOf, length};
+ghost use Rattle.std.specs.Prelude.{◌≡◌, ◌<◌, ◌≤◌, false, Some, None, IsTrue, IfOk, IfErr, OnOk, OnErr, IsErrOf, length};
 ghost use Rattle.std.specs.Borrow.{sem};
-ghost use Rattle.pagecache.specs.Cache.{fresh, payload_of, Adds, Stays, SameLength, AsksOnce, IsNotAdded, IsSettled, IsStopped, IsWritten};
+ghost use Rattle.pagecache.specs.Cache.{fresh, is_changed, payload_of, Adds, Stays, SameLength, AsksOnce, IsNotAdded, IsSettled, IsStopped, IsWritten};
 ghost use Rattle.pages.specs.Store.{IsLawful};
 ghost use Rattle.pages.specs.Zero.{zero_payload};
 ghost use Rattle.pagecache.specs.PageLends.{LendsPage, ShowsPage};
@@ -76,6 +76,7 @@ impl<S: PageStore> PageCache<S> {
     /// no payload. The page is sealed and written at once, with that payload.
     pub fn add(&mut self, payload: Payload) -> Result<u32, CacheFault>
         ensures adds { OnOk result (Adds payload self.old self.new) }
+        ensures clean { OnOk result (is_changed self.new self.old.count ≡ false) }
         ensures number { IfOk result (λ number. number ≡ self.old.count) }
         ensures none_before { payload_of self.old self.old.count ≡ None }
         ensures length { OnOk result (self.old.count ≡ self.old.store.count

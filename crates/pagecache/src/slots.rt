@@ -334,6 +334,8 @@ impl<S: PageStore> Slots<S> {
         ensures sound { IsSound (seen_of S.seen self.new) }
         ensures adds { OnOk result
             (Adds payload (seen_of S.seen self.old) (seen_of S.seen self.new)) }
+        ensures clean { OnOk result
+            (is_changed (seen_of S.seen self.new) self.old.count ≡ false) }
         ensures number { IfOk result (λ number. number ≡ self.old.count) }
         ensures length { OnOk result (self.old.count ≡ (S.seen self.old.store).count
             → self.new.count ≡ (S.seen self.new.store).count) }

@@ -12,4 +12,4 @@ records-preserved c =
 pub returns-clause-rows : goal.returns-clause-rows
 returns-clause-rows c =
     let reads = rw c.in-Ok-None.field-0-is at c.in-Ok-None.ensures.reads in
-    whole_text (rows_of c.args.bytes.now) (record { head = c.in_ok-head.head; records = c.from.result }) (all_read c.records.records.items c.from.result c.in_ok-head.head _ c.next_record.new.self.text (file_text c.args.bytes.now) c.records.invariant reads.1 (c.in_ok-head.ensures reads.2) c.from.ensures)
+    whole_text (rows_of c.args.bytes.now) (record { head = c.in_ok-head.head; records = c.from.result }) (all_read c.records.records.items c.from.result c.in_ok-head.head _ c.next_record.new.self.text (file_text c.args.bytes.now) c.records.invariant reads.1 (c.in_ok-head.ensures.head reads.2) c.from.ensures)
