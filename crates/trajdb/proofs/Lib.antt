@@ -3,6 +3,7 @@ pub mod AnswerLemmas
 pub mod LineLemmas
 pub mod BookLemmas
 pub mod FileLemmas
+pub mod LoadLemmas
 pub mod RunLemmas
 pub mod FaultLemmas
 pub mod TellingLemmas

@@ -50,10 +50,6 @@ pub record IsSound {I : Type 0} (g : Ghosts I) (core : CoreView I) : Type 0 wher
   pub tracks : StandsFor core.tracks core.book
   pub law : IsBook core.limits core.book
 
--- a file is joined to a book by these legs, and each of its records has a value for each column
-abbrev pub Accepts : LimitsView → Book → File → List LegView → Type 0
-Accepts limits book file legs = (joined limits book file ≡ Ok legs) × CanFollowInTurn book.legs legs × HasWholeRows file
-
 -- what `load` answers: exactly the counts or exactly the fault, or that the database could not tell
 abbrev pub FaultIs : LoadFault → Result Counts (FileCode × ℕ) → Type 0
 FaultIs (Refused code number) said = said ≡ Err (code, number)
@@ -71,12 +67,6 @@ IsRefused (Run fault) = ⊥
 abbrev pub IsTold : Result Counts LoadFault → Type 0
 IsTold (Ok counts) = Unit {0}
 IsTold (Err fault) = IsRefused fault
-
--- a refusal of joining is the first joining fault, unless the database could not tell
-abbrev pub JoinRefusal : LoadFault → Result (List LegView) (JoinCode × ℕ) → Type 0
-JoinRefusal (Refused code number) (Ok legs) = ⊥
-JoinRefusal (Refused code number) (Err fault) = ◌≡◌ {A = FileCode × ℕ} (code, number) (Join fault.0, fault.1)
-JoinRefusal (Run fault) joined_legs = Unit {0}
 
 -- a fault after which the database is failed
 abbrev pub FailsBy : LoadFault → Type 0

@@ -5,6 +5,7 @@ pub mod Codes
 pub mod Picks
 pub mod Answers
 pub mod Database
+pub mod Loads
 pub mod Calls
 pub mod Run
 pub mod Telling

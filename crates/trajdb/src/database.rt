@@ -3,13 +3,12 @@ ghost use Rattle.std.specs.Prelude.{◌≡◌, [], IfOk};
 
 use crate::answer::{count_text, counts_text, file_refusal_text, ok_text, refusal_text};
 use crate::files::Files;
-use crate::load::{count_names, keep_head, push_rows};
+use crate::load::{NewFile, counts_of, join_text, keep_head};
 use crate::output::send;
 use crate::script::{first_piece, without_return};
 use crate::start::{Start, put_legs};
-use crate::{Counts, FileCode, LoadFault, RunFault};
-use legs::{BookHead, JoinFault, Leg, Limits, Tracks, join};
-use mfcsv::{File, FileFault, read_file};
+use crate::{Counts, LoadFault, RunFault};
+use legs::{BookHead, Limits, Tracks};
 use querylang::{Command, LineFault, parse_line};
 use rows::Rows;
 use std::alloc::{AllocError, Global};
@@ -92,90 +91,58 @@ impl<I: Start> Core<I> {
 }
 
 impl<I: Start> Core<I> {
-    ghost use Rattle.std.specs.Prelude.{◌≡◌, IfOk, IfErr, OnOk, OnErr, true, false};
-    ghost use Rattle.mfcsv.specs.FileText.{HasWholeRows};
-    ghost use Rattle.legs.specs.Book.{book_after, joined, with_file};
-    ghost use Rattle.trajdb.specs.Answers.{book_by, book_with, counts_or, joined_counts, load_of};
-    ghost use Rattle.trajdb.specs.Database.{IsRefused, IsTold, LoadGives, JoinRefusal, Accepts, Becomes, IsSound};
+    ghost use Rattle.std.specs.Prelude.{◌≡◌, Ok, IfOk, IfErr, OnOk, OnErr, true, false};
+    ghost use Rattle.mfcsv.specs.FileText.{file_text};
+    ghost use Rattle.mfcsv.specs.declared.File.{File};
+    ghost use Rattle.legs.specs.Book.{with_file};
+    ghost use Rattle.trajdb.specs.Answers.{book_with, load_of};
+    ghost use Rattle.trajdb.specs.Database.{FaultIs, IsRefused, IsTold, LoadGives, Becomes, IsSound};
+    ghost use Rattle.trajdb.specs.Loads.{Accepts};
     ghost use Rattle.trajdb.specs.Calls.{IsJoinStop, IsLater, IsLoadFault, IsLoadStop, IsOfStore, IsWholeFile, LeavesPages};
 
-    /// Takes in a file that was joined.
-    fn take(&mut self, file: File, legs: &[Leg]) -> Result<(), RunFault>
-        ensures taken { OnOk result (Accepts self.old.limits self.old.book file legs.now
+    /// Takes in a file that was read and joined.
+    fn take(&mut self, new: NewFile) -> Result<(), RunFault>
+        ensures taken { OnOk result ((file : File)
+            → Accepts self.old.limits self.old.book file new
             → Becomes I.Listed self.old self.new (with_file self.old.book file)) }
-        ensures sound { IfErr result (λ fault. IsSound I.Listed self.old
-            → Accepts self.old.limits self.old.book file legs.now → IsLoadFault fault) }
+        ensures sound { IfErr result (λ fault. (file : File) → IsSound I.Listed self.old
+            → Accepts self.old.limits self.old.book file new → IsLoadFault fault) }
         ensures store { IfErr result (IsOfStore I.Listed self.old.index self.new.index) }
         ensures later { IsLater I.Listed self.old self.new }
         ensures failed { self.new.failed ≡ self.old.failed }
         ensures begun { OnOk result (self.new.begun ≡ true) }
         ensures idle { OnErr result (self.new.begun ≡ self.old.begun) }
-        ensures marks { OnOk result (IsSound I.Listed self.old
-            → Accepts self.old.limits self.old.book file legs.now
+        ensures marks { OnOk result ((file : File) → IsSound I.Listed self.old
+            → Accepts self.old.limits self.old.book file new
             → I.is_clean self.old.index → I.is_marked self.new.index) }
-        ensures pages { IsSound I.Listed self.old
-            → Accepts self.old.limits self.old.book file legs.now
+        ensures pages { (file : File) → IsSound I.Listed self.old
+            → Accepts self.old.limits self.old.book file new
             → LeavesPages I.Listed self.old.index self.new.index }
     {
-        put_legs(&mut self.index, legs)?;
-        self.tracks.accept(&file, legs)?;
-        let File { head, records } = file;
-        push_rows(&mut self.rows, records)?;
+        let NewFile { head, joined, rows } = new;
+        put_legs(&mut self.index, joined.legs())?;
+        self.tracks.accept(&joined)?;
+        self.rows.append(rows)?;
         keep_head(&mut self.head, head);
         self.begun = true;
         Ok(())
     }
 
-    /// The legs by which a file is joined, or its first joining fault.
-    fn join_file(&self, alloc: Global, file: &File) -> Result<Vec<Leg>, LoadFault>
-        requires { HasWholeRows file.now }
-        ensures legs { IfOk result (λ legs. IsSound I.Listed self.now
-            → Accepts self.now.limits self.now.book file.now legs.items) }
+    /// What a file adds, or its first fault.
+    fn join_file(&self, alloc: Global, bytes: &[u8]) -> Result<NewFile, LoadFault>
+        ensures joined { IfOk result (λ new. (file : File) × (file_text bytes.now ≡ Ok file)
+            × (IsSound I.Listed self.now → Accepts self.now.limits self.now.book file new)) }
         ensures refused { IfErr result (λ fault. IsSound I.Listed self.now
-            → JoinRefusal fault (joined self.now.limits self.now.book file.now)) }
+            → FaultIs fault (load_of self.now.limits self.now.book bytes.now)) }
         ensures stopped { IfErr result IsJoinStop }
     {
-        match join(alloc, self.head.as_ref(), &self.tracks, &self.limits, file) {
-            Ok(legs) => Ok(legs),
-            Err(JoinFault::Refused { code, number }) => Err(LoadFault::Refused {
-                code: FileCode::Join(code),
-                number,
-            }),
-            Err(JoinFault::Memory) => Err(LoadFault::Run(RunFault::Memory)),
+        match join_text(alloc, self.head.as_ref(), &self.tracks, &self.limits, bytes) {
+            Ok(new) => Ok(new),
+            Err(fault) => Err(fault),
         }
     }
 
-    /// Accepts a file whose text has no fault.
-    fn accept(&mut self, alloc: Global, file: File) -> Result<Counts, LoadFault>
-        requires { HasWholeRows file }
-        ensures counts { IsSound I.Listed self.old
-            → LoadGives result (counts_or file (joined self.old.limits self.old.book file)) }
-        ensures becomes { IsTold result
-            → Becomes I.Listed self.old self.new (book_after self.old.limits self.old.book file) }
-        ensures stopped { IfErr result (IsLoadStop I.Listed self.old self.new) }
-        ensures later { IsLater I.Listed self.old self.new }
-        ensures failed { self.new.failed ≡ self.old.failed }
-        ensures refused { IfErr result (λ fault. IsRefused fault → self.new ≡ self.old) }
-        ensures begun { OnOk result (self.new.begun ≡ true) }
-        ensures idle { OnErr result (self.new.begun ≡ self.old.begun) }
-        ensures marks { OnOk result (IsSound I.Listed self.old → I.is_clean self.old.index
-            → I.is_marked self.new.index) }
-        ensures pages { IsSound I.Listed self.old
-            → LeavesPages I.Listed self.old.index self.new.index }
-    {
-        let legs = self.join_file(alloc, &file)?;
-        let records = file.records.as_slice();
-        let counts = Counts {
-            records: records.len() as u64,
-            legs: legs.len() as u64,
-            features: count_names(alloc, self.tracks.keys(), records).map_err(RunFault::from)?,
-        };
-        self.take(file, legs.as_slice())?;
-        Ok(counts)
-    }
-
     /// Reads and accepts a file.
-    #[tactic(auto, unfolding(crate::specs::Answers::load_of, crate::specs::Answers::book_with))]
     fn read(&mut self, alloc: Global, bytes: &[u8]) -> Result<Counts, LoadFault>
         ensures counts { IsSound I.Listed self.old
             → LoadGives result (load_of self.old.limits self.old.book bytes.now) }
@@ -194,13 +161,14 @@ impl<I: Start> Core<I> {
         ensures pages { IsSound I.Listed self.old
             → LeavesPages I.Listed self.old.index self.new.index }
     {
-        match read_file(alloc, bytes) {
-            Ok(file) => self.accept(alloc, file),
-            Err(FileFault::Refused { code, number }) => Err(LoadFault::Refused {
-                code: FileCode::Text(code),
-                number,
-            }),
-            Err(FileFault::Memory) => Err(LoadFault::Run(RunFault::Memory)),
+        let new = match self.join_file(alloc, bytes) {
+            Ok(new) => new,
+            Err(fault) => return Err(fault),
+        };
+        let counts = counts_of(&new);
+        match self.take(new) {
+            Ok(()) => Ok(counts),
+            Err(fault) => Err(LoadFault::Run(fault)),
         }
     }
 }
