@@ -118,7 +118,7 @@ const FILES: [(&str, &str); 32] = [
     ),
     (
         "no columns",
-        "@stboundedby,urn:x-ogc:def:crs:EPSG:6.6:4326,2D,0 0,0 0,2020-01-01T00:00:00Z,2020-01-02T00:00:00Z,sec\n@columns,mfidref,trajectory\n",
+        "@stboundedby,urn:x-ogc:def:crs:EPSG:6.6:4326,2D,0 0,0 0,2012-01-17T12:33:41Z,2012-01-17T12:37:00Z,sec\n@columns,mfidref,trajectory\na,10,150,11 2 12 3\n",
     ),
     ("S1.csv", STANDARD),
     ("cut.csv", CUT),
@@ -336,6 +336,11 @@ fn the_standards_example(rt: HostRuntime) -> Result<(), Fail> {
                 "ok 1\n4,5,3\nrefused F9 at 1\nrefused F10 at 2\n",
             ),
             ("load cut.csv\ncount\r", "refused F11 at 5\nok 1\n0,0\n"),
+            // Its third record does not join, and its fifth has too few fields: the text comes first.
+            (
+                "load S1.csv\nload cut.csv\ncount\n",
+                "ok 1\n4,5,3\nrefused F11 at 5\nok 1\n5,3\n",
+            ),
             (
                 "load S1.csv\ntrajectory c\ntrajectory d\n",
                 "ok 1\n4,5,3\nok 2\nc,10,100,12 1 10 2,vehicle,1\nc,100,190,10 2 11 3,vehicle,1\nok 0\n",

@@ -60,9 +60,9 @@ fn example(
     };
     let file = read_file(alloc, STANDARD.as_bytes()).ok()?;
     let mut tracks = Tracks::new(alloc, keys).ok()?;
-    let legs = join(alloc, None, &tracks, &limits, &file).ok()?;
-    index.add_all(legs.as_slice()).ok()?;
-    tracks.accept(&file, legs.as_slice()).ok()?;
+    let joined = join(alloc, None, &tracks, &limits, &file).ok()?;
+    index.add_all(joined.legs()).ok()?;
+    tracks.accept(&joined).ok()?;
     let mut rows = Rows::new(alloc);
     for entry in file.records.into_vec() {
         rows.push(&entry.attributes).ok()?;

@@ -79,8 +79,8 @@ fn read(alloc: Global, text: &str) -> Option<File> {
     read_file(alloc, text.as_bytes()).ok()
 }
 
-/// The legs of the file on a book without legs, with just enough room.
-fn joined(alloc: Global, tracks: &Tracks, file: &File) -> Option<Vec<Leg>> {
+/// The file on a book without legs, with just enough room.
+fn joined(alloc: Global, tracks: &Tracks, file: &File) -> Option<Joined> {
     let limits = Limits::new(5, 2)?;
     join(alloc, None, tracks, &limits, file).ok()
 }
@@ -88,8 +88,9 @@ fn joined(alloc: Global, tracks: &Tracks, file: &File) -> Option<Vec<Leg>> {
 fn joins(alloc: Global, keys: RandomState) -> Option<bool> {
     let file = read(alloc, FILE)?;
     let tracks = Tracks::new(alloc, keys).ok()?;
-    let legs = joined(alloc, &tracks, &file)?;
-    Some(are_legs(legs.as_slice(), &LEGS))
+    let joined = joined(alloc, &tracks, &file)?;
+    let counted = (joined.record_count(), joined.feature_count()) == (3, 2);
+    Some(are_legs(joined.legs(), &LEGS) && counted)
 }
 
 #[test]
@@ -189,8 +190,8 @@ fn each_joining_fault_has_its_code(rt: HostRuntime) -> Result<(), Fail> {
 fn accepted(alloc: Global, keys: RandomState) -> Option<Tracks> {
     let file = read(alloc, FILE)?;
     let mut tracks = Tracks::new(alloc, keys).ok()?;
-    let legs = joined(alloc, &tracks, &file)?;
-    tracks.accept(&file, legs.as_slice()).ok()?;
+    let joined = joined(alloc, &tracks, &file)?;
+    tracks.accept(&joined).ok()?;
     Some(tracks)
 }
 

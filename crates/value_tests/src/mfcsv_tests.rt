@@ -165,6 +165,45 @@ fn reads_the_example_of_the_standard(rt: HostRuntime) -> Result<(), Fail> {
     Ok(())
 }
 
+/// How many records a reader gives, one after another, and then the head, or its fault.
+fn read_one_by_one(alloc: Global, bytes: &[u8]) -> (usize, Result<Head, FileFault>) {
+    let mut reader = FileReader::new(alloc, bytes);
+    let mut records = 0usize;
+    loop {
+        match reader.next_record(alloc) {
+            Ok(Some(_)) => records = records.saturating_add(1),
+            Ok(None) => return (records, reader.into_head()),
+            Err(fault) => {
+                let again = reader.next_record(alloc);
+                let told = matches!(again, Err(other) if other == fault);
+                let count = if told { records } else { 99 };
+                return (count, Err(fault));
+            }
+        }
+    }
+}
+
+#[test]
+fn reads_record_by_record(rt: HostRuntime) -> Result<(), Fail> {
+    // Where one allocation fails the answer may be want of memory; asked again, it is what the bytes say.
+    let answer = match read_one_by_one(rt.alloc(), STANDARD.as_bytes()) {
+        (_, Err(FileFault::Memory)) => read_one_by_one(rt.alloc(), STANDARD.as_bytes()),
+        answer => answer,
+    };
+    assert!(rt; answer.0 == 4 && answer.1.is_ok_and(|head| head.number_columns == 2));
+    let cut = headed!("a,0,1,0 0\n\nb,0,1\nc,0,1,0 0\n").as_bytes();
+    let refused = Err(FileFault::Refused {
+        code: Code::F11,
+        number: 4,
+    });
+    let answer = match read_one_by_one(rt.alloc(), cut) {
+        (_, Err(FileFault::Memory)) => read_one_by_one(rt.alloc(), cut),
+        answer => answer,
+    };
+    assert!(rt; answer.0 == 1 && answer.1.map(|_| ()) == refused);
+    Ok(())
+}
+
 #[test]
 fn reads_marks_odd_case_foreign_lines_and_quoted_fields(rt: HostRuntime) -> Result<(), Fail> {
     let text = "\u{FEFF}@STBOUNDEDBY,local,2d,0 0,0 0,2020-01-01T00:00:00Z,2020-01-02T00:00:00Z\r\n\
