@@ -71,11 +71,7 @@ fn join_fault(fault: JoinFault) -> LoadFault
 }
 
 /// Joins a record, and keeps its attribute values.
-fn take_record(
-    joiner: &mut FileJoiner,
-    rows: &mut Rows,
-    found: &Record,
-) -> Result<(), AllocError>
+fn take_record(joiner: &mut FileJoiner, rows: &mut Rows, found: &Record) -> Result<(), AllocError>
     ensures joined { OnOk result ((limits : LimitsView) (book : Book) (records : List RecordView)
         → IsJoining limits joiner.old book records
         → IsJoining limits joiner.new book (records ++ found.now ∷ [])) }
