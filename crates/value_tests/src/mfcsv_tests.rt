@@ -165,46 +165,6 @@ fn reads_the_example_of_the_standard(rt: HostRuntime) -> Result<(), Fail> {
     Ok(())
 }
 
-/// How many records a reader gives, one after another, of less than nine, and then the head, or the fault, which it
-/// tells again.
-fn read_one_by_one(alloc: Global, bytes: &[u8]) -> (usize, Result<Head, FileFault>) {
-    let mut reader = FileReader::new(alloc, bytes);
-    for records in 0..9usize {
-        match reader.next_record(alloc) {
-            Ok(Some(_)) => {}
-            Ok(None) => return (records, reader.into_head()),
-            Err(fault) => {
-                let again = reader.next_record(alloc).err() == Some(fault);
-                return (if again { records } else { 9 }, Err(fault));
-            }
-        }
-    }
-    (9, Err(FileFault::Memory))
-}
-
-/// The same. Where one allocation fails the answer may be want of memory; asked again, it is what the bytes say.
-fn read_records(alloc: Global, bytes: &[u8]) -> (usize, Result<Head, FileFault>) {
-    match read_one_by_one(alloc, bytes) {
-        (_, Err(FileFault::Memory)) => read_one_by_one(alloc, bytes),
-        answer => answer,
-    }
-}
-
-#[test]
-fn reads_record_by_record(rt: HostRuntime) -> Result<(), Fail> {
-    let (records, head) = read_records(rt.alloc(), STANDARD.as_bytes());
-    let head = head.ok().ok_or("no head")?;
-    assert!(rt; records == 4 && head.number_columns == 2);
-    let cut = headed!("a,0,1,0 0\n\nb,0,1\nc,0,1,0 0\n");
-    let (records, head) = read_records(rt.alloc(), cut.as_bytes());
-    let refused = FileFault::Refused {
-        code: Code::F11,
-        number: 4,
-    };
-    assert!(rt; records == 1 && head.err() == Some(refused));
-    Ok(())
-}
-
 #[test]
 fn reads_marks_odd_case_foreign_lines_and_quoted_fields(rt: HostRuntime) -> Result<(), Fail> {
     let text = "\u{FEFF}@STBOUNDEDBY,local,2d,0 0,0 0,2020-01-01T00:00:00Z,2020-01-02T00:00:00Z\r\n\
