@@ -10,7 +10,7 @@ use Rattle.pages.specs.Zero.{zero_payload}
 use Rattle.pages.specs.declared.payload.Kind.{Kind}
 use Rattle.pages.specs.declared.payload.Kind.TheVariants.{Header, Catalogue}
 use Rattle.pages.specs.declared.payload.Payload.{Payload}
-use Rattle.pagecache.specs.Cache.{Cache, Adds, AsksOnce, Lends, Stays, payload_of}
+use Rattle.pagecache.specs.Cache.{Cache, Adds, AsksOnce, Stays, payload_of}
 use Rattle.pagecache.specs.declared.fault.CacheFault.{CacheFault}
 use Rattle.pagecache.specs.declared.fault.CacheFault.TheVariants as cache
 use Rattle.tbnode.specs.Form.{node_of, node_by}
@@ -18,7 +18,7 @@ use Rattle.tbtree.specs.Descent.{IsSameTree, node_in}
 use Rattle.tbtree.specs.Nodes.{Pages, pages_of_cache}
 use Rattle.tbtree.specs.Passes.{Passes, KeepsLength}
 use Rattle.catalogue.specs.Chain.{part_payload}
-use Rattle.catalogue.specs.ChainSteps.{Gives, PayloadsStay, SparesTree}
+use Rattle.catalogue.specs.ChainSteps.{Fills, Gives, PayloadsStay, SparesTree}
 use Rattle.catalogue.specs.ChainWriter.{IsCaused}
 
 -- a step that is passed on is caused by what came before it too
@@ -58,12 +58,12 @@ adds_passes a b w s asks = record {
   written = λ f h u. s.keeps.written f 0 h u;
 }
 
-pub lends_passes : (a b : Cache) (n : ℕ) (w : Payload) → 0 < n → Lends n w a b → Passes a b
-lends_passes a b n w above l = record {
+pub fills_passes : (a b : Cache) (n : ℕ) (w : Payload) → 0 < n → Fills n w a b → Passes a b
+fills_passes a b n w above l = record {
   store = l.writes.keeps.store;
   capacity = l.writes.keeps.capacity;
   count = (let c = l.writes.count in omega (arith, c));
-  asked = (let h = l.asks in omega (arith, clamps, h));
+  asked = l.asked;
   first = λ f h. l.writes.payloads f 0 ∙ ap (λ v. cond v (Some w) (payload_of a 0)) (no_page n 0 (λ e. omega (arith, e, above)));
   unmarked = λ h u. l.writes.changed 0 (λ e. let z : n ≡ 0 = e in omega (arith, z, above)) u;
   written = λ f h u. l.writes.keeps.written f 0 h u;
@@ -149,8 +149,8 @@ module _ (a b : Cache) (n : ℕ) (w : Payload) (now : (m : ℕ) → payload_of b
 pub adds_spares : (a b : Cache) (w : Payload) → node_of w ≡ None → payload_of a a.count ≡ None → Adds w a b → SparesTree a b
 adds_spares a b w e none s = λ f. spared_more a b a.count w (s.payloads f) e (ap (λ o. node_in (option_map node_of o)) none) refl s.count
 
-pub lends_spares : (a b : Cache) (n : ℕ) (next : ℕ) (text : _) (v : Payload) → v.kind ≡ Catalogue → (IsTrue a.store.is_faithful → payload_of a n ≡ Some v) → Lends n (part_payload next text) a b → SparesTree a b
-lends_spares a b n next text v k at l = λ f.
+pub fills_spares : (a b : Cache) (n : ℕ) (next : ℕ) (text : _) (v : Payload) → v.kind ≡ Catalogue → (IsTrue a.store.is_faithful → payload_of a n ≡ Some v) → Fills n (part_payload next text) a b → SparesTree a b
+fills_spares a b n next text v k at l = λ f.
     spared a b n (part_payload next text) (l.writes.payloads f) (node_of-part next text)
     (ap (λ o. node_in (option_map node_of o)) (at f) ∙ node_of-catalogue v k) (sym l.writes.count)
 

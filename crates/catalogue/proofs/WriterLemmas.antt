@@ -10,12 +10,12 @@ use Rattle.std.proofs.lemmas.List.Elements.{All-nil, All-cons, All-head, All-tai
 use Rattle.indexmap.specs.IndexSet.{insert_key}
 use Rattle.pages.specs.declared.payload.Kind.TheVariants.{Catalogue}
 use Rattle.pages.specs.declared.payload.Payload.{Payload}
-use Rattle.pagecache.specs.Cache.{Cache, Lends, Rests, payload_of}
+use Rattle.pagecache.specs.Cache.{Cache, payload_of}
 use Rattle.tbtree.specs.Passes.{Passes}
-use Rattle.catalogue.proofs.SpareLemmas.{is_page, no_page, lends_spares, spares_trans, stays_spares}
+use Rattle.catalogue.proofs.SpareLemmas.{is_page, no_page, fills_spares, spares_trans, stays_spares}
 use Rattle.catalogue.proofs.ChainLemmas.{pages_of, text_is_at, written_length}
 use Rattle.catalogue.specs.Chain.{most_used, part_payload, text_at}
-use Rattle.catalogue.specs.ChainSteps.{Gives, IsNumber, IsPutBehind, SparesTree}
+use Rattle.catalogue.specs.ChainSteps.{Fills, Gives, IsNumber, IsPutBehind, OnlyAsks, SparesTree}
 use Rattle.catalogue.specs.ChainWriter.{AreWritten, HasText, Holds, HoldsText, IsOwn, WriterView}
 
 -- a number that none of a list reaches is none of them
@@ -77,7 +77,7 @@ module _ (a b d : Cache) (w : WriterView) (l page : ℕ) (part : List ℕ) (give
   fb : IsTrue a.store.is_faithful → IsTrue b.store.is_faithful
   fb f = passes.store.faithful ∙ f
 
-  module _ (lends : Lends l (part_payload page part) b d) (f : IsTrue a.store.is_faithful) where
+  module _ (lends : Fills l (part_payload page part) b d) (f : IsTrue a.store.is_faithful) where
     now : payload_of d l ≡ Some (part_payload page part)
     now = lends.writes.payloads (fb f) l ∙ ap (λ v. cond v (Some (part_payload page part)) (payload_of b l)) (is_page l l refl)
 
@@ -112,16 +112,16 @@ module _ (a b d : Cache) (w : WriterView) (l page : ℕ) (part : List ℕ) (give
           apart = subst (λ ks. AllPairs (λ a b. a ≢ b) ks) (sym put.keys) (pairs_push w.pages page h.apart put.apart);
         }
 
-  pub holds_step : (earlier : ℕ) (rest keys text : List ℕ) → Lends l (part_payload page part) b d → (All (λ p. p < a.count) w.pages → IsPutBehind w.pages page keys) → w.text ≡ part ++ rest → length part ≡ 4040 → 0 < length rest
+  pub holds_step : (earlier : ℕ) (rest keys text : List ℕ) → Fills l (part_payload page part) b d → (All (λ p. p < a.count) w.pages → IsPutBehind w.pages page keys) → w.text ≡ part ++ rest → length part ≡ 4040 → 0 < length rest
       → Holds a w text → Holds d (record { pages = keys; earlier = earlier; text = rest }) text
   holds_step earlier rest keys text lends puts is len some h = λ fd.
       let f : IsTrue a.store.is_faithful = sym passes.store.faithful ∙ sym lends.writes.keeps.store.faithful ∙ fd in
       step lends f earlier rest keys text puts is len some (h f)
 
-  pub tree_step : {T E : Type 0} (r : Result T E) (text : List ℕ) → 0 < length w.pages → SparesTree a b → OnOk r (Lends l (part_payload page part) b d) → OnErr r (Rests b d) → Holds a w text → SparesTree a d
+  pub tree_step : {T E : Type 0} (r : Result T E) (text : List ℕ) → 0 < length w.pages → SparesTree a b → OnOk r (Fills l (part_payload page part) b d) → OnErr r (OnlyAsks b d) → Holds a w text → SparesTree a d
   tree_step (Ok x) text some tree lends rests h = λ f.
       let o : IsOwn (payload_of a) l = subst (IsOwn (payload_of a)) (sym at) ((h f).own (length w.pages - 1) 0 (omega (arith, some))) in
-      spares_trans a b d passes tree (lends_spares b d l page part o.payload o.kind (λ _. gives.stay f l o.payload o.is) lends) f
+      spares_trans a b d passes tree (fills_spares b d l page part o.payload o.kind (λ _. gives.stay f l o.payload o.is) lends) f
   tree_step (Err x) text some tree lends rests h = spares_trans a b d passes tree (stays_spares b d rests.stays)
 
 -- some bytes, and what is behind them
@@ -136,7 +136,7 @@ module _ (a b d : Cache) (v : WriterView) (l page done k : ℕ) (ks items bytes 
   part_is : take k (drop done bytes) ≡ take 4040 (drop done v.text)
   part_is = ap (λ n. take n (drop done bytes)) size ∙ ap (λ t. take 4040 (drop done t)) bytes_are
 
-  pub part_holds : (earlier : ℕ) (keys text : List ℕ) → (All (λ p. p < a.count) ks → IsPutBehind ks page keys) → done + 4040 < length v.text → Lends l (part_payload page (take k (drop done bytes))) b d
+  pub part_holds : (earlier : ℕ) (keys text : List ℕ) → (All (λ p. p < a.count) ks → IsPutBehind ks page keys) → done + 4040 < length v.text → Fills l (part_payload page (take k (drop done bytes))) b d
       → Holds a (record v { text = drop done v.text }) text → Holds d (record { pages = keys; earlier = earlier; text = drop (done + 4040) items }) text
   part_holds earlier keys text puts more lends h =
       let part = take 4040 (drop done v.text) in
@@ -145,10 +145,10 @@ module _ (a b d : Cache) (v : WriterView) (l page done k : ℕ) (ks items bytes 
       let len : length part ≡ 4040 = length-take-le 4040 (drop done v.text) (omega (arith, x, more)) in
       subst (λ t. Holds d (record { pages = keys; earlier = earlier; text = drop (done + 4040) t }) text) (sym from)
       (holds_step a b d (record v { text = drop done v.text }) l page part gives passes at earlier (drop (done + 4040) v.text) keys text
-      (subst (λ t. Lends l (part_payload page t) b d) part_is lends)
+      (subst (λ t. Fills l (part_payload page t) b d) part_is lends)
       (subst (λ ks. All (λ p. p < a.count) ks → IsPutBehind ks page keys) pages puts) (cut done 4040 v.text) len (omega (arith, y, more)) h)
 
-  pub part_tree : {T E : Type 0} (r : Result T E) (text : List ℕ) → 0 < length v.pages → SparesTree a b → OnOk r (Lends l (part_payload page (take k (drop done bytes))) b d) → OnErr r (Rests b d)
+  pub part_tree : {T E : Type 0} (r : Result T E) (text : List ℕ) → 0 < length v.pages → SparesTree a b → OnOk r (Fills l (part_payload page (take k (drop done bytes))) b d) → OnErr r (OnlyAsks b d)
       → Holds a (record v { text = drop done v.text }) text → SparesTree a d
   part_tree r text some tree lends rests h = tree_step a b d (record v { text = drop done v.text }) l page (take k (drop done bytes)) gives passes at r text some tree lends rests h
 
@@ -191,7 +191,7 @@ written_there at new (p ∷ p2 ∷ pages) written same above w =
     (w.0, w.1, w.2, w.3, same p (All-head (λ p. 0 < p) p (p2 ∷ pages) above) ∙ w.4, written_there at new (p2 ∷ pages) w.1 same (All-tail (λ p. 0 < p) p (p2 ∷ pages) above) w.5)
 
 -- the last page is written, and no page comes after it
-module _ (a d : Cache) (rest text : List ℕ) (l : ℕ) (short : length rest ≤ 4040) (lends : Lends l (part_payload 0 rest) a d) (f : IsTrue a.store.is_faithful) (some : 0 < length text) where
+module _ (a d : Cache) (rest text : List ℕ) (l : ℕ) (short : length rest ≤ 4040) (lends : Fills l (part_payload 0 rest) a d) (f : IsTrue a.store.is_faithful) (some : 0 < length text) where
   closed_pages : (pages : List ℕ) (earlier len first : ℕ) → l ≡ get_or pages (length pages - 1) 0 → first ≡ get_or pages 0 0 → len ≡ 4040 * (length pages - 1) + length rest → All IsNumber pages
       → HoldsText (payload_of a) a.count (record { pages = pages; earlier = earlier; text = rest }) text → HasText d len first text × (len ≡ length text) × (0 < first) × (first < d.count) × (div_ceil len most_used ≤ d.count)
   closed_pages [] earlier len first at from size numbers h = absurd h.parts
@@ -230,7 +230,7 @@ module _ (a d : Cache) (rest text : List ℕ) (l : ℕ) (short : length rest ≤
       (subst (λ t. HoldsText (payload_of a) a.count (record { pages = w.pages; earlier = w.earlier; text = t }) text) same (h f))
 
 -- so is a page that is the last one
-pub last_tree : (a d : Cache) (w : WriterView) (l next : ℕ) (bytes text : List ℕ) → l ≡ get_or w.pages (length w.pages - 1) 0 → 0 < length w.pages → Lends l (part_payload next bytes) a d → Holds a w text → SparesTree a d
+pub last_tree : (a d : Cache) (w : WriterView) (l next : ℕ) (bytes text : List ℕ) → l ≡ get_or w.pages (length w.pages - 1) 0 → 0 < length w.pages → Fills l (part_payload next bytes) a d → Holds a w text → SparesTree a d
 last_tree a d w l next bytes text at some lends h = λ f.
     let o : IsOwn (payload_of a) l = subst (IsOwn (payload_of a)) (sym at) ((h f).own (length w.pages - 1) 0 (omega (arith, some))) in
-    lends_spares a d l next bytes o.payload o.kind (λ _. o.is) lends f
+    fills_spares a d l next bytes o.payload o.kind (λ _. o.is) lends f

@@ -1,12 +1,12 @@
 //! A text that is written to a chain of pages.
-ghost use Rattle.std.specs.Prelude.{◌≡◌, ◌<◌, ◌≤◌, false, length, nat_eq, All, OnOk, OnErr, IfOk, IfErr, IfSome};
+ghost use Rattle.std.specs.Prelude.{◌≡◌, ◌<◌, ◌≤◌, false, length, nat_eq, All, OnOk, OnErr, IfOk, IfErr, IfSome, IsTrue, Some};
 ghost use Rattle.pages.specs.declared.payload.Kind.TheVariants.{Catalogue};
-ghost use Rattle.pagecache.specs.Cache.{Rests, Lends, IsRefused};
+ghost use Rattle.pagecache.specs.Cache.{payload_of, Rests, Lends, IsRefused};
 ghost use Rattle.tbtree.specs.Passes.{Passes, KeepsLength};
 ghost use Rattle.indexmap.specs.IndexSet.{insert_key, contains, spare};
 ghost use Rattle.catalogue.specs.Beginning.{IsAllowed};
 ghost use Rattle.catalogue.specs.Chain.{part_payload};
-ghost use Rattle.catalogue.specs.ChainSteps.{AreNumbers, IsNumber, IsPutBehind, Gives, IsThere, PayloadsStay, SparesTree};
+ghost use Rattle.catalogue.specs.ChainSteps.{AreNumbers, Fills, IsNumber, IsPutBehind, Gives, IsThere, OnlyAsks, PayloadsStay, SparesTree};
 ghost use Rattle.catalogue.specs.ChainWriter.{IsCaused};
 
 use indexmap::IndexSet;
@@ -43,18 +43,49 @@ impl Model for ChainWriter {
     ghost invariant = { λ a. AreNumbers a.pages.keys };
 }
 
-/// Makes a payload one of the chain: the page after it, 0 for none, and its bytes of the text.
-fn fill_page(payload: &mut Payload, next: u32, text: &[u8])
+/// The payload of a page of the chain: the page after it, 0 for none, and its bytes of the text.
+fn payload_for(next: u32, text: &[u8]) -> Payload
     requires { length text.now ≤ 4040 }
-    ensures { payload.new ≡ part_payload next text.now }
+    ensures { result ≡ part_payload next text.now }
 {
-    *payload = Payload::zero(Kind::Catalogue);
+    let mut payload = Payload::zero(Kind::Catalogue);
     put_u32(&mut payload.bytes, 0, next);
     put_u16(&mut payload.bytes, 4, text.len() as u16);
     put(&mut payload.bytes, 16, text);
+    payload
 }
 
-/// Writes a page of the chain.
+/// Whether a page has that payload.
+fn has_payload<S: PageStore>(
+    cache: &mut PageCache<S>,
+    page: u32,
+    payload: &Payload,
+) -> Result<bool, CacheFault>
+    ensures same { IfOk result (λ same. IsTrue same → IsTrue cache.old.store.is_faithful
+        → payload_of cache.old page ≡ Some payload.now) }
+    ensures below { OnOk result (page < cache.old.count) }
+    ensures rests { Rests cache.old cache.new }
+    ensures refused { IfErr result (λ fault. IsRefused page fault cache.old cache.new) }
+{
+    let held = cache.page(page)?;
+    Ok(*held == *payload)
+}
+
+/// Writes a page.
+fn replace<S: PageStore>(
+    cache: &mut PageCache<S>,
+    page: u32,
+    payload: Payload,
+) -> Result<(), CacheFault>
+    ensures lends { OnOk result (Lends page payload cache.old cache.new) }
+    ensures rests { OnErr result (Rests cache.old cache.new) }
+    ensures refused { IfErr result (λ fault. IsRefused page fault cache.old cache.new) }
+{
+    *cache.page_mut(page)? = payload;
+    Ok(())
+}
+
+/// Writes a page of the chain, where it has another payload.
 fn write_page<S: PageStore>(
     cache: &mut PageCache<S>,
     page: u32,
@@ -62,13 +93,16 @@ fn write_page<S: PageStore>(
     text: &[u8],
 ) -> Result<(), CacheFault>
     requires { length text.now ≤ 4040 }
-    ensures writes { OnOk result (Lends page (part_payload next text.now) cache.old cache.new) }
+    ensures writes { OnOk result (Fills page (part_payload next text.now) cache.old cache.new) }
     ensures below { OnOk result (page < cache.old.count) }
-    ensures rests { OnErr result (Rests cache.old cache.new) }
+    ensures rests { OnErr result (OnlyAsks cache.old cache.new) }
     ensures refused { IfErr result (λ fault. IsRefused page fault cache.old cache.new) }
 {
-    fill_page(cache.page_mut(page)?, next, text);
-    Ok(())
+    let payload = payload_for(next, text);
+    if has_payload(cache, page, &payload)? {
+        return Ok(());
+    }
+    replace(cache, page, payload)
 }
 
 /// What a page of a catalogue says comes after it.
