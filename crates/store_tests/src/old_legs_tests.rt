@@ -1,7 +1,7 @@
 //! The legs of a store of version 1, brought into an index.
 ghost use Rattle.std.specs.Prelude.{◌≤◌};
 
-use crate::samples::leg_in_turn;
+use crate::samples::{leg, leg_in_turn};
 use legs::{IndexFault, Leg, LegIndex, ListIndex, Track, Tracks};
 use pages::{Fuse, Kind, MemStore, PageStore, Payload, seal};
 use std::alloc::Global;
@@ -14,7 +14,7 @@ use version1::take_old_legs;
 
 /// Writes that leg at a place of a payload, over 64 bytes.
 fn put_leg(payload: &mut Payload, place: usize, ordinal: u32)
-    requires { place ≤ 3000 }
+    requires { place ≤ 3990 }
 {
     let n = i64::from(ordinal);
     put_u64(&mut payload.bytes, place, u64::from(ordinal));
@@ -180,6 +180,92 @@ fn each_failed_call_is_a_store_fault(rt: HostRuntime) -> Result<(), Fail> {
             None
         };
         assert!(rt; told == Some(wanted), "{calls}: {told:?}");
+    }
+    Ok(())
+}
+
+/// How many legs of one feature a leaf of version 1 has here.
+const FULL: u32 = 63;
+
+/// A leaf of version 1 of feature 0, with so many legs from that one on.
+fn long_leaf(first: u32, count: u32, previous: u32, next: u32) -> Payload
+    requires { count ≤ 63 }
+{
+    let mut payload = leaf(0, previous, next, count as u16, [0, 0]);
+    for i in 0..count {
+        put_leg(&mut payload, 16 + 64 * i as usize, first.wrapping_add(i));
+    }
+    payload
+}
+
+/// So many legs of one feature, in leaves on the pages from 1 on.
+fn long_store(alloc: Global, legs: u32) -> Option<MemStore> {
+    let leaves = legs.div_ceil(FULL);
+    let mut store = MemStore::new(alloc, leaves.saturating_add(1));
+    for page in 0..=leaves {
+        if page > store.len() || page >= store.most() {
+            return None;
+        }
+        let first = page.saturating_sub(1).saturating_mul(FULL);
+        let count = legs.saturating_sub(first).min(FULL);
+        let next = if page < leaves { page + 1 } else { 0 };
+        let payload = if page == 0 {
+            Payload::zero(Kind::Header)
+        } else {
+            long_leaf(first, count, page.saturating_sub(1), next)
+        };
+        store.write(page, &seal(page, &payload)).ok()?;
+    }
+    Some(store)
+}
+
+/// Whether so many legs of one feature are brought, each the right one.
+fn brings(alloc: Global, keys: RandomState, legs: u32) -> Option<bool> {
+    let mut store = long_store(alloc, legs)?;
+    let last = legs.div_ceil(FULL);
+    let place = Place {
+        first: 1,
+        last,
+        last_index: last.saturating_sub(1),
+        legs: u64::from(legs),
+    };
+    let track = Track {
+        end: Ms::new(i64::from(legs).wrapping_mul(1000))?,
+        legs: u64::from(legs),
+    };
+    let mut tracks = Tracks::new(alloc, keys).ok()?;
+    tracks.add(String::from_str(alloc, "a").ok()?, track).ok()?;
+    let rows = u64::from(legs);
+    if !tracks.set_rows(rows) {
+        return None;
+    }
+    let mut index = ListIndex::new(alloc);
+    take_old_legs(
+        alloc,
+        keys,
+        &mut store,
+        63,
+        &[place],
+        &tracks,
+        rows,
+        &mut index,
+    )
+    .ok()?;
+    let found = index.track(0).ok()?;
+    for ordinal in 0..legs {
+        if found.get(ordinal as usize).copied() != leg(ordinal, 0, ordinal) {
+            return Some(false);
+        }
+    }
+    Some(found.len() == legs as usize && index.len() == rows)
+}
+
+#[test]
+fn as_many_legs_as_wait_at_most_are_brought_and_one_more(rt: HostRuntime) -> Result<(), Fail> {
+    let keys = RandomState::new(&rt)?;
+    for legs in [65_535, 65_536, 65_537] {
+        let told = brings(rt.alloc(), keys, legs);
+        assert!(rt; told == Some(true), "{legs}: {told:?}");
     }
     Ok(())
 }
