@@ -5,3 +5,4 @@ pub mod ListLemmas
 pub mod CourseLemmas
 pub mod PredicateLemmas
 pub mod NearLemmas
+pub mod EndLemmas

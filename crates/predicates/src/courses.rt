@@ -4,8 +4,8 @@ ghost use Rattle.legs.specs.Legs.{LegView, HasMoment};
 ghost use Rattle.legs.specs.Boxes.{RectView};
 ghost use Rattle.timebase.specs.Period.{PeriodView};
 ghost use Rattle.clipping.specs.Inside.{HasMomentInside, live_ends};
-ghost use Rattle.predicates.specs.Predicates.{Holds};
-ghost use Rattle.predicates.specs.Courses.{IsCourse};
+ghost use Rattle.predicates.specs.Predicates.{Holds, first_live, last_live};
+ghost use Rattle.predicates.specs.Courses.{IsCourse, ends_of};
 
 use crate::Predicate;
 use clipping::{clip, inside_at, live};
@@ -156,4 +156,47 @@ pub(crate) fn course_of(legs: &[Leg], rect: &Rect, period: &Period) -> Course
         course = course.then(Course::of(leg, rect, period));
     }
     course
+}
+
+/// The first leg that has a moment in a period.
+fn first_live(legs: &[Leg], period: &Period) -> Option<Leg>
+    ensures { result ≡ first_live period.now legs.now }
+{
+    for leg in legs {
+        if live(leg, period).is_some() {
+            return Some(*leg);
+        }
+    }
+    None
+}
+
+/// The last leg that has a moment in a period.
+fn last_live(legs: &[Leg], period: &Period) -> Option<Leg>
+    ensures { result ≡ last_live period.now legs.now }
+{
+    let mut i = legs.len();
+    'legs: while i > 0 {
+        i -= 1;
+        if live(&legs[i], period).is_some() {
+            return Some(legs[i]);
+        }
+    }
+    None
+}
+
+/// The course of the first and of the last leg that have a moment, which alone count for where legs
+/// enter and leave.
+pub(crate) fn course_of_ends(legs: &[Leg], rect: &Rect, period: &Period) -> Course
+    ensures { IsCourse result (ends_of period.now legs.now) rect.now period.now }
+{
+    match first_live(legs, period) {
+        Some(first) => match last_live(legs, period) {
+            Some(last) => {
+                let entry = Course::of(&first, rect, period);
+                entry.then(Course::of(&last, rect, period))
+            }
+            None => Course::empty(),
+        },
+        None => Course::empty(),
+    }
 }

@@ -13,7 +13,7 @@ ghost use Rattle.predicates.specs.Predicates.{Holds};
 mod courses;
 mod near;
 
-use courses::course_of;
+use courses::{course_of, course_of_ends};
 use legs::{Leg, Rect};
 pub use near::search_box;
 use timebase::Period;
@@ -46,5 +46,10 @@ pub fn holds(predicate: Predicate, legs: &[Leg], rect: &Rect, period: &Period) -
     ensures live { (all : List LegView) → Holds predicate all rect.now period.now
         ↔ Holds predicate (filter (is_live period.now) all) rect.now period.now }
 {
-    course_of(legs, rect, period).answer(predicate)
+    match predicate {
+        Predicate::Enters | Predicate::Leaves => {
+            course_of_ends(legs, rect, period).answer(predicate)
+        }
+        _ => course_of(legs, rect, period).answer(predicate),
+    }
 }
