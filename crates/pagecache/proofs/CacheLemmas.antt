@@ -6,6 +6,7 @@ use Rattle.std.specs.Map.{lookup, keys_of}
 use Rattle.std.specs.List.{IsDistinct}
 use Rattle.std.specs.Cmp.{nat_eq_equiv}
 use Rattle.std.proofs.lemmas.Map.Entries.{lookup_from_place}
+use Rattle.std.proofs.lemmas.Int.{clamps}
 use Rattle.std.proofs.lemmas.List.{length-map, take_all}
 use Rattle.pagecache.proofs.HeldLemmas.{at_same_key, lookup-take, dropped, first_entry}
 use Rattle.std.specs.Box.{box_value}
@@ -386,6 +387,70 @@ not_appended c d n s l at t look count capacity asked =
         unwritten = none_written c d (λ f k _. rest_same c d k (λ m _. pages f m));
       };
     }
+
+-- a page has come in behind the last one, changed; whatever bytes the store has of it
+pub entered : (c d : Cache) (n : ℕ) (page : List ℕ) (w : Held) → IsSound c → IsLawful c.store → n ≡ c.count → w.changed ≡ true → store.Writes n page c.store d.store → Takes c n w d
+    → d.count ≡ c.count + 1 → d.capacity ≡ c.capacity → IsSound d × Adds (box_value w.payload) c d
+entered c d n page w s l at marked t look count capacity =
+    let faithful : IsTrue d.store.is_faithful → IsTrue c.store.is_faithful = λ f. sym t.keeps.faithful ∙ f in
+    let fits : IsTrue c.store.is_faithful → n ≤ length c.store.pages = λ f. omega (arith, l.counted f, s.within) in
+    let other_page : IsTrue c.store.is_faithful → (m : ℕ) → n ≢ m → page_of d m ≡ page_of c m = λ f m ne. elim (cases_lt m c.count) [
+      | inl h ↦ page_of-below d m (omega (arith, h, count)) ∙ ap (λ xs. slice_get xs m) (t.pages f) ∙ slice_get-put_other c.store.pages n m page (fits f) ne ∙ sym (page_of-below c m h)
+      | inr h ↦ page_of-above d m (omega (arith, h, count, at, ne)) ∙ sym (page_of-above c m h)
+    ] in
+    let sound : IsSound d = record {
+      within = omega (arith, s.within, count, t.count, at);
+      below = λ m k. elim (cases_eq n m) [
+        | inl e ↦ omega (arith, e, at, count)
+        | inr ne ↦ elim (look.others m ne) [
+          | inl e ↦ let b : m < c.count = s.below m (subst IsSome e k) in omega (arith, b, count)
+          | inr e ↦ absurd (false≢true (subst IsSome e.0 k))
+        ]
+      ];
+      clean = λ f m q e u. elim (cases_eq n m) [
+        | inl k ↦ let q' : Some w ≡ Some q = sym look.here ∙ ap (in_memory d) k ∙ e in
+            let p : w ≡ q = cc in
+            absurd (false≢true (sym u ∙ sym (ap (λ (x : Held). x.changed) p) ∙ marked))
+        | inr ne ↦ elim (look.others m ne) [
+          | inl e' ↦ sealed_payload-same c d m (other_page (faithful f) m ne) ∙ s.clean (faithful f) m q (sym e' ∙ e) u
+          | inr e' ↦ let x : None ≡ Some q = sym e'.0 ∙ e in absurd (cc)
+        ]
+      ];
+    } in (
+      sound,
+      record {
+        keeps = record {
+          store = t.keeps;
+          capacity = capacity;
+          settled = settled d sound;
+          written = λ f m b _. other_page f m (λ k. let x : n ≡ m = k in absurd (omega (arith, x, b, at)));
+        };
+        count = count;
+        payloads = λ f m. subst (λ i. payload_of d m ≡ cond (nat_eq i m) (Some (box_value w.payload)) (payload_of c m)) at (elim (cases_eq n m) [
+          | inl k ↦ subst (λ i. payload_of d i ≡ cond (nat_eq n i) (Some (box_value w.payload)) (payload_of c i)) k
+              (payload_of-some d n w look.here ∙ sym (ap (λ b. cond b (Some (box_value w.payload)) (payload_of c n)) (eq-eqb n n refl)))
+          | inr ne ↦ elim (look.others m ne) [
+            | inl e ↦ payload_of-same c d m e (sealed_payload-same c d m (other_page f m ne))
+            | inr e ↦ payload_of-none d m e.0 ∙ sealed_payload-same c d m (other_page f m ne) ∙ sym (settled c s f m e.1)
+          ] ∙ sym (ap (λ b. cond b (Some (box_value w.payload)) (payload_of c m)) (ne_eqb n m ne))
+        ]);
+        changed = λ m ne u. elim (look.others m (λ k. ne (sym at ∙ k))) [
+          | inl e ↦ is_changed-same c d m e ∙ u
+          | inr e ↦ is_changed-none d m e.0
+        ];
+      },
+    )
+
+-- a page that was written may be told of as one that was torn
+pub written_torn : (s t : Store) (n : ℕ) (page : List ℕ) → n ≤ s.count → store.Writes n page s t → store.Tears n s t
+written_torn s t n page below w = record {
+  keeps = w.keeps;
+  count = elim (cases_lt n s.count) [
+    | inl h ↦ inl (let c = w.count in omega (arith, clamps, c, h))
+    | inr h ↦ inr ((let x : n ≡ s.count = omega (arith, h, below) in x), (let c = w.count in omega (arith, clamps, c, h, below)))
+  ];
+  pages = λ f. inr (page, w.pages f);
+}
 
 -- the page used longest ago, in a cache that is full
 pub leaves_last : (c : Cache) (n : ℕ) (h : Held) → IsDistinct nat_eq (keys_of c.held) → IsWithin c → c.capacity ≤ length c.held

@@ -90,8 +90,26 @@ impl<S: PageStore> PageCache<S> {
         self.slots.add(payload)
     }
 
+    /// Adds a page with a payload that is to change once more, and returns its number, the count so
+    /// far, which had no payload. The page is there in the store, and is sealed and written with its
+    /// payload when it leaves memory, or by `flush`.
+    pub fn add_changed(&mut self, payload: Payload) -> Result<u32, CacheFault>
+        ensures adds { OnOk result (Adds payload self.old self.new) }
+        ensures number { IfOk result (λ number. number ≡ self.old.count) }
+        ensures none_before { payload_of self.old self.old.count ≡ None }
+        ensures length { OnOk result (self.old.count ≡ self.old.store.count
+            → self.new.count ≡ self.new.store.count) }
+        ensures refused { OnErr result (Stays self.old self.new) }
+        ensures asks { AsksOnce self.old self.new }
+        ensures cause { IfErr result (λ fault. IsNotAdded fault self.old self.new) }
+        ensures full { self.old.count ≡ self.old.store.most
+            → result ≡ Err CacheFault.StoreFull }
+    {
+        self.slots.add_changed(payload)
+    }
+
     /// Adds a page with a zero payload to the store, and returns its number, the count so far, which
-    /// had no payload.
+    /// had no payload. It is written as by `add_changed`.
     pub fn add_page(&mut self, kind: Kind) -> Result<u32, CacheFault>
         ensures adds { OnOk result (Adds (zero_payload kind) self.old self.new) }
         ensures number { IfOk result (λ number. number ≡ self.old.count) }
@@ -104,7 +122,7 @@ impl<S: PageStore> PageCache<S> {
         ensures full { self.old.count ≡ self.old.store.most
             → result ≡ Err CacheFault.StoreFull }
     {
-        self.add(Payload::zero(kind))
+        self.add_changed(Payload::zero(kind))
     }
 
     /// Writes every changed page to the store, and makes the store last. A page that is not

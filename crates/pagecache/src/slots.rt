@@ -1,5 +1,5 @@
 //! The pages in memory, over the store: a step of the cache each.
-ghost use Rattle.std.specs.Prelude.{ℕ, ◌≡◌, ◌<◌, ◌≤◌, false, Some, None, IsTrue, IsSome, OnOk, OnErr, IfOk, IfErr, IfNone, IfSome, IsErrOf, slice_get, slice_index, EachIndex, length};
+ghost use Rattle.std.specs.Prelude.{ℕ, ◌≡◌, ◌<◌, ◌≤◌, ◌↔◌, false, Some, None, IsTrue, IsSome, OnOk, OnErr, IfOk, IfErr, IfNone, IfSome, IsErrOf, slice_get, slice_index, EachIndex, length};
 ghost use Rattle.std.specs.Borrow.{sem};
 ghost use Rattle.std.specs.Map.{keys_of};
 ghost use Rattle.pagecache.specs.Cache.{fresh, AsksOnce, Stays, SameLength, Adds, IsRefused, IsStopped, IsNotAdded, IsWritten, in_memory, sealed_payload, is_changed, payload_of};
@@ -300,6 +300,13 @@ impl<S: PageStore> Slots<S> {
         }
     }
 
+    /// Whether there are as many pages as the store may have.
+    fn is_full(&self) -> bool
+        ensures { IsTrue result ↔ ((S.seen self.now.store).most ≤ self.now.count) }
+    {
+        self.count >= self.store.most()
+    }
+
     /// Adds a page to the store.
     fn append(&mut self, payload: &Payload) -> Result<u32, CacheFault>
         requires sound { IsSound (seen_of S.seen self.old) }
@@ -348,7 +355,7 @@ impl<S: PageStore> Slots<S> {
             → result ≡ Err CacheFault.StoreFull }
     {
         self.asked = self.asked.saturating_add(1);
-        if self.count >= self.store.most() {
+        if self.is_full() {
             return Err(CacheFault::StoreFull);
         }
         match self.make_room() {
@@ -361,6 +368,78 @@ impl<S: PageStore> Slots<S> {
                 let _ = self.keep(number, payload);
                 Ok(number)
             }
+            Err(fault) => Err(fault),
+        }
+    }
+
+    /// Takes a page with a payload into memory, behind the last one. It is changed: the store has
+    /// zero bytes for it, which are no sealed page, until it is written.
+    fn enter(&mut self, payload: Payload) -> Result<u32, CacheFault>
+        requires sound { IsSound (seen_of S.seen self.old) }
+        requires most { self.old.count < (S.seen self.old.store).most }
+        requires room { HasRoom (seen_of S.seen self.old) }
+        ensures sound { IsSound (seen_of S.seen self.new) }
+        ensures adds { OnOk result
+            (Adds payload (seen_of S.seen self.old) (seen_of S.seen self.new)) }
+        ensures number { IfOk result (λ number. number ≡ self.old.count) }
+        ensures length { OnOk result (self.old.count ≡ (S.seen self.old.store).count
+            → self.new.count ≡ (S.seen self.new.store).count) }
+        ensures stays { OnErr result
+            (Stays (seen_of S.seen self.old) (seen_of S.seen self.new)) }
+        ensures asked { self.new.asked ≡ self.old.asked }
+        ensures cause { IfErr result
+            (λ fault. IsStopped fault (seen_of S.seen self.old) (seen_of S.seen self.new)) }
+    {
+        let number = self.count;
+        let payload = match Box::new(self.alloc, payload) {
+            Ok(payload) => payload,
+            Err(_) => return Err(CacheFault::Memory),
+        };
+        let held = Held {
+            payload,
+            changed: true,
+        };
+        let zeros = blank();
+        match self.store.write(number, &zeros) {
+            Ok(()) => {}
+            Err(_) => return Err(CacheFault::Store),
+        }
+        match self.held.put(number, held) {
+            Ok(_) => {
+                self.count += 1;
+                Ok(number)
+            }
+            Err(_) => Err(CacheFault::Memory),
+        }
+    }
+
+    /// Adds a page with a payload, and counts one ask. It is written later.
+    pub(crate) fn add_changed(&mut self, payload: Payload) -> Result<u32, CacheFault>
+        requires { IsSound (seen_of S.seen self.old) }
+        ensures sound { IsSound (seen_of S.seen self.new) }
+        ensures adds { OnOk result
+            (Adds payload (seen_of S.seen self.old) (seen_of S.seen self.new)) }
+        ensures number { IfOk result (λ number. number ≡ self.old.count) }
+        ensures length { OnOk result (self.old.count ≡ (S.seen self.old.store).count
+            → self.new.count ≡ (S.seen self.new.store).count) }
+        ensures stays { OnErr result
+            (Stays (seen_of S.seen self.old) (seen_of S.seen self.new)) }
+        ensures asks { AsksOnce (seen_of S.seen self.old) (seen_of S.seen self.new) }
+        ensures cause { IfErr result
+            (λ fault. IsNotAdded fault (seen_of S.seen self.old) (seen_of S.seen self.new)) }
+        ensures full { self.old.count ≡ (S.seen self.old.store).most
+            → result ≡ Err CacheFault.StoreFull }
+    {
+        self.asked = self.asked.saturating_add(1);
+        if self.is_full() {
+            return Err(CacheFault::StoreFull);
+        }
+        match self.make_room() {
+            Ok(()) => {}
+            Err(fault) => return Err(fault),
+        }
+        match self.enter(payload) {
+            Ok(number) => Ok(number),
             Err(fault) => Err(fault),
         }
     }

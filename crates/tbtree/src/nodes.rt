@@ -1,6 +1,8 @@
 //! The pages of a tree in a cache: each call here changes one page, adds one, or reads one.
-ghost use Rattle.std.specs.Prelude.{◌≡◌, ◌+◌, ◌≤◌, ◌<◌, [], ◌∷◌, OnOk, IfOk, IfErr, IsTrue, None, length, true};
+ghost use Rattle.std.specs.Prelude.{◌≡◌, ◌+◌, ◌≤◌, ◌<◌, [], ◌∷◌, OnOk, OnErr, IfOk, IfErr, IsTrue, None, length, true};
 ghost use Rattle.legs.specs.Hull.{leg_boxes};
+ghost use Rattle.pagecache.specs.Cache as caches;
+ghost use Rattle.pagecache.specs.Cache.{payload_of, AsksOnce, IsNotAdded, Stays};
 ghost use Rattle.tbnode.specs.Edits.{new_inner};
 ghost use Rattle.tbtree.specs.Faults.{IsAllowed, IsCaused};
 ghost use Rattle.tbtree.specs.Nodes.{pages_of_cache, AnInner, Adds, Attaches, Covers, HasCover, HasEntry, HasLeaf, HasLeafRoom, HasRoom, Links, Pushes, Widens};
@@ -10,9 +12,9 @@ ghost use Rattle.tbtree.specs.Payloads.{TakesLegs, are_of_one_leaf, leaf_of_legs
 use crate::fault::TreeFault;
 use crate::payloads::{child_of, cover_of, has_room, is_leaf, leaf_of_legs, push_legs, takes};
 use legs::{Box3, Leg};
-use pagecache::PageCache;
+use pagecache::{CacheFault, PageCache};
 use pages::{Kind, PageStore, Payload};
-use tbnode::Entry;
+use tbnode::{Entry, MOST_LEGS};
 
 /// Widens an entry of an inner page of that level, and gives its child.
 pub(crate) fn widen<S: PageStore>(
@@ -141,7 +143,29 @@ pub(crate) fn attach<S: PageStore>(
     Ok(())
 }
 
-/// Adds a leaf of legs, which are of one feature and whose ordinals rise.
+/// Adds a page. One that is likely to change before it leaves memory is written then, and not before.
+fn add_page<S: PageStore>(
+    cache: &mut PageCache<S>,
+    payload: Payload,
+    changes: bool,
+) -> Result<u32, CacheFault>
+    ensures adds { OnOk result (caches.Adds payload cache.old cache.new) }
+    ensures number { IfOk result (λ number. number ≡ cache.old.count) }
+    ensures none_before { payload_of cache.old cache.old.count ≡ None }
+    ensures length { OnOk result (cache.old.count ≡ cache.old.store.count
+        → cache.new.count ≡ cache.new.store.count) }
+    ensures refused { OnErr result (Stays cache.old cache.new) }
+    ensures asks { AsksOnce cache.old cache.new }
+    ensures cause { IfErr result (λ fault. IsNotAdded fault cache.old cache.new) }
+{
+    if changes {
+        return cache.add_changed(payload);
+    }
+    cache.add(payload)
+}
+
+/// Adds a leaf of legs, which are of one feature and whose ordinals rise. Of a leaf that is full the
+/// feature's next leaf is likely to follow, to which it is then linked.
 pub(crate) fn add_leaf<S: PageStore>(
     cache: &mut PageCache<S>,
     previous: u32,
@@ -162,7 +186,7 @@ pub(crate) fn add_leaf<S: PageStore>(
     let Some(payload) = leaf_of_legs(previous, legs) else {
         return Err(TreeFault::Malformed(previous));
     };
-    let page = cache.add(payload)?;
+    let page = add_page(cache, payload, legs.len() == MOST_LEGS)?;
     Ok(page)
 }
 
@@ -185,7 +209,7 @@ pub(crate) fn add_inner<S: PageStore>(
 {
     let mut payload = Payload::zero(Kind::Inner);
     tbnode::init_inner(&mut payload, level, entry);
-    let page = cache.add(payload)?;
+    let page = add_page(cache, payload, true)?;
     Ok(page)
 }
 
@@ -211,7 +235,7 @@ pub(crate) fn add_root<S: PageStore>(
     let mut payload = Payload::zero(Kind::Inner);
     tbnode::init_inner(&mut payload, level, first);
     tbnode::push_entry(&mut payload, second);
-    let page = cache.add(payload)?;
+    let page = add_page(cache, payload, true)?;
     Ok(page)
 }
 
