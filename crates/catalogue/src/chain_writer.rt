@@ -157,7 +157,8 @@ fn add_above<S: PageStore>(cache: &mut PageCache<S>) -> Result<u32, CacheFault>
     ensures caused { IfErr result (IsCaused cache.old cache.new) }
 {
     add_first(cache)?;
-    let page = cache.add_page(Kind::Catalogue)?;
+    // It is written once, with its bytes of the text.
+    let page = cache.add_changed(Payload::zero(Kind::Catalogue))?;
     Ok(page)
 }
 

@@ -46,6 +46,13 @@ fn push(found: &mut Vec<Leg>, leg: Leg) -> Result<(), AllocError>
     Ok(())
 }
 
+/// Makes room for as many legs more.
+fn make_room(found: &mut Vec<Leg>, more: usize) -> Result<(), AllocError>
+    ensures { found.new.items ≡ found.old.items }
+{
+    found.reserve(more)
+}
+
 /// Puts the kept legs of a leaf on that page behind the others, the last one first. No other leg is decoded.
 fn push_kept(
     leaf: &UntestedLeaf<'_>,
@@ -58,6 +65,7 @@ fn push_kept(
     ensures named { OfLeaf leaf.now (λ view. IfErr result (IsNodeFault true page)) }
     ensures caused { (old new : Cache) → IfErr result (IsCaused old new) }
 {
+    make_room(found, leaf.len())?;
     let mut i = leaf.len();
     'legs: while i > 0 {
         i -= 1;

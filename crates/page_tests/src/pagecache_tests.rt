@@ -120,6 +120,51 @@ fn an_added_page_is_written_once(rt: HostRuntime) -> Result<(), Fail> {
     Ok(())
 }
 
+#[test]
+fn a_page_that_is_to_change_is_written_later(rt: HostRuntime) -> Result<(), Fail> {
+    let mut cache = cache_over(rt.alloc(), MemStore::new(rt.alloc(), 2), 1)?;
+    assert!(rt; cache.add_changed(with_byte(3)) == Ok(0));
+    assert!(rt; cache.add_changed(with_byte(4)) == Ok(1));
+    assert!(rt; cache.add_changed(with_byte(5)) == Err(CacheFault::StoreFull));
+    assert!(rt; cache.count() == 2 && cache.asked() == 3 && cache.held() == 1);
+    assert!(rt; byte(&mut cache, 0, PLACE) == Ok(3));
+    assert!(rt; byte(&mut cache, 1, PLACE) == Ok(4));
+    assert!(rt; cache.flush() == Ok(()));
+    let mut again = cache_over(rt.alloc(), cache.into_store(), 1)?;
+    assert!(rt; byte(&mut again, 1, PLACE) == Ok(4));
+    Ok(())
+}
+
+// The page is one call of the store when it is added, one when it is flushed, and the flush one more.
+fn adding_a_changed_page_is_two_calls(alloc: Global) -> Result<bool, Memory> {
+    let store = Fuse::new(MemStore::new(alloc, 10), 3, false);
+    let mut cache = cache_over(alloc, store, 1)?;
+    Ok(
+        cache.add_changed(with_byte(3)) == Ok(0)
+            && cache.flush() == Ok(())
+            && cache.flush() == Err(CacheFault::Store),
+    )
+}
+
+// The store fails the first call: no page is there, and the next one gets the number.
+fn failed_adding_of_a_changed_page_adds_none(alloc: Global) -> Result<bool, Memory> {
+    let store = Fuse::new(MemStore::new(alloc, 10), 0, true);
+    let mut cache = cache_over(alloc, store, 1)?;
+    Ok(
+        cache.add_changed(with_byte(3)) == Err(CacheFault::Store)
+            && cache.count() == 0
+            && cache.add_changed(with_byte(4)) == Ok(0)
+            && byte(&mut cache, 0, PLACE) == Ok(4),
+    )
+}
+
+#[test]
+fn a_page_that_is_to_change_is_written_twice(rt: HostRuntime) -> Result<(), Fail> {
+    assert!(rt; adding_a_changed_page_is_two_calls(rt.alloc())?);
+    assert!(rt; failed_adding_of_a_changed_page_adds_none(rt.alloc())?);
+    Ok(())
+}
+
 /// Writes the seal of a payload under one number as the page of another one.
 fn misplace(store: &mut MemStore, number: u32, place: u32) -> bool {
     let page = seal(number, &Payload::zero(Kind::Leaf));

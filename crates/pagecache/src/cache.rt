@@ -109,7 +109,7 @@ impl<S: PageStore> PageCache<S> {
     }
 
     /// Adds a page with a zero payload to the store, and returns its number, the count so far, which
-    /// had no payload. It is written as by `add_changed`.
+    /// had no payload.
     pub fn add_page(&mut self, kind: Kind) -> Result<u32, CacheFault>
         ensures adds { OnOk result (Adds (zero_payload kind) self.old self.new) }
         ensures number { IfOk result (λ number. number ≡ self.old.count) }
@@ -122,7 +122,7 @@ impl<S: PageStore> PageCache<S> {
         ensures full { self.old.count ≡ self.old.store.most
             → result ≡ Err CacheFault.StoreFull }
     {
-        self.add_changed(Payload::zero(kind))
+        self.add(Payload::zero(kind))
     }
 
     /// Writes every changed page to the store, and makes the store last. A page that is not
