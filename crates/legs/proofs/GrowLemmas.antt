@@ -1,10 +1,35 @@
 -- Legs put at the end of an index, one after another.
-use Rattle.std.proofs.Common.{◌≡◌, ◌∙◌, ◌++◌, ◌∷◌, [], ap, sym, subst, refl, List, arith, append_assoc}
+use Rattle.std.proofs.Common.{◌≡◌, ◌≤◌, ◌∙◌, ◌++◌, true, Err, ◌∷◌, [], false, ap, sym, subst, refl, length, All, None, List, arith, append_assoc}
+use Rattle.std.proofs.lemmas.Int.{clamps}
 use Rattle.std.proofs.lemmas.List.{append-nil}
-use Rattle.legs.specs.Legs.{LegView}
+use Rattle.legs.specs.Finding.{no_finding}
+use Rattle.legs.specs.Legs.{IsLeg, LegView}
+use Rattle.legs.specs.Places.{ListView}
+use Rattle.legs.specs.Questions.{answer_in}
 use Rattle.legs.specs.Index.{CanFollowInTurn}
-use Rattle.legs.specs.Asking.{Grows, IsLater, Leaves, KeepsMarked}
+use Rattle.legs.specs.Asking.{Grows, IsLater, Leaves, LegRefusals, KeepsMarked}
+use Rattle.legs.specs.declared.index.IndexFault.{IndexFault}
 use Rattle.legs.specs.declared.listed.Listed.{Ghosts}
+
+-- what contracts say of an index that keeps a list
+abbrev pub list_words : Ghosts ListView
+list_words = record {
+  content = λ index. index.legs;
+  tells = λ index question legs. legs ≡ answer_in question index.legs;
+  denies = λ index question page. ⊥;
+  counted = λ index. length index.legs;
+  is_sound = λ index. (index.spent ≡ false) × All IsLeg index.legs;
+  is_spent = λ index. index.spent;
+  faults = λ index. 0;
+  is_store_full = λ index. ⊥;
+  asked = λ index. 0;
+  plan = λ index. None;
+  found_by = λ index. no_finding;
+  knows = λ index feature start. Unit {0};
+  is_clean = λ index. ⊥;
+  is_marked = λ index. ⊥;
+  written = λ index. [];
+}
 
 -- what is left to put makes of the index what all makes of it
 abbrev pub IsGrowing : {I : Type 0} → Ghosts I → I → I → List LegView → List LegView → Type 0
@@ -28,6 +53,17 @@ pub growing-end : {I : Type 0} (g : Ghosts I) (old now : I) (all : List LegView)
 growing-end g old now all so_far = λ sound turn.
     let at = so_far sound turn in
     record { sound = at.0; content = sym (append-nil (g.content now)) ∙ at.2 }
+
+-- a leg that is refused spends the index
+pub growing-refused : {I : Type 0} (g : Ghosts I) (old now new : I) (all left : List LegView) (leg : LegView) (fault : IndexFault) → (g.is_spent old ≡ true → ⊥) → g.faults old ≤ g.faults now → IsGrowing g old now all (leg ∷ left)
+    → LegRefusals {A = Unit {0}} g now new (leg ∷ []) (Err fault) → LegRefusals {A = Unit {0}} g old new all (Err fault)
+growing-refused g old now new all left leg fault works faults so_far r = record {
+  spent = r.spent;
+  was_spent = λ e. absurd (works e);
+  sound = λ s w. (let at = so_far s w in r.sound at.0 (at.1.0, tt));
+  store = λ e. (let risen = r.store e in omega (arith, clamps, faults, risen));
+  full = r.full;
+}
 
 pub later-trans : {I : Type 0} (g : Ghosts I) (a b c : I) → IsLater g a b → IsLater g b c → IsLater g a c
 later-trans g a b c p q = record {

@@ -2,7 +2,7 @@
 use Rattle.std.specs.Prelude.{ℕ, ℤ, ◌≡◌, ◌≤◌, ◌++◌, ◌∷◌, [], drop, true, List, Option, Result, Err, IfErr, IsErrOf, OnErr, OnOk}
 use Rattle.legs.specs.Legs.{LegView}
 use Rattle.legs.specs.Index.{MayRefuse, MayRefuseLeg, HasRisen, CanFollowInTurn}
-use Rattle.legs.specs.Costs.{ShapeView, RisesBy, RisesAtMost, add_bound}
+use Rattle.legs.specs.Costs.{ShapeView, RisesBy, RisesAtMost, add_bound, add_all_bound}
 use Rattle.legs.specs.declared.index.IndexFault.{IndexFault}
 use Rattle.legs.specs.declared.index.IndexFault.TheVariants.{Memory, Store, Damaged, StoreFull, Spent}
 use Rattle.legs.specs.declared.listed.Listed.{Ghosts}
@@ -73,6 +73,13 @@ abbrev pub AddAsks : {I : Type 0} → Ghosts I → I → I → LegView → Type 
 AddAsks g old new leg =
     g.is_sound old → CanFollowInTurn (g.content old) (leg ∷ [])
     → RisesAtMost (g.asked old) (g.asked new) (add_bound (g.plan old) (g.content old ++ leg ∷ []))
+
+-- and legs that may follow one another for at most the pages of the ways of their features' last leaves, and of
+-- those of the leaves that they make
+abbrev pub AddAllAsks : {I : Type 0} → Ghosts I → I → I → List LegView → Type 0
+AddAllAsks g old new legs =
+    g.is_sound old → CanFollowInTurn (g.content old) legs
+    → RisesAtMost (g.asked old) (g.asked new) (add_all_bound (g.plan old) (g.content old) legs)
 
 -- legs that may follow a sound index, accepted or refused, leave page 0 marked
 abbrev pub KeepsMarked : {I : Type 0} → Ghosts I → I → I → List LegView → Type 0

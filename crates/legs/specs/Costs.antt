@@ -1,5 +1,5 @@
 -- How many pages a question of an index asks for, computed from the list of legs alone.
-use Rattle.std.specs.Prelude.{ℕ, zero, suc, ◌+◌, ◌-◌, ◌*◌, ◌<◌, ◌≡◌, ◌≤◌, ◌^◌, ◌&&◌, min, Bool, false, cond, nat_lt, List, [], ◌∷◌, length, count_by, Option, Some, None, int_le}
+use Rattle.std.specs.Prelude.{ℕ, zero, suc, ◌+◌, ◌-◌, ◌*◌, ◌<◌, ◌≡◌, ◌≤◌, ◌^◌, ◌&&◌, min, Bool, false, cond, if◌then◌else◌, nat_lt, List, [], ◌∷◌, ◌++◌, length, count_by, Option, Some, None, int_le}
 use Rattle.std.specs.Int.{div_ceil}
 use Rattle.std.specs.List.{list_any, range_with_len}
 use Rattle.timebase.specs.Period.{PeriodView}
@@ -7,7 +7,7 @@ use Rattle.legs.specs.Legs.{LegView}
 use Rattle.legs.specs.Boxes.{BoxView, boxes_meet}
 use Rattle.legs.specs.Blocks.{groups, leaves, level}
 use Rattle.legs.specs.Hull.{Boxes, hull_of, leg_boxes}
-use Rattle.legs.specs.Index.{legs_of}
+use Rattle.legs.specs.Index.{is_of, legs_of}
 
 -- the shape of a tree: how many legs a leaf has at most, and how many entries an inner page
 pub record ShapeView : Type 0 where
@@ -84,6 +84,28 @@ height inner runs = count_by (λ k. nat_lt 1 (length (level inner k runs))) (ran
 unfoldable pub add_bound : Option ShapeView → List LegView → ℕ
 add_bound None legs = 0
 add_bound (Some shape) legs = 2 * height shape.inner (leaves_of shape legs) + 4
+
+-- how many features begin with one of these legs, after those before them
+abbrev pub features_after : List LegView → List LegView → ℕ
+features_after before [] = 0
+features_after before (leg ∷ legs) =
+    (if list_any (is_of leg.feature) before then 0 else 1) + features_after (before ++ leg ∷ []) legs
+
+-- how many features some legs have, whatever legs there were before
+abbrev pub features_among : List LegView → ℕ
+features_among legs = features_after [] legs
+
+-- how many leaves some legs make, after those before them
+abbrev pub leaves_made : ShapeView → List LegView → List LegView → ℕ
+leaves_made shape before legs = length (leaves_of shape (before ++ legs)) - length (leaves_of shape before)
+
+-- legs put in at once, after those before them: for each of their features its last leaf and the pages above it,
+-- and for each leaf that they make twice the root's height after all of them, and four
+unfoldable pub add_all_bound : Option ShapeView → List LegView → List LegView → ℕ
+add_all_bound None before legs = 0
+add_all_bound (Some shape) before legs =
+    features_among legs * (height shape.inner (leaves_of shape (before ++ legs)) + 1)
+    + leaves_made shape before legs * (2 * height shape.inner (leaves_of shape (before ++ legs)) + 4)
 
 -- a counter rose by that many; the greatest number that is counted stands for any greater one
 abbrev pub RisesBy : ℕ → ℕ → ℕ → Type 0

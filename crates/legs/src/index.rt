@@ -39,7 +39,7 @@ pub trait LegIndex: Listed {
     ghost use Rattle.legs.specs.Index.{legs_in_box, legs_of, live_legs_of};
     ghost use Rattle.legs.specs.Questions.{InBox, OfFeature};
     ghost use Rattle.legs.specs.Costs.{known_bound, search_cost, track_cost, track_in_bound};
-    ghost use Rattle.legs.specs.Asking.{AddAsks, Asks, AsksAtMost, Denies, Grows, IsLater, KeepsMarked, Leaves, LegRefusals, Recalls, Refusals};
+    ghost use Rattle.legs.specs.Asking.{AddAllAsks, AddAsks, Asks, AsksAtMost, Denies, Grows, IsLater, KeepsMarked, Leaves, LegRefusals, Recalls, Refusals};
 
     /// How many legs there are.
     fn len(&self) -> u64
@@ -67,18 +67,10 @@ pub trait LegIndex: Listed {
     /// Puts legs at the end of the list, one after another.
     fn add_all(&mut self, legs: &[Leg]) -> Result<(), IndexFault>
         ensures added { OnOk result (Grows Self.Listed self.old self.new legs.now) }
+        ensures asks { OnOk result (AddAllAsks Self.Listed self.old self.new legs.now) }
         ensures refusals { LegRefusals Self.Listed self.old self.new legs.now result }
         ensures marked { KeepsMarked Self.Listed self.old self.new legs.now }
-        ensures later { IsLater Self.Listed self.old self.new }
-    {
-        if self.spent() {
-            return Err(IndexFault::Spent);
-        }
-        for leg in legs {
-            self.add(*leg)?;
-        }
-        Ok(())
-    }
+        ensures later { IsLater Self.Listed self.old self.new };
 
     /// The legs whose box meets a box, each once, in accepted order.
     fn search(&mut self, query: &Box3) -> Result<Vec<Leg>, IndexFault>

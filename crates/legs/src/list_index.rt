@@ -199,6 +199,17 @@ impl LegIndex for ListIndex {
         Ok(self.put(leg)?)
     }
 
+    #[tactic(auto, unfolding(crate::specs::Costs::add_all_bound))]
+    fn add_all(&mut self, legs: &[Leg]) -> Result<(), IndexFault> {
+        if self.spent() {
+            return Err(IndexFault::Spent);
+        }
+        for leg in legs {
+            self.add(*leg)?;
+        }
+        Ok(())
+    }
+
     fn asked(&self) -> u64 {
         0
     }
