@@ -7,6 +7,7 @@ pub mod LeafChains
 pub mod CheckingLemmas
 pub mod GroupLemmas
 pub mod LevelsLemmas
+pub mod NamingLemmas
 pub mod OrderLemmas
 pub mod OverLemmas
 pub mod SoundLemmas

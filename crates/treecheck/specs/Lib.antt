@@ -1,5 +1,6 @@
 pub mod Check
 pub mod Checking
 pub mod Levels
+pub mod Naming
 pub mod Ordering
 pub mod Walking

@@ -1,5 +1,5 @@
 //! A check of an index: its pages hold one list of legs.
-ghost use Rattle.std.specs.Prelude.{◌≡◌, ◌≢◌, ◌<◌, ◌^◌, ◌↔◌, Err, None, length, IfErr, IsErrOf, OnOk, IsTrue, true};
+ghost use Rattle.std.specs.Prelude.{ℕ, Bool, ◌≡◌, ◌≢◌, ◌<◌, ◌^◌, ◌↔◌, ◌⊎◌, Err, None, length, IfErr, IsErrOf, OnOk, IsTrue, true};
 ghost use Rattle.std.specs.List.{All};
 ghost use Rattle.std.specs.List.Sorted.{IsPermutation, IsNonDecreasingBy};
 ghost use Rattle.pagecache.specs.Cache.{payload_of, Cache};
@@ -20,6 +20,7 @@ ghost use Rattle.legs.specs.Index.{MayRefuse, HasRisen};
 ghost use Rattle.legs.specs.declared.index.IndexFault.{IndexFault};
 ghost use Rattle.treecheck.specs.Walking.{Surveys};
 ghost use Rattle.treecheck.specs.Ordering.{IsWhole};
+ghost use Rattle.treecheck.specs.Naming.{IsFirstDamaged, IsFirstMalformed, Names};
 ghost use Rattle.boxsearch.specs.declared.fault.SearchFault.{SearchFault};
 ghost use Rattle.treecheck.specs.declared.walking.Met.{Met};
 ghost use Rattle.treecheck.specs.declared.walking.Survey.{Survey};
@@ -45,6 +46,8 @@ fn read_page<S: PageStore>(cache: &mut PageCache<S>, page: u32) -> Result<(), Se
         → OnOk result ((pages_of_cache cache.old).at page ≢ None) }
     ensures only { IsTrue cache.old.store.is_faithful → (pages_of_cache cache.old).at page ≢ None
         → IfErr result IsAllowed }
+    ensures named { IsTrue cache.old.store.is_faithful
+        → IfErr result (Names (λ n. (n ≡ page) × (payload_of cache.old n ≡ None)) (λ _. ⊥)) }
     ensures reads { OnlyReads cache.old cache.new }
     ensures caused { IfErr result (IsCaused cache.old cache.new) }
     ensures works { IfErr result (λ fault. fault ≢ SearchFault.Spent) }
@@ -66,6 +69,8 @@ fn read_pages<S: PageStore>(cache: &mut PageCache<S>) -> Result<(), SearchFault>
     ensures only { IsTrue cache.old.store.is_faithful → AreHeld (pages_of_cache cache.old)
         → 0 < cache.old.count
         → cache.old.count ≡ cache.old.store.count → IfErr result IsAllowed }
+    ensures named { IsTrue cache.old.store.is_faithful → (begun : Bool)
+        → IfErr result (Names (IsFirstDamaged cache.old) (IsFirstMalformed begun cache.old)) }
     ensures reads { OnlyReads cache.old cache.new }
     ensures caused { IfErr result (IsCaused cache.old cache.new) }
     ensures works { IfErr result (λ fault. fault ≢ SearchFault.Spent) }
@@ -87,6 +92,8 @@ fn check_state<S: PageStore>(cache: &mut PageCache<S>, begun: bool) -> Result<()
         → OnOk result (SaysState begun (payload_of cache.old 0)) }
     ensures only { IsTrue cache.old.store.is_faithful → SaysState begun (payload_of cache.old 0)
         → 0 < cache.old.count → IfErr result IsAllowed }
+    ensures named { IsTrue cache.old.store.is_faithful → payload_of cache.old 0 ≢ None
+        → IfErr result (Names (λ _. ⊥) (λ n. n ≡ 0)) }
     ensures reads { OnlyReads cache.old cache.new }
     ensures caused { IfErr result (IsCaused cache.old cache.new) }
     ensures works { IfErr result (λ fault. fault ≢ SearchFault.Spent) }
@@ -167,6 +174,8 @@ pub fn check_pages<S: PageStore>(
         → length places.now < 2 ^ 32 → Agree tracks.now rows legs
         → IsChecked (pages_of_cache cache.old) tree.now rows legs places.now tracks.now.tracks
         → IfErr result IsAllowed }
+    ensures named { IsTrue cache.old.store.is_faithful
+        → IfErr result (Names (IsFirstDamaged cache.old) (IsFirstMalformed begun cache.old)) }
     ensures reads { OnlyReads cache.old cache.new }
     ensures caused { IfErr result (IsCaused cache.old cache.new) }
     ensures works { IfErr result (λ fault. fault ≢ SearchFault.Spent) }
@@ -216,6 +225,9 @@ fn check_index<S: PageStore>(
         → IsChecked (pages_of_cache index.old.cache) index.old.tree rows index.old.legs places.now
         tracks.now.tracks
         → IfErr result IsAllowed }
+    ensures named { IsTrue index.old.cache.store.is_faithful
+        → IfErr result (Names (IsFirstDamaged index.old.cache)
+        (IsFirstMalformed begun index.old.cache)) }
     ensures same { index.new ≡ with_cache index.old index.new.cache index.new.known }
     ensures reads { OnlyReads index.old.cache index.new.cache }
     ensures caused { IfErr result (IsCaused index.old.cache index.new.cache) }
@@ -269,6 +281,11 @@ pub fn check<S: PageStore>(
         → SaysState begun (payload_of index.new.cache 0)) }
     ensures only { IsSound index.old → AreTracksOf tracks.now rows (content index.old)
         → SaysState begun (payload_of index.old.cache 0) → IfErr result MayRefuse }
+
+    // Which page is damaged, whoever made the pages.
+    ensures named { IsTrue index.old.cache.store.is_faithful → (n : ℕ)
+        → IsErrOf result (IndexFault.Damaged n)
+        → IsFirstDamaged index.old.cache n ⊎ IsFirstMalformed begun index.old.cache n }
 
     // Nothing changes.
     ensures same { index.new ≡ with_cache index.old index.new.cache index.new.known }

@@ -1,5 +1,5 @@
 use Rattle.std.proofs.Common.{[], ◌≡◌, ◌<◌, length, false, sym, ap, ◌∙◌, subst, List, IsTrue}
-use Rattle.std.specs.Prelude.{IfErr, OnOk}
+use Rattle.std.specs.Prelude.{IfErr, IsErrOf, OnOk}
 use Rattle.legs.specs.Asking.{Leaves}
 use Rattle.legs.specs.Index.{MayRefuse}
 use Rattle.pagecache.specs.Cache.{Cache, payload_of}
@@ -9,16 +9,19 @@ use Rattle.tbtree.specs.Nodes.{pages_of_cache}
 use Rattle.tbtree.specs.Shape.{IsShape}
 use Rattle.tbtree.specs.declared.tree.Place.{Place}
 use Rattle.tbtree.specs.declared.tree.TbTree.{TbTree}
-use Rattle.boxsearch.specs.Answers.{of_search}
+use Rattle.boxsearch.specs.Answers.{answered, of_search}
 use Rattle.boxsearch.specs.Beside.{with_cache}
-use Rattle.boxsearch.specs.Faults.{IsAllowed}
+use Rattle.boxsearch.specs.Faults.{IsAllowed, IsCaused}
 use Rattle.boxsearch.specs.Index.{IndexView, words, content, IsSound, SaysState}
 use Rattle.boxsearch.proofs.AnswerLemmas.{each_fault, each_value, search_allowed}
 use Rattle.boxsearch.proofs.IndexLemmas.{reads_leave}
 use Rattle.boxsearch.proofs.ResultLemmas.{now_says}
 use Rattle.treecheck.specs.Checking.{Agree, AreTracksOf}
+use Rattle.treecheck.specs.Naming.{IsFirstDamaged, IsFirstMalformed, Names}
+use Rattle.treecheck.proofs.NamingLemmas.{either_named}
 use Rattle.treecheck.proofs.SoundLemmas.{TreeLaws, ended, sound, tracks_are, agrees, few, held, passed}
 use Rattle.treecheck.proofs.WalkedLemmas.{same_pages}
+use Rattle.legs.specs.declared.index.IndexFault.TheVariants.{Damaged}
 use Rattle.treecheck.proofs.checking.check.Goals as goal
 
 pub returns-clause-same : goal.returns-clause-same
@@ -113,3 +116,15 @@ returns-clause-leaves g c =
     let ends : c.put_places.new.self ≡ with_cache index left.cache [] = c.put_places.ensures ∙ ended index lent left c.take_places-places.result.items rest given.ensures.same c.take_places-places.ensures.taken in
     let reads : OnlyReads index.cache left.cache = subst (λ (v : IndexView). OnlyReads v.cache left.cache) rest given.ensures.reads in
     subst (λ (v : IndexView). Leaves words index v) (sym ends) (reads_leave index left.cache [] reads)
+
+pub returns-clause-named : goal.returns-clause-named
+returns-clause-named g c = λ fa n e.
+    let index : IndexView = c.args.index.now in
+    let left : IndexView = c.check_index-given.new.index in
+    let given = c.check_index-given in
+    let rest = c.take_places-places.ensures.rest in
+    let begun = c.args.begun in
+    let said : IsErrOf (answered (λ fault. of_search fault) given.result) (Damaged n) = sym c.checked.ensures ∙ e in
+    either_named index.cache left.cache (λ n. IsFirstDamaged index.cache n) (λ n. IsFirstMalformed begun index.cache n) given.result
+    (subst (λ (v : IndexView). IfErr given.result (IsCaused v.cache left.cache)) rest given.ensures.caused)
+    (subst (λ (v : IndexView). IsTrue v.cache.store.is_faithful → IfErr given.result (Names (IsFirstDamaged v.cache) (IsFirstMalformed begun v.cache))) rest given.ensures.named fa) n said

@@ -13,7 +13,9 @@ use Rattle.treecheck.specs.Levels.{StandsOver, pages_of_leaves}
 use Rattle.treecheck.specs.Walking.{IsMet, Surveys}
 use Rattle.treecheck.specs.Ordering.{NameLast}
 use Rattle.treecheck.specs.declared.walking.Met.{Met}
-use Rattle.boxsearch.proofs.ReadLemmas.{reads_trans}
+use Rattle.boxsearch.proofs.ReadLemmas.{caused_after, reads_trans}
+use Rattle.boxsearch.specs.declared.fault.SearchFault.TheVariants.{Malformed}
+use Rattle.treecheck.proofs.NamingLemmas.{has_payload, later_named, state_named}
 use Rattle.treecheck.proofs.WalkedLemmas.{same_pages}
 use Rattle.treecheck.proofs.CheckingLemmas.{checked, are_met, within, whole, strict, over, last}
 use Rattle.treecheck.proofs.checking.check_pages.Goals as goal
@@ -124,3 +126,71 @@ pub returns-clause-says : goal.returns-clause-says
 returns-clause-says g c = λ fa.
     let reads = c.read_pages.ensures.reads in
     subst (SaysState c.args.begun) (reads.payloads fa 0) (c.in_ok-check_state.ensures.says (reads.store.faithful ∙ fa))
+
+pub returns-in_err-read_pages-clause-named : goal.returns-in_err-read_pages-clause-named
+returns-in_err-read_pages-clause-named g c = λ fa.
+    let p = err_from_is_err_and c.from_residual.result c.from_residual.ensures.1 in
+    rw (p.1, p.2) (c.in_err-read_pages.ensures.named fa c.args.begun)
+
+pub returns-in_err-check_state-clause-named : goal.returns-in_err-check_state-clause-named
+returns-in_err-check_state-clause-named g c = λ fa.
+    let p = err_from_is_err_and c.from_residual-in_err-check_state.result c.from_residual-in_err-check_state.ensures.1 in
+    let old = c.args.cache.now in
+    let reads = c.read_pages.ensures.reads in
+    let held = c.in_ok-read_pages.ensures.held fa in
+    let there = has_payload old 0 (held 0 c.in_ok-read_pages.ensures.some) in
+    let fault = c.in_err-check_state.field-0.0 in
+    rw (p.1, p.2) (state_named c.args.begun old c.check_state.new.cache fa held c.in_ok-read_pages.ensures.count fault
+    (caused_after old c.read_pages.new.cache c.check_state.new.cache fault reads c.in_err-check_state.ensures.caused)
+    (c.in_err-check_state.ensures.named (reads.store.faithful ∙ fa) (λ e. there (sym (reads.payloads fa 0) ∙ e))))
+
+pub returns-in_err-survey-clause-named : goal.returns-in_err-survey-clause-named
+returns-in_err-survey-clause-named g c = λ fa.
+    let p = err_from_is_err_and c.from_residual-in_err-survey.result c.from_residual-in_err-survey.ensures.1 in
+    let old = c.args.cache.now in
+    let first = c.read_pages.ensures.reads in
+    let says = subst (SaysState c.args.begun) (first.payloads fa 0) (c.in_ok-check_state.ensures.says (first.store.faithful ∙ fa)) in
+    let reads = reads_trans old c.read_pages.new.cache c.check_state.new.cache first c.check_state.ensures.reads in
+    let fault = c.in_err-survey.field-0.0 in
+    rw (p.1, p.2) (later_named c.args.begun old c.walk_all.new.source fa (c.in_ok-read_pages.ensures.held fa) c.in_ok-read_pages.ensures.count says fault
+    (caused_after old c.check_state.new.cache c.walk_all.new.source fault reads c.in_err-survey.ensures.caused))
+
+pub returns-then-not-is_whole-clause-named : goal.returns-then-not-is_whole-clause-named
+returns-then-not-is_whole-clause-named g c = λ fa.
+    let old = c.args.cache.now in
+    let first = c.read_pages.ensures.reads in
+    let says = subst (SaysState c.args.begun) (first.payloads fa 0) (c.in_ok-check_state.ensures.says (first.store.faithful ∙ fa)) in
+    later_named c.args.begun old old fa (c.in_ok-read_pages.ensures.held fa) c.in_ok-read_pages.ensures.count says (Malformed 0) tt
+
+pub returns-then-not-agree-clause-named : goal.returns-then-not-agree-clause-named
+returns-then-not-agree-clause-named g c = λ fa.
+    let old = c.args.cache.now in
+    let first = c.read_pages.ensures.reads in
+    let says = subst (SaysState c.args.begun) (first.payloads fa 0) (c.in_ok-check_state.ensures.says (first.store.faithful ∙ fa)) in
+    later_named c.args.begun old old fa (c.in_ok-read_pages.ensures.held fa) c.in_ok-read_pages.ensures.count says (Malformed 0) tt
+
+pub returns-then-not-put_in_order-clause-named : goal.returns-then-not-put_in_order-clause-named
+returns-then-not-put_in_order-clause-named g c = λ fa.
+    let old = c.args.cache.now in
+    let first = c.read_pages.ensures.reads in
+    let says = subst (SaysState c.args.begun) (first.payloads fa 0) (c.in_ok-check_state.ensures.says (first.store.faithful ∙ fa)) in
+    later_named c.args.begun old old fa (c.in_ok-read_pages.ensures.held fa) c.in_ok-read_pages.ensures.count says (Malformed 0) tt
+
+pub returns-in_err-check_tree-clause-named : goal.returns-in_err-check_tree-clause-named
+returns-in_err-check_tree-clause-named g c = λ fa.
+    let p = err_from_is_err_and c.from_residual-in_err-check_tree.result c.from_residual-in_err-check_tree.ensures.1 in
+    let old = c.args.cache.now in
+    let first = c.read_pages.ensures.reads in
+    let says = subst (SaysState c.args.begun) (first.payloads fa 0) (c.in_ok-check_state.ensures.says (first.store.faithful ∙ fa)) in
+    let reads = reads_trans old c.read_pages.new.cache c.check_state.new.cache first c.check_state.ensures.reads in
+    let later = reads_trans old c.check_state.new.cache c.walk_all.new.source reads c.walk_all.ensures.reads in
+    let fault = c.in_err-check_tree.field-0.0 in
+    rw (p.1, p.2) (later_named c.args.begun old c.check_tree.new.cache fa (c.in_ok-read_pages.ensures.held fa) c.in_ok-read_pages.ensures.count says fault
+    (caused_after old c.walk_all.new.source c.check_tree.new.cache fault later c.in_err-check_tree.ensures.caused))
+
+pub returns-then-not-name_last-clause-named : goal.returns-then-not-name_last-clause-named
+returns-then-not-name_last-clause-named g c = λ fa.
+    let old = c.args.cache.now in
+    let first = c.read_pages.ensures.reads in
+    let says = subst (SaysState c.args.begun) (first.payloads fa 0) (c.in_ok-check_state.ensures.says (first.store.faithful ∙ fa)) in
+    later_named c.args.begun old old fa (c.in_ok-read_pages.ensures.held fa) c.in_ok-read_pages.ensures.count says (Malformed 0) tt
