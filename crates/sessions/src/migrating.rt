@@ -1,12 +1,14 @@
 //! A store of version 1 that is brought over into a new one, and closed.
-ghost use Rattle.std.specs.Prelude.{◌≡◌, None, IfErr, IsTrue, OnOk};
+ghost use Rattle.std.specs.Prelude.{◌≡◌, None, Err, IfErr, IsTrue, OnOk};
 ghost use Rattle.legs.specs.Costs.{ShapeView};
 ghost use Rattle.legs.specs.Limits.{LimitsView};
 ghost use Rattle.legs.specs.Book.{Book};
 ghost use Rattle.pages.specs.Store.{Stays};
+ghost use Rattle.catalogue.specs.Beginning.{IsLeftOver};
 ghost use Rattle.catalogue.specs.Holding.{HoldsBook};
 ghost use Rattle.pagecache.specs.Cache.{stored_payload};
 ghost use Rattle.version1.specs.OldStore.{old_first_fault, present_shape, HoldsOldBook};
+ghost use Rattle.trajdb.specs.declared.OpenFault.{OpenFault};
 ghost use Rattle.sessions.specs.Answers.{IsNotOver, IsOverFault, WasWhole};
 
 use crate::fault::Fault;
@@ -49,6 +51,11 @@ pub fn migrate_and_close<'a, S: PageStore, T: PageStore>(
         → (shape : ShapeView) (limits : LimitsView) (book : Book)
         → HoldsOldBook (S.seen old.old) shape limits book
         → IsNotOver (T.seen new) (T.seen result.0) fault) }
+
+    // Whatever the other store holds, where it is refused the new one is not taken for a finished one.
+    ensures refused { (fault : OpenFault) → result.1 ≡ Err (Fault.Open fault)
+        → IsTrue (S.seen old.old).is_faithful → IsTrue (T.seen new).is_faithful
+        → IsLeftOver (T.seen new) (T.seen result.0) }
     ensures caused { IfErr result.1 (IsOverFault (S.seen old.old) (S.seen old.new) (T.seen new)
         (T.seen result.0)) }
 
