@@ -54,6 +54,31 @@ fn make_room(found: &mut Vec<Leg>, more: usize) -> Result<(), AllocError>
 }
 
 /// Puts the kept legs of a leaf on that page behind the others, the last one first. No other leg is decoded.
+fn push_each(
+    leaf: &UntestedLeaf<'_>,
+    page: u32,
+    period: &Option<Period>,
+    found: &mut Vec<Leg>,
+) -> Result<(), ChainFault>
+    ensures pushed { OfLeaf leaf.now (λ view. OnOk result (found.new.items
+        ≡ found.old.items ++ reverse (filter (is_kept period.now) view.legs))) }
+    ensures named { OfLeaf leaf.now (λ view. IfErr result (IsNodeFault true page)) }
+    ensures caused { (old new : Cache) → IfErr result (IsCaused old new) }
+{
+    let mut i = leaf.len();
+    'legs: while i > 0 {
+        i -= 1;
+        if is_kept(leaf, i, period) {
+            let Some(leg) = leaf.leg(i) else {
+                return Err(ChainFault::Malformed(page));
+            };
+            push(found, leg)?;
+        }
+    }
+    Ok(())
+}
+
+/// The same, with room for all of them made before.
 fn push_kept(
     leaf: &UntestedLeaf<'_>,
     page: u32,
@@ -66,17 +91,7 @@ fn push_kept(
     ensures caused { (old new : Cache) → IfErr result (IsCaused old new) }
 {
     make_room(found, leaf.len())?;
-    let mut i = leaf.len();
-    'legs: while i > 0 {
-        i -= 1;
-        if is_kept(leaf, i, period) {
-            let Some(leg) = leaf.leg(i) else {
-                return Err(ChainFault::Malformed(page));
-            };
-            push(found, leg)?;
-        }
-    }
-    Ok(())
+    push_each(leaf, page, period, found)
 }
 
 /// Whether the first leg of a leaf starts before the period, where there is one; none where it has no such leg.

@@ -2,7 +2,7 @@ use Rattle.std.proofs.Common.{◌≡◌, ◌≤◌, ◌++◌, drop, length}
 use Rattle.std.specs.Prelude.{filter, reverse}
 use Rattle.tbnode.specs.Form.{OfLeaf}
 use Rattle.chains.specs.Links.{is_kept}
-use Rattle.chains.proofs.again.push_kept.Given as goal
+use Rattle.chains.proofs.again.push_each.Given as goal
 
 abbrev pub decreases-legs : goal.decreases-legs
 decreases-legs l = l.i

@@ -2,7 +2,7 @@ use Rattle.std.proofs.Common.{◌-◌, arith, sym, ◌∙◌}
 use Rattle.chains.specs.Links.{is_kept}
 use Rattle.chains.proofs.AgainLemmas.{kept_all, there_at}
 use Rattle.chains.proofs.KeepLemmas.{kept_none, kept_more, kept_same}
-use Rattle.chains.proofs.again.push_kept.Goals as goal
+use Rattle.chains.proofs.again.push_each.Goals as goal
 
 pub legs-init : goal.legs-init
 legs-init c = λ view e. (
