@@ -109,9 +109,10 @@ impl<S: PageStore> PageCache<S> {
     }
 
     /// Adds a page with a zero payload to the store, and returns its number, the count so far, which
-    /// had no payload.
+    /// had no payload. The page is sealed and written at once, with zeros.
     pub fn add_page(&mut self, kind: Kind) -> Result<u32, CacheFault>
         ensures adds { OnOk result (Adds (zero_payload kind) self.old self.new) }
+        ensures clean { OnOk result (is_changed self.new self.old.count ≡ false) }
         ensures number { IfOk result (λ number. number ≡ self.old.count) }
         ensures none_before { payload_of self.old self.old.count ≡ None }
         ensures length { OnOk result (self.old.count ≡ self.old.store.count
