@@ -24,3 +24,5 @@ pub mod AllLemmas
 pub mod TurnNumbers
 pub mod KnownLemmas
 pub mod KnowsLemmas
+pub mod RunCounts
+pub mod RunLemmas

@@ -254,11 +254,11 @@ taking_absent old mid new feature legs some one made_is is none =
       marked = λ m. subst (λ c. IsMarked c) (sym cache) m;
     }
 
-drop_none : {X : Type 0} (k : ℕ) → let none : List X = [] in drop k none ≡ none
+pub drop_none : {X : Type 0} (k : ℕ) → let none : List X = [] in drop k none ≡ none
 drop_none zero = refl
 drop_none (suc k) = refl
 
-drop_add : {X : Type 0} (n m : ℕ) (xs : List X) → drop m (drop n xs) ≡ drop (n + m) xs
+pub drop_add : {X : Type 0} (n m : ℕ) (xs : List X) → drop m (drop n xs) ≡ drop (n + m) xs
 drop_add zero m xs = ap (λ k. drop k xs) (omega arith)
 drop_add (suc n) m [] = drop_none m ∙ sym (drop_none (suc n + m))
 drop_add (suc n) m (x ∷ xs) = drop_add n m xs ∙ ap (λ k. drop k (x ∷ xs)) (let e : suc (n + m) ≡ suc n + m = omega arith in e)

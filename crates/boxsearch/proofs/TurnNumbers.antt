@@ -71,7 +71,7 @@ set_other (x ∷ xs) zero (suc j) v d u = refl
 set_other (x ∷ xs) (suc i) zero v d u = refl
 set_other (x ∷ xs) (suc i) (suc j) v d u = set_other xs i j v d (λ e. u (ap suc e))
 
-none_yet : (before : List LegView) (f : ℕ) → feature_count before ≤ f → counts f before ≡ 0
+pub none_yet : (before : List LegView) (f : ℕ) → feature_count before ≤ f → counts f before ≡ 0
 none_yet before f l = sym (length-filter (λ z. leg_feature z == f) before) ∙ ap length (no_legs before f l)
 
 module _ (most : ℕ) (some : 0 < most) (few : most ≤ 50) (ends : List Open) (last : ℕ → ℕ) (before : List LegView) (h : IsEnds most ends last before) (leg : LegView) (made : ℕ) (fits : leg.feature ≤ feature_count before) where

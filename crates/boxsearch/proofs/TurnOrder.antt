@@ -1,17 +1,20 @@
 -- Turns in order take the legs leaf by leaf.
-use Rattle.std.proofs.Common.{ℕ, zero, suc, ◌≡◌, ◌≤◌, ◌<◌, ◌+◌, ◌*◌, ◌%◌, ◌^◌, cond, nat_lt, true, false, refl, sym, ap, ◌∙◌, arith, subst, ⊎_elim, lt-ltb, le-ltb, List, [], ◌∷◌, ◌++◌, map, length, get_or, All}
+use Rattle.std.proofs.Common.{ℕ, zero, suc, ◌≡◌, ◌≤◌, ◌<◌, ◌+◌, ◌*◌, ◌%◌, ◌^◌, cond, nat_lt, true, false, refl, sym, ap, ◌∙◌, arith, subst, ⊎_elim, lt-ltb, le-ltb, List, [], ◌∷◌, ◌++◌, drop, map, length, get_or, All}
 use Rattle.std.specs.List.Sorted.{IsPermutation, IsNonDecreasingBy}
 use Rattle.std.proofs.lemmas.Bool.{cases_lt}
 use Rattle.std.proofs.lemmas.List.{append-nil, length-map}
 use Rattle.std.proofs.lemmas.List.Elements.{All-nil, All-cons}
 use Rattle.std.proofs.lemmas.List.Sorted.{IsPermutation-refl, IsPermutation-sym, IsPermutation-cons, IsPermutation-trans, IsPermutation-middle, IsPermutation-append_left, IsPermutation-map, All-permutation, IsNonDecreasingBy-short, IsNonDecreasingBy-from_default}
 use Rattle.std.proofs.Math.Nat.{mod-eq_of_lt, mul-add-mod_self_right}
+use Rattle.legs.specs.Costs.{leg_feature}
+use Rattle.legs.specs.Index.{feature_count, CanFollowInTurn}
 use Rattle.legs.specs.Legs.{LegView}
 use Rattle.legs.specs.Places.{no_leg}
 use Rattle.tbtree.specs.Turn.{IsPast, IsRising}
-use Rattle.tbtree.specs.Order.{put_in, put_all, elements}
+use Rattle.tbtree.specs.Order.{put_in, put_all, elements, numbered}
 use Rattle.tbtree.specs.declared.tree.Place.{Place}
-use Rattle.boxsearch.specs.Taking.{taken, AreTurns}
+use Rattle.boxsearch.specs.Runs.{numbered_legs}
+use Rattle.boxsearch.specs.Taking.{taken, ArePlacesOf, AreTurns}
 use Rattle.boxsearch.specs.Turns.{leaf_for, open_after, opened_from, turn_number, turns_from}
 use Rattle.boxsearch.specs.declared.turns.Open.{Open}
 use Rattle.boxsearch.specs.declared.turns.Turn.{Turn}
@@ -132,10 +135,6 @@ module _ {X Y : Type 0} (g : X → Y) where
   all_over out [] = refl
   all_over out (p ∷ ps) = ap (λ l. put_all l (map over ps)) (put_over p out) ∙ all_over (put_in p out) ps
 
-  elements_over : (ps : List (ℕ × X)) → elements (map over ps) ≡ map g (elements ps)
-  elements_over [] = refl
-  elements_over (p ∷ ps) = ap (λ l. g p.1 ∷ l) (elements_over ps)
-
 get-map : {X Y : Type 0} (f : X → Y) (xs : List X) (i : ℕ) (d : Y) (x : X) → i < length xs → get_or (map f xs) i d ≡ f (get_or xs i x)
 get-map f [] i d x l = absurd (omega (arith, l))
 get-map f (y ∷ xs) zero d x l = refl
@@ -155,15 +154,27 @@ below_all : (k : ℕ) (ps : List (ℕ × ℕ)) → All (λ (p : ℕ × ℕ). p.1
 below_all k [] h = tt
 below_all k (p ∷ ps) h = (h 0 p (omega arith), below_all k ps (λ i d l. h (suc i) d (omega (arith, l))))
 
-unweigh : (ps : List (ℕ × ℕ)) → Below 4294967296 ps → map (λ k. k % 4294967296) (map weight ps) ≡ elements ps
-unweigh [] h = refl
-unweigh (p ∷ ps) h =
-    let one : weight p % 4294967296 ≡ p.1 = mul-add-mod_self_right (p.0) 4294967296 (p.1) ∙ mod-eq_of_lt h.0 in
-    λ i. one i ∷ unweigh ps h.1 i
+-- numbers and places that weigh the same are the same
+weights_same : (ps qs : List (ℕ × ℕ)) → Below 4294967296 ps → Below 4294967296 qs → map weight ps ≡ map weight qs → ps ≡ qs
+weights_same [] [] h k e = refl
+weights_same [] (q ∷ qs) h k e = absurd (let l = ap length e in omega (arith, l))
+weights_same (p ∷ ps) [] h k e = absurd (let l = ap length e in omega (arith, l))
+weights_same (p ∷ ps) (q ∷ qs) h k e =
+    let first : weight p ≡ weight q = ap (λ l. get_or l 0 0) e in
+    let x = h.0 in
+    let y = k.0 in
+    let a : p.0 ≡ q.0 = omega (arith, first, x, y) in
+    let b : p.1 ≡ q.1 = omega (arith, first, a) in
+    let on = weights_same ps qs h.1 k.1 (ap (drop 1) e) in
+    λ i. (a i, b i) ∷ on i
 
-taken_pairs : (legs : List LegView) (turns : List Turn) → taken legs turns ≡ map (λ place. get_or legs place no_leg) (elements (map pair turns))
-taken_pairs legs [] = refl
-taken_pairs legs (t ∷ turns) = ap (λ l. get_or legs t.place no_leg ∷ l) (taken_pairs legs turns)
+numbered_pairs : (legs : List LegView) (turns : List Turn) → numbered_legs legs turns ≡ map (over (λ place. get_or legs place no_leg)) (map pair turns)
+numbered_pairs legs [] = refl
+numbered_pairs legs (t ∷ turns) = ap (λ l. (t.leaf, get_or legs t.place no_leg) ∷ l) (numbered_pairs legs turns)
+
+taken_elements : (legs : List LegView) (turns : List Turn) → taken legs turns ≡ elements (numbered_legs legs turns)
+taken_elements legs [] = refl
+taken_elements legs (t ∷ turns) = ap (λ l. get_or legs t.place no_leg ∷ l) (taken_elements legs turns)
 
 from_counted : (k n : ℕ) (ps : List (ℕ × ℕ)) → Counted k ps → k + length ps ≤ n → Below n ps
 from_counted k n [] c l = tt
@@ -187,9 +198,15 @@ InOrder = (number : ℕ → ℕ) (rising ordered : List ℕ) → IsRising number
 pub turns_within : (most base : ℕ) (ends : List Open) (legs : List LegView) (turns : List Turn) → IsPermutation (turns_from most ends base 0 legs) turns → All (λ (t : Turn). t.place < length legs) turns
 turns_within most base ends legs turns m = All-permutation (λ (t : Turn). t.place < length legs) (turns_from most ends base 0 legs) turns m (within_from most base 0 (length legs) ends legs (omega arith))
 
-pub are_turns : InOrder → (places : List Place) (most : ℕ) (legs : List LegView) (turns : List Turn) → 0 < most → most ≤ 50 → length places + length legs < 2 ^ 32
-    → IsPermutation (turns_from most (opened_from most 0 places) (length places) 0 legs) turns → IsNonDecreasingBy turn_number turns → AreTurns places most legs turns
-are_turns in_order places most legs turns some fifty few moved rises before p i w =
+-- turns are those of the order, with its numbers
+abbrev pub AreNumbered : List Place → ℕ → List LegView → List Turn → Type 0
+AreNumbered places leaf legs turns =
+    (before : List LegView) → ArePlacesOf places before → CanFollowInTurn before legs
+    → numbered_legs legs turns ≡ put_all [] (numbered leg_feature leaf (λ f. f) before (feature_count before) legs)
+
+pub are_numbered : InOrder → (places : List Place) (most : ℕ) (legs : List LegView) (turns : List Turn) → 0 < most → most ≤ 50 → length places + length legs < 2 ^ 32
+    → IsPermutation (turns_from most (opened_from most 0 places) (length places) 0 legs) turns → IsNonDecreasingBy turn_number turns → AreNumbered places most legs turns
+are_numbered in_order places most legs turns some fifty few moved rises before p w =
     let ends = opened_from most 0 places in
     let base = length places in
     let ts = turns_from most ends base 0 legs in
@@ -205,9 +222,12 @@ are_turns in_order places most legs turns some fifty few moved rises before p i 
     let perm : IsPermutation S Q = IsPermutation-trans S P Q (IsPermutation-sym P S (all_moves [] P)) same in
     let up : IsNonDecreasingBy (λ (n : ℕ). n) (map weight Q) = subst (λ l. IsNonDecreasingBy (λ (n : ℕ). n) l) (weights turns) (numbers_rise turn_number turns rises) in
     let e : map weight Q ≡ map weight S = in_order (λ n. n) (map weight S) (map weight Q) rising (IsPermutation-map weight S Q perm) up in
-    let els : elements Q ≡ elements S = sym (unweigh Q (below_moved 4294967296 P Q same below)) ∙ ap (map (λ k. k % 4294967296)) e ∙ unweigh S (all_below 4294967296 [] P tt below) in
-    taken_pairs legs turns ∙ ap (map g) els ∙ sym (elements_over g S) ∙ ap elements (sym (all_over g [] P)) ∙ ap (λ l. elements (put_all [] l)) (numbers_are places most legs before some fifty p w)
+    let pairs : Q ≡ S = weights_same Q S (below_moved 4294967296 P Q same below) (all_below 4294967296 [] P tt below) e in
+    numbered_pairs legs turns ∙ ap (map (over g)) pairs ∙ sym (all_over g [] P) ∙ ap (λ l. put_all [] l) (numbers_are places most legs before some fifty p w)
   where
     weights : (turns : List Turn) → map turn_number turns ≡ map weight (map pair turns)
     weights [] = refl
     weights (t ∷ turns) = ap (λ l. turn_number t ∷ l) (weights turns)
+
+pub are_turns : (places : List Place) (most : ℕ) (legs : List LegView) (turns : List Turn) → AreNumbered places most legs turns → AreTurns places most legs turns
+are_turns places most legs turns are before p i w = taken_elements legs turns ∙ ap elements (are before p w)

@@ -11,3 +11,4 @@ pub mod Marking
 pub mod Bounds
 pub mod Taking
 pub mod Turns
+pub mod Runs

@@ -1,9 +1,11 @@
-use Rattle.std.proofs.Common.{◌≡◌, subst, sym, ◌∙◌}
+use Rattle.std.proofs.Common.{◌≡◌, OnOk, subst, sym, ◌∙◌}
 use Rattle.std.proofs.lemmas.Bool.{true≢false}
 use Rattle.boxsearch.specs.Putting.{PutsAll}
+use Rattle.boxsearch.specs.Runs.{RunsAsk}
 use Rattle.boxsearch.specs.Taking.{Taking}
 use Rattle.boxsearch.proofs.AddLemmas.{made}
 use Rattle.boxsearch.proofs.ResultLemmas.{from_ok}
+use Rattle.boxsearch.proofs.RunLemmas.{joined_asks}
 use Rattle.boxsearch.proofs.TakingTurns.{OrderLaws, joined, taking_absent}
 use Rattle.boxsearch.proofs.joining.join.Goals as goal
 
@@ -22,3 +24,11 @@ returns-then-not-has_place-clause-taking g c =
     let old = c.args.index.now in
     let mid : c.make_place.new.self ≡ made old c.args.feature = from_ok c.make_place.result (sym c.is_err.ensures.value ∙ c.if-is_err.false) c.make_place.ensures.ok in
     taking_absent old c.make_place.new.self c.spend-then-not-has_place.new.self c.args.feature c.args.legs.now c.requires.some c.requires.one mid c.spend-then-not-has_place.ensures (λ h. true≢false (sym (c.if-not-has_place.ensures.1 h)))
+
+pub returns-clause-asks : goal.returns-clause-asks
+returns-clause-asks g c =
+    let old = c.args.index.now in
+    let legs = c.args.legs.now in
+    let mid : c.make_place.new.self ≡ made old c.args.feature = from_ok c.make_place.result (sym c.is_err.ensures.value ∙ c.if-is_err.false) c.make_place.ensures.ok in
+    let p : PutsAll (made old c.args.feature) c.put_all.new.self c.args.feature legs c.put_all.result = subst (λ m. PutsAll m c.put_all.new.self c.args.feature legs c.put_all.result) mid c.put_all.ensures in
+    subst (λ r. OnOk r (RunsAsk old c.put_all.new.self 1)) (sym c.insertion.ensures) (joined_asks old c.put_all.new.self c.args.feature legs c.put_all.result p)

@@ -1,8 +1,11 @@
-use Rattle.std.proofs.Common.{◌≡◌, ◌+◌, drop, length, ap, arith, subst, sym, ◌∙◌}
+use Rattle.std.proofs.Common.{ℕ, ◌≡◌, ◌≤◌, ◌+◌, ◌-◌, drop, length, List, ap, arith, subst, sym, ◌∙◌}
 use Rattle.std.specs.Prelude.{Ok, Err}
 use Rattle.std.proofs.lemmas.List.{length-drop}
 use Rattle.std.proofs.lemmas.Result.{err_from_is_err_and}
+use Rattle.boxsearch.specs.Runs.{numbered_legs, runs_in, RunsAsk}
 use Rattle.boxsearch.specs.Taking.{Taking, taken}
+use Rattle.boxsearch.specs.declared.turns.Turn.{Turn}
+use Rattle.boxsearch.proofs.RunLemmas.{asks_more, asks_none, runs_end, runs_run}
 use Rattle.boxsearch.proofs.TakingTurns.{IsTaking, taking_more, taking_refused, taken_run}
 use Rattle.boxsearch.proofs.joining.join_all.Goals as goal
 
@@ -31,9 +34,15 @@ runs-preserved g c =
     let so_far = subst (λ ls. IsTaking old c.runs.index (taken legs turns) ls) left c.runs.invariant.taking in
     let later = c.runs.invariant.later in
     let more = c.in_ok-join.ensures.later in
+    let R : List Turn → ℕ = λ ts. runs_in (numbered_legs legs ts) in
+    let fewer : R (drop k turns) ≡ 1 + R (drop (k + c.len-from.result) turns) = runs_run legs turns k (length run) c.in-Ok.ensures.whole ∙ ap (λ n. 1 + R (drop (k + n) turns)) (sym many) in
+    let within : R (drop k turns) ≤ R turns = c.runs.invariant.fewer in
+    let one : (R turns - R (drop k turns)) + 1 ≡ R turns - R (drop (k + c.len-from.result) turns) = omega (arith, fewer, within) in
     let all = taking_more old c.runs.index c.join.new.index (taken legs turns) (taken legs (drop (k + length run) turns)) run so_far (subst (λ ls. Taking c.runs.index c.join.new.index ls (Ok tt)) c.as_slice.ensures.value c.in_ok-join.ensures.taking) more in
     record {
       within = (let most = c.in-Ok.ensures.most in let d = length-drop k turns in omega (arith, many, most, d, c.runs.invariant.within));
       taking = subst (λ n. IsTaking old c.join.new.index (taken legs turns) (taken legs (drop (k + n) turns))) (sym many) all;
+      fewer = omega (arith, fewer, within);
+      asks = subst (λ n. RunsAsk old c.join.new.index n) one (asks_more old c.runs.index c.join.new.index (R turns - R (drop k turns)) c.runs.invariant.asks c.in_ok-join.ensures.asks);
       later = record { plan = more.plan ∙ later.plan; faults = let x = later.faults in let y = more.faults in omega (arith, x, y); asked = let x = later.asked in let y = more.asked in omega (arith, x, y) };
     }

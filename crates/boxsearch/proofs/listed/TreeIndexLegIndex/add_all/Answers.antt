@@ -4,8 +4,8 @@ use Rattle.boxsearch.specs.Index.{IndexView}
 use Rattle.boxsearch.specs.Taking.{AreTurns}
 use Rattle.boxsearch.specs.declared.turns.Turn.{Turn}
 use Rattle.boxsearch.proofs.AddLemmas.{Laws}
-use Rattle.boxsearch.proofs.AllLemmas.{AllLaws, all_added, all_refusals}
-use Rattle.boxsearch.proofs.TurnOrder.{are_turns, turns_within}
+use Rattle.boxsearch.proofs.AllLemmas.{AllLaws, all_added, all_asked, all_refusals}
+use Rattle.boxsearch.proofs.TurnOrder.{AreNumbered, are_numbered, are_turns, turns_within}
 use Rattle.boxsearch.proofs.listed.TreeIndexLegIndex.add_all.Goals as goal
 
 pub returns-in-Err-clause-refusals : goal.returns-in-Err-clause-refusals
@@ -33,12 +33,30 @@ returns-clause-added g c =
     let leaf : c.from-most.result ≡ old.tree.shape.leaf = c.from-most.ensures ∙ c.leaf.ensures.value ∙ ap (λ (v : IndexView). v.tree.shape.leaf) c.self.view_is in
     let least = c.leaf.ensures.range.least_leaf in
     let most = c.leaf.ensures.range.most_leaf in
-    let plain : AreTurns c.as_slice.result.now c.from-most.result legs c.in-Ok.turns.items = are_turns c.laws.ensures.in_order c.as_slice.result.now c.from-most.result legs c.in-Ok.turns.items (let e = c.from-most.ensures in let v = c.leaf.ensures.value in omega (arith, e, v, least)) (let e = c.from-most.ensures in let v = c.leaf.ensures.value in omega (arith, e, v, most)) c.in-Ok.ensures.few c.in-Ok.ensures.permutation c.in-Ok.ensures.rises in
-    let are : AreTurns old.places old.tree.shape.leaf legs turns =
-    subst (λ ps. AreTurns ps old.tree.shape.leaf legs turns) places (subst (λ n. AreTurns c.as_slice.result.now n legs turns) leaf (subst (λ ts. AreTurns c.as_slice.result.now c.from-most.result legs ts) (sym c.as_slice-2.ensures.value) plain)) in
+    let plain : AreNumbered c.as_slice.result.now c.from-most.result legs c.in-Ok.turns.items = are_numbered c.laws.ensures.in_order c.as_slice.result.now c.from-most.result legs c.in-Ok.turns.items (let e = c.from-most.ensures in let v = c.leaf.ensures.value in omega (arith, e, v, least)) (let e = c.from-most.ensures in let v = c.leaf.ensures.value in omega (arith, e, v, most)) c.in-Ok.ensures.few c.in-Ok.ensures.permutation c.in-Ok.ensures.rises in
+    let numbers : AreNumbered old.places old.tree.shape.leaf legs turns =
+    subst (λ ps. AreNumbered ps old.tree.shape.leaf legs turns) places (subst (λ n. AreNumbered c.as_slice.result.now n legs turns) leaf (subst (λ ts. AreNumbered c.as_slice.result.now c.from-most.result legs ts) (sym c.as_slice-2.ensures.value) plain)) in
+    let are : AreTurns old.places old.tree.shape.leaf legs turns = are_turns old.places old.tree.shape.leaf legs turns numbers in
     let rules : Laws = record { content = c.laws.ensures.content; lawful = c.laws.ensures.lawful; height = c.laws.ensures.height; fits = c.laws.ensures.fits; absent = c.laws.ensures.absent } in
     let orders : AllLaws = record { taken = c.order_laws.ensures.taken; reordered = c.order_laws.ensures.reordered } in
     all_added rules orders old c.join_all.new.index legs turns are c.join_all.result c.join_all.ensures.taking
+
+pub returns-clause-asks : goal.returns-clause-asks
+returns-clause-asks g c =
+    let old = c.args.self.now in
+    let legs = c.args.legs.now in
+    let turns = c.as_slice-2.result.now in
+    let places : c.as_slice.result.now ≡ old.places = c.as_slice.ensures.value ∙ ap (λ (v : IndexView). v.places) c.self.view_is in
+    let leaf : c.from-most.result ≡ old.tree.shape.leaf = c.from-most.ensures ∙ c.leaf.ensures.value ∙ ap (λ (v : IndexView). v.tree.shape.leaf) c.self.view_is in
+    let least = c.leaf.ensures.range.least_leaf in
+    let most = c.leaf.ensures.range.most_leaf in
+    let plain : AreNumbered c.as_slice.result.now c.from-most.result legs c.in-Ok.turns.items = are_numbered c.laws.ensures.in_order c.as_slice.result.now c.from-most.result legs c.in-Ok.turns.items (let e = c.from-most.ensures in let v = c.leaf.ensures.value in omega (arith, e, v, least)) (let e = c.from-most.ensures in let v = c.leaf.ensures.value in omega (arith, e, v, most)) c.in-Ok.ensures.few c.in-Ok.ensures.permutation c.in-Ok.ensures.rises in
+    let numbers : AreNumbered old.places old.tree.shape.leaf legs turns =
+    subst (λ ps. AreNumbered ps old.tree.shape.leaf legs turns) places (subst (λ n. AreNumbered c.as_slice.result.now n legs turns) leaf (subst (λ ts. AreNumbered c.as_slice.result.now c.from-most.result legs ts) (sym c.as_slice-2.ensures.value) plain)) in
+    let are : AreTurns old.places old.tree.shape.leaf legs turns = are_turns old.places old.tree.shape.leaf legs turns numbers in
+    let rules : Laws = record { content = c.laws.ensures.content; lawful = c.laws.ensures.lawful; height = c.laws.ensures.height; fits = c.laws.ensures.fits; absent = c.laws.ensures.absent } in
+    let orders : AllLaws = record { taken = c.order_laws.ensures.taken; reordered = c.order_laws.ensures.reordered } in
+    all_asked rules orders old c.join_all.new.index legs turns are c.join_all.result numbers c.join_all.ensures.taking c.join_all.ensures.asks
 
 pub returns-clause-refusals : goal.returns-clause-refusals
 returns-clause-refusals g c =
@@ -49,9 +67,10 @@ returns-clause-refusals g c =
     let leaf : c.from-most.result ≡ old.tree.shape.leaf = c.from-most.ensures ∙ c.leaf.ensures.value ∙ ap (λ (v : IndexView). v.tree.shape.leaf) c.self.view_is in
     let least = c.leaf.ensures.range.least_leaf in
     let most = c.leaf.ensures.range.most_leaf in
-    let plain : AreTurns c.as_slice.result.now c.from-most.result legs c.in-Ok.turns.items = are_turns c.laws.ensures.in_order c.as_slice.result.now c.from-most.result legs c.in-Ok.turns.items (let e = c.from-most.ensures in let v = c.leaf.ensures.value in omega (arith, e, v, least)) (let e = c.from-most.ensures in let v = c.leaf.ensures.value in omega (arith, e, v, most)) c.in-Ok.ensures.few c.in-Ok.ensures.permutation c.in-Ok.ensures.rises in
-    let are : AreTurns old.places old.tree.shape.leaf legs turns =
-    subst (λ ps. AreTurns ps old.tree.shape.leaf legs turns) places (subst (λ n. AreTurns c.as_slice.result.now n legs turns) leaf (subst (λ ts. AreTurns c.as_slice.result.now c.from-most.result legs ts) (sym c.as_slice-2.ensures.value) plain)) in
+    let plain : AreNumbered c.as_slice.result.now c.from-most.result legs c.in-Ok.turns.items = are_numbered c.laws.ensures.in_order c.as_slice.result.now c.from-most.result legs c.in-Ok.turns.items (let e = c.from-most.ensures in let v = c.leaf.ensures.value in omega (arith, e, v, least)) (let e = c.from-most.ensures in let v = c.leaf.ensures.value in omega (arith, e, v, most)) c.in-Ok.ensures.few c.in-Ok.ensures.permutation c.in-Ok.ensures.rises in
+    let numbers : AreNumbered old.places old.tree.shape.leaf legs turns =
+    subst (λ ps. AreNumbered ps old.tree.shape.leaf legs turns) places (subst (λ n. AreNumbered c.as_slice.result.now n legs turns) leaf (subst (λ ts. AreNumbered c.as_slice.result.now c.from-most.result legs ts) (sym c.as_slice-2.ensures.value) plain)) in
+    let are : AreTurns old.places old.tree.shape.leaf legs turns = are_turns old.places old.tree.shape.leaf legs turns numbers in
     let rules : Laws = record { content = c.laws.ensures.content; lawful = c.laws.ensures.lawful; height = c.laws.ensures.height; fits = c.laws.ensures.fits; absent = c.laws.ensures.absent } in
     let orders : AllLaws = record { taken = c.order_laws.ensures.taken; reordered = c.order_laws.ensures.reordered } in
     let works : old.tree.spent ≡ false = sym (ap (λ (v : IndexView). v.tree.spent) c.self.view_is) ∙ c.if-self.false in
