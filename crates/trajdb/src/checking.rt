@@ -75,13 +75,15 @@ impl<I: Start> Core<I> {
 }
 
 impl<S: PageStore> Core<TreeIndex<S>> {
-    ghost use Rattle.std.specs.Prelude.{ℕ, ◌≡◌, IfErr, IfOk, IsErrOf, IsTrue, OnOk, false, true};
+    ghost use Rattle.std.specs.Prelude.{ℕ, ◌≡◌, ◌⊎◌, IfErr, IfOk, IsErrOf, IsTrue, OnOk, false, true};
     ghost use Rattle.legs.specs.Asking.{Refusals};
     ghost use Rattle.legs.specs.Index.{HasRisen, MayRefuse};
     ghost use Rattle.legs.specs.Limits.{IsLimits};
     ghost use Rattle.legs.specs.declared.index.IndexFault.{IndexFault};
     ghost use Rattle.pagecache.specs.Cache.{payload_of, IsClean};
+    ghost use Rattle.chains.specs.Reads.{OnlyReads};
     ghost use Rattle.treecheck.specs.Checking.{AreTracksOf};
+    ghost use Rattle.treecheck.specs.Naming.{IsFirstDamaged, IsFirstMalformed};
     ghost use Rattle.boxsearch.specs.Index.{content, words, IsSound, SaysState};
     ghost use Rattle.trajdb.specs.Calls.{IsAsked, IsQuestionFault, Leaves};
     ghost use Rattle.trajdb.specs.Checking.{Reports};
@@ -97,6 +99,7 @@ impl<S: PageStore> Core<TreeIndex<S>> {
             → payload_of self.new.index.cache page ≡ payload_of self.old.index.cache page }
         ensures faithful { self.new.index.cache.store.is_faithful
             ≡ self.old.index.cache.store.is_faithful }
+        ensures reads { OnlyReads self.old.index.cache self.new.index.cache }
         ensures legs { content self.new.index ≡ self.new.book.legs }
         ensures refusals { Refusals words self.old.index self.new.index result }
         ensures works { IfErr result (λ fault. words.is_spent self.old.index ≡ false
@@ -117,6 +120,11 @@ impl<S: PageStore> Core<TreeIndex<S>> {
             → AreTracksOf self.old.tracks (length self.old.book.rows) (content self.old.index)
             → SaysState self.old.begun (payload_of self.old.index.cache 0)
             → IfErr result MayRefuse }
+        ensures named { IsTrue self.old.index.cache.store.is_faithful → (n : ℕ)
+            → IsErrOf result (IndexFault.Damaged n)
+            → IsFirstDamaged self.old.index.cache n
+            ⊎ IsFirstMalformed self.old.begun self.old.index.cache n }
+        ensures reads { OnlyReads self.old.index.cache self.new.index.cache }
         ensures leaves { Leaves words self.old self.new }
         ensures payloads { IsTrue self.old.index.cache.store.is_faithful → (page : ℕ)
             → payload_of self.new.index.cache page ≡ payload_of self.old.index.cache page }
@@ -145,6 +153,10 @@ impl<S: PageStore> Core<TreeIndex<S>> {
         ensures written { OnOk result (IsClean self.new.index.cache) }
         ensures only { IfErr result (λ fault. db.IsSound self.old → db.HasPages self.old
             → IsIdle self.old → IsQuestionFault fault) }
+        ensures named { IsTrue self.old.index.cache.store.is_faithful → (n : ℕ)
+            → IsErrOf result (RunFault.Damaged n)
+            → IsFirstDamaged self.old.index.cache n
+            ⊎ IsFirstMalformed self.old.begun self.old.index.cache n }
         ensures works { IsErrOf result RunFault.Failed
             → words.is_spent self.old.index ≡ true }
         ensures leaves { Leaves words self.old self.new }
@@ -173,6 +185,7 @@ impl<S: PageStore> Db<S> {
     ghost use Rattle.std.specs.Prelude.{ℕ, ◌≡◌, ◌⊎◌, Err, IfErr, IfOk, IsErrOf, IsTrue, OnOk, false, true};
     ghost use Rattle.pagecache.specs.Cache.{payload_of, IsClean};
     ghost use Rattle.pages.specs.Store.{Store};
+    ghost use Rattle.treecheck.specs.Naming.{IsFirstDamaged, IsFirstMalformed};
     ghost use Rattle.boxsearch.specs.Index.{words};
     ghost use Rattle.trajdb.specs.Calls.{IsAsked, IsQuestionFault, KeepsPages, Leaves};
     ghost use Rattle.trajdb.specs.Checking.{Reports};
@@ -205,6 +218,12 @@ impl<S: PageStore> Db<S> {
             → IsIdle self.old → self.old.failed ≡ false → IsQuestionFault fault) }
         ensures works { IsErrOf result RunFault.Failed
             → (self.old.failed ≡ true) ⊎ (words.is_spent self.old.index ≡ true) }
+
+        // Which page is damaged, whoever made the pages.
+        ensures named { IsTrue self.old.index.cache.store.is_faithful → (n : ℕ)
+            → IsErrOf result (RunFault.Damaged n)
+            → IsFirstDamaged self.old.index.cache n
+            ⊎ IsFirstMalformed self.old.begun self.old.index.cache n }
 
         // The book stays, and each page has the payload that it had; once it has passed, all that
         // was changed is written, and nothing is where nothing was changed.
