@@ -1,7 +1,8 @@
 //! A text that is written to a chain of pages.
-ghost use Rattle.std.specs.Prelude.{◌≡◌, ◌<◌, ◌≤◌, false, length, nat_eq, All, OnOk, OnErr, IfOk, IfErr, IfSome, IsTrue, Some};
+ghost use Rattle.std.specs.Prelude.{◌≡◌, ◌<◌, ◌≤◌, false, length, nat_eq, All, OnOk, OnErr, IfOk, IfErr, IfSome, IsTrue, None, Some};
 ghost use Rattle.pages.specs.declared.payload.Kind.TheVariants.{Catalogue};
-ghost use Rattle.pagecache.specs.Cache.{payload_of, Rests, Lends, IsRefused};
+ghost use Rattle.pages.specs.Zero.{zero_payload};
+ghost use Rattle.pagecache.specs.Cache.{payload_of, Adds, AsksOnce, IsNotAdded, IsRefused, Lends, Rests, Stays};
 ghost use Rattle.tbtree.specs.Passes.{Passes, KeepsLength};
 ghost use Rattle.indexmap.specs.IndexSet.{insert_key, contains, spare};
 ghost use Rattle.catalogue.specs.Beginning.{IsAllowed};
@@ -147,6 +148,20 @@ fn add_first<S: PageStore>(cache: &mut PageCache<S>) -> Result<(), CacheFault>
     Ok(())
 }
 
+/// Adds a page of zeros, which is written once it has its bytes of the text.
+fn add_zeros<S: PageStore>(cache: &mut PageCache<S>) -> Result<u32, CacheFault>
+    ensures adds { OnOk result (Adds (zero_payload Catalogue) cache.old cache.new) }
+    ensures number { IfOk result (λ number. number ≡ cache.old.count) }
+    ensures none_before { payload_of cache.old cache.old.count ≡ None }
+    ensures length { OnOk result (cache.old.count ≡ cache.old.store.count
+        → cache.new.count ≡ cache.new.store.count) }
+    ensures refused { OnErr result (Stays cache.old cache.new) }
+    ensures asks { AsksOnce cache.old cache.new }
+    ensures cause { IfErr result (λ fault. IsNotAdded fault cache.old cache.new) }
+{
+    cache.add_changed(Payload::zero(Kind::Catalogue))
+}
+
 /// Adds a page, above page 0.
 fn add_above<S: PageStore>(cache: &mut PageCache<S>) -> Result<u32, CacheFault>
     ensures gives { IfOk result (λ page. Gives cache.old page cache.new) }
@@ -157,8 +172,7 @@ fn add_above<S: PageStore>(cache: &mut PageCache<S>) -> Result<u32, CacheFault>
     ensures caused { IfErr result (IsCaused cache.old cache.new) }
 {
     add_first(cache)?;
-    // It is written once, with its bytes of the text.
-    let page = cache.add_changed(Payload::zero(Kind::Catalogue))?;
+    let page = add_zeros(cache)?;
     Ok(page)
 }
 
