@@ -1,5 +1,5 @@
 -- What an index knows of its features, after a question.
-use Rattle.std.proofs.Common.{ℕ, zero, suc, ℤ, ◌≡◌, ◌<◌, ◌≤ℤ◌, ⊎_elim, List, [], ◌∷◌, ◌++◌, map, set, get_or, length, refl, sym, ap, ◌∙◌, arith, subst, Some, None, slice_get, Result, Ok, Err, IsTrue}
+use Rattle.std.proofs.Common.{ℕ, zero, suc, ℤ, ◌≡◌, ◌<◌, ◌≤ℤ◌, ⊎_elim, List, [], ◌∷◌, ◌++◌, map, set, get_or, length, refl, sym, ap, ◌∙◌, arith, subst, Some, slice_get, Result, Ok, Err, IsTrue}
 use Rattle.std.specs.Prelude.{OnOk}
 use Rattle.std.specs.Int.{div_ceil}
 use Rattle.std.proofs.lemmas.Bool.{cases_eq}

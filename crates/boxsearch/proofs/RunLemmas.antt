@@ -1,5 +1,5 @@
 -- What runs of turns ask for.
-use Rattle.std.proofs.Common.{ℕ, suc, ◌≡◌, ◌≢◌, ◌≤◌, ◌<◌, ◌+◌, ◌-◌, ◌*◌, ◌==◌, ◌&&◌, zero, false, cond, ⊎_elim, refl, sym, ap, ◌∙◌, arith, subst, eq-eqb, All, List, [], ◌∷◌, ◌++◌, append_assoc, drop, take, length, get_or, Result, Ok, Err, OnOk}
+use Rattle.std.proofs.Common.{ℕ, suc, ◌≡◌, ◌≢◌, ◌≤◌, ◌<◌, ◌+◌, ◌-◌, ◌*◌, ◌==◌, ◌&&◌, zero, false, cond, ⊎_elim, sym, ap, ◌∙◌, arith, subst, eq-eqb, All, List, [], ◌∷◌, ◌++◌, append_assoc, drop, take, length, get_or, Result, Ok, Err, OnOk}
 use Rattle.std.proofs.Math.Nat.{add-mul, mul-add}
 use Rattle.std.proofs.lemmas.Bool.{cases_eq}
 use Rattle.std.proofs.lemmas.List.{length-drop, take_all}
@@ -53,9 +53,9 @@ runs_other legs turns k d leg leaf feature l within is differ =
     let t = get_or turns k d in
     let next = numbered_next legs turns k d leg l within is in
     let off : (t.leaf == leaf && leg.feature == feature) ≡ false = ⊎_elim
-        (λ (e : t.leaf ≡ leaf). ap (λ v. v && leg.feature == feature) (eq-eqb t.leaf leaf e) ∙ neq-eqb leg.feature feature (differ e))
-        (λ (u : t.leaf ≢ leaf). ap (λ v. v && leg.feature == feature) (neq-eqb t.leaf leaf u))
-        (cases_eq t.leaf leaf) in
+    (λ (e : t.leaf ≡ leaf). ap (λ v. v && leg.feature == feature) (eq-eqb t.leaf leaf e) ∙ neq-eqb leg.feature feature (differ e))
+    (λ (u : t.leaf ≢ leaf). ap (λ v. v && leg.feature == feature) (neq-eqb t.leaf leaf u))
+    (cases_eq t.leaf leaf) in
     ap (runs_past leaf feature) next ∙ ap (λ v. cond v 0 1 + runs_past t.leaf leg.feature rest) off ∙ sym (ap (λ ps. runs_in ps) next)
 
 drop_past : {X : Type 0} (k : ℕ) (xs : List X) → length xs ≤ k → drop k xs ≡ []

@@ -6,7 +6,6 @@ use Rattle.legs.specs.Hull.{leg_boxes}
 use Rattle.legs.specs.Legs.{LegView}
 use Rattle.legs.specs.Boxes.{BoxView}
 use Rattle.legs.specs.Questions.{InBox, OfFeature}
-use Rattle.legs.specs.declared.index.IndexFault.{IndexFault}
 use Rattle.timebase.specs.Period.{PeriodView}
 use Rattle.pages.specs.declared.payload.Payload.{Payload}
 use Rattle.pagecache.specs.Cache.{Cache, IsRefused, payload_of}

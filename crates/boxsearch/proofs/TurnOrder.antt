@@ -1,11 +1,10 @@
 -- Turns in order take the legs leaf by leaf.
-use Rattle.std.proofs.Common.{ℕ, zero, suc, ◌≡◌, ◌≤◌, ◌<◌, ◌+◌, ◌*◌, ◌%◌, ◌^◌, cond, nat_lt, true, false, refl, sym, ap, ◌∙◌, arith, subst, ⊎_elim, lt-ltb, le-ltb, List, [], ◌∷◌, ◌++◌, drop, map, length, get_or, All}
+use Rattle.std.proofs.Common.{ℕ, zero, suc, ◌≡◌, ◌≤◌, ◌<◌, ◌+◌, ◌*◌, ◌^◌, cond, nat_lt, true, false, refl, sym, ap, ◌∙◌, arith, subst, ⊎_elim, lt-ltb, le-ltb, List, [], ◌∷◌, ◌++◌, drop, map, length, get_or, All}
 use Rattle.std.specs.List.Sorted.{IsPermutation, IsNonDecreasingBy}
 use Rattle.std.proofs.lemmas.Bool.{cases_lt}
 use Rattle.std.proofs.lemmas.List.{append-nil, length-map}
 use Rattle.std.proofs.lemmas.List.Elements.{All-nil, All-cons}
 use Rattle.std.proofs.lemmas.List.Sorted.{IsPermutation-refl, IsPermutation-sym, IsPermutation-cons, IsPermutation-trans, IsPermutation-middle, IsPermutation-append_left, IsPermutation-map, All-permutation, IsNonDecreasingBy-short, IsNonDecreasingBy-from_default}
-use Rattle.std.proofs.Math.Nat.{mod-eq_of_lt, mul-add-mod_self_right}
 use Rattle.legs.specs.Costs.{leg_feature}
 use Rattle.legs.specs.Index.{feature_count, CanFollowInTurn}
 use Rattle.legs.specs.Legs.{LegView}

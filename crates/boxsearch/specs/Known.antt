@@ -1,5 +1,5 @@
 -- What an index knows of the leaves of its features.
-use Rattle.std.specs.Prelude.{ℕ, ℤ, ◌≤ℤ◌, ◌≡◌, ◌⊎◌, List, [], Option, Some, slice_get, IsTrue}
+use Rattle.std.specs.Prelude.{ℕ, ℤ, ◌≤ℤ◌, ◌≡◌, ◌⊎◌, List, [], Some, slice_get, IsTrue}
 use Rattle.timebase.specs.Period.{PeriodView}
 use Rattle.legs.specs.Costs.{ShapeView}
 use Rattle.pagecache.specs.Cache.{Cache}

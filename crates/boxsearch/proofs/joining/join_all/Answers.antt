@@ -5,7 +5,7 @@ use Rattle.std.proofs.lemmas.Result.{err_from_is_err_and}
 use Rattle.boxsearch.specs.Runs.{numbered_legs, runs_in, RunsAsk}
 use Rattle.boxsearch.specs.Taking.{Taking, taken}
 use Rattle.boxsearch.specs.declared.turns.Turn.{Turn}
-use Rattle.boxsearch.proofs.RunLemmas.{asks_more, asks_none, runs_end, runs_run}
+use Rattle.boxsearch.proofs.RunLemmas.{asks_more, runs_run}
 use Rattle.boxsearch.proofs.TakingTurns.{IsTaking, taking_more, taking_refused, taken_run}
 use Rattle.boxsearch.proofs.joining.join_all.Goals as goal
 

@@ -1,8 +1,8 @@
-use Rattle.std.proofs.Common.{◌≡◌, ◌≢◌, ◌∙◌, ◌+◌, ◌≤◌, ◌<◌, ◌++◌, ◌∷◌, [], List, All, drop, length, subst, ap, arith, sym, refl}
+use Rattle.std.proofs.Common.{◌≡◌, ◌∙◌, ◌+◌, ◌++◌, ◌∷◌, [], List, All, drop, length, subst, ap, arith, sym, refl}
 use Rattle.std.proofs.lemmas.List.{length_push}
 use Rattle.std.proofs.lemmas.List.Elements.{All-nil, All-push}
 use Rattle.legs.specs.Legs.{LegView}
-use Rattle.boxsearch.specs.Runs.{numbered_legs, runs_in, runs_past}
+use Rattle.boxsearch.specs.Runs.{numbered_legs, runs_in}
 use Rattle.boxsearch.specs.Taking.{taken}
 use Rattle.boxsearch.specs.declared.turns.Turn.{Turn}
 use Rattle.boxsearch.proofs.RunLemmas.{runs_first, runs_same, runs_other, runs_none, taken_more}

@@ -1,9 +1,9 @@
-use Rattle.std.proofs.Common.{set, ◌≡◌, ◌-◌, ◌^◌, ◌<◌, length, min, ap, subst, sym, ◌∙◌, arith, false, slice_get, Some, None, map, ℕ, ℤ, ◌≤ℤ◌, IsTrue, Option}
+use Rattle.std.proofs.Common.{set, ◌≡◌, ◌-◌, ◌^◌, ◌<◌, length, min, ap, subst, sym, ◌∙◌, arith, false, slice_get, Some, None, map, ℕ, ℤ, IsTrue, Option}
 use Rattle.std.specs.Prelude.{IfOk, MatchResult, OnOk}
 use Rattle.timebase.specs.Period.{PeriodView}
 use Rattle.boxsearch.specs.Known.{KnowsBackTo}
 use Rattle.boxsearch.proofs.AnswerLemmas.{each_value}
-use Rattle.boxsearch.proofs.KnowsLemmas.{known_back, learned, le_then, ok_all, ok_two, recalled}
+use Rattle.boxsearch.proofs.KnowsLemmas.{learned, ok_all, recalled}
 use Rattle.legs.specs.Asking.{Denies, Leaves, Refusals}
 use Rattle.legs.specs.Questions.{OfFeature}
 use Rattle.legs.specs.Costs.{RisesBy, track_cost}

@@ -1,4 +1,4 @@
-use Rattle.std.proofs.Common.{set, ◌≡◌, ◌-◌, ◌^◌, ◌<◌, length, min, ap, subst, sym, ◌∙◌, false, slice_get, Some, map, ℕ, ℤ, ◌≤ℤ◌, IsTrue, Option, arith}
+use Rattle.std.proofs.Common.{set, ◌≡◌, ◌-◌, ◌^◌, ◌<◌, length, min, ap, subst, sym, ◌∙◌, false, slice_get, Some, map, ℕ, ℤ, ◌≤ℤ◌, IsTrue}
 use Rattle.std.specs.Prelude.{IfOk, MatchResult, OnOk, filter}
 use Rattle.timebase.specs.Period.{PeriodView}
 use Rattle.boxsearch.specs.Known.{KnowsBackTo}

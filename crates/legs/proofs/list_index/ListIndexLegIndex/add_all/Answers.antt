@@ -1,10 +1,8 @@
-use Rattle.std.proofs.Common.{◌≡◌, ◌∙◌, ◌∷◌, ◌+◌, [], drop, arith, ap, sym, subst, Err}
+use Rattle.std.proofs.Common.{◌∙◌, ◌∷◌, ◌+◌, drop, ap, sym, subst}
 use Rattle.std.proofs.lemmas.Bool.{true≢false}
 use Rattle.std.proofs.lemmas.List.{drop_more}
 use Rattle.std.proofs.lemmas.Result.{err_from_is_err_and}
-use Rattle.legs.specs.Asking.{LegRefusals}
 use Rattle.legs.specs.Legs.{LegView}
-use Rattle.legs.specs.Places.{ListView}
 use Rattle.legs.proofs.GrowLemmas.{IsGrowing, growing-refused, list_words}
 use Rattle.legs.proofs.list_index.ListIndexLegIndex.add_all.Goals as goal
 
