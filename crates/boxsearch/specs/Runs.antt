@@ -7,7 +7,8 @@ use Rattle.boxsearch.specs.declared.turns.Turn.{Turn}
 
 -- the legs that turns take, each with the number of its leaf
 abbrev pub numbered_legs : List LegView → List Turn → List (ℕ × LegView)
-numbered_legs legs turns = map {B = ℕ × LegView} (λ turn. (turn.leaf, slice_index_or legs turn.place no_leg)) turns
+numbered_legs legs turns =
+    map {B = ℕ × LegView} (λ turn. (turn.leaf, slice_index_or legs turn.place no_leg)) turns
 
 -- how many runs begin, behind a leg of that feature in that leaf
 unfoldable pub runs_past : ℕ → ℕ → List (ℕ × LegView) → ℕ

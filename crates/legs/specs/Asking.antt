@@ -74,8 +74,8 @@ AddAsks g old new leg =
     g.is_sound old → CanFollowInTurn (g.content old) (leg ∷ [])
     → RisesAtMost (g.asked old) (g.asked new) (add_bound (g.plan old) (g.content old ++ leg ∷ []))
 
--- and legs that may follow one another for at most the pages of the ways of their features' last leaves, and of
--- those of the leaves that they make
+-- and legs that may follow one another for at most the pages of the ways to their features' last
+-- leaves, and of those to the leaves that they make
 abbrev pub AddAllAsks : {I : Type 0} → Ghosts I → I → I → List LegView → Type 0
 AddAllAsks g old new legs =
     g.is_sound old → CanFollowInTurn (g.content old) legs

@@ -89,7 +89,8 @@ add_bound (Some shape) legs = 2 * height shape.inner (leaves_of shape legs) + 4
 abbrev pub features_after : List LegView → List LegView → ℕ
 features_after before [] = 0
 features_after before (leg ∷ legs) =
-    (if list_any (is_of leg.feature) before then 0 else 1) + features_after (before ++ leg ∷ []) legs
+    (if list_any (is_of leg.feature) before then 0 else 1)
+    + features_after (before ++ leg ∷ []) legs
 
 -- how many features some legs have, whatever legs there were before
 abbrev pub features_among : List LegView → ℕ
@@ -97,15 +98,20 @@ features_among legs = features_after [] legs
 
 -- how many leaves some legs make, after those before them
 abbrev pub leaves_made : ShapeView → List LegView → List LegView → ℕ
-leaves_made shape before legs = length (leaves_of shape (before ++ legs)) - length (leaves_of shape before)
+leaves_made shape before legs =
+    length (leaves_of shape (before ++ legs)) - length (leaves_of shape before)
 
--- legs put in at once, after those before them: for each of their features its last leaf and the pages above it,
--- and for each leaf that they make twice the root's height after all of them, and four
+-- the height of the root of a tree of legs above its leaves
+abbrev pub height_of : ShapeView → List LegView → ℕ
+height_of shape legs = height shape.inner (leaves_of shape legs)
+
+-- legs put in at once, after those before them: for each of their features its last leaf and the
+-- pages above it, and for each leaf that they make twice the root's height after them, and four
 unfoldable pub add_all_bound : Option ShapeView → List LegView → List LegView → ℕ
 add_all_bound None before legs = 0
 add_all_bound (Some shape) before legs =
-    features_among legs * (height shape.inner (leaves_of shape (before ++ legs)) + 1)
-    + leaves_made shape before legs * (2 * height shape.inner (leaves_of shape (before ++ legs)) + 4)
+    features_among legs * (height_of shape (before ++ legs) + 1)
+    + leaves_made shape before legs * (2 * height_of shape (before ++ legs) + 4)
 
 -- a counter rose by that many; the greatest number that is counted stands for any greater one
 abbrev pub RisesBy : ℕ → ℕ → ℕ → Type 0
