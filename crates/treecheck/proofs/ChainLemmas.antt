@@ -24,7 +24,7 @@ use Rattle.tbtree.proofs.KeyRuns.{is}
 use Rattle.treecheck.proofs.LeafChains.{runs_rise, legs_at, own, all_legs, leaves_own}
 use Rattle.tbtree.proofs.OrdinalOrder.{IsUp}
 use Rattle.tbtree.proofs.OwnedLists.{AreOwned, joined_map, owned_at, owned_beyond, numbered_rise}
-use Rattle.tbtree.proofs.RisingLists.{get_few, own_order, in_filter, rising_up}
+use Rattle.tbtree.proofs.RisingLists.{own_order, in_filter, rising_up}
 use Rattle.tbtree.proofs.SortLemmas.{number}
 use Rattle.tbtree.proofs.TurnLemmas.{AreTurns, in_turn, turn_of, turn_rising}
 

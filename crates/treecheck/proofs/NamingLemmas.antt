@@ -1,5 +1,5 @@
 -- Which page a check names.
-use Rattle.std.proofs.Common.{ℕ, Bool, ◌≡◌, ◌≢◌, ◌<◌, None, Result, Ok, Err, inl, inr, ap, subst, IsTrue}
+use Rattle.std.proofs.Common.{ℕ, Bool, ◌≡◌, ◌≢◌, None, Result, Ok, Err, inl, inr, ap, subst, IsTrue}
 use Rattle.std.specs.Option.{option_map}
 use Rattle.std.specs.Prelude.{IfErr, IsErrOf, ◌⊎◌}
 use Rattle.legs.specs.declared.index.IndexFault.{IndexFault}

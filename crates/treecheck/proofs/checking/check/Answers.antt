@@ -2,7 +2,7 @@ use Rattle.std.proofs.Common.{[], ◌≡◌, ◌<◌, length, false, sym, ap, �
 use Rattle.std.specs.Prelude.{IfErr, IsErrOf, OnOk}
 use Rattle.legs.specs.Asking.{Leaves}
 use Rattle.legs.specs.Index.{MayRefuse}
-use Rattle.pagecache.specs.Cache.{Cache, payload_of}
+use Rattle.pagecache.specs.Cache.{payload_of}
 use Rattle.chains.specs.Reads.{OnlyReads}
 use Rattle.treecheck.specs.Check.{HoldLegs, IsChecked}
 use Rattle.tbtree.specs.Nodes.{pages_of_cache}
@@ -15,7 +15,6 @@ use Rattle.boxsearch.specs.Faults.{IsAllowed, IsCaused}
 use Rattle.boxsearch.specs.Index.{IndexView, words, content, IsSound, SaysState}
 use Rattle.boxsearch.proofs.AnswerLemmas.{each_fault, each_value, search_allowed}
 use Rattle.boxsearch.proofs.IndexLemmas.{reads_leave}
-use Rattle.boxsearch.proofs.ResultLemmas.{now_says}
 use Rattle.treecheck.specs.Checking.{Agree, AreTracksOf}
 use Rattle.treecheck.specs.Naming.{IsFirstDamaged, IsFirstMalformed, Names}
 use Rattle.treecheck.proofs.NamingLemmas.{either_named}
