@@ -1,8 +1,8 @@
 -- Helpers of private functions: the steps in which a text is written to a chain of pages.
-use Rattle.std.specs.Prelude.{ℕ, ◌≡◌, ◌≢◌, ◌<◌, ◌≤◌, ◌-◌, ◌^◌, min, List, [], ◌∷◌, ◌++◌, length, drop, All, Some, IsTrue}
+use Rattle.std.specs.Prelude.{ℕ, ◌≡◌, ◌≢◌, ◌<◌, ◌≤◌, ◌-◌, ◌^◌, min, false, List, [], ◌∷◌, ◌++◌, length, drop, All, Some, IsTrue}
 use Rattle.pages.specs.declared.payload.Kind.TheVariants.{Catalogue}
 use Rattle.pages.specs.declared.payload.Payload.{Payload}
-use Rattle.pagecache.specs.Cache.{Cache, SameLength, Stays, Writes, payload_of}
+use Rattle.pagecache.specs.Cache.{Cache, SameLength, Stays, Writes, is_changed, payload_of}
 use Rattle.tbtree.specs.Descent.{IsSameTree}
 use Rattle.tbtree.specs.Nodes.{pages_of_cache}
 use Rattle.tbtree.specs.Passes.{Passes, KeepsLength}
@@ -44,9 +44,12 @@ pub record Gives (old : Cache) (n : ℕ) (new : Cache) : Type 0 where
   pub own : IsTrue old.store.is_faithful → IsOwn (payload_of new) n
   pub stay : PayloadsStay old new
 
--- page n has that payload, written now or as it was, and no other has another; it may be asked for more than once
+-- page n has that payload, and no other has another; where it had it already and was not changed, it still is not; it
+-- may be asked for more than once
 pub record Fills (n : ℕ) (w : Payload) (old new : Cache) : Type 0 where
   pub writes : Writes n w old new
+  pub kept : IsTrue old.store.is_faithful → payload_of old n ≡ Some w
+      → is_changed old n ≡ false → is_changed new n ≡ false
   pub length : SameLength old new
   pub asked : min old.asked (2 ^ 64 - 1) ≤ new.asked
 

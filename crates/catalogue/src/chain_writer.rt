@@ -1,5 +1,5 @@
 //! A text that is written to a chain of pages.
-ghost use Rattle.std.specs.Prelude.{◌≡◌, ◌<◌, ◌≤◌, false, length, nat_eq, All, OnOk, OnErr, IfOk, IfErr, IfSome, IsTrue, None, Some};
+ghost use Rattle.std.specs.Prelude.{◌≡◌, ◌<◌, ◌≤◌, false, length, nat_eq, All, OnOk, OnErr, IfOk, IfErr, IfSome, IsTrue, ◌↔◌, None, Some};
 ghost use Rattle.pages.specs.declared.payload.Kind.TheVariants.{Catalogue};
 ghost use Rattle.pages.specs.Zero.{zero_payload};
 ghost use Rattle.pagecache.specs.Cache.{payload_of, Adds, AsksOnce, IsNotAdded, IsRefused, Lends, Rests, Stays};
@@ -62,8 +62,8 @@ fn has_payload<S: PageStore>(
     page: u32,
     payload: &Payload,
 ) -> Result<bool, CacheFault>
-    ensures same { IfOk result (λ same. IsTrue same → IsTrue cache.old.store.is_faithful
-        → payload_of cache.old page ≡ Some payload.now) }
+    ensures same { IfOk result (λ same. IsTrue cache.old.store.is_faithful
+        → IsTrue same ↔ (payload_of cache.old page ≡ Some payload.now)) }
     ensures below { OnOk result (page < cache.old.count) }
     ensures rests { Rests cache.old cache.new }
     ensures refused { IfErr result (λ fault. IsRefused page fault cache.old cache.new) }
@@ -148,7 +148,8 @@ fn add_first<S: PageStore>(cache: &mut PageCache<S>) -> Result<(), CacheFault>
     Ok(())
 }
 
-/// Adds a page of zeros, which is written once it has its bytes of the text.
+/// Adds a page of zeros, which is sealed once it has its bytes of the text, where it is still in
+/// memory by then.
 fn add_zeros<S: PageStore>(cache: &mut PageCache<S>) -> Result<u32, CacheFault>
     ensures adds { OnOk result (Adds (zero_payload Catalogue) cache.old cache.new) }
     ensures number { IfOk result (λ number. number ≡ cache.old.count) }

@@ -78,7 +78,7 @@ fn push_each(
     Ok(())
 }
 
-/// The same, with room for all of them made before.
+/// The same, with room for as many as the leaf has made before.
 fn push_kept(
     leaf: &UntestedLeaf<'_>,
     page: u32,

@@ -135,6 +135,18 @@ fn a_page_that_is_to_change_is_written_later(rt: HostRuntime) -> Result<(), Fail
     Ok(())
 }
 
+// Where nothing is flushed the store has no sealed page in its place.
+#[test]
+fn a_page_that_is_to_change_is_lost_without_a_flush(rt: HostRuntime) -> Result<(), Fail> {
+    let mut cache = cache_over(rt.alloc(), MemStore::new(rt.alloc(), 2), 1)?;
+    assert!(rt; cache.add_changed(with_byte(3)) == Ok(0));
+    assert!(rt; byte(&mut cache, 0, PLACE) == Ok(3));
+    let mut again = cache_over(rt.alloc(), cache.into_store(), 1)?;
+    assert!(rt; again.count() == 1);
+    assert!(rt; byte(&mut again, 0, PLACE) == Err(CacheFault::Damaged(0)));
+    Ok(())
+}
+
 // The page is one call of the store when it is added, one when it is flushed, and the flush one more.
 fn adding_a_changed_page_is_two_calls(alloc: Global) -> Result<bool, Memory> {
     let store = Fuse::new(MemStore::new(alloc, 10), 3, false);

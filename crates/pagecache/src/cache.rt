@@ -90,9 +90,10 @@ impl<S: PageStore> PageCache<S> {
         self.slots.add(payload)
     }
 
-    /// Adds a page with a payload that is to change once more, and returns its number, the count so
-    /// far, which had no payload. The page is there in the store, and is sealed and written with its
-    /// payload when it leaves memory, or by `flush`.
+    /// Adds a page with a payload that is likely to change once more, and returns its number, the
+    /// count so far, which had no payload. It is sealed and written with its payload when it leaves
+    /// memory, or by `flush`; until then the store has zero bytes in its place, which are no sealed
+    /// page. Where there is no memory to hold it, it is refused.
     pub fn add_changed(&mut self, payload: Payload) -> Result<u32, CacheFault>
         ensures adds { OnOk result (Adds payload self.old self.new) }
         ensures number { IfOk result (λ number. number ≡ self.old.count) }

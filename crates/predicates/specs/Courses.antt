@@ -14,6 +14,7 @@ pub record IsCourse (course : Course) (legs : List LegView) (rect : RectView) (p
   pub ever : IsTrue course.ever ↔ IsEver legs rect period
   pub always : IsTrue course.always ↔ IsAllInside legs rect period
 
+-- the first and the last leg, where both are there
 abbrev pub both_of : Option LegView → Option LegView → List LegView
 both_of (Some first) (Some last) = first ∷ last ∷ []
 both_of (Some first) None = []

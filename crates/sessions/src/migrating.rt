@@ -52,7 +52,8 @@ pub fn migrate_and_close<'a, S: PageStore, T: PageStore>(
         → HoldsOldBook (S.seen old.old) shape limits book
         → IsNotOver (T.seen new) (T.seen result.0) fault) }
 
-    // Whatever the other store holds, where it is refused the new one is not taken for a finished one.
+    // Whatever the other store holds, where it is not brought over the new one has no page, says that
+    // it is not finished, or has a page 0 alone, whose write failed.
     ensures refused { (fault : OpenFault) → result.1 ≡ Err (Fault.Open fault)
         → IsTrue (S.seen old.old).is_faithful → IsTrue (T.seen new).is_faithful
         → IsLeftOver (T.seen new) (T.seen result.0) }

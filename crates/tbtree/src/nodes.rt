@@ -143,7 +143,7 @@ pub(crate) fn attach<S: PageStore>(
     Ok(())
 }
 
-/// Adds a page. One that is likely to change before it leaves memory is written then, and not before.
+/// Adds a page. One that is likely to change before it leaves memory is sealed then, and not before.
 fn add_page<S: PageStore>(
     cache: &mut PageCache<S>,
     payload: Payload,
@@ -164,8 +164,8 @@ fn add_page<S: PageStore>(
     cache.add(payload)
 }
 
-/// Adds a leaf of legs, which are of one feature and whose ordinals rise. Of a leaf that is full the
-/// feature's next leaf is likely to follow, to which it is then linked.
+/// Adds a leaf of legs, which are of one feature and whose ordinals rise. Behind one with as many
+/// legs as a page has room for the feature's next leaf is likely to follow, to which it is then linked.
 pub(crate) fn add_leaf<S: PageStore>(
     cache: &mut PageCache<S>,
     previous: u32,

@@ -13,7 +13,7 @@ pub record IsFirstDamaged (cache : Cache) (n : ℕ) : Type 0 where
   pub below : (p : ℕ) → p < n → payload_of cache p ≢ None
 
 -- each page has a payload; n is the page after the last one, where the store has another number of
--- pages than the cache, and else, where page 0 does not say whether the database has begun, page 0
+-- pages than the cache, and else, where page 0 is not the header of the state that it is to say, page 0
 pub record IsFirstMalformed (begun : Bool) (cache : Cache) (n : ℕ) : Type 0 where
   pub held : (p : ℕ) → p < cache.count → payload_of cache p ≢ None
   pub counted : cache.count ≢ cache.store.count → n ≡ cache.count
