@@ -1,7 +1,10 @@
 -- What an index over pages tells, and why it does not.
 use Rattle.std.proofs.Common.{ℕ, ◌≡◌, ◌≢◌, ◌∙◌, refl, sym, ap, subst, true, false, List, [], IsTrue, Option, Some, None, option_map, slice_get, Result, Ok, Err}
+use Rattle.std.proofs.lemmas.Bool.{true≢false}
 use Rattle.std.specs.Prelude.{IfOk, IfErr, OnOk, MatchResult, Bool}
-use Rattle.legs.specs.Asking.{Denies}
+use Rattle.legs.specs.Asking.{Denies, TellsSieved}
+use Rattle.legs.specs.Sieves.{IsSieved, sieved_same, sieved_self}
+use Rattle.legs.specs.declared.sieve.Sieve.{Sieve}
 use Rattle.legs.specs.Hull.{leg_boxes}
 use Rattle.legs.specs.Legs.{LegView}
 use Rattle.legs.specs.Boxes.{BoxView}
@@ -106,3 +109,25 @@ module _ (i : IndexView) (c : Cache) (feature : ℕ) (period : Option PeriodView
 -- of a feature that is not there
 pub none_told : (i : IndexView) (feature : ℕ) (period : Option PeriodView) (legs : List LegView) → slice_get i.places feature ≡ None → legs ≡ [] → tells i (OfFeature feature period) legs
 none_told i feature period legs at e = λ f. subst (λ o. TellsTrack (pages_of_cache i.cache) i.tree.shape period o legs) (sym at) e
+
+-- what a sieve keeps
+module _ (i : IndexView) (c : Cache) (feature : ℕ) (period : PeriodView) (s : Sieve) where
+  pub track_sieved : (place : Place) → slice_get i.places feature ≡ Some place → {A : Type 0} (items : A → List LegView) (r : Result A ChainFault)
+      → (IsTrue i.cache.store.is_faithful → OnOk r (IsPlaceChain (pages_of_cache i.cache) (Some period) i.tree.shape place))
+      → (IsTrue i.cache.store.is_faithful → IfOk r (λ found. IsSieved s period (chain_legs (pages_of_cache i.cache) (Some period) i.tree.shape place) (items found)))
+      → (IsTrue i.cache.store.is_faithful → IfErr r (chains.IsNamed (pages_of_cache i.cache) (chain_fault (pages_of_cache i.cache) (Some period) i.tree.shape place)))
+      → IfErr r (chains.IsCaused i.cache c)
+      → MatchResult (answered (λ fault. of_chain fault) r) (λ found. TellsSieved words i feature period s (items found)) (λ fault. Denies words i (OfFeature feature (Some period)) fault)
+  track_sieved place at items (Ok found) chain legs named caused = by i.cache.store.is_faithful refl
+    where
+      by : (b : Bool) → i.cache.store.is_faithful ≡ b → TellsSieved words i feature period s (items found)
+      by true e = (
+        chain_legs (pages_of_cache i.cache) (Some period) i.tree.shape place,
+        λ f. subst (λ o. TellsTrack (pages_of_cache i.cache) i.tree.shape (Some period) o (chain_legs (pages_of_cache i.cache) (Some period) i.tree.shape place)) (sym at) (chain f, refl),
+        legs e,
+      )
+      by false e = (items found, λ f. absurd (true≢false (sym f ∙ e)), sieved_self s period (items found))
+  track_sieved place at items (Err fault) chain legs named caused = track_denies i c feature (Some period) place at fault named caused
+
+  pub none_sieved : (some : List LegView) → slice_get i.places feature ≡ None → some ≡ [] → TellsSieved words i feature period s some
+  none_sieved some at e = ([], none_told i feature (Some period) [] at refl, sieved_same s period [] some e)

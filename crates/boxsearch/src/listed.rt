@@ -6,7 +6,7 @@ use crate::known::make_room;
 use crate::tree_index::TreeIndex;
 use crate::turns::turns_of;
 use chains::{trajectory, trajectory_in};
-use legs::{Box3, IndexFault, Leg, LegIndex, Listed};
+use legs::{Box3, IndexFault, Leg, LegIndex, Listed, Sieve};
 use pages::PageStore;
 use timebase::Period;
 
@@ -120,7 +120,12 @@ impl<S: PageStore> LegIndex for TreeIndex<S> {
         retrieval(trajectory(self.alloc, &mut self.cache, &shape, &place, spans))
     }
 
-    fn track_in(&mut self, feature: u32, period: &Period) -> Result<Vec<Leg>, IndexFault> {
+    fn track_in(
+        &mut self,
+        feature: u32,
+        period: &Period,
+        sieve: &Sieve,
+    ) -> Result<Vec<Leg>, IndexFault> {
         if self.tree.spent {
             return Err(IndexFault::Spent);
         }
@@ -134,6 +139,7 @@ impl<S: PageStore> LegIndex for TreeIndex<S> {
         }
         let shape = self.tree.shape;
         let spans = &mut self.known[feature];
-        retrieval(trajectory_in(self.alloc, &mut self.cache, &shape, &place, period, spans))
+        let cache = &mut self.cache;
+        retrieval(trajectory_in(self.alloc, cache, &shape, &place, period, sieve, spans))
     }
 }

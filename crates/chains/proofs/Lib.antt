@@ -11,4 +11,6 @@ pub mod RiseLemmas
 pub mod TimeLemmas
 pub mod PeriodLemmas
 mod AgainLemmas
+pub mod LiveLemmas
+pub mod SieveLemmas
 pub mod ReachLemmas

@@ -1,11 +1,12 @@
 -- One leaf of a walk back along a chain.
-use Rattle.std.proofs.Common.{ℕ, suc, ◌+◌, ◌-◌, ◌^◌, ◌≡◌, ◌<◌, ◌==◌, Bool, true, false, cond, List, ◌++◌, refl, sym, ap, ◌∙◌, arith, append_assoc, Option, Some, None, IsTrue}
-use Rattle.std.specs.Prelude.{reverse, min, if◌then◌else◌, option_map, not, ◌&&◌, ◌≢◌}
+use Rattle.std.proofs.Common.{ℕ, suc, ◌+◌, ◌-◌, ◌^◌, ◌≡◌, ◌<◌, ◌==◌, Bool, true, false, cond, List, [], ◌++◌, refl, sym, ap, subst, ◌∙◌, arith, append_assoc, Option, Some, None, IsTrue}
+use Rattle.std.specs.Prelude.{min, if◌then◌else◌, option_map, not, ◌&&◌, ◌≢◌}
 use Rattle.std.specs.List.{filter}
+use Rattle.std.proofs.lemmas.List.{append-nil}
 use Rattle.std.proofs.lemmas.Bool.{and_from, not_from_false, ne_eqb}
-use Rattle.std.proofs.lemmas.List.{reverse-append}
 use Rattle.timebase.specs.Period.{PeriodView}
 use Rattle.legs.specs.Legs.{LegView}
+use Rattle.legs.specs.declared.sieve.Sieve.{Sieve}
 use Rattle.legs.specs.Boxes.{BoxView}
 use Rattle.pagecache.specs.Cache.{Cache}
 use Rattle.pagecache.specs.declared.fault.CacheFault.{CacheFault}
@@ -14,6 +15,7 @@ use Rattle.tbnode.specs.Form.{node_of}
 use Rattle.tbtree.specs.Nodes.{Pages, pages_of_cache, LeafView, ALeaf}
 use Rattle.chains.specs.Chains.{walk, walked, legs_in, previous_of, link_past, fault_from}
 use Rattle.chains.specs.Faults.{IsNamed, IsNamedInCache}
+use Rattle.chains.specs.Keeping.{HasTaken}
 use Rattle.chains.specs.Links.{fits, is_linked, spot_of, is_kept, is_end, link_back}
 use Rattle.chains.specs.Reads.{OnlyReads}
 use Rattle.chains.specs.Taking.{fault_at}
@@ -22,6 +24,7 @@ use Rattle.chains.specs.declared.fault.ChainFault.TheVariants.{Cache as OfCache,
 use Rattle.chains.specs.declared.leaves.Link.{Link}
 use Rattle.chains.specs.declared.leaves.Spot.{Spot}
 use Rattle.chains.proofs.GroupLemmas.{some_none, some_same}
+use Rattle.chains.proofs.SieveLemmas.{none_taken, then_taken}
 
 -- what is only read has the same pages
 pub same_at : (old mid : Cache) → OnlyReads old mid → IsTrue old.store.is_faithful → (n : ℕ) → (pages_of_cache mid).at n ≡ (pages_of_cache old).at n
@@ -39,6 +42,19 @@ pub ends : (b : Bool) (link : Link) → None ≡ (if b then None else Some link)
 ends true link e = refl
 ends false link e = absurd (some_none link (sym e))
 
+-- of all that a walk gives, what it gives beside the n leaves from page p back has been taken
+abbrev pub IsFound : Pages LegView BoxView → Option PeriodView → Sieve → (n p : ℕ) → (whole items : List LegView) → Type 0
+IsFound nodes period s n p whole items = (done : List LegView) × HasTaken period s done [] items × (walk nodes period n p ++ done ≡ whole)
+
+-- nothing yet, and all
+pub found_none : (nodes : Pages LegView BoxView) (period : Option PeriodView) (s : Sieve) (n p : ℕ) → IsFound nodes period s n p (walk nodes period n p) []
+found_none nodes period s n p = ([], none_taken period s [] [] refl, append-nil (walk nodes period n p))
+
+pub found_all : (nodes : Pages LegView BoxView) (period : Option PeriodView) (s : Sieve) (n p : ℕ) (whole items : List LegView) → n ≡ 0
+    → IsFound nodes period s n p whole items → HasTaken period s whole [] items
+found_all nodes period s n p whole items z w =
+    subst (λ l. HasTaken period s l [] items) (sym (ap (λ n. walk nodes period n p ++ w.0) z) ∙ w.2) w.1
+
 module _ (nodes : Pages LegView BoxView) (period : Option PeriodView) (link : Link) (leaf : LeafView LegView) (is : nodes.at link.page ≡ Some (Some (ALeaf leaf))) (rest n : ℕ) (e : n ≡ suc rest) where
   -- the walk, at this leaf
   walk_here : walk nodes period n link.page ≡ cond (is_end period leaf.legs) (filter (is_kept period) leaf.legs) (walk nodes period rest leaf.previous ++ filter (is_kept period) leaf.legs)
@@ -51,25 +67,24 @@ module _ (nodes : Pages LegView BoxView) (period : Option PeriodView) (link : Li
       ap (λ n. walked nodes period n link.page) e
       ∙ ap (λ o. 1 + cond (is_end period (legs_in o)) 0 (walked nodes period rest (previous_of o))) is
 
-  pub found_on : (items items' whole : List LegView) → is_end period leaf.legs ≡ false → items' ≡ items ++ reverse (filter (is_kept period) leaf.legs)
-      → items ++ reverse (walk nodes period n link.page) ≡ whole → items' ++ reverse (walk nodes period rest leaf.previous) ≡ whole
-  found_on items items' whole z a w =
+  pub found_on : (s : Sieve) (items items' whole : List LegView) → is_end period leaf.legs ≡ false → HasTaken period s (filter (is_kept period) leaf.legs) items items'
+      → IsFound nodes period s n link.page whole items → IsFound nodes period s rest leaf.previous whole items'
+  found_on s items items' whole z a w =
       let kept = filter (is_kept period) leaf.legs in
       let before = walk nodes period rest leaf.previous in
-      let all : walk nodes period n link.page ≡ before ++ kept = walk_here ∙ ap (λ v. cond v kept (before ++ kept)) z in
-      ap (λ l. l ++ reverse before) a
-      ∙ append_assoc items (reverse kept) (reverse before)
-      ∙ ap (λ l. items ++ l) (sym (reverse-append before kept))
-      ∙ ap (λ l. items ++ reverse l) (sym all)
-      ∙ w
+      let all : walk nodes period n link.page ≡ before ++ kept = walk_here ∙ ap (λ v. cond v kept (before ++ kept)) z in (
+        kept ++ w.0,
+        then_taken period s kept w.0 [] items items' w.1 a,
+        sym (append_assoc before kept w.0) ∙ ap (λ l. l ++ w.0) (sym all) ∙ w.2,
+      )
 
-  pub found_end : (items items' whole : List LegView) → is_end period leaf.legs ≡ true → items' ≡ items ++ reverse (filter (is_kept period) leaf.legs)
-      → items ++ reverse (walk nodes period n link.page) ≡ whole → items' ≡ whole
-  found_end items items' whole z a w =
+  pub found_end : (s : Sieve) (items items' whole : List LegView) → is_end period leaf.legs ≡ true → HasTaken period s (filter (is_kept period) leaf.legs) items items'
+      → IsFound nodes period s n link.page whole items → HasTaken period s whole [] items'
+  found_end s items items' whole z a w =
       let kept = filter (is_kept period) leaf.legs in
       let before = walk nodes period rest leaf.previous in
       let all : walk nodes period n link.page ≡ kept = walk_here ∙ ap (λ v. cond v kept (before ++ kept)) z in
-      a ∙ ap (λ l. items ++ reverse l) (sym all) ∙ w
+      subst (λ l. HasTaken period s l [] items') (ap (λ l. l ++ w.0) (sym all) ∙ w.2) (then_taken period s kept w.0 [] items items' w.1 a)
 
   pub asked_on : is_end period leaf.legs ≡ false → walked nodes period n link.page ≡ 1 + walked nodes period rest leaf.previous
   asked_on z = walked_here ∙ ap (λ v. 1 + cond v 0 (walked nodes period rest leaf.previous)) z

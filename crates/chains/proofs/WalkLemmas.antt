@@ -1,11 +1,11 @@
 -- A known leaf that a walk passes, or at which it ends.
-use Rattle.std.proofs.Common.{ℕ, suc, ◌≡◌, ◌<◌, ◌≤ℤ◌, Bool, true, List, [], ◌++◌, drop, length, refl, sym, ap, ◌∙◌, arith, subst, Option, Some, None, slice_get}
-use Rattle.std.specs.Prelude.{reverse, if◌then◌else◌, IfSome}
+use Rattle.std.proofs.Common.{ℕ, suc, ◌≡◌, ◌<◌, ◌≤ℤ◌, Bool, true, List, [], drop, length, refl, sym, ap, ◌∙◌, arith, subst, Option, Some, None, slice_get}
+use Rattle.std.specs.Prelude.{if◌then◌else◌, IfSome}
 use Rattle.std.specs.List.{filter}
-use Rattle.std.proofs.lemmas.List.{append-nil}
 use Rattle.timebase.specs.Period.{PeriodView}
 use Rattle.legs.specs.Boxes.{BoxView}
 use Rattle.legs.specs.Legs.{LegView}
+use Rattle.legs.specs.declared.sieve.Sieve.{Sieve}
 use Rattle.tbtree.specs.Nodes.{Pages, LeafView, ALeaf}
 use Rattle.chains.specs.Chains.{IsLinked}
 use Rattle.chains.specs.Links.{is_end, is_kept, fits, link_back, spot_of}
@@ -18,18 +18,19 @@ use Rattle.chains.specs.declared.spans.Passing.TheVariants.{Over, End}
 use Rattle.chains.proofs.AgainLemmas.{there_at}
 use Rattle.chains.proofs.FaultLemmas.{fits_from, fits_to}
 use Rattle.chains.proofs.KeepLemmas.{drop_at}
+use Rattle.chains.proofs.SieveLemmas.{none_taken}
 use Rattle.chains.proofs.SpanLemmas.{IsThere, ends_at, get_within, link_over_is, off_end, off_over, passes_over, there}
 
 -- what is taken of a page is linked
 pub linked_by : (nodes : Pages LegView BoxView) (link : Link) (spot : Spot) (leaf : LeafView LegView) → (link.page ≡ 0 → ⊥) → nodes.at link.page ≡ Some (Some (ALeaf leaf)) → fits leaf link spot ≡ true → IsLinked nodes link spot leaf
 linked_by nodes link spot leaf above is fit = record { above = omega (arith, above); is = is; fits = fits_to leaf link spot fit }
 
-module _ (nodes : Pages LegView BoxView) (most legs first passed left : ℕ) (spans : List LeafSpan) (link : Link) (h : AreSpans nodes most legs first (drop passed spans) (suc left) link) (found : List LegView) where
+module _ (nodes : Pages LegView BoxView) (most legs first passed left : ℕ) (spans : List LeafSpan) (link : Link) (h : AreSpans nodes most legs first (drop passed spans) (suc left) link) (found : List LegView) (s : Sieve) where
   abbrev lesson : Lesson
   lesson = record { old = spans; new = spans; passed = passed }
 
   abbrev Taken : Option PeriodView → Option Link → Type 0
-  Taken period back = TakesPage nodes link (spot_of most legs first left) period found found lesson back
+  Taken period back = TakesPage nodes link (spot_of most legs first left) period s found found lesson back
 
   here : (span : LeafSpan) → slice_get spans passed ≡ Some span → IsThere nodes most legs first span (drop (suc passed) spans) (suc left) link
   here span e = there nodes most legs first span (drop (suc passed) spans) (suc left) link (subst (λ l. AreSpans nodes most legs first l (suc left) link) (drop_at spans passed span e) h)
@@ -47,7 +48,7 @@ module _ (nodes : Pages LegView BoxView) (most legs first passed left : ℕ) (sp
         above = λ z. omega (arith, above, z);
         is = t.linked.is;
         fit = ap (λ k. fits t.leaf link (spot_of most legs first k)) (sym same) ∙ fits_from t.leaf link (spot_of most legs first t.rest) t.linked.fits;
-        takes = record { legs = sym (append-nil found) ∙ ap (λ l. found ++ reverse l) (sym none); link = link_is };
+        takes = record { legs = none_taken period s (filter (is_kept period) t.leaf.legs) found none; link = link_is };
         learns = record { same = λ _. refl; next = λ z. absurd (omega (arith, long, z)) };
       }
 
@@ -55,8 +56,8 @@ module _ (nodes : Pages LegView BoxView) (most legs first passed left : ℕ) (sp
   pub known_at : passed < length spans → (span : LeafSpan) × IsThere nodes most legs first span (drop (suc passed) spans) (suc left) link
   known_at inside = let t = there_at spans passed inside in (t.0, here t.0 t.1)
 
-  pub steps_again : (period : Option PeriodView) (new : List LegView) (back : Option Link) (inside : passed < length spans) → TakesLeaf (known_at inside).1.leaf link (spot_of most legs first left) period found new back
-      → TakesPage nodes link (spot_of most legs first left) period found new lesson back
+  pub steps_again : (period : Option PeriodView) (new : List LegView) (back : Option Link) (inside : passed < length spans) → TakesLeaf (known_at inside).1.leaf link (spot_of most legs first left) period s found new back
+      → TakesPage nodes link (spot_of most legs first left) period s found new lesson back
   steps_again period new back inside takes =
       let t = (known_at inside).1 in
       let above = t.linked.above in

@@ -1,3 +1,4 @@
+pub mod Keeping
 pub mod Links
 pub mod Faults
 pub mod Reads

@@ -1,9 +1,11 @@
 -- What is asked of a leaf on the way back along a chain, and what is taken of it.
-use Rattle.std.specs.Prelude.{ℕ, ◌≡◌, ◌≢◌, ◌-◌, ◌*◌, ◌<◌, ◌++◌, ◌==◌, ◌&&◌, Bool, true, false, not, cond, min, if◌then◌else◌, List, [], ◌∷◌, filter, length, reverse, Option, Some, None, IfSome, int_lt}
+use Rattle.std.specs.Prelude.{ℕ, ◌≡◌, ◌≢◌, ◌-◌, ◌*◌, ◌<◌, ◌==◌, ◌&&◌, Bool, true, false, not, cond, min, if◌then◌else◌, List, [], ◌∷◌, filter, length, Option, Some, None, IfSome, int_lt}
 use Rattle.timebase.specs.Period.{PeriodView}
 use Rattle.legs.specs.Legs.{LegView, is_live}
+use Rattle.legs.specs.declared.sieve.Sieve.{Sieve}
 use Rattle.tbnode.specs.declared.views.LeafHead.{LeafHead}
 use Rattle.tbtree.specs.Nodes.{LeafView, Node, ALeaf, AnInner}
+use Rattle.chains.specs.Keeping.{HasTaken}
 use Rattle.chains.specs.declared.leaves.Link.{Link}
 use Rattle.chains.specs.declared.leaves.Spot.{Spot}
 
@@ -75,8 +77,9 @@ is_end (Some period) legs = begins_before period legs
 abbrev pub link_back : {L : Type 0} → ℕ → LeafView L → Link
 link_back page leaf = record { page = leaf.previous; next = page; feature = Some leaf.feature }
 
--- the kept legs of a leaf have been put behind the others, the last one first, and this is the link from it, if any
-pub record Takes (leaf : LeafView LegView) (page : ℕ) (period : Option PeriodView) (old new : List LegView)
+-- what is wanted of the kept legs of a leaf has been put behind the others, the last one first, and this is the link from
+-- it, if any
+pub record Takes (leaf : LeafView LegView) (page : ℕ) (period : Option PeriodView) (sieve : Sieve) (old new : List LegView)
     (result : Option Link) : Type 0 where
-  pub legs : new ≡ old ++ reverse (filter (is_kept period) leaf.legs)
+  pub legs : HasTaken period sieve (filter (is_kept period) leaf.legs) old new
   pub link : result ≡ (if is_end period leaf.legs then None else Some (link_back page leaf))

@@ -3,6 +3,7 @@ use Rattle.std.specs.Prelude.{ℕ, ◌≡◌, ◌≢◌, Bool, true, false, cond
 use Rattle.timebase.specs.Period.{PeriodView}
 use Rattle.legs.specs.Legs.{LegView}
 use Rattle.legs.specs.Boxes.{BoxView}
+use Rattle.legs.specs.declared.sieve.Sieve.{Sieve}
 use Rattle.tbtree.specs.Nodes.{Pages, Node, LeafView, ALeaf}
 use Rattle.chains.specs.Links.{Takes, fits, is_linked}
 use Rattle.chains.specs.Spans.{Learns}
@@ -20,27 +21,27 @@ pub record Lesson : Type 0 where
 
 -- the leaf is the one of the link, and is taken
 pub record TakesLeaf (leaf : LeafView LegView) (link : Link) (spot : Spot) (period : Option PeriodView)
-    (old new : List LegView) (result : Option Link) : Type 0 where
+    (sieve : Sieve) (old new : List LegView) (result : Option Link) : Type 0 where
   pub fit : fits leaf link spot ≡ true
-  pub takes : Takes leaf link.page period old new result
+  pub takes : Takes leaf link.page period sieve old new result
 
 -- the node is the leaf of the link, and is taken, and learned
 pub record TakesNode (node : Option (Node LegView BoxView)) (link : Link) (spot : Spot) (period : Option PeriodView)
-    (old new : List LegView) (lesson : Lesson) (result : Option Link) : Type 0 where
+    (sieve : Sieve) (old new : List LegView) (lesson : Lesson) (result : Option Link) : Type 0 where
   pub leaf : LeafView LegView
   pub is : node ≡ Some (ALeaf leaf)
   pub fit : fits leaf link spot ≡ true
-  pub takes : Takes leaf link.page period old new result
+  pub takes : Takes leaf link.page period sieve old new result
   pub learns : Learns lesson.old lesson.new lesson.passed link.page leaf
 
 -- the page of the link is
 pub record TakesPage (nodes : Pages LegView BoxView) (link : Link) (spot : Spot) (period : Option PeriodView)
-    (old new : List LegView) (lesson : Lesson) (result : Option Link) : Type 0 where
+    (sieve : Sieve) (old new : List LegView) (lesson : Lesson) (result : Option Link) : Type 0 where
   pub leaf : LeafView LegView
   pub above : link.page ≢ 0
   pub is : nodes.at link.page ≡ Some (Some (ALeaf leaf))
   pub fit : fits leaf link spot ≡ true
-  pub takes : Takes leaf link.page period old new result
+  pub takes : Takes leaf link.page period sieve old new result
   pub learns : Learns lesson.old lesson.new lesson.passed link.page leaf
 
 -- a node is refused for want of memory, or because it does not fit; then its page is named

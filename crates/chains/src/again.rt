@@ -1,22 +1,22 @@
 //! One leaf on the way back along a chain that is known, so that it is read without the test of its form.
 //!
 //! What is said of it is said where its page is a leaf, as it is where what is known is right.
-ghost use Rattle.std.specs.Prelude.{◌≡◌, ◌+◌, ◌≤◌, ◌++◌, [], ◌∷◌, Some, true, filter, reverse, slice_get, OnOk, IfOk, IfErr, IsTrue};
+ghost use Rattle.std.specs.Prelude.{◌≡◌, ◌+◌, ◌≤◌, Some, OnOk, IfOk, IfErr, IsTrue};
 ghost use Rattle.legs.specs.Legs.{LegView};
 ghost use Rattle.pagecache.specs.Cache.{Cache, AsksOnce};
 ghost use Rattle.tbnode.specs.Form.{OfLeaf};
 ghost use Rattle.tbtree.specs.Nodes.{pages_of_cache, LeafView, ALeaf};
 ghost use Rattle.chains.specs.Faults.{IsCaused, IsNamed};
-ghost use Rattle.chains.specs.Links.{fits, is_kept, is_end};
+ghost use Rattle.chains.specs.Links.{fits, is_end};
 ghost use Rattle.chains.specs.Reads.{OnlyReads};
 ghost use Rattle.chains.specs.Taking.{TakesLeaf, IsNodeFault, fault_at};
 
 use crate::fault::ChainFault;
+use crate::kept::{Want, take_of};
 use crate::leaves::{Link, Spot, head_fits};
 use legs::Leg;
 use pagecache::PageCache;
 use pages::{PageStore, Payload};
-use std::alloc::AllocError;
 use tbnode::UntestedLeaf;
 use timebase::Period;
 
@@ -25,73 +25,6 @@ fn fits(leaf: &UntestedLeaf<'_>, link: &Link, spot: &Spot) -> bool
     ensures { OfLeaf leaf.now (λ view. result ≡ fits view link.now spot.now) }
 {
     head_fits(&leaf.head(), leaf.len(), link, spot)
-}
-
-/// Whether leg `i` of a leaf is kept: it is live in the period, where there is one.
-fn is_kept(leaf: &UntestedLeaf<'_>, i: usize, period: &Option<Period>) -> bool
-    ensures { OfLeaf leaf.now (λ view. (leg : LegView) → slice_get view.legs i ≡ Some leg
-        → result ≡ is_kept period.now leg) }
-{
-    match period {
-        Some(period) => leaf.is_live(i, period),
-        None => true,
-    }
-}
-
-/// Puts a leg behind the others.
-fn push(found: &mut Vec<Leg>, leg: Leg) -> Result<(), AllocError>
-    ensures { OnOk result (found.new.items ≡ found.old.items ++ leg ∷ []) }
-{
-    found.push(leg)?;
-    Ok(())
-}
-
-/// Makes room for as many legs more.
-fn make_room(found: &mut Vec<Leg>, more: usize) -> Result<(), AllocError>
-    ensures { found.new.items ≡ found.old.items }
-{
-    found.reserve(more)
-}
-
-/// Puts the kept legs of a leaf on that page behind the others, the last one first. No other leg is decoded.
-fn push_each(
-    leaf: &UntestedLeaf<'_>,
-    page: u32,
-    period: &Option<Period>,
-    found: &mut Vec<Leg>,
-) -> Result<(), ChainFault>
-    ensures pushed { OfLeaf leaf.now (λ view. OnOk result (found.new.items
-        ≡ found.old.items ++ reverse (filter (is_kept period.now) view.legs))) }
-    ensures named { OfLeaf leaf.now (λ view. IfErr result (IsNodeFault true page)) }
-    ensures caused { (old new : Cache) → IfErr result (IsCaused old new) }
-{
-    let mut i = leaf.len();
-    'legs: while i > 0 {
-        i -= 1;
-        if is_kept(leaf, i, period) {
-            let Some(leg) = leaf.leg(i) else {
-                return Err(ChainFault::Malformed(page));
-            };
-            push(found, leg)?;
-        }
-    }
-    Ok(())
-}
-
-/// The same, with room for as many as the leaf has made before.
-fn push_kept(
-    leaf: &UntestedLeaf<'_>,
-    page: u32,
-    period: &Option<Period>,
-    found: &mut Vec<Leg>,
-) -> Result<(), ChainFault>
-    ensures pushed { OfLeaf leaf.now (λ view. OnOk result (found.new.items
-        ≡ found.old.items ++ reverse (filter (is_kept period.now) view.legs))) }
-    ensures named { OfLeaf leaf.now (λ view. IfErr result (IsNodeFault true page)) }
-    ensures caused { (old new : Cache) → IfErr result (IsCaused old new) }
-{
-    make_room(found, leaf.len())?;
-    push_each(leaf, page, period, found)
 }
 
 /// Whether the first leg of a leaf starts before the period, where there is one; none where it has no such leg.
@@ -108,16 +41,17 @@ fn is_end(leaf: &UntestedLeaf<'_>, period: &Option<Period>) -> Option<bool>
     }
 }
 
-/// Takes the kept legs of a payload, and gives the link to the leaf before it; none where nothing before is kept.
+/// Takes what is wanted of a payload's legs, and gives the link to the leaf before it; none where nothing before is
+/// kept.
 fn take_node(
     payload: &Payload,
     link: &Link,
     spot: &Spot,
-    period: &Option<Period>,
+    want: &Want,
     found: &mut Vec<Leg>,
 ) -> Result<Option<Link>, ChainFault>
     ensures taken { OfLeaf payload.now (λ leaf. IfOk result (TakesLeaf leaf link.now spot.now
-        period.now found.old.items found.new.items)) }
+        want.now.period want.now.sieve found.old.items found.new.items)) }
     ensures named { OfLeaf payload.now (λ leaf. IfErr result
         (IsNodeFault (fits leaf link.now spot.now) link.now.page)) }
     ensures caused { (old new : Cache) → IfErr result (IsCaused old new) }
@@ -128,32 +62,33 @@ fn take_node(
     if !fits(&leaf, link, spot) {
         return Err(ChainFault::Malformed(link.page));
     }
-    push_kept(&leaf, link.page, period, found)?;
+    take_of(&leaf, link.page, want, found)?;
     let head = leaf.head();
     let back = Link {
         page: head.previous,
         next: link.page,
         feature: Some(head.feature),
     };
-    match is_end(&leaf, period) {
+    match is_end(&leaf, &want.period) {
         Some(true) => Ok(None),
         Some(false) => Ok(Some(back)),
         None => Err(ChainFault::Malformed(link.page)),
     }
 }
 
-/// Takes the kept legs of the leaf that the link leads to, which is known to be there, and is to have that spot, and
-/// gives the link to the leaf before it; none where nothing before is kept.
+/// Takes what is wanted of the legs of the leaf that the link leads to, which is known to be there, and is to have that
+/// spot, and gives the link to the leaf before it; none where nothing before is kept.
 pub(crate) fn take_again<S: PageStore>(
     cache: &mut PageCache<S>,
     link: &Link,
     spot: &Spot,
-    period: &Option<Period>,
+    want: &Want,
     found: &mut Vec<Leg>,
 ) -> Result<Option<Link>, ChainFault>
     ensures taken { IsTrue cache.old.store.is_faithful → (leaf : LeafView LegView)
         → (pages_of_cache cache.old).at link.now.page ≡ Some (Some (ALeaf leaf))
-        → IfOk result (TakesLeaf leaf link.now spot.now period.now found.old.items found.new.items) }
+        → IfOk result (TakesLeaf leaf link.now spot.now want.now.period want.now.sieve
+        found.old.items found.new.items) }
     ensures named { IsTrue cache.old.store.is_faithful → (leaf : LeafView LegView)
         → (pages_of_cache cache.old).at link.now.page ≡ Some (Some (ALeaf leaf))
         → IfErr result (IsNamed (pages_of_cache cache.old)
@@ -170,5 +105,5 @@ pub(crate) fn take_again<S: PageStore>(
         Ok(payload) => payload,
         Err(fault) => return Err(ChainFault::of(fault, link.page)),
     };
-    take_node(payload, link, spot, period, found)
+    take_node(payload, link, spot, want, found)
 }

@@ -1,21 +1,21 @@
 //! One leaf on the way back along a chain.
-ghost use Rattle.std.specs.Prelude.{◌≡◌, ◌≢◌, ◌+◌, ◌-◌, ◌*◌, ◌≤◌, ◌++◌, ◌↔◌, None, Some, min, filter, reverse, OnOk, OnErr, IfOk, IfErr, IsTrue};
+ghost use Rattle.std.specs.Prelude.{◌≡◌, ◌≢◌, ◌+◌, ◌-◌, ◌*◌, ◌≤◌, ◌↔◌, None, Some, min, OnOk, OnErr, IfOk, IfErr, IsTrue};
 ghost use Rattle.legs.specs.Legs.{LegView};
 ghost use Rattle.pagecache.specs.Cache.{Cache, AsksOnce};
 ghost use Rattle.tbnode.specs.Form.{node_of};
 ghost use Rattle.tbtree.specs.Nodes.{pages_of_cache};
 ghost use Rattle.chains.specs.Faults.{IsCaused, IsNamed};
-ghost use Rattle.chains.specs.Links.{spot_of, is_placed, head_fits, fits, fits_node, is_kept, is_end};
+ghost use Rattle.chains.specs.Links.{spot_of, is_placed, head_fits, fits, fits_node, is_end};
 ghost use Rattle.chains.specs.Reads.{OnlyReads};
 ghost use Rattle.chains.specs.Spans.{IsFront};
 ghost use Rattle.chains.specs.Taking.{TakesNode, TakesPage, IsNodeFault, fault_at};
 
 use crate::fault::ChainFault;
+use crate::kept::{Want, take_legs};
 use crate::spans::{LeafSpan, learn};
 use legs::Leg;
 use pagecache::PageCache;
 use pages::{PageStore, Payload};
-use std::alloc::AllocError;
 use tbnode::{Leaf, LeafHead};
 use tbtree::Place;
 use timebase::Period;
@@ -90,36 +90,6 @@ fn fits(leaf: &Leaf<'_>, link: &Link, spot: &Spot) -> bool
     head_fits(&leaf.head(), leaf.len(), link, spot)
 }
 
-/// Whether a leg is kept: it is live in the period, where there is one.
-fn is_kept(leg: &Leg, period: &Option<Period>) -> bool
-    ensures { result ≡ is_kept period.now leg.now }
-{
-    match period {
-        Some(period) => leg.is_live(period),
-        None => true,
-    }
-}
-
-/// Puts the kept legs of a leaf behind the others, the last one first.
-fn push_kept(
-    leaf: &Leaf<'_>,
-    period: &Option<Period>,
-    found: &mut Vec<Leg>,
-) -> Result<(), AllocError>
-    ensures { OnOk result (found.new.items
-        ≡ found.old.items ++ reverse (filter (is_kept period.now) leaf.now.legs)) }
-{
-    let mut i = leaf.len();
-    'legs: while i > 0 {
-        i -= 1;
-        let leg = leaf.leg(i);
-        if is_kept(&leg, period) {
-            found.push(leg)?;
-        }
-    }
-    Ok(())
-}
-
 /// Whether nothing before a leaf is kept: it starts before the period, where there is one.
 fn is_end(leaf: &Leaf<'_>, period: &Option<Period>) -> bool
     ensures { result ≡ is_end period.now leaf.now.legs }
@@ -131,19 +101,19 @@ fn is_end(leaf: &Leaf<'_>, period: &Option<Period>) -> bool
     }
 }
 
-/// Takes the kept legs of a payload, makes its span known, and gives the link to the leaf before it; none where nothing
-/// before is kept.
+/// Takes what is wanted of a payload's legs, makes its span known, and gives the link to the leaf before it; none where
+/// nothing before is kept.
 fn take_node(
     payload: &Payload,
     link: &Link,
     spot: &Spot,
-    period: &Option<Period>,
+    want: &Want,
     found: &mut Vec<Leg>,
     spans: &mut Vec<LeafSpan>,
     passed: usize,
 ) -> Result<Option<Link>, ChainFault>
-    ensures taken { IfOk result (TakesNode (node_of payload.now) link.now spot.now period.now
-        found.old.items found.new.items
+    ensures taken { IfOk result (TakesNode (node_of payload.now) link.now spot.now want.now.period
+        want.now.sieve found.old.items found.new.items
         (record { old = spans.old.items; new = spans.new.items; passed = passed })) }
     ensures forgets { OnErr result (spans.new.items ≡ spans.old.items) }
     ensures keeps { IsFront spans.old.items spans.new.items }
@@ -157,9 +127,9 @@ fn take_node(
     if !fits(&leaf, link, spot) {
         return Err(ChainFault::Malformed(link.page));
     }
-    push_kept(&leaf, period, found)?;
+    take_legs(payload, link.page, want, found)?;
     learn(spans, passed, &leaf, link.page)?;
-    if is_end(&leaf, period) {
+    if is_end(&leaf, &want.period) {
         return Ok(None);
     }
     let head = leaf.head();
@@ -170,20 +140,20 @@ fn take_node(
     }))
 }
 
-/// Takes the kept legs of the leaf that the link leads to, which is to have that spot, makes its span known, and gives
-/// the link to the leaf before it; none where nothing before is kept. So many leaves after it were passed.
+/// Takes what is wanted of the legs of the leaf that the link leads to, which is to have that spot, makes its span known,
+/// and gives the link to the leaf before it; none where nothing before is kept. So many leaves after it were passed.
 pub(crate) fn take<S: PageStore>(
     cache: &mut PageCache<S>,
     link: &Link,
     spot: &Spot,
-    period: &Option<Period>,
+    want: &Want,
     found: &mut Vec<Leg>,
     spans: &mut Vec<LeafSpan>,
     passed: usize,
 ) -> Result<Option<Link>, ChainFault>
     ensures taken { IsTrue cache.old.store.is_faithful
-        → IfOk result (TakesPage (pages_of_cache cache.old) link.now spot.now period.now
-        found.old.items found.new.items
+        → IfOk result (TakesPage (pages_of_cache cache.old) link.now spot.now want.now.period
+        want.now.sieve found.old.items found.new.items
         (record { old = spans.old.items; new = spans.new.items; passed = passed })) }
     ensures forgets { OnErr result (spans.new.items ≡ spans.old.items) }
     ensures keeps { IsFront spans.old.items spans.new.items }
@@ -202,5 +172,5 @@ pub(crate) fn take<S: PageStore>(
         Ok(payload) => payload,
         Err(fault) => return Err(ChainFault::of(fault, link.page)),
     };
-    take_node(payload, link, spot, period, found, spans, passed)
+    take_node(payload, link, spot, want, found, spans, passed)
 }

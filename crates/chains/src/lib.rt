@@ -3,6 +3,7 @@
 
 mod again;
 mod fault;
+mod kept;
 mod leaves;
 mod retrieval;
 mod spans;

@@ -1,10 +1,11 @@
 //! The legs of a feature.
-ghost use Rattle.std.specs.Prelude.{ℕ, suc, ◌≡◌, ◌+◌, ◌-◌, ◌^◌, ◌<◌, ◌≤◌, ◌≤ℤ◌, ◌↔◌, List, Option, Some, None, count_by, drop, reverse, slice_get, OnErr, OnOk, IfOk, IfErr, IsTrue};
+ghost use Rattle.std.specs.Prelude.{ℕ, suc, ◌≡◌, ◌+◌, ◌-◌, ◌^◌, ◌<◌, ◌≤◌, ◌≤ℤ◌, ◌↔◌, List, Option, Some, None, [], count_by, drop, slice_get, OnErr, OnOk, IfOk, IfErr, IsTrue};
 ghost use Rattle.std.specs.Int.{div_ceil};
 ghost use Rattle.legs.specs.Boxes.{BoxView};
 ghost use Rattle.legs.specs.Costs.{ShapeView, RisesBy, RisesAtMost, known_bound, track_cost, track_in_bound};
 ghost use Rattle.legs.specs.Index.{legs_of, live_legs_of};
 ghost use Rattle.legs.specs.Legs.{LegView};
+ghost use Rattle.legs.specs.Sieves.{IsSieved};
 ghost use Rattle.pagecache.specs.Cache.{Cache};
 ghost use Rattle.tbtree.specs.Nodes.{Pages, pages_of_cache};
 ghost use Rattle.tbtree.specs.Shape.{IsShape};
@@ -13,6 +14,7 @@ ghost use Rattle.timebase.specs.Period.{PeriodView};
 ghost use Rattle.chains.specs.Chains.{AreHeld, IsPlaceChain, chain_fault, chain_legs, chain_cost, is_stray};
 ghost use Rattle.chains.specs.Faults.{IsAllowed, IsCaused, IsNamed, IsOfHeld, Gives};
 ghost use Rattle.chains.specs.Reads.{OnlyReads};
+ghost use Rattle.chains.specs.Keeping.{HasTaken};
 ghost use Rattle.chains.specs.Links.{spot_of};
 ghost use Rattle.chains.specs.Spans.{AreSpans, AsksAs, IsFront, IsKnown, IsKnownBackTo, known_cost, may_meet, pass_at};
 ghost use Rattle.chains.specs.Taking.{TakesPage, fault_at};
@@ -21,9 +23,10 @@ ghost use Rattle.chains.specs.declared.spans.LeafSpan.{LeafSpan};
 
 use crate::again::take_again;
 use crate::fault::ChainFault;
+use crate::kept::Want;
 use crate::leaves::{Link, spot_of, take};
 use crate::spans::{LeafSpan, Passing, pass};
-use legs::Leg;
+use legs::{Leg, Sieve};
 use pagecache::PageCache;
 use pages::PageStore;
 use std::alloc::Global;
@@ -46,7 +49,7 @@ struct Cursor {
     passed: usize,
 }
 
-/// Takes the kept legs of the leaf at a cursor, of the chain of a place in leaves of `most` legs, and gives the link to
+/// Takes what is wanted of the leaf at a cursor, of the chain of a place in leaves of `most` legs, and gives the link to
 /// the leaf before it; none where nothing before is kept. A leaf that is known to be off the period is not read, another
 /// one that is known is read without the test of its form, and each that is read is known from then on.
 fn step<S: PageStore>(
@@ -54,7 +57,7 @@ fn step<S: PageStore>(
     place: &Place,
     most: u64,
     at: &Cursor,
-    period: &Option<Period>,
+    want: &Want,
     found: &mut Vec<Leg>,
     spans: &mut Vec<LeafSpan>,
 ) -> Result<Option<Link>, ChainFault>
@@ -64,8 +67,8 @@ fn step<S: PageStore>(
     requires room { at.now.passed < 2 ^ 64 - 1 }
     ensures taken { IsTrue cache.old.store.is_faithful
         → IfOk result (TakesPage (pages_of_cache cache.old) at.now.link
-        (spot_of most place.now.legs place.now.first at.now.left) period.now
-        found.old.items found.new.items
+        (spot_of most place.now.legs place.now.first at.now.left) want.now.period
+        want.now.sieve found.old.items found.new.items
         (record { old = spans.old.items; new = spans.new.items; passed = at.now.passed })) }
     ensures forgets { OnErr result (spans.new.items ≡ spans.old.items) }
     ensures keeps { IsFront spans.old.items spans.new.items }
@@ -76,25 +79,25 @@ fn step<S: PageStore>(
     ensures caused { IfErr result (IsCaused cache.old cache.new) }
     ensures asked { IfOk result (λ back. AsksAs (pass_at
         (slice_get spans.old.items at.now.passed)
-        (slice_get spans.old.items (suc at.now.passed)) at.now.left period.now)
+        (slice_get spans.old.items (suc at.now.passed)) at.now.left want.now.period)
         back cache.old cache.new) }
     ensures most { cache.new.asked ≤ cache.old.asked + 1 }
 {
-    match pass(spans.as_slice(), at.passed, at.left, period) {
+    match pass(spans.as_slice(), at.passed, at.left, &want.period) {
         Passing::End => Ok(None),
         Passing::Over(back) => Ok(Some(back)),
         Passing::Into => {
             let spot = spot_of(place, most, at.left);
             if at.passed < spans.len() {
-                take_again(cache, &at.link, &spot, period, found)
+                take_again(cache, &at.link, &spot, want, found)
             } else {
-                take(cache, &at.link, &spot, period, found, spans, at.passed)
+                take(cache, &at.link, &spot, want, found, spans, at.passed)
             }
         }
     }
 }
 
-/// The kept legs of a chain, from the last leaf back to the first, or to one that starts before the period; in reverse.
+/// What is wanted of a chain, from the last leaf back to the first, or to one that starts before the period; in reverse.
 ///
 /// What is known of its last leaves is used, and more of them are known after it.
 #[tactic(auto, using(crate::proofs::ReadLemmas::reading))]
@@ -103,38 +106,39 @@ fn walk_back<S: PageStore>(
     cache: &mut PageCache<S>,
     shape: &Shape,
     place: &Place,
-    period: &Option<Period>,
+    want: &Want,
     spans: &mut Vec<LeafSpan>,
 ) -> Result<Vec<Leg>, ChainFault>
     requires known { IsTrue cache.old.store.is_faithful
         → IsKnown (pages_of_cache cache.old) shape.now place.now spans.old.items }
     ensures found { IsTrue cache.old.store.is_faithful
-        → IfOk result (λ found. found.items
-        ≡ reverse (chain_legs (pages_of_cache cache.old) period.now shape.now place.now)) }
+        → IfOk result (λ found. HasTaken want.now.period want.now.sieve
+        (chain_legs (pages_of_cache cache.old) want.now.period shape.now place.now)
+        [] found.items) }
     ensures whole { IsTrue cache.old.store.is_faithful
-        → OnOk result (chain_fault (pages_of_cache cache.old) period.now shape.now place.now
+        → OnOk result (chain_fault (pages_of_cache cache.old) want.now.period shape.now place.now
         ≡ None) }
     ensures named { IsTrue cache.old.store.is_faithful
         → IfErr result (IsNamed (pages_of_cache cache.old)
-        (chain_fault (pages_of_cache cache.old) period.now shape.now place.now)) }
+        (chain_fault (pages_of_cache cache.old) want.now.period shape.now place.now)) }
     ensures reads { OnlyReads cache.old cache.new }
     ensures caused { IfErr result (IsCaused cache.old cache.new) }
     ensures asked { IsTrue cache.old.store.is_faithful
         → OnOk result (RisesBy cache.old.asked cache.new.asked
-        (known_cost (pages_of_cache cache.old) period.now shape.now place.now spans.old.items)) }
+        (known_cost (pages_of_cache cache.old) want.now.period shape.now place.now spans.old.items)) }
     ensures few { IsTrue cache.old.store.is_faithful
         → OnOk result (RisesAtMost cache.old.asked cache.new.asked
-        (known_cost (pages_of_cache cache.old) period.now shape.now place.now spans.old.items)) }
+        (known_cost (pages_of_cache cache.old) want.now.period shape.now place.now spans.old.items)) }
     ensures within { IsTrue cache.old.store.is_faithful
         → OnOk result (RisesAtMost cache.old.asked cache.new.asked
-        (chain_cost (pages_of_cache cache.old) period.now shape.now place.now)) }
+        (chain_cost (pages_of_cache cache.old) want.now.period shape.now place.now)) }
     ensures most { cache.new.asked
         ≤ cache.old.asked + div_ceil place.now.legs shape.now.leaf }
     ensures learns { IsTrue cache.old.store.is_faithful
         → IsKnown (pages_of_cache cache.old) shape.now place.now spans.new.items }
     ensures keeps { IsFront spans.old.items spans.new.items }
     ensures recalls { IsTrue cache.old.store.is_faithful
-        → OnOk result (IsKnownBackTo (pages_of_cache cache.old) period.now shape.now place.now
+        → OnOk result (IsKnownBackTo (pages_of_cache cache.old) want.now.period shape.now place.now
         spans.new.items) }
     ensures shape { IsShape shape.now }
 {
@@ -153,7 +157,7 @@ fn walk_back<S: PageStore>(
     'leaves: while left > 0 {
         left -= 1;
         let at = Cursor { link, left, passed };
-        let Some(back) = step(cache, place, most, &at, period, &mut found, spans)? else {
+        let Some(back) = step(cache, place, most, &at, want, &mut found, spans)? else {
             return Ok(found);
         };
         link = back;
@@ -230,13 +234,17 @@ pub fn trajectory<S: PageStore>(
     ensures most { cache.new.asked
         ≤ cache.old.asked + div_ceil place.now.legs shape.now.leaf }
 {
-    let mut found = walk_back(alloc, cache, shape, place, &None, spans)?;
+    let want = Want {
+        period: None,
+        sieve: Sieve::All,
+    };
+    let mut found = walk_back(alloc, cache, shape, place, &want, spans)?;
     found.reverse();
     Ok(found)
 }
 
 /// The legs of the feature at a place of a tree of that shape that are live in a period, in the order in which they
-/// were accepted.
+/// were accepted; of these at least those that a sieve keeps.
 ///
 /// Leaves are read from the last one back to the first, or to one whose first leg starts before the period does. The
 /// faults are those of `trajectory`, in the leaves that are read. Of the one that is read last it is seen whether it
@@ -247,27 +255,30 @@ pub fn trajectory_in<S: PageStore>(
     shape: &Shape,
     place: &Place,
     period: &Period,
+    sieve: &Sieve,
     spans: &mut Vec<LeafSpan>,
 ) -> Result<Vec<Leg>, ChainFault>
     requires known { IsTrue cache.old.store.is_faithful
         → IsKnown (pages_of_cache cache.old) shape.now place.now spans.old.items }
 
-    // Of pages that stand for a list: exactly the feature's live legs; only a failed store and want of memory refuse.
+    // Of pages that stand for a list: what the sieve keeps of the feature's live legs; only a failed store and want of memory refuse.
     ensures found { IsTrue cache.old.store.is_faithful → (legs : List LegView) (feature : ℕ)
         → HasFeature (pages_of_cache cache.old) shape.now place.now feature legs
-        → Gives result (λ found. found.items ≡ live_legs_of feature period.now legs) }
+        → Gives result (λ found. IsSieved sieve.now period.now
+        (live_legs_of feature period.now legs) found.items) }
     ensures asked { IsTrue cache.old.store.is_faithful → (legs : List LegView) (feature : ℕ)
         → HasFeature (pages_of_cache cache.old) shape.now place.now feature legs
         → OnOk result (RisesAtMost cache.old.asked cache.new.asked
         (track_in_bound feature period.now (Some shape.now) legs)) }
 
-    // Of any pages: exactly the live legs of a chain, as far as it is read; all else is refused, as by `trajectory`.
+    // Of any pages: what it keeps of the live legs of a chain, as far as it is read; all else is refused, as by `trajectory`.
     ensures chain { IsTrue cache.old.store.is_faithful
         → OnOk result (IsPlaceChain (pages_of_cache cache.old) (Some period.now) shape.now
         place.now) }
     ensures legs { IsTrue cache.old.store.is_faithful
-        → IfOk result (λ found. found.items
-        ≡ chain_legs (pages_of_cache cache.old) (Some period.now) shape.now place.now) }
+        → IfOk result (λ found. IsSieved sieve.now period.now
+        (chain_legs (pages_of_cache cache.old) (Some period.now) shape.now place.now)
+        found.items) }
     ensures only { IsTrue cache.old.store.is_faithful
         → IsPlaceChain (pages_of_cache cache.old) (Some period.now) shape.now place.now
         → IfErr result IsAllowed }
@@ -321,7 +332,11 @@ pub fn trajectory_in<S: PageStore>(
         ≤ cache.old.asked + div_ceil place.now.legs shape.now.leaf }
 {
     prove!(period.start() <= period.end());
-    let mut found = walk_back(alloc, cache, shape, place, &Some(*period), spans)?;
+    let want = Want {
+        period: Some(*period),
+        sieve: *sieve,
+    };
+    let mut found = walk_back(alloc, cache, shape, place, &want, spans)?;
     found.reverse();
     Ok(found)
 }

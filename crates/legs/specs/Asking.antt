@@ -1,12 +1,15 @@
 -- What a call of an index leaves, and why it is refused.
-use Rattle.std.specs.Prelude.{ℕ, ℤ, ◌≡◌, ◌≤◌, ◌++◌, ◌∷◌, [], drop, true, List, Option, Result, Err, IfErr, IsErrOf, OnErr, OnOk}
+use Rattle.std.specs.Prelude.{ℕ, ℤ, ◌≡◌, ◌≤◌, ◌++◌, ◌∷◌, [], drop, true, List, Option, Some, Result, Err, IfErr, IsErrOf, OnErr, OnOk}
 use Rattle.legs.specs.Legs.{LegView}
 use Rattle.legs.specs.Index.{MayRefuse, MayRefuseLeg, HasRisen, CanFollowInTurn}
 use Rattle.legs.specs.Costs.{ShapeView, RisesBy, RisesAtMost, add_bound, add_all_bound}
 use Rattle.legs.specs.declared.index.IndexFault.{IndexFault}
 use Rattle.legs.specs.declared.index.IndexFault.TheVariants.{Memory, Store, Damaged, StoreFull, Spent}
 use Rattle.legs.specs.declared.listed.Listed.{Ghosts}
-use Rattle.legs.specs.Questions.{Question}
+use Rattle.legs.specs.Questions.{Question, OfFeature}
+use Rattle.legs.specs.Sieves.{IsSieved}
+use Rattle.legs.specs.declared.sieve.Sieve.{Sieve}
+use Rattle.timebase.specs.Period.{PeriodView}
 
 -- the same index, later: its shape is the same, and what is counted did not fall
 pub record IsLater {I : Type 0} (g : Ghosts I) (old new : I) : Type 0 where
@@ -41,6 +44,11 @@ Denies g index question Store = Unit {0}
 Denies g index question (Damaged page) = g.denies index question page
 Denies g index question StoreFull = ⊥
 Denies g index question Spent = g.is_spent index ≡ true
+
+-- its pages say some legs of a feature that are live in a period, and these are what a sieve keeps of them
+abbrev pub TellsSieved : {I : Type 0} → Ghosts I → I → ℕ → PeriodView → Sieve → List LegView → Type 0
+TellsSieved g index feature period sieve legs =
+    (all : List LegView) × g.tells index (OfFeature feature (Some period)) all × IsSieved sieve period all legs
 
 -- why a question is refused: an index that is spent always says so, and stays as it is; a sound one refuses
 -- for want of memory or a store that failed alone, and the latter only where a fault was counted; none says

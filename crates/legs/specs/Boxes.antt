@@ -62,6 +62,12 @@ meet_in_plane p q = intervals_meet p.x_min p.x_max q.x_min q.x_max && intervals_
 abbrev pub boxes_meet : BoxView → BoxView → Bool
 boxes_meet p q = meet_in_plane p q && intervals_meet p.t_min p.t_max q.t_min q.t_max
 
+-- the box of a leg meets a rectangle, in the plane
+abbrev pub is_near : RectView → LegView → Bool
+is_near rect leg =
+    intervals_meet (int_min leg.x0 leg.x1) (int_max leg.x0 leg.x1) rect.x_min rect.x_max
+    && intervals_meet (int_min leg.y0 leg.y1) (int_max leg.y0 leg.y1) rect.y_min rect.y_max
+
 -- the point lies in the box
 pub record IsIn (x y t : ℤ) (b : BoxView) : Type 0 where
   pub left : b.x_min ≤ℤ x

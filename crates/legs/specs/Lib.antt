@@ -2,6 +2,7 @@ pub mod Legs
 pub mod Boxes
 pub mod Index
 pub mod Questions
+pub mod Sieves
 pub mod Blocks
 pub mod Hull
 pub mod Costs

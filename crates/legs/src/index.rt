@@ -2,6 +2,7 @@
 use crate::boxes::Box3;
 use crate::leg::Leg;
 use crate::listed::Listed;
+use crate::sieve::Sieve;
 use std::alloc::{AllocError, AllocFailed};
 use thiserror::Error;
 use timebase::Period;
@@ -39,7 +40,8 @@ pub trait LegIndex: Listed {
     ghost use Rattle.legs.specs.Index.{legs_in_box, legs_of, live_legs_of};
     ghost use Rattle.legs.specs.Questions.{InBox, OfFeature};
     ghost use Rattle.legs.specs.Costs.{known_bound, search_cost, track_cost, track_in_bound};
-    ghost use Rattle.legs.specs.Asking.{AddAllAsks, AddAsks, Asks, AsksAtMost, Denies, Grows, IsLater, KeepsMarked, Leaves, LegRefusals, Recalls, Refusals};
+    ghost use Rattle.legs.specs.Asking.{AddAllAsks, AddAsks, Asks, AsksAtMost, Denies, Grows, IsLater, KeepsMarked, Leaves, LegRefusals, Recalls, Refusals, TellsSieved};
+    ghost use Rattle.legs.specs.Sieves.{IsSieved};
 
     /// How many legs there are.
     fn len(&self) -> u64
@@ -96,13 +98,20 @@ pub trait LegIndex: Listed {
         ensures recalls { Recalls Self.Listed self.old self.new }
         ensures refusals { Refusals Self.Listed self.old self.new result };
 
-    /// The legs of a feature that have a moment in a period, in accepted order. Once it is answered it is known which of
-    /// the feature's leaves meet a period that starts no earlier, and only these are asked for.
-    fn track_in(&mut self, feature: u32, period: &Period) -> Result<Vec<Leg>, IndexFault>
+    /// The legs of a feature that have a moment in a period, in accepted order; of these at least those that a sieve
+    /// keeps. Once it is answered it is known which of the feature's leaves meet a period that starts no earlier, and
+    /// only these are asked for.
+    fn track_in(
+        &mut self,
+        feature: u32,
+        period: &Period,
+        sieve: &Sieve,
+    ) -> Result<Vec<Leg>, IndexFault>
         ensures found { IfOk result (λ legs. Self.is_sound self.old
-            → legs.items ≡ live_legs_of feature period.now (Self.content self.old)) }
+            → IsSieved sieve.now period.now
+            (live_legs_of feature period.now (Self.content self.old)) legs.items) }
         ensures told { MatchResult result
-            (λ legs. Self.tells self.old (OfFeature feature (Some period.now)) legs.items)
+            (λ legs. TellsSieved Self.Listed self.old feature period.now sieve.now legs.items)
             (λ fault. Denies Self.Listed self.old (OfFeature feature (Some period.now)) fault) }
         ensures asks { OnOk result (AsksAtMost Self.Listed self.old self.new
             (track_in_bound feature period.now)) }

@@ -17,6 +17,7 @@ mod limits;
 mod list_index;
 mod listed;
 mod names;
+mod sieve;
 mod tracks;
 
 pub use boxes::{Box3, Rect};
@@ -29,5 +30,6 @@ pub use leg::{Leg, Step};
 pub use limits::Limits;
 pub use list_index::ListIndex;
 pub use listed::Listed;
+pub use sieve::Sieve;
 pub use std::alloc::AllocError as Memory;
 pub use tracks::{Track, Tracks};

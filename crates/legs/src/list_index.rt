@@ -7,6 +7,7 @@ use crate::boxes::Box3;
 use crate::index::{IndexFault, LegIndex};
 use crate::leg::Leg;
 use crate::listed::Listed;
+use crate::sieve::Sieve;
 use std::alloc::{AllocError, Global};
 use std::marker::Model;
 use timebase::Period;
@@ -231,7 +232,13 @@ impl LegIndex for ListIndex {
     }
 
     #[tactic(auto, unfolding(crate::specs::Costs::track_in_bound, crate::specs::Costs::known_bound))]
-    fn track_in(&mut self, feature: u32, period: &Period) -> Result<Vec<Leg>, IndexFault> {
+    /// All legs, whatever the sieve.
+    fn track_in(
+        &mut self,
+        feature: u32,
+        period: &Period,
+        _sieve: &Sieve,
+    ) -> Result<Vec<Leg>, IndexFault> {
         if self.spent {
             return Err(IndexFault::Spent);
         }

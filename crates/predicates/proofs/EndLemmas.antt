@@ -7,9 +7,10 @@ use Rattle.std.specs.Option.{IsSomeAnd}
 use Rattle.timebase.specs.Period.{PeriodView}
 use Rattle.legs.specs.Legs.{LegView, is_live, first_moment, last_moment}
 use Rattle.legs.specs.Boxes.{RectView}
+use Rattle.legs.specs.Sieves.{first_live, last_live}
 use Rattle.clipping.specs.Inside.{IsInside}
 use Rattle.predicates.specs.Courses.{both_of, ends_of}
-use Rattle.predicates.specs.Predicates.{Holds, HasAMoment, IsInsideAtFirst, IsInsideAtLast, first_live, last_live}
+use Rattle.predicates.specs.Predicates.{Holds, HasAMoment, IsInsideAtFirst, IsInsideAtLast}
 use Rattle.predicates.specs.declared.Predicate.{Predicate}
 use Rattle.predicates.specs.declared.Predicate.TheVariants.{Enters, Leaves}
 use Rattle.predicates.proofs.CourseLemmas.{live_is}
@@ -27,12 +28,62 @@ found_has p (y ∷ ys) x e = by (found_has p ys x) (p y) refl e
     by rest true h e = ap p (sym (some_same y x e)) ∙ h
     by rest false h e = rest e
 
+-- some legs of a list that have its first and its last live leg
+module _ (period : PeriodView) (all some : List LegView) (first : first_live period some ≡ first_live period all) where
+  live_same : list_any (is_live period) some ≡ list_any (is_live period) all
+  live_same = sym (is_some-find (is_live period) some) ∙ ap is_some first ∙ is_some-find (is_live period) all
+
+  pub moment_same : HasAMoment some period ↔ HasAMoment all period
+  moment_same = (
+    λ h. (live_is all period).0 (sym live_same ∙ (live_is some period).1 h),
+    λ h. (live_is some period).0 (live_same ∙ (live_is all period).1 h),
+  )
+
+  module _ (rect : RectView) where
+    pub first_same : IsInsideAtFirst some rect period ≡ IsInsideAtFirst all rect period
+    unfolding IsInsideAtFirst
+    first_same = ap (λ o. IsSomeAnd o (λ leg. IsInside leg rect (first_moment leg period) 1)) first
+
+pub last_same : (period : PeriodView) (all some : List LegView) (rect : RectView) → last_live period some ≡ last_live period all
+    → IsInsideAtLast some rect period ≡ IsInsideAtLast all rect period
+unfolding IsInsideAtLast
+last_same period all some rect last = ap (λ o. IsSomeAnd o (λ leg. IsInside leg rect (last_moment leg period) 1)) last
+
+module _ (period : PeriodView) (all some : List LegView) (first : first_live period some ≡ first_live period all)
+    (last : last_live period some ≡ last_live period all) (rect : RectView) where
+  pub enters_same : Holds Enters some rect period ↔ Holds Enters all rect period
+  unfolding Holds
+  enters_same =
+      let moment = moment_same period all some first in
+      let at_first = first_same period all some first rect in
+      let at_last = last_same period all some rect last in (
+        λ h. (moment.0 h.0, subst (λ P. P → ⊥) at_first h.1, subst (λ P. P) at_last h.2),
+        λ h. (moment.1 h.0, subst (λ P. P → ⊥) (sym at_first) h.1, subst (λ P. P) (sym at_last) h.2),
+      )
+
+  pub leaves_same : Holds Leaves some rect period ↔ Holds Leaves all rect period
+  unfolding Holds
+  leaves_same =
+      let moment = moment_same period all some first in
+      let at_first = first_same period all some first rect in
+      let at_last = last_same period all some rect last in (
+        λ h. (moment.0 h.0, subst (λ P. P) at_first h.1, subst (λ P. P → ⊥) at_last h.2),
+        λ h. (moment.1 h.0, subst (λ P. P) (sym at_first) h.1, subst (λ P. P → ⊥) (sym at_last) h.2),
+      )
+
+  pub ends_same : (predicate : Predicate) → (predicate ≡ Enters) ⊎ (predicate ≡ Leaves) → Holds predicate some rect period ↔ Holds predicate all rect period
+  ends_same predicate which =
+      ⊎_elim
+      (λ (e : predicate ≡ Enters). subst (λ p. Holds p some rect period ↔ Holds p all rect period) (sym e) enters_same)
+      (λ (e : predicate ≡ Leaves). subst (λ p. Holds p some rect period ↔ Holds p all rect period) (sym e) leaves_same)
+      which
+
 module _ (period : PeriodView) (legs : List LegView) where
   abbrev p : LegView → Bool
   p = is_live period
 
   -- of the two ends the same are found
-  pub ends_found : (f l : Option LegView) → first_live period legs ≡ f → last_live period legs ≡ l → (first_live period (both_of f l) ≡ f) × (last_live period (both_of f l) ≡ l)
+  ends_found : (f l : Option LegView) → first_live period legs ≡ f → last_live period legs ≡ l → (first_live period (both_of f l) ≡ f) × (last_live period (both_of f l) ≡ l)
   ends_found (Some f) (Some l) e h = (
     ap (λ b. cond b (Some f) (find p (l ∷ []))) (found_has p legs f e),
     ap (λ b. cond b (Some l) (find p (f ∷ []))) (found_has p (reverse legs) l h),
@@ -43,47 +94,7 @@ module _ (period : PeriodView) (legs : List LegView) where
   ends_found None (Some l) e h =
       absurd (false≢true (ap is_some (sym e) ∙ is_some-find p legs ∙ sym (is_some-find-reverse p legs) ∙ ap is_some h))
 
-  same_first : first_live period (ends_of period legs) ≡ first_live period legs
-  same_first = (ends_found (first_live period legs) (last_live period legs) refl refl).0
-
-  same_last : last_live period (ends_of period legs) ≡ last_live period legs
-  same_last = (ends_found (first_live period legs) (last_live period legs) refl refl).1
-
-  same_live : list_any p (ends_of period legs) ≡ list_any p legs
-  same_live = sym (is_some-find p (ends_of period legs)) ∙ ap is_some same_first ∙ is_some-find p legs
-
-  moment_of_ends : HasAMoment (ends_of period legs) period ↔ HasAMoment legs period
-  moment_of_ends = (
-    λ h. (live_is legs period).0 (sym same_live ∙ (live_is (ends_of period legs) period).1 h),
-    λ h. (live_is (ends_of period legs) period).0 (same_live ∙ (live_is legs period).1 h),
-  )
-
-  module _ (rect : RectView) where
-    first_of_ends : IsInsideAtFirst (ends_of period legs) rect period ≡ IsInsideAtFirst legs rect period
-    unfolding IsInsideAtFirst
-    first_of_ends = ap (λ o. IsSomeAnd o (λ leg. IsInside leg rect (first_moment leg period) 1)) same_first
-
-    last_of_ends : IsInsideAtLast (ends_of period legs) rect period ≡ IsInsideAtLast legs rect period
-    unfolding IsInsideAtLast
-    last_of_ends = ap (λ o. IsSomeAnd o (λ leg. IsInside leg rect (last_moment leg period) 1)) same_last
-
-    pub enters_by_ends : Holds Enters (ends_of period legs) rect period ↔ Holds Enters legs rect period
-    unfolding Holds
-    enters_by_ends = (
-      λ h. (moment_of_ends.0 h.0, subst (λ P. P → ⊥) first_of_ends h.1, subst (λ P. P) last_of_ends h.2),
-      λ h. (moment_of_ends.1 h.0, subst (λ P. P → ⊥) (sym first_of_ends) h.1, subst (λ P. P) (sym last_of_ends) h.2),
-    )
-
-    pub leaves_by_ends : Holds Leaves (ends_of period legs) rect period ↔ Holds Leaves legs rect period
-    unfolding Holds
-    leaves_by_ends = (
-      λ h. (moment_of_ends.0 h.0, subst (λ P. P) first_of_ends h.1, subst (λ P. P → ⊥) last_of_ends h.2),
-      λ h. (moment_of_ends.1 h.0, subst (λ P. P) (sym first_of_ends) h.1, subst (λ P. P → ⊥) (sym last_of_ends) h.2),
-    )
-
-    pub by_ends : (predicate : Predicate) → (predicate ≡ Enters) ⊎ (predicate ≡ Leaves) → Holds predicate (ends_of period legs) rect period ↔ Holds predicate legs rect period
-    by_ends predicate which =
-        ⊎_elim
-        (λ (e : predicate ≡ Enters). subst (λ p. Holds p (ends_of period legs) rect period ↔ Holds p legs rect period) (sym e) enters_by_ends)
-        (λ (e : predicate ≡ Leaves). subst (λ p. Holds p (ends_of period legs) rect period ↔ Holds p legs rect period) (sym e) leaves_by_ends)
-        which
+  pub by_ends : (rect : RectView) (predicate : Predicate) → (predicate ≡ Enters) ⊎ (predicate ≡ Leaves) → Holds predicate (ends_of period legs) rect period ↔ Holds predicate legs rect period
+  by_ends rect predicate which =
+      let found = ends_found (first_live period legs) (last_live period legs) refl refl in
+      ends_same period legs (ends_of period legs) found.0 found.1 rect predicate which

@@ -6,3 +6,4 @@ pub mod CourseLemmas
 pub mod PredicateLemmas
 pub mod NearLemmas
 pub mod EndLemmas
+pub mod SieveLemmas

@@ -3,7 +3,8 @@ use Rattle.std.specs.Prelude.{List, [], ◌∷◌, Option, Some, None, ◌↔◌
 use Rattle.timebase.specs.Period.{PeriodView}
 use Rattle.legs.specs.Legs.{LegView}
 use Rattle.legs.specs.Boxes.{RectView}
-use Rattle.predicates.specs.Predicates.{HasAMoment, IsEver, IsAllInside, IsInsideAtFirst, IsInsideAtLast, first_live, last_live}
+use Rattle.predicates.specs.Predicates.{HasAMoment, IsEver, IsAllInside, IsInsideAtFirst, IsInsideAtLast}
+use Rattle.legs.specs.Sieves.{first_live, last_live}
 use Rattle.predicates.specs.declared.courses.Course.{Course}
 
 -- each test of the course is true exactly where its fact holds for the legs

@@ -1,19 +1,12 @@
 -- What holds for the legs of a feature, a rectangle and a period. All moments are fractions n / d of a millisecond.
-use Rattle.std.specs.Prelude.{ℕ, List, reverse, Option, All, Any, find, IsSomeAnd, ℤ}
+use Rattle.std.specs.Prelude.{ℕ, List, All, Any, IsSomeAnd, ℤ}
 use Rattle.timebase.specs.Period.{PeriodView}
-use Rattle.legs.specs.Legs.{LegView, IsMomentOf, HasMoment, first_moment, is_live, last_moment}
+use Rattle.legs.specs.Legs.{LegView, IsMomentOf, HasMoment, first_moment, last_moment}
 use Rattle.legs.specs.Boxes.{RectView}
+use Rattle.legs.specs.Sieves.{first_live, last_live}
 use Rattle.clipping.specs.Inside.{IsInside, HasMomentInside}
 use Rattle.predicates.specs.declared.Predicate.{Predicate}
 use Rattle.predicates.specs.declared.Predicate.TheVariants.{Ever, Always, Enters, Leaves, Crosses, Bypasses}
-
--- the first leg of a list that has a moment in the period
-abbrev pub first_live : PeriodView → List LegView → Option LegView
-first_live period legs = find (is_live period) legs
-
--- the last leg of a list that has one
-abbrev pub last_live : PeriodView → List LegView → Option LegView
-last_live period legs = find (is_live period) (reverse legs)
 
 -- there is a moment
 unfoldable pub HasAMoment : List LegView → PeriodView → Type 0

@@ -4,7 +4,8 @@ ghost use Rattle.legs.specs.Legs.{LegView, HasMoment};
 ghost use Rattle.legs.specs.Boxes.{RectView};
 ghost use Rattle.timebase.specs.Period.{PeriodView};
 ghost use Rattle.clipping.specs.Inside.{HasMomentInside, live_ends};
-ghost use Rattle.predicates.specs.Predicates.{Holds, first_live, last_live};
+ghost use Rattle.predicates.specs.Predicates.{Holds};
+ghost use Rattle.legs.specs.Sieves.{first_live, last_live};
 ghost use Rattle.predicates.specs.Courses.{IsCourse, ends_of};
 
 use crate::Predicate;

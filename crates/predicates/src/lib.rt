@@ -12,10 +12,12 @@ ghost use Rattle.predicates.specs.Predicates.{Holds};
 
 mod courses;
 mod near;
+mod sieves;
 
 use courses::{course_of, course_of_ends};
 use legs::{Leg, Rect};
 pub use near::search_box;
+pub use sieves::sieve;
 use timebase::Period;
 
 /// What can be said of a feature, a rectangle, its edges included, and a period, its ends

@@ -2,7 +2,7 @@
 use crate::numbers::feed;
 use crate::samples::leg;
 use chains::{ChainFault, trajectory, trajectory_in};
-use legs::{Leg, LegIndex, ListIndex};
+use legs::{Leg, LegIndex, ListIndex, Sieve};
 use pagecache::{CacheFault, PageCache};
 use pages::{Fuse, Kind, MemStore, Payload};
 use std::alloc::Global;
@@ -40,6 +40,7 @@ fn read(alloc: Global, last: bool) -> Option<(Vec<u64>, u64)> {
             &shape,
             &place,
             &period,
+            &Sieve::All,
             &mut Vec::new(alloc),
         )
         .ok()?
@@ -127,9 +128,16 @@ fn told(alloc: Global, legs: u32, forged: &Forged) -> Option<Result<usize, Chain
     let period = Period::new(Ms::new(0)?, Ms::new(9000)?)?;
     let (mut none, mut other) = (Vec::new(alloc), Vec::new(alloc));
     let all = trajectory(alloc, &mut cache, &shape, &place, &mut none).map(|found| found.len());
-    let live = trajectory_in(alloc, &mut cache, &shape, &place, &period, &mut other).map(
-        |found| found.len(),
-    );
+    let live = trajectory_in(
+        alloc,
+        &mut cache,
+        &shape,
+        &place,
+        &period,
+        &Sieve::All,
+        &mut other,
+    )
+    .map(|found| found.len());
     if all == live { Some(all) } else { None }
 }
 
@@ -302,7 +310,16 @@ fn asked(
     let before = cache.asked();
     let found = match time {
         Some(period) => {
-            trajectory_in(alloc, cache, shape, place, period, &mut Vec::new(alloc)).ok()?
+            trajectory_in(
+                alloc,
+                cache,
+                shape,
+                place,
+                period,
+                &Sieve::All,
+                &mut Vec::new(alloc),
+            )
+            .ok()?
         }
         None => trajectory(alloc, cache, shape, place, &mut Vec::new(alloc)).ok()?,
     };
@@ -325,7 +342,7 @@ fn ask_feature(
     let leaf = usize::from(shape.leaf());
     for time in &times(alloc, legs.as_slice())? {
         let wanted = match time {
-            Some(period) => list.track_in(feature, period).ok()?,
+            Some(period) => list.track_in(feature, period, &Sieve::All).ok()?,
             None => legs.clone().ok()?,
         };
         let count = asked(alloc, (cache, shape), place, time, wanted.as_slice())?;

@@ -3,7 +3,8 @@
 use crate::numbers::feed;
 use crate::samples::leg;
 use boxsearch::TreeIndex;
-use legs::{IndexFault, Leg, LegIndex, ListIndex};
+use fixedpoint::Coord;
+use legs::{Box3, IndexFault, Leg, LegIndex, ListIndex, Rect, Sieve};
 use pagecache::PageCache;
 use pages::{Fuse, Kind, MemStore};
 use std::alloc::Global;
@@ -31,7 +32,7 @@ fn ask(
     period: &Period,
 ) -> Option<(usize, u64)> {
     let before = index.asked();
-    let found = index.track_in(feature, period).ok()?.len();
+    let found = index.track_in(feature, period, &Sieve::All).ok()?.len();
     Some((found, index.asked().checked_sub(before)?))
 }
 
@@ -94,10 +95,10 @@ fn is_told(
     feature: u32,
     period: &Period,
 ) -> Option<bool> {
-    let wanted = list.track_in(feature, period).ok()?;
-    let first = index.track_in(feature, period).ok()?;
+    let wanted = list.track_in(feature, period, &Sieve::All).ok()?;
+    let first = index.track_in(feature, period, &Sieve::All).ok()?;
     let before = index.asked();
-    let second = index.track_in(feature, period).ok()?;
+    let second = index.track_in(feature, period, &Sieve::All).ok()?;
     let asked = index.asked().checked_sub(before)?;
     let all = list.track(feature).ok()?;
     let few = asked <= met(all.as_slice(), leaf, period)?;
@@ -105,7 +106,45 @@ fn is_told(
     Some(same && few)
 }
 
-/// Whether that holds of each feature in periods all over, while legs come file by file.
+/// Whether these are some of a feature's legs in a period, in their order, with the first and the last one, and with each
+/// whose box meets the rectangle, where one is given.
+fn is_sieved(all: &[Leg], some: &[Leg], near: Option<&Box3>) -> bool {
+    let mut next = 0usize;
+    for leg in all {
+        if some.get(next) == Some(leg) {
+            next = next.wrapping_add(1);
+        } else if let Some(near) = near
+            && Box3::of(leg).meets(near)
+        {
+            return false;
+        }
+    }
+    next == some.len() && some.first() == all.first() && some.last() == all.last()
+}
+
+/// Whether an index keeps of a feature's legs in a period what a sieve wants, and of the ends no more than two a leaf.
+fn are_sieved(
+    index: &mut TreeIndex<Fuse<MemStore>>,
+    list: &mut ListIndex,
+    leaf: usize,
+    feature: u32,
+    period: &Period,
+) -> Option<bool> {
+    let (low, high) = (Coord::new(200_000)?, Coord::new(600_000)?);
+    let rect = Rect::new(low, low, high, high)?;
+    let all = list.track_in(feature, period, &Sieve::All).ok()?;
+    let ends = index.track_in(feature, period, &Sieve::Ends).ok()?;
+    let near = index.track_in(feature, period, &Sieve::Near(rect)).ok()?;
+    let most = met(list.track(feature).ok()?.as_slice(), leaf, period)?;
+    let few = ends.len() as u64 <= most.checked_mul(2)?;
+    let query = Box3::new(&rect, period);
+    Some(
+        few && is_sieved(all.as_slice(), ends.as_slice(), None)
+            && is_sieved(all.as_slice(), near.as_slice(), Some(&query)),
+    )
+}
+
+/// Whether both hold of each feature in periods all over, while legs come file by file.
 fn are_told(alloc: Global, (leaf, inner): (u16, u16), features: u32) -> Option<bool> {
     let legs = feed(alloc, 2_000, features)?;
     let mut index = empty(alloc, Shape::new(leaf, inner)?, u64::MAX)?;
@@ -119,6 +158,7 @@ fn are_told(alloc: Global, (leaf, inner): (u16, u16), features: u32) -> Option<b
             let start = i64::from(number.wrapping_mul(7_919) % 2_100).wrapping_mul(1_000);
             let period = period(start, start.wrapping_add(50_000))?;
             told = told && is_told(&mut index, &mut list, usize::from(leaf), feature, &period)?;
+            told = told && are_sieved(&mut index, &mut list, usize::from(leaf), feature, &period)?;
         }
     }
     Some(told)
@@ -142,8 +182,8 @@ fn failed(alloc: Global, calls: u64) -> Option<(IndexFault, usize)> {
         index.add(leg(ordinal, 0, 0)?).ok()?;
     }
     let all = period(0, 500)?;
-    let fault = index.track_in(0, &all).err()?;
-    Some((fault, index.track_in(0, &all).ok()?.len()))
+    let fault = index.track_in(0, &all, &Sieve::All).err()?;
+    Some((fault, index.track_in(0, &all, &Sieve::All).ok()?.len()))
 }
 
 #[test]

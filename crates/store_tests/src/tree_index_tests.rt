@@ -2,7 +2,7 @@
 use crate::numbers::{Numbers, feed};
 use crate::samples::example;
 use boxsearch::TreeIndex;
-use legs::{Box3, IndexFault, Leg, LegIndex, ListIndex};
+use legs::{Box3, IndexFault, Leg, LegIndex, ListIndex, Sieve};
 use pagecache::PageCache;
 use pages::{Fuse, Kind, MemStore, PageStore, unseal};
 use std::alloc::Global;
@@ -309,9 +309,9 @@ fn tracked_in(
     period: &Period,
 ) -> Option<u64> {
     let before = index.asked();
-    let found = index.track_in(feature, period).ok()?;
+    let found = index.track_in(feature, period, &Sieve::All).ok()?;
     let asked = index.asked().checked_sub(before)?;
-    let wanted = plain.list.track_in(feature, period).ok()?;
+    let wanted = plain.list.track_in(feature, period, &Sieve::All).ok()?;
     let all = plain.list.track(feature).ok()?;
     if found.as_slice() != wanted.as_slice() || asked > plain.period_cost(all.as_slice(), period) {
         return None;
@@ -402,7 +402,7 @@ fn is_spent(index: &mut TreeIndex<Fuse<MemStore>>, leg: Leg) -> Option<bool> {
     let refused = index.add(leg).err() == spent
         && index.search(&Box3::everything()).err() == spent
         && index.track(0).err() == spent
-        && index.track_in(0, &period).err() == spent;
+        && index.track_in(0, &period, &Sieve::All).err() == spent;
     Some(refused && index.spent() && (index.len(), index.asked()) == before)
 }
 
@@ -448,7 +448,7 @@ fn is_answered(alloc: Global, ordinal: u32, feature: u32) -> Option<bool> {
     let period = Period::new(stray.t0, stray.t1)?;
     let _ = index.search(&Box3::everything());
     let _ = index.track(feature);
-    let _ = index.track_in(feature, &period);
+    let _ = index.track_in(feature, &period, &Sieve::All);
     let _ = index.add(stray);
     Some(index.len() >= 5)
 }

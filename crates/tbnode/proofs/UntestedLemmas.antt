@@ -4,8 +4,7 @@ use Rattle.std.specs.Option.{is_some, option_map_or}
 use Rattle.std.proofs.lemmas.Bool.{leb-true, le-leb}
 use Rattle.std.proofs.lemmas.Bool.Decides.{nat_tests}
 use Rattle.std.proofs.lemmas.Option.{same_Some, slice_get_past}
-use Rattle.timebase.specs.Period.{PeriodView}
-use Rattle.legs.specs.Legs.{LegView, is_live}
+use Rattle.legs.specs.Legs.{LegView}
 use Rattle.pages.specs.declared.payload.Payload.{Payload}
 use Rattle.tbnode.specs.Nodes.{LeafView, ALeaf, as_leaf}
 use Rattle.tbnode.specs.Parts.{slot}
@@ -62,16 +61,16 @@ leg_there p l i feature bytes r s h b f said =
     let within : i < leg_count p.bytes = omega (arith, n, h) in
     said (ap is_leg b ∙ lawful_said p l i s within) ∙ ap (λ n. Some (leg_of n bytes)) f ∙ ap (λ xs. Some (leg_of (feature_of p.bytes) xs)) b ∙ sym (leg_said p l i s within)
 
--- and so is whether it is live
-pub live_there : (p : Payload) (l : LeafView LegView) (i : ℕ) (bytes : List ℕ) (period : PeriodView) (r : Bool) → Says p l → i < length l.legs → bytes ≡ slot 80 i p.bytes
-    → ((feature : ℕ) → r ≡ is_live period (leg_of feature bytes)) → r ≡ option_map_or (is_live period) (slice_get l.legs i) false
-live_there p l i bytes period r s h b is =
+-- and so is what a test of it says
+pub told_there : (p : Payload) (l : LeafView LegView) (i : ℕ) (bytes : List ℕ) (test : LegView → Bool) (r : Bool) → Says p l → i < length l.legs → bytes ≡ slot 80 i p.bytes
+    → ((feature : ℕ) → r ≡ test (leg_of feature bytes)) → r ≡ option_map_or test (slice_get l.legs i) false
+told_there p l i bytes test r s h b is =
     let n = legs_counted p.bytes l s.is in
     let within : i < leg_count p.bytes = omega (arith, n, h) in
-    is (feature_of p.bytes) ∙ ap (λ xs. is_live period (leg_of (feature_of p.bytes) xs)) b ∙ ap (λ o. option_map_or (is_live period) o false) (sym (leg_said p l i s within))
+    is (feature_of p.bytes) ∙ ap (λ xs. test (leg_of (feature_of p.bytes) xs)) b ∙ ap (λ o. option_map_or test o false) (sym (leg_said p l i s within))
 
 past : (i n : ℕ) → n ≤ i → nat_lt i n ≡ false
 past i n h = grind (arith, nat_tests)
 
-pub none_live : (l : LeafView LegView) (i n : ℕ) (period : PeriodView) → n ≡ length l.legs → n ≤ i → nat_lt i n ≡ option_map_or (is_live period) (slice_get l.legs i) false
-none_live l i n period e h = past i n h ∙ ap (λ o. option_map_or (is_live period) o false) (sym (slice_get_past l.legs i (omega (arith, e, h))))
+pub none_told : (l : LeafView LegView) (i n : ℕ) (test : LegView → Bool) → n ≡ length l.legs → n ≤ i → nat_lt i n ≡ option_map_or test (slice_get l.legs i) false
+none_told l i n test e h = past i n h ∙ ap (λ o. option_map_or test o false) (sym (slice_get_past l.legs i (omega (arith, e, h))))

@@ -3,6 +3,8 @@ ghost use Rattle.std.specs.Prelude.{ℕ, ◌≡◌, ◌&&◌, ◌+◌, ◌≤◌
 ghost use Rattle.std.specs.Option.{is_some};
 ghost use Rattle.fixedpoint.specs.Number.{units_within};
 ghost use Rattle.timebase.specs.Instant.{some_moment};
+ghost use Rattle.std.specs.Int.{int_max, int_min};
+ghost use Rattle.legs.specs.Boxes.{intervals_meet, is_near};
 ghost use Rattle.legs.specs.Legs.{is_live};
 ghost use Rattle.tbnode.specs.Parts.{put, signed_at, signed_bytes};
 ghost use Rattle.tbnode.specs.Steps.{LegReadsBack};
@@ -10,7 +12,7 @@ ghost use Rattle.tbnode.specs.Layout.{leg_bytes, leg_of, is_leg, has_moments, ha
 
 use crate::fields::{i64_at, put_i64, put_u32, put_u64, u32_at, u64_at};
 use fixedpoint::Coord;
-use legs::Leg;
+use legs::{Leg, Rect};
 use timebase::{Ms, Period};
 
 /// Whether 80 bytes begin with an ordinal and two moments that rise.
@@ -181,6 +183,33 @@ pub(crate) fn is_live_in(bytes: &[u8], period: &Period) -> bool
     let first = i64_at(bytes, 8).max(period.start().millis());
     let last = i64_at(bytes, 16).min(period.end().millis());
     first <= last
+}
+
+/// Whether the closed interval between two numbers, in whichever order, meets the one from `least` to `most`.
+fn meets(a: i64, b: i64, least: i64, most: i64) -> bool
+    ensures { result ≡ intervals_meet (int_min a b) (int_max a b) least most }
+{
+    a.min(b) <= most && least <= a.max(b)
+}
+
+/// Whether the numbers at two places are not both below `least`, and not both above `most`.
+fn meet_at(bytes: &[u8], first: usize, second: usize, least: i64, most: i64) -> bool
+    requires first { first + 8 ≤ length bytes.now }
+    requires second { second + 8 ≤ length bytes.now }
+    ensures { result ≡ intervals_meet (int_min (signed_at first bytes.now) (signed_at second bytes.now))
+        (int_max (signed_at first bytes.now) (signed_at second bytes.now)) least most }
+{
+    meets(i64_at(bytes, first), i64_at(bytes, second), least, most)
+}
+
+/// Whether the box of the leg that 80 bytes say, of whatever feature it is, meets a rectangle in the plane.
+#[tactic(auto, unfolding(crate::specs::Layout::leg_of))]
+pub(crate) fn is_near_in(bytes: &[u8], rect: &Rect) -> bool
+    requires { length bytes.now ≡ 80 }
+    ensures { (feature : ℕ) → result ≡ is_near rect.now (leg_of feature bytes.now) }
+{
+    meet_at(bytes, 24, 48, rect.x_min.units(), rect.x_max.units())
+        && meet_at(bytes, 32, 56, rect.y_min.units(), rect.y_max.units())
 }
 
 fn put_moment(bytes: &mut [u8], place: usize, at: Ms)

@@ -4,9 +4,9 @@ ghost use Rattle.tbnode.specs.Form.{node_of, is_counted};
 ghost use Rattle.tbnode.specs.Nodes.{as_leaf};
 
 use crate::fields::{part, u16_at, u32_at};
-use crate::laid::{is_live_in, some_leg};
+use crate::laid::{is_live_in, is_near_in, some_leg};
 use crate::views::LeafHead;
-use legs::Leg;
+use legs::{Leg, Rect};
 use pages::{Kind, Payload};
 use std::marker::Model;
 use timebase::Period;
@@ -35,6 +35,7 @@ impl<'a> Model for UntestedLeaf<'a> {
 impl<'a> UntestedLeaf<'a> {
     ghost use Rattle.std.specs.Prelude.{◌≡◌, ◌≤◌, false, length, slice_get};
     ghost use Rattle.std.specs.Option.{option_map_or};
+    ghost use Rattle.legs.specs.Boxes.{is_near};
     ghost use Rattle.legs.specs.Legs.{is_live};
     ghost use Rattle.tbnode.specs.Form.{OfLeaf};
 
@@ -78,6 +79,14 @@ impl<'a> UntestedLeaf<'a> {
             ≡ option_map_or (is_live period.now) (slice_get leaf.legs i) false) }
     {
         i < self.len() && is_live_in(part(&self.payload.bytes, 16 + 80 * i, 80), period)
+    }
+
+    /// Whether there is a leg `i` and its box meets a rectangle in the plane, by its two positions alone.
+    pub fn is_near(&self, i: usize, rect: &Rect) -> bool
+        ensures { OfLeaf self.now (λ leaf. result
+            ≡ option_map_or (is_near rect.now) (slice_get leaf.legs i) false) }
+    {
+        i < self.len() && is_near_in(part(&self.payload.bytes, 16 + 80 * i, 80), rect)
     }
 }
 

@@ -10,6 +10,8 @@ use Rattle.legs.specs.Boxes.{RectView, box_over, everything}
 use Rattle.legs.specs.Book.{feature_of}
 use Rattle.legs.specs.Law.{IsThere}
 use Rattle.legs.specs.Limits.{most}
+use Rattle.legs.specs.Sieves.{IsSieved}
+use Rattle.legs.specs.declared.sieve.Sieve.{Sieve}
 use Rattle.legs.specs.Questions.{Question, InBox, OfFeature}
 use Rattle.legs.specs.Tracks.{IsOver}
 use Rattle.legs.specs.declared.head.BookHead.{BookHead}
@@ -54,6 +56,10 @@ module _ {I : Type 0} (g : Ghosts I) (core : CoreView I) where
   -- the legs of a feature that are live in a period: none of one whose last leg ends before it, else what the index tells
   abbrev pub AreLive : PeriodView → ℕ → List LegView → Type 0
   AreLive period feature legs = (IsOver core.tracks feature period × (legs ≡ [])) ⊎ g.tells core.index (OfFeature feature (Some period)) legs
+
+  -- what a sieve keeps of them
+  abbrev pub AreSievedLive : Sieve → PeriodView → ℕ → List LegView → Type 0
+  AreSievedLive sieve period feature legs = (all : List LegView) × AreLive period feature all × IsSieved sieve period all legs
 
   -- P is so exactly where a predicate holds for them
   abbrev pub HoldsLive : Predicate → RectView → PeriodView → ℕ → Type 0 → Type 0

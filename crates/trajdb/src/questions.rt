@@ -7,9 +7,9 @@ use crate::RunFault;
 use crate::answer::{ok_text, refusal_text};
 use crate::database::Core;
 use crate::start::Start;
-use legs::{BookHead, Box3, Leg, Rect};
+use legs::{BookHead, Box3, Leg, Rect, Sieve};
 use mfcsv::Dimension;
-use predicates::{Predicate, holds, search_box};
+use predicates::{Predicate, holds, search_box, sieve};
 use std::alloc::{AllocError, Global};
 use std::slice;
 use timebase::{Ms, Period};
@@ -49,8 +49,9 @@ impl<I: Start> Core<I> {
     ghost use Rattle.predicates.specs.Near.{box_near};
     ghost use Rattle.legs.specs.Law.{IsThere};
     ghost use Rattle.legs.specs.Questions.{InBox, OfFeature};
+    ghost use Rattle.legs.specs.Sieves.{IsSieved};
     ghost use Rattle.trajdb.specs.Database.{IsSound};
-    ghost use Rattle.trajdb.specs.Telling.{AreLive, ArePickedOf, AreToldOf, DeniesFile, DeniesLegs, DeniesSome, DeniesTrack, HoldsLive, IsToldFeatures, IsToldFile, IsToldLegs, IsToldPicks, IsToldTrack, Names, PicksLive};
+    ghost use Rattle.trajdb.specs.Telling.{ArePickedOf, AreSievedLive, AreToldOf, DeniesFile, DeniesLegs, DeniesSome, DeniesTrack, HoldsLive, IsToldFeatures, IsToldFile, IsToldLegs, IsToldPicks, IsToldTrack, Names, PicksLive};
     ghost use Rattle.trajdb.specs.Calls.{IsText, IsRefused, Leaves, Asks, AsksAtMost, KnowsEach, KnowsOf, KnowsTrack, features_bound, known_features_bound, track_asks, write_asks};
 
     /// How legs are written.
@@ -174,17 +175,19 @@ impl<I: Start> Core<I> {
         Ok(holding(alloc, near.as_slice(), predicate, rect, period)?)
     }
 
-    /// The legs of a feature that have a moment in a period. Nothing is asked for a feature whose last leg ends
-    /// before the period.
+    /// What a sieve keeps of the legs of a feature that have a moment in a period. Nothing is asked for a feature
+    /// whose last leg ends before the period.
     fn live_legs(
         &mut self,
         alloc: Global,
         feature: u32,
         period: &Period,
+        sieve: &Sieve,
     ) -> Result<Vec<Leg>, RunFault>
-        ensures found { IfOk result (λ legs. IsSound I.Listed self.old
-            → legs.items ≡ live_legs_of feature period.now self.old.book.legs) }
-        ensures says { IfOk result (λ legs. AreLive I.Listed self.old period.now feature legs.items) }
+        ensures found { IfOk result (λ legs. IsSound I.Listed self.old → IsSieved sieve.now period.now
+            (live_legs_of feature period.now self.old.book.legs) legs.items) }
+        ensures says { IfOk result (λ legs. AreSievedLive I.Listed self.old
+            sieve.now period.now feature legs.items) }
         ensures named { IfErr result (Names I.Listed self.old
             (λ page. I.denies self.old.index (OfFeature feature (Some period.now)) page)) }
         ensures asks { OnOk result (AsksAtMost I.Listed self.old self.new
@@ -199,7 +202,7 @@ impl<I: Start> Core<I> {
         if self.tracks.is_over(feature, period) {
             return Ok(Vec::new(alloc));
         }
-        Ok(self.index.track_in(feature, period)?)
+        Ok(self.index.track_in(feature, period, sieve)?)
     }
 
     /// Whether a predicate holds for the whole list of legs of a feature.
@@ -227,7 +230,8 @@ impl<I: Start> Core<I> {
         ensures leaves { Leaves I.Listed self.old self.new }
         ensures refused { IfErr result (IsRefused I.Listed self.old self.new) }
     {
-        let legs = self.live_legs(alloc, feature, period)?;
+        let wanted = sieve(predicate, rect);
+        let legs = self.live_legs(alloc, feature, period, &wanted)?;
         Ok(holds(predicate, legs.as_slice(), rect, period))
     }
 

@@ -4,10 +4,10 @@ use Rattle.tbnode.specs.Form.{node_of}
 use Rattle.chains.proofs.GroupLemmas.{some_none}
 use Rattle.chains.proofs.again.take_node.Goals as goal
 
-pub returns-in_err-push_kept-clause-caused : goal.returns-in_err-push_kept-clause-caused
-returns-in_err-push_kept-clause-caused c = λ old new.
+pub returns-in_err-take_of-clause-caused : goal.returns-in_err-take_of-clause-caused
+returns-in_err-take_of-clause-caused c = λ old new.
     let p = err_from_is_err_and c.from_residual.result c.from_residual.ensures.1 in
-    rw (p.1, p.2) (c.in_err-push_kept.ensures.caused old new)
+    rw (p.1, p.2) (c.in_err-take_of.ensures.caused old new)
 
 pub returns-in-None-clause-named : goal.returns-in-None-clause-named
 returns-in-None-clause-named c = λ view e.

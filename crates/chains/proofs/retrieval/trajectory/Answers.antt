@@ -4,7 +4,6 @@ use Rattle.std.specs.Int.{div_ceil}
 use Rattle.std.proofs.lemmas.List.{reverse-reverse}
 use Rattle.std.proofs.lemmas.Result.{err_from_is_err_and}
 use Rattle.tbtree.specs.Nodes.{pages_of_cache}
-use Rattle.chains.specs.Chains.{chain_legs}
 use Rattle.chains.proofs.FaultLemmas.{allowed_of, whole_from, whole_to}
 use Rattle.chains.proofs.PlaceLemmas.{whole_chain, whole_walk, whole_cost, walked_all}
 use Rattle.chains.proofs.ReachLemmas.{reach_any}
@@ -27,8 +26,8 @@ returns-clause-found g c = λ fa legs f h.
     let shape = c.args.shape.now in
     let place = c.args.place.now in
     let some : 0 < shape.leaf = let least = c.walk_back.ensures.shape.least_leaf in omega (arith, least) in
-    c.reverse.ensures.items ∙ ap reverse (c.in_ok-found.ensures.found fa)
-    ∙ reverse-reverse (chain_legs nodes None shape place)
+    let taken = c.in_ok-found.ensures.found fa in
+    c.reverse.ensures.items ∙ ap reverse taken.1 ∙ reverse-reverse taken.0 ∙ taken.2
     ∙ whole_walk nodes shape place f legs some h
 
 pub returns-clause-asked : goal.returns-clause-asked
@@ -45,7 +44,8 @@ returns-clause-asked g c = λ fa legs f h below.
 
 pub returns-clause-legs : goal.returns-clause-legs
 returns-clause-legs g c = λ fa.
-    c.reverse.ensures.items ∙ ap reverse (c.in_ok-found.ensures.found fa) ∙ reverse-reverse (chain_legs (pages_of_cache c.args.cache.now) None c.args.shape.now c.args.place.now)
+    let taken = c.in_ok-found.ensures.found fa in
+    c.reverse.ensures.items ∙ ap reverse taken.1 ∙ reverse-reverse taken.0 ∙ taken.2
 
 pub returns-in_err-found-clause-only : goal.returns-in_err-found-clause-only
 returns-in_err-found-clause-only g c = λ fa h.

@@ -1,14 +1,16 @@
-use Rattle.std.proofs.Common.{◌<◌, ap, ◌∙◌, arith, Some}
+use Rattle.std.proofs.Common.{◌<◌, ap, refl, ◌∙◌, arith, Some}
 use Rattle.std.specs.Prelude.{reverse}
 use Rattle.std.proofs.lemmas.List.{reverse-reverse}
 use Rattle.std.proofs.lemmas.Result.{err_from_is_err_and}
+use Rattle.legs.specs.Index.{live_legs_of}
 use Rattle.tbtree.specs.Nodes.{pages_of_cache}
-use Rattle.chains.specs.Chains.{chain_legs, last_link}
+use Rattle.chains.specs.Chains.{last_link}
 use Rattle.chains.proofs.PeriodLemmas.{live_walk, few_walked}
 use Rattle.chains.proofs.FaultLemmas.{allowed_of, whole_from, whole_to}
 use Rattle.chains.proofs.PlaceLemmas.{whole_chain}
 use Rattle.std.specs.Int.{div_ceil}
 use Rattle.chains.proofs.ReachLemmas.{few_met, reach_later}
+use Rattle.chains.proofs.SieveLemmas.{sieved_by}
 use Rattle.chains.proofs.SpanLemmas.{known_few}
 use Rattle.chains.proofs.retrieval.trajectory_in.Goals as goal
 
@@ -29,9 +31,10 @@ returns-clause-found g c = λ fa legs f h.
     let place = c.args.place.now in
     let period = c.args.period.now in
     let some : 0 < shape.leaf = let least = c.walk_back.ensures.shape.least_leaf in omega (arith, least) in
-    c.reverse.ensures.items ∙ ap reverse (c.in_ok-found.ensures.found fa)
-    ∙ reverse-reverse (chain_legs (pages_of_cache old) (Some period) shape place)
-    ∙ live_walk old shape place f legs some h period
+    let taken = c.in_ok-found.ensures.found fa in
+    sieved_by c.args.sieve.now period _ (live_legs_of f period legs) taken.0 c.reverse.new.self.items
+    (live_walk old shape place f legs some h period)
+    (c.reverse.ensures.items ∙ ap reverse taken.1 ∙ reverse-reverse taken.0) taken.2
 
 pub returns-clause-asked : goal.returns-clause-asked
 returns-clause-asked g c = λ fa legs f h.
@@ -45,8 +48,9 @@ returns-clause-asked g c = λ fa legs f h.
 
 pub returns-clause-legs : goal.returns-clause-legs
 returns-clause-legs g c = λ fa.
-    c.reverse.ensures.items ∙ ap reverse (c.in_ok-found.ensures.found fa)
-    ∙ reverse-reverse (chain_legs (pages_of_cache c.args.cache.now) (Some c.args.period.now) c.args.shape.now c.args.place.now)
+    let taken = c.in_ok-found.ensures.found fa in
+    sieved_by c.args.sieve.now c.args.period.now _ _ taken.0 c.reverse.new.self.items refl
+    (c.reverse.ensures.items ∙ ap reverse taken.1 ∙ reverse-reverse taken.0) taken.2
 
 pub returns-in_err-found-clause-only : goal.returns-in_err-found-clause-only
 returns-in_err-found-clause-only g c = λ fa h.

@@ -1,6 +1,4 @@
-use Rattle.std.proofs.Common.{rules, ◌≡◌, ◌+◌, ◌-◌, suc, arith, ap, subst, sym, ◌∙◌, ◌++◌, drop, slice_get, Some, None}
-use Rattle.std.specs.Prelude.{reverse}
-use Rattle.std.proofs.lemmas.List.{append-nil}
+use Rattle.std.proofs.Common.{rules, ◌≡◌, ◌+◌, ◌-◌, suc, arith, ap, subst, sym, ◌∙◌, drop, slice_get, Some, None}
 use Rattle.std.proofs.lemmas.Result.{err_from_is_err_and}
 use Rattle.tbtree.specs.Nodes.{pages_of_cache}
 use Rattle.std.specs.Int.{div_ceil}
@@ -12,14 +10,14 @@ use Rattle.chains.proofs.WalkLemmas.{linked_by}
 use Rattle.chains.specs.Links.{fits, is_end, link_back, spot_of}
 use Rattle.chains.specs.Taking.{fault_at}
 use Rattle.chains.proofs.ReadLemmas.{reads_trans}
-use Rattle.chains.proofs.StepLemmas.{same_at, goes_on, ends, found_on, found_end, asked_on, asked_end, fault_on, fault_end, fault_stops, fault_before, named_after}
+use Rattle.chains.proofs.StepLemmas.{IsFound, found_all, same_at, goes_on, ends, found_on, found_end, asked_on, asked_end, fault_on, fault_end, fault_stops, fault_before, named_after}
 use Rattle.chains.proofs.retrieval.walk_back.Goals as goal
 
 pub leaves-preserved : goal.leaves-preserved
 leaves-preserved g c =
     let old = c.args.cache.now in
     let nodes = pages_of_cache old in
-    let period = c.args.period.now in
+    let period = c.args.want.now.period in
     let shape = c.args.shape.now in
     let legs = c.args.place.now.legs in
     let first = c.args.place.now.first in
@@ -46,8 +44,9 @@ leaves-preserved g c =
           let t = c.in_ok-back.ensures.taken (inv.reads.store.faithful ∙ fa) in
           let is = sym (same_at old c.leaves.cache inv.reads fa link.page) ∙ t.is in
           let s = goes_on (is_end period t.leaf.legs) c.in-Some.back (link_back link.page t.leaf) (sym c.in-Some.is ∙ t.takes.link) in
-          ap (λ b. c.step.new.found.items ++ reverse (walk nodes period rest b.page)) s.1
-          ∙ found_on nodes period link t.leaf is rest n less c.leaves.found.items c.step.new.found.items _ s.0 t.takes.legs (inv.found fa);
+          let whole = walk nodes period blocks c.args.place.now.last in
+          subst (λ b. IsFound nodes period c.args.want.now.sieve rest b.page whole c.step.new.found.items) (sym s.1)
+          (found_on nodes period link t.leaf is rest n less c.args.want.now.sieve c.leaves.found.items c.step.new.found.items whole s.0 t.takes.legs (inv.found fa));
       fault = λ fa.
           let t = c.in_ok-back.ensures.taken (inv.reads.store.faithful ∙ fa) in
           let is = sym (same_at old c.leaves.cache inv.reads fa link.page) ∙ t.is in
@@ -118,7 +117,7 @@ returns-in_err-back-clause-named g c = λ fa.
     let spot : spot_of c.from-most.result place.legs place.first rest ≡ spot_of shape.leaf place.legs place.first rest = ap (λ m. spot_of m place.legs place.first rest) most in
     let same = ap (λ s. fault_at (pages_of_cache old) link s) (sym spot) ∙ fault_before old c.leaves.cache link (spot_of c.from-most.result place.legs place.first rest) inv.reads fa in
     rw (p.1, p.2) (named_after old c.leaves.cache _ _ _ inv.reads fa
-    (λ q s. sym (inv.fault fa) ∙ fault_stops (pages_of_cache old) c.args.period.now shape.leaf place.legs place.first rest c.leaves.left link q less (same ∙ s))
+    (λ q s. sym (inv.fault fa) ∙ fault_stops (pages_of_cache old) c.args.want.now.period shape.leaf place.legs place.first rest c.leaves.left link q less (same ∙ s))
     (c.in_err-back.ensures.named (inv.reads.store.faithful ∙ fa)))
 
 pub returns-in_default-clause-found : goal.returns-in_default-clause-found
@@ -129,8 +128,8 @@ returns-in_default-clause-found g c = λ fa.
     let less : c.leaves.left ≡ suc (c.leaves.left - 1) = omega (arith, c.leaves-test.true) in
     let t = c.in_ok-back.ensures.taken (inv.reads.store.faithful ∙ fa) in
     let is = sym (same_at old c.leaves.cache inv.reads fa link.page) ∙ t.is in
-    let s = ends (is_end c.args.period.now t.leaf.legs) (link_back link.page t.leaf) (sym c.in_default.is ∙ t.takes.link) in
-    found_end (pages_of_cache old) c.args.period.now link t.leaf is (c.leaves.left - 1) c.leaves.left less c.leaves.found.items c.step.new.found.items _ s t.takes.legs (inv.found fa)
+    let s = ends (is_end c.args.want.now.period t.leaf.legs) (link_back link.page t.leaf) (sym c.in_default.is ∙ t.takes.link) in
+    found_end (pages_of_cache old) c.args.want.now.period link t.leaf is (c.leaves.left - 1) c.leaves.left less c.args.want.now.sieve c.leaves.found.items c.step.new.found.items _ s t.takes.legs (inv.found fa)
 
 pub returns-in_default-clause-whole : goal.returns-in_default-clause-whole
 returns-in_default-clause-whole g c = λ fa.
@@ -145,15 +144,15 @@ returns-in_default-clause-whole g c = λ fa.
     let spot : spot_of c.from-most.result place.legs place.first rest ≡ spot_of shape.leaf place.legs place.first rest = ap (λ m. spot_of m place.legs place.first rest) most in
     let t = c.in_ok-back.ensures.taken (inv.reads.store.faithful ∙ fa) in
     let is = sym (same_at old c.leaves.cache inv.reads fa link.page) ∙ t.is in
-    let s = ends (is_end c.args.period.now t.leaf.legs) (link_back link.page t.leaf) (sym c.in_default.is ∙ t.takes.link) in
+    let s = ends (is_end c.args.want.now.period t.leaf.legs) (link_back link.page t.leaf) (sym c.in_default.is ∙ t.takes.link) in
     let fit = ap (λ p. fits t.leaf link p) (sym spot) ∙ t.fit in
-    sym (inv.fault fa) ∙ fault_end (pages_of_cache old) c.args.period.now link t.leaf is rest c.leaves.left less shape.leaf place.legs place.first t.above fit s
+    sym (inv.fault fa) ∙ fault_end (pages_of_cache old) c.args.want.now.period link t.leaf is rest c.leaves.left less shape.leaf place.legs place.first t.above fit s
 
 pub returns-in_default-clause-asked : goal.returns-in_default-clause-asked
 returns-in_default-clause-asked g c = λ fa below.
     let old = c.args.cache.now in
     let nodes = pages_of_cache old in
-    let period = c.args.period.now in
+    let period = c.args.want.now.period in
     let link = c.leaves.link in
     let rest = c.leaves.left - 1 in
     let inv = c.leaves.invariant in
@@ -173,7 +172,7 @@ pub returns-in_default-clause-few : goal.returns-in_default-clause-few
 returns-in_default-clause-few g c = λ fa.
     let old = c.args.cache.now in
     let nodes = pages_of_cache old in
-    let period = c.args.period.now in
+    let period = c.args.want.now.period in
     let link = c.leaves.link in
     let rest = c.leaves.left - 1 in
     let inv = c.leaves.invariant in
@@ -214,7 +213,7 @@ returns-clause-asked g c = λ fa below.
     let inv = c.leaves.invariant in
     let none : c.leaves.left ≡ 0 = omega (arith, c.leaves-test.false) in
     let all = inv.asked fa below in
-    let no_more = ap (λ n. walked_by nodes c.args.period.now (drop c.leaves.passed c.leaves.spans.items) n c.leaves.link.page) none ∙ cost_none nodes c.args.period.now (drop c.leaves.passed c.leaves.spans.items) c.leaves.link.page in
+    let no_more = ap (λ n. walked_by nodes c.args.want.now.period (drop c.leaves.passed c.leaves.spans.items) n c.leaves.link.page) none ∙ cost_none nodes c.args.want.now.period (drop c.leaves.passed c.leaves.spans.items) c.leaves.link.page in
     omega (arith, all, no_more)
 
 pub returns-in_default-clause-within : goal.returns-in_default-clause-within
@@ -225,9 +224,9 @@ returns-in_default-clause-within g c = λ fa.
     let less : c.leaves.left ≡ suc (c.leaves.left - 1) = omega (arith, c.leaves-test.true) in
     let t = c.in_ok-back.ensures.taken (inv.reads.store.faithful ∙ fa) in
     let is = sym (same_at old c.leaves.cache inv.reads fa link.page) ∙ t.is in
-    let s = ends (is_end c.args.period.now t.leaf.legs) (link_back link.page t.leaf) (sym c.in_default.is ∙ t.takes.link) in
+    let s = ends (is_end c.args.want.now.period t.leaf.legs) (link_back link.page t.leaf) (sym c.in_default.is ∙ t.takes.link) in
     let so_far = inv.within fa in
-    let last = asked_end (pages_of_cache old) c.args.period.now link t.leaf is (c.leaves.left - 1) c.leaves.left less s in
+    let last = asked_end (pages_of_cache old) c.args.want.now.period link t.leaf is (c.leaves.left - 1) c.leaves.left less s in
     omega (arith, c.step.ensures.most, so_far, last)
 
 pub step-requires-clause-known : goal.step-requires-clause-known
@@ -244,16 +243,13 @@ step-requires-clause-known g c = λ fa.
 
 pub returns-clause-found : goal.returns-clause-found
 returns-clause-found g c = λ fa.
-    let nodes = pages_of_cache c.args.cache.now in
-    let inv = c.leaves.invariant in
-    let none : c.leaves.left ≡ 0 = omega (arith, c.leaves-test.false) in
-    sym (append-nil c.leaves.found.items) ∙ sym (ap (λ n. c.leaves.found.items ++ reverse (walk nodes c.args.period.now n c.leaves.link.page)) none) ∙ inv.found fa
+    found_all (pages_of_cache c.args.cache.now) c.args.want.now.period c.args.want.now.sieve c.leaves.left c.leaves.link.page _ c.leaves.found.items (omega (arith, c.leaves-test.false)) (c.leaves.invariant.found fa)
 
 pub returns-in_default-clause-recalls : goal.returns-in_default-clause-recalls
 returns-in_default-clause-recalls g c = λ fa.
     let old = c.args.cache.now in
     let nodes = pages_of_cache old in
-    let period = c.args.period.now in
+    let period = c.args.want.now.period in
     let place = c.args.place.now in
     let link = c.leaves.link in
     let rest = c.leaves.left - 1 in
@@ -268,7 +264,7 @@ pub returns-clause-recalls : goal.returns-clause-recalls
 returns-clause-recalls g c = λ fa.
     let place = c.args.place.now in
     let none : c.leaves.left ≡ 0 = omega (arith, c.leaves-test.false) in
-    reached_all (pages_of_cache c.args.cache.now) c.args.period.now (div_ceil place.legs c.args.shape.now.leaf) place.last c.leaves.passed c.leaves.spans.items c.leaves.left c.leaves.link.page none (c.leaves.invariant.reached fa)
+    reached_all (pages_of_cache c.args.cache.now) c.args.want.now.period (div_ceil place.legs c.args.shape.now.leaf) place.last c.leaves.passed c.leaves.spans.items c.leaves.left c.leaves.link.page none (c.leaves.invariant.reached fa)
 
 pub returns-in_err-back-clause-learns : goal.returns-in_err-back-clause-learns
 returns-in_err-back-clause-learns g c = λ fa.

@@ -1,7 +1,7 @@
-use Rattle.std.proofs.Common.{◌≡◌, ◌∙◌, sym, ap, subst, List, [], ◌∷◌, Some}
+use Rattle.std.proofs.Common.{◌∙◌, sym, ap, subst, List, [], ◌∷◌, Some}
 use Rattle.legs.specs.Legs.{LegView}
 use Rattle.predicates.specs.Courses.{IsCourse, both_of}
-use Rattle.predicates.specs.Predicates.{last_live}
+use Rattle.legs.specs.Sieves.{last_live}
 use Rattle.predicates.proofs.courses.course_of_ends.Goals as goal
 
 pub returns-in-Some-last_live : goal.returns-in-Some-last_live

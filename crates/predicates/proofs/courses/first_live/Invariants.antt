@@ -1,7 +1,7 @@
 use Rattle.std.proofs.Common.{◌≡◌, drop}
 use Rattle.std.specs.List.{find}
 use Rattle.legs.specs.Legs.{is_live}
-use Rattle.predicates.specs.Predicates.{first_live}
+use Rattle.legs.specs.Sieves.{first_live}
 use Rattle.predicates.proofs.courses.first_live.Given as goal
 
 -- the first one is among those that are left

@@ -2,7 +2,7 @@ use Rattle.std.proofs.Common.{◌≡◌, ◌≤◌, length, take}
 use Rattle.std.specs.List.{find}
 use Rattle.std.specs.Prelude.{reverse}
 use Rattle.legs.specs.Legs.{is_live}
-use Rattle.predicates.specs.Predicates.{last_live}
+use Rattle.legs.specs.Sieves.{last_live}
 use Rattle.predicates.proofs.courses.last_live.Given as goal
 
 -- the last one is among those that are left

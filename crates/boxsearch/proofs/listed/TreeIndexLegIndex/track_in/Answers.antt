@@ -4,33 +4,36 @@ use Rattle.timebase.specs.Period.{PeriodView}
 use Rattle.boxsearch.specs.Known.{KnowsBackTo}
 use Rattle.boxsearch.proofs.AnswerLemmas.{each_value}
 use Rattle.boxsearch.proofs.KnowsLemmas.{known_back, learned, le_then, ok_all, ok_two, recalled}
-use Rattle.legs.specs.Asking.{Denies, Leaves, Refusals}
+use Rattle.legs.specs.Asking.{Denies, Leaves, Refusals, TellsSieved}
+use Rattle.legs.specs.Sieves.{IsSieved, sieved_same}
 use Rattle.legs.specs.Questions.{OfFeature}
 use Rattle.legs.specs.Costs.{RisesAtMost, known_bound, track_in_bound}
 use Rattle.legs.specs.Index.{live_legs_of}
 use Rattle.legs.specs.Legs.{is_live}
 use Rattle.boxsearch.specs.Answers.{answered, of_chain}
-use Rattle.boxsearch.specs.Index.{IndexView, words, content, tells, IsSound}
+use Rattle.boxsearch.specs.Index.{IndexView, words, content, IsSound}
 use Rattle.boxsearch.proofs.IndexLemmas.{reads_leave}
 use Rattle.boxsearch.proofs.KnownLemmas.{known_after, known_of, of_answer}
 use Rattle.tbtree.specs.Nodes.{pages_of_cache}
 use Rattle.chains.specs.Spans.{IsKnown, IsKnownBackTo}
 use Rattle.boxsearch.proofs.ResultLemmas.{on_ok}
-use Rattle.boxsearch.proofs.TellLemmas.{none_told, track_told}
+use Rattle.boxsearch.proofs.TellLemmas.{none_sieved, track_sieved}
 use Rattle.boxsearch.proofs.TrackLemmas.{absent, has_feature, rises_capped_most, track_asked, track_found, track_refusals}
 use Rattle.boxsearch.proofs.listed.TreeIndexLegIndex.track_in.Goals as goal
 
 pub returns-in_default-clause-found : goal.returns-in_default-clause-found
-returns-in_default-clause-found g c = λ s. c.new.ensures.items ∙ sym (ap (filter (is_live c.args.period.now)) (absent c.args.self.now c.args.feature s (sym c.place.ensures ∙ c.in_default.is)))
+returns-in_default-clause-found g c = λ s.
+    sieved_same c.args.sieve.now c.args.period.now (live_legs_of c.args.feature c.args.period.now (content c.args.self.now)) c.new.result.items
+    (c.new.ensures.items ∙ sym (ap (filter (is_live c.args.period.now)) (absent c.args.self.now c.args.feature s (sym c.place.ensures ∙ c.in_default.is))))
 
 pub returns-clause-found : goal.returns-clause-found
 returns-clause-found g c =
     let inside : IndexView = record { cache = c.self.inside.cache; tree = c.self.inside.tree; places = c.self.inside.places.items; legs = c.self.inside.legs; known = map (λ spans. spans.items) c.self.inside.known.items } in
     let f = c.args.feature in
     let at : slice_get inside.places f ≡ Some c.in-Some.place = ap (λ (i : IndexView). slice_get i.places f) c.self.view_is ∙ sym c.place.ensures ∙ c.in-Some.is in
-    subst (λ i. IfOk c.retrieval.result (λ legs. IsSound i → legs.items ≡ live_legs_of f c.args.period.now (content i))) c.self.view_is
-    (subst (λ r. IfOk r (λ legs. IsSound inside → legs.items ≡ live_legs_of f c.args.period.now (content inside))) (sym c.retrieval.ensures)
-    (track_found inside f c.in-Some.place c.trajectory_in.new.cache c.trajectory_in.result at (λ legs feature v. v.items ≡ live_legs_of feature c.args.period.now legs) c.trajectory_in.ensures.found))
+    subst (λ i. IfOk c.retrieval.result (λ legs. IsSound i → IsSieved c.args.sieve.now c.args.period.now (live_legs_of f c.args.period.now (content i)) legs.items)) c.self.view_is
+    (subst (λ r. IfOk r (λ legs. IsSound inside → IsSieved c.args.sieve.now c.args.period.now (live_legs_of f c.args.period.now (content inside)) legs.items)) (sym c.retrieval.ensures)
+    (track_found inside f c.in-Some.place c.trajectory_in.new.cache c.trajectory_in.result at (λ legs feature v. IsSieved c.args.sieve.now c.args.period.now (live_legs_of feature c.args.period.now legs) v.items) c.trajectory_in.ensures.found))
 
 pub returns-clause-asks : goal.returns-clause-asks
 returns-clause-asks g c =
@@ -57,19 +60,19 @@ returns-clause-refusals g c =
     let works : inside.tree.spent ≡ false = c.if-self.false in
     subst (λ i. Refusals words i new c.retrieval.result) c.self.view_is
     (subst (λ r. Refusals words inside new r) (sym c.retrieval.ensures)
-    (track_refusals inside f c.in-Some.place c.trajectory_in.new.cache c.trajectory_in.result at (map (λ spans. spans.items) (set c.make_room.new.known.items c.args.feature c.trajectory_in.new.spans)) (λ legs feature v. v.items ≡ live_legs_of feature c.args.period.now legs) works c.trajectory_in.ensures.found c.trajectory_in.ensures.caused))
+    (track_refusals inside f c.in-Some.place c.trajectory_in.new.cache c.trajectory_in.result at (map (λ spans. spans.items) (set c.make_room.new.known.items c.args.feature c.trajectory_in.new.spans)) (λ legs feature v. IsSieved c.args.sieve.now c.args.period.now (live_legs_of feature c.args.period.now legs) v.items) works c.trajectory_in.ensures.found c.trajectory_in.ensures.caused))
 
 pub returns-in_default-clause-told : goal.returns-in_default-clause-told
-returns-in_default-clause-told g c = none_told c.args.self.now c.args.feature (Some c.args.period.now) c.new.result.items (sym c.place.ensures ∙ c.in_default.is) c.new.ensures.items
+returns-in_default-clause-told g c = none_sieved c.args.self.now c.args.self.now.cache c.args.feature c.args.period.now c.args.sieve.now c.new.result.items (sym c.place.ensures ∙ c.in_default.is) c.new.ensures.items
 
 pub returns-clause-told : goal.returns-clause-told
 returns-clause-told g c =
     let inside : IndexView = record { cache = c.self.inside.cache; tree = c.self.inside.tree; places = c.self.inside.places.items; legs = c.self.inside.legs; known = map (λ spans. spans.items) c.self.inside.known.items } in
     let f = c.args.feature in
     let at : slice_get inside.places f ≡ Some c.in-Some.place = ap (λ (i : IndexView). slice_get i.places f) c.self.view_is ∙ sym c.place.ensures ∙ c.in-Some.is in
-    subst (λ i. MatchResult c.retrieval.result (λ legs. tells i (OfFeature f (Some c.args.period.now)) legs.items) (λ fault. Denies words i (OfFeature f (Some c.args.period.now)) fault)) c.self.view_is
-    (subst (λ r. MatchResult r (λ legs. tells inside (OfFeature f (Some c.args.period.now)) legs.items) (λ fault. Denies words inside (OfFeature f (Some c.args.period.now)) fault)) (sym c.retrieval.ensures)
-    (track_told inside c.trajectory_in.new.cache f (Some c.args.period.now) c.in-Some.place at (λ legs. legs.items) c.trajectory_in.result c.trajectory_in.ensures.chain c.trajectory_in.ensures.legs c.trajectory_in.ensures.named c.trajectory_in.ensures.caused))
+    subst (λ i. MatchResult c.retrieval.result (λ legs. TellsSieved words i f c.args.period.now c.args.sieve.now legs.items) (λ fault. Denies words i (OfFeature f (Some c.args.period.now)) fault)) c.self.view_is
+    (subst (λ r. MatchResult r (λ legs. TellsSieved words inside f c.args.period.now c.args.sieve.now legs.items) (λ fault. Denies words inside (OfFeature f (Some c.args.period.now)) fault)) (sym c.retrieval.ensures)
+    (track_sieved inside c.trajectory_in.new.cache f c.args.period.now c.args.sieve.now c.in-Some.place at (λ legs. legs.items) c.trajectory_in.result c.trajectory_in.ensures.chain c.trajectory_in.ensures.legs c.trajectory_in.ensures.named c.trajectory_in.ensures.caused))
 
 pub trajectory_in-requires : goal.trajectory_in-requires
 trajectory_in-requires g c =

@@ -1,0 +1,12 @@
+use Rattle.std.proofs.Common.{◌≡◌, ◌≤◌, ◌-◌, [], take, length}
+use Rattle.std.specs.Prelude.{filter}
+use Rattle.legs.specs.Legs.{is_live}
+use Rattle.tbnode.specs.Form.{OfLeaf}
+use Rattle.chains.proofs.kept.first_live.Given as goal
+
+abbrev pub decreases-legs : goal.decreases-legs
+decreases-legs l = l.len - l.i
+
+-- none of the legs before i is live
+abbrev pub invariant-legs : goal.invariant-legs
+invariant-legs l = OfLeaf l.leaf (λ view. (l.i ≤ length view.legs) × (l.len ≡ length view.legs) × (filter (is_live l.period) (take l.i view.legs) ≡ []))
