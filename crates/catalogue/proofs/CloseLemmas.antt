@@ -27,19 +27,18 @@ use Rattle.boxsearch.specs.Index.{content, IndexView, IsMarked, IsSound, IsUnfin
 use Rattle.catalogue.specs.Closing.{IsNoStoreFault}
 use Rattle.catalogue.specs.Finishing.{finished, Finishes, IsNotFinished, IsUnwrittenHeader, SaysUnfinished}
 use Rattle.catalogue.specs.Holding.{index_over, HoldsBook, IsOfBook, IsUnfinishedStore}
-use Rattle.catalogue.specs.Lasting.{payload_fault, tracks_of, IsKept, IsLawful, IsLawfulFeature, IsWithin, Says}
-use Rattle.catalogue.specs.Saved.{CatalogueView, KeepsFront}
-use Rattle.catalogue.specs.Saving.{contents_of, end_of, feature_at, features_of, HasFew, IsCatalogue}
-use Rattle.catalogue.specs.Text.{IsWhole}
-use Rattle.catalogue.specs.declared.contents.Feature.{Feature}
-use Rattle.catalogue.specs.declared.fault.CatalogueFault.{CatalogueFault}
-use Rattle.catalogue.specs.declared.fault.CatalogueFault.TheVariants.{Memory, StoreFull, Damaged, Unfinished, Version, Malformed}
-use Rattle.catalogue.specs.declared.fault.CatalogueFault.TheVariants as fault
-use Rattle.catalogue.proofs.BuildLemmas.{map_range, none_some}
-use Rattle.catalogue.proofs.FinishLemmas.{finished_header, finished_says}
+use Rattle.register.specs.Lasting.{payload_fault, tracks_of, IsKept, IsLawful, IsLawfulFeature, IsWithin, Says}
+use Rattle.register.specs.Saved.{CatalogueView, KeepsFront}
+use Rattle.register.specs.Saving.{contents_of, end_of, feature_at, features_of, HasFew, IsCatalogue}
+use Rattle.register.specs.Text.{IsWhole}
+use Rattle.register.specs.declared.contents.Feature.{Feature}
+use Rattle.register.specs.declared.fault.CatalogueFault.{CatalogueFault}
+use Rattle.register.specs.declared.fault.CatalogueFault.TheVariants.{Memory, StoreFull, Damaged, Unfinished, Version, Malformed}
+use Rattle.register.specs.declared.fault.CatalogueFault.TheVariants as fault
+use Rattle.catalogue.proofs.FinishLemmas.{finished_header}
 use Rattle.catalogue.proofs.OpenLemmas.{fresh_payload}
-use Rattle.catalogue.proofs.ReaderLemmas.{some_none, some_same}
-use Rattle.catalogue.proofs.RestLemmas.{BesideLaws}
+use Rattle.catalogue.proofs.ResultLemmas.{map_range, none_some, some_none, some_same}
+use Rattle.catalogue.proofs.RestLemmas.{BesideLaws, StateLaw}
 
 map_both : {X Y Z : Type 0} (g : Y → Z) (f : X → Y) (xs : List X) → map g (map f xs) ≡ map (λ x. g (f x)) xs
 map_both g f [] = refl
@@ -236,7 +235,7 @@ module _ (a b : Cache) (m : IsMarked a) (settled : IsSettled a) (front : KeepsFr
   front_unwritten same = record { written = still_says a b m same; payload = front.payload; is = front.is; unfinished = front_unfinished }
 
 -- a saved index that is finished is held by its store
-module _ (laws : BesideLaws) (c : CatalogueView) (i : IndexView) (book : Book) (new : Cache) (sound : IsSound i) (of : IsOfBook c.limits book c) (legs : content i ≡ book.legs)
+module _ (laws : BesideLaws) (states : StateLaw) (c : CatalogueView) (i : IndexView) (book : Book) (new : Cache) (sound : IsSound i) (of : IsOfBook c.limits book c) (legs : content i ≡ book.legs)
     (lawful : IsLawful i.cache.count c i.places) (within : IsWithin i.cache.count i.tree) (says : Says (payload_of i.cache) i.cache.count c i.tree i.places) (whole : IsWhole (contents_of c i.places))
     (header : Payload) (is : payload_of i.cache 0 ≡ Some header) (unfinished : IsUnfinished header)
     (f : Finishes i.cache new) (stored : IsLawfulStore new.store) (faithful : new.store.is_faithful ≡ i.cache.store.is_faithful) where
@@ -248,7 +247,7 @@ module _ (laws : BesideLaws) (c : CatalogueView) (i : IndexView) (book : Book) (
 
   kept : IsKept (stored_payload s) s.count c i.tree i.places
   kept = subst (λ n. IsKept (stored_payload s) n c i.tree i.places) (sound.count ∙ sym f.length) (record {
-    says = finished_says (payload_of i.cache) (stored_payload s) f.header f.stored_rest f.was f.stored_first was_unfinished.kind i.cache.count c i.tree i.places says;
+    says = states (payload_of i.cache) (stored_payload s) f.header 1 f.stored_rest f.was f.stored_first was_unfinished.kind i.cache.count c i.tree i.places says;
     whole = whole;
     finished = ap payload_fault f.stored_first ∙ finished_header f.header was_unfinished;
     within = within;

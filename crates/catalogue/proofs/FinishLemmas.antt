@@ -2,7 +2,7 @@
 use Rattle.std.proofs.Common.{ℕ, ◌≡◌, ◌+◌, ◌<◌, ◌≤◌, ◌==◌, ◌&&◌, if◌then◌else◌, cond, false, List, take, drop, length, refl, sym, ap, ◌∙◌, arith, subst, IsTrue, Option, Some, None, option_and_then}
 use Rattle.std.proofs.lemmas.Bool.Decides.{nat_tests}
 use Rattle.std.proofs.lemmas.Int.{clamps}
-use Rattle.std.proofs.lemmas.List.{drop-take, length-drop, length-take, take-take}
+use Rattle.std.proofs.lemmas.List.{drop-take, length-take, take-take}
 use Rattle.byteorder.specs.Endian.{big_bytes, big_number}
 use Rattle.pages.specs.Unsealed.{unsealed}
 use Rattle.pages.specs.declared.payload.Kind.{Kind}
@@ -10,20 +10,12 @@ use Rattle.pages.specs.declared.payload.Kind.TheVariants.{Header}
 use Rattle.pages.specs.declared.payload.Payload.{Payload}
 use Rattle.pagecache.specs.Cache.{Cache, payload_of, sealed_payload, stored_payload, IsWritten, SameLength, Stays}
 use Rattle.tbnode.specs.Parts.{number_at, part}
-use Rattle.tbnode.proofs.PartLemmas.{length-big_bytes, number_at-put_before, number_at-put_same, part-put_after}
-use Rattle.tbtree.specs.declared.tree.Place.{Place}
-use Rattle.tbtree.specs.declared.tree.TbTree.{TbTree}
+use Rattle.tbnode.proofs.PartLemmas.{number_at-put_before, number_at-put_same}
 use Rattle.boxsearch.specs.Index.{unfinished_front, IsUnfinished}
-use Rattle.catalogue.specs.Fields.{HasFields}
 use Rattle.catalogue.specs.Finishing.{finished, Finishes, IsUnwrittenHeader, SaysUnfinished, SetsState}
-use Rattle.catalogue.specs.Lasting.{header_fault, is_header, state_fault, Says}
-use Rattle.catalogue.specs.Saved.{fields_for, CatalogueView}
-use Rattle.catalogue.specs.declared.fault.CatalogueFault.{CatalogueFault}
-use Rattle.catalogue.specs.declared.fault.CatalogueFault.TheVariants.{Unfinished, Version, Malformed}
-use Rattle.catalogue.specs.declared.header_fields.Fields.{Fields}
-use Rattle.catalogue.proofs.FieldsLemmas.{fields_length}
-use Rattle.catalogue.proofs.ReaderLemmas.{some_same}
-use Rattle.catalogue.proofs.HeaderTextLemmas.{same_text}
+use Rattle.register.specs.Lasting.{header_fault, is_header, state_fault}
+use Rattle.register.specs.declared.fault.CatalogueFault.{CatalogueFault}
+use Rattle.register.specs.declared.fault.CatalogueFault.TheVariants.{Unfinished, Version, Malformed}
 
 -- a header that begins as one of version 2 is judged by its state
 abbrev judged : Kind → ℕ → ℕ → ℕ → Option CatalogueFault
@@ -73,37 +65,6 @@ module _ (p : Payload) (u : IsUnfinished p) where
   finished_header =
       by_state (finished p) 1 u.kind (before 0 (omega arith) ∙ letters) (before 4 (omega arith) ∙ version)
       (number_at-put_same 4 8 1 p.bytes (omega arith) room)
-
--- what stands behind the state stays
-module _ (p : Payload) (f : Fields) (has : HasFields p f) where
-  fields_room : 8 ≤ length p.bytes
-  unfolding part
-  fields_room =
-      let l = length-take 48 (drop 12 p.bytes) in
-      let d = length-drop 12 p.bytes in
-      let k = ap (λ (x : List ℕ). length x) has.fields ∙ fields_length f in
-      omega (arith, clamps, l, d, k)
-
-  pub finished_fields : HasFields (finished p) f
-  finished_fields = record {
-    fields = part-put_after 8 (big_bytes 4 1) p.bytes 12 48 (let l = length-big_bytes 4 1 in omega (arith, l)) fields_room ∙ has.fields;
-  }
-
--- so a catalogue that pages keep is kept
-pub finished_says : (at at' : ℕ → Option Payload) (p : Payload) → ((n : ℕ) → 0 < n → at' n ≡ at n) → at 0 ≡ Some p → at' 0 ≡ Some (finished p) → p.kind ≡ Header
-    → (count : ℕ) (c : CatalogueView) (tree : TbTree) (places : List Place) → Says at count c tree places → Says at' count c tree places
-finished_says at at' p others is is' kind count c tree places s = record {
-  first = s.first;
-  length = s.length;
-  payload = finished p;
-  is = is';
-  fields = finished_fields p (fields_for c.limits c.head tree s.first s.length) (subst (λ q. HasFields q (fields_for c.limits c.head tree s.first s.length)) (some_same s.payload p (sym s.is ∙ is)) s.fields);
-  fits = s.fits;
-  shape = s.shape;
-  limits = s.limits;
-  few = s.few;
-  text = same_text at at' others p (finished p) is is' kind kind s.length s.first ∙ s.text;
-}
 
 not_first : (n : ℕ) → 0 < n → (0 == n) ≡ false
 not_first n h = grind (arith, nat_tests, h)

@@ -1,5 +1,5 @@
 -- The header of a new store.
-use Rattle.std.proofs.Common.{ℕ, ◌≡◌, ◌++◌, length, drop, refl, sym, ap, ◌∙◌, arith, List, IsTrue, Some, None, option_map, option_and_then, slice_get, Result, Ok, Err, IfOk}
+use Rattle.std.proofs.Common.{ℕ, ◌≡◌, ◌++◌, length, drop, refl, sym, ap, ◌∙◌, arith, List, IsTrue, Some, None, option_map, option_and_then, slice_get}
 use Rattle.legs.specs.Costs.{ShapeView}
 use Rattle.legs.specs.Limits.{LimitsView}
 use Rattle.pages.specs.Store.{Store, IsLawful, Writes}
@@ -22,10 +22,6 @@ header_length shape limits = refl
 pub header_unfinished : (shape : ShapeView) (limits : LimitsView) → IsUnfinished (header_payload shape limits)
 unfolding header_payload header_bytes
 header_unfinished shape limits = record { kind = refl; front = refl }
-
-pub if_ok : {T E : Type 0} (P Q : T → Type 0) (r : Result T E) → ((x : T) → P x → Q x) → IfOk r P → IfOk r Q
-if_ok P Q (Ok x) f h = f x h
-if_ok P Q (Err e) f h = tt
 
 pub payload_is : (shape : ShapeView) (limits : LimitsView) (bytes : List ℕ) (zero set : Payload) → bytes ≡ header_bytes shape limits → zero ≡ zero_payload Header → set ≡ record zero { bytes = bytes ++ drop 60 zero.bytes } → set ≡ header_payload shape limits
 unfolding header_payload zero_payload

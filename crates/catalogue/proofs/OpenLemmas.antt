@@ -15,12 +15,11 @@ use Rattle.boxsearch.specs.Index.{content, written, IndexView, IsSound}
 use Rattle.tbtree.specs.declared.tree.Place.{Place}
 use Rattle.tbtree.specs.declared.tree.TbTree.{TbTree}
 use Rattle.catalogue.specs.Holding.{index_over, payload_in, AnswersBook, HoldsBook, IsAtRest, IsOfBook}
-use Rattle.catalogue.specs.Lasting.{IsKept, IsStop, IsTrulyDamaged}
-use Rattle.catalogue.specs.declared.fault.CatalogueFault.{CatalogueFault}
-use Rattle.catalogue.specs.declared.fault.CatalogueFault.TheVariants.{Memory, StoreFull, Damaged, Unfinished, Version, Malformed}
-use Rattle.catalogue.specs.declared.fault.CatalogueFault.TheVariants as fault
-use Rattle.catalogue.specs.Saved.{CatalogueView}
-use Rattle.catalogue.proofs.SameLemmas.{kept_same, IsSame}
+use Rattle.register.specs.Lasting.{IsKept, IsSame, IsStop, IsTrulyDamaged}
+use Rattle.register.specs.declared.fault.CatalogueFault.{CatalogueFault}
+use Rattle.register.specs.declared.fault.CatalogueFault.TheVariants.{Memory, StoreFull, Damaged, Unfinished, Version, Malformed}
+use Rattle.register.specs.declared.fault.CatalogueFault.TheVariants as fault
+use Rattle.register.specs.Saved.{CatalogueView}
 
 -- all pages of a store that a cache counts are written
 pub all_pages : (c : Cache) → IsLawful c.store → c.count ≡ c.store.count → IsTrue c.store.is_faithful → pages_as_written c ≡ c.store.pages
@@ -71,6 +70,8 @@ module _ (a b : Cache) (reads : OnlyReads a b) (clean : IsWritten a) (count : a.
           → (IsTrue old.store.is_faithful → (n : ℕ) → payload_of new n ≡ payload_of old n) → IsBeside old new)
           (same_content : (i : IndexView) (k : Cache) (known : List (List LeafSpan)) → IsBeside i.cache k → content (with_cache i k known) ≡ content i)
           (same_sound : (i : IndexView) (k : Cache) (known : List (List LeafSpan)) → IsBeside i.cache k → IsSound i → IsSound (with_cache i k known))
+          (kept_same : (at : ℕ → Option Payload) (count : ℕ) (c d : CatalogueView) (tree other : TbTree) (places others : List Place) → IsKept at count c tree places → IsKept at count d other others
+          → IsSame c d tree other places others)
           (shape : ShapeView) (limits : LimitsView) (book : Book) (h : HoldsBook a.store shape limits book) where
         same : IsSame c h.catalogue tree h.tree places h.places
         same = kept_same (stored_payload a.store) a.store.count c h.catalogue tree h.tree places h.places kept_stored h.kept

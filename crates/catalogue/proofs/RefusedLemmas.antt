@@ -12,12 +12,12 @@ use Rattle.legs.specs.Book.{Book}
 use Rattle.boxsearch.specs.Index.{content, IndexView, IsSound, IsUnfinished}
 use Rattle.catalogue.specs.Finishing.{finished, Finishes, IsLaterCache}
 use Rattle.catalogue.specs.Holding.{HoldsButFirst, IsOfBook}
-use Rattle.catalogue.specs.Lasting.{IsLawful as IsLawfulCatalogue, IsWithin, Says}
-use Rattle.catalogue.specs.Saved.{CatalogueView, IsWrittenButFirst}
-use Rattle.catalogue.specs.Saving.{contents_of}
-use Rattle.catalogue.specs.Text.{IsWhole}
+use Rattle.register.specs.Lasting.{IsLawful as IsLawfulCatalogue, IsWithin, Says}
+use Rattle.register.specs.Saved.{CatalogueView, IsWrittenButFirst}
+use Rattle.register.specs.Saving.{contents_of}
+use Rattle.register.specs.Text.{IsWhole}
 use Rattle.catalogue.proofs.CloseLemmas.{closed_holds}
-use Rattle.catalogue.proofs.RestLemmas.{BesideLaws}
+use Rattle.catalogue.proofs.RestLemmas.{BesideLaws, StateLaw}
 use Rattle.catalogue.proofs.OpenLemmas.{all_pages, fresh_payload}
 
 -- where no page but page 0 is changed, no other one is written, and none more is changed
@@ -99,7 +99,7 @@ module _ (j new : Cache) (but : IsWrittenButFirst j) (faithful : IsTrue j.store.
   }
 
 -- so the store would hold the book with a page 0 that says that it is finished
-module _ (laws : BesideLaws) (c : CatalogueView) (j : IndexView) (book : Book) (new : Cache) (sound : IsSound j) (of : IsOfBook c.limits book c) (legs : content j ≡ book.legs)
+module _ (laws : BesideLaws) (states : StateLaw) (c : CatalogueView) (j : IndexView) (book : Book) (new : Cache) (sound : IsSound j) (of : IsOfBook c.limits book c) (legs : content j ≡ book.legs)
     (lawful : IsLawfulCatalogue j.cache.count c j.places) (within : IsWithin j.cache.count j.tree) (says : Says (payload_of j.cache) j.cache.count c j.tree j.places) (whole_text : IsWhole (contents_of c j.places))
     (header : Payload) (is : payload_of j.cache 0 ≡ Some header) (unfinished : IsUnfinished header)
     (but : IsWrittenButFirst j.cache) (there : 0 < j.cache.count) (later : IsLaterCache j.cache new) (stored : IsLawful new.store) (others : SameOthers j.cache new) where
@@ -109,7 +109,7 @@ module _ (laws : BesideLaws) (c : CatalogueView) (j : IndexView) (book : Book) (
       let fine = whole_lawful j.cache new but sound.faithful there sound.count later.store.faithful later.count later.length stored others header is in
       record {
         whole = finished_store new.store header;
-        holds = closed_holds laws c j book (fresh (finished_store new.store header) 1) sound of legs lawful within says whole_text header is unfinished finishes fine later.store.faithful;
+        holds = closed_holds laws states c j book (fresh (finished_store new.store header) 1) sound of legs lawful within says whole_text header is unfinished finishes fine later.store.faithful;
         count = refl;
         others = refl;
       }

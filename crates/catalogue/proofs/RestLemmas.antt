@@ -1,18 +1,22 @@
 -- A database of which no page is changed, and a store whose pages hold a book.
-use Rattle.std.proofs.Common.{ℕ, ◌≡◌, cond, List, [], ◌∷◌, map, take, length, refl, sym, ap, ◌∙◌, subst, IsTrue, Some, option_and_then, slice_get}
+use Rattle.std.proofs.Common.{ℕ, ◌≡◌, ◌<◌, cond, Option, List, [], ◌∷◌, map, take, length, refl, sym, ap, ◌∙◌, subst, IsTrue, Some, option_and_then, slice_get}
 use Rattle.std.proofs.Math.Seq.{take-length}
 use Rattle.legs.specs.Asking.{Leaves}
 use Rattle.legs.specs.Book.{Book}
 use Rattle.pages.specs.Store.{Store, IsLawful}
 use Rattle.pages.specs.Unsealed.{unsealed}
 use Rattle.pagecache.specs.Cache.{Cache, fresh, page_of, pages_as_written, payload_of, sealed_payload, stored_payload, IsSettled}
+use Rattle.pages.specs.declared.payload.Kind.TheVariants.{Header}
+use Rattle.pages.specs.declared.payload.Payload.{Payload}
 use Rattle.tbtree.specs.declared.tree.Place.{Place}
+use Rattle.tbtree.specs.declared.tree.TbTree.{TbTree}
 use Rattle.chains.specs.declared.spans.LeafSpan.{LeafSpan}
 use Rattle.boxsearch.specs.Beside.{with_cache, IsBeside}
 use Rattle.boxsearch.specs.Index.{content, found_by, place_of, words, written, IndexView, IsMarked, IsSound}
 use Rattle.catalogue.specs.Holding.{index_over, payload_in, HoldsBook, IsAtRest, IsOfBook, IsUnfinishedStore}
-use Rattle.catalogue.specs.Lasting.{IsKept}
-use Rattle.catalogue.specs.Saved.{CatalogueView}
+use Rattle.register.specs.Fields.{with_state}
+use Rattle.register.specs.Lasting.{IsKept, Says}
+use Rattle.register.specs.Saved.{CatalogueView}
 
 -- the laws of an index that are cited here
 pub record BesideLaws : Type 0 where
@@ -20,6 +24,11 @@ pub record BesideLaws : Type 0 where
   pub sound : (index : IndexView) (cache : Cache) (known : List (List LeafSpan)) → IsBeside index.cache cache → IsSound index → IsSound (with_cache index cache known)
   pub alike : (old new : Cache) → new.store.is_faithful ≡ old.store.is_faithful → new.count ≡ old.count → new.store.count ≡ old.store.count
       → (IsTrue old.store.is_faithful → (n : ℕ) → payload_of new n ≡ payload_of old n) → IsBeside old new
+
+-- and that of page 0 with another state
+abbrev pub StateLaw : Type 0
+StateLaw = (at now : ℕ → Option Payload) (header : Payload) (state : ℕ) → ((n : ℕ) → 0 < n → now n ≡ at n) → at 0 ≡ Some header → now 0 ≡ Some (with_state state header) → header.kind ≡ Header
+    → (count : ℕ) (c : CatalogueView) (tree : TbTree) (places : List Place) → Says at count c tree places → Says now count c tree places
 
 heads : {X : Type 0} (x y : X) (xs ys : List X) → x ∷ xs ≡ y ∷ ys → x ≡ y
 heads x y xs ys e = cc

@@ -9,10 +9,10 @@ use Rattle.pagecache.specs.Cache.{Cache, page_of, pages_as_written, payload_of, 
 use Rattle.tbnode.specs.Parts.{number_at}
 use Rattle.boxsearch.specs.Index.{written, IndexView, IsFinished, IsMarked, SaysState}
 use Rattle.catalogue.specs.Holding.{payload_in, IsAtRest}
-use Rattle.catalogue.specs.Lasting.{header_fault, is_header, payload_fault, state_fault}
-use Rattle.catalogue.specs.Saved.{CatalogueView}
-use Rattle.catalogue.specs.declared.fault.CatalogueFault.{CatalogueFault}
-use Rattle.catalogue.specs.declared.fault.CatalogueFault.TheVariants.{Malformed, Unfinished, Version}
+use Rattle.register.specs.Lasting.{header_fault, is_header, payload_fault, state_fault}
+use Rattle.register.specs.Saved.{CatalogueView}
+use Rattle.register.specs.declared.fault.CatalogueFault.{CatalogueFault}
+use Rattle.register.specs.declared.fault.CatalogueFault.TheVariants.{Malformed, Unfinished, Version}
 
 kind_is : (k : Kind) → is_header k ≡ true → k ≡ Header
 kind_is Header e = refl

@@ -26,14 +26,6 @@ IsLeft shape limits old new = IsFirst (header_payload shape limits) old new
 abbrev pub IsLeftOver : Store → Store → Type 0
 IsLeftOver old new = (new.pages ≡ []) ⊎ (IsUnfinishedStore new ⊎ ((new.count ≤ 1) × Faulted old new))
 
--- the refusals over a faithful store
-abbrev pub IsAllowed : CacheFault → Type 0
-IsAllowed cache.NoPage = ⊥
-IsAllowed cache.Store = Unit {0}
-IsAllowed (cache.Damaged n) = ⊥
-IsAllowed cache.StoreFull = Unit {0}
-IsAllowed cache.Memory = Unit {0}
-
 -- the store failed where that is said, and has no room for any page where that is said
 abbrev pub IsCaused : Store → Store → CacheFault → Type 0
 IsCaused old new cache.NoPage = Unit {0}

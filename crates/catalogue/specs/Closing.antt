@@ -1,8 +1,8 @@
 -- A store that is closed.
 use Rattle.std.specs.Prelude.{◌≡◌}
 use Rattle.pages.specs.Store.{Store as StoreView, Faulted}
-use Rattle.catalogue.specs.declared.fault.CatalogueFault.{CatalogueFault}
-use Rattle.catalogue.specs.declared.fault.CatalogueFault.TheVariants.{Memory, Store, StoreFull, Damaged, Unfinished, Version, Malformed}
+use Rattle.register.specs.declared.fault.CatalogueFault.{CatalogueFault}
+use Rattle.register.specs.declared.fault.CatalogueFault.TheVariants.{Memory, Store, StoreFull, Damaged, Unfinished, Version, Malformed}
 
 -- memory ran out, or the store is full: the store did not fail
 abbrev pub IsNoStoreFault : CatalogueFault → Type 0

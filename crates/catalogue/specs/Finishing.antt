@@ -1,18 +1,17 @@
 -- Helpers of private functions: what finishing makes of the pages of an index.
 use Rattle.std.specs.Prelude.{ℕ, ◌≡◌, ◌≤◌, ◌<◌, ◌-◌, ◌^◌, min, Some, IsTrue}
-use Rattle.byteorder.specs.Endian.{big_bytes}
 use Rattle.pages.specs.Store as store
 use Rattle.pages.specs.Store.{Faulted}
 use Rattle.pages.specs.declared.payload.Payload.{Payload}
 use Rattle.pagecache.specs.Cache.{Cache, payload_of, sealed_payload, stored_payload, IsClean, Lends}
 use Rattle.boxsearch.specs.Index.{IsUnfinished}
-use Rattle.tbnode.specs.Parts.{put}
-use Rattle.catalogue.specs.declared.fault.CatalogueFault.{CatalogueFault}
-use Rattle.catalogue.specs.declared.fault.CatalogueFault.TheVariants.{Memory, Store, StoreFull, Damaged, Unfinished, Version, Malformed}
+use Rattle.register.specs.Fields.{with_state}
+use Rattle.register.specs.declared.fault.CatalogueFault.{CatalogueFault}
+use Rattle.register.specs.declared.fault.CatalogueFault.TheVariants.{Memory, Store, StoreFull, Damaged, Unfinished, Version, Malformed}
 
 -- a header with the state 1, which says that the store is finished
 abbrev pub finished : Payload → Payload
-finished payload = record payload { bytes = put 8 (big_bytes 4 1) payload.bytes }
+finished payload = with_state 1 payload
 
 -- all is written, in the store too, and page 0 says besides that the store is finished
 pub record Finishes (old new : Cache) : Type 0 where
@@ -53,16 +52,6 @@ pub record SetsState (old new : Cache) : Type 0 where
   pub was : Payload
   pub before : IsTrue old.store.is_faithful → payload_of old 0 ≡ Some was
   pub lends : Lends 0 (finished was) old new
-
--- why not all is written
-abbrev pub IsNotWritten : Cache → Cache → CatalogueFault → Type 0
-IsNotWritten old new Memory = Unit {0}
-IsNotWritten old new Store = Faulted old.store new.store
-IsNotWritten old new StoreFull = ⊥
-IsNotWritten old new (Damaged page) = ⊥
-IsNotWritten old new Unfinished = ⊥
-IsNotWritten old new Version = ⊥
-IsNotWritten old new Malformed = ⊥
 
 -- why a store is not finished: the store failed where that is said
 abbrev pub IsNotFinished : Cache → Cache → CatalogueFault → Type 0

@@ -12,8 +12,8 @@ use Rattle.pagecache.specs.Cache.{fresh, stored_payload, IsClean}
 use Rattle.tbtree.specs.declared.tree.Place.{Place}
 use Rattle.tbtree.specs.declared.tree.TbTree.{TbTree}
 use Rattle.boxsearch.specs.Index.{content, written, IndexView, IsSound, IsUnfinished}
-use Rattle.catalogue.specs.Lasting.{IsKept}
-use Rattle.catalogue.specs.Saved.{CatalogueView}
+use Rattle.register.specs.Lasting.{IsKept}
+use Rattle.register.specs.Saved.{CatalogueView}
 
 -- page 0 as written is the header of a store that is not finished
 pub record IsUnfinishedStore (s : Store) : Type 0 where

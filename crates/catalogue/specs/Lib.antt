@@ -1,16 +1,5 @@
 pub mod Header
 pub mod Beginning
-pub mod Text
-pub mod Chain
-pub mod ChainWriter
-pub mod ChainSteps
-pub mod ChainReader
-pub mod Saved
-pub mod Saving
-pub mod Lasting
 pub mod Holding
 pub mod Closing
 pub mod Finishing
-pub mod Restoring
-pub mod Building
-pub mod Fields

@@ -5,9 +5,9 @@ ghost use Rattle.pages.specs.Unsealed.{unsealed};
 ghost use Rattle.pages.specs.Store.{Faulted, Keeps, Writes};
 ghost use Rattle.pagecache.specs.Cache.{IsClean, IsWritten, payload_of};
 ghost use Rattle.boxsearch.specs.Index.{content, IsMarked, IsSound};
-ghost use Rattle.catalogue.specs.Beginning.{IsAllowed, IsCaused, IsLeft, IsFirst};
+ghost use Rattle.register.specs.ChainWriter.{IsAllowed};
+ghost use Rattle.catalogue.specs.Beginning.{IsCaused, IsFirst, IsLeft, IsLeftOver};
 ghost use Rattle.catalogue.specs.Header.{header_payload};
-ghost use Rattle.catalogue.specs.Beginning.{IsLeftOver};
 
 use crate::header::new_payload;
 use boxsearch::TreeIndex;

@@ -9,15 +9,14 @@ ghost use Rattle.boxsearch.specs.Beside.{with_cache};
 ghost use Rattle.boxsearch.specs.Index.{content, IsMarked, IsSound};
 ghost use Rattle.catalogue.specs.Closing.{IsClosingFault, IsNoStoreFault};
 ghost use Rattle.catalogue.specs.Holding.{HoldsBook, HoldsButFirst, IsOfBook, IsUnfinishedStore};
-ghost use Rattle.catalogue.specs.Saving.{IsAllowed, IsCaused};
+ghost use Rattle.register.specs.Saving.{IsAllowed, IsCaused};
 
-use crate::fault::CatalogueFault;
 use crate::finishing::finish;
-use crate::restoring::lawful;
-use crate::saving::{Catalogue, save};
+use crate::saving::save;
 use boxsearch::TreeIndex;
 use legs::BookHead;
 use pages::PageStore;
+use register::{Catalogue, CatalogueFault, lawful};
 use std::alloc::Global;
 
 /// What holds of the base of any head, for the proofs of a caller. It does nothing.
@@ -66,6 +65,7 @@ fn save_and_finish<S: PageStore>(
     ensures caused { IfErr result (IsCaused index.old.cache index.new.cache) }
 {
     boxsearch::laws();
+    register::laws();
     dated(&catalogue.head);
     settled(index);
     save(alloc, catalogue, index)?;

@@ -3,20 +3,20 @@ ghost use Rattle.std.specs.Prelude.{ℕ, ◌≡◌, ◌≢◌, ◌<◌, ◌≤�
 ghost use Rattle.chains.specs.Reads.{OnlyReads};
 ghost use Rattle.pagecache.specs.Cache.{is_changed, pages_as_written, payload_of, IsWritten, Rests, SameLength, Stays};
 ghost use Rattle.boxsearch.specs.Beside.{with_cache};
-ghost use Rattle.catalogue.specs.Finishing.{finished, Finishes, IsLaterCache, IsNotFinished, IsNotWritten, IsUnwrittenHeader, SaysUnfinished, SetsState};
-ghost use Rattle.catalogue.specs.Lasting.{IsStop};
+ghost use Rattle.catalogue.specs.Finishing.{finished, Finishes, IsLaterCache, IsNotFinished, IsUnwrittenHeader, SaysUnfinished, SetsState};
+ghost use Rattle.register.specs.Saving.{IsNotWritten};
+ghost use Rattle.register.specs.Lasting.{IsStop};
 
-use crate::chain_reader::fault_of;
-use crate::fault::CatalogueFault;
 use boxsearch::TreeIndex;
 use pages::{PageStore, Payload};
+use register::{CatalogueFault, fault_of};
 use tbnode::fields::put_u32;
 
 /// The state of a finished store.
 const FINISHED: u32 = 1;
 
 /// Writes all that is changed to the store.
-pub(crate) fn write_all<S: PageStore>(index: &mut TreeIndex<S>) -> Result<(), CatalogueFault>
+fn write_all<S: PageStore>(index: &mut TreeIndex<S>) -> Result<(), CatalogueFault>
     ensures same { index.new ≡ with_cache index.old index.new.cache index.new.known }
     ensures written { OnOk result (IsWritten index.new.cache) }
     ensures stays { Stays index.old.cache index.new.cache }
@@ -27,10 +27,7 @@ pub(crate) fn write_all<S: PageStore>(index: &mut TreeIndex<S>) -> Result<(), Ca
         → index.new.cache ≡ index.old.cache }
     ensures caused { IfErr result (IsNotWritten index.old.cache index.new.cache) }
 {
-    match index.cache_mut().flush() {
-        Ok(()) => Ok(()),
-        Err(fault) => Err(fault_of(fault)),
-    }
+    register::write_all(index.cache_mut())
 }
 
 /// Makes a header say that the store is finished.

@@ -7,17 +7,16 @@ ghost use Rattle.pages.specs.Store.{Stays};
 ghost use Rattle.pagecache.specs.Cache.{stored_payload, IsWritten};
 ghost use Rattle.boxsearch.specs.Index.{IndexView};
 ghost use Rattle.catalogue.specs.Holding.{AnswersBook, HoldsBook, IsAtRest, IsUnfinishedStore};
-ghost use Rattle.catalogue.specs.Lasting.{first_fault, ComesFirst, IsKept, IsReadingFault, IsStop, IsTrulyDamaged};
-ghost use Rattle.catalogue.specs.Saved.{CatalogueView};
+ghost use Rattle.register.specs.Lasting.{first_fault, ComesFirst, IsKept, IsReadingFault, IsStop, IsTrulyDamaged};
+ghost use Rattle.register.specs.Saved.{CatalogueView};
 ghost use Rattle.tbtree.specs.declared.tree.Place.{Place};
 ghost use Rattle.tbtree.specs.declared.tree.TbTree.{TbTree};
 
-use crate::fault::CatalogueFault;
-use crate::restoring::{lawful, restore};
-use crate::saving::Catalogue;
+use crate::restoring::restore;
 use boxsearch::TreeIndex;
 use pagecache::PageCache;
 use pages::PageStore;
+use register::{Catalogue, CatalogueFault, lawful};
 use std::alloc::Global;
 use std::hash::RandomState;
 
@@ -51,6 +50,7 @@ fn open_cache<S: PageStore>(
         (stored_payload cache.store) cache.store.count back.1) }
 {
     boxsearch::laws();
+    register::laws();
     lawful(&cache);
     match restore(alloc, keys, cache) {
         Ok(restored) => Ok(restored),

@@ -6,9 +6,9 @@ ghost use Rattle.pages.specs.Store.{IsLawful, Store};
 ghost use Rattle.pagecache.specs.Cache.{payload_of, stored_payload, Cache, IsSettled};
 ghost use Rattle.boxsearch.specs.Index.{content, words, IndexView, IsMarked, IsSound, SaysState};
 ghost use Rattle.catalogue.specs.Holding.{HoldsBook, IsAtRest, IsOfBook, IsUnfinishedStore};
-ghost use Rattle.catalogue.specs.Lasting.{first_fault};
-ghost use Rattle.catalogue.specs.Saved.{CatalogueView};
-ghost use Rattle.catalogue.specs.declared.fault.CatalogueFault.{CatalogueFault};
+ghost use Rattle.register.specs.Lasting.{first_fault};
+ghost use Rattle.register.specs.Saved.{CatalogueView};
+ghost use Rattle.register.specs.declared.fault.CatalogueFault.{CatalogueFault};
 
 /// What holds of databases at rest and of stores that are not finished, for the proofs of a caller.
 /// It does nothing.

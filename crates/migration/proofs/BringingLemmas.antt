@@ -1,7 +1,7 @@
 -- How a fault of bringing a store over is answered.
 use Rattle.version1.specs.Migrating.{IsLegFault as IsOldLegFault}
-use Rattle.catalogue.specs.declared.fault.CatalogueFault.{CatalogueFault}
-use Rattle.catalogue.specs.declared.fault.CatalogueFault.TheVariants as fault
+use Rattle.register.specs.declared.fault.CatalogueFault.{CatalogueFault}
+use Rattle.register.specs.declared.fault.CatalogueFault.TheVariants as fault
 use Rattle.trajdb.specs.Faults.{opened_fault_of}
 use Rattle.migration.specs.Bringing.{IsLegFault}
 

@@ -14,7 +14,7 @@ pub trait Migrate<T: PageStore> {
     ghost use Rattle.pages.specs.Store.{Stays};
     ghost use Rattle.pagecache.specs.Cache.{stored_payload};
     ghost use Rattle.catalogue.specs.Beginning.{IsLeftOver};
-    ghost use Rattle.catalogue.specs.Saved.{CatalogueView};
+    ghost use Rattle.register.specs.Saved.{CatalogueView};
     ghost use Rattle.tbtree.specs.declared.tree.Place.{Place};
     ghost use Rattle.tbtree.specs.declared.tree.TbTree.{TbTree};
     ghost use Rattle.version1.specs.Migrating.{IsBrought};

@@ -9,7 +9,7 @@ use Rattle.boxsearch.specs.Index.{IndexView}
 use Rattle.catalogue.specs.Holding.{HoldsBook, IsUnfinishedStore}
 use Rattle.catalogue.specs.Beginning.{IsLeftOver}
 use Rattle.version1.specs.Migrating.{IsBrought}
-use Rattle.catalogue.specs.Saved.{CatalogueView}
+use Rattle.register.specs.Saved.{CatalogueView}
 use Rattle.migration.specs.Bringing.{IsMigratingFault}
 use Rattle.trajdb.specs.Calls.{IsLoadFault, LoadsBy}
 use Rattle.trajdb.specs.Db.{DbView}

@@ -8,16 +8,16 @@ use Rattle.legs.specs.Limits.{IsLimits, LimitsView}
 use Rattle.legs.specs.Tracks.{StandsFor}
 use Rattle.boxsearch.specs.Index.{content, words, IndexView, IsMarked, IsSound as IsSoundIndex}
 use Rattle.catalogue.specs.Holding.{AnswersBook, HoldsBook, HoldsButFirst, IsAtRest, IsOfBook, IsUnfinishedStore}
-use Rattle.catalogue.specs.Lasting as catalogue
-use Rattle.catalogue.specs.Saved.{CatalogueView}
-use Rattle.catalogue.specs.Saving.{IsAllowed}
-use Rattle.catalogue.specs.declared.fault.CatalogueFault.{CatalogueFault}
-use Rattle.catalogue.specs.declared.fault.CatalogueFault.TheVariants as fault
+use Rattle.register.specs.Lasting as catalogue
+use Rattle.register.specs.Saved.{CatalogueView}
+use Rattle.register.specs.Saving.{IsAllowed}
+use Rattle.register.specs.declared.fault.CatalogueFault.{CatalogueFault}
+use Rattle.register.specs.declared.fault.CatalogueFault.TheVariants as fault
 use Rattle.pages.specs.Store.{Store, IsLawful}
 use Rattle.pages.specs.declared.payload.Payload.{Payload}
 use Rattle.pagecache.specs.Cache.{IsSettled}
 use Rattle.catalogue.specs.Closing.{IsNoStoreFault}
-use Rattle.catalogue.specs.declared.fault.CatalogueFault.TheVariants.{Memory, StoreFull, Damaged, Unfinished, Version, Malformed}
+use Rattle.register.specs.declared.fault.CatalogueFault.TheVariants.{Memory, StoreFull, Damaged, Unfinished, Version, Malformed}
 use Rattle.legs.specs.Asking.{Leaves as IndexLeaves}
 use Rattle.trajdb.specs.Calls.{IsLoadFault, KeepsPages}
 use Rattle.trajdb.specs.Database.{catalogue_of, restored}

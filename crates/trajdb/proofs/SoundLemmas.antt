@@ -13,7 +13,7 @@ use Rattle.trajdb.specs.declared.RunFault.TheVariants.{Failed}
 use Rattle.pagecache.specs.Cache.{Cache, payload_of, IsClean, IsSettled}
 use Rattle.boxsearch.specs.Index.{content, IndexView, IsMarked, IsSound as IsSoundIndex, SaysState}
 use Rattle.catalogue.specs.Holding.{IsAtRest}
-use Rattle.catalogue.specs.Saved.{CatalogueView}
+use Rattle.register.specs.Saved.{CatalogueView}
 use Rattle.trajdb.specs.Calls.{IsQuestionFault}
 use Rattle.trajdb.specs.Database.{catalogue_of}
 use Rattle.trajdb.specs.Faults.{run_fault_of}

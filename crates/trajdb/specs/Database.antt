@@ -9,7 +9,7 @@ use Rattle.legs.specs.Index.{CanFollowInTurn}
 use Rattle.legs.specs.declared.listed.Listed.{Ghosts}
 use Rattle.legs.specs.Tracks.{TracksView, StandsFor}
 use Rattle.legs.specs.Law.{IsBook}
-use Rattle.catalogue.specs.Saved.{CatalogueView}
+use Rattle.register.specs.Saved.{CatalogueView}
 use Rattle.trajdb.specs.declared.Counts.{Counts}
 use Rattle.trajdb.specs.declared.FileCode.{FileCode}
 use Rattle.trajdb.specs.declared.FileCode.TheVariants.{Join}

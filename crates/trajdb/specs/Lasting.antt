@@ -7,8 +7,8 @@ use Rattle.pages.specs.Store.{Store, Faulted, IsLawful}
 use Rattle.pages.specs.declared.payload.Payload.{Payload}
 use Rattle.boxsearch.specs.Index.{written, IndexView, IsMarked, IsSound as IsSoundIndex}
 use Rattle.catalogue.specs.Holding.{HoldsBook, IsAtRest, IsUnfinishedStore}
-use Rattle.catalogue.specs.Lasting.{IsDamagedPage}
-use Rattle.catalogue.specs.declared.fault.CatalogueFault.{CatalogueFault}
+use Rattle.register.specs.Lasting.{IsDamagedPage}
+use Rattle.register.specs.declared.fault.CatalogueFault.{CatalogueFault}
 use Rattle.trajdb.specs.Database.{catalogue_of}
 use Rattle.trajdb.specs.Db.{DbView, IsSound}
 use Rattle.trajdb.specs.Faults.{opened_fault_of}

@@ -84,8 +84,8 @@ impl<S: PageStore> Db<S> {
     ghost use Rattle.pages.specs.Store.{Keeps, Stays, Store};
     ghost use Rattle.pagecache.specs.Cache.{stored_payload};
     ghost use Rattle.catalogue.specs.Holding.{HoldsBook, HoldsButFirst, IsUnfinishedStore};
-    ghost use Rattle.catalogue.specs.Lasting.{first_fault, IsKept};
-    ghost use Rattle.catalogue.specs.Saved.{CatalogueView};
+    ghost use Rattle.register.specs.Lasting.{first_fault, IsKept};
+    ghost use Rattle.register.specs.Saved.{CatalogueView};
     ghost use Rattle.tbtree.specs.declared.tree.Place.{Place};
     ghost use Rattle.tbtree.specs.declared.tree.TbTree.{TbTree};
     ghost use Rattle.trajdb.specs.Calls.{IsLoadFault};

@@ -7,11 +7,11 @@ use Rattle.pages.specs.Unsealed.{unsealed}
 use Rattle.pages.specs.declared.payload.PageFault.{PageFault}
 use Rattle.pages.specs.declared.payload.Payload.{Payload}
 use Rattle.pagecache.specs.Cache.{stored_payload}
-use Rattle.catalogue.specs.ChainReader.{ReaderView, rest_of, IsBroken, IsPageFault, TakesPart}
+use Rattle.register.specs.ChainReader.{ReaderView, rest_of, IsBroken, IsPageFault, TakesPart}
 use Rattle.version1.specs.OldReading.{IsLentFault, IsUnread}
-use Rattle.catalogue.specs.declared.fault.CatalogueFault.{CatalogueFault}
-use Rattle.catalogue.specs.declared.fault.CatalogueFault.TheVariants.{Memory, Store, StoreFull, Damaged, Unfinished, Version, Malformed}
-use Rattle.catalogue.proofs.ReaderLemmas.{page_broken, rest_broken, rest_none, rest_step}
+use Rattle.register.specs.declared.fault.CatalogueFault.{CatalogueFault}
+use Rattle.register.specs.declared.fault.CatalogueFault.TheVariants.{Memory, Store, StoreFull, Damaged, Unfinished, Version, Malformed}
+use Rattle.register.proofs.ReaderLemmas.{page_broken, rest_broken, rest_none, rest_step}
 
 pub stored_read : (s : StoreView) (n : ℕ) (page : List ℕ) → slice_get s.pages n ≡ Some page → stored_payload s n ≡ unsealed n page
 unfolding stored_payload

@@ -26,16 +26,16 @@ use Rattle.treecheck.specs.Checking.{Agree}
 use Rattle.boxsearch.specs.Index.{content, words, IndexView, IsSound}
 use Rattle.version1.specs.OldLegs.{pages_of_old}
 use Rattle.catalogue.specs.Beginning.{IsCaused}
-use Rattle.catalogue.specs.ChainReader.{fault_of}
+use Rattle.register.specs.ChainReader.{fault_of}
 use Rattle.catalogue.specs.Holding.{AnswersBook, IsUnfinishedStore}
-use Rattle.catalogue.specs.Lasting.{IsStop}
+use Rattle.register.specs.Lasting.{IsStop}
 use Rattle.catalogue.specs.Beginning.{IsLeftOver}
 use Rattle.version1.specs.Migrating.{brought_fault, IsLegFault, IsMigratingFault}
 use Rattle.version1.specs.OldStore.{present_shape, AnswersOldBook, IsOldReadingFault}
-use Rattle.catalogue.specs.Saved.{CatalogueView}
-use Rattle.catalogue.specs.Saving.{IsAllowed}
-use Rattle.catalogue.specs.declared.fault.CatalogueFault.{CatalogueFault}
-use Rattle.catalogue.specs.declared.fault.CatalogueFault.TheVariants.{Memory, Store, StoreFull, Damaged, Unfinished, Version, Malformed}
+use Rattle.register.specs.Saved.{CatalogueView}
+use Rattle.register.specs.Saving.{IsAllowed}
+use Rattle.register.specs.declared.fault.CatalogueFault.{CatalogueFault}
+use Rattle.register.specs.declared.fault.CatalogueFault.TheVariants.{Memory, Store, StoreFull, Damaged, Unfinished, Version, Malformed}
 use Rattle.catalogue.proofs.BeginLemmas.{empty_pages}
 
 -- the pages of a store of version 1 that stays are what they were

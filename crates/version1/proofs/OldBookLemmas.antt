@@ -9,21 +9,22 @@ use Rattle.pagecache.specs.Cache.{stored_payload}
 use Rattle.treecheck.specs.Check.{HoldLegs}
 use Rattle.tbtree.specs.declared.tree.Place.{Place}
 use Rattle.tbtree.specs.declared.tree.TbTree.{TbTree}
-use Rattle.catalogue.specs.Building.{tree_of, IsOf}
+use Rattle.register.specs.Building.{tree_of, IsOf}
 use Rattle.catalogue.specs.Holding.{IsOfBook}
-use Rattle.catalogue.specs.Lasting.{IsStop}
+use Rattle.register.specs.Lasting.{IsStop}
 use Rattle.version1.specs.OldReading.{as_written}
 use Rattle.version1.specs.OldLegs.{pages_of_old}
 use Rattle.version1.specs.OldStore.{present_shape, AnswersOld, AnswersOldBook, HoldsOldBook, IsKeptOld}
-use Rattle.catalogue.specs.Restoring.{IsRest}
-use Rattle.catalogue.specs.Saved.{CatalogueView}
-use Rattle.catalogue.specs.declared.fault.CatalogueFault.{CatalogueFault}
+use Rattle.register.specs.Restoring.{IsRest}
+use Rattle.register.specs.Saved.{CatalogueView}
+use Rattle.register.specs.declared.fault.CatalogueFault.{CatalogueFault}
 use Rattle.version1.specs.declared.old_header.OldFields.{OldFields}
 use Rattle.version1.proofs.OldHeaderLemmas.{old_fields_same}
 use Rattle.version1.proofs.OldStoreLemmas.{old_kept, old_kept_fields, old_kept_rest}
 use Rattle.catalogue.proofs.OpenLemmas.{stop_of}
-use Rattle.catalogue.proofs.RestoreLemmas.{contents_same}
-use Rattle.catalogue.proofs.SameLemmas.{of_same, IsSame}
+use Rattle.register.proofs.RestoreLemmas.{contents_same}
+use Rattle.register.specs.Lasting.{IsSame}
+use Rattle.register.proofs.SameLemmas.{of_same}
 
 old_kept_tree : (at : ℕ → Option Payload) (count : ℕ) (c : CatalogueView) (tree : TbTree) (places : List Place) (k : IsKeptOld at count c tree places) → tree_of (as_written (old_kept at count c tree places k)) ≡ tree
 old_kept_tree at count c tree places k = (λ i. record tree { spent = (sym k.works) i })

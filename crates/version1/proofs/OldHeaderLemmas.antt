@@ -3,13 +3,13 @@ use Rattle.std.proofs.Common.{ℕ, ◌≡◌, ◌++◌, [], List, length, refl, 
 use Rattle.byteorder.specs.Endian.{big_bytes}
 use Rattle.pages.specs.declared.payload.Payload.{Payload}
 use Rattle.tbnode.specs.Parts.{part}
-use Rattle.catalogue.specs.Fields.{SaysLimits, SaysShape}
+use Rattle.register.specs.Fields.{SaysLimits, SaysShape}
 use Rattle.version1.specs.OldReading.{as_written, SaysOldBody, SaysOldFields}
 use Rattle.version1.specs.OldStore.{old_fields_bytes, HasOldFields}
-use Rattle.catalogue.specs.declared.header_fields.Fields.{Fields}
+use Rattle.register.specs.declared.header_fields.Fields.{Fields}
 use Rattle.version1.specs.declared.old_header.OldFields.{OldFields}
-use Rattle.catalogue.proofs.FieldsLemmas.{cut, joined}
-use Rattle.catalogue.proofs.PrefixLemmas.{numbers_free}
+use Rattle.register.proofs.FieldsLemmas.{cut, joined}
+use Rattle.register.proofs.PrefixLemmas.{numbers_free}
 
 module _ (payload : Payload) (f : Fields) where
   pub old_fields_are : SaysShape payload.bytes f.shape → SaysLimits payload.bytes f.limits

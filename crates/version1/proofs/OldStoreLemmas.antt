@@ -8,25 +8,25 @@ use Rattle.pagecache.specs.Cache.{stored_payload, Cache}
 use Rattle.chains.specs.Reads.{OnlyReads}
 use Rattle.tbtree.specs.declared.tree.Place.{Place}
 use Rattle.tbtree.specs.declared.tree.TbTree.{TbTree}
-use Rattle.catalogue.specs.Building.{tree_of}
-use Rattle.catalogue.specs.Chain.{text_at}
-use Rattle.catalogue.specs.ChainReader.{rest_of, IsBroken, IsReadFault, ReaderView}
-use Rattle.catalogue.specs.Fields.{FitsFields}
-use Rattle.catalogue.specs.Lasting.{IsReadingFault, IsStop, IsTrulyDamaged}
+use Rattle.register.specs.Building.{tree_of}
+use Rattle.register.specs.Chain.{text_at}
+use Rattle.register.specs.ChainReader.{rest_of, IsBroken, IsReadFault, ReaderView}
+use Rattle.register.specs.Fields.{FitsFields}
+use Rattle.register.specs.Lasting.{IsReadingFault, IsStop, IsTrulyDamaged}
 use Rattle.version1.specs.OldReading.{as_written, IsBringingFault, IsLentFault, SaysOldFields}
 use Rattle.version1.specs.OldStore.{old_payload_fault, present_shape, AnswersOld, HasOldFields, IsKeptOld, IsOldReadingFault}
-use Rattle.catalogue.specs.Restoring.{HoldsContents, IsRest}
-use Rattle.catalogue.specs.Saved.{fields_for, CatalogueView}
-use Rattle.catalogue.specs.Saving.{contents_of}
-use Rattle.catalogue.specs.Text.{catalogue_text, AreFew, IsRead, IsWhole}
-use Rattle.catalogue.specs.declared.contents.Contents.{Contents}
-use Rattle.catalogue.specs.declared.fault.CatalogueFault.{CatalogueFault}
-use Rattle.catalogue.specs.declared.fault.CatalogueFault.TheVariants.{Memory, Store, StoreFull, Damaged, Unfinished, Version, Malformed}
-use Rattle.catalogue.specs.declared.header_fields.Fields.{Fields}
+use Rattle.register.specs.Restoring.{HoldsContents, IsRest}
+use Rattle.register.specs.Saved.{fields_for, CatalogueView}
+use Rattle.register.specs.Saving.{contents_of}
+use Rattle.register.specs.Text.{catalogue_text, AreFew, IsRead, IsWhole}
+use Rattle.register.specs.declared.contents.Contents.{Contents}
+use Rattle.register.specs.declared.fault.CatalogueFault.{CatalogueFault}
+use Rattle.register.specs.declared.fault.CatalogueFault.TheVariants.{Memory, Store, StoreFull, Damaged, Unfinished, Version, Malformed}
+use Rattle.register.specs.declared.header_fields.Fields.{Fields}
 use Rattle.version1.specs.declared.old_header.OldFields.{OldFields}
 use Rattle.version1.proofs.LentLemmas.{stays_payload}
 use Rattle.version1.proofs.OldHeaderLemmas.{old_fields_same}
-use Rattle.catalogue.proofs.ReaderLemmas.{some_none}
+use Rattle.register.proofs.ReaderLemmas.{some_none}
 
 -- where each page of a chain is read, what is left stands ready, whatever the pages are
 pub ended_same : (at bt : ℕ → Option Payload) (r : ReaderView) → r.left ≡ 0 → rest_of at r ≡ rest_of bt r

@@ -10,9 +10,9 @@ use Rattle.boxsearch.specs.Index.{content, IndexView, IsSound}
 use Rattle.version1.specs.OldLegs.{pages_of_old}
 use Rattle.catalogue.specs.Holding.{IsUnfinishedStore}
 use Rattle.version1.specs.OldStore.{AnswersOld}
-use Rattle.catalogue.specs.Saved.{CatalogueView}
-use Rattle.catalogue.specs.declared.fault.CatalogueFault.{CatalogueFault}
-use Rattle.catalogue.specs.declared.fault.CatalogueFault.TheVariants.{Memory, Store, StoreFull, Damaged, Unfinished, Version, Malformed}
+use Rattle.register.specs.Saved.{CatalogueView}
+use Rattle.register.specs.declared.fault.CatalogueFault.{CatalogueFault}
+use Rattle.register.specs.declared.fault.CatalogueFault.TheVariants.{Memory, Store, StoreFull, Damaged, Unfinished, Version, Malformed}
 
 -- how a fault of bringing legs over is answered
 abbrev pub brought_fault : IndexFault → CatalogueFault

@@ -14,16 +14,16 @@ use Rattle.treecheck.specs.Check.{HoldLegs}
 use Rattle.tbtree.specs.declared.tree.Place.{Place}
 use Rattle.tbtree.specs.declared.tree.TbTree.{TbTree}
 use Rattle.version1.specs.OldLegs.{pages_of_old}
-use Rattle.catalogue.specs.Chain.{most_used, text_at}
-use Rattle.catalogue.specs.Fields.{FitsFields}
+use Rattle.register.specs.Chain.{most_used, text_at}
+use Rattle.register.specs.Fields.{FitsFields}
 use Rattle.catalogue.specs.Holding.{IsOfBook}
-use Rattle.catalogue.specs.Lasting.{is_header, state_fault, IsLawful, IsWithin}
-use Rattle.catalogue.specs.Saved.{dimension_of, fields_for, CatalogueView}
-use Rattle.catalogue.specs.Saving.{contents_of}
-use Rattle.catalogue.specs.Text.{catalogue_text, IsWhole}
-use Rattle.catalogue.specs.declared.fault.CatalogueFault.{CatalogueFault}
-use Rattle.catalogue.specs.declared.fault.CatalogueFault.TheVariants.{Memory, Store, StoreFull, Damaged, Unfinished, Version, Malformed}
-use Rattle.catalogue.specs.declared.header_fields.Fields.{Fields}
+use Rattle.register.specs.Lasting.{is_header, state_fault, IsLawful, IsWithin}
+use Rattle.register.specs.Saved.{dimension_of, fields_for, CatalogueView}
+use Rattle.register.specs.Saving.{contents_of}
+use Rattle.register.specs.Text.{catalogue_text, IsWhole}
+use Rattle.register.specs.declared.fault.CatalogueFault.{CatalogueFault}
+use Rattle.register.specs.declared.fault.CatalogueFault.TheVariants.{Memory, Store, StoreFull, Damaged, Unfinished, Version, Malformed}
+use Rattle.register.specs.declared.header_fields.Fields.{Fields}
 
 -- a leaf has room for 2 to 63 legs, an inner page for 2 to 72 entries
 pub record IsOldShape (shape : ShapeView) : Type 0 where

@@ -2,11 +2,11 @@
 ghost use Rattle.std.specs.Prelude.{◌≡◌, ◌<◌, Some, None, IsTrue, IfErr, IfOk, OnOk};
 ghost use Rattle.pages.specs.Store.{Stays};
 ghost use Rattle.pagecache.specs.Cache.{stored_payload};
-ghost use Rattle.catalogue.specs.ChainReader.{rest_of, IsBroken};
+ghost use Rattle.register.specs.ChainReader.{rest_of, IsBroken};
 ghost use Rattle.version1.specs.OldReading.{IsLentFault, IsUnread};
 
-use catalogue::{CatalogueFault, ChainReader};
 use pages::{PageFault, PageStore, Payload, unseal};
+use register::{CatalogueFault, ChainReader};
 
 /// A page of zero bytes.
 fn blank() -> [u8; 4096] {

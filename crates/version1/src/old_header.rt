@@ -3,14 +3,14 @@ ghost use Rattle.std.specs.Prelude.{ℕ, Bool, Option, ◌≡◌, ◌≤◌, len
 ghost use Rattle.legs.specs.Costs.{ShapeView};
 ghost use Rattle.pages.specs.Store.{Store};
 ghost use Rattle.pages.specs.declared.payload.Payload.{Payload};
-ghost use Rattle.catalogue.specs.Lasting.{state_fault, IsReadingFault, IsTrulyDamaged};
+ghost use Rattle.register.specs.Lasting.{state_fault, IsReadingFault, IsTrulyDamaged};
 ghost use Rattle.version1.specs.OldStore.{old_header_fault, IsOldShape};
 ghost use Rattle.version1.specs.OldReading.{IsOldHeaderFault, OldHeaderSays, SaysOldBody, SaysOldShape};
-ghost use Rattle.catalogue.specs.Restoring.{result_of};
+ghost use Rattle.register.specs.Restoring.{result_of};
 ghost use Rattle.version1.specs.declared.old_header.OldFields.{OldFields};
 
-use catalogue::{CatalogueFault, Fields, MAGIC, limits_in, test_state, u16_of, u32_of, u64_of};
 use pages::{Kind, Payload};
+use register::{CatalogueFault, Fields, MAGIC, limits_in, test_state, u16_of, u32_of, u64_of};
 use tbnode::fields::{part, u32_at};
 use tbtree::Shape;
 

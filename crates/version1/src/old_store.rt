@@ -6,25 +6,25 @@ ghost use Rattle.legs.specs.Limits.{LimitsView};
 ghost use Rattle.pages.specs.Store.{Stays};
 ghost use Rattle.pagecache.specs.Cache.{stored_payload};
 ghost use Rattle.chains.specs.Reads.{OnlyReads};
-ghost use Rattle.catalogue.specs.ChainReader.{IsBroken};
-ghost use Rattle.catalogue.specs.Lasting.{ComesFirst, IsReadingFault, IsStop, IsTrulyDamaged};
+ghost use Rattle.register.specs.ChainReader.{IsBroken};
+ghost use Rattle.register.specs.Lasting.{ComesFirst, IsReadingFault, IsStop, IsTrulyDamaged};
 ghost use Rattle.version1.specs.OldReading.{IsBringingFault, SaysOldFields};
 ghost use Rattle.version1.specs.OldStore.{old_first_fault, AnswersOld, AnswersOldBook, HoldsOldBook, IsKeptOld, IsOldReadingFault};
-ghost use Rattle.catalogue.specs.Restoring.{HoldsContents, IsRest};
-ghost use Rattle.catalogue.specs.Saved.{CatalogueView};
-ghost use Rattle.catalogue.specs.Text.{AreFew};
+ghost use Rattle.register.specs.Restoring.{HoldsContents, IsRest};
+ghost use Rattle.register.specs.Saved.{CatalogueView};
+ghost use Rattle.register.specs.Text.{AreFew};
 ghost use Rattle.tbtree.specs.declared.tree.Place.{Place};
 ghost use Rattle.tbtree.specs.declared.tree.TbTree.{TbTree};
-ghost use Rattle.catalogue.specs.declared.contents.Contents.{Contents};
+ghost use Rattle.register.specs.declared.contents.Contents.{Contents};
 ghost use Rattle.version1.specs.declared.old_header.OldFields.{OldFields};
 
 use crate::lent_store::{fill_lent, read_sealed};
 use crate::old_header::{OldFields, old_header_of};
-use catalogue::{
-    Catalogue, CatalogueFault, ChainReader, Contents, Fields, MOST_USED, catalogue_of, is_within,
-};
 use pagecache::PageCache;
 use pages::PageStore;
+use register::{
+    Catalogue, CatalogueFault, ChainReader, Contents, Fields, MOST_USED, catalogue_of, is_within,
+};
 use std::alloc::Global;
 use std::hash::RandomState;
 use tbtree::{Place, Shape};

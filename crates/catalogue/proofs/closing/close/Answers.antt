@@ -4,7 +4,7 @@ use Rattle.pagecache.specs.Cache.{Cache}
 use Rattle.boxsearch.specs.Index.{IsMarked, IsSound}
 use Rattle.catalogue.specs.Closing.{IsNoStoreFault}
 use Rattle.catalogue.specs.Holding.{HoldsBook, HoldsButFirst, IsUnfinishedStore}
-use Rattle.catalogue.proofs.ReaderLemmas.{if_err, on_ok}
+use Rattle.catalogue.proofs.ResultLemmas.{if_err, on_ok}
 use Rattle.catalogue.proofs.RefusedLemmas.{map_err}
 use Rattle.catalogue.proofs.closing.close.Goals as goal
 

@@ -8,10 +8,10 @@ use Rattle.boxsearch.specs.Beside.{with_cache}
 use Rattle.boxsearch.specs.Index.{content, IndexView, IsMarked, IsSound}
 use Rattle.catalogue.specs.Closing.{IsNoStoreFault}
 use Rattle.catalogue.specs.Holding.{HoldsBook, HoldsButFirst, IsOfBook, IsUnfinishedStore}
-use Rattle.catalogue.specs.Saved.{CatalogueView}
-use Rattle.catalogue.specs.Saving.{IsAllowed}
+use Rattle.register.specs.Saved.{CatalogueView}
+use Rattle.register.specs.Saving.{IsAllowed}
 use Rattle.catalogue.proofs.CloseLemmas.{closed_holds, front_unfinished, front_unwritten, of_catalogue, of_few, of_lawful, of_within, only_memory, says_stored, still_says, PlaceLaws}
-use Rattle.catalogue.proofs.ReaderLemmas.{if_err_of, on_ok}
+use Rattle.catalogue.proofs.ResultLemmas.{if_err_of, on_ok}
 use Rattle.catalogue.proofs.RefusedLemmas.{any_err, behind_holds}
 use Rattle.catalogue.proofs.closing.save_and_finish.Goals as goal
 
@@ -51,7 +51,7 @@ returns-clause-holds g c =
     let front = c.in_ok-save.ensures.front marked.faithful marked.there in
     let shape = ap (λ (x : IndexView). x.tree.shape) c.save.ensures.same ∙ ap (λ (x : IndexView). x.tree.shape) same in
     subst (λ t. HoldsBook new.store t catalogue.limits book) shape
-    (closed_holds (record { content = laws.content; sound = laws.sound; alike = laws.alike }) catalogue j book new saved of legs
+    (closed_holds (record { content = laws.content; sound = laws.sound; alike = laws.alike }) c.laws-2.ensures.state catalogue j book new saved of legs
     (of_lawful catalogue j book places saved of legs dated) (of_within catalogue j book places saved of legs dated)
     (c.in_ok-save.ensures.saved sound.faithful) (c.in_ok-save.ensures.whole (of_catalogue catalogue book of))
     front.payload front.is (front_unfinished i.cache j.cache marked settled front)
@@ -103,7 +103,7 @@ returns-clause-refused g c =
     let some = marked.there in
     let more = c.save.ensures.later.count in
     inr (subst (λ t. HoldsButFirst new.store t catalogue.limits book) shape
-    (behind_holds (record { content = laws.content; sound = laws.sound; alike = laws.alike }) catalogue j book new saved of legs
+    (behind_holds (record { content = laws.content; sound = laws.sound; alike = laws.alike }) c.laws-2.ensures.state catalogue j book new saved of legs
     (of_lawful catalogue j book places saved of legs dated) (of_within catalogue j book places saved of legs dated)
     (c.in_ok-save.ensures.saved sound.faithful) (c.in_ok-save.ensures.whole (of_catalogue catalogue book of))
     front.payload front.is (front_unfinished i.cache j.cache marked settled front)

@@ -1,7 +1,7 @@
 use Rattle.std.proofs.Common.{◌∙◌}
 use Rattle.catalogue.proofs.FinishLemmas.{finishes, unwritten}
 use Rattle.catalogue.proofs.RefusedLemmas.{reads_others, sets_others}
-use Rattle.catalogue.proofs.ReaderLemmas.{on_ok}
+use Rattle.catalogue.proofs.ResultLemmas.{on_ok}
 use Rattle.catalogue.proofs.finishing.finish.Goals as goal
 
 pub returns-clause-finishes : goal.returns-clause-finishes

@@ -1,6 +1,7 @@
 use Rattle.std.proofs.Common.{◌≡◌, ap, ◌∙◌, length}
 use Rattle.catalogue.specs.Header.{header_bytes}
-use Rattle.catalogue.proofs.HeaderLemmas.{header_length, if_ok}
+use Rattle.catalogue.proofs.HeaderLemmas.{header_length}
+use Rattle.catalogue.proofs.ResultLemmas.{if_ok}
 use Rattle.catalogue.proofs.header.new_header.Goals as goal
 
 pub returns-clause-len : goal.returns-clause-len

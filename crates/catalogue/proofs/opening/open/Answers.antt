@@ -7,9 +7,9 @@ use Rattle.pages.specs.Store.{Store}
 use Rattle.pagecache.specs.Cache.{Cache, stored_payload}
 use Rattle.tbtree.specs.declared.tree.Place.{Place}
 use Rattle.tbtree.specs.declared.tree.TbTree.{TbTree}
-use Rattle.catalogue.specs.Saved.{CatalogueView}
+use Rattle.register.specs.Saved.{CatalogueView}
 use Rattle.catalogue.specs.Holding.{AnswersBook, HoldsBook}
-use Rattle.catalogue.specs.Lasting.{IsKept, IsStop}
+use Rattle.register.specs.Lasting.{IsKept, IsStop}
 use Rattle.catalogue.proofs.opening.open.Goals as goal
 
 pub returns-clause-book : goal.returns-clause-book

@@ -12,7 +12,7 @@ pub returns-in-Ok-clause-book : goal.returns-in-Ok-clause-book
 returns-in-Ok-clause-book g c = λ fa shape limits book h.
     let r = c.in-Ok.restored in
     opened_book c.args.cache r.1.cache c.in-Ok.ensures.reads c.requires.written c.requires.count c.lawful.ensures fa r.0 r.1.tree r.1.places (c.in-Ok.ensures.kept fa) r.1 refl refl refl c.in-Ok.ensures.legs
-    c.laws.ensures.alike c.laws.ensures.content c.laws.ensures.sound shape limits book h
+    c.laws.ensures.alike c.laws.ensures.content c.laws.ensures.sound c.laws-2.ensures.same shape limits book h
 
 pub returns-in-Ok-clause-stored : goal.returns-in-Ok-clause-stored
 returns-in-Ok-clause-stored g c = opened_stays c.args.cache c.in-Ok.restored.1.cache c.in-Ok.ensures.reads c.requires.written c.requires.count c.lawful.ensures c.in-Ok.ensures.lawful

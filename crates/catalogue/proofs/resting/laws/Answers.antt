@@ -5,8 +5,8 @@ use Rattle.catalogue.proofs.FinishLemmas.{unfinished_header}
 use Rattle.catalogue.proofs.RestLemmas.{marked_store, rest_holds, rest_stays}
 use Rattle.catalogue.proofs.StateLemmas.{marked_state, rest_state}
 use Rattle.pagecache.specs.Cache.{stored_payload}
-use Rattle.catalogue.specs.Lasting.{payload_fault}
-use Rattle.catalogue.specs.declared.fault.CatalogueFault.TheVariants.{Malformed}
+use Rattle.register.specs.Lasting.{payload_fault}
+use Rattle.register.specs.declared.fault.CatalogueFault.TheVariants.{Malformed}
 use Rattle.catalogue.proofs.resting.laws.Goals as goal
 
 pub returns-clause-rests : goal.returns-clause-rests

@@ -1,9 +1,9 @@
 use Rattle.std.proofs.Common.{◌≡◌, ◌∙◌, sym, IsTrue, None}
 use Rattle.std.proofs.lemmas.Result.{err_from_is_err_and}
 use Rattle.pagecache.specs.Cache.{stored_payload}
-use Rattle.catalogue.specs.ChainReader.{rest_of, IsBroken}
+use Rattle.register.specs.ChainReader.{rest_of, IsBroken}
 use Rattle.version1.specs.OldReading.{IsLentFault}
-use Rattle.catalogue.proofs.ReaderLemmas.{if_err_of}
+use Rattle.register.proofs.ReaderLemmas.{if_err_of}
 use Rattle.version1.proofs.LentLemmas.{later_fault, lent_none, lent_same, stays_trans}
 use Rattle.version1.proofs.lent_store.fill_lent.Goals as goal
 

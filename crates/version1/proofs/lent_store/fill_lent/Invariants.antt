@@ -1,7 +1,7 @@
 use Rattle.std.proofs.Common.{◌≡◌, IsTrue}
 use Rattle.pages.specs.Store.{Stays}
 use Rattle.pagecache.specs.Cache.{stored_payload}
-use Rattle.catalogue.specs.ChainReader.{rest_of}
+use Rattle.register.specs.ChainReader.{rest_of}
 use Rattle.version1.proofs.lent_store.fill_lent.Given as goal
 
 abbrev pub invariant-loop-store : goal.invariant-loop-store

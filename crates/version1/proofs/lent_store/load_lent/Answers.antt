@@ -1,6 +1,6 @@
 use Rattle.std.proofs.Common.{ap}
-use Rattle.catalogue.specs.ChainReader.{IsPageFault}
-use Rattle.catalogue.proofs.ReaderLemmas.{on_ok, if_err}
+use Rattle.register.specs.ChainReader.{IsPageFault}
+use Rattle.register.proofs.ReaderLemmas.{on_ok, if_err}
 use Rattle.version1.proofs.LentLemmas.{lent_loaded, lent_not_taken, lent_not_read, unread_none}
 use Rattle.version1.proofs.lent_store.load_lent.Goals as goal
 

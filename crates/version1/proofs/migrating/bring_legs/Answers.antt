@@ -4,7 +4,7 @@ use Rattle.boxsearch.specs.Index.{IsMarked}
 use Rattle.version1.specs.OldLegs.{pages_of_old}
 use Rattle.treecheck.specs.Check.{HoldChains}
 use Rattle.catalogue.specs.Holding.{IsUnfinishedStore}
-use Rattle.catalogue.specs.Saving.{IsAllowed}
+use Rattle.register.specs.Saving.{IsAllowed}
 use Rattle.catalogue.proofs.CloseLemmas.{says_stored, still_says}
 use Rattle.version1.proofs.MigrateLemmas.{allowed_leg}
 use Rattle.version1.proofs.migrating.bring_legs.Goals as goal

@@ -7,7 +7,7 @@ use Rattle.treecheck.specs.Checking.{Agree}
 use Rattle.boxsearch.specs.Index.{content}
 use Rattle.version1.specs.OldLegs.{pages_of_old}
 use Rattle.version1.specs.OldStore.{AnswersOld}
-use Rattle.catalogue.specs.Saved.{CatalogueView}
+use Rattle.register.specs.Saved.{CatalogueView}
 use Rattle.version1.proofs.MigrateLemmas.{allowed_stop, book_agrees, book_brought, book_chains, caused_beginning, chains_as, leg_stop, old_pages_stay, same_shape}
 use Rattle.version1.proofs.migrating.migrate.Goals as goal
 

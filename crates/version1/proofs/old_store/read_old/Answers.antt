@@ -3,13 +3,13 @@ use Rattle.std.proofs.lemmas.Result.{err_from_is_err_and}
 use Rattle.pagecache.specs.Cache.{stored_payload}
 use Rattle.tbtree.specs.declared.tree.Place.{Place}
 use Rattle.tbtree.specs.declared.tree.TbTree.{TbTree}
-use Rattle.catalogue.specs.Lasting.{IsStop, IsTrulyDamaged}
+use Rattle.register.specs.Lasting.{IsStop, IsTrulyDamaged}
 use Rattle.legs.specs.Book.{Book}
 use Rattle.legs.specs.Costs.{ShapeView}
 use Rattle.legs.specs.Limits.{LimitsView}
 use Rattle.version1.specs.OldStore.{HoldsOldBook, IsKeptOld, IsOldReadingFault}
-use Rattle.catalogue.specs.Saved.{CatalogueView}
-use Rattle.catalogue.proofs.ReaderLemmas.{if_err, if_err_of}
+use Rattle.register.specs.Saved.{CatalogueView}
+use Rattle.register.proofs.ReaderLemmas.{if_err, if_err_of}
 use Rattle.version1.proofs.OldBookLemmas.{old_book, old_stop}
 use Rattle.version1.proofs.OldStoreLemmas.{bringing_broken, bringing_damaged, bringing_later, no_old_kept, old_answers, old_kept, old_kept_fields, rest_after, rest_before}
 use Rattle.version1.proofs.old_store.read_old.Goals as goal

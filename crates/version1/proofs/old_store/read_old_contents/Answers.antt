@@ -1,12 +1,12 @@
 use Rattle.std.proofs.Common.{◌≡◌, ◌≢◌, ◌≤◌, ◌∙◌, ap, arith, IsTrue, Option, Some}
 use Rattle.std.specs.Int.{div_ceil}
 use Rattle.pagecache.specs.Cache.{payload_of, stored_payload}
-use Rattle.catalogue.specs.ChainReader.{rest_of, IsBroken}
-use Rattle.catalogue.specs.Restoring.{HoldsContents}
-use Rattle.catalogue.specs.Text.{catalogue_text, AreFew, IsRead}
-use Rattle.catalogue.specs.declared.contents.Contents.{Contents}
-use Rattle.catalogue.proofs.HeaderLemmas.{if_ok}
-use Rattle.catalogue.proofs.ReaderLemmas.{if_err}
+use Rattle.register.specs.ChainReader.{rest_of, IsBroken}
+use Rattle.register.specs.Restoring.{HoldsContents}
+use Rattle.register.specs.Text.{catalogue_text, AreFew, IsRead}
+use Rattle.register.specs.declared.contents.Contents.{Contents}
+use Rattle.register.proofs.ReaderLemmas.{if_ok}
+use Rattle.register.proofs.ReaderLemmas.{if_err}
 use Rattle.version1.proofs.OldStoreLemmas.{filled_text, not_parsed}
 use Rattle.version1.proofs.old_store.read_old_contents.Goals as goal
 

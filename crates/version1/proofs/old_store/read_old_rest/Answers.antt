@@ -2,15 +2,15 @@ use Rattle.std.proofs.Common.{rules, subst, List, IsTrue}
 use Rattle.std.proofs.lemmas.Result.{err_from_is_err_and}
 use Rattle.pagecache.specs.Cache.{stored_payload}
 use Rattle.tbtree.specs.declared.tree.Place.{Place}
-use Rattle.catalogue.specs.ChainReader.{IsBroken}
-use Rattle.catalogue.specs.Building.{tree_of, IsOf}
-use Rattle.catalogue.specs.Lasting.{IsWithin}
-use Rattle.catalogue.specs.Restoring.{IsRest}
-use Rattle.catalogue.specs.Saved.{CatalogueView}
-use Rattle.catalogue.proofs.BuildLemmas.{contents_few}
-use Rattle.catalogue.proofs.HeaderLemmas.{if_ok}
-use Rattle.catalogue.proofs.ReaderLemmas.{if_err, if_err_of}
-use Rattle.catalogue.proofs.RestoreLemmas.{no_rest}
+use Rattle.register.specs.ChainReader.{IsBroken}
+use Rattle.register.specs.Building.{tree_of, IsOf}
+use Rattle.register.specs.Lasting.{IsWithin}
+use Rattle.register.specs.Restoring.{IsRest}
+use Rattle.register.specs.Saved.{CatalogueView}
+use Rattle.register.proofs.BuildLemmas.{contents_few}
+use Rattle.register.proofs.ReaderLemmas.{if_ok}
+use Rattle.register.proofs.ReaderLemmas.{if_err, if_err_of}
+use Rattle.register.proofs.RestoreLemmas.{no_rest}
 use Rattle.version1.proofs.old_store.read_old_rest.Goals as goal
 
 pub returns-in_err-contents-clause-broken : goal.returns-in_err-contents-clause-broken

@@ -1,9 +1,0 @@
-use Rattle.std.proofs.Common.{◌≡◌, ◌-◌, ◌^◌, min, take}
-use Rattle.catalogue.specs.Text.{leg_sum}
-use Rattle.catalogue.proofs.entries.leg_sum.Given as goal
-
--- the legs of the features so far
-abbrev pub invariant-loop-feature : goal.invariant-loop-feature
-invariant-loop-feature l = record {
-  sum : l.legs ≡ min (leg_sum (take l.feature-index l.features-2)) (2 ^ 64 - 1);
-}

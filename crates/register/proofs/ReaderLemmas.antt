@@ -1,0 +1,238 @@
+-- The text that is left in a chain of pages.
+use Rattle.std.proofs.Common.{ℕ, suc, ◌≡◌, ◌-◌, ◌<◌, ◌≤◌, ◌==◌, min, Bool, true, false, cond, List, [], ◌++◌, drop, length, refl, sym, ap, ◌∙◌, arith, subst, ⊎_elim, IsTrue, Option, Some, None, option_map, option_and_then, Result, Ok, Err, OnOk}
+use Rattle.std.specs.Prelude.{IfErr, IfOk}
+use Rattle.std.specs.Int.{div_ceil}
+use Rattle.std.proofs.lemmas.Bool.{cases_lt}
+use Rattle.std.proofs.lemmas.Grind.{div_ceil_times}
+use Rattle.std.proofs.lemmas.Int.{clamps}
+use Rattle.std.proofs.lemmas.List.{append-nil, append_assoc, drop-append-le}
+use Rattle.pages.specs.declared.payload.Payload.{Payload}
+use Rattle.pagecache.specs.Cache.{Cache, Rests, IsRefused, payload_of}
+use Rattle.pagecache.specs.declared.fault.CacheFault.{CacheFault}
+use Rattle.pagecache.specs.declared.fault.CacheFault.TheVariants as cache
+use Rattle.chains.specs.Reads.{OnlyReads}
+use Rattle.register.specs.Chain.{most_used, is_part, next_in, text_in, chain_text, text_at}
+use Rattle.register.specs.ChainReader.{ReaderView, fault_of, rest_of, IsBroken, IsPageFault, IsReadFault, IsTextFault, TakesPart}
+use Rattle.register.specs.declared.fault.CatalogueFault.{CatalogueFault}
+use Rattle.register.specs.declared.fault.CatalogueFault.TheVariants.{Memory, Store, StoreFull, Damaged, Unfinished, Version, Malformed}
+
+pub some_none : {X : Type 0} (x : X) → Some x ≡ None → ⊥
+some_none x e = absurd cc
+
+pub some_same : {X : Type 0} (x y : X) → Some x ≡ Some y → x ≡ y
+some_same x y e = cc
+
+-- a page more, where some of the text is left
+pages_down : (left : ℕ) → 0 < left → div_ceil left most_used ≡ suc (div_ceil (left - most_used) most_used)
+pages_down left h =
+    let a = div_ceil_times left most_used (omega arith) in
+    let b = div_ceil_times (left - most_used) most_used (omega arith) in
+    omega (arith, a.0, a.1, b.0, b.1, h)
+
+module _ {X Y : Type 0} where
+  pub map_none : (f : X → Y) (o : Option X) → o ≡ None → option_map f o ≡ None
+  map_none f o e = ap (option_map f) e
+
+module _ {X Y Z : Type 0} where
+  pub map_map : (f : Y → Z) (g : X → Y) (o : Option X) → option_map f (option_map g o) ≡ option_map (λ x. f (g x)) o
+  map_map f g None = refl
+  map_map f g (Some x) = refl
+
+module _ {X Y : Type 0} where
+  pub map_same : (f g : X → Y) (o : Option X) → ((x : X) → f x ≡ g x) → option_map f o ≡ option_map g o
+  map_same f g None h = refl
+  map_same f g (Some x) h = ap Some (h x)
+
+module _ (at : ℕ → Option Payload) where
+  text_step : (left next : ℕ) (payload : Payload) → 0 < left → at next ≡ Some payload → is_part (min most_used left) payload ≡ true
+      → text_at at left next ≡ option_map (λ t. text_in (min most_used left) payload ++ t) (text_at at (left - most_used) (next_in payload))
+  unfolding text_at
+  text_step left next payload h here form =
+      ap (λ n. chain_text at n left next) (pages_down left h)
+      ∙ ap (λ o. option_and_then (λ p. cond (is_part (min most_used left) p) (option_map (λ t. text_in (min most_used left) p ++ t) (chain_text at (div_ceil (left - most_used) most_used) (left - most_used) (next_in p))) None) o) here
+      ∙ ap (λ b. cond b (option_map (λ t. text_in (min most_used left) payload ++ t) (chain_text at (div_ceil (left - most_used) most_used) (left - most_used) (next_in payload))) None) form
+
+  text_broken : (left next : ℕ) (payload : Payload) → 0 < left → at next ≡ Some payload → is_part (min most_used left) payload ≡ false → text_at at left next ≡ None
+  unfolding text_at
+  text_broken left next payload h here form =
+      ap (λ n. chain_text at n left next) (pages_down left h)
+      ∙ ap (λ o. option_and_then (λ p. cond (is_part (min most_used left) p) (option_map (λ t. text_in (min most_used left) p ++ t) (chain_text at (div_ceil (left - most_used) most_used) (left - most_used) (next_in p))) None) o) here
+      ∙ ap (λ b. cond b (option_map (λ t. text_in (min most_used left) payload ++ t) (chain_text at (div_ceil (left - most_used) most_used) (left - most_used) (next_in payload))) None) form
+
+  text_none : (left next : ℕ) → 0 < left → at next ≡ None → text_at at left next ≡ None
+  unfolding text_at
+  text_none left next h here =
+      ap (λ n. chain_text at n left next) (pages_down left h)
+      ∙ ap (λ o. option_and_then (λ p. cond (is_part (min most_used left) p) (option_map (λ t. text_in (min most_used left) p ++ t) (chain_text at (div_ceil (left - most_used) most_used) (left - most_used) (next_in p))) None) o) here
+
+  -- at the end of the text no page more is named
+  pub text_end : (next : ℕ) → text_at at 0 next ≡ cond (next == 0) (Some []) None
+  unfolding text_at
+  text_end next = refl
+
+  pub rest_step : (old new : ReaderView) (payload : Payload) → 0 < old.left → at old.next ≡ Some payload → TakesPart payload old new → rest_of at new ≡ rest_of at old
+  rest_step old new payload h here t =
+      let used = min most_used old.left in
+      let behind = text_at at (old.left - most_used) (next_in payload) in
+      ap (λ b. option_map (λ t. b ++ t) (text_at at new.left new.next)) t.bytes
+      ∙ ap (λ n. option_map (λ s. (old.bytes ++ text_in used payload) ++ s) (text_at at n new.next)) t.left
+      ∙ ap (λ n. option_map (λ s. (old.bytes ++ text_in used payload) ++ s) (text_at at (old.left - most_used) n)) t.next
+      ∙ map_same (λ s. (old.bytes ++ text_in used payload) ++ s) (λ s. old.bytes ++ (text_in used payload ++ s)) behind (λ s. append_assoc old.bytes (text_in used payload) s)
+      ∙ sym (map_map (λ s. old.bytes ++ s) (λ s. text_in used payload ++ s) behind)
+      ∙ ap (option_map (λ s. old.bytes ++ s)) (sym (text_step old.left old.next payload h here t.form))
+
+  pub rest_broken : (old : ReaderView) (payload : Payload) → 0 < old.left → at old.next ≡ Some payload → is_part (min most_used old.left) payload ≡ false → rest_of at old ≡ None
+  rest_broken old payload h here form = map_none (λ s. old.bytes ++ s) (text_at at old.left old.next) (text_broken old.left old.next payload h here form)
+
+  pub rest_none : (old : ReaderView) → 0 < old.left → at old.next ≡ None → rest_of at old ≡ None
+  rest_none old h here = map_none (λ s. old.bytes ++ s) (text_at at old.left old.next) (text_none old.left old.next h here)
+
+-- pages that are only read have the text that they had
+pub same_rest : (old new : Cache) (r : ReaderView) → OnlyReads old new → IsTrue old.store.is_faithful → rest_of (payload_of new) r ≡ rest_of (payload_of old) r
+same_rest old new r reads f = λ i. rest_of (λ n. reads.payloads f n i) r
+
+-- a page of the chain is taken in
+module _ (payload : Payload) (next left taken used n : ℕ) (items : List ℕ) where
+  abbrev before : ReaderView
+  before = record { next = next; left = left; bytes = drop taken items }
+
+  taken_in : taken ≤ length items → used ≡ min left most_used → is_part used payload ≡ true → n ≡ next_in payload
+      → TakesPart payload before (record { next = n; left = left - used; bytes = drop taken (items ++ text_in used payload) })
+  taken_in h u form is =
+      let same : used ≡ min most_used left = omega (arith, u) in
+      record {
+        form = subst (λ k. is_part k payload ≡ true) same form;
+        next = is;
+        left = omega (arith, u);
+        bytes = drop-append-le taken items (text_in used payload) h ∙ ap (λ k. drop taken items ++ text_in k payload) same;
+      }
+
+  pub take_in : (old : ReaderView) → before ≡ old → taken ≤ length items → used ≡ min left most_used → is_part used payload ≡ true → n ≡ next_in payload
+      → (more : List ℕ) → more ≡ items ++ text_in used payload
+      → TakesPart payload old (record { next = n; left = left - used; bytes = drop taken more })
+  take_in old e h u form is more m =
+      subst (λ l. TakesPart payload old (record { next = n; left = left - used; bytes = drop taken l })) (sym m)
+      (subst (λ v. TakesPart payload v (record { next = n; left = left - used; bytes = drop taken (items ++ text_in used payload) })) e (taken_in h u form is))
+
+-- an answer, and a fault
+pub on_ok : {T E P Q : Type 0} (r : Result T E) → (P → Q) → OnOk r P → OnOk r Q
+on_ok {T} {E} {P} {Q} r f h = (elim r as (λ r. OnOk r P → OnOk r Q) [ Ok x ↦ λ h. f h | Err e ↦ λ h. h ]) h
+
+pub if_ok : {T E : Type 0} (P Q : T → Type 0) (r : Result T E) → ((x : T) → P x → Q x) → IfOk r P → IfOk r Q
+if_ok P Q (Ok x) f h = f x h
+if_ok P Q (Err e) f h = tt
+
+pub if_err : {T E : Type 0} (P Q : E → Type 0) (r : Result T E) → ((e : E) → P e → Q e) → IfErr r P → IfErr r Q
+if_err P Q (Ok x) f h = tt
+if_err P Q (Err e) f h = f e h
+
+pub the_error : {T E : Type 0} (P : E → Type 0) (r : Result T E) (e : E) → r ≡ Err e → IfErr r P → P e
+the_error P r e is h = subst (λ r. IfErr r P) is h
+
+-- a page that is broken has no payload, or one of another form
+pub page_broken : (payload : Payload) (old : ReaderView) (e : CatalogueFault) → IsPageFault payload old e → IsBroken e → is_part (min most_used old.left) payload ≡ false
+page_broken payload old Memory h b = absurd b
+page_broken payload old Store h b = absurd b
+page_broken payload old StoreFull h b = absurd b
+page_broken payload old (Damaged n) h b = absurd h
+page_broken payload old Unfinished h b = absurd b
+page_broken payload old Version h b = absurd b
+page_broken payload old Malformed h b = h
+
+pub refused_none : (n : ℕ) (a b : Cache) (e : CacheFault) → IsRefused n e a b → IsBroken (fault_of e) → IsTrue a.store.is_faithful → payload_of a n ≡ None
+refused_none n a b cache.NoPage h k f = h.1 f
+refused_none n a b cache.Store h k f = absurd k
+refused_none n a b (cache.Damaged m) h k f = h.1 f
+refused_none n a b cache.StoreFull h k f = absurd k
+refused_none n a b cache.Memory h k f = absurd k
+
+-- a page that is not read for a fault of its own is there, and has no payload
+pub refused_read : (n : ℕ) (a b : Cache) (e : CacheFault) → Rests a b → (a.count ≤ n → e ≡ cache.NoPage) → IsRefused n e a b → IsReadFault a b (fault_of e)
+refused_read n a b cache.NoPage rests out h = tt
+refused_read n a b cache.Store rests out h = h
+refused_read n a b (cache.Damaged m) rests out h =
+    let count = rests.stays.count in
+    let same : n ≡ m = sym h.0 in (
+      ⊎_elim (λ (l : n < a.count). omega (arith, l, count, same)) (λ (l : a.count ≤ n). absurd (damaged_not (out l))) (cases_lt n a.count),
+      λ fb. let fa = sym rests.stays.keeps.store.faithful ∙ fb in ap (payload_of b) (sym same) ∙ rests.stays.payloads fa n ∙ h.1 fa,
+    ) where
+      damaged_not : cache.Damaged m ≡ cache.NoPage → ⊥
+      damaged_not e = absurd cc
+refused_read n a b cache.StoreFull rests out h = h
+refused_read n a b cache.Memory rests out h = tt
+
+-- the next page is read
+module _ (a b : Cache) (old : ReaderView) (n : ℕ) (named : n ≡ old.next) (rests : Rests a b) (some : 0 < old.left) where
+  pub loaded : (new : ReaderView) (payload : Payload) → (IsTrue a.store.is_faithful → payload_of a n ≡ Some payload) → TakesPart payload old new → IsTrue a.store.is_faithful → rest_of (payload_of b) new ≡ rest_of (payload_of a) old
+  loaded new payload here t f =
+      (λ i. rest_of (λ k. rests.stays.payloads f k i) new)
+      ∙ rest_step (payload_of a) old new payload some (ap (payload_of a) (sym named) ∙ here f) t
+
+  pub not_taken : (payload : Payload) → (IsTrue a.store.is_faithful → payload_of a n ≡ Some payload) → is_part (min most_used old.left) payload ≡ false → IsTrue a.store.is_faithful → rest_of (payload_of a) old ≡ None
+  not_taken payload here form f = rest_broken (payload_of a) old payload some (ap (payload_of a) (sym named) ∙ here f) form
+
+  pub not_read : (IsTrue a.store.is_faithful → payload_of a n ≡ None) → IsTrue a.store.is_faithful → rest_of (payload_of a) old ≡ None
+  not_read none f = rest_none (payload_of a) old some (ap (payload_of a) (sym named) ∙ none f)
+
+-- at the end of the text there is what stands ready
+module _ (at : ℕ → Option Payload) (r : ReaderView) (text : List ℕ) where
+  at_last : (b : Bool) → option_map (λ t. r.bytes ++ t) (cond b (Some []) None) ≡ Some text → length text ≡ length r.bytes
+  at_last true e = ap length (sym (some_same (r.bytes ++ []) text e)) ∙ ap length (append-nil r.bytes)
+  at_last false e = absurd (some_none text (sym e))
+
+  pub ended : r.left ≡ 0 → rest_of at r ≡ Some text → length text ≡ length r.bytes
+  unfolding text_at
+  ended z e = at_last (r.next == 0) (sym (ap (λ n. option_map (λ t. r.bytes ++ t) (text_at at n r.next)) z) ∙ e)
+
+-- one reading after another
+pub reads_trans : (a b c : Cache) → OnlyReads a b → OnlyReads b c → OnlyReads a c
+reads_trans a b c p q = record {
+  store = record {
+    most = q.store.most ∙ p.store.most;
+    faithful = q.store.faithful ∙ p.store.faithful;
+    faults = omega (arith, p.store.faults, q.store.faults);
+  };
+  capacity = q.capacity ∙ p.capacity;
+  count = q.count ∙ p.count;
+  length = q.length ∙ p.length;
+  asked = omega (arith, clamps, p.asked, q.asked);
+  payloads = λ f n. q.payloads (p.store.faithful ∙ f) n ∙ p.payloads f n;
+  changed = λ n u. q.changed n (p.changed n u);
+  written = λ f n h u. q.written (p.store.faithful ∙ f) n (omega (arith, h, p.count)) (p.changed n u) ∙ p.written f n h u;
+  unwritten = record {
+    clean = λ f h. q.unwritten.clean (p.store.faithful ∙ f) (λ n. p.changed n (h n)) ∙ p.unwritten.clean f h;
+    from = λ f k h. q.unwritten.from (p.store.faithful ∙ f) k (λ n l. p.changed n (h n l)) ∙ p.unwritten.from f k h;
+  };
+}
+
+-- what a fault says, at the exit of a `?`
+pub if_err_of : {T E : Type 0} (P : E → Type 0) (r : Result T E) (f e : E) → r ≡ Err f → f ≡ e → P e → IfErr r P
+if_err_of P r f e is same h = subst (λ r. IfErr r P) (sym (is ∙ ap Err same)) h
+
+-- a fault of a later reading
+pub later_fault : (a b c : Cache) (e : CatalogueFault) → OnlyReads a b → IsReadFault b c e → IsReadFault a c e
+later_fault a b c Memory reads h = tt
+later_fault a b c Store reads h = let faults = reads.store.faults in omega (arith, faults, h)
+later_fault a b c StoreFull reads h = h
+later_fault a b c (Damaged n) reads h = h
+later_fault a b c Unfinished reads h = h
+later_fault a b c Version reads h = h
+later_fault a b c Malformed reads h = tt
+
+-- at the exit of a `?`
+pub later : {T : Type 0} (a b c : Cache) (r : Result T CatalogueFault) (f e : CatalogueFault) → r ≡ Err f → f ≡ e → OnlyReads a b → IsReadFault b c e → IfErr r (IsReadFault a c)
+later a b c r f e is same reads h = if_err_of (IsReadFault a c) r f e is same (later_fault a b c e reads h)
+
+-- and at the end of a body
+pub later_end : {T : Type 0} (a b c : Cache) (r : Result T CatalogueFault) → OnlyReads a b → IfErr r (IsReadFault b c) → IfErr r (IsReadFault a c)
+later_end a b c r reads h = if_err (IsReadFault b c) (IsReadFault a c) r (λ e k. later_fault a b c e reads k) h
+
+-- one of bytes that are read
+pub text_read : (a b : Cache) (e : CatalogueFault) → IsTextFault e → IsReadFault a b e
+text_read a b Memory h = tt
+text_read a b Store h = absurd h
+text_read a b StoreFull h = absurd h
+text_read a b (Damaged n) h = absurd h
+text_read a b Unfinished h = absurd h
+text_read a b Version h = absurd h
+text_read a b Malformed h = tt

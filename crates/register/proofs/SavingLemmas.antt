@@ -1,0 +1,186 @@
+-- Bytes that are put behind one another while a text is saved.
+use Rattle.std.proofs.Common.{ℕ, zero, suc, ◌≡◌, ◌+◌, ◌<◌, ◌++◌, ◌∷◌, [], List, map, length, refl, sym, ap, ◌∙◌, arith, subst, All, IsTrue, Some, Result, Ok, Err}
+use Rattle.std.specs.Prelude.{IfErr, OnErr}
+use Rattle.std.specs.List.{flat_map, range_with_len}
+use Rattle.std.proofs.lemmas.Grind.{flat_map-append}
+use Rattle.std.proofs.lemmas.List.{append_assoc, append-nil, length-append, map-append}
+use Rattle.std.proofs.lemmas.List.Elements.{All-push}
+use Rattle.std.proofs.lemmas.Int.{clamps}
+use Rattle.pagecache.specs.Cache.{Cache, IsRefused}
+use Rattle.pagecache.specs.declared.fault.CacheFault.{CacheFault}
+use Rattle.pagecache.specs.declared.fault.CacheFault.TheVariants as cache
+use Rattle.register.specs.ChainReader.{fault_of}
+use Rattle.tbtree.specs.Descent.{IsSameTree}
+use Rattle.tbtree.specs.Nodes.{Pages, pages_of_cache}
+use Rattle.tbtree.specs.Passes.{Passes}
+use Rattle.legs.specs.Boxes.{BoxView}
+use Rattle.legs.specs.Legs.{LegView}
+use Rattle.register.specs.ChainSteps.{SparesTree}
+use Rattle.register.specs.ChainWriter.{Holds, WriterView}
+use Rattle.std.specs.Option.{option_map}
+use Rattle.legs.specs.declared.head.BookHead.{BookHead}
+use Rattle.tbtree.specs.declared.tree.Place.{Place}
+use Rattle.register.specs.Saved.{head_of, CatalogueView}
+use Rattle.register.specs.Text.{HasFeatures, IsHead, IsNumber, IsRow, IsShortText, IsWhole}
+use Rattle.register.specs.Saving.{contents_of, features_of, HasFirst, IsAllowed, IsCatalogue, IsCaused, KeepsTree, Puts, Saves}
+use Rattle.register.specs.declared.fault.CatalogueFault.{CatalogueFault}
+use Rattle.register.specs.declared.fault.CatalogueFault.TheVariants.{Memory, Store, StoreFull, Damaged, Unfinished, Version, Malformed}
+
+passes_refl : (a : Cache) → Passes a a
+passes_refl a = record {
+  store = record { most = refl; faithful = refl; faults = omega arith };
+  capacity = refl;
+  count = omega arith;
+  asked = omega (arith, clamps);
+  first = λ f h. refl;
+  unmarked = λ h u. u;
+  written = λ f h u. refl;
+}
+
+passes_trans : (a b c : Cache) → Passes a b → Passes b c → Passes a c
+passes_trans a b c p q =
+    let more = p.count in
+    record {
+      store = record { most = q.store.most ∙ p.store.most; faithful = q.store.faithful ∙ p.store.faithful; faults = omega (arith, p.store.faults, q.store.faults) };
+      capacity = q.capacity ∙ p.capacity;
+      count = omega (arith, more, q.count);
+      asked = omega (arith, clamps, p.asked, q.asked);
+      first = λ f h. q.first (p.store.faithful ∙ f) (omega (arith, more, h)) ∙ p.first f h;
+      unmarked = λ h u. q.unmarked (omega (arith, more, h)) (p.unmarked h u);
+      written = λ f h u. q.written (p.store.faithful ∙ f) (omega (arith, more, h)) (p.unmarked h u) ∙ p.written f h u;
+    }
+
+same_tree_refl : (a : Pages LegView BoxView) → IsSameTree a a
+same_tree_refl a = record { count = omega arith; held = λ p l e. (l, e); rest = λ p h. refl }
+
+same_tree_trans : (a b c : Pages LegView BoxView) → IsSameTree a b → IsSameTree b c → IsSameTree a c
+same_tree_trans a b c p q = record {
+  count = omega (arith, p.count, q.count);
+  held = λ n l e. let x = q.held n l e in p.held n x.0 x.1;
+  rest = λ n h. q.rest n h ∙ p.rest n h;
+}
+
+-- a text that is not written yet grows
+grown : (c : Cache) (w : WriterView) (bytes text : List ℕ) → Holds c w text → Holds c (record w { text = w.text ++ bytes }) (text ++ bytes)
+grown c w bytes text h f =
+    let x = h f in
+    record {
+      written = x.written;
+      all = ap (λ l. l ++ bytes) x.all ∙ append_assoc x.written w.text bytes;
+      parts = x.parts;
+      own = x.own;
+      apart = x.apart;
+      below = x.below;
+      left = λ s. let y = x.left s in let l = length-append w.text bytes in omega (arith, y, l);
+    }
+
+-- bytes that are only put behind the others
+pub pushed_only : (bytes : List ℕ) (c : Cache) (w v : WriterView) → v ≡ record w { text = w.text ++ bytes } → Saves bytes c c w v (Ok tt)
+pushed_only bytes c w v e = record {
+  puts = record {
+    passes = passes_refl c;
+    holds = λ text h. subst (λ v. Holds c v (text ++ bytes)) (sym e) (grown c w bytes text h);
+    length = λ e. e;
+    tree = λ text h f. same_tree_refl (pages_of_cache c);
+    caused = tt;
+  };
+  only = λ text h f. tt;
+}
+
+caused_after : (a b c : Cache) (e : CatalogueFault) → Passes a b → IsCaused b c e → IsCaused a c e
+caused_after a b c Memory p h = tt
+caused_after a b c Store p h = let f = p.store.faults in omega (arith, f, h)
+caused_after a b c StoreFull p h = h
+caused_after a b c (Damaged n) p h = tt
+caused_after a b c Unfinished p h = h
+caused_after a b c Version p h = h
+caused_after a b c Malformed p h = tt
+
+-- some bytes, and others behind them
+pub puts_then : (first second : List ℕ) (a b c : Cache) (w v u : WriterView) (r : Result (Unit {0}) CatalogueFault) → Puts first a b w v (Ok tt) → Puts second b c v u r → Puts (first ++ second) a c w u r
+puts_then first second a b c w v u (Ok x) p q = record {
+  passes = passes_trans a b c p.passes q.passes;
+  holds = λ text h. subst (λ t. Holds c u t) (append_assoc text first second) (q.holds (text ++ first) (p.holds text h));
+  length = λ e. q.length (p.length e);
+  tree = λ text h f. same_tree_trans (pages_of_cache a) (pages_of_cache b) (pages_of_cache c) (p.tree text h f) (q.tree (text ++ first) (p.holds text h) (p.passes.store.faithful ∙ f));
+  caused = tt;
+}
+puts_then first second a b c w v u (Err e) p q = record {
+  passes = passes_trans a b c p.passes q.passes;
+  holds = tt;
+  length = tt;
+  tree = λ text h f. same_tree_trans (pages_of_cache a) (pages_of_cache b) (pages_of_cache c) (p.tree text h f) (q.tree (text ++ first) (p.holds text h) (p.passes.store.faithful ∙ f));
+  caused = caused_after a b c e p.passes q.caused;
+}
+
+pub saves_then : (first second : List ℕ) (a b c : Cache) (w v u : WriterView) (r : Result (Unit {0}) CatalogueFault) → Saves first a b w v (Ok tt) → Saves second b c v u r → Saves (first ++ second) a c w u r
+saves_then first second a b c w v u r p q = record {
+  puts = puts_then first second a b c w v u r p.puts q.puts;
+  only = λ text h f. q.only (text ++ first) (p.puts.holds text h) (p.puts.passes.store.faithful ∙ f);
+}
+
+-- the bytes are these
+pub puts_same : (some all : List ℕ) (a b : Cache) (w v : WriterView) (r : Result (Unit {0}) CatalogueFault) → some ≡ all → Puts some a b w v r → Puts all a b w v r
+puts_same some all a b w v r e s = subst (λ l. Puts l a b w v r) e s
+
+pub saves_same : (some all : List ℕ) (a b : Cache) (w v : WriterView) (r : Result (Unit {0}) CatalogueFault) → some ≡ all → Saves some a b w v r → Saves all a b w v r
+saves_same some all a b w v r e s = subst (λ l. Saves l a b w v r) e s
+
+range_push : (a n : ℕ) → range_with_len a (suc n) ≡ range_with_len a n ++ (a + n) ∷ []
+range_push a zero = ap (λ k. k ∷ []) (let e : a ≡ a + zero = omega arith in e)
+range_push a (suc n) = ap (λ l. a ∷ l) (range_push (a + 1) n ∙ ap (λ k. range_with_len (a + 1) n ++ k ∷ []) (let e : a + 1 + n ≡ a + suc n = omega arith in e))
+
+-- one item more of those that a number names
+pub named_more : {V : Type 0} (text : V → List ℕ) (f : ℕ → V) (front : List ℕ) (n : ℕ) → (front ++ flat_map text (map f (range_with_len 0 n))) ++ text (f n) ≡ front ++ flat_map text (map f (range_with_len 0 (n + 1)))
+named_more text f front n =
+    append_assoc front (flat_map text (map f (range_with_len 0 n))) (text (f n))
+    ∙ ap (λ l. front ++ (flat_map text (map f (range_with_len 0 n)) ++ l)) (sym (append-nil (text (f n))))
+    ∙ ap (λ l. front ++ l) (sym (flat_map-append text (map f (range_with_len 0 n)) (f n ∷ [])))
+    ∙ ap (λ l. front ++ flat_map text l) (sym (map-append f (range_with_len 0 n) (n ∷ [])))
+    ∙ ap (λ l. front ++ flat_map text (map f l)) (ap (λ k. range_with_len 0 n ++ k ∷ []) (let e : n ≡ 0 + n = omega arith in e) ∙ sym (range_push 0 n) ∙ ap (range_with_len 0) (let e : suc n ≡ n + 1 = omega arith in e))
+
+-- one item more of such
+pub all_named : {V : Type 0} (P : V → Type 0) (f : ℕ → V) (n : ℕ) → All P (map f (range_with_len 0 n)) → P (f n) → All P (map f (range_with_len 0 (n + 1)))
+all_named P f n all one =
+    subst (All P)
+    (sym (map-append f (range_with_len 0 n) (n ∷ []))
+    ∙ ap (map f) (ap (λ k. range_with_len 0 n ++ k ∷ []) (let e : n ≡ 0 + n = omega arith in e) ∙ sym (range_push 0 n) ∙ ap (range_with_len 0) (let e : suc n ≡ n + 1 = omega arith in e)))
+    (All-push P (map f (range_with_len 0 n)) (f n) all one)
+
+-- values as many as the columns, in each row
+rows_whole : (n : ℕ) (rows : List (List (List ℕ))) → All (λ row. length row ≡ n) rows → All (All IsShortText) rows → All (IsRow n) rows
+rows_whole n rows many each = λ i d h. record { each = each i d h; many = many i d h }
+
+-- the head and the lists of a catalogue are whole
+pub whole_contents : (c : CatalogueView) (places : List Place) (head : BookHead) → c.head ≡ Some head → IsHead (head_of head) → HasFeatures (features_of c.tracks places) → All (All IsShortText) c.rows → IsNumber 32 (length c.rows) → IsCatalogue c → IsWhole (contents_of c places)
+whole_contents c places head is whole features rows few all =
+    subst (λ h. IsWhole (option_map (λ (x : BookHead). record { head = head_of x; lists = record { features = features_of c.tracks places; rows = c.rows } }) h)) (sym is) (record {
+      head = whole;
+      lists = record { features = features; rows = record { each = rows_whole (length head.columns) c.rows (all.rows head is) rows; few = few } };
+    })
+
+-- a page 0 that is there is not refused
+pub refused_allowed : (a b : Cache) (e : CacheFault) → IsRefused 0 e a b → IsTrue a.store.is_faithful → 0 < a.count → HasFirst a → IsAllowed (fault_of e)
+refused_allowed a b cache.NoPage h f some first = absurd (omega (arith, h.0, some))
+refused_allowed a b cache.Store h f some first = tt
+refused_allowed a b (cache.Damaged n) h f some first = first f (h.1 f)
+refused_allowed a b cache.StoreFull h f some first = tt
+refused_allowed a b cache.Memory h f some first = tt
+
+pub guarded_error : {T E : Type 0} (P : E → Type 0) (r : Result T E) (e : E) → r ≡ Err e → OnErr r (IfErr r P) → P e
+guarded_error P r e is h = subst (λ r. OnErr r (IfErr r P)) is h
+
+-- a text begun, put together and written
+module _ (bytes : List ℕ) (a b c d : Cache) (w v : WriterView) (begun : Passes a b) (held : Holds b w []) (spared : SparesTree a b) (put : Puts bytes b c w v (Ok tt)) where
+  holds_all : Holds c v ([] ++ bytes)
+  holds_all = put.holds [] held
+
+  pub whole_kept : Passes c d → ((text : List ℕ) → Holds c v text → SparesTree c d) → KeepsTree a d
+  whole_kept last tree = record {
+    passes = passes_trans a c d (passes_trans a b c begun put.passes) last;
+    tree = λ f.
+        let fb = begun.store.faithful ∙ f in
+        same_tree_trans (pages_of_cache a) (pages_of_cache c) (pages_of_cache d)
+        (same_tree_trans (pages_of_cache a) (pages_of_cache b) (pages_of_cache c) (spared f) (put.tree [] held fb))
+        (tree ([] ++ bytes) holds_all (put.passes.store.faithful ∙ fb));
+  }

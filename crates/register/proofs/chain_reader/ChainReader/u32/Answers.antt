@@ -1,0 +1,11 @@
+use Rattle.std.proofs.lemmas.Result.{err_from_is_err_and}
+use Rattle.byteorder.specs.Endian.{big_bytes}
+use Rattle.byteorder.specs.Numbers.{length-bytes_high_first}
+use Rattle.register.specs.Text.{IsNumber}
+use Rattle.register.proofs.ValueLemmas.{failed}
+use Rattle.register.proofs.chain_reader.ChainReader.u32.Goals as goal
+
+pub returns-in_err-fill-clause-takes : goal.returns-in_err-fill-clause-takes
+returns-in_err-fill-clause-takes g c = λ fa.
+    let p = err_from_is_err_and c.from_residual.result c.from_residual.ensures.1 in
+    failed (big_bytes 4) (IsNumber 32) 4 (λ v. length-bytes_high_first 4 v) _ _ c.from_residual.result _ p.0 p.1 p.2 (λ b. c.in_err-fill.ensures.broken b fa)

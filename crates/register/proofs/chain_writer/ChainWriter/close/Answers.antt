@@ -1,0 +1,18 @@
+use Rattle.std.proofs.Common.{◌≡◌, ◌≤◌, length, ap, ◌∙◌, arith}
+use Rattle.register.proofs.WriterLemmas.{closed, last_tree}
+use Rattle.register.specs.ChainWriter.{WriterView}
+use Rattle.register.proofs.chain_writer.ChainWriter.close.Goals as goal
+
+pub returns-clause-text : goal.returns-clause-text
+returns-clause-text g c = λ text h some f.
+    let v = c.args.self.now in
+    let items = c.self.inside.text.items in
+    let e : items ≡ v.text = ap (λ (v : WriterView). v.text) c.self.view_is in
+    let same = ap length (c.deref.ensures.value ∙ e) in
+    let r = c.requires in
+    let short : length c.deref.result.now ≤ 4040 = omega (arith, same, r) in
+    closed c.args.cache.now c.write_page.new.cache c.deref.result.now text c.last-last.result short c.in_ok-write_page.ensures.writes f some
+    v items c.text_len.result c.first.result e c.deref.ensures.value c.last-last.ensures.last c.first.ensures.first c.text_len.ensures c.first.ensures.small h
+
+pub returns-clause-tree : goal.returns-clause-tree
+returns-clause-tree g c = λ text h. last_tree c.args.cache.now c.write_page.new.cache c.args.self.now c.last-last.result 0 _ text c.last-last.ensures.last c.last-last.ensures.some c.in_ok-write_page.ensures.writes h

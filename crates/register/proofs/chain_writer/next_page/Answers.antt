@@ -1,0 +1,12 @@
+use Rattle.std.proofs.Common.{◌≤◌, arith}
+use Rattle.register.proofs.WriterLemmas.{not_among}
+use Rattle.register.proofs.chain_writer.next_page.Goals as goal
+
+pub returns-in_ok-page-in-None-clause-apart : goal.returns-in_ok-page-in-None-clause-apart
+returns-in_ok-page-in-None-clause-apart g c = λ all.
+    let page = c.in_ok-page-in-None.page in
+    let n = c.args.cache.now.count in
+    let new = c.in_ok-page-in-None.ensures.new in
+    let same = c.reused.ensures.count in
+    let h : n ≤ page = omega (arith, new, same) in
+    not_among page n c.args.pages.now.keys h all

@@ -1,0 +1,15 @@
+use Rattle.std.proofs.Common.{[], arith}
+use Rattle.register.specs.Text.{short_text, IsShortText}
+use Rattle.register.proofs.EncodingLemmas.{all_more, all_taken, pushed_more}
+use Rattle.register.proofs.encoding.push_row.Goals as goal
+
+pub values-preserved : goal.values-preserved
+values-preserved c =
+    let i = c.values.i in
+    record {
+      pushed = pushed_more short_text c.args.writer.now c.values.writer c.push_text.new.writer c.args.row.now c.value.result.now [] i (omega (arith, c.values-test.true, c.len-i-end.ensures)) c.value.ensures c.values.invariant.pushed c.in_ok-push_text.ensures.pushed;
+      whole = all_more IsShortText c.args.row.now c.value.result.now [] i (omega (arith, c.values-test.true, c.len-i-end.ensures)) c.value.ensures c.values.invariant.whole c.in_ok-push_text.ensures.whole;
+    }
+
+pub returns-clause-whole : goal.returns-clause-whole
+returns-clause-whole c = all_taken IsShortText c.args.row.now c.values.i (omega (arith, c.values-test.false, c.len-i-end.ensures)) c.values.invariant.whole

@@ -1,0 +1,48 @@
+use Rattle.std.proofs.Common.{◌∙◌, refl, sym, Result, Ok, Err, OnOk}
+use Rattle.register.proofs.ReaderLemmas.{on_ok}
+use Rattle.register.proofs.SaveLemmas.{all_spare, keeps_front, not_zero, puts_length, says}
+use Rattle.register.proofs.saving.keep.Goals as goal
+
+pub returns-clause-front : goal.returns-clause-front
+returns-clause-front g c =
+    let a = c.args.cache.now in
+    let b = c.earlier_page.new.cache in
+    let x = c.write_whole.new.cache in
+    let d = c.write_fields.new.cache in
+    on_ok c.write_fields.result (λ puts fa some. keeps_front x d c.fields_for-fields.result puts a b c.earlier_page.ensures.reads c.write_whole.ensures.kept.passes fa some) c.write_fields.ensures.puts
+
+pub returns-clause-saved : goal.returns-clause-saved
+returns-clause-saved g c =
+    let a = c.args.cache.now in
+    let b = c.earlier_page.new.cache in
+    let x = c.write_whole.new.cache in
+    let d = c.write_fields.new.cache in
+    let tree = c.args.tree in
+    let places = c.args.places.now in
+    on_both c.write_fields.result (λ puts fits fa.
+    let reads = c.earlier_page.ensures.reads in
+    let fb = reads.store.faithful ∙ fa in
+    says x d c.fields_for-fields.result puts a b reads c.write_whole.ensures.kept.passes fa c.args.catalogue.now tree tree places places c.in_ok-first.first c.in_ok-first.length
+    c.fields_for-fields.ensures fits refl refl (c.in_ok-first.ensures.text fb) (c.in_ok-first.ensures.few fb)) c.write_fields.ensures.puts c.write_fields.ensures.fits where
+      on_both : {T E : Type 0} {P Q R : Type 0} (r : Result T E) → (P → Q → R) → OnOk r P → OnOk r Q → OnOk r R
+      on_both (Ok x) f p q = f p q
+      on_both (Err e) f p q = tt
+
+pub returns-clause-length : goal.returns-clause-length
+returns-clause-length g c =
+    let x = c.write_whole.new.cache in
+    let d = c.write_fields.new.cache in
+    let reads = c.earlier_page.ensures.reads in
+    on_ok c.write_fields.result (λ puts even. puts_length x d c.fields_for-fields.result puts (c.in_ok-first.ensures.length (reads.count ∙ even ∙ sym reads.length))) c.write_fields.ensures.puts
+
+pub returns-clause-written : goal.returns-clause-written
+returns-clause-written g c =
+    on_ok c.write_fields.result (λ puts. record {
+      clean = λ n h. puts.lends.writes.changed n (not_zero n h) (c.in_ok-first.ensures.written n);
+      settled = puts.lends.writes.keeps.settled;
+    }) c.write_fields.ensures.puts
+
+pub returns-clause-tree : goal.returns-clause-tree
+returns-clause-tree g c =
+    all_spare c.args.cache.now c.earlier_page.new.cache c.write_whole.new.cache c.write_fields.new.cache c.fields_for-fields.result c.write_fields.result c.earlier_page.ensures.reads c.write_whole.ensures.kept
+    c.write_fields.ensures.puts c.write_fields.ensures.rests

@@ -1,0 +1,53 @@
+use Rattle.std.proofs.Common.{◌≡◌, ◌+◌, ◌++◌, sym, ◌∙◌, arith, subst, Ok, All, ◌<◌, ◌^◌, rules, map, length, List, ℕ}
+use Rattle.std.specs.List.{flat_map, range_with_len}
+use Rattle.std.proofs.lemmas.List.{length-map}
+use Rattle.std.proofs.lemmas.List.FromFn.{length-range_with_len}
+use Rattle.byteorder.specs.Endian.{big_bytes}
+use Rattle.register.specs.Saving.{feature_at, features_of, Saves}
+use Rattle.register.specs.Text.{feature_text, features_text, IsFeature}
+use Rattle.register.specs.declared.contents.Feature.{Feature}
+use Rattle.register.proofs.SavingLemmas.{saves_then, saves_same, named_more, all_named}
+use Rattle.register.proofs.saving.write_features.Goals as goal
+
+pub loop-feature-preserved : goal.loop-feature-preserved
+loop-feature-preserved g c =
+    let inv = c.loop-feature.invariant in
+    let a = c.args.cache.now in
+    let b = c.loop-feature.cache in
+    let d = c.write_feature.new.cache in
+    let at : ℕ → Feature = feature_at c.args.tracks.now c.args.places.now in
+    let front = big_bytes 4 c.args.count in
+    let n = c.loop-feature.feature in
+    let done : List ℕ = front ++ flat_map feature_text (map at (range_with_len 0 n)) in
+    let more : Saves (feature_text (at n)) b d c.loop-feature.writer c.write_feature.new.writer (Ok tt) =
+    subst (λ r. Saves (feature_text (at n)) b d c.loop-feature.writer c.write_feature.new.writer r) c.in_ok-write_feature.was
+    c.write_feature.ensures.saves in
+    record {
+      saves = saves_same (done ++ feature_text (at n)) (front ++ flat_map feature_text (map at (range_with_len 0 (n + 1)))) a d c.args.writer.now c.write_feature.new.writer (Ok tt) (named_more feature_text at front n)
+          (saves_then done (feature_text (at n)) a b d c.args.writer.now c.loop-feature.writer c.write_feature.new.writer (Ok tt) inv.saves more);
+      whole = all_named IsFeature at n inv.whole c.in_ok-write_feature.ensures.whole;
+    }
+
+pub returns-clause-whole : goal.returns-clause-whole
+returns-clause-whole g c = λ e.
+    let at : ℕ → Feature = feature_at c.args.tracks.now c.args.places.now in
+    let n = c.loop-feature.feature in
+    let all : n ≡ length c.args.tracks.now.names = omega (arith, e, c.loop-feature.auto.feature-end, c.loop-feature-test.false) in
+    let few : c.args.count < 2 ^ 32 = search rules in
+    let long = length-map (range_with_len 0 (length c.args.tracks.now.names)) at ∙ length-range_with_len 0 (length c.args.tracks.now.names) in
+    record {
+      each = subst (λ k. All IsFeature (map at (range_with_len 0 k))) all c.loop-feature.invariant.whole;
+      few = subst (λ k. k < 2 ^ 32) (e ∙ sym long) few;
+    }
+
+pub returns-clause-saves : goal.returns-clause-saves
+returns-clause-saves g c = λ e.
+    let inv = c.loop-feature.invariant in
+    let a = c.args.cache.now in
+    let b = c.loop-feature.cache in
+    let at : ℕ → Feature = feature_at c.args.tracks.now c.args.places.now in
+    let n = c.loop-feature.feature in
+    let all : n ≡ length c.args.tracks.now.names = omega (arith, e, c.loop-feature.auto.feature-end, c.loop-feature-test.false) in
+    let count : c.args.count ≡ length (map at (range_with_len 0 (length c.args.tracks.now.names))) = e ∙ sym (length-map (range_with_len 0 (length c.args.tracks.now.names)) at ∙ length-range_with_len 0 (length c.args.tracks.now.names)) in
+    saves_same (big_bytes 4 c.args.count ++ flat_map feature_text (map at (range_with_len 0 n))) (features_text (features_of c.args.tracks.now c.args.places.now)) a b c.args.writer.now c.loop-feature.writer (Ok tt)
+    (λ i. big_bytes 4 (count i) ++ flat_map feature_text (map at (range_with_len 0 (all i)))) inv.saves

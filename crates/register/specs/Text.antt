@@ -1,0 +1,191 @@
+-- The text of a catalogue.
+use Rattle.std.specs.Prelude.{ℕ, ◌≡◌, ◌^◌, ◌<◌, ◌≤◌, ◌++◌, ◌∷◌, [], ℤ, FitsSigned, List, length, sum_by, IsUtf8, All, Option, Some, None}
+use Rattle.std.specs.Int.{w64}
+use Rattle.std.specs.List.{flat_map}
+use Rattle.byteorder.specs.Endian.{big_bytes}
+use Rattle.mfcsv.specs.declared.Column.{Column}
+use Rattle.tbnode.specs.Parts.{signed_bytes}
+use Rattle.tbtree.specs.declared.tree.Place.{Place}
+use Rattle.register.specs.declared.contents.Kept.{Kept}
+use Rattle.register.specs.declared.contents.Feature.{Feature}
+use Rattle.register.specs.declared.contents.Space.{Space}
+use Rattle.register.specs.declared.contents.Head.{Head}
+use Rattle.register.specs.declared.contents.Lists.{Lists}
+use Rattle.register.specs.declared.contents.Contents.{Contents}
+
+-- a short text: its length, and its bytes
+abbrev pub short_text : List ℕ → List ℕ
+short_text text = big_bytes 8 (length text) ++ text
+
+-- an attribute column: its name, and its type
+abbrev pub column_text : Column → List ℕ
+column_text column = short_text column.name ++ short_text column.kind
+
+-- columns behind their number
+abbrev pub columns_text : List Column → List ℕ
+columns_text columns = big_bytes 8 (length columns) ++ flat_map column_text columns
+
+-- the head of the first accepted file, but for its dimension: the base, the CRS, and the attribute
+-- columns
+abbrev pub space_text : Space → List ℕ
+space_text space = short_text space.crs ++ columns_text space.columns
+
+abbrev pub head_text : Head → List ℕ
+head_text head = signed_bytes head.base ++ space_text head.space
+
+-- when a feature's last leg ends, and its place
+unfoldable pub kept_text : Kept → List ℕ
+kept_text kept =
+    signed_bytes kept.end
+    ++ (big_bytes 4 kept.place.first ++ (big_bytes 4 kept.place.last ++ (big_bytes 4 kept.place.last_index ++ big_bytes 8 kept.place.legs)))
+
+-- a feature: its name, and what is kept of it
+abbrev pub feature_text : Feature → List ℕ
+feature_text feature = short_text feature.name ++ kept_text feature.kept
+
+-- a row of attribute values
+abbrev pub row_text : List (List ℕ) → List ℕ
+row_text row = flat_map short_text row
+
+-- the features, and the rows, behind their number
+abbrev pub features_text : List Feature → List ℕ
+features_text features = big_bytes 4 (length features) ++ flat_map feature_text features
+
+abbrev pub rows_text : List (List (List ℕ)) → List ℕ
+rows_text rows = big_bytes 4 (length rows) ++ flat_map row_text rows
+
+-- what a text says of a database into which a file was accepted
+abbrev pub lists_text : Lists → List ℕ
+lists_text lists = features_text lists.features ++ rows_text lists.rows
+
+abbrev pub contents_text : Contents → List ℕ
+contents_text contents = head_text contents.head ++ lists_text contents.lists
+
+-- the whole text: a byte that says whether a file was accepted, and what is kept of it
+abbrev pub flag_of : Option Contents → ℕ
+flag_of None = 0
+flag_of (Some contents) = 1
+
+abbrev pub body_text : Option Contents → List ℕ
+body_text None = []
+body_text (Some contents) = contents_text contents
+
+abbrev pub catalogue_text : Option Contents → List ℕ
+catalogue_text contents = flag_of contents ∷ body_text contents
+
+-- numbers that fit into so many bits, and texts that fit into a number of bytes
+abbrev pub IsNumber : ℕ → ℕ → Type 0
+IsNumber bits n = n < 2 ^ bits
+
+abbrev pub IsSigned : ℤ → Type 0
+IsSigned z = FitsSigned w64 z
+
+pub record IsShortText (text : List ℕ) : Type 0 where
+  pub utf8 : IsUtf8 text
+  pub short : length text < 2 ^ 64
+
+-- what fits into such a text
+pub record IsColumn (column : Column) : Type 0 where
+  pub name : IsShortText column.name
+  pub kind : IsShortText column.kind
+
+pub record IsPlace (place : Place) : Type 0 where
+  pub first : IsNumber 32 place.first
+  pub last : IsNumber 32 place.last
+  pub last_index : IsNumber 32 place.last_index
+  pub legs : IsNumber 64 place.legs
+
+pub record IsKept (kept : Kept) : Type 0 where
+  pub end : IsSigned kept.end
+  pub place : IsPlace kept.place
+
+pub record IsFeature (feature : Feature) : Type 0 where
+  pub name : IsShortText feature.name
+  pub kept : IsKept feature.kept
+
+-- a row of so many values
+pub record IsRow (columns : ℕ) (row : List (List ℕ)) : Type 0 where
+  pub each : All IsShortText row
+  pub many : length row ≡ columns
+
+-- so many columns, features and rows
+pub record AreColumns (count : ℕ) (columns : List Column) : Type 0 where
+  pub each : All IsColumn columns
+  pub many : length columns ≡ count
+
+pub record AreFeatures (count : ℕ) (features : List Feature) : Type 0 where
+  pub each : All IsFeature features
+  pub many : length features ≡ count
+
+pub record AreRows (columns count : ℕ) (rows : List (List (List ℕ))) : Type 0 where
+  pub each : All (IsRow columns) rows
+  pub many : length rows ≡ count
+
+-- and behind their number
+pub record HasColumns (columns : List Column) : Type 0 where
+  pub each : All IsColumn columns
+  pub few : IsNumber 64 (length columns)
+
+pub record HasFeatures (features : List Feature) : Type 0 where
+  pub each : All IsFeature features
+  pub few : IsNumber 32 (length features)
+
+pub record HasRows (columns : ℕ) (rows : List (List (List ℕ))) : Type 0 where
+  pub each : All (IsRow columns) rows
+  pub few : IsNumber 32 (length rows)
+
+-- what fits into a whole text: each row has a value for each column
+pub record IsSpace (space : Space) : Type 0 where
+  pub crs : IsShortText space.crs
+  pub columns : HasColumns space.columns
+
+pub record IsHead (head : Head) : Type 0 where
+  pub base : IsSigned head.base
+  pub space : IsSpace head.space
+
+pub record AreLists (columns : ℕ) (lists : Lists) : Type 0 where
+  pub features : HasFeatures lists.features
+  pub rows : HasRows columns lists.rows
+
+pub record AreContents (contents : Contents) : Type 0 where
+  pub head : IsHead contents.head
+  pub lists : AreLists (length contents.head.space.columns) contents.lists
+
+abbrev pub IsWhole : Option Contents → Type 0
+IsWhole None = Unit {0}
+IsWhole (Some contents) = AreContents contents
+
+-- how many legs features have
+abbrev pub leg_sum : List Feature → ℕ
+leg_sum features = sum_by (λ f. f.kept.place.legs) features
+
+-- Helpers of private functions: what is read of a text.
+
+-- no more rows than that
+pub record AreFewRows (columns most : ℕ) (rows : List (List (List ℕ))) : Type 0 where
+  pub has : HasRows columns rows
+  pub few : length rows ≤ most
+
+-- no more legs than that, and no more rows than legs
+pub record HasFewLegs (most : ℕ) (lists : Lists) : Type 0 where
+  pub legs : leg_sum lists.features ≤ most
+  pub rows : length lists.rows ≤ leg_sum lists.features
+
+-- features and rows that are read
+pub record AreRead (columns most : ℕ) (lists : Lists) : Type 0 where
+  pub are : AreLists columns lists
+  pub few : HasFewLegs most lists
+
+-- a whole text that is read
+abbrev pub AreFew : ℕ → Option Contents → Type 0
+AreFew most None = Unit {0}
+AreFew most (Some contents) = HasFewLegs most contents.lists
+
+pub record IsRead (most : ℕ) (contents : Option Contents) : Type 0 where
+  pub whole : IsWhole contents
+  pub few : AreFew most contents
+
+-- what stands behind its first byte
+pub record IsBody (most flag : ℕ) (contents : Option Contents) : Type 0 where
+  pub read : IsRead most contents
+  pub flag_is : flag_of contents ≡ flag

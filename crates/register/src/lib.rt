@@ -1,0 +1,32 @@
+//! What a store keeps of a database beside its legs: page 0, and the text of its catalogue, which is
+//! written to linked pages and read back.
+#![tactic(auto)]
+
+mod building;
+mod chain_reader;
+mod chain_writer;
+mod contents;
+mod encoding;
+mod entries;
+mod fault;
+mod header_fields;
+mod lasting;
+mod numbers;
+mod page_zero;
+mod restoring;
+mod saving;
+mod values;
+mod whole_text;
+
+pub use fault::CatalogueFault;
+pub use lasting::laws;
+pub use restoring::{Restored, lawful, read_back};
+pub use saving::{Catalogue, keep, write_all};
+
+// What a reader of another version of the format needs: the text of a catalogue is the same there.
+pub use building::{catalogue_of, is_within};
+pub use chain_reader::{ChainReader, MOST_USED, fault_of};
+pub use contents::{Contents, Feature, Features, Head, Kept, Lists, Space};
+pub use header_fields::{Fields, limits_in, u16_of};
+pub use numbers::{u32_of, u64_of};
+pub use page_zero::{MAGIC, test_state};

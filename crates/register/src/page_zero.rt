@@ -1,0 +1,96 @@
+//! Page 0 of a store that is read back.
+ghost use Rattle.std.specs.Prelude.{ℕ, Bool, Option, ◌≡◌, ◌↔◌, IsTrue, IfErr, IfOk, OnOk, Some, None};
+ghost use Rattle.legs.specs.Limits.{IsLimits};
+ghost use Rattle.pages.specs.Store.{Store};
+ghost use Rattle.pages.specs.declared.payload.Payload.{Payload};
+ghost use Rattle.pagecache.specs.Cache.{payload_of};
+ghost use Rattle.tbtree.specs.Shape.{IsShape};
+ghost use Rattle.chains.specs.Reads.{OnlyReads};
+ghost use Rattle.register.specs.Fields.{FitsFields, HasFields};
+ghost use Rattle.register.specs.Lasting.{first_fault, header_fault, state_fault, ComesFirst, IsReadingFault, IsStop, IsTrulyDamaged};
+ghost use Rattle.register.specs.Restoring.{result_of, HeaderSays, IsHeaderFault, SaysFields};
+ghost use Rattle.register.specs.declared.header_fields.Fields.{Fields};
+
+use crate::chain_reader::fault_of;
+use crate::fault::CatalogueFault;
+use crate::header_fields::{Fields, fields_of};
+use pagecache::PageCache;
+use pages::{Kind, PageStore, Payload};
+use tbnode::fields::u32_at;
+
+/// The letters `MFTB` at the beginning of a header, as a number.
+pub const MAGIC: u32 = 0x4d46_5442;
+
+/// The version of the format.
+const VERSION: u32 = 2;
+
+/// Whether the state of a store is that of a finished one.
+pub fn test_state(state: u32) -> Result<(), CatalogueFault>
+    ensures value { result ≡ result_of (state_fault state) }
+    ensures caused { IfErr result (λ e. (old new : Store) → IsReadingFault old new e) }
+    ensures damaged { IfErr result (λ e. (faithful : Bool) (at : ℕ → Option Payload) (count : ℕ)
+        → IsTrulyDamaged faithful at count e) }
+{
+    match state {
+        0 => Err(CatalogueFault::Unfinished),
+        1 => Ok(()),
+        _ => Err(CatalogueFault::Malformed),
+    }
+}
+
+/// Whether a payload is the header of a finished store.
+#[tactic(auto, unfolding(crate::specs::Lasting::header_fault))]
+fn test_header(payload: &Payload) -> Result<(), CatalogueFault>
+    ensures value { result ≡ result_of (header_fault payload.now) }
+    ensures caused { IfErr result (λ e. (old new : Store) → IsReadingFault old new e) }
+    ensures damaged { IfErr result (λ e. (faithful : Bool) (at : ℕ → Option Payload) (count : ℕ)
+        → IsTrulyDamaged faithful at count e) }
+{
+    let bytes = &payload.bytes;
+    match payload.kind {
+        Kind::Header => {
+            if u32_at(bytes, 0) != MAGIC {
+                return Err(CatalogueFault::Malformed);
+            }
+            if u32_at(bytes, 4) != VERSION {
+                return Err(CatalogueFault::Version);
+            }
+            test_state(u32_at(bytes, 8))
+        }
+        _ => Err(CatalogueFault::Malformed),
+    }
+}
+
+/// What the header of a finished store says.
+fn header_of(payload: &Payload) -> Result<Fields, CatalogueFault>
+    ensures says { IfOk result (λ fields. HeaderSays payload.now fields) }
+    ensures fault { IfErr result (IsHeaderFault payload.now) }
+    ensures caused { IfErr result (λ e. (old new : Store) → IsReadingFault old new e) }
+    ensures damaged { IfErr result (λ e. (faithful : Bool) (at : ℕ → Option Payload) (count : ℕ)
+        → IsTrulyDamaged faithful at count e) }
+{
+    test_header(payload)?;
+    match fields_of(payload) {
+        Some(fields) => Ok(fields),
+        None => Err(CatalogueFault::Malformed),
+    }
+}
+
+/// What page 0 of a finished store says.
+pub(crate) fn read_header<S: PageStore>(cache: &mut PageCache<S>) -> Result<Fields, CatalogueFault>
+    ensures says { IfOk result (λ fields. IsTrue cache.old.store.is_faithful
+        → SaysFields cache.old.count (payload_of cache.old 0) fields) }
+    ensures first { IfErr result (λ e. IsTrue cache.old.store.is_faithful
+        → ComesFirst (first_fault cache.old.count (payload_of cache.old 0)) e) }
+    ensures broken { IfErr result (λ e. IsTrue cache.old.store.is_faithful → (IsStop e → ⊥)
+        → (fields : Fields) → SaysFields cache.old.count (payload_of cache.old 0) fields → ⊥) }
+    ensures reads { OnlyReads cache.old cache.new }
+    ensures caused { IfErr result (IsReadingFault cache.old.store cache.new.store) }
+    ensures damaged { IfErr result (IsTrulyDamaged cache.old.store.is_faithful
+        (payload_of cache.old) cache.old.count) }
+{
+    match cache.page(0) {
+        Ok(payload) => header_of(payload),
+        Err(fault) => Err(fault_of(fault)),
+    }
+}

@@ -1,0 +1,448 @@
+//! A catalogue is kept in pages.
+ghost use Rattle.std.specs.Prelude.{List, ℕ, ◌≡◌, ◌<◌, ◌≤◌, ◌^◌, ◌++◌, ◌∷◌, [], length, slice_get, unwrap_or, false, All, IfErr, IfOk, IsErrOf, IsOk, IsTrue, OnErr, OnOk, Some};
+ghost use Rattle.std.specs.Int.{div_ceil};
+ghost use Rattle.pagecache.specs.Cache.{is_changed, page_of, payload_of, IsClean, IsWritten, Rests, SameLength, Stays};
+ghost use Rattle.register.specs.Chain.{most_used};
+ghost use Rattle.register.specs.ChainWriter.{HasText, Holds};
+ghost use Rattle.register.specs.Lasting.{Says};
+ghost use Rattle.chains.specs.Reads.{OnlyReads};
+ghost use Rattle.tbtree.specs.Passes.{KeepsLength};
+ghost use Rattle.tbtree.specs.Stands.{no_place};
+ghost use Rattle.byteorder.specs.Endian.{big_bytes};
+ghost use Rattle.legs.specs.Limits.{IsLimits};
+ghost use Rattle.tbtree.specs.Shape.{IsShape};
+ghost use Rattle.register.specs.Fields.{FitsFields};
+ghost use Rattle.register.specs.ChainSteps.{SparesTree};
+ghost use Rattle.register.specs.Saved.{dimension_of, fields_for, head_of, Continues, IsWrittenButFirst, KeepsFront};
+ghost use Rattle.register.specs.Saving.{contents_of, end_of, feature_at, features_of, HasFew, HasFirst, IsAllowed, IsCatalogue, IsCaused, IsNotWritten, KeepsTree, Puts, PutsFields, Saves};
+ghost use Rattle.register.specs.declared.fault.CatalogueFault.TheVariants.{Malformed};
+ghost use Rattle.register.specs.Text.{catalogue_text, feature_text, features_text, head_text, lists_text, row_text, rows_text, HasFeatures, IsFeature, IsHead, IsNumber, IsShortText, IsWhole};
+
+use crate::chain_reader::fault_of;
+use crate::chain_writer::ChainWriter;
+use crate::contents::Kept;
+use crate::encoding::{push_byte, push_feature, push_head, push_row, push_u32};
+use crate::fault::CatalogueFault;
+use crate::header_fields::{Fields, put_fields};
+use legs::{BookHead, Limits, Tracks};
+use mfcsv::Dimension;
+use pagecache::PageCache;
+use pages::PageStore;
+use rows::{Row, Rows};
+use std::alloc::Global;
+use std::marker::Model;
+use tbnode::fields::u32_at;
+use tbtree::{Place, TbTree};
+
+/// What a store keeps of a database beside its legs.
+#[derive(Drop)]
+pub struct Catalogue {
+    /// What the first accepted file gave, if a file was accepted.
+    pub head: Option<BookHead>,
+    /// How many legs and features there may be.
+    pub limits: Limits,
+    /// The features.
+    pub tracks: Tracks,
+    /// The attribute values of each record.
+    pub rows: Rows,
+}
+
+impl Model for Catalogue {
+    ghost use Rattle.register.specs.Saved.{CatalogueView};
+
+    ghost Value = { CatalogueView };
+
+    ghost view = { λ a. record { head = a.head; limits = a.limits; tracks = a.tracks; rows = a.rows } };
+}
+
+/// Writes the pages that the text fills.
+fn write_text<S: PageStore>(
+    writer: &mut ChainWriter,
+    cache: &mut PageCache<S>,
+) -> Result<(), CatalogueFault>
+    ensures saves { Saves [] cache.old cache.new writer.old writer.new result }
+{
+    match writer.write_full(cache) {
+        Ok(()) => Ok(()),
+        Err(fault) => Err(fault_of(fault)),
+    }
+}
+
+/// When a feature's last leg ends.
+fn end_at(tracks: &Tracks, feature: u32) -> i64
+    ensures { result ≡ end_of (slice_get tracks.now.tracks feature) }
+{
+    match tracks.track(feature) {
+        Some(track) => track.end.millis(),
+        None => 0,
+    }
+}
+
+/// The place of a feature.
+fn place_at(places: &[Place], feature: u32) -> Place
+    ensures { result ≡ unwrap_or (slice_get places.now feature) no_place }
+{
+    match places.get(feature as usize) {
+        Some(place) => *place,
+        None => Place::new(),
+    }
+}
+
+/// What is kept of a feature beside its name.
+#[tactic(auto, unfolding(crate::specs::Saving::feature_at))]
+fn kept_at(tracks: &Tracks, places: &[Place], feature: u32) -> Kept
+    ensures { result ≡ (feature_at tracks.now places.now feature).kept }
+{
+    let end = end_at(tracks, feature);
+    let place = place_at(places, feature);
+    Kept { end, place }
+}
+
+/// The name of a feature.
+#[tactic(auto, unfolding(crate::specs::Saving::feature_at))]
+fn name_at(tracks: &Tracks, feature: u32) -> &str
+    ensures { result.now ≡ unwrap_or (slice_get tracks.now.names feature) [] }
+{
+    match tracks.name(feature) {
+        Some(name) => name,
+        None => "",
+    }
+}
+
+/// Puts a feature at the end of the text.
+fn write_feature<S: PageStore>(
+    writer: &mut ChainWriter,
+    cache: &mut PageCache<S>,
+    tracks: &Tracks,
+    places: &[Place],
+    feature: u32,
+) -> Result<(), CatalogueFault>
+    ensures saves { Saves (feature_text (feature_at tracks.now places.now feature))
+        cache.old cache.new writer.old writer.new result }
+    ensures whole { OnOk result (IsFeature (feature_at tracks.now places.now feature)) }
+{
+    let kept = kept_at(tracks, places, feature);
+    push_feature(writer, name_at(tracks, feature), &kept)?;
+    write_text(writer, cache)
+}
+
+/// Puts the features behind their number at the end of the text.
+fn write_features<S: PageStore>(
+    writer: &mut ChainWriter,
+    cache: &mut PageCache<S>,
+    tracks: &Tracks,
+    places: &[Place],
+    count: u32,
+) -> Result<(), CatalogueFault>
+    ensures saves { count ≡ length tracks.now.names
+        → Saves (features_text (features_of tracks.now places.now))
+        cache.old cache.new writer.old writer.new result }
+    ensures whole { OnOk result (count ≡ length tracks.now.names
+        → HasFeatures (features_of tracks.now places.now)) }
+{
+    push_u32(writer, count)?;
+    for feature in 0..count {
+        write_feature(writer, cache, tracks, places, feature)?;
+    }
+    Ok(())
+}
+
+/// Puts a row of attribute values at the end of the text.
+fn write_row<S: PageStore>(
+    writer: &mut ChainWriter,
+    cache: &mut PageCache<S>,
+    row: &Row<'_>,
+) -> Result<(), CatalogueFault>
+    ensures saves { Saves (row_text row.now)
+        cache.old cache.new writer.old writer.new result }
+    ensures whole { OnOk result (All IsShortText row.now) }
+{
+    push_row(writer, row)?;
+    write_text(writer, cache)
+}
+
+/// Puts the rows behind their number at the end of the text.
+fn write_rows<S: PageStore>(
+    writer: &mut ChainWriter,
+    cache: &mut PageCache<S>,
+    rows: &Rows,
+    count: u32,
+) -> Result<(), CatalogueFault>
+    ensures saves { count ≡ length rows.now
+        → Saves (rows_text rows.now) cache.old cache.new writer.old writer.new result }
+    ensures whole { OnOk result (All (All IsShortText) rows.now) }
+{
+    push_u32(writer, count)?;
+    for i in 0..rows.len() {
+        let Some(row) = rows.row(i) else {
+            unreachable!()
+        };
+        write_row(writer, cache, &row)?;
+    }
+    Ok(())
+}
+
+/// Puts the head of the first accepted file at the end of the text, behind the byte that says that
+/// there is one.
+fn write_head<S: PageStore>(
+    writer: &mut ChainWriter,
+    cache: &mut PageCache<S>,
+    head: &BookHead,
+) -> Result<(), CatalogueFault>
+    ensures saves { Saves (1 ∷ head_text (head_of head.now))
+        cache.old cache.new writer.old writer.new result }
+    ensures whole { OnOk result (IsHead (head_of head.now)) }
+{
+    push_byte(writer, 1)?;
+    push_head(writer, head)?;
+    write_text(writer, cache)
+}
+
+/// How many there are, as a number of four bytes.
+fn count_of(count: u64) -> Result<u32, CatalogueFault>
+    ensures ok { IfOk result (λ n. n ≡ count) }
+    ensures few { count < 2 ^ 32 → IsOk result }
+    ensures many { IfErr result (λ fault. fault ≡ Malformed) }
+{
+    match u32::try_from(count) {
+        Ok(count) => Ok(count),
+        Err(_) => Err(CatalogueFault::Malformed),
+    }
+}
+
+/// Puts the features and the rows at the end of the text.
+fn write_lists<S: PageStore>(
+    writer: &mut ChainWriter,
+    cache: &mut PageCache<S>,
+    tracks: &Tracks,
+    places: &[Place],
+    rows: &Rows,
+) -> Result<(), CatalogueFault>
+    ensures puts { Puts
+        (features_text (features_of tracks.now places.now) ++ rows_text rows.now)
+        cache.old cache.new writer.old writer.new result }
+    ensures only { length tracks.now.names < 2 ^ 32 → length rows.now < 2 ^ 32 → (text : List ℕ)
+        → Holds cache.old writer.old text → IsTrue cache.old.store.is_faithful
+        → IfErr result IsAllowed }
+    ensures features { OnOk result (HasFeatures (features_of tracks.now places.now)) }
+    ensures rows { OnOk result (All (All IsShortText) rows.now) }
+    ensures few { OnOk result (IsNumber 32 (length rows.now)) }
+{
+    let features = count_of(tracks.feature_count())?;
+    let row_count = count_of(rows.len() as u64)?;
+    write_features(writer, cache, tracks, places, features)?;
+    write_rows(writer, cache, rows, row_count)
+}
+
+/// Puts the whole text of a catalogue at the end of an empty one; only what there are too many of
+/// for their number is `Malformed`.
+fn write_catalogue<S: PageStore>(
+    writer: &mut ChainWriter,
+    cache: &mut PageCache<S>,
+    catalogue: &Catalogue,
+    places: &[Place],
+) -> Result<(), CatalogueFault>
+    ensures puts { Puts (catalogue_text (contents_of catalogue.now places.now))
+        cache.old cache.new writer.old writer.new result }
+    ensures only { HasFew catalogue.now → (text : List ℕ) → Holds cache.old writer.old text
+        → IsTrue cache.old.store.is_faithful → IfErr result IsAllowed }
+    ensures whole { OnOk result (IsCatalogue catalogue.now
+        → IsWhole (contents_of catalogue.now places.now)) }
+{
+    match &catalogue.head {
+        None => match push_byte(writer, 0) {
+            Ok(()) => Ok(()),
+            Err(memory) => Err(CatalogueFault::from(memory)),
+        },
+        Some(head) => {
+            write_head(writer, cache, head)?;
+            write_lists(writer, cache, &catalogue.tracks, places, &catalogue.rows)
+        }
+    }
+}
+
+/// The first page of the earlier catalogue, 0 for none.
+fn earlier_page<S: PageStore>(cache: &mut PageCache<S>) -> Result<u32, CatalogueFault>
+    ensures reads { OnlyReads cache.old cache.new }
+    ensures only { IsTrue cache.old.store.is_faithful → 0 < cache.old.count
+        → HasFirst cache.old → IfErr result IsAllowed }
+    ensures caused { IfErr result (IsCaused cache.old cache.new) }
+{
+    match cache.page(0) {
+        Ok(payload) => Ok(u32_at(&payload.bytes, 44)),
+        Err(fault) => Err(fault_of(fault)),
+    }
+}
+
+/// Writes to page 0 what it says of the tree and of the catalogue; how it begins stays.
+fn write_fields<S: PageStore>(
+    cache: &mut PageCache<S>,
+    fields: &Fields,
+) -> Result<(), CatalogueFault>
+    ensures fits { OnOk result (FitsFields fields.now × IsShape fields.now.shape
+        × IsLimits fields.now.limits) }
+    ensures puts { OnOk result (PutsFields fields.now cache.old cache.new) }
+    ensures rests { OnErr result (Rests cache.old cache.new) }
+    ensures later { Continues cache.old cache.new }
+    ensures written { IsTrue cache.old.store.is_faithful → 0 < cache.old.count
+        → is_changed cache.old 0 ≡ false
+        → page_of cache.new 0 ≡ page_of cache.old 0 }
+    ensures only { IsTrue cache.old.store.is_faithful → 0 < cache.old.count
+        → HasFirst cache.old → IfErr result IsAllowed }
+    ensures caused { IfErr result (IsCaused cache.old cache.new) }
+{
+    match cache.page_mut(0) {
+        Ok(payload) => {
+            put_fields(payload, fields);
+            Ok(())
+        }
+        Err(fault) => Err(fault_of(fault)),
+    }
+}
+
+/// Writes the whole text of a catalogue to its chain of pages, and answers the first page and the
+/// length of the text.
+fn write_chain<S: PageStore>(
+    alloc: Global,
+    catalogue: &Catalogue,
+    places: &[Place],
+    cache: &mut PageCache<S>,
+    earlier: u32,
+) -> Result<(u32, u64), CatalogueFault>
+    ensures kept { KeepsTree cache.old cache.new }
+    ensures length { OnOk result (KeepsLength cache.old cache.new) }
+    ensures text { IfOk result (λ r. IsTrue cache.old.store.is_faithful
+        → HasText cache.new r.1 r.0
+        (catalogue_text (contents_of catalogue.now places.now))) }
+    ensures few { IfOk result (λ r. IsTrue cache.old.store.is_faithful
+        → div_ceil r.1 most_used ≤ cache.new.count) }
+    ensures whole { OnOk result (IsCatalogue catalogue.now
+        → IsWhole (contents_of catalogue.now places.now)) }
+    ensures only { HasFew catalogue.now → IsTrue cache.old.store.is_faithful
+        → IfErr result IsAllowed }
+    ensures caused { IfErr result (IsCaused cache.old cache.new) }
+{
+    let keys = catalogue.tracks.keys();
+    let mut writer = match ChainWriter::new(alloc, keys, cache, earlier) {
+        Ok(writer) => writer,
+        Err(fault) => return Err(fault_of(fault)),
+    };
+    write_catalogue(&mut writer, cache, catalogue, places)?;
+    match writer.finish(cache) {
+        Ok(chain) => Ok(chain),
+        Err(fault) => Err(fault_of(fault)),
+    }
+}
+
+/// Writes all that is changed to the store.
+pub fn write_all<S: PageStore>(cache: &mut PageCache<S>) -> Result<(), CatalogueFault>
+    ensures written { OnOk result (IsWritten cache.new) }
+    ensures stays { Stays cache.old cache.new }
+    ensures length { SameLength cache.old cache.new }
+    ensures asked { cache.new.asked ≡ cache.old.asked }
+    ensures reads { OnlyReads cache.old cache.new }
+    ensures memory { IsErrOf result CatalogueFault.Memory → cache.new ≡ cache.old }
+    ensures caused { IfErr result (IsNotWritten cache.old cache.new) }
+{
+    match cache.flush() {
+        Ok(()) => Ok(()),
+        Err(fault) => Err(fault_of(fault)),
+    }
+}
+
+/// Writes the whole text of a catalogue to its chain of pages, and answers the first page and the
+/// length of the text; all that is changed is then written to the store.
+fn write_whole<S: PageStore>(
+    alloc: Global,
+    catalogue: &Catalogue,
+    places: &[Place],
+    cache: &mut PageCache<S>,
+    earlier: u32,
+) -> Result<(u32, u64), CatalogueFault>
+    ensures kept { KeepsTree cache.old cache.new }
+    ensures length { OnOk result (KeepsLength cache.old cache.new) }
+    ensures text { IfOk result (λ r. IsTrue cache.old.store.is_faithful
+        → HasText cache.new r.1 r.0
+        (catalogue_text (contents_of catalogue.now places.now))) }
+    ensures few { IfOk result (λ r. IsTrue cache.old.store.is_faithful
+        → div_ceil r.1 most_used ≤ cache.new.count) }
+    ensures whole { OnOk result (IsCatalogue catalogue.now
+        → IsWhole (contents_of catalogue.now places.now)) }
+    ensures written { OnOk result (IsClean cache.new) }
+    ensures only { HasFew catalogue.now → IsTrue cache.old.store.is_faithful
+        → IfErr result IsAllowed }
+    ensures caused { IfErr result (IsCaused cache.old cache.new) }
+{
+    let chain = write_chain(alloc, catalogue, places, cache, earlier)?;
+    write_all(cache)?;
+    Ok(chain)
+}
+
+/// How many dimensions a database has; 2 where no file was accepted.
+fn dimension_of(head: &Option<BookHead>) -> u32
+    ensures { result ≡ dimension_of head.now }
+{
+    match head {
+        None => 2,
+        Some(head) => match head.dimension {
+            Dimension::Two => 2,
+            Dimension::Three => 3,
+        },
+    }
+}
+
+/// What page 0 says of a database behind how it begins.
+fn fields_for(catalogue: &Catalogue, tree: TbTree, first: u32, length: u64) -> Fields
+    ensures { result ≡ fields_for catalogue.now.limits catalogue.now.head tree first length }
+{
+    Fields {
+        shape: tree.shape,
+        limits: catalogue.limits,
+        root: tree.root,
+        levels: tree.levels,
+        leaves: tree.leaves,
+        first,
+        length,
+        dimension: dimension_of(&catalogue.head),
+    }
+}
+
+/// Keeps a catalogue in pages: its text, with the places of the features in a tree, in a chain of
+/// them, those of an earlier catalogue first, which is then written with all else that is changed;
+/// and in page 0, which is not written yet, where it is, with the limits and the tree. How page 0
+/// begins stays, finished or not, and so do the pages of the tree.
+///
+/// Refused for want of memory, and where the store fails or is full; page 0 stays then.
+pub fn keep<S: PageStore>(
+    alloc: Global,
+    catalogue: &Catalogue,
+    tree: TbTree,
+    places: &[Place],
+    cache: &mut PageCache<S>,
+) -> Result<(), CatalogueFault>
+    ensures saved { OnOk result (IsTrue cache.old.store.is_faithful
+        → Says (payload_of cache.new) cache.new.count catalogue.now tree places.now) }
+    ensures whole { OnOk result (IsCatalogue catalogue.now
+        → IsWhole (contents_of catalogue.now places.now)) }
+    ensures front { OnOk result (IsTrue cache.old.store.is_faithful
+        → 0 < cache.old.count → KeepsFront cache.old cache.new) }
+    ensures first { OnErr result (IsTrue cache.old.store.is_faithful
+        → 0 < cache.old.count → payload_of cache.new 0 ≡ payload_of cache.old 0) }
+    ensures first_written { IsTrue cache.old.store.is_faithful → 0 < cache.old.count
+        → is_changed cache.old 0 ≡ false
+        → page_of cache.new 0 ≡ page_of cache.old 0 }
+    ensures first_unmarked { OnErr result (0 < cache.old.count
+        → is_changed cache.old 0 ≡ false → is_changed cache.new 0 ≡ false) }
+    ensures later { Continues cache.old cache.new }
+    ensures tree { SparesTree cache.old cache.new }
+    ensures length { OnOk result (KeepsLength cache.old cache.new) }
+    ensures written { OnOk result (IsWrittenButFirst cache.new) }
+    ensures only { HasFew catalogue.now → IsTrue cache.old.store.is_faithful
+        → 0 < cache.old.count → HasFirst cache.old → IfErr result IsAllowed }
+    ensures caused { IfErr result (IsCaused cache.old cache.new) }
+{
+    let earlier = earlier_page(cache)?;
+    let (first, length) = write_whole(alloc, catalogue, places, cache, earlier)?;
+    let fields = fields_for(catalogue, tree, first, length);
+    write_fields(cache, &fields)
+}

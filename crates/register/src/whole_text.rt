@@ -1,0 +1,100 @@
+//! The whole text of a catalogue.
+ghost use Rattle.std.specs.Prelude.{ℕ, [], Option, Some, ◌≡◌, ◌≢◌, ◌↔◌, IsTrue, IfErr, IfOk};
+ghost use Rattle.pagecache.specs.Cache.{payload_of};
+ghost use Rattle.pages.specs.declared.payload.Payload.{Payload};
+
+use crate::chain_reader::ChainReader;
+use crate::contents::Contents;
+use crate::fault::CatalogueFault;
+use legs::Limits;
+use pagecache::PageCache;
+use pages::PageStore;
+use std::alloc::Global;
+
+impl ChainReader {
+    ghost use Rattle.register.specs.ChainReader.{rest_of, IsBroken, IsReadFault, Takes};
+    ghost use Rattle.register.specs.Text.{body_text, catalogue_text, IsBody, IsRead};
+    ghost use Rattle.register.specs.declared.contents.Contents.{Contents};
+    ghost use Rattle.chains.specs.Reads.{OnlyReads};
+
+    /// What stands behind the byte that says whether a file was accepted.
+    fn body<S: PageStore>(
+        &mut self,
+        alloc: Global,
+        cache: &mut PageCache<S>,
+        limits: &Limits,
+        flag: u8,
+    ) -> Result<Option<Contents>, CatalogueFault>
+        ensures takes { IsTrue cache.old.store.is_faithful
+            → Takes body_text (IsBody limits.now.legs flag)
+            (rest_of (payload_of cache.old) self.old) (rest_of (payload_of cache.new) self.new)
+            result }
+        ensures reads { OnlyReads cache.old cache.new }
+        ensures caused { IfErr result (IsReadFault cache.old cache.new) }
+    {
+        match flag {
+            0 => Ok(None),
+            1 => match self.contents(alloc, cache, limits) {
+                Ok(contents) => Ok(Some(contents)),
+                Err(fault) => Err(fault),
+            },
+            _ => Err(CatalogueFault::Malformed),
+        }
+    }
+
+    /// A whole text, whatever stands behind it.
+    fn catalogue<S: PageStore>(
+        &mut self,
+        alloc: Global,
+        cache: &mut PageCache<S>,
+        limits: &Limits,
+    ) -> Result<Option<Contents>, CatalogueFault>
+        ensures takes { IsTrue cache.old.store.is_faithful
+            → Takes catalogue_text (IsRead limits.now.legs)
+            (rest_of (payload_of cache.old) self.old) (rest_of (payload_of cache.new) self.new)
+            result }
+        ensures reads { OnlyReads cache.old cache.new }
+        ensures caused { IfErr result (IsReadFault cache.old cache.new) }
+    {
+        let flag = self.byte(cache)?;
+        let contents = self.body(alloc, cache, limits, flag)?;
+        Ok(contents)
+    }
+
+    /// Whether nothing is left.
+    fn is_at_end(&self) -> bool
+        ensures { (at : ℕ → Option Payload) → IsTrue result ↔ (rest_of at self.now ≡ Some []) }
+    {
+        if self.left != 0 {
+            return false;
+        }
+        if self.next != 0 {
+            return false;
+        }
+        self.taken == self.bytes.len()
+    }
+
+    /// The whole text, to its end; `Malformed` where it says more legs than the limit, or more
+    /// rows than legs, before any row is read.
+    pub fn whole<S: PageStore>(
+        &mut self,
+        alloc: Global,
+        cache: &mut PageCache<S>,
+        limits: &Limits,
+    ) -> Result<Option<Contents>, CatalogueFault>
+        ensures whole { IfOk result (λ contents. IsTrue cache.old.store.is_faithful
+            → IsRead limits.now.legs contents
+            × (rest_of (payload_of cache.old) self.old ≡ Some (catalogue_text contents))) }
+        ensures broken { IfErr result (λ e. IsBroken e → IsTrue cache.old.store.is_faithful
+            → (contents : Option Contents) → IsRead limits.now.legs contents
+            → rest_of (payload_of cache.old) self.old ≢ Some (catalogue_text contents)) }
+        ensures reads { OnlyReads cache.old cache.new }
+        ensures caused { IfErr result (IsReadFault cache.old cache.new) }
+    {
+        let contents = self.catalogue(alloc, cache, limits)?;
+        if !self.is_at_end() {
+            return Err(CatalogueFault::Malformed);
+        }
+        Ok(contents)
+    }
+}
