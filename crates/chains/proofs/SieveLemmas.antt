@@ -9,7 +9,7 @@ use Rattle.std.proofs.lemmas.List.Folds.{find-append}
 use Rattle.timebase.specs.Period.{PeriodView}
 use Rattle.legs.specs.Boxes.{is_near}
 use Rattle.legs.specs.Legs.{LegView, is_live}
-use Rattle.legs.specs.Sieves.{IsSieved, LeavesOut, MayGo}
+use Rattle.legs.specs.Sieves.{IsSieved, leaves_none, LeavesOut, MayGo, sieved_same, sieved_self}
 use Rattle.legs.specs.declared.sieve.Sieve.{Sieve}
 use Rattle.legs.specs.declared.sieve.Sieve.TheVariants as sieve
 use Rattle.chains.specs.Keeping.{HasTaken, IsFirstLive, IsLastLive, IsTaken, PutsSome, is_wanted}
@@ -89,8 +89,7 @@ module _ (s : Sieve) (period : PeriodView) (legs : List LegView) where
       let only : filter p legs ≡ k.0.leg ∷ [] = kept_single p legs f l k.0.leg less k.0.is k.0.live h.1 k.1 in (
         k.0.leg ∷ [],
         e,
-        subst (λ x. IsSieved s period x (k.0.leg ∷ [])) (sym only)
-            (record { of = leaves_none (MayGo s period) (k.0.leg ∷ []); first = refl; last = refl }),
+        subst (λ x. IsSieved s period x (k.0.leg ∷ [])) (sym only) (sieved_self s period (k.0.leg ∷ [])),
       )
 
   pub two_taken : (f l : ℕ) (old mid then_ new : List LegView) → f < l → (h : IsFirstLive period legs (Some f)) → (k : IsLastLive period legs (Some l))
