@@ -1,6 +1,7 @@
 //! A catalogue is saved.
 ghost use Rattle.std.specs.Prelude.{List, ℕ, ◌≡◌, ◌<◌, ◌≤◌, ◌^◌, ◌++◌, ◌∷◌, [], length, slice_get, unwrap_or, false, All, IfErr, IfOk, IsOk, IsTrue, OnErr, OnOk, Some};
 ghost use Rattle.std.specs.Int.{div_ceil};
+ghost use Rattle.pages.specs.Store.{IsSynced};
 ghost use Rattle.pagecache.specs.Cache.{is_changed, page_of, payload_of, IsClean, Rests};
 ghost use Rattle.catalogue.specs.Chain.{most_used};
 ghost use Rattle.catalogue.specs.ChainWriter.{HasText, Holds};
@@ -361,6 +362,7 @@ fn write_whole<S: PageStore>(
     ensures whole { OnOk result (IsCatalogue catalogue.now
         → IsWhole (contents_of catalogue.now index.old.places)) }
     ensures written { OnOk result (IsClean index.new.cache) }
+    ensures synced { OnOk result (IsSynced index.new.cache.store) }
     ensures only { HasFew catalogue.now → IsTrue index.old.cache.store.is_faithful
         → IfErr result IsAllowed }
     ensures caused { IfErr result (IsCaused index.old.cache index.new.cache) }
@@ -400,9 +402,9 @@ fn fields_for(catalogue: &Catalogue, tree: TbTree, first: u32, length: u64) -> F
 }
 
 /// Keeps a catalogue in the pages of an index, beside those of its legs: the text in a chain of
-/// pages, those of an earlier catalogue first, which is then written with all else that is changed;
-/// and in page 0, which is not written yet, where it is, with the limits and the tree. How page 0
-/// begins stays, finished or not.
+/// pages, those of an earlier catalogue first, which is then written with all else that is changed,
+/// and synced; and in page 0, which is not written yet, where it is, with the limits and the tree.
+/// How page 0 begins stays, finished or not.
 ///
 /// Refused for want of memory, and where the store fails or is full; the legs stay, and so does
 /// page 0.
@@ -430,6 +432,7 @@ pub fn save<S: PageStore>(
     ensures tree { SparesTree index.old.cache index.new.cache }
     ensures beside { OnOk result (IsBeside index.old.cache index.new.cache) }
     ensures written { OnOk result (IsWrittenButFirst index.new.cache) }
+    ensures synced { OnOk result (IsSynced index.new.cache.store) }
     ensures content { OnOk result (content index.new ≡ content index.old) }
     ensures sound { OnOk result (IsSound index.old → IsSound index.new) }
     ensures only { HasFew catalogue.now → IsSound index.old → IfErr result IsAllowed }

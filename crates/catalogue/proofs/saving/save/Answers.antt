@@ -1,4 +1,4 @@
-use Rattle.std.proofs.Common.{◌≡◌, ◌∙◌, ap, sym, subst, Result, Ok, Err, OnOk}
+use Rattle.std.proofs.Common.{◌≡◌, ◌∙◌, ap, sym, subst, Result, Ok, Err, OnOk, ⊎_elim}
 use Rattle.boxsearch.specs.Beside.{with_cache}
 use Rattle.boxsearch.specs.Index.{content, IndexView, IsSound}
 use Rattle.catalogue.specs.Saving.{contents_of}
@@ -79,3 +79,7 @@ returns-clause-written g c =
       clean = λ n h. puts.lends.writes.changed n (not_zero n h) (c.in_ok-first.ensures.written n);
       settled = puts.lends.writes.keeps.settled;
     }) c.write_fields.ensures.puts
+
+pub returns-clause-synced : goal.returns-clause-synced
+returns-clause-synced g c =
+    on_ok c.write_fields.result (λ puts. ⊎_elim (λ e. e ∙ c.in_ok-first.ensures.synced) (λ e. e) (puts.lends.unsynced.clean c.in_ok-first.ensures.written)) c.write_fields.ensures.puts
