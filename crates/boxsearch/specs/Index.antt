@@ -5,6 +5,7 @@ use Rattle.legs.specs.Finding.{FeaturePlace, Finding}
 use Rattle.legs.specs.Index.{feature_count}
 use Rattle.legs.specs.Legs.{IsLeg, LegView}
 use Rattle.legs.specs.Questions.{Question}
+use Rattle.pages.specs.Store.{IsSynced}
 use Rattle.pages.specs.declared.payload.Kind.TheVariants.{Header}
 use Rattle.pages.specs.declared.payload.Payload.{Payload}
 use Rattle.legs.specs.declared.listed.Listed.{Ghosts}
@@ -102,6 +103,11 @@ marked payload = record { kind = Header; bytes = unfinished_front ++ drop 12 pay
 -- over a faithful store page 0 has the payload that it had, marked
 abbrev pub MarksFirst : Cache → Cache → Type 0
 MarksFirst old new = IsTrue old.store.is_faithful → (p : Payload) → payload_of old 0 ≡ Some p → payload_of new 0 ≡ Some (marked p)
+
+-- over a faithful store nothing is unsynced, where page 0 had a payload that was not marked
+abbrev pub SyncsMark : Cache → Cache → Type 0
+SyncsMark old new = IsTrue old.store.is_faithful → (p : Payload) → payload_of old 0 ≡ Some p
+    → (IsUnfinished p → ⊥) → IsSynced new.store
 
 -- where a feature's legs are
 abbrev pub place_of : Place → FeaturePlace

@@ -2,7 +2,7 @@
 ghost use Rattle.std.specs.Prelude.{◌≡◌, ◌<◌, ◌↔◌, drop, IsTrue, IfErr, OnErr, OnOk};
 ghost use Rattle.pages.specs.Store.{Faulted};
 ghost use Rattle.pagecache.specs.Cache.{IsClean, pages_as_written};
-ghost use Rattle.boxsearch.specs.Index.{marked, HasState, IsFinished, IsMarked, IsUnfinished, MarksFirst};
+ghost use Rattle.boxsearch.specs.Index.{marked, HasState, IsFinished, IsMarked, IsUnfinished, MarksFirst, SyncsMark};
 ghost use Rattle.boxsearch.specs.Marking.{Marks, IsNotMarked};
 
 use pagecache::{CacheFault, PageCache};
@@ -78,6 +78,7 @@ fn set_unfinished(payload: &mut Payload)
 pub(crate) fn mark_page<S: PageStore>(cache: &mut PageCache<S>) -> Result<(), CacheFault>
     ensures marks { Marks cache.old cache.new }
     ensures header { OnOk result (MarksFirst cache.old cache.new) }
+    ensures synced { OnOk result (SyncsMark cache.old cache.new) }
     ensures marked { OnOk result (IsTrue cache.old.store.is_faithful → 0 < cache.old.count
         → IsClean cache.old → IsMarked cache.new) }
     ensures others { OnErr result (IsTrue cache.old.store.is_faithful → IsClean cache.old

@@ -41,10 +41,11 @@ impl<S: PageStore> Model for TreeIndex<S> {
 
 impl<S: PageStore> TreeIndex<S> {
     ghost use Rattle.std.specs.Prelude.{ℕ, ◌≡◌, ◌<◌, ◌↔◌, [], false, length, slice_get, IfErr, IsTrue, OnErr, OnOk};
+    ghost use Rattle.pages.specs.Store.{IsSynced};
     ghost use Rattle.pagecache.specs.Cache.{payload_of, IsSettled, IsWritten};
     ghost use Rattle.tbtree.specs.Nodes.{pages_of_cache};
     ghost use Rattle.chains.specs.Chains.{AreHeld};
-    ghost use Rattle.boxsearch.specs.Index.{content, new_index, words, IsSound, MarksFirst, with_place};
+    ghost use Rattle.boxsearch.specs.Index.{content, new_index, words, IsSound, MarksFirst, SyncsMark, with_place};
     ghost use Rattle.legs.specs.Asking.{Leaves, Starts, Refusals};
     ghost use Rattle.legs.specs.Index.{MayRefuse};
     ghost use Rattle.chains.specs.Reads.{OnlyReads};
@@ -80,6 +81,7 @@ impl<S: PageStore> TreeIndex<S> {
 
         // Page 0 is what it was but for its kind and its first 12 bytes, and no other page has another payload.
         ensures header { OnOk result (MarksFirst self.old.cache self.new.cache) }
+        ensures synced { OnOk result (SyncsMark self.old.cache self.new.cache) }
         ensures others { IsTrue self.old.cache.store.is_faithful → (n : ℕ) → 0 < n
             → payload_of self.new.cache n ≡ payload_of self.old.cache n }
     {
@@ -96,6 +98,7 @@ impl<S: PageStore> TreeIndex<S> {
     /// Refused are a spent index, want of memory, and a store that fails.
     pub fn flush(&mut self) -> Result<(), IndexFault>
         ensures written { OnOk result (IsWritten self.new.cache) }
+        ensures synced { OnOk result (IsSynced self.new.cache.store) }
 
         // Nothing else changes.
         ensures same { self.new ≡ with_cache self.old self.new.cache self.new.known }

@@ -41,6 +41,7 @@ module _ (a b : Cache) (reads : OnlyReads a b) (clean : IsWritten a) (count : a.
     keeps = reads.store;
     count = reads.length;
     pages = λ fa. sym (all_pages b lawful_b (reads.count ∙ count ∙ sym reads.length) (reads.store.faithful ∙ fa)) ∙ reads.unwritten.clean fa clean.clean ∙ all_pages a lawful count fa;
+    unsynced = reads.unsynced.clean clean.clean;
   }
 
   at_stored : IsTrue a.store.is_faithful → payload_of a ≡ stored_payload a.store

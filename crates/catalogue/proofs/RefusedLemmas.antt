@@ -4,7 +4,8 @@ use Rattle.std.specs.Prelude.{OnErr}
 use Rattle.std.proofs.lemmas.List.{length-drop}
 use Rattle.pages.proofs.UnsealedLemmas.{unsealed-sealed}
 use Rattle.pages.specs.Sealed.{sealed}
-use Rattle.pages.specs.Store.{IsLawful, Store}
+use Rattle.pages.specs.Store.{IsLawful, IsSynced, IsSyncedButFirst, Store}
+use Rattle.pages.specs.declared.unsynced.Unsynced.TheVariants.{Nothing, Others}
 use Rattle.pages.specs.Unsealed.{unsealed}
 use Rattle.pages.specs.declared.payload.Payload.{Payload}
 use Rattle.pagecache.specs.Cache.{fresh, is_changed, page_of, pages_as_written, payload_of, sealed_payload, stored_payload, Cache, Stays, Writes}
@@ -35,6 +36,10 @@ not_zero n h e = omega (arith, h, e)
 
 pub sets_others : (a b : Cache) {w : Payload} → Writes 0 w a b → IsTrue a.store.is_faithful → OnlyFirst a → OnlyFirst b × SameOthers a b
 sets_others a b s f clean = (λ n h. s.changed n (not_zero n h) (clean n h), s.unwritten.from f 1 clean)
+
+-- a store of which nothing is unsynced
+pub synced_but_first : (s : Store) → IsSynced s → IsSyncedButFirst s
+synced_but_first s e k = let x : Nothing ≡ Others = sym e ∙ k in cc
 
 -- what holds of whatever is refused
 pub any_err : {T E : Type 0} {P : Type 0} (r : Result T E) → P → OnErr r P
@@ -102,7 +107,7 @@ module _ (j new : Cache) (but : IsWrittenButFirst j) (faithful : IsTrue j.store.
 module _ (laws : BesideLaws) (states : StateLaw) (c : CatalogueView) (j : IndexView) (book : Book) (new : Cache) (sound : IsSound j) (of : IsOfBook c.limits book c) (legs : content j ≡ book.legs)
     (lawful : IsLawfulCatalogue j.cache.count c j.places) (within : IsWithin j.cache.count j.tree) (says : Says (payload_of j.cache) j.cache.count c j.tree j.places) (whole_text : IsWhole (contents_of c j.places))
     (header : Payload) (is : payload_of j.cache 0 ≡ Some header) (unfinished : IsUnfinished header)
-    (but : IsWrittenButFirst j.cache) (there : 0 < j.cache.count) (later : IsLaterCache j.cache new) (stored : IsLawful new.store) (others : SameOthers j.cache new) where
+    (but : IsWrittenButFirst j.cache) (there : 0 < j.cache.count) (later : IsLaterCache j.cache new) (stored : IsLawful new.store) (others : SameOthers j.cache new) (synced : IsSyncedButFirst new.store) where
   pub behind_holds : HoldsButFirst new.store j.tree.shape c.limits book
   behind_holds =
       let finishes = finishes_but_first j.cache new but sound.faithful there sound.count later.store.faithful later.count later.length stored others header is in
@@ -112,4 +117,5 @@ module _ (laws : BesideLaws) (states : StateLaw) (c : CatalogueView) (j : IndexV
         holds = closed_holds laws states c j book (fresh (finished_store new.store header) 1) sound of legs lawful within says whole_text header is unfinished finishes fine later.store.faithful;
         count = refl;
         others = refl;
+        synced = synced;
       }

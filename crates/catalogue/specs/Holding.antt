@@ -5,7 +5,7 @@ use Rattle.legs.specs.Costs.{ShapeView}
 use Rattle.legs.specs.Law.{IsBook}
 use Rattle.legs.specs.Limits.{LimitsView}
 use Rattle.legs.specs.Tracks.{StandsFor}
-use Rattle.pages.specs.Store.{Store}
+use Rattle.pages.specs.Store.{Store, IsSyncedButFirst}
 use Rattle.pages.specs.Unsealed.{unsealed}
 use Rattle.pages.specs.declared.payload.Payload.{Payload}
 use Rattle.pagecache.specs.Cache.{fresh, stored_payload, IsClean}
@@ -45,12 +45,13 @@ pub record HoldsBook (s : Store) (shape : ShapeView) (limits : LimitsView) (book
   pub sound : IsSound (index_over s tree places (length book.legs))
   pub legs : content (index_over s tree places (length book.legs)) ≡ book.legs
 
--- all pages of a store but page 0 are those of one that holds a book
+-- all pages of a store but page 0 are those of one that holds a book, and are synced
 pub record HoldsButFirst (s : Store) (shape : ShapeView) (limits : LimitsView) (book : Book) : Type 0 where
   pub whole : Store
   pub holds : HoldsBook whole shape limits book
   pub count : whole.count ≡ s.count
   pub others : drop 1 whole.pages ≡ drop 1 s.pages
+  pub synced : IsSyncedButFirst s
 
 -- the payload that page n of these seals
 unfoldable pub payload_in : List (List ℕ) → ℕ → Option Payload

@@ -2,7 +2,7 @@
 ghost use Rattle.std.specs.Prelude.{◌≡◌, ◌<◌, ◌⊎◌, [], Some, false, IfOk, IfErr, IsTrue, OnErr, OnOk};
 ghost use Rattle.pages.specs.Sealed.{sealed};
 ghost use Rattle.pages.specs.Unsealed.{unsealed};
-ghost use Rattle.pages.specs.Store.{Faulted, Keeps, Writes};
+ghost use Rattle.pages.specs.Store.{Faulted, IsSynced, Keeps, Writes};
 ghost use Rattle.pagecache.specs.Cache.{IsClean, IsWritten, payload_of};
 ghost use Rattle.boxsearch.specs.Index.{content, IsMarked, IsSound};
 ghost use Rattle.register.specs.ChainWriter.{IsAllowed};
@@ -22,6 +22,7 @@ fn write_first<S: PageStore>(store: &mut S, payload: &Payload) -> Result<(), Cac
     requires empty { (S.seen store.old).count ≡ 0 }
     ensures written { OnOk result (Writes 0 (sealed 0 payload.now) (S.seen store.old)
         (S.seen store.new)) }
+    ensures synced { OnOk result (IsSynced (S.seen store.new)) }
     ensures reads_back { OnOk result (unsealed 0 (sealed 0 payload.now) ≡ Some payload.now) }
     ensures keeps { Keeps (S.seen store.old) (S.seen store.new) }
     ensures left { OnErr result (IsFirst payload.now (S.seen store.old) (S.seen store.new)) }
@@ -39,8 +40,8 @@ fn write_first<S: PageStore>(store: &mut S, payload: &Payload) -> Result<(), Cac
 }
 
 /// An index without legs over an empty store, to which it adds page 0: the header of a store that
-/// is not finished, of this shape and these limits, written whole at once. The cache holds at most
-/// that many pages, at least 1.
+/// is not finished, of this shape and these limits, written whole at once and synced. The cache
+/// holds at most that many pages, at least 1.
 ///
 /// Refused for want of memory, and where the store fails or has no room for a page; the store is
 /// then handed back.
@@ -62,6 +63,7 @@ pub fn begin<S: PageStore>(
     ensures written { IfOk result (λ index. IsWritten index.cache) }
     ensures stored { IfOk result (λ index. Writes 0 (sealed 0 (header_payload shape limits.now))
         (S.seen store) index.cache.store) }
+    ensures synced { IfOk result (λ index. IsSynced index.cache.store) }
     ensures sound { IfOk result (λ index. IsTrue (S.seen store).is_faithful → IsSound index) }
     ensures marked { IfOk result (λ index. IsTrue (S.seen store).is_faithful
         → IsMarked index.cache) }

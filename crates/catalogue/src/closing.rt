@@ -2,7 +2,7 @@
 ghost use Rattle.std.specs.Prelude.{◌≡◌, ◌⊎◌, [], IfErr, OnErr, OnOk, Some};
 ghost use Rattle.legs.specs.Book.{Book};
 ghost use Rattle.legs.specs.declared.head.BookHead.{BookHead};
-ghost use Rattle.pages.specs.Store.{IsLawful, Keeps};
+ghost use Rattle.pages.specs.Store.{IsLawful, IsSynced, Keeps};
 ghost use Rattle.pagecache.specs.Cache.{IsSettled};
 ghost use Rattle.timebase.specs.Instant.{IsMoment};
 ghost use Rattle.boxsearch.specs.Beside.{with_cache};
@@ -51,6 +51,7 @@ fn save_and_finish<S: PageStore>(
         → IsMarked index.old.cache → (book : Book)
         → IsOfBook catalogue.now.limits book catalogue.now → content index.old ≡ book.legs
         → HoldsBook index.new.cache.store index.old.tree.shape catalogue.now.limits book) }
+    ensures synced { OnOk result (IsSynced index.new.cache.store) }
     ensures only { IfErr result (λ fault. IsSound index.old → (book : Book)
         → IsOfBook catalogue.now.limits book catalogue.now → content index.old ≡ book.legs
         → IsAllowed fault) }
@@ -72,12 +73,13 @@ fn save_and_finish<S: PageStore>(
     finish(index)
 }
 
-/// Closes the store of a database: its catalogue is saved, all that is changed is written, and page
-/// 0 says last that the store is finished. The store is handed back, whatever is answered.
+/// Closes the store of a database: its catalogue is saved, all that is changed is written and
+/// synced, and page 0 says last that the store is finished, and is synced too. The store is handed
+/// back, whatever is answered.
 ///
 /// Refused for want of memory, and where the store fails or is full. Where memory ran out or the
 /// store is full, its page 0 still says that it is not finished; where the store failed, it does, or
-/// all pages but page 0 are written as those of the closed store.
+/// all pages but page 0 are written as those of the closed store, and synced.
 pub fn close<S: PageStore>(
     alloc: Global,
     catalogue: &Catalogue,
@@ -87,13 +89,14 @@ pub fn close<S: PageStore>(
     ensures holds { OnOk result.1 (IsSound index → IsMarked index.cache → (book : Book)
         → IsOfBook catalogue.now.limits book catalogue.now → content index ≡ book.legs
         → HoldsBook (S.seen result.0) index.tree.shape catalogue.now.limits book) }
+    ensures synced { OnOk result.1 (IsSynced (S.seen result.0)) }
     ensures only { IfErr result.1 (λ fault. IsSound index → (book : Book)
         → IsOfBook catalogue.now.limits book catalogue.now → content index ≡ book.legs
         → IsAllowed fault) }
     ensures unfinished { IfErr result.1 (λ fault. IsNoStoreFault fault → IsSound index
         → IsMarked index.cache → IsUnfinishedStore (S.seen result.0)) }
 
-    // Before page 0 may say that the store is finished, all else is written.
+    // Before page 0 may say that the store is finished, all else is written and synced.
     ensures refused { OnErr result.1 (IsSound index → IsMarked index.cache → (book : Book)
         → IsOfBook catalogue.now.limits book catalogue.now → content index ≡ book.legs
         → IsUnfinishedStore (S.seen result.0)

@@ -1,6 +1,7 @@
 //! A store is marked as finished.
 ghost use Rattle.std.specs.Prelude.{ℕ, ◌≡◌, ◌≢◌, ◌<◌, ◌≤◌, drop, false, IfErr, IsErrOf, IsTrue, None, OnErr, OnOk};
 ghost use Rattle.chains.specs.Reads.{OnlyReads};
+ghost use Rattle.pages.specs.Store.{IsSynced, IsSyncedButFirst};
 ghost use Rattle.pagecache.specs.Cache.{is_changed, pages_as_written, payload_of, IsWritten, Rests, SameLength, Stays};
 ghost use Rattle.boxsearch.specs.Beside.{with_cache};
 ghost use Rattle.catalogue.specs.Finishing.{finished, Finishes, IsLaterCache, IsNotFinished, IsUnwrittenHeader, SaysUnfinished, SetsState};
@@ -19,6 +20,7 @@ const FINISHED: u32 = 1;
 fn write_all<S: PageStore>(index: &mut TreeIndex<S>) -> Result<(), CatalogueFault>
     ensures same { index.new ≡ with_cache index.old index.new.cache index.new.known }
     ensures written { OnOk result (IsWritten index.new.cache) }
+    ensures synced { OnOk result (IsSynced index.new.cache.store) }
     ensures stays { Stays index.old.cache index.new.cache }
     ensures length { SameLength index.old.cache index.new.cache }
     ensures asked { index.new.cache.asked ≡ index.old.cache.asked }
@@ -60,16 +62,19 @@ fn set_state<S: PageStore>(index: &mut TreeIndex<S>) -> Result<(), CatalogueFaul
 ///
 /// Refused for want of memory, and where the store fails; page 0 as written then still says that
 /// the store is not finished, unless the store failed when it was to be written and to last. Where no
-/// other page is changed, no other one is written.
+/// other page is changed, no other one is written, and none is left unsynced.
 pub(crate) fn finish<S: PageStore>(index: &mut TreeIndex<S>) -> Result<(), CatalogueFault>
     ensures same { index.new ≡ with_cache index.old index.new.cache index.new.known }
     ensures finishes { OnOk result (IsTrue index.old.cache.store.is_faithful
         → index.old.cache.count ≡ index.old.cache.store.count
         → Finishes index.old.cache index.new.cache) }
+    ensures synced { OnOk result (IsSynced index.new.cache.store) }
     ensures later { IsLaterCache index.old.cache index.new.cache }
     ensures others { IsTrue index.old.cache.store.is_faithful
         → ((n : ℕ) → 1 ≤ n → is_changed index.old.cache n ≡ false)
         → drop 1 (pages_as_written index.new.cache) ≡ drop 1 (pages_as_written index.old.cache) }
+    ensures others_synced { ((n : ℕ) → 1 ≤ n → is_changed index.old.cache n ≡ false)
+        → IsSyncedButFirst index.old.cache.store → IsSyncedButFirst index.new.cache.store }
     ensures unfinished { IsErrOf result CatalogueFault.Memory
         → IsTrue index.old.cache.store.is_faithful → 0 < index.old.cache.count
         → IsUnwrittenHeader index.old.cache → SaysUnfinished index.new.cache }

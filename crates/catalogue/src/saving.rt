@@ -1,5 +1,6 @@
 //! A catalogue is saved beside the legs of an index.
 ghost use Rattle.std.specs.Prelude.{◌≡◌, ◌<◌, false, IfErr, IsTrue, OnErr, OnOk};
+ghost use Rattle.pages.specs.Store.{IsSynced};
 ghost use Rattle.pagecache.specs.Cache.{is_changed, page_of, payload_of};
 ghost use Rattle.boxsearch.specs.Beside.{with_cache, IsBeside};
 ghost use Rattle.boxsearch.specs.Index.{content, IsSound};
@@ -15,9 +16,9 @@ use register::{Catalogue, CatalogueFault, keep};
 use std::alloc::Global;
 
 /// Keeps a catalogue in the pages of an index, beside those of its legs: the text in a chain of
-/// pages, those of an earlier catalogue first, which is then written with all else that is changed;
-/// and in page 0, which is not written yet, where it is, with the limits and the tree. How page 0
-/// begins stays, finished or not.
+/// pages, those of an earlier catalogue first, which is then written with all else that is changed,
+/// and synced; and in page 0, which is not written yet, where it is, with the limits and the tree.
+/// How page 0 begins stays, finished or not.
 ///
 /// Refused for want of memory, and where the store fails or is full; the legs stay, and so does
 /// page 0.
@@ -45,6 +46,7 @@ pub fn save<S: PageStore>(
     ensures tree { SparesTree index.old.cache index.new.cache }
     ensures beside { OnOk result (IsBeside index.old.cache index.new.cache) }
     ensures written { OnOk result (IsWrittenButFirst index.new.cache) }
+    ensures synced { OnOk result (IsSynced index.new.cache.store) }
     ensures content { OnOk result (content index.new ≡ content index.old) }
     ensures sound { OnOk result (IsSound index.old → IsSound index.new) }
     ensures only { HasFew catalogue.now → IsSound index.old → IfErr result IsAllowed }

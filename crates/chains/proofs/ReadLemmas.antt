@@ -1,6 +1,7 @@
 -- One call after another.
-use Rattle.std.proofs.Common.{◌∙◌, refl, sym, arith}
+use Rattle.std.proofs.Common.{◌∙◌, refl, sym, arith, inl}
 use Rattle.std.proofs.lemmas.Int.{clamps}
+use Rattle.pagecache.proofs.CallerLemmas.{unsyncs-trans}
 use Rattle.pagecache.specs.Cache.{Cache}
 use Rattle.pagecache.specs.declared.fault.CacheFault.{CacheFault}
 use Rattle.pagecache.specs.declared.fault.CacheFault.TheVariants as cache
@@ -20,6 +21,7 @@ reads_refl a = record {
   changed = λ n u. u;
   written = λ f n h u. refl;
   unwritten = record { clean = λ f h. refl; from = λ f k h. refl };
+  unsynced = record { clean = λ h. inl refl; but_first = λ h s. s };
 }
 
 pub reads_trans : (a b c : Cache) → OnlyReads a b → OnlyReads b c → OnlyReads a c
@@ -40,6 +42,7 @@ reads_trans a b c p q = record {
     clean = λ f h. q.unwritten.clean (p.store.faithful ∙ f) (λ n. p.changed n (h n)) ∙ p.unwritten.clean f h;
     from = λ f k h. q.unwritten.from (p.store.faithful ∙ f) k (λ n l. p.changed n (h n l)) ∙ p.unwritten.from f k h;
   };
+  unsynced = unsyncs-trans a b c p.changed p.unsynced q.unsynced;
 }
 
 caused_in_cache : (a b c : Cache) (e : CacheFault) → OnlyReads a b → IsCausedInCache b c e → IsCausedInCache a c e

@@ -1,9 +1,9 @@
 -- What a retrieval leaves of the cache, answered or not, over any pages; of payloads, over a faithful store.
 use Rattle.std.specs.Prelude.{ℕ, ◌≡◌, ◌≤◌, ◌<◌, ◌-◌, ◌^◌, min, false, IsTrue}
 use Rattle.pages.specs.Store as store
-use Rattle.pagecache.specs.Cache.{Cache, payload_of, page_of, is_changed, WritesNone}
+use Rattle.pagecache.specs.Cache.{Cache, payload_of, page_of, is_changed, UnsyncsNone, WritesNone}
 
--- no page has another payload, none more is marked as changed, and none that was not is written
+-- no page has another payload, none more is marked as changed, and none that was not is written or unsynced
 pub record OnlyReads (old new : Cache) : Type 0 where
   pub store : store.Keeps old.store new.store
   pub capacity : new.capacity ≡ old.capacity
@@ -15,3 +15,4 @@ pub record OnlyReads (old new : Cache) : Type 0 where
   pub written : IsTrue old.store.is_faithful → (n : ℕ) → n < old.count → is_changed old n ≡ false
       → page_of new n ≡ page_of old n
   pub unwritten : WritesNone old new
+  pub unsynced : UnsyncsNone old new

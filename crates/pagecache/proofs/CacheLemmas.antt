@@ -10,15 +10,17 @@ use Rattle.std.proofs.lemmas.Int.{clamps}
 use Rattle.std.proofs.lemmas.List.{length-map, take_all}
 use Rattle.pagecache.proofs.HeldLemmas.{at_same_key, lookup-take, dropped, first_entry}
 use Rattle.std.specs.Box.{box_value}
-use Rattle.pages.specs.Store.{Store, IsLawful, put_page, IsTorn, Faulted}
+use Rattle.pages.specs.Store.{Store, IsLawful, put_page, IsTorn, Faulted, MayUnsync, Unsyncs}
 use Rattle.pages.specs.Store as store
 use Rattle.pages.specs.Unsealed.{unsealed}
 use Rattle.pagecache.proofs.PageLemmas.{same_rest, slice_get-put_page, slice_get-put_other, slice_get-take, slice_get-take_none}
 use Rattle.pages.specs.declared.payload.Payload.{Payload}
-use Rattle.pagecache.specs.Cache.{Cache, in_memory, pages_as_written, page_of, sealed_payload, stored_payload, payload_of, is_changed, IsSettled, IsWritten, IsRefused, Stays, WritesNone, Writes, Adds}
-use Rattle.pagecache.proofs.CallerLemmas.{stays-trans}
-use Rattle.pagecache.specs.Slots.{HasFailed, IsSound, HasRoom, IsWithin, OnLeaving, IsFirst, Steps, changed_numbers}
+use Rattle.pagecache.specs.Cache.{Cache, in_memory, pages_as_written, page_of, sealed_payload, stored_payload, payload_of, is_changed, IsSettled, IsWritten, IsRefused, Stays, UnsyncsNone, WritesNone, Writes, Adds}
+use Rattle.pagecache.proofs.CallerLemmas.{stays-trans, unsyncs-trans}
+use Rattle.pagecache.proofs.UnsyncedLemmas.{unsyncs_none, unsyncs_torn, unsyncs_written}
+use Rattle.pagecache.specs.Slots.{HasFailed, IsSound, HasRoom, IsWithin, OnLeaving, IsFirst, Steps, changed_numbers, seen_of}
 use Rattle.pagecache.specs.declared.slots.Held.{Held}
+use Rattle.pagecache.specs.declared.slots.Slots.{Slots}
 use Rattle.pagecache.specs.declared.fault.CacheFault.{CacheFault}
 
 pub is_some_of : {X : Type 0} (o : Option X) (x : X) → o ≡ Some x → IsSome o
@@ -121,10 +123,16 @@ reordered c d s t look count capacity =
 
 pub reordered_step : (c d : Cache) → IsSound c → store.Stays c.store d.store → ((m : ℕ) → in_memory d m ≡ in_memory c m)
     → d.count ≡ c.count → d.capacity ≡ c.capacity → d.asked ≡ c.asked → Steps c d
-reordered_step c d s t look count capacity asked = let r = reordered c d s t look count capacity in record { sound = r.0; stays = r.1; asked = asked }
+reordered_step c d s t look count capacity asked = let r = reordered c d s t look count capacity in record { sound = r.0; stays = r.1; unsynced = unsyncs_none c d t.unsynced; asked = asked }
 
 pub store_rests : (s : Store) → store.Stays s s
-store_rests s = record { keeps = record { most = refl; faithful = refl; faults = omega arith }; count = refl; pages = λ _. refl }
+store_rests s = record { keeps = record { most = refl; faithful = refl; faults = omega arith }; count = refl; pages = λ _. refl; unsynced = inl refl }
+
+-- only the store has changed, and it stays
+pub store_step : {S : Type 0} (seen : S → Store) (old new : Slots S) → IsSound (seen_of seen old) → new ≡ record old { store = new.store }
+    → store.Stays (seen old.store) (seen new.store) → Steps (seen_of seen old) (seen_of seen new)
+store_step seen old new s e t =
+    reordered_step (seen_of seen old) (seen_of seen new) s t (λ m. ap (λ (x : Slots _). lookup (nat_eq m) x.held.entries) e) (ap (λ (x : Slots _). x.count) e) (ap (λ (x : Slots _). x.held.cap) e) (ap (λ (x : Slots _). x.asked) e)
 
 -- nothing has happened
 pub rests : (c : Cache) → IsSound c → Steps c c
@@ -144,11 +152,15 @@ set_other c d n m w look ne = look m ∙ ap (λ b. cond b (Some w) (in_memory c 
 apart_from : (c : Cache) (n m : ℕ) (h : Held) → in_memory c n ≡ Some h → h.changed ≡ true → is_changed c m ≡ false → n ≢ m
 apart_from c n m h here marked u k = false≢true (sym u ∙ sym (ap (is_changed c) k) ∙ is_changed-some c n h here ∙ marked)
 
+-- a page that is changed
+changed_there : (c : Cache) (n : ℕ) (h : Held) → in_memory c n ≡ Some h → h.changed ≡ true → is_changed c n ≢ false
+changed_there c n h here marked u = apart_from c n n h here marked u refl
+
 -- a changed page has been written
 pub written : (c d : Cache) (n : ℕ) (page : List ℕ) (h w : Held) → IsSound c → IsLawful c.store → in_memory c n ≡ Some h → h.changed ≡ true → (box_value w.payload) ≡ (box_value h.payload) → w.changed ≡ false
-    → unsealed n page ≡ Some (box_value h.payload) → store.Writes n page c.store d.store → Sets c n w d
+    → unsealed n page ≡ Some (box_value h.payload) → store.Writes n page c.store d.store → Unsyncs n c.store d.store → Sets c n w d
     → d.count ≡ c.count → d.capacity ≡ c.capacity → d.asked ≡ c.asked → Steps c d
-written c d n page h w s l here marked payload unmarked reads t look count capacity asked =
+written c d n page h w s l here marked payload unmarked reads t unsynced look count capacity asked =
     let below : n < c.count = s.below n (is_some_of _ _ here) in
     let faithful : IsTrue d.store.is_faithful → IsTrue c.store.is_faithful = λ f. sym t.keeps.faithful ∙ f in
     let fits : IsTrue c.store.is_faithful → n ≤ length c.store.pages = λ f. omega (arith, l.counted f, s.within, below) in
@@ -173,6 +185,7 @@ written c d n page h w s l here marked payload unmarked reads t look count capac
     record {
       sound = sound;
       asked = asked;
+      unsynced = unsyncs_written c d n (changed_there c n h here marked) unsynced;
       stays = record {
         keeps = record {
           store = t.keeps;
@@ -195,9 +208,9 @@ written c d n page h w s l here marked payload unmarked reads t look count capac
 
 -- a page whose write has failed is still in memory, changed
 pub torn : (c d : Cache) (n : ℕ) (h : Held) → IsSound c → IsLawful c.store → in_memory c n ≡ Some h → h.changed ≡ true
-    → store.Tears n c.store d.store → ((m : ℕ) → in_memory d m ≡ in_memory c m)
+    → store.Tears n c.store d.store → MayUnsync n c.store d.store → ((m : ℕ) → in_memory d m ≡ in_memory c m)
     → d.count ≡ c.count → d.capacity ≡ c.capacity → d.asked ≡ c.asked → Steps c d
-torn c d n h s l here marked t look count capacity asked =
+torn c d n h s l here marked t unsynced look count capacity asked =
     let below : n < c.count = s.below n (is_some_of _ _ here) in
     let faithful : IsTrue d.store.is_faithful → IsTrue c.store.is_faithful = λ f. sym t.keeps.faithful ∙ f in
     let fits : IsTrue c.store.is_faithful → n ≤ length c.store.pages = λ f. omega (arith, l.counted f, s.within, below) in
@@ -213,6 +226,7 @@ torn c d n h s l here marked t look count capacity asked =
     record {
       sound = sound;
       asked = asked;
+      unsynced = unsyncs_torn c d n (changed_there c n h here marked) unsynced;
       stays = record {
         keeps = record { store = t.keeps; capacity = capacity; settled = settled d sound; written = λ f m _ u. other f m u };
         count = count;
@@ -260,6 +274,7 @@ fetched c d n w s below absent unmarked at t look count capacity asked =
     record {
       sound = sound;
       asked = asked;
+      unsynced = unsyncs_none c d t.unsynced;
       stays = record {
         keeps = record { store = t.keeps; capacity = capacity; written = λ f m _ _. pages f m; settled = settled d sound };
         count = count;
@@ -364,8 +379,8 @@ appended c d n page p s l at reads t look count capacity =
 
 -- a page could not be added
 pub not_appended : (c d : Cache) (n : ℕ) → IsSound c → IsLawful c.store → n ≡ c.count → store.Tears n c.store d.store → ((m : ℕ) → in_memory d m ≡ in_memory c m)
-    → d.count ≡ c.count → d.capacity ≡ c.capacity → d.asked ≡ c.asked → Steps c d
-not_appended c d n s l at t look count capacity asked =
+    → d.count ≡ c.count → d.capacity ≡ c.capacity → IsSound d × Stays c d
+not_appended c d n s l at t look count capacity =
     let faithful : IsTrue d.store.is_faithful → IsTrue c.store.is_faithful = λ f. sym t.keeps.faithful ∙ f in
     let fits : IsTrue c.store.is_faithful → n ≤ length c.store.pages = λ f. omega (arith, l.counted f, s.within) in
     let pages : IsTrue c.store.is_faithful → (m : ℕ) → page_of d m ≡ page_of c m = λ f m. same_page c d m count (λ b.
@@ -375,18 +390,16 @@ not_appended c d n s l at t look count capacity asked =
       within = omega (arith, s.within, count, t.count);
       below = λ m h. let b : m < c.count = s.below m (subst IsSome (look m) h) in omega (arith, b, count);
       clean = λ f m h e u. seals (faithful f) m ∙ s.clean (faithful f) m h (sym (look m) ∙ e) u;
-    } in
-    record {
-      sound = sound;
-      asked = asked;
-      stays = record {
+    } in (
+      sound,
+      record {
         keeps = record { store = t.keeps; capacity = capacity; written = λ f m _ _. pages f m; settled = settled d sound };
         count = count;
         payloads = λ f m. payload_of-same c d m (look m) (seals f m);
         changed = λ m u. is_changed-same c d m (look m) ∙ u;
         unwritten = none_written c d (λ f k _. rest_same c d k (λ m _. pages f m));
-      };
-    }
+      },
+    )
 
 -- a page has come in behind the last one, changed; whatever bytes the store has of it
 pub entered : (c d : Cache) (n : ℕ) (page : List ℕ) (w : Held) → IsSound c → IsLawful c.store → n ≡ c.count → w.changed ≡ true → store.Writes n page c.store d.store → Takes c n w d
@@ -479,7 +492,12 @@ on_ok (Ok x) f h = f h
 on_ok (Err e) f h = tt
 
 pub steps-trans : (a b c : Cache) → Steps a b → Steps b c → Steps a c
-steps-trans a b c t u = record { sound = u.sound; stays = stays-trans a b c t.stays u.stays; asked = u.asked ∙ t.asked }
+steps-trans a b c t u = record {
+  sound = u.sound;
+  stays = stays-trans a b c t.stays u.stays;
+  unsynced = unsyncs-trans a b c t.stays.changed t.unsynced u.unsynced;
+  asked = u.asked ∙ t.asked;
+}
 
 -- a page has come in first, and the last has left where the cache was full
 gone : (c d : Cache) (m k : ℕ) (o p : Option Held) → HasRoom c → k ≡ c.capacity - 1 → in_memory d m ≡ lookup (nat_eq m) (take k c.held) → lookup (nat_eq m) (take k c.held) ≡ o → in_memory c m ≡ p
@@ -525,6 +543,9 @@ payload_of-first c n e f at =
     payload_of-some c n f.0 (first_entry n c.held f.0 f.1) ∙ ap (λ (x : ℕ × Held). Some (box_value x.1.payload)) (sym same_page)
 
 -- one page more is asked for
+pub asking_unsynced : (c : Cache) (k : ℕ) → UnsyncsNone c (record c { asked = k })
+asking_unsynced c k = unsyncs_none c (record c { asked = k }) (inl refl)
+
 pub asking : (c : Cache) (k : ℕ) → IsSound c → IsSound (record c { asked = k }) × Stays c (record c { asked = k })
 asking c k s = reordered c (record c { asked = k }) s (store_rests c.store) (λ _. refl) refl refl
 

@@ -1,10 +1,10 @@
 -- What proofs of callers may cite: how the relations of `specs/Cache.antt` join.
-use Rattle.std.proofs.Common.{◌≡◌, ℕ, Bool, true, false, cond, nat_eq, Option, Some, IsTrue, refl, sym, ap, ◌∙◌, arith}
+use Rattle.std.proofs.Common.{◌≡◌, ℕ, Bool, true, false, cond, nat_eq, Option, Some, IsTrue, refl, sym, ap, ◌∙◌, arith, ⊎_elim, inl, inr}
 use Rattle.std.proofs.lemmas.Bool.{eq-eqb}
 use Rattle.pages.specs.Store.{Store, Faulted}
 use Rattle.pages.specs.Store as store
 use Rattle.pages.specs.declared.payload.Payload.{Payload}
-use Rattle.pagecache.specs.Cache.{Cache, payload_of, IsRefused, Keeps, Stays, WritesNone, Writes, Adds}
+use Rattle.pagecache.specs.Cache.{Cache, is_changed, payload_of, IsRefused, Keeps, Stays, UnsyncsNone, WritesNone, Writes, Adds}
 use Rattle.pagecache.specs.declared.fault.CacheFault.{CacheFault}
 use Rattle.pagecache.specs.declared.fault.CacheFault.TheVariants as fault
 
@@ -24,6 +24,17 @@ none_written_after : (a b c : Cache) → Stays a b → WritesNone b c → Writes
 none_written_after a b c t u = record {
   clean = λ f h. u.clean (t.keeps.store.faithful ∙ f) (λ n. t.changed n (h n)) ∙ t.unwritten.clean f h;
   from = λ f k h. u.from (t.keeps.store.faithful ∙ f) k (λ n g. t.changed n (h n g)) ∙ t.unwritten.from f k h;
+}
+
+pub store_unsyncs-trans : (a b c : Store) → store.UnsyncsNone a b → store.UnsyncsNone b c → store.UnsyncsNone a c
+store_unsyncs-trans a b c p q = ⊎_elim (λ e. ⊎_elim (λ k. inl (e ∙ k)) (λ k. inr (e ∙ k)) p) (λ e. inr e) q
+
+-- and none more is changed by the first
+pub unsyncs-trans : (a b c : Cache) → ((n : ℕ) → is_changed a n ≡ false → is_changed b n ≡ false)
+    → UnsyncsNone a b → UnsyncsNone b c → UnsyncsNone a c
+unsyncs-trans a b c still p q = record {
+  clean = λ h. store_unsyncs-trans a.store b.store c.store (p.clean h) (q.clean (λ n. still n (h n)));
+  but_first = λ h s. q.but_first (λ n l. still n (h n l)) (p.but_first h s);
 }
 
 pub stays-trans : (a b c : Cache) → Stays a b → Stays b c → Stays a c

@@ -4,7 +4,7 @@ use Rattle.std.specs.Option.{option_or}
 use Rattle.std.specs.Map.{lookup}
 use Rattle.std.specs.Box.{box_value}
 use Rattle.pages.specs.Unsealed.{unsealed}
-use Rattle.pages.specs.Store.{Store, Faulted}
+use Rattle.pages.specs.Store.{Store, Faulted, IsSyncedButFirst}
 use Rattle.pages.specs.Store as store
 use Rattle.pages.specs.declared.payload.Payload.{Payload}
 use Rattle.pagecache.specs.declared.slots.Held.{Held}
@@ -90,6 +90,12 @@ pub record WritesNone (old new : Cache) : Type 0 where
       → ((n : ℕ) → k ≤ n → is_changed old n ≡ false)
       → drop k (pages_as_written new) ≡ drop k (pages_as_written old)
 
+-- where no page is changed, none more is unsynced; nor is one but page 0, where no other is changed
+pub record UnsyncsNone (old new : Cache) : Type 0 where
+  pub clean : IsClean old → store.UnsyncsNone old.store new.store
+  pub but_first : ((n : ℕ) → 1 ≤ n → is_changed old n ≡ false)
+      → IsSyncedButFirst old.store → IsSyncedButFirst new.store
+
 -- no page has another payload, and none more is changed
 pub record Stays (old new : Cache) : Type 0 where
   pub keeps : Keeps old new
@@ -148,11 +154,13 @@ IsNotAdded fault.Memory old new = ⊤
 -- a call for page n that answers: the page has the payload w
 pub record Lends (n : ℕ) (w : Payload) (old new : Cache) : Type 0 where
   pub writes : Writes n w old new
+  pub unsynced : UnsyncsNone old new
   pub length : SameLength old new
   pub asks : AsksOnce old new
 
 -- a call for a page that changes none
 pub record Rests (old new : Cache) : Type 0 where
   pub stays : Stays old new
+  pub unsynced : UnsyncsNone old new
   pub length : SameLength old new
   pub asks : AsksOnce old new

@@ -1,8 +1,8 @@
 //! The cache as its callers see it.
 ghost use Rattle.std.specs.Prelude.{◌≡◌, ◌<◌, ◌≤◌, false, Some, None, IsTrue, IfOk, IfErr, OnOk, OnErr, IsErrOf, length};
 ghost use Rattle.std.specs.Borrow.{sem};
-ghost use Rattle.pagecache.specs.Cache.{fresh, is_changed, payload_of, Adds, Stays, SameLength, AsksOnce, IsNotAdded, IsSettled, IsStopped, IsWritten};
-ghost use Rattle.pages.specs.Store.{IsLawful};
+ghost use Rattle.pagecache.specs.Cache.{fresh, is_changed, payload_of, Adds, Stays, SameLength, AsksOnce, IsNotAdded, IsSettled, IsStopped, IsWritten, UnsyncsNone};
+ghost use Rattle.pages.specs.Store.{IsLawful, IsSynced};
 ghost use Rattle.pages.specs.Zero.{zero_payload};
 ghost use Rattle.pagecache.specs.PageLends.{LendsPage, ShowsPage};
 
@@ -131,7 +131,9 @@ impl<S: PageStore> PageCache<S> {
     /// changed is not written.
     pub fn flush(&mut self) -> Result<(), CacheFault>
         ensures written { OnOk result (IsWritten self.new) }
+        ensures synced { OnOk result (IsSynced self.new.store) }
         ensures stays { Stays self.old self.new }
+        ensures unsynced { UnsyncsNone self.old self.new }
         ensures length { SameLength self.old self.new }
         ensures asked { self.new.asked ≡ self.old.asked }
         ensures memory { IsErrOf result CacheFault.Memory → self.new ≡ self.old }

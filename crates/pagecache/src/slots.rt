@@ -2,7 +2,8 @@
 ghost use Rattle.std.specs.Prelude.{ℕ, ◌≡◌, ◌<◌, ◌≤◌, ◌↔◌, false, Some, None, IsTrue, IsSome, OnOk, OnErr, IfOk, IfErr, IfNone, IfSome, IsErrOf, slice_get, slice_index, EachIndex, length};
 ghost use Rattle.std.specs.Borrow.{sem};
 ghost use Rattle.std.specs.Map.{keys_of};
-ghost use Rattle.pagecache.specs.Cache.{fresh, AsksOnce, Stays, SameLength, Adds, IsRefused, IsStopped, IsNotAdded, IsWritten, in_memory, sealed_payload, is_changed, payload_of};
+ghost use Rattle.pagecache.specs.Cache.{fresh, AsksOnce, Stays, SameLength, Adds, IsRefused, IsStopped, IsNotAdded, IsWritten, in_memory, sealed_payload, is_changed, payload_of, UnsyncsNone};
+ghost use Rattle.pages.specs.Store.{IsSynced, Stays as StoreStays};
 ghost use Rattle.pagecache.specs.SlotLends.{LendsSlot};
 ghost use Rattle.pagecache.specs.Slots.{HasFailed, HasRoom, IsFirst, IsSound, IsWithin, OnLeaving, Steps, changed_numbers, seen_of};
 
@@ -200,6 +201,7 @@ impl<S: PageStore> Slots<S> {
         requires { IsSound (seen_of S.seen self.old) }
         ensures sound { IsSound (seen_of S.seen self.new) }
         ensures stays { Stays (seen_of S.seen self.old) (seen_of S.seen self.new) }
+        ensures unsynced { UnsyncsNone (seen_of S.seen self.old) (seen_of S.seen self.new) }
         ensures length { SameLength (seen_of S.seen self.old) (seen_of S.seen self.new) }
         ensures asks { AsksOnce (seen_of S.seen self.old) (seen_of S.seen self.new) }
         ensures below { OnOk result (number < self.old.count) }
@@ -275,12 +277,28 @@ impl<S: PageStore> Slots<S> {
         Ok(())
     }
 
+    /// Makes the store last.
+    #[tactic(auto, using(crate::proofs::CacheLemmas::store_rests))]
+    fn sync(&mut self) -> Result<(), CacheFault>
+        ensures rest { self.new ≡ record self.old { store = self.new.store } }
+        ensures stays { StoreStays (S.seen self.old.store) (S.seen self.new.store) }
+        ensures synced { OnOk result (IsSynced (S.seen self.new.store)) }
+        ensures cause { IfErr result
+            (λ fault. HasFailed fault (seen_of S.seen self.old) (seen_of S.seen self.new)) }
+    {
+        match self.store.sync() {
+            Ok(()) => Ok(()),
+            Err(_) => Err(CacheFault::Store),
+        }
+    }
+
     /// Writes every changed page, and makes the store last.
     pub(crate) fn flush(&mut self) -> Result<(), CacheFault>
         requires { IsSound (seen_of S.seen self.old) }
         ensures steps { Steps (seen_of S.seen self.old) (seen_of S.seen self.new) }
         ensures length { SameLength (seen_of S.seen self.old) (seen_of S.seen self.new) }
         ensures written { OnOk result (IsWritten (seen_of S.seen self.new)) }
+        ensures synced { OnOk result (IsSynced (S.seen self.new.store)) }
         ensures memory { IsErrOf result CacheFault.Memory
             → seen_of S.seen self.new ≡ seen_of S.seen self.old }
         ensures cause { IfErr result
@@ -294,10 +312,7 @@ impl<S: PageStore> Slots<S> {
             Ok(()) => {}
             Err(fault) => return Err(fault),
         }
-        match self.store.sync() {
-            Ok(()) => Ok(()),
-            Err(_) => Err(CacheFault::Store),
-        }
+        self.sync()
     }
 
     /// Whether there are as many pages as the store may have.

@@ -2,6 +2,7 @@
 use Rattle.std.specs.Prelude.{ℕ, zero, suc, ◌≡◌, ◌≤◌, ◌*◌, List, [], ◌∷◌, take, drop, length, Option, Some, None, ⊤, option_map, unwrap_or, true, ◌/◌, ◌^◌, ◌-◌}
 use Rattle.std.specs.Option.{ForSome}
 use Rattle.pages.specs.Store.{Store}
+use Rattle.pages.specs.declared.unsynced.Unsynced.TheVariants.{Others}
 
 -- known bytes before `from` and after `end` stay, and none goes
 abbrev pub StaysAround : ℕ → ℕ → Option (List ℕ) → Option (List ℕ) → Type 0
@@ -16,12 +17,13 @@ abbrev pub pages_of : ℕ → ℕ → List ℕ → List (List ℕ)
 pages_of n zero xs = []
 pages_of n (suc k) xs = take n xs ∷ pages_of n k (drop n xs)
 
--- the store of the whole pages of a file's bytes
+-- the store of the whole pages of a file's bytes, which may all be unsynced
 abbrev pub whole_pages : List ℕ → Store
 whole_pages xs = record {
   count = length xs / 4096;
   most = 2 ^ 32 - 1;
   faults = 0;
+  unsynced = Others;
   is_faithful = true;
   pages = pages_of 4096 (length xs / 4096) xs;
 }

@@ -4,4 +4,5 @@ pub mod PagesOfLemmas
 pub mod Sealed
 pub mod Store
 pub mod Unsealed
+pub mod Unsynced
 pub mod Zero

@@ -1,19 +1,29 @@
 -- What contracts see of a store of pages, and what a call does to it.
-use Rattle.std.specs.Prelude.{ℕ, Bool, true, IsTrue, ◌≡◌, ◌⊎◌, ◌+◌, ◌-◌, ◌^◌, ◌<◌, ◌≤◌, min, max, length, List, [], ◌∷◌, ◌++◌, take, drop, slice_set, slice_index_or}
+use Rattle.std.specs.Prelude.{ℕ, Bool, true, IsTrue, ◌≡◌, ◌≢◌, ◌⊎◌, ◌+◌, ◌-◌, ◌^◌, ◌<◌, ◌≤◌, min, max, length, List, [], ◌∷◌, ◌++◌, take, drop, slice_set, slice_index_or}
+use Rattle.pages.specs.Unsynced.{with_written}
+use Rattle.pages.specs.declared.unsynced.Unsynced.{Unsynced}
+use Rattle.pages.specs.declared.unsynced.Unsynced.TheVariants.{Nothing, Others}
 
--- how many pages there are and may be, how many calls have failed, whether a read gives the page
--- last written there, and, of a faithful store, the pages as written
+-- how many pages there are and may be, how many calls have failed, which pages may be unsynced,
+-- whether a read gives the page last written there, and, of a faithful store, the pages as written
 pub record Store : Type 0 where
   pub count : ℕ
   pub most : ℕ
   pub faults : ℕ
+  pub unsynced : Unsynced
   pub is_faithful : Bool
   pub pages : List (List ℕ)
 
 -- a store with no page
 abbrev pub empty_store : ℕ → Store
-empty_store most =
-    record { count = 0; most = most; faults = 0; is_faithful = true; pages = [] }
+empty_store most = record {
+  count = 0;
+  most = most;
+  faults = 0;
+  unsynced = Nothing;
+  is_faithful = true;
+  pages = [];
+}
 
 -- the store with another byte at a place of page n
 abbrev pub with_byte : ℕ → ℕ → ℕ → Store → Store
@@ -34,6 +44,22 @@ HasRisen old new = min (old + 1) (2 ^ 64 - 1) ≤ new
 abbrev pub Faulted : Store → Store → Type 0
 Faulted old new = HasRisen old.faults new.faults
 
+-- no page is unsynced
+abbrev pub IsSynced : Store → Type 0
+IsSynced s = s.unsynced ≡ Nothing
+
+-- no page but page 0 is
+abbrev pub IsSyncedButFirst : Store → Type 0
+IsSyncedButFirst s = s.unsynced ≢ Others
+
+-- as much is unsynced as was
+abbrev pub SameUnsynced : Store → Store → Type 0
+SameUnsynced old new = new.unsynced ≡ old.unsynced
+
+-- so it is, or nothing is
+abbrev pub UnsyncsNone : Store → Store → Type 0
+UnsyncsNone old new = SameUnsynced old new ⊎ IsSynced new
+
 -- what every call keeps
 pub record Keeps (old new : Store) : Type 0 where
   pub most : new.most ≡ old.most
@@ -48,11 +74,12 @@ put_page pages n p = take n pages ++ p ∷ drop (n + 1) pages
 abbrev pub IsTorn : {X : Type 0} → ℕ → List X → List X → Type 0
 IsTorn {X = X} n old new = (new ≡ old) ⊎ ((p : X) × (new ≡ put_page old n p))
 
--- no page has changed, and none was added
+-- no page has changed, none was added, and none more is unsynced
 pub record Stays (old new : Store) : Type 0 where
   pub keeps : Keeps old new
   pub count : new.count ≡ old.count
   pub pages : IsTrue old.is_faithful → new.pages ≡ old.pages
+  pub unsynced : UnsyncsNone old new
 
 -- page n is p, and no other has changed
 pub record Writes (n : ℕ) (p : List ℕ) (old new : Store) : Type 0 where
@@ -65,3 +92,12 @@ pub record Tears (n : ℕ) (old new : Store) : Type 0 where
   pub keeps : Keeps old new
   pub count : (new.count ≡ old.count) ⊎ ((n ≡ old.count) × (new.count ≡ n + 1))
   pub pages : IsTrue old.is_faithful → IsTorn n old.pages new.pages
+
+-- page n counts as written and not synced
+abbrev pub Unsyncs : ℕ → Store → Store → Type 0
+Unsyncs n old new = new.unsynced ≡ with_written n old.unsynced
+
+-- so it does where its write failed, unless no page has changed
+abbrev pub MayUnsync : ℕ → Store → Store → Type 0
+MayUnsync n old new =
+    Unsyncs n old new ⊎ (SameUnsynced old new × (IsTrue old.is_faithful → new.pages ≡ old.pages))

@@ -1,5 +1,5 @@
 //! The contract of a file of bytes.
-ghost use Rattle.std.specs.Prelude.{ℕ, ◌≡◌, ◌≤◌, ◌+◌, List, Option, length, slice_range, IfOk, IfSome, OnOk};
+ghost use Rattle.std.specs.Prelude.{ℕ, ◌≡◌, ◌≤◌, ◌+◌, Bool, IsTrue, List, Option, length, slice_range, IfOk, IfSome, OnErr, OnOk};
 ghost use Rattle.pages.specs.Bytes.{StaysAround};
 
 use std::io;
@@ -12,6 +12,9 @@ pub trait ByteFile {
     /// The bytes that the file holds, where it tells them.
     ghost bytes: { Self → Option (List ℕ) };
 
+    /// Whether all that was written is on the disk.
+    ghost is_synced: { Self → Bool };
+
     /// How many bytes there are.
     fn len(&self) -> io::Result<u64>
         ensures { IfOk result (λ n. IfSome (bytes self.now) (λ xs. n ≡ length xs)) };
@@ -20,7 +23,8 @@ pub trait ByteFile {
     fn read_at(&mut self, place: u64, buf: &mut [u8]) -> io::Result<()>
         ensures read { OnOk result (IfSome (bytes self.old)
             (λ xs. slice_range xs place (place + length buf.new) ≡ buf.new)) }
-        ensures stays { bytes self.new ≡ bytes self.old };
+        ensures stays { bytes self.new ≡ bytes self.old }
+        ensures synced { is_synced self.new ≡ is_synced self.old };
 
     /// Writes bytes from a place on, which may be the file's end. A refusal leaves any bytes
     /// there, and no other byte changes.
@@ -33,5 +37,7 @@ pub trait ByteFile {
 
     /// Makes what was written last, as on a disk.
     fn sync(&mut self) -> io::Result<()>
-        ensures { bytes self.new ≡ bytes self.old };
+        ensures stays { bytes self.new ≡ bytes self.old }
+        ensures synced { OnOk result (IsTrue (is_synced self.new)) }
+        ensures unsynced { OnErr result (is_synced self.new ≡ is_synced self.old) };
 }

@@ -1,12 +1,14 @@
 //! A store in a file.
-ghost use Rattle.std.specs.Prelude.{◌≡◌, ◌<◌, ◌≤◌, ◌^◌, ◌-◌, ◌/◌, is_some, length, IfOk, IsErr, IfSome};
+ghost use Rattle.std.specs.Prelude.{◌≡◌, ◌<◌, ◌≤◌, ◌^◌, ◌-◌, ◌/◌, is_some, length, IfOk, IsErr, IfSome, IsTrue};
 ghost use Rattle.std.proofs.Common.{arith};
 ghost use Rattle.pages.specs.Bytes.{HoldPages, known_pages, whole_pages};
 ghost use Rattle.pages.specs.Store.{HasRisen};
+ghost use Rattle.pages.specs.declared.unsynced.Unsynced.TheVariants.{Nothing};
 
 use crate::byte_file::ByteFile;
 use crate::store::{PageStore, StoreFault};
 use crate::system_file::SystemFile;
+use crate::unsynced::Unsynced;
 use std::fs::{File, OpenFile};
 use std::os::unix::fs::FileExt;
 use std::rt::Files;
@@ -14,14 +16,17 @@ use std::rt::Files;
 /// A store in a file: page n is the bytes from 4,096 n to 4,096 n + 4,095.
 ///
 /// It is faithful where the file tells its bytes. Each page is read and written by one call of the
-/// file.
+/// file. What the file held before may be unsynced, and nothing is once its own `sync` has answered
+/// `Ok`.
 #[derive(Drop)]
 pub struct FileStore<F: ByteFile = SystemFile<File>> {
     file: F,
     count: u32,
     faults: u64,
+    unsynced: Unsynced,
     ghost small: { count < 2 ^ 32 },
     ghost fits: { HoldPages 4096 count (F.bytes file) },
+    ghost lasts: { unsynced ≡ Nothing → IsTrue (F.is_synced file) },
 }
 
 impl<F: ByteFile> FileStore<F> {
@@ -49,6 +54,7 @@ impl<F: ByteFile> FileStore<F> {
             file,
             count,
             faults: 0,
+            unsynced: Unsynced::Others,
         })
     }
 
@@ -56,6 +62,7 @@ impl<F: ByteFile> FileStore<F> {
     fn failed(&mut self) -> StoreFault
         ensures file { self.new.file ≡ self.old.file }
         ensures count { self.new.count ≡ self.old.count }
+        ensures unsynced { self.new.unsynced ≡ self.old.unsynced }
         ensures cause { HasRisen self.old.faults self.new.faults }
         ensures faults { self.old.faults ≤ self.new.faults }
     {
@@ -91,6 +98,7 @@ impl<F: ByteFile> PageStore for FileStore<F> {
       count = s.count;
       most = 2 ^ 32 - 1;
       faults = s.faults;
+      unsynced = s.unsynced;
       is_faithful = is_some (F.bytes s.file);
       pages = known_pages 4096 s.count (F.bytes s.file);
     } };
@@ -117,6 +125,7 @@ impl<F: ByteFile> PageStore for FileStore<F> {
     }
 
     fn write(&mut self, number: u32, page: &[u8; 4096]) -> Result<(), StoreFault> {
+        self.unsynced = self.unsynced.with_written(number);
         match self.file.write_at(u64::from(number) * 4096, page) {
             Ok(()) => {
                 if number == self.count {
@@ -130,7 +139,10 @@ impl<F: ByteFile> PageStore for FileStore<F> {
 
     fn sync(&mut self) -> Result<(), StoreFault> {
         match self.file.sync() {
-            Ok(()) => Ok(()),
+            Ok(()) => {
+                self.unsynced = Unsynced::Nothing;
+                Ok(())
+            }
             Err(_) => Err(self.failed()),
         }
     }

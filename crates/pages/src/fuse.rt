@@ -1,6 +1,6 @@
 //! A store that fails on purpose.
 ghost use Rattle.std.specs.Prelude.{◌≡◌, ◌<◌, ◌≤◌, IsTrue, Some, ◌↔◌};
-ghost use Rattle.pages.specs.Store.{HasRisen, Tears};
+ghost use Rattle.pages.specs.Store.{HasRisen, MayUnsync, Tears};
 
 use crate::sealing::blank;
 use crate::store::{PageStore, StoreFault};
@@ -74,6 +74,7 @@ impl<S: PageStore> Fuse<S> {
         requires next { number ≤ (S.seen self.old.store).count }
         requires room { number < (S.seen self.old.store).most }
         ensures torn { Tears number (S.seen self.old.store) (S.seen self.new.store) }
+        ensures unsynced { MayUnsync number (S.seen self.old.store) (S.seen self.new.store) }
         ensures length { (S.seen self.new.store).count ≡ (S.seen self.old.store).count }
         ensures left { self.new.left ≡ self.old.left }
         ensures once { self.new.once ≡ self.old.once }

@@ -14,6 +14,7 @@ mod payload;
 mod sealing;
 mod store;
 mod system_file;
+mod unsynced;
 
 pub use byte_file::ByteFile;
 pub use file_store::FileStore;
@@ -24,3 +25,4 @@ pub use payload::{Kind, PageFault, Payload};
 pub use sealing::{seal, unseal};
 pub use store::{PageStore, StoreFault};
 pub use system_file::SystemFile;
+pub use unsynced::Unsynced;

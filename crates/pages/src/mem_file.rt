@@ -1,5 +1,5 @@
 //! A file of bytes in memory.
-ghost use Rattle.std.specs.Prelude.{◌≡◌, ◌≤◌, ◌+◌, length, Some};
+ghost use Rattle.std.specs.Prelude.{◌≡◌, ◌≤◌, ◌+◌, length, true, Some};
 ghost use Rattle.std.specs.List.{replace_range};
 
 use crate::byte_file::ByteFile;
@@ -30,6 +30,8 @@ impl MemFile {
 
 impl ByteFile for MemFile {
     ghost bytes = { λ f. Some f.bytes.items };
+
+    ghost is_synced = { λ _. true };
 
     fn len(&self) -> io::Result<u64> {
         Ok(self.bytes.len() as u64)

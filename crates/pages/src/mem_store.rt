@@ -4,6 +4,7 @@ ghost use Rattle.std.proofs.Common.{arith};
 ghost use Rattle.pages.specs.Store.{empty_store, with_byte};
 
 use crate::store::{PageStore, StoreFault};
+use crate::unsynced::Unsynced;
 use std::alloc::Global;
 
 /// A store in memory. It is faithful, and a new page that finds no memory is a fault of it.
@@ -12,6 +13,7 @@ pub struct MemStore {
     pages: Vec<[u8; 4096]>,
     most: u32,
     faults: u64,
+    unsynced: Unsynced,
     ghost within: { vec_len pages ≤ most },
     ghost fits: { most < 2 ^ 32 },
 }
@@ -25,6 +27,7 @@ impl MemStore {
             pages: Vec::new(alloc),
             most,
             faults: 0,
+            unsynced: Unsynced::Nothing,
         }
     }
 
@@ -47,6 +50,7 @@ impl PageStore for MemStore {
       count = vec_len s.pages;
       most = s.most;
       faults = s.faults;
+      unsynced = s.unsynced;
       is_faithful = true;
       pages = s.pages.items;
     } };
@@ -71,6 +75,7 @@ impl PageStore for MemStore {
     }
 
     fn write(&mut self, number: u32, page: &[u8; 4096]) -> Result<(), StoreFault> {
+        self.unsynced = self.unsynced.with_written(number);
         let place = number as usize;
         if place < self.pages.len() {
             self.pages[place] = *page;
@@ -86,6 +91,7 @@ impl PageStore for MemStore {
     }
 
     fn sync(&mut self) -> Result<(), StoreFault> {
+        self.unsynced = Unsynced::Nothing;
         Ok(())
     }
 }

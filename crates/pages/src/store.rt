@@ -1,6 +1,6 @@
 //! The contract of a store of pages.
 ghost use Rattle.std.specs.Prelude.{◌≡◌, ◌<◌, ◌≤◌, Some, slice_get, IsTrue, OnOk, OnErr};
-ghost use Rattle.pages.specs.Store.{Store, IsLawful, Faulted, Stays, Writes, Tears};
+ghost use Rattle.pages.specs.Store.{Store, IsLawful, IsSynced, Faulted, MayUnsync, SameUnsynced, Stays, Tears, Unsyncs, Writes};
 
 use thiserror::Error;
 
@@ -13,11 +13,12 @@ pub struct StoreFault;
 ///
 /// A store is faithful where every read that answers `Ok` gives the page last written there; what
 /// is said of pages is said of a faithful store. No call changes whether it is, nor how many pages
-/// there may be, and the count of faults never falls.
+/// there may be, and the count of faults never falls. A page that is written is unsynced until
+/// `sync` answers `Ok`.
 pub trait PageStore {
     /// What contracts see of a store: how many pages there are and may be, how many calls have
-    /// failed, whether it is faithful, and the pages as written. The count of faults stays at 2^64
-    /// - 1 once it is there, and then counts as risen.
+    /// failed, which pages may be unsynced, whether it is faithful, and the pages as written. The
+    /// count of faults stays at 2^64 - 1 once it is there, and then counts as risen.
     ghost seen: { Self → Store };
 
     /// How many pages there are.
@@ -34,6 +35,7 @@ pub trait PageStore {
         ensures read { OnOk result (IsTrue (seen self.old).is_faithful
             → slice_get (seen self.old).pages number ≡ Some page.new) }
         ensures stays { Stays (seen self.old) (seen self.new) }
+        ensures unsynced { SameUnsynced (seen self.old) (seen self.new) }
         ensures cause { OnErr result (Faulted (seen self.old) (seen self.new)) };
 
     /// Writes a page, which may be one more. A refusal leaves any bytes in that page, which may
@@ -42,12 +44,16 @@ pub trait PageStore {
         requires next { number ≤ (seen self.old).count }
         requires room { number < (seen self.old).most }
         ensures written { OnOk result (Writes number page.now (seen self.old) (seen self.new)) }
+        ensures unsynced { OnOk result (Unsyncs number (seen self.old) (seen self.new)) }
         ensures torn { OnErr result (Tears number (seen self.old) (seen self.new)) }
+        ensures torn_unsynced { OnErr result (MayUnsync number (seen self.old) (seen self.new)) }
         ensures cause { OnErr result (Faulted (seen self.old) (seen self.new)) };
 
     /// Makes what was written last, as on a disk.
     fn sync(&mut self) -> Result<(), StoreFault>
         ensures stays { Stays (seen self.old) (seen self.new) }
+        ensures synced { OnOk result (IsSynced (seen self.new)) }
+        ensures unsynced { OnErr result (SameUnsynced (seen self.old) (seen self.new)) }
         ensures cause { OnErr result (Faulted (seen self.old) (seen self.new)) };
 
     /// What holds of every store: no more pages than may be, and fewer than 2^32 of them.

@@ -1,5 +1,5 @@
 //! A file of the system.
-ghost use Rattle.std.specs.Prelude.{None};
+ghost use Rattle.std.specs.Prelude.{true, None};
 
 use crate::byte_file::ByteFile;
 use std::fs::{File, OpenFile};
@@ -7,7 +7,8 @@ use std::io;
 use std::os::unix::fs::FileExt;
 use std::rt::Files;
 
-/// A file of the system. No contract says which bytes it holds.
+/// A file of the system. No contract says which bytes it holds, nor that `sync` puts them on the
+/// disk: that it does is trusted.
 #[derive(Drop)]
 pub struct SystemFile<F = File> {
     file: F,
@@ -25,6 +26,8 @@ impl<F: FileExt + OpenFile> SystemFile<F> {
 
 impl<F: FileExt + OpenFile> ByteFile for SystemFile<F> {
     ghost bytes = { λ _. None };
+
+    ghost is_synced = { λ _. true };
 
     fn len(&self) -> io::Result<u64> {
         Ok(self.file.metadata()?.len())

@@ -7,6 +7,7 @@ use Rattle.std.proofs.lemmas.Grind.{div_ceil_times}
 use Rattle.std.proofs.lemmas.Int.{clamps}
 use Rattle.std.proofs.lemmas.List.{append-nil, append_assoc, drop-append-le}
 use Rattle.pages.specs.declared.payload.Payload.{Payload}
+use Rattle.pagecache.proofs.CallerLemmas.{unsyncs-trans}
 use Rattle.pagecache.specs.Cache.{Cache, Rests, IsRefused, payload_of}
 use Rattle.pagecache.specs.declared.fault.CacheFault.{CacheFault}
 use Rattle.pagecache.specs.declared.fault.CacheFault.TheVariants as cache
@@ -203,6 +204,7 @@ reads_trans a b c p q = record {
     clean = λ f h. q.unwritten.clean (p.store.faithful ∙ f) (λ n. p.changed n (h n)) ∙ p.unwritten.clean f h;
     from = λ f k h. q.unwritten.from (p.store.faithful ∙ f) k (λ n l. p.changed n (h n l)) ∙ p.unwritten.from f k h;
   };
+  unsynced = unsyncs-trans a b c p.changed p.unsynced q.unsynced;
 }
 
 -- what a fault says, at the exit of a `?`

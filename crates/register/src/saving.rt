@@ -1,6 +1,7 @@
 //! A catalogue is kept in pages.
 ghost use Rattle.std.specs.Prelude.{List, ℕ, ◌≡◌, ◌<◌, ◌≤◌, ◌^◌, ◌++◌, ◌∷◌, [], length, slice_get, unwrap_or, false, All, IfErr, IfOk, IsErrOf, IsOk, IsTrue, OnErr, OnOk, Some};
 ghost use Rattle.std.specs.Int.{div_ceil};
+ghost use Rattle.pages.specs.Store.{IsSynced};
 ghost use Rattle.pagecache.specs.Cache.{is_changed, page_of, payload_of, IsClean, IsWritten, Rests, SameLength, Stays};
 ghost use Rattle.register.specs.Chain.{most_used};
 ghost use Rattle.register.specs.ChainWriter.{HasText, Holds};
@@ -334,9 +335,10 @@ fn write_chain<S: PageStore>(
     }
 }
 
-/// Writes all that is changed to the store.
+/// Writes all that is changed to the store, and syncs it.
 pub fn write_all<S: PageStore>(cache: &mut PageCache<S>) -> Result<(), CatalogueFault>
     ensures written { OnOk result (IsWritten cache.new) }
+    ensures synced { OnOk result (IsSynced cache.new.store) }
     ensures stays { Stays cache.old cache.new }
     ensures length { SameLength cache.old cache.new }
     ensures asked { cache.new.asked ≡ cache.old.asked }
@@ -351,7 +353,7 @@ pub fn write_all<S: PageStore>(cache: &mut PageCache<S>) -> Result<(), Catalogue
 }
 
 /// Writes the whole text of a catalogue to its chain of pages, and answers the first page and the
-/// length of the text; all that is changed is then written to the store.
+/// length of the text; all that is changed is then written to the store, and synced.
 fn write_whole<S: PageStore>(
     alloc: Global,
     catalogue: &Catalogue,
@@ -369,6 +371,7 @@ fn write_whole<S: PageStore>(
     ensures whole { OnOk result (IsCatalogue catalogue.now
         → IsWhole (contents_of catalogue.now places.now)) }
     ensures written { OnOk result (IsClean cache.new) }
+    ensures synced { OnOk result (IsSynced cache.new.store) }
     ensures only { HasFew catalogue.now → IsTrue cache.old.store.is_faithful
         → IfErr result IsAllowed }
     ensures caused { IfErr result (IsCaused cache.old cache.new) }
@@ -408,8 +411,8 @@ fn fields_for(catalogue: &Catalogue, tree: TbTree, first: u32, length: u64) -> F
 }
 
 /// Keeps a catalogue in pages: its text, with the places of the features in a tree, in a chain of
-/// them, those of an earlier catalogue first, which is then written with all else that is changed;
-/// and in page 0, which is not written yet, where it is, with the limits and the tree. How page 0
+/// them, those of an earlier catalogue first, which is then written with all else that is changed, and
+/// synced; and in page 0, which is not written yet, where it is, with the limits and the tree. How page 0
 /// begins stays, finished or not, and so do the pages of the tree.
 ///
 /// Refused for want of memory, and where the store fails or is full; page 0 stays then.
@@ -437,6 +440,7 @@ pub fn keep<S: PageStore>(
     ensures tree { SparesTree cache.old cache.new }
     ensures length { OnOk result (KeepsLength cache.old cache.new) }
     ensures written { OnOk result (IsWrittenButFirst cache.new) }
+    ensures synced { OnOk result (IsSynced cache.new.store) }
     ensures only { HasFew catalogue.now → IsTrue cache.old.store.is_faithful
         → 0 < cache.old.count → HasFirst cache.old → IfErr result IsAllowed }
     ensures caused { IfErr result (IsCaused cache.old cache.new) }

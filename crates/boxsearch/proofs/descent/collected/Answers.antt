@@ -216,3 +216,12 @@ returns-clause-asked g c = λ fa.
     on_ok c.legs_in.result
     (λ more less. let rise = more less in let so_far = inv.asked fa (omega (arith, rise, less)) in omega (arith, rise, so_far, all))
     c.legs_in.ensures.asked
+
+pub returns-in_err-pages-clause-reads : goal.returns-in_err-pages-clause-reads
+returns-in_err-pages-clause-reads g c = reads_trans c.args.cache.now c.loop-level.cache c.next_level.new.cache c.loop-level.invariant.reads c.next_level.ensures.reads
+
+pub returns-in_err-spend-2-clause-reads : goal.returns-in_err-spend-2-clause-reads
+returns-in_err-spend-2-clause-reads g c = reads_trans c.args.cache.now c.loop-level.cache c.next_level.new.cache c.loop-level.invariant.reads c.next_level.ensures.reads
+
+pub returns-clause-reads : goal.returns-clause-reads
+returns-clause-reads g c = reads_trans c.args.cache.now c.loop-level.cache c.legs_in.new.cache c.loop-level.invariant.reads c.legs_in.ensures.reads

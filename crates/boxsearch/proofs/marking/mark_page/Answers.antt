@@ -3,6 +3,7 @@ use Rattle.std.specs.Result.{is_ok}
 use Rattle.std.proofs.lemmas.Bool.{true≢false}
 use Rattle.pagecache.specs.Cache.{Rests, IsRefused}
 use Rattle.boxsearch.specs.Index.{IsUnfinished}
+use Rattle.boxsearch.proofs.PlaceLemmas.{some_same}
 use Rattle.boxsearch.proofs.MarkLemmas.{first_marked, first_rests, rests_marks, marks_trans, flushed_marks, is_marked, others_written, marked_is}
 use Rattle.boxsearch.proofs.ResultLemmas.{on_any, on_ok, on_fault, the_error}
 use Rattle.boxsearch.proofs.marking.mark_page.Goals as goal
@@ -57,3 +58,11 @@ returns-clause-header g c =
     on_any c.flush.result
     (first_marked c.args.cache.now b (c.page_mut.follows.lender w) c.flush.new.self c.in_ok-page.field-0.now w c.page.follows.holds-at-none.0 c.in_ok-page.ensures.value not_marked
     (c.page_mut.follows.holds w (ap is_ok c.in_ok-page_mut.was)) c.flush.ensures.stays c.flush.ensures.length c.flush.ensures.asked c.in_ok-page_mut.field-0.now c.in_ok-page_mut.ensures.value c.set_unfinished.ensures)
+
+pub returns-then-is_unfinished-clause-synced : goal.returns-then-is_unfinished-clause-synced
+returns-then-is_unfinished-clause-synced g c = λ f p at not_marked.
+    let page = c.in_ok-page.field-0.now in
+    absurd (not_marked (subst (λ q. IsUnfinished q) (some_same page p (sym (c.in_ok-page.ensures.value f) ∙ at)) (c.is_unfinished.ensures.0 c.if-is_unfinished.true)))
+
+pub returns-clause-synced : goal.returns-clause-synced
+returns-clause-synced g c = on_ok c.flush.result (λ synced f p at not_marked. synced) c.flush.ensures.synced

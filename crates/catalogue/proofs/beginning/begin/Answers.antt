@@ -1,4 +1,5 @@
 use Rattle.std.proofs.Common.{inl, inr, ◌≡◌, ap, sym, subst, ◌∙◌, arith, IsTrue, Some}
+use Rattle.pages.specs.Store.{IsSynced}
 use Rattle.tbtree.specs.Nodes.{pages_of_cache}
 use Rattle.chains.specs.Chains.{AreHeld}
 use Rattle.pagecache.specs.Cache.{Cache, IsWritten, fresh, payload_of}
@@ -48,3 +49,7 @@ returns-in-Err-new-clause-over g c = λ f.
     let unfinished : IsUnfinished c.in-Ok.payload = subst (λ p. IsUnfinished p) (sym c.in-Ok.ensures) (header_unfinished c.args.shape c.args.limits.now) in
     let left : IsUnfinishedStore s = record { payload = c.in-Ok.payload; is = is; unfinished = unfinished } in
     inr (inl (subst (λ store. IsUnfinishedStore (g.S.PageStore.seen store)) (sym c.in-Err-new.ensures.back) left))
+
+pub returns-in-Ok-new-clause-synced : goal.returns-in-Ok-new-clause-synced
+returns-in-Ok-new-clause-synced g c =
+    subst (λ (v : Cache). IsSynced v.store) (sym c.in-Ok-new.ensures.fresh ∙ sym (ap (λ (i : IndexView). i.cache) c.new-in-Ok-new.ensures.value)) c.in-Ok-write_first.ensures.synced

@@ -1,5 +1,5 @@
 use Rattle.std.proofs.Common.{ap, subst, sym, ◌∙◌, ◌⊎◌}
-use Rattle.pages.specs.Store.{IsLawful, Store}
+use Rattle.pages.specs.Store.{IsLawful, IsSynced, Store}
 use Rattle.pagecache.specs.Cache.{Cache}
 use Rattle.boxsearch.specs.Index.{IsMarked, IsSound}
 use Rattle.catalogue.specs.Closing.{IsNoStoreFault}
@@ -29,3 +29,8 @@ returns-clause-refused g c =
     map_err c.save_and_finish-result.result (λ refused sound marked book of legs.
     subst (λ (s : Store). IsUnfinishedStore s ⊎ HoldsButFirst s c.args.index.tree.shape c.args.catalogue.now.limits book) (sym left)
     (refused (subst (λ (k : Cache). IsLawful k.store) cache c.lawful.ensures) sound marked book of legs)) c.save_and_finish-result.ensures.refused
+
+pub returns-clause-synced : goal.returns-clause-synced
+returns-clause-synced g c =
+    let left = c.into_store.ensures ∙ ap (λ (k : Cache). k.store) c.into_cache-cache.ensures in
+    on_ok c.save_and_finish-result.result (subst (λ (s : Store). IsSynced s) (sym left)) c.save_and_finish-result.ensures.synced

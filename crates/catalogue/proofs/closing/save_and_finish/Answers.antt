@@ -12,7 +12,7 @@ use Rattle.register.specs.Saved.{CatalogueView}
 use Rattle.register.specs.Saving.{IsAllowed}
 use Rattle.catalogue.proofs.CloseLemmas.{closed_holds, front_unfinished, front_unwritten, of_catalogue, of_few, of_lawful, of_within, only_memory, says_stored, still_says, PlaceLaws}
 use Rattle.catalogue.proofs.ResultLemmas.{if_err_of, on_ok}
-use Rattle.catalogue.proofs.RefusedLemmas.{any_err, behind_holds}
+use Rattle.catalogue.proofs.RefusedLemmas.{any_err, behind_holds, synced_but_first}
 use Rattle.catalogue.proofs.closing.save_and_finish.Goals as goal
 
 pub returns-in_err-save-clause-only : goal.returns-in_err-save-clause-only
@@ -108,4 +108,5 @@ returns-clause-refused g c =
     (c.in_ok-save.ensures.saved sound.faithful) (c.in_ok-save.ensures.whole (of_catalogue catalogue book of))
     front.payload front.is (front_unfinished i.cache j.cache marked settled front)
     c.in_ok-save.ensures.written (omega (arith, some, more)) later lawful
-    (c.finish.ensures.others saved.faithful c.in_ok-save.ensures.written.clean))))
+    (c.finish.ensures.others saved.faithful c.in_ok-save.ensures.written.clean)
+    (c.finish.ensures.others_synced c.in_ok-save.ensures.written.clean (synced_but_first j.cache.store c.in_ok-save.ensures.synced)))))

@@ -1,6 +1,6 @@
 use Rattle.std.proofs.Common.{◌∙◌}
 use Rattle.catalogue.proofs.FinishLemmas.{finishes, unwritten}
-use Rattle.catalogue.proofs.RefusedLemmas.{reads_others, sets_others}
+use Rattle.catalogue.proofs.RefusedLemmas.{not_zero, reads_others, sets_others, OnlyFirst}
 use Rattle.catalogue.proofs.ResultLemmas.{on_ok}
 use Rattle.catalogue.proofs.finishing.finish.Goals as goal
 
@@ -36,3 +36,18 @@ returns-clause-others g c = λ f clean.
     let d = sets_others _ _ sets.lends.writes fb b.0 in
     let e = reads_others _ _ c.write_all-2.ensures.stays (sets.lends.writes.keeps.store.faithful ∙ fb) d.0 in
     e.1 ∙ d.1 ∙ b.1
+
+pub returns-in_err-write_all-clause-others_synced : goal.returns-in_err-write_all-clause-others_synced
+returns-in_err-write_all-clause-others_synced g c = λ clean synced. c.write_all.ensures.reads.unsynced.but_first clean synced
+
+pub returns-in_err-set_state-clause-others_synced : goal.returns-in_err-set_state-clause-others_synced
+returns-in_err-set_state-clause-others_synced g c = λ clean synced.
+    let b = c.write_all.ensures.reads in
+    c.in_err-set_state.ensures.rests.unsynced.but_first (λ n h. b.changed n (clean n h)) (b.unsynced.but_first clean synced)
+
+pub returns-clause-others_synced : goal.returns-clause-others_synced
+returns-clause-others_synced g c = λ clean synced.
+    let b = c.write_all.ensures.reads in
+    let l = c.in_ok-set_state.ensures.sets.lends in
+    let still : OnlyFirst c.write_all.new.index.cache = λ n h. b.changed n (clean n h) in
+    c.write_all-2.ensures.reads.unsynced.but_first (λ n h. l.writes.changed n (not_zero n h) (still n h)) (l.unsynced.but_first still (b.unsynced.but_first clean synced))

@@ -280,3 +280,9 @@ returns-clause-learns g c = λ fa.
     let shape = c.args.shape.now in
     let place = c.args.place.now in
     all_known (pages_of_cache c.args.cache.now) shape.leaf place.legs place.first (div_ceil place.legs shape.leaf) (last_link place) c.leaves.passed c.leaves.spans.items c.leaves.left c.leaves.link (c.leaves.invariant.way fa)
+
+pub returns-in_err-back-clause-reads : goal.returns-in_err-back-clause-reads
+returns-in_err-back-clause-reads g c = reads_trans c.args.cache.now c.leaves.cache c.step.new.cache c.leaves.invariant.reads c.step.ensures.reads
+
+pub returns-in_default-clause-reads : goal.returns-in_default-clause-reads
+returns-in_default-clause-reads g c = reads_trans c.args.cache.now c.leaves.cache c.step.new.cache c.leaves.invariant.reads c.step.ensures.reads

@@ -56,3 +56,6 @@ returns-clause-kept g c = λ fa.
 
 pub returns-clause-reads : goal.returns-clause-reads
 returns-clause-reads g c = reads_trans c.args.cache.now c.read_header.new.cache c.read_rest.new.cache c.in_ok-fields.ensures.reads c.in_ok-catalogue.ensures.reads
+
+pub returns-in_err-catalogue-clause-reads : goal.returns-in_err-catalogue-clause-reads
+returns-in_err-catalogue-clause-reads g c = reads_trans c.args.cache.now c.read_header.new.cache c.read_rest.new.cache c.in_ok-fields.ensures.reads c.in_err-catalogue.ensures.reads

@@ -1,4 +1,4 @@
-use Rattle.std.proofs.Common.{◌∙◌, refl, sym, Result, Ok, Err, OnOk}
+use Rattle.std.proofs.Common.{◌∙◌, refl, sym, Result, Ok, Err, OnOk, ⊎_elim}
 use Rattle.register.proofs.ReaderLemmas.{on_ok}
 use Rattle.register.proofs.SaveLemmas.{all_spare, keeps_front, not_zero, puts_length, says}
 use Rattle.register.proofs.saving.keep.Goals as goal
@@ -46,3 +46,7 @@ pub returns-clause-tree : goal.returns-clause-tree
 returns-clause-tree g c =
     all_spare c.args.cache.now c.earlier_page.new.cache c.write_whole.new.cache c.write_fields.new.cache c.fields_for-fields.result c.write_fields.result c.earlier_page.ensures.reads c.write_whole.ensures.kept
     c.write_fields.ensures.puts c.write_fields.ensures.rests
+
+pub returns-clause-synced : goal.returns-clause-synced
+returns-clause-synced g c =
+    on_ok c.write_fields.result (λ puts. ⊎_elim (λ e. e ∙ c.in_ok-first.ensures.synced) (λ e. e) (puts.lends.unsynced.clean c.in_ok-first.ensures.written)) c.write_fields.ensures.puts

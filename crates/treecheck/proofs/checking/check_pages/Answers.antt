@@ -194,3 +194,44 @@ returns-then-not-name_last-clause-named g c = λ fa.
     let first = c.read_pages.ensures.reads in
     let says = subst (SaysState c.args.begun) (first.payloads fa 0) (c.in_ok-check_state.ensures.says (first.store.faithful ∙ fa)) in
     later_named c.args.begun old old fa (c.in_ok-read_pages.ensures.held fa) c.in_ok-read_pages.ensures.count says (Malformed 0) tt
+
+pub returns-in_err-check_state-clause-reads : goal.returns-in_err-check_state-clause-reads
+returns-in_err-check_state-clause-reads g c = reads_trans c.args.cache.now c.read_pages.new.cache c.check_state.new.cache c.read_pages.ensures.reads c.check_state.ensures.reads
+
+pub returns-in_err-survey-clause-reads : goal.returns-in_err-survey-clause-reads
+returns-in_err-survey-clause-reads g c =
+    let stated = reads_trans c.args.cache.now c.read_pages.new.cache c.check_state.new.cache c.read_pages.ensures.reads c.check_state.ensures.reads in
+    reads_trans c.args.cache.now c.check_state.new.cache c.walk_all.new.source stated c.walk_all.ensures.reads
+
+pub returns-then-not-is_whole-clause-reads : goal.returns-then-not-is_whole-clause-reads
+returns-then-not-is_whole-clause-reads g c =
+    let stated = reads_trans c.args.cache.now c.read_pages.new.cache c.check_state.new.cache c.read_pages.ensures.reads c.check_state.ensures.reads in
+    reads_trans c.args.cache.now c.check_state.new.cache c.walk_all.new.source stated c.walk_all.ensures.reads
+
+pub returns-then-not-agree-clause-reads : goal.returns-then-not-agree-clause-reads
+returns-then-not-agree-clause-reads g c =
+    let stated = reads_trans c.args.cache.now c.read_pages.new.cache c.check_state.new.cache c.read_pages.ensures.reads c.check_state.ensures.reads in
+    reads_trans c.args.cache.now c.check_state.new.cache c.walk_all.new.source stated c.walk_all.ensures.reads
+
+pub returns-then-not-put_in_order-clause-reads : goal.returns-then-not-put_in_order-clause-reads
+returns-then-not-put_in_order-clause-reads g c =
+    let stated = reads_trans c.args.cache.now c.read_pages.new.cache c.check_state.new.cache c.read_pages.ensures.reads c.check_state.ensures.reads in
+    reads_trans c.args.cache.now c.check_state.new.cache c.walk_all.new.source stated c.walk_all.ensures.reads
+
+pub returns-in_err-check_tree-clause-reads : goal.returns-in_err-check_tree-clause-reads
+returns-in_err-check_tree-clause-reads g c =
+    let stated = reads_trans c.args.cache.now c.read_pages.new.cache c.check_state.new.cache c.read_pages.ensures.reads c.check_state.ensures.reads in
+    let walked = reads_trans c.args.cache.now c.check_state.new.cache c.walk_all.new.source stated c.walk_all.ensures.reads in
+    reads_trans c.args.cache.now c.walk_all.new.source c.check_tree.new.cache walked c.check_tree.ensures.reads
+
+pub returns-then-not-name_last-clause-reads : goal.returns-then-not-name_last-clause-reads
+returns-then-not-name_last-clause-reads g c =
+    let stated = reads_trans c.args.cache.now c.read_pages.new.cache c.check_state.new.cache c.read_pages.ensures.reads c.check_state.ensures.reads in
+    let walked = reads_trans c.args.cache.now c.check_state.new.cache c.walk_all.new.source stated c.walk_all.ensures.reads in
+    reads_trans c.args.cache.now c.walk_all.new.source c.check_tree.new.cache walked c.check_tree.ensures.reads
+
+pub returns-clause-reads : goal.returns-clause-reads
+returns-clause-reads g c =
+    let stated = reads_trans c.args.cache.now c.read_pages.new.cache c.check_state.new.cache c.read_pages.ensures.reads c.check_state.ensures.reads in
+    let walked = reads_trans c.args.cache.now c.check_state.new.cache c.walk_all.new.source stated c.walk_all.ensures.reads in
+    reads_trans c.args.cache.now c.walk_all.new.source c.check_tree.new.cache walked c.check_tree.ensures.reads

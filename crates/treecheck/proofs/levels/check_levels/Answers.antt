@@ -54,3 +54,6 @@ loop-level-preserved g c =
 pub returns-clause-stand : goal.returns-clause-stand
 returns-clause-stand g c = λ fa k n e.
     c.loop-level.invariant.above fa k n e (omega (arith, e, c.loop-level-test.false))
+
+pub returns-in_err-pages-clause-reads : goal.returns-in_err-pages-clause-reads
+returns-in_err-pages-clause-reads g c = reads_trans c.args.cache.now c.loop-level.cache c.level_below.new.cache c.loop-level.invariant.reads c.level_below.ensures.reads

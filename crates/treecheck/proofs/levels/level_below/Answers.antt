@@ -63,3 +63,6 @@ returns-clause-above g c = λ fa j p e.
 pub returns-clause-named : goal.returns-clause-named
 returns-clause-named g c = λ fa.
     c.loop-i.invariant.named fa ∙ ap (flat_map (named_by (pages_of_cache c.args.cache.now))) (take_all c.loop-i.i c.args.pages.now c.loop-i-test.false)
+
+pub returns-in_err-take_page-clause-reads : goal.returns-in_err-take_page-clause-reads
+returns-in_err-take_page-clause-reads g c = reads_trans c.args.cache.now c.loop-i.cache c.take_page.new.cache c.loop-i.invariant.reads c.take_page.ensures.reads

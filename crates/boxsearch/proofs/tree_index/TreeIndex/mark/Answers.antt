@@ -1,6 +1,6 @@
 use Rattle.std.proofs.Common.{ℕ, ◌≡◌, ◌<◌, subst, sym, false, IsTrue, OnOk, map}
 use Rattle.legs.specs.Asking.{Refusals, Starts}
-use Rattle.boxsearch.specs.Index.{IndexView, words, MarksFirst}
+use Rattle.boxsearch.specs.Index.{IndexView, words, MarksFirst, SyncsMark}
 use Rattle.pagecache.specs.Cache.{payload_of}
 use Rattle.boxsearch.specs.Answers.{of_cache}
 use Rattle.boxsearch.proofs.AnswerLemmas.{each_value}
@@ -31,6 +31,13 @@ returns-clause-header g c =
     subst (λ i. OnOk c.of_pages.result (MarksFirst i.cache new)) c.self.view_is
     (subst (λ r. OnOk r (MarksFirst c.self.inside.cache new)) (sym c.of_pages.ensures)
     (each_value (λ fault. of_cache fault) (λ _. MarksFirst c.self.inside.cache new) c.mark_page.result c.mark_page.ensures.header))
+
+pub returns-clause-synced : goal.returns-clause-synced
+returns-clause-synced g c =
+    let new = c.mark_page.new.cache in
+    subst (λ i. OnOk c.of_pages.result (SyncsMark i.cache new)) c.self.view_is
+    (subst (λ r. OnOk r (SyncsMark c.self.inside.cache new)) (sym c.of_pages.ensures)
+    (each_value (λ fault. of_cache fault) (λ _. SyncsMark c.self.inside.cache new) c.mark_page.result c.mark_page.ensures.synced))
 
 pub returns-clause-others : goal.returns-clause-others
 returns-clause-others g c =

@@ -16,8 +16,8 @@ returns-in-Ok-clause-adds g c =
 
 pub returns-in-Err-clause-sound : goal.returns-in-Err-clause-sound
 returns-in-Err-clause-sound g c =
-    (not_appended _ _ c.args.self.now.count c.requires.sound (g.met.S.PageStore.lawful c.args.self.now.store) refl c.in-Err.ensures.torn (λ _. refl) refl refl refl).sound
+    (not_appended _ _ c.args.self.now.count c.requires.sound (g.met.S.PageStore.lawful c.args.self.now.store) refl c.in-Err.ensures.torn (λ _. refl) refl refl).0
 
 pub returns-in-Err-clause-stays : goal.returns-in-Err-clause-stays
 returns-in-Err-clause-stays g c =
-    (not_appended _ _ c.args.self.now.count c.requires.sound (g.met.S.PageStore.lawful c.args.self.now.store) refl c.in-Err.ensures.torn (λ _. refl) refl refl refl).stays
+    (not_appended _ _ c.args.self.now.count c.requires.sound (g.met.S.PageStore.lawful c.args.self.now.store) refl c.in-Err.ensures.torn (λ _. refl) refl refl).1

@@ -14,11 +14,11 @@ returns-in-Err-clause-stays g c = (rests _ c.requires.sound).stays
 
 pub returns-in-Err-write-clause-sound : goal.returns-in-Err-write-clause-sound
 returns-in-Err-write-clause-sound g c =
-    (not_appended _ _ c.args.self.now.count c.requires.sound (g.met.S.PageStore.lawful c.args.self.now.store) refl c.in-Err-write.ensures.torn (λ _. refl) refl refl refl).sound
+    (not_appended _ _ c.args.self.now.count c.requires.sound (g.met.S.PageStore.lawful c.args.self.now.store) refl c.in-Err-write.ensures.torn (λ _. refl) refl refl).0
 
 pub returns-in-Err-write-clause-stays : goal.returns-in-Err-write-clause-stays
 returns-in-Err-write-clause-stays g c =
-    (not_appended _ _ c.args.self.now.count c.requires.sound (g.met.S.PageStore.lawful c.args.self.now.store) refl c.in-Err-write.ensures.torn (λ _. refl) refl refl refl).stays
+    (not_appended _ _ c.args.self.now.count c.requires.sound (g.met.S.PageStore.lawful c.args.self.now.store) refl c.in-Err-write.ensures.torn (λ _. refl) refl refl).1
 
 pub returns-in-Ok-put-clause-sound : goal.returns-in-Ok-put-clause-sound
 returns-in-Ok-put-clause-sound g c =
@@ -44,7 +44,7 @@ returns-clause-sound g c =
     let n = c.args.self.now.count in
     (not_appended _ _ n c.requires.sound (g.met.S.PageStore.lawful c.args.self.now.store) refl
     (written_torn _ _ n _ c.requires.sound.within c.in-Ok-write.ensures.written)
-    (λ m. ap (λ (h : LruCache ℕ Held). lookup (nat_eq m) h.entries) e) refl (ap (λ (h : LruCache ℕ Held). h.cap) e) refl).sound
+    (λ m. ap (λ (h : LruCache ℕ Held). lookup (nat_eq m) h.entries) e) refl (ap (λ (h : LruCache ℕ Held). h.cap) e)).0
 
 pub returns-clause-stays : goal.returns-clause-stays
 returns-clause-stays g c =
@@ -52,4 +52,4 @@ returns-clause-stays g c =
     let n = c.args.self.now.count in
     (not_appended _ _ n c.requires.sound (g.met.S.PageStore.lawful c.args.self.now.store) refl
     (written_torn _ _ n _ c.requires.sound.within c.in-Ok-write.ensures.written)
-    (λ m. ap (λ (h : LruCache ℕ Held). lookup (nat_eq m) h.entries) e) refl (ap (λ (h : LruCache ℕ Held). h.cap) e) refl).stays
+    (λ m. ap (λ (h : LruCache ℕ Held). lookup (nat_eq m) h.entries) e) refl (ap (λ (h : LruCache ℕ Held). h.cap) e)).1

@@ -1,23 +1,20 @@
-use Rattle.std.proofs.Common.{refl, ◌∙◌}
-use Rattle.pagecache.specs.Slots.{seen_of}
-use Rattle.pagecache.proofs.CacheLemmas.{rests, reordered_step, steps-trans, none_changed, is_changed-same, all_written}
+use Rattle.std.proofs.Common.{◌∙◌}
+use Rattle.pagecache.specs.Slots.{Steps, seen_of}
+use Rattle.pagecache.proofs.CacheLemmas.{all_written, none_changed, on_ok, rests, steps-trans, store_step}
 use Rattle.pagecache.proofs.slots.Slots.flush.Goals as goal
 
 pub returns-in-Err-clause-steps : goal.returns-in-Err-clause-steps
 returns-in-Err-clause-steps g c = rests _ c.requires
 
-pub returns-in-Ok-sync-clause-steps : goal.returns-in-Ok-sync-clause-steps
-returns-in-Ok-sync-clause-steps g c =
-    let w = c.write_all.ensures.steps in
-    steps-trans _ _ _ w (reordered_step _ _ w.sound c.sync.ensures.stays (λ _. refl) refl refl refl)
-
-pub returns-in-Ok-sync-clause-written : goal.returns-in-Ok-sync-clause-written
-returns-in-Ok-sync-clause-written g c =
-    let written = seen_of g.S.PageStore.seen c.write_all.new.self in
-    let sound = (reordered_step written _ c.write_all.ensures.steps.sound c.sync.ensures.stays (λ _. refl) refl refl refl).sound in
-    all_written _ sound (g.met.S.PageStore.lawful c.sync.new.self) (λ n. is_changed-same written _ n refl ∙ none_changed _ written c.deref.result.now (c.deref.ensures.value ∙ c.in-Ok.ensures) c.write_all.ensures.steps.stays c.in-Ok-write_all.ensures.written n)
-
 pub returns-clause-steps : goal.returns-clause-steps
 returns-clause-steps g c =
     let w = c.write_all.ensures.steps in
-    steps-trans _ _ _ w (reordered_step _ _ w.sound c.sync.ensures.stays (λ _. refl) refl refl refl)
+    steps-trans _ _ _ w (store_step g.S.PageStore.seen c.write_all.new.self c.sync.new.self w.sound c.sync.ensures.rest c.sync.ensures.stays)
+
+pub returns-clause-written : goal.returns-clause-written
+returns-clause-written g c =
+    let seen = g.S.PageStore.seen in
+    let w = c.write_all.ensures.steps in
+    let clean = none_changed _ (seen_of seen c.write_all.new.self) c.deref.result.now (c.deref.ensures.value ∙ c.in-Ok.ensures) w.stays c.in-Ok-write_all.ensures.written in
+    let last : Steps (seen_of seen c.write_all.new.self) (seen_of seen c.sync.new.self) = store_step seen c.write_all.new.self c.sync.new.self w.sound c.sync.ensures.rest c.sync.ensures.stays in
+    on_ok c.sync.result (λ _. all_written _ last.sound (g.met.S.PageStore.lawful c.sync.new.self.store) (λ n. last.stays.changed n (clean n))) c.sync.ensures.synced

@@ -34,7 +34,7 @@ returns g c =
         refl,
         λ w.
             let l = lent_slot g.S.PageStore.seen ready n c.in-Some.held.now w e.sound below (is_some_of (lookup (nat_eq n) ready.held.entries) c.in-Some.held.now here) in
-            (l.0, λ _. record { writes = stays-writes (seen c.args.self.now) (seen ready) (seen (with_page ready n c.in-Some.held.now w)) n w e.stays l.1; length = e.length; asks = e.asks }),
+            (l.0, λ _. record { writes = stays-writes (seen c.args.self.now) (seen ready) (seen (with_page ready n c.in-Some.held.now w)) n w e.stays l.1; unsynced = record { clean = e.unsynced.clean; but_first = e.unsynced.but_first }; length = e.length; asks = e.asks }),
         (e.sound, tt),
       ),
       record {

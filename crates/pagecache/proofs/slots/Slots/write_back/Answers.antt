@@ -8,7 +8,7 @@ pub returns-in_err-write-in-Some-clause-steps : goal.returns-in_err-write-in-Som
 returns-in_err-write-in-Some-clause-steps g c =
     let here = sym c.in-Some.ensures.value in
     torn _ _ c.args.number c.in-Some.held.now c.requires (g.met.S.PageStore.lawful c.args.self.now.store) here c.if-held.true
-    c.in_err-write-in-Some.ensures.torn (λ m. same_held c.args.number m c.args.self.now.held.entries c.in-Some.held.now here) refl refl refl
+    c.in_err-write-in-Some.ensures.torn c.in_err-write-in-Some.ensures.torn_unsynced (λ m. same_held c.args.number m c.args.self.now.held.entries c.in-Some.held.now here) refl refl refl
 
 pub returns-in-None-clause-steps : goal.returns-in-None-clause-steps
 returns-in-None-clause-steps g c = rests _ c.requires
@@ -20,7 +20,7 @@ pub returns-in_ok-write-in-Some-clause-steps : goal.returns-in_ok-write-in-Some-
 returns-in_ok-write-in-Some-clause-steps g c =
     let here = sym c.in-Some.ensures.value in
     written _ _ c.args.number _ c.in-Some.held.now _ c.requires (g.met.S.PageStore.lawful c.args.self.now.store) here c.if-held.true refl refl
-    (c.seal-page.ensures.reads_back ∙ ap Some c.deref.ensures) c.in_ok-write-in-Some.ensures.written
+    (c.seal-page.ensures.reads_back ∙ ap Some c.deref.ensures) c.in_ok-write-in-Some.ensures.written c.in_ok-write-in-Some.ensures.unsynced
     (λ m. lookup-set c.args.number m c.args.self.now.held.entries _ (is_some_of _ _ here)) refl refl refl
 
 pub returns-in_ok-write-in-Some-clause-written : goal.returns-in_ok-write-in-Some-clause-written
