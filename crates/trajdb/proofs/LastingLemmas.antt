@@ -13,7 +13,7 @@ use Rattle.register.specs.Saved.{CatalogueView}
 use Rattle.register.specs.Saving.{IsAllowed}
 use Rattle.register.specs.declared.fault.CatalogueFault.{CatalogueFault}
 use Rattle.register.specs.declared.fault.CatalogueFault.TheVariants as fault
-use Rattle.pages.specs.Store.{Store, IsLawful}
+use Rattle.pages.specs.Store.{Store, IsLawful, IsSynced}
 use Rattle.pages.specs.declared.payload.Payload.{Payload}
 use Rattle.pagecache.specs.Cache.{IsSettled}
 use Rattle.catalogue.specs.Closing.{IsNoStoreFault}
@@ -101,6 +101,11 @@ pub closed_holds : (db : DbView) (s : Store) (answer : Result (Unit {0}) Catalog
     → db.begun ≡ true → OnOk (closed_answer answer) (IsSound db → HasPages db → IsIdle db → HoldsBook s db.index.tree.shape db.limits db.book)
 closed_holds db s (Ok x) legs h begun = λ sound pages idle. h sound.index (pages.begun begun) db.book (own_book db sound) legs
 closed_holds db s (Err e) legs h begun = tt
+
+-- all of it is synced
+pub closed_synced : (B : Type 0) (s : Store) (answer : Result (Unit {0}) CatalogueFault) → OnOk answer (IsSynced s) → OnOk (closed_answer answer) (B → IsSynced s)
+closed_synced B s (Ok x) h = λ b. h
+closed_synced B s (Err e) h = tt
 
 pub closed_refused : (db : DbView) (s : Store) (answer : Result (Unit {0}) CatalogueFault) → content db.index ≡ db.book.legs
     → OnErr answer (IsSoundIndex db.index → IsMarked db.index.cache → (book : Book) → IsOfBook db.limits book (catalogue_of db) → content db.index ≡ book.legs → IsUnfinishedStore s ⊎ HoldsButFirst s db.index.tree.shape db.limits book)

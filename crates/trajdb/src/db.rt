@@ -39,7 +39,7 @@ impl<S: PageStore> Model for Db<S> {
 impl<S: PageStore> Db<S> {
     ghost use Rattle.std.specs.Prelude.{◌≡◌, ◌<◌, ℕ, List, Some, IfOk, IfErr, IsErrOf, IsTrue, OnOk, OnErr, Err, true, false};
     ghost use Rattle.pages.specs.Sealed.{sealed};
-    ghost use Rattle.pages.specs.Store.{Keeps, Store, Writes};
+    ghost use Rattle.pages.specs.Store.{IsSynced, Keeps, Store, Writes};
     ghost use Rattle.boxsearch.specs.Index.{words};
     ghost use Rattle.catalogue.specs.Beginning.{IsLeft};
     ghost use Rattle.catalogue.specs.Header.{header_payload};
@@ -78,6 +78,7 @@ impl<S: PageStore> Db<S> {
         ensures capacity { IfOk result (λ db. db.index.cache.capacity ≡ cache_pages) }
         ensures stored { IfOk result (λ db. Writes 0 (sealed 0 (header_payload shape limits))
             (S.seen store) db.index.cache.store) }
+        ensures synced { IfOk result (λ db. IsSynced db.index.cache.store) }
         ensures lives { IfOk result (λ db. db.failed ≡ false) }
         ensures begun { IfOk result (λ db. db.begun ≡ true) }
         ensures pages { IfOk result (λ db. IsTrue (S.seen store).is_faithful → HasPages db) }

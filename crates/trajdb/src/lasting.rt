@@ -81,7 +81,7 @@ impl<S: PageStore> Db<S> {
     ghost use Rattle.legs.specs.Costs.{ShapeView};
     ghost use Rattle.legs.specs.Limits.{IsLimits, LimitsView};
     ghost use Rattle.boxsearch.specs.Index.{words};
-    ghost use Rattle.pages.specs.Store.{Keeps, Stays, Store};
+    ghost use Rattle.pages.specs.Store.{IsSynced, Keeps, Stays, Store};
     ghost use Rattle.pagecache.specs.Cache.{stored_payload};
     ghost use Rattle.catalogue.specs.Holding.{HoldsBook, HoldsButFirst, IsUnfinishedStore};
     ghost use Rattle.register.specs.Lasting.{first_fault, IsKept};
@@ -172,22 +172,25 @@ impl<S: PageStore> Db<S> {
         }
     }
 
-    /// Closes the database: what its store is to keep is saved, all that is changed is written, and page 0 says last that
-    /// the store is finished. The store is handed back, whatever is answered.
+    /// Closes the database: what its store is to keep is saved, all that is changed is written and synced, and page 0 says
+    /// last that the store is finished, and is synced too. The store is handed back, whatever is answered.
     ///
     /// Nothing is written where the database was opened and no file was accepted since, and where it failed; a failed one
     /// answers `Failed`. Refused for want of memory, and where the store fails or is full. Page 0 then still says that the
-    /// store is not finished, unless the store failed and all other pages are those of the closed store.
+    /// store is not finished, unless the store failed and all other pages are those of the closed store, and synced.
     pub fn close(self, alloc: Global) -> (S, Result<(), RunFault>)
         // The store then holds the book.
         ensures holds { OnOk result.1 (IsSound self → HasPages self → IsIdle self
             → HoldsBook (S.seen result.0) self.index.tree.shape self.limits self.book) }
+
+        // All of it is synced where a file was accepted; else the store stays as it is (`idle`).
+        ensures synced { OnOk result.1 (self.begun ≡ true → IsSynced (S.seen result.0)) }
         ensures only { IfErr result.1 (λ fault. IsSound self → self.failed ≡ false
             → IsLoadFault fault) }
         ensures unfinished { IfErr result.1 (λ fault. IsFaultless fault → IsSound self → HasPages self
             → self.failed ≡ false → IsUnfinishedStore (S.seen result.0)) }
 
-        // Before page 0 may say that the store is finished, all else is written.
+        // Before page 0 may say that the store is finished, all else is written and synced.
         ensures refused { OnErr result.1 (IsSound self → HasPages self → self.failed ≡ false
             → IsUnfinishedStore (S.seen result.0)
             ⊎ HoldsButFirst (S.seen result.0) self.index.tree.shape self.limits self.book) }

@@ -6,6 +6,7 @@ use Rattle.pages.specs.Store.{Store as StoreView, IsLawful, Stays}
 use Rattle.pages.specs.Unsealed.{unsealed}
 use Rattle.pages.specs.declared.payload.PageFault.{PageFault}
 use Rattle.pages.specs.declared.payload.Payload.{Payload}
+use Rattle.pagecache.proofs.CallerLemmas.{store_unsyncs-trans}
 use Rattle.pagecache.specs.Cache.{stored_payload}
 use Rattle.register.specs.ChainReader.{ReaderView, rest_of, IsBroken, IsPageFault, TakesPart}
 use Rattle.version1.specs.OldReading.{IsLentFault, IsUnread}
@@ -85,6 +86,7 @@ stays_trans a b c p q = record {
   };
   count = q.count ∙ p.count;
   pages = λ fa. q.pages (p.keeps.faithful ∙ fa) ∙ p.pages fa;
+  unsynced = store_unsyncs-trans a b c p.unsynced q.unsynced;
 }
 
 -- and has the payloads that it had

@@ -6,6 +6,7 @@ use Rattle.pages.specs.Store.{Store, IsLawful, Stays}
 use Rattle.pages.specs.declared.payload.PageFault.{PageFault}
 use Rattle.pages.specs.Unsealed.{unsealed}
 use Rattle.pages.specs.declared.payload.Payload.{Payload}
+use Rattle.pagecache.proofs.UnsyncedLemmas.{unsyncs_none}
 use Rattle.pagecache.specs.Cache.{fresh, is_changed, page_of, payload_of, pages_as_written, sealed_payload, stored_payload}
 use Rattle.version1.specs.OldForm.{old_node_of}
 use Rattle.version1.specs.OldLegs.{pages_of_old}
@@ -42,6 +43,7 @@ reads_stays a b s = record {
     clean = λ f h i. take (s.count i) (s.pages f i);
     from = λ f k h i. drop k (take (s.count i) (s.pages f i));
   };
+  unsynced = unsyncs_none (fresh a 1) (fresh b 1) s.unsynced;
 }
 
 pub ok_some : (o : Option Payload) (f : PageFault) (x : Payload) → ok_or o f ≡ Ok x → o ≡ Some x
@@ -70,4 +72,5 @@ stays_read a b k l r = record {
   keeps = r.store;
   count = r.count;
   pages = λ fa. sym (all_taken b.pages b.count (l.counted (r.store.faithful ∙ fa))) ∙ r.unwritten.clean fa (λ n. refl) ∙ all_taken a.pages a.count (k.counted fa);
+  unsynced = r.unsynced.clean (λ n. refl);
 }

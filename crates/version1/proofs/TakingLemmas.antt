@@ -1,5 +1,5 @@
 -- What the legs of a store of version 1 are, by what its chains say.
-use Rattle.std.proofs.Common.{◌≡◌, ◌≤◌, ◌+◌, ◌∙◌, ◌++◌, ◌∷◌, ℕ, zero, suc, List, [], map, take, drop, length, slice_get, Option, Some, None, Result, Ok, Err, IsErrOf, IfErr, OnOk, Bool, true, false, cond, nat_eq, refl, sym, ap, subst, arith, append_assoc}
+use Rattle.std.proofs.Common.{◌≡◌, ◌≤◌, ◌+◌, ◌∙◌, ◌++◌, ◌∷◌, ℕ, zero, suc, List, [], map, take, drop, length, slice_get, Option, Some, None, Result, Ok, Err, IsErrOf, IfErr, OnOk, Bool, true, false, cond, nat_eq, refl, sym, ap, subst, arith, append_assoc, inl}
 use Rattle.std.specs.List.{All, range_with_len}
 use Rattle.std.specs.List.Sorted.{IsPermutation, IsNonDecreasingBy}
 use Rattle.std.proofs.lemmas.List.Sorted.{IsPermutation-map, IsPermutation-sym, All-permutation}
@@ -13,6 +13,7 @@ use Rattle.legs.specs.Blocks.{joined}
 use Rattle.legs.specs.Boxes.{BoxView}
 use Rattle.legs.specs.Index.{CanFollowInTurn}
 use Rattle.legs.specs.declared.listed.Listed.{Ghosts}
+use Rattle.pagecache.proofs.CallerLemmas.{store_unsyncs-trans}
 use Rattle.pages.specs.Store.{Store, Stays, Faulted, HasRisen}
 use Rattle.legs.specs.Legs.{LegView}
 use Rattle.legs.specs.declared.tracks.Track.{Track}
@@ -170,13 +171,14 @@ pub later_trans : {I : Type 0} (g : Ghosts I) (a b c : I) → IsLater g a b → 
 later_trans g a b c p q = record { plan = q.plan ∙ p.plan; faults = (let x = p.faults in let y = q.faults in omega (arith, x, y)); asked = (let x = p.asked in let y = q.asked in omega (arith, x, y)) }
 
 pub stays_refl : (a : Store) → Stays a a
-stays_refl a = record { keeps = record { most = refl; faithful = refl; faults = omega arith }; count = refl; pages = λ f. refl }
+stays_refl a = record { keeps = record { most = refl; faithful = refl; faults = omega arith }; count = refl; pages = λ f. refl; unsynced = inl refl }
 
 pub stays_trans : (a b c : Store) → Stays a b → Stays b c → Stays a c
 stays_trans a b c p q = record {
   keeps = record { most = q.keeps.most ∙ p.keeps.most; faithful = q.keeps.faithful ∙ p.keeps.faithful; faults = (let x = p.keeps.faults in let y = q.keeps.faults in omega (arith, x, y)) };
   count = q.count ∙ p.count;
   pages = λ f. q.pages (p.keeps.faithful ∙ f) ∙ p.pages f;
+  unsynced = store_unsyncs-trans a b c p.unsynced q.unsynced;
 }
 
 pub leaf_legs : (node : Option (Node LegView BoxView)) (leaf : LeafView LegView) → as_leaf node ≡ Some leaf → legs_in (Some node) ≡ leaf.legs

@@ -1,7 +1,8 @@
 use Rattle.std.proofs.Common.{◌≡◌, ◌∙◌, ap, sym, subst, true, false}
 use Rattle.std.specs.Prelude.{◌⊎◌, IfErr, OnErr, OnOk}
 use Rattle.legs.specs.Book.{Book}
-use Rattle.pages.specs.Store.{Store, IsLawful}
+use Rattle.std.proofs.lemmas.Bool.{false≢true}
+use Rattle.pages.specs.Store.{Store, IsLawful, IsSynced}
 use Rattle.pagecache.specs.Cache.{IsSettled}
 use Rattle.boxsearch.specs.Index.{content, IndexView, IsMarked, IsSound as IsSoundIndex}
 use Rattle.catalogue.specs.Closing.{IsNoStoreFault}
@@ -12,7 +13,7 @@ use Rattle.trajdb.specs.Calls.{IsLoadFault}
 use Rattle.trajdb.specs.Db.{DbView, HasPages, IsSound}
 use Rattle.trajdb.specs.Faults.{closed_answer}
 use Rattle.trajdb.specs.Lasting.{IsFaultless, IsIdle, IsSafe}
-use Rattle.trajdb.proofs.LastingLemmas.{rest_book, closed_holds, closed_only, closed_refused, closed_unfinished}
+use Rattle.trajdb.proofs.LastingLemmas.{rest_book, closed_holds, closed_only, closed_refused, closed_synced, closed_unfinished}
 use Rattle.trajdb.proofs.SafeLemmas.{left_safe}
 use Rattle.trajdb.proofs.db.Db.close.Goals as goal
 
@@ -81,3 +82,14 @@ returns-then-failed-clause-safe g c = λ failed was safe.
     let lawful = subst (λ (x : IndexView). IsLawful x.cache.store) index c.rest.ensures.lawful in
     let store = c.rest.ensures.store ∙ ap (λ (x : IndexView). x.cache.store) index in
     left_safe was c.self.inside.core (g.S.PageStore.seen c.rest.result) store lawful (subst (IsSafe was) (sym c.self.view_is) safe)
+
+pub returns-then-not-begun-clause-synced : goal.returns-then-not-begun-clause-synced
+returns-then-not-begun-clause-synced g c = λ begun.
+    let rests : c.self.inside.core.begun ≡ false = sym (λ i. (c.self-inside.view_is i).core.begun) ∙ c.if-not-begun.true in
+    absurd (false≢true (sym rests ∙ ap (λ (d : DbView). d.begun) c.self.view_is ∙ begun))
+
+pub returns-clause-synced : goal.returns-clause-synced
+returns-clause-synced g c =
+    let s = g.S.PageStore.seen c.close-store.result.0 in
+    subst (λ r. OnOk r (c.args.self.begun ≡ true → IsSynced s)) (sym c.closed.ensures)
+    (closed_synced (c.args.self.begun ≡ true) s c.close-store.result.1 c.close-store.ensures.synced)
