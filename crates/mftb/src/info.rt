@@ -1,15 +1,17 @@
 //! `mftb info`: what a store holds.
 use crate::asked::{database_to_ask, store_to_ask};
 use crate::info_text::{push_json, push_lines};
-use crate::root::{read_extent, read_header};
+use crate::root::{Header, read_extent, read_header};
 use crate::words::Info;
 use legs::{BookHead, Box3, Limits};
 use pages::PageStore;
 use sessions::{CACHE_PAGES, Fault, send_all};
+use std::alloc::Global;
 use std::fs::File;
 use std::io::Write;
 use std::random::RandomSource;
 use std::rt::Files;
+use trajdb::{Db, RunFault};
 
 /// What is said of a store that is finished.
 #[derive(Drop)]
@@ -27,24 +29,20 @@ pub(crate) struct Said<'a> {
     pub(crate) extent: Option<Box3>,
 }
 
-/// Opens the store to be read alone, and prints what it holds. Of the tree the root alone is read.
-pub(crate) fn print_info<'a, R: Files<File = File> + AllocGlobal + RandomSource, W: Write>(
-    rt: &R,
-    task: &Info<'a>,
-    out: &mut W,
-) -> Result<(), Fault<'a>> {
-    let alloc = rt.alloc();
-    let mut store = store_to_ask(rt, task.store)?;
-    let pages = store.len();
-    let header = read_header(&mut store);
-    let extent = match &header {
-        Ok(header) => read_extent(&mut store, header),
-        Err(fault) => Err(*fault),
-    };
-    // Why the database is not opened comes first.
-    let database = database_to_ask(rt, store, CACHE_PAGES)?;
-    let (header, extent) = (header?, extent?);
-    let said = Said {
+/// What page 0 of a store says, and the box over all its legs. Of the tree the root alone is read.
+fn look<'a, S: PageStore>(store: &mut S) -> Result<(Header, Option<Box3>), Fault<'a>> {
+    let header = read_header(store)?;
+    let extent = read_extent(store, &header)?;
+    Ok((header, extent))
+}
+
+/// What is said of a database, and of what was seen of the pages of its store.
+fn said_of<S: PageStore>(
+    database: &Db<S>,
+    pages: u32,
+    (header, extent): (Header, Option<Box3>),
+) -> Said<'_> {
+    Said {
         version: header.version,
         pages,
         head: database.head(),
@@ -52,12 +50,31 @@ pub(crate) fn print_info<'a, R: Files<File = File> + AllocGlobal + RandomSource,
         features: database.feature_count(),
         limits: database.limits(),
         extent,
-    };
-    let mut text = Vec::new(alloc);
-    if task.is_json {
-        push_json(&mut text, &said)?;
-    } else {
-        push_lines(&mut text, &said)?;
     }
+}
+
+/// The text of what is said.
+fn text_of(alloc: Global, said: &Said<'_>, is_json: bool) -> Result<Vec<u8>, RunFault> {
+    let mut text = Vec::new(alloc);
+    if is_json {
+        push_json(&mut text, said)?;
+    } else {
+        push_lines(&mut text, said)?;
+    }
+    Ok(text)
+}
+
+/// Opens the store to be read alone, and prints what it holds.
+pub(crate) fn print_info<'a, R: Files<File = File> + AllocGlobal + RandomSource, W: Write>(
+    rt: &R,
+    task: &Info<'a>,
+    out: &mut W,
+) -> Result<(), Fault<'a>> {
+    let mut store = store_to_ask(rt, task.store)?;
+    let pages = store.len();
+    let seen = look(&mut store);
+    // Why the database is not opened comes first.
+    let database = database_to_ask(rt, store, CACHE_PAGES)?;
+    let text = text_of(rt.alloc(), &said_of(&database, pages, seen?), task.is_json)?;
     send_all(out, &text)
 }
