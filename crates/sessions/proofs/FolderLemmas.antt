@@ -6,6 +6,7 @@ use Rattle.legs.specs.Book.{Book, empty_book}
 use Rattle.legs.specs.Costs.{ShapeView}
 use Rattle.legs.specs.Limits.{limits_of, LimitsView}
 use Rattle.pages.specs.Store.{Store}
+use Rattle.pages.specs.declared.unsynced.Unsynced.TheVariants.{Others}
 use Rattle.pagecache.specs.Cache.{page_of, pages_as_written, payload_of, sealed_payload, stored_payload}
 use Rattle.catalogue.specs.Holding.{HoldsBook}
 use Rattle.trajdb.specs.Db.{DbView, HasPages, IsSound}
@@ -19,8 +20,8 @@ pub tells : (past : History) → IsTrue (store_in past).is_faithful
 tells [] = refl
 tells (now ∷ past) = refl
 
--- how often a store failed is no part of the book that it holds
-pub faults_apart : (s : Store) (shape : ShapeView) (limits : LimitsView) (book : Book) → HoldsBook s shape limits book → HoldsBook (record s { faults = 0 }) shape limits book
+-- how often a store failed, and what of it is synced, is no part of the book that it holds
+pub faults_apart : (s : Store) (shape : ShapeView) (limits : LimitsView) (book : Book) → HoldsBook s shape limits book → HoldsBook (record s { faults = 0; unsynced = Others }) shape limits book
 unfolding stored_payload payload_of sealed_payload page_of pages_as_written
 faults_apart s shape limits book h = record {
   catalogue = h.catalogue;

@@ -4,6 +4,7 @@ use Rattle.legs.specs.Book.{Book, empty_book}
 use Rattle.legs.specs.Costs.{ShapeView}
 use Rattle.legs.specs.Limits.{limits_of, LimitsView}
 use Rattle.pages.specs.Store.{Store}
+use Rattle.pages.specs.declared.unsynced.Unsynced.TheVariants.{Others}
 use Rattle.catalogue.specs.Holding.{HoldsBook}
 use Rattle.sessions.specs.Answers.{Answers, new_shape}
 
@@ -11,9 +12,16 @@ use Rattle.sessions.specs.Answers.{Answers, new_shape}
 abbrev pub History : Type 0
 History = List (Option (List (List ℕ)))
 
--- the store of a file of these pages
+-- the store of a file of these pages, which may all be unsynced
 abbrev pub file_store : List (List ℕ) → Store
-file_store pages = record { count = length pages; most = 2 ^ 32 - 1; faults = 0; is_faithful = true; pages = pages }
+file_store pages = record {
+  count = length pages;
+  most = 2 ^ 32 - 1;
+  faults = 0;
+  unsynced = Others;
+  is_faithful = true;
+  pages = pages;
+}
 
 -- the pages of a file, or none where there is no file
 abbrev pub pages_in : Option (List (List ℕ)) → List (List ℕ)
@@ -32,9 +40,9 @@ BeginsWith is_new store shape limits book =
     ⊎ (IsTrue is_new × (store.count ≡ 0) × (shape ≡ new_shape)
     × (limits ≡ limits_of 16777216 1048576) × (book ≡ empty_book))
 
--- a store has the same pages as another one
+-- a store has the same pages as another one, synced or not
 abbrev pub HasPagesOf : Store → Store → Type 0
-HasPagesOf store other = record store { faults = 0 } ≡ other
+HasPagesOf store other = record store { faults = 0; unsynced = Others } ≡ other
 
 -- a store has the pages of what the name stands for, where a folder tells it
 abbrev pub HasPagesHeld : Store → Option History → Type 0

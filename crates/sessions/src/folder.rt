@@ -1,6 +1,6 @@
 //! The contract of the folder that a store's file is in.
 ghost use Rattle.std.specs.Prelude.{◌≡◌, Bool, Option, IfOk, IfSome, IsTrue, OnErr, OnOk, false};
-ghost use Rattle.pages.specs.Store.{Stays};
+ghost use Rattle.pages.specs.Store.{IsSynced, Stays};
 ghost use Rattle.sessions.specs.Folder.{HasPagesHeld, History, IsReplaced, store_in};
 
 use crate::fault::Fault;
@@ -14,6 +14,7 @@ pub trait Lasting: PageStore {
     /// Makes what was written last, as on a disk. Where that fails, it may last or not.
     fn make_last(&mut self) -> Result<(), StoreFault>
         ensures made { OnOk result (IsTrue (is_lasting self.new)) }
+        ensures synced { OnOk result (IsSynced (Self.seen self.new)) }
         ensures stays { Stays (Self.seen self.old) (Self.seen self.new) };
 }
 

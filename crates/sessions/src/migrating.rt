@@ -3,7 +3,7 @@ ghost use Rattle.std.specs.Prelude.{◌≡◌, None, Err, IfErr, IsTrue, OnOk};
 ghost use Rattle.legs.specs.Costs.{ShapeView};
 ghost use Rattle.legs.specs.Limits.{LimitsView};
 ghost use Rattle.legs.specs.Book.{Book};
-ghost use Rattle.pages.specs.Store.{Stays};
+ghost use Rattle.pages.specs.Store.{IsSynced, Stays};
 ghost use Rattle.catalogue.specs.Beginning.{IsLeftOver};
 ghost use Rattle.catalogue.specs.Holding.{HoldsBook};
 ghost use Rattle.pagecache.specs.Cache.{stored_payload};
@@ -38,6 +38,7 @@ pub fn migrate_and_close<'a, S: PageStore, T: PageStore>(
         → (shape : ShapeView) (limits : LimitsView) (book : Book)
         → HoldsOldBook (S.seen old.old) shape limits book
         → HoldsBook (T.seen result.0) (present_shape shape) limits book) }
+    ensures synced { OnOk result.1 (IsSynced (T.seen result.0)) }
 
     // It was a finished one of version 1, whose catalogue and chains of leaves are whole; one that
     // holds a book is refused for memory, a store that failed, or a full one alone, and then the

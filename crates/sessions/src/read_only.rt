@@ -1,13 +1,15 @@
 //! A store that cannot be written.
 ghost use Rattle.std.specs.Prelude.{◌≡◌, ◌≤◌, IsErr, OnErr, OnOk};
-ghost use Rattle.pages.specs.Store.{HasRisen, Faulted, Stays, Tears, Writes};
+ghost use Rattle.pages.specs.Store.{HasRisen, Faulted, MayUnsync, Stays, Tears, Unsyncs, Writes};
+ghost use Rattle.pages.specs.declared.unsynced.Unsynced.TheVariants.{Nothing};
 
 use pages::{PageStore, StoreFault};
 
 /// A store over another one whose pages are read and never written: each `write` is refused, and
 /// none reaches the store below.
 ///
-/// Each failure counts as a fault. It is faithful where the store below is.
+/// Each failure counts as a fault. It is faithful where the store below is. It leaves no page
+/// unsynced, since it writes none, and syncs none of the store below.
 #[derive(Drop)]
 pub struct ReadOnly<S> {
     store: S,
@@ -17,7 +19,8 @@ pub struct ReadOnly<S> {
 impl<S: PageStore> ReadOnly<S> {
     /// The store over that one, of which no call has failed.
     pub fn new(store: S) -> ReadOnly<S>
-        ensures { ⟦<ReadOnly<S> as PageStore>⟧.seen result ≡ record (S.seen store) { faults = 0 } }
+        ensures { ⟦<ReadOnly<S> as PageStore>⟧.seen result
+            ≡ record (S.seen store) { faults = 0; unsynced = Nothing } }
     {
         ReadOnly { store, faults: 0 }
     }
@@ -36,7 +39,7 @@ impl<S: PageStore> ReadOnly<S> {
 impl<S: PageStore> PageStore for ReadOnly<S> {
     ghost use Rattle.pages.specs.Store.{Store, IsLawful};
 
-    ghost seen = { λ s. record (S.seen s.store) { faults = s.faults } };
+    ghost seen = { λ s. record (S.seen s.store) { faults = s.faults; unsynced = Nothing } };
 
     ghost lawful = { λ s. let l = S.lawful s.store in
         record { within = l.within; small = l.small; counted = l.counted } };
@@ -61,7 +64,13 @@ impl<S: PageStore> PageStore for ReadOnly<S> {
         ensures refused { IsErr result }
         ensures stays { Stays (⟦<ReadOnly<S> as PageStore>⟧.seen self.old) (⟦<ReadOnly<S> as PageStore>⟧.seen self.new) }
         ensures written { OnOk result (Writes _number _page.now (⟦<ReadOnly<S> as PageStore>⟧.seen self.old) (⟦<ReadOnly<S> as PageStore>⟧.seen self.new)) }
+        ensures unsynced { OnOk result (Unsyncs _number
+            (⟦<ReadOnly<S> as PageStore>⟧.seen self.old)
+            (⟦<ReadOnly<S> as PageStore>⟧.seen self.new)) }
         ensures torn { OnErr result (Tears _number (⟦<ReadOnly<S> as PageStore>⟧.seen self.old) (⟦<ReadOnly<S> as PageStore>⟧.seen self.new)) }
+        ensures torn_unsynced { OnErr result (MayUnsync _number
+            (⟦<ReadOnly<S> as PageStore>⟧.seen self.old)
+            (⟦<ReadOnly<S> as PageStore>⟧.seen self.new)) }
         ensures cause { OnErr result (Faulted (⟦<ReadOnly<S> as PageStore>⟧.seen self.old) (⟦<ReadOnly<S> as PageStore>⟧.seen self.new)) }
     {
         Err(self.failed())

@@ -1,4 +1,5 @@
-use Rattle.std.proofs.Common.{◌≡◌, false}
+use Rattle.std.proofs.Common.{◌≡◌, false, subst, true, OnOk}
+use Rattle.pages.specs.Store.{IsSynced}
 use Rattle.catalogue.specs.Holding.{IsUnfinishedStore}
 use Rattle.version1.specs.OldStore.{present_shape}
 use Rattle.trajdb.specs.Calls.{IsLoadFault}
@@ -13,6 +14,11 @@ returns-in-Ok-closed-clause-holds g c = λ fa fb shape limits book h.
     let e = c.in-Ok.ensures in
     closed_book c.in-Ok.database (g.T.PageStore.seen c.close-store.result.0) c.close-store.result.1 c.close-store.ensures.holds c.in-Ok-closed.is
     (present_shape shape) limits book (e.book fa fb shape limits book h) (e.pages fa fb) e.begun
+
+pub returns-in-Ok-closed-clause-synced : goal.returns-in-Ok-closed-clause-synced
+returns-in-Ok-closed-clause-synced g c =
+    let closed = g.T.PageStore.seen c.close-store.result.0 in
+    subst (λ r. OnOk r (c.in-Ok.database.begun ≡ true → IsSynced closed)) c.in-Ok-closed.is c.close-store.ensures.synced c.in-Ok.ensures.begun
 
 pub returns-in-Err-closed-clause-left : goal.returns-in-Err-closed-clause-left
 returns-in-Err-closed-clause-left g c = λ fa fb shape limits book h.
