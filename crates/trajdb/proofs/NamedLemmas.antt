@@ -1,13 +1,27 @@
 -- Which page a check of a database names.
-use Rattle.std.proofs.Common.{ℕ, Bool, true, false, ◌≡◌, ◌<◌, ◌∙◌, Result, Err, inl, inr, refl, sym, arith, subst, ⊎_elim, IsTrue}
-use Rattle.std.specs.Prelude.{◌⊎◌}
+use Rattle.std.proofs.Common.{ℕ, Bool, true, false, ◌≡◌, ◌<◌, ◌∙◌, List, length, Result, Err, inl, inr, refl, sym, arith, subst, IsTrue}
 use Rattle.legs.specs.Index.{MayRefuse}
 use Rattle.legs.specs.declared.index.IndexFault.{IndexFault}
 use Rattle.legs.specs.declared.index.IndexFault.TheVariants as index
 use Rattle.pagecache.specs.Cache.{Cache, payload_of}
 use Rattle.chains.specs.Reads.{OnlyReads}
 use Rattle.boxsearch.specs.Index.{IndexView, IsSound, SaysState}
-use Rattle.treecheck.specs.Naming.{IsFirstDamaged, IsFirstMalformed}
+use Rattle.boxsearch.specs.Index.{words}
+use Rattle.boxsearch.specs.Beside.{with_cache}
+use Rattle.legs.specs.Book.{Book}
+use Rattle.legs.specs.Boxes.{BoxView}
+use Rattle.legs.specs.Legs.{LegView}
+use Rattle.legs.specs.Tracks.{TracksView}
+use Rattle.tbtree.specs.Nodes.{Pages, pages_of_cache}
+use Rattle.tbtree.specs.declared.tree.Place.{Place}
+use Rattle.tbtree.specs.declared.tree.TbTree.{TbTree}
+use Rattle.treecheck.specs.Check.{AreChains, HoldChains, IsChecked}
+use Rattle.treecheck.specs.Naming.{HasHeader, IsFirstDamaged, IsFirstMalformed}
+use Rattle.treecheck.specs.Stopping.{AllStopAt}
+use Rattle.treecheck.proofs.WalkedLemmas.{same_pages}
+use Rattle.trajdb.specs.Calls.{Leaves}
+use Rattle.trajdb.specs.Checking.{IsFirstFault}
+use Rattle.trajdb.specs.Db.{DbView}
 use Rattle.treecheck.proofs.NamingLemmas.{has_payload}
 use Rattle.trajdb.specs.Faults.{run_fault_of}
 use Rattle.trajdb.specs.declared.RunFault.TheVariants.{Damaged}
@@ -39,7 +53,7 @@ none_flushed spent fault works was_spent n e =
     ] refl
 
 -- what is said of pages that were only read since is said of them before
-module _ (begun later : Bool) (same : later ≡ begun) (old new : Cache) (reads : OnlyReads old new) (fa : IsTrue old.store.is_faithful) (n : ℕ) where
+module _ (old new : Cache) (reads : OnlyReads old new) (fa : IsTrue old.store.is_faithful) (n : ℕ) where
   damaged_before : IsFirstDamaged new n → IsFirstDamaged old n
   damaged_before d = record {
     within = (let l = d.within in let e = reads.count in omega (arith, l, e));
@@ -47,22 +61,56 @@ module _ (begun later : Bool) (same : later ≡ begun) (old new : Cache) (reads 
     below = λ p l e. d.below p l (reads.payloads fa p ∙ e);
   }
 
-  malformed_before : IsFirstMalformed later new n → IsFirstMalformed begun old n
-  malformed_before m = record {
-    held = λ p l e. m.held p (let c = reads.count in omega (arith, l, c)) (reads.payloads fa p ∙ e);
-    counted = λ no. m.counted (λ s. no (sym reads.count ∙ s ∙ reads.length)) ∙ reads.count;
-    state = λ s no. m.state (reads.count ∙ s ∙ sym reads.length) (λ says. no (subst (λ b. SaysState b (payload_of old 0)) same (subst (SaysState later) (reads.payloads fa 0) says)));
-  }
+  module _ (begun : Bool) (tree : TbTree) (rows total : ℕ) (places : List Place) (tracks : TracksView) where
+    headed : HasHeader begun old → HasHeader begun new
+    headed h = record {
+      some = subst (λ m. 0 < m) (sym reads.count) h.some;
+      same = reads.count ∙ h.same ∙ sym reads.length;
+      says = subst (SaysState begun) (sym (reads.payloads fa 0)) h.says;
+    }
 
-  pub named_before : IsFirstDamaged new n ⊎ IsFirstMalformed later new n → IsFirstDamaged old n ⊎ IsFirstMalformed begun old n
-  named_before (inl d) = inl (damaged_before d)
-  named_before (inr m) = inr (malformed_before m)
+    malformed_before : IsFirstMalformed begun tree rows total places tracks new n → IsFirstMalformed begun tree rows total places tracks old n
+    malformed_before m =
+        let pages = same_pages old new reads fa in
+        let chains = λ (nodes : Pages LegView BoxView) (k : List (List ℕ)). AreChains nodes tree.shape.leaf rows 0 places tracks.tracks k in
+        record {
+          held = λ p l e. m.held p (let c = reads.count in omega (arith, l, c)) (reads.payloads fa p ∙ e);
+          counted = λ no. m.counted (λ s. no (sym reads.count ∙ s ∙ reads.length)) ∙ reads.count;
+          state = λ s no. m.state (reads.count ∙ s ∙ sym reads.length) (λ says. no (subst (SaysState begun) (reads.payloads fa 0) says));
+          walk = λ h apart. subst (λ nodes. AllStopAt nodes tree.shape.leaf rows places tracks.tracks n) pages (m.walk (headed h) (λ k. apart (k.0, subst (λ nodes. chains nodes k.0) pages k.1)));
+          list = λ h k apart. m.list (headed h) (k.0, subst (λ nodes. chains nodes k.0) (sym pages) k.1) (λ l. apart (l.0, subst (λ nodes. HoldChains nodes tree.shape.leaf rows total places tracks.tracks l.0) pages l.1, l.2));
+        }
 
--- of a sound index whose page 0 says the state any page may be named
-pub sound_malformed : (begun later : Bool) → later ≡ begun → (old : Cache) (i : IndexView) → OnlyReads old i.cache → IsTrue old.store.is_faithful → IsSound i → SaysState later (payload_of i.cache 0) → (n : ℕ) → IsFirstMalformed begun old n
-sound_malformed begun later same old i reads fa s says n =
-    malformed_before begun later same old i.cache reads fa n (record {
-      held = λ p l. has_payload i.cache p (s.stands.tree_stands.held p l);
-      counted = λ no. absurd (no s.count);
-      state = λ _ no. absurd (no says);
-    })
+-- of pages that pass, page 0 may be named
+passed_malformed : (begun : Bool) (tree : TbTree) (rows total : ℕ) (places : List Place) (tracks : TracksView) (c : Cache) → IsChecked (pages_of_cache c) tree rows total places tracks.tracks → c.count ≡ c.store.count → SaysState begun (payload_of c 0)
+    → IsFirstMalformed begun tree rows total places tracks c 0
+passed_malformed begun tree rows total places tracks c k same says = record {
+  held = λ p l. has_payload c p (k.held p l);
+  counted = λ no. absurd (no same);
+  state = λ _ no. absurd (no says);
+  walk = λ _ apart. absurd (apart (k.chains, k.are_chains));
+  list = λ _ _ _. refl;
+}
+
+-- and of a database whose index was only read since
+module _ (old mid : DbView) (leaves : Leaves words old mid) (same : mid.index ≡ with_cache old.index mid.index.cache mid.index.known) (reads : OnlyReads old.index.cache mid.index.cache) (fa : IsTrue old.index.cache.store.is_faithful) (n : ℕ) where
+  malformed_of : IsFirstMalformed mid.begun mid.index.tree (length mid.book.rows) mid.index.legs mid.index.places mid.tracks mid.index.cache n
+      → IsFirstMalformed old.begun old.index.tree (length old.book.rows) old.index.legs old.index.places old.tracks old.index.cache n
+  malformed_of m =
+      let cache = mid.index.cache in
+      malformed_before old.index.cache cache reads fa n old.begun old.index.tree (length old.book.rows) old.index.legs old.index.places old.tracks
+      (subst (λ b. IsFirstMalformed b old.index.tree (length old.book.rows) old.index.legs old.index.places old.tracks cache n) leaves.begun
+      (subst (λ (k : Book). IsFirstMalformed mid.begun old.index.tree (length k.rows) old.index.legs old.index.places old.tracks cache n) leaves.book
+      (subst (λ t. IsFirstMalformed mid.begun old.index.tree (length mid.book.rows) old.index.legs old.index.places t cache n) leaves.tracks
+      (subst (λ (i : IndexView). IsFirstMalformed mid.begun i.tree (length mid.book.rows) i.legs i.places mid.tracks cache n) same m))))
+
+  pub named_before : IsFirstFault mid n → IsFirstFault old n
+  named_before (inl d) = inl (damaged_before old.index.cache mid.index.cache reads fa n d)
+  named_before (inr m) = inr (malformed_of m)
+
+-- once its index has passed, page 0 may be named
+pub passed_named : (mid new : DbView) → OnlyReads mid.index.cache new.index.cache → new.begun ≡ mid.begun → IsTrue mid.index.cache.store.is_faithful
+    → IsChecked (pages_of_cache mid.index.cache) mid.index.tree (length mid.book.rows) mid.index.legs mid.index.places mid.tracks.tracks → IsSound new.index → SaysState new.begun (payload_of new.index.cache 0) → IsFirstFault mid 0
+passed_named mid new reads begun fa k s says =
+    inr (passed_malformed mid.begun mid.index.tree (length mid.book.rows) mid.index.legs mid.index.places mid.tracks mid.index.cache k (sym reads.count ∙ s.count ∙ reads.length)
+    (subst (λ b. SaysState b (payload_of mid.index.cache 0)) begun (subst (SaysState new.begun) (reads.payloads fa 0) says)))

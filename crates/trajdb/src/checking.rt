@@ -75,7 +75,7 @@ impl<I: Start> Core<I> {
 }
 
 impl<S: PageStore> Core<TreeIndex<S>> {
-    ghost use Rattle.std.specs.Prelude.{ℕ, ◌≡◌, ◌⊎◌, IfErr, IfOk, IsErrOf, IsTrue, OnOk, false, true};
+    ghost use Rattle.std.specs.Prelude.{ℕ, ◌≡◌, IfErr, IfOk, IsErrOf, IsTrue, OnOk, false, true, length};
     ghost use Rattle.legs.specs.Asking.{Refusals};
     ghost use Rattle.legs.specs.Index.{HasRisen, MayRefuse};
     ghost use Rattle.legs.specs.Limits.{IsLimits};
@@ -83,10 +83,12 @@ impl<S: PageStore> Core<TreeIndex<S>> {
     ghost use Rattle.pagecache.specs.Cache.{payload_of, IsClean};
     ghost use Rattle.chains.specs.Reads.{OnlyReads};
     ghost use Rattle.treecheck.specs.Checking.{AreTracksOf};
-    ghost use Rattle.treecheck.specs.Naming.{IsFirstDamaged, IsFirstMalformed};
+    ghost use Rattle.treecheck.specs.Check.{IsChecked};
+    ghost use Rattle.tbtree.specs.Nodes.{pages_of_cache};
+    ghost use Rattle.boxsearch.specs.Beside.{with_cache};
     ghost use Rattle.boxsearch.specs.Index.{content, words, IsSound, SaysState};
     ghost use Rattle.trajdb.specs.Calls.{IsAsked, IsQuestionFault, Leaves};
-    ghost use Rattle.trajdb.specs.Checking.{Reports};
+    ghost use Rattle.trajdb.specs.Checking.{IsFirstFault, Reports};
     ghost use Rattle.trajdb.specs.Db as db;
     ghost use Rattle.trajdb.specs.Lasting.{IsIdle};
     ghost use Rattle.trajdb.specs.declared.RunFault.{RunFault};
@@ -100,6 +102,8 @@ impl<S: PageStore> Core<TreeIndex<S>> {
         ensures faithful { self.new.index.cache.store.is_faithful
             ≡ self.old.index.cache.store.is_faithful }
         ensures reads { OnlyReads self.old.index.cache self.new.index.cache }
+        ensures same { self.new.index
+            ≡ with_cache self.old.index self.new.index.cache self.new.index.known }
         ensures legs { content self.new.index ≡ self.new.book.legs }
         ensures refusals { Refusals words self.old.index self.new.index result }
         ensures works { IfErr result (λ fault. words.is_spent self.old.index ≡ false
@@ -121,9 +125,11 @@ impl<S: PageStore> Core<TreeIndex<S>> {
             → SaysState self.old.begun (payload_of self.old.index.cache 0)
             → IfErr result MayRefuse }
         ensures named { IsTrue self.old.index.cache.store.is_faithful → (n : ℕ)
-            → IsErrOf result (IndexFault.Damaged n)
-            → IsFirstDamaged self.old.index.cache n
-            ⊎ IsFirstMalformed self.old.begun self.old.index.cache n }
+            → IsErrOf result (IndexFault.Damaged n) → IsFirstFault self.old n }
+        ensures whole { OnOk result (IsTrue self.old.index.cache.store.is_faithful
+            → IsChecked (pages_of_cache self.old.index.cache) self.old.index.tree
+            (length self.old.book.rows) self.old.index.legs self.old.index.places
+            self.old.tracks.tracks) }
         ensures reads { OnlyReads self.old.index.cache self.new.index.cache }
         ensures leaves { Leaves words self.old self.new }
         ensures payloads { IsTrue self.old.index.cache.store.is_faithful → (page : ℕ)
@@ -154,9 +160,7 @@ impl<S: PageStore> Core<TreeIndex<S>> {
         ensures only { IfErr result (λ fault. db.IsSound self.old → db.HasPages self.old
             → IsIdle self.old → IsQuestionFault fault) }
         ensures named { IsTrue self.old.index.cache.store.is_faithful → (n : ℕ)
-            → IsErrOf result (RunFault.Damaged n)
-            → IsFirstDamaged self.old.index.cache n
-            ⊎ IsFirstMalformed self.old.begun self.old.index.cache n }
+            → IsErrOf result (RunFault.Damaged n) → IsFirstFault self.old n }
         ensures works { IsErrOf result RunFault.Failed
             → words.is_spent self.old.index ≡ true }
         ensures leaves { Leaves words self.old self.new }
@@ -185,10 +189,9 @@ impl<S: PageStore> Db<S> {
     ghost use Rattle.std.specs.Prelude.{ℕ, ◌≡◌, ◌⊎◌, Err, IfErr, IfOk, IsErrOf, IsTrue, OnOk, false, true};
     ghost use Rattle.pagecache.specs.Cache.{payload_of, IsClean};
     ghost use Rattle.pages.specs.Store.{Store};
-    ghost use Rattle.treecheck.specs.Naming.{IsFirstDamaged, IsFirstMalformed};
     ghost use Rattle.boxsearch.specs.Index.{words};
     ghost use Rattle.trajdb.specs.Calls.{IsAsked, IsQuestionFault, KeepsPages, Leaves};
-    ghost use Rattle.trajdb.specs.Checking.{Reports};
+    ghost use Rattle.trajdb.specs.Checking.{IsFirstFault, Reports};
     ghost use Rattle.trajdb.specs.Db.{HasPages, IsSound};
     ghost use Rattle.trajdb.specs.Lasting.{IsIdle, IsSafe};
     ghost use Rattle.trajdb.specs.declared.RunFault.{RunFault};
@@ -221,9 +224,7 @@ impl<S: PageStore> Db<S> {
 
         // Which page is damaged, whoever made the pages.
         ensures named { IsTrue self.old.index.cache.store.is_faithful → (n : ℕ)
-            → IsErrOf result (RunFault.Damaged n)
-            → IsFirstDamaged self.old.index.cache n
-            ⊎ IsFirstMalformed self.old.begun self.old.index.cache n }
+            → IsErrOf result (RunFault.Damaged n) → IsFirstFault self.old n }
 
         // The book stays, and each page has the payload that it had; once it has passed, all that
         // was changed is written, and nothing is where nothing was changed.

@@ -9,7 +9,10 @@ use Rattle.legs.specs.Boxes.{BoxView}
 use Rattle.legs.specs.Legs.{LegView}
 use Rattle.legs.specs.declared.tracks.Track.{Track}
 use Rattle.chains.specs.Chains.{AreHeld}
-use Rattle.treecheck.specs.Check.{next_in, legs_on, first_on, AreLeavesFrom, AreChains, IsChecked, IsOver}
+use Rattle.treecheck.specs.Check.{next_in, legs_on, first_on, AreLeavesFrom, AreChains, HoldChains, IsChecked, IsOver}
+use Rattle.tbtree.specs.Descent.{sort_by_ordinal}
+use Rattle.tbtree.proofs.OwnedLists.{numbered}
+use Rattle.tbtree.proofs.SortLemmas.{sort_moves}
 use Rattle.tbtree.specs.Turn.{first_ordinal, IsPast, IsRising}
 use Rattle.tbtree.specs.Nodes.{Pages}
 use Rattle.tbtree.specs.declared.tree.Place.{Place}
@@ -120,6 +123,22 @@ module _ (nodes : Pages LegView BoxView) (tree : TbTree) (rows total : ℕ) (pla
 
   pub within : All (λ p. (0 < p) × (p < nodes.count)) (map page_of leaves)
   within = All-permutation (λ p. (0 < p) × (p < nodes.count)) (joined sv.chains) (map page_of leaves) ordered (chains_within nodes tree.shape.leaf rows 0 places tracks sv.chains sv.are_chains)
+
+  -- the legs of chains that are whole are one list
+  pub list_of : IsWhole places total survey → (legs : List LegView) × HoldChains nodes tree.shape.leaf rows total places tracks legs
+  list_of whole =
+      let all = legs_on nodes (joined sv.chains) in
+      let once = subst (λ ns. IsPermutation ns (range_with_len 0 total)) sv.ordinals whole.once in (
+        sort_by_ordinal all,
+        record {
+          chains = sv.chains;
+          are_chains = sv.are_chains;
+          some = whole.some;
+          moved = sort_moves all;
+          numbered = numbered all total once;
+          firsts = rising_unmap (λ pages. first_ordinal (legs_on nodes pages)) (λ n. n) sv.chains (subst (IsRising (λ n. n)) sv.firsts whole.firsts);
+        },
+      )
 
   -- a check that passes says that the pages are whole
   pub checked : 0 < nodes.count → AreHeld nodes → IsWhole places total survey → IsRising (λ (m : Met). m.first) leaves → (pages : ℕ → List ℕ) → IsOver nodes tree (map page_of leaves) pages → NameLast places leaves → IsChecked nodes tree rows total places tracks

@@ -13,6 +13,7 @@ pub mod OverLemmas
 pub mod SoundLemmas
 pub mod SpanLemmas
 pub mod StandLemmas
+pub mod StoppingLemmas
 pub mod SurveyLemmas
 pub mod WalkLemmas
 pub mod WalkedLemmas

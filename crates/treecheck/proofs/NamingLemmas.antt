@@ -1,5 +1,5 @@
 -- Which page a check names.
-use Rattle.std.proofs.Common.{ℕ, Bool, ◌≡◌, ◌≢◌, None, Result, Ok, Err, inl, inr, ap, subst, IsTrue}
+use Rattle.std.proofs.Common.{ℕ, zero, suc, Bool, ◌≡◌, ◌≢◌, ◌<◌, List, length, None, Result, Ok, Err, inl, inr, refl, ap, subst, arith, IsTrue}
 use Rattle.std.specs.Option.{option_map}
 use Rattle.std.specs.Prelude.{IfErr, IsErrOf, ◌⊎◌}
 use Rattle.legs.specs.declared.index.IndexFault.{IndexFault}
@@ -11,17 +11,44 @@ use Rattle.tbnode.specs.Form.{node_of}
 use Rattle.chains.specs.Chains.{AreHeld}
 use Rattle.tbtree.specs.Nodes.{pages_of_cache}
 use Rattle.boxsearch.specs.Answers.{answered, of_cache, of_search}
-use Rattle.boxsearch.specs.Faults.{IsCaused, IsCausedInCache, IfNamedInCache}
+use Rattle.boxsearch.specs.Faults.{IsAllowed, IsCaused, IsCausedInCache, IfNamedInCache}
 use Rattle.boxsearch.specs.Index.{SaysState}
 use Rattle.boxsearch.specs.declared.fault.SearchFault.{SearchFault}
 use Rattle.boxsearch.specs.declared.fault.SearchFault.TheVariants.{Cache as OfCache, Malformed, Spent, Memory}
-use Rattle.treecheck.specs.Naming.{IsFirstDamaged, IsFirstMalformed, Names}
+use Rattle.legs.specs.Tracks.{TracksView}
+use Rattle.tbtree.specs.declared.tree.Place.{Place}
+use Rattle.tbtree.specs.declared.tree.TbTree.{TbTree}
+use Rattle.treecheck.specs.Naming.{HoldLeaves, HoldList, IfMalformed, IsFirstDamaged, IsFirstMalformed, IsMiscounted, Names}
+use Rattle.treecheck.specs.Stopping.{AllStopAt}
 
 -- a page that says a node has a payload
 pub has_payload : (c : Cache) (p : ℕ) → (pages_of_cache c).at p ≢ None → payload_of c p ≢ None
 has_payload c p h e = h (ap (λ o. option_map node_of o) e)
 
-module _ (begun : Bool) (old new : Cache) (fa : IsTrue old.store.is_faithful) (held : AreHeld (pages_of_cache old)) (same : old.count ≡ old.store.count) where
+-- where pages are counted otherwise, the page after the last one is the first malformed
+pub miscounted : (begun : Bool) (tree : TbTree) (rows total : ℕ) (places : List Place) (tracks : TracksView) (c : Cache) (n : ℕ) → IsMiscounted c n → IsFirstMalformed begun tree rows total places tracks c n
+miscounted begun tree rows total places tracks c n m = record {
+  held = m.held;
+  counted = λ _. m.counted;
+  state = λ same _. none n c.count m.counted (λ some. m.other some same);
+  walk = λ h. absurd (m.other h.some h.same);
+  list = λ h. absurd (m.other h.some h.same);
+}
+  where
+    none : (n count : ℕ) → n ≡ count → (0 < count → ⊥) → n ≡ 0
+    none n zero e h = e
+    none n (suc count) e h = absurd (h (omega arith))
+
+pub names_map : (P Q R : ℕ → Type 0) → ((n : ℕ) → Q n → R n) → (fault : SearchFault) → Names P Q fault → Names P R fault
+names_map P Q R f (OfCache fault) h = h
+names_map P Q R f (Malformed n) h = f n h
+names_map P Q R f Spent h = tt
+names_map P Q R f Memory h = tt
+
+module _ (begun : Bool) (tree : TbTree) (rows total : ℕ) (places : List Place) (tracks : TracksView) (old new : Cache) (fa : IsTrue old.store.is_faithful) (held : AreHeld (pages_of_cache old)) (some : 0 < old.count) (same : old.count ≡ old.store.count) where
+  abbrev Malforms : ℕ → Type 0
+  Malforms = IsFirstMalformed begun tree rows total places tracks old
+
   none_damaged : (fault : CacheFault) → IsCausedInCache old new fault → IfNamedInCache (IsFirstDamaged old) fault
   none_damaged cache.NoPage c = tt
   none_damaged cache.Store c = tt
@@ -30,18 +57,56 @@ module _ (begun : Bool) (old new : Cache) (fa : IsTrue old.store.is_faithful) (h
   none_damaged cache.Memory c = tt
 
   -- once each page was read, none is damaged, and page 0 is malformed where it does not say the state
-  pub state_named : (fault : SearchFault) → IsCaused old new fault → Names (λ _. ⊥) (λ n. n ≡ 0) fault → Names (IsFirstDamaged old) (IsFirstMalformed begun old) fault
-  state_named (OfCache fault) c k = none_damaged fault c
-  state_named (Malformed n) c k = record { held = λ p l. has_payload old p (held p l); counted = λ no. absurd (no same); state = λ _ _. k }
-  state_named Spent c k = tt
-  state_named Memory c k = tt
+  pub state_named : (fault : SearchFault) → IsCaused old new fault → (SaysState begun (payload_of old 0) → IsAllowed fault) → Names (λ _. ⊥) (λ n. n ≡ 0) fault → Names (IsFirstDamaged old) Malforms fault
+  state_named (OfCache fault) c o k = none_damaged fault c
+  state_named (Malformed n) c o k = record {
+    held = λ p l. has_payload old p (held p l);
+    counted = λ no. absurd (no same);
+    state = λ _ _. k;
+    walk = λ h. absurd (o h.says);
+    list = λ h. absurd (o h.says);
+  }
+  state_named Spent c o k = tt
+  state_named Memory c o k = tt
 
-  -- and once page 0 said it, any page may be
-  pub later_named : SaysState begun (payload_of old 0) → (fault : SearchFault) → IsCaused old new fault → Names (IsFirstDamaged old) (IsFirstMalformed begun old) fault
-  later_named says (OfCache fault) c = none_damaged fault c
-  later_named says (Malformed n) c = record { held = λ p l. has_payload old p (held p l); counted = λ no. absurd (no same); state = λ _ no. absurd (no says) }
-  later_named says Spent c = tt
-  later_named says Memory c = tt
+  -- what is to be known of the page that is named later
+  pub record IsLater (n : ℕ) : Type 0 where
+    pub walk : (HoldLeaves old tree rows places tracks → ⊥) → AllStopAt (pages_of_cache old) tree.shape.leaf rows places tracks.tracks n
+    pub list : HoldLeaves old tree rows places tracks → (HoldList old tree rows places tracks total → ⊥) → n ≡ 0
+
+  -- the walk names the page at which it stops
+  pub walk_later : (fault : SearchFault) → IfMalformed (AllStopAt (pages_of_cache old) tree.shape.leaf rows places tracks.tracks) fault
+      → (length places < 4294967296 → HoldLeaves old tree rows places tracks → IsAllowed fault) → IfMalformed IsLater fault
+  walk_later (OfCache fault) s o = tt
+  walk_later (Malformed n) s o = record { walk = λ _. s; list = λ h _. s.unpaired (λ both. o both.few h) }
+  walk_later Spent s o = tt
+  walk_later Memory s o = tt
+
+  -- where it passes, page 0 is named, as long as the legs are not one list
+  pub zero_later : HoldLeaves old tree rows places tracks → IsLater 0
+  zero_later h = record { walk = λ apart. absurd (apart h); list = λ _ _. refl }
+
+  pub tree_later : HoldLeaves old tree rows places tracks → HoldList old tree rows places tracks total → (n : ℕ) → IsLater n
+  tree_later h k n = record { walk = λ apart. absurd (apart h); list = λ _ apart. absurd (apart k) }
+
+  -- and once page 0 said it
+  pub later_named : SaysState begun (payload_of old 0) → (fault : SearchFault) → IsCaused old new fault → IfMalformed IsLater fault → Names (IsFirstDamaged old) Malforms fault
+  later_named says (OfCache fault) c l = none_damaged fault c
+  later_named says (Malformed n) c l = record {
+    held = λ p l. has_payload old p (held p l);
+    counted = λ no. absurd (no same);
+    state = λ _ no. absurd (no says);
+    walk = λ _. l.walk;
+    list = λ _. l.list;
+  }
+  later_named says Spent c l = tt
+  later_named says Memory c l = tt
+
+pub all_malformed : (P : ℕ → Type 0) → ((n : ℕ) → P n) → (fault : SearchFault) → IfMalformed P fault
+all_malformed P f (OfCache fault) = tt
+all_malformed P f (Malformed n) = f n
+all_malformed P f Spent = tt
+all_malformed P f Memory = tt
 
 -- the page that an index says is damaged is one of both
 module _ (old new : Cache) (P Q : ℕ → Type 0) where

@@ -3,4 +3,5 @@ pub mod Checking
 pub mod Levels
 pub mod Naming
 pub mod Ordering
+pub mod Stopping
 pub mod Walking

@@ -20,7 +20,7 @@ ghost use Rattle.legs.specs.Index.{MayRefuse, HasRisen};
 ghost use Rattle.legs.specs.declared.index.IndexFault.{IndexFault};
 ghost use Rattle.treecheck.specs.Walking.{Surveys};
 ghost use Rattle.treecheck.specs.Ordering.{IsWhole};
-ghost use Rattle.treecheck.specs.Naming.{IsFirstDamaged, IsFirstMalformed, Names};
+ghost use Rattle.treecheck.specs.Naming.{IsFirstDamaged, IsFirstMalformed, IsMiscounted, Names};
 ghost use Rattle.boxsearch.specs.declared.fault.SearchFault.{SearchFault};
 ghost use Rattle.treecheck.specs.declared.walking.Met.{Met};
 ghost use Rattle.treecheck.specs.declared.walking.Survey.{Survey};
@@ -69,8 +69,8 @@ fn read_pages<S: PageStore>(cache: &mut PageCache<S>) -> Result<(), SearchFault>
     ensures only { IsTrue cache.old.store.is_faithful → AreHeld (pages_of_cache cache.old)
         → 0 < cache.old.count
         → cache.old.count ≡ cache.old.store.count → IfErr result IsAllowed }
-    ensures named { IsTrue cache.old.store.is_faithful → (begun : Bool)
-        → IfErr result (Names (IsFirstDamaged cache.old) (IsFirstMalformed begun cache.old)) }
+    ensures named { IsTrue cache.old.store.is_faithful
+        → IfErr result (Names (IsFirstDamaged cache.old) (IsMiscounted cache.old)) }
     ensures reads { OnlyReads cache.old cache.new }
     ensures caused { IfErr result (IsCaused cache.old cache.new) }
     ensures works { IfErr result (λ fault. fault ≢ SearchFault.Spent) }
@@ -175,7 +175,8 @@ pub fn check_pages<S: PageStore>(
         → IsChecked (pages_of_cache cache.old) tree.now rows legs places.now tracks.now.tracks
         → IfErr result IsAllowed }
     ensures named { IsTrue cache.old.store.is_faithful
-        → IfErr result (Names (IsFirstDamaged cache.old) (IsFirstMalformed begun cache.old)) }
+        → IfErr result (Names (IsFirstDamaged cache.old)
+        (IsFirstMalformed begun tree.now rows legs places.now tracks.now cache.old)) }
     ensures reads { OnlyReads cache.old cache.new }
     ensures caused { IfErr result (IsCaused cache.old cache.new) }
     ensures works { IfErr result (λ fault. fault ≢ SearchFault.Spent) }
@@ -227,7 +228,8 @@ fn check_index<S: PageStore>(
         → IfErr result IsAllowed }
     ensures named { IsTrue index.old.cache.store.is_faithful
         → IfErr result (Names (IsFirstDamaged index.old.cache)
-        (IsFirstMalformed begun index.old.cache)) }
+        (IsFirstMalformed begun index.old.tree rows index.old.legs places.now tracks.now
+        index.old.cache)) }
     ensures same { index.new ≡ with_cache index.old index.new.cache index.new.known }
     ensures reads { OnlyReads index.old.cache index.new.cache }
     ensures caused { IfErr result (IsCaused index.old.cache index.new.cache) }
@@ -273,19 +275,25 @@ pub fn check<S: PageStore>(
     rows: u64,
     begun: bool,
 ) -> Result<(), IndexFault>
-    // What passes is sound, and the tracks are those of its legs; what is sound passes.
+    // What passes is sound, and its pages are whole, with the tracks of its legs; what is sound
+    // passes.
     ensures sound { OnOk result (IsTrue index.old.cache.store.is_faithful → IsSound index.new) }
     ensures tracks { OnOk result (IsTrue index.old.cache.store.is_faithful
         → AreTracksOf tracks.now rows (content index.new)) }
     ensures says { OnOk result (IsTrue index.old.cache.store.is_faithful
         → SaysState begun (payload_of index.new.cache 0)) }
+    ensures whole { OnOk result (IsTrue index.old.cache.store.is_faithful
+        → IsChecked (pages_of_cache index.old.cache) index.old.tree rows index.old.legs
+        index.old.places tracks.now.tracks) }
     ensures only { IsSound index.old → AreTracksOf tracks.now rows (content index.old)
         → SaysState begun (payload_of index.old.cache 0) → IfErr result MayRefuse }
 
     // Which page is damaged, whoever made the pages.
     ensures named { IsTrue index.old.cache.store.is_faithful → (n : ℕ)
         → IsErrOf result (IndexFault.Damaged n)
-        → IsFirstDamaged index.old.cache n ⊎ IsFirstMalformed begun index.old.cache n }
+        → IsFirstDamaged index.old.cache n
+        ⊎ IsFirstMalformed begun index.old.tree rows index.old.legs index.old.places tracks.now
+        index.old.cache n }
 
     // Nothing changes.
     ensures same { index.new ≡ with_cache index.old index.new.cache index.new.known }

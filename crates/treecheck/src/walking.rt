@@ -10,7 +10,9 @@ ghost use Rattle.tbtree.specs.Turn.{last_leg, first_ordinal, ComesAfter, ComeInT
 ghost use Rattle.tbtree.specs.Descent.{legs_in};
 ghost use Rattle.tbtree.specs.Nodes.{LeafView, ALeaf};
 ghost use Rattle.boxsearch.specs.Faults.{IsAllowed, IsCaused};
-ghost use Rattle.treecheck.specs.Walking.{after, pages_by, IsAtEnd, IsNextNode, Notes, Surveys, TakesLeaf, Walks};
+ghost use Rattle.treecheck.specs.Naming.{IfMalformed};
+ghost use Rattle.treecheck.specs.Stopping.{AllStopAt, StopsAt};
+ghost use Rattle.treecheck.specs.Walking.{after, pages_by, IsAtEnd, IsNextNode, Notes, Strays, Surveys, TakesLeaf, Walks};
 ghost use Rattle.boxsearch.specs.declared.fault.SearchFault.{SearchFault};
 
 use crate::leaves::{AnyLeaf, bounds_of};
@@ -191,7 +193,8 @@ pub trait LeafReader {
     ghost use Rattle.tbtree.specs.Turn.{ComeInTurn};
     ghost use Rattle.tbtree.specs.Descent.{legs_in};
     ghost use Rattle.boxsearch.specs.Faults.{IsAllowed, IsCaused};
-    ghost use Rattle.treecheck.specs.Walking.{pages_by, TakesLeaf};
+    ghost use Rattle.treecheck.specs.Naming.{IfMalformed};
+    ghost use Rattle.treecheck.specs.Walking.{pages_by, Strays, TakesLeaf};
     ghost use Rattle.boxsearch.specs.declared.fault.SearchFault.{SearchFault};
 
     /// What they are read from.
@@ -222,6 +225,9 @@ pub trait LeafReader {
             → ComeInTurn walk.old.feature rows walk.old.last
             (legs_in ((pages_by node (seen source.old)).at walk.old.page))
             → IfErr result IsAllowed }
+        ensures strays { IsTrue (seen source.old).store.is_faithful
+            → IfErr result (IfMalformed (Strays (pages_by node (seen source.old)) most rows
+            walk.old)) }
         ensures reads { OnlyReads (seen source.old) (seen source.new) }
         ensures caused { IfErr result (IsCaused (seen source.old) (seen source.new)) }
         ensures works { IfErr result (λ fault. fault ≢ SearchFault.Spent) };
@@ -302,6 +308,9 @@ pub fn walk_chain<R: LeafReader>(
     ensures only { IsTrue (R.seen source.old).store.is_faithful → (pages : List ℕ)
         → AreLeavesOf (pages_by R.node (R.seen source.old)) most rows feature place.now track.now pages
         → IfErr result IsAllowed }
+    ensures stops { IsTrue (R.seen source.old).store.is_faithful
+        → IfErr result (IfMalformed (StopsAt (pages_by R.node (R.seen source.old)) most rows feature
+        place.now track.now)) }
     ensures reads { OnlyReads (R.seen source.old) (R.seen source.new) }
     ensures caused { IfErr result (IsCaused (R.seen source.old) (R.seen source.new)) }
     ensures works { IfErr result (λ fault. fault ≢ SearchFault.Spent) }
@@ -356,6 +365,9 @@ pub fn walk_all<R: LeafReader>(
         → (chains : List (List ℕ))
         → AreChains (pages_by R.node (R.seen source.old)) most rows 0 places.now tracks.now.tracks chains
         → IfErr result IsAllowed }
+    ensures stops { IsTrue (R.seen source.old).store.is_faithful
+        → IfErr result (IfMalformed (AllStopAt (pages_by R.node (R.seen source.old)) most rows
+        places.now tracks.now.tracks)) }
     ensures reads { OnlyReads (R.seen source.old) (R.seen source.new) }
     ensures caused { IfErr result (IsCaused (R.seen source.old) (R.seen source.new)) }
     ensures works { IfErr result (λ fault. fault ≢ SearchFault.Spent) }

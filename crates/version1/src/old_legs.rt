@@ -14,6 +14,7 @@ ghost use Rattle.treecheck.specs.Checking.{Agree};
 ghost use Rattle.boxsearch.specs.Faults.{IsAllowed, IsCaused};
 ghost use Rattle.chains.specs.Reads.{OnlyReads};
 ghost use Rattle.version1.specs.OldLegs.{pages_of_old, unsealing, AreAmong, AreOpened, AreReadable, AreSurveyed, HaveEachOf, HaveLegsOf, IsNumbered, IsReadable, Opens, StandByOrdinal};
+ghost use Rattle.treecheck.specs.Naming.{IfMalformed};
 ghost use Rattle.treecheck.specs.Walking.{after, pages_by, IsNextNode, Notes};
 ghost use Rattle.boxsearch.specs.declared.fault.SearchFault.{SearchFault};
 ghost use Rattle.treecheck.specs.declared.walking.Met.{Met};
@@ -57,6 +58,8 @@ fn read_payload<S: PageStore>(store: &mut S, page: u32, from: u32) -> Result<Pay
     ensures only { IfErr result (λ fault. IsTrue (S.seen store.old).is_faithful
         → page < (S.seen store.old).count
         → payload_of (fresh (S.seen store.old) 1) page ≢ None → IsAllowed fault) }
+    ensures named { IfErr result (IfMalformed (λ n. (n ≡ from)
+        × (page < (S.seen store.old).count → ⊥))) }
     ensures stays { Stays (S.seen store.old) (S.seen store.new) }
     ensures caused { IfErr result
         (IsCaused (fresh (S.seen store.old) 1) (fresh (S.seen store.new) 1)) }

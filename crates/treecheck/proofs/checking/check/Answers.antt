@@ -123,7 +123,30 @@ returns-clause-named g c = λ fa n e.
     let given = c.check_index-given in
     let rest = c.take_places-places.ensures.rest in
     let begun = c.args.begun in
+    let tracks = c.args.tracks.now in
+    let rows = c.args.rows in
+    let places : List Place = c.as_slice.result.now in
+    let value : places ≡ index.places = c.as_slice.ensures.value ∙ c.take_places-places.ensures.taken in
     let said : IsErrOf (answered (λ fault. of_search fault) given.result) (Damaged n) = sym c.checked.ensures ∙ e in
-    either_named index.cache left.cache (λ n. IsFirstDamaged index.cache n) (λ n. IsFirstMalformed begun index.cache n) given.result
+    either_named index.cache left.cache (λ n. IsFirstDamaged index.cache n) (λ n. IsFirstMalformed begun index.tree rows index.legs index.places tracks index.cache n) given.result
     (subst (λ (v : IndexView). IfErr given.result (IsCaused v.cache left.cache)) rest given.ensures.caused)
-    (subst (λ (v : IndexView). IsTrue v.cache.store.is_faithful → IfErr given.result (Names (IsFirstDamaged v.cache) (IsFirstMalformed begun v.cache))) rest given.ensures.named fa) n said
+    (subst (λ places. IfErr given.result (Names (IsFirstDamaged index.cache) (IsFirstMalformed begun index.tree rows index.legs places tracks index.cache))) value
+    (subst (λ (v : IndexView). IsTrue v.cache.store.is_faithful → IfErr given.result (Names (IsFirstDamaged v.cache) (IsFirstMalformed begun v.tree rows v.legs places tracks v.cache))) rest given.ensures.named fa)) n said
+
+pub returns-clause-whole : goal.returns-clause-whole
+returns-clause-whole g c =
+    let index : IndexView = c.args.index.now in
+    let given = c.check_index-given in
+    let rest = c.take_places-places.ensures.rest in
+    let tracks = c.args.tracks.now in
+    let rows = c.args.rows in
+    let places : List Place = c.as_slice.result.now in
+    let value : places ≡ index.places = c.as_slice.ensures.value ∙ c.take_places-places.ensures.taken in
+    let whole : List Place → Type 0 = λ places. IsChecked (pages_of_cache index.cache) index.tree rows index.legs places tracks.tracks in
+    subst (λ r. OnOk r (IsTrue index.cache.store.is_faithful → whole index.places)) (sym c.checked.ensures)
+    (each_value (λ fault. of_search fault) (λ _. IsTrue index.cache.store.is_faithful → whole index.places) given.result
+    (passed given.result (IsTrue index.cache.store.is_faithful) (whole places) (Agree tracks rows index.legs) (index.cache.count ≡ index.cache.store.count) (whole index.places)
+    (subst (λ (v : IndexView). IsTrue v.cache.store.is_faithful → OnOk given.result (IsChecked (pages_of_cache v.cache) v.tree rows v.legs places tracks.tracks)) rest given.ensures.checked)
+    (subst (λ (v : IndexView). OnOk given.result (Agree tracks rows v.legs)) rest given.ensures.agree)
+    (subst (λ (v : IndexView). OnOk given.result (v.cache.count ≡ v.cache.store.count)) rest given.ensures.count)
+    (λ fa k a n. subst whole value k)))

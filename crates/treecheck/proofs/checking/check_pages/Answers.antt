@@ -15,9 +15,11 @@ use Rattle.treecheck.specs.Ordering.{NameLast}
 use Rattle.treecheck.specs.declared.walking.Met.{Met}
 use Rattle.boxsearch.proofs.ReadLemmas.{caused_after, reads_trans}
 use Rattle.boxsearch.specs.declared.fault.SearchFault.TheVariants.{Malformed}
-use Rattle.treecheck.proofs.NamingLemmas.{has_payload, later_named, state_named}
+use Rattle.treecheck.specs.Naming.{HoldLeaves, HoldList, IfMalformed, IsFirstDamaged, IsFirstMalformed, IsMiscounted}
+use Rattle.treecheck.specs.Stopping.{AllStopAt}
+use Rattle.treecheck.proofs.NamingLemmas.{all_malformed, has_payload, later_named, miscounted, names_map, state_named, tree_later, walk_later, zero_later}
 use Rattle.treecheck.proofs.WalkedLemmas.{same_pages}
-use Rattle.treecheck.proofs.CheckingLemmas.{checked, are_met, within, whole, strict, over, last}
+use Rattle.treecheck.proofs.CheckingLemmas.{checked, list_of, are_met, within, whole, strict, over, last}
 use Rattle.treecheck.proofs.checking.check_pages.Goals as goal
 
 pub returns-in_err-survey-clause-only : goal.returns-in_err-survey-clause-only
@@ -130,70 +132,168 @@ returns-clause-says g c = λ fa.
 pub returns-in_err-read_pages-clause-named : goal.returns-in_err-read_pages-clause-named
 returns-in_err-read_pages-clause-named g c = λ fa.
     let p = err_from_is_err_and c.from_residual.result c.from_residual.ensures.1 in
-    rw (p.1, p.2) (c.in_err-read_pages.ensures.named fa c.args.begun)
+    let old = c.args.cache.now in
+    rw (p.1, p.2) (names_map (IsFirstDamaged old) (IsMiscounted old) (IsFirstMalformed c.args.begun c.args.tree.now c.args.rows c.args.legs c.args.places.now c.args.tracks.now old)
+    (miscounted c.args.begun c.args.tree.now c.args.rows c.args.legs c.args.places.now c.args.tracks.now old) c.in_err-read_pages.field-0.0 (c.in_err-read_pages.ensures.named fa))
 
 pub returns-in_err-check_state-clause-named : goal.returns-in_err-check_state-clause-named
 returns-in_err-check_state-clause-named g c = λ fa.
     let p = err_from_is_err_and c.from_residual-in_err-check_state.result c.from_residual-in_err-check_state.ensures.1 in
     let old = c.args.cache.now in
-    let reads = c.read_pages.ensures.reads in
+    let tree = c.args.tree.now in
+    let rows = c.args.rows in
+    let total = c.args.legs in
+    let places = c.args.places.now in
+    let tracks = c.args.tracks.now in
     let held = c.in_ok-read_pages.ensures.held fa in
-    let there = has_payload old 0 (held 0 c.in_ok-read_pages.ensures.some) in
+    let some = c.in_ok-read_pages.ensures.some in
+    let count = c.in_ok-read_pages.ensures.count in
+    let first = c.read_pages.ensures.reads in
+    let there = has_payload old 0 (held 0 some) in
     let fault = c.in_err-check_state.field-0.0 in
-    rw (p.1, p.2) (state_named c.args.begun old c.check_state.new.cache fa held c.in_ok-read_pages.ensures.count fault
-    (caused_after old c.read_pages.new.cache c.check_state.new.cache fault reads c.in_err-check_state.ensures.caused)
-    (c.in_err-check_state.ensures.named (reads.store.faithful ∙ fa) (λ e. there (sym (reads.payloads fa 0) ∙ e))))
+    rw (p.1, p.2) (state_named c.args.begun tree rows total places tracks old c.check_state.new.cache fa held some count fault
+    (caused_after old c.read_pages.new.cache c.check_state.new.cache fault first c.in_err-check_state.ensures.caused)
+    (λ says. c.in_err-check_state.ensures.only (first.store.faithful ∙ fa) (subst (SaysState c.args.begun) (sym (first.payloads fa 0)) says) (subst (λ n. 0 < n) (sym first.count) some))
+    (c.in_err-check_state.ensures.named (first.store.faithful ∙ fa) (λ e. there (sym (first.payloads fa 0) ∙ e))))
 
 pub returns-in_err-survey-clause-named : goal.returns-in_err-survey-clause-named
 returns-in_err-survey-clause-named g c = λ fa.
     let p = err_from_is_err_and c.from_residual-in_err-survey.result c.from_residual-in_err-survey.ensures.1 in
     let old = c.args.cache.now in
+    let tree = c.args.tree.now in
+    let rows = c.args.rows in
+    let total = c.args.legs in
+    let places = c.args.places.now in
+    let tracks = c.args.tracks.now in
+    let held = c.in_ok-read_pages.ensures.held fa in
+    let some = c.in_ok-read_pages.ensures.some in
+    let count = c.in_ok-read_pages.ensures.count in
     let first = c.read_pages.ensures.reads in
     let says = subst (SaysState c.args.begun) (first.payloads fa 0) (c.in_ok-check_state.ensures.says (first.store.faithful ∙ fa)) in
     let reads = reads_trans old c.read_pages.new.cache c.check_state.new.cache first c.check_state.ensures.reads in
+    let most = c.from-most.ensures ∙ c.leaf.ensures.value in
     let fault = c.in_err-survey.field-0.0 in
-    rw (p.1, p.2) (later_named c.args.begun old c.walk_all.new.source fa (c.in_ok-read_pages.ensures.held fa) c.in_ok-read_pages.ensures.count says fault
-    (caused_after old c.check_state.new.cache c.walk_all.new.source fault reads c.in_err-survey.ensures.caused))
+    let same = same_pages old c.check_state.new.cache reads fa in
+    rw (p.1, p.2) (later_named c.args.begun tree rows total places tracks old c.walk_all.new.source fa held some count says fault
+    (caused_after old c.check_state.new.cache c.walk_all.new.source fault reads c.in_err-survey.ensures.caused)
+    (walk_later c.args.begun tree rows total places tracks old c.walk_all.new.source fa held some count fault
+    (subst (λ nodes. IfMalformed (AllStopAt nodes tree.shape.leaf rows places tracks.tracks) fault) same
+    (subst (λ n. IfMalformed (AllStopAt (pages_of_cache c.check_state.new.cache) n rows places tracks.tracks) fault) most (c.in_err-survey.ensures.stops (reads.store.faithful ∙ fa))))
+    (λ few k. c.in_err-survey.ensures.only (reads.store.faithful ∙ fa) few k.0
+    (subst (λ nodes. AreChains nodes c.from-most.result rows 0 places tracks.tracks k.0) (sym same)
+    (subst (λ n. AreChains (pages_of_cache old) n rows 0 places tracks.tracks k.0) (sym most) k.1)))))
 
 pub returns-then-not-is_whole-clause-named : goal.returns-then-not-is_whole-clause-named
 returns-then-not-is_whole-clause-named g c = λ fa.
     let old = c.args.cache.now in
+    let tree = c.args.tree.now in
+    let rows = c.args.rows in
+    let total = c.args.legs in
+    let places = c.args.places.now in
+    let tracks = c.args.tracks.now in
+    let held = c.in_ok-read_pages.ensures.held fa in
+    let some = c.in_ok-read_pages.ensures.some in
+    let count = c.in_ok-read_pages.ensures.count in
     let first = c.read_pages.ensures.reads in
     let says = subst (SaysState c.args.begun) (first.payloads fa 0) (c.in_ok-check_state.ensures.says (first.store.faithful ∙ fa)) in
-    later_named c.args.begun old old fa (c.in_ok-read_pages.ensures.held fa) c.in_ok-read_pages.ensures.count says (Malformed 0) tt
+    let reads = reads_trans old c.read_pages.new.cache c.check_state.new.cache first c.check_state.ensures.reads in
+    let most = c.from-most.ensures ∙ c.leaf.ensures.value in
+    let survey = c.in_ok-survey.survey in
+    let sv = subst (λ nodes. Surveys nodes tree.shape.leaf rows places tracks.tracks survey) (same_pages old c.check_state.new.cache reads fa)
+    (subst (λ n. Surveys (pages_of_cache c.check_state.new.cache) n rows places tracks.tracks survey) most (c.in_ok-survey.ensures.surveyed (reads.store.faithful ∙ fa))) in
+    let leaves : HoldLeaves old tree rows places tracks = (sv.chains, sv.are_chains) in
+    later_named c.args.begun tree rows total places tracks old old fa held some count says (Malformed 0) tt (zero_later c.args.begun tree rows total places tracks old old fa held some count leaves)
 
 pub returns-then-not-agree-clause-named : goal.returns-then-not-agree-clause-named
 returns-then-not-agree-clause-named g c = λ fa.
     let old = c.args.cache.now in
+    let tree = c.args.tree.now in
+    let rows = c.args.rows in
+    let total = c.args.legs in
+    let places = c.args.places.now in
+    let tracks = c.args.tracks.now in
+    let held = c.in_ok-read_pages.ensures.held fa in
+    let some = c.in_ok-read_pages.ensures.some in
+    let count = c.in_ok-read_pages.ensures.count in
     let first = c.read_pages.ensures.reads in
     let says = subst (SaysState c.args.begun) (first.payloads fa 0) (c.in_ok-check_state.ensures.says (first.store.faithful ∙ fa)) in
-    later_named c.args.begun old old fa (c.in_ok-read_pages.ensures.held fa) c.in_ok-read_pages.ensures.count says (Malformed 0) tt
+    let reads = reads_trans old c.read_pages.new.cache c.check_state.new.cache first c.check_state.ensures.reads in
+    let most = c.from-most.ensures ∙ c.leaf.ensures.value in
+    let survey = c.in_ok-survey.survey in
+    let sv = subst (λ nodes. Surveys nodes tree.shape.leaf rows places tracks.tracks survey) (same_pages old c.check_state.new.cache reads fa)
+    (subst (λ n. Surveys (pages_of_cache c.check_state.new.cache) n rows places tracks.tracks survey) most (c.in_ok-survey.ensures.surveyed (reads.store.faithful ∙ fa))) in
+    let leaves : HoldLeaves old tree rows places tracks = (sv.chains, sv.are_chains) in
+    later_named c.args.begun tree rows total places tracks old old fa held some count says (Malformed 0) tt (zero_later c.args.begun tree rows total places tracks old old fa held some count leaves)
 
 pub returns-then-not-put_in_order-clause-named : goal.returns-then-not-put_in_order-clause-named
 returns-then-not-put_in_order-clause-named g c = λ fa.
     let old = c.args.cache.now in
+    let tree = c.args.tree.now in
+    let rows = c.args.rows in
+    let total = c.args.legs in
+    let places = c.args.places.now in
+    let tracks = c.args.tracks.now in
+    let held = c.in_ok-read_pages.ensures.held fa in
+    let some = c.in_ok-read_pages.ensures.some in
+    let count = c.in_ok-read_pages.ensures.count in
     let first = c.read_pages.ensures.reads in
     let says = subst (SaysState c.args.begun) (first.payloads fa 0) (c.in_ok-check_state.ensures.says (first.store.faithful ∙ fa)) in
-    later_named c.args.begun old old fa (c.in_ok-read_pages.ensures.held fa) c.in_ok-read_pages.ensures.count says (Malformed 0) tt
+    let reads = reads_trans old c.read_pages.new.cache c.check_state.new.cache first c.check_state.ensures.reads in
+    let most = c.from-most.ensures ∙ c.leaf.ensures.value in
+    let survey = c.in_ok-survey.survey in
+    let sv = subst (λ nodes. Surveys nodes tree.shape.leaf rows places tracks.tracks survey) (same_pages old c.check_state.new.cache reads fa)
+    (subst (λ n. Surveys (pages_of_cache c.check_state.new.cache) n rows places tracks.tracks survey) most (c.in_ok-survey.ensures.surveyed (reads.store.faithful ∙ fa))) in
+    let leaves : HoldLeaves old tree rows places tracks = (sv.chains, sv.are_chains) in
+    later_named c.args.begun tree rows total places tracks old old fa held some count says (Malformed 0) tt (zero_later c.args.begun tree rows total places tracks old old fa held some count leaves)
+
+pub returns-then-not-name_last-clause-named : goal.returns-then-not-name_last-clause-named
+returns-then-not-name_last-clause-named g c = λ fa.
+    let old = c.args.cache.now in
+    let tree = c.args.tree.now in
+    let rows = c.args.rows in
+    let total = c.args.legs in
+    let places = c.args.places.now in
+    let tracks = c.args.tracks.now in
+    let held = c.in_ok-read_pages.ensures.held fa in
+    let some = c.in_ok-read_pages.ensures.some in
+    let count = c.in_ok-read_pages.ensures.count in
+    let first = c.read_pages.ensures.reads in
+    let says = subst (SaysState c.args.begun) (first.payloads fa 0) (c.in_ok-check_state.ensures.says (first.store.faithful ∙ fa)) in
+    let reads = reads_trans old c.read_pages.new.cache c.check_state.new.cache first c.check_state.ensures.reads in
+    let most = c.from-most.ensures ∙ c.leaf.ensures.value in
+    let survey = c.in_ok-survey.survey in
+    let sv = subst (λ nodes. Surveys nodes tree.shape.leaf rows places tracks.tracks survey) (same_pages old c.check_state.new.cache reads fa)
+    (subst (λ n. Surveys (pages_of_cache c.check_state.new.cache) n rows places tracks.tracks survey) most (c.in_ok-survey.ensures.surveyed (reads.store.faithful ∙ fa))) in
+    let leaves : HoldLeaves old tree rows places tracks = (sv.chains, sv.are_chains) in
+    later_named c.args.begun tree rows total places tracks old old fa held some count says (Malformed 0) tt (zero_later c.args.begun tree rows total places tracks old old fa held some count leaves)
 
 pub returns-in_err-check_tree-clause-named : goal.returns-in_err-check_tree-clause-named
 returns-in_err-check_tree-clause-named g c = λ fa.
     let p = err_from_is_err_and c.from_residual-in_err-check_tree.result c.from_residual-in_err-check_tree.ensures.1 in
     let old = c.args.cache.now in
+    let tree = c.args.tree.now in
+    let rows = c.args.rows in
+    let total = c.args.legs in
+    let places = c.args.places.now in
+    let tracks = c.args.tracks.now in
+    let held = c.in_ok-read_pages.ensures.held fa in
+    let some = c.in_ok-read_pages.ensures.some in
+    let count = c.in_ok-read_pages.ensures.count in
     let first = c.read_pages.ensures.reads in
     let says = subst (SaysState c.args.begun) (first.payloads fa 0) (c.in_ok-check_state.ensures.says (first.store.faithful ∙ fa)) in
     let reads = reads_trans old c.read_pages.new.cache c.check_state.new.cache first c.check_state.ensures.reads in
+    let most = c.from-most.ensures ∙ c.leaf.ensures.value in
+    let survey = c.in_ok-survey.survey in
+    let sv = subst (λ nodes. Surveys nodes tree.shape.leaf rows places tracks.tracks survey) (same_pages old c.check_state.new.cache reads fa)
+    (subst (λ n. Surveys (pages_of_cache c.check_state.new.cache) n rows places tracks.tracks survey) most (c.in_ok-survey.ensures.surveyed (reads.store.faithful ∙ fa))) in
+    let leaves : HoldLeaves old tree rows places tracks = (sv.chains, sv.are_chains) in
     let later = reads_trans old c.check_state.new.cache c.walk_all.new.source reads c.walk_all.ensures.reads in
     let fault = c.in_err-check_tree.field-0.0 in
-    rw (p.1, p.2) (later_named c.args.begun old c.check_tree.new.cache fa (c.in_ok-read_pages.ensures.held fa) c.in_ok-read_pages.ensures.count says fault
-    (caused_after old c.walk_all.new.source c.check_tree.new.cache fault later c.in_err-check_tree.ensures.caused))
-
-pub returns-then-not-name_last-clause-named : goal.returns-then-not-name_last-clause-named
-returns-then-not-name_last-clause-named g c = λ fa.
-    let old = c.args.cache.now in
-    let first = c.read_pages.ensures.reads in
-    let says = subst (SaysState c.args.begun) (first.payloads fa 0) (c.in_ok-check_state.ensures.says (first.store.faithful ∙ fa)) in
-    later_named c.args.begun old old fa (c.in_ok-read_pages.ensures.held fa) c.in_ok-read_pages.ensures.count says (Malformed 0) tt
+    let one = list_of (pages_of_cache old) tree rows total places tracks.tracks survey survey.leaves.items sv (IsPermutation-refl survey.leaves.items) (c.is_whole.ensures.whole c.if-not-is_whole.false) in
+    let list : HoldList old tree rows places tracks total = (one.0, one.1, c.agree.ensures.0 c.if-not-agree.false) in
+    rw (p.1, p.2) (later_named c.args.begun tree rows total places tracks old c.check_tree.new.cache fa held some count says fault
+    (caused_after old c.walk_all.new.source c.check_tree.new.cache fault later c.in_err-check_tree.ensures.caused)
+    (all_malformed _ (tree_later c.args.begun tree rows total places tracks old c.check_tree.new.cache fa held some count leaves list) fault))
 
 pub returns-in_err-check_state-clause-reads : goal.returns-in_err-check_state-clause-reads
 returns-in_err-check_state-clause-reads g c = reads_trans c.args.cache.now c.read_pages.new.cache c.check_state.new.cache c.read_pages.ensures.reads c.check_state.ensures.reads

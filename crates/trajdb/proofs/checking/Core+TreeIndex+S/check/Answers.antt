@@ -1,4 +1,4 @@
-use Rattle.std.proofs.Common.{◌≡◌, ◌∙◌, Err, inr, ap, sym, subst, length}
+use Rattle.std.proofs.Common.{◌≡◌, ◌∙◌, Err, ap, sym, subst, length}
 use Rattle.std.proofs.lemmas.Bool.{true≢false}
 use Rattle.std.proofs.lemmas.Result.{err_from_is_err_and}
 use Rattle.pagecache.specs.Cache.{IsSettled}
@@ -6,9 +6,9 @@ use Rattle.boxsearch.specs.Index.{words}
 use Rattle.trajdb.specs.Db.{DbView}
 use Rattle.trajdb.specs.Faults.{run_fault_of}
 use Rattle.trajdb.specs.declared.RunFault.TheVariants.{Damaged, Failed}
-use Rattle.boxsearch.proofs.ReadLemmas.{reads_trans}
 use Rattle.trajdb.proofs.FaultLemmas.{leaves-trans}
-use Rattle.trajdb.proofs.NamedLemmas.{damaged_of, named_before, none_flushed, sound_malformed}
+use Rattle.trajdb.specs.Checking.{IsFirstFault}
+use Rattle.trajdb.proofs.NamedLemmas.{damaged_of, named_before, none_flushed, passed_named}
 use Rattle.trajdb.proofs.SoundLemmas.{failed_spent, has_pages_of, law_of, question_fault, says_of, says_still, sound_of, tracks_of}
 use Rattle.trajdb.proofs.checking.Core+TreeIndex+S.check.Goals as goal
 
@@ -97,7 +97,7 @@ returns-in_err-check_index-clause-named g c =
     rw (p.1, p.2) (λ fa n e.
     let same : run_fault_of c.in_err-check_index.field-0.0 ≡ Damaged n = cc in
     let is = damaged_of c.in_err-check_index.field-0.0 n same in
-    named_before old.begun mid.begun c.flush.ensures.leaves.begun old.index.cache mid.index.cache reads fa n
+    named_before old mid c.flush.ensures.leaves c.flush.ensures.same reads fa n
     (c.in_err-check_index.ensures.named (reads.store.faithful ∙ fa) n (ap Err is)))
 
 pub returns-then-not-keeps_law-clause-named : goal.returns-then-not-keeps_law-clause-named
@@ -107,6 +107,6 @@ returns-then-not-keeps_law-clause-named g c = λ fa n e.
     let new = c.check_index.new.self in
     let reads = c.flush.ensures.reads in
     let faithful = reads.store.faithful ∙ fa in
-    let later = reads_trans old.index.cache mid.index.cache new.index.cache reads c.check_index.ensures.reads in
-    let begun = c.check_index.ensures.leaves.begun ∙ c.flush.ensures.leaves.begun in
-    inr (sound_malformed old.begun new.begun begun old.index.cache new.index later fa (c.in_ok-check_index.ensures.sound faithful) (c.in_ok-check_index.ensures.says faithful) n)
+    let passed = passed_named mid new c.check_index.ensures.reads c.check_index.ensures.leaves.begun faithful (c.in_ok-check_index.ensures.whole faithful) (c.in_ok-check_index.ensures.sound faithful) (c.in_ok-check_index.ensures.says faithful) in
+    let zero : 0 ≡ n = cc in
+    named_before old mid c.flush.ensures.leaves c.flush.ensures.same reads fa n (subst (λ n. IsFirstFault mid n) zero passed)
