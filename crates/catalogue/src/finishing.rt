@@ -16,7 +16,7 @@ use tbnode::fields::put_u32;
 /// The state of a finished store.
 const FINISHED: u32 = 1;
 
-/// Writes all that is changed to the store.
+/// Writes all that is changed to the store, and syncs it.
 fn write_all<S: PageStore>(index: &mut TreeIndex<S>) -> Result<(), CatalogueFault>
     ensures same { index.new ≡ with_cache index.old index.new.cache index.new.known }
     ensures written { OnOk result (IsWritten index.new.cache) }

@@ -1,4 +1,4 @@
--- What is taken of the legs of a leaf, or of a chain.
+-- Helpers of private functions: what is taken of the legs of a leaf, or of a chain.
 use Rattle.std.specs.Prelude.{ℕ, suc, ◌≡◌, ◌++◌, Bool, true, false, List, [], Option, Some, None, drop, filter, reverse, slice_get, take}
 use Rattle.timebase.specs.Period.{PeriodView}
 use Rattle.legs.specs.Boxes.{is_near}

@@ -125,10 +125,12 @@ fn walk_back<S: PageStore>(
     ensures caused { IfErr result (IsCaused cache.old cache.new) }
     ensures asked { IsTrue cache.old.store.is_faithful
         → OnOk result (RisesBy cache.old.asked cache.new.asked
-        (known_cost (pages_of_cache cache.old) want.now.period shape.now place.now spans.old.items)) }
+        (known_cost (pages_of_cache cache.old) want.now.period shape.now place.now
+        spans.old.items)) }
     ensures few { IsTrue cache.old.store.is_faithful
         → OnOk result (RisesAtMost cache.old.asked cache.new.asked
-        (known_cost (pages_of_cache cache.old) want.now.period shape.now place.now spans.old.items)) }
+        (known_cost (pages_of_cache cache.old) want.now.period shape.now place.now
+        spans.old.items)) }
     ensures within { IsTrue cache.old.store.is_faithful
         → OnOk result (RisesAtMost cache.old.asked cache.new.asked
         (chain_cost (pages_of_cache cache.old) want.now.period shape.now place.now)) }
@@ -261,7 +263,8 @@ pub fn trajectory_in<S: PageStore>(
     requires known { IsTrue cache.old.store.is_faithful
         → IsKnown (pages_of_cache cache.old) shape.now place.now spans.old.items }
 
-    // Of pages that stand for a list: what the sieve keeps of the feature's live legs; only a failed store and want of memory refuse.
+    // Of pages that stand for a list: what the sieve keeps of the feature's live legs; only a failed store and want
+    // of memory refuse.
     ensures found { IsTrue cache.old.store.is_faithful → (legs : List LegView) (feature : ℕ)
         → HasFeature (pages_of_cache cache.old) shape.now place.now feature legs
         → Gives result (λ found. IsSieved sieve.now period.now
@@ -271,7 +274,8 @@ pub fn trajectory_in<S: PageStore>(
         → OnOk result (RisesAtMost cache.old.asked cache.new.asked
         (track_in_bound feature period.now (Some shape.now) legs)) }
 
-    // Of any pages: what it keeps of the live legs of a chain, as far as it is read; all else is refused, as by `trajectory`.
+    // Of any pages: what it keeps of the live legs of a chain, as far as it is read; all else is refused, as by
+    // `trajectory`.
     ensures chain { IsTrue cache.old.store.is_faithful
         → OnOk result (IsPlaceChain (pages_of_cache cache.old) (Some period.now) shape.now
         place.now) }

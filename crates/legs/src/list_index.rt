@@ -231,8 +231,8 @@ impl LegIndex for ListIndex {
         Ok(self.legs_of(feature)?)
     }
 
-    #[tactic(auto, unfolding(crate::specs::Costs::track_in_bound, crate::specs::Costs::known_bound))]
     /// All legs, whatever the sieve.
+    #[tactic(auto, unfolding(crate::specs::Costs::track_in_bound, crate::specs::Costs::known_bound))]
     fn track_in(
         &mut self,
         feature: u32,

@@ -97,7 +97,7 @@ pub record Tears (n : ℕ) (old new : Store) : Type 0 where
 abbrev pub Unsyncs : ℕ → Store → Store → Type 0
 Unsyncs n old new = new.unsynced ≡ with_written n old.unsynced
 
--- so it does where its write failed, unless no page has changed
+-- so it does where its write failed, unless no page has changed, of a faithful store
 abbrev pub MayUnsync : ℕ → Store → Store → Type 0
 MayUnsync n old new =
     Unsyncs n old new ⊎ (SameUnsynced old new × (IsTrue old.is_faithful → new.pages ≡ old.pages))

@@ -12,7 +12,8 @@ pub trait ByteFile {
     /// The bytes that the file holds, where it tells them.
     ghost bytes: { Self → Option (List ℕ) };
 
-    /// Whether all that was written is on the disk.
+    /// Whether all that was written is on the disk, where the file tells it; a file that tells
+    /// nothing counts as synced.
     ghost is_synced: { Self → Bool };
 
     /// How many bytes there are.

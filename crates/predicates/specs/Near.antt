@@ -1,8 +1,10 @@
--- Where the legs are of which a predicate holds.
+-- Where the legs are of which a predicate holds, and which of them it looks at.
 use Rattle.std.specs.Prelude.{ℤ, pos, neg_ℤ}
 use Rattle.fixedpoint.specs.Number.{most as most_units}
 use Rattle.timebase.specs.Period.{PeriodView}
 use Rattle.legs.specs.Boxes.{RectView, BoxView, box_over}
+use Rattle.legs.specs.declared.sieve.Sieve.{Sieve}
+use Rattle.legs.specs.declared.sieve.Sieve.TheVariants as sieve
 use Rattle.predicates.specs.declared.Predicate.{Predicate}
 use Rattle.predicates.specs.declared.Predicate.TheVariants.{Ever, Always, Enters, Leaves, Crosses, Bypasses}
 
@@ -22,3 +24,13 @@ box_near Enters rect period = box_over rect period
 box_near Leaves rect period = box_over rect period
 box_near Crosses rect period = box_over rect period
 box_near Bypasses rect period = plane_over period
+
+-- what is kept of legs for a predicate: the first and the last, and those near the rectangle, but for
+-- `always`, which looks at all, and for `enters` and `leaves`, which look at no other
+abbrev pub sieve_of : Predicate → RectView → Sieve
+sieve_of Ever rect = sieve.Near rect
+sieve_of Always rect = sieve.All
+sieve_of Enters rect = sieve.Ends
+sieve_of Leaves rect = sieve.Ends
+sieve_of Crosses rect = sieve.Near rect
+sieve_of Bypasses rect = sieve.Near rect

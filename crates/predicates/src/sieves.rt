@@ -1,8 +1,9 @@
 //! Which legs a predicate looks at.
-ghost use Rattle.std.specs.Prelude.{List, ◌↔◌};
+ghost use Rattle.std.specs.Prelude.{List, ◌≡◌, ◌↔◌};
 ghost use Rattle.timebase.specs.Period.{PeriodView};
 ghost use Rattle.legs.specs.Legs.{LegView};
 ghost use Rattle.legs.specs.Sieves.{IsSieved};
+ghost use Rattle.predicates.specs.Near.{sieve_of};
 ghost use Rattle.predicates.specs.Predicates.{Holds};
 
 use crate::Predicate;
@@ -12,7 +13,8 @@ use legs::{Rect, Sieve};
 /// where it holds for all of them. `Enters` and `Leaves` look at the first and the last leg alone; the others but
 /// `Always` do not look at legs between them that are off the rectangle.
 pub fn sieve(predicate: Predicate, rect: &Rect) -> Sieve
-    ensures { (all some : List LegView) (period : PeriodView)
+    ensures value { result ≡ sieve_of predicate rect.now }
+    ensures kept { (all some : List LegView) (period : PeriodView)
         → IsSieved result period all some
         → Holds predicate some rect.now period ↔ Holds predicate all rect.now period }
 {

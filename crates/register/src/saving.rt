@@ -411,9 +411,9 @@ fn fields_for(catalogue: &Catalogue, tree: TbTree, first: u32, length: u64) -> F
 }
 
 /// Keeps a catalogue in pages: its text, with the places of the features in a tree, in a chain of
-/// them, those of an earlier catalogue first, which is then written with all else that is changed, and
-/// synced; and in page 0, which is not written yet, where it is, with the limits and the tree. How page 0
-/// begins stays, finished or not, and so do the pages of the tree.
+/// them, those of an earlier catalogue first, which is then written with all else that is changed,
+/// and synced; and in page 0, which is not written yet, where it is, with the limits and the tree.
+/// How page 0 begins stays, finished or not, and so do the pages of the tree.
 ///
 /// Refused for want of memory, and where the store fails or is full; page 0 stays then.
 pub fn keep<S: PageStore>(

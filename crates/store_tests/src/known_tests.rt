@@ -106,23 +106,21 @@ fn is_told(
     Some(same && few)
 }
 
-/// Whether these are some of a feature's legs in a period, in their order, with the first and the last one, and with each
-/// whose box meets the rectangle, where one is given.
+/// Whether these are some of a feature's legs in a period, in their order, with the first and the last one, and
+/// with each whose box meets the rectangle, where one is given.
 fn is_sieved(all: &[Leg], some: &[Leg], near: Option<&Box3>) -> bool {
     let mut next = 0usize;
     for leg in all {
         if some.get(next) == Some(leg) {
             next = next.wrapping_add(1);
-        } else if let Some(near) = near
-            && Box3::of(leg).meets(near)
-        {
+        } else if near.is_some_and(|near| Box3::of(leg).meets(near)) {
             return false;
         }
     }
     next == some.len() && some.first() == all.first() && some.last() == all.last()
 }
 
-/// Whether an index keeps of a feature's legs in a period what a sieve wants, and of the ends no more than two a leaf.
+/// Whether an index keeps of a feature's legs in a period what a sieve wants, and of others no more than two a leaf.
 fn are_sieved(
     index: &mut TreeIndex<Fuse<MemStore>>,
     list: &mut ListIndex,
@@ -136,8 +134,13 @@ fn are_sieved(
     let ends = index.track_in(feature, period, &Sieve::Ends).ok()?;
     let near = index.track_in(feature, period, &Sieve::Near(rect)).ok()?;
     let most = met(list.track(feature).ok()?.as_slice(), leaf, period)?;
-    let few = ends.len() as u64 <= most.checked_mul(2)?;
+    let most = most.checked_mul(2)?;
     let query = Box3::new(&rect, period);
+    let off = near
+        .iter()
+        .filter(|leg| !Box3::of(leg).meets(&query))
+        .count();
+    let few = ends.len() as u64 <= most && off as u64 <= most;
     Some(
         few && is_sieved(all.as_slice(), ends.as_slice(), None)
             && is_sieved(all.as_slice(), near.as_slice(), Some(&query)),

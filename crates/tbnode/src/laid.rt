@@ -196,7 +196,8 @@ fn meets(a: i64, b: i64, least: i64, most: i64) -> bool
 fn meet_at(bytes: &[u8], first: usize, second: usize, least: i64, most: i64) -> bool
     requires first { first + 8 ≤ length bytes.now }
     requires second { second + 8 ≤ length bytes.now }
-    ensures { result ≡ intervals_meet (int_min (signed_at first bytes.now) (signed_at second bytes.now))
+    ensures { result ≡ intervals_meet
+        (int_min (signed_at first bytes.now) (signed_at second bytes.now))
         (int_max (signed_at first bytes.now) (signed_at second bytes.now)) least most }
 {
     meets(i64_at(bytes, first), i64_at(bytes, second), least, most)

@@ -184,7 +184,8 @@ impl<I: Start> Core<I> {
         period: &Period,
         sieve: &Sieve,
     ) -> Result<Vec<Leg>, RunFault>
-        ensures found { IfOk result (λ legs. IsSound I.Listed self.old → IsSieved sieve.now period.now
+        ensures found { IfOk result (λ legs. IsSound I.Listed self.old
+            → IsSieved sieve.now period.now
             (live_legs_of feature period.now self.old.book.legs) legs.items) }
         ensures says { IfOk result (λ legs. AreSievedLive I.Listed self.old
             sieve.now period.now feature legs.items) }
