@@ -2,7 +2,7 @@
 ghost use Rattle.std.specs.Prelude.{◌≡◌, ◌⊎◌, [], IfErr, OnErr, OnOk, Some};
 ghost use Rattle.legs.specs.Book.{Book};
 ghost use Rattle.legs.specs.declared.head.BookHead.{BookHead};
-ghost use Rattle.pages.specs.Store.{IsLawful, IsSynced, Keeps};
+ghost use Rattle.pages.specs.Store.{IsLawful, IsSynced, IsSyncedButFirst, Keeps};
 ghost use Rattle.pagecache.specs.Cache.{IsSettled};
 ghost use Rattle.timebase.specs.Instant.{IsMoment};
 ghost use Rattle.boxsearch.specs.Beside.{with_cache};
@@ -62,6 +62,8 @@ fn save_and_finish<S: PageStore>(
         → IsOfBook catalogue.now.limits book catalogue.now → content index.old ≡ book.legs
         → IsUnfinishedStore index.new.cache.store
         ⊎ HoldsButFirst index.new.cache.store index.old.tree.shape catalogue.now.limits book) }
+    ensures ordered { OnErr result (IsMarked index.old.cache
+        → IsUnfinishedStore index.new.cache.store ⊎ IsSyncedButFirst index.new.cache.store) }
     ensures keeps { Keeps index.old.cache.store index.new.cache.store }
     ensures caused { IfErr result (IsCaused index.old.cache index.new.cache) }
 {
@@ -101,6 +103,10 @@ pub fn close<S: PageStore>(
         → IsOfBook catalogue.now.limits book catalogue.now → content index ≡ book.legs
         → IsUnfinishedStore (S.seen result.0)
         ⊎ HoldsButFirst (S.seen result.0) index.tree.shape catalogue.now.limits book) }
+
+    // So it is, but for what they hold, be the index sound or not.
+    ensures ordered { OnErr result.1 (IsMarked index.cache
+        → IsUnfinishedStore (S.seen result.0) ⊎ IsSyncedButFirst (S.seen result.0)) }
     ensures keeps { Keeps index.cache.store (S.seen result.0) }
     ensures lawful { IsLawful (S.seen result.0) }
     ensures caused { IfErr result.1 (IsClosingFault index.cache.store (S.seen result.0)) }

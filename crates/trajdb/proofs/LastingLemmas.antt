@@ -13,7 +13,7 @@ use Rattle.register.specs.Saved.{CatalogueView}
 use Rattle.register.specs.Saving.{IsAllowed}
 use Rattle.register.specs.declared.fault.CatalogueFault.{CatalogueFault}
 use Rattle.register.specs.declared.fault.CatalogueFault.TheVariants as fault
-use Rattle.pages.specs.Store.{Store, IsLawful, IsSynced}
+use Rattle.pages.specs.Store.{Store, IsLawful, IsSynced, IsSyncedButFirst}
 use Rattle.pages.specs.declared.payload.Payload.{Payload}
 use Rattle.pagecache.specs.Cache.{IsSettled}
 use Rattle.catalogue.specs.Closing.{IsNoStoreFault}
@@ -106,6 +106,11 @@ closed_holds db s (Err e) legs h begun = tt
 pub closed_synced : (B : Type 0) (s : Store) (answer : Result (Unit {0}) CatalogueFault) → OnOk answer (IsSynced s) → OnOk (closed_answer answer) (B → IsSynced s)
 closed_synced B s (Ok x) h = λ b. h
 closed_synced B s (Err e) h = tt
+
+pub closed_ordered : (db : DbView) (s : Store) (answer : Result (Unit {0}) CatalogueFault) → OnErr answer (IsMarked db.index.cache → IsUnfinishedStore s ⊎ IsSyncedButFirst s)
+    → OnErr (closed_answer answer) (db.failed ≡ false → IsMarked db.index.cache → IsUnfinishedStore s ⊎ IsSyncedButFirst s)
+closed_ordered db s (Ok x) h = tt
+closed_ordered db s (Err e) h = λ lives marked. h marked
 
 pub closed_refused : (db : DbView) (s : Store) (answer : Result (Unit {0}) CatalogueFault) → content db.index ≡ db.book.legs
     → OnErr answer (IsSoundIndex db.index → IsMarked db.index.cache → (book : Book) → IsOfBook db.limits book (catalogue_of db) → content db.index ≡ book.legs → IsUnfinishedStore s ⊎ HoldsButFirst s db.index.tree.shape db.limits book)

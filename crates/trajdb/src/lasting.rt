@@ -195,6 +195,10 @@ impl<S: PageStore> Db<S> {
             → IsUnfinishedStore (S.seen result.0)
             ⊎ HoldsButFirst (S.seen result.0) self.index.tree.shape self.limits self.book) }
 
+        // So it is, but for what they hold, be the database sound or not.
+        ensures ordered { OnErr result.1 (self.failed ≡ false → IsMarked self.index.cache
+            → IsUnfinishedStore (S.seen result.0) ⊎ IsSyncedButFirst (S.seen result.0)) }
+
         // Nothing is written before a file is accepted, and of a failed database.
         ensures idle { self.failed ≡ false → self.begun ≡ false → (result.1 ≡ Ok tt)
             × (S.seen result.0 ≡ self.index.cache.store) }

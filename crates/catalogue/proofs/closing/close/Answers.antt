@@ -1,5 +1,5 @@
 use Rattle.std.proofs.Common.{ap, subst, sym, ◌∙◌, ◌⊎◌}
-use Rattle.pages.specs.Store.{IsLawful, IsSynced, Store}
+use Rattle.pages.specs.Store.{IsLawful, IsSynced, IsSyncedButFirst, Store}
 use Rattle.pagecache.specs.Cache.{Cache}
 use Rattle.boxsearch.specs.Index.{IsMarked, IsSound}
 use Rattle.catalogue.specs.Closing.{IsNoStoreFault}
@@ -34,3 +34,8 @@ pub returns-clause-synced : goal.returns-clause-synced
 returns-clause-synced g c =
     let left = c.into_store.ensures ∙ ap (λ (k : Cache). k.store) c.into_cache-cache.ensures in
     on_ok c.save_and_finish-result.result (subst (λ (s : Store). IsSynced s) (sym left)) c.save_and_finish-result.ensures.synced
+
+pub returns-clause-ordered : goal.returns-clause-ordered
+returns-clause-ordered g c =
+    let left = c.into_store.ensures ∙ ap (λ (k : Cache). k.store) c.into_cache-cache.ensures in
+    map_err c.save_and_finish-result.result (λ ordered marked. subst (λ (s : Store). IsUnfinishedStore s ⊎ IsSyncedButFirst s) (sym left) (ordered marked)) c.save_and_finish-result.ensures.ordered

@@ -110,3 +110,13 @@ returns-clause-refused g c =
     c.in_ok-save.ensures.written (omega (arith, some, more)) later lawful
     (c.finish.ensures.others saved.faithful c.in_ok-save.ensures.written.clean)
     (c.finish.ensures.others_synced c.in_ok-save.ensures.written.clean (synced_but_first j.cache.store c.in_ok-save.ensures.synced)))))
+
+pub returns-in_err-save-clause-ordered : goal.returns-in_err-save-clause-ordered
+returns-in_err-save-clause-ordered g c = any_err c.from_residual.result (λ was.
+    let new = c.save.new.index.cache in
+    let marked : IsMarked c.settled.new.index.cache = subst (λ (i : IndexView). IsMarked i.cache) (sym c.settled.ensures.same) was in
+    inl (says_stored new (still_says c.settled.new.index.cache new marked (c.save.ensures.first_written marked.faithful marked.there marked.unchanged))))
+
+pub returns-clause-ordered : goal.returns-clause-ordered
+returns-clause-ordered g c = any_err c.finish.result (λ was.
+    inr (c.finish.ensures.others_synced c.in_ok-save.ensures.written.clean (synced_but_first c.save.new.index.cache.store c.in_ok-save.ensures.synced)))

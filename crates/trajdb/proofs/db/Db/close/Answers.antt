@@ -2,7 +2,7 @@ use Rattle.std.proofs.Common.{◌≡◌, ◌∙◌, ap, sym, subst, true, false}
 use Rattle.std.specs.Prelude.{◌⊎◌, IfErr, OnErr, OnOk}
 use Rattle.legs.specs.Book.{Book}
 use Rattle.std.proofs.lemmas.Bool.{false≢true}
-use Rattle.pages.specs.Store.{Store, IsLawful, IsSynced}
+use Rattle.pages.specs.Store.{Store, IsLawful, IsSynced, IsSyncedButFirst}
 use Rattle.pagecache.specs.Cache.{IsSettled}
 use Rattle.boxsearch.specs.Index.{content, IndexView, IsMarked, IsSound as IsSoundIndex}
 use Rattle.catalogue.specs.Closing.{IsNoStoreFault}
@@ -13,7 +13,7 @@ use Rattle.trajdb.specs.Calls.{IsLoadFault}
 use Rattle.trajdb.specs.Db.{DbView, HasPages, IsSound}
 use Rattle.trajdb.specs.Faults.{closed_answer}
 use Rattle.trajdb.specs.Lasting.{IsFaultless, IsIdle, IsSafe}
-use Rattle.trajdb.proofs.LastingLemmas.{rest_book, closed_holds, closed_only, closed_refused, closed_synced, closed_unfinished}
+use Rattle.trajdb.proofs.LastingLemmas.{rest_book, closed_holds, closed_only, closed_ordered, closed_refused, closed_synced, closed_unfinished}
 use Rattle.trajdb.proofs.SafeLemmas.{left_safe}
 use Rattle.trajdb.proofs.db.Db.close.Goals as goal
 
@@ -93,3 +93,18 @@ returns-clause-synced g c =
     let s = g.S.PageStore.seen c.close-store.result.0 in
     subst (λ r. OnOk r (c.args.self.begun ≡ true → IsSynced s)) (sym c.closed.ensures)
     (closed_synced (c.args.self.begun ≡ true) s c.close-store.result.1 c.close-store.ensures.synced)
+
+pub returns-then-failed-clause-ordered : goal.returns-then-failed-clause-ordered
+returns-then-failed-clause-ordered g c = λ lives.
+    let failed : c.self.inside.core.failed ≡ true = sym (λ i. (c.self-inside.view_is i).core.failed) ∙ c.if-failed.true in
+    absurd (false≢true (sym lives ∙ sym (ap (λ (d : DbView). d.failed) c.self.view_is) ∙ failed))
+
+pub returns-clause-ordered : goal.returns-clause-ordered
+returns-clause-ordered g c =
+    let s = g.S.PageStore.seen c.close-store.result.0 in
+    let answer = c.close-store.result.1 in
+    let index = c.into_parts-catalogue.ensures.index in
+    let first = subst (λ (x : IndexView). OnErr answer (IsMarked x.cache → IsUnfinishedStore s ⊎ IsSyncedButFirst s)) index c.close-store.ensures.ordered in
+    subst (λ r. OnErr r (c.args.self.failed ≡ false → IsMarked c.args.self.index.cache → IsUnfinishedStore s ⊎ IsSyncedButFirst s)) (sym c.closed.ensures)
+    (subst (λ (d : DbView). OnErr (closed_answer answer) (d.failed ≡ false → IsMarked d.index.cache → IsUnfinishedStore s ⊎ IsSyncedButFirst s)) c.self.view_is
+    (closed_ordered c.self.inside.core s answer first))
