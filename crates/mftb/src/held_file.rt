@@ -1,5 +1,5 @@
 //! A file of the system that a run holds open.
-ghost use Rattle.std.specs.Prelude.{None};
+ghost use Rattle.std.specs.Prelude.{true, None};
 
 use pages::ByteFile;
 use sessions::Cause;
@@ -8,7 +8,8 @@ use std::fs::{File, OpenFile};
 use std::io;
 use std::os::unix::fs::FileExt;
 
-/// A file of the system that is open, by its handle. No contract says which bytes it holds.
+/// A file of the system that is open, by its handle. No contract says which bytes it holds, nor
+/// that `sync` puts them on the disk: that it does is trusted.
 #[derive(Drop)]
 pub(crate) struct HeldFile<'a, F = File> {
     file: F,
@@ -41,6 +42,8 @@ impl<'a, F: FileExt + OpenFile> HeldFile<'a, F> {
 
 impl<'a, F: FileExt + OpenFile> ByteFile for HeldFile<'a, F> {
     ghost bytes = { λ _. None };
+
+    ghost is_synced = { λ _. true };
 
     fn len(&self) -> io::Result<u64> {
         Ok(self.file.metadata()?.len())

@@ -224,9 +224,11 @@ fn a_rest_is_no_page(rt: HostRuntime) -> Result<(), Fail> {
 struct Broken(u64);
 
 impl ByteFile for Broken {
-    ghost use Rattle.std.specs.Prelude.{None};
+    ghost use Rattle.std.specs.Prelude.{true, None};
 
     ghost bytes = { λ _. None };
+
+    ghost is_synced = { λ _. true };
 
     fn len(&self) -> io::Result<u64> {
         Ok(self.0)

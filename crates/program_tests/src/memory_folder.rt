@@ -4,7 +4,7 @@ ghost use Rattle.std.proofs.Common.{arith};
 ghost use Rattle.pages.specs.Store.{HasRisen};
 ghost use Rattle.sessions.specs.Folder.{pages_in};
 
-use pages::{PageStore, StoreFault};
+use pages::{PageStore, StoreFault, Unsynced};
 use sessions::{Fault, Folder, Lasting};
 use std::alloc::{AllocError, Global};
 use std::collections::VecDeque;
@@ -37,6 +37,7 @@ impl Calls {
 pub(crate) struct MemCopy {
     pages: Vec<[u8; 4096]>,
     faults: u64,
+    unsynced: Unsynced,
     calls: Calls,
     is_lasting: bool,
     ghost within: { vec_len pages < 2 ^ 32 },
@@ -46,6 +47,7 @@ impl MemCopy {
     /// Counts a fault.
     fn failed(&mut self) -> StoreFault
         ensures pages { self.new.pages ≡ self.old.pages }
+        ensures unsynced { self.new.unsynced ≡ self.old.unsynced }
         ensures cause { HasRisen self.old.faults self.new.faults }
         ensures faults { self.old.faults ≤ self.new.faults }
     {
@@ -61,6 +63,7 @@ impl PageStore for MemCopy {
       count = vec_len s.pages;
       most = 2 ^ 32 - 1;
       faults = s.faults;
+      unsynced = s.unsynced;
       is_faithful = true;
       pages = s.pages.items;
     } };
@@ -89,6 +92,7 @@ impl PageStore for MemCopy {
 
     fn write(&mut self, number: u32, page: &[u8; 4096]) -> Result<(), StoreFault> {
         self.is_lasting = false;
+        self.unsynced = self.unsynced.with_written(number);
         if self.calls.burns() {
             return Err(self.failed());
         }
@@ -107,6 +111,7 @@ impl PageStore for MemCopy {
         if self.calls.burns() {
             return Err(self.failed());
         }
+        self.unsynced = Unsynced::Nothing;
         Ok(())
     }
 }
@@ -208,6 +213,7 @@ impl Folder for MemFolder {
                 Ok(MemCopy {
                     pages,
                     faults: 0,
+                    unsynced: Unsynced::Others,
                     calls: self.calls,
                     is_lasting: false,
                 })

@@ -80,8 +80,8 @@ impl<S: PageStore> Db<S> {
     ghost use Rattle.legs.specs.Book.{Book};
     ghost use Rattle.legs.specs.Costs.{ShapeView};
     ghost use Rattle.legs.specs.Limits.{IsLimits, LimitsView};
-    ghost use Rattle.boxsearch.specs.Index.{words};
-    ghost use Rattle.pages.specs.Store.{IsSynced, Keeps, Stays, Store};
+    ghost use Rattle.boxsearch.specs.Index.{words, IsMarked};
+    ghost use Rattle.pages.specs.Store.{IsSynced, IsSyncedButFirst, Keeps, Stays, Store};
     ghost use Rattle.pagecache.specs.Cache.{stored_payload};
     ghost use Rattle.catalogue.specs.Holding.{HoldsBook, HoldsButFirst, IsUnfinishedStore};
     ghost use Rattle.register.specs.Lasting.{first_fault, IsKept};
