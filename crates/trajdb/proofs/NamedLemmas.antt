@@ -15,14 +15,16 @@ use Rattle.legs.specs.Tracks.{TracksView}
 use Rattle.tbtree.specs.Nodes.{Pages, pages_of_cache}
 use Rattle.tbtree.specs.declared.tree.Place.{Place}
 use Rattle.tbtree.specs.declared.tree.TbTree.{TbTree}
-use Rattle.treecheck.specs.Check.{AreChains, HoldChains, IsChecked}
-use Rattle.treecheck.specs.Naming.{HasHeader, IsFirstDamaged, IsFirstMalformed}
+use Rattle.tbtree.specs.Turn.{IsRising}
+use Rattle.treecheck.specs.Check.{first_on, AreChains, HoldChains, IsChecked, IsOver}
+use Rattle.treecheck.specs.Descent.{DescentStopsAt}
+use Rattle.treecheck.specs.Naming.{HasHeader, HoldList, IsFirstDamaged, IsFirstMalformed, IsOrder}
 use Rattle.treecheck.specs.Stopping.{AllStopAt}
 use Rattle.treecheck.proofs.WalkedLemmas.{same_pages}
 use Rattle.trajdb.specs.Calls.{Leaves}
 use Rattle.trajdb.specs.Checking.{IsFirstFault}
 use Rattle.trajdb.specs.Db.{DbView}
-use Rattle.treecheck.proofs.NamingLemmas.{has_payload}
+use Rattle.treecheck.proofs.NamingLemmas.{whole_malformed}
 use Rattle.trajdb.specs.Faults.{run_fault_of}
 use Rattle.trajdb.specs.declared.RunFault.TheVariants.{Damaged}
 
@@ -69,6 +71,19 @@ module _ (old new : Cache) (reads : OnlyReads old new) (fa : IsTrue old.store.is
       says = subst (SaysState begun) (sym (reads.payloads fa 0)) h.says;
     }
 
+    listed : HoldList old tree rows places tracks total → HoldList new tree rows places tracks total
+    listed k = (k.0, subst (λ nodes. HoldChains nodes tree.shape.leaf rows total places tracks.tracks k.0) (sym (same_pages old new reads fa)) k.1, k.2)
+
+    ordered : (order : List ℕ) → IsOrder old tree rows places tracks order → IsOrder new tree rows places tracks order
+    ordered order o =
+        let back = sym (same_pages old new reads fa) in
+        record {
+          chains = o.chains;
+          are_chains = subst (λ nodes. AreChains nodes tree.shape.leaf rows 0 places tracks.tracks o.chains) back o.are_chains;
+          ordered = o.ordered;
+          rises = subst (λ (nodes : Pages LegView BoxView). IsRising (first_on nodes) order) back o.rises;
+        }
+
     malformed_before : IsFirstMalformed begun tree rows total places tracks new n → IsFirstMalformed begun tree rows total places tracks old n
     malformed_before m =
         let pages = same_pages old new reads fa in
@@ -79,18 +94,10 @@ module _ (old new : Cache) (reads : OnlyReads old new) (fa : IsTrue old.store.is
           state = λ s no. m.state (reads.count ∙ s ∙ sym reads.length) (λ says. no (subst (SaysState begun) (reads.payloads fa 0) says));
           walk = λ h apart. subst (λ nodes. AllStopAt nodes tree.shape.leaf rows places tracks.tracks n) pages (m.walk (headed h) (λ k. apart (k.0, subst (λ nodes. chains nodes k.0) pages k.1)));
           list = λ h k apart. m.list (headed h) (k.0, subst (λ nodes. chains nodes k.0) (sym pages) k.1) (λ l. apart (l.0, subst (λ nodes. HoldChains nodes tree.shape.leaf rows total places tracks.tracks l.0) pages l.1, l.2));
+          descent = λ h k order o apart. subst (λ nodes. DescentStopsAt nodes tree order n) pages
+              (m.descent (headed h) (listed k) order (ordered order o) (λ ps over. apart ps (subst (λ nodes. IsOver nodes tree order ps) pages over)));
+          rest = λ h k order o ps over. m.rest (headed h) (listed k) order (ordered order o) ps (subst (λ nodes. IsOver nodes tree order ps) (sym pages) over);
         }
-
--- of pages that pass, page 0 may be named
-passed_malformed : (begun : Bool) (tree : TbTree) (rows total : ℕ) (places : List Place) (tracks : TracksView) (c : Cache) → IsChecked (pages_of_cache c) tree rows total places tracks.tracks → c.count ≡ c.store.count → SaysState begun (payload_of c 0)
-    → IsFirstMalformed begun tree rows total places tracks c 0
-passed_malformed begun tree rows total places tracks c k same says = record {
-  held = λ p l. has_payload c p (k.held p l);
-  counted = λ no. absurd (no same);
-  state = λ _ no. absurd (no says);
-  walk = λ _ apart. absurd (apart (k.chains, k.are_chains));
-  list = λ _ _ _. refl;
-}
 
 -- and of a database whose index was only read since
 module _ (old mid : DbView) (leaves : Leaves words old mid) (same : mid.index ≡ with_cache old.index mid.index.cache mid.index.known) (reads : OnlyReads old.index.cache mid.index.cache) (fa : IsTrue old.index.cache.store.is_faithful) (n : ℕ) where
@@ -112,5 +119,5 @@ module _ (old mid : DbView) (leaves : Leaves words old mid) (same : mid.index �
 pub passed_named : (mid new : DbView) → OnlyReads mid.index.cache new.index.cache → new.begun ≡ mid.begun → IsTrue mid.index.cache.store.is_faithful
     → IsChecked (pages_of_cache mid.index.cache) mid.index.tree (length mid.book.rows) mid.index.legs mid.index.places mid.tracks.tracks → IsSound new.index → SaysState new.begun (payload_of new.index.cache 0) → IsFirstFault mid 0
 passed_named mid new reads begun fa k s says =
-    inr (passed_malformed mid.begun mid.index.tree (length mid.book.rows) mid.index.legs mid.index.places mid.tracks mid.index.cache k (sym reads.count ∙ s.count ∙ reads.length)
+    inr (whole_malformed mid.begun mid.index.tree (length mid.book.rows) mid.index.legs mid.index.places mid.tracks mid.index.cache k (sym reads.count ∙ s.count ∙ reads.length)
     (subst (λ b. SaysState b (payload_of mid.index.cache 0)) begun (subst (SaysState new.begun) (reads.payloads fa 0) says)))

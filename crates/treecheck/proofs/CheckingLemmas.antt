@@ -158,23 +158,28 @@ module _ (nodes : Pages LegView BoxView) (tree : TbTree) (rows total : ℕ) (pla
     last_index = last;
   }
 
-  module _ (k : IsChecked nodes tree rows total places tracks) where
-    same_chains : sv.chains ≡ k.chains
-    same_chains = chains_once nodes tree.shape.leaf rows 0 places tracks sv.chains k.chains sv.are_chains k.are_chains
+  -- what a list of legs that the chains hold says of them
+  pub list_whole : (legs : List LegView) → HoldChains nodes tree.shape.leaf rows total places tracks legs → IsWhole places total survey
+  list_whole legs k =
+      let same : sv.chains ≡ k.chains = chains_once nodes tree.shape.leaf rows 0 places tracks sv.chains k.chains sv.are_chains k.are_chains in
+      let ordinals : List (List ℕ) → List ℕ = λ cs. map (λ (leg : LegView). leg.ordinal) (legs_on nodes (joined cs)) in
+      record {
+        some = k.some;
+        once = subst (λ ns. IsPermutation ns (range_with_len 0 total)) (ap ordinals (sym same) ∙ sym sv.ordinals)
+            (subst (IsPermutation (ordinals k.chains)) k.numbered (IsPermutation-map (λ (leg : LegView). leg.ordinal) (legs_on nodes (joined k.chains)) legs k.moved));
+        firsts = subst (IsRising (λ n. n)) (ap (map (λ pages. first_ordinal (legs_on nodes pages))) (sym same) ∙ sym sv.firsts) (rising_map (λ pages. first_ordinal (legs_on nodes pages)) (λ n. n) k.chains k.firsts);
+      }
 
-    pub whole : IsWhole places total survey
-    whole = record {
-      some = k.some;
-      once = subst (λ ns. IsPermutation ns (range_with_len 0 total)) (ap (λ cs. map (λ leg. leg.ordinal) (legs_on nodes (joined cs))) (sym same_chains) ∙ sym sv.ordinals) k.once;
-      firsts = subst (IsRising (λ n. n)) (ap (map (λ pages. first_ordinal (legs_on nodes pages))) (sym same_chains) ∙ sym sv.firsts) (rising_map (λ pages. first_ordinal (legs_on nodes pages)) (λ n. n) k.chains k.firsts);
-    }
+  -- leaves that rise by their first legs are in the only order that does
+  module _ (chains : List (List ℕ)) (are_chains : AreChains nodes tree.shape.leaf rows 0 places tracks chains) (order : List ℕ) (permuted : IsPermutation (joined chains) order) (rising : IsRising (first_on nodes) order) where
+    chains_same : sv.chains ≡ chains
+    chains_same = chains_once nodes tree.shape.leaf rows 0 places tracks sv.chains chains sv.are_chains are_chains
 
-    -- the order of the tree, which is the only one of the firsts
     module _ (in_order : (number : ℕ → ℕ) (rising ordered : List ℕ) → IsRising number rising → IsPermutation rising ordered → IsNonDecreasingBy number ordered → ordered ≡ rising) (rises : IsNonDecreasingBy (λ (m : Met). m.first) leaves) where
-      same_order : map page_of leaves ≡ k.order
-      same_order =
-          in_order (first_on nodes) k.order (map page_of leaves) k.rises
-          (IsPermutation-trans k.order (joined k.chains) (map page_of leaves) (IsPermutation-sym (joined k.chains) k.order k.ordered) (subst (λ cs. IsPermutation (joined cs) (map page_of leaves)) same_chains ordered))
+      pub order_same : map page_of leaves ≡ order
+      order_same =
+          in_order (first_on nodes) order (map page_of leaves) rising
+          (IsPermutation-trans order (joined chains) (map page_of leaves) (IsPermutation-sym (joined chains) order permuted) (subst (λ cs. IsPermutation (joined cs) (map page_of leaves)) chains_same ordered))
           (up_map leaves firsts_are rises)
         where
           up_map : (ms : List Met) → All (λ (m : Met). m.first ≡ first_on nodes m.page) ms → IsNonDecreasingBy (λ (m : Met). m.first) ms → IsNonDecreasingBy (first_on nodes) (map page_of ms)
@@ -191,9 +196,28 @@ module _ (nodes : Pages LegView BoxView) (tree : TbTree) (rows total : ℕ) (pla
               let vj = ap (first_on nodes) (at_default (map page_of ms) j b.page d (map_at ms j b (slice_get-get_or ms j x lj))) in
               omega (arith, up, fi, fj, vi, vj)
 
+      pub order_strict : IsRising (λ (m : Met). m.first) leaves
+      order_strict = rising_same (λ (m : Met). first_on nodes m.page) (λ (m : Met). m.first) leaves (All-weaker (λ (m : Met). m.first ≡ first_on nodes m.page) (λ (m : Met). first_on nodes m.page ≡ m.first) (λ m h. sym h) leaves firsts_are)
+          (rising_unmap page_of (first_on nodes) leaves (subst (IsRising (first_on nodes)) (sym order_same) rising))
+
+  module _ (k : IsChecked nodes tree rows total places tracks) where
+    same_chains : sv.chains ≡ k.chains
+    same_chains = chains_once nodes tree.shape.leaf rows 0 places tracks sv.chains k.chains sv.are_chains k.are_chains
+
+    pub whole : IsWhole places total survey
+    whole = record {
+      some = k.some;
+      once = subst (λ ns. IsPermutation ns (range_with_len 0 total)) (ap (λ cs. map (λ leg. leg.ordinal) (legs_on nodes (joined cs))) (sym same_chains) ∙ sym sv.ordinals) k.once;
+      firsts = subst (IsRising (λ n. n)) (ap (map (λ pages. first_ordinal (legs_on nodes pages))) (sym same_chains) ∙ sym sv.firsts) (rising_map (λ pages. first_ordinal (legs_on nodes pages)) (λ n. n) k.chains k.firsts);
+    }
+
+    -- the order of the tree, which is the only one of the firsts
+    module _ (in_order : (number : ℕ → ℕ) (rising ordered : List ℕ) → IsRising number rising → IsPermutation rising ordered → IsNonDecreasingBy number ordered → ordered ≡ rising) (rises : IsNonDecreasingBy (λ (m : Met). m.first) leaves) where
+      same_order : map page_of leaves ≡ k.order
+      same_order = order_same k.chains k.are_chains k.order k.ordered k.rises in_order rises
+
       pub strict : IsRising (λ (m : Met). m.first) leaves
-      strict = rising_same (λ (m : Met). first_on nodes m.page) (λ (m : Met). m.first) leaves (All-weaker (λ (m : Met). m.first ≡ first_on nodes m.page) (λ (m : Met). first_on nodes m.page ≡ m.first) (λ m h. sym h) leaves firsts_are)
-          (rising_unmap page_of (first_on nodes) leaves (subst (IsRising (first_on nodes)) (sym same_order) k.rises))
+      strict = order_strict k.chains k.are_chains k.order k.ordered k.rises in_order rises
 
       pub over : IsOver nodes tree (map page_of leaves) k.pages
       over = subst (λ order. IsOver nodes tree order k.pages) (sym same_order) k.over

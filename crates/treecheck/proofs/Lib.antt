@@ -5,6 +5,7 @@ pub mod HeldChains
 pub mod HeldTree
 pub mod LeafChains
 pub mod CheckingLemmas
+pub mod DescentLemmas
 pub mod GroupLemmas
 pub mod LevelsLemmas
 pub mod NamingLemmas

@@ -1,5 +1,5 @@
 -- Which page a check names.
-use Rattle.std.proofs.Common.{ℕ, zero, suc, Bool, ◌≡◌, ◌≢◌, ◌<◌, List, length, None, Result, Ok, Err, inl, inr, refl, ap, subst, arith, IsTrue}
+use Rattle.std.proofs.Common.{ℕ, zero, suc, Bool, ◌≡◌, ◌≢◌, ◌<◌, ◌∙◌, List, [], ◌∷◌, length, filter, true, None, Result, Ok, Err, inl, inr, refl, sym, ap, subst, arith, IsTrue}
 use Rattle.std.specs.Option.{option_map}
 use Rattle.std.specs.Prelude.{IfErr, IsErrOf, ◌⊎◌}
 use Rattle.legs.specs.declared.index.IndexFault.{IndexFault}
@@ -9,7 +9,7 @@ use Rattle.pagecache.specs.declared.fault.CacheFault.{CacheFault}
 use Rattle.pagecache.specs.declared.fault.CacheFault.TheVariants as cache
 use Rattle.tbnode.specs.Form.{node_of}
 use Rattle.chains.specs.Chains.{AreHeld}
-use Rattle.tbtree.specs.Nodes.{pages_of_cache}
+use Rattle.tbtree.specs.Nodes.{Pages, pages_of_cache}
 use Rattle.boxsearch.specs.Answers.{answered, of_cache, of_search}
 use Rattle.boxsearch.specs.Faults.{IsAllowed, IsCaused, IsCausedInCache, IfNamedInCache}
 use Rattle.boxsearch.specs.Index.{SaysState}
@@ -18,7 +18,18 @@ use Rattle.boxsearch.specs.declared.fault.SearchFault.TheVariants.{Cache as OfCa
 use Rattle.legs.specs.Tracks.{TracksView}
 use Rattle.tbtree.specs.declared.tree.Place.{Place}
 use Rattle.tbtree.specs.declared.tree.TbTree.{TbTree}
-use Rattle.treecheck.specs.Naming.{HoldLeaves, HoldList, IfMalformed, IsFirstDamaged, IsFirstMalformed, IsMiscounted, Names}
+use Rattle.treecheck.specs.Naming.{HoldLeaves, HoldList, IfMalformed, IsFirstDamaged, IsFirstMalformed, IsMiscounted, IsOrder, Names}
+use Rattle.legs.specs.Boxes.{BoxView}
+use Rattle.legs.specs.Legs.{LegView}
+use Rattle.std.specs.List.Sorted.{IsPermutation}
+use Rattle.std.proofs.lemmas.List.Sorted.{IsPermutation-trans, IsPermutation-sym}
+use Rattle.legs.specs.Blocks.{joined}
+use Rattle.tbtree.specs.Turn.{IsRising}
+use Rattle.tbtree.proofs.RisingLists.{own_order, rising_up}
+use Rattle.treecheck.specs.Check.{first_on, IsChecked, IsOver}
+use Rattle.treecheck.proofs.CheckingLemmas.{chains_once}
+use Rattle.treecheck.specs.Descent.{DescentStopsAt}
+use Rattle.treecheck.proofs.SurveyLemmas.{as_many}
 use Rattle.treecheck.specs.Stopping.{AllStopAt}
 
 -- a page that says a node has a payload
@@ -33,6 +44,8 @@ miscounted begun tree rows total places tracks c n m = record {
   state = λ same _. none n c.count m.counted (λ some. m.other some same);
   walk = λ h. absurd (m.other h.some h.same);
   list = λ h. absurd (m.other h.some h.same);
+  descent = λ h. absurd (m.other h.some h.same);
+  rest = λ h. absurd (m.other h.some h.same);
 }
   where
     none : (n count : ℕ) → n ≡ count → (0 < count → ⊥) → n ≡ 0
@@ -65,29 +78,69 @@ module _ (begun : Bool) (tree : TbTree) (rows total : ℕ) (places : List Place)
     state = λ _ _. k;
     walk = λ h. absurd (o h.says);
     list = λ h. absurd (o h.says);
+    descent = λ h. absurd (o h.says);
+    rest = λ h. absurd (o h.says);
   }
   state_named Spent c o k = tt
   state_named Memory c o k = tt
 
+  abbrev nodes : Pages LegView BoxView
+  nodes = pages_of_cache old
+
+  abbrev Holds : Type 0
+  Holds = HoldList old tree rows places tracks total
+
+  abbrev Orders : List ℕ → Type 0
+  Orders order = IsOrder old tree rows places tracks order
+
   -- what is to be known of the page that is named later
   pub record IsLater (n : ℕ) : Type 0 where
-    pub walk : (HoldLeaves old tree rows places tracks → ⊥) → AllStopAt (pages_of_cache old) tree.shape.leaf rows places tracks.tracks n
-    pub list : HoldLeaves old tree rows places tracks → (HoldList old tree rows places tracks total → ⊥) → n ≡ 0
+    pub walk : (HoldLeaves old tree rows places tracks → ⊥) → AllStopAt nodes tree.shape.leaf rows places tracks.tracks n
+    pub list : HoldLeaves old tree rows places tracks → (Holds → ⊥) → n ≡ 0
+    pub descent : Holds → (order : List ℕ) → Orders order → ((pages : ℕ → List ℕ) → IsOver nodes tree order pages → ⊥) → DescentStopsAt nodes tree order n
+    pub rest : Holds → (order : List ℕ) → Orders order → (pages : ℕ → List ℕ) → IsOver nodes tree order pages → n ≡ 0
+
+  few_places : Holds → length places < 4294967296
+  few_places k =
+      let many = as_many nodes tree.shape.leaf rows 0 places tracks.tracks k.1.chains k.1.are_chains in
+      let paired = k.2.paired in
+      let few = k.2.few_names in
+      omega (arith, many, paired, few)
 
   -- the walk names the page at which it stops
-  pub walk_later : (fault : SearchFault) → IfMalformed (AllStopAt (pages_of_cache old) tree.shape.leaf rows places tracks.tracks) fault
+  pub walk_later : (fault : SearchFault) → IfMalformed (AllStopAt nodes tree.shape.leaf rows places tracks.tracks) fault
       → (length places < 4294967296 → HoldLeaves old tree rows places tracks → IsAllowed fault) → IfMalformed IsLater fault
   walk_later (OfCache fault) s o = tt
-  walk_later (Malformed n) s o = record { walk = λ _. s; list = λ h _. s.unpaired (λ both. o both.few h) }
+  walk_later (Malformed n) s o = record {
+    walk = λ _. s;
+    list = λ h _. s.unpaired (λ both. o both.few h);
+    descent = λ k _ _ _. absurd (o (few_places k) (k.1.chains, k.1.are_chains));
+    rest = λ k _ _ _ _. absurd (o (few_places k) (k.1.chains, k.1.are_chains));
+  }
   walk_later Spent s o = tt
   walk_later Memory s o = tt
 
-  -- where it passes, page 0 is named, as long as the legs are not one list
-  pub zero_later : HoldLeaves old tree rows places tracks → IsLater 0
-  zero_later h = record { walk = λ apart. absurd (apart h); list = λ _ _. refl }
+  -- where it passes, page 0 is named, but for the pages of the tree
+  pub zero_later : HoldLeaves old tree rows places tracks → (Holds → (order : List ℕ) → Orders order → ((pages : ℕ → List ℕ) → IsOver nodes tree order pages → ⊥) → ⊥) → IsLater 0
+  zero_later h apart = record {
+    walk = λ none. absurd (none h);
+    list = λ _ _. refl;
+    descent = λ k order o none. absurd (apart k order o none);
+    rest = λ _ _ _ _ _. refl;
+  }
 
-  pub tree_later : HoldLeaves old tree rows places tracks → HoldList old tree rows places tracks total → (n : ℕ) → IsLater n
-  tree_later h k n = record { walk = λ apart. absurd (apart h); list = λ _ apart. absurd (apart k) }
+  -- and the page at which the way down the tree stops
+  pub tree_later : HoldLeaves old tree rows places tracks → Holds → (leaves : List ℕ) → ((order : List ℕ) → Orders order → leaves ≡ order)
+      → (fault : SearchFault) → IfMalformed (DescentStopsAt nodes tree leaves) fault → ((pages : ℕ → List ℕ) → IsOver nodes tree leaves pages → IsAllowed fault) → IfMalformed IsLater fault
+  tree_later h k leaves is (OfCache fault) s o = tt
+  tree_later h k leaves is (Malformed n) s o = record {
+    walk = λ none. absurd (none h);
+    list = λ _ apart. absurd (apart k);
+    descent = λ _ order q _. subst (λ order. DescentStopsAt nodes tree order n) (is order q) s;
+    rest = λ _ order q pages over. absurd (o pages (subst (λ order. IsOver nodes tree order pages) (sym (is order q)) over));
+  }
+  tree_later h k leaves is Spent s o = tt
+  tree_later h k leaves is Memory s o = tt
 
   -- and once page 0 said it
   pub later_named : SaysState begun (payload_of old 0) → (fault : SearchFault) → IsCaused old new fault → IfMalformed IsLater fault → Names (IsFirstDamaged old) Malforms fault
@@ -98,15 +151,41 @@ module _ (begun : Bool) (tree : TbTree) (rows total : ℕ) (places : List Place)
     state = λ _ no. absurd (no says);
     walk = λ _. l.walk;
     list = λ _. l.list;
+    descent = λ _. l.descent;
+    rest = λ _. l.rest;
   }
   later_named says Spent c l = tt
   later_named says Memory c l = tt
 
-pub all_malformed : (P : ℕ → Type 0) → ((n : ℕ) → P n) → (fault : SearchFault) → IfMalformed P fault
-all_malformed P f (OfCache fault) = tt
-all_malformed P f (Malformed n) = f n
-all_malformed P f Spent = tt
-all_malformed P f Memory = tt
+all_pass : (xs : List ℕ) → filter (λ _. true) xs ≡ xs
+all_pass [] = refl
+all_pass (x ∷ xs) = ap (λ l. x ∷ l) (all_pass xs)
+
+-- pages that rise by their numbers are in one order alone
+one_order : (num : ℕ → ℕ) (a b : List ℕ) → IsRising num a → IsRising num b → IsPermutation a b → b ≡ a
+one_order num a b r q m = sym (all_pass b) ∙ own_order num (λ _. true) a a b r m (all_pass a) (rising_up num b q)
+
+-- of pages that are found whole, page 0 is the first malformed
+pub whole_malformed : (begun : Bool) (tree : TbTree) (rows total : ℕ) (places : List Place) (tracks : TracksView) (c : Cache) → IsChecked (pages_of_cache c) tree rows total places tracks.tracks → c.count ≡ c.store.count → SaysState begun (payload_of c 0)
+    → IsFirstMalformed begun tree rows total places tracks c 0
+whole_malformed begun tree rows total places tracks c k same says = record {
+  held = λ p l. has_payload c p (k.held p l);
+  counted = λ no. absurd (no same);
+  state = λ _ no. absurd (no says);
+  walk = λ _ apart. absurd (apart (k.chains, k.are_chains));
+  list = λ _ _ _. refl;
+  descent = λ _ _ order o apart. absurd (apart k.pages (subst (λ order. IsOver nodes tree order k.pages) (sym (order_is order o)) k.over));
+  rest = λ _ _ _ _ _ _. refl;
+}
+  where
+    nodes : Pages LegView BoxView
+    nodes = pages_of_cache c
+
+    order_is : (order : List ℕ) → IsOrder c tree rows places tracks order → order ≡ k.order
+    order_is order o =
+        let chains : o.chains ≡ k.chains = chains_once nodes tree.shape.leaf rows 0 places tracks.tracks o.chains k.chains o.are_chains k.are_chains in
+        one_order (first_on nodes) k.order order k.rises o.rises
+        (IsPermutation-trans k.order (joined k.chains) order (IsPermutation-sym (joined k.chains) k.order k.ordered) (subst (λ cs. IsPermutation (joined cs) order) chains o.ordered))
 
 -- the page that an index says is damaged is one of both
 module _ (old new : Cache) (P Q : ℕ → Type 0) where

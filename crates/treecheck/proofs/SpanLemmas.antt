@@ -4,7 +4,8 @@ use Rattle.std.proofs.Math.Nat.{pow-suc, one-le-pow, mul-div_cancel}
 use Rattle.legs.specs.Boxes.{BoxView}
 use Rattle.legs.specs.Legs.{LegView}
 use Rattle.tbtree.specs.Nodes.{Pages}
-use Rattle.treecheck.specs.Levels.{named_below, AllStandAbove}
+use Rattle.treecheck.specs.Descent.{IsFirstWithout}
+use Rattle.treecheck.specs.Levels.{named_below, AllStandAbove, IsInBlock, IsInLevel}
 use Rattle.treecheck.specs.declared.walking.Met.{Met}
 
 pub pow_above : (inner k : ℕ) → 0 < inner → 0 < inner ^ k
@@ -47,3 +48,16 @@ module _ (nodes : Pages LegView BoxView) (inner height level span root : ℕ) (l
       (subst (λ m. AllStandAbove nodes (suc k) m span leaves pages) (sym w)
       (subst (λ m. AllStandAbove nodes (suc k) (inner ^ k) m leaves pages) (sym (p ∙ ap (λ n. inner ^ n) a))
       (subst (λ xs. AllStandAbove nodes (suc k) (inner ^ k) (inner ^ suc k) leaves xs) (sym (q ∙ ap (named_below nodes root) (sym s))) all)))
+
+  pub level_stops : (k n : ℕ) → 0 < inner → n + suc k ≡ height → n ≡ level → span ≡ inner ^ (height - level) → pages ≡ named_below nodes root level
+      → (page : ℕ) → IsFirstWithout (IsInBlock nodes (height - level) (span / inner) span leaves) pages page
+      → IsFirstWithout (IsInLevel nodes inner leaves k) (named_below nodes root n) page
+  level_stops k n h e s p q page f =
+      let a : height - level ≡ suc k = omega (arith, e, s) in
+      let b : height - (level + 1) ≡ k = omega (arith, e, s) in
+      let l : level < height = omega (arith, e, s) in
+      let w : span / inner ≡ inner ^ k = span_down inner height level span h l p ∙ ap (λ n. inner ^ n) b in
+      subst (λ xs. IsFirstWithout (IsInLevel nodes inner leaves k) xs page) (q ∙ ap (named_below nodes root) (sym s))
+      (subst (λ m. IsFirstWithout (IsInBlock nodes (suc k) (inner ^ k) m leaves) pages page) (p ∙ ap (λ n. inner ^ n) a)
+      (subst (λ m. IsFirstWithout (IsInBlock nodes (suc k) m span leaves) pages page) w
+      (subst (λ m. IsFirstWithout (IsInBlock nodes m (span / inner) span leaves) pages page) a f)))

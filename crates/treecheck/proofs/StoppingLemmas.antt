@@ -1,5 +1,6 @@
 -- At which page the walk along a chain stops.
-use Rattle.std.proofs.Common.{◌≡◌, ℕ, ◌+◌, ◌-◌, ◌<◌, List, [], ◌∷◌, ◌++◌, length, min, refl, sym, ap, ◌∙◌, arith, subst, append_assoc, slice_get, below_more, Some}
+use Rattle.std.proofs.Common.{◌≡◌, ℕ, ◌+◌, ◌-◌, ◌<◌, List, [], ◌∷◌, ◌++◌, length, min, refl, sym, ap, ◌∙◌, arith, subst, append_assoc, slice_get, below_more, Some, Result, Ok, Err}
+use Rattle.std.specs.Prelude.{IfErr}
 use Rattle.std.proofs.lemmas.List.{append-nil, length-append}
 use Rattle.std.proofs.lemmas.List.Concat.{flat_map-append}
 use Rattle.legs.specs.Boxes.{BoxView}
@@ -20,6 +21,10 @@ malformed_map P Q f (OfCache fault) h = tt
 malformed_map P Q f (Malformed n) h = f n h
 malformed_map P Q f Spent h = tt
 malformed_map P Q f Memory h = tt
+
+pub refused_map : (P Q : ℕ → Type 0) → ((n : ℕ) → P n → Q n) → (r : Result (Unit {0}) SearchFault) → IfErr r (IfMalformed P) → IfErr r (IfMalformed Q)
+refused_map P Q f (Ok x) h = tt
+refused_map P Q f (Err fault) h = malformed_map P Q f fault h
 
 module _ (nodes : Pages LegView BoxView) (most f : ℕ) (place : Place) where
   after_push : (d q : ℕ) (xs : List ℕ) → page_after nodes d (xs ++ q ∷ []) ≡ next_in (nodes.at q)

@@ -1,5 +1,6 @@
 pub mod Check
 pub mod Checking
+pub mod Descent
 pub mod Levels
 pub mod Naming
 pub mod Ordering

@@ -10,7 +10,9 @@ ghost use Rattle.tbtree.specs.Descent.{entries_in};
 ghost use Rattle.tbtree.specs.Nodes.{pages_of_cache, AnInner, InnerView, boxes, children};
 ghost use Rattle.pagecache.specs.Cache.{Cache};
 ghost use Rattle.boxsearch.specs.Faults.{IsAllowed, IsCaused};
-ghost use Rattle.treecheck.specs.Levels.{cover_of_leaves, pages_of_leaves, named_by, AllStandAbove, IsAbove, IsHeight, LevelsStandAbove, StandsAbove, StandsOver};
+ghost use Rattle.treecheck.specs.Descent.{DescentStopsAt, IsFirstWithout, IsHighestWithout};
+ghost use Rattle.treecheck.specs.Levels.{cover_of_leaves, pages_of_leaves, named_below, named_by, AllStandAbove, IsAbove, IsHeight, IsInBlock, IsInLevel, LevelsStandAbove, StandsAbove, StandsOver};
+ghost use Rattle.treecheck.specs.Naming.{IfMalformed};
 ghost use Rattle.treecheck.specs.Walking.{IsMet};
 ghost use Rattle.boxsearch.specs.declared.fault.SearchFault.{SearchFault};
 
@@ -125,6 +127,9 @@ fn take_inner(
         ≡ below.old.items ++ map (λ e. e.child) (entries_in (Some (node_of payload.now)))) }
     ensures only { (inner : InnerView BoxView) → node_of payload.now ≡ Some (AnInner inner)
         → IsAbove level width leaves.now inner → IfErr result IsAllowed }
+    ensures stops { IfErr result (IfMalformed (λ n. (n ≡ page)
+        × ((inner : InnerView BoxView) → node_of payload.now ≡ Some (AnInner inner)
+        → IsAbove level width leaves.now inner → ⊥))) }
     ensures caused { (old new : Cache) → IfErr result (IsCaused old new) }
     ensures works { IfErr result (λ fault. fault ≢ SearchFault.Spent) }
 {
@@ -156,6 +161,9 @@ fn take_page<S: PageStore>(
     ensures only { IsTrue cache.old.store.is_faithful
         → StandsAbove (pages_of_cache cache.old) level width leaves.now page
         → IfErr result IsAllowed }
+    ensures stops { IsTrue cache.old.store.is_faithful
+        → IfErr result (IfMalformed (λ n. (n ≡ page)
+        × (StandsAbove (pages_of_cache cache.old) level width leaves.now page → ⊥))) }
     ensures reads { OnlyReads cache.old cache.new }
     ensures caused { IfErr result (IsCaused cache.old cache.new) }
     ensures works { IfErr result (λ fault. fault ≢ SearchFault.Spent) }
@@ -192,6 +200,9 @@ fn level_below<S: PageStore>(
     ensures only { IsTrue cache.old.store.is_faithful
         → AllStandAbove (pages_of_cache cache.old) level width span leaves.now pages.now
         → IfErr result IsAllowed }
+    ensures stops { IsTrue cache.old.store.is_faithful
+        → IfErr result (IfMalformed (IsFirstWithout
+        (IsInBlock (pages_of_cache cache.old) level width span leaves.now) pages.now)) }
     ensures reads { OnlyReads cache.old cache.new }
     ensures caused { IfErr result (IsCaused cache.old cache.new) }
     ensures works { IfErr result (λ fault. fault ≢ SearchFault.Spent) }
@@ -223,6 +234,10 @@ fn check_levels<S: PageStore>(
     ensures only { IsTrue cache.old.store.is_faithful
         → LevelsStandAbove (pages_of_cache cache.old) inner height root leaves.now
         → IfErr result IsAllowed }
+    ensures stops { IsTrue cache.old.store.is_faithful
+        → IfErr result (IfMalformed (IsHighestWithout
+        (IsInLevel (pages_of_cache cache.old) inner leaves.now)
+        (named_below (pages_of_cache cache.old) root) height)) }
     ensures reads { OnlyReads cache.old cache.new }
     ensures caused { IfErr result (IsCaused cache.old cache.new) }
     ensures works { IfErr result (λ fault. fault ≢ SearchFault.Spent) }
@@ -285,6 +300,10 @@ pub fn check_tree<S: PageStore>(
         → (pages : ℕ → List ℕ)
         → IsOver (pages_of_cache cache.old) tree.now (pages_of_leaves leaves.now) pages
         → IfErr result IsAllowed }
+    ensures stops { IsTrue cache.old.store.is_faithful
+        → All (λ m. IsMet ((pages_of_cache cache.old).at m.page) m) leaves.now
+        → IfErr result (IfMalformed (DescentStopsAt (pages_of_cache cache.old) tree.now
+        (pages_of_leaves leaves.now))) }
     ensures reads { OnlyReads cache.old cache.new }
     ensures caused { IfErr result (IsCaused cache.old cache.new) }
     ensures works { IfErr result (λ fault. fault ≢ SearchFault.Spent) }

@@ -15,11 +15,13 @@ use Rattle.treecheck.specs.Ordering.{NameLast}
 use Rattle.treecheck.specs.declared.walking.Met.{Met}
 use Rattle.boxsearch.proofs.ReadLemmas.{caused_after, reads_trans}
 use Rattle.boxsearch.specs.declared.fault.SearchFault.TheVariants.{Malformed}
-use Rattle.treecheck.specs.Naming.{HoldLeaves, HoldList, IfMalformed, IsFirstDamaged, IsFirstMalformed, IsMiscounted}
+use Rattle.treecheck.specs.Naming.{HoldLeaves, HoldList, IfMalformed, IsFirstDamaged, IsFirstMalformed, IsMiscounted, IsOrder}
+use Rattle.treecheck.specs.Descent.{DescentStopsAt}
+use Rattle.std.proofs.Common.{ℕ, List, ◌≡◌}
 use Rattle.treecheck.specs.Stopping.{AllStopAt}
-use Rattle.treecheck.proofs.NamingLemmas.{all_malformed, has_payload, later_named, miscounted, names_map, state_named, tree_later, walk_later, zero_later}
+use Rattle.treecheck.proofs.NamingLemmas.{has_payload, later_named, miscounted, names_map, state_named, tree_later, walk_later, zero_later}
 use Rattle.treecheck.proofs.WalkedLemmas.{same_pages}
-use Rattle.treecheck.proofs.CheckingLemmas.{checked, list_of, are_met, within, whole, strict, over, last}
+use Rattle.treecheck.proofs.CheckingLemmas.{checked, list_of, list_whole, order_same, order_strict, are_met, within, whole, strict, over, last}
 use Rattle.treecheck.proofs.checking.check_pages.Goals as goal
 
 pub returns-in_err-survey-clause-only : goal.returns-in_err-survey-clause-only
@@ -201,8 +203,9 @@ returns-then-not-is_whole-clause-named g c = λ fa.
     let survey = c.in_ok-survey.survey in
     let sv = subst (λ nodes. Surveys nodes tree.shape.leaf rows places tracks.tracks survey) (same_pages old c.check_state.new.cache reads fa)
     (subst (λ n. Surveys (pages_of_cache c.check_state.new.cache) n rows places tracks.tracks survey) most (c.in_ok-survey.ensures.surveyed (reads.store.faithful ∙ fa))) in
-    let leaves : HoldLeaves old tree rows places tracks = (sv.chains, sv.are_chains) in
-    later_named c.args.begun tree rows total places tracks old old fa held some count says (Malformed 0) tt (zero_later c.args.begun tree rows total places tracks old old fa held some count leaves)
+    let chains : HoldLeaves old tree rows places tracks = (sv.chains, sv.are_chains) in
+    later_named c.args.begun tree rows total places tracks old old fa held some count says (Malformed 0) tt (zero_later c.args.begun tree rows total places tracks old old fa held some count chains
+    (λ k _ _ _. true≢false (sym (c.is_whole.ensures.only (list_whole (pages_of_cache old) tree rows total places tracks.tracks survey survey.leaves.items sv (IsPermutation-refl survey.leaves.items) k.0 k.1)) ∙ c.if-not-is_whole.true)))
 
 pub returns-then-not-agree-clause-named : goal.returns-then-not-agree-clause-named
 returns-then-not-agree-clause-named g c = λ fa.
@@ -222,8 +225,9 @@ returns-then-not-agree-clause-named g c = λ fa.
     let survey = c.in_ok-survey.survey in
     let sv = subst (λ nodes. Surveys nodes tree.shape.leaf rows places tracks.tracks survey) (same_pages old c.check_state.new.cache reads fa)
     (subst (λ n. Surveys (pages_of_cache c.check_state.new.cache) n rows places tracks.tracks survey) most (c.in_ok-survey.ensures.surveyed (reads.store.faithful ∙ fa))) in
-    let leaves : HoldLeaves old tree rows places tracks = (sv.chains, sv.are_chains) in
-    later_named c.args.begun tree rows total places tracks old old fa held some count says (Malformed 0) tt (zero_later c.args.begun tree rows total places tracks old old fa held some count leaves)
+    let chains : HoldLeaves old tree rows places tracks = (sv.chains, sv.are_chains) in
+    later_named c.args.begun tree rows total places tracks old old fa held some count says (Malformed 0) tt (zero_later c.args.begun tree rows total places tracks old old fa held some count chains
+    (λ k _ _ _. true≢false (sym (c.agree.ensures.1 k.2) ∙ c.if-not-agree.true)))
 
 pub returns-then-not-put_in_order-clause-named : goal.returns-then-not-put_in_order-clause-named
 returns-then-not-put_in_order-clause-named g c = λ fa.
@@ -243,29 +247,15 @@ returns-then-not-put_in_order-clause-named g c = λ fa.
     let survey = c.in_ok-survey.survey in
     let sv = subst (λ nodes. Surveys nodes tree.shape.leaf rows places tracks.tracks survey) (same_pages old c.check_state.new.cache reads fa)
     (subst (λ n. Surveys (pages_of_cache c.check_state.new.cache) n rows places tracks.tracks survey) most (c.in_ok-survey.ensures.surveyed (reads.store.faithful ∙ fa))) in
-    let leaves : HoldLeaves old tree rows places tracks = (sv.chains, sv.are_chains) in
-    later_named c.args.begun tree rows total places tracks old old fa held some count says (Malformed 0) tt (zero_later c.args.begun tree rows total places tracks old old fa held some count leaves)
-
-pub returns-then-not-name_last-clause-named : goal.returns-then-not-name_last-clause-named
-returns-then-not-name_last-clause-named g c = λ fa.
-    let old = c.args.cache.now in
-    let tree = c.args.tree.now in
-    let rows = c.args.rows in
-    let total = c.args.legs in
-    let places = c.args.places.now in
-    let tracks = c.args.tracks.now in
-    let held = c.in_ok-read_pages.ensures.held fa in
-    let some = c.in_ok-read_pages.ensures.some in
-    let count = c.in_ok-read_pages.ensures.count in
-    let first = c.read_pages.ensures.reads in
-    let says = subst (SaysState c.args.begun) (first.payloads fa 0) (c.in_ok-check_state.ensures.says (first.store.faithful ∙ fa)) in
-    let reads = reads_trans old c.read_pages.new.cache c.check_state.new.cache first c.check_state.ensures.reads in
-    let most = c.from-most.ensures ∙ c.leaf.ensures.value in
-    let survey = c.in_ok-survey.survey in
-    let sv = subst (λ nodes. Surveys nodes tree.shape.leaf rows places tracks.tracks survey) (same_pages old c.check_state.new.cache reads fa)
-    (subst (λ n. Surveys (pages_of_cache c.check_state.new.cache) n rows places tracks.tracks survey) most (c.in_ok-survey.ensures.surveyed (reads.store.faithful ∙ fa))) in
-    let leaves : HoldLeaves old tree rows places tracks = (sv.chains, sv.are_chains) in
-    later_named c.args.begun tree rows total places tracks old old fa held some count says (Malformed 0) tt (zero_later c.args.begun tree rows total places tracks old old fa held some count leaves)
+    let chains : HoldLeaves old tree rows places tracks = (sv.chains, sv.are_chains) in
+    let leaves = c.put_in_order.new.survey.leaves.items in
+    let moved : IsPermutation survey.leaves.items leaves = subst (λ v. IsPermutation v.items leaves) c.is_whole.ensures.leaves c.put_in_order.ensures.moved in
+    let in_order = c.laws.ensures.in_order in
+    let rises = c.put_in_order.ensures.rises in
+    later_named c.args.begun tree rows total places tracks old old fa held some count says (Malformed 0) tt (zero_later c.args.begun tree rows total places tracks old old fa held some count chains
+    (λ k order o _.
+    let r = order_strict (pages_of_cache old) tree rows total places tracks.tracks survey leaves sv moved o.chains o.are_chains order o.ordered o.rises in_order rises in
+    true≢false (sym (c.put_in_order.ensures.strict.1 r) ∙ c.if-not-put_in_order.true)))
 
 pub returns-in_err-check_tree-clause-named : goal.returns-in_err-check_tree-clause-named
 returns-in_err-check_tree-clause-named g c = λ fa.
@@ -286,14 +276,68 @@ returns-in_err-check_tree-clause-named g c = λ fa.
     let survey = c.in_ok-survey.survey in
     let sv = subst (λ nodes. Surveys nodes tree.shape.leaf rows places tracks.tracks survey) (same_pages old c.check_state.new.cache reads fa)
     (subst (λ n. Surveys (pages_of_cache c.check_state.new.cache) n rows places tracks.tracks survey) most (c.in_ok-survey.ensures.surveyed (reads.store.faithful ∙ fa))) in
-    let leaves : HoldLeaves old tree rows places tracks = (sv.chains, sv.are_chains) in
+    let chains : HoldLeaves old tree rows places tracks = (sv.chains, sv.are_chains) in
+    let leaves = c.put_in_order.new.survey.leaves.items in
+    let moved : IsPermutation survey.leaves.items leaves = subst (λ v. IsPermutation v.items leaves) c.is_whole.ensures.leaves c.put_in_order.ensures.moved in
+    let in_order = c.laws.ensures.in_order in
+    let rises = c.put_in_order.ensures.rises in
     let later = reads_trans old c.check_state.new.cache c.walk_all.new.source reads c.walk_all.ensures.reads in
+    let nodes = pages_of_cache old in
+    let value = c.as_slice.ensures.value in
+    let same = same_pages old c.walk_all.new.source later fa in
+    let back = sym same in
+    let same_order : (order : List ℕ) → IsOrder old tree rows places tracks order → pages_of_leaves leaves ≡ order = λ order o. order_same nodes tree rows total places tracks.tracks survey leaves sv moved o.chains o.are_chains order o.ordered o.rises in_order rises in
+    let mets = are_met nodes tree rows total places tracks.tracks survey leaves sv moved in
+    let met = subst (λ ms. All (λ (m : Met). IsMet ((pages_of_cache c.walk_all.new.source).at m.page) m) ms) (sym value) (subst (λ (nodes : Pages LegView BoxView). All (λ (m : Met). IsMet (nodes.at m.page) m) leaves) back mets) in
     let fault = c.in_err-check_tree.field-0.0 in
-    let one = list_of (pages_of_cache old) tree rows total places tracks.tracks survey survey.leaves.items sv (IsPermutation-refl survey.leaves.items) (c.is_whole.ensures.whole c.if-not-is_whole.false) in
+    let one = list_of nodes tree rows total places tracks.tracks survey leaves sv moved (c.is_whole.ensures.whole c.if-not-is_whole.false) in
     let list : HoldList old tree rows places tracks total = (one.0, one.1, c.agree.ensures.0 c.if-not-agree.false) in
     rw (p.1, p.2) (later_named c.args.begun tree rows total places tracks old c.check_tree.new.cache fa held some count says fault
     (caused_after old c.walk_all.new.source c.check_tree.new.cache fault later c.in_err-check_tree.ensures.caused)
-    (all_malformed _ (tree_later c.args.begun tree rows total places tracks old c.check_tree.new.cache fa held some count leaves list) fault))
+    (tree_later c.args.begun tree rows total places tracks old c.check_tree.new.cache fa held some count chains list (pages_of_leaves leaves) same_order fault
+    (subst (λ ms. IfMalformed (DescentStopsAt nodes tree (pages_of_leaves ms)) fault) value
+    (subst (λ nodes. IfMalformed (DescentStopsAt nodes tree (pages_of_leaves c.as_slice.result.now)) fault) same
+    (c.in_err-check_tree.ensures.stops (later.store.faithful ∙ fa) met)))
+    (λ pages over. c.in_err-check_tree.ensures.only (later.store.faithful ∙ fa) met pages
+    (subst (λ ms. IsOver (pages_of_cache c.walk_all.new.source) tree (pages_of_leaves ms) pages) (sym value) (subst (λ nodes. IsOver nodes tree (pages_of_leaves leaves) pages) back over)))))
+
+pub returns-then-not-name_last-clause-named : goal.returns-then-not-name_last-clause-named
+returns-then-not-name_last-clause-named g c = λ fa.
+    let old = c.args.cache.now in
+    let tree = c.args.tree.now in
+    let rows = c.args.rows in
+    let total = c.args.legs in
+    let places = c.args.places.now in
+    let tracks = c.args.tracks.now in
+    let held = c.in_ok-read_pages.ensures.held fa in
+    let some = c.in_ok-read_pages.ensures.some in
+    let count = c.in_ok-read_pages.ensures.count in
+    let first = c.read_pages.ensures.reads in
+    let says = subst (SaysState c.args.begun) (first.payloads fa 0) (c.in_ok-check_state.ensures.says (first.store.faithful ∙ fa)) in
+    let reads = reads_trans old c.read_pages.new.cache c.check_state.new.cache first c.check_state.ensures.reads in
+    let most = c.from-most.ensures ∙ c.leaf.ensures.value in
+    let survey = c.in_ok-survey.survey in
+    let sv = subst (λ nodes. Surveys nodes tree.shape.leaf rows places tracks.tracks survey) (same_pages old c.check_state.new.cache reads fa)
+    (subst (λ n. Surveys (pages_of_cache c.check_state.new.cache) n rows places tracks.tracks survey) most (c.in_ok-survey.ensures.surveyed (reads.store.faithful ∙ fa))) in
+    let chains : HoldLeaves old tree rows places tracks = (sv.chains, sv.are_chains) in
+    let leaves = c.put_in_order.new.survey.leaves.items in
+    let moved : IsPermutation survey.leaves.items leaves = subst (λ v. IsPermutation v.items leaves) c.is_whole.ensures.leaves c.put_in_order.ensures.moved in
+    let in_order = c.laws.ensures.in_order in
+    let rises = c.put_in_order.ensures.rises in
+    let later = reads_trans old c.check_state.new.cache c.walk_all.new.source reads c.walk_all.ensures.reads in
+    let nodes = pages_of_cache old in
+    let value = c.as_slice.ensures.value in
+    let same = same_pages old c.walk_all.new.source later fa in
+    let back = sym same in
+    let same_order : (order : List ℕ) → IsOrder old tree rows places tracks order → pages_of_leaves leaves ≡ order = λ order o. order_same nodes tree rows total places tracks.tracks survey leaves sv moved o.chains o.are_chains order o.ordered o.rises in_order rises in
+    let mets = are_met nodes tree rows total places tracks.tracks survey leaves sv moved in
+    let met = subst (λ ms. All (λ (m : Met). IsMet ((pages_of_cache c.walk_all.new.source).at m.page) m) ms) (sym value) (subst (λ (nodes : Pages LegView BoxView). All (λ (m : Met). IsMet (nodes.at m.page) m) leaves) back mets) in
+    let in_pages = within nodes tree rows total places tracks.tracks survey leaves sv moved in
+    let stands = c.in_ok-check_tree.ensures.over (later.store.faithful ∙ fa) met
+    (subst (λ ms. All (λ p. (0 < p) × (p < c.walk_all.new.source.count)) (pages_of_leaves ms)) (sym value) (subst (λ n. All (λ p. (0 < p) × (p < n)) (pages_of_leaves leaves)) (sym later.count) in_pages)) in
+    let st = subst (λ nodes. StandsOver nodes tree (pages_of_leaves leaves)) same (subst (λ ms. StandsOver (pages_of_cache c.walk_all.new.source) tree (pages_of_leaves ms)) value stands) in
+    later_named c.args.begun tree rows total places tracks old old fa held some count says (Malformed 0) tt (zero_later c.args.begun tree rows total places tracks old old fa held some count chains
+    (λ k order o none. none st.pages (subst (λ order. IsOver nodes tree order st.pages) (same_order order o) st.is_over)))
 
 pub returns-in_err-check_state-clause-reads : goal.returns-in_err-check_state-clause-reads
 returns-in_err-check_state-clause-reads g c = reads_trans c.args.cache.now c.read_pages.new.cache c.check_state.new.cache c.read_pages.ensures.reads c.check_state.ensures.reads

@@ -5,8 +5,11 @@ use Rattle.std.specs.List.{flat_map}
 use Rattle.tbtree.specs.Nodes.{pages_of_cache}
 use Rattle.boxsearch.proofs.ReadLemmas.{reads_trans}
 use Rattle.treecheck.proofs.WalkedLemmas.{same_pages}
-use Rattle.treecheck.proofs.SpanLemmas.{span_down, width_above, level_is, level_from}
-use Rattle.treecheck.specs.Levels.{named_by, named_below, AllStandAbove}
+use Rattle.treecheck.specs.Descent.{IsFirstWithout, IsHighestWithout}
+use Rattle.treecheck.specs.Naming.{IfMalformed}
+use Rattle.treecheck.proofs.StoppingLemmas.{malformed_map}
+use Rattle.treecheck.proofs.SpanLemmas.{span_down, width_above, level_is, level_from, level_stops}
+use Rattle.treecheck.specs.Levels.{named_by, named_below, AllStandAbove, IsInBlock, IsInLevel}
 use Rattle.treecheck.proofs.levels.check_levels.Goals as goal
 
 pub level_below-requires : goal.level_below-requires
@@ -57,3 +60,24 @@ returns-clause-stand g c = λ fa k n e.
 
 pub returns-in_err-pages-clause-reads : goal.returns-in_err-pages-clause-reads
 returns-in_err-pages-clause-reads g c = reads_trans c.args.cache.now c.loop-level.cache c.level_below.new.cache c.loop-level.invariant.reads c.level_below.ensures.reads
+
+pub returns-in_err-pages-clause-stops : goal.returns-in_err-pages-clause-stops
+returns-in_err-pages-clause-stops g c = λ fa.
+    let p = err_from_is_err_and c.from_residual-in_err-pages.result c.from_residual-in_err-pages.ensures.1 in
+    let old = c.args.cache.now in
+    let nodes = pages_of_cache old in
+    let inv = c.loop-level.invariant in
+    let level = c.loop-level.level in
+    let k = c.args.height - (level + 1) in
+    let n : level + suc k ≡ c.args.height = omega (arith, c.loop-level-test.true) in
+    let fault = c.in_err-pages.field-0.0 in
+    let from = IsFirstWithout (IsInBlock nodes (c.args.height - level) (c.loop-level.span / c.args.inner) c.loop-level.span c.args.leaves.now) c.deref.result.now in
+    rw (p.1, p.2) (malformed_map from (IsHighestWithout (IsInLevel nodes c.args.inner c.args.leaves.now) (named_below nodes c.args.root) c.args.height)
+    (λ page s. record {
+      above = level;
+      below = k;
+      all = n;
+      higher = λ a i l e. inv.above fa i a e l;
+      first = level_stops nodes c.args.inner c.args.height level c.loop-level.span c.args.root c.args.leaves.now c.deref.result.now k level c.requires.inner n (omega arith) inv.span (c.deref.ensures.value ∙ inv.pages fa) page s;
+    }) fault
+    (subst (λ nodes. IfMalformed (IsFirstWithout (IsInBlock nodes (c.args.height - level) (c.loop-level.span / c.args.inner) c.loop-level.span c.args.leaves.now) c.deref.result.now) fault) (same_pages old c.loop-level.cache inv.reads fa) (c.in_err-pages.ensures.stops (inv.reads.store.faithful ∙ fa))))

@@ -10,7 +10,15 @@ use Rattle.boxsearch.proofs.ReadLemmas.{reads_trans}
 use Rattle.boxsearch.proofs.PushLemmas.{some_same}
 use Rattle.boxsearch.proofs.SameLemmas.{flat_more}
 use Rattle.treecheck.proofs.WalkedLemmas.{same_pages}
-use Rattle.treecheck.specs.Levels.{named_by, StandsAbove}
+use Rattle.std.proofs.Common.{ℕ, List}
+use Rattle.legs.specs.Boxes.{BoxView}
+use Rattle.legs.specs.Legs.{LegView}
+use Rattle.tbtree.specs.Nodes.{Pages}
+use Rattle.treecheck.specs.Descent.{IsFirstWithout}
+use Rattle.treecheck.specs.Naming.{IfMalformed}
+use Rattle.treecheck.specs.declared.walking.Met.{Met}
+use Rattle.treecheck.proofs.StoppingLemmas.{malformed_map}
+use Rattle.treecheck.specs.Levels.{named_by, IsInBlock, StandsAbove}
 use Rattle.treecheck.proofs.levels.level_below.Goals as goal
 
 pub loop-i-preserved : goal.loop-i-preserved
@@ -66,3 +74,20 @@ returns-clause-named g c = λ fa.
 
 pub returns-in_err-take_page-clause-reads : goal.returns-in_err-take_page-clause-reads
 returns-in_err-take_page-clause-reads g c = reads_trans c.args.cache.now c.loop-i.cache c.take_page.new.cache c.loop-i.invariant.reads c.take_page.ensures.reads
+
+pub returns-in_err-take_page-clause-stops : goal.returns-in_err-take_page-clause-stops
+returns-in_err-take_page-clause-stops g c = λ fa.
+    let p = err_from_is_err_and c.from_residual.result c.from_residual.ensures.1 in
+    let old = c.args.cache.now in
+    let inv = c.loop-i.invariant in
+    let i = c.loop-i.i in
+    let page = get_or c.args.pages.now i 0 in
+    let at : slice_get c.args.pages.now i ≡ Some page = slice_get-get_or c.args.pages.now i 0 c.loop-i-test.true in
+    let same = same_pages old c.loop-i.cache inv.reads fa in
+    let fault = c.in_err-take_page.field-0.0 in
+    let block_is = c.block-under.ensures in
+    let stops : List Met → Pages LegView BoxView → ℕ → Type 0 = λ under nodes n. (n ≡ page) × (StandsAbove nodes c.args.level c.args.width under page → ⊥) in
+    rw (p.1, p.2) (malformed_map (stops (block c.args.span i c.args.leaves.now) (pages_of_cache old)) (IsFirstWithout (IsInBlock (pages_of_cache old) c.args.level c.args.width c.args.span c.args.leaves.now) c.args.pages.now)
+    (λ n s. record { place = i; is = at ∙ ap Some (sym s.0); before = inv.above fa; fails = λ k. s.1 (subst (λ q. StandsAbove (pages_of_cache old) c.args.level c.args.width (block c.args.span i c.args.leaves.now) q) s.0 k) }) fault
+    (subst (λ under. IfMalformed (stops under (pages_of_cache old)) fault) block_is
+    (subst (λ nodes. IfMalformed (stops c.block-under.result.now nodes) fault) same (c.in_err-take_page.ensures.stops (inv.reads.store.faithful ∙ fa)))))
