@@ -9,6 +9,7 @@ pub mod DescentLemmas
 pub mod GroupLemmas
 pub mod LevelsLemmas
 pub mod NamingLemmas
+pub mod OneStopLemmas
 pub mod OrderLemmas
 pub mod OverLemmas
 pub mod SoundLemmas

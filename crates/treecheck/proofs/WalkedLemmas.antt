@@ -43,7 +43,7 @@ pub turn_before : (f rows : ℕ) (d : Option LegView) (xs ys : List LegView) →
 turn_before f rows d [] ys h = tt
 turn_before f rows d (x ∷ xs) ys h = (h.0, h.1, h.2, turn_before f rows (Some x) xs ys h.3)
 
-turn_join : (f rows : ℕ) (d : Option LegView) (xs ys : List LegView) → ComeInTurn f rows d xs → ComeInTurn f rows (last_leg d xs) ys → ComeInTurn f rows d (xs ++ ys)
+pub turn_join : (f rows : ℕ) (d : Option LegView) (xs ys : List LegView) → ComeInTurn f rows d xs → ComeInTurn f rows (last_leg d xs) ys → ComeInTurn f rows d (xs ++ ys)
 turn_join f rows d [] ys h k = k
 turn_join f rows d (x ∷ xs) ys h k = (h.0, h.1, h.2, turn_join f rows (Some x) xs ys h.3 k)
 

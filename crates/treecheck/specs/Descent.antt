@@ -17,8 +17,8 @@ pub record IsFirstWithout (P : ℕ → ℕ → Type 0) (pages : List ℕ) (n : �
   pub before : (j p : ℕ) → j < place → slice_get pages j ≡ Some p → P j p
   pub fails : P place n → ⊥
 
--- of the pages of so many levels, told by how many are above each, n is the first of which P does not
--- hold, told by how many levels are below it and by its place
+-- of the pages of so many levels, told by how many are above each, n is the first of which P does
+-- not hold, told by how many levels are below it and by its place
 pub record IsHighestWithout (P : ℕ → ℕ → ℕ → Type 0) (pages : ℕ → List ℕ) (levels n : ℕ) : Type 0
   where
     pub above : ℕ
@@ -70,8 +70,9 @@ module _ (nodes : Pages LegView BoxView) where
   StandsAt inner leaves k j p =
       IsInnerAbove (suc k) (inner ^ k) (block (inner ^ suc k) j leaves) p
 
-  -- the way down the tree stops at page n: that is the first, level by level from the root down, that
-  -- does not stand above its leaves; and page 0 where what the tree says of their numbers does not fit
+  -- the way down the tree stops at page n: that is the first, level by level from the root down,
+  -- that does not stand above its leaves; and page 0 where what the tree says of their numbers does
+  -- not fit
   pub record DescentStopsAt (tree : TbTree) (leaves : List ℕ) (n : ℕ) : Type 0 where
     pub unfit : (FitsLeaves tree leaves → ⊥) → n ≡ 0
     pub fit : FitsLeaves tree leaves

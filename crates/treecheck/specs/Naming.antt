@@ -24,8 +24,8 @@ pub record IsFirstDamaged (cache : Cache) (n : ℕ) : Type 0 where
   pub none : payload_of cache n ≡ None
   pub below : (p : ℕ) → p < n → payload_of cache p ≢ None
 
--- each page has a payload, and there is none, or the store has another number of pages; n is the page
--- after the last one
+-- each page has a payload, and there is none, or the store has another number of pages; n is the
+-- page after the last one
 pub record IsMiscounted (cache : Cache) (n : ℕ) : Type 0 where
   pub held : (p : ℕ) → p < cache.count → payload_of cache p ≢ None
   pub counted : n ≡ cache.count
@@ -37,7 +37,8 @@ pub record HasHeader (begun : Bool) (cache : Cache) : Type 0 where
   pub same : cache.count ≡ cache.store.count
   pub says : SaysState begun (payload_of cache 0)
 
-module _ (cache : Cache) (tree : TbTree) (rows : ℕ) (places : List Place) (tracks : TracksView) where
+module _ (cache : Cache) (tree : TbTree) (rows : ℕ) (places : List Place)
+    (tracks : TracksView) where
   -- each feature has its leaves
   abbrev pub HoldLeaves : Type 0
   HoldLeaves =
@@ -59,11 +60,12 @@ module _ (cache : Cache) (tree : TbTree) (rows : ℕ) (places : List Place) (tra
     pub ordered : IsPermutation (joined chains) order
     pub rises : IsRising (first_on (pages_of_cache cache)) order
 
--- each page has a payload; n is the page after the last one, where the store has another number of
--- pages than the cache; else, where page 0 is not the header of the state that it is to say, page 0;
--- else, where not each feature has its leaves, the page at which the walk along them stops; else,
--- where these do not hold one list of so many legs, or the tracks say other numbers, page 0; else,
--- where there is no tree over them, the page at which the way down stops; and else page 0
+-- each page has a payload; n is the page after the last one, where the store has another number
+-- of pages than the cache; else, where page 0 is not the header of the state that it is to say,
+-- page 0; else, where not each feature has its leaves, the page at which the walk along them
+-- stops; else, where these do not hold one list of so many legs, or the tracks say other
+-- numbers, page 0; else, where there is no tree over them, the page at which the way down stops;
+-- and else page 0
 pub record IsFirstMalformed (begun : Bool) (tree : TbTree) (rows total : ℕ) (places : List Place)
     (tracks : TracksView) (cache : Cache) (n : ℕ) : Type 0 where
   pub held : (p : ℕ) → p < cache.count → payload_of cache p ≢ None
