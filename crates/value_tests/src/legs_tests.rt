@@ -370,7 +370,10 @@ fn has_track(index: &mut ListIndex, feature: u32, ordinals: &[u64]) -> Option<bo
 /// Whether these are the live legs of feature 0.
 fn has_live(index: &mut ListIndex, times: (i64, i64), ordinals: &[u64]) -> Option<bool> {
     let period = period(times.0, times.1)?;
-    Some(are(index.track_in(0, &period, &Sieve::All).ok()?.as_slice(), ordinals))
+    Some(are(
+        index.track_in(0, &period, &Sieve::All).ok()?.as_slice(),
+        ordinals,
+    ))
 }
 
 fn tracks(alloc: Global) -> Option<bool> {
