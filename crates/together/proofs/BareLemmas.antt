@@ -9,7 +9,8 @@ use Rattle.legs.specs.Boxes.{RectView}
 use Rattle.clipping.specs.Inside.{IsInside, HasMomentInside}
 use Rattle.predicates.specs.declared.Predicate.{Predicate}
 use Rattle.predicates.specs.declared.Predicate.TheVariants.{Ever, Always, Enters, Leaves, Crosses, Bypasses}
-use Rattle.predicates.specs.Predicates.{Holds, HasAMoment, IsEver, IsAllInside, IsInsideAtFirst, IsInsideAtLast, IsThroughout, first_live, last_live}
+use Rattle.legs.specs.Sieves.{first_live, last_live}
+use Rattle.predicates.specs.Predicates.{Holds, HasAMoment, IsEver, IsAllInside, IsInsideAtFirst, IsInsideAtLast, IsThroughout}
 use Rattle.together.specs.Told.{bare}
 
 -- what holds of a leg holds of it without its numbers, and the other way round
