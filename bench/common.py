@@ -1,0 +1,54 @@
+"""What the measurements share: the programs, the least of several runs, and the greatest memory of a process."""
+import subprocess
+import sys
+import time
+from pathlib import Path
+
+HERE = Path(__file__).resolve().parent
+ROOT = HERE.parent
+DATA = HERE / "data"
+# the program of the command line
+PROGRAM = ROOT / "crates" / "mftb" / "out" / "mftb"
+# a small process that starts a program, since a process's greatest memory is at least that of the one that starts it
+STARTER = """\
+import resource, subprocess, sys
+subprocess.run(sys.argv[1:], check=True, stdout=subprocess.DEVNULL)
+print(resource.getrusage(resource.RUSAGE_CHILDREN).ru_maxrss)
+"""
+
+
+def benches():
+    """What makes many calls of one kind (crates/benches): proved and built where it is not."""
+    subprocess.run([ROOT / "tools" / "prove", "benches"], check=True)
+    crate = ROOT / "crates" / "benches"
+    words = ["rt", "run", "--", "nodes", "leaf", "0"]
+    subprocess.run(words, cwd=crate, check=True, stdin=subprocess.DEVNULL, stdout=subprocess.DEVNULL)
+    return crate / "out" / "benches"
+
+
+def least(words, folder, runs=3):
+    """The least seconds of some runs, and the numbers that the last one printed."""
+    times = []
+    for _ in range(runs):
+        start = time.monotonic()
+        done = subprocess.run([str(word) for word in words], cwd=folder, check=True, capture_output=True, text=True)
+        times.append(time.monotonic() - start)
+    return min(times), [int(word) for word in done.stdout.split()]
+
+
+def calls(kinds, folder, program, group):
+    """Prints what calls of some kinds take, as a table: each kind with its count and its words."""
+    print("| Call | us a call | Calls a second |")
+    print("|---|---|---|")
+    for kind, count, text in kinds:
+        nothing, _ = least([program, group, kind, 0], folder)
+        taken, _ = least([program, group, kind, count], folder)
+        each = (taken - nothing) / count
+        print(f"| {text} | {each * 1e6:.3f} | {1 / each:,.0f} |", flush=True)
+
+
+def peak_of(words, folder=DATA):
+    """The greatest memory of a process, in bytes."""
+    words = [sys.executable, "-c", STARTER, *words]
+    done = subprocess.run(words, cwd=folder, check=True, capture_output=True, text=True)
+    return int(done.stdout) * 1024
