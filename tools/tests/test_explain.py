@@ -2,6 +2,7 @@
 import hashlib
 import os
 import pty
+import resource
 import shutil
 import subprocess
 import unittest
@@ -494,6 +495,22 @@ class Explained(Case):
                 self.assertEqual(said, "mftb: store\nmftb: disk/store: the disk is full\n")
         finally:
             subprocess.run(["umount", disk], check=True)
+
+    def test_a_limit_of_files(self):
+        self.put("many.csv", HEAD + "".join(f"f{k},0,1,0 0 1 1\n" for k in range(100)))
+        self.put("script.txt", "load many.csv\n")
+        words = [BUILT, "run", "--explain", "store", "script.txt", "many.csv"]
+        limit = 100_000, 100_000
+        # Python ignores the signal of a file that is too long, and so does the program then.
+        ended = subprocess.run(
+            words,
+            cwd=self.folder,
+            capture_output=True,
+            preexec_fn=lambda: resource.setrlimit(resource.RLIMIT_FSIZE, limit),
+            restore_signals=False,
+        )
+        why = "it would be longer than the system lets it be"
+        self.assertEqual((ended.returncode, ended.stderr.decode()), (1, f"mftb: store\nmftb: store: {why}\n"))
 
     def test_a_check_that_makes_a_file(self):
         _, said = self.run_mftb("check", "--explain", "absent", status=1)

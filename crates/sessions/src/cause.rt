@@ -17,8 +17,10 @@ pub enum Cause {
     Full,
     /// The disk may not be written.
     ReadOnly,
-    /// It is too long.
+    /// It is a file to be read, and too long.
     TooLong,
+    /// It would be longer than the system lets this file, or a file of this process, be.
+    Limited,
     /// It has no byte.
     Empty,
     /// Anything else.
@@ -34,7 +36,7 @@ impl From<io::ErrorKind> for Cause {
             io::ErrorKind::NotADirectory => Cause::NoFolder,
             io::ErrorKind::StorageFull | io::ErrorKind::QuotaExceeded => Cause::Full,
             io::ErrorKind::ReadOnlyFilesystem => Cause::ReadOnly,
-            io::ErrorKind::FileTooLarge => Cause::TooLong,
+            io::ErrorKind::FileTooLarge => Cause::Limited,
             _ => Cause::Other,
         }
     }
@@ -50,6 +52,7 @@ impl Display for Cause {
             Cause::Full => "the disk is full",
             Cause::ReadOnly => "the disk may not be written",
             Cause::TooLong => "it is too long: at most 1073741824 bytes",
+            Cause::Limited => "it would be longer than the system lets it be",
             Cause::Empty => "it has no byte",
             Cause::Other => "the system refused a call",
         })
