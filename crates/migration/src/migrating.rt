@@ -31,9 +31,9 @@ pub trait Migrate<T: PageStore> {
     /// which a stranger who chooses the names of a file is not to know.
     ///
     /// The store of version 1 is lent: it is read, each page by its seal, and never written. The
-    /// legs are put in one by one; of them are kept in memory 64 bytes or so a leaf, 8 bytes a leg
-    /// while the chains are walked, and then the legs of at most one leaf a feature. What is said of
-    /// memory, and of how many pages are in it, no clause says.
+    /// legs are put in 65,536 at a time; of them are kept in memory 64 bytes or so a leaf, 8 bytes a leg
+    /// while the chains are walked, and then the legs of at most one leaf a feature and those that
+    /// wait. What is said of memory, and of how many pages are in it, no clause says.
     ///
     /// Of page 0 of the lent store it is said first that it is not there (`Malformed`), is damaged, is
     /// no header (`Malformed`), has another version than 1, is of a store that was not finished, or of
