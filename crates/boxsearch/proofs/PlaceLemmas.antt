@@ -6,6 +6,7 @@ use Rattle.std.proofs.lemmas.List.{length_push}
 use Rattle.tbtree.specs.Stands.{no_place}
 use Rattle.tbtree.specs.declared.tree.Place.{Place}
 use Rattle.boxsearch.specs.Index.{with_place}
+pub use Rattle.tbtree.proofs.Widening.{get-set_same, get-set_other}
 
 pub some_same : {X : Type 0} (x y : X) → Some x ≡ Some y → x ≡ y
 some_same x y e = cc
@@ -14,18 +15,6 @@ pub some_none : {X : Type 0} (x : X) → Some x ≡ None → ⊥
 some_none x e = absurd cc
 
 module _ {X : Type 0} where
-  pub get-set_same : (xs : List X) (i : ℕ) (v x : X) → slice_get xs i ≡ Some x → slice_get (set xs i v) i ≡ Some v
-  get-set_same [] i v x h = absurd (some_none x (sym h))
-  get-set_same (y ∷ xs) zero v x h = refl
-  get-set_same (y ∷ xs) (suc i) v x h = get-set_same xs i v x h
-
-  pub get-set_other : (xs : List X) (i j : ℕ) (v : X) → j ≢ i → slice_get (set xs i v) j ≡ slice_get xs j
-  get-set_other [] i j v h = refl
-  get-set_other (y ∷ xs) zero zero v h = absurd (h refl)
-  get-set_other (y ∷ xs) zero (suc j) v h = refl
-  get-set_other (y ∷ xs) (suc i) zero v h = refl
-  get-set_other (y ∷ xs) (suc i) (suc j) v h = get-set_other xs i j v (λ e. h (ap suc e))
-
   push_last : (xs : List X) (v x : X) (i : ℕ) → i ≡ length xs → slice_get (xs ++ v ∷ []) i ≡ Some x → v ≡ x
   push_last [] v x zero e h = some_same v x h
   push_last [] v x (suc i) e h = absurd (omega (arith, e))

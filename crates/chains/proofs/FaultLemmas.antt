@@ -21,7 +21,7 @@ use Rattle.chains.specs.declared.fault.ChainFault.{ChainFault}
 use Rattle.chains.specs.declared.fault.ChainFault.TheVariants.{Cache as OfCache, Malformed, Memory}
 use Rattle.chains.specs.declared.leaves.Link.{Link}
 use Rattle.chains.specs.declared.leaves.Spot.{Spot}
-use Rattle.chains.proofs.GroupLemmas.{some_none}
+use Rattle.legs.specs.GroupLemmas.{some_none}
 use Rattle.chains.proofs.StepLemmas.{true_false, fault_on, fault_end}
 
 feature_to : (o : Option ℕ) (f : ℕ) → is_of_feature o f ≡ true → IfSome o (λ w. f ≡ w)

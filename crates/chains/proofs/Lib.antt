@@ -1,5 +1,4 @@
 pub mod ReadLemmas
-pub mod GroupLemmas
 pub mod KeepLemmas
 pub mod StepLemmas
 pub mod SpanLemmas

@@ -23,7 +23,7 @@ use Rattle.chains.specs.declared.fault.ChainFault.{ChainFault}
 use Rattle.chains.specs.declared.fault.ChainFault.TheVariants.{Cache as OfCache, Malformed, Memory}
 use Rattle.chains.specs.declared.leaves.Link.{Link}
 use Rattle.chains.specs.declared.leaves.Spot.{Spot}
-use Rattle.chains.proofs.GroupLemmas.{some_none, some_same}
+use Rattle.legs.specs.GroupLemmas.{some_none, some_same}
 use Rattle.chains.proofs.SieveLemmas.{none_taken, then_taken}
 
 -- what is only read has the same pages

@@ -45,7 +45,7 @@ other_at (n ∷ ns) name none zero d h = λ same.
     (cc)
 other_at (n ∷ ns) name none (suc k) d h = other_at ns name (or_false (bytes_eq name n) (list_any (bytes_eq name) ns) none).1 k d (omega arith)
 
-other_name : (names : List (List ℕ)) (name : List ℕ) → number_of names name ≡ length names → (k : ℕ) (d : List ℕ) → k < length names → get_or names k d ≢ name
+pub other_name : (names : List (List ℕ)) (name : List ℕ) → number_of names name ≡ length names → (k : ℕ) (d : List ℕ) → k < length names → get_or names k d ≢ name
 other_name names name new = other_at names name (any_is_first (bytes_eq name) names ∙ (let l : ltb (number_of names name) (length names) ≡ false = grind (arith, nat_tests) in l))
 
 named_more : (names : List (List ℕ)) (name : List ℕ) → IsName name → All IsName names → All IsName (names_with names name)
@@ -55,14 +55,14 @@ named_more names name is all =
       | inr new ↦ rw (names_with-new names name new) (All-push IsName names name all is)
     ]
 
-distinct_more : (names : List (List ℕ)) (name : List ℕ) → AllPairs (λ a b. a ≢ b) names → AllPairs (λ a b. a ≢ b) (names_with names name)
+pub distinct_more : (names : List (List ℕ)) (name : List ℕ) → AllPairs (λ a b. a ≢ b) names → AllPairs (λ a b. a ≢ b) (names_with names name)
 distinct_more names name all =
     elim (known_or_new names name) [
       | inl known ↦ rw (names_with-known names name known) all
       | inr new ↦ rw (names_with-new names name new) (all_pairs_push (λ a b. a ≢ b) names name all (other_name names name new))
     ]
 
-names_longer : (names : List (List ℕ)) (name : List ℕ) → length names ≤ length (names_with names name)
+pub names_longer : (names : List (List ℕ)) (name : List ℕ) → length names ≤ length (names_with names name)
 names_longer names name =
     elim (known_or_new names name) [
       | inl known ↦ rw (names_with-known names name known) (omega arith)
@@ -70,7 +70,7 @@ names_longer names name =
     ]
 
 -- the legs of a record have their feature and their row in the book with it
-first_there : (b : Book) (r : RecordView) (n : ℕ) → All (IsThere (with_record b r)) (map (leg_at b r) (range_with_len 0 n))
+pub first_there : (b : Book) (r : RecordView) (n : ℕ) → All (IsThere (with_record b r)) (map (leg_at b r) (range_with_len 0 n))
 first_there b r n =
     let feature : number_of b.names r.mfidref < length (with_record b r).names = rw (with_record-names b r) (length-names_with b.names r.mfidref) in
     let row : length b.rows < length (with_record b r).rows = omega (arith, ap length (with_record-rows b r) ∙ length_push b.rows r.attributes) in

@@ -12,6 +12,7 @@ use Rattle.pagecache.specs.Cache.{Cache, Rests, IsRefused, payload_of}
 use Rattle.pagecache.specs.declared.fault.CacheFault.{CacheFault}
 use Rattle.pagecache.specs.declared.fault.CacheFault.TheVariants as cache
 use Rattle.chains.specs.Reads.{OnlyReads}
+pub use Rattle.chains.proofs.ReadLemmas.{reads_trans}
 use Rattle.register.specs.Chain.{most_used, is_part, next_in, text_in, chain_text, text_at}
 use Rattle.register.specs.ChainReader.{ReaderView, fault_of, rest_of, IsBroken, IsPageFault, IsReadFault, IsTextFault, TakesPart}
 use Rattle.register.specs.declared.fault.CatalogueFault.{CatalogueFault}
@@ -184,28 +185,6 @@ module _ (at : ℕ → Option Payload) (r : ReaderView) (text : List ℕ) where
   pub ended : r.left ≡ 0 → rest_of at r ≡ Some text → length text ≡ length r.bytes
   unfolding text_at
   ended z e = at_last (r.next == 0) (sym (ap (λ n. option_map (λ t. r.bytes ++ t) (text_at at n r.next)) z) ∙ e)
-
--- one reading after another
-pub reads_trans : (a b c : Cache) → OnlyReads a b → OnlyReads b c → OnlyReads a c
-reads_trans a b c p q = record {
-  store = record {
-    most = q.store.most ∙ p.store.most;
-    faithful = q.store.faithful ∙ p.store.faithful;
-    faults = omega (arith, p.store.faults, q.store.faults);
-  };
-  capacity = q.capacity ∙ p.capacity;
-  count = q.count ∙ p.count;
-  length = q.length ∙ p.length;
-  asked = omega (arith, clamps, p.asked, q.asked);
-  payloads = λ f n. q.payloads (p.store.faithful ∙ f) n ∙ p.payloads f n;
-  changed = λ n u. q.changed n (p.changed n u);
-  written = λ f n h u. q.written (p.store.faithful ∙ f) n (omega (arith, h, p.count)) (p.changed n u) ∙ p.written f n h u;
-  unwritten = record {
-    clean = λ f h. q.unwritten.clean (p.store.faithful ∙ f) (λ n. p.changed n (h n)) ∙ p.unwritten.clean f h;
-    from = λ f k h. q.unwritten.from (p.store.faithful ∙ f) k (λ n l. p.changed n (h n l)) ∙ p.unwritten.from f k h;
-  };
-  unsynced = unsyncs-trans a b c p.changed p.unsynced q.unsynced;
-}
 
 -- what a fault says, at the exit of a `?`
 pub if_err_of : {T E : Type 0} (P : E → Type 0) (r : Result T E) (f e : E) → r ≡ Err f → f ≡ e → P e → IfErr r P

@@ -7,10 +7,10 @@ use Rattle.legs.specs.Costs.{ShapeView}
 use Rattle.legs.specs.Limits.{limits_of, LimitsView}
 use Rattle.pages.specs.Store.{Store}
 use Rattle.pages.specs.declared.unsynced.Unsynced.TheVariants.{Others}
-use Rattle.pagecache.specs.Cache.{page_of, pages_as_written, payload_of, sealed_payload, stored_payload}
 use Rattle.catalogue.specs.Holding.{HoldsBook}
 use Rattle.trajdb.specs.Db.{DbView, HasPages, IsSound}
 use Rattle.trajdb.specs.Lasting.{HasBook, IsIdle}
+use Rattle.trajdb.proofs.SafeLemmas.{apart}
 use Rattle.sessions.specs.Answers.{Answers, SendsFront, new_shape}
 use Rattle.sessions.specs.Folder.{BeginsWith, History, HoldsNow, IsKept, RunsBeside, store_in}
 use Rattle.sessions.proofs.AnswerLemmas.{front_done}
@@ -22,28 +22,7 @@ tells (now ∷ past) = refl
 
 -- how often a store failed, and what of it is synced, is no part of the book that it holds
 pub faults_apart : (s : Store) (shape : ShapeView) (limits : LimitsView) (book : Book) → HoldsBook s shape limits book → HoldsBook (record s { faults = 0; unsynced = Others }) shape limits book
-unfolding stored_payload payload_of sealed_payload page_of pages_as_written
-faults_apart s shape limits book h = record {
-  catalogue = h.catalogue;
-  tree = h.tree;
-  places = h.places;
-  kept = h.kept;
-  shape_is = h.shape_is;
-  of = h.of;
-  sound = record {
-    faithful = h.sound.faithful;
-    works = h.sound.works;
-    shape = h.sound.shape;
-    count = h.sound.count;
-    pages = h.sound.pages;
-    stands = h.sound.stands;
-    lawful = h.sound.lawful;
-    counted = h.sound.counted;
-    features = h.sound.features;
-    placed = h.sound.placed;
-  };
-  legs = h.legs;
-}
+faults_apart s shape limits book h = apart s s.most 0 Others shape limits book h
 
 -- what a name stands for that was given to a store that holds a book, or that was left to what has its pages
 pub held_now : (s : Store) (shape : ShapeView) (limits : LimitsView) (book : Book) (was is : Option History) → HoldsBook s shape limits book → IsKept s was is → HoldsNow shape limits book is

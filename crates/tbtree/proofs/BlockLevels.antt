@@ -7,9 +7,8 @@ use Rattle.std.proofs.lemmas.List.{take_all}
 use Rattle.std.proofs.lemmas.Nat.{mul-le}
 use Rattle.std.proofs.lemmas.Option.{slice_get_within}
 use Rattle.legs.specs.Blocks.{groups, runs_after, level, block, joined}
-use Rattle.tbtree.proofs.GroupLemmas.{group_within, group_beyond, group_is, some_same}
+use Rattle.legs.specs.GroupLemmas.{group_within, group_beyond, group_is, some_same, joined_blocks}
 use Rattle.tbtree.proofs.FullLemmas.{one_group}
-use Rattle.tbtree.proofs.JoinLemmas.{joined_blocks}
 use Rattle.tbtree.proofs.Widening.{pow_above}
 
 -- numbers that are above the same numbers

@@ -9,7 +9,7 @@ use Rattle.tbtree.specs.Joining.{HasAtEnd}
 use Rattle.tbtree.specs.Nodes.{Pages, ALeaf, LeafView, Adds, Links, with_legs, with_next}
 use Rattle.tbtree.specs.Stands.{new_leaf}
 use Rattle.tbtree.specs.declared.fault.TreeFault.{TreeFault}
-use Rattle.tbtree.proofs.GroupLemmas.{some_same}
+use Rattle.legs.specs.GroupLemmas.{some_same}
 use Rattle.tbtree.proofs.Widening.{leaf_same}
 
 -- legs of which a leaf was made are at its end

@@ -2,10 +2,7 @@ pub mod LawfulBoxes
 pub mod PassLemmas
 pub mod CoverLemmas
 pub mod Still
-pub mod BlockLemmas
-pub mod GroupLemmas
 pub mod HullLemmas
-pub mod JoinLemmas
 pub mod Widening
 pub mod FullLemmas
 pub mod RoomLemmas

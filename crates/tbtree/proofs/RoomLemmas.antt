@@ -8,9 +8,9 @@ use Rattle.std.proofs.lemmas.Bool.{cases_lt, cases_eq, eqb-true}
 use Rattle.std.proofs.lemmas.List.{take_all, length-take-le, append-nil}
 use Rattle.legs.specs.Blocks.{same, begins, runs_after, runs, grown}
 use Rattle.tbtree.specs.Stands.{owner}
-use Rattle.tbtree.proofs.GroupLemmas.{some_none, some_same}
+use Rattle.legs.specs.BlockLemmas.{step_of_multiple, runs-push, runs_after-full}
+use Rattle.legs.specs.GroupLemmas.{some_none, some_same}
 use Rattle.tbtree.proofs.Widening.{get-set_same, get-set_other}
-use Rattle.tbtree.proofs.BlockLemmas.{step_of_multiple, runs-push, runs_after-full}
 
 pub neq-eqb : (a b : ℕ) → a ≢ b → (a == b) ≡ false
 neq-eqb a b h = (elim (a == b) as (λ v. (a == b) ≡ v → v ≡ false) [ true ↦ λ e. absurd (h (eqb-true a b e)) | false ↦ λ e. refl ]) refl

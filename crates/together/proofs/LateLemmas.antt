@@ -15,7 +15,8 @@ use Rattle.legs.specs.Index.{last_end, legs_of}
 use Rattle.legs.specs.Book.{Book, is_before, leg_at, name_end, names_with, number_of, record_legs, with_record, with_records}
 use Rattle.legs.specs.Law.{IsThere}
 use Rattle.legs.proofs.NameLemmas.{any_is_first, feature_of-known, feature_of-new, known_or_new, length-names_with, names_with-known, names_with-new, text_same}
-use Rattle.legs.proofs.LawLemmas.{other_at}
+pub use Rattle.legs.proofs.LawLemmas.{names_longer}
+use Rattle.legs.proofs.LawLemmas.{distinct_more, first_there}
 use Rattle.legs.proofs.RecordLemmas.{with_record-legs, with_record-names, with_record-rows}
 use Rattle.writer.specs.Entries.{EntryView}
 use Rattle.trajdb.specs.Answers.{name_of}
@@ -85,29 +86,6 @@ told_with b r there =
     ∙ ap (λ (l : List EntryView). all_told b ++ l) (new_legs b r (range_with_len 0 (leg_count (length r.positions))))
 
 -- it stays one of which all is told
-other_name : (names : List (List ℕ)) (name : List ℕ) → number_of names name ≡ length names → (k : ℕ) (d : List ℕ) → k < length names → get_or names k d ≢ name
-other_name names name new = other_at names name (any_is_first (bytes_eq name) names ∙ grind (arith, nat_tests))
-
-distinct_more : (names : List (List ℕ)) (name : List ℕ) → AllPairs (λ a b. a ≢ b) names → AllPairs (λ a b. a ≢ b) (names_with names name)
-distinct_more names name all =
-    elim (known_or_new names name) [
-      | inl known ↦ rw (names_with-known names name known) all
-      | inr new ↦ rw (names_with-new names name new) (all_pairs_push (λ a b. a ≢ b) names name all (other_name names name new))
-    ]
-
-pub names_longer : (names : List (List ℕ)) (name : List ℕ) → length names ≤ length (names_with names name)
-names_longer names name =
-    elim (known_or_new names name) [
-      | inl known ↦ rw (names_with-known names name known) (omega arith)
-      | inr new ↦ rw (names_with-new names name new) (omega (arith, length_push names name))
-    ]
-
-first_there : (b : Book) (r : RecordView) (n : ℕ) → All (IsThere (with_record b r)) (map (leg_at b r) (range_with_len 0 n))
-first_there b r n =
-    let feature : number_of b.names r.mfidref < length (with_record b r).names = rw (with_record-names b r) (length-names_with b.names r.mfidref) in
-    let row : length b.rows < length (with_record b r).rows = omega (arith, ap length (with_record-rows b r) ∙ length_push b.rows r.attributes) in
-    All-map (IsThere (with_record b r)) (leg_at b r) (range_with_len 0 n) (λ k d h. record { feature = feature; row = row })
-
 told_more : (b : Book) (r : RecordView) → IsTold b → IsTold (with_record b r)
 told_more b r is =
     let row : length (with_record b r).rows ≡ length b.rows + 1 = ap length (with_record-rows b r) ∙ length_push b.rows r.attributes in

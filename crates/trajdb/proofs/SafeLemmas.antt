@@ -56,7 +56,7 @@ written_all i sound lawful =
     ∙ (ap (λ n. take n i.cache.store.pages) (sound.count ∙ sym (lawful.counted sound.faithful)) ∙ take-length i.cache.store.pages)
 
 -- how many pages a store may have, how often it failed, and what of it is synced, is no part of the book that it holds
-apart : (s : Store) (most faults : ℕ) (left : Unsynced) (shape : ShapeView) (limits : LimitsView) (book : Book) → HoldsBook s shape limits book → HoldsBook (record s { most = most; faults = faults; unsynced = left }) shape limits book
+pub apart : (s : Store) (most faults : ℕ) (left : Unsynced) (shape : ShapeView) (limits : LimitsView) (book : Book) → HoldsBook s shape limits book → HoldsBook (record s { most = most; faults = faults; unsynced = left }) shape limits book
 unfolding stored_payload payload_of sealed_payload page_of pages_as_written
 apart s most faults left shape limits book h = record {
   catalogue = h.catalogue;

@@ -9,7 +9,8 @@ use Rattle.legs.specs.Blocks.{block, groups}
 use Rattle.legs.specs.Boxes.{BoxView}
 use Rattle.legs.specs.Hull.{both, leg_boxes}
 use Rattle.tbtree.specs.Nodes.{EntryView, InnerView, boxes, children}
-use Rattle.treecheck.proofs.GroupLemmas.{same_by_get, group_is, length_groups}
+use Rattle.legs.specs.GroupLemmas.{same_by_get}
+use Rattle.legs.specs.GroupSteps.{group_below, groups_ceil}
 use Rattle.boxsearch.proofs.PushLemmas.{some_same, take_at}
 use Rattle.treecheck.proofs.WalkLemmas.{drop_at}
 use Rattle.treecheck.specs.Levels.{cover_of_leaves, pages_of_leaves}
@@ -40,15 +41,15 @@ leaf_at leaves i leaf at = slice_get-map (λ (m : Met). m.page) leaves i ∙ ap 
 
 -- the boxes of a page are as many as the groups, each that of its group
 pub box_count : (bs : List BoxView) (width : ℕ) (leaves : List Met) → 0 < width → map Some bs ≡ map cover_of_leaves (groups width leaves) → length bs ≡ div_ceil (length leaves) width
-box_count bs width leaves h e = sym (length-map bs Some) ∙ ap length e ∙ length-map (groups width leaves) cover_of_leaves ∙ length_groups width leaves h
+box_count bs width leaves h e = sym (length-map bs Some) ∙ ap length e ∙ length-map (groups width leaves) cover_of_leaves ∙ groups_ceil width leaves h
 
 pub box_of_group : (bs : List BoxView) (width : ℕ) (leaves : List Met) (i : ℕ) (b : BoxView) → 0 < width → map Some bs ≡ map cover_of_leaves (groups width leaves) → slice_get bs i ≡ Some b
     → Some b ≡ cover_of_leaves (block width i leaves)
 box_of_group bs width leaves i b h e at =
-    let n : length bs ≡ length (groups width leaves) = box_count bs width leaves h e ∙ sym (length_groups width leaves h) in
+    let n : length bs ≡ length (groups width leaves) = box_count bs width leaves h e ∙ sym (groups_ceil width leaves h) in
     let l : i < length (groups width leaves) = (let w = slice_get_within bs i b at in omega (arith, w, n)) in
     some_same (Some b) (cover_of_leaves (block width i leaves))
-    (sym (slice_get-map (λ (b : BoxView). Some b) bs i ∙ ap (option_map (λ (b : BoxView). Some b)) at) ∙ ap (λ l. slice_get l i) e ∙ slice_get-map cover_of_leaves (groups width leaves) i ∙ ap (option_map cover_of_leaves) (group_is width leaves i h l))
+    (sym (slice_get-map (λ (b : BoxView). Some b) bs i ∙ ap (option_map (λ (b : BoxView). Some b)) at) ∙ ap (λ l. slice_get l i) e ∙ slice_get-map cover_of_leaves (groups width leaves) i ∙ ap (option_map cover_of_leaves) (group_below width leaves i h l))
 
 pub boxes_of_groups : (bs : List BoxView) (width : ℕ) (leaves : List Met) → 0 < width → length bs ≡ div_ceil (length leaves) width
     → ((j : ℕ) (b : BoxView) → slice_get bs j ≡ Some b → Some b ≡ cover_of_leaves (block width j leaves))
@@ -56,13 +57,13 @@ pub boxes_of_groups : (bs : List BoxView) (width : ℕ) (leaves : List Met) → 
 boxes_of_groups bs width leaves h n all = same_by_get (map Some bs) (map cover_of_leaves (groups width leaves)) at
   where
     same : length bs ≡ length (groups width leaves)
-    same = n ∙ sym (length_groups width leaves h)
+    same = n ∙ sym (groups_ceil width leaves h)
 
     within : (i : ℕ) (b : BoxView) → slice_get bs i ≡ Some b → slice_get (map Some bs) i ≡ slice_get (map cover_of_leaves (groups width leaves)) i
     within i b e =
         let l : i < length (groups width leaves) = (let w = slice_get_within bs i b e in omega (arith, w, same)) in
         slice_get-map (λ (b : BoxView). Some b) bs i ∙ ap (option_map (λ (b : BoxView). Some b)) e ∙ ap Some (all i b e)
-        ∙ sym (slice_get-map cover_of_leaves (groups width leaves) i ∙ ap (option_map cover_of_leaves) (group_is width leaves i h l))
+        ∙ sym (slice_get-map cover_of_leaves (groups width leaves) i ∙ ap (option_map cover_of_leaves) (group_below width leaves i h l))
 
     past : (i : ℕ) → length bs ≤ i → slice_get (map Some bs) i ≡ slice_get (map cover_of_leaves (groups width leaves)) i
     past i l = slice_get_past (map Some bs) i (let m = length-map bs (λ (b : BoxView). Some b) in omega (arith, l, m)) ∙ sym (slice_get_past (map cover_of_leaves (groups width leaves)) i (let m = length-map (groups width leaves) cover_of_leaves in omega (arith, l, m, same)))

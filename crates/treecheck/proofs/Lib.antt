@@ -6,7 +6,6 @@ pub mod HeldTree
 pub mod LeafChains
 pub mod CheckingLemmas
 pub mod DescentLemmas
-pub mod GroupLemmas
 pub mod LevelsLemmas
 pub mod NamingLemmas
 pub mod OneStopLemmas

@@ -11,7 +11,7 @@ use Rattle.legs.specs.Hull.{both, hull_of, leg_boxes}
 use Rattle.legs.specs.Legs.{LegView}
 use Rattle.tbtree.specs.Descent.{entries_in, legs_in}
 use Rattle.tbtree.specs.Nodes.{Pages, EntryView, AnInner, InnerView, boxes, children}
-use Rattle.treecheck.proofs.GroupLemmas.{length_groups, no_groups, from_none, from_some, groups_step, groups_take, groups_drop, block_groups, drop_drop}
+use Rattle.legs.specs.GroupSteps.{groups_ceil, no_groups, from_none, from_some, groups_step, groups_take, groups_drop, block_groups, drop_drop}
 use Rattle.boxsearch.proofs.PushLemmas.{some_same, some_none}
 use Rattle.std.specs.Prelude.{◌↔◌}
 use Rattle.treecheck.specs.Descent.{IsInnerAbove, StandsAt}
@@ -57,7 +57,7 @@ module _ {X : Type 0} where
       omega (arith, a, b)
 
 pub same_count : (n : ℕ) (leaves : List Met) → 0 < n → length (groups n (pages_of_leaves leaves)) ≡ length (groups n leaves)
-same_count n leaves h = length_groups n (pages_of_leaves leaves) h ∙ ap (λ l. l / n + min 1 (l % n)) (length-map leaves (λ (m : Met). m.page)) ∙ sym (length_groups n leaves h)
+same_count n leaves h = groups_ceil n (pages_of_leaves leaves) h ∙ ap (λ l. l / n + min 1 (l % n)) (length-map leaves (λ (m : Met). m.page)) ∙ sym (groups_ceil n leaves h)
 
 pub block_pages : (n j : ℕ) (leaves : List Met) → block n j (pages_of_leaves leaves) ≡ pages_of_leaves (block n j leaves)
 block_pages n j leaves = ap (take n) (drop-map (λ (m : Met). m.page) (j * n) leaves) ∙ take-map (λ (m : Met). m.page) n (drop (j * n) leaves)

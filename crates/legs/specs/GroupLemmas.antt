@@ -1,13 +1,13 @@
 -- Groups of n consecutive elements, by their places.
-use Rattle.std.proofs.Common.{ℕ, zero, suc, ◌+◌, ◌-◌, ◌*◌, ◌/◌, ◌%◌, ◌<◌, ◌≤◌, ◌≡◌, ◌≢◌, ◌==◌, true, false, cond, nat_lt, List, [], ◌∷◌, ◌++◌, take, drop, set, length, refl, sym, ap, ◌∙◌, arith, length-append, length-drop, lt-ltb, le-ltb, eq-eqb, subst, ⊎_elim, Option, Some, None, slice_get}
+use Rattle.std.proofs.Common.{ℕ, zero, suc, ◌+◌, ◌-◌, ◌*◌, ◌/◌, ◌%◌, ◌<◌, ◌≤◌, ◌≡◌, ◌≢◌, ◌==◌, true, false, cond, nat_lt, List, [], ◌∷◌, ◌++◌, take, drop, set, length, refl, sym, ap, ◌∙◌, arith, length-append, length-drop, lt-ltb, le-ltb, eq-eqb, subst, ⊎_elim, Option, Some, None, slice_get, get_or}
 use Rattle.std.specs.List.{filter, count_by}
 use Rattle.std.proofs.lemmas.Nat.{div-add-mod', mod_below}
 use Rattle.std.proofs.Math.Nat.{add-mod_right, mod-eq_of_lt}
 use Rattle.std.proofs.lemmas.Bool.{cases_lt, eqb-true}
-use Rattle.std.proofs.lemmas.List.{take_all, take-append-le, drop-append-le, drop_all, drop-set-add, drop-set-lt, take-set-le}
-use Rattle.std.proofs.lemmas.Option.{slice_get_within, slice_get-get_or}
-use Rattle.legs.specs.Blocks.{runs_after, groups, block}
-use Rattle.tbtree.proofs.BlockLemmas.{step_of_multiple, count_all, all_pass}
+use Rattle.std.proofs.lemmas.List.{take_all, take-append-le, drop-append-le, drop_all, drop-set-add, drop-set-lt, take-set-le, drop_more, drop-drop}
+use Rattle.std.proofs.lemmas.Option.{slice_get_within, slice_get-get_or, get_or_from_slice_get}
+use Rattle.legs.specs.Blocks.{runs_after, groups, block, joined}
+use Rattle.legs.specs.BlockLemmas.{step_of_multiple, count_all, all_pass}
 
 pub some_none : {Y : Type 0} (y : Y) → Some y ≡ None → ⊥
 some_none {Y} y e = subst (λ (o : Option Y). elim o as (λ _. Type 0) [ Some _ ↦ Unit {0} | None ↦ ⊥ ]) e tt
@@ -17,7 +17,7 @@ some_same {Y} x y e = ap (λ (o : Option Y). elim o as (λ _. Y) [ Some z ↦ z 
 
 module _ {X : Type 0} where
   -- the n elements at s, if s is within
-  abbrev slot : ℕ → ℕ → List X → Option (List X)
+  abbrev pub slot : ℕ → ℕ → List X → Option (List X)
   slot n s xs = cond (nat_lt s (length xs)) (Some (take n (drop s xs))) None
 
   slot_more : (n s : ℕ) (x : X) (xs : List X) → slot n s xs ≡ slot n (suc s) (x ∷ xs)
@@ -160,3 +160,29 @@ module _ {X : Type 0} where
   same_by_get [] (y ∷ ys) h = absurd (some_none y (sym (h 0)))
   same_by_get (x ∷ xs) [] h = absurd (some_none x (h 0))
   same_by_get (x ∷ xs) (y ∷ ys) h = λ i. some_same x y (h 0) i ∷ same_by_get xs ys (λ i. h (suc i)) i
+
+-- A block of c * m elements joins c consecutive blocks of m: a level's groups join the blocks of the level below.
+module _ {X : Type 0} where
+  take_add : (a b k : ℕ) (l : List X) → a + b ≡ k → take k l ≡ take a l ++ take b (drop a l)
+  take_add zero b k l e = ap (λ k. take k l) (omega (arith, e))
+  take_add (suc a) b zero l e = absurd (omega (arith, e))
+  take_add (suc a) b (suc k) [] e = sym (take_all b [] (omega arith))
+  take_add (suc a) b (suc k) (x ∷ l) e = ap (λ r. x ∷ r) (take_add a b k l (omega (arith, e)))
+
+  pub joined_blocks : (c m j : ℕ) (xs : List X) → 0 < m → joined (take c (drop j (groups m xs))) ≡ take (c * m) (drop (j * m) xs)
+  joined_blocks zero m j xs h = let z : 0 ≡ 0 * m = omega arith in ap (λ k. take k (drop (j * m) xs)) z
+  joined_blocks (suc c) m j xs h =
+      ⊎_elim
+      (λ (l : j < length (groups m xs)).
+      let b : j * m < length xs = group_beyond m xs j h l in
+      let g : get_or (groups m xs) j [] ≡ block m j xs = get_or_from_slice_get (groups m xs) j (block m j xs) [] (group_is m xs j h b) in
+      let t : (j + 1) * m ≡ j * m + m = omega arith in
+      ap (λ l. joined (take (suc c) l)) (drop_more (groups m xs) j [] l)
+      ∙ ap (λ g. g ++ joined (take c (drop (j + 1) (groups m xs)))) g
+      ∙ ap (λ r. block m j xs ++ r) (joined_blocks c m (j + 1) xs h ∙ ap (λ k. take (c * m) (drop k xs)) t ∙ ap (take (c * m)) (sym (drop-drop m (j * m) xs)))
+      ∙ sym (take_add m (c * m) (suc c * m) (drop (j * m) xs) (omega arith)))
+      (λ (l : length (groups m xs) ≤ j).
+      let b : length xs ≤ j * m = ⊎_elim (λ (k : j * m < length xs). absurd (let w : j < length (groups m xs) = group_within m xs j h k in omega (arith, w, l))) (λ (k : length xs ≤ j * m). k) (cases_lt (j * m) (length xs)) in
+      ap (λ l. joined (take (suc c) l)) (drop_all j (groups m xs) l)
+      ∙ sym (ap (take (suc c * m)) (drop_all (j * m) xs b) ∙ take_all (suc c * m) [] (omega arith)))
+      (cases_lt j (length (groups m xs)))
