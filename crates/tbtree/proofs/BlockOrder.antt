@@ -23,7 +23,7 @@ module _ {X : Type 0} where
   each_map P Q (x ∷ xs) f h = (f x h.0, each_map P Q xs f h.1)
 
 module _ {X : Type 0} where
-  each_put : (P : ℕ × X → Type 0) (p : ℕ × X) (qs : List (ℕ × X)) → P p → Each P qs → Each P (put_in p qs)
+  pub each_put : (P : ℕ × X → Type 0) (p : ℕ × X) (qs : List (ℕ × X)) → P p → Each P qs → Each P (put_in p qs)
   each_put P p [] h hs = (h, tt)
   each_put P p (q ∷ qs) h hs =
       elim (nat_lt p.0 q.0) as (λ v. Each P (cond v (p ∷ q ∷ qs) (q ∷ put_in p qs))) [
@@ -36,7 +36,7 @@ module _ {X : Type 0} where
   IsUpFrom c [] = Unit {0}
   IsUpFrom c (p ∷ ps) = (c ≤ p.0) × IsUpFrom (p.0) ps
 
-  put_up : (c : ℕ) (p : ℕ × X) (qs : List (ℕ × X)) → c ≤ p.0 → IsUpFrom c qs → IsUpFrom c (put_in p qs)
+  pub put_up : (c : ℕ) (p : ℕ × X) (qs : List (ℕ × X)) → c ≤ p.0 → IsUpFrom c qs → IsUpFrom c (put_in p qs)
   put_up c p [] l u = (l, tt)
   put_up c p (q ∷ qs) l u =
       ⊎_elim
@@ -147,7 +147,7 @@ module _ {X : Type 0} (key : X → ℕ) (n : ℕ) where
     ahead c [] u l h = tt
     ahead c (p ∷ ps) u l h = (h.0 (omega (arith, l, u.0)), ahead (p.0) ps u.1 (omega (arith, l, u.0)) h.1)
 
-    put_filter : (f c : ℕ) (ps : List (ℕ × X)) (s : List X) → IsUpFrom c ps → PassesOthers ps → filter (is key f) (elements (put_in (a, x) ps) ++ s) ≡ filter (is key f) (elements ps ++ x ∷ s)
+    pub put_filter : (f c : ℕ) (ps : List (ℕ × X)) (s : List X) → IsUpFrom c ps → PassesOthers ps → filter (is key f) (elements (put_in (a, x) ps) ++ s) ≡ filter (is key f) (elements ps ++ x ∷ s)
     put_filter f c [] s u h = refl
     put_filter f c (p ∷ ps) s u h =
         ⊎_elim

@@ -104,13 +104,19 @@ module _ {L B : Type 0} (s : Boxes L B) (laws : AreLawful s) (feature : L → �
             keep_inner s mid new q (suc k) _ _ (w.becomes.rest q u) z;
       }
 
-  pub grow_way : (old mid new : Pages L B) (i p : ℕ) (ys : List L) (can : LeafView L → Type 0) (box : B) → 0 < inner → hull s ys ≡ Some box → IsOnWay s inner levels root old mid 0 i box (Ok p)
-      → (res : Result (Unit {0}) TreeFault) → OnOk res (Pushes mid p ys new) → (HasLeafRoom mid p can → IfErr res IsAllowed) → Grows s feature inner levels root old new i ys can res
-  grow_way old mid new i p ys can box h b on (Ok u) w only runs pages x xs ri takes t =
+  pub grow_way : (old mid new : Pages L B) (i p last : ℕ) (ys : List L) (can : LeafView L → Type 0) (box : B) → 0 < inner → hull s ys ≡ Some box → IsOnWay s inner levels root old mid 0 i box (Ok p)
+      → (res : Result (Unit {0}) TreeFault) → OnOk res (Pushes mid p ys new) → (HasLeafRoom mid p can → IfErr res IsAllowed) → Grows s feature inner levels root old new i last ys can res
+  grow_way old mid new i p last ys can box h b on (Ok u) w only runs pages x xs ri at takes t =
       grow old mid new i p ys h w runs pages x xs ri t (on runs (with runs i x xs ys) pages old.count i (grow_going old i ys box runs pages x xs h b ri t))
-  grow_way old mid new i p ys can box h b on (Err e) w only runs pages x xs ri takes t =
+  grow_way old mid new i p last ys can box h b on (Err e) w only runs pages x xs ri at takes t =
       let o = on runs (with runs i x xs ys) pages old.count i (grow_going old i ys box runs pages x xs h b ri t) in
       only (record { above = (t.numbers.within 0 i p o.found).0; leaf = leaf_of (feature x) (marks feature runs (pages 0)) i (x ∷ xs); is = grow_leaf old mid i p runs (with runs i x xs ys) pages t o i p (x ∷ xs) o.found ri; takes = takes (leaf_of (feature x) (marks feature runs (pages 0)) i (x ∷ xs)) refl refl })
 
-  pub grow_refused : (old mid new : Pages L B) (i : ℕ) (ys : List L) (can : LeafView L → Type 0) (box : B) (e : TreeFault) → 0 < inner → hull s ys ≡ Some box → IsOnWay s inner levels root old mid 0 i box (Err e) → Grows s feature inner levels root old new i ys can (Err e)
-  grow_refused old mid new i ys can box e h b on runs pages x xs ri takes t = on runs (with runs i x xs ys) pages old.count i (grow_going old i ys box runs pages x xs h b ri t)
+  -- the way to a run ends at its page
+  pub grow_elsewhere : (old mid new : Pages L B) (i p last : ℕ) (ys : List L) (can : LeafView L → Type 0) (box : B) (e : TreeFault) → 0 < inner → hull s ys ≡ Some box → IsOnWay s inner levels root old mid 0 i box (Ok p) → p ≢ last
+      → Grows s feature inner levels root old new i last ys can (Err e)
+  grow_elsewhere old mid new i p last ys can box e h b on other runs pages x xs ri at takes t =
+      absurd (other (some_same p last (sym (on runs (with runs i x xs ys) pages old.count i (grow_going old i ys box runs pages x xs h b ri t)).found ∙ at)))
+
+  pub grow_refused : (old mid new : Pages L B) (i last : ℕ) (ys : List L) (can : LeafView L → Type 0) (box : B) (e : TreeFault) → 0 < inner → hull s ys ≡ Some box → IsOnWay s inner levels root old mid 0 i box (Err e) → Grows s feature inner levels root old new i last ys can (Err e)
+  grow_refused old mid new i last ys can box e h b on runs pages x xs ri at takes t = on runs (with runs i x xs ys) pages old.count i (grow_going old i ys box runs pages x xs h b ri t)

@@ -140,17 +140,25 @@ pub joins_one : (old new : Pages LegView BoxView) (tree tree' : TbTree) (place a
 joins_one old new tree tree' place after y (Ok u) f legs pages st at w = one_joined new tree tree' legs pages y after (f y.feature legs pages st at (one_own y.feature y refl) (w, tt))
 joins_one old new tree tree' place after y (Err x) f legs pages st at w = f y.feature legs pages st at (one_own y.feature y refl) (w, tt)
 
+-- there is a leg where some are left over
+some_over : (n k : ℕ) → 0 < k % n → 0 < k
+some_over n k h = ⊎_elim (λ (u : k ≡ 0). absurd (let z : k % n ≡ 0 = ap (λ j. j % n) u ∙ zero-mod n in omega (arith, z, h))) (λ (u : k ≢ 0). omega (arith, u)) (cases_eq k 0)
+
+-- the page of the feature's last leaf
+last_page : (n f : ℕ) (place : Place) (legs : List LegView) (pages : ℕ → List ℕ) → 0 < place.legs → PlaceStands leg_feature legs (marks leg_feature (leaves leg_feature n legs) (pages 0)) f place → page_at pages 0 place.last_index ≡ Some place.last
+last_page n f place legs pages some at = zip-second (map (owner leg_feature) (leaves leg_feature n legs)) (pages 0) place.last_index _ (at.last_index some).0
+
 -- the feature's last leaf has room
 pub inserts_last : (old new : Pages LegView BoxView) (tree : TbTree) (place after : Place) (ys : List LegView) (res : Result (Unit {0}) TreeFault) → IsShape tree.shape → 0 < place.legs % tree.shape.leaf → place.legs % tree.shape.leaf + length ys ≤ tree.shape.leaf → OnOk res (after ≡ record place { legs = place.legs + length ys })
-    → Grows leg_boxes leg_feature tree.shape.inner tree.levels tree.root old new place.last_index ys (λ leaf. TakesLegs tree.shape.leaf leaf ys) res → JoinsAll old new tree tree place after ys res
+    → Grows leg_boxes leg_feature tree.shape.inner tree.levels tree.root old new place.last_index place.last ys (λ leaf. TakesLegs tree.shape.leaf leaf ys) res → JoinsAll old new tree tree place after ys res
 inserts_last old new tree place after ys res shape h room e grows f legs pages st at all w =
     let lf : 0 < tree.shape.leaf = let least = shape.least_leaf in omega (arith, least) in
-    (elim tree.shape.leaf as (λ n. tree.shape.leaf ≡ n → 0 < n → 0 < place.legs % n → place.legs % n + length ys ≤ n → Grows leg_boxes leg_feature tree.shape.inner tree.levels tree.root old new place.last_index ys (λ leaf. TakesLegs n leaf ys) res → TreeStands leg_boxes leg_feature tree.shape.inner tree.levels tree.root old (leaves leg_feature n legs) pages
+    (elim tree.shape.leaf as (λ n. tree.shape.leaf ≡ n → 0 < n → 0 < place.legs % n → place.legs % n + length ys ≤ n → Grows leg_boxes leg_feature tree.shape.inner tree.levels tree.root old new place.last_index place.last ys (λ leaf. TakesLegs n leaf ys) res → TreeStands leg_boxes leg_feature tree.shape.inner tree.levels tree.root old (leaves leg_feature n legs) pages
     → tree.leaves ≡ length (leaves leg_feature n legs) → PlaceStands leg_feature legs (marks leg_feature (leaves leg_feature n legs) (pages 0)) f place → Gives res (λ _. AllJoined new tree tree legs pages f ys after)) [
       | zero ↦ λ u z h room g t l p. absurd (omega (arith, z))
       | suc m ↦ λ u z h room g t l p.
           let r = last_run leg_boxes leg_feature tree.shape.inner tree.levels tree.root m old.count f ys place legs pages all h room t.numbers p in
-          let gives = g (leaves leg_feature (suc m) legs) pages r.x r.xs r.is (λ (leaf : LeafView LegView) of same. takes_legs m (suc m) f legs ys place.last_index r.x r.xs leaf all w r.is r.owner r.few of same) t in
+          let gives = g (leaves leg_feature (suc m) legs) pages r.x r.xs r.is (last_page (suc m) f place legs pages (some_over (suc m) place.legs h) p) (λ (leaf : LeafView LegView) of same. takes_legs m (suc m) f legs ys place.last_index r.x r.xs leaf all w r.is r.owner r.few of same) t in
           (elim res as (λ res. OnOk res (after ≡ record place { legs = place.legs + length ys }) → Gives res (λ _. TreeStands leg_boxes leg_feature tree.shape.inner tree.levels tree.root new (set (leaves leg_feature (suc m) legs) place.last_index ((r.x ∷ r.xs) ++ ys)) pages) → Gives res (λ _. AllJoined new tree tree legs pages f ys after)) [
             | Ok v ↦ λ e gives.
                 inserted new tree tree legs pages f ys after refl refl
@@ -217,7 +225,7 @@ last_leaf old tree place f legs pages st at h =
     let rs = leaves leg_feature tree.shape.leaf legs in
     let t = st.tree_stands in
     let above : 0 < place.legs = ⊎_elim (λ (u : place.legs ≡ 0). absurd (let z = (at.none u).1 in omega (arith, z, h))) (λ (u : place.legs ≢ 0). omega (arith, u)) (cases_eq place.legs 0) in
-    let a : slice_get (pages 0) place.last_index ≡ Some place.last = zip-second (map (owner leg_feature) rs) (pages 0) place.last_index _ (at.last_index above).0 in
+    let a = last_page tree.shape.leaf f place legs pages above at in
     let l : place.last_index < length rs = (let u = as_many tree.shape.inner tree.levels tree.root old.count rs pages t.numbers in let v = slice_get_within (pages 0) place.last_index place.last a in omega (arith, u, v)) in
     let r = get_or rs place.last_index [] in
     record { above = h; leaf = leaf_of (owner leg_feature r) (marks leg_feature rs (pages 0)) place.last_index r; is = t.leaves place.last_index place.last r a (slice_get-get_or rs place.last_index [] l) }
@@ -246,7 +254,7 @@ pub none_without_levels : (old new : Pages LegView BoxView) (tree tree' : TbTree
 none_without_levels old new tree tree' place place' ys x e h f legs pages st at all w =
     let n = st.tree_stands.numbers in
     let above : 0 < place.legs = ⊎_elim (λ (u : place.legs ≡ 0). absurd (h (ap (λ k. k % tree.shape.leaf) u ∙ zero-mod tree.shape.leaf))) (λ (u : place.legs ≢ 0). omega (arith, u)) (cases_eq place.legs 0) in
-    let a : slice_get (pages 0) place.last_index ≡ Some place.last = zip-second (map (owner leg_feature) (leaves leg_feature tree.shape.leaf legs)) (pages 0) place.last_index _ (at.last_index above).0 in
+    let a = last_page tree.shape.leaf f place legs pages above at in
     absurd (some_none place.last (sym a ∙ ap (λ l. slice_get l place.last_index) (n.no_more 0 (omega (arith, e)))))
 
 -- whether a tree is spent is no matter of its pages

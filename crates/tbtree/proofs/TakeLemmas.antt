@@ -115,7 +115,7 @@ takes_legs m most f legs ys k x xs leaf all w is owner few of same =
       go_on = subst (λ g. goes_on g last.ordinal ys ≡ true) (sym (of ∙ owner)) (goes_on_in_turn f last.ordinal legs ys (λ y own c. last_below m legs y k x xs leaf c is (owner ∙ sym own) same last at) all w);
     }
 
-both_true : (a b : Bool) → (a && b) ≡ true → (a ≡ true) × (b ≡ true)
+pub both_true : (a b : Bool) → (a && b) ≡ true → (a ≡ true) × (b ≡ true)
 both_true true b e = (refl, e)
 both_true false b e = absurd (true≢false (sym e))
 

@@ -7,16 +7,17 @@ use Rattle.legs.specs.Hull.{Boxes, leg_boxes}
 use Rattle.legs.specs.Index.{CanFollow, CanFollowInTurn}
 use Rattle.tbtree.specs.Faults.{Gives}
 use Rattle.tbtree.specs.Nodes.{Pages, LeafView, ALeaf, Adds, Links}
-use Rattle.tbtree.specs.Stands.{marks, new_leaf, PlaceStands, TreeStands}
+use Rattle.tbtree.specs.Stands.{marks, new_leaf, page_at, PlaceStands, TreeStands}
 use Rattle.tbtree.specs.declared.tree.Place.{Place}
 use Rattle.tbtree.specs.declared.tree.TbTree.{TbTree}
 use Rattle.tbtree.specs.declared.fault.TreeFault.{TreeFault}
 
--- pages that stood for runs stand for them with ys at the end of run i, which may take them
-abbrev pub Grows : {L B : Type 0} (s : Boxes L B) (feature : L → ℕ) (inner levels root : ℕ) (old new : Pages L B) (i : ℕ) (ys : List L) (can : LeafView L → Type 0) (result : Result (Unit {0}) TreeFault) → Type 0
-Grows {L = L} s feature inner levels root old new i ys can result =
+-- pages that stood for runs stand for them with ys at the end of run i, whose page is last, and which may take them
+abbrev pub Grows : {L B : Type 0} (s : Boxes L B) (feature : L → ℕ) (inner levels root : ℕ) (old new : Pages L B) (i last : ℕ) (ys : List L) (can : LeafView L → Type 0) (result : Result (Unit {0}) TreeFault) → Type 0
+Grows {L = L} s feature inner levels root old new i last ys can result =
     (runs : List (List L)) (pages : ℕ → List ℕ) (x : L) (xs : List L)
     → slice_get runs i ≡ Some (x ∷ xs)
+    → page_at pages 0 i ≡ Some last
     → ((l : LeafView L) → l.feature ≡ feature x → l.legs ≡ x ∷ xs → can l)
     → TreeStands s feature inner levels root old runs pages
     → Gives result (λ _. TreeStands s feature inner levels root new (set runs i ((x ∷ xs) ++ ys)) pages)

@@ -1,12 +1,12 @@
 -- A leg more in a tree, whatever the order in which the legs before it came.
-use Rattle.std.specs.Prelude.{ℕ, ◌≡◌, ◌≢◌, ◌<◌, ◌≤◌, List, [], ◌∷◌, ◌++◌, length, All, Some, Result}
+use Rattle.std.specs.Prelude.{ℕ, ◌≡◌, ◌≢◌, ◌<◌, ◌≤◌, ◌+◌, ◌-◌, ◌%◌, List, [], ◌∷◌, ◌++◌, drop, length, All, Some, Result}
 use Rattle.legs.specs.Legs.{LegView}
 use Rattle.legs.specs.Boxes.{BoxView}
 use Rattle.legs.specs.Costs.{leg_feature, leaves_of}
 use Rattle.legs.specs.Hull.{leg_boxes}
 use Rattle.legs.specs.Index.{feature_count}
 use Rattle.tbtree.specs.Faults.{Gives}
-use Rattle.tbtree.specs.Nodes.{Pages, LeafView, ALeaf, with_legs}
+use Rattle.tbtree.specs.Nodes.{Pages, LeafView, ALeaf, with_legs, with_next}
 use Rattle.tbtree.specs.Stands.{TreeStands}
 use Rattle.tbtree.specs.Insert.{IsPlace, Stands}
 use Rattle.tbtree.specs.Order.{in_blocks}
@@ -59,11 +59,31 @@ JoinsAll old new tree tree' place place' ys result =
     → CanJoinInTurn legs ys
     → Gives result (λ _. AllJoined new tree tree' legs pages f ys place')
 
--- some page is a leaf that has the legs at its end
-pub record HasAtEnd (nodes : Pages LegView BoxView) (legs : List LegView) : Type 0 where
-  pub page : ℕ
+-- the page p is a leaf of the feature of the legs, and has them at its end
+pub record HasAtEnd (nodes : Pages LegView BoxView) (p : ℕ) (legs : List LegView) : Type 0 where
+  pub above : 0 < p
   pub leaf : LeafView LegView
-  pub is : nodes.at page ≡ Some (Some (ALeaf (with_legs legs leaf)))
+  pub is : nodes.at p ≡ Some (Some (ALeaf (with_legs legs leaf)))
+  pub own : All (λ leg. leg.feature ≡ leaf.feature) legs
+
+-- of the last ones of so many legs of a feature those that are in its last leaf, where each leaf but the last has as many
+-- legs as it has room for
+abbrev pub in_last_leaf : ℕ → ℕ → List LegView → List LegView
+in_last_leaf leaf count legs = drop (length legs - ((count - 1) % leaf + 1)) legs
+
+-- the page p is that leaf, perhaps with another next leaf, and with more legs at its end; with none, where it is of another
+-- feature than the legs that are put in
+pub record HasMore (nodes : Pages LegView BoxView) (p : ℕ) (leaf : LeafView LegView) (legs : List LegView) : Type 0 where
+  pub next : ℕ
+  pub more : List LegView
+  pub is : nodes.at p ≡ Some (Some (ALeaf (with_next next (with_legs more leaf))))
+  pub none : All (λ leg. leg.feature ≢ leaf.feature) legs → more ≡ []
+
+-- where legs are put in, each leaf that was there is as it was, but for the page last, which may have more legs
+pub record KeepsLegs (last : ℕ) (legs : List LegView) (old new : Pages LegView BoxView) : Type 0 where
+  pub rest : (p : ℕ) (leaf : LeafView LegView) → p ≢ last → old.at p ≡ Some (Some (ALeaf leaf))
+      → new.at p ≡ Some (Some (ALeaf leaf))
+  pub grown : (leaf : LeafView LegView) → old.at last ≡ Some (Some (ALeaf leaf)) → HasMore new last leaf legs
 
 -- a leg may be put into the index of some legs: it may join them, and its feature is there, or is the next one
 pub record CanTake (legs : List LegView) (leg : LegView) : Type 0 where

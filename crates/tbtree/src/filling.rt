@@ -3,7 +3,7 @@ ghost use Rattle.std.specs.Prelude.{◌≡◌, ◌<◌, ◌≤◌, ◌+◌, ◌-
 ghost use Rattle.tbtree.specs.Faults.{IsCaused};
 ghost use Rattle.tbtree.specs.Nodes.{pages_of_cache};
 ghost use Rattle.tbtree.specs.Passes.{Passes, KeepsLength};
-ghost use Rattle.tbtree.specs.Joining.{HasAtEnd, JoinsAll};
+ghost use Rattle.tbtree.specs.Joining.{in_last_leaf, HasAtEnd, JoinsAll, KeepsLegs};
 ghost use Rattle.tbtree.specs.declared.fault.TreeFault.{TreeFault};
 
 use crate::fault::TreeFault;
@@ -51,8 +51,15 @@ fn put_all<S: PageStore>(
     ensures made { OnOk result ((tree.new.leaves - tree.old.leaves) * tree.old.shape.leaf
         < length legs.now + tree.old.shape.leaf) }
     ensures ends { IsTrue cache.old.store.is_faithful → 0 < length legs.now
+        → OnOk result (HasAtEnd (pages_of_cache cache.new) place.new.last
+        (in_last_leaf tree.old.shape.leaf place.new.legs legs.now)) }
+    ensures whole { IsTrue cache.old.store.is_faithful → 0 < length legs.now
         → place.old.legs % tree.old.shape.leaf + length legs.now ≤ tree.old.shape.leaf
-        → OnOk result (HasAtEnd (pages_of_cache cache.new) legs.now) }
+        → OnOk result (HasAtEnd (pages_of_cache cache.new) place.new.last legs.now) }
+    ensures keeps { IsTrue cache.old.store.is_faithful → OnOk result
+        (KeepsLegs place.old.last legs.now (pages_of_cache cache.old)
+        (pages_of_cache cache.new)) }
+    ensures counted { OnOk result (place.new.legs ≡ place.old.legs + length legs.now) }
 {
     let leaf = tree.shape.leaf();
     let mut from = 0;
@@ -96,11 +103,20 @@ pub fn insert_all<S: PageStore>(
     ensures made { OnOk result ((tree.new.leaves - tree.old.leaves) * tree.old.shape.leaf
         < length legs.now + tree.old.shape.leaf) }
 
-    // Over any faithful pages, legs for which the last leaf has room, or a new one where it is full,
-    // are at the end of a leaf.
+    // Over any faithful pages the place's last leaf is then one of the legs' feature, with those of the legs at its end
+    // that are in it: the last one at the least, and all for which the last leaf that was there had room, or that went
+    // into one new leaf. Each leaf that was there is as it was, but for the one that was the last, which has its
+    // legs; and the place counts the legs.
     ensures ends { IsTrue cache.old.store.is_faithful → 0 < length legs.now
+        → OnOk result (HasAtEnd (pages_of_cache cache.new) place.new.last
+        (in_last_leaf tree.old.shape.leaf place.new.legs legs.now)) }
+    ensures whole { IsTrue cache.old.store.is_faithful → 0 < length legs.now
         → place.old.legs % tree.old.shape.leaf + length legs.now ≤ tree.old.shape.leaf
-        → OnOk result (HasAtEnd (pages_of_cache cache.new) legs.now) }
+        → OnOk result (HasAtEnd (pages_of_cache cache.new) place.new.last legs.now) }
+    ensures keeps { IsTrue cache.old.store.is_faithful → OnOk result
+        (KeepsLegs place.old.last legs.now (pages_of_cache cache.old)
+        (pages_of_cache cache.new)) }
+    ensures counted { OnOk result (place.new.legs ≡ place.old.legs + length legs.now) }
 
     // A refusal is for good.
     ensures works { OnOk result (tree.new.spent ≡ false) }

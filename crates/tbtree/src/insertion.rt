@@ -1,5 +1,5 @@
 //! Insertion.
-ghost use Rattle.std.specs.Prelude.{ℕ, [], None, length, ◌≢◌, ◌≡◌, ◌<◌, ◌≤◌, ◌+◌, ◌-◌, ◌*◌, ◌%◌, ◌^◌, IfOk, IfErr, OnOk, OnErr, IsTrue, false, true, Err};
+ghost use Rattle.std.specs.Prelude.{ℕ, [], ◌∷◌, None, length, ◌≢◌, ◌≡◌, ◌<◌, ◌≤◌, ◌+◌, ◌-◌, ◌*◌, ◌%◌, ◌^◌, IfOk, IfErr, OnOk, OnErr, IsTrue, false, true, Err};
 ghost use Rattle.legs.specs.Costs.{leg_feature};
 ghost use Rattle.legs.specs.Hull.{leg_boxes};
 ghost use Rattle.tbtree.specs.Faults.{IsAllowed, IsCaused};
@@ -7,7 +7,7 @@ ghost use Rattle.tbtree.specs.Nodes.{pages_of_cache, HasLeaf, KeepsLeaves};
 ghost use Rattle.tbtree.specs.Passes.{Passes, KeepsLength};
 ghost use Rattle.tbtree.specs.Way.{IsOnWay, Hangs};
 ghost use Rattle.tbtree.specs.Insert.{Grows, Begins, Inserts};
-ghost use Rattle.tbtree.specs.Joining.{HasAtEnd, Joins, JoinsAll};
+ghost use Rattle.tbtree.specs.Joining.{HasAtEnd, Joins, JoinsAll, KeepsLegs};
 ghost use Rattle.tbtree.specs.Payloads.{TakesLegs, are_of_one_leaf};
 ghost use Rattle.tbtree.specs.Shape.{IsShape};
 ghost use Rattle.tbtree.specs.declared.fault.TreeFault.{TreeFault};
@@ -54,11 +54,13 @@ fn way<S: PageStore>(
 }
 
 /// Puts legs at the end of the leaf of that number, which has room, and widens the boxes above it once for all of them.
+/// Where the way down ends at another page than `last`, that one is malformed.
 #[tactic(auto, using(crate::proofs::PassLemmas::passing))]
 fn into_leaf<S: PageStore>(
     cache: &mut PageCache<S>,
     tree: &TbTree,
     number: u32,
+    last: u32,
     legs: &[Leg],
 ) -> Result<(), TreeFault>
     requires levels { 0 < tree.now.levels }
@@ -66,10 +68,12 @@ fn into_leaf<S: PageStore>(
     requires some { 0 < length legs.now }
     ensures grows { IsTrue cache.old.store.is_faithful
         → Grows leg_boxes leg_feature tree.now.shape.inner tree.now.levels tree.now.root
-        (pages_of_cache cache.old) (pages_of_cache cache.new) number legs.now
+        (pages_of_cache cache.old) (pages_of_cache cache.new) number last legs.now
         (λ leaf. TakesLegs tree.now.shape.leaf leaf legs.now) result }
     ensures ends { IsTrue cache.old.store.is_faithful
-        → OnOk result (HasAtEnd (pages_of_cache cache.new) legs.now) }
+        → OnOk result (HasAtEnd (pages_of_cache cache.new) last legs.now) }
+    ensures keeps { IsTrue cache.old.store.is_faithful → OnOk result
+        (KeepsLegs last legs.now (pages_of_cache cache.old) (pages_of_cache cache.new)) }
     ensures passes { Passes cache.old cache.new }
     ensures length { OnOk result (KeepsLength cache.old cache.new) }
     ensures caused { IfErr result (IsCaused cache.old cache.new) }
@@ -78,6 +82,9 @@ fn into_leaf<S: PageStore>(
     let most = tree.shape.leaf();
     let bounds = cover_of_legs(legs);
     let page = way(cache, tree, number, 0, &bounds)?;
+    if page != last {
+        return Err(TreeFault::Malformed(last));
+    }
     nodes::grow(cache, page, most, legs)
 }
 
@@ -179,14 +186,18 @@ fn into_last<S: PageStore>(
         → JoinsAll (pages_of_cache cache.old) (pages_of_cache cache.new) tree.now tree.now
         place.old place.new legs.now result }
     ensures ends { IsTrue cache.old.store.is_faithful
-        → OnOk result (HasAtEnd (pages_of_cache cache.new) legs.now) }
+        → OnOk result (HasAtEnd (pages_of_cache cache.new) place.new.last legs.now) }
+    ensures keeps { IsTrue cache.old.store.is_faithful → OnOk result
+        (KeepsLegs place.old.last legs.now (pages_of_cache cache.old)
+        (pages_of_cache cache.new)) }
+    ensures stays { place.new.last ≡ place.old.last }
     ensures legs { OnOk result (place.new.legs ≡ place.old.legs + length legs.now) }
     ensures passes { Passes cache.old cache.new }
     ensures length { OnOk result (KeepsLength cache.old cache.new) }
     ensures caused { IfErr result (IsCaused cache.old cache.new) }
     ensures asked { cache.new.asked ≤ cache.old.asked + tree.now.levels }
 {
-    into_leaf(cache, tree, place.last_index, legs)?;
+    into_leaf(cache, tree, place.last_index, place.last, legs)?;
     place.legs += legs.len() as u64;
     Ok(())
 }
@@ -200,11 +211,16 @@ fn add_last<S: PageStore>(
 ) -> Result<u32, TreeFault>
     requires some { 0 < length legs.now }
     requires few { length legs.now ≤ 50 }
+    requires first { 0 < cache.old.count }
     ensures begins { IsTrue cache.old.store.is_faithful
         → IfOk result (Begins leg_feature (pages_of_cache cache.old) last legs.now
         (pages_of_cache cache.new)) }
     ensures ends { IsTrue cache.old.store.is_faithful
-        → OnOk result (HasAtEnd (pages_of_cache cache.new) legs.now) }
+        → IfOk result (λ page. HasAtEnd (pages_of_cache cache.new) page legs.now) }
+    ensures keeps { IsTrue cache.old.store.is_faithful → OnOk result
+        (KeepsLegs last legs.now (pages_of_cache cache.old) (pages_of_cache cache.new)) }
+    ensures fresh { IsTrue cache.old.store.is_faithful
+        → IfOk result (λ page. (pages_of_cache cache.old).at page ≡ None) }
     ensures only { IsTrue cache.old.store.is_faithful
         → (0 < last → HasLeaf (pages_of_cache cache.old) last)
         → are_of_one_leaf legs.now ≡ true → IfErr result IsAllowed }
@@ -265,11 +281,17 @@ fn begin<S: PageStore>(
     requires few_legs { place.old.legs + length legs.now < 2 ^ 64 }
     requires few_leaves { tree.old.leaves < 2 ^ 32 - 1 }
     requires few_levels { tree.old.levels < 2 ^ 16 - 1 }
+    requires first { 0 < cache.old.count }
     ensures inserts { IsTrue cache.old.store.is_faithful
         → JoinsAll (pages_of_cache cache.old) (pages_of_cache cache.new) tree.old tree.new
         place.old place.new legs.now result }
     ensures ends { IsTrue cache.old.store.is_faithful
-        → OnOk result (HasAtEnd (pages_of_cache cache.new) legs.now) }
+        → OnOk result (HasAtEnd (pages_of_cache cache.new) place.new.last legs.now) }
+    ensures keeps { IsTrue cache.old.store.is_faithful → OnOk result
+        (KeepsLegs place.old.last legs.now (pages_of_cache cache.old)
+        (pages_of_cache cache.new)) }
+    ensures fresh { IsTrue cache.old.store.is_faithful
+        → OnOk result ((pages_of_cache cache.old).at place.new.last ≡ None) }
     ensures spent { tree.new.spent ≡ tree.old.spent }
     ensures shape { tree.new.shape ≡ tree.old.shape }
     ensures passes { Passes cache.old cache.new }
@@ -324,7 +346,14 @@ pub(crate) fn put<S: PageStore>(
     ensures higher { OnOk result (tree.old.levels ≤ tree.new.levels) }
     ensures legs { OnOk result (place.new.legs ≡ place.old.legs + length legs.now) }
     ensures ends { IsTrue cache.old.store.is_faithful
-        → OnOk result (HasAtEnd (pages_of_cache cache.new) legs.now) }
+        → OnOk result (HasAtEnd (pages_of_cache cache.new) place.new.last legs.now) }
+    ensures keeps { IsTrue cache.old.store.is_faithful → OnOk result
+        (KeepsLegs place.old.last legs.now (pages_of_cache cache.old)
+        (pages_of_cache cache.new)) }
+    ensures fresh { IsTrue cache.old.store.is_faithful → place.old.legs % tree.old.shape.leaf ≡ 0
+        → OnOk result ((pages_of_cache cache.old).at place.new.last ≡ None) }
+    ensures stays { 0 < place.old.legs % tree.old.shape.leaf
+        → OnOk result (place.new.last ≡ place.old.last) }
     ensures begun { place.old.legs % tree.old.shape.leaf ≡ 0
         → OnOk result (tree.new.leaves ≡ tree.old.leaves + 1) }
     ensures grown { 0 < place.old.legs % tree.old.shape.leaf
@@ -364,6 +393,15 @@ pub fn insert<S: PageStore>(
         → Joins (pages_of_cache cache.old) (pages_of_cache cache.new) tree.old tree.new
         place.old place.new leg result }
     ensures shape { tree.new.shape ≡ tree.old.shape }
+
+    // Over any faithful pages the place's last leaf is then one of the leg's feature, with the leg at its end; each leaf
+    // that was there is as it was, but for the one that was the last, which has its legs; and the place counts the leg.
+    ensures ends { IsTrue cache.old.store.is_faithful
+        → OnOk result (HasAtEnd (pages_of_cache cache.new) place.new.last (leg ∷ [])) }
+    ensures keeps { IsTrue cache.old.store.is_faithful → OnOk result
+        (KeepsLegs place.old.last (leg ∷ []) (pages_of_cache cache.old)
+        (pages_of_cache cache.new)) }
+    ensures counted { OnOk result (place.new.legs ≡ place.old.legs + 1) }
 
     // What is left of the cache, over any pages.
     ensures passes { Passes cache.old cache.new }

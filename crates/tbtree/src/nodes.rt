@@ -62,6 +62,9 @@ pub(crate) fn grow<S: PageStore>(
     ensures only { IsTrue cache.old.store.is_faithful
         → HasLeafRoom (pages_of_cache cache.old) page (λ leaf. TakesLegs most leaf legs.now)
         → IfErr result IsAllowed }
+    ensures takes { IsTrue cache.old.store.is_faithful
+        → OnOk result (HasLeafRoom (pages_of_cache cache.old) page
+        (λ leaf. TakesLegs most leaf legs.now)) }
     ensures passes { Passes cache.old cache.new }
     ensures length { OnOk result (KeepsLength cache.old cache.new) }
     ensures caused { IfErr result (IsCaused cache.old cache.new) }
@@ -178,6 +181,8 @@ pub(crate) fn add_leaf<S: PageStore>(
         (pages_of_cache cache.new)) }
     ensures only { IsTrue cache.old.store.is_faithful
         → are_of_one_leaf legs.now ≡ true → IfErr result IsAllowed }
+    ensures fresh { OnOk result ((pages_of_cache cache.old).at cache.old.count ≡ None) }
+    ensures one { OnOk result (are_of_one_leaf legs.now ≡ true) }
     ensures passes { Passes cache.old cache.new }
     ensures length { OnOk result (KeepsLength cache.old cache.new) }
     ensures caused { IfErr result (IsCaused cache.old cache.new) }

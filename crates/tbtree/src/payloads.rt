@@ -1,5 +1,5 @@
 //! What a payload is as a page of a tree.
-ghost use Rattle.std.specs.Prelude.{◌≡◌, ◌<◌, ◌≤◌, ◌↔◌, IfSome, IsTrue, false, None, Some, length, option_map};
+ghost use Rattle.std.specs.Prelude.{◌≡◌, ◌<◌, ◌≤◌, ◌↔◌, IfSome, IsTrue, false, true, None, Some, length, option_map};
 ghost use Rattle.legs.specs.Hull.{hull, leg_boxes};
 ghost use Rattle.tbnode.specs.Form.{node_of};
 ghost use Rattle.tbnode.specs.Nodes.{as_leaf};
@@ -73,6 +73,7 @@ pub(crate) fn leaf_of_legs(previous: u32, legs: &[Leg]) -> Option<Payload>
     requires few { length legs.now ≤ 50 }
     ensures some { IfSome result
         (λ payload. node_of payload ≡ Some (leaf_of_legs previous legs.now)) }
+    ensures one { IfSome result (λ _. are_of_one_leaf legs.now ≡ true) }
     ensures none { result ≡ None → are_of_one_leaf legs.now ≡ false }
 {
     let first = &legs[0];

@@ -1,12 +1,15 @@
-use Rattle.std.proofs.Common.{◌≢◌, ⊎_elim, ◌≡◌, ◌<◌, ◌≤◌, ◌+◌, ◌%◌, ◌∙◌, refl, ap, arith, length, subst}
-use Rattle.std.proofs.lemmas.Bool.{cases_eq, cases_lt}
+use Rattle.std.proofs.Common.{◌≡◌, ◌<◌, ◌≤◌, ◌+◌, ◌-◌, ◌%◌, ◌∙◌, refl, ap, arith, length, subst, sym, take, inl, ⊎_elim}
+use Rattle.std.proofs.lemmas.Bool.{cases_lt}
+use Rattle.std.proofs.lemmas.List.{take_all}
 use Rattle.std.proofs.lemmas.Result.{err_from_is_err_and}
-use Rattle.tbtree.specs.declared.tree.Place.{Place}
 use Rattle.legs.specs.Costs.{ShapeView}
 use Rattle.tbtree.specs.Nodes.{pages_of_cache}
 use Rattle.tbtree.proofs.FillCosts.{filled_start, filled_part}
-use Rattle.tbtree.proofs.FillLemmas.{ends_all, joins_none, length_part, part_joins, part_refused}
+use Rattle.tbtree.proofs.EndLemmas.{last_made, keeps_same, keeps_then, IsLast}
+use Rattle.tbtree.proofs.FillLemmas.{all_in_last, joins_none, length_part, part_in_last, part_joins, part_refused}
+use Rattle.tbtree.specs.Joining.{in_last_leaf, HasAtEnd}
 use Rattle.tbtree.proofs.PassLemmas.{passes_refl, passes_trans}
+use Rattle.tbtree.proofs.RoomLemmas.{mod_at_next}
 use Rattle.tbtree.proofs.Still.{still}
 use Rattle.tbtree.proofs.filling.put_all.Goals as goal
 
@@ -23,8 +26,11 @@ leaves-init g c =
       passes = passes_refl cache;
       length_kept = λ e. e;
       higher = omega arith;
-      start = λ e. refl;
-      ends = λ fa above room. absurd (omega (arith, above));
+      counted = omega arith;
+      full = λ above left. absurd (omega (arith, above));
+      ends = λ fa above. absurd (omega (arith, above));
+      last = λ fa. inl refl;
+      keeps = λ fa. keeps_same c.args.place.now.last c.args.legs.now (pages_of_cache cache);
       filled = filled_start tree.shape.leaf (length c.args.legs.now) cache tree c.args.place.now (omega (arith, least));
     }
 
@@ -53,8 +59,12 @@ leaves-preserved g c =
     let fits = c.fitting-many.ensures in
     let full : n + k < length legs → filled + k ≡ leaf = λ left.
     subst (λ m. c.leaves.place.legs % m + k ≡ m) own (fits.full (omega (arith, left))) in
+    let within : n + k ≤ length legs = let most = fits.most in let before = so_far.within in omega (arith, most, before) in
+    let room : filled + k ≤ leaf = subst (λ m. c.leaves.place.legs % m + k ≤ m) own fits.room in
+    let many = length_part legs n k within in
+    let counted : c.put.new.place.legs ≡ c.leaves.place.legs + k = put.legs ∙ ap (λ m. c.leaves.place.legs + m) many in
     record {
-      within = (let most = fits.most in let within = so_far.within in omega (arith, most, within));
+      within = within;
       joins = λ fa. part_joins (pages_of_cache old) (pages_of_cache now) (pages_of_cache new) c.args.tree.now c.leaves.tree c.put.new.tree c.args.place.now c.leaves.place c.put.new.place
           legs n k (so_far.joins fa) (put.inserts (still _ _ so_far.passes.store.faithful fa));
       spent = put.spent ∙ so_far.spent;
@@ -62,26 +72,42 @@ leaves-preserved g c =
       passes = passes_trans old now new so_far.passes put.passes;
       length_kept = λ e. put.length (so_far.length_kept e);
       higher = (let was = so_far.higher in let now = put.higher in omega (arith, was, now));
-      start = λ e. absurd (let some = fits.some in omega (arith, e, some));
-      ends = λ fa above room. ⊎_elim
-          (λ (z : n ≡ 0).
-          let first : c.leaves.place.legs ≡ c.args.place.now.legs = ap (λ (p : Place). p.legs) (so_far.start z) in
-          let own_filled : filled ≡ c.args.place.now.legs % leaf = ap (λ m. m % leaf) first in
-          let all : k ≡ length legs = ⊎_elim
-          (λ (l : n + k < length legs). absurd (let f = full l in omega (arith, f, own_filled, room, l, z)))
-          (λ (l : length legs ≤ n + k). let most = fits.most in omega (arith, l, most, z))
-          (cases_lt (n + k) (length legs)) in
-          (omega (arith, z, all), ends_all (pages_of_cache new) legs n k z all (put.ends (still _ _ so_far.passes.store.faithful fa))))
-          (λ (u : n ≢ 0). absurd (let e = (so_far.ends fa (omega (arith, u)) room).0 in let l = c.leaves-test.true in omega (arith, e, l)))
-          (cases_eq n 0);
+      counted = (let legs_are = put.legs in let so_many = so_far.counted in omega (arith, legs_are, so_many, many));
+      full = λ above left. ap (λ m. m % leaf) counted ∙ mod_at_next c.leaves.place.legs k leaf (full left);
+      ends = λ fa above. subst (λ l. HasAtEnd (pages_of_cache new) c.put.new.place.last l)
+          (sym (ap (λ m. in_last_leaf leaf m (take (n + k) legs)) counted ∙ part_in_last leaf c.leaves.place.legs n k legs fits.some within room (λ above. so_far.full above c.leaves-test.true)))
+          (put.ends (still _ _ so_far.passes.store.faithful fa));
+      last = λ fa. ⊎_elim
+          (λ (above : 0 < filled). subst (λ b. IsLast (pages_of_cache old) c.args.place.now.last b) (sym (put.stays (omega (arith, same, above)))) (so_far.last fa))
+          (λ (none : filled ≤ 0). last_made legs (pages_of_cache old) (pages_of_cache now) c.args.place.now.last c.put.new.place.last (so_far.keeps fa)
+          (put.fresh (still _ _ so_far.passes.store.faithful fa) (same ∙ let z : filled ≡ 0 = omega (arith, none) in z)))
+          (cases_lt 0 filled);
+      keeps = λ fa. keeps_then legs (n + k - n) n (pages_of_cache old) (pages_of_cache now) (pages_of_cache new) c.args.place.now.last c.leaves.place.last (so_far.keeps fa) (put.keeps (still _ _ so_far.passes.store.faithful fa)) (so_far.last fa);
       filled = filled_part leaf n k (length legs) old now new c.args.tree.now c.leaves.tree c.put.new.tree c.leaves.place c.put.new.place
-          fits.some so_far.filled c.leaves-test.true put.higher (put.legs ∙ ap (λ m. c.leaves.place.legs + m) (length_part legs n k (let most = fits.most in let within = so_far.within in omega (arith, most, within))))
-          (subst (λ m. c.leaves.place.legs % m + k ≤ m) own fits.room) full
+          fits.some so_far.filled c.leaves-test.true put.higher counted
+          room full
           (λ z. put.begun (same ∙ z)) (λ z. put.begun_asked (same ∙ z)) (λ above. put.grown (omega (arith, same, above))) (λ above. put.grown_asked (omega (arith, same, above)));
     }
 
 pub returns-clause-ends : goal.returns-clause-ends
-returns-clause-ends g c = λ fa some room.
+returns-clause-ends g c = λ fa some.
+    let legs = c.args.legs.now in
     let so_far = c.leaves.invariant in
     let over = c.leaves-test.false in
-    (so_far.ends fa (omega (arith, over, some)) room).1
+    subst (λ l. HasAtEnd (pages_of_cache c.leaves.cache) c.leaves.place.last (in_last_leaf c.args.tree.now.shape.leaf c.leaves.place.legs l)) (take_all c.leaves.from legs (omega (arith, over)))
+    (so_far.ends fa (omega (arith, over, some)))
+
+pub returns-clause-counted : goal.returns-clause-counted
+returns-clause-counted g c =
+    let so_far = c.leaves.invariant in
+    let within = so_far.within in
+    let counted = so_far.counted in
+    let over = c.leaves-test.false in
+    omega (arith, over, within, counted)
+
+pub returns-clause-whole : goal.returns-clause-whole
+returns-clause-whole g c = λ fa some room.
+    let legs = c.args.legs.now in
+    let leaf = c.args.tree.now.shape.leaf in
+    subst (λ l. HasAtEnd (pages_of_cache c.leaves.cache) c.leaves.place.last l) (ap (λ m. in_last_leaf leaf m legs) (returns-clause-counted g c) ∙ all_in_last leaf c.args.place.now.legs legs some room)
+    (returns-clause-ends g c fa some)

@@ -1,8 +1,9 @@
 use Rattle.std.proofs.Common.{◌≡◌, ◌≤◌, ◌<◌, ◌+◌, ◌-◌, ◌%◌, length, take}
 use Rattle.std.specs.Prelude.{IsTrue, Ok}
-use Rattle.tbtree.specs.Joining.{HasAtEnd, JoinsAll}
+use Rattle.tbtree.specs.Joining.{in_last_leaf, HasAtEnd, JoinsAll, KeepsLegs}
 use Rattle.tbtree.specs.Nodes.{pages_of_cache}
 use Rattle.tbtree.specs.Passes.{Passes, KeepsLength}
+use Rattle.tbtree.proofs.EndLemmas.{IsLast}
 use Rattle.tbtree.proofs.FillCosts.{IsFilled}
 use Rattle.tbtree.proofs.filling.put_all.Given as goal
 
@@ -19,8 +20,10 @@ invariant-leaves g l = record {
   passes : Passes l.fn.cache l.cache;
   length_kept : KeepsLength l.fn.cache l.cache;
   higher : l.fn.tree.levels ≤ l.tree.levels;
-  start : l.from ≡ 0 → l.place ≡ l.fn.place;
-  ends : IsTrue l.fn.cache.store.is_faithful → 0 < l.from → l.fn.place.legs % l.fn.tree.shape.leaf + length l.legs ≤ l.fn.tree.shape.leaf
-      → (l.from ≡ length l.legs) × HasAtEnd (pages_of_cache l.cache) l.legs;
+  counted : l.place.legs ≡ l.fn.place.legs + l.from;
+  full : 0 < l.from → l.from < length l.legs → l.place.legs % l.fn.tree.shape.leaf ≡ 0;
+  ends : IsTrue l.fn.cache.store.is_faithful → 0 < l.from → HasAtEnd (pages_of_cache l.cache) l.place.last (in_last_leaf l.fn.tree.shape.leaf l.place.legs (take l.from l.legs));
+  last : IsTrue l.fn.cache.store.is_faithful → IsLast (pages_of_cache l.fn.cache) l.fn.place.last l.place.last;
+  keeps : IsTrue l.fn.cache.store.is_faithful → KeepsLegs l.fn.place.last l.legs (pages_of_cache l.fn.cache) (pages_of_cache l.cache);
   filled : IsFilled l.fn.tree.shape.leaf l.from (length l.legs) l.fn.cache l.cache l.fn.tree l.tree l.place;
 }

@@ -1,6 +1,7 @@
 use Rattle.std.proofs.Common.{◌≡◌, ◌<◌, refl, arith}
 use Rattle.std.proofs.lemmas.Result.{err_from_is_err_and}
 use Rattle.tbtree.specs.Nodes.{pages_of_cache}
+use Rattle.tbtree.proofs.EndLemmas.{ends_kept, keeps_kept}
 use Rattle.tbtree.proofs.InsertLemmas.{inserts_begun, hang_not, add_not}
 use Rattle.tbtree.proofs.Still.{still}
 use Rattle.tbtree.proofs.insertion.begin.Goals as goal
@@ -30,3 +31,11 @@ returns-in_err-top-clause-inserts g c = λ fa.
     let p = err_from_is_err_and c.from_residual-in_err-top.result c.from_residual-in_err-top.ensures.1 in
     rw (p.1, p.2) (hang_not (pages_of_cache c.args.cache.now) (pages_of_cache c.add_last.new.cache) (pages_of_cache c.hang_leaf.new.cache) (pages_of_cache c.hang_leaf.new.cache) tree tree c.args.place.now c.args.place.now c.args.legs.now c.in_ok-page.page c.cover_of_legs-bounds.result _
     c.requires.some some (c.in_ok-page.ensures.begins fa) c.cover_of_legs-bounds.ensures (c.in_err-top.ensures.hangs (still _ _ c.add_last.ensures.passes.store.faithful fa)))
+
+pub returns-clause-ends : goal.returns-clause-ends
+returns-clause-ends g c = λ fa.
+    ends_kept (pages_of_cache c.add_last.new.cache) (pages_of_cache c.hang_leaf.new.cache) c.in_ok-page.page c.args.legs.now (c.in_ok-top.ensures.leaves (still _ _ c.add_last.ensures.passes.store.faithful fa)) (c.in_ok-page.ensures.ends fa)
+
+pub returns-clause-keeps : goal.returns-clause-keeps
+returns-clause-keeps g c = λ fa.
+    keeps_kept c.args.place.now.last c.args.legs.now (pages_of_cache c.args.cache.now) (pages_of_cache c.add_last.new.cache) (pages_of_cache c.hang_leaf.new.cache) (c.in_ok-page.ensures.keeps fa) (c.in_ok-top.ensures.leaves (still _ _ c.add_last.ensures.passes.store.faithful fa))

@@ -1,20 +1,47 @@
 use Rattle.std.proofs.Common.{◌<◌, arith, subst}
-use Rattle.std.specs.Prelude.{IfErr}
+use Rattle.std.specs.Prelude.{IfErr, OnOk}
 use Rattle.std.proofs.lemmas.Result.{err_from_is_err_and}
 use Rattle.legs.specs.Legs.{LegView}
 use Rattle.legs.specs.Hull.{leg_boxes}
 use Rattle.legs.specs.Costs.{leg_feature}
 use Rattle.tbtree.specs.Faults.{IsAllowed}
+use Rattle.tbtree.specs.declared.fault.TreeFault.TheVariants.{Malformed}
+use Rattle.tbtree.specs.Joining.{HasAtEnd, KeepsLegs}
 use Rattle.tbtree.specs.Nodes.{pages_of_cache, LeafView, HasLeafRoom}
 use Rattle.tbtree.specs.Payloads.{TakesLegs}
 use Rattle.tbtree.proofs.LawfulBoxes.{lawful}
-use Rattle.tbtree.proofs.FillLemmas.{ends_pushed}
-use Rattle.tbtree.proofs.Growing.{grow_way, grow_refused}
+use Rattle.tbtree.proofs.EndLemmas.{ends_pushed, keeps_pushed}
+use Rattle.tbtree.proofs.Growing.{grow_way, grow_elsewhere, grow_refused}
 use Rattle.tbtree.proofs.Still.{still}
 use Rattle.tbtree.proofs.insertion.into_leaf.Goals as goal
 
 pub returns-clause-ends : goal.returns-clause-ends
-returns-clause-ends g c = λ fa. ends_pushed (pages_of_cache c.way.new.cache) (pages_of_cache c.grow.new.cache) c.in_ok-page.page c.args.legs.now c.grow.result (c.grow.ensures.pushes (still _ _ c.way.ensures.passes.store.faithful fa))
+returns-clause-ends g c = λ fa.
+    let faithful = still _ _ c.way.ensures.passes.store.faithful fa in
+    let new = pages_of_cache c.grow.new.cache in
+    let legs = c.args.legs.now in
+    subst (λ p. OnOk c.grow.result (HasAtEnd new p legs)) c.if-page-last.false
+    (ends_pushed (pages_of_cache c.way.new.cache) new c.in_ok-page.page c.leaf-most.result legs c.grow.result (c.grow.ensures.takes faithful) (c.grow.ensures.pushes faithful))
+
+pub returns-clause-keeps : goal.returns-clause-keeps
+returns-clause-keeps g c = λ fa.
+    let faithful = still _ _ c.way.ensures.passes.store.faithful fa in
+    let old = pages_of_cache c.args.cache.now in
+    let new = pages_of_cache c.grow.new.cache in
+    let legs = c.args.legs.now in
+    subst (λ p. OnOk c.grow.result (KeepsLegs p legs old new)) c.if-page-last.false
+    (keeps_pushed old (pages_of_cache c.way.new.cache) new c.in_ok-page.page c.leaf-most.result legs c.grow.result c.requires.some
+    (c.in_ok-page.ensures.leaves fa) (c.grow.ensures.takes faithful) (c.grow.ensures.pushes faithful))
+
+pub returns-then-page-last-clause-grows : goal.returns-then-page-last-clause-grows
+returns-then-page-last-clause-grows g c = λ fa.
+    let tree = c.args.tree.now in
+    let legs = c.args.legs.now in
+    let mid = pages_of_cache c.way.new.cache in
+    let can : LeafView LegView → Type 0 = λ leaf. TakesLegs tree.shape.leaf leaf legs in
+    let some : 0 < tree.shape.inner = let range = c.leaf-most.ensures.range.least_inner in omega (arith, range) in
+    grow_elsewhere leg_boxes lawful leg_feature tree.shape.inner tree.levels tree.root (pages_of_cache c.args.cache.now) mid mid c.args.number c.in_ok-page.page c.args.last legs
+    can c.cover_of_legs-bounds.result (Malformed c.args.last) some c.cover_of_legs-bounds.ensures (c.in_ok-page.ensures.way fa) c.if-page-last.true
 
 pub returns-clause-grows : goal.returns-clause-grows
 returns-clause-grows g c = λ fa.
@@ -25,7 +52,7 @@ returns-clause-grows g c = λ fa.
     let faithful = still _ _ c.way.ensures.passes.store.faithful fa in
     let some : 0 < tree.shape.inner = let range = c.leaf-most.ensures.range.least_inner in omega (arith, range) in
     let only = subst (λ most. HasLeafRoom mid c.in_ok-page.page (λ leaf. TakesLegs most leaf legs) → IfErr c.grow.result IsAllowed) c.leaf-most.ensures.value (c.grow.ensures.only faithful) in
-    grow_way leg_boxes lawful leg_feature tree.shape.inner tree.levels tree.root (pages_of_cache c.args.cache.now) mid (pages_of_cache c.grow.new.cache) c.args.number c.in_ok-page.page legs
+    grow_way leg_boxes lawful leg_feature tree.shape.inner tree.levels tree.root (pages_of_cache c.args.cache.now) mid (pages_of_cache c.grow.new.cache) c.args.number c.in_ok-page.page c.args.last legs
     can c.cover_of_legs-bounds.result some c.cover_of_legs-bounds.ensures (c.in_ok-page.ensures.way fa) c.grow.result (c.grow.ensures.pushes faithful) only
 
 pub returns-in_err-page-clause-grows : goal.returns-in_err-page-clause-grows
@@ -36,4 +63,4 @@ returns-in_err-page-clause-grows g c = λ fa.
     let can : LeafView LegView → Type 0 = λ leaf. TakesLegs tree.shape.leaf leaf legs in
     let some : 0 < tree.shape.inner = let range = c.leaf-most.ensures.range.least_inner in omega (arith, range) in
     let p = err_from_is_err_and c.from_residual.result c.from_residual.ensures.1 in
-    rw (p.1, p.2) (grow_refused leg_boxes lawful leg_feature tree.shape.inner tree.levels tree.root (pages_of_cache c.args.cache.now) mid mid c.args.number legs can c.cover_of_legs-bounds.result _ some c.cover_of_legs-bounds.ensures (c.in_err-page.ensures.way fa))
+    rw (p.1, p.2) (grow_refused leg_boxes lawful leg_feature tree.shape.inner tree.levels tree.root (pages_of_cache c.args.cache.now) mid mid c.args.number c.args.last legs can c.cover_of_legs-bounds.result _ some c.cover_of_legs-bounds.ensures (c.in_err-page.ensures.way fa))
