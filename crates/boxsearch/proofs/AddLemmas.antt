@@ -16,7 +16,7 @@ use Rattle.legs.specs.declared.index.IndexFault.TheVariants as index
 use Rattle.pages.specs.Unsealed.{unsealed}
 use Rattle.pagecache.specs.Cache.{Cache, sealed_payload}
 use Rattle.tbtree.specs.Descent.{content_of}
-use Rattle.tbtree.specs.Faults.{Gives, IsAllowed, IsCaused}
+use Rattle.tbtree.specs.Faults.{GivesWrite, MayRefuseWrite, RefusesWrite}
 use Rattle.tbtree.specs.Insert.{Stands, IsPlace, Inserted}
 use Rattle.tbtree.specs.Nodes.{Pages, pages_of_cache}
 use Rattle.tbtree.specs.Passes.{Passes}
@@ -28,7 +28,7 @@ use Rattle.tbtree.specs.declared.tree.TbTree.{TbTree}
 use Rattle.boxsearch.specs.Answers.{answered, of_tree}
 use Rattle.boxsearch.specs.Index.{IndexView, words, content, IsSound, IsMarked, with_place}
 use Rattle.boxsearch.specs.Putting.{Puts}
-use Rattle.boxsearch.proofs.AnswerLemmas.{each_fault, the_fault, SaidOfLeg, tree_said, tree_allowed}
+use Rattle.boxsearch.proofs.AnswerLemmas.{each_fault, the_fault, SaidOfLeg, write_said, write_allowed}
 use Rattle.boxsearch.proofs.IndexLemmas.{content_is}
 use Rattle.boxsearch.proofs.PlaceLemmas.{get-set_same, get-set_other, made_places, length-made, some_same}
 use Rattle.boxsearch.proofs.TrackLemmas.{no_legs}
@@ -57,7 +57,7 @@ module _ (laws : Laws) (old new : IndexView) (leg : LegView) where
       (laws.absent (pages_of_cache old.cache) old.tree (content old) s.pages (length old.places) s.shape s.stands (no_legs (content old) (length old.places) (let n = s.features in omega (arith, n))))
 
   module _ (r : Result (Unit {0}) TreeFault) (p : Puts (made old leg.feature) new leg r) where
-    pub gives : (s : IsSound old) → CanFollow (content old) leg → Gives r (λ _. Inserted (pages_of_cache new.cache) old.tree new.tree (content old) s.pages leg p.is)
+    pub gives : (s : IsSound old) → CanFollow (content old) leg → GivesWrite r (λ _. Inserted (pages_of_cache new.cache) old.tree new.tree (content old) s.pages leg p.is)
     gives s w = p.inserts s.faithful (content old) s.pages s.stands (placed_made s leg.feature p.was p.found) w
 
     still_shape : IsSound old → IsShape new.tree.shape
@@ -131,18 +131,18 @@ module _ (laws : Laws) (old new : IndexView) (leg : LegView) where
       omega (arith, clamps, h, g, a)
   asked (Err x) p = tt
 
-  allowed : (r : Result (Unit {0}) TreeFault) → Puts (made old leg.feature) new leg r → IfErr r (λ fault. IsSound old → CanFollowInTurn (content old) (leg ∷ []) → IsAllowed fault)
+  allowed : (r : Result (Unit {0}) TreeFault) → Puts (made old leg.feature) new leg r → IfErr r (λ fault. IsSound old → CanFollowInTurn (content old) (leg ∷ []) → MayRefuseWrite fault)
   allowed (Ok tt) p = tt
   allowed (Err x) p = λ s w. gives (Err x) p s w.0
 
   pub refusals : (r : Result (Unit {0}) TreeFault) → old.tree.spent ≡ false → Puts (made old leg.feature) new leg r → LegRefusals words old new (leg ∷ []) (answered (λ fault. of_tree fault) r)
   refusals r works p =
       let say : TreeFault → IndexFault = λ fault. of_tree fault in
-      let said = each_fault say (IsCaused old.cache new.cache) (SaidOfLeg old.cache new.cache) (tree_said old.cache new.cache) r p.caused in
+      let said = each_fault say (RefusesWrite old.cache new.cache) (SaidOfLeg old.cache new.cache) (write_said old.cache new.cache) r p.caused in
       record {
         spent = each_fault say (λ _. new.tree.spent ≡ true) (λ _. new.tree.spent ≡ true) (λ x h. h) r p.spent;
         was_spent = λ e. absurd (true≢false (sym e ∙ works));
-        sound = each_fault say (λ fault. IsSound old → CanFollowInTurn (content old) (leg ∷ []) → IsAllowed fault) (λ fault. IsSound old → CanFollowInTurn (content old) (leg ∷ []) → MayRefuseLeg fault) (λ x h s w. tree_allowed x (h s w)) r (allowed r p);
+        sound = each_fault say (λ fault. IsSound old → CanFollowInTurn (content old) (leg ∷ []) → MayRefuseWrite fault) (λ fault. IsSound old → CanFollowInTurn (content old) (leg ∷ []) → MayRefuseLeg fault) (λ x h s w. write_allowed x (h s w)) r (allowed r p);
         store = λ e. the_fault (answered say r) (SaidOfLeg old.cache new.cache) index.Store e said;
         full = λ e. the_fault (answered say r) (SaidOfLeg old.cache new.cache) index.StoreFull e said;
       }

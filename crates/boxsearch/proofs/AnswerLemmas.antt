@@ -1,5 +1,5 @@
 -- What the answers of the parts say of the answers of the index.
-use Rattle.std.proofs.Common.{◌≡◌, subst, Result, Ok, Err}
+use Rattle.std.proofs.Common.{◌≡◌, Bool, true, false, refl, sym, subst, Result, Ok, Err}
 use Rattle.std.specs.Prelude.{MatchResult, IfOk, IfErr, IsErrOf}
 use Rattle.legs.specs.Index.{MayRefuse, MayRefuseLeg, HasRisen}
 use Rattle.legs.specs.declared.index.IndexFault.{IndexFault}
@@ -7,16 +7,10 @@ use Rattle.legs.specs.declared.index.IndexFault.TheVariants as index
 use Rattle.pagecache.specs.Cache.{Cache}
 use Rattle.pagecache.specs.declared.fault.CacheFault.{CacheFault}
 use Rattle.pagecache.specs.declared.fault.CacheFault.TheVariants as cache
-use Rattle.chains.specs.Faults as chains
-use Rattle.chains.specs.declared.fault.ChainFault.{ChainFault}
-use Rattle.chains.specs.declared.fault.ChainFault.TheVariants as chain
-use Rattle.tbtree.specs.Faults as trees
+use Rattle.tbtree.specs.Faults.{MayRefuseRead, MayRefuseReadInCache, MayRefuseWrite, MayRefuseWriteInCache, RefusesRead, RefusesReadInCache, RefusesWrite, RefusesWriteInCache}
 use Rattle.tbtree.specs.declared.fault.TreeFault.{TreeFault}
 use Rattle.tbtree.specs.declared.fault.TreeFault.TheVariants as tree
-use Rattle.boxsearch.specs.Answers.{answered, of_cache, of_chain, of_search, of_tree}
-use Rattle.boxsearch.specs.Faults as searches
-use Rattle.boxsearch.specs.declared.fault.SearchFault.{SearchFault}
-use Rattle.boxsearch.specs.declared.fault.SearchFault.TheVariants as search
+use Rattle.boxsearch.specs.Answers.{answered, of_cache, of_tree}
 
 -- what is said of each fault of a part is said of the answer
 pub each_fault : {A F : Type 0} (say : F → IndexFault) (P : F → Type 0) (Q : IndexFault → Type 0) → ((fault : F) → P fault → Q (say fault)) → (r : Result A F) → IfErr r P → IfErr (answered say r) Q
@@ -68,77 +62,57 @@ SaidOfLeg old new (index.Damaged n) = Unit {0}
 SaidOfLeg old new index.StoreFull = new.count ≡ new.store.most
 SaidOfLeg old new index.Spent = Unit {0}
 
-chain_cache_said : (old new : Cache) (fault : CacheFault) → chains.IsCausedInCache old new fault → Said old new (of_cache fault)
-chain_cache_said old new cache.NoPage h = tt
-chain_cache_said old new cache.Store h = h
-chain_cache_said old new (cache.Damaged n) h = tt
-chain_cache_said old new cache.StoreFull h = h
-chain_cache_said old new cache.Memory h = tt
+read_cache_said : (old new : Cache) (fault : CacheFault) → RefusesReadInCache old new fault → Said old new (of_cache fault)
+read_cache_said old new cache.NoPage h = tt
+read_cache_said old new cache.Store h = h
+read_cache_said old new (cache.Damaged n) h = tt
+read_cache_said old new cache.StoreFull h = h
+read_cache_said old new cache.Memory h = tt
 
-pub chain_said : (old new : Cache) (fault : ChainFault) → chains.IsCaused old new fault → Said old new (of_chain fault)
-chain_said old new (chain.Cache fault) h = chain_cache_said old new fault h
-chain_said old new (chain.Malformed n) h = tt
-chain_said old new chain.Memory h = tt
+pub read_said : (old new : Cache) (fault : TreeFault) → RefusesRead old new fault → Said old new (of_tree fault)
+read_said old new (tree.Cache fault) h = read_cache_said old new fault h
+read_said old new (tree.Malformed n) h = tt
+read_said old new tree.Spent h = tt
 
-search_cache_said : (old new : Cache) (fault : CacheFault) → searches.IsCausedInCache old new fault → Said old new (of_cache fault)
-search_cache_said old new cache.NoPage h = tt
-search_cache_said old new cache.Store h = h
-search_cache_said old new (cache.Damaged n) h = tt
-search_cache_said old new cache.StoreFull h = h
-search_cache_said old new cache.Memory h = tt
+-- of a tree that may be spent
+pub search_said : {A : Type 0} (spent : Bool) (old new : Cache) (r : Result A TreeFault) → (spent ≡ true → (r ≡ Err tree.Spent) × (new ≡ old)) → (spent ≡ false → IfErr r (RefusesRead old new))
+    → IfErr (answered (λ fault. of_tree fault) r) (Said old new)
+search_said true old new r refused caused = subst (λ r. IfErr (answered (λ fault. of_tree fault) r) (Said old new)) (sym (refused refl).0) tt
+search_said false old new r refused caused = each_fault (λ fault. of_tree fault) (RefusesRead old new) (Said old new) (read_said old new) r (caused refl)
 
-pub search_said : (old new : Cache) (fault : SearchFault) → searches.IsCaused old new fault → Said old new (of_search fault)
-search_said old new (search.Cache fault) h = search_cache_said old new fault h
-search_said old new (search.Malformed n) h = tt
-search_said old new search.Spent h = tt
-search_said old new search.Memory h = tt
+write_cache_said : (old new : Cache) (fault : CacheFault) → RefusesWriteInCache old new fault → SaidOfLeg old new (of_cache fault)
+write_cache_said old new cache.NoPage h = tt
+write_cache_said old new cache.Store h = h
+write_cache_said old new (cache.Damaged n) h = tt
+write_cache_said old new cache.StoreFull h = h
+write_cache_said old new cache.Memory h = tt
 
-tree_cache_said : (old new : Cache) (fault : CacheFault) → trees.IsCausedInCache old new fault → SaidOfLeg old new (of_cache fault)
-tree_cache_said old new cache.NoPage h = tt
-tree_cache_said old new cache.Store h = h
-tree_cache_said old new (cache.Damaged n) h = tt
-tree_cache_said old new cache.StoreFull h = h
-tree_cache_said old new cache.Memory h = tt
-
-pub tree_said : (old new : Cache) (fault : TreeFault) → trees.IsCaused old new fault → SaidOfLeg old new (of_tree fault)
-tree_said old new (tree.Cache fault) h = tree_cache_said old new fault h
-tree_said old new (tree.Malformed n) h = tt
-tree_said old new tree.Spent h = tt
+pub write_said : (old new : Cache) (fault : TreeFault) → RefusesWrite old new fault → SaidOfLeg old new (of_tree fault)
+write_said old new (tree.Cache fault) h = write_cache_said old new fault h
+write_said old new (tree.Malformed n) h = tt
+write_said old new tree.Spent h = tt
 
 -- what good pages allow, a sound index may answer
-chain_cache_allowed : (fault : CacheFault) → chains.IsAllowedOfCache fault → MayRefuse (of_cache fault)
-chain_cache_allowed cache.NoPage h = h
-chain_cache_allowed cache.Store h = tt
-chain_cache_allowed (cache.Damaged n) h = h
-chain_cache_allowed cache.StoreFull h = h
-chain_cache_allowed cache.Memory h = tt
+read_cache_allowed : (fault : CacheFault) → MayRefuseReadInCache fault → MayRefuse (of_cache fault)
+read_cache_allowed cache.NoPage h = h
+read_cache_allowed cache.Store h = tt
+read_cache_allowed (cache.Damaged n) h = h
+read_cache_allowed cache.StoreFull h = h
+read_cache_allowed cache.Memory h = tt
 
-pub chain_allowed : (fault : ChainFault) → chains.IsAllowed fault → MayRefuse (of_chain fault)
-chain_allowed (chain.Cache fault) h = chain_cache_allowed fault h
-chain_allowed (chain.Malformed n) h = h
-chain_allowed chain.Memory h = tt
+pub read_allowed : (fault : TreeFault) → MayRefuseRead fault → MayRefuse (of_tree fault)
+read_allowed (tree.Cache fault) h = read_cache_allowed fault h
+read_allowed (tree.Malformed n) h = h
+read_allowed tree.Spent h = h
 
-search_cache_allowed : (fault : CacheFault) → searches.IsAllowedOfCache fault → MayRefuse (of_cache fault)
-search_cache_allowed cache.NoPage h = h
-search_cache_allowed cache.Store h = tt
-search_cache_allowed (cache.Damaged n) h = h
-search_cache_allowed cache.StoreFull h = h
-search_cache_allowed cache.Memory h = tt
+write_cache_allowed : (fault : CacheFault) → MayRefuseWriteInCache fault → MayRefuseLeg (of_cache fault)
+write_cache_allowed cache.NoPage h = h
+write_cache_allowed cache.Store h = tt
+write_cache_allowed (cache.Damaged n) h = h
+write_cache_allowed cache.StoreFull h = tt
+write_cache_allowed cache.Memory h = tt
 
-pub search_allowed : (fault : SearchFault) → searches.IsAllowed fault → MayRefuse (of_search fault)
-search_allowed (search.Cache fault) h = search_cache_allowed fault h
-search_allowed (search.Malformed n) h = h
-search_allowed search.Spent h = h
-search_allowed search.Memory h = tt
-
-tree_cache_allowed : (fault : CacheFault) → trees.IsAllowedOfCache fault → MayRefuseLeg (of_cache fault)
-tree_cache_allowed cache.NoPage h = h
-tree_cache_allowed cache.Store h = tt
-tree_cache_allowed (cache.Damaged n) h = h
-tree_cache_allowed cache.StoreFull h = tt
-tree_cache_allowed cache.Memory h = tt
-
-pub tree_allowed : (fault : TreeFault) → trees.IsAllowed fault → MayRefuseLeg (of_tree fault)
-tree_allowed (tree.Cache fault) h = tree_cache_allowed fault h
-tree_allowed (tree.Malformed n) h = h
-tree_allowed tree.Spent h = h
+pub write_allowed : (fault : TreeFault) → MayRefuseWrite fault → MayRefuseLeg (of_tree fault)
+write_allowed (tree.Cache fault) h = write_cache_allowed fault h
+write_allowed (tree.Malformed n) h = h
+write_allowed tree.Spent h = h

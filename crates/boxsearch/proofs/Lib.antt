@@ -1,4 +1,3 @@
-pub mod ReadLemmas
 pub mod PushLemmas
 pub mod SameLemmas
 pub mod WayLemmas

@@ -12,7 +12,7 @@ use Rattle.legs.specs.Legs.{LegView}
 use Rattle.legs.specs.Places.{no_leg}
 use Rattle.legs.specs.declared.index.IndexFault.{IndexFault}
 use Rattle.legs.specs.declared.index.IndexFault.TheVariants as index
-use Rattle.tbtree.specs.Faults.{Gives, IsAllowed, IsCaused}
+use Rattle.tbtree.specs.Faults.{GivesWrite, MayRefuseWrite, RefusesWrite}
 use Rattle.tbtree.specs.Insert.{IsPlace}
 use Rattle.tbtree.specs.Joining.{AllJoined, CanJoinInTurn, CanTakeInTurn, Holds}
 use Rattle.tbtree.specs.Nodes.{Pages, pages_of_cache}
@@ -27,7 +27,7 @@ use Rattle.boxsearch.specs.Putting.{PutsAll, spent_from}
 use Rattle.boxsearch.specs.Taking.{HoldsLegs, Taking, taken}
 use Rattle.boxsearch.specs.declared.turns.Turn.{Turn}
 use Rattle.boxsearch.proofs.AddLemmas.{made, marked_after, feature_count-push}
-use Rattle.boxsearch.proofs.AnswerLemmas.{each_fault, the_fault, SaidOfLeg, tree_said, tree_allowed}
+use Rattle.boxsearch.proofs.AnswerLemmas.{each_fault, the_fault, SaidOfLeg, write_said, write_allowed}
 use Rattle.boxsearch.proofs.PlaceLemmas.{get-set_same, get-set_other, made_places, length-made, some_same}
 use Rattle.boxsearch.proofs.TrackLemmas.{no_legs}
 
@@ -65,7 +65,7 @@ module _ (laws : OrderLaws) (old new : IndexView) (feature : ℕ) (legs before :
       made_places (λ f place. IsPlace old.tree before s.pages f place) old.places feature s.placed
       (laws.absent old.tree before s.pages (length old.places) s.shape (no_legs before (length old.places) (let n = s.features in omega (arith, n))))
 
-  pub gives : CanTakeInTurn before legs → Gives r (λ _. AllJoined (pages_of_cache new.cache) old.tree new.tree before s.pages feature legs p.is)
+  pub gives : CanTakeInTurn before legs → GivesWrite r (λ _. AllJoined (pages_of_cache new.cache) old.tree new.tree before s.pages feature legs p.is)
   gives w = p.joins s.faithful feature before s.pages s.holds (placed_made feature p.was p.found) one (can_join_in_turn before legs w)
 
   module _ (w : CanTakeInTurn before legs) (i : AllJoined (pages_of_cache new.cache) old.tree new.tree before s.pages feature legs p.is) where
@@ -130,21 +130,21 @@ module _ (laws : OrderLaws) (old new : IndexView) (feature : ℕ) (legs : List L
   shape_kept (Ok tt) h = h
   shape_kept (Err x) h = tt
 
-  allowed : (r : Result (Unit {0}) TreeFault) → PutsAll (made old feature) new feature legs r → IfErr r (λ fault. (before : List LegView) → HoldsLegs old before → CanTakeInTurn before legs → IsAllowed fault)
+  allowed : (r : Result (Unit {0}) TreeFault) → PutsAll (made old feature) new feature legs r → IfErr r (λ fault. (before : List LegView) → HoldsLegs old before → CanTakeInTurn before legs → MayRefuseWrite fault)
   allowed (Ok tt) p = tt
   allowed (Err x) p = λ before s w. gives laws old new feature legs before some one (Err x) p s w
 
   pub joined : (r : Result (Unit {0}) TreeFault) → PutsAll (made old feature) new feature legs r → Taking old new legs (answered (λ fault. of_tree fault) r)
   joined r p =
       let say : TreeFault → IndexFault = λ fault. of_tree fault in
-      let said = each_fault say (IsCaused old.cache new.cache) (SaidOfLeg old.cache new.cache) (tree_said old.cache new.cache) r p.caused in
+      let said = each_fault say (RefusesWrite old.cache new.cache) (SaidOfLeg old.cache new.cache) (write_said old.cache new.cache) r p.caused in
       record {
         takes = takes r p;
         shape = on_answer (new.tree.shape ≡ old.tree.shape) r (shape_kept r p.shape);
         works = on_answer (new.tree.spent ≡ false) r p.works;
         spent = on_refusal (new.tree.spent ≡ true) r p.spent;
-        refused = each_fault say (λ fault. (before : List LegView) → HoldsLegs old before → CanTakeInTurn before legs → IsAllowed fault)
-            (λ fault. (before : List LegView) → HoldsLegs old before → CanTakeInTurn before legs → MayRefuseLeg fault) (λ x h before s w. tree_allowed x (h before s w)) r (allowed r p);
+        refused = each_fault say (λ fault. (before : List LegView) → HoldsLegs old before → CanTakeInTurn before legs → MayRefuseWrite fault)
+            (λ fault. (before : List LegView) → HoldsLegs old before → CanTakeInTurn before legs → MayRefuseLeg fault) (λ x h before s w. write_allowed x (h before s w)) r (allowed r p);
         store = λ e. the_fault (answered say r) (SaidOfLeg old.cache new.cache) index.Store e said;
         full = λ e. the_fault (answered say r) (SaidOfLeg old.cache new.cache) index.StoreFull e said;
         marked = marked_after old.cache new.cache p.passes;

@@ -1,5 +1,5 @@
 -- What an index over pages tells, and why it does not.
-use Rattle.std.proofs.Common.{ℕ, ◌≡◌, ◌≢◌, ◌∙◌, refl, sym, ap, subst, true, false, List, [], IsTrue, Option, Some, None, option_map, slice_get, Result, Ok, Err}
+use Rattle.std.proofs.Common.{ℕ, ◌≡◌, ◌∙◌, refl, sym, ap, subst, true, false, List, [], IsTrue, Option, Some, None, option_map, slice_get, Result, Ok, Err}
 use Rattle.std.proofs.lemmas.Bool.{true≢false}
 use Rattle.std.specs.Prelude.{IfOk, IfErr, OnOk, MatchResult, Bool}
 use Rattle.legs.specs.Asking.{Denies, TellsSieved}
@@ -16,19 +16,16 @@ use Rattle.pagecache.specs.declared.fault.CacheFault.{CacheFault}
 use Rattle.pagecache.specs.declared.fault.CacheFault.TheVariants as cache
 use Rattle.tbnode.specs.Form.{node_of}
 use Rattle.chains.specs.Chains.{IsPlaceChain, chain_fault, chain_legs}
-use Rattle.chains.specs.Faults as chains
-use Rattle.chains.specs.declared.fault.ChainFault.{ChainFault}
-use Rattle.chains.specs.declared.fault.ChainFault.TheVariants as chain
 use Rattle.tbtree.specs.Descent.{legs_met, HasInner, IsInOrder}
+use Rattle.tbtree.specs.Faults.{IfNamed, IsNamed, RefusesRead, fault_of}
 use Rattle.tbtree.specs.Nodes.{HasLeaf, pages_of_cache}
+use Rattle.tbtree.specs.declared.fault.TreeFault.{TreeFault}
+use Rattle.tbtree.specs.declared.fault.TreeFault.TheVariants as tree
 use Rattle.tbtree.specs.declared.tree.Place.{Place}
-use Rattle.boxsearch.specs.Answers.{answered, of_chain, of_search}
-use Rattle.boxsearch.specs.Faults.{IsCaused, IfNamed, fault_of}
+use Rattle.boxsearch.specs.Answers.{answered, of_tree}
 use Rattle.boxsearch.specs.Index.{IndexView, words, tells}
 use Rattle.boxsearch.specs.Telling.{TellsTrack, DeniesTrack}
 use Rattle.boxsearch.specs.Way.{meets, IsWay, IsOffWay}
-use Rattle.boxsearch.specs.declared.fault.SearchFault.{SearchFault}
-use Rattle.boxsearch.specs.declared.fault.SearchFault.TheVariants as search
 use Rattle.boxsearch.proofs.PlaceLemmas.{some_none}
 
 -- a page without a payload is no page of a tree
@@ -52,32 +49,44 @@ module _ (old new : Cache) (page : ℕ) where
   refused_leaf cache.StoreFull h f = tt
   refused_leaf cache.Memory h f = tt
 
-not_false : (b : Bool) → (b ≡ false → ⊥) → b ≡ true
-not_false true h = refl
-not_false false h = absurd (h refl)
-
 -- of a search
 module _ (i : IndexView) (c : Cache) (query : BoxView) where
-  search_denies : (fault : SearchFault)
+  search_denies : (fault : TreeFault)
       → (IsTrue i.cache.store.is_faithful → IfNamed (IsOffWay query (pages_of_cache i.cache) i.tree.root i.tree.levels) fault)
-      → IsCaused i.cache c fault → (i.tree.spent ≡ false → fault ≢ search.Spent) → Denies words i (InBox query) (of_search fault)
-  search_denies (search.Cache cache.NoPage) named caused works = absurd caused
-  search_denies (search.Cache cache.Store) named caused works = tt
-  search_denies (search.Cache (cache.Damaged n)) named caused works = named
-  search_denies (search.Cache cache.StoreFull) named caused works = caused
-  search_denies (search.Cache cache.Memory) named caused works = tt
-  search_denies (search.Malformed n) named caused works = named
-  search_denies search.Spent named caused works = not_false i.tree.spent (λ e. works e refl)
-  search_denies search.Memory named caused works = tt
+      → RefusesRead i.cache c fault → Denies words i (InBox query) (of_tree fault)
+  search_denies (tree.Cache cache.NoPage) named caused = absurd caused
+  search_denies (tree.Cache cache.Store) named caused = tt
+  search_denies (tree.Cache (cache.Damaged n)) named caused = named
+  search_denies (tree.Cache cache.StoreFull) named caused = caused
+  search_denies (tree.Cache cache.Memory) named caused = tt
+  search_denies (tree.Malformed n) named caused = named
+  search_denies tree.Spent named caused = absurd caused
 
-  pub search_told : {A : Type 0} (items : A → List LegView) (r : Result A SearchFault)
-      → (IsTrue i.cache.store.is_faithful → OnOk r (IsWay query (pages_of_cache i.cache) i.tree.root i.tree.levels))
-      → (IsTrue i.cache.store.is_faithful → IfOk r (λ found. IsInOrder (legs_met leg_boxes (meets query) (pages_of_cache i.cache) i.tree.root i.tree.levels) (items found)))
-      → (IsTrue i.cache.store.is_faithful → IfErr r (IfNamed (IsOffWay query (pages_of_cache i.cache) i.tree.root i.tree.levels)))
-      → IfErr r (IsCaused i.cache c) → (i.tree.spent ≡ false → IfErr r (λ fault. fault ≢ search.Spent))
-      → MatchResult (answered (λ fault. of_search fault) r) (λ found. tells i (InBox query) (items found)) (λ fault. Denies words i (InBox query) fault)
-  search_told items (Ok found) way met named caused works = λ f. record { way = way f; met = met f }
-  search_told items (Err fault) way met named caused works = search_denies fault named caused works
+  module _ {A : Type 0} (items : A → List LegView) where
+    abbrev Ways : Result A TreeFault → Type 0
+    Ways r = IsTrue i.cache.store.is_faithful → OnOk r (IsWay query (pages_of_cache i.cache) i.tree.root i.tree.levels)
+
+    abbrev Meets : Result A TreeFault → Type 0
+    Meets r = IsTrue i.cache.store.is_faithful → IfOk r (λ found. IsInOrder (legs_met leg_boxes (meets query) (pages_of_cache i.cache) i.tree.root i.tree.levels) (items found))
+
+    abbrev NamesOff : Result A TreeFault → Type 0
+    NamesOff r = IsTrue i.cache.store.is_faithful → IfErr r (IfNamed (IsOffWay query (pages_of_cache i.cache) i.tree.root i.tree.levels))
+
+    abbrev Told : Result A TreeFault → Type 0
+    Told r = MatchResult (answered (λ fault. of_tree fault) r) (λ found. tells i (InBox query) (items found)) (λ fault. Denies words i (InBox query) fault)
+
+    told : (r : Result A TreeFault) → Ways r → Meets r → NamesOff r → IfErr r (RefusesRead i.cache c) → Told r
+    told (Ok found) way met named caused = λ f. record { way = way f; met = met f }
+    told (Err fault) way met named caused = search_denies fault named caused
+
+    told_by : (spent : Bool) → i.tree.spent ≡ spent → (r : Result A TreeFault) → Ways r → Meets r → NamesOff r
+        → (i.tree.spent ≡ true → (r ≡ Err tree.Spent) × (c ≡ i.cache)) → (i.tree.spent ≡ false → IfErr r (RefusesRead i.cache c)) → Told r
+    told_by true e r way met named refused caused = subst Told (sym (refused e).0) e
+    told_by false e r way met named refused caused = told r way met named (caused e)
+
+    pub search_told : (r : Result A TreeFault) → Ways r → Meets r → NamesOff r
+        → (i.tree.spent ≡ true → (r ≡ Err tree.Spent) × (c ≡ i.cache)) → (i.tree.spent ≡ false → IfErr r (RefusesRead i.cache c)) → Told r
+    search_told r way met named refused caused = told_by i.tree.spent refl r way met named refused caused
 
 -- of a retrieval
 module _ (i : IndexView) (c : Cache) (feature : ℕ) (period : Option PeriodView) (place : Place) (at : slice_get i.places feature ≡ Some place) where
@@ -87,22 +96,22 @@ module _ (i : IndexView) (c : Cache) (feature : ℕ) (period : Option PeriodView
   here_denied : (n : ℕ) → nodes_fault ≡ Some n → DeniesTrack (pages_of_cache i.cache) i.tree.shape period (slice_get i.places feature) n
   here_denied n e = subst (λ o. DeniesTrack (pages_of_cache i.cache) i.tree.shape period o n) (sym at) e
 
-  track_denies : (fault : ChainFault) → (IsTrue i.cache.store.is_faithful → chains.IsNamed (pages_of_cache i.cache) nodes_fault fault)
-      → chains.IsCaused i.cache c fault → Denies words i (OfFeature feature period) (of_chain fault)
-  track_denies (chain.Cache cache.NoPage) named caused = absurd caused
-  track_denies (chain.Cache cache.Store) named caused = tt
-  track_denies (chain.Cache (cache.Damaged n)) named caused = λ f. here_denied n (named f)
-  track_denies (chain.Cache cache.StoreFull) named caused = caused
-  track_denies (chain.Cache cache.Memory) named caused = tt
-  track_denies (chain.Malformed n) named caused = λ f. here_denied n (named f).0
-  track_denies chain.Memory named caused = tt
+  track_denies : (fault : TreeFault) → (IsTrue i.cache.store.is_faithful → IsNamed (pages_of_cache i.cache) nodes_fault fault)
+      → RefusesRead i.cache c fault → Denies words i (OfFeature feature period) (of_tree fault)
+  track_denies (tree.Cache cache.NoPage) named caused = absurd caused
+  track_denies (tree.Cache cache.Store) named caused = tt
+  track_denies (tree.Cache (cache.Damaged n)) named caused = λ f. here_denied n (named f)
+  track_denies (tree.Cache cache.StoreFull) named caused = caused
+  track_denies (tree.Cache cache.Memory) named caused = tt
+  track_denies (tree.Malformed n) named caused = λ f. here_denied n (named f).0
+  track_denies tree.Spent named caused = absurd caused
 
-  pub track_told : {A : Type 0} (items : A → List LegView) (r : Result A ChainFault)
+  pub track_told : {A : Type 0} (items : A → List LegView) (r : Result A TreeFault)
       → (IsTrue i.cache.store.is_faithful → OnOk r (IsPlaceChain (pages_of_cache i.cache) period i.tree.shape place))
       → (IsTrue i.cache.store.is_faithful → IfOk r (λ found. items found ≡ chain_legs (pages_of_cache i.cache) period i.tree.shape place))
-      → (IsTrue i.cache.store.is_faithful → IfErr r (chains.IsNamed (pages_of_cache i.cache) nodes_fault))
-      → IfErr r (chains.IsCaused i.cache c)
-      → MatchResult (answered (λ fault. of_chain fault) r) (λ found. tells i (OfFeature feature period) (items found)) (λ fault. Denies words i (OfFeature feature period) fault)
+      → (IsTrue i.cache.store.is_faithful → IfErr r (IsNamed (pages_of_cache i.cache) nodes_fault))
+      → IfErr r (RefusesRead i.cache c)
+      → MatchResult (answered (λ fault. of_tree fault) r) (λ found. tells i (OfFeature feature period) (items found)) (λ fault. Denies words i (OfFeature feature period) fault)
   track_told items (Ok found) chain legs named caused = λ f. subst (λ o. TellsTrack (pages_of_cache i.cache) i.tree.shape period o (items found)) (sym at) (chain f, legs f)
   track_told items (Err fault) chain legs named caused = track_denies fault named caused
 
@@ -112,12 +121,12 @@ none_told i feature period legs at e = λ f. subst (λ o. TellsTrack (pages_of_c
 
 -- what a sieve keeps
 module _ (i : IndexView) (c : Cache) (feature : ℕ) (period : PeriodView) (s : Sieve) where
-  pub track_sieved : (place : Place) → slice_get i.places feature ≡ Some place → {A : Type 0} (items : A → List LegView) (r : Result A ChainFault)
+  pub track_sieved : (place : Place) → slice_get i.places feature ≡ Some place → {A : Type 0} (items : A → List LegView) (r : Result A TreeFault)
       → (IsTrue i.cache.store.is_faithful → OnOk r (IsPlaceChain (pages_of_cache i.cache) (Some period) i.tree.shape place))
       → (IsTrue i.cache.store.is_faithful → IfOk r (λ found. IsSieved s period (chain_legs (pages_of_cache i.cache) (Some period) i.tree.shape place) (items found)))
-      → (IsTrue i.cache.store.is_faithful → IfErr r (chains.IsNamed (pages_of_cache i.cache) (chain_fault (pages_of_cache i.cache) (Some period) i.tree.shape place)))
-      → IfErr r (chains.IsCaused i.cache c)
-      → MatchResult (answered (λ fault. of_chain fault) r) (λ found. TellsSieved words i feature period s (items found)) (λ fault. Denies words i (OfFeature feature (Some period)) fault)
+      → (IsTrue i.cache.store.is_faithful → IfErr r (IsNamed (pages_of_cache i.cache) (chain_fault (pages_of_cache i.cache) (Some period) i.tree.shape place)))
+      → IfErr r (RefusesRead i.cache c)
+      → MatchResult (answered (λ fault. of_tree fault) r) (λ found. TellsSieved words i feature period s (items found)) (λ fault. Denies words i (OfFeature feature (Some period)) fault)
   track_sieved place at items (Ok found) chain legs named caused = by i.cache.store.is_faithful refl
     where
       by : (b : Bool) → i.cache.store.is_faithful ≡ b → TellsSieved words i feature period s (items found)

@@ -13,15 +13,15 @@ use Rattle.legs.specs.Index.{MayRefuse, legs_of, feature_count}
 use Rattle.legs.specs.Legs.{LegView}
 use Rattle.legs.specs.declared.index.IndexFault.TheVariants as index
 use Rattle.pagecache.specs.Cache.{Cache}
-use Rattle.chains.specs.Faults.{Gives, IsAllowed, IsCaused}
 use Rattle.chains.specs.Trajectory.{HasFeature}
-use Rattle.chains.specs.declared.fault.ChainFault.{ChainFault}
+use Rattle.tbtree.specs.Faults.{GivesRead, MayRefuseRead, RefusesRead}
 use Rattle.tbtree.specs.Nodes.{pages_of_cache}
 use Rattle.tbtree.specs.Stands.{no_place}
+use Rattle.tbtree.specs.declared.fault.TreeFault.{TreeFault}
 use Rattle.tbtree.specs.declared.tree.Place.{Place}
-use Rattle.boxsearch.specs.Answers.{answered, of_chain}
+use Rattle.boxsearch.specs.Answers.{answered, of_tree}
 use Rattle.boxsearch.specs.Index.{IndexView, words, content, IsSound}
-use Rattle.boxsearch.proofs.AnswerLemmas.{each_fault, each_value, faults_of, values_of, the_fault, under, under_ok, Said, chain_said, chain_allowed}
+use Rattle.boxsearch.proofs.AnswerLemmas.{each_fault, each_value, faults_of, values_of, the_fault, under, under_ok, Said, read_said, read_allowed}
 use Rattle.chains.specs.declared.spans.LeafSpan.{LeafSpan}
 use Rattle.boxsearch.specs.Beside.{with_cache}
 use Rattle.boxsearch.proofs.PlaceLemmas.{some_none}
@@ -55,33 +55,33 @@ rises_capped_most a b bound h = omega (arith, clamps, h)
 none_ceil : (n : ℕ) → 0 < n → div_ceil 0 n ≡ 0
 none_ceil n h = (λ i. zero-div n i + min 1 (zero-mod n i))
 
-module _ {A : Type 0} (i : IndexView) (f : ℕ) (place : Place) (c : Cache) (r : Result A ChainFault) (found : slice_get i.places f ≡ Some place) where
+module _ {A : Type 0} (i : IndexView) (f : ℕ) (place : Place) (c : Cache) (r : Result A TreeFault) (found : slice_get i.places f ≡ Some place) where
   pub track_found : (P : List LegView → ℕ → A → Type 0)
-      → (IsTrue i.cache.store.is_faithful → (legs : List LegView) (feature : ℕ) → HasFeature (pages_of_cache i.cache) i.tree.shape place feature legs → Gives r (P legs feature))
-      → IfOk (answered (λ fault. of_chain fault) r) (λ value. IsSound i → P (content i) f value)
+      → (IsTrue i.cache.store.is_faithful → (legs : List LegView) (feature : ℕ) → HasFeature (pages_of_cache i.cache) i.tree.shape place feature legs → GivesRead r (P legs feature))
+      → IfOk (answered (λ fault. of_tree fault) r) (λ value. IsSound i → P (content i) f value)
   track_found P gives =
-      each_value (λ fault. of_chain fault) (λ value. IsSound i → P (content i) f value) r
-      (under_ok (P (content i) f) r (λ s. values_of (P (content i) f) IsAllowed r (gives s.faithful (content i) f (has_feature i f place s found))))
+      each_value (λ fault. of_tree fault) (λ value. IsSound i → P (content i) f value) r
+      (under_ok (P (content i) f) r (λ s. values_of (P (content i) f) MayRefuseRead r (gives s.faithful (content i) f (has_feature i f place s found))))
 
   pub track_asked : (Q : List LegView → ℕ → Type 0)
       → (IsTrue i.cache.store.is_faithful → (legs : List LegView) (feature : ℕ) → HasFeature (pages_of_cache i.cache) i.tree.shape place feature legs → OnOk r (Q legs feature))
-      → OnOk (answered (λ fault. of_chain fault) r) (IsSound i → Q (content i) f)
+      → OnOk (answered (λ fault. of_tree fault) r) (IsSound i → Q (content i) f)
   track_asked Q asked =
-      each_value (λ fault. of_chain fault) (λ value. IsSound i → Q (content i) f) r
+      each_value (λ fault. of_tree fault) (λ value. IsSound i → Q (content i) f) r
       (under_ok (λ _. Q (content i) f) r (λ s. asked s.faithful (content i) f (has_feature i f place s found)))
 
   -- why a retrieval is refused
   pub track_refusals : (known : List (List LeafSpan)) (P : List LegView → ℕ → A → Type 0) → i.tree.spent ≡ false
-      → (IsTrue i.cache.store.is_faithful → (legs : List LegView) (feature : ℕ) → HasFeature (pages_of_cache i.cache) i.tree.shape place feature legs → Gives r (P legs feature))
-      → IfErr r (IsCaused i.cache c) → Refusals words i (with_cache i c known) (answered (λ fault. of_chain fault) r)
+      → (IsTrue i.cache.store.is_faithful → (legs : List LegView) (feature : ℕ) → HasFeature (pages_of_cache i.cache) i.tree.shape place feature legs → GivesRead r (P legs feature))
+      → IfErr r (RefusesRead i.cache c) → Refusals words i (with_cache i c known) (answered (λ fault. of_tree fault) r)
   track_refusals known P works gives caused =
-      let said = each_fault (λ fault. of_chain fault) (IsCaused i.cache c) (Said i.cache c) (chain_said i.cache c) r caused in
+      let said = each_fault (λ fault. of_tree fault) (RefusesRead i.cache c) (Said i.cache c) (read_said i.cache c) r caused in
       record {
         was_spent = λ e. absurd (true≢false (sym e ∙ works));
-        sound = each_fault (λ fault. of_chain fault) (λ fault. IsSound i → IsAllowed fault) (λ fault. IsSound i → MayRefuse fault) (λ x h s. chain_allowed x (h s)) r
-            (under IsAllowed r (λ s. faults_of (P (content i) f) IsAllowed r (gives s.faithful (content i) f (has_feature i f place s found))));
-        store = λ e. the_fault (answered (λ fault. of_chain fault) r) (Said i.cache c) index.Store e said;
-        full = λ e. the_fault (answered (λ fault. of_chain fault) r) (Said i.cache c) index.StoreFull e said;
+        sound = each_fault (λ fault. of_tree fault) (λ fault. IsSound i → MayRefuseRead fault) (λ fault. IsSound i → MayRefuse fault) (λ x h s. read_allowed x (h s)) r
+            (under MayRefuseRead r (λ s. faults_of (P (content i) f) MayRefuseRead r (gives s.faithful (content i) f (has_feature i f place s found))));
+        store = λ e. the_fault (answered (λ fault. of_tree fault) r) (Said i.cache c) index.Store e said;
+        full = λ e. the_fault (answered (λ fault. of_tree fault) r) (Said i.cache c) index.StoreFull e said;
       }
 
 -- no place, no leg

@@ -10,34 +10,18 @@ use Rattle.legs.specs.Legs.{LegView}
 use Rattle.pagecache.specs.Cache.{Cache}
 use Rattle.chains.specs.Reads.{OnlyReads}
 use Rattle.tbtree.specs.Descent.{children_met, hits, pages_met, met_count, legs_met, HasInner}
+use Rattle.tbtree.specs.Faults.{IfNamed, RefusesRead}
 use Rattle.tbtree.specs.Nodes.{Pages, pages_of_cache, HasLeaf}
-use Rattle.boxsearch.specs.Faults.{IsCaused, IfNamed, IfNamedInCache}
-use Rattle.pagecache.specs.declared.fault.CacheFault.{CacheFault}
-use Rattle.pagecache.specs.declared.fault.CacheFault.TheVariants as cache
+use Rattle.tbtree.specs.declared.fault.TreeFault.{TreeFault}
+use Rattle.tbtree.specs.declared.fault.TreeFault.TheVariants.{Malformed}
 use Rattle.boxsearch.specs.Way.{meets, IsOnLevel, IsWay, IsOffWay}
-use Rattle.boxsearch.specs.declared.fault.SearchFault.{SearchFault}
-use Rattle.boxsearch.specs.declared.fault.SearchFault.TheVariants.{Cache as OfCache, Malformed, Spent, Memory}
 use Rattle.boxsearch.proofs.SameLemmas.{below_same, hits_same, inner_after, inner_before, leaf_after, leaf_before}
 
-named_in_cache : (P Q : ℕ → Type 0) (fault : CacheFault) → ((n : ℕ) → P n → Q n) → IfNamedInCache P fault → IfNamedInCache Q fault
-named_in_cache P Q cache.NoPage f h = tt
-named_in_cache P Q cache.Store f h = tt
-named_in_cache P Q (cache.Damaged n) f h = f n h
-named_in_cache P Q cache.StoreFull f h = tt
-named_in_cache P Q cache.Memory f h = tt
-
--- what is said of a page that is named says another thing too
-pub malformed_then : (P Q : ℕ → Type 0) (fault : SearchFault) → ((n : ℕ) → P n → Q n) → IfNamed P fault → IfNamed Q fault
-malformed_then P Q (OfCache fault) f h = named_in_cache P Q fault f h
-malformed_then P Q (Malformed n) f h = f n h
-malformed_then P Q Spent f h = tt
-malformed_then P Q Memory f h = tt
-
-pub malformed_is : (Q : ℕ → Type 0) (fault : SearchFault) (page : ℕ) → fault ≡ Malformed page → Q page → IfNamed Q fault
+pub malformed_is : (Q : ℕ → Type 0) (fault : TreeFault) (page : ℕ) → fault ≡ Malformed page → Q page → IfNamed Q fault
 malformed_is Q fault page e h = subst (IfNamed Q) (sym e) h
 
-pub malformed_caused : (old new : Cache) (fault : SearchFault) (page : ℕ) → fault ≡ Malformed page → IsCaused old new fault
-malformed_caused old new fault page e = subst (IsCaused old new) (sym e) tt
+pub malformed_caused : (old new : Cache) (fault : TreeFault) (page : ℕ) → fault ≡ Malformed page → RefusesRead old new fault
+malformed_caused old new fault page e = subst (RefusesRead old new) (sym e) tt
 
 -- the first page is the root
 pub root_alone : (now items fresh : List ℕ) (root : ℕ) → now ≡ items → items ≡ fresh ++ root ∷ [] → fresh ≡ [] → now ≡ root ∷ []

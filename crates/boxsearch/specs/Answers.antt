@@ -6,10 +6,6 @@ use Rattle.pagecache.specs.declared.fault.CacheFault.{CacheFault}
 use Rattle.pagecache.specs.declared.fault.CacheFault.TheVariants as cache
 use Rattle.tbtree.specs.declared.fault.TreeFault.{TreeFault}
 use Rattle.tbtree.specs.declared.fault.TreeFault.TheVariants as tree
-use Rattle.chains.specs.declared.fault.ChainFault.{ChainFault}
-use Rattle.chains.specs.declared.fault.ChainFault.TheVariants as chain
-use Rattle.boxsearch.specs.declared.fault.SearchFault.{SearchFault}
-use Rattle.boxsearch.specs.declared.fault.SearchFault.TheVariants as search
 
 -- a page that is not what it should be is damaged
 abbrev pub of_cache : CacheFault → IndexFault
@@ -23,17 +19,6 @@ abbrev pub of_tree : TreeFault → IndexFault
 of_tree (tree.Cache fault) = of_cache fault
 of_tree (tree.Malformed n) = index.Damaged n
 of_tree tree.Spent = index.Spent
-
-abbrev pub of_chain : ChainFault → IndexFault
-of_chain (chain.Cache fault) = of_cache fault
-of_chain (chain.Malformed n) = index.Damaged n
-of_chain chain.Memory = index.Memory
-
-abbrev pub of_search : SearchFault → IndexFault
-of_search (search.Cache fault) = of_cache fault
-of_search (search.Malformed n) = index.Damaged n
-of_search search.Spent = index.Spent
-of_search search.Memory = index.Memory
 
 -- an answer, or a fault as the index says it
 abbrev pub answered : {A F : Type 0} → (F → IndexFault) → Result A F → Result A IndexFault

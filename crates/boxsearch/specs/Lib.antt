@@ -1,4 +1,3 @@
-pub mod Faults
 pub mod Way
 pub mod Telling
 pub mod Index

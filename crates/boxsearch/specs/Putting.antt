@@ -1,7 +1,7 @@
 -- Helpers of private functions: what putting legs into its tree makes of an index.
 use Rattle.std.specs.Prelude.{ℕ, ◌≡◌, ◌≤◌, ◌+◌, ◌*◌, ◌-◌, ◌^◌, ◌<◌, min, true, false, IsTrue, OnOk, OnErr, IfErr, List, length, Result, Some, slice_get, set}
 use Rattle.legs.specs.Legs.{LegView}
-use Rattle.tbtree.specs.Faults.{IsCaused}
+use Rattle.tbtree.specs.Faults.{RefusesWrite}
 use Rattle.tbtree.specs.Insert.{Inserts}
 use Rattle.tbtree.specs.Joining.{Joins, JoinsAll}
 use Rattle.tbtree.specs.Nodes.{pages_of_cache}
@@ -23,7 +23,7 @@ pub record Puts (old new : IndexView) (leg : LegView) (result : Result (Unit {0}
   pub passes : Passes old.cache new.cache
   pub count : OnOk result (KeepsLength old.cache new.cache)
   pub few : new.cache.count < 2 ^ 32
-  pub caused : IfErr result (IsCaused old.cache new.cache)
+  pub caused : IfErr result (RefusesWrite old.cache new.cache)
   pub asked : OnOk result (new.cache.asked ≤ old.cache.asked + (2 * (new.tree.levels - 1) + 4))
   pub works : OnOk result (new.tree.spent ≡ false)
   pub spent : OnErr result (new.tree.spent ≡ true)
@@ -41,7 +41,7 @@ pub record PutsAll (old new : IndexView) (feature : ℕ) (legs : List LegView) (
   pub passes : Passes old.cache new.cache
   pub count : OnOk result (KeepsLength old.cache new.cache)
   pub few : new.cache.count < 2 ^ 32
-  pub caused : IfErr result (IsCaused old.cache new.cache)
+  pub caused : IfErr result (RefusesWrite old.cache new.cache)
   pub asked : OnOk result (new.cache.asked
       ≤ old.cache.asked + new.tree.levels
       + (new.tree.leaves - old.tree.leaves) * (new.tree.levels + 2))

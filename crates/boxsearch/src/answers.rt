@@ -1,14 +1,12 @@
 //! How an index over pages answers what its parts answer.
 ghost use Rattle.std.specs.Prelude.{◌≡◌};
-ghost use Rattle.boxsearch.specs.Answers.{answered, of_cache, of_chain, of_search, of_tree};
+ghost use Rattle.boxsearch.specs.Answers.{answered, of_cache, of_tree};
 
-use crate::fault::SearchFault;
-use chains::ChainFault;
-use legs::{IndexFault, Leg};
+use legs::IndexFault;
 use pagecache::CacheFault;
 use tbtree::TreeFault;
 
-/// How a fault of the cache is answered.
+/// How an index says a fault of the cache.
 fn of_cache(fault: CacheFault) -> IndexFault
     ensures { result ≡ of_cache fault }
 {
@@ -21,8 +19,8 @@ fn of_cache(fault: CacheFault) -> IndexFault
     }
 }
 
-/// How a fault of an insertion is answered.
-fn of_tree(fault: TreeFault) -> IndexFault
+/// How an index says a fault of its tree: a page that is malformed is `Damaged`.
+pub fn of_tree(fault: TreeFault) -> IndexFault
     ensures { result ≡ of_tree fault }
 {
     match fault {
@@ -32,56 +30,13 @@ fn of_tree(fault: TreeFault) -> IndexFault
     }
 }
 
-/// How a fault of a retrieval is answered.
-fn of_chain(fault: ChainFault) -> IndexFault
-    ensures { result ≡ of_chain fault }
-{
-    match fault {
-        ChainFault::Cache(fault) => of_cache(fault),
-        ChainFault::Malformed(page) => IndexFault::Damaged(page),
-        ChainFault::Memory => IndexFault::Memory,
-    }
-}
-
-/// How an index says a fault of a search: a page that is malformed is `Damaged`.
-pub fn of_search(fault: SearchFault) -> IndexFault
-    ensures { result ≡ of_search fault }
-{
-    match fault {
-        SearchFault::Cache(fault) => of_cache(fault),
-        SearchFault::Malformed(page) => IndexFault::Damaged(page),
-        SearchFault::Spent => IndexFault::Spent,
-        SearchFault::Memory => IndexFault::Memory,
-    }
-}
-
-/// What an insertion answers, with the fault as the index says it.
-pub(crate) fn insertion(given: Result<(), TreeFault>) -> Result<(), IndexFault>
+/// What a call on its tree answers, with the fault as the index says it.
+pub fn answer<T>(given: Result<T, TreeFault>) -> Result<T, IndexFault>
     ensures { result ≡ answered (λ fault. of_tree fault) given }
 {
     match given {
-        Ok(()) => Ok(()),
+        Ok(value) => Ok(value),
         Err(fault) => Err(of_tree(fault)),
-    }
-}
-
-/// What a retrieval answers.
-pub(crate) fn retrieval(given: Result<Vec<Leg>, ChainFault>) -> Result<Vec<Leg>, IndexFault>
-    ensures { result ≡ answered (λ fault. of_chain fault) given }
-{
-    match given {
-        Ok(legs) => Ok(legs),
-        Err(fault) => Err(of_chain(fault)),
-    }
-}
-
-/// What a search answers.
-pub(crate) fn found(given: Result<Vec<Leg>, SearchFault>) -> Result<Vec<Leg>, IndexFault>
-    ensures { result ≡ answered (λ fault. of_search fault) given }
-{
-    match given {
-        Ok(legs) => Ok(legs),
-        Err(fault) => Err(of_search(fault)),
     }
 }
 

@@ -1,5 +1,5 @@
 //! The search, level by level.
-ghost use Rattle.std.specs.Prelude.{ℕ, ◌≡◌, ◌≢◌, ◌+◌, ◌<◌, ◌≤◌, List, Some, Err, true, false, length, slice_get, OnOk, IfOk, IfErr, IsTrue};
+ghost use Rattle.std.specs.Prelude.{ℕ, ◌≡◌, ◌+◌, ◌<◌, ◌≤◌, List, Some, Err, true, false, length, slice_get, OnOk, IfOk, IfErr, IsTrue};
 ghost use Rattle.std.specs.List.{All, flat_map};
 ghost use Rattle.legs.specs.Costs.{RisesBy, search_cost};
 ghost use Rattle.legs.specs.Hull.{leg_boxes};
@@ -7,42 +7,44 @@ ghost use Rattle.legs.specs.Index.{legs_in_box};
 ghost use Rattle.legs.specs.Legs.{LegView};
 ghost use Rattle.chains.specs.Reads.{OnlyReads};
 ghost use Rattle.tbtree.specs.Descent.{children_met, hits, legs_met, met_count, HasInner, IsInOrder};
+ghost use Rattle.tbtree.specs.Faults.{GivesRead, IfNamed, MayRefuseRead, RefusesRead};
 ghost use Rattle.tbtree.specs.Insert.{Stands};
 ghost use Rattle.tbtree.specs.Nodes.{pages_of_cache, HasLeaf};
-ghost use Rattle.boxsearch.specs.Faults.{Gives, IsAllowed, IsCaused, IfNamed};
+ghost use Rattle.tbtree.specs.declared.fault.TreeFault.{TreeFault};
 ghost use Rattle.boxsearch.specs.Way.{meets, IsWay, IsOffWay};
-ghost use Rattle.boxsearch.specs.declared.fault.SearchFault.{SearchFault};
 
-use crate::fault::SearchFault;
 use crate::nodes::{push_children, push_legs};
 use legs::{Box3, Leg};
 use pagecache::PageCache;
 use pages::PageStore;
 use std::alloc::Global;
-use tbtree::TbTree;
+use tbtree::{TbTree, TreeFault};
+
+/// Why a search was refused.
+pub type SearchFault = TreeFault;
 
 /// The pages of the next level whose boxes meet.
-#[tactic(auto, using(crate::proofs::ReadLemmas::reading))]
+#[tactic(auto, using(chains::proofs::ReadLemmas::reading))]
 fn next_level<S: PageStore>(
     alloc: Global,
     cache: &mut PageCache<S>,
     pages: &[u32],
     level: u32,
     query: &Box3,
-) -> Result<Vec<u32>, SearchFault>
+) -> Result<Vec<u32>, TreeFault>
     ensures found { IsTrue cache.old.store.is_faithful
         → IfOk result (λ below. below.items
         ≡ flat_map (children_met (meets query.now) (pages_of_cache cache.old)) pages.now) }
     ensures way { IsTrue cache.old.store.is_faithful
         → OnOk result (All (λ p. HasInner (pages_of_cache cache.old) p level) pages.now) }
     ensures only { IsTrue cache.old.store.is_faithful
-        → All (λ p. HasInner (pages_of_cache cache.old) p level) pages.now → IfErr result IsAllowed }
+        → All (λ p. HasInner (pages_of_cache cache.old) p level) pages.now
+        → IfErr result MayRefuseRead }
     ensures named { IsTrue cache.old.store.is_faithful
         → IfErr result (IfNamed (λ n. (i : ℕ) × (slice_get pages.now i ≡ Some n)
         × (HasInner (pages_of_cache cache.old) n level → ⊥))) }
     ensures reads { OnlyReads cache.old cache.new }
-    ensures caused { IfErr result (IsCaused cache.old cache.new) }
-    ensures works { IfErr result (λ fault. fault ≢ SearchFault.Spent) }
+    ensures caused { IfErr result (RefusesRead cache.old cache.new) }
     ensures asked { OnOk result (RisesBy cache.old.asked cache.new.asked (length pages.now)) }
     ensures most { cache.new.asked ≤ cache.old.asked + length pages.now }
 {
@@ -54,26 +56,25 @@ fn next_level<S: PageStore>(
 }
 
 /// The legs of some leaves whose boxes meet.
-#[tactic(auto, using(crate::proofs::ReadLemmas::reading))]
+#[tactic(auto, using(chains::proofs::ReadLemmas::reading))]
 fn legs_in<S: PageStore>(
     alloc: Global,
     cache: &mut PageCache<S>,
     pages: &[u32],
     query: &Box3,
-) -> Result<Vec<Leg>, SearchFault>
+) -> Result<Vec<Leg>, TreeFault>
     ensures found { IsTrue cache.old.store.is_faithful
         → IfOk result (λ found. found.items
         ≡ flat_map (hits leg_boxes (meets query.now) (pages_of_cache cache.old)) pages.now) }
     ensures way { IsTrue cache.old.store.is_faithful
         → OnOk result (All (λ p. HasLeaf (pages_of_cache cache.old) p) pages.now) }
     ensures only { IsTrue cache.old.store.is_faithful
-        → All (λ p. HasLeaf (pages_of_cache cache.old) p) pages.now → IfErr result IsAllowed }
+        → All (λ p. HasLeaf (pages_of_cache cache.old) p) pages.now → IfErr result MayRefuseRead }
     ensures named { IsTrue cache.old.store.is_faithful
         → IfErr result (IfNamed (λ n. (i : ℕ) × (slice_get pages.now i ≡ Some n)
         × (HasLeaf (pages_of_cache cache.old) n → ⊥))) }
     ensures reads { OnlyReads cache.old cache.new }
-    ensures caused { IfErr result (IsCaused cache.old cache.new) }
-    ensures works { IfErr result (λ fault. fault ≢ SearchFault.Spent) }
+    ensures caused { IfErr result (RefusesRead cache.old cache.new) }
     ensures asked { OnOk result (RisesBy cache.old.asked cache.new.asked (length pages.now)) }
     ensures most { cache.new.asked ≤ cache.old.asked + length pages.now }
 {
@@ -85,27 +86,27 @@ fn legs_in<S: PageStore>(
 }
 
 /// Takes pages from the number of those that may still be asked for.
-fn spend(left: &mut usize, pages: &[u32]) -> Result<(), SearchFault>
+fn spend(left: &mut usize, pages: &[u32]) -> Result<(), TreeFault>
     ensures ok { OnOk result (left.new + length pages.now ≡ left.old) }
     ensures err { IfErr result (λ fault. (left.old < length pages.now)
         × (page : ℕ) × (slice_get pages.now left.old ≡ Some page)
-        × (fault ≡ SearchFault.Malformed page)) }
+        × (fault ≡ TreeFault.Malformed page)) }
 {
     if *left < pages.len() {
-        return Err(SearchFault::Malformed(pages[*left]));
+        return Err(TreeFault::Malformed(pages[*left]));
     }
     *left -= pages.len();
     Ok(())
 }
 
 /// The legs whose boxes meet, leaf by leaf.
-#[tactic(auto, using(crate::proofs::ReadLemmas::reading))]
+#[tactic(auto, using(chains::proofs::ReadLemmas::reading))]
 fn collected<S: PageStore>(
     alloc: Global,
     cache: &mut PageCache<S>,
     tree: &TbTree,
     query: &Box3,
-) -> Result<Vec<Leg>, SearchFault>
+) -> Result<Vec<Leg>, TreeFault>
     requires levels { 0 < tree.now.levels }
     ensures found { IsTrue cache.old.store.is_faithful
         → IfOk result (λ found. found.items
@@ -115,13 +116,12 @@ fn collected<S: PageStore>(
         → OnOk result (IsWay query.now (pages_of_cache cache.old) tree.now.root tree.now.levels) }
     ensures only { IsTrue cache.old.store.is_faithful
         → IsWay query.now (pages_of_cache cache.old) tree.now.root tree.now.levels
-        → IfErr result IsAllowed }
+        → IfErr result MayRefuseRead }
     ensures named { IsTrue cache.old.store.is_faithful
         → IfErr result (IfNamed (IsOffWay query.now (pages_of_cache cache.old) tree.now.root
         tree.now.levels)) }
     ensures reads { OnlyReads cache.old cache.new }
-    ensures caused { IfErr result (IsCaused cache.old cache.new) }
-    ensures works { IfErr result (λ fault. fault ≢ SearchFault.Spent) }
+    ensures caused { IfErr result (RefusesRead cache.old cache.new) }
     ensures asked { IsTrue cache.old.store.is_faithful
         → OnOk result (RisesBy cache.old.asked cache.new.asked
         (met_count (meets query.now) (pages_of_cache cache.old) tree.now.root tree.now.levels)) }
@@ -142,9 +142,9 @@ fn collected<S: PageStore>(
 ///
 /// Pages are read level by level from the root down. A page that is not the inner page or the leaf that the tree
 /// expects there is `Malformed`, and so is the first page that would be read beyond as many as the store has. What
-/// else the cache refuses is `Cache`; `Memory` is want of memory for the legs or the numbers of pages. A spent tree is
+/// else the cache refuses is `Cache`, and so is want of memory for the legs or the numbers of pages. A spent tree is
 /// `Spent`.
-#[tactic(auto, using(crate::proofs::ReadLemmas::reading))]
+#[tactic(auto, using(chains::proofs::ReadLemmas::reading))]
 pub fn search<S: PageStore>(
     alloc: Global,
     cache: &mut PageCache<S>,
@@ -155,7 +155,7 @@ pub fn search<S: PageStore>(
     ensures found { tree.now.spent ≡ false → IsTrue cache.old.store.is_faithful
         → (legs : List LegView) (pages : ℕ → List ℕ)
         → Stands (pages_of_cache cache.old) tree.now legs pages
-        → Gives result (λ found. found.items ≡ legs_in_box query.now legs) }
+        → GivesRead result (λ found. found.items ≡ legs_in_box query.now legs) }
     ensures asked { IsTrue cache.old.store.is_faithful
         → (legs : List LegView) (pages : ℕ → List ℕ)
         → Stands (pages_of_cache cache.old) tree.now legs pages
@@ -172,7 +172,7 @@ pub fn search<S: PageStore>(
         → OnOk result (IsWay query.now (pages_of_cache cache.old) tree.now.root tree.now.levels) }
     ensures only { tree.now.spent ≡ false → IsTrue cache.old.store.is_faithful
         → IsWay query.now (pages_of_cache cache.old) tree.now.root tree.now.levels
-        → IfErr result IsAllowed }
+        → IfErr result MayRefuseRead }
     ensures named { IsTrue cache.old.store.is_faithful
         → IfErr result (IfNamed (IsOffWay query.now (pages_of_cache cache.old) tree.now.root
         tree.now.levels)) }
@@ -182,14 +182,13 @@ pub fn search<S: PageStore>(
 
     // Over any store.
     ensures spent { tree.now.spent ≡ true
-        → (result ≡ Err SearchFault.Spent) × (cache.new ≡ cache.old) }
-    ensures works { tree.now.spent ≡ false → IfErr result (λ fault. fault ≢ SearchFault.Spent) }
+        → (result ≡ Err TreeFault.Spent) × (cache.new ≡ cache.old) }
     ensures reads { OnlyReads cache.old cache.new }
-    ensures caused { IfErr result (IsCaused cache.old cache.new) }
+    ensures caused { tree.now.spent ≡ false → IfErr result (RefusesRead cache.old cache.new) }
     ensures most { cache.new.asked ≤ cache.old.asked + cache.old.count }
 {
     if tree.spent {
-        return Err(SearchFault::Spent);
+        return Err(TreeFault::Spent);
     }
     tbtree::laws();
     prove!(tree.shape.leaf() > 0);

@@ -6,7 +6,7 @@ ghost use Rattle.boxsearch.specs.Runs.{numbered_legs, runs_in, RunsAsk};
 ghost use Rattle.boxsearch.specs.Taking.{Taking, taken};
 ghost use Rattle.boxsearch.specs.declared.turns.Turn.{Turn};
 
-use crate::answers::insertion;
+use crate::answers::answer;
 use crate::tree_index::TreeIndex;
 use crate::turns::Turn;
 use legs::{IndexFault, Leg};
@@ -67,7 +67,7 @@ fn join<S: PageStore>(
         index.spend();
         return Err(IndexFault::Spent);
     }
-    insertion(index.put_all(feature, legs))
+    answer(index.put_all(feature, legs))
 }
 
 /// Puts legs into an index in the order of their turns, those of one leaf at once.

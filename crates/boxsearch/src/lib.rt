@@ -3,7 +3,6 @@
 
 mod answers;
 mod descent;
-mod fault;
 mod joining;
 mod known;
 mod listed;
@@ -13,9 +12,8 @@ mod parts;
 mod tree_index;
 mod turns;
 
-pub use answers::of_search;
-pub use descent::search;
-pub use fault::SearchFault;
+pub use answers::{answer, of_tree};
+pub use descent::{SearchFault, search};
 pub use marking::has_state;
 pub use parts::laws;
 pub use tree_index::TreeIndex;

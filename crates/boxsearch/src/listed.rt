@@ -1,5 +1,5 @@
 //! What contracts see of an index over pages, and its calls.
-use crate::answers::{found, insertion, retrieval};
+use crate::answers::answer;
 use crate::descent::search;
 use crate::joining::join_all;
 use crate::known::make_room;
@@ -78,7 +78,7 @@ impl<S: PageStore> LegIndex for TreeIndex<S> {
             self.tree.spent = true;
             return Err(IndexFault::Spent);
         }
-        insertion(self.put(leg))
+        answer(self.put(leg))
     }
 
     fn add_all(&mut self, legs: &[Leg]) -> Result<(), IndexFault> {
@@ -100,7 +100,7 @@ impl<S: PageStore> LegIndex for TreeIndex<S> {
 
     fn search(&mut self, query: &Box3) -> Result<Vec<Leg>, IndexFault> {
         chains::laws();
-        found(search(self.alloc, &mut self.cache, &self.tree, query))
+        answer(search(self.alloc, &mut self.cache, &self.tree, query))
     }
 
     fn track(&mut self, feature: u32) -> Result<Vec<Leg>, IndexFault> {
@@ -117,7 +117,7 @@ impl<S: PageStore> LegIndex for TreeIndex<S> {
         }
         let shape = self.tree.shape;
         let spans = &mut self.known[feature];
-        retrieval(trajectory(self.alloc, &mut self.cache, &shape, &place, spans))
+        answer(trajectory(self.alloc, &mut self.cache, &shape, &place, spans))
     }
 
     fn track_in(
@@ -140,6 +140,6 @@ impl<S: PageStore> LegIndex for TreeIndex<S> {
         let shape = self.tree.shape;
         let spans = &mut self.known[feature];
         let cache = &mut self.cache;
-        retrieval(trajectory_in(self.alloc, cache, &shape, &place, period, sieve, spans))
+        answer(trajectory_in(self.alloc, cache, &shape, &place, period, sieve, spans))
     }
 }

@@ -1,5 +1,5 @@
 //! One page on the way down.
-ghost use Rattle.std.specs.Prelude.{◌≡◌, ◌≢◌, ◌≤◌, ◌+◌, ◌++◌, filter, map, OnOk, IfErr, IsTrue, Some};
+ghost use Rattle.std.specs.Prelude.{◌≡◌, ◌≤◌, ◌+◌, ◌++◌, filter, map, OnOk, IfErr, IsTrue, Some};
 ghost use Rattle.legs.specs.Boxes.{BoxView, box_of, boxes_meet};
 ghost use Rattle.legs.specs.Hull.{leg_boxes};
 ghost use Rattle.legs.specs.Legs.{LegView};
@@ -7,17 +7,16 @@ ghost use Rattle.pagecache.specs.Cache.{Cache, AsksOnce};
 ghost use Rattle.tbnode.specs.Form.{node_of};
 ghost use Rattle.chains.specs.Reads.{OnlyReads};
 ghost use Rattle.tbtree.specs.Descent.{children_met, entries_in, hits, legs_in, HasInner};
+ghost use Rattle.tbtree.specs.Faults.{IfNamed, MayRefuseRead, RefusesRead};
 ghost use Rattle.tbtree.specs.Nodes.{pages_of_cache, AnInner, ALeaf, InnerView, LeafView, HasLeaf};
-ghost use Rattle.boxsearch.specs.Faults.{IsAllowed, IsCaused, IfNamed};
 ghost use Rattle.boxsearch.specs.Way.{meets};
-ghost use Rattle.boxsearch.specs.declared.fault.SearchFault.{SearchFault};
 
-use crate::fault::SearchFault;
 use legs::{Box3, Leg};
 use pagecache::PageCache;
 use pages::{PageStore, Payload};
 use std::alloc::AllocError;
 use tbnode::{Inner, Leaf};
+use tbtree::TreeFault;
 
 /// Adds the children whose boxes meet.
 fn push_entries(inner: &Inner<'_>, query: &Box3, found: &mut Vec<u32>) -> Result<(), AllocError>
@@ -55,25 +54,24 @@ fn push_inner(
     level: u32,
     query: &Box3,
     found: &mut Vec<u32>,
-) -> Result<(), SearchFault>
+) -> Result<(), TreeFault>
     ensures pushed { OnOk result (found.new.items
         ≡ found.old.items ++ map (λ e. e.child) (filter (λ e. boxes_meet e.bounds query.now)
         (entries_in (Some (node_of payload.now))))) }
     ensures way { OnOk result ((inner : InnerView BoxView)
         × (node_of payload.now ≡ Some (AnInner inner)) × (inner.level ≡ level)) }
     ensures only { (inner : InnerView BoxView) → node_of payload.now ≡ Some (AnInner inner)
-        → inner.level ≡ level → IfErr result IsAllowed }
+        → inner.level ≡ level → IfErr result MayRefuseRead }
     ensures named { IfErr result (IfNamed (λ n. (n ≡ page)
         × ((inner : InnerView BoxView) → node_of payload.now ≡ Some (AnInner inner)
         → inner.level ≡ level → ⊥))) }
-    ensures caused { (old new : Cache) → IfErr result (IsCaused old new) }
-    ensures works { IfErr result (λ fault. fault ≢ SearchFault.Spent) }
+    ensures caused { (old new : Cache) → IfErr result (RefusesRead old new) }
 {
     let Some(inner) = tbnode::inner(payload) else {
-        return Err(SearchFault::Malformed(page));
+        return Err(TreeFault::Malformed(page));
     };
     if u32::from(inner.head().level) != level {
-        return Err(SearchFault::Malformed(page));
+        return Err(TreeFault::Malformed(page));
     }
     push_entries(&inner, query, found)?;
     Ok(())
@@ -85,21 +83,20 @@ fn push_leaf(
     page: u32,
     query: &Box3,
     found: &mut Vec<Leg>,
-) -> Result<(), SearchFault>
+) -> Result<(), TreeFault>
     ensures pushed { OnOk result (found.new.items
         ≡ found.old.items ++ filter (λ leg. boxes_meet (box_of leg) query.now)
         (legs_in (Some (node_of payload.now)))) }
     ensures way { OnOk result ((leaf : LeafView LegView)
         × (node_of payload.now ≡ Some (ALeaf leaf))) }
     ensures only { (leaf : LeafView LegView) → node_of payload.now ≡ Some (ALeaf leaf)
-        → IfErr result IsAllowed }
+        → IfErr result MayRefuseRead }
     ensures named { IfErr result (IfNamed (λ n. (n ≡ page)
         × ((leaf : LeafView LegView) → node_of payload.now ≡ Some (ALeaf leaf) → ⊥))) }
-    ensures caused { (old new : Cache) → IfErr result (IsCaused old new) }
-    ensures works { IfErr result (λ fault. fault ≢ SearchFault.Spent) }
+    ensures caused { (old new : Cache) → IfErr result (RefusesRead old new) }
 {
     let Some(leaf) = tbnode::leaf(payload) else {
-        return Err(SearchFault::Malformed(page));
+        return Err(TreeFault::Malformed(page));
     };
     push_hits(&leaf, query, found)?;
     Ok(())
@@ -112,29 +109,28 @@ pub(crate) fn push_children<S: PageStore>(
     level: u32,
     query: &Box3,
     found: &mut Vec<u32>,
-) -> Result<(), SearchFault>
+) -> Result<(), TreeFault>
     ensures pushed { IsTrue cache.old.store.is_faithful
         → OnOk result (found.new.items
         ≡ found.old.items ++ children_met (meets query.now) (pages_of_cache cache.old) page) }
     ensures way { IsTrue cache.old.store.is_faithful
         → OnOk result (HasInner (pages_of_cache cache.old) page level) }
     ensures only { IsTrue cache.old.store.is_faithful
-        → HasInner (pages_of_cache cache.old) page level → IfErr result IsAllowed }
+        → HasInner (pages_of_cache cache.old) page level → IfErr result MayRefuseRead }
     ensures named { IsTrue cache.old.store.is_faithful
         → IfErr result (IfNamed (λ n. (n ≡ page)
         × (HasInner (pages_of_cache cache.old) page level → ⊥))) }
     ensures reads { OnlyReads cache.old cache.new }
-    ensures caused { IfErr result (IsCaused cache.old cache.new) }
-    ensures works { IfErr result (λ fault. fault ≢ SearchFault.Spent) }
+    ensures caused { IfErr result (RefusesRead cache.old cache.new) }
     ensures asked { OnOk result (AsksOnce cache.old cache.new) }
     ensures most { cache.new.asked ≤ cache.old.asked + 1 }
 {
     if page == 0 {
-        return Err(SearchFault::Malformed(page));
+        return Err(TreeFault::Malformed(page));
     }
     let payload = match cache.page(page) {
         Ok(payload) => payload,
-        Err(fault) => return Err(SearchFault::of(fault, page)),
+        Err(fault) => return Err(TreeFault::of(fault, page)),
     };
     push_inner(payload, page, level, query, found)
 }
@@ -145,29 +141,28 @@ pub(crate) fn push_legs<S: PageStore>(
     page: u32,
     query: &Box3,
     found: &mut Vec<Leg>,
-) -> Result<(), SearchFault>
+) -> Result<(), TreeFault>
     ensures pushed { IsTrue cache.old.store.is_faithful
         → OnOk result (found.new.items
         ≡ found.old.items ++ hits leg_boxes (meets query.now) (pages_of_cache cache.old) page) }
     ensures way { IsTrue cache.old.store.is_faithful
         → OnOk result (HasLeaf (pages_of_cache cache.old) page) }
     ensures only { IsTrue cache.old.store.is_faithful
-        → HasLeaf (pages_of_cache cache.old) page → IfErr result IsAllowed }
+        → HasLeaf (pages_of_cache cache.old) page → IfErr result MayRefuseRead }
     ensures named { IsTrue cache.old.store.is_faithful
         → IfErr result (IfNamed (λ n. (n ≡ page)
         × (HasLeaf (pages_of_cache cache.old) page → ⊥))) }
     ensures reads { OnlyReads cache.old cache.new }
-    ensures caused { IfErr result (IsCaused cache.old cache.new) }
-    ensures works { IfErr result (λ fault. fault ≢ SearchFault.Spent) }
+    ensures caused { IfErr result (RefusesRead cache.old cache.new) }
     ensures asked { OnOk result (AsksOnce cache.old cache.new) }
     ensures most { cache.new.asked ≤ cache.old.asked + 1 }
 {
     if page == 0 {
-        return Err(SearchFault::Malformed(page));
+        return Err(TreeFault::Malformed(page));
     }
     let payload = match cache.page(page) {
         Ok(payload) => payload,
-        Err(fault) => return Err(SearchFault::of(fault, page)),
+        Err(fault) => return Err(TreeFault::of(fault, page)),
     };
     push_leaf(payload, page, query, found)
 }

@@ -12,13 +12,13 @@ use Rattle.pagecache.specs.declared.fault.CacheFault.{CacheFault}
 use Rattle.pagecache.specs.declared.fault.CacheFault.TheVariants as cache
 use Rattle.tbnode.specs.Form.{node_of}
 use Rattle.tbnode.specs.declared.views.LeafHead.{LeafHead}
+use Rattle.tbtree.specs.Faults.{IsNamed, MayRefuseHeld, MayRefuseRead, MayRefuseReadInCache, NamesInCache, RefusesRead, RefusesReadInCache}
 use Rattle.tbtree.specs.Nodes.{Pages, pages_of_cache, Node, ALeaf, AnInner, LeafView}
+use Rattle.tbtree.specs.declared.fault.TreeFault.{TreeFault}
+use Rattle.tbtree.specs.declared.fault.TreeFault.TheVariants.{Cache as OfCache, Malformed, Spent}
 use Rattle.tbtree.specs.declared.tree.Place.{Place}
 use Rattle.chains.specs.Chains.{AreHeld, IsChain, IsPlaceChain, NamesNone, is_stray, chain_fault, fault_from, legs_in, link_past, last_link}
-use Rattle.chains.specs.Faults.{IsAllowed, IsAllowedOfCache, IsOfHeld, IsCaused, IsCausedInCache, IsNamed, IsNamedInCache}
 use Rattle.chains.specs.Links.{Fits, IsPlaced, fits, head_fits, is_linked, is_of_feature, is_placed, is_end, link_back, spot_of}
-use Rattle.chains.specs.declared.fault.ChainFault.{ChainFault}
-use Rattle.chains.specs.declared.fault.ChainFault.TheVariants.{Cache as OfCache, Malformed, Memory}
 use Rattle.chains.specs.declared.leaves.Link.{Link}
 use Rattle.chains.specs.declared.leaves.Spot.{Spot}
 use Rattle.legs.specs.GroupLemmas.{some_none}
@@ -155,7 +155,7 @@ module _ (nodes : Pages LegView BoxView) (period : Option PeriodView) (shape : S
       ap (λ b. cond b (Some 0) (fault_from nodes period shape.leaf place.legs place.first (div_ceil place.legs shape.leaf) (last_link place))) (stray_from place h.0)
       ∙ chain_from nodes period shape.leaf place.legs place.first (div_ceil place.legs shape.leaf) (last_link place) h.1
 
-allowed_in_cache : (old new : Cache) (fault : CacheFault) (o : Option ℕ) → o ≡ None → IsCausedInCache old new fault → IsNamedInCache o fault → IsAllowedOfCache fault
+allowed_in_cache : (old new : Cache) (fault : CacheFault) (o : Option ℕ) → o ≡ None → RefusesReadInCache old new fault → NamesInCache (λ n. o ≡ Some n) fault → MayRefuseReadInCache fault
 allowed_in_cache old new cache.NoPage o z h s = h
 allowed_in_cache old new cache.Store o z h s = tt
 allowed_in_cache old new (cache.Damaged n) o z h s = some_none n (sym s ∙ z)
@@ -163,12 +163,12 @@ allowed_in_cache old new cache.StoreFull o z h s = h
 allowed_in_cache old new cache.Memory o z h s = tt
 
 -- where a chain is whole, no page is named
-pub allowed_of : (nodes : Pages LegView BoxView) (old new : Cache) (fault : ChainFault) (o : Option ℕ) → o ≡ None → IsCaused old new fault → IsNamed nodes o fault → IsAllowed fault
+pub allowed_of : (nodes : Pages LegView BoxView) (old new : Cache) (fault : TreeFault) (o : Option ℕ) → o ≡ None → RefusesRead old new fault → IsNamed nodes o fault → MayRefuseRead fault
 allowed_of nodes old new (OfCache fault) o z h s = allowed_in_cache old new fault o z h s
 allowed_of nodes old new (Malformed n) o z h s = some_none n (sym s.0 ∙ z)
-allowed_of nodes old new Memory o z h s = tt
+allowed_of nodes old new Spent o z h s = h
 
-held_in_cache : (old new : Cache) (fault : CacheFault) → IsTrue old.store.is_faithful → AreHeld (pages_of_cache old) → IsCausedInCache old new fault → IsAllowedOfCache fault
+held_in_cache : (old new : Cache) (fault : CacheFault) → IsTrue old.store.is_faithful → AreHeld (pages_of_cache old) → RefusesReadInCache old new fault → MayRefuseReadInCache fault
 held_in_cache old new cache.NoPage f a h = h
 held_in_cache old new cache.Store f a h = tt
 held_in_cache old new (cache.Damaged n) f a h = a n h.0 (ap (option_map node_of) (h.1 f))
@@ -176,7 +176,7 @@ held_in_cache old new cache.StoreFull f a h = h
 held_in_cache old new cache.Memory f a h = tt
 
 -- where each page has a payload, none is damaged
-pub held_of : (old new : Cache) (fault : ChainFault) → IsTrue old.store.is_faithful → AreHeld (pages_of_cache old) → IsCaused old new fault → IsOfHeld fault
+pub held_of : (old new : Cache) (fault : TreeFault) → IsTrue old.store.is_faithful → AreHeld (pages_of_cache old) → RefusesRead old new fault → MayRefuseHeld fault
 held_of old new (OfCache fault) f a h = held_in_cache old new fault f a h
 held_of old new (Malformed n) f a h = tt
-held_of old new Memory f a h = tt
+held_of old new Spent f a h = h

@@ -5,10 +5,10 @@ use Rattle.pagecache.proofs.CallerLemmas.{unsyncs-trans}
 use Rattle.pagecache.specs.Cache.{Cache}
 use Rattle.pagecache.specs.declared.fault.CacheFault.{CacheFault}
 use Rattle.pagecache.specs.declared.fault.CacheFault.TheVariants as cache
-use Rattle.chains.specs.Faults.{IsCaused, IsCausedInCache}
+use Rattle.tbtree.specs.Faults.{RefusesRead, RefusesReadInCache}
+use Rattle.tbtree.specs.declared.fault.TreeFault.{TreeFault}
+use Rattle.tbtree.specs.declared.fault.TreeFault.TheVariants.{Cache as OfCache, Malformed, Spent}
 use Rattle.chains.specs.Reads.{OnlyReads}
-use Rattle.chains.specs.declared.fault.ChainFault.{ChainFault}
-use Rattle.chains.specs.declared.fault.ChainFault.TheVariants.{Cache as OfCache, Malformed, Memory}
 
 pub reads_refl : (a : Cache) → OnlyReads a a
 reads_refl a = record {
@@ -45,17 +45,17 @@ reads_trans a b c p q = record {
   unsynced = unsyncs-trans a b c p.changed p.unsynced q.unsynced;
 }
 
-caused_in_cache : (a b c : Cache) (e : CacheFault) → OnlyReads a b → IsCausedInCache b c e → IsCausedInCache a c e
+caused_in_cache : (a b c : Cache) (e : CacheFault) → OnlyReads a b → RefusesReadInCache b c e → RefusesReadInCache a c e
 caused_in_cache a b c cache.NoPage p h = h
 caused_in_cache a b c cache.Store p h = omega (arith, h, p.store.faults)
 caused_in_cache a b c (cache.Damaged n) p h = (omega (arith, h.0, p.count), λ f. sym (p.payloads f n) ∙ h.1 (p.store.faithful ∙ f))
 caused_in_cache a b c cache.StoreFull p h = h
 caused_in_cache a b c cache.Memory p h = tt
 
-pub caused_after : (a b c : Cache) (e : ChainFault) → OnlyReads a b → IsCaused b c e → IsCaused a c e
+pub caused_after : (a b c : Cache) (e : TreeFault) → OnlyReads a b → RefusesRead b c e → RefusesRead a c e
 caused_after a b c (OfCache e) p h = caused_in_cache a b c e p h
 caused_after a b c (Malformed n) p h = tt
-caused_after a b c Memory p h = tt
+caused_after a b c Spent p h = h
 
 -- what a call after another may cite
 pub ruleset reading = (reads_trans, reads_refl, caused_after)

@@ -9,18 +9,16 @@ use Rattle.legs.specs.Legs.{LegView}
 use Rattle.legs.specs.declared.sieve.Sieve.{Sieve}
 use Rattle.legs.specs.Boxes.{BoxView}
 use Rattle.pagecache.specs.Cache.{Cache}
-use Rattle.pagecache.specs.declared.fault.CacheFault.{CacheFault}
-use Rattle.pagecache.specs.declared.fault.CacheFault.TheVariants as cache
 use Rattle.tbnode.specs.Form.{node_of}
+use Rattle.tbtree.specs.Faults.{IsNamed}
 use Rattle.tbtree.specs.Nodes.{Pages, pages_of_cache, LeafView, ALeaf}
+use Rattle.tbtree.specs.declared.fault.TreeFault.{TreeFault}
+use Rattle.tbtree.proofs.FaultLemmas.{names_then}
 use Rattle.chains.specs.Chains.{walk, walked, legs_in, previous_of, link_past, fault_from}
-use Rattle.chains.specs.Faults.{IsNamed, IsNamedInCache}
 use Rattle.chains.specs.Keeping.{HasTaken}
 use Rattle.chains.specs.Links.{fits, is_linked, spot_of, is_kept, is_end, link_back}
 use Rattle.chains.specs.Reads.{OnlyReads}
 use Rattle.chains.specs.Taking.{fault_at}
-use Rattle.chains.specs.declared.fault.ChainFault.{ChainFault}
-use Rattle.chains.specs.declared.fault.ChainFault.TheVariants.{Cache as OfCache, Malformed, Memory}
 use Rattle.chains.specs.declared.leaves.Link.{Link}
 use Rattle.chains.specs.declared.leaves.Spot.{Spot}
 use Rattle.legs.specs.GroupLemmas.{some_none, some_same}
@@ -125,18 +123,12 @@ pub one_more : (a b : ℕ) → b ≡ min (a + 1) (2 ^ 64 - 1) → b < 2 ^ 64 - 1
 one_more a b e l = (omega (arith, e, l), omega (arith, e, l))
 
 -- over what is only read the same page is named
-named_in_cache : (fault : CacheFault) (a b : Option ℕ) → ((p : ℕ) → a ≡ Some p → b ≡ Some p) → IsNamedInCache a fault → IsNamedInCache b fault
-named_in_cache cache.NoPage a b h s = tt
-named_in_cache cache.Store a b h s = tt
-named_in_cache (cache.Damaged n) a b h s = h n s
-named_in_cache cache.StoreFull a b h s = tt
-named_in_cache cache.Memory a b h s = tt
-
-pub named_after : (old mid : Cache) (fault : ChainFault) (a b : Option ℕ) → OnlyReads old mid → IsTrue old.store.is_faithful → ((p : ℕ) → a ≡ Some p → b ≡ Some p)
+pub named_after : (old mid : Cache) (fault : TreeFault) (a b : Option ℕ) → OnlyReads old mid → IsTrue old.store.is_faithful → ((p : ℕ) → a ≡ Some p → b ≡ Some p)
     → IsNamed (pages_of_cache mid) a fault → IsNamed (pages_of_cache old) b fault
-named_after old mid (OfCache fault) a b r f h s = named_in_cache fault a b h s
-named_after old mid (Malformed n) a b r f h s = (h n s.0, λ z l k. s.1 z (omega (arith, l, r.count)) (same_at old mid r f n ∙ k))
-named_after old mid Memory a b r f h s = tt
+named_after old mid fault a b r f h s =
+    names_then (λ n. a ≡ Some n) (λ n. (a ≡ Some n) × (0 < n → n < mid.count → (pages_of_cache mid).at n ≢ None))
+    (λ n. b ≡ Some n) (λ n. (b ≡ Some n) × (0 < n → n < old.count → (pages_of_cache old).at n ≢ None)) h
+    (λ n w. (h n w.0, λ z l k. w.1 z (omega (arith, l, r.count)) (same_at old mid r f n ∙ k))) fault s
 
 pub fault_before : (old mid : Cache) (link : Link) (spot : Spot) → OnlyReads old mid → IsTrue old.store.is_faithful → fault_at (pages_of_cache old) link spot ≡ fault_at (pages_of_cache mid) link spot
 fault_before old mid link spot r f = ap (λ o. cond (is_linked o link spot) None (Some link.page)) (sym (same_at old mid r f link.page))

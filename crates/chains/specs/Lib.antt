@@ -1,6 +1,5 @@
 pub mod Keeping
 pub mod Links
-pub mod Faults
 pub mod Reads
 pub mod Chains
 pub mod Spans

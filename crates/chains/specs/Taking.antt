@@ -4,11 +4,11 @@ use Rattle.timebase.specs.Period.{PeriodView}
 use Rattle.legs.specs.Legs.{LegView}
 use Rattle.legs.specs.Boxes.{BoxView}
 use Rattle.legs.specs.declared.sieve.Sieve.{Sieve}
+use Rattle.tbtree.specs.Faults.{Names}
 use Rattle.tbtree.specs.Nodes.{Pages, Node, LeafView, ALeaf}
+use Rattle.tbtree.specs.declared.fault.TreeFault.{TreeFault}
 use Rattle.chains.specs.Links.{Takes, fits, is_linked}
 use Rattle.chains.specs.Spans.{Learns}
-use Rattle.chains.specs.declared.fault.ChainFault.{ChainFault}
-use Rattle.chains.specs.declared.fault.ChainFault.TheVariants.{Cache as OfCache, Malformed, Memory}
 use Rattle.chains.specs.declared.leaves.Link.{Link}
 use Rattle.chains.specs.declared.leaves.Spot.{Spot}
 use Rattle.chains.specs.declared.spans.LeafSpan.{LeafSpan}
@@ -44,11 +44,9 @@ pub record TakesPage (nodes : Pages LegView BoxView) (link : Link) (spot : Spot)
   pub takes : Takes leaf link.page period sieve old new result
   pub learns : Learns lesson.old lesson.new lesson.passed link.page leaf
 
--- a node is refused for want of memory, or because it does not fit; then its page is named
-abbrev pub IsNodeFault : Bool → ℕ → ChainFault → Type 0
-IsNodeFault fit page (OfCache fault) = ⊥
-IsNodeFault fit page (Malformed n) = (fit ≡ false) × (n ≡ page)
-IsNodeFault fit page Memory = Unit {0}
+-- a node that is refused is not damaged; its page is named where it does not fit
+abbrev pub IsNodeFault : Bool → ℕ → TreeFault → Type 0
+IsNodeFault fit page fault = Names (λ _. ⊥) (λ n. (fit ≡ false) × (n ≡ page)) fault
 
 -- the page of the link, where it does not fit
 abbrev pub fault_at : Pages LegView BoxView → Link → Spot → Option ℕ

@@ -5,19 +5,19 @@ ghost use Rattle.std.specs.Prelude.{◌≡◌, ◌+◌, ◌≤◌, Some, OnOk, I
 ghost use Rattle.legs.specs.Legs.{LegView};
 ghost use Rattle.pagecache.specs.Cache.{Cache, AsksOnce};
 ghost use Rattle.tbnode.specs.Form.{OfLeaf};
+ghost use Rattle.tbtree.specs.Faults.{IsNamed, RefusesRead};
 ghost use Rattle.tbtree.specs.Nodes.{pages_of_cache, LeafView, ALeaf};
-ghost use Rattle.chains.specs.Faults.{IsCaused, IsNamed};
 ghost use Rattle.chains.specs.Links.{fits, is_end};
 ghost use Rattle.chains.specs.Reads.{OnlyReads};
 ghost use Rattle.chains.specs.Taking.{TakesLeaf, IsNodeFault, fault_at};
 
-use crate::fault::ChainFault;
 use crate::kept::{Want, take_of};
 use crate::leaves::{Link, Spot, head_fits};
 use legs::Leg;
 use pagecache::PageCache;
 use pages::{PageStore, Payload};
 use tbnode::UntestedLeaf;
+use tbtree::TreeFault;
 use timebase::Period;
 
 /// Whether a leaf is the one that the link leads to.
@@ -49,18 +49,18 @@ fn take_node(
     spot: &Spot,
     want: &Want,
     found: &mut Vec<Leg>,
-) -> Result<Option<Link>, ChainFault>
+) -> Result<Option<Link>, TreeFault>
     ensures taken { OfLeaf payload.now (λ leaf. IfOk result (TakesLeaf leaf link.now spot.now
         want.now.period want.now.sieve found.old.items found.new.items)) }
     ensures named { OfLeaf payload.now (λ leaf. IfErr result
         (IsNodeFault (fits leaf link.now spot.now) link.now.page)) }
-    ensures caused { (old new : Cache) → IfErr result (IsCaused old new) }
+    ensures caused { (old new : Cache) → IfErr result (RefusesRead old new) }
 {
     let Some(leaf) = tbnode::untested(payload) else {
-        return Err(ChainFault::Malformed(link.page));
+        return Err(TreeFault::Malformed(link.page));
     };
     if !fits(&leaf, link, spot) {
-        return Err(ChainFault::Malformed(link.page));
+        return Err(TreeFault::Malformed(link.page));
     }
     take_of(&leaf, link.page, want, found)?;
     let head = leaf.head();
@@ -72,7 +72,7 @@ fn take_node(
     match is_end(&leaf, &want.period) {
         Some(true) => Ok(None),
         Some(false) => Ok(Some(back)),
-        None => Err(ChainFault::Malformed(link.page)),
+        None => Err(TreeFault::Malformed(link.page)),
     }
 }
 
@@ -84,7 +84,7 @@ pub(crate) fn take_again<S: PageStore>(
     spot: &Spot,
     want: &Want,
     found: &mut Vec<Leg>,
-) -> Result<Option<Link>, ChainFault>
+) -> Result<Option<Link>, TreeFault>
     ensures taken { IsTrue cache.old.store.is_faithful → (leaf : LeafView LegView)
         → (pages_of_cache cache.old).at link.now.page ≡ Some (Some (ALeaf leaf))
         → IfOk result (TakesLeaf leaf link.now spot.now want.now.period want.now.sieve
@@ -94,16 +94,16 @@ pub(crate) fn take_again<S: PageStore>(
         → IfErr result (IsNamed (pages_of_cache cache.old)
         (fault_at (pages_of_cache cache.old) link.now spot.now)) }
     ensures reads { OnlyReads cache.old cache.new }
-    ensures caused { IfErr result (IsCaused cache.old cache.new) }
+    ensures caused { IfErr result (RefusesRead cache.old cache.new) }
     ensures asked { OnOk result (AsksOnce cache.old cache.new) }
     ensures most { cache.new.asked ≤ cache.old.asked + 1 }
 {
     if link.page == 0 {
-        return Err(ChainFault::Malformed(0));
+        return Err(TreeFault::Malformed(0));
     }
     let payload = match cache.page(link.page) {
         Ok(payload) => payload,
-        Err(fault) => return Err(ChainFault::of(fault, link.page)),
+        Err(fault) => return Err(TreeFault::of(fault, link.page)),
     };
     take_node(payload, link, spot, want, found)
 }

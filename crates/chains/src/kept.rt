@@ -4,16 +4,16 @@ ghost use Rattle.legs.specs.Legs.{LegView, is_live};
 ghost use Rattle.legs.specs.declared.sieve.Sieve.{Sieve};
 ghost use Rattle.pagecache.specs.Cache.{Cache};
 ghost use Rattle.tbnode.specs.Form.{OfLeaf};
-ghost use Rattle.chains.specs.Faults.{IsCaused};
+ghost use Rattle.tbtree.specs.Faults.{RefusesRead};
 ghost use Rattle.chains.specs.Keeping.{HasTaken, IsFirstLive, IsLastLive, PutsSome, is_wanted};
 ghost use Rattle.chains.specs.Links.{is_kept};
 ghost use Rattle.chains.specs.Taking.{IsNodeFault};
 
-use crate::fault::ChainFault;
 use legs::{Leg, Sieve};
 use pages::Payload;
 use std::alloc::AllocError;
 use tbnode::UntestedLeaf;
+use tbtree::TreeFault;
 use timebase::Period;
 
 /// What is wanted of a chain: its legs that are live in the period, or of these what the sieve keeps; all its legs,
@@ -45,25 +45,25 @@ fn push_leg(
     page: u32,
     i: usize,
     found: &mut Vec<Leg>,
-) -> Result<(), ChainFault>
+) -> Result<(), TreeFault>
     ensures pushed { OfLeaf leaf.now (λ view. (leg : LegView) → slice_get view.legs i ≡ Some leg
         → OnOk result (found.new.items ≡ found.old.items ++ leg ∷ [])) }
     ensures named { OfLeaf leaf.now (λ view. i < length view.legs
         → IfErr result (IsNodeFault true page)) }
-    ensures caused { (old new : Cache) → IfErr result (IsCaused old new) }
+    ensures caused { (old new : Cache) → IfErr result (RefusesRead old new) }
 {
     match leaf.leg(i) {
         Some(leg) => Ok(push(found, leg)?),
-        None => Err(ChainFault::Malformed(page)),
+        None => Err(TreeFault::Malformed(page)),
     }
 }
 
 /// Puts all legs of a leaf on that page behind the others, the last one first.
-fn push_each(leaf: &UntestedLeaf<'_>, page: u32, found: &mut Vec<Leg>) -> Result<(), ChainFault>
+fn push_each(leaf: &UntestedLeaf<'_>, page: u32, found: &mut Vec<Leg>) -> Result<(), TreeFault>
     ensures pushed { OfLeaf leaf.now (λ view. OnOk result (found.new.items
         ≡ found.old.items ++ reverse view.legs)) }
     ensures named { OfLeaf leaf.now (λ view. IfErr result (IsNodeFault true page)) }
-    ensures caused { (old new : Cache) → IfErr result (IsCaused old new) }
+    ensures caused { (old new : Cache) → IfErr result (RefusesRead old new) }
 {
     let mut i = leaf.len();
     'legs: while i > 0 {
@@ -74,11 +74,11 @@ fn push_each(leaf: &UntestedLeaf<'_>, page: u32, found: &mut Vec<Leg>) -> Result
 }
 
 /// The same, with room for them made before.
-fn push_all(leaf: &UntestedLeaf<'_>, page: u32, found: &mut Vec<Leg>) -> Result<(), ChainFault>
+fn push_all(leaf: &UntestedLeaf<'_>, page: u32, found: &mut Vec<Leg>) -> Result<(), TreeFault>
     ensures taken { OfLeaf leaf.now (λ view. (sieve : Sieve) → OnOk result (HasTaken None sieve
         (filter (is_kept None) view.legs) found.old.items found.new.items)) }
     ensures named { OfLeaf leaf.now (λ view. IfErr result (IsNodeFault true page)) }
-    ensures caused { (old new : Cache) → IfErr result (IsCaused old new) }
+    ensures caused { (old new : Cache) → IfErr result (RefusesRead old new) }
 {
     make_room(found, leaf.len())?;
     push_each(leaf, page, found)
@@ -133,14 +133,14 @@ fn push_wanted(
     period: &Period,
     sieve: &Sieve,
     found: &mut Vec<Leg>,
-) -> Result<(), ChainFault>
+) -> Result<(), TreeFault>
     requires { ends.0 < ends.1 }
     ensures pushed { OfLeaf leaf.now (λ view. ends.1 ≤ length view.legs
         → OnOk result (PutsSome sieve.now period.now (filter (is_live period.now)
         (drop (suc ends.0) (take ends.1 view.legs))) found.old.items found.new.items)) }
     ensures named { OfLeaf leaf.now (λ view. ends.1 ≤ length view.legs
         → IfErr result (IsNodeFault true page)) }
-    ensures caused { (old new : Cache) → IfErr result (IsCaused old new) }
+    ensures caused { (old new : Cache) → IfErr result (RefusesRead old new) }
 {
     tbnode::laws();
     let mut i = ends.1;
@@ -161,14 +161,14 @@ fn push_between(
     period: &Period,
     sieve: &Sieve,
     found: &mut Vec<Leg>,
-) -> Result<(), ChainFault>
+) -> Result<(), TreeFault>
     requires { ends.0 < ends.1 }
     ensures pushed { OfLeaf leaf.now (λ view. ends.1 ≤ length view.legs
         → OnOk result (PutsSome sieve.now period.now (filter (is_live period.now)
         (drop (suc ends.0) (take ends.1 view.legs))) found.old.items found.new.items)) }
     ensures named { OfLeaf leaf.now (λ view. ends.1 ≤ length view.legs
         → IfErr result (IsNodeFault true page)) }
-    ensures caused { (old new : Cache) → IfErr result (IsCaused old new) }
+    ensures caused { (old new : Cache) → IfErr result (RefusesRead old new) }
 {
     match sieve {
         Sieve::Ends => Ok(()),
@@ -185,7 +185,7 @@ fn push_from(
     period: &Period,
     sieve: &Sieve,
     found: &mut Vec<Leg>,
-) -> Result<(), ChainFault>
+) -> Result<(), TreeFault>
     ensures taken { OfLeaf leaf.now (λ view. IsFirstLive period.now view.legs (Some ends.0)
         → IsLastLive period.now view.legs (Some ends.1)
         → OnOk result (HasTaken (Some period.now) sieve.now
@@ -193,7 +193,7 @@ fn push_from(
     ensures named { OfLeaf leaf.now (λ view. IsFirstLive period.now view.legs (Some ends.0)
         → IsLastLive period.now view.legs (Some ends.1)
         → IfErr result (IsNodeFault true page)) }
-    ensures caused { (old new : Cache) → IfErr result (IsCaused old new) }
+    ensures caused { (old new : Cache) → IfErr result (RefusesRead old new) }
 {
     push_leg(leaf, page, ends.1, found)?;
     if ends.0 < ends.1 {
@@ -210,11 +210,11 @@ fn push_live(
     period: &Period,
     sieve: &Sieve,
     found: &mut Vec<Leg>,
-) -> Result<(), ChainFault>
+) -> Result<(), TreeFault>
     ensures taken { OfLeaf leaf.now (λ view. OnOk result (HasTaken (Some period.now) sieve.now
         (filter (is_kept (Some period.now)) view.legs) found.old.items found.new.items)) }
     ensures named { OfLeaf leaf.now (λ view. IfErr result (IsNodeFault true page)) }
-    ensures caused { (old new : Cache) → IfErr result (IsCaused old new) }
+    ensures caused { (old new : Cache) → IfErr result (RefusesRead old new) }
 {
     let Some(last) = last_live(leaf, period) else {
         return Ok(());
@@ -232,11 +232,11 @@ pub(crate) fn take_of(
     page: u32,
     want: &Want,
     found: &mut Vec<Leg>,
-) -> Result<(), ChainFault>
+) -> Result<(), TreeFault>
     ensures taken { OfLeaf leaf.now (λ view. OnOk result (HasTaken want.now.period want.now.sieve
         (filter (is_kept want.now.period) view.legs) found.old.items found.new.items)) }
     ensures named { OfLeaf leaf.now (λ view. IfErr result (IsNodeFault true page)) }
-    ensures caused { (old new : Cache) → IfErr result (IsCaused old new) }
+    ensures caused { (old new : Cache) → IfErr result (RefusesRead old new) }
 {
     match &want.period {
         Some(period) => push_live(leaf, page, period, &want.sieve, found),
@@ -250,15 +250,15 @@ pub(crate) fn take_legs(
     page: u32,
     want: &Want,
     found: &mut Vec<Leg>,
-) -> Result<(), ChainFault>
+) -> Result<(), TreeFault>
     ensures taken { OfLeaf payload.now (λ view. OnOk result
         (HasTaken want.now.period want.now.sieve
         (filter (is_kept want.now.period) view.legs) found.old.items found.new.items)) }
     ensures named { OfLeaf payload.now (λ view. IfErr result (IsNodeFault true page)) }
-    ensures caused { (old new : Cache) → IfErr result (IsCaused old new) }
+    ensures caused { (old new : Cache) → IfErr result (RefusesRead old new) }
 {
     match tbnode::untested(payload) {
         Some(leaf) => take_of(&leaf, page, want, found),
-        None => Err(ChainFault::Malformed(page)),
+        None => Err(TreeFault::Malformed(page)),
     }
 }

@@ -3,21 +3,20 @@ ghost use Rattle.std.specs.Prelude.{◌≡◌, ◌≢◌, ◌+◌, ◌-◌, ◌*
 ghost use Rattle.legs.specs.Legs.{LegView};
 ghost use Rattle.pagecache.specs.Cache.{Cache, AsksOnce};
 ghost use Rattle.tbnode.specs.Form.{node_of};
+ghost use Rattle.tbtree.specs.Faults.{IsNamed, RefusesRead};
 ghost use Rattle.tbtree.specs.Nodes.{pages_of_cache};
-ghost use Rattle.chains.specs.Faults.{IsCaused, IsNamed};
 ghost use Rattle.chains.specs.Links.{spot_of, is_placed, head_fits, fits, fits_node, is_end};
 ghost use Rattle.chains.specs.Reads.{OnlyReads};
 ghost use Rattle.chains.specs.Spans.{IsFront};
 ghost use Rattle.chains.specs.Taking.{TakesNode, TakesPage, IsNodeFault, fault_at};
 
-use crate::fault::ChainFault;
 use crate::kept::{Want, take_legs};
 use crate::spans::{LeafSpan, learn};
 use legs::Leg;
 use pagecache::PageCache;
 use pages::{PageStore, Payload};
 use tbnode::{Leaf, LeafHead};
-use tbtree::Place;
+use tbtree::{Place, TreeFault};
 use timebase::Period;
 
 /// A way to a leaf, from the one after it: its page, the page that it has as its next leaf (0 for the last leaf), and
@@ -111,7 +110,7 @@ fn take_node(
     found: &mut Vec<Leg>,
     spans: &mut Vec<LeafSpan>,
     passed: usize,
-) -> Result<Option<Link>, ChainFault>
+) -> Result<Option<Link>, TreeFault>
     ensures taken { IfOk result (TakesNode (node_of payload.now) link.now spot.now want.now.period
         want.now.sieve found.old.items found.new.items
         (record { old = spans.old.items; new = spans.new.items; passed = passed })) }
@@ -119,13 +118,13 @@ fn take_node(
     ensures keeps { IsFront spans.old.items spans.new.items }
     ensures named { IfErr result
         (IsNodeFault (fits_node (node_of payload.now) link.now spot.now) link.now.page) }
-    ensures caused { (old new : Cache) → IfErr result (IsCaused old new) }
+    ensures caused { (old new : Cache) → IfErr result (RefusesRead old new) }
 {
     let Some(leaf) = tbnode::leaf(payload) else {
-        return Err(ChainFault::Malformed(link.page));
+        return Err(TreeFault::Malformed(link.page));
     };
     if !fits(&leaf, link, spot) {
-        return Err(ChainFault::Malformed(link.page));
+        return Err(TreeFault::Malformed(link.page));
     }
     take_legs(payload, link.page, want, found)?;
     learn(spans, passed, &leaf, link.page)?;
@@ -150,7 +149,7 @@ pub(crate) fn take<S: PageStore>(
     found: &mut Vec<Leg>,
     spans: &mut Vec<LeafSpan>,
     passed: usize,
-) -> Result<Option<Link>, ChainFault>
+) -> Result<Option<Link>, TreeFault>
     ensures taken { IsTrue cache.old.store.is_faithful
         → IfOk result (TakesPage (pages_of_cache cache.old) link.now spot.now want.now.period
         want.now.sieve found.old.items found.new.items
@@ -161,16 +160,16 @@ pub(crate) fn take<S: PageStore>(
         → IfErr result (IsNamed (pages_of_cache cache.old)
         (fault_at (pages_of_cache cache.old) link.now spot.now)) }
     ensures reads { OnlyReads cache.old cache.new }
-    ensures caused { IfErr result (IsCaused cache.old cache.new) }
+    ensures caused { IfErr result (RefusesRead cache.old cache.new) }
     ensures asked { OnOk result (AsksOnce cache.old cache.new) }
     ensures most { cache.new.asked ≤ cache.old.asked + 1 }
 {
     if link.page == 0 {
-        return Err(ChainFault::Malformed(0));
+        return Err(TreeFault::Malformed(0));
     }
     let payload = match cache.page(link.page) {
         Ok(payload) => payload,
-        Err(fault) => return Err(ChainFault::of(fault, link.page)),
+        Err(fault) => return Err(TreeFault::of(fault, link.page)),
     };
     take_node(payload, link, spot, want, found, spans, passed)
 }

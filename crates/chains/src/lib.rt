@@ -2,12 +2,10 @@
 #![tactic(auto)]
 
 mod again;
-mod fault;
 mod kept;
 mod leaves;
 mod retrieval;
 mod spans;
 
-pub use fault::ChainFault;
-pub use retrieval::{laws, trajectory, trajectory_in};
+pub use retrieval::{ChainFault, laws, trajectory, trajectory_in};
 pub use spans::LeafSpan;

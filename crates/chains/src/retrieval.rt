@@ -7,12 +7,12 @@ ghost use Rattle.legs.specs.Index.{legs_of, live_legs_of};
 ghost use Rattle.legs.specs.Legs.{LegView};
 ghost use Rattle.legs.specs.Sieves.{IsSieved};
 ghost use Rattle.pagecache.specs.Cache.{Cache};
+ghost use Rattle.tbtree.specs.Faults.{GivesRead, IsNamed, MayRefuseHeld, MayRefuseRead, RefusesRead};
 ghost use Rattle.tbtree.specs.Nodes.{Pages, pages_of_cache};
 ghost use Rattle.tbtree.specs.Shape.{IsShape};
 ghost use Rattle.tbtree.specs.declared.tree.Place.{Place};
 ghost use Rattle.timebase.specs.Period.{PeriodView};
 ghost use Rattle.chains.specs.Chains.{AreHeld, IsPlaceChain, chain_fault, chain_legs, chain_cost, is_stray};
-ghost use Rattle.chains.specs.Faults.{IsAllowed, IsCaused, IsNamed, IsOfHeld, Gives};
 ghost use Rattle.chains.specs.Reads.{OnlyReads};
 ghost use Rattle.chains.specs.Keeping.{HasTaken};
 ghost use Rattle.chains.specs.Links.{spot_of};
@@ -22,7 +22,6 @@ ghost use Rattle.chains.specs.Trajectory.{HasFeature};
 ghost use Rattle.chains.specs.declared.spans.LeafSpan.{LeafSpan};
 
 use crate::again::take_again;
-use crate::fault::ChainFault;
 use crate::kept::Want;
 use crate::leaves::{Link, spot_of, take};
 use crate::spans::{LeafSpan, Passing, pass};
@@ -30,8 +29,11 @@ use legs::{Leg, Sieve};
 use pagecache::PageCache;
 use pages::PageStore;
 use std::alloc::Global;
-use tbtree::{Place, Shape};
+use tbtree::{Place, Shape, TreeFault};
 use timebase::Period;
+
+/// Why the legs of a feature were not given: never that a tree is spent.
+pub type ChainFault = TreeFault;
 
 /// Whether a place without legs names a page.
 fn is_stray(place: &Place) -> bool
@@ -60,7 +62,7 @@ fn step<S: PageStore>(
     want: &Want,
     found: &mut Vec<Leg>,
     spans: &mut Vec<LeafSpan>,
-) -> Result<Option<Link>, ChainFault>
+) -> Result<Option<Link>, TreeFault>
     requires known { IsTrue cache.old.store.is_faithful
         → AreSpans (pages_of_cache cache.old) most place.now.legs place.now.first
         (drop at.now.passed spans.old.items) (suc at.now.left) at.now.link }
@@ -76,7 +78,7 @@ fn step<S: PageStore>(
         → IfErr result (IsNamed (pages_of_cache cache.old) (fault_at (pages_of_cache cache.old)
         at.now.link (spot_of most place.now.legs place.now.first at.now.left))) }
     ensures reads { OnlyReads cache.old cache.new }
-    ensures caused { IfErr result (IsCaused cache.old cache.new) }
+    ensures caused { IfErr result (RefusesRead cache.old cache.new) }
     ensures asked { IfOk result (λ back. AsksAs (pass_at
         (slice_get spans.old.items at.now.passed)
         (slice_get spans.old.items (suc at.now.passed)) at.now.left want.now.period)
@@ -108,7 +110,7 @@ fn walk_back<S: PageStore>(
     place: &Place,
     want: &Want,
     spans: &mut Vec<LeafSpan>,
-) -> Result<Vec<Leg>, ChainFault>
+) -> Result<Vec<Leg>, TreeFault>
     requires known { IsTrue cache.old.store.is_faithful
         → IsKnown (pages_of_cache cache.old) shape.now place.now spans.old.items }
     ensures found { IsTrue cache.old.store.is_faithful
@@ -122,7 +124,7 @@ fn walk_back<S: PageStore>(
         → IfErr result (IsNamed (pages_of_cache cache.old)
         (chain_fault (pages_of_cache cache.old) want.now.period shape.now place.now)) }
     ensures reads { OnlyReads cache.old cache.new }
-    ensures caused { IfErr result (IsCaused cache.old cache.new) }
+    ensures caused { IfErr result (RefusesRead cache.old cache.new) }
     ensures asked { IsTrue cache.old.store.is_faithful
         → OnOk result (RisesBy cache.old.asked cache.new.asked
         (known_cost (pages_of_cache cache.old) want.now.period shape.now place.now
@@ -146,7 +148,7 @@ fn walk_back<S: PageStore>(
 {
     let most = u64::from(shape.leaf());
     if is_stray(place) {
-        return Err(ChainFault::Malformed(0));
+        return Err(TreeFault::Malformed(0));
     }
     let mut left = place.legs.div_ceil(most);
     let mut passed = 0;
@@ -173,7 +175,7 @@ fn walk_back<S: PageStore>(
 /// A leaf of another feature, with another count of legs than its place in the chain has, whose `next` is not the
 /// chain's, or that lacks a `previous` or goes on past the first leaf, is `Malformed`, and so is a page that is named
 /// and is not there: the first one that is met from the last leaf back. `Malformed` is page 0 where a place without
-/// legs names a page. What else the cache refuses is `Cache`; `Memory` is want of memory for the legs.
+/// legs names a page. What else the cache refuses is `Cache`, and so is want of memory for the legs.
 pub fn trajectory<S: PageStore>(
     alloc: Global,
     cache: &mut PageCache<S>,
@@ -187,7 +189,7 @@ pub fn trajectory<S: PageStore>(
     // Of pages that stand for a list: exactly the feature's legs; only a failed store and want of memory refuse.
     ensures found { IsTrue cache.old.store.is_faithful → (legs : List LegView) (feature : ℕ)
         → HasFeature (pages_of_cache cache.old) shape.now place.now feature legs
-        → Gives result (λ found. found.items ≡ legs_of feature legs) }
+        → GivesRead result (λ found. found.items ≡ legs_of feature legs) }
     ensures asked { IsTrue cache.old.store.is_faithful → (legs : List LegView) (feature : ℕ)
         → HasFeature (pages_of_cache cache.old) shape.now place.now feature legs
         → OnOk result (RisesBy cache.old.asked cache.new.asked
@@ -202,9 +204,9 @@ pub fn trajectory<S: PageStore>(
         ≡ chain_legs (pages_of_cache cache.old) None shape.now place.now) }
     ensures only { IsTrue cache.old.store.is_faithful
         → IsPlaceChain (pages_of_cache cache.old) None shape.now place.now
-        → IfErr result IsAllowed }
+        → IfErr result MayRefuseRead }
     ensures malformed { IsTrue cache.old.store.is_faithful
-        → AreHeld (pages_of_cache cache.old) → IfErr result IsOfHeld }
+        → AreHeld (pages_of_cache cache.old) → IfErr result MayRefuseHeld }
 
     // Of any pages: a page that is named is the first one, from the place's last leaf back, that is not the chain's;
     // a page is asked for once for each leaf that is read.
@@ -232,7 +234,7 @@ pub fn trajectory<S: PageStore>(
 
     // Over any store; what is said of payloads, over a faithful one.
     ensures reads { OnlyReads cache.old cache.new }
-    ensures caused { IfErr result (IsCaused cache.old cache.new) }
+    ensures caused { IfErr result (RefusesRead cache.old cache.new) }
     ensures most { cache.new.asked
         ≤ cache.old.asked + div_ceil place.now.legs shape.now.leaf }
 {
@@ -267,7 +269,7 @@ pub fn trajectory_in<S: PageStore>(
     // of memory refuse.
     ensures found { IsTrue cache.old.store.is_faithful → (legs : List LegView) (feature : ℕ)
         → HasFeature (pages_of_cache cache.old) shape.now place.now feature legs
-        → Gives result (λ found. IsSieved sieve.now period.now
+        → GivesRead result (λ found. IsSieved sieve.now period.now
         (live_legs_of feature period.now legs) found.items) }
     ensures asked { IsTrue cache.old.store.is_faithful → (legs : List LegView) (feature : ℕ)
         → HasFeature (pages_of_cache cache.old) shape.now place.now feature legs
@@ -285,9 +287,9 @@ pub fn trajectory_in<S: PageStore>(
         found.items) }
     ensures only { IsTrue cache.old.store.is_faithful
         → IsPlaceChain (pages_of_cache cache.old) (Some period.now) shape.now place.now
-        → IfErr result IsAllowed }
+        → IfErr result MayRefuseRead }
     ensures malformed { IsTrue cache.old.store.is_faithful
-        → AreHeld (pages_of_cache cache.old) → IfErr result IsOfHeld }
+        → AreHeld (pages_of_cache cache.old) → IfErr result MayRefuseHeld }
 
     // Of any pages: a page that is named is the first one, from the place's last leaf back, that is not the chain's;
     // a page is asked for once for each leaf that is read.
@@ -331,7 +333,7 @@ pub fn trajectory_in<S: PageStore>(
 
     // Over any store; what is said of payloads, over a faithful one.
     ensures reads { OnlyReads cache.old cache.new }
-    ensures caused { IfErr result (IsCaused cache.old cache.new) }
+    ensures caused { IfErr result (RefusesRead cache.old cache.new) }
     ensures most { cache.new.asked
         ≤ cache.old.asked + div_ceil place.now.legs shape.now.leaf }
 {

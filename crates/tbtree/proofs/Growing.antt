@@ -12,7 +12,7 @@ use Rattle.tbtree.proofs.LawfulBoxes.{AreLawful}
 use Rattle.tbtree.specs.Nodes.{Pages, ALeaf, LeafView, Pushes, HasLeafRoom, with_legs}
 use Rattle.tbtree.specs.Stands.{page_at, owner, marks, leaf_of, LeavesStand, NumbersStand, TreeStands}
 use Rattle.tbtree.specs.Way.{Going, IsWidened, IsOnWay}
-use Rattle.tbtree.specs.Faults.{IsAllowed}
+use Rattle.tbtree.specs.Faults.{MayRefuseWrite}
 use Rattle.tbtree.specs.declared.fault.TreeFault.{TreeFault}
 use Rattle.tbtree.specs.Insert.{Grows}
 use Rattle.legs.specs.GroupLemmas.{some_same}
@@ -105,7 +105,7 @@ module _ {L B : Type 0} (s : Boxes L B) (laws : AreLawful s) (feature : L → �
       }
 
   pub grow_way : (old mid new : Pages L B) (i p last : ℕ) (ys : List L) (can : LeafView L → Type 0) (box : B) → 0 < inner → hull s ys ≡ Some box → IsOnWay s inner levels root old mid 0 i box (Ok p)
-      → (res : Result (Unit {0}) TreeFault) → OnOk res (Pushes mid p ys new) → (HasLeafRoom mid p can → IfErr res IsAllowed) → Grows s feature inner levels root old new i last ys can res
+      → (res : Result (Unit {0}) TreeFault) → OnOk res (Pushes mid p ys new) → (HasLeafRoom mid p can → IfErr res MayRefuseWrite) → Grows s feature inner levels root old new i last ys can res
   grow_way old mid new i p last ys can box h b on (Ok u) w only runs pages x xs ri at takes t =
       grow old mid new i p ys h w runs pages x xs ri t (on runs (with runs i x xs ys) pages old.count i (grow_going old i ys box runs pages x xs h b ri t))
   grow_way old mid new i p last ys can box h b on (Err e) w only runs pages x xs ri at takes t =

@@ -1,7 +1,7 @@
 -- The cases of hang, as its goals state them.
 use Rattle.std.proofs.Common.{ℕ, suc, ◌+◌, ◌/◌, ◌%◌, ◌<◌, ◌≡◌, ◌≢◌, [], ◌∷◌, ◌++◌, length, sym, arith, subst}
 use Rattle.std.specs.Prelude.{Result, Ok, Err}
-use Rattle.tbtree.specs.Faults.{IsAllowed}
+use Rattle.tbtree.specs.Faults.{MayRefuseWrite}
 use Rattle.legs.specs.Hull.{Boxes}
 use Rattle.tbtree.proofs.LawfulBoxes.{AreLawful}
 use Rattle.tbtree.specs.Nodes.{Pages, AnInner, Attaches, Adds, Covers, HasCover, HasRoom}
@@ -19,7 +19,7 @@ module _ {L B : Type 0} (s : Boxes L B) (laws : AreLawful s) (feature : L → �
       subst (λ z. Hung s feature inner z q new runs ys (pages 0) count) u (hang_root s laws feature inner levels root old mid new K j p q (K + 1) f box runs ys pages count h (omega (arith, e)) (omega arith) c w eb ep ej v)
 
   -- the old root cannot be read
-  pub cover_refused : (old new : Pages L B) (K j p : ℕ) (box : B) (x : TreeFault) → 1 < inner → K + 1 ≡ levels → (HasCover s old root → IsAllowed x) → Hangs s feature inner levels root old new K j p box (Err x)
+  pub cover_refused : (old new : Pages L B) (K j p : ℕ) (box : B) (x : TreeFault) → 1 < inner → K + 1 ≡ levels → (HasCover s old root → MayRefuseWrite x) → Hangs s feature inner levels root old new K j p box (Err x)
   cover_refused old new K j p box x h e only runs ys pages count eb ep ej v = only (root_has s laws feature inner levels root K old runs ys pages count (omega (arith, h)) (omega (arith, e)) v)
 
   pub hang_ups : (old mid new : Pages L B) (K j p q : ℕ) (box : B) (res : Result Top TreeFault) → 1 < inner → K < levels → j % inner ≡ 0 → Adds old (AnInner (record { level = K + 1; entries = record { child = p; bounds = box } ∷ [] })) mid q
@@ -43,7 +43,7 @@ module _ {L B : Type 0} (s : Boxes L B) (laws : AreLawful s) (feature : L → �
       let on' : IsOnWay s inner levels root old mid (suc K) (j / inner) box (Err x) = subst (λ z. IsOnWay s inner levels root old mid z (j / inner) box (Err x)) u on in
       on' runs (runs ++ ys ∷ []) pages count (length runs) (hang_going s laws feature inner levels root old K j box runs ys pages count (omega (arith, h)) ne eb ej v)
 
-  pub attach_not : (old mid new : Pages L B) (K j p parent : ℕ) (box : B) (x : TreeFault) → 1 < inner → suc K < levels → j % inner ≢ 0 → IsOnWay s inner levels root old mid (K + 1) (j / inner) box (Ok parent) → (HasRoom mid parent (K + 1) inner → IsAllowed x)
+  pub attach_not : (old mid new : Pages L B) (K j p parent : ℕ) (box : B) (x : TreeFault) → 1 < inner → suc K < levels → j % inner ≢ 0 → IsOnWay s inner levels root old mid (K + 1) (j / inner) box (Ok parent) → (HasRoom mid parent (K + 1) inner → MayRefuseWrite x)
       → Hangs s feature inner levels root old new K j p box (Err x)
   attach_not old mid new K j p parent box x h b ne on only runs ys pages count eb ep ej v =
       let u : K + 1 ≡ suc K = omega arith in

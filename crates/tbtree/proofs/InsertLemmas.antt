@@ -35,7 +35,7 @@ use Rattle.tbtree.proofs.PagesLemmas.{grown_to, grown_below, grown_above, grown_
 use Rattle.tbtree.proofs.HangLemmas.{same_leaves}
 use Rattle.tbtree.proofs.PlaceLemmas.{as_many, run_some, Added, last_run, added_last, added_begun}
 use Rattle.tbtree.proofs.BoundLemmas.{few_leaves, few_of_key}
-use Rattle.tbtree.specs.Faults.{Gives, IsAllowed}
+use Rattle.tbtree.specs.Faults.{GivesWrite, MayRefuseWrite}
 use Rattle.tbtree.specs.declared.fault.TreeFault.{TreeFault}
 use Rattle.tbtree.specs.declared.tree.Top.{Top}
 use Rattle.std.proofs.lemmas.Nat.{mul-le}
@@ -154,12 +154,12 @@ pub inserts_last : (old new : Pages LegView BoxView) (tree : TbTree) (place afte
 inserts_last old new tree place after ys res shape h room e grows f legs pages st at all w =
     let lf : 0 < tree.shape.leaf = let least = shape.least_leaf in omega (arith, least) in
     (elim tree.shape.leaf as (λ n. tree.shape.leaf ≡ n → 0 < n → 0 < place.legs % n → place.legs % n + length ys ≤ n → Grows leg_boxes leg_feature tree.shape.inner tree.levels tree.root old new place.last_index place.last ys (λ leaf. TakesLegs n leaf ys) res → TreeStands leg_boxes leg_feature tree.shape.inner tree.levels tree.root old (leaves leg_feature n legs) pages
-    → tree.leaves ≡ length (leaves leg_feature n legs) → PlaceStands leg_feature legs (marks leg_feature (leaves leg_feature n legs) (pages 0)) f place → Gives res (λ _. AllJoined new tree tree legs pages f ys after)) [
+    → tree.leaves ≡ length (leaves leg_feature n legs) → PlaceStands leg_feature legs (marks leg_feature (leaves leg_feature n legs) (pages 0)) f place → GivesWrite res (λ _. AllJoined new tree tree legs pages f ys after)) [
       | zero ↦ λ u z h room g t l p. absurd (omega (arith, z))
       | suc m ↦ λ u z h room g t l p.
           let r = last_run leg_boxes leg_feature tree.shape.inner tree.levels tree.root m old.count f ys place legs pages all h room t.numbers p in
           let gives = g (leaves leg_feature (suc m) legs) pages r.x r.xs r.is (last_page (suc m) f place legs pages (some_over (suc m) place.legs h) p) (λ (leaf : LeafView LegView) of same. takes_legs m (suc m) f legs ys place.last_index r.x r.xs leaf all w r.is r.owner r.few of same) t in
-          (elim res as (λ res. OnOk res (after ≡ record place { legs = place.legs + length ys }) → Gives res (λ _. TreeStands leg_boxes leg_feature tree.shape.inner tree.levels tree.root new (set (leaves leg_feature (suc m) legs) place.last_index ((r.x ∷ r.xs) ++ ys)) pages) → Gives res (λ _. AllJoined new tree tree legs pages f ys after)) [
+          (elim res as (λ res. OnOk res (after ≡ record place { legs = place.legs + length ys }) → GivesWrite res (λ _. TreeStands leg_boxes leg_feature tree.shape.inner tree.levels tree.root new (set (leaves leg_feature (suc m) legs) place.last_index ((r.x ∷ r.xs) ++ ys)) pages) → GivesWrite res (λ _. AllJoined new tree tree legs pages f ys after)) [
             | Ok v ↦ λ e gives.
                 inserted new tree tree legs pages f ys after refl refl
                 (subst (λ n. Added leg_boxes leg_feature tree.shape.inner n tree.levels tree.root tree.leaves new legs pages f ys after) (sym u)
@@ -186,7 +186,7 @@ begun_hanging old mid tree place ys page f legs pages lf own b st at =
 
 -- and what hang_leaf gives for it
 begun_hangs : (old mid new : Pages LegView BoxView) (tree : TbTree) (place : Place) (ys : List LegView) (page f : ℕ) (box : BoxView) (res : Result Top TreeFault) (legs : List LegView) (pages : ℕ → List ℕ) → 0 < tree.shape.leaf → owner leg_feature ys ≡ f → Begins leg_feature old place.last ys mid page → Holds old tree legs pages → IsPlace tree legs pages f place
-    → hull leg_boxes ys ≡ Some box → Hangs leg_boxes leg_feature tree.shape.inner tree.levels tree.root mid new 0 tree.leaves page box res → Gives res (λ top. Hung leg_boxes leg_feature tree.shape.inner top.levels top.root new (leaves leg_feature tree.shape.leaf legs) ys (pages 0) old.count)
+    → hull leg_boxes ys ≡ Some box → Hangs leg_boxes leg_feature tree.shape.inner tree.levels tree.root mid new 0 tree.leaves page box res → GivesWrite res (λ top. Hung leg_boxes leg_feature tree.shape.inner top.levels top.root new (leaves leg_feature tree.shape.leaf legs) ys (pages 0) old.count)
 begun_hangs old mid new tree place ys page f box res legs pages lf own b st at eb hangs =
     let rs = leaves leg_feature tree.shape.leaf legs in
     hangs rs ys pages old.count eb (b.adds.number ∙ omega arith) (st.leaves_are ∙ sym (ap (λ d. length rs / d) (pow-zero tree.shape.inner) ∙ div-one (length rs))) (begun_hanging old mid tree place ys page f legs pages lf own b st at)
@@ -230,7 +230,7 @@ last_leaf old tree place f legs pages st at h =
     let r = get_or rs place.last_index [] in
     record { above = h; leaf = leaf_of (owner leg_feature r) (marks leg_feature rs (pages 0)) place.last_index r; is = t.leaves place.last_index place.last r a (slice_get-get_or rs place.last_index [] l) }
 
-pub add_not : (old new : Pages LegView BoxView) (tree tree' : TbTree) (place place' : Place) (ys : List LegView) (x : TreeFault) → ((0 < place.last → HasLeaf old place.last) → are_of_one_leaf ys ≡ true → IsAllowed x) → JoinsAll old new tree tree' place place' ys (Err x)
+pub add_not : (old new : Pages LegView BoxView) (tree tree' : TbTree) (place place' : Place) (ys : List LegView) (x : TreeFault) → ((0 < place.last → HasLeaf old place.last) → are_of_one_leaf ys ≡ true → MayRefuseWrite x) → JoinsAll old new tree tree' place place' ys (Err x)
 add_not old new tree tree' place place' ys x only f legs pages st at all w = only (last_leaf old tree place f legs pages st at) (of_one_leaf f legs ys all w)
 
 -- no count is past its type

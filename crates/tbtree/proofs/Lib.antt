@@ -1,5 +1,6 @@
 pub mod LawfulBoxes
 pub mod PassLemmas
+pub mod FaultLemmas
 pub mod CoverLemmas
 pub mod Still
 pub mod HullLemmas

@@ -5,7 +5,7 @@ use Rattle.pages.specs.Store as store
 use Rattle.pagecache.specs.Cache.{Cache}
 use Rattle.pagecache.specs.declared.fault.CacheFault.{CacheFault}
 use Rattle.pagecache.specs.declared.fault.CacheFault.TheVariants as cache
-use Rattle.tbtree.specs.Faults.{IsCaused, IsCausedInCache}
+use Rattle.tbtree.specs.Faults.{RefusesWrite, RefusesWriteInCache}
 use Rattle.tbtree.specs.Passes.{Passes}
 use Rattle.tbtree.specs.declared.fault.TreeFault.{TreeFault}
 use Rattle.tbtree.specs.declared.fault.TreeFault.TheVariants.{Cache as OfCache, Malformed, Spent}
@@ -38,17 +38,17 @@ passes_trans a b c p q = record {
   written = λ f h u. q.written (p.store.faithful ∙ f) (omega (arith, h, p.count)) (p.unmarked h u) ∙ p.written f h u;
 }
 
-caused_in_cache : (a b c : Cache) (e : CacheFault) → Passes a b → IsCausedInCache b c e → IsCausedInCache a c e
-caused_in_cache a b c cache.NoPage p h = tt
+caused_in_cache : (a b c : Cache) (e : CacheFault) → Passes a b → RefusesWriteInCache b c e → RefusesWriteInCache a c e
+caused_in_cache a b c cache.NoPage p h = h
 caused_in_cache a b c cache.Store p h = omega (arith, h, p.store.faults)
 caused_in_cache a b c (cache.Damaged n) p h = tt
 caused_in_cache a b c cache.StoreFull p h = h
 caused_in_cache a b c cache.Memory p h = tt
 
-pub caused_after : (a b c : Cache) (e : TreeFault) → Passes a b → IsCaused b c e → IsCaused a c e
+pub caused_after : (a b c : Cache) (e : TreeFault) → Passes a b → RefusesWrite b c e → RefusesWrite a c e
 caused_after a b c (OfCache e) p h = caused_in_cache a b c e p h
 caused_after a b c (Malformed n) p h = tt
-caused_after a b c Spent p h = tt
+caused_after a b c Spent p h = h
 
 -- what a call after another may cite
 pub ruleset passing = (passes_trans, passes_refl, caused_after)

@@ -9,7 +9,7 @@ use Rattle.legs.specs.Hull.{Boxes}
 use Rattle.std.proofs.lemmas.List.{length-map}
 use Rattle.tbtree.specs.Nodes.{Pages, InnerView, EntryView, children, Widens, HasEntry}
 use Rattle.tbtree.specs.Stands.{page_at, NumbersStand, LevelStands}
-use Rattle.tbtree.specs.Faults.{IsAllowed}
+use Rattle.tbtree.specs.Faults.{MayRefuseWrite}
 use Rattle.tbtree.specs.Way.{Wider, IsWidened, Going, IsOnWay}
 use Rattle.tbtree.specs.declared.fault.TreeFault.{TreeFault}
 use Rattle.legs.specs.GroupLemmas.{some_none, some_same, get-block}
@@ -90,7 +90,7 @@ module _ {L B : Type 0} (s : Boxes L B) (inner levels root : ℕ) where
       record { above = (n.within (suc K) (j / inner) p o.found).0; page = g.page; is = g.is; height_is = g.height_is; within = (let m = slice_get_within (children g.page) (j % inner) _ (ap (λ l. slice_get l (j % inner)) g.children_are ∙ at) in omega (arith, m, length-map g.page.entries (λ (e : EntryView B). e.child))) }
 
   pub way_steps : (old mid new : Pages L B) (K j p : ℕ) (box : B) → 0 < inner → IsOnWay s inner levels root old mid (K + 1) (j / inner) box (Ok p)
-      → (res : Result ℕ TreeFault) → IfOk res (λ c. Widens s mid p (K + 1) (j % inner) box new c) → (HasEntry mid p (K + 1) (j % inner) → IfErr res IsAllowed) → IsOnWay s inner levels root old new K j box res
+      → (res : Result ℕ TreeFault) → IfOk res (λ c. Widens s mid p (K + 1) (j % inner) box new c) → (HasEntry mid p (K + 1) (j % inner) → IfErr res MayRefuseWrite) → IsOnWay s inner levels root old new K j box res
   way_steps old mid new K j p box h on (Ok c) w only runs after pages count i g =
       let e : K + 1 ≡ suc K = omega arith in
       let on' : IsOnWay s inner levels root old mid (suc K) (j / inner) box (Ok p) = subst (λ n. IsOnWay s inner levels root old mid n (j / inner) box (Ok p)) e on in

@@ -1,9 +1,13 @@
--- Refusals.
-use Rattle.std.specs.Prelude.{ℕ, ◌≡◌, Result, MatchResult}
+-- What may go wrong with a page of a tree: what causes a refusal, which refusals good pages allow, and which page is
+-- named. A call reads where it changes no payload and adds no page, as a search does, and else it writes.
+use Rattle.std.specs.Prelude.{ℕ, ◌≡◌, ◌≢◌, ◌<◌, Result, MatchResult, Option, Some, None, IsTrue}
+use Rattle.legs.specs.Boxes.{BoxView}
+use Rattle.legs.specs.Legs.{LegView}
 use Rattle.pages.specs.Store.{Faulted}
-use Rattle.pagecache.specs.Cache.{Cache}
+use Rattle.pagecache.specs.Cache.{Cache, payload_of}
 use Rattle.pagecache.specs.declared.fault.CacheFault.{CacheFault}
 use Rattle.pagecache.specs.declared.fault.CacheFault.TheVariants as cache
+use Rattle.tbtree.specs.Nodes.{Pages}
 use Rattle.tbtree.specs.declared.fault.TreeFault.{TreeFault}
 use Rattle.tbtree.specs.declared.fault.TreeFault.TheVariants.{Cache as OfCache, Malformed, Spent}
 
@@ -15,33 +19,97 @@ fault_of page (cache.Damaged n) = OfCache (cache.Damaged n)
 fault_of page cache.StoreFull = OfCache cache.StoreFull
 fault_of page cache.Memory = OfCache cache.Memory
 
--- the refusals of a cache that good pages allow
-abbrev pub IsAllowedOfCache : CacheFault → Type 0
-IsAllowedOfCache cache.NoPage = ⊥
-IsAllowedOfCache cache.Store = Unit {0}
-IsAllowedOfCache (cache.Damaged n) = ⊥
-IsAllowedOfCache cache.StoreFull = Unit {0}
-IsAllowedOfCache cache.Memory = Unit {0}
+-- what causes the refusal of a read: a store that is said to have failed did, and a page that is said to be damaged is
+-- there and has no payload; no page is said to be absent, no store full, and no tree spent
+abbrev pub RefusesReadInCache : Cache → Cache → CacheFault → Type 0
+RefusesReadInCache old new cache.NoPage = ⊥
+RefusesReadInCache old new cache.Store = Faulted old.store new.store
+RefusesReadInCache old new (cache.Damaged n) =
+    (n < old.count) × (IsTrue old.store.is_faithful → payload_of old n ≡ None)
+RefusesReadInCache old new cache.StoreFull = ⊥
+RefusesReadInCache old new cache.Memory = Unit {0}
 
--- the refusals that good pages allow
-abbrev pub IsAllowed : TreeFault → Type 0
-IsAllowed (OfCache fault) = IsAllowedOfCache fault
-IsAllowed (Malformed n) = ⊥
-IsAllowed Spent = ⊥
+abbrev pub RefusesRead : Cache → Cache → TreeFault → Type 0
+RefusesRead old new (OfCache fault) = RefusesReadInCache old new fault
+RefusesRead old new (Malformed n) = Unit {0}
+RefusesRead old new Spent = ⊥
 
--- P of what was answered, or a refusal that good pages allow
-abbrev pub Gives : {T : Type 0} → Result T TreeFault → (T → Type 0) → Type 0
-Gives result P = MatchResult result P IsAllowed
+-- what causes the refusal of a write: a store that is said to have failed did, and one that is said to be full is; no
+-- page is said to be absent, and no tree spent
+abbrev pub RefusesWriteInCache : Cache → Cache → CacheFault → Type 0
+RefusesWriteInCache old new cache.NoPage = ⊥
+RefusesWriteInCache old new cache.Store = Faulted old.store new.store
+RefusesWriteInCache old new (cache.Damaged n) = Unit {0}
+RefusesWriteInCache old new cache.StoreFull = new.count ≡ new.store.most
+RefusesWriteInCache old new cache.Memory = Unit {0}
 
--- the store failed where that is said, and is full where that is said
-abbrev pub IsCausedInCache : Cache → Cache → CacheFault → Type 0
-IsCausedInCache old new cache.NoPage = Unit {0}
-IsCausedInCache old new cache.Store = Faulted old.store new.store
-IsCausedInCache old new (cache.Damaged n) = Unit {0}
-IsCausedInCache old new cache.StoreFull = new.count ≡ new.store.most
-IsCausedInCache old new cache.Memory = Unit {0}
+abbrev pub RefusesWrite : Cache → Cache → TreeFault → Type 0
+RefusesWrite old new (OfCache fault) = RefusesWriteInCache old new fault
+RefusesWrite old new (Malformed n) = Unit {0}
+RefusesWrite old new Spent = ⊥
 
-abbrev pub IsCaused : Cache → Cache → TreeFault → Type 0
-IsCaused old new (OfCache fault) = IsCausedInCache old new fault
-IsCaused old new (Malformed n) = Unit {0}
-IsCaused old new Spent = Unit {0}
+-- the refusals of a read that good pages allow: a store that failed, and want of memory
+abbrev pub MayRefuseReadInCache : CacheFault → Type 0
+MayRefuseReadInCache cache.NoPage = ⊥
+MayRefuseReadInCache cache.Store = Unit {0}
+MayRefuseReadInCache (cache.Damaged n) = ⊥
+MayRefuseReadInCache cache.StoreFull = ⊥
+MayRefuseReadInCache cache.Memory = Unit {0}
+
+abbrev pub MayRefuseRead : TreeFault → Type 0
+MayRefuseRead (OfCache fault) = MayRefuseReadInCache fault
+MayRefuseRead (Malformed n) = ⊥
+MayRefuseRead Spent = ⊥
+
+-- those of a write: these, and a full store
+abbrev pub MayRefuseWriteInCache : CacheFault → Type 0
+MayRefuseWriteInCache cache.NoPage = ⊥
+MayRefuseWriteInCache cache.Store = Unit {0}
+MayRefuseWriteInCache (cache.Damaged n) = ⊥
+MayRefuseWriteInCache cache.StoreFull = Unit {0}
+MayRefuseWriteInCache cache.Memory = Unit {0}
+
+abbrev pub MayRefuseWrite : TreeFault → Type 0
+MayRefuseWrite (OfCache fault) = MayRefuseWriteInCache fault
+MayRefuseWrite (Malformed n) = ⊥
+MayRefuseWrite Spent = ⊥
+
+-- the refusals of a read where each page has a payload: those that good pages allow, and that a page is malformed
+abbrev pub MayRefuseHeld : TreeFault → Type 0
+MayRefuseHeld (OfCache fault) = MayRefuseReadInCache fault
+MayRefuseHeld (Malformed n) = Unit {0}
+MayRefuseHeld Spent = ⊥
+
+-- P of what was read, or of what was written, or a refusal that good pages allow
+abbrev pub GivesRead : {T : Type 0} → Result T TreeFault → (T → Type 0) → Type 0
+GivesRead result P = MatchResult result P MayRefuseRead
+
+abbrev pub GivesWrite : {T : Type 0} → Result T TreeFault → (T → Type 0) → Type 0
+GivesWrite result P = MatchResult result P MayRefuseWrite
+
+-- P of the page that is said to be damaged, and Q of the one that is said to be malformed
+abbrev pub NamesInCache : (ℕ → Type 0) → CacheFault → Type 0
+NamesInCache P cache.NoPage = Unit {0}
+NamesInCache P cache.Store = Unit {0}
+NamesInCache P (cache.Damaged n) = P n
+NamesInCache P cache.StoreFull = Unit {0}
+NamesInCache P cache.Memory = Unit {0}
+
+abbrev pub Names : (ℕ → Type 0) → (ℕ → Type 0) → TreeFault → Type 0
+Names P Q (OfCache fault) = NamesInCache P fault
+Names P Q (Malformed n) = Q n
+Names P Q Spent = Unit {0}
+
+-- P of the page that is said to be damaged or malformed
+abbrev pub IfNamed : (ℕ → Type 0) → TreeFault → Type 0
+IfNamed P fault = Names P P fault
+
+-- Q of the page that is said to be malformed
+abbrev pub IfMalformed : (ℕ → Type 0) → TreeFault → Type 0
+IfMalformed Q fault = Names (λ _. Unit {0}) Q fault
+
+-- a page that is named is that one; it is malformed only if it is page 0, or is not there, or has a payload
+abbrev pub IsNamed : Pages LegView BoxView → Option ℕ → TreeFault → Type 0
+IsNamed nodes at fault =
+    Names (λ n. at ≡ Some n)
+    (λ n. (at ≡ Some n) × (0 < n → n < nodes.count → nodes.at n ≢ None)) fault

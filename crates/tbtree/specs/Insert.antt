@@ -5,7 +5,7 @@ use Rattle.legs.specs.Boxes.{BoxView}
 use Rattle.legs.specs.Costs.{leg_feature, leaves_of}
 use Rattle.legs.specs.Hull.{Boxes, leg_boxes}
 use Rattle.legs.specs.Index.{CanFollow, CanFollowInTurn}
-use Rattle.tbtree.specs.Faults.{Gives}
+use Rattle.tbtree.specs.Faults.{GivesWrite}
 use Rattle.tbtree.specs.Nodes.{Pages, LeafView, ALeaf, Adds, Links}
 use Rattle.tbtree.specs.Stands.{marks, new_leaf, page_at, PlaceStands, TreeStands}
 use Rattle.tbtree.specs.declared.tree.Place.{Place}
@@ -20,7 +20,7 @@ Grows {L = L} s feature inner levels root old new i last ys can result =
     → page_at pages 0 i ≡ Some last
     → ((l : LeafView L) → l.feature ≡ feature x → l.legs ≡ x ∷ xs → can l)
     → TreeStands s feature inner levels root old runs pages
-    → Gives result (λ _. TreeStands s feature inner levels root new (set runs i ((x ∷ xs) ++ ys)) pages)
+    → GivesWrite result (λ _. TreeStands s feature inner levels root new (set runs i ((x ∷ xs) ++ ys)) pages)
 
 -- a leaf of ys has been made, whose page is p, and the leaf last, where there is one, has it as its
 -- next
@@ -54,4 +54,4 @@ Inserts old new tree tree' place place' y result =
     → Stands old tree legs pages
     → IsPlace tree legs pages y.feature place
     → CanFollow legs y
-    → Gives result (λ _. Inserted new tree tree' legs pages y place')
+    → GivesWrite result (λ _. Inserted new tree tree' legs pages y place')

@@ -5,7 +5,7 @@ use Rattle.legs.specs.Boxes.{BoxView}
 use Rattle.legs.specs.Costs.{leg_feature, leaves_of}
 use Rattle.legs.specs.Hull.{leg_boxes}
 use Rattle.legs.specs.Index.{feature_count}
-use Rattle.tbtree.specs.Faults.{Gives}
+use Rattle.tbtree.specs.Faults.{GivesWrite}
 use Rattle.tbtree.specs.Nodes.{Pages, LeafView, ALeaf, with_legs, with_next}
 use Rattle.tbtree.specs.Stands.{TreeStands}
 use Rattle.tbtree.specs.Insert.{IsPlace, Stands}
@@ -36,7 +36,7 @@ Joins old new tree tree' place place' y result =
     → Holds old tree legs pages
     → IsPlace tree legs pages y.feature place
     → CanJoin legs y
-    → Gives result (λ _. Joined new tree tree' legs pages y place')
+    → GivesWrite result (λ _. Joined new tree tree' legs pages y place')
 
 -- legs of one feature may join legs, one after another
 abbrev pub CanJoinInTurn : List LegView → List LegView → Type 0
@@ -57,7 +57,7 @@ JoinsAll old new tree tree' place place' ys result =
     → IsPlace tree legs pages f place
     → All (λ y. y.feature ≡ f) ys
     → CanJoinInTurn legs ys
-    → Gives result (λ _. AllJoined new tree tree' legs pages f ys place')
+    → GivesWrite result (λ _. AllJoined new tree tree' legs pages f ys place')
 
 -- the page p is a leaf of the feature of the legs, and has them at its end
 pub record HasAtEnd (nodes : Pages LegView BoxView) (p : ℕ) (legs : List LegView) : Type 0 where

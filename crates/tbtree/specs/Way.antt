@@ -1,7 +1,7 @@
 -- Helpers of private functions: the way from the root to a block, and a block that is hung on it.
 use Rattle.std.specs.Prelude.{ℕ, suc, ◌≡◌, ◌≢◌, ◌+◌, ◌/◌, ◌%◌, ◌^◌, ◌<◌, ◌≤◌, List, [], ◌∷◌, ◌++◌, set, length, slice_get, Some, Result, None}
 use Rattle.legs.specs.Blocks.{groups}
-use Rattle.tbtree.specs.Faults.{Gives}
+use Rattle.tbtree.specs.Faults.{GivesWrite}
 use Rattle.legs.specs.Hull.{Boxes, both, hull, hull_of}
 use Rattle.tbtree.specs.Nodes.{Pages}
 use Rattle.tbtree.specs.declared.fault.TreeFault.{TreeFault}
@@ -41,7 +41,7 @@ module _ {L B : Type 0} (s : Boxes L B) (inner : ℕ) where
   IsOnWay levels root old new K j box result =
       (runs after : List (List L)) (pages : ℕ → List ℕ) (count i : ℕ)
       → Going levels root old K j box runs after pages count i
-      → Gives result (λ p. IsWidened old new after pages K j p)
+      → GivesWrite result (λ p. IsWidened old new after pages K j p)
 
 module _ {L B : Type 0} (s : Boxes L B) (feature : L → ℕ) (inner : ℕ) where
   -- ys are a new leaf, and with it a block of each level up to K is new. Their pages are count,
@@ -74,4 +74,4 @@ module _ {L B : Type 0} (s : Boxes L B) (feature : L → ℕ) (inner : ℕ) wher
       → p ≡ count + K
       → j ≡ length runs / inner ^ K
       → Hanging levels root old runs ys pages count K
-      → Gives result (λ top. Hung top.levels top.root new runs ys (pages 0) count)
+      → GivesWrite result (λ top. Hung top.levels top.root new runs ys (pages 0) count)

@@ -1,18 +1,20 @@
-//! Why a tree refuses a call.
+//! What may go wrong with a page of a tree.
 ghost use Rattle.std.specs.Prelude.{◌≡◌};
+ghost use Rattle.pagecache.specs.declared.fault.CacheFault.{CacheFault};
 ghost use Rattle.tbtree.specs.Faults.{fault_of};
 ghost use Rattle.tbtree.specs.declared.fault.TreeFault.{TreeFault};
 
 use pagecache::CacheFault;
+use std::alloc::{AllocError, AllocFailed};
 use thiserror::Error;
 
-/// Why a tree refused a call.
+/// Why a tree, a chain of its leaves or a search of it refused a call. Want of memory is said as the cache says it.
 #[derive(Clone, Copy, PartialEq, Eq, Debug, Error)]
 pub enum TreeFault {
-    /// The cache refused a page.
+    /// The cache refused a page, or memory ran out.
     #[error("{0}")]
     Cache(CacheFault),
-    /// The page of that number is not the one that the tree expects there.
+    /// The page of that number is not the one that the tree, or the chain, has there.
     #[error("page {0} is malformed")]
     Malformed(u32),
     /// The tree is spent: an earlier insertion was refused.
@@ -22,7 +24,7 @@ pub enum TreeFault {
 
 impl TreeFault {
     /// Why a page was not lent. That there is none of its number is said as that page being malformed.
-    pub(crate) fn of(fault: CacheFault, page: u32) -> TreeFault
+    pub fn of(fault: CacheFault, page: u32) -> TreeFault
         ensures { result ≡ fault_of page fault }
     {
         match fault {
@@ -37,5 +39,21 @@ impl From<CacheFault> for TreeFault {
 
     fn from(fault: CacheFault) -> TreeFault {
         TreeFault::Cache(fault)
+    }
+}
+
+impl From<AllocError> for TreeFault {
+    ghost from_gives = { λ _ r. r ≡ TreeFault.Cache CacheFault.Memory };
+
+    fn from(_fault: AllocError) -> TreeFault {
+        TreeFault::Cache(CacheFault::Memory)
+    }
+}
+
+impl<T: Drop> From<AllocFailed<T>> for TreeFault {
+    ghost from_gives = { λ _ r. r ≡ TreeFault.Cache CacheFault.Memory };
+
+    fn from(_fault: AllocFailed<T>) -> TreeFault {
+        TreeFault::Cache(CacheFault::Memory)
     }
 }

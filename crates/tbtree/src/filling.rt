@@ -1,6 +1,6 @@
 //! Many legs of one feature, put in leaf by leaf.
 ghost use Rattle.std.specs.Prelude.{◌≡◌, ◌<◌, ◌≤◌, ◌+◌, ◌-◌, ◌*◌, ◌%◌, OnOk, OnErr, IfErr, IsTrue, false, true, Err, length};
-ghost use Rattle.tbtree.specs.Faults.{IsCaused};
+ghost use Rattle.tbtree.specs.Faults.{RefusesWrite};
 ghost use Rattle.tbtree.specs.Nodes.{pages_of_cache};
 ghost use Rattle.tbtree.specs.Passes.{Passes, KeepsLength};
 ghost use Rattle.tbtree.specs.Joining.{in_last_leaf, HasAtEnd, JoinsAll, KeepsLegs};
@@ -43,7 +43,7 @@ fn put_all<S: PageStore>(
     ensures shape { tree.new.shape ≡ tree.old.shape }
     ensures passes { Passes cache.old cache.new }
     ensures length { OnOk result (KeepsLength cache.old cache.new) }
-    ensures caused { IfErr result (IsCaused cache.old cache.new) }
+    ensures caused { IfErr result (RefusesWrite cache.old cache.new) }
     ensures asked { OnOk result (cache.new.asked ≤ cache.old.asked + tree.new.levels
         + (tree.new.leaves - tree.old.leaves) * (tree.new.levels + 2)) }
     ensures more { OnOk result (tree.old.leaves ≤ tree.new.leaves) }
@@ -91,7 +91,7 @@ pub fn insert_all<S: PageStore>(
     // What is left of the cache, over any pages.
     ensures passes { Passes cache.old cache.new }
     ensures length { OnOk result (KeepsLength cache.old cache.new) }
-    ensures caused { IfErr result (IsCaused cache.old cache.new) }
+    ensures caused { tree.old.spent ≡ false → IfErr result (RefusesWrite cache.old cache.new) }
 
     // For the leaf that is there at most as many pages are asked for as the tree has levels, and for
     // each leaf that is made at most two more; and no more leaves are made than fill up, but for the

@@ -2,7 +2,7 @@
 ghost use Rattle.std.specs.Prelude.{ℕ, [], ◌∷◌, None, length, ◌≢◌, ◌≡◌, ◌<◌, ◌≤◌, ◌+◌, ◌-◌, ◌*◌, ◌%◌, ◌^◌, IfOk, IfErr, OnOk, OnErr, IsTrue, false, true, Err};
 ghost use Rattle.legs.specs.Costs.{leg_feature};
 ghost use Rattle.legs.specs.Hull.{leg_boxes};
-ghost use Rattle.tbtree.specs.Faults.{IsAllowed, IsCaused};
+ghost use Rattle.tbtree.specs.Faults.{MayRefuseWrite, RefusesWrite};
 ghost use Rattle.tbtree.specs.Nodes.{pages_of_cache, HasLeaf, KeepsLeaves};
 ghost use Rattle.tbtree.specs.Passes.{Passes, KeepsLength};
 ghost use Rattle.tbtree.specs.Way.{IsOnWay, Hangs};
@@ -42,7 +42,7 @@ fn way<S: PageStore>(
         → OnOk result (KeepsLeaves (pages_of_cache cache.old) (pages_of_cache cache.new)) }
     ensures passes { Passes cache.old cache.new }
     ensures length { OnOk result (KeepsLength cache.old cache.new) }
-    ensures caused { IfErr result (IsCaused cache.old cache.new) }
+    ensures caused { IfErr result (RefusesWrite cache.old cache.new) }
     ensures asked { cache.new.asked + level + 1 ≤ cache.old.asked + tree.now.levels }
 {
     if u32::from(level) + 1 == tree.levels {
@@ -76,7 +76,7 @@ fn into_leaf<S: PageStore>(
         (KeepsLegs last legs.now (pages_of_cache cache.old) (pages_of_cache cache.new)) }
     ensures passes { Passes cache.old cache.new }
     ensures length { OnOk result (KeepsLength cache.old cache.new) }
-    ensures caused { IfErr result (IsCaused cache.old cache.new) }
+    ensures caused { IfErr result (RefusesWrite cache.old cache.new) }
     ensures asked { cache.new.asked ≤ cache.old.asked + tree.now.levels }
 {
     let most = tree.shape.leaf();
@@ -107,7 +107,7 @@ fn root_over<S: PageStore>(
         → OnOk result (KeepsLeaves (pages_of_cache cache.old) (pages_of_cache cache.new)) }
     ensures passes { Passes cache.old cache.new }
     ensures length { OnOk result (KeepsLength cache.old cache.new) }
-    ensures caused { IfErr result (IsCaused cache.old cache.new) }
+    ensures caused { IfErr result (RefusesWrite cache.old cache.new) }
     ensures asked { cache.new.asked ≤ cache.old.asked + 2 }
     ensures levels { IfOk result (λ top. top.levels ≡ tree.now.levels + 1) }
 {
@@ -142,7 +142,7 @@ fn hang<S: PageStore>(
         → OnOk result (KeepsLeaves (pages_of_cache cache.old) (pages_of_cache cache.new)) }
     ensures passes { Passes cache.old cache.new }
     ensures length { OnOk result (KeepsLength cache.old cache.new) }
-    ensures caused { IfErr result (IsCaused cache.old cache.new) }
+    ensures caused { IfErr result (RefusesWrite cache.old cache.new) }
     ensures asked { IfOk result (λ top. cache.new.asked + level
         ≤ cache.old.asked + top.levels) }
     ensures higher { IfOk result (λ top. tree.now.levels ≤ top.levels) }
@@ -194,7 +194,7 @@ fn into_last<S: PageStore>(
     ensures legs { OnOk result (place.new.legs ≡ place.old.legs + length legs.now) }
     ensures passes { Passes cache.old cache.new }
     ensures length { OnOk result (KeepsLength cache.old cache.new) }
-    ensures caused { IfErr result (IsCaused cache.old cache.new) }
+    ensures caused { IfErr result (RefusesWrite cache.old cache.new) }
     ensures asked { cache.new.asked ≤ cache.old.asked + tree.now.levels }
 {
     into_leaf(cache, tree, place.last_index, place.last, legs)?;
@@ -223,10 +223,10 @@ fn add_last<S: PageStore>(
         → IfOk result (λ page. (pages_of_cache cache.old).at page ≡ None) }
     ensures only { IsTrue cache.old.store.is_faithful
         → (0 < last → HasLeaf (pages_of_cache cache.old) last)
-        → are_of_one_leaf legs.now ≡ true → IfErr result IsAllowed }
+        → are_of_one_leaf legs.now ≡ true → IfErr result MayRefuseWrite }
     ensures passes { Passes cache.old cache.new }
     ensures length { OnOk result (KeepsLength cache.old cache.new) }
-    ensures caused { IfErr result (IsCaused cache.old cache.new) }
+    ensures caused { IfErr result (RefusesWrite cache.old cache.new) }
     ensures asked { cache.new.asked ≤ cache.old.asked + 2 }
 {
     if last == 0 {
@@ -253,7 +253,7 @@ fn hang_leaf<S: PageStore>(
         → OnOk result (KeepsLeaves (pages_of_cache cache.old) (pages_of_cache cache.new)) }
     ensures passes { Passes cache.old cache.new }
     ensures length { OnOk result (KeepsLength cache.old cache.new) }
-    ensures caused { IfErr result (IsCaused cache.old cache.new) }
+    ensures caused { IfErr result (RefusesWrite cache.old cache.new) }
     ensures asked { IfOk result (λ top. cache.new.asked ≤ cache.old.asked + top.levels) }
     ensures higher { IfOk result (λ top. tree.now.levels ≤ top.levels) }
 {
@@ -296,7 +296,7 @@ fn begin<S: PageStore>(
     ensures shape { tree.new.shape ≡ tree.old.shape }
     ensures passes { Passes cache.old cache.new }
     ensures length { OnOk result (KeepsLength cache.old cache.new) }
-    ensures caused { IfErr result (IsCaused cache.old cache.new) }
+    ensures caused { IfErr result (RefusesWrite cache.old cache.new) }
     ensures asked { OnOk result (cache.new.asked
         ≤ cache.old.asked + (tree.new.levels + 2)) }
     ensures higher { OnOk result (tree.old.levels ≤ tree.new.levels) }
@@ -340,7 +340,7 @@ pub(crate) fn put<S: PageStore>(
     ensures shape { tree.new.shape ≡ tree.old.shape }
     ensures passes { Passes cache.old cache.new }
     ensures length { OnOk result (KeepsLength cache.old cache.new) }
-    ensures caused { IfErr result (IsCaused cache.old cache.new) }
+    ensures caused { IfErr result (RefusesWrite cache.old cache.new) }
     ensures asked { OnOk result (cache.new.asked
         ≤ cache.old.asked + (2 * (tree.new.levels - 1) + 4)) }
     ensures higher { OnOk result (tree.old.levels ≤ tree.new.levels) }
@@ -406,7 +406,7 @@ pub fn insert<S: PageStore>(
     // What is left of the cache, over any pages.
     ensures passes { Passes cache.old cache.new }
     ensures length { OnOk result (KeepsLength cache.old cache.new) }
-    ensures caused { IfErr result (IsCaused cache.old cache.new) }
+    ensures caused { tree.old.spent ≡ false → IfErr result (RefusesWrite cache.old cache.new) }
     ensures asked { OnOk result (cache.new.asked
         ≤ cache.old.asked + (2 * (tree.new.levels - 1) + 4)) }
 

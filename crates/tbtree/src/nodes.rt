@@ -4,7 +4,7 @@ ghost use Rattle.legs.specs.Hull.{leg_boxes};
 ghost use Rattle.pagecache.specs.Cache as caches;
 ghost use Rattle.pagecache.specs.Cache.{payload_of, AsksOnce, IsNotAdded, Stays};
 ghost use Rattle.tbnode.specs.Edits.{new_inner};
-ghost use Rattle.tbtree.specs.Faults.{IsAllowed, IsCaused};
+ghost use Rattle.tbtree.specs.Faults.{MayRefuseWrite, RefusesWrite};
 ghost use Rattle.tbtree.specs.Nodes.{pages_of_cache, AnInner, Adds, Attaches, Covers, HasCover, HasEntry, HasLeaf, HasLeafRoom, HasRoom, Links, Pushes, Widens};
 ghost use Rattle.tbtree.specs.Passes.{Passes, KeepsLength};
 ghost use Rattle.tbtree.specs.Payloads.{TakesLegs, are_of_one_leaf, leaf_of_legs};
@@ -28,10 +28,10 @@ pub(crate) fn widen<S: PageStore>(
         → IfOk result (Widens leg_boxes (pages_of_cache cache.old) page level entry bounds.now
         (pages_of_cache cache.new)) }
     ensures only { IsTrue cache.old.store.is_faithful
-        → HasEntry (pages_of_cache cache.old) page level entry → IfErr result IsAllowed }
+        → HasEntry (pages_of_cache cache.old) page level entry → IfErr result MayRefuseWrite }
     ensures passes { Passes cache.old cache.new }
     ensures length { OnOk result (KeepsLength cache.old cache.new) }
-    ensures caused { IfErr result (IsCaused cache.old cache.new) }
+    ensures caused { IfErr result (RefusesWrite cache.old cache.new) }
     ensures asked { cache.new.asked ≤ cache.old.asked + 1 }
 {
     if page == 0 {
@@ -61,13 +61,13 @@ pub(crate) fn grow<S: PageStore>(
         (pages_of_cache cache.new)) }
     ensures only { IsTrue cache.old.store.is_faithful
         → HasLeafRoom (pages_of_cache cache.old) page (λ leaf. TakesLegs most leaf legs.now)
-        → IfErr result IsAllowed }
+        → IfErr result MayRefuseWrite }
     ensures takes { IsTrue cache.old.store.is_faithful
         → OnOk result (HasLeafRoom (pages_of_cache cache.old) page
         (λ leaf. TakesLegs most leaf legs.now)) }
     ensures passes { Passes cache.old cache.new }
     ensures length { OnOk result (KeepsLength cache.old cache.new) }
-    ensures caused { IfErr result (IsCaused cache.old cache.new) }
+    ensures caused { IfErr result (RefusesWrite cache.old cache.new) }
     ensures asked { cache.new.asked ≤ cache.old.asked + 1 }
 {
     if page == 0 {
@@ -93,10 +93,10 @@ pub(crate) fn link<S: PageStore>(
     ensures links { IsTrue cache.old.store.is_faithful
         → OnOk result (Links (pages_of_cache cache.old) page next (pages_of_cache cache.new)) }
     ensures only { IsTrue cache.old.store.is_faithful
-        → HasLeaf (pages_of_cache cache.old) page → IfErr result IsAllowed }
+        → HasLeaf (pages_of_cache cache.old) page → IfErr result MayRefuseWrite }
     ensures passes { Passes cache.old cache.new }
     ensures length { OnOk result (KeepsLength cache.old cache.new) }
-    ensures caused { IfErr result (IsCaused cache.old cache.new) }
+    ensures caused { IfErr result (RefusesWrite cache.old cache.new) }
     ensures asked { cache.new.asked ≤ cache.old.asked + 1 }
 {
     if page == 0 {
@@ -126,10 +126,10 @@ pub(crate) fn attach<S: PageStore>(
         → OnOk result (Attaches (pages_of_cache cache.old) page level entry.now.child
         entry.now.bounds (pages_of_cache cache.new)) }
     ensures only { IsTrue cache.old.store.is_faithful
-        → HasRoom (pages_of_cache cache.old) page level most → IfErr result IsAllowed }
+        → HasRoom (pages_of_cache cache.old) page level most → IfErr result MayRefuseWrite }
     ensures passes { Passes cache.old cache.new }
     ensures length { OnOk result (KeepsLength cache.old cache.new) }
-    ensures caused { IfErr result (IsCaused cache.old cache.new) }
+    ensures caused { IfErr result (RefusesWrite cache.old cache.new) }
     ensures asked { cache.new.asked ≤ cache.old.asked + 1 }
 {
     if page == 0 {
@@ -180,12 +180,12 @@ pub(crate) fn add_leaf<S: PageStore>(
         → IfOk result (Adds (pages_of_cache cache.old) (leaf_of_legs previous legs.now)
         (pages_of_cache cache.new)) }
     ensures only { IsTrue cache.old.store.is_faithful
-        → are_of_one_leaf legs.now ≡ true → IfErr result IsAllowed }
+        → are_of_one_leaf legs.now ≡ true → IfErr result MayRefuseWrite }
     ensures fresh { OnOk result ((pages_of_cache cache.old).at cache.old.count ≡ None) }
     ensures one { OnOk result (are_of_one_leaf legs.now ≡ true) }
     ensures passes { Passes cache.old cache.new }
     ensures length { OnOk result (KeepsLength cache.old cache.new) }
-    ensures caused { IfErr result (IsCaused cache.old cache.new) }
+    ensures caused { IfErr result (RefusesWrite cache.old cache.new) }
     ensures asked { cache.new.asked ≤ cache.old.asked + 1 }
 {
     let Some(payload) = leaf_of_legs(previous, legs) else {
@@ -206,10 +206,10 @@ pub(crate) fn add_inner<S: PageStore>(
         → IfOk result (Adds (pages_of_cache cache.old) (new_inner level entry.now)
         (pages_of_cache cache.new)) }
     ensures fresh { (pages_of_cache cache.old).at cache.old.count ≡ None }
-    ensures only { IsTrue cache.old.store.is_faithful → IfErr result IsAllowed }
+    ensures only { IsTrue cache.old.store.is_faithful → IfErr result MayRefuseWrite }
     ensures passes { Passes cache.old cache.new }
     ensures length { OnOk result (KeepsLength cache.old cache.new) }
-    ensures caused { IfErr result (IsCaused cache.old cache.new) }
+    ensures caused { IfErr result (RefusesWrite cache.old cache.new) }
     ensures asked { cache.new.asked ≤ cache.old.asked + 1 }
 {
     let mut payload = Payload::zero(Kind::Inner);
@@ -231,10 +231,10 @@ pub(crate) fn add_root<S: PageStore>(
         (AnInner (record { level = level; entries = first.now ∷ second.now ∷ [] }))
         (pages_of_cache cache.new)) }
     ensures fresh { (pages_of_cache cache.old).at cache.old.count ≡ None }
-    ensures only { IsTrue cache.old.store.is_faithful → IfErr result IsAllowed }
+    ensures only { IsTrue cache.old.store.is_faithful → IfErr result MayRefuseWrite }
     ensures passes { Passes cache.old cache.new }
     ensures length { OnOk result (KeepsLength cache.old cache.new) }
-    ensures caused { IfErr result (IsCaused cache.old cache.new) }
+    ensures caused { IfErr result (RefusesWrite cache.old cache.new) }
     ensures asked { cache.new.asked ≤ cache.old.asked + 1 }
 {
     let mut payload = Payload::zero(Kind::Inner);
@@ -250,10 +250,10 @@ pub(crate) fn cover<S: PageStore>(cache: &mut PageCache<S>, page: u32) -> Result
         → IfOk result (λ bounds. Covers leg_boxes (pages_of_cache cache.old) page bounds
         (pages_of_cache cache.new)) }
     ensures only { IsTrue cache.old.store.is_faithful
-        → HasCover leg_boxes (pages_of_cache cache.old) page → IfErr result IsAllowed }
+        → HasCover leg_boxes (pages_of_cache cache.old) page → IfErr result MayRefuseWrite }
     ensures passes { Passes cache.old cache.new }
     ensures length { OnOk result (KeepsLength cache.old cache.new) }
-    ensures caused { IfErr result (IsCaused cache.old cache.new) }
+    ensures caused { IfErr result (RefusesWrite cache.old cache.new) }
     ensures asked { cache.new.asked ≤ cache.old.asked + 1 }
 {
     let payload = match cache.page(page) {

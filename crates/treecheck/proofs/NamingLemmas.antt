@@ -9,16 +9,16 @@ use Rattle.pagecache.specs.declared.fault.CacheFault.{CacheFault}
 use Rattle.pagecache.specs.declared.fault.CacheFault.TheVariants as cache
 use Rattle.tbnode.specs.Form.{node_of}
 use Rattle.chains.specs.Chains.{AreHeld}
+use Rattle.tbtree.specs.Faults.{IfMalformed, MayRefuseRead, Names, NamesInCache, RefusesRead, RefusesReadInCache}
 use Rattle.tbtree.specs.Nodes.{Pages, pages_of_cache}
-use Rattle.boxsearch.specs.Answers.{answered, of_cache, of_search}
-use Rattle.boxsearch.specs.Faults.{IsAllowed, IsCaused, IsCausedInCache, IfNamedInCache}
+use Rattle.tbtree.specs.declared.fault.TreeFault.{TreeFault}
+use Rattle.tbtree.specs.declared.fault.TreeFault.TheVariants.{Cache as OfCache, Malformed, Spent}
+use Rattle.boxsearch.specs.Answers.{answered, of_cache, of_tree}
 use Rattle.boxsearch.specs.Index.{SaysState}
-use Rattle.boxsearch.specs.declared.fault.SearchFault.{SearchFault}
-use Rattle.boxsearch.specs.declared.fault.SearchFault.TheVariants.{Cache as OfCache, Malformed, Spent, Memory}
 use Rattle.legs.specs.Tracks.{TracksView}
 use Rattle.tbtree.specs.declared.tree.Place.{Place}
 use Rattle.tbtree.specs.declared.tree.TbTree.{TbTree}
-use Rattle.treecheck.specs.Naming.{HoldLeaves, HoldList, IfMalformed, IsFirstDamaged, IsFirstMalformed, IsMiscounted, IsOrder, Names}
+use Rattle.treecheck.specs.Naming.{HoldLeaves, HoldList, IsFirstDamaged, IsFirstMalformed, IsMiscounted, IsOrder}
 use Rattle.legs.specs.Boxes.{BoxView}
 use Rattle.legs.specs.Legs.{LegView}
 use Rattle.std.specs.List.Sorted.{IsPermutation}
@@ -52,17 +52,11 @@ miscounted begun tree rows total places tracks c n m = record {
     none n zero e h = e
     none n (suc count) e h = absurd (h (omega arith))
 
-pub names_map : (P Q R : ℕ → Type 0) → ((n : ℕ) → Q n → R n) → (fault : SearchFault) → Names P Q fault → Names P R fault
-names_map P Q R f (OfCache fault) h = h
-names_map P Q R f (Malformed n) h = f n h
-names_map P Q R f Spent h = tt
-names_map P Q R f Memory h = tt
-
 module _ (begun : Bool) (tree : TbTree) (rows total : ℕ) (places : List Place) (tracks : TracksView) (old new : Cache) (fa : IsTrue old.store.is_faithful) (held : AreHeld (pages_of_cache old)) (some : 0 < old.count) (same : old.count ≡ old.store.count) where
   abbrev Malforms : ℕ → Type 0
   Malforms = IsFirstMalformed begun tree rows total places tracks old
 
-  none_damaged : (fault : CacheFault) → IsCausedInCache old new fault → IfNamedInCache (IsFirstDamaged old) fault
+  none_damaged : (fault : CacheFault) → RefusesReadInCache old new fault → NamesInCache (IsFirstDamaged old) fault
   none_damaged cache.NoPage c = tt
   none_damaged cache.Store c = tt
   none_damaged (cache.Damaged n) c = absurd (has_payload old n (held n c.0) (c.1 fa))
@@ -70,7 +64,7 @@ module _ (begun : Bool) (tree : TbTree) (rows total : ℕ) (places : List Place)
   none_damaged cache.Memory c = tt
 
   -- once each page was read, none is damaged, and page 0 is malformed where it does not say the state
-  pub state_named : (fault : SearchFault) → IsCaused old new fault → (SaysState begun (payload_of old 0) → IsAllowed fault) → Names (λ _. ⊥) (λ n. n ≡ 0) fault → Names (IsFirstDamaged old) Malforms fault
+  pub state_named : (fault : TreeFault) → RefusesRead old new fault → (SaysState begun (payload_of old 0) → MayRefuseRead fault) → Names (λ _. ⊥) (λ n. n ≡ 0) fault → Names (IsFirstDamaged old) Malforms fault
   state_named (OfCache fault) c o k = none_damaged fault c
   state_named (Malformed n) c o k = record {
     held = λ p l. has_payload old p (held p l);
@@ -82,7 +76,6 @@ module _ (begun : Bool) (tree : TbTree) (rows total : ℕ) (places : List Place)
     rest = λ h. absurd (o h.says);
   }
   state_named Spent c o k = tt
-  state_named Memory c o k = tt
 
   abbrev nodes : Pages LegView BoxView
   nodes = pages_of_cache old
@@ -108,8 +101,8 @@ module _ (begun : Bool) (tree : TbTree) (rows total : ℕ) (places : List Place)
       omega (arith, many, paired, few)
 
   -- the walk names the page at which it stops
-  pub walk_later : (fault : SearchFault) → IfMalformed (AllStopAt nodes tree.shape.leaf rows places tracks.tracks) fault
-      → (length places < 4294967296 → HoldLeaves old tree rows places tracks → IsAllowed fault) → IfMalformed IsLater fault
+  pub walk_later : (fault : TreeFault) → IfMalformed (AllStopAt nodes tree.shape.leaf rows places tracks.tracks) fault
+      → (length places < 4294967296 → HoldLeaves old tree rows places tracks → MayRefuseRead fault) → IfMalformed IsLater fault
   walk_later (OfCache fault) s o = tt
   walk_later (Malformed n) s o = record {
     walk = λ _. s;
@@ -118,7 +111,6 @@ module _ (begun : Bool) (tree : TbTree) (rows total : ℕ) (places : List Place)
     rest = λ k _ _ _ _. absurd (o (few_places k) (k.1.chains, k.1.are_chains));
   }
   walk_later Spent s o = tt
-  walk_later Memory s o = tt
 
   -- where it passes, page 0 is named, but for the pages of the tree
   pub zero_later : HoldLeaves old tree rows places tracks → (Holds → (order : List ℕ) → Orders order → ((pages : ℕ → List ℕ) → IsOver nodes tree order pages → ⊥) → ⊥) → IsLater 0
@@ -131,7 +123,7 @@ module _ (begun : Bool) (tree : TbTree) (rows total : ℕ) (places : List Place)
 
   -- and the page at which the way down the tree stops
   pub tree_later : HoldLeaves old tree rows places tracks → Holds → (leaves : List ℕ) → ((order : List ℕ) → Orders order → leaves ≡ order)
-      → (fault : SearchFault) → IfMalformed (DescentStopsAt nodes tree leaves) fault → ((pages : ℕ → List ℕ) → IsOver nodes tree leaves pages → IsAllowed fault) → IfMalformed IsLater fault
+      → (fault : TreeFault) → IfMalformed (DescentStopsAt nodes tree leaves) fault → ((pages : ℕ → List ℕ) → IsOver nodes tree leaves pages → MayRefuseRead fault) → IfMalformed IsLater fault
   tree_later h k leaves is (OfCache fault) s o = tt
   tree_later h k leaves is (Malformed n) s o = record {
     walk = λ none. absurd (none h);
@@ -140,10 +132,9 @@ module _ (begun : Bool) (tree : TbTree) (rows total : ℕ) (places : List Place)
     rest = λ _ order q pages over. absurd (o pages (subst (λ order. IsOver nodes tree order pages) (sym (is order q)) over));
   }
   tree_later h k leaves is Spent s o = tt
-  tree_later h k leaves is Memory s o = tt
 
   -- and once page 0 said it
-  pub later_named : SaysState begun (payload_of old 0) → (fault : SearchFault) → IsCaused old new fault → IfMalformed IsLater fault → Names (IsFirstDamaged old) Malforms fault
+  pub later_named : SaysState begun (payload_of old 0) → (fault : TreeFault) → RefusesRead old new fault → IfMalformed IsLater fault → Names (IsFirstDamaged old) Malforms fault
   later_named says (OfCache fault) c l = none_damaged fault c
   later_named says (Malformed n) c l = record {
     held = λ p l. has_payload old p (held p l);
@@ -155,7 +146,6 @@ module _ (begun : Bool) (tree : TbTree) (rows total : ℕ) (places : List Place)
     rest = λ _. l.rest;
   }
   later_named says Spent c l = tt
-  later_named says Memory c l = tt
 
 all_pass : (xs : List ℕ) → filter (λ _. true) xs ≡ xs
 all_pass [] = refl
@@ -196,22 +186,21 @@ module _ (old new : Cache) (P Q : ℕ → Type 0) where
   Either index.StoreFull = Unit {0}
   Either index.Spent = Unit {0}
 
-  either_in_cache : (fault : CacheFault) → IsCausedInCache old new fault → IfNamedInCache P fault → Either (of_cache fault)
+  either_in_cache : (fault : CacheFault) → RefusesReadInCache old new fault → NamesInCache P fault → Either (of_cache fault)
   either_in_cache cache.NoPage c k = absurd c
   either_in_cache cache.Store c k = tt
   either_in_cache (cache.Damaged n) c k = inl k
   either_in_cache cache.StoreFull c k = tt
   either_in_cache cache.Memory c k = tt
 
-  either : (fault : SearchFault) → IsCaused old new fault → Names P Q fault → Either (of_search fault)
+  either : (fault : TreeFault) → RefusesRead old new fault → Names P Q fault → Either (of_tree fault)
   either (OfCache fault) c k = either_in_cache fault c k
   either (Malformed n) c k = inr k
   either Spent c k = tt
-  either Memory c k = tt
 
-  each : (r : Result (Unit {0}) SearchFault) → IfErr r (λ fault. IsCaused old new fault) → IfErr r (Names P Q) → IfErr (answered (λ fault. of_search fault) r) Either
+  each : (r : Result (Unit {0}) TreeFault) → IfErr r (λ fault. RefusesRead old new fault) → IfErr r (Names P Q) → IfErr (answered (λ fault. of_tree fault) r) Either
   each (Ok x) c k = tt
   each (Err fault) c k = either fault c k
 
-  pub either_named : (r : Result (Unit {0}) SearchFault) → IfErr r (λ fault. IsCaused old new fault) → IfErr r (Names P Q) → (n : ℕ) → IsErrOf (answered (λ fault. of_search fault) r) (index.Damaged n) → P n ⊎ Q n
+  pub either_named : (r : Result (Unit {0}) TreeFault) → IfErr r (λ fault. RefusesRead old new fault) → IfErr r (Names P Q) → (n : ℕ) → IsErrOf (answered (λ fault. of_tree fault) r) (index.Damaged n) → P n ⊎ Q n
   either_named r c k n e = subst (λ r. IfErr r Either) e (each r c k)

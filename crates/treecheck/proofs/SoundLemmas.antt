@@ -16,7 +16,7 @@ use Rattle.tbtree.specs.Shape.{IsShape}
 use Rattle.tbtree.specs.declared.tree.Place.{Place}
 use Rattle.tbtree.specs.declared.tree.TbTree.{TbTree}
 use Rattle.std.specs.Prelude.{Result, Ok, Err, OnOk}
-use Rattle.boxsearch.specs.declared.fault.SearchFault.{SearchFault}
+use Rattle.tbtree.specs.declared.fault.TreeFault.{TreeFault}
 use Rattle.treecheck.specs.Checking.{Agree, AreTracksOf}
 use Rattle.boxsearch.specs.Beside.{with_cache}
 use Rattle.boxsearch.specs.Index.{content, IndexView, IsSound}
@@ -109,7 +109,7 @@ module _ (laws : TreeLaws) (i : IndexView) (tracks : TracksView) (rows : ℕ) wh
     }
 
 -- what passed says more, over a faithful store
-pub passed : (r : Result (Unit {0}) SearchFault) (F K A C S : Type 0) → (F → OnOk r K) → OnOk r A → OnOk r C → (F → K → A → C → S) → OnOk r (F → S)
+pub passed : (r : Result (Unit {0}) TreeFault) (F K A C S : Type 0) → (F → OnOk r K) → OnOk r A → OnOk r C → (F → K → A → C → S) → OnOk r (F → S)
 passed r F K A C S k a c s =
     (elim r as (λ r. (F → OnOk r K) → OnOk r A → OnOk r C → OnOk r (F → S)) [
       | Ok x ↦ λ k a c fa. s fa (k fa) a c

@@ -6,25 +6,19 @@ use Rattle.std.proofs.lemmas.List.Concat.{flat_map-append}
 use Rattle.legs.specs.Boxes.{BoxView}
 use Rattle.legs.specs.Legs.{LegView}
 use Rattle.legs.specs.declared.tracks.Track.{Track}
-use Rattle.boxsearch.specs.declared.fault.SearchFault.{SearchFault}
-use Rattle.boxsearch.specs.declared.fault.SearchFault.TheVariants.{Cache as OfCache, Malformed, Spent, Memory}
 use Rattle.tbtree.specs.Descent.{legs_in}
+use Rattle.tbtree.specs.Faults.{IfMalformed}
 use Rattle.tbtree.specs.Nodes.{Pages}
+use Rattle.tbtree.specs.declared.fault.TreeFault.{TreeFault}
+use Rattle.tbtree.proofs.FaultLemmas.{malformed_then}
 use Rattle.tbtree.specs.declared.tree.Place.{Place}
 use Rattle.treecheck.specs.Check.{next_in, legs_on, IsLeafOf, AreLeavesOf}
-use Rattle.treecheck.specs.Naming.{IfMalformed}
 use Rattle.treecheck.proofs.WalkLemmas.{same_some}
 use Rattle.treecheck.specs.Stopping.{AllStopAt, ArePaired, AreNextLeaves, HaveLeavesBefore, StopsAt, page_after}
 
-pub malformed_map : (P Q : ℕ → Type 0) → ((n : ℕ) → P n → Q n) → (fault : SearchFault) → IfMalformed P fault → IfMalformed Q fault
-malformed_map P Q f (OfCache fault) h = tt
-malformed_map P Q f (Malformed n) h = f n h
-malformed_map P Q f Spent h = tt
-malformed_map P Q f Memory h = tt
-
-pub refused_map : (P Q : ℕ → Type 0) → ((n : ℕ) → P n → Q n) → (r : Result (Unit {0}) SearchFault) → IfErr r (IfMalformed P) → IfErr r (IfMalformed Q)
+pub refused_map : (P Q : ℕ → Type 0) → ((n : ℕ) → P n → Q n) → (r : Result (Unit {0}) TreeFault) → IfErr r (IfMalformed P) → IfErr r (IfMalformed Q)
 refused_map P Q f (Ok x) h = tt
-refused_map P Q f (Err fault) h = malformed_map P Q f fault h
+refused_map P Q f (Err fault) h = malformed_then P Q f fault h
 
 module _ (nodes : Pages LegView BoxView) (most f : ℕ) (place : Place) where
   after_push : (d q : ℕ) (xs : List ℕ) → page_after nodes d (xs ++ q ∷ []) ≡ next_in (nodes.at q)

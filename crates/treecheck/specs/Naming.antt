@@ -13,10 +13,7 @@ use Rattle.treecheck.specs.Check.{first_on, AreChains, HoldChains, IsOver}
 use Rattle.treecheck.specs.Checking.{Agree}
 use Rattle.treecheck.specs.Descent.{DescentStopsAt}
 use Rattle.treecheck.specs.Stopping.{AllStopAt}
-use Rattle.boxsearch.specs.Faults.{IfNamedInCache}
 use Rattle.boxsearch.specs.Index.{SaysState}
-use Rattle.boxsearch.specs.declared.fault.SearchFault.{SearchFault}
-use Rattle.boxsearch.specs.declared.fault.SearchFault.TheVariants.{Cache as OfCache, Malformed, Spent, Memory}
 
 -- page n has no payload, and each page below it has one
 pub record IsFirstDamaged (cache : Cache) (n : ℕ) : Type 0 where
@@ -82,17 +79,3 @@ pub record IsFirstMalformed (begun : Bool) (tree : TbTree) (rows total : ℕ) (p
   pub rest : HasHeader begun cache → HoldList cache tree rows places tracks total
       → (order : List ℕ) → IsOrder cache tree rows places tracks order
       → (pages : ℕ → List ℕ) → IsOver (pages_of_cache cache) tree order pages → n ≡ 0
-
--- P of the page that is said to be damaged, and Q of the one that is said to be malformed
-abbrev pub Names : (ℕ → Type 0) → (ℕ → Type 0) → SearchFault → Type 0
-Names P Q (OfCache fault) = IfNamedInCache P fault
-Names P Q (Malformed n) = Q n
-Names P Q Spent = Unit {0}
-Names P Q Memory = Unit {0}
-
--- Q of the page that is said to be malformed
-abbrev pub IfMalformed : (ℕ → Type 0) → SearchFault → Type 0
-IfMalformed Q (OfCache fault) = Unit {0}
-IfMalformed Q (Malformed n) = Q n
-IfMalformed Q Spent = Unit {0}
-IfMalformed Q Memory = Unit {0}

@@ -7,12 +7,11 @@ ghost use Rattle.chains.specs.Chains.{AreHeld};
 ghost use Rattle.chains.specs.Reads.{OnlyReads};
 ghost use Rattle.legs.specs.declared.tracks.Track.{Track};
 ghost use Rattle.treecheck.specs.Check.{first_on, AreChains, IsChecked};
+ghost use Rattle.tbtree.specs.Faults.{MayRefuseRead, Names, RefusesRead};
 ghost use Rattle.tbtree.specs.Turn.{IsRising};
 ghost use Rattle.tbtree.specs.Nodes.{pages_of_cache};
 ghost use Rattle.tbtree.specs.Shape.{IsShape};
 ghost use Rattle.treecheck.specs.Checking.{Agree, AreTracksOf};
-ghost use Rattle.boxsearch.specs.Faults.{IsAllowed, IsCaused};
-ghost use Rattle.boxsearch.specs.Answers.{answered, of_search};
 ghost use Rattle.boxsearch.specs.Beside.{with_cache};
 ghost use Rattle.boxsearch.specs.Index.{content, words, IsSound, SaysState};
 ghost use Rattle.legs.specs.Asking.{Leaves};
@@ -20,8 +19,7 @@ ghost use Rattle.legs.specs.Index.{MayRefuse, HasRisen};
 ghost use Rattle.legs.specs.declared.index.IndexFault.{IndexFault};
 ghost use Rattle.treecheck.specs.Walking.{Surveys};
 ghost use Rattle.treecheck.specs.Ordering.{IsWhole};
-ghost use Rattle.treecheck.specs.Naming.{IsFirstDamaged, IsFirstMalformed, IsMiscounted, Names};
-ghost use Rattle.boxsearch.specs.declared.fault.SearchFault.{SearchFault};
+ghost use Rattle.treecheck.specs.Naming.{IsFirstDamaged, IsFirstMalformed, IsMiscounted};
 ghost use Rattle.treecheck.specs.declared.walking.Met.{Met};
 ghost use Rattle.treecheck.specs.declared.walking.Survey.{Survey};
 
@@ -29,81 +27,78 @@ use crate::holding::laws;
 use crate::levels::check_tree;
 use crate::ordering::{are_once, have_legs, leaves_rise, name_last, rise, sort_leaves};
 use crate::walking::{Cached, Survey, walk_all};
-use boxsearch::{SearchFault, TreeIndex, has_state, of_search};
+use boxsearch::{TreeIndex, answer, has_state};
 use legs::{IndexFault, LegIndex, Tracks};
 use pagecache::PageCache;
 use pages::PageStore;
 use std::alloc::Global;
-use tbtree::{Place, TbTree};
+use tbtree::{Place, TbTree, TreeFault};
 
 /// The most features that any limit allows.
 const MOST_FEATURES: u64 = 2_147_483_648;
 
 /// Reads a page, for its seal.
-fn read_page<S: PageStore>(cache: &mut PageCache<S>, page: u32) -> Result<(), SearchFault>
+fn read_page<S: PageStore>(cache: &mut PageCache<S>, page: u32) -> Result<(), TreeFault>
     requires { page < cache.old.count }
     ensures held { IsTrue cache.old.store.is_faithful
         → OnOk result ((pages_of_cache cache.old).at page ≢ None) }
     ensures only { IsTrue cache.old.store.is_faithful → (pages_of_cache cache.old).at page ≢ None
-        → IfErr result IsAllowed }
+        → IfErr result MayRefuseRead }
     ensures named { IsTrue cache.old.store.is_faithful
         → IfErr result (Names (λ n. (n ≡ page) × (payload_of cache.old n ≡ None)) (λ _. ⊥)) }
     ensures reads { OnlyReads cache.old cache.new }
-    ensures caused { IfErr result (IsCaused cache.old cache.new) }
-    ensures works { IfErr result (λ fault. fault ≢ SearchFault.Spent) }
+    ensures caused { IfErr result (RefusesRead cache.old cache.new) }
 {
     match cache.page(page) {
         Ok(_) => Ok(()),
-        Err(fault) => Err(SearchFault::of(fault, page)),
+        Err(fault) => Err(TreeFault::of(fault, page)),
     }
 }
 
 /// Reads each page once, for its seal. A page that the store has beyond those of the cache is
 /// malformed, and so is page 0 where there is none.
-#[tactic(auto, using(boxsearch::proofs::ReadLemmas::reading))]
-fn read_pages<S: PageStore>(cache: &mut PageCache<S>) -> Result<(), SearchFault>
+#[tactic(auto, using(chains::proofs::ReadLemmas::reading))]
+fn read_pages<S: PageStore>(cache: &mut PageCache<S>) -> Result<(), TreeFault>
     ensures held { IsTrue cache.old.store.is_faithful
         → OnOk result (AreHeld (pages_of_cache cache.old)) }
     ensures some { OnOk result (0 < cache.old.count) }
     ensures count { OnOk result (cache.old.count ≡ cache.old.store.count) }
     ensures only { IsTrue cache.old.store.is_faithful → AreHeld (pages_of_cache cache.old)
         → 0 < cache.old.count
-        → cache.old.count ≡ cache.old.store.count → IfErr result IsAllowed }
+        → cache.old.count ≡ cache.old.store.count → IfErr result MayRefuseRead }
     ensures named { IsTrue cache.old.store.is_faithful
         → IfErr result (Names (IsFirstDamaged cache.old) (IsMiscounted cache.old)) }
     ensures reads { OnlyReads cache.old cache.new }
-    ensures caused { IfErr result (IsCaused cache.old cache.new) }
-    ensures works { IfErr result (λ fault. fault ≢ SearchFault.Spent) }
+    ensures caused { IfErr result (RefusesRead cache.old cache.new) }
 {
     let count = cache.count();
     for page in 0..count {
         read_page(cache, page)?;
     }
     if count == 0 || cache.store().len() != count {
-        return Err(SearchFault::Malformed(count));
+        return Err(TreeFault::Malformed(count));
     }
     Ok(())
 }
 
 /// Reads page 0, and tests that it is the header of a store that is not finished where its database
 /// has begun, and of a finished one where it has not.
-fn check_state<S: PageStore>(cache: &mut PageCache<S>, begun: bool) -> Result<(), SearchFault>
+fn check_state<S: PageStore>(cache: &mut PageCache<S>, begun: bool) -> Result<(), TreeFault>
     ensures says { IsTrue cache.old.store.is_faithful
         → OnOk result (SaysState begun (payload_of cache.old 0)) }
     ensures only { IsTrue cache.old.store.is_faithful → SaysState begun (payload_of cache.old 0)
-        → 0 < cache.old.count → IfErr result IsAllowed }
+        → 0 < cache.old.count → IfErr result MayRefuseRead }
     ensures named { IsTrue cache.old.store.is_faithful → payload_of cache.old 0 ≢ None
         → IfErr result (Names (λ _. ⊥) (λ n. n ≡ 0)) }
     ensures reads { OnlyReads cache.old cache.new }
-    ensures caused { IfErr result (IsCaused cache.old cache.new) }
-    ensures works { IfErr result (λ fault. fault ≢ SearchFault.Spent) }
+    ensures caused { IfErr result (RefusesRead cache.old cache.new) }
 {
     let payload = match cache.page(0) {
         Ok(payload) => payload,
-        Err(fault) => return Err(SearchFault::of(fault, 0)),
+        Err(fault) => return Err(TreeFault::of(fault, 0)),
     };
     if !has_state(payload, begun) {
-        return Err(SearchFault::Malformed(0));
+        return Err(TreeFault::Malformed(0));
     }
     Ok(())
 }
@@ -150,7 +145,7 @@ pub fn agree(tracks: &Tracks, rows: u64, legs: u64) -> bool
 /// Tests that the pages hold one list of so many legs under a tree, with the places and the tracks
 /// of its features, and a row of so many for each leg, and that page 0 says whether the database has
 /// begun. The first page that fails is malformed; page 0 where what it keeps does.
-#[tactic(auto, using(boxsearch::proofs::ReadLemmas::reading))]
+#[tactic(auto, using(chains::proofs::ReadLemmas::reading))]
 pub fn check_pages<S: PageStore>(
     alloc: Global,
     cache: &mut PageCache<S>,
@@ -160,7 +155,7 @@ pub fn check_pages<S: PageStore>(
     rows: u64,
     legs: u64,
     begun: bool,
-) -> Result<(), SearchFault>
+) -> Result<(), TreeFault>
     ensures says { IsTrue cache.old.store.is_faithful
         → OnOk result (SaysState begun (payload_of cache.old 0)) }
     ensures checked { IsTrue cache.old.store.is_faithful
@@ -173,13 +168,12 @@ pub fn check_pages<S: PageStore>(
         → SaysState begun (payload_of cache.old 0)
         → length places.now < 2 ^ 32 → Agree tracks.now rows legs
         → IsChecked (pages_of_cache cache.old) tree.now rows legs places.now tracks.now.tracks
-        → IfErr result IsAllowed }
+        → IfErr result MayRefuseRead }
     ensures named { IsTrue cache.old.store.is_faithful
         → IfErr result (Names (IsFirstDamaged cache.old)
         (IsFirstMalformed begun tree.now rows legs places.now tracks.now cache.old)) }
     ensures reads { OnlyReads cache.old cache.new }
-    ensures caused { IfErr result (IsCaused cache.old cache.new) }
-    ensures works { IfErr result (λ fault. fault ≢ SearchFault.Spent) }
+    ensures caused { IfErr result (RefusesRead cache.old cache.new) }
 {
     tbtree::laws();
     let most = u64::from(tree.shape.leaf());
@@ -187,17 +181,17 @@ pub fn check_pages<S: PageStore>(
     check_state(cache, begun)?;
     let mut survey = walk_all::<Cached<S>>(alloc, cache, most, rows, places, tracks)?;
     if !is_whole(places, legs, &mut survey) {
-        return Err(SearchFault::Malformed(0));
+        return Err(TreeFault::Malformed(0));
     }
     if !agree(tracks, rows, legs) {
-        return Err(SearchFault::Malformed(0));
+        return Err(TreeFault::Malformed(0));
     }
     if !put_in_order(&mut survey) {
-        return Err(SearchFault::Malformed(0));
+        return Err(TreeFault::Malformed(0));
     }
     check_tree(alloc, cache, tree, survey.leaves.as_slice())?;
     if !name_last(places, survey.leaves.as_slice()) {
-        return Err(SearchFault::Malformed(0));
+        return Err(TreeFault::Malformed(0));
     }
     Ok(())
 }
@@ -210,7 +204,7 @@ fn check_index<S: PageStore>(
     tracks: &Tracks,
     rows: u64,
     begun: bool,
-) -> Result<(), SearchFault>
+) -> Result<(), TreeFault>
     ensures says { IsTrue index.old.cache.store.is_faithful
         → OnOk result (SaysState begun (payload_of index.old.cache 0)) }
     ensures checked { IsTrue index.old.cache.store.is_faithful
@@ -225,15 +219,14 @@ fn check_index<S: PageStore>(
         → length places.now < 2 ^ 32 → Agree tracks.now rows index.old.legs
         → IsChecked (pages_of_cache index.old.cache) index.old.tree rows index.old.legs places.now
         tracks.now.tracks
-        → IfErr result IsAllowed }
+        → IfErr result MayRefuseRead }
     ensures named { IsTrue index.old.cache.store.is_faithful
         → IfErr result (Names (IsFirstDamaged index.old.cache)
         (IsFirstMalformed begun index.old.tree rows index.old.legs places.now tracks.now
         index.old.cache)) }
     ensures same { index.new ≡ with_cache index.old index.new.cache index.new.known }
     ensures reads { OnlyReads index.old.cache index.new.cache }
-    ensures caused { IfErr result (IsCaused index.old.cache index.new.cache) }
-    ensures works { IfErr result (λ fault. fault ≢ SearchFault.Spent) }
+    ensures caused { IfErr result (RefusesRead index.old.cache index.new.cache) }
 {
     let tree = index.tree();
     let legs = index.leg_count();
@@ -247,16 +240,6 @@ fn check_index<S: PageStore>(
         legs,
         begun,
     )
-}
-
-/// What a check answers, as an index says it.
-fn checked(given: Result<(), SearchFault>) -> Result<(), IndexFault>
-    ensures { result ≡ answered (λ fault. of_search fault) given }
-{
-    match given {
-        Ok(()) => Ok(()),
-        Err(fault) => Err(of_search(fault)),
-    }
 }
 
 /// Tests that the pages of an index, whoever made them, hold one list of legs, which its tree, its
@@ -316,5 +299,5 @@ pub fn check<S: PageStore>(
     let places = index.take_places();
     let given = check_index(alloc, index, places.as_slice(), tracks, rows, begun);
     index.put_places(places);
-    checked(given)
+    answer(given)
 }

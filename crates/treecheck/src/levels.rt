@@ -7,23 +7,20 @@ ghost use Rattle.tbnode.specs.Form.{node_of};
 ghost use Rattle.chains.specs.Reads.{OnlyReads};
 ghost use Rattle.treecheck.specs.Check.{IsOver};
 ghost use Rattle.tbtree.specs.Descent.{entries_in};
+ghost use Rattle.tbtree.specs.Faults.{IfMalformed, MayRefuseRead, RefusesRead};
 ghost use Rattle.tbtree.specs.Nodes.{pages_of_cache, AnInner, InnerView, boxes, children};
 ghost use Rattle.pagecache.specs.Cache.{Cache};
-ghost use Rattle.boxsearch.specs.Faults.{IsAllowed, IsCaused};
 ghost use Rattle.treecheck.specs.Descent.{DescentStopsAt, IsFirstWithout, IsHighestWithout};
 ghost use Rattle.treecheck.specs.Levels.{cover_of_leaves, pages_of_leaves, named_below, named_by, AllStandAbove, IsAbove, IsHeight, IsInBlock, IsInLevel, LevelsStandAbove, StandsAbove, StandsOver};
-ghost use Rattle.treecheck.specs.Naming.{IfMalformed};
 ghost use Rattle.treecheck.specs.Walking.{IsMet};
-ghost use Rattle.boxsearch.specs.declared.fault.SearchFault.{SearchFault};
 
 use crate::walking::Met;
-use boxsearch::SearchFault;
 use legs::Box3;
 use pagecache::PageCache;
 use pages::{PageStore, Payload};
 use std::alloc::{AllocError, Global};
 use tbnode::{Entry, Inner};
-use tbtree::TbTree;
+use tbtree::{TbTree, TreeFault};
 
 /// The `place`-th `len` leaves, or as many of them as there are.
 fn block(leaves: &[Met], len: usize, place: usize) -> &[Met]
@@ -118,7 +115,7 @@ fn take_inner(
     width: usize,
     leaves: &[Met],
     below: &mut Vec<u32>,
-) -> Result<(), SearchFault>
+) -> Result<(), TreeFault>
     requires { 0 < width }
     ensures above { OnOk result ((inner : InnerView BoxView)
         × (node_of payload.now ≡ Some (AnInner inner))
@@ -126,18 +123,17 @@ fn take_inner(
     ensures pushed { OnOk result (below.new.items
         ≡ below.old.items ++ map (λ e. e.child) (entries_in (Some (node_of payload.now)))) }
     ensures only { (inner : InnerView BoxView) → node_of payload.now ≡ Some (AnInner inner)
-        → IsAbove level width leaves.now inner → IfErr result IsAllowed }
+        → IsAbove level width leaves.now inner → IfErr result MayRefuseRead }
     ensures stops { IfErr result (IfMalformed (λ n. (n ≡ page)
         × ((inner : InnerView BoxView) → node_of payload.now ≡ Some (AnInner inner)
         → IsAbove level width leaves.now inner → ⊥))) }
-    ensures caused { (old new : Cache) → IfErr result (IsCaused old new) }
-    ensures works { IfErr result (λ fault. fault ≢ SearchFault.Spent) }
+    ensures caused { (old new : Cache) → IfErr result (RefusesRead old new) }
 {
     let Some(inner) = tbnode::inner(payload) else {
-        return Err(SearchFault::Malformed(page));
+        return Err(TreeFault::Malformed(page));
     };
     if !is_above(&inner, level, width, leaves) {
-        return Err(SearchFault::Malformed(page));
+        return Err(TreeFault::Malformed(page));
     }
     push_named(&inner, below)?;
     Ok(())
@@ -151,7 +147,7 @@ fn take_page<S: PageStore>(
     width: usize,
     leaves: &[Met],
     below: &mut Vec<u32>,
-) -> Result<(), SearchFault>
+) -> Result<(), TreeFault>
     requires { 0 < width }
     ensures above { IsTrue cache.old.store.is_faithful
         → OnOk result (StandsAbove (pages_of_cache cache.old) level width leaves.now page) }
@@ -160,27 +156,26 @@ fn take_page<S: PageStore>(
         ≡ below.old.items ++ named_by (pages_of_cache cache.old) page) }
     ensures only { IsTrue cache.old.store.is_faithful
         → StandsAbove (pages_of_cache cache.old) level width leaves.now page
-        → IfErr result IsAllowed }
+        → IfErr result MayRefuseRead }
     ensures stops { IsTrue cache.old.store.is_faithful
         → IfErr result (IfMalformed (λ n. (n ≡ page)
         × (StandsAbove (pages_of_cache cache.old) level width leaves.now page → ⊥))) }
     ensures reads { OnlyReads cache.old cache.new }
-    ensures caused { IfErr result (IsCaused cache.old cache.new) }
-    ensures works { IfErr result (λ fault. fault ≢ SearchFault.Spent) }
+    ensures caused { IfErr result (RefusesRead cache.old cache.new) }
 {
     if page == 0 {
-        return Err(SearchFault::Malformed(page));
+        return Err(TreeFault::Malformed(page));
     }
     let payload = match cache.page(page) {
         Ok(payload) => payload,
-        Err(fault) => return Err(SearchFault::of(fault, page)),
+        Err(fault) => return Err(TreeFault::of(fault, page)),
     };
     take_inner(payload, page, level, width, leaves, below)
 }
 
 /// The pages that some pages name, where each is an inner page that stands above its `span` of the
 /// leaves.
-#[tactic(auto, using(boxsearch::proofs::ReadLemmas::reading))]
+#[tactic(auto, using(chains::proofs::ReadLemmas::reading))]
 fn level_below<S: PageStore>(
     alloc: Global,
     cache: &mut PageCache<S>,
@@ -189,7 +184,7 @@ fn level_below<S: PageStore>(
     width: usize,
     span: usize,
     leaves: &[Met],
-) -> Result<Vec<u32>, SearchFault>
+) -> Result<Vec<u32>, TreeFault>
     requires { 0 < width }
     ensures above { IsTrue cache.old.store.is_faithful
         → OnOk result (AllStandAbove (pages_of_cache cache.old) level width span leaves.now
@@ -199,13 +194,12 @@ fn level_below<S: PageStore>(
         ≡ flat_map (named_by (pages_of_cache cache.old)) pages.now) }
     ensures only { IsTrue cache.old.store.is_faithful
         → AllStandAbove (pages_of_cache cache.old) level width span leaves.now pages.now
-        → IfErr result IsAllowed }
+        → IfErr result MayRefuseRead }
     ensures stops { IsTrue cache.old.store.is_faithful
         → IfErr result (IfMalformed (IsFirstWithout
         (IsInBlock (pages_of_cache cache.old) level width span leaves.now) pages.now)) }
     ensures reads { OnlyReads cache.old cache.new }
-    ensures caused { IfErr result (IsCaused cache.old cache.new) }
-    ensures works { IfErr result (λ fault. fault ≢ SearchFault.Spent) }
+    ensures caused { IfErr result (RefusesRead cache.old cache.new) }
 {
     let mut below = Vec::new(alloc);
     for i in 0..pages.len() {
@@ -217,7 +211,7 @@ fn level_below<S: PageStore>(
 
 /// Tests the levels above some leaves, from the root down; `span` is how many leaves the root may
 /// stand above.
-#[tactic(auto, using(boxsearch::proofs::ReadLemmas::reading))]
+#[tactic(auto, using(chains::proofs::ReadLemmas::reading))]
 fn check_levels<S: PageStore>(
     alloc: Global,
     cache: &mut PageCache<S>,
@@ -226,21 +220,20 @@ fn check_levels<S: PageStore>(
     height: u32,
     span: usize,
     leaves: &[Met],
-) -> Result<(), SearchFault>
+) -> Result<(), TreeFault>
     requires inner { 0 < inner }
     requires span { span ≡ inner ^ height }
     ensures stand { IsTrue cache.old.store.is_faithful
         → OnOk result (LevelsStandAbove (pages_of_cache cache.old) inner height root leaves.now) }
     ensures only { IsTrue cache.old.store.is_faithful
         → LevelsStandAbove (pages_of_cache cache.old) inner height root leaves.now
-        → IfErr result IsAllowed }
+        → IfErr result MayRefuseRead }
     ensures stops { IsTrue cache.old.store.is_faithful
         → IfErr result (IfMalformed (IsHighestWithout
         (IsInLevel (pages_of_cache cache.old) inner leaves.now)
         (named_below (pages_of_cache cache.old) root) height)) }
     ensures reads { OnlyReads cache.old cache.new }
-    ensures caused { IfErr result (IsCaused cache.old cache.new) }
-    ensures works { IfErr result (λ fault. fault ≢ SearchFault.Spent) }
+    ensures caused { IfErr result (RefusesRead cache.old cache.new) }
 {
     let mut pages = Vec::new(alloc);
     pages.push(root)?;
@@ -283,13 +276,13 @@ fn span_of(inner: usize, height: u32, leaves: usize) -> Option<usize>
 /// A page that does not stand above its leaves is `Malformed`. Page 0 is said to be so where the
 /// tree says another number of leaves or of levels than there are, or another root than its only
 /// leaf.
-#[tactic(auto, using(boxsearch::proofs::ReadLemmas::reading))]
+#[tactic(auto, using(chains::proofs::ReadLemmas::reading))]
 pub fn check_tree<S: PageStore>(
     alloc: Global,
     cache: &mut PageCache<S>,
     tree: &TbTree,
     leaves: &[Met],
-) -> Result<(), SearchFault>
+) -> Result<(), TreeFault>
     ensures over { IsTrue cache.old.store.is_faithful
         → All (λ m. IsMet ((pages_of_cache cache.old).at m.page) m) leaves.now
         → All (λ p. (0 < p) × (p < cache.old.count)) (pages_of_leaves leaves.now)
@@ -299,31 +292,30 @@ pub fn check_tree<S: PageStore>(
         → All (λ m. IsMet ((pages_of_cache cache.old).at m.page) m) leaves.now
         → (pages : ℕ → List ℕ)
         → IsOver (pages_of_cache cache.old) tree.now (pages_of_leaves leaves.now) pages
-        → IfErr result IsAllowed }
+        → IfErr result MayRefuseRead }
     ensures stops { IsTrue cache.old.store.is_faithful
         → All (λ m. IsMet ((pages_of_cache cache.old).at m.page) m) leaves.now
         → IfErr result (IfMalformed (DescentStopsAt (pages_of_cache cache.old) tree.now
         (pages_of_leaves leaves.now))) }
     ensures reads { OnlyReads cache.old cache.new }
-    ensures caused { IfErr result (IsCaused cache.old cache.new) }
-    ensures works { IfErr result (λ fault. fault ≢ SearchFault.Spent) }
+    ensures caused { IfErr result (RefusesRead cache.old cache.new) }
 {
     if leaves.len() as u64 != u64::from(tree.leaves) {
-        return Err(SearchFault::Malformed(0));
+        return Err(TreeFault::Malformed(0));
     }
     if tree.levels == 0 {
         if tree.leaves != 0 || tree.root != 0 {
-            return Err(SearchFault::Malformed(0));
+            return Err(TreeFault::Malformed(0));
         }
         return Ok(());
     }
     let inner = usize::from(tree.shape.inner());
     let height = tree.levels - 1;
     let Some(span) = span_of(inner, height, leaves.len()) else {
-        return Err(SearchFault::Malformed(0));
+        return Err(TreeFault::Malformed(0));
     };
     if height == 0 && leaves[0].page != tree.root {
-        return Err(SearchFault::Malformed(0));
+        return Err(TreeFault::Malformed(0));
     }
     check_levels(alloc, cache, tree.root, inner, height, span, leaves)
 }

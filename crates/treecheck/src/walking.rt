@@ -8,21 +8,18 @@ ghost use Rattle.chains.specs.Reads.{OnlyReads};
 ghost use Rattle.treecheck.specs.Check.{legs_on, IsLeafOf, AreLeavesOf, AreChains};
 ghost use Rattle.tbtree.specs.Turn.{last_leg, first_ordinal, ComesAfter, ComeInTurn};
 ghost use Rattle.tbtree.specs.Descent.{legs_in};
+ghost use Rattle.tbtree.specs.Faults.{IfMalformed, MayRefuseRead, RefusesRead};
 ghost use Rattle.tbtree.specs.Nodes.{LeafView, ALeaf};
-ghost use Rattle.boxsearch.specs.Faults.{IsAllowed, IsCaused};
-ghost use Rattle.treecheck.specs.Naming.{IfMalformed};
 ghost use Rattle.treecheck.specs.Stopping.{AllStopAt, StopsAt};
 ghost use Rattle.treecheck.specs.Walking.{after, pages_by, IsAtEnd, IsNextNode, Notes, Strays, Surveys, TakesLeaf, Walks};
-ghost use Rattle.boxsearch.specs.declared.fault.SearchFault.{SearchFault};
 
 use crate::leaves::{AnyLeaf, bounds_of};
-use boxsearch::SearchFault;
 use legs::{Box3, Leg, Track, Tracks};
 use pagecache::PageCache;
 use pages::{PageStore, Payload};
 use std::alloc::{AllocError, Global};
 use std::marker::PhantomData;
-use tbtree::Place;
+use tbtree::{Place, TreeFault};
 
 /// A leaf that was met: the ordinal of its first leg, its page, and the least box that holds its
 /// legs.
@@ -190,13 +187,11 @@ pub trait LeafReader {
     ghost use Rattle.tbnode.specs.Nodes.{Node};
     ghost use Rattle.chains.specs.Reads.{OnlyReads};
     ghost use Rattle.treecheck.specs.Check.{IsLeafOf};
+    ghost use Rattle.tbtree.specs.Faults.{IfMalformed, MayRefuseRead, RefusesRead};
     ghost use Rattle.tbtree.specs.Turn.{ComeInTurn};
     ghost use Rattle.tbtree.specs.Descent.{legs_in};
-    ghost use Rattle.boxsearch.specs.Faults.{IsAllowed, IsCaused};
-    ghost use Rattle.treecheck.specs.Naming.{IfMalformed};
     ghost use Rattle.treecheck.specs.Walking.{pages_by, Strays, TakesLeaf};
-    ghost use Rattle.boxsearch.specs.declared.fault.SearchFault.{SearchFault};
-
+    
     /// What they are read from.
     type Source;
 
@@ -214,7 +209,7 @@ pub trait LeafReader {
         most: u64,
         rows: u64,
         survey: &mut Survey,
-    ) -> Result<(), SearchFault>
+    ) -> Result<(), TreeFault>
         ensures taken { IsTrue (seen source.old).store.is_faithful → 0 < walk.old.left
             → OnOk result (TakesLeaf (pages_by node (seen source.old)) most rows walk.old walk.new
             survey.old survey.new) }
@@ -224,13 +219,12 @@ pub trait LeafReader {
             walk.old.left walk.old.page
             → ComeInTurn walk.old.feature rows walk.old.last
             (legs_in ((pages_by node (seen source.old)).at walk.old.page))
-            → IfErr result IsAllowed }
+            → IfErr result MayRefuseRead }
         ensures strays { IsTrue (seen source.old).store.is_faithful
             → IfErr result (IfMalformed (Strays (pages_by node (seen source.old)) most rows
             walk.old)) }
         ensures reads { OnlyReads (seen source.old) (seen source.new) }
-        ensures caused { IfErr result (IsCaused (seen source.old) (seen source.new)) }
-        ensures works { IfErr result (λ fault. fault ≢ SearchFault.Spent) };
+        ensures caused { IfErr result (RefusesRead (seen source.old) (seen source.new)) };
 }
 
 /// Leaves of the present version, which are read from a cache.
@@ -253,19 +247,19 @@ impl<S: PageStore> LeafReader for Cached<S> {
         most: u64,
         rows: u64,
         survey: &mut Survey,
-    ) -> Result<(), SearchFault> {
+    ) -> Result<(), TreeFault> {
         if walk.page == 0 {
-            return Err(SearchFault::Malformed(walk.previous));
+            return Err(TreeFault::Malformed(walk.previous));
         }
         let payload = match cache.page(walk.page) {
             Ok(payload) => payload,
-            Err(fault) => return Err(SearchFault::of(fault, walk.previous)),
+            Err(fault) => return Err(TreeFault::of(fault, walk.previous)),
         };
         let page = walk.page;
         if take_payload(payload, walk, most, rows, survey)? {
             Ok(())
         } else {
-            Err(SearchFault::Malformed(page))
+            Err(TreeFault::Malformed(page))
         }
     }
 }
@@ -300,20 +294,19 @@ pub fn walk_chain<R: LeafReader>(
     place: &Place,
     track: &Track,
     survey: &mut Survey,
-) -> Result<(), SearchFault>
+) -> Result<(), TreeFault>
     requires { 0 < most }
     ensures walked { IsTrue (R.seen source.old).store.is_faithful
         → OnOk result (Walks (pages_by R.node (R.seen source.old)) most rows feature place.now track.now
         survey.old survey.new) }
     ensures only { IsTrue (R.seen source.old).store.is_faithful → (pages : List ℕ)
         → AreLeavesOf (pages_by R.node (R.seen source.old)) most rows feature place.now track.now pages
-        → IfErr result IsAllowed }
+        → IfErr result MayRefuseRead }
     ensures stops { IsTrue (R.seen source.old).store.is_faithful
         → IfErr result (IfMalformed (StopsAt (pages_by R.node (R.seen source.old)) most rows feature
         place.now track.now)) }
     ensures reads { OnlyReads (R.seen source.old) (R.seen source.new) }
-    ensures caused { IfErr result (IsCaused (R.seen source.old) (R.seen source.new)) }
-    ensures works { IfErr result (λ fault. fault ≢ SearchFault.Spent) }
+    ensures caused { IfErr result (RefusesRead (R.seen source.old) (R.seen source.new)) }
 {
     let mut walk = Walk {
         feature,
@@ -326,7 +319,7 @@ pub fn walk_chain<R: LeafReader>(
         R::take_leaf(source, &mut walk, most, rows, survey)?;
     }
     if !is_at_end(&walk, place, track) {
-        return Err(SearchFault::Malformed(walk.previous));
+        return Err(TreeFault::Malformed(walk.previous));
     }
     Ok(())
 }
@@ -357,20 +350,19 @@ pub fn walk_all<R: LeafReader>(
     rows: u64,
     places: &[Place],
     tracks: &Tracks,
-) -> Result<Survey, SearchFault>
+) -> Result<Survey, TreeFault>
     requires { 0 < most }
     ensures surveyed { IfOk result (λ survey. IsTrue (R.seen source.old).store.is_faithful
         → Surveys (pages_by R.node (R.seen source.old)) most rows places.now tracks.now.tracks survey) }
     ensures only { IsTrue (R.seen source.old).store.is_faithful → length places.now < 2 ^ 32
         → (chains : List (List ℕ))
         → AreChains (pages_by R.node (R.seen source.old)) most rows 0 places.now tracks.now.tracks chains
-        → IfErr result IsAllowed }
+        → IfErr result MayRefuseRead }
     ensures stops { IsTrue (R.seen source.old).store.is_faithful
         → IfErr result (IfMalformed (AllStopAt (pages_by R.node (R.seen source.old)) most rows
         places.now tracks.now.tracks)) }
     ensures reads { OnlyReads (R.seen source.old) (R.seen source.new) }
-    ensures caused { IfErr result (IsCaused (R.seen source.old) (R.seen source.new)) }
-    ensures works { IfErr result (λ fault. fault ≢ SearchFault.Spent) }
+    ensures caused { IfErr result (RefusesRead (R.seen source.old) (R.seen source.new)) }
 {
     let mut survey = Survey {
         ordinals: Vec::new(alloc),
@@ -378,14 +370,14 @@ pub fn walk_all<R: LeafReader>(
         firsts: Vec::new(alloc),
     };
     if !are_paired(places, tracks) {
-        return Err(SearchFault::Malformed(0));
+        return Err(TreeFault::Malformed(0));
     }
     if places.len() > u32::MAX as usize {
-        return Err(SearchFault::Malformed(0));
+        return Err(TreeFault::Malformed(0));
     }
     for feature in 0..places.len() as u32 {
         let Some(track) = tracks.track(feature) else {
-            return Err(SearchFault::Malformed(0));
+            return Err(TreeFault::Malformed(0));
         };
         let start = survey.ordinals.len();
         let place = &places[feature as usize];

@@ -8,22 +8,23 @@ use Rattle.legs.specs.Boxes.{BoxView}
 use Rattle.legs.specs.declared.index.IndexFault.TheVariants as index
 use Rattle.legs.specs.Index.{MayRefuseLeg}
 use Rattle.legs.specs.Legs.{LegView}
+use Rattle.pagecache.specs.Cache.{Cache}
 use Rattle.pagecache.specs.declared.fault.CacheFault.TheVariants as cache
 use Rattle.tbtree.specs.Turn.{IsPast, IsRising}
 use Rattle.tbtree.specs.Descent.{legs_in}
+use Rattle.tbtree.specs.Faults.{MayRefuseRead, RefusesRead}
 use Rattle.tbtree.specs.Nodes.{Pages}
-use Rattle.boxsearch.specs.Answers.{of_search}
-use Rattle.boxsearch.specs.Faults.{IsAllowed}
+use Rattle.tbtree.specs.declared.fault.TreeFault.{TreeFault}
+use Rattle.tbtree.specs.declared.fault.TreeFault.TheVariants.{Cache as OfCache, Malformed, Spent}
+use Rattle.boxsearch.specs.Answers.{of_tree}
 use Rattle.version1.specs.OldLegs.{AreOpened, HaveEachOf, IsNumbered, IsOneOf, IsOpened, Opens}
-use Rattle.boxsearch.specs.declared.fault.SearchFault.{SearchFault}
-use Rattle.boxsearch.specs.declared.fault.SearchFault.TheVariants.{Cache as OfCache, Malformed, Spent, Memory}
 use Rattle.treecheck.specs.declared.walking.Met.{Met}
 use Rattle.version1.proofs.TakingLemmas.{numbered_at, length_numbered}
 use Rattle.treecheck.proofs.SurveyLemmas.{get_at}
 use Rattle.treecheck.proofs.WalkLemmas.{same_some}
 
 -- what good pages allow of a search they allow of a leg
-pub allowed_leg : (fault : SearchFault) → IsAllowed fault → MayRefuseLeg (of_search fault)
+pub allowed_leg : (fault : TreeFault) → MayRefuseRead fault → MayRefuseLeg (of_tree fault)
 allowed_leg (OfCache cache.NoPage) h = absurd h
 allowed_leg (OfCache cache.Store) h = tt
 allowed_leg (OfCache (cache.Damaged n)) h = absurd h
@@ -31,18 +32,16 @@ allowed_leg (OfCache cache.StoreFull) h = absurd h
 allowed_leg (OfCache cache.Memory) h = tt
 allowed_leg (Malformed n) h = absurd h
 allowed_leg Spent h = absurd h
-allowed_leg Memory h = tt
 
--- what works is not said to be spent
-pub works_leg : (fault : SearchFault) → (fault ≡ Spent → ⊥) → of_search fault ≡ index.Spent → ⊥
-works_leg (OfCache cache.NoPage) h e = let no : index.Damaged 0 ≡ index.Spent = e in absurd (cc)
-works_leg (OfCache cache.Store) h e = let no : index.Store ≡ index.Spent = e in absurd (cc)
-works_leg (OfCache (cache.Damaged n)) h e = let no : index.Damaged n ≡ index.Spent = e in absurd (cc)
-works_leg (OfCache cache.StoreFull) h e = let no : index.StoreFull ≡ index.Spent = e in absurd (cc)
-works_leg (OfCache cache.Memory) h e = let no : index.Memory ≡ index.Spent = e in absurd (cc)
-works_leg (Malformed n) h e = let no : index.Damaged n ≡ index.Spent = e in absurd (cc)
-works_leg Spent h e = h refl
-works_leg Memory h e = let no : index.Memory ≡ index.Spent = e in absurd (cc)
+-- what is said of a read is not that it is spent
+pub works_leg : (old new : Cache) (fault : TreeFault) → RefusesRead old new fault → of_tree fault ≡ index.Spent → ⊥
+works_leg old new (OfCache cache.NoPage) h e = absurd h
+works_leg old new (OfCache cache.Store) h e = let no : index.Store ≡ index.Spent = e in absurd (cc)
+works_leg old new (OfCache (cache.Damaged n)) h e = let no : index.Damaged n ≡ index.Spent = e in absurd (cc)
+works_leg old new (OfCache cache.StoreFull) h e = absurd h
+works_leg old new (OfCache cache.Memory) h e = let no : index.Memory ≡ index.Spent = e in absurd (cc)
+works_leg old new (Malformed n) h e = let no : index.Damaged n ≡ index.Spent = e in absurd (cc)
+works_leg old new Spent h e = absurd h
 
 pub damaged_works : (n : ℕ) → index.Damaged n ≡ index.Spent → ⊥
 damaged_works n e = absurd (cc)

@@ -28,10 +28,10 @@ use Rattle.legs.specs.declared.index.IndexFault.{IndexFault}
 use Rattle.legs.specs.declared.index.IndexFault.TheVariants as index
 use Rattle.pagecache.specs.Cache.{fresh}
 use Rattle.pagecache.specs.declared.fault.CacheFault.TheVariants as cache
-use Rattle.boxsearch.specs.Answers.{of_search}
-use Rattle.boxsearch.specs.Faults.{IsCaused}
-use Rattle.boxsearch.specs.declared.fault.SearchFault.{SearchFault}
-use Rattle.boxsearch.specs.declared.fault.SearchFault.TheVariants.{Cache as OfCache, Malformed, Spent, Memory}
+use Rattle.boxsearch.specs.Answers.{of_tree}
+use Rattle.tbtree.specs.Faults.{RefusesRead}
+use Rattle.tbtree.specs.declared.fault.TreeFault.{TreeFault}
+use Rattle.tbtree.specs.declared.fault.TreeFault.TheVariants.{Cache as OfCache, Malformed, Spent}
 use Rattle.version1.specs.OldLegs.{AreAmong, AreSurveyed, HaveLegsOf, IsNumbered, IsOneOf, StandByOrdinal}
 use Rattle.version1.specs.Waiting.{Holds, MayWait}
 use Rattle.treecheck.specs.Ordering.{IsWhole}
@@ -191,15 +191,14 @@ pub risen_after : (a b c : ℕ) → a ≤ b → HasRisen b c → HasRisen a c
 risen_after a b c l h = omega (arith, l, h, clamps)
 
 -- a store that is only read has failed where a search says so
-pub store_failed : (old new : Store) (fault : SearchFault) → IsCaused (fresh old 1) (fresh new 1) fault → of_search fault ≡ index.Store → Faulted old new
+pub store_failed : (old new : Store) (fault : TreeFault) → RefusesRead (fresh old 1) (fresh new 1) fault → of_tree fault ≡ index.Store → Faulted old new
 store_failed old new (OfCache cache.NoPage) h e = absurd h
 store_failed old new (OfCache cache.Store) h e = h
 store_failed old new (OfCache (cache.Damaged n)) h e = let no : index.Damaged n ≡ index.Store = e in absurd (cc)
 store_failed old new (OfCache cache.StoreFull) h e = absurd h
 store_failed old new (OfCache cache.Memory) h e = let no : index.Memory ≡ index.Store = e in absurd (cc)
 store_failed old new (Malformed n) h e = let no : index.Damaged n ≡ index.Store = e in absurd (cc)
-store_failed old new Spent h e = let no : index.Spent ≡ index.Store = e in absurd (cc)
-store_failed old new Memory h e = let no : index.Memory ≡ index.Store = e in absurd (cc)
+store_failed old new Spent h e = absurd h
 
 module _ {X : Type 0} (P : X → Type 0) where
   pub all_get : (xs : List X) (i : ℕ) (x : X) → All P xs → slice_get xs i ≡ Some x → P x

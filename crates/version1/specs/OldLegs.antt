@@ -18,19 +18,19 @@ use Rattle.treecheck.specs.Check.{legs_on, AreChains}
 use Rattle.tbtree.specs.Turn.{first_ordinal, IsRising}
 use Rattle.tbtree.specs.Descent.{legs_in}
 use Rattle.tbtree.specs.Nodes.{Pages, LeafView, ALeaf}
+use Rattle.tbtree.specs.declared.fault.TreeFault.{TreeFault}
+use Rattle.tbtree.specs.declared.fault.TreeFault.TheVariants.{Cache as OfCache}
 use Rattle.tbtree.specs.declared.tree.Place.{Place}
 use Rattle.treecheck.specs.Ordering.{HaveLegs}
 use Rattle.treecheck.specs.Walking.{IsMet}
 use Rattle.treecheck.specs.declared.walking.Met.{Met}
-use Rattle.boxsearch.specs.declared.fault.SearchFault.{SearchFault}
-use Rattle.boxsearch.specs.declared.fault.SearchFault.TheVariants.{Cache as OfCache}
 
 -- the pages of a store of version 1
 abbrev pub pages_of_old : Store → Pages LegView BoxView
 pages_of_old s = record { at = λ p. option_map old_node_of (stored_payload s p); count = s.count }
 
 -- why a page is not unsealed
-abbrev pub unsealing : PageFault → SearchFault
+abbrev pub unsealing : PageFault → TreeFault
 unsealing (Damaged page) = OfCache (cache.Damaged page)
 
 -- the chains of the features are whole, and these are their leaves, in the order of their first legs

@@ -8,20 +8,18 @@ ghost use Rattle.pages.specs.Store.{Faulted, Stays};
 ghost use Rattle.pagecache.specs.Cache.{fresh, payload_of};
 ghost use Rattle.version1.specs.OldForm.{old_node_of};
 ghost use Rattle.treecheck.specs.Check.{HoldChains};
+ghost use Rattle.tbtree.specs.Faults.{IfMalformed, MayRefuseRead, RefusesRead};
 ghost use Rattle.tbtree.specs.Turn.{ComeInTurn, IsRising};
 ghost use Rattle.tbtree.specs.Descent.{legs_in};
 ghost use Rattle.treecheck.specs.Checking.{Agree};
-ghost use Rattle.boxsearch.specs.Faults.{IsAllowed, IsCaused};
 ghost use Rattle.chains.specs.Reads.{OnlyReads};
 ghost use Rattle.version1.specs.OldLegs.{pages_of_old, unsealing, AreAmong, AreOpened, AreReadable, AreSurveyed, HaveEachOf, HaveLegsOf, IsNumbered, IsReadable, Opens, StandByOrdinal};
-ghost use Rattle.treecheck.specs.Naming.{IfMalformed};
 ghost use Rattle.treecheck.specs.Walking.{after, pages_by, IsNextNode, Notes};
-ghost use Rattle.boxsearch.specs.declared.fault.SearchFault.{SearchFault};
 ghost use Rattle.treecheck.specs.declared.walking.Met.{Met};
 
 use crate::old_form::{OldLeaf, old_leaf};
 use crate::waiting::{put_behind, put_waiting};
-use boxsearch::{SearchFault, of_search};
+use boxsearch::of_tree;
 use legs::{IndexFault, Leg, LegIndex, Tracks};
 use pagecache::CacheFault;
 use pages::{PageFault, PageStore, Payload, unseal};
@@ -29,7 +27,7 @@ use std::alloc::{AllocError, AllocFailed, Global};
 use std::collections::HashMap;
 use std::hash::RandomState;
 use std::marker::PhantomData;
-use tbtree::Place;
+use tbtree::{Place, TreeFault};
 use treecheck::{LeafReader, Met, Survey, Walk, agree, is_whole, sort_leaves, take_next, walk_all};
 
 /// The legs of leaves that have been opened and not used up, by their ordinals.
@@ -41,32 +39,31 @@ fn blank() -> [u8; 4096] {
 }
 
 /// Why a page is not unsealed.
-fn fault_of(fault: PageFault) -> SearchFault
+fn fault_of(fault: PageFault) -> TreeFault
     ensures { result ≡ unsealing fault }
 {
     match fault {
-        PageFault::Damaged(page) => SearchFault::Cache(CacheFault::Damaged(page)),
+        PageFault::Damaged(page) => TreeFault::Cache(CacheFault::Damaged(page)),
     }
 }
 
 /// Reads a page of a store, and its payload. A page that is not there is said as the page `from`,
 /// which names it, being malformed.
-fn read_payload<S: PageStore>(store: &mut S, page: u32, from: u32) -> Result<Payload, SearchFault>
+fn read_payload<S: PageStore>(store: &mut S, page: u32, from: u32) -> Result<Payload, TreeFault>
     ensures value { IfOk result (λ payload. IsTrue (S.seen store.old).is_faithful
         → payload_of (fresh (S.seen store.old) 1) page ≡ Some payload) }
     ensures below { OnOk result (page < (S.seen store.old).count) }
     ensures only { IfErr result (λ fault. IsTrue (S.seen store.old).is_faithful
         → page < (S.seen store.old).count
-        → payload_of (fresh (S.seen store.old) 1) page ≢ None → IsAllowed fault) }
+        → payload_of (fresh (S.seen store.old) 1) page ≢ None → MayRefuseRead fault) }
     ensures named { IfErr result (IfMalformed (λ n. (n ≡ from)
         × (page < (S.seen store.old).count → ⊥))) }
     ensures stays { Stays (S.seen store.old) (S.seen store.new) }
     ensures caused { IfErr result
-        (IsCaused (fresh (S.seen store.old) 1) (fresh (S.seen store.new) 1)) }
-    ensures works { IfErr result (λ fault. fault ≢ SearchFault.Spent) }
+        (RefusesRead (fresh (S.seen store.old) 1) (fresh (S.seen store.new) 1)) }
 {
     if page >= store.len() {
-        return Err(SearchFault::Malformed(from));
+        return Err(TreeFault::Malformed(from));
     }
     let mut bytes = blank();
     match store.read(page, &mut bytes) {
@@ -74,7 +71,7 @@ fn read_payload<S: PageStore>(store: &mut S, page: u32, from: u32) -> Result<Pay
             Ok(payload) => Ok(payload),
             Err(fault) => Err(fault_of(fault)),
         },
-        Err(_) => Err(SearchFault::Cache(CacheFault::Store)),
+        Err(_) => Err(TreeFault::Cache(CacheFault::Store)),
     }
 }
 
@@ -128,9 +125,9 @@ impl<S: PageStore> LeafReader for Lent<S> {
         most: u64,
         rows: u64,
         survey: &mut Survey,
-    ) -> Result<(), SearchFault> {
+    ) -> Result<(), TreeFault> {
         if walk.page == 0 {
-            return Err(SearchFault::Malformed(walk.previous));
+            return Err(TreeFault::Malformed(walk.previous));
         }
         let payload = match read_payload(store, walk.page, walk.previous) {
             Ok(payload) => payload,
@@ -140,7 +137,7 @@ impl<S: PageStore> LeafReader for Lent<S> {
         if take_old_payload(&payload, walk, most, rows, survey)? {
             Ok(())
         } else {
-            Err(SearchFault::Malformed(page))
+            Err(TreeFault::Malformed(page))
         }
     }
 }
@@ -154,7 +151,7 @@ fn survey_leaves<S: PageStore>(
     places: &[Place],
     tracks: &Tracks,
     rows: u64,
-) -> Result<Survey, SearchFault>
+) -> Result<Survey, TreeFault>
     requires { 0 < most }
     ensures surveyed { IfOk result (λ survey. IsTrue (S.seen store.old).is_faithful
         → AreSurveyed (pages_by old_node_of (fresh (S.seen store.old) 1)) most rows
@@ -162,19 +159,18 @@ fn survey_leaves<S: PageStore>(
     ensures only { IfErr result (λ fault. IsTrue (S.seen store.old).is_faithful
         → Agree tracks.now rows tracks.now.legs → (legs : List LegView)
         → HoldChains (pages_by old_node_of (fresh (S.seen store.old) 1)) most rows tracks.now.legs
-        places.now tracks.now.tracks legs → IsAllowed fault) }
+        places.now tracks.now.tracks legs → MayRefuseRead fault) }
     ensures reads { OnlyReads (fresh (S.seen store.old) 1) (fresh (S.seen store.new) 1) }
     ensures caused { IfErr result
-        (IsCaused (fresh (S.seen store.old) 1) (fresh (S.seen store.new) 1)) }
-    ensures works { IfErr result (λ fault. fault ≢ SearchFault.Spent) }
+        (RefusesRead (fresh (S.seen store.old) 1) (fresh (S.seen store.new) 1)) }
 {
     let legs = tracks.leg_count();
     let mut survey = walk_all::<Lent<S>>(alloc, store, most, rows, places, tracks)?;
     if !is_whole(places, legs, &mut survey) {
-        return Err(SearchFault::Malformed(0));
+        return Err(TreeFault::Malformed(0));
     }
     if !agree(tracks, rows, legs) {
-        return Err(SearchFault::Malformed(0));
+        return Err(TreeFault::Malformed(0));
     }
     sort_leaves(&mut survey.leaves);
     Ok(survey)
@@ -195,7 +191,7 @@ fn put_legs(leaf: &OldLeaf<'_>, opened: &mut Opened) -> Result<(), AllocFailed<(
 }
 
 /// Opens the leaf on a page.
-fn open_leaf<S: PageStore>(store: &mut S, page: u32, opened: &mut Opened) -> Result<(), SearchFault>
+fn open_leaf<S: PageStore>(store: &mut S, page: u32, opened: &mut Opened) -> Result<(), TreeFault>
     ensures opened { OnOk result (IsTrue (S.seen store.old).is_faithful → (legs : List LegView)
         → StandByOrdinal legs opened.old.entries
         → AreAmong (legs_in ((pages_by old_node_of (fresh (S.seen store.old) 1)).at page)) legs
@@ -204,11 +200,11 @@ fn open_leaf<S: PageStore>(store: &mut S, page: u32, opened: &mut Opened) -> Res
         → Opens (legs_in ((pages_by old_node_of (fresh (S.seen store.old) 1)).at page))
         opened.old.entries opened.new.entries) }
     ensures only { IfErr result (λ fault. IsTrue (S.seen store.old).is_faithful
-        → IsReadable (pages_by old_node_of (fresh (S.seen store.old) 1)) page → IsAllowed fault) }
+        → IsReadable (pages_by old_node_of (fresh (S.seen store.old) 1)) page
+        → MayRefuseRead fault) }
     ensures stays { Stays (S.seen store.old) (S.seen store.new) }
     ensures caused { IfErr result
-        (IsCaused (fresh (S.seen store.old) 1) (fresh (S.seen store.new) 1)) }
-    ensures works { IfErr result (λ fault. fault ≢ SearchFault.Spent) }
+        (RefusesRead (fresh (S.seen store.old) 1) (fresh (S.seen store.new) 1)) }
 {
     let payload = match read_payload(store, page, 0) {
         Ok(payload) => payload,
@@ -219,7 +215,7 @@ fn open_leaf<S: PageStore>(store: &mut S, page: u32, opened: &mut Opened) -> Res
             put_legs(&leaf, opened)?;
             Ok(())
         }
-        None => Err(SearchFault::Malformed(page)),
+        None => Err(TreeFault::Malformed(page)),
     }
 }
 
@@ -231,7 +227,7 @@ fn open_next<S: PageStore>(
     next: usize,
     ordinal: u64,
     opened: &mut Opened,
-) -> Result<usize, SearchFault>
+) -> Result<usize, TreeFault>
     ensures opened { OnOk result (IsTrue (S.seen store.old).is_faithful → (legs : List LegView)
         → StandByOrdinal legs opened.old.entries
         → HaveLegsOf (pages_by old_node_of (fresh (S.seen store.old) 1)) leaves.now legs
@@ -244,11 +240,10 @@ fn open_next<S: PageStore>(
         (ordinal + 1) opened.new.entries) }
     ensures only { IfErr result (λ fault. IsTrue (S.seen store.old).is_faithful
         → AreReadable (pages_by old_node_of (fresh (S.seen store.old) 1)) leaves.now
-        → IsAllowed fault) }
+        → MayRefuseRead fault) }
     ensures stays { Stays (S.seen store.old) (S.seen store.new) }
     ensures caused { IfErr result
-        (IsCaused (fresh (S.seen store.old) 1) (fresh (S.seen store.new) 1)) }
-    ensures works { IfErr result (λ fault. fault ≢ SearchFault.Spent) }
+        (RefusesRead (fresh (S.seen store.old) 1) (fresh (S.seen store.new) 1)) }
 {
     match leaves.get(next) {
         Some(leaf) => {
@@ -311,7 +306,7 @@ pub fn take_old_legs<S: PageStore, I: LegIndex>(
     treecheck::laws();
     let survey = match survey_leaves(alloc, old, most, places, tracks, rows) {
         Ok(survey) => survey,
-        Err(fault) => return Err(of_search(fault)),
+        Err(fault) => return Err(of_tree(fault)),
     };
     bring(
         alloc,
@@ -362,7 +357,7 @@ fn bring<S: PageStore, I: LegIndex>(
     'legs: for ordinal in 0..legs {
         next = match open_next(old, leaves, next, ordinal, &mut opened) {
             Ok(next) => next,
-            Err(fault) => return Err(of_search(fault)),
+            Err(fault) => return Err(of_tree(fault)),
         };
         let Some(leg) = opened.remove(&ordinal) else {
             return Err(IndexFault::Damaged(0));

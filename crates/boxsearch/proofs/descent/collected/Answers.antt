@@ -4,8 +4,9 @@ use Rattle.tbtree.specs.Descent.{pages_met, met_count, HasInner}
 use Rattle.tbtree.specs.Nodes.{pages_of_cache, HasLeaf}
 use Rattle.boxsearch.specs.Way.{meets, IsOffWay}
 use Rattle.boxsearch.proofs.FoundLemmas.{if_ok, if_err, on_ok}
-use Rattle.boxsearch.proofs.ReadLemmas.{reads_trans}
-use Rattle.boxsearch.proofs.WayLemmas.{root_alone, level_down, level_legs, counted, few_on_way, many_off_way, inners_on_way, inner_off_way, leaves_on_way, leaf_off_way, inners_fit, leaves_fit, fits_more, way_whole, malformed_is, malformed_then}
+use Rattle.chains.proofs.ReadLemmas.{reads_trans}
+use Rattle.tbtree.proofs.FaultLemmas.{named_then}
+use Rattle.boxsearch.proofs.WayLemmas.{root_alone, level_down, level_legs, counted, few_on_way, many_off_way, inners_on_way, inner_off_way, leaves_on_way, leaf_off_way, inners_fit, leaves_fit, fits_more, way_whole, malformed_is}
 use Rattle.boxsearch.proofs.descent.collected.Goals as goal
 
 pub loop-level-preserved : goal.loop-level-preserved
@@ -98,11 +99,11 @@ returns-in_err-pages-clause-named g c = λ fa.
     let now = c.deref-in-loop-level.result.now in
     let some : 0 < levels - level = omega (arith, c.loop-level-test.true) in
     let last : level - 1 + suc (levels - level) ≡ levels = omega (arith, c.loop-level-test.true) in
-    rw (p.1, p.2) (malformed_then
+    rw (p.1, p.2) (named_then
     (λ q. (i : ℕ) × (slice_get now i ≡ Some q) × (HasInner (pages_of_cache c.loop-level.cache) q (levels - level) → ⊥))
     (IsOffWay query (pages_of_cache old) root levels)
-    _
     (λ q h. inner_off_way old c.loop-level.cache inv.reads fa query root levels (level - 1) (levels - level) h.0 q now some last (c.deref-in-loop-level.ensures.value ∙ inv.found fa) h.1 h.2)
+    _
     (c.in_err-pages.ensures.named (inv.reads.store.faithful ∙ fa)))
 
 pub returns-in_err-spend-2-clause-only : goal.returns-in_err-spend-2-clause-only
@@ -194,11 +195,11 @@ returns-clause-named g c = λ fa.
     let now = c.deref-2.result.now in
     let last : level - 1 + 1 ≡ levels = omega (arith, c.loop-level-test.false, c.requires.levels) in
     if_err c.legs_in.result _ _
-    (λ fault h. malformed_then
+    (λ fault h. named_then
     (λ q. (i : ℕ) × (slice_get now i ≡ Some q) × (HasLeaf (pages_of_cache c.loop-level.cache) q → ⊥))
     (IsOffWay query (pages_of_cache old) root levels)
-    fault
     (λ q k. leaf_off_way old c.loop-level.cache inv.reads fa query root levels (level - 1) k.0 q now last (c.deref-2.ensures.value ∙ inv.found fa) k.1 k.2)
+    fault
     h)
     (c.legs_in.ensures.named (inv.reads.store.faithful ∙ fa))
 

@@ -5,9 +5,10 @@ use Rattle.boxsearch.specs.Way.{meets}
 use Rattle.legs.specs.Hull.{leg_boxes}
 use Rattle.tbtree.specs.Descent.{hits}
 use Rattle.tbtree.specs.Nodes.{pages_of_cache, HasLeaf}
-use Rattle.boxsearch.proofs.ReadLemmas.{reads_trans}
+use Rattle.chains.proofs.ReadLemmas.{reads_trans}
 use Rattle.boxsearch.proofs.SameLemmas.{flat_more, same_hits, leaf_after, leaf_before, all_more}
-use Rattle.boxsearch.proofs.WayLemmas.{malformed_then, one_more}
+use Rattle.tbtree.proofs.FaultLemmas.{named_then}
+use Rattle.boxsearch.proofs.WayLemmas.{one_more}
 use Rattle.boxsearch.proofs.descent.legs_in.Goals as goal
 
 pub loop-page-preserved : goal.loop-page-preserved
@@ -56,9 +57,9 @@ returns-in_err-push_legs-clause-named g c = λ fa.
     let i = c.loop-page.page-index in
     let page = get_or pages i 0 in
     let at : slice_get pages i ≡ Some page = slice_get-get_or pages i 0 c.loop-page-test.true in
-    rw (p.1, p.2) (malformed_then
+    rw (p.1, p.2) (named_then
     (λ n. (n ≡ page) × (HasLeaf (pages_of_cache c.loop-page.cache) page → ⊥))
     (λ n. (k : ℕ) × (slice_get pages k ≡ Some n) × (HasLeaf (pages_of_cache c.args.cache.now) n → ⊥))
-    _
     (λ n h. (i, at ∙ ap Some (sym h.0), λ has. h.1 (leaf_after c.args.cache.now c.loop-page.cache inv.reads fa page (subst (λ m. HasLeaf (pages_of_cache c.args.cache.now) m) h.0 has))))
+    _
     (c.in_err-push_legs.ensures.named (inv.reads.store.faithful ∙ fa)))

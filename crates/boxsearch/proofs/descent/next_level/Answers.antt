@@ -4,9 +4,10 @@ use Rattle.std.proofs.lemmas.Result.{err_from_is_err_and}
 use Rattle.boxsearch.specs.Way.{meets}
 use Rattle.tbtree.specs.Descent.{children_met, HasInner}
 use Rattle.tbtree.specs.Nodes.{pages_of_cache}
-use Rattle.boxsearch.proofs.ReadLemmas.{reads_trans}
+use Rattle.chains.proofs.ReadLemmas.{reads_trans}
 use Rattle.boxsearch.proofs.SameLemmas.{flat_more, same_children, inner_after, inner_before, all_more}
-use Rattle.boxsearch.proofs.WayLemmas.{malformed_then, one_more}
+use Rattle.tbtree.proofs.FaultLemmas.{named_then}
+use Rattle.boxsearch.proofs.WayLemmas.{one_more}
 use Rattle.boxsearch.proofs.descent.next_level.Goals as goal
 
 pub loop-page-preserved : goal.loop-page-preserved
@@ -55,9 +56,9 @@ returns-in_err-push_children-clause-named g c = λ fa.
     let i = c.loop-page.page-index in
     let page = get_or pages i 0 in
     let at : slice_get pages i ≡ Some page = slice_get-get_or pages i 0 c.loop-page-test.true in
-    rw (p.1, p.2) (malformed_then
+    rw (p.1, p.2) (named_then
     (λ n. (n ≡ page) × (HasInner (pages_of_cache c.loop-page.cache) page c.args.level → ⊥))
     (λ n. (k : ℕ) × (slice_get pages k ≡ Some n) × (HasInner (pages_of_cache c.args.cache.now) n c.args.level → ⊥))
-    _
     (λ n h. (i, at ∙ ap Some (sym h.0), λ has. h.1 (inner_after c.args.cache.now c.loop-page.cache inv.reads fa page c.args.level (subst (λ m. HasInner (pages_of_cache c.args.cache.now) m c.args.level) h.0 has))))
+    _
     (c.in_err-push_children.ensures.named (inv.reads.store.faithful ∙ fa)))

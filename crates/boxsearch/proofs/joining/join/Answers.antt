@@ -16,7 +16,7 @@ returns-clause-taking g c =
     let legs = c.args.legs.now in
     let mid : c.make_place.new.self ≡ made old c.args.feature = from_ok c.make_place.result (sym c.is_err.ensures.value ∙ c.if-is_err.false) c.make_place.ensures.ok in
     let p : PutsAll (made old c.args.feature) c.put_all.new.self c.args.feature legs c.put_all.result = subst (λ m. PutsAll m c.put_all.new.self c.args.feature legs c.put_all.result) mid c.put_all.ensures in
-    subst (λ r. Taking old c.put_all.new.self legs r) (sym c.insertion.ensures)
+    subst (λ r. Taking old c.put_all.new.self legs r) (sym c.answer.ensures)
     (joined laws old c.put_all.new.self c.args.feature legs c.requires.some c.requires.one c.put_all.result p)
 
 pub returns-then-not-has_place-clause-taking : goal.returns-then-not-has_place-clause-taking
@@ -31,4 +31,4 @@ returns-clause-asks g c =
     let legs = c.args.legs.now in
     let mid : c.make_place.new.self ≡ made old c.args.feature = from_ok c.make_place.result (sym c.is_err.ensures.value ∙ c.if-is_err.false) c.make_place.ensures.ok in
     let p : PutsAll (made old c.args.feature) c.put_all.new.self c.args.feature legs c.put_all.result = subst (λ m. PutsAll m c.put_all.new.self c.args.feature legs c.put_all.result) mid c.put_all.ensures in
-    subst (λ r. OnOk r (RunsAsk old c.put_all.new.self 1)) (sym c.insertion.ensures) (joined_asks old c.put_all.new.self c.args.feature legs c.put_all.result p)
+    subst (λ r. OnOk r (RunsAsk old c.put_all.new.self 1)) (sym c.answer.ensures) (joined_asks old c.put_all.new.self c.args.feature legs c.put_all.result p)

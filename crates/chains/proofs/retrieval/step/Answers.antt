@@ -1,8 +1,8 @@
 use Rattle.std.proofs.Common.{◌<◌, suc, length, slice_get, sym, ◌∙◌, ap, arith, subst}
 use Rattle.std.specs.Prelude.{IfErr}
 use Rattle.std.proofs.lemmas.Result.{IfOk-weaker}
+use Rattle.tbtree.specs.Faults.{IsNamed}
 use Rattle.tbtree.specs.Nodes.{pages_of_cache}
-use Rattle.chains.specs.Faults.{IsNamed}
 use Rattle.chains.specs.Links.{spot_of}
 use Rattle.chains.specs.Spans.{pass_at}
 use Rattle.chains.specs.Taking.{TakesLeaf, TakesPage, fault_at}

@@ -3,7 +3,7 @@ use Rattle.std.specs.Prelude.{Ok, Err}
 use Rattle.std.proofs.lemmas.Result.{err_from_is_err_and}
 use Rattle.legs.specs.Hull.{leg_boxes}
 use Rattle.legs.specs.Costs.{leg_feature}
-use Rattle.tbtree.specs.Faults.{IsAllowed}
+use Rattle.tbtree.specs.Faults.{MayRefuseWrite}
 use Rattle.legs.specs.Boxes.{BoxView}
 use Rattle.tbtree.specs.Nodes.{pages_of_cache, EntryView, HasRoom}
 use Rattle.tbtree.specs.Way.{IsOnWay, Hangs}
@@ -65,6 +65,6 @@ returns-in_err-attach-clause-hangs g t c = λ fa.
     let room : c.args.at % tree.shape.inner ≢ 0 = subst (λ n. c.args.at % n ≢ 0) is c.if-at-inner-eq0.false in
     let way = subst (λ n. IsOnWay leg_boxes tree.shape.inner tree.levels tree.root old mid (c.args.level + 1) (c.args.at / n) c.child.inside.bounds (Ok c.in_ok-parent.parent)) is (c.in_ok-parent.ensures.way fa) in
     let on = subst (λ b. IsOnWay leg_boxes tree.shape.inner tree.levels tree.root old mid (c.args.level + 1) (c.args.at / tree.shape.inner) b (Ok c.in_ok-parent.parent)) same way in
-    let only = subst (λ n. HasRoom mid c.in_ok-parent.parent (c.args.level + 1) n → IsAllowed c.in_err-attach.field-0.0) c.inner-2.ensures.value (c.in_err-attach.ensures.only (still _ _ c.way.ensures.passes.store.faithful fa)) in
+    let only = subst (λ n. HasRoom mid c.in_ok-parent.parent (c.args.level + 1) n → MayRefuseWrite c.in_err-attach.field-0.0) c.inner-2.ensures.value (c.in_err-attach.ensures.only (still _ _ c.way.ensures.passes.store.faithful fa)) in
     let p = err_from_is_err_and c.from_residual-in_err-attach.result c.from_residual-in_err-attach.ensures.1 in
     rw (p.1, p.2) (attach_not leg_boxes lawful leg_feature tree.shape.inner tree.levels tree.root old mid (pages_of_cache c.attach.new.cache) c.args.level c.args.at c.args.child.now.child c.in_ok-parent.parent c.args.child.now.bounds _ wide below room on only)

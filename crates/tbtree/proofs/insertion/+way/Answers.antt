@@ -2,7 +2,7 @@ use Rattle.std.proofs.Common.{◌≡◌, ◌∙◌, ◌+◌, ◌/◌, ◌%◌, �
 use Rattle.std.specs.Prelude.{Ok, Err, IfOk, IfErr}
 use Rattle.std.proofs.lemmas.Result.{err_from_is_err_and}
 use Rattle.legs.specs.Hull.{leg_boxes}
-use Rattle.tbtree.specs.Faults.{IsAllowed}
+use Rattle.tbtree.specs.Faults.{MayRefuseWrite}
 use Rattle.tbtree.specs.Nodes.{pages_of_cache, Widens, HasEntry}
 use Rattle.tbtree.specs.Way.{IsOnWay}
 use Rattle.tbtree.proofs.WayLemmas.{way_start, way_steps, way_refused}
@@ -29,7 +29,7 @@ returns-clause-way g t c = λ fa.
     let some : 0 < tree.shape.inner = let range = c.inner.ensures.range.least_inner in omega (arith, range) in
     let on = subst (λ n. IsOnWay leg_boxes tree.shape.inner tree.levels tree.root old mid level (c.args.at / n) box (Ok parent)) is (c.in_ok-parent.ensures.way fa) in
     let widens = subst (λ n. IfOk c.widen.result (λ child. Widens leg_boxes mid parent level (c.args.at % n) box new child)) is (c.widen.ensures.widens faithful) in
-    let only = subst (λ n. HasEntry mid parent level (c.args.at % n) → IfErr c.widen.result IsAllowed) is (c.widen.ensures.only faithful) in
+    let only = subst (λ n. HasEntry mid parent level (c.args.at % n) → IfErr c.widen.result MayRefuseWrite) is (c.widen.ensures.only faithful) in
     way_steps leg_boxes tree.shape.inner tree.levels tree.root old mid new c.args.level c.args.at parent box some on c.widen.result widens only
 
 pub returns-in_err-parent-clause-way : goal.returns-in_err-parent-clause-way

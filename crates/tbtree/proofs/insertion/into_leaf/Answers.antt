@@ -4,7 +4,7 @@ use Rattle.std.proofs.lemmas.Result.{err_from_is_err_and}
 use Rattle.legs.specs.Legs.{LegView}
 use Rattle.legs.specs.Hull.{leg_boxes}
 use Rattle.legs.specs.Costs.{leg_feature}
-use Rattle.tbtree.specs.Faults.{IsAllowed}
+use Rattle.tbtree.specs.Faults.{MayRefuseWrite}
 use Rattle.tbtree.specs.declared.fault.TreeFault.TheVariants.{Malformed}
 use Rattle.tbtree.specs.Joining.{HasAtEnd, KeepsLegs}
 use Rattle.tbtree.specs.Nodes.{pages_of_cache, LeafView, HasLeafRoom}
@@ -51,7 +51,7 @@ returns-clause-grows g c = λ fa.
     let can : LeafView LegView → Type 0 = λ leaf. TakesLegs tree.shape.leaf leaf legs in
     let faithful = still _ _ c.way.ensures.passes.store.faithful fa in
     let some : 0 < tree.shape.inner = let range = c.leaf-most.ensures.range.least_inner in omega (arith, range) in
-    let only = subst (λ most. HasLeafRoom mid c.in_ok-page.page (λ leaf. TakesLegs most leaf legs) → IfErr c.grow.result IsAllowed) c.leaf-most.ensures.value (c.grow.ensures.only faithful) in
+    let only = subst (λ most. HasLeafRoom mid c.in_ok-page.page (λ leaf. TakesLegs most leaf legs) → IfErr c.grow.result MayRefuseWrite) c.leaf-most.ensures.value (c.grow.ensures.only faithful) in
     grow_way leg_boxes lawful leg_feature tree.shape.inner tree.levels tree.root (pages_of_cache c.args.cache.now) mid (pages_of_cache c.grow.new.cache) c.args.number c.in_ok-page.page c.args.last legs
     can c.cover_of_legs-bounds.result some c.cover_of_legs-bounds.ensures (c.in_ok-page.ensures.way fa) c.grow.result (c.grow.ensures.pushes faithful) only
 

@@ -9,14 +9,14 @@ use Rattle.tbtree.specs.Nodes.{pages_of_cache}
 use Rattle.tbtree.specs.Shape.{IsShape}
 use Rattle.tbtree.specs.declared.tree.Place.{Place}
 use Rattle.tbtree.specs.declared.tree.TbTree.{TbTree}
-use Rattle.boxsearch.specs.Answers.{answered, of_search}
+use Rattle.boxsearch.specs.Answers.{answered, of_tree}
 use Rattle.boxsearch.specs.Beside.{with_cache}
-use Rattle.boxsearch.specs.Faults.{IsAllowed, IsCaused}
+use Rattle.tbtree.specs.Faults.{MayRefuseRead, Names, RefusesRead}
 use Rattle.boxsearch.specs.Index.{IndexView, words, content, IsSound, SaysState}
-use Rattle.boxsearch.proofs.AnswerLemmas.{each_fault, each_value, search_allowed}
+use Rattle.boxsearch.proofs.AnswerLemmas.{each_fault, each_value, read_allowed}
 use Rattle.boxsearch.proofs.IndexLemmas.{reads_leave}
 use Rattle.treecheck.specs.Checking.{Agree, AreTracksOf}
-use Rattle.treecheck.specs.Naming.{IsFirstDamaged, IsFirstMalformed, Names}
+use Rattle.treecheck.specs.Naming.{IsFirstDamaged, IsFirstMalformed}
 use Rattle.treecheck.proofs.NamingLemmas.{either_named}
 use Rattle.treecheck.proofs.SoundLemmas.{TreeLaws, ended, sound, tracks_are, agrees, few, held, passed}
 use Rattle.treecheck.proofs.WalkedLemmas.{same_pages}
@@ -44,9 +44,9 @@ returns-clause-sound g c =
     let laws : TreeLaws = record { content = c.laws.ensures.content; lawful = c.laws.ensures.lawful } in
     let value : places ≡ index.places = c.as_slice.ensures.value ∙ c.take_places-places.ensures.taken in
     let works : index.tree.spent ≡ false = sym (ap (λ (v : TbTree). v.spent) c.tree.ensures) ∙ c.if-tree.false in
-    subst (λ (v : IndexView). OnOk c.checked.result (IsTrue index.cache.store.is_faithful → IsSound v)) (sym ends)
-    (subst (λ r. OnOk r (IsTrue index.cache.store.is_faithful → IsSound new)) (sym c.checked.ensures)
-    (each_value (λ fault. of_search fault) (λ _. IsTrue index.cache.store.is_faithful → IsSound new) given.result
+    subst (λ (v : IndexView). OnOk c.answer.result (IsTrue index.cache.store.is_faithful → IsSound v)) (sym ends)
+    (subst (λ r. OnOk r (IsTrue index.cache.store.is_faithful → IsSound new)) (sym c.answer.ensures)
+    (each_value (λ fault. of_tree fault) (λ _. IsTrue index.cache.store.is_faithful → IsSound new) given.result
     (passed given.result (IsTrue index.cache.store.is_faithful) (IsChecked (pages_of_cache index.cache) index.tree rows index.legs places tracks.tracks) (Agree tracks rows index.legs) (index.cache.count ≡ index.cache.store.count) (IsSound new)
     (subst (λ (v : IndexView). IsTrue v.cache.store.is_faithful → OnOk given.result (IsChecked (pages_of_cache v.cache) v.tree rows v.legs places tracks.tracks)) rest given.ensures.checked)
     (subst (λ (v : IndexView). OnOk given.result (Agree tracks rows v.legs)) rest given.ensures.agree)
@@ -73,9 +73,9 @@ returns-clause-tracks g c =
     let laws : TreeLaws = record { content = c.laws.ensures.content; lawful = c.laws.ensures.lawful } in
     let value : places ≡ index.places = c.as_slice.ensures.value ∙ c.take_places-places.ensures.taken in
     let works : index.tree.spent ≡ false = sym (ap (λ (v : TbTree). v.spent) c.tree.ensures) ∙ c.if-tree.false in
-    subst (λ (v : IndexView). OnOk c.checked.result (IsTrue index.cache.store.is_faithful → AreTracksOf tracks rows (content v))) (sym ends)
-    (subst (λ r. OnOk r (IsTrue index.cache.store.is_faithful → AreTracksOf tracks rows (content new))) (sym c.checked.ensures)
-    (each_value (λ fault. of_search fault) (λ _. IsTrue index.cache.store.is_faithful → AreTracksOf tracks rows (content new)) given.result
+    subst (λ (v : IndexView). OnOk c.answer.result (IsTrue index.cache.store.is_faithful → AreTracksOf tracks rows (content v))) (sym ends)
+    (subst (λ r. OnOk r (IsTrue index.cache.store.is_faithful → AreTracksOf tracks rows (content new))) (sym c.answer.ensures)
+    (each_value (λ fault. of_tree fault) (λ _. IsTrue index.cache.store.is_faithful → AreTracksOf tracks rows (content new)) given.result
     (passed given.result (IsTrue index.cache.store.is_faithful) (IsChecked (pages_of_cache index.cache) index.tree rows index.legs places tracks.tracks) (Agree tracks rows index.legs) (index.cache.count ≡ index.cache.store.count) (AreTracksOf tracks rows (content new))
     (subst (λ (v : IndexView). IsTrue v.cache.store.is_faithful → OnOk given.result (IsChecked (pages_of_cache v.cache) v.tree rows v.legs places tracks.tracks)) rest given.ensures.checked)
     (subst (λ (v : IndexView). OnOk given.result (Agree tracks rows v.legs)) rest given.ensures.agree)
@@ -99,9 +99,9 @@ returns-clause-only g c = λ s a says.
     let back : index.places ≡ places = sym (c.as_slice.ensures.value ∙ c.take_places-places.ensures.taken) in
     let k = c.laws-2.ensures.held (pages_of_cache index.cache) index.tree rows index.legs index.places tracks.tracks s.shape (held laws index tracks rows s a) in
     let allowed = subst (λ (v : IndexView). IsTrue v.cache.store.is_faithful → v.cache.count ≡ v.cache.store.count → SaysState c.args.begun (payload_of v.cache 0)
-    → length places < 4294967296 → Agree tracks rows v.legs → IsChecked (pages_of_cache v.cache) v.tree rows v.legs places tracks.tracks → IfErr given.result IsAllowed) rest given.ensures.only in
-    subst (λ r. IfErr r MayRefuse) (sym c.checked.ensures)
-    (each_fault (λ fault. of_search fault) IsAllowed MayRefuse (λ x h. search_allowed x h) given.result
+    → length places < 4294967296 → Agree tracks rows v.legs → IsChecked (pages_of_cache v.cache) v.tree rows v.legs places tracks.tracks → IfErr given.result MayRefuseRead) rest given.ensures.only in
+    subst (λ r. IfErr r MayRefuse) (sym c.answer.ensures)
+    (each_fault (λ fault. of_tree fault) MayRefuseRead MayRefuse (λ x h. read_allowed x h) given.result
     (allowed s.faithful s.count says (subst (λ (places : List Place). length places < 4294967296) back (few laws index tracks rows s a)) (agrees laws index tracks rows s a)
     (subst (λ places. IsChecked (pages_of_cache index.cache) index.tree rows index.legs places tracks.tracks) back k)))
 
@@ -127,9 +127,9 @@ returns-clause-named g c = λ fa n e.
     let rows = c.args.rows in
     let places : List Place = c.as_slice.result.now in
     let value : places ≡ index.places = c.as_slice.ensures.value ∙ c.take_places-places.ensures.taken in
-    let said : IsErrOf (answered (λ fault. of_search fault) given.result) (Damaged n) = sym c.checked.ensures ∙ e in
+    let said : IsErrOf (answered (λ fault. of_tree fault) given.result) (Damaged n) = sym c.answer.ensures ∙ e in
     either_named index.cache left.cache (λ n. IsFirstDamaged index.cache n) (λ n. IsFirstMalformed begun index.tree rows index.legs index.places tracks index.cache n) given.result
-    (subst (λ (v : IndexView). IfErr given.result (IsCaused v.cache left.cache)) rest given.ensures.caused)
+    (subst (λ (v : IndexView). IfErr given.result (RefusesRead v.cache left.cache)) rest given.ensures.caused)
     (subst (λ places. IfErr given.result (Names (IsFirstDamaged index.cache) (IsFirstMalformed begun index.tree rows index.legs places tracks index.cache))) value
     (subst (λ (v : IndexView). IsTrue v.cache.store.is_faithful → IfErr given.result (Names (IsFirstDamaged v.cache) (IsFirstMalformed begun v.tree rows v.legs places tracks v.cache))) rest given.ensures.named fa)) n said
 
@@ -143,8 +143,8 @@ returns-clause-whole g c =
     let places : List Place = c.as_slice.result.now in
     let value : places ≡ index.places = c.as_slice.ensures.value ∙ c.take_places-places.ensures.taken in
     let whole : List Place → Type 0 = λ places. IsChecked (pages_of_cache index.cache) index.tree rows index.legs places tracks.tracks in
-    subst (λ r. OnOk r (IsTrue index.cache.store.is_faithful → whole index.places)) (sym c.checked.ensures)
-    (each_value (λ fault. of_search fault) (λ _. IsTrue index.cache.store.is_faithful → whole index.places) given.result
+    subst (λ r. OnOk r (IsTrue index.cache.store.is_faithful → whole index.places)) (sym c.answer.ensures)
+    (each_value (λ fault. of_tree fault) (λ _. IsTrue index.cache.store.is_faithful → whole index.places) given.result
     (passed given.result (IsTrue index.cache.store.is_faithful) (whole places) (Agree tracks rows index.legs) (index.cache.count ≡ index.cache.store.count) (whole index.places)
     (subst (λ (v : IndexView). IsTrue v.cache.store.is_faithful → OnOk given.result (IsChecked (pages_of_cache v.cache) v.tree rows v.legs places tracks.tracks)) rest given.ensures.checked)
     (subst (λ (v : IndexView). OnOk given.result (Agree tracks rows v.legs)) rest given.ensures.agree)

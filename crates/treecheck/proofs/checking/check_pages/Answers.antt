@@ -13,13 +13,15 @@ use Rattle.treecheck.specs.Levels.{StandsOver, pages_of_leaves}
 use Rattle.treecheck.specs.Walking.{IsMet, Surveys}
 use Rattle.treecheck.specs.Ordering.{NameLast}
 use Rattle.treecheck.specs.declared.walking.Met.{Met}
-use Rattle.boxsearch.proofs.ReadLemmas.{caused_after, reads_trans}
-use Rattle.boxsearch.specs.declared.fault.SearchFault.TheVariants.{Malformed}
-use Rattle.treecheck.specs.Naming.{HoldLeaves, HoldList, IfMalformed, IsFirstDamaged, IsFirstMalformed, IsMiscounted, IsOrder}
+use Rattle.chains.proofs.ReadLemmas.{caused_after, reads_trans}
+use Rattle.tbtree.specs.Faults.{IfMalformed}
+use Rattle.tbtree.specs.declared.fault.TreeFault.TheVariants.{Malformed}
+use Rattle.tbtree.proofs.FaultLemmas.{names_then}
+use Rattle.treecheck.specs.Naming.{HoldLeaves, HoldList, IsFirstDamaged, IsFirstMalformed, IsMiscounted, IsOrder}
 use Rattle.treecheck.specs.Descent.{DescentStopsAt}
 use Rattle.std.proofs.Common.{ℕ, List, ◌≡◌}
 use Rattle.treecheck.specs.Stopping.{AllStopAt}
-use Rattle.treecheck.proofs.NamingLemmas.{has_payload, later_named, miscounted, names_map, state_named, tree_later, walk_later, zero_later}
+use Rattle.treecheck.proofs.NamingLemmas.{has_payload, later_named, miscounted, state_named, tree_later, walk_later, zero_later}
 use Rattle.treecheck.proofs.WalkedLemmas.{same_pages}
 use Rattle.treecheck.proofs.CheckingLemmas.{checked, list_of, list_whole, order_same, order_strict, are_met, within, whole, strict, over, last}
 use Rattle.treecheck.proofs.checking.check_pages.Goals as goal
@@ -135,7 +137,7 @@ pub returns-in_err-read_pages-clause-named : goal.returns-in_err-read_pages-clau
 returns-in_err-read_pages-clause-named g c = λ fa.
     let p = err_from_is_err_and c.from_residual.result c.from_residual.ensures.1 in
     let old = c.args.cache.now in
-    rw (p.1, p.2) (names_map (IsFirstDamaged old) (IsMiscounted old) (IsFirstMalformed c.args.begun c.args.tree.now c.args.rows c.args.legs c.args.places.now c.args.tracks.now old)
+    rw (p.1, p.2) (names_then (IsFirstDamaged old) (IsMiscounted old) (IsFirstDamaged old) (IsFirstMalformed c.args.begun c.args.tree.now c.args.rows c.args.legs c.args.places.now c.args.tracks.now old) (λ n d. d)
     (miscounted c.args.begun c.args.tree.now c.args.rows c.args.legs c.args.places.now c.args.tracks.now old) c.in_err-read_pages.field-0.0 (c.in_err-read_pages.ensures.named fa))
 
 pub returns-in_err-check_state-clause-named : goal.returns-in_err-check_state-clause-named

@@ -1,4 +1,4 @@
-use Rattle.boxsearch.proofs.ReadLemmas.{reads_trans}
+use Rattle.chains.proofs.ReadLemmas.{reads_trans}
 use Rattle.treecheck.proofs.checking.read_pages.Goals as goal
 
 pub returns-in_err-read_page-clause-reads : goal.returns-in_err-read_page-clause-reads

@@ -3,11 +3,11 @@ use Rattle.std.proofs.lemmas.Bool.{cases_lt}
 use Rattle.std.proofs.lemmas.Result.{err_from_is_err_and}
 use Rattle.std.specs.List.{flat_map}
 use Rattle.tbtree.specs.Nodes.{pages_of_cache}
-use Rattle.boxsearch.proofs.ReadLemmas.{reads_trans}
+use Rattle.chains.proofs.ReadLemmas.{reads_trans}
 use Rattle.treecheck.proofs.WalkedLemmas.{same_pages}
 use Rattle.treecheck.specs.Descent.{IsFirstWithout, IsHighestWithout}
-use Rattle.treecheck.specs.Naming.{IfMalformed}
-use Rattle.treecheck.proofs.StoppingLemmas.{malformed_map}
+use Rattle.tbtree.specs.Faults.{IfMalformed}
+use Rattle.tbtree.proofs.FaultLemmas.{malformed_then}
 use Rattle.treecheck.proofs.SpanLemmas.{span_down, width_above, level_is, level_from, level_stops}
 use Rattle.treecheck.specs.Levels.{named_by, named_below, AllStandAbove, IsInBlock, IsInLevel}
 use Rattle.treecheck.proofs.levels.check_levels.Goals as goal
@@ -72,7 +72,7 @@ returns-in_err-pages-clause-stops g c = λ fa.
     let n : level + suc k ≡ c.args.height = omega (arith, c.loop-level-test.true) in
     let fault = c.in_err-pages.field-0.0 in
     let from = IsFirstWithout (IsInBlock nodes (c.args.height - level) (c.loop-level.span / c.args.inner) c.loop-level.span c.args.leaves.now) c.deref.result.now in
-    rw (p.1, p.2) (malformed_map from (IsHighestWithout (IsInLevel nodes c.args.inner c.args.leaves.now) (named_below nodes c.args.root) c.args.height)
+    rw (p.1, p.2) (malformed_then from (IsHighestWithout (IsInLevel nodes c.args.inner c.args.leaves.now) (named_below nodes c.args.root) c.args.height)
     (λ page s. record {
       above = level;
       below = k;

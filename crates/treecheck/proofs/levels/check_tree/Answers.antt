@@ -6,7 +6,7 @@ use Rattle.treecheck.specs.declared.walking.Met.{Met}
 use Rattle.std.proofs.lemmas.List.{length-map}
 use Rattle.std.specs.Prelude.{IfErr}
 use Rattle.treecheck.specs.Descent.{DescentStopsAt, FitsLeaves, IsHighestWithout}
-use Rattle.treecheck.specs.Naming.{IfMalformed}
+use Rattle.tbtree.specs.Faults.{IfMalformed}
 use Rattle.treecheck.proofs.StoppingLemmas.{refused_map}
 use Rattle.treecheck.proofs.DescentLemmas.{fit_stops, unfit_stops}
 use Rattle.treecheck.proofs.LevelsLemmas.{first_leaf}

@@ -6,7 +6,7 @@ use Rattle.std.proofs.lemmas.List.{take_all}
 use Rattle.std.specs.List.{flat_map}
 use Rattle.legs.specs.Blocks.{block}
 use Rattle.tbtree.specs.Nodes.{pages_of_cache}
-use Rattle.boxsearch.proofs.ReadLemmas.{reads_trans}
+use Rattle.chains.proofs.ReadLemmas.{reads_trans}
 use Rattle.boxsearch.proofs.PushLemmas.{some_same}
 use Rattle.boxsearch.proofs.SameLemmas.{flat_more}
 use Rattle.treecheck.proofs.WalkedLemmas.{same_pages}
@@ -15,9 +15,9 @@ use Rattle.legs.specs.Boxes.{BoxView}
 use Rattle.legs.specs.Legs.{LegView}
 use Rattle.tbtree.specs.Nodes.{Pages}
 use Rattle.treecheck.specs.Descent.{IsFirstWithout}
-use Rattle.treecheck.specs.Naming.{IfMalformed}
+use Rattle.tbtree.specs.Faults.{IfMalformed}
+use Rattle.tbtree.proofs.FaultLemmas.{malformed_then}
 use Rattle.treecheck.specs.declared.walking.Met.{Met}
-use Rattle.treecheck.proofs.StoppingLemmas.{malformed_map}
 use Rattle.treecheck.specs.Levels.{named_by, IsInBlock, StandsAbove}
 use Rattle.treecheck.proofs.levels.level_below.Goals as goal
 
@@ -87,7 +87,7 @@ returns-in_err-take_page-clause-stops g c = λ fa.
     let fault = c.in_err-take_page.field-0.0 in
     let block_is = c.block-under.ensures in
     let stops : List Met → Pages LegView BoxView → ℕ → Type 0 = λ under nodes n. (n ≡ page) × (StandsAbove nodes c.args.level c.args.width under page → ⊥) in
-    rw (p.1, p.2) (malformed_map (stops (block c.args.span i c.args.leaves.now) (pages_of_cache old)) (IsFirstWithout (IsInBlock (pages_of_cache old) c.args.level c.args.width c.args.span c.args.leaves.now) c.args.pages.now)
+    rw (p.1, p.2) (malformed_then (stops (block c.args.span i c.args.leaves.now) (pages_of_cache old)) (IsFirstWithout (IsInBlock (pages_of_cache old) c.args.level c.args.width c.args.span c.args.leaves.now) c.args.pages.now)
     (λ n s. record { place = i; is = at ∙ ap Some (sym s.0); before = inv.above fa; fails = λ k. s.1 (subst (λ q. StandsAbove (pages_of_cache old) c.args.level c.args.width (block c.args.span i c.args.leaves.now) q) s.0 k) }) fault
     (subst (λ under. IfMalformed (stops under (pages_of_cache old)) fault) block_is
     (subst (λ nodes. IfMalformed (stops c.block-under.result.now nodes) fault) same (c.in_err-take_page.ensures.stops (inv.reads.store.faithful ∙ fa)))))

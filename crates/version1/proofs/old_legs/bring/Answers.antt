@@ -124,7 +124,7 @@ returns-in_err-put_behind-clause-store g c = λ e.
 pub returns-in-Err-clause-store : goal.returns-in-Err-clause-store
 returns-in-Err-clause-store g c = λ e.
     inl (risen_after (g.S.PageStore.seen c.args.old.now).faults (g.S.PageStore.seen c.legs.old).faults (g.S.PageStore.seen c.open_next.new.store).faults c.legs.invariant.stays.keeps.faults
-    (store_failed (g.S.PageStore.seen c.legs.old) (g.S.PageStore.seen c.open_next.new.store) c.in-Err.fault c.in-Err.ensures.caused (sym c.of_search.ensures ∙ same_err c.of_search.result Store e)))
+    (store_failed (g.S.PageStore.seen c.legs.old) (g.S.PageStore.seen c.open_next.new.store) c.in-Err.fault c.in-Err.ensures.caused (sym c.of_tree.ensures ∙ same_err c.of_tree.result Store e)))
 
 pub returns-in-Err-clause-only : goal.returns-in-Err-clause-only
 returns-in-Err-clause-only g c = λ fa sound empty list have each numbered.
@@ -132,7 +132,7 @@ returns-in-Err-clause-only g c = λ fa sound empty list have each numbered.
     let now = g.S.PageStore.seen c.legs.old in
     let inv = c.legs.invariant in
     let same = same_by old_node_of (fresh first 1) (fresh now 1) (reads_stays first now inv.stays) fa in
-    subst MayRefuseLeg (sym c.of_search.ensures)
+    subst MayRefuseLeg (sym c.of_tree.ensures)
     (allowed_leg c.in-Err.fault (c.in-Err.ensures.only (inv.stays.keeps.faithful ∙ fa) (subst (λ nodes. AreReadable nodes c.args.leaves.now) (sym same) each.readable)))
 
 pub returns-in_default-clause-only : goal.returns-in_default-clause-only
@@ -164,7 +164,7 @@ returns-in_err-put_behind-clause-only g c =
     c.in_err-put_behind.ensures.only (next_waits g.I.Listed c.args.index.now c.legs.index c.legs.opened.entries c.open_next.new.opened.entries c.legs.waiting.items n c.args.legs list b numbered stand c.in-Some.leg at))
 
 pub returns-in-Err-clause-works : goal.returns-in-Err-clause-works
-returns-in-Err-clause-works g c = λ fa sound empty list have numbered e. works_leg c.in-Err.fault c.in-Err.ensures.works (sym c.of_search.ensures ∙ e)
+returns-in-Err-clause-works g c = λ fa sound empty list have numbered e. works_leg _ _ c.in-Err.fault c.in-Err.ensures.caused (sym c.of_tree.ensures ∙ e)
 
 pub returns-in_default-clause-works : goal.returns-in_default-clause-works
 returns-in_default-clause-works g c = λ fa sound empty list have numbered. damaged_works 0

@@ -2,7 +2,7 @@ use Rattle.std.proofs.Common.{◌<◌, ◌∙◌, sym, ap, arith, subst}
 use Rattle.pages.specs.Unsealed.{unsealed}
 use Rattle.pages.specs.declared.payload.PageFault.TheVariants.{Damaged}
 use Rattle.pagecache.specs.Cache.{fresh}
-use Rattle.boxsearch.specs.Faults.{IsCaused}
+use Rattle.tbtree.specs.Faults.{RefusesRead}
 use Rattle.version1.specs.OldLegs.{unsealing}
 use Rattle.version1.proofs.OldLemmas.{payload_read, ok_some, ok_none}
 use Rattle.version1.proofs.old_legs.read_payload.Goals as goal
@@ -22,5 +22,5 @@ pub returns-in-Err-unseal-clause-caused : goal.returns-in-Err-unseal-clause-caus
 returns-in-Err-unseal-clause-caused g c =
     let below : c.args.page < (g.S.PageStore.seen c.args.store.now).count = omega (arith, c.if-page-len.false, c.len.ensures) in
     let n = ok_none (unsealed c.args.page c.read.new.page) (Damaged c.args.page) c.in-Err-unseal.fault (sym c.unseal.ensures.value ∙ c.in-Err-unseal.is) in
-    subst (λ fault. IsCaused (fresh (g.S.PageStore.seen c.args.store.now) 1) (fresh (g.S.PageStore.seen c.read.new.self) 1) fault) (ap unsealing n.1 ∙ sym c.fault_of.ensures)
+    subst (λ fault. RefusesRead (fresh (g.S.PageStore.seen c.args.store.now) 1) (fresh (g.S.PageStore.seen c.read.new.self) 1) fault) (ap unsealing n.1 ∙ sym c.fault_of.ensures)
     (below, λ fa. payload_read (g.S.PageStore.seen c.args.store.now) c.args.page c.read.new.page below (c.in-Ok.ensures.read fa) ∙ n.0)

@@ -69,7 +69,7 @@ pub returns-in-Err-clause-only : goal.returns-in-Err-clause-only
 returns-in-Err-clause-only g c = λ fa sound empty agrees legs held.
     let first = g.S.PageStore.seen c.args.old.now in
     let there = subst (λ nodes. HoldChains nodes c.args.most c.args.rows c.args.tracks.now.legs c.args.places.now c.args.tracks.now.tracks legs) (sym (same_old first (g.met.S.PageStore.lawful c.args.old.now) fa)) held in
-    subst MayRefuseLeg (sym c.of_search.ensures) (allowed_leg c.in-Err.fault (c.in-Err.ensures.only fa agrees legs there))
+    subst MayRefuseLeg (sym c.of_tree.ensures) (allowed_leg c.in-Err.fault (c.in-Err.ensures.only fa agrees legs there))
 
 pub returns-clause-only : goal.returns-clause-only
 returns-clause-only g c = on_err c.bring.result (λ fault h fa sound empty agrees legs held.
@@ -96,7 +96,7 @@ returns-clause-only g c = on_err c.bring.result (λ fault h fa sound empty agree
     h (reads.store.faithful ∙ fa) sound empty list there each_there total_is) c.bring.ensures.only
 
 pub returns-in-Err-clause-works : goal.returns-in-Err-clause-works
-returns-in-Err-clause-works g c = λ fa sound empty e. works_leg c.in-Err.fault c.in-Err.ensures.works (sym c.of_search.ensures ∙ e)
+returns-in-Err-clause-works g c = λ fa sound empty e. works_leg _ _ c.in-Err.fault c.in-Err.ensures.caused (sym c.of_tree.ensures ∙ e)
 
 pub returns-clause-works : goal.returns-clause-works
 returns-clause-works g c = on_err c.bring.result (λ fault h fa sound empty.

@@ -16,7 +16,7 @@ returns-clause-added g c =
     let feature = ap (λ (l : LegView). l.feature) c.leg.view_is in
     let mid : c.make_place.new.self ≡ made c.args.self.now c.leg.inside.feature = from_ok c.make_place.result (sym c.is_err.ensures.value ∙ c.if-is_err.false) c.make_place.ensures.ok in
     let p : Puts (made c.args.self.now c.args.leg.feature) c.put.new.self c.args.leg c.put.result = subst (λ m. Puts m c.put.new.self c.args.leg c.put.result) (mid ∙ ap (made c.args.self.now) feature) c.put.ensures in
-    subst (λ r. OnOk r (IsSound c.args.self.now → CanFollowInTurn (content c.args.self.now) (c.args.leg ∷ []) → Ends words c.args.self.now c.put.new.self (c.args.leg ∷ []))) (sym c.insertion.ensures)
+    subst (λ r. OnOk r (IsSound c.args.self.now → CanFollowInTurn (content c.args.self.now) (c.args.leg ∷ []) → Ends words c.args.self.now c.put.new.self (c.args.leg ∷ []))) (sym c.answer.ensures)
     (added laws c.args.self.now c.put.new.self c.args.leg c.put.result p)
 
 pub returns-clause-asks : goal.returns-clause-asks
@@ -26,7 +26,7 @@ returns-clause-asks g c =
     let mid : c.make_place.new.self ≡ made c.args.self.now c.leg.inside.feature = from_ok c.make_place.result (sym c.is_err.ensures.value ∙ c.if-is_err.false) c.make_place.ensures.ok in
     let p : Puts (made c.args.self.now c.args.leg.feature) c.put.new.self c.args.leg c.put.result = subst (λ m. Puts m c.put.new.self c.args.leg c.put.result) (mid ∙ ap (made c.args.self.now) feature) c.put.ensures in
     let now = c.args.self.now in
-    subst (λ r. OnOk r (IsSound now → CanFollowInTurn (content now) (c.args.leg ∷ []) → RisesAtMost (min now.cache.asked (2 ^ 64 - 1)) (min c.put.new.self.cache.asked (2 ^ 64 - 1)) (add_bound (Some now.tree.shape) (content now ++ c.args.leg ∷ [])))) (sym c.insertion.ensures)
+    subst (λ r. OnOk r (IsSound now → CanFollowInTurn (content now) (c.args.leg ∷ []) → RisesAtMost (min now.cache.asked (2 ^ 64 - 1)) (min c.put.new.self.cache.asked (2 ^ 64 - 1)) (add_bound (Some now.tree.shape) (content now ++ c.args.leg ∷ [])))) (sym c.answer.ensures)
     (asked laws now c.put.new.self c.args.leg c.put.result p)
 
 pub returns-clause-refusals : goal.returns-clause-refusals
@@ -36,7 +36,7 @@ returns-clause-refusals g c =
     let mid : c.make_place.new.self ≡ made c.args.self.now c.leg.inside.feature = from_ok c.make_place.result (sym c.is_err.ensures.value ∙ c.if-is_err.false) c.make_place.ensures.ok in
     let p : Puts (made c.args.self.now c.args.leg.feature) c.put.new.self c.args.leg c.put.result = subst (λ m. Puts m c.put.new.self c.args.leg c.put.result) (mid ∙ ap (made c.args.self.now) feature) c.put.ensures in
     let works = sym (ap (λ (i : IndexView). i.tree.spent) c.self.view_is) ∙ c.if-self.false in
-    subst (λ r. LegRefusals words c.args.self.now c.put.new.self (c.args.leg ∷ []) r) (sym c.insertion.ensures)
+    subst (λ r. LegRefusals words c.args.self.now c.put.new.self (c.args.leg ∷ []) r) (sym c.answer.ensures)
     (refusals laws c.args.self.now c.put.new.self c.args.leg c.put.result works p)
 
 pub returns-clause-marked : goal.returns-clause-marked

@@ -8,7 +8,7 @@ use Rattle.legs.specs.Asking.{Denies, Leaves, Refusals}
 use Rattle.legs.specs.Questions.{OfFeature}
 use Rattle.legs.specs.Costs.{RisesBy, track_cost}
 use Rattle.legs.specs.Index.{legs_of}
-use Rattle.boxsearch.specs.Answers.{answered, of_chain}
+use Rattle.boxsearch.specs.Answers.{answered, of_tree}
 use Rattle.boxsearch.specs.Index.{IndexView, words, content, tells, IsSound}
 use Rattle.boxsearch.proofs.IndexLemmas.{reads_leave}
 use Rattle.boxsearch.proofs.KnownLemmas.{known_after, known_of, of_answer}
@@ -30,8 +30,8 @@ returns-clause-found g c =
     let inside : IndexView = record { cache = c.self.inside.cache; tree = c.self.inside.tree; places = c.self.inside.places.items; legs = c.self.inside.legs; known = map (λ spans. spans.items) c.self.inside.known.items } in
     let f = c.args.feature in
     let at : slice_get inside.places f ≡ Some c.in-Some.place = ap (λ (i : IndexView). slice_get i.places f) c.self.view_is ∙ sym c.place.ensures ∙ c.in-Some.is in
-    subst (λ i. IfOk c.retrieval.result (λ legs. IsSound i → legs.items ≡ legs_of f (content i))) c.self.view_is
-    (subst (λ r. IfOk r (λ legs. IsSound inside → legs.items ≡ legs_of f (content inside))) (sym c.retrieval.ensures)
+    subst (λ i. IfOk c.answer.result (λ legs. IsSound i → legs.items ≡ legs_of f (content i))) c.self.view_is
+    (subst (λ r. IfOk r (λ legs. IsSound inside → legs.items ≡ legs_of f (content inside))) (sym c.answer.ensures)
     (track_found inside f c.in-Some.place c.trajectory.new.cache c.trajectory.result at (λ legs feature v. v.items ≡ legs_of feature legs) c.trajectory.ensures.found))
 
 pub returns-clause-asks : goal.returns-clause-asks
@@ -40,9 +40,9 @@ returns-clause-asks g c =
     let f = c.args.feature in
     let new = c.trajectory.new.cache.asked in
     let at : slice_get inside.places f ≡ Some c.in-Some.place = ap (λ (i : IndexView). slice_get i.places f) c.self.view_is ∙ sym c.place.ensures ∙ c.in-Some.is in
-    subst (λ i. OnOk c.retrieval.result (IsSound i → RisesBy (min i.cache.asked (2 ^ 64 - 1)) (min new (2 ^ 64 - 1)) (track_cost f (Some i.tree.shape) (content i)))) c.self.view_is
-    (subst (λ r. OnOk r (IsSound inside → RisesBy (min inside.cache.asked (2 ^ 64 - 1)) (min new (2 ^ 64 - 1)) (track_cost f (Some inside.tree.shape) (content inside)))) (sym c.retrieval.ensures)
-    (on_ok (answered (λ fault. of_chain fault) c.trajectory.result) (λ rises s. rises_capped inside.cache.asked new (track_cost f (Some inside.tree.shape) (content inside)) (rises s))
+    subst (λ i. OnOk c.answer.result (IsSound i → RisesBy (min i.cache.asked (2 ^ 64 - 1)) (min new (2 ^ 64 - 1)) (track_cost f (Some i.tree.shape) (content i)))) c.self.view_is
+    (subst (λ r. OnOk r (IsSound inside → RisesBy (min inside.cache.asked (2 ^ 64 - 1)) (min new (2 ^ 64 - 1)) (track_cost f (Some inside.tree.shape) (content inside)))) (sym c.answer.ensures)
+    (on_ok (answered (λ fault. of_tree fault) c.trajectory.result) (λ rises s. rises_capped inside.cache.asked new (track_cost f (Some inside.tree.shape) (content inside)) (rises s))
     (track_asked inside f c.in-Some.place c.trajectory.new.cache c.trajectory.result at (λ legs feature. RisesBy inside.cache.asked new (track_cost feature (Some inside.tree.shape) legs)) c.trajectory.ensures.asked)))
 
 pub returns-clause-leaves : goal.returns-clause-leaves
@@ -57,8 +57,8 @@ returns-clause-refusals g c =
     let new : IndexView = record inside { cache = c.trajectory.new.cache; known = map (λ spans. spans.items) (set c.make_room.new.known.items c.args.feature c.trajectory.new.spans) } in
     let at : slice_get inside.places f ≡ Some c.in-Some.place = ap (λ (i : IndexView). slice_get i.places f) c.self.view_is ∙ sym c.place.ensures ∙ c.in-Some.is in
     let works : inside.tree.spent ≡ false = c.if-self.false in
-    subst (λ i. Refusals words i new c.retrieval.result) c.self.view_is
-    (subst (λ r. Refusals words inside new r) (sym c.retrieval.ensures)
+    subst (λ i. Refusals words i new c.answer.result) c.self.view_is
+    (subst (λ r. Refusals words inside new r) (sym c.answer.ensures)
     (track_refusals inside f c.in-Some.place c.trajectory.new.cache c.trajectory.result at (map (λ spans. spans.items) (set c.make_room.new.known.items c.args.feature c.trajectory.new.spans)) (λ legs feature v. v.items ≡ legs_of feature legs) works c.trajectory.ensures.found c.trajectory.ensures.caused))
 
 pub returns-in_default-clause-told : goal.returns-in_default-clause-told
@@ -69,8 +69,8 @@ returns-clause-told g c =
     let inside : IndexView = record { cache = c.self.inside.cache; tree = c.self.inside.tree; places = c.self.inside.places.items; legs = c.self.inside.legs; known = map (λ spans. spans.items) c.self.inside.known.items } in
     let f = c.args.feature in
     let at : slice_get inside.places f ≡ Some c.in-Some.place = ap (λ (i : IndexView). slice_get i.places f) c.self.view_is ∙ sym c.place.ensures ∙ c.in-Some.is in
-    subst (λ i. MatchResult c.retrieval.result (λ legs. tells i (OfFeature f None) legs.items) (λ fault. Denies words i (OfFeature f None) fault)) c.self.view_is
-    (subst (λ r. MatchResult r (λ legs. tells inside (OfFeature f None) legs.items) (λ fault. Denies words inside (OfFeature f None) fault)) (sym c.retrieval.ensures)
+    subst (λ i. MatchResult c.answer.result (λ legs. tells i (OfFeature f None) legs.items) (λ fault. Denies words i (OfFeature f None) fault)) c.self.view_is
+    (subst (λ r. MatchResult r (λ legs. tells inside (OfFeature f None) legs.items) (λ fault. Denies words inside (OfFeature f None) fault)) (sym c.answer.ensures)
     (track_told inside c.trajectory.new.cache f None c.in-Some.place at (λ legs. legs.items) c.trajectory.result c.trajectory.ensures.chain c.trajectory.ensures.legs c.trajectory.ensures.named c.trajectory.ensures.caused))
 
 pub trajectory-requires : goal.trajectory-requires
@@ -120,6 +120,6 @@ returns-clause-learns g c =
     let P = (start : ℤ) → KnowsBackTo new inside.tree.shape inside.places after f start in
     let Back : Option PeriodView → Type 0 = λ period. IsKnownBackTo (pages_of_cache inside.cache) period inside.tree.shape c.in-Some.place c.trajectory.new.spans.items in
     let back = ok_all c.trajectory.result (IsTrue inside.cache.store.is_faithful) (λ (period : Option PeriodView). Unit {0}) Back (λ fa period _. c.trajectory.ensures.recalls fa period) in
-    subst (λ r. OnOk r P) (sym c.retrieval.ensures)
-    (each_value (λ fault. of_chain fault) (λ _. P) c.trajectory.result
+    subst (λ r. OnOk r P) (sym c.answer.ensures)
+    (each_value (λ fault. of_tree fault) (λ _. P) c.trajectory.result
     (on_ok c.trajectory.result (λ (h : IsTrue inside.cache.store.is_faithful → (period : Option PeriodView) → Unit {0} → Back period) start. learned (λ v. v.items) inside.cache new inside.tree.shape inside.places c.self.inside.known.items c.make_room.new.known.items f c.trajectory.ensures.reads c.make_room.ensures.holds room c.index_mut-spans.result.now c.trajectory.new.spans c.index_mut-spans.ensures.value c.in-Some.place start at (λ fa period _. h fa (Some period) tt)) back))

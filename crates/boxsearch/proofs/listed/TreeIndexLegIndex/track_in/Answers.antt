@@ -10,7 +10,7 @@ use Rattle.legs.specs.Questions.{OfFeature}
 use Rattle.legs.specs.Costs.{RisesAtMost, known_bound, track_in_bound}
 use Rattle.legs.specs.Index.{live_legs_of}
 use Rattle.legs.specs.Legs.{is_live}
-use Rattle.boxsearch.specs.Answers.{answered, of_chain}
+use Rattle.boxsearch.specs.Answers.{answered, of_tree}
 use Rattle.boxsearch.specs.Index.{IndexView, words, content, IsSound}
 use Rattle.boxsearch.proofs.IndexLemmas.{reads_leave}
 use Rattle.boxsearch.proofs.KnownLemmas.{known_after, known_of, of_answer}
@@ -31,8 +31,8 @@ returns-clause-found g c =
     let inside : IndexView = record { cache = c.self.inside.cache; tree = c.self.inside.tree; places = c.self.inside.places.items; legs = c.self.inside.legs; known = map (λ spans. spans.items) c.self.inside.known.items } in
     let f = c.args.feature in
     let at : slice_get inside.places f ≡ Some c.in-Some.place = ap (λ (i : IndexView). slice_get i.places f) c.self.view_is ∙ sym c.place.ensures ∙ c.in-Some.is in
-    subst (λ i. IfOk c.retrieval.result (λ legs. IsSound i → IsSieved c.args.sieve.now c.args.period.now (live_legs_of f c.args.period.now (content i)) legs.items)) c.self.view_is
-    (subst (λ r. IfOk r (λ legs. IsSound inside → IsSieved c.args.sieve.now c.args.period.now (live_legs_of f c.args.period.now (content inside)) legs.items)) (sym c.retrieval.ensures)
+    subst (λ i. IfOk c.answer.result (λ legs. IsSound i → IsSieved c.args.sieve.now c.args.period.now (live_legs_of f c.args.period.now (content i)) legs.items)) c.self.view_is
+    (subst (λ r. IfOk r (λ legs. IsSound inside → IsSieved c.args.sieve.now c.args.period.now (live_legs_of f c.args.period.now (content inside)) legs.items)) (sym c.answer.ensures)
     (track_found inside f c.in-Some.place c.trajectory_in.new.cache c.trajectory_in.result at (λ legs feature v. IsSieved c.args.sieve.now c.args.period.now (live_legs_of feature c.args.period.now legs) v.items) c.trajectory_in.ensures.found))
 
 pub returns-clause-asks : goal.returns-clause-asks
@@ -41,9 +41,9 @@ returns-clause-asks g c =
     let f = c.args.feature in
     let new = c.trajectory_in.new.cache.asked in
     let at : slice_get inside.places f ≡ Some c.in-Some.place = ap (λ (i : IndexView). slice_get i.places f) c.self.view_is ∙ sym c.place.ensures ∙ c.in-Some.is in
-    subst (λ i. OnOk c.retrieval.result (IsSound i → RisesAtMost (min i.cache.asked (2 ^ 64 - 1)) (min new (2 ^ 64 - 1)) (track_in_bound f c.args.period.now (Some i.tree.shape) (content i)))) c.self.view_is
-    (subst (λ r. OnOk r (IsSound inside → RisesAtMost (min inside.cache.asked (2 ^ 64 - 1)) (min new (2 ^ 64 - 1)) (track_in_bound f c.args.period.now (Some inside.tree.shape) (content inside)))) (sym c.retrieval.ensures)
-    (on_ok (answered (λ fault. of_chain fault) c.trajectory_in.result) (λ rises s. rises_capped_most inside.cache.asked new (track_in_bound f c.args.period.now (Some inside.tree.shape) (content inside)) (rises s))
+    subst (λ i. OnOk c.answer.result (IsSound i → RisesAtMost (min i.cache.asked (2 ^ 64 - 1)) (min new (2 ^ 64 - 1)) (track_in_bound f c.args.period.now (Some i.tree.shape) (content i)))) c.self.view_is
+    (subst (λ r. OnOk r (IsSound inside → RisesAtMost (min inside.cache.asked (2 ^ 64 - 1)) (min new (2 ^ 64 - 1)) (track_in_bound f c.args.period.now (Some inside.tree.shape) (content inside)))) (sym c.answer.ensures)
+    (on_ok (answered (λ fault. of_tree fault) c.trajectory_in.result) (λ rises s. rises_capped_most inside.cache.asked new (track_in_bound f c.args.period.now (Some inside.tree.shape) (content inside)) (rises s))
     (track_asked inside f c.in-Some.place c.trajectory_in.new.cache c.trajectory_in.result at (λ legs feature. RisesAtMost inside.cache.asked new (track_in_bound feature c.args.period.now (Some inside.tree.shape) legs)) c.trajectory_in.ensures.asked)))
 
 pub returns-clause-leaves : goal.returns-clause-leaves
@@ -58,8 +58,8 @@ returns-clause-refusals g c =
     let new : IndexView = record inside { cache = c.trajectory_in.new.cache; known = map (λ spans. spans.items) (set c.make_room.new.known.items c.args.feature c.trajectory_in.new.spans) } in
     let at : slice_get inside.places f ≡ Some c.in-Some.place = ap (λ (i : IndexView). slice_get i.places f) c.self.view_is ∙ sym c.place.ensures ∙ c.in-Some.is in
     let works : inside.tree.spent ≡ false = c.if-self.false in
-    subst (λ i. Refusals words i new c.retrieval.result) c.self.view_is
-    (subst (λ r. Refusals words inside new r) (sym c.retrieval.ensures)
+    subst (λ i. Refusals words i new c.answer.result) c.self.view_is
+    (subst (λ r. Refusals words inside new r) (sym c.answer.ensures)
     (track_refusals inside f c.in-Some.place c.trajectory_in.new.cache c.trajectory_in.result at (map (λ spans. spans.items) (set c.make_room.new.known.items c.args.feature c.trajectory_in.new.spans)) (λ legs feature v. IsSieved c.args.sieve.now c.args.period.now (live_legs_of feature c.args.period.now legs) v.items) works c.trajectory_in.ensures.found c.trajectory_in.ensures.caused))
 
 pub returns-in_default-clause-told : goal.returns-in_default-clause-told
@@ -70,8 +70,8 @@ returns-clause-told g c =
     let inside : IndexView = record { cache = c.self.inside.cache; tree = c.self.inside.tree; places = c.self.inside.places.items; legs = c.self.inside.legs; known = map (λ spans. spans.items) c.self.inside.known.items } in
     let f = c.args.feature in
     let at : slice_get inside.places f ≡ Some c.in-Some.place = ap (λ (i : IndexView). slice_get i.places f) c.self.view_is ∙ sym c.place.ensures ∙ c.in-Some.is in
-    subst (λ i. MatchResult c.retrieval.result (λ legs. TellsSieved words i f c.args.period.now c.args.sieve.now legs.items) (λ fault. Denies words i (OfFeature f (Some c.args.period.now)) fault)) c.self.view_is
-    (subst (λ r. MatchResult r (λ legs. TellsSieved words inside f c.args.period.now c.args.sieve.now legs.items) (λ fault. Denies words inside (OfFeature f (Some c.args.period.now)) fault)) (sym c.retrieval.ensures)
+    subst (λ i. MatchResult c.answer.result (λ legs. TellsSieved words i f c.args.period.now c.args.sieve.now legs.items) (λ fault. Denies words i (OfFeature f (Some c.args.period.now)) fault)) c.self.view_is
+    (subst (λ r. MatchResult r (λ legs. TellsSieved words inside f c.args.period.now c.args.sieve.now legs.items) (λ fault. Denies words inside (OfFeature f (Some c.args.period.now)) fault)) (sym c.answer.ensures)
     (track_sieved inside c.trajectory_in.new.cache f c.args.period.now c.args.sieve.now c.in-Some.place at (λ legs. legs.items) c.trajectory_in.result c.trajectory_in.ensures.chain c.trajectory_in.ensures.legs c.trajectory_in.ensures.named c.trajectory_in.ensures.caused))
 
 pub trajectory_in-requires : goal.trajectory_in-requires
@@ -122,8 +122,8 @@ returns-clause-learns g c =
     let P = (start : ℤ) → from ≤ℤ start → KnowsBackTo new inside.tree.shape inside.places after f start in
     let Back : PeriodView → Type 0 = λ period. IsKnownBackTo (pages_of_cache inside.cache) (Some period) inside.tree.shape c.in-Some.place c.trajectory_in.new.spans.items in
     let back = ok_all c.trajectory_in.result (IsTrue inside.cache.store.is_faithful) (λ (period : PeriodView). from ≤ℤ period.start) Back c.trajectory_in.ensures.recalls in
-    subst (λ r. OnOk r P) (sym c.retrieval.ensures)
-    (each_value (λ fault. of_chain fault) (λ _. P) c.trajectory_in.result
+    subst (λ r. OnOk r P) (sym c.answer.ensures)
+    (each_value (λ fault. of_tree fault) (λ _. P) c.trajectory_in.result
     (on_ok c.trajectory_in.result (λ (h : IsTrue inside.cache.store.is_faithful → (period : PeriodView) → from ≤ℤ period.start → Back period) start le. learned (λ v. v.items) inside.cache new inside.tree.shape inside.places c.self.inside.known.items c.make_room.new.known.items f c.trajectory_in.ensures.reads c.make_room.ensures.holds room c.index_mut-spans.result.now c.trajectory_in.new.spans c.index_mut-spans.ensures.value c.in-Some.place start at (λ fa period starts. h fa period (le_then from start period.start le starts))) back))
 
 pub returns-clause-asks_known : goal.returns-clause-asks_known
@@ -137,9 +137,9 @@ returns-clause-asks_known g c =
     let period = c.args.period.now in
     let Knows : IndexView → Type 0 = λ i. KnowsBackTo i.cache i.tree.shape i.places i.known f period.start in
     let Rises : IndexView → Type 0 = λ i. RisesAtMost (min i.cache.asked (2 ^ 64 - 1)) (min new.asked (2 ^ 64 - 1)) (known_bound f period (Some i.tree.shape) (content i)) in
-    subst (λ i. OnOk c.retrieval.result (Knows i → IsSound i → Rises i)) c.self.view_is
-    (subst (λ r. OnOk r (Knows inside → IsSound inside → Rises inside)) (sym c.retrieval.ensures)
-    (each_value (λ fault. of_chain fault) (λ _. Knows inside → IsSound inside → Rises inside) c.trajectory_in.result
+    subst (λ i. OnOk c.answer.result (Knows i → IsSound i → Rises i)) c.self.view_is
+    (subst (λ r. OnOk r (Knows inside → IsSound inside → Rises inside)) (sym c.answer.ensures)
+    (each_value (λ fault. of_tree fault) (λ _. Knows inside → IsSound inside → Rises inside) c.trajectory_in.result
     (ok_two c.trajectory_in.result (Knows inside) (IsSound inside) (Rises inside)
     (λ knows s. on_ok c.trajectory_in.result (rises_capped_most inside.cache.asked new.asked (known_bound f period (Some inside.tree.shape) (content inside)))
     (c.trajectory_in.ensures.met s.faithful (content inside) f (has_feature inside f c.in-Some.place s at)

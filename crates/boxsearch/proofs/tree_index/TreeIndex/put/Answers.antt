@@ -26,7 +26,7 @@ returns-then-is_ok g c =
       passes = c.insert-result.ensures.passes;
       count = c.insert-result.ensures.length;
       few = let a = c.if-prove.false in let b = c.count.ensures.value in omega (arith, a, b);
-      caused = c.insert-result.ensures.caused;
+      caused = c.insert-result.ensures.caused works;
       asked = c.insert-result.ensures.asked;
       works = c.insert-result.ensures.works;
       spent = c.insert-result.ensures.spent;
@@ -53,7 +53,7 @@ returns-else-is_ok g c =
       passes = c.insert-result.ensures.passes;
       count = c.insert-result.ensures.length;
       few = let a = c.if-prove.false in let b = c.count.ensures.value in omega (arith, a, b);
-      caused = c.insert-result.ensures.caused;
+      caused = c.insert-result.ensures.caused works;
       asked = c.insert-result.ensures.asked;
       works = c.insert-result.ensures.works;
       spent = c.insert-result.ensures.spent;

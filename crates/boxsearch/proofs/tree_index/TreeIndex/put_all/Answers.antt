@@ -23,7 +23,7 @@ returns-then-is_ok g c =
       passes = c.insert_all-result.ensures.passes;
       count = c.insert_all-result.ensures.length;
       few = let a = c.if-prove.false in let b = c.count.ensures.value in omega (arith, a, b);
-      caused = c.insert_all-result.ensures.caused;
+      caused = c.insert_all-result.ensures.caused works;
       asked = c.insert_all-result.ensures.asked;
       more = c.insert_all-result.ensures.more;
       higher = c.insert_all-result.ensures.higher;
@@ -50,7 +50,7 @@ returns-else-is_ok g c =
       passes = c.insert_all-result.ensures.passes;
       count = c.insert_all-result.ensures.length;
       few = let a = c.if-prove.false in let b = c.count.ensures.value in omega (arith, a, b);
-      caused = c.insert_all-result.ensures.caused;
+      caused = c.insert_all-result.ensures.caused works;
       asked = c.insert_all-result.ensures.asked;
       more = c.insert_all-result.ensures.more;
       higher = c.insert_all-result.ensures.higher;
