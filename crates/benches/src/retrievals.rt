@@ -3,6 +3,7 @@ use crate::feed::{leg, places};
 use crate::words::Words;
 use anyhow::{Result, bail};
 use chains::{trajectory, trajectory_in};
+use legs::Sieve;
 use pagecache::PageCache;
 use pages::{Kind, MemStore};
 use std::alloc::Global;
@@ -43,16 +44,12 @@ fn given(
     place: &Place,
     period: &Option<Period>,
 ) -> Option<u64> {
+    let mut spans = Vec::new(alloc);
     let found = match period {
-        Some(period) => trajectory_in(
-            alloc,
-            cache,
-            shape,
-            place,
-            period,
-            &mut Vec::new(alloc),
-        ).ok()?,
-        None => trajectory(alloc, cache, shape, place, &mut Vec::new(alloc)).ok()?,
+        Some(period) => {
+            trajectory_in(alloc, cache, shape, place, period, &Sieve::All, &mut spans).ok()?
+        }
+        None => trajectory(alloc, cache, shape, place, &mut spans).ok()?,
     };
     Some(found.len() as u64)
 }

@@ -3,6 +3,7 @@ use anyhow::{Context, Result, bail};
 use std::env::Args;
 
 /// The words that are left.
+#[derive(Drop)]
 pub(crate) struct Words {
     words: Args,
 }
