@@ -103,7 +103,7 @@ module _ (begun : Bool) (tree : TbTree) (rows total : ℕ) (places : List Place)
   -- the walk names the page at which it stops
   pub walk_later : (fault : TreeFault) → IfMalformed (AllStopAt nodes tree.shape.leaf rows places tracks.tracks) fault
       → (length places < 4294967296 → HoldLeaves old tree rows places tracks → MayRefuseRead fault) → IfMalformed IsLater fault
-  walk_later (OfCache fault) s o = tt
+  walk_later (OfCache fault) s o = s
   walk_later (Malformed n) s o = record {
     walk = λ _. s;
     list = λ h _. s.unpaired (λ both. o both.few h);
@@ -124,7 +124,7 @@ module _ (begun : Bool) (tree : TbTree) (rows total : ℕ) (places : List Place)
   -- and the page at which the way down the tree stops
   pub tree_later : HoldLeaves old tree rows places tracks → Holds → (leaves : List ℕ) → ((order : List ℕ) → Orders order → leaves ≡ order)
       → (fault : TreeFault) → IfMalformed (DescentStopsAt nodes tree leaves) fault → ((pages : ℕ → List ℕ) → IsOver nodes tree leaves pages → MayRefuseRead fault) → IfMalformed IsLater fault
-  tree_later h k leaves is (OfCache fault) s o = tt
+  tree_later h k leaves is (OfCache fault) s o = s
   tree_later h k leaves is (Malformed n) s o = record {
     walk = λ none. absurd (none h);
     list = λ _ apart. absurd (apart k);

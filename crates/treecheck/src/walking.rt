@@ -191,7 +191,7 @@ pub trait LeafReader {
     ghost use Rattle.tbtree.specs.Turn.{ComeInTurn};
     ghost use Rattle.tbtree.specs.Descent.{legs_in};
     ghost use Rattle.treecheck.specs.Walking.{pages_by, Strays, TakesLeaf};
-    
+
     /// What they are read from.
     type Source;
 

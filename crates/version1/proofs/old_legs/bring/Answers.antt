@@ -164,7 +164,7 @@ returns-in_err-put_behind-clause-only g c =
     c.in_err-put_behind.ensures.only (next_waits g.I.Listed c.args.index.now c.legs.index c.legs.opened.entries c.open_next.new.opened.entries c.legs.waiting.items n c.args.legs list b numbered stand c.in-Some.leg at))
 
 pub returns-in-Err-clause-works : goal.returns-in-Err-clause-works
-returns-in-Err-clause-works g c = λ fa sound empty list have numbered e. works_leg _ _ c.in-Err.fault c.in-Err.ensures.caused (sym c.of_tree.ensures ∙ e)
+returns-in-Err-clause-works g c = λ fa sound empty list have numbered e. works_leg (fresh (g.S.PageStore.seen c.legs.old) 1) (fresh (g.S.PageStore.seen c.open_next.new.store) 1) c.in-Err.fault c.in-Err.ensures.caused (sym c.of_tree.ensures ∙ e)
 
 pub returns-in_default-clause-works : goal.returns-in_default-clause-works
 returns-in_default-clause-works g c = λ fa sound empty list have numbered. damaged_works 0

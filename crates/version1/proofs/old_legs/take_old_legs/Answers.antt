@@ -96,7 +96,7 @@ returns-clause-only g c = on_err c.bring.result (λ fault h fa sound empty agree
     h (reads.store.faithful ∙ fa) sound empty list there each_there total_is) c.bring.ensures.only
 
 pub returns-in-Err-clause-works : goal.returns-in-Err-clause-works
-returns-in-Err-clause-works g c = λ fa sound empty e. works_leg _ _ c.in-Err.fault c.in-Err.ensures.caused (sym c.of_tree.ensures ∙ e)
+returns-in-Err-clause-works g c = λ fa sound empty e. works_leg (fresh (g.S.PageStore.seen c.args.old.now) 1) (fresh (g.S.PageStore.seen c.survey_leaves.new.store) 1) c.in-Err.fault c.in-Err.ensures.caused (sym c.of_tree.ensures ∙ e)
 
 pub returns-clause-works : goal.returns-clause-works
 returns-clause-works g c = on_err c.bring.result (λ fault h fa sound empty.
