@@ -167,14 +167,14 @@ pub the_error : {T E : Type 0} (P : E → Type 0) (r : Result T E) (e : E) → r
 the_error P r e is h = subst (λ r. IfErr r P) is h
 
 -- a page that is broken has no payload, or one of another form
-pub page_broken : (at : ℕ → Option Payload) (payload : Payload) (old : ReaderView) (e : CatalogueFault) → IsPageFault payload old e → BreaksAt at e → is_part (min most_used old.left) payload ≡ false
-page_broken at payload old Memory h b = absurd b
-page_broken at payload old Store h b = absurd b
-page_broken at payload old StoreFull h b = absurd b
-page_broken at payload old (Damaged n) h b = absurd h
-page_broken at payload old Unfinished h b = absurd b
-page_broken at payload old Version h b = absurd b
-page_broken at payload old Malformed h b = h
+pub page_broken : (payload : Payload) (old : ReaderView) (e : CatalogueFault) → IsPageFault payload old e → IsBroken e → is_part (min most_used old.left) payload ≡ false
+page_broken payload old Memory h b = absurd b
+page_broken payload old Store h b = absurd b
+page_broken payload old StoreFull h b = absurd b
+page_broken payload old (Damaged n) h b = absurd h
+page_broken payload old Unfinished h b = absurd b
+page_broken payload old Version h b = absurd b
+page_broken payload old Malformed h b = h
 
 pub refused_none : (at : ℕ → Option Payload) (n : ℕ) (a b : Cache) (e : CacheFault) → IsRefused n e a b → BreaksAt at (fault_of e) → MayBe a at → at n ≡ None
 refused_none at n a b cache.NoPage h k may = may.mended.above n h.0 ∙ h.1 may.faithful
@@ -327,15 +327,25 @@ page_read payload a b r Unfinished h = absurd h
 page_read payload a b r Version h = absurd h
 page_read payload a b r Malformed h = tt
 
--- what is broken in a text is none of a page
-pub broken_text : (at : ℕ → Option Payload) (e : CatalogueFault) → IsTextFault e → BreaksAt at e → IsBroken e
-broken_text at Memory h b = b
-broken_text at Store h b = b
-broken_text at StoreFull h b = b
-broken_text at (Damaged n) h b = tt
-broken_text at Unfinished h b = b
-broken_text at Version h b = b
-broken_text at Malformed h b = tt
+-- what breaks at pages that may be is broken
+pub is_broken : (at : ℕ → Option Payload) (e : CatalogueFault) → BreaksAt at e → IsBroken e
+is_broken at Memory b = b
+is_broken at Store b = b
+is_broken at StoreFull b = b
+is_broken at (Damaged n) b = tt
+is_broken at Unfinished b = b
+is_broken at Version b = b
+is_broken at Malformed b = b
+
+-- and what is broken breaks at the pages as they are
+pub breaks_here : (a b : Cache) (r : ReaderView) (e : CatalogueFault) → OnlyReads a b → IsTrue a.store.is_faithful → IsReaderFault a b r e → IsBroken e → BreaksAt (payload_of a) e
+breaks_here a b r Memory reads f h k = k
+breaks_here a b r Store reads f h k = k
+breaks_here a b r StoreFull reads f h k = k
+breaks_here a b r (Damaged n) reads f h k = sym (reads.payloads f n) ∙ h.0.1 (reads.store.faithful ∙ f)
+breaks_here a b r Unfinished reads f h k = k
+breaks_here a b r Version reads f h k = k
+breaks_here a b r Malformed reads f h k = k
 
 -- what a reader's fault says of the caches alone
 pub read_fault : (a b : Cache) (r : ReaderView) (e : CatalogueFault) → IsReaderFault a b r e → IsReadFault a b e

@@ -1,5 +1,4 @@
-use Rattle.std.proofs.Common.{ℕ, subst, List, Option, Result, Ok, Err}
-use Rattle.std.specs.Prelude.{IfErr}
+use Rattle.std.proofs.Common.{ℕ, subst, List, Option}
 use Rattle.std.proofs.lemmas.Result.{err_from_is_err_and}
 use Rattle.pages.specs.declared.payload.Payload.{Payload}
 use Rattle.tbtree.specs.declared.tree.Place.{Place}
@@ -9,7 +8,7 @@ use Rattle.register.specs.Lasting.{IsWithin}
 use Rattle.register.specs.Restoring.{IsRest}
 use Rattle.register.specs.Saved.{CatalogueView}
 use Rattle.register.proofs.BuildLemmas.{contents_few}
-use Rattle.register.proofs.ReaderLemmas.{if_err, if_err_of, if_ok, broken_text, text_read}
+use Rattle.register.proofs.ReaderLemmas.{if_err, if_err_of, if_ok, is_broken, text_read}
 use Rattle.register.proofs.RestoreLemmas.{no_rest}
 use Rattle.register.proofs.restoring.read_rest.Goals as goal
 
@@ -26,12 +25,9 @@ returns-clause-broken g c =
     let count = c.count-count.ensures.value in
     let fields = c.args.fields.now in
     let contents = c.in_ok-contents.contents in
-    if_err_both c.catalogue_of.result (λ e refused fault at may b k places rest.
-    let none = subst (λ n. (k : CatalogueView) (places : List Place) → IsOf n fields contents k places → ⊥) count (refused (broken_text at e fault b)) in
-    no_rest at c.args.cache.now.count fields contents (c.in_ok-contents.ensures.holds at may) none k places rest) c.catalogue_of.ensures.broken c.catalogue_of.ensures.fault where
-      if_err_both : {T E : Type 0} {P Q R : E → Type 0} (r : Result T E) → ((e : E) → P e → Q e → R e) → IfErr r P → IfErr r Q → IfErr r R
-      if_err_both (Ok x) f p q = tt
-      if_err_both (Err e) f p q = f e p q
+    if_err _ _ c.catalogue_of.result (λ e refused at may b k places rest.
+    let none = subst (λ n. (k : CatalogueView) (places : List Place) → IsOf n fields contents k places → ⊥) count (refused (is_broken at e b)) in
+    no_rest at c.args.cache.now.count fields contents (c.in_ok-contents.ensures.holds at may) none k places rest) c.catalogue_of.ensures.broken
 
 pub returns-clause-caused : goal.returns-clause-caused
 returns-clause-caused g c =

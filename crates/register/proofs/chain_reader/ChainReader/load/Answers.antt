@@ -1,7 +1,7 @@
 use Rattle.std.proofs.Common.{◌≡◌, ◌∙◌, ap, sym, subst, Result, Err}
 use Rattle.pagecache.specs.Cache.{IsRefused}
 use Rattle.register.specs.ChainReader.{BreaksAt, IsPageFault, IsReaderFault}
-use Rattle.register.proofs.ReaderLemmas.{on_ok, if_err, the_error, goes_along, page_broken, page_read, refused_none, refused_read, rests_reads, loaded, not_taken, not_read}
+use Rattle.register.proofs.ReaderLemmas.{on_ok, if_err, is_broken, the_error, goes_along, page_broken, page_read, refused_none, refused_read, rests_reads, loaded, not_taken, not_read}
 use Rattle.register.proofs.chain_reader.ChainReader.load.Goals as goal
 
 pub returns-in-Ok-clause-same : goal.returns-in-Ok-clause-same
@@ -11,7 +11,7 @@ returns-in-Ok-clause-same g c =
 pub returns-in-Ok-clause-broken : goal.returns-in-Ok-clause-broken
 returns-in-Ok-clause-broken g c =
     if_err (λ e. IsPageFault c.in-Ok.payload.now c.args.self.now e) _ c.take_page.result
-    (λ e h at may b. not_taken c.args.cache.now c.args.self.now c.self.inside.next (ap (λ v. v.next) c.self.view_is) c.requires at may c.in-Ok.payload.now c.in-Ok.ensures.value (page_broken at c.in-Ok.payload.now c.args.self.now e h b))
+    (λ e h at may b. not_taken c.args.cache.now c.args.self.now c.self.inside.next (ap (λ v. v.next) c.self.view_is) c.requires at may c.in-Ok.payload.now c.in-Ok.ensures.value (page_broken c.in-Ok.payload.now c.args.self.now e h (is_broken at e b)))
     c.take_page.ensures.broken
 
 pub returns-in-Ok-clause-reads : goal.returns-in-Ok-clause-reads
