@@ -1,15 +1,17 @@
 //! A store is closed.
-ghost use Rattle.std.specs.Prelude.{◌≡◌, ◌⊎◌, [], IfErr, OnErr, OnOk, Some};
+ghost use Rattle.std.specs.Prelude.{ℕ, List, ◌≡◌, ◌⊎◌, [], IfErr, OnErr, OnOk, Some};
 ghost use Rattle.legs.specs.Book.{Book};
 ghost use Rattle.legs.specs.declared.head.BookHead.{BookHead};
 ghost use Rattle.pages.specs.Store.{IsLawful, IsSynced, IsSyncedButFirst, Keeps};
-ghost use Rattle.pagecache.specs.Cache.{IsSettled};
+ghost use Rattle.pagecache.specs.Cache.{payload_of, IsSettled};
 ghost use Rattle.timebase.specs.Instant.{IsMoment};
 ghost use Rattle.boxsearch.specs.Beside.{with_cache};
 ghost use Rattle.boxsearch.specs.Index.{content, IsMarked, IsSound};
 ghost use Rattle.catalogue.specs.Closing.{IsClosingFault, IsNoStoreFault};
 ghost use Rattle.catalogue.specs.Holding.{HoldsBook, HoldsButFirst, IsOfBook, IsUnfinishedStore};
-ghost use Rattle.register.specs.Saving.{IsAllowed, IsCaused};
+ghost use Rattle.register.specs.Earlier.{AddsFew, AreEarlier};
+ghost use Rattle.register.specs.Saving.{contents_of, IsAllowed, IsCaused};
+ghost use Rattle.register.specs.Text.{catalogue_text};
 
 use crate::finishing::finish;
 use crate::saving::save;
@@ -52,6 +54,10 @@ fn save_and_finish<S: PageStore>(
         → IsOfBook catalogue.now.limits book catalogue.now → content index.old ≡ book.legs
         → HoldsBook index.new.cache.store index.old.tree.shape catalogue.now.limits book) }
     ensures synced { OnOk result (IsSynced index.new.cache.store) }
+    ensures takes { OnOk result (IsSound index.old → (pages : List ℕ)
+        → AreEarlier (payload_of index.old.cache) pages → AddsFew index.old.cache.count
+        (catalogue_text (contents_of catalogue.now index.old.places)) pages
+        index.new.cache.store.count) }
     ensures only { IfErr result (λ fault. IsSound index.old → (book : Book)
         → IsOfBook catalogue.now.limits book catalogue.now → content index.old ≡ book.legs
         → IsAllowed fault) }
@@ -92,6 +98,12 @@ pub fn close<S: PageStore>(
         → IsOfBook catalogue.now.limits book catalogue.now → content index ≡ book.legs
         → HoldsBook (S.seen result.0) index.tree.shape catalogue.now.limits book) }
     ensures synced { OnOk result.1 (IsSynced (S.seen result.0)) }
+
+    // Its pages are as many as they were, and those that the text takes beyond an earlier one's.
+    ensures takes { OnOk result.1 (IsSound index → (pages : List ℕ)
+        → AreEarlier (payload_of index.cache) pages → AddsFew index.cache.count
+        (catalogue_text (contents_of catalogue.now index.places)) pages
+        (S.seen result.0).count) }
     ensures only { IfErr result.1 (λ fault. IsSound index → (book : Book)
         → IsOfBook catalogue.now.limits book catalogue.now → content index ≡ book.legs
         → IsAllowed fault) }

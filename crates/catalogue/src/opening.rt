@@ -9,6 +9,7 @@ ghost use Rattle.boxsearch.specs.Index.{IndexView};
 ghost use Rattle.catalogue.specs.Holding.{AnswersBook, HoldsBook, IsAtRest, IsUnfinishedStore};
 ghost use Rattle.register.specs.Lasting.{first_fault, ComesFirst, IsKept, IsReadingFault, IsStop, IsTrulyDamaged};
 ghost use Rattle.register.specs.Saved.{CatalogueView};
+ghost use Rattle.register.specs.Stopping.{IsNamed};
 ghost use Rattle.tbtree.specs.declared.tree.Place.{Place};
 ghost use Rattle.tbtree.specs.declared.tree.TbTree.{TbTree};
 
@@ -48,6 +49,8 @@ fn open_cache<S: PageStore>(
     ensures caused { IfErr result (λ back. IsReadingFault cache.store (S.seen back.0) back.1) }
     ensures damaged { IfErr result (λ back. IsTrulyDamaged cache.store.is_faithful
         (stored_payload cache.store) cache.store.count back.1) }
+    ensures named { IfErr result (λ back. IsTrue cache.store.is_faithful
+        → IsNamed (stored_payload cache.store) cache.store.count back.1) }
 {
     boxsearch::laws();
     register::laws();
@@ -97,9 +100,12 @@ pub fn open<S: PageStore>(
     ensures back { IfErr result (λ back. Stays (S.seen store) (S.seen back.0)) }
     ensures caused { IfErr result (λ back. IsReadingFault (S.seen store) (S.seen back.0) back.1) }
 
-    // A page that is said to be damaged is so.
+    // A page that is said to be damaged is so, and is the first that is met; pages that are said to be
+    // malformed keep nothing, whatever stands in the damaged ones.
     ensures damaged { IfErr result (λ back. IsTrulyDamaged (S.seen store).is_faithful
         (stored_payload (S.seen store)) (S.seen store).count back.1) }
+    ensures named { IfErr result (λ back. IsTrue (S.seen store).is_faithful
+        → IsNamed (stored_payload (S.seen store)) (S.seen store).count back.1) }
 {
     let cache = match PageCache::new(alloc, store, cache_pages) {
         Ok(cache) => cache,

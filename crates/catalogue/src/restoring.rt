@@ -5,6 +5,7 @@ ghost use Rattle.pagecache.specs.Cache.{payload_of};
 ghost use Rattle.chains.specs.Reads.{OnlyReads};
 ghost use Rattle.register.specs.Lasting.{first_fault, ComesFirst, IsKept, IsReadingFault, IsStop, IsTrulyDamaged};
 ghost use Rattle.register.specs.Saved.{CatalogueView};
+ghost use Rattle.register.specs.Stopping.{IsNamed};
 ghost use Rattle.tbtree.specs.declared.tree.Place.{Place};
 ghost use Rattle.tbtree.specs.declared.tree.TbTree.{TbTree};
 
@@ -20,7 +21,8 @@ use std::hash::RandomState;
 /// The cache is handed back where they keep none, memory runs out, or the store fails. Of page 0 it
 /// is said first that it is not there (`Malformed`), is damaged, is no header (`Malformed`), has
 /// another version, is of a store that was not finished, or of one in another state (`Malformed`);
-/// then the first page that is damaged, or malformed, as met.
+/// then the first page along the text that is damaged, or that the text up to there is malformed, as
+/// met.
 pub fn restore<S: PageStore>(
     alloc: Global,
     keys: RandomState,
@@ -41,6 +43,8 @@ pub fn restore<S: PageStore>(
     ensures caused { IfErr result (λ back. IsReadingFault cache.store back.0.store back.1) }
     ensures damaged { IfErr result (λ back. IsTrulyDamaged cache.store.is_faithful
         (payload_of cache) cache.count back.1) }
+    ensures named { IfErr result (λ back. IsTrue cache.store.is_faithful
+        → IsNamed (payload_of cache) cache.count back.1) }
 {
     let result = read_back(alloc, keys, &mut cache);
     lawful(&cache);

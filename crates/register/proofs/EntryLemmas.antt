@@ -1,10 +1,12 @@
 -- Columns, features, rows and what is made of them: what is lacking where a part is not there.
-use Rattle.std.proofs.Common.{ℕ, ◌≡◌, ◌<◌, ◌-◌, ◌^◌, min, List, ◌++◌, length, refl, sym, ap, arith, subst, All, ℤ, Option, Some, option_map}
+use Rattle.std.proofs.Common.{ℕ, ◌≡◌, ◌<◌, ◌-◌, ◌^◌, min, List, ◌++◌, length, refl, sym, ap, ◌∙◌, arith, subst, All, ℤ, Option, Some, option_map, Ok}
 use Rattle.std.proofs.lemmas.Int.{clamps}
 use Rattle.std.specs.List.{flat_map}
 use Rattle.byteorder.specs.Endian.{big_bytes}
 use Rattle.mfcsv.specs.declared.Column.{Column}
 use Rattle.tbnode.specs.Parts.{signed_bytes}
+use Rattle.pages.specs.declared.payload.Payload.{Payload}
+use Rattle.register.specs.ChainReader.{Takes}
 use Rattle.register.specs.Text.{short_text, column_text, columns_text, contents_text, feature_text, features_text, head_text, kept_text, lists_text, row_text, rows_text, space_text, leg_sum, AreColumns, AreFeatures, AreFewRows, AreLists, AreRead, AreRows, HasColumns, HasFeatures, HasRows, IsColumn, IsFeature, IsHead, IsKept, IsNumber, IsRead, IsRow, IsShortText, IsSigned, IsSpace}
 use Rattle.register.specs.declared.contents.Contents.{Contents}
 use Rattle.register.specs.declared.contents.Feature.{Feature}
@@ -12,7 +14,7 @@ use Rattle.register.specs.declared.contents.Head.{Head}
 use Rattle.register.specs.declared.contents.Lists.{Lists}
 use Rattle.register.specs.declared.contents.Space.{Space}
 use Rattle.register.proofs.PrefixLemmas.{numbers_free, short_free, signed_free, column_free, feature_free, row_free, features_free, head_free}
-use Rattle.register.proofs.SequenceLemmas.{Lacks, first_lacks, second_lacks, dependent_lacks, list_lacks}
+use Rattle.register.proofs.SequenceLemmas.{taken_both, Lacks, first_lacks, second_lacks, dependent_lacks, list_lacks}
 
 pub no_column : (old : Option (List ℕ)) → Lacks short_text IsShortText old → Lacks column_text IsColumn old
 no_column old h = first_lacks short_text short_text IsShortText IsShortText short_free (λ (v : Column). v.name) (λ (v : Column). v.kind) IsColumn (λ v k. (k.name, k.kind)) old h
@@ -100,3 +102,14 @@ no_head most old h = first_lacks head_text lists_text IsHead (λ _. Unit {0}) he
 pub no_lists : (most : ℕ) (head : Head) (old mid : Option (List ℕ)) → IsHead head → old ≡ option_map (λ s. head_text head ++ s) mid → Lacks lists_text (AreRead (length head.space.columns) most) mid → Lacks contents_text (λ contents. IsRead most (Some contents)) old
 no_lists most head old mid h is l = dependent_lacks head_text lists_text IsHead (λ _. Unit {0}) head_free (λ (v : Contents). v.head) (λ (v : Contents). v.lists) (λ contents. IsRead most (Some contents)) (λ v k. (k.whole.head, tt)) head old mid h is
     (λ v t k same e. l v.lists t (record { are = subst (λ (x : Head). AreLists (length x.space.columns) v.lists) (sym same) k.whole.lists; few = k.few }) e)
+
+-- a head of that base and of that space
+pub head_taken : {at : ℕ → Option Payload} (v : Head) (base : ℤ) (space : Space) (old mid new : Option (List ℕ)) → base ≡ v.base → space ≡ v.space → IsSigned base → IsSpace space
+    → old ≡ option_map (λ t. signed_bytes base ++ t) mid → mid ≡ option_map (λ t. space_text space ++ t) new → Takes at head_text IsHead old new (Ok v)
+head_taken {at} v base space old mid new e f h k p q = record {
+  taken = (
+    record { base = subst IsSigned e h; space = subst IsSpace f k },
+    taken_both head_text IsHead (signed_bytes base) (space_text space) old mid new p q ∙ (λ i. option_map (λ t. (signed_bytes (e i) ++ space_text (f i)) ++ t) new),
+  );
+  lacks = tt;
+}

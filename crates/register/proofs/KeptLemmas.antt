@@ -52,7 +52,7 @@ module _ (bytes : List ℕ) where
 
 -- a value of n bytes stands ready
 pub fixed_taken : {V : Type 0} (text : V → List ℕ) (ok : V → Type 0) (at : ℕ → Option Payload) (r : ReaderView) (n : ℕ) (old new : Option (List ℕ)) (v : V)
-    → rest_of at r ≡ old → text v ≡ take n r.bytes → ok v → rest_of at (record r { bytes = drop n r.bytes }) ≡ new → Takes text ok old new (Ok v)
+    → rest_of at r ≡ old → text v ≡ take n r.bytes → ok v → rest_of at (record r { bytes = drop n r.bytes }) ≡ new → Takes at text ok old new (Ok v)
 fixed_taken text ok at r n old new v same is h end = record {
   taken = (h, sym same ∙ ready at r n ∙ ap (option_map (λ t. take n r.bytes ++ t)) end ∙ ap (λ l. option_map (λ t. l ++ t) new) (sym is));
   lacks = tt;

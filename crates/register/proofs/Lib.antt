@@ -14,6 +14,8 @@ pub mod SavingLemmas
 pub mod FieldsLemmas
 pub mod SaveLemmas
 pub mod RestoreLemmas
+pub mod ReuseLemmas
 pub mod SameLemmas
 pub mod HeaderTextLemmas
 pub mod StateLemmas
+pub mod EarlierLemmas

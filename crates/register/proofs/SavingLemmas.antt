@@ -15,8 +15,9 @@ use Rattle.tbtree.specs.Nodes.{Pages, pages_of_cache}
 use Rattle.tbtree.specs.Passes.{Passes}
 use Rattle.legs.specs.Boxes.{BoxView}
 use Rattle.legs.specs.Legs.{LegView}
-use Rattle.register.specs.ChainSteps.{SparesTree}
+use Rattle.register.specs.ChainSteps.{Reuses, SparesTree}
 use Rattle.register.specs.ChainWriter.{Holds, WriterView}
+use Rattle.register.proofs.ReuseLemmas.{reuses_refl, reuses_then}
 use Rattle.std.specs.Option.{option_map}
 use Rattle.legs.specs.declared.head.BookHead.{BookHead}
 use Rattle.tbtree.specs.declared.tree.Place.{Place}
@@ -82,6 +83,7 @@ pushed_only bytes c w v e = record {
     holds = λ text h. subst (λ v. Holds c v (text ++ bytes)) (sym e) (grown c w bytes text h);
     length = λ e. e;
     tree = λ text h f. same_tree_refl (pages_of_cache c);
+    reuses = subst (λ (v : WriterView). Reuses c w.pages w.earlier c v.pages v.earlier) (sym e) (reuses_refl c w.pages w.earlier);
     caused = tt;
   };
   only = λ text h f. tt;
@@ -103,6 +105,7 @@ puts_then first second a b c w v u (Ok x) p q = record {
   holds = λ text h. subst (λ t. Holds c u t) (append_assoc text first second) (q.holds (text ++ first) (p.holds text h));
   length = λ e. q.length (p.length e);
   tree = λ text h f. same_tree_trans (pages_of_cache a) (pages_of_cache b) (pages_of_cache c) (p.tree text h f) (q.tree (text ++ first) (p.holds text h) (p.passes.store.faithful ∙ f));
+  reuses = reuses_then a b c w.pages v.pages u.pages w.earlier v.earlier u.earlier p.reuses q.reuses;
   caused = tt;
 }
 puts_then first second a b c w v u (Err e) p q = record {
@@ -110,6 +113,7 @@ puts_then first second a b c w v u (Err e) p q = record {
   holds = tt;
   length = tt;
   tree = λ text h f. same_tree_trans (pages_of_cache a) (pages_of_cache b) (pages_of_cache c) (p.tree text h f) (q.tree (text ++ first) (p.holds text h) (p.passes.store.faithful ∙ f));
+  reuses = tt;
   caused = caused_after a b c e p.passes q.caused;
 }
 

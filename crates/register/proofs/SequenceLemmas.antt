@@ -1,10 +1,10 @@
 -- One value behind another, and lists of values.
 use Rattle.std.proofs.Common.{ℕ, ◌≡◌, ◌≢◌, ◌<◌, List, [], ◌∷◌, ◌++◌, length, sym, ap, ◌∙◌, arith, subst, Option, Some, None, option_map, All, Result, Ok, Err}
-use Rattle.std.specs.Prelude.{IfErr}
 use Rattle.std.specs.List.{flat_map}
 use Rattle.std.proofs.lemmas.List.{append_assoc, append-nil}
 use Rattle.std.proofs.lemmas.List.Elements.{All-push}
-use Rattle.register.specs.ChainReader.{IsBroken, Takes, TakesInto}
+use Rattle.register.specs.ChainReader.{BreaksAt, Takes, TakesInto}
+use Rattle.pages.specs.declared.payload.Payload.{Payload}
 use Rattle.register.specs.declared.fault.CatalogueFault.{CatalogueFault}
 use Rattle.register.proofs.ReaderLemmas.{map_map, map_same, some_none, some_same}
 use Rattle.register.proofs.PrefixLemmas.{IsFree, list_split}
@@ -14,14 +14,11 @@ abbrev pub Lacks : {V : Type 0} → (V → List ℕ) → (V → Type 0) → Opti
 Lacks {V = V} text ok old = (v : V) (t : List ℕ) → ok v → old ≢ Some (text v ++ t)
 
 module _ {V : Type 0} (text : V → List ℕ) (ok : V → Type 0) where
-  pub lacks_err : (old new : Option (List ℕ)) (r : Result V CatalogueFault) (e f : CatalogueFault) → r ≡ Err f → f ≡ e → (IsBroken e → Lacks text ok old) → Takes text ok old new r
-  lacks_err old new r e f is same h = subst (λ r. Takes text ok old new r) (sym (is ∙ ap Err same)) (record { taken = tt; lacks = h })
+  pub lacks_err : {at : ℕ → Option Payload} (old new : Option (List ℕ)) (r : Result V CatalogueFault) (e f : CatalogueFault) → r ≡ Err f → f ≡ e → (BreaksAt at e → Lacks text ok old) → Takes at text ok old new r
+  lacks_err {at} old new r e f is same h = subst (λ r. Takes at text ok old new r) (sym (is ∙ ap Err same)) (record { taken = tt; lacks = h })
 
-  pub into_err : {T : Type 0} (is_put : V → Type 0) (old new : Option (List ℕ)) (r : Result T CatalogueFault) (e f : CatalogueFault) → r ≡ Err f → f ≡ e → (IsBroken e → Lacks text ok old) → TakesInto text ok is_put old new r
-  into_err is_put old new r e f is same h = subst (λ r. TakesInto text ok is_put old new r) (sym (is ∙ ap Err same)) (record { taken = tt; lacks = h })
-
-  pub lacks_of : (old new : Option (List ℕ)) (r : Result V CatalogueFault) (e : CatalogueFault) → r ≡ Err e → Takes text ok old new r → IsBroken e → Lacks text ok old
-  lacks_of old new r e is h = subst (λ r. IfErr r (λ e. IsBroken e → Lacks text ok old)) is h.lacks
+  pub into_err : {T : Type 0} {at : ℕ → Option Payload} (is_put : V → Type 0) (old new : Option (List ℕ)) (r : Result T CatalogueFault) (e f : CatalogueFault) → r ≡ Err f → f ≡ e → (BreaksAt at e → Lacks text ok old) → TakesInto at text ok is_put old new r
+  into_err {T} {at} is_put old new r e f is same h = subst (λ r. TakesInto at text ok is_put old new r) (sym (is ∙ ap Err same)) (record { taken = tt; lacks = h })
 
   -- one behind another
   pub taken_both : (A a : List ℕ) (old mid new : Option (List ℕ)) → old ≡ option_map (λ t. A ++ t) mid → mid ≡ option_map (λ t. a ++ t) new → old ≡ option_map (λ t. (A ++ a) ++ t) new
@@ -30,13 +27,13 @@ module _ {V : Type 0} (text : V → List ℕ) (ok : V → Type 0) where
       ∙ map_same (λ t. A ++ (a ++ t)) (λ t. (A ++ a) ++ t) new (λ t. sym (append_assoc A a t))
 
 -- what stands behind a front makes a value with it
-pub takes_behind : {V : Type 0} (text second : V → List ℕ) (ok is_second : V → Type 0) (front : List ℕ) (old mid new : Option (List ℕ)) (r : Result V CatalogueFault)
+pub takes_behind : {V : Type 0} {at : ℕ → Option Payload} (text second : V → List ℕ) (ok is_second : V → Type 0) (front : List ℕ) (old mid new : Option (List ℕ)) (r : Result V CatalogueFault)
     → old ≡ option_map (λ t. front ++ t) mid → ((v : V) → is_second v → ok v × (front ++ second v ≡ text v)) → (Lacks second is_second mid → Lacks text ok old)
-    → Takes second is_second mid new r → Takes text ok old new r
-takes_behind text second ok is_second front old mid new (Ok v) is whole lacks h =
+    → Takes at second is_second mid new r → Takes at text ok old new r
+takes_behind {V} {at} text second ok is_second front old mid new (Ok v) is whole lacks h =
     let w = whole v h.taken.0 in
     record { taken = (w.0, taken_both text ok front (second v) old mid new is h.taken.1 ∙ ap (λ l. option_map (λ t. l ++ t) new) w.1); lacks = tt }
-takes_behind text second ok is_second front old mid new (Err e) is whole lacks h = record { taken = tt; lacks = λ b. lacks (h.lacks b) }
+takes_behind {V} {at} text second ok is_second front old mid new (Err e) is whole lacks h = record { taken = tt; lacks = λ b. lacks (h.lacks b) }
 
 module _ {A B V : Type 0} (first : A → List ℕ) (second : B → List ℕ) (is_first : A → Type 0) (is_second : B → Type 0) (free : IsFree first is_first)
     (left : V → A) (right : V → B) (ok : V → Type 0) (parts : (v : V) → ok v → is_first (left v) × is_second (right v)) where

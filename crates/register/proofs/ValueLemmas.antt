@@ -7,7 +7,7 @@ use Rattle.byteorder.specs.Endian.{big_bytes, big_number}
 use Rattle.byteorder.specs.Numbers.{big_number-reads_back, length-bytes_high_first}
 use Rattle.pages.specs.declared.payload.Payload.{Payload}
 use Rattle.register.specs.Chain.{text_at}
-use Rattle.register.specs.ChainReader.{ReaderView, rest_of, IsBroken, IsTextFault, Takes}
+use Rattle.register.specs.ChainReader.{ReaderView, rest_of, BreaksAt, IsTextFault, Takes}
 use Rattle.register.specs.Text.{short_text, IsNumber, IsShortText}
 use Rattle.register.specs.declared.fault.CatalogueFault.{CatalogueFault}
 use Rattle.register.specs.declared.fault.CatalogueFault.TheVariants.{Memory, Store, StoreFull, Damaged, Unfinished, Version, Malformed}
@@ -26,9 +26,9 @@ big_same n m k s t h l e =
 
 -- a value of n bytes is not there where there are fewer
 module _ {V : Type 0} (text : V → List ℕ) (is_value : V → Type 0) (n : ℕ) (len : (v : V) → length (text v) ≡ n) where
-  pub failed : (old new : Option (List ℕ)) (r : Result V CatalogueFault) (e f : CatalogueFault) → r ≡ Err f → f ≡ e → (IsBroken e → (t : List ℕ) → old ≡ Some t → length t < n) → Takes text is_value old new r
-  failed old new r e f is same h =
-      subst (λ r. Takes text is_value old new r) (sym (is ∙ ap Err same)) (record {
+  pub failed : {at : ℕ → Option Payload} (old new : Option (List ℕ)) (r : Result V CatalogueFault) (e f : CatalogueFault) → r ≡ Err f → f ≡ e → (BreaksAt at e → (t : List ℕ) → old ≡ Some t → length t < n) → Takes at text is_value old new r
+  failed {at} old new r e f is same h =
+      subst (λ r. Takes at text is_value old new r) (sym (is ∙ ap Err same)) (record {
         taken = tt;
         lacks = λ b v t k found.
             let short = h b (text v ++ t) found in
@@ -58,9 +58,9 @@ module _ (old mid new : Option (List ℕ)) (n : ℕ) (small : IsNumber 64 n) (le
   split v t is e = behind n mid v t small is.short (sym length_is ∙ e)
 
   -- the text is not there whole
-  pub text_cut : (r : Result (List ℕ) CatalogueFault) (e f : CatalogueFault) → r ≡ Err f → f ≡ e → (IsBroken e → (t : List ℕ) → mid ≡ Some t → length t < n) → Takes short_text IsShortText old new r
-  text_cut r e f is same h =
-      subst (λ r. Takes short_text IsShortText old new r) (sym (is ∙ ap Err same)) (record {
+  pub text_cut : {at : ℕ → Option Payload} (r : Result (List ℕ) CatalogueFault) (e f : CatalogueFault) → r ≡ Err f → f ≡ e → (BreaksAt at e → (t : List ℕ) → mid ≡ Some t → length t < n) → Takes at short_text IsShortText old new r
+  text_cut {at} r e f is same h =
+      subst (λ r. Takes at short_text IsShortText old new r) (sym (is ∙ ap Err same)) (record {
         taken = tt;
         lacks = λ b v t k found.
             let s = split v t k found in
@@ -85,9 +85,9 @@ module _ (old mid new : Option (List ℕ)) (n : ℕ) (small : IsNumber 64 n) (le
     front_is (Some s) v t l e = (same_front own v s t l (some_same (own ++ s) (v ++ t) e)).0
 
     -- it is there, and is no text
-    pub no_text : (r : Result (List ℕ) CatalogueFault) (e f : CatalogueFault) → r ≡ Err f → f ≡ e → (IsBroken e → IsUtf8 own → ⊥) → Takes short_text IsShortText old new r
+    pub no_text : (r : Result (List ℕ) CatalogueFault) (e f : CatalogueFault) → r ≡ Err f → f ≡ e → (BreaksAt at e → IsUtf8 own → ⊥) → Takes at short_text IsShortText old new r
     no_text r e f is same' h =
-        subst (λ r. Takes short_text IsShortText old new r) (sym (is ∙ ap Err same')) (record {
+        subst (λ r. Takes at short_text IsShortText old new r) (sym (is ∙ ap Err same')) (record {
           taken = tt;
           lacks = λ b v t k found.
               let s = split v t k found in
@@ -96,7 +96,7 @@ module _ (old mid new : Option (List ℕ)) (n : ℕ) (small : IsNumber 64 n) (le
               h b (subst (λ x. IsUtf8 x) (sym front) k.utf8);
         })
 
-    pub text_taken : (v : List ℕ) → v ≡ own → IsUtf8 v → after ≡ new → Takes short_text IsShortText old new (Ok v)
+    pub text_taken : (v : List ℕ) → v ≡ own → IsUtf8 v → after ≡ new → Takes at short_text IsShortText old new (Ok v)
     text_taken v is utf8 end = record {
       taken = (
         record { utf8 = utf8; short = subst (λ k. k < 2 ^ 64) (sym (ap length is ∙ own_length)) small },
@@ -109,11 +109,11 @@ module _ (old mid new : Option (List ℕ)) (n : ℕ) (small : IsNumber 64 n) (le
     }
 
 -- what is broken is no text
-pub text_fault : {T : Type 0} (Q : Type 0) (r : Result T CatalogueFault) (e : CatalogueFault) → r ≡ Err e → IsTextFault e → (IsErrOf r Malformed → Q) → IsBroken e → Q
-text_fault Q r Memory is h f b = absurd b
-text_fault Q r Store is h f b = absurd b
-text_fault Q r StoreFull is h f b = absurd b
-text_fault Q r (Damaged n) is h f b = absurd h
-text_fault Q r Unfinished is h f b = absurd b
-text_fault Q r Version is h f b = absurd b
-text_fault Q r Malformed is h f b = f (subst (λ r. IsErrOf r Malformed) (sym is) refl)
+pub text_fault : {T : Type 0} (at : ℕ → Option Payload) (Q : Type 0) (r : Result T CatalogueFault) (e : CatalogueFault) → r ≡ Err e → IsTextFault e → (IsErrOf r Malformed → Q) → BreaksAt at e → Q
+text_fault at Q r Memory is h f b = absurd b
+text_fault at Q r Store is h f b = absurd b
+text_fault at Q r StoreFull is h f b = absurd b
+text_fault at Q r (Damaged n) is h f b = absurd h
+text_fault at Q r Unfinished is h f b = absurd b
+text_fault at Q r Version is h f b = absurd b
+text_fault at Q r Malformed is h f b = f (subst (λ r. IsErrOf r Malformed) (sym is) refl)

@@ -229,6 +229,19 @@ module _ (a d : Cache) (rest text : List ℕ) (l : ℕ) (short : length rest ≤
       closed_pages w.pages w.earlier len first at from (size ∙ ap (λ t. 4040 * (length w.pages - 1) + length t) same) numbers
       (subst (λ t. HoldsText (payload_of a) a.count (record { pages = w.pages; earlier = w.earlier; text = t }) text) same (h f))
 
+-- the text takes as many pages
+counted_pages : (at : ℕ → Option Payload) (count : ℕ) (pages : List ℕ) (earlier : ℕ) (rest text : List ℕ) → length rest ≤ 4040 → 0 < length text → HoldsText at count (record { pages = pages; earlier = earlier; text = rest }) text → div_ceil (length text) most_used ≡ length pages
+counted_pages at count [] earlier rest text short some h = absurd h.parts
+counted_pages at count (p ∷ pages) earlier rest text short some h =
+    let n : length text ≡ length h.written + length rest = ap length h.all ∙ length-append h.written rest in
+    let k = written_length at p pages h.written h.parts in
+    let left : 0 < length rest = ⊎_elim (λ lt. h.left lt) (λ ge. omega (arith, ge, n, some)) (cases_lt 0 (length h.written)) in
+    let size : length text ≡ 4040 * length pages + length rest = omega (arith, n, k) in
+    ap (λ m. div_ceil m 4040) size ∙ pages_of (length pages) (length rest) left short
+
+pub pages_taken : (c : Cache) (w : WriterView) (text : List ℕ) → length w.text ≤ 4040 → Holds c w text → 0 < length text → IsTrue c.store.is_faithful → div_ceil (length text) most_used ≡ length w.pages
+pages_taken c w text short h some f = counted_pages (payload_of c) c.count w.pages w.earlier w.text text short some (h f)
+
 -- so is a page that is the last one
 pub last_tree : (a d : Cache) (w : WriterView) (l next : ℕ) (bytes text : List ℕ) → l ≡ get_or w.pages (length w.pages - 1) 0 → 0 < length w.pages → Fills l (part_payload next bytes) a d → Holds a w text → SparesTree a d
 last_tree a d w l next bytes text at some lends h = λ f.

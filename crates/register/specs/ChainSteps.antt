@@ -1,5 +1,5 @@
 -- Helpers of private functions: the steps in which a text is written to a chain of pages.
-use Rattle.std.specs.Prelude.{ℕ, ◌≡◌, ◌≢◌, ◌<◌, ◌≤◌, ◌-◌, ◌^◌, min, false, List, [], ◌∷◌, ◌++◌, length, drop, All, Some, IsTrue}
+use Rattle.std.specs.Prelude.{ℕ, ◌≡◌, ◌≢◌, ◌<◌, ◌≤◌, ◌+◌, ◌-◌, ◌^◌, min, false, List, [], ◌∷◌, ◌++◌, length, drop, All, Some, IsTrue}
 use Rattle.pages.specs.declared.payload.Kind.TheVariants.{Catalogue}
 use Rattle.pages.specs.declared.payload.Payload.{Payload}
 use Rattle.pagecache.specs.Cache.{Cache, SameLength, Stays, Writes, is_changed, payload_of}
@@ -7,6 +7,7 @@ use Rattle.tbtree.specs.Descent.{IsSameTree}
 use Rattle.tbtree.specs.Nodes.{pages_of_cache}
 use Rattle.tbtree.specs.Passes.{Passes, KeepsLength}
 use Rattle.register.specs.ChainWriter.{Holds, IsOwn, WriterView}
+use Rattle.register.specs.Earlier.{AreLinked}
 
 -- the number of a page above page 0, in four bytes
 pub record IsNumber (page : ℕ) : Type 0 where
@@ -63,6 +64,28 @@ pub record OnlyAsks (old new : Cache) : Type 0 where
 abbrev pub behind : ℕ → WriterView → WriterView
 behind n w = record w { text = drop n w.text }
 
+-- behind the pages of a text so far there are these of an earlier one
+pub record IsAhead (c : Cache) (taken : List ℕ) (earlier : ℕ) (pages : List ℕ) : Type 0 where
+  pub faithful : IsTrue c.store.is_faithful
+  pub some : 0 < c.count
+  pub below : All (λ p. p < c.count) taken
+  pub linked : AreLinked (payload_of c) taken earlier pages
+
+-- pages are taken more; those are the first of the earlier ones, and no other is added but for want
+-- of them
+pub record Uses (pages : List ℕ) (old : Cache) (taken : List ℕ) (new : Cache) (now : List ℕ) (next : ℕ) : Type 0 where
+  pub more : length taken ≤ length now
+  pub count : new.count ≤ old.count + ((length now - length taken) - length pages)
+  pub ahead : IsAhead new now next (drop (length now - length taken) pages)
+
+abbrev pub Reuses : Cache → List ℕ → ℕ → Cache → List ℕ → ℕ → Type 0
+Reuses old taken earlier new now next = (pages : List ℕ) → IsAhead old taken earlier pages → Uses pages old taken new now next
+
+-- a text of so many pages, of which some were taken, takes new ones but for want of earlier ones
+pub record TakesFew (all taken earlier old new : ℕ) : Type 0 where
+  pub more : taken ≤ all
+  pub count : new ≤ old + ((all - taken) - earlier)
+
 -- the first n bytes that were not written now are
 pub record WritesParts (old : Cache) (v : WriterView) (n : ℕ) (new : Cache) (w : WriterView) : Type 0 where
   pub text : w.text ≡ v.text
@@ -70,3 +93,4 @@ pub record WritesParts (old : Cache) (v : WriterView) (n : ℕ) (new : Cache) (w
   pub passes : Passes old new
   pub length : KeepsLength old new
   pub tree : (text : List ℕ) → Holds old v text → SparesTree old new
+  pub reuses : Reuses old v.pages v.earlier new w.pages w.earlier

@@ -1,5 +1,6 @@
 pub mod Text
 pub mod Chain
+pub mod Earlier
 pub mod ChainWriter
 pub mod ChainSteps
 pub mod ChainReader
@@ -7,5 +8,6 @@ pub mod Saved
 pub mod Saving
 pub mod Lasting
 pub mod Restoring
+pub mod Stopping
 pub mod Building
 pub mod Fields

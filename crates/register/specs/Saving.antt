@@ -13,7 +13,7 @@ use Rattle.register.specs.declared.header_fields.Fields.{Fields}
 use Rattle.tbtree.specs.Passes.{KeepsLength, Passes}
 use Rattle.tbtree.specs.Stands.{no_place}
 use Rattle.tbtree.specs.declared.tree.Place.{Place}
-use Rattle.register.specs.ChainSteps.{SparesTree}
+use Rattle.register.specs.ChainSteps.{Reuses, SparesTree}
 use Rattle.register.specs.ChainWriter.{Holds, WriterView}
 use Rattle.register.specs.Saved.{head_of, CatalogueView}
 use Rattle.register.specs.declared.contents.Contents.{Contents}
@@ -87,6 +87,7 @@ pub record Puts (bytes : List ℕ) (old new : Cache) (w v : WriterView) (result 
   pub holds : OnOk result ((text : List ℕ) → Holds old w text → Holds new v (text ++ bytes))
   pub length : OnOk result (KeepsLength old new)
   pub tree : (text : List ℕ) → Holds old w text → SparesTree old new
+  pub reuses : OnOk result (Reuses old w.pages w.earlier new v.pages v.earlier)
   pub caused : IfErr result (IsCaused old new)
 
 -- and they are refused for want of memory or by the store alone

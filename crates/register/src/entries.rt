@@ -1,7 +1,7 @@
 //! What a text says of columns, features and rows.
-ghost use Rattle.std.specs.Prelude.{◌≡◌, ◌-◌, ◌^◌, min, length, IsTrue, IfErr};
+ghost use Rattle.std.specs.Prelude.{◌≡◌, ◌-◌, ◌^◌, ℕ, Option, min, length, IfErr};
 ghost use Rattle.std.specs.List.{flat_map};
-ghost use Rattle.pagecache.specs.Cache.{payload_of};
+ghost use Rattle.pages.specs.declared.payload.Payload.{Payload};
 ghost use Rattle.register.specs.Text.{kept_text, leg_sum, IsKept};
 
 use crate::chain_reader::ChainReader;
@@ -49,9 +49,8 @@ fn leg_sum(features: &Features) -> u64
 
 impl ChainReader {
     ghost use Rattle.std.specs.Prelude.{◌≡◌, ◌++◌, ◌∷◌, [], OnOk, Some};
-    ghost use Rattle.register.specs.ChainReader.{rest_of, IsReadFault, Takes, TakesInto};
+    ghost use Rattle.register.specs.ChainReader.{rest_of, IsReaderFault, MayBe, ReadsOn, Takes, TakesInto};
     ghost use Rattle.register.specs.Text.{column_text, columns_text, contents_text, feature_text, features_text, head_text, kept_text, lists_text, row_text, rows_text, short_text, space_text, AreColumns, AreFeatures, AreFewRows, AreRead, AreRows, IsColumn, IsFeature, IsHead, IsKept, IsRead, IsRow, IsShortText, IsSpace, HasColumns, HasFeatures};
-    ghost use Rattle.chains.specs.Reads.{OnlyReads};
 
     /// An attribute column.
     fn column<S: PageStore>(
@@ -59,11 +58,10 @@ impl ChainReader {
         alloc: Global,
         cache: &mut PageCache<S>,
     ) -> Result<Column, CatalogueFault>
-        ensures takes { IsTrue cache.old.store.is_faithful → Takes column_text IsColumn
-            (rest_of (payload_of cache.old) self.old) (rest_of (payload_of cache.new) self.new)
-            result }
-        ensures reads { OnlyReads cache.old cache.new }
-        ensures caused { IfErr result (IsReadFault cache.old cache.new) }
+        ensures takes { (at : ℕ → Option Payload) → MayBe cache.old at
+            → Takes at column_text IsColumn (rest_of at self.old) (rest_of at self.new) result }
+        ensures reads { ReadsOn cache.old cache.new self.old self.new }
+        ensures caused { IfErr result (IsReaderFault cache.old cache.new self.old) }
     {
         let name = self.text(alloc, cache)?;
         let kind = self.text(alloc, cache)?;
@@ -77,12 +75,11 @@ impl ChainReader {
         cache: &mut PageCache<S>,
         count: u64,
     ) -> Result<Columns, CatalogueFault>
-        ensures takes { IsTrue cache.old.store.is_faithful → Takes (λ
-            columns. flat_map column_text columns) (AreColumns count)
-            (rest_of (payload_of cache.old) self.old) (rest_of (payload_of cache.new) self.new)
-            result }
-        ensures reads { OnlyReads cache.old cache.new }
-        ensures caused { IfErr result (IsReadFault cache.old cache.new) }
+        ensures takes { (at : ℕ → Option Payload) → MayBe cache.old at
+            → Takes at (λ columns. flat_map column_text columns) (AreColumns count)
+            (rest_of at self.old) (rest_of at self.new) result }
+        ensures reads { ReadsOn cache.old cache.new self.old self.new }
+        ensures caused { IfErr result (IsReaderFault cache.old cache.new self.old) }
     {
         let mut columns = Vec::new(alloc);
         for _ in 0..count {
@@ -97,11 +94,10 @@ impl ChainReader {
         alloc: Global,
         cache: &mut PageCache<S>,
     ) -> Result<Columns, CatalogueFault>
-        ensures takes { IsTrue cache.old.store.is_faithful → Takes columns_text HasColumns
-            (rest_of (payload_of cache.old) self.old) (rest_of (payload_of cache.new) self.new)
-            result }
-        ensures reads { OnlyReads cache.old cache.new }
-        ensures caused { IfErr result (IsReadFault cache.old cache.new) }
+        ensures takes { (at : ℕ → Option Payload) → MayBe cache.old at
+            → Takes at columns_text HasColumns (rest_of at self.old) (rest_of at self.new) result }
+        ensures reads { ReadsOn cache.old cache.new self.old self.new }
+        ensures caused { IfErr result (IsReaderFault cache.old cache.new self.old) }
     {
         let count = self.u64(cache)?;
         self.columns(alloc, cache, count)
@@ -109,11 +105,10 @@ impl ChainReader {
 
     /// What is kept of a feature beside its name.
     fn kept<S: PageStore>(&mut self, cache: &mut PageCache<S>) -> Result<Kept, CatalogueFault>
-        ensures takes { IsTrue cache.old.store.is_faithful → Takes kept_text IsKept
-            (rest_of (payload_of cache.old) self.old) (rest_of (payload_of cache.new) self.new)
-            result }
-        ensures reads { OnlyReads cache.old cache.new }
-        ensures caused { IfErr result (IsReadFault cache.old cache.new) }
+        ensures takes { (at : ℕ → Option Payload) → MayBe cache.old at
+            → Takes at kept_text IsKept (rest_of at self.old) (rest_of at self.new) result }
+        ensures reads { ReadsOn cache.old cache.new self.old self.new }
+        ensures caused { IfErr result (IsReaderFault cache.old cache.new self.old) }
     {
         self.fill(cache, 28)?;
         let kept = kept_of(self.ahead(28));
@@ -127,11 +122,10 @@ impl ChainReader {
         alloc: Global,
         cache: &mut PageCache<S>,
     ) -> Result<Feature, CatalogueFault>
-        ensures takes { IsTrue cache.old.store.is_faithful → Takes feature_text IsFeature
-            (rest_of (payload_of cache.old) self.old) (rest_of (payload_of cache.new) self.new)
-            result }
-        ensures reads { OnlyReads cache.old cache.new }
-        ensures caused { IfErr result (IsReadFault cache.old cache.new) }
+        ensures takes { (at : ℕ → Option Payload) → MayBe cache.old at
+            → Takes at feature_text IsFeature (rest_of at self.old) (rest_of at self.new) result }
+        ensures reads { ReadsOn cache.old cache.new self.old self.new }
+        ensures caused { IfErr result (IsReaderFault cache.old cache.new self.old) }
     {
         let name = self.text(alloc, cache)?;
         let kept = self.kept(cache)?;
@@ -145,12 +139,11 @@ impl ChainReader {
         cache: &mut PageCache<S>,
         count: u32,
     ) -> Result<Features, CatalogueFault>
-        ensures takes { IsTrue cache.old.store.is_faithful → Takes (λ
-            features. flat_map feature_text features) (AreFeatures count)
-            (rest_of (payload_of cache.old) self.old) (rest_of (payload_of cache.new) self.new)
-            result }
-        ensures reads { OnlyReads cache.old cache.new }
-        ensures caused { IfErr result (IsReadFault cache.old cache.new) }
+        ensures takes { (at : ℕ → Option Payload) → MayBe cache.old at
+            → Takes at (λ features. flat_map feature_text features) (AreFeatures count)
+            (rest_of at self.old) (rest_of at self.new) result }
+        ensures reads { ReadsOn cache.old cache.new self.old self.new }
+        ensures caused { IfErr result (IsReaderFault cache.old cache.new self.old) }
     {
         let mut features = Vec::new(alloc);
         for _ in 0..count {
@@ -165,11 +158,11 @@ impl ChainReader {
         alloc: Global,
         cache: &mut PageCache<S>,
     ) -> Result<Features, CatalogueFault>
-        ensures takes { IsTrue cache.old.store.is_faithful → Takes features_text HasFeatures
-            (rest_of (payload_of cache.old) self.old) (rest_of (payload_of cache.new) self.new)
-            result }
-        ensures reads { OnlyReads cache.old cache.new }
-        ensures caused { IfErr result (IsReadFault cache.old cache.new) }
+        ensures takes { (at : ℕ → Option Payload) → MayBe cache.old at
+            → Takes at features_text HasFeatures
+            (rest_of at self.old) (rest_of at self.new) result }
+        ensures reads { ReadsOn cache.old cache.new self.old self.new }
+        ensures caused { IfErr result (IsReaderFault cache.old cache.new self.old) }
     {
         let count = self.u32(cache)?;
         self.features(alloc, cache, count)
@@ -183,13 +176,13 @@ impl ChainReader {
         rows: &mut GrowingRows,
     ) -> Result<(), CatalogueFault>
         requires { rows.old.row ≡ [] }
-        ensures takes { IsTrue cache.old.store.is_faithful → TakesInto row_text (IsRow columns)
+        ensures takes { (at : ℕ → Option Payload) → MayBe cache.old at
+            → TakesInto at row_text (IsRow columns)
             (λ row. rows.new.rows ≡ rows.old.rows ++ row ∷ [])
-            (rest_of (payload_of cache.old) self.old) (rest_of (payload_of cache.new) self.new)
-            result }
+            (rest_of at self.old) (rest_of at self.new) result }
         ensures ended { OnOk result (rows.new.row ≡ []) }
-        ensures reads { OnlyReads cache.old cache.new }
-        ensures caused { IfErr result (IsReadFault cache.old cache.new) }
+        ensures reads { ReadsOn cache.old cache.new self.old self.new }
+        ensures caused { IfErr result (IsReaderFault cache.old cache.new self.old) }
     {
         for _ in 0..columns {
             self.value(cache, rows)?;
@@ -208,12 +201,11 @@ impl ChainReader {
         columns: u64,
         count: u32,
     ) -> Result<Rows, CatalogueFault>
-        ensures takes { IsTrue cache.old.store.is_faithful → Takes (λ
-            rows. flat_map row_text rows) (AreRows columns count)
-            (rest_of (payload_of cache.old) self.old) (rest_of (payload_of cache.new) self.new)
-            result }
-        ensures reads { OnlyReads cache.old cache.new }
-        ensures caused { IfErr result (IsReadFault cache.old cache.new) }
+        ensures takes { (at : ℕ → Option Payload) → MayBe cache.old at
+            → Takes at (λ rows. flat_map row_text rows) (AreRows columns count)
+            (rest_of at self.old) (rest_of at self.new) result }
+        ensures reads { ReadsOn cache.old cache.new self.old self.new }
+        ensures caused { IfErr result (IsReaderFault cache.old cache.new self.old) }
     {
         let mut rows = GrowingRows::new(alloc);
         for _ in 0..count {
@@ -230,12 +222,11 @@ impl ChainReader {
         columns: u64,
         most: u64,
     ) -> Result<Rows, CatalogueFault>
-        ensures takes { IsTrue cache.old.store.is_faithful
-            → Takes rows_text (AreFewRows columns most)
-            (rest_of (payload_of cache.old) self.old) (rest_of (payload_of cache.new) self.new)
-            result }
-        ensures reads { OnlyReads cache.old cache.new }
-        ensures caused { IfErr result (IsReadFault cache.old cache.new) }
+        ensures takes { (at : ℕ → Option Payload) → MayBe cache.old at
+            → Takes at rows_text (AreFewRows columns most)
+            (rest_of at self.old) (rest_of at self.new) result }
+        ensures reads { ReadsOn cache.old cache.new self.old self.new }
+        ensures caused { IfErr result (IsReaderFault cache.old cache.new self.old) }
     {
         let count = self.u32(cache)?;
         if u64::from(count) > most {
@@ -250,11 +241,10 @@ impl ChainReader {
         alloc: Global,
         cache: &mut PageCache<S>,
     ) -> Result<Space, CatalogueFault>
-        ensures takes { IsTrue cache.old.store.is_faithful → Takes space_text IsSpace
-            (rest_of (payload_of cache.old) self.old) (rest_of (payload_of cache.new) self.new)
-            result }
-        ensures reads { OnlyReads cache.old cache.new }
-        ensures caused { IfErr result (IsReadFault cache.old cache.new) }
+        ensures takes { (at : ℕ → Option Payload) → MayBe cache.old at
+            → Takes at space_text IsSpace (rest_of at self.old) (rest_of at self.new) result }
+        ensures reads { ReadsOn cache.old cache.new self.old self.new }
+        ensures caused { IfErr result (IsReaderFault cache.old cache.new self.old) }
     {
         let crs = self.text(alloc, cache)?;
         let columns = self.counted_columns(alloc, cache)?;
@@ -267,11 +257,10 @@ impl ChainReader {
         alloc: Global,
         cache: &mut PageCache<S>,
     ) -> Result<Head, CatalogueFault>
-        ensures takes { IsTrue cache.old.store.is_faithful → Takes head_text IsHead
-            (rest_of (payload_of cache.old) self.old) (rest_of (payload_of cache.new) self.new)
-            result }
-        ensures reads { OnlyReads cache.old cache.new }
-        ensures caused { IfErr result (IsReadFault cache.old cache.new) }
+        ensures takes { (at : ℕ → Option Payload) → MayBe cache.old at
+            → Takes at head_text IsHead (rest_of at self.old) (rest_of at self.new) result }
+        ensures reads { ReadsOn cache.old cache.new self.old self.new }
+        ensures caused { IfErr result (IsReaderFault cache.old cache.new self.old) }
     {
         let base = self.i64(cache)?;
         let space = self.space(alloc, cache)?;
@@ -287,12 +276,11 @@ impl ChainReader {
         columns: u64,
         limits: &Limits,
     ) -> Result<Lists, CatalogueFault>
-        ensures takes { IsTrue cache.old.store.is_faithful
-            → Takes lists_text (AreRead columns limits.now.legs)
-            (rest_of (payload_of cache.old) self.old) (rest_of (payload_of cache.new) self.new)
-            result }
-        ensures reads { OnlyReads cache.old cache.new }
-        ensures caused { IfErr result (IsReadFault cache.old cache.new) }
+        ensures takes { (at : ℕ → Option Payload) → MayBe cache.old at
+            → Takes at lists_text (AreRead columns limits.now.legs)
+            (rest_of at self.old) (rest_of at self.new) result }
+        ensures reads { ReadsOn cache.old cache.new self.old self.new }
+        ensures caused { IfErr result (IsReaderFault cache.old cache.new self.old) }
     {
         let features = self.counted_features(alloc, cache)?;
         let legs = leg_sum(&features);
@@ -310,12 +298,11 @@ impl ChainReader {
         cache: &mut PageCache<S>,
         limits: &Limits,
     ) -> Result<Contents, CatalogueFault>
-        ensures takes { IsTrue cache.old.store.is_faithful → Takes contents_text
-            (λ contents. IsRead limits.now.legs (Some contents))
-            (rest_of (payload_of cache.old) self.old) (rest_of (payload_of cache.new) self.new)
-            result }
-        ensures reads { OnlyReads cache.old cache.new }
-        ensures caused { IfErr result (IsReadFault cache.old cache.new) }
+        ensures takes { (at : ℕ → Option Payload) → MayBe cache.old at
+            → Takes at contents_text (λ contents. IsRead limits.now.legs (Some contents))
+            (rest_of at self.old) (rest_of at self.new) result }
+        ensures reads { ReadsOn cache.old cache.new self.old self.new }
+        ensures caused { IfErr result (IsReaderFault cache.old cache.new self.old) }
     {
         let head = self.head(alloc, cache)?;
         let columns = head.space.columns.as_slice().len() as u64;

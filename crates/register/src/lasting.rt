@@ -1,12 +1,16 @@
 //! What holds of what the pages of a store keep, for the proofs of a caller.
-ghost use Rattle.std.specs.Prelude.{ℕ, ◌≡◌, ◌<◌, List, Option, Some};
+ghost use Rattle.std.specs.Prelude.{ℕ, ◌≡◌, ◌<◌, length, List, Option, Some};
 ghost use Rattle.pages.specs.declared.payload.Kind.TheVariants.{Header};
 ghost use Rattle.pages.specs.declared.payload.Payload.{Payload};
 ghost use Rattle.tbtree.specs.declared.tree.Place.{Place};
 ghost use Rattle.tbtree.specs.declared.tree.TbTree.{TbTree};
+ghost use Rattle.register.specs.Chain.{pages_for};
+ghost use Rattle.register.specs.Earlier.{AreEarlier};
 ghost use Rattle.register.specs.Fields.{with_state};
 ghost use Rattle.register.specs.Lasting.{IsKept, IsSame, Says};
 ghost use Rattle.register.specs.Saved.{CatalogueView};
+ghost use Rattle.register.specs.Saving.{contents_of};
+ghost use Rattle.register.specs.Text.{catalogue_text};
 
 /// What holds of what the pages of a store keep beside its legs, for the proofs of a caller. It does
 /// nothing.
@@ -22,4 +26,11 @@ pub fn laws()
         → now 0 ≡ Some (with_state state header) → header.kind ≡ Header
         → (count : ℕ) (c : CatalogueView) (tree : TbTree) (places : List Place)
         → Says at count c tree places → Says now count c tree places }
+
+    // The pages of the text that they keep are those of an earlier one.
+    ensures earlier { (at : ℕ → Option Payload) (count : ℕ) (c : CatalogueView) (tree : TbTree)
+        (places : List Place) → Says at count c tree places
+        → (header : Payload) → at 0 ≡ Some header → header.kind ≡ Header
+        → (pages : List ℕ) × AreEarlier at pages
+        × (length pages ≡ pages_for (catalogue_text (contents_of c places))) }
 {}

@@ -9,6 +9,7 @@ ghost use Rattle.chains.specs.Reads.{OnlyReads};
 ghost use Rattle.register.specs.Fields.{FitsFields, HasFields};
 ghost use Rattle.register.specs.Lasting.{first_fault, header_fault, state_fault, ComesFirst, IsReadingFault, IsStop, IsTrulyDamaged};
 ghost use Rattle.register.specs.Restoring.{result_of, HeaderSays, IsHeaderFault, SaysFields};
+ghost use Rattle.register.specs.declared.fault.CatalogueFault.TheVariants.{Damaged};
 ghost use Rattle.register.specs.declared.header_fields.Fields.{Fields};
 
 use crate::chain_reader::fault_of;
@@ -88,6 +89,7 @@ pub(crate) fn read_header<S: PageStore>(cache: &mut PageCache<S>) -> Result<Fiel
     ensures caused { IfErr result (IsReadingFault cache.old.store cache.new.store) }
     ensures damaged { IfErr result (IsTrulyDamaged cache.old.store.is_faithful
         (payload_of cache.old) cache.old.count) }
+    ensures zero { IfErr result (λ e. (page : ℕ) → e ≡ Damaged page → page ≡ 0) }
 {
     match cache.page(0) {
         Ok(payload) => header_of(payload),

@@ -1,14 +1,16 @@
 //! A catalogue is read back from the pages of a store.
-ghost use Rattle.std.specs.Prelude.{◌≡◌, ◌≤◌, ◌↔◌, [], List, Option, Some, None, IsTrue, IfErr, IfOk, OnOk};
+ghost use Rattle.std.specs.Prelude.{ℕ, ◌≡◌, ◌≤◌, ◌↔◌, [], List, Option, Some, None, IsTrue, IfErr, IfOk, OnOk};
 ghost use Rattle.std.specs.Int.{div_ceil};
 ghost use Rattle.pages.specs.Store.{IsLawful};
+ghost use Rattle.pages.specs.declared.payload.Payload.{Payload};
 ghost use Rattle.pagecache.specs.Cache.{payload_of};
 ghost use Rattle.chains.specs.Reads.{OnlyReads};
 ghost use Rattle.register.specs.Chain.{most_used};
-ghost use Rattle.register.specs.ChainReader.{IsBroken, IsReadFault};
+ghost use Rattle.register.specs.ChainReader.{reader_of, BreaksAt, IsReaderFault, MayBe};
 ghost use Rattle.register.specs.Building.{tree_of};
 ghost use Rattle.register.specs.Lasting.{first_fault, ComesFirst, IsKept, IsReadingFault, IsStop, IsTrulyDamaged};
 ghost use Rattle.register.specs.Restoring.{HoldsContents, IsRest};
+ghost use Rattle.register.specs.Stopping.{IsNamed};
 ghost use Rattle.register.specs.Saved.{CatalogueView};
 ghost use Rattle.register.specs.Text.{AreFew};
 ghost use Rattle.tbtree.specs.declared.tree.Place.{Place};
@@ -41,15 +43,13 @@ fn read_contents<S: PageStore>(
     cache: &mut PageCache<S>,
     fields: &Fields,
 ) -> Result<Option<Contents>, CatalogueFault>
-    ensures holds { IfOk result (λ contents. IsTrue cache.old.store.is_faithful
-        → HoldsContents (payload_of cache.old) cache.old.count fields.now.first fields.now.length
-        contents) }
-    ensures broken { IfErr result (λ e. IsBroken e → IsTrue cache.old.store.is_faithful
-        → (contents : Option Contents) → AreFew fields.now.limits.legs contents
-        → HoldsContents (payload_of cache.old) cache.old.count fields.now.first fields.now.length
-        contents → ⊥) }
+    ensures holds { IfOk result (λ contents. (at : ℕ → Option Payload) → MayBe cache.old at
+        → HoldsContents at cache.old.count fields.now.first fields.now.length contents) }
+    ensures broken { IfErr result (λ e. (at : ℕ → Option Payload) → MayBe cache.old at
+        → BreaksAt at e → (contents : Option Contents) → AreFew fields.now.limits.legs contents
+        → HoldsContents at cache.old.count fields.now.first fields.now.length contents → ⊥) }
     ensures reads { OnlyReads cache.old cache.new }
-    ensures caused { IfErr result (IsReadFault cache.old cache.new) }
+    ensures caused { IfErr result (IsReaderFault cache.old cache.new (reader_of fields.now)) }
 {
     if !is_short(cache, fields.length) {
         return Err(CatalogueFault::Malformed);
@@ -66,13 +66,13 @@ fn read_rest<S: PageStore>(
     cache: &mut PageCache<S>,
     fields: &Fields,
 ) -> Result<(Catalogue, Vec<Place>), CatalogueFault>
-    ensures rest { IfOk result (λ r. IsTrue cache.old.store.is_faithful
-        → IsRest (payload_of cache.old) cache.old.count fields.now r.0 r.1.items) }
-    ensures broken { IfErr result (λ e. IsBroken e → IsTrue cache.old.store.is_faithful
-        → (c : CatalogueView) (places : List Place)
-        → IsRest (payload_of cache.old) cache.old.count fields.now c places → ⊥) }
+    ensures rest { IfOk result (λ r. (at : ℕ → Option Payload) → MayBe cache.old at
+        → IsRest at cache.old.count fields.now r.0 r.1.items) }
+    ensures broken { IfErr result (λ e. (at : ℕ → Option Payload) → MayBe cache.old at
+        → BreaksAt at e → (c : CatalogueView) (places : List Place)
+        → IsRest at cache.old.count fields.now c places → ⊥) }
     ensures reads { OnlyReads cache.old cache.new }
-    ensures caused { IfErr result (IsReadFault cache.old cache.new) }
+    ensures caused { IfErr result (IsReaderFault cache.old cache.new (reader_of fields.now)) }
 {
     let count = cache.count();
     if !is_within(count, fields) {
@@ -110,7 +110,7 @@ pub struct Restored {
 /// Refused where they keep none, memory runs out, or the store fails. Of page 0 it is said first
 /// that it is not there (`Malformed`), is damaged, is no header (`Malformed`), has another version,
 /// is of a store that was not finished, or of one in another state (`Malformed`); then the first
-/// page that is damaged, or malformed, as met.
+/// page along the text that is damaged, or that the text up to there is malformed, as met.
 pub fn read_back<S: PageStore>(
     alloc: Global,
     keys: RandomState,
@@ -127,6 +127,8 @@ pub fn read_back<S: PageStore>(
     ensures caused { IfErr result (IsReadingFault cache.old.store cache.new.store) }
     ensures damaged { IfErr result (IsTrulyDamaged cache.old.store.is_faithful
         (payload_of cache.old) cache.old.count) }
+    ensures named { IfErr result (λ e. IsTrue cache.old.store.is_faithful
+        → IsNamed (payload_of cache.old) cache.old.count e) }
 {
     let fields = read_header(cache)?;
     let (catalogue, places) = read_rest(alloc, keys, cache, &fields)?;

@@ -3,6 +3,8 @@ ghost use Rattle.std.specs.Prelude.{List, ℕ, ◌≡◌, ◌<◌, ◌≤◌, �
 ghost use Rattle.std.specs.Int.{div_ceil};
 ghost use Rattle.pages.specs.Store.{IsSynced};
 ghost use Rattle.pagecache.specs.Cache.{is_changed, page_of, payload_of, IsClean, IsWritten, Rests, SameLength, Stays};
+ghost use Rattle.pages.specs.declared.payload.Payload.{Payload};
+ghost use Rattle.tbnode.specs.Parts.{number_at};
 ghost use Rattle.register.specs.Chain.{most_used};
 ghost use Rattle.register.specs.ChainWriter.{HasText, Holds};
 ghost use Rattle.register.specs.Lasting.{Says};
@@ -13,7 +15,8 @@ ghost use Rattle.byteorder.specs.Endian.{big_bytes};
 ghost use Rattle.legs.specs.Limits.{IsLimits};
 ghost use Rattle.tbtree.specs.Shape.{IsShape};
 ghost use Rattle.register.specs.Fields.{FitsFields};
-ghost use Rattle.register.specs.ChainSteps.{SparesTree};
+ghost use Rattle.register.specs.ChainSteps.{IsAhead, SparesTree};
+ghost use Rattle.register.specs.Earlier.{AddsFew, AreEarlier};
 ghost use Rattle.register.specs.Saved.{dimension_of, fields_for, head_of, Continues, IsWrittenButFirst, KeepsFront};
 ghost use Rattle.register.specs.Saving.{contents_of, end_of, feature_at, features_of, HasFew, HasFirst, IsAllowed, IsCatalogue, IsCaused, IsNotWritten, KeepsTree, Puts, PutsFields, Saves};
 ghost use Rattle.register.specs.declared.fault.CatalogueFault.TheVariants.{Malformed};
@@ -264,6 +267,9 @@ fn write_catalogue<S: PageStore>(
 
 /// The first page of the earlier catalogue, 0 for none.
 fn earlier_page<S: PageStore>(cache: &mut PageCache<S>) -> Result<u32, CatalogueFault>
+    ensures first { IfOk result (λ page. IsTrue cache.old.store.is_faithful → (payload : Payload)
+        → payload_of cache.old 0 ≡ Some payload → page ≡ number_at 4 44 payload.bytes) }
+    ensures some { OnOk result (0 < cache.old.count) }
     ensures reads { OnlyReads cache.old cache.new }
     ensures only { IsTrue cache.old.store.is_faithful → 0 < cache.old.count
         → HasFirst cache.old → IfErr result IsAllowed }
@@ -317,6 +323,9 @@ fn write_chain<S: PageStore>(
         (catalogue_text (contents_of catalogue.now places.now))) }
     ensures few { IfOk result (λ r. IsTrue cache.old.store.is_faithful
         → div_ceil r.1 most_used ≤ cache.new.count) }
+    ensures takes { OnOk result ((pages : List ℕ) → IsAhead cache.old [] earlier pages
+        → AddsFew cache.old.count (catalogue_text (contents_of catalogue.now places.now)) pages
+        cache.new.count) }
     ensures whole { OnOk result (IsCatalogue catalogue.now
         → IsWhole (contents_of catalogue.now places.now)) }
     ensures only { HasFew catalogue.now → IsTrue cache.old.store.is_faithful
@@ -368,6 +377,9 @@ fn write_whole<S: PageStore>(
         (catalogue_text (contents_of catalogue.now places.now))) }
     ensures few { IfOk result (λ r. IsTrue cache.old.store.is_faithful
         → div_ceil r.1 most_used ≤ cache.new.count) }
+    ensures takes { OnOk result ((pages : List ℕ) → IsAhead cache.old [] earlier pages
+        → AddsFew cache.old.count (catalogue_text (contents_of catalogue.now places.now)) pages
+        cache.new.count) }
     ensures whole { OnOk result (IsCatalogue catalogue.now
         → IsWhole (contents_of catalogue.now places.now)) }
     ensures written { OnOk result (IsClean cache.new) }
@@ -439,6 +451,9 @@ pub fn keep<S: PageStore>(
     ensures later { Continues cache.old cache.new }
     ensures tree { SparesTree cache.old cache.new }
     ensures length { OnOk result (KeepsLength cache.old cache.new) }
+    ensures takes { OnOk result (IsTrue cache.old.store.is_faithful → (pages : List ℕ)
+        → AreEarlier (payload_of cache.old) pages → AddsFew cache.old.count
+        (catalogue_text (contents_of catalogue.now places.now)) pages cache.new.count) }
     ensures written { OnOk result (IsWrittenButFirst cache.new) }
     ensures synced { OnOk result (IsSynced cache.new.store) }
     ensures only { HasFew catalogue.now → IsTrue cache.old.store.is_faithful

@@ -1,7 +1,7 @@
 //! The values of a text, as they are read one after another.
-ghost use Rattle.std.specs.Prelude.{◌≡◌, ◌∷◌, ◌≤◌, [], take, length, IsTrue, IsUtf8, IsErrOf, IfErr, IfOk, IfSome, None, OnOk};
+ghost use Rattle.std.specs.Prelude.{◌≡◌, ◌∷◌, ◌≤◌, [], ℕ, Option, take, length, IsUtf8, IsErrOf, IfErr, IfOk, IfSome, None, OnOk};
 ghost use Rattle.byteorder.specs.Endian.{big_bytes};
-ghost use Rattle.pagecache.specs.Cache.{payload_of};
+ghost use Rattle.pages.specs.declared.payload.Payload.{Payload};
 ghost use Rattle.tbnode.specs.Parts.{signed_bytes};
 ghost use Rattle.rows.specs.Rows.{with_value};
 ghost use Rattle.register.specs.declared.fault.CatalogueFault.{CatalogueFault};
@@ -39,20 +39,19 @@ fn put_value(rows: &mut GrowingRows, text: &str) -> Result<(), CatalogueFault>
 }
 
 impl ChainReader {
-    ghost use Rattle.register.specs.ChainReader.{rest_of, IsReadFault, IsTextFault, Takes, TakesInto};
+    ghost use Rattle.register.specs.ChainReader.{rest_of, IsReaderFault, IsTextFault, MayBe, ReadsOn, Takes, TakesInto};
     ghost use Rattle.register.specs.Text.{short_text, IsNumber, IsSigned, IsShortText};
-    ghost use Rattle.chains.specs.Reads.{OnlyReads};
 
     /// A number of one byte.
     pub(crate) fn byte<S: PageStore>(
         &mut self,
         cache: &mut PageCache<S>,
     ) -> Result<u8, CatalogueFault>
-        ensures takes { IsTrue cache.old.store.is_faithful → Takes (λ n. n ∷ []) (IsNumber 8)
-            (rest_of (payload_of cache.old) self.old) (rest_of (payload_of cache.new) self.new)
-            result }
-        ensures reads { OnlyReads cache.old cache.new }
-        ensures caused { IfErr result (IsReadFault cache.old cache.new) }
+        ensures takes { (at : ℕ → Option Payload) → MayBe cache.old at
+            → Takes at (λ n. n ∷ []) (IsNumber 8)
+            (rest_of at self.old) (rest_of at self.new) result }
+        ensures reads { ReadsOn cache.old cache.new self.old self.new }
+        ensures caused { IfErr result (IsReaderFault cache.old cache.new self.old) }
     {
         self.fill(cache, 1)?;
         let value = self.ahead(1)[0];
@@ -65,11 +64,11 @@ impl ChainReader {
         &mut self,
         cache: &mut PageCache<S>,
     ) -> Result<u32, CatalogueFault>
-        ensures takes { IsTrue cache.old.store.is_faithful → Takes (big_bytes 4) (IsNumber 32)
-            (rest_of (payload_of cache.old) self.old) (rest_of (payload_of cache.new) self.new)
-            result }
-        ensures reads { OnlyReads cache.old cache.new }
-        ensures caused { IfErr result (IsReadFault cache.old cache.new) }
+        ensures takes { (at : ℕ → Option Payload) → MayBe cache.old at
+            → Takes at (big_bytes 4) (IsNumber 32)
+            (rest_of at self.old) (rest_of at self.new) result }
+        ensures reads { ReadsOn cache.old cache.new self.old self.new }
+        ensures caused { IfErr result (IsReaderFault cache.old cache.new self.old) }
     {
         self.fill(cache, 4)?;
         let value = u32_of(self.ahead(4));
@@ -82,11 +81,11 @@ impl ChainReader {
         &mut self,
         cache: &mut PageCache<S>,
     ) -> Result<u64, CatalogueFault>
-        ensures takes { IsTrue cache.old.store.is_faithful → Takes (big_bytes 8) (IsNumber 64)
-            (rest_of (payload_of cache.old) self.old) (rest_of (payload_of cache.new) self.new)
-            result }
-        ensures reads { OnlyReads cache.old cache.new }
-        ensures caused { IfErr result (IsReadFault cache.old cache.new) }
+        ensures takes { (at : ℕ → Option Payload) → MayBe cache.old at
+            → Takes at (big_bytes 8) (IsNumber 64)
+            (rest_of at self.old) (rest_of at self.new) result }
+        ensures reads { ReadsOn cache.old cache.new self.old self.new }
+        ensures caused { IfErr result (IsReaderFault cache.old cache.new self.old) }
     {
         self.fill(cache, 8)?;
         let value = u64_of(self.ahead(8));
@@ -99,11 +98,10 @@ impl ChainReader {
         &mut self,
         cache: &mut PageCache<S>,
     ) -> Result<i64, CatalogueFault>
-        ensures takes { IsTrue cache.old.store.is_faithful → Takes signed_bytes IsSigned
-            (rest_of (payload_of cache.old) self.old) (rest_of (payload_of cache.new) self.new)
-            result }
-        ensures reads { OnlyReads cache.old cache.new }
-        ensures caused { IfErr result (IsReadFault cache.old cache.new) }
+        ensures takes { (at : ℕ → Option Payload) → MayBe cache.old at
+            → Takes at signed_bytes IsSigned (rest_of at self.old) (rest_of at self.new) result }
+        ensures reads { ReadsOn cache.old cache.new self.old self.new }
+        ensures caused { IfErr result (IsReaderFault cache.old cache.new self.old) }
     {
         self.fill(cache, 8)?;
         let value = i64_of(self.ahead(8));
@@ -149,12 +147,11 @@ impl ChainReader {
         cache: &mut PageCache<S>,
         rows: &mut GrowingRows,
     ) -> Result<(), CatalogueFault>
-        ensures takes { IsTrue cache.old.store.is_faithful → TakesInto short_text IsShortText
-            (λ text. rows.new ≡ with_value rows.old text)
-            (rest_of (payload_of cache.old) self.old) (rest_of (payload_of cache.new) self.new)
-            result }
-        ensures reads { OnlyReads cache.old cache.new }
-        ensures caused { IfErr result (IsReadFault cache.old cache.new) }
+        ensures takes { (at : ℕ → Option Payload) → MayBe cache.old at
+            → TakesInto at short_text IsShortText (λ text. rows.new ≡ with_value rows.old text)
+            (rest_of at self.old) (rest_of at self.new) result }
+        ensures reads { ReadsOn cache.old cache.new self.old self.new }
+        ensures caused { IfErr result (IsReaderFault cache.old cache.new self.old) }
     {
         let len = self.u64(cache)? as usize;
         self.fill(cache, len)?;
@@ -169,11 +166,10 @@ impl ChainReader {
         alloc: Global,
         cache: &mut PageCache<S>,
     ) -> Result<Text, CatalogueFault>
-        ensures takes { IsTrue cache.old.store.is_faithful → Takes short_text IsShortText
-            (rest_of (payload_of cache.old) self.old) (rest_of (payload_of cache.new) self.new)
-            result }
-        ensures reads { OnlyReads cache.old cache.new }
-        ensures caused { IfErr result (IsReadFault cache.old cache.new) }
+        ensures takes { (at : ℕ → Option Payload) → MayBe cache.old at
+            → Takes at short_text IsShortText (rest_of at self.old) (rest_of at self.new) result }
+        ensures reads { ReadsOn cache.old cache.new self.old self.new }
+        ensures caused { IfErr result (IsReaderFault cache.old cache.new self.old) }
     {
         let len = self.u64(cache)? as usize;
         self.fill(cache, len)?;

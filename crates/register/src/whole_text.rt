@@ -1,6 +1,5 @@
 //! The whole text of a catalogue.
 ghost use Rattle.std.specs.Prelude.{ℕ, [], Option, Some, ◌≡◌, ◌≢◌, ◌↔◌, IsTrue, IfErr, IfOk};
-ghost use Rattle.pagecache.specs.Cache.{payload_of};
 ghost use Rattle.pages.specs.declared.payload.Payload.{Payload};
 
 use crate::chain_reader::ChainReader;
@@ -12,10 +11,9 @@ use pages::PageStore;
 use std::alloc::Global;
 
 impl ChainReader {
-    ghost use Rattle.register.specs.ChainReader.{rest_of, IsBroken, IsReadFault, Takes};
+    ghost use Rattle.register.specs.ChainReader.{rest_of, BreaksAt, IsReaderFault, MayBe, ReadsOn, Takes};
     ghost use Rattle.register.specs.Text.{body_text, catalogue_text, IsBody, IsRead};
     ghost use Rattle.register.specs.declared.contents.Contents.{Contents};
-    ghost use Rattle.chains.specs.Reads.{OnlyReads};
 
     /// What stands behind the byte that says whether a file was accepted.
     fn body<S: PageStore>(
@@ -25,12 +23,11 @@ impl ChainReader {
         limits: &Limits,
         flag: u8,
     ) -> Result<Option<Contents>, CatalogueFault>
-        ensures takes { IsTrue cache.old.store.is_faithful
-            → Takes body_text (IsBody limits.now.legs flag)
-            (rest_of (payload_of cache.old) self.old) (rest_of (payload_of cache.new) self.new)
-            result }
-        ensures reads { OnlyReads cache.old cache.new }
-        ensures caused { IfErr result (IsReadFault cache.old cache.new) }
+        ensures takes { (at : ℕ → Option Payload) → MayBe cache.old at
+            → Takes at body_text (IsBody limits.now.legs flag)
+            (rest_of at self.old) (rest_of at self.new) result }
+        ensures reads { ReadsOn cache.old cache.new self.old self.new }
+        ensures caused { IfErr result (IsReaderFault cache.old cache.new self.old) }
     {
         match flag {
             0 => Ok(None),
@@ -49,12 +46,11 @@ impl ChainReader {
         cache: &mut PageCache<S>,
         limits: &Limits,
     ) -> Result<Option<Contents>, CatalogueFault>
-        ensures takes { IsTrue cache.old.store.is_faithful
-            → Takes catalogue_text (IsRead limits.now.legs)
-            (rest_of (payload_of cache.old) self.old) (rest_of (payload_of cache.new) self.new)
-            result }
-        ensures reads { OnlyReads cache.old cache.new }
-        ensures caused { IfErr result (IsReadFault cache.old cache.new) }
+        ensures takes { (at : ℕ → Option Payload) → MayBe cache.old at
+            → Takes at catalogue_text (IsRead limits.now.legs)
+            (rest_of at self.old) (rest_of at self.new) result }
+        ensures reads { ReadsOn cache.old cache.new self.old self.new }
+        ensures caused { IfErr result (IsReaderFault cache.old cache.new self.old) }
     {
         let flag = self.byte(cache)?;
         let contents = self.body(alloc, cache, limits, flag)?;
@@ -82,14 +78,14 @@ impl ChainReader {
         cache: &mut PageCache<S>,
         limits: &Limits,
     ) -> Result<Option<Contents>, CatalogueFault>
-        ensures whole { IfOk result (λ contents. IsTrue cache.old.store.is_faithful
+        ensures whole { IfOk result (λ contents. (at : ℕ → Option Payload) → MayBe cache.old at
             → IsRead limits.now.legs contents
-            × (rest_of (payload_of cache.old) self.old ≡ Some (catalogue_text contents))) }
-        ensures broken { IfErr result (λ e. IsBroken e → IsTrue cache.old.store.is_faithful
-            → (contents : Option Contents) → IsRead limits.now.legs contents
-            → rest_of (payload_of cache.old) self.old ≢ Some (catalogue_text contents)) }
-        ensures reads { OnlyReads cache.old cache.new }
-        ensures caused { IfErr result (IsReadFault cache.old cache.new) }
+            × (rest_of at self.old ≡ Some (catalogue_text contents))) }
+        ensures broken { IfErr result (λ e. (at : ℕ → Option Payload) → MayBe cache.old at
+            → BreaksAt at e → (contents : Option Contents) → IsRead limits.now.legs contents
+            → rest_of at self.old ≢ Some (catalogue_text contents)) }
+        ensures reads { ReadsOn cache.old cache.new self.old self.new }
+        ensures caused { IfErr result (IsReaderFault cache.old cache.new self.old) }
     {
         let contents = self.catalogue(alloc, cache, limits)?;
         if !self.is_at_end() {

@@ -1,5 +1,5 @@
 -- A database that lasts between runs.
-use Rattle.std.proofs.Common.{ℕ, Bool, Option, ◌≡◌, refl, sym, ap, ◌∙◌, subst, true, false, Result, Ok, Err, IsTrue}
+use Rattle.std.proofs.Common.{ℕ, Bool, Option, ◌≡◌, refl, sym, ap, ◌∙◌, arith, subst, true, false, Result, Ok, Err, IsTrue}
 use Rattle.std.specs.Prelude.{◌⊎◌, IfErr, OnErr, OnOk}
 use Rattle.legs.specs.Book.{Book}
 use Rattle.legs.specs.Costs.{ShapeView}
@@ -9,6 +9,7 @@ use Rattle.legs.specs.Tracks.{StandsFor}
 use Rattle.boxsearch.specs.Index.{content, words, IndexView, IsMarked, IsSound as IsSoundIndex}
 use Rattle.catalogue.specs.Holding.{AnswersBook, HoldsBook, HoldsButFirst, IsAtRest, IsOfBook, IsUnfinishedStore}
 use Rattle.register.specs.Lasting as catalogue
+use Rattle.register.specs.Stopping as stopping
 use Rattle.register.specs.Saved.{CatalogueView}
 use Rattle.register.specs.Saving.{IsAllowed}
 use Rattle.register.specs.declared.fault.CatalogueFault.{CatalogueFault}
@@ -24,7 +25,7 @@ use Rattle.trajdb.specs.Database.{catalogue_of, restored}
 use Rattle.trajdb.specs.Db.{DbView, HasPages, IsSound}
 use Rattle.trajdb.specs.Db.{IsAllowed as IsAllowedOpening}
 use Rattle.trajdb.specs.Faults.{closed_answer, opened_fault_of}
-use Rattle.trajdb.specs.Lasting.{HasBook, IsFaultless, IsIdle, IsStop, IsTrulyDamaged}
+use Rattle.trajdb.specs.Lasting.{HasBook, IsFaultless, IsIdle, IsNamed, IsStop, IsTrulyDamaged, TakesFew}
 
 -- a book that is answered is that of the database
 pub opened_book : (shape : ShapeView) (limits : LimitsView) (book : Book) (c : CatalogueView) (index : IndexView) (begun : Bool) (db : DbView) → db ≡ restored words c index begun → IsLimits db.limits → AnswersBook shape limits book c index → HasBook shape limits book db
@@ -54,6 +55,16 @@ damaged_still faithful at count (Damaged page) h = h
 damaged_still faithful at count Unfinished h = tt
 damaged_still faithful at count Version h = tt
 damaged_still faithful at count Malformed h = tt
+
+-- and what is named
+pub named_still : (at : ℕ → Option Payload) (count : ℕ) (e : CatalogueFault) → stopping.IsNamed at count e → IsNamed at count (opened_fault_of e)
+named_still at count Memory h = tt
+named_still at count fault.Store h = tt
+named_still at count StoreFull h = tt
+named_still at count (Damaged page) h = h
+named_still at count Unfinished h = tt
+named_still at count Version h = tt
+named_still at count Malformed h = h
 
 -- want of memory and a store that failed stay so
 pub stopped : (e : CatalogueFault) → catalogue.IsStop e → IsStop (opened_fault_of e)
@@ -106,6 +117,17 @@ closed_holds db s (Err e) legs h begun = tt
 pub closed_synced : (B : Type 0) (s : Store) (answer : Result (Unit {0}) CatalogueFault) → OnOk answer (IsSynced s) → OnOk (closed_answer answer) (B → IsSynced s)
 closed_synced B s (Ok x) h = λ b. h
 closed_synced B s (Err e) h = tt
+
+pub closed_takes : (db : DbView) (s : Store) (answer : Result (Unit {0}) CatalogueFault) → OnOk answer (IsSoundIndex db.index → TakesFew db s) → OnOk (closed_answer answer) (IsSound db → TakesFew db s)
+closed_takes db s (Ok x) h = λ sound. h sound.index
+closed_takes db s (Err e) h = tt
+
+-- a store that stays as it is has no page more
+pub rest_takes : (db : DbView) (s : Store) → s ≡ db.index.cache.store → IsSound db → TakesFew db s
+rest_takes db s e sound pages earlier =
+    let count = sound.index.count in
+    let n = ap (λ (s : Store). s.count) e in
+    omega (arith, count, n)
 
 pub closed_ordered : (db : DbView) (s : Store) (answer : Result (Unit {0}) CatalogueFault) → OnErr answer (IsMarked db.index.cache → IsUnfinishedStore s ⊎ IsSyncedButFirst s)
     → OnErr (closed_answer answer) (db.failed ≡ false → IsMarked db.index.cache → IsUnfinishedStore s ⊎ IsSyncedButFirst s)

@@ -1,5 +1,5 @@
 -- A database that lasts between runs.
-use Rattle.std.specs.Prelude.{ℕ, ◌≡◌, ◌≤◌, ◌⊎◌, drop, Bool, true, false, Option, Some, None, Result, Ok, Err, IsTrue}
+use Rattle.std.specs.Prelude.{ℕ, ◌≡◌, ◌≤◌, ◌⊎◌, drop, Bool, true, false, List, Option, Some, None, Result, Ok, Err, IsTrue}
 use Rattle.legs.specs.Book.{Book}
 use Rattle.legs.specs.Costs.{ShapeView}
 use Rattle.legs.specs.Limits.{LimitsView}
@@ -7,7 +7,12 @@ use Rattle.pages.specs.Store.{Store, Faulted, IsLawful}
 use Rattle.pages.specs.declared.payload.Payload.{Payload}
 use Rattle.boxsearch.specs.Index.{written, IndexView, IsMarked, IsSound as IsSoundIndex}
 use Rattle.catalogue.specs.Holding.{HoldsBook, IsAtRest, IsUnfinishedStore}
+use Rattle.pagecache.specs.Cache.{payload_of}
+use Rattle.register.specs.Earlier.{AddsFew, AreEarlier}
 use Rattle.register.specs.Lasting.{IsDamagedPage}
+use Rattle.register.specs.Saving.{contents_of}
+use Rattle.register.specs.Stopping.{KeepsNothing, StopsAt}
+use Rattle.register.specs.Text.{catalogue_text}
 use Rattle.register.specs.declared.fault.CatalogueFault.{CatalogueFault}
 use Rattle.trajdb.specs.Database.{catalogue_of}
 use Rattle.trajdb.specs.Db.{DbView, IsSound}
@@ -73,6 +78,17 @@ IsTrulyDamaged faithful at count Unfinished = Unit {0}
 IsTrulyDamaged faithful at count Version = Unit {0}
 IsTrulyDamaged faithful at count Malformed = Unit {0}
 
+-- the page that is said to be damaged is the one at which reading stops; pages that are said to be
+-- malformed keep nothing, whatever stands in the damaged ones
+abbrev pub IsNamed : (ℕ → Option Payload) → ℕ → OpenFault → Type 0
+IsNamed at count Memory = Unit {0}
+IsNamed at count StoreFailed = Unit {0}
+IsNamed at count (Damaged page) = StopsAt at count page
+IsNamed at count StoreFull = Unit {0}
+IsNamed at count Unfinished = Unit {0}
+IsNamed at count Version = Unit {0}
+IsNamed at count Malformed = KeepsNothing at count
+
 -- a store that was not finished is refused as such, but for memory and a store that failed
 abbrev pub IsUnfinishedAnswer : {X Y : Type 0} → Result X (Y × OpenFault) → Type 0
 IsUnfinishedAnswer (Ok db) = ⊥
@@ -96,6 +112,12 @@ IsClosingFault db new (run.Damaged page) = Unit {0}
 IsClosingFault db new run.StoreFull = new.count ≡ new.most
 IsClosingFault db new run.Failed = db.failed ≡ true
 IsClosingFault db new run.Output = ⊥
+
+-- there are as many pages as the database had, and those that the text of its catalogue takes beyond
+-- these of an earlier one
+abbrev pub TakesFew : DbView → Store → Type 0
+TakesFew db left = (pages : List ℕ) → AreEarlier (payload_of db.index.cache) pages
+    → AddsFew db.index.cache.count (catalogue_text (contents_of (catalogue_of db) db.index.places)) pages left.count
 
 -- a store has the pages that it had, and holds a book that it held, but for page 0 where it failed since
 pub record IsUnchanged (was now : Store) : Type 0 where

@@ -91,7 +91,7 @@ impl<S: PageStore> Db<S> {
     ghost use Rattle.trajdb.specs.Calls.{IsLoadFault};
     ghost use Rattle.trajdb.specs.Database.{restored};
     ghost use Rattle.trajdb.specs.Db.{HasPages, IsSound};
-    ghost use Rattle.trajdb.specs.Lasting.{ComesFirst, HasBook, IsClosingFault, IsFaultless, IsIdle, IsOpeningFault, IsSafe, IsSafeStore, IsStop, IsTrulyDamaged, IsUnfinishedAnswer};
+    ghost use Rattle.trajdb.specs.Lasting.{ComesFirst, HasBook, IsClosingFault, IsFaultless, IsIdle, IsNamed, IsOpeningFault, IsSafe, IsSafeStore, IsStop, IsTrulyDamaged, IsUnfinishedAnswer, TakesFew};
     ghost use Rattle.trajdb.specs.declared.RunFault.{RunFault};
 
     /// Opens the database that a store keeps, with a cache of at most that many pages, at least 1. Nothing is written
@@ -100,7 +100,8 @@ impl<S: PageStore> Db<S> {
     ///
     /// Where it is refused the store is handed back. Of page 0 it is said first that it is not there (`Malformed`), is
     /// damaged, is no header (`Malformed`), has another version, is of a store that was not finished, or of one in another
-    /// state (`Malformed`); then the first page that is damaged, or malformed, as met.
+    /// state (`Malformed`); then the first page along the text of the catalogue that is damaged, or that
+    /// the text up to there is malformed, as met.
     pub fn open(
         alloc: Global,
         keys: RandomState,
@@ -148,9 +149,12 @@ impl<S: PageStore> Db<S> {
         ensures caused { IfErr result (λ back. IsOpeningFault (S.seen store) (S.seen back.0)
             back.1) }
 
-        // A page that is said to be damaged is so.
+        // A page that is said to be damaged is so, and is the first that is met; pages that are said
+        // to be malformed keep nothing, whatever stands in the damaged ones.
         ensures damaged { IfErr result (λ back. IsTrulyDamaged (S.seen store).is_faithful
             (stored_payload (S.seen store)) (S.seen store).count back.1) }
+        ensures named { IfErr result (λ back. IsTrue (S.seen store).is_faithful
+            → IsNamed (stored_payload (S.seen store)) (S.seen store).count back.1) }
     {
         catalogue::laws();
         match catalogue::open(alloc, keys, store, cache_pages) {
@@ -185,6 +189,9 @@ impl<S: PageStore> Db<S> {
 
         // All of it is synced where a file was accepted; else the store stays as it is (`idle`).
         ensures synced { OnOk result.1 (self.begun ≡ true → IsSynced (S.seen result.0)) }
+
+        // New pages are taken only for what its text needs beyond those of an earlier one.
+        ensures takes { OnOk result.1 (IsSound self → TakesFew self (S.seen result.0)) }
         ensures only { IfErr result.1 (λ fault. IsSound self → self.failed ≡ false
             → IsLoadFault fault) }
         ensures unfinished { IfErr result.1 (λ fault. IsFaultless fault → IsSound self → HasPages self

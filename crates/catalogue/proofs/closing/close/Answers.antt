@@ -2,6 +2,9 @@ use Rattle.std.proofs.Common.{ap, subst, sym, ◌∙◌, ◌⊎◌}
 use Rattle.pages.specs.Store.{IsLawful, IsSynced, IsSyncedButFirst, Store}
 use Rattle.pagecache.specs.Cache.{Cache}
 use Rattle.boxsearch.specs.Index.{IsMarked, IsSound}
+use Rattle.register.specs.Earlier.{AddsFew}
+use Rattle.register.specs.Saving.{contents_of}
+use Rattle.register.specs.Text.{catalogue_text}
 use Rattle.catalogue.specs.Closing.{IsNoStoreFault}
 use Rattle.catalogue.specs.Holding.{HoldsBook, HoldsButFirst, IsUnfinishedStore}
 use Rattle.catalogue.proofs.ResultLemmas.{if_err, on_ok}
@@ -39,3 +42,11 @@ pub returns-clause-ordered : goal.returns-clause-ordered
 returns-clause-ordered g c =
     let left = c.into_store.ensures ∙ ap (λ (k : Cache). k.store) c.into_cache-cache.ensures in
     map_err c.save_and_finish-result.result (λ ordered marked. subst (λ (s : Store). IsUnfinishedStore s ⊎ IsSyncedButFirst s) (sym left) (ordered marked)) c.save_and_finish-result.ensures.ordered
+
+pub returns-clause-takes : goal.returns-clause-takes
+returns-clause-takes g c =
+    let left = c.into_store.ensures ∙ ap (λ (k : Cache). k.store) c.into_cache-cache.ensures in
+    let i = c.args.index in
+    let text = catalogue_text (contents_of c.args.catalogue.now i.places) in
+    on_ok c.save_and_finish-result.result (λ takes sound pages earlier.
+    subst (λ (s : Store). AddsFew i.cache.count text pages s.count) (sym left) (takes sound pages earlier)) c.save_and_finish-result.ensures.takes

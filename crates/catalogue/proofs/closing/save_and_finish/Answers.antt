@@ -1,15 +1,17 @@
-use Rattle.std.proofs.Common.{◌≡◌, ◌∙◌, [], ap, inl, inr, refl, sym, subst, arith, Some}
+use Rattle.std.proofs.Common.{◌≡◌, ◌∙◌, [], ap, inl, inr, refl, sym, subst, arith, Some, Result, Ok, Err, OnOk}
 use Rattle.std.proofs.lemmas.Result.{err_from_is_err_and}
 use Rattle.timebase.specs.Instant.{IsMoment}
 use Rattle.legs.specs.Book.{Book}
 use Rattle.legs.specs.declared.head.BookHead.{BookHead}
-use Rattle.pagecache.specs.Cache.{IsSettled}
+use Rattle.pagecache.specs.Cache.{payload_of, IsSettled}
 use Rattle.boxsearch.specs.Beside.{with_cache}
 use Rattle.boxsearch.specs.Index.{content, IndexView, IsMarked, IsSound}
 use Rattle.catalogue.specs.Closing.{IsNoStoreFault}
 use Rattle.catalogue.specs.Holding.{HoldsBook, HoldsButFirst, IsOfBook, IsUnfinishedStore}
 use Rattle.register.specs.Saved.{CatalogueView}
-use Rattle.register.specs.Saving.{IsAllowed}
+use Rattle.register.specs.Earlier.{AddsFew, AreEarlier}
+use Rattle.register.specs.Saving.{contents_of, IsAllowed}
+use Rattle.register.specs.Text.{catalogue_text}
 use Rattle.catalogue.proofs.CloseLemmas.{closed_holds, front_unfinished, front_unwritten, of_catalogue, of_few, of_lawful, of_within, only_memory, says_stored, still_says, PlaceLaws}
 use Rattle.catalogue.proofs.ResultLemmas.{if_err_of, on_ok}
 use Rattle.catalogue.proofs.RefusedLemmas.{any_err, behind_holds, synced_but_first}
@@ -120,3 +122,25 @@ returns-in_err-save-clause-ordered g c = any_err c.from_residual.result (λ was.
 pub returns-clause-ordered : goal.returns-clause-ordered
 returns-clause-ordered g c = any_err c.finish.result (λ was.
     inr (c.finish.ensures.others_synced c.in_ok-save.ensures.written.clean (synced_but_first c.save.new.index.cache.store c.in_ok-save.ensures.synced)))
+
+pub returns-clause-takes : goal.returns-clause-takes
+returns-clause-takes g c =
+    let i = c.settled.new.index in
+    let j = c.save.new.index in
+    let new = c.finish.new.index.cache in
+    let catalogue = c.args.catalogue.now in
+    let laws = c.laws.ensures in
+    let same : i ≡ with_cache c.args.index.now c.args.index.now.cache [] = c.settled.ensures.same in
+    any_ok c.finish.result (λ was_sound pages earlier.
+    let beside = laws.alike c.args.index.now.cache c.args.index.now.cache refl refl refl (λ _ n. refl) in
+    let sound : IsSound i = subst (λ (x : IndexView). IsSound x) (sym same) (laws.sound c.args.index.now c.args.index.now.cache [] beside was_sound) in
+    let saved : IsSound j = c.in_ok-save.ensures.sound sound in
+    let count : j.cache.count ≡ new.store.count = saved.count ∙ sym c.finish.ensures.later.length in
+    let places : j.places ≡ c.args.index.now.places = ap (λ (x : IndexView). x.places) c.save.ensures.same ∙ ap (λ (x : IndexView). x.places) same in
+    let takes = c.in_ok-save.ensures.takes sound.faithful pages (subst (λ (x : IndexView). AreEarlier (payload_of x.cache) pages) (sym same) earlier) in
+    subst (λ n. AddsFew c.args.index.now.cache.count (catalogue_text (contents_of catalogue c.args.index.now.places)) pages n) count
+    (subst (λ l. AddsFew c.args.index.now.cache.count (catalogue_text (contents_of catalogue l)) pages j.cache.count) places
+    (subst (λ (x : IndexView). AddsFew x.cache.count (catalogue_text (contents_of catalogue j.places)) pages j.cache.count) same takes))) where
+      any_ok : {T E P : Type 0} (r : Result T E) → P → OnOk r P
+      any_ok (Ok x) h = h
+      any_ok (Err e) h = tt

@@ -10,6 +10,7 @@ use Rattle.tbtree.specs.declared.tree.TbTree.{TbTree}
 use Rattle.register.specs.Saved.{CatalogueView}
 use Rattle.catalogue.specs.Holding.{AnswersBook, HoldsBook}
 use Rattle.register.specs.Lasting.{IsKept, IsStop}
+use Rattle.register.specs.Stopping.{IsNamed}
 use Rattle.catalogue.proofs.opening.open.Goals as goal
 
 pub returns-clause-book : goal.returns-clause-book
@@ -26,3 +27,8 @@ pub returns-clause-kept : goal.returns-clause-kept
 returns-clause-kept g c =
     subst (λ (s : Store). IfErr c.open_cache.result (λ back. IsTrue s.is_faithful → (k : CatalogueView) (tree : TbTree) (places : List Place) → IsKept (stored_payload s) s.count k tree places → IsStop back.1))
     (ap (λ (k : Cache). k.store) c.in-Ok.ensures.fresh) c.open_cache.ensures.kept
+
+pub returns-clause-named : goal.returns-clause-named
+returns-clause-named g c =
+    subst (λ (s : Store). IfErr c.open_cache.result (λ back. IsTrue s.is_faithful → IsNamed (stored_payload s) s.count back.1))
+    (ap (λ (k : Cache). k.store) c.in-Ok.ensures.fresh) c.open_cache.ensures.named

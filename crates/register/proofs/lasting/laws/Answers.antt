@@ -1,3 +1,4 @@
+use Rattle.register.proofs.EarlierLemmas.{earlier_pages}
 use Rattle.register.proofs.SameLemmas.{kept_same}
 use Rattle.register.proofs.StateLemmas.{stated_says}
 use Rattle.register.proofs.lasting.laws.Goals as goal
@@ -7,3 +8,6 @@ returns-clause-same c = kept_same
 
 pub returns-clause-state : goal.returns-clause-state
 returns-clause-state c = stated_says
+
+pub returns-clause-earlier : goal.returns-clause-earlier
+returns-clause-earlier c = earlier_pages

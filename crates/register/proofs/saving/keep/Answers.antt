@@ -1,5 +1,9 @@
-use Rattle.std.proofs.Common.{◌∙◌, refl, sym, Result, Ok, Err, OnOk, ⊎_elim}
+use Rattle.std.proofs.Common.{List, ℕ, [], ◌∙◌, refl, sym, subst, Result, Ok, Err, OnOk, ⊎_elim}
 use Rattle.register.proofs.ReaderLemmas.{on_ok}
+use Rattle.register.proofs.ReuseLemmas.{ahead_reads, begun_ahead}
+use Rattle.register.specs.Earlier.{AddsFew}
+use Rattle.register.specs.Saving.{contents_of}
+use Rattle.register.specs.Text.{catalogue_text}
 use Rattle.register.proofs.SaveLemmas.{all_spare, keeps_front, not_zero, puts_length, says}
 use Rattle.register.proofs.saving.keep.Goals as goal
 
@@ -50,3 +54,15 @@ returns-clause-tree g c =
 pub returns-clause-synced : goal.returns-clause-synced
 returns-clause-synced g c =
     on_ok c.write_fields.result (λ puts. ⊎_elim (λ e. e ∙ c.in_ok-first.ensures.synced) (λ e. e) (puts.lends.unsynced.clean c.in_ok-first.ensures.written)) c.write_fields.ensures.puts
+
+pub returns-clause-takes : goal.returns-clause-takes
+returns-clause-takes g c =
+    let a = c.args.cache.now in
+    let b = c.earlier_page.new.cache in
+    let d = c.write_fields.new.cache in
+    let earlier = c.in_ok-earlier.earlier in
+    let reads = c.earlier_page.ensures.reads in
+    let text : List ℕ = catalogue_text (contents_of c.args.catalogue.now c.args.places.now) in
+    on_ok c.write_fields.result (λ puts fa es are.
+    let ahead = ahead_reads a b [] earlier es reads (begun_ahead a earlier es fa c.in_ok-earlier.ensures.some c.in_ok-earlier.ensures.first are) in
+    subst (λ n. AddsFew n text es d.count) reads.count (subst (λ n. AddsFew b.count text es n) (sym puts.lends.writes.count) (c.in_ok-first.ensures.takes es ahead))) c.write_fields.ensures.puts

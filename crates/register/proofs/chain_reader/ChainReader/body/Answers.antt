@@ -1,5 +1,4 @@
 use Rattle.std.proofs.Common.{sym, subst}
-use Rattle.pagecache.specs.Cache.{payload_of}
 use Rattle.register.specs.ChainReader.{rest_of}
 use Rattle.register.specs.Text.{body_text, IsBody}
 use Rattle.register.proofs.SequenceLemmas.{Lacks}
@@ -7,9 +6,9 @@ use Rattle.register.proofs.WholeLemmas.{no_body}
 use Rattle.register.proofs.chain_reader.ChainReader.body.Goals as goal
 
 pub returns-in-Err-clause-takes : goal.returns-in-Err-clause-takes
-returns-in-Err-clause-takes g c = λ fa.
-    let old = rest_of (payload_of c.args.cache.now) c.args.self.now in
+returns-in-Err-clause-takes g c = λ at may.
+    let old = rest_of at c.args.self.now in
     record {
       taken = tt;
-      lacks = λ b. subst (λ n. Lacks body_text (IsBody c.args.limits.now.legs n) old) (sym c.in-1.is) (no_body c.args.limits.now.legs old ((c.in-Err.ensures.takes fa).lacks b));
+      lacks = λ b. subst (λ n. Lacks body_text (IsBody c.args.limits.now.legs n) old) (sym c.in-1.is) (no_body c.args.limits.now.legs old ((c.in-Err.ensures.takes at may).lacks b));
     }

@@ -1,13 +1,13 @@
 use Rattle.std.proofs.Common.{◌∙◌, ap, sym, arith, length}
 use Rattle.std.proofs.lemmas.List.{length-drop}
-use Rattle.pagecache.specs.Cache.{payload_of}
-use Rattle.register.proofs.ReaderLemmas.{ended, reads_trans}
+use Rattle.std.proofs.lemmas.Result.{err_from_is_err_and}
+use Rattle.register.proofs.ReaderLemmas.{ended, goes_on, later, may_still}
 use Rattle.register.proofs.chain_reader.ChainReader.fill.Goals as goal
 
 pub returns-then-self-eq0-clause-broken : goal.returns-then-self-eq0-clause-broken
-returns-then-self-eq0-clause-broken g c = λ u f text e.
+returns-then-self-eq0-clause-broken g c = λ at may u text e.
     let view = ap (λ v. v.left) c.self.view_is in
-    let end = ended (payload_of c.loop-self.cache) c.loop-self.self text (sym view ∙ c.if-self-eq0.true) (c.loop-self.invariant.same f ∙ e) in
+    let end = ended at c.loop-self.self text (sym view ∙ c.if-self-eq0.true) (c.loop-self.invariant.same at may ∙ e) in
     let bytes = ap (λ v. length v.bytes) c.self.view_is in
     let ready = length-drop c.self.inside.taken c.self.inside.bytes.items in
     omega (arith, end, bytes, ready, c.loop-self-test.true, c.len.ensures)
@@ -15,9 +15,14 @@ returns-then-self-eq0-clause-broken g c = λ u f text e.
 pub loop-self-preserved : goal.loop-self-preserved
 loop-self-preserved g c =
     let i = c.loop-self.invariant in record {
-      reads = reads_trans c.args.cache.now c.loop-self.cache c.load.new.cache i.reads c.load.ensures.reads;
-      same = λ f. c.in_ok-load.ensures.same (i.reads.store.faithful ∙ f) ∙ i.same f;
+      reads = goes_on c.args.cache.now c.loop-self.cache c.load.new.cache i.reads c.load.ensures.reads;
+      same = λ at may. c.in_ok-load.ensures.same at (may_still i.reads may) ∙ i.same at may;
     }
 
 pub returns-in_err-load-clause-reads : goal.returns-in_err-load-clause-reads
-returns-in_err-load-clause-reads g c = reads_trans c.args.cache.now c.loop-self.cache c.load.new.cache c.loop-self.invariant.reads c.load.ensures.reads
+returns-in_err-load-clause-reads g c = goes_on c.args.cache.now c.loop-self.cache c.load.new.cache c.loop-self.invariant.reads c.load.ensures.reads
+
+pub returns-in_err-load-clause-caused : goal.returns-in_err-load-clause-caused
+returns-in_err-load-clause-caused g c =
+    let p = err_from_is_err_and c.from_residual.result c.from_residual.ensures.1 in
+    later c.args.cache.now c.loop-self.cache c.load.new.cache c.from_residual.result p.0 c.in_err-load.field-0.0 p.1 p.2 c.loop-self.invariant.reads c.in_err-load.ensures.caused

@@ -1,13 +1,12 @@
-use Rattle.std.proofs.Common.{◌≡◌, IsTrue}
-use Rattle.pagecache.specs.Cache.{payload_of}
-use Rattle.register.specs.ChainReader.{rest_of}
-use Rattle.chains.specs.Reads.{OnlyReads}
+use Rattle.std.proofs.Common.{ℕ, ◌≡◌, Option}
+use Rattle.pages.specs.declared.payload.Payload.{Payload}
+use Rattle.register.specs.ChainReader.{rest_of, MayBe, ReadsOn}
 use Rattle.register.proofs.chain_reader.ChainReader.fill.Given as goal
 
 abbrev pub invariant-loop-self : goal.invariant-loop-self
 invariant-loop-self g l = record {
-  reads : OnlyReads l.initial.cache l.cache;
-  same : IsTrue l.initial.cache.store.is_faithful → rest_of (payload_of l.cache) l.self ≡ rest_of (payload_of l.initial.cache) l.initial.self;
+  reads : ReadsOn l.initial.cache l.cache l.initial.self l.self;
+  same : (at : ℕ → Option Payload) → MayBe l.initial.cache at → rest_of at l.self ≡ rest_of at l.initial.self;
 }
 
 abbrev pub decreases-loop-self : goal.decreases-loop-self

@@ -1,8 +1,8 @@
-use Rattle.std.proofs.Common.{◌≢◌, ◌∙◌, sym, IsTrue, Option, Some}
+use Rattle.std.proofs.Common.{ℕ, ◌≢◌, ◌∙◌, sym, Option, Some}
 use Rattle.std.proofs.lemmas.Bool.{true≢false}
 use Rattle.std.proofs.lemmas.Result.{err_from_is_err_and}
-use Rattle.pagecache.specs.Cache.{payload_of}
-use Rattle.register.specs.ChainReader.{rest_of, IsBroken}
+use Rattle.pages.specs.declared.payload.Payload.{Payload}
+use Rattle.register.specs.ChainReader.{rest_of, BreaksAt, MayBe}
 use Rattle.register.specs.Text.{catalogue_text, IsRead}
 use Rattle.register.specs.declared.contents.Contents.{Contents}
 use Rattle.register.proofs.ReaderLemmas.{if_err_of}
@@ -12,14 +12,11 @@ use Rattle.register.proofs.chain_reader.ChainReader.whole.Goals as goal
 pub returns-in_err-contents-clause-broken : goal.returns-in_err-contents-clause-broken
 returns-in_err-contents-clause-broken g c =
     let p = err_from_is_err_and c.from_residual.result c.from_residual.ensures.1 in
-    let old = rest_of (payload_of c.args.cache.now) c.args.self.now in
-    if_err_of (λ e. IsBroken e → IsTrue c.args.cache.now.store.is_faithful → (contents : Option Contents) → IsRead c.args.limits.now.legs contents → old ≢ Some (catalogue_text contents)) c.from_residual.result p.0 c.in_err-contents.field-0.0 p.1 p.2
-    (λ b fa contents k. no_whole c.args.limits.now.legs old ((c.in_err-contents.ensures.takes fa).lacks b) contents k)
+    if_err_of (λ e. (at : ℕ → Option Payload) → MayBe c.args.cache.now at → BreaksAt at e → (contents : Option Contents) → IsRead c.args.limits.now.legs contents → rest_of at c.args.self.now ≢ Some (catalogue_text contents)) c.from_residual.result p.0 c.in_err-contents.field-0.0 p.1 p.2
+    (λ at may b contents k. no_whole c.args.limits.now.legs (rest_of at c.args.self.now) ((c.in_err-contents.ensures.takes at may).lacks b) contents k)
 
 pub returns-then-not-is_at_end-clause-broken : goal.returns-then-not-is_at_end-clause-broken
-returns-then-not-is_at_end-clause-broken g c = λ u fa contents k.
-    let old = rest_of (payload_of c.args.cache.now) c.args.self.now in
-    let at = payload_of c.catalogue.new.cache in
-    let read = (c.in_ok-contents.ensures.takes fa).taken in
-    left_over c.args.limits.now.legs old (rest_of at c.catalogue.new.self) c.in_ok-contents.contents contents read.0 k read.1
+returns-then-not-is_at_end-clause-broken g c = λ at may u contents k.
+    let read = (c.in_ok-contents.ensures.takes at may).taken in
+    left_over c.args.limits.now.legs (rest_of at c.args.self.now) (rest_of at c.catalogue.new.self) c.in_ok-contents.contents contents read.0 k read.1
     (λ e. true≢false (sym ((c.is_at_end.ensures at).1 e) ∙ c.if-not-is_at_end.true))

@@ -1,5 +1,7 @@
-use Rattle.std.proofs.Common.{◌≡◌, ◌+◌, ◌-◌, ap, arith}
+use Rattle.std.proofs.Common.{◌≡◌, ◌+◌, ◌-◌, ◌<◌, All, ap, arith, subst}
 use Rattle.register.proofs.ReaderLemmas.{on_ok}
+use Rattle.register.proofs.ReuseLemmas.{part_reuses}
+use Rattle.register.specs.ChainSteps.{IsPutBehind, Reuses}
 use Rattle.register.proofs.WriterLemmas.{part_holds, part_tree}
 use Rattle.register.specs.ChainWriter.{WriterView}
 use Rattle.register.proofs.chain_writer.ChainWriter.write_part.Goals as goal
@@ -20,3 +22,17 @@ returns-clause-tree g c = λ text h.
     part_tree c.args.cache.now c.take_page.new.cache c.write_page.new.cache c.args.self.now c.last-last.result c.in_ok-page.page done (done + 4040 - done) c.self.inside.pages.keys c.self.inside.text.items c.deref.result.now
     c.in_ok-page.ensures.gives c.take_page.ensures.passes (ap (λ (v : WriterView). v.pages) c.self.view_is) (ap (λ (v : WriterView). v.text) c.self.view_is) c.deref.ensures.value size c.last-last.ensures.last
     c.write_page.result text c.last-last.ensures.some c.take_page.ensures.tree c.write_page.ensures.writes c.write_page.ensures.rests h
+
+pub returns-clause-reuses : goal.returns-clause-reuses
+returns-clause-reuses g c =
+    let a = c.args.cache.now in
+    let b = c.take_page.new.cache in
+    let v : WriterView = c.args.self.now in
+    let keys = c.take_page.new.pages.keys in
+    let page = c.in_ok-page.page in
+    let pages = ap (λ (v : WriterView). v.pages) c.self.view_is in
+    let earlier = ap (λ (v : WriterView). v.earlier) c.self.view_is in
+    on_ok c.write_page.result (λ fills.
+    part_reuses a b c.write_page.new.cache v.pages keys v.earlier c.in_ok-page.next c.last-last.result page _ c.last-last.ensures.some c.last-last.ensures.last
+    (subst (λ ks. All (λ p. p < a.count) ks → IsPutBehind ks page keys) pages c.in_ok-page.ensures.put) fills
+    (subst (λ e. Reuses a v.pages e b keys c.in_ok-page.next) earlier (subst (λ ks. Reuses a ks c.self.inside.earlier b keys c.in_ok-page.next) pages c.in_ok-page.ensures.reuses))) c.write_page.ensures.writes

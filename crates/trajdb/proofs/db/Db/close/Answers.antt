@@ -1,19 +1,21 @@
-use Rattle.std.proofs.Common.{◌≡◌, ◌∙◌, ap, sym, subst, true, false}
+use Rattle.std.proofs.Common.{ℕ, List, ◌≡◌, ◌∙◌, ap, sym, subst, true, false}
 use Rattle.std.specs.Prelude.{◌⊎◌, IfErr, OnErr, OnOk}
 use Rattle.legs.specs.Book.{Book}
 use Rattle.std.proofs.lemmas.Bool.{false≢true}
 use Rattle.pages.specs.Store.{Store, IsLawful, IsSynced, IsSyncedButFirst}
-use Rattle.pagecache.specs.Cache.{IsSettled}
+use Rattle.pagecache.specs.Cache.{payload_of, IsSettled}
 use Rattle.boxsearch.specs.Index.{content, IndexView, IsMarked, IsSound as IsSoundIndex}
 use Rattle.catalogue.specs.Closing.{IsNoStoreFault}
 use Rattle.catalogue.specs.Holding.{HoldsBook, HoldsButFirst, IsOfBook, IsUnfinishedStore}
 use Rattle.register.specs.Saved.{CatalogueView}
-use Rattle.register.specs.Saving.{IsAllowed}
+use Rattle.register.specs.Earlier.{AddsFew, AreEarlier}
+use Rattle.register.specs.Saving.{contents_of, IsAllowed}
+use Rattle.register.specs.Text.{catalogue_text}
 use Rattle.trajdb.specs.Calls.{IsLoadFault}
 use Rattle.trajdb.specs.Db.{DbView, HasPages, IsSound}
 use Rattle.trajdb.specs.Faults.{closed_answer}
-use Rattle.trajdb.specs.Lasting.{IsFaultless, IsIdle, IsSafe}
-use Rattle.trajdb.proofs.LastingLemmas.{rest_book, closed_holds, closed_only, closed_ordered, closed_refused, closed_synced, closed_unfinished}
+use Rattle.trajdb.specs.Lasting.{IsFaultless, IsIdle, IsSafe, TakesFew}
+use Rattle.trajdb.proofs.LastingLemmas.{rest_book, closed_holds, closed_only, closed_ordered, closed_refused, closed_synced, closed_takes, closed_unfinished, rest_takes}
 use Rattle.trajdb.proofs.SafeLemmas.{left_safe}
 use Rattle.trajdb.proofs.db.Db.close.Goals as goal
 
@@ -108,3 +110,19 @@ returns-clause-ordered g c =
     subst (λ r. OnErr r (c.args.self.failed ≡ false → IsMarked c.args.self.index.cache → IsUnfinishedStore s ⊎ IsSyncedButFirst s)) (sym c.closed.ensures)
     (subst (λ (d : DbView). OnErr (closed_answer answer) (d.failed ≡ false → IsMarked d.index.cache → IsUnfinishedStore s ⊎ IsSyncedButFirst s)) c.self.view_is
     (closed_ordered c.self.inside.core s answer first))
+
+pub returns-then-not-begun-clause-takes : goal.returns-then-not-begun-clause-takes
+returns-then-not-begun-clause-takes g c =
+    let s = g.S.PageStore.seen c.rest-then-not-begun.result in
+    let store = c.rest-then-not-begun.ensures.store ∙ ap (λ (x : IndexView). x.cache.store) c.into_parts-catalogue.ensures.index in
+    subst (λ (d : DbView). IsSound d → TakesFew d s) c.self.view_is (rest_takes c.self.inside.core s store)
+
+pub returns-clause-takes : goal.returns-clause-takes
+returns-clause-takes g c =
+    let core = c.self.inside.core in
+    let answer = c.close-store.result.1 in
+    let s = g.S.PageStore.seen c.close-store.result.0 in
+    let first = subst (λ (x : IndexView). OnOk answer (IsSoundIndex x → (pages : List ℕ) → AreEarlier (payload_of x.cache) pages → AddsFew x.cache.count (catalogue_text (contents_of c.into_parts-catalogue.result.0 x.places)) pages s.count)) c.into_parts-catalogue.ensures.index c.close-store.ensures.takes in
+    let second = subst (λ (k : CatalogueView). OnOk answer (IsSoundIndex core.index → (pages : List ℕ) → AreEarlier (payload_of core.index.cache) pages → AddsFew core.index.cache.count (catalogue_text (contents_of k core.index.places)) pages s.count)) c.into_parts-catalogue.ensures.catalogue first in
+    subst (λ r. OnOk r (IsSound c.args.self → TakesFew c.args.self s)) (sym c.closed.ensures)
+    (subst (λ (d : DbView). OnOk (closed_answer answer) (IsSound d → TakesFew d s)) c.self.view_is (closed_takes core s answer second))

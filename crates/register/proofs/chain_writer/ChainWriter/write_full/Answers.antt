@@ -1,0 +1,32 @@
+use Rattle.std.proofs.Common.{◌∙◌, arith}
+use Rattle.tbtree.proofs.PassLemmas.{passes_trans}
+use Rattle.register.proofs.ReuseLemmas.{reuses_then}
+use Rattle.register.proofs.SpareLemmas.{spares_trans}
+use Rattle.register.proofs.chain_writer.ChainWriter.write_full.Goals as goal
+
+pub returns-in_err-write_part-clause-tree : goal.returns-in_err-write_part-clause-tree
+returns-in_err-write_part-clause-tree g c = λ text h.
+    let inv = c.loop-done.invariant.2 in
+    spares_trans c.args.cache.now c.loop-done.cache c.write_part.new.cache inv.passes (inv.tree text h) (c.write_part.ensures.tree text (inv.holds text h))
+
+pub loop-done-preserved : goal.loop-done-preserved
+loop-done-preserved g c =
+    let a = c.args.cache.now in
+    let b = c.loop-done.cache in
+    let d = c.write_part.new.cache in
+    let w = c.args.self.now in
+    let v = c.loop-done.self in
+    let u = c.write_part.new.self in
+    let inv = c.loop-done.invariant.2 in
+    let ok = c.in_ok-write_part.ensures in (
+      omega (arith, c.loop-done-test.true),
+      c.loop-done.invariant.1,
+      record {
+        text = c.write_part.ensures.text ∙ inv.text;
+        holds = λ text h. ok.holds text (inv.holds text h);
+        passes = passes_trans a b d inv.passes c.write_part.ensures.passes;
+        length = λ e. ok.length (inv.length e);
+        tree = λ text h. spares_trans a b d inv.passes (inv.tree text h) (c.write_part.ensures.tree text (inv.holds text h));
+        reuses = reuses_then a b d w.pages v.pages u.pages w.earlier v.earlier u.earlier inv.reuses ok.reuses;
+      },
+    )
