@@ -40,7 +40,8 @@ pub record MayBe (c : Cache) (at : ℕ → Option Payload) : Type 0 where
 -- a reader only reads, and goes on along its text
 pub record ReadsOn (old new : Cache) (from to : ReaderView) : Type 0 where
   pub only : OnlyReads old new
-  pub along : IsTrue old.store.is_faithful → stop_of (payload_of old) to ≡ stop_of (payload_of old) from
+  pub along : IsTrue old.store.is_faithful
+      → stop_of (payload_of old) to ≡ stop_of (payload_of old) from
 
 -- how a fault of the cache is answered where a page is read
 abbrev pub fault_of : CacheFault → CatalogueFault
@@ -122,11 +123,18 @@ IsTextFault Malformed = Unit {0}
 
 -- what reading a value leaves of the text that is left: what stands behind the value's own text.
 -- Where the pages are said to be damaged or malformed, no such value's text stands there
-pub record Takes {V : Type 0} (at : ℕ → Option Payload) (text : V → List ℕ) (is_value : V → Type 0) (old new : Option (List ℕ)) (result : Result V CatalogueFault) : Type 0 where
-  pub taken : IfOk result (λ v. is_value v × (old ≡ option_map (λ t. text v ++ t) new))
-  pub lacks : IfErr result (λ e. BreaksAt at e → (v : V) (t : List ℕ) → is_value v → old ≢ Some (text v ++ t))
+pub record Takes {V : Type 0} (at : ℕ → Option Payload) (text : V → List ℕ) (is_value : V → Type 0)
+    (old new : Option (List ℕ)) (result : Result V CatalogueFault) : Type 0
+  where
+    pub taken : IfOk result (λ v. is_value v × (old ≡ option_map (λ t. text v ++ t) new))
+    pub lacks : IfErr result (λ e. BreaksAt at e → (v : V) (t : List ℕ) → is_value v
+        → old ≢ Some (text v ++ t))
 
 -- the same where the value is put somewhere
-pub record TakesInto {V T : Type 0} (at : ℕ → Option Payload) (text : V → List ℕ) (is_value is_put : V → Type 0) (old new : Option (List ℕ)) (result : Result T CatalogueFault) : Type 0 where
-  pub taken : IfOk result (λ _. (v : V) × is_put v × is_value v × (old ≡ option_map (λ t. text v ++ t) new))
-  pub lacks : IfErr result (λ e. BreaksAt at e → (v : V) (t : List ℕ) → is_value v → old ≢ Some (text v ++ t))
+pub record TakesInto {V T : Type 0} (at : ℕ → Option Payload) (text : V → List ℕ)
+    (is_value is_put : V → Type 0) (old new : Option (List ℕ)) (result : Result T CatalogueFault)
+    : Type 0
+  where
+    pub taken : IfOk result (λ _. (v : V) × is_put v × is_value v × (old ≡ option_map (λ t. text v ++ t) new))
+    pub lacks : IfErr result (λ e. BreaksAt at e → (v : V) (t : List ℕ) → is_value v
+        → old ≢ Some (text v ++ t))

@@ -73,13 +73,16 @@ pub record IsAhead (c : Cache) (taken : List ℕ) (earlier : ℕ) (pages : List 
 
 -- pages are taken more; those are the first of the earlier ones, and no other is added but for want
 -- of them
-pub record Uses (pages : List ℕ) (old : Cache) (taken : List ℕ) (new : Cache) (now : List ℕ) (next : ℕ) : Type 0 where
-  pub more : length taken ≤ length now
-  pub count : new.count ≤ old.count + ((length now - length taken) - length pages)
-  pub ahead : IsAhead new now next (drop (length now - length taken) pages)
+pub record Uses (pages : List ℕ) (old : Cache) (taken : List ℕ) (new : Cache) (now : List ℕ)
+    (next : ℕ) : Type 0
+  where
+    pub more : length taken ≤ length now
+    pub count : new.count ≤ old.count + ((length now - length taken) - length pages)
+    pub ahead : IsAhead new now next (drop (length now - length taken) pages)
 
 abbrev pub Reuses : Cache → List ℕ → ℕ → Cache → List ℕ → ℕ → Type 0
-Reuses old taken earlier new now next = (pages : List ℕ) → IsAhead old taken earlier pages → Uses pages old taken new now next
+Reuses old taken earlier new now next =
+    (pages : List ℕ) → IsAhead old taken earlier pages → Uses pages old taken new now next
 
 -- a text of so many pages, of which some were taken, takes new ones but for want of earlier ones
 pub record TakesFew (all taken earlier old new : ℕ) : Type 0 where

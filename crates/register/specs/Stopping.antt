@@ -18,7 +18,8 @@ pub record StopsInText (at : ℕ → Option Payload) (count n : ℕ) : Type 0 wh
   pub says : SaysFields count (at 0) fields
   pub stops : text_stop at fields.length fields.first ≡ Some n
 
--- reading stops at page n, which has no payload: it is page 0, or the first such page along the text
+-- reading stops at page n, which has no payload: it is page 0, or the first such page along the
+-- text
 abbrev pub StopsAt : (ℕ → Option Payload) → ℕ → ℕ → Type 0
 StopsAt at count n = ((n ≡ 0) × (at 0 ≡ None)) ⊎ StopsInText at count n
 
@@ -32,7 +33,8 @@ pub record IsMended (at : ℕ → Option Payload) (count : ℕ) (mended : ℕ �
 abbrev pub KeepsNothing : (ℕ → Option Payload) → ℕ → Type 0
 KeepsNothing at count =
     (mended : ℕ → Option Payload) → IsMended at count mended
-    → (c : CatalogueView) (tree : TbTree) (places : List Place) → IsKept mended count c tree places → ⊥
+    → (c : CatalogueView) (tree : TbTree) (places : List Place)
+    → IsKept mended count c tree places → ⊥
 
 -- the page that is said to be damaged is the one at which reading stops; pages that are said to be
 -- malformed keep nothing, whatever stands in the damaged ones

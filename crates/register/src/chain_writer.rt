@@ -196,7 +196,8 @@ fn reused<S: PageStore>(
         contains nat_eq pages.now earlier ≡ false)) }
     ensures gives { IfOk result (λ o. IfSome o (λ next. Gives cache.old earlier cache.new)) }
     ensures next { IfOk result (λ o. IfSome o (λ next. IsTrue cache.old.store.is_faithful
-        → (payload : Payload) → payload_of cache.old earlier ≡ Some payload → next ≡ next_in payload)) }
+        → (payload : Payload) → payload_of cache.old earlier ≡ Some payload
+        → next ≡ next_in payload)) }
     ensures none { IfOk result (λ o. o ≡ None → (page : ℕ) (others : List ℕ)
         → IsAhead cache.old pages.now.keys earlier (page ∷ others) → ⊥) }
     ensures length { KeepsLength cache.old cache.new }
@@ -292,7 +293,8 @@ impl ChainWriter {
     ) -> Result<ChainWriter, CacheFault>
         ensures holds { IfOk result (λ w. Holds cache.new w []) }
         ensures text { IfOk result (λ w. w.text ≡ []) }
-        ensures reuses { IfOk result (λ w. Reuses cache.old [] earlier cache.new w.pages w.earlier) }
+        ensures reuses { IfOk result (λ w. Reuses cache.old [] earlier
+            cache.new w.pages w.earlier) }
         ensures passes { Passes cache.old cache.new }
         ensures length { OnOk result (KeepsLength cache.old cache.new) }
         ensures tree { SparesTree cache.old cache.new }

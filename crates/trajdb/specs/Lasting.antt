@@ -116,8 +116,10 @@ IsClosingFault db new run.Output = ⊥
 -- there are as many pages as the database had, and those that the text of its catalogue takes beyond
 -- these of an earlier one
 abbrev pub TakesFew : DbView → Store → Type 0
-TakesFew db left = (pages : List ℕ) → AreEarlier (payload_of db.index.cache) pages
-    → AddsFew db.index.cache.count (catalogue_text (contents_of (catalogue_of db) db.index.places)) pages left.count
+TakesFew db left =
+    (pages : List ℕ) → AreEarlier (payload_of db.index.cache) pages
+    → AddsFew db.index.cache.count
+    (catalogue_text (contents_of (catalogue_of db) db.index.places)) pages left.count
 
 -- a store has the pages that it had, and holds a book that it held, but for page 0 where it failed since
 pub record IsUnchanged (was now : Store) : Type 0 where
