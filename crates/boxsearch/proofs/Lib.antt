@@ -25,3 +25,5 @@ pub mod KnownLemmas
 pub mod KnowsLemmas
 pub mod RunCounts
 pub mod RunLemmas
+pub mod EndLemmas
+pub mod TurnLasts

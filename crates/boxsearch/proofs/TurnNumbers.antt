@@ -33,12 +33,12 @@ record IsEnds (most : ℕ) (ends : List Open) (last : ℕ → ℕ) (before : Lis
   pub filled : (f : ℕ) (d : Open) → f < length ends → (get_or ends f d).filled ≡ counts f before % most
   pub leaf : (f : ℕ) (d : Open) → f < length ends → (get_or ends f d).leaf ≡ last f
 
-opened_at : (most k : ℕ) (places : List Place) (f : ℕ) (d : Open) (p : Place) → f < length places → ((get_or (opened_from most k places) f d).filled ≡ (get_or places f p).legs % most) × ((get_or (opened_from most k places) f d).leaf ≡ k + f)
+pub opened_at : (most k : ℕ) (places : List Place) (f : ℕ) (d : Open) (p : Place) → f < length places → ((get_or (opened_from most k places) f d).filled ≡ (get_or places f p).legs % most) × ((get_or (opened_from most k places) f d).leaf ≡ k + f)
 opened_at most k [] f d p l = absurd (omega (arith, l))
 opened_at most k (q ∷ places) zero d p l = (refl, omega arith)
 opened_at most k (q ∷ places) (suc f) d p l = let on = opened_at most (k + 1) places f d p (omega (arith, l)) in (on.0, (let e = on.1 in omega (arith, e)))
 
-some_place : Place
+pub some_place : Place
 some_place = record { first = 0; last = 0; last_index = 0; legs = 0 }
 
 start_ends : (most : ℕ) (places : List Place) (before : List LegView) → ArePlacesOf places before → IsEnds most (opened_from most 0 places) (λ f. f) before
@@ -50,21 +50,21 @@ start_ends most places before p =
       leaf = λ f d l. (let k : f < length places = omega (arith, l, len) in let e = (opened_at most 0 places f d some_place k).1 in omega (arith, e));
     }
 
-get_last : {X : Type 0} (xs : List X) (x d : X) → get_or (xs ++ x ∷ []) (length xs) d ≡ x
+pub get_last : {X : Type 0} (xs : List X) (x d : X) → get_or (xs ++ x ∷ []) (length xs) d ≡ x
 get_last [] x d = refl
 get_last (y ∷ xs) x d = get_last xs x d
 
-get_front : {X : Type 0} (xs ys : List X) (i : ℕ) (d : X) → i < length xs → get_or (xs ++ ys) i d ≡ get_or xs i d
+pub get_front : {X : Type 0} (xs ys : List X) (i : ℕ) (d : X) → i < length xs → get_or (xs ++ ys) i d ≡ get_or xs i d
 get_front [] ys i d l = absurd (omega (arith, l))
 get_front (x ∷ xs) ys zero d l = refl
 get_front (x ∷ xs) ys (suc i) d l = get_front xs ys i d (omega (arith, l))
 
-set_same : {X : Type 0} (xs : List X) (i : ℕ) (v d : X) → i < length xs → get_or (slice_set xs i v) i d ≡ v
+pub set_same : {X : Type 0} (xs : List X) (i : ℕ) (v d : X) → i < length xs → get_or (slice_set xs i v) i d ≡ v
 set_same [] i v d l = absurd (omega (arith, l))
 set_same (x ∷ xs) zero v d l = refl
 set_same (x ∷ xs) (suc i) v d l = set_same xs i v d (omega (arith, l))
 
-set_other : {X : Type 0} (xs : List X) (i j : ℕ) (v d : X) → j ≢ i → get_or (slice_set xs i v) j d ≡ get_or xs j d
+pub set_other : {X : Type 0} (xs : List X) (i j : ℕ) (v d : X) → j ≢ i → get_or (slice_set xs i v) j d ≡ get_or xs j d
 set_other [] i j v d u = refl
 set_other (x ∷ xs) zero zero v d u = absurd (u refl)
 set_other (x ∷ xs) zero (suc j) v d u = refl
@@ -171,7 +171,7 @@ module _ (most : ℕ) (some : 0 < most) (few : most ≤ 50) (ends : List Open) (
         (cases_eq g f);
   }
 
-get_place : (xs ys : List LegView) (leg : LegView) → get_or (xs ++ leg ∷ ys) (length xs) no_leg ≡ leg
+pub get_place : (xs ys : List LegView) (leg : LegView) → get_or (xs ++ leg ∷ ys) (length xs) no_leg ≡ leg
 get_place [] ys leg = refl
 get_place (x ∷ xs) ys leg = get_place xs ys leg
 
@@ -190,7 +190,7 @@ numbers_from most base some few all done (leg ∷ legs) ends last before k e c h
     let rest = numbered leg_feature most (with_last leg_feature most last leg.feature n) (before ++ leg ∷ []) in
     λ i. (leaf i, here i) ∷ (on ∙ ap (λ m. rest m legs) next) i
 
-map_pairs : (g : ℕ → LegView) (ts : List Turn) → map {B = ℕ × LegView} (λ (p : ℕ × ℕ). (p.0, g p.1)) (map {B = ℕ × ℕ} (λ (t : Turn). (t.leaf, t.place)) ts) ≡ map (λ (t : Turn). (t.leaf, g t.place)) ts
+pub map_pairs : (g : ℕ → LegView) (ts : List Turn) → map {B = ℕ × LegView} (λ (p : ℕ × ℕ). (p.0, g p.1)) (map {B = ℕ × ℕ} (λ (t : Turn). (t.leaf, t.place)) ts) ≡ map (λ (t : Turn). (t.leaf, g t.place)) ts
 map_pairs g [] = refl
 map_pairs g (t ∷ ts) = ap (λ l. (t.leaf, g t.place) ∷ l) (map_pairs g ts)
 

@@ -23,7 +23,7 @@ use Rattle.boxsearch.proofs.TurnNumbers.{numbers_are}
 abbrev weight : ℕ × ℕ → ℕ
 weight p = p.0 * 4294967296 + p.1
 
-abbrev pair : Turn → ℕ × ℕ
+abbrev pub pair : Turn → ℕ × ℕ
 pair t = (t.leaf, t.place)
 
 put_moves : {X : Type 0} (p : ℕ × X) (qs : List (ℕ × X)) → IsPermutation (p ∷ qs) (put_in p qs)
@@ -171,7 +171,7 @@ numbered_pairs : (legs : List LegView) (turns : List Turn) → numbered_legs leg
 numbered_pairs legs [] = refl
 numbered_pairs legs (t ∷ turns) = ap (λ l. (t.leaf, get_or legs t.place no_leg) ∷ l) (numbered_pairs legs turns)
 
-taken_elements : (legs : List LegView) (turns : List Turn) → taken legs turns ≡ elements (numbered_legs legs turns)
+pub taken_elements : (legs : List LegView) (turns : List Turn) → taken legs turns ≡ elements (numbered_legs legs turns)
 taken_elements legs [] = refl
 taken_elements legs (t ∷ turns) = ap (λ l. get_or legs t.place no_leg ∷ l) (taken_elements legs turns)
 
@@ -203,9 +203,11 @@ AreNumbered places leaf legs turns =
     (before : List LegView) → ArePlacesOf places before → CanFollowInTurn before legs
     → numbered_legs legs turns ≡ put_all [] (numbered leg_feature leaf (λ f. f) before (feature_count before) legs)
 
-pub are_numbered : InOrder → (places : List Place) (most : ℕ) (legs : List LegView) (turns : List Turn) → 0 < most → most ≤ 50 → length places + length legs < 2 ^ 32
-    → IsPermutation (turns_from most (opened_from most 0 places) (length places) 0 legs) turns → IsNonDecreasingBy turn_number turns → AreNumbered places most legs turns
-are_numbered in_order places most legs turns some fifty few moved rises before p w =
+-- turns in order are put in by their numbers, one after another
+pub turns_put : InOrder → (places : List Place) (most : ℕ) (legs : List LegView) (turns : List Turn) → length places + length legs < 2 ^ 32
+    → IsPermutation (turns_from most (opened_from most 0 places) (length places) 0 legs) turns → IsNonDecreasingBy turn_number turns
+    → numbered_legs legs turns ≡ put_all [] (map {B = ℕ × LegView} (λ (p : ℕ × ℕ). (p.0, get_or legs p.1 no_leg)) (map pair (turns_from most (opened_from most 0 places) (length places) 0 legs)))
+turns_put in_order places most legs turns few moved rises =
     let ends = opened_from most 0 places in
     let base = length places in
     let ts = turns_from most ends base 0 legs in
@@ -222,11 +224,15 @@ are_numbered in_order places most legs turns some fifty few moved rises before p
     let up : IsNonDecreasingBy (λ (n : ℕ). n) (map weight Q) = subst (λ l. IsNonDecreasingBy (λ (n : ℕ). n) l) (weights turns) (numbers_rise turn_number turns rises) in
     let e : map weight Q ≡ map weight S = in_order (λ n. n) (map weight S) (map weight Q) rising (IsPermutation-map weight S Q perm) up in
     let pairs : Q ≡ S = weights_same Q S (below_moved 4294967296 P Q same below) (all_below 4294967296 [] P tt below) e in
-    numbered_pairs legs turns ∙ ap (map (over g)) pairs ∙ sym (all_over g [] P) ∙ ap (λ l. put_all [] l) (numbers_are places most legs before some fifty p w)
+    numbered_pairs legs turns ∙ ap (map (over g)) pairs ∙ sym (all_over g [] P)
   where
     weights : (turns : List Turn) → map turn_number turns ≡ map weight (map pair turns)
     weights [] = refl
     weights (t ∷ turns) = ap (λ l. turn_number t ∷ l) (weights turns)
+
+pub are_numbered : InOrder → (places : List Place) (most : ℕ) (legs : List LegView) (turns : List Turn) → 0 < most → most ≤ 50 → length places + length legs < 2 ^ 32
+    → IsPermutation (turns_from most (opened_from most 0 places) (length places) 0 legs) turns → IsNonDecreasingBy turn_number turns → AreNumbered places most legs turns
+are_numbered in_order places most legs turns some fifty few moved rises before p w = turns_put in_order places most legs turns few moved rises ∙ ap (λ l. put_all [] l) (numbers_are places most legs before some fifty p w)
 
 pub are_turns : (places : List Place) (most : ℕ) (legs : List LegView) (turns : List Turn) → AreNumbered places most legs turns → AreTurns places most legs turns
 are_turns places most legs turns are before p i w = taken_elements legs turns ∙ ap elements (are before p w)

@@ -20,7 +20,7 @@ use Rattle.tbtree.specs.declared.tree.Place.{Place}
 use Rattle.tbtree.specs.declared.tree.TbTree.{TbTree}
 use Rattle.chains.specs.declared.spans.LeafSpan.{LeafSpan}
 use Rattle.boxsearch.specs.Known.{KnowsBackTo}
-use Rattle.boxsearch.specs.Telling.{Tells, Denies}
+use Rattle.boxsearch.specs.Telling.{Tells, Denies, EndsWith}
 
 -- the cache of its pages, its tree, the place of each feature, how many legs it has, and what it knows of the leaves of
 -- each feature
@@ -41,6 +41,10 @@ tells i question legs = IsTrue i.cache.store.is_faithful → Tells (pages_of_cac
 
 abbrev pub denies : IndexView → Question → ℕ → Type 0
 denies i question page = IsTrue i.cache.store.is_faithful → Denies (pages_of_cache i.cache) i.tree i.places question page
+
+-- the last leaf of the leg's feature has the leg at its end; anything where its store is not faithful
+abbrev pub ends_with : IndexView → LegView → Type 0
+ends_with i leg = IsTrue i.cache.store.is_faithful → EndsWith (pages_of_cache i.cache) i.places leg
 
 -- the pages as written; none where its store is not faithful
 abbrev pub written : IndexView → List (List ℕ)
@@ -123,6 +127,7 @@ words = record {
   content = λ index. content index;
   tells = λ index question legs. tells index question legs;
   denies = λ index question page. denies index question page;
+  ends_with = λ index leg. ends_with index leg;
   counted = λ index. index.legs;
   is_sound = λ index. IsSound index;
   is_spent = λ index. index.tree.spent;

@@ -1,9 +1,9 @@
 -- Helpers of private functions: what putting legs into its tree makes of an index.
-use Rattle.std.specs.Prelude.{ℕ, ◌≡◌, ◌≤◌, ◌+◌, ◌*◌, ◌-◌, ◌^◌, ◌<◌, min, true, false, IsTrue, OnOk, OnErr, IfErr, List, length, Result, Some, slice_get, set}
+use Rattle.std.specs.Prelude.{ℕ, ◌≡◌, ◌≤◌, ◌+◌, ◌*◌, ◌-◌, ◌^◌, ◌<◌, min, true, false, IsTrue, OnOk, OnErr, IfErr, List, [], ◌∷◌, length, Result, Some, slice_get, set}
 use Rattle.legs.specs.Legs.{LegView}
 use Rattle.tbtree.specs.Faults.{RefusesWrite}
 use Rattle.tbtree.specs.Insert.{Inserts}
-use Rattle.tbtree.specs.Joining.{Joins, JoinsAll}
+use Rattle.tbtree.specs.Joining.{in_last_leaf, HasAtEnd, Joins, JoinsAll, KeepsLegs}
 use Rattle.tbtree.specs.Nodes.{pages_of_cache}
 use Rattle.tbtree.specs.Passes.{Passes, KeepsLength}
 use Rattle.tbtree.specs.declared.fault.TreeFault.{TreeFault}
@@ -19,6 +19,10 @@ pub record Puts (old new : IndexView) (leg : LegView) (result : Result (Unit {0}
       → Inserts (pages_of_cache old.cache) (pages_of_cache new.cache) old.tree new.tree was is leg result
   pub joins : IsTrue old.cache.store.is_faithful
       → Joins (pages_of_cache old.cache) (pages_of_cache new.cache) old.tree new.tree was is leg result
+  pub ends : IsTrue old.cache.store.is_faithful
+      → OnOk result (HasAtEnd (pages_of_cache new.cache) is.last (leg ∷ []))
+  pub keeps : IsTrue old.cache.store.is_faithful
+      → OnOk result (KeepsLegs was.last (leg ∷ []) (pages_of_cache old.cache) (pages_of_cache new.cache))
   pub shape : new.tree.shape ≡ old.tree.shape
   pub passes : Passes old.cache new.cache
   pub count : OnOk result (KeepsLength old.cache new.cache)
@@ -37,6 +41,11 @@ pub record PutsAll (old new : IndexView) (feature : ℕ) (legs : List LegView) (
   pub places : new.places ≡ set old.places feature is
   pub joins : IsTrue old.cache.store.is_faithful
       → JoinsAll (pages_of_cache old.cache) (pages_of_cache new.cache) old.tree new.tree was is legs result
+  pub ends : IsTrue old.cache.store.is_faithful → 0 < length legs
+      → OnOk result (HasAtEnd (pages_of_cache new.cache) is.last
+      (in_last_leaf old.tree.shape.leaf is.legs legs))
+  pub keeps : IsTrue old.cache.store.is_faithful
+      → OnOk result (KeepsLegs was.last legs (pages_of_cache old.cache) (pages_of_cache new.cache))
   pub shape : new.tree.shape ≡ old.tree.shape
   pub passes : Passes old.cache new.cache
   pub count : OnOk result (KeepsLength old.cache new.cache)

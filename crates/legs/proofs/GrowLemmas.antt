@@ -1,12 +1,12 @@
 -- Legs put at the end of an index, one after another.
-use Rattle.std.proofs.Common.{◌≡◌, ◌≤◌, ◌∙◌, ◌++◌, true, Err, ◌∷◌, [], false, ap, sym, subst, refl, length, All, None, List, arith, append_assoc}
+use Rattle.std.proofs.Common.{◌≡◌, ◌≤◌, ◌∙◌, ◌++◌, true, Err, ◌∷◌, [], false, ap, sym, subst, refl, length, All, None, Some, List, arith, append_assoc}
 use Rattle.std.proofs.lemmas.Int.{clamps}
 use Rattle.std.proofs.lemmas.List.{append-nil}
 use Rattle.legs.specs.Finding.{no_finding}
 use Rattle.legs.specs.Legs.{IsLeg, LegView}
 use Rattle.legs.specs.Places.{ListView}
 use Rattle.legs.specs.Questions.{answer_in}
-use Rattle.legs.specs.Index.{CanFollowInTurn}
+use Rattle.legs.specs.Index.{last_leg_of, CanFollowInTurn}
 use Rattle.legs.specs.Asking.{Grows, IsLater, Leaves, LegRefusals, KeepsMarked}
 use Rattle.legs.specs.declared.index.IndexFault.{IndexFault}
 use Rattle.legs.specs.declared.listed.Listed.{Ghosts}
@@ -17,6 +17,7 @@ list_words = record {
   content = λ index. index.legs;
   tells = λ index question legs. legs ≡ answer_in question index.legs;
   denies = λ index question page. ⊥;
+  ends_with = λ index leg. last_leg_of leg.feature index.legs ≡ Some leg;
   counted = λ index. length index.legs;
   is_sound = λ index. (index.spent ≡ false) × All IsLeg index.legs;
   is_spent = λ index. index.spent;

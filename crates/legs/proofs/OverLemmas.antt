@@ -1,6 +1,6 @@
 -- Features whose last leg ends before a period.
-use Rattle.std.proofs.Common.{ℕ, ◌≡◌, ◌∙◌, ◌++◌, ◌∷◌, [], List, ap, sym, subst, refl, true, false, cond, eqb, arith, inl, inr, Option, Some, None, ℤ, ◌≤ℤ◌, ◌<ℤ◌, append_assoc, All}
-use Rattle.std.specs.Prelude.{filter}
+use Rattle.std.proofs.Common.{ℕ, ◌≡◌, ◌∙◌, ◌++◌, ◌∷◌, [], List, ap, sym, subst, refl, true, false, cond, eqb, arith, inl, inr, Option, Some, None, ℤ, ◌≤ℤ◌, ◌<ℤ◌, append_assoc, All, Bool, ◌⊎◌, ⊎_elim}
+use Rattle.std.specs.Prelude.{filter, fold, int_le, ◌||◌}
 use Rattle.std.specs.Int.{int_max, int_min}
 use Rattle.std.specs.Option.{ForSome}
 use Rattle.std.proofs.lemmas.Bool.Decides.{nat_tests}
@@ -9,6 +9,7 @@ use Rattle.std.proofs.lemmas.List.{append-nil}
 use Rattle.std.proofs.lemmas.List.Elements.{All-weaker, All-push, All-nil, All-head, All-tail}
 use Rattle.timebase.specs.Period.{PeriodView}
 use Rattle.legs.specs.Legs.{LegView, IsLeg, is_live}
+use Rattle.legs.specs.Costs.{reaches}
 use Rattle.legs.specs.Index.{CanFollow, CanFollowInTurn, last_end, legs_of, live_legs_of}
 use Rattle.legs.proofs.BoxLemmas.{le_from}
 use Rattle.legs.proofs.NameLemmas.{cases_bool}
@@ -85,3 +86,25 @@ pub over_is : (f : ℕ) (end : ℤ) (period : PeriodView) (legs : List LegView) 
 over_is f end period legs is turn last over =
     let all = ends_all f legs [] is turn (All-nil (EndsBy f None)) in
     none_live f end period legs over (subst (λ (o : Option ℤ). All (EndsBy f o) legs) last all)
+
+some_true : (b : Bool) → (b || true) ≡ true
+some_true true = refl
+some_true false = refl
+
+-- the last of the legs of a feature, or that end, is the last end
+last_reaches : (f : ℕ) (period : PeriodView) (legs : List LegView) (d : Option ℤ) (end : ℤ) → fold (λ end leg. cond (eqb leg.feature f) (Some leg.t1) end) d legs ≡ Some end → int_le period.start end ≡ true
+    → (d ≡ Some end) ⊎ (reaches period (legs_of f legs) ≡ true)
+last_reaches f period [] d end e up = inl e
+last_reaches f period (leg ∷ legs) d end e up =
+    let on = last_reaches f period legs (cond (eqb leg.feature f) (Some leg.t1) d) end e up in
+    (elim (eqb leg.feature f) as (λ v. (cond v (Some leg.t1) d ≡ Some end) ⊎ (reaches period (legs_of f legs) ≡ true) → (d ≡ Some end) ⊎ (reaches period (cond v (leg ∷ legs_of f legs) (legs_of f legs)) ≡ true)) [
+      | true ↦ λ on. inr (⊎_elim
+          (λ (h : Some leg.t1 ≡ Some end). let same : leg.t1 ≡ end = cc in ap (λ t. int_le period.start t || reaches period (legs_of f legs)) same ∙ ap (λ b. b || reaches period (legs_of f legs)) up)
+          (λ (h : reaches period (legs_of f legs) ≡ true). ap (λ b. int_le period.start leg.t1 || b) h ∙ some_true (int_le period.start leg.t1))
+          on)
+      | false ↦ λ on. on
+    ]) on
+
+-- so a feature whose last leg ends at or after a period's start has such a leg
+pub reaches_last : (f : ℕ) (period : PeriodView) (legs : List LegView) (end : ℤ) → last_end f legs ≡ Some end → int_le period.start end ≡ true → reaches period (legs_of f legs) ≡ true
+reaches_last f period legs end e up = ⊎_elim (λ (h : None ≡ Some end). absurd cc) (λ (h : reaches period (legs_of f legs) ≡ true). h) (last_reaches f period legs None end e up)

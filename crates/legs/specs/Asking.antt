@@ -1,7 +1,7 @@
 -- What a call of an index leaves, and why it is refused.
-use Rattle.std.specs.Prelude.{ℕ, ℤ, ◌≡◌, ◌≤◌, ◌++◌, ◌∷◌, [], drop, true, List, Option, Some, Result, Err, IfErr, IsErrOf, OnErr, OnOk}
+use Rattle.std.specs.Prelude.{ℕ, ℤ, ◌≡◌, ◌≤◌, ◌++◌, ◌∷◌, [], drop, true, List, Option, Some, None, Result, Err, IfErr, IsErrOf, OnErr, OnOk}
 use Rattle.legs.specs.Legs.{LegView}
-use Rattle.legs.specs.Index.{MayRefuse, MayRefuseLeg, HasRisen, CanFollowInTurn}
+use Rattle.legs.specs.Index.{last_leg_of, MayRefuse, MayRefuseLeg, HasRisen, CanFollowInTurn}
 use Rattle.legs.specs.Costs.{ShapeView, RisesBy, RisesAtMost, add_bound, add_all_bound}
 use Rattle.legs.specs.declared.index.IndexFault.{IndexFault}
 use Rattle.legs.specs.declared.index.IndexFault.TheVariants.{Memory, Store, Damaged, StoreFull, Spent}
@@ -75,6 +75,12 @@ pub record Ends {I : Type 0} (g : Ghosts I) (old new : I) (legs : List LegView) 
 -- what legs make of a sound index, where they may follow one another
 abbrev pub Grows : {I : Type 0} → Ghosts I → I → I → List LegView → Type 0
 Grows g old new legs = g.is_sound old → CanFollowInTurn (g.content old) legs → Ends g old new legs
+
+-- what legs make of an index, sound or not: of each feature that they have it ends with the last one of them, and of each
+-- other feature with the leg with which it ended
+pub record EndsIn {I : Type 0} (g : Ghosts I) (old new : I) (legs : List LegView) : Type 0 where
+  pub last : (feature : ℕ) (leg : LegView) → last_leg_of feature legs ≡ Some leg → g.ends_with new leg
+  pub others : (leg : LegView) → last_leg_of leg.feature legs ≡ None → g.ends_with old leg → g.ends_with new leg
 
 -- of a sound index a leg that may follow asked for at most the pages of its ways through the tree
 abbrev pub AddAsks : {I : Type 0} → Ghosts I → I → I → LegView → Type 0

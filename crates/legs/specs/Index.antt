@@ -31,6 +31,10 @@ feature_count legs = fold (λ count leg. max count (leg.feature + 1)) 0 legs
 abbrev pub last_end : ℕ → List LegView → Option ℤ
 last_end feature legs = fold (λ end leg. if leg.feature == feature then Some leg.t1 else end) None legs
 
+-- the last leg of a feature
+abbrev pub last_leg_of : ℕ → List LegView → Option LegView
+last_leg_of feature legs = fold (λ last leg. if leg.feature == feature then Some leg else last) None legs
+
 -- a leg may be put at the end of the list
 pub record CanFollow (legs : List LegView) (leg : LegView) : Type 0 where
   -- its ordinal is its place

@@ -40,7 +40,7 @@ pub trait LegIndex: Listed {
     ghost use Rattle.legs.specs.Index.{legs_in_box, legs_of, live_legs_of};
     ghost use Rattle.legs.specs.Questions.{InBox, OfFeature};
     ghost use Rattle.legs.specs.Costs.{known_bound, search_cost, track_cost, track_in_bound};
-    ghost use Rattle.legs.specs.Asking.{AddAllAsks, AddAsks, Asks, AsksAtMost, Denies, Grows, IsLater, KeepsMarked, Leaves, LegRefusals, Recalls, Refusals, TellsSieved};
+    ghost use Rattle.legs.specs.Asking.{AddAllAsks, AddAsks, Asks, AsksAtMost, Denies, EndsIn, Grows, IsLater, KeepsMarked, Leaves, LegRefusals, Recalls, Refusals, TellsSieved};
     ghost use Rattle.legs.specs.Sieves.{IsSieved};
 
     /// How many legs there are.
@@ -57,10 +57,11 @@ pub trait LegIndex: Listed {
         ensures { result ≡ Self.asked self.now };
 
     /// Puts a leg at the end of the list. The leg's ordinal is to be `len`, its feature at most the number of
-    /// features so far, and its start not before the end of that feature's last leg; nothing is said of the
-    /// list after any other leg.
+    /// features so far, and its start not before the end of that feature's last leg; after any other leg, as of an index
+    /// that is not sound, it is said only with which leg each feature ends.
     fn add(&mut self, leg: Leg) -> Result<(), IndexFault>
         ensures added { OnOk result (Grows Self.Listed self.old self.new (leg ∷ [])) }
+        ensures ends { OnOk result (EndsIn Self.Listed self.old self.new (leg ∷ [])) }
         ensures asks { OnOk result (AddAsks Self.Listed self.old self.new leg) }
         ensures refusals { LegRefusals Self.Listed self.old self.new (leg ∷ []) result }
         ensures marked { KeepsMarked Self.Listed self.old self.new (leg ∷ []) }
@@ -69,6 +70,7 @@ pub trait LegIndex: Listed {
     /// Puts legs at the end of the list, one after another.
     fn add_all(&mut self, legs: &[Leg]) -> Result<(), IndexFault>
         ensures added { OnOk result (Grows Self.Listed self.old self.new legs.now) }
+        ensures ends { OnOk result (EndsIn Self.Listed self.old self.new legs.now) }
         ensures asks { OnOk result (AddAllAsks Self.Listed self.old self.new legs.now) }
         ensures refusals { LegRefusals Self.Listed self.old self.new legs.now result }
         ensures marked { KeepsMarked Self.Listed self.old self.new legs.now }

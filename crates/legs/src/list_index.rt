@@ -135,9 +135,10 @@ fn live_legs(alloc: Global, legs: &[Leg], period: &Period) -> Result<Vec<Leg>, A
 }
 
 impl Listed for ListIndex {
-    ghost use Rattle.std.specs.Prelude.{◌≡◌, false, All, None, []};
+    ghost use Rattle.std.specs.Prelude.{◌≡◌, false, All, None, Some, []};
     ghost use Rattle.std.specs.Prelude.{length};
     ghost use Rattle.legs.specs.Finding.{no_finding};
+    ghost use Rattle.legs.specs.Index.{last_leg_of};
     ghost use Rattle.legs.specs.Legs.{IsLeg};
     ghost use Rattle.legs.specs.Questions.{answer_in};
 
@@ -148,6 +149,8 @@ impl Listed for ListIndex {
     ghost tells = { λ index question legs. legs ≡ answer_in question index.legs };
 
     ghost denies = { λ index question page. ⊥ };
+
+    ghost ends_with = { λ index leg. last_leg_of leg.feature index.legs ≡ Some leg };
 
     ghost counted = { λ index. length index.legs };
 

@@ -81,6 +81,7 @@ fn insert_name(
 impl Tracks {
     ghost use Rattle.std.specs.Prelude.{ℕ, ◌≡◌, ◌↔◌, ◌≢◌, ◌≤◌, ◌<◌, ◌+◌, ◌-◌, ◌^◌, ◌++◌, ◌∷◌, [], Ok, true, false, if◌then◌else◌, length, map, min, nat_le, fold, slice_get, bytes_eq, OnOk, OnErr, IfOk, IsTrue, All};
     ghost use Rattle.std.specs.List.{list_any};
+    ghost use Rattle.legs.specs.Costs.{reaches};
     ghost use Rattle.std.specs.String.{string_bytes};
     ghost use Rattle.std.specs.Option.{option_copied, option_map};
     ghost use Rattle.legs.specs.Limits.{LimitsView, IsLimits};
@@ -91,7 +92,7 @@ impl Tracks {
     ghost use Rattle.legs.specs.Tracks.{IsOver, StandsFor};
     ghost use Rattle.legs.specs.Law.{IsBook};
     ghost use Rattle.legs.specs.Legs.{IsLeg};
-    ghost use Rattle.legs.specs.Index.{live_legs_of};
+    ghost use Rattle.legs.specs.Index.{legs_of, live_legs_of};
     ghost use Rattle.legs.specs.Counting.{AddsNames, Extends};
     ghost use Rattle.mfcsv.specs.FileText.{HasWholeRows};
 
@@ -176,6 +177,9 @@ impl Tracks {
         ensures none { IsTrue result → (limits : LimitsView) (book : Book) → StandsFor self.now book
             → IsBook limits book → All IsLeg book.legs
             → live_legs_of feature period.now book.legs ≡ [] }
+        ensures reached { result ≡ false → (book : Book) → StandsFor self.now book
+            → feature < length book.names
+            → reaches period.now (legs_of feature book.legs) ≡ true }
     {
         match self.track(feature) {
             Some(track) => track.end < period.start(),

@@ -1,9 +1,9 @@
-use Rattle.std.proofs.Common.{◌≡◌, ◌∙◌, ◌<◌, ◌<ℤ◌, ap, sym, length, slice_get, List, Some, arith}
+use Rattle.std.proofs.Common.{◌≡◌, ◌∙◌, ◌<◌, ◌<ℤ◌, ap, sym, length, slice_get, List, Some, arith, true, int_le}
 use Rattle.std.proofs.lemmas.Int.{ints}
-use Rattle.std.proofs.lemmas.Option.{slice_get_within, get_or_from_slice_get}
+use Rattle.std.proofs.lemmas.Option.{slice_get_within, slice_get-get_or, get_or_from_slice_get}
 use Rattle.legs.specs.Index.{last_end}
 use Rattle.legs.specs.declared.tracks.Track.{Track}
-use Rattle.legs.proofs.OverLemmas.{over_is}
+use Rattle.legs.proofs.OverLemmas.{over_is, reaches_last}
 use Rattle.legs.proofs.tracks.Tracks.is_over.Goals as goal
 
 pub returns-in-Some-clause-none : goal.returns-in-Some-clause-none
@@ -33,3 +33,18 @@ returns-in-Some-clause-exact c =
           let less : c.in-Some.track.end <ℤ c.start.result = omega (arith, ints, before, end, start) in
           c.lt.ensures ∙ grind (arith, ints),
     )
+
+pub returns-in-Some-clause-reached : goal.returns-in-Some-clause-reached
+returns-in-Some-clause-reached c = λ over book stands less.
+    let tracks : List Track = c.args.self.now.tracks in
+    let found = sym c.in-Some.ensures.value in
+    let here = get_or_from_slice_get tracks c.args.feature c.in-Some.track c.in-Some.track found in
+    let last : last_end c.args.feature book.legs ≡ Some c.in-Some.track.end = (stands.each c.args.feature c.in-Some.track less).end ∙ ap (λ (t : Track). Some t.end) here in
+    let test = sym c.lt.ensures ∙ over in
+    let start = c.start.ensures.value in
+    let up : int_le c.args.period.now.start c.in-Some.track.end ≡ true = grind (arith, ints) in
+    reaches_last c.args.feature c.args.period.now book.legs c.in-Some.track.end last up
+
+pub returns-in-None-clause-reached : goal.returns-in-None-clause-reached
+returns-in-None-clause-reached c = λ over book stands less.
+    absurd (let none = c.in-None.ensures.value in let there = slice_get-get_or c.args.self.now.tracks c.args.feature (record { end = c.args.period.now.start; legs = 0 }) (let p = stands.paired in omega (arith, less, p)) in cc)

@@ -1,0 +1,149 @@
+-- The last leg of a feature.
+use Rattle.std.proofs.Common.{ℕ, suc, ◌+◌, ◌<◌, ◌≡◌, ◌≢◌, ◌==◌, ◌⊎◌, inl, inr, true, false, cond, ⊎_elim, refl, sym, ap, ◌∙◌, subst, arith, eq-eqb, All, List, [], ◌∷◌, ◌++◌, take, length, get_or, Option, Some, None}
+use Rattle.std.specs.List.{filter, fold}
+use Rattle.std.proofs.lemmas.Bool.{eqb-true}
+use Rattle.std.proofs.lemmas.Grind.{fold-append}
+use Rattle.std.proofs.lemmas.List.{take_more}
+use Rattle.std.proofs.lemmas.List.Elements.{All-cons, All-nil}
+use Rattle.legs.specs.Asking.{EndsIn}
+use Rattle.legs.specs.Index.{is_of, last_leg_of}
+use Rattle.legs.specs.Legs.{LegView}
+use Rattle.legs.specs.Places.{ListView}
+use Rattle.legs.specs.declared.listed.Listed.{Ghosts}
+use Rattle.legs.proofs.GrowLemmas.{list_words}
+
+some_not : (x : LegView) → Some x ≡ None → ⊥
+some_not x e = absurd cc
+
+some_is : (x y : LegView) → Some x ≡ Some y → x ≡ y
+some_is x y e = cc
+
+-- the last leg of a feature, or that one
+abbrev pub last_or : ℕ → Option LegView → List LegView → Option LegView
+last_or feature d legs = fold (λ last leg. cond (leg.feature == feature) (Some leg) last) d legs
+
+-- it is among the legs, or there is none
+pub last_over : (f : ℕ) (d : Option LegView) (ys : List LegView)
+    → ((y : LegView) × (last_leg_of f ys ≡ Some y) × (last_or f d ys ≡ Some y)) ⊎ ((last_leg_of f ys ≡ None) × (last_or f d ys ≡ d))
+last_over f d [] = inr (refl, refl)
+last_over f d (y ∷ ys) =
+    (elim (y.feature == f) as (λ v. ((z : LegView) × (last_or f (cond v (Some y) None) ys ≡ Some z) × (last_or f (cond v (Some y) d) ys ≡ Some z)) ⊎ ((last_or f (cond v (Some y) None) ys ≡ None) × (last_or f (cond v (Some y) d) ys ≡ d))) [
+      | true ↦ ⊎_elim (λ h. inl (h.0, h.2, h.2)) (λ h. inl (y, h.1, h.1)) (last_over f (Some y) ys)
+      | false ↦ last_over f d ys
+    ])
+
+-- of some legs and others behind them
+pub last_append : (f : ℕ) (xs ys : List LegView) → last_leg_of f (xs ++ ys) ≡ last_or f (last_leg_of f xs) ys
+last_append f xs ys = fold-append (λ last leg. cond (leg.feature == f) (Some leg) last) None xs ys
+
+-- it is one of the feature
+pub last_own : (f : ℕ) (ys : List LegView) (y : LegView) → last_leg_of f ys ≡ Some y → y.feature ≡ f
+last_own f ys y = own None ys (λ z e. absurd (some_not z (sym e))) y
+  where
+    own : (d : Option LegView) (ys : List LegView) → ((z : LegView) → d ≡ Some z → z.feature ≡ f) → (y : LegView) → last_or f d ys ≡ Some y → y.feature ≡ f
+    own d [] h y e = h y e
+    own d (x ∷ ys) h y e = own (cond (x.feature == f) (Some x) d) ys (λ z.
+        (elim (x.feature == f) as (λ v. (x.feature == f) ≡ v → cond v (Some x) d ≡ Some z → z.feature ≡ f) [
+          | true ↦ λ is e. ap (λ (l : LegView). l.feature) (sym (some_is x z e)) ∙ eqb-true _ _ is
+          | false ↦ λ is e. h z e
+        ]) refl) y e
+
+-- what holds of each leg holds of it
+pub last_holds : (P : LegView → Type 0) (f : ℕ) (ys : List LegView) (y : LegView) → All P ys → last_leg_of f ys ≡ Some y → P y
+last_holds P f ys y all = holds None ys all (λ z e. absurd (some_not z (sym e))) y
+  where
+    holds : (d : Option LegView) (ys : List LegView) → All P ys → ((z : LegView) → d ≡ Some z → P z) → (y : LegView) → last_or f d ys ≡ Some y → P y
+    holds d [] all h y e = h y e
+    holds d (x ∷ ys) all h y e = holds (cond (x.feature == f) (Some x) d) ys (λ i d l. all (suc i) d (omega (arith, l))) (λ z.
+        (elim (x.feature == f) as (λ v. cond v (Some x) d ≡ Some z → P z) [
+          | true ↦ λ e. subst P (some_is x z e) (all 0 x (omega arith))
+          | false ↦ λ e. h z e
+        ])) y e
+
+module _ {I : Type 0} (g : Ghosts I) where
+  -- no leg changes nothing
+  pub ends_none : (a : I) → EndsIn g a a []
+  ends_none a = record { last = λ f leg e. absurd (some_not leg (sym e)); others = λ leg e h. h }
+
+  -- some legs, and then others
+  pub ends_then : (a b c : I) (xs ys : List LegView) → EndsIn g a b xs → EndsIn g b c ys → EndsIn g a c (xs ++ ys)
+  ends_then a b c xs ys p q = record {
+    last = λ f leg e.
+        let all = sym (last_append f xs ys) ∙ e in
+        ⊎_elim
+        (λ h. q.last f leg (h.1 ∙ sym h.2 ∙ all))
+        (λ h.
+        let first : last_leg_of f xs ≡ Some leg = sym h.1 ∙ all in
+        q.others leg (ap (λ n. last_leg_of n ys) (last_own f xs leg first) ∙ h.0) (p.last f leg first))
+        (last_over f (last_leg_of f xs) ys);
+    others = λ leg e h.
+        let all = sym (last_append leg.feature xs ys) ∙ e in
+        ⊎_elim
+        (λ k. absurd (some_not k.0 (sym k.2 ∙ all)))
+        (λ k. q.others leg k.0 (p.others leg (sym k.1 ∙ all) h))
+        (last_over leg.feature (last_leg_of leg.feature xs) ys);
+  }
+
+  -- a leg more of some
+  pub ends_more : (a b c : I) (legs : List LegView) (i : ℕ) (leg : LegView) → i < length legs → leg ≡ get_or legs i leg → EndsIn g a b (take i legs) → EndsIn g b c (leg ∷ []) → EndsIn g a c (take (i + 1) legs)
+  ends_more a b c legs i leg l is p q = subst (λ ls. EndsIn g a c ls) (sym (take_more legs i leg l ∙ ap (λ x. take i legs ++ x ∷ []) (sym is))) (ends_then a b c (take i legs) (leg ∷ []) p q)
+
+  -- which legs there are of each feature says with which it ends
+  pub ends_alike : (a b : I) (xs ys : List LegView) → ((f : ℕ) → last_leg_of f xs ≡ last_leg_of f ys) → EndsIn g a b xs → EndsIn g a b ys
+  ends_alike a b xs ys same p = record { last = λ f leg e. p.last f leg (same f ∙ e); others = λ leg e h. p.others leg (same leg.feature ∙ e) h }
+
+-- legs at the end of a list
+pub list_ends : (old new : ListView) (legs : List LegView) → new.legs ≡ old.legs ++ legs → EndsIn list_words old new legs
+list_ends old new legs is =
+    let at : (f : ℕ) → last_leg_of f new.legs ≡ last_or f (last_leg_of f old.legs) legs = λ f. ap (last_leg_of f) is ∙ last_append f old.legs legs in
+    record {
+      last = λ f leg e.
+          let own = last_own f legs leg e in
+          let e' : last_leg_of leg.feature legs ≡ Some leg = ap (λ n. last_leg_of n legs) own ∙ e in
+          ⊎_elim
+          (λ h. at leg.feature ∙ h.2 ∙ sym h.1 ∙ e')
+          (λ h. absurd (some_not leg (sym e' ∙ h.0)))
+          (last_over leg.feature (last_leg_of leg.feature old.legs) legs);
+      others = λ leg e h.
+          ⊎_elim
+          (λ k. absurd (some_not k.0 (sym k.1 ∙ e)))
+          (λ k. at leg.feature ∙ k.1 ∙ h)
+          (last_over leg.feature (last_leg_of leg.feature old.legs) legs);
+    }
+
+-- the legs of each feature say which is its last
+pub last_filter : (f : ℕ) (d : Option LegView) (xs : List LegView) → last_or f d (filter (is_of f) xs) ≡ last_or f d xs
+last_filter f d [] = refl
+last_filter f d (x ∷ xs) =
+    (elim (x.feature == f) as (λ v. (x.feature == f) ≡ v → last_or f d (cond v (x ∷ filter (is_of f) xs) (filter (is_of f) xs)) ≡ last_or f (cond v (Some x) d) xs) [
+      | true ↦ λ is. ap (λ v. last_or f (cond v (Some x) d) (filter (is_of f) xs)) is ∙ last_filter f (Some x) xs
+      | false ↦ λ is. last_filter f d xs
+    ]) refl
+
+-- where a feature has no last leg there is none of it
+pub last_absent : (f : ℕ) (xs : List LegView) → last_leg_of f xs ≡ None → All (λ leg. leg.feature ≢ f) xs
+last_absent f [] e = All-nil (λ leg. leg.feature ≢ f)
+last_absent f (x ∷ xs) e =
+    let rest = last_over f (cond (x.feature == f) (Some x) None) xs in
+    let none : last_leg_of f xs ≡ None = ⊎_elim (λ h. absurd (some_not h.0 (sym h.2 ∙ e))) (λ h. h.0) rest in
+    let first : cond (x.feature == f) (Some x) None ≡ None = ⊎_elim (λ h. absurd (some_not h.0 (sym h.2 ∙ e))) (λ h. sym h.1 ∙ e) rest in
+    All-cons (λ leg. leg.feature ≢ f) x xs (λ u. some_not x (ap (λ v. cond v (Some x) None) (sym (eq-eqb _ _ u)) ∙ first)) (last_absent f xs none)
+
+-- the last leg of legs of one feature stands at their end
+pub last_at_end : (f : ℕ) (xs : List LegView) (y : LegView) → All (λ leg. leg.feature ≡ f) xs → last_leg_of f xs ≡ Some y → (front : List LegView) × (xs ≡ front ++ y ∷ [])
+last_at_end f [] y own e = absurd (some_not y (sym e))
+last_at_end f (x ∷ xs) y own e =
+    ⊎_elim
+    (λ h.
+    let last : last_leg_of f xs ≡ Some y = h.1 ∙ sym h.2 ∙ e in
+    let on = last_at_end f xs y (λ i d l. own (suc i) d (omega (arith, l))) last in
+    (x ∷ on.0, ap (λ l. x ∷ l) on.1))
+    (λ h.
+    let is : x ≡ y = some_is x y (sym (ap (λ v. cond v (Some x) None) (eq-eqb _ _ (own 0 x (omega arith)))) ∙ sym h.1 ∙ e) in
+    let none : xs ≡ [] = empty xs (last_absent f xs h.0) (λ i d l. own (suc i) d (omega (arith, l))) in
+    ([], λ i. is i ∷ none i))
+    (last_over f (cond (x.feature == f) (Some x) None) xs)
+  where
+    empty : (xs : List LegView) → All (λ leg. leg.feature ≢ f) xs → All (λ leg. leg.feature ≡ f) xs → xs ≡ []
+    empty [] other own = refl
+    empty (z ∷ zs) other own = absurd (other 0 z (omega arith) (own 0 z (omega arith)))
