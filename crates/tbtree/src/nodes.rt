@@ -4,9 +4,9 @@ ghost use Rattle.legs.specs.Hull.{leg_boxes};
 ghost use Rattle.pagecache.specs.Cache as caches;
 ghost use Rattle.pagecache.specs.Cache.{payload_of, AsksOnce, IsNotAdded, Stays};
 ghost use Rattle.tbnode.specs.Edits.{new_inner};
-ghost use Rattle.tbtree.specs.Faults.{MayRefuseWrite, RefusesWrite};
+ghost use Rattle.tbtree.specs.Faults.{MayRefuseWrite};
 ghost use Rattle.tbtree.specs.Nodes.{pages_of_cache, AnInner, Adds, Attaches, Covers, HasCover, HasEntry, HasLeaf, HasLeafRoom, HasRoom, Links, Pushes, Widens};
-ghost use Rattle.tbtree.specs.Passes.{Passes, KeepsLength};
+ghost use Rattle.tbtree.specs.Passes.{Touches};
 ghost use Rattle.tbtree.specs.Payloads.{TakesLegs, are_of_one_leaf, leaf_of_legs};
 
 use crate::fault::TreeFault;
@@ -29,9 +29,7 @@ pub(crate) fn widen<S: PageStore>(
         (pages_of_cache cache.new)) }
     ensures only { IsTrue cache.old.store.is_faithful
         → HasEntry (pages_of_cache cache.old) page level entry → IfErr result MayRefuseWrite }
-    ensures passes { Passes cache.old cache.new }
-    ensures length { OnOk result (KeepsLength cache.old cache.new) }
-    ensures caused { IfErr result (RefusesWrite cache.old cache.new) }
+    ensures touches { Touches cache.old cache.new result }
     ensures asked { cache.new.asked ≤ cache.old.asked + 1 }
 {
     if page == 0 {
@@ -62,9 +60,7 @@ pub(crate) fn grow<S: PageStore>(
     ensures only { IsTrue cache.old.store.is_faithful
         → HasLeafRoom (pages_of_cache cache.old) page (λ leaf. TakesLegs most leaf legs.now)
         → IfErr result MayRefuseWrite }
-    ensures passes { Passes cache.old cache.new }
-    ensures length { OnOk result (KeepsLength cache.old cache.new) }
-    ensures caused { IfErr result (RefusesWrite cache.old cache.new) }
+    ensures touches { Touches cache.old cache.new result }
     ensures asked { cache.new.asked ≤ cache.old.asked + 1 }
 {
     if page == 0 {
@@ -91,9 +87,7 @@ pub(crate) fn link<S: PageStore>(
         → OnOk result (Links (pages_of_cache cache.old) page next (pages_of_cache cache.new)) }
     ensures only { IsTrue cache.old.store.is_faithful
         → HasLeaf (pages_of_cache cache.old) page → IfErr result MayRefuseWrite }
-    ensures passes { Passes cache.old cache.new }
-    ensures length { OnOk result (KeepsLength cache.old cache.new) }
-    ensures caused { IfErr result (RefusesWrite cache.old cache.new) }
+    ensures touches { Touches cache.old cache.new result }
     ensures asked { cache.new.asked ≤ cache.old.asked + 1 }
 {
     if page == 0 {
@@ -124,9 +118,7 @@ pub(crate) fn attach<S: PageStore>(
         entry.now.bounds (pages_of_cache cache.new)) }
     ensures only { IsTrue cache.old.store.is_faithful
         → HasRoom (pages_of_cache cache.old) page level most → IfErr result MayRefuseWrite }
-    ensures passes { Passes cache.old cache.new }
-    ensures length { OnOk result (KeepsLength cache.old cache.new) }
-    ensures caused { IfErr result (RefusesWrite cache.old cache.new) }
+    ensures touches { Touches cache.old cache.new result }
     ensures asked { cache.new.asked ≤ cache.old.asked + 1 }
 {
     if page == 0 {
@@ -178,9 +170,7 @@ pub(crate) fn add_leaf<S: PageStore>(
         (pages_of_cache cache.new)) }
     ensures only { IsTrue cache.old.store.is_faithful
         → are_of_one_leaf legs.now ≡ true → IfErr result MayRefuseWrite }
-    ensures passes { Passes cache.old cache.new }
-    ensures length { OnOk result (KeepsLength cache.old cache.new) }
-    ensures caused { IfErr result (RefusesWrite cache.old cache.new) }
+    ensures touches { Touches cache.old cache.new result }
     ensures asked { cache.new.asked ≤ cache.old.asked + 1 }
 {
     let Some(payload) = leaf_of_legs(previous, legs) else {
@@ -202,9 +192,7 @@ pub(crate) fn add_inner<S: PageStore>(
         (pages_of_cache cache.new)) }
     ensures fresh { (pages_of_cache cache.old).at cache.old.count ≡ None }
     ensures only { IsTrue cache.old.store.is_faithful → IfErr result MayRefuseWrite }
-    ensures passes { Passes cache.old cache.new }
-    ensures length { OnOk result (KeepsLength cache.old cache.new) }
-    ensures caused { IfErr result (RefusesWrite cache.old cache.new) }
+    ensures touches { Touches cache.old cache.new result }
     ensures asked { cache.new.asked ≤ cache.old.asked + 1 }
 {
     let mut payload = Payload::zero(Kind::Inner);
@@ -227,9 +215,7 @@ pub(crate) fn add_root<S: PageStore>(
         (pages_of_cache cache.new)) }
     ensures fresh { (pages_of_cache cache.old).at cache.old.count ≡ None }
     ensures only { IsTrue cache.old.store.is_faithful → IfErr result MayRefuseWrite }
-    ensures passes { Passes cache.old cache.new }
-    ensures length { OnOk result (KeepsLength cache.old cache.new) }
-    ensures caused { IfErr result (RefusesWrite cache.old cache.new) }
+    ensures touches { Touches cache.old cache.new result }
     ensures asked { cache.new.asked ≤ cache.old.asked + 1 }
 {
     let mut payload = Payload::zero(Kind::Inner);
@@ -246,9 +232,7 @@ pub(crate) fn cover<S: PageStore>(cache: &mut PageCache<S>, page: u32) -> Result
         (pages_of_cache cache.new)) }
     ensures only { IsTrue cache.old.store.is_faithful
         → HasCover leg_boxes (pages_of_cache cache.old) page → IfErr result MayRefuseWrite }
-    ensures passes { Passes cache.old cache.new }
-    ensures length { OnOk result (KeepsLength cache.old cache.new) }
-    ensures caused { IfErr result (RefusesWrite cache.old cache.new) }
+    ensures touches { Touches cache.old cache.new result }
     ensures asked { cache.new.asked ≤ cache.old.asked + 1 }
 {
     let payload = match cache.page(page) {

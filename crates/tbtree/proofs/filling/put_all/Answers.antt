@@ -1,4 +1,4 @@
-use Rattle.std.proofs.Common.{◌≢◌, ⊎_elim, ◌≡◌, ◌<◌, ◌≤◌, ◌+◌, ◌%◌, ◌∙◌, refl, ap, arith, length, subst}
+use Rattle.std.proofs.Common.{◌≢◌, ⊎_elim, ◌≡◌, ◌<◌, ◌≤◌, ◌+◌, ◌%◌, ◌∙◌, refl, ap, arith, length, subst, Ok}
 use Rattle.std.proofs.lemmas.Bool.{cases_eq, cases_lt}
 use Rattle.std.proofs.lemmas.Result.{err_from_is_err_and}
 use Rattle.tbtree.specs.declared.tree.Place.{Place}
@@ -6,7 +6,7 @@ use Rattle.legs.specs.Costs.{ShapeView}
 use Rattle.tbtree.specs.Nodes.{pages_of_cache}
 use Rattle.tbtree.proofs.FillCosts.{filled_start, filled_part}
 use Rattle.tbtree.proofs.FillLemmas.{ends_all, joins_none, length_part, part_joins, part_refused}
-use Rattle.tbtree.proofs.PassLemmas.{passes_refl, passes_trans}
+use Rattle.tbtree.proofs.PassLemmas.{touches_none, touches_then}
 use Rattle.tbtree.proofs.Still.{still}
 use Rattle.tbtree.proofs.filling.put_all.Goals as goal
 
@@ -20,8 +20,7 @@ leaves-init g c =
       joins = λ fa. joins_none (pages_of_cache cache) tree c.args.place.now;
       spent = refl;
       shape = refl;
-      passes = passes_refl cache;
-      length_kept = λ e. e;
+      touches = touches_none cache tt;
       higher = omega arith;
       start = λ e. refl;
       ends = λ fa above room. absurd (omega (arith, above));
@@ -33,7 +32,7 @@ returns-in_err-put-clause-inserts g c = λ fa.
     let p = err_from_is_err_and c.from_residual.result c.from_residual.ensures.1 in
     let so_far = c.leaves.invariant in
     rw (p.1, p.2) (part_refused (pages_of_cache c.args.cache.now) (pages_of_cache c.leaves.cache) (pages_of_cache c.put.new.cache) c.args.tree.now c.leaves.tree c.put.new.tree c.args.place.now c.leaves.place c.put.new.place
-    c.args.legs.now c.leaves.from c.fitting-many.result _ (so_far.joins fa) (c.in_err-put.ensures.inserts (still _ _ so_far.passes.store.faithful fa)))
+    c.args.legs.now c.leaves.from c.fitting-many.result _ (so_far.joins fa) (c.in_err-put.ensures.inserts (still _ _ so_far.touches.passes.store.faithful fa)))
 
 pub leaves-preserved : goal.leaves-preserved
 leaves-preserved g c =
@@ -56,11 +55,10 @@ leaves-preserved g c =
     record {
       within = (let most = fits.most in let within = so_far.within in omega (arith, most, within));
       joins = λ fa. part_joins (pages_of_cache old) (pages_of_cache now) (pages_of_cache new) c.args.tree.now c.leaves.tree c.put.new.tree c.args.place.now c.leaves.place c.put.new.place
-          legs n k (so_far.joins fa) (put.inserts (still _ _ so_far.passes.store.faithful fa));
+          legs n k (so_far.joins fa) (put.inserts (still _ _ so_far.touches.passes.store.faithful fa));
       spent = put.spent ∙ so_far.spent;
       shape = put.shape ∙ so_far.shape;
-      passes = passes_trans old now new so_far.passes put.passes;
-      length_kept = λ e. put.length (so_far.length_kept e);
+      touches = touches_then old now new tt (Ok tt) so_far.touches put.touches;
       higher = (let was = so_far.higher in let now = put.higher in omega (arith, was, now));
       start = λ e. absurd (let some = fits.some in omega (arith, e, some));
       ends = λ fa above room. ⊎_elim
@@ -71,7 +69,7 @@ leaves-preserved g c =
           (λ (l : n + k < length legs). absurd (let f = full l in omega (arith, f, own_filled, room, l, z)))
           (λ (l : length legs ≤ n + k). let most = fits.most in omega (arith, l, most, z))
           (cases_lt (n + k) (length legs)) in
-          (omega (arith, z, all), ends_all (pages_of_cache new) legs n k z all (put.ends (still _ _ so_far.passes.store.faithful fa))))
+          (omega (arith, z, all), ends_all (pages_of_cache new) legs n k z all (put.ends (still _ _ so_far.touches.passes.store.faithful fa))))
           (λ (u : n ≢ 0). absurd (let e = (so_far.ends fa (omega (arith, u)) room).0 in let l = c.leaves-test.true in omega (arith, e, l)))
           (cases_eq n 0);
       filled = filled_part leaf n k (length legs) old now new c.args.tree.now c.leaves.tree c.put.new.tree c.leaves.place c.put.new.place

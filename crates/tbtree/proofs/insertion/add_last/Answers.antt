@@ -12,5 +12,5 @@ pub returns-clause-ends : goal.returns-clause-ends
 returns-clause-ends g c = λ fa.
     let mid = pages_of_cache c.add_leaf-2.new.cache in
     let page = c.in_ok-page.page in
-    ends_linked mid (pages_of_cache c.link.new.cache) c.args.last page c.args.legs.now (c.in_ok-link.ensures.links (still _ _ c.add_leaf-2.ensures.passes.store.faithful fa))
+    ends_linked mid (pages_of_cache c.link.new.cache) c.args.last page c.args.legs.now (c.in_ok-link.ensures.links (still _ _ c.add_leaf-2.ensures.touches.passes.store.faithful fa))
     (ends_added (pages_of_cache c.args.cache.now) mid c.args.last c.args.legs.now (Ok page) (c.in_ok-page.ensures.adds fa))
