@@ -1,12 +1,12 @@
 -- One call after another.
-use Rattle.std.proofs.Common.{◌∙◌, refl, arith}
+use Rattle.std.proofs.Common.{◌∙◌, refl, arith, Result, Ok, Err}
 use Rattle.pages.specs.Store.{Store, Faulted}
 use Rattle.pages.specs.Store as store
 use Rattle.pagecache.specs.Cache.{Cache}
 use Rattle.pagecache.specs.declared.fault.CacheFault.{CacheFault}
 use Rattle.pagecache.specs.declared.fault.CacheFault.TheVariants as cache
 use Rattle.tbtree.specs.Faults.{RefusesWrite, RefusesWriteInCache}
-use Rattle.tbtree.specs.Passes.{Passes}
+use Rattle.tbtree.specs.Passes.{Passes, Touches}
 use Rattle.tbtree.specs.declared.fault.TreeFault.{TreeFault}
 use Rattle.tbtree.specs.declared.fault.TreeFault.TheVariants.{Cache as OfCache, Malformed, Spent}
 
@@ -49,6 +49,14 @@ pub caused_after : (a b c : Cache) (e : TreeFault) → Passes a b → RefusesWri
 caused_after a b c (OfCache e) p h = caused_in_cache a b c e p h
 caused_after a b c (Malformed n) p h = tt
 caused_after a b c Spent p h = h
+
+-- no call, and one after another
+pub touches_none : {T : Type 0} (a : Cache) (x : T) → Touches a a (Ok x)
+touches_none a x = record { passes = passes_refl a; length = λ e. e; caused = tt }
+
+pub touches_then : {T U : Type 0} (a b c : Cache) (x : T) (r : Result U TreeFault) → Touches a b (Ok x) → Touches b c r → Touches a c r
+touches_then a b c x (Ok y) t u = record { passes = passes_trans a b c t.passes u.passes; length = λ e. u.length (t.length e); caused = tt }
+touches_then a b c x (Err e) t u = record { passes = passes_trans a b c t.passes u.passes; length = tt; caused = caused_after a b c e t.passes u.caused }
 
 -- what a call after another may cite
 pub ruleset passing = (passes_trans, passes_refl, caused_after)

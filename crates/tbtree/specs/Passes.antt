@@ -1,7 +1,9 @@
 -- What every call of the tree leaves of the cache, answered or not, whatever its pages hold.
-use Rattle.std.specs.Prelude.{◌≡◌, ◌≤◌, ◌<◌, ◌^◌, ◌-◌, min, false, IsTrue}
+use Rattle.std.specs.Prelude.{◌≡◌, ◌≤◌, ◌<◌, ◌^◌, ◌-◌, min, false, IsTrue, IfErr, OnOk, Result}
 use Rattle.pages.specs.Store as store
 use Rattle.pagecache.specs.Cache.{Cache, payload_of, page_of, is_changed}
+use Rattle.tbtree.specs.Faults.{RefusesWrite}
+use Rattle.tbtree.specs.declared.fault.TreeFault.{TreeFault}
 
 pub record Passes (old new : Cache) : Type 0 where
   pub store : store.Keeps old.store new.store
@@ -17,3 +19,12 @@ pub record Passes (old new : Cache) : Type 0 where
 -- there are as many pages as the store has, where there were
 abbrev pub KeepsLength : Cache → Cache → Type 0
 KeepsLength old new = old.count ≡ old.store.count → new.count ≡ new.store.count
+
+-- what a call that writes pages of the tree leaves of the cache, and why it is refused
+pub record Touches {T : Type 0} (old new : Cache) (result : Result T TreeFault) : Type 0 where
+  -- answered or not: page 0 is kept, and nothing goes
+  pub passes : Passes old new
+  -- answered: no page is added to the store alone
+  pub length : OnOk result (KeepsLength old new)
+  -- refused: what the fault says is so
+  pub caused : IfErr result (RefusesWrite old new)

@@ -2,7 +2,7 @@
 ghost use Rattle.std.specs.Prelude.{◌≡◌, ◌<◌, ◌≤◌, ◌+◌, ◌-◌, ◌*◌, ◌%◌, OnOk, OnErr, IfErr, IsTrue, false, true, Err, length};
 ghost use Rattle.tbtree.specs.Faults.{RefusesWrite};
 ghost use Rattle.tbtree.specs.Nodes.{pages_of_cache};
-ghost use Rattle.tbtree.specs.Passes.{Passes, KeepsLength};
+ghost use Rattle.tbtree.specs.Passes.{Passes, KeepsLength, Touches};
 ghost use Rattle.tbtree.specs.Joining.{in_last_leaf, HasAtEnd, JoinsAll, KeepsLegs};
 ghost use Rattle.tbtree.specs.declared.fault.TreeFault.{TreeFault};
 
@@ -41,9 +41,7 @@ fn put_all<S: PageStore>(
         place.old place.new legs.now result }
     ensures spent { tree.new.spent ≡ tree.old.spent }
     ensures shape { tree.new.shape ≡ tree.old.shape }
-    ensures passes { Passes cache.old cache.new }
-    ensures length { OnOk result (KeepsLength cache.old cache.new) }
-    ensures caused { IfErr result (RefusesWrite cache.old cache.new) }
+    ensures touches { Touches cache.old cache.new result }
     ensures asked { OnOk result (cache.new.asked ≤ cache.old.asked + tree.new.levels
         + (tree.new.leaves - tree.old.leaves) * (tree.new.levels + 2)) }
     ensures more { OnOk result (tree.old.leaves ≤ tree.new.leaves) }

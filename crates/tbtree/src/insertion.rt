@@ -4,7 +4,7 @@ ghost use Rattle.legs.specs.Costs.{leg_feature};
 ghost use Rattle.legs.specs.Hull.{leg_boxes};
 ghost use Rattle.tbtree.specs.Faults.{MayRefuseWrite, RefusesWrite};
 ghost use Rattle.tbtree.specs.Nodes.{pages_of_cache, HasLeaf, KeepsLeaves};
-ghost use Rattle.tbtree.specs.Passes.{Passes, KeepsLength};
+ghost use Rattle.tbtree.specs.Passes.{Passes, KeepsLength, Touches};
 ghost use Rattle.tbtree.specs.Way.{IsOnWay, Hangs};
 ghost use Rattle.tbtree.specs.Insert.{Grows, Begins, Inserts};
 ghost use Rattle.tbtree.specs.Joining.{HasAtEnd, Joins, JoinsAll, KeepsLegs};
@@ -40,9 +40,7 @@ fn way<S: PageStore>(
         (pages_of_cache cache.old) (pages_of_cache cache.new) level at bounds.now result }
     ensures leaves { IsTrue cache.old.store.is_faithful
         → OnOk result (KeepsLeaves (pages_of_cache cache.old) (pages_of_cache cache.new)) }
-    ensures passes { Passes cache.old cache.new }
-    ensures length { OnOk result (KeepsLength cache.old cache.new) }
-    ensures caused { IfErr result (RefusesWrite cache.old cache.new) }
+    ensures touches { Touches cache.old cache.new result }
     ensures asked { cache.new.asked + level + 1 ≤ cache.old.asked + tree.now.levels }
 {
     if u32::from(level) + 1 == tree.levels {
@@ -74,9 +72,7 @@ fn into_leaf<S: PageStore>(
         → OnOk result (HasAtEnd (pages_of_cache cache.new) last legs.now) }
     ensures keeps { IsTrue cache.old.store.is_faithful → OnOk result
         (KeepsLegs last legs.now (pages_of_cache cache.old) (pages_of_cache cache.new)) }
-    ensures passes { Passes cache.old cache.new }
-    ensures length { OnOk result (KeepsLength cache.old cache.new) }
-    ensures caused { IfErr result (RefusesWrite cache.old cache.new) }
+    ensures touches { Touches cache.old cache.new result }
     ensures asked { cache.new.asked ≤ cache.old.asked + tree.now.levels }
 {
     let most = tree.shape.leaf();
@@ -105,9 +101,7 @@ fn root_over<S: PageStore>(
         child.now.bounds result }
     ensures leaves { IsTrue cache.old.store.is_faithful
         → OnOk result (KeepsLeaves (pages_of_cache cache.old) (pages_of_cache cache.new)) }
-    ensures passes { Passes cache.old cache.new }
-    ensures length { OnOk result (KeepsLength cache.old cache.new) }
-    ensures caused { IfErr result (RefusesWrite cache.old cache.new) }
+    ensures touches { Touches cache.old cache.new result }
     ensures asked { cache.new.asked ≤ cache.old.asked + 2 }
     ensures levels { IfOk result (λ top. top.levels ≡ tree.now.levels + 1) }
 {
@@ -140,9 +134,7 @@ fn hang<S: PageStore>(
         child.now.bounds result }
     ensures leaves { IsTrue cache.old.store.is_faithful
         → OnOk result (KeepsLeaves (pages_of_cache cache.old) (pages_of_cache cache.new)) }
-    ensures passes { Passes cache.old cache.new }
-    ensures length { OnOk result (KeepsLength cache.old cache.new) }
-    ensures caused { IfErr result (RefusesWrite cache.old cache.new) }
+    ensures touches { Touches cache.old cache.new result }
     ensures asked { IfOk result (λ top. cache.new.asked + level
         ≤ cache.old.asked + top.levels) }
     ensures higher { IfOk result (λ top. tree.now.levels ≤ top.levels) }
@@ -192,9 +184,7 @@ fn into_last<S: PageStore>(
         (pages_of_cache cache.new)) }
     ensures stays { place.new.last ≡ place.old.last }
     ensures legs { OnOk result (place.new.legs ≡ place.old.legs + length legs.now) }
-    ensures passes { Passes cache.old cache.new }
-    ensures length { OnOk result (KeepsLength cache.old cache.new) }
-    ensures caused { IfErr result (RefusesWrite cache.old cache.new) }
+    ensures touches { Touches cache.old cache.new result }
     ensures asked { cache.new.asked ≤ cache.old.asked + tree.now.levels }
 {
     into_leaf(cache, tree, place.last_index, place.last, legs)?;
@@ -224,9 +214,7 @@ fn add_last<S: PageStore>(
     ensures only { IsTrue cache.old.store.is_faithful
         → (0 < last → HasLeaf (pages_of_cache cache.old) last)
         → are_of_one_leaf legs.now ≡ true → IfErr result MayRefuseWrite }
-    ensures passes { Passes cache.old cache.new }
-    ensures length { OnOk result (KeepsLength cache.old cache.new) }
-    ensures caused { IfErr result (RefusesWrite cache.old cache.new) }
+    ensures touches { Touches cache.old cache.new result }
     ensures asked { cache.new.asked ≤ cache.old.asked + 2 }
 {
     if last == 0 {
@@ -251,9 +239,7 @@ fn hang_leaf<S: PageStore>(
         page.now.child page.now.bounds result }
     ensures leaves { IsTrue cache.old.store.is_faithful
         → OnOk result (KeepsLeaves (pages_of_cache cache.old) (pages_of_cache cache.new)) }
-    ensures passes { Passes cache.old cache.new }
-    ensures length { OnOk result (KeepsLength cache.old cache.new) }
-    ensures caused { IfErr result (RefusesWrite cache.old cache.new) }
+    ensures touches { Touches cache.old cache.new result }
     ensures asked { IfOk result (λ top. cache.new.asked ≤ cache.old.asked + top.levels) }
     ensures higher { IfOk result (λ top. tree.now.levels ≤ top.levels) }
 {
@@ -294,9 +280,7 @@ fn begin<S: PageStore>(
         → OnOk result ((pages_of_cache cache.old).at place.new.last ≡ None) }
     ensures spent { tree.new.spent ≡ tree.old.spent }
     ensures shape { tree.new.shape ≡ tree.old.shape }
-    ensures passes { Passes cache.old cache.new }
-    ensures length { OnOk result (KeepsLength cache.old cache.new) }
-    ensures caused { IfErr result (RefusesWrite cache.old cache.new) }
+    ensures touches { Touches cache.old cache.new result }
     ensures asked { OnOk result (cache.new.asked
         ≤ cache.old.asked + (tree.new.levels + 2)) }
     ensures higher { OnOk result (tree.old.levels ≤ tree.new.levels) }
@@ -338,9 +322,7 @@ pub(crate) fn put<S: PageStore>(
         place.old place.new legs.now result }
     ensures spent { tree.new.spent ≡ tree.old.spent }
     ensures shape { tree.new.shape ≡ tree.old.shape }
-    ensures passes { Passes cache.old cache.new }
-    ensures length { OnOk result (KeepsLength cache.old cache.new) }
-    ensures caused { IfErr result (RefusesWrite cache.old cache.new) }
+    ensures touches { Touches cache.old cache.new result }
     ensures asked { OnOk result (cache.new.asked
         ≤ cache.old.asked + (2 * (tree.new.levels - 1) + 4)) }
     ensures higher { OnOk result (tree.old.levels ≤ tree.new.levels) }

@@ -4,9 +4,9 @@ ghost use Rattle.legs.specs.Hull.{leg_boxes};
 ghost use Rattle.pagecache.specs.Cache as caches;
 ghost use Rattle.pagecache.specs.Cache.{payload_of, AsksOnce, IsNotAdded, Stays};
 ghost use Rattle.tbnode.specs.Edits.{new_inner};
-ghost use Rattle.tbtree.specs.Faults.{MayRefuseWrite, RefusesWrite};
+ghost use Rattle.tbtree.specs.Faults.{MayRefuseWrite};
 ghost use Rattle.tbtree.specs.Nodes.{pages_of_cache, AnInner, Adds, Attaches, Covers, HasCover, HasEntry, HasLeaf, HasLeafRoom, HasRoom, Links, Pushes, Widens};
-ghost use Rattle.tbtree.specs.Passes.{Passes, KeepsLength};
+ghost use Rattle.tbtree.specs.Passes.{Touches};
 ghost use Rattle.tbtree.specs.Payloads.{TakesLegs, are_of_one_leaf, leaf_of_legs};
 
 use crate::fault::TreeFault;
@@ -29,9 +29,7 @@ pub(crate) fn widen<S: PageStore>(
         (pages_of_cache cache.new)) }
     ensures only { IsTrue cache.old.store.is_faithful
         → HasEntry (pages_of_cache cache.old) page level entry → IfErr result MayRefuseWrite }
-    ensures passes { Passes cache.old cache.new }
-    ensures length { OnOk result (KeepsLength cache.old cache.new) }
-    ensures caused { IfErr result (RefusesWrite cache.old cache.new) }
+    ensures touches { Touches cache.old cache.new result }
     ensures asked { cache.new.asked ≤ cache.old.asked + 1 }
 {
     if page == 0 {
@@ -65,9 +63,7 @@ pub(crate) fn grow<S: PageStore>(
     ensures takes { IsTrue cache.old.store.is_faithful
         → OnOk result (HasLeafRoom (pages_of_cache cache.old) page
         (λ leaf. TakesLegs most leaf legs.now)) }
-    ensures passes { Passes cache.old cache.new }
-    ensures length { OnOk result (KeepsLength cache.old cache.new) }
-    ensures caused { IfErr result (RefusesWrite cache.old cache.new) }
+    ensures touches { Touches cache.old cache.new result }
     ensures asked { cache.new.asked ≤ cache.old.asked + 1 }
 {
     if page == 0 {
@@ -94,9 +90,7 @@ pub(crate) fn link<S: PageStore>(
         → OnOk result (Links (pages_of_cache cache.old) page next (pages_of_cache cache.new)) }
     ensures only { IsTrue cache.old.store.is_faithful
         → HasLeaf (pages_of_cache cache.old) page → IfErr result MayRefuseWrite }
-    ensures passes { Passes cache.old cache.new }
-    ensures length { OnOk result (KeepsLength cache.old cache.new) }
-    ensures caused { IfErr result (RefusesWrite cache.old cache.new) }
+    ensures touches { Touches cache.old cache.new result }
     ensures asked { cache.new.asked ≤ cache.old.asked + 1 }
 {
     if page == 0 {
@@ -127,9 +121,7 @@ pub(crate) fn attach<S: PageStore>(
         entry.now.bounds (pages_of_cache cache.new)) }
     ensures only { IsTrue cache.old.store.is_faithful
         → HasRoom (pages_of_cache cache.old) page level most → IfErr result MayRefuseWrite }
-    ensures passes { Passes cache.old cache.new }
-    ensures length { OnOk result (KeepsLength cache.old cache.new) }
-    ensures caused { IfErr result (RefusesWrite cache.old cache.new) }
+    ensures touches { Touches cache.old cache.new result }
     ensures asked { cache.new.asked ≤ cache.old.asked + 1 }
 {
     if page == 0 {
@@ -183,9 +175,7 @@ pub(crate) fn add_leaf<S: PageStore>(
         → are_of_one_leaf legs.now ≡ true → IfErr result MayRefuseWrite }
     ensures fresh { OnOk result ((pages_of_cache cache.old).at cache.old.count ≡ None) }
     ensures one { OnOk result (are_of_one_leaf legs.now ≡ true) }
-    ensures passes { Passes cache.old cache.new }
-    ensures length { OnOk result (KeepsLength cache.old cache.new) }
-    ensures caused { IfErr result (RefusesWrite cache.old cache.new) }
+    ensures touches { Touches cache.old cache.new result }
     ensures asked { cache.new.asked ≤ cache.old.asked + 1 }
 {
     let Some(payload) = leaf_of_legs(previous, legs) else {
@@ -207,9 +197,7 @@ pub(crate) fn add_inner<S: PageStore>(
         (pages_of_cache cache.new)) }
     ensures fresh { (pages_of_cache cache.old).at cache.old.count ≡ None }
     ensures only { IsTrue cache.old.store.is_faithful → IfErr result MayRefuseWrite }
-    ensures passes { Passes cache.old cache.new }
-    ensures length { OnOk result (KeepsLength cache.old cache.new) }
-    ensures caused { IfErr result (RefusesWrite cache.old cache.new) }
+    ensures touches { Touches cache.old cache.new result }
     ensures asked { cache.new.asked ≤ cache.old.asked + 1 }
 {
     let mut payload = Payload::zero(Kind::Inner);
@@ -232,9 +220,7 @@ pub(crate) fn add_root<S: PageStore>(
         (pages_of_cache cache.new)) }
     ensures fresh { (pages_of_cache cache.old).at cache.old.count ≡ None }
     ensures only { IsTrue cache.old.store.is_faithful → IfErr result MayRefuseWrite }
-    ensures passes { Passes cache.old cache.new }
-    ensures length { OnOk result (KeepsLength cache.old cache.new) }
-    ensures caused { IfErr result (RefusesWrite cache.old cache.new) }
+    ensures touches { Touches cache.old cache.new result }
     ensures asked { cache.new.asked ≤ cache.old.asked + 1 }
 {
     let mut payload = Payload::zero(Kind::Inner);
@@ -251,9 +237,7 @@ pub(crate) fn cover<S: PageStore>(cache: &mut PageCache<S>, page: u32) -> Result
         (pages_of_cache cache.new)) }
     ensures only { IsTrue cache.old.store.is_faithful
         → HasCover leg_boxes (pages_of_cache cache.old) page → IfErr result MayRefuseWrite }
-    ensures passes { Passes cache.old cache.new }
-    ensures length { OnOk result (KeepsLength cache.old cache.new) }
-    ensures caused { IfErr result (RefusesWrite cache.old cache.new) }
+    ensures touches { Touches cache.old cache.new result }
     ensures asked { cache.new.asked ≤ cache.old.asked + 1 }
 {
     let payload = match cache.page(page) {

@@ -1,4 +1,4 @@
-use Rattle.std.proofs.Common.{◌≡◌, ◌<◌, ◌≤◌, ◌+◌, ◌-◌, ◌%◌, ◌∙◌, refl, ap, arith, length, subst, sym, take, inl, ⊎_elim}
+use Rattle.std.proofs.Common.{◌≡◌, ◌<◌, ◌≤◌, ◌+◌, ◌-◌, ◌%◌, ◌∙◌, refl, ap, arith, length, subst, sym, take, inl, ⊎_elim, Ok}
 use Rattle.std.proofs.lemmas.Bool.{cases_lt}
 use Rattle.std.proofs.lemmas.List.{take_all}
 use Rattle.std.proofs.lemmas.Result.{err_from_is_err_and}
@@ -8,7 +8,7 @@ use Rattle.tbtree.proofs.FillCosts.{filled_start, filled_part}
 use Rattle.tbtree.proofs.EndLemmas.{last_made, keeps_same, keeps_then, IsLast}
 use Rattle.tbtree.proofs.FillLemmas.{all_in_last, joins_none, length_part, part_in_last, part_joins, part_refused}
 use Rattle.tbtree.specs.Joining.{in_last_leaf, HasAtEnd}
-use Rattle.tbtree.proofs.PassLemmas.{passes_refl, passes_trans}
+use Rattle.tbtree.proofs.PassLemmas.{touches_none, touches_then}
 use Rattle.tbtree.proofs.RoomLemmas.{mod_at_next}
 use Rattle.tbtree.proofs.Still.{still}
 use Rattle.tbtree.proofs.filling.put_all.Goals as goal
@@ -23,8 +23,7 @@ leaves-init g c =
       joins = λ fa. joins_none (pages_of_cache cache) tree c.args.place.now;
       spent = refl;
       shape = refl;
-      passes = passes_refl cache;
-      length_kept = λ e. e;
+      touches = touches_none cache tt;
       higher = omega arith;
       counted = omega arith;
       full = λ above left. absurd (omega (arith, above));
@@ -39,7 +38,7 @@ returns-in_err-put-clause-inserts g c = λ fa.
     let p = err_from_is_err_and c.from_residual.result c.from_residual.ensures.1 in
     let so_far = c.leaves.invariant in
     rw (p.1, p.2) (part_refused (pages_of_cache c.args.cache.now) (pages_of_cache c.leaves.cache) (pages_of_cache c.put.new.cache) c.args.tree.now c.leaves.tree c.put.new.tree c.args.place.now c.leaves.place c.put.new.place
-    c.args.legs.now c.leaves.from c.fitting-many.result _ (so_far.joins fa) (c.in_err-put.ensures.inserts (still _ _ so_far.passes.store.faithful fa)))
+    c.args.legs.now c.leaves.from c.fitting-many.result _ (so_far.joins fa) (c.in_err-put.ensures.inserts (still _ _ so_far.touches.passes.store.faithful fa)))
 
 pub leaves-preserved : goal.leaves-preserved
 leaves-preserved g c =
@@ -66,23 +65,22 @@ leaves-preserved g c =
     record {
       within = within;
       joins = λ fa. part_joins (pages_of_cache old) (pages_of_cache now) (pages_of_cache new) c.args.tree.now c.leaves.tree c.put.new.tree c.args.place.now c.leaves.place c.put.new.place
-          legs n k (so_far.joins fa) (put.inserts (still _ _ so_far.passes.store.faithful fa));
+          legs n k (so_far.joins fa) (put.inserts (still _ _ so_far.touches.passes.store.faithful fa));
       spent = put.spent ∙ so_far.spent;
       shape = put.shape ∙ so_far.shape;
-      passes = passes_trans old now new so_far.passes put.passes;
-      length_kept = λ e. put.length (so_far.length_kept e);
+      touches = touches_then old now new tt (Ok tt) so_far.touches put.touches;
       higher = (let was = so_far.higher in let now = put.higher in omega (arith, was, now));
       counted = (let legs_are = put.legs in let so_many = so_far.counted in omega (arith, legs_are, so_many, many));
       full = λ above left. ap (λ m. m % leaf) counted ∙ mod_at_next c.leaves.place.legs k leaf (full left);
       ends = λ fa above. subst (λ l. HasAtEnd (pages_of_cache new) c.put.new.place.last l)
           (sym (ap (λ m. in_last_leaf leaf m (take (n + k) legs)) counted ∙ part_in_last leaf c.leaves.place.legs n k legs fits.some within room (λ above. so_far.full above c.leaves-test.true)))
-          (put.ends (still _ _ so_far.passes.store.faithful fa));
+          (put.ends (still _ _ so_far.touches.passes.store.faithful fa));
       last = λ fa. ⊎_elim
           (λ (above : 0 < filled). subst (λ b. IsLast (pages_of_cache old) c.args.place.now.last b) (sym (put.stays (omega (arith, same, above)))) (so_far.last fa))
           (λ (none : filled ≤ 0). last_made legs (pages_of_cache old) (pages_of_cache now) c.args.place.now.last c.put.new.place.last (so_far.keeps fa)
-          (put.fresh (still _ _ so_far.passes.store.faithful fa) (same ∙ let z : filled ≡ 0 = omega (arith, none) in z)))
+          (put.fresh (still _ _ so_far.touches.passes.store.faithful fa) (same ∙ let z : filled ≡ 0 = omega (arith, none) in z)))
           (cases_lt 0 filled);
-      keeps = λ fa. keeps_then legs (n + k - n) n (pages_of_cache old) (pages_of_cache now) (pages_of_cache new) c.args.place.now.last c.leaves.place.last (so_far.keeps fa) (put.keeps (still _ _ so_far.passes.store.faithful fa)) (so_far.last fa);
+      keeps = λ fa. keeps_then legs (n + k - n) n (pages_of_cache old) (pages_of_cache now) (pages_of_cache new) c.args.place.now.last c.leaves.place.last (so_far.keeps fa) (put.keeps (still _ _ so_far.touches.passes.store.faithful fa)) (so_far.last fa);
       filled = filled_part leaf n k (length legs) old now new c.args.tree.now c.leaves.tree c.put.new.tree c.leaves.place c.put.new.place
           fits.some so_far.filled c.leaves-test.true put.higher counted
           room full

@@ -2,7 +2,7 @@ use Rattle.std.proofs.Common.{◌≡◌, ◌≤◌, ◌<◌, ◌+◌, ◌-◌, �
 use Rattle.std.specs.Prelude.{IsTrue, Ok}
 use Rattle.tbtree.specs.Joining.{in_last_leaf, HasAtEnd, JoinsAll, KeepsLegs}
 use Rattle.tbtree.specs.Nodes.{pages_of_cache}
-use Rattle.tbtree.specs.Passes.{Passes, KeepsLength}
+use Rattle.tbtree.specs.Passes.{Touches}
 use Rattle.tbtree.proofs.EndLemmas.{IsLast}
 use Rattle.tbtree.proofs.FillCosts.{IsFilled}
 use Rattle.tbtree.proofs.filling.put_all.Given as goal
@@ -17,8 +17,7 @@ invariant-leaves g l = record {
   joins : IsTrue l.fn.cache.store.is_faithful → JoinsAll (pages_of_cache l.fn.cache) (pages_of_cache l.cache) l.fn.tree l.tree l.fn.place l.place (take l.from l.legs) (Ok tt);
   spent : l.tree.spent ≡ l.fn.tree.spent;
   shape : l.tree.shape ≡ l.fn.tree.shape;
-  passes : Passes l.fn.cache l.cache;
-  length_kept : KeepsLength l.fn.cache l.cache;
+  touches : Touches {T = Unit {0}} l.fn.cache l.cache (Ok tt);
   higher : l.fn.tree.levels ≤ l.tree.levels;
   counted : l.place.legs ≡ l.fn.place.legs + l.from;
   full : 0 < l.from → l.from < length l.legs → l.place.legs % l.fn.tree.shape.leaf ≡ 0;

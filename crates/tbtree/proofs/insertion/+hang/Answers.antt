@@ -19,7 +19,7 @@ returns-then-at-inner-eq0-clause-hangs g t c = λ fa.
     let is : c.from-inner.result ≡ tree.shape.inner = c.from-inner.ensures ∙ c.inner.ensures.value in
     let wide : 1 < tree.shape.inner = let range = c.inner.ensures.range.least_inner in omega (arith, range) in
     let full : c.args.at % tree.shape.inner ≡ 0 = ap (λ n. c.args.at % n) (sym is) ∙ c.if-at-inner-eq0.true in
-    let up = subst (λ n. Hangs leg_boxes leg_feature tree.shape.inner tree.levels tree.root (pages_of_cache c.add_inner.new.cache) (pages_of_cache c.hang.new.cache) (c.args.level + 1) (c.args.at / n) c.in_ok-page.page c.child.inside.bounds c.hang.result) is (c.hang.ensures.hangs (still _ _ c.add_inner.ensures.passes.store.faithful fa)) in
+    let up = subst (λ n. Hangs leg_boxes leg_feature tree.shape.inner tree.levels tree.root (pages_of_cache c.add_inner.new.cache) (pages_of_cache c.hang.new.cache) (c.args.level + 1) (c.args.at / n) c.in_ok-page.page c.child.inside.bounds c.hang.result) is (c.hang.ensures.hangs (still _ _ c.add_inner.ensures.touches.passes.store.faithful fa)) in
     let hangs = subst (λ b. Hangs leg_boxes leg_feature tree.shape.inner tree.levels tree.root (pages_of_cache c.add_inner.new.cache) (pages_of_cache c.hang.new.cache) (c.args.level + 1) (c.args.at / tree.shape.inner) c.in_ok-page.page b c.hang.result) same up in
     hang_ups leg_boxes lawful leg_feature tree.shape.inner tree.levels tree.root (pages_of_cache c.args.cache.now) (pages_of_cache c.add_inner.new.cache) (pages_of_cache c.hang.new.cache) c.args.level c.args.at c.args.child.now.child c.in_ok-page.page c.args.child.now.bounds c.hang.result
     wide c.requires.level full (c.in_ok-page.ensures.adds fa) hangs
@@ -37,7 +37,7 @@ returns-clause-hangs g t c = λ fa.
     let way = subst (λ n. IsOnWay leg_boxes tree.shape.inner tree.levels tree.root old mid (c.args.level + 1) (c.args.at / n) c.child.inside.bounds (Ok c.in_ok-parent.parent)) is (c.in_ok-parent.ensures.way fa) in
     let on = subst (λ b. IsOnWay leg_boxes tree.shape.inner tree.levels tree.root old mid (c.args.level + 1) (c.args.at / tree.shape.inner) b (Ok c.in_ok-parent.parent)) same way in
     hang_on leg_boxes lawful leg_feature tree.shape.inner tree.levels tree.root old mid (pages_of_cache c.attach.new.cache) c.args.level c.args.at c.args.child.now.child c.in_ok-parent.parent c.args.child.now.bounds
-    wide below room on (c.in_ok-attach.ensures.attaches (still _ _ c.way.ensures.passes.store.faithful fa))
+    wide below room on (c.in_ok-attach.ensures.attaches (still _ _ c.way.ensures.touches.passes.store.faithful fa))
 
 pub returns-in_err-parent-clause-hangs : goal.returns-in_err-parent-clause-hangs
 returns-in_err-parent-clause-hangs g t c = λ fa.
@@ -65,6 +65,6 @@ returns-in_err-attach-clause-hangs g t c = λ fa.
     let room : c.args.at % tree.shape.inner ≢ 0 = subst (λ n. c.args.at % n ≢ 0) is c.if-at-inner-eq0.false in
     let way = subst (λ n. IsOnWay leg_boxes tree.shape.inner tree.levels tree.root old mid (c.args.level + 1) (c.args.at / n) c.child.inside.bounds (Ok c.in_ok-parent.parent)) is (c.in_ok-parent.ensures.way fa) in
     let on = subst (λ b. IsOnWay leg_boxes tree.shape.inner tree.levels tree.root old mid (c.args.level + 1) (c.args.at / tree.shape.inner) b (Ok c.in_ok-parent.parent)) same way in
-    let only = subst (λ n. HasRoom mid c.in_ok-parent.parent (c.args.level + 1) n → MayRefuseWrite c.in_err-attach.field-0.0) c.inner-2.ensures.value (c.in_err-attach.ensures.only (still _ _ c.way.ensures.passes.store.faithful fa)) in
+    let only = subst (λ n. HasRoom mid c.in_ok-parent.parent (c.args.level + 1) n → MayRefuseWrite c.in_err-attach.field-0.0) c.inner-2.ensures.value (c.in_err-attach.ensures.only (still _ _ c.way.ensures.touches.passes.store.faithful fa)) in
     let p = err_from_is_err_and c.from_residual-in_err-attach.result c.from_residual-in_err-attach.ensures.1 in
     rw (p.1, p.2) (attach_not leg_boxes lawful leg_feature tree.shape.inner tree.levels tree.root old mid (pages_of_cache c.attach.new.cache) c.args.level c.args.at c.args.child.now.child c.in_ok-parent.parent c.args.child.now.bounds _ wide below room on only)

@@ -24,7 +24,7 @@ returns-clause-way g t c = λ fa.
     let level = c.args.level + 1 in
     let parent = c.in_ok-parent.parent in
     let box = c.args.bounds.now in
-    let faithful = still _ _ c.way.ensures.passes.store.faithful fa in
+    let faithful = still _ _ c.way.ensures.touches.passes.store.faithful fa in
     let is : c.from-inner.result ≡ tree.shape.inner = c.from-inner.ensures ∙ c.inner.ensures.value in
     let some : 0 < tree.shape.inner = let range = c.inner.ensures.range.least_inner in omega (arith, range) in
     let on = subst (λ n. IsOnWay leg_boxes tree.shape.inner tree.levels tree.root old mid level (c.args.at / n) box (Ok parent)) is (c.in_ok-parent.ensures.way fa) in

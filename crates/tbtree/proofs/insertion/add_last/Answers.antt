@@ -16,14 +16,14 @@ pub returns-clause-ends : goal.returns-clause-ends
 returns-clause-ends g c = λ fa.
     let mid = pages_of_cache c.add_leaf-2.new.cache in
     let page = c.in_ok-page.page in
-    ends_linked mid (pages_of_cache c.link.new.cache) c.args.last page page c.args.legs.now (c.in_ok-link.ensures.links (still _ _ c.add_leaf-2.ensures.passes.store.faithful fa))
+    ends_linked mid (pages_of_cache c.link.new.cache) c.args.last page page c.args.legs.now (c.in_ok-link.ensures.links (still _ _ c.add_leaf-2.ensures.touches.passes.store.faithful fa))
     (ends_added (pages_of_cache c.args.cache.now) mid c.args.last page c.args.legs.now c.requires.first c.in_ok-page.ensures.one (c.in_ok-page.ensures.adds fa))
 
 pub returns-clause-keeps : goal.returns-clause-keeps
 returns-clause-keeps g c = λ fa.
     let mid = pages_of_cache c.add_leaf-2.new.cache in
     keeps_linked (pages_of_cache c.args.cache.now) mid (pages_of_cache c.link.new.cache) c.args.last c.in_ok-page.page c.args.legs.now c.in_ok-page.ensures.fresh (c.in_ok-page.ensures.adds fa)
-    (c.in_ok-link.ensures.links (still _ _ c.add_leaf-2.ensures.passes.store.faithful fa))
+    (c.in_ok-link.ensures.links (still _ _ c.add_leaf-2.ensures.touches.passes.store.faithful fa))
 
 pub returns-then-last-eq0-clause-fresh : goal.returns-then-last-eq0-clause-fresh
 returns-then-last-eq0-clause-fresh g c = λ fa.

@@ -16,7 +16,7 @@ returns-clause-inserts g c = λ fa.
     let f0 : place.last ≡ 0 → first ≡ page = λ z. elim c.if-place-eq0.branch [ then-place-eq0 w ↦ w.first-is | else-place-eq0 w ↦ absurd (w.if-place-eq0.false z) ] in
     let f1 : 0 < place.last → first ≡ place.first = λ z. elim c.if-place-eq0.branch [ then-place-eq0 w ↦ absurd (let u = w.if-place-eq0.true in omega (arith, u, z)) | else-place-eq0 w ↦ w.first-is ] in
     inserts_begun (pages_of_cache c.args.cache.now) (pages_of_cache c.add_last.new.cache) (pages_of_cache c.hang_leaf.new.cache) tree _ place _ c.args.legs.now page c.cover_of_legs-bounds.result c.requires.some c.requires.room c.requires.full
-    (c.in_ok-page.ensures.begins fa) c.cover_of_legs-bounds.ensures (c.in_ok-top.ensures.hangs (still _ _ c.add_last.ensures.passes.store.faithful fa)) refl f0 f1 refl refl refl
+    (c.in_ok-page.ensures.begins fa) c.cover_of_legs-bounds.ensures (c.in_ok-top.ensures.hangs (still _ _ c.add_last.ensures.touches.passes.store.faithful fa)) refl f0 f1 refl refl refl
 
 pub returns-in_err-page-clause-inserts : goal.returns-in_err-page-clause-inserts
 returns-in_err-page-clause-inserts g c = λ fa.
@@ -30,12 +30,12 @@ returns-in_err-top-clause-inserts g c = λ fa.
     let some : 0 < tree.shape.leaf = let least = c.requires.shape.least_leaf in omega (arith, least) in
     let p = err_from_is_err_and c.from_residual-in_err-top.result c.from_residual-in_err-top.ensures.1 in
     rw (p.1, p.2) (hang_not (pages_of_cache c.args.cache.now) (pages_of_cache c.add_last.new.cache) (pages_of_cache c.hang_leaf.new.cache) (pages_of_cache c.hang_leaf.new.cache) tree tree c.args.place.now c.args.place.now c.args.legs.now c.in_ok-page.page c.cover_of_legs-bounds.result _
-    c.requires.some some (c.in_ok-page.ensures.begins fa) c.cover_of_legs-bounds.ensures (c.in_err-top.ensures.hangs (still _ _ c.add_last.ensures.passes.store.faithful fa)))
+    c.requires.some some (c.in_ok-page.ensures.begins fa) c.cover_of_legs-bounds.ensures (c.in_err-top.ensures.hangs (still _ _ c.add_last.ensures.touches.passes.store.faithful fa)))
 
 pub returns-clause-ends : goal.returns-clause-ends
 returns-clause-ends g c = λ fa.
-    ends_kept (pages_of_cache c.add_last.new.cache) (pages_of_cache c.hang_leaf.new.cache) c.in_ok-page.page c.args.legs.now (c.in_ok-top.ensures.leaves (still _ _ c.add_last.ensures.passes.store.faithful fa)) (c.in_ok-page.ensures.ends fa)
+    ends_kept (pages_of_cache c.add_last.new.cache) (pages_of_cache c.hang_leaf.new.cache) c.in_ok-page.page c.args.legs.now (c.in_ok-top.ensures.leaves (still _ _ c.add_last.ensures.touches.passes.store.faithful fa)) (c.in_ok-page.ensures.ends fa)
 
 pub returns-clause-keeps : goal.returns-clause-keeps
 returns-clause-keeps g c = λ fa.
-    keeps_kept c.args.place.now.last c.args.legs.now (pages_of_cache c.args.cache.now) (pages_of_cache c.add_last.new.cache) (pages_of_cache c.hang_leaf.new.cache) (c.in_ok-page.ensures.keeps fa) (c.in_ok-top.ensures.leaves (still _ _ c.add_last.ensures.passes.store.faithful fa))
+    keeps_kept c.args.place.now.last c.args.legs.now (pages_of_cache c.args.cache.now) (pages_of_cache c.add_last.new.cache) (pages_of_cache c.hang_leaf.new.cache) (c.in_ok-page.ensures.keeps fa) (c.in_ok-top.ensures.leaves (still _ _ c.add_last.ensures.touches.passes.store.faithful fa))

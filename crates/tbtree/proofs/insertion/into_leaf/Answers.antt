@@ -17,7 +17,7 @@ use Rattle.tbtree.proofs.insertion.into_leaf.Goals as goal
 
 pub returns-clause-ends : goal.returns-clause-ends
 returns-clause-ends g c = λ fa.
-    let faithful = still _ _ c.way.ensures.passes.store.faithful fa in
+    let faithful = still _ _ c.way.ensures.touches.passes.store.faithful fa in
     let new = pages_of_cache c.grow.new.cache in
     let legs = c.args.legs.now in
     subst (λ p. OnOk c.grow.result (HasAtEnd new p legs)) c.if-page-last.false
@@ -25,7 +25,7 @@ returns-clause-ends g c = λ fa.
 
 pub returns-clause-keeps : goal.returns-clause-keeps
 returns-clause-keeps g c = λ fa.
-    let faithful = still _ _ c.way.ensures.passes.store.faithful fa in
+    let faithful = still _ _ c.way.ensures.touches.passes.store.faithful fa in
     let old = pages_of_cache c.args.cache.now in
     let new = pages_of_cache c.grow.new.cache in
     let legs = c.args.legs.now in
@@ -49,7 +49,7 @@ returns-clause-grows g c = λ fa.
     let legs = c.args.legs.now in
     let mid = pages_of_cache c.way.new.cache in
     let can : LeafView LegView → Type 0 = λ leaf. TakesLegs tree.shape.leaf leaf legs in
-    let faithful = still _ _ c.way.ensures.passes.store.faithful fa in
+    let faithful = still _ _ c.way.ensures.touches.passes.store.faithful fa in
     let some : 0 < tree.shape.inner = let range = c.leaf-most.ensures.range.least_inner in omega (arith, range) in
     let only = subst (λ most. HasLeafRoom mid c.in_ok-page.page (λ leaf. TakesLegs most leaf legs) → IfErr c.grow.result MayRefuseWrite) c.leaf-most.ensures.value (c.grow.ensures.only faithful) in
     grow_way leg_boxes lawful leg_feature tree.shape.inner tree.levels tree.root (pages_of_cache c.args.cache.now) mid (pages_of_cache c.grow.new.cache) c.args.number c.in_ok-page.page c.args.last legs

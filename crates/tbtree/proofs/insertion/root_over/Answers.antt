@@ -11,7 +11,7 @@ pub returns-clause-hangs : goal.returns-clause-hangs
 returns-clause-hangs g c = λ fa at.
     let tree = c.args.tree.now in
     hang_rooted leg_boxes lawful leg_feature tree.shape.inner tree.levels tree.root (pages_of_cache c.args.cache.now) (pages_of_cache c.cover.new.cache) (pages_of_cache c.add_root.new.cache) c.args.level at c.args.child.now.child c.in_ok-root.root c.in_ok-bounds.bounds c.args.child.now.bounds
-    c.requires.wide c.requires.top (c.in_ok-bounds.ensures.covers fa) (c.in_ok-root.ensures.adds (still _ _ c.cover.ensures.passes.store.faithful fa))
+    c.requires.wide c.requires.top (c.in_ok-bounds.ensures.covers fa) (c.in_ok-root.ensures.adds (still _ _ c.cover.ensures.touches.passes.store.faithful fa))
 
 pub returns-in_err-bounds-clause-hangs : goal.returns-in_err-bounds-clause-hangs
 returns-in_err-bounds-clause-hangs g c = λ fa at.

@@ -51,4 +51,4 @@ returns-clause-ends g c =
     let feature = ap (λ (l : LegView). l.feature) c.leg.view_is in
     let mid : c.make_place.new.self ≡ made c.args.self.now c.leg.inside.feature = from_ok c.make_place.result (sym c.is_err.ensures.value ∙ c.if-is_err.false) c.make_place.ensures.ok in
     let p : Puts (made c.args.self.now c.args.leg.feature) c.put.new.self c.args.leg c.put.result = subst (λ m. Puts m c.put.new.self c.args.leg c.put.result) (mid ∙ ap (made c.args.self.now) feature) c.put.ensures in
-    subst (λ r. OnOk r (EndsIn words c.args.self.now c.put.new.self (c.args.leg ∷ []))) (sym c.insertion.ensures) (leg_ends c.args.self.now c.put.new.self c.args.leg c.put.result p)
+    subst (λ r. OnOk r (EndsIn words c.args.self.now c.put.new.self (c.args.leg ∷ []))) (sym c.answer.ensures) (leg_ends c.args.self.now c.put.new.self c.args.leg c.put.result p)
