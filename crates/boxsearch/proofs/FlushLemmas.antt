@@ -7,7 +7,7 @@ use Rattle.legs.specs.Asking.{Refusals}
 use Rattle.legs.specs.Index.{CanFollowInTurn, MayRefuse}
 use Rattle.legs.specs.declared.index.IndexFault.{IndexFault}
 use Rattle.legs.specs.declared.index.IndexFault.TheVariants as index
-use Rattle.pagecache.specs.Cache.{payload_of, Cache, IsClean, IsSettled, IsStopped, SameLength, Stays, UnsyncsNone}
+use Rattle.pagecache.specs.Cache.{payload_of, Cache, IsClean, IsSettled, IsStopped, SameLength, KeepsPayloads, UnsyncsNone}
 use Rattle.pagecache.specs.declared.fault.CacheFault.{CacheFault}
 use Rattle.pagecache.specs.declared.fault.CacheFault.TheVariants as cache
 use Rattle.chains.specs.Reads.{OnlyReads}
@@ -18,7 +18,7 @@ use Rattle.boxsearch.specs.Index.{content, IndexView, words, IsMarked, IsSound, 
 use Rattle.boxsearch.proofs.AnswerLemmas.{each_fault, the_fault, Said}
 
 -- no page has another payload
-pub flush_reads : (old new : Cache) → Stays old new → UnsyncsNone old new → SameLength old new → new.asked ≡ old.asked → OnlyReads old new
+pub flush_reads : (old new : Cache) → KeepsPayloads old new → UnsyncsNone old new → SameLength old new → new.asked ≡ old.asked → OnlyReads old new
 flush_reads old new s u l a = record {
   store = s.keeps.store;
   capacity = s.keeps.capacity;

@@ -4,7 +4,7 @@ use Rattle.std.proofs.lemmas.Bool.Decides.{nat_tests}
 use Rattle.std.proofs.lemmas.Int.{clamps}
 use Rattle.pages.specs.Unsealed.{unsealed}
 use Rattle.pages.specs.declared.payload.Payload.{Payload}
-use Rattle.pagecache.specs.Cache.{Cache, payload_of, sealed_payload, is_changed, IsClean, IsWritten, Lends, Rests, Stays, SameLength, pages_as_written}
+use Rattle.pagecache.specs.Cache.{Cache, payload_of, sealed_payload, is_changed, IsClean, IsWritten, Lends, Rests, KeepsPayloads, SameLength, pages_as_written}
 use Rattle.boxsearch.specs.Index.{marked, IsMarked, IsUnfinished, MarksFirst, unfinished_front}
 use Rattle.boxsearch.specs.Marking.{Marks}
 use Rattle.boxsearch.proofs.PlaceLemmas.{some_none, some_same}
@@ -63,7 +63,7 @@ not_first : (n : ℕ) → 0 < n → (0 == n) ≡ false
 not_first n h = grind (arith, nat_tests, h)
 
 -- page 0 that is not marked, and is made so and written
-module _ (a b c d : Cache) (p w : Payload) (r : Rests a b) (read : IsTrue a.store.is_faithful → payload_of a 0 ≡ Some p) (not_marked : IsUnfinished p → ⊥) (l : Lends 0 w b c) (s : Stays c d) (len : SameLength c d) (asked : d.asked ≡ c.asked) where
+module _ (a b c d : Cache) (p w : Payload) (r : Rests a b) (read : IsTrue a.store.is_faithful → payload_of a 0 ≡ Some p) (not_marked : IsUnfinished p → ⊥) (l : Lends 0 w b c) (s : KeepsPayloads c d) (len : SameLength c d) (asked : d.asked ≡ c.asked) where
   was_not : IsMarked a → ⊥
   unfolding sealed_payload
   was_not m =

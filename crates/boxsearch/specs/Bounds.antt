@@ -7,4 +7,5 @@ pub record IsBounded (index : IndexView) : Type 0 where
   pub root : index.tree.root < index.cache.count
   pub leaves : index.tree.leaves ≤ index.cache.count
   pub levels : index.tree.levels ≤ 32
-  pub places : All (λ place. (place.first < index.cache.count) × (place.last < index.cache.count)) index.places
+  pub places : All
+      (λ place. (place.first < index.cache.count) × (place.last < index.cache.count)) index.places

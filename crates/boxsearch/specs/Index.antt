@@ -37,10 +37,12 @@ content i = if i.cache.store.is_faithful then content_of (pages_of_cache i.cache
 
 -- what its pages say to a question, and which page says nothing to it; anything where its store is not faithful
 abbrev pub tells : IndexView → Question → List LegView → Type 0
-tells i question legs = IsTrue i.cache.store.is_faithful → Tells (pages_of_cache i.cache) i.tree i.places question legs
+tells i question legs =
+    IsTrue i.cache.store.is_faithful → Tells (pages_of_cache i.cache) i.tree i.places question legs
 
 abbrev pub denies : IndexView → Question → ℕ → Type 0
-denies i question page = IsTrue i.cache.store.is_faithful → Denies (pages_of_cache i.cache) i.tree i.places question page
+denies i question page =
+    IsTrue i.cache.store.is_faithful → Denies (pages_of_cache i.cache) i.tree i.places question page
 
 -- the last leaf of the leg's feature has the leg at its end; anything where its store is not faithful
 abbrev pub ends_with : IndexView → LegView → Type 0
@@ -62,7 +64,8 @@ pub record IsSound (i : IndexView) : Type 0 where
   pub lawful : All IsLeg (content i)
   pub counted : i.legs ≡ length (content i)
   pub features : length i.places ≡ feature_count (content i)
-  pub placed : (feature : ℕ) (place : Place) → slice_get i.places feature ≡ Some place → IsPlace i.tree (content i) pages feature place
+  pub placed : (feature : ℕ) (place : Place) → slice_get i.places feature ≡ Some place
+      → IsPlace i.tree (content i) pages feature place
 
 -- how the header of a store begins that is not finished: the letters MFTB, version 2 and state 0
 abbrev pub unfinished_front : List ℕ
@@ -106,7 +109,9 @@ marked payload = record { kind = Header; bytes = unfinished_front ++ drop 12 pay
 
 -- over a faithful store page 0 has the payload that it had, marked
 abbrev pub MarksFirst : Cache → Cache → Type 0
-MarksFirst old new = IsTrue old.store.is_faithful → (p : Payload) → payload_of old 0 ≡ Some p → payload_of new 0 ≡ Some (marked p)
+MarksFirst old new =
+    IsTrue old.store.is_faithful → (p : Payload) → payload_of old 0 ≡ Some p
+    → payload_of new 0 ≡ Some (marked p)
 
 -- over a faithful store nothing is unsynced, where page 0 had a payload that was not marked
 abbrev pub SyncsMark : Cache → Cache → Type 0
@@ -119,7 +124,14 @@ place_of p = record { first = p.first; last = p.last; last_index = p.last_index;
 
 -- the numbers by which it finds its legs
 abbrev pub found_by : IndexView → Finding
-found_by i = record { root = i.tree.root; levels = i.tree.levels; leaves = i.tree.leaves; legs = i.legs; places = map place_of i.places }
+found_by i =
+    record {
+      root = i.tree.root;
+      levels = i.tree.levels;
+      leaves = i.tree.leaves;
+      legs = i.legs;
+      places = map place_of i.places;
+    }
 
 -- what contracts say of an index over pages
 abbrev pub words : Ghosts IndexView
@@ -136,7 +148,8 @@ words = record {
   asked = λ index. min index.cache.asked (2 ^ 64 - 1);
   plan = λ index. Some index.tree.shape;
   found_by = λ index. found_by index;
-  knows = λ index feature start. KnowsBackTo index.cache index.tree.shape index.places index.known feature start;
+  knows = λ index feature start. KnowsBackTo index.cache index.tree.shape index.places index.known
+      feature start;
   is_clean = λ index. IsClean index.cache;
   is_marked = λ index. IsMarked index.cache;
   written = λ index. written index;
@@ -148,4 +161,5 @@ with_place places feature = if feature == length places then places ++ no_place 
 
 -- an index without legs
 abbrev pub new_index : Cache → ShapeView → IndexView
-new_index cache shape = record { cache = cache; tree = empty_tree shape; places = []; legs = 0; known = [] }
+new_index cache shape =
+    record { cache = cache; tree = empty_tree shape; places = []; legs = 0; known = [] }

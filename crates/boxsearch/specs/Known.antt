@@ -24,11 +24,13 @@ Widens old new =
 -- and what was known of each feature is known
 abbrev pub Holds : List (List LeafSpan) → List (List LeafSpan) → Type 0
 Holds old new =
-    (feature : ℕ) (spans : List LeafSpan) → slice_get old feature ≡ Some spans → slice_get new feature ≡ Some spans
+    (feature : ℕ) (spans : List LeafSpan) → slice_get old feature ≡ Some spans
+    → slice_get new feature ≡ Some spans
 
 -- what is known of a feature reaches back to that moment, and so to each period that starts no earlier
 abbrev pub KnowsBackTo : Cache → ShapeView → List Place → List (List LeafSpan) → ℕ → ℤ → Type 0
 KnowsBackTo cache shape places known feature start =
     IsTrue cache.store.is_faithful → (place : Place) → slice_get places feature ≡ Some place
     → (spans : List LeafSpan) × (slice_get known feature ≡ Some spans)
-    × ((period : PeriodView) → start ≤ℤ period.start → IsKnownBackTo (pages_of_cache cache) (Some period) shape place spans)
+    × ((period : PeriodView) → start ≤ℤ period.start
+    → IsKnownBackTo (pages_of_cache cache) (Some period) shape place spans)

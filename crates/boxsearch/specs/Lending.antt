@@ -9,5 +9,7 @@ use Rattle.boxsearch.specs.Beside.{with_cache}
 use Rattle.boxsearch.specs.contracts.tree_index.TreeIndex.{the_row}
 
 -- the index with the cache that is left behind the reference, of whose leaves nothing is known
-abbrev pub LendsCache : (S : RattleType) → store.Ghosts S.Denot → MutBor IndexView → MutBor Cache → Fml
-LendsCache S g index r = Lends (the_row S g) (pagecache.the_row S g) index r (λ cache. with_cache index.now cache [])
+abbrev pub LendsCache : (S : RattleType) → store.Ghosts S.Denot → MutBor IndexView → MutBor Cache
+    → Fml
+LendsCache S g index r =
+    Lends (the_row S g) (pagecache.the_row S g) index r (λ cache. with_cache index.now cache [])

@@ -10,19 +10,23 @@ use Rattle.tbtree.specs.declared.fault.TreeFault.{TreeFault}
 use Rattle.tbtree.specs.declared.tree.Place.{Place}
 use Rattle.boxsearch.specs.Index.{IndexView}
 
-pub record Puts (old new : IndexView) (leg : LegView) (result : Result (Unit {0}) TreeFault) : Type 0 where
+pub record Puts (old new : IndexView) (leg : LegView)
+    (result : Result (Unit {0}) TreeFault) : Type 0 where
   pub was : Place
   pub is : Place
   pub found : slice_get old.places leg.feature ≡ Some was
   pub places : new.places ≡ set old.places leg.feature is
   pub inserts : IsTrue old.cache.store.is_faithful
-      → Inserts (pages_of_cache old.cache) (pages_of_cache new.cache) old.tree new.tree was is leg result
+      → Inserts (pages_of_cache old.cache) (pages_of_cache new.cache) old.tree new.tree
+      was is leg result
   pub joins : IsTrue old.cache.store.is_faithful
-      → Joins (pages_of_cache old.cache) (pages_of_cache new.cache) old.tree new.tree was is leg result
+      → Joins (pages_of_cache old.cache) (pages_of_cache new.cache) old.tree new.tree
+      was is leg result
   pub ends : IsTrue old.cache.store.is_faithful
       → OnOk result (HasAtEnd (pages_of_cache new.cache) is.last (leg ∷ []))
   pub keeps : IsTrue old.cache.store.is_faithful
-      → OnOk result (KeepsLegs was.last (leg ∷ []) (pages_of_cache old.cache) (pages_of_cache new.cache))
+      → OnOk result
+      (KeepsLegs was.last (leg ∷ []) (pages_of_cache old.cache) (pages_of_cache new.cache))
   pub shape : new.tree.shape ≡ old.tree.shape
   pub passes : Passes old.cache new.cache
   pub count : OnOk result (KeepsLength old.cache new.cache)
@@ -34,13 +38,15 @@ pub record Puts (old new : IndexView) (leg : LegView) (result : Result (Unit {0}
   pub legs : OnOk result (new.legs ≡ min (old.legs + 1) (2 ^ 64 - 1))
 
 -- what putting legs of one feature makes of it
-pub record PutsAll (old new : IndexView) (feature : ℕ) (legs : List LegView) (result : Result (Unit {0}) TreeFault) : Type 0 where
+pub record PutsAll (old new : IndexView) (feature : ℕ) (legs : List LegView)
+    (result : Result (Unit {0}) TreeFault) : Type 0 where
   pub was : Place
   pub is : Place
   pub found : slice_get old.places feature ≡ Some was
   pub places : new.places ≡ set old.places feature is
   pub joins : IsTrue old.cache.store.is_faithful
-      → JoinsAll (pages_of_cache old.cache) (pages_of_cache new.cache) old.tree new.tree was is legs result
+      → JoinsAll (pages_of_cache old.cache) (pages_of_cache new.cache) old.tree new.tree was
+      is legs result
   pub ends : IsTrue old.cache.store.is_faithful → 0 < length legs
       → OnOk result (HasAtEnd (pages_of_cache new.cache) is.last
       (in_last_leaf old.tree.shape.leaf is.legs legs))

@@ -26,15 +26,21 @@ pub record HoldsLegs (i : IndexView) (legs : List LegView) : Type 0 where
   pub holds : Holds (pages_of_cache i.cache) i.tree legs pages
   pub counted : i.legs ≡ length legs
   pub features : length i.places ≡ feature_count legs
-  pub placed : (feature : ℕ) (place : Place) → slice_get i.places feature ≡ Some place → IsPlace i.tree legs pages feature place
+  pub placed : (feature : ℕ) (place : Place) → slice_get i.places feature ≡ Some place
+      → IsPlace i.tree legs pages feature place
 
 -- what legs make of an index that is not spent, accepted or refused
-pub record Taking (old new : IndexView) (legs : List LegView) (result : Result (Unit {0}) IndexFault) : Type 0 where
-  pub takes : OnOk result ((before : List LegView) → HoldsLegs old before → CanTakeInTurn before legs → HoldsLegs new (before ++ legs))
+pub record Taking (old new : IndexView) (legs : List LegView)
+    (result : Result (Unit {0}) IndexFault) : Type 0 where
+  pub takes : OnOk result
+      ((before : List LegView) → HoldsLegs old before → CanTakeInTurn before legs
+      → HoldsLegs new (before ++ legs))
   pub shape : OnOk result (new.tree.shape ≡ old.tree.shape)
   pub works : OnOk result (new.tree.spent ≡ false)
   pub spent : OnErr result (new.tree.spent ≡ true)
-  pub refused : IfErr result (λ fault. (before : List LegView) → HoldsLegs old before → CanTakeInTurn before legs → MayRefuseLeg fault)
+  pub refused : IfErr result
+      (λ fault. (before : List LegView) → HoldsLegs old before → CanTakeInTurn before legs
+      → MayRefuseLeg fault)
   pub store : IsErrOf result Store → HasRisen old.cache.store.faults new.cache.store.faults
   pub full : IsErrOf result StoreFull → new.cache.count ≡ new.cache.store.most
   pub marked : IsMarked old.cache → IsMarked new.cache
@@ -46,10 +52,12 @@ taken legs turns = map (λ turn. slice_index_or legs turn.place no_leg) turns
 -- the places of the features of some legs
 pub record ArePlacesOf (places : List Place) (legs : List LegView) : Type 0 where
   pub features : length places ≡ feature_count legs
-  pub counts : (f : ℕ) (place : Place) → slice_get places f ≡ Some place → place.legs ≡ count_by (λ l. leg_feature l == f) legs
+  pub counts : (f : ℕ) (place : Place) → slice_get places f ≡ Some place
+      → place.legs ≡ count_by (λ l. leg_feature l == f) legs
 
 -- the turns are those of legs that may follow, leaf by leaf
 abbrev pub AreTurns : List Place → ℕ → List LegView → List Turn → Type 0
 AreTurns places leaf legs turns =
-    (before : List LegView) → ArePlacesOf places before → CanFollowInTurn [] before → CanFollowInTurn before legs
+    (before : List LegView) → ArePlacesOf places before → CanFollowInTurn [] before
+    → CanFollowInTurn before legs
     → taken legs turns ≡ leaf_by_leaf leaf before legs

@@ -15,33 +15,40 @@ use Rattle.tbtree.specs.declared.tree.TbTree.{TbTree}
 use Rattle.boxsearch.specs.Way.{meets, IsWay, IsOffWay}
 
 -- the last leaf of the leg's feature has the leg at its end
-pub record EndsWith (nodes : Pages LegView BoxView) (places : List Place) (leg : LegView) : Type 0 where
+pub record EndsWith (nodes : Pages LegView BoxView) (places : List Place)
+    (leg : LegView) : Type 0 where
   pub place : Place
   pub is : slice_get places leg.feature ≡ Some place
   pub at_end : HasAtEnd nodes place.last (leg ∷ [])
 
 -- each page that a search meets is the one that the tree expects there, and these are the legs that it meets, in order
-pub record TellsBox (nodes : Pages LegView BoxView) (tree : TbTree) (query : BoxView) (legs : List LegView) : Type 0 where
+pub record TellsBox (nodes : Pages LegView BoxView) (tree : TbTree) (query : BoxView)
+    (legs : List LegView) : Type 0 where
   pub way : IsWay query nodes tree.root tree.levels
   pub met : IsInOrder (legs_met leg_boxes (meets query) nodes tree.root tree.levels) legs
 
 -- the pages are the chain of a place, as far as it is read, and these are the legs that are kept of it; where there is no
 -- place there is no leg
-abbrev pub TellsTrack : Pages LegView BoxView → ShapeView → Option PeriodView → Option Place → List LegView → Type 0
-TellsTrack nodes shape period (Some place) legs = IsPlaceChain nodes period shape place × (legs ≡ chain_legs nodes period shape place)
+abbrev pub TellsTrack : Pages LegView BoxView → ShapeView → Option PeriodView → Option Place
+    → List LegView → Type 0
+TellsTrack nodes shape period (Some place) legs =
+    IsPlaceChain nodes period shape place × (legs ≡ chain_legs nodes period shape place)
 TellsTrack nodes shape period None legs = legs ≡ []
 
 -- the page is the first one, from the place's last leaf back, that is not the chain's
-abbrev pub DeniesTrack : Pages LegView BoxView → ShapeView → Option PeriodView → Option Place → ℕ → Type 0
+abbrev pub DeniesTrack : Pages LegView BoxView → ShapeView → Option PeriodView → Option Place → ℕ
+    → Type 0
 DeniesTrack nodes shape period (Some place) page = chain_fault nodes period shape place ≡ Some page
 DeniesTrack nodes shape period None page = ⊥
 
 -- what pages say to a question, by a tree and the places of its features
 abbrev pub Tells : Pages LegView BoxView → TbTree → List Place → Question → List LegView → Type 0
 Tells nodes tree places (InBox query) legs = TellsBox nodes tree query legs
-Tells nodes tree places (OfFeature feature period) legs = TellsTrack nodes tree.shape period (slice_get places feature) legs
+Tells nodes tree places (OfFeature feature period) legs =
+    TellsTrack nodes tree.shape period (slice_get places feature) legs
 
 -- the page is met, and is not what it is to be there
 abbrev pub Denies : Pages LegView BoxView → TbTree → List Place → Question → ℕ → Type 0
 Denies nodes tree places (InBox query) page = IsOffWay query nodes tree.root tree.levels page
-Denies nodes tree places (OfFeature feature period) page = DeniesTrack nodes tree.shape period (slice_get places feature) page
+Denies nodes tree places (OfFeature feature period) page =
+    DeniesTrack nodes tree.shape period (slice_get places feature) page

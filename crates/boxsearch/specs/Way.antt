@@ -18,7 +18,8 @@ IsOnLevel nodes (suc k) p = HasInner nodes p (suc k)
 module _ (query : BoxView) (nodes : Pages LegView BoxView) (root levels : ℕ) where
   -- each page that is met is one of its level, and no more are met than there are
   pub record IsWay : Type 0 where
-    pub fit : (n k : ℕ) → n + suc k ≡ levels → All (λ p. IsOnLevel nodes k p) (pages_met (meets query) nodes root n)
+    pub fit : (n k : ℕ) → n + suc k ≡ levels
+        → All (λ p. IsOnLevel nodes k p) (pages_met (meets query) nodes root n)
     pub few : (n : ℕ) → n ≤ levels → met_count (meets query) nodes root n ≤ nodes.count
 
   -- page p is met, and is not one of its level, or is the first one that is met beyond as many as there are
@@ -28,4 +29,5 @@ module _ (query : BoxView) (nodes : Pages LegView BoxView) (root levels : ℕ) w
     pub level_is : n + suc k ≡ levels
     pub place : ℕ
     pub met : slice_get (pages_met (meets query) nodes root n) place ≡ Some p
-    pub wrong : (IsOnLevel nodes k p → ⊥) ⊎ (met_count (meets query) nodes root n + place ≡ nodes.count)
+    pub wrong : (IsOnLevel nodes k p → ⊥)
+        ⊎ (met_count (meets query) nodes root n + place ≡ nodes.count)

@@ -40,7 +40,8 @@ impl<S: PageStore> Listed for TreeIndex<S> {
 
     ghost found_by = { λ index. found_by index };
 
-    ghost knows = { λ index feature start. KnowsBackTo index.cache index.tree.shape index.places index.known feature start };
+    ghost knows = { λ index feature start. KnowsBackTo index.cache index.tree.shape index.places
+        index.known feature start };
 
     ghost is_clean = { λ index. IsClean index.cache };
 

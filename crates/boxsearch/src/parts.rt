@@ -31,7 +31,13 @@ impl<S: PageStore> TreeIndex<S> {
         legs: u64,
     ) -> TreeIndex<S>
         ensures { result
-            ≡ record { cache = cache; tree = tree; places = places.items; legs = legs; known = [] } }
+            ≡ record {
+              cache = cache;
+              tree = tree;
+              places = places.items;
+              legs = legs;
+              known = [];
+            } }
     {
         TreeIndex {
             alloc,

@@ -34,9 +34,17 @@ impl<S: PageStore> Model for TreeIndex<S> {
     ghost use Rattle.std.specs.Prelude.{map};
     ghost use Rattle.boxsearch.specs.Known.{AreKnown};
 
-    ghost view = { λ a. record { cache = a.cache; tree = a.tree; places = a.places.items; legs = a.legs; known = map (λ spans. spans.items) a.known.items } };
+    ghost view = { λ a.
+        record {
+          cache = a.cache;
+          tree = a.tree;
+          places = a.places.items;
+          legs = a.legs;
+          known = map (λ spans. spans.items) a.known.items;
+        } };
 
-    ghost invariant = { λ a. AreKnown a.cache a.tree.shape a.places.items (map (λ spans. spans.items) a.known.items) };
+    ghost invariant = { λ a. AreKnown a.cache a.tree.shape a.places.items
+        (map (λ spans. spans.items) a.known.items) };
 }
 
 impl<S: PageStore> TreeIndex<S> {

@@ -8,7 +8,7 @@ use Rattle.pages.specs.Unsealed.{unsealed}
 use Rattle.pages.specs.declared.payload.Kind.{Kind}
 use Rattle.pages.specs.declared.payload.Kind.TheVariants.{Header}
 use Rattle.pages.specs.declared.payload.Payload.{Payload}
-use Rattle.pagecache.specs.Cache.{Cache, payload_of, sealed_payload, stored_payload, IsWritten, SameLength, Stays}
+use Rattle.pagecache.specs.Cache.{Cache, payload_of, sealed_payload, stored_payload, IsWritten, SameLength, KeepsPayloads}
 use Rattle.tbnode.specs.Parts.{number_at, part}
 use Rattle.tbnode.proofs.PartLemmas.{number_at-put_before, number_at-put_same}
 use Rattle.boxsearch.specs.Index.{unfinished_front, IsUnfinished}
@@ -70,7 +70,7 @@ not_first : (n : ℕ) → 0 < n → (0 == n) ≡ false
 not_first n h = grind (arith, nat_tests, h)
 
 -- all is written
-module _ (a b : Cache) (s : Stays a b) (written : IsWritten b) (f : IsTrue a.store.is_faithful) where
+module _ (a b : Cache) (s : KeepsPayloads a b) (written : IsWritten b) (f : IsTrue a.store.is_faithful) where
   still : IsTrue b.store.is_faithful
   still = s.keeps.store.faithful ∙ f
 
@@ -91,7 +91,7 @@ module _ (a b : Cache) (s : Stays a b) (written : IsWritten b) (f : IsTrue a.sto
     set = sets.lends.writes.keeps.store.faithful ∙ still
 
     -- or is written too
-    module _ (d : Cache) (last : Stays c d) (long : SameLength a b) (longer : SameLength c d) (all : IsWritten d) (counts : a.count ≡ a.store.count) where
+    module _ (d : Cache) (last : KeepsPayloads c d) (long : SameLength a b) (longer : SameLength c d) (all : IsWritten d) (counts : a.count ≡ a.store.count) where
       first_is : payload_of d 0 ≡ Some (finished sets.was)
       first_is = last.payloads set 0 ∙ sets.lends.writes.payloads still 0
 

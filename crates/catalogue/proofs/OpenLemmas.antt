@@ -20,7 +20,7 @@ use Rattle.register.specs.declared.fault.CatalogueFault.{CatalogueFault}
 use Rattle.register.specs.declared.fault.CatalogueFault.TheVariants.{Memory, StoreFull, Damaged, Unfinished, Version, Malformed}
 use Rattle.register.specs.declared.fault.CatalogueFault.TheVariants as fault
 use Rattle.register.specs.Saved.{CatalogueView}
-use Rattle.register.specs.Stopping.{IsNamed}
+use Rattle.register.specs.Stopping.{NamesStop}
 
 -- all pages of a store that a cache counts are written
 pub all_pages : (c : Cache) → IsLawful c.store → c.count ≡ c.store.count → IsTrue c.store.is_faithful → pages_as_written c ≡ c.store.pages
@@ -123,10 +123,10 @@ opened_damaged a clean count Version h = tt
 opened_damaged a clean count Malformed h = tt
 
 -- so is what is named
-pub opened_named : (a : Cache) → IsWritten a → a.count ≡ a.store.count → (e : CatalogueFault) → (IsTrue a.store.is_faithful → IsNamed (payload_of a) a.count e) → IsTrue a.store.is_faithful → IsNamed (stored_payload a.store) a.store.count e
+pub opened_named : (a : Cache) → IsWritten a → a.count ≡ a.store.count → (e : CatalogueFault) → (IsTrue a.store.is_faithful → NamesStop (payload_of a) a.count e) → IsTrue a.store.is_faithful → NamesStop (stored_payload a.store) a.store.count e
 opened_named a clean count e h fa =
     let at : payload_of a ≡ stored_payload a.store = (λ i n. clean.stored fa count n i) in
-    subst (λ n. IsNamed (stored_payload a.store) n e) count (subst (λ (f : ℕ → Option Payload). IsNamed f a.count e) at (h fa))
+    subst (λ n. NamesStop (stored_payload a.store) n e) count (subst (λ (f : ℕ → Option Payload). NamesStop f a.count e) at (h fa))
 
 -- what is no other fault is memory or the store
 pub stop_of : (e : CatalogueFault) → ((IsStop e → ⊥) → ⊥) → IsStop e

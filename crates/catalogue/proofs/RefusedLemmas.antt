@@ -8,7 +8,7 @@ use Rattle.pages.specs.Store.{IsLawful, IsSynced, IsSyncedButFirst, Store}
 use Rattle.pages.specs.declared.unsynced.Unsynced.TheVariants.{Nothing, Others}
 use Rattle.pages.specs.Unsealed.{unsealed}
 use Rattle.pages.specs.declared.payload.Payload.{Payload}
-use Rattle.pagecache.specs.Cache.{fresh, is_changed, page_of, pages_as_written, payload_of, sealed_payload, stored_payload, Cache, Stays, Writes}
+use Rattle.pagecache.specs.Cache.{fresh, is_changed, page_of, pages_as_written, payload_of, sealed_payload, stored_payload, Cache, KeepsPayloads, Writes}
 use Rattle.legs.specs.Book.{Book}
 use Rattle.boxsearch.specs.Index.{content, IndexView, IsSound, IsUnfinished}
 use Rattle.catalogue.specs.Finishing.{finished, Finishes, IsLaterCache}
@@ -28,7 +28,7 @@ OnlyFirst c = (n : ℕ) → 1 ≤ n → is_changed c n ≡ false
 abbrev pub SameOthers : Cache → Cache → Type 0
 SameOthers old new = drop 1 (pages_as_written new) ≡ drop 1 (pages_as_written old)
 
-pub reads_others : (a b : Cache) → Stays a b → IsTrue a.store.is_faithful → OnlyFirst a → OnlyFirst b × SameOthers a b
+pub reads_others : (a b : Cache) → KeepsPayloads a b → IsTrue a.store.is_faithful → OnlyFirst a → OnlyFirst b × SameOthers a b
 reads_others a b s f clean = (λ n h. s.changed n (clean n h), s.unwritten.from f 1 clean)
 
 pub not_zero : (n : ℕ) → 1 ≤ n → 0 ≢ n

@@ -15,7 +15,8 @@ use Rattle.catalogue.specs.Holding.{IsUnfinishedStore}
 -- the store failed
 pub record IsFirst (payload : Payload) (old new : Store) : Type 0 where
   pub few : new.count ≤ 1
-  pub first : IsTrue old.is_faithful → (new.pages ≡ []) ⊎ ((new.pages ≡ sealed 0 payload ∷ []) ⊎ Faulted old new)
+  pub first : IsTrue old.is_faithful
+      → (new.pages ≡ []) ⊎ ((new.pages ≡ sealed 0 payload ∷ []) ⊎ Faulted old new)
 
 -- of one that was not begun: page 0 was to be the unfinished header of this shape and these limits
 abbrev pub IsLeft : ShapeView → LimitsView → Store → Store → Type 0
@@ -24,7 +25,8 @@ IsLeft shape limits old new = IsFirst (header_payload shape limits) old new
 -- what is left of an empty store into which nothing was brought: it has no page, or a page 0 of a store that is
 -- not finished, or page 0 alone, whose write failed
 abbrev pub IsLeftOver : Store → Store → Type 0
-IsLeftOver old new = (new.pages ≡ []) ⊎ (IsUnfinishedStore new ⊎ ((new.count ≤ 1) × Faulted old new))
+IsLeftOver old new =
+    (new.pages ≡ []) ⊎ (IsUnfinishedStore new ⊎ ((new.count ≤ 1) × Faulted old new))
 
 -- the store failed where that is said, and has no room for any page where that is said
 abbrev pub IsCaused : Store → Store → CacheFault → Type 0

@@ -22,4 +22,8 @@ header_bytes shape limits =
 
 -- behind it the page is zero
 unfoldable pub header_payload : ShapeView → LimitsView → Payload
-header_payload shape limits = record { kind = Header; bytes = header_bytes shape limits ++ drop 60 (zero_payload Header).bytes }
+header_payload shape limits =
+    record {
+      kind = Header;
+      bytes = header_bytes shape limits ++ drop 60 (zero_payload Header).bytes;
+    }

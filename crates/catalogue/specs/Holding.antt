@@ -31,11 +31,13 @@ pub record IsOfBook (limits : LimitsView) (book : Book) (c : CatalogueView) : Ty
 
 -- the index of a tree and of places over the pages of a store
 abbrev pub index_over : Store → TbTree → List Place → ℕ → IndexView
-index_over s tree places legs = record { cache = fresh s 1; tree = tree; places = places; legs = legs; known = [] }
+index_over s tree places legs =
+    record { cache = fresh s 1; tree = tree; places = places; legs = legs; known = [] }
 
 -- the pages of a finished store hold a book under limits: they keep its catalogue, and a tree of
 -- that shape that stands for its legs
-pub record HoldsBook (s : Store) (shape : ShapeView) (limits : LimitsView) (book : Book) : Type 0 where
+pub record HoldsBook (s : Store) (shape : ShapeView) (limits : LimitsView)
+    (book : Book) : Type 0 where
   pub catalogue : CatalogueView
   pub tree : TbTree
   pub places : List Place
@@ -46,7 +48,8 @@ pub record HoldsBook (s : Store) (shape : ShapeView) (limits : LimitsView) (book
   pub legs : content (index_over s tree places (length book.legs)) ≡ book.legs
 
 -- all pages of a store but page 0 are those of one that holds a book, and are synced
-pub record HoldsButFirst (s : Store) (shape : ShapeView) (limits : LimitsView) (book : Book) : Type 0 where
+pub record HoldsButFirst (s : Store) (shape : ShapeView) (limits : LimitsView)
+    (book : Book) : Type 0 where
   pub whole : Store
   pub holds : HoldsBook whole shape limits book
   pub count : whole.count ≡ s.count
@@ -66,7 +69,8 @@ pub record IsAtRest (c : CatalogueView) (index : IndexView) : Type 0 where
 
 -- a book is opened: the catalogue is its own, and the index is sound, of that shape, and has its
 -- legs
-pub record AnswersBook (shape : ShapeView) (limits : LimitsView) (book : Book) (c : CatalogueView) (index : IndexView) : Type 0 where
+pub record AnswersBook (shape : ShapeView) (limits : LimitsView) (book : Book) (c : CatalogueView)
+    (index : IndexView) : Type 0 where
   pub shape_is : index.tree.shape ≡ shape
   pub of : IsOfBook limits book c
   pub sound : IsSound index

@@ -10,7 +10,7 @@ ghost use Rattle.boxsearch.specs.Index.{content, IsMarked, IsSound};
 ghost use Rattle.catalogue.specs.Closing.{IsClosingFault, IsNoStoreFault};
 ghost use Rattle.catalogue.specs.Holding.{HoldsBook, HoldsButFirst, IsOfBook, IsUnfinishedStore};
 ghost use Rattle.register.specs.Earlier.{AddsFew, AreEarlier};
-ghost use Rattle.register.specs.Saving.{contents_of, IsAllowed, IsCaused};
+ghost use Rattle.register.specs.Saving.{contents_of, IsSavingStop, IsCaused};
 ghost use Rattle.register.specs.Text.{catalogue_text};
 
 use crate::finishing::finish;
@@ -60,7 +60,7 @@ fn save_and_finish<S: PageStore>(
         index.new.cache.store.count) }
     ensures only { IfErr result (λ fault. IsSound index.old → (book : Book)
         → IsOfBook catalogue.now.limits book catalogue.now → content index.old ≡ book.legs
-        → IsAllowed fault) }
+        → IsSavingStop fault) }
     ensures unfinished { IfErr result (λ fault. IsNoStoreFault fault → IsSound index.old
         → IsMarked index.old.cache → IsUnfinishedStore index.new.cache.store) }
     ensures refused { OnErr result (IsLawful index.new.cache.store → IsSound index.old
@@ -106,7 +106,7 @@ pub fn close<S: PageStore>(
         (S.seen result.0).count) }
     ensures only { IfErr result.1 (λ fault. IsSound index → (book : Book)
         → IsOfBook catalogue.now.limits book catalogue.now → content index ≡ book.legs
-        → IsAllowed fault) }
+        → IsSavingStop fault) }
     ensures unfinished { IfErr result.1 (λ fault. IsNoStoreFault fault → IsSound index
         → IsMarked index.cache → IsUnfinishedStore (S.seen result.0)) }
 

@@ -2,7 +2,7 @@
 ghost use Rattle.std.specs.Prelude.{ℕ, ◌≡◌, ◌≢◌, ◌<◌, ◌≤◌, drop, false, IfErr, IsErrOf, IsTrue, None, OnErr, OnOk};
 ghost use Rattle.chains.specs.Reads.{OnlyReads};
 ghost use Rattle.pages.specs.Store.{IsSynced, IsSyncedButFirst};
-ghost use Rattle.pagecache.specs.Cache.{is_changed, pages_as_written, payload_of, IsWritten, Rests, SameLength, Stays};
+ghost use Rattle.pagecache.specs.Cache.{is_changed, pages_as_written, payload_of, IsWritten, Rests, SameLength, KeepsPayloads};
 ghost use Rattle.boxsearch.specs.Beside.{with_cache};
 ghost use Rattle.catalogue.specs.Finishing.{finished, Finishes, IsLaterCache, IsNotFinished, IsUnwrittenHeader, SaysUnfinished, SetsState};
 ghost use Rattle.register.specs.Saving.{IsNotWritten};
@@ -21,7 +21,7 @@ fn write_all<S: PageStore>(index: &mut TreeIndex<S>) -> Result<(), CatalogueFaul
     ensures same { index.new ≡ with_cache index.old index.new.cache index.new.known }
     ensures written { OnOk result (IsWritten index.new.cache) }
     ensures synced { OnOk result (IsSynced index.new.cache.store) }
-    ensures stays { Stays index.old.cache index.new.cache }
+    ensures stays { KeepsPayloads index.old.cache index.new.cache }
     ensures length { SameLength index.old.cache index.new.cache }
     ensures asked { index.new.cache.asked ≡ index.old.cache.asked }
     ensures reads { OnlyReads index.old.cache index.new.cache }

@@ -9,7 +9,7 @@ ghost use Rattle.boxsearch.specs.Index.{IndexView};
 ghost use Rattle.catalogue.specs.Holding.{AnswersBook, HoldsBook, IsAtRest, IsUnfinishedStore};
 ghost use Rattle.register.specs.Lasting.{first_fault, ComesFirst, IsKept, IsReadingFault, IsStop, IsTrulyDamaged};
 ghost use Rattle.register.specs.Saved.{CatalogueView};
-ghost use Rattle.register.specs.Stopping.{IsNamed};
+ghost use Rattle.register.specs.Stopping.{NamesStop};
 ghost use Rattle.tbtree.specs.declared.tree.Place.{Place};
 ghost use Rattle.tbtree.specs.declared.tree.TbTree.{TbTree};
 
@@ -50,7 +50,7 @@ fn open_cache<S: PageStore>(
     ensures damaged { IfErr result (λ back. IsTrulyDamaged cache.store.is_faithful
         (stored_payload cache.store) cache.store.count back.1) }
     ensures named { IfErr result (λ back. IsTrue cache.store.is_faithful
-        → IsNamed (stored_payload cache.store) cache.store.count back.1) }
+        → NamesStop (stored_payload cache.store) cache.store.count back.1) }
 {
     boxsearch::laws();
     register::laws();
@@ -105,7 +105,7 @@ pub fn open<S: PageStore>(
     ensures damaged { IfErr result (λ back. IsTrulyDamaged (S.seen store).is_faithful
         (stored_payload (S.seen store)) (S.seen store).count back.1) }
     ensures named { IfErr result (λ back. IsTrue (S.seen store).is_faithful
-        → IsNamed (stored_payload (S.seen store)) (S.seen store).count back.1) }
+        → NamesStop (stored_payload (S.seen store)) (S.seen store).count back.1) }
 {
     let cache = match PageCache::new(alloc, store, cache_pages) {
         Ok(cache) => cache,

@@ -5,7 +5,7 @@ ghost use Rattle.pagecache.specs.Cache.{payload_of};
 ghost use Rattle.chains.specs.Reads.{OnlyReads};
 ghost use Rattle.register.specs.Lasting.{first_fault, ComesFirst, IsKept, IsReadingFault, IsStop, IsTrulyDamaged};
 ghost use Rattle.register.specs.Saved.{CatalogueView};
-ghost use Rattle.register.specs.Stopping.{IsNamed};
+ghost use Rattle.register.specs.Stopping.{NamesStop};
 ghost use Rattle.tbtree.specs.declared.tree.Place.{Place};
 ghost use Rattle.tbtree.specs.declared.tree.TbTree.{TbTree};
 
@@ -44,7 +44,7 @@ pub fn restore<S: PageStore>(
     ensures damaged { IfErr result (λ back. IsTrulyDamaged cache.store.is_faithful
         (payload_of cache) cache.count back.1) }
     ensures named { IfErr result (λ back. IsTrue cache.store.is_faithful
-        → IsNamed (payload_of cache) cache.count back.1) }
+        → NamesStop (payload_of cache) cache.count back.1) }
 {
     let result = read_back(alloc, keys, &mut cache);
     lawful(&cache);

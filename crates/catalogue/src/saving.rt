@@ -8,7 +8,7 @@ ghost use Rattle.register.specs.ChainSteps.{SparesTree};
 ghost use Rattle.register.specs.Earlier.{AddsFew, AreEarlier};
 ghost use Rattle.register.specs.Lasting.{Says};
 ghost use Rattle.register.specs.Saved.{Continues, IsWrittenButFirst, KeepsFront};
-ghost use Rattle.register.specs.Saving.{contents_of, HasFew, IsAllowed, IsCatalogue, IsCaused};
+ghost use Rattle.register.specs.Saving.{contents_of, HasFew, IsSavingStop, IsCatalogue, IsCaused};
 ghost use Rattle.register.specs.Text.{catalogue_text, IsWhole};
 
 use boxsearch::TreeIndex;
@@ -54,7 +54,7 @@ pub fn save<S: PageStore>(
     ensures synced { OnOk result (IsSynced index.new.cache.store) }
     ensures content { OnOk result (content index.new ≡ content index.old) }
     ensures sound { OnOk result (IsSound index.old → IsSound index.new) }
-    ensures only { HasFew catalogue.now → IsSound index.old → IfErr result IsAllowed }
+    ensures only { HasFew catalogue.now → IsSound index.old → IfErr result IsSavingStop }
     ensures caused { IfErr result (IsCaused index.old.cache index.new.cache) }
 {
     boxsearch::laws();

@@ -35,7 +35,8 @@ abbrev pub link_past : {L B : Type 0} → ℕ → Option (Option (Node L B)) →
 link_past page at = record { page = previous_of at; next = page; feature = Some (feature_of at) }
 
 -- the page of the link is that leaf, and it is the one of the chain there
-pub record IsLinked {L B : Type 0} (nodes : Pages L B) (link : Link) (spot : Spot) (leaf : LeafView L) : Type 0 where
+pub record IsLinked {L B : Type 0} (nodes : Pages L B) (link : Link) (spot : Spot)
+    (leaf : LeafView L) : Type 0 where
   pub above : 0 < link.page
   pub is : nodes.at link.page ≡ Some (Some (ALeaf leaf))
   pub fits : Fits leaf link spot
@@ -69,7 +70,8 @@ module _ (nodes : Pages LegView BoxView) (period : Option PeriodView) where
   -- how many leaves are read
   abbrev pub walked : ℕ → ℕ → ℕ
   walked zero p = 0
-  walked (suc n) p = 1 + cond (is_end period (legs_in (nodes.at p))) 0 (walked n (previous_of (nodes.at p)))
+  walked (suc n) p =
+      1 + cond (is_end period (legs_in (nodes.at p))) 0 (walked n (previous_of (nodes.at p)))
 
 -- the link to the last leaf of a place
 abbrev pub last_link : Place → Link
@@ -89,21 +91,24 @@ is_stray place = (place.legs == 0) && not ((place.first == 0) && (place.last == 
 abbrev pub IsPlaceChain : Pages LegView BoxView → Option PeriodView → ShapeView → Place → Type 0
 IsPlaceChain nodes period shape place =
     (place.legs ≡ 0 → NamesNone place)
-    × IsChain nodes period shape.leaf place.legs place.first (div_ceil place.legs shape.leaf) (last_link place)
+    × IsChain nodes period shape.leaf place.legs place.first (div_ceil place.legs shape.leaf)
+    (last_link place)
 
 -- the page at which the pages are not that chain, the first one from the place's last leaf back; none where they are.
 -- It is 0 where the place has no legs and names a page
 abbrev pub chain_fault : Pages LegView BoxView → Option PeriodView → ShapeView → Place → Option ℕ
 chain_fault nodes period shape place =
     cond (is_stray place) (Some 0)
-    (fault_from nodes period shape.leaf place.legs place.first (div_ceil place.legs shape.leaf) (last_link place))
+    (fault_from nodes period shape.leaf place.legs place.first (div_ceil place.legs shape.leaf)
+    (last_link place))
 
 -- what is kept of that chain, and how many of its leaves are read
 abbrev pub chain_legs : Pages LegView BoxView → Option PeriodView → ShapeView → Place → List LegView
 chain_legs nodes period shape place = walk nodes period (div_ceil place.legs shape.leaf) place.last
 
 abbrev pub chain_cost : Pages LegView BoxView → Option PeriodView → ShapeView → Place → ℕ
-chain_cost nodes period shape place = walked nodes period (div_ceil place.legs shape.leaf) place.last
+chain_cost nodes period shape place =
+    walked nodes period (div_ceil place.legs shape.leaf) place.last
 
 -- each page has a payload
 abbrev pub AreHeld : Pages LegView BoxView → Type 0

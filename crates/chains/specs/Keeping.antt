@@ -26,7 +26,8 @@ is_wanted (sieve.Near rect) leg = is_near rect leg
 -- legs have been put behind others, the last one first, but for some that may be left out
 abbrev pub PutsSome : Sieve → PeriodView → (legs old new : List LegView) → Type 0
 PutsSome sieve period legs old new =
-    (taken : List LegView) × (new ≡ old ++ reverse taken) × LeavesOut (MayGo sieve period) legs taken
+    (taken : List LegView) × (new ≡ old ++ reverse taken)
+    × LeavesOut (MayGo sieve period) legs taken
 
 -- the leg of that number is live, and so are none before it, or none behind it; no leg is
 pub record IsLiveAt (period : PeriodView) (legs : List LegView) (i : ℕ) : Type 0 where
@@ -36,8 +37,10 @@ pub record IsLiveAt (period : PeriodView) (legs : List LegView) (i : ℕ) : Type
 
 abbrev pub IsFirstLive : PeriodView → List LegView → Option ℕ → Type 0
 IsFirstLive period legs None = filter (is_live period) legs ≡ []
-IsFirstLive period legs (Some i) = IsLiveAt period legs i × (filter (is_live period) (take i legs) ≡ [])
+IsFirstLive period legs (Some i) =
+    IsLiveAt period legs i × (filter (is_live period) (take i legs) ≡ [])
 
 abbrev pub IsLastLive : PeriodView → List LegView → Option ℕ → Type 0
 IsLastLive period legs None = filter (is_live period) legs ≡ []
-IsLastLive period legs (Some i) = IsLiveAt period legs i × (filter (is_live period) (drop (suc i) legs) ≡ [])
+IsLastLive period legs (Some i) =
+    IsLiveAt period legs i × (filter (is_live period) (drop (suc i) legs) ≡ [])

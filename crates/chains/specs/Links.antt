@@ -29,7 +29,8 @@ pub record Fits {L : Type 0} (leaf : LeafView L) (link : Link) (spot : Spot) : T
 
 -- the same as tests, of a leaf's head and count of legs
 abbrev pub is_placed : ℕ → ℕ → Spot → Bool
-is_placed previous page spot = cond (spot.before == 0) ((previous == 0) && (page == spot.first)) (not (previous == 0))
+is_placed previous page spot =
+    cond (spot.before == 0) ((previous == 0) && (page == spot.first)) (not (previous == 0))
 
 abbrev pub is_of_feature : Option ℕ → ℕ → Bool
 is_of_feature None feature = true
@@ -38,7 +39,8 @@ is_of_feature (Some wanted) feature = feature == wanted
 abbrev pub head_fits : LeafHead → ℕ → Link → Spot → Bool
 head_fits head count link spot =
     is_of_feature link.feature head.feature
-    && ((count == spot.count) && ((head.next == link.next) && is_placed head.previous link.page spot))
+    && ((count == spot.count)
+    && ((head.next == link.next) && is_placed head.previous link.page spot))
 
 -- what a leaf says of itself
 abbrev pub head_of : {L : Type 0} → LeafView L → LeafHead
@@ -79,7 +81,8 @@ link_back page leaf = record { page = leaf.previous; next = page; feature = Some
 
 -- what is wanted of the kept legs of a leaf has been put behind the others, the last one first, and this is the link from
 -- it, if any
-pub record Takes (leaf : LeafView LegView) (page : ℕ) (period : Option PeriodView) (sieve : Sieve) (old new : List LegView)
+pub record Takes (leaf : LeafView LegView) (page : ℕ) (period : Option PeriodView) (sieve : Sieve)
+    (old new : List LegView)
     (result : Option Link) : Type 0 where
   pub legs : HasTaken period sieve (filter (is_kept period) leaf.legs) old new
   pub link : result ≡ (if is_end period leaf.legs then None else Some (link_back page leaf))

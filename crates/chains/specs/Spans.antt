@@ -33,17 +33,20 @@ pub record IsSpanOf (span : LeafSpan) (page : ℕ) (leaf : LeafView LegView) : T
 
 -- on the way back along n leaves of a chain of so many legs these are the spans of the leaves that are met, one after
 -- another, as far as they are known
-abbrev pub AreSpans : Pages LegView BoxView → (most legs first : ℕ) → List LeafSpan → ℕ → Link → Type 0
+abbrev pub AreSpans : Pages LegView BoxView → (most legs first : ℕ) → List LeafSpan → ℕ → Link
+    → Type 0
 AreSpans nodes most legs first [] n link = Unit {0}
 AreSpans nodes most legs first (span ∷ spans) zero link = ⊥
 AreSpans nodes most legs first (span ∷ spans) (suc n) link =
-    (leaf : LeafView LegView) × IsLinked nodes link (spot_of most legs first n) leaf × IsSpanOf span link.page leaf
+    (leaf : LeafView LegView) × IsLinked nodes link (spot_of most legs first n) leaf
+    × IsSpanOf span link.page leaf
     × AreSpans nodes most legs first spans n (link_back link.page leaf)
 
 -- these are the spans of the last leaves of the place's chain, from the last one back
 abbrev pub IsKnown : Pages LegView BoxView → ShapeView → Place → List LeafSpan → Type 0
 IsKnown nodes shape place spans =
-    AreSpans nodes shape.leaf place.legs place.first spans (div_ceil place.legs shape.leaf) (last_link place)
+    AreSpans nodes shape.leaf place.legs place.first spans (div_ceil place.legs shape.leaf)
+    (last_link place)
 
 -- the link from a known leaf to the one before it
 abbrev pub link_over : LeafSpan → ℕ → Link
@@ -61,7 +64,8 @@ abbrev pub pass_at : Option LeafSpan → Option LeafSpan → ℕ → Option Peri
 pass_at None before left period = Into
 pass_at (Some span) before left None = Into
 pass_at (Some span) before left (Some period) =
-    if int_lt span.end period.start then End else if int_le span.start period.end then Into else over span before left
+    if int_lt span.end period.start then End else if int_le span.start period.end then Into
+    else over span before left
 
 -- the page of a leaf that is read was asked for once; no page of one that is passed, and this is the link over it; none
 -- where the walk ends, and then there is no link
@@ -71,9 +75,11 @@ AsksAs (Over link) back old new = (new.asked ≡ old.asked) × (back ≡ Some li
 AsksAs End back old new = (new.asked ≡ old.asked) × (back ≡ None)
 
 -- the span of a leaf has been put behind those that are known, where it is the next one
-pub record Learns (old new : List LeafSpan) (passed page : ℕ) (leaf : LeafView LegView) : Type 0 where
+pub record Learns (old new : List LeafSpan) (passed page : ℕ)
+    (leaf : LeafView LegView) : Type 0 where
   pub same : passed ≢ length old → new ≡ old
-  pub next : passed ≡ length old → (span : LeafSpan) × IsSpanOf span page leaf × (new ≡ old ++ span ∷ [])
+  pub next : passed ≡ length old
+      → (span : LeafSpan) × IsSpanOf span page leaf × (new ≡ old ++ span ∷ [])
 
 -- the pages that are read for a leaf and those before it: no more where the walk ends there, none for it where it is passed
 abbrev pub read_cost : Passing → Bool → ℕ → ℕ
@@ -92,11 +98,13 @@ module _ (nodes : Pages LegView BoxView) (period : Option PeriodView) where
   walked_by [] n p = walked nodes period n p
   walked_by (span ∷ spans) zero p = 0
   walked_by (span ∷ spans) (suc n) p =
-      read_cost (pass_at (Some span) (next_span spans) n period) (is_end period (legs_in (nodes.at p)))
+      read_cost (pass_at (Some span) (next_span spans) n period)
+      (is_end period (legs_in (nodes.at p)))
       (walked_by spans n (previous_of (nodes.at p)))
 
 -- how many leaves of the place's chain are read, where these are the spans of its last ones
-abbrev pub known_cost : Pages LegView BoxView → Option PeriodView → ShapeView → Place → List LeafSpan → ℕ
+abbrev pub known_cost : Pages LegView BoxView → Option PeriodView → ShapeView → Place
+    → List LeafSpan → ℕ
 known_cost nodes period shape place spans =
     walked_by nodes period spans (div_ceil place.legs shape.leaf) place.last
 
@@ -109,11 +117,14 @@ module _ (nodes : Pages LegView BoxView) (period : Option PeriodView) where
   abbrev pub ReachBack : List LeafSpan → ℕ → ℕ → Type 0
   ReachBack [] n p = n ≡ 0
   ReachBack (span ∷ spans) n p =
-      (is_end period (legs_in (nodes.at p)) ≡ true) ⊎ ReachBack spans (n - 1) (previous_of (nodes.at p))
+      (is_end period (legs_in (nodes.at p)) ≡ true)
+      ⊎ ReachBack spans (n - 1) (previous_of (nodes.at p))
 
 -- what is known of the place's chain reaches back to where a walk for the period ends; without one it is known whole
-abbrev pub IsKnownBackTo : Pages LegView BoxView → Option PeriodView → ShapeView → Place → List LeafSpan → Type 0
-IsKnownBackTo nodes period shape place spans = ReachBack nodes period spans (div_ceil place.legs shape.leaf) place.last
+abbrev pub IsKnownBackTo : Pages LegView BoxView → Option PeriodView → ShapeView → Place
+    → List LeafSpan → Type 0
+IsKnownBackTo nodes period shape place spans =
+    ReachBack nodes period spans (div_ceil place.legs shape.leaf) place.last
 
 -- the spans that were known are the first of those that are known now
 pub record IsFront (old new : List LeafSpan) : Type 0 where

@@ -9,7 +9,8 @@ use Rattle.tbtree.specs.declared.tree.Place.{Place}
 use Rattle.tbtree.specs.declared.tree.TbTree.{TbTree}
 
 -- the pages and a tree of the shape stand for the legs, and the place is the feature's
-pub record HasFeature (nodes : Pages LegView BoxView) (shape : ShapeView) (place : Place) (feature : ℕ)
+pub record HasFeature (nodes : Pages LegView BoxView) (shape : ShapeView)
+    (place : Place) (feature : ℕ)
     (legs : List LegView) : Type 0 where
   pub tree : TbTree
   pub pages : ℕ → List ℕ

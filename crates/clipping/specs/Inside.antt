@@ -20,7 +20,8 @@ pub record IsInside (leg : LegView) (rect : RectView) (n : ℤ) (d : ℕ) : Type
   pub above : scaled_at leg leg.y0 leg.y1 n d ≤ℤ (rect.y_max *ℤ (pos d *ℤ duration leg))
 
 -- n / d is a moment of the leg in the period, and the leg is inside at it
-pub record IsMomentInside (leg : LegView) (rect : RectView) (period : PeriodView) (n : ℤ) (d : ℕ) : Type 0 where
+pub record IsMomentInside (leg : LegView) (rect : RectView) (period : PeriodView) (n : ℤ)
+    (d : ℕ) : Type 0 where
   pub moment : IsMomentOf leg period n d
   pub inside : IsInside leg rect n d
 
@@ -30,4 +31,5 @@ HasMomentInside leg rect period = (n : ℤ) × (d : ℕ) × IsMomentInside leg r
 
 -- the least and the greatest moment of a leg in a period, where it has one
 abbrev pub live_ends : LegView → PeriodView → Option (ℤ × ℤ)
-live_ends leg period = if is_live period leg then Some (first_moment leg period, last_moment leg period) else None
+live_ends leg period =
+    if is_live period leg then Some (first_moment leg period, last_moment leg period) else None

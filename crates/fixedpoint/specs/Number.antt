@@ -30,7 +30,8 @@ fraction_part text = after_first is_point (unsigned_text text)
 
 -- nothing but digits, and at least one
 abbrev pub are_parts : List ℕ → List ℕ → Bool
-are_parts whole fraction = list_all is_ascii_digit (whole ++ fraction) && nat_lt 0 (length (whole ++ fraction))
+are_parts whole fraction =
+    list_all is_ascii_digit (whole ++ fraction) && nat_lt 0 (length (whole ++ fraction))
 
 -- a sign or none, digits with at most one point, at least one digit, at most 40 bytes
 abbrev pub is_number_text : List ℕ → Bool
@@ -42,7 +43,8 @@ rounded units f n = (2 * (n * units) + 10 ^ f) / (2 * 10 ^ f)
 
 -- whole and fraction read as the digits of one number, where 1 is so many units
 unfoldable pub magnitude : ℕ → List ℕ → List ℕ → ℕ
-magnitude units whole fraction = rounded units (length fraction) (digits_value 10 (whole ++ fraction))
+magnitude units whole fraction =
+    rounded units (length fraction) (digits_value 10 (whole ++ fraction))
 
 abbrev pub signed : Bool → ℕ → ℤ
 signed negative m = if negative then neg_ℤ (pos m) else pos m

@@ -4,7 +4,8 @@ use Rattle.std.specs.Prelude.{ℕ, ◌+◌, ◌*◌, ◌/◌, ◌%◌, ◌^◌, 
 -- the digits of r / p behind the point: by long division, until nothing is left
 unfoldable pub fraction_digits : ℕ → ℕ → ℕ → List ℕ
 fraction_digits zero p r = []
-fraction_digits (suc k) p r = if r == 0 then [] else (48 + r * 10 / p) ∷ fraction_digits k p (r * 10 % p)
+fraction_digits (suc k) p r =
+    if r == 0 then [] else (48 + r * 10 / p) ∷ fraction_digits k p (r * 10 % p)
 
 -- a point and those digits, or nothing
 abbrev pub pointed : ℕ → ℕ → ℕ → List ℕ

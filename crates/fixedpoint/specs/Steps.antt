@@ -25,19 +25,23 @@ pub record AreParts (text : List ℕ) (whole whole_digits : ℕ) (fraction : Lis
 
 -- the units of 10 ^ -places in front of a cut behind the places
 abbrev pub cut_units : ℕ → List ℕ → List ℕ → ℕ
-cut_units places whole fraction = digits_value_after 10 (digits_value 10 whole) (take places fraction) * 10 ^ (places - length fraction)
+cut_units places whole fraction =
+    digits_value_after 10 (digits_value 10 whole) (take places fraction) * 10 ^
+    (places - length fraction)
 
 -- a text cut behind so many places: the units in front, or both are past the greatest, and the digits behind
 pub record IsCut (places : ℕ) (text : List ℕ) (front : ℕ) (behind : List ℕ) : Type 0 where
   pub parts : are_parts (before_first is_point text) (after_first is_point text) ≡ true
-  pub units : min cap front ≡ min cap (cut_units places (before_first is_point text) (after_first is_point text))
+  pub units : min cap front
+      ≡ min cap (cut_units places (before_first is_point text) (after_first is_point text))
   pub dropped : behind ≡ drop places (after_first is_point text)
   pub digits : list_all is_ascii_digit behind ≡ true
 
 -- m units are what the text writes, or both are past the greatest
 pub record IsMagnitude (units : ℕ) (text : List ℕ) (m : ℕ) : Type 0 where
   pub parts : are_parts (before_first is_point text) (after_first is_point text) ≡ true
-  pub value : min cap m ≡ min cap (magnitude units (before_first is_point text) (after_first is_point text))
+  pub value : min cap m
+      ≡ min cap (magnitude units (before_first is_point text) (after_first is_point text))
 
 -- the text is none of digits and a point
 pub record IsRefused (text : List ℕ) (fault : NumberFault) : Type 0 where

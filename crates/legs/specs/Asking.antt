@@ -21,8 +21,10 @@ pub record IsLater {I : Type 0} (g : Ghosts I) (old new : I) : Type 0 where
 -- the numbers by which it finds its legs; no page is marked as changed, and where none was, none is written
 pub record Leaves {I : Type 0} (g : Ghosts I) (old new : I) : Type 0 where
   pub content : g.content new ≡ g.content old
-  pub told : (question : Question) (legs : List LegView) → g.tells new question legs → g.tells old question legs
-  pub denied : (question : Question) (page : ℕ) → g.denies new question page → g.denies old question page
+  pub told : (question : Question) (legs : List LegView) → g.tells new question legs
+      → g.tells old question legs
+  pub denied : (question : Question) (page : ℕ) → g.denies new question page
+      → g.denies old question page
   pub counted : g.counted new ≡ g.counted old
   pub sound : g.is_sound old → g.is_sound new
   pub spent : g.is_spent new ≡ g.is_spent old
@@ -34,7 +36,8 @@ pub record Leaves {I : Type 0} (g : Ghosts I) (old new : I) : Type 0 where
 
 -- what is known of its features is known after a question, answered or not
 abbrev pub Recalls : {I : Type 0} → Ghosts I → I → I → Type 0
-Recalls g old new = (feature : ℕ) (start : ℤ) → g.knows old feature start → g.knows new feature start
+Recalls g old new =
+    (feature : ℕ) (start : ℤ) → g.knows old feature start → g.knows new feature start
 
 -- why a question is not answered, be the index sound or not: memory ran out, a store failed, a page that is met is not
 -- what it is to be there, or an `add` was refused
@@ -46,14 +49,17 @@ Denies g index question StoreFull = ⊥
 Denies g index question Spent = g.is_spent index ≡ true
 
 -- its pages say some legs of a feature that are live in a period, and these are what a sieve keeps of them
-abbrev pub TellsSieved : {I : Type 0} → Ghosts I → I → ℕ → PeriodView → Sieve → List LegView → Type 0
+abbrev pub TellsSieved : {I : Type 0} → Ghosts I → I → ℕ → PeriodView → Sieve → List LegView
+    → Type 0
 TellsSieved g index feature period sieve legs =
-    (all : List LegView) × g.tells index (OfFeature feature (Some period)) all × IsSieved sieve period all legs
+    (all : List LegView) × g.tells index (OfFeature feature (Some period)) all
+    × IsSieved sieve period all legs
 
 -- why a question is refused: an index that is spent always says so, and stays as it is; a sound one refuses
 -- for want of memory or a store that failed alone, and the latter only where a fault was counted; none says
 -- that a store is full
-pub record Refusals {I A : Type 0} (g : Ghosts I) (old new : I) (result : Result A IndexFault) : Type 0 where
+pub record Refusals {I A : Type 0} (g : Ghosts I) (old new : I)
+    (result : Result A IndexFault) : Type 0 where
   pub was_spent : g.is_spent old ≡ true → (result ≡ Err Spent) × (new ≡ old)
   pub sound : IfErr result (λ fault. g.is_sound old → MayRefuse fault)
   pub store : IsErrOf result Store → HasRisen (g.faults old) (g.faults new)
@@ -61,11 +67,14 @@ pub record Refusals {I A : Type 0} (g : Ghosts I) (old new : I) (result : Result
 
 -- of a sound index a question asked for that many pages
 abbrev pub Asks : {I : Type 0} → Ghosts I → I → I → (Option ShapeView → List LegView → ℕ) → Type 0
-Asks g old new cost = g.is_sound old → RisesBy (g.asked old) (g.asked new) (cost (g.plan old) (g.content old))
+Asks g old new cost =
+    g.is_sound old → RisesBy (g.asked old) (g.asked new) (cost (g.plan old) (g.content old))
 
 -- and for at most that many
-abbrev pub AsksAtMost : {I : Type 0} → Ghosts I → I → I → (Option ShapeView → List LegView → ℕ) → Type 0
-AsksAtMost g old new bound = g.is_sound old → RisesAtMost (g.asked old) (g.asked new) (bound (g.plan old) (g.content old))
+abbrev pub AsksAtMost : {I : Type 0} → Ghosts I → I → I → (Option ShapeView → List LegView → ℕ)
+    → Type 0
+AsksAtMost g old new bound =
+    g.is_sound old → RisesAtMost (g.asked old) (g.asked new) (bound (g.plan old) (g.content old))
 
 -- a sound index is sound, and has these legs at its end
 pub record Ends {I : Type 0} (g : Ghosts I) (old new : I) (legs : List LegView) : Type 0 where
@@ -79,8 +88,10 @@ Grows g old new legs = g.is_sound old → CanFollowInTurn (g.content old) legs �
 -- what legs make of an index, sound or not: of each feature that they have it ends with the last one of them, and of each
 -- other feature with the leg with which it ended
 pub record EndsIn {I : Type 0} (g : Ghosts I) (old new : I) (legs : List LegView) : Type 0 where
-  pub last : (feature : ℕ) (leg : LegView) → last_leg_of feature legs ≡ Some leg → g.ends_with new leg
-  pub others : (leg : LegView) → last_leg_of leg.feature legs ≡ None → g.ends_with old leg → g.ends_with new leg
+  pub last : (feature : ℕ) (leg : LegView) → last_leg_of feature legs ≡ Some leg
+      → g.ends_with new leg
+  pub others : (leg : LegView) → last_leg_of leg.feature legs ≡ None → g.ends_with old leg
+      → g.ends_with new leg
 
 -- of a sound index a leg that may follow asked for at most the pages of its ways through the tree
 abbrev pub AddAsks : {I : Type 0} → Ghosts I → I → I → LegView → Type 0
@@ -97,27 +108,34 @@ AddAllAsks g old new legs =
 
 -- legs that may follow a sound index, accepted or refused, leave page 0 marked
 abbrev pub KeepsMarked : {I : Type 0} → Ghosts I → I → I → List LegView → Type 0
-KeepsMarked g old new legs = g.is_sound old → CanFollowInTurn (g.content old) legs → g.is_marked old → g.is_marked new
+KeepsMarked g old new legs =
+    g.is_sound old → CanFollowInTurn (g.content old) legs → g.is_marked old → g.is_marked new
 
 -- why legs are refused, and what a refusal leaves: the index is spent, and one that was spent always says so,
 -- and stays as it is; a sound one refuses legs that may follow for want of memory, a store that failed or is
 -- full alone
-pub record LegRefusals {I A : Type 0} (g : Ghosts I) (old new : I) (legs : List LegView) (result : Result A IndexFault) : Type 0 where
+pub record LegRefusals {I A : Type 0} (g : Ghosts I) (old new : I) (legs : List LegView)
+    (result : Result A IndexFault) : Type 0 where
   pub spent : OnErr result (g.is_spent new ≡ true)
   pub was_spent : g.is_spent old ≡ true → (result ≡ Err Spent) × (new ≡ old)
-  pub sound : IfErr result (λ fault. g.is_sound old → CanFollowInTurn (g.content old) legs → MayRefuseLeg fault)
+  pub sound : IfErr result
+      (λ fault. g.is_sound old → CanFollowInTurn (g.content old) legs → MayRefuseLeg fault)
   pub store : IsErrOf result Store → HasRisen (g.faults old) (g.faults new)
   pub full : IsErrOf result StoreFull → g.is_store_full new
 
 -- what the start of a file's legs leaves: the list, sound where it was, spent where it was. Once it is
 -- answered, an index that was clean is marked; where it is not, no page as written has changed but page 0, and
 -- that one only where the store failed
-pub record Starts {I A : Type 0} (g : Ghosts I) (old new : I) (result : Result A IndexFault) : Type 0 where
+pub record Starts {I A : Type 0} (g : Ghosts I) (old new : I)
+    (result : Result A IndexFault) : Type 0 where
   pub content : g.content new ≡ g.content old
   pub sound : g.is_sound old → g.is_sound new
   pub spent : g.is_spent new ≡ g.is_spent old
   pub later : IsLater g old new
   pub marks : OnOk result (g.is_sound old → g.is_clean old → g.is_marked new)
   pub marked : g.is_marked old → g.is_marked new
-  pub others : OnErr result (g.is_sound old → g.is_clean old → drop 1 (g.written new) ≡ drop 1 (g.written old))
-  pub first : OnErr result (g.is_sound old → g.is_clean old → (HasRisen (g.faults old) (g.faults new) → ⊥) → g.written new ≡ g.written old)
+  pub others : OnErr result
+      (g.is_sound old → g.is_clean old → drop 1 (g.written new) ≡ drop 1 (g.written old))
+  pub first : OnErr result
+      (g.is_sound old → g.is_clean old → (HasRisen (g.faults old) (g.faults new) → ⊥)
+      → g.written new ≡ g.written old)

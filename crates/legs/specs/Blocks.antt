@@ -15,7 +15,8 @@ module _ {X : Type 0} (key : X → ℕ) (n : ℕ) where
   abbrev pub runs_after : List X → List X → List (List X)
   runs_after before [] = []
   runs_after before (x ∷ xs) =
-      cond (begins before x) (take n (x ∷ filter (same x) xs) ∷ runs_after (before ++ x ∷ []) xs) (runs_after (before ++ x ∷ []) xs)
+      cond (begins before x) (take n (x ∷ filter (same x) xs) ∷ runs_after (before ++ x ∷ []) xs)
+      (runs_after (before ++ x ∷ []) xs)
 
   -- the elements of each key in runs of n, the runs in order of their first elements
   abbrev pub runs : List X → List (List X)

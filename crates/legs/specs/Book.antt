@@ -43,7 +43,8 @@ names_with names name = if list_any (bytes_eq name) names then names else names 
 
 -- leg k of a record, in a book
 abbrev pub leg_at : Book → RecordView → ℕ → LegView
-leg_at book r k = leg_of (length book.legs + k) (number_of book.names r.mfidref) (length book.rows) (step_at r k)
+leg_at book r k =
+    leg_of (length book.legs + k) (number_of book.names r.mfidref) (length book.rows) (step_at r k)
 
 -- the legs of a record, in a book
 abbrev pub record_legs : Book → RecordView → List LegView
@@ -51,7 +52,12 @@ record_legs book r = map (leg_at book r) (range_with_len 0 (leg_count (length r.
 
 -- the book with a record more
 unfoldable pub with_record : Book → RecordView → Book
-with_record book r = record book { names = names_with book.names r.mfidref; legs = book.legs ++ record_legs book r; rows = book.rows ++ r.attributes ∷ [] }
+with_record book r =
+    record book {
+      names = names_with book.names r.mfidref;
+      legs = book.legs ++ record_legs book r;
+      rows = book.rows ++ r.attributes ∷ [];
+    }
 
 abbrev pub with_records : Book → List RecordView → Book
 with_records book records = fold with_record book records
@@ -63,7 +69,8 @@ records_legs book (r ∷ records) = record_legs book r ++ records_legs (with_rec
 
 -- what a book keeps of a file's head: all but the numbers of its records
 abbrev pub kept_head : Head → BookHead
-kept_head head = record { crs = head.crs; dimension = head.dimension; base = head.start; columns = head.columns }
+kept_head head =
+    record { crs = head.crs; dimension = head.dimension; base = head.start; columns = head.columns }
 
 -- the head of the first accepted file stays
 abbrev pub head_with : Option BookHead → Head → Option BookHead
@@ -76,11 +83,13 @@ file_of head records = record { head = head; records = records }
 
 -- the book with a file more
 abbrev pub with_file : Book → File → Book
-with_file book file = record (with_records book file.records) { head = head_with book.head file.head }
+with_file book file =
+    record (with_records book file.records) { head = head_with book.head file.head }
 
 -- when the last leg of a name ends
 abbrev pub name_end : Book → List ℕ → Option ℤ
-name_end book name = option_and_then (λ feature. last_end feature book.legs) (feature_of book.names name)
+name_end book name =
+    option_and_then (λ feature. last_end feature book.legs) (feature_of book.names name)
 
 -- a moment is before an end
 abbrev pub is_before : ℤ → Option ℤ → Bool
@@ -102,14 +111,17 @@ faults_of limits book r = filter (has_fault limits book r) (F18 ∷ F19 ∷ F20 
 -- all joining faults of records, with their numbers
 abbrev pub record_faults : LimitsView → Book → List RecordView → List (JoinCode × ℕ)
 record_faults limits book [] = []
-record_faults limits book (r ∷ records) = map (λ code. (code, r.number)) (faults_of limits book r) ++ record_faults limits (with_record book r) records
+record_faults limits book (r ∷ records) =
+    map (λ code. (code, r.number)) (faults_of limits book r)
+    ++ record_faults limits (with_record book r) records
 
 abbrev pub same_column : Column → Column → Bool
 same_column a b = bytes_eq a.name b.name && bytes_eq a.kind b.kind
 
 -- as many columns, each with the name and the type of its fellow
 abbrev pub same_columns : List Column → List Column → Bool
-same_columns first second = (length first == length second) && list_all (λ p. same_column p.0 p.1) (zip first second)
+same_columns first second =
+    (length first == length second) && list_all (λ p. same_column p.0 p.1) (zip first second)
 
 abbrev pub same_dimension : Dimension → Dimension → Bool
 same_dimension Two Two = true
@@ -131,7 +143,8 @@ head_faults (Some first) head =
 
 -- all joining faults of a file: those of its head, then those of its records
 abbrev pub file_faults : LimitsView → Book → File → List (JoinCode × ℕ)
-file_faults limits book file = head_faults book.head file.head ++ record_faults limits book file.records
+file_faults limits book file =
+    head_faults book.head file.head ++ record_faults limits book file.records
 
 -- the first fault, if there is one; else the legs
 abbrev pub first_or : List (JoinCode × ℕ) → List LegView → Result (List LegView) (JoinCode × ℕ)
@@ -144,7 +157,8 @@ joined limits book file = first_or (file_faults limits book file) (records_legs 
 
 -- the book after a file: with its legs, or as it was at a fault
 abbrev pub book_after : LimitsView → Book → File → Book
-book_after limits book file = elim (joined limits book file) [ Ok legs ↦ with_file book file | Err fault ↦ book ]
+book_after limits book file =
+    elim (joined limits book file) [ Ok legs ↦ with_file book file | Err fault ↦ book ]
 
 -- a fault that `join` answers is the first joining fault, unless memory ran out
 abbrev pub IsRefusal : JoinFault → Result (List LegView) (JoinCode × ℕ) → Type 0

@@ -37,26 +37,48 @@ pub record IsBox (b : BoxView) : Type 0 where
 -- the box of a leg
 abbrev pub box_of : LegView → BoxView
 box_of leg =
-    record { x_min = int_min leg.x0 leg.x1; y_min = int_min leg.y0 leg.y1; t_min = leg.t0; x_max = int_max leg.x0 leg.x1; y_max = int_max leg.y0 leg.y1; t_max = leg.t1 }
+    record {
+      x_min = int_min leg.x0 leg.x1;
+      y_min = int_min leg.y0 leg.y1;
+      t_min = leg.t0;
+      x_max = int_max leg.x0 leg.x1;
+      y_max = int_max leg.y0 leg.y1;
+      t_max = leg.t1;
+    }
 
 -- the box over a rectangle and a period
 abbrev pub box_over : RectView → PeriodView → BoxView
 box_over rect period =
-    record { x_min = rect.x_min; y_min = rect.y_min; t_min = period.start; x_max = rect.x_max; y_max = rect.y_max; t_max = period.end }
+    record {
+      x_min = rect.x_min;
+      y_min = rect.y_min;
+      t_min = period.start;
+      x_max = rect.x_max;
+      y_max = rect.y_max;
+      t_max = period.end;
+    }
 
 -- the greatest box: from -2^63 to 2^63 - 1 in x, in y and in time
 unfoldable pub everything : BoxView
 everything =
     let least : ℤ = negsuc (2 ^ 63 - 1) in
     let greatest : ℤ = pos (2 ^ 63 - 1) in
-    record { x_min = least; y_min = least; t_min = least; x_max = greatest; y_max = greatest; t_max = greatest }
+    record {
+      x_min = least;
+      y_min = least;
+      t_min = least;
+      x_max = greatest;
+      y_max = greatest;
+      t_max = greatest;
+    }
 
 -- the closed intervals from a to b and from c to d meet
 abbrev pub intervals_meet : ℤ → ℤ → ℤ → ℤ → Bool
 intervals_meet a b c d = int_le a d && int_le c b
 
 abbrev pub meet_in_plane : BoxView → BoxView → Bool
-meet_in_plane p q = intervals_meet p.x_min p.x_max q.x_min q.x_max && intervals_meet p.y_min p.y_max q.y_min q.y_max
+meet_in_plane p q =
+    intervals_meet p.x_min p.x_max q.x_min q.x_max && intervals_meet p.y_min p.y_max q.y_min q.y_max
 
 -- two boxes meet where their closed intervals of x, of y and of t each meet
 abbrev pub boxes_meet : BoxView → BoxView → Bool

@@ -33,7 +33,8 @@ module _ {L B : Type 0} (s : Boxes L B) (meets : B → Bool) where
 module _ {L B : Type 0} (s : Boxes L B) (meets : B → Bool) (inner : ℕ) (runs : List (List L)) where
   -- the blocks of level k whose boxes meet, if it is below the root: it has more than one block
   abbrev pub met_at : ℕ → ℕ
-  met_at k = cond (nat_lt 1 (length (level inner k runs))) (count_by (block_meets s meets) (level inner k runs)) 0
+  met_at k = cond (nat_lt 1 (length (level inner k runs)))
+      (count_by (block_meets s meets) (level inner k runs)) 0
 
   -- those of the first n levels
   abbrev pub met : ℕ → ℕ
@@ -49,7 +50,8 @@ cost s meets inner (r ∷ rs) = 1 + met s meets inner (r ∷ rs) (length (r ∷ 
 -- what a search asks for; an index without a shape keeps a list, and asks for nothing
 unfoldable pub search_cost : BoxView → Option ShapeView → List LegView → ℕ
 search_cost query None legs = 0
-search_cost query (Some shape) legs = cost leg_boxes (λ b. boxes_meet b query) shape.inner (leaves_of shape legs)
+search_cost query (Some shape) legs =
+    cost leg_boxes (λ b. boxes_meet b query) shape.inner (leaves_of shape legs)
 
 -- a page for each leaf of the feature
 unfoldable pub track_cost : ℕ → Option ShapeView → List LegView → ℕ
@@ -65,7 +67,8 @@ reaches period run = list_any (λ leg. int_le period.start leg.t1) run
 unfoldable pub track_in_bound : ℕ → PeriodView → Option ShapeView → List LegView → ℕ
 track_in_bound feature period None legs = 0
 track_in_bound feature period (Some shape) legs =
-    min (div_ceil (length (legs_of feature legs)) shape.leaf) (1 + count_by (reaches period) (groups shape.leaf (legs_of feature legs)))
+    min (div_ceil (length (legs_of feature legs)) shape.leaf)
+    (1 + count_by (reaches period) (groups shape.leaf (legs_of feature legs)))
 
 -- some leg of the run starts at or before the period's end, and some leg of it ends at or after its start
 abbrev pub meets_period : PeriodView → List LegView → Bool
@@ -74,11 +77,13 @@ meets_period period run = reaches period run && list_any (λ leg. int_le leg.t0 
 -- the leaves of the feature that meet the period, where they are known; an index that keeps a list asks for nothing
 unfoldable pub known_bound : ℕ → PeriodView → Option ShapeView → List LegView → ℕ
 known_bound feature period None legs = 0
-known_bound feature period (Some shape) legs = count_by (meets_period period) (groups shape.leaf (legs_of feature legs))
+known_bound feature period (Some shape) legs =
+    count_by (meets_period period) (groups shape.leaf (legs_of feature legs))
 
 -- the height of the root above the leaves: how many levels have more than one block
 abbrev pub height : {L : Type 0} → ℕ → List (List L) → ℕ
-height inner runs = count_by (λ k. nat_lt 1 (length (level inner k runs))) (range_with_len 0 (length runs))
+height inner runs =
+    count_by (λ k. nat_lt 1 (length (level inner k runs))) (range_with_len 0 (length runs))
 
 -- a leg more, with which the list is this one: twice the root's height after it, and four
 unfoldable pub add_bound : Option ShapeView → List LegView → ℕ

@@ -14,7 +14,8 @@ names_after names records = fold (λ names r. names_with names r.mfidref) names 
 -- nothing was taken away, and only tracks without legs were added
 pub record Extends (old new : TracksView) : Type 0 where
   pub more_names : (more : List (List ℕ)) × (new.names ≡ old.names ++ more)
-  pub more_tracks : (more : List Track) × (new.tracks ≡ old.tracks ++ more) × All (λ track. track.legs ≡ 0) more
+  pub more_tracks : (more : List Track) × (new.tracks ≡ old.tracks ++ more)
+      × All (λ track. track.legs ≡ 0) more
   pub legs : new.legs ≡ old.legs
   pub rows : new.rows ≡ old.rows
 
@@ -25,4 +26,10 @@ pub record AddsNames (old new : TracksView) (added : List (List ℕ)) : Type 0 w
 
 -- a leg was counted in the track of its feature
 abbrev pub counted : List Track → LegView → List Track
-counted tracks leg = slice_set tracks leg.feature (record { end = leg.t1; legs = min ((slice_index_or tracks leg.feature (record { end = leg.t1; legs = 0 })).legs + 1) (2 ^ 64 - 1) })
+counted tracks leg =
+    slice_set tracks leg.feature
+    (record {
+      end = leg.t1;
+      legs = min ((slice_index_or tracks leg.feature (record { end = leg.t1; legs = 0 })).legs + 1)
+          (2 ^ 64 - 1);
+    })

@@ -10,11 +10,17 @@ use Rattle.legs.specs.declared.draft.Draft.{Draft}
 
 -- the latest of a name, in a book
 abbrev pub latest_of : Book → List ℕ → Option Latest
-latest_of book name = option_and_then (λ feature. option_map (λ end. record { feature = feature; end = end }) (last_end feature book.legs)) (feature_of book.names name)
+latest_of book name =
+    option_and_then
+    (λ feature. option_map (λ end. record { feature = feature; end = end })
+    (last_end feature book.legs)) (feature_of book.names name)
 
 -- the latest of a name, in tracks
 abbrev pub latest_in : TracksView → List ℕ → Option Latest
-latest_in tracks name = option_and_then (λ feature. option_map (λ track. record { feature = feature; end = track.end }) (slice_get tracks.tracks feature)) (feature_of tracks.names name)
+latest_in tracks name =
+    option_and_then
+    (λ feature. option_map (λ track. record { feature = feature; end = track.end })
+    (slice_get tracks.tracks feature)) (feature_of tracks.names name)
 
 -- what a draft knows of a name: by a record of the file, or else by the tracks
 unfoldable pub known : Draft → List ℕ → Option Latest
@@ -30,5 +36,6 @@ pub record IsDraft (draft : Draft) (book : Book) : Type 0 where
   pub paired : length draft.names.latest ≡ length draft.names.names
   -- the names of the features that the tracks lack are those that the file adds
   pub fresh : names_and draft.tracks.now.names
-      (fresh_names (length draft.tracks.now.names) draft.names.names draft.names.latest) ≡ book.names
+      (fresh_names (length draft.tracks.now.names) draft.names.names draft.names.latest)
+      ≡ book.names
   pub lawful : IsLawful book

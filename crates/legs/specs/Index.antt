@@ -29,11 +29,13 @@ feature_count legs = fold (λ count leg. max count (leg.feature + 1)) 0 legs
 
 -- when the last leg of a feature ends
 abbrev pub last_end : ℕ → List LegView → Option ℤ
-last_end feature legs = fold (λ end leg. if leg.feature == feature then Some leg.t1 else end) None legs
+last_end feature legs =
+    fold (λ end leg. if leg.feature == feature then Some leg.t1 else end) None legs
 
 -- the last leg of a feature
 abbrev pub last_leg_of : ℕ → List LegView → Option LegView
-last_leg_of feature legs = fold (λ last leg. if leg.feature == feature then Some leg else last) None legs
+last_leg_of feature legs =
+    fold (λ last leg. if leg.feature == feature then Some leg else last) None legs
 
 -- a leg may be put at the end of the list
 pub record CanFollow (legs : List LegView) (leg : LegView) : Type 0 where

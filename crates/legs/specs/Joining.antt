@@ -21,7 +21,8 @@ pub record JoinedView : Type 0 where
   pub records : ℕ
 
 -- that is what joins a file to a book
-pub record IsJoinedBy (limits : LimitsView) (book : Book) (file : File) (by : JoinedView) : Type 0 where
+pub record IsJoinedBy (limits : LimitsView) (book : Book) (file : File)
+    (by : JoinedView) : Type 0 where
   pub legs : joined limits book file ≡ Ok by.legs
   pub follow : CanFollowInTurn book.legs by.legs
   -- the distinct names of its records, in order of first appearance
@@ -33,7 +34,8 @@ pub record IsJoinedBy (limits : LimitsView) (book : Book) (file : File) (by : Jo
   pub lawful : All IsRecord file.records
 
 -- Helper of private functions: records were joined without a fault.
-pub record AreJoined (limits : LimitsView) (book : Book) (records : List RecordView) (legs : List LegView)
+pub record AreJoined (limits : LimitsView) (book : Book) (records : List RecordView)
+    (legs : List LegView)
     (draft : Draft) : Type 0 where
   pub draft_of : IsDraft draft (with_records book records)
   pub faultless : record_faults limits book records ≡ []
@@ -43,7 +45,8 @@ pub record AreJoined (limits : LimitsView) (book : Book) (records : List RecordV
   pub lawful : All IsRecord records
 
 -- Helper of private functions: the same, or the first fault was met.
-abbrev pub AreJoinedOr : Option JoinFault → LimitsView → Book → List RecordView → List LegView → Draft
+abbrev pub AreJoinedOr : Option JoinFault → LimitsView → Book → List RecordView → List LegView
+    → Draft
     → Type 0
 AreJoinedOr None limits book records legs draft = AreJoined limits book records legs draft
 AreJoinedOr (Some fault) limits book records legs draft =

@@ -37,4 +37,5 @@ pub record IsBook (limits : LimitsView) (book : Book) : Type 0 where
   -- before the first accepted file there is nothing
   pub none : book.head ≡ None → book ≡ empty_book
   -- each row has as many attribute values as the head has columns
-  pub rows : (head : BookHead) → book.head ≡ Some head → All (λ row. length row ≡ length head.columns) book.rows
+  pub rows : (head : BookHead) → book.head ≡ Some head
+      → All (λ row. length row ≡ length head.columns) book.rows

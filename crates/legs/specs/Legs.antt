@@ -60,7 +60,16 @@ pub record IsStep (step : StepView) : Type 0 where
 
 abbrev pub step_between : ℤ → ℤ → Position → Position → StepView
 step_between t0 t1 from to =
-    record { t0 = t0; t1 = t1; x0 = from.x; y0 = from.y; z0 = from.z; x1 = to.x; y1 = to.y; z1 = to.z }
+    record {
+      t0 = t0;
+      t1 = t1;
+      x0 = from.x;
+      y0 = from.y;
+      z0 = from.z;
+      x1 = to.x;
+      y1 = to.y;
+      z1 = to.z;
+    }
 
 -- where the cut between leg k - 1 and leg k of n legs lies: start + floor((end - start) * k / n)
 unfoldable pub cut_moment : ℤ → ℤ → ℕ → ℕ → ℤ
@@ -72,13 +81,15 @@ position_at positions k = slice_index_or positions k (record { x = pos 0; y = po
 
 -- leg k goes to the position k + 1; where there is one position, it stands still
 abbrev pub next_position : List Position → ℕ → Position
-next_position positions k = if length positions == 1 then position_at positions k else position_at positions (k + 1)
+next_position positions k =
+    if length positions == 1 then position_at positions k else position_at positions (k + 1)
 
 -- leg k of a record
 unfoldable pub step_at : RecordView → ℕ → StepView
 step_at r k =
     let n = leg_count (length r.positions) in
-    step_between (cut_moment r.t0 r.t1 n k) (cut_moment r.t0 r.t1 n (k + 1)) (position_at r.positions k) (next_position r.positions k)
+    step_between (cut_moment r.t0 r.t1 n k) (cut_moment r.t0 r.t1 n (k + 1))
+    (position_at r.positions k) (next_position r.positions k)
 
 -- the legs of a record
 abbrev pub steps_of : RecordView → List StepView

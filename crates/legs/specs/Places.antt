@@ -9,7 +9,19 @@ pub record ListView : Type 0 where
   pub spent : Bool
 
 abbrev pub no_leg : LegView
-no_leg = record { ordinal = 0; feature = 0; t0 = pos 0; t1 = pos 0; x0 = pos 0; y0 = pos 0; z0 = pos 0; x1 = pos 0; y1 = pos 0; z1 = pos 0; row = 0 }
+no_leg = record {
+  ordinal = 0;
+  feature = 0;
+  t0 = pos 0;
+  t1 = pos 0;
+  x0 = pos 0;
+  y0 = pos 0;
+  z0 = pos 0;
+  x1 = pos 0;
+  y1 = pos 0;
+  z1 = pos 0;
+  row = 0;
+}
 
 -- the legs at these places
 abbrev pub legs_at : List LegView → List ℕ → List LegView
@@ -23,10 +35,12 @@ pub record ArePlaces (legs : List LegView) (feature : ℕ) (places : List ℕ) :
 -- each feature has its places
 pub record IsPlaced (legs : List LegView) (places : List (List ℕ)) : Type 0 where
   pub counted : length places ≡ feature_count legs
-  pub each : (feature : ℕ) → feature < length places → ArePlaces legs feature (slice_index_or places feature [])
+  pub each : (feature : ℕ) → feature < length places
+      → ArePlaces legs feature (slice_index_or places feature [])
 
 -- the places, with one more of a feature that is there or is the next one
 abbrev pub places_with : List (List ℕ) → ℕ → ℕ → List (List ℕ)
 places_with places feature place =
-    if nat_lt feature (length places) then slice_set places feature (slice_index_or places feature [] ++ place ∷ [])
+    if nat_lt feature (length places)
+    then slice_set places feature (slice_index_or places feature [] ++ place ∷ [])
     else places ++ (place ∷ []) ∷ []

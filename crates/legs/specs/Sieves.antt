@@ -19,7 +19,8 @@ last_live period legs = find (is_live period) (reverse legs)
 abbrev pub LeavesOut : (LegView → Type 0) → (all some : List LegView) → Type 0
 LeavesOut May [] some = some ≡ []
 LeavesOut May (leg ∷ all) some =
-    ((rest : List LegView) × (some ≡ leg ∷ rest) × LeavesOut May all rest) ⊎ (May leg × LeavesOut May all some)
+    ((rest : List LegView) × (some ≡ leg ∷ rest) × LeavesOut May all rest)
+    ⊎ (May leg × LeavesOut May all some)
 
 -- the leg's box does not meet the one over the rectangle and the period
 pub record IsOff (rect : RectView) (period : PeriodView) (leg : LegView) : Type 0 where
@@ -44,8 +45,12 @@ pub leaves_none : (May : LegView → Type 0) (legs : List LegView) → LeavesOut
 leaves_none May [] = refl
 leaves_none May (leg ∷ legs) = inl (legs, refl, leaves_none May legs)
 
-pub sieved_self : (sieve : Sieve) (period : PeriodView) (legs : List LegView) → IsSieved sieve period legs legs
-sieved_self sieve period legs = record { of = leaves_none (MayGo sieve period) legs; first = refl; last = refl }
+pub sieved_self : (sieve : Sieve) (period : PeriodView) (legs : List LegView)
+    → IsSieved sieve period legs legs
+sieved_self sieve period legs =
+    record { of = leaves_none (MayGo sieve period) legs; first = refl; last = refl }
 
-pub sieved_same : (sieve : Sieve) (period : PeriodView) (all some : List LegView) → some ≡ all → IsSieved sieve period all some
-sieved_same sieve period all some e = subst (λ l. IsSieved sieve period all l) (sym e) (sieved_self sieve period all)
+pub sieved_same : (sieve : Sieve) (period : PeriodView) (all some : List LegView) → some ≡ all
+    → IsSieved sieve period all some
+sieved_same sieve period all some e =
+    subst (λ l. IsSieved sieve period all l) (sym e) (sieved_self sieve period all)

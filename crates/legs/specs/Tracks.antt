@@ -33,7 +33,8 @@ pub record IsLawful (book : Book) : Type 0 where
 pub record StandsFor (tracks : TracksView) (book : Book) : Type 0 where
   pub names : tracks.names ≡ book.names
   pub paired : length tracks.tracks ≡ length book.names
-  pub each : (feature : ℕ) (d : Track) → feature < length book.names → IsTrack (slice_index_or tracks.tracks feature d) book.legs feature
+  pub each : (feature : ℕ) (d : Track) → feature < length book.names
+      → IsTrack (slice_index_or tracks.tracks feature d) book.legs feature
   pub legs : tracks.legs ≡ length book.legs
   pub rows : tracks.rows ≡ length book.rows
   pub lawful : IsLawful book

@@ -21,11 +21,14 @@ impl Model for Rect {
 
     ghost Value = { RectView };
 
-    ghost view = { λ a. record { x_min = a.x_min; y_min = a.y_min; x_max = a.x_max; y_max = a.y_max } };
+    ghost view = { λ a.
+        record { x_min = a.x_min; y_min = a.y_min; x_max = a.x_max; y_max = a.y_max } };
 
-    ghost invariant = { λ a. IsRect (record { x_min = a.x_min; y_min = a.y_min; x_max = a.x_max; y_max = a.y_max }) };
+    ghost invariant = { λ a. IsRect
+        (record { x_min = a.x_min; y_min = a.y_min; x_max = a.x_max; y_max = a.y_max }) };
 
-    ghost inverse = { λ v. record { x_min = v.x_min; y_min = v.y_min; x_max = v.x_max; y_max = v.y_max } };
+    ghost inverse = { λ v.
+        record { x_min = v.x_min; y_min = v.y_min; x_max = v.x_max; y_max = v.y_max } };
 }
 
 impl Rect {
@@ -67,11 +70,35 @@ impl Model for Box3 {
 
     ghost Value = { BoxView };
 
-    ghost view = { λ a. record { x_min = a.x_min; y_min = a.y_min; t_min = a.t_min; x_max = a.x_max; y_max = a.y_max; t_max = a.t_max } };
+    ghost view = { λ a.
+        record {
+          x_min = a.x_min;
+          y_min = a.y_min;
+          t_min = a.t_min;
+          x_max = a.x_max;
+          y_max = a.y_max;
+          t_max = a.t_max;
+        } };
 
-    ghost invariant = { λ a. IsBox (record { x_min = a.x_min; y_min = a.y_min; t_min = a.t_min; x_max = a.x_max; y_max = a.y_max; t_max = a.t_max }) };
+    ghost invariant = { λ a. IsBox
+        (record {
+          x_min = a.x_min;
+          y_min = a.y_min;
+          t_min = a.t_min;
+          x_max = a.x_max;
+          y_max = a.y_max;
+          t_max = a.t_max;
+        }) };
 
-    ghost inverse = { λ v. record { x_min = v.x_min; y_min = v.y_min; t_min = v.t_min; x_max = v.x_max; y_max = v.y_max; t_max = v.t_max } };
+    ghost inverse = { λ v.
+        record {
+          x_min = v.x_min;
+          y_min = v.y_min;
+          t_min = v.t_min;
+          x_max = v.x_max;
+          y_max = v.y_max;
+          t_max = v.t_max;
+        } };
 }
 
 /// Whether the closed intervals from `a` to `b` and from `c` to `d` meet.

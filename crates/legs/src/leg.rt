@@ -32,11 +32,50 @@ impl Model for Leg {
 
     ghost Value = { LegView };
 
-    ghost view = { λ a. record { ordinal = a.ordinal; feature = a.feature; t0 = a.t0; t1 = a.t1; x0 = a.x0; y0 = a.y0; z0 = a.z0; x1 = a.x1; y1 = a.y1; z1 = a.z1; row = a.row } };
+    ghost view = { λ a.
+        record {
+          ordinal = a.ordinal;
+          feature = a.feature;
+          t0 = a.t0;
+          t1 = a.t1;
+          x0 = a.x0;
+          y0 = a.y0;
+          z0 = a.z0;
+          x1 = a.x1;
+          y1 = a.y1;
+          z1 = a.z1;
+          row = a.row;
+        } };
 
-    ghost invariant = { λ a. IsLeg (record { ordinal = a.ordinal; feature = a.feature; t0 = a.t0; t1 = a.t1; x0 = a.x0; y0 = a.y0; z0 = a.z0; x1 = a.x1; y1 = a.y1; z1 = a.z1; row = a.row }) };
+    ghost invariant = { λ a. IsLeg
+        (record {
+          ordinal = a.ordinal;
+          feature = a.feature;
+          t0 = a.t0;
+          t1 = a.t1;
+          x0 = a.x0;
+          y0 = a.y0;
+          z0 = a.z0;
+          x1 = a.x1;
+          y1 = a.y1;
+          z1 = a.z1;
+          row = a.row;
+        }) };
 
-    ghost inverse = { λ v. record { ordinal = v.ordinal; t0 = v.t0; t1 = v.t1; x0 = v.x0; y0 = v.y0; z0 = v.z0; x1 = v.x1; y1 = v.y1; z1 = v.z1; feature = v.feature; row = v.row } };
+    ghost inverse = { λ v.
+        record {
+          ordinal = v.ordinal;
+          t0 = v.t0;
+          t1 = v.t1;
+          x0 = v.x0;
+          y0 = v.y0;
+          z0 = v.z0;
+          x1 = v.x1;
+          y1 = v.y1;
+          z1 = v.z1;
+          feature = v.feature;
+          row = v.row;
+        } };
 }
 
 impl Leg {
@@ -92,11 +131,41 @@ impl Model for Step {
 
     ghost Value = { StepView };
 
-    ghost view = { λ a. record { t0 = a.t0; t1 = a.t1; x0 = a.x0; y0 = a.y0; z0 = a.z0; x1 = a.x1; y1 = a.y1; z1 = a.z1 } };
+    ghost view = { λ a.
+        record {
+          t0 = a.t0;
+          t1 = a.t1;
+          x0 = a.x0;
+          y0 = a.y0;
+          z0 = a.z0;
+          x1 = a.x1;
+          y1 = a.y1;
+          z1 = a.z1;
+        } };
 
-    ghost invariant = { λ a. IsStep (record { t0 = a.t0; t1 = a.t1; x0 = a.x0; y0 = a.y0; z0 = a.z0; x1 = a.x1; y1 = a.y1; z1 = a.z1 }) };
+    ghost invariant = { λ a. IsStep
+        (record {
+          t0 = a.t0;
+          t1 = a.t1;
+          x0 = a.x0;
+          y0 = a.y0;
+          z0 = a.z0;
+          x1 = a.x1;
+          y1 = a.y1;
+          z1 = a.z1;
+        }) };
 
-    ghost inverse = { λ v. record { t0 = v.t0; t1 = v.t1; x0 = v.x0; y0 = v.y0; z0 = v.z0; x1 = v.x1; y1 = v.y1; z1 = v.z1 } };
+    ghost inverse = { λ v.
+        record {
+          t0 = v.t0;
+          t1 = v.t1;
+          x0 = v.x0;
+          y0 = v.y0;
+          z0 = v.z0;
+          x1 = v.x1;
+          y1 = v.y1;
+          z1 = v.z1;
+        } };
 }
 
 fn is_in_range(coord: Coord) -> bool

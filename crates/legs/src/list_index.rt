@@ -29,7 +29,8 @@ impl Model for ListIndex {
 
     ghost view = { λ a. record { legs = a.legs.items; spent = a.spent } };
 
-    ghost invariant = { λ a. a.spent ≡ false → IsPlaced a.legs.items (map (λ places. places.items) a.places.items) };
+    ghost invariant = { λ a. a.spent ≡ false
+        → IsPlaced a.legs.items (map (λ places. places.items) a.places.items) };
 }
 
 /// Adds a place of a feature that is there or is the next one.

@@ -40,7 +40,13 @@ impl Model for Tracks {
 
     ghost Value = { TracksView };
 
-    ghost view = { λ a. record { names = map string_bytes a.names.keys; tracks = a.tracks.items; legs = a.legs; rows = a.rows } };
+    ghost view = { λ a.
+        record {
+          names = map string_bytes a.names.keys;
+          tracks = a.tracks.items;
+          legs = a.legs;
+          rows = a.rows;
+        } };
 
     ghost invariant = { λ a. (length a.tracks.items ≡ length a.names.keys) × (a.rows ≤ a.legs) };
 }

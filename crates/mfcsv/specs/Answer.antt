@@ -40,7 +40,8 @@ Judges (Err e) fault P = RowFaultIs e fault
 -- the first fault of a line `@stboundedby`, seen by itself
 abbrev pub bounds_fault : Row → Option Code
 bounds_fault row =
-    first_of ((F3, lacks_bounds_fields row) ∷ (F4, has_other_dimension row) ∷ (F5, lacks_start row) ∷ (F6, has_other_unit row) ∷ [])
+    first_of ((F3, lacks_bounds_fields row) ∷ (F4, has_other_dimension row) ∷ (F5, lacks_start row)
+    ∷ (F6, has_other_unit row) ∷ [])
 
 -- the fault of a time that is not read
 abbrev pub moment_fault : Option ℤ → Option Code
@@ -52,13 +53,17 @@ span_fault clock row = first_of ((F13, lacks_moment clock row) ∷ (F14, ends_ea
 
 -- the first fault of the coordinates of a data record
 abbrev pub trajectory_fault : Option Dimension → List (List ℕ) → Option Code
-trajectory_fault dimension texts = first_of ((F15, has_wrong_coordinate texts) ∷ (F16, has_wrong_count dimension texts) ∷ [])
+trajectory_fault dimension texts =
+    first_of ((F15, has_wrong_coordinate texts) ∷ (F16, has_wrong_count dimension texts) ∷ [])
 
 -- the first fault of a data record behind both header lines
 unfoldable pub data_fault : Option Dimension → Option Clock → ℕ → Row → Option Code
 data_fault dimension clock columns row =
-    first_of ((F11, has_wrong_fields columns row) ∷ (F12, has_wrong_name row) ∷ (F13, lacks_moment clock row) ∷ (F14, ends_early clock row)
-    ∷ (F15, has_wrong_coordinate (coordinates row)) ∷ (F16, has_wrong_count dimension (coordinates row)) ∷ (F17, lacks_time dimension clock row) ∷ [])
+    first_of ((F11, has_wrong_fields columns row) ∷ (F12, has_wrong_name row)
+    ∷ (F13, lacks_moment clock row) ∷ (F14, ends_early clock row)
+    ∷ (F15, has_wrong_coordinate (coordinates row))
+    ∷ (F16, has_wrong_count dimension (coordinates row)) ∷ (F17, lacks_time dimension clock row)
+    ∷ [])
 
 -- a fault of a record of that number
 abbrev pub fault_at : ℕ → RowFault → FileFault

@@ -14,17 +14,20 @@ use Rattle.mfcsv.specs.declared.header.Clock.{Clock}
 -- mfidref, start time, end time, trajectory, then one value for each attribute column: fewer fields than
 -- the first four, or a field past the last attribute that is not blank
 unfoldable pub has_wrong_fields : ℕ → Row → Bool
-has_wrong_fields columns row = nat_lt (length row) 4 || not (list_all is_empty (drop (4 + columns) row))
+has_wrong_fields columns row =
+    nat_lt (length row) 4 || not (list_all is_empty (drop (4 + columns) row))
 
 unfoldable pub has_wrong_name : Row → Bool
 has_wrong_name row = is_empty (field row 0) || nat_lt 255 (length (field row 0))
 
 -- the moment of a time field by the clock of the header lines, where it is read and in range
 unfoldable pub moment_read : Option Clock → List ℕ → Option ℤ
-moment_read clock text = option_and_then (λ (c : Clock). value_read (time_of c.unit c.start text)) clock
+moment_read clock text =
+    option_and_then (λ (c : Clock). value_read (time_of c.unit c.start text)) clock
 
 abbrev pub lacks_moment : Option Clock → Row → Bool
-lacks_moment clock row = not (is_some (moment_read clock (field row 1)) && is_some (moment_read clock (field row 2)))
+lacks_moment clock row =
+    not (is_some (moment_read clock (field row 1)) && is_some (moment_read clock (field row 2)))
 
 -- an end that is not after the start, of moments that are read
 abbrev pub is_not_after : Option ℤ → Option ℤ → Bool
@@ -33,7 +36,8 @@ is_not_after (Some t0) None = false
 is_not_after None t1 = false
 
 abbrev pub ends_early : Option Clock → Row → Bool
-ends_early clock row = is_not_after (moment_read clock (field row 1)) (moment_read clock (field row 2))
+ends_early clock row =
+    is_not_after (moment_read clock (field row 1)) (moment_read clock (field row 2))
 
 -- the coordinates of the trajectory
 abbrev pub coordinates : Row → List (List ℕ)
@@ -52,7 +56,8 @@ axes Three = 3
 
 -- no position, or a number of coordinates that is no multiple of the dimension, where that is read
 unfoldable pub has_wrong_count : Option Dimension → List (List ℕ) → Bool
-has_wrong_count (Some dimension) texts = (length texts == 0) || not (length texts % axes dimension == 0)
+has_wrong_count (Some dimension) texts =
+    (length texts == 0) || not (length texts % axes dimension == 0)
 has_wrong_count None texts = false
 
 abbrev pub position_of : Option ℤ → Option ℤ → Option ℤ → Option Position
@@ -73,14 +78,18 @@ coordinate_of text = value_read (coord_of text)
 unfoldable pub positions_of_pairs : List (List ℕ) → Option (List Position)
 positions_of_pairs [] = Some []
 positions_of_pairs (x ∷ []) = None
-positions_of_pairs (x ∷ y ∷ rest) = onto_positions (position_of (coordinate_of x) (coordinate_of y) (Some (pos 0))) (positions_of_pairs rest)
+positions_of_pairs (x ∷ y ∷ rest) =
+    onto_positions (position_of (coordinate_of x) (coordinate_of y) (Some (pos 0)))
+    (positions_of_pairs rest)
 
 -- the positions of triples: x, then y, then z
 unfoldable pub positions_of_triples : List (List ℕ) → Option (List Position)
 positions_of_triples [] = Some []
 positions_of_triples (x ∷ []) = None
 positions_of_triples (x ∷ y ∷ []) = None
-positions_of_triples (x ∷ y ∷ z ∷ rest) = onto_positions (position_of (coordinate_of x) (coordinate_of y) (coordinate_of z)) (positions_of_triples rest)
+positions_of_triples (x ∷ y ∷ z ∷ rest) =
+    onto_positions (position_of (coordinate_of x) (coordinate_of y) (coordinate_of z))
+    (positions_of_triples rest)
 
 -- the positions of a dimension that is read
 abbrev pub positions_of : Option Dimension → List (List ℕ) → Option (List Position)
@@ -90,27 +99,38 @@ positions_of None texts = None
 
 -- fewer milliseconds than legs, of moments and positions that are read
 abbrev pub is_too_short : Option ℤ → Option ℤ → Option (List Position) → Bool
-is_too_short (Some t0) (Some t1) (Some positions) = int_lt (t1 -ℤ t0) (pos (leg_count (length positions)))
+is_too_short (Some t0) (Some t1) (Some positions) =
+    int_lt (t1 -ℤ t0) (pos (leg_count (length positions)))
 is_too_short (Some t0) (Some t1) None = false
 is_too_short (Some t0) None positions = false
 is_too_short None t1 positions = false
 
 abbrev pub lacks_time : Option Dimension → Option Clock → Row → Bool
 lacks_time dimension clock row =
-    is_too_short (moment_read clock (field row 1)) (moment_read clock (field row 2)) (positions_of dimension (coordinates row))
+    is_too_short (moment_read clock (field row 1)) (moment_read clock (field row 2))
+    (positions_of dimension (coordinates row))
 
 -- the value of each attribute column; one that is missing is blank
 unfoldable pub attributes_of : ℕ → Row → List (List ℕ)
 attributes_of columns row = map (λ i. field row (4 + i)) (range_with_len 0 columns)
 
 -- the data record of that number, where its moments and positions are read
-abbrev pub record_with : ℕ → ℕ → Row → Option ℤ → Option ℤ → Option (List Position) → Option RecordView
+abbrev pub record_with : ℕ → ℕ → Row → Option ℤ → Option ℤ → Option (List Position)
+    → Option RecordView
 record_with number columns row (Some t0) (Some t1) (Some positions) =
-    Some (record { number = number; mfidref = field row 0; t0 = t0; t1 = t1; positions = positions; attributes = attributes_of columns row })
+    Some (record {
+      number = number;
+      mfidref = field row 0;
+      t0 = t0;
+      t1 = t1;
+      positions = positions;
+      attributes = attributes_of columns row;
+    })
 record_with number columns row (Some t0) (Some t1) None = None
 record_with number columns row (Some t0) None positions = None
 record_with number columns row None t1 positions = None
 
 unfoldable pub record_of : ℕ → Option Dimension → Option Clock → ℕ → Row → Option RecordView
 record_of number dimension clock columns row =
-    record_with number columns row (moment_read clock (field row 1)) (moment_read clock (field row 2)) (positions_of dimension (coordinates row))
+    record_with number columns row (moment_read clock (field row 1))
+    (moment_read clock (field row 2)) (positions_of dimension (coordinates row))

@@ -23,7 +23,8 @@ clock_of None start = None
 
 -- by what the times of a record count, from the header lines before it
 abbrev pub clock_before : HeadsView → Option Clock
-clock_before heads = option_and_then (λ (bounds : BoundsView). clock_of bounds.unit bounds.start) heads.bounds
+clock_before heads =
+    option_and_then (λ (bounds : BoundsView). clock_of bounds.unit bounds.start) heads.bounds
 
 -- their dimension
 abbrev pub dimension_before : HeadsView → Option Dimension
@@ -52,8 +53,10 @@ has_fault heads row F12 = is_data (kind_of row) && has_wrong_name row
 has_fault heads row F13 = is_data (kind_of row) && lacks_moment (clock_before heads) row
 has_fault heads row F14 = is_data (kind_of row) && ends_early (clock_before heads) row
 has_fault heads row F15 = is_data (kind_of row) && has_wrong_coordinate (coordinates row)
-has_fault heads row F16 = is_data (kind_of row) && has_wrong_count (dimension_before heads) (coordinates row)
-has_fault heads row F17 = is_data (kind_of row) && lacks_time (dimension_before heads) (clock_before heads) row
+has_fault heads row F16 =
+    is_data (kind_of row) && has_wrong_count (dimension_before heads) (coordinates row)
+has_fault heads row F17 =
+    is_data (kind_of row) && lacks_time (dimension_before heads) (clock_before heads) row
 
 -- all codes, in the order in which a record is judged
 abbrev pub table : List Code
@@ -89,7 +92,9 @@ faults_of line = map (λ code. (code, line.number)) (filter (has_fault line.head
 
 -- the data record of a line, if it is one
 abbrev pub record_by : Kind → Line → Option RecordView
-record_by Data line = record_of line.number (dimension_before line.heads) (clock_before line.heads) (columns_before line.heads) line.row
+record_by Data line =
+    record_of line.number (dimension_before line.heads) (clock_before line.heads)
+    (columns_before line.heads) line.row
 record_by Skipped line = None
 record_by Bounds line = None
 record_by Columns line = None
@@ -100,17 +105,27 @@ records_of line = option_to_list (record_by (kind_of line.row) line)
 
 -- a file of these header lines and records, F8 of the whole file where a header line is missing; a line
 -- `@stboundedby` whose dimension, start instant or unit is not read has had its own fault
-abbrev pub file_at : Option Dimension → Option ℤ → BoundsView → ColumnsView → List RecordView → Result File (Code × ℕ)
+abbrev pub file_at : Option Dimension → Option ℤ → BoundsView → ColumnsView → List RecordView
+    → Result File (Code × ℕ)
 file_at (Some dimension) (Some start) bounds line records =
     Ok (record {
-      head = record { number_bounds = bounds.number; number_columns = line.number; crs = bounds.crs; dimension = dimension; start = start; columns = line.columns };
+      head = record {
+        number_bounds = bounds.number;
+        number_columns = line.number;
+        crs = bounds.crs;
+        dimension = dimension;
+        start = start;
+        columns = line.columns;
+      };
       records = records;
     })
 file_at (Some dimension) None bounds line records = Err (F5, bounds.number)
 file_at None start bounds line records = Err (F4, bounds.number)
 
-abbrev pub file_with : Option BoundsView → Option ColumnsView → List RecordView → Result File (Code × ℕ)
-file_with (Some bounds) (Some line) records = file_at bounds.dimension bounds.start bounds line records
+abbrev pub file_with : Option BoundsView → Option ColumnsView → List RecordView
+    → Result File (Code × ℕ)
+file_with (Some bounds) (Some line) records =
+    file_at bounds.dimension bounds.start bounds line records
 file_with (Some bounds) None records = Err (F8, 0)
 file_with None columns records = Err (F8, 0)
 
@@ -127,12 +142,14 @@ unfoldable pub text_of_rows : List Row → Result File (Code × ℕ)
 text_of_rows rows =
     let lines = lines_from 1 no_heads rows in
     let heads = heads_from 1 no_heads rows in
-    first_or (flat_map faults_of lines) (file_with heads.bounds heads.columns (flat_map records_of lines))
+    first_or (flat_map faults_of lines)
+    (file_with heads.bounds heads.columns (flat_map records_of lines))
 
 -- what the bytes of a file say
-abbrev pub file_text : List ℕ → Result File (Code × ℕ)
-file_text bytes = text_of_rows (rows_of bytes)
+abbrev pub file_of_bytes : List ℕ → Result File (Code × ℕ)
+file_of_bytes bytes = text_of_rows (rows_of bytes)
 
 -- each record has as many attribute values as there are columns
 abbrev pub HasWholeRows : File → Type 0
-HasWholeRows file = All (λ (r : RecordView). length r.attributes ≡ length file.head.columns) file.records
+HasWholeRows file =
+    All (λ (r : RecordView). length r.attributes ≡ length file.head.columns) file.records

@@ -67,7 +67,9 @@ lacks_bounds_fields row = nat_lt (length row) 7
 
 -- the dimension that a text names
 unfoldable pub dimension_of : List ℕ → Option Dimension
-dimension_of text = if same_word text (codes "2d") then Some Two else (if same_word text (codes "3d") then Some Three else None)
+dimension_of text =
+    if same_word text (codes "2d") then Some Two
+    else (if same_word text (codes "3d") then Some Three else None)
 
 unfoldable pub has_other_dimension : Row → Bool
 has_other_dimension row = not (is_some (dimension_of (field row 2)))

@@ -10,7 +10,9 @@ Row = List (List ℕ)
 
 -- a text that begins with a byte order mark, EF BB BF
 abbrev pub has_mark : List ℕ → Bool
-has_mark bytes = nat_le 3 (length bytes) && is_bom (slice_index bytes 0) (slice_index bytes 1) (slice_index bytes 2)
+has_mark bytes =
+    nat_le 3 (length bytes)
+    && is_bom (slice_index bytes 0) (slice_index bytes 1) (slice_index bytes 2)
 
 -- a text without the byte order marks at its very start
 unfoldable pub without_marks : List ℕ → List ℕ

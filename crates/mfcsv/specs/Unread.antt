@@ -29,7 +29,10 @@ bytes_left reader = unwrap_or (source_of (λ s. Some s.now) reader) []
 
 -- the records that are left
 unfoldable pub rows_left : Source → List Row
-rows_left reader = map (map cut) (records_from default_config (length (bytes_left reader) + 1) (reader_state reader) (bytes_left reader))
+rows_left reader =
+    map (map cut)
+    (records_from default_config (length (bytes_left reader) + 1) (reader_state reader)
+    (bytes_left reader))
 
 -- a reader that stands between two records, whose bytes are known, and that takes records of any length
 pub record IsBetweenRows (reader : Source) : Type 0 where
@@ -49,7 +52,8 @@ pub record TakesRow (old new : Source) (row : Row) : Type 0 where
 
 -- the first of the records that are left has a field that is no text
 abbrev pub MeetsNoText : List Row → Type 0
-MeetsNoText rows = (row : Row) × (rest : List Row) × (rows ≡ row ∷ rest) × (list_all is_utf8 row ≡ false)
+MeetsNoText rows =
+    (row : Row) × (rest : List Row) × (rows ≡ row ∷ rest) × (list_all is_utf8 row ≡ false)
 
 abbrev pub FailsAt : RowFault → List Row → Type 0
 FailsAt (Refused code) rows = (code ≡ F1) × MeetsNoText rows

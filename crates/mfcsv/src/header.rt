@@ -108,7 +108,14 @@ impl Model for Bounds {
 
     ghost Value = { BoundsView };
 
-    ghost view = { λ a. record { number = a.number; crs = a.crs; dimension = Some a.dimension; start = Some a.start; unit = Some a.unit } };
+    ghost view = { λ a.
+        record {
+          number = a.number;
+          crs = a.crs;
+          dimension = Some a.dimension;
+          start = Some a.start;
+          unit = Some a.unit;
+        } };
 }
 
 #[tactic(auto, unfolding(crate::specs::Header::lacks_bounds_fields, crate::specs::Header::has_other_dimension, crate::specs::Header::start_of, crate::specs::Header::has_other_unit))]

@@ -314,9 +314,25 @@ impl Model for Record {
 
     ghost Value = { RecordView };
 
-    ghost view = { λ a. record { number = a.number; mfidref = a.mfidref; t0 = a.t0; t1 = a.t1; positions = a.positions; attributes = a.attributes } };
+    ghost view = { λ a.
+        record {
+          number = a.number;
+          mfidref = a.mfidref;
+          t0 = a.t0;
+          t1 = a.t1;
+          positions = a.positions;
+          attributes = a.attributes;
+        } };
 
-    ghost invariant = { λ a. IsRecord (record { number = a.number; mfidref = a.mfidref; t0 = a.t0; t1 = a.t1; positions = a.positions; attributes = a.attributes }) };
+    ghost invariant = { λ a. IsRecord
+        (record {
+          number = a.number;
+          mfidref = a.mfidref;
+          t0 = a.t0;
+          t1 = a.t1;
+          positions = a.positions;
+          attributes = a.attributes;
+        }) };
 }
 
 /// The data records of a file in their order, seen by contracts as a list.

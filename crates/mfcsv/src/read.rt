@@ -1,6 +1,6 @@
 //! Reading a file.
 ghost use Rattle.std.specs.Prelude.{◌≡◌, IfOk};
-ghost use Rattle.mfcsv.specs.FileText.{HasWholeRows, file_text};
+ghost use Rattle.mfcsv.specs.FileText.{HasWholeRows, file_of_bytes};
 ghost use Rattle.mfcsv.specs.Answer.{Gives};
 
 use crate::reader::FileReader;
@@ -23,7 +23,7 @@ impl<T: Drop> From<AllocFailed<T>> for FileFault {
 /// Byte order marks at the very start are dropped. The records are read one at a time; nothing is
 /// kept of one but what the file has of it.
 pub fn read_file(alloc: Global, bytes: &[u8]) -> Result<File, FileFault>
-    ensures text { Gives result (file_text bytes.now) }
+    ensures text { Gives result (file_of_bytes bytes.now) }
     ensures rows { IfOk result HasWholeRows }
 {
     let mut reader = FileReader::new(alloc, bytes);

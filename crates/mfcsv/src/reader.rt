@@ -180,12 +180,12 @@ fn end_of(heads: &Heads)
 impl<'a> FileReader<'a> {
     ghost use Rattle.std.specs.Prelude.{◌≡◌, ◌<◌, true, Err, IfErr, IfOk, IfSome, Some};
     ghost use Rattle.mfcsv.specs.declared.FileFault.{FileFault};
-    ghost use Rattle.mfcsv.specs.FileText.{file_text};
+    ghost use Rattle.mfcsv.specs.FileText.{file_of_bytes};
     ghost use Rattle.mfcsv.specs.Left.{GivesHead, ReadsRecord};
 
     /// A reader of all of a file. Byte order marks at the very start are dropped.
     pub fn new(alloc: Global, bytes: &'a [u8]) -> FileReader<'a>
-        ensures { result.text ≡ file_text bytes.now }
+        ensures { result.text ≡ file_of_bytes bytes.now }
     {
         FileReader {
             unread: Unread {

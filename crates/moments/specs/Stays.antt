@@ -16,11 +16,14 @@ module _ (leg : LegView) (rect : RectView) (period : PeriodView) where
   -- the last: none is after it
   pub record IsLast (n : ℤ) (d : ℕ) : Type 0 where
     pub inside : IsMomentInside leg rect period n d
-    pub greatest : (m : ℤ) (e : ℕ) → IsMomentInside leg rect period m e → (m *ℤ pos d) ≤ℤ (n *ℤ pos e)
+    pub greatest : (m : ℤ) (e : ℕ) → IsMomentInside leg rect period m e
+        → (m *ℤ pos d) ≤ℤ (n *ℤ pos e)
 
   -- it is inside at each moment from n / d to m / e
   abbrev pub IsInsideFrom : (n m : ℤ) (d e : ℕ) → Type 0
-  IsInsideFrom n m d e = (j : ℤ) (q : ℕ) → 1 ≤ q → (n *ℤ pos q) ≤ℤ (j *ℤ pos d) → (j *ℤ pos e) ≤ℤ (m *ℤ pos q) → IsMomentInside leg rect period j q
+  IsInsideFrom n m d e =
+      (j : ℤ) (q : ℕ) → 1 ≤ q → (n *ℤ pos q) ≤ℤ (j *ℤ pos d) → (j *ℤ pos e) ≤ℤ (m *ℤ pos q)
+      → IsMomentInside leg rect period j q
 
 -- u is the greatest whole number that is at most what goes evenly from a to b in a leg's duration, at the moment n / d
 pub record IsCoordAt (leg : LegView) (a b n : ℤ) (d : ℕ) (u : ℤ) : Type 0 where
@@ -35,11 +38,13 @@ pub record IsPositionAt (leg : LegView) (n : ℤ) (d : ℕ) (position : Position
 
 -- the stay is of the leg, from the first moment at which it is inside to the last, and at each between; it has the leg's
 -- positions at both
-pub record IsStay (rect : RectView) (period : PeriodView) (leg : LegView) (stay : Stay) : Type 0 where
+pub record IsStay (rect : RectView) (period : PeriodView) (leg : LegView)
+    (stay : Stay) : Type 0 where
   pub same : stay.leg ≡ leg
   pub first : IsFirst leg rect period stay.enters.num stay.enters.den
   pub last : IsLast leg rect period stay.leaves.num stay.leaves.den
-  pub between : IsInsideFrom leg rect period stay.enters.num stay.leaves.num stay.enters.den stay.leaves.den
+  pub between : IsInsideFrom leg rect period stay.enters.num stay.leaves.num stay.enters.den
+      stay.leaves.den
   pub entry : IsPositionAt leg stay.enters.num stay.enters.den stay.entry
   pub exit : IsPositionAt leg stay.leaves.num stay.leaves.den stay.exit
 
@@ -47,5 +52,6 @@ pub record IsStay (rect : RectView) (period : PeriodView) (leg : LegView) (stay 
 abbrev pub AreStays : RectView → PeriodView → List LegView → List Stay → Type 0
 AreStays rect period [] stays = stays ≡ []
 AreStays rect period (leg ∷ legs) stays =
-    ((stay : Stay) × (others : List Stay) × (stays ≡ stay ∷ others) × IsStay rect period leg stay × AreStays rect period legs others)
+    ((stay : Stay) × (others : List Stay) × (stays ≡ stay ∷ others) × IsStay rect period leg stay
+    × AreStays rect period legs others)
     ⊎ ((HasMomentInside leg rect period → ⊥) × AreStays rect period legs stays)

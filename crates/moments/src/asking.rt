@@ -6,8 +6,8 @@ ghost use Rattle.legs.specs.Questions.{InBox};
 ghost use Rattle.pages.specs.Store.{Store};
 ghost use Rattle.boxsearch.specs.Index.{words};
 ghost use Rattle.trajdb.specs.Answers.{HoldsOfLeg};
-ghost use Rattle.trajdb.specs.Calls.{Asks, IsRefused, Leaves};
-ghost use Rattle.trajdb.specs.Db.{HasPages, IsSound};
+ghost use Rattle.trajdb.specs.Calls.{Asks, IsRefused, LeavesBook};
+ghost use Rattle.trajdb.specs.Db.{HasPages, IsSoundDb};
 ghost use Rattle.trajdb.specs.Lasting.{IsIdle, IsSafe};
 ghost use Rattle.trajdb.specs.Picks.{Picks};
 ghost use Rattle.trajdb.specs.Telling.{Names};
@@ -35,16 +35,17 @@ pub fn stays<S: PageStore>(
     rect: &Rect,
     period: &Period,
 ) -> Result<Vec<Stay>, RunFault>
-    ensures found { IfOk result (λ stays. IsSound db.old
+    ensures found { IfOk result (λ stays. IsSoundDb db.old
         → AreStays rect.now period.now db.old.book.legs stays.items) }
 
     // Each leg that `legs ever` tells is there once, in that order.
-    ensures ever { IfOk result (λ stays. IsSound db.old
+    ensures ever { IfOk result (λ stays. IsSoundDb db.old
         → Picks (HoldsOfLeg Predicate.Ever rect.now period.now) db.old.book.legs
         (map (λ stay. stay.leg) stays.items)) }
 
     // None ends before it begins.
-    ensures ordered { IfOk result (λ stays. All (λ stay. IsNoLater stay.enters stay.leaves) stays.items) }
+    ensures ordered { IfOk result
+        (λ stays. All (λ stay. IsNoLater stay.enters stay.leaves) stays.items) }
 
     // Be the database sound or not, they are the stays of what the pages that were met say, and a
     // page that is named is one that was met and is not what it is to be there, or the first one
@@ -54,12 +55,12 @@ pub fn stays<S: PageStore>(
         (λ page. words.denies db.old.index (InBox (box_over rect.now period.now)) page)) }
     ensures asks { OnOk result (Asks words db.old db.new
         (search_cost (box_over rect.now period.now))) }
-    ensures leaves { Leaves words db.old db.new }
+    ensures leaves { LeavesBook words db.old db.new }
     ensures refused { IfErr result (λ fault. db.old.failed ≡ false
         → IsRefused words db.old db.new fault) }
     ensures pages { HasPages db.old → HasPages db.new }
     ensures rests { IsIdle db.old → IsIdle db.new }
-    ensures safe { (was : Store) → IsSound db.old → HasPages db.old → IsSafe was db.old
+    ensures safe { (was : Store) → IsSoundDb db.old → HasPages db.old → IsSafe was db.old
         → IsSafe was db.new }
 
     // A failed database does nothing.

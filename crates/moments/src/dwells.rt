@@ -53,7 +53,8 @@ impl Dwell {
 
 /// The place of the dwell of a visit's feature.
 fn place_of(places: &BTreeMap<u32, usize>, dwells: &[Dwell], visit: &Visit) -> Option<usize>
-    requires places { (f : ℕ) → get nat_cmp places.now f ≡ last_place (λ dwell. dwell.feature) f dwells.now }
+    requires places { (f : ℕ)
+        → get nat_cmp places.now f ≡ last_place (λ dwell. dwell.feature) f dwells.now }
     ensures place { result ≡ last_place (λ dwell. dwell.feature) visit.now.feature dwells.now }
     ensures within { IfSome result (λ place. place < length dwells.now) }
 {

@@ -18,7 +18,8 @@ pub fn stays_of(
     ensures stays { IfOk result (λ stays. AreStays rect.now period.now legs.now stays.items) }
 
     // None ends before it begins.
-    ensures ordered { IfOk result (λ stays. All (λ stay. IsNoLater stay.enters stay.leaves) stays.items) }
+    ensures ordered { IfOk result
+        (λ stays. All (λ stay. IsNoLater stay.enters stay.leaves) stays.items) }
 {
     let mut stays = Vec::new(alloc);
     for leg in legs {

@@ -90,13 +90,15 @@ impl Visit {
 
 /// The place of the visit that a stay goes on: the last one of its feature, if it ends where the stay begins.
 fn place_of(last: &BTreeMap<u32, usize>, visits: &[Visit], stay: &Stay) -> Option<usize>
-    requires places { (f : ℕ) → get nat_cmp last.now f ≡ last_place (λ visit. visit.feature) f visits.now }
+    requires places { (f : ℕ)
+        → get nat_cmp last.now f ≡ last_place (λ visit. visit.feature) f visits.now }
     ensures { MatchOption result
         (visits_with visits.now stay.now ≡ visits.now ++ visit_of stay.now ∷ [])
         (λ place. (place < length visits.now)
         × (last_place (λ visit. visit.feature) stay.now.leg.feature visits.now ≡ Some place)
         × (visits_with visits.now stay.now
-        ≡ set visits.now place (visit_with (get_or visits.now place (visit_of stay.now)) stay.now))) }
+        ≡ set visits.now place
+        (visit_with (get_or visits.now place (visit_of stay.now)) stay.now))) }
 {
     let place = *last.get(&stay.leg.feature)?;
     if place < visits.len() && visits[place].goes_on(stay) {
@@ -112,7 +114,8 @@ pub fn visits_of(alloc: Global, stays: &[Stay]) -> Result<Vec<Visit>, AllocError
     ensures value { IfOk result (λ visits. visits.items ≡ visits_of stays.now) }
 
     // Where no stay ends before it begins, as none of `stays_of` does, no visit does.
-    ensures ordered { IfOk result (λ visits. All (λ stay. IsNoLater stay.enters stay.leaves) stays.now
+    ensures ordered { IfOk result
+        (λ visits. All (λ stay. IsNoLater stay.enters stay.leaves) stays.now
         → All (λ visit. IsNoLater visit.enters visit.leaves) visits.items) }
 {
     let mut visits = Vec::new(alloc);

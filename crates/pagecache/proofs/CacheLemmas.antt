@@ -15,7 +15,7 @@ use Rattle.pages.specs.Store as store
 use Rattle.pages.specs.Unsealed.{unsealed}
 use Rattle.pagecache.proofs.PageLemmas.{same_rest, slice_get-put_page, slice_get-put_other, slice_get-take, slice_get-take_none}
 use Rattle.pages.specs.declared.payload.Payload.{Payload}
-use Rattle.pagecache.specs.Cache.{Cache, in_memory, pages_as_written, page_of, sealed_payload, stored_payload, payload_of, is_changed, IsSettled, IsWritten, IsRefused, Stays, UnsyncsNone, WritesNone, Writes, Adds}
+use Rattle.pagecache.specs.Cache.{Cache, in_memory, pages_as_written, page_of, sealed_payload, stored_payload, payload_of, is_changed, IsSettled, IsWritten, IsRefused, KeepsPayloads, UnsyncsNone, WritesNone, Writes, Adds}
 use Rattle.pagecache.proofs.CallerLemmas.{stays-trans, unsyncs-trans}
 use Rattle.pagecache.proofs.UnsyncedLemmas.{unsyncs_none, unsyncs_torn, unsyncs_written}
 use Rattle.pagecache.specs.Slots.{HasFailed, IsSound, HasRoom, IsWithin, OnLeaving, IsFirst, Steps, changed_numbers, seen_of}
@@ -101,7 +101,7 @@ none_written c d h = record { clean = λ f u. h f 0 (λ n _. u n); from = h }
 
 -- the same pages in memory, in another order, over a store that stays
 pub reordered : (c d : Cache) → IsSound c → store.Stays c.store d.store → ((m : ℕ) → in_memory d m ≡ in_memory c m)
-    → d.count ≡ c.count → d.capacity ≡ c.capacity → IsSound d × Stays c d
+    → d.count ≡ c.count → d.capacity ≡ c.capacity → IsSound d × KeepsPayloads c d
 reordered c d s t look count capacity =
     let faithful : IsTrue d.store.is_faithful → IsTrue c.store.is_faithful = λ f. sym t.keeps.faithful ∙ f in
     let pages : IsTrue c.store.is_faithful → (m : ℕ) → page_of d m ≡ page_of c m = λ f m. same_page c d m count (λ _. ap (λ xs. slice_get xs m) (t.pages f)) in
@@ -379,7 +379,7 @@ appended c d n page p s l at reads t look count capacity =
 
 -- a page could not be added
 pub not_appended : (c d : Cache) (n : ℕ) → IsSound c → IsLawful c.store → n ≡ c.count → store.Tears n c.store d.store → ((m : ℕ) → in_memory d m ≡ in_memory c m)
-    → d.count ≡ c.count → d.capacity ≡ c.capacity → IsSound d × Stays c d
+    → d.count ≡ c.count → d.capacity ≡ c.capacity → IsSound d × KeepsPayloads c d
 not_appended c d n s l at t look count capacity =
     let faithful : IsTrue d.store.is_faithful → IsTrue c.store.is_faithful = λ f. sym t.keeps.faithful ∙ f in
     let fits : IsTrue c.store.is_faithful → n ≤ length c.store.pages = λ f. omega (arith, l.counted f, s.within) in
@@ -546,7 +546,7 @@ payload_of-first c n e f at =
 pub asking_unsynced : (c : Cache) (k : ℕ) → UnsyncsNone c (record c { asked = k })
 asking_unsynced c k = unsyncs_none c (record c { asked = k }) (inl refl)
 
-pub asking : (c : Cache) (k : ℕ) → IsSound c → IsSound (record c { asked = k }) × Stays c (record c { asked = k })
+pub asking : (c : Cache) (k : ℕ) → IsSound c → IsSound (record c { asked = k }) × KeepsPayloads c (record c { asked = k })
 asking c k s = reordered c (record c { asked = k }) s (store_rests c.store) (λ _. refl) refl refl
 
 -- a number is in a list
@@ -573,7 +573,7 @@ listed (f ∷ es) n h e u =
       | false ↦ λ t g. in_filtered f.1.changed f (filter (λ (e : ℕ × Held). e.1.changed) es) n (listed es n h g u)
     ]) refl e
 
-unchanged_at : (a c : Cache) (n : ℕ) (ns : List ℕ) (o : Option Held) (b : Bool) → ns ≡ changed_numbers a.held → Stays a c → ((k : ℕ) → k < length ns → is_changed c (get_or ns k 0) ≡ false)
+unchanged_at : (a c : Cache) (n : ℕ) (ns : List ℕ) (o : Option Held) (b : Bool) → ns ≡ changed_numbers a.held → KeepsPayloads a c → ((k : ℕ) → k < length ns → is_changed c (get_or ns k 0) ≡ false)
     → in_memory a n ≡ o → is_changed a n ≡ b → is_changed c n ≡ false
 unchanged_at a c n ns o false same t done e u = t.changed n u
 unchanged_at a c n ns None true same t done e u = absurd (false≢true (sym (is_changed-none a n e) ∙ u))
@@ -582,7 +582,7 @@ unchanged_at a c n ns (Some h) true same t done e u =
     subst (λ m. is_changed c m ≡ false) i.2 (done i.0 i.1)
 
 -- once all of the changed pages are written, none is changed
-pub none_changed : (a c : Cache) (ns : List ℕ) → ns ≡ changed_numbers a.held → Stays a c → ((k : ℕ) → k < length ns → is_changed c (get_or ns k 0) ≡ false) → (n : ℕ) → is_changed c n ≡ false
+pub none_changed : (a c : Cache) (ns : List ℕ) → ns ≡ changed_numbers a.held → KeepsPayloads a c → ((k : ℕ) → k < length ns → is_changed c (get_or ns k 0) ≡ false) → (n : ℕ) → is_changed c n ≡ false
 none_changed a c ns same t done n = unchanged_at a c n ns (in_memory a n) (is_changed a n) same t done refl refl
 
 -- a page that was just added is not changed

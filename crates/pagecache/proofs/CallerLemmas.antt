@@ -4,7 +4,7 @@ use Rattle.std.proofs.lemmas.Bool.{eq-eqb}
 use Rattle.pages.specs.Store.{Store, Faulted}
 use Rattle.pages.specs.Store as store
 use Rattle.pages.specs.declared.payload.Payload.{Payload}
-use Rattle.pagecache.specs.Cache.{Cache, is_changed, payload_of, IsRefused, Keeps, Stays, UnsyncsNone, WritesNone, Writes, Adds}
+use Rattle.pagecache.specs.Cache.{Cache, is_changed, payload_of, IsRefused, Keeps, KeepsPayloads, UnsyncsNone, WritesNone, Writes, Adds}
 use Rattle.pagecache.specs.declared.fault.CacheFault.{CacheFault}
 use Rattle.pagecache.specs.declared.fault.CacheFault.TheVariants as fault
 
@@ -12,7 +12,7 @@ use Rattle.pagecache.specs.declared.fault.CacheFault.TheVariants as fault
 store_keeps-trans : (a b c : Store) → store.Keeps a b → store.Keeps b c → store.Keeps a c
 store_keeps-trans a b c k l = record { most = l.most ∙ k.most; faithful = l.faithful ∙ k.faithful; faults = omega (arith, k.faults, l.faults) }
 
-keeps_after : (a b c : Cache) → Stays a b → Keeps b c → Keeps a c
+keeps_after : (a b c : Cache) → KeepsPayloads a b → Keeps b c → Keeps a c
 keeps_after a b c t k = record {
   store = store_keeps-trans a.store b.store c.store t.keeps.store k.store;
   capacity = k.capacity ∙ t.keeps.capacity;
@@ -20,7 +20,7 @@ keeps_after a b c t k = record {
   settled = k.settled;
 }
 
-none_written_after : (a b c : Cache) → Stays a b → WritesNone b c → WritesNone a c
+none_written_after : (a b c : Cache) → KeepsPayloads a b → WritesNone b c → WritesNone a c
 none_written_after a b c t u = record {
   clean = λ f h. u.clean (t.keeps.store.faithful ∙ f) (λ n. t.changed n (h n)) ∙ t.unwritten.clean f h;
   from = λ f k h. u.from (t.keeps.store.faithful ∙ f) k (λ n g. t.changed n (h n g)) ∙ t.unwritten.from f k h;
@@ -37,7 +37,7 @@ unsyncs-trans a b c still p q = record {
   but_first = λ h s. q.but_first (λ n l. still n (h n l)) (p.but_first h s);
 }
 
-pub stays-trans : (a b c : Cache) → Stays a b → Stays b c → Stays a c
+pub stays-trans : (a b c : Cache) → KeepsPayloads a b → KeepsPayloads b c → KeepsPayloads a c
 stays-trans a b c t u = record {
   keeps = keeps_after a b c t u.keeps;
   count = u.count ∙ t.count;
@@ -46,7 +46,7 @@ stays-trans a b c t u = record {
   unwritten = none_written_after a b c t u.unwritten;
 }
 
-pub stays-writes : (a b c : Cache) (n : ℕ) (w : Payload) → Stays a b → Writes n w b c → Writes n w a c
+pub stays-writes : (a b c : Cache) (n : ℕ) (w : Payload) → KeepsPayloads a b → Writes n w b c → Writes n w a c
 stays-writes a b c n w t u = record {
   keeps = keeps_after a b c t u.keeps;
   count = u.count ∙ t.count;
@@ -55,7 +55,7 @@ stays-writes a b c n w t u = record {
   unwritten = none_written_after a b c t u.unwritten;
 }
 
-pub adds-stays : (a b c : Cache) (w : Payload) → Adds w a b → Stays b c → Adds w a c
+pub adds-stays : (a b c : Cache) (w : Payload) → Adds w a b → KeepsPayloads b c → Adds w a c
 adds-stays a b c w t u = record {
   keeps = record {
     store = store_keeps-trans a.store b.store c.store t.keeps.store u.keeps.store;
@@ -91,14 +91,14 @@ adds-writes a b c n p w t at u = record {
 faulted_after : (a b c : Store) → store.Keeps a b → Faulted b c → Faulted a c
 faulted_after a b c k f = omega (arith, f, k.faults)
 
-pub refused_after : (a b c : Cache) (n : ℕ) (e : CacheFault) → Stays a b → IsRefused n e b c → IsRefused n e a c
+pub refused_after : (a b c : Cache) (n : ℕ) (e : CacheFault) → KeepsPayloads a b → IsRefused n e b c → IsRefused n e a c
 refused_after a b c n fault.NoPage t r = (omega (arith, r.0, t.count), λ f. sym (t.payloads f n) ∙ r.1 (t.keeps.store.faithful ∙ f))
 refused_after a b c n fault.Store t r = faulted_after a.store b.store c.store t.keeps.store r
 refused_after a b c n (fault.Damaged m) t r = (r.0, λ f. sym (t.payloads f n) ∙ r.1 (t.keeps.store.faithful ∙ f))
 refused_after a b c n fault.StoreFull t r = r
 refused_after a b c n fault.Memory t r = tt
 
-pub adds-after : (a b c : Cache) (w : Payload) → Stays a b → Adds w b c → Adds w a c
+pub adds-after : (a b c : Cache) (w : Payload) → KeepsPayloads a b → Adds w b c → Adds w a c
 adds-after a b c w t u = record {
   keeps = keeps_after a b c t u.keeps;
   count = omega (arith, u.count, t.count);

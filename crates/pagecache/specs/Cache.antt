@@ -97,7 +97,7 @@ pub record UnsyncsNone (old new : Cache) : Type 0 where
       → IsSyncedButFirst old.store → IsSyncedButFirst new.store
 
 -- no page has another payload, and none more is changed
-pub record Stays (old new : Cache) : Type 0 where
+pub record KeepsPayloads (old new : Cache) : Type 0 where
   pub keeps : Keeps old new
   pub count : new.count ≡ old.count
   pub payloads : IsTrue old.store.is_faithful → (n : ℕ) → payload_of new n ≡ payload_of old n
@@ -160,7 +160,7 @@ pub record Lends (n : ℕ) (w : Payload) (old new : Cache) : Type 0 where
 
 -- a call for a page that changes none
 pub record Rests (old new : Cache) : Type 0 where
-  pub stays : Stays old new
+  pub stays : KeepsPayloads old new
   pub unsynced : UnsyncsNone old new
   pub length : SameLength old new
   pub asks : AsksOnce old new

@@ -3,7 +3,7 @@ use Rattle.std.specs.Prelude.{ℕ, List, map, filter, false, ◌≡◌, ◌-◌,
 use Rattle.std.specs.Box.{box_value}
 use Rattle.pages.specs.Store as store
 use Rattle.pages.specs.Store.{Faulted}
-use Rattle.pagecache.specs.Cache.{Cache, in_memory, sealed_payload, is_changed, Stays, UnsyncsNone}
+use Rattle.pagecache.specs.Cache.{Cache, in_memory, sealed_payload, is_changed, KeepsPayloads, UnsyncsNone}
 use Rattle.pagecache.specs.declared.fault.CacheFault.{CacheFault}
 use Rattle.pagecache.specs.declared.fault.CacheFault.TheVariants.{Store}
 use Rattle.pagecache.specs.declared.slots.Held.{Held}
@@ -50,7 +50,7 @@ HasFailed fault old new = (fault ≡ Store) × Faulted old.store new.store
 -- what every step inside keeps
 pub record Steps (old new : Cache) : Type 0 where
   pub sound : IsSound new
-  pub stays : Stays old new
+  pub stays : KeepsPayloads old new
   pub unsynced : UnsyncsNone old new
   pub asked : new.asked ≡ old.asked
 

@@ -1,7 +1,7 @@
 //! The cache as its callers see it.
 ghost use Rattle.std.specs.Prelude.{◌≡◌, ◌<◌, ◌≤◌, false, Some, None, IsTrue, IfOk, IfErr, OnOk, OnErr, IsErrOf, length};
 ghost use Rattle.std.specs.Borrow.{sem};
-ghost use Rattle.pagecache.specs.Cache.{fresh, is_changed, payload_of, Adds, Stays, SameLength, AsksOnce, IsNotAdded, IsSettled, IsStopped, IsWritten, UnsyncsNone};
+ghost use Rattle.pagecache.specs.Cache.{fresh, is_changed, payload_of, Adds, KeepsPayloads, SameLength, AsksOnce, IsNotAdded, IsSettled, IsStopped, IsWritten, UnsyncsNone};
 ghost use Rattle.pages.specs.Store.{IsLawful, IsSynced};
 ghost use Rattle.pages.specs.Zero.{zero_payload};
 ghost use Rattle.pagecache.specs.PageLends.{LendsPage, ShowsPage};
@@ -81,7 +81,7 @@ impl<S: PageStore> PageCache<S> {
         ensures none_before { payload_of self.old self.old.count ≡ None }
         ensures length { OnOk result (self.old.count ≡ self.old.store.count
             → self.new.count ≡ self.new.store.count) }
-        ensures refused { OnErr result (Stays self.old self.new) }
+        ensures refused { OnErr result (KeepsPayloads self.old self.new) }
         ensures asks { AsksOnce self.old self.new }
         ensures cause { IfErr result (λ fault. IsNotAdded fault self.old self.new) }
         ensures full { self.old.count ≡ self.old.store.most
@@ -100,7 +100,7 @@ impl<S: PageStore> PageCache<S> {
         ensures none_before { payload_of self.old self.old.count ≡ None }
         ensures length { OnOk result (self.old.count ≡ self.old.store.count
             → self.new.count ≡ self.new.store.count) }
-        ensures refused { OnErr result (Stays self.old self.new) }
+        ensures refused { OnErr result (KeepsPayloads self.old self.new) }
         ensures asks { AsksOnce self.old self.new }
         ensures cause { IfErr result (λ fault. IsNotAdded fault self.old self.new) }
         ensures full { self.old.count ≡ self.old.store.most
@@ -118,7 +118,7 @@ impl<S: PageStore> PageCache<S> {
         ensures none_before { payload_of self.old self.old.count ≡ None }
         ensures length { OnOk result (self.old.count ≡ self.old.store.count
             → self.new.count ≡ self.new.store.count) }
-        ensures refused { OnErr result (Stays self.old self.new) }
+        ensures refused { OnErr result (KeepsPayloads self.old self.new) }
         ensures asks { AsksOnce self.old self.new }
         ensures cause { IfErr result (λ fault. IsNotAdded fault self.old self.new) }
         ensures full { self.old.count ≡ self.old.store.most
@@ -132,7 +132,7 @@ impl<S: PageStore> PageCache<S> {
     pub fn flush(&mut self) -> Result<(), CacheFault>
         ensures written { OnOk result (IsWritten self.new) }
         ensures synced { OnOk result (IsSynced self.new.store) }
-        ensures stays { Stays self.old self.new }
+        ensures stays { KeepsPayloads self.old self.new }
         ensures unsynced { UnsyncsNone self.old self.new }
         ensures length { SameLength self.old self.new }
         ensures asked { self.new.asked ≡ self.old.asked }

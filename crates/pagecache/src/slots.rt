@@ -2,7 +2,7 @@
 ghost use Rattle.std.specs.Prelude.{ℕ, ◌≡◌, ◌<◌, ◌≤◌, ◌↔◌, false, Some, None, IsTrue, IsSome, OnOk, OnErr, IfOk, IfErr, IfNone, IfSome, IsErrOf, slice_get, slice_index, EachIndex, length};
 ghost use Rattle.std.specs.Borrow.{sem};
 ghost use Rattle.std.specs.Map.{keys_of};
-ghost use Rattle.pagecache.specs.Cache.{fresh, AsksOnce, Stays, SameLength, Adds, IsRefused, IsStopped, IsNotAdded, IsWritten, in_memory, sealed_payload, is_changed, payload_of, UnsyncsNone};
+ghost use Rattle.pagecache.specs.Cache.{fresh, AsksOnce, KeepsPayloads, SameLength, Adds, IsRefused, IsStopped, IsNotAdded, IsWritten, in_memory, sealed_payload, is_changed, payload_of, UnsyncsNone};
 ghost use Rattle.pages.specs.Store.{IsSynced, Stays as StoreStays};
 ghost use Rattle.pagecache.specs.SlotLends.{LendsSlot};
 ghost use Rattle.pagecache.specs.Slots.{HasFailed, HasRoom, IsFirst, IsSound, IsWithin, OnLeaving, Steps, changed_numbers, seen_of};
@@ -200,7 +200,7 @@ impl<S: PageStore> Slots<S> {
     pub(crate) fn ready(&mut self, number: u32) -> Result<(), CacheFault>
         requires { IsSound (seen_of S.seen self.old) }
         ensures sound { IsSound (seen_of S.seen self.new) }
-        ensures stays { Stays (seen_of S.seen self.old) (seen_of S.seen self.new) }
+        ensures stays { KeepsPayloads (seen_of S.seen self.old) (seen_of S.seen self.new) }
         ensures unsynced { UnsyncsNone (seen_of S.seen self.old) (seen_of S.seen self.new) }
         ensures length { SameLength (seen_of S.seen self.old) (seen_of S.seen self.new) }
         ensures asks { AsksOnce (seen_of S.seen self.old) (seen_of S.seen self.new) }
@@ -333,7 +333,7 @@ impl<S: PageStore> Slots<S> {
         ensures length { OnOk result (self.old.count ≡ (S.seen self.old.store).count
             → self.new.count ≡ (S.seen self.new.store).count) }
         ensures stays { OnErr result
-            (Stays (seen_of S.seen self.old) (seen_of S.seen self.new)) }
+            (KeepsPayloads (seen_of S.seen self.old) (seen_of S.seen self.new)) }
         ensures held { self.new.held ≡ self.old.held }
         ensures asked { self.new.asked ≡ self.old.asked }
         ensures cause { IfErr result
@@ -362,7 +362,7 @@ impl<S: PageStore> Slots<S> {
         ensures length { OnOk result (self.old.count ≡ (S.seen self.old.store).count
             → self.new.count ≡ (S.seen self.new.store).count) }
         ensures stays { OnErr result
-            (Stays (seen_of S.seen self.old) (seen_of S.seen self.new)) }
+            (KeepsPayloads (seen_of S.seen self.old) (seen_of S.seen self.new)) }
         ensures asks { AsksOnce (seen_of S.seen self.old) (seen_of S.seen self.new) }
         ensures cause { IfErr result
             (λ fault. IsNotAdded fault (seen_of S.seen self.old) (seen_of S.seen self.new)) }
@@ -400,7 +400,7 @@ impl<S: PageStore> Slots<S> {
         ensures length { OnOk result (self.old.count ≡ (S.seen self.old.store).count
             → self.new.count ≡ (S.seen self.new.store).count) }
         ensures stays { OnErr result
-            (Stays (seen_of S.seen self.old) (seen_of S.seen self.new)) }
+            (KeepsPayloads (seen_of S.seen self.old) (seen_of S.seen self.new)) }
         ensures asked { self.new.asked ≡ self.old.asked }
         ensures cause { IfErr result
             (λ fault. IsStopped fault (seen_of S.seen self.old) (seen_of S.seen self.new)) }
@@ -438,7 +438,7 @@ impl<S: PageStore> Slots<S> {
         ensures length { OnOk result (self.old.count ≡ (S.seen self.old.store).count
             → self.new.count ≡ (S.seen self.new.store).count) }
         ensures stays { OnErr result
-            (Stays (seen_of S.seen self.old) (seen_of S.seen self.new)) }
+            (KeepsPayloads (seen_of S.seen self.old) (seen_of S.seen self.new)) }
         ensures asks { AsksOnce (seen_of S.seen self.old) (seen_of S.seen self.new) }
         ensures cause { IfErr result
             (λ fault. IsNotAdded fault (seen_of S.seen self.old) (seen_of S.seen self.new)) }

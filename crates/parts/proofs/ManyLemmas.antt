@@ -5,7 +5,7 @@ use Rattle.std.proofs.lemmas.List.Elements.{All-map}
 use Rattle.mfcsv.specs.Header.{is_header_row}
 use Rattle.mfcsv.specs.Rows.{Row, cut, field}
 use Rattle.parts.specs.Names.{part_of}
-use Rattle.mfcsv.specs.FileText.{file_text}
+use Rattle.mfcsv.specs.FileText.{file_of_bytes}
 use Rattle.mfcsv.specs.declared.Code.{Code}
 use Rattle.mfcsv.specs.declared.File.{File}
 use Rattle.parts.specs.Part.{blank_fields, file_part, has, owner_of, said_part, stays, text_part, whole_part}
@@ -82,26 +82,26 @@ on_ok (Ok v) P Q h f = f h
 on_ok (Err e) P Q h f = h
 
 -- what the texts of parts say of a file without a fault
-part_file : (k n : ℕ) (bytes : List ℕ) (file : File) → file_text bytes ≡ Ok file → file_text (whole_part k n bytes) ≡ Ok (file_part k n file)
+part_file : (k n : ℕ) (bytes : List ℕ) (file : File) → file_of_bytes bytes ≡ Ok file → file_of_bytes (whole_part k n bytes) ≡ Ok (file_part k n file)
 part_file k n bytes file e = whole_says k n bytes file e ∙ ap (said_part k n) e
 
-part_files : (n : ℕ) (bytes : List ℕ) (file : File) (ks : List ℕ) → file_text bytes ≡ Ok file → map file_text (map (λ k. whole_part k n bytes) ks) ≡ map (λ k. Ok (file_part k n file)) ks
+part_files : (n : ℕ) (bytes : List ℕ) (file : File) (ks : List ℕ) → file_of_bytes bytes ≡ Ok file → map file_of_bytes (map (λ k. whole_part k n bytes) ks) ≡ map (λ k. Ok (file_part k n file)) ks
 part_files n bytes file [] e = refl
 part_files n bytes file (k ∷ ks) e =
-    ap (λ (s : Result File (Code × ℕ)). s ∷ map file_text (map (λ j. whole_part j n bytes) ks)) (part_file k n bytes file e)
+    ap (λ (s : Result File (Code × ℕ)). s ∷ map file_of_bytes (map (λ j. whole_part j n bytes) ks)) (part_file k n bytes file e)
     ∙ ap (λ (ss : List (Result File (Code × ℕ))). Ok (file_part k n file) ∷ ss) (part_files n bytes file ks e)
 
-says_each : {T : Type 0} (items : T → List ℕ) (texts : List T) → map (λ text. file_text (items text)) texts ≡ map file_text (map items texts)
+says_each : {T : Type 0} (items : T → List ℕ) (texts : List T) → map (λ text. file_of_bytes (items text)) texts ≡ map file_of_bytes (map items texts)
 says_each items [] = refl
-says_each items (text ∷ texts) = ap (λ (ss : List (Result File (Code × ℕ))). file_text (items text) ∷ ss) (says_each items texts)
+says_each items (text ∷ texts) = ap (λ (ss : List (Result File (Code × ℕ))). file_of_bytes (items text) ∷ ss) (says_each items texts)
 
-pub parts_say : {V T E : Type 0} (list : V → List T) (items : T → List ℕ) (r : Result V E) (first count n : ℕ) (bytes : List ℕ) (said : Result File (Code × ℕ)) → file_text bytes ≡ said
+pub parts_say : {V T E : Type 0} (list : V → List T) (items : T → List ℕ) (r : Result V E) (first count n : ℕ) (bytes : List ℕ) (said : Result File (Code × ℕ)) → file_of_bytes bytes ≡ said
     → IfOk r (λ texts. map items (list texts) ≡ map (λ k. whole_part k n bytes) (range_with_len first count))
-    → IfOk said (λ file. IfOk r (λ texts. map (λ text. file_text (items text)) (list texts) ≡ map (λ k. Ok (file_part k n file)) (range_with_len first count)))
+    → IfOk said (λ file. IfOk r (λ texts. map (λ text. file_of_bytes (items text)) (list texts) ≡ map (λ k. Ok (file_part k n file)) (range_with_len first count)))
 parts_say list items r first count n bytes (Err fault) e h = tt
 parts_say list items (Err error) first count n bytes (Ok file) e h = tt
 parts_say list items (Ok texts) first count n bytes (Ok file) e h =
-    says_each items (list texts) ∙ ap (map file_text) h ∙ part_files n bytes file (range_with_len first count) e
+    says_each items (list texts) ∙ ap (map file_of_bytes) h ∙ part_files n bytes file (range_with_len first count) e
 
 -- one text more has what stands for the record
 set_map : {X : Type 0} (f : X → X) (xs : List X) (i : ℕ) (d : X) → i < length xs
@@ -117,8 +117,8 @@ step_map f xs ys i d less e =
     ap (λ (l : List _). slice_set l i (f (get_or l i d))) e ∙ set_map f xs i d less ∙ ap (λ j. map f (take j xs) ++ drop j xs) one
 
 -- the text of a part of bytes without a fault says that part
-pub part_says : {V E : Type 0} (items : V → List ℕ) (r : Result V E) (k n : ℕ) (bytes : List ℕ) (said : Result File (Code × ℕ)) → file_text bytes ≡ said → is_ok said ≡ true
-    → IfOk r (λ text. items text ≡ whole_part k n bytes) → IfOk r (λ text. file_text (items text) ≡ said_part k n (file_text bytes))
+pub part_says : {V E : Type 0} (items : V → List ℕ) (r : Result V E) (k n : ℕ) (bytes : List ℕ) (said : Result File (Code × ℕ)) → file_of_bytes bytes ≡ said → is_ok said ≡ true
+    → IfOk r (λ text. items text ≡ whole_part k n bytes) → IfOk r (λ text. file_of_bytes (items text) ≡ said_part k n (file_of_bytes bytes))
 part_says items r k n bytes (Err fault) e ok h = absurd (cc)
 part_says items (Err error) k n bytes (Ok file) e ok h = tt
-part_says items (Ok text) k n bytes (Ok file) e ok h = ap file_text h ∙ whole_says k n bytes file e
+part_says items (Ok text) k n bytes (Ok file) e ok h = ap file_of_bytes h ∙ whole_says k n bytes file e

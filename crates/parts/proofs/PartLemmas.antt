@@ -10,7 +10,7 @@ use Rattle.mfcsv.specs.Rows.{Row, field, rows_of, same_word}
 use Rattle.mfcsv.specs.Views.{BoundsView, ColumnsView, HeadsView, RecordView}
 use Rattle.mfcsv.specs.Header.{heads_after, is_blank_row, is_data, is_header_row, kind_of}
 use Rattle.mfcsv.specs.DataRecord.{record_of, record_with}
-use Rattle.mfcsv.specs.FileText.{clock_before, columns_before, dimension_before, faults_of, file_at, file_text, file_with, first_or, has_fault, heads_from, line_of, lines_from, no_heads, records_of, text_of_rows}
+use Rattle.mfcsv.specs.FileText.{clock_before, columns_before, dimension_before, faults_of, file_at, file_of_bytes, file_with, first_or, has_fault, heads_from, line_of, lines_from, no_heads, records_of, text_of_rows}
 use Rattle.mfcsv.specs.declared.Code.{Code}
 use Rattle.mfcsv.specs.declared.Dimension.{Dimension}
 use Rattle.mfcsv.specs.declared.Position.{Position}
@@ -213,14 +213,14 @@ part_says k n rows file e =
     ∙ ap (said_part k n) parts.1
 
 -- the text of the part
-pub whole_says : (k n : ℕ) (bytes : List ℕ) (file : File) → file_text bytes ≡ Ok file → file_text (whole_part k n bytes) ≡ said_part k n (file_text bytes)
+pub whole_says : (k n : ℕ) (bytes : List ℕ) (file : File) → file_of_bytes bytes ≡ Ok file → file_of_bytes (whole_part k n bytes) ≡ said_part k n (file_of_bytes bytes)
 whole_says k n bytes file e = ap text_of_rows (part_rows k n bytes) ∙ part_says k n (rows_of bytes) file e ∙ sym (ap (said_part k n) e)
 
 -- bytes with a fault stay
-pub fault_stays : (k n : ℕ) (bytes : List ℕ) (fault : Code × ℕ) → file_text bytes ≡ Err fault → file_text bytes ≡ said_part k n (file_text bytes)
+pub fault_stays : (k n : ℕ) (bytes : List ℕ) (fault : Code × ℕ) → file_of_bytes bytes ≡ Err fault → file_of_bytes bytes ≡ said_part k n (file_of_bytes bytes)
 fault_stays k n bytes fault e = e ∙ sym (ap (said_part k n) e)
 
 -- what was answered is a text that says that
-pub said_by : {V E : Type 0} (items : V → List ℕ) (r : Result V E) (t : List ℕ) (s : Result File (Code × ℕ)) → IfOk r (λ text. items text ≡ t) → file_text t ≡ s → IfOk r (λ text. file_text (items text) ≡ s)
-said_by items (Ok text) t s e f = ap (λ (x : List ℕ). file_text x) e ∙ f
+pub said_by : {V E : Type 0} (items : V → List ℕ) (r : Result V E) (t : List ℕ) (s : Result File (Code × ℕ)) → IfOk r (λ text. items text ≡ t) → file_of_bytes t ≡ s → IfOk r (λ text. file_of_bytes (items text) ≡ s)
+said_by items (Ok text) t s e f = ap (λ (x : List ℕ). file_of_bytes x) e ∙ f
 said_by items (Err error) t s e f = tt

@@ -7,7 +7,9 @@ use Rattle.mfcsv.specs.Unread.{IsBetweenRows, Source, bytes_left}
 
 -- the records that are left
 unfoldable pub raw_left : Source → List (List (List ℕ))
-raw_left reader = records_from default_config (length (bytes_left reader) + 1) (reader_state reader) (bytes_left reader)
+raw_left reader =
+    records_from default_config (length (bytes_left reader) + 1) (reader_state reader)
+    (bytes_left reader)
 
 -- a record was read: it is the first of those that were left, and has a field
 pub record TakesRaw (old new : Source) (fields : List (List ℕ)) : Type 0 where

@@ -14,4 +14,5 @@ begun k = record { part = k; text = 10 ∷ []; refused = false }
 
 -- with what stands in the place of a record, by its fields
 abbrev pub with_fields : ℕ → List (List ℕ) → PartView → PartView
-with_fields n fields a = record { part = a.part; text = a.text ++ text_part a.part n fields; refused = false }
+with_fields n fields a =
+    record { part = a.part; text = a.text ++ text_part a.part n fields; refused = false }

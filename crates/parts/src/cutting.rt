@@ -58,7 +58,8 @@ fn take_all(texts: &mut [PartText], n: u64, row: &ByteRecord) -> Result<(), Allo
 
 /// What was written of each part.
 fn finish(alloc: Global, parts: Vec<PartText>) -> Result<Vec<Vec<u8>>, AllocError>
-    ensures { IfOk result (λ texts. map (λ text. text.items) texts.items ≡ map (λ a. a.text) parts.items) }
+    ensures { IfOk result
+        (λ texts. map (λ text. text.items) texts.items ≡ map (λ a. a.text) parts.items) }
 {
     let mut texts = Vec::with_capacity(alloc, parts.len())?;
     for part in parts {

@@ -8,7 +8,7 @@
 
 ghost use Rattle.std.specs.Prelude.{◌≡◌, ◌<◌, ◌≤◌, ◌+◌, map, is_ok, Ok, IfOk};
 ghost use Rattle.std.specs.List.{range_with_len};
-ghost use Rattle.mfcsv.specs.FileText.{file_text};
+ghost use Rattle.mfcsv.specs.FileText.{file_of_bytes};
 ghost use Rattle.parts.specs.Faults.{FaultLaw};
 ghost use Rattle.parts.specs.Part.{file_part, said_part, whole_part};
 
@@ -34,7 +34,7 @@ fn copy_of(alloc: Global, bytes: &[u8]) -> Result<Vec<u8>, AllocError>
 
 /// Whether the bytes of a file have no fault.
 fn is_whole(alloc: Global, bytes: &[u8]) -> Result<bool, AllocError>
-    ensures { IfOk result (λ whole. whole ≡ is_ok (file_text bytes.now)) }
+    ensures { IfOk result (λ whole. whole ≡ is_ok (file_of_bytes bytes.now)) }
 {
     match read_file(alloc, bytes) {
         Ok(_) => Ok(true),
@@ -61,7 +61,8 @@ fn whole_part(alloc: Global, k: u64, n: u64, bytes: &[u8]) -> Result<Vec<u8>, Al
 /// A file with a fault is given back as it is, so that each part is refused as the whole is.
 pub fn part(alloc: Global, k: u64, n: u64, bytes: &[u8]) -> Result<Vec<u8>, AllocError>
     requires { k < n }
-    ensures { IfOk result (λ text. file_text text.items ≡ said_part k n (file_text bytes.now)) }
+    ensures { IfOk result
+        (λ text. file_of_bytes text.items ≡ said_part k n (file_of_bytes bytes.now)) }
 {
     if is_whole(alloc, bytes)? {
         whole_part(alloc, k, n, bytes)
@@ -87,8 +88,8 @@ pub fn parts(
     ensures texts { IfOk result (λ texts. map (λ text. text.items) texts.items
         ≡ map (λ k. whole_part k n bytes.now) (range_with_len first count)) }
     // Of a file without a fault each part says the same head, and its own records under their numbers.
-    ensures says { IfOk (file_text bytes.now) (λ file. IfOk result (λ texts.
-        map (λ text. file_text text.items) texts.items
+    ensures says { IfOk (file_of_bytes bytes.now) (λ file. IfOk result (λ texts.
+        map (λ text. file_of_bytes text.items) texts.items
         ≡ map (λ k. Ok (file_part k n file)) (range_with_len first count))) }
 {
     whole_parts(alloc, first, count, n, bytes)

@@ -20,7 +20,11 @@ impl Model for Records {
 
     ghost Value = { RecordsView };
 
-    ghost view = { λ a. record { text = (writer_under a.writer).items ++ writer_pending a.writer; refused = a.refused } };
+    ghost view = { λ a.
+        record {
+          text = (writer_under a.writer).items ++ writer_pending a.writer;
+          refused = a.refused;
+        } };
 
     ghost invariant = { λ a. a.refused ≡ false → IsBetweenRecords a.writer };
 }
@@ -47,7 +51,8 @@ impl Records {
     /// Writes a record behind the others.
     pub(crate) fn push(&mut self, row: &ByteRecord) -> Result<(), AllocError>
         requires { self.old.refused ≡ false }
-        ensures { OnOk result (self.new ≡ written (self.old.text ++ record_text (fields_of row.now))) }
+        ensures { OnOk result
+            (self.new ≡ written (self.old.text ++ record_text (fields_of row.now))) }
     {
         self.refused = true;
         match self.writer.write_byte_record(row) {

@@ -29,7 +29,8 @@ impl Model for PartText {
 
     ghost Value = { PartView };
 
-    ghost view = { λ a. record { part = a.part; text = a.records.text; refused = a.records.refused } };
+    ghost view = { λ a.
+        record { part = a.part; text = a.records.text; refused = a.records.refused } };
 }
 
 impl PartText {

@@ -8,7 +8,8 @@ use Rattle.legs.specs.Sieves.{first_live, last_live}
 use Rattle.predicates.specs.declared.courses.Course.{Course}
 
 -- each test of the course is true exactly where its fact holds for the legs
-pub record IsCourse (course : Course) (legs : List LegView) (rect : RectView) (period : PeriodView) : Type 0 where
+pub record IsCourse (course : Course) (legs : List LegView) (rect : RectView)
+    (period : PeriodView) : Type 0 where
   pub live : IsTrue course.live ↔ HasAMoment legs period
   pub first : IsTrue course.first ↔ IsInsideAtFirst legs rect period
   pub last : IsTrue course.last ↔ IsInsideAtLast legs rect period

@@ -14,7 +14,15 @@ most = pos most_units
 
 -- the box over a period, of all x and y
 abbrev pub plane_over : PeriodView → BoxView
-plane_over period = record { x_min = neg_ℤ most; y_min = neg_ℤ most; t_min = period.start; x_max = most; y_max = most; t_max = period.end }
+plane_over period =
+    record {
+      x_min = neg_ℤ most;
+      y_min = neg_ℤ most;
+      t_min = period.start;
+      x_max = most;
+      y_max = most;
+      t_max = period.end;
+    }
 
 -- over the rectangle and the period, but for `bypasses`, which holds of legs that are far from the rectangle
 abbrev pub box_near : Predicate → RectView → PeriodView → BoxView

@@ -26,18 +26,25 @@ IsAllInside legs rect period = All (λ leg. IsThroughout leg rect period) legs
 
 -- inside at the first moment: the first live leg is, at its least moment
 unfoldable pub IsInsideAtFirst : List LegView → RectView → PeriodView → Type 0
-IsInsideAtFirst legs rect period = IsSomeAnd (first_live period legs) (λ leg. IsInside leg rect (first_moment leg period) 1)
+IsInsideAtFirst legs rect period =
+    IsSomeAnd (first_live period legs) (λ leg. IsInside leg rect (first_moment leg period) 1)
 
 -- inside at the last moment: the last live leg is, at its greatest moment
 unfoldable pub IsInsideAtLast : List LegView → RectView → PeriodView → Type 0
-IsInsideAtLast legs rect period = IsSomeAnd (last_live period legs) (λ leg. IsInside leg rect (last_moment leg period) 1)
+IsInsideAtLast legs rect period =
+    IsSomeAnd (last_live period legs) (λ leg. IsInside leg rect (last_moment leg period) 1)
 
 -- the predicate holds
 unfoldable pub Holds : Predicate → List LegView → RectView → PeriodView → Type 0
 Holds Ever legs rect period = IsEver legs rect period
 Holds Always legs rect period = HasAMoment legs period × IsAllInside legs rect period
-Holds Enters legs rect period = HasAMoment legs period × (IsInsideAtFirst legs rect period → ⊥) × IsInsideAtLast legs rect period
-Holds Leaves legs rect period = HasAMoment legs period × IsInsideAtFirst legs rect period × (IsInsideAtLast legs rect period → ⊥)
+Holds Enters legs rect period =
+    HasAMoment legs period × (IsInsideAtFirst legs rect period → ⊥)
+    × IsInsideAtLast legs rect period
+Holds Leaves legs rect period =
+    HasAMoment legs period × IsInsideAtFirst legs rect period
+    × (IsInsideAtLast legs rect period → ⊥)
 Holds Crosses legs rect period =
-    HasAMoment legs period × (IsInsideAtFirst legs rect period → ⊥) × (IsInsideAtLast legs rect period → ⊥) × IsEver legs rect period
+    HasAMoment legs period × (IsInsideAtFirst legs rect period → ⊥)
+    × (IsInsideAtLast legs rect period → ⊥) × IsEver legs rect period
 Holds Bypasses legs rect period = HasAMoment legs period × (IsEver legs rect period → ⊥)

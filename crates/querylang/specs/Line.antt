@@ -51,8 +51,10 @@ abbrev pub behind_word : List ℕ → List ℕ
 behind_word text = drop (word_len text) text
 
 -- a rectangle of four coordinates: Q5 where one of them is not read, Q6 where a lesser one is the greater
-abbrev pub rectangle : Result ℤ NumberFault → Result ℤ NumberFault → Result ℤ NumberFault → Result ℤ NumberFault → Result RectView LineCode
-rectangle (Ok x1) (Ok y1) (Ok x2) (Ok y2) = if int_le x1 x2 && int_le y1 y2 then Ok (rect_of x1 y1 x2 y2) else Err Q6
+abbrev pub rectangle : Result ℤ NumberFault → Result ℤ NumberFault → Result ℤ NumberFault
+    → Result ℤ NumberFault → Result RectView LineCode
+rectangle (Ok x1) (Ok y1) (Ok x2) (Ok y2) =
+    if int_le x1 x2 && int_le y1 y2 then Ok (rect_of x1 y1 x2 y2) else Err Q6
 rectangle (Ok x1) (Ok y1) (Ok x2) (Err e) = Err Q5
 rectangle (Ok x1) (Ok y1) (Err e) y2 = Err Q5
 rectangle (Ok x1) (Err e) x2 y2 = Err Q5
@@ -60,7 +62,8 @@ rectangle (Err e) y1 x2 y2 = Err Q5
 
 -- a period of two moments: Q7 where one of them is not read, Q8 where the first is the later
 abbrev pub period_between : Result ℤ TimeFault → Result ℤ TimeFault → Result PeriodView LineCode
-period_between (Ok t1) (Ok t2) = if int_le t1 t2 then Ok (record { start = t1; end = t2 }) else Err Q8
+period_between (Ok t1) (Ok t2) =
+    if int_le t1 t2 then Ok (record { start = t1; end = t2 }) else Err Q8
 period_between (Ok t1) (Err e) = Err Q7
 period_between (Err e) t2 = Err Q7
 
@@ -70,14 +73,17 @@ word_at ws place = slice_index_or ws place []
 
 -- X1 Y1 X2 Y2, behind so many words
 unfoldable pub rect_behind : ℕ → List (List ℕ) → Result RectView LineCode
-rect_behind n ws = rectangle (coord_of (word_at ws n)) (coord_of (word_at ws (n + 1))) (coord_of (word_at ws (n + 2))) (coord_of (word_at ws (n + 3)))
+rect_behind n ws =
+    rectangle (coord_of (word_at ws n)) (coord_of (word_at ws (n + 1)))
+    (coord_of (word_at ws (n + 2))) (coord_of (word_at ws (n + 3)))
 
 -- T1 T2, behind so many words
 unfoldable pub period_behind : ℕ → List (List ℕ) → Result PeriodView LineCode
 period_behind n ws = period_between (moment_of (word_at ws n)) (moment_of (word_at ws (n + 1)))
 
 -- a command of a rectangle and a period
-abbrev pub over : (RectView → PeriodView → Command) → Result RectView LineCode → Result PeriodView LineCode → Result Command LineCode
+abbrev pub over : (RectView → PeriodView → Command) → Result RectView LineCode
+    → Result PeriodView LineCode → Result Command LineCode
 over command (Ok rect) (Ok period) = Ok (command rect period)
 over command (Ok rect) (Err e) = Err e
 over command (Err e) period = Err e
@@ -98,18 +104,23 @@ predicate_of word =
     else None
 
 -- a predicate, a rectangle and a period: Q4 where the predicate is unknown, then the others' codes
-abbrev pub question : Option Predicate → Result RectView LineCode → Result PeriodView LineCode → Result Question LineCode
-question (Some predicate) (Ok rect) (Ok period) = Ok (record { predicate = predicate; rect = rect; period = period })
+abbrev pub question : Option Predicate → Result RectView LineCode → Result PeriodView LineCode
+    → Result Question LineCode
+question (Some predicate) (Ok rect) (Ok period) =
+    Ok (record { predicate = predicate; rect = rect; period = period })
 question (Some predicate) (Ok rect) (Err e) = Err e
 question (Some predicate) (Err e) period = Err e
 question None rect period = Err Q4
 
 -- `PRED X1 Y1 X2 Y2 T1 T2`, behind one word
 unfoldable pub question_of : List (List ℕ) → Result Question LineCode
-question_of ws = if length ws == 8 then question (predicate_of (word_at ws 1)) (rect_behind 2 ws) (period_behind 6 ws) else Err Q3
+question_of ws =
+    if length ws == 8
+    then question (predicate_of (word_at ws 1)) (rect_behind 2 ws) (period_behind 6 ws) else Err Q3
 
 -- a command of a predicate, a rectangle and a period
-abbrev pub tested : (Predicate → RectView → PeriodView → Command) → Result Question LineCode → Result Command LineCode
+abbrev pub tested : (Predicate → RectView → PeriodView → Command) → Result Question LineCode
+    → Result Command LineCode
 tested command (Ok asked) = Ok (command asked.predicate asked.rect asked.period)
 tested command (Err e) = Err e
 

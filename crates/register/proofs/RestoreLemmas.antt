@@ -20,7 +20,7 @@ use Rattle.register.specs.declared.header_fields.Fields.{Fields}
 use Rattle.pagecache.specs.Cache.{payload_of, Cache}
 use Rattle.chains.specs.Reads.{OnlyReads}
 use Rattle.register.specs.ChainReader.{reader_of, BreaksAt, IsReaderFault, MayBe}
-use Rattle.register.specs.Stopping.{IsMended, IsNamed, KeepsNothing}
+use Rattle.register.specs.Stopping.{IsMended, NamesStop, KeepsNothing}
 use Rattle.register.specs.declared.fault.CatalogueFault.{CatalogueFault}
 use Rattle.register.specs.declared.fault.CatalogueFault.TheVariants.{Memory, StoreFull, Damaged, Unfinished, Version, Malformed}
 use Rattle.register.specs.declared.fault.CatalogueFault.TheVariants as fault
@@ -163,7 +163,7 @@ mended_says at mended count fields m says = record { some = says.some; payload =
 module _ (a b c : Cache) (fields : Fields) (f : IsTrue a.store.is_faithful) (reads : OnlyReads a b) (says : SaysFields a.count (payload_of a 0) fields) where
   pub named_behind : (e : CatalogueFault) → IsReaderFault b c (reader_of fields) e
       → ((at : ℕ → Option Payload) → MayBe b at → BreaksAt at e → (k : CatalogueView) (places : List Place) → IsRest at b.count fields k places → ⊥)
-      → IsNamed (payload_of a) a.count e
+      → NamesStop (payload_of a) a.count e
   named_behind Memory h none = tt
   named_behind fault.Store h none = tt
   named_behind StoreFull h none = tt
@@ -197,7 +197,7 @@ module _ (at : ℕ → Option Payload) (count : ℕ) (faithful : Bool) (f : IsTr
       none fields (subst (λ o. SaysFields count o fields) (m.same 0 here.0 here.1 ∙ sym here.1) says)
 
   pub named_first : (e : CatalogueFault) → ComesFirst (first_fault count (at 0)) e → ((IsStop e → ⊥) → (fields : Fields) → SaysFields count (at 0) fields → ⊥)
-      → ((page : ℕ) → e ≡ Damaged page → page ≡ 0) → IsTrulyDamaged faithful at count e → IsNamed at count e
+      → ((page : ℕ) → e ≡ Damaged page → page ≡ 0) → IsTrulyDamaged faithful at count e → NamesStop at count e
   named_first Memory first none zero damaged = tt
   named_first fault.Store first none zero damaged = tt
   named_first StoreFull first none zero damaged = tt

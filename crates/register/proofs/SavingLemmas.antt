@@ -23,7 +23,7 @@ use Rattle.legs.specs.declared.head.BookHead.{BookHead}
 use Rattle.tbtree.specs.declared.tree.Place.{Place}
 use Rattle.register.specs.Saved.{head_of, CatalogueView}
 use Rattle.register.specs.Text.{HasFeatures, IsHead, IsNumber, IsRow, IsShortText, IsWhole}
-use Rattle.register.specs.Saving.{contents_of, features_of, HasFirst, IsAllowed, IsCatalogue, IsCaused, KeepsTree, Puts, Saves}
+use Rattle.register.specs.Saving.{contents_of, features_of, HasPageZero, IsSavingStop, IsCatalogue, IsCaused, KeepsTree, Puts, Saves}
 use Rattle.register.specs.declared.fault.CatalogueFault.{CatalogueFault}
 use Rattle.register.specs.declared.fault.CatalogueFault.TheVariants.{Memory, Store, StoreFull, Damaged, Unfinished, Version, Malformed}
 
@@ -164,7 +164,7 @@ whole_contents c places head is whole features rows few all =
     })
 
 -- a page 0 that is there is not refused
-pub refused_allowed : (a b : Cache) (e : CacheFault) → IsRefused 0 e a b → IsTrue a.store.is_faithful → 0 < a.count → HasFirst a → IsAllowed (fault_of e)
+pub refused_allowed : (a b : Cache) (e : CacheFault) → IsRefused 0 e a b → IsTrue a.store.is_faithful → 0 < a.count → HasPageZero a → IsSavingStop (fault_of e)
 refused_allowed a b cache.NoPage h f some first = absurd (omega (arith, h.0, some))
 refused_allowed a b cache.Store h f some first = tt
 refused_allowed a b (cache.Damaged n) h f some first = first f (h.1 f)

@@ -9,7 +9,7 @@ use Rattle.pages.specs.Zero.{zero_payload}
 use Rattle.pages.specs.declared.payload.Kind.{Kind}
 use Rattle.pages.specs.declared.payload.Kind.TheVariants.{Header, Catalogue}
 use Rattle.pages.specs.declared.payload.Payload.{Payload}
-use Rattle.pagecache.specs.Cache.{Cache, Adds, AsksOnce, Stays, payload_of}
+use Rattle.pagecache.specs.Cache.{Cache, Adds, AsksOnce, KeepsPayloads, payload_of}
 use Rattle.pagecache.specs.declared.fault.CacheFault.{CacheFault}
 use Rattle.pagecache.specs.declared.fault.CacheFault.TheVariants as cache
 use Rattle.tbnode.specs.Form.{node_of, node_by}
@@ -29,7 +29,7 @@ caused_after a b c cache.StoreFull p h = h
 caused_after a b c cache.Memory p h = tt
 
 -- which pages pass
-pub asks_passes : (a b : Cache) → Stays a b → AsksOnce a b → Passes a b
+pub asks_passes : (a b : Cache) → KeepsPayloads a b → AsksOnce a b → Passes a b
 asks_passes a b s asks = record {
   store = s.keeps.store;
   capacity = s.keeps.capacity;
@@ -85,7 +85,7 @@ spares_then a b c same s t = λ f. same_trans _ _ _ (s f) (t (same ∙ f))
 pub spares_trans : (a b c : Cache) → Passes a b → SparesTree a b → SparesTree b c → SparesTree a c
 spares_trans a b c p s t = spares_then a b c p.store.faithful s t
 
-pub stays_spares : (a b : Cache) → Stays a b → SparesTree a b
+pub stays_spares : (a b : Cache) → KeepsPayloads a b → SparesTree a b
 stays_spares a b s = λ f. record {
   count = (let c = s.count in omega (arith, c));
   held = λ p h e. ((let c = s.count in omega (arith, c, h)), ap (option_map node_of) (sym (s.payloads f p)) ∙ e);
@@ -156,7 +156,7 @@ fills_spares a b n next text v k at l = λ f.
     spared a b n (part_payload next text) (l.writes.payloads f) (node_of-part next text)
     (ap (λ o. node_in (option_map node_of o)) (at f) ∙ node_of-catalogue v k) (sym l.writes.count)
 
-pub stays_stay : (a b : Cache) → Stays a b → PayloadsStay a b
+pub stays_stay : (a b : Cache) → KeepsPayloads a b → PayloadsStay a b
 stays_stay a b s = λ f p v e. s.payloads f p ∙ e
 
 pub adds_stay : (a b : Cache) (w : Payload) → payload_of a a.count ≡ None → Adds w a b → PayloadsStay a b

@@ -16,13 +16,21 @@ use Rattle.register.specs.declared.header_fields.Fields.{Fields}
 
 -- a feature more; 2^64 - 1 stands for any greater number of legs
 abbrev pub with_track : TracksView → List ℕ → Track → TracksView
-with_track tracks name track = record { names = tracks.names ++ name ∷ []; tracks = tracks.tracks ++ track ∷ []; legs = min (tracks.legs + track.legs) (2 ^ 64 - 1); rows = tracks.rows }
+with_track tracks name track =
+    record {
+      names = tracks.names ++ name ∷ [];
+      tracks = tracks.tracks ++ track ∷ [];
+      legs = min (tracks.legs + track.legs) (2 ^ 64 - 1);
+      rows = tracks.rows;
+    }
 
 -- a feature more, which is lawful among so many pages, and has a name of its own
 pub record AddsFeature (count : ℕ) (feature : Feature) (old new : Known) : Type 0 where
   pub lawful : IsLawfulFeature count feature
   pub apart : All (λ n. n ≢ feature.name) old.tracks.names
-  pub tracks : new.tracks ≡ with_track old.tracks feature.name (record { end = feature.kept.end; legs = feature.kept.place.legs })
+  pub tracks : new.tracks
+      ≡ with_track old.tracks feature.name
+      (record { end = feature.kept.end; legs = feature.kept.place.legs })
   pub places : new.places.items ≡ old.places.items ++ feature.kept.place ∷ []
 
 -- features that are lawful among so many pages, and have names of their own
@@ -46,10 +54,12 @@ number_of Three = 3
 
 -- the tree that page 0 says
 abbrev pub tree_of : Fields → TbTree
-tree_of f = record { root = f.root; levels = f.levels; leaves = f.leaves; shape = f.shape; spent = false }
+tree_of f =
+    record { root = f.root; levels = f.levels; leaves = f.leaves; shape = f.shape; spent = false }
 
 -- a lawful catalogue and places are what page 0 of so many pages and the text say
-pub record IsOf (count : ℕ) (fields : Fields) (contents : Option Contents) (c : CatalogueView) (places : List Place) : Type 0 where
+pub record IsOf (count : ℕ) (fields : Fields) (contents : Option Contents) (c : CatalogueView)
+    (places : List Place) : Type 0 where
   pub contents_are : contents_of c places ≡ contents
   pub limits : c.limits ≡ fields.limits
   pub dimension : dimension_of c.head ≡ fields.dimension

@@ -16,7 +16,8 @@ most_used = 4040
 unfoldable pub part_payload : ℕ → List ℕ → Payload
 part_payload next text = record {
   kind = Catalogue;
-  bytes = (big_bytes 4 next ++ (big_bytes 2 (length text) ++ replicate 10 0)) ++ (text ++ replicate (most_used - length text) 0);
+  bytes = (big_bytes 4 next ++ (big_bytes 2 (length text) ++ replicate 10 0))
+      ++ (text ++ replicate (most_used - length text) 0);
 }
 
 abbrev pub is_catalogue : Kind → Bool
@@ -29,7 +30,8 @@ is_catalogue Catalogue = true
 -- what stands behind them may be anything
 unfoldable pub is_part : ℕ → Payload → Bool
 is_part used payload =
-    is_catalogue payload.kind && nat_le (16 + used) (length payload.bytes) && (number_at 2 4 payload.bytes == used)
+    is_catalogue payload.kind && nat_le (16 + used) (length payload.bytes)
+    && (number_at 2 4 payload.bytes == used)
     && ((number_at 2 6 payload.bytes == 0) && (number_at 8 8 payload.bytes == 0))
 
 -- the page after it
@@ -45,7 +47,8 @@ abbrev pub chain_text : (ℕ → Option Payload) → ℕ → ℕ → ℕ → Opt
 chain_text at zero left p = if p == 0 then Some [] else None
 chain_text at (suc n) left p =
     option_and_then (λ payload. cond (is_part (min most_used left) payload)
-    (option_map (λ t. text_in (min most_used left) payload ++ t) (chain_text at n (left - most_used) (next_in payload)))
+    (option_map (λ t. text_in (min most_used left) payload ++ t)
+    (chain_text at n (left - most_used) (next_in payload)))
     None) (at p)
 
 -- the text of that length in the chain of pages from page p on, each of which but the last one is

@@ -57,7 +57,8 @@ abbrev pub IsReadFault : Cache → Cache → CatalogueFault → Type 0
 IsReadFault old new Memory = Unit {0}
 IsReadFault old new Store = Faulted old.store new.store
 IsReadFault old new StoreFull = ⊥
-IsReadFault old new (Damaged page) = IsDamagedPage new.store.is_faithful (payload_of new) new.count page
+IsReadFault old new (Damaged page) =
+    IsDamagedPage new.store.is_faithful (payload_of new) new.count page
 IsReadFault old new Unfinished = ⊥
 IsReadFault old new Version = ⊥
 IsReadFault old new Malformed = Unit {0}
@@ -135,6 +136,7 @@ pub record TakesInto {V T : Type 0} (at : ℕ → Option Payload) (text : V → 
     (is_value is_put : V → Type 0) (old new : Option (List ℕ)) (result : Result T CatalogueFault)
     : Type 0
   where
-    pub taken : IfOk result (λ _. (v : V) × is_put v × is_value v × (old ≡ option_map (λ t. text v ++ t) new))
+    pub taken : IfOk result
+        (λ _. (v : V) × is_put v × is_value v × (old ≡ option_map (λ t. text v ++ t) new))
     pub lacks : IfErr result (λ e. BreaksAt at e → (v : V) (t : List ℕ) → is_value v
         → old ≢ Some (text v ++ t))

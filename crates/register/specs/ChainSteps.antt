@@ -2,7 +2,7 @@
 use Rattle.std.specs.Prelude.{ℕ, ◌≡◌, ◌≢◌, ◌<◌, ◌≤◌, ◌+◌, ◌-◌, ◌^◌, min, false, List, [], ◌∷◌, ◌++◌, length, drop, All, Some, IsTrue}
 use Rattle.pages.specs.declared.payload.Kind.TheVariants.{Catalogue}
 use Rattle.pages.specs.declared.payload.Payload.{Payload}
-use Rattle.pagecache.specs.Cache.{Cache, SameLength, Stays, Writes, is_changed, payload_of}
+use Rattle.pagecache.specs.Cache.{Cache, SameLength, KeepsPayloads, Writes, is_changed, payload_of}
 use Rattle.tbtree.specs.Descent.{IsSameTree}
 use Rattle.tbtree.specs.Nodes.{pages_of_cache}
 use Rattle.tbtree.specs.Passes.{Passes, KeepsLength}
@@ -26,16 +26,20 @@ pub record IsPutBehind (old : List ℕ) (n : ℕ) (new : List ℕ) : Type 0 wher
 
 -- the pages of a tree say what they said
 abbrev pub SparesTree : Cache → Cache → Type 0
-SparesTree old new = IsTrue old.store.is_faithful → IsSameTree (pages_of_cache old) (pages_of_cache new)
+SparesTree old new =
+    IsTrue old.store.is_faithful → IsSameTree (pages_of_cache old) (pages_of_cache new)
 
 -- no page that is there has another payload
 abbrev pub PayloadsStay : Cache → Cache → Type 0
-PayloadsStay old new = IsTrue old.store.is_faithful → (p : ℕ) (payload : Payload) → payload_of old p ≡ Some payload → payload_of new p ≡ Some payload
+PayloadsStay old new =
+    IsTrue old.store.is_faithful → (p : ℕ) (payload : Payload) → payload_of old p ≡ Some payload
+    → payload_of new p ≡ Some payload
 
 -- page n is there, and one of a catalogue
 pub record IsThere (c : Cache) (n : ℕ) : Type 0 where
   pub below : n < c.count
-  pub payload : IsTrue c.store.is_faithful → (payload : Payload) × (payload_of c n ≡ Some payload) × (payload.kind ≡ Catalogue)
+  pub payload : IsTrue c.store.is_faithful
+      → (payload : Payload) × (payload_of c n ≡ Some payload) × (payload.kind ≡ Catalogue)
 
 -- page n is one to write to, and no page that is there has another payload
 pub record Gives (old : Cache) (n : ℕ) (new : Cache) : Type 0 where
@@ -56,7 +60,7 @@ pub record Fills (n : ℕ) (w : Payload) (old new : Cache) : Type 0 where
 
 -- no page has another payload; pages may be asked for more than once
 pub record OnlyAsks (old new : Cache) : Type 0 where
-  pub stays : Stays old new
+  pub stays : KeepsPayloads old new
   pub length : SameLength old new
   pub asked : min old.asked (2 ^ 64 - 1) ≤ new.asked
 
@@ -90,7 +94,8 @@ pub record TakesFew (all taken earlier old new : ℕ) : Type 0 where
   pub count : new ≤ old + ((all - taken) - earlier)
 
 -- the first n bytes that were not written now are
-pub record WritesParts (old : Cache) (v : WriterView) (n : ℕ) (new : Cache) (w : WriterView) : Type 0 where
+pub record WritesParts (old : Cache) (v : WriterView) (n : ℕ) (new : Cache)
+    (w : WriterView) : Type 0 where
   pub text : w.text ≡ v.text
   pub holds : (text : List ℕ) → Holds old v text → Holds new (behind n w) text
   pub passes : Passes old new

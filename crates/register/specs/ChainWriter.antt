@@ -32,7 +32,8 @@ pub record IsOwn (at : ℕ → Option Payload) (p : ℕ) : Type 0 where
 
 -- the text so far is what the pages have and what is not written yet, of which there is some where
 -- a page is full; the pages are there, and no two are one
-pub record HoldsText (at : ℕ → Option Payload) (count : ℕ) (w : WriterView) (text : List ℕ) : Type 0 where
+pub record HoldsText (at : ℕ → Option Payload) (count : ℕ) (w : WriterView)
+    (text : List ℕ) : Type 0 where
   pub written : List ℕ
   pub all : text ≡ written ++ w.text
   pub left : 0 < length written → 0 < length w.text
@@ -46,7 +47,9 @@ Holds c w text = IsTrue c.store.is_faithful → HoldsText (payload_of c) c.count
 
 -- the text of that length is in the chain from page n on, whatever page 0 has
 abbrev pub HasText : Cache → ℕ → ℕ → List ℕ → Type 0
-HasText c length n text = (at : ℕ → Option Payload) → ((p : ℕ) → 0 < p → at p ≡ payload_of c p) → text_at at length n ≡ Some text
+HasText c length n text =
+    (at : ℕ → Option Payload) → ((p : ℕ) → 0 < p → at p ≡ payload_of c p)
+    → text_at at length n ≡ Some text
 
 -- the refusals over a faithful store
 abbrev pub IsAllowed : CacheFault → Type 0

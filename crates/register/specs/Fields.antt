@@ -11,7 +11,9 @@ use Rattle.register.specs.declared.header_fields.Fields.{Fields}
 -- first page of the catalogue, in four, and the length of its text, in eight; and the dimension
 unfoldable pub fields_bytes : Fields → List ℕ
 fields_bytes f =
-    big_bytes 2 f.shape.leaf ++ (big_bytes 2 f.shape.inner ++ (big_bytes 8 f.limits.legs ++ (big_bytes 8 f.limits.features
+    big_bytes 2 f.shape.leaf
+    ++ (big_bytes 2 f.shape.inner
+    ++ (big_bytes 8 f.limits.legs ++ (big_bytes 8 f.limits.features
     ++ (big_bytes 4 f.root ++ (big_bytes 4 f.levels ++ (big_bytes 4 f.leaves
     ++ (big_bytes 4 f.first ++ (big_bytes 8 f.length ++ big_bytes 4 f.dimension))))))))
 

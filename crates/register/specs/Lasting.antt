@@ -31,13 +31,15 @@ is_header Catalogue = false
 
 -- what is wrong with the state of a store: 0 is unfinished, 1 is finished
 abbrev pub state_fault : ℕ → Option CatalogueFault
-state_fault state = if state == 0 then Some Unfinished else (if state == 1 then None else Some Malformed)
+state_fault state =
+    if state == 0 then Some Unfinished else (if state == 1 then None else Some Malformed)
 
 -- with the header of a store: it begins with the letters MFTB, version 2 and the state
 unfoldable pub header_fault : Payload → Option CatalogueFault
 header_fault payload =
     if is_header payload.kind && (number_at 4 0 payload.bytes == 1296454722)
-    then (if number_at 4 4 payload.bytes == 2 then state_fault (number_at 4 8 payload.bytes) else Some Version)
+    then (if number_at 4 4 payload.bytes == 2 then state_fault (number_at 4 8 payload.bytes)
+    else Some Version)
     else Some Malformed
 
 -- with page 0: a store has one, and it has a payload
@@ -136,7 +138,8 @@ pub record IsLawful (count : ℕ) (c : CatalogueView) (places : List Place) : Ty
 
 -- page 0 of so many pages says the limits, the tree and where the text of a catalogue is, and the
 -- text is there
-pub record Says (at : ℕ → Option Payload) (count : ℕ) (c : CatalogueView) (tree : TbTree) (places : List Place) : Type 0 where
+pub record Says (at : ℕ → Option Payload) (count : ℕ) (c : CatalogueView) (tree : TbTree)
+    (places : List Place) : Type 0 where
   pub first : ℕ
   pub length : ℕ
   pub payload : Payload
@@ -150,7 +153,8 @@ pub record Says (at : ℕ → Option Payload) (count : ℕ) (c : CatalogueView) 
 
 -- the pages of a finished store keep a catalogue, a tree and the places of its features; in the
 -- text of the catalogue all fits, and each row has a value for each column
-pub record IsKept (at : ℕ → Option Payload) (count : ℕ) (c : CatalogueView) (tree : TbTree) (places : List Place) : Type 0 where
+pub record IsKept (at : ℕ → Option Payload) (count : ℕ) (c : CatalogueView) (tree : TbTree)
+    (places : List Place) : Type 0 where
   pub says : Says at count c tree places
   pub whole : IsWhole (contents_of c places)
   pub finished : payload_fault (at 0) ≡ None
@@ -159,7 +163,8 @@ pub record IsKept (at : ℕ → Option Payload) (count : ℕ) (c : CatalogueView
   pub lawful : IsLawful count c places
 
 -- catalogues, trees and places are one
-pub record IsSame (c d : CatalogueView) (tree other : TbTree) (places others : List Place) : Type 0 where
+pub record IsSame (c d : CatalogueView) (tree other : TbTree)
+    (places others : List Place) : Type 0 where
   pub catalogue : c ≡ d
   pub tree_is : tree ≡ other
   pub places_are : places ≡ others

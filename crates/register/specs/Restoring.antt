@@ -41,13 +41,15 @@ pub record IsHeaderFault (payload : Payload) (fault : CatalogueFault) : Type 0 w
   pub none : (fields : Fields) → HeaderSays payload fields → ⊥
 
 -- the text of a whole catalogue stands there, in no more pages than there are
-pub record HoldsContents (at : ℕ → Option Payload) (count first length : ℕ) (contents : Option Contents) : Type 0 where
+pub record HoldsContents (at : ℕ → Option Payload) (count first length : ℕ)
+    (contents : Option Contents) : Type 0 where
   pub few : div_ceil length most_used ≤ count
   pub text : text_at at length first ≡ Some (catalogue_text contents)
   pub whole : IsWhole contents
 
 -- behind page 0: the tree is within the pages, and the text says a lawful catalogue and places
-pub record IsRest (at : ℕ → Option Payload) (count : ℕ) (fields : Fields) (c : CatalogueView) (places : List Place) : Type 0 where
+pub record IsRest (at : ℕ → Option Payload) (count : ℕ) (fields : Fields) (c : CatalogueView)
+    (places : List Place) : Type 0 where
   pub within : IsWithin count (tree_of fields)
   pub contents : Option Contents
   pub holds : HoldsContents at count fields.first fields.length contents

@@ -21,7 +21,8 @@ pub record CatalogueView : Type 0 where
 
 -- what is kept of a head beside its dimension, which stands in the header
 abbrev pub head_of : BookHead → Head
-head_of head = record { base = head.base; space = record { crs = head.crs; columns = head.columns } }
+head_of head =
+    record { base = head.base; space = record { crs = head.crs; columns = head.columns } }
 
 -- how many dimensions a database has; 2 where no file was accepted
 abbrev pub dimension_of : Option BookHead → ℕ

@@ -30,7 +30,10 @@ end_of (Some track) = track.end
 unfoldable pub feature_at : TracksView → List Place → ℕ → Feature
 feature_at tracks places feature = record {
   name = unwrap_or (slice_get tracks.names feature) [];
-  kept = record { end = end_of (slice_get tracks.tracks feature); place = unwrap_or (slice_get places feature) no_place };
+  kept = record {
+    end = end_of (slice_get tracks.tracks feature);
+    place = unwrap_or (slice_get places feature) no_place;
+  };
 }
 
 -- the features of a database
@@ -39,7 +42,12 @@ features_of tracks places = map (feature_at tracks places) (range_with_len 0 (le
 
 -- what the text of a catalogue says
 abbrev pub contents_of : CatalogueView → List Place → Option Contents
-contents_of c places = option_map (λ head. record { head = head_of head; lists = record { features = features_of c.tracks places; rows = c.rows } }) c.head
+contents_of c places =
+    option_map (λ head.
+    record {
+      head = head_of head;
+      lists = record { features = features_of c.tracks places; rows = c.rows };
+    }) c.head
 
 -- there are as few features and rows as four bytes can say
 pub record HasFew (c : CatalogueView) : Type 0 where
@@ -49,17 +57,18 @@ pub record HasFew (c : CatalogueView) : Type 0 where
 -- and each row has a value for each column
 pub record IsCatalogue (c : CatalogueView) : Type 0 where
   pub few : HasFew c
-  pub rows : (head : BookHead) → c.head ≡ Some head → All (λ row. length row ≡ length head.columns) c.rows
+  pub rows : (head : BookHead) → c.head ≡ Some head
+      → All (λ row. length row ≡ length head.columns) c.rows
 
 -- the refusals over pages that are sound
-abbrev pub IsAllowed : CatalogueFault → Type 0
-IsAllowed Memory = Unit {0}
-IsAllowed Store = Unit {0}
-IsAllowed StoreFull = Unit {0}
-IsAllowed (Damaged page) = ⊥
-IsAllowed Unfinished = ⊥
-IsAllowed Version = ⊥
-IsAllowed Malformed = ⊥
+abbrev pub IsSavingStop : CatalogueFault → Type 0
+IsSavingStop Memory = Unit {0}
+IsSavingStop Store = Unit {0}
+IsSavingStop StoreFull = Unit {0}
+IsSavingStop (Damaged page) = ⊥
+IsSavingStop Unfinished = ⊥
+IsSavingStop Version = ⊥
+IsSavingStop Malformed = ⊥
 
 -- the store failed where that is said, and is full where that is said
 abbrev pub IsCaused : Cache → Cache → CatalogueFault → Type 0
@@ -82,7 +91,8 @@ IsNotWritten old new Version = ⊥
 IsNotWritten old new Malformed = ⊥
 
 -- these bytes are put at the end of a text, of which some pages may be written
-pub record Puts (bytes : List ℕ) (old new : Cache) (w v : WriterView) (result : Result (Unit {0}) CatalogueFault) : Type 0 where
+pub record Puts (bytes : List ℕ) (old new : Cache) (w v : WriterView)
+    (result : Result (Unit {0}) CatalogueFault) : Type 0 where
   pub passes : Passes old new
   pub holds : OnOk result ((text : List ℕ) → Holds old w text → Holds new v (text ++ bytes))
   pub length : OnOk result (KeepsLength old new)
@@ -91,13 +101,15 @@ pub record Puts (bytes : List ℕ) (old new : Cache) (w v : WriterView) (result 
   pub caused : IfErr result (IsCaused old new)
 
 -- and they are refused for want of memory or by the store alone
-pub record Saves (bytes : List ℕ) (old new : Cache) (w v : WriterView) (result : Result (Unit {0}) CatalogueFault) : Type 0 where
+pub record Saves (bytes : List ℕ) (old new : Cache) (w v : WriterView)
+    (result : Result (Unit {0}) CatalogueFault) : Type 0 where
   pub puts : Puts bytes old new w v result
-  pub only : (text : List ℕ) → Holds old w text → IsTrue old.store.is_faithful → IfErr result IsAllowed
+  pub only : (text : List ℕ) → Holds old w text → IsTrue old.store.is_faithful
+      → IfErr result IsSavingStop
 
 -- page 0 has a payload
-abbrev pub HasFirst : Cache → Type 0
-HasFirst c = IsTrue c.store.is_faithful → payload_of c 0 ≢ None
+abbrev pub HasPageZero : Cache → Type 0
+HasPageZero c = IsTrue c.store.is_faithful → payload_of c 0 ≢ None
 
 -- page 0 says these fields, and begins and ends as it did; no other page has another payload
 pub record PutsFields (fields : Fields) (old new : Cache) : Type 0 where

@@ -20,8 +20,8 @@ pub record StopsInText (at : ℕ → Option Payload) (count n : ℕ) : Type 0 wh
 
 -- reading stops at page n, which has no payload: it is page 0, or the first such page along the
 -- text
-abbrev pub StopsAt : (ℕ → Option Payload) → ℕ → ℕ → Type 0
-StopsAt at count n = ((n ≡ 0) × (at 0 ≡ None)) ⊎ StopsInText at count n
+abbrev pub ReadStopsAt : (ℕ → Option Payload) → ℕ → ℕ → Type 0
+ReadStopsAt at count n = ((n ≡ 0) × (at 0 ≡ None)) ⊎ StopsInText at count n
 
 -- these are the same pages, so many, but for those without a payload, which may have any
 pub record IsMended (at : ℕ → Option Payload) (count : ℕ) (mended : ℕ → Option Payload) : Type 0
@@ -38,11 +38,11 @@ KeepsNothing at count =
 
 -- the page that is said to be damaged is the one at which reading stops; pages that are said to be
 -- malformed keep nothing, whatever stands in the damaged ones
-abbrev pub IsNamed : (ℕ → Option Payload) → ℕ → CatalogueFault → Type 0
-IsNamed at count Memory = Unit {0}
-IsNamed at count Store = Unit {0}
-IsNamed at count StoreFull = Unit {0}
-IsNamed at count (Damaged page) = StopsAt at count page
-IsNamed at count Unfinished = Unit {0}
-IsNamed at count Version = Unit {0}
-IsNamed at count Malformed = KeepsNothing at count
+abbrev pub NamesStop : (ℕ → Option Payload) → ℕ → CatalogueFault → Type 0
+NamesStop at count Memory = Unit {0}
+NamesStop at count Store = Unit {0}
+NamesStop at count StoreFull = Unit {0}
+NamesStop at count (Damaged page) = ReadStopsAt at count page
+NamesStop at count Unfinished = Unit {0}
+NamesStop at count Version = Unit {0}
+NamesStop at count Malformed = KeepsNothing at count

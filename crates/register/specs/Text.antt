@@ -37,7 +37,9 @@ head_text head = signed_bytes head.base ++ space_text head.space
 unfoldable pub kept_text : Kept → List ℕ
 kept_text kept =
     signed_bytes kept.end
-    ++ (big_bytes 4 kept.place.first ++ (big_bytes 4 kept.place.last ++ (big_bytes 4 kept.place.last_index ++ big_bytes 8 kept.place.legs)))
+    ++ (big_bytes 4 kept.place.first
+    ++ (big_bytes 4 kept.place.last
+    ++ (big_bytes 4 kept.place.last_index ++ big_bytes 8 kept.place.legs)))
 
 -- a feature: its name, and what is kept of it
 abbrev pub feature_text : Feature → List ℕ

@@ -70,7 +70,8 @@ impl Model for ChainReader {
 
     ghost Value = { ReaderView };
 
-    ghost view = { λ a. record { next = a.next; left = a.left; bytes = drop a.taken a.bytes.items } };
+    ghost view = { λ a.
+        record { next = a.next; left = a.left; bytes = drop a.taken a.bytes.items } };
 
     ghost invariant = { λ a. a.taken ≤ length a.bytes.items };
 }

@@ -2,7 +2,7 @@
 ghost use Rattle.std.specs.Prelude.{ℕ, ◌≡◌, ◌+◌, ◌<◌, ◌≤◌, ◌++◌, ◌∷◌, [], false, length, List, nat_eq, All, OnOk, OnErr, IfOk, IfErr, IfSome, IsTrue, ◌↔◌, None, Some};
 ghost use Rattle.pages.specs.declared.payload.Kind.TheVariants.{Catalogue};
 ghost use Rattle.pages.specs.Zero.{zero_payload};
-ghost use Rattle.pagecache.specs.Cache.{payload_of, Adds, AsksOnce, IsNotAdded, IsRefused, Lends, Rests, Stays};
+ghost use Rattle.pagecache.specs.Cache.{payload_of, Adds, AsksOnce, IsNotAdded, IsRefused, Lends, Rests, KeepsPayloads};
 ghost use Rattle.tbtree.specs.Passes.{Passes, KeepsLength};
 ghost use Rattle.indexmap.specs.IndexSet.{insert_key, contains, spare};
 ghost use Rattle.pages.specs.declared.payload.Payload.{Payload};
@@ -162,7 +162,7 @@ fn add_zeros<S: PageStore>(cache: &mut PageCache<S>) -> Result<u32, CacheFault>
     ensures none_before { payload_of cache.old cache.old.count ≡ None }
     ensures length { OnOk result (cache.old.count ≡ cache.old.store.count
         → cache.new.count ≡ cache.new.store.count) }
-    ensures refused { OnErr result (Stays cache.old cache.new) }
+    ensures refused { OnErr result (KeepsPayloads cache.old cache.new) }
     ensures asks { AsksOnce cache.old cache.new }
     ensures cause { IfErr result (λ fault. IsNotAdded fault cache.old cache.new) }
 {

@@ -123,7 +123,8 @@ pub(crate) fn push_feature(
     kept: &Kept,
 ) -> Result<(), AllocError>
     ensures pushed { OnOk result (writer.new
-        ≡ record writer.old { text = writer.old.text ++ (short_text name.now ++ kept_text kept.now) }) }
+        ≡ record writer.old
+        { text = writer.old.text ++ (short_text name.now ++ kept_text kept.now) }) }
     ensures whole { OnOk result (IsShortText name.now × IsKept kept.now) }
 {
     push_text(writer, name)?;

@@ -10,7 +10,7 @@ ghost use Rattle.register.specs.ChainReader.{reader_of, BreaksAt, IsReaderFault,
 ghost use Rattle.register.specs.Building.{tree_of};
 ghost use Rattle.register.specs.Lasting.{first_fault, ComesFirst, IsKept, IsReadingFault, IsStop, IsTrulyDamaged};
 ghost use Rattle.register.specs.Restoring.{HoldsContents, IsRest};
-ghost use Rattle.register.specs.Stopping.{IsNamed};
+ghost use Rattle.register.specs.Stopping.{NamesStop};
 ghost use Rattle.register.specs.Saved.{CatalogueView};
 ghost use Rattle.register.specs.Text.{AreFew};
 ghost use Rattle.tbtree.specs.declared.tree.Place.{Place};
@@ -128,7 +128,7 @@ pub fn read_back<S: PageStore>(
     ensures damaged { IfErr result (IsTrulyDamaged cache.old.store.is_faithful
         (payload_of cache.old) cache.old.count) }
     ensures named { IfErr result (λ e. IsTrue cache.old.store.is_faithful
-        → IsNamed (payload_of cache.old) cache.old.count e) }
+        → NamesStop (payload_of cache.old) cache.old.count e) }
 {
     let fields = read_header(cache)?;
     let (catalogue, places) = read_rest(alloc, keys, cache, &fields)?;

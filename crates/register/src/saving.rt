@@ -2,7 +2,7 @@
 ghost use Rattle.std.specs.Prelude.{List, ℕ, ◌≡◌, ◌<◌, ◌≤◌, ◌^◌, ◌++◌, ◌∷◌, [], length, slice_get, unwrap_or, false, All, IfErr, IfOk, IsErrOf, IsOk, IsTrue, OnErr, OnOk, Some};
 ghost use Rattle.std.specs.Int.{div_ceil};
 ghost use Rattle.pages.specs.Store.{IsSynced};
-ghost use Rattle.pagecache.specs.Cache.{is_changed, page_of, payload_of, IsClean, IsWritten, Rests, SameLength, Stays};
+ghost use Rattle.pagecache.specs.Cache.{is_changed, page_of, payload_of, IsClean, IsWritten, Rests, SameLength, KeepsPayloads};
 ghost use Rattle.pages.specs.declared.payload.Payload.{Payload};
 ghost use Rattle.tbnode.specs.Parts.{number_at};
 ghost use Rattle.register.specs.Chain.{most_used};
@@ -18,7 +18,7 @@ ghost use Rattle.register.specs.Fields.{FitsFields};
 ghost use Rattle.register.specs.ChainSteps.{IsAhead, SparesTree};
 ghost use Rattle.register.specs.Earlier.{AddsFew, AreEarlier};
 ghost use Rattle.register.specs.Saved.{dimension_of, fields_for, head_of, Continues, IsWrittenButFirst, KeepsFront};
-ghost use Rattle.register.specs.Saving.{contents_of, end_of, feature_at, features_of, HasFew, HasFirst, IsAllowed, IsCatalogue, IsCaused, IsNotWritten, KeepsTree, Puts, PutsFields, Saves};
+ghost use Rattle.register.specs.Saving.{contents_of, end_of, feature_at, features_of, HasFew, HasPageZero, IsSavingStop, IsCatalogue, IsCaused, IsNotWritten, KeepsTree, Puts, PutsFields, Saves};
 ghost use Rattle.register.specs.declared.fault.CatalogueFault.TheVariants.{Malformed};
 ghost use Rattle.register.specs.Text.{catalogue_text, feature_text, features_text, head_text, lists_text, row_text, rows_text, HasFeatures, IsFeature, IsHead, IsNumber, IsShortText, IsWhole};
 
@@ -56,7 +56,8 @@ impl Model for Catalogue {
 
     ghost Value = { CatalogueView };
 
-    ghost view = { λ a. record { head = a.head; limits = a.limits; tracks = a.tracks; rows = a.rows } };
+    ghost view = { λ a.
+        record { head = a.head; limits = a.limits; tracks = a.tracks; rows = a.rows } };
 }
 
 /// Writes the pages that the text fills.
@@ -227,7 +228,7 @@ fn write_lists<S: PageStore>(
         cache.old cache.new writer.old writer.new result }
     ensures only { length tracks.now.names < 2 ^ 32 → length rows.now < 2 ^ 32 → (text : List ℕ)
         → Holds cache.old writer.old text → IsTrue cache.old.store.is_faithful
-        → IfErr result IsAllowed }
+        → IfErr result IsSavingStop }
     ensures features { OnOk result (HasFeatures (features_of tracks.now places.now)) }
     ensures rows { OnOk result (All (All IsShortText) rows.now) }
     ensures few { OnOk result (IsNumber 32 (length rows.now)) }
@@ -249,7 +250,7 @@ fn write_catalogue<S: PageStore>(
     ensures puts { Puts (catalogue_text (contents_of catalogue.now places.now))
         cache.old cache.new writer.old writer.new result }
     ensures only { HasFew catalogue.now → (text : List ℕ) → Holds cache.old writer.old text
-        → IsTrue cache.old.store.is_faithful → IfErr result IsAllowed }
+        → IsTrue cache.old.store.is_faithful → IfErr result IsSavingStop }
     ensures whole { OnOk result (IsCatalogue catalogue.now
         → IsWhole (contents_of catalogue.now places.now)) }
 {
@@ -272,7 +273,7 @@ fn earlier_page<S: PageStore>(cache: &mut PageCache<S>) -> Result<u32, Catalogue
     ensures some { OnOk result (0 < cache.old.count) }
     ensures reads { OnlyReads cache.old cache.new }
     ensures only { IsTrue cache.old.store.is_faithful → 0 < cache.old.count
-        → HasFirst cache.old → IfErr result IsAllowed }
+        → HasPageZero cache.old → IfErr result IsSavingStop }
     ensures caused { IfErr result (IsCaused cache.old cache.new) }
 {
     match cache.page(0) {
@@ -295,7 +296,7 @@ fn write_fields<S: PageStore>(
         → is_changed cache.old 0 ≡ false
         → page_of cache.new 0 ≡ page_of cache.old 0 }
     ensures only { IsTrue cache.old.store.is_faithful → 0 < cache.old.count
-        → HasFirst cache.old → IfErr result IsAllowed }
+        → HasPageZero cache.old → IfErr result IsSavingStop }
     ensures caused { IfErr result (IsCaused cache.old cache.new) }
 {
     match cache.page_mut(0) {
@@ -329,7 +330,7 @@ fn write_chain<S: PageStore>(
     ensures whole { OnOk result (IsCatalogue catalogue.now
         → IsWhole (contents_of catalogue.now places.now)) }
     ensures only { HasFew catalogue.now → IsTrue cache.old.store.is_faithful
-        → IfErr result IsAllowed }
+        → IfErr result IsSavingStop }
     ensures caused { IfErr result (IsCaused cache.old cache.new) }
 {
     let keys = catalogue.tracks.keys();
@@ -348,7 +349,7 @@ fn write_chain<S: PageStore>(
 pub fn write_all<S: PageStore>(cache: &mut PageCache<S>) -> Result<(), CatalogueFault>
     ensures written { OnOk result (IsWritten cache.new) }
     ensures synced { OnOk result (IsSynced cache.new.store) }
-    ensures stays { Stays cache.old cache.new }
+    ensures stays { KeepsPayloads cache.old cache.new }
     ensures length { SameLength cache.old cache.new }
     ensures asked { cache.new.asked ≡ cache.old.asked }
     ensures reads { OnlyReads cache.old cache.new }
@@ -385,7 +386,7 @@ fn write_whole<S: PageStore>(
     ensures written { OnOk result (IsClean cache.new) }
     ensures synced { OnOk result (IsSynced cache.new.store) }
     ensures only { HasFew catalogue.now → IsTrue cache.old.store.is_faithful
-        → IfErr result IsAllowed }
+        → IfErr result IsSavingStop }
     ensures caused { IfErr result (IsCaused cache.old cache.new) }
 {
     let chain = write_chain(alloc, catalogue, places, cache, earlier)?;
@@ -457,7 +458,7 @@ pub fn keep<S: PageStore>(
     ensures written { OnOk result (IsWrittenButFirst cache.new) }
     ensures synced { OnOk result (IsSynced cache.new.store) }
     ensures only { HasFew catalogue.now → IsTrue cache.old.store.is_faithful
-        → 0 < cache.old.count → HasFirst cache.old → IfErr result IsAllowed }
+        → 0 < cache.old.count → HasPageZero cache.old → IfErr result IsSavingStop }
     ensures caused { IfErr result (IsCaused cache.old cache.new) }
 {
     let earlier = earlier_page(cache)?;

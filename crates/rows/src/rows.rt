@@ -80,7 +80,8 @@ fn push_fields(values: &mut ByteRecord, others: &ByteRecord) -> Result<(), Alloc
 /// Puts places behind others, where that many values stand before theirs.
 fn push_places(places: &mut Vec<Place>, others: &[Place], before: usize) -> Result<(), AllocError>
     requires { All (λ (place : Place). before + place.first < 2 ^ 64) others.now }
-    ensures pushed { OnOk result (places.new.items ≡ places.old.items ++ map (moved before) others.now) }
+    ensures pushed { OnOk result
+        (places.new.items ≡ places.old.items ++ map (moved before) others.now) }
     ensures more { (some : List Place) × (places.new.items ≡ places.old.items ++ some) }
 {
     for place in others {

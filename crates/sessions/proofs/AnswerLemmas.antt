@@ -10,10 +10,10 @@ use Rattle.pages.specs.Store.{Store}
 use Rattle.boxsearch.specs.Index.{words}
 use Rattle.catalogue.specs.Holding.{HoldsBook, IsUnfinishedStore}
 use Rattle.catalogue.specs.Beginning.{IsLeftOver}
-use Rattle.trajdb.specs.Calls.{IsLoadFault, KeepsPages, Leaves}
-use Rattle.trajdb.specs.Db.{DbView, HasPages, IsAllowed, IsSound}
+use Rattle.trajdb.specs.Calls.{IsLoadFault, KeepsPages, LeavesBook}
+use Rattle.trajdb.specs.Db.{DbView, HasPages, IsAllowed, IsSoundDb}
 use Rattle.trajdb.specs.Lasting.{HasBook, IsClosingFault, IsFaultless, IsIdle}
-use Rattle.trajdb.specs.Faults.{IsInside}
+use Rattle.trajdb.specs.Faults.{IsNotOutput}
 use Rattle.trajdb.specs.Run.{HasCutRun, HasRun, HasStopped, IsCut, IsRunText, Runs, Stops}
 use Rattle.trajdb.specs.declared.OpenFault.{OpenFault}
 use Rattle.trajdb.specs.declared.OpenFault.TheVariants as opening
@@ -29,9 +29,9 @@ the_same x y e = cc
 
 -- a run that is answered, and a database that is closed then
 pub answered : (old new : DbView) (s : Store) (files : List (List ℕ × List ℕ)) (sent sent' : Option (List ℕ)) (lines : List (List ℕ)) (r : Result (Unit {0}) RunFault)
-    → (IsSound old → Runs files sent sent' old new lines) → (IsSound old → IsSound new) → KeepsPages words old new → (IsIdle old → IsIdle new) → new.limits ≡ old.limits → words.plan new.index ≡ words.plan old.index
-    → OnOk r (IsSound new → HasPages new → IsIdle new → HoldsBook s new.index.tree.shape new.limits new.book)
-    → OnOk r (IsSound old → HasPages old → IsIdle old → Answers old.index.tree.shape old.limits old.book files sent sent' lines s)
+    → (IsSoundDb old → Runs files sent sent' old new lines) → (IsSoundDb old → IsSoundDb new) → KeepsPages words old new → (IsIdle old → IsIdle new) → new.limits ≡ old.limits → words.plan new.index ≡ words.plan old.index
+    → OnOk r (IsSoundDb new → HasPages new → IsIdle new → HoldsBook s new.index.tree.shape new.limits new.book)
+    → OnOk r (IsSoundDb old → HasPages old → IsIdle old → Answers old.index.tree.shape old.limits old.book files sent sent' lines s)
 answered old new s files sent sent' lines (Ok x) runs sound keeps idle limits plan holds = λ is pages rests. record {
   after = new.book;
   run = runs is;
@@ -64,8 +64,8 @@ module _ (old new : DbView) (files : List (List ℕ × List ℕ)) (sent sent' : 
   stopped : Stops files sent sent' old new lines → SendsFront old.limits old.book files sent sent' lines
   stopped s = front_stopped old.limits old.book new.book files sent sent' lines new.failed s.0 s.1
 
-  pub front_sent : (e : RunFault) → (IsErrOf {T = Unit {0}} {E = RunFault} (Err e) run.Output → IsSound old → IsCut files sent sent' old new lines) → (IsInside e → old.failed ≡ false → IsSound old → Stops files sent sent' old new lines)
-      → IsSound old → old.failed ≡ false → SendsFront old.limits old.book files sent sent' lines
+  pub front_sent : (e : RunFault) → (IsErrOf {T = Unit {0}} {E = RunFault} (Err e) run.Output → IsSoundDb old → IsCut files sent sent' old new lines) → (IsNotOutput e → old.failed ≡ false → IsSoundDb old → Stops files sent sent' old new lines)
+      → IsSoundDb old → old.failed ≡ false → SendsFront old.limits old.book files sent sent' lines
   front_sent run.Memory cut stops sound lives = stopped (stops tt lives sound)
   front_sent run.Store cut stops sound lives = stopped (stops tt lives sound)
   front_sent (run.Damaged page) cut stops sound lives = stopped (stops tt lives sound)
@@ -94,7 +94,7 @@ more_known P Q (Ok x) f h = f x h
 more_known P Q (Err e) f h = tt
 
 -- a new database has the empty book
-pub created : {E : Type 0} (r : Result DbView E) (shape : ShapeView) (limits : LimitsView) (faithful : Type 0) → IfOk r (λ db. words.plan db.index ≡ Some shape) → IfOk r (λ db. faithful → IsSound db) → IfOk r (λ db. db.book ≡ empty_book) → IfOk r (λ db. db.limits ≡ limits)
+pub created : {E : Type 0} (r : Result DbView E) (shape : ShapeView) (limits : LimitsView) (faithful : Type 0) → IfOk r (λ db. words.plan db.index ≡ Some shape) → IfOk r (λ db. faithful → IsSoundDb db) → IfOk r (λ db. db.book ≡ empty_book) → IfOk r (λ db. db.limits ≡ limits)
     → IfOk r (λ db. faithful → HasBook shape limits empty_book db)
 created (Ok db) shape limits faithful plan sound book is = λ f. record { sound = sound f; shape_is = the_same db.index.tree.shape shape plan; book_is = book; limits_are = is }
 created (Err e) shape limits faithful plan sound book is = tt
@@ -105,7 +105,7 @@ given P (Ok x) s is h = subst (λ k. OnOk k P) is h
 given P (Err e) s is h = tt
 
 -- a database that was opened and checked, and is closed then
-module _ (old new : DbView) (s : Store) (leaves : Leaves words old new) (rests : IsIdle old → IsIdle new) (same : new.failed ≡ false → new.begun ≡ false → s ≡ new.index.cache.store) where
+module _ (old new : DbView) (s : Store) (leaves : LeavesBook words old new) (rests : IsIdle old → IsIdle new) (same : new.failed ≡ false → new.begun ≡ false → s ≡ new.index.cache.store) where
   shape_same : new.index.tree.shape ≡ old.index.tree.shape
   shape_same = the_same new.index.tree.shape old.index.tree.shape leaves.index.later.plan
 
@@ -115,8 +115,8 @@ module _ (old new : DbView) (s : Store) (leaves : Leaves words old new) (rests :
       (subst (λ l. HoldsBook s old.index.tree.shape l new.book) leaves.limits
       (subst (λ k. HoldsBook s k new.limits new.book) shape_same h))
 
-  pub checks : (report : Report) → new.failed ≡ false → (IsSound new → HasPages new → IsIdle new → HoldsBook s new.index.tree.shape new.limits new.book)
-      → (IsTrue old.index.cache.store.is_faithful → IsSound new) → (IsTrue old.index.cache.store.is_faithful → HasPages new) → (IsTrue old.index.cache.store.is_faithful → Reports new report)
+  pub checks : (report : Report) → new.failed ≡ false → (IsSoundDb new → HasPages new → IsIdle new → HoldsBook s new.index.tree.shape new.limits new.book)
+      → (IsTrue old.index.cache.store.is_faithful → IsSoundDb new) → (IsTrue old.index.cache.store.is_faithful → HasPages new) → (IsTrue old.index.cache.store.is_faithful → Reports new report)
       → IsTrue old.index.cache.store.is_faithful → IsIdle old → old.begun ≡ false → Checks s old.index.tree.shape old.limits old.book report
   checks report lives holds sound pages reports fa idle unbegun =
       let r = reports fa in
@@ -127,18 +127,18 @@ module _ (old new : DbView) (s : Store) (leaves : Leaves words old new) (rests :
         features = r.features ∙ ap (λ (b : Book). length b.names) leaves.book;
       }
 
-  pub keeps : {E : Type 0} (closed : Result (Unit {0}) E) → OnOk closed (IsSound new → HasPages new → IsIdle new → HoldsBook s new.index.tree.shape new.limits new.book) → (new.failed ≡ false → new.begun ≡ false → closed ≡ Ok tt)
-      → KeepsPages words old new → IsSound old → HasPages old → IsIdle old → old.begun ≡ false → old.failed ≡ false → HoldsBook s old.index.tree.shape old.limits old.book
+  pub keeps : {E : Type 0} (closed : Result (Unit {0}) E) → OnOk closed (IsSoundDb new → HasPages new → IsIdle new → HoldsBook s new.index.tree.shape new.limits new.book) → (new.failed ≡ false → new.begun ≡ false → closed ≡ Ok tt)
+      → KeepsPages words old new → IsSoundDb old → HasPages old → IsIdle old → old.begun ≡ false → old.failed ≡ false → HoldsBook s old.index.tree.shape old.limits old.book
   keeps closed holds idle pages sound has rest unbegun lives =
       let e = idle (leaves.failed ∙ lives) (leaves.begun ∙ unbegun) in
-      let h = subst (λ r. OnOk r (IsSound new → HasPages new → IsIdle new → HoldsBook s new.index.tree.shape new.limits new.book)) e holds in
+      let h = subst (λ r. OnOk r (IsSoundDb new → HasPages new → IsIdle new → HoldsBook s new.index.tree.shape new.limits new.book)) e holds in
       still_holds (h (leaves.sound sound) (pages.pages sound has) (rests rest))
 
 -- a database that was made with a book and is closed leaves a store that holds it
-pub closed_book : (db : DbView) (s : Store) (ran : Result (Unit {0}) RunFault) → OnOk ran (IsSound db → HasPages db → IsIdle db → HoldsBook s db.index.tree.shape db.limits db.book) → ran ≡ Ok tt
+pub closed_book : (db : DbView) (s : Store) (ran : Result (Unit {0}) RunFault) → OnOk ran (IsSoundDb db → HasPages db → IsIdle db → HoldsBook s db.index.tree.shape db.limits db.book) → ran ≡ Ok tt
     → (shape : ShapeView) (limits : LimitsView) (book : Book) → HasBook shape limits book db → HasPages db → db.begun ≡ true → HoldsBook s shape limits book
 closed_book db s ran holds is shape limits book has pages begun =
-    let closed = subst (λ r. OnOk r (IsSound db → HasPages db → IsIdle db → HoldsBook s db.index.tree.shape db.limits db.book)) is holds in
+    let closed = subst (λ r. OnOk r (IsSoundDb db → HasPages db → IsIdle db → HoldsBook s db.index.tree.shape db.limits db.book)) is holds in
     let idle : IsIdle db = λ not lives. (let wrong : true ≡ false = sym begun ∙ not in absurd cc) in
     subst (λ b. HoldsBook s shape limits b) has.book_is
     (subst (λ l. HoldsBook s shape l db.book) has.limits_are

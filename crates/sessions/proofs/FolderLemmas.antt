@@ -8,11 +8,11 @@ use Rattle.legs.specs.Limits.{limits_of, LimitsView}
 use Rattle.pages.specs.Store.{Store}
 use Rattle.pages.specs.declared.unsynced.Unsynced.TheVariants.{Others}
 use Rattle.catalogue.specs.Holding.{HoldsBook}
-use Rattle.trajdb.specs.Db.{DbView, HasPages, IsSound}
+use Rattle.trajdb.specs.Db.{DbView, HasPages, IsSoundDb}
 use Rattle.trajdb.specs.Lasting.{HasBook, IsIdle}
 use Rattle.trajdb.proofs.SafeLemmas.{apart}
 use Rattle.sessions.specs.Answers.{Answers, SendsFront, new_shape}
-use Rattle.sessions.specs.Folder.{BeginsWith, History, HoldsNow, IsKept, RunsBeside, store_in}
+use Rattle.sessions.specs.Folder.{BeginsWith, History, HoldsNow, NameIsKept, RunsBeside, store_in}
 use Rattle.sessions.proofs.AnswerLemmas.{front_done}
 
 -- what a folder tells of a store's name is faithful
@@ -25,7 +25,7 @@ pub faults_apart : (s : Store) (shape : ShapeView) (limits : LimitsView) (book :
 faults_apart s shape limits book h = apart s s.most 0 Others shape limits book h
 
 -- what a name stands for that was given to a store that holds a book, or that was left to what has its pages
-pub held_now : (s : Store) (shape : ShapeView) (limits : LimitsView) (book : Book) (was is : Option History) → HoldsBook s shape limits book → IsKept s was is → HoldsNow shape limits book is
+pub held_now : (s : Store) (shape : ShapeView) (limits : LimitsView) (book : Book) (was is : Option History) → HoldsBook s shape limits book → NameIsKept s was is → HoldsNow shape limits book is
 held_now s shape limits book (Some old) (Some new) h (inl n) =
     subst (λ k. HoldsBook (store_in k) shape limits book) (sym n.next) (subst (λ k. HoldsBook k shape limits book) n.are (faults_apart s shape limits book h))
 held_now s shape limits book (Some old) None h (inl n) = tt
@@ -38,8 +38,8 @@ held_now s shape limits book None is h (inr n) = subst (HoldsNow shape limits bo
 -- a database that is opened with a book over the copy, and answers; the copy is then kept
 module _ {E F G : Type 0} (opened : Result DbView E) (ran : Result (Unit {0}) F) (kept : Result (Unit {0}) G) (files : List (List ℕ × List ℕ)) (sent sent' : Option (List ℕ)) (lines : List (List ℕ)) (first last : Store) (was is : Option History)
     (pages : IfOk opened (λ db. IsTrue first.is_faithful → HasPages db)) (idle : IfOk opened (λ db. IsTrue first.is_faithful → IsIdle db)) (ok : OnOk ran (IsOk opened)) (done : ran ≡ Ok tt)
-    (answers : OnOk ran (IfOk opened (λ db. IsSound db → HasPages db → IsIdle db → Answers db.index.tree.shape db.limits db.book files sent sent' lines last)))
-    (keeps : OnOk kept (IsKept last was is)) where
+    (answers : OnOk ran (IfOk opened (λ db. IsSoundDb db → HasPages db → IsIdle db → Answers db.index.tree.shape db.limits db.book files sent sent' lines last)))
+    (keeps : OnOk kept (NameIsKept last was is)) where
   pub beside : (o : Result DbView E) → o ≡ opened → (k : Result (Unit {0}) G) → k ≡ kept → (shape : ShapeView) (limits : LimitsView) (book : Book) → IsTrue first.is_faithful → IfOk opened (HasBook shape limits book) → OnOk kept (RunsBeside shape limits book files sent sent' lines was is)
   beside o e (Err f) k shape limits book faithful has = subst (λ r. OnOk r (RunsBeside shape limits book files sent sent' lines was is)) k tt
   beside (Err f) e (Ok x) k shape limits book faithful has =
@@ -48,13 +48,13 @@ module _ {E F G : Type 0} (opened : Result DbView E) (ran : Result (Unit {0}) F)
       let h = subst (λ r. IfOk r (HasBook shape limits book)) (sym e) has in
       let p = subst (λ r. IfOk r (λ d. IsTrue first.is_faithful → HasPages d)) (sym e) pages in
       let i = subst (λ r. IfOk r (λ d. IsTrue first.is_faithful → IsIdle d)) (sym e) idle in
-      let a = subst (λ r. IfOk r (λ d. IsSound d → HasPages d → IsIdle d → Answers d.index.tree.shape d.limits d.book files sent sent' lines last)) (sym e)
-      (subst (λ r. OnOk r (IfOk opened (λ d. IsSound d → HasPages d → IsIdle d → Answers d.index.tree.shape d.limits d.book files sent sent' lines last))) done answers) in
+      let a = subst (λ r. IfOk r (λ d. IsSoundDb d → HasPages d → IsIdle d → Answers d.index.tree.shape d.limits d.book files sent sent' lines last)) (sym e)
+      (subst (λ r. OnOk r (IfOk opened (λ d. IsSoundDb d → HasPages d → IsIdle d → Answers d.index.tree.shape d.limits d.book files sent sent' lines last))) done answers) in
       let answer : Answers shape limits book files sent sent' lines last =
       subst (λ b. Answers shape limits b files sent sent' lines last) h.book_is
       (subst (λ l. Answers shape l db.book files sent sent' lines last) h.limits_are
       (subst (λ t. Answers t db.limits db.book files sent sent' lines last) h.shape_is (a h.sound (p faithful) (i faithful)))) in
-      let kept_is = subst (λ r. OnOk r (IsKept last was is)) (sym k) keeps in
+      let kept_is = subst (λ r. OnOk r (NameIsKept last was is)) (sym k) keeps in
       subst (λ r. OnOk r (RunsBeside shape limits book files sent sent' lines was is)) k (record {
         store = last;
         answers = answer;
@@ -81,22 +81,22 @@ front_none limits book files sent lines = record { front = []; sends = Appends-n
 
 -- what is sent of a run that is refused, over the database that was opened with a book, or over none
 pub front_opened : {E F : Type 0} (opened : Result DbView E) (ran : Result (Unit {0}) F) (files : List (List ℕ × List ℕ)) (sent sent' : Option (List ℕ)) (lines : List (List ℕ)) (shape : ShapeView) (limits : LimitsView) (book : Book) (fault : F) → ran ≡ Err fault
-    → IfOk opened (λ db. db.failed ≡ false) → OnErr ran (IfOk opened (λ db. IsSound db → db.failed ≡ false → SendsFront db.limits db.book files sent sent' lines)) → OnErr opened (sent' ≡ sent)
+    → IfOk opened (λ db. db.failed ≡ false) → OnErr ran (IfOk opened (λ db. IsSoundDb db → db.failed ≡ false → SendsFront db.limits db.book files sent sent' lines)) → OnErr opened (sent' ≡ sent)
     → IfOk opened (HasBook shape limits book) → SendsFront limits book files sent sent' lines
 front_opened (Err e) ran files sent sent' lines shape limits book fault is lives front unsent has = subst (λ s. SendsFront limits book files sent s lines) (sym unsent) (front_none limits book files sent lines)
 front_opened (Ok db) ran files sent sent' lines shape limits book fault is lives front unsent has =
-    let sends = subst (λ r. OnErr r (IsSound db → db.failed ≡ false → SendsFront db.limits db.book files sent sent' lines)) is front in
+    let sends = subst (λ r. OnErr r (IsSoundDb db → db.failed ≡ false → SendsFront db.limits db.book files sent sent' lines)) is front in
     subst (λ b. SendsFront limits b files sent sent' lines) has.book_is (subst (λ l. SendsFront l db.book files sent sent' lines) has.limits_are (sends has.sound lives))
 
 -- and of one that is answered
 pub front_answered : {E F : Type 0} (opened : Result DbView E) (ran : Result (Unit {0}) F) (files : List (List ℕ × List ℕ)) (sent sent' : Option (List ℕ)) (lines : List (List ℕ)) (last : Store) (shape : ShapeView) (limits : LimitsView) (book : Book) → ran ≡ Ok tt
-    → IfOk opened HasPages → IfOk opened IsIdle → OnOk ran (IsOk opened) → OnOk ran (IfOk opened (λ db. IsSound db → HasPages db → IsIdle db → Answers db.index.tree.shape db.limits db.book files sent sent' lines last))
+    → IfOk opened HasPages → IfOk opened IsIdle → OnOk ran (IsOk opened) → OnOk ran (IfOk opened (λ db. IsSoundDb db → HasPages db → IsIdle db → Answers db.index.tree.shape db.limits db.book files sent sent' lines last))
     → IfOk opened (HasBook shape limits book) → SendsFront limits book files sent sent' lines
 front_answered (Err e) ran files sent sent' lines last shape limits book done pages idle ok answers has =
     let not : IsOk {T = DbView} (Err e) = subst (λ r. OnOk r (IsOk {T = DbView} (Err e))) done ok in
     let wrong : false ≡ true = not in absurd cc
 front_answered (Ok db) ran files sent sent' lines last shape limits book done pages idle ok answers has =
-    let a = (subst (λ r. OnOk r (IsSound db → HasPages db → IsIdle db → Answers db.index.tree.shape db.limits db.book files sent sent' lines last)) done answers) has.sound pages idle in
+    let a = (subst (λ r. OnOk r (IsSoundDb db → HasPages db → IsIdle db → Answers db.index.tree.shape db.limits db.book files sent sent' lines last)) done answers) has.sound pages idle in
     subst (λ b. SendsFront limits b files sent sent' lines) has.book_is
     (subst (λ l. SendsFront l db.book files sent sent' lines) has.limits_are
     (front_done db.limits db.book a.after files sent sent' lines a.run))

@@ -6,9 +6,9 @@ use Rattle.pages.specs.Store.{Store}
 use Rattle.boxsearch.specs.Index.{words}
 use Rattle.catalogue.specs.Holding.{HoldsBook, IsUnfinishedStore}
 use Rattle.trajdb.specs.Calls.{BeginsOnly, IsLoadFault, KeepsPages}
-use Rattle.trajdb.specs.Db.{DbView, HasPages, IsSound}
+use Rattle.trajdb.specs.Db.{DbView, HasPages, IsSoundDb}
 use Rattle.trajdb.specs.Lasting.{IsFaultless, IsIdle, IsSafe, IsSafeStore}
-use Rattle.trajdb.specs.Faults.{IsInside}
+use Rattle.trajdb.specs.Faults.{IsNotOutput}
 use Rattle.trajdb.specs.Run.{run_book, AcceptsSome, HasCutRun, HasStopped, IsCut, IsRunText, Runs, Stops}
 use Rattle.trajdb.specs.declared.RunFault.{RunFault}
 use Rattle.trajdb.specs.declared.RunFault.TheVariants as run
@@ -17,28 +17,28 @@ use Rattle.sessions.specs.declared.fault.Fault.{Fault}
 use Rattle.sessions.proofs.AnswerLemmas.{answered, front_done, front_sent, the_same}
 
 -- a fault inside is none of the output
-inside_not : (e : RunFault) → IsInside e → e ≡ run.Output → ⊥
-inside_not e h o = subst IsInside o h
+inside_not : (e : RunFault) → IsNotOutput e → e ≡ run.Output → ⊥
+inside_not e h o = subst IsNotOutput o h
 
 -- a run over a database, and its closing
 module _ (old new : DbView) (s : Store) (files : List (List ℕ × List ℕ)) (sent sent' : Option (List ℕ)) (lines : List (List ℕ)) (closed : Result (Unit {0}) RunFault)
     (keeps : KeepsPages words old new) (idle : IsIdle old → IsIdle new) (limits : new.limits ≡ old.limits) (plan : words.plan new.index ≡ words.plan old.index) (begins : BeginsOnly words old new (AcceptsSome old.limits files old.book lines))
-    (holds : OnOk closed (IsSound new → HasPages new → IsIdle new → HoldsBook s new.index.tree.shape new.limits new.book))
-    (only : IfErr closed (λ e. IsSound new → new.failed ≡ false → IsLoadFault e))
-    (unfinished : IfErr closed (λ e. IsFaultless e → IsSound new → HasPages new → new.failed ≡ false → IsUnfinishedStore s))
+    (holds : OnOk closed (IsSoundDb new → HasPages new → IsIdle new → HoldsBook s new.index.tree.shape new.limits new.book))
+    (only : IfErr closed (λ e. IsSoundDb new → new.failed ≡ false → IsLoadFault e))
+    (unfinished : IfErr closed (λ e. IsFaultless e → IsSoundDb new → HasPages new → new.failed ≡ false → IsUnfinishedStore s))
     (rests : new.failed ≡ false → new.begun ≡ false → closed ≡ Ok tt) (fails : new.failed ≡ true → closed ≡ Err run.Failed)
-    (stays_safe : (first : Store) → IsSound old → HasPages old → IsSafe first old → IsSafe first new) (left_safe : new.failed ≡ true → (first : Store) → IsSafe first new → IsSafeStore first s) where
+    (stays_safe : (first : Store) → IsSoundDb old → HasPages old → IsSafe first old → IsSafe first new) (left_safe : new.failed ≡ true → (first : Store) → IsSafe first new → IsSafeStore first s) where
   abbrev pub Ended : Result (Unit {0}) RunFault → Type 0
   Ended ran = Ends old files sent sent' lines ran closed s
 
   -- it was closed with the book after some lines
-  closes : (r : Result (Unit {0}) RunFault) → OnOk r (IsSound new → HasPages new → IsIdle new → HoldsBook s new.index.tree.shape new.limits new.book)
-      → IfErr r (λ e. IsSound new → new.failed ≡ false → IsLoadFault e) → IfErr r (λ e. IsFaultless e → IsSound new → HasPages new → new.failed ≡ false → IsUnfinishedStore s)
-      → new.failed ≡ false → IsSound new → HasPages new → IsIdle new → ClosesWith new.index.tree.shape new.limits new.book r s
+  closes : (r : Result (Unit {0}) RunFault) → OnOk r (IsSoundDb new → HasPages new → IsIdle new → HoldsBook s new.index.tree.shape new.limits new.book)
+      → IfErr r (λ e. IsSoundDb new → new.failed ≡ false → IsLoadFault e) → IfErr r (λ e. IsFaultless e → IsSoundDb new → HasPages new → new.failed ≡ false → IsUnfinishedStore s)
+      → new.failed ≡ false → IsSoundDb new → HasPages new → IsIdle new → ClosesWith new.index.tree.shape new.limits new.book r s
   closes (Ok x) h o u lives sound pages is_idle = h sound pages is_idle
   closes (Err e) h o u lives sound pages is_idle = (o sound lives, λ f. u f sound pages lives)
 
-  closed_with : (k : ℕ) → new.failed ≡ false → IsSound old → IsSound new → HasPages old → IsIdle old → new.book ≡ run_book old.limits files old.book (take k lines)
+  closed_with : (k : ℕ) → new.failed ≡ false → IsSoundDb old → IsSoundDb new → HasPages old → IsIdle old → new.book ≡ run_book old.limits files old.book (take k lines)
       → ClosesWith old.index.tree.shape old.limits (run_book old.limits files old.book (take k lines)) closed s
   closed_with k lives was sound pages is_idle book =
       subst (λ b. ClosesWith old.index.tree.shape old.limits b closed s) book
@@ -47,7 +47,7 @@ module _ (old new : DbView) (s : Store) (files : List (List ℕ × List ℕ)) (s
       (closes closed holds only unfinished lives sound (keeps.pages was pages) (idle is_idle))))
 
   -- and without a fault, where nothing began it
-  unbegun : new.failed ≡ false → IsSound old → old.begun ≡ false → (AcceptsSome old.limits files old.book lines → ⊥) → closed ≡ Ok tt
+  unbegun : new.failed ≡ false → IsSoundDb old → old.begun ≡ false → (AcceptsSome old.limits files old.book lines → ⊥) → closed ≡ Ok tt
   unbegun lives was not none = by_begun new.begun refl where
     by_begun : (b : Bool) → new.begun ≡ b → closed ≡ Ok tt
     by_begun false is = rests lives is
@@ -56,12 +56,12 @@ module _ (old new : DbView) (s : Store) (files : List (List ℕ × List ℕ)) (s
       wrong (inl begun) = let w : true ≡ false = sym begun ∙ not in absurd cc
       wrong (inr accepts) = absurd (none accepts)
 
-  left_with : (k : ℕ) (ran : Result (Unit {0}) RunFault) → new.failed ≡ false → IsSound old → IsSound new → HasPages old → IsIdle old → new.book ≡ run_book old.limits files old.book (take k lines)
+  left_with : (k : ℕ) (ran : Result (Unit {0}) RunFault) → new.failed ≡ false → IsSoundDb old → IsSoundDb new → HasPages old → IsIdle old → new.book ≡ run_book old.limits files old.book (take k lines)
       → (ClosesWith old.index.tree.shape old.limits (run_book old.limits files old.book (take k lines)) closed s × (old.begun ≡ false → (AcceptsSome old.limits files old.book lines → ⊥) → closed ≡ Ok tt)) ⊎ FailsToLoad old files lines k ran closed s
   left_with k ran lives was sound pages is_idle book = inl (closed_with k lives was sound pages is_idle book, unbegun lives was)
 
   -- all lines were done
-  pub all_done : Runs files sent sent' old new lines → new.failed ≡ false → IsSound new → IsSound old → HasPages old → IsIdle old → Ended (Ok tt)
+  pub all_done : Runs files sent sent' old new lines → new.failed ≡ false → IsSoundDb new → IsSoundDb old → HasPages old → IsIdle old → Ended (Ok tt)
   all_done r lives sound was pages is_idle =
       let all : take (length lines) lines ≡ lines = take_all (length lines) lines (omega arith) in
       record {
@@ -78,8 +78,8 @@ module _ (old new : DbView) (s : Store) (files : List (List ℕ × List ℕ)) (s
       }
 
   -- it stopped at a line
-  stopped_at : (e : RunFault) → IsInside e → (new.failed ≡ false → IsSound old → IsSound new) → (k : ℕ) → HasStopped old.limits files sent sent' old.book new.book new.failed lines k
-      → IsSound old → HasPages old → IsIdle old → Ended (Err e)
+  stopped_at : (e : RunFault) → IsNotOutput e → (new.failed ≡ false → IsSoundDb old → IsSoundDb new) → (k : ℕ) → HasStopped old.limits files sent sent' old.book new.book new.failed lines k
+      → IsSoundDb old → HasPages old → IsIdle old → Ended (Err e)
   stopped_at e inside kept k st was pages is_idle = record {
     done = k;
     text = st.text;
@@ -107,7 +107,7 @@ module _ (old new : DbView) (s : Store) (files : List (List ℕ × List ℕ)) (s
     by_state false is = left_with k (Err e) is was (kept is was) pages is_idle (st.book is)
 
   -- its output failed
-  cut_at : (k : ℕ) → HasCutRun old.limits files sent sent' old.book new.book lines k → new.failed ≡ false → IsSound new → IsSound old → HasPages old → IsIdle old → Ended (Err run.Output)
+  cut_at : (k : ℕ) → HasCutRun old.limits files sent sent' old.book new.book lines k → new.failed ≡ false → IsSoundDb new → IsSoundDb old → HasPages old → IsIdle old → Ended (Err run.Output)
   cut_at k c lives sound was pages is_idle = record {
     done = k;
     text = c.all;
@@ -121,10 +121,10 @@ module _ (old new : DbView) (s : Store) (files : List (List ℕ × List ℕ)) (s
     left = left_with k (Err run.Output) lives was sound pages is_idle c.book;
   }
 
-  pub refused : (e : RunFault) → (IsErrOf {T = Unit {0}} {E = RunFault} (Err e) run.Output → IsSound old → IsCut files sent sent' old new lines)
-      → (IsErrOf {T = Unit {0}} {E = RunFault} (Err e) run.Output → IsSound old → IsSound new) → (IsErrOf {T = Unit {0}} {E = RunFault} (Err e) run.Output → new.failed ≡ false)
-      → (IsInside e → old.failed ≡ false → IsSound old → Stops files sent sent' old new lines) → (IsInside e → new.failed ≡ false → IsSound old → IsSound new)
-      → IsSound old → HasPages old → IsIdle old → old.failed ≡ false → Ended (Err e)
+  pub refused : (e : RunFault) → (IsErrOf {T = Unit {0}} {E = RunFault} (Err e) run.Output → IsSoundDb old → IsCut files sent sent' old new lines)
+      → (IsErrOf {T = Unit {0}} {E = RunFault} (Err e) run.Output → IsSoundDb old → IsSoundDb new) → (IsErrOf {T = Unit {0}} {E = RunFault} (Err e) run.Output → new.failed ≡ false)
+      → (IsNotOutput e → old.failed ≡ false → IsSoundDb old → Stops files sent sent' old new lines) → (IsNotOutput e → new.failed ≡ false → IsSoundDb old → IsSoundDb new)
+      → IsSoundDb old → HasPages old → IsIdle old → old.failed ≡ false → Ended (Err e)
   refused run.Memory cut sound lives stops kept was pages is_idle lived = let st = stops tt lived was in stopped_at run.Memory tt (kept tt) st.0 st.1 was pages is_idle
   refused run.Store cut sound lives stops kept was pages is_idle lived = let st = stops tt lived was in stopped_at run.Store tt (kept tt) st.0 st.1 was pages is_idle
   refused (run.Damaged page) cut sound lives stops kept was pages is_idle lived = let st = stops tt lived was in stopped_at (run.Damaged page) tt (kept tt) st.0 st.1 was pages is_idle
@@ -132,25 +132,25 @@ module _ (old new : DbView) (s : Store) (files : List (List ℕ × List ℕ)) (s
   refused run.Failed cut sound lives stops kept was pages is_idle lived = let st = stops tt lived was in stopped_at run.Failed tt (kept tt) st.0 st.1 was pages is_idle
   refused run.Output cut sound lives stops kept was pages is_idle lived = let c = cut refl was in cut_at c.0 c.1 (lives refl) (sound refl was) was pages is_idle
 
-  pub ended : (ran : Result (Unit {0}) RunFault) → OnOk ran (IsSound old → Runs files sent sent' old new lines) → OnOk ran (IsSound old → IsSound new) → OnOk ran (new.failed ≡ false)
-      → (IsErrOf ran run.Output → IsSound old → IsCut files sent sent' old new lines) → (IsErrOf ran run.Output → IsSound old → IsSound new) → (IsErrOf ran run.Output → new.failed ≡ false)
-      → IfErr ran (λ e. IsInside e → old.failed ≡ false → IsSound old → Stops files sent sent' old new lines) → IfErr ran (λ e. IsInside e → new.failed ≡ false → IsSound old → IsSound new)
-      → IsSound old → HasPages old → IsIdle old → old.failed ≡ false → Ended ran
+  pub ended : (ran : Result (Unit {0}) RunFault) → OnOk ran (IsSoundDb old → Runs files sent sent' old new lines) → OnOk ran (IsSoundDb old → IsSoundDb new) → OnOk ran (new.failed ≡ false)
+      → (IsErrOf ran run.Output → IsSoundDb old → IsCut files sent sent' old new lines) → (IsErrOf ran run.Output → IsSoundDb old → IsSoundDb new) → (IsErrOf ran run.Output → new.failed ≡ false)
+      → IfErr ran (λ e. IsNotOutput e → old.failed ≡ false → IsSoundDb old → Stops files sent sent' old new lines) → IfErr ran (λ e. IsNotOutput e → new.failed ≡ false → IsSoundDb old → IsSoundDb new)
+      → IsSoundDb old → HasPages old → IsIdle old → old.failed ≡ false → Ended ran
   ended (Ok x) runs sound lives cut cut_sound cut_lives stops kept was pages is_idle lived = all_done (runs was) lives (sound was) was pages is_idle
   ended (Err e) runs sound lives cut cut_sound cut_lives stops kept was pages is_idle lived = refused e cut cut_sound cut_lives stops kept was pages is_idle lived
 
 -- a run that is answered, and a database that is closed then
 pub answered_both : (old new : DbView) (s : Store) (files : List (List ℕ × List ℕ)) (sent sent' : Option (List ℕ)) (lines : List (List ℕ)) (ran closed : Result (Unit {0}) RunFault)
-    → OnOk ran (IsSound old → Runs files sent sent' old new lines) → OnOk ran (IsSound old → IsSound new) → KeepsPages words old new → (IsIdle old → IsIdle new) → new.limits ≡ old.limits → words.plan new.index ≡ words.plan old.index
-    → OnOk closed (IsSound new → HasPages new → IsIdle new → HoldsBook s new.index.tree.shape new.limits new.book)
-    → OnOk ran (OnOk closed (IsSound old → HasPages old → IsIdle old → Answers old.index.tree.shape old.limits old.book files sent sent' lines s))
+    → OnOk ran (IsSoundDb old → Runs files sent sent' old new lines) → OnOk ran (IsSoundDb old → IsSoundDb new) → KeepsPages words old new → (IsIdle old → IsIdle new) → new.limits ≡ old.limits → words.plan new.index ≡ words.plan old.index
+    → OnOk closed (IsSoundDb new → HasPages new → IsIdle new → HoldsBook s new.index.tree.shape new.limits new.book)
+    → OnOk ran (OnOk closed (IsSoundDb old → HasPages old → IsIdle old → Answers old.index.tree.shape old.limits old.book files sent sent' lines s))
 answered_both old new s files sent sent' lines (Ok x) closed runs sound keeps idle limits plan holds = answered old new s files sent sent' lines closed runs sound keeps idle limits plan holds
 answered_both old new s files sent sent' lines (Err e) closed runs sound keeps idle limits plan holds = tt
 
 -- what was sent, whatever is answered
 pub sends_front : (old new : DbView) (files : List (List ℕ × List ℕ)) (sent sent' : Option (List ℕ)) (lines : List (List ℕ)) (ran : Result (Unit {0}) RunFault)
-    → OnOk ran (IsSound old → Runs files sent sent' old new lines) → (IsErrOf ran run.Output → IsSound old → IsCut files sent sent' old new lines) → IfErr ran (λ e. IsInside e → old.failed ≡ false → IsSound old → Stops files sent sent' old new lines)
-    → IsSound old → old.failed ≡ false → SendsFront old.limits old.book files sent sent' lines
+    → OnOk ran (IsSoundDb old → Runs files sent sent' old new lines) → (IsErrOf ran run.Output → IsSoundDb old → IsCut files sent sent' old new lines) → IfErr ran (λ e. IsNotOutput e → old.failed ≡ false → IsSoundDb old → Stops files sent sent' old new lines)
+    → IsSoundDb old → old.failed ≡ false → SendsFront old.limits old.book files sent sent' lines
 sends_front old new files sent sent' lines (Ok x) runs cut stops sound lives = front_done old.limits old.book new.book files sent sent' lines (runs sound)
 sends_front old new files sent sent' lines (Err e) runs cut stops sound lives = front_sent old new files sent sent' lines e cut stops sound lives
 

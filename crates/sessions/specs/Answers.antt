@@ -28,13 +28,16 @@ new_shape = record { leaf = 50; inner = 72 }
 
 -- what was sent is exactly the text of the run over a book, and the store holds the book after it, in
 -- a tree of that shape
-pub record Answers (shape : ShapeView) (limits : LimitsView) (book : Book) (files : List (List ℕ × List ℕ)) (sent sent' : Option (List ℕ)) (lines : List (List ℕ)) (store : Store) : Type 0 where
+pub record Answers (shape : ShapeView) (limits : LimitsView) (book : Book)
+    (files : List (List ℕ × List ℕ)) (sent sent' : Option (List ℕ)) (lines : List (List ℕ))
+    (store : Store) : Type 0 where
   pub after : Book
   pub run : HasRun limits files sent sent' book after lines
   pub holds : HoldsBook store shape limits after
 
 -- what was sent is the front of the answers to the first lines, each over the book after the lines before
-pub record SendsFront (limits : LimitsView) (book : Book) (files : List (List ℕ × List ℕ)) (sent sent' : Option (List ℕ)) (lines : List (List ℕ)) : Type 0 where
+pub record SendsFront (limits : LimitsView) (book : Book) (files : List (List ℕ × List ℕ))
+    (sent sent' : Option (List ℕ)) (lines : List (List ℕ)) : Type 0 where
   pub front : List ℕ
   pub sends : Appends sent sent' front
   pub done : ℕ
@@ -46,7 +49,8 @@ pub record SendsFront (limits : LimitsView) (book : Book) (files : List (List �
 -- out or the store is full, it is one that is not finished; of a store that failed nothing is said
 abbrev pub ClosesWith : ShapeView → LimitsView → Book → Result (Unit {0}) RunFault → Store → Type 0
 ClosesWith shape limits book (Ok x) store = HoldsBook store shape limits book
-ClosesWith shape limits book (Err fault) store = IsLoadFault fault × (IsFaultless fault → IsUnfinishedStore store)
+ClosesWith shape limits book (Err fault) store =
+    IsLoadFault fault × (IsFaultless fault → IsUnfinishedStore store)
 
 -- line k + 1 is there, and is a `load` of a file that is there
 abbrev pub IsAtLoad : List (List ℕ × List ℕ) → List (List ℕ) → ℕ → Type 0
@@ -54,7 +58,8 @@ IsAtLoad files lines k = (k < length lines) × LoadsBy files (slice_index_or lin
 
 -- a run over a database stopped at line k + 1, which is a `load` of a file, and the database was not closed but abandoned;
 -- the store is then one that is not finished, or the one that was there before, but for page 0 where the store failed
-pub record FailsToLoad (db : DbView) (files : List (List ℕ × List ℕ)) (lines : List (List ℕ)) (k : ℕ) (ran closed : Result (Unit {0}) RunFault) (store : Store) : Type 0 where
+pub record FailsToLoad (db : DbView) (files : List (List ℕ × List ℕ)) (lines : List (List ℕ))
+    (k : ℕ) (ran closed : Result (Unit {0}) RunFault) (store : Store) : Type 0 where
   pub fault : RunFault
   pub ran_is : ran ≡ Err fault
   pub inside : fault ≢ run.Output
@@ -66,7 +71,8 @@ pub record FailsToLoad (db : DbView) (files : List (List ℕ × List ℕ)) (line
 -- to all lines where nothing is said to have failed; all of these answers, or where the output failed a front of them
 -- that has all but the last one. The database was closed with the book after these lines, and without a fault where it
 -- had not begun and no file was accepted; or the next line is a `load` of a file, which failed
-pub record Ends (db : DbView) (files : List (List ℕ × List ℕ)) (sent sent' : Option (List ℕ)) (lines : List (List ℕ)) (ran closed : Result (Unit {0}) RunFault) (store : Store) : Type 0 where
+pub record Ends (db : DbView) (files : List (List ℕ × List ℕ)) (sent sent' : Option (List ℕ))
+    (lines : List (List ℕ)) (ran closed : Result (Unit {0}) RunFault) (store : Store) : Type 0 where
   pub done : ℕ
   pub text : List ℕ
   pub answers : IsRunText db.limits files db.book (take done lines) text
@@ -75,8 +81,11 @@ pub record Ends (db : DbView) (files : List (List ℕ × List ℕ)) (sent sent' 
   pub is_front : IsPrefixOf front text
   pub whole : OnOk ran (done ≡ length lines)
   pub all : ran ≢ Err run.Output → front ≡ text
-  pub cut : ran ≡ Err run.Output → (before : List ℕ) × IsRunText db.limits files db.book (take (done - 1) lines) before × IsPrefixOf before front
-  pub left : (ClosesWith db.index.tree.shape db.limits (run_book db.limits files db.book (take done lines)) closed store
+  pub cut : ran ≡ Err run.Output
+      → (before : List ℕ) × IsRunText db.limits files db.book (take (done - 1) lines) before
+      × IsPrefixOf before front
+  pub left : (ClosesWith db.index.tree.shape db.limits
+      (run_book db.limits files db.book (take done lines)) closed store
       × (db.begun ≡ false → (AcceptsSome db.limits files db.book lines → ⊥) → closed ≡ Ok tt))
       ⊎ FailsToLoad db files lines done ran closed store
 
@@ -88,7 +97,8 @@ said (Err fault) closed = Err (Run fault)
 
 -- the store holds the book, in a tree of that shape; the report says how many pages the store has, and how many legs and
 -- features the book
-pub record Checks (store : Store) (shape : ShapeView) (limits : LimitsView) (book : Book) (report : Report) : Type 0 where
+pub record Checks (store : Store) (shape : ShapeView) (limits : LimitsView) (book : Book)
+    (report : Report) : Type 0 where
   pub holds : HoldsBook store shape limits book
   pub pages : report.pages ≡ store.count
   pub legs : report.legs ≡ length book.legs

@@ -64,12 +64,12 @@ IsReplaced store None (Some new) = ⊥
 IsReplaced store None None = ⊤
 
 -- the name stands for a file of these pages now: nothing came between, or nothing has changed
-abbrev pub IsKept : Store → Option History → Option History → Type 0
-IsKept store old new = IsReplaced store old new ⊎ ((new ≡ old) × HasPagesHeld store old)
+abbrev pub NameIsKept : Store → Option History → Option History → Type 0
+NameIsKept store old new = IsReplaced store old new ⊎ ((new ≡ old) × HasPagesHeld store old)
 
 -- the name stands for a file now that was made so, or for what it stood for
 abbrev pub IsKeptOnce : Option History → Option History → Type 0
-IsKeptOnce old new = (store : Store) × IsKept store old new
+IsKeptOnce old new = (store : Store) × NameIsKept store old new
 
 -- what the name stands for now holds the book, where a folder tells it
 abbrev pub HoldsNow : ShapeView → LimitsView → Book → Option History → Type 0
@@ -77,8 +77,10 @@ HoldsNow shape limits book held = IfSome held (λ now. HoldsBook (store_in now) 
 
 -- the store of a run over a book that is answered, and of which nothing else than its pages takes the name, which then
 -- stands for a file that holds the book after the run: a later run finds it
-pub record RunsBeside (shape : ShapeView) (limits : LimitsView) (book : Book) (files : List (List ℕ × List ℕ)) (sent sent' : Option (List ℕ)) (lines : List (List ℕ)) (old new : Option History) : Type 0 where
+pub record RunsBeside (shape : ShapeView) (limits : LimitsView) (book : Book)
+    (files : List (List ℕ × List ℕ)) (sent sent' : Option (List ℕ)) (lines : List (List ℕ))
+    (old new : Option History) : Type 0 where
   pub store : Store
   pub answers : Answers shape limits book files sent sent' lines store
-  pub kept : IsKept store old new
+  pub kept : NameIsKept store old new
   pub held : HoldsNow shape limits answers.after new

@@ -2,13 +2,13 @@
 use Rattle.std.specs.Prelude.{ℕ, ◌≡◌, ◌≤◌, ◌+◌, ◌++◌, ◌∷◌, ◌⊎◌, [], List, Option, Some, None, length, map, take}
 use Rattle.std.specs.List.{range_with_len}
 use Rattle.std.specs.Io.KnownBytes.{Appends}
-use Rattle.mfcsv.specs.FileText.{file_text}
+use Rattle.mfcsv.specs.FileText.{file_of_bytes}
 use Rattle.parts.specs.Part.{said_part, whole_part}
 use Rattle.trajdb.specs.Run.{IsPrefixOf}
 
 -- a text says what part k of n of the file is to say
 abbrev pub SaysPart : (k n : ℕ) → List ℕ → List ℕ → Type 0
-SaysPart k n bytes text = file_text text ≡ said_part k n (file_text bytes)
+SaysPart k n bytes text = file_of_bytes text ≡ said_part k n (file_of_bytes bytes)
 
 -- the text that was sent says it
 pub record SendsPart (k n : ℕ) (bytes : List ℕ) (sent sent' : Option (List ℕ)) : Type 0 where
@@ -42,8 +42,10 @@ parts_from first count n bytes = map (λ k. (k, whole_part k n bytes)) (range_wi
 
 -- the first ones of these were put, and no other
 abbrev pub HasFirst : ℕ → ℕ → ℕ → List ℕ → Option Puts → Option Puts → Type 0
-HasFirst first count n bytes old new = (some : ℕ) × (some ≤ count) × (new ≡ with_puts old (parts_from first some n bytes))
+HasFirst first count n bytes old new =
+    (some : ℕ) × (some ≤ count) × (new ≡ with_puts old (parts_from first some n bytes))
 
 -- the same of texts
 abbrev pub HasFirstTexts : ℕ → List (List ℕ) → Option Puts → Option Puts → Type 0
-HasFirstTexts part texts old new = (count : ℕ) × (count ≤ length texts) × (new ≡ with_puts old (numbered part (take count texts)))
+HasFirstTexts part texts old new =
+    (count : ℕ) × (count ≤ length texts) × (new ≡ with_puts old (numbered part (take count texts)))

@@ -5,7 +5,7 @@ ghost use Rattle.legs.specs.Costs.{ShapeView};
 ghost use Rattle.legs.specs.Limits.{LimitsView};
 ghost use Rattle.trajdb.specs.Script.{lines_of};
 ghost use Rattle.sessions.specs.Answers.{SendsFront};
-ghost use Rattle.sessions.specs.Folder.{BeginsWith, IsKept, IsKeptOnce, IsReplaced, RunsBeside, store_in};
+ghost use Rattle.sessions.specs.Folder.{BeginsWith, NameIsKept, IsKeptOnce, IsReplaced, RunsBeside, store_in};
 
 use crate::fault::Fault;
 use crate::folder::{Folder, Lasting};
@@ -50,7 +50,7 @@ fn give<'a, F: Folder>(folder: &mut F, mut store: F::Store) -> Result<(), Fault<
 
 /// Gives the store's name to a copy, where a page of it was written, and takes it away otherwise.
 fn keep<'a, F: Folder>(folder: &mut F, store: F::Store) -> Result<(), Fault<'a>>
-    ensures kept { OnOk result (IsKept (F.Store.PageStore.seen store) (F.held folder.old)
+    ensures kept { OnOk result (NameIsKept (F.Store.PageStore.seen store) (F.held folder.old)
         (F.held folder.new)) }
     ensures stays { OnErr result (F.held folder.new ≡ F.held folder.old) }
     ensures settled { OnOk result (IsTrue (F.is_settled folder.old)

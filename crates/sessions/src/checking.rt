@@ -1,7 +1,7 @@
 //! A database that is checked, and closed.
 ghost use Rattle.std.specs.Prelude.{◌≡◌, false, IfOk, IsTrue};
 ghost use Rattle.catalogue.specs.Holding.{HoldsBook};
-ghost use Rattle.trajdb.specs.Db.{HasPages, IsSound};
+ghost use Rattle.trajdb.specs.Db.{HasPages, IsSoundDb};
 ghost use Rattle.trajdb.specs.Lasting.{IsIdle};
 ghost use Rattle.sessions.specs.Answers.{Checks};
 
@@ -21,7 +21,7 @@ pub fn check_and_close<S: PageStore>(
         → Checks (S.seen result.0) database.index.tree.shape database.limits database.book report) }
 
     // A book that the store held it holds, whatever is answered.
-    ensures kept { IsSound database → HasPages database → IsIdle database
+    ensures kept { IsSoundDb database → HasPages database → IsIdle database
         → database.begun ≡ false → database.failed ≡ false
         → HoldsBook (S.seen result.0) database.index.tree.shape database.limits database.book }
 {

@@ -44,7 +44,8 @@ pub trait Folder {
 
     /// Whether the copy may have other pages than the store's file.
     fn differs(&self, store: &Self::Store) -> bool
-        ensures { result ≡ false → HasPagesHeld (Self.Store.PageStore.seen store.now) (held self.now) };
+        ensures { result ≡ false
+            → HasPagesHeld (Self.Store.PageStore.seen store.now) (held self.now) };
 
     /// Gives the store's name to the copy, in one step. All that was written to it is on the disk.
     /// Where it is refused, the name stands for what it stood for.

@@ -22,7 +22,8 @@ pub fn send_part<'a, W: Write>(
     // What was sent says exactly the records of the part, under their numbers in the whole, or the
     // fault of the whole; where it is refused, what was sent is the front of such a text, or
     // nothing.
-    ensures sends { OnOk result (SendsPart k n bytes.now (W.contents out.old) (W.contents out.new)) }
+    ensures sends { OnOk result
+        (SendsPart k n bytes.now (W.contents out.old) (W.contents out.new)) }
     ensures cut { OnErr result (SendsSome k n bytes.now (W.contents out.old) (W.contents out.new)) }
 {
     match part(alloc, u64::from(k), u64::from(n), bytes) {

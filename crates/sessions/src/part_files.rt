@@ -22,7 +22,8 @@ pub trait PartFolder {
     /// Gives the name of a part, by its number from 0, to a file of that text, in one step. Where
     /// it is refused, the names stand for what they stood for.
     fn put(&mut self, part: u64, text: &[u8]) -> Result<(), RunFault>
-        ensures put { OnOk result (puts self.new ≡ with_puts (puts self.old) ((part, text.now) ∷ [])) }
+        ensures put { OnOk result
+            (puts self.new ≡ with_puts (puts self.old) ((part, text.now) ∷ [])) }
         ensures stays { OnErr result (puts self.new ≡ puts self.old) };
 }
 

@@ -62,16 +62,23 @@ impl<S: PageStore> PageStore for ReadOnly<S> {
     /// Refuses to write a page: no page changes.
     fn write(&mut self, _number: u32, _page: &[u8; 4096]) -> Result<(), StoreFault>
         ensures refused { IsErr result }
-        ensures stays { Stays (⟦<ReadOnly<S> as PageStore>⟧.seen self.old) (⟦<ReadOnly<S> as PageStore>⟧.seen self.new) }
-        ensures written { OnOk result (Writes _number _page.now (⟦<ReadOnly<S> as PageStore>⟧.seen self.old) (⟦<ReadOnly<S> as PageStore>⟧.seen self.new)) }
+        ensures stays { Stays (⟦<ReadOnly<S> as PageStore>⟧.seen self.old)
+            (⟦<ReadOnly<S> as PageStore>⟧.seen self.new) }
+        ensures written { OnOk result
+            (Writes _number _page.now (⟦<ReadOnly<S> as PageStore>⟧.seen self.old)
+            (⟦<ReadOnly<S> as PageStore>⟧.seen self.new)) }
         ensures unsynced { OnOk result (Unsyncs _number
             (⟦<ReadOnly<S> as PageStore>⟧.seen self.old)
             (⟦<ReadOnly<S> as PageStore>⟧.seen self.new)) }
-        ensures torn { OnErr result (Tears _number (⟦<ReadOnly<S> as PageStore>⟧.seen self.old) (⟦<ReadOnly<S> as PageStore>⟧.seen self.new)) }
+        ensures torn { OnErr result
+            (Tears _number (⟦<ReadOnly<S> as PageStore>⟧.seen self.old)
+            (⟦<ReadOnly<S> as PageStore>⟧.seen self.new)) }
         ensures torn_unsynced { OnErr result (MayUnsync _number
             (⟦<ReadOnly<S> as PageStore>⟧.seen self.old)
             (⟦<ReadOnly<S> as PageStore>⟧.seen self.new)) }
-        ensures cause { OnErr result (Faulted (⟦<ReadOnly<S> as PageStore>⟧.seen self.old) (⟦<ReadOnly<S> as PageStore>⟧.seen self.new)) }
+        ensures cause { OnErr result
+            (Faulted (⟦<ReadOnly<S> as PageStore>⟧.seen self.old)
+            (⟦<ReadOnly<S> as PageStore>⟧.seen self.new)) }
     {
         Err(self.failed())
     }

@@ -6,7 +6,7 @@ ghost use Rattle.legs.specs.Book.{Book, empty_book};
 ghost use Rattle.trajdb.specs.Script.{lines_of};
 ghost use Rattle.catalogue.specs.Holding.{HoldsBook};
 ghost use Rattle.pages.specs.Store.{Stays};
-ghost use Rattle.trajdb.specs.Db.{HasPages, IsSound};
+ghost use Rattle.trajdb.specs.Db.{HasPages, IsSoundDb};
 ghost use Rattle.trajdb.specs.Lasting.{HasBook, IsIdle, IsSafe};
 ghost use Rattle.sessions.specs.Answers.{new_shape, said, Answers, Ends, SendsFront};
 
@@ -57,7 +57,7 @@ pub fn database<S: PageStore>(
     ensures pages { IfOk result (λ db. IsTrue (S.seen store).is_faithful → HasPages db) }
     ensures idle { IfOk result (λ db. IsTrue (S.seen store).is_faithful → IsIdle db) }
     ensures lives { IfOk result (λ db. db.failed ≡ false) }
-    ensures safe { IfOk result (λ db. IsTrue (S.seen store).is_faithful → IsSound db
+    ensures safe { IfOk result (λ db. IsTrue (S.seen store).is_faithful → IsSoundDb db
         → IsSafe (S.seen store) db) }
 
     // A store that has a page, or of which none is to be made, stays where it is refused.
@@ -82,19 +82,19 @@ pub fn run_and_close<S: PageStore, W: Write>(
 ) -> (S, Result<(), RunFault>, Result<(), RunFault>)
     // Where neither is refused, what was sent is exactly the text of the run over the book, and the
     // store then holds the book after it, in a tree of the same shape.
-    ensures runs { OnOk result.1 (OnOk result.2 (IsSound database → HasPages database
+    ensures runs { OnOk result.1 (OnOk result.2 (IsSoundDb database → HasPages database
         → IsIdle database → Answers database.index.tree.shape database.limits database.book
         files.now (W.contents out.old) (W.contents out.new) (lines_of script.now)
         (S.seen result.0))) }
 
     // Whatever is answered, what was sent is the front of that text.
-    ensures sent { IsSound database → database.failed ≡ false
+    ensures sent { IsSoundDb database → database.failed ≡ false
         → SendsFront database.limits database.book files.now (W.contents out.old)
         (W.contents out.new) (lines_of script.now) }
 
     // The database was closed with the book after the lines that were done, unless it is the load of
     // a file that failed: the store is then not finished, or the one that was there before.
-    ensures ends { IsSound database → HasPages database → IsIdle database
+    ensures ends { IsSoundDb database → HasPages database → IsIdle database
         → database.failed ≡ false → Ends database files.now (W.contents out.old)
         (W.contents out.new) (lines_of script.now) result.1 result.2 (S.seen result.0) }
 {
@@ -127,14 +127,14 @@ pub fn answer<'a, S: PageStore, W: Write>(
 ) -> (S, Result<(), Fault<'a>>)
     // What was sent is exactly the text of the run over the book, and the store then holds the book
     // after it, in a tree of the same shape.
-    ensures runs { OnOk result.1 (IfOk database (λ db. IsSound db → HasPages db → IsIdle db
+    ensures runs { OnOk result.1 (IfOk database (λ db. IsSoundDb db → HasPages db → IsIdle db
         → Answers db.index.tree.shape db.limits db.book files.now (W.contents out.old)
         (W.contents out.new) (lines_of script.now) (S.seen result.0))) }
     ensures opened { OnOk result.1 (IsOk database) }
 
     // Where it is refused, what was sent is the front of that text, and nothing where there is no
     // database.
-    ensures sent { OnErr result.1 (IfOk database (λ db. IsSound db → db.failed ≡ false
+    ensures sent { OnErr result.1 (IfOk database (λ db. IsSoundDb db → db.failed ≡ false
         → SendsFront db.limits db.book files.now (W.contents out.old) (W.contents out.new)
         (lines_of script.now))) }
     ensures unsent { OnErr database (W.contents out.new ≡ W.contents out.old) }
@@ -143,7 +143,7 @@ pub fn answer<'a, S: PageStore, W: Write>(
     // no database it is the one that was given back.
     ensures ends { IfOk database (λ db. (ran : Result (Unit {0}) RunFault)
         × (closed : Result (Unit {0}) RunFault) × (result.1 ≡ said ran closed)
-        × (IsSound db → HasPages db → IsIdle db → db.failed ≡ false → Ends db files.now
+        × (IsSoundDb db → HasPages db → IsIdle db → db.failed ≡ false → Ends db files.now
         (W.contents out.old) (W.contents out.new) (lines_of script.now) ran closed
         (S.seen result.0))) }
     ensures refused { IfErr database (λ back. (S.seen result.0 ≡ S.seen back.0)

@@ -9,7 +9,7 @@ use Rattle.pages.specs.declared.payload.Payload.{Payload}
 use Rattle.tbnode.specs.Nodes.{EntryView}
 use Rattle.tbnode.specs.Layout.{leg_bytes, entry_bytes}
 use Rattle.tbnode.specs.Parts.{put, number_at}
-use Rattle.tbnode.specs.Form.{leg_count, entry_count, rest_by, rest_of, IsClear}
+use Rattle.tbnode.specs.Form.{leg_count, entry_count, rest_by, slack_of, IsClear}
 use Rattle.tbnode.specs.Steps.{pushed}
 use Rattle.tbnode.proofs.LeafLemmas.{replicated, begun}
 use Rattle.tbnode.proofs.LeafLemmas as leaf
@@ -34,21 +34,21 @@ pushed_rest bytes m place new a size inside room above =
     head_rest (put (16 + m * n) new bytes) 2 place (n + 1) a inside (omega (arith, above)) (omega (arith, length-slot bytes m n new size room, room))
     ∙ slot_rest bytes m n new a size above room
 
-pub leaf_rest : (p : Payload) → p.kind ≡ Leaf → rest_of p ≡ drop (16 + 80 * leg_count p.bytes) p.bytes
-unfolding rest_of
+pub leaf_rest : (p : Payload) → p.kind ≡ Leaf → slack_of p ≡ drop (16 + 80 * leg_count p.bytes) p.bytes
+unfolding slack_of
 leaf_rest p k = ap (λ j. rest_by j p.bytes) k
 
-pub inner_rest : (p : Payload) → p.kind ≡ Inner → rest_of p ≡ drop (16 + 56 * entry_count p.bytes) p.bytes
-unfolding rest_of
+pub inner_rest : (p : Payload) → p.kind ≡ Inner → slack_of p ≡ drop (16 + 56 * entry_count p.bytes) p.bytes
+unfolding slack_of
 inner_rest p k = ap (λ j. rest_by j p.bytes) k
 
 -- a leaf of n legs, of bytes that end as others do
-leaf_ends : (p : Payload) (xs bytes : List ℕ) (n : ℕ) → p.kind ≡ Leaf → p.bytes ≡ xs → leg_count xs ≡ n → drop (16 + 80 * n) xs ≡ drop (16 + 80 * n) bytes → rest_of p ≡ drop (16 + 80 * n) bytes
+leaf_ends : (p : Payload) (xs bytes : List ℕ) (n : ℕ) → p.kind ≡ Leaf → p.bytes ≡ xs → leg_count xs ≡ n → drop (16 + 80 * n) xs ≡ drop (16 + 80 * n) bytes → slack_of p ≡ drop (16 + 80 * n) bytes
 leaf_ends p xs bytes n k e c same =
     let count : leg_count p.bytes ≡ n = ap leg_count e ∙ c in
     leaf_rest p k ∙ ap (λ j. drop (16 + 80 * j) p.bytes) count ∙ ap (drop (16 + 80 * n)) e ∙ same
 
-inner_ends : (p : Payload) (xs bytes : List ℕ) (n : ℕ) → p.kind ≡ Inner → p.bytes ≡ xs → entry_count xs ≡ n → drop (16 + 56 * n) xs ≡ drop (16 + 56 * n) bytes → rest_of p ≡ drop (16 + 56 * n) bytes
+inner_ends : (p : Payload) (xs bytes : List ℕ) (n : ℕ) → p.kind ≡ Inner → p.bytes ≡ xs → entry_count xs ≡ n → drop (16 + 56 * n) xs ≡ drop (16 + 56 * n) bytes → slack_of p ≡ drop (16 + 56 * n) bytes
 inner_ends p xs bytes n k e c same =
     let count : entry_count p.bytes ≡ n = ap entry_count e ∙ c in
     inner_rest p k ∙ ap (λ j. drop (16 + 56 * j) p.bytes) count ∙ ap (drop (16 + 56 * n)) e ∙ same
@@ -58,7 +58,7 @@ drop_more a m b xs s = ap (λ k. drop k xs) (sym s) ∙ sym (drop-drop m a xs)
 
 -- a leg more
 pub leg_rest : (p : Payload) (bytes : List ℕ) (l : LegView) → p.kind ≡ Leaf → p.bytes ≡ pushed 80 12 (leg_bytes l) bytes → 4056 ≤ length bytes → leg_count bytes < 50
-    → rest_of p ≡ drop 80 (drop (16 + 80 * leg_count bytes) bytes)
+    → slack_of p ≡ drop 80 (drop (16 + 80 * leg_count bytes) bytes)
 leg_rest p bytes l k e len small =
     let n = leg_count bytes in
     let size = length-leg_bytes l in
@@ -70,7 +70,7 @@ leg_rest p bytes l k e len small =
 
 -- an entry more
 pub entry_rest : (p : Payload) (bytes : List ℕ) (x : EntryView BoxView) → p.kind ≡ Inner → p.bytes ≡ pushed 56 2 (entry_bytes x) bytes → 4056 ≤ length bytes → entry_count bytes < 72
-    → rest_of p ≡ drop 56 (drop (16 + 56 * entry_count bytes) bytes)
+    → slack_of p ≡ drop 56 (drop (16 + 56 * entry_count bytes) bytes)
 entry_rest p bytes x k e len small =
     let n = entry_count bytes in
     let size = length-entry_bytes x in
@@ -82,7 +82,7 @@ entry_rest p bytes x k e len small =
 
 -- another next leaf
 pub next_rest : (p : Payload) (bytes : List ℕ) (next : ℕ) → p.kind ≡ Leaf → p.bytes ≡ put 8 (big_bytes 4 next) bytes → 16 ≤ length bytes
-    → rest_of p ≡ drop (16 + 80 * leg_count bytes) bytes
+    → slack_of p ≡ drop (16 + 80 * leg_count bytes) bytes
 next_rest p bytes next k e room =
     leaf_ends p (put 8 (big_bytes 4 next) bytes) bytes (leg_count bytes) k e
     (number-unset bytes 4 8 next (omega arith) room 2 12 (inr (omega arith)))
@@ -90,7 +90,7 @@ next_rest p bytes next k e room =
 
 -- an entry written over
 pub wider_rest : (p : Payload) (bytes : List ℕ) (t : ℕ) (x : EntryView BoxView) → p.kind ≡ Inner → p.bytes ≡ put (16 + 56 * t) (entry_bytes x) bytes → 4056 ≤ length bytes
-    → t < entry_count bytes → entry_count bytes ≤ 72 → rest_of p ≡ drop (16 + 56 * entry_count bytes) bytes
+    → t < entry_count bytes → entry_count bytes ≤ 72 → slack_of p ≡ drop (16 + 56 * entry_count bytes) bytes
 wider_rest p bytes t x k e len below most =
     let size = length-entry_bytes x in
     let room : 16 + 56 * t + 56 ≤ length bytes = omega (arith, len, below, most) in
@@ -112,11 +112,11 @@ drop_zeros : (m n : ℕ) (xs ys : List ℕ) → xs ≡ replicate n 0 → ys ≡ 
 drop_zeros m n xs ys zeros e = are_zeros ys (n - m) (e ∙ ap (drop m) zeros ∙ drop-replicate m n 0)
 
 -- zero bytes stay zero
-pub still_clear : (old new : Payload) → rest_of new ≡ rest_of old → IsClear old → IsClear new
-still_clear old new e z = are_zeros (rest_of new) (length (rest_of old)) (e ∙ z)
+pub still_clear : (old new : Payload) → slack_of new ≡ slack_of old → IsClear old → IsClear new
+still_clear old new e z = are_zeros (slack_of new) (length (slack_of old)) (e ∙ z)
 
-pub clear_but : (m : ℕ) (old new : Payload) → rest_of new ≡ drop m (rest_of old) → IsClear old → IsClear new
-clear_but m old new e z = drop_zeros m (length (rest_of old)) (rest_of old) (rest_of new) z e
+pub clear_but : (m : ℕ) (old new : Payload) → slack_of new ≡ drop m (slack_of old) → IsClear old → IsClear new
+clear_but m old new e z = drop_zeros m (length (slack_of old)) (slack_of old) (slack_of new) z e
 
 -- a leaf of one leg
 pub begun_leg_clear : (p : Payload) (previous : ℕ) (l : LegView) (zeros : List ℕ) → p.kind ≡ Leaf → p.bytes ≡ pushed 80 12 (leg_bytes l) (begun l.feature previous zeros)
@@ -132,9 +132,9 @@ begun_leg_clear p previous l zeros k e are =
     let same : drop q bytes ≡ drop q zeros =
     head_rest first 4 4 previous q (omega arith) (omega arith) (omega (arith, one, zeros_are))
     ∙ head_rest zeros 4 0 l.feature q (omega arith) (omega arith) (omega (arith, zeros_are)) in
-    let rest : rest_of p ≡ drop (q + 80) zeros =
+    let rest : slack_of p ≡ drop (q + 80) zeros =
     leg_rest p bytes l k e (omega (arith, long, zeros_are)) (omega (arith, none)) ∙ ap (drop 80) same ∙ drop-drop 80 q zeros in
-    drop_zeros (q + 80) 4056 zeros (rest_of p) are rest
+    drop_zeros (q + 80) 4056 zeros (slack_of p) are rest
 
 -- an inner page of one entry
 pub begun_entry_clear : (p : Payload) (level : ℕ) (x : EntryView BoxView) (zeros : List ℕ) → p.kind ≡ Inner → p.bytes ≡ pushed 56 2 (entry_bytes x) (put 0 (big_bytes 2 level) zeros)
@@ -146,6 +146,6 @@ begun_entry_clear p level x zeros k e are =
     let zeros_are : 4056 ≤ length zeros = omega (arith, ap length are, replicated 4056) in
     let q = 16 + 56 * entry_count bytes in
     let same : drop q bytes ≡ drop q zeros = head_rest zeros 2 0 level q (omega arith) (omega arith) (omega (arith, zeros_are)) in
-    let rest : rest_of p ≡ drop (q + 56) zeros =
+    let rest : slack_of p ≡ drop (q + 56) zeros =
     entry_rest p bytes x k e (omega (arith, long, zeros_are)) (omega (arith, none)) ∙ ap (drop 56) same ∙ drop-drop 56 q zeros in
-    drop_zeros (q + 56) 4056 zeros (rest_of p) are rest
+    drop_zeros (q + 56) 4056 zeros (slack_of p) are rest

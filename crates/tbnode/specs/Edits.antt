@@ -9,11 +9,13 @@ use Rattle.tbnode.specs.Nodes.{LeafView, EntryView, InnerView, Node, ALeaf, AnIn
 pub record TakesLeg (leaf : LeafView LegView) (leg : LegView) : Type 0 where
   pub room : length leaf.legs < 50
   pub feature : leg.feature ≡ leaf.feature
-  pub above : ForSome (slice_get leaf.legs (length leaf.legs - 1)) (λ last. last.ordinal < leg.ordinal)
+  pub above : ForSome (slice_get leaf.legs (length leaf.legs - 1))
+      (λ last. last.ordinal < leg.ordinal)
 
 -- a leaf of one leg
 abbrev pub new_leaf : ℕ → LegView → Node LegView BoxView
-new_leaf previous leg = ALeaf (record { feature = leg.feature; previous = previous; next = 0; legs = leg ∷ [] })
+new_leaf previous leg =
+    ALeaf (record { feature = leg.feature; previous = previous; next = 0; legs = leg ∷ [] })
 
 -- an inner page of one entry
 abbrev pub new_inner : ℕ → EntryView BoxView → Node LegView BoxView

@@ -33,7 +33,8 @@ leaf_of bytes = record {
 -- leg i is lawful, and its ordinal is above that of the leg before it
 unfoldable pub is_leg_at : List ℕ → ℕ → Bool
 is_leg_at bytes i =
-    is_leg (slot 80 i bytes) && ((i == 0) || nat_lt (leg_at bytes (i - 1)).ordinal (leg_at bytes i).ordinal)
+    is_leg (slot 80 i bytes)
+    && ((i == 0) || nat_lt (leg_at bytes (i - 1)).ordinal (leg_at bytes i).ordinal)
 
 -- the form of a leaf: 1 to 50 legs, lawful, their ordinals rising
 unfoldable pub is_leaf : List ℕ → Bool
@@ -54,7 +55,11 @@ entry_at bytes i = entry_of (slot 56 i bytes)
 
 -- what an inner page's bytes say
 unfoldable pub inner_of : List ℕ → InnerView BoxView
-inner_of bytes = record { level = level_of bytes; entries = map (entry_at bytes) (range_with_len 0 (entry_count bytes)) }
+inner_of bytes =
+    record {
+      level = level_of bytes;
+      entries = map (entry_at bytes) (range_with_len 0 (entry_count bytes));
+    }
 
 abbrev pub is_entry_at : List ℕ → ℕ → Bool
 is_entry_at bytes i = is_entry (slot 56 i bytes)
@@ -87,7 +92,9 @@ is_counted bytes = nat_le 1 (leg_count bytes) && nat_le (leg_count bytes) 50
 
 -- the legs of each leaf are lawful
 abbrev pub LegsAreLawful : Type 0
-LegsAreLawful = (payload : Payload) (leaf : LeafView LegView) → node_of payload ≡ Some (ALeaf leaf) → All IsLeg leaf.legs
+LegsAreLawful =
+    (payload : Payload) (leaf : LeafView LegView) → node_of payload ≡ Some (ALeaf leaf)
+    → All IsLeg leaf.legs
 
 -- the bytes behind those that a head counts
 abbrev pub rest_by : Kind → List ℕ → List ℕ
@@ -96,9 +103,9 @@ rest_by Leaf bytes = drop (16 + 80 * leg_count bytes) bytes
 rest_by Inner bytes = drop (16 + 56 * entry_count bytes) bytes
 rest_by Catalogue bytes = bytes
 
-unfoldable pub rest_of : Payload → List ℕ
-rest_of payload = rest_by payload.kind payload.bytes
+unfoldable pub slack_of : Payload → List ℕ
+slack_of payload = rest_by payload.kind payload.bytes
 
 -- the bytes behind the last leg, or behind the last entry, are zero
 abbrev pub IsClear : Payload → Type 0
-IsClear payload = rest_of payload ≡ replicate (length (rest_of payload)) 0
+IsClear payload = slack_of payload ≡ replicate (length (slack_of payload)) 0

@@ -42,15 +42,18 @@ leg_of feature bytes = record {
 
 -- the moments rise, and both are in range
 unfoldable pub has_moments : LegView → Bool
-has_moments leg = int_lt leg.t0 leg.t1 && is_some (some_moment leg.t0) && is_some (some_moment leg.t1)
+has_moments leg =
+    int_lt leg.t0 leg.t1 && is_some (some_moment leg.t0) && is_some (some_moment leg.t1)
 
 -- the coordinates of its start are in range
 unfoldable pub has_start : LegView → Bool
-has_start leg = is_some (units_within leg.x0) && is_some (units_within leg.y0) && is_some (units_within leg.z0)
+has_start leg =
+    is_some (units_within leg.x0) && is_some (units_within leg.y0) && is_some (units_within leg.z0)
 
 -- the coordinates of its end are in range
 unfoldable pub has_end : LegView → Bool
-has_end leg = is_some (units_within leg.x1) && is_some (units_within leg.y1) && is_some (units_within leg.z1)
+has_end leg =
+    is_some (units_within leg.x1) && is_some (units_within leg.y1) && is_some (units_within leg.z1)
 
 -- the 80 bytes say a lawful leg, and the last four are zero
 unfoldable pub is_leg : List ℕ → Bool

@@ -5,7 +5,7 @@ ghost use Rattle.std.specs.Option.{ForSome};
 ghost use Rattle.tbnode.specs.Nodes.{as_leaf, as_inner};
 ghost use Rattle.tbnode.specs.Parts.{number_at};
 ghost use Rattle.tbnode.specs.Layout.{leg_bytes, entry_bytes};
-ghost use Rattle.tbnode.specs.Form.{node_of, rest_of, IsClear};
+ghost use Rattle.tbnode.specs.Form.{node_of, slack_of, IsClear};
 ghost use Rattle.tbnode.specs.Edits.{TakesLeg, new_leaf, leaf_with_leg, leaf_with_next};
 ghost use Rattle.tbnode.specs.Edits.{new_inner, inner_with_entry, inner_with_wider};
 ghost use Rattle.tbnode.specs.Steps.{LegReadsBack, EntryReadsBack, pushed};
@@ -63,7 +63,7 @@ pub fn push_leg(payload: &mut Payload, leg: &Leg)
     requires takes { ForSome (as_leaf (node_of payload.old)) (λ leaf. TakesLeg leaf leg.now) }
     ensures node { node_of payload.new
         ≡ option_map (leaf_with_leg leg.now) (as_leaf (node_of payload.old)) }
-    ensures rest { rest_of payload.new ≡ drop 80 (rest_of payload.old) }
+    ensures rest { slack_of payload.new ≡ drop 80 (slack_of payload.old) }
     ensures clear { IsClear payload.old → IsClear payload.new }
 {
     append_leg(&mut payload.bytes, leg);
@@ -74,7 +74,7 @@ pub fn set_next(payload: &mut Payload, next: u32)
     requires { IsSome (as_leaf (node_of payload.old)) }
     ensures node { node_of payload.new
         ≡ option_map (leaf_with_next next) (as_leaf (node_of payload.old)) }
-    ensures rest { rest_of payload.new ≡ rest_of payload.old }
+    ensures rest { slack_of payload.new ≡ slack_of payload.old }
     ensures clear { IsClear payload.old → IsClear payload.new }
 {
     put_u32(&mut payload.bytes, 8, next);
@@ -98,7 +98,7 @@ pub fn push_entry(payload: &mut Payload, entry: &Entry)
     requires room { ForSome (as_inner (node_of payload.old)) (λ page. length page.entries < 72) }
     ensures node { node_of payload.new
         ≡ option_map (inner_with_entry entry.now) (as_inner (node_of payload.old)) }
-    ensures rest { rest_of payload.new ≡ drop 56 (rest_of payload.old) }
+    ensures rest { slack_of payload.new ≡ drop 56 (slack_of payload.old) }
     ensures clear { IsClear payload.old → IsClear payload.new }
 {
     append_entry(&mut payload.bytes, entry);
@@ -111,7 +111,7 @@ pub fn widen(payload: &mut Payload, i: usize, bounds: &Box3)
     requires within { ForSome (as_inner (node_of payload.old)) (λ page. i < length page.entries) }
     ensures node { node_of payload.new
         ≡ option_map (inner_with_wider i bounds.now) (as_inner (node_of payload.old)) }
-    ensures rest { rest_of payload.new ≡ rest_of payload.old }
+    ensures rest { slack_of payload.new ≡ slack_of payload.old }
     ensures clear { IsClear payload.old → IsClear payload.new }
 {
     let place = 16 + 56 * i;

@@ -2,7 +2,7 @@
 use Rattle.std.proofs.Common.{ℕ}
 use Rattle.pagecache.specs.declared.fault.CacheFault.{CacheFault}
 use Rattle.pagecache.specs.declared.fault.CacheFault.TheVariants as cache
-use Rattle.tbtree.specs.Faults.{IfMalformed, IfNamed, Names, NamesInCache}
+use Rattle.tbtree.specs.Faults.{IfMalformed, IfNamed, NamesEach, NamesInCache}
 use Rattle.tbtree.specs.declared.fault.TreeFault.{TreeFault}
 use Rattle.tbtree.specs.declared.fault.TreeFault.TheVariants.{Cache as OfCache, Malformed, Spent}
 
@@ -13,7 +13,7 @@ names_in_cache P R (cache.Damaged n) f h = f n h
 names_in_cache P R cache.StoreFull f h = tt
 names_in_cache P R cache.Memory f h = tt
 
-pub names_then : (P Q R S : ℕ → Type 0) → ((n : ℕ) → P n → R n) → ((n : ℕ) → Q n → S n) → (fault : TreeFault) → Names P Q fault → Names R S fault
+pub names_then : (P Q R S : ℕ → Type 0) → ((n : ℕ) → P n → R n) → ((n : ℕ) → Q n → S n) → (fault : TreeFault) → NamesEach P Q fault → NamesEach R S fault
 names_then P Q R S f g (OfCache fault) h = names_in_cache P R fault f h
 names_then P Q R S f g (Malformed n) h = g n h
 names_then P Q R S f g Spent h = tt

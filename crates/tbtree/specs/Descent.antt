@@ -64,7 +64,8 @@ pub record IsInOrder (found sorted : List LegView) : Type 0 where
 abbrev pub insert_by_ordinal : LegView → List LegView → List LegView
 insert_by_ordinal leg [] = leg ∷ []
 insert_by_ordinal leg (other ∷ legs) =
-    cond (nat_lt leg.ordinal other.ordinal) (leg ∷ other ∷ legs) (other ∷ insert_by_ordinal leg legs)
+    cond (nat_lt leg.ordinal other.ordinal) (leg ∷ other ∷ legs)
+    (other ∷ insert_by_ordinal leg legs)
 
 abbrev pub sort_by_ordinal : List LegView → List LegView
 sort_by_ordinal [] = []
@@ -96,17 +97,23 @@ pub record HasInner {L B : Type 0} (nodes : Pages L B) (p level : ℕ) : Type 0 
 
 -- what does not meet the least box that holds two boxes meets neither of them
 abbrev pub IsPruning : {L B : Type 0} → Boxes L B → (B → Bool) → Type 0
-IsPruning {B = B} s meets = (p q : B) → meets (s.cover p q) ≡ false → (meets p ≡ false) × (meets q ≡ false)
+IsPruning {B = B} s meets =
+    (p q : B) → meets (s.cover p q) ≡ false → (meets p ≡ false) × (meets q ≡ false)
 
 -- the way down by a test of boxes, over pages that stand for legs
-pub record Descends (meets : BoxView → Bool) (nodes : Pages LegView BoxView) (tree : TbTree) (legs : List LegView) : Type 0 where
+pub record Descends (meets : BoxView → Bool) (nodes : Pages LegView BoxView) (tree : TbTree)
+    (legs : List LegView) : Type 0 where
   -- it finds the legs whose boxes meet
-  pub found : (sorted : List LegView) → IsInOrder (legs_met leg_boxes meets nodes tree.root tree.levels) sorted
+  pub found : (sorted : List LegView)
+      → IsInOrder (legs_met leg_boxes meets nodes tree.root tree.levels) sorted
       → sorted ≡ filter (λ leg. meets (box_of leg)) legs
   -- by one page for the root and one for each other block whose box meets
-  pub asked : met_count meets nodes tree.root tree.levels ≡ cost leg_boxes meets tree.shape.inner (leaves_of tree.shape legs)
+  pub asked : met_count meets nodes tree.root tree.levels
+      ≡ cost leg_boxes meets tree.shape.inner (leaves_of tree.shape legs)
   -- each page on it is an inner page of its level, or a leaf at its end
-  pub inners : (n k : ℕ) → n + suc (suc k) ≡ tree.levels → All (λ p. HasInner nodes p (suc k)) (pages_met meets nodes tree.root n)
-  pub leaves : (n : ℕ) → suc n ≡ tree.levels → All (λ p. HasLeaf nodes p) (pages_met meets nodes tree.root n)
+  pub inners : (n k : ℕ) → n + suc (suc k) ≡ tree.levels
+      → All (λ p. HasInner nodes p (suc k)) (pages_met meets nodes tree.root n)
+  pub leaves : (n : ℕ) → suc n ≡ tree.levels
+      → All (λ p. HasLeaf nodes p) (pages_met meets nodes tree.root n)
   -- and there are more pages than are met
   pub fewer : (n : ℕ) → n ≤ tree.levels → met_count meets nodes tree.root n < nodes.count

@@ -95,21 +95,21 @@ NamesInCache P (cache.Damaged n) = P n
 NamesInCache P cache.StoreFull = Unit {0}
 NamesInCache P cache.Memory = Unit {0}
 
-abbrev pub Names : (ℕ → Type 0) → (ℕ → Type 0) → TreeFault → Type 0
-Names P Q (OfCache fault) = NamesInCache P fault
-Names P Q (Malformed n) = Q n
-Names P Q Spent = Unit {0}
+abbrev pub NamesEach : (ℕ → Type 0) → (ℕ → Type 0) → TreeFault → Type 0
+NamesEach P Q (OfCache fault) = NamesInCache P fault
+NamesEach P Q (Malformed n) = Q n
+NamesEach P Q Spent = Unit {0}
 
 -- P of the page that is said to be damaged or malformed
 abbrev pub IfNamed : (ℕ → Type 0) → TreeFault → Type 0
-IfNamed P fault = Names P P fault
+IfNamed P fault = NamesEach P P fault
 
 -- Q of the page that is said to be malformed
 abbrev pub IfMalformed : (ℕ → Type 0) → TreeFault → Type 0
-IfMalformed Q fault = Names (λ _. Unit {0}) Q fault
+IfMalformed Q fault = NamesEach (λ _. Unit {0}) Q fault
 
 -- a page that is named is that one; it is malformed only if it is page 0, or is not there, or has a payload
 abbrev pub IsNamed : Pages LegView BoxView → Option ℕ → TreeFault → Type 0
 IsNamed nodes at fault =
-    Names (λ n. at ≡ Some n)
+    NamesEach (λ n. at ≡ Some n)
     (λ n. (at ≡ Some n) × (0 < n → n < nodes.count → nodes.at n ≢ None)) fault

@@ -13,14 +13,17 @@ use Rattle.tbtree.specs.declared.tree.TbTree.{TbTree}
 use Rattle.tbtree.specs.declared.fault.TreeFault.{TreeFault}
 
 -- pages that stood for runs stand for them with ys at the end of run i, whose page is last, and which may take them
-abbrev pub Grows : {L B : Type 0} (s : Boxes L B) (feature : L → ℕ) (inner levels root : ℕ) (old new : Pages L B) (i last : ℕ) (ys : List L) (can : LeafView L → Type 0) (result : Result (Unit {0}) TreeFault) → Type 0
+abbrev pub Grows : {L B : Type 0} (s : Boxes L B) (feature : L → ℕ) (inner levels root : ℕ)
+    (old new : Pages L B) (i last : ℕ) (ys : List L) (can : LeafView L → Type 0)
+    (result : Result (Unit {0}) TreeFault) → Type 0
 Grows {L = L} s feature inner levels root old new i last ys can result =
     (runs : List (List L)) (pages : ℕ → List ℕ) (x : L) (xs : List L)
     → slice_get runs i ≡ Some (x ∷ xs)
     → page_at pages 0 i ≡ Some last
     → ((l : LeafView L) → l.feature ≡ feature x → l.legs ≡ x ∷ xs → can l)
     → TreeStands s feature inner levels root old runs pages
-    → GivesWrite result (λ _. TreeStands s feature inner levels root new (set runs i ((x ∷ xs) ++ ys)) pages)
+    → GivesWrite result
+    (λ _. TreeStands s feature inner levels root new (set runs i ((x ∷ xs) ++ ys)) pages)
 
 -- a leaf of ys has been made, whose page is p, and the leaf last, where there is one, has it as its
 -- next
@@ -32,23 +35,29 @@ pub record Begins {L B : Type 0} (feature : L → ℕ) (old : Pages L B) (last :
   pub links : 0 < last → Links mid last p new
 
 -- the pages and the tree's value stand for the legs
-pub record Stands (nodes : Pages LegView BoxView) (tree : TbTree) (legs : List LegView) (pages : ℕ → List ℕ) : Type 0 where
+pub record Stands (nodes : Pages LegView BoxView) (tree : TbTree) (legs : List LegView)
+    (pages : ℕ → List ℕ) : Type 0 where
   pub in_turn : CanFollowInTurn [] legs
-  pub tree_stands : TreeStands leg_boxes leg_feature tree.shape.inner tree.levels tree.root nodes (leaves_of tree.shape legs) pages
+  pub tree_stands : TreeStands leg_boxes leg_feature tree.shape.inner tree.levels tree.root nodes
+      (leaves_of tree.shape legs) pages
   pub leaves_are : tree.leaves ≡ length (leaves_of tree.shape legs)
 
 -- the place of the feature f
 abbrev pub IsPlace : TbTree → List LegView → (ℕ → List ℕ) → ℕ → Place → Type 0
-IsPlace tree legs pages f place = PlaceStands leg_feature legs (marks leg_feature (leaves_of tree.shape legs) (pages 0)) f place
+IsPlace tree legs pages f place =
+    PlaceStands leg_feature legs (marks leg_feature (leaves_of tree.shape legs) (pages 0)) f place
 
 -- they stand for the legs with y at the end, and each feature has its place
-pub record Inserted (nodes : Pages LegView BoxView) (old tree : TbTree) (legs : List LegView) (old_pages : ℕ → List ℕ) (y : LegView) (place : Place) : Type 0 where
+pub record Inserted (nodes : Pages LegView BoxView) (old tree : TbTree) (legs : List LegView)
+    (old_pages : ℕ → List ℕ) (y : LegView) (place : Place) : Type 0 where
   pub pages : ℕ → List ℕ
   pub stands : Stands nodes tree (legs ++ y ∷ []) pages
   pub placed : IsPlace tree (legs ++ y ∷ []) pages y.feature place
-  pub others : (f : ℕ) (other : Place) → f ≢ y.feature → IsPlace old legs old_pages f other → IsPlace tree (legs ++ y ∷ []) pages f other
+  pub others : (f : ℕ) (other : Place) → f ≢ y.feature → IsPlace old legs old_pages f other
+      → IsPlace tree (legs ++ y ∷ []) pages f other
 
-abbrev pub Inserts : (old new : Pages LegView BoxView) (tree tree' : TbTree) (place place' : Place) (y : LegView) (result : Result (Unit {0}) TreeFault) → Type 0
+abbrev pub Inserts : (old new : Pages LegView BoxView) (tree tree' : TbTree) (place place' : Place)
+    (y : LegView) (result : Result (Unit {0}) TreeFault) → Type 0
 Inserts old new tree tree' place place' y result =
     (legs : List LegView) (pages : ℕ → List ℕ)
     → Stands old tree legs pages

@@ -15,8 +15,10 @@ use Rattle.tbtree.specs.declared.tree.TbTree.{TbTree}
 use Rattle.tbtree.specs.declared.fault.TreeFault.{TreeFault}
 
 -- the pages and the tree's value stand for the leaves of the legs, which may have come in any order
-pub record Holds (nodes : Pages LegView BoxView) (tree : TbTree) (legs : List LegView) (pages : ℕ → List ℕ) : Type 0 where
-  pub tree_stands : TreeStands leg_boxes leg_feature tree.shape.inner tree.levels tree.root nodes (leaves_of tree.shape legs) pages
+pub record Holds (nodes : Pages LegView BoxView) (tree : TbTree) (legs : List LegView)
+    (pages : ℕ → List ℕ) : Type 0 where
+  pub tree_stands : TreeStands leg_boxes leg_feature tree.shape.inner tree.levels tree.root nodes
+      (leaves_of tree.shape legs) pages
   pub leaves_are : tree.leaves ≡ length (leaves_of tree.shape legs)
 
 -- a leg may join legs: its ordinal is above those of its feature's legs
@@ -24,13 +26,16 @@ abbrev pub CanJoin : List LegView → LegView → Type 0
 CanJoin legs y = All (λ l. l.feature ≡ y.feature → l.ordinal < y.ordinal) legs
 
 -- they hold the legs with y at the end, and each feature has its place
-pub record Joined (nodes : Pages LegView BoxView) (old tree : TbTree) (legs : List LegView) (old_pages : ℕ → List ℕ) (y : LegView) (place : Place) : Type 0 where
+pub record Joined (nodes : Pages LegView BoxView) (old tree : TbTree) (legs : List LegView)
+    (old_pages : ℕ → List ℕ) (y : LegView) (place : Place) : Type 0 where
   pub pages : ℕ → List ℕ
   pub stands : Holds nodes tree (legs ++ y ∷ []) pages
   pub placed : IsPlace tree (legs ++ y ∷ []) pages y.feature place
-  pub others : (f : ℕ) (other : Place) → f ≢ y.feature → IsPlace old legs old_pages f other → IsPlace tree (legs ++ y ∷ []) pages f other
+  pub others : (f : ℕ) (other : Place) → f ≢ y.feature → IsPlace old legs old_pages f other
+      → IsPlace tree (legs ++ y ∷ []) pages f other
 
-abbrev pub Joins : (old new : Pages LegView BoxView) (tree tree' : TbTree) (place place' : Place) (y : LegView) (result : Result (Unit {0}) TreeFault) → Type 0
+abbrev pub Joins : (old new : Pages LegView BoxView) (tree tree' : TbTree) (place place' : Place)
+    (y : LegView) (result : Result (Unit {0}) TreeFault) → Type 0
 Joins old new tree tree' place place' y result =
     (legs : List LegView) (pages : ℕ → List ℕ)
     → Holds old tree legs pages
@@ -44,13 +49,16 @@ CanJoinInTurn legs [] = Unit {0}
 CanJoinInTurn legs (y ∷ ys) = CanJoin legs y × CanJoinInTurn (legs ++ y ∷ []) ys
 
 -- they hold the legs with ys, of the feature f, at the end, and each feature has its place
-pub record AllJoined (nodes : Pages LegView BoxView) (old tree : TbTree) (legs : List LegView) (old_pages : ℕ → List ℕ) (f : ℕ) (ys : List LegView) (place : Place) : Type 0 where
+pub record AllJoined (nodes : Pages LegView BoxView) (old tree : TbTree) (legs : List LegView)
+    (old_pages : ℕ → List ℕ) (f : ℕ) (ys : List LegView) (place : Place) : Type 0 where
   pub pages : ℕ → List ℕ
   pub stands : Holds nodes tree (legs ++ ys) pages
   pub placed : IsPlace tree (legs ++ ys) pages f place
-  pub others : (g : ℕ) (other : Place) → g ≢ f → IsPlace old legs old_pages g other → IsPlace tree (legs ++ ys) pages g other
+  pub others : (g : ℕ) (other : Place) → g ≢ f → IsPlace old legs old_pages g other
+      → IsPlace tree (legs ++ ys) pages g other
 
-abbrev pub JoinsAll : (old new : Pages LegView BoxView) (tree tree' : TbTree) (place place' : Place) (ys : List LegView) (result : Result (Unit {0}) TreeFault) → Type 0
+abbrev pub JoinsAll : (old new : Pages LegView BoxView) (tree tree' : TbTree) (place place' : Place)
+    (ys : List LegView) (result : Result (Unit {0}) TreeFault) → Type 0
 JoinsAll old new tree tree' place place' ys result =
     (f : ℕ) (legs : List LegView) (pages : ℕ → List ℕ)
     → Holds old tree legs pages
@@ -73,17 +81,20 @@ in_last_leaf leaf count legs = drop (length legs - ((count - 1) % leaf + 1)) leg
 
 -- the page p is that leaf, perhaps with another next leaf, and with more legs at its end; with none, where it is of another
 -- feature than the legs that are put in
-pub record HasMore (nodes : Pages LegView BoxView) (p : ℕ) (leaf : LeafView LegView) (legs : List LegView) : Type 0 where
+pub record HasMore (nodes : Pages LegView BoxView) (p : ℕ) (leaf : LeafView LegView)
+    (legs : List LegView) : Type 0 where
   pub next : ℕ
   pub more : List LegView
   pub is : nodes.at p ≡ Some (Some (ALeaf (with_next next (with_legs more leaf))))
   pub none : All (λ leg. leg.feature ≢ leaf.feature) legs → more ≡ []
 
 -- where legs are put in, each leaf that was there is as it was, but for the page last, which may have more legs
-pub record KeepsLegs (last : ℕ) (legs : List LegView) (old new : Pages LegView BoxView) : Type 0 where
+pub record KeepsLegs (last : ℕ) (legs : List LegView)
+    (old new : Pages LegView BoxView) : Type 0 where
   pub rest : (p : ℕ) (leaf : LeafView LegView) → p ≢ last → old.at p ≡ Some (Some (ALeaf leaf))
       → new.at p ≡ Some (Some (ALeaf leaf))
-  pub grown : (leaf : LeafView LegView) → old.at last ≡ Some (Some (ALeaf leaf)) → HasMore new last leaf legs
+  pub grown : (leaf : LeafView LegView) → old.at last ≡ Some (Some (ALeaf leaf))
+      → HasMore new last leaf legs
 
 -- a leg may be put into the index of some legs: it may join them, and its feature is there, or is the next one
 pub record CanTake (legs : List LegView) (leg : LegView) : Type 0 where
@@ -100,8 +111,10 @@ abbrev pub leaf_by_leaf : ℕ → List LegView → List LegView → List LegView
 leaf_by_leaf leaf before legs = in_blocks leg_feature leaf (feature_count before) before legs
 
 -- pages that hold legs, the last of them leaf by leaf, stand for them in their own order
-pub record IsReordered (nodes : Pages LegView BoxView) (tree : TbTree) (before legs turns : List LegView) (pages : ℕ → List ℕ) : Type 0 where
+pub record IsReordered (nodes : Pages LegView BoxView) (tree : TbTree)
+    (before legs turns : List LegView) (pages : ℕ → List ℕ) : Type 0 where
   pub stands : Stands nodes tree (before ++ legs) pages
-  pub places : (f : ℕ) (place : Place) → IsPlace tree (before ++ turns) pages f place → IsPlace tree (before ++ legs) pages f place
+  pub places : (f : ℕ) (place : Place) → IsPlace tree (before ++ turns) pages f place
+      → IsPlace tree (before ++ legs) pages f place
   pub as_many : length (before ++ turns) ≡ length (before ++ legs)
   pub features : feature_count (before ++ turns) ≡ feature_count (before ++ legs)

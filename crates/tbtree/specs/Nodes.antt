@@ -5,7 +5,18 @@ use Rattle.legs.specs.Boxes.{BoxView}
 use Rattle.legs.specs.Hull.{Boxes, hull, both}
 use Rattle.pagecache.specs.Cache.{Cache, payload_of}
 use Rattle.tbnode.specs.Form.{node_of}
-pub use Rattle.tbnode.specs.Nodes.{LeafView, EntryView, InnerView, Node, ALeaf, AnInner, with_next, with_entry, with_wider, widened}
+pub use Rattle.tbnode.specs.Nodes.{
+  LeafView,
+  EntryView,
+  InnerView,
+  Node,
+  ALeaf,
+  AnInner,
+  with_next,
+  with_entry,
+  with_wider,
+  widened,
+}
 
 -- the pages below an inner page, and their boxes
 abbrev pub children : {B : Type 0} → InnerView B → List ℕ
@@ -25,13 +36,15 @@ abbrev pub pages_of_cache : Cache → Pages LegView BoxView
 pages_of_cache c = record { at = λ p. option_map node_of (payload_of c p); count = c.count }
 
 -- the page p is now the node, and no other has changed
-pub record Becomes {L B : Type 0} (old : Pages L B) (p : ℕ) (node : Node L B) (new : Pages L B) : Type 0 where
+pub record Becomes {L B : Type 0} (old : Pages L B) (p : ℕ) (node : Node L B)
+    (new : Pages L B) : Type 0 where
   pub now : new.at p ≡ Some (Some node)
   pub rest : (q : ℕ) → q ≢ p → new.at q ≡ old.at q
 
 module _ {L B : Type 0} (s : Boxes L B) where
   -- the page p, of the height, has entry e widened to hold y; c is that entry's child
-  pub record Widens (old : Pages L B) (p height e : ℕ) (y : B) (new : Pages L B) (c : ℕ) : Type 0 where
+  pub record Widens (old : Pages L B) (p height e : ℕ) (y : B) (new : Pages L B)
+      (c : ℕ) : Type 0 where
     pub page : InnerView B
     pub was : old.at p ≡ Some (Some (AnInner page))
     pub height_is : page.level ≡ height
@@ -61,7 +74,8 @@ abbrev pub with_legs : {L : Type 0} → List L → LeafView L → LeafView L
 with_legs legs leaf = record leaf { legs = leaf.legs ++ legs }
 
 -- the leaf p has ys at its end
-pub record Pushes {L B : Type 0} (old : Pages L B) (p : ℕ) (ys : List L) (new : Pages L B) : Type 0 where
+pub record Pushes {L B : Type 0} (old : Pages L B) (p : ℕ) (ys : List L)
+    (new : Pages L B) : Type 0 where
   pub leaf : LeafView L
   pub was : old.at p ≡ Some (Some (ALeaf leaf))
   pub becomes : Becomes old p (ALeaf (with_legs ys leaf)) new
@@ -75,7 +89,8 @@ pub record Links {L B : Type 0} (old : Pages L B) (p q : ℕ) (new : Pages L B) 
   pub counted : new.count ≡ old.count
 
 -- the inner page p, of the height, has one more entry at its end
-pub record Attaches {L B : Type 0} (old : Pages L B) (p height c : ℕ) (y : B) (new : Pages L B) : Type 0 where
+pub record Attaches {L B : Type 0} (old : Pages L B) (p height c : ℕ) (y : B)
+    (new : Pages L B) : Type 0 where
   pub page : InnerView B
   pub was : old.at p ≡ Some (Some (AnInner page))
   pub height_is : page.level ≡ height
@@ -83,7 +98,8 @@ pub record Attaches {L B : Type 0} (old : Pages L B) (p height c : ℕ) (y : B) 
   pub counted : new.count ≡ old.count
 
 -- a node at the end, whose number is p
-pub record Adds {L B : Type 0} (old : Pages L B) (node : Node L B) (new : Pages L B) (p : ℕ) : Type 0 where
+pub record Adds {L B : Type 0} (old : Pages L B) (node : Node L B) (new : Pages L B)
+    (p : ℕ) : Type 0 where
   pub number : p ≡ old.count
   pub becomes : Becomes old p node new
   pub counted : new.count ≡ old.count + 1
@@ -111,7 +127,8 @@ pub record HasLeaf {L B : Type 0} (nodes : Pages L B) (p : ℕ) : Type 0 where
   pub is : nodes.at p ≡ Some (Some (ALeaf leaf))
 
 -- the page p is a leaf that may take what it is to take
-pub record HasLeafRoom {L B : Type 0} (nodes : Pages L B) (p : ℕ) (can : LeafView L → Type 0) : Type 0 where
+pub record HasLeafRoom {L B : Type 0} (nodes : Pages L B) (p : ℕ)
+    (can : LeafView L → Type 0) : Type 0 where
   pub above : 0 < p
   pub leaf : LeafView L
   pub is : nodes.at p ≡ Some (Some (ALeaf leaf))

@@ -27,7 +27,9 @@ module _ {X : Type 0} (key : X → ℕ) (n : ℕ) where
   abbrev pub numbered : (ℕ → ℕ) → List X → ℕ → List X → List (ℕ × X)
   numbered last before made [] = []
   numbered last before made (x ∷ xs) =
-      (run_for last before made x, x) ∷ numbered (with_last last (key x) (run_for last before made x)) (before ++ x ∷ []) (suc made) xs
+      (run_for last before made x, x)
+      ∷ numbered (with_last last (key x) (run_for last before made x))
+      (before ++ x ∷ []) (suc made) xs
 
   -- run by run: those that go on runs that are there, which are numbered by their keys, and then each new run
   abbrev pub in_blocks : ℕ → List X → List X → List X

@@ -14,7 +14,8 @@ pub record Passes (old new : Cache) : Type 0 where
   -- page 0 has its payload; it is not marked as changed where it was not, and is then as written
   pub first : IsTrue old.store.is_faithful → 0 < old.count → payload_of new 0 ≡ payload_of old 0
   pub unmarked : 0 < old.count → is_changed old 0 ≡ false → is_changed new 0 ≡ false
-  pub written : IsTrue old.store.is_faithful → 0 < old.count → is_changed old 0 ≡ false → page_of new 0 ≡ page_of old 0
+  pub written : IsTrue old.store.is_faithful → 0 < old.count → is_changed old 0 ≡ false
+      → page_of new 0 ≡ page_of old 0
 
 -- there are as many pages as the store has, where there were
 abbrev pub KeepsLength : Cache → Cache → Type 0

@@ -17,7 +17,9 @@ pub record IsEntry (node : Option (Node LegView BoxView)) (level e child : ℕ) 
 
 -- the node is no inner page of the level with an entry e
 abbrev pub HasNoEntry : Option (Node LegView BoxView) → ℕ → ℕ → Type 0
-HasNoEntry node level e = (page : InnerView BoxView) → node ≡ Some (AnInner page) → page.level ≡ level → e < length page.entries → ⊥
+HasNoEntry node level e =
+    (page : InnerView BoxView) → node ≡ Some (AnInner page) → page.level ≡ level
+    → e < length page.entries → ⊥
 
 -- the node is a leaf
 pub record IsLeafNode (node : Option (Node LegView BoxView)) : Type 0 where
@@ -27,7 +29,8 @@ pub record IsLeafNode (node : Option (Node LegView BoxView)) : Type 0 where
 -- each leg is of the feature, and its ordinal is above that of the one before it, the first one's above a number
 abbrev pub goes_on : ℕ → ℕ → List LegView → Bool
 goes_on feature ordinal [] = true
-goes_on feature ordinal (leg ∷ legs) = (leg.feature == feature) && (nat_lt ordinal leg.ordinal && goes_on feature leg.ordinal legs)
+goes_on feature ordinal (leg ∷ legs) =
+    (leg.feature == feature) && (nat_lt ordinal leg.ordinal && goes_on feature leg.ordinal legs)
 
 -- the legs can be the next ones of a leaf, which then has at most so many: they are of its feature, and their ordinals rise from above its last leg's
 pub record TakesLegs (most : ℕ) (leaf : LeafView LegView) (legs : List LegView) : Type 0 where
@@ -37,7 +40,8 @@ pub record TakesLegs (most : ℕ) (leaf : LeafView LegView) (legs : List LegView
   pub go_on : goes_on leaf.feature last.ordinal legs ≡ true
 
 -- the node is a leaf that takes legs
-pub record Takes (node : Option (Node LegView BoxView)) (most : ℕ) (legs : List LegView) : Type 0 where
+pub record Takes (node : Option (Node LegView BoxView)) (most : ℕ)
+    (legs : List LegView) : Type 0 where
   pub leaf : LeafView LegView
   pub is : node ≡ Some (ALeaf leaf)
   pub takes : TakesLegs most leaf legs

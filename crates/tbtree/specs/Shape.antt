@@ -12,4 +12,5 @@ pub record IsShape (shape : ShapeView) : Type 0 where
 -- the shape of these two numbers, if they are in range
 abbrev pub shape_of : ℕ → ℕ → Option ShapeView
 shape_of leaf inner =
-    if (nat_le 2 leaf && nat_le leaf 50) && (nat_le 2 inner && nat_le inner 72) then Some (record { leaf = leaf; inner = inner }) else None
+    if (nat_le 2 leaf && nat_le leaf 50) && (nat_le 2 inner && nat_le inner 72)
+    then Some (record { leaf = leaf; inner = inner }) else None

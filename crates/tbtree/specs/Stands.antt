@@ -49,24 +49,30 @@ leaf_of f ms i legs = record {
 }
 
 -- each block of each level has a page of its own, of those from 1 on and below count
-pub record NumbersStand {L : Type 0} (inner levels root count : ℕ) (runs : List (List L)) (pages : ℕ → List ℕ) : Type 0 where
+pub record NumbersStand {L : Type 0} (inner levels root count : ℕ) (runs : List (List L))
+    (pages : ℕ → List ℕ) : Type 0 where
   pub page_0 : 0 < count
   pub one_each : (k : ℕ) → k < levels → length (pages k) ≡ length (level inner k runs)
   pub no_more : (k : ℕ) → levels ≤ k → pages k ≡ []
   pub below_top : (k : ℕ) → suc k < levels → 1 < length (level inner k runs)
-  pub top : (k : ℕ) → suc k ≡ levels → (length (level inner k runs) ≡ 1) × (page_at pages k 0 ≡ Some root)
+  pub top : (k : ℕ) → suc k ≡ levels
+      → (length (level inner k runs) ≡ 1) × (page_at pages k 0 ≡ Some root)
   pub empty : levels ≡ 0 → (runs ≡ []) × (root ≡ 0)
   pub within : (k j p : ℕ) → page_at pages k j ≡ Some p → (0 < p) × (p < count)
-  pub apart : (k j k' j' p : ℕ) → page_at pages k j ≡ Some p → page_at pages k' j' ≡ Some p → (k ≡ k') × (j ≡ j')
+  pub apart : (k j k' j' p : ℕ) → page_at pages k j ≡ Some p → page_at pages k' j' ≡ Some p
+      → (k ≡ k') × (j ≡ j')
 
 -- each leaf has its page, linked with the others of its feature
 abbrev pub LeavesStand : {L B : Type 0} → Pages L B → (L → ℕ) → List (List L) → List ℕ → Type 0
 LeavesStand {L = L} nodes feature runs pages =
-    (i p : ℕ) (r : List L) → slice_get pages i ≡ Some p → slice_get runs i ≡ Some r → nodes.at p ≡ Some (Some (ALeaf (leaf_of (owner feature r) (marks feature runs pages) i r)))
+    (i p : ℕ) (r : List L) → slice_get pages i ≡ Some p → slice_get runs i ≡ Some r
+    → nodes.at p
+    ≡ Some (Some (ALeaf (leaf_of (owner feature r) (marks feature runs pages) i r)))
 
 module _ {L B : Type 0} (s : Boxes L B) (nodes : Pages L B) where
   -- the page p, of the height, has an entry for each of the blocks: its page, and the least box of its legs
-  pub record InnerStands (p height : ℕ) (below : List ℕ) (blocks : List (List (List L))) : Type 0 where
+  pub record InnerStands (p height : ℕ) (below : List ℕ)
+      (blocks : List (List (List L))) : Type 0 where
     pub page : InnerView B
     pub is : nodes.at p ≡ Some (Some (AnInner page))
     pub height_is : page.level ≡ height
@@ -76,21 +82,26 @@ module _ {L B : Type 0} (s : Boxes L B) (nodes : Pages L B) where
   -- each page of level k + 1 has an entry for each block of its group of level k
   abbrev pub LevelStands : ℕ → List (List L) → (ℕ → List ℕ) → ℕ → Type 0
   LevelStands inner runs pages k =
-      (j p : ℕ) → page_at pages (suc k) j ≡ Some p → InnerStands p (suc k) (block inner j (pages k)) (block inner j (level inner k runs))
+      (j p : ℕ) → page_at pages (suc k) j ≡ Some p
+      → InnerStands p (suc k) (block inner j (pages k)) (block inner j (level inner k runs))
 
 -- the nodes stand for the runs
-pub record TreeStands {L B : Type 0} (s : Boxes L B) (feature : L → ℕ) (inner levels root : ℕ) (nodes : Pages L B) (runs : List (List L)) (pages : ℕ → List ℕ) : Type 0 where
+pub record TreeStands {L B : Type 0} (s : Boxes L B) (feature : L → ℕ) (inner levels root : ℕ)
+    (nodes : Pages L B) (runs : List (List L)) (pages : ℕ → List ℕ) : Type 0 where
   pub held : (p : ℕ) → p < nodes.count → nodes.at p ≢ None
   pub numbers : NumbersStand inner levels root nodes.count runs pages
   pub leaves : LeavesStand nodes feature runs (pages 0)
   pub inners : (k : ℕ) → LevelStands s nodes inner runs pages k
 
 -- a feature's place: its first and last page, the last one's number among all leaves, and the number of its legs; all zero where it has none
-pub record PlaceStands {L : Type 0} (feature : L → ℕ) (legs : List L) (ms : List (ℕ × ℕ)) (f : ℕ) (place : Place) : Type 0 where
+pub record PlaceStands {L : Type 0} (feature : L → ℕ) (legs : List L) (ms : List (ℕ × ℕ)) (f : ℕ)
+    (place : Place) : Type 0 where
   pub first : place.first ≡ head_or_zero (pages_of f ms)
   pub last : place.last ≡ last_or 0 (pages_of f ms)
   pub legs_are : place.legs ≡ count_by (λ l. feature l == f) legs
-  pub last_index : 0 < place.legs → (slice_get ms place.last_index ≡ Some (f, place.last)) × (pages_of f (drop (suc place.last_index) ms) ≡ [])
+  pub last_index : 0 < place.legs
+      → (slice_get ms place.last_index ≡ Some (f, place.last))
+      × (pages_of f (drop (suc place.last_index) ms) ≡ [])
   pub none : place.legs ≡ 0 → (place.first ≡ 0) × (place.last ≡ 0) × (place.last_index ≡ 0)
 
 -- the place of a feature without legs

@@ -21,7 +21,8 @@ ComesAfter (Some last) leg = (last.ordinal < leg.ordinal) × (last.t1 ≤ℤ leg
 abbrev pub ComeInTurn : (feature rows : ℕ) → Option LegView → List LegView → Type 0
 ComeInTurn feature rows last [] = Unit {0}
 ComeInTurn feature rows last (leg ∷ legs) =
-    (leg.feature ≡ feature) × (leg.row < rows) × ComesAfter last leg × ComeInTurn feature rows (Some leg) legs
+    (leg.feature ≡ feature) × (leg.row < rows) × ComesAfter last leg
+    × ComeInTurn feature rows (Some leg) legs
 
 module _ {X : Type 0} (number : X → ℕ) where
   -- each number is above a

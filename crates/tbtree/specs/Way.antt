@@ -9,7 +9,8 @@ use Rattle.tbtree.specs.declared.tree.Top.{Top}
 use Rattle.tbtree.specs.Stands.{page_at, NumbersStand, LeavesStand, InnerStands, LevelStands, TreeStands}
 
 -- among the groups of m, the one of number j holds box more, and no other has changed
-pub record Wider {L B : Type 0} (s : Boxes L B) (m : ℕ) (runs after : List (List L)) (j : ℕ) (box : B) : Type 0 where
+pub record Wider {L B : Type 0} (s : Boxes L B) (m : ℕ) (runs after : List (List L)) (j : ℕ)
+    (box : B) : Type 0 where
   pub was : List (List L)
   pub is : List (List L)
   pub found : slice_get (groups m runs) j ≡ Some was
@@ -24,20 +25,23 @@ pub record Kept {L B : Type 0} (old new : Pages L B) (pages : ℕ → List ℕ) 
 
 module _ {L B : Type 0} (s : Boxes L B) (inner : ℕ) where
   -- p is the page of block j of level K, and the levels above stand for the runs after
-  pub record IsWidened (old new : Pages L B) (after : List (List L)) (pages : ℕ → List ℕ) (K j p : ℕ) : Type 0 where
+  pub record IsWidened (old new : Pages L B) (after : List (List L)) (pages : ℕ → List ℕ)
+      (K j p : ℕ) : Type 0 where
     pub found : page_at pages K j ≡ Some p
     pub kept : Kept old new pages K
     pub above : (k : ℕ) → K ≤ k → LevelStands s new inner after pages k
 
   -- the levels from K on stand for the runs. Block j of level K has leaf i, and after them it has box more, as the blocks above it
-  pub record Going (levels root : ℕ) (nodes : Pages L B) (K j : ℕ) (box : B) (runs after : List (List L)) (pages : ℕ → List ℕ) (count i : ℕ) : Type 0 where
+  pub record Going (levels root : ℕ) (nodes : Pages L B) (K j : ℕ) (box : B)
+      (runs after : List (List L)) (pages : ℕ → List ℕ) (count i : ℕ) : Type 0 where
     pub block : j ≡ i / inner ^ K
     pub wider : (k : ℕ) → K ≤ k → Wider s (inner ^ k) runs after (i / inner ^ k) box
     pub numbers : NumbersStand inner levels root count runs pages
     pub above : (k : ℕ) → K ≤ k → LevelStands s nodes inner runs pages k
 
   -- the block's page is found, and the levels above it are widened
-  abbrev pub IsOnWay : (levels root : ℕ) (old new : Pages L B) (K j : ℕ) (box : B) (result : Result ℕ TreeFault) → Type 0
+  abbrev pub IsOnWay : (levels root : ℕ) (old new : Pages L B) (K j : ℕ) (box : B)
+      (result : Result ℕ TreeFault) → Type 0
   IsOnWay levels root old new K j box result =
       (runs after : List (List L)) (pages : ℕ → List ℕ) (count i : ℕ)
       → Going levels root old K j box runs after pages count i
@@ -67,7 +71,8 @@ module _ {L B : Type 0} (s : Boxes L B) (feature : L → ℕ) (inner : ℕ) wher
     pub tree : TreeStands s feature inner levels root nodes (runs ++ ys ∷ []) pages
 
   -- the page p of block j of level K is hung
-  abbrev pub Hangs : (levels root : ℕ) (old new : Pages L B) (K j p : ℕ) (box : B) (result : Result Top TreeFault) → Type 0
+  abbrev pub Hangs : (levels root : ℕ) (old new : Pages L B) (K j p : ℕ) (box : B)
+      (result : Result Top TreeFault) → Type 0
   Hangs levels root old new K j p box result =
       (runs : List (List L)) (ys : List L) (pages : ℕ → List ℕ) (count : ℕ)
       → hull s ys ≡ Some box

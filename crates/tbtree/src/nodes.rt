@@ -2,7 +2,7 @@
 ghost use Rattle.std.specs.Prelude.{◌≡◌, ◌+◌, ◌≤◌, ◌<◌, [], ◌∷◌, OnOk, OnErr, IfOk, IfErr, IsTrue, None, length, true};
 ghost use Rattle.legs.specs.Hull.{leg_boxes};
 ghost use Rattle.pagecache.specs.Cache as caches;
-ghost use Rattle.pagecache.specs.Cache.{payload_of, AsksOnce, IsNotAdded, Stays};
+ghost use Rattle.pagecache.specs.Cache.{payload_of, AsksOnce, IsNotAdded, KeepsPayloads};
 ghost use Rattle.tbnode.specs.Edits.{new_inner};
 ghost use Rattle.tbtree.specs.Faults.{MayRefuseWrite};
 ghost use Rattle.tbtree.specs.Nodes.{pages_of_cache, AnInner, Adds, Attaches, Covers, HasCover, HasEntry, HasLeaf, HasLeafRoom, HasRoom, Links, Pushes, Widens};
@@ -149,7 +149,7 @@ fn add_page<S: PageStore>(
     ensures none_before { payload_of cache.old cache.old.count ≡ None }
     ensures length { OnOk result (cache.old.count ≡ cache.old.store.count
         → cache.new.count ≡ cache.new.store.count) }
-    ensures refused { OnErr result (Stays cache.old cache.new) }
+    ensures refused { OnErr result (KeepsPayloads cache.old cache.new) }
     ensures asks { AsksOnce cache.old cache.new }
     ensures cause { IfErr result (λ fault. IsNotAdded fault cache.old cache.new) }
 {

@@ -45,7 +45,9 @@ date_text_at n = year_text (year_at n) ++ 45 ∷ [] ++ pad2 (month_at n) ++ 45 �
 
 -- `HH:MM:SS.mmm`
 abbrev pub clock_text_at : ℕ → List ℕ
-clock_text_at c = pad2 (c / 3600000) ++ 58 ∷ pad2 (c / 60000 % 60) ++ 58 ∷ pad2 (c / 1000 % 60) ++ 46 ∷ places 3 1000 (c % 1000)
+clock_text_at c =
+    pad2 (c / 3600000) ++ 58 ∷ pad2 (c / 60000 % 60) ++ 58 ∷ pad2 (c / 1000 % 60) ++ 46
+    ∷ places 3 1000 (c % 1000)
 
 -- the text of a moment, `YYYY-MM-DDTHH:MM:SS.mmmZ`
 unfoldable pub instant_text : ℤ → List ℕ

@@ -1,6 +1,6 @@
 -- Files that are taken in, one after another.
 use Rattle.std.proofs.Common.{[], ◌∷◌, ◌<◌, ◌≡◌, ◌∙◌, ℕ, ap, sym, refl, subst, arith, List, Ok, Err, Result, IfOk}
-use Rattle.mfcsv.specs.FileText.{file_text}
+use Rattle.mfcsv.specs.FileText.{file_of_bytes}
 use Rattle.mfcsv.specs.declared.Code.{Code}
 use Rattle.mfcsv.specs.declared.File.{File}
 use Rattle.legs.specs.Legs.{LegView}
@@ -35,9 +35,9 @@ taken_by limits book (Ok file) counts e =
     record { file = file; legs = legs.0; reads = refl; joins = legs.1 }
 taken_by limits book (Err fault) counts e = absurd (cc)
 
-taken : (limits : LimitsView) (book : Book) (bytes : List ℕ) → Takes limits book bytes → IsTaken limits book (file_text bytes)
+taken : (limits : LimitsView) (book : Book) (bytes : List ℕ) → Takes limits book bytes → IsTaken limits book (file_of_bytes bytes)
 unfolding load_of
-taken limits book bytes takes = taken_by limits book (file_text bytes) takes.0 takes.1
+taken limits book bytes takes = taken_by limits book (file_of_bytes bytes) takes.0 takes.1
 
 joined_part : (limits : LimitsView) (part : Book) (said : Result File (Code × ℕ)) (file : File) → IsTaken limits part said → said ≡ Ok file → (legs : List LegView) × (joined limits part file ≡ Ok legs)
 joined_part limits part said file is e =
@@ -48,12 +48,12 @@ joined_part limits part said file is e =
     joined_or limits part legs (Ok file) = joined limits part file ≡ Ok legs
     joined_or limits part legs (Err fault) = ⊥
 
-book_is : (limits : LimitsView) (book : Book) (bytes : List ℕ) (file : File) → file_text bytes ≡ Ok file → book_with limits book bytes ≡ book_after limits book file
+book_is : (limits : LimitsView) (book : Book) (bytes : List ℕ) (file : File) → file_of_bytes bytes ≡ Ok file → book_with limits book bytes ≡ book_after limits book file
 unfolding book_with
 book_is limits book bytes file e = ap (book_by limits book) e
 
-says_of : (k n : ℕ) (bytes own : List ℕ) (file : File) → IsPartText k n bytes own → file_text bytes ≡ Ok file → file_text own ≡ Ok (file_part (part_of n) k file)
-says_of k n bytes own file text e = subst (λ (said : Result File (Code × ℕ)). IfOk said (λ f. file_text own ≡ Ok (file_part (part_of n) k f))) e text
+says_of : (k n : ℕ) (bytes own : List ℕ) (file : File) → IsPartText k n bytes own → file_of_bytes bytes ≡ Ok file → file_of_bytes own ≡ Ok (file_part (part_of n) k file)
+says_of k n bytes own file text e = subst (λ (said : Result File (Code × ℕ)). IfOk said (λ f. file_of_bytes own ≡ Ok (file_part (part_of n) k f))) e text
 
 pub record StayParts (k n : ℕ) (whole part : Book) : Type 0 where
   pub of : IsPartOf (part_of n) k whole part
@@ -64,8 +64,8 @@ pub load_one : (k n : ℕ) (whole part : Book) (limits own_limits : LimitsView) 
     → StayParts k n (book_with limits whole bytes) (book_with own_limits part own)
 load_one k n whole part limits own_limits bytes own is text takes own_takes =
     let t = taken limits whole bytes takes in
-    let says : file_text own ≡ Ok (file_part (part_of n) k t.file) = says_of k n bytes own t.file text t.reads in
-    let j = joined_part own_limits part (file_text own) (file_part (part_of n) k t.file) (taken own_limits part own own_takes) says in
+    let says : file_of_bytes own ≡ Ok (file_part (part_of n) k t.file) = says_of k n bytes own t.file text t.reads in
+    let j = joined_part own_limits part (file_of_bytes own) (file_part (part_of n) k t.file) (taken own_limits part own own_takes) says in
     let a : book_with limits whole bytes ≡ with_file whole t.file = book_is limits whole bytes t.file t.reads ∙ after_is limits whole t.file t.legs t.joins in
     let b : book_with own_limits part own ≡ with_file part (file_part (part_of n) k t.file) = book_is own_limits part own (file_part (part_of n) k t.file) says ∙ after_is own_limits part (file_part (part_of n) k t.file) j.0 j.1 in
     let c = book_is limits whole bytes t.file t.reads in
@@ -100,7 +100,7 @@ empty_law k n = (
 pub text_law : TextLaw
 unfolding load_of
 text_law k n limits own_limits whole part bytes own fault text e =
-    let own_fault : file_text own ≡ Err fault = text ∙ ap (said_part k n) e in
+    let own_fault : file_of_bytes own ≡ Err fault = text ∙ ap (said_part k n) e in
     ap (joined_counts own_limits part) own_fault ∙ sym (ap (joined_counts limits whole) e)
 
 pub first_text_law : FirstTextLaw
@@ -117,15 +117,15 @@ no_fault : (faults : List (JoinCode × ℕ)) (all legs : List LegView) → first
 no_fault [] all legs e = refl
 no_fault (fault ∷ faults) all legs e = absurd (cc)
 
-takes_without : (limits : LimitsView) (book : Book) (bytes : List ℕ) (file : File) → file_text bytes ≡ Ok file → file_faults limits book file ≡ [] → Takes limits book bytes
+takes_without : (limits : LimitsView) (book : Book) (bytes : List ℕ) (file : File) → file_of_bytes bytes ≡ Ok file → file_faults limits book file ≡ [] → Takes limits book bytes
 unfolding load_of
 takes_without limits book bytes file e none =
     let all = records_legs book file.records in
     (counts_of file all, ap (joined_counts limits book) e ∙ ap (λ (faults : List (JoinCode × ℕ)). counts_or file (first_or faults all)) none)
 
-has_none : (limits : LimitsView) (book : Book) (bytes : List ℕ) (file : File) → file_text bytes ≡ Ok file → Takes limits book bytes → file_faults limits book file ≡ []
+has_none : (limits : LimitsView) (book : Book) (bytes : List ℕ) (file : File) → file_of_bytes bytes ≡ Ok file → Takes limits book bytes → file_faults limits book file ≡ []
 has_none limits book bytes file e takes =
-    let joins = joined_part limits book (file_text bytes) file (taken limits book bytes takes) e in
+    let joins = joined_part limits book (file_of_bytes bytes) file (taken limits book bytes takes) e in
     no_fault (file_faults limits book file) (records_legs book file.records) joins.0 joins.1
 
 pub takes_law : TakesLaw

@@ -3,7 +3,7 @@ use Rattle.std.proofs.Common.{[], ◌∷◌, ◌++◌, ◌<◌, ◌≤◌, ◌�
 use Rattle.std.specs.Prelude.{nat_lt}
 use Rattle.std.proofs.lemmas.Bool.{cases_Bool}
 use Rattle.std.proofs.lemmas.Bool.Decides.{nat_tests}
-use Rattle.mfcsv.specs.FileText.{file_text}
+use Rattle.mfcsv.specs.FileText.{file_of_bytes}
 use Rattle.mfcsv.specs.declared.Code.{Code}
 use Rattle.mfcsv.specs.declared.File.{File}
 use Rattle.legs.specs.Book.{Book, book_after, joined}
@@ -57,7 +57,7 @@ refused_by limits book (Err fault) none = refl
 
 refused : (limits : LimitsView) (book : Book) (bytes : List ℕ) → (Takes limits book bytes → ⊥) → book_with limits book bytes ≡ book
 unfolding load_of book_with
-refused limits book bytes none = refused_by limits book (file_text bytes) none
+refused limits book bytes none = refused_by limits book (file_of_bytes bytes) none
 
 refused_named : (limits : LimitsView) (book : Book) (file : Option (List ℕ)) → (AcceptsNamed limits book file → ⊥) → named_book limits book file ≡ book
 refused_named limits book (Some bytes) none = refused limits book bytes none

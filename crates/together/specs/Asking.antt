@@ -31,7 +31,8 @@ module _ (f : List ℕ → ℕ) (n : ℕ) where
   pub record CountsTogether (text : List ℕ) (own : ℕ → List ℕ) : Type 0 where
     pub legs : ℕ → ℕ
     pub features : ℕ → ℕ
-    pub whole : text ≡ told_count_text (sum_by legs (range_with_len 0 n)) (sum_by features (range_with_len 0 n))
+    pub whole : text
+        ≡ told_count_text (sum_by legs (range_with_len 0 n)) (sum_by features (range_with_len 0 n))
     pub each : (k : ℕ) → k < n → own k ≡ told_count_text (legs k) (features k)
 
   -- what a command answers; nothing is said here of `load`, whose counts and refusals have laws of their own, and of
@@ -46,7 +47,8 @@ module _ (f : List ℕ → ℕ) (n : ℕ) where
   AnswerTogether head Write text own = Unit {0}
 
   -- what a line answers: a line that is no command nothing, and a refused one the same to all
-  abbrev pub SayTogether : Option BookHead → Result (Option Command) LineCode → List ℕ → (ℕ → List ℕ) → Type 0
+  abbrev pub SayTogether : Option BookHead → Result (Option Command) LineCode → List ℕ
+      → (ℕ → List ℕ) → Type 0
   SayTogether head (Ok (Some command)) text own = AnswerTogether head command text own
   SayTogether head (Ok None) text own = (text ≡ []) × ((k : ℕ) → k < n → own k ≡ [])
   SayTogether head (Err code) text own = (k : ℕ) → k < n → own k ≡ text
@@ -54,6 +56,10 @@ module _ (f : List ℕ → ℕ) (n : ℕ) where
 -- each line of a script
 abbrev pub LineLaw : Type 0
 LineLaw =
-    (f : List ℕ → ℕ) (n : ℕ) (whole : Book) (parts : ℕ → Book) (limits : LimitsView) (own_limits : ℕ → LimitsView) (files : List (List ℕ × List ℕ)) (own_files : ℕ → List (List ℕ × List ℕ)) (line text : List ℕ) (own : ℕ → List ℕ) → ArePartsOf f n whole parts
-    → IsLineText limits files whole line text → ((k : ℕ) → k < n → IsLineText (own_limits k) (own_files k) (parts k) line (own k))
+    (f : List ℕ → ℕ) (n : ℕ) (whole : Book) (parts : ℕ → Book) (limits : LimitsView)
+    (own_limits : ℕ → LimitsView) (files : List (List ℕ × List ℕ))
+    (own_files : ℕ → List (List ℕ × List ℕ)) (line text : List ℕ) (own : ℕ → List ℕ)
+    → ArePartsOf f n whole parts
+    → IsLineText limits files whole line text
+    → ((k : ℕ) → k < n → IsLineText (own_limits k) (own_files k) (parts k) line (own k))
     → SayTogether f n whole.head (line_of line) text own

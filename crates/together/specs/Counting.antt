@@ -1,7 +1,7 @@
 -- What `load` counts of a file and of its parts, and the numbers of a file's records.
 use Rattle.std.specs.Prelude.{ℕ, ◌≡◌, ◌<◌, List, Ok, sum_by}
 use Rattle.std.specs.List.{range_with_len}
-use Rattle.mfcsv.specs.FileText.{file_text}
+use Rattle.mfcsv.specs.FileText.{file_of_bytes}
 use Rattle.mfcsv.specs.declared.File.{File}
 use Rattle.legs.specs.Book.{Book, joined}
 use Rattle.legs.specs.Legs.{LegView}
@@ -19,10 +19,13 @@ pub record IsSumOf (n : ℕ) (all : Counts) (each : ℕ → Counts) : Type 0 whe
 -- `load`: the counts of a file that the whole takes in, and each part its part, are the sums of the parts'
 abbrev pub LoadCountLaw : Type 0
 LoadCountLaw =
-    (f : List ℕ → ℕ) (n : ℕ) (whole : Book) (parts : ℕ → Book) (limits : LimitsView) (own_limits : ℕ → LimitsView) (file : File) (legs : List LegView) (own : ℕ → List LegView) → ArePartsOf f n whole parts
-    → joined limits whole file ≡ Ok legs → ((k : ℕ) → k < n → joined (own_limits k) (parts k) (file_part f k file) ≡ Ok (own k))
+    (f : List ℕ → ℕ) (n : ℕ) (whole : Book) (parts : ℕ → Book) (limits : LimitsView)
+    (own_limits : ℕ → LimitsView) (file : File) (legs : List LegView) (own : ℕ → List LegView)
+    → ArePartsOf f n whole parts
+    → joined limits whole file ≡ Ok legs
+    → ((k : ℕ) → k < n → joined (own_limits k) (parts k) (file_part f k file) ≡ Ok (own k))
     → IsSumOf n (counts_of file legs) (λ k. counts_of (file_part f k file) (own k))
 
 -- the records of a file have rising numbers, from 1 on
 abbrev pub RisesLaw : Type 0
-RisesLaw = (bytes : List ℕ) (file : File) → file_text bytes ≡ Ok file → Rises 1 file.records
+RisesLaw = (bytes : List ℕ) (file : File) → file_of_bytes bytes ≡ Ok file → Rises 1 file.records

@@ -13,7 +13,12 @@ bare leg = record leg { ordinal = 0; feature = 0; row = 0 }
 
 -- a leg with its name and attribute values, without its numbers
 abbrev pub told_leg : Book → LegView → EntryView
-told_leg book leg = record { name = name_of book leg.feature; leg = bare leg; values = slice_index_or book.rows leg.row [] }
+told_leg book leg =
+    record {
+      name = name_of book leg.feature;
+      leg = bare leg;
+      values = slice_index_or book.rows leg.row [];
+    }
 
 abbrev pub told : Book → List LegView → List EntryView
 told book legs = map (told_leg book) legs

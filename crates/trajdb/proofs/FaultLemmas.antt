@@ -22,7 +22,7 @@ use Rattle.trajdb.specs.Answers.{track_of}
 use Rattle.trajdb.specs.Picks.{Picks}
 use Rattle.trajdb.specs.Faults.{run_fault_of}
 use Rattle.trajdb.specs.Database.{CoreView, IsSound}
-use Rattle.trajdb.specs.Calls.{IsLater, Leaves, features_bound, IsText, IsRefused, IsStopped, IsRunStop, KnowsOf, known_features_bound}
+use Rattle.trajdb.specs.Calls.{IsLater, LeavesBook, features_bound, IsText, IsRefused, IsStopped, IsRunStop, KnowsOf, known_features_bound}
 
 -- a text that was not made, of what is there
 pub text_refused : {I : Type 0} (g : Ghosts I) (old new : CoreView I) (P : Type 0) (fault : RunFault) → IsText P fault → (IsSound g old → P) → IsRefused g old new fault
@@ -117,10 +117,10 @@ features_there old new P features found same e h = rw (same, e) (picks_all P (λ
 pub later-refl : {I : Type 0} (g : Ghosts I) (a : CoreView I) → IsLater g a a
 later-refl g a = record { limits = refl; index = record { plan = refl; faults = omega arith; asked = omega arith } }
 
-pub leaves-refl : {I : Type 0} (g : Ghosts I) (a : CoreView I) → Leaves g a a
+pub leaves-refl : {I : Type 0} (g : Ghosts I) (a : CoreView I) → LeavesBook g a a
 leaves-refl g a = record { book = refl; tracks = refl; begun = refl; sound = λ s. s; failed = refl; limits = refl; index = index_leaves-refl g a.index }
 
-pub leaves-trans : {I : Type 0} (g : Ghosts I) (a b c : CoreView I) → Leaves g a b → Leaves g b c → Leaves g a c
+pub leaves-trans : {I : Type 0} (g : Ghosts I) (a b c : CoreView I) → LeavesBook g a b → LeavesBook g b c → LeavesBook g a c
 leaves-trans g a b c p q = record {
   book = q.book ∙ p.book;
   tracks = q.tracks ∙ p.tracks;
@@ -132,7 +132,7 @@ leaves-trans g a b c p q = record {
 }
 
 -- a question was refused after others
-pub refused-after : {I : Type 0} (g : Ghosts I) (a b c : CoreView I) (fault : RunFault) → Leaves g a b → Leaves g b c → IsRefused g b c fault → IsRefused g a c fault
+pub refused-after : {I : Type 0} (g : Ghosts I) (a b c : CoreView I) (fault : RunFault) → LeavesBook g a b → LeavesBook g b c → IsRefused g b c fault → IsRefused g a c fault
 refused-after g a b c Memory p q r = record { sound = λ s. tt; store = tt }
 refused-after g a b c Store p q r = record { sound = λ s. tt; store = let x = p.index.later.faults in let y = q.index.later.faults in let z = r.store in omega (arith, x, y, z) }
 refused-after g a b c (Damaged page) p q r = record { sound = λ s. r.sound (p.sound s); store = tt }
@@ -145,7 +145,7 @@ pub memory_refused : {I : Type 0} (g : Ghosts I) (a b : CoreView I) (fault : Run
 memory_refused g a b fault e = rw e (record { sound = λ s. tt; store = tt })
 
 -- what is known of a feature is known after a question
-pub knows_kept : {I : Type 0} (g : Ghosts I) (a b : CoreView I) → Leaves g a b → Recalls g a.index b.index → (period : PeriodView) (feature : ℕ) → KnowsOf g a period feature → KnowsOf g b period feature
+pub knows_kept : {I : Type 0} (g : Ghosts I) (a b : CoreView I) → LeavesBook g a b → Recalls g a.index b.index → (period : PeriodView) (feature : ℕ) → KnowsOf g a period feature → KnowsOf g b period feature
 knows_kept g a b leaves recalls period feature knows =
     ⊎_elim
     (λ (over : IsOver a.tracks feature period). inl (subst (λ (t : TracksView). IsOver t feature period) (sym leaves.tracks) over))

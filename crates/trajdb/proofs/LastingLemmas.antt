@@ -11,7 +11,7 @@ use Rattle.catalogue.specs.Holding.{AnswersBook, HoldsBook, HoldsButFirst, IsAtR
 use Rattle.register.specs.Lasting as catalogue
 use Rattle.register.specs.Stopping as stopping
 use Rattle.register.specs.Saved.{CatalogueView}
-use Rattle.register.specs.Saving.{IsAllowed}
+use Rattle.register.specs.Saving.{IsSavingStop}
 use Rattle.register.specs.declared.fault.CatalogueFault.{CatalogueFault}
 use Rattle.register.specs.declared.fault.CatalogueFault.TheVariants as fault
 use Rattle.pages.specs.Store.{Store, IsLawful, IsSynced, IsSyncedButFirst}
@@ -22,10 +22,10 @@ use Rattle.register.specs.declared.fault.CatalogueFault.TheVariants.{Memory, Sto
 use Rattle.legs.specs.Asking.{Leaves as IndexLeaves}
 use Rattle.trajdb.specs.Calls.{IsLoadFault, KeepsPages}
 use Rattle.trajdb.specs.Database.{catalogue_of, restored}
-use Rattle.trajdb.specs.Db.{DbView, HasPages, IsSound}
+use Rattle.trajdb.specs.Db.{DbView, HasPages, IsSoundDb}
 use Rattle.trajdb.specs.Db.{IsAllowed as IsAllowedOpening}
 use Rattle.trajdb.specs.Faults.{closed_answer, opened_fault_of}
-use Rattle.trajdb.specs.Lasting.{HasBook, IsFaultless, IsIdle, IsNamed, IsStop, IsTrulyDamaged, TakesFew}
+use Rattle.trajdb.specs.Lasting.{HasBook, IsFaultless, IsIdle, IsNamedAtOpen, IsStop, IsTrulyDamaged, TakesFew}
 
 -- a book that is answered is that of the database
 pub opened_book : (shape : ShapeView) (limits : LimitsView) (book : Book) (c : CatalogueView) (index : IndexView) (begun : Bool) (db : DbView) → db ≡ restored words c index begun → IsLimits db.limits → AnswersBook shape limits book c index → HasBook shape limits book db
@@ -57,7 +57,7 @@ damaged_still faithful at count Version h = tt
 damaged_still faithful at count Malformed h = tt
 
 -- and what is named
-pub named_still : (at : ℕ → Option Payload) (count : ℕ) (e : CatalogueFault) → stopping.IsNamed at count e → IsNamed at count (opened_fault_of e)
+pub named_still : (at : ℕ → Option Payload) (count : ℕ) (e : CatalogueFault) → stopping.NamesStop at count e → IsNamedAtOpen at count (opened_fault_of e)
 named_still at count Memory h = tt
 named_still at count fault.Store h = tt
 named_still at count StoreFull h = tt
@@ -77,7 +77,7 @@ stopped Version h = h
 stopped Malformed h = h
 
 -- and so does a new store that is full
-pub allowed_opening : (e : CatalogueFault) → IsAllowed e → IsAllowedOpening (opened_fault_of e)
+pub allowed_opening : (e : CatalogueFault) → IsSavingStop e → IsAllowedOpening (opened_fault_of e)
 allowed_opening Memory h = tt
 allowed_opening fault.Store h = tt
 allowed_opening StoreFull h = tt
@@ -98,18 +98,18 @@ keeps_idle rests old new keeps idle begun lives =
     subst (λ c. IsAtRest c new.index) same (rests (catalogue_of old) old.index new.index rest leaves.index)
 
 -- the catalogue of a sound database is that of its book
-pub own_book : (db : DbView) → IsSound db → IsOfBook db.limits db.book (catalogue_of db)
+pub own_book : (db : DbView) → IsSoundDb db → IsOfBook db.limits db.book (catalogue_of db)
 own_book db sound = record { head = refl; limits_are = refl; rows = refl; tracks = sound.tracks; law = sound.law }
 
 -- the store of a database at rest holds its book
 pub rest_book : ((c : CatalogueView) (i : IndexView) (book : Book) → IsTrue i.cache.store.is_faithful → IsLawful i.cache.store → IsSettled i.cache → IsAtRest c i → IsSoundIndex i → IsOfBook c.limits book c → content i ≡ book.legs → HoldsBook i.cache.store i.tree.shape c.limits book)
-    → (db : DbView) → content db.index ≡ db.book.legs → IsLawful db.index.cache.store → IsSettled db.index.cache → IsSound db → IsIdle db → db.begun ≡ false → db.failed ≡ false → HoldsBook db.index.cache.store db.index.tree.shape db.limits db.book
+    → (db : DbView) → content db.index ≡ db.book.legs → IsLawful db.index.cache.store → IsSettled db.index.cache → IsSoundDb db → IsIdle db → db.begun ≡ false → db.failed ≡ false → HoldsBook db.index.cache.store db.index.tree.shape db.limits db.book
 rest_book holds db legs lawful settled sound idle begun lives = holds (catalogue_of db) db.index db.book sound.index.faithful lawful settled (idle begun lives) sound.index (own_book db sound) legs
 
 -- so does the store that is closed
 pub closed_holds : (db : DbView) (s : Store) (answer : Result (Unit {0}) CatalogueFault) → content db.index ≡ db.book.legs
     → OnOk answer (IsSoundIndex db.index → IsMarked db.index.cache → (book : Book) → IsOfBook db.limits book (catalogue_of db) → content db.index ≡ book.legs → HoldsBook s db.index.tree.shape db.limits book)
-    → db.begun ≡ true → OnOk (closed_answer answer) (IsSound db → HasPages db → IsIdle db → HoldsBook s db.index.tree.shape db.limits db.book)
+    → db.begun ≡ true → OnOk (closed_answer answer) (IsSoundDb db → HasPages db → IsIdle db → HoldsBook s db.index.tree.shape db.limits db.book)
 closed_holds db s (Ok x) legs h begun = λ sound pages idle. h sound.index (pages.begun begun) db.book (own_book db sound) legs
 closed_holds db s (Err e) legs h begun = tt
 
@@ -118,12 +118,12 @@ pub closed_synced : (B : Type 0) (s : Store) (answer : Result (Unit {0}) Catalog
 closed_synced B s (Ok x) h = λ b. h
 closed_synced B s (Err e) h = tt
 
-pub closed_takes : (db : DbView) (s : Store) (answer : Result (Unit {0}) CatalogueFault) → OnOk answer (IsSoundIndex db.index → TakesFew db s) → OnOk (closed_answer answer) (IsSound db → TakesFew db s)
+pub closed_takes : (db : DbView) (s : Store) (answer : Result (Unit {0}) CatalogueFault) → OnOk answer (IsSoundIndex db.index → TakesFew db s) → OnOk (closed_answer answer) (IsSoundDb db → TakesFew db s)
 closed_takes db s (Ok x) h = λ sound. h sound.index
 closed_takes db s (Err e) h = tt
 
 -- a store that stays as it is has no page more
-pub rest_takes : (db : DbView) (s : Store) → s ≡ db.index.cache.store → IsSound db → TakesFew db s
+pub rest_takes : (db : DbView) (s : Store) → s ≡ db.index.cache.store → IsSoundDb db → TakesFew db s
 rest_takes db s e sound pages earlier =
     let count = sound.index.count in
     let n = ap (λ (s : Store). s.count) e in
@@ -136,13 +136,13 @@ closed_ordered db s (Err e) h = λ lives marked. h marked
 
 pub closed_refused : (db : DbView) (s : Store) (answer : Result (Unit {0}) CatalogueFault) → content db.index ≡ db.book.legs
     → OnErr answer (IsSoundIndex db.index → IsMarked db.index.cache → (book : Book) → IsOfBook db.limits book (catalogue_of db) → content db.index ≡ book.legs → IsUnfinishedStore s ⊎ HoldsButFirst s db.index.tree.shape db.limits book)
-    → db.begun ≡ true → OnErr (closed_answer answer) (IsSound db → HasPages db → db.failed ≡ false → IsUnfinishedStore s ⊎ HoldsButFirst s db.index.tree.shape db.limits db.book)
+    → db.begun ≡ true → OnErr (closed_answer answer) (IsSoundDb db → HasPages db → db.failed ≡ false → IsUnfinishedStore s ⊎ HoldsButFirst s db.index.tree.shape db.limits db.book)
 closed_refused db s (Ok x) legs h begun = tt
 closed_refused db s (Err e) legs h begun = λ sound pages lives. h sound.index (pages.begun begun) db.book (own_book db sound) legs
 
 pub closed_unfinished : (db : DbView) (s : Store) (answer : Result (Unit {0}) CatalogueFault)
     → IfErr answer (λ fault. IsNoStoreFault fault → IsSoundIndex db.index → IsMarked db.index.cache → IsUnfinishedStore s)
-    → db.begun ≡ true → IfErr (closed_answer answer) (λ fault. IsFaultless fault → IsSound db → HasPages db → db.failed ≡ false → IsUnfinishedStore s)
+    → db.begun ≡ true → IfErr (closed_answer answer) (λ fault. IsFaultless fault → IsSoundDb db → HasPages db → db.failed ≡ false → IsUnfinishedStore s)
 closed_unfinished db s (Ok x) h begun = tt
 closed_unfinished db s (Err Memory) h begun = λ f sound pages lives. h tt sound.index (pages.begun begun)
 closed_unfinished db s (Err fault.Store) h begun = λ f. absurd f
@@ -153,8 +153,8 @@ closed_unfinished db s (Err Version) h begun = λ f. absurd f
 closed_unfinished db s (Err Malformed) h begun = λ f. absurd f
 
 pub closed_only : (db : DbView) (answer : Result (Unit {0}) CatalogueFault) → content db.index ≡ db.book.legs
-    → IfErr answer (λ fault. IsSoundIndex db.index → (book : Book) → IsOfBook db.limits book (catalogue_of db) → content db.index ≡ book.legs → IsAllowed fault)
-    → IfErr (closed_answer answer) (λ fault. IsSound db → db.failed ≡ false → IsLoadFault fault)
+    → IfErr answer (λ fault. IsSoundIndex db.index → (book : Book) → IsOfBook db.limits book (catalogue_of db) → content db.index ≡ book.legs → IsSavingStop fault)
+    → IfErr (closed_answer answer) (λ fault. IsSoundDb db → db.failed ≡ false → IsLoadFault fault)
 closed_only db (Ok x) legs h = tt
 closed_only db (Err Memory) legs h = λ sound lives. tt
 closed_only db (Err fault.Store) legs h = λ sound lives. tt

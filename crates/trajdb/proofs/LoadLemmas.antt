@@ -2,7 +2,7 @@
 use Rattle.std.proofs.Common.{[], ◌∷◌, ◌++◌, ◌≡◌, ◌∙◌, ℕ, List, Option, Result, Ok, Err, ap, length, map, refl, subst, sym}
 use Rattle.std.specs.Prelude.{IfOk}
 use Rattle.std.proofs.lemmas.List.{map_push}
-use Rattle.mfcsv.specs.FileText.{HasWholeRows, file_text}
+use Rattle.mfcsv.specs.FileText.{HasWholeRows, file_of_bytes}
 use Rattle.mfcsv.specs.Rows.{rows_of}
 use Rattle.mfcsv.specs.Views.{RecordView}
 use Rattle.mfcsv.specs.Left.{GivesHead, with_all, with_first}
@@ -60,25 +60,25 @@ code_told : (limits : LimitsView) (book : Book) (fault : FileFault) (text : Resu
 code_told limits book text.Memory said f = tt
 code_told limits book (text.Refused code number) said f = ap (joined_counts limits book) f
 
-pub reading_fails : (tracks : TracksView) (limits : LimitsView) (bytes : List ℕ) (left : Result File (Code × ℕ)) (joiner : JoiningView) (rows : List (List (List ℕ))) (fault : FileFault) (book : Book) → IsReading tracks limits (file_text bytes) left joiner rows
+pub reading_fails : (tracks : TracksView) (limits : LimitsView) (bytes : List ℕ) (left : Result File (Code × ℕ)) (joiner : JoiningView) (rows : List (List (List ℕ))) (fault : FileFault) (book : Book) → IsReading tracks limits (file_of_bytes bytes) left joiner rows
     → IsTextFault fault left → FaultIs (code_fault fault) (load_of limits book bytes)
 unfolding load_of
-reading_fails tracks limits bytes left joiner rows fault book is f = code_told limits book fault (file_text bytes) (all_fails fault is.records left (file_text bytes) is.said f)
+reading_fails tracks limits bytes left joiner rows fault book is f = code_told limits book fault (file_of_bytes bytes) (all_fails fault is.records left (file_of_bytes bytes) is.said f)
 
-pub reading_head_fails : (tracks : TracksView) (limits : LimitsView) (bytes : List ℕ) (left over : Result File (Code × ℕ)) (joiner : JoiningView) (rows : List (List (List ℕ))) (fault : FileFault) (book : Book) → IsReading tracks limits (file_text bytes) left joiner rows
+pub reading_head_fails : (tracks : TracksView) (limits : LimitsView) (bytes : List ℕ) (left over : Result File (Code × ℕ)) (joiner : JoiningView) (rows : List (List (List ℕ))) (fault : FileFault) (book : Book) → IsReading tracks limits (file_of_bytes bytes) left joiner rows
     → over ≡ left → IsTextFault fault over → FaultIs (code_fault fault) (load_of limits book bytes)
 reading_head_fails tracks limits bytes left over joiner rows fault book is o f =
     reading_fails tracks limits bytes left joiner rows fault book is (subst (λ (t : Result File (Code × ℕ)). IsTextFault fault t) o f)
 
 -- all records were read: the file
-pub reading_ends : (tracks : TracksView) (limits : LimitsView) (bytes : List ℕ) (left over : Result File (Code × ℕ)) (joiner : JoiningView) (rows : List (List (List ℕ))) (head : Head) (is : IsReading tracks limits (file_text bytes) left joiner rows)
-    → over ≡ left → over ≡ Ok (record { head = head; records = [] }) → file_text bytes ≡ Ok (file_of head is.records)
-reading_ends tracks limits bytes left over joiner rows head is o h = all_read is.records is.records head left over (file_text bytes) is.said o h refl
+pub reading_ends : (tracks : TracksView) (limits : LimitsView) (bytes : List ℕ) (left over : Result File (Code × ℕ)) (joiner : JoiningView) (rows : List (List (List ℕ))) (head : Head) (is : IsReading tracks limits (file_of_bytes bytes) left joiner rows)
+    → over ≡ left → over ≡ Ok (record { head = head; records = [] }) → file_of_bytes bytes ≡ Ok (file_of head is.records)
+reading_ends tracks limits bytes left over joiner rows head is o h = all_read is.records is.records head left over (file_of_bytes bytes) is.said o h refl
 
-pub reading_joined : (tracks : TracksView) (limits : LimitsView) (bytes : List ℕ) (left : Result File (Code × ℕ)) (joiner : JoiningView) (rows : List (List (List ℕ))) (first : Option BookHead) (head : Head) (by : JoinedView) (is : IsReading tracks limits (file_text bytes) left joiner rows)
-    → file_text bytes ≡ Ok (file_of head is.records)
+pub reading_joined : (tracks : TracksView) (limits : LimitsView) (bytes : List ℕ) (left : Result File (Code × ℕ)) (joiner : JoiningView) (rows : List (List (List ℕ))) (first : Option BookHead) (head : Head) (by : JoinedView) (is : IsReading tracks limits (file_of_bytes bytes) left joiner rows)
+    → file_of_bytes bytes ≡ Ok (file_of head is.records)
     → ((ls : LimitsView) (book : Book) (records : List RecordView) → IsJoining ls joiner book records → book.head ≡ first → IsJoinedBy ls book (file_of head records) by)
-    → IsRead tracks first limits (file_text bytes) (record { head = head; joined = by; rows = rows })
+    → IsRead tracks first limits (file_of_bytes bytes) (record { head = head; joined = by; rows = rows })
 reading_joined tracks limits bytes left joiner rows first head by is said joined = record {
   file = file_of head is.records;
   said = said;
@@ -92,21 +92,21 @@ join_told : (limits : LimitsView) (book : Book) (file : File) (fault : JoinFault
 join_told limits book file join.Memory f = tt
 join_told limits book file (join.Refused code number) f = ap (counts_or file) f
 
-pub reading_refused : (tracks : TracksView) (limits : LimitsView) (bytes : List ℕ) (left : Result File (Code × ℕ)) (joiner : JoiningView) (rows : List (List (List ℕ))) (head : Head) (book : Book) (fault : JoinFault) (is : IsReading tracks limits (file_text bytes) left joiner rows)
-    → file_text bytes ≡ Ok (file_of head is.records) → IsRefusal fault (joined limits book (file_of head is.records)) → FaultIs (join_fault fault) (load_of limits book bytes)
+pub reading_refused : (tracks : TracksView) (limits : LimitsView) (bytes : List ℕ) (left : Result File (Code × ℕ)) (joiner : JoiningView) (rows : List (List (List ℕ))) (head : Head) (book : Book) (fault : JoinFault) (is : IsReading tracks limits (file_of_bytes bytes) left joiner rows)
+    → file_of_bytes bytes ≡ Ok (file_of head is.records) → IsRefusal fault (joined limits book (file_of head is.records)) → FaultIs (join_fault fault) (load_of limits book bytes)
 unfolding load_of
 reading_refused tracks limits bytes left joiner rows head book fault is said f =
     subst (λ (text : Result File (Code × ℕ)). FaultIs (join_fault fault) (joined_counts limits book text)) (sym said) (join_told limits book (file_of head is.records) fault f)
 
 -- what is told of a file that was read and joined
-pub accepted_counts : (limits : LimitsView) (book : Book) (bytes : List ℕ) (file : File) (new : NewFile) → file_text bytes ≡ Ok file → Accepts limits book file new → load_of limits book bytes ≡ Ok (counts_in new.joined)
+pub accepted_counts : (limits : LimitsView) (book : Book) (bytes : List ℕ) (file : File) (new : NewFile) → file_of_bytes bytes ≡ Ok file → Accepts limits book file new → load_of limits book bytes ≡ Ok (counts_in new.joined)
 unfolding load_of
 accepted_counts limits book bytes file new said accepts =
     ap (joined_counts limits book) said ∙ ap (counts_or file) accepts.0.legs
     ∙ ap (λ n. Ok (record { records = n; legs = length new.joined.legs; features = length (names_after [] file.records) })) (sym accepts.0.records)
     ∙ ap (λ (names : List (List ℕ)). Ok (record { records = new.joined.records; legs = length new.joined.legs; features = length names })) (sym accepts.0.names)
 
-pub accepted_book : (limits : LimitsView) (book : Book) (bytes : List ℕ) (file : File) (new : NewFile) → file_text bytes ≡ Ok file → Accepts limits book file new → book_with limits book bytes ≡ with_file book file
+pub accepted_book : (limits : LimitsView) (book : Book) (bytes : List ℕ) (file : File) (new : NewFile) → file_of_bytes bytes ≡ Ok file → Accepts limits book file new → book_with limits book bytes ≡ with_file book file
 unfolding book_with
 accepted_book limits book bytes file new said accepts = ap (book_by limits book) said ∙ ap (λ (o : Result (List LegView) (JoinCode × ℕ)). elim o [ Ok legs ↦ with_file book file | Err fault ↦ book ]) accepts.0.legs
 
@@ -121,7 +121,7 @@ refused_by limits book (Ok file) fault said = by (joined limits book file) said
 
 pub refused_book : (limits : LimitsView) (book : Book) (bytes : List ℕ) (fault : FileCode × ℕ) → load_of limits book bytes ≡ Err fault → book_with limits book bytes ≡ book
 unfolding load_of book_with
-refused_book limits book bytes fault said = refused_by limits book (file_text bytes) fault said
+refused_book limits book bytes fault said = refused_by limits book (file_of_bytes bytes) fault said
 
 pub told_kept : (limits : LimitsView) (book : Book) (bytes : List ℕ) (fault : LoadFault) → IsRefused fault → FaultIs fault (load_of limits book bytes) → book ≡ book_with limits book bytes
 told_kept limits book bytes (Refused code number) told said = sym (refused_book limits book bytes (code, number) said)

@@ -16,12 +16,12 @@ use Rattle.tbtree.specs.Nodes.{Pages, pages_of_cache}
 use Rattle.tbtree.specs.declared.tree.Place.{Place}
 use Rattle.tbtree.specs.declared.tree.TbTree.{TbTree}
 use Rattle.tbtree.specs.Turn.{IsRising}
-use Rattle.treecheck.specs.Check.{first_on, AreChains, HoldChains, IsChecked, IsOver}
+use Rattle.treecheck.specs.Check.{first_on, AreChains, HoldChains, IsChecked, IsTreeOver}
 use Rattle.treecheck.specs.Descent.{DescentStopsAt}
 use Rattle.treecheck.specs.Naming.{HasHeader, HoldList, IsFirstDamaged, IsFirstMalformed, IsOrder}
 use Rattle.treecheck.specs.Stopping.{AllStopAt}
 use Rattle.treecheck.proofs.WalkedLemmas.{same_pages}
-use Rattle.trajdb.specs.Calls.{Leaves}
+use Rattle.trajdb.specs.Calls.{LeavesBook}
 use Rattle.trajdb.specs.Checking.{IsFirstFault}
 use Rattle.trajdb.specs.Db.{DbView}
 use Rattle.treecheck.proofs.NamingLemmas.{whole_malformed}
@@ -95,12 +95,12 @@ module _ (old new : Cache) (reads : OnlyReads old new) (fa : IsTrue old.store.is
           walk = λ h apart. subst (λ nodes. AllStopAt nodes tree.shape.leaf rows places tracks.tracks n) pages (m.walk (headed h) (λ k. apart (k.0, subst (λ nodes. chains nodes k.0) pages k.1)));
           list = λ h k apart. m.list (headed h) (k.0, subst (λ nodes. chains nodes k.0) (sym pages) k.1) (λ l. apart (l.0, subst (λ nodes. HoldChains nodes tree.shape.leaf rows total places tracks.tracks l.0) pages l.1, l.2));
           descent = λ h k order o apart. subst (λ nodes. DescentStopsAt nodes tree order n) pages
-              (m.descent (headed h) (listed k) order (ordered order o) (λ ps over. apart ps (subst (λ nodes. IsOver nodes tree order ps) pages over)));
-          rest = λ h k order o ps over. m.rest (headed h) (listed k) order (ordered order o) ps (subst (λ nodes. IsOver nodes tree order ps) (sym pages) over);
+              (m.descent (headed h) (listed k) order (ordered order o) (λ ps over. apart ps (subst (λ nodes. IsTreeOver nodes tree order ps) pages over)));
+          rest = λ h k order o ps over. m.rest (headed h) (listed k) order (ordered order o) ps (subst (λ nodes. IsTreeOver nodes tree order ps) (sym pages) over);
         }
 
 -- and of a database whose index was only read since
-module _ (old mid : DbView) (leaves : Leaves words old mid) (same : mid.index ≡ with_cache old.index mid.index.cache mid.index.known) (reads : OnlyReads old.index.cache mid.index.cache) (fa : IsTrue old.index.cache.store.is_faithful) (n : ℕ) where
+module _ (old mid : DbView) (leaves : LeavesBook words old mid) (same : mid.index ≡ with_cache old.index mid.index.cache mid.index.known) (reads : OnlyReads old.index.cache mid.index.cache) (fa : IsTrue old.index.cache.store.is_faithful) (n : ℕ) where
   malformed_of : IsFirstMalformed mid.begun mid.index.tree (length mid.book.rows) mid.index.legs mid.index.places mid.tracks mid.index.cache n
       → IsFirstMalformed old.begun old.index.tree (length old.book.rows) old.index.legs old.index.places old.tracks old.index.cache n
   malformed_of m =

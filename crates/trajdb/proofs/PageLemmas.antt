@@ -4,7 +4,7 @@ use Rattle.std.specs.Prelude.{◌⊎◌}
 use Rattle.legs.specs.Asking.{Leaves as IndexLeaves}
 use Rattle.legs.specs.declared.listed.Listed.{Ghosts}
 use Rattle.trajdb.specs.Database.{CoreView, IsSound}
-use Rattle.trajdb.specs.Calls.{HasPages, IsUnwritten, KeepsPages, Leaves, LeavesPages}
+use Rattle.trajdb.specs.Calls.{HasPages, IsUnwritten, KeepsPages, LeavesBook, LeavesPages}
 use Rattle.trajdb.proofs.FaultLemmas.{leaves-refl, leaves-trans}
 
 either : (b : Bool) → (b ≡ true) ⊎ (b ≡ false)
@@ -15,7 +15,7 @@ pub clash : (b : Bool) → b ≡ true → b ≡ false → ⊥
 clash b t f = let e : true ≡ false = sym t ∙ f in cc
 
 -- a question leaves them
-pub keeps_leaves : {I : Type 0} (g : Ghosts I) (old new : CoreView I) → Leaves g old new → KeepsPages g old new
+pub keeps_leaves : {I : Type 0} (g : Ghosts I) (old new : CoreView I) → LeavesBook g old new → KeepsPages g old new
 keeps_leaves g old new l = record {
   begun = λ b. l.begun ∙ b;
   idle = λ b f. l;

@@ -11,8 +11,8 @@ use Rattle.pagecache.specs.Cache.{page_of, pages_as_written, payload_of, sealed_
 use Rattle.boxsearch.specs.Index.{words, written, IndexView, IsMarked, IsSound as IsSoundIndex}
 use Rattle.catalogue.specs.Holding.{HoldsBook}
 use Rattle.catalogue.proofs.CloseLemmas.{says_stored}
-use Rattle.trajdb.specs.Calls.{IsUnwritten, KeepsPages, Leaves}
-use Rattle.trajdb.specs.Db.{DbView, HasPages, IsSound}
+use Rattle.trajdb.specs.Calls.{IsUnwritten, KeepsPages, LeavesBook}
+use Rattle.trajdb.specs.Db.{DbView, HasPages, IsSoundDb}
 use Rattle.trajdb.specs.Lasting.{IsSafe, IsSafeStore, IsUnchanged, IsUntouched}
 use Rattle.trajdb.proofs.PageLemmas.{clash, keeps_leaves}
 
@@ -37,7 +37,7 @@ begun_safe db was pages begun = inl (pages.begun begun)
 
 -- every call keeps a store safe
 module _ (old new : DbView) (keeps : KeepsPages words old new) (risen : old.index.cache.store.faults ≤ new.index.cache.store.faults) (same : old.failed ≡ true → new ≡ old) where
-  pub keeps_safe : (was : Store) → IsSound old → HasPages old → IsSafe was old → IsSafe was new
+  pub keeps_safe : (was : Store) → IsSoundDb old → HasPages old → IsSafe was old → IsSafe was new
   keeps_safe was sound pages (inl m) = inl ((keeps.written sound pages).marked m)
   keeps_safe was sound pages (inr u) = by_state old.begun refl old.failed refl where
     by_state : (b : Bool) → old.begun ≡ b → (f : Bool) → old.failed ≡ f → IsSafe was new
@@ -45,7 +45,7 @@ module _ (old new : DbView) (keeps : KeepsPages words old new) (risen : old.inde
     by_state false idle true is = subst (IsSafe was) (sym (same is)) (inr u)
     by_state false idle false is = safe_after was old new risen u ((keeps.written sound pages).clean (pages.idle idle is))
 
-pub leaves_safe : (old new : DbView) → Leaves words old new → old.failed ≡ false → (was : Store) → IsSound old → HasPages old → IsSafe was old → IsSafe was new
+pub leaves_safe : (old new : DbView) → LeavesBook words old new → old.failed ≡ false → (was : Store) → IsSoundDb old → HasPages old → IsSafe was old → IsSafe was new
 leaves_safe old new leaves lives = keeps_safe old new (keeps_leaves words old new leaves) leaves.index.later.faults (λ failed. absurd (clash old.failed failed lives))
 
 -- the pages as written of a sound index are those of its store
@@ -105,7 +105,7 @@ left_safe was db s is lawful (inl m) =
 left_safe was db s is lawful (inr u) = subst (IsSafeStore was) (sym is) (inr (unchanged was db.index u lawful))
 
 -- a database that was opened keeps its store safe
-pub opened_safe : (was : Store) (db : DbView) → IsLawful was → IsTrue was.is_faithful → Stays was db.index.cache.store → IsSound db → IsSafe was db
+pub opened_safe : (was : Store) (db : DbView) → IsLawful was → IsTrue was.is_faithful → Stays was db.index.cache.store → IsSoundDb db → IsSafe was db
 unfolding pages_as_written
 opened_safe was db lawful faithful stays sound =
     let s = db.index.cache.store in

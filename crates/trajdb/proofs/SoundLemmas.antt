@@ -19,7 +19,7 @@ use Rattle.trajdb.specs.Database.{catalogue_of}
 use Rattle.trajdb.specs.Faults.{run_fault_of}
 use Rattle.trajdb.specs.Lasting.{IsIdle}
 use Rattle.trajdb.specs.Checking.{KeepsLaw}
-use Rattle.trajdb.specs.Db.{DbView, HasPages, IsSound}
+use Rattle.trajdb.specs.Db.{DbView, HasPages, IsSoundDb}
 use Rattle.trajdb.proofs.CheckLemmas.{counted, none_counted}
 
 no_names : (names : List (List ℕ)) → length names ≡ 0 → names ≡ []
@@ -42,7 +42,7 @@ module _ (db : DbView) (names : db.tracks.names ≡ db.book.names) (legs : conte
       let n = a.numbered ∙ ap length names in
       record { feature = omega (arith, f, n); row = r }
 
-  pub sound_of : CanFollowInTurn [] (content db.index) → IsLimits db.limits → IsSoundIndex db.index → AreTracksOf db.tracks (length db.book.rows) (content db.index) → KeepsLaw db → IsSound db
+  pub sound_of : CanFollowInTurn [] (content db.index) → IsLimits db.limits → IsSoundIndex db.index → AreTracksOf db.tracks (length db.book.rows) (content db.index) → KeepsLaw db → IsSoundDb db
   sound_of turns lawful index tracks law =
       let a = legs_of_book tracks in
       let n = ap length names in
@@ -86,7 +86,7 @@ module _ (db : DbView) (names : db.tracks.names ≡ db.book.names) (legs : conte
         };
       }
 
-  pub tracks_of : IsSound db → AreTracksOf db.tracks (length db.book.rows) (content db.index)
+  pub tracks_of : IsSoundDb db → AreTracksOf db.tracks (length db.book.rows) (content db.index)
   tracks_of s =
       let n = ap length names in
       let t = s.tracks in
@@ -103,7 +103,7 @@ module _ (db : DbView) (names : db.tracks.names ≡ db.book.names) (legs : conte
         few_names = (let f = t.lawful.few_names in omega (arith, f, n));
       })
 
-  pub law_of : IsSound db → KeepsLaw db
+  pub law_of : IsSoundDb db → KeepsLaw db
   law_of s =
       let o = s.law.ordered in
       record {
@@ -133,7 +133,7 @@ failed_spent index.Spent h = refl
 pub says_of : (db : DbView)
     → ((c : CatalogueView) (i : IndexView) → IsTrue i.cache.store.is_faithful → IsSettled i.cache → IsAtRest c i → SaysState false (payload_of i.cache 0))
     → ((c : Cache) → IsSettled c → IsMarked c → SaysState true (payload_of c 0))
-    → IsSettled db.index.cache → IsSound db → HasPages db → IsIdle db → db.failed ≡ false → SaysState db.begun (payload_of db.index.cache 0)
+    → IsSettled db.index.cache → IsSoundDb db → HasPages db → IsIdle db → db.failed ≡ false → SaysState db.begun (payload_of db.index.cache 0)
 says_of db finished marked settled sound pages idle lives =
     (elim db.begun as (λ b. db.begun ≡ b → SaysState b (payload_of db.index.cache 0)) [
       | true ↦ λ e. marked db.index.cache settled (pages.begun e)

@@ -22,7 +22,7 @@ use Rattle.predicates.specs.Predicates.{Holds}
 use Rattle.predicates.specs.Near.{box_near}
 use Rattle.predicates.specs.declared.Predicate.{Predicate}
 use Rattle.trajdb.specs.Answers.{HoldsOfLeg, file_answer, legs_text, names_text}
-use Rattle.trajdb.specs.Calls.{IsText, Leaves}
+use Rattle.trajdb.specs.Calls.{IsText, LeavesBook}
 use Rattle.trajdb.specs.Database.{CoreView}
 use Rattle.trajdb.specs.Faults.{run_fault_of}
 use Rattle.trajdb.specs.Telling.{AreLive, ArePickedOf, AreToldOf, IsToldFile, DeniesFile, DeniesLegs, DeniesSome, DeniesTrack, Names, PicksLive}
@@ -105,7 +105,7 @@ module _ {I : Type 0} (g : Ghosts I) (core : CoreView I) where
   live_end predicate rect period all picked so_far = subst (λ (l : List ℕ). PicksLive g core predicate rect period all l) (append-nil picked) (so_far [] refl)
 
 -- what is told after questions was told before them
-module _ {I : Type 0} (g : Ghosts I) (old now : CoreView I) (leaves : Leaves g old now) where
+module _ {I : Type 0} (g : Ghosts I) (old now : CoreView I) (leaves : LeavesBook g old now) where
   pub live_before : (period : PeriodView) (feature : ℕ) (legs : List LegView) → AreLive g now period feature legs → AreLive g old period feature legs
   live_before period feature legs (inl (over, e)) = inl (subst (λ t. IsOver t feature period) leaves.tracks over, e)
   live_before period feature legs (inr told) = inr (leaves.index.told (OfFeature feature (Some period)) legs told)

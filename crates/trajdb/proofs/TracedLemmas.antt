@@ -5,7 +5,7 @@ use Rattle.std.proofs.KnownBytes.{Appends-trans, Appends-nil, Appends-kept}
 use Rattle.std.specs.Io.KnownBytes.{Appends, Keeps}
 use Rattle.legs.specs.declared.listed.Listed.{Ghosts}
 use Rattle.trajdb.specs.Database.{CoreView}
-use Rattle.trajdb.specs.Calls.{Leaves, LoadsBy}
+use Rattle.trajdb.specs.Calls.{LeavesBook, LoadsBy}
 use Rattle.trajdb.specs.Run.{FailsAt}
 use Rattle.trajdb.specs.Script.{lines_of}
 use Rattle.trajdb.specs.Telling.{HasCutTold, HasNamed, HasTold, NamesLine, TellsCut, TellsLine, TellsLines, TellsRun, TellsStop}
@@ -75,7 +75,7 @@ module _ {I : Type 0} (g : Ghosts I) (files : Named) where
           sends = Appends-kept a b c at.text at.sends stop.sends;
           names = subst (λ (l : List ℕ). NamesLine g files mid l fault) (sym nth.1) stop.names;
           fails = subst (λ (l : List ℕ). FailsAt files new.failed fault l) (sym nth.1) stop.fails;
-          left = subst (λ (l : List ℕ). (LoadsBy files l → ⊥) → Leaves g mid new) (sym nth.1) stop.left;
+          left = subst (λ (l : List ℕ). (LoadsBy files l → ⊥) → LeavesBook g mid new) (sym nth.1) stop.left;
         }
 
   module _ (a b c : Option (List ℕ)) (old new : CoreView I) (lines : List (List ℕ)) (rest : List ℕ) (k : ℕ) (at : IsTracedAt a b old new lines rest k) where

@@ -2,7 +2,7 @@
 use Rattle.std.specs.Prelude.{ℕ, ◌≡◌, ◌+◌, ◌∷◌, [], ◌++◌, List, length, map, slice_index_or, Option, Some, None, Result, Ok, Err, pos, codes, decimal}
 use Rattle.std.specs.List.{range_with_len}
 use Rattle.timebase.specs.Period.{PeriodView}
-use Rattle.mfcsv.specs.FileText.{file_text}
+use Rattle.mfcsv.specs.FileText.{file_of_bytes}
 use Rattle.mfcsv.specs.declared.Code.{Code}
 use Rattle.mfcsv.specs.declared.File.{File}
 use Rattle.mfcsv.specs.declared.Dimension.TheVariants.{Two}
@@ -33,7 +33,12 @@ use Rattle.trajdb.specs.declared.FileCode.TheVariants.{Text, Join}
 
 -- how many data records, legs and distinct features a file has
 abbrev pub counts_of : File → List LegView → Counts
-counts_of file legs = record { records = length file.records; legs = length legs; features = length (names_after [] file.records) }
+counts_of file legs =
+    record {
+      records = length file.records;
+      legs = length legs;
+      features = length (names_after [] file.records);
+    }
 
 abbrev pub counts_or : File → Result (List LegView) (JoinCode × ℕ) → Result Counts (FileCode × ℕ)
 counts_or file (Ok legs) = Ok (counts_of file legs)
@@ -45,7 +50,7 @@ joined_counts limits book (Err fault) = Err (Text fault.0, fault.1)
 
 -- the counts of a file that is accepted into a book, or its first fault: of its text, else of its joining
 unfoldable pub load_of : LimitsView → Book → List ℕ → Result Counts (FileCode × ℕ)
-load_of limits book bytes = joined_counts limits book (file_text bytes)
+load_of limits book bytes = joined_counts limits book (file_of_bytes bytes)
 
 abbrev pub book_by : LimitsView → Book → Result File (Code × ℕ) → Book
 book_by limits book (Ok file) = book_after limits book file
@@ -53,7 +58,7 @@ book_by limits book (Err fault) = book
 
 -- the book after a file: with its legs, or as it was where the file is refused
 unfoldable pub book_with : LimitsView → Book → List ℕ → Book
-book_with limits book bytes = book_by limits book (file_text bytes)
+book_with limits book bytes = book_by limits book (file_of_bytes bytes)
 
 -- `ok N` and a line end
 abbrev pub ok_text : ℕ → List ℕ
@@ -63,12 +68,15 @@ abbrev pub refusal_text : List ℕ → List ℕ
 refusal_text code = codes "refused " ++ code ++ 10 ∷ []
 
 abbrev pub counts_text : Counts → List ℕ
-counts_text counts = ok_text 1 ++ decimal counts.records ++ 44 ∷ [] ++ decimal counts.legs ++ 44 ∷ [] ++ decimal counts.features ++ 10 ∷ []
+counts_text counts =
+    ok_text 1 ++ decimal counts.records ++ 44 ∷ [] ++ decimal counts.legs ++ 44 ∷ []
+    ++ decimal counts.features ++ 10 ∷ []
 
 -- the answer to `load`
 abbrev pub load_text : Result Counts (FileCode × ℕ) → List ℕ
 load_text (Ok counts) = counts_text counts
-load_text (Err fault) = codes "refused " ++ file_code fault.0 ++ codes " at " ++ decimal fault.1 ++ 10 ∷ []
+load_text (Err fault) =
+    codes "refused " ++ file_code fault.0 ++ codes " at " ++ decimal fault.1 ++ 10 ∷ []
 
 -- the text is an answer to `load`: counts, or a refusal
 abbrev pub IsCountsText : List ℕ → Type 0
@@ -79,7 +87,8 @@ IsFileRefusal text = (fault : FileCode × ℕ) × (text ≡ load_text (Err fault
 
 -- the answer to `count`
 abbrev pub count_text : Book → List ℕ
-count_text book = ok_text 1 ++ decimal (length book.legs) ++ 44 ∷ [] ++ decimal (length book.names) ++ 10 ∷ []
+count_text book =
+    ok_text 1 ++ decimal (length book.legs) ++ 44 ∷ [] ++ decimal (length book.names) ++ 10 ∷ []
 
 -- how legs are written: with the dimension of the first accepted file, and with times as offsets from its start
 -- instant
@@ -93,11 +102,17 @@ name_of book feature = slice_index_or book.names feature []
 
 -- a leg with its name and attribute values
 abbrev pub entry_of : Book → LegView → EntryView
-entry_of book leg = record { name = name_of book leg.feature; leg = leg; values = slice_index_or book.rows leg.row [] }
+entry_of book leg =
+    record {
+      name = name_of book leg.feature;
+      leg = leg;
+      values = slice_index_or book.rows leg.row [];
+    }
 
 -- the answer of legs: a record for each
 abbrev pub legs_text : Book → List LegView → List ℕ
-legs_text book legs = ok_text (length legs) ++ entries_text (frame_of book.head) (map (entry_of book) legs)
+legs_text book legs =
+    ok_text (length legs) ++ entries_text (frame_of book.head) (map (entry_of book) legs)
 
 -- the legs of a feature, if there is one
 abbrev pub track_of : Option ℕ → List LegView → List LegView
@@ -124,11 +139,14 @@ HoldsOfLeg predicate rect period leg = Holds predicate (leg ∷ []) rect period
 
 -- the predicate holds of the whole list of legs of a feature
 abbrev pub HoldsOfFeature : Predicate → RectView → PeriodView → List LegView → ℕ → Type 0
-HoldsOfFeature predicate rect period legs feature = Holds predicate (legs_of feature legs) rect period
+HoldsOfFeature predicate rect period legs feature =
+    Holds predicate (legs_of feature legs) rect period
 
 -- the answer of the legs of which the predicate holds
 abbrev pub IsLegsAnswer : Book → Predicate → RectView → PeriodView → List ℕ → Type 0
-IsLegsAnswer book predicate rect period text = (picked : List LegView) × Picks (HoldsOfLeg predicate rect period) book.legs picked × (text ≡ legs_text book picked)
+IsLegsAnswer book predicate rect period text =
+    (picked : List LegView) × Picks (HoldsOfLeg predicate rect period) book.legs picked
+    × (text ≡ legs_text book picked)
 
 -- the answer of features
 abbrev pub names_text : Book → List ℕ → List ℕ
@@ -137,11 +155,14 @@ names_text book features = ok_text (length features) ++ features_text (map (name
 -- the answer of the features of which the predicate holds
 abbrev pub IsFeaturesAnswer : Book → Predicate → RectView → PeriodView → List ℕ → Type 0
 IsFeaturesAnswer book predicate rect period text =
-    (picked : List ℕ) × Picks (HoldsOfFeature predicate rect period book.legs) (range_with_len 0 (length book.names)) picked × (text ≡ names_text book picked)
+    (picked : List ℕ)
+    × Picks (HoldsOfFeature predicate rect period book.legs)
+    (range_with_len 0 (length book.names)) picked × (text ≡ names_text book picked)
 
 -- legs as a file: two header lines and a record for each leg
 abbrev pub file_answer : Book → BookHead → List LegView → List ℕ
-file_answer book head legs = ok_text (length legs + 2) ++ written_text head (map (entry_of book) legs)
+file_answer book head legs =
+    ok_text (length legs + 2) ++ written_text head (map (entry_of book) legs)
 
 -- the answer to `write`
 abbrev pub write_text : Option BookHead → Book → List ℕ
@@ -152,10 +173,14 @@ write_text None book = refusal_text (codes "Q10")
 abbrev pub IsAnswer : LimitsView → List (List ℕ × List ℕ) → Book → Command → List ℕ → Type 0
 IsAnswer limits files book (Load name) text = text ≡ named_text limits book (file_named files name)
 IsAnswer limits files book Count text = text ≡ count_text book
-IsAnswer limits files book (Box rect period) text = text ≡ legs_text book (legs_in_box (box_over rect period) book.legs)
-IsAnswer limits files book (Legs predicate rect period) text = IsLegsAnswer book predicate rect period text
-IsAnswer limits files book (Features predicate rect period) text = IsFeaturesAnswer book predicate rect period text
-IsAnswer limits files book (Trajectory name) text = text ≡ legs_text book (track_of (feature_of book.names name) book.legs)
+IsAnswer limits files book (Box rect period) text =
+    text ≡ legs_text book (legs_in_box (box_over rect period) book.legs)
+IsAnswer limits files book (Legs predicate rect period) text =
+    IsLegsAnswer book predicate rect period text
+IsAnswer limits files book (Features predicate rect period) text =
+    IsFeaturesAnswer book predicate rect period text
+IsAnswer limits files book (Trajectory name) text =
+    text ≡ legs_text book (track_of (feature_of book.names name) book.legs)
 IsAnswer limits files book Write text = text ≡ write_text book.head book
 
 -- the book after a command
@@ -179,17 +204,20 @@ AcceptsBy limits files book (Trajectory name) = ⊥
 AcceptsBy limits files book Write = ⊥
 
 -- the text is what a line answers: nothing where it is no command
-abbrev pub IsSaid : LimitsView → List (List ℕ × List ℕ) → Book → Result (Option Command) LineCode → List ℕ → Type 0
+abbrev pub IsSaid : LimitsView → List (List ℕ × List ℕ) → Book → Result (Option Command) LineCode
+    → List ℕ → Type 0
 IsSaid limits files book (Ok (Some command)) text = IsAnswer limits files book command text
 IsSaid limits files book (Ok None) text = text ≡ []
 IsSaid limits files book (Err code) text = text ≡ refusal_text (code_text code)
 
-abbrev pub said_book : LimitsView → List (List ℕ × List ℕ) → Book → Result (Option Command) LineCode → Book
+abbrev pub said_book : LimitsView → List (List ℕ × List ℕ) → Book → Result (Option Command) LineCode
+    → Book
 said_book limits files book (Ok (Some command)) = book_then limits files book command
 said_book limits files book (Ok None) = book
 said_book limits files book (Err code) = book
 
-abbrev pub AcceptsSaid : LimitsView → List (List ℕ × List ℕ) → Book → Result (Option Command) LineCode → Type 0
+abbrev pub AcceptsSaid : LimitsView → List (List ℕ × List ℕ) → Book
+    → Result (Option Command) LineCode → Type 0
 AcceptsSaid limits files book (Ok (Some command)) = AcceptsBy limits files book command
 AcceptsSaid limits files book (Ok None) = ⊥
 AcceptsSaid limits files book (Err code) = ⊥

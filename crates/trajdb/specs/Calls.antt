@@ -12,7 +12,7 @@ use Rattle.legs.specs.Tracks.{IsOver}
 use Rattle.legs.specs.Index.{HasRisen}
 use Rattle.legs.specs.Asking.{IsLater as IsLaterIndex, Leaves as IndexLeaves}
 use Rattle.legs.specs.declared.listed.Listed.{Ghosts}
-use Rattle.mfcsv.specs.FileText.{file_text}
+use Rattle.mfcsv.specs.FileText.{file_of_bytes}
 use Rattle.mfcsv.specs.declared.File.{File}
 use Rattle.querylang.specs.Line.{line_of}
 use Rattle.querylang.specs.declared.LineCode.{LineCode}
@@ -27,7 +27,7 @@ use Rattle.trajdb.specs.declared.RunFault.{RunFault}
 use Rattle.trajdb.specs.declared.RunFault.TheVariants.{Memory, Store, Damaged, StoreFull, Failed, Output}
 
 -- what a question leaves, answered or not: the book, sound where it was, begun where it was, failed where it was
-pub record Leaves {I : Type 0} (g : Ghosts I) (old new : CoreView I) : Type 0 where
+pub record LeavesBook {I : Type 0} (g : Ghosts I) (old new : CoreView I) : Type 0 where
   pub book : new.book ≡ old.book
   pub tracks : new.tracks ≡ old.tracks
   pub begun : new.begun ≡ old.begun
@@ -63,7 +63,7 @@ pub record HasPages {I : Type 0} (g : Ghosts I) (core : CoreView I) : Type 0 whe
 -- it, be the database sound or not
 pub record KeepsPages {I : Type 0} (g : Ghosts I) (old new : CoreView I) : Type 0 where
   pub begun : old.begun ≡ true → new.begun ≡ true
-  pub idle : new.begun ≡ false → new.failed ≡ false → Leaves g old new
+  pub idle : new.begun ≡ false → new.failed ≡ false → LeavesBook g old new
   pub pages : IsSound g old → HasPages g old → HasPages g new
   pub written : IsSound g old → HasPages g old → LeavesPages g old.index new.index
 
@@ -112,12 +112,14 @@ IsAsked g old new Failed = Unit {0}
 IsAsked g old new Output = ⊥
 
 -- why a question was not answered
-pub record IsRefused {I : Type 0} (g : Ghosts I) (old new : CoreView I) (fault : RunFault) : Type 0 where
+pub record IsRefused {I : Type 0} (g : Ghosts I) (old new : CoreView I)
+    (fault : RunFault) : Type 0 where
   pub sound : IsSound g old → IsQuestionFault fault
   pub store : IsAsked g old.index new.index fault
 
 -- why a call that may load stopped
-pub record IsStopped {I : Type 0} (g : Ghosts I) (old new : CoreView I) (fault : RunFault) : Type 0 where
+pub record IsStopped {I : Type 0} (g : Ghosts I) (old new : CoreView I)
+    (fault : RunFault) : Type 0 where
   pub sound : IsSound g old → old.failed ≡ false → IsLoadFault fault
   pub store : IsOfStore g old.index new.index fault
 
@@ -170,7 +172,7 @@ LoadsBy files line = LoadsIn files (line_of line)
 
 -- the text of a file has no fault
 abbrev pub IsWholeFile : List ℕ → Type 0
-IsWholeFile bytes = (file : File) × (file_text bytes ≡ Ok file)
+IsWholeFile bytes = (file : File) × (file_of_bytes bytes ≡ Ok file)
 
 -- a file is there, and its text has no fault
 abbrev pub NamesWhole : Option (List ℕ) → Type 0
@@ -198,7 +200,8 @@ LoadsWholeBy files line = LoadsWholeIn files (line_of line)
 
 -- so is some line
 abbrev pub LoadsWholeSome : List (List ℕ × List ℕ) → List (List ℕ) → Type 0
-LoadsWholeSome files lines = (k : ℕ) × (k < length lines) × LoadsWholeBy files (slice_index_or lines k [])
+LoadsWholeSome files lines =
+    (k : ℕ) × (k < length lines) × LoadsWholeBy files (slice_index_or lines k [])
 
 -- be the database sound or not, it begins only where this holds
 abbrev pub BeginsBy : {I : Type 0} → CoreView I → CoreView I → Type 0 → Type 0
@@ -220,15 +223,18 @@ track_asks None plan legs = 0
 
 -- the sum of the bounds over features
 abbrev pub features_bound : List ℕ → PeriodView → Option ShapeView → List LegView → ℕ
-features_bound features period plan legs = sum_by (λ bound. bound) (map (λ feature. track_in_bound feature period plan legs) features)
+features_bound features period plan legs =
+    sum_by (λ bound. bound) (map (λ feature. track_in_bound feature period plan legs) features)
 
 -- the leaves of features that meet the period
 abbrev pub known_features_bound : List ℕ → PeriodView → Option ShapeView → List LegView → ℕ
-known_features_bound features period plan legs = sum_by (λ bound. bound) (map (λ feature. known_bound feature period plan legs) features)
+known_features_bound features period plan legs =
+    sum_by (λ bound. bound) (map (λ feature. known_bound feature period plan legs) features)
 
 -- what is known of a feature reaches back to the period, or its last leg ends before it, so that nothing is asked
 abbrev pub KnowsOf : {I : Type 0} → Ghosts I → CoreView I → PeriodView → ℕ → Type 0
-KnowsOf g db period feature = IsOver db.tracks feature period ⊎ g.knows db.index feature period.start
+KnowsOf g db period feature =
+    IsOver db.tracks feature period ⊎ g.knows db.index feature period.start
 
 -- of each feature
 abbrev pub KnowsEach : {I : Type 0} → Ghosts I → CoreView I → PeriodView → Type 0
@@ -248,23 +254,36 @@ write_asks (Some head) plan legs = search_cost everything plan legs
 abbrev pub AsksFor : Book → Option ShapeView → Command → ℕ → ℕ → Type 0
 AsksFor book plan (Load name) old new = Unit {0}
 AsksFor book plan Count old new = new ≡ old
-AsksFor book plan (Box rect period) old new = RisesBy old new (search_cost (box_over rect period) plan book.legs)
-AsksFor book plan (Legs predicate rect period) old new = RisesBy old new (search_cost (box_near predicate rect period) plan book.legs)
-AsksFor book plan (Features predicate rect period) old new = RisesAtMost old new (features_bound (range_with_len 0 (length book.names)) period plan book.legs)
-AsksFor book plan (Trajectory name) old new = RisesBy old new (track_asks (feature_of book.names name) plan book.legs)
+AsksFor book plan (Box rect period) old new =
+    RisesBy old new (search_cost (box_over rect period) plan book.legs)
+AsksFor book plan (Legs predicate rect period) old new =
+    RisesBy old new (search_cost (box_near predicate rect period) plan book.legs)
+AsksFor book plan (Features predicate rect period) old new =
+    RisesAtMost old new
+    (features_bound (range_with_len 0 (length book.names)) period plan book.legs)
+AsksFor book plan (Trajectory name) old new =
+    RisesBy old new (track_asks (feature_of book.names name) plan book.legs)
 AsksFor book plan Write old new = RisesBy old new (write_asks book.head plan book.legs)
 
 -- of a sound database a question asked for that many pages
-abbrev pub Asks : {I : Type 0} → Ghosts I → CoreView I → CoreView I → (Option ShapeView → List LegView → ℕ) → Type 0
-Asks g old new cost = IsSound g old → RisesBy (g.asked old.index) (g.asked new.index) (cost (g.plan old.index) old.book.legs)
+abbrev pub Asks : {I : Type 0} → Ghosts I → CoreView I → CoreView I
+    → (Option ShapeView → List LegView → ℕ) → Type 0
+Asks g old new cost =
+    IsSound g old
+    → RisesBy (g.asked old.index) (g.asked new.index) (cost (g.plan old.index) old.book.legs)
 
 -- and for at most that many
-abbrev pub AsksAtMost : {I : Type 0} → Ghosts I → CoreView I → CoreView I → (Option ShapeView → List LegView → ℕ) → Type 0
-AsksAtMost g old new bound = IsSound g old → RisesAtMost (g.asked old.index) (g.asked new.index) (bound (g.plan old.index) old.book.legs)
+abbrev pub AsksAtMost : {I : Type 0} → Ghosts I → CoreView I → CoreView I
+    → (Option ShapeView → List LegView → ℕ) → Type 0
+AsksAtMost g old new bound =
+    IsSound g old
+    → RisesAtMost (g.asked old.index) (g.asked new.index) (bound (g.plan old.index) old.book.legs)
 
 -- what a command over a sound database asked for
 abbrev pub AsksIn : {I : Type 0} → Ghosts I → CoreView I → CoreView I → Command → Type 0
-AsksIn g old new command = IsSound g old → AsksFor old.book (g.plan old.index) command (g.asked old.index) (g.asked new.index)
+AsksIn g old new command =
+    IsSound g old
+    → AsksFor old.book (g.plan old.index) command (g.asked old.index) (g.asked new.index)
 
 -- of a sound database that knows each feature back to the period `features` asks for at most the leaves that meet it
 abbrev pub AsksKnown : {I : Type 0} → Ghosts I → CoreView I → CoreView I → Command → Type 0
@@ -273,7 +292,9 @@ AsksKnown g old new Count = Unit {0}
 AsksKnown g old new (Box rect period) = Unit {0}
 AsksKnown g old new (Legs predicate rect period) = Unit {0}
 AsksKnown g old new (Features predicate rect period) =
-    KnowsEach g old period → AsksAtMost g old new (known_features_bound (range_with_len 0 (length old.book.names)) period)
+    KnowsEach g old period
+    → AsksAtMost g old new
+    (known_features_bound (range_with_len 0 (length old.book.names)) period)
 AsksKnown g old new (Trajectory name) = Unit {0}
 AsksKnown g old new Write = Unit {0}
 
@@ -285,5 +306,6 @@ LearnsBy g old new Count = Unit {0}
 LearnsBy g old new (Box rect period) = Unit {0}
 LearnsBy g old new (Legs predicate rect period) = Unit {0}
 LearnsBy g old new (Features predicate rect period) = IsSound g old → KnowsEach g new period
-LearnsBy g old new (Trajectory name) = IsSound g old → KnowsTrack g new (feature_of old.book.names name)
+LearnsBy g old new (Trajectory name) =
+    IsSound g old → KnowsTrack g new (feature_of old.book.names name)
 LearnsBy g old new Write = Unit {0}

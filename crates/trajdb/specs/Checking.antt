@@ -30,12 +30,16 @@ pub record AreNames (names : List (List ℕ)) : Type 0 where
 
 -- the name of that number has 1 to 255 bytes, and is found at its number
 abbrev pub IsOwnName : List (List ℕ) → ℕ → Type 0
-IsOwnName names feature = (name : List ℕ) → slice_get names feature ≡ Some name → IsName name × (feature_of names name ≡ Some feature)
+IsOwnName names feature =
+    (name : List ℕ) → slice_get names feature ≡ Some name
+    → IsName name × (feature_of names name ≡ Some feature)
 
 -- before the first accepted file there is no name; each row has as many attribute values as the head has columns
-pub record FitsHead (of : Option BookHead) (features : ℕ) (rows : List (List (List ℕ))) : Type 0 where
+pub record FitsHead (of : Option BookHead) (features : ℕ)
+    (rows : List (List (List ℕ))) : Type 0 where
   pub none : of ≡ None → features ≡ 0
-  pub rows_fit : (head : BookHead) → of ≡ Some head → All (λ row. length row ≡ length head.columns) rows
+  pub rows_fit : (head : BookHead) → of ≡ Some head
+      → All (λ row. length row ≡ length head.columns) rows
 
 -- the names, the numbers and the rows are those of a book under its limits
 pub record KeepsLaw {I : Type 0} (core : CoreView I) : Type 0 where

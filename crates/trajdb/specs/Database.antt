@@ -41,7 +41,13 @@ restored g c index begun = record {
 
 -- the catalogue of a database
 abbrev pub catalogue_of : {I : Type 0} → CoreView I → CatalogueView
-catalogue_of core = record { head = core.book.head; limits = core.limits; tracks = core.tracks; rows = core.book.rows }
+catalogue_of core =
+    record {
+      head = core.book.head;
+      limits = core.limits;
+      tracks = core.tracks;
+      rows = core.book.rows;
+    }
 
 -- a database whose index is sound, whose tracks are those of its book, which keeps the law
 pub record IsSound {I : Type 0} (g : Ghosts I) (core : CoreView I) : Type 0 where

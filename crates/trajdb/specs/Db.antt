@@ -11,8 +11,8 @@ abbrev pub DbView : Type 0
 DbView = CoreView IndexView
 
 -- the index is sound, the tracks are those of the book, and the book keeps the law
-abbrev pub IsSound : DbView → Type 0
-IsSound db = IsSoundCore words db
+abbrev pub IsSoundDb : DbView → Type 0
+IsSoundDb db = IsSoundCore words db
 
 -- of a database that has begun page 0 is marked; of one that has neither begun nor failed no page is changed
 abbrev pub HasPages : DbView → Type 0

@@ -20,13 +20,13 @@ run_fault_of index.StoreFull = StoreFull
 run_fault_of index.Spent = Failed
 
 -- a fault that is not the output's
-abbrev pub IsInside : RunFault → Type 0
-IsInside Memory = Unit {0}
-IsInside Store = Unit {0}
-IsInside (Damaged page) = Unit {0}
-IsInside StoreFull = Unit {0}
-IsInside Failed = Unit {0}
-IsInside Output = ⊥
+abbrev pub IsNotOutput : RunFault → Type 0
+IsNotOutput Memory = Unit {0}
+IsNotOutput Store = Unit {0}
+IsNotOutput (Damaged page) = Unit {0}
+IsNotOutput StoreFull = Unit {0}
+IsNotOutput Failed = Unit {0}
+IsNotOutput Output = ⊥
 
 -- what a fault of the cache is to a new database
 abbrev pub open_fault_of : CacheFault → OpenFault

@@ -8,4 +8,5 @@ file_named (file ∷ files) name = if bytes_eq name file.0 then Some file.1 else
 
 -- the files with one more; of a name that is there the first counts
 abbrev pub files_with : List (List ℕ × List ℕ) → List ℕ → List ℕ → List (List ℕ × List ℕ)
-files_with files name bytes = if is_some (file_named files name) then files else files ++ (name, bytes) ∷ []
+files_with files name bytes =
+    if is_some (file_named files name) then files else files ++ (name, bytes) ∷ []

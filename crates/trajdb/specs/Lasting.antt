@@ -11,11 +11,11 @@ use Rattle.pagecache.specs.Cache.{payload_of}
 use Rattle.register.specs.Earlier.{AddsFew, AreEarlier}
 use Rattle.register.specs.Lasting.{IsDamagedPage}
 use Rattle.register.specs.Saving.{contents_of}
-use Rattle.register.specs.Stopping.{KeepsNothing, StopsAt}
+use Rattle.register.specs.Stopping.{KeepsNothing, ReadStopsAt}
 use Rattle.register.specs.Text.{catalogue_text}
 use Rattle.register.specs.declared.fault.CatalogueFault.{CatalogueFault}
 use Rattle.trajdb.specs.Database.{catalogue_of}
-use Rattle.trajdb.specs.Db.{DbView, IsSound}
+use Rattle.trajdb.specs.Db.{DbView, IsSoundDb}
 use Rattle.trajdb.specs.Faults.{opened_fault_of}
 use Rattle.trajdb.specs.declared.OpenFault.{OpenFault}
 use Rattle.trajdb.specs.declared.RunFault.{RunFault}
@@ -27,8 +27,9 @@ abbrev pub IsIdle : DbView → Type 0
 IsIdle db = db.begun ≡ false → db.failed ≡ false → IsAtRest (catalogue_of db) db.index
 
 -- a sound database with this book under these limits, whose tree has this shape
-pub record HasBook (shape : ShapeView) (limits : LimitsView) (book : Book) (db : DbView) : Type 0 where
-  pub sound : IsSound db
+pub record HasBook (shape : ShapeView) (limits : LimitsView) (book : Book)
+    (db : DbView) : Type 0 where
+  pub sound : IsSoundDb db
   pub shape_is : db.index.tree.shape ≡ shape
   pub book_is : db.book ≡ book
   pub limits_are : db.limits ≡ limits
@@ -80,14 +81,14 @@ IsTrulyDamaged faithful at count Malformed = Unit {0}
 
 -- the page that is said to be damaged is the one at which reading stops; pages that are said to be
 -- malformed keep nothing, whatever stands in the damaged ones
-abbrev pub IsNamed : (ℕ → Option Payload) → ℕ → OpenFault → Type 0
-IsNamed at count Memory = Unit {0}
-IsNamed at count StoreFailed = Unit {0}
-IsNamed at count (Damaged page) = StopsAt at count page
-IsNamed at count StoreFull = Unit {0}
-IsNamed at count Unfinished = Unit {0}
-IsNamed at count Version = Unit {0}
-IsNamed at count Malformed = KeepsNothing at count
+abbrev pub IsNamedAtOpen : (ℕ → Option Payload) → ℕ → OpenFault → Type 0
+IsNamedAtOpen at count Memory = Unit {0}
+IsNamedAtOpen at count StoreFailed = Unit {0}
+IsNamedAtOpen at count (Damaged page) = ReadStopsAt at count page
+IsNamedAtOpen at count StoreFull = Unit {0}
+IsNamedAtOpen at count Unfinished = Unit {0}
+IsNamedAtOpen at count Version = Unit {0}
+IsNamedAtOpen at count Malformed = KeepsNothing at count
 
 -- a store that was not finished is refused as such, but for memory and a store that failed
 abbrev pub IsUnfinishedAnswer : {X Y : Type 0} → Result X (Y × OpenFault) → Type 0
@@ -125,7 +126,8 @@ TakesFew db left =
 pub record IsUnchanged (was now : Store) : Type 0 where
   pub others : drop 1 now.pages ≡ drop 1 was.pages
   pub pages : (Faulted was now → ⊥) → now.pages ≡ was.pages
-  pub holds : (Faulted was now → ⊥) → (shape : ShapeView) (limits : LimitsView) (book : Book) → HoldsBook was shape limits book → HoldsBook now shape limits book
+  pub holds : (Faulted was now → ⊥) → (shape : ShapeView) (limits : LimitsView) (book : Book)
+      → HoldsBook was shape limits book → HoldsBook now shape limits book
 
 -- a store that is left is refused as not finished where it is opened, or is the one that was
 abbrev pub IsSafeStore : Store → Store → Type 0

@@ -12,21 +12,27 @@ use Rattle.trajdb.specs.Answers.{AcceptsLine, IsLineText, line_book}
 -- the book after all lines
 abbrev pub run_book : LimitsView → List (List ℕ × List ℕ) → Book → List (List ℕ) → Book
 run_book limits files book [] = book
-run_book limits files book (line ∷ lines) = run_book limits files (line_book limits files book line) lines
+run_book limits files book (line ∷ lines) =
+    run_book limits files (line_book limits files book line) lines
 
 -- some line is a `load` of a file that is there and is accepted into the book after the lines before
 abbrev pub AcceptsSome : LimitsView → List (List ℕ × List ℕ) → Book → List (List ℕ) → Type 0
 AcceptsSome limits files book [] = ⊥
-AcceptsSome limits files book (line ∷ lines) = AcceptsLine limits files book line ⊎ AcceptsSome limits files (line_book limits files book line) lines
+AcceptsSome limits files book (line ∷ lines) =
+    AcceptsLine limits files book line
+    ⊎ AcceptsSome limits files (line_book limits files book line) lines
 
 -- the text is the answers to all lines, one after another, each over the book after the lines before
 abbrev pub IsRunText : LimitsView → List (List ℕ × List ℕ) → Book → List (List ℕ) → List ℕ → Type 0
 IsRunText limits files book [] text = text ≡ []
 IsRunText limits files book (line ∷ lines) text =
-    (first : List ℕ) × (others : List ℕ) × (text ≡ first ++ others) × IsLineText limits files book line first × IsRunText limits files (line_book limits files book line) lines others
+    (first : List ℕ) × (others : List ℕ) × (text ≡ first ++ others)
+    × IsLineText limits files book line first
+    × IsRunText limits files (line_book limits files book line) lines others
 
 -- all lines are done, and their answers and nothing else were sent
-pub record HasRun (limits : LimitsView) (files : List (List ℕ × List ℕ)) (sent sent' : Option (List ℕ)) (old new : Book) (lines : List (List ℕ)) : Type 0 where
+pub record HasRun (limits : LimitsView) (files : List (List ℕ × List ℕ))
+    (sent sent' : Option (List ℕ)) (old new : Book) (lines : List (List ℕ)) : Type 0 where
   pub text : List ℕ
   pub answers : IsRunText limits files old lines text
   pub sends : Appends sent sent' text
@@ -35,7 +41,9 @@ pub record HasRun (limits : LimitsView) (files : List (List ℕ × List ℕ)) (s
 -- line k + 1 is there, and is not done: it is a command or a refused line; the first k lines are done, and
 -- their answers, whole, and nothing else were sent; the book is the one after them, or line k + 1 is a `load`
 -- of a file that is there, and the database is failed
-pub record HasStopped (limits : LimitsView) (files : List (List ℕ × List ℕ)) (sent sent' : Option (List ℕ)) (old new : Book) (failed : Bool) (lines : List (List ℕ)) (k : ℕ) : Type 0 where
+pub record HasStopped (limits : LimitsView) (files : List (List ℕ × List ℕ))
+    (sent sent' : Option (List ℕ)) (old new : Book) (failed : Bool) (lines : List (List ℕ))
+    (k : ℕ) : Type 0 where
   pub within : k < length lines
   pub speaks : Speaks (slice_index_or lines k [])
   pub text : List ℕ
@@ -46,21 +54,24 @@ pub record HasStopped (limits : LimitsView) (files : List (List ℕ × List ℕ)
 
 -- a line is not done, be the database sound or not: it is a command or a refused line; the database is failed
 -- only where it is a `load` of a file that is there, and always then, unless memory was wanted
-pub record FailsAt (files : List (List ℕ × List ℕ)) (failed : Bool) (fault : RunFault) (line : List ℕ) : Type 0 where
+pub record FailsAt (files : List (List ℕ × List ℕ)) (failed : Bool) (fault : RunFault)
+    (line : List ℕ) : Type 0 where
   pub speaks : Speaks line
   pub loads : failed ≡ true → LoadsBy files line
   pub fails : LoadsBy files line → fault ≢ Memory → failed ≡ true
 
 -- some line is there, and is not done
 abbrev pub StopsAt : List (List ℕ × List ℕ) → Bool → RunFault → List (List ℕ) → Type 0
-StopsAt files failed fault lines = (k : ℕ) × (k < length lines) × FailsAt files failed fault (slice_index_or lines k [])
+StopsAt files failed fault lines =
+    (k : ℕ) × (k < length lines) × FailsAt files failed fault (slice_index_or lines k [])
 
 abbrev pub IsPrefixOf : List ℕ → List ℕ → Type 0
 IsPrefixOf front all = (rest : List ℕ) × (all ≡ front ++ rest)
 
 -- the first k lines are done, and the book is the one after them; what was sent is a prefix of their
 -- answers, and all of them but the last one are whole
-pub record HasCutRun (limits : LimitsView) (files : List (List ℕ × List ℕ)) (sent sent' : Option (List ℕ)) (old new : Book) (lines : List (List ℕ)) (k : ℕ) : Type 0 where
+pub record HasCutRun (limits : LimitsView) (files : List (List ℕ × List ℕ))
+    (sent sent' : Option (List ℕ)) (old new : Book) (lines : List (List ℕ)) (k : ℕ) : Type 0 where
   pub written : List ℕ
   pub sends : Appends sent sent' written
   pub all : List ℕ
@@ -72,13 +83,18 @@ pub record HasCutRun (limits : LimitsView) (files : List (List ℕ × List ℕ))
   pub book : new ≡ run_book limits files old (take k lines)
 
 -- of a database: all lines are done
-abbrev pub Runs : {I : Type 0} → List (List ℕ × List ℕ) → Option (List ℕ) → Option (List ℕ) → CoreView I → CoreView I → List (List ℕ) → Type 0
+abbrev pub Runs : {I : Type 0} → List (List ℕ × List ℕ) → Option (List ℕ) → Option (List ℕ)
+    → CoreView I → CoreView I → List (List ℕ) → Type 0
 Runs files sent sent' old new lines = HasRun old.limits files sent sent' old.book new.book lines
 
 -- of a database: some line is not done, and those before it are
-abbrev pub Stops : {I : Type 0} → List (List ℕ × List ℕ) → Option (List ℕ) → Option (List ℕ) → CoreView I → CoreView I → List (List ℕ) → Type 0
-Stops files sent sent' old new lines = (k : ℕ) × HasStopped old.limits files sent sent' old.book new.book new.failed lines k
+abbrev pub Stops : {I : Type 0} → List (List ℕ × List ℕ) → Option (List ℕ) → Option (List ℕ)
+    → CoreView I → CoreView I → List (List ℕ) → Type 0
+Stops files sent sent' old new lines =
+    (k : ℕ) × HasStopped old.limits files sent sent' old.book new.book new.failed lines k
 
 -- of a database: some lines are done, and the output failed at the last of them
-abbrev pub IsCut : {I : Type 0} → List (List ℕ × List ℕ) → Option (List ℕ) → Option (List ℕ) → CoreView I → CoreView I → List (List ℕ) → Type 0
-IsCut files sent sent' old new lines = (k : ℕ) × HasCutRun old.limits files sent sent' old.book new.book lines k
+abbrev pub IsCut : {I : Type 0} → List (List ℕ × List ℕ) → Option (List ℕ) → Option (List ℕ)
+    → CoreView I → CoreView I → List (List ℕ) → Type 0
+IsCut files sent sent' old new lines =
+    (k : ℕ) × HasCutRun old.limits files sent sent' old.book new.book lines k

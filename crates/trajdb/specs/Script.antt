@@ -15,7 +15,8 @@ pieces_of (c ∷ cs) = if is_line_end c then [] ∷ pieces_of cs else onto_first
 
 -- a piece without the CR at its end
 unfoldable pub without_return : List ℕ → List ℕ
-without_return piece = if slice_index piece (length piece - 1) == 13 then take (length piece - 1) piece else piece
+without_return piece =
+    if slice_index piece (length piece - 1) == 13 then take (length piece - 1) piece else piece
 
 -- the lines of a script
 abbrev pub lines_of : List ℕ → List (List ℕ)

@@ -25,7 +25,7 @@ use Rattle.querylang.specs.declared.LineCode.{LineCode}
 use Rattle.querylang.specs.declared.Command.{Command}
 use Rattle.querylang.specs.declared.Command.TheVariants.{Load, Count, Box, Legs, Features, Trajectory, Write}
 use Rattle.trajdb.specs.Answers.{HoldsOfLeg, IsCountsText, IsFileRefusal, file_answer, legs_text, names_text, ok_text, refusal_text}
-use Rattle.trajdb.specs.Calls.{IsLater, Leaves, Loads, LoadsBy, TellsLoad}
+use Rattle.trajdb.specs.Calls.{IsLater, LeavesBook, Loads, LoadsBy, TellsLoad}
 use Rattle.trajdb.specs.Database.{CoreView}
 use Rattle.trajdb.specs.Files.{file_named}
 use Rattle.trajdb.specs.Picks.{Picks}
@@ -46,7 +46,8 @@ module _ {I : Type 0} (g : Ghosts I) (core : CoreView I) where
   -- exactly those of the legs that the index tells, in order, for which, each taken alone, a predicate holds
   abbrev pub ArePickedOf : Predicate → RectView → PeriodView → List LegView → Type 0
   ArePickedOf predicate rect period picked =
-      (legs : List LegView) × g.tells core.index (InBox (box_near predicate rect period)) legs × Picks (HoldsOfLeg predicate rect period) legs picked
+      (legs : List LegView) × g.tells core.index (InBox (box_near predicate rect period)) legs
+      × Picks (HoldsOfLeg predicate rect period) legs picked
 
   -- and their answer
   abbrev pub IsToldPicks : Predicate → RectView → PeriodView → List ℕ → Type 0
@@ -55,27 +56,34 @@ module _ {I : Type 0} (g : Ghosts I) (core : CoreView I) where
 
   -- the legs of a feature that are live in a period: none of one whose last leg ends before it, else what the index tells
   abbrev pub AreLive : PeriodView → ℕ → List LegView → Type 0
-  AreLive period feature legs = (IsOver core.tracks feature period × (legs ≡ [])) ⊎ g.tells core.index (OfFeature feature (Some period)) legs
+  AreLive period feature legs =
+      (IsOver core.tracks feature period × (legs ≡ []))
+      ⊎ g.tells core.index (OfFeature feature (Some period)) legs
 
   -- what a sieve keeps of them
   abbrev pub AreSievedLive : Sieve → PeriodView → ℕ → List LegView → Type 0
-  AreSievedLive sieve period feature legs = (all : List LegView) × AreLive period feature all × IsSieved sieve period all legs
+  AreSievedLive sieve period feature legs =
+      (all : List LegView) × AreLive period feature all × IsSieved sieve period all legs
 
   -- P is so exactly where a predicate holds for them
   abbrev pub HoldsLive : Predicate → RectView → PeriodView → ℕ → Type 0 → Type 0
-  HoldsLive predicate rect period feature P = (legs : List LegView) × AreLive period feature legs × (P ↔ Holds predicate legs rect period)
+  HoldsLive predicate rect period feature P =
+      (legs : List LegView) × AreLive period feature legs × (P ↔ Holds predicate legs rect period)
 
   -- picked are exactly those of the features for whose live legs a predicate holds, in order
   abbrev pub PicksLive : Predicate → RectView → PeriodView → List ℕ → List ℕ → Type 0
   PicksLive predicate rect period [] picked = picked ≡ []
   PicksLive predicate rect period (feature ∷ features) picked =
       (legs : List LegView) × AreLive period feature legs
-      × ((Holds predicate legs rect period × (others : List ℕ) × (picked ≡ feature ∷ others) × PicksLive predicate rect period features others)
+      × ((Holds predicate legs rect period × (others : List ℕ) × (picked ≡ feature ∷ others)
+      × PicksLive predicate rect period features others)
       ⊎ ((Holds predicate legs rect period → ⊥) × PicksLive predicate rect period features picked))
 
   abbrev pub IsToldFeatures : Predicate → RectView → PeriodView → List ℕ → Type 0
   IsToldFeatures predicate rect period text =
-      (picked : List ℕ) × PicksLive predicate rect period (range_with_len 0 (length core.book.names)) picked × (text ≡ names_text core.book picked)
+      (picked : List ℕ)
+      × PicksLive predicate rect period (range_with_len 0 (length core.book.names)) picked
+      × (text ≡ names_text core.book picked)
 
   -- a feature's legs, if there is one, and their answer
   abbrev pub AreToldOf : Option ℕ → List LegView → Type 0
@@ -94,7 +102,9 @@ module _ {I : Type 0} (g : Ghosts I) (core : CoreView I) where
 
   -- how many legs the index counts, and how many features there are
   abbrev pub told_count : List ℕ
-  told_count = ok_text 1 ++ decimal (g.counted core.index) ++ 44 ∷ [] ++ decimal (length core.book.names) ++ 10 ∷ []
+  told_count =
+      ok_text 1 ++ decimal (g.counted core.index) ++ 44 ∷ [] ++ decimal (length core.book.names)
+      ++ 10 ∷ []
 
   -- counts or a refusal of a file that is there
   abbrev pub IsToldLoad : Option (List ℕ) → List ℕ → Type 0
@@ -108,8 +118,10 @@ module _ {I : Type 0} (g : Ghosts I) (core : CoreView I) where
   IsToldAnswer files Count text = text ≡ told_count
   IsToldAnswer files (Box rect period) text = IsToldLegs (InBox (box_over rect period)) text
   IsToldAnswer files (Legs predicate rect period) text = IsToldPicks predicate rect period text
-  IsToldAnswer files (Features predicate rect period) text = length core.book.names ≤ most → IsToldFeatures predicate rect period text
-  IsToldAnswer files (Trajectory name) text = length core.book.names ≤ most → IsToldTrack (feature_of core.book.names name) text
+  IsToldAnswer files (Features predicate rect period) text =
+      length core.book.names ≤ most → IsToldFeatures predicate rect period text
+  IsToldAnswer files (Trajectory name) text =
+      length core.book.names ≤ most → IsToldTrack (feature_of core.book.names name) text
   IsToldAnswer files Write text = IsToldFile core.book.head text
 
   -- the page is met by a question, and is not what it is to be there; or it is page 0, for a leg that is told whose name or
@@ -117,7 +129,8 @@ module _ {I : Type 0} (g : Ghosts I) (core : CoreView I) where
   abbrev pub DeniesLegs : Question → ℕ → Type 0
   DeniesLegs question page =
       g.denies core.index question page
-      ⊎ ((page ≡ 0) × (legs : List LegView) × g.tells core.index question legs × (All (IsThere core.book) legs → ⊥))
+      ⊎ ((page ≡ 0) × (legs : List LegView) × g.tells core.index question legs
+      × (All (IsThere core.book) legs → ⊥))
 
   -- so is it for a feature's legs, if there is one; for those of some feature; and for all legs, where there is a head
   abbrev pub DeniesTrack : Option ℕ → ℕ → Type 0
@@ -125,7 +138,9 @@ module _ {I : Type 0} (g : Ghosts I) (core : CoreView I) where
   DeniesTrack None page = ⊥
 
   abbrev pub DeniesSome : PeriodView → ℕ → Type 0
-  DeniesSome period page = (feature : ℕ) × (feature < length core.book.names) × g.denies core.index (OfFeature feature (Some period)) page
+  DeniesSome period page =
+      (feature : ℕ) × (feature < length core.book.names)
+      × g.denies core.index (OfFeature feature (Some period)) page
 
   abbrev pub DeniesFile : Option BookHead → ℕ → Type 0
   DeniesFile (Some head) page = DeniesLegs (InBox everything) page
@@ -155,13 +170,15 @@ module _ {I : Type 0} (g : Ghosts I) (core : CoreView I) where
   NamesBy files (Features predicate rect period) fault =
       Names (λ page. length core.book.names ≤ most → DeniesSome period page) fault
   NamesBy files (Trajectory name) fault =
-      Names (λ page. length core.book.names ≤ most → DeniesTrack (feature_of core.book.names name) page) fault
+      Names (λ page. length core.book.names ≤ most
+      → DeniesTrack (feature_of core.book.names name) page) fault
   NamesBy files Write fault = Names (DeniesFile core.book.head) fault
 
 -- what a command that is answered leaves, be the database sound or not: a question all that is known of the book, and a
 -- `load` of a file that is there what its answer tells; the database is not failed
-pub record LeftBy {I : Type 0} (g : Ghosts I) (files : List (List ℕ × List ℕ)) (old new : CoreView I) (command : Command) (text : List ℕ) : Type 0 where
-  pub question : (Loads files command → ⊥) → Leaves g old new
+pub record LeftBy {I : Type 0} (g : Ghosts I) (files : List (List ℕ × List ℕ))
+    (old new : CoreView I) (command : Command) (text : List ℕ) : Type 0 where
+  pub question : (Loads files command → ⊥) → LeavesBook g old new
   pub load : Loads files command → TellsLoad old new text
   pub later : IsLater g old new
   pub lives : new.failed ≡ false
@@ -169,7 +186,8 @@ pub record LeftBy {I : Type 0} (g : Ghosts I) (files : List (List ℕ × List �
 module _ {I : Type 0} (g : Ghosts I) (files : List (List ℕ × List ℕ)) where
   -- the text is what a line answers by what is told, and this is left
   abbrev pub TellsSaid : (old new : CoreView I) → Result (Option Command) LineCode → List ℕ → Type 0
-  TellsSaid old new (Ok (Some command)) text = IsToldAnswer g old files command text × LeftBy g files old new command text
+  TellsSaid old new (Ok (Some command)) text =
+      IsToldAnswer g old files command text × LeftBy g files old new command text
   TellsSaid old new (Ok None) text = (text ≡ []) × (new ≡ old)
   TellsSaid old new (Err code) text = (text ≡ refusal_text (code_text code)) × (new ≡ old)
 
@@ -180,7 +198,8 @@ module _ {I : Type 0} (g : Ghosts I) (files : List (List ℕ × List ℕ)) where
   abbrev pub TellsLines : (old new : CoreView I) → List (List ℕ) → List ℕ → Type 0
   TellsLines old new [] text = (new ≡ old) × (text ≡ [])
   TellsLines old new (line ∷ lines) text =
-      (mid : CoreView I) × (first : List ℕ) × (others : List ℕ) × (text ≡ first ++ others) × TellsLine old mid line first × TellsLines mid new lines others
+      (mid : CoreView I) × (first : List ℕ) × (others : List ℕ) × (text ≡ first ++ others)
+      × TellsLine old mid line first × TellsLines mid new lines others
 
   -- why a line was not answered
   abbrev pub NamesSaid : CoreView I → Result (Option Command) LineCode → RunFault → Type 0
@@ -192,14 +211,16 @@ module _ {I : Type 0} (g : Ghosts I) (files : List (List ℕ × List ℕ)) where
   NamesLine core line fault = NamesSaid core (line_of line) fault
 
   -- all lines are done, and their answers and nothing else were sent
-  pub record TellsRun (sent sent' : Option (List ℕ)) (old new : CoreView I) (lines : List (List ℕ)) : Type 0 where
+  pub record TellsRun (sent sent' : Option (List ℕ)) (old new : CoreView I)
+      (lines : List (List ℕ)) : Type 0 where
     pub text : List ℕ
     pub tells : TellsLines old new lines text
     pub sends : Appends sent sent' text
 
   -- the first k lines are done, and their answers, whole, and nothing else were sent; this is why the next was not answered;
   -- the database failed by it only where it is a `load` of a file that is there, and else it changed nothing
-  pub record TellsStop (sent sent' : Option (List ℕ)) (old new : CoreView I) (fault : RunFault) (lines : List (List ℕ)) : Type 0 where
+  pub record TellsStop (sent sent' : Option (List ℕ)) (old new : CoreView I) (fault : RunFault)
+      (lines : List (List ℕ)) : Type 0 where
     pub k : ℕ
     pub within : k < length lines
     pub mid : CoreView I
@@ -208,10 +229,11 @@ module _ {I : Type 0} (g : Ghosts I) (files : List (List ℕ × List ℕ)) where
     pub sends : Appends sent sent' text
     pub names : NamesLine mid (slice_index_or lines k []) fault
     pub fails : FailsAt files new.failed fault (slice_index_or lines k [])
-    pub left : (LoadsBy files (slice_index_or lines k []) → ⊥) → Leaves g mid new
+    pub left : (LoadsBy files (slice_index_or lines k []) → ⊥) → LeavesBook g mid new
 
   -- the first k lines are done, and what was sent is a prefix of their answers
-  pub record TellsCut (sent sent' : Option (List ℕ)) (old new : CoreView I) (lines : List (List ℕ)) : Type 0 where
+  pub record TellsCut (sent sent' : Option (List ℕ)) (old new : CoreView I)
+      (lines : List (List ℕ)) : Type 0 where
     pub k : ℕ
     pub text : List ℕ
     pub tells : TellsLines old new (take k lines) text
@@ -220,12 +242,14 @@ module _ {I : Type 0} (g : Ghosts I) (files : List (List ℕ × List ℕ)) where
     pub prefix : IsPrefixOf written text
 
   -- a line is done, and of its answer the first n bytes were sent, or all
-  pub record HasTold (sent sent' : Option (List ℕ)) (old new : CoreView I) (line : List ℕ) : Type 0 where
+  pub record HasTold (sent sent' : Option (List ℕ)) (old new : CoreView I)
+      (line : List ℕ) : Type 0 where
     pub text : List ℕ
     pub tells : TellsLine old new line text
     pub sends : Appends sent sent' text
 
-  pub record HasCutTold (sent sent' : Option (List ℕ)) (old new : CoreView I) (line : List ℕ) : Type 0 where
+  pub record HasCutTold (sent sent' : Option (List ℕ)) (old new : CoreView I)
+      (line : List ℕ) : Type 0 where
     pub text : List ℕ
     pub tells : TellsLine old new line text
     pub n : ℕ
@@ -233,8 +257,9 @@ module _ {I : Type 0} (g : Ghosts I) (files : List (List ℕ × List ℕ)) where
 
   -- a line is not answered, nothing was sent, and this is why; where it is no `load` of a file that is there, it changed
   -- nothing
-  pub record HasNamed (sent sent' : Option (List ℕ)) (old new : CoreView I) (line : List ℕ) (fault : RunFault) : Type 0 where
+  pub record HasNamed (sent sent' : Option (List ℕ)) (old new : CoreView I) (line : List ℕ)
+      (fault : RunFault) : Type 0 where
     pub sends : Keeps sent sent'
     pub names : NamesLine old line fault
     pub fails : FailsAt files new.failed fault line
-    pub left : (LoadsBy files line → ⊥) → Leaves g old new
+    pub left : (LoadsBy files line → ⊥) → LeavesBook g old new

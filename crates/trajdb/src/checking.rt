@@ -87,7 +87,7 @@ impl<S: PageStore> Core<TreeIndex<S>> {
     ghost use Rattle.tbtree.specs.Nodes.{pages_of_cache};
     ghost use Rattle.boxsearch.specs.Beside.{with_cache};
     ghost use Rattle.boxsearch.specs.Index.{content, words, IsSound, SaysState};
-    ghost use Rattle.trajdb.specs.Calls.{IsAsked, IsQuestionFault, Leaves};
+    ghost use Rattle.trajdb.specs.Calls.{IsAsked, IsQuestionFault, LeavesBook};
     ghost use Rattle.trajdb.specs.Checking.{IsFirstFault, Reports};
     ghost use Rattle.trajdb.specs.Db as db;
     ghost use Rattle.trajdb.specs.Lasting.{IsIdle};
@@ -96,7 +96,7 @@ impl<S: PageStore> Core<TreeIndex<S>> {
     /// Writes all that is changed.
     fn flush(&mut self) -> Result<(), IndexFault>
         ensures written { OnOk result (IsClean self.new.index.cache) }
-        ensures leaves { Leaves words self.old self.new }
+        ensures leaves { LeavesBook words self.old self.new }
         ensures payloads { IsTrue self.old.index.cache.store.is_faithful → (page : ℕ)
             → payload_of self.new.index.cache page ≡ payload_of self.old.index.cache page }
         ensures faithful { self.new.index.cache.store.is_faithful
@@ -131,7 +131,7 @@ impl<S: PageStore> Core<TreeIndex<S>> {
             (length self.old.book.rows) self.old.index.legs self.old.index.places
             self.old.tracks.tracks) }
         ensures reads { OnlyReads self.old.index.cache self.new.index.cache }
-        ensures leaves { Leaves words self.old self.new }
+        ensures leaves { LeavesBook words self.old self.new }
         ensures payloads { IsTrue self.old.index.cache.store.is_faithful → (page : ℕ)
             → payload_of self.new.index.cache page ≡ payload_of self.old.index.cache page }
         ensures legs { content self.new.index ≡ self.new.book.legs }
@@ -151,19 +151,19 @@ impl<S: PageStore> Core<TreeIndex<S>> {
     pub(crate) fn check(&mut self) -> Result<Report, RunFault>
         requires { self.old.failed ≡ false }
         ensures sound { OnOk result (IsTrue self.old.index.cache.store.is_faithful
-            → db.IsSound self.new) }
+            → db.IsSoundDb self.new) }
         ensures has_pages { OnOk result (IsTrue self.old.index.cache.store.is_faithful
             → db.HasPages self.new) }
         ensures report { IfOk result (λ report. IsTrue self.old.index.cache.store.is_faithful
             → Reports self.new report) }
         ensures written { OnOk result (IsClean self.new.index.cache) }
-        ensures only { IfErr result (λ fault. db.IsSound self.old → db.HasPages self.old
+        ensures only { IfErr result (λ fault. db.IsSoundDb self.old → db.HasPages self.old
             → IsIdle self.old → IsQuestionFault fault) }
         ensures named { IsTrue self.old.index.cache.store.is_faithful → (n : ℕ)
             → IsErrOf result (RunFault.Damaged n) → IsFirstFault self.old n }
         ensures works { IsErrOf result RunFault.Failed
             → words.is_spent self.old.index ≡ true }
-        ensures leaves { Leaves words self.old self.new }
+        ensures leaves { LeavesBook words self.old self.new }
         ensures payloads { IsTrue self.old.index.cache.store.is_faithful → (page : ℕ)
             → payload_of self.new.index.cache page ≡ payload_of self.old.index.cache page }
         ensures store { IfErr result (IsAsked words self.old.index self.new.index) }
@@ -190,9 +190,9 @@ impl<S: PageStore> Db<S> {
     ghost use Rattle.pagecache.specs.Cache.{payload_of, IsClean};
     ghost use Rattle.pages.specs.Store.{Store};
     ghost use Rattle.boxsearch.specs.Index.{words};
-    ghost use Rattle.trajdb.specs.Calls.{IsAsked, IsQuestionFault, KeepsPages, Leaves};
+    ghost use Rattle.trajdb.specs.Calls.{IsAsked, IsQuestionFault, KeepsPages, LeavesBook};
     ghost use Rattle.trajdb.specs.Checking.{IsFirstFault, Reports};
-    ghost use Rattle.trajdb.specs.Db.{HasPages, IsSound};
+    ghost use Rattle.trajdb.specs.Db.{HasPages, IsSoundDb};
     ghost use Rattle.trajdb.specs.Lasting.{IsIdle, IsSafe};
     ghost use Rattle.trajdb.specs.declared.RunFault.{RunFault};
 
@@ -209,7 +209,7 @@ impl<S: PageStore> Db<S> {
     pub fn check(&mut self) -> Result<Report, RunFault>
         // What passes is sound, whoever made the pages, and the report is true.
         ensures sound { OnOk result (IsTrue self.old.index.cache.store.is_faithful
-            → IsSound self.new) }
+            → IsSoundDb self.new) }
         ensures has_pages { OnOk result (IsTrue self.old.index.cache.store.is_faithful
             → HasPages self.new) }
         ensures report { IfOk result (λ report. IsTrue self.old.index.cache.store.is_faithful
@@ -217,7 +217,7 @@ impl<S: PageStore> Db<S> {
         ensures lives { OnOk result (self.new.failed ≡ false) }
 
         // What is sound passes.
-        ensures only { IfErr result (λ fault. IsSound self.old → HasPages self.old
+        ensures only { IfErr result (λ fault. IsSoundDb self.old → HasPages self.old
             → IsIdle self.old → self.old.failed ≡ false → IsQuestionFault fault) }
         ensures works { IsErrOf result RunFault.Failed
             → (self.old.failed ≡ true) ⊎ (words.is_spent self.old.index ≡ true) }
@@ -228,13 +228,13 @@ impl<S: PageStore> Db<S> {
 
         // The book stays, and each page has the payload that it had; once it has passed, all that
         // was changed is written, and nothing is where nothing was changed.
-        ensures leaves { Leaves words self.old self.new }
+        ensures leaves { LeavesBook words self.old self.new }
         ensures payloads { IsTrue self.old.index.cache.store.is_faithful → (page : ℕ)
             → payload_of self.new.index.cache page ≡ payload_of self.old.index.cache page }
         ensures written { OnOk result (IsClean self.new.index.cache) }
         ensures pages { KeepsPages words self.old self.new }
         ensures rests { IsIdle self.old → IsIdle self.new }
-        ensures safe { (was : Store) → IsSound self.old → HasPages self.old → IsSafe was self.old
+        ensures safe { (was : Store) → IsSoundDb self.old → HasPages self.old → IsSafe was self.old
             → IsSafe was self.new }
 
         ensures store { IfErr result (IsAsked words self.old.index self.new.index) }

@@ -92,7 +92,7 @@ impl<I: Start> Core<I> {
 
 impl<I: Start> Core<I> {
     ghost use Rattle.std.specs.Prelude.{◌≡◌, Ok, IfOk, IfErr, OnOk, OnErr, true, false};
-    ghost use Rattle.mfcsv.specs.FileText.{file_text};
+    ghost use Rattle.mfcsv.specs.FileText.{file_of_bytes};
     ghost use Rattle.mfcsv.specs.declared.File.{File};
     ghost use Rattle.legs.specs.Book.{with_file};
     ghost use Rattle.trajdb.specs.Answers.{book_with, load_of};
@@ -130,7 +130,7 @@ impl<I: Start> Core<I> {
 
     /// What a file adds, or its first fault.
     fn join_file(&self, alloc: Global, bytes: &[u8]) -> Result<NewFile, LoadFault>
-        ensures joined { IfOk result (λ new. (file : File) × (file_text bytes.now ≡ Ok file)
+        ensures joined { IfOk result (λ new. (file : File) × (file_of_bytes bytes.now ≡ Ok file)
             × (IsSound I.Listed self.now → Accepts self.now.limits self.now.book file new)) }
         ensures refused { IfErr result (λ fault. IsSound I.Listed self.now
             → FaultIs fault (load_of self.now.limits self.now.book bytes.now)) }
@@ -268,7 +268,7 @@ impl<I: Start> Core<I> {
     ghost use Rattle.std.specs.Prelude.{◌≡◌, IfOk, IfErr, IsErrOf, OnOk, OnErr, Err, true, false};
     ghost use Rattle.trajdb.specs.Answers.{AcceptsBy, IsAnswer, IsCountsText, book_then};
     ghost use Rattle.trajdb.specs.Database.{Becomes, IsSound};
-    ghost use Rattle.trajdb.specs.Calls.{AsksIn, AsksKnown, LearnsBy, Begins, BeginsBy, BeginsOnly, IsStopped, IsLater, KeepsPages, Leaves, Loads, LoadsWhole, TellsLoad};
+    ghost use Rattle.trajdb.specs.Calls.{AsksIn, AsksKnown, LearnsBy, Begins, BeginsBy, BeginsOnly, IsStopped, IsLater, KeepsPages, LeavesBook, Loads, LoadsWhole, TellsLoad};
     ghost use Rattle.trajdb.specs.Telling.{IsToldAnswer, NamesBy};
     ghost use Rattle.legs.specs.Asking.{Recalls};
 
@@ -300,9 +300,10 @@ impl<I: Start> Core<I> {
 
         // All but a `load` of a file that is there leave the book; where that load is refused, the
         // database is failed.
-        ensures question { (Loads files.now command.now → ⊥) → Leaves I.Listed self.old self.new }
+        ensures question { (Loads files.now command.now → ⊥)
+            → LeavesBook I.Listed self.old self.new }
         ensures refused { OnErr result (self.new.failed ≡ false
-            → Leaves I.Listed self.old self.new) }
+            → LeavesBook I.Listed self.old self.new) }
         ensures failed { OnErr result (Loads files.now command.now → self.new.failed ≡ true) }
         ensures full { IsErrOf result RunFault.StoreFull → Loads files.now command.now }
         ensures stopped { IfErr result (IsStopped I.Listed self.old self.new) }
@@ -352,7 +353,7 @@ impl<I: Start> Core<I> {
     ghost use Rattle.std.specs.Prelude.{◌≡◌, ◌≢◌, IfOk, IfErr, IsErrOf, OnOk, OnErr, Err, true, false};
     ghost use Rattle.trajdb.specs.Answers.{AcceptsLine, IsLineText, line_book};
     ghost use Rattle.trajdb.specs.Database.{Becomes, IsSound};
-    ghost use Rattle.trajdb.specs.Calls.{Begins, BeginsBy, BeginsOnly, IsStopped, IsLater, KeepsPages, Leaves, LoadsBy, LoadsWholeBy, Speaks};
+    ghost use Rattle.trajdb.specs.Calls.{Begins, BeginsBy, BeginsOnly, IsStopped, IsLater, KeepsPages, LeavesBook, LoadsBy, LoadsWholeBy, Speaks};
     ghost use Rattle.trajdb.specs.Telling.{NamesLine, TellsLine};
 
     /// The whole answer to a line of a script.
@@ -370,7 +371,7 @@ impl<I: Start> Core<I> {
         ensures later { IsLater I.Listed self.old self.new }
         ensures speaks { OnErr result (Speaks line.now) }
         ensures refused { OnErr result (self.new.failed ≡ false
-            → Leaves I.Listed self.old self.new) }
+            → LeavesBook I.Listed self.old self.new) }
         ensures failed { self.new.failed ≡ true → LoadsBy files.now line.now }
         ensures full { IsErrOf result RunFault.StoreFull → self.new.failed ≡ true }
         ensures stopped { IfErr result (IsStopped I.Listed self.old self.new) }
@@ -396,7 +397,7 @@ impl<I: Start> Core<I> {
     ghost use Rattle.std.specs.Prelude.{◌≡◌, ℕ, List, IfOk, IfErr, IsErrOf, OnOk, OnErr, Err, false, true};
     ghost use Rattle.trajdb.specs.Script.{lines_of, without_return};
     ghost use Rattle.trajdb.specs.Answers.{AcceptsLine};
-    ghost use Rattle.trajdb.specs.Faults.{IsInside};
+    ghost use Rattle.trajdb.specs.Faults.{IsNotOutput};
     ghost use Rattle.trajdb.specs.Lines.{HasDone, HasCut, HasNotDone};
     ghost use Rattle.trajdb.specs.Run.{AcceptsSome, FailsAt, StopsAt, Runs, Stops, IsCut};
     ghost use Rattle.trajdb.specs.Database.{IsSound};
@@ -423,21 +424,21 @@ impl<I: Start> Core<I> {
         ensures cut_sound { IsErrOf result RunFault.Output → IsSound I.Listed self.old
             → IsSound I.Listed self.new }
         ensures cut_lives { IsErrOf result RunFault.Output → self.new.failed ≡ false }
-        ensures refused { IfErr result (λ e. IsInside e → IsSound I.Listed self.old
+        ensures refused { IfErr result (λ e. IsNotOutput e → IsSound I.Listed self.old
             → HasNotDone files.now (W.contents out.old) (W.contents out.new) self.old.book
             self.new.book self.new.failed line.now) }
-        ensures kept { IfErr result (λ e. IsInside e → self.new.failed ≡ false
+        ensures kept { IfErr result (λ e. IsNotOutput e → self.new.failed ≡ false
             → IsSound I.Listed self.old → IsSound I.Listed self.new) }
         ensures full { IsErrOf result RunFault.StoreFull → self.new.failed ≡ true }
         ensures stopped { IfErr result (IsRunStop I.Listed self.old self.new) }
         ensures later { IsLater I.Listed self.old self.new }
-        ensures fails { IfErr result (λ fault. IsInside fault
+        ensures fails { IfErr result (λ fault. IsNotOutput fault
             → FailsAt files.now self.new.failed fault line.now) }
         ensures says { OnOk result (HasTold I.Listed files.now (W.contents out.old)
             (W.contents out.new) self.old self.new line.now) }
         ensures says_cut { IsErrOf result RunFault.Output → HasCutTold I.Listed files.now
             (W.contents out.old) (W.contents out.new) self.old self.new line.now }
-        ensures named { IfErr result (λ fault. IsInside fault → HasNamed I.Listed files.now
+        ensures named { IfErr result (λ fault. IsNotOutput fault → HasNamed I.Listed files.now
             (W.contents out.old) (W.contents out.new) self.old self.new line.now fault) }
         ensures begins { OnOk result (Begins I.Listed self.old self.new
             (AcceptsLine self.old.limits files.now self.old.book line.now)) }
@@ -474,7 +475,7 @@ impl<I: Start> Core<I> {
             (W.contents out.new) self.old self.new (lines_of script.now)) }
         ensures says_cut { IsErrOf result RunFault.Output → TellsCut I.Listed files.now
             (W.contents out.old) (W.contents out.new) self.old self.new (lines_of script.now) }
-        ensures named { IfErr result (λ fault. IsInside fault → self.old.failed ≡ false
+        ensures named { IfErr result (λ fault. IsNotOutput fault → self.old.failed ≡ false
             → TellsStop I.Listed files.now (W.contents out.old) (W.contents out.new) self.old
             self.new fault (lines_of script.now)) }
 
@@ -487,13 +488,13 @@ impl<I: Start> Core<I> {
         ensures cut_lives { IsErrOf result RunFault.Output → self.new.failed ≡ false }
 
         // Where the run stops at a line.
-        ensures refused { IfErr result (λ e. IsInside e → self.old.failed ≡ false
+        ensures refused { IfErr result (λ e. IsNotOutput e → self.old.failed ≡ false
             → IsSound I.Listed self.old
             → Stops files.now (W.contents out.old) (W.contents out.new) self.old self.new
             (lines_of script.now)) }
-        ensures kept { IfErr result (λ e. IsInside e → self.new.failed ≡ false
+        ensures kept { IfErr result (λ e. IsNotOutput e → self.new.failed ≡ false
             → IsSound I.Listed self.old → IsSound I.Listed self.new) }
-        ensures stops { IfErr result (λ fault. IsInside fault → self.old.failed ≡ false
+        ensures stops { IfErr result (λ fault. IsNotOutput fault → self.old.failed ≡ false
             → StopsAt files.now self.new.failed fault (lines_of script.now)) }
         ensures full { IsErrOf result RunFault.StoreFull → self.new.failed ≡ true }
         ensures stopped { IfErr result (IsRunStop I.Listed self.old self.new) }

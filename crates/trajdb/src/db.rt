@@ -46,13 +46,13 @@ impl<S: PageStore> Db<S> {
     ghost use Rattle.legs.specs.Book.{empty_book};
     ghost use Rattle.trajdb.specs.Script.{lines_of};
     ghost use Rattle.trajdb.specs.Answers.{AcceptsBy, IsAnswer, IsCountsText, book_then, book_with, load_of};
-    ghost use Rattle.trajdb.specs.Faults.{IsInside};
+    ghost use Rattle.trajdb.specs.Faults.{IsNotOutput};
     ghost use Rattle.trajdb.specs.Run.{AcceptsSome, StopsAt, Runs, Stops, IsCut};
     ghost use Rattle.trajdb.specs.Database.{FailsBy, IsRefused, IsTold, LoadGives, Becomes};
     ghost use Rattle.legs.specs.Asking.{Recalls};
-    ghost use Rattle.trajdb.specs.Calls.{AsksIn, AsksKnown, LearnsBy, Begins, BeginsBy, BeginsOnly, IsLater, IsLoadStop, IsRunStop, IsStopped, IsWholeFile, KeepsPages, Leaves, Loads, LoadsWhole, LoadsWholeSome, TellsLoad};
+    ghost use Rattle.trajdb.specs.Calls.{AsksIn, AsksKnown, LearnsBy, Begins, BeginsBy, BeginsOnly, IsLater, IsLoadStop, IsRunStop, IsStopped, IsWholeFile, KeepsPages, LeavesBook, Loads, LoadsWhole, LoadsWholeSome, TellsLoad};
     ghost use Rattle.trajdb.specs.Telling.{IsToldAnswer, NamesBy, TellsCut, TellsRun, TellsStop};
-    ghost use Rattle.trajdb.specs.Db.{HasPages, IsAllowed, IsCaused, IsSound};
+    ghost use Rattle.trajdb.specs.Db.{HasPages, IsAllowed, IsCaused, IsSoundDb};
     ghost use Rattle.trajdb.specs.Lasting.{IsIdle, IsSafe};
     ghost use Rattle.trajdb.specs.declared.RunFault.{RunFault};
     ghost use Rattle.trajdb.specs.declared.LoadFault.{LoadFault};
@@ -71,7 +71,7 @@ impl<S: PageStore> Db<S> {
     ) -> Result<Db<S>, (S, OpenFault)>
         requires empty { (S.seen store).count ≡ 0 }
         requires cache_pages { 0 < cache_pages }
-        ensures sound { IfOk result (λ db. IsTrue (S.seen store).is_faithful → IsSound db) }
+        ensures sound { IfOk result (λ db. IsTrue (S.seen store).is_faithful → IsSoundDb db) }
         ensures book { IfOk result (λ db. db.book ≡ empty_book) }
         ensures limits { IfOk result (λ db. db.limits ≡ limits) }
         ensures shape { IfOk result (λ db. words.plan db.index ≡ Some shape) }
@@ -113,7 +113,7 @@ impl<S: PageStore> Db<S> {
     ///
     /// Where the database cannot tell, it is failed: it answers nothing any more.
     pub fn load(&mut self, alloc: Global, bytes: &[u8]) -> Result<Counts, LoadFault>
-        ensures counts { IsSound self.old
+        ensures counts { IsSoundDb self.old
             → LoadGives result (load_of self.old.limits self.old.book bytes.now) }
         ensures becomes { IsTold result
             → Becomes words self.old self.new (book_with self.old.limits self.old.book bytes.now) }
@@ -127,7 +127,7 @@ impl<S: PageStore> Db<S> {
         ensures idle { OnErr result (self.new.begun ≡ self.old.begun) }
         ensures pages { KeepsPages words self.old self.new }
         ensures rests { IsIdle self.old → IsIdle self.new }
-        ensures safe { (was : Store) → IsSound self.old → HasPages self.old → IsSafe was self.old
+        ensures safe { (was : Store) → IsSoundDb self.old → HasPages self.old → IsSafe was self.old
             → IsSafe was self.new }
         ensures was_failed { self.old.failed ≡ true
             → (result ≡ Err (LoadFault.Run RunFault.Failed)) × (self.new ≡ self.old) }
@@ -145,7 +145,7 @@ impl<S: PageStore> Db<S> {
         command: &Command,
         files: &Files,
     ) -> Result<Vec<u8>, RunFault>
-        ensures text { IfOk result (λ text. IsSound self.old
+        ensures text { IfOk result (λ text. IsSoundDb self.old
             → IsAnswer self.old.limits files.now self.old.book command.now text.items) }
         ensures becomes { OnOk result (Becomes words self.old self.new
             (book_then self.old.limits files.now self.old.book command.now)) }
@@ -165,9 +165,9 @@ impl<S: PageStore> Db<S> {
 
         // All but a `load` of a file that is there leave the book; where that load is refused, the
         // database is failed.
-        ensures question { (Loads files.now command.now → ⊥) → Leaves words self.old self.new }
+        ensures question { (Loads files.now command.now → ⊥) → LeavesBook words self.old self.new }
         ensures refused { OnErr result (self.new.failed ≡ false
-            → Leaves words self.old self.new) }
+            → LeavesBook words self.old self.new) }
         ensures failed { OnErr result (Loads files.now command.now → self.new.failed ≡ true) }
         ensures full { IsErrOf result RunFault.StoreFull → Loads files.now command.now }
         ensures stopped { IfErr result (IsStopped words self.old self.new) }
@@ -187,7 +187,7 @@ impl<S: PageStore> Db<S> {
         ensures told { IfOk result (λ text. BeginsBy self.old self.new (IsCountsText text.items)) }
         ensures pages { KeepsPages words self.old self.new }
         ensures rests { IsIdle self.old → IsIdle self.new }
-        ensures safe { (was : Store) → IsSound self.old → HasPages self.old → IsSafe was self.old
+        ensures safe { (was : Store) → IsSoundDb self.old → HasPages self.old → IsSafe was self.old
             → IsSafe was self.new }
 
         // A failed database does nothing.
@@ -207,10 +207,10 @@ impl<S: PageStore> Db<S> {
         out: &mut W,
     ) -> Result<(), RunFault>
         // What was sent is exactly the text of the run, and the book is the one after it.
-        ensures ok { OnOk result (IsSound self.old
+        ensures ok { OnOk result (IsSoundDb self.old
             → Runs files.now (W.contents out.old) (W.contents out.new)
             self.old self.new (lines_of script.now)) }
-        ensures sound { OnOk result (IsSound self.old → IsSound self.new) }
+        ensures sound { OnOk result (IsSoundDb self.old → IsSoundDb self.new) }
         ensures lives { OnOk result (self.new.failed ≡ false) }
 
         // Be the database sound or not: what was sent is the answers to lines, one after another,
@@ -220,24 +220,26 @@ impl<S: PageStore> Db<S> {
             (W.contents out.new) self.old self.new (lines_of script.now)) }
         ensures says_cut { IsErrOf result RunFault.Output → TellsCut words files.now
             (W.contents out.old) (W.contents out.new) self.old self.new (lines_of script.now) }
-        ensures named { IfErr result (λ fault. IsInside fault → self.old.failed ≡ false
+        ensures named { IfErr result (λ fault. IsNotOutput fault → self.old.failed ≡ false
             → TellsStop words files.now (W.contents out.old) (W.contents out.new) self.old self.new
             fault (lines_of script.now)) }
 
         // Where the output fails.
-        ensures output { IsErrOf result RunFault.Output → IsSound self.old → IsCut files.now
+        ensures output { IsErrOf result RunFault.Output → IsSoundDb self.old → IsCut files.now
             (W.contents out.old) (W.contents out.new) self.old self.new (lines_of script.now) }
-        ensures cut_sound { IsErrOf result RunFault.Output → IsSound self.old → IsSound self.new }
+        ensures cut_sound { IsErrOf result RunFault.Output → IsSoundDb self.old
+            → IsSoundDb self.new }
         ensures cut_lives { IsErrOf result RunFault.Output → self.new.failed ≡ false }
 
         // Where the run stops at a line.
-        ensures refused { IfErr result (λ e. IsInside e → self.old.failed ≡ false
-            → IsSound self.old
+        ensures refused { IfErr result (λ e. IsNotOutput e → self.old.failed ≡ false
+            → IsSoundDb self.old
             → Stops files.now (W.contents out.old) (W.contents out.new) self.old self.new
             (lines_of script.now)) }
-        ensures kept { IfErr result (λ e. IsInside e → self.new.failed ≡ false → IsSound self.old
-            → IsSound self.new) }
-        ensures stops { IfErr result (λ fault. IsInside fault → self.old.failed ≡ false
+        ensures kept { IfErr result
+            (λ e. IsNotOutput e → self.new.failed ≡ false → IsSoundDb self.old
+            → IsSoundDb self.new) }
+        ensures stops { IfErr result (λ fault. IsNotOutput fault → self.old.failed ≡ false
             → StopsAt files.now self.new.failed fault (lines_of script.now)) }
         ensures full { IsErrOf result RunFault.StoreFull → self.new.failed ≡ true }
         ensures stopped { IfErr result (IsRunStop words self.old self.new) }
@@ -255,7 +257,7 @@ impl<S: PageStore> Db<S> {
             (LoadsWholeSome files.now (lines_of script.now)) }
         ensures pages { KeepsPages words self.old self.new }
         ensures rests { IsIdle self.old → IsIdle self.new }
-        ensures safe { (was : Store) → IsSound self.old → HasPages self.old → IsSafe was self.old
+        ensures safe { (was : Store) → IsSoundDb self.old → HasPages self.old → IsSafe was self.old
             → IsSafe was self.new }
 
         // A failed database does nothing.

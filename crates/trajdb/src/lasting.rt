@@ -90,8 +90,8 @@ impl<S: PageStore> Db<S> {
     ghost use Rattle.tbtree.specs.declared.tree.TbTree.{TbTree};
     ghost use Rattle.trajdb.specs.Calls.{IsLoadFault};
     ghost use Rattle.trajdb.specs.Database.{restored};
-    ghost use Rattle.trajdb.specs.Db.{HasPages, IsSound};
-    ghost use Rattle.trajdb.specs.Lasting.{ComesFirst, HasBook, IsClosingFault, IsFaultless, IsIdle, IsNamed, IsOpeningFault, IsSafe, IsSafeStore, IsStop, IsTrulyDamaged, IsUnfinishedAnswer, TakesFew};
+    ghost use Rattle.trajdb.specs.Db.{HasPages, IsSoundDb};
+    ghost use Rattle.trajdb.specs.Lasting.{ComesFirst, HasBook, IsClosingFault, IsFaultless, IsIdle, IsNamedAtOpen, IsOpeningFault, IsSafe, IsSafeStore, IsStop, IsTrulyDamaged, IsUnfinishedAnswer, TakesFew};
     ghost use Rattle.trajdb.specs.declared.RunFault.{RunFault};
 
     /// Opens the database that a store keeps, with a cache of at most that many pages, at least 1. Nothing is written
@@ -144,7 +144,7 @@ impl<S: PageStore> Db<S> {
         // The store stays as it is.
         ensures stored { IfOk result (λ db. Stays (S.seen store) db.index.cache.store) }
         ensures back { IfErr result (λ back. Stays (S.seen store) (S.seen back.0)) }
-        ensures safe { IfOk result (λ db. IsTrue (S.seen store).is_faithful → IsSound db
+        ensures safe { IfOk result (λ db. IsTrue (S.seen store).is_faithful → IsSoundDb db
             → IsSafe (S.seen store) db) }
         ensures caused { IfErr result (λ back. IsOpeningFault (S.seen store) (S.seen back.0)
             back.1) }
@@ -154,7 +154,7 @@ impl<S: PageStore> Db<S> {
         ensures damaged { IfErr result (λ back. IsTrulyDamaged (S.seen store).is_faithful
             (stored_payload (S.seen store)) (S.seen store).count back.1) }
         ensures named { IfErr result (λ back. IsTrue (S.seen store).is_faithful
-            → IsNamed (stored_payload (S.seen store)) (S.seen store).count back.1) }
+            → IsNamedAtOpen (stored_payload (S.seen store)) (S.seen store).count back.1) }
     {
         catalogue::laws();
         match catalogue::open(alloc, keys, store, cache_pages) {
@@ -184,21 +184,22 @@ impl<S: PageStore> Db<S> {
     /// store is not finished, unless the store failed and all other pages are those of the closed store, and synced.
     pub fn close(self, alloc: Global) -> (S, Result<(), RunFault>)
         // The store then holds the book.
-        ensures holds { OnOk result.1 (IsSound self → HasPages self → IsIdle self
+        ensures holds { OnOk result.1 (IsSoundDb self → HasPages self → IsIdle self
             → HoldsBook (S.seen result.0) self.index.tree.shape self.limits self.book) }
 
         // All of it is synced where a file was accepted; else the store stays as it is (`idle`).
         ensures synced { OnOk result.1 (self.begun ≡ true → IsSynced (S.seen result.0)) }
 
         // New pages are taken only for what its text needs beyond those of an earlier one.
-        ensures takes { OnOk result.1 (IsSound self → TakesFew self (S.seen result.0)) }
-        ensures only { IfErr result.1 (λ fault. IsSound self → self.failed ≡ false
+        ensures takes { OnOk result.1 (IsSoundDb self → TakesFew self (S.seen result.0)) }
+        ensures only { IfErr result.1 (λ fault. IsSoundDb self → self.failed ≡ false
             → IsLoadFault fault) }
-        ensures unfinished { IfErr result.1 (λ fault. IsFaultless fault → IsSound self → HasPages self
+        ensures unfinished { IfErr result.1
+            (λ fault. IsFaultless fault → IsSoundDb self → HasPages self
             → self.failed ≡ false → IsUnfinishedStore (S.seen result.0)) }
 
         // Before page 0 may say that the store is finished, all else is written and synced.
-        ensures refused { OnErr result.1 (IsSound self → HasPages self → self.failed ≡ false
+        ensures refused { OnErr result.1 (IsSoundDb self → HasPages self → self.failed ≡ false
             → IsUnfinishedStore (S.seen result.0)
             ⊎ HoldsButFirst (S.seen result.0) self.index.tree.shape self.limits self.book) }
 
@@ -237,7 +238,7 @@ impl<S: PageStore> Db<S> {
         ensures store { S.seen result ≡ self.index.cache.store }
 
         // Where a file was accepted, it is the store of one that was not finished.
-        ensures unfinished { IsSound self → HasPages self → self.begun ≡ true
+        ensures unfinished { IsSoundDb self → HasPages self → self.begun ≡ true
             → IsUnfinishedStore (S.seen result) }
 
         // So it is where a load failed, or the store that was there before.

@@ -1,7 +1,7 @@
 //! What a file adds to a database.
 ghost use Rattle.std.specs.Prelude.{◌≡◌, ◌++◌, ◌∷◌, [], List, IfOk, IfErr, OnOk};
 ghost use Rattle.std.specs.Option.{option_copied};
-ghost use Rattle.mfcsv.specs.FileText.{file_text};
+ghost use Rattle.mfcsv.specs.FileText.{file_of_bytes};
 ghost use Rattle.mfcsv.specs.Views.{RecordView};
 ghost use Rattle.legs.specs.Limits.{LimitsView};
 ghost use Rattle.legs.specs.Joining.{IsJoining};
@@ -91,7 +91,7 @@ pub(crate) fn join_text(
     bytes: &[u8],
 ) -> Result<NewFile, LoadFault>
     ensures joined { IfOk result (λ new. IsRead tracks.now (option_copied first.entry) limits.now
-        (file_text bytes.now) new) }
+        (file_of_bytes bytes.now) new) }
     ensures refused { IfErr result (λ fault. (book : Book) → StandsFor tracks.now book
         → book.head ≡ option_copied first.entry
         → FaultIs fault (load_of limits.now book bytes.now)) }

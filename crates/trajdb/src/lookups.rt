@@ -18,8 +18,8 @@ impl<S: PageStore> Db<S> {
     ghost use Rattle.pages.specs.Store.{Store};
     ghost use Rattle.boxsearch.specs.Index.{words};
     ghost use Rattle.trajdb.specs.Answers.{HoldsOfLeg};
-    ghost use Rattle.trajdb.specs.Calls.{Asks, IsRefused, Leaves};
-    ghost use Rattle.trajdb.specs.Db.{HasPages, IsSound};
+    ghost use Rattle.trajdb.specs.Calls.{Asks, IsRefused, LeavesBook};
+    ghost use Rattle.trajdb.specs.Db.{HasPages, IsSoundDb};
     ghost use Rattle.trajdb.specs.Lasting.{IsIdle, IsSafe};
     ghost use Rattle.trajdb.specs.Picks.{Picks};
     ghost use Rattle.trajdb.specs.Telling.{ArePickedOf, Names};
@@ -33,7 +33,7 @@ impl<S: PageStore> Db<S> {
         rect: &Rect,
         period: &Period,
     ) -> Result<Vec<Leg>, RunFault>
-        ensures found { IfOk result (λ legs. IsSound self.old
+        ensures found { IfOk result (λ legs. IsSoundDb self.old
             → Picks (HoldsOfLeg predicate rect.now period.now) self.old.book.legs legs.items) }
 
         // Be the database sound or not, they are picked of the legs that the pages that were met say, and a page
@@ -42,15 +42,16 @@ impl<S: PageStore> Db<S> {
         ensures says { IfOk result (λ legs.
             ArePickedOf words self.old predicate rect.now period.now legs.items) }
         ensures named { IfErr result (Names words self.old
-            (λ page. words.denies self.old.index (InBox (box_near predicate rect.now period.now)) page)) }
+            (λ page. words.denies self.old.index
+            (InBox (box_near predicate rect.now period.now)) page)) }
         ensures asks { OnOk result (Asks words self.old self.new
             (search_cost (box_near predicate rect.now period.now))) }
-        ensures leaves { Leaves words self.old self.new }
+        ensures leaves { LeavesBook words self.old self.new }
         ensures refused { IfErr result (λ fault. self.old.failed ≡ false
             → IsRefused words self.old self.new fault) }
         ensures pages { HasPages self.old → HasPages self.new }
         ensures rests { IsIdle self.old → IsIdle self.new }
-        ensures safe { (was : Store) → IsSound self.old → HasPages self.old → IsSafe was self.old
+        ensures safe { (was : Store) → IsSoundDb self.old → HasPages self.old → IsSafe was self.old
             → IsSafe was self.new }
 
         // A failed database does nothing.
@@ -81,7 +82,7 @@ impl<S: PageStore> Db<S> {
     /// How many legs the index counts.
     pub fn leg_count(&self) -> u64
         ensures counted { result ≡ words.counted self.now.index }
-        ensures legs { IsSound self.now → result ≡ length self.now.book.legs }
+        ensures legs { IsSoundDb self.now → result ≡ length self.now.book.legs }
     {
         self.core.index.len()
     }

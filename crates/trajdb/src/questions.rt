@@ -52,7 +52,7 @@ impl<I: Start> Core<I> {
     ghost use Rattle.legs.specs.Sieves.{IsSieved};
     ghost use Rattle.trajdb.specs.Database.{IsSound};
     ghost use Rattle.trajdb.specs.Telling.{ArePickedOf, AreSievedLive, AreToldOf, DeniesFile, DeniesLegs, DeniesSome, DeniesTrack, HoldsLive, IsToldFeatures, IsToldFile, IsToldLegs, IsToldPicks, IsToldTrack, Names, PicksLive};
-    ghost use Rattle.trajdb.specs.Calls.{IsText, IsRefused, Leaves, Asks, AsksAtMost, KnowsEach, KnowsOf, KnowsTrack, features_bound, known_features_bound, track_asks, write_asks};
+    ghost use Rattle.trajdb.specs.Calls.{IsText, IsRefused, LeavesBook, Asks, AsksAtMost, KnowsEach, KnowsOf, KnowsTrack, features_bound, known_features_bound, track_asks, write_asks};
 
     /// How legs are written.
     fn frame(&self) -> Frame
@@ -121,7 +121,7 @@ impl<I: Start> Core<I> {
         ensures asks { OnOk result (Asks I.Listed self.old self.new (search_cost
             (box_over rect.now period.now))) }
         ensures recalls { Recalls I.Listed self.old.index self.new.index }
-        ensures leaves { Leaves I.Listed self.old self.new }
+        ensures leaves { LeavesBook I.Listed self.old self.new }
         ensures refused { IfErr result (IsRefused I.Listed self.old self.new) }
     {
         Ok(self.index.search(&Box3::new(rect, period))?)
@@ -141,7 +141,7 @@ impl<I: Start> Core<I> {
         ensures learns { OnOk result (length self.old.book.names ≤ most
             → KnowsTrack I.Listed self.new (feature_of self.old.book.names name.now)) }
         ensures recalls { Recalls I.Listed self.old.index self.new.index }
-        ensures leaves { Leaves I.Listed self.old self.new }
+        ensures leaves { LeavesBook I.Listed self.old self.new }
         ensures refused { IfErr result (IsRefused I.Listed self.old self.new) }
     {
         match self.tracks.feature(name) {
@@ -168,7 +168,7 @@ impl<I: Start> Core<I> {
         ensures asks { OnOk result (Asks I.Listed self.old self.new (search_cost
             (box_near predicate rect.now period.now))) }
         ensures recalls { Recalls I.Listed self.old.index self.new.index }
-        ensures leaves { Leaves I.Listed self.old self.new }
+        ensures leaves { LeavesBook I.Listed self.old self.new }
         ensures refused { IfErr result (IsRefused I.Listed self.old self.new) }
     {
         let near = self.index.search(&search_box(predicate, rect, period))?;
@@ -197,7 +197,7 @@ impl<I: Start> Core<I> {
             → AsksAtMost I.Listed self.old self.new (known_bound feature period.now)) }
         ensures learns { OnOk result (KnowsOf I.Listed self.new period.now feature) }
         ensures recalls { Recalls I.Listed self.old.index self.new.index }
-        ensures leaves { Leaves I.Listed self.old self.new }
+        ensures leaves { LeavesBook I.Listed self.old self.new }
         ensures refused { IfErr result (IsRefused I.Listed self.old self.new) }
     {
         if self.tracks.is_over(feature, period) {
@@ -228,7 +228,7 @@ impl<I: Start> Core<I> {
             → AsksAtMost I.Listed self.old self.new (known_bound feature period.now)) }
         ensures learns { OnOk result (KnowsOf I.Listed self.new period.now feature) }
         ensures recalls { Recalls I.Listed self.old.index self.new.index }
-        ensures leaves { Leaves I.Listed self.old self.new }
+        ensures leaves { LeavesBook I.Listed self.old self.new }
         ensures refused { IfErr result (IsRefused I.Listed self.old self.new) }
     {
         let wanted = sieve(predicate, rect);
@@ -268,7 +268,7 @@ impl<I: Start> Core<I> {
         ensures learns { OnOk result (IsSound I.Listed self.old
             → KnowsEach I.Listed self.new period.now) }
         ensures recalls { Recalls I.Listed self.old.index self.new.index }
-        ensures leaves { Leaves I.Listed self.old self.new }
+        ensures leaves { LeavesBook I.Listed self.old self.new }
         ensures refused { IfErr result (IsRefused I.Listed self.old self.new) }
     {
         let mut features = Vec::new(alloc);
@@ -341,7 +341,7 @@ impl<I: Start> Core<I> {
             (λ page. I.denies self.old.index (InBox everything) page)) }
         ensures asks { OnOk result (Asks I.Listed self.old self.new (search_cost everything)) }
         ensures recalls { Recalls I.Listed self.old.index self.new.index }
-        ensures leaves { Leaves I.Listed self.old self.new }
+        ensures leaves { LeavesBook I.Listed self.old self.new }
         ensures refused { IfErr result (IsRefused I.Listed self.old self.new) }
     {
         Ok(self.index.search(&Box3::everything())?)
@@ -351,13 +351,14 @@ impl<I: Start> Core<I> {
     pub(crate) fn write_text(&mut self, alloc: Global) -> Result<Vec<u8>, RunFault>
         ensures text { IfOk result (λ text. IsSound I.Listed self.old
             → text.items ≡ write_text self.old.book.head self.old.book) }
-        ensures says { IfOk result (λ text. IsToldFile I.Listed self.old self.old.book.head text.items) }
+        ensures says { IfOk result
+            (λ text. IsToldFile I.Listed self.old self.old.book.head text.items) }
         ensures named { IfErr result (Names I.Listed self.old
             (DeniesFile I.Listed self.old self.old.book.head)) }
         ensures asks { OnOk result (Asks I.Listed self.old self.new
             (write_asks self.old.book.head)) }
         ensures recalls { Recalls I.Listed self.old.index self.new.index }
-        ensures leaves { Leaves I.Listed self.old self.new }
+        ensures leaves { LeavesBook I.Listed self.old self.new }
         ensures refused { IfErr result (IsRefused I.Listed self.old self.new) }
     {
         if self.head.is_none() {
@@ -387,7 +388,7 @@ impl<I: Start> Core<I> {
         ensures asks { OnOk result (Asks I.Listed self.old self.new (search_cost
             (box_over rect.now period.now))) }
         ensures recalls { Recalls I.Listed self.old.index self.new.index }
-        ensures leaves { Leaves I.Listed self.old self.new }
+        ensures leaves { LeavesBook I.Listed self.old self.new }
         ensures refused { IfErr result (IsRefused I.Listed self.old self.new) }
     {
         let legs = self.legs_in(rect, period)?;
@@ -409,7 +410,7 @@ impl<I: Start> Core<I> {
         ensures learns { OnOk result (length self.old.book.names ≤ most
             → KnowsTrack I.Listed self.new (feature_of self.old.book.names name.now)) }
         ensures recalls { Recalls I.Listed self.old.index self.new.index }
-        ensures leaves { Leaves I.Listed self.old self.new }
+        ensures leaves { LeavesBook I.Listed self.old self.new }
         ensures refused { IfErr result (IsRefused I.Listed self.old self.new) }
     {
         let legs = self.legs_of(alloc, name)?;
@@ -434,7 +435,7 @@ impl<I: Start> Core<I> {
         ensures asks { OnOk result (Asks I.Listed self.old self.new (search_cost
             (box_near predicate rect.now period.now))) }
         ensures recalls { Recalls I.Listed self.old.index self.new.index }
-        ensures leaves { Leaves I.Listed self.old self.new }
+        ensures leaves { LeavesBook I.Listed self.old self.new }
         ensures refused { IfErr result (IsRefused I.Listed self.old self.new) }
     {
         let legs = self.legs_for(alloc, predicate, rect, period)?;
@@ -464,7 +465,7 @@ impl<I: Start> Core<I> {
         ensures learns { OnOk result (IsSound I.Listed self.old
             → KnowsEach I.Listed self.new period.now) }
         ensures recalls { Recalls I.Listed self.old.index self.new.index }
-        ensures leaves { Leaves I.Listed self.old self.new }
+        ensures leaves { LeavesBook I.Listed self.old self.new }
         ensures refused { IfErr result (IsRefused I.Listed self.old self.new) }
     {
         let features = self.features_for(alloc, predicate, rect, period)?;

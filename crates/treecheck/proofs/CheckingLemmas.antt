@@ -9,7 +9,7 @@ use Rattle.legs.specs.Boxes.{BoxView}
 use Rattle.legs.specs.Legs.{LegView}
 use Rattle.legs.specs.declared.tracks.Track.{Track}
 use Rattle.chains.specs.Chains.{AreHeld}
-use Rattle.treecheck.specs.Check.{next_in, legs_on, first_on, AreLeavesFrom, AreChains, HoldChains, IsChecked, IsOver}
+use Rattle.treecheck.specs.Check.{next_in, legs_on, first_on, AreLeavesFrom, AreChains, HoldChains, IsChecked, IsTreeOver}
 use Rattle.tbtree.specs.Descent.{sort_by_ordinal}
 use Rattle.tbtree.proofs.OwnedLists.{numbered}
 use Rattle.tbtree.proofs.SortLemmas.{sort_moves}
@@ -17,7 +17,7 @@ use Rattle.tbtree.specs.Turn.{first_ordinal, IsPast, IsRising}
 use Rattle.tbtree.specs.Nodes.{Pages}
 use Rattle.tbtree.specs.declared.tree.Place.{Place}
 use Rattle.tbtree.specs.declared.tree.TbTree.{TbTree}
-use Rattle.treecheck.specs.Ordering.{IsWhole, NameLast}
+use Rattle.treecheck.specs.Ordering.{IsSurveyWhole, NameLast}
 use Rattle.treecheck.specs.Walking.{IsMet, Surveys}
 use Rattle.treecheck.specs.declared.walking.Met.{Met}
 use Rattle.treecheck.specs.declared.walking.Survey.{Survey}
@@ -125,7 +125,7 @@ module _ (nodes : Pages LegView BoxView) (tree : TbTree) (rows total : ℕ) (pla
   within = All-permutation (λ p. (0 < p) × (p < nodes.count)) (joined sv.chains) (map page_of leaves) ordered (chains_within nodes tree.shape.leaf rows 0 places tracks sv.chains sv.are_chains)
 
   -- the legs of chains that are whole are one list
-  pub list_of : IsWhole places total survey → (legs : List LegView) × HoldChains nodes tree.shape.leaf rows total places tracks legs
+  pub list_of : IsSurveyWhole places total survey → (legs : List LegView) × HoldChains nodes tree.shape.leaf rows total places tracks legs
   list_of whole =
       let all = legs_on nodes (joined sv.chains) in
       let once = subst (λ ns. IsPermutation ns (range_with_len 0 total)) sv.ordinals whole.once in (
@@ -141,7 +141,7 @@ module _ (nodes : Pages LegView BoxView) (tree : TbTree) (rows total : ℕ) (pla
       )
 
   -- a check that passes says that the pages are whole
-  pub checked : 0 < nodes.count → AreHeld nodes → IsWhole places total survey → IsRising (λ (m : Met). m.first) leaves → (pages : ℕ → List ℕ) → IsOver nodes tree (map page_of leaves) pages → NameLast places leaves → IsChecked nodes tree rows total places tracks
+  pub checked : 0 < nodes.count → AreHeld nodes → IsSurveyWhole places total survey → IsRising (λ (m : Met). m.first) leaves → (pages : ℕ → List ℕ) → IsTreeOver nodes tree (map page_of leaves) pages → NameLast places leaves → IsChecked nodes tree rows total places tracks
   checked some held whole strict pages over last = record {
     page_0 = some;
     held = held;
@@ -159,7 +159,7 @@ module _ (nodes : Pages LegView BoxView) (tree : TbTree) (rows total : ℕ) (pla
   }
 
   -- what a list of legs that the chains hold says of them
-  pub list_whole : (legs : List LegView) → HoldChains nodes tree.shape.leaf rows total places tracks legs → IsWhole places total survey
+  pub list_whole : (legs : List LegView) → HoldChains nodes tree.shape.leaf rows total places tracks legs → IsSurveyWhole places total survey
   list_whole legs k =
       let same : sv.chains ≡ k.chains = chains_once nodes tree.shape.leaf rows 0 places tracks sv.chains k.chains sv.are_chains k.are_chains in
       let ordinals : List (List ℕ) → List ℕ = λ cs. map (λ (leg : LegView). leg.ordinal) (legs_on nodes (joined cs)) in
@@ -204,7 +204,7 @@ module _ (nodes : Pages LegView BoxView) (tree : TbTree) (rows total : ℕ) (pla
     same_chains : sv.chains ≡ k.chains
     same_chains = chains_once nodes tree.shape.leaf rows 0 places tracks sv.chains k.chains sv.are_chains k.are_chains
 
-    pub whole : IsWhole places total survey
+    pub whole : IsSurveyWhole places total survey
     whole = record {
       some = k.some;
       once = subst (λ ns. IsPermutation ns (range_with_len 0 total)) (ap (λ cs. map (λ leg. leg.ordinal) (legs_on nodes (joined cs))) (sym same_chains) ∙ sym sv.ordinals) k.once;
@@ -219,8 +219,8 @@ module _ (nodes : Pages LegView BoxView) (tree : TbTree) (rows total : ℕ) (pla
       pub strict : IsRising (λ (m : Met). m.first) leaves
       strict = order_strict k.chains k.are_chains k.order k.ordered k.rises in_order rises
 
-      pub over : IsOver nodes tree (map page_of leaves) k.pages
-      over = subst (λ order. IsOver nodes tree order k.pages) (sym same_order) k.over
+      pub over : IsTreeOver nodes tree (map page_of leaves) k.pages
+      over = subst (λ order. IsTreeOver nodes tree order k.pages) (sym same_order) k.over
 
       pub last : NameLast places leaves
       last = λ f place e. ap (λ l. slice_get l place.last_index) same_order ∙ k.last_index f place e

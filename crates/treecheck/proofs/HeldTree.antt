@@ -15,7 +15,7 @@ use Rattle.legs.specs.Hull.{leg_boxes}
 use Rattle.legs.specs.Index.{is_of, legs_of}
 use Rattle.legs.specs.Legs.{LegView}
 use Rattle.legs.specs.declared.tracks.Track.{Track}
-use Rattle.treecheck.specs.Check.{HoldChains, legs_on, first_on, AreLeavesFrom, AreLeavesOf, AreChains, IsChecked, IsOver, HoldLegs}
+use Rattle.treecheck.specs.Check.{HoldChains, legs_on, first_on, AreLeavesFrom, AreLeavesOf, AreChains, IsChecked, IsTreeOver, HoldLegs}
 use Rattle.tbtree.specs.Turn.{first_ordinal, last_leg, ComeInTurn, IsRising}
 use Rattle.tbtree.specs.Descent.{legs_in}
 use Rattle.tbtree.specs.Nodes.{Pages, ALeaf}
@@ -193,7 +193,7 @@ module _ (nodes : Pages LegView BoxView) (tree : TbTree) (rows total : ℕ) (pla
   rises : IsRising (first_on nodes) order
   rises = rising_unmap (legs_at nodes) first_ordinal order (subst (IsRising first_ordinal) (sym runs_are) (runs_rising n c.legs some_leaf (numbers_rise c.legs c.stands.in_turn)))
 
-  over : IsOver nodes tree order c.pages
+  over : IsTreeOver nodes tree order c.pages
   over =
       let m = tree_stands.numbers in
       record {

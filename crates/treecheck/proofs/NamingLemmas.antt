@@ -9,7 +9,7 @@ use Rattle.pagecache.specs.declared.fault.CacheFault.{CacheFault}
 use Rattle.pagecache.specs.declared.fault.CacheFault.TheVariants as cache
 use Rattle.tbnode.specs.Form.{node_of}
 use Rattle.chains.specs.Chains.{AreHeld}
-use Rattle.tbtree.specs.Faults.{IfMalformed, MayRefuseRead, Names, NamesInCache, RefusesRead, RefusesReadInCache}
+use Rattle.tbtree.specs.Faults.{IfMalformed, MayRefuseRead, NamesEach, NamesInCache, RefusesRead, RefusesReadInCache}
 use Rattle.tbtree.specs.Nodes.{Pages, pages_of_cache}
 use Rattle.tbtree.specs.declared.fault.TreeFault.{TreeFault}
 use Rattle.tbtree.specs.declared.fault.TreeFault.TheVariants.{Cache as OfCache, Malformed, Spent}
@@ -26,7 +26,7 @@ use Rattle.std.proofs.lemmas.List.Sorted.{IsPermutation-trans, IsPermutation-sym
 use Rattle.legs.specs.Blocks.{joined}
 use Rattle.tbtree.specs.Turn.{IsRising}
 use Rattle.tbtree.proofs.RisingLists.{own_order, rising_up}
-use Rattle.treecheck.specs.Check.{first_on, IsChecked, IsOver}
+use Rattle.treecheck.specs.Check.{first_on, IsChecked, IsTreeOver}
 use Rattle.treecheck.proofs.CheckingLemmas.{chains_once}
 use Rattle.treecheck.specs.Descent.{DescentStopsAt}
 use Rattle.treecheck.proofs.SurveyLemmas.{as_many}
@@ -64,7 +64,7 @@ module _ (begun : Bool) (tree : TbTree) (rows total : ℕ) (places : List Place)
   none_damaged cache.Memory c = tt
 
   -- once each page was read, none is damaged, and page 0 is malformed where it does not say the state
-  pub state_named : (fault : TreeFault) → RefusesRead old new fault → (SaysState begun (payload_of old 0) → MayRefuseRead fault) → Names (λ _. ⊥) (λ n. n ≡ 0) fault → Names (IsFirstDamaged old) Malforms fault
+  pub state_named : (fault : TreeFault) → RefusesRead old new fault → (SaysState begun (payload_of old 0) → MayRefuseRead fault) → NamesEach (λ _. ⊥) (λ n. n ≡ 0) fault → NamesEach (IsFirstDamaged old) Malforms fault
   state_named (OfCache fault) c o k = none_damaged fault c
   state_named (Malformed n) c o k = record {
     held = λ p l. has_payload old p (held p l);
@@ -90,8 +90,8 @@ module _ (begun : Bool) (tree : TbTree) (rows total : ℕ) (places : List Place)
   pub record IsLater (n : ℕ) : Type 0 where
     pub walk : (HoldLeaves old tree rows places tracks → ⊥) → AllStopAt nodes tree.shape.leaf rows places tracks.tracks n
     pub list : HoldLeaves old tree rows places tracks → (Holds → ⊥) → n ≡ 0
-    pub descent : Holds → (order : List ℕ) → Orders order → ((pages : ℕ → List ℕ) → IsOver nodes tree order pages → ⊥) → DescentStopsAt nodes tree order n
-    pub rest : Holds → (order : List ℕ) → Orders order → (pages : ℕ → List ℕ) → IsOver nodes tree order pages → n ≡ 0
+    pub descent : Holds → (order : List ℕ) → Orders order → ((pages : ℕ → List ℕ) → IsTreeOver nodes tree order pages → ⊥) → DescentStopsAt nodes tree order n
+    pub rest : Holds → (order : List ℕ) → Orders order → (pages : ℕ → List ℕ) → IsTreeOver nodes tree order pages → n ≡ 0
 
   few_places : Holds → length places < 4294967296
   few_places k =
@@ -113,7 +113,7 @@ module _ (begun : Bool) (tree : TbTree) (rows total : ℕ) (places : List Place)
   walk_later Spent s o = tt
 
   -- where it passes, page 0 is named, but for the pages of the tree
-  pub zero_later : HoldLeaves old tree rows places tracks → (Holds → (order : List ℕ) → Orders order → ((pages : ℕ → List ℕ) → IsOver nodes tree order pages → ⊥) → ⊥) → IsLater 0
+  pub zero_later : HoldLeaves old tree rows places tracks → (Holds → (order : List ℕ) → Orders order → ((pages : ℕ → List ℕ) → IsTreeOver nodes tree order pages → ⊥) → ⊥) → IsLater 0
   zero_later h apart = record {
     walk = λ none. absurd (none h);
     list = λ _ _. refl;
@@ -123,18 +123,18 @@ module _ (begun : Bool) (tree : TbTree) (rows total : ℕ) (places : List Place)
 
   -- and the page at which the way down the tree stops
   pub tree_later : HoldLeaves old tree rows places tracks → Holds → (leaves : List ℕ) → ((order : List ℕ) → Orders order → leaves ≡ order)
-      → (fault : TreeFault) → IfMalformed (DescentStopsAt nodes tree leaves) fault → ((pages : ℕ → List ℕ) → IsOver nodes tree leaves pages → MayRefuseRead fault) → IfMalformed IsLater fault
+      → (fault : TreeFault) → IfMalformed (DescentStopsAt nodes tree leaves) fault → ((pages : ℕ → List ℕ) → IsTreeOver nodes tree leaves pages → MayRefuseRead fault) → IfMalformed IsLater fault
   tree_later h k leaves is (OfCache fault) s o = s
   tree_later h k leaves is (Malformed n) s o = record {
     walk = λ none. absurd (none h);
     list = λ _ apart. absurd (apart k);
     descent = λ _ order q _. subst (λ order. DescentStopsAt nodes tree order n) (is order q) s;
-    rest = λ _ order q pages over. absurd (o pages (subst (λ order. IsOver nodes tree order pages) (sym (is order q)) over));
+    rest = λ _ order q pages over. absurd (o pages (subst (λ order. IsTreeOver nodes tree order pages) (sym (is order q)) over));
   }
   tree_later h k leaves is Spent s o = tt
 
   -- and once page 0 said it
-  pub later_named : SaysState begun (payload_of old 0) → (fault : TreeFault) → RefusesRead old new fault → IfMalformed IsLater fault → Names (IsFirstDamaged old) Malforms fault
+  pub later_named : SaysState begun (payload_of old 0) → (fault : TreeFault) → RefusesRead old new fault → IfMalformed IsLater fault → NamesEach (IsFirstDamaged old) Malforms fault
   later_named says (OfCache fault) c l = none_damaged fault c
   later_named says (Malformed n) c l = record {
     held = λ p l. has_payload old p (held p l);
@@ -164,7 +164,7 @@ whole_malformed begun tree rows total places tracks c k same says = record {
   state = λ _ no. absurd (no says);
   walk = λ _ apart. absurd (apart (k.chains, k.are_chains));
   list = λ _ _ _. refl;
-  descent = λ _ _ order o apart. absurd (apart k.pages (subst (λ order. IsOver nodes tree order k.pages) (sym (order_is order o)) k.over));
+  descent = λ _ _ order o apart. absurd (apart k.pages (subst (λ order. IsTreeOver nodes tree order k.pages) (sym (order_is order o)) k.over));
   rest = λ _ _ _ _ _ _. refl;
 }
   where
@@ -193,14 +193,14 @@ module _ (old new : Cache) (P Q : ℕ → Type 0) where
   either_in_cache cache.StoreFull c k = tt
   either_in_cache cache.Memory c k = tt
 
-  either : (fault : TreeFault) → RefusesRead old new fault → Names P Q fault → Either (of_tree fault)
+  either : (fault : TreeFault) → RefusesRead old new fault → NamesEach P Q fault → Either (of_tree fault)
   either (OfCache fault) c k = either_in_cache fault c k
   either (Malformed n) c k = inr k
   either Spent c k = tt
 
-  each : (r : Result (Unit {0}) TreeFault) → IfErr r (λ fault. RefusesRead old new fault) → IfErr r (Names P Q) → IfErr (answered (λ fault. of_tree fault) r) Either
+  each : (r : Result (Unit {0}) TreeFault) → IfErr r (λ fault. RefusesRead old new fault) → IfErr r (NamesEach P Q) → IfErr (answered (λ fault. of_tree fault) r) Either
   each (Ok x) c k = tt
   each (Err fault) c k = either fault c k
 
-  pub either_named : (r : Result (Unit {0}) TreeFault) → IfErr r (λ fault. RefusesRead old new fault) → IfErr r (Names P Q) → (n : ℕ) → IsErrOf (answered (λ fault. of_tree fault) r) (index.Damaged n) → P n ⊎ Q n
+  pub either_named : (r : Result (Unit {0}) TreeFault) → IfErr r (λ fault. RefusesRead old new fault) → IfErr r (NamesEach P Q) → (n : ℕ) → IsErrOf (answered (λ fault. of_tree fault) r) (index.Damaged n) → P n ⊎ Q n
   either_named r c k n e = subst (λ r. IfErr r Either) e (each r c k)

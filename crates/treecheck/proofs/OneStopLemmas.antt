@@ -11,7 +11,7 @@ use Rattle.tbtree.specs.Stands.{last_or}
 use Rattle.tbtree.specs.Turn.{last_leg, ComeInTurn}
 use Rattle.tbtree.specs.declared.tree.Place.{Place}
 use Rattle.treecheck.specs.Check.{next_in, legs_on, AreLeavesFrom, AreLeavesOf}
-use Rattle.treecheck.specs.Stopping.{AllStopAt, AreNextLeaves, ArePaired, FirstStopsAt, LeadOn, StopsAt, page_after}
+use Rattle.treecheck.specs.Stopping.{AllStopAt, AreNextLeaves, ArePaired, FirstStopsAt, LeadOn, WalkStopsAt, page_after}
 use Rattle.treecheck.proofs.WalkLemmas.{same_some}
 use Rattle.treecheck.proofs.WalkedLemmas.{turn_append, turn_before, turn_join}
 
@@ -54,7 +54,7 @@ module _ (nodes : Pages LegView BoxView) (most rows f : ℕ) where
 
   module _ (place : Place) (track : Track) where
     -- where the feature has its leaves, its walk does not stop
-    leaves_pass : (ps : List ℕ) (n : ℕ) → AreLeavesOf nodes most rows f place track ps → StopsAt nodes most rows f place track n → ⊥
+    leaves_pass : (ps : List ℕ) (n : ℕ) → AreLeavesOf nodes most rows f place track ps → WalkStopsAt nodes most rows f place track n → ⊥
     leaves_pass ps n c s =
         let same : ps ≡ s.pages = one_beginning 0 place.first place.legs None ps s.pages
         (leaves_begin 0 place.first place.legs ps c.leaves, c.in_turn) (λ p h. leaves_end 0 place.first place.legs ps p c.leaves h.0)
@@ -77,7 +77,7 @@ module _ (nodes : Pages LegView BoxView) (most rows f : ℕ) where
         (cases_lt (length (legs_on nodes pages)) place.legs)
 
     -- it stops at one page alone
-    stops_once : (a b : ℕ) → StopsAt nodes most rows f place track a → StopsAt nodes most rows f place track b → a ≡ b
+    stops_once : (a b : ℕ) → WalkStopsAt nodes most rows f place track a → WalkStopsAt nodes most rows f place track b → a ≡ b
     stops_once a b s t =
         let same : t.pages ≡ s.pages = one_beginning 0 place.first place.legs None t.pages s.pages
         (t.first.leaves, t.first.in_turn) (λ p h. t.no_more p (record { leaves = h.0; in_turn = h.1 }))
@@ -99,7 +99,7 @@ module _ (nodes : Pages LegView BoxView) (most rows : ℕ) (places : List Place)
       let p : t.place ≡ s.place = same_some t.place s.place (sym t.place_is ∙ ap (slice_get places) e ∙ s.place_is) in
       let u : t.track ≡ s.track = same_some t.track s.track (sym t.track_is ∙ ap (slice_get tracks) e ∙ s.track_is) in
       stops_once nodes most rows s.feature s.place s.track a b s.stops
-      (subst (λ f. StopsAt nodes most rows f s.place s.track b) e (subst (λ p. StopsAt nodes most rows t.feature p s.track b) p (subst (λ u. StopsAt nodes most rows t.feature t.place u b) u t.stops))))
+      (subst (λ f. WalkStopsAt nodes most rows f s.place s.track b) e (subst (λ p. WalkStopsAt nodes most rows t.feature p s.track b) p (subst (λ u. WalkStopsAt nodes most rows t.feature t.place u b) u t.stops))))
       (cases_lt t.feature s.feature))
       (cases_lt s.feature t.feature)
 

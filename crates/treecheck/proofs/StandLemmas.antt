@@ -10,7 +10,7 @@ use Rattle.legs.specs.Blocks.{block, groups, level}
 use Rattle.legs.specs.Boxes.{BoxView}
 use Rattle.legs.specs.Hull.{leg_boxes}
 use Rattle.legs.specs.Legs.{LegView}
-use Rattle.treecheck.specs.Check.{IsOver}
+use Rattle.treecheck.specs.Check.{IsTreeOver}
 use Rattle.tbtree.specs.Descent.{legs_in}
 use Rattle.tbtree.specs.Nodes.{Pages}
 use Rattle.tbtree.specs.Stands.{page_at, InnerStands}
@@ -133,7 +133,7 @@ module _ (nodes : Pages LegView BoxView) (tree : TbTree) (leaves : List Met) (h 
             (cases_lt (suc k) (suc h))
 
   -- of any pages that are over those leaves
-  module _ (pages : ℕ → List ℕ) (over : IsOver nodes tree (pages_of_leaves leaves) pages) where
+  module _ (pages : ℕ → List ℕ) (over : IsTreeOver nodes tree (pages_of_leaves leaves) pages) where
     pub height_of : IsHeight inner (length leaves) h
     height_of =
         let t = over.top h (sym levels_are) in

@@ -14,7 +14,7 @@ use Rattle.tbtree.proofs.FaultLemmas.{malformed_then}
 use Rattle.tbtree.specs.declared.tree.Place.{Place}
 use Rattle.treecheck.specs.Check.{next_in, legs_on, IsLeafOf, AreLeavesOf}
 use Rattle.treecheck.proofs.WalkLemmas.{same_some}
-use Rattle.treecheck.specs.Stopping.{AllStopAt, ArePaired, AreNextLeaves, HaveLeavesBefore, StopsAt, page_after}
+use Rattle.treecheck.specs.Stopping.{AllStopAt, ArePaired, AreNextLeaves, HaveLeavesBefore, WalkStopsAt, page_after}
 
 pub refused_map : (P Q : ℕ → Type 0) → ((n : ℕ) → P n → Q n) → (r : Result (Unit {0}) TreeFault) → IfErr r (IfMalformed P) → IfErr r (IfMalformed Q)
 refused_map P Q f (Ok x) h = tt
@@ -69,7 +69,7 @@ module _ (nodes : Pages LegView BoxView) (most rows : ℕ) (places : List Place)
 
   -- the first feature whose walk stops
   pub first_stops : (f : ℕ) (place : Place) (track : Track) → slice_get places f ≡ Some place → slice_get tracks f ≡ Some track → ArePaired nodes most rows places tracks
-      → HaveLeavesBefore nodes most rows places tracks f → (n : ℕ) → StopsAt nodes most rows f place track n → AllStopAt nodes most rows places tracks n
+      → HaveLeavesBefore nodes most rows places tracks f → (n : ℕ) → WalkStopsAt nodes most rows f place track n → AllStopAt nodes most rows places tracks n
   first_stops f place track p t both h n s = record {
     unpaired = λ apart. absurd (apart both);
     paired = λ _. record { feature = f; place = place; track = track; place_is = p; track_is = t; before = h; stops = s };

@@ -24,7 +24,7 @@ use Rattle.treecheck.specs.Walking.{after, pages_by, IsAtEnd, IsMet, NotesAll, S
 use Rattle.treecheck.specs.declared.walking.Met.{Met}
 use Rattle.treecheck.specs.declared.walking.Survey.{Survey}
 use Rattle.treecheck.specs.declared.walking.Walk.{Walk}
-use Rattle.treecheck.specs.Stopping.{AreNextLeaves, LeadOn, StopsAt}
+use Rattle.treecheck.specs.Stopping.{AreNextLeaves, LeadOn, WalkStopsAt}
 use Rattle.treecheck.proofs.StoppingLemmas.{Begun, begun_none, begun_on}
 
 -- what is only read says the same, whatever node a payload says
@@ -173,7 +173,7 @@ module _ (nodes : Pages LegView BoxView) (most rows f : ℕ) (place : Place) whe
       at (q ∷ qs) e h = absurd (let s = h.1.some in omega (arith, s, z))
 
   -- where the next page is not the next leaf, the walk stops there
-  pub walked_stray : (walk : Walk) (old new : Survey) (track : Track) (n : ℕ) → Walked walk old new → 0 < walk.left → Strays nodes most rows walk n → StopsAt nodes most rows f place track n
+  pub walked_stray : (walk : Walk) (old new : Survey) (track : Track) (n : ℕ) → Walked walk old new → 0 < walk.left → Strays nodes most rows walk n → WalkStopsAt nodes most rows f place track n
   walked_stray walk old new track n w l s = record {
     pages = w.done;
     first = record { leaves = subst (AreNextLeaves nodes most f 0 place.first place.legs) (append-nil w.done) (w.begun.on [] tt); in_turn = w.turn };
@@ -198,7 +198,7 @@ module _ (nodes : Pages LegView BoxView) (most rows f : ℕ) (place : Place) whe
       }
 
   -- and where no legs are left, and it has not come to the end, at the last leaf
-  pub walked_past : (walk : Walk) (old new : Survey) (track : Track) → Walked walk old new → walk.left ≡ 0 → (IsAtEnd walk place track → ⊥) → StopsAt nodes most rows f place track walk.previous
+  pub walked_past : (walk : Walk) (old new : Survey) (track : Track) → Walked walk old new → walk.left ≡ 0 → (IsAtEnd walk place track → ⊥) → WalkStopsAt nodes most rows f place track walk.previous
   walked_past walk old new track w z short = record {
     pages = w.done;
     first = record { leaves = subst (AreNextLeaves nodes most f 0 place.first place.legs) (append-nil w.done) (w.begun.on [] tt); in_turn = w.turn };

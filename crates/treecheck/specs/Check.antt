@@ -52,7 +52,8 @@ module _ (nodes : Pages LegView BoxView) where
       × AreLeavesFrom most feature p (next_in (nodes.at p)) (left - most) ps
 
   -- the pages are all leaves of the feature, as its place and its track say them
-  pub record AreLeavesOf (most rows feature : ℕ) (place : Place) (track : Track) (pages : List ℕ) : Type 0 where
+  pub record AreLeavesOf (most rows feature : ℕ) (place : Place) (track : Track)
+      (pages : List ℕ) : Type 0 where
     pub leaves : AreLeavesFrom most feature 0 place.first place.legs pages
     pub last : last_or 0 pages ≡ place.last
     pub in_turn : ComeInTurn feature rows None (legs_on pages)
@@ -67,42 +68,51 @@ module _ (nodes : Pages LegView BoxView) where
   AreChains most rows feature (place ∷ places) [] chains = ⊥
   AreChains most rows feature (place ∷ places) (track ∷ tracks) [] = ⊥
   AreChains most rows feature (place ∷ places) (track ∷ tracks) (pages ∷ chains) =
-      AreLeavesOf most rows feature place track pages × AreChains most rows (suc feature) places tracks chains
+      AreLeavesOf most rows feature place track pages
+      × AreChains most rows (suc feature) places tracks chains
 
 -- the pages of each level of a tree over leaves in that order
-pub record IsOver (nodes : Pages LegView BoxView) (tree : TbTree) (order : List ℕ) (pages : ℕ → List ℕ) : Type 0 where
+pub record IsTreeOver (nodes : Pages LegView BoxView) (tree : TbTree) (order : List ℕ)
+    (pages : ℕ → List ℕ) : Type 0 where
   pub leaves_are : tree.leaves ≡ length order
   pub base : 0 < tree.levels → pages 0 ≡ order
-  pub one_each : (k : ℕ) → k < tree.levels → length (pages k) ≡ length (level tree.shape.inner k order)
+  pub one_each : (k : ℕ) → k < tree.levels
+      → length (pages k) ≡ length (level tree.shape.inner k order)
   pub no_more : (k : ℕ) → tree.levels ≤ k → pages k ≡ []
   pub below_top : (k : ℕ) → suc k < tree.levels → 1 < length (level tree.shape.inner k order)
-  pub top : (k : ℕ) → suc k ≡ tree.levels → (length (level tree.shape.inner k order) ≡ 1) × (page_at pages k 0 ≡ Some tree.root)
+  pub top : (k : ℕ) → suc k ≡ tree.levels
+      → (length (level tree.shape.inner k order) ≡ 1) × (page_at pages k 0 ≡ Some tree.root)
   pub empty : tree.levels ≡ 0 → (order ≡ []) × (tree.root ≡ 0)
   pub within : (k j p : ℕ) → page_at pages k j ≡ Some p → (0 < p) × (p < nodes.count)
-  pub inners : (k : ℕ) → LevelStands leg_boxes nodes tree.shape.inner (map (λ p. legs_in (nodes.at p)) order) pages k
+  pub inners : (k : ℕ)
+      → LevelStands leg_boxes nodes tree.shape.inner (map (λ p. legs_in (nodes.at p)) order) pages k
 
 -- all that a check asks of pages: each has a payload; each feature has its leaves, some, which together have each ordinal
 -- once, below the total; features are numbered in the order of their first legs; over the leaves, in the order of their first legs, stands
 -- the tree; and the place of each feature says where its last leaf is among them
-pub record IsChecked (nodes : Pages LegView BoxView) (tree : TbTree) (rows total : ℕ) (places : List Place) (tracks : List Track) : Type 0 where
+pub record IsChecked (nodes : Pages LegView BoxView) (tree : TbTree) (rows total : ℕ)
+    (places : List Place) (tracks : List Track) : Type 0 where
   pub page_0 : 0 < nodes.count
   pub held : (p : ℕ) → p < nodes.count → nodes.at p ≢ None
   pub chains : List (List ℕ)
   pub are_chains : AreChains nodes tree.shape.leaf rows 0 places tracks chains
   pub some : (f : ℕ) (place : Place) → slice_get places f ≡ Some place → 0 < place.legs
-  pub once : IsPermutation (map (λ leg. leg.ordinal) (legs_on nodes (joined chains))) (range_with_len 0 total)
+  pub once : IsPermutation (map (λ leg. leg.ordinal) (legs_on nodes (joined chains)))
+      (range_with_len 0 total)
   pub firsts : IsRising (λ pages. first_ordinal (legs_on nodes pages)) chains
   pub order : List ℕ
   pub ordered : IsPermutation (joined chains) order
   pub rises : IsRising (first_on nodes) order
   pub pages : ℕ → List ℕ
-  pub over : IsOver nodes tree order pages
-  pub last_index : (f : ℕ) (place : Place) → slice_get places f ≡ Some place → slice_get order place.last_index ≡ Some place.last
+  pub over : IsTreeOver nodes tree order pages
+  pub last_index : (f : ℕ) (place : Place) → slice_get places f ≡ Some place
+      → slice_get order place.last_index ≡ Some place.last
 
 -- the chains of the features, whatever stands above them, hold a list of so many legs: each feature has its leaves, some;
 -- the legs of all leaves, in the order of their ordinals, which are their places, are the list; and features are numbered
 -- in the order of their first legs
-pub record HoldChains (nodes : Pages LegView BoxView) (most rows total : ℕ) (places : List Place) (tracks : List Track) (legs : List LegView) : Type 0 where
+pub record HoldChains (nodes : Pages LegView BoxView) (most rows total : ℕ) (places : List Place)
+    (tracks : List Track) (legs : List LegView) : Type 0 where
   pub chains : List (List ℕ)
   pub are_chains : AreChains nodes most rows 0 places tracks chains
   pub some : (f : ℕ) (place : Place) → slice_get places f ≡ Some place → 0 < place.legs
@@ -111,13 +121,15 @@ pub record HoldChains (nodes : Pages LegView BoxView) (most rows total : ℕ) (p
   pub firsts : IsRising (λ pages. first_ordinal (legs_on nodes pages)) chains
 
 -- pages that hold a list of so many legs, with the places and the tracks of its features
-pub record HoldLegs (nodes : Pages LegView BoxView) (tree : TbTree) (rows total : ℕ) (places : List Place) (tracks : List Track) : Type 0 where
+pub record HoldLegs (nodes : Pages LegView BoxView) (tree : TbTree) (rows total : ℕ)
+    (places : List Place) (tracks : List Track) : Type 0 where
   pub legs : List LegView
   pub counted : length legs ≡ total
   pub pages : ℕ → List ℕ
   pub stands : Stands nodes tree legs pages
   pub features : length places ≡ feature_count legs
-  pub placed : (f : ℕ) (place : Place) → slice_get places f ≡ Some place → IsPlace tree legs pages f place
+  pub placed : (f : ℕ) (place : Place) → slice_get places f ≡ Some place
+      → IsPlace tree legs pages f place
   pub paired : length tracks ≡ length places
   pub tracked : (f : ℕ) (track : Track) → slice_get tracks f ≡ Some track → IsTrack track legs f
   pub led : (f : ℕ) → f < length places → legs_of f legs ≢ []

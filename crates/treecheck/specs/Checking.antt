@@ -11,7 +11,8 @@ use Rattle.legs.specs.declared.tracks.Track.{Track}
 pub record AreTracksOf (tracks : TracksView) (rows : ℕ) (legs : List LegView) : Type 0 where
   pub paired : length tracks.tracks ≡ length tracks.names
   pub numbered : feature_count legs ≡ length tracks.names
-  pub each : (feature : ℕ) (d : Track) → feature < length tracks.names → IsTrack (slice_index_or tracks.tracks feature d) legs feature
+  pub each : (feature : ℕ) (d : Track) → feature < length tracks.names
+      → IsTrack (slice_index_or tracks.tracks feature d) legs feature
   pub led : (feature : ℕ) → feature < length tracks.names → last_end feature legs ≢ None
   pub legs_are : tracks.legs ≡ length legs
   pub rows_are : tracks.rows ≡ rows

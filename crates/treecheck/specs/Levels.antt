@@ -4,7 +4,7 @@ use Rattle.legs.specs.Blocks.{block, groups}
 use Rattle.legs.specs.Boxes.{BoxView}
 use Rattle.legs.specs.Hull.{leg_boxes}
 use Rattle.legs.specs.Legs.{LegView}
-use Rattle.treecheck.specs.Check.{IsOver}
+use Rattle.treecheck.specs.Check.{IsTreeOver}
 pub use Rattle.treecheck.specs.Descent.{named_by, named_below, IsHeight}
 use Rattle.tbtree.specs.Nodes.{Pages, AnInner, InnerView, boxes, children, cover_all}
 use Rattle.tbtree.specs.declared.tree.TbTree.{TbTree}
@@ -25,7 +25,8 @@ pub record IsAbove (height width : ℕ) (leaves : List Met) (page : InnerView Bo
   pub leaves_are : height ≡ 1 → children page ≡ pages_of_leaves leaves
 
 -- the page p is such a page
-pub record StandsAbove (nodes : Pages LegView BoxView) (height width : ℕ) (leaves : List Met) (p : ℕ) : Type 0 where
+pub record StandsAbove (nodes : Pages LegView BoxView) (height width : ℕ) (leaves : List Met)
+    (p : ℕ) : Type 0 where
   pub above : 0 < p
   pub within : p < nodes.count
   pub page : InnerView BoxView
@@ -33,7 +34,8 @@ pub record StandsAbove (nodes : Pages LegView BoxView) (height width : ℕ) (lea
   pub is_above : IsAbove height width leaves page
 
 -- page p, at place j, is such a page for block j of the leaves, of so many each
-abbrev pub IsInBlock : Pages LegView BoxView → (height width span : ℕ) → List Met → (j p : ℕ) → Type 0
+abbrev pub IsInBlock : Pages LegView BoxView → (height width span : ℕ) → List Met → (j p : ℕ)
+    → Type 0
 IsInBlock nodes height width span leaves j p =
     StandsAbove nodes height width (block span j leaves) p
 
@@ -42,16 +44,19 @@ abbrev pub IsInLevel : Pages LegView BoxView → (inner : ℕ) → List Met → 
 IsInLevel nodes inner leaves k = IsInBlock nodes (suc k) (inner ^ k) (inner ^ suc k) leaves
 
 -- page j is such a page for block j of the leaves, of so many each
-abbrev pub AllStandAbove : Pages LegView BoxView → (height width span : ℕ) → List Met → List ℕ → Type 0
+abbrev pub AllStandAbove : Pages LegView BoxView → (height width span : ℕ) → List Met → List ℕ
+    → Type 0
 AllStandAbove nodes height width span leaves pages =
     (j p : ℕ) → slice_get pages j ≡ Some p → StandsAbove nodes height width (block span j leaves) p
 
 -- the pages of each level above the leaves are such pages
 abbrev pub LevelsStandAbove : Pages LegView BoxView → (inner height root : ℕ) → List Met → Type 0
 LevelsStandAbove nodes inner height root leaves =
-    (k n : ℕ) → n + suc k ≡ height → AllStandAbove nodes (suc k) (inner ^ k) (inner ^ suc k) leaves (named_below nodes root n)
+    (k n : ℕ) → n + suc k ≡ height
+    → AllStandAbove nodes (suc k) (inner ^ k) (inner ^ suc k) leaves (named_below nodes root n)
 
 -- a tree stands over leaves in that order
-pub record StandsOver (nodes : Pages LegView BoxView) (tree : TbTree) (order : List ℕ) : Type 0 where
+pub record StandsOver (nodes : Pages LegView BoxView) (tree : TbTree)
+    (order : List ℕ) : Type 0 where
   pub pages : ℕ → List ℕ
-  pub is_over : IsOver nodes tree order pages
+  pub is_over : IsTreeOver nodes tree order pages

@@ -9,7 +9,7 @@ use Rattle.tbtree.specs.Nodes.{pages_of_cache}
 use Rattle.tbtree.specs.Turn.{IsRising}
 use Rattle.tbtree.specs.declared.tree.Place.{Place}
 use Rattle.tbtree.specs.declared.tree.TbTree.{TbTree}
-use Rattle.treecheck.specs.Check.{first_on, AreChains, HoldChains, IsOver}
+use Rattle.treecheck.specs.Check.{first_on, AreChains, HoldChains, IsTreeOver}
 use Rattle.treecheck.specs.Checking.{Agree}
 use Rattle.treecheck.specs.Descent.{DescentStopsAt}
 use Rattle.treecheck.specs.Stopping.{AllStopAt}
@@ -74,8 +74,8 @@ pub record IsFirstMalformed (begun : Bool) (tree : TbTree) (rows total : ℕ) (p
       → (HoldList cache tree rows places tracks total → ⊥) → n ≡ 0
   pub descent : HasHeader begun cache → HoldList cache tree rows places tracks total
       → (order : List ℕ) → IsOrder cache tree rows places tracks order
-      → ((pages : ℕ → List ℕ) → IsOver (pages_of_cache cache) tree order pages → ⊥)
+      → ((pages : ℕ → List ℕ) → IsTreeOver (pages_of_cache cache) tree order pages → ⊥)
       → DescentStopsAt (pages_of_cache cache) tree order n
   pub rest : HasHeader begun cache → HoldList cache tree rows places tracks total
       → (order : List ℕ) → IsOrder cache tree rows places tracks order
-      → (pages : ℕ → List ℕ) → IsOver (pages_of_cache cache) tree order pages → n ≡ 0
+      → (pages : ℕ → List ℕ) → IsTreeOver (pages_of_cache cache) tree order pages → n ≡ 0

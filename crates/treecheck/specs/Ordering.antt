@@ -18,7 +18,7 @@ NameLast places leaves = (f : ℕ) (place : Place) → slice_get places f ≡ So
 
 -- what the survey says of all features together is whole: each has a leg, each ordinal stands once, below the total, and
 -- features are in the order of their first legs
-pub record IsWhole (places : List Place) (total : ℕ) (survey : Survey) : Type 0 where
+pub record IsSurveyWhole (places : List Place) (total : ℕ) (survey : Survey) : Type 0 where
   pub some : HaveLegs places
   pub once : IsPermutation survey.ordinals.items (range_with_len 0 total)
   pub firsts : IsRising (λ n. n) survey.firsts.items

@@ -37,7 +37,7 @@ module _ (nodes : Pages LegView BoxView) where
   -- the walk along the chain of a feature stops at page n: some pages, and not one more, are its
   -- first leaves, and they are not all its leaves; n is the page that they lead to, where they lead
   -- on, and else the last of them, or 0 where there is none
-  pub record StopsAt (most rows feature : ℕ) (place : Place) (track : Track) (n : ℕ) : Type 0
+  pub record WalkStopsAt (most rows feature : ℕ) (place : Place) (track : Track) (n : ℕ) : Type 0
     where
       pub pages : List ℕ
       pub first : AreFirstLeaves most rows feature place pages
@@ -68,7 +68,7 @@ module _ (nodes : Pages LegView BoxView) (most rows : ℕ) (places : List Place)
     pub place_is : slice_get places feature ≡ Some place
     pub track_is : slice_get tracks feature ≡ Some track
     pub before : HaveLeavesBefore feature
-    pub stops : StopsAt nodes most rows feature place track n
+    pub stops : WalkStopsAt nodes most rows feature place track n
 
   -- the walk along all chains stops at page n, which is page 0 where places and tracks are no pairs
   pub record AllStopAt (n : ℕ) : Type 0 where

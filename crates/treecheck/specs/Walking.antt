@@ -44,7 +44,8 @@ pub record IsMet (at : Option (Option (Node LegView BoxView))) (met : Met) : Typ
   pub bounds : hull leg_boxes (legs_in at) ≡ Some met.bounds
 
 -- its legs and the leaf itself are put to what was found
-pub record Notes (at : Option (Option (Node LegView BoxView))) (page : ℕ) (old new : Survey) : Type 0 where
+pub record Notes (at : Option (Option (Node LegView BoxView))) (page : ℕ)
+    (old new : Survey) : Type 0 where
   pub met : Met
   pub page_is : met.page ≡ page
   pub is_met : IsMet at met
@@ -53,7 +54,8 @@ pub record Notes (at : Option (Option (Node LegView BoxView))) (page : ℕ) (old
   pub firsts : new.firsts ≡ old.firsts
 
 -- the page of the way is its next leaf, and is taken
-pub record TakesLeaf (nodes : Pages LegView BoxView) (most rows : ℕ) (walk next : Walk) (old new : Survey) : Type 0 where
+pub record TakesLeaf (nodes : Pages LegView BoxView) (most rows : ℕ) (walk next : Walk)
+    (old new : Survey) : Type 0 where
   pub leaf : IsLeafOf nodes most walk.feature walk.previous walk.left walk.page
   pub turn : ComeInTurn walk.feature rows walk.last (legs_in (nodes.at walk.page))
   pub next_is : next ≡ after most walk (nodes.at walk.page)
@@ -69,11 +71,13 @@ pub record Strays (nodes : Pages LegView BoxView) (most rows : ℕ) (walk : Walk
     pub absent : ((0 < walk.page) × (walk.page < nodes.count) → ⊥) → n ≡ walk.previous
 
 -- the pages of some leaves are put to what was found
-pub record NotesAll (nodes : Pages LegView BoxView) (pages : List ℕ) (old new : Survey) : Type 0 where
+pub record NotesAll (nodes : Pages LegView BoxView) (pages : List ℕ)
+    (old new : Survey) : Type 0 where
   pub mets : List Met
   pub pages_are : map (λ (m : Met). m.page) mets ≡ pages
   pub are_met : All (λ (m : Met). IsMet (nodes.at m.page) m) mets
-  pub ordinals : new.ordinals.items ≡ old.ordinals.items ++ map (λ leg. leg.ordinal) (legs_on nodes pages)
+  pub ordinals : new.ordinals.items
+      ≡ old.ordinals.items ++ map (λ leg. leg.ordinal) (legs_on nodes pages)
   pub leaves : new.leaves.items ≡ old.leaves.items ++ mets
   pub firsts : new.firsts ≡ old.firsts
 
@@ -85,13 +89,15 @@ pub record IsAtEnd (walk : Walk) (place : Place) (track : Track) : Type 0 where
   pub end : (leg : LegView) → walk.last ≡ Some leg → leg.t1 ≡ track.end
 
 -- the leaves of a feature were met
-pub record Walks (nodes : Pages LegView BoxView) (most rows feature : ℕ) (place : Place) (track : Track) (old new : Survey) : Type 0 where
+pub record Walks (nodes : Pages LegView BoxView) (most rows feature : ℕ) (place : Place)
+    (track : Track) (old new : Survey) : Type 0 where
   pub pages : List ℕ
   pub leaves : AreLeavesOf nodes most rows feature place track pages
   pub notes : NotesAll nodes pages old new
 
 -- the leaves of each feature were met: those of the chains, with their legs
-pub record Surveys (nodes : Pages LegView BoxView) (most rows : ℕ) (places : List Place) (tracks : List Track) (survey : Survey) : Type 0 where
+pub record Surveys (nodes : Pages LegView BoxView) (most rows : ℕ) (places : List Place)
+    (tracks : List Track) (survey : Survey) : Type 0 where
   pub chains : List (List ℕ)
   pub are_chains : AreChains nodes most rows 0 places tracks chains
   pub ordinals : survey.ordinals.items ≡ map (λ leg. leg.ordinal) (legs_on nodes (joined chains))

@@ -7,7 +7,7 @@ ghost use Rattle.chains.specs.Chains.{AreHeld};
 ghost use Rattle.chains.specs.Reads.{OnlyReads};
 ghost use Rattle.legs.specs.declared.tracks.Track.{Track};
 ghost use Rattle.treecheck.specs.Check.{first_on, AreChains, IsChecked};
-ghost use Rattle.tbtree.specs.Faults.{MayRefuseRead, Names, RefusesRead};
+ghost use Rattle.tbtree.specs.Faults.{MayRefuseRead, NamesEach, RefusesRead};
 ghost use Rattle.tbtree.specs.Turn.{IsRising};
 ghost use Rattle.tbtree.specs.Nodes.{pages_of_cache};
 ghost use Rattle.tbtree.specs.Shape.{IsShape};
@@ -18,7 +18,7 @@ ghost use Rattle.legs.specs.Asking.{Leaves};
 ghost use Rattle.legs.specs.Index.{MayRefuse, HasRisen};
 ghost use Rattle.legs.specs.declared.index.IndexFault.{IndexFault};
 ghost use Rattle.treecheck.specs.Walking.{Surveys};
-ghost use Rattle.treecheck.specs.Ordering.{IsWhole};
+ghost use Rattle.treecheck.specs.Ordering.{IsSurveyWhole};
 ghost use Rattle.treecheck.specs.Naming.{IsFirstDamaged, IsFirstMalformed, IsMiscounted};
 ghost use Rattle.treecheck.specs.declared.walking.Met.{Met};
 ghost use Rattle.treecheck.specs.declared.walking.Survey.{Survey};
@@ -45,7 +45,7 @@ fn read_page<S: PageStore>(cache: &mut PageCache<S>, page: u32) -> Result<(), Tr
     ensures only { IsTrue cache.old.store.is_faithful → (pages_of_cache cache.old).at page ≢ None
         → IfErr result MayRefuseRead }
     ensures named { IsTrue cache.old.store.is_faithful
-        → IfErr result (Names (λ n. (n ≡ page) × (payload_of cache.old n ≡ None)) (λ _. ⊥)) }
+        → IfErr result (NamesEach (λ n. (n ≡ page) × (payload_of cache.old n ≡ None)) (λ _. ⊥)) }
     ensures reads { OnlyReads cache.old cache.new }
     ensures caused { IfErr result (RefusesRead cache.old cache.new) }
 {
@@ -67,7 +67,7 @@ fn read_pages<S: PageStore>(cache: &mut PageCache<S>) -> Result<(), TreeFault>
         → 0 < cache.old.count
         → cache.old.count ≡ cache.old.store.count → IfErr result MayRefuseRead }
     ensures named { IsTrue cache.old.store.is_faithful
-        → IfErr result (Names (IsFirstDamaged cache.old) (IsMiscounted cache.old)) }
+        → IfErr result (NamesEach (IsFirstDamaged cache.old) (IsMiscounted cache.old)) }
     ensures reads { OnlyReads cache.old cache.new }
     ensures caused { IfErr result (RefusesRead cache.old cache.new) }
 {
@@ -89,7 +89,7 @@ fn check_state<S: PageStore>(cache: &mut PageCache<S>, begun: bool) -> Result<()
     ensures only { IsTrue cache.old.store.is_faithful → SaysState begun (payload_of cache.old 0)
         → 0 < cache.old.count → IfErr result MayRefuseRead }
     ensures named { IsTrue cache.old.store.is_faithful → payload_of cache.old 0 ≢ None
-        → IfErr result (Names (λ _. ⊥) (λ n. n ≡ 0)) }
+        → IfErr result (NamesEach (λ _. ⊥) (λ n. n ≡ 0)) }
     ensures reads { OnlyReads cache.old cache.new }
     ensures caused { IfErr result (RefusesRead cache.old cache.new) }
 {
@@ -106,8 +106,8 @@ fn check_state<S: PageStore>(cache: &mut PageCache<S>, begun: bool) -> Result<()
 /// Whether a survey is whole: each feature has a leg, each ordinal below the total stands once, and
 /// features are in the order of their first legs. The ordinals are put in order.
 pub fn is_whole(places: &[Place], total: u64, survey: &mut Survey) -> bool
-    ensures whole { IsTrue result → IsWhole places.now total survey.old }
-    ensures only { IsWhole places.now total survey.old → IsTrue result }
+    ensures whole { IsTrue result → IsSurveyWhole places.now total survey.old }
+    ensures only { IsSurveyWhole places.now total survey.old → IsTrue result }
     ensures leaves { survey.new.leaves ≡ survey.old.leaves }
 {
     if survey.ordinals.len() as u64 != total {
@@ -170,7 +170,7 @@ pub fn check_pages<S: PageStore>(
         → IsChecked (pages_of_cache cache.old) tree.now rows legs places.now tracks.now.tracks
         → IfErr result MayRefuseRead }
     ensures named { IsTrue cache.old.store.is_faithful
-        → IfErr result (Names (IsFirstDamaged cache.old)
+        → IfErr result (NamesEach (IsFirstDamaged cache.old)
         (IsFirstMalformed begun tree.now rows legs places.now tracks.now cache.old)) }
     ensures reads { OnlyReads cache.old cache.new }
     ensures caused { IfErr result (RefusesRead cache.old cache.new) }
@@ -221,7 +221,7 @@ fn check_index<S: PageStore>(
         tracks.now.tracks
         → IfErr result MayRefuseRead }
     ensures named { IsTrue index.old.cache.store.is_faithful
-        → IfErr result (Names (IsFirstDamaged index.old.cache)
+        → IfErr result (NamesEach (IsFirstDamaged index.old.cache)
         (IsFirstMalformed begun index.old.tree rows index.old.legs places.now tracks.now
         index.old.cache)) }
     ensures same { index.new ≡ with_cache index.old index.new.cache index.new.known }

@@ -5,7 +5,7 @@ ghost use Rattle.legs.specs.Blocks.{block, groups};
 ghost use Rattle.legs.specs.Boxes.{BoxView};
 ghost use Rattle.tbnode.specs.Form.{node_of};
 ghost use Rattle.chains.specs.Reads.{OnlyReads};
-ghost use Rattle.treecheck.specs.Check.{IsOver};
+ghost use Rattle.treecheck.specs.Check.{IsTreeOver};
 ghost use Rattle.tbtree.specs.Descent.{entries_in};
 ghost use Rattle.tbtree.specs.Faults.{IfMalformed, MayRefuseRead, RefusesRead};
 ghost use Rattle.tbtree.specs.Nodes.{pages_of_cache, AnInner, InnerView, boxes, children};
@@ -291,7 +291,7 @@ pub fn check_tree<S: PageStore>(
     ensures only { IsTrue cache.old.store.is_faithful
         → All (λ m. IsMet ((pages_of_cache cache.old).at m.page) m) leaves.now
         → (pages : ℕ → List ℕ)
-        → IsOver (pages_of_cache cache.old) tree.now (pages_of_leaves leaves.now) pages
+        → IsTreeOver (pages_of_cache cache.old) tree.now (pages_of_leaves leaves.now) pages
         → IfErr result MayRefuseRead }
     ensures stops { IsTrue cache.old.store.is_faithful
         → All (λ m. IsMet ((pages_of_cache cache.old).at m.page) m) leaves.now

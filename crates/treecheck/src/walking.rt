@@ -10,7 +10,7 @@ ghost use Rattle.tbtree.specs.Turn.{last_leg, first_ordinal, ComesAfter, ComeInT
 ghost use Rattle.tbtree.specs.Descent.{legs_in};
 ghost use Rattle.tbtree.specs.Faults.{IfMalformed, MayRefuseRead, RefusesRead};
 ghost use Rattle.tbtree.specs.Nodes.{LeafView, ALeaf};
-ghost use Rattle.treecheck.specs.Stopping.{AllStopAt, StopsAt};
+ghost use Rattle.treecheck.specs.Stopping.{AllStopAt, WalkStopsAt};
 ghost use Rattle.treecheck.specs.Walking.{after, pages_by, IsAtEnd, IsNextNode, Notes, Strays, Surveys, TakesLeaf, Walks};
 
 use crate::leaves::{AnyLeaf, bounds_of};
@@ -81,7 +81,8 @@ fn take_legs<L: AnyLeaf>(
     ensures last { IfOk result (λ whole. IsTrue whole
         → last.new ≡ last_leg last.old (L.says leaf.now).legs) }
     ensures noted { IfOk result (λ whole. IsTrue whole
-        → ordinals.new.items ≡ ordinals.old.items ++ map (λ leg. leg.ordinal) (L.says leaf.now).legs) }
+        → ordinals.new.items
+        ≡ ordinals.old.items ++ map (λ leg. leg.ordinal) (L.says leaf.now).legs) }
     ensures whole { IfOk result (λ whole. ComeInTurn feature rows last.old (L.says leaf.now).legs
         → IsTrue whole) }
 {
@@ -297,13 +298,16 @@ pub fn walk_chain<R: LeafReader>(
 ) -> Result<(), TreeFault>
     requires { 0 < most }
     ensures walked { IsTrue (R.seen source.old).store.is_faithful
-        → OnOk result (Walks (pages_by R.node (R.seen source.old)) most rows feature place.now track.now
+        → OnOk result
+        (Walks (pages_by R.node (R.seen source.old)) most rows feature place.now track.now
         survey.old survey.new) }
     ensures only { IsTrue (R.seen source.old).store.is_faithful → (pages : List ℕ)
-        → AreLeavesOf (pages_by R.node (R.seen source.old)) most rows feature place.now track.now pages
+        → AreLeavesOf (pages_by R.node (R.seen source.old)) most rows feature place.now
+        track.now pages
         → IfErr result MayRefuseRead }
     ensures stops { IsTrue (R.seen source.old).store.is_faithful
-        → IfErr result (IfMalformed (StopsAt (pages_by R.node (R.seen source.old)) most rows feature
+        → IfErr result
+        (IfMalformed (WalkStopsAt (pages_by R.node (R.seen source.old)) most rows feature
         place.now track.now)) }
     ensures reads { OnlyReads (R.seen source.old) (R.seen source.new) }
     ensures caused { IfErr result (RefusesRead (R.seen source.old) (R.seen source.new)) }
@@ -353,10 +357,12 @@ pub fn walk_all<R: LeafReader>(
 ) -> Result<Survey, TreeFault>
     requires { 0 < most }
     ensures surveyed { IfOk result (λ survey. IsTrue (R.seen source.old).store.is_faithful
-        → Surveys (pages_by R.node (R.seen source.old)) most rows places.now tracks.now.tracks survey) }
+        → Surveys (pages_by R.node (R.seen source.old)) most rows places.now
+        tracks.now.tracks survey) }
     ensures only { IsTrue (R.seen source.old).store.is_faithful → length places.now < 2 ^ 32
         → (chains : List (List ℕ))
-        → AreChains (pages_by R.node (R.seen source.old)) most rows 0 places.now tracks.now.tracks chains
+        → AreChains (pages_by R.node (R.seen source.old)) most rows 0 places.now
+        tracks.now.tracks chains
         → IfErr result MayRefuseRead }
     ensures stops { IsTrue (R.seen source.old).store.is_faithful
         → IfErr result (IfMalformed (AllStopAt (pages_by R.node (R.seen source.old)) most rows

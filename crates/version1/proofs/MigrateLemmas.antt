@@ -33,7 +33,7 @@ use Rattle.catalogue.specs.Beginning.{IsLeftOver}
 use Rattle.version1.specs.Migrating.{brought_fault, IsLegFault, IsMigratingFault}
 use Rattle.version1.specs.OldStore.{present_shape, AnswersOldBook, IsOldReadingFault}
 use Rattle.register.specs.Saved.{CatalogueView}
-use Rattle.register.specs.Saving.{IsAllowed}
+use Rattle.register.specs.Saving.{IsSavingStop}
 use Rattle.register.specs.declared.fault.CatalogueFault.{CatalogueFault}
 use Rattle.register.specs.declared.fault.CatalogueFault.TheVariants.{Memory, Store, StoreFull, Damaged, Unfinished, Version, Malformed}
 use Rattle.catalogue.proofs.BeginLemmas.{empty_pages}
@@ -90,7 +90,7 @@ faulted_before : (a b c : StoreView) → a.faults ≤ b.faults → Faulted b c �
 faulted_before a b c l f = omega (arith, clamps, l, f)
 
 -- the refusals of legs
-pub allowed_leg : (f : IndexFault) → MayRefuseLeg f → IsAllowed (brought_fault f)
+pub allowed_leg : (f : IndexFault) → MayRefuseLeg f → IsSavingStop (brought_fault f)
 allowed_leg index.Memory h = tt
 allowed_leg index.Store h = tt
 allowed_leg (index.Damaged page) h = h
@@ -107,7 +107,7 @@ leg_stop Unfinished h = h (λ s. s)
 leg_stop Version h = h (λ s. s)
 leg_stop Malformed h = h (λ s. s)
 
-pub allowed_stop : (e : CatalogueFault) → IsStop e → IsAllowed e
+pub allowed_stop : (e : CatalogueFault) → IsStop e → IsSavingStop e
 allowed_stop Memory h = tt
 allowed_stop Store h = tt
 allowed_stop StoreFull h = tt

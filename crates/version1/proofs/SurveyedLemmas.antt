@@ -17,7 +17,7 @@ use Rattle.tbtree.specs.Descent.{legs_in}
 use Rattle.tbtree.specs.Nodes.{Pages}
 use Rattle.tbtree.specs.declared.tree.Place.{Place}
 use Rattle.version1.specs.OldLegs.{AreSurveyed, HaveEachOf, IsOneOf, IsOnOne, IsReadable}
-use Rattle.treecheck.specs.Ordering.{IsWhole}
+use Rattle.treecheck.specs.Ordering.{IsSurveyWhole}
 use Rattle.treecheck.specs.Walking.{IsMet, Surveys}
 use Rattle.treecheck.specs.declared.walking.Met.{Met}
 use Rattle.treecheck.specs.declared.walking.Survey.{Survey}
@@ -229,7 +229,7 @@ module _ (nodes : Pages LegView BoxView) (most rows total : ℕ) (places : List 
 
 -- a survey of chains that hold a list is whole
 pub held_whole : (nodes : Pages LegView BoxView) (most rows total : ℕ) (places : List Place) (tracks : List Track) (survey : Survey) (legs : List LegView)
-    → Surveys nodes most rows places tracks survey → HoldChains nodes most rows total places tracks legs → IsWhole places total survey
+    → Surveys nodes most rows places tracks survey → HoldChains nodes most rows total places tracks legs → IsSurveyWhole places total survey
 held_whole nodes most rows total places tracks survey legs sv k =
     let same : sv.chains ≡ k.chains = chains_once nodes most rows 0 places tracks sv.chains k.chains sv.are_chains k.are_chains in
     let ordinals : List (List ℕ) → List ℕ = λ cs. map (λ (leg : LegView). leg.ordinal) (legs_on nodes (joined cs)) in

@@ -34,7 +34,7 @@ use Rattle.tbtree.specs.declared.fault.TreeFault.{TreeFault}
 use Rattle.tbtree.specs.declared.fault.TreeFault.TheVariants.{Cache as OfCache, Malformed, Spent}
 use Rattle.version1.specs.OldLegs.{AreAmong, AreSurveyed, HaveLegsOf, IsNumbered, IsOneOf, StandByOrdinal}
 use Rattle.version1.specs.Waiting.{Holds, MayWait}
-use Rattle.treecheck.specs.Ordering.{IsWhole}
+use Rattle.treecheck.specs.Ordering.{IsSurveyWhole}
 use Rattle.treecheck.specs.Walking.{IsMet, Surveys}
 use Rattle.treecheck.specs.declared.walking.Met.{Met}
 use Rattle.treecheck.specs.declared.walking.Survey.{Survey}
@@ -42,7 +42,7 @@ use Rattle.treecheck.proofs.CheckingLemmas.{rising_unmap}
 use Rattle.treecheck.proofs.WalkLemmas.{drop_at}
 
 module _ (nodes : Pages LegView BoxView) (most rows total : ℕ) (places : List Place) (tracks : List Track) where
-  pub surveyed : (survey : Survey) (leaves : List Met) → Surveys nodes most rows places tracks survey → IsWhole places total survey → IsPermutation survey.leaves.items leaves
+  pub surveyed : (survey : Survey) (leaves : List Met) → Surveys nodes most rows places tracks survey → IsSurveyWhole places total survey → IsPermutation survey.leaves.items leaves
       → IsNonDecreasingBy (λ (m : Met). m.first) leaves → AreSurveyed nodes most rows total places tracks leaves
   surveyed survey leaves s w moved rises = record {
     chains = s.chains;

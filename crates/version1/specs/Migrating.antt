@@ -40,7 +40,8 @@ pub record IsBrought (s : StoreView) (c : CatalogueView) (index : IndexView) : T
   pub places : List Place
   pub kept : AnswersOld (stored_payload s) s.count c leaf index.tree.shape places
   pub sound : IsSound index
-  pub legs : HoldChains (pages_of_old s) leaf c.tracks.rows c.tracks.legs places c.tracks.tracks (content index)
+  pub legs : HoldChains (pages_of_old s) leaf c.tracks.rows c.tracks.legs places c.tracks.tracks
+      (content index)
 
 -- one of two stores failed where that is said, and the second, which is new, is full where that is said
 abbrev pub IsMigratingFault : (old after new left : StoreView) → CatalogueFault → Type 0

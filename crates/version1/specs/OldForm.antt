@@ -50,7 +50,8 @@ old_leaf_of bytes = record {
 -- leg i is lawful, and its ordinal is above that of the leg before it
 unfoldable pub is_old_leg_at : List ℕ → ℕ → Bool
 is_old_leg_at bytes i =
-    is_old_leg (slot 64 i bytes) && ((i == 0) || nat_lt (old_leg_at bytes (i - 1)).ordinal (old_leg_at bytes i).ordinal)
+    is_old_leg (slot 64 i bytes)
+    && ((i == 0) || nat_lt (old_leg_at bytes (i - 1)).ordinal (old_leg_at bytes i).ordinal)
 
 -- the form of a leaf: 1 to 63 legs, lawful, their ordinals rising
 unfoldable pub is_old_leaf : List ℕ → Bool
@@ -72,7 +73,8 @@ old_node_of payload = old_node_by payload.kind payload.bytes
 -- the legs of each leaf are lawful
 abbrev pub OldLegsAreLawful : Type 0
 OldLegsAreLawful =
-    (payload : Payload) (leaf : LeafView LegView) → old_node_of payload ≡ Some (ALeaf leaf) → All IsLeg leaf.legs
+    (payload : Payload) (leaf : LeafView LegView) → old_node_of payload ≡ Some (ALeaf leaf)
+    → All IsLeg leaf.legs
 
 -- a leg that starts and ends at height 0
 pub record IsFlat (leg : LegView) : Type 0 where
@@ -82,8 +84,10 @@ pub record IsFlat (leg : LegView) : Type 0 where
 -- the legs of each leaf are flat
 abbrev pub OldLegsAreFlat : Type 0
 OldLegsAreFlat =
-    (payload : Payload) (leaf : LeafView LegView) → old_node_of payload ≡ Some (ALeaf leaf) → All IsFlat leaf.legs
+    (payload : Payload) (leaf : LeafView LegView) → old_node_of payload ≡ Some (ALeaf leaf)
+    → All IsFlat leaf.legs
 
 -- inner pages are those of the present version
 abbrev pub OldInnersAreInners : Type 0
-OldInnersAreInners = (payload : Payload) → as_inner (old_node_of payload) ≡ as_inner (node_of payload)
+OldInnersAreInners =
+    (payload : Payload) → as_inner (old_node_of payload) ≡ as_inner (node_of payload)

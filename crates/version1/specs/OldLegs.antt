@@ -34,11 +34,13 @@ abbrev pub unsealing : PageFault → TreeFault
 unsealing (Damaged page) = OfCache (cache.Damaged page)
 
 -- the chains of the features are whole, and these are their leaves, in the order of their first legs
-pub record AreSurveyed (nodes : Pages LegView BoxView) (most rows total : ℕ) (places : List Place) (tracks : List Track) (leaves : List Met) : Type 0 where
+pub record AreSurveyed (nodes : Pages LegView BoxView) (most rows total : ℕ) (places : List Place)
+    (tracks : List Track) (leaves : List Met) : Type 0 where
   pub chains : List (List ℕ)
   pub are_chains : AreChains nodes most rows 0 places tracks chains
   pub some : HaveLegs places
-  pub once : IsPermutation (map (λ leg. leg.ordinal) (legs_on nodes (joined chains))) (range_with_len 0 total)
+  pub once : IsPermutation (map (λ leg. leg.ordinal) (legs_on nodes (joined chains)))
+      (range_with_len 0 total)
   pub firsts : IsRising (λ pages. first_ordinal (legs_on nodes pages)) chains
   pub ordered : IsPermutation (joined chains) (map (λ (m : Met). m.page) leaves)
   pub are_met : All (λ (m : Met). IsMet (nodes.at m.page) m) leaves
@@ -54,11 +56,14 @@ AreAmong some legs = (i : ℕ) (leg : LegView) → slice_get some i ≡ Some leg
 
 -- the legs that stand at ordinals are those of the list
 abbrev pub StandByOrdinal : List LegView → List (ℕ × LegView) → Type 0
-StandByOrdinal legs opened = (o : ℕ) (leg : LegView) → lookup (nat_eq o) opened ≡ Some leg → (leg.ordinal ≡ o) × IsOneOf legs leg
+StandByOrdinal legs opened =
+    (o : ℕ) (leg : LegView) → lookup (nat_eq o) opened ≡ Some leg
+    → (leg.ordinal ≡ o) × IsOneOf legs leg
 
 -- the legs of the leaves are among those of the list
 abbrev pub HaveLegsOf : Pages LegView BoxView → List Met → List LegView → Type 0
-HaveLegsOf nodes leaves legs = (k : ℕ) (m : Met) → slice_get leaves k ≡ Some m → AreAmong (legs_in (nodes.at m.page)) legs
+HaveLegsOf nodes leaves legs =
+    (k : ℕ) (m : Met) → slice_get leaves k ≡ Some m → AreAmong (legs_in (nodes.at m.page)) legs
 
 -- the list may be put into an index without legs, and its ordinals are its places
 pub record IsNumbered (total : ℕ) (legs : List LegView) : Type 0 where
@@ -76,7 +81,8 @@ abbrev pub AreReadable : Pages LegView BoxView → List Met → Type 0
 AreReadable nodes leaves = (k : ℕ) (m : Met) → slice_get leaves k ≡ Some m → IsReadable nodes m.page
 
 -- the leg is on one of the leaves, and that one begins with it or an earlier one
-pub record IsOnOne (nodes : Pages LegView BoxView) (leaves : List Met) (leg : LegView) : Type 0 where
+pub record IsOnOne (nodes : Pages LegView BoxView) (leaves : List Met)
+    (leg : LegView) : Type 0 where
   pub place : ℕ
   pub met : Met
   pub at : slice_get leaves place ≡ Some met
@@ -84,7 +90,8 @@ pub record IsOnOne (nodes : Pages LegView BoxView) (leaves : List Met) (leg : Le
   pub has : IsOneOf (legs_in (nodes.at met.page)) leg
 
 -- the leaves can be read, no two begin with the same leg, and each leg of the list is on one of them
-pub record HaveEachOf (nodes : Pages LegView BoxView) (leaves : List Met) (legs : List LegView) : Type 0 where
+pub record HaveEachOf (nodes : Pages LegView BoxView) (leaves : List Met)
+    (legs : List LegView) : Type 0 where
   pub readable : AreReadable nodes leaves
   pub rises : IsRising (λ (m : Met). m.first) leaves
   pub each : (leg : LegView) → IsOneOf legs leg → IsOnOne nodes leaves leg
@@ -99,7 +106,9 @@ pub record Opens (legs : List LegView) (old new : List (ℕ × LegView)) : Type 
   pub each : (leg : LegView) → IsOneOf legs leg → IsOpened new leg.ordinal
 
 -- of the leaves before `next` each leg from an ordinal on is opened, and those from `next` on begin with `first` or later
-pub record AreOpened (nodes : Pages LegView BoxView) (leaves : List Met) (next ordinal first : ℕ) (opened : List (ℕ × LegView)) : Type 0 where
+pub record AreOpened (nodes : Pages LegView BoxView) (leaves : List Met) (next ordinal first : ℕ)
+    (opened : List (ℕ × LegView)) : Type 0 where
   pub done : (k : ℕ) (m : Met) → slice_get leaves k ≡ Some m → k < next
-      → (leg : LegView) → IsOneOf (legs_in (nodes.at m.page)) leg → ordinal ≤ leg.ordinal → IsOpened opened leg.ordinal
+      → (leg : LegView) → IsOneOf (legs_in (nodes.at m.page)) leg → ordinal ≤ leg.ordinal
+      → IsOpened opened leg.ordinal
   pub left : (k : ℕ) (m : Met) → slice_get leaves k ≡ Some m → next ≤ k → first ≤ m.first

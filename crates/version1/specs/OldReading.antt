@@ -19,7 +19,8 @@ abbrev pub IsLentFault : StoreView → StoreView → CatalogueFault → Type 0
 IsLentFault old new Memory = Unit {0}
 IsLentFault old new Store = Faulted old new
 IsLentFault old new StoreFull = ⊥
-IsLentFault old new (Damaged page) = IsDamagedPage old.is_faithful (stored_payload old) old.count page
+IsLentFault old new (Damaged page) =
+    IsDamagedPage old.is_faithful (stored_payload old) old.count page
 IsLentFault old new Unfinished = ⊥
 IsLentFault old new Version = ⊥
 IsLentFault old new Malformed = Unit {0}
@@ -29,7 +30,8 @@ abbrev pub IsUnread : ℕ → StoreView → StoreView → CatalogueFault → Typ
 IsUnread n old new Memory = ⊥
 IsUnread n old new Store = Faulted old new
 IsUnread n old new StoreFull = ⊥
-IsUnread n old new (Damaged page) = (page ≡ n) × IsDamagedPage old.is_faithful (stored_payload old) old.count n
+IsUnread n old new (Damaged page) =
+    (page ≡ n) × IsDamagedPage old.is_faithful (stored_payload old) old.count n
 IsUnread n old new Unfinished = ⊥
 IsUnread n old new Version = ⊥
 IsUnread n old new Malformed = old.count ≤ n
@@ -43,7 +45,8 @@ pub record SaysOldShape (bytes : List ℕ) (leaf : ℕ) (shape : ShapeView) : Ty
 
 -- the fields as they are written: their leaf is that of version 1
 abbrev pub as_written : OldFields → Fields
-as_written old = record old.fields { shape = record { leaf = old.leaf; inner = old.fields.shape.inner } }
+as_written old =
+    record old.fields { shape = record { leaf = old.leaf; inner = old.fields.shape.inner } }
 
 -- what stands behind the first 12 bytes of a header of version 1 says these
 pub record SaysOldBody (payload : Payload) (old : OldFields) : Type 0 where
@@ -77,7 +80,8 @@ abbrev pub IsBringingFault : (old new below after : StoreView) → CatalogueFaul
 IsBringingFault old new below after Memory = Unit {0}
 IsBringingFault old new below after Store = Faulted old new ⊎ Faulted below after
 IsBringingFault old new below after StoreFull = ⊥
-IsBringingFault old new below after (Damaged page) = IsDamagedPage old.is_faithful (stored_payload old) old.count page
+IsBringingFault old new below after (Damaged page) =
+    IsDamagedPage old.is_faithful (stored_payload old) old.count page
 IsBringingFault old new below after Unfinished = ⊥
 IsBringingFault old new below after Version = ⊥
 IsBringingFault old new below after Malformed = Unit {0}

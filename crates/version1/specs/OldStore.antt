@@ -40,8 +40,12 @@ present_shape shape = record { leaf = min shape.leaf 50; inner = shape.inner }
 -- catalogue, in four, and the length of its text, in eight
 unfoldable pub old_fields_bytes : Fields → List ℕ
 old_fields_bytes f =
-    big_bytes 2 f.shape.leaf ++ (big_bytes 2 f.shape.inner ++ (big_bytes 8 f.limits.legs ++ (big_bytes 8 f.limits.features
-    ++ (big_bytes 4 f.root ++ (big_bytes 4 f.levels ++ (big_bytes 4 f.leaves ++ (big_bytes 4 f.first ++ big_bytes 8 f.length)))))))
+    big_bytes 2 f.shape.leaf
+    ++ (big_bytes 2 f.shape.inner
+    ++ (big_bytes 8 f.limits.legs ++ (big_bytes 8 f.limits.features
+    ++ (big_bytes 4 f.root
+    ++ (big_bytes 4 f.levels
+    ++ (big_bytes 4 f.leaves ++ (big_bytes 4 f.first ++ big_bytes 8 f.length)))))))
 
 -- the 44 bytes behind the first 12 say these; what stands behind them may be anything
 pub record HasOldFields (payload : Payload) (f : Fields) : Type 0 where
@@ -51,7 +55,8 @@ pub record HasOldFields (payload : Payload) (f : Fields) : Type 0 where
 unfoldable pub old_header_fault : Payload → Option CatalogueFault
 old_header_fault payload =
     if is_header payload.kind && (number_at 4 0 payload.bytes == 1296454722)
-    then (if number_at 4 4 payload.bytes == 1 then state_fault (number_at 4 8 payload.bytes) else Some Version)
+    then (if number_at 4 4 payload.bytes == 1 then state_fault (number_at 4 8 payload.bytes)
+    else Some Version)
     else Some Malformed
 
 -- with page 0: a store has one, and it has a payload
@@ -64,7 +69,8 @@ old_first_fault count first = if nat_lt 0 count then old_payload_fault first els
 
 -- page 0 of so many pages says the limits, the tree and where the text of a catalogue of two dimensions is, and the
 -- text is there
-pub record SaysOld (at : ℕ → Option Payload) (count : ℕ) (c : CatalogueView) (tree : TbTree) (places : List Place) : Type 0 where
+pub record SaysOld (at : ℕ → Option Payload) (count : ℕ) (c : CatalogueView) (tree : TbTree)
+    (places : List Place) : Type 0 where
   pub first : ℕ
   pub length : ℕ
   pub payload : Payload
@@ -79,7 +85,8 @@ pub record SaysOld (at : ℕ → Option Payload) (count : ℕ) (c : CatalogueVie
 
 -- the pages of a finished store of version 1 keep a catalogue, a tree and the places of its features; in the text of
 -- the catalogue all fits, and each row has a value for each column
-pub record IsKeptOld (at : ℕ → Option Payload) (count : ℕ) (c : CatalogueView) (tree : TbTree) (places : List Place) : Type 0 where
+pub record IsKeptOld (at : ℕ → Option Payload) (count : ℕ) (c : CatalogueView) (tree : TbTree)
+    (places : List Place) : Type 0 where
   pub says : SaysOld at count c tree places
   pub whole : IsWhole (contents_of c places)
   pub finished : old_payload_fault (at 0) ≡ None
@@ -89,20 +96,23 @@ pub record IsKeptOld (at : ℕ → Option Payload) (count : ℕ) (c : CatalogueV
 
 -- the pages of a finished store of version 1 hold a book under limits: they keep its catalogue, and a tree of that
 -- shape that holds its legs
-pub record HoldsOldBook (s : StoreView) (shape : ShapeView) (limits : LimitsView) (book : Book) : Type 0 where
+pub record HoldsOldBook (s : StoreView) (shape : ShapeView) (limits : LimitsView)
+    (book : Book) : Type 0 where
   pub catalogue : CatalogueView
   pub tree : TbTree
   pub places : List Place
   pub kept : IsKeptOld (stored_payload s) s.count catalogue tree places
   pub shape_is : tree.shape ≡ shape
   pub of : IsOfBook limits book catalogue
-  pub hold : HoldLegs (pages_of_old s) tree (length book.rows) (length book.legs) places catalogue.tracks.tracks
+  pub hold : HoldLegs (pages_of_old s) tree (length book.rows) (length book.legs) places
+      catalogue.tracks.tracks
   pub legs : hold.legs ≡ book.legs
 
 -- what is read of the pages of a finished store of version 1 is kept there: a catalogue and the places of its
 -- features, with a tree whose leaves have room for so many legs, and the shape of the present version that comes
 -- nearest to its own
-pub record AnswersOld (at : ℕ → Option Payload) (count : ℕ) (c : CatalogueView) (leaf : ℕ) (shape : ShapeView) (places : List Place) : Type 0 where
+pub record AnswersOld (at : ℕ → Option Payload) (count : ℕ) (c : CatalogueView) (leaf : ℕ)
+    (shape : ShapeView) (places : List Place) : Type 0 where
   pub tree : TbTree
   pub kept : IsKeptOld at count c tree places
   pub leaf_is : tree.shape.leaf ≡ leaf
@@ -121,11 +131,13 @@ IsOldReadingFault old new below after Malformed = Unit {0}
 -- a book that is held is read but for its legs: the catalogue is its own; the leaf is that of the
 -- shape, and the other shape comes nearest; and with the places the pages hold its legs, in a tree
 -- of that shape
-pub record AnswersOldBook (s : StoreView) (shape : ShapeView) (limits : LimitsView) (book : Book) (c : CatalogueView) (leaf : ℕ) (near : ShapeView) (places : List Place) : Type 0 where
+pub record AnswersOldBook (s : StoreView) (shape : ShapeView) (limits : LimitsView) (book : Book)
+    (c : CatalogueView) (leaf : ℕ) (near : ShapeView) (places : List Place) : Type 0 where
   pub leaf_is : shape.leaf ≡ leaf
   pub shape_is : near ≡ present_shape shape
   pub of : IsOfBook limits book c
   pub tree : TbTree
   pub tree_shape : tree.shape ≡ shape
-  pub hold : HoldLegs (pages_of_old s) tree (length book.rows) (length book.legs) places c.tracks.tracks
+  pub hold : HoldLegs (pages_of_old s) tree (length book.rows) (length book.legs) places
+      c.tracks.tracks
   pub legs : hold.legs ≡ book.legs

@@ -9,6 +9,7 @@ abbrev pub MayWait : {I : Type 0} → Ghosts I → I → List LegView → Type 0
 MayWait g index waiting = g.is_sound index × CanFollowInTurn (g.content index) waiting
 
 -- an index is sound, and its legs, with those that wait, are those that were in it or waited
-pub record Holds {I : Type 0} (g : Ghosts I) (old new : I) (before after : List LegView) : Type 0 where
+pub record Holds {I : Type 0} (g : Ghosts I) (old new : I)
+    (before after : List LegView) : Type 0 where
   pub may : MayWait g new after
   pub content : g.content new ++ after ≡ g.content old ++ before

@@ -18,7 +18,7 @@ ghost use Rattle.catalogue.specs.Beginning.{IsLeftOver};
 ghost use Rattle.version1.specs.Migrating.{brought_fault, IsBrought, IsLegFault, IsMigratingFault};
 ghost use Rattle.version1.specs.OldStore.{old_first_fault, present_shape, AnswersOld, AnswersOldBook, HoldsOldBook, IsKeptOld, IsOldReadingFault};
 ghost use Rattle.register.specs.Saved.{CatalogueView};
-ghost use Rattle.register.specs.Saving.{IsAllowed};
+ghost use Rattle.register.specs.Saving.{IsSavingStop};
 ghost use Rattle.tbtree.specs.declared.tree.Place.{Place};
 ghost use Rattle.tbtree.specs.declared.tree.TbTree.{TbTree};
 
@@ -135,7 +135,7 @@ fn bring_legs<S: PageStore, T: PageStore>(
     ensures only { IfErr result (λ back. IsTrue (S.seen old.old).is_faithful → IsSound index
         → content index ≡ [] → Agree tracks.now tracks.now.rows tracks.now.legs
         → (legs : List LegView) → HoldChains (pages_of_old (S.seen old.old)) leaf tracks.now.rows
-        tracks.now.legs places.now tracks.now.tracks legs → IsAllowed back.1) }
+        tracks.now.legs places.now tracks.now.tracks legs → IsSavingStop back.1) }
     ensures works { IfErr result (λ back. IsTrue (S.seen old.old).is_faithful → IsSound index
         → content index ≡ [] → IsLegFault back.1) }
     ensures behind { IfErr result (λ back. IsBehindFirst back.1) }
@@ -189,12 +189,13 @@ pub fn migrate<S: PageStore, T: PageStore>(
     ensures holds { IfErr result (λ back. IsTrue (S.seen old.old).is_faithful
         → IsTrue (T.seen new).is_faithful
         → (shape : ShapeView) (limits : LimitsView) (book : Book)
-        → HoldsOldBook (S.seen old.old) shape limits book → IsAllowed back.1) }
+        → HoldsOldBook (S.seen old.old) shape limits book → IsSavingStop back.1) }
 
     // Where the pages keep a catalogue, only memory, the two stores and a damaged page stop it; where
     // they keep none, a page that is said to be damaged is so.
     ensures kept { IfErr result (λ back. IsTrue (S.seen old.old).is_faithful
-        → IsTrue (T.seen new).is_faithful → (c : CatalogueView) (tree : TbTree) (places : List Place)
+        → IsTrue (T.seen new).is_faithful
+        → (c : CatalogueView) (tree : TbTree) (places : List Place)
         → IsKeptOld (stored_payload (S.seen old.old)) (S.seen old.old).count c tree places
         → IsLegFault back.1) }
     ensures damaged { IfErr result (λ back. IsTrue (S.seen old.old).is_faithful

@@ -46,10 +46,12 @@ dimension_text Two = codes "2D"
 dimension_text Three = codes "3D"
 
 abbrev pub lower_corner : List EntryView → Position
-lower_corner entries = record { x = least (xs entries); y = least (ys entries); z = least (zs entries) }
+lower_corner entries =
+    record { x = least (xs entries); y = least (ys entries); z = least (zs entries) }
 
 abbrev pub upper_corner : List EntryView → Position
-upper_corner entries = record { x = greatest (xs entries); y = greatest (ys entries); z = greatest (zs entries) }
+upper_corner entries =
+    record { x = greatest (xs entries); y = greatest (ys entries); z = greatest (zs entries) }
 
 -- the fields of `@stboundedby`: the corners, the base and the end of all legs
 unfoldable pub bounds_fields : BookHead → List EntryView → List (List ℕ)
@@ -65,7 +67,8 @@ column_fields columns = flat_map (λ column. column.name ∷ column.kind ∷ [])
 
 -- the fields of `@columns`
 abbrev pub columns_fields : BookHead → List (List ℕ)
-columns_fields head = codes "@columns" ∷ codes "mfidref" ∷ codes "trajectory" ∷ column_fields head.columns
+columns_fields head =
+    codes "@columns" ∷ codes "mfidref" ∷ codes "trajectory" ∷ column_fields head.columns
 
 -- the record of an entry, its times as offsets from the base
 abbrev pub entry_record : Frame → EntryView → List ℕ

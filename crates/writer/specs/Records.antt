@@ -31,13 +31,15 @@ end_of leg = record { x = leg.x1; y = leg.y1; z = leg.z1 }
 
 -- both positions of a leg
 abbrev pub positions_text : Dimension → LegView → List ℕ
-positions_text dimension leg = point_text dimension (begin_of leg) ++ 32 ∷ [] ++ point_text dimension (end_of leg)
+positions_text dimension leg =
+    point_text dimension (begin_of leg) ++ 32 ∷ [] ++ point_text dimension (end_of leg)
 
 -- a leg's fields: its feature's name, its start and end as offsets in seconds from the base, its
 -- positions, the attribute values of its record
 abbrev pub leg_fields : List ℕ → Frame → LegView → List (List ℕ) → List (List ℕ)
 leg_fields name frame leg values =
-    name ∷ offset_text (leg.t0 -ℤ frame.base) ∷ offset_text (leg.t1 -ℤ frame.base) ∷ positions_text frame.dimension leg ∷ values
+    name ∷ offset_text (leg.t0 -ℤ frame.base) ∷ offset_text (leg.t1 -ℤ frame.base)
+    ∷ positions_text frame.dimension leg ∷ values
 
 -- a leg's record
 abbrev pub leg_record : List ℕ → Frame → LegView → List (List ℕ) → List ℕ

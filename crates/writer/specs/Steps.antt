@@ -20,7 +20,8 @@ corners_with c e = record {
 
 -- corners at a point
 abbrev pub corners_at : Position → Corners
-corners_at p = record { x_min = p.x; y_min = p.y; z_min = p.z; x_max = p.x; y_max = p.y; z_max = p.z }
+corners_at p =
+    record { x_min = p.x; y_min = p.y; z_min = p.z; x_max = p.x; y_max = p.y; z_max = p.z }
 
 -- corners at the first end of the first leg, or at 0 0 0
 abbrev pub first_corners : List EntryView → Corners

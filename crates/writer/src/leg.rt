@@ -140,7 +140,8 @@ fn leg_row<'a>(
     values: &'a Row<'a>,
 ) -> Result<Vec<&'a [u8]>, AllocError>
     ensures { IfOk result (λ row. map (λ f. f.now) row.items
-        ≡ name.entry.now ∷ start.entry.now ∷ end.entry.now ∷ positions.entry.now ∷ values.entry.now) }
+        ≡ name.entry.now ∷ start.entry.now ∷ end.entry.now ∷ positions.entry.now
+        ∷ values.entry.now) }
 {
     let mut row = Vec::with_capacity(alloc, 8)?;
     row.push(name)?;

@@ -19,7 +19,11 @@ impl Model for Records {
 
     ghost Value = { RecordsView };
 
-    ghost view = { λ a. record { text = (writer_under a.writer).items ++ writer_pending a.writer; refused = a.refused } };
+    ghost view = { λ a.
+        record {
+          text = (writer_under a.writer).items ++ writer_pending a.writer;
+          refused = a.refused;
+        } };
 
     ghost invariant = { λ a. a.refused ≡ false → IsBetweenRecords a.writer };
 }

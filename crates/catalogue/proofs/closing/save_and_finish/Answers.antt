@@ -10,7 +10,7 @@ use Rattle.catalogue.specs.Closing.{IsNoStoreFault}
 use Rattle.catalogue.specs.Holding.{HoldsBook, HoldsButFirst, IsOfBook, IsUnfinishedStore}
 use Rattle.register.specs.Saved.{CatalogueView}
 use Rattle.register.specs.Earlier.{AddsFew, AreEarlier}
-use Rattle.register.specs.Saving.{contents_of, IsAllowed}
+use Rattle.register.specs.Saving.{contents_of, IsSavingStop}
 use Rattle.register.specs.Text.{catalogue_text}
 use Rattle.catalogue.proofs.CloseLemmas.{closed_holds, front_unfinished, front_unwritten, of_catalogue, of_few, of_lawful, of_within, only_memory, says_stored, still_says, PlaceLaws}
 use Rattle.catalogue.proofs.ResultLemmas.{if_err_of, on_ok}
@@ -21,7 +21,7 @@ pub returns-in_err-save-clause-only : goal.returns-in_err-save-clause-only
 returns-in_err-save-clause-only g c =
     let p = err_from_is_err_and c.from_residual.result c.from_residual.ensures.1 in
     let catalogue = c.args.catalogue.now in
-    if_err_of (λ e. IsSound c.args.index.now → (book : Book) → IsOfBook catalogue.limits book catalogue → content c.args.index.now ≡ book.legs → IsAllowed e) c.from_residual.result p.0 c.in_err-save.field-0.0 p.1 p.2
+    if_err_of (λ e. IsSound c.args.index.now → (book : Book) → IsOfBook catalogue.limits book catalogue → content c.args.index.now ≡ book.legs → IsSavingStop e) c.from_residual.result p.0 c.in_err-save.field-0.0 p.1 p.2
     (λ sound book of legs. c.in_err-save.ensures.only (of_few catalogue book of) (subst (λ (i : IndexView). IsSound i) (sym c.settled.ensures.same) (c.laws.ensures.sound c.args.index.now c.args.index.now.cache [] (c.laws.ensures.alike c.args.index.now.cache c.args.index.now.cache refl refl refl (λ _ n. refl)) sound)))
 
 pub returns-in_err-save-clause-unfinished : goal.returns-in_err-save-clause-unfinished

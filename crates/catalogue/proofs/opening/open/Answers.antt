@@ -10,7 +10,7 @@ use Rattle.tbtree.specs.declared.tree.TbTree.{TbTree}
 use Rattle.register.specs.Saved.{CatalogueView}
 use Rattle.catalogue.specs.Holding.{AnswersBook, HoldsBook}
 use Rattle.register.specs.Lasting.{IsKept, IsStop}
-use Rattle.register.specs.Stopping.{IsNamed}
+use Rattle.register.specs.Stopping.{NamesStop}
 use Rattle.catalogue.proofs.opening.open.Goals as goal
 
 pub returns-clause-book : goal.returns-clause-book
@@ -30,5 +30,5 @@ returns-clause-kept g c =
 
 pub returns-clause-named : goal.returns-clause-named
 returns-clause-named g c =
-    subst (λ (s : Store). IfErr c.open_cache.result (λ back. IsTrue s.is_faithful → IsNamed (stored_payload s) s.count back.1))
+    subst (λ (s : Store). IfErr c.open_cache.result (λ back. IsTrue s.is_faithful → NamesStop (stored_payload s) s.count back.1))
     (ap (λ (k : Cache). k.store) c.in-Ok.ensures.fresh) c.open_cache.ensures.named

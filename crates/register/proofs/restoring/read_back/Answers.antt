@@ -6,7 +6,7 @@ use Rattle.tbtree.specs.declared.tree.Place.{Place}
 use Rattle.tbtree.specs.declared.tree.TbTree.{TbTree}
 use Rattle.register.specs.Lasting.{IsKept, IsStop, IsTrulyDamaged}
 use Rattle.register.specs.Restoring.{IsRest}
-use Rattle.register.specs.Stopping.{IsNamed}
+use Rattle.register.specs.Stopping.{NamesStop}
 use Rattle.register.specs.Saved.{CatalogueView}
 use Rattle.register.proofs.ReaderLemmas.{if_err_of, may_be, may_read, reads_trans}
 use Rattle.register.proofs.RestoreLemmas.{broken_of, damaged_of, fields_kept, kept_fields, named_behind, named_first, no_kept, rest_kept}
@@ -48,7 +48,7 @@ returns-in_err-fields-clause-named g c =
     let p = err_from_is_err_and c.from_residual.result c.from_residual.ensures.1 in
     let a = c.args.cache.now in
     let err = c.in_err-fields.ensures in
-    if_err_of (λ e. IsTrue a.store.is_faithful → IsNamed (payload_of a) a.count e) c.from_residual.result p.0 c.in_err-fields.field-0.0 p.1 p.2
+    if_err_of (λ e. IsTrue a.store.is_faithful → NamesStop (payload_of a) a.count e) c.from_residual.result p.0 c.in_err-fields.field-0.0 p.1 p.2
     (λ fa. named_first (payload_of a) a.count a.store.is_faithful fa c.in_err-fields.field-0.0 (err.first fa) (err.broken fa) err.zero err.damaged)
 
 pub returns-in_err-catalogue-clause-named : goal.returns-in_err-catalogue-clause-named
@@ -56,7 +56,7 @@ returns-in_err-catalogue-clause-named g c =
     let p = err_from_is_err_and c.from_residual-in_err-catalogue.result c.from_residual-in_err-catalogue.ensures.1 in
     let a = c.args.cache.now in
     let err = c.in_err-catalogue.ensures in
-    if_err_of (λ e. IsTrue a.store.is_faithful → IsNamed (payload_of a) a.count e) c.from_residual-in_err-catalogue.result p.0 c.in_err-catalogue.field-0.0 p.1 p.2
+    if_err_of (λ e. IsTrue a.store.is_faithful → NamesStop (payload_of a) a.count e) c.from_residual-in_err-catalogue.result p.0 c.in_err-catalogue.field-0.0 p.1 p.2
     (λ fa. named_behind a c.read_header.new.cache c.read_rest.new.cache c.in_ok-fields.fields fa c.in_ok-fields.ensures.reads (c.in_ok-fields.ensures.says fa) c.in_err-catalogue.field-0.0 err.caused err.broken)
 
 pub returns-clause-kept : goal.returns-clause-kept

@@ -3,7 +3,7 @@ use Rattle.std.specs.Prelude.{IfErr}
 use Rattle.std.specs.Option.{option_map}
 use Rattle.legs.specs.declared.head.BookHead.{BookHead}
 use Rattle.register.specs.Saved.{head_of, CatalogueView}
-use Rattle.register.specs.Saving.{contents_of, features_of, HasFew, IsAllowed, IsCatalogue, Puts, Saves}
+use Rattle.register.specs.Saving.{contents_of, features_of, HasFew, IsSavingStop, IsCatalogue, Puts, Saves}
 use Rattle.register.specs.ChainWriter.{Holds}
 use Rattle.register.specs.Text.{catalogue_text, features_text, head_text, rows_text, IsWhole}
 use Rattle.register.proofs.SavingLemmas.{puts_then, puts_same, whole_contents}
@@ -34,7 +34,7 @@ returns-in_ok-write_head-in-Some-clause-only g c =
     let b = c.write_head.new.cache in
     let head = 1 ∷ head_text (head_of c.in-Some.head) in
     let first : Saves head a b c.args.writer.now c.write_head.new.writer (Ok tt) = subst (λ r. Saves head a b c.args.writer.now c.write_head.new.writer r) c.in_ok-write_head-in-Some.was c.write_head.ensures.saves in
-    subst (λ v. HasFew v → (text : List ℕ) → Holds a c.args.writer.now text → IsTrue a.store.is_faithful → IfErr c.write_lists.result IsAllowed) c.catalogue.view_is (λ few text h f.
+    subst (λ v. HasFew v → (text : List ℕ) → Holds a c.args.writer.now text → IsTrue a.store.is_faithful → IfErr c.write_lists.result IsSavingStop) c.catalogue.view_is (λ few text h f.
     c.write_lists.ensures.only few.features few.rows (text ++ head) (first.puts.holds text h) (first.puts.passes.store.faithful ∙ f))
 
 pub returns-in_ok-write_head-in-Some-clause-whole : goal.returns-in_ok-write_head-in-Some-clause-whole

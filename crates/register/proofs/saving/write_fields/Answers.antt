@@ -1,6 +1,6 @@
 use Rattle.std.proofs.Common.{ap, sym, subst}
 use Rattle.pagecache.specs.Cache.{Cache, Rests, IsRefused}
-use Rattle.register.specs.Saving.{IsAllowed}
+use Rattle.register.specs.Saving.{IsSavingStop}
 use Rattle.std.specs.Result.{is_ok}
 use Rattle.register.proofs.SavingLemmas.{guarded_error}
 use Rattle.register.proofs.SavingLemmas.{refused_allowed}
@@ -11,7 +11,7 @@ returns-in-Err-clause-only g c = λ fa some first.
     let x : Cache = c.args.cache.now in
     let l : Cache = c.page_mut.follows.lender-at-none in
     let refused : IsRefused 0 c.in-Err.fault x l = (guarded_error (λ e. Rests x l × IsRefused 0 e x l) c.page_mut.result c.in-Err.fault c.in-Err.is c.page_mut.follows.holds-at-none).1 in
-    subst (λ e. IsAllowed e) (sym c.fault_of.ensures) (refused_allowed x l c.in-Err.fault refused fa some first)
+    subst (λ e. IsSavingStop e) (sym c.fault_of.ensures) (refused_allowed x l c.in-Err.fault refused fa some first)
 
 pub returns-in-Ok-clause-puts : goal.returns-in-Ok-clause-puts
 returns-in-Ok-clause-puts g c =

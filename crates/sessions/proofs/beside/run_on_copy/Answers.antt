@@ -8,7 +8,7 @@ use Rattle.trajdb.specs.Db.{DbView, HasPages}
 use Rattle.trajdb.specs.Lasting.{IsIdle}
 use Rattle.trajdb.specs.Script.{lines_of}
 use Rattle.sessions.specs.Answers.{SendsFront}
-use Rattle.sessions.specs.Folder.{BeginsWith, History, IsKept, RunsBeside, store_in}
+use Rattle.sessions.specs.Folder.{BeginsWith, History, NameIsKept, RunsBeside, store_in}
 use Rattle.sessions.proofs.FolderLemmas.{begun_with, beside, each, front_answered, front_opened, only_if, some_only, tells, under, under_err}
 use Rattle.sessions.proofs.beside.run_on_copy.Goals as goal
 
@@ -19,7 +19,7 @@ returns-in-Ok-answered-clause-runs g c =
     let first = g.F.Store.PageStore.seen c.in-Ok.store in
     let last = g.F.Store.PageStore.seen c.answer-store.result.0 in
     let opened = c.database-database.result in
-    let kept = subst (λ h. OnOk c.keep.result (IsKept last h is)) c.copy.ensures.stays c.keep.ensures.kept in
+    let kept = subst (λ h. OnOk c.keep.result (NameIsKept last h is)) c.copy.ensures.stays c.keep.ensures.kept in
     let R : ShapeView → LimitsView → Book → Type 0 = λ shape limits book. RunsBeside shape limits book c.args.files.now (g.W.Write.contents c.args.out.now) (g.W.Write.contents c.answer-store.new.out) (lines_of c.args.script.now) was is in
     let B : History → ShapeView → LimitsView → Book → Type 0 = λ past shape limits book. BeginsWith c.args.how.is_new (store_in past) shape limits book in
     under c.keep.result was (λ past. (shape : ShapeView) → (limits : LimitsView) → (book : Book) → B past shape limits book → R shape limits book) (λ past e.

@@ -3,7 +3,7 @@ use Rattle.pages.specs.Store.{IsSynced}
 use Rattle.catalogue.specs.Holding.{IsUnfinishedStore}
 use Rattle.version1.specs.OldStore.{present_shape}
 use Rattle.trajdb.specs.Calls.{IsLoadFault}
-use Rattle.trajdb.specs.Db.{HasPages, IsSound}
+use Rattle.trajdb.specs.Db.{HasPages, IsSoundDb}
 use Rattle.trajdb.specs.Database.{catalogue_of}
 use Rattle.trajdb.specs.Lasting.{IsClosingFault, IsFaultless}
 use Rattle.sessions.proofs.AnswerLemmas.{closed_book, closing_fault, err_of, over_open, over_run}
@@ -25,8 +25,8 @@ returns-in-Err-closed-clause-left g c = λ fa fb shape limits book h.
     let e = c.in-Ok.ensures in
     let sound = (e.book fa fb shape limits book h).sound in
     over_run (g.T.PageStore.seen c.args.new) (g.T.PageStore.seen c.close-store.result.0) c.in-Err-closed.fault
-    (err_of (λ f. IsSound c.in-Ok.database → c.in-Ok.database.failed ≡ false → IsLoadFault f) c.close-store.result.1 c.in-Err-closed.fault c.in-Err-closed.is c.close-store.ensures.only sound e.lives)
-    (λ f. err_of (λ f. IsFaultless f → IsSound c.in-Ok.database → HasPages c.in-Ok.database → c.in-Ok.database.failed ≡ false → IsUnfinishedStore (g.T.PageStore.seen c.close-store.result.0)) c.close-store.result.1 c.in-Err-closed.fault c.in-Err-closed.is c.close-store.ensures.unfinished f sound (e.pages fa fb) e.lives)
+    (err_of (λ f. IsSoundDb c.in-Ok.database → c.in-Ok.database.failed ≡ false → IsLoadFault f) c.close-store.result.1 c.in-Err-closed.fault c.in-Err-closed.is c.close-store.ensures.only sound e.lives)
+    (λ f. err_of (λ f. IsFaultless f → IsSoundDb c.in-Ok.database → HasPages c.in-Ok.database → c.in-Ok.database.failed ≡ false → IsUnfinishedStore (g.T.PageStore.seen c.close-store.result.0)) c.close-store.result.1 c.in-Err-closed.fault c.in-Err-closed.is c.close-store.ensures.unfinished f sound (e.pages fa fb) e.lives)
 
 pub returns-in-Err-clause-left : goal.returns-in-Err-clause-left
 returns-in-Err-clause-left g c = λ fa fb shape limits book h.

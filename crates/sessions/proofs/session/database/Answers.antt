@@ -4,7 +4,7 @@ use Rattle.boxsearch.specs.Index.{words}
 use Rattle.legs.specs.Book.{empty_book}
 use Rattle.legs.specs.Costs.{ShapeView}
 use Rattle.legs.specs.Limits.{limits_of, LimitsView}
-use Rattle.trajdb.specs.Db.{DbView, IsSound}
+use Rattle.trajdb.specs.Db.{DbView, IsSoundDb}
 use Rattle.trajdb.specs.Lasting.{HasBook, IsSafe}
 use Rattle.sessions.specs.Answers.{new_shape}
 use Rattle.pages.specs.Store.{Stays, Store}
@@ -27,7 +27,7 @@ returns-then-len-eq0-clause-kept g c = no_pages c.create.result (g.S.PageStore.s
 pub returns-then-len-eq0-clause-safe : goal.returns-then-len-eq0-clause-safe
 returns-then-len-eq0-clause-safe g c =
     let s = g.S.PageStore.seen c.args.store in
-    more_known (λ (db : DbView). IsTrue s.is_faithful → (was : Store) → IsSafe was db) (λ db. IsTrue s.is_faithful → IsSound db → IsSafe s db) c.create.result (λ db h f sound. h f s) c.create.ensures.safe
+    more_known (λ (db : DbView). IsTrue s.is_faithful → (was : Store) → IsSafe was db) (λ db. IsTrue s.is_faithful → IsSoundDb db → IsSafe s db) c.create.result (λ db h f sound. h f s) c.create.ensures.safe
 
 pub returns-then-len-eq0-clause-stays : goal.returns-then-len-eq0-clause-stays
 returns-then-len-eq0-clause-stays g c =

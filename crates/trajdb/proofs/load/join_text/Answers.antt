@@ -1,15 +1,15 @@
-use Rattle.mfcsv.specs.FileText.{file_text}
+use Rattle.mfcsv.specs.FileText.{file_of_bytes}
 use Rattle.std.specs.Option.{option_copied}
 use Rattle.trajdb.proofs.LoadLemmas.{reading_ends, reading_fails, reading_head_fails, reading_joined, reading_more, reading_refused, reading_starts}
 use Rattle.trajdb.proofs.load.join_text.Goals as goal
 
 pub records-init : goal.records-init
-records-init c = reading_starts c.args.tracks.now c.args.limits.now (file_text c.args.bytes.now) c.new-reader.result.text c.new-joiner.result c.new-rows.result c.new-reader.ensures c.new-joiner.ensures c.new-rows.ensures
+records-init c = reading_starts c.args.tracks.now c.args.limits.now (file_of_bytes c.args.bytes.now) c.new-reader.result.text c.new-joiner.result c.new-rows.result c.new-reader.ensures c.new-joiner.ensures c.new-rows.ensures
 
 pub records-preserved : goal.records-preserved
 records-preserved c =
     let reads = rw c.in-Ok-Some.field-0-is at c.in-Ok-Some.ensures.reads in
-    reading_more c.args.tracks.now c.args.limits.now (file_text c.args.bytes.now) c.records.reader.text c.next_record.new.self.text c.records.joiner c.take_record.new.joiner c.records.rows c.take_record.new.rows c.in-Ok-Some.found c.records.invariant reads
+    reading_more c.args.tracks.now c.args.limits.now (file_of_bytes c.args.bytes.now) c.records.reader.text c.next_record.new.self.text c.records.joiner c.take_record.new.joiner c.records.rows c.take_record.new.rows c.in-Ok-Some.found c.records.invariant reads
     c.in-Ok.ensures.joined c.in-Ok.ensures.rows
 
 pub returns-in-Err-clause-refused : goal.returns-in-Err-clause-refused

@@ -11,7 +11,7 @@ use Rattle.tbtree.specs.declared.tree.Place.{Place}
 use Rattle.tbtree.specs.declared.tree.TbTree.{TbTree}
 use Rattle.boxsearch.specs.Answers.{answered, of_tree}
 use Rattle.boxsearch.specs.Beside.{with_cache}
-use Rattle.tbtree.specs.Faults.{MayRefuseRead, Names, RefusesRead}
+use Rattle.tbtree.specs.Faults.{MayRefuseRead, NamesEach, RefusesRead}
 use Rattle.boxsearch.specs.Index.{IndexView, words, content, IsSound, SaysState}
 use Rattle.boxsearch.proofs.AnswerLemmas.{each_fault, each_value, read_allowed}
 use Rattle.boxsearch.proofs.IndexLemmas.{reads_leave}
@@ -130,8 +130,8 @@ returns-clause-named g c = λ fa n e.
     let said : IsErrOf (answered (λ fault. of_tree fault) given.result) (Damaged n) = sym c.answer.ensures ∙ e in
     either_named index.cache left.cache (λ n. IsFirstDamaged index.cache n) (λ n. IsFirstMalformed begun index.tree rows index.legs index.places tracks index.cache n) given.result
     (subst (λ (v : IndexView). IfErr given.result (RefusesRead v.cache left.cache)) rest given.ensures.caused)
-    (subst (λ places. IfErr given.result (Names (IsFirstDamaged index.cache) (IsFirstMalformed begun index.tree rows index.legs places tracks index.cache))) value
-    (subst (λ (v : IndexView). IsTrue v.cache.store.is_faithful → IfErr given.result (Names (IsFirstDamaged v.cache) (IsFirstMalformed begun v.tree rows v.legs places tracks v.cache))) rest given.ensures.named fa)) n said
+    (subst (λ places. IfErr given.result (NamesEach (IsFirstDamaged index.cache) (IsFirstMalformed begun index.tree rows index.legs places tracks index.cache))) value
+    (subst (λ (v : IndexView). IsTrue v.cache.store.is_faithful → IfErr given.result (NamesEach (IsFirstDamaged v.cache) (IsFirstMalformed begun v.tree rows v.legs places tracks v.cache))) rest given.ensures.named fa)) n said
 
 pub returns-clause-whole : goal.returns-clause-whole
 returns-clause-whole g c =

@@ -6,7 +6,7 @@ use Rattle.std.proofs.lemmas.List.Sorted.{IsPermutation-refl}
 use Rattle.std.proofs.lemmas.Result.{err_from_is_err_and}
 use Rattle.legs.specs.Boxes.{BoxView}
 use Rattle.legs.specs.Legs.{LegView}
-use Rattle.treecheck.specs.Check.{AreChains, IsOver}
+use Rattle.treecheck.specs.Check.{AreChains, IsTreeOver}
 use Rattle.tbtree.specs.Nodes.{Pages, pages_of_cache}
 use Rattle.boxsearch.specs.Index.{SaysState}
 use Rattle.treecheck.specs.Levels.{StandsOver, pages_of_leaves}
@@ -79,7 +79,7 @@ returns-in_err-check_tree-clause-only g c = λ fa same says few agrees k.
     rw (p.1, p.2) (c.in_err-check_tree.ensures.only (later.store.faithful ∙ fa)
     (subst (λ ms. All (λ (m : Met). IsMet ((pages_of_cache c.walk_all.new.source).at m.page) m) ms) (sym value) (subst (λ (nodes : Pages LegView BoxView). All (λ (m : Met). IsMet (nodes.at m.page) m) leaves) back mets))
     k.pages
-    (subst (λ ms. IsOver (pages_of_cache c.walk_all.new.source) c.args.tree.now (pages_of_leaves ms) k.pages) (sym value) (subst (λ nodes. IsOver nodes c.args.tree.now (pages_of_leaves leaves) k.pages) back ov)))
+    (subst (λ ms. IsTreeOver (pages_of_cache c.walk_all.new.source) c.args.tree.now (pages_of_leaves ms) k.pages) (sym value) (subst (λ nodes. IsTreeOver nodes c.args.tree.now (pages_of_leaves leaves) k.pages) back ov)))
 
 pub returns-then-not-name_last-clause-only : goal.returns-then-not-name_last-clause-only
 returns-then-not-name_last-clause-only g c = λ fa same says few agrees k.
@@ -301,7 +301,7 @@ returns-in_err-check_tree-clause-named g c = λ fa.
     (subst (λ nodes. IfMalformed (DescentStopsAt nodes tree (pages_of_leaves c.as_slice.result.now)) fault) same
     (c.in_err-check_tree.ensures.stops (later.store.faithful ∙ fa) met)))
     (λ pages over. c.in_err-check_tree.ensures.only (later.store.faithful ∙ fa) met pages
-    (subst (λ ms. IsOver (pages_of_cache c.walk_all.new.source) tree (pages_of_leaves ms) pages) (sym value) (subst (λ nodes. IsOver nodes tree (pages_of_leaves leaves) pages) back over)))))
+    (subst (λ ms. IsTreeOver (pages_of_cache c.walk_all.new.source) tree (pages_of_leaves ms) pages) (sym value) (subst (λ nodes. IsTreeOver nodes tree (pages_of_leaves leaves) pages) back over)))))
 
 pub returns-then-not-name_last-clause-named : goal.returns-then-not-name_last-clause-named
 returns-then-not-name_last-clause-named g c = λ fa.
@@ -339,7 +339,7 @@ returns-then-not-name_last-clause-named g c = λ fa.
     (subst (λ ms. All (λ p. (0 < p) × (p < c.walk_all.new.source.count)) (pages_of_leaves ms)) (sym value) (subst (λ n. All (λ p. (0 < p) × (p < n)) (pages_of_leaves leaves)) (sym later.count) in_pages)) in
     let st = subst (λ nodes. StandsOver nodes tree (pages_of_leaves leaves)) same (subst (λ ms. StandsOver (pages_of_cache c.walk_all.new.source) tree (pages_of_leaves ms)) value stands) in
     later_named c.args.begun tree rows total places tracks old old fa held some count says (Malformed 0) tt (zero_later c.args.begun tree rows total places tracks old old fa held some count chains
-    (λ k order o none. none st.pages (subst (λ order. IsOver nodes tree order st.pages) (same_order order o) st.is_over)))
+    (λ k order o none. none st.pages (subst (λ order. IsTreeOver nodes tree order st.pages) (same_order order o) st.is_over)))
 
 pub returns-in_err-check_state-clause-reads : goal.returns-in_err-check_state-clause-reads
 returns-in_err-check_state-clause-reads g c = reads_trans c.args.cache.now c.read_pages.new.cache c.check_state.new.cache c.read_pages.ensures.reads c.check_state.ensures.reads

@@ -5,7 +5,7 @@ use Rattle.std.proofs.lemmas.Result.{err_from_is_err_and}
 use Rattle.pagecache.specs.Cache.{fresh}
 use Rattle.version1.specs.OldForm.{old_node_of}
 use Rattle.treecheck.specs.Checking.{Agree}
-use Rattle.treecheck.specs.Ordering.{IsWhole}
+use Rattle.treecheck.specs.Ordering.{IsSurveyWhole}
 use Rattle.treecheck.specs.Walking.{pages_by}
 use Rattle.treecheck.proofs.SurveyLemmas.{as_many}
 use Rattle.version1.proofs.SurveyedLemmas.{held_whole}
@@ -18,7 +18,7 @@ returns-clause-surveyed g c = λ fa.
     let leaves = c.sort_leaves.new.leaves.items in
     surveyed (pages_by old_node_of (fresh (g.S.PageStore.seen c.args.store.now) 1)) c.args.most c.args.rows c.args.tracks.now.legs c.args.places.now c.args.tracks.now.tracks survey leaves
     (c.in_ok-survey.ensures.surveyed fa)
-    (subst (λ n. IsWhole c.args.places.now n survey) c.leg_count-legs.ensures (c.is_whole.ensures.whole c.if-not-is_whole.false))
+    (subst (λ n. IsSurveyWhole c.args.places.now n survey) c.leg_count-legs.ensures (c.is_whole.ensures.whole c.if-not-is_whole.false))
     (subst (λ v. IsPermutation v.items leaves) c.is_whole.ensures.leaves c.sort_leaves.ensures.permutation)
     c.sort_leaves.ensures.rises
 
@@ -35,7 +35,7 @@ pub returns-then-not-is_whole-clause-only : goal.returns-then-not-is_whole-claus
 returns-then-not-is_whole-clause-only g c = λ fa agrees legs held.
     let survey = c.in_ok-survey.survey in
     let w = held_whole (pages_by old_node_of (fresh (g.S.PageStore.seen c.args.store.now) 1)) c.args.most c.args.rows c.args.tracks.now.legs c.args.places.now c.args.tracks.now.tracks survey legs (c.in_ok-survey.ensures.surveyed fa) held in
-    true≢false (sym (c.is_whole.ensures.only (subst (λ n. IsWhole c.args.places.now n survey) (sym c.leg_count-legs.ensures) w)) ∙ c.if-not-is_whole.true)
+    true≢false (sym (c.is_whole.ensures.only (subst (λ n. IsSurveyWhole c.args.places.now n survey) (sym c.leg_count-legs.ensures) w)) ∙ c.if-not-is_whole.true)
 
 pub returns-then-not-agree-clause-only : goal.returns-then-not-agree-clause-only
 returns-then-not-agree-clause-only g c = λ fa agrees legs held.

@@ -2,7 +2,7 @@ use Rattle.std.proofs.Common.{ℕ, ◌<◌, ◌≤◌, ◌+◌, ◌-◌, length}
 use Rattle.std.specs.List.{range_with_len}
 use Rattle.trajdb.specs.Answers.{HoldsOfFeature}
 use Rattle.trajdb.specs.Database.{IsSound}
-use Rattle.trajdb.specs.Calls.{KnowsEach, KnowsOf, Leaves, features_bound, known_features_bound}
+use Rattle.trajdb.specs.Calls.{KnowsEach, KnowsOf, LeavesBook, features_bound, known_features_bound}
 use Rattle.legs.specs.Asking.{Recalls}
 use Rattle.legs.specs.Limits.{most}
 use Rattle.trajdb.proofs.PickLemmas.{IsPicking}
@@ -12,7 +12,7 @@ use Rattle.trajdb.proofs.database.Core.features_for.Given as goal
 -- the database is as it was; what is picked so far, and how many pages were asked for
 abbrev pub invariant-loop-feature : goal.invariant-loop-feature
 invariant-loop-feature g l = record {
-  leaves : Leaves g.I.Listed l.initial.self l.self;
+  leaves : LeavesBook g.I.Listed l.initial.self l.self;
   asks : IsSound g.I.Listed l.initial.self
       → g.I.Listed.asked l.self.index
       ≤ g.I.Listed.asked l.initial.self.index + features_bound (range_with_len 0 l.feature) l.period (g.I.Listed.plan l.initial.self.index) l.initial.self.book.legs;

@@ -9,10 +9,10 @@ use Rattle.catalogue.specs.Closing.{IsNoStoreFault}
 use Rattle.catalogue.specs.Holding.{HoldsBook, HoldsButFirst, IsOfBook, IsUnfinishedStore}
 use Rattle.register.specs.Saved.{CatalogueView}
 use Rattle.register.specs.Earlier.{AddsFew, AreEarlier}
-use Rattle.register.specs.Saving.{contents_of, IsAllowed}
+use Rattle.register.specs.Saving.{contents_of, IsSavingStop}
 use Rattle.register.specs.Text.{catalogue_text}
 use Rattle.trajdb.specs.Calls.{IsLoadFault}
-use Rattle.trajdb.specs.Db.{DbView, HasPages, IsSound}
+use Rattle.trajdb.specs.Db.{DbView, HasPages, IsSoundDb}
 use Rattle.trajdb.specs.Faults.{closed_answer}
 use Rattle.trajdb.specs.Lasting.{IsFaultless, IsIdle, IsSafe, TakesFew}
 use Rattle.trajdb.proofs.LastingLemmas.{rest_book, closed_holds, closed_only, closed_ordered, closed_refused, closed_synced, closed_takes, closed_unfinished, rest_takes}
@@ -31,7 +31,7 @@ returns-then-not-begun-clause-holds g c = λ sound pages idle.
     let store = c.rest-then-not-begun.ensures.store ∙ ap (λ (x : IndexView). x.cache.store) index in
     subst (λ (d : DbView). HoldsBook (g.S.PageStore.seen c.rest-then-not-begun.result) d.index.tree.shape d.limits d.book) is
     (subst (λ (s : Store). HoldsBook s core.index.tree.shape core.limits core.book) (sym store)
-    (rest_book c.laws.ensures.holds core c.into_parts-catalogue.ensures.legs lawful settled (subst IsSound (sym is) sound) (subst IsIdle (sym is) idle) begun lives))
+    (rest_book c.laws.ensures.holds core c.into_parts-catalogue.ensures.legs lawful settled (subst IsSoundDb (sym is) sound) (subst IsIdle (sym is) idle) begun lives))
 
 pub returns-clause-holds : goal.returns-clause-holds
 returns-clause-holds g c =
@@ -41,8 +41,8 @@ returns-clause-holds g c =
     let begun : core.begun ≡ true = sym (λ i. (c.self-inside.view_is i).core.begun) ∙ c.if-not-begun.false in
     let first = subst (λ (x : IndexView). OnOk answer (IsSoundIndex x → IsMarked x.cache → (book : Book) → IsOfBook c.into_parts-catalogue.result.0.limits book c.into_parts-catalogue.result.0 → content x ≡ book.legs → HoldsBook s x.tree.shape c.into_parts-catalogue.result.0.limits book)) c.into_parts-catalogue.ensures.index c.close-store.ensures.holds in
     let second = subst (λ (k : CatalogueView). OnOk answer (IsSoundIndex core.index → IsMarked core.index.cache → (book : Book) → IsOfBook k.limits book k → content core.index ≡ book.legs → HoldsBook s core.index.tree.shape k.limits book)) c.into_parts-catalogue.ensures.catalogue first in
-    subst (λ r. OnOk r (IsSound c.args.self → HasPages c.args.self → IsIdle c.args.self → HoldsBook s c.args.self.index.tree.shape c.args.self.limits c.args.self.book)) (sym c.closed.ensures)
-    (subst (λ (d : DbView). OnOk (closed_answer answer) (IsSound d → HasPages d → IsIdle d → HoldsBook s d.index.tree.shape d.limits d.book)) c.self.view_is
+    subst (λ r. OnOk r (IsSoundDb c.args.self → HasPages c.args.self → IsIdle c.args.self → HoldsBook s c.args.self.index.tree.shape c.args.self.limits c.args.self.book)) (sym c.closed.ensures)
+    (subst (λ (d : DbView). OnOk (closed_answer answer) (IsSoundDb d → HasPages d → IsIdle d → HoldsBook s d.index.tree.shape d.limits d.book)) c.self.view_is
     (closed_holds core s answer c.into_parts-catalogue.ensures.legs second begun))
 
 pub returns-clause-refused : goal.returns-clause-refused
@@ -53,18 +53,18 @@ returns-clause-refused g c =
     let begun : core.begun ≡ true = sym (λ i. (c.self-inside.view_is i).core.begun) ∙ c.if-not-begun.false in
     let first = subst (λ (x : IndexView). OnErr answer (IsSoundIndex x → IsMarked x.cache → (book : Book) → IsOfBook c.into_parts-catalogue.result.0.limits book c.into_parts-catalogue.result.0 → content x ≡ book.legs → IsUnfinishedStore s ⊎ HoldsButFirst s x.tree.shape c.into_parts-catalogue.result.0.limits book)) c.into_parts-catalogue.ensures.index c.close-store.ensures.refused in
     let second = subst (λ (k : CatalogueView). OnErr answer (IsSoundIndex core.index → IsMarked core.index.cache → (book : Book) → IsOfBook k.limits book k → content core.index ≡ book.legs → IsUnfinishedStore s ⊎ HoldsButFirst s core.index.tree.shape k.limits book)) c.into_parts-catalogue.ensures.catalogue first in
-    subst (λ r. OnErr r (IsSound c.args.self → HasPages c.args.self → c.args.self.failed ≡ false → IsUnfinishedStore s ⊎ HoldsButFirst s c.args.self.index.tree.shape c.args.self.limits c.args.self.book)) (sym c.closed.ensures)
-    (subst (λ (d : DbView). OnErr (closed_answer answer) (IsSound d → HasPages d → d.failed ≡ false → IsUnfinishedStore s ⊎ HoldsButFirst s d.index.tree.shape d.limits d.book)) c.self.view_is
+    subst (λ r. OnErr r (IsSoundDb c.args.self → HasPages c.args.self → c.args.self.failed ≡ false → IsUnfinishedStore s ⊎ HoldsButFirst s c.args.self.index.tree.shape c.args.self.limits c.args.self.book)) (sym c.closed.ensures)
+    (subst (λ (d : DbView). OnErr (closed_answer answer) (IsSoundDb d → HasPages d → d.failed ≡ false → IsUnfinishedStore s ⊎ HoldsButFirst s d.index.tree.shape d.limits d.book)) c.self.view_is
     (closed_refused core s answer c.into_parts-catalogue.ensures.legs second begun))
 
 pub returns-clause-only : goal.returns-clause-only
 returns-clause-only g c =
     let core = c.self.inside.core in
     let answer = c.close-store.result.1 in
-    let first = subst (λ (x : IndexView). IfErr answer (λ fault. IsSoundIndex x → (book : Book) → IsOfBook c.into_parts-catalogue.result.0.limits book c.into_parts-catalogue.result.0 → content x ≡ book.legs → IsAllowed fault)) c.into_parts-catalogue.ensures.index c.close-store.ensures.only in
-    let second = subst (λ (k : CatalogueView). IfErr answer (λ fault. IsSoundIndex core.index → (book : Book) → IsOfBook k.limits book k → content core.index ≡ book.legs → IsAllowed fault)) c.into_parts-catalogue.ensures.catalogue first in
-    subst (λ r. IfErr r (λ fault. IsSound c.args.self → c.args.self.failed ≡ false → IsLoadFault fault)) (sym c.closed.ensures)
-    (subst (λ (d : DbView). IfErr (closed_answer answer) (λ fault. IsSound d → d.failed ≡ false → IsLoadFault fault)) c.self.view_is
+    let first = subst (λ (x : IndexView). IfErr answer (λ fault. IsSoundIndex x → (book : Book) → IsOfBook c.into_parts-catalogue.result.0.limits book c.into_parts-catalogue.result.0 → content x ≡ book.legs → IsSavingStop fault)) c.into_parts-catalogue.ensures.index c.close-store.ensures.only in
+    let second = subst (λ (k : CatalogueView). IfErr answer (λ fault. IsSoundIndex core.index → (book : Book) → IsOfBook k.limits book k → content core.index ≡ book.legs → IsSavingStop fault)) c.into_parts-catalogue.ensures.catalogue first in
+    subst (λ r. IfErr r (λ fault. IsSoundDb c.args.self → c.args.self.failed ≡ false → IsLoadFault fault)) (sym c.closed.ensures)
+    (subst (λ (d : DbView). IfErr (closed_answer answer) (λ fault. IsSoundDb d → d.failed ≡ false → IsLoadFault fault)) c.self.view_is
     (closed_only core answer c.into_parts-catalogue.ensures.legs second))
 
 pub returns-clause-unfinished : goal.returns-clause-unfinished
@@ -74,8 +74,8 @@ returns-clause-unfinished g c =
     let s = g.S.PageStore.seen c.close-store.result.0 in
     let begun : core.begun ≡ true = sym (λ i. (c.self-inside.view_is i).core.begun) ∙ c.if-not-begun.false in
     let first = subst (λ (x : IndexView). IfErr answer (λ fault. IsNoStoreFault fault → IsSoundIndex x → IsMarked x.cache → IsUnfinishedStore s)) c.into_parts-catalogue.ensures.index c.close-store.ensures.unfinished in
-    subst (λ r. IfErr r (λ fault. IsFaultless fault → IsSound c.args.self → HasPages c.args.self → c.args.self.failed ≡ false → IsUnfinishedStore s)) (sym c.closed.ensures)
-    (subst (λ (d : DbView). IfErr (closed_answer answer) (λ fault. IsFaultless fault → IsSound d → HasPages d → d.failed ≡ false → IsUnfinishedStore s)) c.self.view_is
+    subst (λ r. IfErr r (λ fault. IsFaultless fault → IsSoundDb c.args.self → HasPages c.args.self → c.args.self.failed ≡ false → IsUnfinishedStore s)) (sym c.closed.ensures)
+    (subst (λ (d : DbView). IfErr (closed_answer answer) (λ fault. IsFaultless fault → IsSoundDb d → HasPages d → d.failed ≡ false → IsUnfinishedStore s)) c.self.view_is
     (closed_unfinished core s answer first begun))
 
 pub returns-then-failed-clause-safe : goal.returns-then-failed-clause-safe
@@ -115,7 +115,7 @@ pub returns-then-not-begun-clause-takes : goal.returns-then-not-begun-clause-tak
 returns-then-not-begun-clause-takes g c =
     let s = g.S.PageStore.seen c.rest-then-not-begun.result in
     let store = c.rest-then-not-begun.ensures.store ∙ ap (λ (x : IndexView). x.cache.store) c.into_parts-catalogue.ensures.index in
-    subst (λ (d : DbView). IsSound d → TakesFew d s) c.self.view_is (rest_takes c.self.inside.core s store)
+    subst (λ (d : DbView). IsSoundDb d → TakesFew d s) c.self.view_is (rest_takes c.self.inside.core s store)
 
 pub returns-clause-takes : goal.returns-clause-takes
 returns-clause-takes g c =
@@ -124,5 +124,5 @@ returns-clause-takes g c =
     let s = g.S.PageStore.seen c.close-store.result.0 in
     let first = subst (λ (x : IndexView). OnOk answer (IsSoundIndex x → (pages : List ℕ) → AreEarlier (payload_of x.cache) pages → AddsFew x.cache.count (catalogue_text (contents_of c.into_parts-catalogue.result.0 x.places)) pages s.count)) c.into_parts-catalogue.ensures.index c.close-store.ensures.takes in
     let second = subst (λ (k : CatalogueView). OnOk answer (IsSoundIndex core.index → (pages : List ℕ) → AreEarlier (payload_of core.index.cache) pages → AddsFew core.index.cache.count (catalogue_text (contents_of k core.index.places)) pages s.count)) c.into_parts-catalogue.ensures.catalogue first in
-    subst (λ r. OnOk r (IsSound c.args.self → TakesFew c.args.self s)) (sym c.closed.ensures)
-    (subst (λ (d : DbView). OnOk (closed_answer answer) (IsSound d → TakesFew d s)) c.self.view_is (closed_takes core s answer second))
+    subst (λ r. OnOk r (IsSoundDb c.args.self → TakesFew c.args.self s)) (sym c.closed.ensures)
+    (subst (λ (d : DbView). OnOk (closed_answer answer) (IsSoundDb d → TakesFew d s)) c.self.view_is (closed_takes core s answer second))

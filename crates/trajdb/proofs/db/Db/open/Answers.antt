@@ -2,7 +2,7 @@ use Rattle.std.proofs.Common.{sym, subst, false}
 use Rattle.pages.specs.Store.{Stays}
 use Rattle.pagecache.specs.Cache.{stored_payload}
 use Rattle.trajdb.specs.Db.{DbView}
-use Rattle.trajdb.specs.Lasting.{IsNamed, IsStop, IsTrulyDamaged}
+use Rattle.trajdb.specs.Lasting.{IsNamedAtOpen, IsStop, IsTrulyDamaged}
 use Rattle.trajdb.proofs.LastingLemmas.{damaged_still, named_still, opened_book, stopped}
 use Rattle.trajdb.proofs.SafeLemmas.{opened_safe}
 use Rattle.trajdb.proofs.db.Db.open.Goals as goal
@@ -27,7 +27,7 @@ returns-in-Err-clause-damaged g c =
 pub returns-in-Err-clause-named : goal.returns-in-Err-clause-named
 returns-in-Err-clause-named g c = λ fa.
     let s = g.S.PageStore.seen c.args.store in
-    subst (IsNamed (stored_payload s) s.count) (sym c.from.ensures) (named_still (stored_payload s) s.count c.in-Err.fault (c.in-Err.ensures.named fa))
+    subst (IsNamedAtOpen (stored_payload s) s.count) (sym c.from.ensures) (named_still (stored_payload s) s.count c.in-Err.fault (c.in-Err.ensures.named fa))
 
 pub returns-in-Ok-clause-safe : goal.returns-in-Ok-clause-safe
 returns-in-Ok-clause-safe g c = λ fa sound.
