@@ -4,10 +4,9 @@ ghost use Rattle.pages.specs.Store.{IsSynced};
 ghost use Rattle.pagecache.specs.Cache.{is_changed, page_of, payload_of};
 ghost use Rattle.boxsearch.specs.Beside.{with_cache, IsBeside};
 ghost use Rattle.boxsearch.specs.Index.{content, IsSound};
-ghost use Rattle.register.specs.ChainSteps.{SparesTree};
 ghost use Rattle.register.specs.Earlier.{AddsFew, AreEarlier};
 ghost use Rattle.register.specs.Lasting.{Says};
-ghost use Rattle.register.specs.Saved.{Continues, IsWrittenButFirst, KeepsFront};
+ghost use Rattle.register.specs.Saved.{Continues, IsWrittenButFirst, KeepsFront, SparesTree};
 ghost use Rattle.register.specs.Saving.{contents_of, HasFew, IsSavingStop, IsCatalogue, IsCaused};
 ghost use Rattle.register.specs.Text.{catalogue_text, IsWhole};
 

@@ -14,11 +14,10 @@ use Rattle.tbtree.specs.Shape.{IsShape}
 use Rattle.tbtree.specs.declared.tree.Place.{Place}
 use Rattle.tbtree.specs.declared.tree.TbTree.{TbTree}
 use Rattle.register.specs.Chain.{most_used}
-use Rattle.register.specs.ChainSteps.{SparesTree}
 use Rattle.register.specs.ChainWriter.{HasText}
 use Rattle.register.specs.Fields.{FitsFields, HasFields}
 use Rattle.register.specs.Lasting.{Says}
-use Rattle.register.specs.Saved.{fields_for, CatalogueView, KeepsFront}
+use Rattle.register.specs.Saved.{fields_for, CatalogueView, KeepsFront, SparesTree}
 use Rattle.register.specs.Saving.{contents_of, KeepsTree, PutsFields}
 use Rattle.register.specs.Text.{catalogue_text}
 use Rattle.register.specs.declared.header_fields.Fields.{Fields}

@@ -15,13 +15,13 @@ use Rattle.tbtree.specs.Nodes.{Pages, pages_of_cache}
 use Rattle.tbtree.specs.Passes.{Passes}
 use Rattle.legs.specs.Boxes.{BoxView}
 use Rattle.legs.specs.Legs.{LegView}
-use Rattle.register.specs.ChainSteps.{Reuses, SparesTree}
+use Rattle.register.specs.ChainSteps.{Reuses}
 use Rattle.register.specs.ChainWriter.{Holds, WriterView}
 use Rattle.register.proofs.ReuseLemmas.{reuses_refl, reuses_then}
 use Rattle.std.specs.Option.{option_map}
 use Rattle.legs.specs.declared.head.BookHead.{BookHead}
 use Rattle.tbtree.specs.declared.tree.Place.{Place}
-use Rattle.register.specs.Saved.{head_of, CatalogueView}
+use Rattle.register.specs.Saved.{head_of, CatalogueView, SparesTree}
 use Rattle.register.specs.Text.{HasFeatures, IsHead, IsNumber, IsRow, IsShortText, IsWhole}
 use Rattle.register.specs.Saving.{contents_of, features_of, HasPageZero, IsSavingStop, IsCatalogue, IsCaused, KeepsTree, Puts, Saves}
 use Rattle.register.specs.declared.fault.CatalogueFault.{CatalogueFault}

@@ -17,7 +17,8 @@ use Rattle.tbtree.specs.Descent.{IsSameTree, node_in}
 use Rattle.tbtree.specs.Nodes.{Pages, pages_of_cache}
 use Rattle.tbtree.specs.Passes.{Passes, KeepsLength}
 use Rattle.register.specs.Chain.{part_payload}
-use Rattle.register.specs.ChainSteps.{Fills, Gives, PayloadsStay, SparesTree}
+use Rattle.register.specs.ChainSteps.{Fills, Gives, PayloadsStay}
+use Rattle.register.specs.Saved.{SparesTree}
 use Rattle.register.specs.ChainWriter.{IsCaused}
 
 -- a step that is passed on is caused by what came before it too

@@ -15,7 +15,8 @@ use Rattle.tbtree.specs.Passes.{Passes}
 use Rattle.register.proofs.SpareLemmas.{is_page, no_page, fills_spares, spares_trans, stays_spares}
 use Rattle.register.proofs.ChainLemmas.{pages_of, text_is_at, written_length}
 use Rattle.register.specs.Chain.{most_used, part_payload, text_at}
-use Rattle.register.specs.ChainSteps.{Fills, Gives, IsNumber, IsPutBehind, OnlyAsks, SparesTree}
+use Rattle.register.specs.ChainSteps.{Fills, Gives, IsNumber, IsPutBehind, OnlyAsks}
+use Rattle.register.specs.Saved.{SparesTree}
 use Rattle.register.specs.ChainWriter.{AreWritten, HasText, Holds, HoldsText, IsOwn, WriterView}
 
 -- a number that none of a list reaches is none of them

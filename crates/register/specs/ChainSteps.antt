@@ -24,11 +24,6 @@ pub record IsPutBehind (old : List ℕ) (n : ℕ) (new : List ℕ) : Type 0 wher
   pub keys : new ≡ old ++ n ∷ []
   pub apart : All (λ p. p ≢ n) old
 
--- the pages of a tree say what they said
-abbrev pub SparesTree : Cache → Cache → Type 0
-SparesTree old new =
-    IsTrue old.store.is_faithful → IsSameTree (pages_of_cache old) (pages_of_cache new)
-
 -- no page that is there has another payload
 abbrev pub PayloadsStay : Cache → Cache → Type 0
 PayloadsStay old new =

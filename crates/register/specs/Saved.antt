@@ -1,5 +1,5 @@
 -- What a database keeps, as the text of its catalogue says it.
-use Rattle.std.specs.Prelude.{ℕ, ◌≡◌, ◌≤◌, ◌^◌, ◌-◌, false, min, List, Option, Some, None, take, drop}
+use Rattle.std.specs.Prelude.{ℕ, ◌≡◌, ◌≤◌, ◌^◌, ◌-◌, false, min, List, Option, Some, None, take, drop, IsTrue}
 use Rattle.pages.specs.Store as store
 use Rattle.legs.specs.Limits.{LimitsView}
 use Rattle.legs.specs.Tracks.{TracksView}
@@ -7,6 +7,8 @@ use Rattle.legs.specs.declared.head.BookHead.{BookHead}
 use Rattle.mfcsv.specs.declared.Dimension.TheVariants.{Two, Three}
 use Rattle.pages.specs.declared.payload.Payload.{Payload}
 use Rattle.pagecache.specs.Cache.{is_changed, payload_of, Cache, IsSettled}
+use Rattle.tbtree.specs.Descent.{IsSameTree}
+use Rattle.tbtree.specs.Nodes.{pages_of_cache}
 use Rattle.tbtree.specs.declared.tree.TbTree.{TbTree}
 use Rattle.register.specs.declared.header_fields.Fields.{Fields}
 use Rattle.register.specs.declared.contents.Head.{Head}
@@ -59,6 +61,11 @@ pub record Continues (old new : Cache) : Type 0 where
   pub count : old.count ≤ new.count
   -- the count of asks did not fall; the greatest number that is counted stands for any greater one
   pub asked : min old.asked (2 ^ 64 - 1) ≤ new.asked
+
+-- the pages of a tree say what they said
+abbrev pub SparesTree : Cache → Cache → Type 0
+SparesTree old new =
+    IsTrue old.store.is_faithful → IsSameTree (pages_of_cache old) (pages_of_cache new)
 
 -- no page but page 0 is changed; so each other one is as written
 pub record IsWrittenButFirst (c : Cache) : Type 0 where

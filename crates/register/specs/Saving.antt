@@ -13,9 +13,9 @@ use Rattle.register.specs.declared.header_fields.Fields.{Fields}
 use Rattle.tbtree.specs.Passes.{KeepsLength, Passes}
 use Rattle.tbtree.specs.Stands.{no_place}
 use Rattle.tbtree.specs.declared.tree.Place.{Place}
-use Rattle.register.specs.ChainSteps.{Reuses, SparesTree}
+use Rattle.register.specs.ChainSteps.{Reuses}
 use Rattle.register.specs.ChainWriter.{Holds, WriterView}
-use Rattle.register.specs.Saved.{head_of, CatalogueView}
+use Rattle.register.specs.Saved.{head_of, CatalogueView, SparesTree}
 use Rattle.register.specs.declared.contents.Contents.{Contents}
 use Rattle.register.specs.declared.contents.Feature.{Feature}
 use Rattle.register.specs.declared.fault.CatalogueFault.{CatalogueFault}

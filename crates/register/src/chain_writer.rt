@@ -7,7 +7,8 @@ ghost use Rattle.tbtree.specs.Passes.{Passes, KeepsLength};
 ghost use Rattle.indexmap.specs.IndexSet.{insert_key, contains, spare};
 ghost use Rattle.pages.specs.declared.payload.Payload.{Payload};
 ghost use Rattle.register.specs.Chain.{next_in, part_payload};
-ghost use Rattle.register.specs.ChainSteps.{AreNumbers, Fills, IsAhead, IsNumber, IsPutBehind, Gives, IsThere, OnlyAsks, PayloadsStay, Reuses, SparesTree};
+ghost use Rattle.register.specs.ChainSteps.{AreNumbers, Fills, IsAhead, IsNumber, IsPutBehind, Gives, IsThere, OnlyAsks, PayloadsStay, Reuses};
+ghost use Rattle.register.specs.Saved.{SparesTree};
 ghost use Rattle.register.specs.ChainWriter.{IsAllowed, IsCaused};
 
 use indexmap::IndexSet;
@@ -280,7 +281,8 @@ impl ChainWriter {
     ghost use Rattle.std.specs.Int.{div_ceil};
     ghost use Rattle.tbtree.specs.Passes.{Passes, KeepsLength};
     ghost use Rattle.register.specs.Chain.{most_used};
-    ghost use Rattle.register.specs.ChainSteps.{behind, IsAhead, IsNumber, Reuses, SparesTree, TakesFew};
+    ghost use Rattle.register.specs.ChainSteps.{behind, IsAhead, IsNumber, Reuses, TakesFew};
+    ghost use Rattle.register.specs.Saved.{SparesTree};
     ghost use Rattle.register.specs.ChainWriter.{HasText, Holds, IsAllowed, IsCaused};
 
     /// A writer of a text, to an earlier chain that begins at that page, 0 for none. The numbers of
