@@ -1,5 +1,5 @@
 //! Many legs of one feature, put in leaf by leaf.
-ghost use Rattle.std.specs.Prelude.{◌≡◌, ◌<◌, ◌≤◌, ◌+◌, ◌-◌, ◌*◌, ◌%◌, OnOk, OnErr, IfErr, IsTrue, false, true, Err, length};
+ghost use Rattle.std.specs.Prelude.{◌≡◌, ◌<◌, ◌≤◌, ◌⊎◌, ◌+◌, ◌-◌, ◌*◌, ◌%◌, OnOk, OnErr, IfErr, IsTrue, false, true, Err, length};
 ghost use Rattle.tbtree.specs.Faults.{RefusesWrite};
 ghost use Rattle.tbtree.specs.Nodes.{pages_of_cache};
 ghost use Rattle.tbtree.specs.Passes.{Passes, KeepsLength, Touches};
@@ -58,6 +58,11 @@ fn put_all<S: PageStore>(
         (KeepsLegs place.old.last legs.now (pages_of_cache cache.old)
         (pages_of_cache cache.new)) }
     ensures counted { OnOk result (place.new.legs ≡ place.old.legs + length legs.now) }
+    ensures stays { 0 < place.old.legs % tree.old.shape.leaf
+        → place.old.legs % tree.old.shape.leaf + length legs.now ≤ tree.old.shape.leaf
+        → OnOk result (place.new.last ≡ place.old.last) }
+    ensures moves { OnOk result ((place.new.last ≡ place.old.last)
+        ⊎ (cache.old.count ≤ place.new.last)) }
 {
     let leaf = tree.shape.leaf();
     let mut from = 0;
@@ -115,6 +120,13 @@ pub fn insert_all<S: PageStore>(
         (KeepsLegs place.old.last legs.now (pages_of_cache cache.old)
         (pages_of_cache cache.new)) }
     ensures counted { OnOk result (place.new.legs ≡ place.old.legs + length legs.now) }
+
+    // The last leaf stays the one where it has room for all, and else is it or a new page.
+    ensures stays { 0 < place.old.legs % tree.old.shape.leaf
+        → place.old.legs % tree.old.shape.leaf + length legs.now ≤ tree.old.shape.leaf
+        → OnOk result (place.new.last ≡ place.old.last) }
+    ensures moves { OnOk result ((place.new.last ≡ place.old.last)
+        ⊎ (cache.old.count ≤ place.new.last)) }
 
     // A refusal is for good.
     ensures works { OnOk result (tree.new.spent ≡ false) }

@@ -211,6 +211,7 @@ fn add_last<S: PageStore>(
         (KeepsLegs last legs.now (pages_of_cache cache.old) (pages_of_cache cache.new)) }
     ensures fresh { IsTrue cache.old.store.is_faithful
         → IfOk result (λ page. (pages_of_cache cache.old).at page ≡ None) }
+    ensures number { IfOk result (λ page. page ≡ cache.old.count) }
     ensures only { IsTrue cache.old.store.is_faithful
         → (0 < last → HasLeaf (pages_of_cache cache.old) last)
         → are_of_one_leaf legs.now ≡ true → IfErr result MayRefuseWrite }
@@ -278,6 +279,7 @@ fn begin<S: PageStore>(
         (pages_of_cache cache.new)) }
     ensures fresh { IsTrue cache.old.store.is_faithful
         → OnOk result ((pages_of_cache cache.old).at place.new.last ≡ None) }
+    ensures made { OnOk result (place.new.last ≡ cache.old.count) }
     ensures spent { tree.new.spent ≡ tree.old.spent }
     ensures shape { tree.new.shape ≡ tree.old.shape }
     ensures touches { Touches cache.old cache.new result }
@@ -336,6 +338,8 @@ pub(crate) fn put<S: PageStore>(
         → OnOk result ((pages_of_cache cache.old).at place.new.last ≡ None) }
     ensures stays { 0 < place.old.legs % tree.old.shape.leaf
         → OnOk result (place.new.last ≡ place.old.last) }
+    ensures made { place.old.legs % tree.old.shape.leaf ≡ 0
+        → OnOk result (place.new.last ≡ cache.old.count) }
     ensures begun { place.old.legs % tree.old.shape.leaf ≡ 0
         → OnOk result (tree.new.leaves ≡ tree.old.leaves + 1) }
     ensures grown { 0 < place.old.legs % tree.old.shape.leaf
@@ -384,6 +388,12 @@ pub fn insert<S: PageStore>(
         (KeepsLegs place.old.last (leg ∷ []) (pages_of_cache cache.old)
         (pages_of_cache cache.new)) }
     ensures counted { OnOk result (place.new.legs ≡ place.old.legs + 1) }
+
+    // The last leaf stays the one where it has room, and is a new page where it is full.
+    ensures stays { 0 < place.old.legs % tree.old.shape.leaf
+        → OnOk result (place.new.last ≡ place.old.last) }
+    ensures made { place.old.legs % tree.old.shape.leaf ≡ 0
+        → OnOk result (place.new.last ≡ cache.old.count) }
 
     // What is left of the cache, over any pages.
     ensures passes { Passes cache.old cache.new }

@@ -174,6 +174,7 @@ pub(crate) fn add_leaf<S: PageStore>(
     ensures only { IsTrue cache.old.store.is_faithful
         → are_of_one_leaf legs.now ≡ true → IfErr result MayRefuseWrite }
     ensures fresh { OnOk result ((pages_of_cache cache.old).at cache.old.count ≡ None) }
+    ensures number { IfOk result (λ page. page ≡ cache.old.count) }
     ensures one { OnOk result (are_of_one_leaf legs.now ≡ true) }
     ensures touches { Touches cache.old cache.new result }
     ensures asked { cache.new.asked ≤ cache.old.asked + 1 }

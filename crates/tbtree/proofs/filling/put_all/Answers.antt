@@ -1,4 +1,4 @@
-use Rattle.std.proofs.Common.{◌≡◌, ◌<◌, ◌≤◌, ◌+◌, ◌-◌, ◌%◌, ◌∙◌, refl, ap, arith, length, subst, sym, take, inl, ⊎_elim, Ok}
+use Rattle.std.proofs.Common.{◌≡◌, ◌<◌, ◌≤◌, ◌+◌, ◌-◌, ◌%◌, ◌∙◌, refl, ap, arith, length, subst, sym, take, inl, inr, ⊎_elim, ◌⊎◌, Ok}
 use Rattle.std.proofs.lemmas.Bool.{cases_lt}
 use Rattle.std.proofs.lemmas.List.{take_all}
 use Rattle.std.proofs.lemmas.Result.{err_from_is_err_and}
@@ -9,7 +9,7 @@ use Rattle.tbtree.proofs.EndLemmas.{last_made, keeps_same, keeps_then, IsLast}
 use Rattle.tbtree.proofs.FillLemmas.{all_in_last, joins_none, length_part, part_in_last, part_joins, part_refused}
 use Rattle.tbtree.specs.Joining.{in_last_leaf, HasAtEnd}
 use Rattle.tbtree.proofs.PassLemmas.{touches_none, touches_then}
-use Rattle.tbtree.proofs.RoomLemmas.{mod_at_next}
+use Rattle.tbtree.proofs.RoomLemmas.{mod_at_next, mod_below_next}
 use Rattle.tbtree.proofs.Still.{still}
 use Rattle.tbtree.proofs.filling.put_all.Goals as goal
 
@@ -26,6 +26,8 @@ leaves-init g c =
       touches = touches_none cache tt;
       higher = omega arith;
       counted = omega arith;
+      stays = λ above room. refl;
+      moves = inl refl;
       full = λ above left. absurd (omega (arith, above));
       ends = λ fa above. absurd (omega (arith, above));
       last = λ fa. inl refl;
@@ -71,6 +73,18 @@ leaves-preserved g c =
       touches = touches_then old now new tt (Ok tt) so_far.touches put.touches;
       higher = (let was = so_far.higher in let now = put.higher in omega (arith, was, now));
       counted = (let legs_are = put.legs in let so_many = so_far.counted in omega (arith, legs_are, so_many, many));
+      stays = λ above all.
+          let before = so_far.counted in
+          let few : n < length legs = c.leaves-test.true in
+          let at : filled ≡ c.args.place.now.legs % leaf + n = ap (λ m. m % leaf) before ∙ mod_below_next c.args.place.now.legs n leaf (omega (arith, all, few)) in
+          put.stays (omega (arith, same, at, above)) ∙ so_far.stays above all;
+      moves = ⊎_elim
+          (λ (above : 0 < filled). subst (λ b. (b ≡ c.args.place.now.last) ⊎ (old.count ≤ b)) (sym (put.stays (omega (arith, same, above)))) so_far.moves)
+          (λ (none : filled ≤ 0).
+          let at = put.made (same ∙ let z : filled ≡ 0 = omega (arith, none) in z) in
+          let more = so_far.touches.passes.count in
+          inr (omega (arith, at, more)))
+          (cases_lt 0 filled);
       full = λ above left. ap (λ m. m % leaf) counted ∙ mod_at_next c.leaves.place.legs k leaf (full left);
       ends = λ fa above. subst (λ l. HasAtEnd (pages_of_cache new) c.put.new.place.last l)
           (sym (ap (λ m. in_last_leaf leaf m (take (n + k) legs)) counted ∙ part_in_last leaf c.leaves.place.legs n k legs fits.some within room (λ above. so_far.full above c.leaves-test.true)))

@@ -1,5 +1,5 @@
 use Rattle.std.proofs.Common.{◌≡◌, ◌≤◌, ◌<◌, ◌+◌, ◌-◌, ◌%◌, length, take}
-use Rattle.std.specs.Prelude.{IsTrue, Ok}
+use Rattle.std.specs.Prelude.{IsTrue, Ok, ◌⊎◌}
 use Rattle.tbtree.specs.Joining.{in_last_leaf, HasAtEnd, JoinsAll, KeepsLegs}
 use Rattle.tbtree.specs.Nodes.{pages_of_cache}
 use Rattle.tbtree.specs.Passes.{Touches}
@@ -20,6 +20,8 @@ invariant-leaves g l = record {
   touches : Touches {T = Unit {0}} l.fn.cache l.cache (Ok tt);
   higher : l.fn.tree.levels ≤ l.tree.levels;
   counted : l.place.legs ≡ l.fn.place.legs + l.from;
+  stays : 0 < l.fn.place.legs % l.fn.tree.shape.leaf → l.fn.place.legs % l.fn.tree.shape.leaf + length l.legs ≤ l.fn.tree.shape.leaf → l.place.last ≡ l.fn.place.last;
+  moves : (l.place.last ≡ l.fn.place.last) ⊎ (l.fn.cache.count ≤ l.place.last);
   full : 0 < l.from → l.from < length l.legs → l.place.legs % l.fn.tree.shape.leaf ≡ 0;
   ends : IsTrue l.fn.cache.store.is_faithful → 0 < l.from → HasAtEnd (pages_of_cache l.cache) l.place.last (in_last_leaf l.fn.tree.shape.leaf l.place.legs (take l.from l.legs));
   last : IsTrue l.fn.cache.store.is_faithful → IsLast (pages_of_cache l.fn.cache) l.fn.place.last l.place.last;
