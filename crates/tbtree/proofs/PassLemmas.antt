@@ -41,7 +41,7 @@ passes_trans a b c p q = record {
 caused_in_cache : (a b c : Cache) (e : CacheFault) → Passes a b → RefusesWriteInCache b c e → RefusesWriteInCache a c e
 caused_in_cache a b c cache.NoPage p h = h
 caused_in_cache a b c cache.Store p h = omega (arith, h, p.store.faults)
-caused_in_cache a b c (cache.Damaged n) p h = tt
+caused_in_cache a b c (cache.Damaged n) p h = h
 caused_in_cache a b c cache.StoreFull p h = h
 caused_in_cache a b c cache.Memory p h = tt
 

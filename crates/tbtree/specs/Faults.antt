@@ -34,12 +34,13 @@ RefusesRead old new (OfCache fault) = RefusesReadInCache old new fault
 RefusesRead old new (Malformed n) = Unit {0}
 RefusesRead old new Spent = ⊥
 
--- what causes the refusal of a write: a store that is said to have failed did, and one that is said to be full is; no
--- page is said to be absent, and no tree spent
+-- what causes the refusal of a write: a store that is said to have failed did, one that is said to be full is, and a
+-- page that is said to be damaged is there and has no payload; no page is said to be absent, and no tree spent
 abbrev pub RefusesWriteInCache : Cache → Cache → CacheFault → Type 0
 RefusesWriteInCache old new cache.NoPage = ⊥
 RefusesWriteInCache old new cache.Store = Faulted old.store new.store
-RefusesWriteInCache old new (cache.Damaged n) = Unit {0}
+RefusesWriteInCache old new (cache.Damaged n) =
+    (n < new.count) × (IsTrue new.store.is_faithful → payload_of new n ≡ None)
 RefusesWriteInCache old new cache.StoreFull = new.count ≡ new.store.most
 RefusesWriteInCache old new cache.Memory = Unit {0}
 
