@@ -17,12 +17,12 @@ use Rattle.trajdb.specs.declared.RunFault.{RunFault}
 use Rattle.trajdb.specs.declared.RunFault.TheVariants.{Memory, Store, Damaged, StoreFull, Failed, Output}
 use Rattle.std.specs.List.{range_with_len}
 use Rattle.timebase.specs.Period.{PeriodView}
-use Rattle.legs.specs.Costs.{ShapeView, track_in_bound, known_bound}
+use Rattle.legs.specs.Costs.{ShapeView, known_bound}
 use Rattle.trajdb.specs.Answers.{track_of}
 use Rattle.trajdb.specs.Picks.{Picks}
 use Rattle.trajdb.specs.Faults.{run_fault_of}
 use Rattle.trajdb.specs.Database.{CoreView, IsSound}
-use Rattle.trajdb.specs.Calls.{IsLater, LeavesBook, features_bound, IsText, IsRefused, IsStopped, IsRunStop, KnowsOf, known_features_bound}
+use Rattle.trajdb.specs.Calls.{IsLater, LeavesBook, feature_bound, features_bound, IsText, IsRefused, IsStopped, IsRunStop, KnowsOf, known_features_bound}
 
 -- a text that was not made, of what is there
 pub text_refused : {I : Type 0} (g : Ghosts I) (old new : CoreView I) (P : Type 0) (fault : RunFault) → IsText P fault → (IsSound g old → P) → IsRefused g old new fault
@@ -156,8 +156,8 @@ pub known_more : (k : ℕ) (period : PeriodView) (plan : Option ShapeView) (legs
 known_more k period plan legs = sum_by-map-range_with_len_more (λ bound. bound) (λ feature. known_bound feature period plan legs) 0 k k (let e : 0 + k ≡ k = omega arith in e)
 
 -- the bounds of features, with one more
-pub bound_more : (k : ℕ) (period : PeriodView) (plan : Option ShapeView) (legs : List LegView) → features_bound (range_with_len 0 (k + 1)) period plan legs ≡ features_bound (range_with_len 0 k) period plan legs + track_in_bound k period plan legs
-bound_more k period plan legs = sum_by-map-range_with_len_more (λ bound. bound) (λ feature. track_in_bound feature period plan legs) 0 k k (let e : 0 + k ≡ k = omega arith in e)
+pub bound_more : (k : ℕ) (period : PeriodView) (plan : Option ShapeView) (legs : List LegView) → features_bound (range_with_len 0 (k + 1)) period plan legs ≡ features_bound (range_with_len 0 k) period plan legs + feature_bound k period plan legs
+bound_more k period plan legs = sum_by-map-range_with_len_more (λ bound. bound) (λ feature. feature_bound feature period plan legs) 0 k k (let e : 0 + k ≡ k = omega arith in e)
 
 pub there_all : (old new : Book) (legs : List LegView) → All (IsThere old) old.legs → new ≡ old → legs ≡ old.legs → All (IsThere new) legs
 there_all old new legs all same found = rw (same, found) all

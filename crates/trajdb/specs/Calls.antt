@@ -1,15 +1,15 @@
 -- What a call of a database leaves, and why it stopped.
-use Rattle.std.specs.Prelude.{ℕ, ℤ, ◌≡◌, ◌<◌, [], slice_index_or, true, false, List, Option, Some, None, Result, Ok, Err, IsTrue, is_some, ◌⊎◌, ◌↔◌, drop, length, sum_by, map}
+use Rattle.std.specs.Prelude.{ℕ, ℤ, ◌≡◌, ◌<◌, [], slice_index_or, true, false, List, Option, Some, None, Result, Ok, Err, IsTrue, is_some, if◌then◌else◌, ◌⊎◌, ◌↔◌, drop, length, sum_by, map}
 use Rattle.std.specs.List.{range_with_len}
 use Rattle.timebase.specs.Period.{PeriodView}
 use Rattle.legs.specs.declared.head.BookHead.{BookHead}
 use Rattle.legs.specs.Legs.{LegView}
 use Rattle.legs.specs.Boxes.{box_over, everything}
 use Rattle.legs.specs.Book.{Book, feature_of}
-use Rattle.legs.specs.Costs.{ShapeView, RisesBy, RisesAtMost, known_bound, search_cost, track_cost, track_in_bound}
+use Rattle.legs.specs.Costs.{ShapeView, RisesBy, RisesAtMost, known_bound, reaches, search_cost, track_cost, track_in_bound}
 use Rattle.predicates.specs.Near.{box_near}
 use Rattle.legs.specs.Tracks.{IsOver}
-use Rattle.legs.specs.Index.{HasRisen}
+use Rattle.legs.specs.Index.{HasRisen, legs_of}
 use Rattle.legs.specs.Asking.{IsLater as IsLaterIndex, Leaves as IndexLeaves}
 use Rattle.legs.specs.declared.listed.Listed.{Ghosts}
 use Rattle.mfcsv.specs.FileText.{file_of_bytes}
@@ -221,10 +221,15 @@ abbrev pub track_asks : Option ℕ → Option ShapeView → List LegView → ℕ
 track_asks (Some feature) plan legs = track_cost feature plan legs
 track_asks None plan legs = 0
 
+-- the leaves of a feature that are asked for at most: none where all its legs end before the period
+abbrev pub feature_bound : ℕ → PeriodView → Option ShapeView → List LegView → ℕ
+feature_bound feature period plan legs =
+    if reaches period (legs_of feature legs) then track_in_bound feature period plan legs else 0
+
 -- the sum of the bounds over features
 abbrev pub features_bound : List ℕ → PeriodView → Option ShapeView → List LegView → ℕ
 features_bound features period plan legs =
-    sum_by (λ bound. bound) (map (λ feature. track_in_bound feature period plan legs) features)
+    sum_by (λ bound. bound) (map (λ feature. feature_bound feature period plan legs) features)
 
 -- the leaves of features that meet the period
 abbrev pub known_features_bound : List ℕ → PeriodView → Option ShapeView → List LegView → ℕ

@@ -52,7 +52,7 @@ impl<I: Start> Core<I> {
     ghost use Rattle.legs.specs.Sieves.{IsSieved};
     ghost use Rattle.trajdb.specs.Database.{IsSound};
     ghost use Rattle.trajdb.specs.Telling.{ArePickedOf, AreSievedLive, AreToldOf, DeniesFile, DeniesLegs, DeniesSome, DeniesTrack, HoldsLive, IsToldFeatures, IsToldFile, IsToldLegs, IsToldPicks, IsToldTrack, Names, PicksLive};
-    ghost use Rattle.trajdb.specs.Calls.{IsText, IsRefused, LeavesBook, Asks, AsksAtMost, KnowsEach, KnowsOf, KnowsTrack, features_bound, known_features_bound, track_asks, write_asks};
+    ghost use Rattle.trajdb.specs.Calls.{IsText, IsRefused, LeavesBook, Asks, AsksAtMost, KnowsEach, KnowsOf, KnowsTrack, feature_bound, features_bound, known_features_bound, track_asks, write_asks};
 
     /// How legs are written.
     fn frame(&self) -> Frame
@@ -191,8 +191,8 @@ impl<I: Start> Core<I> {
             sieve.now period.now feature legs.items) }
         ensures named { IfErr result (Names I.Listed self.old
             (λ page. I.denies self.old.index (OfFeature feature (Some period.now)) page)) }
-        ensures asks { OnOk result (AsksAtMost I.Listed self.old self.new
-            (track_in_bound feature period.now)) }
+        ensures asks { OnOk result (feature < length self.old.book.names
+            → AsksAtMost I.Listed self.old self.new (feature_bound feature period.now)) }
         ensures asks_known { OnOk result (KnowsOf I.Listed self.old period.now feature
             → AsksAtMost I.Listed self.old self.new (known_bound feature period.now)) }
         ensures learns { OnOk result (KnowsOf I.Listed self.new period.now feature) }
@@ -222,8 +222,8 @@ impl<I: Start> Core<I> {
             rect.now period.now feature (IsTrue yes)) }
         ensures named { IfErr result (Names I.Listed self.old
             (λ page. I.denies self.old.index (OfFeature feature (Some period.now)) page)) }
-        ensures asks { OnOk result (AsksAtMost I.Listed self.old self.new
-            (track_in_bound feature period.now)) }
+        ensures asks { OnOk result (feature < length self.old.book.names
+            → AsksAtMost I.Listed self.old self.new (feature_bound feature period.now)) }
         ensures asks_known { OnOk result (KnowsOf I.Listed self.old period.now feature
             → AsksAtMost I.Listed self.old self.new (known_bound feature period.now)) }
         ensures learns { OnOk result (KnowsOf I.Listed self.new period.now feature) }

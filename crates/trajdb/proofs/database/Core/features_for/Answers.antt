@@ -3,9 +3,9 @@ use Rattle.std.specs.List.{range_with_len}
 use Rattle.legs.specs.Legs.{LegView}
 use Rattle.legs.specs.Book.{Book}
 use Rattle.trajdb.specs.Answers.{HoldsOfFeature}
-use Rattle.legs.specs.Costs.{known_bound, track_in_bound}
+use Rattle.legs.specs.Costs.{known_bound}
 use Rattle.trajdb.proofs.FaultLemmas.{leaves-refl, leaves-trans, bound_more, knows_kept, known_more}
-use Rattle.trajdb.specs.Calls.{KnowsOf}
+use Rattle.trajdb.specs.Calls.{KnowsOf, feature_bound}
 use Rattle.std.proofs.lemmas.Bool.{cases_lt}
 use Rattle.trajdb.proofs.PickLemmas.{IsPicking, picking-start, picking-yes, picking-no, picking-end, range_more, range_none, range_all}
 use Rattle.std.proofs.lemmas.Result.{err_from_is_err_and}
@@ -37,8 +37,14 @@ loop-feature-preserved g c = record {
   leaves = leaves-trans g.I.Listed c.args.self.now c.loop-feature.self c.holds_for.new.self c.loop-feature.invariant.leaves c.in_ok-holds_for.ensures.leaves;
   asks = λ s.
       let so_far = c.loop-feature.invariant.asks s in
-      let now = c.in_ok-holds_for.ensures.asks (c.loop-feature.invariant.leaves.sound s) in
-      let cost = track_in_bound c.loop-feature.feature c.args.period.now in
+      let names = c.args.self.now.book.names in
+      let few : length names ≤ 2147483648 = s.tracks.lawful.few_names in
+      let count = c.feature_count-feature-end.ensures few in
+      let test = c.loop-feature-test.true in
+      let as_many : length c.loop-feature.self.book.names ≡ length names = ap (λ (b : Book). length b.names) c.loop-feature.invariant.leaves.book in
+      let less : c.loop-feature.feature < length c.loop-feature.self.book.names = omega (arith, count, test, as_many) in
+      let now = c.in_ok-holds_for.ensures.asks less (c.loop-feature.invariant.leaves.sound s) in
+      let cost = feature_bound c.loop-feature.feature c.args.period.now in
       let same : cost (g.I.Listed.plan c.loop-feature.self.index) c.loop-feature.self.book.legs ≡ cost (g.I.Listed.plan c.args.self.now.index) c.args.self.now.book.legs = rw (c.loop-feature.invariant.leaves.index.later.plan, c.loop-feature.invariant.leaves.book) refl in
       let more = bound_more c.loop-feature.feature c.args.period.now (g.I.Listed.plan c.args.self.now.index) c.args.self.now.book.legs in
       omega (arith, so_far, now, same, more);
