@@ -1,20 +1,18 @@
-//! A store that knows whether it was written, and whether that was made to last.
+//! A store that knows whether it was written.
 ghost use Rattle.std.specs.Prelude.{◌≡◌};
 
 use crate::progress::Progress;
 use pages::{PageStore, StoreFault};
-use sessions::Lasting;
 use std::io::Eprint;
 use std::rt::Clock;
 
-/// A store over another one that knows whether a page was to be written, and whether all that was is on
-/// the disk, and tells of each page that is read or written.
+/// A store over another one that knows whether a page was to be written, and tells of each page that is
+/// read or written.
 #[derive(Drop)]
 pub(crate) struct Noted<'a, 'b, S, R: Clock + Eprint> {
     store: S,
     progress: &'a Progress<'b, R>,
     is_written: bool,
-    is_lasting: bool,
 }
 
 impl<'a, 'b, S: PageStore, R: Clock + Eprint> Noted<'a, 'b, S, R> {
@@ -26,7 +24,6 @@ impl<'a, 'b, S: PageStore, R: Clock + Eprint> Noted<'a, 'b, S, R> {
             store,
             progress,
             is_written: false,
-            is_lasting: false,
         }
     }
 
@@ -56,26 +53,11 @@ impl<'a, 'b, S: PageStore, R: Clock + Eprint> PageStore for Noted<'a, 'b, S, R> 
 
     fn write(&mut self, number: u32, page: &[u8; 4096]) -> Result<(), StoreFault> {
         self.is_written = true;
-        self.is_lasting = false;
         self.progress.page();
         self.store.write(number, page)
     }
 
     fn sync(&mut self) -> Result<(), StoreFault> {
         self.store.sync()
-    }
-}
-
-impl<'a, 'b, S: PageStore, R: Clock + Eprint> Lasting for Noted<'a, 'b, S, R> {
-    ghost is_lasting = { λ s. s.is_lasting };
-
-    fn make_last(&mut self) -> Result<(), StoreFault> {
-        match self.store.sync() {
-            Ok(()) => {
-                self.is_lasting = true;
-                Ok(())
-            }
-            Err(fault) => Err(fault),
-        }
     }
 }

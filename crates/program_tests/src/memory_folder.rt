@@ -5,7 +5,7 @@ ghost use Rattle.pages.specs.Store.{HasRisen};
 ghost use Rattle.sessions.specs.Folder.{pages_in};
 
 use pages::{PageStore, StoreFault, Unsynced};
-use sessions::{Fault, Folder, Lasting};
+use sessions::{Fault, Folder};
 use std::alloc::{AllocError, Global};
 use std::collections::VecDeque;
 use trajdb::RunFault;
@@ -39,7 +39,6 @@ pub(crate) struct MemCopy {
     faults: u64,
     unsynced: Unsynced,
     calls: Calls,
-    is_lasting: bool,
     ghost within: { vec_len pages < 2 ^ 32 },
 }
 
@@ -91,7 +90,6 @@ impl PageStore for MemCopy {
     }
 
     fn write(&mut self, number: u32, page: &[u8; 4096]) -> Result<(), StoreFault> {
-        self.is_lasting = false;
         self.unsynced = self.unsynced.with_written(number);
         if self.calls.burns() {
             return Err(self.failed());
@@ -113,20 +111,6 @@ impl PageStore for MemCopy {
         }
         self.unsynced = Unsynced::Nothing;
         Ok(())
-    }
-}
-
-impl Lasting for MemCopy {
-    ghost is_lasting = { λ s. s.is_lasting };
-
-    fn make_last(&mut self) -> Result<(), StoreFault> {
-        match self.sync() {
-            Ok(()) => {
-                self.is_lasting = true;
-                Ok(())
-            }
-            Err(fault) => Err(fault),
-        }
     }
 }
 
@@ -215,7 +199,6 @@ impl Folder for MemFolder {
                     faults: 0,
                     unsynced: Unsynced::Others,
                     calls: self.calls,
-                    is_lasting: false,
                 })
             }
             Ok(_) | Err(_) => Err(Fault::Run(RunFault::Memory)),

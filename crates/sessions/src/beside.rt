@@ -8,8 +8,9 @@ ghost use Rattle.sessions.specs.Answers.{SendsFront};
 ghost use Rattle.sessions.specs.Folder.{BeginsWith, NameIsKept, IsKeptOnce, IsReplaced, RunsBeside, store_in};
 
 use crate::fault::Fault;
-use crate::folder::{Folder, Lasting};
+use crate::folder::Folder;
 use crate::session::{answer, database};
+use pages::PageStore;
 use std::alloc::Global;
 use std::hash::RandomState;
 use std::io::Write;
@@ -36,7 +37,7 @@ fn give<'a, F: Folder>(folder: &mut F, mut store: F::Store) -> Result<(), Fault<
     ensures stays { OnErr result (F.held folder.new ≡ F.held folder.old) }
     ensures settled { OnOk result (IsTrue (F.is_settled folder.new)) }
 {
-    if store.make_last().is_err() {
+    if store.sync().is_err() {
         return Err(Fault::Run(RunFault::Store));
     }
     match folder.replace(store) {

@@ -1,22 +1,10 @@
 //! The contract of the folder that a store's file is in.
 ghost use Rattle.std.specs.Prelude.{◌≡◌, Bool, Option, IfOk, IfSome, IsTrue, OnErr, OnOk, false};
-ghost use Rattle.pages.specs.Store.{IsSynced, Stays};
+ghost use Rattle.pages.specs.Store.{IsSynced};
 ghost use Rattle.sessions.specs.Folder.{HasPagesHeld, History, IsReplaced, store_in};
 
 use crate::fault::Fault;
-use pages::{PageStore, StoreFault};
-
-/// A store of which it is known whether all that was written to it is on the disk.
-pub trait Lasting: PageStore {
-    /// Whether all that was written is on the disk, as far as is known.
-    ghost is_lasting: { Self → Bool };
-
-    /// Makes what was written last, as on a disk. Where that fails, it may last or not.
-    fn make_last(&mut self) -> Result<(), StoreFault>
-        ensures made { OnOk result (IsTrue (is_lasting self.new)) }
-        ensures synced { OnOk result (IsSynced (Self.seen self.new)) }
-        ensures stays { Stays (Self.seen self.old) (Self.seen self.new) };
-}
+use pages::PageStore;
 
 /// The folder of a store's file: what is done beside that file, and to its name.
 ///
@@ -24,7 +12,7 @@ pub trait Lasting: PageStore {
 /// exactly. A folder of the system tells nothing.
 pub trait Folder {
     /// The store of a copy beside the store's file.
-    type Store: Lasting + Drop;
+    type Store: PageStore + Drop;
 
     /// What the store's name stood for at each moment so far, the last one first, where the folder
     /// tells it.
@@ -47,10 +35,10 @@ pub trait Folder {
         ensures { result ≡ false
             → HasPagesHeld (Self.Store.PageStore.seen store.now) (held self.now) };
 
-    /// Gives the store's name to the copy, in one step. All that was written to it is on the disk.
+    /// Gives the store's name to the copy, in one step. All that was written to it is synced.
     /// Where it is refused, the name stands for what it stood for.
     fn replace<'a>(&mut self, store: Self::Store) -> Result<(), Fault<'a>>
-        requires { IsTrue (Self.Store.is_lasting store) }
+        requires { IsSynced (Self.Store.PageStore.seen store) }
         ensures replaced { OnOk result (IsReplaced (Self.Store.PageStore.seen store)
             (held self.old) (held self.new)) }
         ensures stays { OnErr result (held self.new ≡ held self.old) };

@@ -21,7 +21,7 @@ pub use beside::{Opening, run_on_copy};
 pub use cause::Cause;
 pub use checking::check_and_close;
 pub use fault::Fault;
-pub use folder::{Folder, Lasting};
+pub use folder::Folder;
 pub use migrating::migrate_and_close;
 pub use part::send_part;
 pub use part_files::{PartFolder, put_parts};
