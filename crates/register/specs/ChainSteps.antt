@@ -8,6 +8,7 @@ use Rattle.tbtree.specs.Nodes.{pages_of_cache}
 use Rattle.tbtree.specs.Passes.{Passes, KeepsLength}
 use Rattle.register.specs.ChainWriter.{Holds, IsOwn, WriterView}
 use Rattle.register.specs.Earlier.{AreLinked}
+use Rattle.register.specs.Saved.{SparesTree}
 
 -- the number of a page above page 0, in four bytes
 pub record IsNumber (page : ℕ) : Type 0 where
