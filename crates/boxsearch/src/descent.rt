@@ -5,7 +5,7 @@ ghost use Rattle.legs.specs.Costs.{RisesBy, search_cost};
 ghost use Rattle.legs.specs.Hull.{leg_boxes};
 ghost use Rattle.legs.specs.Index.{legs_in_box};
 ghost use Rattle.legs.specs.Legs.{LegView};
-ghost use Rattle.chains.specs.Reads.{OnlyReads};
+ghost use Rattle.chains.specs.Reads.{OnlyReads, Reads};
 ghost use Rattle.tbtree.specs.Descent.{children_met, hits, legs_met, met_count, HasInner, IsInOrder};
 ghost use Rattle.tbtree.specs.Faults.{GivesRead, IfNamed, MayRefuseRead, RefusesRead};
 ghost use Rattle.tbtree.specs.Insert.{Stands};
@@ -43,8 +43,7 @@ fn next_level<S: PageStore>(
     ensures named { IsTrue cache.old.store.is_faithful
         → IfErr result (IfNamed (λ n. (i : ℕ) × (slice_get pages.now i ≡ Some n)
         × (HasInner (pages_of_cache cache.old) n level → ⊥))) }
-    ensures reads { OnlyReads cache.old cache.new }
-    ensures caused { IfErr result (RefusesRead cache.old cache.new) }
+    ensures reads { Reads cache.old cache.new result }
     ensures asked { OnOk result (RisesBy cache.old.asked cache.new.asked (length pages.now)) }
     ensures most { cache.new.asked ≤ cache.old.asked + length pages.now }
 {
@@ -73,8 +72,7 @@ fn legs_in<S: PageStore>(
     ensures named { IsTrue cache.old.store.is_faithful
         → IfErr result (IfNamed (λ n. (i : ℕ) × (slice_get pages.now i ≡ Some n)
         × (HasLeaf (pages_of_cache cache.old) n → ⊥))) }
-    ensures reads { OnlyReads cache.old cache.new }
-    ensures caused { IfErr result (RefusesRead cache.old cache.new) }
+    ensures reads { Reads cache.old cache.new result }
     ensures asked { OnOk result (RisesBy cache.old.asked cache.new.asked (length pages.now)) }
     ensures most { cache.new.asked ≤ cache.old.asked + length pages.now }
 {
@@ -120,8 +118,7 @@ fn collected<S: PageStore>(
     ensures named { IsTrue cache.old.store.is_faithful
         → IfErr result (IfNamed (IsOffWay query.now (pages_of_cache cache.old) tree.now.root
         tree.now.levels)) }
-    ensures reads { OnlyReads cache.old cache.new }
-    ensures caused { IfErr result (RefusesRead cache.old cache.new) }
+    ensures reads { Reads cache.old cache.new result }
     ensures asked { IsTrue cache.old.store.is_faithful
         → OnOk result (RisesBy cache.old.asked cache.new.asked
         (met_count (meets query.now) (pages_of_cache cache.old) tree.now.root tree.now.levels)) }

@@ -5,7 +5,7 @@ ghost use Rattle.legs.specs.Hull.{leg_boxes};
 ghost use Rattle.legs.specs.Legs.{LegView};
 ghost use Rattle.pagecache.specs.Cache.{Cache, AsksOnce};
 ghost use Rattle.tbnode.specs.Form.{node_of};
-ghost use Rattle.chains.specs.Reads.{OnlyReads};
+ghost use Rattle.chains.specs.Reads.{Reads};
 ghost use Rattle.tbtree.specs.Descent.{children_met, entries_in, hits, legs_in, HasInner};
 ghost use Rattle.tbtree.specs.Faults.{IfNamed, MayRefuseRead, RefusesRead};
 ghost use Rattle.tbtree.specs.Nodes.{pages_of_cache, AnInner, ALeaf, InnerView, LeafView, HasLeaf};
@@ -120,8 +120,7 @@ pub(crate) fn push_children<S: PageStore>(
     ensures named { IsTrue cache.old.store.is_faithful
         → IfErr result (IfNamed (λ n. (n ≡ page)
         × (HasInner (pages_of_cache cache.old) page level → ⊥))) }
-    ensures reads { OnlyReads cache.old cache.new }
-    ensures caused { IfErr result (RefusesRead cache.old cache.new) }
+    ensures reads { Reads cache.old cache.new result }
     ensures asked { OnOk result (AsksOnce cache.old cache.new) }
     ensures most { cache.new.asked ≤ cache.old.asked + 1 }
 {
@@ -152,8 +151,7 @@ pub(crate) fn push_legs<S: PageStore>(
     ensures named { IsTrue cache.old.store.is_faithful
         → IfErr result (IfNamed (λ n. (n ≡ page)
         × (HasLeaf (pages_of_cache cache.old) page → ⊥))) }
-    ensures reads { OnlyReads cache.old cache.new }
-    ensures caused { IfErr result (RefusesRead cache.old cache.new) }
+    ensures reads { Reads cache.old cache.new result }
     ensures asked { OnOk result (AsksOnce cache.old cache.new) }
     ensures most { cache.new.asked ≤ cache.old.asked + 1 }
 {

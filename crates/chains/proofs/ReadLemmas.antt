@@ -1,5 +1,5 @@
 -- One call after another.
-use Rattle.std.proofs.Common.{◌∙◌, refl, sym, arith, inl}
+use Rattle.std.proofs.Common.{◌∙◌, refl, sym, arith, inl, Result, Ok, Err}
 use Rattle.std.proofs.lemmas.Int.{clamps}
 use Rattle.pagecache.proofs.CallerLemmas.{unsyncs-trans}
 use Rattle.pagecache.specs.Cache.{Cache}
@@ -8,7 +8,7 @@ use Rattle.pagecache.specs.declared.fault.CacheFault.TheVariants as cache
 use Rattle.tbtree.specs.Faults.{RefusesRead, RefusesReadInCache}
 use Rattle.tbtree.specs.declared.fault.TreeFault.{TreeFault}
 use Rattle.tbtree.specs.declared.fault.TreeFault.TheVariants.{Cache as OfCache, Malformed, Spent}
-use Rattle.chains.specs.Reads.{OnlyReads}
+use Rattle.chains.specs.Reads.{OnlyReads, Reads}
 
 pub reads_refl : (a : Cache) → OnlyReads a a
 reads_refl a = record {
@@ -56,6 +56,14 @@ pub caused_after : (a b c : Cache) (e : TreeFault) → OnlyReads a b → Refuses
 caused_after a b c (OfCache e) p h = caused_in_cache a b c e p h
 caused_after a b c (Malformed n) p h = tt
 caused_after a b c Spent p h = h
+
+-- no call, and one after another
+pub reads_none : {T : Type 0} (a : Cache) (x : T) → Reads a a (Ok x)
+reads_none a x = record { only = reads_refl a; caused = tt }
+
+pub reads_then : {T : Type 0} (a b c : Cache) (r : Result T TreeFault) → OnlyReads a b → Reads b c r → Reads a c r
+reads_then a b c (Ok y) p q = record { only = reads_trans a b c p q.only; caused = tt }
+reads_then a b c (Err e) p q = record { only = reads_trans a b c p q.only; caused = caused_after a b c e p q.caused }
 
 -- what a call after another may cite
 pub ruleset reading = (reads_trans, reads_refl, caused_after)

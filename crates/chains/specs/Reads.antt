@@ -1,7 +1,9 @@
 -- What a retrieval leaves of the cache, answered or not, over any pages; of payloads, over a faithful store.
-use Rattle.std.specs.Prelude.{ℕ, ◌≡◌, ◌≤◌, ◌<◌, ◌-◌, ◌^◌, min, false, IsTrue}
+use Rattle.std.specs.Prelude.{ℕ, ◌≡◌, ◌≤◌, ◌<◌, ◌-◌, ◌^◌, min, false, IsTrue, IfErr, Result}
 use Rattle.pages.specs.Store as store
 use Rattle.pagecache.specs.Cache.{Cache, payload_of, page_of, is_changed, UnsyncsNone, WritesNone}
+use Rattle.tbtree.specs.Faults.{RefusesRead}
+use Rattle.tbtree.specs.declared.fault.TreeFault.{TreeFault}
 
 -- no page has another payload, none more is marked as changed, and none that was not is written or unsynced
 pub record OnlyReads (old new : Cache) : Type 0 where
@@ -16,3 +18,10 @@ pub record OnlyReads (old new : Cache) : Type 0 where
       → page_of new n ≡ page_of old n
   pub unwritten : WritesNone old new
   pub unsynced : UnsyncsNone old new
+
+-- what a call that only reads pages of the tree leaves of the cache, and why it is refused
+pub record Reads {T : Type 0} (old new : Cache) (result : Result T TreeFault) : Type 0 where
+  -- answered or not: no page changes
+  pub only : OnlyReads old new
+  -- refused: what the fault says is so
+  pub caused : IfErr result (RefusesRead old new)

@@ -8,7 +8,7 @@ ghost use Rattle.tbnode.specs.Form.{OfLeaf};
 ghost use Rattle.tbtree.specs.Faults.{IsNamed, RefusesRead};
 ghost use Rattle.tbtree.specs.Nodes.{pages_of_cache, LeafView, ALeaf};
 ghost use Rattle.chains.specs.Links.{fits, is_end};
-ghost use Rattle.chains.specs.Reads.{OnlyReads};
+ghost use Rattle.chains.specs.Reads.{Reads};
 ghost use Rattle.chains.specs.Taking.{TakesLeaf, IsNodeFault, fault_at};
 
 use crate::kept::{Want, take_of};
@@ -93,8 +93,7 @@ pub(crate) fn take_again<S: PageStore>(
         → (pages_of_cache cache.old).at link.now.page ≡ Some (Some (ALeaf leaf))
         → IfErr result (IsNamed (pages_of_cache cache.old)
         (fault_at (pages_of_cache cache.old) link.now spot.now)) }
-    ensures reads { OnlyReads cache.old cache.new }
-    ensures caused { IfErr result (RefusesRead cache.old cache.new) }
+    ensures reads { Reads cache.old cache.new result }
     ensures asked { OnOk result (AsksOnce cache.old cache.new) }
     ensures most { cache.new.asked ≤ cache.old.asked + 1 }
 {

@@ -6,7 +6,7 @@ ghost use Rattle.tbnode.specs.Form.{node_of};
 ghost use Rattle.tbtree.specs.Faults.{IsNamed, RefusesRead};
 ghost use Rattle.tbtree.specs.Nodes.{pages_of_cache};
 ghost use Rattle.chains.specs.Links.{spot_of, is_placed, head_fits, fits, fits_node, is_end};
-ghost use Rattle.chains.specs.Reads.{OnlyReads};
+ghost use Rattle.chains.specs.Reads.{Reads};
 ghost use Rattle.chains.specs.Spans.{IsFront};
 ghost use Rattle.chains.specs.Taking.{TakesNode, TakesPage, IsNodeFault, fault_at};
 
@@ -159,8 +159,7 @@ pub(crate) fn take<S: PageStore>(
     ensures named { IsTrue cache.old.store.is_faithful
         → IfErr result (IsNamed (pages_of_cache cache.old)
         (fault_at (pages_of_cache cache.old) link.now spot.now)) }
-    ensures reads { OnlyReads cache.old cache.new }
-    ensures caused { IfErr result (RefusesRead cache.old cache.new) }
+    ensures reads { Reads cache.old cache.new result }
     ensures asked { OnOk result (AsksOnce cache.old cache.new) }
     ensures most { cache.new.asked ≤ cache.old.asked + 1 }
 {

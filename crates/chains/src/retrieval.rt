@@ -7,13 +7,13 @@ ghost use Rattle.legs.specs.Index.{legs_of, live_legs_of};
 ghost use Rattle.legs.specs.Legs.{LegView};
 ghost use Rattle.legs.specs.Sieves.{IsSieved};
 ghost use Rattle.pagecache.specs.Cache.{Cache};
-ghost use Rattle.tbtree.specs.Faults.{GivesRead, IsNamed, MayRefuseHeld, MayRefuseRead, RefusesRead};
+ghost use Rattle.tbtree.specs.Faults.{GivesRead, IsNamed, MayRefuseHeld, MayRefuseRead};
 ghost use Rattle.tbtree.specs.Nodes.{Pages, pages_of_cache};
 ghost use Rattle.tbtree.specs.Shape.{IsShape};
 ghost use Rattle.tbtree.specs.declared.tree.Place.{Place};
 ghost use Rattle.timebase.specs.Period.{PeriodView};
 ghost use Rattle.chains.specs.Chains.{AreHeld, IsPlaceChain, chain_fault, chain_legs, chain_cost, is_stray};
-ghost use Rattle.chains.specs.Reads.{OnlyReads};
+ghost use Rattle.chains.specs.Reads.{OnlyReads, Reads};
 ghost use Rattle.chains.specs.Keeping.{HasTaken};
 ghost use Rattle.chains.specs.Links.{spot_of};
 ghost use Rattle.chains.specs.Spans.{AreSpans, AsksAs, IsFront, IsKnown, IsKnownBackTo, known_cost, may_meet, pass_at};
@@ -77,8 +77,7 @@ fn step<S: PageStore>(
     ensures named { IsTrue cache.old.store.is_faithful
         → IfErr result (IsNamed (pages_of_cache cache.old) (fault_at (pages_of_cache cache.old)
         at.now.link (spot_of most place.now.legs place.now.first at.now.left))) }
-    ensures reads { OnlyReads cache.old cache.new }
-    ensures caused { IfErr result (RefusesRead cache.old cache.new) }
+    ensures reads { Reads cache.old cache.new result }
     ensures asked { IfOk result (λ back. AsksAs (pass_at
         (slice_get spans.old.items at.now.passed)
         (slice_get spans.old.items (suc at.now.passed)) at.now.left want.now.period)
@@ -123,8 +122,7 @@ fn walk_back<S: PageStore>(
     ensures named { IsTrue cache.old.store.is_faithful
         → IfErr result (IsNamed (pages_of_cache cache.old)
         (chain_fault (pages_of_cache cache.old) want.now.period shape.now place.now)) }
-    ensures reads { OnlyReads cache.old cache.new }
-    ensures caused { IfErr result (RefusesRead cache.old cache.new) }
+    ensures reads { Reads cache.old cache.new result }
     ensures asked { IsTrue cache.old.store.is_faithful
         → OnOk result (RisesBy cache.old.asked cache.new.asked
         (known_cost (pages_of_cache cache.old) want.now.period shape.now place.now
@@ -233,8 +231,7 @@ pub fn trajectory<S: PageStore>(
         spans.new.items) }
 
     // Over any store; what is said of payloads, over a faithful one.
-    ensures reads { OnlyReads cache.old cache.new }
-    ensures caused { IfErr result (RefusesRead cache.old cache.new) }
+    ensures reads { Reads cache.old cache.new result }
     ensures most { cache.new.asked
         ≤ cache.old.asked + div_ceil place.now.legs shape.now.leaf }
 {
@@ -332,8 +329,7 @@ pub fn trajectory_in<S: PageStore>(
         spans.new.items) }
 
     // Over any store; what is said of payloads, over a faithful one.
-    ensures reads { OnlyReads cache.old cache.new }
-    ensures caused { IfErr result (RefusesRead cache.old cache.new) }
+    ensures reads { Reads cache.old cache.new result }
     ensures most { cache.new.asked
         ≤ cache.old.asked + div_ceil place.now.legs shape.now.leaf }
 {

@@ -4,10 +4,10 @@ ghost use Rattle.std.specs.List.{All};
 ghost use Rattle.std.specs.List.Sorted.{IsPermutation, IsNonDecreasingBy};
 ghost use Rattle.pagecache.specs.Cache.{payload_of, Cache};
 ghost use Rattle.chains.specs.Chains.{AreHeld};
-ghost use Rattle.chains.specs.Reads.{OnlyReads};
+ghost use Rattle.chains.specs.Reads.{OnlyReads, Reads};
 ghost use Rattle.legs.specs.declared.tracks.Track.{Track};
 ghost use Rattle.treecheck.specs.Check.{first_on, AreChains, IsChecked};
-ghost use Rattle.tbtree.specs.Faults.{MayRefuseRead, NamesEach, RefusesRead};
+ghost use Rattle.tbtree.specs.Faults.{MayRefuseRead, NamesEach};
 ghost use Rattle.tbtree.specs.Turn.{IsRising};
 ghost use Rattle.tbtree.specs.Nodes.{pages_of_cache};
 ghost use Rattle.tbtree.specs.Shape.{IsShape};
@@ -46,8 +46,7 @@ fn read_page<S: PageStore>(cache: &mut PageCache<S>, page: u32) -> Result<(), Tr
         → IfErr result MayRefuseRead }
     ensures named { IsTrue cache.old.store.is_faithful
         → IfErr result (NamesEach (λ n. (n ≡ page) × (payload_of cache.old n ≡ None)) (λ _. ⊥)) }
-    ensures reads { OnlyReads cache.old cache.new }
-    ensures caused { IfErr result (RefusesRead cache.old cache.new) }
+    ensures reads { Reads cache.old cache.new result }
 {
     match cache.page(page) {
         Ok(_) => Ok(()),
@@ -68,8 +67,7 @@ fn read_pages<S: PageStore>(cache: &mut PageCache<S>) -> Result<(), TreeFault>
         → cache.old.count ≡ cache.old.store.count → IfErr result MayRefuseRead }
     ensures named { IsTrue cache.old.store.is_faithful
         → IfErr result (NamesEach (IsFirstDamaged cache.old) (IsMiscounted cache.old)) }
-    ensures reads { OnlyReads cache.old cache.new }
-    ensures caused { IfErr result (RefusesRead cache.old cache.new) }
+    ensures reads { Reads cache.old cache.new result }
 {
     let count = cache.count();
     for page in 0..count {
@@ -90,8 +88,7 @@ fn check_state<S: PageStore>(cache: &mut PageCache<S>, begun: bool) -> Result<()
         → 0 < cache.old.count → IfErr result MayRefuseRead }
     ensures named { IsTrue cache.old.store.is_faithful → payload_of cache.old 0 ≢ None
         → IfErr result (NamesEach (λ _. ⊥) (λ n. n ≡ 0)) }
-    ensures reads { OnlyReads cache.old cache.new }
-    ensures caused { IfErr result (RefusesRead cache.old cache.new) }
+    ensures reads { Reads cache.old cache.new result }
 {
     let payload = match cache.page(0) {
         Ok(payload) => payload,
@@ -172,8 +169,7 @@ pub fn check_pages<S: PageStore>(
     ensures named { IsTrue cache.old.store.is_faithful
         → IfErr result (NamesEach (IsFirstDamaged cache.old)
         (IsFirstMalformed begun tree.now rows legs places.now tracks.now cache.old)) }
-    ensures reads { OnlyReads cache.old cache.new }
-    ensures caused { IfErr result (RefusesRead cache.old cache.new) }
+    ensures reads { Reads cache.old cache.new result }
 {
     tbtree::laws();
     let most = u64::from(tree.shape.leaf());
@@ -225,8 +221,7 @@ fn check_index<S: PageStore>(
         (IsFirstMalformed begun index.old.tree rows index.old.legs places.now tracks.now
         index.old.cache)) }
     ensures same { index.new ≡ with_cache index.old index.new.cache index.new.known }
-    ensures reads { OnlyReads index.old.cache index.new.cache }
-    ensures caused { IfErr result (RefusesRead index.old.cache index.new.cache) }
+    ensures reads { Reads index.old.cache index.new.cache result }
 {
     let tree = index.tree();
     let legs = index.leg_count();

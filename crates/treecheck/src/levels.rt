@@ -4,7 +4,7 @@ ghost use Rattle.std.specs.List.{flat_map};
 ghost use Rattle.legs.specs.Blocks.{block, groups};
 ghost use Rattle.legs.specs.Boxes.{BoxView};
 ghost use Rattle.tbnode.specs.Form.{node_of};
-ghost use Rattle.chains.specs.Reads.{OnlyReads};
+ghost use Rattle.chains.specs.Reads.{Reads};
 ghost use Rattle.treecheck.specs.Check.{IsTreeOver};
 ghost use Rattle.tbtree.specs.Descent.{entries_in};
 ghost use Rattle.tbtree.specs.Faults.{IfMalformed, MayRefuseRead, RefusesRead};
@@ -160,8 +160,7 @@ fn take_page<S: PageStore>(
     ensures stops { IsTrue cache.old.store.is_faithful
         → IfErr result (IfMalformed (λ n. (n ≡ page)
         × (StandsAbove (pages_of_cache cache.old) level width leaves.now page → ⊥))) }
-    ensures reads { OnlyReads cache.old cache.new }
-    ensures caused { IfErr result (RefusesRead cache.old cache.new) }
+    ensures reads { Reads cache.old cache.new result }
 {
     if page == 0 {
         return Err(TreeFault::Malformed(page));
@@ -198,8 +197,7 @@ fn level_below<S: PageStore>(
     ensures stops { IsTrue cache.old.store.is_faithful
         → IfErr result (IfMalformed (IsFirstWithout
         (IsInBlock (pages_of_cache cache.old) level width span leaves.now) pages.now)) }
-    ensures reads { OnlyReads cache.old cache.new }
-    ensures caused { IfErr result (RefusesRead cache.old cache.new) }
+    ensures reads { Reads cache.old cache.new result }
 {
     let mut below = Vec::new(alloc);
     for i in 0..pages.len() {
@@ -232,8 +230,7 @@ fn check_levels<S: PageStore>(
         → IfErr result (IfMalformed (IsHighestWithout
         (IsInLevel (pages_of_cache cache.old) inner leaves.now)
         (named_below (pages_of_cache cache.old) root) height)) }
-    ensures reads { OnlyReads cache.old cache.new }
-    ensures caused { IfErr result (RefusesRead cache.old cache.new) }
+    ensures reads { Reads cache.old cache.new result }
 {
     let mut pages = Vec::new(alloc);
     pages.push(root)?;
@@ -297,8 +294,7 @@ pub fn check_tree<S: PageStore>(
         → All (λ m. IsMet ((pages_of_cache cache.old).at m.page) m) leaves.now
         → IfErr result (IfMalformed (DescentStopsAt (pages_of_cache cache.old) tree.now
         (pages_of_leaves leaves.now))) }
-    ensures reads { OnlyReads cache.old cache.new }
-    ensures caused { IfErr result (RefusesRead cache.old cache.new) }
+    ensures reads { Reads cache.old cache.new result }
 {
     if leaves.len() as u64 != u64::from(tree.leaves) {
         return Err(TreeFault::Malformed(0));

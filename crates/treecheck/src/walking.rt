@@ -4,11 +4,11 @@ ghost use Rattle.legs.specs.Boxes.{BoxView};
 ghost use Rattle.legs.specs.Legs.{LegView};
 ghost use Rattle.pagecache.specs.Cache.{Cache};
 ghost use Rattle.tbnode.specs.Form.{node_of};
-ghost use Rattle.chains.specs.Reads.{OnlyReads};
+ghost use Rattle.chains.specs.Reads.{Reads};
 ghost use Rattle.treecheck.specs.Check.{legs_on, IsLeafOf, AreLeavesOf, AreChains};
 ghost use Rattle.tbtree.specs.Turn.{last_leg, first_ordinal, ComesAfter, ComeInTurn};
 ghost use Rattle.tbtree.specs.Descent.{legs_in};
-ghost use Rattle.tbtree.specs.Faults.{IfMalformed, MayRefuseRead, RefusesRead};
+ghost use Rattle.tbtree.specs.Faults.{IfMalformed, MayRefuseRead};
 ghost use Rattle.tbtree.specs.Nodes.{LeafView, ALeaf};
 ghost use Rattle.treecheck.specs.Stopping.{AllStopAt, WalkStopsAt};
 ghost use Rattle.treecheck.specs.Walking.{after, pages_by, IsAtEnd, IsNextNode, Notes, Strays, Surveys, TakesLeaf, Walks};
@@ -186,9 +186,9 @@ pub trait LeafReader {
     ghost use Rattle.pages.specs.declared.payload.Payload.{Payload};
     ghost use Rattle.pagecache.specs.Cache.{Cache};
     ghost use Rattle.tbnode.specs.Nodes.{Node};
-    ghost use Rattle.chains.specs.Reads.{OnlyReads};
+    ghost use Rattle.chains.specs.Reads.{Reads};
     ghost use Rattle.treecheck.specs.Check.{IsLeafOf};
-    ghost use Rattle.tbtree.specs.Faults.{IfMalformed, MayRefuseRead, RefusesRead};
+    ghost use Rattle.tbtree.specs.Faults.{IfMalformed, MayRefuseRead};
     ghost use Rattle.tbtree.specs.Turn.{ComeInTurn};
     ghost use Rattle.tbtree.specs.Descent.{legs_in};
     ghost use Rattle.treecheck.specs.Walking.{pages_by, Strays, TakesLeaf};
@@ -224,8 +224,7 @@ pub trait LeafReader {
         ensures strays { IsTrue (seen source.old).store.is_faithful
             → IfErr result (IfMalformed (Strays (pages_by node (seen source.old)) most rows
             walk.old)) }
-        ensures reads { OnlyReads (seen source.old) (seen source.new) }
-        ensures caused { IfErr result (RefusesRead (seen source.old) (seen source.new)) };
+        ensures reads { Reads (seen source.old) (seen source.new) result };
 }
 
 /// Leaves of the present version, which are read from a cache.
@@ -309,8 +308,7 @@ pub fn walk_chain<R: LeafReader>(
         → IfErr result
         (IfMalformed (WalkStopsAt (pages_by R.node (R.seen source.old)) most rows feature
         place.now track.now)) }
-    ensures reads { OnlyReads (R.seen source.old) (R.seen source.new) }
-    ensures caused { IfErr result (RefusesRead (R.seen source.old) (R.seen source.new)) }
+    ensures reads { Reads (R.seen source.old) (R.seen source.new) result }
 {
     let mut walk = Walk {
         feature,
@@ -367,8 +365,7 @@ pub fn walk_all<R: LeafReader>(
     ensures stops { IsTrue (R.seen source.old).store.is_faithful
         → IfErr result (IfMalformed (AllStopAt (pages_by R.node (R.seen source.old)) most rows
         places.now tracks.now.tracks)) }
-    ensures reads { OnlyReads (R.seen source.old) (R.seen source.new) }
-    ensures caused { IfErr result (RefusesRead (R.seen source.old) (R.seen source.new)) }
+    ensures reads { Reads (R.seen source.old) (R.seen source.new) result }
 {
     let mut survey = Survey {
         ordinals: Vec::new(alloc),

@@ -12,7 +12,7 @@ ghost use Rattle.tbtree.specs.Faults.{IfMalformed, MayRefuseRead, RefusesRead};
 ghost use Rattle.tbtree.specs.Turn.{ComeInTurn, IsRising};
 ghost use Rattle.tbtree.specs.Descent.{legs_in};
 ghost use Rattle.treecheck.specs.Checking.{Agree};
-ghost use Rattle.chains.specs.Reads.{OnlyReads};
+ghost use Rattle.chains.specs.Reads.{Reads};
 ghost use Rattle.version1.specs.OldLegs.{pages_of_old, unsealing, AreAmong, AreOpened, AreReadable, AreSurveyed, HaveEachOf, HaveLegsOf, IsNumbered, IsReadable, Opens, StandByOrdinal};
 ghost use Rattle.treecheck.specs.Walking.{after, pages_by, IsNextNode, Notes};
 ghost use Rattle.treecheck.specs.declared.walking.Met.{Met};
@@ -160,9 +160,7 @@ fn survey_leaves<S: PageStore>(
         → Agree tracks.now rows tracks.now.legs → (legs : List LegView)
         → HoldChains (pages_by old_node_of (fresh (S.seen store.old) 1)) most rows tracks.now.legs
         places.now tracks.now.tracks legs → MayRefuseRead fault) }
-    ensures reads { OnlyReads (fresh (S.seen store.old) 1) (fresh (S.seen store.new) 1) }
-    ensures caused { IfErr result
-        (RefusesRead (fresh (S.seen store.old) 1) (fresh (S.seen store.new) 1)) }
+    ensures reads { Reads (fresh (S.seen store.old) 1) (fresh (S.seen store.new) 1) result }
 {
     let legs = tracks.leg_count();
     let mut survey = walk_all::<Lent<S>>(alloc, store, most, rows, places, tracks)?;

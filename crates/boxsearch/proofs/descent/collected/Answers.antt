@@ -4,9 +4,9 @@ use Rattle.tbtree.specs.Descent.{pages_met, met_count, HasInner}
 use Rattle.tbtree.specs.Nodes.{pages_of_cache, HasLeaf}
 use Rattle.boxsearch.specs.Way.{meets, IsOffWay}
 use Rattle.boxsearch.proofs.FoundLemmas.{if_ok, if_err, on_ok}
-use Rattle.chains.proofs.ReadLemmas.{reads_trans}
+use Rattle.chains.proofs.ReadLemmas.{caused_after, reads_then, reads_trans}
 use Rattle.tbtree.proofs.FaultLemmas.{named_then}
-use Rattle.boxsearch.proofs.WayLemmas.{root_alone, level_down, level_legs, counted, few_on_way, many_off_way, inners_on_way, inner_off_way, leaves_on_way, leaf_off_way, inners_fit, leaves_fit, fits_more, way_whole, malformed_is}
+use Rattle.boxsearch.proofs.WayLemmas.{malformed_caused, root_alone, level_down, level_legs, counted, few_on_way, many_off_way, inners_on_way, inner_off_way, leaves_on_way, leaf_off_way, inners_fit, leaves_fit, fits_more, way_whole, malformed_is}
 use Rattle.boxsearch.proofs.descent.collected.Goals as goal
 
 pub loop-level-preserved : goal.loop-level-preserved
@@ -27,7 +27,7 @@ loop-level-preserved g c =
     let one : length now ≡ length c.loop-level.pages.items = ap (λ (l : List ℕ). length l) c.deref-in-loop-level.ensures.value in
     let other : length below ≡ length c.in_ok-pages.pages.items = ap (λ (l : List ℕ). length l) c.deref-in-loop-level-2.ensures.value in
     record {
-      reads = reads_trans old c.loop-level.cache c.next_level.new.cache inv.reads c.next_level.ensures.reads;
+      reads = reads_trans old c.loop-level.cache c.next_level.new.cache inv.reads c.next_level.ensures.reads.only;
       found = λ fa.
           level_down old c.loop-level.cache inv.reads fa query root n (level + 1 - 1) now c.in_ok-pages.pages.items up (c.deref-in-loop-level.ensures.value ∙ inv.found fa)
           (c.in_ok-pages.ensures.found (inv.reads.store.faithful ∙ fa));
@@ -219,10 +219,23 @@ returns-clause-asked g c = λ fa.
     c.legs_in.ensures.asked
 
 pub returns-in_err-pages-clause-reads : goal.returns-in_err-pages-clause-reads
-returns-in_err-pages-clause-reads g c = reads_trans c.args.cache.now c.loop-level.cache c.next_level.new.cache c.loop-level.invariant.reads c.next_level.ensures.reads
+returns-in_err-pages-clause-reads g c =
+    let p = err_from_is_err_and c.from_residual-in_err-pages.result c.from_residual-in_err-pages.ensures.1 in
+    let so_far = c.loop-level.invariant.reads in
+    record {
+      only = reads_trans c.args.cache.now c.loop-level.cache c.next_level.new.cache so_far c.next_level.ensures.reads.only;
+      caused = rw (p.1, p.2) (caused_after c.args.cache.now c.loop-level.cache c.next_level.new.cache c.in_err-pages.field-0.0 so_far c.in_err-pages.ensures.reads.caused);
+    }
 
 pub returns-in_err-spend-2-clause-reads : goal.returns-in_err-spend-2-clause-reads
-returns-in_err-spend-2-clause-reads g c = reads_trans c.args.cache.now c.loop-level.cache c.next_level.new.cache c.loop-level.invariant.reads c.next_level.ensures.reads
+returns-in_err-spend-2-clause-reads g c =
+    let p = err_from_is_err_and c.from_residual-in_err-spend-2.result c.from_residual-in_err-spend-2.ensures.1 in
+    let e = c.in_err-spend-2.ensures.err in
+    record {
+      only = reads_trans c.args.cache.now c.loop-level.cache c.next_level.new.cache c.loop-level.invariant.reads c.next_level.ensures.reads.only;
+      caused = rw (p.1, p.2) (malformed_caused c.args.cache.now c.next_level.new.cache c.in_err-spend-2.field-0.0 e.1 e.3);
+    }
 
 pub returns-clause-reads : goal.returns-clause-reads
-returns-clause-reads g c = reads_trans c.args.cache.now c.loop-level.cache c.legs_in.new.cache c.loop-level.invariant.reads c.legs_in.ensures.reads
+returns-clause-reads g c =
+    reads_then c.args.cache.now c.loop-level.cache c.legs_in.new.cache c.legs_in.result c.loop-level.invariant.reads c.legs_in.ensures.reads

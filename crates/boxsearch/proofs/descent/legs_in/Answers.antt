@@ -5,7 +5,7 @@ use Rattle.boxsearch.specs.Way.{meets}
 use Rattle.legs.specs.Hull.{leg_boxes}
 use Rattle.tbtree.specs.Descent.{hits}
 use Rattle.tbtree.specs.Nodes.{pages_of_cache, HasLeaf}
-use Rattle.chains.proofs.ReadLemmas.{reads_trans}
+use Rattle.chains.proofs.ReadLemmas.{caused_after, reads_trans}
 use Rattle.boxsearch.proofs.SameLemmas.{flat_more, same_hits, leaf_after, leaf_before, all_more}
 use Rattle.tbtree.proofs.FaultLemmas.{named_then}
 use Rattle.boxsearch.proofs.WayLemmas.{one_more}
@@ -22,7 +22,7 @@ loop-page-preserved g c =
     let next : i + 1 ≡ suc i = omega arith in
     let at : slice_get pages i ≡ Some page = slice_get-get_or pages i 0 c.loop-page-test.true in
     record {
-      reads = reads_trans old c.loop-page.cache c.push_legs.new.cache inv.reads c.push_legs.ensures.reads;
+      reads = reads_trans old c.loop-page.cache c.push_legs.new.cache inv.reads c.push_legs.ensures.reads.only;
       found = λ fa.
           flat_more (hits leg_boxes test (pages_of_cache old)) pages i (i + 1) page c.loop-page.found.items c.push_legs.new.found.items (hits leg_boxes test (pages_of_cache c.loop-page.cache) page) at next
           (same_hits old c.loop-page.cache inv.reads fa test page) (c.in_ok-push_legs.ensures.pushed (inv.reads.store.faithful ∙ fa)) (inv.found fa);
@@ -38,7 +38,12 @@ loop-page-preserved g c =
 
 pub returns-in_err-push_legs-clause-reads : goal.returns-in_err-push_legs-clause-reads
 returns-in_err-push_legs-clause-reads g c =
-    reads_trans c.args.cache.now c.loop-page.cache c.push_legs.new.cache c.loop-page.invariant.reads c.push_legs.ensures.reads
+    let p = err_from_is_err_and c.from_residual.result c.from_residual.ensures.1 in
+    let so_far = c.loop-page.invariant.reads in
+    record {
+      only = reads_trans c.args.cache.now c.loop-page.cache c.push_legs.new.cache so_far c.push_legs.ensures.reads.only;
+      caused = rw (p.1, p.2) (caused_after c.args.cache.now c.loop-page.cache c.push_legs.new.cache c.in_err-push_legs.field-0.0 so_far c.in_err-push_legs.ensures.reads.caused);
+    }
 
 pub returns-in_err-push_legs-clause-only : goal.returns-in_err-push_legs-clause-only
 returns-in_err-push_legs-clause-only g c = λ fa all.

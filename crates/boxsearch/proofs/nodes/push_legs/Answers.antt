@@ -1,11 +1,14 @@
-use Rattle.std.proofs.Common.{◌++◌, ap, ◌∙◌}
+use Rattle.std.proofs.Common.{rules, ◌++◌, ap, ◌∙◌}
 use Rattle.boxsearch.specs.Way.{meets}
 use Rattle.boxsearch.proofs.ResultLemmas.{on_ok}
 use Rattle.boxsearch.proofs.SameLemmas.{hits_there}
 use Rattle.boxsearch.proofs.nodes.push_legs.Goals as goal
 
-pub returns-clause-caused : goal.returns-clause-caused
-returns-clause-caused g c = c.push_leaf.ensures.caused c.args.cache.now c.page.follows.lender-at-none
+pub returns-clause-reads : goal.returns-clause-reads
+returns-clause-reads g c = record { only = search rules; caused = c.push_leaf.ensures.caused c.args.cache.now c.page.follows.lender-at-none }
+
+pub returns-in-Err-clause-reads : goal.returns-in-Err-clause-reads
+returns-in-Err-clause-reads g c = record { only = search rules; caused = search rules }
 
 pub returns-clause-pushed : goal.returns-clause-pushed
 returns-clause-pushed g c = λ fa.

@@ -18,7 +18,7 @@ returns-in_err-found-clause-found g c = λ fa legs f h.
     let shape = c.args.shape.now in
     let place = c.args.place.now in
     let whole = whole_from nodes None shape place (whole_chain nodes shape place f legs some h None) in
-    rw (p.1, p.2) (allowed_of nodes c.args.cache.now c.walk_back.new.cache _ _ whole c.in_err-found.ensures.caused (c.in_err-found.ensures.named fa))
+    rw (p.1, p.2) (allowed_of nodes c.args.cache.now c.walk_back.new.cache _ _ whole c.in_err-found.ensures.reads.caused (c.in_err-found.ensures.named fa))
 
 pub returns-clause-found : goal.returns-clause-found
 returns-clause-found g c = λ fa legs f h.
@@ -52,7 +52,7 @@ returns-in_err-found-clause-only g c = λ fa h.
     let p = err_from_is_err_and c.from_residual.result c.from_residual.ensures.1 in
     let nodes = pages_of_cache c.args.cache.now in
     let whole = whole_from nodes None c.args.shape.now c.args.place.now h in
-    rw (p.1, p.2) (allowed_of nodes c.args.cache.now c.walk_back.new.cache _ _ whole c.in_err-found.ensures.caused (c.in_err-found.ensures.named fa))
+    rw (p.1, p.2) (allowed_of nodes c.args.cache.now c.walk_back.new.cache _ _ whole c.in_err-found.ensures.reads.caused (c.in_err-found.ensures.named fa))
 
 pub returns-clause-chain : goal.returns-clause-chain
 returns-clause-chain g c = λ fa. whole_to (pages_of_cache c.args.cache.now) None c.args.shape.now c.args.place.now (c.in_ok-found.ensures.whole fa)

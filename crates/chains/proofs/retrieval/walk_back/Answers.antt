@@ -9,7 +9,7 @@ use Rattle.chains.proofs.ReachLemmas.{front_then, reached_all, reached_end, reac
 use Rattle.chains.proofs.WalkLemmas.{linked_by}
 use Rattle.chains.specs.Links.{fits, is_end, link_back, spot_of}
 use Rattle.chains.specs.Taking.{fault_at}
-use Rattle.chains.proofs.ReadLemmas.{reads_trans}
+use Rattle.chains.proofs.ReadLemmas.{caused_after, reads_trans}
 use Rattle.chains.proofs.StepLemmas.{IsFound, found_all, same_at, goes_on, ends, found_on, found_end, asked_on, asked_end, fault_on, fault_end, fault_stops, fault_before, named_after}
 use Rattle.chains.proofs.retrieval.walk_back.Goals as goal
 
@@ -31,7 +31,7 @@ leaves-preserved g c =
     let most : c.from-most.result ≡ shape.leaf = search rules in
     let spot : spot_of c.from-most.result legs first rest ≡ spot_of shape.leaf legs first rest = ap (λ m. spot_of m legs first rest) most in
     record {
-      reads = reads_trans old c.leaves.cache c.step.new.cache inv.reads c.step.ensures.reads;
+      reads = reads_trans old c.leaves.cache c.step.new.cache inv.reads c.step.ensures.reads.only;
       way = λ fa.
           let t = c.in_ok-back.ensures.taken (inv.reads.store.faithful ∙ fa) in
           let is = sym (same_at old c.leaves.cache inv.reads fa link.page) ∙ t.is in
@@ -282,7 +282,13 @@ returns-clause-learns g c = λ fa.
     all_known (pages_of_cache c.args.cache.now) shape.leaf place.legs place.first (div_ceil place.legs shape.leaf) (last_link place) c.leaves.passed c.leaves.spans.items c.leaves.left c.leaves.link (c.leaves.invariant.way fa)
 
 pub returns-in_err-back-clause-reads : goal.returns-in_err-back-clause-reads
-returns-in_err-back-clause-reads g c = reads_trans c.args.cache.now c.leaves.cache c.step.new.cache c.leaves.invariant.reads c.step.ensures.reads
+returns-in_err-back-clause-reads g c =
+    let p = err_from_is_err_and c.from_residual.result c.from_residual.ensures.1 in
+    record {
+      only = reads_trans c.args.cache.now c.leaves.cache c.step.new.cache c.leaves.invariant.reads c.step.ensures.reads.only;
+      caused = rw (p.1, p.2) (caused_after c.args.cache.now c.leaves.cache c.step.new.cache c.in_err-back.field-0.0 c.leaves.invariant.reads c.in_err-back.ensures.reads.caused);
+    }
 
 pub returns-in_default-clause-reads : goal.returns-in_default-clause-reads
-returns-in_default-clause-reads g c = reads_trans c.args.cache.now c.leaves.cache c.step.new.cache c.leaves.invariant.reads c.step.ensures.reads
+returns-in_default-clause-reads g c =
+    record { only = reads_trans c.args.cache.now c.leaves.cache c.step.new.cache c.leaves.invariant.reads c.step.ensures.reads.only; caused = tt }

@@ -52,7 +52,7 @@ returns-clause-sound g c =
     (subst (λ (v : IndexView). OnOk given.result (Agree tracks rows v.legs)) rest given.ensures.agree)
     (subst (λ (v : IndexView). OnOk given.result (v.cache.count ≡ v.cache.store.count)) rest given.ensures.count)
     (λ fa k a n.
-    let reads : OnlyReads index.cache left.cache = subst (λ (v : IndexView). OnlyReads v.cache left.cache) rest given.ensures.reads in
+    let reads : OnlyReads index.cache left.cache = subst (λ (v : IndexView). OnlyReads v.cache left.cache) rest given.ensures.reads.only in
     let shape : IsShape index.tree.shape = subst (λ (v : IndexView). IsShape v.tree.shape) rest given.ensures.shape in
     let h = subst (λ nodes. HoldLegs nodes index.tree rows index.legs index.places tracks.tracks) (sym (same_pages index.cache left.cache reads fa))
     (subst (λ places. HoldLegs (pages_of_cache index.cache) index.tree rows index.legs places tracks.tracks) value (c.laws-2.ensures.checked (pages_of_cache index.cache) index.tree rows index.legs places tracks.tracks shape k)) in
@@ -81,7 +81,7 @@ returns-clause-tracks g c =
     (subst (λ (v : IndexView). OnOk given.result (Agree tracks rows v.legs)) rest given.ensures.agree)
     (subst (λ (v : IndexView). OnOk given.result (v.cache.count ≡ v.cache.store.count)) rest given.ensures.count)
     (λ fa k a n.
-    let reads : OnlyReads index.cache left.cache = subst (λ (v : IndexView). OnlyReads v.cache left.cache) rest given.ensures.reads in
+    let reads : OnlyReads index.cache left.cache = subst (λ (v : IndexView). OnlyReads v.cache left.cache) rest given.ensures.reads.only in
     let shape : IsShape index.tree.shape = subst (λ (v : IndexView). IsShape v.tree.shape) rest given.ensures.shape in
     let h = subst (λ nodes. HoldLegs nodes index.tree rows index.legs index.places tracks.tracks) (sym (same_pages index.cache left.cache reads fa))
     (subst (λ places. HoldLegs (pages_of_cache index.cache) index.tree rows index.legs places tracks.tracks) value (c.laws-2.ensures.checked (pages_of_cache index.cache) index.tree rows index.legs places tracks.tracks shape k)) in
@@ -113,7 +113,7 @@ returns-clause-leaves g c =
     let given = c.check_index-given in
     let rest = c.take_places-places.ensures.rest in
     let ends : c.put_places.new.self ≡ with_cache index left.cache [] = c.put_places.ensures ∙ ended index lent left c.take_places-places.result.items rest given.ensures.same c.take_places-places.ensures.taken in
-    let reads : OnlyReads index.cache left.cache = subst (λ (v : IndexView). OnlyReads v.cache left.cache) rest given.ensures.reads in
+    let reads : OnlyReads index.cache left.cache = subst (λ (v : IndexView). OnlyReads v.cache left.cache) rest given.ensures.reads.only in
     subst (λ (v : IndexView). Leaves words index v) (sym ends) (reads_leave index left.cache [] reads)
 
 pub returns-clause-named : goal.returns-clause-named
@@ -129,7 +129,7 @@ returns-clause-named g c = λ fa n e.
     let value : places ≡ index.places = c.as_slice.ensures.value ∙ c.take_places-places.ensures.taken in
     let said : IsErrOf (answered (λ fault. of_tree fault) given.result) (Damaged n) = sym c.answer.ensures ∙ e in
     either_named index.cache left.cache (λ n. IsFirstDamaged index.cache n) (λ n. IsFirstMalformed begun index.tree rows index.legs index.places tracks index.cache n) given.result
-    (subst (λ (v : IndexView). IfErr given.result (RefusesRead v.cache left.cache)) rest given.ensures.caused)
+    (subst (λ (v : IndexView). IfErr given.result (RefusesRead v.cache left.cache)) rest given.ensures.reads.caused)
     (subst (λ places. IfErr given.result (NamesEach (IsFirstDamaged index.cache) (IsFirstMalformed begun index.tree rows index.legs places tracks index.cache))) value
     (subst (λ (v : IndexView). IsTrue v.cache.store.is_faithful → IfErr given.result (NamesEach (IsFirstDamaged v.cache) (IsFirstMalformed begun v.tree rows v.legs places tracks v.cache))) rest given.ensures.named fa)) n said
 

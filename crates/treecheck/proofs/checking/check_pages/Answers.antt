@@ -30,7 +30,7 @@ pub returns-in_err-survey-clause-only : goal.returns-in_err-survey-clause-only
 returns-in_err-survey-clause-only g c = λ fa same says few agrees k.
     let p = err_from_is_err_and c.from_residual-in_err-survey.result c.from_residual-in_err-survey.ensures.1 in
     let old = c.args.cache.now in
-    let reads = reads_trans old c.read_pages.new.cache c.check_state.new.cache c.read_pages.ensures.reads c.check_state.ensures.reads in
+    let reads = reads_trans old c.read_pages.new.cache c.check_state.new.cache c.read_pages.ensures.reads.only c.check_state.ensures.reads.only in
     let most = c.from-most.ensures ∙ c.leaf.ensures.value in
     rw (p.1, p.2) (c.in_err-survey.ensures.only (reads.store.faithful ∙ fa) few k.chains
     (subst (λ nodes. AreChains nodes c.from-most.result c.args.rows 0 c.args.places.now c.args.tracks.now.tracks k.chains) (sym (same_pages old c.check_state.new.cache reads fa))
@@ -39,7 +39,7 @@ returns-in_err-survey-clause-only g c = λ fa same says few agrees k.
 pub returns-then-not-is_whole-clause-only : goal.returns-then-not-is_whole-clause-only
 returns-then-not-is_whole-clause-only g c = λ fa same says few agrees k.
     let old = c.args.cache.now in
-    let reads = reads_trans old c.read_pages.new.cache c.check_state.new.cache c.read_pages.ensures.reads c.check_state.ensures.reads in
+    let reads = reads_trans old c.read_pages.new.cache c.check_state.new.cache c.read_pages.ensures.reads.only c.check_state.ensures.reads.only in
     let most = c.from-most.ensures ∙ c.leaf.ensures.value in
     let survey = c.in_ok-survey.survey in
     let sv = subst (λ nodes. Surveys nodes c.args.tree.now.shape.leaf c.args.rows c.args.places.now c.args.tracks.now.tracks survey) (same_pages old c.check_state.new.cache reads fa)
@@ -50,7 +50,7 @@ returns-then-not-is_whole-clause-only g c = λ fa same says few agrees k.
 pub returns-then-not-put_in_order-clause-only : goal.returns-then-not-put_in_order-clause-only
 returns-then-not-put_in_order-clause-only g c = λ fa same says few agrees k.
     let old = c.args.cache.now in
-    let reads = reads_trans old c.read_pages.new.cache c.check_state.new.cache c.read_pages.ensures.reads c.check_state.ensures.reads in
+    let reads = reads_trans old c.read_pages.new.cache c.check_state.new.cache c.read_pages.ensures.reads.only c.check_state.ensures.reads.only in
     let most = c.from-most.ensures ∙ c.leaf.ensures.value in
     let survey = c.in_ok-survey.survey in
     let sv = subst (λ nodes. Surveys nodes c.args.tree.now.shape.leaf c.args.rows c.args.places.now c.args.tracks.now.tracks survey) (same_pages old c.check_state.new.cache reads fa)
@@ -64,8 +64,8 @@ pub returns-in_err-check_tree-clause-only : goal.returns-in_err-check_tree-claus
 returns-in_err-check_tree-clause-only g c = λ fa same says few agrees k.
     let p = err_from_is_err_and c.from_residual-in_err-check_tree.result c.from_residual-in_err-check_tree.ensures.1 in
     let old = c.args.cache.now in
-    let reads = reads_trans old c.read_pages.new.cache c.check_state.new.cache c.read_pages.ensures.reads c.check_state.ensures.reads in
-    let later = reads_trans old c.check_state.new.cache c.walk_all.new.source reads c.walk_all.ensures.reads in
+    let reads = reads_trans old c.read_pages.new.cache c.check_state.new.cache c.read_pages.ensures.reads.only c.check_state.ensures.reads.only in
+    let later = reads_trans old c.check_state.new.cache c.walk_all.new.source reads c.walk_all.ensures.reads.only in
     let most = c.from-most.ensures ∙ c.leaf.ensures.value in
     let survey = c.in_ok-survey.survey in
     let sv = subst (λ nodes. Surveys nodes c.args.tree.now.shape.leaf c.args.rows c.args.places.now c.args.tracks.now.tracks survey) (same_pages old c.check_state.new.cache reads fa)
@@ -84,7 +84,7 @@ returns-in_err-check_tree-clause-only g c = λ fa same says few agrees k.
 pub returns-then-not-name_last-clause-only : goal.returns-then-not-name_last-clause-only
 returns-then-not-name_last-clause-only g c = λ fa same says few agrees k.
     let old = c.args.cache.now in
-    let reads = reads_trans old c.read_pages.new.cache c.check_state.new.cache c.read_pages.ensures.reads c.check_state.ensures.reads in
+    let reads = reads_trans old c.read_pages.new.cache c.check_state.new.cache c.read_pages.ensures.reads.only c.check_state.ensures.reads.only in
     let most = c.from-most.ensures ∙ c.leaf.ensures.value in
     let survey = c.in_ok-survey.survey in
     let sv = subst (λ nodes. Surveys nodes c.args.tree.now.shape.leaf c.args.rows c.args.places.now c.args.tracks.now.tracks survey) (same_pages old c.check_state.new.cache reads fa)
@@ -97,8 +97,8 @@ returns-then-not-name_last-clause-only g c = λ fa same says few agrees k.
 pub returns-clause-checked : goal.returns-clause-checked
 returns-clause-checked g c = λ fa.
     let old = c.args.cache.now in
-    let reads = reads_trans old c.read_pages.new.cache c.check_state.new.cache c.read_pages.ensures.reads c.check_state.ensures.reads in
-    let later = reads_trans old c.check_state.new.cache c.walk_all.new.source reads c.walk_all.ensures.reads in
+    let reads = reads_trans old c.read_pages.new.cache c.check_state.new.cache c.read_pages.ensures.reads.only c.check_state.ensures.reads.only in
+    let later = reads_trans old c.check_state.new.cache c.walk_all.new.source reads c.walk_all.ensures.reads.only in
     let most = c.from-most.ensures ∙ c.leaf.ensures.value in
     let survey = c.in_ok-survey.survey in
     let sv = subst (λ nodes. Surveys nodes c.args.tree.now.shape.leaf c.args.rows c.args.places.now c.args.tracks.now.tracks survey) (same_pages old c.check_state.new.cache reads fa)
@@ -124,13 +124,13 @@ returns-then-not-agree-clause-only g c = λ fa same says few agrees k. true≢fa
 pub returns-in_err-check_state-clause-only : goal.returns-in_err-check_state-clause-only
 returns-in_err-check_state-clause-only g c = λ fa same says few agrees k.
     let p = err_from_is_err_and c.from_residual-in_err-check_state.result c.from_residual-in_err-check_state.ensures.1 in
-    let reads = c.read_pages.ensures.reads in
+    let reads = c.read_pages.ensures.reads.only in
     let some = c.in_ok-read_pages.ensures.some in
     rw (p.1, p.2) (c.in_err-check_state.ensures.only (reads.store.faithful ∙ fa) (subst (SaysState c.args.begun) (sym (reads.payloads fa 0)) says) (subst (λ n. 0 < n) (sym reads.count) some))
 
 pub returns-clause-says : goal.returns-clause-says
 returns-clause-says g c = λ fa.
-    let reads = c.read_pages.ensures.reads in
+    let reads = c.read_pages.ensures.reads.only in
     subst (SaysState c.args.begun) (reads.payloads fa 0) (c.in_ok-check_state.ensures.says (reads.store.faithful ∙ fa))
 
 pub returns-in_err-read_pages-clause-named : goal.returns-in_err-read_pages-clause-named
@@ -152,11 +152,11 @@ returns-in_err-check_state-clause-named g c = λ fa.
     let held = c.in_ok-read_pages.ensures.held fa in
     let some = c.in_ok-read_pages.ensures.some in
     let count = c.in_ok-read_pages.ensures.count in
-    let first = c.read_pages.ensures.reads in
+    let first = c.read_pages.ensures.reads.only in
     let there = has_payload old 0 (held 0 some) in
     let fault = c.in_err-check_state.field-0.0 in
     rw (p.1, p.2) (state_named c.args.begun tree rows total places tracks old c.check_state.new.cache fa held some count fault
-    (caused_after old c.read_pages.new.cache c.check_state.new.cache fault first c.in_err-check_state.ensures.caused)
+    (caused_after old c.read_pages.new.cache c.check_state.new.cache fault first c.in_err-check_state.ensures.reads.caused)
     (λ says. c.in_err-check_state.ensures.only (first.store.faithful ∙ fa) (subst (SaysState c.args.begun) (sym (first.payloads fa 0)) says) (subst (λ n. 0 < n) (sym first.count) some))
     (c.in_err-check_state.ensures.named (first.store.faithful ∙ fa) (λ e. there (sym (first.payloads fa 0) ∙ e))))
 
@@ -172,14 +172,14 @@ returns-in_err-survey-clause-named g c = λ fa.
     let held = c.in_ok-read_pages.ensures.held fa in
     let some = c.in_ok-read_pages.ensures.some in
     let count = c.in_ok-read_pages.ensures.count in
-    let first = c.read_pages.ensures.reads in
+    let first = c.read_pages.ensures.reads.only in
     let says = subst (SaysState c.args.begun) (first.payloads fa 0) (c.in_ok-check_state.ensures.says (first.store.faithful ∙ fa)) in
-    let reads = reads_trans old c.read_pages.new.cache c.check_state.new.cache first c.check_state.ensures.reads in
+    let reads = reads_trans old c.read_pages.new.cache c.check_state.new.cache first c.check_state.ensures.reads.only in
     let most = c.from-most.ensures ∙ c.leaf.ensures.value in
     let fault = c.in_err-survey.field-0.0 in
     let same = same_pages old c.check_state.new.cache reads fa in
     rw (p.1, p.2) (later_named c.args.begun tree rows total places tracks old c.walk_all.new.source fa held some count says fault
-    (caused_after old c.check_state.new.cache c.walk_all.new.source fault reads c.in_err-survey.ensures.caused)
+    (caused_after old c.check_state.new.cache c.walk_all.new.source fault reads c.in_err-survey.ensures.reads.caused)
     (walk_later c.args.begun tree rows total places tracks old c.walk_all.new.source fa held some count fault
     (subst (λ nodes. IfMalformed (AllStopAt nodes tree.shape.leaf rows places tracks.tracks) fault) same
     (subst (λ n. IfMalformed (AllStopAt (pages_of_cache c.check_state.new.cache) n rows places tracks.tracks) fault) most (c.in_err-survey.ensures.stops (reads.store.faithful ∙ fa))))
@@ -198,9 +198,9 @@ returns-then-not-is_whole-clause-named g c = λ fa.
     let held = c.in_ok-read_pages.ensures.held fa in
     let some = c.in_ok-read_pages.ensures.some in
     let count = c.in_ok-read_pages.ensures.count in
-    let first = c.read_pages.ensures.reads in
+    let first = c.read_pages.ensures.reads.only in
     let says = subst (SaysState c.args.begun) (first.payloads fa 0) (c.in_ok-check_state.ensures.says (first.store.faithful ∙ fa)) in
-    let reads = reads_trans old c.read_pages.new.cache c.check_state.new.cache first c.check_state.ensures.reads in
+    let reads = reads_trans old c.read_pages.new.cache c.check_state.new.cache first c.check_state.ensures.reads.only in
     let most = c.from-most.ensures ∙ c.leaf.ensures.value in
     let survey = c.in_ok-survey.survey in
     let sv = subst (λ nodes. Surveys nodes tree.shape.leaf rows places tracks.tracks survey) (same_pages old c.check_state.new.cache reads fa)
@@ -220,9 +220,9 @@ returns-then-not-agree-clause-named g c = λ fa.
     let held = c.in_ok-read_pages.ensures.held fa in
     let some = c.in_ok-read_pages.ensures.some in
     let count = c.in_ok-read_pages.ensures.count in
-    let first = c.read_pages.ensures.reads in
+    let first = c.read_pages.ensures.reads.only in
     let says = subst (SaysState c.args.begun) (first.payloads fa 0) (c.in_ok-check_state.ensures.says (first.store.faithful ∙ fa)) in
-    let reads = reads_trans old c.read_pages.new.cache c.check_state.new.cache first c.check_state.ensures.reads in
+    let reads = reads_trans old c.read_pages.new.cache c.check_state.new.cache first c.check_state.ensures.reads.only in
     let most = c.from-most.ensures ∙ c.leaf.ensures.value in
     let survey = c.in_ok-survey.survey in
     let sv = subst (λ nodes. Surveys nodes tree.shape.leaf rows places tracks.tracks survey) (same_pages old c.check_state.new.cache reads fa)
@@ -242,9 +242,9 @@ returns-then-not-put_in_order-clause-named g c = λ fa.
     let held = c.in_ok-read_pages.ensures.held fa in
     let some = c.in_ok-read_pages.ensures.some in
     let count = c.in_ok-read_pages.ensures.count in
-    let first = c.read_pages.ensures.reads in
+    let first = c.read_pages.ensures.reads.only in
     let says = subst (SaysState c.args.begun) (first.payloads fa 0) (c.in_ok-check_state.ensures.says (first.store.faithful ∙ fa)) in
-    let reads = reads_trans old c.read_pages.new.cache c.check_state.new.cache first c.check_state.ensures.reads in
+    let reads = reads_trans old c.read_pages.new.cache c.check_state.new.cache first c.check_state.ensures.reads.only in
     let most = c.from-most.ensures ∙ c.leaf.ensures.value in
     let survey = c.in_ok-survey.survey in
     let sv = subst (λ nodes. Surveys nodes tree.shape.leaf rows places tracks.tracks survey) (same_pages old c.check_state.new.cache reads fa)
@@ -271,9 +271,9 @@ returns-in_err-check_tree-clause-named g c = λ fa.
     let held = c.in_ok-read_pages.ensures.held fa in
     let some = c.in_ok-read_pages.ensures.some in
     let count = c.in_ok-read_pages.ensures.count in
-    let first = c.read_pages.ensures.reads in
+    let first = c.read_pages.ensures.reads.only in
     let says = subst (SaysState c.args.begun) (first.payloads fa 0) (c.in_ok-check_state.ensures.says (first.store.faithful ∙ fa)) in
-    let reads = reads_trans old c.read_pages.new.cache c.check_state.new.cache first c.check_state.ensures.reads in
+    let reads = reads_trans old c.read_pages.new.cache c.check_state.new.cache first c.check_state.ensures.reads.only in
     let most = c.from-most.ensures ∙ c.leaf.ensures.value in
     let survey = c.in_ok-survey.survey in
     let sv = subst (λ nodes. Surveys nodes tree.shape.leaf rows places tracks.tracks survey) (same_pages old c.check_state.new.cache reads fa)
@@ -283,7 +283,7 @@ returns-in_err-check_tree-clause-named g c = λ fa.
     let moved : IsPermutation survey.leaves.items leaves = subst (λ v. IsPermutation v.items leaves) c.is_whole.ensures.leaves c.put_in_order.ensures.moved in
     let in_order = c.laws.ensures.in_order in
     let rises = c.put_in_order.ensures.rises in
-    let later = reads_trans old c.check_state.new.cache c.walk_all.new.source reads c.walk_all.ensures.reads in
+    let later = reads_trans old c.check_state.new.cache c.walk_all.new.source reads c.walk_all.ensures.reads.only in
     let nodes = pages_of_cache old in
     let value = c.as_slice.ensures.value in
     let same = same_pages old c.walk_all.new.source later fa in
@@ -295,7 +295,7 @@ returns-in_err-check_tree-clause-named g c = λ fa.
     let one = list_of nodes tree rows total places tracks.tracks survey leaves sv moved (c.is_whole.ensures.whole c.if-not-is_whole.false) in
     let list : HoldList old tree rows places tracks total = (one.0, one.1, c.agree.ensures.0 c.if-not-agree.false) in
     rw (p.1, p.2) (later_named c.args.begun tree rows total places tracks old c.check_tree.new.cache fa held some count says fault
-    (caused_after old c.walk_all.new.source c.check_tree.new.cache fault later c.in_err-check_tree.ensures.caused)
+    (caused_after old c.walk_all.new.source c.check_tree.new.cache fault later c.in_err-check_tree.ensures.reads.caused)
     (tree_later c.args.begun tree rows total places tracks old c.check_tree.new.cache fa held some count chains list (pages_of_leaves leaves) same_order fault
     (subst (λ ms. IfMalformed (DescentStopsAt nodes tree (pages_of_leaves ms)) fault) value
     (subst (λ nodes. IfMalformed (DescentStopsAt nodes tree (pages_of_leaves c.as_slice.result.now)) fault) same
@@ -314,9 +314,9 @@ returns-then-not-name_last-clause-named g c = λ fa.
     let held = c.in_ok-read_pages.ensures.held fa in
     let some = c.in_ok-read_pages.ensures.some in
     let count = c.in_ok-read_pages.ensures.count in
-    let first = c.read_pages.ensures.reads in
+    let first = c.read_pages.ensures.reads.only in
     let says = subst (SaysState c.args.begun) (first.payloads fa 0) (c.in_ok-check_state.ensures.says (first.store.faithful ∙ fa)) in
-    let reads = reads_trans old c.read_pages.new.cache c.check_state.new.cache first c.check_state.ensures.reads in
+    let reads = reads_trans old c.read_pages.new.cache c.check_state.new.cache first c.check_state.ensures.reads.only in
     let most = c.from-most.ensures ∙ c.leaf.ensures.value in
     let survey = c.in_ok-survey.survey in
     let sv = subst (λ nodes. Surveys nodes tree.shape.leaf rows places tracks.tracks survey) (same_pages old c.check_state.new.cache reads fa)
@@ -326,7 +326,7 @@ returns-then-not-name_last-clause-named g c = λ fa.
     let moved : IsPermutation survey.leaves.items leaves = subst (λ v. IsPermutation v.items leaves) c.is_whole.ensures.leaves c.put_in_order.ensures.moved in
     let in_order = c.laws.ensures.in_order in
     let rises = c.put_in_order.ensures.rises in
-    let later = reads_trans old c.check_state.new.cache c.walk_all.new.source reads c.walk_all.ensures.reads in
+    let later = reads_trans old c.check_state.new.cache c.walk_all.new.source reads c.walk_all.ensures.reads.only in
     let nodes = pages_of_cache old in
     let value = c.as_slice.ensures.value in
     let same = same_pages old c.walk_all.new.source later fa in
@@ -342,42 +342,70 @@ returns-then-not-name_last-clause-named g c = λ fa.
     (λ k order o none. none st.pages (subst (λ order. IsTreeOver nodes tree order st.pages) (same_order order o) st.is_over)))
 
 pub returns-in_err-check_state-clause-reads : goal.returns-in_err-check_state-clause-reads
-returns-in_err-check_state-clause-reads g c = reads_trans c.args.cache.now c.read_pages.new.cache c.check_state.new.cache c.read_pages.ensures.reads c.check_state.ensures.reads
+returns-in_err-check_state-clause-reads g c =
+    let p = err_from_is_err_and c.from_residual-in_err-check_state.result c.from_residual-in_err-check_state.ensures.1 in
+    record {
+      only = reads_trans c.args.cache.now c.read_pages.new.cache c.check_state.new.cache c.read_pages.ensures.reads.only c.check_state.ensures.reads.only;
+      caused = rw (p.1, p.2) (caused_after c.args.cache.now c.read_pages.new.cache c.check_state.new.cache c.in_err-check_state.field-0.0 c.read_pages.ensures.reads.only c.in_err-check_state.ensures.reads.caused);
+    }
 
 pub returns-in_err-survey-clause-reads : goal.returns-in_err-survey-clause-reads
 returns-in_err-survey-clause-reads g c =
-    let stated = reads_trans c.args.cache.now c.read_pages.new.cache c.check_state.new.cache c.read_pages.ensures.reads c.check_state.ensures.reads in
-    reads_trans c.args.cache.now c.check_state.new.cache c.walk_all.new.source stated c.walk_all.ensures.reads
+    let stated = reads_trans c.args.cache.now c.read_pages.new.cache c.check_state.new.cache c.read_pages.ensures.reads.only c.check_state.ensures.reads.only in
+    let p = err_from_is_err_and c.from_residual-in_err-survey.result c.from_residual-in_err-survey.ensures.1 in
+    record {
+      only = reads_trans c.args.cache.now c.check_state.new.cache c.walk_all.new.source stated c.walk_all.ensures.reads.only;
+      caused = rw (p.1, p.2) (caused_after c.args.cache.now c.check_state.new.cache c.walk_all.new.source c.in_err-survey.field-0.0 stated c.in_err-survey.ensures.reads.caused);
+    }
 
 pub returns-then-not-is_whole-clause-reads : goal.returns-then-not-is_whole-clause-reads
 returns-then-not-is_whole-clause-reads g c =
-    let stated = reads_trans c.args.cache.now c.read_pages.new.cache c.check_state.new.cache c.read_pages.ensures.reads c.check_state.ensures.reads in
-    reads_trans c.args.cache.now c.check_state.new.cache c.walk_all.new.source stated c.walk_all.ensures.reads
+    let stated = reads_trans c.args.cache.now c.read_pages.new.cache c.check_state.new.cache c.read_pages.ensures.reads.only c.check_state.ensures.reads.only in
+    record {
+      only = reads_trans c.args.cache.now c.check_state.new.cache c.walk_all.new.source stated c.walk_all.ensures.reads.only;
+      caused = tt;
+    }
 
 pub returns-then-not-agree-clause-reads : goal.returns-then-not-agree-clause-reads
 returns-then-not-agree-clause-reads g c =
-    let stated = reads_trans c.args.cache.now c.read_pages.new.cache c.check_state.new.cache c.read_pages.ensures.reads c.check_state.ensures.reads in
-    reads_trans c.args.cache.now c.check_state.new.cache c.walk_all.new.source stated c.walk_all.ensures.reads
+    let stated = reads_trans c.args.cache.now c.read_pages.new.cache c.check_state.new.cache c.read_pages.ensures.reads.only c.check_state.ensures.reads.only in
+    record {
+      only = reads_trans c.args.cache.now c.check_state.new.cache c.walk_all.new.source stated c.walk_all.ensures.reads.only;
+      caused = tt;
+    }
 
 pub returns-then-not-put_in_order-clause-reads : goal.returns-then-not-put_in_order-clause-reads
 returns-then-not-put_in_order-clause-reads g c =
-    let stated = reads_trans c.args.cache.now c.read_pages.new.cache c.check_state.new.cache c.read_pages.ensures.reads c.check_state.ensures.reads in
-    reads_trans c.args.cache.now c.check_state.new.cache c.walk_all.new.source stated c.walk_all.ensures.reads
+    let stated = reads_trans c.args.cache.now c.read_pages.new.cache c.check_state.new.cache c.read_pages.ensures.reads.only c.check_state.ensures.reads.only in
+    record {
+      only = reads_trans c.args.cache.now c.check_state.new.cache c.walk_all.new.source stated c.walk_all.ensures.reads.only;
+      caused = tt;
+    }
 
 pub returns-in_err-check_tree-clause-reads : goal.returns-in_err-check_tree-clause-reads
 returns-in_err-check_tree-clause-reads g c =
-    let stated = reads_trans c.args.cache.now c.read_pages.new.cache c.check_state.new.cache c.read_pages.ensures.reads c.check_state.ensures.reads in
-    let walked = reads_trans c.args.cache.now c.check_state.new.cache c.walk_all.new.source stated c.walk_all.ensures.reads in
-    reads_trans c.args.cache.now c.walk_all.new.source c.check_tree.new.cache walked c.check_tree.ensures.reads
+    let stated = reads_trans c.args.cache.now c.read_pages.new.cache c.check_state.new.cache c.read_pages.ensures.reads.only c.check_state.ensures.reads.only in
+    let walked = reads_trans c.args.cache.now c.check_state.new.cache c.walk_all.new.source stated c.walk_all.ensures.reads.only in
+    let p = err_from_is_err_and c.from_residual-in_err-check_tree.result c.from_residual-in_err-check_tree.ensures.1 in
+    record {
+      only = reads_trans c.args.cache.now c.walk_all.new.source c.check_tree.new.cache walked c.check_tree.ensures.reads.only;
+      caused = rw (p.1, p.2) (caused_after c.args.cache.now c.walk_all.new.source c.check_tree.new.cache c.in_err-check_tree.field-0.0 walked c.in_err-check_tree.ensures.reads.caused);
+    }
 
 pub returns-then-not-name_last-clause-reads : goal.returns-then-not-name_last-clause-reads
 returns-then-not-name_last-clause-reads g c =
-    let stated = reads_trans c.args.cache.now c.read_pages.new.cache c.check_state.new.cache c.read_pages.ensures.reads c.check_state.ensures.reads in
-    let walked = reads_trans c.args.cache.now c.check_state.new.cache c.walk_all.new.source stated c.walk_all.ensures.reads in
-    reads_trans c.args.cache.now c.walk_all.new.source c.check_tree.new.cache walked c.check_tree.ensures.reads
+    let stated = reads_trans c.args.cache.now c.read_pages.new.cache c.check_state.new.cache c.read_pages.ensures.reads.only c.check_state.ensures.reads.only in
+    let walked = reads_trans c.args.cache.now c.check_state.new.cache c.walk_all.new.source stated c.walk_all.ensures.reads.only in
+    record {
+      only = reads_trans c.args.cache.now c.walk_all.new.source c.check_tree.new.cache walked c.check_tree.ensures.reads.only;
+      caused = tt;
+    }
 
 pub returns-clause-reads : goal.returns-clause-reads
 returns-clause-reads g c =
-    let stated = reads_trans c.args.cache.now c.read_pages.new.cache c.check_state.new.cache c.read_pages.ensures.reads c.check_state.ensures.reads in
-    let walked = reads_trans c.args.cache.now c.check_state.new.cache c.walk_all.new.source stated c.walk_all.ensures.reads in
-    reads_trans c.args.cache.now c.walk_all.new.source c.check_tree.new.cache walked c.check_tree.ensures.reads
+    let stated = reads_trans c.args.cache.now c.read_pages.new.cache c.check_state.new.cache c.read_pages.ensures.reads.only c.check_state.ensures.reads.only in
+    let walked = reads_trans c.args.cache.now c.check_state.new.cache c.walk_all.new.source stated c.walk_all.ensures.reads.only in
+    record {
+      only = reads_trans c.args.cache.now c.walk_all.new.source c.check_tree.new.cache walked c.check_tree.ensures.reads.only;
+      caused = tt;
+    }

@@ -3,7 +3,7 @@ use Rattle.std.proofs.lemmas.Bool.{cases_lt}
 use Rattle.std.proofs.lemmas.Result.{err_from_is_err_and}
 use Rattle.std.specs.List.{flat_map}
 use Rattle.tbtree.specs.Nodes.{pages_of_cache}
-use Rattle.chains.proofs.ReadLemmas.{reads_trans}
+use Rattle.chains.proofs.ReadLemmas.{caused_after, reads_trans}
 use Rattle.treecheck.proofs.WalkedLemmas.{same_pages}
 use Rattle.treecheck.specs.Descent.{IsFirstWithout, IsHighestWithout}
 use Rattle.tbtree.specs.Faults.{IfMalformed}
@@ -35,7 +35,7 @@ loop-level-preserved g c =
     let inv = c.loop-level.invariant in
     let level = c.loop-level.level in
     record {
-      reads = reads_trans old c.loop-level.cache c.level_below.new.cache inv.reads c.level_below.ensures.reads;
+      reads = reads_trans old c.loop-level.cache c.level_below.new.cache inv.reads c.level_below.ensures.reads.only;
       span = span_down c.args.inner c.args.height level c.loop-level.span c.requires.inner c.loop-level-test.true inv.span;
       pages = λ fa.
           let same = same_pages old c.loop-level.cache inv.reads fa in
@@ -59,7 +59,12 @@ returns-clause-stand g c = λ fa k n e.
     c.loop-level.invariant.above fa k n e (omega (arith, e, c.loop-level-test.false))
 
 pub returns-in_err-pages-clause-reads : goal.returns-in_err-pages-clause-reads
-returns-in_err-pages-clause-reads g c = reads_trans c.args.cache.now c.loop-level.cache c.level_below.new.cache c.loop-level.invariant.reads c.level_below.ensures.reads
+returns-in_err-pages-clause-reads g c =
+    let p = err_from_is_err_and c.from_residual-in_err-pages.result c.from_residual-in_err-pages.ensures.1 in
+    record {
+      only = reads_trans c.args.cache.now c.loop-level.cache c.level_below.new.cache c.loop-level.invariant.reads c.level_below.ensures.reads.only;
+      caused = rw (p.1, p.2) (caused_after c.args.cache.now c.loop-level.cache c.level_below.new.cache c.in_err-pages.field-0.0 c.loop-level.invariant.reads c.in_err-pages.ensures.reads.caused);
+    }
 
 pub returns-in_err-pages-clause-stops : goal.returns-in_err-pages-clause-stops
 returns-in_err-pages-clause-stops g c = λ fa.

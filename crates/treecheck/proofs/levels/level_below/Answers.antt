@@ -6,7 +6,7 @@ use Rattle.std.proofs.lemmas.List.{take_all}
 use Rattle.std.specs.List.{flat_map}
 use Rattle.legs.specs.Blocks.{block}
 use Rattle.tbtree.specs.Nodes.{pages_of_cache}
-use Rattle.chains.proofs.ReadLemmas.{reads_trans}
+use Rattle.chains.proofs.ReadLemmas.{caused_after, reads_trans}
 use Rattle.boxsearch.proofs.PushLemmas.{some_same}
 use Rattle.boxsearch.proofs.SameLemmas.{flat_more}
 use Rattle.treecheck.proofs.WalkedLemmas.{same_pages}
@@ -30,7 +30,7 @@ loop-i-preserved g c =
     let page = get_or pages i 0 in
     let at : slice_get pages i ≡ Some page = slice_get-get_or pages i 0 c.loop-i-test.true in
     record {
-      reads = reads_trans old c.loop-i.cache c.take_page.new.cache inv.reads c.take_page.ensures.reads;
+      reads = reads_trans old c.loop-i.cache c.take_page.new.cache inv.reads c.take_page.ensures.reads.only;
       named = λ fa.
           let same = same_pages old c.loop-i.cache inv.reads fa in
           let next : i + 1 ≡ suc i = omega arith in
@@ -73,7 +73,12 @@ returns-clause-named g c = λ fa.
     c.loop-i.invariant.named fa ∙ ap (flat_map (named_by (pages_of_cache c.args.cache.now))) (take_all c.loop-i.i c.args.pages.now c.loop-i-test.false)
 
 pub returns-in_err-take_page-clause-reads : goal.returns-in_err-take_page-clause-reads
-returns-in_err-take_page-clause-reads g c = reads_trans c.args.cache.now c.loop-i.cache c.take_page.new.cache c.loop-i.invariant.reads c.take_page.ensures.reads
+returns-in_err-take_page-clause-reads g c =
+    let p = err_from_is_err_and c.from_residual.result c.from_residual.ensures.1 in
+    record {
+      only = reads_trans c.args.cache.now c.loop-i.cache c.take_page.new.cache c.loop-i.invariant.reads c.take_page.ensures.reads.only;
+      caused = rw (p.1, p.2) (caused_after c.args.cache.now c.loop-i.cache c.take_page.new.cache c.in_err-take_page.field-0.0 c.loop-i.invariant.reads c.in_err-take_page.ensures.reads.caused);
+    }
 
 pub returns-in_err-take_page-clause-stops : goal.returns-in_err-take_page-clause-stops
 returns-in_err-take_page-clause-stops g c = λ fa.

@@ -1,10 +1,10 @@
 use Rattle.std.specs.Option.{unwrap_or}
-use Rattle.std.proofs.Common.{[], ◌∷◌, ◌++◌, ◌≡◌, ◌+◌, Some, slice_get, get_or, sym, ap, ◌∙◌, subst, arith, refl}
+use Rattle.std.proofs.Common.{rules, [], ◌∷◌, ◌++◌, ◌≡◌, ◌+◌, Some, slice_get, get_or, sym, ap, ◌∙◌, subst, arith, refl}
 use Rattle.std.proofs.lemmas.Bool.{true≢false}
 use Rattle.std.proofs.lemmas.Result.{err_from_is_err_and}
 use Rattle.treecheck.specs.Check.{AreLeavesOf}
 use Rattle.treecheck.specs.Walking.{pages_by, Walks}
-use Rattle.chains.proofs.ReadLemmas.{reads_trans}
+use Rattle.chains.proofs.ReadLemmas.{caused_after, reads_trans}
 use Rattle.treecheck.proofs.SurveyLemmas.{surveyed_on, surveyed_all, chain_of, as_many, get_at}
 use Rattle.tbtree.specs.Stands.{no_place}
 use Rattle.std.proofs.lemmas.Option.{slice_get-get_or}
@@ -38,16 +38,25 @@ returns-in_err-walk_chain-clause-only g c = λ fa few chains whole.
     (subst (λ nodes. AreLeavesOf nodes c.args.most c.args.rows f place c.in-Some.track ch.0) (sym (same_by g.R.LeafReader.node (g.R.LeafReader.seen c.args.source.now) (g.R.LeafReader.seen c.loop-feature.source) inv.reads fa)) ch.1))
 
 pub returns-in_err-walk_chain-clause-reads : goal.returns-in_err-walk_chain-clause-reads
-returns-in_err-walk_chain-clause-reads g c = reads_trans (g.R.LeafReader.seen c.args.source.now) (g.R.LeafReader.seen c.loop-feature.source) (g.R.LeafReader.seen c.walk_chain.new.source) c.loop-feature.invariant.reads c.walk_chain.ensures.reads
+returns-in_err-walk_chain-clause-reads g c =
+    let p = err_from_is_err_and c.from_residual.result c.from_residual.ensures.1 in
+    record {
+      only = reads_trans (g.R.LeafReader.seen c.args.source.now) (g.R.LeafReader.seen c.loop-feature.source) (g.R.LeafReader.seen c.walk_chain.new.source) c.loop-feature.invariant.reads c.walk_chain.ensures.reads.only;
+      caused = rw (p.1, p.2) (caused_after (g.R.LeafReader.seen c.args.source.now) (g.R.LeafReader.seen c.loop-feature.source) (g.R.LeafReader.seen c.walk_chain.new.source) c.in_err-walk_chain.field-0.0 c.loop-feature.invariant.reads c.in_err-walk_chain.ensures.reads.caused);
+    }
 
 pub returns-in_err-push-clause-reads : goal.returns-in_err-push-clause-reads
-returns-in_err-push-clause-reads g c = reads_trans (g.R.LeafReader.seen c.args.source.now) (g.R.LeafReader.seen c.loop-feature.source) (g.R.LeafReader.seen c.walk_chain.new.source) c.loop-feature.invariant.reads c.walk_chain.ensures.reads
+returns-in_err-push-clause-reads g c =
+    record {
+      only = reads_trans (g.R.LeafReader.seen c.args.source.now) (g.R.LeafReader.seen c.loop-feature.source) (g.R.LeafReader.seen c.walk_chain.new.source) c.loop-feature.invariant.reads c.walk_chain.ensures.reads.only;
+      caused = search rules;
+    }
 
 pub loop-feature-preserved : goal.loop-feature-preserved
 loop-feature-preserved g c =
     let inv = c.loop-feature.invariant in
     record {
-      reads = reads_trans (g.R.LeafReader.seen c.args.source.now) (g.R.LeafReader.seen c.loop-feature.source) (g.R.LeafReader.seen c.walk_chain.new.source) inv.reads c.walk_chain.ensures.reads;
+      reads = reads_trans (g.R.LeafReader.seen c.args.source.now) (g.R.LeafReader.seen c.loop-feature.source) (g.R.LeafReader.seen c.walk_chain.new.source) inv.reads c.walk_chain.ensures.reads.only;
       surveyed = λ fa.
           let nodes = pages_by g.R.LeafReader.node (g.R.LeafReader.seen c.args.source.now) in
           let f = c.loop-feature.feature in

@@ -8,7 +8,7 @@ use Rattle.treecheck.specs.Stopping.{WalkStopsAt}
 use Rattle.treecheck.specs.Walking.{pages_by, Strays, TakesLeaf}
 use Rattle.tbtree.specs.Faults.{IfMalformed}
 use Rattle.tbtree.proofs.FaultLemmas.{malformed_then}
-use Rattle.chains.proofs.ReadLemmas.{reads_refl, reads_trans}
+use Rattle.chains.proofs.ReadLemmas.{caused_after, reads_refl, reads_trans}
 use Rattle.treecheck.proofs.WalkedLemmas.{same_by, walked_none, walked_on, walked_leaf, walked_end, walked_past, walked_stray, walked_whole, some_left, none_left, next_left}
 use Rattle.treecheck.proofs.walking.walk_chain.Goals as goal
 
@@ -33,14 +33,19 @@ returns-in_err-take_leaf-clause-only g c = λ fa pages whole.
     (subst (λ nodes. ComeInTurn c.leaves.walk.feature c.args.rows c.leaves.walk.last (legs_in (nodes.at c.leaves.walk.page))) same next.1))
 
 pub returns-in_err-take_leaf-clause-reads : goal.returns-in_err-take_leaf-clause-reads
-returns-in_err-take_leaf-clause-reads g c = reads_trans (g.R.LeafReader.seen c.args.source.now) (g.R.LeafReader.seen c.leaves.source) (g.R.LeafReader.seen c.take_leaf.new.source) c.leaves.invariant.reads c.take_leaf.ensures.reads
+returns-in_err-take_leaf-clause-reads g c =
+    let p = err_from_is_err_and c.from_residual.result c.from_residual.ensures.1 in
+    record {
+      only = reads_trans (g.R.LeafReader.seen c.args.source.now) (g.R.LeafReader.seen c.leaves.source) (g.R.LeafReader.seen c.take_leaf.new.source) c.leaves.invariant.reads c.take_leaf.ensures.reads.only;
+      caused = rw (p.1, p.2) (caused_after (g.R.LeafReader.seen c.args.source.now) (g.R.LeafReader.seen c.leaves.source) (g.R.LeafReader.seen c.take_leaf.new.source) c.in_err-take_leaf.field-0.0 c.leaves.invariant.reads c.in_err-take_leaf.ensures.reads.caused);
+    }
 
 pub leaves-preserved : goal.leaves-preserved
 leaves-preserved g c =
     let inv = c.leaves.invariant in
     let some : 0 < c.leaves.walk.left = some_left c.args.place.now.legs c.args.most c.leaves.counter c.leaves.walk.left c.requires (subst (λ n. c.leaves.counter < n) c.div_ceil-end.ensures c.leaves-test.true) inv.left in
     record {
-      reads = reads_trans (g.R.LeafReader.seen c.args.source.now) (g.R.LeafReader.seen c.leaves.source) (g.R.LeafReader.seen c.take_leaf.new.source) inv.reads c.take_leaf.ensures.reads;
+      reads = reads_trans (g.R.LeafReader.seen c.args.source.now) (g.R.LeafReader.seen c.leaves.source) (g.R.LeafReader.seen c.take_leaf.new.source) inv.reads c.take_leaf.ensures.reads.only;
       left = c.in_ok-take_leaf.ensures.left ∙ next_left c.args.place.now.legs c.args.most c.leaves.counter c.leaves.walk.left inv.left;
       walked = λ fa.
           let taken = subst (λ nodes. TakesLeaf nodes c.args.most c.args.rows c.leaves.walk c.take_leaf.new.walk c.leaves.survey c.take_leaf.new.survey) (same_by g.R.LeafReader.node (g.R.LeafReader.seen c.args.source.now) (g.R.LeafReader.seen c.leaves.source) inv.reads fa) (c.in_ok-take_leaf.ensures.taken (inv.reads.store.faithful ∙ fa) some) in

@@ -16,19 +16,19 @@ use Rattle.version1.proofs.old_legs.take_old_legs.Goals as goal
 
 pub returns-in-Err-clause-stays : goal.returns-in-Err-clause-stays
 returns-in-Err-clause-stays g c =
-    stays_read (g.S.PageStore.seen c.args.old.now) (g.S.PageStore.seen c.survey_leaves.new.store) (g.met.S.PageStore.lawful c.args.old.now) (g.met.S.PageStore.lawful c.survey_leaves.new.store) c.survey_leaves.ensures.reads
+    stays_read (g.S.PageStore.seen c.args.old.now) (g.S.PageStore.seen c.survey_leaves.new.store) (g.met.S.PageStore.lawful c.args.old.now) (g.met.S.PageStore.lawful c.survey_leaves.new.store) c.survey_leaves.ensures.reads.only
 
 pub returns-clause-stays : goal.returns-clause-stays
 returns-clause-stays g c =
     stays_trans (g.S.PageStore.seen c.args.old.now) (g.S.PageStore.seen c.survey_leaves.new.store) (g.S.PageStore.seen c.bring.new.old)
-    (stays_read (g.S.PageStore.seen c.args.old.now) (g.S.PageStore.seen c.survey_leaves.new.store) (g.met.S.PageStore.lawful c.args.old.now) (g.met.S.PageStore.lawful c.survey_leaves.new.store) c.survey_leaves.ensures.reads)
+    (stays_read (g.S.PageStore.seen c.args.old.now) (g.S.PageStore.seen c.survey_leaves.new.store) (g.met.S.PageStore.lawful c.args.old.now) (g.met.S.PageStore.lawful c.survey_leaves.new.store) c.survey_leaves.ensures.reads.only)
     c.bring.ensures.stays
 
 pub returns-clause-brought : goal.returns-clause-brought
 returns-clause-brought g c = on_ok c.bring.result (λ h fa sound empty.
     let first = g.S.PageStore.seen c.args.old.now in
     let mid = g.S.PageStore.seen c.survey_leaves.new.store in
-    let reads = c.survey_leaves.ensures.reads in
+    let reads = c.survey_leaves.ensures.reads.only in
     let total = c.args.tracks.now.legs in
     let places = c.args.places.now in
     let tracks = c.args.tracks.now.tracks in
@@ -49,7 +49,7 @@ pub returns-clause-marked : goal.returns-clause-marked
 returns-clause-marked g c = λ fa sound empty marked.
     let first = g.S.PageStore.seen c.args.old.now in
     let mid = g.S.PageStore.seen c.survey_leaves.new.store in
-    let reads = c.survey_leaves.ensures.reads in
+    let reads = c.survey_leaves.ensures.reads.only in
     let total = c.args.tracks.now.legs in
     let places = c.args.places.now in
     let tracks = c.args.tracks.now.tracks in
@@ -75,7 +75,7 @@ pub returns-clause-only : goal.returns-clause-only
 returns-clause-only g c = on_err c.bring.result (λ fault h fa sound empty agrees legs held.
     let first = g.S.PageStore.seen c.args.old.now in
     let mid = g.S.PageStore.seen c.survey_leaves.new.store in
-    let reads = c.survey_leaves.ensures.reads in
+    let reads = c.survey_leaves.ensures.reads.only in
     let total = c.args.tracks.now.legs in
     let places = c.args.places.now in
     let tracks = c.args.tracks.now.tracks in
@@ -96,13 +96,13 @@ returns-clause-only g c = on_err c.bring.result (λ fault h fa sound empty agree
     h (reads.store.faithful ∙ fa) sound empty list there each_there total_is) c.bring.ensures.only
 
 pub returns-in-Err-clause-works : goal.returns-in-Err-clause-works
-returns-in-Err-clause-works g c = λ fa sound empty e. works_leg (fresh (g.S.PageStore.seen c.args.old.now) 1) (fresh (g.S.PageStore.seen c.survey_leaves.new.store) 1) c.in-Err.fault c.in-Err.ensures.caused (sym c.of_tree.ensures ∙ e)
+returns-in-Err-clause-works g c = λ fa sound empty e. works_leg (fresh (g.S.PageStore.seen c.args.old.now) 1) (fresh (g.S.PageStore.seen c.survey_leaves.new.store) 1) c.in-Err.fault c.in-Err.ensures.reads.caused (sym c.of_tree.ensures ∙ e)
 
 pub returns-clause-works : goal.returns-clause-works
 returns-clause-works g c = on_err c.bring.result (λ fault h fa sound empty.
     let first = g.S.PageStore.seen c.args.old.now in
     let mid = g.S.PageStore.seen c.survey_leaves.new.store in
-    let reads = c.survey_leaves.ensures.reads in
+    let reads = c.survey_leaves.ensures.reads.only in
     let total = c.args.tracks.now.legs in
     let places = c.args.places.now in
     let tracks = c.args.tracks.now.tracks in

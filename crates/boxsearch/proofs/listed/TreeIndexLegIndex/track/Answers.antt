@@ -48,7 +48,7 @@ returns-clause-asks g c =
 pub returns-clause-leaves : goal.returns-clause-leaves
 returns-clause-leaves g c =
     let inside : IndexView = record { cache = c.self.inside.cache; tree = c.self.inside.tree; places = c.self.inside.places.items; legs = c.self.inside.legs; known = map (λ spans. spans.items) c.self.inside.known.items } in
-    subst (λ i. Leaves words i (record inside { cache = c.trajectory.new.cache; known = map (λ spans. spans.items) (set c.make_room.new.known.items c.args.feature c.trajectory.new.spans) })) c.self.view_is (reads_leave inside c.trajectory.new.cache (map (λ spans. spans.items) (set c.make_room.new.known.items c.args.feature c.trajectory.new.spans)) c.trajectory.ensures.reads)
+    subst (λ i. Leaves words i (record inside { cache = c.trajectory.new.cache; known = map (λ spans. spans.items) (set c.make_room.new.known.items c.args.feature c.trajectory.new.spans) })) c.self.view_is (reads_leave inside c.trajectory.new.cache (map (λ spans. spans.items) (set c.make_room.new.known.items c.args.feature c.trajectory.new.spans)) c.trajectory.ensures.reads.only)
 
 pub returns-clause-refusals : goal.returns-clause-refusals
 returns-clause-refusals g c =
@@ -59,7 +59,7 @@ returns-clause-refusals g c =
     let works : inside.tree.spent ≡ false = c.if-self.false in
     subst (λ i. Refusals words i new c.answer.result) c.self.view_is
     (subst (λ r. Refusals words inside new r) (sym c.answer.ensures)
-    (track_refusals inside f c.in-Some.place c.trajectory.new.cache c.trajectory.result at (map (λ spans. spans.items) (set c.make_room.new.known.items c.args.feature c.trajectory.new.spans)) (λ legs feature v. v.items ≡ legs_of feature legs) works c.trajectory.ensures.found c.trajectory.ensures.caused))
+    (track_refusals inside f c.in-Some.place c.trajectory.new.cache c.trajectory.result at (map (λ spans. spans.items) (set c.make_room.new.known.items c.args.feature c.trajectory.new.spans)) (λ legs feature v. v.items ≡ legs_of feature legs) works c.trajectory.ensures.found c.trajectory.ensures.reads.caused))
 
 pub returns-in_default-clause-told : goal.returns-in_default-clause-told
 returns-in_default-clause-told g c = none_told c.args.self.now c.args.feature None c.new.result.items (sym c.place.ensures ∙ c.in_default.is) c.new.ensures.items
@@ -71,7 +71,7 @@ returns-clause-told g c =
     let at : slice_get inside.places f ≡ Some c.in-Some.place = ap (λ (i : IndexView). slice_get i.places f) c.self.view_is ∙ sym c.place.ensures ∙ c.in-Some.is in
     subst (λ i. MatchResult c.answer.result (λ legs. tells i (OfFeature f None) legs.items) (λ fault. Denies words i (OfFeature f None) fault)) c.self.view_is
     (subst (λ r. MatchResult r (λ legs. tells inside (OfFeature f None) legs.items) (λ fault. Denies words inside (OfFeature f None) fault)) (sym c.answer.ensures)
-    (track_told inside c.trajectory.new.cache f None c.in-Some.place at (λ legs. legs.items) c.trajectory.result c.trajectory.ensures.chain c.trajectory.ensures.legs c.trajectory.ensures.named c.trajectory.ensures.caused))
+    (track_told inside c.trajectory.new.cache f None c.in-Some.place at (λ legs. legs.items) c.trajectory.result c.trajectory.ensures.chain c.trajectory.ensures.legs c.trajectory.ensures.named c.trajectory.ensures.reads.caused))
 
 pub trajectory-requires : goal.trajectory-requires
 trajectory-requires g c =
@@ -87,7 +87,7 @@ pub invariant_of-self-2 : goal.invariant_of-self-2
 invariant_of-self-2 g c =
     let inside = c.self.inside in
     let new = c.trajectory.new.cache in
-    let reads = c.trajectory.ensures.reads in
+    let reads = c.trajectory.ensures.reads.only in
     let at : slice_get inside.places.items c.args.feature ≡ Some c.in-Some.place = ap (λ (i : IndexView). slice_get i.places c.args.feature) c.self.view_is ∙ sym c.place.ensures ∙ c.in-Some.is in
     known_after (λ v. v.items) inside.cache new inside.tree.shape inside.places.items inside.known.items c.make_room.new.known.items c.args.feature c.in-Some.place c.self.invariant c.make_room.ensures.widens at c.trajectory.new.spans reads
     (λ place spans fa h. c.laws.ensures.lasts inside.cache new inside.tree.shape place spans reads fa h) c.trajectory.ensures.learns
@@ -107,7 +107,7 @@ returns-clause-recalls g c =
     let room = of_answer c.make_room.result (f < length c.make_room.new.known.items) (sym c.is_err.ensures.value ∙ c.if-is_err.false) c.make_room.ensures.room in
     let after = map (λ spans. spans.items) (set c.make_room.new.known.items f c.trajectory.new.spans) in
     subst (λ (i : IndexView). (f : ℕ) (start : ℤ) → KnowsBackTo i.cache i.tree.shape i.places i.known f start → KnowsBackTo new inside.tree.shape inside.places after f start) c.self.view_is
-    (recalled (λ v. v.items) inside.cache new inside.tree.shape inside.places c.self.inside.known.items c.make_room.new.known.items f c.trajectory.ensures.reads c.make_room.ensures.holds room c.index_mut-spans.result.now c.trajectory.new.spans c.index_mut-spans.ensures.value c.trajectory.ensures.keeps)
+    (recalled (λ v. v.items) inside.cache new inside.tree.shape inside.places c.self.inside.known.items c.make_room.new.known.items f c.trajectory.ensures.reads.only c.make_room.ensures.holds room c.index_mut-spans.result.now c.trajectory.new.spans c.index_mut-spans.ensures.value c.trajectory.ensures.keeps)
 
 pub returns-clause-learns : goal.returns-clause-learns
 returns-clause-learns g c =
@@ -122,4 +122,4 @@ returns-clause-learns g c =
     let back = ok_all c.trajectory.result (IsTrue inside.cache.store.is_faithful) (λ (period : Option PeriodView). Unit {0}) Back (λ fa period _. c.trajectory.ensures.recalls fa period) in
     subst (λ r. OnOk r P) (sym c.answer.ensures)
     (each_value (λ fault. of_tree fault) (λ _. P) c.trajectory.result
-    (on_ok c.trajectory.result (λ (h : IsTrue inside.cache.store.is_faithful → (period : Option PeriodView) → Unit {0} → Back period) start. learned (λ v. v.items) inside.cache new inside.tree.shape inside.places c.self.inside.known.items c.make_room.new.known.items f c.trajectory.ensures.reads c.make_room.ensures.holds room c.index_mut-spans.result.now c.trajectory.new.spans c.index_mut-spans.ensures.value c.in-Some.place start at (λ fa period _. h fa (Some period) tt)) back))
+    (on_ok c.trajectory.result (λ (h : IsTrue inside.cache.store.is_faithful → (period : Option PeriodView) → Unit {0} → Back period) start. learned (λ v. v.items) inside.cache new inside.tree.shape inside.places c.self.inside.known.items c.make_room.new.known.items f c.trajectory.ensures.reads.only c.make_room.ensures.holds room c.index_mut-spans.result.now c.trajectory.new.spans c.index_mut-spans.ensures.value c.in-Some.place start at (λ fa period _. h fa (Some period) tt)) back))

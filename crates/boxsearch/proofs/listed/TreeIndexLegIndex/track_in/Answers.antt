@@ -49,7 +49,7 @@ returns-clause-asks g c =
 pub returns-clause-leaves : goal.returns-clause-leaves
 returns-clause-leaves g c =
     let inside : IndexView = record { cache = c.self.inside.cache; tree = c.self.inside.tree; places = c.self.inside.places.items; legs = c.self.inside.legs; known = map (λ spans. spans.items) c.self.inside.known.items } in
-    subst (λ i. Leaves words i (record inside { cache = c.trajectory_in.new.cache; known = map (λ spans. spans.items) (set c.make_room.new.known.items c.args.feature c.trajectory_in.new.spans) })) c.self.view_is (reads_leave inside c.trajectory_in.new.cache (map (λ spans. spans.items) (set c.make_room.new.known.items c.args.feature c.trajectory_in.new.spans)) c.trajectory_in.ensures.reads)
+    subst (λ i. Leaves words i (record inside { cache = c.trajectory_in.new.cache; known = map (λ spans. spans.items) (set c.make_room.new.known.items c.args.feature c.trajectory_in.new.spans) })) c.self.view_is (reads_leave inside c.trajectory_in.new.cache (map (λ spans. spans.items) (set c.make_room.new.known.items c.args.feature c.trajectory_in.new.spans)) c.trajectory_in.ensures.reads.only)
 
 pub returns-clause-refusals : goal.returns-clause-refusals
 returns-clause-refusals g c =
@@ -60,7 +60,7 @@ returns-clause-refusals g c =
     let works : inside.tree.spent ≡ false = c.if-self.false in
     subst (λ i. Refusals words i new c.answer.result) c.self.view_is
     (subst (λ r. Refusals words inside new r) (sym c.answer.ensures)
-    (track_refusals inside f c.in-Some.place c.trajectory_in.new.cache c.trajectory_in.result at (map (λ spans. spans.items) (set c.make_room.new.known.items c.args.feature c.trajectory_in.new.spans)) (λ legs feature v. IsSieved c.args.sieve.now c.args.period.now (live_legs_of feature c.args.period.now legs) v.items) works c.trajectory_in.ensures.found c.trajectory_in.ensures.caused))
+    (track_refusals inside f c.in-Some.place c.trajectory_in.new.cache c.trajectory_in.result at (map (λ spans. spans.items) (set c.make_room.new.known.items c.args.feature c.trajectory_in.new.spans)) (λ legs feature v. IsSieved c.args.sieve.now c.args.period.now (live_legs_of feature c.args.period.now legs) v.items) works c.trajectory_in.ensures.found c.trajectory_in.ensures.reads.caused))
 
 pub returns-in_default-clause-told : goal.returns-in_default-clause-told
 returns-in_default-clause-told g c = none_sieved c.args.self.now c.args.self.now.cache c.args.feature c.args.period.now c.args.sieve.now c.new.result.items (sym c.place.ensures ∙ c.in_default.is) c.new.ensures.items
@@ -72,7 +72,7 @@ returns-clause-told g c =
     let at : slice_get inside.places f ≡ Some c.in-Some.place = ap (λ (i : IndexView). slice_get i.places f) c.self.view_is ∙ sym c.place.ensures ∙ c.in-Some.is in
     subst (λ i. MatchResult c.answer.result (λ legs. TellsSieved words i f c.args.period.now c.args.sieve.now legs.items) (λ fault. Denies words i (OfFeature f (Some c.args.period.now)) fault)) c.self.view_is
     (subst (λ r. MatchResult r (λ legs. TellsSieved words inside f c.args.period.now c.args.sieve.now legs.items) (λ fault. Denies words inside (OfFeature f (Some c.args.period.now)) fault)) (sym c.answer.ensures)
-    (track_sieved inside c.trajectory_in.new.cache f c.args.period.now c.args.sieve.now c.in-Some.place at (λ legs. legs.items) c.trajectory_in.result c.trajectory_in.ensures.chain c.trajectory_in.ensures.legs c.trajectory_in.ensures.named c.trajectory_in.ensures.caused))
+    (track_sieved inside c.trajectory_in.new.cache f c.args.period.now c.args.sieve.now c.in-Some.place at (λ legs. legs.items) c.trajectory_in.result c.trajectory_in.ensures.chain c.trajectory_in.ensures.legs c.trajectory_in.ensures.named c.trajectory_in.ensures.reads.caused))
 
 pub trajectory_in-requires : goal.trajectory_in-requires
 trajectory_in-requires g c =
@@ -88,7 +88,7 @@ pub invariant_of-self-2 : goal.invariant_of-self-2
 invariant_of-self-2 g c =
     let inside = c.self.inside in
     let new = c.trajectory_in.new.cache in
-    let reads = c.trajectory_in.ensures.reads in
+    let reads = c.trajectory_in.ensures.reads.only in
     let at : slice_get inside.places.items c.args.feature ≡ Some c.in-Some.place = ap (λ (i : IndexView). slice_get i.places c.args.feature) c.self.view_is ∙ sym c.place.ensures ∙ c.in-Some.is in
     known_after (λ v. v.items) inside.cache new inside.tree.shape inside.places.items inside.known.items c.make_room.new.known.items c.args.feature c.in-Some.place c.self.invariant c.make_room.ensures.widens at c.trajectory_in.new.spans reads
     (λ place spans fa h. c.laws.ensures.lasts inside.cache new inside.tree.shape place spans reads fa h) c.trajectory_in.ensures.learns
@@ -108,7 +108,7 @@ returns-clause-recalls g c =
     let room = of_answer c.make_room.result (f < length c.make_room.new.known.items) (sym c.is_err.ensures.value ∙ c.if-is_err.false) c.make_room.ensures.room in
     let after = map (λ spans. spans.items) (set c.make_room.new.known.items f c.trajectory_in.new.spans) in
     subst (λ (i : IndexView). (f : ℕ) (start : ℤ) → KnowsBackTo i.cache i.tree.shape i.places i.known f start → KnowsBackTo new inside.tree.shape inside.places after f start) c.self.view_is
-    (recalled (λ v. v.items) inside.cache new inside.tree.shape inside.places c.self.inside.known.items c.make_room.new.known.items f c.trajectory_in.ensures.reads c.make_room.ensures.holds room c.index_mut-spans.result.now c.trajectory_in.new.spans c.index_mut-spans.ensures.value c.trajectory_in.ensures.keeps)
+    (recalled (λ v. v.items) inside.cache new inside.tree.shape inside.places c.self.inside.known.items c.make_room.new.known.items f c.trajectory_in.ensures.reads.only c.make_room.ensures.holds room c.index_mut-spans.result.now c.trajectory_in.new.spans c.index_mut-spans.ensures.value c.trajectory_in.ensures.keeps)
 
 pub returns-clause-learns : goal.returns-clause-learns
 returns-clause-learns g c =
@@ -124,7 +124,7 @@ returns-clause-learns g c =
     let back = ok_all c.trajectory_in.result (IsTrue inside.cache.store.is_faithful) (λ (period : PeriodView). from ≤ℤ period.start) Back c.trajectory_in.ensures.recalls in
     subst (λ r. OnOk r P) (sym c.answer.ensures)
     (each_value (λ fault. of_tree fault) (λ _. P) c.trajectory_in.result
-    (on_ok c.trajectory_in.result (λ (h : IsTrue inside.cache.store.is_faithful → (period : PeriodView) → from ≤ℤ period.start → Back period) start le. learned (λ v. v.items) inside.cache new inside.tree.shape inside.places c.self.inside.known.items c.make_room.new.known.items f c.trajectory_in.ensures.reads c.make_room.ensures.holds room c.index_mut-spans.result.now c.trajectory_in.new.spans c.index_mut-spans.ensures.value c.in-Some.place start at (λ fa period starts. h fa period (le_then from start period.start le starts))) back))
+    (on_ok c.trajectory_in.result (λ (h : IsTrue inside.cache.store.is_faithful → (period : PeriodView) → from ≤ℤ period.start → Back period) start le. learned (λ v. v.items) inside.cache new inside.tree.shape inside.places c.self.inside.known.items c.make_room.new.known.items f c.trajectory_in.ensures.reads.only c.make_room.ensures.holds room c.index_mut-spans.result.now c.trajectory_in.new.spans c.index_mut-spans.ensures.value c.in-Some.place start at (λ fa period starts. h fa period (le_then from start period.start le starts))) back))
 
 pub returns-clause-asks_known : goal.returns-clause-asks_known
 returns-clause-asks_known g c =
@@ -143,4 +143,4 @@ returns-clause-asks_known g c =
     (ok_two c.trajectory_in.result (Knows inside) (IsSound inside) (Rises inside)
     (λ knows s. on_ok c.trajectory_in.result (rises_capped_most inside.cache.asked new.asked (known_bound f period (Some inside.tree.shape) (content inside)))
     (c.trajectory_in.ensures.met s.faithful (content inside) f (has_feature inside f c.in-Some.place s at)
-    (known_back (λ v. v.items) inside.cache new inside.tree.shape inside.places c.self.inside.known.items c.make_room.new.known.items f c.trajectory_in.ensures.reads c.make_room.ensures.holds room c.index_mut-spans.result.now c.trajectory_in.new.spans c.index_mut-spans.ensures.value c.in-Some.place period at knows s.faithful))))))
+    (known_back (λ v. v.items) inside.cache new inside.tree.shape inside.places c.self.inside.known.items c.make_room.new.known.items f c.trajectory_in.ensures.reads.only c.make_room.ensures.holds room c.index_mut-spans.result.now c.trajectory_in.new.spans c.index_mut-spans.ensures.value c.in-Some.place period at knows s.faithful))))))
