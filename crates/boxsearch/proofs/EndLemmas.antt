@@ -3,13 +3,13 @@ use Rattle.std.proofs.Common.{ℕ, zero, suc, ◌+◌, ◌-◌, ◌%◌, ◌<◌
 use Rattle.std.specs.Prelude.{IsTrue}
 use Rattle.std.proofs.lemmas.Bool.{cases_eq}
 use Rattle.std.proofs.lemmas.List.{append-nil, drop-append-le, length_push}
-use Rattle.std.proofs.lemmas.List.Elements.{All-cons, All-nil}
+use Rattle.std.proofs.lemmas.List.Elements.{All-cons, All-nil, All-take}
 use Rattle.legs.specs.Asking.{EndsIn}
 use Rattle.legs.specs.Boxes.{BoxView}
 use Rattle.legs.specs.Index.{last_leg_of}
 use Rattle.legs.specs.Legs.{LegView}
 use Rattle.legs.proofs.LastLemmas.{ends_then, last_absent, last_at_end, last_holds, last_own}
-use Rattle.tbtree.specs.Joining.{in_last_leaf, HasAtEnd, KeepsLegs}
+use Rattle.tbtree.specs.Joining.{in_last_leaf, taken_by_last, HasAtEnd, KeepsLegs}
 use Rattle.tbtree.specs.Nodes.{Pages, ALeaf, pages_of_cache, with_legs}
 use Rattle.tbtree.specs.Stands.{no_place}
 use Rattle.tbtree.specs.declared.fault.TreeFault.{TreeFault}
@@ -41,15 +41,22 @@ last_in_leaf leaf count front leg =
     let j = length (front ++ leg ∷ []) - ((count - 1) % leaf + 1) in
     (drop j front, drop-append-le j front (leg ∷ []) (let n = length_push front leg in omega (arith, n)))
 
+-- legs that are of a feature and of another one are none
+of_none : (f : ℕ) (legs : List LegView) → All (λ leg. leg.feature ≡ f) legs → All (λ leg. leg.feature ≢ f) legs → legs ≡ []
+of_none f [] own off = refl
+of_none f (leg ∷ legs) own off = absurd (off 0 leg (omega arith) (own 0 leg (omega arith)))
+
 -- a leg of another feature stays at the end of its leaf
-stays_at_end : (old new : Pages LegView BoxView) (last : ℕ) (legs : List LegView) (p : ℕ) (leg : LegView) → All (λ other. other.feature ≢ leg.feature) legs → KeepsLegs last legs old new → HasAtEnd old p (leg ∷ []) → HasAtEnd new p (leg ∷ [])
-stays_at_end old new last legs p leg other keeps h =
+stays_at_end : (old new : Pages LegView BoxView) (last leaf count : ℕ) (legs : List LegView) (p : ℕ) (leg : LegView) → All (λ other. other.feature ≢ leg.feature) legs → KeepsLegs last (taken_by_last leaf count legs) old new → HasAtEnd old p (leg ∷ []) → HasAtEnd new p (leg ∷ [])
+stays_at_end old new last leaf count legs p leg other keeps h =
     let own : leg.feature ≡ h.leaf.feature = h.own 0 leg (omega arith) in
+    let more = taken_by_last leaf count legs in
     ⊎_elim
     (λ (e : p ≡ last).
     let now = keeps.grown (with_legs (leg ∷ []) h.leaf) (ap old.at (sym e) ∙ h.is) in
-    let none : now.more ≡ [] = now.none (subst (λ f. All (λ (l : LegView). l.feature ≢ f) legs) own other) in
-    let same : (h.leaf.legs ++ leg ∷ []) ++ now.more ≡ h.leaf.legs ++ leg ∷ [] = ap (λ ls. (h.leaf.legs ++ leg ∷ []) ++ ls) none ∙ append-nil (h.leaf.legs ++ leg ∷ []) in
+    let off : All (λ other. other.feature ≢ h.leaf.feature) more = subst (λ f. All (λ (l : LegView). l.feature ≢ f) more) own (All-take (λ (l : LegView). l.feature ≢ leg.feature) ((leaf - count % leaf) % leaf) legs other) in
+    let none : more ≡ [] = of_none h.leaf.feature more now.own off in
+    let same : (h.leaf.legs ++ leg ∷ []) ++ more ≡ h.leaf.legs ++ leg ∷ [] = ap (λ ls. (h.leaf.legs ++ leg ∷ []) ++ ls) none ∙ append-nil (h.leaf.legs ++ leg ∷ []) in
     record {
       above = h.above;
       leaf = record h.leaf { next = now.next };
@@ -63,7 +70,7 @@ module _ (old new : IndexView) (feature : ℕ) (legs : List LegView) (was is : P
     (found : slice_get (with_place old.places feature) feature ≡ Some was) (places : new.places ≡ set (with_place old.places feature) feature is)
     (faithful : new.cache.store.is_faithful ≡ old.cache.store.is_faithful)
     (ends : IsTrue old.cache.store.is_faithful → (leg : LegView) → last_leg_of feature legs ≡ Some leg → HasAtEnd (pages_of_cache new.cache) is.last (leg ∷ []))
-    (keeps : IsTrue old.cache.store.is_faithful → KeepsLegs was.last legs (pages_of_cache old.cache) (pages_of_cache new.cache)) where
+    (keeps : IsTrue old.cache.store.is_faithful → KeepsLegs was.last (taken_by_last old.tree.shape.leaf was.legs legs) (pages_of_cache old.cache) (pages_of_cache new.cache)) where
   was_faithful : IsTrue new.cache.store.is_faithful → IsTrue old.cache.store.is_faithful
   was_faithful fa = still _ _ (sym faithful) fa
 
@@ -89,7 +96,7 @@ module _ (old new : IndexView) (feature : ℕ) (legs : List LegView) (was is : P
         record {
           place = before.place;
           is = ap (λ l. slice_get l leg.feature) places ∙ get-set_other (with_place old.places feature) feature leg.feature is (other_feature legs some one leg.feature off) ∙ place_stays old.places feature leg.feature before.place before.is;
-          at_end = stays_at_end (pages_of_cache old.cache) (pages_of_cache new.cache) was.last legs before.place.last leg off (keeps (was_faithful fa)) before.at_end;
+          at_end = stays_at_end (pages_of_cache old.cache) (pages_of_cache new.cache) was.last old.tree.shape.leaf was.legs legs before.place.last leg off (keeps (was_faithful fa)) before.at_end;
         };
   }
 

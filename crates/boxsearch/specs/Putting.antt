@@ -3,7 +3,7 @@ use Rattle.std.specs.Prelude.{ℕ, ◌≡◌, ◌≤◌, ◌+◌, ◌*◌, ◌-�
 use Rattle.legs.specs.Legs.{LegView}
 use Rattle.tbtree.specs.Faults.{RefusesWrite}
 use Rattle.tbtree.specs.Insert.{Inserts}
-use Rattle.tbtree.specs.Joining.{in_last_leaf, HasAtEnd, Joins, JoinsAll, KeepsLegs}
+use Rattle.tbtree.specs.Joining.{in_last_leaf, taken_by_last, HasAtEnd, Joins, JoinsAll, KeepsLegs}
 use Rattle.tbtree.specs.Nodes.{pages_of_cache}
 use Rattle.tbtree.specs.Passes.{Passes, KeepsLength}
 use Rattle.tbtree.specs.declared.fault.TreeFault.{TreeFault}
@@ -26,7 +26,8 @@ pub record Puts (old new : IndexView) (leg : LegView)
       → OnOk result (HasAtEnd (pages_of_cache new.cache) is.last (leg ∷ []))
   pub keeps : IsTrue old.cache.store.is_faithful
       → OnOk result
-      (KeepsLegs was.last (leg ∷ []) (pages_of_cache old.cache) (pages_of_cache new.cache))
+      (KeepsLegs was.last (taken_by_last old.tree.shape.leaf was.legs (leg ∷ []))
+      (pages_of_cache old.cache) (pages_of_cache new.cache))
   pub shape : new.tree.shape ≡ old.tree.shape
   pub passes : Passes old.cache new.cache
   pub count : OnOk result (KeepsLength old.cache new.cache)
@@ -51,7 +52,8 @@ pub record PutsAll (old new : IndexView) (feature : ℕ) (legs : List LegView)
       → OnOk result (HasAtEnd (pages_of_cache new.cache) is.last
       (in_last_leaf old.tree.shape.leaf is.legs legs))
   pub keeps : IsTrue old.cache.store.is_faithful
-      → OnOk result (KeepsLegs was.last legs (pages_of_cache old.cache) (pages_of_cache new.cache))
+      → OnOk result (KeepsLegs was.last (taken_by_last old.tree.shape.leaf was.legs legs)
+      (pages_of_cache old.cache) (pages_of_cache new.cache))
   pub shape : new.tree.shape ≡ old.tree.shape
   pub passes : Passes old.cache new.cache
   pub count : OnOk result (KeepsLength old.cache new.cache)

@@ -1,18 +1,19 @@
 -- Where legs are that were put in, and that other leaves stay.
-use Rattle.std.proofs.Common.{ℕ, suc, ◌<◌, ◌≡◌, ◌≢◌, ◌==◌, ◌&&◌, ◌⊎◌, inl, inr, nat_lt, true, All, List, [], ◌∷◌, ◌++◌, take, drop, length, refl, sym, ap, ◌∙◌, arith, ⊎_elim, append_assoc, Some, None}
+use Rattle.std.proofs.Common.{ℕ, suc, ◌+◌, ◌-◌, ◌%◌, ◌≤◌, subst, ◌<◌, ◌≡◌, ◌≢◌, ◌==◌, ◌&&◌, ◌⊎◌, inl, inr, nat_lt, true, All, List, [], ◌∷◌, ◌++◌, take, drop, length, refl, sym, ap, ◌∙◌, arith, ⊎_elim, append_assoc, Some, None}
 use Rattle.std.specs.Prelude.{Result, Ok, Err, IfOk, OnOk}
-use Rattle.std.proofs.lemmas.Bool.{cases_eq, eqb-true}
+use Rattle.std.proofs.lemmas.Bool.{cases_eq, cases_lt, eqb-true}
 use Rattle.std.proofs.lemmas.List.{append-nil}
-use Rattle.std.proofs.lemmas.List.Elements.{All-cons, All-nil, All-take, All-drop}
+use Rattle.std.proofs.lemmas.List.Elements.{All-append, All-cons, All-nil}
 use Rattle.legs.specs.Boxes.{BoxView}
 use Rattle.legs.specs.Costs.{leg_feature}
 use Rattle.legs.specs.Legs.{LegView}
-use Rattle.tbtree.specs.Joining.{HasAtEnd, HasMore, KeepsLegs}
+use Rattle.tbtree.specs.Joining.{taken_by_last, HasAtEnd, HasMore, KeepsLegs}
 use Rattle.tbtree.specs.Nodes.{Pages, ALeaf, LeafView, Adds, Links, Pushes, HasLeafRoom, KeepsLeaves, with_legs, with_next}
 use Rattle.tbtree.specs.Payloads.{TakesLegs, are_of_one_leaf, goes_on}
 use Rattle.tbtree.specs.Stands.{new_leaf, owner}
 use Rattle.tbtree.specs.declared.fault.TreeFault.{TreeFault}
 use Rattle.legs.specs.GroupLemmas.{some_none, some_same}
+use Rattle.tbtree.proofs.OldLeaf.{taken_full, taken_nil, taken_then}
 use Rattle.tbtree.proofs.TakeLemmas.{both_true}
 use Rattle.tbtree.proofs.Widening.{leaf_same}
 
@@ -86,25 +87,27 @@ ends_fewer nodes p xs ys h = record {
     back (x ∷ xs) all = back xs (λ i d l. all (suc i) d (omega (arith, l)))
 
 -- a leaf that is as it was, but for its next one
-more_none : (nodes : Pages LegView BoxView) (p next : ℕ) (leaf : LeafView LegView) (legs : List LegView) → nodes.at p ≡ Some (Some (ALeaf (with_next next leaf))) → HasMore nodes p leaf legs
-more_none nodes p next leaf legs e = record {
+more_none : (nodes : Pages LegView BoxView) (p next : ℕ) (leaf : LeafView LegView) → nodes.at p ≡ Some (Some (ALeaf (with_next next leaf))) → HasMore nodes p leaf []
+more_none nodes p next leaf e = record {
   next = next;
-  more = [];
   is = e ∙ ap (λ (l : List LegView). Some (Some (ALeaf (with_next next (record leaf { legs = l }))))) (sym (append-nil leaf.legs));
-  none = λ other. refl;
+  own = All-nil (λ leg. leg.feature ≡ leaf.feature);
 }
 
-more_kept : (mid new : Pages LegView BoxView) (p : ℕ) (leaf : LeafView LegView) (legs : List LegView) (h : HasMore mid p leaf legs) → new.at p ≡ Some (Some (ALeaf (with_next h.next (with_legs h.more leaf)))) → HasMore new p leaf legs
-more_kept mid new p leaf legs h e = record { next = h.next; more = h.more; is = e; none = h.none }
+more_kept : (mid new : Pages LegView BoxView) (p : ℕ) (leaf : LeafView LegView) (legs : List LegView) (h : HasMore mid p leaf legs) → new.at p ≡ Some (Some (ALeaf (with_next h.next (with_legs legs leaf)))) → HasMore new p leaf legs
+more_kept mid new p leaf legs h e = record { next = h.next; is = e; own = h.own }
 
-pub keeps_same : (last : ℕ) (legs : List LegView) (nodes : Pages LegView BoxView) → KeepsLegs last legs nodes nodes
-keeps_same last legs nodes = record { rest = λ p leaf u e. e; grown = λ leaf e. more_none nodes last leaf.next leaf legs e }
+pub keeps_same : (last : ℕ) (nodes : Pages LegView BoxView) → KeepsLegs last [] nodes nodes
+keeps_same last nodes = record { rest = λ p leaf u e. e; grown = λ leaf e. more_none nodes last leaf.next leaf e }
+
+pub keeps_begun : (leaf count last : ℕ) (legs : List LegView) (nodes : Pages LegView BoxView) → KeepsLegs last (taken_by_last leaf count (take 0 legs)) nodes nodes
+keeps_begun leaf count last legs nodes = subst (λ l. KeepsLegs last l nodes nodes) (sym (taken_nil leaf count)) (keeps_same last nodes)
 
 -- where no leaf changes any more
 pub keeps_kept : (last : ℕ) (legs : List LegView) (old mid new : Pages LegView BoxView) → KeepsLegs last legs old mid → KeepsLeaves mid new → KeepsLegs last legs old new
 keeps_kept last legs old mid new k l = record {
   rest = λ p leaf u e. l p leaf (k.rest p leaf u e);
-  grown = λ leaf e. (let m = k.grown leaf e in more_kept mid new last leaf legs m (l last (with_next m.next (with_legs m.more leaf)) m.is));
+  grown = λ leaf e. (let m = k.grown leaf e in more_kept mid new last leaf legs m (l last (with_next m.next (with_legs legs leaf)) m.is));
 }
 
 -- the place's last leaf is the same, or was no leaf
@@ -118,35 +121,48 @@ last_made legs old mid a b k none = ⊎_elim
     (λ (u : b ≢ a). inr (λ leaf e. some_none _ (sym (k.rest b leaf u e) ∙ none)))
     (cases_eq b a)
 
+module _ (old mid new : Pages LegView BoxView) (a b : ℕ) (xs ys : List LegView) (so_far : KeepsLegs a xs old mid) (later : KeepsLegs b ys mid new) where
+  -- the same leaf takes more
+  keeps_on : b ≡ a → KeepsLegs a (xs ++ ys) old new
+  keeps_on e = record {
+    rest = λ p leaf u is. later.rest p leaf (λ v. u (v ∙ e)) (so_far.rest p leaf u is);
+    grown = λ leaf is.
+        let m = so_far.grown leaf is in
+        let l = later.grown (with_next m.next (with_legs xs leaf)) (ap mid.at e ∙ m.is) in
+        record {
+          next = l.next;
+          is = ap new.at (sym e) ∙ l.is ∙ ap (λ (ls : List LegView). Some (Some (ALeaf (with_next l.next (record leaf { legs = ls }))))) (append_assoc leaf.legs xs ys);
+          own = All-append (λ leg. leg.feature ≡ leaf.feature) xs ys m.own l.own;
+        };
+  }
+
+  -- another leaf does, which was none before
+  keeps_past : ((leaf : LeafView LegView) → old.at b ≡ Some (Some (ALeaf leaf)) → ⊥) → KeepsLegs a xs old new
+  keeps_past none = record {
+    rest = λ p leaf u is. later.rest p leaf (λ v. none leaf (ap old.at (sym v) ∙ is)) (so_far.rest p leaf u is);
+    grown = λ leaf is.
+        let m = so_far.grown leaf is in
+        more_kept mid new a leaf xs m (later.rest a (with_next m.next (with_legs xs leaf)) (λ v. none leaf (ap old.at (sym v) ∙ is)) m.is);
+  }
+
 -- a part more of the legs
-module _ (legs : List LegView) (n k : ℕ) (old mid new : Pages LegView BoxView) (a b : ℕ) (so_far : KeepsLegs a legs old mid) (later : KeepsLegs b (take n (drop k legs)) mid new) where
-  part : (f : ℕ) → All (λ leg. leg.feature ≢ f) legs → All (λ leg. leg.feature ≢ f) (take n (drop k legs))
-  part f other = All-take (λ (leg : LegView). leg.feature ≢ f) n (drop k legs) (All-drop (λ (leg : LegView). leg.feature ≢ f) k legs other)
-
-  then_rest : IsLast old a b → (p : ℕ) (leaf : LeafView LegView) → p ≢ a → old.at p ≡ Some (Some (ALeaf leaf)) → new.at p ≡ Some (Some (ALeaf leaf))
-  then_rest (inl e) p leaf u is = later.rest p leaf (λ v. u (v ∙ e)) (so_far.rest p leaf u is)
-  then_rest (inr none) p leaf u is = later.rest p leaf (λ v. none leaf (ap old.at (sym v) ∙ is)) (so_far.rest p leaf u is)
-
-  then_grown : IsLast old a b → (leaf : LeafView LegView) → old.at a ≡ Some (Some (ALeaf leaf)) → HasMore new a leaf legs
-  then_grown (inl e) leaf is =
-      let m = so_far.grown leaf is in
-      let l = later.grown (with_next m.next (with_legs m.more leaf)) (ap mid.at e ∙ m.is) in
-      record {
-        next = l.next;
-        more = m.more ++ l.more;
-        is = ap new.at (sym e) ∙ l.is ∙ ap (λ (ls : List LegView). Some (Some (ALeaf (with_next l.next (record leaf { legs = ls }))))) (append_assoc leaf.legs m.more l.more);
-        none = λ other. ap (λ ls. ls ++ l.more) (m.none other) ∙ l.none (part leaf.feature other);
-      }
-  then_grown (inr none) leaf is =
-      let m = so_far.grown leaf is in
-      more_kept mid new a leaf legs m (later.rest a (with_next m.next (with_legs m.more leaf)) (λ v. none leaf (ap old.at (sym v) ∙ is)) m.is)
-
-  pub keeps_then : IsLast old a b → KeepsLegs a legs old new
-  keeps_then at = record { rest = then_rest at; grown = then_grown at }
+pub keeps_then : (leaf count n k : ℕ) (legs : List LegView) (old mid new : Pages LegView BoxView) (a b : ℕ) → 0 < leaf → (0 < n → (count + n) % leaf ≡ 0) → (n ≡ 0 → b ≡ a) → IsLast old a b
+    → KeepsLegs a (taken_by_last leaf count (take n legs)) old mid → KeepsLegs b (taken_by_last leaf (count + n) (take (n + k - n) (drop n legs))) mid new → KeepsLegs a (taken_by_last leaf count (take (n + k) legs)) old new
+keeps_then leaf count n k legs old mid new a b some full first at so_far later =
+    let xs = taken_by_last leaf count (take n legs) in
+    let ys = taken_by_last leaf (count + n) (take (n + k - n) (drop n legs)) in
+    let same : b ≡ a → KeepsLegs a (taken_by_last leaf count (take (n + k) legs)) old new = λ e. subst (λ l. KeepsLegs a l old new) (taken_then leaf count n k legs some full) (keeps_on old mid new a b xs ys so_far later e) in
+    ⊎_elim
+    (λ (more : 0 < n). ⊎_elim
+    same
+    (λ none. subst (λ l. KeepsLegs a l old new) (taken_full leaf count n k legs some more (full more)) (keeps_past old mid new a b xs ys so_far later none))
+    at)
+    (λ (z : n ≤ 0). same (first (omega (arith, z))))
+    (cases_lt 0 n)
 
 -- the leaf that takes legs is of their feature
-pub keeps_pushed : (old mid new : Pages LegView BoxView) (p most : ℕ) (ys : List LegView) (res : Result (Unit {0}) TreeFault) → 0 < length ys → KeepsLeaves old mid → OnOk res (HasLeafRoom mid p (λ leaf. TakesLegs most leaf ys)) → OnOk res (Pushes mid p ys new) → OnOk res (KeepsLegs p ys old new)
-keeps_pushed old mid new p most ys (Ok u) some k h w = record {
+pub keeps_pushed : (old mid new : Pages LegView BoxView) (p most : ℕ) (ys : List LegView) (res : Result (Unit {0}) TreeFault) → KeepsLeaves old mid → OnOk res (HasLeafRoom mid p (λ leaf. TakesLegs most leaf ys)) → OnOk res (Pushes mid p ys new) → OnOk res (KeepsLegs p ys old new)
+keeps_pushed old mid new p most ys (Ok u) k h w = record {
   rest = λ q leaf u e. w.becomes.rest q u ∙ k q leaf e;
   grown = λ leaf e.
       let there = k p leaf e in
@@ -154,23 +170,18 @@ keeps_pushed old mid new p most ys (Ok u) some k h w = record {
       let same : h.leaf ≡ leaf = leaf_same BoxView _ _ (some_same _ _ (sym h.is ∙ there)) in
       record {
         next = leaf.next;
-        more = ys;
         is = w.becomes.now ∙ ap (λ (x : LeafView LegView). Some (Some (ALeaf (with_legs ys x)))) pushed;
-        none = λ other. absurd (first ys some (goes_own h.leaf.feature h.takes.last.ordinal ys h.takes.go_on) leaf same other);
+        own = subst (λ (x : LeafView LegView). All (λ leg. leg.feature ≡ x.feature) ys) same (goes_own h.leaf.feature h.takes.last.ordinal ys h.takes.go_on);
       };
 }
-  where
-    first : (ys : List LegView) → 0 < length ys → All (λ leg. leg.feature ≡ h.leaf.feature) ys → (leaf : LeafView LegView) → h.leaf ≡ leaf → All (λ leg. leg.feature ≢ leaf.feature) ys → ⊥
-    first [] some own leaf same other = omega (arith, some)
-    first (y ∷ ys) some own leaf same other = other 0 y (omega arith) (own 0 y (omega arith) ∙ ap (λ (l : LeafView LegView). l.feature) same)
-keeps_pushed old mid new p most ys (Err x) some k h w = tt
+keeps_pushed old mid new p most ys (Err x) k h w = tt
 
 -- a leaf that is made leaves all that were there
 added_kept : (old new : Pages LegView BoxView) (last page : ℕ) (ys : List LegView) → old.at old.count ≡ None → Adds old (ALeaf (new_leaf leg_feature last ys)) new page → KeepsLeaves old new
 added_kept old new last page ys fresh w q leaf e = w.becomes.rest q (λ u. some_none _ (sym e ∙ ap old.at (u ∙ w.number) ∙ fresh)) ∙ e
 
-pub keeps_first : (old new : Pages LegView BoxView) (last : ℕ) (ys : List LegView) (res : Result ℕ TreeFault) → OnOk res (old.at old.count ≡ None) → IfOk res (λ p. Adds old (ALeaf (new_leaf leg_feature last ys)) new p) → OnOk res (KeepsLegs last ys old new)
-keeps_first old new last ys (Ok p) fresh w = keeps_kept last ys old old new (keeps_same last ys old) (added_kept old new last p ys fresh w)
+pub keeps_first : (old new : Pages LegView BoxView) (last : ℕ) (ys : List LegView) (res : Result ℕ TreeFault) → OnOk res (old.at old.count ≡ None) → IfOk res (λ p. Adds old (ALeaf (new_leaf leg_feature last ys)) new p) → OnOk res (KeepsLegs last [] old new)
+keeps_first old new last ys (Ok p) fresh w = keeps_kept last [] old old new (keeps_same last old) (added_kept old new last p ys fresh w)
 keeps_first old new last ys (Err x) fresh w = tt
 
 pub fresh_first : (old new : Pages LegView BoxView) (last : ℕ) (ys : List LegView) (res : Result ℕ TreeFault) → OnOk res (old.at old.count ≡ None) → IfOk res (λ p. Adds old (ALeaf (new_leaf leg_feature last ys)) new p) → IfOk res (λ p. old.at p ≡ None)
@@ -178,10 +189,10 @@ fresh_first old new last ys (Ok p) fresh w = ap old.at w.number ∙ fresh
 fresh_first old new last ys (Err x) fresh w = tt
 
 -- and the one that is linked with it is as it was but for its next one
-pub keeps_linked : (old mid new : Pages LegView BoxView) (last page : ℕ) (ys : List LegView) → old.at old.count ≡ None → Adds old (ALeaf (new_leaf leg_feature last ys)) mid page → Links mid last page new → KeepsLegs last ys old new
+pub keeps_linked : (old mid new : Pages LegView BoxView) (last page : ℕ) (ys : List LegView) → old.at old.count ≡ None → Adds old (ALeaf (new_leaf leg_feature last ys)) mid page → Links mid last page new → KeepsLegs last [] old new
 keeps_linked old mid new last page ys fresh a w = record {
   rest = λ q leaf u e. w.becomes.rest q u ∙ added_kept old mid last page ys fresh a q leaf e;
   grown = λ leaf e.
       let same : w.leaf ≡ leaf = leaf_same BoxView _ _ (some_same _ _ (sym w.was ∙ added_kept old mid last page ys fresh a last leaf e)) in
-      more_none new last page leaf ys (w.becomes.now ∙ ap (λ (x : LeafView LegView). Some (Some (ALeaf (with_next page x)))) same);
+      more_none new last page leaf (w.becomes.now ∙ ap (λ (x : LeafView LegView). Some (Some (ALeaf (with_next page x)))) same);
 }

@@ -40,6 +40,7 @@ pub mod TurnLemmas
 pub mod HeldLemmas
 pub mod BlockOrder
 pub mod TakenOrder
+pub mod OldLeaf
 pub mod EndLemmas
 pub mod FillLemmas
 pub mod FillCosts

@@ -1,5 +1,5 @@
 -- A leg more in a tree, whatever the order in which the legs before it came.
-use Rattle.std.specs.Prelude.{ℕ, ◌≡◌, ◌≢◌, ◌<◌, ◌≤◌, ◌+◌, ◌-◌, ◌%◌, List, [], ◌∷◌, ◌++◌, drop, length, All, Some, Result}
+use Rattle.std.specs.Prelude.{ℕ, ◌≡◌, ◌≢◌, ◌<◌, ◌≤◌, ◌+◌, ◌-◌, ◌%◌, List, [], ◌∷◌, ◌++◌, drop, take, length, All, Some, Result}
 use Rattle.legs.specs.Legs.{LegView}
 use Rattle.legs.specs.Boxes.{BoxView}
 use Rattle.legs.specs.Costs.{leg_feature, leaves_of}
@@ -79,16 +79,19 @@ pub record HasAtEnd (nodes : Pages LegView BoxView) (p : ℕ) (legs : List LegVi
 abbrev pub in_last_leaf : ℕ → ℕ → List LegView → List LegView
 in_last_leaf leaf count legs = drop (length legs - ((count - 1) % leaf + 1)) legs
 
--- the page p is that leaf, perhaps with another next leaf, and with more legs at its end; with none, where it is of another
--- feature than the legs that are put in
+-- of legs that are put in where a feature has count of them, those that its last leaf takes: none where it is full, and else
+-- as many from the first on as it has room for
+abbrev pub taken_by_last : ℕ → ℕ → List LegView → List LegView
+taken_by_last leaf count legs = take ((leaf - count % leaf) % leaf) legs
+
+-- the page p is that leaf, perhaps with another next leaf, and with these legs of its feature at its end
 pub record HasMore (nodes : Pages LegView BoxView) (p : ℕ) (leaf : LeafView LegView)
     (legs : List LegView) : Type 0 where
   pub next : ℕ
-  pub more : List LegView
-  pub is : nodes.at p ≡ Some (Some (ALeaf (with_next next (with_legs more leaf))))
-  pub none : All (λ leg. leg.feature ≢ leaf.feature) legs → more ≡ []
+  pub is : nodes.at p ≡ Some (Some (ALeaf (with_next next (with_legs legs leaf))))
+  pub own : All (λ leg. leg.feature ≡ leaf.feature) legs
 
--- where legs are put in, each leaf that was there is as it was, but for the page last, which may have more legs
+-- each leaf that was there is as it was, but for the page last, which has these legs more
 pub record KeepsLegs (last : ℕ) (legs : List LegView)
     (old new : Pages LegView BoxView) : Type 0 where
   pub rest : (p : ℕ) (leaf : LeafView LegView) → p ≢ last → old.at p ≡ Some (Some (ALeaf leaf))

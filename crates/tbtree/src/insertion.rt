@@ -7,7 +7,7 @@ ghost use Rattle.tbtree.specs.Nodes.{pages_of_cache, HasLeaf, KeepsLeaves};
 ghost use Rattle.tbtree.specs.Passes.{Passes, KeepsLength, Touches};
 ghost use Rattle.tbtree.specs.Way.{IsOnWay, Hangs};
 ghost use Rattle.tbtree.specs.Insert.{Grows, Begins, Inserts};
-ghost use Rattle.tbtree.specs.Joining.{HasAtEnd, Joins, JoinsAll, KeepsLegs};
+ghost use Rattle.tbtree.specs.Joining.{taken_by_last, HasAtEnd, Joins, JoinsAll, KeepsLegs};
 ghost use Rattle.tbtree.specs.Payloads.{TakesLegs, are_of_one_leaf};
 ghost use Rattle.tbtree.specs.Shape.{IsShape};
 ghost use Rattle.tbtree.specs.declared.fault.TreeFault.{TreeFault};
@@ -208,7 +208,7 @@ fn add_last<S: PageStore>(
     ensures ends { IsTrue cache.old.store.is_faithful
         → IfOk result (λ page. HasAtEnd (pages_of_cache cache.new) page legs.now) }
     ensures keeps { IsTrue cache.old.store.is_faithful → OnOk result
-        (KeepsLegs last legs.now (pages_of_cache cache.old) (pages_of_cache cache.new)) }
+        (KeepsLegs last [] (pages_of_cache cache.old) (pages_of_cache cache.new)) }
     ensures fresh { IsTrue cache.old.store.is_faithful
         → IfOk result (λ page. (pages_of_cache cache.old).at page ≡ None) }
     ensures number { IfOk result (λ page. page ≡ cache.old.count) }
@@ -275,8 +275,7 @@ fn begin<S: PageStore>(
     ensures ends { IsTrue cache.old.store.is_faithful
         → OnOk result (HasAtEnd (pages_of_cache cache.new) place.new.last legs.now) }
     ensures keeps { IsTrue cache.old.store.is_faithful → OnOk result
-        (KeepsLegs place.old.last legs.now (pages_of_cache cache.old)
-        (pages_of_cache cache.new)) }
+        (KeepsLegs place.old.last [] (pages_of_cache cache.old) (pages_of_cache cache.new)) }
     ensures fresh { IsTrue cache.old.store.is_faithful
         → OnOk result ((pages_of_cache cache.old).at place.new.last ≡ None) }
     ensures made { OnOk result (place.new.last ≡ cache.old.count) }
@@ -332,8 +331,8 @@ pub(crate) fn put<S: PageStore>(
     ensures ends { IsTrue cache.old.store.is_faithful
         → OnOk result (HasAtEnd (pages_of_cache cache.new) place.new.last legs.now) }
     ensures keeps { IsTrue cache.old.store.is_faithful → OnOk result
-        (KeepsLegs place.old.last legs.now (pages_of_cache cache.old)
-        (pages_of_cache cache.new)) }
+        (KeepsLegs place.old.last (taken_by_last tree.old.shape.leaf place.old.legs legs.now)
+        (pages_of_cache cache.old) (pages_of_cache cache.new)) }
     ensures fresh { IsTrue cache.old.store.is_faithful → place.old.legs % tree.old.shape.leaf ≡ 0
         → OnOk result ((pages_of_cache cache.old).at place.new.last ≡ None) }
     ensures stays { 0 < place.old.legs % tree.old.shape.leaf
@@ -381,12 +380,13 @@ pub fn insert<S: PageStore>(
     ensures shape { tree.new.shape ≡ tree.old.shape }
 
     // Over any faithful pages the place's last leaf is then one of the leg's feature, with the leg at its end; each leaf
-    // that was there is as it was, but for the one that was the last, which has its legs; and the place counts the leg.
+    // that was there is as it was, but for the one that was the last, which has the leg behind its own where it had room,
+    // and else nothing more; and the place counts the leg.
     ensures ends { IsTrue cache.old.store.is_faithful
         → OnOk result (HasAtEnd (pages_of_cache cache.new) place.new.last (leg ∷ [])) }
     ensures keeps { IsTrue cache.old.store.is_faithful → OnOk result
-        (KeepsLegs place.old.last (leg ∷ []) (pages_of_cache cache.old)
-        (pages_of_cache cache.new)) }
+        (KeepsLegs place.old.last (taken_by_last tree.old.shape.leaf place.old.legs (leg ∷ []))
+        (pages_of_cache cache.old) (pages_of_cache cache.new)) }
     ensures counted { OnOk result (place.new.legs ≡ place.old.legs + 1) }
 
     // The last leaf stays the one where it has room, and is a new page where it is full.

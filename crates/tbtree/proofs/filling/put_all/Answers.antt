@@ -1,13 +1,13 @@
-use Rattle.std.proofs.Common.{◌≡◌, ◌<◌, ◌≤◌, ◌+◌, ◌-◌, ◌%◌, ◌∙◌, refl, ap, arith, length, subst, sym, take, inl, inr, ⊎_elim, ◌⊎◌, Ok}
+use Rattle.std.proofs.Common.{drop, ◌≡◌, ◌<◌, ◌≤◌, ◌+◌, ◌-◌, ◌%◌, ◌∙◌, refl, ap, arith, length, subst, sym, take, inl, inr, ⊎_elim, ◌⊎◌, Ok}
 use Rattle.std.proofs.lemmas.Bool.{cases_lt}
 use Rattle.std.proofs.lemmas.List.{take_all}
 use Rattle.std.proofs.lemmas.Result.{err_from_is_err_and}
 use Rattle.legs.specs.Costs.{ShapeView}
 use Rattle.tbtree.specs.Nodes.{pages_of_cache}
 use Rattle.tbtree.proofs.FillCosts.{filled_start, filled_part}
-use Rattle.tbtree.proofs.EndLemmas.{last_made, keeps_same, keeps_then, IsLast}
+use Rattle.tbtree.proofs.EndLemmas.{last_made, keeps_begun, keeps_then, IsLast}
 use Rattle.tbtree.proofs.FillLemmas.{all_in_last, joins_none, length_part, part_in_last, part_joins, part_refused}
-use Rattle.tbtree.specs.Joining.{in_last_leaf, HasAtEnd}
+use Rattle.tbtree.specs.Joining.{in_last_leaf, taken_by_last, HasAtEnd, KeepsLegs}
 use Rattle.tbtree.proofs.PassLemmas.{touches_none, touches_then}
 use Rattle.tbtree.proofs.RoomLemmas.{mod_at_next, mod_below_next}
 use Rattle.tbtree.proofs.Still.{still}
@@ -30,8 +30,9 @@ leaves-init g c =
       moves = inl refl;
       full = λ above left. absurd (omega (arith, above));
       ends = λ fa above. absurd (omega (arith, above));
+      first = λ z. refl;
       last = λ fa. inl refl;
-      keeps = λ fa. keeps_same c.args.place.now.last c.args.legs.now (pages_of_cache cache);
+      keeps = λ fa. keeps_begun tree.shape.leaf c.args.place.now.legs c.args.place.now.last c.args.legs.now (pages_of_cache cache);
       filled = filled_start tree.shape.leaf (length c.args.legs.now) cache tree c.args.place.now (omega (arith, least));
     }
 
@@ -89,12 +90,23 @@ leaves-preserved g c =
       ends = λ fa above. subst (λ l. HasAtEnd (pages_of_cache new) c.put.new.place.last l)
           (sym (ap (λ m. in_last_leaf leaf m (take (n + k) legs)) counted ∙ part_in_last leaf c.leaves.place.legs n k legs fits.some within room (λ above. so_far.full above c.leaves-test.true)))
           (put.ends (still _ _ so_far.touches.passes.store.faithful fa));
+      first = λ z. (let some = fits.some in absurd (omega (arith, z, some)));
       last = λ fa. ⊎_elim
           (λ (above : 0 < filled). subst (λ b. IsLast (pages_of_cache old) c.args.place.now.last b) (sym (put.stays (omega (arith, same, above)))) (so_far.last fa))
-          (λ (none : filled ≤ 0). last_made legs (pages_of_cache old) (pages_of_cache now) c.args.place.now.last c.put.new.place.last (so_far.keeps fa)
+          (λ (none : filled ≤ 0). last_made (taken_by_last leaf c.args.place.now.legs (take n legs)) (pages_of_cache old) (pages_of_cache now) c.args.place.now.last c.put.new.place.last (so_far.keeps fa)
           (put.fresh (still _ _ so_far.touches.passes.store.faithful fa) (same ∙ let z : filled ≡ 0 = omega (arith, none) in z)))
           (cases_lt 0 filled);
-      keeps = λ fa. keeps_then legs (n + k - n) n (pages_of_cache old) (pages_of_cache now) (pages_of_cache new) c.args.place.now.last c.leaves.place.last (so_far.keeps fa) (put.keeps (still _ _ so_far.touches.passes.store.faithful fa)) (so_far.last fa);
+      keeps = λ fa.
+          let count = c.args.place.now.legs in
+          let before : c.leaves.place.legs ≡ count + n = so_far.counted in
+          let later = put.keeps (still _ _ so_far.touches.passes.store.faithful fa) in
+          let part = take (n + k - n) (drop n legs) in
+          keeps_then leaf count n k legs (pages_of_cache old) (pages_of_cache now) (pages_of_cache new) c.args.place.now.last c.leaves.place.last
+          (let least = c.leaf-leaf.ensures.range.least_leaf in omega (arith, least))
+          (λ more. ap (λ m. m % leaf) (sym before) ∙ so_far.full more c.leaves-test.true)
+          so_far.first (so_far.last fa) (so_far.keeps fa)
+          (subst (λ m. KeepsLegs c.leaves.place.last (taken_by_last leaf m part) (pages_of_cache now) (pages_of_cache new)) before
+          (subst (λ m. KeepsLegs c.leaves.place.last (taken_by_last m c.leaves.place.legs part) (pages_of_cache now) (pages_of_cache new)) is later));
       filled = filled_part leaf n k (length legs) old now new c.args.tree.now c.leaves.tree c.put.new.tree c.leaves.place c.put.new.place
           fits.some so_far.filled c.leaves-test.true put.higher counted
           room full
@@ -123,3 +135,11 @@ returns-clause-whole g c = λ fa some room.
     let leaf = c.args.tree.now.shape.leaf in
     subst (λ l. HasAtEnd (pages_of_cache c.leaves.cache) c.leaves.place.last l) (ap (λ m. in_last_leaf leaf m legs) (returns-clause-counted g c) ∙ all_in_last leaf c.args.place.now.legs legs some room)
     (returns-clause-ends g c fa some)
+
+pub returns-clause-keeps : goal.returns-clause-keeps
+returns-clause-keeps g c = λ fa.
+    let legs = c.args.legs.now in
+    let so_far = c.leaves.invariant in
+    let over = c.leaves-test.false in
+    subst (λ l. KeepsLegs c.args.place.now.last (taken_by_last c.args.tree.now.shape.leaf c.args.place.now.legs l) (pages_of_cache c.args.cache.now) (pages_of_cache c.leaves.cache)) (take_all c.leaves.from legs (omega (arith, over)))
+    (so_far.keeps fa)

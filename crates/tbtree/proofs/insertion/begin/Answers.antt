@@ -1,4 +1,4 @@
-use Rattle.std.proofs.Common.{◌≡◌, ◌<◌, refl, arith}
+use Rattle.std.proofs.Common.{◌≡◌, ◌<◌, [], refl, arith}
 use Rattle.std.proofs.lemmas.Result.{err_from_is_err_and}
 use Rattle.tbtree.specs.Nodes.{pages_of_cache}
 use Rattle.tbtree.proofs.EndLemmas.{ends_kept, keeps_kept}
@@ -38,4 +38,4 @@ returns-clause-ends g c = λ fa.
 
 pub returns-clause-keeps : goal.returns-clause-keeps
 returns-clause-keeps g c = λ fa.
-    keeps_kept c.args.place.now.last c.args.legs.now (pages_of_cache c.args.cache.now) (pages_of_cache c.add_last.new.cache) (pages_of_cache c.hang_leaf.new.cache) (c.in_ok-page.ensures.keeps fa) (c.in_ok-top.ensures.leaves (still _ _ c.add_last.ensures.touches.passes.store.faithful fa))
+    keeps_kept c.args.place.now.last [] (pages_of_cache c.args.cache.now) (pages_of_cache c.add_last.new.cache) (pages_of_cache c.hang_leaf.new.cache) (c.in_ok-page.ensures.keeps fa) (c.in_ok-top.ensures.leaves (still _ _ c.add_last.ensures.touches.passes.store.faithful fa))

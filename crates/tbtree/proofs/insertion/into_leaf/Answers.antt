@@ -30,7 +30,7 @@ returns-clause-keeps g c = λ fa.
     let new = pages_of_cache c.grow.new.cache in
     let legs = c.args.legs.now in
     subst (λ p. OnOk c.grow.result (KeepsLegs p legs old new)) c.if-page-last.false
-    (keeps_pushed old (pages_of_cache c.way.new.cache) new c.in_ok-page.page c.leaf-most.result legs c.grow.result c.requires.some
+    (keeps_pushed old (pages_of_cache c.way.new.cache) new c.in_ok-page.page c.leaf-most.result legs c.grow.result
     (c.in_ok-page.ensures.leaves fa) (c.grow.ensures.takes faithful) (c.grow.ensures.pushes faithful))
 
 pub returns-then-page-last-clause-grows : goal.returns-then-page-last-clause-grows
