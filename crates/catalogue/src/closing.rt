@@ -1,5 +1,5 @@
 //! A store is closed.
-ghost use Rattle.std.specs.Prelude.{ℕ, List, ◌≡◌, ◌⊎◌, [], IfErr, OnErr, OnOk, Some};
+ghost use Rattle.std.specs.Prelude.{ℕ, List, ◌≡◌, ◌⊎◌, [], IfErr, IsTrue, OnErr, OnOk, Some};
 ghost use Rattle.legs.specs.Book.{Book};
 ghost use Rattle.legs.specs.declared.head.BookHead.{BookHead};
 ghost use Rattle.pages.specs.Store.{IsLawful, IsSynced, IsSyncedButFirst, Keeps};
@@ -54,7 +54,8 @@ fn save_and_finish<S: PageStore>(
         → IsOfBook catalogue.now.limits book catalogue.now → content index.old ≡ book.legs
         → HoldsBook index.new.cache.store index.old.tree.shape catalogue.now.limits book) }
     ensures synced { OnOk result (IsSynced index.new.cache.store) }
-    ensures takes { OnOk result (IsSound index.old → (pages : List ℕ)
+    ensures takes { OnOk result (IsTrue index.old.cache.store.is_faithful
+        → index.old.cache.count ≡ index.old.cache.store.count → (pages : List ℕ)
         → AreEarlier (payload_of index.old.cache) pages → AddsFew index.old.cache.count
         (catalogue_text (contents_of catalogue.now index.old.places)) pages
         index.new.cache.store.count) }
@@ -100,7 +101,8 @@ pub fn close<S: PageStore>(
     ensures synced { OnOk result.1 (IsSynced (S.seen result.0)) }
 
     // Its pages are as many as they were, and those that the text takes beyond an earlier one's.
-    ensures takes { OnOk result.1 (IsSound index → (pages : List ℕ)
+    ensures takes { OnOk result.1 (IsTrue index.cache.store.is_faithful
+        → index.cache.count ≡ index.cache.store.count → (pages : List ℕ)
         → AreEarlier (payload_of index.cache) pages → AddsFew index.cache.count
         (catalogue_text (contents_of catalogue.now index.places)) pages
         (S.seen result.0).count) }

@@ -3,8 +3,6 @@ use Rattle.std.specs.Prelude.{ℕ, ◌≡◌, ◌≢◌, ◌<◌, ◌≤◌, ◌
 use Rattle.pages.specs.declared.payload.Kind.TheVariants.{Catalogue}
 use Rattle.pages.specs.declared.payload.Payload.{Payload}
 use Rattle.pagecache.specs.Cache.{Cache, SameLength, KeepsPayloads, Writes, is_changed, payload_of}
-use Rattle.tbtree.specs.Descent.{IsSameTree}
-use Rattle.tbtree.specs.Nodes.{pages_of_cache}
 use Rattle.tbtree.specs.Passes.{Passes, KeepsLength}
 use Rattle.register.specs.ChainWriter.{Holds, IsOwn, WriterView}
 use Rattle.register.specs.Earlier.{AreLinked}

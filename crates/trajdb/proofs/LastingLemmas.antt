@@ -118,14 +118,13 @@ pub closed_synced : (B : Type 0) (s : Store) (answer : Result (Unit {0}) Catalog
 closed_synced B s (Ok x) h = λ b. h
 closed_synced B s (Err e) h = tt
 
-pub closed_takes : (db : DbView) (s : Store) (answer : Result (Unit {0}) CatalogueFault) → OnOk answer (IsSoundIndex db.index → TakesFew db s) → OnOk (closed_answer answer) (IsSoundDb db → TakesFew db s)
-closed_takes db s (Ok x) h = λ sound. h sound.index
+pub closed_takes : (db : DbView) (s : Store) (answer : Result (Unit {0}) CatalogueFault) → OnOk answer (TakesFew db s) → OnOk (closed_answer answer) (TakesFew db s)
+closed_takes db s (Ok x) h = h
 closed_takes db s (Err e) h = tt
 
 -- a store that stays as it is has no page more
-pub rest_takes : (db : DbView) (s : Store) → s ≡ db.index.cache.store → IsSoundDb db → TakesFew db s
-rest_takes db s e sound pages earlier =
-    let count = sound.index.count in
+pub rest_takes : (db : DbView) (s : Store) → s ≡ db.index.cache.store → TakesFew db s
+rest_takes db s e faithful count pages earlier =
     let n = ap (λ (s : Store). s.count) e in
     omega (arith, count, n)
 

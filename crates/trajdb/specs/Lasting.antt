@@ -114,11 +114,12 @@ IsClosingFault db new run.StoreFull = new.count ≡ new.most
 IsClosingFault db new run.Failed = db.failed ≡ true
 IsClosingFault db new run.Output = ⊥
 
--- there are as many pages as the database had, and those that the text of its catalogue takes beyond
--- these of an earlier one
+-- there are as many pages as the database had over a faithful store, all of them counted, and those
+-- that the text of its catalogue takes beyond these of an earlier one
 abbrev pub TakesFew : DbView → Store → Type 0
 TakesFew db left =
-    (pages : List ℕ) → AreEarlier (payload_of db.index.cache) pages
+    IsTrue db.index.cache.store.is_faithful → db.index.cache.count ≡ db.index.cache.store.count
+    → (pages : List ℕ) → AreEarlier (payload_of db.index.cache) pages
     → AddsFew db.index.cache.count
     (catalogue_text (contents_of (catalogue_of db) db.index.places)) pages left.count
 

@@ -191,7 +191,7 @@ impl<S: PageStore> Db<S> {
         ensures synced { OnOk result.1 (self.begun ≡ true → IsSynced (S.seen result.0)) }
 
         // New pages are taken only for what its text needs beyond those of an earlier one.
-        ensures takes { OnOk result.1 (IsSoundDb self → TakesFew self (S.seen result.0)) }
+        ensures takes { OnOk result.1 (TakesFew self (S.seen result.0)) }
         ensures only { IfErr result.1 (λ fault. IsSoundDb self → self.failed ≡ false
             → IsLoadFault fault) }
         ensures unfinished { IfErr result.1

@@ -48,5 +48,5 @@ returns-clause-takes g c =
     let left = c.into_store.ensures ∙ ap (λ (k : Cache). k.store) c.into_cache-cache.ensures in
     let i = c.args.index in
     let text = catalogue_text (contents_of c.args.catalogue.now i.places) in
-    on_ok c.save_and_finish-result.result (λ takes sound pages earlier.
-    subst (λ (s : Store). AddsFew i.cache.count text pages s.count) (sym left) (takes sound pages earlier)) c.save_and_finish-result.ensures.takes
+    on_ok c.save_and_finish-result.result (λ takes faithful even pages earlier.
+    subst (λ (s : Store). AddsFew i.cache.count text pages s.count) (sym left) (takes faithful even pages earlier)) c.save_and_finish-result.ensures.takes

@@ -1,4 +1,4 @@
-use Rattle.std.proofs.Common.{◌≡◌, ◌∙◌, [], ap, inl, inr, refl, sym, subst, arith, Some, Result, Ok, Err, OnOk}
+use Rattle.std.proofs.Common.{◌≡◌, ◌∙◌, [], ap, inl, inr, refl, sym, subst, arith, IsTrue, Some, Result, Ok, Err, OnOk}
 use Rattle.std.proofs.lemmas.Result.{err_from_is_err_and}
 use Rattle.timebase.specs.Instant.{IsMoment}
 use Rattle.legs.specs.Book.{Book}
@@ -127,19 +127,18 @@ pub returns-clause-takes : goal.returns-clause-takes
 returns-clause-takes g c =
     let i = c.settled.new.index in
     let j = c.save.new.index in
+    let was = c.args.index.now in
     let new = c.finish.new.index.cache in
     let catalogue = c.args.catalogue.now in
-    let laws = c.laws.ensures in
-    let same : i ≡ with_cache c.args.index.now c.args.index.now.cache [] = c.settled.ensures.same in
-    any_ok c.finish.result (λ was_sound pages earlier.
-    let beside = laws.alike c.args.index.now.cache c.args.index.now.cache refl refl refl (λ _ n. refl) in
-    let sound : IsSound i = subst (λ (x : IndexView). IsSound x) (sym same) (laws.sound c.args.index.now c.args.index.now.cache [] beside was_sound) in
-    let saved : IsSound j = c.in_ok-save.ensures.sound sound in
-    let count : j.cache.count ≡ new.store.count = saved.count ∙ sym c.finish.ensures.later.length in
-    let places : j.places ≡ c.args.index.now.places = ap (λ (x : IndexView). x.places) c.save.ensures.same ∙ ap (λ (x : IndexView). x.places) same in
-    let takes = c.in_ok-save.ensures.takes sound.faithful pages (subst (λ (x : IndexView). AreEarlier (payload_of x.cache) pages) (sym same) earlier) in
-    subst (λ n. AddsFew c.args.index.now.cache.count (catalogue_text (contents_of catalogue c.args.index.now.places)) pages n) count
-    (subst (λ l. AddsFew c.args.index.now.cache.count (catalogue_text (contents_of catalogue l)) pages j.cache.count) places
+    let same : i ≡ with_cache was was.cache [] = c.settled.ensures.same in
+    any_ok c.finish.result (λ faithful even pages earlier.
+    let fi = subst (λ (x : IndexView). IsTrue x.cache.store.is_faithful) (sym same) faithful in
+    let ei : i.cache.count ≡ i.cache.store.count = subst (λ (x : IndexView). x.cache.count ≡ x.cache.store.count) (sym same) even in
+    let count : j.cache.count ≡ new.store.count = c.in_ok-save.ensures.beside.length ei ∙ sym c.finish.ensures.later.length in
+    let places : j.places ≡ was.places = ap (λ (x : IndexView). x.places) c.save.ensures.same ∙ ap (λ (x : IndexView). x.places) same in
+    let takes = c.in_ok-save.ensures.takes fi pages (subst (λ (x : IndexView). AreEarlier (payload_of x.cache) pages) (sym same) earlier) in
+    subst (λ n. AddsFew was.cache.count (catalogue_text (contents_of catalogue was.places)) pages n) count
+    (subst (λ l. AddsFew was.cache.count (catalogue_text (contents_of catalogue l)) pages j.cache.count) places
     (subst (λ (x : IndexView). AddsFew x.cache.count (catalogue_text (contents_of catalogue j.places)) pages j.cache.count) same takes))) where
       any_ok : {T E P : Type 0} (r : Result T E) → P → OnOk r P
       any_ok (Ok x) h = h

@@ -1,4 +1,4 @@
-use Rattle.std.proofs.Common.{ℕ, List, ◌≡◌, ◌∙◌, ap, sym, subst, true, false}
+use Rattle.std.proofs.Common.{ℕ, IsTrue, List, ◌≡◌, ◌∙◌, ap, sym, subst, true, false}
 use Rattle.std.specs.Prelude.{◌⊎◌, IfErr, OnErr, OnOk}
 use Rattle.legs.specs.Book.{Book}
 use Rattle.std.proofs.lemmas.Bool.{false≢true}
@@ -115,14 +115,14 @@ pub returns-then-not-begun-clause-takes : goal.returns-then-not-begun-clause-tak
 returns-then-not-begun-clause-takes g c =
     let s = g.S.PageStore.seen c.rest-then-not-begun.result in
     let store = c.rest-then-not-begun.ensures.store ∙ ap (λ (x : IndexView). x.cache.store) c.into_parts-catalogue.ensures.index in
-    subst (λ (d : DbView). IsSoundDb d → TakesFew d s) c.self.view_is (rest_takes c.self.inside.core s store)
+    subst (λ (d : DbView). TakesFew d s) c.self.view_is (rest_takes c.self.inside.core s store)
 
 pub returns-clause-takes : goal.returns-clause-takes
 returns-clause-takes g c =
     let core = c.self.inside.core in
     let answer = c.close-store.result.1 in
     let s = g.S.PageStore.seen c.close-store.result.0 in
-    let first = subst (λ (x : IndexView). OnOk answer (IsSoundIndex x → (pages : List ℕ) → AreEarlier (payload_of x.cache) pages → AddsFew x.cache.count (catalogue_text (contents_of c.into_parts-catalogue.result.0 x.places)) pages s.count)) c.into_parts-catalogue.ensures.index c.close-store.ensures.takes in
-    let second = subst (λ (k : CatalogueView). OnOk answer (IsSoundIndex core.index → (pages : List ℕ) → AreEarlier (payload_of core.index.cache) pages → AddsFew core.index.cache.count (catalogue_text (contents_of k core.index.places)) pages s.count)) c.into_parts-catalogue.ensures.catalogue first in
-    subst (λ r. OnOk r (IsSoundDb c.args.self → TakesFew c.args.self s)) (sym c.closed.ensures)
-    (subst (λ (d : DbView). OnOk (closed_answer answer) (IsSoundDb d → TakesFew d s)) c.self.view_is (closed_takes core s answer second))
+    let first = subst (λ (x : IndexView). OnOk answer (IsTrue x.cache.store.is_faithful → x.cache.count ≡ x.cache.store.count → (pages : List ℕ) → AreEarlier (payload_of x.cache) pages → AddsFew x.cache.count (catalogue_text (contents_of c.into_parts-catalogue.result.0 x.places)) pages s.count)) c.into_parts-catalogue.ensures.index c.close-store.ensures.takes in
+    let second = subst (λ (k : CatalogueView). OnOk answer (IsTrue core.index.cache.store.is_faithful → core.index.cache.count ≡ core.index.cache.store.count → (pages : List ℕ) → AreEarlier (payload_of core.index.cache) pages → AddsFew core.index.cache.count (catalogue_text (contents_of k core.index.places)) pages s.count)) c.into_parts-catalogue.ensures.catalogue first in
+    subst (λ r. OnOk r (TakesFew c.args.self s)) (sym c.closed.ensures)
+    (subst (λ (d : DbView). OnOk (closed_answer answer) (TakesFew d s)) c.self.view_is (closed_takes core s answer second))
