@@ -85,8 +85,8 @@ pub record Ends {I : Type 0} (g : Ghosts I) (old new : I) (legs : List LegView) 
 abbrev pub Grows : {I : Type 0} → Ghosts I → I → I → List LegView → Type 0
 Grows g old new legs = g.is_sound old → CanFollowInTurn (g.content old) legs → Ends g old new legs
 
--- what legs make of an index, sound or not: of each feature that they have it ends with the last one of them, and of each
--- other feature with the leg with which it ended
+-- what legs make of an index, sound or not: of each feature that they have it ends with the last one of them, and of
+-- each other feature with the leg with which it ended
 pub record EndsIn {I : Type 0} (g : Ghosts I) (old new : I) (legs : List LegView) : Type 0 where
   pub last : (feature : ℕ) (leg : LegView) → last_leg_of feature legs ≡ Some leg
       → g.ends_with new leg

@@ -57,8 +57,8 @@ pub trait LegIndex: Listed {
         ensures { result ≡ Self.asked self.now };
 
     /// Puts a leg at the end of the list. The leg's ordinal is to be `len`, its feature at most the number of
-    /// features so far, and its start not before the end of that feature's last leg; after any other leg, as of an index
-    /// that is not sound, it is said only with which leg each feature ends.
+    /// features so far, and its start not before the end of that feature's last leg; after any other leg, as of an
+    /// index that is not sound, it is said only with which leg each feature ends.
     fn add(&mut self, leg: Leg) -> Result<(), IndexFault>
         ensures added { OnOk result (Grows Self.Listed self.old self.new (leg ∷ [])) }
         ensures ends { OnOk result (EndsIn Self.Listed self.old self.new (leg ∷ [])) }

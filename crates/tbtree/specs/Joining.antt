@@ -74,8 +74,8 @@ pub record HasAtEnd (nodes : Pages LegView BoxView) (p : ℕ) (legs : List LegVi
   pub is : nodes.at p ≡ Some (Some (ALeaf (with_legs legs leaf)))
   pub own : All (λ leg. leg.feature ≡ leaf.feature) legs
 
--- of the last ones of so many legs of a feature those that are in its last leaf, where each leaf but the last has as many
--- legs as it has room for
+-- of the last ones of so many legs of a feature those that are in its last leaf, where each leaf but the last has as
+-- many legs as it has room for
 abbrev pub in_last_leaf : ℕ → ℕ → List LegView → List LegView
 in_last_leaf leaf count legs = drop (length legs - ((count - 1) % leaf + 1)) legs
 
