@@ -41,6 +41,7 @@ pub mod HeldLemmas
 pub mod BlockOrder
 pub mod TakenOrder
 pub mod OldLeaf
+pub mod ContentLemmas
 pub mod EndLemmas
 pub mod FillLemmas
 pub mod FillCosts

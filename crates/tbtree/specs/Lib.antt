@@ -9,5 +9,6 @@ pub mod Insert
 pub mod Order
 pub mod Joining
 pub mod Descent
+pub mod Content
 pub mod Bounds
 pub mod Turn

@@ -1,6 +1,7 @@
 //! Many legs of one feature, put in leaf by leaf.
 ghost use Rattle.std.specs.Prelude.{◌≡◌, ◌<◌, ◌≤◌, ◌⊎◌, ◌+◌, ◌-◌, ◌*◌, ◌%◌, OnOk, OnErr, IfErr, IsTrue, false, true, Err, length};
 ghost use Rattle.tbtree.specs.Faults.{RefusesWrite};
+ghost use Rattle.tbtree.specs.Content.{ContentGrows, Meets};
 ghost use Rattle.tbtree.specs.Nodes.{pages_of_cache};
 ghost use Rattle.tbtree.specs.Passes.{Passes, KeepsLength, Touches};
 ghost use Rattle.tbtree.specs.Joining.{in_last_leaf, taken_by_last, HasAtEnd, JoinsAll, KeepsLegs};
@@ -57,6 +58,8 @@ fn put_all<S: PageStore>(
     ensures keeps { IsTrue cache.old.store.is_faithful → OnOk result
         (KeepsLegs place.old.last (taken_by_last tree.old.shape.leaf place.old.legs legs.now)
         (pages_of_cache cache.old) (pages_of_cache cache.new)) }
+    ensures met { IsTrue cache.old.store.is_faithful → OnOk result
+        (Meets (pages_of_cache cache.old) (pages_of_cache cache.new) tree.old tree.new legs.now) }
     ensures counted { OnOk result (place.new.legs ≡ place.old.legs + length legs.now) }
     ensures stays { 0 < place.old.legs % tree.old.shape.leaf
         → place.old.legs % tree.old.shape.leaf + length legs.now ≤ tree.old.shape.leaf
@@ -109,7 +112,8 @@ pub fn insert_all<S: PageStore>(
     // Over any faithful pages the place's last leaf is then one of the legs' feature, with those of the legs at its end
     // that are in it: the last one at the least, and all for which the last leaf that was there had room, or that went
     // into one new leaf. Each leaf that was there is as it was, but for the one that was the last, which has behind its own
-    // legs those from the first on for which it had room, and nothing else; and the place counts the legs.
+    // legs those from the first on for which it had room, and nothing else. The content of the tree has each leg that it
+    // had, and these; and the place counts the legs.
     ensures ends { IsTrue cache.old.store.is_faithful → 0 < length legs.now
         → OnOk result (HasAtEnd (pages_of_cache cache.new) place.new.last
         (in_last_leaf tree.old.shape.leaf place.new.legs legs.now)) }
@@ -119,6 +123,9 @@ pub fn insert_all<S: PageStore>(
     ensures keeps { IsTrue cache.old.store.is_faithful → OnOk result
         (KeepsLegs place.old.last (taken_by_last tree.old.shape.leaf place.old.legs legs.now)
         (pages_of_cache cache.old) (pages_of_cache cache.new)) }
+    ensures met { IsTrue cache.old.store.is_faithful → OnOk result
+        (ContentGrows (pages_of_cache cache.old) (pages_of_cache cache.new) tree.old tree.new
+        legs.now) }
     ensures counted { OnOk result (place.new.legs ≡ place.old.legs + length legs.now) }
 
     // The last leaf stays the one where it has room for all, and else is it or a new page.

@@ -6,6 +6,7 @@ ghost use Rattle.tbtree.specs.Faults.{MayRefuseWrite, RefusesWrite};
 ghost use Rattle.tbtree.specs.Nodes.{pages_of_cache, HasLeaf, KeepsLeaves};
 ghost use Rattle.tbtree.specs.Passes.{Passes, KeepsLength, Touches};
 ghost use Rattle.tbtree.specs.Way.{IsOnWay, Hangs};
+ghost use Rattle.tbtree.specs.Content.{Carries, ContentGrows, IsFound, Meets, SaysMore};
 ghost use Rattle.tbtree.specs.Insert.{Grows, Begins, Inserts};
 ghost use Rattle.tbtree.specs.Joining.{taken_by_last, HasAtEnd, Joins, JoinsAll, KeepsLegs};
 ghost use Rattle.tbtree.specs.Payloads.{TakesLegs, are_of_one_leaf};
@@ -40,6 +41,9 @@ fn way<S: PageStore>(
         (pages_of_cache cache.old) (pages_of_cache cache.new) level at bounds.now result }
     ensures leaves { IsTrue cache.old.store.is_faithful
         → OnOk result (KeepsLeaves (pages_of_cache cache.old) (pages_of_cache cache.new)) }
+    ensures found { IsTrue cache.old.store.is_faithful → IfOk result
+        (IsFound (pages_of_cache cache.old) (pages_of_cache cache.new) tree.now.root
+        tree.now.levels level) }
     ensures touches { Touches cache.old cache.new result }
     ensures asked { cache.new.asked + level + 1 ≤ cache.old.asked + tree.now.levels }
 {
@@ -72,6 +76,8 @@ fn into_leaf<S: PageStore>(
         → OnOk result (HasAtEnd (pages_of_cache cache.new) last legs.now) }
     ensures keeps { IsTrue cache.old.store.is_faithful → OnOk result
         (KeepsLegs last legs.now (pages_of_cache cache.old) (pages_of_cache cache.new)) }
+    ensures met { IsTrue cache.old.store.is_faithful → OnOk result
+        (Meets (pages_of_cache cache.old) (pages_of_cache cache.new) tree.now tree.now legs.now) }
     ensures touches { Touches cache.old cache.new result }
     ensures asked { cache.new.asked ≤ cache.old.asked + tree.now.levels }
 {
@@ -101,6 +107,9 @@ fn root_over<S: PageStore>(
         child.now.bounds result }
     ensures leaves { IsTrue cache.old.store.is_faithful
         → OnOk result (KeepsLeaves (pages_of_cache cache.old) (pages_of_cache cache.new)) }
+    ensures carries { IsTrue cache.old.store.is_faithful → 0 < cache.old.count → IfOk result
+        (Carries (pages_of_cache cache.old) (pages_of_cache cache.new) tree.now.root
+        tree.now.levels level child.now.child) }
     ensures touches { Touches cache.old cache.new result }
     ensures asked { cache.new.asked ≤ cache.old.asked + 2 }
     ensures levels { IfOk result (λ top. top.levels ≡ tree.now.levels + 1) }
@@ -134,6 +143,9 @@ fn hang<S: PageStore>(
         child.now.bounds result }
     ensures leaves { IsTrue cache.old.store.is_faithful
         → OnOk result (KeepsLeaves (pages_of_cache cache.old) (pages_of_cache cache.new)) }
+    ensures carries { IsTrue cache.old.store.is_faithful → 0 < cache.old.count → IfOk result
+        (Carries (pages_of_cache cache.old) (pages_of_cache cache.new) tree.now.root
+        tree.now.levels level child.now.child) }
     ensures touches { Touches cache.old cache.new result }
     ensures asked { IfOk result (λ top. cache.new.asked + level
         ≤ cache.old.asked + top.levels) }
@@ -184,6 +196,8 @@ fn into_last<S: PageStore>(
         (pages_of_cache cache.new)) }
     ensures stays { place.new.last ≡ place.old.last }
     ensures legs { OnOk result (place.new.legs ≡ place.old.legs + length legs.now) }
+    ensures met { IsTrue cache.old.store.is_faithful → OnOk result
+        (Meets (pages_of_cache cache.old) (pages_of_cache cache.new) tree.now tree.now legs.now) }
     ensures touches { Touches cache.old cache.new result }
     ensures asked { cache.new.asked ≤ cache.old.asked + tree.now.levels }
 {
@@ -215,6 +229,8 @@ fn add_last<S: PageStore>(
     ensures only { IsTrue cache.old.store.is_faithful
         → (0 < last → HasLeaf (pages_of_cache cache.old) last)
         → are_of_one_leaf legs.now ≡ true → IfErr result MayRefuseWrite }
+    ensures says { IsTrue cache.old.store.is_faithful
+        → OnOk result (SaysMore (pages_of_cache cache.old) (pages_of_cache cache.new)) }
     ensures touches { Touches cache.old cache.new result }
     ensures asked { cache.new.asked ≤ cache.old.asked + 2 }
 {
@@ -240,6 +256,10 @@ fn hang_leaf<S: PageStore>(
         page.now.child page.now.bounds result }
     ensures leaves { IsTrue cache.old.store.is_faithful
         → OnOk result (KeepsLeaves (pages_of_cache cache.old) (pages_of_cache cache.new)) }
+    ensures carries { IsTrue cache.old.store.is_faithful → 0 < cache.old.count → IfOk result
+        (Carries (pages_of_cache cache.old) (pages_of_cache cache.new) tree.now.root
+        tree.now.levels 0 page.now.child) }
+    ensures some { IfOk result (λ top. 0 < top.levels) }
     ensures touches { Touches cache.old cache.new result }
     ensures asked { IfOk result (λ top. cache.new.asked ≤ cache.old.asked + top.levels) }
     ensures higher { IfOk result (λ top. tree.now.levels ≤ top.levels) }
@@ -281,6 +301,8 @@ fn begin<S: PageStore>(
     ensures made { OnOk result (place.new.last ≡ cache.old.count) }
     ensures spent { tree.new.spent ≡ tree.old.spent }
     ensures shape { tree.new.shape ≡ tree.old.shape }
+    ensures met { IsTrue cache.old.store.is_faithful → OnOk result
+        (Meets (pages_of_cache cache.old) (pages_of_cache cache.new) tree.old tree.new legs.now) }
     ensures touches { Touches cache.old cache.new result }
     ensures asked { OnOk result (cache.new.asked
         ≤ cache.old.asked + (tree.new.levels + 2)) }
@@ -323,6 +345,8 @@ pub(crate) fn put<S: PageStore>(
         place.old place.new legs.now result }
     ensures spent { tree.new.spent ≡ tree.old.spent }
     ensures shape { tree.new.shape ≡ tree.old.shape }
+    ensures met { IsTrue cache.old.store.is_faithful → OnOk result
+        (Meets (pages_of_cache cache.old) (pages_of_cache cache.new) tree.old tree.new legs.now) }
     ensures touches { Touches cache.old cache.new result }
     ensures asked { OnOk result (cache.new.asked
         ≤ cache.old.asked + (2 * (tree.new.levels - 1) + 4)) }
@@ -381,12 +405,15 @@ pub fn insert<S: PageStore>(
 
     // Over any faithful pages the place's last leaf is then one of the leg's feature, with the leg at its end; each leaf
     // that was there is as it was, but for the one that was the last, which has the leg behind its own where it had room,
-    // and else nothing more; and the place counts the leg.
+    // and else nothing more; the content of the tree has each leg that it had, and the leg; and the place counts the leg.
     ensures ends { IsTrue cache.old.store.is_faithful
         → OnOk result (HasAtEnd (pages_of_cache cache.new) place.new.last (leg ∷ [])) }
     ensures keeps { IsTrue cache.old.store.is_faithful → OnOk result
         (KeepsLegs place.old.last (taken_by_last tree.old.shape.leaf place.old.legs (leg ∷ []))
         (pages_of_cache cache.old) (pages_of_cache cache.new)) }
+    ensures met { IsTrue cache.old.store.is_faithful → OnOk result
+        (ContentGrows (pages_of_cache cache.old) (pages_of_cache cache.new) tree.old tree.new
+        (leg ∷ [])) }
     ensures counted { OnOk result (place.new.legs ≡ place.old.legs + 1) }
 
     // The last leaf stays the one where it has room, and is a new page where it is full.

@@ -4,6 +4,8 @@ use Rattle.std.proofs.lemmas.List.{take_all}
 use Rattle.std.proofs.lemmas.Result.{err_from_is_err_and}
 use Rattle.legs.specs.Costs.{ShapeView}
 use Rattle.tbtree.specs.Nodes.{pages_of_cache}
+use Rattle.tbtree.specs.Content.{Meets}
+use Rattle.tbtree.proofs.ContentLemmas.{meets_none, meets_part}
 use Rattle.tbtree.proofs.FillCosts.{filled_start, filled_part}
 use Rattle.tbtree.proofs.EndLemmas.{last_made, keeps_begun, keeps_then, IsLast}
 use Rattle.tbtree.proofs.FillLemmas.{all_in_last, joins_none, length_part, part_in_last, part_joins, part_refused}
@@ -33,6 +35,7 @@ leaves-init g c =
       first = λ z. refl;
       last = λ fa. inl refl;
       keeps = λ fa. keeps_begun tree.shape.leaf c.args.place.now.legs c.args.place.now.last c.args.legs.now (pages_of_cache cache);
+      met = λ fa. meets_none (pages_of_cache cache) tree;
       filled = filled_start tree.shape.leaf (length c.args.legs.now) cache tree c.args.place.now (omega (arith, least));
     }
 
@@ -107,6 +110,7 @@ leaves-preserved g c =
           so_far.first (so_far.last fa) (so_far.keeps fa)
           (subst (λ m. KeepsLegs c.leaves.place.last (taken_by_last leaf m part) (pages_of_cache now) (pages_of_cache new)) before
           (subst (λ m. KeepsLegs c.leaves.place.last (taken_by_last m c.leaves.place.legs part) (pages_of_cache now) (pages_of_cache new)) is later));
+      met = λ fa. meets_part (pages_of_cache old) (pages_of_cache now) (pages_of_cache new) c.args.tree.now c.leaves.tree c.put.new.tree legs n k (so_far.met fa) (put.met (still _ _ so_far.touches.passes.store.faithful fa));
       filled = filled_part leaf n k (length legs) old now new c.args.tree.now c.leaves.tree c.put.new.tree c.leaves.place c.put.new.place
           fits.some so_far.filled c.leaves-test.true put.higher counted
           room full
@@ -143,3 +147,11 @@ returns-clause-keeps g c = λ fa.
     let over = c.leaves-test.false in
     subst (λ l. KeepsLegs c.args.place.now.last (taken_by_last c.args.tree.now.shape.leaf c.args.place.now.legs l) (pages_of_cache c.args.cache.now) (pages_of_cache c.leaves.cache)) (take_all c.leaves.from legs (omega (arith, over)))
     (so_far.keeps fa)
+
+pub returns-clause-met : goal.returns-clause-met
+returns-clause-met g c = λ fa.
+    let legs = c.args.legs.now in
+    let so_far = c.leaves.invariant in
+    let over = c.leaves-test.false in
+    subst (λ l. Meets (pages_of_cache c.args.cache.now) (pages_of_cache c.leaves.cache) c.args.tree.now c.leaves.tree l) (take_all c.leaves.from legs (omega (arith, over)))
+    (so_far.met fa)

@@ -1,5 +1,6 @@
 use Rattle.std.proofs.Common.{◌≡◌, ◌≤◌, ◌<◌, ◌+◌, ◌-◌, ◌%◌, length, take}
 use Rattle.std.specs.Prelude.{IsTrue, Ok, ◌⊎◌}
+use Rattle.tbtree.specs.Content.{Meets}
 use Rattle.tbtree.specs.Joining.{in_last_leaf, taken_by_last, HasAtEnd, JoinsAll, KeepsLegs}
 use Rattle.tbtree.specs.Nodes.{pages_of_cache}
 use Rattle.tbtree.specs.Passes.{Touches}
@@ -27,5 +28,6 @@ invariant-leaves g l = record {
   first : l.from ≡ 0 → l.place.last ≡ l.fn.place.last;
   last : IsTrue l.fn.cache.store.is_faithful → IsLast (pages_of_cache l.fn.cache) l.fn.place.last l.place.last;
   keeps : IsTrue l.fn.cache.store.is_faithful → KeepsLegs l.fn.place.last (taken_by_last l.fn.tree.shape.leaf l.fn.place.legs (take l.from l.legs)) (pages_of_cache l.fn.cache) (pages_of_cache l.cache);
+  met : IsTrue l.fn.cache.store.is_faithful → Meets (pages_of_cache l.fn.cache) (pages_of_cache l.cache) l.fn.tree l.tree (take l.from l.legs);
   filled : IsFilled l.fn.tree.shape.leaf l.from (length l.legs) l.fn.cache l.cache l.fn.tree l.tree l.place;
 }

@@ -10,6 +10,7 @@ use Rattle.tbtree.specs.Way.{IsOnWay, Hangs}
 use Rattle.tbtree.proofs.LawfulBoxes.{lawful}
 use Rattle.tbtree.proofs.Hanging.{hang_ups, hang_on, way_not, attach_not}
 use Rattle.tbtree.proofs.Still.{still}
+use Rattle.tbtree.proofs.ContentLemmas.{carries_on, on_carried}
 use Rattle.tbtree.proofs.insertion.+hang.Goals as goal
 
 pub returns-then-at-inner-eq0-clause-hangs : goal.returns-then-at-inner-eq0-clause-hangs
@@ -68,3 +69,18 @@ returns-in_err-attach-clause-hangs g t c = λ fa.
     let only = subst (λ n. HasRoom mid c.in_ok-parent.parent (c.args.level + 1) n → MayRefuseWrite c.in_err-attach.field-0.0) c.inner-2.ensures.value (c.in_err-attach.ensures.only (still _ _ c.way.ensures.touches.passes.store.faithful fa)) in
     let p = err_from_is_err_and c.from_residual-in_err-attach.result c.from_residual-in_err-attach.ensures.1 in
     rw (p.1, p.2) (attach_not leg_boxes lawful leg_feature tree.shape.inner tree.levels tree.root old mid (pages_of_cache c.attach.new.cache) c.args.level c.args.at c.args.child.now.child c.in_ok-parent.parent c.args.child.now.bounds _ wide below room on only)
+
+pub returns-then-at-inner-eq0-clause-carries : goal.returns-then-at-inner-eq0-clause-carries
+returns-then-at-inner-eq0-clause-carries g t c = λ fa some.
+    let tree = c.args.tree.now in
+    let more = c.add_inner.ensures.touches.passes.count in
+    let below : c.args.level + 1 < tree.levels = omega (arith, c.if-from-tree.false, c.from.ensures, c.requires.level) in
+    on_carried (pages_of_cache c.args.cache.now) (pages_of_cache c.add_inner.new.cache) (pages_of_cache c.hang.new.cache) tree.root tree.levels c.args.level c.args.child.now.child c.in_ok-page.page c.args.child.now.bounds c.hang.result
+    some c.add_inner.ensures.fresh below c.hang.ensures.higher (c.in_ok-page.ensures.adds fa) (c.hang.ensures.carries (still _ _ c.add_inner.ensures.touches.passes.store.faithful fa) (omega (arith, some, more)))
+
+pub returns-clause-carries : goal.returns-clause-carries
+returns-clause-carries g t c = λ fa some.
+    let tree = c.args.tree.now in
+    let below : c.args.level + 1 < tree.levels = omega (arith, c.if-from-tree.false, c.from.ensures, c.requires.level) in
+    carries_on (pages_of_cache c.args.cache.now) (pages_of_cache c.way.new.cache) (pages_of_cache c.attach.new.cache) tree.root tree.levels c.args.level c.args.child.now.child c.in_ok-parent.parent c.args.child.now.bounds
+    below c.in_ok-attach.ensures.above (c.in_ok-parent.ensures.found fa) (c.in_ok-attach.ensures.attaches (still _ _ c.way.ensures.touches.passes.store.faithful fa))

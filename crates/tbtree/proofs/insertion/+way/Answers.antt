@@ -7,6 +7,7 @@ use Rattle.tbtree.specs.Nodes.{pages_of_cache, Widens, HasEntry}
 use Rattle.tbtree.specs.Way.{IsOnWay}
 use Rattle.tbtree.proofs.WayLemmas.{way_start, way_steps, way_refused}
 use Rattle.tbtree.proofs.Still.{still}
+use Rattle.tbtree.proofs.ContentLemmas.{found_top, on_found}
 use Rattle.tbtree.proofs.insertion.+way.Goals as goal
 
 pub returns-then-from-tree-clause-way : goal.returns-then-from-tree-clause-way
@@ -41,3 +42,18 @@ returns-in_err-parent-clause-way g t c = λ fa.
     let is : c.from-inner.result ≡ tree.shape.inner = c.from-inner.ensures ∙ c.inner.ensures.value in
     let on = subst (λ n. IsOnWay leg_boxes tree.shape.inner tree.levels tree.root old mid (c.args.level + 1) (c.args.at / n) c.args.bounds.now (Err c.in_err-parent.field-0.0)) is (c.in_err-parent.ensures.way fa) in
     rw (p.1, p.2) (way_refused leg_boxes tree.shape.inner tree.levels tree.root old mid mid c.args.level c.args.at c.args.bounds.now _ on)
+
+pub returns-then-from-tree-clause-found : goal.returns-then-from-tree-clause-found
+returns-then-from-tree-clause-found g t c = λ fa.
+    let tree = c.args.tree.now in
+    found_top (pages_of_cache c.args.cache.now) tree.root tree.levels c.args.level (omega (arith, c.if-from-tree.true, c.from.ensures))
+
+pub returns-clause-found : goal.returns-clause-found
+returns-clause-found g t c = λ fa.
+    let tree = c.args.tree.now in
+    let old = pages_of_cache c.args.cache.now in
+    let mid = pages_of_cache c.way.new.cache in
+    let new = pages_of_cache c.widen.new.cache in
+    let faithful = still _ _ c.way.ensures.touches.passes.store.faithful fa in
+    let below : c.args.level + 1 < tree.levels = omega (arith, c.if-from-tree.false, c.from.ensures, c.requires.level) in
+    on_found old mid new tree.root tree.levels c.args.level c.in_ok-parent.parent (c.args.at % c.from-inner.result) c.args.bounds.now c.widen.result below c.widen.ensures.above (c.in_ok-parent.ensures.found fa) (c.widen.ensures.widens faithful)

@@ -2,6 +2,7 @@ use Rattle.std.specs.Prelude.{Ok}
 use Rattle.tbtree.specs.Nodes.{pages_of_cache}
 use Rattle.tbtree.proofs.EndLemmas.{ends_added, ends_linked, fresh_first, on_added, keeps_first, keeps_linked}
 use Rattle.tbtree.proofs.Still.{still}
+use Rattle.tbtree.proofs.ContentLemmas.{on_says, says_added, says_linked, says_then}
 use Rattle.tbtree.proofs.insertion.add_last.Goals as goal
 
 pub returns-then-last-eq0-clause-ends : goal.returns-then-last-eq0-clause-ends
@@ -32,3 +33,15 @@ returns-then-last-eq0-clause-fresh g c = λ fa.
 pub returns-clause-fresh : goal.returns-clause-fresh
 returns-clause-fresh g c = λ fa.
     fresh_first (pages_of_cache c.args.cache.now) (pages_of_cache c.add_leaf-2.new.cache) c.args.last c.args.legs.now (Ok c.in_ok-page.page) c.in_ok-page.ensures.fresh (c.in_ok-page.ensures.adds fa)
+
+pub returns-then-last-eq0-clause-says : goal.returns-then-last-eq0-clause-says
+returns-then-last-eq0-clause-says g c = λ fa.
+    on_says (pages_of_cache c.args.cache.now) (pages_of_cache c.add_leaf.new.cache) _ c.add_leaf.result c.add_leaf.ensures.fresh (c.add_leaf.ensures.adds fa)
+
+pub returns-clause-says : goal.returns-clause-says
+returns-clause-says g c = λ fa.
+    let old = pages_of_cache c.args.cache.now in
+    let mid = pages_of_cache c.add_leaf-2.new.cache in
+    let new = pages_of_cache c.link.new.cache in
+    says_then old mid new (says_added old mid _ c.in_ok-page.page c.in_ok-page.ensures.fresh (c.in_ok-page.ensures.adds fa))
+    (says_linked mid new c.args.last c.in_ok-page.page (c.in_ok-link.ensures.links (still _ _ c.add_leaf-2.ensures.touches.passes.store.faithful fa)))

@@ -4,6 +4,7 @@ use Rattle.tbtree.specs.Nodes.{pages_of_cache}
 use Rattle.tbtree.proofs.EndLemmas.{ends_kept, keeps_kept}
 use Rattle.tbtree.proofs.InsertLemmas.{inserts_begun, hang_not, add_not}
 use Rattle.tbtree.proofs.Still.{still}
+use Rattle.tbtree.proofs.ContentLemmas.{meets_begun}
 use Rattle.tbtree.proofs.insertion.begin.Goals as goal
 use Rattle.tbtree.proofs.insertion.begin.Goals.{then-place-eq0, else-place-eq0}
 
@@ -39,3 +40,10 @@ returns-clause-ends g c = λ fa.
 pub returns-clause-keeps : goal.returns-clause-keeps
 returns-clause-keeps g c = λ fa.
     keeps_kept c.args.place.now.last [] (pages_of_cache c.args.cache.now) (pages_of_cache c.add_last.new.cache) (pages_of_cache c.hang_leaf.new.cache) (c.in_ok-page.ensures.keeps fa) (c.in_ok-top.ensures.leaves (still _ _ c.add_last.ensures.touches.passes.store.faithful fa))
+
+pub returns-clause-met : goal.returns-clause-met
+returns-clause-met g c = λ fa.
+    let more = c.add_last.ensures.touches.passes.count in
+    let first = c.requires.first in
+    meets_begun (pages_of_cache c.args.cache.now) (pages_of_cache c.add_last.new.cache) (pages_of_cache c.hang_leaf.new.cache) c.args.tree.now _ c.in_ok-top.top c.in_ok-page.page c.args.legs.now
+    (c.in_ok-page.ensures.says fa) (c.in_ok-top.ensures.carries (still _ _ c.add_last.ensures.touches.passes.store.faithful fa) (omega (arith, more, first))) refl refl c.in_ok-top.ensures.some (returns-clause-ends g c fa)

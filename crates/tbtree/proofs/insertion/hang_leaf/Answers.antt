@@ -4,8 +4,10 @@ use Rattle.legs.specs.Boxes.{BoxView}
 use Rattle.legs.specs.Hull.{leg_boxes}
 use Rattle.legs.specs.Costs.{leg_feature}
 use Rattle.tbtree.specs.Nodes.{pages_of_cache, EntryView}
+use Rattle.tbtree.specs.Content.{Carries}
 use Rattle.tbtree.specs.Way.{Hangs}
 use Rattle.tbtree.proofs.InsertLemmas.{first_hung}
+use Rattle.tbtree.proofs.ContentLemmas.{carries_first}
 use Rattle.tbtree.proofs.insertion.hang_leaf.Goals as goal
 
 pub returns-then-tree-eq0-clause-hangs : goal.returns-then-tree-eq0-clause-hangs
@@ -16,3 +18,11 @@ returns-then-tree-eq0-clause-hangs g c = λ fa.
     let same : page.child ≡ c.page.inside.child = ap (λ (e : EntryView BoxView). e.child) (sym c.page.view_is) in
     subst (λ n. Hangs leg_boxes leg_feature tree.shape.inner tree.levels tree.root pages pages 0 tree.leaves page.child page.bounds (Ok (record { root = n; levels = 1 }))) same
     (first_hung leg_boxes leg_feature tree.shape.inner tree.levels tree.root pages tree.leaves page.child page.bounds c.if-tree-eq0.true)
+
+pub returns-then-tree-eq0-clause-carries : goal.returns-then-tree-eq0-clause-carries
+returns-then-tree-eq0-clause-carries g c = λ fa some.
+    let tree = c.args.tree.now in
+    let pages = pages_of_cache c.args.cache.now in
+    let same : c.args.page.now.child ≡ c.page.inside.child = ap (λ (e : EntryView BoxView). e.child) (sym c.page.view_is) in
+    subst (λ n. Carries pages pages tree.root tree.levels 0 c.args.page.now.child (record { root = n; levels = 1 })) same
+    (carries_first pages tree.root tree.levels c.args.page.now.child c.if-tree-eq0.true)

@@ -3,6 +3,7 @@ use Rattle.std.specs.Prelude.{Ok, Err}
 use Rattle.std.proofs.lemmas.Result.{err_from_is_err_and}
 use Rattle.tbtree.specs.Nodes.{pages_of_cache}
 use Rattle.tbtree.proofs.InsertLemmas.{inserts_joined, inserts_spent, joins_one}
+use Rattle.tbtree.proofs.ContentLemmas.{grows_spent}
 use Rattle.tbtree.proofs.insertion.insert.Goals as goal
 
 pub returns-clause-joins : goal.returns-clause-joins
@@ -23,3 +24,7 @@ returns-in_err-put-clause-joins g c = λ _ fa.
 pub returns-in_err-put-clause-inserts : goal.returns-in_err-put-clause-inserts
 returns-in_err-put-clause-inserts g c = λ w fa.
     inserts_joined (pages_of_cache c.args.cache.now) (pages_of_cache c.put.new.cache) c.args.tree.now c.put.new.tree c.args.place.now c.put.new.place c.args.leg c.from_residual.result (returns-in_err-put-clause-joins g c w fa)
+
+pub returns-clause-met : goal.returns-clause-met
+returns-clause-met g c = λ fa.
+    grows_spent (pages_of_cache c.args.cache.now) (pages_of_cache c.put.new.cache) c.args.tree.now c.put.new.tree true false (c.args.leg ∷ []) (c.in_ok-put.ensures.met fa)

@@ -13,6 +13,7 @@ use Rattle.tbtree.proofs.LawfulBoxes.{lawful}
 use Rattle.tbtree.proofs.EndLemmas.{ends_pushed, keeps_pushed}
 use Rattle.tbtree.proofs.Growing.{grow_way, grow_elsewhere, grow_refused}
 use Rattle.tbtree.proofs.Still.{still}
+use Rattle.tbtree.proofs.ContentLemmas.{on_grown}
 use Rattle.tbtree.proofs.insertion.into_leaf.Goals as goal
 
 pub returns-clause-ends : goal.returns-clause-ends
@@ -64,3 +65,10 @@ returns-in_err-page-clause-grows g c = λ fa.
     let some : 0 < tree.shape.inner = let range = c.leaf-most.ensures.range.least_inner in omega (arith, range) in
     let p = err_from_is_err_and c.from_residual.result c.from_residual.ensures.1 in
     rw (p.1, p.2) (grow_refused leg_boxes lawful leg_feature tree.shape.inner tree.levels tree.root (pages_of_cache c.args.cache.now) mid mid c.args.number c.args.last legs can c.cover_of_legs-bounds.result _ some c.cover_of_legs-bounds.ensures (c.in_err-page.ensures.way fa))
+
+pub returns-clause-met : goal.returns-clause-met
+returns-clause-met g c = λ fa.
+    let tree = c.args.tree.now in
+    let faithful = still _ _ c.way.ensures.touches.passes.store.faithful fa in
+    on_grown (pages_of_cache c.args.cache.now) (pages_of_cache c.way.new.cache) (pages_of_cache c.grow.new.cache) tree c.in_ok-page.page c.args.last c.args.legs.now c.grow.result c.requires.levels c.if-page-last.false
+    (c.in_ok-page.ensures.found fa) (c.grow.ensures.pushes faithful) (returns-clause-ends g c fa)
