@@ -1,13 +1,11 @@
 //! Databases that are checked.
 use crate::lasting_tests::{closed, loaded, opened, said};
-use crate::run_tests::over;
-use legs::Limits;
 use pages::{Fuse, MemStore, PageStore, seal, unseal};
 use std::alloc::Global;
 use std::hash::RandomState;
 use std::test::Fail;
 use tbnode::fields::put_u32;
-use trajdb::{Report, RunFault};
+use trajdb::{Db, Report, RunFault};
 
 /// A report of so many pages, legs and features.
 fn found(pages: u32, legs: u64, features: u64) -> Result<Report, RunFault> {
@@ -43,28 +41,6 @@ fn the_example_passes(rt: HostRuntime) -> Result<(), Fail> {
         found(7, 6, 4),
     ];
     assert!(rt; checks_of_the_example(alloc, keys) == Some(wanted));
-    Ok(())
-}
-
-/// What checks find in a store of at most two pages: at first, with a head, and behind a load for
-/// which there is no room.
-fn checks_of_two_pages(alloc: Global, keys: RandomState) -> Option<[Result<Report, RunFault>; 3]> {
-    let limits = Limits::new(9, 9)?;
-    let mut db = over(alloc, keys, MemStore::new(alloc, 2), limits, (50, 72, 1)).ok()?;
-    let empty = db.check();
-    said(alloc, &mut db, "load head.csv").1.ok()?;
-    let head = db.check();
-    match said(alloc, &mut db, "load S1.csv").1 {
-        Err(RunFault::StoreFull) => Some([empty, head, db.check()]),
-        _ => None,
-    }
-}
-
-#[test]
-fn an_empty_book_passes(rt: HostRuntime) -> Result<(), Fail> {
-    let (alloc, keys) = (rt.alloc(), RandomState::new(&rt)?);
-    let wanted = [found(1, 0, 0), found(1, 0, 0), Err(RunFault::Failed)];
-    assert!(rt; checks_of_two_pages(alloc, keys) == Some(wanted));
     Ok(())
 }
 
@@ -127,23 +103,35 @@ features crosses 11.5 2.5 13 4 2012-01-17T12:33:41Z 2012-01-17T12:37:00Z
 write
 ";
 
+/// What a check answers over such a store, where each question is answered or names a page.
+fn checked_lie(
+    alloc: Global,
+    keys: RandomState,
+    number: u32,
+    place: usize,
+    value: u32,
+) -> Option<Result<Report, RunFault>> {
+    let store = lying(alloc, keys, number, place, value).ok()?;
+    let mut db = opened(alloc, keys, store, 1).ok()?;
+    let told = db.check();
+    for question in QUESTIONS.split('\n') {
+        match said(alloc, &mut db, question).1 {
+            Ok(()) | Err(RunFault::Damaged(_)) => {}
+            Err(_) => return None,
+        }
+    }
+    Some(told)
+}
+
 #[test]
 fn pages_that_lie_are_named(rt: HostRuntime) -> Result<(), Fail> {
     let (alloc, keys) = (rt.alloc(), RandomState::new(&rt)?);
     for (page, place, value, named) in LIES {
-        let store = lying(alloc, keys, page, place, value)
-            .ok()
-            .ok_or("no such place")?;
-        let mut db = opened(alloc, keys, store, 1).ok().ok_or("not opened")?;
-        let told = db.check();
+        let told = checked_lie(alloc, keys, page, place, value);
         assert!(rt;
-            told == Err(RunFault::Damaged(named)),
+            told == Some(Err(RunFault::Damaged(named))),
             "{value} at {place} of {page}: {told:?} for {named}"
         );
-        for question in QUESTIONS.split('\n') {
-            let answer = said(alloc, &mut db, question).1;
-            assert!(rt; answer.is_ok() || matches!(answer, Err(RunFault::Damaged(_))));
-        }
     }
     Ok(())
 }
@@ -161,8 +149,27 @@ fn damaged(alloc: Global, keys: RandomState, number: u32) -> Result<MemStore, Ru
     Ok(store)
 }
 
-/// Which page each question names, 0 where it is answered, and 9 where it is refused otherwise.
-fn named(alloc: Global, keys: RandomState, store: MemStore) -> Option<[u32; 7]> {
+/// The example, closed, with a damaged page, or with a value at a place of it under a right seal.
+fn altered(
+    alloc: Global,
+    keys: RandomState,
+    number: u32,
+    lie: Option<(usize, u32)>,
+) -> Result<MemStore, RunFault> {
+    match lie {
+        Some((place, value)) => lying(alloc, keys, number, place, value),
+        None => damaged(alloc, keys, number),
+    }
+}
+
+/// Which page each question over such a store names, 0 where it is answered, and 9 where it is refused otherwise.
+fn named(
+    alloc: Global,
+    keys: RandomState,
+    number: u32,
+    lie: Option<(usize, u32)>,
+) -> Option<[u32; 7]> {
+    let store = altered(alloc, keys, number, lie).ok()?;
     let mut db = opened(alloc, keys, store, 1).ok()?;
     let mut pages = [9; 7];
     for (page, question) in pages.iter_mut().zip(QUESTIONS.split('\n')) {
@@ -177,111 +184,115 @@ fn named(alloc: Global, keys: RandomState, store: MemStore) -> Option<[u32; 7]> 
 
 /// The leaf of the first feature, and the root, each damaged, and malformed under a right seal. The
 /// trajectory of the last feature meets neither, and `features` and `trajectory` do not meet the root.
+const DAMAGE: [(u32, Option<(usize, u32)>, [u32; 7]); 4] = [
+    (1, None, [0, 1, 1, 1, 0, 1, 1]),
+    (1, Some((12, 0x0033_0000)), [0, 1, 1, 1, 0, 1, 1]),
+    (3, None, [0, 3, 3, 0, 0, 0, 3]),
+    (3, Some((16, 3)), [0, 3, 3, 0, 0, 0, 3]),
+];
+
 #[test]
 fn a_question_over_damage_names_it(rt: HostRuntime) -> Result<(), Fail> {
     let (alloc, keys) = (rt.alloc(), RandomState::new(&rt)?);
-    let leaf = [0, 1, 1, 1, 0, 1, 1];
-    let root = [0, 3, 3, 0, 0, 0, 3];
-    let broken = damaged(alloc, keys, 1).ok().ok_or("a store")?;
-    assert!(rt; named(alloc, keys, broken) == Some(leaf));
-    let forged = lying(alloc, keys, 1, 12, 0x0033_0000)
-        .ok()
-        .ok_or("a store")?;
-    assert!(rt; named(alloc, keys, forged) == Some(leaf));
-    let broken = damaged(alloc, keys, 3).ok().ok_or("a store")?;
-    assert!(rt; named(alloc, keys, broken) == Some(root));
-    let forged = lying(alloc, keys, 3, 16, 3).ok().ok_or("a store")?;
-    assert!(rt; named(alloc, keys, forged) == Some(root));
+    for (page, lie, wanted) in DAMAGE {
+        let told = named(alloc, keys, page, lie);
+        assert!(rt; told == Some(wanted), "{page}, {lie:?}: {told:?}");
+    }
     Ok(())
 }
 
-#[test]
-fn a_leg_whose_row_is_missing_is_damage_of_the_catalogue(rt: HostRuntime) -> Result<(), Fail> {
-    let (alloc, keys) = (rt.alloc(), RandomState::new(&rt)?);
-    let store = lying(alloc, keys, 2, 88, 4).ok().ok_or("no such place")?;
-    let mut db = opened(alloc, keys, store, 1).ok().ok_or("not opened")?;
-    for question in ["trajectory b", "write"] {
-        let (text, answer) = said(alloc, &mut db, question);
-        assert!(rt; text.is_empty() && answer == Err(RunFault::Damaged(0)));
+/// What a check answers where the first two entries of the root are exchanged under a right seal.
+fn checked_exchange(alloc: Global, keys: RandomState) -> Option<Result<Report, RunFault>> {
+    let (mut store, _) = closed(alloc, keys, 100).ok()?;
+    if store.len() < 4 {
+        return None;
     }
-    Ok(())
+    let mut page = [0; 4096];
+    store.read(3, &mut page).ok()?;
+    let mut payload = unseal(3, &page).ok()?;
+    let mut first = [0; 56];
+    first.copy_from_slice(&payload.bytes[16..72]);
+    payload.bytes.copy_within(72..128, 16);
+    payload.bytes[72..128].copy_from_slice(&first);
+    store.write(3, &seal(3, &payload)).ok()?;
+    Some(opened(alloc, keys, store, 256).ok()?.check())
 }
 
 #[test]
 fn entries_in_another_order_are_told(rt: HostRuntime) -> Result<(), Fail> {
     let (alloc, keys) = (rt.alloc(), RandomState::new(&rt)?);
-    let (mut store, _) = closed(alloc, keys, 100).ok().ok_or("not loaded")?;
-    let mut page = [0; 4096];
-    if store.len() > 3 {
-        store.read(3, &mut page).ok().ok_or("not read")?;
-        let mut payload = unseal(3, &page).ok().ok_or("not sealed")?;
-        let mut first = [0; 56];
-        first.copy_from_slice(&payload.bytes[16..72]);
-        payload.bytes.copy_within(72..128, 16);
-        payload.bytes[72..128].copy_from_slice(&first);
-        store
-            .write(3, &seal(3, &payload))
-            .ok()
-            .ok_or("not written")?;
-    }
-    let mut db = opened(alloc, keys, store, 256).ok().ok_or("not opened")?;
-    assert!(rt; db.check() == Err(RunFault::Damaged(3)));
+    assert!(rt; checked_exchange(alloc, keys) == Some(Err(RunFault::Damaged(3))));
     Ok(())
+}
+
+/// How a check went over a store that fails once.
+#[derive(Clone, Copy, PartialEq, Eq, Debug)]
+enum Checked {
+    /// There is no database to check.
+    Nothing,
+    /// It found the example.
+    Passed,
+    /// The store failed, and it found the example when it was asked again.
+    Again,
+    /// Neither.
+    Wrong,
+}
+
+/// Checks a database of the example with so many pages.
+fn check_twice<S: PageStore>(db: &mut Db<S>, pages: u32) -> Checked {
+    let report = db.check();
+    if report == found(pages, 5, 3) {
+        return Checked::Passed;
+    }
+    if report == Err(RunFault::Store) && db.check() == found(pages, 5, 3) {
+        Checked::Again
+    } else {
+        Checked::Wrong
+    }
+}
+
+/// Checks the example over a store that fails once, when so many calls have passed: as it is loaded, or as it is closed
+/// and opened.
+fn checked_over(alloc: Global, keys: RandomState, calls: u64, is_loaded: bool) -> Checked {
+    if is_loaded {
+        let fuse = Fuse::new(MemStore::new(alloc, 100), calls, true);
+        return match loaded(alloc, keys, fuse) {
+            Ok(mut db) => check_twice(&mut db, 5),
+            Err(_) => Checked::Nothing,
+        };
+    }
+    let Ok((store, _)) = closed(alloc, keys, 100) else {
+        return Checked::Wrong;
+    };
+    match opened(alloc, keys, Fuse::new(store, calls, true), 1) {
+        Ok(mut db) => check_twice(&mut db, 6),
+        Err(_) => Checked::Nothing,
+    }
+}
+
+/// How often of 60 calls a check is asked again, and how often it passes at once; `None` where one goes wrong.
+fn count(alloc: Global, keys: RandomState, is_loaded: bool) -> Option<(u32, u32)> {
+    let (mut again, mut passed) = (0u32, 0u32);
+    for calls in 0..60 {
+        match checked_over(alloc, keys, calls, is_loaded) {
+            Checked::Nothing => {}
+            Checked::Passed => passed = passed.saturating_add(1),
+            Checked::Again => again = again.saturating_add(1),
+            Checked::Wrong => return None,
+        }
+    }
+    Some((again, passed))
 }
 
 #[test]
 fn a_check_of_a_store_that_fails_is_asked_again(rt: HostRuntime) -> Result<(), Fail> {
     let (alloc, keys) = (rt.alloc(), RandomState::new(&rt)?);
-    let (mut failed, mut passed) = (0u32, 0u32);
-    for calls in 0..60 {
-        let fuse = Fuse::new(MemStore::new(alloc, 100), calls, true);
-        let Ok(mut db) = loaded(alloc, keys, fuse) else {
-            continue;
-        };
-        match db.check() {
-            Err(RunFault::Store) => {
-                failed = failed.saturating_add(1);
-                assert!(rt; db.check() == found(5, 5, 3));
-            }
-            report => {
-                passed = passed.saturating_add(1);
-                assert!(rt; report == found(5, 5, 3));
-            }
-        }
-    }
     // The three leaves are as they were added; the root, which has had its third entry since, is
     // written, and all is made to last.
-    assert!(rt;
-        failed == 2 && passed > 0,
-        "{failed} failed, {passed} passed"
-    );
-    Ok(())
-}
-
-#[test]
-fn a_check_of_a_store_that_cannot_be_read_is_asked_again(rt: HostRuntime) -> Result<(), Fail> {
-    let (alloc, keys) = (rt.alloc(), RandomState::new(&rt)?);
-    let (mut failed, mut passed) = (0u32, 0u32);
-    for calls in 0..30 {
-        let (store, _) = closed(alloc, keys, 100).ok().ok_or("not loaded")?;
-        let Ok(mut db) = opened(alloc, keys, Fuse::new(store, calls, true), 1) else {
-            continue;
-        };
-        match db.check() {
-            Err(RunFault::Store) => {
-                failed = failed.saturating_add(1);
-                assert!(rt; db.check() == found(6, 5, 3));
-            }
-            report => {
-                passed = passed.saturating_add(1);
-                assert!(rt; report == found(6, 5, 3));
-            }
-        }
-    }
+    let (again, passed) = count(alloc, keys, true).ok_or("a wrong check")?;
+    assert!(rt; again == 2 && passed > 0, "{again} again, {passed} passed");
     // The six pages are read for their seals, then page 0, the three leaves and the root.
-    assert!(rt;
-        failed > 10 && passed > 0,
-        "{failed} failed, {passed} passed"
-    );
+    let (again, passed) = count(alloc, keys, false).ok_or("a wrong check")?;
+    assert!(rt; again > 10 && passed > 0, "{again} again, {passed} passed");
     Ok(())
 }

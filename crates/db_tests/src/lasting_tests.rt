@@ -77,62 +77,76 @@ pub(crate) fn opened<S: PageStore + Drop>(
 const QUESTIONS: &str =
     "features crosses 11.5 2.5 13 4 2012-01-17T12:33:41Z 2012-01-17T12:37:00Z\ncount";
 
-#[test]
-fn what_is_closed_is_opened(rt: HostRuntime) -> Result<(), Fail> {
-    let (alloc, keys) = (rt.alloc(), RandomState::new(&rt)?);
-    let (store, answer) = closed(alloc, keys, 100).ok().ok_or("not loaded")?;
-    assert!(rt; answer == Ok(()) && store.len() == 6);
-    let mut db = opened(alloc, keys, store, 256).ok().ok_or("not opened")?;
-    let (text, answer) = said(alloc, &mut db, QUESTIONS);
-    assert!(rt; answer == Ok(()) && text.as_slice() == b"ok 1\na\nok 1\n5,3\n".as_slice());
+/// What a script answers over a store that is opened with so many pages in memory, and the store as it is abandoned then;
+/// `None` where it is not opened or does not answer.
+fn asked(
+    alloc: Global,
+    keys: RandomState,
+    store: MemStore,
+    cache_pages: usize,
+    script: &str,
+) -> Option<(Vec<u8>, MemStore)> {
+    let mut db = opened(alloc, keys, store, cache_pages).ok()?;
+    let (text, answer) = said(alloc, &mut db, script);
+    answer.ok()?;
+    Some((text, db.abandon()))
+}
 
-    // A refused file begins nothing: the store stays finished.
-    let (text, answer) = said(alloc, &mut db, "load S1.csv");
-    assert!(rt; answer == Ok(()) && text.as_slice() == b"refused F18 at 3\n".as_slice());
-    let mut db = opened(alloc, keys, db.abandon(), 1)
-        .ok()
-        .ok_or("not opened again")?;
-    let (text, answer) = said(alloc, &mut db, "count");
-    assert!(rt; answer == Ok(()) && text.as_slice() == b"ok 1\n5,3\n".as_slice());
+/// Why a store is not opened, if it is not.
+fn refused(alloc: Global, keys: RandomState, store: MemStore) -> Option<OpenFault> {
+    opened(alloc, keys, store, 256).err()
+}
 
-    // An accepted one does, even where it has no leg.
-    let (text, answer) = said(alloc, &mut db, "load head.csv");
-    assert!(rt; answer == Ok(()) && text.as_slice() == b"ok 1\n0,0,0\n".as_slice());
-    assert!(rt; opened(alloc, keys, db.abandon(), 256).err() == Some(OpenFault::Unfinished));
-    Ok(())
+/// The example, closed in a store of six pages.
+fn closed_well(alloc: Global, keys: RandomState) -> Option<MemStore> {
+    let (store, answer) = closed(alloc, keys, 100).ok()?;
+    if answer.is_err() || store.len() != 6 {
+        return None;
+    }
+    Some(store)
+}
+
+/// What is asked of the example, each time of the store as it was abandoned, and what is answered. A refused file begins
+/// nothing, and the store stays finished; an accepted one does, even where it has no leg.
+const ASKED: [(&str, usize, &str); 3] = [
+    (QUESTIONS, 256, "ok 1\na\nok 1\n5,3\n"),
+    ("load S1.csv", 256, "refused F18 at 3\n"),
+    ("count\nload head.csv", 1, "ok 1\n5,3\nok 1\n0,0,0\n"),
+];
+
+/// Whether all is answered so, and the store is not finished then.
+fn is_opened(alloc: Global, keys: RandomState) -> Option<bool> {
+    let mut store = closed_well(alloc, keys)?;
+    for (script, cache_pages, want) in ASKED {
+        let (text, left) = asked(alloc, keys, store, cache_pages, script)?;
+        if text.as_slice() != want.as_bytes() {
+            return Some(false);
+        }
+        store = left;
+    }
+    Some(refused(alloc, keys, store) == Some(OpenFault::Unfinished))
 }
 
 #[test]
-fn legs_are_added_to_what_was_opened(rt: HostRuntime) -> Result<(), Fail> {
+fn what_is_closed_is_opened(rt: HostRuntime) -> Result<(), Fail> {
     let (alloc, keys) = (rt.alloc(), RandomState::new(&rt)?);
-    let (store, _) = closed(alloc, keys, 100).ok().ok_or("not loaded")?;
-    let mut db = opened(alloc, keys, store, 2).ok().ok_or("not opened")?;
-    let (text, answer) = said(alloc, &mut db, "load more.csv\ncount");
-    assert!(rt; answer == Ok(()) && text.as_slice() == b"ok 1\n1,1,1\nok 1\n6,4\n".as_slice());
-    let (store, answer) = db.close(alloc);
-    assert!(rt; answer == Ok(()));
-    let mut db = opened(alloc, keys, store, 2)
-        .ok()
-        .ok_or("not opened again")?;
-    let (text, answer) = said(alloc, &mut db, "count\ntrajectory d\ntrajectory b");
-    assert!(rt; answer == Ok(()));
-    assert!(rt;
-        text.as_slice()
-            == b"ok 1\n6,4\nok 1\nd,0,1,0 0 0 0,,\nok 1\nb,10,190,10 2 11 3,walking,2\n".as_slice()
-    );
+    assert!(rt; is_opened(alloc, keys) == Some(true));
     Ok(())
+}
+
+/// The store of the example that was loaded, and abandoned.
+fn abandoned(alloc: Global, keys: RandomState) -> Option<MemStore> {
+    let db = loaded(alloc, keys, MemStore::new(alloc, 100)).ok()?;
+    Some(db.abandon())
 }
 
 #[test]
 fn a_store_that_is_abandoned_is_unfinished(rt: HostRuntime) -> Result<(), Fail> {
     let (alloc, keys) = (rt.alloc(), RandomState::new(&rt)?);
-    let db = loaded(alloc, keys, MemStore::new(alloc, 100))
-        .ok()
-        .ok_or("not loaded")?;
-    assert!(rt; opened(alloc, keys, db.abandon(), 256).err() == Some(OpenFault::Unfinished));
-    assert!(rt;
-        opened(alloc, keys, MemStore::new(alloc, 100), 256).err() == Some(OpenFault::Malformed)
-    );
+    let store = abandoned(alloc, keys).ok_or("not loaded")?;
+    assert!(rt; refused(alloc, keys, store) == Some(OpenFault::Unfinished));
+    let empty = MemStore::new(alloc, 100);
+    assert!(rt; refused(alloc, keys, empty) == Some(OpenFault::Malformed));
     Ok(())
 }
 
@@ -152,78 +166,99 @@ pub(crate) fn change(store: &mut MemStore, bytes: &[(usize, u8)]) -> Option<()> 
     store.write(0, &seal(0, &payload)).ok()
 }
 
+/// Bytes at places of page 0, and why the store is not opened: the magic, the version, the state, the shape, the limits,
+/// the length of the catalogue's text, and the dimension.
+const HEADERS: [(&[(usize, u8)], OpenFault); 8] = [
+    (&[(0, 0), (11, 0)], OpenFault::Malformed),
+    (&[(7, 9), (11, 0)], OpenFault::Version),
+    (&[(11, 0)], OpenFault::Unfinished),
+    (&[(11, 2)], OpenFault::Malformed),
+    (&[(13, 1)], OpenFault::Malformed),
+    (&[(16, 255)], OpenFault::Malformed),
+    (&[(55, 80)], OpenFault::Malformed),
+    (&[(59, 4)], OpenFault::Malformed),
+];
+
+/// Why the example is not opened where page 0 has these bytes.
+fn refused_with(alloc: Global, keys: RandomState, bytes: &[(usize, u8)]) -> Option<OpenFault> {
+    let mut store = closed_well(alloc, keys)?;
+    change(&mut store, bytes)?;
+    refused(alloc, keys, store)
+}
+
 #[test]
 fn page_0_is_tested_in_order(rt: HostRuntime) -> Result<(), Fail> {
     let (alloc, keys) = (rt.alloc(), RandomState::new(&rt)?);
-    // The magic, the version, the state, the shape, the limits, the length of the catalogue's text,
-    // and the dimension.
-    let cases: [(&[(usize, u8)], OpenFault); 8] = [
-        (&[(0, 0), (11, 0)], OpenFault::Malformed),
-        (&[(7, 9), (11, 0)], OpenFault::Version),
-        (&[(11, 0)], OpenFault::Unfinished),
-        (&[(11, 2)], OpenFault::Malformed),
-        (&[(13, 1)], OpenFault::Malformed),
-        (&[(16, 255)], OpenFault::Malformed),
-        (&[(55, 80)], OpenFault::Malformed),
-        (&[(59, 4)], OpenFault::Malformed),
-    ];
-    for (bytes, fault) in cases {
-        let (mut store, _) = closed(alloc, keys, 100).ok().ok_or("not loaded")?;
-        assert!(rt; change(&mut store, bytes).is_some());
-        assert!(rt; opened(alloc, keys, store, 256).err() == Some(fault));
+    for (bytes, fault) in HEADERS {
+        let told = refused_with(alloc, keys, bytes);
+        assert!(rt; told == Some(fault), "{bytes:?}: {told:?}");
     }
-    let (mut store, _) = closed(alloc, keys, 100).ok().ok_or("not loaded")?;
-    if store.len() > 1 {
-        store.set_byte(0, 50, 1);
-        store.set_byte(1, 100, 1);
-    }
-    assert!(rt; opened(alloc, keys, store, 256).err() == Some(OpenFault::Damaged(0)));
     Ok(())
+}
+
+/// The example, closed, with damaged bytes: of each its page and its place there.
+fn damaged(alloc: Global, keys: RandomState, bytes: &[(u32, usize)]) -> Option<MemStore> {
+    let mut store = closed_well(alloc, keys)?;
+    for (page, place) in bytes {
+        if *page >= store.len() || *place >= 4096 {
+            return None;
+        }
+        store.set_byte(*page, *place, 1);
+    }
+    Some(store)
+}
+
+/// Why the example is not opened with such bytes.
+fn refused_damaged(alloc: Global, keys: RandomState, bytes: &[(u32, usize)]) -> Option<OpenFault> {
+    refused(alloc, keys, damaged(alloc, keys, bytes)?)
+}
+
+/// What a count and a question answer where its leaf is damaged, and why the run stops.
+fn asked_damaged(alloc: Global, keys: RandomState) -> Option<(Vec<u8>, Result<(), RunFault>)> {
+    let store = damaged(alloc, keys, &[(1, 100)])?;
+    let mut db = opened(alloc, keys, store, 1).ok()?;
+    Some(said(alloc, &mut db, "count\ntrajectory a"))
 }
 
 #[test]
 fn a_page_that_is_damaged_is_named(rt: HostRuntime) -> Result<(), Fail> {
     let (alloc, keys) = (rt.alloc(), RandomState::new(&rt)?);
-    let (mut store, _) = closed(alloc, keys, 100).ok().ok_or("not loaded")?;
-    if store.len() > 1 {
-        store.set_byte(1, 100, 1);
-    }
-    let mut db = opened(alloc, keys, store, 1).ok().ok_or("not opened")?;
-    let (text, answer) = said(alloc, &mut db, "count\ntrajectory a");
+    let (text, answer) = asked_damaged(alloc, keys).ok_or("not opened")?;
     assert!(rt;
         answer == Err(RunFault::Damaged(1)) && text.as_slice() == b"ok 1\n5,3\n".as_slice()
     );
+    // Page 0 before a leaf, and the last of the six pages, which is the catalogue's, behind the text.
+    let first = refused_damaged(alloc, keys, &[(0, 50), (1, 100)]);
+    assert!(rt; first == Some(OpenFault::Damaged(0)));
+    assert!(rt; refused_damaged(alloc, keys, &[(5, 4000)]) == Some(OpenFault::Damaged(5)));
     Ok(())
 }
 
-#[test]
-fn a_page_of_the_catalogue_that_is_damaged_is_named(rt: HostRuntime) -> Result<(), Fail> {
-    let (alloc, keys) = (rt.alloc(), RandomState::new(&rt)?);
-    let (mut store, _) = closed(alloc, keys, 100).ok().ok_or("not loaded")?;
-    // The last of the six pages, behind the text.
-    if store.len() > 5 {
-        store.set_byte(5, 4000, 1);
-    }
-    assert!(rt; opened(alloc, keys, store, 256).err() == Some(OpenFault::Damaged(5)));
-    Ok(())
+/// Whether the example, which has five pages and a sixth one for its catalogue, is refused where it is closed in five,
+/// and the store is not finished then.
+fn is_full_at_closing(alloc: Global, keys: RandomState) -> Option<bool> {
+    let (store, answer) = closed(alloc, keys, 5).ok()?;
+    let is_unfinished = refused(alloc, keys, store) == Some(OpenFault::Unfinished);
+    Some(answer == Err(RunFault::StoreFull) && is_unfinished)
+}
+
+/// Whether a leg more is refused where it is closed in six, and the store is not finished then.
+fn is_full_at_a_load(alloc: Global, keys: RandomState) -> Option<bool> {
+    let (store, answer) = closed(alloc, keys, 6).ok()?;
+    answer.ok()?;
+    let mut db = opened(alloc, keys, store, 256).ok()?;
+    let (text, ran) = said(alloc, &mut db, "load more.csv");
+    let (store, answer) = db.close(alloc);
+    let is_unfinished = refused(alloc, keys, store) == Some(OpenFault::Unfinished);
+    let is_told = ran == Err(RunFault::StoreFull) && text.is_empty();
+    Some(is_told && answer == Err(RunFault::Failed) && is_unfinished)
 }
 
 #[test]
 fn a_store_without_room_stays_unfinished(rt: HostRuntime) -> Result<(), Fail> {
     let (alloc, keys) = (rt.alloc(), RandomState::new(&rt)?);
-    // The example has five pages, and its catalogue one.
-    let (store, answer) = closed(alloc, keys, 5).ok().ok_or("not loaded")?;
-    assert!(rt; answer == Err(RunFault::StoreFull));
-    assert!(rt; opened(alloc, keys, store, 256).err() == Some(OpenFault::Unfinished));
-
-    let (store, answer) = closed(alloc, keys, 6).ok().ok_or("not loaded")?;
-    assert!(rt; answer == Ok(()));
-    let mut db = opened(alloc, keys, store, 256).ok().ok_or("not opened")?;
-    let (text, answer) = said(alloc, &mut db, "load more.csv");
-    assert!(rt; answer == Err(RunFault::StoreFull) && text.is_empty());
-    let (store, answer) = db.close(alloc);
-    assert!(rt; answer == Err(RunFault::Failed));
-    assert!(rt; opened(alloc, keys, store, 256).err() == Some(OpenFault::Unfinished));
+    assert!(rt; is_full_at_closing(alloc, keys) == Some(true));
+    assert!(rt; is_full_at_a_load(alloc, keys) == Some(true));
     Ok(())
 }
 

@@ -119,15 +119,13 @@ fn what_is_left<T: PageStore + Drop>(alloc: Global, keys: RandomState, store: T)
     }
 }
 
-/// Why a store of version 1 is not brought over into one with room for so many pages, and what is
-/// left of that.
+/// Why a store of version 1 is not brought over, if it is not, and what is left of the new one.
 fn refused<S: PageStore>(
     alloc: Global,
     keys: RandomState,
     old: &mut S,
-    most: u32,
 ) -> Option<(OpenFault, Left)> {
-    match migrated(alloc, keys, old, MemStore::new(alloc, most), 1) {
+    match migrated(alloc, keys, old, MemStore::new(alloc, 100), 1) {
         Ok(_) => None,
         Err((new, fault)) => Some((fault, what_is_left(alloc, keys, new))),
     }
@@ -154,88 +152,96 @@ fn brought_over(alloc: Global, keys: RandomState) -> Option<MemStore> {
     }
 }
 
+/// What a check finds in that store once it is opened and answers, and why it is not brought over again.
+fn kept(
+    alloc: Global,
+    keys: RandomState,
+) -> Option<(bool, Result<Report, RunFault>, Option<(OpenFault, Left)>)> {
+    let mut db = opened(alloc, keys, brought_over(alloc, keys)?, 2).ok()?;
+    let is_answered = is_answered(alloc, &mut db);
+    let report = db.check();
+    let mut store = db.abandon();
+    Some((is_answered, report, refused(alloc, keys, &mut store)))
+}
+
 #[test]
 fn the_example_is_brought_over(rt: HostRuntime) -> Result<(), Fail> {
     let (alloc, keys) = (rt.alloc(), RandomState::new(&rt)?);
-    let store = brought_over(alloc, keys).ok_or("not brought over")?;
-    let mut db = opened(alloc, keys, store, 2).ok().ok_or("not opened")?;
-    let is_answered = is_answered(alloc, &mut db);
-    let report = db.check();
-    assert!(rt;
-        is_answered
-            && report
-                == Ok(Report {
-                    pages: 6,
-                    legs: 5,
-                    features: 3
-                })
-    );
-
+    let report = Report {
+        pages: 6,
+        legs: 5,
+        features: 3,
+    };
     // What was brought over is of the present version.
-    let mut store = db.abandon();
-    let again = refused(alloc, keys, &mut store, 100);
-    assert!(rt; again == Some((OpenFault::Version, Left::Nothing)));
+    let again = Some((OpenFault::Version, Left::Nothing));
+    assert!(rt; kept(alloc, keys) == Some((true, Ok(report), again)));
     Ok(())
+}
+
+/// Bytes at places of page 0, and why nothing is brought over: the magic, the version and the state.
+const HEADERS: [(&[(usize, u8)], OpenFault); 4] = [
+    (&[(0, 0), (11, 0)], OpenFault::Malformed),
+    (&[(7, 2), (11, 0)], OpenFault::Version),
+    (&[(11, 0)], OpenFault::Unfinished),
+    (&[(11, 2)], OpenFault::Malformed),
+];
+
+/// Why the example is not brought over where page 0 has these bytes, and what is left then.
+fn refused_with(
+    alloc: Global,
+    keys: RandomState,
+    bytes: &[(usize, u8)],
+) -> Option<(OpenFault, Left)> {
+    let mut old = version_1(alloc)?;
+    change(&mut old, bytes)?;
+    refused(alloc, keys, &mut old)
 }
 
 #[test]
 fn page_0_is_tested_first(rt: HostRuntime) -> Result<(), Fail> {
     let (alloc, keys) = (rt.alloc(), RandomState::new(&rt)?);
-    // The magic, the version and the state.
-    let cases: [(&[(usize, u8)], OpenFault); 4] = [
-        (&[(0, 0), (11, 0)], OpenFault::Malformed),
-        (&[(7, 2), (11, 0)], OpenFault::Version),
-        (&[(11, 0)], OpenFault::Unfinished),
-        (&[(11, 2)], OpenFault::Malformed),
-    ];
-    for (bytes, fault) in cases {
-        let mut old = version_1(alloc).ok_or("no store")?;
-        assert!(rt; change(&mut old, bytes).is_some());
-        assert!(rt; refused(alloc, keys, &mut old, 100) == Some((fault, Left::Nothing)));
+    for (bytes, fault) in HEADERS {
+        let told = refused_with(alloc, keys, bytes);
+        assert!(rt; told == Some((fault, Left::Nothing)), "{bytes:?}: {told:?}");
     }
     let mut none = MemStore::new(alloc, 10);
-    let told = refused(alloc, keys, &mut none, 100);
+    let told = refused(alloc, keys, &mut none);
     assert!(rt; told == Some((OpenFault::Malformed, Left::Nothing)));
     Ok(())
+}
+
+/// Pages that are damaged, and what is left then. Page 0 and the catalogue are read before the new store is begun, the
+/// leaves after it, and the root not at all.
+const DAMAGED: [(u32, Option<Left>); 6] = [
+    (0, Some(Left::Nothing)),
+    (1, Some(Left::Unfinished)),
+    (2, Some(Left::Unfinished)),
+    (3, None),
+    (4, Some(Left::Unfinished)),
+    (5, Some(Left::Nothing)),
+];
+
+/// Why the example is not brought over, if it is not, where that page is damaged.
+fn refused_damaged(
+    alloc: Global,
+    keys: RandomState,
+    page: u32,
+) -> Option<Option<(OpenFault, Left)>> {
+    let mut old = version_1(alloc)?;
+    if page >= old.len() {
+        return None;
+    }
+    old.set_byte(page, 100, 1);
+    Some(refused(alloc, keys, &mut old))
 }
 
 #[test]
 fn a_page_that_is_damaged_is_said(rt: HostRuntime) -> Result<(), Fail> {
     let (alloc, keys) = (rt.alloc(), RandomState::new(&rt)?);
-    // Page 0 and the catalogue are read before the new store is begun, the leaves after it, and
-    // the root not at all.
-    for (page, left) in [
-        (0, Some(Left::Nothing)),
-        (1, Some(Left::Unfinished)),
-        (2, Some(Left::Unfinished)),
-        (3, None),
-        (4, Some(Left::Unfinished)),
-        (5, Some(Left::Nothing)),
-    ] {
-        let mut old = version_1(alloc).ok_or("no store")?;
-        if page < old.len() {
-            old.set_byte(page, 100, 1);
-        }
-        let told = refused(alloc, keys, &mut old, 100);
+    for (page, left) in DAMAGED {
+        let told = refused_damaged(alloc, keys, page);
         let wanted = left.map(|left| (OpenFault::Damaged(page), left));
-        assert!(rt; told == wanted, "{page}: {told:?}");
-    }
-    Ok(())
-}
-
-#[test]
-fn a_new_store_may_be_full(rt: HostRuntime) -> Result<(), Fail> {
-    let (alloc, keys) = (rt.alloc(), RandomState::new(&rt)?);
-    for most in 0..7 {
-        let mut old = version_1(alloc).ok_or("no store")?;
-        let told = refused(alloc, keys, &mut old, most);
-        let wanted = match most {
-            0 => Some((OpenFault::StoreFull, Left::Nothing)),
-            // Page 0, three leaves and the root.
-            1..5 => Some((OpenFault::StoreFull, Left::Unfinished)),
-            _ => None,
-        };
-        assert!(rt; told == wanted, "{most}: {told:?}");
+        assert!(rt; told == Some(wanted), "{page}: {told:?}");
     }
     Ok(())
 }
@@ -251,7 +257,7 @@ fn fused(
     let new = MemStore::new(alloc, 100);
     if is_old {
         let mut old = Fuse::new(old, calls, once);
-        return Some(refused(alloc, keys, &mut old, 100));
+        return Some(refused(alloc, keys, &mut old));
     }
     let mut old = old;
     match migrated(alloc, keys, &mut old, Fuse::new(new, calls, once), 1) {

@@ -22,7 +22,7 @@ fn database<S: PageStore + Drop>(
 }
 
 /// For how many pages a line asks over the example in leaves and inner pages of two, with so many pages in memory.
-fn asked_once(
+fn asked(
     alloc: Global,
     keys: RandomState,
     cache_pages: usize,
@@ -36,19 +36,6 @@ fn asked_once(
     let before = db.asked();
     db.run(alloc, line.as_bytes(), &files, &mut out)?;
     Ok(db.asked().wrapping_sub(before))
-}
-
-/// The same, asked again where one allocation fails.
-fn asked(
-    alloc: Global,
-    keys: RandomState,
-    cache_pages: usize,
-    line: &str,
-) -> Result<u64, RunFault> {
-    match asked_once(alloc, keys, cache_pages, line) {
-        Err(_) => asked_once(alloc, keys, cache_pages, line),
-        answer => answer,
-    }
 }
 
 #[test]
@@ -80,7 +67,7 @@ fn a_question_asks_for_so_many_pages(rt: HostRuntime) -> Result<(), Fail> {
 }
 
 /// Why the example is not loaded into a store of three pages, how many bytes that run sends, and why the database
-/// then does not count, and does not run an empty script. Want of memory, also of the store's own, is an error.
+/// then does not count, and does not run an empty script.
 fn refused(
     alloc: Global,
     keys: RandomState,
@@ -92,24 +79,15 @@ fn refused(
     let load = db.run(alloc, b"load S1.csv", &files, &mut out).err();
     let count = db.command(alloc, &Command::Count, &files).err();
     let empty = db.run(alloc, b"", &files, &mut out).err();
-    match load {
-        Some(RunFault::Memory | RunFault::Store) => Err(RunFault::Memory),
-        _ => Ok((load, out.len(), [count, empty])),
-    }
+    Ok((load, out.len(), [count, empty]))
 }
 
 #[test]
 fn a_store_without_room_fails_the_database(rt: HostRuntime) -> Result<(), Fail> {
     // Page 0, two leaves and the root above them are four pages.
     let keys = RandomState::new(&rt)?;
-    let (load, sent, later) = match refused(rt.alloc(), keys) {
-        Err(_) => refused(rt.alloc(), keys),
-        answer => answer,
-    }
-    .ok()
-    .ok_or("a run")?;
-    assert!(rt; load == Some(RunFault::StoreFull) && sent == 0);
-    assert!(rt; later == [Some(RunFault::Failed), Some(RunFault::Failed)]);
+    let (load, failed) = (Some(RunFault::StoreFull), Some(RunFault::Failed));
+    assert!(rt; refused(rt.alloc(), keys) == Ok((load, 0, [failed, failed])));
     Ok(())
 }
 
@@ -144,14 +122,11 @@ fn change<R: rt::Files<File = File>>(rt: &R) -> Option<()> {
     store.write(1, &seal(1, &payload)).ok()
 }
 
-/// What a line answers; asked again where one allocation fails.
+/// What a line answers.
 fn answer(alloc: Global, db: &mut Db<FileStore>, line: &str) -> Result<Vec<u8>, RunFault> {
     let files = Files::new(alloc);
     let mut out = Vec::new(alloc);
-    if db.run(alloc, line.as_bytes(), &files, &mut out).is_err() {
-        out.clear();
-        db.run(alloc, line.as_bytes(), &files, &mut out)?;
-    }
+    db.run(alloc, line.as_bytes(), &files, &mut out)?;
     Ok(out)
 }
 
@@ -182,12 +157,7 @@ const CHANGED: [(&str, &str); 5] = [
 #[test]
 fn answers_are_those_of_the_pages(rt: HostRuntime) -> Result<(), Fail> {
     let keys = RandomState::new(&rt)?;
-    let mut db = match in_a_file(&rt, keys) {
-        Err(_) => in_a_file(&rt, keys),
-        answer => answer,
-    }
-    .ok()
-    .ok_or("a run")?;
+    let mut db = in_a_file(&rt, keys).ok().ok_or("a run")?;
     assert!(rt; change(&rt).is_some());
     for (line, want) in CHANGED {
         let got = answer(rt.alloc(), &mut db, line).ok().ok_or("a run")?;

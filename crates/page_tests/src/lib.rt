@@ -4,8 +4,6 @@
 #[cfg(test)]
 mod cached_bytes;
 #[cfg(test)]
-mod nodes;
-#[cfg(test)]
 mod pagecache_tests;
 #[cfg(test)]
 mod pages_tests;

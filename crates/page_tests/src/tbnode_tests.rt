@@ -1,4 +1,4 @@
-//! Worked bytes, each byte changed in turn, full pages, and payloads without a form.
+//! Worked bytes, each byte changed in turn, and payloads without a form.
 ghost use Rattle.std.specs.Prelude.{◌<◌};
 
 use fixedpoint::Coord;
@@ -60,7 +60,7 @@ fn position(x: i64, y: i64, z: i64) -> Option<Position> {
 }
 
 /// The first leg of feature `a` of the standard's example.
-pub(crate) fn first() -> Option<Leg> {
+fn first() -> Option<Leg> {
     let (t0, t1) = (Ms::new(1_326_803_631_000)?, Ms::new(1_326_803_771_000)?);
     let from = position(110_000_000, 20_000_000, 0)?;
     let to = position(120_000_000, 30_000_000, 0)?;
@@ -68,19 +68,11 @@ pub(crate) fn first() -> Option<Leg> {
 }
 
 /// Its second leg.
-pub(crate) fn second() -> Option<Leg> {
+fn second() -> Option<Leg> {
     let (t0, t1) = (Ms::new(1_326_803_771_000)?, Ms::new(1_326_803_811_000)?);
     let from = position(120_000_000, 30_000_000, 0)?;
     let to = position(100_000_000, 30_000_000, 0)?;
     Leg::new(2, 0, t0, t1, from, to, 2)
-}
-
-/// A leg of another feature, at the greatest and least moments and coordinates.
-fn far(ordinal: u64) -> Option<Leg> {
-    let (t0, t1) = (Ms::new(-62_135_596_800_000)?, Ms::new(253_370_764_799_999)?);
-    let from = position(-1_000_000_000_000_000, 1_000_000_000_000_000, -5)?;
-    let to = position(7, -8, 9)?;
-    Leg::new(ordinal, u32::MAX, t0, t1, from, to, u32::MAX)
 }
 
 /// Pushes a leg where the payload is a leaf that takes it.
@@ -213,38 +205,6 @@ fn each_byte_is_one_field(rt: HostRuntime) {
     assert!(rt; refusals(&mut worked_leaf_bytes()) == Some(47));
 }
 
-fn full_leaf() -> Option<Payload> {
-    let mut payload = Payload::zero(Kind::Leaf);
-    init_leaf(&mut payload, 7, &far(0)?);
-    for ordinal in 1..50 {
-        if !push(&mut payload, &far(ordinal)?) {
-            return None;
-        }
-    }
-    Some(payload)
-}
-
-/// What is asked of a full leaf: it takes no leg more, and a link changes its next leaf alone.
-fn full_leaf_is_right() -> Option<bool> {
-    let mut payload = full_leaf()?;
-    if push(&mut payload, &far(50)?) || leg_at(&payload, 49) != far(49) {
-        return Some(false);
-    }
-    if leaf(&payload).is_none() {
-        return None;
-    }
-    set_next(&mut payload, 9);
-    let head = leaf(&payload)?.head();
-    let linked = head.feature == u32::MAX && head.previous == 7 && head.next == 9;
-    payload.bytes[13] = 51;
-    Some(linked && leaf(&payload).is_none())
-}
-
-#[test]
-fn a_full_leaf(rt: HostRuntime) {
-    assert!(rt; full_leaf_is_right() == Some(true));
-}
-
 /// Whether the worked leaf with another byte at a place is still a leaf.
 fn leaf_with(place: usize, byte: u8) -> bool
     requires { place < 4056 }
@@ -254,11 +214,26 @@ fn leaf_with(place: usize, byte: u8) -> bool
     leaf(&payload).is_some()
 }
 
+/// A byte at a place of the worked leaf, and whether it is a leaf then: another number of legs, an ordinal that does not
+/// rise and one that does, and bytes that are not looked at.
+const LEAVES: [(usize, u8, bool); 7] = [
+    (13, 0, false),
+    (13, 1, true),
+    (13, 51, false),
+    (103, 0, false),
+    (103, 1, true),
+    (176, 1, true),
+    (4055, 255, true),
+];
+
 #[test]
 fn the_form_of_a_leaf(rt: HostRuntime) {
-    assert!(rt; !leaf_with(13, 0) && leaf_with(13, 1) && !leaf_with(13, 3));
-    assert!(rt; !leaf_with(14, 1) && !leaf_with(95, 1) && leaf_with(176, 1));
-    assert!(rt; !leaf_with(103, 0) && leaf_with(103, 1) && leaf_with(4055, 255));
+    for (place, byte, is_leaf) in LEAVES {
+        assert!(rt;
+            place < 4056 && leaf_with(place, byte) == is_leaf,
+            "{byte} at {place}"
+        );
+    }
     let mut payload = worked_leaf_bytes();
     payload.kind = Kind::Catalogue;
     assert!(rt; leaf(&payload).is_none() && inner(&payload).is_none());
@@ -307,18 +282,6 @@ fn a_leaf_that_is_not_tested_gives_lawful_legs_alone(rt: HostRuntime) {
     assert!(rt; legs == Some((first(), second(), None)));
 }
 
-/// Pushes an entry where the payload is an inner page with room for it.
-fn hang(payload: &mut Payload, entry: &Entry) -> bool {
-    let Some(view) = inner(payload) else {
-        return false;
-    };
-    if view.len() >= MOST_ENTRIES {
-        return false;
-    }
-    push_entry(payload, entry);
-    true
-}
-
 fn entry_at(payload: &Payload, i: usize) -> Option<Entry> {
     let view = inner(payload)?;
     if i < view.len() {
@@ -356,49 +319,6 @@ fn an_inner_page_is_its_layout(rt: HostRuntime) {
     assert!(rt; entry_at(&worked_inner_bytes(), 1).is_none());
 }
 
-/// Widens an entry where the payload is an inner page that has it.
-fn widen_at(payload: &mut Payload, i: usize, bounds: &Box3) -> bool {
-    let Some(view) = inner(payload) else {
-        return false;
-    };
-    if i >= view.len() {
-        return false;
-    }
-    widen(payload, i, bounds);
-    true
-}
-
-/// What is asked of a full inner page: it takes no entry more, and one that is widened changes
-/// alone.
-fn full_inner_is_right() -> Option<bool> {
-    let mut payload = Payload::zero(Kind::Header);
-    init_inner(&mut payload, u16::MAX, &worked_entry(0)?);
-    for child in 1..72 {
-        if !hang(&mut payload, &worked_entry(child)?) {
-            return None;
-        }
-    }
-    let wide = Box3::everything();
-    if hang(&mut payload, &worked_entry(72)?) || !widen_at(&mut payload, 70, &wide) {
-        return Some(false);
-    }
-    let widened = Entry {
-        child: 70,
-        bounds: wide,
-    };
-    let changed = entry_at(&payload, 70) == Some(widened);
-    let others = entry_at(&payload, 69) == worked_entry(69)
-        && entry_at(&payload, 71) == worked_entry(71);
-    let level = inner(&payload)?.head().level;
-    payload.bytes[3] = 73;
-    Some(changed && others && level == u16::MAX && inner(&payload).is_none())
-}
-
-#[test]
-fn a_full_inner_page(rt: HostRuntime) {
-    assert!(rt; full_inner_is_right() == Some(true));
-}
-
 /// Whether the worked inner page with another byte at a place is still one.
 fn inner_with(place: usize, byte: u8) -> bool
     requires { place < 4056 }
@@ -408,9 +328,24 @@ fn inner_with(place: usize, byte: u8) -> bool
     inner(&payload).is_some()
 }
 
+/// A byte at a place of the worked inner page, and whether it is one then: another level, number of entries, zero byte
+/// and least x, and a byte that is not looked at.
+const INNERS: [(usize, u8, bool); 7] = [
+    (1, 0, false),
+    (1, 2, true),
+    (3, 0, false),
+    (3, 73, false),
+    (15, 1, false),
+    (28, 8, false),
+    (72, 1, true),
+];
+
 #[test]
 fn the_form_of_an_inner_page(rt: HostRuntime) {
-    assert!(rt; !inner_with(1, 0) && inner_with(1, 2) && !inner_with(3, 0));
-    assert!(rt; !inner_with(4, 1) && !inner_with(15, 1) && !inner_with(20, 1));
-    assert!(rt; !inner_with(28, 8) && inner_with(28, 6) && inner_with(72, 1));
+    for (place, byte, is_inner) in INNERS {
+        assert!(rt;
+            place < 4056 && inner_with(place, byte) == is_inner,
+            "{byte} at {place}"
+        );
+    }
 }

@@ -3,6 +3,7 @@ use fixedpoint::Coord;
 use legs::{Leg, Rect};
 use mfcsv::Position;
 use moments::{End, Moment, dwells_of, stay_of, stays_of, visits_of};
+use std::alloc::Global;
 use std::process::Abort;
 use std::test::Fail;
 use timebase::{Ms, Period};
@@ -55,12 +56,39 @@ fn a_leg_touches_the_end_of_a_line(rt: HostRuntime) -> Result<(), Fail> {
     let long = period(&rt, 0, 60_000);
     let stay = stay_of(&leg, &line, &long).ok_or("a stay")?;
     assert_eq!(rt; parts(stay.enters), (90_000, 7, 12_857_142, 12_857_143));
-    assert_eq!(rt; parts(stay.leaves), (90_000, 7, 12_857_142, 12_857_143));
+    assert_eq!(rt; stay.leaves, stay.enters);
     assert!(rt; stay.entry == place(&rt, -603_000_000, 0));
-    assert_eq!(rt; stay.begun_by(&long), End::Edge);
-    assert_eq!(rt; stay.ended_by(&long), End::Edge);
-    assert!(rt; stay_of(&leg, &line, &period(&rt, 12_858, 60_000)).is_none());
+    assert_eq!(rt;
+        (stay.begun_by(&long), stay.ended_by(&long)),
+        (End::Edge, End::Edge)
+    );
     Ok(())
+}
+
+/// What legs make: how many stays, visits and dwells; what begins and ends the first stay; the parts of the first visit;
+/// whose the first two visits are, and of how many legs; and how long both dwells are at least and at most.
+#[derive(Clone, Copy, PartialEq, Eq, Debug)]
+struct Made {
+    counts: [usize; 3],
+    ends: (End, End),
+    visit: [(i128, u64, i64, i64); 2],
+    legs: [(u32, u64); 2],
+    lengths: [(u64, u64); 2],
+}
+
+fn made_of(alloc: Global, legs: &[Leg], rect: &Rect, period: &Period) -> Option<Made> {
+    let stays = stays_of(alloc, legs, rect, period).ok()?;
+    let visits = visits_of(alloc, &stays).ok()?;
+    let dwells = dwells_of(alloc, &visits).ok()?;
+    let (stay, first, second) = (stays.first()?, visits.first()?, visits.get(1)?);
+    let (one, other) = (dwells.first()?, dwells.get(1)?);
+    Some(Made {
+        counts: [stays.len(), visits.len(), dwells.len()],
+        ends: (stay.begun_by(period), stay.ended_by(period)),
+        visit: [parts(first.enters), parts(first.leaves)],
+        legs: [(first.feature, first.legs), (second.feature, second.legs)],
+        lengths: [(one.least, one.most), (other.least, other.most)],
+    })
 }
 
 #[test]
@@ -74,20 +102,17 @@ fn stays_are_joined_over_legs(rt: HostRuntime) -> Result<(), Fail> {
         leg(&rt, 0, 20_000, 21_000, (ONE, ONE), (ONE, ONE)),
         leg(&rt, 2, 20_000, 21_000, (9 * ONE, ONE), (9 * ONE, ONE)),
     ];
-    let stays = stays_of(rt.alloc(), &legs, &square, &always)?;
-    assert_eq!(rt; stays.len(), 4);
-    assert_eq!(rt; stays[0].begun_by(&always), End::Edge);
-    assert_eq!(rt; stays[0].ended_by(&always), End::Leg);
-    let visits = visits_of(rt.alloc(), &stays)?;
-    assert_eq!(rt; visits.len(), 3);
-    // From the middle of the first leg to a third of the second.
-    assert_eq!(rt; parts(visits[0].enters), (3_500, 1, 3_500_000, 3_500_000));
-    assert_eq!(rt; parts(visits[0].leaves), (28_000, 3, 9_333_333, 9_333_334));
-    assert_eq!(rt; (visits[0].feature, visits[0].legs), (0, 2));
-    assert_eq!(rt; (visits[1].feature, visits[1].legs), (1, 1));
-    let dwells = dwells_of(rt.alloc(), &visits)?;
-    assert_eq!(rt; dwells.len(), 2);
-    assert_eq!(rt; (dwells[0].least, dwells[0].most), (6_833_333, 6_833_334));
-    assert_eq!(rt; (dwells[1].least, dwells[1].most), (1_000_000, 1_000_000));
+    let wanted = Made {
+        counts: [4, 3, 2],
+        ends: (End::Edge, End::Leg),
+        // From the middle of the first leg to a third of the second.
+        visit: [
+            (3_500, 1, 3_500_000, 3_500_000),
+            (28_000, 3, 9_333_333, 9_333_334),
+        ],
+        legs: [(0, 2), (1, 1)],
+        lengths: [(6_833_333, 6_833_334), (1_000_000, 1_000_000)],
+    };
+    assert_eq!(rt; made_of(rt.alloc(), &legs, &square, &always), Some(wanted));
     Ok(())
 }

@@ -1,9 +1,8 @@
 //! How long a file may be, the lines of faults, and a session over a store that fails.
 use pages::{Fuse, MemStore};
-use sessions::{Fault, MOST_BYTES, answer, database, read_named, run_and_close};
+use sessions::{Fault, MOST_BYTES, answer, database, read_named};
 use std::fs;
 use std::hash::RandomState;
-use std::io::Write;
 use std::test::Fail;
 use trajdb::{Files, OpenFault, RunFault};
 
@@ -26,30 +25,31 @@ fn a_file_that_is_too_long_is_not_read(rt: HostRuntime) -> Result<(), Fail> {
     Ok(())
 }
 
+/// Faults, and the line of each.
+const FAULTS: [(Fault, &str); 16] = [
+    (Fault::Run(RunFault::Memory), "memory"),
+    (Fault::Run(RunFault::Store), "store"),
+    (Fault::Run(RunFault::Damaged(7)), "page 7 damaged"),
+    (Fault::Run(RunFault::StoreFull), "store full"),
+    (Fault::Run(RunFault::Failed), "failed"),
+    (Fault::Run(RunFault::Output), "output"),
+    (Fault::Open(OpenFault::Memory), "memory"),
+    (Fault::Open(OpenFault::Store), "store"),
+    (Fault::Open(OpenFault::Damaged(7)), "page 7 damaged"),
+    (Fault::Open(OpenFault::StoreFull), "store full"),
+    (Fault::Open(OpenFault::Unfinished), "store unfinished"),
+    (Fault::Open(OpenFault::Version), "store version"),
+    (Fault::Open(OpenFault::Malformed), "store malformed"),
+    (Fault::CannotRead("a.csv"), "cannot read a.csv"),
+    (Fault::NotEmpty, "new store not empty"),
+    (Fault::InUse, "store in use"),
+];
+
 #[test]
 fn each_fault_has_its_line(rt: HostRuntime) -> Result<(), Fail> {
-    let lines = [
-        (Fault::Run(RunFault::Memory), "memory"),
-        (Fault::Run(RunFault::Store), "store"),
-        (Fault::Run(RunFault::Damaged(7)), "page 7 damaged"),
-        (Fault::Run(RunFault::StoreFull), "store full"),
-        (Fault::Run(RunFault::Failed), "failed"),
-        (Fault::Run(RunFault::Output), "output"),
-        (Fault::Open(OpenFault::Memory), "memory"),
-        (Fault::Open(OpenFault::Store), "store"),
-        (Fault::Open(OpenFault::Damaged(7)), "page 7 damaged"),
-        (Fault::Open(OpenFault::StoreFull), "store full"),
-        (Fault::Open(OpenFault::Unfinished), "store unfinished"),
-        (Fault::Open(OpenFault::Version), "store version"),
-        (Fault::Open(OpenFault::Malformed), "store malformed"),
-        (Fault::CannotRead("a.csv"), "cannot read a.csv"),
-        (Fault::NotEmpty, "new store not empty"),
-        (Fault::InUse, "store in use"),
-    ];
-    for (fault, line) in lines {
-        let mut said = Vec::new(rt.alloc());
-        write!(said, "{fault}")?;
-        assert!(rt; said.as_slice() == line.as_bytes());
+    for (fault, line) in &FAULTS {
+        let said = format!(in rt.alloc(); "{fault}")?;
+        assert_eq!(rt; said.as_str(), *line);
     }
     Ok(())
 }
@@ -65,39 +65,5 @@ fn the_first_fault_is_said(rt: HostRuntime) -> Result<(), Fail> {
     let mut out = Vec::new(alloc);
     let (_, said) = answer(alloc, opened, b"load S1.csv".as_slice(), &files, &mut out);
     assert!(rt; said == Err(Fault::Run(RunFault::Store)) && out.is_empty());
-    Ok(())
-}
-
-/// What a script that only asks sends of a store that is there.
-fn asked(rt: &HostRuntime, store: MemStore, script: &[u8]) -> Result<Vec<u8>, Fail> {
-    let (alloc, keys) = (rt.alloc(), RandomState::new(rt)?);
-    let Ok(db) = database(alloc, keys, store, false, 1) else {
-        return Err("no database".into());
-    };
-    let mut out = Vec::new(alloc);
-    match run_and_close(alloc, db, script, &Files::new(alloc), &mut out) {
-        (_, Ok(()), Ok(())) => Ok(out),
-        _ => Err("a question is refused".into()),
-    }
-}
-
-#[test]
-fn a_store_is_closed_where_the_output_fails(rt: HostRuntime) -> Result<(), Fail> {
-    let (alloc, keys) = (rt.alloc(), RandomState::new(&rt)?);
-    let mut files = Files::new(alloc);
-    files.add("S1.csv", Vec::from_slice(alloc, STANDARD.as_bytes())?)?;
-    let Ok(db) = database(alloc, keys, MemStore::new(alloc, 100), true, 1) else {
-        return Err("no database".into());
-    };
-    // The first line of the first answer.
-    let mut room = [0u8; 5];
-    let mut out = room.as_mut_slice();
-    let script = b"load S1.csv\ncount\n".as_slice();
-    let (store, ran, closed) = run_and_close(alloc, db, script, &files, &mut out);
-    assert!(rt; ran == Err(RunFault::Output) && closed.is_ok());
-    assert_eq!(rt;
-        asked(&rt, store, b"count\n".as_slice())?.as_slice(),
-        b"ok 1\n5,3\n".as_slice()
-    );
     Ok(())
 }

@@ -1,6 +1,6 @@
 //! The pages of a store beside those of its tree: page 0, and a saved catalogue, byte by byte.
 use boxsearch::TreeIndex;
-use catalogue::{Catalogue, CatalogueFault, begin, close, open, rest, save};
+use catalogue::{Catalogue, CatalogueFault, begin, save};
 use legs::{BookHead, LegIndex, Limits, Tracks, join};
 use mfcsv::read_file;
 use pagecache::{CacheFault, PageCache};
@@ -76,21 +76,6 @@ fn example(
     Some((catalogue, index))
 }
 
-/// The pages of the example, in an index and saved over `most` pages; the fault, if it is not
-/// saved.
-fn saved(
-    alloc: Global,
-    keys: RandomState,
-    most: u32,
-) -> Option<Result<PageCache<MemStore>, CatalogueFault>> {
-    let (catalogue, mut index) = example(alloc, keys, most)?;
-    // Saved twice: the second one takes the first one's page.
-    match save(alloc, &catalogue, &mut index).and_then(|()| save(alloc, &catalogue, &mut index)) {
-        Ok(()) => Some(Ok(index.into_cache())),
-        Err(fault) => Some(Err(fault)),
-    }
-}
-
 /// Whether page 0 and the catalogue page are these, and how many pages there are.
 fn as_wanted(cache: &mut PageCache<MemStore>) -> Option<(bool, bool, u32)> {
     let header = cache.page(0).ok()?.bytes[..60] == HEADER[..];
@@ -98,51 +83,25 @@ fn as_wanted(cache: &mut PageCache<MemStore>) -> Option<(bool, bool, u32)> {
     Some((header, text, cache.count()))
 }
 
+/// The same of the example, saved over `most` pages; the fault, if it is not saved.
+fn saved(
+    alloc: Global,
+    keys: RandomState,
+    most: u32,
+) -> Option<Result<(bool, bool, u32), CatalogueFault>> {
+    let (catalogue, mut index) = example(alloc, keys, most)?;
+    // Saved twice: the second one takes the first one's page.
+    match save(alloc, &catalogue, &mut index).and_then(|()| save(alloc, &catalogue, &mut index)) {
+        Ok(()) => Some(Ok(as_wanted(index.cache_mut())?)),
+        Err(fault) => Some(Err(fault)),
+    }
+}
+
 #[test]
 fn the_example_is_saved(rt: HostRuntime) -> Result<(), Fail> {
     let keys = RandomState::new(&rt)?;
-    match saved(rt.alloc(), keys, 6) {
-        Some(Ok(mut cache)) => {
-            assert!(rt; as_wanted(&mut cache) == Some((true, true, 6)));
-        }
-        _ => return Err(Fail::from("not saved")),
-    }
-    match saved(rt.alloc(), keys, 5) {
-        Some(Err(fault)) => assert!(rt; fault == CatalogueFault::StoreFull),
-        _ => return Err(Fail::from("saved without room")),
-    }
-    Ok(())
-}
-
-/// Whether a catalogue that is read back is that of the example.
-fn is_again(catalogue: &Catalogue, again: &Catalogue) -> bool {
-    again.tracks.feature_count() == 3
-        && again.tracks.leg_count() == 5
-        && again.tracks.name(1) == Some("b")
-        && again.tracks.track(0) == catalogue.tracks.track(0)
-        && again.rows.len() == 4
-        && again.limits == catalogue.limits
-}
-
-/// How many legs an index has, and how many of them the first feature.
-fn legs_of(index: &mut TreeIndex<MemStore>) -> Option<(u64, usize)> {
-    match index.track(0) {
-        Ok(legs) => Some((index.len(), legs.len())),
-        Err(_) => None,
-    }
-}
-
-#[test]
-fn what_is_closed_is_opened(rt: HostRuntime) -> Result<(), Fail> {
-    let (alloc, keys) = (rt.alloc(), RandomState::new(&rt)?);
-    let (catalogue, index) = example(alloc, keys, 6).ok_or("no example")?;
-    let (store, answer) = close(alloc, &catalogue, index);
-    assert!(rt; answer == Ok(()) && store.len() == 6);
-    let (again, mut index) = open(alloc, keys, store, 4).ok().ok_or("not opened")?;
-    let is_again = is_again(&catalogue, &again);
-    let legs = legs_of(&mut index);
-    // At rest its store is as it was.
-    assert!(rt; is_again && legs == Some((5, 2)) && rest(index).len() == 6);
+    assert!(rt; saved(rt.alloc(), keys, 6) == Some(Ok((true, true, 6))));
+    assert!(rt; saved(rt.alloc(), keys, 5) == Some(Err(CatalogueFault::StoreFull)));
     Ok(())
 }
 
@@ -164,21 +123,22 @@ fn of_features(alloc: Global, keys: RandomState, count: u32) -> Option<Catalogue
     Some(catalogue)
 }
 
+/// How many pages there are where a catalogue of 100,000 features more is saved, and saved again.
+fn saved_twice(alloc: Global, keys: RandomState) -> Option<[u32; 2]> {
+    let catalogue = of_features(alloc, keys, 100_000)?;
+    let (_, mut index) = example(alloc, keys, 10_000)?;
+    save(alloc, &catalogue, &mut index).ok()?;
+    let first = index.cache_mut().count();
+    save(alloc, &catalogue, &mut index).ok()?;
+    Some([first, index.cache_mut().count()])
+}
+
 #[test]
 fn a_second_saving_takes_the_pages_of_the_first(rt: HostRuntime) -> Result<(), Fail> {
-    let (alloc, keys) = (rt.alloc(), RandomState::new(&rt)?);
-    let Some(catalogue) = of_features(alloc, keys, 100_000) else {
-        return Err(Fail::from("no catalogue"));
-    };
-    let Some((_, mut index)) = example(alloc, keys, 10_000) else {
-        return Err(Fail::from("no example"));
-    };
-    assert!(rt; save(alloc, &catalogue, &mut index) == Ok(()));
-    let count = index.cache_mut().count();
+    let keys = RandomState::new(&rt)?;
+    let [first, second] = saved_twice(rt.alloc(), keys).ok_or("not saved")?;
     // A name and 36 bytes more for each feature, 4,040 bytes a page.
-    assert!(rt; 1_000 < count && count < 1_500);
-    assert!(rt; save(alloc, &catalogue, &mut index) == Ok(()));
-    assert!(rt; index.cache_mut().count() == count);
+    assert!(rt; 1_000 < first && first < 1_500 && second == first);
     Ok(())
 }
 
@@ -201,21 +161,6 @@ fn begun(alloc: Global, most: u32) -> Option<Result<([u8; 60], u32), (CacheFault
     }
 }
 
-#[test]
-fn a_new_store_has_its_header(rt: HostRuntime) {
-    let header = [
-        77, 70, 84, 66, 0, 0, 0, 2, 0, 0, 0, 0, 0, 50, 0, 72, 0, 0, 0, 0, 1, 0, 0, 0, 0, 0, 0, 0,
-        0, 16, 0, 0, 0, 0, 0, 0, 0, 0, 0, 0, 0, 0, 0, 0, 0, 0, 0, 0, 0, 0, 0, 0, 0, 0, 0, 0, 0, 0,
-        0, 2,
-    ];
-    assert!(rt; begun(rt.alloc(), 1) == Some(Ok((header, 1))));
-}
-
-#[test]
-fn a_store_without_room_is_handed_back(rt: HostRuntime) {
-    assert!(rt; begun(rt.alloc(), 0) == Some(Err((CacheFault::StoreFull, 0))));
-}
-
 /// Why none is begun over a store of which the call after so many fails, and how many pages there
 /// are then.
 fn failed(alloc: Global, calls: u64) -> Option<(CacheFault, u32)> {
@@ -228,9 +173,21 @@ fn failed(alloc: Global, calls: u64) -> Option<(CacheFault, u32)> {
     }
 }
 
+/// Page 0 of a new store.
+const NEW_HEADER: [u8; 60] = [
+    77, 70, 84, 66, 0, 0, 0, 2, 0, 0, 0, 0, 0, 50, 0, 72, 0, 0, 0, 0, 1, 0, 0, 0, 0, 0, 0, 0, 0,
+    16, 0, 0, 0, 0, 0, 0, 0, 0, 0, 0, 0, 0, 0, 0, 0, 0, 0, 0, 0, 0, 0, 0, 0, 0, 0, 0, 0, 0, 0, 2,
+];
+
 #[test]
-fn a_store_that_fails_is_handed_back(rt: HostRuntime) {
-    assert!(rt; failed(rt.alloc(), 0) == Some((CacheFault::Store, 0)));
-    assert!(rt; failed(rt.alloc(), 1) == Some((CacheFault::Store, 1)));
-    assert!(rt; failed(rt.alloc(), 2) == None);
+fn a_store_is_begun_or_handed_back(rt: HostRuntime) {
+    assert!(rt; begun(rt.alloc(), 1) == Some(Ok((NEW_HEADER, 1))));
+    assert!(rt; begun(rt.alloc(), 0) == Some(Err((CacheFault::StoreFull, 0))));
+    for (calls, wanted) in [
+        (0, Some((CacheFault::Store, 0))),
+        (1, Some((CacheFault::Store, 1))),
+        (2, None),
+    ] {
+        assert!(rt; failed(rt.alloc(), calls) == wanted, "at call {calls}");
+    }
 }

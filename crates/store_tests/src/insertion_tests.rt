@@ -1,9 +1,8 @@
 //! Insertion into a tree: its pages as the worked trees have them, and stores that fail.
-use crate::numbers::feed;
 use crate::samples::{example, leg};
-use legs::Leg;
+use crate::trees::{Sample, grown};
 use pagecache::{CacheFault, PageCache};
-use pages::{Fuse, Kind, MemStore, PageStore};
+use pages::{Fuse, Kind, MemStore};
 use std::alloc::Global;
 use tbtree::{Place, Shape, TbTree, TreeFault, insert};
 
@@ -19,30 +18,18 @@ fn cache(alloc: Global, calls: u64) -> Option<PageCache<Fuse<MemStore>>> {
     }
 }
 
-/// The tree and the place after that many legs of one feature, and how many pages there are then.
-fn grown(alloc: Global, legs: u32) -> Option<(TbTree, Place, u32)> {
-    let mut cache = cache(alloc, u64::MAX)?;
-    let mut tree = TbTree::new(Shape::new(2, 2)?);
-    let mut place = Place::new();
-    for ordinal in 0..legs {
-        insert(&mut tree, &mut cache, &mut place, leg(ordinal, 0, 0)?).ok()?;
-    }
-    Some((tree, place, cache.count()))
+/// After that many legs of one feature, two a leaf: how many leaves, levels and pages there are, and how many legs the
+/// feature has, and the number of its last leaf.
+fn numbers_of(alloc: Global, legs: u32) -> Option<((u32, u32, u32), (u64, u32))> {
+    let Sample { cache, tree, place } = grown(alloc, legs, u64::MAX)?;
+    let counts = (tree.leaves, tree.levels, cache.count());
+    Some((counts, (place.legs, place.last_index)))
 }
 
 #[test]
 fn five_legs_make_three_leaves(rt: HostRuntime) {
-    for (legs, leaves, levels, count) in [(2, 1, 1, 2), (5, 3, 3, 7)] {
-        let Some((tree, place, pages)) = grown(rt.alloc(), legs) else {
-            assert!(rt; false, "no tree of {legs} legs");
-            continue;
-        };
-        assert_eq!(rt; (tree.leaves, tree.levels, pages), (leaves, levels, count));
-        assert_eq!(rt;
-            (place.legs, place.last_index),
-            (u64::from(legs), leaves - 1)
-        );
-        assert!(rt; !tree.spent);
+    for (legs, wanted) in [(2, ((1, 1, 2), (2, 0))), (5, ((3, 3, 7), (5, 2)))] {
+        assert_eq!(rt; numbers_of(rt.alloc(), legs), Some(wanted));
     }
 }
 
@@ -66,104 +53,6 @@ fn fails(alloc: Global, calls: u64) -> Option<bool> {
 fn a_failed_store_spends_the_tree(rt: HostRuntime) {
     for calls in 2..60 {
         assert_eq!(rt; fails(rt.alloc(), calls), Some(true), "at call {calls}");
-    }
-}
-
-/// The places of that many features without legs.
-fn places(alloc: Global, features: u32) -> Option<Vec<Place>> {
-    let mut places = Vec::new(alloc);
-    for _ in 0..features {
-        places.push(Place::new()).ok()?;
-    }
-    Some(places)
-}
-
-/// What is in the store after these legs of at most 300 features, through a cache of that capacity.
-fn stored(alloc: Global, shape: Shape, capacity: usize, legs: &[Leg]) -> Option<MemStore> {
-    let store = MemStore::new(alloc, 20_000);
-    let Ok(mut cache) = PageCache::new(alloc, store, capacity.max(1)) else {
-        return None;
-    };
-    cache.add_page(Kind::Header).ok()?;
-    let mut tree = TbTree::new(shape);
-    let mut places = places(alloc, 300)?;
-    for leg in legs {
-        let place = places.get_mut(leg.feature as usize)?;
-        insert(&mut tree, &mut cache, place, *leg).ok()?;
-    }
-    cache.flush().ok()?;
-    Some(cache.into_store())
-}
-
-/// A page of a store; `None` where it is not there or not read.
-fn page(store: &mut MemStore, number: u32) -> Option<[u8; 4096]> {
-    let mut page = [0; 4096];
-    if number >= store.len() {
-        return None;
-    }
-    store.read(number, &mut page).ok()?;
-    Some(page)
-}
-
-/// Whether two stores have the same pages.
-fn same_pages(one: &mut MemStore, other: &mut MemStore) -> bool {
-    let count = one.len();
-    for number in 0..count {
-        if page(one, number) != page(other, number) {
-            return false;
-        }
-    }
-    count == other.len()
-}
-
-/// Whether random legs of that many features make the same pages at three capacities.
-fn is_same(alloc: Global, (leaf, inner): (u16, u16), features: u32) -> Option<bool> {
-    let shape = Shape::new(leaf, inner)?;
-    let legs = feed(alloc, 10_000, features)?;
-    let mut wide = stored(alloc, shape, 256, legs.as_slice())?;
-    let mut three = stored(alloc, shape, 3, legs.as_slice())?;
-    if !same_pages(&mut wide, &mut three) {
-        return Some(false);
-    }
-    let mut one = stored(alloc, shape, 1, legs.as_slice())?;
-    Some(same_pages(&mut wide, &mut one))
-}
-
-#[test]
-fn small_pages_of_one_feature_are_the_same_whatever_the_capacity(rt: HostRuntime) {
-    assert_eq!(rt; is_same(rt.alloc(), (2, 2), 1), Some(true));
-}
-
-#[test]
-fn small_pages_of_seven_features_are_the_same_whatever_the_capacity(rt: HostRuntime) {
-    assert_eq!(rt; is_same(rt.alloc(), (2, 2), 7), Some(true));
-}
-
-#[test]
-fn small_pages_of_many_features_are_the_same_whatever_the_capacity(rt: HostRuntime) {
-    assert_eq!(rt; is_same(rt.alloc(), (2, 2), 300), Some(true));
-}
-
-#[test]
-fn odd_pages_of_one_feature_are_the_same_whatever_the_capacity(rt: HostRuntime) {
-    assert_eq!(rt; is_same(rt.alloc(), (3, 5), 1), Some(true));
-}
-
-#[test]
-fn odd_pages_of_seven_features_are_the_same_whatever_the_capacity(rt: HostRuntime) {
-    assert_eq!(rt; is_same(rt.alloc(), (3, 5), 7), Some(true));
-}
-
-#[test]
-fn odd_pages_of_many_features_are_the_same_whatever_the_capacity(rt: HostRuntime) {
-    assert_eq!(rt; is_same(rt.alloc(), (3, 5), 300), Some(true));
-}
-
-#[test]
-fn full_pages_are_the_same_whatever_the_capacity(rt: HostRuntime) {
-    for features in [1, 7, 300] {
-        let same = is_same(rt.alloc(), (50, 72), features);
-        assert_eq!(rt; same, Some(true), "of {features} features");
     }
 }
 

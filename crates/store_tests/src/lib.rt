@@ -11,8 +11,6 @@ mod insertion_tests;
 #[cfg(test)]
 mod known_tests;
 #[cfg(test)]
-mod loading_tests;
-#[cfg(test)]
 mod numbers;
 #[cfg(test)]
 mod old_header_tests;
@@ -28,3 +26,5 @@ mod search_tests;
 mod tree_check_tests;
 #[cfg(test)]
 mod tree_index_tests;
+#[cfg(test)]
+mod trees;

@@ -9,20 +9,20 @@ use timebase::Ms;
 
 /// Numbers without a pattern.
 #[derive(Drop)]
-pub(crate) struct Numbers {
+struct Numbers {
     words: Pcg32,
 }
 
 impl Numbers {
     /// Those of a stream.
-    pub(crate) fn new(stream: u64) -> Numbers {
+    fn new(stream: u64) -> Numbers {
         Numbers {
             words: Pcg32::new(42, stream),
         }
     }
 
     /// A number below another one, which is not 0.
-    pub(crate) fn below(&mut self, end: u32) -> u32 {
+    fn below(&mut self, end: u32) -> u32 {
         self.words.next_word() % end.max(1)
     }
 
@@ -36,7 +36,7 @@ impl Numbers {
     }
 
     /// A leg in a second of its ordinal and its feature. Some legs of a feature begin when its last one ends.
-    pub(crate) fn leg(&mut self, ordinal: u32, feature: u32) -> Option<Leg> {
+    fn leg(&mut self, ordinal: u32, feature: u32) -> Option<Leg> {
         let second = i64::from(ordinal).wrapping_add(i64::from(feature).wrapping_mul(12));
         let start = second.wrapping_mul(1000);
         let t0 = start.wrapping_add(i64::from(self.below(2)).wrapping_mul(250));

@@ -76,48 +76,52 @@ fn read_with(
     read(alloc, keys, &pages)
 }
 
-#[test]
-fn a_finished_store_is_read(rt: HostRuntime) -> Result<(), Fail> {
-    let (alloc, keys) = (rt.alloc(), RandomState::new(&rt)?);
-    assert!(rt; read_with(alloc, keys, 7, 1) == Some(Ok((50, 72, 0))));
-    assert!(rt; read_with(alloc, keys, 13, 2) == Some(Ok((2, 72, 0))));
-    assert!(rt; read_with(alloc, keys, 15, 2) == Some(Ok((50, 2, 0))));
-    Ok(())
-}
+/// What is brought over, or why nothing is.
+type Answer = Result<(u16, u16, u64), CatalogueFault>;
+
+/// A byte at a place of page 0, and what is read then.
+const HEADERS: [(usize, u8, Answer); 13] = [
+    (7, 1, Ok((50, 72, 0))),
+    (13, 2, Ok((2, 72, 0))),
+    // The letters, the version and the state.
+    (0, 78, Err(CatalogueFault::Malformed)),
+    (7, 2, Err(CatalogueFault::Version)),
+    (11, 0, Err(CatalogueFault::Unfinished)),
+    (11, 2, Err(CatalogueFault::Malformed)),
+    // The shape, a limit, the root, and the length of the text.
+    (13, 1, Err(CatalogueFault::Malformed)),
+    (13, 64, Err(CatalogueFault::Malformed)),
+    (15, 73, Err(CatalogueFault::Malformed)),
+    (15, 2, Ok((50, 2, 0))),
+    (16, 255, Err(CatalogueFault::Malformed)),
+    (35, 2, Err(CatalogueFault::Malformed)),
+    (55, 2, Err(CatalogueFault::Malformed)),
+];
 
 #[test]
-fn page_0_is_no_header_of_version_1(rt: HostRuntime) -> Result<(), Fail> {
+fn page_0_is_read_or_refused(rt: HostRuntime) -> Result<(), Fail> {
     let (alloc, keys) = (rt.alloc(), RandomState::new(&rt)?);
-    let malformed = Some(Err(CatalogueFault::Malformed));
-    assert!(rt; read(alloc, keys, &[]) == malformed);
-    assert!(rt; read(alloc, keys, &[page(0, Kind::Leaf, &HEADER)]) == malformed);
-    assert!(rt; read_with(alloc, keys, 0, 78) == malformed);
-    assert!(rt; read_with(alloc, keys, 7, 2) == Some(Err(CatalogueFault::Version)));
-    assert!(rt; read_with(alloc, keys, 11, 0) == Some(Err(CatalogueFault::Unfinished)));
-    assert!(rt; read_with(alloc, keys, 11, 2) == malformed);
-    Ok(())
-}
-
-#[test]
-fn page_0_is_out_of_range(rt: HostRuntime) -> Result<(), Fail> {
-    let (alloc, keys) = (rt.alloc(), RandomState::new(&rt)?);
-    let malformed = Some(Err(CatalogueFault::Malformed));
-    assert!(rt; read_with(alloc, keys, 13, 1) == malformed);
-    assert!(rt; read_with(alloc, keys, 13, 64) == malformed);
-    assert!(rt; read_with(alloc, keys, 15, 73) == malformed);
-    assert!(rt; read_with(alloc, keys, 16, 255) == malformed);
-    assert!(rt; read_with(alloc, keys, 35, 2) == malformed);
-    assert!(rt; read_with(alloc, keys, 55, 2) == malformed);
+    for (place, byte, wanted) in HEADERS {
+        let told = read_with(alloc, keys, place, byte);
+        assert!(rt; told == Some(wanted), "{byte} at {place}: {told:?}");
+    }
     Ok(())
 }
 
 #[test]
 fn a_page_is_missing_or_damaged(rt: HostRuntime) -> Result<(), Fail> {
     let (alloc, keys) = (rt.alloc(), RandomState::new(&rt)?);
-    let text = page(1, Kind::Catalogue, &TEXT);
-    let first = header(7, 1);
-    assert!(rt; read(alloc, keys, &[text, text]) == Some(Err(CatalogueFault::Damaged(0))));
-    assert!(rt; read(alloc, keys, &[first, first]) == Some(Err(CatalogueFault::Damaged(1))));
-    assert!(rt; read(alloc, keys, &[first]) == Some(Err(CatalogueFault::Malformed)));
+    let (first, text) = (header(7, 1), page(1, Kind::Catalogue, &TEXT));
+    let leaf = page(0, Kind::Leaf, &HEADER);
+    for (pages, fault) in [
+        ([].as_slice(), CatalogueFault::Malformed),
+        ([leaf].as_slice(), CatalogueFault::Malformed),
+        ([first].as_slice(), CatalogueFault::Malformed),
+        ([text, text].as_slice(), CatalogueFault::Damaged(0)),
+        ([first, first].as_slice(), CatalogueFault::Damaged(1)),
+    ] {
+        let told = read(alloc, keys, pages);
+        assert!(rt; told == Some(Err(fault)), "{told:?} for {fault:?}");
+    }
     Ok(())
 }

@@ -1,10 +1,10 @@
-//! Leaves of version 1: worked bytes, a full leaf, and payloads without the form.
+//! Leaves of version 1: worked bytes, and payloads without the form.
 ghost use Rattle.std.specs.Prelude.{◌<◌};
 
 use crate::samples::example;
 use legs::Leg;
 use pages::{Kind, Payload};
-use version1::{MOST_OLD_LEGS, old_leaf};
+use version1::old_leaf;
 
 /// The leaf of feature `a` of the standard's example, written by hand from the layout.
 const HEAD: [u8; 16] = [0, 0, 0, 0, 0, 0, 0, 0, 0, 0, 0, 0, 0, 2, 0, 0];
@@ -81,53 +81,31 @@ fn leaf_with(place: usize, byte: u8) -> bool
     old_leaf(&payload).is_some()
 }
 
-/// The count, the zero bytes of the head and of both legs, ordinals that do not rise, moments and a
-/// coordinate out of range, and bytes that are not looked at.
+/// A byte at a place of the worked leaf, and whether it is a leaf then: the count, a zero byte of the head and of a leg,
+/// an ordinal that does not rise and one that does, a moment and a coordinate out of range, and bytes that are not
+/// looked at.
+const FORMS: [(usize, u8, bool); 10] = [
+    (13, 0, false),
+    (13, 1, true),
+    (13, 3, false),
+    (15, 1, false),
+    (143, 1, false),
+    (87, 0, false),
+    (87, 1, true),
+    (24, 1, false),
+    (64, 1, false),
+    (144, 1, true),
+];
+
 #[test]
 fn the_form_of_an_old_leaf(rt: HostRuntime) {
-    assert!(rt; !leaf_with(13, 0) && leaf_with(13, 1) && !leaf_with(13, 3));
-    assert!(rt; !leaf_with(14, 1) && !leaf_with(15, 1));
-    assert!(rt; !leaf_with(76, 1) && !leaf_with(79, 1) && !leaf_with(143, 1));
-    assert!(rt; !leaf_with(87, 0) && leaf_with(87, 1) && !leaf_with(23, 2));
-    assert!(rt; !leaf_with(24, 1) && !leaf_with(40, 1) && !leaf_with(64, 1));
-    assert!(rt; leaf_with(75, 9) && leaf_with(144, 1) && leaf_with(4055, 255));
+    for (place, byte, is_leaf) in FORMS {
+        assert!(rt;
+            place < 4056 && leaf_with(place, byte) == is_leaf,
+            "{byte} at {place}"
+        );
+    }
     let mut payload = worked_leaf();
     payload.kind = Kind::Inner;
-    assert!(rt; old_leaf(&payload).is_none());
-}
-
-/// A leaf of feature 1 of 63 legs, between the pages 2 and 3: the first leg under the ordinals from
-/// 0 on.
-fn full_leaf() -> Payload {
-    let mut bytes = [0; 4056];
-    bytes[..16].copy_from_slice(&[0, 0, 0, 1, 0, 0, 0, 2, 0, 0, 0, 3, 0, 63, 0, 0]);
-    for i in 0..63u8 {
-        let place = 16 + 64 * usize::from(i);
-        bytes[place..place + 64].copy_from_slice(&FIRST);
-        bytes[place + 7] = i;
-    }
-    Payload {
-        kind: Kind::Leaf,
-        bytes,
-    }
-}
-
-/// What is asked of a full leaf: its head, and its last leg.
-fn full_leaf_is_right() -> Option<bool> {
-    let payload = full_leaf();
-    let view = old_leaf(&payload)?;
-    let head = view.head();
-    let mut last = first()?;
-    last.ordinal = 62;
-    last.feature = 1;
-    let linked = head.feature == 1 && head.previous == 2 && head.next == 3;
-    Some(linked && view.len() == MOST_OLD_LEGS && view.leg(62) == last)
-}
-
-#[test]
-fn a_full_old_leaf(rt: HostRuntime) {
-    assert!(rt; full_leaf_is_right() == Some(true));
-    let mut payload = full_leaf();
-    payload.bytes[13] = 64;
     assert!(rt; old_leaf(&payload).is_none());
 }

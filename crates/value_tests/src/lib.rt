@@ -13,6 +13,8 @@ mod mfcsv_tests;
 #[cfg(test)]
 mod parts_tests;
 #[cfg(test)]
+mod plane;
+#[cfg(test)]
 mod predicates_tests;
 #[cfg(test)]
 mod querylang_tests;

@@ -1,40 +1,17 @@
 //! Legs that cross, touch, miss and leave rectangles, with gaps and jumps.
-use fixedpoint::Coord;
+use crate::plane::{leg, period, rect};
 use legs::{Leg, Rect};
-use mfcsv::Position;
 use predicates::*;
-use std::process::Abort;
 use std::test::Fail;
-use timebase::{Ms, Period};
+use timebase::Period;
 
 /// So many units of 10^-7.
 const ONE: i64 = 10_000_000;
 
-fn coord(rt: &impl Abort, units: i64) -> Coord {
-    Coord::new(units).expect(rt, "a coordinate")
-}
+/// The greatest coordinate, and all moments.
+const FAR: i64 = 1_000_000_000_000_000;
 
-fn moment(rt: &impl Abort, millis: i64) -> Ms {
-    Ms::new(millis).expect(rt, "a moment")
-}
-
-fn period(rt: &impl Abort, start: i64, end: i64) -> Period {
-    Period::new(moment(rt, start), moment(rt, end)).expect(rt, "a period")
-}
-
-fn rect(rt: &impl Abort, x1: i64, y1: i64, x2: i64, y2: i64) -> Rect {
-    Rect::new(coord(rt, x1), coord(rt, y1), coord(rt, x2), coord(rt, y2)).expect(rt, "a rectangle")
-}
-
-fn place(rt: &impl Abort, x: i64, y: i64) -> Position {
-    let (x, y, z) = (coord(rt, x), coord(rt, y), coord(rt, 0));
-    Position { x, y, z }
-}
-
-fn leg(rt: &impl Abort, t0: i64, t1: i64, from: (i64, i64), to: (i64, i64)) -> Leg {
-    let (from, to) = (place(rt, from.0, from.1), place(rt, to.0, to.1));
-    Leg::new(0, 0, moment(rt, t0), moment(rt, t1), from, to, 0).expect(rt, "a leg")
-}
+const ALL_TIME: (i64, i64) = (-62_135_596_800_000, 253_370_764_799_999);
 
 /// Ever, always, enters, leaves, crosses, bypasses.
 fn answers(legs: &[Leg], rect: &Rect, period: &Period) -> [bool; 6] {
@@ -62,85 +39,108 @@ const CROSSES: [bool; 6] = [true, false, false, false, true, false];
 
 const BYPASSES: [bool; 6] = [false, false, false, false, false, true];
 
-#[test]
-fn one_leg(rt: HostRuntime) -> Result<(), Fail> {
-    // From (0, 0) to (10, 0) in a second: inside only between two milliseconds.
-    let flat = leg(&rt, 0, 1000, (0, 0), (10 * ONE, 0));
-    let narrow = rect(&rt, 33_333_333, -ONE, 33_333_334, ONE);
-    assert_eq!(rt; answers(&[flat], &narrow, &period(&rt, 333, 334)), CROSSES);
+/// Two legs, each by its moments and its ends.
+type Legs = [((i64, i64), [i64; 4]); 2];
 
-    // From (0, 0) to (10, 10) in a second: the corner (5, 5) is touched at half of it.
-    let diagonal = leg(&rt, 0, 1000, (0, 0), (10 * ONE, 10 * ONE));
-    let corner = rect(&rt, 5 * ONE, 4 * ONE, 6 * ONE, 5 * ONE);
-    assert_eq!(rt; answers(&[diagonal], &corner, &period(&rt, 0, 500)), ENTERS);
-    assert_eq!(rt;
-        answers(&[diagonal], &corner, &period(&rt, 0, 499)),
-        BYPASSES
-    );
+/// A leg that starts when all periods have ended.
+const LATER: ((i64, i64), [i64; 4]) = ((900_000, 900_001), [0, 0, 0, 0]);
 
+/// From (0, 0) to (10, 0) in a second.
+const FLAT: Legs = [((0, 1000), [0, 0, 10 * ONE, 0]), LATER];
+
+/// From (0, 0) to (10, 10) in a second.
+const DIAGONAL: Legs = [((0, 1000), [0, 0, 10 * ONE, 10 * ONE]), LATER];
+
+/// Two legs with a gap between them.
+const GAP: Legs = [
+    ((0, 10_000), [0, 0, ONE, 0]),
+    ((50_000, 60_000), [ONE, 0, 2 * ONE, 0]),
+];
+
+/// A jump: the second 10 is the last moment of one leg and the first of the next.
+const JUMP: Legs = [
+    ((0, 10_000), [0, 0, ONE, 0]),
+    ((10_000, 20_000), [5 * ONE, 5 * ONE, 6 * ONE, 5 * ONE]),
+];
+
+/// There and back.
+const BACK: Legs = [
+    ((0, 10_000), [0, 0, 2 * ONE, 0]),
+    ((10_000, 20_000), [2 * ONE, 0, 0, 0]),
+];
+
+/// Legs, a rectangle, a period, and which predicates hold.
+const CASES: [(Legs, [i64; 4], (i64, i64), [bool; 6]); 8] = [
+    // Inside only between two milliseconds.
+    (
+        FLAT,
+        [33_333_333, -ONE, 33_333_334, ONE],
+        (333, 334),
+        CROSSES,
+    ),
+    // The corner (5, 5) is touched at half of it, and not a millisecond earlier.
+    (
+        DIAGONAL,
+        [5 * ONE, 4 * ONE, 6 * ONE, 5 * ONE],
+        (0, 500),
+        ENTERS,
+    ),
+    (
+        DIAGONAL,
+        [5 * ONE, 4 * ONE, 6 * ONE, 5 * ONE],
+        (0, 499),
+        BYPASSES,
+    ),
     // The boxes meet, and the diagonal misses the rectangle.
-    let under = rect(&rt, 6 * ONE, ONE, 9 * ONE, 3 * ONE);
-    assert_eq!(rt;
-        answers(&[diagonal], &under, &period(&rt, 0, 1000)),
-        BYPASSES
-    );
+    (
+        DIAGONAL,
+        [6 * ONE, ONE, 9 * ONE, 3 * ONE],
+        (0, 1000),
+        BYPASSES,
+    ),
+    // A gap is no moment.
+    (GAP, [ONE, 0, 2 * ONE, ONE], (20_000, 40_000), NONE),
+    (
+        GAP,
+        [5 * ONE, 5 * ONE, 6 * ONE, 6 * ONE],
+        (0, 60_000),
+        BYPASSES,
+    ),
+    (
+        JUMP,
+        [5 * ONE, 5 * ONE, 6 * ONE, 6 * ONE],
+        (10_000, 10_000),
+        ENTERS,
+    ),
+    // In, out and in again.
+    (BACK, [0, 0, ONE, ONE], (0, 20_000), EVER_ALONE),
+];
+
+#[test]
+fn legs_are_tested(rt: HostRuntime) -> Result<(), Fail> {
+    for ([first, second], sides, times, want) in CASES {
+        let legs = [leg(&rt, first.0, first.1), leg(&rt, second.0, second.1)];
+        let told = answers(&legs, &rect(&rt, sides), &period(&rt, times));
+        assert_eq!(rt; told, want, "at {sides:?} in {times:?}");
+    }
     Ok(())
 }
+
+/// Rectangles on the way from one corner of the plane to the other, from the first moment of all to the last, whose
+/// middle is between two milliseconds.
+const GREATEST: [([i64; 4], [bool; 6]); 4] = [
+    ([0, 0, 0, 0], CROSSES),
+    ([FAR, FAR, FAR, FAR], ENTERS),
+    ([-FAR, -FAR, 0, FAR], LEAVES),
+    ([-FAR, -FAR, FAR, FAR], ALWAYS),
+];
 
 #[test]
 fn the_greatest_leg(rt: HostRuntime) -> Result<(), Fail> {
-    // From one corner of the plane to the other, from the first moment of all to the last: the
-    // middle is between two milliseconds.
-    let far = 1_000_000_000_000_000;
-    let (first, last) = (-62_135_596_800_000, 253_370_764_799_999);
-    let legs = [leg(&rt, first, last, (-far, -far), (far, far))];
-    let all = period(&rt, first, last);
-    assert_eq!(rt; answers(&legs, &rect(&rt, 0, 0, 0, 0), &all), CROSSES);
-    assert_eq!(rt;
-        answers(&legs, &rect(&rt, far, far, far, far), &all),
-        ENTERS
-    );
-    assert_eq!(rt;
-        answers(&legs, &rect(&rt, -far, -far, 0, far), &all),
-        LEAVES
-    );
-    assert_eq!(rt;
-        answers(&legs, &rect(&rt, -far, -far, far, far), &all),
-        ALWAYS
-    );
-    Ok(())
-}
-
-#[test]
-fn two_legs(rt: HostRuntime) -> Result<(), Fail> {
-    // A gap is no moment.
-    let one = leg(&rt, 0, 10_000, (0, 0), (ONE, 0));
-    let later = leg(&rt, 50_000, 60_000, (ONE, 0), (2 * ONE, 0));
-    let far = rect(&rt, 100 * ONE, 100 * ONE, 101 * ONE, 101 * ONE);
-    assert_eq!(rt;
-        answers(&[one, later], &far, &period(&rt, 20_000, 40_000)),
-        NONE
-    );
-    assert_eq!(rt;
-        answers(&[one, later], &far, &period(&rt, 0, 60_000)),
-        BYPASSES
-    );
-
-    // A jump: the second 10 is the last moment of one leg and the first of the next.
-    let elsewhere = leg(&rt, 10_000, 20_000, (5 * ONE, 5 * ONE), (6 * ONE, 5 * ONE));
-    let square = rect(&rt, 5 * ONE, 5 * ONE, 6 * ONE, 6 * ONE);
-    assert_eq!(rt;
-        answers(&[one, elsewhere], &square, &period(&rt, 10_000, 10_000)),
-        ENTERS
-    );
-
-    // In, out and in again.
-    let out = leg(&rt, 0, 10_000, (0, 0), (2 * ONE, 0));
-    let back = leg(&rt, 10_000, 20_000, (2 * ONE, 0), (0, 0));
-    let near = rect(&rt, 0, 0, ONE, ONE);
-    assert_eq!(rt;
-        answers(&[out, back], &near, &period(&rt, 0, 20_000)),
-        EVER_ALONE
-    );
+    let legs = [leg(&rt, ALL_TIME, [-FAR, -FAR, FAR, FAR])];
+    for (sides, want) in GREATEST {
+        let told = answers(&legs, &rect(&rt, sides), &period(&rt, ALL_TIME));
+        assert_eq!(rt; told, want, "at {sides:?}");
+    }
     Ok(())
 }

@@ -17,67 +17,35 @@ fn said(alloc: Global, line: &[u8]) -> Result<String, Fail> {
     })
 }
 
-/// Lines, and what they are read as.
-const COMMANDS: [(&str, &str); 11] = [
-    ("", "none"),
-    (" \t ", "none"),
-    (" # load x", "none"),
-    ("load a.csv", "load<a.csv>"),
-    ("\tload  two  words \t", "load<two  words>"),
-    ("trajectory a, b", "trajectory<a, b>"),
-    (" count ", "count"),
-    ("write", "write"),
+/// Lines, and what they are read as. Each other refusal stands in a script of the database's tests.
+const LINES: [(&[u8], &str); 11] = [
+    (b" \t ", "none"),
+    (b" # load x", "none"),
+    (b"\tload  two  words \t", "load<two  words>"),
+    (b"trajectory a, b", "trajectory<a, b>"),
+    (b" count ", "count"),
+    (b"write", "write"),
     (
-        "box 0 0 1 1 2020-01-01T00:00:00Z 2020-01-01T00:00:01Z",
+        b"box 0 0 1 1 2020-01-01T00:00:00Z 2020-01-01T00:00:01Z",
         "box",
     ),
     (
-        "legs ever 0 0 1 1 2020-01-01T00:00:00Z 2020-01-01T00:00:01Z",
+        b"legs ever 0 0 1 1 2020-01-01T00:00:00Z 2020-01-01T00:00:01Z",
         "legs",
     ),
     (
-        "features bypasses 0 0 1 1 2020-01-01T00:00:00Z 2020-01-01T00:00:01Z",
+        b"features bypasses 0 0 1 1 2020-01-01T00:00:00Z 2020-01-01T00:00:01Z",
         "features",
     ),
+    (b"count \xff", "the line is refused: Q1"),
+    (b"trajectory ", "the line is refused: Q3"),
 ];
 
 #[test]
-fn commands_are_read(rt: HostRuntime) -> Result<(), Fail> {
-    for (line, want) in &COMMANDS {
-        let got = said(rt.alloc(), line.as_bytes())?;
-        assert_eq!(rt; got.as_str(), *want, "at {line}");
-    }
-    Ok(())
-}
-
-#[test]
-fn a_refused_line_has_its_code(rt: HostRuntime) -> Result<(), Fail> {
-    let text = "the line is refused: ";
-    for (line, code) in [
-        (&b"count \xff"[..], "Q1"),
-        (&b"Count"[..], "Q2"),
-        (&b"count all"[..], "Q3"),
-        (&b"trajectory "[..], "Q3"),
-        (
-            &b"legs near 0 0 1 1 2020-01-01T00:00:00Z 2020-01-01T00:00:01Z"[..],
-            "Q4",
-        ),
-        (
-            &b"box 0 0 1e1 1 2020-01-01T00:00:00Z 2020-01-01T00:00:01Z"[..],
-            "Q5",
-        ),
-        (
-            &b"box 0 2 1 1 2020-01-01T00:00:00Z 2020-01-01T00:00:01Z"[..],
-            "Q6",
-        ),
-        (&b"box 0 0 1 1 2020-01-01T00:00:00Z 2020-01-01"[..], "Q7"),
-        (
-            &b"box 0 0 1 1 2020-01-01T00:00:01Z 2020-01-01T00:00:00Z"[..],
-            "Q8",
-        ),
-    ] {
+fn lines_are_read(rt: HostRuntime) -> Result<(), Fail> {
+    for (line, want) in LINES {
         let got = said(rt.alloc(), line)?;
-        assert_eq!(rt; got.as_str().strip_prefix(text), Some(code), "at {code}");
+        assert_eq!(rt; got.as_str(), want);
     }
     Ok(())
 }

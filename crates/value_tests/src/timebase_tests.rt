@@ -46,39 +46,20 @@ fn instants_print_their_date_and_time(rt: HostRuntime) -> Result<(), Fail> {
 }
 
 #[test]
-fn moments_keep_to_their_range(rt: HostRuntime) -> Result<(), Fail> {
-    for millis in [-62_135_596_800_000, 0, 253_370_764_799_999] {
-        assert_eq!(rt; Ms::new(millis).map(Ms::millis), Some(millis));
-    }
-    for millis in [-62_135_596_800_001, 253_370_764_800_000, i64::MIN, i64::MAX] {
-        assert_eq!(rt; Ms::new(millis), None);
-    }
-    Ok(())
-}
-
-#[test]
-fn offsets_count_from_their_base(rt: HostRuntime) -> Result<(), Fail> {
-    let first = Ms::new(-62_135_596_800_000).ok_or("a moment")?;
-    let last = Ms::new(253_370_764_799_999).ok_or("a moment")?;
-    for (base, millis, moment) in [
-        (first, 0, Ok(-62_135_596_800_000)),
-        (first, 315_506_361_599_999, Ok(253_370_764_799_999)),
-        (first, -1, Err(TimeFault::OutOfRange)),
-        (last, 1, Err(TimeFault::OutOfRange)),
-        (last, -1_000_000_000_000_000, Err(TimeFault::OutOfRange)),
+fn an_offset_counts_from_its_base(rt: HostRuntime) -> Result<(), Fail> {
+    let base = Ms::new(253_370_764_799_998).ok_or("a moment")?;
+    for (millis, moment) in [
+        (1, Ok(253_370_764_799_999)),
+        (2, Err(TimeFault::OutOfRange)),
     ] {
         let offset = Offset::new(millis).ok_or("an offset")?;
-        assert_eq!(rt;
-            at_offset(base, offset).map(Ms::millis),
-            moment,
-            "at {millis}"
-        );
+        assert_eq!(rt; at_offset(base, offset).map(Ms::millis), moment);
     }
     Ok(())
 }
 
 /// Units, texts of times in them, and their milliseconds.
-const TIME_FIELDS: [(Unit, &str, Result<i64, TimeFault>); 14] = [
+const TIME_FIELDS: [(Unit, &str, Result<i64, TimeFault>); 11] = [
     (Unit::Sec, "0.5", Ok(1_577_836_800_500)),
     (Unit::Minute, "0.5", Ok(1_577_836_830_000)),
     (Unit::Minute, "-1", Ok(1_577_836_740_000)),
@@ -90,24 +71,17 @@ const TIME_FIELDS: [(Unit, &str, Result<i64, TimeFault>); 14] = [
     (Unit::Absolute, "1970-01-01T01:00:00+01:00", Ok(0)),
     (Unit::Sec, "1e3", Err(TimeFault::Unreadable)),
     (Unit::Sec, "1000000000000.001", Err(TimeFault::OutOfRange)),
-    (Unit::Sec, "251792927999.999", Ok(253_370_764_799_999)),
     (Unit::Sec, "251792928000", Err(TimeFault::OutOfRange)),
     (
         Unit::Minute,
         "2020-01-01T00:00:01Z",
         Err(TimeFault::Unreadable),
     ),
-    (Unit::Minute, "16666666667", Err(TimeFault::OutOfRange)),
     (Unit::Absolute, "1", Err(TimeFault::Unreadable)),
     (
         Unit::Absolute,
         "2020-01-01T00:00:01",
         Err(TimeFault::Unreadable),
-    ),
-    (
-        Unit::Absolute,
-        "9999-06-01T00:00:00Z",
-        Err(TimeFault::OutOfRange),
     ),
 ];
 
@@ -122,17 +96,5 @@ fn time_fields_count_by_their_unit(rt: HostRuntime) -> Result<(), Fail> {
             "at {text}"
         );
     }
-    Ok(())
-}
-
-#[test]
-fn a_period_begins_no_later_than_it_ends(rt: HostRuntime) -> Result<(), Fail> {
-    let early = Ms::new(1).ok_or("a moment")?;
-    let late = Ms::new(2).ok_or("a moment")?;
-    let period = Period::new(early, late).ok_or("a period")?;
-    assert_eq!(rt; period.start(), early);
-    assert_eq!(rt; period.end(), late);
-    assert!(rt; Period::new(early, early).is_some());
-    assert_eq!(rt; Period::new(late, early), None);
     Ok(())
 }

@@ -35,32 +35,11 @@ fn push(alloc: Global, rows: &mut Rows, first: &str, blanks: usize) -> Result<()
     Ok(())
 }
 
-fn head(alloc: Global, dimension: Dimension, columns: Vec<Column>) -> Result<BookHead, Fail> {
-    Ok(BookHead {
-        crs: text(alloc, "local")?,
-        dimension,
-        base: at(0)?,
-        columns: Columns::from(columns),
-    })
-}
-
 #[test]
 fn features_are_quoted_where_they_need_it(rt: HostRuntime) -> Result<(), Fail> {
     let mut out = Vec::new(rt.alloc());
     push_features(rt.alloc(), &mut out, &["a", "a, b"])?;
     assert_eq!(rt; out.as_slice(), "a\n\"a, b\"\n".as_bytes());
-    Ok(())
-}
-
-#[test]
-fn a_file_without_legs_is_two_lines(rt: HostRuntime) -> Result<(), Fail> {
-    let mut out = Vec::new(rt.alloc());
-    let head = head(rt.alloc(), Dimension::Two, Vec::new(rt.alloc()))?;
-    push_file(rt.alloc(), &mut out, &head, &[])?;
-    let wanted =
-        "@stboundedby,local,2D,0 0,0 0,2020-01-01T00:00:00.000Z,2020-01-01T00:00:00.000Z,sec\n\
-        @columns,mfidref,trajectory\n";
-    assert_eq!(rt; out.as_slice(), wanted.as_bytes());
     Ok(())
 }
 
@@ -93,7 +72,12 @@ fn a_file_is_bounded_by_all_legs(rt: HostRuntime) -> Result<(), Fail> {
         name: text(alloc, "state")?,
         kind: text(alloc, "xsd:token")?,
     })?;
-    let head = head(alloc, Dimension::Two, columns)?;
+    let head = BookHead {
+        crs: text(alloc, "local")?,
+        dimension: Dimension::Two,
+        base: at(0)?,
+        columns: Columns::from(columns),
+    };
     let (from, to) = (position(3, 4)?, position(1, -6)?);
     let long = Leg::new(0, 0, at(0)?, at(100)?, from, to, 0).ok_or("a leg")?;
     let (from, to) = (position(14, 8)?, position(4, 18)?);

@@ -1,0 +1,40 @@
+//! A tree of legs of one feature.
+use crate::samples::point;
+use legs::Leg;
+use pagecache::PageCache;
+use pages::{Fuse, Kind, MemStore};
+use std::alloc::Global;
+use tbtree::{Place, Shape, TbTree, insert};
+use timebase::Ms;
+
+/// A leg of a second of feature 0, ten units long on the x axis, behind those of lower ordinals.
+fn long_leg(ordinal: u32) -> Option<Leg> {
+    let start = i64::from(ordinal).wrapping_mul(1000);
+    let (t0, t1) = (Ms::new(start)?, Ms::new(start.wrapping_add(1000))?);
+    let from = point(ordinal.wrapping_mul(10))?;
+    let to = point(ordinal.wrapping_mul(10).wrapping_add(10))?;
+    Leg::new(u64::from(ordinal), 0, t0, t1, from, to, 0)
+}
+
+/// A tree of such legs, in a cache of two pages behind a page 0.
+#[derive(Drop)]
+pub(crate) struct Sample {
+    pub(crate) cache: PageCache<Fuse<MemStore>>,
+    pub(crate) tree: TbTree,
+    pub(crate) place: Place,
+}
+
+/// That many legs inserted, two a leaf and two entries an inner page. The store fails the call of that number for good.
+pub(crate) fn grown(alloc: Global, legs: u32, calls: u64) -> Option<Sample> {
+    let store = Fuse::new(MemStore::new(alloc, 100), calls, false);
+    let Ok(mut cache) = PageCache::new(alloc, store, 2) else {
+        return None;
+    };
+    cache.add_page(Kind::Header).ok()?;
+    let mut tree = TbTree::new(Shape::new(2, 2)?);
+    let mut place = Place::new();
+    for ordinal in 0..legs {
+        insert(&mut tree, &mut cache, &mut place, long_leg(ordinal)?).ok()?;
+    }
+    Some(Sample { cache, tree, place })
+}
