@@ -1,5 +1,5 @@
 //! A store is closed.
-ghost use Rattle.std.specs.Prelude.{ℕ, List, ◌≡◌, ◌⊎◌, [], IfErr, IsTrue, OnErr, OnOk, Some};
+ghost use Rattle.std.specs.Prelude.{ℕ, List, ◌≡◌, ◌⊎◌, [], IfErr, IsErrOf, IsTrue, OnErr, OnOk, Some};
 ghost use Rattle.legs.specs.Book.{Book};
 ghost use Rattle.legs.specs.declared.head.BookHead.{BookHead};
 ghost use Rattle.pages.specs.Store.{IsLawful, IsSynced, IsSyncedButFirst, Keeps};
@@ -9,7 +9,7 @@ ghost use Rattle.boxsearch.specs.Beside.{with_cache};
 ghost use Rattle.boxsearch.specs.Index.{content, IsMarked, IsSound};
 ghost use Rattle.catalogue.specs.Closing.{IsClosingFault, IsNoStoreFault};
 ghost use Rattle.catalogue.specs.Holding.{HoldsBook, HoldsButFirst, IsOfBook, IsUnfinishedStore};
-ghost use Rattle.register.specs.Earlier.{AddsFew, AreEarlier};
+ghost use Rattle.register.specs.Earlier.{AddsFew, AreEarlier, HasNoRoom};
 ghost use Rattle.register.specs.Saving.{contents_of, IsSavingStop, IsCaused};
 ghost use Rattle.register.specs.Text.{catalogue_text};
 
@@ -59,6 +59,11 @@ fn save_and_finish<S: PageStore>(
         → AreEarlier (payload_of index.old.cache) pages → AddsFew index.old.cache.count
         (catalogue_text (contents_of catalogue.now index.old.places)) pages
         index.new.cache.store.count) }
+    ensures full { IsErrOf result CatalogueFault.StoreFull
+        → IsTrue index.old.cache.store.is_faithful → (pages : List ℕ)
+        → AreEarlier (payload_of index.old.cache) pages
+        → HasNoRoom index.old.cache.count index.old.cache.store.most
+        (catalogue_text (contents_of catalogue.now index.old.places)) pages }
     ensures only { IfErr result (λ fault. IsSound index.old → (book : Book)
         → IsOfBook catalogue.now.limits book catalogue.now → content index.old ≡ book.legs
         → IsSavingStop fault) }
@@ -106,6 +111,13 @@ pub fn close<S: PageStore>(
         → AreEarlier (payload_of index.cache) pages → AddsFew index.cache.count
         (catalogue_text (contents_of catalogue.now index.places)) pages
         (S.seen result.0).count) }
+
+    // It is full only where it has no room for those.
+    ensures full { IsErrOf result.1 CatalogueFault.StoreFull
+        → IsTrue index.cache.store.is_faithful → (pages : List ℕ)
+        → AreEarlier (payload_of index.cache) pages
+        → HasNoRoom index.cache.count index.cache.store.most
+        (catalogue_text (contents_of catalogue.now index.places)) pages }
     ensures only { IfErr result.1 (λ fault. IsSound index → (book : Book)
         → IsOfBook catalogue.now.limits book catalogue.now → content index ≡ book.legs
         → IsSavingStop fault) }

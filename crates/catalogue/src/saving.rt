@@ -1,10 +1,10 @@
 //! A catalogue is saved beside the legs of an index.
-ghost use Rattle.std.specs.Prelude.{ℕ, List, ◌≡◌, ◌<◌, false, IfErr, IsTrue, OnErr, OnOk};
+ghost use Rattle.std.specs.Prelude.{ℕ, List, ◌≡◌, ◌<◌, false, IfErr, IsErrOf, IsTrue, OnErr, OnOk};
 ghost use Rattle.pages.specs.Store.{IsSynced};
 ghost use Rattle.pagecache.specs.Cache.{is_changed, page_of, payload_of};
 ghost use Rattle.boxsearch.specs.Beside.{with_cache, IsBeside};
 ghost use Rattle.boxsearch.specs.Index.{content, IsSound};
-ghost use Rattle.register.specs.Earlier.{AddsFew, AreEarlier};
+ghost use Rattle.register.specs.Earlier.{AddsFew, AreEarlier, HasNoRoom};
 ghost use Rattle.register.specs.Lasting.{Says};
 ghost use Rattle.register.specs.Saved.{Continues, IsWrittenButFirst, KeepsFront, SparesTree};
 ghost use Rattle.register.specs.Saving.{contents_of, HasFew, IsSavingStop, IsCatalogue, IsCaused};
@@ -44,10 +44,15 @@ pub fn save<S: PageStore>(
         → is_changed index.old.cache 0 ≡ false → is_changed index.new.cache 0 ≡ false) }
     ensures later { Continues index.old.cache index.new.cache }
     ensures tree { SparesTree index.old.cache index.new.cache }
-    ensures takes { OnOk result (IsTrue index.old.cache.store.is_faithful → (pages : List ℕ)
+    ensures takes { IsTrue index.old.cache.store.is_faithful → (pages : List ℕ)
         → AreEarlier (payload_of index.old.cache) pages → AddsFew index.old.cache.count
         (catalogue_text (contents_of catalogue.now index.new.places)) pages
-        index.new.cache.count) }
+        index.new.cache.count }
+    ensures full { IsErrOf result CatalogueFault.StoreFull
+        → IsTrue index.old.cache.store.is_faithful → (pages : List ℕ)
+        → AreEarlier (payload_of index.old.cache) pages
+        → HasNoRoom index.old.cache.count index.old.cache.store.most
+        (catalogue_text (contents_of catalogue.now index.new.places)) pages }
     ensures beside { OnOk result (IsBeside index.old.cache index.new.cache) }
     ensures written { OnOk result (IsWrittenButFirst index.new.cache) }
     ensures synced { OnOk result (IsSynced index.new.cache.store) }

@@ -19,3 +19,4 @@ pub mod SameLemmas
 pub mod HeaderTextLemmas
 pub mod StateLemmas
 pub mod EarlierLemmas
+pub mod WithinLemmas

@@ -1,9 +1,9 @@
 -- Bytes that are put behind one another while a text is saved.
-use Rattle.std.proofs.Common.{ℕ, zero, suc, ◌≡◌, ◌+◌, ◌<◌, ◌++◌, ◌∷◌, [], List, map, length, refl, sym, ap, ◌∙◌, arith, subst, All, IsTrue, Some, Result, Ok, Err}
+use Rattle.std.proofs.Common.{ℕ, zero, suc, ◌≡◌, ◌+◌, ◌-◌, ◌<◌, ◌≤◌, ◌++◌, ◌∷◌, [], List, drop, map, take, length, refl, sym, ap, ◌∙◌, arith, subst, All, IsTrue, Some, Result, Ok, Err}
 use Rattle.std.specs.Prelude.{IfErr, OnErr}
 use Rattle.std.specs.List.{flat_map, range_with_len}
 use Rattle.std.proofs.lemmas.Grind.{flat_map-append}
-use Rattle.std.proofs.lemmas.List.{append_assoc, append-nil, length-append, map-append}
+use Rattle.std.proofs.lemmas.List.{append_assoc, append-nil, length-append, map-append, take-append-drop}
 use Rattle.std.proofs.lemmas.List.Elements.{All-push}
 use Rattle.std.proofs.lemmas.Int.{clamps}
 use Rattle.pagecache.specs.Cache.{Cache, IsRefused}
@@ -15,15 +15,17 @@ use Rattle.tbtree.specs.Nodes.{Pages, pages_of_cache}
 use Rattle.tbtree.specs.Passes.{Passes}
 use Rattle.legs.specs.Boxes.{BoxView}
 use Rattle.legs.specs.Legs.{LegView}
-use Rattle.register.specs.ChainSteps.{Reuses}
-use Rattle.register.specs.ChainWriter.{Holds, WriterView}
+use Rattle.register.specs.Chain.{pages_for}
+use Rattle.register.specs.ChainSteps.{lacked, Reuses, StaysWithin}
+use Rattle.register.specs.ChainWriter.{Holds, IsAllowed, WriterView, IsCaused as IsCausedThere}
 use Rattle.register.proofs.ReuseLemmas.{reuses_refl, reuses_then}
+use Rattle.register.proofs.WithinLemmas.{pages_for_more, pages_more, wanted_same, within_held, within_more, within_same}
 use Rattle.std.specs.Option.{option_map}
 use Rattle.legs.specs.declared.head.BookHead.{BookHead}
 use Rattle.tbtree.specs.declared.tree.Place.{Place}
 use Rattle.register.specs.Saved.{head_of, CatalogueView, SparesTree}
 use Rattle.register.specs.Text.{HasFeatures, IsHead, IsNumber, IsRow, IsShortText, IsWhole}
-use Rattle.register.specs.Saving.{contents_of, features_of, HasPageZero, IsSavingStop, IsCatalogue, IsCaused, KeepsTree, Puts, Saves}
+use Rattle.register.specs.Saving.{contents_of, features_of, wanted, HasPageZero, IsSavingStop, IsCatalogue, IsCaused, KeepsTree, Puts, Saves}
 use Rattle.register.specs.declared.fault.CatalogueFault.{CatalogueFault}
 use Rattle.register.specs.declared.fault.CatalogueFault.TheVariants.{Memory, Store, StoreFull, Damaged, Unfinished, Version, Malformed}
 
@@ -85,6 +87,7 @@ pushed_only bytes c w v e = record {
     tree = λ text h f. same_tree_refl (pages_of_cache c);
     reuses = subst (λ (v : WriterView). Reuses c w.pages w.earlier c v.pages v.earlier) (sym e) (reuses_refl c w.pages w.earlier);
     caused = tt;
+    within = tt;
   };
   only = λ text h f. tt;
 }
@@ -107,6 +110,7 @@ puts_then first second a b c w v u (Ok x) p q = record {
   tree = λ text h f. same_tree_trans (pages_of_cache a) (pages_of_cache b) (pages_of_cache c) (p.tree text h f) (q.tree (text ++ first) (p.holds text h) (p.passes.store.faithful ∙ f));
   reuses = reuses_then a b c w.pages v.pages u.pages w.earlier v.earlier u.earlier p.reuses q.reuses;
   caused = tt;
+  within = tt;
 }
 puts_then first second a b c w v u (Err e) p q = record {
   passes = passes_trans a b c p.passes q.passes;
@@ -115,6 +119,73 @@ puts_then first second a b c w v u (Err e) p q = record {
   tree = λ text h f. same_tree_trans (pages_of_cache a) (pages_of_cache b) (pages_of_cache c) (p.tree text h f) (q.tree (text ++ first) (p.holds text h) (p.passes.store.faithful ∙ f));
   reuses = tt;
   caused = caused_after a b c e p.passes q.caused;
+  within = λ text h. subst (λ t. StaysWithin (pages_for t) a w.pages w.earlier c (wanted e)) (append_assoc text first second)
+      (within_held (pages_for ((text ++ first) ++ second)) a b c w v (wanted e) text (text ++ first) p.passes.store.faithful p.reuses h (p.holds text h) (pages_for_more (text ++ first) second) (q.within (text ++ first) (p.holds text h)));
+}
+
+-- nothing is written
+pub refused_puts : (bytes : List ℕ) (a : Cache) (w v : WriterView) (e : CatalogueFault) → wanted e ≡ 0 → IsCaused a a e → Puts bytes a a w v (Err e)
+refused_puts bytes a w v e none caused = record {
+  passes = passes_refl a;
+  holds = tt;
+  length = tt;
+  tree = λ text h f. same_tree_refl (pages_of_cache a);
+  reuses = tt;
+  caused = caused;
+  within = λ text h. within_same (pages_for (text ++ bytes)) a a w.pages w.earlier (wanted e) refl none;
+}
+
+-- what is refused is refused in a longer text
+pub puts_longer : (some all : List ℕ) (a b : Cache) (w v : WriterView) (e : CatalogueFault) → length some ≤ length all → Puts some a b w v (Err e) → Puts all a b w v (Err e)
+puts_longer some all a b w v e less p = record {
+  passes = p.passes;
+  holds = tt;
+  length = tt;
+  tree = p.tree;
+  reuses = tt;
+  caused = p.caused;
+  within = λ text h.
+      let l = length-append text some in
+      let m = length-append text all in
+      within_more (pages_for (text ++ some)) (pages_for (text ++ all)) a b w.pages w.earlier (wanted e) (pages_more (length (text ++ some)) (length (text ++ all)) (omega (arith, l, m, less))) (p.within text h);
+}
+
+pub saves_longer : (some all : List ℕ) (a b : Cache) (w v : WriterView) (r : Result (Unit {0}) CatalogueFault) (f e : CatalogueFault) → r ≡ Err f → f ≡ e → length some ≤ length all → Saves some a b w v (Err e) → Saves all a b w v r
+saves_longer some all a b w v r f e is same less s = subst (λ r. Saves all a b w v r) (sym (is ∙ ap Err same)) (record { puts = puts_longer some all a b w v e less s.puts; only = s.only })
+
+pub refused_saves : (bytes : List ℕ) (a : Cache) (w v : WriterView) (r : Result (Unit {0}) CatalogueFault) (e : CatalogueFault) → r ≡ Err e → e ≡ Memory → Saves bytes a a w v r
+refused_saves bytes a w v r e is memory = subst (λ r. Saves bytes a a w v r) (sym (is ∙ ap Err memory)) (record { puts = refused_puts bytes a w v Memory refl tt; only = λ text h f. tt })
+
+allowed_saving : (e : CacheFault) → IsAllowed e → IsSavingStop (fault_of e)
+allowed_saving cache.NoPage h = h
+allowed_saving cache.Store h = tt
+allowed_saving (cache.Damaged n) h = h
+allowed_saving cache.StoreFull h = tt
+allowed_saving cache.Memory h = tt
+
+pub caused_saving : (a b : Cache) (e : CacheFault) → IsCausedThere a b e → IsCaused a b (fault_of e)
+caused_saving a b cache.NoPage h = tt
+caused_saving a b cache.Store h = h
+caused_saving a b (cache.Damaged n) h = tt
+caused_saving a b cache.StoreFull h = h
+caused_saving a b cache.Memory h = tt
+
+-- the pages that a text fills are not all written
+pub refused_text : (a d : Cache) (w v : WriterView) (e : CacheFault) (f : CatalogueFault) → f ≡ fault_of e → Passes a d → ((text : List ℕ) → Holds a w text → SparesTree a d) → ((text : List ℕ) → Holds a w text → IsTrue a.store.is_faithful → IsAllowed e) → IsCausedThere a d e
+    → ((text : List ℕ) → Holds a w text → StaysWithin (pages_for text) a w.pages w.earlier d (lacked e)) → Saves [] a d w v (Err f)
+refused_text a d w v e f is passes tree only caused within = record {
+  puts = record {
+    passes = passes;
+    holds = tt;
+    length = tt;
+    tree = tree;
+    reuses = tt;
+    caused = subst (IsCaused a d) (sym is) (caused_saving a d e caused);
+    within = λ text h.
+        subst (λ k. StaysWithin (pages_for (text ++ [])) a w.pages w.earlier d k) (sym (wanted_same e) ∙ ap wanted (sym is))
+        (subst (λ t. StaysWithin (pages_for t) a w.pages w.earlier d (lacked e)) (sym (append-nil text)) (within text h));
+  };
+  only = λ text h f. subst IsSavingStop (sym is) (allowed_saving e (only text h f));
 }
 
 pub saves_then : (first second : List ℕ) (a b c : Cache) (w v u : WriterView) (r : Result (Unit {0}) CatalogueFault) → Saves first a b w v (Ok tt) → Saves second b c v u r → Saves (first ++ second) a c w u r
@@ -188,3 +259,31 @@ module _ (bytes : List ℕ) (a b c d : Cache) (w v : WriterView) (begun : Passes
         (same_tree_trans (pages_of_cache a) (pages_of_cache b) (pages_of_cache c) (spared f) (put.tree [] held fb))
         (tree ([] ++ bytes) holds_all (put.passes.store.faithful ∙ fb));
   }
+
+-- the text of more items is as long or longer
+named_longer : {V : Type 0} (text : V → List ℕ) (f : ℕ → V) (n m : ℕ) → length (flat_map text (map f (range_with_len 0 n))) ≤ length (flat_map text (map f (range_with_len 0 (n + m))))
+named_longer text f n zero = let e : n + zero ≡ n = omega arith in subst (λ k. length (flat_map text (map f (range_with_len 0 n))) ≤ length (flat_map text (map f (range_with_len 0 k)))) (sym e) (omega arith)
+named_longer text f n (suc m) =
+    let before = named_longer text f n m in
+    let l = length-append (flat_map text (map f (range_with_len 0 (n + m)))) (text (f (n + m))) in
+    let e = ap length (named_more text f [] (n + m)) in
+    let k : n + m + 1 ≡ n + suc m = omega arith in
+    subst (λ k. length (flat_map text (map f (range_with_len 0 n))) ≤ length (flat_map text (map f (range_with_len 0 k)))) k (omega (arith, before, l, e))
+
+pub named_first : {V : Type 0} (text : V → List ℕ) (f : ℕ → V) (front : List ℕ) (n all : ℕ) → n ≤ all → length (front ++ flat_map text (map f (range_with_len 0 n))) ≤ length (front ++ flat_map text (map f (range_with_len 0 all)))
+named_first text f front n all few =
+    let e : n + (all - n) ≡ all = omega (arith, few) in
+    let first = flat_map text (map f (range_with_len 0 n)) in
+    let l = length-append front first in
+    let m = length-append front (flat_map text (map f (range_with_len 0 all))) in
+    let h : length first ≤ length (flat_map text (map f (range_with_len 0 all))) = subst (λ k. length first ≤ length (flat_map text (map f (range_with_len 0 k)))) e (named_longer text f n (all - n)) in
+    omega (arith, l, m, h)
+
+pub listed_first : {V : Type 0} (text : V → List ℕ) (xs : List V) (front : List ℕ) (n : ℕ) → length (front ++ flat_map text (take n xs)) ≤ length (front ++ flat_map text xs)
+listed_first text xs front n =
+    let first = flat_map text (take n xs) in
+    let l = length-append front first in
+    let m = length-append front (flat_map text xs) in
+    let e = ap length (ap (flat_map text) (sym (take-append-drop n xs)) ∙ flat_map-append text (take n xs) (drop n xs)) in
+    let k = length-append first (flat_map text (drop n xs)) in
+    omega (arith, l, m, e, k)

@@ -3,6 +3,8 @@ use Rattle.std.specs.Prelude.{ℕ, ◌≡◌, ◌≢◌, ◌<◌, ◌≤◌, ◌
 use Rattle.pages.specs.declared.payload.Kind.TheVariants.{Catalogue}
 use Rattle.pages.specs.declared.payload.Payload.{Payload}
 use Rattle.pagecache.specs.Cache.{Cache, SameLength, KeepsPayloads, Writes, is_changed, payload_of}
+use Rattle.pagecache.specs.declared.fault.CacheFault.{CacheFault}
+use Rattle.pagecache.specs.declared.fault.CacheFault.TheVariants as cache
 use Rattle.tbtree.specs.Passes.{Passes, KeepsLength}
 use Rattle.register.specs.ChainWriter.{Holds, IsOwn, WriterView}
 use Rattle.register.specs.Earlier.{AreLinked}
@@ -86,6 +88,21 @@ Reuses old taken earlier new now next =
 pub record TakesFew (all taken earlier old new : ℕ) : Type 0 where
   pub more : taken ≤ all
   pub count : new ≤ old + ((all - taken) - earlier)
+
+-- how many pages a refused call wanted for which the store had no room
+abbrev pub lacked : CacheFault → ℕ
+lacked cache.NoPage = 0
+lacked cache.Store = 0
+lacked (cache.Damaged n) = 0
+lacked cache.StoreFull = 1
+lacked cache.Memory = 0
+
+-- a refused text of so many pages, of which some were taken, takes new ones but for want of earlier
+-- ones; so it does with those that it lacks
+abbrev pub StaysWithin : (all : ℕ) → Cache → List ℕ → ℕ → Cache → (lacks : ℕ) → Type 0
+StaysWithin all old taken earlier new lacks =
+    (pages : List ℕ) → IsAhead old taken earlier pages
+    → new.count + lacks ≤ old.count + ((all - length taken) - length pages)
 
 -- the first n bytes that were not written now are
 pub record WritesParts (old : Cache) (v : WriterView) (n : ℕ) (new : Cache)

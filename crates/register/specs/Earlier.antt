@@ -23,3 +23,8 @@ pub record AreEarlier (at : ℕ → Option Payload) (pages : List ℕ) : Type 0 
 -- so many pages are now so many: a text takes new ones only beyond these earlier ones
 abbrev pub AddsFew : (old : ℕ) → (text pages : List ℕ) → (new : ℕ) → Type 0
 AddsFew old text pages new = new ≤ old + (pages_for text - length pages)
+
+-- where so many pages are and no more than those may be, there is no room for the pages of a text beyond these earlier
+-- ones
+abbrev pub HasNoRoom : (old most : ℕ) → (text pages : List ℕ) → Type 0
+HasNoRoom old most text pages = most < old + (pages_for text - length pages)

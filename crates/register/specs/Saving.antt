@@ -13,7 +13,8 @@ use Rattle.register.specs.declared.header_fields.Fields.{Fields}
 use Rattle.tbtree.specs.Passes.{KeepsLength, Passes}
 use Rattle.tbtree.specs.Stands.{no_place}
 use Rattle.tbtree.specs.declared.tree.Place.{Place}
-use Rattle.register.specs.ChainSteps.{Reuses}
+use Rattle.register.specs.Chain.{pages_for}
+use Rattle.register.specs.ChainSteps.{Reuses, StaysWithin}
 use Rattle.register.specs.ChainWriter.{Holds, WriterView}
 use Rattle.register.specs.Saved.{head_of, CatalogueView, SparesTree}
 use Rattle.register.specs.declared.contents.Contents.{Contents}
@@ -90,6 +91,16 @@ IsNotWritten old new Unfinished = ⊥
 IsNotWritten old new Version = ⊥
 IsNotWritten old new Malformed = ⊥
 
+-- how many pages a refused call wanted for which the store had no room
+abbrev pub wanted : CatalogueFault → ℕ
+wanted Memory = 0
+wanted Store = 0
+wanted StoreFull = 1
+wanted (Damaged page) = 0
+wanted Unfinished = 0
+wanted Version = 0
+wanted Malformed = 0
+
 -- these bytes are put at the end of a text, of which some pages may be written
 pub record Puts (bytes : List ℕ) (old new : Cache) (w v : WriterView)
     (result : Result (Unit {0}) CatalogueFault) : Type 0 where
@@ -99,6 +110,8 @@ pub record Puts (bytes : List ℕ) (old new : Cache) (w v : WriterView)
   pub tree : (text : List ℕ) → Holds old w text → SparesTree old new
   pub reuses : OnOk result (Reuses old w.pages w.earlier new v.pages v.earlier)
   pub caused : IfErr result (IsCaused old new)
+  pub within : IfErr result (λ fault. (text : List ℕ) → Holds old w text
+      → StaysWithin (pages_for (text ++ bytes)) old w.pages w.earlier new (wanted fault))
 
 -- and they are refused for want of memory or by the store alone
 pub record Saves (bytes : List ℕ) (old new : Cache) (w v : WriterView)

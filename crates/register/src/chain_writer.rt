@@ -7,7 +7,7 @@ ghost use Rattle.tbtree.specs.Passes.{Passes, KeepsLength};
 ghost use Rattle.indexmap.specs.IndexSet.{insert_key, contains, spare};
 ghost use Rattle.pages.specs.declared.payload.Payload.{Payload};
 ghost use Rattle.register.specs.Chain.{next_in, part_payload};
-ghost use Rattle.register.specs.ChainSteps.{AreNumbers, Fills, IsAhead, IsNumber, IsPutBehind, Gives, IsThere, OnlyAsks, PayloadsStay, Reuses};
+ghost use Rattle.register.specs.ChainSteps.{lacked, AreNumbers, Fills, IsAhead, IsNumber, IsPutBehind, Gives, IsThere, OnlyAsks, PayloadsStay, Reuses, StaysWithin};
 ghost use Rattle.register.specs.Saved.{SparesTree};
 ghost use Rattle.register.specs.ChainWriter.{IsAllowed, IsCaused};
 
@@ -128,6 +128,7 @@ fn following<S: PageStore>(cache: &mut PageCache<S>, page: u32) -> Result<Option
         → o ≡ Some (next_in payload)) }
     ensures only { IfErr result IsAllowed }
     ensures caused { IfErr result (IsCaused cache.old cache.new) }
+    ensures room { IfErr result (λ fault. lacked fault ≡ 0) }
 {
     match cache.page(page) {
         Ok(payload) => Ok(next_of(payload)),
@@ -175,6 +176,7 @@ fn add_above<S: PageStore>(cache: &mut PageCache<S>) -> Result<u32, CacheFault>
     ensures gives { IfOk result (λ page. Gives cache.old page cache.new) }
     ensures new { IfOk result (λ page. cache.old.count ≤ page) }
     ensures one { OnOk result (0 < cache.old.count → cache.new.count ≡ cache.old.count + 1) }
+    ensures none { OnErr result (0 < cache.old.count → cache.new.count ≡ cache.old.count) }
     ensures passes { Passes cache.old cache.new }
     ensures tree { SparesTree cache.old cache.new }
     ensures only { IfErr result IsAllowed }
@@ -208,6 +210,7 @@ fn reused<S: PageStore>(
     ensures tree { SparesTree cache.old cache.new }
     ensures only { IfErr result IsAllowed }
     ensures caused { IfErr result (IsCaused cache.old cache.new) }
+    ensures room { IfErr result (λ fault. lacked fault ≡ 0) }
 {
     if earlier == 0 || pages.contains(&earlier) {
         return Ok(None);
@@ -227,6 +230,8 @@ fn next_page<S: PageStore>(
         → contains nat_eq pages.now r.0 ≡ false) }
     ensures reuses { IfOk result (λ r. Reuses cache.old pages.now.keys earlier
         cache.new (pages.now.keys ++ r.0 ∷ []) r.1) }
+    ensures within { IfErr result (λ fault. StaysWithin (length pages.now.keys + 1)
+        cache.old pages.now.keys earlier cache.new (lacked fault)) }
     ensures passes { Passes cache.old cache.new }
     ensures tree { SparesTree cache.old cache.new }
     ensures only { IfErr result IsAllowed }
@@ -263,6 +268,8 @@ fn take_page<S: PageStore>(
     ensures same { OnErr result (pages.new.keys ≡ pages.old.keys) }
     ensures reuses { IfOk result (λ r. Reuses cache.old pages.old.keys earlier
         cache.new pages.new.keys r.1) }
+    ensures within { IfErr result (λ fault. StaysWithin (length pages.old.keys + 1)
+        cache.old pages.old.keys earlier cache.new (lacked fault)) }
     ensures passes { Passes cache.old cache.new }
     ensures tree { SparesTree cache.old cache.new }
     ensures only { IfErr result IsAllowed }
@@ -280,8 +287,8 @@ impl ChainWriter {
     ghost use Rattle.std.specs.Prelude.{List, ℕ, [], All, ◌≡◌, ◌+◌, ◌-◌, ◌*◌, ◌<◌, ◌≤◌, ◌++◌, OnOk, OnErr, IfOk, IfErr, IsTrue, length, slice_index};
     ghost use Rattle.std.specs.Int.{div_ceil};
     ghost use Rattle.tbtree.specs.Passes.{Passes, KeepsLength};
-    ghost use Rattle.register.specs.Chain.{most_used};
-    ghost use Rattle.register.specs.ChainSteps.{behind, IsAhead, IsNumber, Reuses, TakesFew};
+    ghost use Rattle.register.specs.Chain.{most_used, pages_for};
+    ghost use Rattle.register.specs.ChainSteps.{behind, lacked, IsAhead, IsNumber, Reuses, StaysWithin, TakesFew};
     ghost use Rattle.register.specs.Saved.{SparesTree};
     ghost use Rattle.register.specs.ChainWriter.{HasText, Holds, IsAllowed, IsCaused};
 
@@ -297,6 +304,8 @@ impl ChainWriter {
         ensures text { IfOk result (λ w. w.text ≡ []) }
         ensures reuses { IfOk result (λ w. Reuses cache.old [] earlier
             cache.new w.pages w.earlier) }
+        ensures within { IfErr result (λ fault. StaysWithin 1 cache.old [] earlier cache.new
+            (lacked fault)) }
         ensures passes { Passes cache.old cache.new }
         ensures length { OnOk result (KeepsLength cache.old cache.new) }
         ensures tree { SparesTree cache.old cache.new }
@@ -351,6 +360,8 @@ impl ChainWriter {
             → Holds cache.new (behind (done + 4040) self.new) text) }
         ensures reuses { OnOk result (Reuses cache.old self.old.pages self.old.earlier
             cache.new self.new.pages self.new.earlier) }
+        ensures within { IfErr result (λ fault. StaysWithin (length self.old.pages + 1)
+            cache.old self.old.pages self.old.earlier cache.new (lacked fault)) }
         ensures passes { Passes cache.old cache.new }
         ensures length { OnOk result (KeepsLength cache.old cache.new) }
         ensures tree { (text : List ℕ) → Holds cache.old (behind done self.old) text
@@ -382,6 +393,9 @@ impl ChainWriter {
         ensures short { OnOk result (length self.new.text ≤ 4040) }
         ensures reuses { OnOk result (Reuses cache.old self.old.pages self.old.earlier
             cache.new self.new.pages self.new.earlier) }
+        ensures within { IfErr result (λ fault. (text : List ℕ) → Holds cache.old self.old text
+            → StaysWithin (pages_for text) cache.old self.old.pages self.old.earlier cache.new
+            (lacked fault)) }
         ensures passes { Passes cache.old cache.new }
         ensures length { OnOk result (KeepsLength cache.old cache.new) }
         ensures tree { (text : List ℕ) → Holds cache.old self.old text
@@ -426,10 +440,11 @@ impl ChainWriter {
             → HasText cache.new r.1 r.0 text
             × (r.1 ≡ length text) × (0 < r.0) × (r.0 < cache.new.count)
             × (div_ceil r.1 most_used ≤ cache.new.count)) }
-        ensures pages { OnOk result ((text : List ℕ) → Holds cache.old self.now text
+        ensures pages { (text : List ℕ) → Holds cache.old self.now text
             → 0 < length text → IsTrue cache.old.store.is_faithful
-            → div_ceil (length text) most_used ≡ length self.now.pages) }
-        ensures count { OnOk result (cache.new.count ≡ cache.old.count) }
+            → div_ceil (length text) most_used ≡ length self.now.pages }
+        ensures count { cache.new.count ≡ cache.old.count }
+        ensures room { IfErr result (λ fault. lacked fault ≡ 0) }
         ensures passes { Passes cache.old cache.new }
         ensures length { OnOk result (KeepsLength cache.old cache.new) }
         ensures tree { (text : List ℕ) → Holds cache.old self.now text
@@ -460,6 +475,9 @@ impl ChainWriter {
             → IsAhead cache.old self.pages self.earlier pages → TakesFew
             (div_ceil (length text) most_used) (length self.pages) (length pages)
             cache.old.count cache.new.count) }
+        ensures within { IfErr result (λ fault. (text : List ℕ) → Holds cache.old self text
+            → 0 < length text → StaysWithin (pages_for text) cache.old self.pages self.earlier
+            cache.new (lacked fault)) }
         ensures passes { Passes cache.old cache.new }
         ensures length { OnOk result (KeepsLength cache.old cache.new) }
         ensures tree { (text : List ℕ) → Holds cache.old self text

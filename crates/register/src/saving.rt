@@ -5,7 +5,7 @@ ghost use Rattle.pages.specs.Store.{IsSynced};
 ghost use Rattle.pagecache.specs.Cache.{is_changed, page_of, payload_of, IsClean, IsWritten, Rests, SameLength, KeepsPayloads};
 ghost use Rattle.pages.specs.declared.payload.Payload.{Payload};
 ghost use Rattle.tbnode.specs.Parts.{number_at};
-ghost use Rattle.register.specs.Chain.{most_used};
+ghost use Rattle.register.specs.Chain.{most_used, pages_for};
 ghost use Rattle.register.specs.ChainWriter.{HasText, Holds};
 ghost use Rattle.register.specs.Lasting.{Says};
 ghost use Rattle.chains.specs.Reads.{OnlyReads};
@@ -15,10 +15,10 @@ ghost use Rattle.byteorder.specs.Endian.{big_bytes};
 ghost use Rattle.legs.specs.Limits.{IsLimits};
 ghost use Rattle.tbtree.specs.Shape.{IsShape};
 ghost use Rattle.register.specs.Fields.{FitsFields};
-ghost use Rattle.register.specs.ChainSteps.{IsAhead};
-ghost use Rattle.register.specs.Earlier.{AddsFew, AreEarlier};
+ghost use Rattle.register.specs.ChainSteps.{IsAhead, StaysWithin};
+ghost use Rattle.register.specs.Earlier.{AddsFew, AreEarlier, HasNoRoom};
 ghost use Rattle.register.specs.Saved.{dimension_of, fields_for, head_of, Continues, IsWrittenButFirst, KeepsFront, SparesTree};
-ghost use Rattle.register.specs.Saving.{contents_of, end_of, feature_at, features_of, HasFew, HasPageZero, IsSavingStop, IsCatalogue, IsCaused, IsNotWritten, KeepsTree, Puts, PutsFields, Saves};
+ghost use Rattle.register.specs.Saving.{contents_of, end_of, feature_at, features_of, wanted, HasFew, HasPageZero, IsSavingStop, IsCatalogue, IsCaused, IsNotWritten, KeepsTree, Puts, PutsFields, Saves};
 ghost use Rattle.register.specs.declared.fault.CatalogueFault.TheVariants.{Malformed};
 ghost use Rattle.register.specs.Text.{catalogue_text, feature_text, features_text, head_text, lists_text, row_text, rows_text, HasFeatures, IsFeature, IsHead, IsNumber, IsShortText, IsWhole};
 
@@ -275,6 +275,7 @@ fn earlier_page<S: PageStore>(cache: &mut PageCache<S>) -> Result<u32, Catalogue
     ensures only { IsTrue cache.old.store.is_faithful → 0 < cache.old.count
         → HasPageZero cache.old → IfErr result IsSavingStop }
     ensures caused { IfErr result (IsCaused cache.old cache.new) }
+    ensures room { IfErr result (λ fault. wanted fault ≡ 0) }
 {
     match cache.page(0) {
         Ok(payload) => Ok(u32_at(&payload.bytes, 44)),
@@ -298,6 +299,7 @@ fn write_fields<S: PageStore>(
     ensures only { IsTrue cache.old.store.is_faithful → 0 < cache.old.count
         → HasPageZero cache.old → IfErr result IsSavingStop }
     ensures caused { IfErr result (IsCaused cache.old cache.new) }
+    ensures room { IfErr result (λ fault. wanted fault ≡ 0) }
 {
     match cache.page_mut(0) {
         Ok(payload) => {
@@ -327,6 +329,9 @@ fn write_chain<S: PageStore>(
     ensures takes { OnOk result ((pages : List ℕ) → IsAhead cache.old [] earlier pages
         → AddsFew cache.old.count (catalogue_text (contents_of catalogue.now places.now)) pages
         cache.new.count) }
+    ensures within { IfErr result (λ fault. StaysWithin
+        (pages_for (catalogue_text (contents_of catalogue.now places.now)))
+        cache.old [] earlier cache.new (wanted fault)) }
     ensures whole { OnOk result (IsCatalogue catalogue.now
         → IsWhole (contents_of catalogue.now places.now)) }
     ensures only { HasFew catalogue.now → IsTrue cache.old.store.is_faithful
@@ -381,6 +386,9 @@ fn write_whole<S: PageStore>(
     ensures takes { OnOk result ((pages : List ℕ) → IsAhead cache.old [] earlier pages
         → AddsFew cache.old.count (catalogue_text (contents_of catalogue.now places.now)) pages
         cache.new.count) }
+    ensures within { IfErr result (λ fault. StaysWithin
+        (pages_for (catalogue_text (contents_of catalogue.now places.now)))
+        cache.old [] earlier cache.new (wanted fault)) }
     ensures whole { OnOk result (IsCatalogue catalogue.now
         → IsWhole (contents_of catalogue.now places.now)) }
     ensures written { OnOk result (IsClean cache.new) }
@@ -452,9 +460,13 @@ pub fn keep<S: PageStore>(
     ensures later { Continues cache.old cache.new }
     ensures tree { SparesTree cache.old cache.new }
     ensures length { OnOk result (KeepsLength cache.old cache.new) }
-    ensures takes { OnOk result (IsTrue cache.old.store.is_faithful → (pages : List ℕ)
+    ensures takes { IsTrue cache.old.store.is_faithful → (pages : List ℕ)
         → AreEarlier (payload_of cache.old) pages → AddsFew cache.old.count
-        (catalogue_text (contents_of catalogue.now places.now)) pages cache.new.count) }
+        (catalogue_text (contents_of catalogue.now places.now)) pages cache.new.count }
+    ensures full { IsErrOf result CatalogueFault.StoreFull → IsTrue cache.old.store.is_faithful
+        → (pages : List ℕ) → AreEarlier (payload_of cache.old) pages
+        → HasNoRoom cache.old.count cache.old.store.most
+        (catalogue_text (contents_of catalogue.now places.now)) pages }
     ensures written { OnOk result (IsWrittenButFirst cache.new) }
     ensures synced { OnOk result (IsSynced cache.new.store) }
     ensures only { HasFew catalogue.now → IsTrue cache.old.store.is_faithful

@@ -1,3 +1,5 @@
+use Rattle.catalogue.specs.Finishing.{IsNotFinished}
+use Rattle.std.specs.Prelude.{IfErr}
 use Rattle.std.proofs.Common.{◌≡◌, ◌∙◌, [], ap, inl, inr, refl, sym, subst, arith, IsTrue, Some, Result, Ok, Err, OnOk}
 use Rattle.std.proofs.lemmas.Result.{err_from_is_err_and}
 use Rattle.timebase.specs.Instant.{IsMoment}
@@ -9,7 +11,7 @@ use Rattle.boxsearch.specs.Index.{content, IndexView, IsMarked, IsSound}
 use Rattle.catalogue.specs.Closing.{IsNoStoreFault}
 use Rattle.catalogue.specs.Holding.{HoldsBook, HoldsButFirst, IsOfBook, IsUnfinishedStore}
 use Rattle.register.specs.Saved.{CatalogueView}
-use Rattle.register.specs.Earlier.{AddsFew, AreEarlier}
+use Rattle.register.specs.Earlier.{AddsFew, AreEarlier, HasNoRoom}
 use Rattle.register.specs.Saving.{contents_of, IsSavingStop}
 use Rattle.register.specs.Text.{catalogue_text}
 use Rattle.catalogue.proofs.CloseLemmas.{closed_holds, front_unfinished, front_unwritten, of_catalogue, of_few, of_lawful, of_within, only_memory, says_stored, still_says, PlaceLaws}
@@ -143,3 +145,22 @@ returns-clause-takes g c =
       any_ok : {T E P : Type 0} (r : Result T E) → P → OnOk r P
       any_ok (Ok x) h = h
       any_ok (Err e) h = tt
+
+pub returns-in_err-save-clause-full : goal.returns-in_err-save-clause-full
+returns-in_err-save-clause-full g c = λ full faithful pages earlier.
+    let p = err_from_is_err_and c.from_residual.result c.from_residual.ensures.1 in
+    let i = c.settled.new.index in
+    let j = c.save.new.index in
+    let was = c.args.index.now in
+    let catalogue = c.args.catalogue.now in
+    let same : i ≡ with_cache was was.cache [] = c.settled.ensures.same in
+    let fi = subst (λ (x : IndexView). IsTrue x.cache.store.is_faithful) (sym same) faithful in
+    let places : j.places ≡ was.places = ap (λ (x : IndexView). x.places) c.save.ensures.same ∙ ap (λ (x : IndexView). x.places) same in
+    let none = c.in_err-save.ensures.full (ap Err (sym p.2) ∙ sym p.1 ∙ full) fi pages (subst (λ (x : IndexView). AreEarlier (payload_of x.cache) pages) (sym same) earlier) in
+    subst (λ l. HasNoRoom was.cache.count was.cache.store.most (catalogue_text (contents_of catalogue l)) pages) places
+    (subst (λ (x : IndexView). HasNoRoom x.cache.count x.cache.store.most (catalogue_text (contents_of catalogue j.places)) pages) same none)
+
+pub returns-clause-full : goal.returns-clause-full
+returns-clause-full g c = λ full faithful pages earlier.
+    let caused = subst (λ r. IfErr r (IsNotFinished c.save.new.index.cache c.finish.new.index.cache)) full c.finish.ensures.caused in
+    absurd caused

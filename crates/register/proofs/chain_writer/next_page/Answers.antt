@@ -1,9 +1,12 @@
-use Rattle.std.proofs.Common.{◌≡◌, ◌≤◌, ◌<◌, ◌+◌, ◌∙◌, ap, arith, subst, sym, IsTrue, Some}
+use Rattle.register.proofs.WithinLemmas.{lacked_one, within_none, within_same}
+use Rattle.register.proofs.ReaderLemmas.{if_err_of}
+use Rattle.std.proofs.lemmas.Result.{err_from_is_err_and}
+use Rattle.std.proofs.Common.{◌≡◌, ◌≤◌, ◌<◌, ◌+◌, ◌∙◌, ap, arith, subst, sym, IsTrue, Some, length}
 use Rattle.std.specs.Prelude.{IfSome}
 use Rattle.pages.specs.declared.payload.Payload.{Payload}
 use Rattle.pagecache.specs.Cache.{payload_of}
 use Rattle.register.specs.Chain.{next_in}
-use Rattle.register.specs.ChainSteps.{Gives}
+use Rattle.register.specs.ChainSteps.{Gives, lacked, StaysWithin}
 use Rattle.register.proofs.ReuseLemmas.{reuses_none, reuses_page}
 use Rattle.register.proofs.WriterLemmas.{not_among}
 use Rattle.register.proofs.chain_writer.next_page.Goals as goal
@@ -35,3 +38,15 @@ returns-in_ok-page-in-None-clause-reuses g c =
     let same = c.reused.ensures.count in
     reuses_none a d c.args.pages.now.keys c.args.earlier (c.add_above.ensures.passes.store.faithful ∙ c.reused.ensures.passes.store.faithful) c.in_ok-page-in-None.page 0 (c.in_ok-next.ensures.none c.in-None.is)
     (λ some. ok.one (subst (λ n. 0 < n) (sym same) some) ∙ ap (λ n. n + 1) same) ok.gives.below
+
+pub returns-in_err-page-in-None-clause-within : goal.returns-in_err-page-in-None-clause-within
+returns-in_err-page-in-None-clause-within g c =
+    let p = err_from_is_err_and c.from_residual-in_err-page-in-None.result c.from_residual-in_err-page-in-None.ensures.1 in
+    let a = c.args.cache.now in
+    let d = c.add_above.new.cache in
+    let keys = c.args.pages.now.keys in
+    let same = c.reused.ensures.count in
+    let fault = c.in_err-page-in-None.field-0.0 in
+    if_err_of (λ e. StaysWithin (length keys + 1) a keys c.args.earlier d (lacked e)) c.from_residual-in_err-page-in-None.result p.0 fault p.1 p.2
+    (within_none a d keys c.args.earlier (lacked fault) (c.in_ok-next.ensures.none c.in-None.is)
+    (λ some. c.in_err-page-in-None.ensures.none (subst (λ n. 0 < n) (sym same) some) ∙ same) (lacked_one fault))

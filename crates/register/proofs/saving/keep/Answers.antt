@@ -1,8 +1,10 @@
-use Rattle.std.proofs.Common.{List, ℕ, [], ◌∙◌, refl, sym, subst, Result, Ok, Err, OnOk, ⊎_elim}
-use Rattle.register.proofs.ReaderLemmas.{on_ok}
+use Rattle.register.proofs.WithinLemmas.{either, full_is, no_full, no_more, within_few, within_full}
+use Rattle.std.proofs.lemmas.Result.{err_from_is_err_and}
+use Rattle.std.proofs.Common.{List, ℕ, [], ◌∙◌, refl, sym, subst, Result, Ok, Err, OnOk, ⊎_elim, ◌≡◌, ap}
+use Rattle.register.proofs.ReaderLemmas.{on_ok, if_err_of}
 use Rattle.register.proofs.ReuseLemmas.{ahead_reads, begun_ahead}
 use Rattle.register.specs.Earlier.{AddsFew}
-use Rattle.register.specs.Saving.{contents_of}
+use Rattle.register.specs.Saving.{contents_of, wanted}
 use Rattle.register.specs.Text.{catalogue_text}
 use Rattle.register.proofs.SaveLemmas.{all_spare, keeps_front, not_zero, puts_length, says}
 use Rattle.register.proofs.saving.keep.Goals as goal
@@ -56,13 +58,41 @@ returns-clause-synced g c =
     on_ok c.write_fields.result (λ puts. ⊎_elim (λ e. e ∙ c.in_ok-first.ensures.synced) (λ e. e) (puts.lends.unsynced.clean c.in_ok-first.ensures.written)) c.write_fields.ensures.puts
 
 pub returns-clause-takes : goal.returns-clause-takes
-returns-clause-takes g c =
+returns-clause-takes g c = λ fa es are.
     let a = c.args.cache.now in
     let b = c.earlier_page.new.cache in
-    let d = c.write_fields.new.cache in
+    let x = c.write_whole.new.cache in
     let earlier = c.in_ok-earlier.earlier in
     let reads = c.earlier_page.ensures.reads in
     let text : List ℕ = catalogue_text (contents_of c.args.catalogue.now c.args.places.now) in
-    on_ok c.write_fields.result (λ puts fa es are.
     let ahead = ahead_reads a b [] earlier es reads (begun_ahead a earlier es fa c.in_ok-earlier.ensures.some c.in_ok-earlier.ensures.first are) in
-    subst (λ n. AddsFew n text es d.count) reads.count (subst (λ n. AddsFew b.count text es n) (sym puts.lends.writes.count) (c.in_ok-first.ensures.takes es ahead))) c.write_fields.ensures.puts
+    let d = c.write_fields.new.cache in
+    let count : d.count ≡ x.count = either c.write_fields.result (λ puts. puts.lends.writes.count) (λ rests. rests.stays.count) c.write_fields.ensures.puts c.write_fields.ensures.rests in
+    subst (λ n. AddsFew n text es d.count) reads.count (subst (λ n. AddsFew b.count text es n) (sym count) (c.in_ok-first.ensures.takes es ahead))
+
+pub returns-clause-full : goal.returns-clause-full
+returns-clause-full g c = λ full fa es are. absurd (no_full c.write_fields.result full c.write_fields.ensures.room)
+
+pub returns-in_err-first-clause-takes : goal.returns-in_err-first-clause-takes
+returns-in_err-first-clause-takes g c = λ fa es are.
+    let a = c.args.cache.now in
+    let b = c.earlier_page.new.cache in
+    let x = c.write_whole.new.cache in
+    let earlier = c.in_ok-earlier.earlier in
+    let reads = c.earlier_page.ensures.reads in
+    let text : List ℕ = catalogue_text (contents_of c.args.catalogue.now c.args.places.now) in
+    let ahead = ahead_reads a b [] earlier es reads (begun_ahead a earlier es fa c.in_ok-earlier.ensures.some c.in_ok-earlier.ensures.first are) in
+    within_few text a b x earlier (wanted c.in_err-first.field-0.0) es reads.count ahead c.in_err-first.ensures.within
+
+pub returns-in_err-first-clause-full : goal.returns-in_err-first-clause-full
+returns-in_err-first-clause-full g c = λ full fa es are.
+    let p = err_from_is_err_and c.from_residual-in_err-first.result c.from_residual-in_err-first.ensures.1 in
+    let a = c.args.cache.now in
+    let b = c.earlier_page.new.cache in
+    let x = c.write_whole.new.cache in
+    let earlier = c.in_ok-earlier.earlier in
+    let reads = c.earlier_page.ensures.reads in
+    let text : List ℕ = catalogue_text (contents_of c.args.catalogue.now c.args.places.now) in
+    let ahead = ahead_reads a b [] earlier es reads (begun_ahead a earlier es fa c.in_ok-earlier.ensures.some c.in_ok-earlier.ensures.first are) in
+    let fault = c.in_err-first.field-0.0 in
+    within_full text a b x earlier es fault (full_is c.from_residual-in_err-first.result p.0 fault p.1 p.2 full) reads.count (c.write_whole.ensures.kept.passes.store.most ∙ reads.store.most) c.in_err-first.ensures.caused ahead c.in_err-first.ensures.within
