@@ -97,14 +97,14 @@ fn gives_few(
 
 /// Whether it does so of each feature in periods all over, while random legs come file by file.
 fn is_sieved(alloc: Global, features: u32) -> Option<bool> {
-    let legs = feed(alloc, 800, features)?;
+    let legs = feed(alloc, 300, features)?;
     let mut index = empty(alloc, Shape::new(3, 5)?, u64::MAX, true)?;
     let mut list = ListIndex::new(alloc);
-    for file in legs.chunks(300) {
+    for file in legs.chunks(100) {
         index.add_all(file).ok()?;
         list.add_all(file).ok()?;
         for number in 0..20u32 {
-            let start = i64::from(number.wrapping_mul(7_919) % 900).wrapping_mul(1_000);
+            let start = i64::from(number.wrapping_mul(7_919) % 320).wrapping_mul(1_000);
             let period = period(start, start.wrapping_add(50_000))?;
             if !gives_few(&mut index, &mut list, number % features.max(1), &period)? {
                 return Some(false);
