@@ -19,7 +19,7 @@ use Rattle.register.specs.Chain.{pages_for}
 use Rattle.register.specs.ChainSteps.{lacked, Reuses, StaysWithin}
 use Rattle.register.specs.ChainWriter.{Holds, IsAllowed, WriterView, IsCaused as IsCausedThere}
 use Rattle.register.proofs.ReuseLemmas.{reuses_refl, reuses_then}
-use Rattle.register.proofs.WithinLemmas.{pages_for_more, pages_more, wanted_same, within_held, within_more, within_same}
+use Rattle.register.proofs.WithinLemmas.{pages_for_more, pages_more, wanted_same, within_held, within_more}
 use Rattle.std.specs.Option.{option_map}
 use Rattle.legs.specs.declared.head.BookHead.{BookHead}
 use Rattle.tbtree.specs.declared.tree.Place.{Place}
@@ -123,18 +123,6 @@ puts_then first second a b c w v u (Err e) p q = record {
       (within_held (pages_for ((text ++ first) ++ second)) a b c w v (wanted e) text (text ++ first) p.passes.store.faithful p.reuses h (p.holds text h) (pages_for_more (text ++ first) second) (q.within (text ++ first) (p.holds text h)));
 }
 
--- nothing is written
-pub refused_puts : (bytes : List ℕ) (a : Cache) (w v : WriterView) (e : CatalogueFault) → wanted e ≡ 0 → IsCaused a a e → Puts bytes a a w v (Err e)
-refused_puts bytes a w v e none caused = record {
-  passes = passes_refl a;
-  holds = tt;
-  length = tt;
-  tree = λ text h f. same_tree_refl (pages_of_cache a);
-  reuses = tt;
-  caused = caused;
-  within = λ text h. within_same (pages_for (text ++ bytes)) a a w.pages w.earlier (wanted e) refl none;
-}
-
 -- what is refused is refused in a longer text
 pub puts_longer : (some all : List ℕ) (a b : Cache) (w v : WriterView) (e : CatalogueFault) → length some ≤ length all → Puts some a b w v (Err e) → Puts all a b w v (Err e)
 puts_longer some all a b w v e less p = record {
@@ -152,9 +140,6 @@ puts_longer some all a b w v e less p = record {
 
 pub saves_longer : (some all : List ℕ) (a b : Cache) (w v : WriterView) (r : Result (Unit {0}) CatalogueFault) (f e : CatalogueFault) → r ≡ Err f → f ≡ e → length some ≤ length all → Saves some a b w v (Err e) → Saves all a b w v r
 saves_longer some all a b w v r f e is same less s = subst (λ r. Saves all a b w v r) (sym (is ∙ ap Err same)) (record { puts = puts_longer some all a b w v e less s.puts; only = s.only })
-
-pub refused_saves : (bytes : List ℕ) (a : Cache) (w v : WriterView) (r : Result (Unit {0}) CatalogueFault) (e : CatalogueFault) → r ≡ Err e → e ≡ Memory → Saves bytes a a w v r
-refused_saves bytes a w v r e is memory = subst (λ r. Saves bytes a a w v r) (sym (is ∙ ap Err memory)) (record { puts = refused_puts bytes a w v Memory refl tt; only = λ text h f. tt })
 
 allowed_saving : (e : CacheFault) → IsAllowed e → IsSavingStop (fault_of e)
 allowed_saving cache.NoPage h = h

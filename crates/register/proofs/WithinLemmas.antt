@@ -12,9 +12,9 @@ use Rattle.register.specs.ChainReader.{fault_of}
 use Rattle.register.specs.ChainSteps.{lacked, IsAhead, IsPutBehind, Reuses, StaysWithin}
 use Rattle.register.specs.ChainWriter.{AreWritten, Holds, HoldsText, WriterView}
 use Rattle.register.specs.Earlier.{AddsFew, HasNoRoom}
-use Rattle.register.specs.Saving.{wanted, IsCaused, IsNotWritten}
+use Rattle.register.specs.Saving.{wanted, IsCaused}
 use Rattle.register.specs.declared.fault.CatalogueFault.{CatalogueFault}
-use Rattle.register.specs.declared.fault.CatalogueFault.TheVariants.{Memory, Store, StoreFull, Damaged, Unfinished, Version, Malformed}
+use Rattle.register.specs.declared.fault.CatalogueFault.TheVariants.{StoreFull}
 use Rattle.register.proofs.ChainLemmas.{written_length}
 
 -- a page that is refused was not wanted for a place in the store
@@ -133,32 +133,14 @@ within_held all a b c w v k first text same reuses h held less within pages ahea
     (held_pages (payload_of b) b.count v.pages v.earlier v.text text (held (same ∙ ahead.faithful)))
 
 -- where none was taken
-pub begun_within : (text : List ℕ) (a b : Cache) (earlier k : ℕ) → 0 < length text → StaysWithin 1 a [] earlier b k → StaysWithin (pages_for text) a [] earlier b k
-begun_within text a b earlier k some within =
-    within_more 1 (pages_for text) a b [] earlier k (pages_reach 0 (length text) (length text) some (omega arith)) within
-
 pub within_text : (first text : List ℕ) (a x d : Cache) (v : WriterView) (earlier k : ℕ) → 0 < length text → pages_for first ≤ pages_for text → x.store.is_faithful ≡ a.store.is_faithful → Reuses a [] earlier x v.pages v.earlier → Holds x v first
     → StaysWithin (pages_for text) x v.pages v.earlier d k → StaysWithin (pages_for text) a [] earlier d k
 within_text first text a x d v earlier k some less same reuses held within pages ahead =
     let one = pages_reach 0 (length text) (length text) some (omega arith) in
     ⊎_elim
-        (λ few. within_after (pages_for text) a x d [] v.pages earlier v.earlier k reuses (omega (arith, one, few)) within pages ahead)
-        (λ few. within_after (pages_for text) a x d [] v.pages earlier v.earlier k reuses (omega (arith, less, few)) within pages ahead)
-        (held_pages (payload_of x) x.count v.pages v.earlier v.text first (held (same ∙ ahead.faithful)))
-
-pub unwritten_room : (a b : Cache) (e : CatalogueFault) → IsNotWritten a b e → wanted e ≡ 0
-unwritten_room a b Memory h = refl
-unwritten_room a b Store h = refl
-unwritten_room a b StoreFull h = absurd h
-unwritten_room a b (Damaged n) h = refl
-unwritten_room a b Unfinished h = refl
-unwritten_room a b Version h = refl
-unwritten_room a b Malformed h = refl
-
-pub within_all : (text : List ℕ) (a x d : Cache) (earlier k : ℕ) → d.count ≡ x.count → k ≡ 0 → ((pages : List ℕ) → IsAhead a [] earlier pages → AddsFew a.count text pages x.count) → StaysWithin (pages_for text) a [] earlier d k
-within_all text a x d earlier k same none takes pages ahead =
-    let n = takes pages ahead in
-    omega (arith, same, none, n)
+    (λ few. within_after (pages_for text) a x d [] v.pages earlier v.earlier k reuses (omega (arith, one, few)) within pages ahead)
+    (λ few. within_after (pages_for text) a x d [] v.pages earlier v.earlier k reuses (omega (arith, less, few)) within pages ahead)
+    (held_pages (payload_of x) x.count v.pages v.earlier v.text first (held (same ∙ ahead.faithful)))
 
 -- so few pages were added
 pub within_few : (text : List ℕ) (a b d : Cache) (earlier k : ℕ) (pages : List ℕ) → b.count ≡ a.count → IsAhead b [] earlier pages → StaysWithin (pages_for text) b [] earlier d k → AddsFew a.count text pages d.count
@@ -189,6 +171,3 @@ full_is r f e is same full = sym same ∙ ap (error_of f) (sym is ∙ full)
 pub either : {T E P Q R : Type 0} (r : Result T E) → (P → R) → (Q → R) → OnOk r P → OnErr r Q → R
 either (Ok x) f g p q = f p
 either (Err e) f g p q = g q
-
-pub no_more : (a b : ℕ) (text pages : List ℕ) → b ≡ a → AddsFew a text pages b
-no_more a b text pages same = omega (arith, same)

@@ -1,6 +1,7 @@
 -- A database that lasts between runs.
+use Rattle.trajdb.specs.declared.RunFault.{RunFault}
 use Rattle.std.proofs.Common.{ℕ, Bool, Option, ◌≡◌, refl, sym, ap, ◌∙◌, arith, subst, true, false, Result, Ok, Err, IsTrue}
-use Rattle.std.specs.Prelude.{◌⊎◌, IfErr, OnErr, OnOk}
+use Rattle.std.specs.Prelude.{◌⊎◌, IfErr, OnErr, OnOk, IsErrOf}
 use Rattle.legs.specs.Book.{Book}
 use Rattle.legs.specs.Costs.{ShapeView}
 use Rattle.legs.specs.Law.{IsBook}
@@ -25,7 +26,7 @@ use Rattle.trajdb.specs.Database.{catalogue_of, restored}
 use Rattle.trajdb.specs.Db.{DbView, HasPages, IsSoundDb}
 use Rattle.trajdb.specs.Db.{IsAllowed as IsAllowedOpening}
 use Rattle.trajdb.specs.Faults.{closed_answer, opened_fault_of}
-use Rattle.trajdb.specs.Lasting.{HasBook, IsFaultless, IsIdle, IsNamedAtOpen, IsStop, IsTrulyDamaged, TakesFew}
+use Rattle.trajdb.specs.Lasting.{HasBook, IsFaultless, IsIdle, IsNamedAtOpen, IsStop, IsTrulyDamaged, TakesFew, IsTooFull}
 
 -- a book that is answered is that of the database
 pub opened_book : (shape : ShapeView) (limits : LimitsView) (book : Book) (c : CatalogueView) (index : IndexView) (begun : Bool) (db : DbView) → db ≡ restored words c index begun → IsLimits db.limits → AnswersBook shape limits book c index → HasBook shape limits book db
@@ -127,6 +128,17 @@ pub rest_takes : (db : DbView) (s : Store) → s ≡ db.index.cache.store → Ta
 rest_takes db s e faithful count pages earlier =
     let n = ap (λ (s : Store). s.count) e in
     omega (arith, count, n)
+
+-- a full store that is said to be so has no room
+pub closed_full : (db : DbView) (answer : Result (Unit {0}) CatalogueFault) → (IsErrOf answer CatalogueFault.StoreFull → IsTooFull db) → IsErrOf (closed_answer answer) RunFault.StoreFull → IsTooFull db
+closed_full db (Ok x) h e = absurd cc
+closed_full db (Err Memory) h e = absurd cc
+closed_full db (Err fault.Store) h e = absurd cc
+closed_full db (Err StoreFull) h e = h refl
+closed_full db (Err (Damaged page)) h e = absurd cc
+closed_full db (Err Unfinished) h e = absurd cc
+closed_full db (Err Version) h e = absurd cc
+closed_full db (Err Malformed) h e = absurd cc
 
 pub closed_ordered : (db : DbView) (s : Store) (answer : Result (Unit {0}) CatalogueFault) → OnErr answer (IsMarked db.index.cache → IsUnfinishedStore s ⊎ IsSyncedButFirst s)
     → OnErr (closed_answer answer) (db.failed ≡ false → IsMarked db.index.cache → IsUnfinishedStore s ⊎ IsSyncedButFirst s)

@@ -8,7 +8,7 @@ use Rattle.pages.specs.declared.payload.Payload.{Payload}
 use Rattle.boxsearch.specs.Index.{written, IndexView, IsMarked, IsSound as IsSoundIndex}
 use Rattle.catalogue.specs.Holding.{HoldsBook, IsAtRest, IsUnfinishedStore}
 use Rattle.pagecache.specs.Cache.{payload_of}
-use Rattle.register.specs.Earlier.{AddsFew, AreEarlier}
+use Rattle.register.specs.Earlier.{AddsFew, AreEarlier, HasNoRoom}
 use Rattle.register.specs.Lasting.{IsDamagedPage}
 use Rattle.register.specs.Saving.{contents_of}
 use Rattle.register.specs.Stopping.{KeepsNothing, ReadStopsAt}
@@ -122,6 +122,15 @@ TakesFew db left =
     → (pages : List ℕ) → AreEarlier (payload_of db.index.cache) pages
     → AddsFew db.index.cache.count
     (catalogue_text (contents_of (catalogue_of db) db.index.places)) pages left.count
+
+-- where the store is faithful, it has no room for the pages that the text of the database's catalogue
+-- takes beyond these of an earlier one
+abbrev pub IsTooFull : DbView → Type 0
+IsTooFull db =
+    IsTrue db.index.cache.store.is_faithful → (pages : List ℕ)
+    → AreEarlier (payload_of db.index.cache) pages
+    → HasNoRoom db.index.cache.count db.index.cache.store.most
+    (catalogue_text (contents_of (catalogue_of db) db.index.places)) pages
 
 -- a store has the pages that it had, and holds a book that it held, but for page 0 where it failed since
 pub record IsUnchanged (was now : Store) : Type 0 where

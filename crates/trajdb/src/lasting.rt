@@ -76,7 +76,7 @@ impl<I: Start> Core<I> {
 }
 
 impl<S: PageStore> Db<S> {
-    ghost use Rattle.std.specs.Prelude.{◌≡◌, ◌<◌, ◌⊎◌, IsTrue, IfErr, IfOk, List, MatchResult, OnErr, OnOk, None, Ok, Err, true, false};
+    ghost use Rattle.std.specs.Prelude.{◌≡◌, ◌<◌, ◌⊎◌, IsErrOf, IsTrue, IfErr, IfOk, List, MatchResult, OnErr, OnOk, None, Ok, Err, true, false};
     ghost use Rattle.legs.specs.Book.{Book};
     ghost use Rattle.legs.specs.Costs.{ShapeView};
     ghost use Rattle.legs.specs.Limits.{IsLimits, LimitsView};
@@ -91,7 +91,7 @@ impl<S: PageStore> Db<S> {
     ghost use Rattle.trajdb.specs.Calls.{IsLoadFault};
     ghost use Rattle.trajdb.specs.Database.{restored};
     ghost use Rattle.trajdb.specs.Db.{HasPages, IsSoundDb};
-    ghost use Rattle.trajdb.specs.Lasting.{ComesFirst, HasBook, IsClosingFault, IsFaultless, IsIdle, IsNamedAtOpen, IsOpeningFault, IsSafe, IsSafeStore, IsStop, IsTrulyDamaged, IsUnfinishedAnswer, TakesFew};
+    ghost use Rattle.trajdb.specs.Lasting.{ComesFirst, HasBook, IsClosingFault, IsFaultless, IsIdle, IsNamedAtOpen, IsOpeningFault, IsSafe, IsSafeStore, IsStop, IsTooFull, IsTrulyDamaged, IsUnfinishedAnswer, TakesFew};
     ghost use Rattle.trajdb.specs.declared.RunFault.{RunFault};
 
     /// Opens the database that a store keeps, with a cache of at most that many pages, at least 1. Nothing is written
@@ -192,6 +192,9 @@ impl<S: PageStore> Db<S> {
 
         // New pages are taken only for what its text needs beyond those of an earlier one.
         ensures takes { OnOk result.1 (TakesFew self (S.seen result.0)) }
+
+        // It is full only where it has no room for those.
+        ensures full { IsErrOf result.1 RunFault.StoreFull → IsTooFull self }
         ensures only { IfErr result.1 (λ fault. IsSoundDb self → self.failed ≡ false
             → IsLoadFault fault) }
         ensures unfinished { IfErr result.1

@@ -1,4 +1,4 @@
-use Rattle.register.proofs.WithinLemmas.{lacked_one, within_none, within_same}
+use Rattle.register.proofs.WithinLemmas.{lacked_one, within_none}
 use Rattle.register.proofs.ReaderLemmas.{if_err_of}
 use Rattle.std.proofs.lemmas.Result.{err_from_is_err_and}
 use Rattle.std.proofs.Common.{◌≡◌, ◌≤◌, ◌<◌, ◌+◌, ◌∙◌, ap, arith, subst, sym, IsTrue, Some, length}

@@ -1,5 +1,5 @@
 use Rattle.register.proofs.WithinLemmas.{refused_room, wanted_same}
-use Rattle.std.proofs.Common.{sym, subst, ap, ◌∙◌, ◌≡◌}
+use Rattle.std.proofs.Common.{sym, subst, ap, ◌∙◌}
 use Rattle.pagecache.specs.Cache.{Cache, IsRefused}
 use Rattle.register.specs.Saving.{IsSavingStop, wanted}
 use Rattle.register.proofs.ReaderLemmas.{the_error}

@@ -1,7 +1,7 @@
-use Rattle.register.proofs.WithinLemmas.{either, full_is, no_full, no_more, within_few, within_full}
+use Rattle.register.proofs.WithinLemmas.{either, full_is, no_full, within_few, within_full}
 use Rattle.std.proofs.lemmas.Result.{err_from_is_err_and}
-use Rattle.std.proofs.Common.{List, ℕ, [], ◌∙◌, refl, sym, subst, Result, Ok, Err, OnOk, ⊎_elim, ◌≡◌, ap}
-use Rattle.register.proofs.ReaderLemmas.{on_ok, if_err_of}
+use Rattle.std.proofs.Common.{List, ℕ, [], ◌∙◌, refl, sym, subst, Result, Ok, Err, OnOk, ⊎_elim, ◌≡◌}
+use Rattle.register.proofs.ReaderLemmas.{on_ok}
 use Rattle.register.proofs.ReuseLemmas.{ahead_reads, begun_ahead}
 use Rattle.register.specs.Earlier.{AddsFew}
 use Rattle.register.specs.Saving.{contents_of, wanted}

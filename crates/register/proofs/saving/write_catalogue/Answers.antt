@@ -1,7 +1,6 @@
-use Rattle.register.specs.declared.fault.CatalogueFault.TheVariants.{Memory}
 use Rattle.std.proofs.lemmas.List.{length-append}
 use Rattle.std.proofs.lemmas.Result.{err_from_is_err_and}
-use Rattle.std.proofs.Common.{ℕ, Ok, ◌∙◌, IsTrue, ◌∷◌, ◌++◌, List, Result, Err, OnOk, ap, sym, subst, ◌≤◌, arith, refl, length}
+use Rattle.std.proofs.Common.{ℕ, Ok, ◌∙◌, IsTrue, ◌∷◌, ◌++◌, List, Result, Err, OnOk, ap, sym, subst, arith}
 use Rattle.std.specs.Prelude.{IfErr}
 use Rattle.std.specs.Option.{option_map}
 use Rattle.legs.specs.declared.head.BookHead.{BookHead}
@@ -9,7 +8,7 @@ use Rattle.register.specs.Saved.{head_of, CatalogueView}
 use Rattle.register.specs.Saving.{contents_of, features_of, HasFew, IsSavingStop, IsCatalogue, Puts, Saves}
 use Rattle.register.specs.ChainWriter.{Holds}
 use Rattle.register.specs.Text.{catalogue_text, features_text, head_text, rows_text, IsWhole}
-use Rattle.register.proofs.SavingLemmas.{puts_then, puts_same, whole_contents, puts_longer, refused_puts}
+use Rattle.register.proofs.SavingLemmas.{puts_then, puts_same, whole_contents, puts_longer}
 use Rattle.register.proofs.saving.write_catalogue.Goals as goal
 
 pub returns-in_ok-write_head-in-Some-clause-puts : goal.returns-in_ok-write_head-in-Some-clause-puts

@@ -1,5 +1,5 @@
 use Rattle.std.proofs.lemmas.Result.{err_from_is_err_and}
-use Rattle.std.proofs.Common.{◌≡◌, ◌+◌, ◌++◌, sym, ◌∙◌, arith, subst, Ok, All, ◌<◌, ◌^◌, rules, map, length, List, ℕ, ◌≤◌, ap, Err}
+use Rattle.std.proofs.Common.{◌≡◌, ◌+◌, ◌++◌, sym, ◌∙◌, arith, subst, Ok, All, ◌<◌, ◌^◌, rules, map, length, List, ℕ, ◌≤◌, Err}
 use Rattle.std.specs.List.{flat_map, range_with_len}
 use Rattle.std.proofs.lemmas.List.{length-map}
 use Rattle.std.proofs.lemmas.List.FromFn.{length-range_with_len}
@@ -7,7 +7,7 @@ use Rattle.byteorder.specs.Endian.{big_bytes}
 use Rattle.register.specs.Saving.{feature_at, features_of, Saves}
 use Rattle.register.specs.Text.{feature_text, features_text, IsFeature}
 use Rattle.register.specs.declared.contents.Feature.{Feature}
-use Rattle.register.proofs.SavingLemmas.{saves_then, saves_same, named_more, all_named, named_first, refused_saves, saves_longer}
+use Rattle.register.proofs.SavingLemmas.{saves_then, saves_same, named_more, all_named, named_first, saves_longer}
 use Rattle.register.proofs.saving.write_features.Goals as goal
 
 pub loop-feature-preserved : goal.loop-feature-preserved

@@ -1,5 +1,5 @@
 use Rattle.register.proofs.WithinLemmas.{refused_room, wanted_same}
-use Rattle.std.proofs.Common.{ap, sym, subst, ◌∙◌, ◌≡◌}
+use Rattle.std.proofs.Common.{ap, sym, subst, ◌∙◌}
 use Rattle.pagecache.specs.Cache.{Cache, Rests, IsRefused}
 use Rattle.register.specs.Saving.{IsSavingStop, wanted}
 use Rattle.std.specs.Result.{is_ok}

@@ -1,10 +1,9 @@
-use Rattle.register.specs.declared.fault.CatalogueFault.TheVariants.{Malformed}
 use Rattle.std.proofs.lemmas.List.{length-append}
 use Rattle.std.proofs.lemmas.Result.{err_from_is_err_and}
-use Rattle.std.proofs.Common.{◌∙◌, ◌++◌, subst, Ok, List, ℕ, ◌≤◌, ap, arith, sym, refl, length, Err}
+use Rattle.std.proofs.Common.{◌∙◌, ◌++◌, subst, Ok, ap, arith, sym, Err}
 use Rattle.register.specs.Saving.{features_of, Saves, Puts}
 use Rattle.register.specs.Text.{features_text, rows_text}
-use Rattle.register.proofs.SavingLemmas.{puts_then, puts_longer, refused_puts}
+use Rattle.register.proofs.SavingLemmas.{puts_then, puts_longer}
 use Rattle.register.proofs.saving.write_lists.Goals as goal
 
 pub returns-clause-puts : goal.returns-clause-puts

@@ -1,12 +1,12 @@
 use Rattle.std.proofs.lemmas.Result.{err_from_is_err_and}
 use Rattle.std.proofs.lemmas.Option.{get_or_from_slice_get}
-use Rattle.std.proofs.Common.{◌≡◌, ◌<◌, get_or, length, ◌+◌, ◌++◌, sym, subst, Ok, All, arith, take, List, ℕ, ◌≤◌, Err, ap}
+use Rattle.std.proofs.Common.{◌≡◌, ◌<◌, get_or, length, ◌+◌, ◌++◌, sym, subst, Ok, All, arith, take, List, ℕ, ◌≤◌, Err}
 use Rattle.std.specs.List.{flat_map}
 use Rattle.byteorder.specs.Endian.{big_bytes}
 use Rattle.register.specs.Saving.{Saves}
 use Rattle.register.specs.Text.{row_text, IsShortText, rows_text}
 use Rattle.register.proofs.EncodingLemmas.{all_more, all_taken, listed_more}
-use Rattle.register.proofs.SavingLemmas.{saves_then, saves_same, listed_first, refused_saves, saves_longer}
+use Rattle.register.proofs.SavingLemmas.{saves_then, saves_same, listed_first, saves_longer}
 use Rattle.register.proofs.saving.write_rows.Goals as goal
 
 pub loop-i-preserved : goal.loop-i-preserved

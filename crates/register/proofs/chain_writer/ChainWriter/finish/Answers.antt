@@ -2,10 +2,9 @@ use Rattle.register.proofs.WithinLemmas.{within_after, within_same}
 use Rattle.register.specs.ChainWriter.{Holds}
 use Rattle.register.specs.ChainSteps.{lacked, StaysWithin}
 use Rattle.register.specs.Chain.{pages_for}
-use Rattle.std.proofs.lemmas.Result.{err_from_is_err_and}
 use Rattle.std.proofs.Common.{◌∙◌, length, Result, Ok, Err, OnOk, List, ℕ, ◌≡◌, ◌<◌, arith}
 use Rattle.std.specs.Int.{div_ceil}
-use Rattle.register.proofs.ReaderLemmas.{if_ok, if_err_of, if_err}
+use Rattle.register.proofs.ReaderLemmas.{if_ok, if_err}
 use Rattle.register.proofs.ReuseLemmas.{takes_few}
 use Rattle.register.proofs.SpareLemmas.{spares_trans}
 use Rattle.register.proofs.chain_writer.ChainWriter.finish.Goals as goal

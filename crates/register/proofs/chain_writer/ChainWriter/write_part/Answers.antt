@@ -3,7 +3,7 @@ use Rattle.std.specs.Prelude.{IfErr, OnErr}
 use Rattle.std.proofs.Common.{◌≡◌, ◌+◌, ◌-◌, ◌<◌, All, ap, arith, subst, Result, Ok, Err}
 use Rattle.register.proofs.ReaderLemmas.{on_ok}
 use Rattle.register.proofs.ReuseLemmas.{part_reuses}
-use Rattle.register.specs.ChainSteps.{IsPutBehind, Reuses, lacked, StaysWithin}
+use Rattle.register.specs.ChainSteps.{IsPutBehind, Reuses, lacked}
 use Rattle.register.proofs.WriterLemmas.{part_holds, part_tree}
 use Rattle.register.specs.ChainWriter.{WriterView}
 use Rattle.register.proofs.chain_writer.ChainWriter.write_part.Goals as goal

@@ -1,5 +1,7 @@
+use Rattle.trajdb.specs.declared.RunFault.{RunFault}
+use Rattle.register.specs.declared.fault.CatalogueFault.{CatalogueFault}
 use Rattle.std.proofs.Common.{ℕ, IsTrue, List, ◌≡◌, ◌∙◌, ap, sym, subst, true, false}
-use Rattle.std.specs.Prelude.{◌⊎◌, IfErr, OnErr, OnOk}
+use Rattle.std.specs.Prelude.{◌⊎◌, IfErr, OnErr, OnOk, IsErrOf}
 use Rattle.legs.specs.Book.{Book}
 use Rattle.std.proofs.lemmas.Bool.{false≢true}
 use Rattle.pages.specs.Store.{Store, IsLawful, IsSynced, IsSyncedButFirst}
@@ -8,14 +10,14 @@ use Rattle.boxsearch.specs.Index.{content, IndexView, IsMarked, IsSound as IsSou
 use Rattle.catalogue.specs.Closing.{IsNoStoreFault}
 use Rattle.catalogue.specs.Holding.{HoldsBook, HoldsButFirst, IsOfBook, IsUnfinishedStore}
 use Rattle.register.specs.Saved.{CatalogueView}
-use Rattle.register.specs.Earlier.{AddsFew, AreEarlier}
+use Rattle.register.specs.Earlier.{AddsFew, AreEarlier, HasNoRoom}
 use Rattle.register.specs.Saving.{contents_of, IsSavingStop}
 use Rattle.register.specs.Text.{catalogue_text}
 use Rattle.trajdb.specs.Calls.{IsLoadFault}
 use Rattle.trajdb.specs.Db.{DbView, HasPages, IsSoundDb}
 use Rattle.trajdb.specs.Faults.{closed_answer}
-use Rattle.trajdb.specs.Lasting.{IsFaultless, IsIdle, IsSafe, TakesFew}
-use Rattle.trajdb.proofs.LastingLemmas.{rest_book, closed_holds, closed_only, closed_ordered, closed_refused, closed_synced, closed_takes, closed_unfinished, rest_takes}
+use Rattle.trajdb.specs.Lasting.{IsFaultless, IsIdle, IsSafe, TakesFew, IsTooFull}
+use Rattle.trajdb.proofs.LastingLemmas.{rest_book, closed_holds, closed_only, closed_ordered, closed_refused, closed_synced, closed_takes, closed_unfinished, rest_takes, closed_full}
 use Rattle.trajdb.proofs.SafeLemmas.{left_safe}
 use Rattle.trajdb.proofs.db.Db.close.Goals as goal
 
@@ -126,3 +128,18 @@ returns-clause-takes g c =
     let second = subst (λ (k : CatalogueView). OnOk answer (IsTrue core.index.cache.store.is_faithful → core.index.cache.count ≡ core.index.cache.store.count → (pages : List ℕ) → AreEarlier (payload_of core.index.cache) pages → AddsFew core.index.cache.count (catalogue_text (contents_of k core.index.places)) pages s.count)) c.into_parts-catalogue.ensures.catalogue first in
     subst (λ r. OnOk r (TakesFew c.args.self s)) (sym c.closed.ensures)
     (subst (λ (d : DbView). OnOk (closed_answer answer) (TakesFew d s)) c.self.view_is (closed_takes core s answer second))
+
+pub returns-then-failed-clause-full : goal.returns-then-failed-clause-full
+returns-then-failed-clause-full g c = λ full. absurd cc
+
+pub returns-then-not-begun-clause-full : goal.returns-then-not-begun-clause-full
+returns-then-not-begun-clause-full g c = λ full. absurd cc
+
+pub returns-clause-full : goal.returns-clause-full
+returns-clause-full g c =
+    let core = c.self.inside.core in
+    let answer = c.close-store.result.1 in
+    let first = subst (λ (x : IndexView). IsErrOf answer CatalogueFault.StoreFull → IsTrue x.cache.store.is_faithful → (pages : List ℕ) → AreEarlier (payload_of x.cache) pages → HasNoRoom x.cache.count x.cache.store.most (catalogue_text (contents_of c.into_parts-catalogue.result.0 x.places)) pages) c.into_parts-catalogue.ensures.index c.close-store.ensures.full in
+    let second = subst (λ (k : CatalogueView). IsErrOf answer CatalogueFault.StoreFull → IsTrue core.index.cache.store.is_faithful → (pages : List ℕ) → AreEarlier (payload_of core.index.cache) pages → HasNoRoom core.index.cache.count core.index.cache.store.most (catalogue_text (contents_of k core.index.places)) pages) c.into_parts-catalogue.ensures.catalogue first in
+    subst (λ r. IsErrOf r RunFault.StoreFull → IsTooFull c.args.self) (sym c.closed.ensures)
+    (subst (λ (d : DbView). IsErrOf (closed_answer answer) RunFault.StoreFull → IsTooFull d) c.self.view_is (closed_full core answer second))
