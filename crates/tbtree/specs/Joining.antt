@@ -79,8 +79,8 @@ pub record HasAtEnd (nodes : Pages LegView BoxView) (p : ℕ) (legs : List LegVi
 abbrev pub in_last_leaf : ℕ → ℕ → List LegView → List LegView
 in_last_leaf leaf count legs = drop (length legs - ((count - 1) % leaf + 1)) legs
 
--- of legs that are put in where a feature has count of them, those that its last leaf takes: none where it is full, and else
--- as many from the first on as it has room for
+-- of legs that are put in where a feature has count of them, those that its last leaf takes: none where it is full, and
+-- else as many from the first on as it has room for
 abbrev pub taken_by_last : ℕ → ℕ → List LegView → List LegView
 taken_by_last leaf count legs = take ((leaf - count % leaf) % leaf) legs
 

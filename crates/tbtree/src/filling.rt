@@ -111,8 +111,8 @@ pub fn insert_all<S: PageStore>(
 
     // Over any faithful pages the place's last leaf is then one of the legs' feature, with those of the legs at its end
     // that are in it: the last one at the least, and all for which the last leaf that was there had room, or that went
-    // into one new leaf. Each leaf that was there is as it was, but for the one that was the last, which has behind its own
-    // legs those from the first on for which it had room, and nothing else. The content of the tree has each leg that it
+    // into one new leaf. Each leaf that was there is as it was, but for the one that was the last, which has behind its
+    // own legs those from the first on for which it had room, and nothing else. The tree's content has each leg that it
     // had, and these; and the place counts the legs.
     ensures ends { IsTrue cache.old.store.is_faithful → 0 < length legs.now
         → OnOk result (HasAtEnd (pages_of_cache cache.new) place.new.last

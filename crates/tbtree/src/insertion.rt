@@ -404,8 +404,8 @@ pub fn insert<S: PageStore>(
     ensures shape { tree.new.shape ≡ tree.old.shape }
 
     // Over any faithful pages the place's last leaf is then one of the leg's feature, with the leg at its end; each leaf
-    // that was there is as it was, but for the one that was the last, which has the leg behind its own where it had room,
-    // and else nothing more; the content of the tree has each leg that it had, and the leg; and the place counts the leg.
+    // that was there is as it was, but for the one that was the last, which has the leg behind its own where it had
+    // room, and else nothing more; the tree's content has each leg that it had, and the leg; and the place counts it.
     ensures ends { IsTrue cache.old.store.is_faithful
         → OnOk result (HasAtEnd (pages_of_cache cache.new) place.new.last (leg ∷ [])) }
     ensures keeps { IsTrue cache.old.store.is_faithful → OnOk result
