@@ -106,6 +106,32 @@ fn closed_well(alloc: Global, keys: RandomState) -> Option<MemStore> {
     Some(store)
 }
 
+/// A leg more is loaded into the example, as it was closed; what that answers, and the store as it is closed again.
+fn added(alloc: Global, keys: RandomState) -> Option<(Vec<u8>, MemStore)> {
+    let store = closed_well(alloc, keys)?;
+    let mut db = opened(alloc, keys, store, 2).ok()?;
+    let (text, answer) = said(alloc, &mut db, "load more.csv\ncount");
+    answer.ok()?;
+    let (store, answer) = db.close(alloc);
+    answer.ok()?;
+    Some((text, store))
+}
+
+#[test]
+fn legs_are_added_to_what_was_opened(rt: HostRuntime) -> Result<(), Fail> {
+    let (alloc, keys) = (rt.alloc(), RandomState::new(&rt)?);
+    let (text, store) = added(alloc, keys).ok_or("not added")?;
+    assert!(rt; text.as_slice() == b"ok 1\n1,1,1\nok 1\n6,4\n".as_slice());
+    let (text, _) = asked(alloc, keys, store, 2, "count\ntrajectory d\ntrajectory b").ok_or(
+        "not asked",
+    )?;
+    assert!(rt;
+        text.as_slice()
+            == b"ok 1\n6,4\nok 1\nd,0,1,0 0 0 0,,\nok 1\nb,10,190,10 2 11 3,walking,2\n".as_slice()
+    );
+    Ok(())
+}
+
 /// What is asked of the example, each time of the store as it was abandoned, and what is answered. A refused file begins
 /// nothing, and the store stays finished; an accepted one does, even where it has no leg.
 const ASKED: [(&str, usize, &str); 3] = [

@@ -218,6 +218,21 @@ fn run_once(
     Ok((out, db.asked()))
 }
 
+/// The same; where one allocation fails the answer may be want of memory, or of room for the output, and asked again
+/// it is there.
+fn run_paged(
+    alloc: Global,
+    keys: RandomState,
+    limits: Limits,
+    pages: (u16, u16, usize),
+    script: &[u8],
+) -> Result<(Vec<u8>, u64), RunFault> {
+    match run_once(alloc, keys, limits, pages, script) {
+        Err(_) => run_once(alloc, keys, limits, pages, script),
+        answer => answer,
+    }
+}
+
 /// What it answers over an index that keeps a list.
 fn run_listed(
     alloc: Global,
@@ -235,6 +250,19 @@ fn run_listed(
     Ok(out)
 }
 
+/// What a script answers over an index that keeps a list; asked again where one allocation fails.
+fn run(
+    alloc: Global,
+    keys: RandomState,
+    limits: Limits,
+    script: &[u8],
+) -> Result<Vec<u8>, RunFault> {
+    match run_listed(alloc, keys, limits, script) {
+        Err(_) => run_listed(alloc, keys, limits, script),
+        answer => answer,
+    }
+}
+
 /// Whether a script answers so over a list, and over pages in two shapes, where it asks for as many whatever the cache
 /// holds.
 fn is_answered(
@@ -244,10 +272,10 @@ fn is_answered(
     script: &[u8],
     want: &str,
 ) -> Result<bool, RunFault> {
-    let mut same = run_listed(alloc, keys, limits, script)?.as_slice() == want.as_bytes();
+    let mut same = run(alloc, keys, limits, script)?.as_slice() == want.as_bytes();
     for (leaf, inner) in [(2, 2), (50, 72)] {
-        let (narrow, asked) = run_once(alloc, keys, limits, (leaf, inner, 1), script)?;
-        let (wide, asked_wide) = run_once(alloc, keys, limits, (leaf, inner, 256), script)?;
+        let (narrow, asked) = run_paged(alloc, keys, limits, (leaf, inner, 1), script)?;
+        let (wide, asked_wide) = run_paged(alloc, keys, limits, (leaf, inner, 256), script)?;
         same = same
             && narrow.as_slice() == want.as_bytes()
             && wide.as_slice() == want.as_bytes()

@@ -11,13 +11,13 @@ use tbtree::Shape;
 use timebase::{Ms, Period};
 
 /// The ordinals of all of five legs, or of those that are live in the last half second, and how many pages were
-/// asked for.
-fn read(alloc: Global, last: bool) -> Option<(Vec<u64>, u64)> {
+/// asked for through a cache of so many.
+fn read(alloc: Global, pages: usize, last: bool) -> Option<(Vec<u64>, u64)> {
     let Sample {
         mut cache,
         place,
         ..
-    } = grown(alloc, 5, u64::MAX)?;
+    } = grown(alloc, pages, 5, u64::MAX)?;
     let shape = Shape::new(2, 2)?;
     let asked = cache.asked();
     let found = if last {
@@ -46,13 +46,15 @@ fn read(alloc: Global, last: bool) -> Option<(Vec<u64>, u64)> {
 fn five_legs_are_read_in_three_pages(rt: HostRuntime) {
     let (all, live) = ([0, 1, 2, 3, 4], [4]);
     for (last, ordinals, most) in [(false, all.as_slice(), 3), (true, live.as_slice(), 2)] {
-        let Some((found, asked)) = read(rt.alloc(), last) else {
+        let Some((found, asked)) = read(rt.alloc(), 1, last) else {
             assert!(rt; false, "nothing was read");
             continue;
         };
         assert_eq!(rt; found.as_slice(), ordinals);
         assert!(rt; asked <= most, "{asked} pages were asked for");
         assert!(rt; last || asked == most);
+        let wide = read(rt.alloc(), 256, last);
+        assert!(rt; wide.is_some_and(|(more, all)| more == found && all == asked));
     }
 }
 
@@ -93,7 +95,7 @@ fn told(alloc: Global, legs: u32, forged: &Forged) -> Option<Result<usize, Chain
         mut cache,
         place,
         ..
-    } = grown(alloc, legs, u64::MAX)?;
+    } = grown(alloc, 2, legs, u64::MAX)?;
     forge(cache.page_mut(forged.page).ok()?, forged)?;
     let shape = Shape::new(2, 2)?;
     let period = Period::new(Ms::new(0)?, Ms::new(9000)?)?;
@@ -159,7 +161,7 @@ fn fault(alloc: Global, calls: u64) -> Option<ChainFault> {
         mut cache,
         place,
         ..
-    } = grown(alloc, 5, calls)?;
+    } = grown(alloc, 2, 5, calls)?;
     trajectory(
         alloc,
         &mut cache,

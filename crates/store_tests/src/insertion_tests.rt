@@ -21,7 +21,7 @@ fn cache(alloc: Global, calls: u64) -> Option<PageCache<Fuse<MemStore>>> {
 /// After that many legs of one feature, two a leaf: how many leaves, levels and pages there are, and how many legs the
 /// feature has, and the number of its last leaf.
 fn numbers_of(alloc: Global, legs: u32) -> Option<((u32, u32, u32), (u64, u32))> {
-    let Sample { cache, tree, place } = grown(alloc, legs, u64::MAX)?;
+    let Sample { cache, tree, place } = grown(alloc, 2, legs, u64::MAX)?;
     let counts = (tree.leaves, tree.levels, cache.count());
     Some((counts, (place.legs, place.last_index)))
 }

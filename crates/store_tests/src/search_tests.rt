@@ -18,9 +18,9 @@ fn half_a_leg() -> Box3 {
     }
 }
 
-/// Whether of five legs the last one alone meets the box, and how many pages were asked for.
-fn read(alloc: Global) -> Option<(bool, u64)> {
-    let mut grown = grown(alloc, 5, u64::MAX)?;
+/// Whether of five legs the last one alone meets the box, and how many pages were asked for through a cache of so many.
+fn read(alloc: Global, pages: usize) -> Option<(bool, u64)> {
+    let mut grown = grown(alloc, pages, 5, u64::MAX)?;
     let asked = grown.cache.asked();
     let found = search(alloc, &mut grown.cache, &grown.tree, &half_a_leg()).ok()?;
     let is_last = found.len() == 1 && found.first().is_some_and(|leg| leg.ordinal == 4);
@@ -29,12 +29,14 @@ fn read(alloc: Global) -> Option<(bool, u64)> {
 
 #[test]
 fn the_last_of_five_legs_is_found_in_three_pages(rt: HostRuntime) {
-    assert_eq!(rt; read(rt.alloc()), Some((true, 3)));
+    for pages in [1, 256] {
+        assert_eq!(rt; read(rt.alloc(), pages), Some((true, 3)));
+    }
 }
 
 /// Whether the root over two leaves is malformed where it has itself as its one child.
 fn looped(alloc: Global) -> Option<bool> {
-    let mut grown = grown(alloc, 3, u64::MAX)?;
+    let mut grown = grown(alloc, 2, 3, u64::MAX)?;
     let root = grown.tree.root;
     let entry = Entry {
         child: root,
@@ -53,7 +55,7 @@ fn an_inner_page_that_is_its_own_child_is_malformed(rt: HostRuntime) {
 
 /// Whether the last leaf is malformed where it says that it has 51 legs.
 fn overfull(alloc: Global) -> Option<bool> {
-    let mut grown = grown(alloc, 5, u64::MAX)?;
+    let mut grown = grown(alloc, 2, 5, u64::MAX)?;
     let last = grown.place.last;
     grown.cache.page_mut(last).ok()?.bytes[13] = 51;
     let fault = search(alloc, &mut grown.cache, &grown.tree, &half_a_leg()).err()?;
@@ -67,7 +69,7 @@ fn a_leaf_of_too_many_legs_is_malformed(rt: HostRuntime) {
 
 /// Why five legs are not searched where the store's call of that number fails, if they were inserted before.
 fn fault(alloc: Global, calls: u64) -> Option<SearchFault> {
-    let mut grown = grown(alloc, 5, calls)?;
+    let mut grown = grown(alloc, 2, 5, calls)?;
     search(alloc, &mut grown.cache, &grown.tree, &Box3::everything()).err()
 }
 

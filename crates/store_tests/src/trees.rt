@@ -16,7 +16,7 @@ fn long_leg(ordinal: u32) -> Option<Leg> {
     Leg::new(u64::from(ordinal), 0, t0, t1, from, to, 0)
 }
 
-/// A tree of such legs, in a cache of two pages behind a page 0.
+/// A tree of such legs, in a cache, behind a page 0.
 #[derive(Drop)]
 pub(crate) struct Sample {
     pub(crate) cache: PageCache<Fuse<MemStore>>,
@@ -24,10 +24,11 @@ pub(crate) struct Sample {
     pub(crate) place: Place,
 }
 
-/// That many legs inserted, two a leaf and two entries an inner page. The store fails the call of that number for good.
-pub(crate) fn grown(alloc: Global, legs: u32, calls: u64) -> Option<Sample> {
+/// That many legs inserted, two a leaf and two entries an inner page, through a cache of that many pages, one at
+/// least. The store fails the call of that number for good.
+pub(crate) fn grown(alloc: Global, pages: usize, legs: u32, calls: u64) -> Option<Sample> {
     let store = Fuse::new(MemStore::new(alloc, 100), calls, false);
-    let Ok(mut cache) = PageCache::new(alloc, store, 2) else {
+    let Ok(mut cache) = PageCache::new(alloc, store, pages.max(1)) else {
         return None;
     };
     cache.add_page(Kind::Header).ok()?;
