@@ -27,9 +27,9 @@ fn a_leg_is_clipped(rt: HostRuntime) -> Result<(), Fail> {
     let leg = leg(&rt, (0, 1000), [0, 0, 30, 60]);
     for (sides, end, parts) in CUTS {
         let cut = clip(&leg, &rect(&rt, sides), &period(&rt, (0, end)));
-        let is_right = match (cut, parts) {
-            (Some(cut), Some([lo, hi])) => is_part(cut.lo, lo) && is_part(cut.hi, hi),
-            (cut, parts) => cut.is_none() && parts.is_none(),
+        let is_right = match parts {
+            Some([lo, hi]) => { cut.is_some_and(|cut| is_part(cut.lo, lo) && is_part(cut.hi, hi)) }
+            None => cut.is_none(),
         };
         assert!(rt; is_right, "at {sides:?} to {end}");
     }
