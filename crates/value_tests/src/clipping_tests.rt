@@ -8,6 +8,14 @@ fn is_part(part: Frac, (num, den): (i64, i64)) -> bool {
     part.num as i128 * den as i128 == num as i128 * part.den as i128
 }
 
+/// Whether a leg was cut at these parts of it.
+fn is_between(cut: &Cut, parts: Option<[(i64, i64); 2]>) -> bool {
+    match parts {
+        Some([lo, hi]) => is_part(cut.lo, lo) && is_part(cut.hi, hi),
+        None => false,
+    }
+}
+
 /// Rectangles, how long the period lasts, and the parts of the leg between which it is inside.
 const CUTS: [([i64; 4], i64, Option<[(i64, i64); 2]>); 5] = [
     // x from 10 on is from 1/3 on, y up to 50 is up to 5/6.
@@ -27,9 +35,9 @@ fn a_leg_is_clipped(rt: HostRuntime) -> Result<(), Fail> {
     let leg = leg(&rt, (0, 1000), [0, 0, 30, 60]);
     for (sides, end, parts) in CUTS {
         let cut = clip(&leg, &rect(&rt, sides), &period(&rt, (0, end)));
-        let is_right = match parts {
-            Some([lo, hi]) => { cut.is_some_and(|cut| is_part(cut.lo, lo) && is_part(cut.hi, hi)) }
-            None => cut.is_none(),
+        let is_right = match cut {
+            Some(cut) => is_between(&cut, parts),
+            None => parts.is_none(),
         };
         assert!(rt; is_right, "at {sides:?} to {end}");
     }
