@@ -9,21 +9,24 @@ fn is_part(part: Frac, (num, den): (i64, i64)) -> bool {
 }
 
 /// Whether a leg was cut at these parts of it.
-fn is_between(cut: &Cut, parts: Option<[(i64, i64); 2]>) -> bool {
+fn is_between(cut: &Cut, parts: Parts) -> bool {
     match parts {
-        Some([lo, hi]) => is_part(cut.lo, lo) && is_part(cut.hi, hi),
+        Some((lo, hi)) => is_part(cut.lo, lo) && is_part(cut.hi, hi),
         None => false,
     }
 }
 
+/// The parts of a leg between which it is inside, each a numerator and a denominator; none where it is not.
+type Parts = Option<((i64, i64), (i64, i64))>;
+
 /// Rectangles, how long the period lasts, and the parts of the leg between which it is inside.
-const CUTS: [([i64; 4], i64, Option<[(i64, i64); 2]>); 5] = [
+const CUTS: [([i64; 4], i64, Parts); 5] = [
     // x from 10 on is from 1/3 on, y up to 50 is up to 5/6.
-    ([10, 0, 30, 50], 1000, Some([(1, 3), (5, 6)])),
+    ([10, 0, 30, 50], 1000, Some(((1, 3), (5, 6)))),
     // The period ends earlier: at half of the leg.
-    ([10, 0, 30, 50], 500, Some([(1, 3), (1, 2)])),
+    ([10, 0, 30, 50], 500, Some(((1, 3), (1, 2)))),
     // A corner is touched at one moment, 1/3.
-    ([10, 10, 20, 20], 1000, Some([(1, 3), (1, 3)])),
+    ([10, 10, 20, 20], 1000, Some(((1, 3), (1, 3)))),
     // Above the diagonal and under it, where the boxes meet all the same.
     ([0, 30, 10, 60], 1000, None),
     ([20, 0, 30, 30], 1000, None),
