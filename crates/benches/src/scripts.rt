@@ -11,7 +11,10 @@ pub(crate) fn run(rt: &HostRuntime, mut words: Words) -> Result<()> {
     let alloc = rt.alloc();
     let script = fs::read(rt, words.text("script")?.as_str())?;
     let mut files = Files::new(alloc);
-    while let Some(name) = words.next() {
+    for _ in 0..u64::MAX {
+        let Some(name) = words.next() else {
+            break;
+        };
         let bytes = fs::read(rt, name.as_str())?;
         files.add(name.as_str(), bytes)?;
     }
