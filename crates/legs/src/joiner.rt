@@ -71,8 +71,12 @@ impl<'a> Model for FileJoiner<'a> {
 
     ghost Value = { JoiningView };
 
-    ghost view = { λ a.
-        record { draft = a.draft; legs = a.legs.items; limits = a.limits; fault = a.fault } };
+    ghost view = { λ a. record {
+      draft = a.draft;
+      legs = a.legs.items;
+      limits = a.limits;
+      fault = a.fault;
+    } };
 
     ghost invariant = { λ a. a.draft.rows ≤ a.draft.legs };
 }
