@@ -401,7 +401,18 @@ const HEADS: &str = "\
 ";
 
 /// The beginnings of hostile files, what follows, and what their loads answer.
-const HOSTILE: [(&str, &[u8], &str); 13] = [
+const HOSTILE: [(&str, &[u8], &str); 16] = [
+    ("", b"", "refused F8 at 0\n"),
+    (
+        "@stboundedby,local,2D,0 0,0 0,",
+        b"2020-01-01T00:00:00,2020-01-02T00:00:00Z,sec",
+        "refused F5 at 1\n",
+    ),
+    (
+        "@stboundedby,local,2D,0 0,0 0,2020-01-01T00:00:00Z,2020-01-02T00:00:00Z,sec\n",
+        b"@columns,trajectory,mfidref",
+        "refused F7 at 2\n",
+    ),
     (HEADS, b"x,0,1,\xff", "refused F1 at 3\n"),
     (HEADS, b"@columns,mfidref,trajectory", "refused F2 at 3\n"),
     (
@@ -421,28 +432,43 @@ const HOSTILE: [(&str, &[u8], &str); 13] = [
     (HEADS, b"x,0,1,0 0 1", "refused F16 at 3\n"),
 ];
 
-/// What the load of a file answers that begins and goes on like this.
-fn load_answer(
+/// What the load of a hostile file answers over an index that keeps a list.
+fn listed_answer(alloc: Global, keys: RandomState, files: &Files) -> Result<Vec<u8>, RunFault> {
+    let limits = Limits::new(1000, 1000).ok_or(RunFault::Failed)?;
+    let index = ListIndex::new(alloc);
+    let mut core = Core::new(alloc, keys, index, limits, true).map_err(|fault| RunFault::from(
+        fault.1,
+    ))?;
+    let mut out = Vec::new(alloc);
+    core.run(alloc, b"load hostile", files, &mut out)?;
+    Ok(out)
+}
+
+/// Whether the load of a file that begins and goes on like this answers so, over pages and over a list.
+fn is_loaded(
     alloc: Global,
     keys: RandomState,
-    head: &str,
-    rest: &[u8],
-) -> Result<Vec<u8>, RunFault> {
+    (head, rest): (&str, &[u8]),
+    want: &str,
+) -> Result<bool, RunFault> {
     let mut bytes = Vec::from_slice(alloc, head.as_bytes())?;
     bytes.extend_from_slice(rest)?;
     let files = named(alloc, "hostile", bytes.as_slice())?;
     let mut db = database(alloc, keys, MemStore::new(alloc, 100), 1)?;
     let mut out = Vec::new(alloc);
     db.run(alloc, b"load hostile", &files, &mut out)?;
-    Ok(out)
+    let listed = listed_answer(alloc, keys, &files)?;
+    Ok(out.as_slice() == want.as_bytes() && listed.as_slice() == want.as_bytes())
 }
 
 #[test]
 fn hostile_files_are_refused(rt: HostRuntime) -> Result<(), Fail> {
     let (alloc, keys) = (rt.alloc(), RandomState::new(&rt)?);
     for (head, rest, want) in HOSTILE {
-        let text = load_answer(alloc, keys, head, rest).ok().ok_or("a run")?;
-        assert!(rt; text.as_slice() == want.as_bytes(), "{want}");
+        let same = is_loaded(alloc, keys, (head, rest), want)
+            .ok()
+            .ok_or("a run")?;
+        assert!(rt; same, "{want}");
     }
     Ok(())
 }
