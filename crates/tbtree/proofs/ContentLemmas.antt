@@ -1,5 +1,5 @@
 -- What is met on the way down from a root, once pages say more.
-use Rattle.std.proofs.Common.{ℕ, zero, suc, Bool, take, drop, ◌-◌, ◌+◌, ◌<◌, ◌≤◌, ◌≡◌, ◌≢◌, ◌∙◌, ⊎_elim, All, List, [], ◌∷◌, ◌++◌, map, length, refl, sym, ap, arith, subst, true, Option, Some, None, slice_get, slice_index_or, Result, Ok, Err}
+use Rattle.std.proofs.Common.{ℕ, zero, suc, Bool, take, drop, ◌-◌, ◌+◌, ◌<◌, ◌≤◌, ◌≡◌, ◌≢◌, ◌∙◌, ⊎_elim, All, List, [], ◌∷◌, ◌++◌, map, refl, sym, ap, arith, subst, true, Some, None, slice_get, slice_index_or, Result, Ok, Err}
 use Rattle.std.specs.Prelude.{IfOk, OnOk}
 use Rattle.std.specs.List.{Contains, flat_map, filter}
 use Rattle.std.proofs.lemmas.Bool.{cases_eq}
@@ -14,15 +14,15 @@ use Rattle.legs.specs.GroupLemmas.{some_none, some_same}
 use Rattle.tbtree.specs.Content.{kids, Carries, ContentGrows, HasLeg, IsFound, IsMet, Meets, SaysMore}
 use Rattle.tbtree.specs.Descent.{children_met, content_of, entries_in, legs_in, legs_met, node_at, pages_met, sort_by_ordinal}
 use Rattle.tbtree.specs.Joining.{HasAtEnd}
-use Rattle.tbtree.specs.Nodes.{Node, Pages, ALeaf, AnInner, EntryView, InnerView, LeafView, Adds, Attaches, Becomes, Covers, Links, Pushes, Widens, with_entry, with_legs, with_next, with_wider}
+use Rattle.tbtree.specs.Nodes.{Node, Pages, ALeaf, AnInner, EntryView, Adds, Attaches, Becomes, Covers, Links, Pushes, Widens, with_entry, with_legs, with_next, with_wider}
 use Rattle.tbtree.specs.declared.fault.TreeFault.{TreeFault}
 use Rattle.tbtree.specs.declared.tree.TbTree.{TbTree}
 use Rattle.tbtree.specs.declared.tree.Top.{Top}
 use Rattle.tbtree.proofs.SortLemmas.{sort_moves}
-use Rattle.tbtree.proofs.Widening.{leaf_same, widened_children}
+use Rattle.tbtree.proofs.Widening.{widened_children}
 
 module _ {X : Type 0} where
-  no_element : (x : X) → Contains [] x → ⊥
+  pub no_element : (x : X) → Contains [] x → ⊥
   no_element x h = let l = h.1 in omega (arith, l)
 
   pub has_first : (x : X) (xs : List X) → Contains (x ∷ xs) x
@@ -147,6 +147,7 @@ leg_more old new s root levels leg h = record { n = h.n; p = h.p; last = h.last;
 pub found_top : (nodes : Pages LegView BoxView) (root levels level : ℕ) → level + 1 ≡ levels → IsFound nodes nodes root levels level root
 found_top nodes root levels level top = record {
   says = says_none nodes;
+  counted = refl;
   met = λ n e. subst (λ m. IsMet nodes root m root) (let z : 0 ≡ n = omega (arith, top, e) in z) refl;
 }
 
@@ -167,6 +168,7 @@ found_next old mid new root levels level p e y c below above f w =
     let there : Contains (kids (node_at mid p)) c = subst (λ x. Contains (kids x) c) (sym (at_page mid p above ∙ w.was)) (has_got (map (λ (x : EntryView BoxView). x.child) w.page.entries) e c w.child) in
     record {
       says = says_then old mid new f.says more;
+      counted = w.counted ∙ f.counted;
       met = λ n is. met_more mid new more root n c (step_met mid root levels level p c below f.met there n is);
     }
 

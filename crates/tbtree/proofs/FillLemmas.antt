@@ -64,7 +64,7 @@ refused_front a c t v p r xs ys x h f legs pages st at all turn = h f legs pages
 
 module _ {X : Type 0} (xs : List X) (n k : ℕ) where
   -- the k elements after the first n
-  part_is : take (n + k - n) (drop n xs) ≡ take k (drop n xs)
+  pub part_is : take (n + k - n) (drop n xs) ≡ take k (drop n xs)
   part_is = ap (λ m. take m (drop n xs)) (omega arith)
 
   pub length_part : n + k ≤ length xs → length (take (n + k - n) (drop n xs)) ≡ k

@@ -1,5 +1,5 @@
 -- One leg more, as insert's parts state it.
-use Rattle.std.proofs.Common.{ℕ, zero, suc, ◌+◌, ◌^◌, ◌%◌, ◌/◌, ◌<◌, ◌≤◌, ◌≡◌, ◌≢◌, All, Bool, true, List, [], ◌∷◌, ◌++◌, map, length, refl, sym, ap, ◌∙◌, arith, subst, ⊎_elim, Some, slice_get}
+use Rattle.std.proofs.Common.{ℕ, zero, suc, ◌+◌, ◌^◌, ◌%◌, ◌/◌, ◌<◌, ◌≤◌, ◌≡◌, ◌≢◌, All, Bool, true, List, [], ◌∷◌, ◌++◌, drop, map, length, refl, sym, ap, ◌∙◌, arith, subst, ⊎_elim, Option, Some, None, slice_get}
 use Rattle.std.specs.Prelude.{Result, Ok, Err, OnOk, ◌-◌, ◌*◌, ◌==◌, set, get_or}
 use Rattle.std.specs.List.{count_by}
 use Rattle.std.proofs.lemmas.Bool.{cases_eq, cases_lt}
@@ -12,13 +12,13 @@ use Rattle.tbtree.specs.Shape.{IsShape}
 use Rattle.tbtree.specs.Payloads.{TakesLegs, are_of_one_leaf}
 use Rattle.tbtree.proofs.TakeLemmas.{can_join, of_one_leaf, takes_legs}
 use Rattle.tbtree.proofs.LevelLemmas.{low_tree}
-use Rattle.std.proofs.lemmas.Option.{slice_get_within, slice_get-get_or}
+use Rattle.std.proofs.lemmas.Option.{slice_get_within, slice_get-get_or, slice_get-map}
 use Rattle.legs.specs.Blocks.{leaves, level}
 use Rattle.legs.specs.Hull.{Boxes}
 use Rattle.legs.specs.Hull.{hull, leg_boxes}
 use Rattle.legs.specs.Costs.{leg_feature}
-use Rattle.tbtree.specs.Nodes.{Pages, HasLeaf}
-use Rattle.tbtree.specs.Stands.{page_at, owner, marks, leaf_of, PlaceStands, NumbersStand, LeavesStand, TreeStands}
+use Rattle.tbtree.specs.Nodes.{Pages, HasLastLeaf}
+use Rattle.tbtree.specs.Stands.{head_or_zero, page_at, pages_of, owner, marks, leaf_of, PlaceStands, NumbersStand, LeavesStand, TreeStands}
 use Rattle.tbtree.specs.Way.{Hanging, Hung, Hangs}
 use Rattle.tbtree.specs.Insert.{Grows, Begins, IsPlace, Inserts}
 use Rattle.tbtree.specs.Joining.{AllJoined, Holds, Joined, Joins, JoinsAll}
@@ -27,7 +27,7 @@ use Rattle.tbtree.specs.declared.tree.Place.{Place}
 use Rattle.legs.specs.Boxes.{BoxView}
 use Rattle.tbtree.specs.declared.tree.TbTree.{TbTree}
 use Rattle.legs.specs.GroupLemmas.{some_none, some_same}
-use Rattle.tbtree.proofs.BeginLemmas.{begin_leaf, zip-second}
+use Rattle.tbtree.proofs.BeginLemmas.{begin_leaf, get-zip, zip-second}
 use Rattle.tbtree.proofs.Widening.{leaf_inner}
 use Rattle.tbtree.proofs.WiderLemmas.{becomes_held, keep_inner}
 use Rattle.tbtree.proofs.FullLemmas.{one_group}
@@ -219,19 +219,32 @@ pub hang_not : (old mid new after : Pages LegView BoxView) (tree tree' : TbTree)
 hang_not old mid new after tree tree' place place' ys page box x some lf b eb hangs f legs pages st at all w =
     begun_hangs old mid new tree place ys page f box (Err x) legs pages lf (owner_is f ys some all) b st at eb hangs
 
--- the feature's last leaf is there
-last_leaf : (old : Pages LegView BoxView) (tree : TbTree) (place : Place) (f : ℕ) (legs : List LegView) (pages : ℕ → List ℕ) → Holds old tree legs pages → IsPlace tree legs pages f place → 0 < place.last → HasLeaf old place.last
+-- the feature's last leaf is there, and none is behind it
+last_leaf : (old : Pages LegView BoxView) (tree : TbTree) (place : Place) (f : ℕ) (legs : List LegView) (pages : ℕ → List ℕ) → Holds old tree legs pages → IsPlace tree legs pages f place → 0 < place.last → HasLastLeaf old place.last f
 last_leaf old tree place f legs pages st at h =
     let rs = leaves leg_feature tree.shape.leaf legs in
+    let ms = marks leg_feature rs (pages 0) in
     let t = st.tree_stands in
     let above : 0 < place.legs = ⊎_elim (λ (u : place.legs ≡ 0). absurd (let z = (at.none u).1 in omega (arith, z, h))) (λ (u : place.legs ≢ 0). omega (arith, u)) (cases_eq place.legs 0) in
     let a = last_page tree.shape.leaf f place legs pages above at in
     let l : place.last_index < length rs = (let u = as_many tree.shape.inner tree.levels tree.root old.count rs pages t.numbers in let v = slice_get_within (pages 0) place.last_index place.last a in omega (arith, u, v)) in
     let r = get_or rs place.last_index [] in
-    record { above = h; leaf = leaf_of (owner leg_feature r) (marks leg_feature rs (pages 0)) place.last_index r; is = t.leaves place.last_index place.last r a (slice_get-get_or rs place.last_index [] l) }
+    let r_is : slice_get rs place.last_index ≡ Some r = slice_get-get_or rs place.last_index [] l in
+    let marked = at.last_index above in
+    let here : slice_get ms place.last_index ≡ Some (owner leg_feature r, place.last) = get-zip (map (owner leg_feature) rs) (pages 0) place.last_index (owner leg_feature r) place.last
+    (slice_get-map (owner leg_feature) rs place.last_index ∙ ap (λ (o : Option (List LegView)). elim o as (λ _. Option ℕ) [ Some q ↦ Some (owner leg_feature q) | None ↦ None ]) r_is) a in
+    let own : owner leg_feature r ≡ f = ap (λ (m : ℕ × ℕ). m.0) (some_same _ _ (sym here ∙ marked.0)) in
+    record {
+      above = h;
+      leaf = leaf_of (owner leg_feature r) ms place.last_index r;
+      is = t.leaves place.last_index place.last r a r_is;
+      own = own;
+      end = ap (λ g. head_or_zero (pages_of g (drop (suc place.last_index) ms))) own ∙ ap head_or_zero marked.1;
+    }
 
-pub add_not : (old new : Pages LegView BoxView) (tree tree' : TbTree) (place place' : Place) (ys : List LegView) (x : TreeFault) → ((0 < place.last → HasLeaf old place.last) → are_of_one_leaf ys ≡ true → MayRefuseWrite x) → JoinsAll old new tree tree' place place' ys (Err x)
-add_not old new tree tree' place place' ys x only f legs pages st at all w = only (last_leaf old tree place f legs pages st at) (of_one_leaf f legs ys all w)
+pub add_not : (old new : Pages LegView BoxView) (tree tree' : TbTree) (place place' : Place) (ys : List LegView) (x : TreeFault) → 0 < length ys → ((0 < place.last → HasLastLeaf old place.last (owner leg_feature ys)) → are_of_one_leaf ys ≡ true → MayRefuseWrite x) → JoinsAll old new tree tree' place place' ys (Err x)
+add_not old new tree tree' place place' ys x some only f legs pages st at all w =
+    only (λ h. subst (λ g. HasLastLeaf old place.last g) (sym (owner_is f ys some all)) (last_leaf old tree place f legs pages st at h)) (of_one_leaf f legs ys all w)
 
 -- no count is past its type
 pub few_enough : (old new : Pages LegView BoxView) (tree tree' : TbTree) (place place' : Place) (ys : List LegView) (x : TreeFault) → IsShape tree.shape → old.count < 2 ^ 32 → (tree.leaves < old.count → tree.levels < 34 → place.legs < 2 ^ 64 - 51 → ⊥) → JoinsAll old new tree tree' place place' ys (Err x)

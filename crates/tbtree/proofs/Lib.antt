@@ -44,4 +44,5 @@ pub mod OldLeaf
 pub mod ContentLemmas
 pub mod EndLemmas
 pub mod FillLemmas
+pub mod LeafLemmas
 pub mod FillCosts

@@ -1,9 +1,9 @@
 -- Which of the legs that are put in the leaf takes that was the last.
-use Rattle.std.proofs.Common.{ℕ, zero, suc, ◌+◌, ◌-◌, ◌%◌, ◌<◌, ◌≤◌, ◌≡◌, arith, ⊎_elim, List, [], ◌∷◌, ◌++◌, take, drop, length, sym, ap, ◌∙◌, subst, refl}
+use Rattle.std.proofs.Common.{ℕ, zero, suc, ◌+◌, ◌-◌, ◌%◌, ◌<◌, ◌≤◌, ◌≡◌, arith, ⊎_elim, List, [], ◌∷◌, take, length, ap, ◌∙◌, refl}
 use Rattle.std.proofs.Math.Nat.{mod-eq_of_lt, mod_self}
 use Rattle.std.proofs.lemmas.Bool.{cases_lt}
 use Rattle.std.proofs.lemmas.Nat.{mod_below}
-use Rattle.std.proofs.lemmas.List.{append-nil, take_all}
+use Rattle.std.proofs.lemmas.List.{take_all}
 use Rattle.legs.specs.Legs.{LegView}
 use Rattle.tbtree.specs.Joining.{taken_by_last}
 use Rattle.tbtree.proofs.RoomLemmas.{mod_below_next}
@@ -19,13 +19,13 @@ module _ {X : Type 0} where
   take_front (suc r) (suc n) [] h = refl
   take_front (suc r) (suc n) (x ∷ xs) h = ap (λ l. x ∷ l) (take_front r n xs (omega (arith, h)))
 
-abbrev room : ℕ → ℕ → ℕ
+abbrev pub room : ℕ → ℕ → ℕ
 room leaf count = (leaf - count % leaf) % leaf
 
-room_none : (leaf count : ℕ) → count % leaf ≡ 0 → room leaf count ≡ 0
+pub room_none : (leaf count : ℕ) → count % leaf ≡ 0 → room leaf count ≡ 0
 room_none leaf count e = ap (λ m. (leaf - m) % leaf) e ∙ ap (λ m. m % leaf) (let s : leaf - 0 ≡ leaf = omega arith in s) ∙ mod_self leaf
 
-room_some : (leaf count : ℕ) → 0 < leaf → 0 < count % leaf → room leaf count ≡ leaf - count % leaf
+pub room_some : (leaf count : ℕ) → 0 < leaf → 0 < count % leaf → room leaf count ≡ leaf - count % leaf
 room_some leaf count some h = mod-eq_of_lt (let l : leaf - count % leaf < leaf = omega (arith, some, h) in l)
 
 pub taken_nil : (leaf count : ℕ) → taken_by_last leaf count [] ≡ []
@@ -60,21 +60,9 @@ room_filled leaf count n some more full = ⊎_elim
     (λ (z : count % leaf ≤ 0). let r = room_none leaf count (omega (arith, z)) in omega (arith, r))
     (cases_lt 0 (count % leaf))
 
-pub taken_full : (leaf count n k : ℕ) (legs : List LegView) → 0 < leaf → 0 < n → (count + n) % leaf ≡ 0 → taken_by_last leaf count (take n legs) ≡ taken_by_last leaf count (take (n + k) legs)
-taken_full leaf count n k legs some more full =
-    let r = room_filled leaf count n some more full in
-    take_front (room leaf count) n legs r ∙ sym (take_front (room leaf count) (n + k) legs (omega (arith, r)))
-
--- those of a part more
-pub taken_then : (leaf count n k : ℕ) (legs : List LegView) → 0 < leaf → (0 < n → (count + n) % leaf ≡ 0)
-    → taken_by_last leaf count (take n legs) ++ taken_by_last leaf (count + n) (take (n + k - n) (drop n legs)) ≡ taken_by_last leaf count (take (n + k) legs)
-taken_then leaf count zero k legs some full =
-    ap (λ l. l ++ taken_by_last leaf (count + 0) (take (0 + k - 0) legs)) (take_nil (room leaf count))
-    ∙ ap (λ c. taken_by_last leaf c (take (0 + k - 0) legs)) (let e : count + 0 ≡ count = omega arith in e)
-    ∙ ap (λ m. taken_by_last leaf count (take m legs)) (let e : 0 + k - 0 ≡ 0 + k = omega arith in e)
-taken_then leaf count (suc n) k legs some full =
-    let more : 0 < suc n = omega arith in
-    let whole = full more in
-    ap (λ l. taken_by_last leaf count (take (suc n) legs) ++ l) (taken_none leaf (count + suc n) (take (suc n + k - suc n) (drop (suc n) legs)) whole)
-    ∙ append-nil (taken_by_last leaf count (take (suc n) legs))
-    ∙ taken_full leaf count (suc n) k legs some more whole
+-- legs that fill it up, or are none where it is full, are as many as it had room for, or more
+pub room_within : (leaf count : ℕ) (xs : List LegView) → 0 < leaf → (count + length xs) % leaf ≡ 0 → room leaf count ≤ length xs
+room_within leaf count xs some full = ⊎_elim
+    (λ (h : 0 < length xs). room_filled leaf count (length xs) some h full)
+    (λ (z : length xs ≤ 0). let r = room_none leaf count (ap (λ n. n % leaf) (let e : count ≡ count + length xs = omega (arith, z) in e) ∙ full) in omega (arith, r))
+    (cases_lt 0 (length xs))

@@ -25,6 +25,7 @@ passes_refl a = record {
   first = λ f h. refl;
   unmarked = λ h u. u;
   written = λ f h u. refl;
+  others = λ f p payload e none. e;
 }
 
 pub passes_trans : (a b c : Cache) → Passes a b → Passes b c → Passes a c
@@ -36,6 +37,7 @@ passes_trans a b c p q = record {
   first = λ f h. q.first (p.store.faithful ∙ f) (omega (arith, h, p.count)) ∙ p.first f h;
   unmarked = λ h u. q.unmarked (omega (arith, h, p.count)) (p.unmarked h u);
   written = λ f h u. q.written (p.store.faithful ∙ f) (omega (arith, h, p.count)) (p.unmarked h u) ∙ p.written f h u;
+  others = λ f n payload e none. q.others (p.store.faithful ∙ f) n payload (p.others f n payload e none) none;
 }
 
 caused_in_cache : (a b c : Cache) (e : CacheFault) → Passes a b → RefusesWriteInCache b c e → RefusesWriteInCache a c e

@@ -39,9 +39,10 @@ pub record HasLeg (nodes : Pages LegView BoxView) (root levels : ℕ) (leg : Leg
   pub met : IsMet nodes root n p
   pub leg_is : Contains (legs_in (node_at nodes p)) leg
 
--- the page p of a level is met, and all that was met is
+-- the page p of a level is met, and all that was met is; there are as many pages
 pub record IsFound (old new : Pages LegView BoxView) (root levels level p : ℕ) : Type 0 where
   pub says : SaysMore old new
+  pub counted : new.count ≡ old.count
   pub met : (n : ℕ) → n + suc level ≡ levels → IsMet new root n p
 
 -- the page p of a level is met from the new root, and each leg that was met is

@@ -6,7 +6,7 @@ use Rattle.legs.specs.Costs.{leg_feature, leaves_of}
 use Rattle.legs.specs.Hull.{leg_boxes}
 use Rattle.legs.specs.Index.{feature_count}
 use Rattle.tbtree.specs.Faults.{GivesWrite}
-use Rattle.tbtree.specs.Nodes.{Pages, LeafView, ALeaf, with_legs, with_next}
+use Rattle.tbtree.specs.Nodes.{Pages, LeafView, ALeaf, with_legs}
 use Rattle.tbtree.specs.Stands.{TreeStands}
 use Rattle.tbtree.specs.Insert.{IsPlace, Stands}
 use Rattle.tbtree.specs.Order.{in_blocks}
@@ -84,20 +84,9 @@ in_last_leaf leaf count legs = drop (length legs - ((count - 1) % leaf + 1)) leg
 abbrev pub taken_by_last : ℕ → ℕ → List LegView → List LegView
 taken_by_last leaf count legs = take ((leaf - count % leaf) % leaf) legs
 
--- the page p is that leaf, perhaps with another next leaf, and with these legs of its feature at its end
-pub record HasMore (nodes : Pages LegView BoxView) (p : ℕ) (leaf : LeafView LegView)
-    (legs : List LegView) : Type 0 where
-  pub next : ℕ
-  pub is : nodes.at p ≡ Some (Some (ALeaf (with_next next (with_legs legs leaf))))
-  pub own : All (λ leg. leg.feature ≡ leaf.feature) legs
-
--- each leaf that was there is as it was, but for the page last, which has these legs more
-pub record KeepsLegs (last : ℕ) (legs : List LegView)
-    (old new : Pages LegView BoxView) : Type 0 where
-  pub rest : (p : ℕ) (leaf : LeafView LegView) → p ≢ last → old.at p ≡ Some (Some (ALeaf leaf))
-      → new.at p ≡ Some (Some (ALeaf leaf))
-  pub grown : (leaf : LeafView LegView) → old.at last ≡ Some (Some (ALeaf leaf))
-      → HasMore new last leaf legs
+-- and those behind them, which go into leaves that are made
+abbrev pub left_over : ℕ → ℕ → List LegView → List LegView
+left_over leaf count legs = drop ((leaf - count % leaf) % leaf) legs
 
 -- a leg may be put into the index of some legs: it may join them, and its feature is there, or is the next one
 pub record CanTake (legs : List LegView) (leg : LegView) : Type 0 where

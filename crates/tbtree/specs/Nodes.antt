@@ -126,6 +126,14 @@ pub record HasLeaf {L B : Type 0} (nodes : Pages L B) (p : ℕ) : Type 0 where
   pub leaf : LeafView L
   pub is : nodes.at p ≡ Some (Some (ALeaf leaf))
 
+-- the page p is a leaf of the feature, and none is behind it
+pub record HasLastLeaf {L B : Type 0} (nodes : Pages L B) (p feature : ℕ) : Type 0 where
+  pub above : 0 < p
+  pub leaf : LeafView L
+  pub is : nodes.at p ≡ Some (Some (ALeaf leaf))
+  pub own : leaf.feature ≡ feature
+  pub end : leaf.next ≡ 0
+
 -- the page p is a leaf that may take what it is to take
 pub record HasLeafRoom {L B : Type 0} (nodes : Pages L B) (p : ℕ)
     (can : LeafView L → Type 0) : Type 0 where

@@ -1,7 +1,9 @@
 -- What every call of the tree leaves of the cache, answered or not, whatever its pages hold.
-use Rattle.std.specs.Prelude.{◌≡◌, ◌≤◌, ◌<◌, ◌^◌, ◌-◌, min, false, IsTrue, IfErr, OnOk, Result}
+use Rattle.std.specs.Prelude.{ℕ, ◌≡◌, ◌≤◌, ◌<◌, ◌^◌, ◌-◌, min, false, IsTrue, IfErr, OnOk, Result, Some, None}
 use Rattle.pages.specs.Store as store
+use Rattle.pages.specs.declared.payload.Payload.{Payload}
 use Rattle.pagecache.specs.Cache.{Cache, payload_of, page_of, is_changed}
+use Rattle.tbnode.specs.Form.{node_of}
 use Rattle.tbtree.specs.Faults.{RefusesWrite}
 use Rattle.tbtree.specs.declared.fault.TreeFault.{TreeFault}
 
@@ -16,6 +18,9 @@ pub record Passes (old new : Cache) : Type 0 where
   pub unmarked : 0 < old.count → is_changed old 0 ≡ false → is_changed new 0 ≡ false
   pub written : IsTrue old.store.is_faithful → 0 < old.count → is_changed old 0 ≡ false
       → page_of new 0 ≡ page_of old 0
+  -- a page that is none of a tree's has its payload
+  pub others : IsTrue old.store.is_faithful → (p : ℕ) (payload : Payload)
+      → payload_of old p ≡ Some payload → node_of payload ≡ None → payload_of new p ≡ Some payload
 
 -- there are as many pages as the store has, where there were
 abbrev pub KeepsLength : Cache → Cache → Type 0

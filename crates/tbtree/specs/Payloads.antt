@@ -21,10 +21,12 @@ HasNoEntry node level e =
     (page : InnerView BoxView) → node ≡ Some (AnInner page) → page.level ≡ level
     → e < length page.entries → ⊥
 
--- the node is a leaf
-pub record IsLeafNode (node : Option (Node LegView BoxView)) : Type 0 where
+-- the node is a leaf of the feature, and none is behind it
+pub record IsLastLeaf (node : Option (Node LegView BoxView)) (feature : ℕ) : Type 0 where
   pub leaf : LeafView LegView
   pub is : node ≡ Some (ALeaf leaf)
+  pub own : leaf.feature ≡ feature
+  pub end : leaf.next ≡ 0
 
 -- each leg is of the feature, and its ordinal is above that of the one before it, the first one's above a number
 abbrev pub goes_on : ℕ → ℕ → List LegView → Bool

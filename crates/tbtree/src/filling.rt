@@ -1,10 +1,11 @@
 //! Many legs of one feature, put in leaf by leaf.
-ghost use Rattle.std.specs.Prelude.{◌≡◌, ◌<◌, ◌≤◌, ◌⊎◌, ◌+◌, ◌-◌, ◌*◌, ◌%◌, OnOk, OnErr, IfErr, IsTrue, false, true, Err, length};
+ghost use Rattle.std.specs.Prelude.{ℕ, List, ◌≡◌, ◌<◌, ◌≤◌, ◌⊎◌, ◌+◌, ◌-◌, ◌*◌, ◌%◌, OnOk, OnErr, IfErr, IsTrue, false, true, Err, length};
 ghost use Rattle.tbtree.specs.Faults.{RefusesWrite};
 ghost use Rattle.tbtree.specs.Content.{ContentGrows, Meets};
 ghost use Rattle.tbtree.specs.Nodes.{pages_of_cache};
 ghost use Rattle.tbtree.specs.Passes.{Passes, KeepsLength, Touches};
-ghost use Rattle.tbtree.specs.Joining.{in_last_leaf, taken_by_last, HasAtEnd, JoinsAll, KeepsLegs};
+ghost use Rattle.tbtree.specs.Filling.{Fills};
+ghost use Rattle.tbtree.specs.Joining.{JoinsAll};
 ghost use Rattle.tbtree.specs.declared.fault.TreeFault.{TreeFault};
 
 use crate::fault::TreeFault;
@@ -49,15 +50,10 @@ fn put_all<S: PageStore>(
     ensures higher { OnOk result (tree.old.levels ≤ tree.new.levels) }
     ensures made { OnOk result ((tree.new.leaves - tree.old.leaves) * tree.old.shape.leaf
         < length legs.now + tree.old.shape.leaf) }
-    ensures ends { IsTrue cache.old.store.is_faithful → 0 < length legs.now
-        → OnOk result (HasAtEnd (pages_of_cache cache.new) place.new.last
-        (in_last_leaf tree.old.shape.leaf place.new.legs legs.now)) }
-    ensures whole { IsTrue cache.old.store.is_faithful → 0 < length legs.now
-        → place.old.legs % tree.old.shape.leaf + length legs.now ≤ tree.old.shape.leaf
-        → OnOk result (HasAtEnd (pages_of_cache cache.new) place.new.last legs.now) }
-    ensures keeps { IsTrue cache.old.store.is_faithful → OnOk result
-        (KeepsLegs place.old.last (taken_by_last tree.old.shape.leaf place.old.legs legs.now)
-        (pages_of_cache cache.old) (pages_of_cache cache.new)) }
+    ensures fills { IsTrue cache.old.store.is_faithful → OnOk result
+        ((pages : List ℕ) × Fills tree.old.shape.leaf (pages_of_cache cache.old)
+        (pages_of_cache cache.new) tree.old.leaves tree.new.leaves place.old place.new legs.now
+        pages) }
     ensures met { IsTrue cache.old.store.is_faithful → OnOk result
         (Meets (pages_of_cache cache.old) (pages_of_cache cache.new) tree.old tree.new legs.now) }
     ensures counted { OnOk result (place.new.legs ≡ place.old.legs + length legs.now) }
@@ -109,20 +105,13 @@ pub fn insert_all<S: PageStore>(
     ensures made { OnOk result ((tree.new.leaves - tree.old.leaves) * tree.old.shape.leaf
         < length legs.now + tree.old.shape.leaf) }
 
-    // Over any faithful pages the place's last leaf is then one of the legs' feature, with those of the legs at its end
-    // that are in it: the last one at the least, and all for which the last leaf that was there had room, or that went
-    // into one new leaf. Each leaf that was there is as it was, but for the one that was the last, which has behind its
-    // own legs those from the first on for which it had room, and nothing else. The tree's content has each leg that it
-    // had, and these; and the place counts the legs.
-    ensures ends { IsTrue cache.old.store.is_faithful → 0 < length legs.now
-        → OnOk result (HasAtEnd (pages_of_cache cache.new) place.new.last
-        (in_last_leaf tree.old.shape.leaf place.new.legs legs.now)) }
-    ensures whole { IsTrue cache.old.store.is_faithful → 0 < length legs.now
-        → place.old.legs % tree.old.shape.leaf + length legs.now ≤ tree.old.shape.leaf
-        → OnOk result (HasAtEnd (pages_of_cache cache.new) place.new.last legs.now) }
-    ensures keeps { IsTrue cache.old.store.is_faithful → OnOk result
-        (KeepsLegs place.old.last (taken_by_last tree.old.shape.leaf place.old.legs legs.now)
-        (pages_of_cache cache.old) (pages_of_cache cache.new)) }
+    // Over any faithful pages: the place's last leaf has behind its own legs those from the first on for which it had
+    // room, and leaves that are made behind it have the others; each other leaf is as it was, and the tree's content has
+    // each leg that it had, and these.
+    ensures fills { IsTrue cache.old.store.is_faithful → OnOk result
+        ((pages : List ℕ) × Fills tree.old.shape.leaf (pages_of_cache cache.old)
+        (pages_of_cache cache.new) tree.old.leaves tree.new.leaves place.old place.new legs.now
+        pages) }
     ensures met { IsTrue cache.old.store.is_faithful → OnOk result
         (ContentGrows (pages_of_cache cache.old) (pages_of_cache cache.new) tree.old tree.new
         legs.now) }

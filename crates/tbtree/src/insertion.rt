@@ -3,14 +3,16 @@ ghost use Rattle.std.specs.Prelude.{ℕ, [], ◌∷◌, None, length, ◌≢◌,
 ghost use Rattle.legs.specs.Costs.{leg_feature};
 ghost use Rattle.legs.specs.Hull.{leg_boxes};
 ghost use Rattle.tbtree.specs.Faults.{MayRefuseWrite, RefusesWrite};
-ghost use Rattle.tbtree.specs.Nodes.{pages_of_cache, HasLeaf, KeepsLeaves};
+ghost use Rattle.tbtree.specs.Nodes.{pages_of_cache, HasLastLeaf, KeepsLeaves};
 ghost use Rattle.tbtree.specs.Passes.{Passes, KeepsLength, Touches};
 ghost use Rattle.tbtree.specs.Way.{IsOnWay, Hangs};
 ghost use Rattle.tbtree.specs.Content.{Carries, ContentGrows, IsFound, Meets, SaysMore};
 ghost use Rattle.tbtree.specs.Insert.{Grows, Begins, Inserts};
-ghost use Rattle.tbtree.specs.Joining.{taken_by_last, HasAtEnd, Joins, JoinsAll, KeepsLegs};
+ghost use Rattle.tbtree.specs.Filling.{page_made, place_with, BeginsLeaf, Fills, GrowsLeaf};
+ghost use Rattle.tbtree.specs.Joining.{HasAtEnd, Joins, JoinsAll};
 ghost use Rattle.tbtree.specs.Payloads.{TakesLegs, are_of_one_leaf};
 ghost use Rattle.tbtree.specs.Shape.{IsShape};
+ghost use Rattle.tbtree.specs.Stands.{owner};
 ghost use Rattle.tbtree.specs.declared.fault.TreeFault.{TreeFault};
 
 use crate::fault::TreeFault;
@@ -41,6 +43,8 @@ fn way<S: PageStore>(
         (pages_of_cache cache.old) (pages_of_cache cache.new) level at bounds.now result }
     ensures leaves { IsTrue cache.old.store.is_faithful
         → OnOk result (KeepsLeaves (pages_of_cache cache.old) (pages_of_cache cache.new)) }
+    ensures no_more { IsTrue cache.old.store.is_faithful
+        → OnOk result (KeepsLeaves (pages_of_cache cache.new) (pages_of_cache cache.old)) }
     ensures found { IsTrue cache.old.store.is_faithful → IfOk result
         (IsFound (pages_of_cache cache.old) (pages_of_cache cache.new) tree.now.root
         tree.now.levels level) }
@@ -74,8 +78,8 @@ fn into_leaf<S: PageStore>(
         (λ leaf. TakesLegs tree.now.shape.leaf leaf legs.now) result }
     ensures ends { IsTrue cache.old.store.is_faithful
         → OnOk result (HasAtEnd (pages_of_cache cache.new) last legs.now) }
-    ensures keeps { IsTrue cache.old.store.is_faithful → OnOk result
-        (KeepsLegs last legs.now (pages_of_cache cache.old) (pages_of_cache cache.new)) }
+    ensures leaf { IsTrue cache.old.store.is_faithful → OnOk result
+        (GrowsLeaf (pages_of_cache cache.old) (pages_of_cache cache.new) last legs.now) }
     ensures met { IsTrue cache.old.store.is_faithful → OnOk result
         (Meets (pages_of_cache cache.old) (pages_of_cache cache.new) tree.now tree.now legs.now) }
     ensures touches { Touches cache.old cache.new result }
@@ -107,6 +111,8 @@ fn root_over<S: PageStore>(
         child.now.bounds result }
     ensures leaves { IsTrue cache.old.store.is_faithful
         → OnOk result (KeepsLeaves (pages_of_cache cache.old) (pages_of_cache cache.new)) }
+    ensures no_more { IsTrue cache.old.store.is_faithful
+        → OnOk result (KeepsLeaves (pages_of_cache cache.new) (pages_of_cache cache.old)) }
     ensures carries { IsTrue cache.old.store.is_faithful → 0 < cache.old.count → IfOk result
         (Carries (pages_of_cache cache.old) (pages_of_cache cache.new) tree.now.root
         tree.now.levels level child.now.child) }
@@ -143,6 +149,8 @@ fn hang<S: PageStore>(
         child.now.bounds result }
     ensures leaves { IsTrue cache.old.store.is_faithful
         → OnOk result (KeepsLeaves (pages_of_cache cache.old) (pages_of_cache cache.new)) }
+    ensures no_more { IsTrue cache.old.store.is_faithful
+        → OnOk result (KeepsLeaves (pages_of_cache cache.new) (pages_of_cache cache.old)) }
     ensures carries { IsTrue cache.old.store.is_faithful → 0 < cache.old.count → IfOk result
         (Carries (pages_of_cache cache.old) (pages_of_cache cache.new) tree.now.root
         tree.now.levels level child.now.child) }
@@ -191,11 +199,10 @@ fn into_last<S: PageStore>(
         place.old place.new legs.now result }
     ensures ends { IsTrue cache.old.store.is_faithful
         → OnOk result (HasAtEnd (pages_of_cache cache.new) place.new.last legs.now) }
-    ensures keeps { IsTrue cache.old.store.is_faithful → OnOk result
-        (KeepsLegs place.old.last legs.now (pages_of_cache cache.old)
-        (pages_of_cache cache.new)) }
-    ensures stays { place.new.last ≡ place.old.last }
-    ensures legs { OnOk result (place.new.legs ≡ place.old.legs + length legs.now) }
+    ensures leaf { IsTrue cache.old.store.is_faithful → OnOk result
+        (GrowsLeaf (pages_of_cache cache.old) (pages_of_cache cache.new) place.old.last
+        legs.now) }
+    ensures place { OnOk result (place.new ≡ place_with tree.now.leaves place.old legs.now []) }
     ensures met { IsTrue cache.old.store.is_faithful → OnOk result
         (Meets (pages_of_cache cache.old) (pages_of_cache cache.new) tree.now tree.now legs.now) }
     ensures touches { Touches cache.old cache.new result }
@@ -221,13 +228,11 @@ fn add_last<S: PageStore>(
         (pages_of_cache cache.new)) }
     ensures ends { IsTrue cache.old.store.is_faithful
         → IfOk result (λ page. HasAtEnd (pages_of_cache cache.new) page legs.now) }
-    ensures keeps { IsTrue cache.old.store.is_faithful → OnOk result
-        (KeepsLegs last [] (pages_of_cache cache.old) (pages_of_cache cache.new)) }
-    ensures fresh { IsTrue cache.old.store.is_faithful
-        → IfOk result (λ page. (pages_of_cache cache.old).at page ≡ None) }
+    ensures leaf { IsTrue cache.old.store.is_faithful → IfOk result
+        (BeginsLeaf (pages_of_cache cache.old) (pages_of_cache cache.new) last legs.now) }
     ensures number { IfOk result (λ page. page ≡ cache.old.count) }
     ensures only { IsTrue cache.old.store.is_faithful
-        → (0 < last → HasLeaf (pages_of_cache cache.old) last)
+        → (0 < last → HasLastLeaf (pages_of_cache cache.old) last (owner leg_feature legs.now))
         → are_of_one_leaf legs.now ≡ true → IfErr result MayRefuseWrite }
     ensures says { IsTrue cache.old.store.is_faithful
         → OnOk result (SaysMore (pages_of_cache cache.old) (pages_of_cache cache.new)) }
@@ -237,8 +242,12 @@ fn add_last<S: PageStore>(
     if last == 0 {
         return nodes::add_leaf(cache, last, legs);
     }
+    let first = &legs[0];
     let page = nodes::add_leaf(cache, last, legs)?;
-    nodes::link(cache, last, page)?;
+    if page == last {
+        return Err(TreeFault::Malformed(last));
+    }
+    nodes::link(cache, last, first.feature, page)?;
     Ok(page)
 }
 
@@ -256,6 +265,8 @@ fn hang_leaf<S: PageStore>(
         page.now.child page.now.bounds result }
     ensures leaves { IsTrue cache.old.store.is_faithful
         → OnOk result (KeepsLeaves (pages_of_cache cache.old) (pages_of_cache cache.new)) }
+    ensures no_more { IsTrue cache.old.store.is_faithful
+        → OnOk result (KeepsLeaves (pages_of_cache cache.new) (pages_of_cache cache.old)) }
     ensures carries { IsTrue cache.old.store.is_faithful → 0 < cache.old.count → IfOk result
         (Carries (pages_of_cache cache.old) (pages_of_cache cache.new) tree.now.root
         tree.now.levels 0 page.now.child) }
@@ -294,11 +305,11 @@ fn begin<S: PageStore>(
         place.old place.new legs.now result }
     ensures ends { IsTrue cache.old.store.is_faithful
         → OnOk result (HasAtEnd (pages_of_cache cache.new) place.new.last legs.now) }
-    ensures keeps { IsTrue cache.old.store.is_faithful → OnOk result
-        (KeepsLegs place.old.last [] (pages_of_cache cache.old) (pages_of_cache cache.new)) }
-    ensures fresh { IsTrue cache.old.store.is_faithful
-        → OnOk result ((pages_of_cache cache.old).at place.new.last ≡ None) }
-    ensures made { OnOk result (place.new.last ≡ cache.old.count) }
+    ensures leaf { IsTrue cache.old.store.is_faithful → OnOk result
+        (BeginsLeaf (pages_of_cache cache.old) (pages_of_cache cache.new) place.old.last legs.now
+        cache.old.count) }
+    ensures place { OnOk result (place.new
+        ≡ place_with tree.old.leaves place.old legs.now (cache.old.count ∷ [])) }
     ensures spent { tree.new.spent ≡ tree.old.spent }
     ensures shape { tree.new.shape ≡ tree.old.shape }
     ensures met { IsTrue cache.old.store.is_faithful → OnOk result
@@ -308,7 +319,6 @@ fn begin<S: PageStore>(
         ≤ cache.old.asked + (tree.new.levels + 2)) }
     ensures higher { OnOk result (tree.old.levels ≤ tree.new.levels) }
     ensures leaves { OnOk result (tree.new.leaves ≡ tree.old.leaves + 1) }
-    ensures legs { OnOk result (place.new.legs ≡ place.old.legs + length legs.now) }
 {
     let page = add_last(cache, place.last, legs)?;
     let bounds = cover_of_legs(legs);
@@ -351,18 +361,17 @@ pub(crate) fn put<S: PageStore>(
     ensures asked { OnOk result (cache.new.asked
         ≤ cache.old.asked + (2 * (tree.new.levels - 1) + 4)) }
     ensures higher { OnOk result (tree.old.levels ≤ tree.new.levels) }
-    ensures legs { OnOk result (place.new.legs ≡ place.old.legs + length legs.now) }
     ensures ends { IsTrue cache.old.store.is_faithful
         → OnOk result (HasAtEnd (pages_of_cache cache.new) place.new.last legs.now) }
-    ensures keeps { IsTrue cache.old.store.is_faithful → OnOk result
-        (KeepsLegs place.old.last (taken_by_last tree.old.shape.leaf place.old.legs legs.now)
-        (pages_of_cache cache.old) (pages_of_cache cache.new)) }
-    ensures fresh { IsTrue cache.old.store.is_faithful → place.old.legs % tree.old.shape.leaf ≡ 0
-        → OnOk result ((pages_of_cache cache.old).at place.new.last ≡ None) }
-    ensures stays { 0 < place.old.legs % tree.old.shape.leaf
-        → OnOk result (place.new.last ≡ place.old.last) }
-    ensures made { place.old.legs % tree.old.shape.leaf ≡ 0
-        → OnOk result (place.new.last ≡ cache.old.count) }
+    ensures grows { IsTrue cache.old.store.is_faithful → 0 < place.old.legs % tree.old.shape.leaf
+        → OnOk result (GrowsLeaf (pages_of_cache cache.old) (pages_of_cache cache.new)
+        place.old.last legs.now) }
+    ensures begins { IsTrue cache.old.store.is_faithful → place.old.legs % tree.old.shape.leaf ≡ 0
+        → OnOk result (BeginsLeaf (pages_of_cache cache.old) (pages_of_cache cache.new)
+        place.old.last legs.now cache.old.count) }
+    ensures place { OnOk result (place.new ≡ place_with tree.old.leaves place.old legs.now
+        (page_made tree.old.shape.leaf cache.old.count place.old)) }
+    ensures range { IsShape tree.old.shape }
     ensures begun { place.old.legs % tree.old.shape.leaf ≡ 0
         → OnOk result (tree.new.leaves ≡ tree.old.leaves + 1) }
     ensures grown { 0 < place.old.legs % tree.old.shape.leaf
@@ -403,24 +412,17 @@ pub fn insert<S: PageStore>(
         place.old place.new leg result }
     ensures shape { tree.new.shape ≡ tree.old.shape }
 
-    // Over any faithful pages the place's last leaf is then one of the leg's feature, with the leg at its end; each leaf
-    // that was there is as it was, but for the one that was the last, which has the leg behind its own where it had
-    // room, and else nothing more; the tree's content has each leg that it had, and the leg; and the place counts it.
-    ensures ends { IsTrue cache.old.store.is_faithful
-        → OnOk result (HasAtEnd (pages_of_cache cache.new) place.new.last (leg ∷ [])) }
-    ensures keeps { IsTrue cache.old.store.is_faithful → OnOk result
-        (KeepsLegs place.old.last (taken_by_last tree.old.shape.leaf place.old.legs (leg ∷ []))
-        (pages_of_cache cache.old) (pages_of_cache cache.new)) }
+    // Over any faithful pages: the place's last leaf has the leg at its end, where it had room, and else a leaf of the leg
+    // alone is made behind it; each other leaf is as it was, and the tree's content has each leg that it had, and the leg.
+    ensures fills { IsTrue cache.old.store.is_faithful → OnOk result
+        (Fills tree.old.shape.leaf (pages_of_cache cache.old) (pages_of_cache cache.new)
+        tree.old.leaves tree.new.leaves place.old place.new (leg ∷ [])
+        (page_made tree.old.shape.leaf cache.old.count place.old)) }
     ensures met { IsTrue cache.old.store.is_faithful → OnOk result
         (ContentGrows (pages_of_cache cache.old) (pages_of_cache cache.new) tree.old tree.new
         (leg ∷ [])) }
-    ensures counted { OnOk result (place.new.legs ≡ place.old.legs + 1) }
-
-    // The last leaf stays the one where it has room, and is a new page where it is full.
-    ensures stays { 0 < place.old.legs % tree.old.shape.leaf
-        → OnOk result (place.new.last ≡ place.old.last) }
-    ensures made { place.old.legs % tree.old.shape.leaf ≡ 0
-        → OnOk result (place.new.last ≡ cache.old.count) }
+    ensures place { OnOk result (place.new ≡ place_with tree.old.leaves place.old (leg ∷ [])
+        (page_made tree.old.shape.leaf cache.old.count place.old)) }
 
     // What is left of the cache, over any pages.
     ensures passes { Passes cache.old cache.new }

@@ -5,12 +5,12 @@ ghost use Rattle.pagecache.specs.Cache as caches;
 ghost use Rattle.pagecache.specs.Cache.{payload_of, AsksOnce, IsNotAdded, KeepsPayloads};
 ghost use Rattle.tbnode.specs.Edits.{new_inner};
 ghost use Rattle.tbtree.specs.Faults.{MayRefuseWrite};
-ghost use Rattle.tbtree.specs.Nodes.{pages_of_cache, AnInner, Adds, Attaches, Covers, HasCover, HasEntry, HasLeaf, HasLeafRoom, HasRoom, Links, Pushes, Widens};
+ghost use Rattle.tbtree.specs.Nodes.{pages_of_cache, AnInner, Adds, Attaches, Covers, HasCover, HasEntry, HasLastLeaf, HasLeafRoom, HasRoom, Links, Pushes, Widens};
 ghost use Rattle.tbtree.specs.Passes.{Touches};
 ghost use Rattle.tbtree.specs.Payloads.{TakesLegs, are_of_one_leaf, leaf_of_legs};
 
 use crate::fault::TreeFault;
-use crate::payloads::{child_of, cover_of, has_room, is_leaf, leaf_of_legs, push_legs, takes};
+use crate::payloads::{child_of, cover_of, has_room, is_last_leaf, leaf_of_legs, push_legs, takes};
 use legs::{Box3, Leg};
 use pagecache::{CacheFault, PageCache};
 use pages::{Kind, PageStore, Payload};
@@ -81,16 +81,19 @@ pub(crate) fn grow<S: PageStore>(
     Ok(())
 }
 
-/// Sets a leaf's next leaf.
+/// Sets the next leaf of a feature's last leaf.
 pub(crate) fn link<S: PageStore>(
     cache: &mut PageCache<S>,
     page: u32,
+    feature: u32,
     next: u32,
 ) -> Result<(), TreeFault>
     ensures links { IsTrue cache.old.store.is_faithful
         → OnOk result (Links (pages_of_cache cache.old) page next (pages_of_cache cache.new)) }
     ensures only { IsTrue cache.old.store.is_faithful
-        → HasLeaf (pages_of_cache cache.old) page → IfErr result MayRefuseWrite }
+        → HasLastLeaf (pages_of_cache cache.old) page feature → IfErr result MayRefuseWrite }
+    ensures last { IsTrue cache.old.store.is_faithful
+        → OnOk result (HasLastLeaf (pages_of_cache cache.old) page feature) }
     ensures touches { Touches cache.old cache.new result }
     ensures asked { cache.new.asked ≤ cache.old.asked + 1 }
 {
@@ -101,7 +104,7 @@ pub(crate) fn link<S: PageStore>(
         Ok(payload) => payload,
         Err(fault) => return Err(TreeFault::of(fault, page)),
     };
-    if !is_leaf(payload) {
+    if !is_last_leaf(payload, feature) {
         return Err(TreeFault::Malformed(page));
     }
     tbnode::set_next(payload, next);

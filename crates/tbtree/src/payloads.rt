@@ -4,7 +4,7 @@ ghost use Rattle.legs.specs.Hull.{hull, leg_boxes};
 ghost use Rattle.tbnode.specs.Form.{node_of};
 ghost use Rattle.tbnode.specs.Nodes.{as_leaf};
 ghost use Rattle.tbtree.specs.Nodes.{boxes, cover_all, cover_of_page};
-ghost use Rattle.tbtree.specs.Payloads.{IsEntry, HasNoEntry, IsLeafNode, Takes, TakesLegs, IsRoomy, are_of_one_leaf, cover_of_node, goes_on, leaf_of_legs, leaf_with_legs};
+ghost use Rattle.tbtree.specs.Payloads.{IsEntry, HasNoEntry, IsLastLeaf, Takes, TakesLegs, IsRoomy, are_of_one_leaf, cover_of_node, goes_on, leaf_of_legs, leaf_with_legs};
 
 use legs::{Box3, Leg};
 use pages::{Kind, Payload};
@@ -87,12 +87,12 @@ pub(crate) fn leaf_of_legs(previous: u32, legs: &[Leg]) -> Option<Payload>
     Some(payload)
 }
 
-/// Whether a payload is a leaf.
-pub(crate) fn is_leaf(payload: &Payload) -> bool
-    ensures { IsTrue result ↔ IsLeafNode (node_of payload.now) }
+/// Whether a payload is a leaf of that feature with none behind it.
+pub(crate) fn is_last_leaf(payload: &Payload, feature: u32) -> bool
+    ensures { IsTrue result ↔ IsLastLeaf (node_of payload.now) feature }
 {
     match tbnode::leaf(payload) {
-        Some(_) => true,
+        Some(leaf) => leaf.head().feature == feature && leaf.head().next == 0,
         None => false,
     }
 }

@@ -1,4 +1,7 @@
-use Rattle.std.proofs.Common.{drop, ◌≡◌, ◌<◌, ◌≤◌, ◌+◌, ◌-◌, ◌%◌, ◌∙◌, refl, ap, arith, length, subst, sym, take, inl, inr, ⊎_elim, ◌⊎◌, Ok}
+use Rattle.std.proofs.Math.Nat.{zero-mod}
+use Rattle.std.specs.Prelude.{IsTrue}
+use Rattle.legs.specs.Legs.{LegView}
+use Rattle.std.proofs.Common.{List, [], drop, ◌≡◌, ◌<◌, ◌≤◌, ◌+◌, ◌-◌, ◌%◌, ◌∙◌, refl, ap, arith, length, subst, sym, take, inl, inr, ⊎_elim, ◌⊎◌, Ok}
 use Rattle.std.proofs.lemmas.Bool.{cases_lt}
 use Rattle.std.proofs.lemmas.List.{take_all}
 use Rattle.std.proofs.lemmas.Result.{err_from_is_err_and}
@@ -7,9 +10,11 @@ use Rattle.tbtree.specs.Nodes.{pages_of_cache}
 use Rattle.tbtree.specs.Content.{Meets}
 use Rattle.tbtree.proofs.ContentLemmas.{meets_none, meets_part}
 use Rattle.tbtree.proofs.FillCosts.{filled_start, filled_part}
-use Rattle.tbtree.proofs.EndLemmas.{last_made, keeps_begun, keeps_then, IsLast}
-use Rattle.tbtree.proofs.FillLemmas.{all_in_last, joins_none, length_part, part_in_last, part_joins, part_refused}
-use Rattle.tbtree.specs.Joining.{in_last_leaf, taken_by_last, HasAtEnd, KeepsLegs}
+use Rattle.tbtree.proofs.LeafLemmas.{fills_none, fills_part, placed_last, placed_legs, placed_new}
+use Rattle.tbtree.proofs.FillLemmas.{joins_none, length_part, part_in_last, part_joins, part_refused}
+use Rattle.tbtree.specs.Filling.{page_made, place_with, Fills}
+use Rattle.tbtree.specs.Joining.{in_last_leaf, HasAtEnd}
+use Rattle.tbtree.specs.declared.tree.Place.{Place}
 use Rattle.tbtree.proofs.PassLemmas.{touches_none, touches_then}
 use Rattle.tbtree.proofs.RoomLemmas.{mod_at_next, mod_below_next}
 use Rattle.tbtree.proofs.Still.{still}
@@ -32,9 +37,9 @@ leaves-init g c =
       moves = inl refl;
       full = λ above left. absurd (omega (arith, above));
       ends = λ fa above. absurd (omega (arith, above));
-      first = λ z. refl;
-      last = λ fa. inl refl;
-      keeps = λ fa. keeps_begun tree.shape.leaf c.args.place.now.legs c.args.place.now.last c.args.legs.now (pages_of_cache cache);
+      fills = λ fa.
+          let none = fills_none tree.shape.leaf (pages_of_cache cache) tree.leaves c.args.place.now in
+          ([], none, λ some. ap (λ (l : List LegView). length l % tree.shape.leaf) none.made ∙ zero-mod tree.shape.leaf);
       met = λ fa. meets_none (pages_of_cache cache) tree;
       filled = filled_start tree.shape.leaf (length c.args.legs.now) cache tree c.args.place.now (omega (arith, least));
     }
@@ -67,7 +72,14 @@ leaves-preserved g c =
     let within : n + k ≤ length legs = let most = fits.most in let before = so_far.within in omega (arith, most, before) in
     let room : filled + k ≤ leaf = subst (λ m. c.leaves.place.legs % m + k ≤ m) own fits.room in
     let many = length_part legs n k within in
-    let counted : c.put.new.place.legs ≡ c.leaves.place.legs + k = put.legs ∙ ap (λ m. c.leaves.place.legs + m) many in
+    let legs_put = ap (λ (p : Place). p.legs) put.place ∙ placed_legs c.leaves.tree.leaves c.leaves.place (take (n + k - n) (drop n legs)) (page_made c.leaves.tree.shape.leaf now.count c.leaves.place) in
+    let counted : c.put.new.place.legs ≡ c.leaves.place.legs + k = legs_put ∙ ap (λ m. c.leaves.place.legs + m) many in
+    let all_ends : IsTrue old.store.is_faithful → HasAtEnd (pages_of_cache new) c.put.new.place.last (in_last_leaf leaf c.put.new.place.legs (take (n + k) legs)) = λ fa.
+    subst (λ l. HasAtEnd (pages_of_cache new) c.put.new.place.last l)
+    (sym (ap (λ m. in_last_leaf leaf m (take (n + k) legs)) counted ∙ part_in_last leaf c.leaves.place.legs n k legs fits.some within room (λ above. so_far.full above c.leaves-test.true)))
+    (put.ends (still _ _ so_far.touches.passes.store.faithful fa)) in
+    let stays_put : 0 < filled → c.put.new.place.last ≡ c.leaves.place.last = λ above. ap (λ (p : Place). p.last) put.place ∙ placed_last c.leaves.tree.shape.leaf c.leaves.tree.leaves now.count c.leaves.place (take (n + k - n) (drop n legs)) (omega (arith, same, above)) in
+    let made_put : filled ≡ 0 → c.put.new.place.last ≡ now.count = λ z. ap (λ (p : Place). p.last) put.place ∙ placed_new c.leaves.tree.shape.leaf c.leaves.tree.leaves now.count c.leaves.place (take (n + k - n) (drop n legs)) (same ∙ z) in
     record {
       within = within;
       joins = λ fa. part_joins (pages_of_cache old) (pages_of_cache now) (pages_of_cache new) c.args.tree.now c.leaves.tree c.put.new.tree c.args.place.now c.leaves.place c.put.new.place
@@ -76,54 +88,35 @@ leaves-preserved g c =
       shape = put.shape ∙ so_far.shape;
       touches = touches_then old now new tt (Ok tt) so_far.touches put.touches;
       higher = (let was = so_far.higher in let now = put.higher in omega (arith, was, now));
-      counted = (let legs_are = put.legs in let so_many = so_far.counted in omega (arith, legs_are, so_many, many));
+      counted = (let legs_are = legs_put in let so_many = so_far.counted in omega (arith, legs_are, so_many, many));
       stays = λ above all.
           let before = so_far.counted in
           let few : n < length legs = c.leaves-test.true in
           let at : filled ≡ c.args.place.now.legs % leaf + n = ap (λ m. m % leaf) before ∙ mod_below_next c.args.place.now.legs n leaf (omega (arith, all, few)) in
-          put.stays (omega (arith, same, at, above)) ∙ so_far.stays above all;
+          stays_put (omega (arith, at, above)) ∙ so_far.stays above all;
       moves = ⊎_elim
-          (λ (above : 0 < filled). subst (λ b. (b ≡ c.args.place.now.last) ⊎ (old.count ≤ b)) (sym (put.stays (omega (arith, same, above)))) so_far.moves)
+          (λ (above : 0 < filled). subst (λ b. (b ≡ c.args.place.now.last) ⊎ (old.count ≤ b)) (sym (stays_put above)) so_far.moves)
           (λ (none : filled ≤ 0).
-          let at = put.made (same ∙ let z : filled ≡ 0 = omega (arith, none) in z) in
+          let at = made_put (let z : filled ≡ 0 = omega (arith, none) in z) in
           let more = so_far.touches.passes.count in
           inr (omega (arith, at, more)))
           (cases_lt 0 filled);
       full = λ above left. ap (λ m. m % leaf) counted ∙ mod_at_next c.leaves.place.legs k leaf (full left);
-      ends = λ fa above. subst (λ l. HasAtEnd (pages_of_cache new) c.put.new.place.last l)
-          (sym (ap (λ m. in_last_leaf leaf m (take (n + k) legs)) counted ∙ part_in_last leaf c.leaves.place.legs n k legs fits.some within room (λ above. so_far.full above c.leaves-test.true)))
-          (put.ends (still _ _ so_far.touches.passes.store.faithful fa));
-      first = λ z. (let some = fits.some in absurd (omega (arith, z, some)));
-      last = λ fa. ⊎_elim
-          (λ (above : 0 < filled). subst (λ b. IsLast (pages_of_cache old) c.args.place.now.last b) (sym (put.stays (omega (arith, same, above)))) (so_far.last fa))
-          (λ (none : filled ≤ 0). last_made (taken_by_last leaf c.args.place.now.legs (take n legs)) (pages_of_cache old) (pages_of_cache now) c.args.place.now.last c.put.new.place.last (so_far.keeps fa)
-          (put.fresh (still _ _ so_far.touches.passes.store.faithful fa) (same ∙ let z : filled ≡ 0 = omega (arith, none) in z)))
-          (cases_lt 0 filled);
-      keeps = λ fa.
-          let count = c.args.place.now.legs in
-          let before : c.leaves.place.legs ≡ count + n = so_far.counted in
-          let later = put.keeps (still _ _ so_far.touches.passes.store.faithful fa) in
-          let part = take (n + k - n) (drop n legs) in
-          keeps_then leaf count n k legs (pages_of_cache old) (pages_of_cache now) (pages_of_cache new) c.args.place.now.last c.leaves.place.last
-          (let least = c.leaf-leaf.ensures.range.least_leaf in omega (arith, least))
-          (λ more. ap (λ m. m % leaf) (sym before) ∙ so_far.full more c.leaves-test.true)
-          so_far.first (so_far.last fa) (so_far.keeps fa)
-          (subst (λ m. KeepsLegs c.leaves.place.last (taken_by_last leaf m part) (pages_of_cache now) (pages_of_cache new)) before
-          (subst (λ m. KeepsLegs c.leaves.place.last (taken_by_last m c.leaves.place.legs part) (pages_of_cache now) (pages_of_cache new)) is later));
+      ends = λ fa above. all_ends fa;
+      fills = λ fa.
+          let now_faithful = still _ _ so_far.touches.passes.store.faithful fa in
+          let least = c.leaf-leaf.ensures.range.least_leaf in
+          fills_part leaf (pages_of_cache old) (pages_of_cache now) (pages_of_cache new) c.args.tree.now.leaves c.leaves.tree.leaves c.put.new.tree.leaves c.args.place.now c.leaves.place c.put.new.place legs n k
+          (omega (arith, least)) fits.some within (so_far.fills fa) (λ above. so_far.full above c.leaves-test.true) room full
+          (λ above. put.grows now_faithful (omega (arith, same, above))) (λ z. put.begins now_faithful (same ∙ z)) (put.ends now_faithful) (all_ends fa)
+          (subst (λ m. c.put.new.place ≡ place_with c.leaves.tree.leaves c.leaves.place (take (n + k - n) (drop n legs)) (page_made m now.count c.leaves.place)) is put.place)
+          (λ above. put.grown (omega (arith, same, above))) (λ z. put.begun (same ∙ z));
       met = λ fa. meets_part (pages_of_cache old) (pages_of_cache now) (pages_of_cache new) c.args.tree.now c.leaves.tree c.put.new.tree legs n k (so_far.met fa) (put.met (still _ _ so_far.touches.passes.store.faithful fa));
       filled = filled_part leaf n k (length legs) old now new c.args.tree.now c.leaves.tree c.put.new.tree c.leaves.place c.put.new.place
           fits.some so_far.filled c.leaves-test.true put.higher counted
           room full
           (λ z. put.begun (same ∙ z)) (λ z. put.begun_asked (same ∙ z)) (λ above. put.grown (omega (arith, same, above))) (λ above. put.grown_asked (omega (arith, same, above)));
     }
-
-pub returns-clause-ends : goal.returns-clause-ends
-returns-clause-ends g c = λ fa some.
-    let legs = c.args.legs.now in
-    let so_far = c.leaves.invariant in
-    let over = c.leaves-test.false in
-    subst (λ l. HasAtEnd (pages_of_cache c.leaves.cache) c.leaves.place.last (in_last_leaf c.args.tree.now.shape.leaf c.leaves.place.legs l)) (take_all c.leaves.from legs (omega (arith, over)))
-    (so_far.ends fa (omega (arith, over, some)))
 
 pub returns-clause-counted : goal.returns-clause-counted
 returns-clause-counted g c =
@@ -133,21 +126,6 @@ returns-clause-counted g c =
     let over = c.leaves-test.false in
     omega (arith, over, within, counted)
 
-pub returns-clause-whole : goal.returns-clause-whole
-returns-clause-whole g c = λ fa some room.
-    let legs = c.args.legs.now in
-    let leaf = c.args.tree.now.shape.leaf in
-    subst (λ l. HasAtEnd (pages_of_cache c.leaves.cache) c.leaves.place.last l) (ap (λ m. in_last_leaf leaf m legs) (returns-clause-counted g c) ∙ all_in_last leaf c.args.place.now.legs legs some room)
-    (returns-clause-ends g c fa some)
-
-pub returns-clause-keeps : goal.returns-clause-keeps
-returns-clause-keeps g c = λ fa.
-    let legs = c.args.legs.now in
-    let so_far = c.leaves.invariant in
-    let over = c.leaves-test.false in
-    subst (λ l. KeepsLegs c.args.place.now.last (taken_by_last c.args.tree.now.shape.leaf c.args.place.now.legs l) (pages_of_cache c.args.cache.now) (pages_of_cache c.leaves.cache)) (take_all c.leaves.from legs (omega (arith, over)))
-    (so_far.keeps fa)
-
 pub returns-clause-met : goal.returns-clause-met
 returns-clause-met g c = λ fa.
     let legs = c.args.legs.now in
@@ -155,3 +133,11 @@ returns-clause-met g c = λ fa.
     let over = c.leaves-test.false in
     subst (λ l. Meets (pages_of_cache c.args.cache.now) (pages_of_cache c.leaves.cache) c.args.tree.now c.leaves.tree l) (take_all c.leaves.from legs (omega (arith, over)))
     (so_far.met fa)
+
+pub returns-clause-fills : goal.returns-clause-fills
+returns-clause-fills g c = λ fa.
+    let legs = c.args.legs.now in
+    let so_far = c.leaves.invariant in
+    let over = c.leaves-test.false in
+    let f = so_far.fills fa in
+    (f.0, subst (λ l. Fills c.args.tree.now.shape.leaf (pages_of_cache c.args.cache.now) (pages_of_cache c.leaves.cache) c.args.tree.now.leaves c.leaves.tree.leaves c.args.place.now c.leaves.place l f.0) (take_all c.leaves.from legs (omega (arith, over))) f.1)

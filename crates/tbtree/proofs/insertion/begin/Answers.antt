@@ -1,7 +1,9 @@
-use Rattle.std.proofs.Common.{◌≡◌, ◌<◌, [], refl, arith}
+use Rattle.std.proofs.Common.{◌≡◌, ◌<◌, refl, arith, subst}
 use Rattle.std.proofs.lemmas.Result.{err_from_is_err_and}
+use Rattle.tbtree.specs.Filling.{BeginsLeaf}
 use Rattle.tbtree.specs.Nodes.{pages_of_cache}
-use Rattle.tbtree.proofs.EndLemmas.{ends_kept, keeps_kept}
+use Rattle.tbtree.proofs.EndLemmas.{ends_kept}
+use Rattle.tbtree.proofs.LeafLemmas.{begins_kept}
 use Rattle.tbtree.proofs.InsertLemmas.{inserts_begun, hang_not, add_not}
 use Rattle.tbtree.proofs.Still.{still}
 use Rattle.tbtree.proofs.ContentLemmas.{meets_begun}
@@ -23,7 +25,7 @@ pub returns-in_err-page-clause-inserts : goal.returns-in_err-page-clause-inserts
 returns-in_err-page-clause-inserts g c = λ fa.
     let tree = c.args.tree.now in
     let p = err_from_is_err_and c.from_residual.result c.from_residual.ensures.1 in
-    rw (p.1, p.2) (add_not (pages_of_cache c.args.cache.now) (pages_of_cache c.add_last.new.cache) tree tree c.args.place.now c.args.place.now c.args.legs.now _ (c.in_err-page.ensures.only fa))
+    rw (p.1, p.2) (add_not (pages_of_cache c.args.cache.now) (pages_of_cache c.add_last.new.cache) tree tree c.args.place.now c.args.place.now c.args.legs.now _ c.requires.some (c.in_err-page.ensures.only fa))
 
 pub returns-in_err-top-clause-inserts : goal.returns-in_err-top-clause-inserts
 returns-in_err-top-clause-inserts g c = λ fa.
@@ -37,13 +39,20 @@ pub returns-clause-ends : goal.returns-clause-ends
 returns-clause-ends g c = λ fa.
     ends_kept (pages_of_cache c.add_last.new.cache) (pages_of_cache c.hang_leaf.new.cache) c.in_ok-page.page c.args.legs.now (c.in_ok-top.ensures.leaves (still _ _ c.add_last.ensures.touches.passes.store.faithful fa)) (c.in_ok-page.ensures.ends fa)
 
-pub returns-clause-keeps : goal.returns-clause-keeps
-returns-clause-keeps g c = λ fa.
-    keeps_kept c.args.place.now.last [] (pages_of_cache c.args.cache.now) (pages_of_cache c.add_last.new.cache) (pages_of_cache c.hang_leaf.new.cache) (c.in_ok-page.ensures.keeps fa) (c.in_ok-top.ensures.leaves (still _ _ c.add_last.ensures.touches.passes.store.faithful fa))
-
 pub returns-clause-met : goal.returns-clause-met
 returns-clause-met g c = λ fa.
     let more = c.add_last.ensures.touches.passes.count in
     let first = c.requires.first in
     meets_begun (pages_of_cache c.args.cache.now) (pages_of_cache c.add_last.new.cache) (pages_of_cache c.hang_leaf.new.cache) c.args.tree.now _ c.in_ok-top.top c.in_ok-page.page c.args.legs.now
     (c.in_ok-page.ensures.says fa) (c.in_ok-top.ensures.carries (still _ _ c.add_last.ensures.touches.passes.store.faithful fa) (omega (arith, more, first))) refl refl c.in_ok-top.ensures.some (returns-clause-ends g c fa)
+
+pub returns-clause-leaf : goal.returns-clause-leaf
+returns-clause-leaf g c = λ fa.
+    let old = pages_of_cache c.args.cache.now in
+    let mid = pages_of_cache c.add_last.new.cache in
+    let new = pages_of_cache c.hang_leaf.new.cache in
+    let last = c.args.place.now.last in
+    let legs = c.args.legs.now in
+    let faithful = still _ _ c.add_last.ensures.touches.passes.store.faithful fa in
+    subst (λ p. BeginsLeaf old new last legs p) c.in_ok-page.ensures.number
+    (begins_kept old mid new last legs c.in_ok-page.page (c.in_ok-page.ensures.leaf fa) (c.in_ok-top.ensures.leaves faithful) (c.in_ok-top.ensures.no_more faithful) c.hang_leaf.ensures.touches.passes.count)

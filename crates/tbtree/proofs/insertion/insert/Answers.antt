@@ -1,9 +1,11 @@
-use Rattle.std.proofs.Common.{true, false, [], ◌∷◌}
+use Rattle.std.proofs.Common.{true, false, [], ◌∷◌, ◌<◌, arith}
+use Rattle.std.proofs.lemmas.Nat.{mod_below}
 use Rattle.std.specs.Prelude.{Ok, Err}
 use Rattle.std.proofs.lemmas.Result.{err_from_is_err_and}
 use Rattle.tbtree.specs.Nodes.{pages_of_cache}
 use Rattle.tbtree.proofs.InsertLemmas.{inserts_joined, inserts_spent, joins_one}
 use Rattle.tbtree.proofs.ContentLemmas.{grows_spent}
+use Rattle.tbtree.proofs.LeafLemmas.{fills_one}
 use Rattle.tbtree.proofs.insertion.insert.Goals as goal
 
 pub returns-clause-joins : goal.returns-clause-joins
@@ -28,3 +30,14 @@ returns-in_err-put-clause-inserts g c = λ w fa.
 pub returns-clause-met : goal.returns-clause-met
 returns-clause-met g c = λ fa.
     grows_spent (pages_of_cache c.args.cache.now) (pages_of_cache c.put.new.cache) c.args.tree.now c.put.new.tree true false (c.args.leg ∷ []) (c.in_ok-put.ensures.met fa)
+
+pub returns-clause-fills : goal.returns-clause-fills
+returns-clause-fills g c = λ fa.
+    let put = c.in_ok-put.ensures in
+    let place = c.args.place.now in
+    let leaf = c.args.tree.now.shape.leaf in
+    let least = put.range.least_leaf in
+    let some : 0 < leaf = omega (arith, least) in
+    let below = mod_below place.legs leaf some in
+    fills_one leaf (pages_of_cache c.args.cache.now) (pages_of_cache c.put.new.cache) c.args.tree.now.leaves c.put.new.tree.leaves place c.put.new.place (c.args.leg ∷ []) some (omega arith) (omega (arith, below))
+    (put.grows fa) (put.begins fa) (put.ends fa) put.place put.grown put.begun

@@ -6,11 +6,13 @@ use Rattle.legs.specs.Hull.{leg_boxes}
 use Rattle.legs.specs.Costs.{leg_feature}
 use Rattle.tbtree.specs.Faults.{MayRefuseWrite}
 use Rattle.tbtree.specs.declared.fault.TreeFault.TheVariants.{Malformed}
-use Rattle.tbtree.specs.Joining.{HasAtEnd, KeepsLegs}
+use Rattle.tbtree.specs.Filling.{GrowsLeaf}
+use Rattle.tbtree.specs.Joining.{HasAtEnd}
 use Rattle.tbtree.specs.Nodes.{pages_of_cache, LeafView, HasLeafRoom}
 use Rattle.tbtree.specs.Payloads.{TakesLegs}
 use Rattle.tbtree.proofs.LawfulBoxes.{lawful}
-use Rattle.tbtree.proofs.EndLemmas.{ends_pushed, keeps_pushed}
+use Rattle.tbtree.proofs.EndLemmas.{ends_pushed}
+use Rattle.tbtree.proofs.LeafLemmas.{grows_pushed}
 use Rattle.tbtree.proofs.Growing.{grow_way, grow_elsewhere, grow_refused}
 use Rattle.tbtree.proofs.Still.{still}
 use Rattle.tbtree.proofs.ContentLemmas.{on_grown}
@@ -24,15 +26,15 @@ returns-clause-ends g c = λ fa.
     subst (λ p. OnOk c.grow.result (HasAtEnd new p legs)) c.if-page-last.false
     (ends_pushed (pages_of_cache c.way.new.cache) new c.in_ok-page.page c.leaf-most.result legs c.grow.result (c.grow.ensures.takes faithful) (c.grow.ensures.pushes faithful))
 
-pub returns-clause-keeps : goal.returns-clause-keeps
-returns-clause-keeps g c = λ fa.
+pub returns-clause-leaf : goal.returns-clause-leaf
+returns-clause-leaf g c = λ fa.
     let faithful = still _ _ c.way.ensures.touches.passes.store.faithful fa in
     let old = pages_of_cache c.args.cache.now in
     let new = pages_of_cache c.grow.new.cache in
     let legs = c.args.legs.now in
-    subst (λ p. OnOk c.grow.result (KeepsLegs p legs old new)) c.if-page-last.false
-    (keeps_pushed old (pages_of_cache c.way.new.cache) new c.in_ok-page.page c.leaf-most.result legs c.grow.result
-    (c.in_ok-page.ensures.leaves fa) (c.grow.ensures.takes faithful) (c.grow.ensures.pushes faithful))
+    subst (λ p. OnOk c.grow.result (GrowsLeaf old new p legs)) c.if-page-last.false
+    (grows_pushed old (pages_of_cache c.way.new.cache) new c.in_ok-page.page c.leaf-most.result legs c.grow.result
+    (c.in_ok-page.ensures.leaves fa) (c.in_ok-page.ensures.no_more fa) (c.in_ok-page.ensures.found fa).counted (c.grow.ensures.takes faithful) (c.grow.ensures.pushes faithful))
 
 pub returns-then-page-last-clause-grows : goal.returns-then-page-last-clause-grows
 returns-then-page-last-clause-grows g c = λ fa.

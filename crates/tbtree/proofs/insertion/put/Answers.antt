@@ -1,11 +1,9 @@
-use Rattle.std.proofs.Common.{◌≡◌, ◌≢◌, ◌∙◌, ◌<◌, ◌≤◌, ◌-◌, ◌%◌, ◌^◌, ap, arith, length, subst, sym, ⊎_elim}
-use Rattle.std.specs.Prelude.{OnOk}
+use Rattle.std.proofs.Common.{◌≡◌, ◌∙◌, ◌<◌, ◌≤◌, ◌-◌, ◌^◌, arith, length, ⊎_elim}
 use Rattle.std.proofs.lemmas.Bool.{cases_lt}
 use Rattle.tbtree.specs.declared.fault.TreeFault.TheVariants.{Malformed}
 use Rattle.tbtree.specs.Nodes.{pages_of_cache}
-use Rattle.tbtree.specs.Joining.{KeepsLegs}
 use Rattle.tbtree.proofs.InsertLemmas.{few_enough}
-use Rattle.tbtree.proofs.OldLeaf.{fits, taken_all, taken_none}
+use Rattle.tbtree.proofs.OldLeaf.{fits}
 use Rattle.tbtree.proofs.insertion.put.Goals as goal
 use Rattle.tbtree.proofs.insertion.put.Goals.{then-tree-count-via-then-tree-count, then-tree-count-via-else-tree-count+then-tree-ge-MOST_LEVELS, then-tree-count-via-else-tree-count+else-tree-ge-MOST_LEVELS+then-place-leaf}
 
@@ -38,21 +36,3 @@ into_last-requires-clause-room g c =
     let least = c.leaf.ensures.range.least_leaf in
     fits c.args.tree.now.shape.leaf c.args.place.now.legs (length c.args.legs.now) (omega (arith, least)) c.requires.room
 
-pub returns-then-place-leaf-eq0-clause-keeps : goal.returns-then-place-leaf-eq0-clause-keeps
-returns-then-place-leaf-eq0-clause-keeps g c = λ fa.
-    let n = c.args.tree.now.shape.leaf in
-    let count = c.args.place.now.legs in
-    let is : c.from-leaf.result ≡ n = c.from-leaf.ensures ∙ c.leaf.ensures.value in
-    let full : count % n ≡ 0 = ap (λ m. count % m) (sym is) ∙ c.if-place-leaf-eq0.true in
-    subst (λ l. OnOk c.begin.result (KeepsLegs c.args.place.now.last l (pages_of_cache c.args.cache.now) (pages_of_cache c.begin.new.cache))) (sym (taken_none n count c.args.legs.now full)) (c.begin.ensures.keeps fa)
-
-pub returns-clause-keeps : goal.returns-clause-keeps
-returns-clause-keeps g c = λ fa.
-    let n = c.args.tree.now.shape.leaf in
-    let count = c.args.place.now.legs in
-    let legs = c.args.legs.now in
-    let least = c.leaf.ensures.range.least_leaf in
-    let is : c.from-leaf.result ≡ n = c.from-leaf.ensures ∙ c.leaf.ensures.value in
-    let there : count % n ≢ 0 = λ z. c.if-place-leaf-eq0.false (ap (λ m. count % m) is ∙ z) in
-    subst (λ l. OnOk c.into_last.result (KeepsLegs c.args.place.now.last l (pages_of_cache c.args.cache.now) (pages_of_cache c.into_last.new.cache)))
-    (sym (taken_all n count legs (omega (arith, least)) (omega (arith, there)) (fits n count (length legs) (omega (arith, least)) c.requires.room))) (c.into_last.ensures.keeps fa)
