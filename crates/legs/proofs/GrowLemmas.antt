@@ -1,5 +1,6 @@
 -- Legs put at the end of an index, one after another.
 use Rattle.std.proofs.Common.{◌≡◌, ◌≤◌, ◌∙◌, ◌++◌, true, Err, ◌∷◌, [], false, ap, sym, subst, refl, length, All, None, Some, List, arith, append_assoc}
+use Rattle.std.specs.List.{Contains}
 use Rattle.std.proofs.lemmas.Int.{clamps}
 use Rattle.std.proofs.lemmas.List.{append-nil}
 use Rattle.legs.specs.Finding.{no_finding}
@@ -17,6 +18,7 @@ list_words = record {
   content = λ index. index.legs;
   tells = λ index question legs. legs ≡ answer_in question index.legs;
   denies = λ index question page. ⊥;
+  holds = λ index leg. Contains index.legs leg;
   ends_with = λ index leg. last_leg_of leg.feature index.legs ≡ Some leg;
   counted = λ index. length index.legs;
   is_sound = λ index. (index.spent ≡ false) × All IsLeg index.legs;

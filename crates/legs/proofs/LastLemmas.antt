@@ -1,12 +1,13 @@
 -- The last leg of a feature.
 use Rattle.std.proofs.Common.{ℕ, suc, ◌+◌, ◌<◌, ◌≡◌, ◌≢◌, ◌==◌, ◌⊎◌, inl, inr, true, false, cond, ⊎_elim, refl, sym, ap, ◌∙◌, subst, arith, eq-eqb, All, List, [], ◌∷◌, ◌++◌, take, length, get_or, Option, Some, None}
-use Rattle.std.specs.List.{filter, fold}
-use Rattle.std.proofs.lemmas.Bool.{eqb-true}
+use Rattle.std.specs.List.{count_by, filter, fold, Contains}
+use Rattle.std.proofs.lemmas.Bool.{eqb-true, true≢false}
 use Rattle.std.proofs.lemmas.Grind.{fold-append}
-use Rattle.std.proofs.lemmas.List.{take_more}
-use Rattle.std.proofs.lemmas.List.Elements.{All-cons, All-nil}
-use Rattle.legs.specs.Asking.{EndsIn}
-use Rattle.legs.specs.Index.{is_of, last_leg_of}
+use Rattle.std.proofs.lemmas.List.{length-append, take_more}
+use Rattle.std.proofs.lemmas.List.Elements.{All-append, All-cons, All-contains, All-contains_itself, All-filter, All-nil, All-weaker, Contains-append_cases, Contains-append_left, Contains-append_right}
+use Rattle.std.proofs.lemmas.List.Sums.{length-filter, sum_by-append}
+use Rattle.legs.specs.Asking.{placed_legs, Takes}
+use Rattle.legs.specs.Index.{is_of, last_leg_of, legs_of}
 use Rattle.legs.specs.Legs.{LegView}
 use Rattle.legs.specs.Places.{ListView}
 use Rattle.legs.specs.declared.listed.Listed.{Ghosts}
@@ -60,43 +61,124 @@ last_holds P f ys y all = holds None ys all (λ z e. absurd (some_not z (sym e))
           | false ↦ λ e. h z e
         ])) y e
 
+-- the legs of each feature say which is its last
+pub last_filter : (f : ℕ) (d : Option LegView) (xs : List LegView) → last_or f d (filter (is_of f) xs) ≡ last_or f d xs
+last_filter f d [] = refl
+last_filter f d (x ∷ xs) =
+    (elim (x.feature == f) as (λ v. (x.feature == f) ≡ v → last_or f d (cond v (x ∷ filter (is_of f) xs) (filter (is_of f) xs)) ≡ last_or f (cond v (Some x) d) xs) [
+      | true ↦ λ is. ap (λ v. last_or f (cond v (Some x) d) (filter (is_of f) xs)) is ∙ last_filter f (Some x) xs
+      | false ↦ λ is. last_filter f d xs
+    ]) refl
+
+-- how many legs of a feature there are among some and others behind them
+count_then : (f : ℕ) (xs ys : List LegView) → count_by (is_of f) (xs ++ ys) ≡ count_by (is_of f) xs + count_by (is_of f) ys
+count_then f xs ys = sum_by-append (λ leg. cond (is_of f leg) 1 0) xs ys
+
 module _ {I : Type 0} (g : Ghosts I) where
   -- no leg changes nothing
-  pub ends_none : (a : I) → EndsIn g a a []
-  ends_none a = record { last = λ f leg e. absurd (some_not leg (sym e)); others = λ leg e h. h }
-
-  -- some legs, and then others
-  pub ends_then : (a b c : I) (xs ys : List LegView) → EndsIn g a b xs → EndsIn g b c ys → EndsIn g a c (xs ++ ys)
-  ends_then a b c xs ys p q = record {
-    last = λ f leg e.
-        let all = sym (last_append f xs ys) ∙ e in
-        ⊎_elim
-        (λ h. q.last f leg (h.1 ∙ sym h.2 ∙ all))
-        (λ h.
-        let first : last_leg_of f xs ≡ Some leg = sym h.1 ∙ all in
-        q.others leg (ap (λ n. last_leg_of n ys) (last_own f xs leg first) ∙ h.0) (p.last f leg first))
-        (last_over f (last_leg_of f xs) ys);
-    others = λ leg e h.
-        let all = sym (last_append leg.feature xs ys) ∙ e in
-        ⊎_elim
-        (λ k. absurd (some_not k.0 (sym k.2 ∙ all)))
-        (λ k. q.others leg k.0 (p.others leg (sym k.1 ∙ all) h))
-        (last_over leg.feature (last_leg_of leg.feature xs) ys);
+  pub takes_none : (a : I) → g.is_spent a ≡ false → Takes g a a []
+  takes_none a works = record {
+    kept = λ leg h. h;
+    put = All-nil (g.holds a);
+    counted = λ few. omega arith;
+    works = works;
+    plan = refl;
+    last = λ f leg e. absurd (some_not leg (sym e));
+    others = λ leg e h. h;
+    places = λ f place e h. h;
+    place_legs = λ f over. omega arith;
   }
 
-  -- a leg more of some
-  pub ends_more : (a b c : I) (legs : List LegView) (i : ℕ) (leg : LegView) → i < length legs → leg ≡ get_or legs i leg → EndsIn g a b (take i legs) → EndsIn g b c (leg ∷ []) → EndsIn g a c (take (i + 1) legs)
-  ends_more a b c legs i leg l is p q = subst (λ ls. EndsIn g a c ls) (sym (take_more legs i leg l ∙ ap (λ x. take i legs ++ x ∷ []) (sym is))) (ends_then a b c (take i legs) (leg ∷ []) p q)
+  -- some legs, and then others
+  pub takes_then : (a b c : I) (xs ys : List LegView) → Takes g a b xs → Takes g b c ys → Takes g a c (xs ++ ys)
+  takes_then a b c xs ys p q =
+      let many = length-append xs ys in
+      record {
+        kept = λ leg h. q.kept leg (p.kept leg h);
+        put = All-append (g.holds c) xs ys (All-weaker (g.holds b) (g.holds c) q.kept xs p.put) q.put;
+        counted = λ few.
+            let first = p.counted (omega (arith, few, many)) in
+            let then = q.counted (omega (arith, few, many, first)) in
+            omega (arith, first, then, many);
+        works = q.works;
+        plan = q.plan ∙ p.plan;
+        last = λ f leg e.
+            let all = sym (last_append f xs ys) ∙ e in
+            ⊎_elim
+            (λ h. q.last f leg (h.1 ∙ sym h.2 ∙ all))
+            (λ h.
+            let first : last_leg_of f xs ≡ Some leg = sym h.1 ∙ all in
+            q.others leg (ap (λ n. last_leg_of n ys) (last_own f xs leg first) ∙ h.0) (p.last f leg first))
+            (last_over f (last_leg_of f xs) ys);
+        others = λ leg e h.
+            let none = neither leg.feature e in
+            q.others leg none.1 (p.others leg none.0 h);
+        places = λ f place e h.
+            let none = neither f e in
+            q.places f place none.1 (p.places f place none.0 h);
+        place_legs = λ f over.
+            let first = p.place_legs f over in
+            let then = q.place_legs f (λ e. over (sym p.plan ∙ e)) in
+            let n = count_then f xs ys in
+            omega (arith, first, then, n);
+      }
+    where
+      neither : (f : ℕ) → last_leg_of f (xs ++ ys) ≡ None → (last_leg_of f xs ≡ None) × (last_leg_of f ys ≡ None)
+      neither f e =
+          let all = sym (last_append f xs ys) ∙ e in
+          ⊎_elim
+          (λ k. absurd (some_not k.0 (sym k.2 ∙ all)))
+          (λ k. (sym k.1 ∙ all, k.0))
+          (last_over f (last_leg_of f xs) ys)
 
-  -- which legs there are of each feature says with which it ends
-  pub ends_alike : (a b : I) (xs ys : List LegView) → ((f : ℕ) → last_leg_of f xs ≡ last_leg_of f ys) → EndsIn g a b xs → EndsIn g a b ys
-  ends_alike a b xs ys same p = record { last = λ f leg e. p.last f leg (same f ∙ e); others = λ leg e h. p.others leg (same leg.feature ∙ e) h }
+  -- a leg more of some
+  pub takes_more : (a b c : I) (legs : List LegView) (i : ℕ) (leg : LegView) → i < length legs → leg ≡ get_or legs i leg → Takes g a b (take i legs) → Takes g b c (leg ∷ []) → Takes g a c (take (i + 1) legs)
+  takes_more a b c legs i leg l is p q = subst (λ ls. Takes g a c ls) (sym (take_more legs i leg l ∙ ap (λ x. take i legs ++ x ∷ []) (sym is))) (takes_then a b c (take i legs) (leg ∷ []) p q)
+
+  -- in whatever order the features take turns
+  pub takes_alike : (a b : I) (xs ys : List LegView) → ((f : ℕ) → legs_of f xs ≡ legs_of f ys) → length xs ≡ length ys → Takes g a b xs → Takes g a b ys
+  takes_alike a b xs ys same many p =
+      let lasts : (f : ℕ) → last_leg_of f xs ≡ last_leg_of f ys = λ f. sym (last_filter f None xs) ∙ ap (last_or f None) (same f) ∙ last_filter f None ys in
+      record {
+        kept = p.kept;
+        put = λ k d l.
+            let leg = get_or ys k d in
+            let own : Contains (legs_of leg.feature ys) leg = of_own leg ys (All-contains_itself ys k d l) in
+            let there : Contains (legs_of leg.feature xs) leg = subst (λ ls. Contains ls leg) (sym (same leg.feature)) own in
+            All-contains (g.holds b) (legs_of leg.feature xs) leg (All-filter (is_of leg.feature) (g.holds b) xs p.put) there;
+        counted = λ few. p.counted (omega (arith, few, many)) ∙ ap (λ n. g.counted a + n) many;
+        works = p.works;
+        plan = p.plan;
+        last = λ f leg e. p.last f leg (lasts f ∙ e);
+        others = λ leg e h. p.others leg (lasts leg.feature ∙ e) h;
+        places = λ f place e h. p.places f place (lasts f ∙ e) h;
+        place_legs = λ f over. p.place_legs f over ∙ ap (λ n. placed_legs (g.found_by a) f + n) (sym (length-filter (is_of f) xs) ∙ ap length (same f) ∙ length-filter (is_of f) ys);
+      }
+    where
+      of_own : (leg : LegView) (zs : List LegView) → Contains zs leg → Contains (legs_of leg.feature zs) leg
+      of_own leg [] h = absurd (let l = h.1 in omega (arith, l))
+      of_own leg (z ∷ zs) h =
+          (elim (z.feature == leg.feature) as (λ v. (z.feature == leg.feature) ≡ v → Contains (cond v (z ∷ legs_of leg.feature zs) (legs_of leg.feature zs)) leg) [
+            | true ↦ λ is. ⊎_elim
+                (λ (one : Contains (z ∷ []) leg). Contains-append_left (z ∷ []) (legs_of leg.feature zs) leg one)
+                (λ (later : Contains zs leg). Contains-append_right (z ∷ []) (legs_of leg.feature zs) leg (of_own leg zs later))
+                (Contains-append_cases (z ∷ []) zs leg h)
+            | false ↦ λ is. ⊎_elim
+                (λ (one : Contains (z ∷ []) leg). absurd (true≢false (sym (eq-eqb z.feature leg.feature (ap (λ (l : LegView). l.feature) (All-contains (λ l. z ≡ l) (z ∷ []) leg (All-cons (λ l. z ≡ l) z [] refl (All-nil (λ l. z ≡ l))) one))) ∙ is)))
+                (λ (later : Contains zs leg). of_own leg zs later)
+                (Contains-append_cases (z ∷ []) zs leg h)
+          ]) refl
 
 -- legs at the end of a list
-pub list_ends : (old new : ListView) (legs : List LegView) → new.legs ≡ old.legs ++ legs → EndsIn list_words old new legs
-list_ends old new legs is =
+pub list_takes : (old new : ListView) (legs : List LegView) → new.legs ≡ old.legs ++ legs → new.spent ≡ false → Takes list_words old new legs
+list_takes old new legs is works =
     let at : (f : ℕ) → last_leg_of f new.legs ≡ last_or f (last_leg_of f old.legs) legs = λ f. ap (last_leg_of f) is ∙ last_append f old.legs legs in
     record {
+      kept = λ leg h. subst (λ ls. Contains ls leg) (sym is) (Contains-append_left old.legs legs leg h);
+      put = λ k d l. subst (λ ls. Contains ls (get_or legs k d)) (sym is) (Contains-append_right old.legs legs (get_or legs k d) (All-contains_itself legs k d l));
+      counted = λ few. ap length is ∙ length-append old.legs legs;
+      works = works;
+      plan = refl;
       last = λ f leg e.
           let own = last_own f legs leg e in
           let e' : last_leg_of leg.feature legs ≡ Some leg = ap (λ n. last_leg_of n legs) own ∙ e in
@@ -109,16 +191,9 @@ list_ends old new legs is =
           (λ k. absurd (some_not k.0 (sym k.1 ∙ e)))
           (λ k. at leg.feature ∙ k.1 ∙ h)
           (last_over leg.feature (last_leg_of leg.feature old.legs) legs);
+      places = λ f place e h. h;
+      place_legs = λ f over. absurd (over refl);
     }
-
--- the legs of each feature say which is its last
-pub last_filter : (f : ℕ) (d : Option LegView) (xs : List LegView) → last_or f d (filter (is_of f) xs) ≡ last_or f d xs
-last_filter f d [] = refl
-last_filter f d (x ∷ xs) =
-    (elim (x.feature == f) as (λ v. (x.feature == f) ≡ v → last_or f d (cond v (x ∷ filter (is_of f) xs) (filter (is_of f) xs)) ≡ last_or f (cond v (Some x) d) xs) [
-      | true ↦ λ is. ap (λ v. last_or f (cond v (Some x) d) (filter (is_of f) xs)) is ∙ last_filter f (Some x) xs
-      | false ↦ λ is. last_filter f d xs
-    ]) refl
 
 -- where a feature has no last leg there is none of it
 pub last_absent : (f : ℕ) (xs : List LegView) → last_leg_of f xs ≡ None → All (λ leg. leg.feature ≢ f) xs

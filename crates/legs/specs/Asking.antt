@@ -1,7 +1,8 @@
 -- What a call of an index leaves, and why it is refused.
-use Rattle.std.specs.Prelude.{ℕ, ℤ, ◌≡◌, ◌≤◌, ◌++◌, ◌∷◌, [], drop, true, List, Option, Some, None, Result, Err, IfErr, IsErrOf, OnErr, OnOk}
+use Rattle.std.specs.Prelude.{ℕ, ℤ, ◌≡◌, ◌≢◌, ◌≤◌, ◌<◌, ◌+◌, ◌^◌, ◌++◌, ◌∷◌, [], drop, true, false, length, count_by, slice_get, All, List, Option, Some, None, Result, Err, IfErr, IsErrOf, OnErr, OnOk}
 use Rattle.legs.specs.Legs.{LegView}
-use Rattle.legs.specs.Index.{last_leg_of, MayRefuse, MayRefuseLeg, HasRisen, CanFollowInTurn}
+use Rattle.legs.specs.Finding.{FeaturePlace, Finding}
+use Rattle.legs.specs.Index.{is_of, last_leg_of, MayRefuse, MayRefuseLeg, HasRisen, CanFollowInTurn}
 use Rattle.legs.specs.Costs.{ShapeView, RisesBy, RisesAtMost, add_bound, add_all_bound}
 use Rattle.legs.specs.declared.index.IndexFault.{IndexFault}
 use Rattle.legs.specs.declared.index.IndexFault.TheVariants.{Memory, Store, Damaged, StoreFull, Spent}
@@ -85,13 +86,33 @@ pub record Ends {I : Type 0} (g : Ghosts I) (old new : I) (legs : List LegView) 
 abbrev pub Grows : {I : Type 0} → Ghosts I → I → I → List LegView → Type 0
 Grows g old new legs = g.is_sound old → CanFollowInTurn (g.content old) legs → Ends g old new legs
 
--- what legs make of an index, sound or not: of each feature that they have it ends with the last one of them, and of
--- each other feature with the leg with which it ended
-pub record EndsIn {I : Type 0} (g : Ghosts I) (old new : I) (legs : List LegView) : Type 0 where
+-- how many legs the place of a feature counts; none where there is no place
+abbrev pub placed_legs : Finding → ℕ → ℕ
+placed_legs finding feature = legs_at (slice_get finding.places feature)
+  where
+    legs_at : Option FeaturePlace → ℕ
+    legs_at (Some place) = place.legs
+    legs_at None = 0
+
+-- what legs make of an index, sound or not: it has each leg that it had, and these, and counts them. Each feature that they
+-- have ends with the last one of them; each other one ends with the leg with which it ended, and is found where it was
+pub record Takes {I : Type 0} (g : Ghosts I) (old new : I) (legs : List LegView) : Type 0 where
+  pub kept : (leg : LegView) → g.holds old leg → g.holds new leg
+  pub put : All (g.holds new) legs
+  pub counted : g.counted old + length legs < 2 ^ 64 → g.counted new ≡ g.counted old + length legs
+  pub works : g.is_spent new ≡ false
+  pub plan : g.plan new ≡ g.plan old
   pub last : (feature : ℕ) (leg : LegView) → last_leg_of feature legs ≡ Some leg
       → g.ends_with new leg
   pub others : (leg : LegView) → last_leg_of leg.feature legs ≡ None → g.ends_with old leg
       → g.ends_with new leg
+  pub places : (feature : ℕ) (place : FeaturePlace) → last_leg_of feature legs ≡ None
+      → slice_get (g.found_by old).places feature ≡ Some place
+      → slice_get (g.found_by new).places feature ≡ Some place
+  -- of an index over pages the place of each feature counts the feature's legs
+  pub place_legs : (feature : ℕ) → g.plan old ≢ None
+      → placed_legs (g.found_by new) feature
+      ≡ placed_legs (g.found_by old) feature + count_by (is_of feature) legs
 
 -- of a sound index a leg that may follow asked for at most the pages of its ways through the tree
 abbrev pub AddAsks : {I : Type 0} → Ghosts I → I → I → LegView → Type 0

@@ -138,6 +138,7 @@ fn live_legs(alloc: Global, legs: &[Leg], period: &Period) -> Result<Vec<Leg>, A
 impl Listed for ListIndex {
     ghost use Rattle.std.specs.Prelude.{◌≡◌, false, All, None, Some, []};
     ghost use Rattle.std.specs.Prelude.{length};
+    ghost use Rattle.std.specs.List.{Contains};
     ghost use Rattle.legs.specs.Finding.{no_finding};
     ghost use Rattle.legs.specs.Index.{last_leg_of};
     ghost use Rattle.legs.specs.Legs.{IsLeg};
@@ -150,6 +151,8 @@ impl Listed for ListIndex {
     ghost tells = { λ index question legs. legs ≡ answer_in question index.legs };
 
     ghost denies = { λ index question page. ⊥ };
+
+    ghost holds = { λ index leg. Contains index.legs leg };
 
     ghost ends_with = { λ index leg. last_leg_of leg.feature index.legs ≡ Some leg };
 
@@ -181,6 +184,10 @@ impl LegIndex for ListIndex {
     ghost use Rattle.legs.specs.Legs.{IsLeg};
 
     ghost sound_lasts = { λ index sound. sound.0 };
+
+    ghost held = { λ index leg sound. ((λ held. held), (λ there. there)) };
+
+    ghost ended = { λ index leg sound. ((λ last. last), (λ last. last)) };
 
     ghost lawful = { λ index sound. sound.1 };
 

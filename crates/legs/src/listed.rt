@@ -22,6 +22,10 @@ pub trait Listed {
     /// Its pages say nothing to a question: the page of that number is met, and is not what it is to be there.
     ghost denies: { Self → Question → ℕ → Type 0 };
 
+    /// It has the leg: a leaf below the root of its tree, whoever wrote it, or its list. Of an index over a store that is
+    /// not faithful nothing is known, and it says anything.
+    ghost holds: { Self → LegView → Type 0 };
+
     /// The last leaf of the leg's feature, whoever wrote it, has the leg at its end; of an index that keeps a list,
     /// the leg is the last one of its feature. Of an index over a store that is not faithful nothing is known, and it
     /// says anything.

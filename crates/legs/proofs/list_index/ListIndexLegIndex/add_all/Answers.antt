@@ -4,7 +4,7 @@ use Rattle.std.proofs.lemmas.List.{drop_more}
 use Rattle.std.proofs.lemmas.Result.{err_from_is_err_and}
 use Rattle.legs.specs.Legs.{LegView}
 use Rattle.legs.proofs.GrowLemmas.{IsGrowing, growing-more, growing-refused, later-trans, list_words}
-use Rattle.legs.proofs.LastLemmas.{ends_more}
+use Rattle.legs.proofs.LastLemmas.{takes_more}
 use Rattle.legs.proofs.list_index.ListIndexLegIndex.add_all.Goals as goal
 
 pub returns-in_err-add-clause-refusals : goal.returns-in_err-add-clause-refusals
@@ -32,5 +32,5 @@ loop-leg-preserved c =
     record {
       growing = growing-more list_words old now c.add.new.self legs (drop (k + 1) legs) leg so_far more.added more.marked;
       later = later-trans list_words old now c.add.new.self c.loop-leg.invariant.later more.later;
-      ends = ends_more list_words old now c.add.new.self legs k leg c.loop-leg-test.true c.leg-item.is c.loop-leg.invariant.ends more.ends;
+      takes = takes_more list_words old now c.add.new.self legs k leg c.loop-leg-test.true c.leg-item.is c.loop-leg.invariant.takes more.takes;
     }
