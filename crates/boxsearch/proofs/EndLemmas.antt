@@ -1,39 +1,34 @@
--- With which leg each feature of an index ends, once legs are put into its leaves.
-use Rattle.std.proofs.Common.{ℕ, zero, suc, ◌+◌, ◌-◌, ◌%◌, ◌<◌, ◌≡◌, ◌≢◌, ◌==◌, true, false, cond, refl, sym, ap, ◌∙◌, arith, subst, ⊎_elim, All, List, [], ◌∷◌, ◌++◌, drop, length, Some, slice_get, set, Result, Ok, Err, OnOk, append_assoc}
+-- What legs make of an index, whatever its pages hold.
+use Rattle.std.proofs.Common.{ℕ, zero, suc, ◌+◌, ◌-◌, ◌^◌, ◌%◌, ◌<◌, ◌≤◌, ◌≡◌, ◌≢◌, ◌==◌, min, true, false, cond, refl, sym, ap, ◌∙◌, arith, subst, ⊎_elim, All, List, [], ◌∷◌, ◌++◌, map, drop, length, get_or, Option, Some, None, slice_get, set, Result, Ok, Err, OnOk, append_assoc}
 use Rattle.std.specs.Prelude.{IsTrue}
-use Rattle.std.proofs.lemmas.Bool.{cases_eq}
+use Rattle.std.specs.List.{count_by, Contains}
+use Rattle.std.proofs.lemmas.Bool.{cases_eq, eqb-true, true≢false}
 use Rattle.std.proofs.lemmas.List.{append-nil, drop-append-le, length_push}
-use Rattle.std.proofs.lemmas.List.Elements.{All-cons, All-nil, All-take}
-use Rattle.legs.specs.Asking.{EndsIn}
+use Rattle.std.proofs.lemmas.List.Elements.{All-cons, All-contains, All-nil}
+use Rattle.std.proofs.lemmas.Option.{slice_get-map}
+use Rattle.legs.specs.Asking.{placed_legs, HasTaken}
 use Rattle.legs.specs.Boxes.{BoxView}
-use Rattle.legs.specs.Index.{last_leg_of}
+use Rattle.legs.specs.Costs.{leg_feature}
+use Rattle.legs.specs.Finding.{FeaturePlace}
+use Rattle.legs.specs.Index.{is_of, last_leg_of}
 use Rattle.legs.specs.Legs.{LegView}
-use Rattle.legs.proofs.LastLemmas.{ends_then, last_absent, last_at_end, last_holds, last_own}
-use Rattle.tbtree.specs.Joining.{in_last_leaf, taken_by_last, HasAtEnd, KeepsLegs}
-use Rattle.tbtree.specs.Nodes.{Pages, ALeaf, pages_of_cache, with_legs}
+use Rattle.legs.proofs.LastLemmas.{last_absent, last_at_end, last_holds, last_own, takes_then}
+use Rattle.tbtree.specs.Content.{ContentGrows}
+use Rattle.tbtree.specs.Descent.{content_of}
+use Rattle.tbtree.specs.Filling.{KeepsLegs}
+use Rattle.tbtree.specs.Joining.{in_last_leaf, HasAtEnd}
+use Rattle.tbtree.specs.Nodes.{Pages, pages_of_cache, with_legs}
 use Rattle.tbtree.specs.Stands.{no_place}
 use Rattle.tbtree.specs.declared.fault.TreeFault.{TreeFault}
 use Rattle.tbtree.specs.declared.tree.Place.{Place}
 use Rattle.tbtree.proofs.EndLemmas.{ends_fewer}
+use Rattle.tbtree.proofs.RoomLemmas.{count_all_other, count_all_same}
 use Rattle.tbtree.proofs.Still.{still}
 use Rattle.boxsearch.specs.Answers.{answered, of_tree}
-use Rattle.boxsearch.specs.Index.{IndexView, words, with_place}
-use Rattle.boxsearch.specs.Putting.{Puts, PutsAll}
+use Rattle.boxsearch.specs.Index.{IndexView, found_by, holds, place_of, words, with_place}
+use Rattle.boxsearch.specs.Putting.{FillsSome, Puts, PutsAll}
 use Rattle.boxsearch.proofs.AddLemmas.{made}
-use Rattle.boxsearch.proofs.PlaceLemmas.{get-set_same, get-set_other, some_none}
-
-get_front : {X : Type 0} (xs ys : List X) (i : ℕ) (x : X) → slice_get xs i ≡ Some x → slice_get (xs ++ ys) i ≡ Some x
-get_front [] ys i x e = absurd (some_none x (sym e))
-get_front (y ∷ xs) ys zero x e = e
-get_front (y ∷ xs) ys (suc i) x e = get_front xs ys i x e
-
--- each place that is there stays where one is made
-place_stays : (places : List Place) (feature f : ℕ) (place : Place) → slice_get places f ≡ Some place → slice_get (with_place places feature) f ≡ Some place
-place_stays places feature f place e =
-    elim (feature == length places) as (λ v. slice_get (cond v (places ++ no_place ∷ []) places) f ≡ Some place) [
-      | true ↦ get_front places (no_place ∷ []) f place e
-      | false ↦ e
-    ]
+use Rattle.boxsearch.proofs.PlaceLemmas.{get-set_same, get-set_other, push_last, push_other, some_none}
 
 -- the last of some legs is among those of the last leaf
 last_in_leaf : (leaf count : ℕ) (front : List LegView) (leg : LegView) → (others : List LegView) × (in_last_leaf leaf count (front ++ leg ∷ []) ≡ others ++ leg ∷ [])
@@ -41,36 +36,62 @@ last_in_leaf leaf count front leg =
     let j = length (front ++ leg ∷ []) - ((count - 1) % leaf + 1) in
     (drop j front, drop-append-le j front (leg ∷ []) (let n = length_push front leg in omega (arith, n)))
 
--- legs that are of a feature and of another one are none
-of_none : (f : ℕ) (legs : List LegView) → All (λ leg. leg.feature ≡ f) legs → All (λ leg. leg.feature ≢ f) legs → legs ≡ []
-of_none f [] own off = refl
-of_none f (leg ∷ legs) own off = absurd (off 0 leg (omega arith) (own 0 leg (omega arith)))
-
 -- a leg of another feature stays at the end of its leaf
-stays_at_end : (old new : Pages LegView BoxView) (last leaf count : ℕ) (legs : List LegView) (p : ℕ) (leg : LegView) → All (λ other. other.feature ≢ leg.feature) legs → KeepsLegs last (taken_by_last leaf count legs) old new → HasAtEnd old p (leg ∷ []) → HasAtEnd new p (leg ∷ [])
-stays_at_end old new last leaf count legs p leg other keeps h =
+stays_at_end : (old new : Pages LegView BoxView) (last : ℕ) (taken legs : List LegView) (behind : Option ℕ) (p : ℕ) (leg : LegView) → 0 < length legs → All (λ other. other.feature ≢ leg.feature) legs → KeepsLegs last taken legs behind old new → HasAtEnd old p (leg ∷ []) → HasAtEnd new p (leg ∷ [])
+stays_at_end old new last taken [] behind p leg some other keeps h = absurd (omega (arith, some))
+stays_at_end old new last taken (first ∷ legs) behind p leg some other keeps h =
     let own : leg.feature ≡ h.leaf.feature = h.own 0 leg (omega arith) in
-    let more = taken_by_last leaf count legs in
-    ⊎_elim
-    (λ (e : p ≡ last).
-    let now = keeps.grown (with_legs (leg ∷ []) h.leaf) (ap old.at (sym e) ∙ h.is) in
-    let off : All (λ other. other.feature ≢ h.leaf.feature) more = subst (λ f. All (λ (l : LegView). l.feature ≢ f) more) own (All-take (λ (l : LegView). l.feature ≢ leg.feature) ((leaf - count % leaf) % leaf) legs other) in
-    let none : more ≡ [] = of_none h.leaf.feature more now.own off in
-    let same : (h.leaf.legs ++ leg ∷ []) ++ more ≡ h.leaf.legs ++ leg ∷ [] = ap (λ ls. (h.leaf.legs ++ leg ∷ []) ++ ls) none ∙ append-nil (h.leaf.legs ++ leg ∷ []) in
-    record {
-      above = h.above;
-      leaf = record h.leaf { next = now.next };
-      is = ap new.at e ∙ now.is ∙ ap (λ (ls : List LegView). Some (Some (ALeaf (record h.leaf { next = now.next; legs = ls })))) same;
-      own = h.own;
-    })
-    (λ (u : p ≢ last). record { above = h.above; leaf = h.leaf; is = keeps.rest p (with_legs (leg ∷ []) h.leaf) u h.is; own = h.own })
-    (cases_eq p last)
+    let apart : p ≢ last = λ e.
+    let now = keeps.grown (with_legs (leg ∷ []) h.leaf) (let a = h.above in omega (arith, a, e)) (ap old.at (sym e) ∙ h.is) in
+    other 0 first (omega arith) (now.own 0 first (omega arith) ∙ sym own) in
+    record { above = h.above; leaf = h.leaf; is = keeps.rest p (with_legs (leg ∷ []) h.leaf) (λ _. apart) h.is; own = h.own }
+
+-- the place of another feature is where it was
+get_made_other : (places : List Place) (feature f : ℕ) → f ≢ feature → slice_get (with_place places feature) f ≡ slice_get places f
+get_made_other places feature f u =
+    (elim (feature == length places) as (λ v. (feature == length places) ≡ v → slice_get (cond v (places ++ no_place ∷ []) places) f ≡ slice_get places f) [
+      | true ↦ λ is. push_other places no_place f (λ e. u (e ∙ sym (eqb-true _ _ is)))
+      | false ↦ λ is. refl
+    ]) refl
+
+-- how many legs the place of a feature counts, if there is one
+abbrev legs_in_place : Option Place → ℕ
+legs_in_place (Some place) = place.legs
+legs_in_place None = 0
+
+get_beyond : {X : Type 0} (xs : List X) (i : ℕ) → length xs ≤ i → slice_get xs i ≡ None
+get_beyond [] i l = refl
+get_beyond (x ∷ xs) zero l = absurd (omega (arith, l))
+get_beyond (x ∷ xs) (suc i) l = get_beyond xs i (omega (arith, l))
+
+-- one that is made counts none
+made_legs : (places : List Place) (feature : ℕ) (was : Place) → slice_get (with_place places feature) feature ≡ Some was → legs_in_place (slice_get places feature) ≡ was.legs
+made_legs places feature was =
+    (elim (feature == length places) as (λ v. (feature == length places) ≡ v → slice_get (cond v (places ++ no_place ∷ []) places) feature ≡ Some was → legs_in_place (slice_get places feature) ≡ was.legs) [
+      | true ↦ λ is found.
+          let end : feature ≡ length places = eqb-true _ _ is in
+          ap legs_in_place (get_beyond places feature (omega (arith, end))) ∙ ap (λ (p : Place). p.legs) (push_last places no_place was feature end found)
+      | false ↦ λ is found. ap legs_in_place found
+    ]) refl
+
+-- the places as numbers
+placed_is : (i : IndexView) (f : ℕ) → placed_legs (found_by i) f ≡ legs_in_place (slice_get i.places f)
+placed_is i f = at i.places f
+  where
+    at : (places : List Place) (f : ℕ) → placed_legs (record { root = i.tree.root; levels = i.tree.levels; leaves = i.tree.leaves; legs = i.legs; places = map place_of places }) f ≡ legs_in_place (slice_get places f)
+    at [] f = refl
+    at (p ∷ ps) zero = refl
+    at (p ∷ ps) (suc f) = at ps f
+
+same_place : (xs ys : List Place) (f : ℕ) (place : FeaturePlace) → slice_get ys f ≡ slice_get xs f → slice_get (map place_of xs) f ≡ Some place → slice_get (map place_of ys) f ≡ Some place
+same_place xs ys f place e h = slice_get-map place_of ys f ∙ ap (λ (o : Option Place). elim o as (λ _. Option FeaturePlace) [ Some q ↦ Some (place_of q) | None ↦ None ]) e ∙ sym (slice_get-map place_of xs f) ∙ h
 
 module _ (old new : IndexView) (feature : ℕ) (legs : List LegView) (was is : Place) (some : 0 < length legs) (one : All (λ leg. leg.feature ≡ feature) legs)
     (found : slice_get (with_place old.places feature) feature ≡ Some was) (places : new.places ≡ set (with_place old.places feature) feature is)
-    (faithful : new.cache.store.is_faithful ≡ old.cache.store.is_faithful)
-    (ends : IsTrue old.cache.store.is_faithful → (leg : LegView) → last_leg_of feature legs ≡ Some leg → HasAtEnd (pages_of_cache new.cache) is.last (leg ∷ []))
-    (keeps : IsTrue old.cache.store.is_faithful → KeepsLegs was.last (taken_by_last old.tree.shape.leaf was.legs legs) (pages_of_cache old.cache) (pages_of_cache new.cache)) where
+    (faithful : new.cache.store.is_faithful ≡ old.cache.store.is_faithful) (shape : new.tree.shape ≡ old.tree.shape) (works : new.tree.spent ≡ false)
+    (counted : new.legs ≡ min (old.legs + length legs) (2 ^ 64 - 1)) (placed : is.legs ≡ was.legs + length legs)
+    (fills : IsTrue old.cache.store.is_faithful → FillsSome old new was is legs)
+    (met : IsTrue old.cache.store.is_faithful → ContentGrows (pages_of_cache old.cache) (pages_of_cache new.cache) old.tree new.tree legs) where
   was_faithful : IsTrue new.cache.store.is_faithful → IsTrue old.cache.store.is_faithful
   was_faithful fa = still _ _ (sym faithful) fa
 
@@ -79,57 +100,89 @@ module _ (old new : IndexView) (feature : ℕ) (legs : List LegView) (was is : P
   other_feature [] some one f off = absurd (omega (arith, some))
   other_feature (y ∷ ys) some one f off = λ u. off 0 y (omega arith) (one 0 y (omega arith) ∙ sym u)
 
+  place_of_other : (f : ℕ) → f ≢ feature → slice_get new.places f ≡ slice_get old.places f
+  place_of_other f u = ap (λ l. slice_get l f) places ∙ get-set_other (with_place old.places feature) feature f is u ∙ get_made_other old.places feature f u
+
+  place_of_own : slice_get new.places feature ≡ Some is
+  place_of_own = ap (λ l. slice_get l feature) places ∙ get-set_same (with_place old.places feature) feature is was found
+
+  -- what the pages said they say, and the legs
+  says : (i : IndexView) (leg : LegView) → (IsTrue i.cache.store.is_faithful → Contains (content_of (pages_of_cache i.cache) i.tree) leg) → holds i leg
+  says i leg there = λ fa.
+      let legs = content_of (pages_of_cache i.cache) i.tree in
+      (elim i.cache.store.is_faithful as (λ b. IsTrue b → (IsTrue b → Contains legs leg) → Contains (cond b legs []) leg) [ true ↦ λ f h. h f | false ↦ λ f h. absurd (true≢false (sym f)) ]) fa there
+
+  said : (i : IndexView) (leg : LegView) → holds i leg → IsTrue i.cache.store.is_faithful → Contains (content_of (pages_of_cache i.cache) i.tree) leg
+  said i leg h = λ fa.
+      let legs = content_of (pages_of_cache i.cache) i.tree in
+      (elim i.cache.store.is_faithful as (λ b. IsTrue b → (IsTrue b → Contains (cond b legs []) leg) → Contains legs leg) [ true ↦ λ f h. h f | false ↦ λ f h. absurd (true≢false (sym f)) ]) fa h
+
+  count_of : (f : ℕ) → placed_legs (found_by new) f ≡ placed_legs (found_by old) f + count_by (is_of f) legs
+  count_of f = ⊎_elim
+      (λ (e : f ≡ feature).
+      let after = placed_is new f ∙ ap (λ g. legs_in_place (slice_get new.places g)) e ∙ ap legs_in_place place_of_own in
+      let before = placed_is old f ∙ ap (λ g. legs_in_place (slice_get old.places g)) e ∙ made_legs old.places feature was found in
+      let many : count_by (is_of f) legs ≡ length legs = ap (λ g. count_by (is_of g) legs) e ∙ count_all_same leg_feature 0 feature legs one in
+      omega (arith, after, before, many, placed))
+      (λ (u : f ≢ feature).
+      let same = placed_is new f ∙ ap legs_in_place (place_of_other f u) ∙ sym (placed_is old f) in
+      let none : count_by (is_of f) legs ≡ 0 = count_all_other leg_feature 0 feature f legs (λ e. u (sym e)) one in
+      omega (arith, same, none))
+      (cases_eq f feature)
+
   -- the legs of one feature that were put in
-  ends_put : EndsIn words old new legs
-  ends_put = record {
+  takes_put : HasTaken words old new legs
+  takes_put = record {
+    kept = λ leg h. says new leg (λ fa. All-contains (Contains (content_of (pages_of_cache new.cache) new.tree)) (content_of (pages_of_cache old.cache) old.tree) leg (met (was_faithful fa)).kept (said old leg h (was_faithful fa)));
+    put = λ k d l. says new (get_or legs k d) (λ fa. (met (was_faithful fa)).put k d l);
+    counted = λ few. counted ∙ omega (arith, few);
+    works = works;
+    plan = ap Some shape;
     last = λ f leg e fa.
         let own : leg.feature ≡ f = last_own f legs leg e in
         let mine : leg.feature ≡ feature = last_holds (λ l. l.feature ≡ feature) f legs leg one e in
+        let at = last_at_end feature legs leg one (ap (λ n. last_leg_of n legs) (sym mine ∙ own) ∙ e) in
+        let those = last_in_leaf old.tree.shape.leaf is.legs at.0 leg in
+        let f = (fills (was_faithful fa)).1 in
         record {
           place = is;
-          is = ap (λ l. slice_get l leg.feature) places ∙ ap (slice_get (set (with_place old.places feature) feature is)) mine ∙ get-set_same (with_place old.places feature) feature is was found;
-          at_end = ends (was_faithful fa) leg (ap (λ n. last_leg_of n legs) (sym mine ∙ own) ∙ e);
+          is = ap (slice_get new.places) mine ∙ place_of_own;
+          at_end = ends_fewer (pages_of_cache new.cache) is.last those.0 (leg ∷ []) (subst (λ l. HasAtEnd (pages_of_cache new.cache) is.last l) (ap (in_last_leaf old.tree.shape.leaf is.legs) at.1 ∙ those.1) (f.ends some));
         };
     others = λ leg e h fa.
         let off = last_absent leg.feature legs e in
         let before = h (was_faithful fa) in
+        let f = (fills (was_faithful fa)).1 in
         record {
           place = before.place;
-          is = ap (λ l. slice_get l leg.feature) places ∙ get-set_other (with_place old.places feature) feature leg.feature is (other_feature legs some one leg.feature off) ∙ place_stays old.places feature leg.feature before.place before.is;
-          at_end = stays_at_end (pages_of_cache old.cache) (pages_of_cache new.cache) was.last old.tree.shape.leaf was.legs legs before.place.last leg off (keeps (was_faithful fa)) before.at_end;
+          is = place_of_other leg.feature (other_feature legs some one leg.feature off) ∙ before.is;
+          at_end = stays_at_end (pages_of_cache old.cache) (pages_of_cache new.cache) was.last _ legs _ before.place.last leg some off f.keeps before.at_end;
         };
+    places = λ f place e h. same_place old.places new.places f place (place_of_other f (other_feature legs some one f (last_absent f legs e))) h;
+    place_legs = λ f over. count_of f;
   }
 
 -- a leg
-pub leg_ends : (old new : IndexView) (leg : LegView) (r : Result (Unit {0}) TreeFault) → Puts (made old leg.feature) new leg r → OnOk (answered (λ fault. of_tree fault) r) (EndsIn words old new (leg ∷ []))
-leg_ends old new leg (Ok tt) p =
+pub leg_takes : (old new : IndexView) (leg : LegView) (r : Result (Unit {0}) TreeFault) → Puts (made old leg.feature) new leg r → OnOk (answered (λ fault. of_tree fault) r) (HasTaken words old new (leg ∷ []))
+leg_takes old new leg (Ok tt) p =
     let one : All (λ l. l.feature ≡ leg.feature) (leg ∷ []) = All-cons (λ l. l.feature ≡ leg.feature) leg [] refl (All-nil (λ l. l.feature ≡ leg.feature)) in
-    ends_put old new leg.feature (leg ∷ []) p.was p.is (omega arith) one p.found p.places p.passes.store.faithful
-    (λ fa last e. subst (λ l. HasAtEnd (pages_of_cache new.cache) p.is.last (l ∷ [])) (last_holds (λ l. leg ≡ l) leg.feature (leg ∷ []) last (All-cons (λ l. leg ≡ l) leg [] refl (All-nil (λ l. leg ≡ l))) e) (p.ends fa))
-    p.keeps
-leg_ends old new leg (Err x) p = tt
+    takes_put old new leg.feature (leg ∷ []) p.was p.is (omega arith) one p.found p.places p.passes.store.faithful p.shape p.works p.legs p.placed p.fills p.met
+leg_takes old new leg (Err x) p = tt
 
 -- legs of one feature
-pub run_ends : (old new : IndexView) (feature : ℕ) (legs : List LegView) → 0 < length legs → All (λ leg. leg.feature ≡ feature) legs → (r : Result (Unit {0}) TreeFault) → PutsAll (made old feature) new feature legs r
-    → OnOk (answered (λ fault. of_tree fault) r) (EndsIn words old new legs)
-run_ends old new feature legs some one (Ok tt) p =
-    ends_put old new feature legs p.was p.is some one p.found p.places p.passes.store.faithful
-    (λ fa last e.
-    let at = last_at_end feature legs last one e in
-    let those = last_in_leaf old.tree.shape.leaf p.is.legs at.0 last in
-    ends_fewer (pages_of_cache new.cache) p.is.last those.0 (last ∷ [])
-    (subst (λ l. HasAtEnd (pages_of_cache new.cache) p.is.last l) (ap (in_last_leaf old.tree.shape.leaf p.is.legs) at.1 ∙ those.1) (p.ends fa some)))
-    p.keeps
-run_ends old new feature legs some one (Err x) p = tt
+pub run_takes : (old new : IndexView) (feature : ℕ) (legs : List LegView) → 0 < length legs → All (λ leg. leg.feature ≡ feature) legs → (r : Result (Unit {0}) TreeFault) → PutsAll (made old feature) new feature legs r
+    → OnOk (answered (λ fault. of_tree fault) r) (HasTaken words old new legs)
+run_takes old new feature legs some one (Ok tt) p = takes_put old new feature legs p.was p.is some one p.found p.places p.passes.store.faithful p.shape p.works p.counted p.placed p.fills p.met
+run_takes old new feature legs some one (Err x) p = tt
 
 -- a run more
-pub run_more : (old now new : IndexView) (all left rest run : List LegView) → left ≡ run ++ rest → (done : List LegView) × EndsIn words old now done × (done ++ left ≡ all) → EndsIn words now new run
-    → (done : List LegView) × EndsIn words old new done × (done ++ rest ≡ all)
+pub run_more : (old now new : IndexView) (all left rest run : List LegView) → left ≡ run ++ rest → (done : List LegView) × HasTaken words old now done × (done ++ left ≡ all) → HasTaken words now new run
+    → (done : List LegView) × HasTaken words old new done × (done ++ rest ≡ all)
 run_more old now new all left rest run is so_far more = (
   so_far.0 ++ run,
-  ends_then words old now new so_far.0 run so_far.1 more,
+  takes_then words old now new so_far.0 run so_far.1 more,
   append_assoc so_far.0 run rest ∙ ap (λ l. so_far.0 ++ l) (sym is) ∙ so_far.2,
 )
 
-pub run_end : (old now : IndexView) (all left : List LegView) → left ≡ [] → (done : List LegView) × EndsIn words old now done × (done ++ left ≡ all) → EndsIn words old now all
-run_end old now all left none so_far = subst (λ l. EndsIn words old now l) (sym (append-nil so_far.0) ∙ ap (λ l. so_far.0 ++ l) (sym none) ∙ so_far.2) so_far.1
+pub run_end : (old now : IndexView) (all left : List LegView) → left ≡ [] → (done : List LegView) × HasTaken words old now done × (done ++ left ≡ all) → HasTaken words old now all
+run_end old now all left none so_far = subst (λ l. HasTaken words old now l) (sym (append-nil so_far.0) ∙ ap (λ l. so_far.0 ++ l) (sym none) ∙ so_far.2) so_far.1

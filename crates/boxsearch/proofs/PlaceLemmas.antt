@@ -15,13 +15,13 @@ pub some_none : {X : Type 0} (x : X) → Some x ≡ None → ⊥
 some_none x e = absurd cc
 
 module _ {X : Type 0} where
-  push_last : (xs : List X) (v x : X) (i : ℕ) → i ≡ length xs → slice_get (xs ++ v ∷ []) i ≡ Some x → v ≡ x
+  pub push_last : (xs : List X) (v x : X) (i : ℕ) → i ≡ length xs → slice_get (xs ++ v ∷ []) i ≡ Some x → v ≡ x
   push_last [] v x zero e h = some_same v x h
   push_last [] v x (suc i) e h = absurd (omega (arith, e))
   push_last (y ∷ xs) v x zero e h = absurd (omega (arith, e))
   push_last (y ∷ xs) v x (suc i) e h = push_last xs v x i (omega (arith, e)) h
 
-  push_other : (xs : List X) (v : X) (i : ℕ) → i ≢ length xs → slice_get (xs ++ v ∷ []) i ≡ slice_get xs i
+  pub push_other : (xs : List X) (v : X) (i : ℕ) → i ≢ length xs → slice_get (xs ++ v ∷ []) i ≡ slice_get xs i
   push_other [] v zero e = absurd (e refl)
   push_other [] v (suc i) e = refl
   push_other (x ∷ xs) v zero e = refl

@@ -5,12 +5,12 @@ use Rattle.std.specs.List.{filter}
 use Rattle.std.specs.List.Sorted.{IsPermutation, IsNonDecreasingBy}
 use Rattle.std.proofs.lemmas.Bool.{cases_eq, cases_lt}
 use Rattle.std.proofs.lemmas.Bool.Decides.{nat_tests}
-use Rattle.std.proofs.lemmas.List.{append-nil, length_push, length-set}
+use Rattle.std.proofs.lemmas.List.{append-nil, length-map, length_push, length-set}
+use Rattle.std.proofs.lemmas.List.Sorted.{length_permutation}
 use Rattle.legs.specs.Costs.{leg_feature}
-use Rattle.legs.specs.Index.{is_of, last_leg_of}
+use Rattle.legs.specs.Index.{is_of, legs_of}
 use Rattle.legs.specs.Legs.{LegView}
 use Rattle.legs.specs.Places.{no_leg}
-use Rattle.legs.proofs.LastLemmas.{last_filter, last_or}
 use Rattle.tbtree.specs.Order.{put_in, put_all, elements}
 use Rattle.tbtree.specs.declared.tree.Place.{Place}
 use Rattle.tbtree.proofs.BlockOrder.{Each, each_map, each_put, IsUpFrom, put_filter, put_up}
@@ -19,7 +19,7 @@ use Rattle.boxsearch.specs.Turns.{leaf_for, open_after, open_at, open_with, open
 use Rattle.boxsearch.specs.declared.turns.Open.{Open}
 use Rattle.boxsearch.specs.declared.turns.Turn.{Turn}
 use Rattle.boxsearch.proofs.TurnNumbers.{get_front, get_last, get_place, map_pairs, opened_at, set_other, set_same, some_place}
-use Rattle.boxsearch.proofs.TurnOrder.{InOrder, taken_elements, turns_put}
+use Rattle.boxsearch.proofs.TurnOrder.{InOrder, length_from, taken_elements, turns_put}
 use Rattle.boxsearch.proofs.TurnSteps.{opened_length}
 
 get_beyond : {X : Type 0} (xs : List X) (i : ℕ) (d : X) → length xs ≤ i → get_or xs i d ≡ d
@@ -145,11 +145,11 @@ all_filter f out (p ∷ ps) up key cross =
     all_filter f (put_in p out) ps (put_up 0 p out (omega arith) up) key.1 (each_put P p out key.0 (each_map A P out (λ q h. h.1) cross))
     ∙ put_filter leg_feature 0 p.0 p.1 f 0 out (elements ps) up (each_map A B out (λ q h l e. let low = h.0 (sym e) in omega (arith, l, low)) cross)
 
--- turns in order end, for each feature, with the last of its legs
-pub same_lasts : InOrder → (places : List Place) (most : ℕ) (legs : List LegView) (turns : List Turn) → length places + length legs < 2 ^ 32
+-- turns in order take the legs of each feature in their own order
+pub same_legs : InOrder → (places : List Place) (most : ℕ) (legs : List LegView) (turns : List Turn) → length places + length legs < 2 ^ 32
     → IsPermutation (turns_from most (opened_from most 0 places) (length places) 0 legs) turns → IsNonDecreasingBy turn_number turns
-    → (f : ℕ) → last_leg_of f (taken legs turns) ≡ last_leg_of f legs
-same_lasts in_order places most legs turns few moved rises f =
+    → (f : ℕ) → legs_of f (taken legs turns) ≡ legs_of f legs
+same_legs in_order places most legs turns few moved rises f =
     let base = length places in
     let ends = opened_from most 0 places in
     let ts = turns_from most ends base 0 legs in
@@ -160,6 +160,8 @@ same_lasts in_order places most legs turns few moved rises f =
     omega (arith, at, l, len) in
     let are : taken legs turns ≡ elements (put_all [] N) =
     taken_elements legs turns ∙ ap elements (turns_put in_order places most legs turns few moved rises ∙ ap (put_all []) (map_pairs (λ place. get_or legs place no_leg) ts ∙ numbers_from most base legs [] legs ends 0 refl refl)) in
-    let same : filter (is_of f) (taken legs turns) ≡ filter (is_of f) legs =
-    ap (filter (is_of f)) are ∙ all_filter f [] N tt (key_up most base ends 0 legs low) tt ∙ ap (filter (is_of f)) (elements_from most base ends 0 legs) in
-    sym (last_filter f None (taken legs turns)) ∙ ap (last_or f None) same ∙ last_filter f None legs
+    ap (filter (is_of f)) are ∙ all_filter f [] N tt (key_up most base ends 0 legs low) tt ∙ ap (filter (is_of f)) (elements_from most base ends 0 legs)
+
+-- and as many as there are
+pub as_many_taken : (most : ℕ) (legs : List LegView) (turns : List Turn) (base : ℕ) (ends : List Open) → IsPermutation (turns_from most ends base 0 legs) turns → length (taken legs turns) ≡ length legs
+as_many_taken most legs turns base ends moved = length-map turns (λ (t : Turn). get_or legs t.place no_leg) ∙ length_permutation (turns_from most ends base 0 legs) turns moved ∙ length_from most base 0 ends legs

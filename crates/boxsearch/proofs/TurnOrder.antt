@@ -108,7 +108,7 @@ counted_from : (most base k : ℕ) (ends : List Open) (legs : List LegView) → 
 counted_from most base k ends [] = tt
 counted_from most base k ends (leg ∷ legs) = (refl, counted_from most base (k + 1) (open_after most ends leg.feature (base + k)) legs)
 
-length_from : (most base k : ℕ) (ends : List Open) (legs : List LegView) → length (turns_from most ends base k legs) ≡ length legs
+pub length_from : (most base k : ℕ) (ends : List Open) (legs : List LegView) → length (turns_from most ends base k legs) ≡ length legs
 length_from most base k ends [] = refl
 length_from most base k ends (leg ∷ legs) = ap suc (length_from most base (k + 1) (open_after most ends leg.feature (base + k)) legs)
 

@@ -1,5 +1,6 @@
 -- What contracts see of an index over pages.
 use Rattle.std.specs.Prelude.{ℕ, ◌≡◌, ◌<◌, ◌-◌, ◌^◌, ◌==◌, min, Bool, true, false, if◌then◌else◌, IsTrue, List, [], ◌∷◌, ◌++◌, map, take, drop, length, slice_get, Option, Some, All}
+use Rattle.std.specs.List.{Contains}
 use Rattle.legs.specs.Costs.{ShapeView}
 use Rattle.legs.specs.Finding.{FeaturePlace, Finding}
 use Rattle.legs.specs.Index.{feature_count}
@@ -43,6 +44,10 @@ tells i question legs =
 abbrev pub denies : IndexView → Question → ℕ → Type 0
 denies i question page =
     IsTrue i.cache.store.is_faithful → Denies (pages_of_cache i.cache) i.tree i.places question page
+
+-- its pages say the leg; anything where its store is not faithful
+abbrev pub holds : IndexView → LegView → Type 0
+holds i leg = IsTrue i.cache.store.is_faithful → Contains (content i) leg
 
 -- the last leaf of the leg's feature has the leg at its end; anything where its store is not faithful
 abbrev pub ends_with : IndexView → LegView → Type 0
@@ -139,6 +144,7 @@ words = record {
   content = λ index. content index;
   tells = λ index question legs. tells index question legs;
   denies = λ index question page. denies index question page;
+  holds = λ index leg. holds index leg;
   ends_with = λ index leg. ends_with index leg;
   counted = λ index. index.legs;
   is_sound = λ index. IsSound index;

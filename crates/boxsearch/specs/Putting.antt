@@ -3,13 +3,22 @@ use Rattle.std.specs.Prelude.{ℕ, ◌≡◌, ◌≤◌, ◌+◌, ◌*◌, ◌-�
 use Rattle.legs.specs.Legs.{LegView}
 use Rattle.tbtree.specs.Faults.{RefusesWrite}
 use Rattle.tbtree.specs.Insert.{Inserts}
-use Rattle.tbtree.specs.Joining.{in_last_leaf, taken_by_last, HasAtEnd, Joins, JoinsAll, KeepsLegs}
+use Rattle.tbtree.specs.Content.{ContentGrows}
+use Rattle.tbtree.specs.Filling.{Fills}
+use Rattle.tbtree.specs.Joining.{Joins, JoinsAll}
 use Rattle.tbtree.specs.Nodes.{pages_of_cache}
 use Rattle.tbtree.specs.Passes.{Passes, KeepsLength}
 use Rattle.tbtree.specs.declared.fault.TreeFault.{TreeFault}
 use Rattle.tbtree.specs.declared.tree.Place.{Place}
 use Rattle.boxsearch.specs.Index.{IndexView}
 
+-- the leaves of a feature have them, and new ones, whose pages these are
+abbrev pub FillsSome : (old new : IndexView) (was is : Place) → List LegView → Type 0
+FillsSome old new was is legs =
+    (pages : List ℕ) × Fills old.tree.shape.leaf (pages_of_cache old.cache)
+    (pages_of_cache new.cache) old.tree.leaves new.tree.leaves was is legs pages
+
+-- what putting a leg makes of it
 pub record Puts (old new : IndexView) (leg : LegView)
     (result : Result (Unit {0}) TreeFault) : Type 0 where
   pub was : Place
@@ -22,12 +31,12 @@ pub record Puts (old new : IndexView) (leg : LegView)
   pub joins : IsTrue old.cache.store.is_faithful
       → Joins (pages_of_cache old.cache) (pages_of_cache new.cache) old.tree new.tree
       was is leg result
-  pub ends : IsTrue old.cache.store.is_faithful
-      → OnOk result (HasAtEnd (pages_of_cache new.cache) is.last (leg ∷ []))
-  pub keeps : IsTrue old.cache.store.is_faithful
-      → OnOk result
-      (KeepsLegs was.last (taken_by_last old.tree.shape.leaf was.legs (leg ∷ []))
-      (pages_of_cache old.cache) (pages_of_cache new.cache))
+  pub fills : IsTrue old.cache.store.is_faithful
+      → OnOk result (FillsSome old new was is (leg ∷ []))
+  pub met : IsTrue old.cache.store.is_faithful
+      → OnOk result (ContentGrows (pages_of_cache old.cache) (pages_of_cache new.cache) old.tree
+      new.tree (leg ∷ []))
+  pub placed : OnOk result (is.legs ≡ was.legs + 1)
   pub shape : new.tree.shape ≡ old.tree.shape
   pub passes : Passes old.cache new.cache
   pub count : OnOk result (KeepsLength old.cache new.cache)
@@ -48,12 +57,11 @@ pub record PutsAll (old new : IndexView) (feature : ℕ) (legs : List LegView)
   pub joins : IsTrue old.cache.store.is_faithful
       → JoinsAll (pages_of_cache old.cache) (pages_of_cache new.cache) old.tree new.tree was
       is legs result
-  pub ends : IsTrue old.cache.store.is_faithful → 0 < length legs
-      → OnOk result (HasAtEnd (pages_of_cache new.cache) is.last
-      (in_last_leaf old.tree.shape.leaf is.legs legs))
-  pub keeps : IsTrue old.cache.store.is_faithful
-      → OnOk result (KeepsLegs was.last (taken_by_last old.tree.shape.leaf was.legs legs)
-      (pages_of_cache old.cache) (pages_of_cache new.cache))
+  pub fills : IsTrue old.cache.store.is_faithful → OnOk result (FillsSome old new was is legs)
+  pub met : IsTrue old.cache.store.is_faithful
+      → OnOk result (ContentGrows (pages_of_cache old.cache) (pages_of_cache new.cache) old.tree
+      new.tree legs)
+  pub placed : OnOk result (is.legs ≡ was.legs + length legs)
   pub shape : new.tree.shape ≡ old.tree.shape
   pub passes : Passes old.cache new.cache
   pub count : OnOk result (KeepsLength old.cache new.cache)

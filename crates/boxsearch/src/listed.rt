@@ -14,13 +14,15 @@ impl<S: PageStore> Listed for TreeIndex<S> {
     ghost use Rattle.std.specs.Prelude.{Some, min, ◌≡◌, ◌-◌, ◌^◌};
     ghost use Rattle.pagecache.specs.Cache.{IsClean};
     ghost use Rattle.boxsearch.specs.Known.{KnowsBackTo};
-    ghost use Rattle.boxsearch.specs.Index.{content, denies, ends_with, found_by, tells, written, IsSound, IsMarked};
+    ghost use Rattle.boxsearch.specs.Index.{content, denies, ends_with, found_by, holds, tells, written, IsSound, IsMarked};
 
     ghost content = { λ index. content index };
 
     ghost tells = { λ index question legs. tells index question legs };
 
     ghost denies = { λ index question page. denies index question page };
+
+    ghost holds = { λ index leg. holds index leg };
 
     ghost ends_with = { λ index leg. ends_with index leg };
 
@@ -52,6 +54,8 @@ impl<S: PageStore> Listed for TreeIndex<S> {
 
 impl<S: PageStore> LegIndex for TreeIndex<S> {
     ghost sound_lasts = { λ index sound. sound.works };
+
+    ghost held = { λ index leg sound. ((λ held. held sound.faithful), (λ there faithful. there)) };
 
     ghost lawful = { λ index sound. sound.lawful };
 

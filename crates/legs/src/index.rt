@@ -35,13 +35,13 @@ pub enum IndexFault {
 /// A question is answered by what the pages say, whoever wrote them, and by nothing else: where a page that is met is
 /// not what it is to be there, it is `Damaged`, with that page.
 pub trait LegIndex: Listed {
-    ghost use Rattle.std.specs.Prelude.{ℤ, ◌≤ℤ◌, ◌≡◌, ◌↔◌, ◌∷◌, [], Some, true, false, length, All, OnOk, IfOk, MatchResult};
+    ghost use Rattle.std.specs.Prelude.{ℤ, ◌≤ℤ◌, ◌≡◌, ◌↔◌, ◌∷◌, [], true, false, length, All, OnOk, IfOk, MatchResult};
     ghost use Rattle.std.specs.List.{Contains};
     ghost use Rattle.legs.specs.Legs.{IsLeg, LegView};
-    ghost use Rattle.legs.specs.Index.{last_leg_of, legs_in_box, legs_of, live_legs_of};
+    ghost use Rattle.legs.specs.Index.{legs_in_box, legs_of, live_legs_of};
     ghost use Rattle.legs.specs.Questions.{InBox, OfFeature};
     ghost use Rattle.legs.specs.Costs.{known_bound, search_cost, track_cost, track_in_bound};
-    ghost use Rattle.legs.specs.Asking.{AddAllAsks, AddAsks, Asks, AsksAtMost, Denies, Grows, IsLater, KeepsMarked, Leaves, LegRefusals, Recalls, Refusals, Takes, TellsSieved};
+    ghost use Rattle.legs.specs.Asking.{AddAllAsks, AddAsks, Asks, AsksAtMost, Denies, Grows, IsLater, KeepsMarked, Leaves, LegRefusals, Recalls, Refusals, HasTaken, TellsSieved};
     ghost use Rattle.legs.specs.Sieves.{IsSieved};
 
     /// How many legs there are.
@@ -62,7 +62,7 @@ pub trait LegIndex: Listed {
     /// index that is not sound, it is said that the leg is there, and all that was, and with which leg each feature ends.
     fn add(&mut self, leg: Leg) -> Result<(), IndexFault>
         ensures added { OnOk result (Grows Self.Listed self.old self.new (leg ∷ [])) }
-        ensures takes { OnOk result (Takes Self.Listed self.old self.new (leg ∷ [])) }
+        ensures takes { OnOk result (HasTaken Self.Listed self.old self.new (leg ∷ [])) }
         ensures asks { OnOk result (AddAsks Self.Listed self.old self.new leg) }
         ensures refusals { LegRefusals Self.Listed self.old self.new (leg ∷ []) result }
         ensures marked { KeepsMarked Self.Listed self.old self.new (leg ∷ []) }
@@ -71,7 +71,7 @@ pub trait LegIndex: Listed {
     /// Puts legs at the end of the list, one after another.
     fn add_all(&mut self, legs: &[Leg]) -> Result<(), IndexFault>
         ensures added { OnOk result (Grows Self.Listed self.old self.new legs.now) }
-        ensures takes { OnOk result (Takes Self.Listed self.old self.new legs.now) }
+        ensures takes { OnOk result (HasTaken Self.Listed self.old self.new legs.now) }
         ensures asks { OnOk result (AddAllAsks Self.Listed self.old self.new legs.now) }
         ensures refusals { LegRefusals Self.Listed self.old self.new legs.now result }
         ensures marked { KeepsMarked Self.Listed self.old self.new legs.now }
@@ -129,11 +129,9 @@ pub trait LegIndex: Listed {
     /// A sound index is not spent.
     ghost sound_lasts: { (index : Self) → Self.is_sound index → Self.is_spent index ≡ false };
 
-    /// A sound index has the legs of its list, and each feature ends with its last one.
+    /// A sound index has the legs of its list.
     ghost held: { (index : Self) (leg : LegView) → Self.is_sound index
         → Self.holds index leg ↔ Contains (Self.content index) leg };
-    ghost ended: { (index : Self) (leg : LegView) → Self.is_sound index
-        → Self.ends_with index leg ↔ (last_leg_of leg.feature (Self.content index) ≡ Some leg) };
 
     /// All legs of a sound index are lawful.
     ghost lawful: { (index : Self) → Self.is_sound index → All IsLeg (Self.content index) };

@@ -187,8 +187,6 @@ impl LegIndex for ListIndex {
 
     ghost held = { λ index leg sound. ((λ held. held), (λ there. there)) };
 
-    ghost ended = { λ index leg sound. ((λ last. last), (λ last. last)) };
-
     ghost lawful = { λ index sound. sound.1 };
 
     fn len(&self) -> u64 {

@@ -1,12 +1,12 @@
 use Rattle.std.proofs.Common.{◌≡◌, OnOk, subst, sym, ◌∙◌}
 use Rattle.std.proofs.lemmas.Bool.{true≢false}
-use Rattle.legs.specs.Asking.{EndsIn}
+use Rattle.legs.specs.Asking.{HasTaken}
 use Rattle.boxsearch.specs.Index.{words}
 use Rattle.boxsearch.specs.Putting.{PutsAll}
 use Rattle.boxsearch.specs.Runs.{RunsAsk}
 use Rattle.boxsearch.specs.Taking.{Taking}
 use Rattle.boxsearch.proofs.AddLemmas.{made}
-use Rattle.boxsearch.proofs.EndLemmas.{run_ends}
+use Rattle.boxsearch.proofs.EndLemmas.{run_takes}
 use Rattle.boxsearch.proofs.ResultLemmas.{from_ok}
 use Rattle.boxsearch.proofs.RunLemmas.{joined_asks}
 use Rattle.boxsearch.proofs.TakingTurns.{OrderLaws, joined, taking_absent}
@@ -36,10 +36,10 @@ returns-clause-asks g c =
     let p : PutsAll (made old c.args.feature) c.put_all.new.self c.args.feature legs c.put_all.result = subst (λ m. PutsAll m c.put_all.new.self c.args.feature legs c.put_all.result) mid c.put_all.ensures in
     subst (λ r. OnOk r (RunsAsk old c.put_all.new.self 1)) (sym c.answer.ensures) (joined_asks old c.put_all.new.self c.args.feature legs c.put_all.result p)
 
-pub returns-clause-ends : goal.returns-clause-ends
-returns-clause-ends g c =
+pub returns-clause-takes : goal.returns-clause-takes
+returns-clause-takes g c =
     let old = c.args.index.now in
     let legs = c.args.legs.now in
     let mid : c.make_place.new.self ≡ made old c.args.feature = from_ok c.make_place.result (sym c.is_err.ensures.value ∙ c.if-is_err.false) c.make_place.ensures.ok in
     let p : PutsAll (made old c.args.feature) c.put_all.new.self c.args.feature legs c.put_all.result = subst (λ m. PutsAll m c.put_all.new.self c.args.feature legs c.put_all.result) mid c.put_all.ensures in
-    subst (λ r. OnOk r (EndsIn words old c.put_all.new.self legs)) (sym c.answer.ensures) (run_ends old c.put_all.new.self c.args.feature legs c.requires.some c.requires.one c.put_all.result p)
+    subst (λ r. OnOk r (HasTaken words old c.put_all.new.self legs)) (sym c.answer.ensures) (run_takes old c.put_all.new.self c.args.feature legs c.requires.some c.requires.one c.put_all.result p)

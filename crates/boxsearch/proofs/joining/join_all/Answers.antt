@@ -2,9 +2,9 @@ use Rattle.std.proofs.Common.{ℕ, ◌≡◌, ◌≤◌, ◌+◌, ◌-◌, ◌++
 use Rattle.std.specs.Prelude.{Ok, Err}
 use Rattle.std.proofs.lemmas.List.{drop_all, length-drop}
 use Rattle.std.proofs.lemmas.Result.{err_from_is_err_and}
-use Rattle.legs.specs.Asking.{EndsIn}
+use Rattle.legs.specs.Asking.{HasTaken}
 use Rattle.legs.specs.Legs.{LegView}
-use Rattle.legs.proofs.LastLemmas.{ends_none}
+use Rattle.legs.proofs.LastLemmas.{takes_none}
 use Rattle.boxsearch.specs.Index.{words}
 use Rattle.boxsearch.specs.Runs.{numbered_legs, runs_in, RunsAsk}
 use Rattle.boxsearch.specs.Taking.{Taking, taken}
@@ -49,8 +49,8 @@ runs-preserved g c =
       taking = subst (λ n. IsTaking old c.join.new.index (taken legs turns) (taken legs (drop (k + n) turns))) (sym many) all;
       fewer = omega (arith, fewer, within);
       asks = subst (λ n. RunsAsk old c.join.new.index n) one (asks_more old c.runs.index c.join.new.index (R turns - R (drop k turns)) c.runs.invariant.asks c.in_ok-join.ensures.asks);
-      ends = subst (λ n. (done : List LegView) × EndsIn words old c.join.new.index done × (done ++ taken legs (drop (k + n) turns) ≡ taken legs turns)) (sym many)
-          (run_more old c.runs.index c.join.new.index (taken legs turns) (taken legs (drop k turns)) (taken legs (drop (k + length run) turns)) run left c.runs.invariant.ends (subst (λ ls. EndsIn words c.runs.index c.join.new.index ls) c.as_slice.ensures.value c.in_ok-join.ensures.ends));
+      takes = subst (λ n. (done : List LegView) × HasTaken words old c.join.new.index done × (done ++ taken legs (drop (k + n) turns) ≡ taken legs turns)) (sym many)
+          (run_more old c.runs.index c.join.new.index (taken legs turns) (taken legs (drop k turns)) (taken legs (drop (k + length run) turns)) run left c.runs.invariant.takes (subst (λ ls. HasTaken words c.runs.index c.join.new.index ls) c.as_slice.ensures.value c.in_ok-join.ensures.takes));
       later = record { plan = more.plan ∙ later.plan; faults = let x = later.faults in let y = more.faults in omega (arith, x, y); asked = let x = later.asked in let y = more.asked in omega (arith, x, y) };
     }
 
@@ -59,12 +59,12 @@ runs-init g c = record {
   within = omega arith;
   taking = taking_start c.args.index.now (taken c.args.legs.now c.args.turns.now) c.requires.works;
   later = record { plan = refl; faults = omega arith; asked = omega arith };
-  ends = ([], ends_none words c.args.index.now, refl);
+  takes = ([], takes_none words c.args.index.now c.requires.works, refl);
   fewer = omega arith;
   asks = asks_none c.args.index.now (runs_in (numbered_legs c.args.legs.now c.args.turns.now));
 }
 
-pub returns-clause-ends : goal.returns-clause-ends
-returns-clause-ends g c =
+pub returns-clause-takes : goal.returns-clause-takes
+returns-clause-takes g c =
     let over = c.runs-test.false in
-    run_end c.args.index.now c.runs.index (taken c.args.legs.now c.args.turns.now) (taken c.args.legs.now (drop c.runs.from c.args.turns.now)) (ap (taken c.args.legs.now) (drop_all c.runs.from c.args.turns.now (omega (arith, over)))) c.runs.invariant.ends
+    run_end c.args.index.now c.runs.index (taken c.args.legs.now c.args.turns.now) (taken c.args.legs.now (drop c.runs.from c.args.turns.now)) (ap (taken c.args.legs.now) (drop_all c.runs.from c.args.turns.now (omega (arith, over)))) c.runs.invariant.takes

@@ -1,13 +1,13 @@
 use Rattle.std.proofs.Common.{◌≡◌, ◌-◌, ◌^◌, min, ap, subst, sym, ◌∙◌, ◌∷◌, ◌++◌, [], Some}
 use Rattle.std.specs.Prelude.{OnOk}
-use Rattle.legs.specs.Asking.{Ends, EndsIn, LegRefusals}
+use Rattle.legs.specs.Asking.{Ends, HasTaken, LegRefusals}
 use Rattle.legs.specs.Costs.{RisesAtMost, add_bound}
 use Rattle.legs.specs.Index.{CanFollowInTurn}
 use Rattle.legs.specs.Legs.{LegView}
 use Rattle.boxsearch.specs.Index.{IndexView, words, content, IsSound}
 use Rattle.boxsearch.specs.Putting.{Puts}
 use Rattle.boxsearch.proofs.AddLemmas.{Laws, made, added, asked, refusals, marked_after}
-use Rattle.boxsearch.proofs.EndLemmas.{leg_ends}
+use Rattle.boxsearch.proofs.EndLemmas.{leg_takes}
 use Rattle.boxsearch.proofs.ResultLemmas.{from_ok}
 use Rattle.boxsearch.proofs.listed.TreeIndexLegIndex.add.Goals as goal
 
@@ -46,9 +46,9 @@ returns-clause-marked g c = λ s w m.
     let p : Puts (made c.args.self.now c.leg.inside.feature) c.put.new.self c.args.leg c.put.result = subst (λ m. Puts m c.put.new.self c.args.leg c.put.result) mid c.put.ensures in
     marked_after c.args.self.now.cache c.put.new.self.cache p.passes m
 
-pub returns-clause-ends : goal.returns-clause-ends
-returns-clause-ends g c =
+pub returns-clause-takes : goal.returns-clause-takes
+returns-clause-takes g c =
     let feature = ap (λ (l : LegView). l.feature) c.leg.view_is in
     let mid : c.make_place.new.self ≡ made c.args.self.now c.leg.inside.feature = from_ok c.make_place.result (sym c.is_err.ensures.value ∙ c.if-is_err.false) c.make_place.ensures.ok in
     let p : Puts (made c.args.self.now c.args.leg.feature) c.put.new.self c.args.leg c.put.result = subst (λ m. Puts m c.put.new.self c.args.leg c.put.result) (mid ∙ ap (made c.args.self.now) feature) c.put.ensures in
-    subst (λ r. OnOk r (EndsIn words c.args.self.now c.put.new.self (c.args.leg ∷ []))) (sym c.answer.ensures) (leg_ends c.args.self.now c.put.new.self c.args.leg c.put.result p)
+    subst (λ r. OnOk r (HasTaken words c.args.self.now c.put.new.self (c.args.leg ∷ []))) (sym c.answer.ensures) (leg_takes c.args.self.now c.put.new.self c.args.leg c.put.result p)

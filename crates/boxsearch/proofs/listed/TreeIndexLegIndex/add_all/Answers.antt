@@ -1,14 +1,14 @@
 use Rattle.std.proofs.Common.{◌≡◌, ◌<◌, ◌∙◌, OnOk, false, List, length, All, ap, subst, sym, arith, refl}
 use Rattle.std.proofs.lemmas.Bool.{true≢false}
-use Rattle.legs.specs.Asking.{EndsIn}
-use Rattle.legs.proofs.LastLemmas.{ends_alike}
+use Rattle.legs.specs.Asking.{HasTaken}
+use Rattle.legs.proofs.LastLemmas.{takes_alike}
 use Rattle.boxsearch.specs.Index.{IndexView, words}
 use Rattle.boxsearch.specs.Taking.{taken, AreTurns}
 use Rattle.boxsearch.specs.declared.turns.Turn.{Turn}
 use Rattle.boxsearch.proofs.AddLemmas.{Laws}
 use Rattle.boxsearch.proofs.AllLemmas.{AllLaws, all_added, all_asked, all_refusals}
 use Rattle.boxsearch.proofs.ResultLemmas.{on_ok}
-use Rattle.boxsearch.proofs.TurnLasts.{same_lasts}
+use Rattle.boxsearch.proofs.TurnLasts.{as_many_taken, same_legs}
 use Rattle.boxsearch.proofs.TurnOrder.{AreNumbered, are_numbered, are_turns, turns_within}
 use Rattle.boxsearch.proofs.listed.TreeIndexLegIndex.add_all.Goals as goal
 
@@ -80,10 +80,11 @@ returns-clause-refusals g c =
     let works : old.tree.spent ≡ false = sym (ap (λ (v : IndexView). v.tree.spent) c.self.view_is) ∙ c.if-self.false in
     all_refusals rules orders old c.join_all.new.index legs turns are c.join_all.result works c.join_all.ensures.taking
 
-pub returns-clause-ends : goal.returns-clause-ends
-returns-clause-ends g c =
+pub returns-clause-takes : goal.returns-clause-takes
+returns-clause-takes g c =
     let legs = c.args.legs.now in
     let turns = c.in-Ok.turns.items in
-    let same = same_lasts c.laws.ensures.in_order c.as_slice.result.now c.from-most.result legs turns c.in-Ok.ensures.few c.in-Ok.ensures.permutation c.in-Ok.ensures.rises in
-    let ends = subst (λ ts. OnOk c.join_all.result (EndsIn words c.args.self.now c.join_all.new.index (taken legs ts))) c.as_slice-2.ensures.value c.join_all.ensures.ends in
-    on_ok c.join_all.result (ends_alike words c.args.self.now c.join_all.new.index (taken legs turns) legs same) ends
+    let same = same_legs c.laws.ensures.in_order c.as_slice.result.now c.from-most.result legs turns c.in-Ok.ensures.few c.in-Ok.ensures.permutation c.in-Ok.ensures.rises in
+    let many = as_many_taken c.from-most.result legs turns _ _ c.in-Ok.ensures.permutation in
+    let takes = subst (λ ts. OnOk c.join_all.result (HasTaken words c.args.self.now c.join_all.new.index (taken legs ts))) c.as_slice-2.ensures.value c.join_all.ensures.takes in
+    on_ok c.join_all.result (takes_alike words c.args.self.now c.join_all.new.index (taken legs turns) legs same many) takes

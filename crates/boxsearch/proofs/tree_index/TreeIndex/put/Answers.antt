@@ -1,9 +1,12 @@
-use Rattle.std.proofs.Common.{◌≡◌, ◌+◌, ◌-◌, ◌^◌, ◌<◌, ◌∙◌, min, ap, subst, sym, arith, length, Some, slice_get, set, map}
+use Rattle.std.proofs.Common.{◌≡◌, ◌+◌, ◌-◌, ◌^◌, ◌<◌, ◌∙◌, min, ap, subst, sym, arith, length, [], ◌∷◌, Some, slice_get, set, map}
 use Rattle.std.proofs.lemmas.Option.{slice_get-get_or}
 use Rattle.legs.specs.Legs.{LegView}
+use Rattle.tbtree.specs.Filling.{page_made}
+use Rattle.tbtree.specs.declared.tree.Place.{Place}
+use Rattle.tbtree.proofs.LeafLemmas.{placed_legs}
 use Rattle.boxsearch.specs.Index.{IndexView}
 use Rattle.boxsearch.specs.Putting.{Puts}
-use Rattle.boxsearch.proofs.ResultLemmas.{on_any, on_none}
+use Rattle.boxsearch.proofs.ResultLemmas.{on_any, on_none, on_ok}
 use Rattle.boxsearch.proofs.tree_index.TreeIndex.put.Goals as goal
 
 pub returns-then-is_ok : goal.returns-then-is_ok
@@ -22,8 +25,9 @@ returns-then-is_ok g c =
       places = ap (λ i. set places i c.insert-result.new.place) feature;
       inserts = c.insert-result.ensures.inserts works;
       joins = c.insert-result.ensures.joins works;
-      ends = c.insert-result.ensures.ends;
-      keeps = c.insert-result.ensures.keeps;
+      fills = λ fa. on_ok c.insert-result.result (λ f. (page_made c.self.inside.tree.shape.leaf c.self.inside.cache.count c.index.result.now, f)) (c.insert-result.ensures.fills fa);
+      met = c.insert-result.ensures.met;
+      placed = on_ok c.insert-result.result (λ e. ap (λ (p : Place). p.legs) e ∙ placed_legs _ c.index.result.now (c.args.leg ∷ []) _) c.insert-result.ensures.place;
       shape = c.insert-result.ensures.shape;
       passes = c.insert-result.ensures.passes;
       count = c.insert-result.ensures.length;
@@ -51,8 +55,9 @@ returns-else-is_ok g c =
       places = ap (λ i. set places i c.insert-result.new.place) feature;
       inserts = c.insert-result.ensures.inserts works;
       joins = c.insert-result.ensures.joins works;
-      ends = c.insert-result.ensures.ends;
-      keeps = c.insert-result.ensures.keeps;
+      fills = λ fa. on_ok c.insert-result.result (λ f. (page_made c.self.inside.tree.shape.leaf c.self.inside.cache.count c.index.result.now, f)) (c.insert-result.ensures.fills fa);
+      met = c.insert-result.ensures.met;
+      placed = on_ok c.insert-result.result (λ e. ap (λ (p : Place). p.legs) e ∙ placed_legs _ c.index.result.now (c.args.leg ∷ []) _) c.insert-result.ensures.place;
       shape = c.insert-result.ensures.shape;
       passes = c.insert-result.ensures.passes;
       count = c.insert-result.ensures.length;
