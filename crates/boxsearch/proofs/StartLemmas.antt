@@ -105,6 +105,17 @@ module _ (laws : FirstLaws) (old : IndexView) (c : Cache) (known : List (List Le
       → Starts words old new (answered (λ fault. of_cache fault) r)
   starts r marked others first = record {
     content = same_content;
+    holds = λ leg h fa. subst (λ ls. Contains ls leg) (sym same_content) (h (was_faithful fa));
+    ends = λ leg h fa.
+        let e = h (was_faithful fa) in
+        let at = e.at_end in
+        record {
+          place = e.place;
+          is = e.is;
+          at_end = record { above = at.above; leaf = at.leaf; is = ap (option_map node_of) (m.rest (was_faithful fa) e.place.last at.above) ∙ at.is; own = at.own };
+        };
+    counted = refl;
+    found_by = refl;
     sound = still_sound;
     spent = refl;
     later = record { plan = refl; faults = m.store.faults; asked = (let a = m.asked in omega (arith, clamps, a)) };

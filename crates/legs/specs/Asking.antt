@@ -144,12 +144,16 @@ pub record LegRefusals {I A : Type 0} (g : Ghosts I) (old new : I) (legs : List 
   pub store : IsErrOf result Store → HasRisen (g.faults old) (g.faults new)
   pub full : IsErrOf result StoreFull → g.is_store_full new
 
--- what the start of a file's legs leaves: the list, sound where it was, spent where it was. Once it is
+-- what the start of a file's legs leaves: the list, and all that is found by, sound where it was, spent where it was. Once it is
 -- answered, an index that was clean is marked; where it is not, no page as written has changed but page 0, and
 -- that one only where the store failed
 pub record Starts {I A : Type 0} (g : Ghosts I) (old new : I)
     (result : Result A IndexFault) : Type 0 where
   pub content : g.content new ≡ g.content old
+  pub holds : (leg : LegView) → g.holds old leg → g.holds new leg
+  pub ends : (leg : LegView) → g.ends_with old leg → g.ends_with new leg
+  pub counted : g.counted new ≡ g.counted old
+  pub found_by : g.found_by new ≡ g.found_by old
   pub sound : g.is_sound old → g.is_sound new
   pub spent : g.is_spent new ≡ g.is_spent old
   pub later : IsLater g old new

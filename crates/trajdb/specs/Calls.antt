@@ -5,12 +5,13 @@ use Rattle.timebase.specs.Period.{PeriodView}
 use Rattle.legs.specs.declared.head.BookHead.{BookHead}
 use Rattle.legs.specs.Legs.{LegView}
 use Rattle.legs.specs.Boxes.{box_over, everything}
-use Rattle.legs.specs.Book.{Book, feature_of}
+use Rattle.legs.specs.Book.{Book, feature_of, joined, with_file}
 use Rattle.legs.specs.Costs.{ShapeView, RisesBy, RisesAtMost, known_bound, reaches, search_cost, track_cost, track_in_bound}
 use Rattle.predicates.specs.Near.{box_near}
-use Rattle.legs.specs.Tracks.{IsOver}
+use Rattle.legs.specs.Limits.{LimitsView, IsLimits}
+use Rattle.legs.specs.Tracks.{IsOver, StandsFor}
 use Rattle.legs.specs.Index.{HasRisen, legs_of}
-use Rattle.legs.specs.Asking.{IsLater as IsLaterIndex, Leaves as IndexLeaves}
+use Rattle.legs.specs.Asking.{HasTaken, IsLater as IsLaterIndex, Leaves as IndexLeaves}
 use Rattle.legs.specs.declared.listed.Listed.{Ghosts}
 use Rattle.mfcsv.specs.FileText.{file_of_bytes}
 use Rattle.mfcsv.specs.declared.File.{File}
@@ -18,9 +19,10 @@ use Rattle.querylang.specs.Line.{line_of}
 use Rattle.querylang.specs.declared.LineCode.{LineCode}
 use Rattle.querylang.specs.declared.Command.{Command}
 use Rattle.querylang.specs.declared.Command.TheVariants.{Load, Count, Box, Legs, Features, Trajectory, Write}
-use Rattle.trajdb.specs.Answers.{IsCountsText, IsFileRefusal}
+use Rattle.trajdb.specs.Answers.{IsCountsText, IsFileRefusal, counts_text}
 use Rattle.trajdb.specs.Files.{file_named}
 use Rattle.trajdb.specs.Database.{CoreView, IsSound}
+use Rattle.trajdb.specs.declared.Counts.{Counts}
 use Rattle.trajdb.specs.declared.LoadFault.{LoadFault}
 use Rattle.trajdb.specs.declared.LoadFault.TheVariants.{Refused, Run}
 use Rattle.trajdb.specs.declared.RunFault.{RunFault}
@@ -207,10 +209,56 @@ LoadsWholeSome files lines =
 abbrev pub BeginsBy : {I : Type 0} → CoreView I → CoreView I → Type 0 → Type 0
 BeginsBy old new loads = new.begun ≡ true → (old.begun ≡ true) ⊎ loads
 
--- a file is told of: by counts, and the database has begun, or by a refusal, which changes nothing
-abbrev pub TellsLoad : {I : Type 0} → CoreView I → CoreView I → List ℕ → Type 0
-TellsLoad old new text =
-    (IsCountsText text × (new.begun ≡ true)) ⊎ (IsFileRefusal text × (new ≡ old))
+-- a book for which the tracks of a database stand, with its head and its rows of values
+pub record IsBookOf {I : Type 0} (core : CoreView I) (book : Book) : Type 0 where
+  pub limits : IsLimits core.limits
+  pub tracks : StandsFor core.tracks book
+  pub head : book.head ≡ core.book.head
+  pub rows : book.rows ≡ core.book.rows
+
+-- these are the legs that a file adds to that book, and the database has its names, its head and its rows of values
+pub record HasJoined {I : Type 0} (new : CoreView I) (limits : LimitsView) (book : Book)
+    (file : File) (legs : List LegView) : Type 0 where
+  pub adds : joined limits book file ≡ Ok legs
+  pub tracks : StandsFor new.tracks (with_file book file)
+  pub head : new.book.head ≡ (with_file book file).head
+  pub rows : new.book.rows ≡ (with_file book file).rows
+
+-- a file is taken in, be the database sound or not: so many legs are put into its index, exactly those that the file adds
+-- to whatever book its tracks stand for
+pub record PutsFile {I : Type 0} (g : Ghosts I) (old new : CoreView I) (bytes : List ℕ)
+    (counts : Counts) : Type 0 where
+  pub file : File
+  pub said : file_of_bytes bytes ≡ Ok file
+  pub legs : List LegView
+  pub many : counts.legs ≡ length legs
+  pub taken : HasTaken g old.index new.index legs
+  pub joins : (book : Book) → IsBookOf old book → HasJoined new old.limits book file legs
+
+-- a file is told of: by counts, and is taken in, and the database has begun, or by a refusal, which changes nothing
+abbrev pub TellsLoad : {I : Type 0} → Ghosts I → CoreView I → CoreView I → (bytes text : List ℕ)
+    → Type 0
+TellsLoad g old new bytes text =
+    ((counts : Counts) × (text ≡ counts_text counts) × PutsFile g old new bytes counts
+    × (new.begun ≡ true))
+    ⊎ (IsFileRefusal text × (new ≡ old))
+
+-- so is one that is there
+abbrev pub TellsNamed : {I : Type 0} → Ghosts I → CoreView I → CoreView I → Option (List ℕ)
+    → List ℕ → Type 0
+TellsNamed g old new (Some bytes) text = TellsLoad g old new bytes text
+TellsNamed g old new None text = Unit {0}
+
+-- so is that of a `load`
+abbrev pub TellsLoadBy : {I : Type 0} → Ghosts I → List (List ℕ × List ℕ)
+    → CoreView I → CoreView I → Command → List ℕ → Type 0
+TellsLoadBy g files old new (Load name) text = TellsNamed g old new (file_named files name) text
+TellsLoadBy g files old new Count text = Unit {0}
+TellsLoadBy g files old new (Box rect period) text = Unit {0}
+TellsLoadBy g files old new (Legs predicate rect period) text = Unit {0}
+TellsLoadBy g files old new (Features predicate rect period) text = Unit {0}
+TellsLoadBy g files old new (Trajectory name) text = Unit {0}
+TellsLoadBy g files old new Write text = Unit {0}
 
 -- the line is a command, or is refused
 unfoldable pub Speaks : List ℕ → Type 0

@@ -25,7 +25,7 @@ use Rattle.querylang.specs.declared.LineCode.{LineCode}
 use Rattle.querylang.specs.declared.Command.{Command}
 use Rattle.querylang.specs.declared.Command.TheVariants.{Load, Count, Box, Legs, Features, Trajectory, Write}
 use Rattle.trajdb.specs.Answers.{HoldsOfLeg, IsCountsText, IsFileRefusal, file_answer, legs_text, names_text, ok_text, refusal_text}
-use Rattle.trajdb.specs.Calls.{IsLater, LeavesBook, Loads, LoadsBy, TellsLoad}
+use Rattle.trajdb.specs.Calls.{IsLater, LeavesBook, Loads, LoadsBy, TellsLoadBy}
 use Rattle.trajdb.specs.Database.{CoreView}
 use Rattle.trajdb.specs.Files.{file_named}
 use Rattle.trajdb.specs.Picks.{Picks}
@@ -179,7 +179,7 @@ module _ {I : Type 0} (g : Ghosts I) (core : CoreView I) where
 pub record LeftBy {I : Type 0} (g : Ghosts I) (files : List (List ℕ × List ℕ))
     (old new : CoreView I) (command : Command) (text : List ℕ) : Type 0 where
   pub question : (Loads files command → ⊥) → LeavesBook g old new
-  pub load : Loads files command → TellsLoad old new text
+  pub load : TellsLoadBy g files old new command text
   pub later : IsLater g old new
   pub lives : new.failed ≡ false
 

@@ -97,14 +97,15 @@ impl<I: Start> Core<I> {
     ghost use Rattle.legs.specs.Book.{with_file};
     ghost use Rattle.trajdb.specs.Answers.{book_with, load_of};
     ghost use Rattle.trajdb.specs.Database.{FaultIs, IsRefused, IsTold, LoadGives, Becomes, IsSound};
-    ghost use Rattle.trajdb.specs.Loads.{Accepts};
-    ghost use Rattle.trajdb.specs.Calls.{IsJoinStop, IsLater, IsLoadFault, IsLoadStop, IsOfStore, IsWholeFile, LeavesPages};
+    ghost use Rattle.trajdb.specs.Loads.{Accepts, IsRead, PutsNew};
+    ghost use Rattle.trajdb.specs.Calls.{IsJoinStop, IsLater, IsLoadFault, IsLoadStop, IsOfStore, LeavesPages, PutsFile};
 
     /// Takes in a file that was read and joined.
     fn take(&mut self, new: NewFile) -> Result<(), RunFault>
         ensures taken { OnOk result ((file : File)
             → Accepts self.old.limits self.old.book file new
             → Becomes I.Listed self.old self.new (with_file self.old.book file)) }
+        ensures puts { OnOk result (PutsNew I.Listed self.old self.new new) }
         ensures sound { IfErr result (λ fault. (file : File) → IsSound I.Listed self.old
             → Accepts self.old.limits self.old.book file new → IsLoadFault fault) }
         ensures store { IfErr result (IsOfStore I.Listed self.old.index self.new.index) }
@@ -132,6 +133,8 @@ impl<I: Start> Core<I> {
     fn join_file(&self, alloc: Global, bytes: &[u8]) -> Result<NewFile, LoadFault>
         ensures joined { IfOk result (λ new. (file : File) × (file_of_bytes bytes.now ≡ Ok file)
             × (IsSound I.Listed self.now → Accepts self.now.limits self.now.book file new)) }
+        ensures read { IfOk result (λ new. IsRead self.now.tracks self.now.book.head
+            self.now.limits (file_of_bytes bytes.now) new) }
         ensures refused { IfErr result (λ fault. IsSound I.Listed self.now
             → FaultIs fault (load_of self.now.limits self.now.book bytes.now)) }
         ensures stopped { IfErr result IsJoinStop }
@@ -154,7 +157,7 @@ impl<I: Start> Core<I> {
         ensures failed { self.new.failed ≡ self.old.failed }
         ensures refused { IfErr result (λ fault. IsRefused fault → self.new ≡ self.old) }
         ensures begun { OnOk result (self.new.begun ≡ true) }
-        ensures whole { OnOk result (IsWholeFile bytes.now) }
+        ensures puts { IfOk result (PutsFile I.Listed self.old self.new bytes.now) }
         ensures idle { OnErr result (self.new.begun ≡ self.old.begun) }
         ensures marks { OnOk result (IsSound I.Listed self.old → I.is_clean self.old.index
             → I.is_marked self.new.index) }
@@ -177,7 +180,7 @@ impl<I: Start> Core<I> {
     ghost use Rattle.std.specs.Prelude.{◌≡◌, IfErr, OnOk, OnErr, Err, true, false};
     ghost use Rattle.trajdb.specs.Answers.{book_with, load_of};
     ghost use Rattle.trajdb.specs.Database.{IsRefused, IsTold, LoadGives, FailsBy, Becomes, IsSound};
-    ghost use Rattle.trajdb.specs.Calls.{IsLater, IsLoadStop, IsWholeFile, KeepsPages};
+    ghost use Rattle.trajdb.specs.Calls.{IsLater, IsLoadStop, KeepsPages, PutsFile};
 
     /// Accepts a file, whole or not at all: how many data records, legs and distinct features it has,
     /// or the first fault of its text, or else of its joining.
@@ -201,7 +204,7 @@ impl<I: Start> Core<I> {
 
         // An accepted file begins the database, and nothing else does.
         ensures begun { OnOk result (self.new.begun ≡ true) }
-        ensures whole { OnOk result (IsWholeFile bytes.now) }
+        ensures puts { IfOk result (PutsFile I.Listed self.old self.new bytes.now) }
         ensures idle { OnErr result (self.new.begun ≡ self.old.begun) }
 
         // What is left of the pages.
@@ -246,7 +249,8 @@ impl<I: Start> Core<I> {
             (AcceptsNamed self.old.limits self.old.book (Some bytes.now)) }
         ensures whole { BeginsBy self.old self.new (IsWholeFile bytes.now) }
         ensures told { IfOk result (λ text. BeginsBy self.old self.new (IsCountsText text.items)) }
-        ensures told_load { IfOk result (λ text. TellsLoad self.old self.new text.items) }
+        ensures told_load { IfOk result (λ text. TellsLoad I.Listed self.old self.new bytes.now
+            text.items) }
         ensures pages { KeepsPages I.Listed self.old self.new }
     {
         let text = match self.load(alloc, bytes) {
@@ -268,7 +272,7 @@ impl<I: Start> Core<I> {
     ghost use Rattle.std.specs.Prelude.{◌≡◌, IfOk, IfErr, IsErrOf, OnOk, OnErr, Err, true, false};
     ghost use Rattle.trajdb.specs.Answers.{AcceptsBy, IsAnswer, IsCountsText, book_then};
     ghost use Rattle.trajdb.specs.Database.{Becomes, IsSound};
-    ghost use Rattle.trajdb.specs.Calls.{AsksIn, AsksKnown, LearnsBy, Begins, BeginsBy, BeginsOnly, IsStopped, IsLater, KeepsPages, LeavesBook, Loads, LoadsWhole, TellsLoad};
+    ghost use Rattle.trajdb.specs.Calls.{AsksIn, AsksKnown, LearnsBy, Begins, BeginsBy, BeginsOnly, IsStopped, IsLater, KeepsPages, LeavesBook, Loads, LoadsWhole, TellsLoadBy};
     ghost use Rattle.trajdb.specs.Telling.{IsToldAnswer, NamesBy};
     ghost use Rattle.legs.specs.Asking.{Recalls};
 
@@ -317,8 +321,8 @@ impl<I: Start> Core<I> {
         // Be the database sound or not, a `load` of a file that is there is answered with counts,
         // and begins it, or with a refusal that changes nothing; and only one of a file without a
         // fault of its text, answered with counts, begins it.
-        ensures told_load { IfOk result (λ text. Loads files.now command.now
-            → TellsLoad self.old self.new text.items) }
+        ensures told_load { IfOk result (λ text. TellsLoadBy I.Listed files.now self.old self.new
+            command.now text.items) }
         ensures whole { BeginsBy self.old self.new (LoadsWhole files.now command.now) }
         ensures told { IfOk result (λ text. BeginsBy self.old self.new (IsCountsText text.items)) }
         ensures pages { KeepsPages I.Listed self.old self.new }

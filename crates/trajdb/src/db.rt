@@ -50,7 +50,7 @@ impl<S: PageStore> Db<S> {
     ghost use Rattle.trajdb.specs.Run.{AcceptsSome, StopsAt, Runs, Stops, IsCut};
     ghost use Rattle.trajdb.specs.Database.{FailsBy, IsRefused, IsTold, LoadGives, Becomes};
     ghost use Rattle.legs.specs.Asking.{Recalls};
-    ghost use Rattle.trajdb.specs.Calls.{AsksIn, AsksKnown, LearnsBy, Begins, BeginsBy, BeginsOnly, IsLater, IsLoadStop, IsRunStop, IsStopped, IsWholeFile, KeepsPages, LeavesBook, Loads, LoadsWhole, LoadsWholeSome, TellsLoad};
+    ghost use Rattle.trajdb.specs.Calls.{AsksIn, AsksKnown, LearnsBy, Begins, BeginsBy, BeginsOnly, IsLater, IsLoadStop, IsRunStop, IsStopped, KeepsPages, LeavesBook, Loads, LoadsWhole, LoadsWholeSome, PutsFile, TellsLoadBy};
     ghost use Rattle.trajdb.specs.Telling.{IsToldAnswer, NamesBy, TellsCut, TellsRun, TellsStop};
     ghost use Rattle.trajdb.specs.Db.{HasPages, IsAllowed, IsCaused, IsSoundDb};
     ghost use Rattle.trajdb.specs.Lasting.{IsIdle, IsSafe};
@@ -123,7 +123,7 @@ impl<S: PageStore> Db<S> {
         ensures later { IsLater words self.old self.new }
         ensures refused { IfErr result (λ fault. IsRefused fault → self.new ≡ self.old) }
         ensures begun { OnOk result (self.new.begun ≡ true) }
-        ensures whole { OnOk result (IsWholeFile bytes.now) }
+        ensures puts { IfOk result (PutsFile words self.old self.new bytes.now) }
         ensures idle { OnErr result (self.new.begun ≡ self.old.begun) }
         ensures pages { KeepsPages words self.old self.new }
         ensures rests { IsIdle self.old → IsIdle self.new }
@@ -181,8 +181,8 @@ impl<S: PageStore> Db<S> {
         // Be the database sound or not, a `load` of a file that is there is answered with counts,
         // and begins it, or with a refusal that changes nothing; and only one of a file without a
         // fault of its text, answered with counts, begins it.
-        ensures told_load { IfOk result (λ text. Loads files.now command.now
-            → TellsLoad self.old self.new text.items) }
+        ensures told_load { IfOk result (λ text. TellsLoadBy words files.now self.old self.new
+            command.now text.items) }
         ensures whole { BeginsBy self.old self.new (LoadsWhole files.now command.now) }
         ensures told { IfOk result (λ text. BeginsBy self.old self.new (IsCountsText text.items)) }
         ensures pages { KeepsPages words self.old self.new }
