@@ -26,4 +26,5 @@ pub mod KnowsLemmas
 pub mod RunCounts
 pub mod RunLemmas
 pub mod EndLemmas
+pub mod EndedLemmas
 pub mod TurnLasts

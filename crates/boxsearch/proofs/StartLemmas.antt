@@ -21,6 +21,8 @@ use Rattle.boxsearch.specs.Answers.{answered, of_cache}
 use Rattle.boxsearch.specs.Index.{IndexView, words, content, written, IsSound, IsMarked}
 use Rattle.boxsearch.specs.Marking.{Marks, IsNotMarked}
 use Rattle.pages.specs.declared.payload.Payload.{Payload}
+use Rattle.std.specs.List.{Contains}
+use Rattle.tbtree.proofs.Still.{still}
 use Rattle.boxsearch.proofs.PlaceLemmas.{some_none}
 use Rattle.boxsearch.proofs.AnswerLemmas.{each_fault, each_value, the_fault, Said}
 use Rattle.chains.specs.declared.spans.LeafSpan.{LeafSpan}
@@ -95,6 +97,9 @@ module _ (laws : FirstLaws) (old : IndexView) (c : Cache) (known : List (List Le
 
   still_sound : IsSound old → IsSound new
   still_sound = beside_sound laws old c known beside
+
+  was_faithful : IsTrue c.store.is_faithful → IsTrue old.cache.store.is_faithful
+  was_faithful fa = still _ _ (sym m.store.faithful) fa
 
   written_is : (i : IndexView) → IsTrue i.cache.store.is_faithful → written i ≡ pages_as_written i.cache
   written_is i f = ap (λ b. cond b (pages_as_written i.cache) []) f

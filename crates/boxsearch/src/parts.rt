@@ -1,13 +1,14 @@
 //! The parts of an index, for what is kept beside its tree.
-ghost use Rattle.std.specs.Prelude.{ℕ, ◌≡◌, ◌≢◌, ◌<◌, ◌≤◌, ◌^◌, [], true, List, length, count_by, slice_get, IsTrue, None, Some};
+ghost use Rattle.std.specs.Prelude.{ℕ, ◌≡◌, ◌≢◌, ◌<◌, ◌≤◌, ◌^◌, ◌↔◌, [], true, List, length, count_by, slice_get, IsTrue, None, Some};
 ghost use Rattle.std.specs.List.{sum_by};
-ghost use Rattle.legs.specs.Index.{is_of, CanFollowInTurn};
+ghost use Rattle.legs.specs.Legs.{LegView};
+ghost use Rattle.legs.specs.Index.{is_of, last_leg_of, CanFollowInTurn};
 ghost use Rattle.pagecache.specs.Cache.{payload_of, Cache, IsClean, IsSettled};
 ghost use Rattle.tbtree.specs.declared.tree.Place.{Place};
 ghost use Rattle.chains.specs.declared.spans.LeafSpan.{LeafSpan};
 ghost use Rattle.boxsearch.specs.Beside.{with_cache, IsBeside};
 ghost use Rattle.boxsearch.specs.Bounds.{IsBounded};
-ghost use Rattle.boxsearch.specs.Index.{content, IndexView, IsMarked, IsSound, SaysState};
+ghost use Rattle.boxsearch.specs.Index.{content, ends_with, IndexView, IsMarked, IsSound, SaysState};
 
 use crate::tree_index::TreeIndex;
 use pagecache::PageCache;
@@ -117,6 +118,10 @@ pub fn laws()
 
     // The legs of a sound one follow one another from the first.
     ensures in_turn { (index : IndexView) → IsSound index → CanFollowInTurn [] (content index) }
+
+    // Each feature of a sound one ends with its last leg.
+    ensures ended { (index : IndexView) → IsSound index → (leg : LegView)
+        → ends_with index leg ↔ (last_leg_of leg.feature (content index) ≡ Some leg) }
 
     // Page 0 is marked where it says that the store is not finished, and no page is changed.
     ensures marked { (index : IndexView) → IsSound index → IsSettled index.cache

@@ -1,22 +1,23 @@
 -- The last leg of a feature.
-use Rattle.std.proofs.Common.{ℕ, suc, ◌+◌, ◌<◌, ◌≡◌, ◌≢◌, ◌==◌, ◌⊎◌, inl, inr, true, false, cond, ⊎_elim, refl, sym, ap, ◌∙◌, subst, arith, eq-eqb, All, List, [], ◌∷◌, ◌++◌, take, length, get_or, Option, Some, None}
+use Rattle.std.proofs.Common.{ℕ, suc, ◌+◌, ◌<◌, ◌≡◌, ◌≢◌, ◌==◌, ◌⊎◌, inl, inr, true, false, cond, ⊎_elim, refl, sym, ap, ◌∙◌, subst, arith, eq-eqb, All, List, [], ◌∷◌, ◌++◌, take, length, get_or, Option, Some, None, slice_get, Ok}
 use Rattle.std.specs.List.{count_by, filter, fold, Contains}
 use Rattle.std.proofs.lemmas.Bool.{eqb-true, true≢false}
 use Rattle.std.proofs.lemmas.Grind.{fold-append}
 use Rattle.std.proofs.lemmas.List.{length-append, take_more}
 use Rattle.std.proofs.lemmas.List.Elements.{All-append, All-cons, All-contains, All-contains_itself, All-filter, All-nil, All-weaker, Contains-append_cases, Contains-append_left, Contains-append_right}
 use Rattle.std.proofs.lemmas.List.Sums.{length-filter, sum_by-append}
-use Rattle.legs.specs.Asking.{placed_legs, HasTaken}
+use Rattle.legs.specs.Asking.{placed_legs, HasTaken, Starts}
+use Rattle.legs.specs.Finding.{Finding}
 use Rattle.legs.specs.Index.{is_of, last_leg_of, legs_of}
 use Rattle.legs.specs.Legs.{LegView}
 use Rattle.legs.specs.Places.{ListView}
 use Rattle.legs.specs.declared.listed.Listed.{Ghosts}
 use Rattle.legs.proofs.GrowLemmas.{list_words}
 
-some_not : (x : LegView) → Some x ≡ None → ⊥
+pub some_not : (x : LegView) → Some x ≡ None → ⊥
 some_not x e = absurd cc
 
-some_is : (x y : LegView) → Some x ≡ Some y → x ≡ y
+pub some_is : (x y : LegView) → Some x ≡ Some y → x ≡ y
 some_is x y e = cc
 
 -- the last leg of a feature, or that one
@@ -130,6 +131,20 @@ module _ {I : Type 0} (g : Ghosts I) where
           (λ k. absurd (some_not k.0 (sym k.2 ∙ all)))
           (λ k. (sym k.1 ∙ all, k.0))
           (last_over f (last_leg_of f xs) ys)
+
+  -- legs behind a start
+  pub takes_started : (a b c : I) (legs : List LegView) → Starts {A = Unit {0}} g a b (Ok tt) → HasTaken g b c legs → HasTaken g a c legs
+  takes_started a b c legs s p = record {
+    kept = λ leg h. p.kept leg (s.holds leg h);
+    put = p.put;
+    counted = λ few. p.counted (omega (arith, few, s.counted)) ∙ ap (λ n. n + length legs) s.counted;
+    works = p.works;
+    plan = p.plan ∙ s.later.plan;
+    last = p.last;
+    others = λ leg e h. p.others leg e (s.ends leg h);
+    places = λ f place e h. p.places f place e (ap (λ (x : Finding). slice_get x.places f) s.found_by ∙ h);
+    place_legs = λ f over. p.place_legs f (λ e. over (sym s.later.plan ∙ e)) ∙ ap (λ x. placed_legs x f + count_by (is_of f) legs) s.found_by;
+  }
 
   -- a leg more of some
   pub takes_more : (a b c : I) (legs : List LegView) (i : ℕ) (leg : LegView) → i < length legs → leg ≡ get_or legs i leg → HasTaken g a b (take i legs) → HasTaken g b c (leg ∷ []) → HasTaken g a c (take (i + 1) legs)

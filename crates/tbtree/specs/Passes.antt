@@ -18,18 +18,23 @@ pub record Passes (old new : Cache) : Type 0 where
   pub unmarked : 0 < old.count → is_changed old 0 ≡ false → is_changed new 0 ≡ false
   pub written : IsTrue old.store.is_faithful → 0 < old.count → is_changed old 0 ≡ false
       → page_of new 0 ≡ page_of old 0
-  -- a page that is none of a tree's has its payload
-  pub others : IsTrue old.store.is_faithful → (p : ℕ) (payload : Payload)
-      → payload_of old p ≡ Some payload → node_of payload ≡ None → payload_of new p ≡ Some payload
 
 -- there are as many pages as the store has, where there were
 abbrev pub KeepsLength : Cache → Cache → Type 0
 KeepsLength old new = old.count ≡ old.store.count → new.count ≡ new.store.count
 
+-- a page that is none of a tree's has its payload
+abbrev pub KeepsOthers : Cache → Cache → Type 0
+KeepsOthers old new =
+    IsTrue old.store.is_faithful → (p : ℕ) (payload : Payload)
+    → payload_of old p ≡ Some payload → node_of payload ≡ None → payload_of new p ≡ Some payload
+
 -- what a call that writes pages of the tree leaves of the cache, and why it is refused
 pub record Touches {T : Type 0} (old new : Cache) (result : Result T TreeFault) : Type 0 where
   -- answered or not: page 0 is kept, and nothing goes
   pub passes : Passes old new
+  -- nor is a page changed that is none of a tree's
+  pub others : KeepsOthers old new
   -- answered: no page is added to the store alone
   pub length : OnOk result (KeepsLength old new)
   -- refused: what the fault says is so

@@ -3,7 +3,7 @@ ghost use Rattle.std.specs.Prelude.{ℕ, List, ◌≡◌, ◌<◌, ◌≤◌, �
 ghost use Rattle.tbtree.specs.Faults.{RefusesWrite};
 ghost use Rattle.tbtree.specs.Content.{ContentGrows, Meets};
 ghost use Rattle.tbtree.specs.Nodes.{pages_of_cache};
-ghost use Rattle.tbtree.specs.Passes.{Passes, KeepsLength, Touches};
+ghost use Rattle.tbtree.specs.Passes.{Passes, KeepsLength, KeepsOthers, Touches};
 ghost use Rattle.tbtree.specs.Filling.{Fills};
 ghost use Rattle.tbtree.specs.Joining.{JoinsAll};
 ghost use Rattle.tbtree.specs.declared.fault.TreeFault.{TreeFault};
@@ -92,6 +92,7 @@ pub fn insert_all<S: PageStore>(
 
     // What is left of the cache, over any pages.
     ensures passes { Passes cache.old cache.new }
+    ensures others { KeepsOthers cache.old cache.new }
     ensures length { OnOk result (KeepsLength cache.old cache.new) }
     ensures caused { tree.old.spent ≡ false → IfErr result (RefusesWrite cache.old cache.new) }
 

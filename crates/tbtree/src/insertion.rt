@@ -4,7 +4,7 @@ ghost use Rattle.legs.specs.Costs.{leg_feature};
 ghost use Rattle.legs.specs.Hull.{leg_boxes};
 ghost use Rattle.tbtree.specs.Faults.{MayRefuseWrite, RefusesWrite};
 ghost use Rattle.tbtree.specs.Nodes.{pages_of_cache, HasLastLeaf, KeepsLeaves};
-ghost use Rattle.tbtree.specs.Passes.{Passes, KeepsLength, Touches};
+ghost use Rattle.tbtree.specs.Passes.{Passes, KeepsLength, KeepsOthers, Touches};
 ghost use Rattle.tbtree.specs.Way.{IsOnWay, Hangs};
 ghost use Rattle.tbtree.specs.Content.{Carries, ContentGrows, IsFound, Meets, SaysMore};
 ghost use Rattle.tbtree.specs.Insert.{Grows, Begins, Inserts};
@@ -426,6 +426,7 @@ pub fn insert<S: PageStore>(
 
     // What is left of the cache, over any pages.
     ensures passes { Passes cache.old cache.new }
+    ensures others { KeepsOthers cache.old cache.new }
     ensures length { OnOk result (KeepsLength cache.old cache.new) }
     ensures caused { tree.old.spent ≡ false → IfErr result (RefusesWrite cache.old cache.new) }
     ensures asked { OnOk result (cache.new.asked

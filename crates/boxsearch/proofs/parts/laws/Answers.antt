@@ -1,5 +1,6 @@
 use Rattle.boxsearch.proofs.StartLemmas.{beside_content, beside_sound}
 use Rattle.boxsearch.proofs.BoundLemmas.{alike, all_counted, bounded, first_held, first_there, place_counts}
+use Rattle.boxsearch.proofs.EndedLemmas.{ended}
 use Rattle.boxsearch.proofs.FlushLemmas.{in_turn, marked_of}
 use Rattle.boxsearch.proofs.parts.laws.Goals as goal
 
@@ -32,3 +33,6 @@ returns-clause-in_turn c = in_turn
 
 pub returns-clause-marked : goal.returns-clause-marked
 returns-clause-marked c = marked_of
+
+pub returns-clause-ended : goal.returns-clause-ended
+returns-clause-ended c = ended

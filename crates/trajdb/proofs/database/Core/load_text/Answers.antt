@@ -11,10 +11,9 @@ ok_of r s t P a b h = subst (λ r. IfOk r P) (sym a ∙ b) h
 pub returns-in-Ok-text-clause-told_load : goal.returns-in-Ok-text-clause-told_load
 returns-in-Ok-text-clause-told_load g c = elim c.match-load.branch [
   | in-Ok w ↦ inl (
-    (
-      w.in-Ok.counts,
-      ok_of w.counts_text-text.result c.match-load.text c.in-Ok-text.text (λ text. text.items ≡ counts_text w.in-Ok.counts) w.text-is c.in-Ok-text.is w.counts_text-text.ensures,
-    ),
+    w.in-Ok.counts,
+    ok_of w.counts_text-text.result c.match-load.text c.in-Ok-text.text (λ text. text.items ≡ counts_text w.in-Ok.counts) w.text-is c.in-Ok-text.is w.counts_text-text.ensures,
+    w.in-Ok.ensures.puts,
     w.in-Ok.ensures.begun,
   )
   | in-Err-Refused w ↦ inr (

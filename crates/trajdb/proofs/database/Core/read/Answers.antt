@@ -1,4 +1,5 @@
 use Rattle.std.proofs.Common.{◌∙◌, ap, sym, Ok}
+use Rattle.trajdb.specs.declared.Counts.{Counts}
 use Rattle.trajdb.proofs.LoadLemmas.{accepted_book, accepted_counts, told_kept}
 use Rattle.trajdb.proofs.database.Core.read.Goals as goal
 
@@ -16,3 +17,16 @@ returns-in-Ok-take-clause-becomes g c = λ told sound.
     let accepts = is.2 sound in
     let becomes = c.in-Ok-take.ensures.taken is.0 accepts sound in
     (becomes.0, becomes.1 ∙ sym (accepted_book c.args.self.now.limits c.args.self.now.book c.args.bytes.now is.0 c.in-Ok.new is.1 accepts))
+
+pub returns-in-Ok-take-clause-puts : goal.returns-in-Ok-take-clause-puts
+returns-in-Ok-take-clause-puts g c =
+    let is = c.in-Ok.ensures.read in
+    let puts = c.in-Ok-take.ensures.puts in
+    record {
+      file = is.file;
+      said = is.said;
+      legs = c.in-Ok.new.joined.legs;
+      many = ap (λ (n : Counts). n.legs) c.counts_of-counts.ensures;
+      taken = puts.taken;
+      joins = λ book of. puts.joins book of is.file (is.accepts book of.tracks of.head);
+    }

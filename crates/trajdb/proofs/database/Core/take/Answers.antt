@@ -23,3 +23,19 @@ returns-clause-taken g c =
       },
       same,
     ))
+
+pub returns-clause-puts : goal.returns-clause-puts
+returns-clause-puts g c =
+    rw (← c.self.view_is) (record {
+      taken = ?;
+      joins = λ book of it accepts.
+          let tracks = c.in_ok-accept.ensures.ok c.self.inside.limits book it of.limits of.tracks accepts.0 in
+          let same = with_file-parts c.self.inside.limits book it c.args.new.joined.legs (book.legs ++ c.args.new.joined.legs) c.keep_head.new.first c.accept.new.self.names c.append.new.self
+          accepts.0.legs ? tracks.names refl ? in
+          record {
+            adds = accepts.0.legs;
+            tracks = tracks;
+            head = ap (λ (b : Book). b.head) same;
+            rows = ap (λ (b : Book). b.rows) same;
+          };
+    })
