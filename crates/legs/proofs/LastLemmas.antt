@@ -1,5 +1,5 @@
 -- The last leg of a feature.
-use Rattle.std.proofs.Common.{ℕ, suc, ◌+◌, ◌<◌, ◌≡◌, ◌≢◌, ◌==◌, ◌⊎◌, inl, inr, true, false, cond, ⊎_elim, refl, sym, ap, ◌∙◌, subst, arith, eq-eqb, All, List, [], ◌∷◌, ◌++◌, take, length, get_or, Option, Some, None, slice_get, Ok}
+use Rattle.std.proofs.Common.{ℕ, suc, ◌+◌, ◌<◌, ◌≡◌, ◌≢◌, ◌==◌, ◌⊎◌, inl, inr, true, false, cond, ⊎_elim, refl, sym, ap, ◌∙◌, subst, arith, eq-eqb, All, List, [], ◌∷◌, ◌++◌, take, length, get_or, Option, Some, None, slice_get, Result}
 use Rattle.std.specs.List.{count_by, filter, fold, Contains}
 use Rattle.std.proofs.lemmas.Bool.{eqb-true, true≢false}
 use Rattle.std.proofs.lemmas.Grind.{fold-append}
@@ -11,6 +11,7 @@ use Rattle.legs.specs.Finding.{Finding}
 use Rattle.legs.specs.Index.{is_of, last_leg_of, legs_of}
 use Rattle.legs.specs.Legs.{LegView}
 use Rattle.legs.specs.Places.{ListView}
+use Rattle.legs.specs.declared.index.IndexFault.{IndexFault}
 use Rattle.legs.specs.declared.listed.Listed.{Ghosts}
 use Rattle.legs.proofs.GrowLemmas.{list_words}
 
@@ -133,8 +134,8 @@ module _ {I : Type 0} (g : Ghosts I) where
           (last_over f (last_leg_of f xs) ys)
 
   -- legs behind a start
-  pub takes_started : (a b c : I) (legs : List LegView) → Starts {A = Unit {0}} g a b (Ok tt) → HasTaken g b c legs → HasTaken g a c legs
-  takes_started a b c legs s p = record {
+  pub takes_started : {A : Type 0} (a b c : I) (legs : List LegView) (r : Result A IndexFault) → Starts g a b r → HasTaken g b c legs → HasTaken g a c legs
+  takes_started a b c legs r s p = record {
     kept = λ leg h. p.kept leg (s.holds leg h);
     put = p.put;
     counted = λ few. p.counted (omega (arith, few, s.counted)) ∙ ap (λ n. n + length legs) s.counted;

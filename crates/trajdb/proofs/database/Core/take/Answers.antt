@@ -1,8 +1,9 @@
-use Rattle.std.proofs.Common.{◌++◌, ◌∙◌, ap, sym, subst, List, ℕ}
+use Rattle.std.proofs.Common.{◌++◌, ◌∙◌, ap, refl, sym, subst, List, ℕ}
 use Rattle.mfcsv.specs.declared.Head.{Head}
 use Rattle.legs.specs.Book.{Book, head_with}
 use Rattle.legs.specs.Tracks.{StandsFor}
 use Rattle.legs.specs.Law.{IsBook}
+use Rattle.trajdb.specs.Loads.{values_of}
 use Rattle.trajdb.proofs.BookLemmas.{with_file-parts}
 use Rattle.trajdb.proofs.database.Core.take.Goals as goal
 
@@ -27,11 +28,12 @@ returns-clause-taken g c =
 pub returns-clause-puts : goal.returns-clause-puts
 returns-clause-puts g c =
     rw (← c.self.view_is) (record {
-      taken = ?;
+      taken = rw c.legs.ensures at c.in_ok-put_legs.ensures.taken;
       joins = λ book of it accepts.
           let tracks = c.in_ok-accept.ensures.ok c.self.inside.limits book it of.limits of.tracks accepts.0 in
           let same = with_file-parts c.self.inside.limits book it c.args.new.joined.legs (book.legs ++ c.args.new.joined.legs) c.keep_head.new.first c.accept.new.self.names c.append.new.self
-          accepts.0.legs ? tracks.names refl ? in
+          accepts.0.legs (c.keep_head.ensures ∙ ap (head_with c.self.inside.head) accepts.3 ∙ ap (λ head. head_with head it.head) (sym of.head)) tracks.names refl
+          (c.in_ok-append.ensures.appended ∙ ap (λ (rows : List (List (List ℕ))). c.self.inside.rows ++ rows) accepts.4 ∙ ap (λ (rows : List (List (List ℕ))). rows ++ values_of it.records) (sym of.rows)) in
           record {
             adds = accepts.0.legs;
             tracks = tracks;
