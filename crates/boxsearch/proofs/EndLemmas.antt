@@ -28,7 +28,7 @@ use Rattle.boxsearch.specs.Answers.{answered, of_tree}
 use Rattle.boxsearch.specs.Index.{IndexView, found_by, holds, place_of, words, with_place}
 use Rattle.boxsearch.specs.Putting.{FillsSome, Puts, PutsAll}
 use Rattle.boxsearch.proofs.AddLemmas.{made}
-use Rattle.boxsearch.proofs.PlaceLemmas.{get-set_same, get-set_other, push_last, push_other, some_none}
+use Rattle.boxsearch.proofs.PlaceLemmas.{get-set_same, get-set_other, push_last, push_other}
 
 -- the last of some legs is among those of the last leaf
 last_in_leaf : (leaf count : ℕ) (front : List LegView) (leg : LegView) → (others : List LegView) × (in_last_leaf leaf count (front ++ leg ∷ []) ≡ others ++ leg ∷ [])

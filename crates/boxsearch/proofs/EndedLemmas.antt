@@ -1,5 +1,5 @@
 -- With which leg a feature of a sound index ends.
-use Rattle.std.proofs.Common.{ℕ, suc, ◌*◌, ◌-◌, ◌+◌, ◌<◌, ◌≡◌, ◌∙◌, ◌↔◌, min, cond, refl, sym, ap, arith, subst, eq-eqb, All, List, [], ◌∷◌, ◌++◌, length, append_assoc, Option, Some, None, slice_get}
+use Rattle.std.proofs.Common.{ℕ, suc, ◌*◌, ◌<◌, ◌≡◌, ◌∙◌, ◌↔◌, cond, refl, sym, ap, arith, subst, eq-eqb, All, List, [], ◌∷◌, ◌++◌, length, append_assoc, Option, Some, None, slice_get}
 use Rattle.std.proofs.lemmas.Bool.{eqb-true}
 use Rattle.std.proofs.lemmas.List.Elements.{All-cons, All-nil, filter_passes}
 use Rattle.legs.specs.Boxes.{BoxView}
@@ -8,7 +8,7 @@ use Rattle.legs.specs.GroupSteps.{joined_groups}
 use Rattle.legs.specs.Blocks.{groups}
 use Rattle.legs.specs.Index.{is_of, last_leg_of, legs_of}
 use Rattle.legs.specs.Legs.{LegView}
-use Rattle.legs.proofs.LastLemmas.{last_append, last_filter, last_or, some_is, some_not}
+use Rattle.legs.proofs.LastLemmas.{last_append, last_filter, some_is, some_not}
 use Rattle.tbtree.specs.Joining.{HasAtEnd}
 use Rattle.tbtree.specs.Nodes.{ALeaf, LeafView, Pages, pages_of_cache, with_legs}
 use Rattle.tbtree.specs.declared.tree.Place.{Place}

@@ -1,5 +1,5 @@
 -- Turns in order take the legs of each feature in their own order, whatever the places say.
-use Rattle.std.proofs.Common.{ℕ, zero, suc, ◌≡◌, ◌≢◌, ◌≤◌, ◌<◌, ◌+◌, ◌-◌, ◌%◌, ◌^◌, min, ◌==◌, cond, true, false, refl, sym, ap, ◌∙◌, arith, subst, ⊎_elim, eq-eqb, List, [], ◌∷◌, ◌++◌, map, length, get_or, append_assoc, None}
+use Rattle.std.proofs.Common.{ℕ, zero, suc, ◌≡◌, ◌≢◌, ◌≤◌, ◌<◌, ◌+◌, ◌-◌, ◌%◌, ◌^◌, min, ◌==◌, cond, true, false, refl, sym, ap, ◌∙◌, arith, subst, ⊎_elim, eq-eqb, List, [], ◌∷◌, ◌++◌, map, length, get_or, append_assoc}
 use Rattle.std.specs.Prelude.{slice_set}
 use Rattle.std.specs.List.{filter}
 use Rattle.std.specs.List.Sorted.{IsPermutation, IsNonDecreasingBy}

@@ -146,10 +146,12 @@ module _ (mid new : Pages LegView BoxView) (leaf last : ℕ) (ys : List LegView)
   one_more : (least before : ℕ) (xs : List LegView) (pages : List ℕ) → (0 < length pages → 0 < least) → length xs % leaf ≡ 0 → last ≡ last_or before pages → least ≤ page → All (λ p. p < page) pages → AreLeaves mid leaf least before xs pages
       → AreLeaves new leaf least before (xs ++ ys) (pages ++ page ∷ [])
   one_more least before xs [] above full e l below a =
-      subst (λ zs. AreLeaves new leaf least before (zs ++ ys) (page ∷ [])) (sym a)
-      (some, l,
-      begun.is ∙ ap (λ b. Some (Some (ALeaf (new_leaf leg_feature b ys)))) e ∙ ap (λ zs. Some (Some (ALeaf (new_leaf leg_feature before zs)))) (sym (take_all leaf ys few)),
-      drop_all leaf ys few)
+      subst (λ zs. AreLeaves new leaf least before (zs ++ ys) (page ∷ [])) (sym a) (
+        some,
+        l,
+        begun.is ∙ ap (λ b. Some (Some (ALeaf (new_leaf leg_feature b ys)))) e ∙ ap (λ zs. Some (Some (ALeaf (new_leaf leg_feature before zs)))) (sym (take_all leaf ys few)),
+        drop_all leaf ys few,
+      )
   one_more least before xs (p ∷ []) above full e l below a =
       let over : length xs ≤ leaf = (let n = ap length a.3 in let d = length-drop leaf xs in omega (arith, n, d)) in
       let whole : leaf ≤ length xs = ⊎_elim
@@ -162,10 +164,10 @@ module _ (mid new : Pages LegView BoxView) (leaf last : ℕ) (ys : List LegView)
         (let n = length-append xs ys in omega (arith, n, some)),
         a.1,
         ap new.at (sym e) ∙ m.is
-        ∙ ap (λ (ls : List LegView). Some (Some (ALeaf (record { feature = owner leg_feature own; previous = before; next = page; legs = ls })))) (append-nil own)
-        ∙ ap (λ (ls : List LegView). Some (Some (ALeaf (with_next page (new_leaf leg_feature before ls))))) (sym (take-append-le leaf xs ys whole)),
+            ∙ ap (λ (ls : List LegView). Some (Some (ALeaf (record { feature = owner leg_feature own; previous = before; next = page; legs = ls })))) (append-nil own)
+            ∙ ap (λ (ls : List LegView). Some (Some (ALeaf (with_next page (new_leaf leg_feature before ls))))) (sym (take-append-le leaf xs ys whole)),
         subst (λ zs. AreLeaves new leaf (suc p) p zs (page ∷ [])) (sym (drop-append-le leaf xs ys whole))
-        (one_more (suc p) p (drop leaf xs) [] (λ h. omega arith) (ap (λ zs. length zs % leaf) a.3 ∙ zero-mod leaf) e (omega (arith, below_p)) (All-nil (λ p. p < page)) a.3),
+            (one_more (suc p) p (drop leaf xs) [] (λ h. omega arith) (ap (λ zs. length zs % leaf) a.3 ∙ zero-mod leaf) e (omega (arith, below_p)) (All-nil (λ p. p < page)) a.3),
       )
   one_more least before xs (p ∷ q ∷ qs) above full e l below a =
       let more : 0 < length (drop leaf xs) = a.3.0 in
@@ -176,9 +178,9 @@ module _ (mid new : Pages LegView BoxView) (leaf last : ℕ) (ys : List LegView)
         (let n = length-append xs ys in omega (arith, n, some)),
         a.1,
         begun.keeps.rest p (with_next q (new_leaf leg_feature before (take leaf xs))) (λ h u. omega (arith, u, e, rises)) a.2
-        ∙ ap (λ (ls : List LegView). Some (Some (ALeaf (with_next q (new_leaf leg_feature before ls))))) (sym (take-append-le leaf xs ys whole)),
+            ∙ ap (λ (ls : List LegView). Some (Some (ALeaf (with_next q (new_leaf leg_feature before ls))))) (sym (take-append-le leaf xs ys whole)),
         subst (λ zs. AreLeaves new leaf (suc p) p zs (q ∷ (qs ++ page ∷ []))) (sym (drop-append-le leaf xs ys whole))
-        (one_more (suc p) p (drop leaf xs) (q ∷ qs) (λ h. omega arith) left e (omega (arith, below_p)) (λ i d h. below (suc i) d (omega (arith, h))) a.3),
+            (one_more (suc p) p (drop leaf xs) (q ∷ qs) (λ h. omega arith) left e (omega (arith, below_p)) (λ i d h. below (suc i) d (omega (arith, h))) a.3),
       )
 
 -- where no leg is left over no leaf is made
@@ -494,11 +496,11 @@ module _ (leaf : ℕ) (old mid new : Pages LegView BoxView) (leaves mid_leaves n
         so_far.0 ++ mid.count ∷ [],
         subst (λ l. Fills leaf old new leaves new_leaves place new_place l (so_far.0 ++ mid.count ∷ [])) (sym all) f,
         λ less.
-        let whole : k ≡ leaf = (let w = full less in omega (arith, w, z)) in
-        let is_left : left_over leaf place.legs (take n legs ++ part) ≡ left_over leaf place.legs (take n legs) ++ part = left_is leaf old mid new leaves mid_leaves new_leaves place mid_place new_place some (take n legs) part so_far.0 mid.count (omega (arith, many, more)) (omega (arith, many, room, z)) so_far.1 z before (begins z) in
-        ap (λ l. length (left_over leaf place.legs l) % leaf) all
-        ∙ ap (λ m. m % leaf) (ap length is_left ∙ length-append (left_over leaf place.legs (take n legs)) part ∙ (let w : length (left_over leaf place.legs (take n legs)) + length part ≡ length (left_over leaf place.legs (take n legs)) + leaf = omega (arith, many, whole) in w))
-        ∙ add-mod_right (length (left_over leaf place.legs (take n legs))) leaf ∙ before,
+            let whole : k ≡ leaf = (let w = full less in omega (arith, w, z)) in
+            let is_left : left_over leaf place.legs (take n legs ++ part) ≡ left_over leaf place.legs (take n legs) ++ part = left_is leaf old mid new leaves mid_leaves new_leaves place mid_place new_place some (take n legs) part so_far.0 mid.count (omega (arith, many, more)) (omega (arith, many, room, z)) so_far.1 z before (begins z) in
+            ap (λ l. length (left_over leaf place.legs l) % leaf) all
+            ∙ ap (λ m. m % leaf) (ap length is_left ∙ length-append (left_over leaf place.legs (take n legs)) part ∙ (let w : length (left_over leaf place.legs (take n legs)) + length part ≡ length (left_over leaf place.legs (take n legs)) + leaf = omega (arith, many, whole) in w))
+            ∙ add-mod_right (length (left_over leaf place.legs (take n legs))) leaf ∙ before,
       ))
       (λ (u : mid_place.legs % leaf ≢ 0).
       let above : 0 < mid_place.legs % leaf = omega (arith, u) in

@@ -1,11 +1,10 @@
 -- A file that is read and joined, record by record.
-use Rattle.std.proofs.Common.{[], ◌∷◌, ◌++◌, ◌≡◌, ◌∙◌, ℕ, List, Option, Result, Ok, Err, ap, length, map, refl, subst, sym}
-use Rattle.std.specs.Prelude.{IfOk}
+use Rattle.std.proofs.Common.{[], ◌∷◌, ◌++◌, ◌≡◌, ◌∙◌, ℕ, List, Option, Result, Ok, Err, ap, length, refl, subst, sym}
 use Rattle.std.proofs.lemmas.List.{map_push}
-use Rattle.mfcsv.specs.FileText.{HasWholeRows, file_of_bytes}
+use Rattle.mfcsv.specs.FileText.{file_of_bytes}
 use Rattle.mfcsv.specs.Rows.{rows_of}
 use Rattle.mfcsv.specs.Views.{RecordView}
-use Rattle.mfcsv.specs.Left.{GivesHead, with_all, with_first}
+use Rattle.mfcsv.specs.Left.{with_all, with_first}
 use Rattle.mfcsv.specs.Answer.{FaultIs as IsTextFault}
 use Rattle.mfcsv.specs.declared.Code.{Code}
 use Rattle.mfcsv.specs.declared.File.{File}
@@ -15,7 +14,7 @@ use Rattle.mfcsv.specs.declared.Head.{Head}
 use Rattle.mfcsv.proofs.ReadLemmas.{all_fails, all_read, read_so_far}
 use Rattle.mfcsv.proofs.WalkLemmas.{all_none}
 use Rattle.mfcsv.proofs.WholeLemmas.{whole_text}
-use Rattle.legs.specs.Book.{Book, IsRefusal, book_after, file_of, joined, with_file}
+use Rattle.legs.specs.Book.{Book, IsRefusal, file_of, joined, with_file}
 use Rattle.legs.specs.Joining.{IsJoinedBy, IsJoining, JoinedView, JoiningView}
 use Rattle.legs.specs.Legs.{LegView}
 use Rattle.legs.specs.Limits.{LimitsView}
@@ -28,7 +27,6 @@ use Rattle.trajdb.specs.Answers.{book_by, book_with, counts_or, joined_counts, l
 use Rattle.legs.specs.Counting.{names_after}
 use Rattle.trajdb.specs.Database.{FaultIs, IsRefused}
 use Rattle.trajdb.specs.Loads.{Accepts, IsRead, code_fault, counts_in, join_fault, values_of}
-use Rattle.trajdb.specs.declared.Counts.{Counts}
 use Rattle.trajdb.specs.declared.FileCode.{FileCode}
 use Rattle.trajdb.specs.declared.LoadFault.{LoadFault}
 use Rattle.trajdb.specs.declared.LoadFault.TheVariants.{Refused, Run}

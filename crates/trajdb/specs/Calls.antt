@@ -19,7 +19,7 @@ use Rattle.querylang.specs.Line.{line_of}
 use Rattle.querylang.specs.declared.LineCode.{LineCode}
 use Rattle.querylang.specs.declared.Command.{Command}
 use Rattle.querylang.specs.declared.Command.TheVariants.{Load, Count, Box, Legs, Features, Trajectory, Write}
-use Rattle.trajdb.specs.Answers.{IsCountsText, IsFileRefusal, counts_text}
+use Rattle.trajdb.specs.Answers.{IsFileRefusal, counts_text}
 use Rattle.trajdb.specs.Files.{file_named}
 use Rattle.trajdb.specs.Database.{CoreView, IsSound}
 use Rattle.trajdb.specs.declared.Counts.{Counts}

@@ -1,19 +1,13 @@
 -- What a database stands for.
-use Rattle.std.specs.Prelude.{◌≡◌, Bool, false, List, ℕ, Result, Ok, Err}
-use Rattle.mfcsv.specs.FileText.{HasWholeRows}
-use Rattle.mfcsv.specs.declared.File.{File}
-use Rattle.legs.specs.Legs.{LegView}
+use Rattle.std.specs.Prelude.{◌≡◌, Bool, false, ℕ, Result, Ok, Err}
 use Rattle.legs.specs.Limits.{LimitsView, IsLimits}
-use Rattle.legs.specs.Book.{Book, joined}
-use Rattle.legs.specs.Index.{CanFollowInTurn}
+use Rattle.legs.specs.Book.{Book}
 use Rattle.legs.specs.declared.listed.Listed.{Ghosts}
 use Rattle.legs.specs.Tracks.{TracksView, StandsFor}
 use Rattle.legs.specs.Law.{IsBook}
 use Rattle.register.specs.Saved.{CatalogueView}
 use Rattle.trajdb.specs.declared.Counts.{Counts}
 use Rattle.trajdb.specs.declared.FileCode.{FileCode}
-use Rattle.trajdb.specs.declared.FileCode.TheVariants.{Join}
-use Rattle.legs.specs.declared.joining.JoinCode.{JoinCode}
 use Rattle.trajdb.specs.declared.LoadFault.{LoadFault}
 use Rattle.trajdb.specs.declared.LoadFault.TheVariants.{Refused, Run}
 

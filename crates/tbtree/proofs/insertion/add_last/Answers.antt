@@ -38,6 +38,6 @@ pub returns-clause-leaf : goal.returns-clause-leaf
 returns-clause-leaf g c = λ fa.
     let faithful = still _ _ c.add_leaf-2.ensures.touches.passes.store.faithful fa in
     begins_linked (pages_of_cache c.args.cache.now) c.args.last c.args.legs.now c.requires.first c.in_ok-page.ensures.fresh c.in_ok-page.ensures.one (pages_of_cache c.add_leaf-2.new.cache) (pages_of_cache c.link.new.cache) c.in_ok-page.page
-    (c.in_ok-page.ensures.adds fa) c.if-page-last.false 
+    (c.in_ok-page.ensures.adds fa) c.if-page-last.false
     (subst (λ f. HasLastLeaf (pages_of_cache c.add_leaf-2.new.cache) c.args.last f) (ap (λ (leg : LegView). leg.feature) c.first.view_is ∙ sym (owner_first c.args.legs.now c.index-legs-0.result c.requires.some c.index-legs-0.is)) (c.in_ok-link.ensures.last faithful))
     (c.in_ok-link.ensures.links faithful)

@@ -35,4 +35,3 @@ pub into_last-requires-clause-room : goal.into_last-requires-clause-room
 into_last-requires-clause-room g c =
     let least = c.leaf.ensures.range.least_leaf in
     fits c.args.tree.now.shape.leaf c.args.place.now.legs (length c.args.legs.now) (omega (arith, least)) c.requires.room
-

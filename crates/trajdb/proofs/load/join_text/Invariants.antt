@@ -1,4 +1,3 @@
-use Rattle.std.proofs.Common.{◌≡◌}
 use Rattle.mfcsv.specs.FileText.{file_of_bytes}
 use Rattle.trajdb.proofs.LoadLemmas.{IsReading}
 use Rattle.trajdb.proofs.load.join_text.Given as goal

@@ -1,5 +1,4 @@
 use Rattle.std.proofs.Common.{◌++◌, ◌∙◌, ap, refl, sym, subst, List, ℕ}
-use Rattle.mfcsv.specs.declared.Head.{Head}
 use Rattle.legs.specs.Book.{Book, head_with}
 use Rattle.legs.specs.Tracks.{StandsFor}
 use Rattle.legs.specs.Law.{IsBook}
