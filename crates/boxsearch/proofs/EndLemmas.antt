@@ -6,7 +6,7 @@ use Rattle.std.proofs.lemmas.Bool.{cases_eq, eqb-true, true≢false}
 use Rattle.std.proofs.lemmas.List.{append-nil, drop-append-le, length_push}
 use Rattle.std.proofs.lemmas.List.Elements.{All-cons, All-contains, All-nil}
 use Rattle.std.proofs.lemmas.Option.{slice_get-map}
-use Rattle.legs.specs.Asking.{placed_legs, HasTaken}
+use Rattle.legs.specs.Asking.{placed_legs, HasAdded}
 use Rattle.legs.specs.Boxes.{BoxView}
 use Rattle.legs.specs.Costs.{leg_feature}
 use Rattle.legs.specs.Finding.{FeaturePlace}
@@ -131,7 +131,7 @@ module _ (old new : IndexView) (feature : ℕ) (legs : List LegView) (was is : P
       (cases_eq f feature)
 
   -- the legs of one feature that were put in
-  takes_put : HasTaken words old new legs
+  takes_put : HasAdded words old new legs
   takes_put = record {
     kept = λ leg h. says new leg (λ fa. All-contains (Contains (content_of (pages_of_cache new.cache) new.tree)) (content_of (pages_of_cache old.cache) old.tree) leg (met (was_faithful fa)).kept (said old leg h (was_faithful fa)));
     put = λ k d l. says new (get_or legs k d) (λ fa. (met (was_faithful fa)).put k d l);
@@ -163,7 +163,7 @@ module _ (old new : IndexView) (feature : ℕ) (legs : List LegView) (was is : P
   }
 
 -- a leg
-pub leg_takes : (old new : IndexView) (leg : LegView) (r : Result (Unit {0}) TreeFault) → Puts (made old leg.feature) new leg r → OnOk (answered (λ fault. of_tree fault) r) (HasTaken words old new (leg ∷ []))
+pub leg_takes : (old new : IndexView) (leg : LegView) (r : Result (Unit {0}) TreeFault) → Puts (made old leg.feature) new leg r → OnOk (answered (λ fault. of_tree fault) r) (HasAdded words old new (leg ∷ []))
 leg_takes old new leg (Ok tt) p =
     let one : All (λ l. l.feature ≡ leg.feature) (leg ∷ []) = All-cons (λ l. l.feature ≡ leg.feature) leg [] refl (All-nil (λ l. l.feature ≡ leg.feature)) in
     takes_put old new leg.feature (leg ∷ []) p.was p.is (omega arith) one p.found p.places p.passes.store.faithful p.shape p.works p.legs p.placed p.fills p.met
@@ -171,18 +171,18 @@ leg_takes old new leg (Err x) p = tt
 
 -- legs of one feature
 pub run_takes : (old new : IndexView) (feature : ℕ) (legs : List LegView) → 0 < length legs → All (λ leg. leg.feature ≡ feature) legs → (r : Result (Unit {0}) TreeFault) → PutsAll (made old feature) new feature legs r
-    → OnOk (answered (λ fault. of_tree fault) r) (HasTaken words old new legs)
+    → OnOk (answered (λ fault. of_tree fault) r) (HasAdded words old new legs)
 run_takes old new feature legs some one (Ok tt) p = takes_put old new feature legs p.was p.is some one p.found p.places p.passes.store.faithful p.shape p.works p.counted p.placed p.fills p.met
 run_takes old new feature legs some one (Err x) p = tt
 
 -- a run more
-pub run_more : (old now new : IndexView) (all left rest run : List LegView) → left ≡ run ++ rest → (done : List LegView) × HasTaken words old now done × (done ++ left ≡ all) → HasTaken words now new run
-    → (done : List LegView) × HasTaken words old new done × (done ++ rest ≡ all)
+pub run_more : (old now new : IndexView) (all left rest run : List LegView) → left ≡ run ++ rest → (done : List LegView) × HasAdded words old now done × (done ++ left ≡ all) → HasAdded words now new run
+    → (done : List LegView) × HasAdded words old new done × (done ++ rest ≡ all)
 run_more old now new all left rest run is so_far more = (
   so_far.0 ++ run,
   takes_then words old now new so_far.0 run so_far.1 more,
   append_assoc so_far.0 run rest ∙ ap (λ l. so_far.0 ++ l) (sym is) ∙ so_far.2,
 )
 
-pub run_end : (old now : IndexView) (all left : List LegView) → left ≡ [] → (done : List LegView) × HasTaken words old now done × (done ++ left ≡ all) → HasTaken words old now all
-run_end old now all left none so_far = subst (λ l. HasTaken words old now l) (sym (append-nil so_far.0) ∙ ap (λ l. so_far.0 ++ l) (sym none) ∙ so_far.2) so_far.1
+pub run_end : (old now : IndexView) (all left : List LegView) → left ≡ [] → (done : List LegView) × HasAdded words old now done × (done ++ left ≡ all) → HasAdded words old now all
+run_end old now all left none so_far = subst (λ l. HasAdded words old now l) (sym (append-nil so_far.0) ∙ ap (λ l. so_far.0 ++ l) (sym none) ∙ so_far.2) so_far.1

@@ -4,7 +4,7 @@ use Rattle.legs.specs.Legs.{LegView}
 use Rattle.tbtree.specs.Faults.{RefusesWrite}
 use Rattle.tbtree.specs.Insert.{Inserts}
 use Rattle.tbtree.specs.Content.{ContentGrows}
-use Rattle.tbtree.specs.Filling.{Fills}
+use Rattle.tbtree.specs.Filling.{FillsLeaves}
 use Rattle.tbtree.specs.Joining.{Joins, JoinsAll}
 use Rattle.tbtree.specs.Nodes.{pages_of_cache}
 use Rattle.tbtree.specs.Passes.{Passes, KeepsLength}
@@ -15,7 +15,7 @@ use Rattle.boxsearch.specs.Index.{IndexView}
 -- the leaves of a feature have them, and new ones, whose pages these are
 abbrev pub FillsSome : (old new : IndexView) (was is : Place) → List LegView → Type 0
 FillsSome old new was is legs =
-    (pages : List ℕ) × Fills old.tree.shape.leaf (pages_of_cache old.cache)
+    (pages : List ℕ) × FillsLeaves old.tree.shape.leaf (pages_of_cache old.cache)
     (pages_of_cache new.cache) old.tree.leaves new.tree.leaves was is legs pages
 
 -- what putting a leg makes of it

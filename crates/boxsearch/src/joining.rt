@@ -1,6 +1,6 @@
 //! Legs that are put into an index over pages leaf by leaf.
 ghost use Rattle.std.specs.Prelude.{◌≡◌, ◌+◌, ◌++◌, ◌<◌, ◌≤◌, drop, false, length, All, IfOk, OnOk};
-ghost use Rattle.legs.specs.Asking.{IsLater, HasTaken};
+ghost use Rattle.legs.specs.Asking.{IsLater, HasAdded};
 ghost use Rattle.boxsearch.specs.Index.{words};
 ghost use Rattle.boxsearch.specs.Runs.{numbered_legs, runs_in, RunsAsk};
 ghost use Rattle.boxsearch.specs.Taking.{Taking, taken};
@@ -13,7 +13,7 @@ use legs::{IndexFault, Leg};
 use pages::PageStore;
 use std::alloc::AllocError;
 
-/// HasTaken the legs of the next turns, as long as they are of one leaf and of one feature, and gives that feature.
+/// HasAdded the legs of the next turns, as long as they are of one leaf and of one feature, and gives that feature.
 fn next_run(run: &mut Vec<Leg>, legs: &[Leg], turns: &[Turn]) -> Result<u32, AllocError>
     requires some { 0 < length turns.now }
     requires within { All (λ (turn : Turn). turn.place < length legs.now) turns.now }
@@ -54,7 +54,7 @@ fn join<S: PageStore>(
     requires some { 0 < length legs.now }
     requires one { All (λ leg. leg.feature ≡ feature) legs.now }
     ensures taking { Taking index.old index.new legs.now result }
-    ensures takes { OnOk result (HasTaken words index.old index.new legs.now) }
+    ensures takes { OnOk result (HasAdded words index.old index.new legs.now) }
     ensures asks { OnOk result (RunsAsk index.old index.new 1) }
     ensures later { IsLater words index.old index.new }
 {
@@ -80,7 +80,7 @@ pub(crate) fn join_all<S: PageStore>(
     requires works { index.old.tree.spent ≡ false }
     requires within { All (λ (turn : Turn). turn.place < length legs.now) turns.now }
     ensures taking { Taking index.old index.new (taken legs.now turns.now) result }
-    ensures takes { OnOk result (HasTaken words index.old index.new (taken legs.now turns.now)) }
+    ensures takes { OnOk result (HasAdded words index.old index.new (taken legs.now turns.now)) }
     ensures asks { OnOk result (RunsAsk index.old index.new
         (runs_in (numbered_legs legs.now turns.now))) }
     ensures later { IsLater words index.old index.new }

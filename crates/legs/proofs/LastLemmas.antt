@@ -6,7 +6,7 @@ use Rattle.std.proofs.lemmas.Grind.{fold-append}
 use Rattle.std.proofs.lemmas.List.{length-append, take_more}
 use Rattle.std.proofs.lemmas.List.Elements.{All-append, All-cons, All-contains, All-contains_itself, All-filter, All-nil, All-weaker, Contains-append_cases, Contains-append_left, Contains-append_right}
 use Rattle.std.proofs.lemmas.List.Sums.{length-filter, sum_by-append}
-use Rattle.legs.specs.Asking.{placed_legs, HasTaken, Starts}
+use Rattle.legs.specs.Asking.{placed_legs, HasAdded, Starts}
 use Rattle.legs.specs.Finding.{Finding}
 use Rattle.legs.specs.Index.{is_of, last_leg_of, legs_of}
 use Rattle.legs.specs.Legs.{LegView}
@@ -78,7 +78,7 @@ count_then f xs ys = sum_by-append (λ leg. cond (is_of f leg) 1 0) xs ys
 
 module _ {I : Type 0} (g : Ghosts I) where
   -- no leg changes nothing
-  pub takes_none : (a : I) → g.is_spent a ≡ false → HasTaken g a a []
+  pub takes_none : (a : I) → g.is_spent a ≡ false → HasAdded g a a []
   takes_none a works = record {
     kept = λ leg h. h;
     put = All-nil (g.holds a);
@@ -92,7 +92,7 @@ module _ {I : Type 0} (g : Ghosts I) where
   }
 
   -- some legs, and then others
-  pub takes_then : (a b c : I) (xs ys : List LegView) → HasTaken g a b xs → HasTaken g b c ys → HasTaken g a c (xs ++ ys)
+  pub takes_then : (a b c : I) (xs ys : List LegView) → HasAdded g a b xs → HasAdded g b c ys → HasAdded g a c (xs ++ ys)
   takes_then a b c xs ys p q =
       let many = length-append xs ys in
       record {
@@ -134,7 +134,7 @@ module _ {I : Type 0} (g : Ghosts I) where
           (last_over f (last_leg_of f xs) ys)
 
   -- legs behind a start
-  pub takes_started : {A : Type 0} (a b c : I) (legs : List LegView) (r : Result A IndexFault) → Starts g a b r → HasTaken g b c legs → HasTaken g a c legs
+  pub takes_started : {A : Type 0} (a b c : I) (legs : List LegView) (r : Result A IndexFault) → Starts g a b r → HasAdded g b c legs → HasAdded g a c legs
   takes_started a b c legs r s p = record {
     kept = λ leg h. p.kept leg (s.holds leg h);
     put = p.put;
@@ -148,11 +148,11 @@ module _ {I : Type 0} (g : Ghosts I) where
   }
 
   -- a leg more of some
-  pub takes_more : (a b c : I) (legs : List LegView) (i : ℕ) (leg : LegView) → i < length legs → leg ≡ get_or legs i leg → HasTaken g a b (take i legs) → HasTaken g b c (leg ∷ []) → HasTaken g a c (take (i + 1) legs)
-  takes_more a b c legs i leg l is p q = subst (λ ls. HasTaken g a c ls) (sym (take_more legs i leg l ∙ ap (λ x. take i legs ++ x ∷ []) (sym is))) (takes_then a b c (take i legs) (leg ∷ []) p q)
+  pub takes_more : (a b c : I) (legs : List LegView) (i : ℕ) (leg : LegView) → i < length legs → leg ≡ get_or legs i leg → HasAdded g a b (take i legs) → HasAdded g b c (leg ∷ []) → HasAdded g a c (take (i + 1) legs)
+  takes_more a b c legs i leg l is p q = subst (λ ls. HasAdded g a c ls) (sym (take_more legs i leg l ∙ ap (λ x. take i legs ++ x ∷ []) (sym is))) (takes_then a b c (take i legs) (leg ∷ []) p q)
 
   -- in whatever order the features take turns
-  pub takes_alike : (a b : I) (xs ys : List LegView) → ((f : ℕ) → legs_of f xs ≡ legs_of f ys) → length xs ≡ length ys → HasTaken g a b xs → HasTaken g a b ys
+  pub takes_alike : (a b : I) (xs ys : List LegView) → ((f : ℕ) → legs_of f xs ≡ legs_of f ys) → length xs ≡ length ys → HasAdded g a b xs → HasAdded g a b ys
   takes_alike a b xs ys same many p =
       let lasts : (f : ℕ) → last_leg_of f xs ≡ last_leg_of f ys = λ f. sym (last_filter f None xs) ∙ ap (last_or f None) (same f) ∙ last_filter f None ys in
       record {
@@ -186,7 +186,7 @@ module _ {I : Type 0} (g : Ghosts I) where
           ]) refl
 
 -- legs at the end of a list
-pub list_takes : (old new : ListView) (legs : List LegView) → new.legs ≡ old.legs ++ legs → new.spent ≡ false → HasTaken list_words old new legs
+pub list_takes : (old new : ListView) (legs : List LegView) → new.legs ≡ old.legs ++ legs → new.spent ≡ false → HasAdded list_words old new legs
 list_takes old new legs is works =
     let at : (f : ℕ) → last_leg_of f new.legs ≡ last_or f (last_leg_of f old.legs) legs = λ f. ap (last_leg_of f) is ∙ last_append f old.legs legs in
     record {

@@ -96,7 +96,7 @@ placed_legs finding feature = legs_at (slice_get finding.places feature)
 
 -- what legs make of an index, sound or not: it has each leg that it had, and these, and counts them. Each feature that they
 -- have ends with the last one of them; each other one ends with the leg with which it ended, and is found where it was
-pub record HasTaken {I : Type 0} (g : Ghosts I) (old new : I) (legs : List LegView) : Type 0 where
+pub record HasAdded {I : Type 0} (g : Ghosts I) (old new : I) (legs : List LegView) : Type 0 where
   pub kept : (leg : LegView) → g.holds old leg → g.holds new leg
   pub put : All (g.holds new) legs
   pub counted : g.counted old + length legs < 2 ^ 64 → g.counted new ≡ g.counted old + length legs

@@ -41,7 +41,7 @@ pub trait LegIndex: Listed {
     ghost use Rattle.legs.specs.Index.{legs_in_box, legs_of, live_legs_of};
     ghost use Rattle.legs.specs.Questions.{InBox, OfFeature};
     ghost use Rattle.legs.specs.Costs.{known_bound, search_cost, track_cost, track_in_bound};
-    ghost use Rattle.legs.specs.Asking.{AddAllAsks, AddAsks, Asks, AsksAtMost, Denies, Grows, IsLater, KeepsMarked, Leaves, LegRefusals, Recalls, Refusals, HasTaken, TellsSieved};
+    ghost use Rattle.legs.specs.Asking.{AddAllAsks, AddAsks, Asks, AsksAtMost, Denies, Grows, IsLater, KeepsMarked, Leaves, LegRefusals, Recalls, Refusals, HasAdded, TellsSieved};
     ghost use Rattle.legs.specs.Sieves.{IsSieved};
 
     /// How many legs there are.
@@ -62,7 +62,7 @@ pub trait LegIndex: Listed {
     /// index that is not sound, it is said that the leg is there, and all that was, and with which leg each feature ends.
     fn add(&mut self, leg: Leg) -> Result<(), IndexFault>
         ensures added { OnOk result (Grows Self.Listed self.old self.new (leg ∷ [])) }
-        ensures takes { OnOk result (HasTaken Self.Listed self.old self.new (leg ∷ [])) }
+        ensures takes { OnOk result (HasAdded Self.Listed self.old self.new (leg ∷ [])) }
         ensures asks { OnOk result (AddAsks Self.Listed self.old self.new leg) }
         ensures refusals { LegRefusals Self.Listed self.old self.new (leg ∷ []) result }
         ensures marked { KeepsMarked Self.Listed self.old self.new (leg ∷ []) }
@@ -71,7 +71,7 @@ pub trait LegIndex: Listed {
     /// Puts legs at the end of the list, one after another.
     fn add_all(&mut self, legs: &[Leg]) -> Result<(), IndexFault>
         ensures added { OnOk result (Grows Self.Listed self.old self.new legs.now) }
-        ensures takes { OnOk result (HasTaken Self.Listed self.old self.new legs.now) }
+        ensures takes { OnOk result (HasAdded Self.Listed self.old self.new legs.now) }
         ensures asks { OnOk result (AddAllAsks Self.Listed self.old self.new legs.now) }
         ensures refusals { LegRefusals Self.Listed self.old self.new legs.now result }
         ensures marked { KeepsMarked Self.Listed self.old self.new legs.now }

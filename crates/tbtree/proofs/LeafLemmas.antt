@@ -11,7 +11,7 @@ use Rattle.legs.specs.Boxes.{BoxView}
 use Rattle.legs.specs.Costs.{leg_feature}
 use Rattle.legs.specs.GroupLemmas.{some_none, some_same}
 use Rattle.legs.specs.Legs.{LegView}
-use Rattle.tbtree.specs.Filling.{page_made, place_with, with_behind, AreLeaves, BeginsLeaf, Fills, GrowsLeaf, HasMore, IsLeafAt, KeepsLegs}
+use Rattle.tbtree.specs.Filling.{page_made, place_with, with_behind, AreLeaves, BeginsLeaf, FillsLeaves, GrowsLeaf, HasMore, IsLeafAt, KeepsLegs}
 use Rattle.tbtree.specs.Joining.{in_last_leaf, left_over, taken_by_last, HasAtEnd}
 use Rattle.tbtree.specs.Nodes.{Pages, ALeaf, LeafView, Adds, HasLastLeaf, HasLeafRoom, KeepsLeaves, Links, Pushes, with_legs, with_next}
 use Rattle.tbtree.specs.Payloads.{TakesLegs, are_of_one_leaf}
@@ -203,7 +203,7 @@ nothing_new nodes last = record {
 }
 
 -- no leg changes nothing
-pub fills_none : (leaf : ℕ) (nodes : Pages LegView BoxView) (leaves : ℕ) (place : Place) → Fills leaf nodes nodes leaves leaves place place [] []
+pub fills_none : (leaf : ℕ) (nodes : Pages LegView BoxView) (leaves : ℕ) (place : Place) → FillsLeaves leaf nodes nodes leaves leaves place place [] []
 fills_none leaf nodes leaves place = record {
   one = All-nil (λ leg. leg.feature ≡ 0);
   keeps = subst (λ l. KeepsLegs place.last l [] None nodes nodes) (sym (taken_nil leaf place.legs)) (nothing_new nodes place.last);
@@ -220,9 +220,9 @@ fills_none leaf nodes leaves place = record {
 
 module _ (leaf : ℕ) (old mid new : Pages LegView BoxView) (leaves mid_leaves new_leaves : ℕ) (place mid_place new_place : Place) (some : 0 < leaf) where
   -- legs that the last leaf takes, as the first ones
-  pub fills_grown : (ys : List LegView) (pages : List ℕ) → 0 < length ys → Fills leaf old mid leaves mid_leaves place mid_place [] pages → 0 < mid_place.legs % leaf → mid_place.legs % leaf + length ys ≤ leaf
+  pub fills_grown : (ys : List LegView) (pages : List ℕ) → 0 < length ys → FillsLeaves leaf old mid leaves mid_leaves place mid_place [] pages → 0 < mid_place.legs % leaf → mid_place.legs % leaf + length ys ≤ leaf
       → GrowsLeaf mid new mid_place.last ys → HasAtEnd new new_place.last ys → HasAtEnd new new_place.last (in_last_leaf leaf new_place.legs ys) → new_place ≡ place_with mid_leaves mid_place ys [] → new_leaves ≡ mid_leaves
-      → Fills leaf old new leaves new_leaves place new_place ys []
+      → FillsLeaves leaf old new leaves new_leaves place new_place ys []
   fills_grown ys pages many so_far there fits g h ends is same =
       let none : pages ≡ [] = none_made mid leaf old.count place.last pages (subst (λ zs. AreLeaves mid leaf old.count place.last zs pages) (drop_nil (room leaf place.legs)) so_far.made) in
       let was : mid_place ≡ place = so_far.place_is ∙ ap (place_with leaves place []) none ∙ ap (λ n. record place { legs = n }) (let z : place.legs + 0 ≡ place.legs = omega arith in z) in
@@ -254,7 +254,7 @@ module _ (leaf : ℕ) (old mid new : Pages LegView BoxView) (leaves mid_leaves n
         counted = same ∙ so_far.counted ∙ ap (λ l. leaves + length l) none;
       }
 
-  module _ (xs ys : List LegView) (pages : List ℕ) (page : ℕ) (many : 0 < length ys) (few : length ys ≤ leaf) (so_far : Fills leaf old mid leaves mid_leaves place mid_place xs pages) (full : mid_place.legs % leaf ≡ 0)
+  module _ (xs ys : List LegView) (pages : List ℕ) (page : ℕ) (many : 0 < length ys) (few : length ys ≤ leaf) (so_far : FillsLeaves leaf old mid leaves mid_leaves place mid_place xs pages) (full : mid_place.legs % leaf ≡ 0)
       (left : length (left_over leaf place.legs xs) % leaf ≡ 0) (begun : BeginsLeaf mid new mid_place.last ys page) where
     before : KeepsLegs place.last (taken_by_last leaf place.legs xs) xs (slice_get pages 0) old mid
     before = so_far.keeps
@@ -397,7 +397,7 @@ module _ (leaf : ℕ) (old mid new : Pages LegView BoxView) (leaves mid_leaves n
 
     -- a leaf is begun with legs more
     pub fills_begun : HasAtEnd new new_place.last (in_last_leaf leaf new_place.legs (xs ++ ys)) → new_place ≡ place_with mid_leaves mid_place ys (page ∷ []) → new_leaves ≡ mid_leaves + 1
-        → Fills leaf old new leaves new_leaves place new_place (xs ++ ys) (pages ++ page ∷ [])
+        → FillsLeaves leaf old new leaves new_leaves place new_place (xs ++ ys) (pages ++ page ∷ [])
     fills_begun ends is more =
         let made = one_more mid new leaf mid_place.last ys page many few begun old.count place.last (left_over leaf place.legs xs) pages (least pages refl) left last_is (low pages refl)
         (All-weaker (λ p. (0 < p) × (p < mid.count)) (λ p. p < page) (λ p h. let n = begun.number in let b = h.1 in omega (arith, n, b)) pages so_far.there) so_far.made in
@@ -448,7 +448,7 @@ owner_first (x ∷ legs) y some e = ap (λ (l : LegView). l.feature) (sym e)
 -- legs that go into one leaf
 pub fills_one : (leaf : ℕ) (old new : Pages LegView BoxView) (leaves new_leaves : ℕ) (place new_place : Place) (ys : List LegView) → 0 < leaf → 0 < length ys → place.legs % leaf + length ys ≤ leaf
     → (0 < place.legs % leaf → GrowsLeaf old new place.last ys) → (place.legs % leaf ≡ 0 → BeginsLeaf old new place.last ys old.count) → HasAtEnd new new_place.last ys → new_place ≡ place_with leaves place ys (page_made leaf old.count place)
-    → (0 < place.legs % leaf → new_leaves ≡ leaves) → (place.legs % leaf ≡ 0 → new_leaves ≡ leaves + 1) → Fills leaf old new leaves new_leaves place new_place ys (page_made leaf old.count place)
+    → (0 < place.legs % leaf → new_leaves ≡ leaves) → (place.legs % leaf ≡ 0 → new_leaves ≡ leaves + 1) → FillsLeaves leaf old new leaves new_leaves place new_place ys (page_made leaf old.count place)
 fills_one leaf old new leaves new_leaves place new_place ys some many room grows begins at is same more =
     let legs_are : new_place.legs ≡ place.legs + length ys = ap (λ (p : Place). p.legs) is ∙ counts (page_made leaf old.count place) in
     let ends : HasAtEnd new new_place.last (in_last_leaf leaf new_place.legs ys) = subst (λ l. HasAtEnd new new_place.last l) (sym (ap (λ n. in_last_leaf leaf n ys) legs_are ∙ all_in_last leaf place.legs ys many room)) at in
@@ -456,13 +456,13 @@ fills_one leaf old new leaves new_leaves place new_place ys some many room grows
     ⊎_elim
     (λ (z : place.legs % leaf ≡ 0).
     let made : page_made leaf old.count place ≡ old.count ∷ [] = ap (λ b. cond b (old.count ∷ []) []) (eq-eqb _ 0 z) in
-    subst (λ ps. Fills leaf old new leaves new_leaves place new_place ys ps) (sym made)
+    subst (λ ps. FillsLeaves leaf old new leaves new_leaves place new_place ys ps) (sym made)
     (fills_begun leaf old old new leaves leaves new_leaves place place new_place some [] ys [] old.count many (omega (arith, room, z)) none z (ap (λ (l : List LegView). length l % leaf) none.made ∙ zero-mod leaf) (begins z)
     ends (is ∙ ap (place_with leaves place ys) made) (more z)))
     (λ (u : place.legs % leaf ≢ 0).
     let above : 0 < place.legs % leaf = omega (arith, u) in
     let made : page_made leaf old.count place ≡ [] = ap (λ b. cond b (old.count ∷ []) []) (neq-eqb _ 0 u) in
-    subst (λ ps. Fills leaf old new leaves new_leaves place new_place ys ps) (sym made)
+    subst (λ ps. FillsLeaves leaf old new leaves new_leaves place new_place ys ps) (sym made)
     (fills_grown leaf old old new leaves leaves new_leaves place place new_place some ys [] many none above room (grows above) at ends (is ∙ ap (place_with leaves place ys) made) (same above)))
     (cases_eq (place.legs % leaf) 0)
   where
@@ -479,11 +479,11 @@ module _ (leaf : ℕ) (old mid new : Pages LegView BoxView) (leaves mid_leaves n
   part = take (n + k - n) (drop n legs)
 
   -- a part more of the legs
-  pub fills_part : (pages : List ℕ) × Fills leaf old mid leaves mid_leaves place mid_place (take n legs) pages × IsFull leaf place legs n → (0 < n → mid_place.legs % leaf ≡ 0) → mid_place.legs % leaf + k ≤ leaf → (n + k < length legs → mid_place.legs % leaf + k ≡ leaf)
+  pub fills_part : (pages : List ℕ) × FillsLeaves leaf old mid leaves mid_leaves place mid_place (take n legs) pages × IsFull leaf place legs n → (0 < n → mid_place.legs % leaf ≡ 0) → mid_place.legs % leaf + k ≤ leaf → (n + k < length legs → mid_place.legs % leaf + k ≡ leaf)
       → (0 < mid_place.legs % leaf → GrowsLeaf mid new mid_place.last part) → (mid_place.legs % leaf ≡ 0 → BeginsLeaf mid new mid_place.last part mid.count) → HasAtEnd new new_place.last part
       → HasAtEnd new new_place.last (in_last_leaf leaf new_place.legs (take (n + k) legs)) → new_place ≡ place_with mid_leaves mid_place part (page_made leaf mid.count mid_place)
       → (0 < mid_place.legs % leaf → new_leaves ≡ mid_leaves) → (mid_place.legs % leaf ≡ 0 → new_leaves ≡ mid_leaves + 1)
-      → (pages : List ℕ) × Fills leaf old new leaves new_leaves place new_place (take (n + k) legs) pages × IsFull leaf place legs (n + k)
+      → (pages : List ℕ) × FillsLeaves leaf old new leaves new_leaves place new_place (take (n + k) legs) pages × IsFull leaf place legs (n + k)
   fills_part so_far first room full grows begins at ends is same one_more_leaf =
       let many : length part ≡ k = length_part legs n k within in
       let all : take (n + k) legs ≡ take n legs ++ part = take-add n k legs ∙ ap (λ l. take n legs ++ l) (sym (part_is legs n k)) in
@@ -494,7 +494,7 @@ module _ (leaf : ℕ) (old mid new : Pages LegView BoxView) (leaves mid_leaves n
       let f = fills_begun leaf old mid new leaves mid_leaves new_leaves place mid_place new_place some (take n legs) part so_far.0 mid.count (omega (arith, many, more)) (omega (arith, many, room, z)) so_far.1 z before (begins z)
       (subst (λ l. HasAtEnd new new_place.last (in_last_leaf leaf new_place.legs l)) all ends) (is ∙ ap (place_with mid_leaves mid_place part) made) (one_more_leaf z) in (
         so_far.0 ++ mid.count ∷ [],
-        subst (λ l. Fills leaf old new leaves new_leaves place new_place l (so_far.0 ++ mid.count ∷ [])) (sym all) f,
+        subst (λ l. FillsLeaves leaf old new leaves new_leaves place new_place l (so_far.0 ++ mid.count ∷ [])) (sym all) f,
         λ less.
             let whole : k ≡ leaf = (let w = full less in omega (arith, w, z)) in
             let is_left : left_over leaf place.legs (take n legs ++ part) ≡ left_over leaf place.legs (take n legs) ++ part = left_is leaf old mid new leaves mid_leaves new_leaves place mid_place new_place some (take n legs) part so_far.0 mid.count (omega (arith, many, more)) (omega (arith, many, room, z)) so_far.1 z before (begins z) in
@@ -508,10 +508,10 @@ module _ (leaf : ℕ) (old mid new : Pages LegView BoxView) (leaves mid_leaves n
       let empty : take n legs ≡ [] = ap (λ m. take m legs) none in
       let made : page_made leaf mid.count mid_place ≡ [] = ap (λ b. cond b (mid.count ∷ []) []) (neq-eqb _ 0 u) in
       let all' : take (n + k) legs ≡ part = all ∙ ap (λ l. l ++ part) empty in
-      let f = fills_grown leaf old mid new leaves mid_leaves new_leaves place mid_place new_place some part so_far.0 (omega (arith, many, more)) (subst (λ l. Fills leaf old mid leaves mid_leaves place mid_place l so_far.0) empty so_far.1) above (omega (arith, many, room)) (grows above) at
+      let f = fills_grown leaf old mid new leaves mid_leaves new_leaves place mid_place new_place some part so_far.0 (omega (arith, many, more)) (subst (λ l. FillsLeaves leaf old mid leaves mid_leaves place mid_place l so_far.0) empty so_far.1) above (omega (arith, many, room)) (grows above) at
       (subst (λ l. HasAtEnd new new_place.last (in_last_leaf leaf new_place.legs l)) all' ends) (is ∙ ap (place_with mid_leaves mid_place part) made) (same above) in (
         [],
-        subst (λ l. Fills leaf old new leaves new_leaves place new_place l []) (sym all') f,
+        subst (λ l. FillsLeaves leaf old new leaves new_leaves place new_place l []) (sym all') f,
         λ less. ap (λ l. length (left_over leaf place.legs l) % leaf) all' ∙ ap (λ (l : List LegView). length l % leaf) f.made ∙ zero-mod leaf,
       ))
       (cases_eq (mid_place.legs % leaf) 0)

@@ -63,7 +63,7 @@ place_with leaves place legs (p ∷ ps) = record {
 
 -- legs of one feature are put in, of which its last leaf takes what it has room for, and leaves that
 -- are made the others; these are the pages that are made
-pub record Fills (leaf : ℕ) (old new : Pages LegView BoxView) (leaves leaves' : ℕ)
+pub record FillsLeaves (leaf : ℕ) (old new : Pages LegView BoxView) (leaves leaves' : ℕ)
     (place place' : Place) (legs : List LegView) (pages : List ℕ) : Type 0 where
   pub one : All (λ leg. leg.feature ≡ owner leg_feature legs) legs
   pub keeps : KeepsLegs place.last (taken_by_last leaf place.legs legs) legs (slice_get pages 0)

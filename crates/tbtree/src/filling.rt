@@ -4,7 +4,7 @@ ghost use Rattle.tbtree.specs.Faults.{RefusesWrite};
 ghost use Rattle.tbtree.specs.Content.{ContentGrows, Meets};
 ghost use Rattle.tbtree.specs.Nodes.{pages_of_cache};
 ghost use Rattle.tbtree.specs.Passes.{Passes, KeepsLength, KeepsOthers, Touches};
-ghost use Rattle.tbtree.specs.Filling.{Fills};
+ghost use Rattle.tbtree.specs.Filling.{FillsLeaves};
 ghost use Rattle.tbtree.specs.Joining.{JoinsAll};
 ghost use Rattle.tbtree.specs.declared.fault.TreeFault.{TreeFault};
 
@@ -51,7 +51,7 @@ fn put_all<S: PageStore>(
     ensures made { OnOk result ((tree.new.leaves - tree.old.leaves) * tree.old.shape.leaf
         < length legs.now + tree.old.shape.leaf) }
     ensures fills { IsTrue cache.old.store.is_faithful → OnOk result
-        ((pages : List ℕ) × Fills tree.old.shape.leaf (pages_of_cache cache.old)
+        ((pages : List ℕ) × FillsLeaves tree.old.shape.leaf (pages_of_cache cache.old)
         (pages_of_cache cache.new) tree.old.leaves tree.new.leaves place.old place.new legs.now
         pages) }
     ensures met { IsTrue cache.old.store.is_faithful → OnOk result
@@ -110,7 +110,7 @@ pub fn insert_all<S: PageStore>(
     // room, and leaves that are made behind it have the others; each other leaf is as it was, and the tree's content has
     // each leg that it had, and these.
     ensures fills { IsTrue cache.old.store.is_faithful → OnOk result
-        ((pages : List ℕ) × Fills tree.old.shape.leaf (pages_of_cache cache.old)
+        ((pages : List ℕ) × FillsLeaves tree.old.shape.leaf (pages_of_cache cache.old)
         (pages_of_cache cache.new) tree.old.leaves tree.new.leaves place.old place.new legs.now
         pages) }
     ensures met { IsTrue cache.old.store.is_faithful → OnOk result

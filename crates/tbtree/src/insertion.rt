@@ -8,7 +8,7 @@ ghost use Rattle.tbtree.specs.Passes.{Passes, KeepsLength, KeepsOthers, Touches}
 ghost use Rattle.tbtree.specs.Way.{IsOnWay, Hangs};
 ghost use Rattle.tbtree.specs.Content.{Carries, ContentGrows, IsFound, Meets, SaysMore};
 ghost use Rattle.tbtree.specs.Insert.{Grows, Begins, Inserts};
-ghost use Rattle.tbtree.specs.Filling.{page_made, place_with, BeginsLeaf, Fills, GrowsLeaf};
+ghost use Rattle.tbtree.specs.Filling.{page_made, place_with, BeginsLeaf, FillsLeaves, GrowsLeaf};
 ghost use Rattle.tbtree.specs.Joining.{HasAtEnd, Joins, JoinsAll};
 ghost use Rattle.tbtree.specs.Payloads.{TakesLegs, are_of_one_leaf};
 ghost use Rattle.tbtree.specs.Shape.{IsShape};
@@ -415,7 +415,7 @@ pub fn insert<S: PageStore>(
     // Over any faithful pages: the place's last leaf has the leg at its end, where it had room, and else a leaf of the leg
     // alone is made behind it; each other leaf is as it was, and the tree's content has each leg that it had, and the leg.
     ensures fills { IsTrue cache.old.store.is_faithful → OnOk result
-        (Fills tree.old.shape.leaf (pages_of_cache cache.old) (pages_of_cache cache.new)
+        (FillsLeaves tree.old.shape.leaf (pages_of_cache cache.old) (pages_of_cache cache.new)
         tree.old.leaves tree.new.leaves place.old place.new (leg ∷ [])
         (page_made tree.old.shape.leaf cache.old.count place.old)) }
     ensures met { IsTrue cache.old.store.is_faithful → OnOk result

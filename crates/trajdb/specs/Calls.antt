@@ -11,7 +11,7 @@ use Rattle.predicates.specs.Near.{box_near}
 use Rattle.legs.specs.Limits.{LimitsView, IsLimits}
 use Rattle.legs.specs.Tracks.{IsOver, StandsFor}
 use Rattle.legs.specs.Index.{HasRisen, legs_of}
-use Rattle.legs.specs.Asking.{HasTaken, IsLater as IsLaterIndex, Leaves as IndexLeaves}
+use Rattle.legs.specs.Asking.{HasAdded, IsLater as IsLaterIndex, Leaves as IndexLeaves}
 use Rattle.legs.specs.declared.listed.Listed.{Ghosts}
 use Rattle.mfcsv.specs.FileText.{file_of_bytes}
 use Rattle.mfcsv.specs.declared.File.{File}
@@ -232,7 +232,7 @@ pub record PutsFile {I : Type 0} (g : Ghosts I) (old new : CoreView I) (bytes : 
   pub said : file_of_bytes bytes ≡ Ok file
   pub legs : List LegView
   pub many : counts.legs ≡ length legs
-  pub taken : HasTaken g old.index new.index legs
+  pub taken : HasAdded g old.index new.index legs
   pub joins : (book : Book) → IsBookOf old book → HasJoined new old.limits book file legs
 
 -- a file is told of: by counts, and is taken in, and the database has begun, or by a refusal, which changes nothing

@@ -14,7 +14,7 @@ use Rattle.legs.specs.Tracks.{StandsFor, TracksView}
 use Rattle.legs.specs.declared.head.BookHead.{BookHead}
 use Rattle.legs.specs.declared.joining.JoinFault.{JoinFault}
 use Rattle.legs.specs.declared.joining.JoinFault.TheVariants as join
-use Rattle.legs.specs.Asking.{HasTaken}
+use Rattle.legs.specs.Asking.{HasAdded}
 use Rattle.legs.specs.declared.listed.Listed.{Ghosts}
 use Rattle.trajdb.specs.Calls.{HasJoined, IsBookOf}
 use Rattle.trajdb.specs.Database.{CoreView}
@@ -58,7 +58,8 @@ pub record IsRead (tracks : TracksView) (head : Option BookHead) (limits : Limit
       → Accepts limits book file new
 
 -- what is new of a file is taken in: its legs are put into the index, and the rest is added to each book that accepts it
-pub record PutsNew {I : Type 0} (g : Ghosts I) (old new : CoreView I) (file : NewFile) : Type 0 where
-  pub taken : HasTaken g old.index new.index file.joined.legs
+pub record PutsNew {I : Type 0} (g : Ghosts I) (old new : CoreView I)
+    (file : NewFile) : Type 0 where
+  pub taken : HasAdded g old.index new.index file.joined.legs
   pub joins : (book : Book) → IsBookOf old book → (it : File)
       → Accepts old.limits book it file → HasJoined new old.limits book it file.joined.legs

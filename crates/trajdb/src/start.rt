@@ -1,7 +1,7 @@
 //! The start of a file's legs, and the legs.
 ghost use Rattle.std.specs.Prelude.{OnOk, IfErr, IsErrOf};
 ghost use Rattle.legs.specs.Index.{CanFollowInTurn, HasRisen, MayRefuseLeg};
-ghost use Rattle.legs.specs.Asking.{Grows, HasTaken, IsLater};
+ghost use Rattle.legs.specs.Asking.{Grows, HasAdded, IsLater};
 ghost use Rattle.legs.specs.declared.index.IndexFault.{IndexFault};
 ghost use Rattle.trajdb.specs.Calls.{LeavesPages};
 
@@ -30,7 +30,7 @@ impl Start for ListIndex {
 /// Puts the legs of a file at the end of an index.
 pub(crate) fn put_legs<I: Start>(index: &mut I, legs: &[Leg]) -> Result<(), IndexFault>
     ensures added { OnOk result (Grows I.Listed index.old index.new legs.now) }
-    ensures taken { OnOk result (HasTaken I.Listed index.old index.new legs.now) }
+    ensures taken { OnOk result (HasAdded I.Listed index.old index.new legs.now) }
     ensures sound { IfErr result (λ fault. I.is_sound index.old
         → CanFollowInTurn (I.content index.old) legs.now → MayRefuseLeg fault) }
     ensures store { IsErrOf result IndexFault.Store

@@ -1,6 +1,6 @@
 use Rattle.std.proofs.Common.{◌≡◌, OnOk, subst, sym, ◌∙◌}
 use Rattle.std.proofs.lemmas.Bool.{true≢false}
-use Rattle.legs.specs.Asking.{HasTaken}
+use Rattle.legs.specs.Asking.{HasAdded}
 use Rattle.boxsearch.specs.Index.{words}
 use Rattle.boxsearch.specs.Putting.{PutsAll}
 use Rattle.boxsearch.specs.Runs.{RunsAsk}
@@ -42,4 +42,4 @@ returns-clause-takes g c =
     let legs = c.args.legs.now in
     let mid : c.make_place.new.self ≡ made old c.args.feature = from_ok c.make_place.result (sym c.is_err.ensures.value ∙ c.if-is_err.false) c.make_place.ensures.ok in
     let p : PutsAll (made old c.args.feature) c.put_all.new.self c.args.feature legs c.put_all.result = subst (λ m. PutsAll m c.put_all.new.self c.args.feature legs c.put_all.result) mid c.put_all.ensures in
-    subst (λ r. OnOk r (HasTaken words old c.put_all.new.self legs)) (sym c.answer.ensures) (run_takes old c.put_all.new.self c.args.feature legs c.requires.some c.requires.one c.put_all.result p)
+    subst (λ r. OnOk r (HasAdded words old c.put_all.new.self legs)) (sym c.answer.ensures) (run_takes old c.put_all.new.self c.args.feature legs c.requires.some c.requires.one c.put_all.result p)

@@ -2,7 +2,7 @@ use Rattle.std.proofs.Common.{ℕ, ◌≡◌, ◌≤◌, ◌+◌, ◌-◌, ◌++
 use Rattle.std.specs.Prelude.{Ok, Err}
 use Rattle.std.proofs.lemmas.List.{drop_all, length-drop}
 use Rattle.std.proofs.lemmas.Result.{err_from_is_err_and}
-use Rattle.legs.specs.Asking.{HasTaken}
+use Rattle.legs.specs.Asking.{HasAdded}
 use Rattle.legs.specs.Legs.{LegView}
 use Rattle.legs.proofs.LastLemmas.{takes_none}
 use Rattle.boxsearch.specs.Index.{words}
@@ -49,8 +49,8 @@ runs-preserved g c =
       taking = subst (λ n. IsTaking old c.join.new.index (taken legs turns) (taken legs (drop (k + n) turns))) (sym many) all;
       fewer = omega (arith, fewer, within);
       asks = subst (λ n. RunsAsk old c.join.new.index n) one (asks_more old c.runs.index c.join.new.index (R turns - R (drop k turns)) c.runs.invariant.asks c.in_ok-join.ensures.asks);
-      takes = subst (λ n. (done : List LegView) × HasTaken words old c.join.new.index done × (done ++ taken legs (drop (k + n) turns) ≡ taken legs turns)) (sym many)
-          (run_more old c.runs.index c.join.new.index (taken legs turns) (taken legs (drop k turns)) (taken legs (drop (k + length run) turns)) run left c.runs.invariant.takes (subst (λ ls. HasTaken words c.runs.index c.join.new.index ls) c.as_slice.ensures.value c.in_ok-join.ensures.takes));
+      takes = subst (λ n. (done : List LegView) × HasAdded words old c.join.new.index done × (done ++ taken legs (drop (k + n) turns) ≡ taken legs turns)) (sym many)
+          (run_more old c.runs.index c.join.new.index (taken legs turns) (taken legs (drop k turns)) (taken legs (drop (k + length run) turns)) run left c.runs.invariant.takes (subst (λ ls. HasAdded words c.runs.index c.join.new.index ls) c.as_slice.ensures.value c.in_ok-join.ensures.takes));
       later = record { plan = more.plan ∙ later.plan; faults = let x = later.faults in let y = more.faults in omega (arith, x, y); asked = let x = later.asked in let y = more.asked in omega (arith, x, y) };
     }
 

@@ -12,7 +12,7 @@ use Rattle.tbtree.proofs.ContentLemmas.{meets_none, meets_part}
 use Rattle.tbtree.proofs.FillCosts.{filled_start, filled_part}
 use Rattle.tbtree.proofs.LeafLemmas.{fills_none, fills_part, placed_last, placed_legs, placed_new}
 use Rattle.tbtree.proofs.FillLemmas.{joins_none, length_part, part_in_last, part_joins, part_refused}
-use Rattle.tbtree.specs.Filling.{page_made, place_with, Fills}
+use Rattle.tbtree.specs.Filling.{page_made, place_with, FillsLeaves}
 use Rattle.tbtree.specs.Joining.{in_last_leaf, HasAtEnd}
 use Rattle.tbtree.specs.declared.tree.Place.{Place}
 use Rattle.tbtree.proofs.PassLemmas.{touches_none, touches_then}
@@ -140,4 +140,4 @@ returns-clause-fills g c = λ fa.
     let so_far = c.leaves.invariant in
     let over = c.leaves-test.false in
     let f = so_far.fills fa in
-    (f.0, subst (λ l. Fills c.args.tree.now.shape.leaf (pages_of_cache c.args.cache.now) (pages_of_cache c.leaves.cache) c.args.tree.now.leaves c.leaves.tree.leaves c.args.place.now c.leaves.place l f.0) (take_all c.leaves.from legs (omega (arith, over))) f.1)
+    (f.0, subst (λ l. FillsLeaves c.args.tree.now.shape.leaf (pages_of_cache c.args.cache.now) (pages_of_cache c.leaves.cache) c.args.tree.now.leaves c.leaves.tree.leaves c.args.place.now c.leaves.place l f.0) (take_all c.leaves.from legs (omega (arith, over))) f.1)

@@ -1,7 +1,7 @@
 use Rattle.std.proofs.Common.{ℕ, List, ◌≡◌, ◌≤◌, ◌<◌, ◌+◌, ◌-◌, ◌%◌, length, take}
 use Rattle.std.specs.Prelude.{IsTrue, Ok, ◌⊎◌}
 use Rattle.tbtree.specs.Content.{Meets}
-use Rattle.tbtree.specs.Filling.{Fills}
+use Rattle.tbtree.specs.Filling.{FillsLeaves}
 use Rattle.tbtree.specs.Joining.{in_last_leaf, HasAtEnd, JoinsAll}
 use Rattle.tbtree.specs.Nodes.{pages_of_cache}
 use Rattle.tbtree.specs.Passes.{Touches}
@@ -26,7 +26,7 @@ invariant-leaves g l = record {
   moves : (l.place.last ≡ l.fn.place.last) ⊎ (l.fn.cache.count ≤ l.place.last);
   full : 0 < l.from → l.from < length l.legs → l.place.legs % l.fn.tree.shape.leaf ≡ 0;
   ends : IsTrue l.fn.cache.store.is_faithful → 0 < l.from → HasAtEnd (pages_of_cache l.cache) l.place.last (in_last_leaf l.fn.tree.shape.leaf l.place.legs (take l.from l.legs));
-  fills : IsTrue l.fn.cache.store.is_faithful → (pages : List ℕ) × Fills l.fn.tree.shape.leaf (pages_of_cache l.fn.cache) (pages_of_cache l.cache) l.fn.tree.leaves l.tree.leaves l.fn.place l.place (take l.from l.legs) pages × IsFull l.fn.tree.shape.leaf l.fn.place l.legs l.from;
+  fills : IsTrue l.fn.cache.store.is_faithful → (pages : List ℕ) × FillsLeaves l.fn.tree.shape.leaf (pages_of_cache l.fn.cache) (pages_of_cache l.cache) l.fn.tree.leaves l.tree.leaves l.fn.place l.place (take l.from l.legs) pages × IsFull l.fn.tree.shape.leaf l.fn.place l.legs l.from;
   met : IsTrue l.fn.cache.store.is_faithful → Meets (pages_of_cache l.fn.cache) (pages_of_cache l.cache) l.fn.tree l.tree (take l.from l.legs);
   filled : IsFilled l.fn.tree.shape.leaf l.from (length l.legs) l.fn.cache l.cache l.fn.tree l.tree l.place;
 }

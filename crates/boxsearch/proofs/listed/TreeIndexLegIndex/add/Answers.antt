@@ -1,6 +1,6 @@
 use Rattle.std.proofs.Common.{◌≡◌, ◌-◌, ◌^◌, min, ap, subst, sym, ◌∙◌, ◌∷◌, ◌++◌, [], Some}
 use Rattle.std.specs.Prelude.{OnOk}
-use Rattle.legs.specs.Asking.{Ends, HasTaken, LegRefusals}
+use Rattle.legs.specs.Asking.{Ends, HasAdded, LegRefusals}
 use Rattle.legs.specs.Costs.{RisesAtMost, add_bound}
 use Rattle.legs.specs.Index.{CanFollowInTurn}
 use Rattle.legs.specs.Legs.{LegView}
@@ -51,4 +51,4 @@ returns-clause-takes g c =
     let feature = ap (λ (l : LegView). l.feature) c.leg.view_is in
     let mid : c.make_place.new.self ≡ made c.args.self.now c.leg.inside.feature = from_ok c.make_place.result (sym c.is_err.ensures.value ∙ c.if-is_err.false) c.make_place.ensures.ok in
     let p : Puts (made c.args.self.now c.args.leg.feature) c.put.new.self c.args.leg c.put.result = subst (λ m. Puts m c.put.new.self c.args.leg c.put.result) (mid ∙ ap (made c.args.self.now) feature) c.put.ensures in
-    subst (λ r. OnOk r (HasTaken words c.args.self.now c.put.new.self (c.args.leg ∷ []))) (sym c.answer.ensures) (leg_takes c.args.self.now c.put.new.self c.args.leg c.put.result p)
+    subst (λ r. OnOk r (HasAdded words c.args.self.now c.put.new.self (c.args.leg ∷ []))) (sym c.answer.ensures) (leg_takes c.args.self.now c.put.new.self c.args.leg c.put.result p)

@@ -1,6 +1,6 @@
 use Rattle.std.proofs.Common.{◌≡◌, ◌<◌, ◌∙◌, OnOk, false, List, length, All, ap, subst, sym, arith, refl}
 use Rattle.std.proofs.lemmas.Bool.{true≢false}
-use Rattle.legs.specs.Asking.{HasTaken}
+use Rattle.legs.specs.Asking.{HasAdded}
 use Rattle.legs.proofs.LastLemmas.{takes_alike}
 use Rattle.boxsearch.specs.Index.{IndexView, words}
 use Rattle.boxsearch.specs.Taking.{taken, AreTurns}
@@ -86,5 +86,5 @@ returns-clause-takes g c =
     let turns = c.in-Ok.turns.items in
     let same = same_legs c.laws.ensures.in_order c.as_slice.result.now c.from-most.result legs turns c.in-Ok.ensures.few c.in-Ok.ensures.permutation c.in-Ok.ensures.rises in
     let many = as_many_taken c.from-most.result legs turns _ _ c.in-Ok.ensures.permutation in
-    let takes = subst (λ ts. OnOk c.join_all.result (HasTaken words c.args.self.now c.join_all.new.index (taken legs ts))) c.as_slice-2.ensures.value c.join_all.ensures.takes in
+    let takes = subst (λ ts. OnOk c.join_all.result (HasAdded words c.args.self.now c.join_all.new.index (taken legs ts))) c.as_slice-2.ensures.value c.join_all.ensures.takes in
     on_ok c.join_all.result (takes_alike words c.args.self.now c.join_all.new.index (taken legs turns) legs same many) takes

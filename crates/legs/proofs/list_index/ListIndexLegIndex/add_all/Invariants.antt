@@ -1,5 +1,5 @@
 use Rattle.std.proofs.Common.{drop, take}
-use Rattle.legs.specs.Asking.{IsLater, HasTaken}
+use Rattle.legs.specs.Asking.{IsLater, HasAdded}
 use Rattle.legs.proofs.GrowLemmas.{IsGrowing, list_words}
 use Rattle.legs.proofs.list_index.ListIndexLegIndex.add_all.Given as goal
 
@@ -8,5 +8,5 @@ abbrev pub invariant-loop-leg : goal.invariant-loop-leg
 invariant-loop-leg l = record {
   growing : IsGrowing list_words l.fn.self l.self l.legs (drop l.leg-index l.legs);
   later : IsLater list_words l.fn.self l.self;
-  takes : HasTaken list_words l.fn.self l.self (take l.leg-index l.legs);
+  takes : HasAdded list_words l.fn.self l.self (take l.leg-index l.legs);
 }
