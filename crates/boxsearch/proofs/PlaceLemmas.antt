@@ -1,5 +1,5 @@
 -- The places of features, with one more or one changed.
-use Rattle.std.proofs.Common.{ℕ, zero, suc, ◌≡◌, ◌≢◌, ◌≤◌, ◌+◌, ◌==◌, true, false, cond, refl, ap, sym, ◌∙◌, arith, subst, ⊎_elim, eq-eqb, max, List, [], ◌∷◌, ◌++◌, length, Some, None, slice_get, set}
+use Rattle.std.proofs.Common.{ℕ, zero, suc, ◌≡◌, ◌≢◌, ◌≤◌, ◌+◌, ◌==◌, true, false, cond, refl, ap, sym, ◌∙◌, arith, subst, ⊎_elim, eq-eqb, max, List, [], ◌∷◌, ◌++◌, length, Some, None, slice_get}
 use Rattle.std.proofs.lemmas.Bool.{cases_eq}
 use Rattle.std.proofs.lemmas.Bool.Decides.{nat_tests}
 use Rattle.std.proofs.lemmas.List.{length_push}
