@@ -14,7 +14,8 @@ use Rattle.chains.specs.Reads.{OnlyReads}
 use Rattle.boxsearch.specs.Answers.{answered, of_cache}
 use Rattle.chains.specs.declared.spans.LeafSpan.{LeafSpan}
 use Rattle.boxsearch.specs.Beside.{with_cache}
-use Rattle.boxsearch.specs.Index.{content, IndexView, words, IsMarked, IsSound, SaysState}
+use Rattle.boxsearch.specs.Index.{content, IndexView, words, IsMarked, IsSound}
+use Rattle.header.specs.Front.{SaysState}
 use Rattle.boxsearch.proofs.AnswerLemmas.{each_fault, the_fault, Said}
 
 -- no page has another payload

@@ -1,23 +1,15 @@
 -- Page 0, marked.
-use Rattle.std.proofs.Common.{ℕ, ◌≡◌, ◌<◌, ◌==◌, ◌++◌, take-append-drop, cond, refl, sym, ap, ◌∙◌, arith, subst, false, drop, IsTrue, Some, option_and_then}
+use Rattle.std.proofs.Common.{ℕ, ◌≡◌, ◌<◌, ◌==◌, cond, sym, ap, ◌∙◌, arith, subst, false, drop, IsTrue, Some, option_and_then}
 use Rattle.std.proofs.lemmas.Bool.Decides.{nat_tests}
 use Rattle.std.proofs.lemmas.Int.{clamps}
 use Rattle.pages.specs.Unsealed.{unsealed}
 use Rattle.pages.specs.declared.payload.Payload.{Payload}
 use Rattle.pagecache.specs.Cache.{Cache, payload_of, sealed_payload, is_changed, IsClean, IsWritten, Lends, Rests, KeepsPayloads, SameLength, pages_as_written}
-use Rattle.boxsearch.specs.Index.{marked, IsMarked, IsUnfinished, MarksFirst, unfinished_front}
+use Rattle.boxsearch.specs.Index.{IsMarked, MarksFirst}
+use Rattle.header.specs.Front.{marked, IsUnfinished}
+use Rattle.header.proofs.FrontLemmas.{marked_same}
 use Rattle.boxsearch.specs.Marking.{Marks}
 use Rattle.boxsearch.proofs.PlaceLemmas.{some_none, some_same}
-
--- the header that is made is one of a store that is not finished
-pub marked_is : (p : Payload) → IsUnfinished (marked p)
-marked_is p = record { kind = refl; front = refl }
-
--- one that is such a header already is left as it is
-marked_same : (p : Payload) → IsUnfinished p → marked p ≡ p
-marked_same p u =
-    let bytes : unfinished_front ++ drop 12 p.bytes ≡ p.bytes = ap (λ l. l ++ drop 12 p.bytes) (sym u.front) ∙ take-append-drop 12 p.bytes in
-    λ i. record { kind = sym u.kind i; bytes = bytes i }
 
 pub first_rests : (a b : Cache) (p : Payload) → Rests a b → (IsTrue a.store.is_faithful → payload_of a 0 ≡ Some p) → IsUnfinished p → MarksFirst a b
 first_rests a b p r read u f q at =

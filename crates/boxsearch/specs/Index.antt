@@ -1,5 +1,5 @@
 -- What contracts see of an index over pages.
-use Rattle.std.specs.Prelude.{ℕ, ◌≡◌, ◌<◌, ◌-◌, ◌^◌, ◌==◌, min, Bool, true, false, if◌then◌else◌, IsTrue, List, [], ◌∷◌, ◌++◌, map, take, drop, length, slice_get, Option, Some, All}
+use Rattle.std.specs.Prelude.{ℕ, ◌≡◌, ◌<◌, ◌-◌, ◌^◌, ◌==◌, min, false, if◌then◌else◌, IsTrue, List, [], ◌∷◌, ◌++◌, map, length, slice_get, Some, All}
 use Rattle.std.specs.List.{Contains}
 use Rattle.legs.specs.Costs.{ShapeView}
 use Rattle.legs.specs.Finding.{FeaturePlace, Finding}
@@ -7,11 +7,9 @@ use Rattle.legs.specs.Index.{feature_count}
 use Rattle.legs.specs.Legs.{IsLeg, LegView}
 use Rattle.legs.specs.Questions.{Question}
 use Rattle.pages.specs.Store.{IsSynced}
-use Rattle.pages.specs.declared.payload.Kind.TheVariants.{Header}
 use Rattle.pages.specs.declared.payload.Payload.{Payload}
 use Rattle.legs.specs.declared.listed.Listed.{Ghosts}
 use Rattle.pagecache.specs.Cache.{Cache, IsClean, is_changed, pages_as_written, payload_of, sealed_payload}
-use Rattle.tbnode.specs.Parts.{number_at}
 use Rattle.tbtree.specs.Descent.{content_of}
 use Rattle.tbtree.specs.Insert.{Stands, IsPlace}
 use Rattle.tbtree.specs.Nodes.{pages_of_cache}
@@ -20,6 +18,7 @@ use Rattle.tbtree.specs.Stands.{empty_tree, no_place}
 use Rattle.tbtree.specs.declared.tree.Place.{Place}
 use Rattle.tbtree.specs.declared.tree.TbTree.{TbTree}
 use Rattle.chains.specs.declared.spans.LeafSpan.{LeafSpan}
+use Rattle.header.specs.Front.{marked, IsUnfinished}
 use Rattle.boxsearch.specs.Known.{KnowsBackTo}
 use Rattle.boxsearch.specs.Telling.{Tells, Denies, EndsWith}
 
@@ -72,33 +71,6 @@ pub record IsSound (i : IndexView) : Type 0 where
   pub placed : (feature : ℕ) (place : Place) → slice_get i.places feature ≡ Some place
       → IsPlace i.tree (content i) pages feature place
 
--- how the header of a store begins that is not finished: the letters MFTB, version 2 and state 0
-abbrev pub unfinished_front : List ℕ
-unfinished_front = 77 ∷ 70 ∷ 84 ∷ 66 ∷ 0 ∷ 0 ∷ 0 ∷ 2 ∷ 0 ∷ 0 ∷ 0 ∷ 0 ∷ []
-
--- the header of a store that is not finished
-pub record IsUnfinished (payload : Payload) : Type 0 where
-  pub kind : payload.kind ≡ Header
-  pub front : take 12 payload.bytes ≡ unfinished_front
-
--- the header of a finished store: the letters MFTB, version 2 and state 1
-pub record IsFinished (payload : Payload) : Type 0 where
-  pub kind : payload.kind ≡ Header
-  pub letters : number_at 4 0 payload.bytes ≡ 1296454722
-  pub version : number_at 4 4 payload.bytes ≡ 2
-  pub state : number_at 4 8 payload.bytes ≡ 1
-
--- the header of a store that is not finished where its database has begun, and of a finished one where it has not
-abbrev pub HasState : Bool → Payload → Type 0
-HasState true payload = IsUnfinished payload
-HasState false payload = IsFinished payload
-
--- page 0 is such a header
-pub record SaysState (begun : Bool) (first : Option Payload) : Type 0 where
-  pub payload : Payload
-  pub is : first ≡ Some payload
-  pub state : HasState begun payload
-
 -- page 0 as written is the header of a store that is not finished, and is not changed
 pub record IsMarked (c : Cache) : Type 0 where
   pub faithful : IsTrue c.store.is_faithful
@@ -107,10 +79,6 @@ pub record IsMarked (c : Cache) : Type 0 where
   pub payload : Payload
   pub sealed : sealed_payload c 0 ≡ Some payload
   pub unfinished : IsUnfinished payload
-
--- a payload with that kind and those first 12 bytes
-abbrev pub marked : Payload → Payload
-marked payload = record { kind = Header; bytes = unfinished_front ++ drop 12 payload.bytes }
 
 -- over a faithful store page 0 has the payload that it had, marked
 abbrev pub MarksFirst : Cache → Cache → Type 0

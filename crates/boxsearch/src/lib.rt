@@ -14,6 +14,5 @@ mod turns;
 
 pub use answers::{answer, of_tree};
 pub use descent::{SearchFault, search};
-pub use marking::has_state;
 pub use parts::laws;
 pub use tree_index::TreeIndex;

@@ -8,7 +8,8 @@ ghost use Rattle.tbtree.specs.declared.tree.Place.{Place};
 ghost use Rattle.chains.specs.declared.spans.LeafSpan.{LeafSpan};
 ghost use Rattle.boxsearch.specs.Beside.{with_cache, IsBeside};
 ghost use Rattle.boxsearch.specs.Bounds.{IsBounded};
-ghost use Rattle.boxsearch.specs.Index.{content, ends_with, IndexView, IsMarked, IsSound, SaysState};
+ghost use Rattle.boxsearch.specs.Index.{content, ends_with, IndexView, IsMarked, IsSound};
+ghost use Rattle.header.specs.Front.{SaysState};
 
 use crate::tree_index::TreeIndex;
 use pagecache::PageCache;

@@ -5,7 +5,7 @@ use Rattle.legs.specs.Limits.{LimitsView}
 use Rattle.pages.specs.Sealed.{sealed}
 use Rattle.pages.specs.Store.{Store, IsLawful, Writes}
 use Rattle.catalogue.specs.Beginning.{IsLeft}
-use Rattle.catalogue.specs.Header.{header_payload}
+use Rattle.header.specs.Fields.{header_payload}
 
 no_pages : (pages : List (List ℕ)) → length pages ≡ 0 → pages ≡ []
 no_pages [] e = refl

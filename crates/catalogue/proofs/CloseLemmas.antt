@@ -23,9 +23,11 @@ use Rattle.tbtree.specs.Stands.{no_place}
 use Rattle.tbtree.specs.declared.tree.Place.{Place}
 use Rattle.boxsearch.specs.Beside.{IsBeside}
 use Rattle.boxsearch.specs.Bounds.{IsBounded}
-use Rattle.boxsearch.specs.Index.{content, IndexView, IsMarked, IsSound, IsUnfinished}
+use Rattle.boxsearch.specs.Index.{content, IndexView, IsMarked, IsSound}
+use Rattle.header.specs.Front.{IsUnfinished, finished}
 use Rattle.catalogue.specs.Closing.{IsNoStoreFault}
-use Rattle.catalogue.specs.Finishing.{finished, Finishes, IsNotFinished, IsUnwrittenHeader, SaysUnfinished}
+use Rattle.header.proofs.FrontLemmas.{begins_unfinished}
+use Rattle.catalogue.specs.Finishing.{Finishes, IsNotFinished, IsUnwrittenHeader, SaysUnfinished}
 use Rattle.catalogue.specs.Holding.{index_over, HoldsBook, IsOfBook, IsUnfinishedStore}
 use Rattle.register.specs.Lasting.{payload_fault, tracks_of, IsKept, IsLawful, IsLawfulFeature, IsWithin, Says}
 use Rattle.register.specs.Saved.{CatalogueView, KeepsFront}
@@ -226,10 +228,7 @@ module _ (a b : Cache) (m : IsMarked a) (settled : IsSettled a) (front : KeepsFr
   was_is = some_same front.was m.payload (sym front.before ∙ settled m.faithful 0 m.unchanged ∙ m.sealed)
 
   pub front_unfinished : IsUnfinished front.payload
-  front_unfinished = record {
-    kind = front.kind ∙ ap (λ (p : Payload). p.kind) was_is ∙ m.unfinished.kind;
-    front = front.front ∙ ap (λ (p : Payload). take 12 p.bytes) was_is ∙ m.unfinished.front;
-  }
+  front_unfinished = begins_unfinished front.was front.payload front.kind front.front (subst IsUnfinished (sym was_is) m.unfinished)
 
   pub front_unwritten : page_of b 0 ≡ page_of a 0 → IsUnwrittenHeader b
   front_unwritten same = record { written = still_says a b m same; payload = front.payload; is = front.is; unfinished = front_unfinished }

@@ -1,31 +1,15 @@
 -- The header of a new store.
-use Rattle.std.proofs.Common.{ℕ, ◌≡◌, ◌++◌, length, drop, refl, sym, ap, ◌∙◌, arith, List, IsTrue, Some, None, option_map, option_and_then, slice_get}
-use Rattle.legs.specs.Costs.{ShapeView}
-use Rattle.legs.specs.Limits.{LimitsView}
+use Rattle.std.proofs.Common.{ℕ, ◌≡◌, refl, sym, ap, ◌∙◌, arith, List, IsTrue, Some, None, option_map, option_and_then, slice_get}
 use Rattle.pages.specs.Store.{Store, IsLawful, Writes}
 use Rattle.pages.specs.Unsealed.{unsealed}
-use Rattle.pages.specs.Zero.{zero_payload}
-use Rattle.pages.specs.declared.payload.Kind.TheVariants.{Header}
 use Rattle.pages.specs.declared.payload.Payload.{Payload}
 use Rattle.pagecache.specs.Cache.{Cache, IsWritten, fresh, payload_of, stored_payload}
 use Rattle.tbnode.specs.Form.{node_of}
 use Rattle.tbtree.specs.Nodes.{pages_of_cache}
 use Rattle.chains.specs.Chains.{AreHeld}
-use Rattle.boxsearch.specs.Index.{IsMarked, IsUnfinished}
-use Rattle.catalogue.specs.Header.{header_bytes, header_payload}
+use Rattle.boxsearch.specs.Index.{IsMarked}
+use Rattle.header.specs.Front.{IsUnfinished}
 use Rattle.catalogue.proofs.BeginLemmas.{one_page}
-
-pub header_length : (shape : ShapeView) (limits : LimitsView) → length (header_bytes shape limits) ≡ 60
-unfolding header_bytes
-header_length shape limits = refl
-
-pub header_unfinished : (shape : ShapeView) (limits : LimitsView) → IsUnfinished (header_payload shape limits)
-unfolding header_payload header_bytes
-header_unfinished shape limits = record { kind = refl; front = refl }
-
-pub payload_is : (shape : ShapeView) (limits : LimitsView) (bytes : List ℕ) (zero set : Payload) → bytes ≡ header_bytes shape limits → zero ≡ zero_payload Header → set ≡ record zero { bytes = bytes ++ drop 60 zero.bytes } → set ≡ header_payload shape limits
-unfolding header_payload zero_payload
-payload_is shape limits bytes zero set e z s = s ∙ ap (λ (p : Payload). record p { bytes = bytes ++ drop 60 p.bytes }) z ∙ ap (λ (l : List ℕ). record (zero_payload Header) { bytes = l ++ drop 60 (zero_payload Header).bytes }) e
 
 -- a store whose page 0 is the seal of a payload, alone, has that payload there
 pub first_stored : (a s : Store) (page : List ℕ) (p : Payload) → IsLawful a → a.count ≡ 0 → Writes 0 page a s → unsealed 0 page ≡ Some p → IsTrue a.is_faithful → stored_payload s 0 ≡ Some p

@@ -10,8 +10,9 @@ use Rattle.pages.specs.Unsealed.{unsealed}
 use Rattle.pages.specs.declared.payload.Payload.{Payload}
 use Rattle.pagecache.specs.Cache.{fresh, is_changed, page_of, pages_as_written, payload_of, sealed_payload, stored_payload, Cache, KeepsPayloads, Writes}
 use Rattle.legs.specs.Book.{Book}
-use Rattle.boxsearch.specs.Index.{content, IndexView, IsSound, IsUnfinished}
-use Rattle.catalogue.specs.Finishing.{finished, Finishes, IsLaterCache}
+use Rattle.boxsearch.specs.Index.{content, IndexView, IsSound}
+use Rattle.header.specs.Front.{IsUnfinished, finished}
+use Rattle.catalogue.specs.Finishing.{Finishes, IsLaterCache}
 use Rattle.catalogue.specs.Holding.{HoldsButFirst, IsOfBook}
 use Rattle.register.specs.Lasting.{IsLawful as IsLawfulCatalogue, IsWithin, Says}
 use Rattle.register.specs.Saved.{CatalogueView, IsWrittenButFirst}

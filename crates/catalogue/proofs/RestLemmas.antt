@@ -14,7 +14,7 @@ use Rattle.chains.specs.declared.spans.LeafSpan.{LeafSpan}
 use Rattle.boxsearch.specs.Beside.{with_cache, IsBeside}
 use Rattle.boxsearch.specs.Index.{content, found_by, place_of, words, written, IndexView, IsMarked, IsSound}
 use Rattle.catalogue.specs.Holding.{index_over, payload_in, HoldsBook, IsAtRest, IsOfBook, IsUnfinishedStore}
-use Rattle.register.specs.Fields.{with_state}
+use Rattle.header.specs.Front.{with_state}
 use Rattle.register.specs.Lasting.{IsKept, Says}
 use Rattle.register.specs.Saved.{CatalogueView}
 

@@ -1,24 +1,16 @@
 -- What page 0 says of the state of a store.
-use Rattle.std.proofs.Common.{ℕ, ◌≡◌, ◌&&◌, [], cond, eqb, true, false, refl, sym, ap, ◌∙◌, arith, subst, IsTrue, Option, Some, None, option_and_then, slice_get}
+use Rattle.std.proofs.Common.{ℕ, ◌≡◌, [], cond, eqb, true, false, refl, sym, ap, ◌∙◌, arith, subst, IsTrue, Option, Some, None, option_and_then, slice_get}
 use Rattle.std.proofs.lemmas.Bool.Decides.{nat_tests}
 use Rattle.pages.specs.Unsealed.{unsealed}
-use Rattle.pages.specs.declared.payload.Kind.{Kind}
-use Rattle.pages.specs.declared.payload.Kind.TheVariants.{Header, Leaf, Inner, Catalogue}
 use Rattle.pages.specs.declared.payload.Payload.{Payload}
 use Rattle.pagecache.specs.Cache.{Cache, page_of, pages_as_written, payload_of, sealed_payload, IsSettled}
-use Rattle.tbnode.specs.Parts.{number_at}
-use Rattle.boxsearch.specs.Index.{written, IndexView, IsFinished, IsMarked, SaysState}
+use Rattle.boxsearch.specs.Index.{written, IndexView, IsMarked}
+use Rattle.header.specs.Front.{finished_front, front_of, IsFinished, SaysState}
+use Rattle.header.specs.declared.fronts.Front.{Front}
 use Rattle.catalogue.specs.Holding.{payload_in, IsAtRest}
-use Rattle.register.specs.Lasting.{header_fault, is_header, payload_fault, state_fault}
+use Rattle.register.specs.Lasting.{front_fault, header_fault, payload_fault, state_fault}
 use Rattle.register.specs.Saved.{CatalogueView}
-use Rattle.register.specs.declared.fault.CatalogueFault.{CatalogueFault}
 use Rattle.register.specs.declared.fault.CatalogueFault.TheVariants.{Malformed, Unfinished, Version}
-
-kind_is : (k : Kind) → is_header k ≡ true → k ≡ Header
-kind_is Header e = refl
-kind_is Leaf e = absurd cc
-kind_is Inner e = absurd cc
-kind_is Catalogue e = absurd cc
 
 -- the state of a store without a fault
 finished_state : (state : ℕ) → state_fault state ≡ None → state ≡ 1
@@ -31,32 +23,19 @@ finished_state state e =
       ] refl
     ] refl e
 
-module _ (p : Payload) where
-  abbrev rest : Option CatalogueFault
-  rest = cond (eqb (number_at 4 4 p.bytes) 2) (state_fault (number_at 4 8 p.bytes)) (Some Version)
+-- how a header begins without a fault
+finished_front_of : (front : Option Front) → front_fault finished_front.version front ≡ None → front ≡ Some finished_front
+finished_front_of None e = absurd cc
+finished_front_of (Some f) e =
+    elim (eqb f.version 2) as (λ b. eqb f.version 2 ≡ b → cond b (state_fault f.state) (Some Version) ≡ None → Some f ≡ Some finished_front) [
+      | true ↦ λ t e. let v : f.version ≡ 2 = grind (arith, nat_tests) in let s = finished_state f.state e in (λ i. Some (record { version = v i; state = s i }))
+      | false ↦ λ t e. absurd cc
+    ] refl e
 
-  by_version : p.kind ≡ Header → number_at 4 0 p.bytes ≡ 1296454722 → rest ≡ None → IsFinished p
-  by_version kind letters e =
-      elim (eqb (number_at 4 4 p.bytes) 2) as (λ b. eqb (number_at 4 4 p.bytes) 2 ≡ b → cond b (state_fault (number_at 4 8 p.bytes)) (Some Version) ≡ None → IsFinished p) [
-        | true ↦ λ t e. record { kind = kind; letters = letters; version = grind (arith, nat_tests); state = finished_state (number_at 4 8 p.bytes) e }
-        | false ↦ λ t e. absurd cc
-      ] refl e
-
-  by_letters : p.kind ≡ Header → cond (eqb (number_at 4 0 p.bytes) 1296454722) rest (Some Malformed) ≡ None → IsFinished p
-  by_letters kind e =
-      elim (eqb (number_at 4 0 p.bytes) 1296454722) as (λ b. eqb (number_at 4 0 p.bytes) 1296454722 ≡ b → cond b rest (Some Malformed) ≡ None → IsFinished p) [
-        | true ↦ λ t e. by_version kind (grind (arith, nat_tests)) e
-        | false ↦ λ t e. absurd cc
-      ] refl e
-
-  -- a header without a fault is that of a finished store
-  pub finished_of : header_fault p ≡ None → IsFinished p
-  unfolding header_fault
-  finished_of e =
-      elim (is_header p.kind) as (λ b. is_header p.kind ≡ b → cond (b && eqb (number_at 4 0 p.bytes) 1296454722) rest (Some Malformed) ≡ None → IsFinished p) [
-        | true ↦ λ t e. by_letters (kind_is p.kind t) e
-        | false ↦ λ t e. absurd cc
-      ] refl e
+-- a header without a fault is that of a finished store
+pub finished_of : (p : Payload) → header_fault p ≡ None → IsFinished p
+unfolding header_fault
+finished_of p e = finished_front_of (front_of p) e
 
 says_finished : (at : Option Payload) → payload_fault at ≡ None → SaysState false at
 says_finished None e = absurd cc

@@ -7,7 +7,7 @@ use Rattle.pages.specs.Store.{Store, Faulted}
 use Rattle.pages.specs.declared.payload.Payload.{Payload}
 use Rattle.pagecache.specs.declared.fault.CacheFault.{CacheFault}
 use Rattle.pagecache.specs.declared.fault.CacheFault.TheVariants as cache
-use Rattle.catalogue.specs.Header.{header_payload}
+use Rattle.header.specs.Fields.{header_payload}
 use Rattle.catalogue.specs.Holding.{IsUnfinishedStore}
 
 -- what is left of an empty store whose page 0 was to be this payload: there is no page but page 0;

@@ -4,14 +4,9 @@ use Rattle.pages.specs.Store as store
 use Rattle.pages.specs.Store.{Faulted}
 use Rattle.pages.specs.declared.payload.Payload.{Payload}
 use Rattle.pagecache.specs.Cache.{Cache, payload_of, sealed_payload, stored_payload, IsClean, Lends}
-use Rattle.boxsearch.specs.Index.{IsUnfinished}
-use Rattle.register.specs.Fields.{with_state}
+use Rattle.header.specs.Front.{finished, IsUnfinished}
 use Rattle.register.specs.declared.fault.CatalogueFault.{CatalogueFault}
 use Rattle.register.specs.declared.fault.CatalogueFault.TheVariants.{Memory, Store, StoreFull, Damaged, Unfinished, Version, Malformed}
-
--- a header with the state 1, which says that the store is finished
-abbrev pub finished : Payload → Payload
-finished payload = with_state 1 payload
 
 -- all is written, in the store too, and page 0 says besides that the store is finished
 pub record Finishes (old new : Cache) : Type 0 where

@@ -11,7 +11,8 @@ use Rattle.pages.specs.declared.payload.Payload.{Payload}
 use Rattle.pagecache.specs.Cache.{fresh, stored_payload, IsClean}
 use Rattle.tbtree.specs.declared.tree.Place.{Place}
 use Rattle.tbtree.specs.declared.tree.TbTree.{TbTree}
-use Rattle.boxsearch.specs.Index.{content, written, IndexView, IsSound, IsUnfinished}
+use Rattle.boxsearch.specs.Index.{content, written, IndexView, IsSound}
+use Rattle.header.specs.Front.{IsUnfinished}
 use Rattle.register.specs.Lasting.{IsKept}
 use Rattle.register.specs.Saved.{CatalogueView}
 

@@ -1,4 +1,3 @@
-pub mod Header
 pub mod Beginning
 pub mod Holding
 pub mod Closing

@@ -7,10 +7,10 @@ ghost use Rattle.pagecache.specs.Cache.{IsClean, IsWritten, payload_of};
 ghost use Rattle.boxsearch.specs.Index.{content, IsMarked, IsSound};
 ghost use Rattle.register.specs.ChainWriter.{IsAllowed};
 ghost use Rattle.catalogue.specs.Beginning.{IsCaused, IsFirst, IsLeft, IsLeftOver};
-ghost use Rattle.catalogue.specs.Header.{header_payload};
+ghost use Rattle.header.specs.Fields.{header_payload};
 
-use crate::header::new_payload;
 use boxsearch::TreeIndex;
+use header::new_payload;
 use legs::Limits;
 use pagecache::{CacheFault, PageCache};
 use pages::{PageStore, Payload, seal};
@@ -80,10 +80,7 @@ pub fn begin<S: PageStore>(
         → IsLeftOver (S.seen store) (S.seen back.0)) }
 {
     let mut store = store;
-    let payload = match new_payload(alloc, &shape, limits) {
-        Ok(payload) => payload,
-        Err(_) => return Err((store, CacheFault::Memory)),
-    };
+    let payload = new_payload(shape, *limits);
     match write_first(&mut store, &payload) {
         Ok(()) => {}
         Err(fault) => return Err((store, fault)),

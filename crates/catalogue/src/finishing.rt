@@ -4,17 +4,15 @@ ghost use Rattle.chains.specs.Reads.{OnlyReads};
 ghost use Rattle.pages.specs.Store.{IsSynced, IsSyncedButFirst};
 ghost use Rattle.pagecache.specs.Cache.{is_changed, pages_as_written, payload_of, IsWritten, Rests, SameLength, KeepsPayloads};
 ghost use Rattle.boxsearch.specs.Beside.{with_cache};
-ghost use Rattle.catalogue.specs.Finishing.{finished, Finishes, IsLaterCache, IsNotFinished, IsUnwrittenHeader, SaysUnfinished, SetsState};
+ghost use Rattle.catalogue.specs.Finishing.{Finishes, IsLaterCache, IsNotFinished, IsUnwrittenHeader, SaysUnfinished, SetsState};
+ghost use Rattle.header.specs.Front.{finished};
 ghost use Rattle.register.specs.Saving.{IsNotWritten};
 ghost use Rattle.register.specs.Lasting.{IsStop};
 
 use boxsearch::TreeIndex;
-use pages::{PageStore, Payload};
+use header::set_finished;
+use pages::PageStore;
 use register::{CatalogueFault, fault_of};
-use tbnode::fields::put_u32;
-
-/// The state of a finished store.
-const FINISHED: u32 = 1;
 
 /// Writes all that is changed to the store, and syncs it.
 fn write_all<S: PageStore>(index: &mut TreeIndex<S>) -> Result<(), CatalogueFault>
@@ -30,13 +28,6 @@ fn write_all<S: PageStore>(index: &mut TreeIndex<S>) -> Result<(), CatalogueFaul
     ensures caused { IfErr result (IsNotWritten index.old.cache index.new.cache) }
 {
     register::write_all(index.cache_mut())
-}
-
-/// Makes a header say that the store is finished.
-fn set_finished(payload: &mut Payload)
-    ensures { payload.new ≡ finished payload.old }
-{
-    put_u32(&mut payload.bytes, 8, FINISHED);
 }
 
 /// Makes page 0 say that the store is finished; it is not written yet.

@@ -4,7 +4,6 @@
 mod beginning;
 mod closing;
 mod finishing;
-mod header;
 mod opening;
 mod resting;
 mod restoring;

@@ -43,7 +43,7 @@ fn said_of<S: PageStore>(
     (header, extent): (Header, Option<Box3>),
 ) -> Said<'_> {
     Said {
-        version: header.version,
+        version: header.front.version,
         pages,
         head: database.head(),
         legs: database.leg_count(),

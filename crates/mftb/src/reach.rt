@@ -1,5 +1,6 @@
 //! How far the legs of a store reach, as its file says.
-use crate::root::{box_below, root_of};
+use crate::root::box_below;
+use header::root_of;
 use legs::Box3;
 use pages::{Kind, Payload, unseal};
 use std::fs::File;

@@ -1,34 +1,20 @@
 //! What the first page of a store and the root of its tree say.
 use fixedpoint::Coord;
+use header::{FINISHED, Front, front_of, root_of};
 use legs::Box3;
 use pages::{PageStore, Payload, unseal};
 use sessions::Fault;
-use tbnode::fields::u32_at;
 use tbnode::{Inner, Leaf};
 use timebase::Ms;
 use trajdb::RunFault;
 
-/// The version of the stores that this program opens.
-const VERSION: u32 = 2;
-
-/// The state of a store that is finished.
-const FINISHED: u32 = 1;
-
 /// What page 0 of a store says of it.
 #[derive(Clone, Copy)]
 pub(crate) struct Header {
-    pub(crate) version: u32,
-    /// 0 where the store is not finished, else 1.
-    state: u32,
+    /// How it begins.
+    pub(crate) front: Front,
     /// The page of the tree's root; 0 without a leg.
     root: u32,
-}
-
-impl Header {
-    /// Whether it is that of a finished store of this version.
-    fn is_finished(&self) -> bool {
-        self.version == VERSION && self.state == FINISHED
-    }
 }
 
 /// The payload of a page.
@@ -46,19 +32,16 @@ fn payload_of<'a, S: PageStore>(store: &mut S, number: u32) -> Result<Payload, F
     }
 }
 
-/// The page of the root that page 0 names; 0 where there is no tree.
-pub(crate) fn root_of(header: &Payload) -> u32 {
-    u32_at(&header.bytes, 32)
-}
-
-/// What page 0 says.
+/// What page 0 says; refused as damaged where it is no header.
 pub(crate) fn read_header<'a, S: PageStore>(store: &mut S) -> Result<Header, Fault<'a>> {
     let payload = payload_of(store, 0)?;
-    Ok(Header {
-        version: u32_at(&payload.bytes, 4),
-        state: u32_at(&payload.bytes, 8),
-        root: root_of(&payload),
-    })
+    match front_of(&payload) {
+        Some(front) => Ok(Header {
+            front,
+            root: root_of(&payload),
+        }),
+        None => Err(Fault::Run(RunFault::Damaged(0))),
+    }
 }
 
 /// The box over the entries of an inner page.
@@ -112,7 +95,7 @@ pub(crate) fn read_extent<'a, S: PageStore>(
     header: &Header,
 ) -> Result<Option<Box3>, Fault<'a>> {
     let root = header.root;
-    if root == 0 || !header.is_finished() {
+    if root == 0 || header.front != FINISHED {
         return Ok(None);
     }
     let payload = payload_of(store, root)?;

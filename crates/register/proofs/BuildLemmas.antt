@@ -20,7 +20,7 @@ use Rattle.register.specs.Building.{capped, with_track, AddsFeature, AreLawful, 
 use Rattle.register.specs.Lasting.{tracks_of, IsLawfulFeature}
 use Rattle.register.specs.Saved.{dimension_of, head_of, CatalogueView}
 use Rattle.timebase.specs.Instant.{IsMoment}
-use Rattle.register.specs.declared.header_fields.Fields.{Fields}
+use Rattle.header.specs.declared.header_fields.Fields.{Fields}
 use Rattle.register.specs.Saving.{end_of, feature_at, features_of}
 use Rattle.tbtree.specs.Stands.{no_place}
 use Rattle.register.specs.Text.{leg_sum, AreFew}

@@ -1,58 +1,23 @@
 -- The pages of a text that page 0 says are those of an earlier text.
-use Rattle.std.proofs.Common.{ℕ, zero, suc, ◌≡◌, ◌≢◌, ◌-◌, ◌<◌, ◌≤◌, ◌^◌, ◌==◌, min, Bool, true, false, ◌&&◌, cond, refl, sym, ap, ◌∙◌, arith, subst, List, [], ◌∷◌, ◌++◌, drop, length, All, Option, Some, None, option_map, option_and_then, ⊎_elim}
+use Rattle.std.proofs.Common.{ℕ, zero, suc, ◌≡◌, ◌≢◌, ◌-◌, ◌<◌, ◌==◌, min, Bool, true, false, ◌&&◌, cond, refl, sym, ap, ◌∙◌, arith, subst, List, [], ◌∷◌, ◌++◌, length, All, Option, Some, None, option_map, option_and_then, ⊎_elim}
 use Rattle.std.specs.Int.{div_ceil}
 use Rattle.std.proofs.lemmas.Bool.{cases_lt}
 use Rattle.std.proofs.lemmas.Bool.Decides.{nat_tests}
-use Rattle.std.proofs.lemmas.Int.{clamps}
-use Rattle.std.proofs.lemmas.List.{append-nil, length-drop, length-take}
 use Rattle.std.proofs.lemmas.List.Elements.{All-nil, All-push, All-weaker}
-use Rattle.byteorder.specs.Endian.{big_bytes, big_number}
-use Rattle.byteorder.specs.Numbers.{big_number-reads_back}
 use Rattle.pages.specs.declared.payload.Kind.{Kind}
 use Rattle.pages.specs.declared.payload.Kind.TheVariants.{Header, Leaf, Inner, Catalogue}
 use Rattle.pages.specs.declared.payload.Payload.{Payload}
-use Rattle.tbnode.specs.Parts.{number_at, part}
 use Rattle.tbtree.specs.declared.tree.Place.{Place}
 use Rattle.tbtree.specs.declared.tree.TbTree.{TbTree}
 use Rattle.register.specs.Chain.{is_catalogue, is_part, chain_text, most_used, next_in, pages_for, text_at, text_in}
 use Rattle.register.specs.Earlier.{AreEarlier, AreLinked}
-use Rattle.register.specs.Fields.{fields_bytes, HasFields}
 use Rattle.register.specs.Lasting.{Says}
 use Rattle.register.specs.Saved.{fields_for, CatalogueView}
 use Rattle.register.specs.Saving.{contents_of}
 use Rattle.register.specs.Text.{catalogue_text}
-use Rattle.register.specs.declared.header_fields.Fields.{Fields}
-use Rattle.register.proofs.FieldsLemmas.{cut, fields_length}
+use Rattle.header.proofs.FieldsLemmas.{first_named}
 use Rattle.register.proofs.ReaderLemmas.{some_none, some_same}
 use Rattle.register.proofs.WholeLemmas.{text_at_length}
-
--- what page 0 says is where the text begins
-room : (payload : Payload) (f : Fields) → HasFields payload f → 60 ≤ length payload.bytes
-unfolding part
-room payload f has =
-    let l = length-take 48 (drop 12 payload.bytes) in
-    let d = length-drop 12 payload.bytes in
-    let k = ap (λ (x : List ℕ). length x) has.fields ∙ fields_length f in
-    omega (arith, clamps, l, d, k)
-
-named_part : (payload : Payload) (f : Fields) → HasFields payload f → part 44 4 payload.bytes ≡ big_bytes 4 f.first
-unfolding fields_bytes
-named_part payload f has =
-    let b = payload.bytes in
-    let long = room payload f has in
-    let leaf = cut b 12 2 46 (big_bytes 2 f.shape.leaf) _ (omega (arith, long)) refl has.fields in
-    let inner = cut b 14 2 44 (big_bytes 2 f.shape.inner) _ (omega (arith, long)) refl leaf.1 in
-    let legs = cut b 16 8 36 (big_bytes 8 f.limits.legs) _ (omega (arith, long)) refl inner.1 in
-    let features = cut b 24 8 28 (big_bytes 8 f.limits.features) _ (omega (arith, long)) refl legs.1 in
-    let root = cut b 32 4 24 (big_bytes 4 f.root) _ (omega (arith, long)) refl features.1 in
-    let levels = cut b 36 4 20 (big_bytes 4 f.levels) _ (omega (arith, long)) refl root.1 in
-    let leaves = cut b 40 4 16 (big_bytes 4 f.leaves) _ (omega (arith, long)) refl levels.1 in
-    (cut b 44 4 12 (big_bytes 4 f.first) _ (omega (arith, long)) refl leaves.1).0
-
-first_named : (payload : Payload) (f : Fields) → HasFields payload f → f.first < 2 ^ 32 → number_at 4 44 payload.bytes ≡ f.first
-unfolding number_at
-first_named payload f has small =
-    ap (big_number 4) (named_part payload f has ∙ sym (append-nil (big_bytes 4 f.first))) ∙ big_number-reads_back 4 f.first [] (omega (arith, small))
 
 catalogue_kind : (k : Kind) → is_catalogue k ≡ true → k ≡ Catalogue
 catalogue_kind Header e = absurd cc

@@ -11,7 +11,6 @@ pub mod WriterLemmas
 pub mod WholeLemmas
 pub mod EncodingLemmas
 pub mod SavingLemmas
-pub mod FieldsLemmas
 pub mod SaveLemmas
 pub mod RestoreLemmas
 pub mod ReuseLemmas

@@ -14,7 +14,8 @@ use Rattle.register.specs.declared.contents.Lists.{Lists}
 use Rattle.register.specs.declared.contents.Space.{Space}
 use Rattle.register.specs.declared.contents.Head.{Head}
 use Rattle.register.specs.declared.contents.Feature.{Feature}
-use Rattle.register.proofs.ValueLemmas.{same_front, big_same}
+use Rattle.register.proofs.ValueLemmas.{big_same}
+use Rattle.header.proofs.FieldsLemmas.{same_front}
 
 abbrev pub IsFree : {V : Type 0} → (V → List ℕ) → (V → Type 0) → Type 0
 IsFree {V = V} text ok = (a b : V) (s t : List ℕ) → ok a → ok b → text a ++ s ≡ text b ++ t → (a ≡ b) × (s ≡ t)

@@ -7,7 +7,6 @@ use Rattle.std.proofs.lemmas.Grind.{div_ceil_times}
 use Rattle.std.proofs.lemmas.Int.{clamps}
 use Rattle.std.proofs.lemmas.List.{append-nil, append_assoc, drop-append-le}
 use Rattle.pages.specs.declared.payload.Payload.{Payload}
-use Rattle.pagecache.proofs.CallerLemmas.{unsyncs-trans}
 use Rattle.pagecache.specs.Cache.{Cache, Rests, IsRefused, payload_of}
 use Rattle.pagecache.specs.declared.fault.CacheFault.{CacheFault}
 use Rattle.pagecache.specs.declared.fault.CacheFault.TheVariants as cache

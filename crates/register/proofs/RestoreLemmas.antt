@@ -8,7 +8,7 @@ use Rattle.tbtree.specs.Shape.{IsShape}
 use Rattle.tbtree.specs.declared.tree.Place.{Place}
 use Rattle.tbtree.specs.declared.tree.TbTree.{TbTree}
 use Rattle.register.specs.Building.{tree_of, IsOf}
-use Rattle.register.specs.Fields.{fields_bytes, FitsFields, HasFields}
+use Rattle.header.specs.Fields.{fields_bytes, FitsFields, HasFields}
 use Rattle.register.specs.Chain.{text_stop}
 use Rattle.register.specs.Lasting.{first_fault, payload_fault, ComesFirst, IsKept, IsStop, IsTrulyDamaged, IsWithin}
 use Rattle.register.specs.Restoring.{HoldsContents, IsRest, SaysFields}
@@ -16,7 +16,7 @@ use Rattle.register.specs.Saved.{fields_for, CatalogueView}
 use Rattle.register.specs.Saving.{contents_of}
 use Rattle.register.specs.Text.{catalogue_text, IsWhole}
 use Rattle.register.specs.declared.contents.Contents.{Contents}
-use Rattle.register.specs.declared.header_fields.Fields.{Fields}
+use Rattle.header.specs.declared.header_fields.Fields.{Fields}
 use Rattle.pagecache.specs.Cache.{payload_of, Cache}
 use Rattle.chains.specs.Reads.{OnlyReads}
 use Rattle.register.specs.ChainReader.{reader_of, BreaksAt, IsReaderFault, MayBe}

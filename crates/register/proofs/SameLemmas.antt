@@ -13,7 +13,7 @@ use Rattle.register.specs.Restoring.{IsRest}
 use Rattle.register.specs.Saved.{dimension_of, head_of, CatalogueView}
 use Rattle.register.specs.Saving.{contents_of, features_of}
 use Rattle.register.specs.declared.contents.Contents.{Contents}
-use Rattle.register.specs.declared.header_fields.Fields.{Fields}
+use Rattle.header.specs.declared.header_fields.Fields.{Fields}
 use Rattle.register.proofs.BuildLemmas.{none_some, of_contents, some_or_none}
 use Rattle.register.proofs.RestoreLemmas.{contents_same, fields_kept, fields_same, kept_fields, kept_rest, kept_tree}
 

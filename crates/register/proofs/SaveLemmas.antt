@@ -15,12 +15,12 @@ use Rattle.tbtree.specs.declared.tree.Place.{Place}
 use Rattle.tbtree.specs.declared.tree.TbTree.{TbTree}
 use Rattle.register.specs.Chain.{most_used}
 use Rattle.register.specs.ChainWriter.{HasText}
-use Rattle.register.specs.Fields.{FitsFields, HasFields}
+use Rattle.header.specs.Fields.{FitsFields, HasFields}
 use Rattle.register.specs.Lasting.{Says}
 use Rattle.register.specs.Saved.{fields_for, CatalogueView, KeepsFront, SparesTree}
 use Rattle.register.specs.Saving.{contents_of, KeepsTree, PutsFields}
 use Rattle.register.specs.Text.{catalogue_text}
-use Rattle.register.specs.declared.header_fields.Fields.{Fields}
+use Rattle.header.specs.declared.header_fields.Fields.{Fields}
 use Rattle.register.proofs.ReaderLemmas.{some_none}
 use Rattle.register.proofs.SpareLemmas.{spares_then, stays_spares}
 

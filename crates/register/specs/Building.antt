@@ -12,7 +12,7 @@ use Rattle.register.specs.Lasting.{tracks_of, IsLawful, IsLawfulFeature}
 use Rattle.register.specs.declared.building.Known.{Known}
 use Rattle.register.specs.declared.contents.Contents.{Contents}
 use Rattle.register.specs.declared.contents.Feature.{Feature}
-use Rattle.register.specs.declared.header_fields.Fields.{Fields}
+use Rattle.header.specs.declared.header_fields.Fields.{Fields}
 
 -- a feature more; 2^64 - 1 stands for any greater number of legs
 abbrev pub with_track : TracksView → List ℕ → Track → TracksView

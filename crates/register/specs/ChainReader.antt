@@ -11,7 +11,7 @@ use Rattle.register.specs.Lasting.{IsDamagedPage}
 use Rattle.register.specs.Stopping.{IsMended}
 use Rattle.register.specs.declared.fault.CatalogueFault.{CatalogueFault}
 use Rattle.register.specs.declared.fault.CatalogueFault.TheVariants.{Memory, Store, StoreFull, Damaged, Unfinished, Version, Malformed}
-use Rattle.register.specs.declared.header_fields.Fields.{Fields}
+use Rattle.header.specs.declared.header_fields.Fields.{Fields}
 
 -- the page of the chain that comes next, 0 for none; how many bytes of the text stand there and in
 -- the pages behind it; and the bytes that were read and are not taken yet

@@ -2,7 +2,7 @@
 use Rattle.std.specs.Prelude.{ℕ, ◌≡◌, ◌≢◌, ◌<◌, ◌≤◌, ◌+◌, ◌-◌, List, [], ◌∷◌, ◌++◌, length, All, Option, Some}
 use Rattle.pages.specs.declared.payload.Kind.TheVariants.{Catalogue}
 use Rattle.pages.specs.declared.payload.Payload.{Payload}
-use Rattle.tbnode.specs.Parts.{number_at}
+use Rattle.header.specs.Fields.{first_of}
 use Rattle.register.specs.Chain.{next_in, pages_for}
 
 -- pages that are linked, from page p on: each is a page of a catalogue above page 0, none of those
@@ -18,7 +18,7 @@ AreLinked at met p (q ∷ pages) =
 pub record AreEarlier (at : ℕ → Option Payload) (pages : List ℕ) : Type 0 where
   pub payload : Payload
   pub is : at 0 ≡ Some payload
-  pub linked : AreLinked at [] (number_at 4 44 payload.bytes) pages
+  pub linked : AreLinked at [] (first_of payload) pages
 
 -- so many pages are now so many: a text takes new ones only beyond these earlier ones
 abbrev pub AddsFew : (old : ℕ) → (text pages : List ℕ) → (new : ℕ) → Type 0

@@ -1,21 +1,20 @@
 -- What the pages of a store keep of a database beside its legs.
-use Rattle.std.specs.Prelude.{ℕ, ◌≡◌, ◌≢◌, ◌≤◌, ◌<◌, ◌==◌, ◌&&◌, ◌⊎◌, nat_lt, Bool, true, false, if◌then◌else◌, List, [], map, length, All, AllPairs, Option, Some, None, IsTrue}
+use Rattle.std.specs.Prelude.{ℕ, ◌≡◌, ◌≢◌, ◌≤◌, ◌<◌, ◌==◌, ◌⊎◌, nat_lt, Bool, false, if◌then◌else◌, List, [], map, length, All, AllPairs, Option, Some, None, IsTrue}
 use Rattle.std.specs.Int.{div_ceil}
 use Rattle.timebase.specs.Instant.{IsMoment}
 use Rattle.legs.specs.Law.{IsName}
 use Rattle.legs.specs.Limits.{IsLimits}
 use Rattle.legs.specs.Tracks.{TracksView}
 use Rattle.legs.specs.declared.head.BookHead.{BookHead}
-use Rattle.pages.specs.declared.payload.Kind.{Kind}
-use Rattle.pages.specs.declared.payload.Kind.TheVariants.{Header, Leaf, Inner, Catalogue}
 use Rattle.pages.specs.declared.payload.Payload.{Payload}
 use Rattle.pages.specs.Store.{Store as StoreView, Faulted}
-use Rattle.tbnode.specs.Parts.{number_at}
 use Rattle.tbtree.specs.Shape.{IsShape}
 use Rattle.tbtree.specs.declared.tree.Place.{Place}
 use Rattle.tbtree.specs.declared.tree.TbTree.{TbTree}
+use Rattle.header.specs.Fields.{FitsFields, HasFields}
+use Rattle.header.specs.Front.{finished_front, front_of, unfinished_front}
+use Rattle.header.specs.declared.fronts.Front.{Front}
 use Rattle.register.specs.Chain.{most_used, text_at}
-use Rattle.register.specs.Fields.{FitsFields, HasFields}
 use Rattle.register.specs.Saved.{fields_for, CatalogueView}
 use Rattle.register.specs.Saving.{contents_of}
 use Rattle.register.specs.Text.{catalogue_text, leg_sum, IsWhole}
@@ -23,24 +22,21 @@ use Rattle.register.specs.declared.contents.Feature.{Feature}
 use Rattle.register.specs.declared.fault.CatalogueFault.{CatalogueFault}
 use Rattle.register.specs.declared.fault.CatalogueFault.TheVariants.{Memory, Store, StoreFull, Damaged, Unfinished, Version, Malformed}
 
-abbrev pub is_header : Kind → Bool
-is_header Header = true
-is_header Leaf = false
-is_header Inner = false
-is_header Catalogue = false
-
 -- what is wrong with the state of a store: 0 is unfinished, 1 is finished
 abbrev pub state_fault : ℕ → Option CatalogueFault
 state_fault state =
-    if state == 0 then Some Unfinished else (if state == 1 then None else Some Malformed)
+    if state == unfinished_front.state then Some Unfinished
+    else (if state == finished_front.state then None else Some Malformed)
 
--- with the header of a store: it begins with the letters MFTB, version 2 and the state
+-- with how page 0 begins, which is to be the header of a store of a version
+abbrev pub front_fault : ℕ → Option Front → Option CatalogueFault
+front_fault version None = Some Malformed
+front_fault version (Some front) =
+    if front.version == version then state_fault front.state else Some Version
+
+-- and of the present version
 unfoldable pub header_fault : Payload → Option CatalogueFault
-header_fault payload =
-    if is_header payload.kind && (number_at 4 0 payload.bytes == 1296454722)
-    then (if number_at 4 4 payload.bytes == 2 then state_fault (number_at 4 8 payload.bytes)
-    else Some Version)
-    else Some Malformed
+header_fault payload = front_fault finished_front.version (front_of payload)
 
 -- with page 0: a store has one, and it has a payload
 abbrev pub payload_fault : Option Payload → Option CatalogueFault

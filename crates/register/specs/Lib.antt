@@ -10,4 +10,3 @@ pub mod Lasting
 pub mod Restoring
 pub mod Stopping
 pub mod Building
-pub mod Fields

@@ -6,14 +6,14 @@ use Rattle.pages.specs.declared.payload.Payload.{Payload}
 use Rattle.tbtree.specs.Shape.{IsShape}
 use Rattle.tbtree.specs.declared.tree.Place.{Place}
 use Rattle.register.specs.Chain.{most_used, text_at}
-use Rattle.register.specs.Fields.{FitsFields, HasFields}
+use Rattle.header.specs.Fields.{FitsFields, HasFields}
 use Rattle.register.specs.Building.{tree_of, IsOf}
 use Rattle.register.specs.Lasting.{header_fault, ComesFirst, IsWithin}
 use Rattle.register.specs.Saved.{CatalogueView}
 use Rattle.register.specs.Text.{catalogue_text, IsWhole}
 use Rattle.register.specs.declared.contents.Contents.{Contents}
 use Rattle.register.specs.declared.fault.CatalogueFault.{CatalogueFault}
-use Rattle.register.specs.declared.header_fields.Fields.{Fields}
+use Rattle.header.specs.declared.header_fields.Fields.{Fields}
 
 -- a fault is answered, if there is one
 abbrev pub result_of : Option CatalogueFault → Result (Unit {0}) CatalogueFault

@@ -10,7 +10,7 @@ use Rattle.pagecache.specs.Cache.{is_changed, payload_of, Cache, IsSettled}
 use Rattle.tbtree.specs.Descent.{IsSameTree}
 use Rattle.tbtree.specs.Nodes.{pages_of_cache}
 use Rattle.tbtree.specs.declared.tree.TbTree.{TbTree}
-use Rattle.register.specs.declared.header_fields.Fields.{Fields}
+use Rattle.header.specs.declared.header_fields.Fields.{Fields}
 use Rattle.register.specs.declared.contents.Head.{Head}
 
 -- what contracts see of a catalogue: what the first accepted file gave, the limits, the features,

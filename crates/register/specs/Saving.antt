@@ -8,8 +8,8 @@ use Rattle.legs.specs.Tracks.{TracksView}
 use Rattle.pages.specs.Store.{Faulted}
 use Rattle.pages.specs.declared.payload.Payload.{Payload}
 use Rattle.pagecache.specs.Cache.{Cache, Lends, payload_of}
-use Rattle.register.specs.Fields.{HasFields}
-use Rattle.register.specs.declared.header_fields.Fields.{Fields}
+use Rattle.header.specs.Fields.{HasFields}
+use Rattle.header.specs.declared.header_fields.Fields.{Fields}
 use Rattle.tbtree.specs.Passes.{KeepsLength, Passes}
 use Rattle.tbtree.specs.Stands.{no_place}
 use Rattle.tbtree.specs.declared.tree.Place.{Place}

@@ -9,7 +9,7 @@ use Rattle.register.specs.Restoring.{SaysFields}
 use Rattle.register.specs.Saved.{CatalogueView}
 use Rattle.register.specs.declared.fault.CatalogueFault.{CatalogueFault}
 use Rattle.register.specs.declared.fault.CatalogueFault.TheVariants.{Memory, Store, StoreFull, Damaged, Unfinished, Version, Malformed}
-use Rattle.register.specs.declared.header_fields.Fields.{Fields}
+use Rattle.header.specs.declared.header_fields.Fields.{Fields}
 
 -- page 0 of so many pages says where a text is, and page n is the first one along it that has no
 -- payload

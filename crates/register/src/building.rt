@@ -13,8 +13,8 @@ ghost use Rattle.tbtree.specs.declared.tree.Place.{Place};
 
 use crate::contents::{Contents, Feature, Features, Head, Lists};
 use crate::fault::CatalogueFault;
-use crate::header_fields::Fields;
 use crate::saving::Catalogue;
+use header::Fields;
 use legs::{BookHead, Limits, Track, Tracks};
 use mfcsv::Dimension;
 use rows::Rows;

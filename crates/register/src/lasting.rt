@@ -6,7 +6,7 @@ ghost use Rattle.tbtree.specs.declared.tree.Place.{Place};
 ghost use Rattle.tbtree.specs.declared.tree.TbTree.{TbTree};
 ghost use Rattle.register.specs.Chain.{pages_for};
 ghost use Rattle.register.specs.Earlier.{AreEarlier};
-ghost use Rattle.register.specs.Fields.{with_state};
+ghost use Rattle.header.specs.Front.{with_state};
 ghost use Rattle.register.specs.Lasting.{IsKept, IsSame, Says};
 ghost use Rattle.register.specs.Saved.{CatalogueView};
 ghost use Rattle.register.specs.Saving.{contents_of};

@@ -1,37 +1,11 @@
 //! Numbers of a text, big-endian.
 ghost use Rattle.std.specs.Prelude.{◌≡◌, FitsSigned, length};
 ghost use Rattle.std.specs.Int.{w64};
-ghost use Rattle.byteorder.specs.Endian.{big_bytes};
 ghost use Rattle.tbnode.specs.Parts.{signed_bytes};
 
 /// Eight bytes to write over.
 fn eight_zeros() -> [u8; 8] {
     [0; 8]
-}
-
-/// The number of eight bytes.
-pub fn u64_of(bytes: &[u8]) -> u64
-    requires { length bytes.now ≡ 8 }
-    ensures { big_bytes 8 result ≡ bytes.now }
-{
-    let mut array = eight_zeros();
-    array.copy_from_slice(bytes);
-    u64::from_be_bytes(array)
-}
-
-/// Four bytes to write over.
-fn four_zeros() -> [u8; 4] {
-    [0; 4]
-}
-
-/// The number of four bytes.
-pub fn u32_of(bytes: &[u8]) -> u32
-    requires { length bytes.now ≡ 4 }
-    ensures { big_bytes 4 result ≡ bytes.now }
-{
-    let mut array = four_zeros();
-    array.copy_from_slice(bytes);
-    u32::from_be_bytes(array)
 }
 
 /// The number of eight bytes, as two's complement.

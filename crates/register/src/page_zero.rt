@@ -6,36 +6,49 @@ ghost use Rattle.pages.specs.declared.payload.Payload.{Payload};
 ghost use Rattle.pagecache.specs.Cache.{payload_of};
 ghost use Rattle.tbtree.specs.Shape.{IsShape};
 ghost use Rattle.chains.specs.Reads.{OnlyReads};
-ghost use Rattle.register.specs.Fields.{FitsFields, HasFields};
-ghost use Rattle.register.specs.Lasting.{first_fault, header_fault, state_fault, ComesFirst, IsReadingFault, IsStop, IsTrulyDamaged};
+ghost use Rattle.header.specs.Fields.{FitsFields, HasFields};
+ghost use Rattle.register.specs.Lasting.{first_fault, front_fault, header_fault, state_fault, ComesFirst, IsReadingFault, IsStop, IsTrulyDamaged};
 ghost use Rattle.register.specs.Restoring.{result_of, HeaderSays, IsHeaderFault, SaysFields};
 ghost use Rattle.register.specs.declared.fault.CatalogueFault.TheVariants.{Damaged};
-ghost use Rattle.register.specs.declared.header_fields.Fields.{Fields};
+ghost use Rattle.header.specs.declared.header_fields.Fields.{Fields};
 
 use crate::chain_reader::fault_of;
 use crate::fault::CatalogueFault;
-use crate::header_fields::{Fields, fields_of};
+use header::{FINISHED, Fields, Front, UNFINISHED, fields_of, front_of};
 use pagecache::PageCache;
-use pages::{Kind, PageStore, Payload};
-use tbnode::fields::u32_at;
-
-/// The letters `MFTB` at the beginning of a header, as a number.
-pub const MAGIC: u32 = 0x4d46_5442;
-
-/// The version of the format.
-const VERSION: u32 = 2;
+use pages::{PageStore, Payload};
 
 /// Whether the state of a store is that of a finished one.
-pub fn test_state(state: u32) -> Result<(), CatalogueFault>
+fn test_state(state: u32) -> Result<(), CatalogueFault>
     ensures value { result ≡ result_of (state_fault state) }
     ensures caused { IfErr result (λ e. (old new : Store) → IsReadingFault old new e) }
     ensures damaged { IfErr result (λ e. (faithful : Bool) (at : ℕ → Option Payload) (count : ℕ)
         → IsTrulyDamaged faithful at count e) }
 {
-    match state {
-        0 => Err(CatalogueFault::Unfinished),
-        1 => Ok(()),
-        _ => Err(CatalogueFault::Malformed),
+    if state == UNFINISHED.state {
+        return Err(CatalogueFault::Unfinished);
+    }
+    if state == FINISHED.state {
+        return Ok(());
+    }
+    Err(CatalogueFault::Malformed)
+}
+
+/// Whether a header begins as that of a finished store of a version.
+pub fn test_front(version: u32, front: Option<Front>) -> Result<(), CatalogueFault>
+    ensures value { result ≡ result_of (front_fault version front) }
+    ensures caused { IfErr result (λ e. (old new : Store) → IsReadingFault old new e) }
+    ensures damaged { IfErr result (λ e. (faithful : Bool) (at : ℕ → Option Payload) (count : ℕ)
+        → IsTrulyDamaged faithful at count e) }
+{
+    match front {
+        Some(front) => {
+            if front.version != version {
+                return Err(CatalogueFault::Version);
+            }
+            test_state(front.state)
+        }
+        None => Err(CatalogueFault::Malformed),
     }
 }
 
@@ -47,19 +60,7 @@ fn test_header(payload: &Payload) -> Result<(), CatalogueFault>
     ensures damaged { IfErr result (λ e. (faithful : Bool) (at : ℕ → Option Payload) (count : ℕ)
         → IsTrulyDamaged faithful at count e) }
 {
-    let bytes = &payload.bytes;
-    match payload.kind {
-        Kind::Header => {
-            if u32_at(bytes, 0) != MAGIC {
-                return Err(CatalogueFault::Malformed);
-            }
-            if u32_at(bytes, 4) != VERSION {
-                return Err(CatalogueFault::Version);
-            }
-            test_state(u32_at(bytes, 8))
-        }
-        _ => Err(CatalogueFault::Malformed),
-    }
+    test_front(FINISHED.version, front_of(payload))
 }
 
 /// What the header of a finished store says.

@@ -4,7 +4,6 @@ ghost use Rattle.std.specs.Int.{div_ceil};
 ghost use Rattle.pages.specs.Store.{IsSynced};
 ghost use Rattle.pagecache.specs.Cache.{is_changed, page_of, payload_of, IsClean, IsWritten, Rests, SameLength, KeepsPayloads};
 ghost use Rattle.pages.specs.declared.payload.Payload.{Payload};
-ghost use Rattle.tbnode.specs.Parts.{number_at};
 ghost use Rattle.register.specs.Chain.{most_used, pages_for};
 ghost use Rattle.register.specs.ChainWriter.{HasText, Holds};
 ghost use Rattle.register.specs.Lasting.{Says};
@@ -14,7 +13,7 @@ ghost use Rattle.tbtree.specs.Stands.{no_place};
 ghost use Rattle.byteorder.specs.Endian.{big_bytes};
 ghost use Rattle.legs.specs.Limits.{IsLimits};
 ghost use Rattle.tbtree.specs.Shape.{IsShape};
-ghost use Rattle.register.specs.Fields.{FitsFields};
+ghost use Rattle.header.specs.Fields.{first_of, FitsFields};
 ghost use Rattle.register.specs.ChainSteps.{IsAhead, StaysWithin};
 ghost use Rattle.register.specs.Earlier.{AddsFew, AreEarlier, HasNoRoom};
 ghost use Rattle.register.specs.Saved.{dimension_of, fields_for, head_of, Continues, IsWrittenButFirst, KeepsFront, SparesTree};
@@ -27,7 +26,7 @@ use crate::chain_writer::ChainWriter;
 use crate::contents::Kept;
 use crate::encoding::{push_byte, push_feature, push_head, push_row, push_u32};
 use crate::fault::CatalogueFault;
-use crate::header_fields::{Fields, put_fields};
+use header::{Fields, first_of, put_fields};
 use legs::{BookHead, Limits, Tracks};
 use mfcsv::Dimension;
 use pagecache::PageCache;
@@ -35,7 +34,6 @@ use pages::PageStore;
 use rows::{Row, Rows};
 use std::alloc::Global;
 use std::marker::Model;
-use tbnode::fields::u32_at;
 use tbtree::{Place, TbTree};
 
 /// What a store keeps of a database beside its legs.
@@ -269,7 +267,7 @@ fn write_catalogue<S: PageStore>(
 /// The first page of the earlier catalogue, 0 for none.
 fn earlier_page<S: PageStore>(cache: &mut PageCache<S>) -> Result<u32, CatalogueFault>
     ensures first { IfOk result (λ page. IsTrue cache.old.store.is_faithful → (payload : Payload)
-        → payload_of cache.old 0 ≡ Some payload → page ≡ number_at 4 44 payload.bytes) }
+        → payload_of cache.old 0 ≡ Some payload → page ≡ first_of payload) }
     ensures some { OnOk result (0 < cache.old.count) }
     ensures reads { OnlyReads cache.old cache.new }
     ensures only { IsTrue cache.old.store.is_faithful → 0 < cache.old.count
@@ -278,7 +276,7 @@ fn earlier_page<S: PageStore>(cache: &mut PageCache<S>) -> Result<u32, Catalogue
     ensures room { IfErr result (λ fault. wanted fault ≡ 0) }
 {
     match cache.page(0) {
-        Ok(payload) => Ok(u32_at(&payload.bytes, 44)),
+        Ok(payload) => Ok(first_of(payload)),
         Err(fault) => Err(fault_of(fault)),
     }
 }

@@ -8,7 +8,8 @@ ghost use Rattle.register.specs.declared.fault.CatalogueFault.{CatalogueFault};
 
 use crate::chain_reader::ChainReader;
 use crate::fault::CatalogueFault;
-use crate::numbers::{i64_of, u32_of, u64_of};
+use crate::numbers::i64_of;
+use header::{u32_of, u64_of};
 use mfcsv::Text;
 use pagecache::PageCache;
 use pages::PageStore;

@@ -5,7 +5,8 @@ use Rattle.legs.specs.declared.index.IndexFault.{IndexFault}
 use Rattle.legs.specs.declared.index.IndexFault.TheVariants as index
 use Rattle.pagecache.specs.Cache.{Cache, payload_of}
 use Rattle.chains.specs.Reads.{OnlyReads}
-use Rattle.boxsearch.specs.Index.{IndexView, IsSound, SaysState}
+use Rattle.boxsearch.specs.Index.{IndexView, IsSound}
+use Rattle.header.specs.Front.{SaysState}
 use Rattle.boxsearch.specs.Index.{words}
 use Rattle.boxsearch.specs.Beside.{with_cache}
 use Rattle.legs.specs.Book.{Book}

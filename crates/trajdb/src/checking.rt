@@ -86,7 +86,8 @@ impl<S: PageStore> Core<TreeIndex<S>> {
     ghost use Rattle.treecheck.specs.Check.{IsChecked};
     ghost use Rattle.tbtree.specs.Nodes.{pages_of_cache};
     ghost use Rattle.boxsearch.specs.Beside.{with_cache};
-    ghost use Rattle.boxsearch.specs.Index.{content, words, IsSound, SaysState};
+    ghost use Rattle.boxsearch.specs.Index.{content, words, IsSound};
+    ghost use Rattle.header.specs.Front.{SaysState};
     ghost use Rattle.trajdb.specs.Calls.{IsAsked, IsQuestionFault, LeavesBook};
     ghost use Rattle.trajdb.specs.Checking.{IsFirstFault, Reports};
     ghost use Rattle.trajdb.specs.Db as db;

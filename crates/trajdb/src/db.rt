@@ -42,7 +42,7 @@ impl<S: PageStore> Db<S> {
     ghost use Rattle.pages.specs.Store.{IsSynced, Keeps, Store, Writes};
     ghost use Rattle.boxsearch.specs.Index.{words};
     ghost use Rattle.catalogue.specs.Beginning.{IsLeft};
-    ghost use Rattle.catalogue.specs.Header.{header_payload};
+    ghost use Rattle.header.specs.Fields.{header_payload};
     ghost use Rattle.legs.specs.Book.{empty_book};
     ghost use Rattle.trajdb.specs.Script.{lines_of};
     ghost use Rattle.trajdb.specs.Answers.{AcceptsBy, IsAnswer, IsCountsText, book_then, book_with, load_of};

@@ -14,7 +14,7 @@ use Rattle.tbtree.specs.Nodes.{Pages, pages_of_cache}
 use Rattle.tbtree.specs.declared.fault.TreeFault.{TreeFault}
 use Rattle.tbtree.specs.declared.fault.TreeFault.TheVariants.{Cache as OfCache, Malformed, Spent}
 use Rattle.boxsearch.specs.Answers.{answered, of_cache, of_tree}
-use Rattle.boxsearch.specs.Index.{SaysState}
+use Rattle.header.specs.Front.{SaysState}
 use Rattle.legs.specs.Tracks.{TracksView}
 use Rattle.tbtree.specs.declared.tree.Place.{Place}
 use Rattle.tbtree.specs.declared.tree.TbTree.{TbTree}

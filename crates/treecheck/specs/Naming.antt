@@ -13,7 +13,7 @@ use Rattle.treecheck.specs.Check.{first_on, AreChains, HoldChains, IsTreeOver}
 use Rattle.treecheck.specs.Checking.{Agree}
 use Rattle.treecheck.specs.Descent.{DescentStopsAt}
 use Rattle.treecheck.specs.Stopping.{AllStopAt}
-use Rattle.boxsearch.specs.Index.{SaysState}
+use Rattle.header.specs.Front.{SaysState}
 
 -- page n has no payload, and each page below it has one
 pub record IsFirstDamaged (cache : Cache) (n : ℕ) : Type 0 where

@@ -3,12 +3,12 @@ use Rattle.std.proofs.Common.{ℕ, ◌≡◌, ◌++◌, [], List, length, refl, 
 use Rattle.byteorder.specs.Endian.{big_bytes}
 use Rattle.pages.specs.declared.payload.Payload.{Payload}
 use Rattle.tbnode.specs.Parts.{part}
-use Rattle.register.specs.Fields.{SaysLimits, SaysShape}
+use Rattle.header.specs.Fields.{SaysLimits, SaysShape}
 use Rattle.version1.specs.OldReading.{as_written, SaysOldBody, SaysOldFields}
 use Rattle.version1.specs.OldStore.{old_fields_bytes, HasOldFields}
-use Rattle.register.specs.declared.header_fields.Fields.{Fields}
+use Rattle.header.specs.declared.header_fields.Fields.{Fields}
 use Rattle.version1.specs.declared.old_header.OldFields.{OldFields}
-use Rattle.register.proofs.FieldsLemmas.{cut, joined}
+use Rattle.header.proofs.FieldsLemmas.{cut, joined}
 use Rattle.register.proofs.PrefixLemmas.{numbers_free}
 
 module _ (payload : Payload) (f : Fields) where

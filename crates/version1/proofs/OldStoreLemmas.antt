@@ -11,7 +11,7 @@ use Rattle.tbtree.specs.declared.tree.TbTree.{TbTree}
 use Rattle.register.specs.Building.{tree_of}
 use Rattle.register.specs.Chain.{text_at}
 use Rattle.register.specs.ChainReader.{rest_of, IsBroken, IsReadFault, ReaderView}
-use Rattle.register.specs.Fields.{FitsFields}
+use Rattle.header.specs.Fields.{FitsFields}
 use Rattle.register.specs.Lasting.{IsReadingFault, IsStop, IsTrulyDamaged}
 use Rattle.version1.specs.OldReading.{as_written, IsBringingFault, IsLentFault, SaysOldFields}
 use Rattle.version1.specs.OldStore.{old_payload_fault, present_shape, AnswersOld, HasOldFields, IsKeptOld, IsOldReadingFault}
@@ -22,7 +22,7 @@ use Rattle.register.specs.Text.{catalogue_text, AreFew, IsRead, IsWhole}
 use Rattle.register.specs.declared.contents.Contents.{Contents}
 use Rattle.register.specs.declared.fault.CatalogueFault.{CatalogueFault}
 use Rattle.register.specs.declared.fault.CatalogueFault.TheVariants.{Memory, Store, StoreFull, Damaged, Unfinished, Version, Malformed}
-use Rattle.register.specs.declared.header_fields.Fields.{Fields}
+use Rattle.header.specs.declared.header_fields.Fields.{Fields}
 use Rattle.version1.specs.declared.old_header.OldFields.{OldFields}
 use Rattle.version1.proofs.LentLemmas.{stays_payload}
 use Rattle.version1.proofs.OldHeaderLemmas.{old_fields_same}

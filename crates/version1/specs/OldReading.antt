@@ -5,12 +5,12 @@ use Rattle.legs.specs.Limits.{IsLimits}
 use Rattle.pages.specs.Store.{Store as StoreView, Faulted}
 use Rattle.pages.specs.declared.payload.Payload.{Payload}
 use Rattle.pagecache.specs.Cache.{stored_payload}
-use Rattle.register.specs.Fields.{FitsFields, SaysShape}
+use Rattle.header.specs.Fields.{FitsFields, SaysShape}
 use Rattle.register.specs.Lasting.{ComesFirst, IsDamagedPage}
 use Rattle.version1.specs.OldStore.{old_header_fault, HasOldFields, IsOldShape}
 use Rattle.register.specs.declared.fault.CatalogueFault.{CatalogueFault}
 use Rattle.register.specs.declared.fault.CatalogueFault.TheVariants.{Memory, Store, StoreFull, Damaged, Unfinished, Version, Malformed}
-use Rattle.register.specs.declared.header_fields.Fields.{Fields}
+use Rattle.header.specs.declared.header_fields.Fields.{Fields}
 use Rattle.version1.specs.declared.old_header.OldFields.{OldFields}
 
 -- the store failed where that is said; a page that is said to be damaged is so; a call that only

@@ -1,6 +1,6 @@
 -- A finished store of version 1, as it is read to be brought over. Its page 0 has another version, leaves of up to 63
 -- legs, and no dimension, which was 2; its catalogue is that of the present version.
-use Rattle.std.specs.Prelude.{ℕ, ◌≡◌, ◌≤◌, ◌==◌, ◌⊎◌, ◌&&◌, ◌++◌, nat_lt, min, false, if◌then◌else◌, List, length, Option, Some, None}
+use Rattle.std.specs.Prelude.{ℕ, ◌≡◌, ◌≤◌, ◌⊎◌, ◌++◌, nat_lt, min, false, if◌then◌else◌, List, length, Option, Some, None}
 use Rattle.std.specs.Int.{div_ceil}
 use Rattle.byteorder.specs.Endian.{big_bytes}
 use Rattle.legs.specs.Book.{Book}
@@ -9,21 +9,22 @@ use Rattle.legs.specs.Limits.{IsLimits, LimitsView}
 use Rattle.pages.specs.Store.{Store as StoreView, Faulted}
 use Rattle.pages.specs.declared.payload.Payload.{Payload}
 use Rattle.pagecache.specs.Cache.{stored_payload}
-use Rattle.tbnode.specs.Parts.{number_at, part}
+use Rattle.tbnode.specs.Parts.{part}
 use Rattle.treecheck.specs.Check.{HoldLegs}
 use Rattle.tbtree.specs.declared.tree.Place.{Place}
 use Rattle.tbtree.specs.declared.tree.TbTree.{TbTree}
 use Rattle.version1.specs.OldLegs.{pages_of_old}
 use Rattle.register.specs.Chain.{most_used, text_at}
-use Rattle.register.specs.Fields.{FitsFields}
+use Rattle.header.specs.Fields.{FitsFields}
 use Rattle.catalogue.specs.Holding.{IsOfBook}
-use Rattle.register.specs.Lasting.{is_header, state_fault, IsLawful, IsWithin}
+use Rattle.register.specs.Lasting.{front_fault, IsLawful, IsWithin}
+use Rattle.header.specs.Front.{front_of}
 use Rattle.register.specs.Saved.{dimension_of, fields_for, CatalogueView}
 use Rattle.register.specs.Saving.{contents_of}
 use Rattle.register.specs.Text.{catalogue_text, IsWhole}
 use Rattle.register.specs.declared.fault.CatalogueFault.{CatalogueFault}
 use Rattle.register.specs.declared.fault.CatalogueFault.TheVariants.{Memory, Store, StoreFull, Damaged, Unfinished, Version, Malformed}
-use Rattle.register.specs.declared.header_fields.Fields.{Fields}
+use Rattle.header.specs.declared.header_fields.Fields.{Fields}
 
 -- a leaf has room for 2 to 63 legs, an inner page for 2 to 72 entries
 pub record IsOldShape (shape : ShapeView) : Type 0 where
@@ -51,13 +52,9 @@ old_fields_bytes f =
 pub record HasOldFields (payload : Payload) (f : Fields) : Type 0 where
   pub fields : part 12 44 payload.bytes ≡ old_fields_bytes f
 
--- what is wrong with the header of a store: it begins with the letters MFTB, version 1 and the state
+-- what is wrong with the header of a store, which is to have version 1
 unfoldable pub old_header_fault : Payload → Option CatalogueFault
-old_header_fault payload =
-    if is_header payload.kind && (number_at 4 0 payload.bytes == 1296454722)
-    then (if number_at 4 4 payload.bytes == 1 then state_fault (number_at 4 8 payload.bytes)
-    else Some Version)
-    else Some Malformed
+old_header_fault payload = front_fault 1 (front_of payload)
 
 -- with page 0: a store has one, and it has a payload
 abbrev pub old_payload_fault : Option Payload → Option CatalogueFault

@@ -3,15 +3,16 @@ ghost use Rattle.std.specs.Prelude.{ℕ, Bool, Option, ◌≡◌, ◌≤◌, len
 ghost use Rattle.legs.specs.Costs.{ShapeView};
 ghost use Rattle.pages.specs.Store.{Store};
 ghost use Rattle.pages.specs.declared.payload.Payload.{Payload};
-ghost use Rattle.register.specs.Lasting.{state_fault, IsReadingFault, IsTrulyDamaged};
+ghost use Rattle.register.specs.Lasting.{IsReadingFault, IsTrulyDamaged};
 ghost use Rattle.version1.specs.OldStore.{old_header_fault, IsOldShape};
 ghost use Rattle.version1.specs.OldReading.{IsOldHeaderFault, OldHeaderSays, SaysOldBody, SaysOldShape};
 ghost use Rattle.register.specs.Restoring.{result_of};
 ghost use Rattle.version1.specs.declared.old_header.OldFields.{OldFields};
 
-use pages::{Kind, Payload};
-use register::{CatalogueFault, Fields, MAGIC, limits_in, test_state, u16_of, u32_of, u64_of};
-use tbnode::fields::{part, u32_at};
+use header::{Fields, front_of, limits_in, u16_of, u32_of, u64_of};
+use pages::Payload;
+use register::{CatalogueFault, test_front};
+use tbnode::fields::part;
 use tbtree::Shape;
 
 /// The version of the format before the present one.
@@ -51,19 +52,7 @@ fn test_old_header(payload: &Payload) -> Result<(), CatalogueFault>
     ensures damaged { IfErr result (λ e. (faithful : Bool) (at : ℕ → Option Payload) (count : ℕ)
         → IsTrulyDamaged faithful at count e) }
 {
-    let bytes = &payload.bytes;
-    match payload.kind {
-        Kind::Header => {
-            if u32_at(bytes, 0) != MAGIC {
-                return Err(CatalogueFault::Malformed);
-            }
-            if u32_at(bytes, 4) != OLD_VERSION {
-                return Err(CatalogueFault::Version);
-            }
-            test_state(u32_at(bytes, 8))
-        }
-        _ => Err(CatalogueFault::Malformed),
-    }
+    test_front(OLD_VERSION, front_of(payload))
 }
 
 /// The shape of the present version that comes nearest to one of version 1; none where that is out

@@ -20,10 +20,11 @@ ghost use Rattle.version1.specs.declared.old_header.OldFields.{OldFields};
 
 use crate::lent_store::{fill_lent, read_sealed};
 use crate::old_header::{OldFields, old_header_of};
+use header::Fields;
 use pagecache::PageCache;
 use pages::PageStore;
 use register::{
-    Catalogue, CatalogueFault, ChainReader, Contents, Fields, MOST_USED, catalogue_of, is_within,
+    Catalogue, CatalogueFault, ChainReader, Contents, MOST_USED, catalogue_of, is_within,
 };
 use std::alloc::Global;
 use std::hash::RandomState;

@@ -2,9 +2,10 @@ use Rattle.std.proofs.Common.{ap, subst, sym, ◌∙◌}
 use Rattle.std.specs.Result.{is_ok}
 use Rattle.std.proofs.lemmas.Bool.{true≢false}
 use Rattle.pagecache.specs.Cache.{Rests, IsRefused}
-use Rattle.boxsearch.specs.Index.{IsUnfinished}
+use Rattle.header.specs.Front.{IsUnfinished}
 use Rattle.boxsearch.proofs.PlaceLemmas.{some_same}
-use Rattle.boxsearch.proofs.MarkLemmas.{first_marked, first_rests, rests_marks, marks_trans, flushed_marks, is_marked, others_written, marked_is}
+use Rattle.boxsearch.proofs.MarkLemmas.{first_marked, first_rests, rests_marks, marks_trans, flushed_marks, is_marked, others_written}
+use Rattle.header.proofs.FrontLemmas.{marked_is}
 use Rattle.boxsearch.proofs.ResultLemmas.{on_any, on_ok, on_fault, the_error}
 use Rattle.boxsearch.proofs.marking.mark_page.Goals as goal
 

@@ -2,7 +2,7 @@ use Rattle.register.proofs.WithinLemmas.{pages_more, wanted_same, within_text}
 use Rattle.register.proofs.ReaderLemmas.{if_err_of}
 use Rattle.std.proofs.lemmas.Result.{err_from_is_err_and}
 use Rattle.register.specs.ChainSteps.{lacked, StaysWithin}
-use Rattle.std.proofs.Common.{List, ℕ, ◌-◌, ◌++◌, [], Ok, arith, drop, length, subst, ap, sym, ◌∙◌, ◌+◌, Err}
+use Rattle.std.proofs.Common.{List, ℕ, ◌-◌, ◌++◌, [], Ok, arith, drop, length, subst, ap, sym, ◌∙◌, Err}
 use Rattle.register.specs.Saving.{contents_of, Puts, wanted}
 use Rattle.register.specs.Text.{catalogue_text}
 use Rattle.register.specs.Chain.{pages_for}

@@ -12,7 +12,8 @@ use Rattle.tbtree.specs.declared.tree.TbTree.{TbTree}
 use Rattle.boxsearch.specs.Answers.{answered, of_tree}
 use Rattle.boxsearch.specs.Beside.{with_cache}
 use Rattle.tbtree.specs.Faults.{MayRefuseRead, NamesEach, RefusesRead}
-use Rattle.boxsearch.specs.Index.{IndexView, words, content, IsSound, SaysState}
+use Rattle.boxsearch.specs.Index.{IndexView, words, content, IsSound}
+use Rattle.header.specs.Front.{SaysState}
 use Rattle.boxsearch.proofs.AnswerLemmas.{each_fault, each_value, read_allowed}
 use Rattle.boxsearch.proofs.IndexLemmas.{reads_leave}
 use Rattle.treecheck.specs.Checking.{Agree, AreTracksOf}

@@ -8,7 +8,7 @@ use Rattle.legs.specs.Boxes.{BoxView}
 use Rattle.legs.specs.Legs.{LegView}
 use Rattle.treecheck.specs.Check.{AreChains, IsTreeOver}
 use Rattle.tbtree.specs.Nodes.{Pages, pages_of_cache}
-use Rattle.boxsearch.specs.Index.{SaysState}
+use Rattle.header.specs.Front.{SaysState}
 use Rattle.treecheck.specs.Levels.{StandsOver, pages_of_leaves}
 use Rattle.treecheck.specs.Walking.{IsMet, Surveys}
 use Rattle.treecheck.specs.Ordering.{NameLast}

@@ -5,7 +5,7 @@ use Rattle.register.specs.Chain.{pages_for}
 use Rattle.std.proofs.lemmas.List.{length-drop}
 use Rattle.register.proofs.ReaderLemmas.{if_err_of}
 use Rattle.std.proofs.lemmas.Result.{err_from_is_err_and}
-use Rattle.std.proofs.Common.{◌∙◌, arith, List, ℕ, ap, drop, length, ◌<◌, ◌-◌, ◌+◌}
+use Rattle.std.proofs.Common.{◌∙◌, arith, List, ℕ, ap, drop, length, ◌<◌, ◌+◌}
 use Rattle.tbtree.proofs.PassLemmas.{passes_trans}
 use Rattle.register.proofs.ReuseLemmas.{reuses_then}
 use Rattle.register.proofs.SpareLemmas.{spares_trans}

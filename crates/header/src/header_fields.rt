@@ -1,17 +1,17 @@
 //! What page 0 of a store says beside how it begins.
 ghost use Rattle.std.specs.Prelude.{◌≡◌, length, take, drop, None, IfSome};
-ghost use Rattle.byteorder.specs.Endian.{big_bytes};
 ghost use Rattle.legs.specs.Costs.{ShapeView};
 ghost use Rattle.legs.specs.Limits.{LimitsView, IsLimits};
 ghost use Rattle.tbnode.specs.Parts.{put};
 ghost use Rattle.tbtree.specs.Shape.{IsShape};
-ghost use Rattle.register.specs.Fields.{fields_bytes, FitsFields, HasFields, SaysLimits, SaysShape};
-ghost use Rattle.register.specs.declared.header_fields.Fields.{Fields};
+ghost use Rattle.header.specs.Fields.{fields_bytes, first_of, header_payload, new_fields, root_of, FitsFields, HasFields, SaysLimits, SaysShape};
+ghost use Rattle.header.specs.declared.header_fields.Fields.{Fields};
 
-use crate::numbers::{u32_of, u64_of};
+use crate::fronts::set_unfinished;
+use crate::numbers::{u16_of, u32_of, u64_of};
 use legs::Limits;
-use pages::Payload;
-use tbnode::fields::{part, put_u16, put_u32, put_u64};
+use pages::{Kind, Payload};
+use tbnode::fields::{part, put_u16, put_u32, put_u64, u32_at};
 use tbtree::Shape;
 
 /// The shape and the limits of a database, its tree, and its catalogue.
@@ -49,7 +49,7 @@ fn put_bytes(bytes: &mut [u8], fields: &Fields)
 }
 
 /// Makes page 0 say these, and leaves all else in it as it was.
-pub(crate) fn put_fields(payload: &mut Payload, fields: &Fields)
+pub fn put_fields(payload: &mut Payload, fields: &Fields)
     ensures put { payload.new
         ≡ record payload.old { bytes = put 12 (fields_bytes fields.now) payload.old.bytes } }
     ensures fits { FitsFields fields.now × IsShape fields.now.shape × IsLimits fields.now.limits }
@@ -59,16 +59,6 @@ pub(crate) fn put_fields(payload: &mut Payload, fields: &Fields)
     ensures kind { payload.new.kind ≡ payload.old.kind }
 {
     put_bytes(&mut payload.bytes, fields);
-}
-
-/// The number of two bytes.
-pub fn u16_of(bytes: &[u8]) -> u16
-    requires { length bytes.now ≡ 2 }
-    ensures { big_bytes 2 result ≡ bytes.now }
-{
-    let mut array = [0; 2];
-    array.copy_from_slice(bytes);
-    u16::from_be_bytes(array)
 }
 
 /// The shape that page 0 says; none where it is out of range.
@@ -96,7 +86,7 @@ pub fn limits_in(bytes: &[u8]) -> Option<Limits>
 }
 
 /// What page 0 says; none where the shape or the limits are out of range.
-pub(crate) fn fields_of(payload: &Payload) -> Option<Fields>
+pub fn fields_of(payload: &Payload) -> Option<Fields>
     ensures some { IfSome result (λ fields. HasFields payload.now fields) }
     ensures fits { IfSome result (λ fields. FitsFields fields × IsShape fields.shape
         × IsLimits fields.limits) }
@@ -116,4 +106,44 @@ pub(crate) fn fields_of(payload: &Payload) -> Option<Fields>
         length: u64_of(part(bytes, 48, 8)),
         dimension: u32_of(part(bytes, 56, 4)),
     })
+}
+
+/// The page of the tree's root that a header names; 0 for none.
+pub fn root_of(payload: &Payload) -> u32
+    ensures { result ≡ root_of payload.now }
+{
+    u32_at(&payload.bytes, 32)
+}
+
+/// The first page of the catalogue's text that a header names; 0 for none.
+pub fn first_of(payload: &Payload) -> u32
+    ensures { result ≡ first_of payload.now }
+{
+    u32_at(&payload.bytes, 44)
+}
+
+/// What page 0 of a new store says: this shape and these limits, no tree and no catalogue.
+fn new_fields(shape: Shape, limits: Limits) -> Fields
+    ensures { result ≡ new_fields shape limits }
+{
+    Fields {
+        shape,
+        limits,
+        root: 0,
+        levels: 0,
+        leaves: 0,
+        first: 0,
+        length: 0,
+        dimension: 2,
+    }
+}
+
+/// The payload of page 0 of a new store, which is not finished.
+pub fn new_payload(shape: Shape, limits: Limits) -> Payload
+    ensures { result ≡ header_payload shape limits }
+{
+    let mut payload = Payload::zero(Kind::Header);
+    set_unfinished(&mut payload);
+    put_fields(&mut payload, &new_fields(shape, limits));
+    payload
 }

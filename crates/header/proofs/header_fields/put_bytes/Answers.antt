@@ -1,8 +1,8 @@
 use Rattle.std.proofs.Common.{◌≡◌, ap, ◌∙◌, List, ℕ, length, arith}
 use Rattle.byteorder.specs.Endian.{big_bytes}
 use Rattle.tbnode.specs.Parts.{put}
-use Rattle.register.proofs.FieldsLemmas.{fields_put}
-use Rattle.register.proofs.header_fields.put_bytes.Goals as goal
+use Rattle.header.proofs.FieldsLemmas.{fields_put}
+use Rattle.header.proofs.header_fields.put_bytes.Goals as goal
 
 -- a number is written at its place
 at : (p n x y : ℕ) (bytes new : List ℕ) → x ≡ y → new ≡ put p (big_bytes n x) bytes → new ≡ put p (big_bytes n y) bytes

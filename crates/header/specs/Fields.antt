@@ -1,11 +1,14 @@
 -- What the header of a store says behind its first 12 bytes.
-use Rattle.std.specs.Prelude.{ℕ, ◌≡◌, ◌<◌, ◌^◌, ◌++◌, List}
+use Rattle.std.specs.Prelude.{ℕ, ◌≡◌, ◌<◌, ◌^◌, ◌++◌, List, drop}
 use Rattle.byteorder.specs.Endian.{big_bytes}
 use Rattle.legs.specs.Costs.{ShapeView}
 use Rattle.legs.specs.Limits.{LimitsView}
+use Rattle.pages.specs.Zero.{zero_payload}
+use Rattle.pages.specs.declared.payload.Kind.TheVariants.{Header}
 use Rattle.pages.specs.declared.payload.Payload.{Payload}
-use Rattle.tbnode.specs.Parts.{part, put}
-use Rattle.register.specs.declared.header_fields.Fields.{Fields}
+use Rattle.tbnode.specs.Parts.{number_at, part}
+use Rattle.header.specs.Front.{front_bytes, unfinished_front}
+use Rattle.header.specs.declared.header_fields.Fields.{Fields}
 
 -- the shape and the limits; the root of the tree, its levels and its leaves, four bytes each; the
 -- first page of the catalogue, in four, and the length of its text, in eight; and the dimension
@@ -40,6 +43,35 @@ pub record SaysLimits (bytes : List ℕ) (limits : LimitsView) : Type 0 where
   pub legs : part 16 8 bytes ≡ big_bytes 8 limits.legs
   pub features : part 24 8 bytes ≡ big_bytes 8 limits.features
 
--- page 0 with another state, in the four bytes behind the version
-abbrev pub with_state : ℕ → Payload → Payload
-with_state state payload = record payload { bytes = put 8 (big_bytes 4 state) payload.bytes }
+-- the page of the tree's root that a header names, and the first page of the catalogue's text, as numbers
+abbrev pub root_of : Payload → ℕ
+root_of payload = number_at 4 32 payload.bytes
+
+abbrev pub first_of : Payload → ℕ
+first_of payload = number_at 4 44 payload.bytes
+
+-- a new store says its shape and its limits, no tree and no catalogue, and dimension 2
+abbrev pub new_fields : ShapeView → LimitsView → Fields
+new_fields shape limits = record {
+  shape = shape;
+  limits = limits;
+  root = 0;
+  levels = 0;
+  leaves = 0;
+  first = 0;
+  length = 0;
+  dimension = 2;
+}
+
+-- its header: it is not finished, and says these
+unfoldable pub header_bytes : ShapeView → LimitsView → List ℕ
+header_bytes shape limits =
+    front_bytes unfinished_front ++ fields_bytes (new_fields shape limits)
+
+-- behind them page 0 is zero
+unfoldable pub header_payload : ShapeView → LimitsView → Payload
+header_payload shape limits =
+    record {
+      kind = Header;
+      bytes = header_bytes shape limits ++ drop 60 (zero_payload Header).bytes;
+    }

@@ -1,6 +1,6 @@
 use Rattle.std.proofs.Common.{◌≡◌, length, refl, sym, ◌∙◌, rules}
-use Rattle.register.proofs.FieldsLemmas.{fields_are, says}
-use Rattle.register.proofs.header_fields.fields_of.Goals as goal
+use Rattle.header.proofs.FieldsLemmas.{fields_are, says}
+use Rattle.header.proofs.header_fields.fields_of.Goals as goal
 
 pub returns-in_err-shape-clause-none : goal.returns-in_err-shape-clause-none
 returns-in_err-shape-clause-none c = λ e f shape limits fits has.

@@ -1,14 +1,26 @@
--- What the header of a store says behind its first 12 bytes, field by field.
-use Rattle.std.proofs.Common.{ℕ, ◌≡◌, ◌+◌, ◌≤◌, List, ◌++◌, take, drop, length, refl, sym, ap, ◌∙◌, arith}
-use Rattle.std.proofs.Math.Seq.{take-add}
-use Rattle.std.proofs.lemmas.List.{append_assoc, drop-drop, length-append, length-drop, length-take-le, take_at}
-use Rattle.byteorder.specs.Endian.{big_bytes}
+-- What page 0 of a store says behind its first 12 bytes, field by field.
+use Rattle.std.proofs.Common.{ℕ, ◌≡◌, ◌+◌, ◌<◌, ◌≤◌, ◌^◌, List, [], ◌++◌, take, drop, length, refl, sym, ap, ◌∙◌, arith}
+use Rattle.std.proofs.Math.Seq.{take-add, take-append_seam}
+use Rattle.std.proofs.lemmas.Int.{clamps}
+use Rattle.std.proofs.lemmas.List.{append-nil, append_assoc, append_cancel_left, drop-drop, length-append, length-drop, length-take, length-take-le, take_at}
+use Rattle.byteorder.specs.Endian.{big_bytes, big_number}
+use Rattle.byteorder.specs.Numbers.{big_number-reads_back}
+use Rattle.legs.specs.Costs.{ShapeView}
+use Rattle.legs.specs.Limits.{LimitsView}
+use Rattle.pages.specs.Zero.{zero_payload}
+use Rattle.pages.specs.declared.payload.Kind.TheVariants.{Header}
 use Rattle.pages.specs.declared.payload.Payload.{Payload}
-use Rattle.tbnode.specs.Parts.{part, put}
-use Rattle.tbnode.proofs.PartLemmas.{drop-put, part-put_same}
-use Rattle.register.specs.Fields.{fields_bytes, HasFields, SaysLimits, SaysShape}
-use Rattle.register.specs.declared.header_fields.Fields.{Fields}
-use Rattle.register.proofs.ValueLemmas.{same_front}
+use Rattle.tbnode.specs.Parts.{number_at, part, put}
+use Rattle.tbnode.proofs.PartLemmas.{drop-put, length-big_bytes, part-put_after, part-put_same}
+use Rattle.header.specs.Fields.{fields_bytes, first_of, header_bytes, header_payload, new_fields, HasFields, SaysLimits, SaysShape}
+use Rattle.header.specs.Front.{front_bytes, marked, unfinished_front, with_state, IsUnfinished}
+use Rattle.header.specs.declared.header_fields.Fields.{Fields}
+
+-- two texts that are equal in front of something, where they are of one length
+pub same_front : (a b s t : List ℕ) → length a ≡ length b → a ++ s ≡ b ++ t → (a ≡ b) × (s ≡ t)
+same_front a b s t l e =
+    let front : a ≡ b = sym (take-append_seam a s) ∙ ap (take (length a)) e ∙ ap (λ n. take n (b ++ t)) l ∙ take-append_seam b t in
+    (front, append_cancel_left b s t (ap (λ a. a ++ s) (sym front) ∙ e))
 
 -- what is written right behind something is written with it
 module _ (p q : ℕ) (a b bytes : List ℕ) (next : q ≡ p + length a) (room : p ≤ length bytes) where
@@ -113,3 +125,53 @@ put_has payload f bytes len e = record {
 -- what stands behind them stays
 pub rest_stays : (f : Fields) (bytes : List ℕ) → length bytes ≡ 4056 → drop 60 (put 12 (fields_bytes f) bytes) ≡ drop 60 bytes
 rest_stays f bytes len = let n = fields_length f in drop-put 12 (fields_bytes f) bytes 60 (omega (arith, n)) (omega (arith, len))
+
+-- the header of a new store, written
+pub new_is : (shape : ShapeView) (limits : LimitsView) (zero set put_payload : Payload) (f : Fields) → zero ≡ zero_payload Header → set ≡ marked zero → f ≡ new_fields shape limits → put_payload ≡ record set { bytes = put 12 (fields_bytes f) set.bytes } → put_payload ≡ header_payload shape limits
+unfolding header_payload header_bytes zero_payload put front_bytes fields_bytes
+new_is shape limits zero set put_payload f is_zero is_set is_f is_put =
+    is_put
+    ∙ (λ i. record { kind = (is_set i).kind; bytes = put 12 (fields_bytes (is_f i)) (is_set i).bytes })
+    ∙ (λ i. record { kind = Header; bytes = put 12 (fields_bytes (new_fields shape limits)) (front_bytes unfinished_front ++ drop 12 (is_zero i).bytes) })
+    ∙ ap (λ (bytes : List ℕ). record { kind = Header; bytes = bytes }) (put_put 0 12 (front_bytes unfinished_front) (fields_bytes (new_fields shape limits)) (zero_payload Header).bytes refl (omega arith))
+
+-- the first page that page 0 names is that of the fields that it says
+room : (payload : Payload) (f : Fields) → HasFields payload f → 60 ≤ length payload.bytes
+unfolding part
+room payload f has =
+    let l = length-take 48 (drop 12 payload.bytes) in
+    let d = length-drop 12 payload.bytes in
+    let k = ap (λ (x : List ℕ). length x) has.fields ∙ fields_length f in
+    omega (arith, clamps, l, d, k)
+
+named_part : (payload : Payload) (f : Fields) → HasFields payload f → part 44 4 payload.bytes ≡ big_bytes 4 f.first
+unfolding fields_bytes
+named_part payload f has =
+    let b = payload.bytes in
+    let long = room payload f has in
+    let leaf = cut b 12 2 46 (big_bytes 2 f.shape.leaf) _ (omega (arith, long)) refl has.fields in
+    let inner = cut b 14 2 44 (big_bytes 2 f.shape.inner) _ (omega (arith, long)) refl leaf.1 in
+    let legs = cut b 16 8 36 (big_bytes 8 f.limits.legs) _ (omega (arith, long)) refl inner.1 in
+    let features = cut b 24 8 28 (big_bytes 8 f.limits.features) _ (omega (arith, long)) refl legs.1 in
+    let root = cut b 32 4 24 (big_bytes 4 f.root) _ (omega (arith, long)) refl features.1 in
+    let levels = cut b 36 4 20 (big_bytes 4 f.levels) _ (omega (arith, long)) refl root.1 in
+    let leaves = cut b 40 4 16 (big_bytes 4 f.leaves) _ (omega (arith, long)) refl levels.1 in
+    (cut b 44 4 12 (big_bytes 4 f.first) _ (omega (arith, long)) refl leaves.1).0
+
+pub first_named : (payload : Payload) (f : Fields) → HasFields payload f → f.first < 2 ^ 32 → first_of payload ≡ f.first
+unfolding number_at
+first_named payload f has small =
+    ap (big_number 4) (named_part payload f has ∙ sym (append-nil (big_bytes 4 f.first))) ∙ big_number-reads_back 4 f.first [] (omega (arith, small))
+
+-- another state leaves what stands behind it
+pub stated_fields : (p : Payload) (state : ℕ) (f : Fields) → HasFields p f → HasFields (with_state state p) f
+stated_fields p state f has =
+    let long = room p f has in
+    record {
+      fields = part-put_after 8 (big_bytes 4 state) p.bytes 12 48 (let l = length-big_bytes 4 state in omega (arith, l)) (omega (arith, long)) ∙ has.fields;
+    }
+
+-- the header of a new store is one of a store that is not finished
+pub new_unfinished : (shape : ShapeView) (limits : LimitsView) → IsUnfinished (header_payload shape limits)
+unfolding header_payload header_bytes front_bytes
+new_unfinished shape limits = record { kind = refl; front = refl }

@@ -1,7 +1,7 @@
 use Rattle.std.proofs.Common.{◌≡◌, length, take, drop, ap, ◌∙◌, arith, rules}
-use Rattle.register.specs.Fields.{fields_bytes}
-use Rattle.register.proofs.FieldsLemmas.{put_has, rest_stays, take-put}
-use Rattle.register.proofs.header_fields.put_fields.Goals as goal
+use Rattle.header.specs.Fields.{fields_bytes}
+use Rattle.header.proofs.FieldsLemmas.{put_has, rest_stays, take-put}
+use Rattle.header.proofs.header_fields.put_fields.Goals as goal
 
 pub returns-clause-has : goal.returns-clause-has
 returns-clause-has c =
