@@ -225,56 +225,66 @@ fn entries_in_another_order_are_told(rt: HostRuntime) -> Result<(), Fail> {
     Ok(())
 }
 
-/// How a check went over a store that fails once.
+/// How a check went over a store that fails, once or for good.
 #[derive(Clone, Copy, PartialEq, Eq, Debug)]
 enum Checked {
     /// There is no database to check.
     Nothing,
     /// It found the example.
     Passed,
-    /// The store failed, and it found the example when it was asked again.
+    /// The store failed, and, asked again, it found the example, or the store had failed for good.
     Again,
     /// Neither.
     Wrong,
 }
 
 /// Checks a database of the example with so many pages.
-fn check_twice<S: PageStore>(db: &mut Db<S>, pages: u32) -> Checked {
+fn check_twice<S: PageStore>(db: &mut Db<S>, pages: u32, once: bool) -> Checked {
     let report = db.check();
     if report == found(pages, 5, 3) {
         return Checked::Passed;
     }
-    if report == Err(RunFault::Store) && db.check() == found(pages, 5, 3) {
+    let again = if once {
+        found(pages, 5, 3)
+    } else {
+        Err(RunFault::Store)
+    };
+    if report == Err(RunFault::Store) && db.check() == again {
         Checked::Again
     } else {
         Checked::Wrong
     }
 }
 
-/// Checks the example over a store that fails once, when so many calls have passed: as it is loaded, or as it is closed
-/// and opened.
-fn checked_over(alloc: Global, keys: RandomState, calls: u64, is_loaded: bool) -> Checked {
+/// Checks the example over a store that fails when so many calls have passed: as it is loaded, or as it is closed and
+/// opened.
+fn checked_over(
+    alloc: Global,
+    keys: RandomState,
+    calls: u64,
+    (is_loaded, once): (bool, bool),
+) -> Checked {
     if is_loaded {
-        let fuse = Fuse::new(MemStore::new(alloc, 100), calls, true);
+        let fuse = Fuse::new(MemStore::new(alloc, 100), calls, once);
         return match loaded(alloc, keys, fuse) {
-            Ok(mut db) => check_twice(&mut db, 5),
+            Ok(mut db) => check_twice(&mut db, 5, once),
             Err(_) => Checked::Nothing,
         };
     }
     let Ok((store, _)) = closed(alloc, keys, 100) else {
         return Checked::Wrong;
     };
-    match opened(alloc, keys, Fuse::new(store, calls, true), 1) {
-        Ok(mut db) => check_twice(&mut db, 6),
+    match opened(alloc, keys, Fuse::new(store, calls, once), 1) {
+        Ok(mut db) => check_twice(&mut db, 6, once),
         Err(_) => Checked::Nothing,
     }
 }
 
 /// How often of 60 calls a check is asked again, and how often it passes at once; `None` where one goes wrong.
-fn count(alloc: Global, keys: RandomState, is_loaded: bool) -> Option<(u32, u32)> {
+fn count(alloc: Global, keys: RandomState, how: (bool, bool)) -> Option<(u32, u32)> {
     let (mut again, mut passed) = (0u32, 0u32);
     for calls in 0..60 {
-        match checked_over(alloc, keys, calls, is_loaded) {
+        match checked_over(alloc, keys, calls, how) {
             Checked::Nothing => {}
             Checked::Passed => passed = passed.saturating_add(1),
             Checked::Again => again = again.saturating_add(1),
@@ -287,12 +297,14 @@ fn count(alloc: Global, keys: RandomState, is_loaded: bool) -> Option<(u32, u32)
 #[test]
 fn a_check_of_a_store_that_fails_is_asked_again(rt: HostRuntime) -> Result<(), Fail> {
     let (alloc, keys) = (rt.alloc(), RandomState::new(&rt)?);
-    // The three leaves are as they were added; the root, which has had its third entry since, is
-    // written, and all is made to last.
-    let (again, passed) = count(alloc, keys, true).ok_or("a wrong check")?;
-    assert!(rt; again == 2 && passed > 0, "{again} again, {passed} passed");
-    // The six pages are read for their seals, then page 0, the three leaves and the root.
-    let (again, passed) = count(alloc, keys, false).ok_or("a wrong check")?;
-    assert!(rt; again > 10 && passed > 0, "{again} again, {passed} passed");
+    for once in [true, false] {
+        // The three leaves are as they were added; the root, which has had its third entry since, is
+        // written, and all is made to last.
+        let (again, passed) = count(alloc, keys, (true, once)).ok_or("a wrong check")?;
+        assert!(rt; again == 2 && passed > 0, "{again} again, {passed} passed");
+        // The six pages are read for their seals, then page 0, the three leaves and the root.
+        let (again, passed) = count(alloc, keys, (false, once)).ok_or("a wrong check")?;
+        assert!(rt; again > 10 && passed > 0, "{again} again, {passed} passed");
+    }
     Ok(())
 }

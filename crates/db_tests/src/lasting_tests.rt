@@ -310,10 +310,10 @@ fn failed_at_closing(
     }
 }
 
-/// Opens and closes over a store that fails once, when so many calls have passed: whether it failed.
-fn fused(alloc: Global, keys: RandomState, calls: u64) -> Result<bool, RunFault> {
+/// Opens and closes over a store that fails once, or for good, when so many calls have passed: whether it failed.
+fn fused(alloc: Global, keys: RandomState, calls: u64, once: bool) -> Result<bool, RunFault> {
     let (store, _) = closed(alloc, keys, 100)?;
-    let mut db = match Db::open(alloc, keys, Fuse::new(store, calls, true), 1) {
+    let mut db = match Db::open(alloc, keys, Fuse::new(store, calls, once), 1) {
         Ok(db) => db,
         // The store is handed back, and is opened then.
         Err((fuse, OpenFault::Store)) => {
@@ -332,10 +332,15 @@ fn fused(alloc: Global, keys: RandomState, calls: u64) -> Result<bool, RunFault>
     failed_at_closing(alloc, keys, (fuse.into_inner(), answer))
 }
 
-/// Makes a database of the example and closes it over a store that fails once, when so many calls
-/// have passed: whether it failed. Where it failed before the closing, its store is not looked at.
-fn fused_example(alloc: Global, keys: RandomState, calls: u64) -> Result<bool, RunFault> {
-    let store = Fuse::new(MemStore::new(alloc, 100), calls, true);
+/// Makes a database of the example and closes it over a store that fails once, or for good, when so many calls have
+/// passed: whether it failed. Where it failed before the closing, its store is not looked at.
+fn fused_example(
+    alloc: Global,
+    keys: RandomState,
+    calls: u64,
+    once: bool,
+) -> Result<bool, RunFault> {
+    let store = Fuse::new(MemStore::new(alloc, 100), calls, once);
     let db = match loaded(alloc, keys, store) {
         Ok(db) => db,
         Err(RunFault::Store) => return Ok(true),
@@ -345,25 +350,32 @@ fn fused_example(alloc: Global, keys: RandomState, calls: u64) -> Result<bool, R
     failed_at_closing(alloc, keys, (fuse.into_inner(), answer))
 }
 
-#[test]
-fn a_store_that_fails_is_said_to(rt: HostRuntime) -> Result<(), Fail> {
-    let (alloc, keys) = (rt.alloc(), RandomState::new(&rt)?);
+/// The last of 40 calls at which a store that is opened, and the example's, is said to have failed.
+fn last_failed(alloc: Global, keys: RandomState, once: bool) -> Result<(u64, u64), RunFault> {
     let (mut last, mut last_of_example) = (0, 0);
     for calls in 0..40 {
-        if fused(alloc, keys, calls).ok().ok_or("another answer")? {
+        if fused(alloc, keys, calls, once)? {
             last = calls;
         }
-        if fused_example(alloc, keys, calls)
-            .ok()
-            .ok_or("another answer of the example")?
-        {
+        if fused_example(alloc, keys, calls, once)? {
             last_of_example = calls;
         }
     }
-    // Opening, a load and closing make so many calls at least, and not so many; so do making and
-    // closing.
-    assert!(rt; 5 < last && last < 39);
-    assert!(rt; 5 < last_of_example && last_of_example < 39);
+    Ok((last, last_of_example))
+}
+
+#[test]
+fn a_store_that_fails_is_said_to(rt: HostRuntime) -> Result<(), Fail> {
+    let (alloc, keys) = (rt.alloc(), RandomState::new(&rt)?);
+    for once in [true, false] {
+        let (last, last_of_example) = last_failed(alloc, keys, once).ok().ok_or("another answer")?;
+        // Opening, a load and closing make so many calls at least, and not so many; so do making and closing.
+        assert!(rt; 5 < last && last < 39, "{last}");
+        assert!(rt;
+            5 < last_of_example && last_of_example < 39,
+            "{last_of_example}"
+        );
+    }
     Ok(())
 }
 

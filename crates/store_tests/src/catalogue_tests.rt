@@ -1,6 +1,6 @@
 //! The pages of a store beside those of its tree: page 0, and a saved catalogue, byte by byte.
 use boxsearch::TreeIndex;
-use catalogue::{Catalogue, CatalogueFault, begin, save};
+use catalogue::{Catalogue, CatalogueFault, begin, close, restore, save};
 use legs::{BookHead, LegIndex, Limits, Tracks, join};
 use mfcsv::read_file;
 use pagecache::{CacheFault, PageCache};
@@ -102,6 +102,47 @@ fn the_example_is_saved(rt: HostRuntime) -> Result<(), Fail> {
     let keys = RandomState::new(&rt)?;
     assert!(rt; saved(rt.alloc(), keys, 6) == Some(Ok((true, true, 6))));
     assert!(rt; saved(rt.alloc(), keys, 5) == Some(Err(CatalogueFault::StoreFull)));
+    Ok(())
+}
+
+/// The example's store as it was closed.
+fn closed(alloc: Global, keys: RandomState) -> Option<MemStore> {
+    let (catalogue, index) = example(alloc, keys, 6)?;
+    let (store, answer) = close(alloc, &catalogue, index);
+    match answer {
+        Ok(()) => Some(store),
+        Err(_) => None,
+    }
+}
+
+/// The limits of a catalogue, how many features, legs and rows it has, and whether its second feature is `b`.
+fn numbers_of(catalogue: &Catalogue) -> ([u64; 5], bool) {
+    let numbers = [
+        catalogue.limits.legs(),
+        u64::from(catalogue.limits.features()),
+        catalogue.tracks.feature_count(),
+        catalogue.tracks.leg_count(),
+        catalogue.rows.len() as u64,
+    ];
+    (numbers, catalogue.tracks.name(1) == Some("b"))
+}
+
+/// The same of what is restored of the example, and how many legs of its first feature the index has.
+fn restored(alloc: Global, keys: RandomState) -> Option<(([u64; 5], bool), usize)> {
+    let cache = PageCache::new(alloc, closed(alloc, keys)?, 4).ok()?;
+    let (catalogue, mut index) = restore(alloc, keys, cache).ok()?;
+    let legs = match index.track(0) {
+        Ok(legs) => legs.len(),
+        Err(_) => 0,
+    };
+    Some((numbers_of(&catalogue), legs))
+}
+
+#[test]
+fn the_example_is_restored(rt: HostRuntime) -> Result<(), Fail> {
+    let keys = RandomState::new(&rt)?;
+    let numbers = [1 << 24, 1 << 20, 3, 5, 4];
+    assert!(rt; restored(rt.alloc(), keys) == Some(((numbers, true), 2)));
     Ok(())
 }
 

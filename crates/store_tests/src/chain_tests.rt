@@ -3,8 +3,8 @@ use crate::samples::leg;
 use crate::trees::{Sample, grown};
 use chains::{ChainFault, trajectory, trajectory_in};
 use legs::Sieve;
-use pagecache::CacheFault;
-use pages::Payload;
+use pagecache::{CacheFault, PageCache};
+use pages::{Fuse, Kind, MemStore, PageStore, Payload, seal};
 use std::alloc::Global;
 use tbnode::{init_leaf, leaf, push_leg, set_next};
 use tbtree::Shape;
@@ -88,15 +88,28 @@ fn forge(payload: &mut Payload, forged: &Forged) -> Option<()> {
     Some(())
 }
 
+/// The pages below a cache, with that leaf, under its own seal, in place of one of them.
+fn written(
+    alloc: Global,
+    mut cache: PageCache<Fuse<MemStore>>,
+    forged: &Forged,
+) -> Option<PageCache<Fuse<MemStore>>> {
+    cache.flush().ok()?;
+    let mut store = cache.into_store();
+    if forged.page >= store.len() {
+        return None;
+    }
+    let mut payload = Payload::zero(Kind::Leaf);
+    forge(&mut payload, forged)?;
+    store.write(forged.page, &seal(forged.page, &payload)).ok()?;
+    PageCache::new(alloc, store, 2).ok()
+}
+
 /// What is answered where one page of that many legs is forged: how many legs there are, or why there are none. That
 /// is to be the same for all legs and for those of a period that has all.
 fn told(alloc: Global, legs: u32, forged: &Forged) -> Option<Result<usize, ChainFault>> {
-    let Sample {
-        mut cache,
-        place,
-        ..
-    } = grown(alloc, 2, legs, u64::MAX)?;
-    forge(cache.page_mut(forged.page).ok()?, forged)?;
+    let Sample { cache, place, .. } = grown(alloc, 2, legs, u64::MAX)?;
+    let mut cache = written(alloc, cache, forged)?;
     let shape = Shape::new(2, 2)?;
     let period = Period::new(Ms::new(0)?, Ms::new(9000)?)?;
     let (mut none, mut other) = (Vec::new(alloc), Vec::new(alloc));
@@ -129,9 +142,10 @@ fn leaf_over(page: u32, [previous, next]: [u32; 2], [feature, first, legs]: [u32
 /// How many legs there are, which leaf is forged over which page, and the page that is named. Of five legs the leaves
 /// are the pages 1, 2 and 4, of four legs the pages 1 and 2; page 3 is the root over the first two, and of four legs
 /// there is no page 4.
-const LIES: [(u32, u32, [u32; 2], [u32; 3], u32); 7] = [
-    // A leaf that is its own next one.
+const LIES: [(u32, u32, [u32; 2], [u32; 3], u32); 8] = [
+    // A leaf that is its own next one, alone, and where a leg is to come.
     (2, 1, [0, 1], [0, 0, 2], 1),
+    (3, 1, [0, 1], [0, 0, 2], 1),
     // A leaf of another feature than the leaf after it, and one with another count.
     (5, 2, [1, 4], [1, 2, 2], 2),
     (5, 2, [1, 4], [0, 2, 1], 2),

@@ -19,6 +19,8 @@ mod old_leaf_tests;
 #[cfg(test)]
 mod old_legs_tests;
 #[cfg(test)]
+mod random_tests;
+#[cfg(test)]
 mod samples;
 #[cfg(test)]
 mod search_tests;

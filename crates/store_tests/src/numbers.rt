@@ -1,6 +1,6 @@
 //! Legs drawn by chance, the same ones in each run.
 use fixedpoint::Coord;
-use legs::Leg;
+use legs::{Box3, Leg};
 use mfcsv::Position;
 use rand_core::utils::NextWord;
 use rand_pcg::Pcg32;
@@ -9,13 +9,13 @@ use timebase::Ms;
 
 /// Numbers without a pattern.
 #[derive(Drop)]
-struct Numbers {
+pub(crate) struct Numbers {
     words: Pcg32,
 }
 
 impl Numbers {
     /// Those of a stream.
-    fn new(stream: u64) -> Numbers {
+    pub(crate) fn new(stream: u64) -> Numbers {
         Numbers {
             words: Pcg32::new(42, stream),
         }
@@ -51,6 +51,36 @@ impl Numbers {
             to,
             ordinal,
         )
+    }
+
+    /// The box of one of some legs, or that of its last corner.
+    fn box_of(&mut self, legs: &[Leg]) -> Option<Box3> {
+        let end = u32::try_from(legs.len()).ok()?;
+        let bounds = Box3::of(legs.get(self.below(end) as usize)?);
+        if self.below(2) == 0 {
+            return Some(bounds);
+        }
+        Some(Box3 {
+            x_min: bounds.x_max,
+            y_min: bounds.y_max,
+            t_min: bounds.t_max,
+            x_max: bounds.x_max,
+            y_max: bounds.y_max,
+            t_max: bounds.t_max,
+        })
+    }
+
+    /// Such a box, what holds two of them, or the box of a leg that is drawn for it.
+    pub(crate) fn query(&mut self, legs: &[Leg]) -> Option<Box3> {
+        let one = self.box_of(legs)?;
+        match self.below(3) {
+            0 => Some(one),
+            1 => Some(one.cover(&self.box_of(legs)?)),
+            _ => {
+                let ordinal = self.below(100);
+                Some(Box3::of(&self.leg(ordinal, 0)?))
+            }
+        }
     }
 }
 

@@ -4,7 +4,7 @@ use fixedpoint::Coord;
 use legs::Leg;
 use mfcsv::Position;
 use pagecache::PageCache;
-use pages::{Fuse, Kind, MemStore};
+use pages::{Fuse, Kind, MemStore, PageStore};
 use std::alloc::Global;
 use tbtree::Shape;
 use timebase::Ms;
@@ -18,7 +18,17 @@ pub(crate) fn empty(
     once: bool,
 ) -> Option<TreeIndex<Fuse<MemStore>>> {
     let store = Fuse::new(MemStore::new(alloc, 30_000), calls, once);
-    let Ok(mut cache) = PageCache::new(alloc, store, 2) else {
+    over(alloc, store, shape, 2)
+}
+
+/// An index without legs over a store without pages, behind a page 0, through a cache of so many pages, one at least.
+pub(crate) fn over<S: PageStore + Drop>(
+    alloc: Global,
+    store: S,
+    shape: Shape,
+    pages: usize,
+) -> Option<TreeIndex<S>> {
+    let Ok(mut cache) = PageCache::new(alloc, store, pages.max(1)) else {
         return None;
     };
     cache.add_page(Kind::Header).ok()?;

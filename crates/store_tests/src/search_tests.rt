@@ -1,10 +1,14 @@
-//! A search of a tree: the pages that it asks for, and pages that lie.
-use crate::trees::grown;
+//! A search of a tree: the pages that it asks for, pages that lie, and what is found where memory runs out.
+use crate::trees::{Sample, grow, grown};
 use boxsearch::{SearchFault, search};
-use legs::Box3;
+use chains::{trajectory, trajectory_in};
+use legs::{Box3, Sieve};
 use pagecache::CacheFault;
 use std::alloc::Global;
+use std::test::Fail;
 use tbnode::{Entry, init_inner};
+use tbtree::{Shape, TreeFault};
+use timebase::{Ms, Period};
 
 /// A box from 45 to 50 on the x axis, at all times.
 fn half_a_leg() -> Box3 {
@@ -87,4 +91,50 @@ fn a_store_that_failed_is_said_to_have_failed(rt: HostRuntime) {
         }
     }
     assert!(rt; refused, "no call failed");
+}
+
+/// How many of five legs are found in the box, how many the feature has, and how many are live in a period.
+fn counts(alloc: Global, shape: &Shape, period: &Period) -> Result<[usize; 3], TreeFault> {
+    let Sample {
+        mut cache,
+        tree,
+        place,
+    } = grow(alloc, 1, 5, u64::MAX)?;
+    let (mut none, mut other) = (Vec::new(alloc), Vec::new(alloc));
+    let found = search(alloc, &mut cache, &tree, &half_a_leg())?.len();
+    let all = trajectory(alloc, &mut cache, shape, &place, &mut none)?.len();
+    let live = trajectory_in(
+        alloc,
+        &mut cache,
+        shape,
+        &place,
+        period,
+        &Sieve::All,
+        &mut other,
+    )?
+    .len();
+    Ok([found, all, live])
+}
+
+/// Passes wherever memory runs out, too; it is run with each allocation refused in turn.
+#[test]
+fn no_wrong_legs_without_memory(rt: HostRuntime) -> Result<(), Fail> {
+    let (start, end) = (
+        Ms::new(4500).ok_or("a moment")?,
+        Ms::new(5000).ok_or("a moment")?,
+    );
+    // The last half second of the last leg.
+    let last = Period::new(start, end).ok_or("a period")?;
+    let shape = Shape::new(2, 2).ok_or("a shape")?;
+    // A store in memory fails where it finds no room for a page.
+    assert!(rt;
+        match counts(rt.alloc(), &shape, &last) {
+            Ok(counts) => counts == [1, 5, 1],
+            Err(fault) => {
+                fault == TreeFault::Cache(CacheFault::Memory)
+                    || fault == TreeFault::Cache(CacheFault::Store)
+            }
+        }
+    );
+    Ok(())
 }

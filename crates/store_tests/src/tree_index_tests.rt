@@ -74,3 +74,19 @@ fn a_leaf_is_asked_for_once_for_the_legs_that_go_on_it(rt: HostRuntime) {
     // added with both: four more.
     assert_eq!(rt; asked_by_file(rt.alloc()), Some(5));
 }
+
+/// Whether an index over a store that fails each call from that one on is marked, and, if it is, whether it is again.
+fn marked_twice(alloc: Global, calls: u64) -> Option<[bool; 2]> {
+    let mut index = empty(alloc, Shape::new(2, 2)?, calls, false)?;
+    let first = index.mark().is_ok();
+    Some([first, first && index.mark().is_ok()])
+}
+
+#[test]
+fn a_marked_store_is_not_written_again(rt: HostRuntime) {
+    // Page 0 is added, then written and synced with its mark; no call passes after that.
+    for (calls, marked) in [(1, false), (2, false), (3, true)] {
+        let told = marked_twice(rt.alloc(), calls);
+        assert!(rt; told == Some([marked, marked]), "at {calls}: {told:?}");
+    }
+}

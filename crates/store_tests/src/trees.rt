@@ -1,10 +1,10 @@
 //! A tree of legs of one feature.
 use crate::samples::point;
 use legs::Leg;
-use pagecache::PageCache;
+use pagecache::{CacheFault, PageCache};
 use pages::{Fuse, Kind, MemStore};
 use std::alloc::Global;
-use tbtree::{Place, Shape, TbTree, insert};
+use tbtree::{Place, Shape, TbTree, TreeFault, insert};
 use timebase::Ms;
 
 /// A leg of a second of feature 0, ten units long on the x axis, behind those of lower ordinals.
@@ -26,16 +26,27 @@ pub(crate) struct Sample {
 
 /// That many legs inserted, two a leaf and two entries an inner page, through a cache of that many pages, one at
 /// least. The store fails the call of that number for good.
-pub(crate) fn grown(alloc: Global, pages: usize, legs: u32, calls: u64) -> Option<Sample> {
+pub(crate) fn grow(
+    alloc: Global,
+    pages: usize,
+    legs: u32,
+    calls: u64,
+) -> Result<Sample, TreeFault> {
     let store = Fuse::new(MemStore::new(alloc, 100), calls, false);
     let Ok(mut cache) = PageCache::new(alloc, store, pages.max(1)) else {
-        return None;
+        return Err(TreeFault::Cache(CacheFault::Memory));
     };
-    cache.add_page(Kind::Header).ok()?;
-    let mut tree = TbTree::new(Shape::new(2, 2)?);
+    cache.add_page(Kind::Header)?;
+    let mut tree = TbTree::new(Shape::new(2, 2).ok_or(TreeFault::Spent)?);
     let mut place = Place::new();
     for ordinal in 0..legs {
-        insert(&mut tree, &mut cache, &mut place, long_leg(ordinal)?).ok()?;
+        let leg = long_leg(ordinal).ok_or(TreeFault::Spent)?;
+        insert(&mut tree, &mut cache, &mut place, leg)?;
     }
-    Some(Sample { cache, tree, place })
+    Ok(Sample { cache, tree, place })
+}
+
+/// The same; `None` where it is refused.
+pub(crate) fn grown(alloc: Global, pages: usize, legs: u32, calls: u64) -> Option<Sample> {
+    grow(alloc, pages, legs, calls).ok()
 }
