@@ -83,7 +83,7 @@ fn legs_in<S: PageStore>(
     Ok(found)
 }
 
-/// HasAdded pages from the number of those that may still be asked for.
+/// Takes pages from the number of those that may still be asked for.
 fn spend(left: &mut usize, pages: &[u32]) -> Result<(), TreeFault>
     ensures ok { OnOk result (left.new + length pages.now ≡ left.old) }
     ensures err { IfErr result (λ fault. (left.old < length pages.now)

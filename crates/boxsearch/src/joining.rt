@@ -13,7 +13,7 @@ use legs::{IndexFault, Leg};
 use pages::PageStore;
 use std::alloc::AllocError;
 
-/// HasAdded the legs of the next turns, as long as they are of one leaf and of one feature, and gives that feature.
+/// Takes the legs of the next turns, as long as they are of one leaf and of one feature, and gives that feature.
 fn next_run(run: &mut Vec<Leg>, legs: &[Leg], turns: &[Turn]) -> Result<u32, AllocError>
     requires some { 0 < length turns.now }
     requires within { All (λ (turn : Turn). turn.place < length legs.now) turns.now }

@@ -193,7 +193,7 @@ impl Tracks {
         }
     }
 
-    /// HasAdded a file into the tracks that was joined to their book: they then stand for the book
+    /// Takes a file into the tracks that was joined to their book: they then stand for the book
     /// with that file. They are as before where memory runs out.
     pub fn accept(&mut self, joined: &Joined) -> Result<(), AllocError>
         ensures ok { OnOk result ((limits : LimitsView) (book : Book) (file : File)

@@ -40,6 +40,7 @@ pub grows_pushed : (old mid new : Pages LegView BoxView) (p most : ℕ) (ys : Li
 grows_pushed old mid new p most ys (Ok u) k back many h w =
     let own : All (λ leg. leg.feature ≡ h.leaf.feature) ys = goes_own h.leaf.feature h.takes.last.ordinal ys h.takes.go_on in
     record {
+      was = (w.leaf, back p w.leaf w.was);
       keeps = record {
         rest = λ q leaf other e. w.becomes.rest q (λ u. other (let a = h.above in omega (arith, a, u)) u) ∙ k q leaf e;
         grown = λ leaf above e.
@@ -74,6 +75,7 @@ module _ (old : Pages LegView BoxView) (last : ℕ) (ys : List LegView) (some : 
     fresh = ap old.at a.number ∙ fresh;
     one = leaf_own ys one;
     is = a.becomes.now;
+    was = λ above. absurd (omega (arith, above, none));
     keeps = record {
       rest = λ q leaf u e. a.becomes.rest q (other new page a q leaf e) ∙ e;
       grown = λ leaf above e. absurd (omega (arith, above, none));
@@ -93,6 +95,7 @@ module _ (old : Pages LegView BoxView) (last : ℕ) (ys : List LegView) (some : 
         fresh = ap old.at a.number ∙ fresh;
         one = own;
         is = w.becomes.rest page apart ∙ a.becomes.now;
+        was = λ above. (h.leaf, sym back ∙ h.is);
         keeps = record {
           rest = λ q leaf u e. w.becomes.rest q (λ v. u (let l = h.above in omega (arith, l, v)) v) ∙ a.becomes.rest q (other mid page a q leaf e) ∙ e;
           grown = λ leaf above e.
@@ -127,6 +130,7 @@ begins_kept old mid new last ys page b k back more = record {
   fresh = b.fresh;
   one = b.one;
   is = k page (new_leaf leg_feature last ys) b.is;
+  was = b.was;
   keeps = record {
     rest = λ q leaf u e. k q leaf (b.keeps.rest q leaf u e);
     grown = λ leaf above e.
@@ -206,6 +210,7 @@ nothing_new nodes last = record {
 pub fills_none : (leaf : ℕ) (nodes : Pages LegView BoxView) (leaves : ℕ) (place : Place) → FillsLeaves leaf nodes nodes leaves leaves place place [] []
 fills_none leaf nodes leaves place = record {
   one = All-nil (λ leg. leg.feature ≡ 0);
+  was = λ h. absurd (omega (arith, h));
   keeps = subst (λ l. KeepsLegs place.last l [] None nodes nodes) (sym (taken_nil leaf place.legs)) (nothing_new nodes place.last);
   made = drop_nil (room leaf place.legs);
   next = λ p none. absurd (some_none p (sym none));
@@ -238,6 +243,10 @@ module _ (leaf : ℕ) (old mid new : Pages LegView BoxView) (leaves mid_leaves n
       ∙ ap (λ (ls : List LegView). Some (Some (ALeaf (record l { legs = ls })))) (ap (λ t. l.legs ++ t) (taken_nil leaf place.legs) ∙ append-nil l.legs) in
       record {
         one = own_of new new_place.last ys h;
+        was = λ _ above. ⊎_elim
+            (λ (l : IsLeafAt old place.last). l)
+            (λ (c : Contains pages place.last). absurd (no_element place.last (subst (λ l. Contains l place.last) none c)))
+            (so_far.only place.last (subst (λ q. IsLeafAt mid q) last_is g.was));
         keeps = subst (λ t. KeepsLegs place.last t ys None old new) (sym all)
             (record {
               rest = λ p l u e. g.keeps.rest p l (λ above v. u above (v ∙ last_is)) (before.rest p l u e);
@@ -395,6 +404,16 @@ module _ (leaf : ℕ) (old mid new : Pages LegView BoxView) (leaves mid_leaves n
         last_push p [] = refl
         last_push p (q ∷ qs) = last_push q qs
 
+    -- the place's last leaf was one
+    was_of : (ps : List ℕ) → pages ≡ ps → 0 < place.last → IsLeafAt old place.last
+    was_of [] e above =
+        let at : mid_place.last ≡ place.last = last_is ∙ ap (last_or place.last) e in
+        ⊎_elim
+        (λ (l : IsLeafAt old place.last). l)
+        (λ (c : Contains pages place.last). absurd (no_element place.last (subst (λ l. Contains l place.last) e c)))
+        (so_far.only place.last (subst (λ q. IsLeafAt mid q) at (begun.was (omega (arith, above, at)))))
+    was_of (p ∷ ps) e above = so_far.was (some_left pages so_far.made (omega (arith, ap length e))) above
+
     -- a leaf is begun with legs more
     pub fills_begun : HasAtEnd new new_place.last (in_last_leaf leaf new_place.legs (xs ++ ys)) → new_place ≡ place_with mid_leaves mid_place ys (page ∷ []) → new_leaves ≡ mid_leaves + 1
         → FillsLeaves leaf old new leaves new_leaves place new_place (xs ++ ys) (pages ++ page ∷ [])
@@ -403,6 +422,7 @@ module _ (leaf : ℕ) (old mid new : Pages LegView BoxView) (leaves mid_leaves n
         (All-weaker (λ p. (0 < p) × (p < mid.count)) (λ p. p < page) (λ p h. let n = begun.number in let b = h.1 in omega (arith, n, b)) pages so_far.there) so_far.made in
         record {
           one = one_all;
+          was = λ _. was_of pages refl;
           keeps = subst (λ t. KeepsLegs place.last t (xs ++ ys) (slice_get (pages ++ page ∷ []) 0) old new) taken_is (keeps_all pages refl);
           made = subst (λ zs. AreLeaves new leaf old.count place.last zs (pages ++ page ∷ [])) (sym left_is) made;
           next = next_of pages refl;

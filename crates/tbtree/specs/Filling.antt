@@ -66,6 +66,8 @@ place_with leaves place legs (p ∷ ps) = record {
 pub record FillsLeaves (leaf : ℕ) (old new : Pages LegView BoxView) (leaves leaves' : ℕ)
     (place place' : Place) (legs : List LegView) (pages : List ℕ) : Type 0 where
   pub one : All (λ leg. leg.feature ≡ owner leg_feature legs) legs
+  -- where the place has a last leaf, it is one
+  pub was : 0 < length legs → 0 < place.last → IsLeafAt old place.last
   pub keeps : KeepsLegs place.last (taken_by_last leaf place.legs legs) legs (slice_get pages 0)
       old new
   pub made : AreLeaves new leaf old.count place.last (left_over leaf place.legs legs) pages
@@ -87,6 +89,7 @@ pub record FillsLeaves (leaf : ℕ) (old new : Pages LegView BoxView) (leaves le
 -- legs are put into the leaf of the page `last`, which has room for all of them
 pub record GrowsLeaf (old new : Pages LegView BoxView) (last : ℕ)
     (legs : List LegView) : Type 0 where
+  pub was : IsLeafAt old last
   pub keeps : KeepsLegs last legs legs None old new
   pub only : (p : ℕ) → IsLeafAt new p → IsLeafAt old p
   pub counted : new.count ≡ old.count
@@ -100,5 +103,6 @@ pub record BeginsLeaf (old new : Pages LegView BoxView) (last : ℕ) (legs : Lis
   pub fresh : old.at page ≡ None
   pub one : All (λ leg. leg.feature ≡ owner leg_feature legs) legs
   pub is : new.at page ≡ Some (Some (ALeaf (new_leaf leg_feature last legs)))
+  pub was : 0 < last → IsLeafAt old last
   pub keeps : KeepsLegs last [] legs (Some page) old new
   pub only : (p : ℕ) → p ≢ page → IsLeafAt new p → IsLeafAt old p

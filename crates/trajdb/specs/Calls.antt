@@ -1,11 +1,11 @@
 -- What a call of a database leaves, and why it stopped.
-use Rattle.std.specs.Prelude.{ℕ, ℤ, ◌≡◌, ◌<◌, [], slice_index_or, true, false, List, Option, Some, None, Result, Ok, Err, IsTrue, is_some, if◌then◌else◌, ◌⊎◌, ◌↔◌, drop, length, sum_by, map}
+use Rattle.std.specs.Prelude.{ℕ, ℤ, ◌≡◌, ◌<◌, [], slice_index_or, true, false, List, Option, Some, None, Result, Ok, Err, IsTrue, is_some, if◌then◌else◌, ◌⊎◌, ◌↔◌, drop, length, sum_by, map, ◌++◌}
 use Rattle.std.specs.List.{range_with_len}
 use Rattle.timebase.specs.Period.{PeriodView}
 use Rattle.legs.specs.declared.head.BookHead.{BookHead}
 use Rattle.legs.specs.Legs.{LegView}
 use Rattle.legs.specs.Boxes.{box_over, everything}
-use Rattle.legs.specs.Book.{Book, feature_of, joined, with_file}
+use Rattle.legs.specs.Book.{Book, feature_of, head_with, joined, with_file}
 use Rattle.legs.specs.Costs.{ShapeView, RisesBy, RisesAtMost, known_bound, reaches, search_cost, track_cost, track_in_bound}
 use Rattle.predicates.specs.Near.{box_near}
 use Rattle.legs.specs.Limits.{LimitsView, IsLimits}
@@ -19,7 +19,7 @@ use Rattle.querylang.specs.Line.{line_of}
 use Rattle.querylang.specs.declared.LineCode.{LineCode}
 use Rattle.querylang.specs.declared.Command.{Command}
 use Rattle.querylang.specs.declared.Command.TheVariants.{Load, Count, Box, Legs, Features, Trajectory, Write}
-use Rattle.trajdb.specs.Answers.{IsFileRefusal, counts_text}
+use Rattle.trajdb.specs.Answers.{IsFileRefusal, counts_text, load_of, load_text}
 use Rattle.trajdb.specs.Files.{file_named}
 use Rattle.trajdb.specs.Database.{CoreView, IsSound}
 use Rattle.trajdb.specs.declared.Counts.{Counts}
@@ -233,15 +233,23 @@ pub record PutsFile {I : Type 0} (g : Ghosts I) (old new : CoreView I) (bytes : 
   pub legs : List LegView
   pub many : counts.legs ≡ length legs
   pub taken : HasAdded g old.index new.index legs
+  pub head : new.book.head ≡ head_with old.book.head file.head
+  pub rows : new.book.rows ≡ old.book.rows ++ map (λ record. record.attributes) file.records
   pub joins : (book : Book) → IsBookOf old book → HasJoined new old.limits book file legs
+
+-- the text is what a `load` of the file says for whatever book the tracks stand for
+abbrev pub SaysLoad : {I : Type 0} → CoreView I → (bytes text : List ℕ) → Type 0
+SaysLoad old bytes text =
+    (book : Book) → IsBookOf old book → text ≡ load_text (load_of old.limits book bytes)
 
 -- a file is told of: by counts, and is taken in, and the database has begun, or by a refusal, which changes nothing
 abbrev pub TellsLoad : {I : Type 0} → Ghosts I → CoreView I → CoreView I → (bytes text : List ℕ)
     → Type 0
 TellsLoad g old new bytes text =
-    ((counts : Counts) × (text ≡ counts_text counts) × PutsFile g old new bytes counts
+    SaysLoad old bytes text
+    × (((counts : Counts) × (text ≡ counts_text counts) × PutsFile g old new bytes counts
     × (new.begun ≡ true))
-    ⊎ (IsFileRefusal text × (new ≡ old))
+    ⊎ (IsFileRefusal text × (new ≡ old)))
 
 -- so is one that is there
 abbrev pub TellsNamed : {I : Type 0} → Ghosts I → CoreView I → CoreView I → Option (List ℕ)

@@ -1,12 +1,12 @@
 -- Helpers of private functions: how a file is read and joined.
-use Rattle.std.specs.Prelude.{ℕ, ◌≡◌, List, map, length, Option, Result, Ok}
+use Rattle.std.specs.Prelude.{ℕ, ◌≡◌, ◌++◌, List, map, length, Option, Result, Ok}
 use Rattle.mfcsv.specs.FileText.{HasWholeRows}
 use Rattle.mfcsv.specs.Views.{RecordView}
 use Rattle.mfcsv.specs.declared.Code.{Code}
 use Rattle.mfcsv.specs.declared.File.{File}
 use Rattle.mfcsv.specs.declared.FileFault.{FileFault}
 use Rattle.mfcsv.specs.declared.FileFault.TheVariants as text
-use Rattle.legs.specs.Book.{Book}
+use Rattle.legs.specs.Book.{Book, head_with}
 use Rattle.legs.specs.Index.{CanFollowInTurn}
 use Rattle.legs.specs.Joining.{IsJoinedBy, JoinedView}
 use Rattle.legs.specs.Limits.{LimitsView}
@@ -54,6 +54,8 @@ pub record IsRead (tracks : TracksView) (head : Option BookHead) (limits : Limit
     (text : Result File (Code × ℕ)) (new : NewFile) : Type 0 where
   pub file : File
   pub said : text ≡ Ok file
+  pub head : new.head ≡ file.head
+  pub rows : new.rows ≡ values_of file.records
   pub accepts : (book : Book) → StandsFor tracks book → book.head ≡ head
       → Accepts limits book file new
 
@@ -61,5 +63,7 @@ pub record IsRead (tracks : TracksView) (head : Option BookHead) (limits : Limit
 pub record PutsNew {I : Type 0} (g : Ghosts I) (old new : CoreView I)
     (file : NewFile) : Type 0 where
   pub taken : HasAdded g old.index new.index file.joined.legs
+  pub head : new.book.head ≡ head_with old.book.head file.head
+  pub rows : new.book.rows ≡ old.book.rows ++ file.rows
   pub joins : (book : Book) → IsBookOf old book → (it : File)
       → Accepts old.limits book it file → HasJoined new old.limits book it file.joined.legs

@@ -94,11 +94,11 @@ impl<I: Start> Core<I> {
     ghost use Rattle.std.specs.Prelude.{◌≡◌, Ok, IfOk, IfErr, OnOk, OnErr, true, false};
     ghost use Rattle.mfcsv.specs.FileText.{file_of_bytes};
     ghost use Rattle.mfcsv.specs.declared.File.{File};
-    ghost use Rattle.legs.specs.Book.{with_file};
+    ghost use Rattle.legs.specs.Book.{Book, with_file};
     ghost use Rattle.trajdb.specs.Answers.{book_with, load_of};
     ghost use Rattle.trajdb.specs.Database.{FaultIs, IsRefused, IsTold, LoadGives, Becomes, IsSound};
     ghost use Rattle.trajdb.specs.Loads.{Accepts, IsRead, PutsNew};
-    ghost use Rattle.trajdb.specs.Calls.{IsJoinStop, IsLater, IsLoadFault, IsLoadStop, IsOfStore, LeavesPages, PutsFile};
+    ghost use Rattle.trajdb.specs.Calls.{IsBookOf, IsJoinStop, IsLater, IsLoadFault, IsLoadStop, IsOfStore, LeavesPages, PutsFile};
 
     /// Takes in a file that was read and joined.
     fn take(&mut self, new: NewFile) -> Result<(), RunFault>
@@ -137,6 +137,8 @@ impl<I: Start> Core<I> {
             self.now.limits (file_of_bytes bytes.now) new) }
         ensures refused { IfErr result (λ fault. IsSound I.Listed self.now
             → FaultIs fault (load_of self.now.limits self.now.book bytes.now)) }
+        ensures refused_by { IfErr result (λ fault. (book : Book) → IsBookOf self.now book
+            → FaultIs fault (load_of self.now.limits book bytes.now)) }
         ensures stopped { IfErr result IsJoinStop }
     {
         match join_text(alloc, self.head.as_ref(), &self.tracks, &self.limits, bytes) {
@@ -158,6 +160,8 @@ impl<I: Start> Core<I> {
         ensures refused { IfErr result (λ fault. IsRefused fault → self.new ≡ self.old) }
         ensures begun { OnOk result (self.new.begun ≡ true) }
         ensures puts { IfOk result (PutsFile I.Listed self.old self.new bytes.now) }
+        ensures gives { (book : Book) → IsBookOf self.old book
+            → LoadGives result (load_of self.old.limits book bytes.now) }
         ensures idle { OnErr result (self.new.begun ≡ self.old.begun) }
         ensures marks { OnOk result (IsSound I.Listed self.old → I.is_clean self.old.index
             → I.is_marked self.new.index) }
@@ -180,7 +184,8 @@ impl<I: Start> Core<I> {
     ghost use Rattle.std.specs.Prelude.{◌≡◌, IfErr, OnOk, OnErr, Err, true, false};
     ghost use Rattle.trajdb.specs.Answers.{book_with, load_of};
     ghost use Rattle.trajdb.specs.Database.{IsRefused, IsTold, LoadGives, FailsBy, Becomes, IsSound};
-    ghost use Rattle.trajdb.specs.Calls.{IsLater, IsLoadStop, KeepsPages, PutsFile};
+    ghost use Rattle.trajdb.specs.Calls.{IsBookOf, IsLater, IsLoadStop, KeepsPages, PutsFile};
+    ghost use Rattle.legs.specs.Book.{Book};
 
     /// Accepts a file, whole or not at all: how many data records, legs and distinct features it has,
     /// or the first fault of its text, or else of its joining.
@@ -205,6 +210,8 @@ impl<I: Start> Core<I> {
         // An accepted file begins the database, and nothing else does.
         ensures begun { OnOk result (self.new.begun ≡ true) }
         ensures puts { IfOk result (PutsFile I.Listed self.old self.new bytes.now) }
+        ensures gives { (book : Book) → IsBookOf self.old book
+            → LoadGives result (load_of self.old.limits book bytes.now) }
         ensures idle { OnErr result (self.new.begun ≡ self.old.begun) }
 
         // What is left of the pages.

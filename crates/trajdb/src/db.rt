@@ -43,14 +43,14 @@ impl<S: PageStore> Db<S> {
     ghost use Rattle.boxsearch.specs.Index.{words};
     ghost use Rattle.catalogue.specs.Beginning.{IsLeft};
     ghost use Rattle.header.specs.Fields.{header_payload};
-    ghost use Rattle.legs.specs.Book.{empty_book};
+    ghost use Rattle.legs.specs.Book.{Book, empty_book};
     ghost use Rattle.trajdb.specs.Script.{lines_of};
     ghost use Rattle.trajdb.specs.Answers.{AcceptsBy, IsAnswer, IsCountsText, book_then, book_with, load_of};
     ghost use Rattle.trajdb.specs.Faults.{IsNotOutput};
     ghost use Rattle.trajdb.specs.Run.{AcceptsSome, StopsAt, Runs, Stops, IsCut};
     ghost use Rattle.trajdb.specs.Database.{FailsBy, IsRefused, IsTold, LoadGives, Becomes};
     ghost use Rattle.legs.specs.Asking.{Recalls};
-    ghost use Rattle.trajdb.specs.Calls.{AsksIn, AsksKnown, LearnsBy, Begins, BeginsBy, BeginsOnly, IsLater, IsLoadStop, IsRunStop, IsStopped, KeepsPages, LeavesBook, Loads, LoadsWhole, LoadsWholeSome, PutsFile, TellsLoadBy};
+    ghost use Rattle.trajdb.specs.Calls.{AsksIn, AsksKnown, LearnsBy, Begins, BeginsBy, BeginsOnly, IsBookOf, IsLater, IsLoadStop, IsRunStop, IsStopped, KeepsPages, LeavesBook, Loads, LoadsWhole, LoadsWholeSome, PutsFile, TellsLoadBy};
     ghost use Rattle.trajdb.specs.Telling.{IsToldAnswer, NamesBy, TellsCut, TellsRun, TellsStop};
     ghost use Rattle.trajdb.specs.Db.{HasPages, IsAllowed, IsCaused, IsSoundDb};
     ghost use Rattle.trajdb.specs.Lasting.{IsIdle, IsSafe};
@@ -124,6 +124,8 @@ impl<S: PageStore> Db<S> {
         ensures refused { IfErr result (λ fault. IsRefused fault → self.new ≡ self.old) }
         ensures begun { OnOk result (self.new.begun ≡ true) }
         ensures puts { IfOk result (PutsFile words self.old self.new bytes.now) }
+        ensures gives { (book : Book) → IsBookOf self.old book
+            → LoadGives result (load_of self.old.limits book bytes.now) }
         ensures idle { OnErr result (self.new.begun ≡ self.old.begun) }
         ensures pages { KeepsPages words self.old self.new }
         ensures rests { IsIdle self.old → IsIdle self.new }

@@ -1,4 +1,5 @@
-use Rattle.std.proofs.Common.{◌∙◌, ap, sym, Ok}
+use Rattle.std.proofs.Common.{ℕ, List, ◌∙◌, ◌++◌, ap, sym, Ok}
+use Rattle.legs.specs.Book.{head_with}
 use Rattle.trajdb.specs.declared.Counts.{Counts}
 use Rattle.trajdb.proofs.LoadLemmas.{accepted_book, accepted_counts, told_kept}
 use Rattle.trajdb.proofs.database.Core.read.Goals as goal
@@ -28,5 +29,12 @@ returns-in-Ok-take-clause-puts g c =
       legs = c.in-Ok.new.joined.legs;
       many = ap (λ (n : Counts). n.legs) c.counts_of-counts.ensures;
       taken = puts.taken;
+      head = puts.head ∙ ap (head_with c.args.self.now.book.head) is.head;
+      rows = puts.rows ∙ ap (λ (rows : List (List (List ℕ))). c.args.self.now.book.rows ++ rows) is.rows;
       joins = λ book of. puts.joins book of is.file (is.accepts book of.tracks of.head);
     }
+
+pub returns-in-Ok-take-clause-gives : goal.returns-in-Ok-take-clause-gives
+returns-in-Ok-take-clause-gives g c = λ book of.
+    let is = c.in-Ok.ensures.read in
+    accepted_counts c.args.self.now.limits book c.args.bytes.now is.file c.in-Ok.new is.said (is.accepts book of.tracks of.head) ∙ ap Ok (sym c.counts_of-counts.ensures)

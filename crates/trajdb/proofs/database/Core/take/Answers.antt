@@ -28,6 +28,8 @@ pub returns-clause-puts : goal.returns-clause-puts
 returns-clause-puts g c =
     rw (← c.self.view_is) (record {
       taken = rw c.legs.ensures at c.in_ok-put_legs.ensures.taken;
+      head = c.keep_head.ensures;
+      rows = c.in_ok-append.ensures.appended;
       joins = λ book of it accepts.
           let tracks = c.in_ok-accept.ensures.ok c.self.inside.limits book it of.limits of.tracks accepts.0 in
           let same = with_file-parts c.self.inside.limits book it c.args.new.joined.legs (book.legs ++ c.args.new.joined.legs) c.keep_head.new.first c.accept.new.self.names c.append.new.self
