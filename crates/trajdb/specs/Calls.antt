@@ -234,7 +234,7 @@ pub record PutsFile {I : Type 0} (g : Ghosts I) (old new : CoreView I) (bytes : 
   pub many : counts.legs ≡ length legs
   pub taken : HasAdded g old.index new.index legs
   pub head : new.book.head ≡ head_with old.book.head file.head
-  pub rows : new.book.rows ≡ old.book.rows ++ map (λ record. record.attributes) file.records
+  pub rows : new.book.rows ≡ old.book.rows ++ map (λ it. it.attributes) file.records
   pub joins : (book : Book) → IsBookOf old book → HasJoined new old.limits book file legs
 
 -- the text is what a `load` of the file says for whatever book the tracks stand for
