@@ -80,8 +80,8 @@ pub reading_joined : (tracks : TracksView) (limits : LimitsView) (bytes : List â
 reading_joined tracks limits bytes left joiner rows first head by is said joined = record {
   file = file_of head is.records;
   said = said;
-  head = refl;
-  rows = is.values;
+  head_is = refl;
+  rows_are = is.values;
   accepts = Î» book stands same.
       let all = joined limits book is.records (is.joining book stands) same in
       (all, all.follow, whole_text (rows_of bytes) (file_of head is.records) said, refl, is.values);

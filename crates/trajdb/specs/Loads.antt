@@ -54,8 +54,8 @@ pub record IsRead (tracks : TracksView) (head : Option BookHead) (limits : Limit
     (text : Result File (Code × ℕ)) (new : NewFile) : Type 0 where
   pub file : File
   pub said : text ≡ Ok file
-  pub head : new.head ≡ file.head
-  pub rows : new.rows ≡ values_of file.records
+  pub head_is : new.head ≡ file.head
+  pub rows_are : new.rows ≡ values_of file.records
   pub accepts : (book : Book) → StandsFor tracks book → book.head ≡ head
       → Accepts limits book file new
 

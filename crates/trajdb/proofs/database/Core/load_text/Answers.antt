@@ -1,6 +1,7 @@
-use Rattle.std.proofs.Common.{◌≡◌, ◌∙◌, ap, sym, subst, inl, inr, Result, Ok, Err, IfOk}
-use Rattle.trajdb.specs.Answers.{counts_text, load_text}
-use Rattle.trajdb.specs.Database.{IsRefused}
+use Rattle.std.proofs.Common.{ℕ, ◌≡◌, ◌∙◌, ap, sym, subst, inl, inr, Result, Ok, Err, IfOk}
+use Rattle.trajdb.specs.Answers.{counts_text, load_of, load_text}
+use Rattle.trajdb.specs.Database.{FaultIs, IsRefused}
+use Rattle.trajdb.specs.declared.FileCode.{FileCode}
 use Rattle.trajdb.proofs.database.Core.load_text.Goals.{in-Ok, in-Err-Refused}
 use Rattle.trajdb.proofs.database.Core.load_text.Goals as goal
 
@@ -16,9 +17,12 @@ returns-in-Ok-text-clause-told_load g c = elim c.match-load.branch [
         inl (w.in-Ok.counts, text, w.in-Ok.ensures.puts, w.in-Ok.ensures.begun),
       )
   | in-Err-Refused w ↦
-      let said = (w.in-Err-Refused.code, w.in-Err-Refused.number) in
+      let said : FileCode × ℕ = (w.in-Err-Refused.code, w.in-Err-Refused.number) in
       let text = ok_of w.file_refusal_text-text.result c.match-load.text c.in-Ok-text.text (λ text. text.items ≡ load_text (Err said)) w.text-is c.in-Ok-text.is w.file_refusal_text-text.ensures in (
-        λ book of. text ∙ ap load_text (sym (w.in-Err-Refused.ensures.gives book of)),
+        λ book of.
+        let told = load_of c.args.self.now.limits book c.args.bytes.now in
+        let refused : told ≡ Err said = subst (λ fault. FaultIs fault told) w.in-Err-Refused.field-0-is (w.in-Err-Refused.ensures.gives book of) in
+        text ∙ ap load_text (sym refused),
         inr ((said, text), w.in-Err-Refused.ensures.refused (subst (λ fault. IsRefused fault) (sym w.in-Err-Refused.field-0-is) tt)),
       )
 ]
