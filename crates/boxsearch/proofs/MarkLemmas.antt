@@ -55,12 +55,12 @@ not_first : (n : ℕ) → 0 < n → (0 == n) ≡ false
 not_first n h = grind (arith, nat_tests, h)
 
 -- page 0 that is not marked, and is made so and written
-module _ (a b c d : Cache) (p w : Payload) (r : Rests a b) (read : IsTrue a.store.is_faithful → payload_of a 0 ≡ Some p) (not_marked : IsUnfinished p → ⊥) (l : Lends 0 w b c) (s : KeepsPayloads c d) (len : SameLength c d) (asked : d.asked ≡ c.asked) where
+module _ (a b c d : Cache) (p w : Payload) (r : Rests a b) (read : IsTrue a.store.is_faithful → payload_of a 0 ≡ Some p) (not_marked : IsUnfinished p → is_changed b 0 ≡ false → ⊥) (l : Lends 0 w b c) (s : KeepsPayloads c d) (len : SameLength c d) (asked : d.asked ≡ c.asked) where
   was_not : IsMarked a → ⊥
   unfolding sealed_payload
   was_not m =
       let same : Some p ≡ Some m.payload = sym (read m.faithful) ∙ as_written a b r m.faithful m.unchanged ∙ ap (option_and_then (unsealed 0)) (r.stays.keeps.written m.faithful 0 m.there m.unchanged) ∙ m.sealed in
-      not_marked (subst (λ q. IsUnfinished q) (sym (some_same p m.payload same)) m.unfinished)
+      not_marked (subst (λ q. IsUnfinished q) (sym (some_same p m.payload same)) m.unfinished) (r.stays.changed 0 m.unchanged)
 
   fb : IsTrue a.store.is_faithful → IsTrue b.store.is_faithful
   fb f = r.stays.keeps.store.faithful ∙ f
@@ -105,13 +105,13 @@ module _ (a b c d : Cache) (p w : Payload) (r : Rests a b) (read : IsTrue a.stor
       s.unwritten.from (fc f) 1 (λ n h. l.writes.changed n (λ e. (let z : 0 ≡ n = e in omega (arith, z, h))) (r.stays.changed n (clean n)))
       ∙ ap (drop 1) (l.writes.unwritten.clean (fb f) (λ n. r.stays.changed n (clean n)) ∙ r.stays.unwritten.clean f clean)
 
--- page 0 that is marked
-pub already_marked : (a b : Cache) (p : Payload) → Rests a b → (IsTrue a.store.is_faithful → payload_of a 0 ≡ Some p) → IsUnfinished p → IsTrue a.store.is_faithful → 0 < a.count → IsClean a → IsMarked b
-already_marked a b p r read u f h clean = record {
+-- page 0 that is marked, and written so
+pub already_marked : (a b : Cache) (p : Payload) → Rests a b → (IsTrue a.store.is_faithful → payload_of a 0 ≡ Some p) → IsUnfinished p → IsTrue a.store.is_faithful → 0 < a.count → is_changed b 0 ≡ false → IsMarked b
+already_marked a b p r read u f h same = record {
   faithful = r.stays.keeps.store.faithful ∙ f;
   there = (let c = r.stays.count in omega (arith, h, c));
-  unchanged = r.stays.changed 0 (clean 0);
+  unchanged = same;
   payload = p;
-  sealed = sym (as_written a b r f (clean 0)) ∙ read f;
+  sealed = sym (r.stays.keeps.settled (r.stays.keeps.store.faithful ∙ f) 0 same) ∙ r.stays.payloads f 0 ∙ read f;
   unfinished = u;
 }

@@ -104,7 +104,7 @@ module _ (laws : FirstLaws) (old : IndexView) (c : Cache) (known : List (List Le
   written_is : (i : IndexView) → IsTrue i.cache.store.is_faithful → written i ≡ pages_as_written i.cache
   written_is i f = ap (λ b. cond b (pages_as_written i.cache) []) f
 
-  pub starts : (r : Result (Unit {0}) CacheFault) → OnOk r (IsTrue old.cache.store.is_faithful → 0 < old.cache.count → IsClean old.cache → IsMarked c)
+  pub starts : (r : Result (Unit {0}) CacheFault) → OnOk r (IsTrue old.cache.store.is_faithful → 0 < old.cache.count → IsMarked c)
       → OnErr r (IsTrue old.cache.store.is_faithful → IsClean old.cache → drop 1 (pages_as_written c) ≡ drop 1 (pages_as_written old.cache))
       → OnErr r (IsTrue old.cache.store.is_faithful → IsClean old.cache → (Faulted old.cache.store c.store → ⊥) → pages_as_written c ≡ pages_as_written old.cache)
       → Starts words old new (answered (λ fault. of_cache fault) r)
@@ -124,7 +124,7 @@ module _ (laws : FirstLaws) (old : IndexView) (c : Cache) (known : List (List Le
     sound = still_sound;
     spent = refl;
     later = record { plan = refl; faults = m.store.faults; asked = (let a = m.asked in omega (arith, clamps, a)) };
-    marks = each_value (λ fault. of_cache fault) (λ _. IsSound old → IsClean old.cache → IsMarked c) r (on_ok r (λ h s clean. h s.faithful s.stands.tree_stands.numbers.page_0 clean) marked);
+    marks = each_value (λ fault. of_cache fault) (λ _. IsSound old → IsClean old.cache → IsMarked c) r (on_ok r (λ h s clean. h s.faithful s.stands.tree_stands.numbers.page_0) marked);
     marked = m.stays;
     others = each_fault (λ fault. of_cache fault) (λ _. IsSound old → IsClean old.cache → drop 1 (written new) ≡ drop 1 (written old)) (λ _. IsSound old → IsClean old.cache → drop 1 (written new) ≡ drop 1 (written old)) (λ x h. h) r
         (on_err r (λ h s clean. ap (drop 1) (written_is new (m.store.faithful ∙ s.faithful)) ∙ h s.faithful clean ∙ sym (ap (drop 1) (written_is old s.faithful))) others);

@@ -9,13 +9,13 @@ use header::{is_unfinished, set_unfinished};
 use pagecache::{CacheFault, PageCache};
 use pages::PageStore;
 
-/// Marks page 0, where it is not marked, and writes all that is changed.
+/// Marks page 0, where it is not marked and written so, and writes all that is changed.
 pub(crate) fn mark_page<S: PageStore>(cache: &mut PageCache<S>) -> Result<(), CacheFault>
     ensures marks { Marks cache.old cache.new }
     ensures header { OnOk result (MarksFirst cache.old cache.new) }
     ensures synced { OnOk result (SyncsMark cache.old cache.new) }
     ensures marked { OnOk result (IsTrue cache.old.store.is_faithful → 0 < cache.old.count
-        → IsClean cache.old → IsMarked cache.new) }
+        → IsMarked cache.new) }
     ensures others { OnErr result (IsTrue cache.old.store.is_faithful → IsClean cache.old
         → drop 1 (pages_as_written cache.new) ≡ drop 1 (pages_as_written cache.old)) }
     ensures first { OnErr result (IsTrue cache.old.store.is_faithful → IsClean cache.old
@@ -23,7 +23,7 @@ pub(crate) fn mark_page<S: PageStore>(cache: &mut PageCache<S>) -> Result<(), Ca
         → pages_as_written cache.new ≡ pages_as_written cache.old) }
     ensures caused { IfErr result (IsNotMarked cache.old cache.new) }
 {
-    if is_unfinished(cache.page(0)?) {
+    if is_unfinished(cache.page(0)?) && !cache.is_changed(0) {
         return Ok(());
     }
     set_unfinished(cache.page_mut(0)?);

@@ -53,7 +53,7 @@ impl<S: PageStore> TreeIndex<S> {
     ghost use Rattle.pagecache.specs.Cache.{payload_of, IsSettled, IsWritten};
     ghost use Rattle.tbtree.specs.Nodes.{pages_of_cache};
     ghost use Rattle.chains.specs.Chains.{AreHeld};
-    ghost use Rattle.boxsearch.specs.Index.{content, new_index, words, IsSound, MarksFirst, SyncsMark, with_place};
+    ghost use Rattle.boxsearch.specs.Index.{content, new_index, words, IsMarked, IsSound, MarksFirst, SyncsMark, with_place};
     ghost use Rattle.legs.specs.Asking.{Leaves, Starts, Refusals};
     ghost use Rattle.legs.specs.Index.{MayRefuse};
     ghost use Rattle.chains.specs.Reads.{OnlyReads};
@@ -79,8 +79,8 @@ impl<S: PageStore> TreeIndex<S> {
         }
     }
 
-    /// Marks the store as one that is not finished, in its page 0. A page 0 that says so is left as it is; any other is
-    /// made to, and all that is changed is written.
+    /// Marks the store as one that is not finished, in its page 0. A page 0 that says so, and is written so, is left as it
+    /// is; any other is made to, and all that is changed is written.
     ///
     /// Refused are a spent index, and what the cache refuses.
     pub fn mark(&mut self) -> Result<(), IndexFault>
@@ -90,6 +90,8 @@ impl<S: PageStore> TreeIndex<S> {
         // Page 0 is what it was but for its kind and its first 12 bytes, and no other page has another payload.
         ensures header { OnOk result (MarksFirst self.old.cache self.new.cache) }
         ensures synced { OnOk result (SyncsMark self.old.cache self.new.cache) }
+        ensures marked { OnOk result (IsTrue self.old.cache.store.is_faithful
+            → 0 < self.old.cache.count → IsMarked self.new.cache) }
         ensures others { IsTrue self.old.cache.store.is_faithful → (n : ℕ) → 0 < n
             → payload_of self.new.cache n ≡ payload_of self.old.cache n }
     {

@@ -142,6 +142,13 @@ impl<S: PageStore> PageCache<S> {
         self.slots.flush()
     }
 
+    /// Whether a page is in memory and not as it was last written.
+    pub fn is_changed(&self, number: u32) -> bool
+        ensures { result ≡ is_changed self.now number }
+    {
+        self.slots.is_changed(number)
+    }
+
     /// How often a page was asked for or added, refused or not; 2^64 - 1 stands for any greater
     /// number.
     pub fn asked(&self) -> u64

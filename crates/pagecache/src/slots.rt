@@ -246,6 +246,16 @@ impl<S: PageStore> Slots<S> {
         }
     }
 
+    /// Whether a page is in memory and changed.
+    pub(crate) fn is_changed(&self, number: u32) -> bool
+        ensures { result ≡ is_changed (seen_of S.seen self.now) number }
+    {
+        match self.held.peek(&number) {
+            Some(held) => held.changed,
+            None => false,
+        }
+    }
+
     /// The numbers of the changed pages.
     fn changed(&self) -> Result<Vec<u32>, AllocError>
         ensures { IfOk result

@@ -1,19 +1,20 @@
-use Rattle.std.proofs.Common.{ap, subst, sym, ◌∙◌}
+use Rattle.std.proofs.Common.{◌≡◌, false, ap, subst, sym, ◌∙◌}
 use Rattle.std.specs.Result.{is_ok}
 use Rattle.std.proofs.lemmas.Bool.{true≢false}
-use Rattle.pagecache.specs.Cache.{Rests, IsRefused}
+use Rattle.pagecache.specs.Cache.{is_changed, Rests, IsRefused}
 use Rattle.header.specs.Front.{IsUnfinished}
 use Rattle.boxsearch.proofs.PlaceLemmas.{some_same}
-use Rattle.boxsearch.proofs.MarkLemmas.{first_marked, first_rests, rests_marks, marks_trans, flushed_marks, is_marked, others_written}
+use Rattle.boxsearch.proofs.MarkLemmas.{already_marked, first_marked, first_rests, rests_marks, marks_trans, flushed_marks, is_marked, others_written}
 use Rattle.header.proofs.FrontLemmas.{marked_is}
 use Rattle.boxsearch.proofs.ResultLemmas.{on_any, on_ok, on_fault, the_error}
+use Rattle.boxsearch.proofs.marking.mark_page.Goals.{else-is_unfinished-via-then-is_unfinished+else-not-is_changed, else-is_unfinished-via-else-is_unfinished}
 use Rattle.boxsearch.proofs.marking.mark_page.Goals as goal
 
 pub returns-in_err-page-clause-marks : goal.returns-in_err-page-clause-marks
 returns-in_err-page-clause-marks g c = rests_marks _ _ c.page.follows.holds-at-none.0
 
-pub returns-then-is_unfinished-clause-marks : goal.returns-then-is_unfinished-clause-marks
-returns-then-is_unfinished-clause-marks g c = rests_marks _ _ c.page.follows.holds-at-none.0
+pub returns-then-not-is_changed-clause-marks : goal.returns-then-not-is_changed-clause-marks
+returns-then-not-is_changed-clause-marks g c = rests_marks _ _ c.page.follows.holds-at-none.0
 
 pub returns-in_err-page_mut-clause-marks : goal.returns-in_err-page_mut-clause-marks
 returns-in_err-page_mut-clause-marks g c =
@@ -25,7 +26,10 @@ pub returns-clause-marks : goal.returns-clause-marks
 returns-clause-marks g c =
     let b = c.page.follows.lender-at-none in
     let w = c.set_unfinished.new.payload in
-    let not_marked : IsUnfinished c.in_ok-page.field-0.now → ⊥ = λ u. true≢false (sym (c.is_unfinished.ensures.1 u) ∙ c.if-is_unfinished.false) in
+    let not_marked : IsUnfinished c.in_ok-page.field-0.now → is_changed b 0 ≡ false → ⊥ = elim c.else-is_unfinished.branch [
+      | else-is_unfinished-via-then-is_unfinished+else-not-is_changed w ↦ λ u same. true≢false (sym w.if-not-is_changed.false ∙ w.is_changed.ensures ∙ same)
+      | else-is_unfinished-via-else-is_unfinished w ↦ λ u same. true≢false (sym (c.is_unfinished.ensures.1 u) ∙ w.if-is_unfinished.false)
+    ] in
     flushed_marks c.args.cache.now b (c.page_mut.follows.lender w) c.flush.new.self c.in_ok-page.field-0.now w c.page.follows.holds-at-none.0 c.in_ok-page.ensures.value not_marked
     (c.page_mut.follows.holds w (ap is_ok c.in_ok-page_mut.was)) c.flush.ensures.stays c.flush.ensures.length c.flush.ensures.asked
 
@@ -33,9 +37,12 @@ pub returns-clause-marked : goal.returns-clause-marked
 returns-clause-marked g c =
     let b = c.page.follows.lender-at-none in
     let w = c.set_unfinished.new.payload in
-    let not_marked : IsUnfinished c.in_ok-page.field-0.now → ⊥ = λ u. true≢false (sym (c.is_unfinished.ensures.1 u) ∙ c.if-is_unfinished.false) in
+    let not_marked : IsUnfinished c.in_ok-page.field-0.now → is_changed b 0 ≡ false → ⊥ = elim c.else-is_unfinished.branch [
+      | else-is_unfinished-via-then-is_unfinished+else-not-is_changed w ↦ λ u same. true≢false (sym w.if-not-is_changed.false ∙ w.is_changed.ensures ∙ same)
+      | else-is_unfinished-via-else-is_unfinished w ↦ λ u same. true≢false (sym (c.is_unfinished.ensures.1 u) ∙ w.if-is_unfinished.false)
+    ] in
     let unfinished : IsUnfinished w = subst (λ q. IsUnfinished q) (sym c.set_unfinished.ensures) (marked_is c.in_ok-page_mut.field-0.now) in
-    on_ok c.flush.result (λ written f h clean.
+    on_ok c.flush.result (λ written f h.
     is_marked c.args.cache.now b (c.page_mut.follows.lender w) c.flush.new.self c.in_ok-page.field-0.now w c.page.follows.holds-at-none.0 c.in_ok-page.ensures.value not_marked
     (c.page_mut.follows.holds w (ap is_ok c.in_ok-page_mut.was)) c.flush.ensures.stays c.flush.ensures.length c.flush.ensures.asked f h unfinished written) c.flush.ensures.written
 
@@ -43,27 +50,37 @@ pub returns-clause-others : goal.returns-clause-others
 returns-clause-others g c =
     let b = c.page.follows.lender-at-none in
     let w = c.set_unfinished.new.payload in
-    let not_marked : IsUnfinished c.in_ok-page.field-0.now → ⊥ = λ u. true≢false (sym (c.is_unfinished.ensures.1 u) ∙ c.if-is_unfinished.false) in
+    let not_marked : IsUnfinished c.in_ok-page.field-0.now → is_changed b 0 ≡ false → ⊥ = elim c.else-is_unfinished.branch [
+      | else-is_unfinished-via-then-is_unfinished+else-not-is_changed w ↦ λ u same. true≢false (sym w.if-not-is_changed.false ∙ w.is_changed.ensures ∙ same)
+      | else-is_unfinished-via-else-is_unfinished w ↦ λ u same. true≢false (sym (c.is_unfinished.ensures.1 u) ∙ w.if-is_unfinished.false)
+    ] in
     on_fault c.flush.result (λ f clean.
     others_written c.args.cache.now b (c.page_mut.follows.lender w) c.flush.new.self c.in_ok-page.field-0.now w c.page.follows.holds-at-none.0 c.in_ok-page.ensures.value not_marked
     (c.page_mut.follows.holds w (ap is_ok c.in_ok-page_mut.was)) c.flush.ensures.stays c.flush.ensures.length c.flush.ensures.asked f clean)
 
-pub returns-then-is_unfinished-clause-header : goal.returns-then-is_unfinished-clause-header
-returns-then-is_unfinished-clause-header g c = first_rests _ _ c.in_ok-page.field-0.now c.page.follows.holds-at-none.0 c.in_ok-page.ensures.value (c.is_unfinished.ensures.0 c.if-is_unfinished.true)
+pub returns-then-not-is_changed-clause-header : goal.returns-then-not-is_changed-clause-header
+returns-then-not-is_changed-clause-header g c = first_rests _ _ c.in_ok-page.field-0.now c.page.follows.holds-at-none.0 c.in_ok-page.ensures.value (c.is_unfinished.ensures.0 c.if-is_unfinished.true)
 
 pub returns-clause-header : goal.returns-clause-header
 returns-clause-header g c =
     let b = c.page.follows.lender-at-none in
     let w = c.set_unfinished.new.payload in
-    let not_marked : IsUnfinished c.in_ok-page.field-0.now → ⊥ = λ u. true≢false (sym (c.is_unfinished.ensures.1 u) ∙ c.if-is_unfinished.false) in
+    let not_marked : IsUnfinished c.in_ok-page.field-0.now → is_changed b 0 ≡ false → ⊥ = elim c.else-is_unfinished.branch [
+      | else-is_unfinished-via-then-is_unfinished+else-not-is_changed w ↦ λ u same. true≢false (sym w.if-not-is_changed.false ∙ w.is_changed.ensures ∙ same)
+      | else-is_unfinished-via-else-is_unfinished w ↦ λ u same. true≢false (sym (c.is_unfinished.ensures.1 u) ∙ w.if-is_unfinished.false)
+    ] in
     on_any c.flush.result
     (first_marked c.args.cache.now b (c.page_mut.follows.lender w) c.flush.new.self c.in_ok-page.field-0.now w c.page.follows.holds-at-none.0 c.in_ok-page.ensures.value not_marked
     (c.page_mut.follows.holds w (ap is_ok c.in_ok-page_mut.was)) c.flush.ensures.stays c.flush.ensures.length c.flush.ensures.asked c.in_ok-page_mut.field-0.now c.in_ok-page_mut.ensures.value c.set_unfinished.ensures)
 
-pub returns-then-is_unfinished-clause-synced : goal.returns-then-is_unfinished-clause-synced
-returns-then-is_unfinished-clause-synced g c = λ f p at not_marked.
+pub returns-then-not-is_changed-clause-synced : goal.returns-then-not-is_changed-clause-synced
+returns-then-not-is_changed-clause-synced g c = λ f p at not_marked.
     let page = c.in_ok-page.field-0.now in
     absurd (not_marked (subst (λ q. IsUnfinished q) (some_same page p (sym (c.in_ok-page.ensures.value f) ∙ at)) (c.is_unfinished.ensures.0 c.if-is_unfinished.true)))
 
 pub returns-clause-synced : goal.returns-clause-synced
 returns-clause-synced g c = on_ok c.flush.result (λ synced f p at not_marked. synced) c.flush.ensures.synced
+
+pub returns-then-not-is_changed-clause-marked : goal.returns-then-not-is_changed-clause-marked
+returns-then-not-is_changed-clause-marked g c = λ f h.
+    already_marked _ _ c.in_ok-page.field-0.now c.page.follows.holds-at-none.0 c.in_ok-page.ensures.value (c.is_unfinished.ensures.0 c.if-is_unfinished.true) f h (sym c.is_changed.ensures ∙ c.if-not-is_changed.true)

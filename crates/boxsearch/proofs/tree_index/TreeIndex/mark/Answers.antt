@@ -1,6 +1,6 @@
 use Rattle.std.proofs.Common.{ℕ, ◌≡◌, ◌<◌, subst, sym, false, IsTrue, OnOk, map}
 use Rattle.legs.specs.Asking.{Refusals, Starts}
-use Rattle.boxsearch.specs.Index.{IndexView, words, MarksFirst, SyncsMark}
+use Rattle.boxsearch.specs.Index.{IndexView, words, IsMarked, MarksFirst, SyncsMark}
 use Rattle.pagecache.specs.Cache.{payload_of}
 use Rattle.boxsearch.specs.Answers.{of_cache}
 use Rattle.boxsearch.proofs.AnswerLemmas.{each_value}
@@ -43,3 +43,10 @@ pub returns-clause-others : goal.returns-clause-others
 returns-clause-others g c =
     let new = c.mark_page.new.cache in
     subst (λ i. IsTrue i.cache.store.is_faithful → (n : ℕ) → 0 < n → payload_of new n ≡ payload_of i.cache n) c.self.view_is c.mark_page.ensures.marks.rest
+
+pub returns-clause-marked : goal.returns-clause-marked
+returns-clause-marked g c =
+    let new = c.mark_page.new.cache in
+    subst (λ i. OnOk c.of_pages.result (IsTrue i.cache.store.is_faithful → 0 < i.cache.count → IsMarked new)) c.self.view_is
+    (subst (λ r. OnOk r (IsTrue c.self.inside.cache.store.is_faithful → 0 < c.self.inside.cache.count → IsMarked new)) (sym c.of_pages.ensures)
+    (each_value (λ fault. of_cache fault) (λ _. IsTrue c.self.inside.cache.store.is_faithful → 0 < c.self.inside.cache.count → IsMarked new) c.mark_page.result c.mark_page.ensures.marked))
