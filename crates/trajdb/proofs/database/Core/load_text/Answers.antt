@@ -20,9 +20,9 @@ returns-in-Ok-text-clause-told_load g c = elim c.match-load.branch [
       let said : FileCode × ℕ = (w.in-Err-Refused.code, w.in-Err-Refused.number) in
       let text = ok_of w.file_refusal_text-text.result c.match-load.text c.in-Ok-text.text (λ text. text.items ≡ load_text (Err said)) w.text-is c.in-Ok-text.is w.file_refusal_text-text.ensures in (
         λ book of.
-        let told = load_of c.args.self.now.limits book c.args.bytes.now in
-        let refused : told ≡ Err said = subst (λ fault. FaultIs fault told) w.in-Err-Refused.field-0-is (w.in-Err-Refused.ensures.gives book of) in
-        text ∙ ap load_text (sym refused),
+            let told = load_of c.args.self.now.limits book c.args.bytes.now in
+            let refused : told ≡ Err said = subst (λ fault. FaultIs fault told) w.in-Err-Refused.field-0-is (w.in-Err-Refused.ensures.gives book of) in
+            text ∙ ap load_text (sym refused),
         inr ((said, text), w.in-Err-Refused.ensures.refused (subst (λ fault. IsRefused fault) (sym w.in-Err-Refused.field-0-is) tt)),
       )
 ]
