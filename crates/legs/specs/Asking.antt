@@ -109,7 +109,7 @@ pub record HasAdded {I : Type 0} (g : Ghosts I) (old new : I) (legs : List LegVi
   pub places : (feature : ℕ) (place : FeaturePlace) → last_leg_of feature legs ≡ None
       → slice_get (g.found_by old).places feature ≡ Some place
       → slice_get (g.found_by new).places feature ≡ Some place
-  -- of an index over pages the place of each feature counts the feature's legs
+  -- of an index over pages the place of each feature counts so many more as the feature has among them
   pub place_legs : (feature : ℕ) → g.plan old ≢ None
       → placed_legs (g.found_by new) feature
       ≡ placed_legs (g.found_by old) feature + count_by (is_of feature) legs
