@@ -40,6 +40,7 @@ pub grows_pushed : (old mid new : Pages LegView BoxView) (p most : ℕ) (ys : Li
 grows_pushed old mid new p most ys (Ok u) k back many h w =
     let own : All (λ leg. leg.feature ≡ h.leaf.feature) ys = goes_own h.leaf.feature h.takes.last.ordinal ys h.takes.go_on in
     record {
+      last_is = h.above;
       was = (w.leaf, back p w.leaf w.was);
       keeps = record {
         rest = λ q leaf other e. w.becomes.rest q (λ u. other (let a = h.above in omega (arith, a, u)) u) ∙ k q leaf e;
@@ -210,6 +211,7 @@ nothing_new nodes last = record {
 pub fills_none : (leaf : ℕ) (nodes : Pages LegView BoxView) (leaves : ℕ) (place : Place) → FillsLeaves leaf nodes nodes leaves leaves place place [] []
 fills_none leaf nodes leaves place = record {
   one = All-nil (λ leg. leg.feature ≡ 0);
+  took = λ h. absurd (let n = ap length (taken_nil leaf place.legs) in omega (arith, n, h));
   was = λ h. absurd (omega (arith, h));
   keeps = subst (λ l. KeepsLegs place.last l [] None nodes nodes) (sym (taken_nil leaf place.legs)) (nothing_new nodes place.last);
   made = drop_nil (room leaf place.legs);
@@ -243,6 +245,7 @@ module _ (leaf : ℕ) (old mid new : Pages LegView BoxView) (leaves mid_leaves n
       ∙ ap (λ (ls : List LegView). Some (Some (ALeaf (record l { legs = ls })))) (ap (λ t. l.legs ++ t) (taken_nil leaf place.legs) ∙ append-nil l.legs) in
       record {
         one = own_of new new_place.last ys h;
+        took = λ _. (let a = g.last_is in omega (arith, a, last_is));
         was = λ _ above. ⊎_elim
             (λ (l : IsLeafAt old place.last). l)
             (λ (c : Contains pages place.last). absurd (no_element place.last (subst (λ l. Contains l place.last) none c)))
@@ -422,6 +425,7 @@ module _ (leaf : ℕ) (old mid new : Pages LegView BoxView) (leaves mid_leaves n
         (All-weaker (λ p. (0 < p) × (p < mid.count)) (λ p. p < page) (λ p h. let n = begun.number in let b = h.1 in omega (arith, n, b)) pages so_far.there) so_far.made in
         record {
           one = one_all;
+          took = λ h. so_far.took (let n = ap length taken_is in omega (arith, n, h));
           was = λ _. was_of pages refl;
           keeps = subst (λ t. KeepsLegs place.last t (xs ++ ys) (slice_get (pages ++ page ∷ []) 0) old new) taken_is (keeps_all pages refl);
           made = subst (λ zs. AreLeaves new leaf old.count place.last zs (pages ++ page ∷ [])) (sym left_is) made;

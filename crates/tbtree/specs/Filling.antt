@@ -66,7 +66,8 @@ place_with leaves place legs (p ∷ ps) = record {
 pub record FillsLeaves (leaf : ℕ) (old new : Pages LegView BoxView) (leaves leaves' : ℕ)
     (place place' : Place) (legs : List LegView) (pages : List ℕ) : Type 0 where
   pub one : All (λ leg. leg.feature ≡ owner leg_feature legs) legs
-  -- where the place has a last leaf, it is one
+  -- where the last leaf takes any there is one, and where the place has one, it is a leaf
+  pub took : 0 < length (taken_by_last leaf place.legs legs) → 0 < place.last
   pub was : 0 < length legs → 0 < place.last → IsLeafAt old place.last
   pub keeps : KeepsLegs place.last (taken_by_last leaf place.legs legs) legs (slice_get pages 0)
       old new
@@ -89,6 +90,7 @@ pub record FillsLeaves (leaf : ℕ) (old new : Pages LegView BoxView) (leaves le
 -- legs are put into the leaf of the page `last`, which has room for all of them
 pub record GrowsLeaf (old new : Pages LegView BoxView) (last : ℕ)
     (legs : List LegView) : Type 0 where
+  pub last_is : 0 < last
   pub was : IsLeafAt old last
   pub keeps : KeepsLegs last legs legs None old new
   pub only : (p : ℕ) → IsLeafAt new p → IsLeafAt old p
