@@ -41,15 +41,26 @@ fn given(
     alloc: Global,
     cache: &mut PageCache<MemStore>,
     shape: &Shape,
+    feature: u32,
     place: &Place,
     period: &Option<Period>,
 ) -> Option<u64> {
     let mut spans = Vec::new(alloc);
     let found = match period {
         Some(period) => {
-            trajectory_in(alloc, cache, shape, place, period, &Sieve::All, &mut spans).ok()?
+            trajectory_in(
+                alloc,
+                cache,
+                shape,
+                feature,
+                place,
+                period,
+                &Sieve::All,
+                &mut spans,
+            )
+            .ok()?
         }
-        None => trajectory(alloc, cache, shape, place, &mut spans).ok()?,
+        None => trajectory(alloc, cache, shape, feature, place, &mut spans).ok()?,
     };
     Some(found.len() as u64)
 }
@@ -65,8 +76,9 @@ fn held(
     let before = cache.asked();
     let mut legs = 0u64;
     for i in 0..count {
-        let place = places.get((i % 1_000) as usize)?;
-        legs = legs.wrapping_add(given(alloc, &mut cache, shape, place, period)?);
+        let feature = i % 1_000;
+        let place = places.get(feature as usize)?;
+        legs = legs.wrapping_add(given(alloc, &mut cache, shape, feature, place, period)?);
     }
     Some((legs, cache.asked().wrapping_sub(before)))
 }
@@ -85,8 +97,9 @@ fn fresh(
         let Ok(mut cache) = PageCache::new(alloc, store, 256) else {
             return None;
         };
-        let place = places.get((i % 1_000) as usize)?;
-        legs = legs.wrapping_add(given(alloc, &mut cache, shape, place, period)?);
+        let feature = i % 1_000;
+        let place = places.get(feature as usize)?;
+        legs = legs.wrapping_add(given(alloc, &mut cache, shape, feature, place, period)?);
         asked = asked.wrapping_add(cache.asked());
         store = cache.into_store();
     }

@@ -1,5 +1,5 @@
 -- What legs make of an index, whatever its pages hold.
-use Rattle.std.proofs.Common.{ℕ, zero, suc, ◌+◌, ◌-◌, ◌^◌, ◌%◌, ◌<◌, ◌≤◌, ◌≡◌, ◌≢◌, ◌==◌, min, true, false, cond, refl, sym, ap, ◌∙◌, arith, subst, ⊎_elim, All, List, [], ◌∷◌, ◌++◌, map, drop, length, get_or, Option, Some, None, slice_get, set, Result, Ok, Err, OnOk, append_assoc}
+use Rattle.std.proofs.Common.{Bool, ℕ, zero, suc, ◌+◌, ◌-◌, ◌^◌, ◌%◌, ◌<◌, ◌≤◌, ◌≡◌, ◌≢◌, ◌==◌, min, true, false, cond, refl, sym, ap, ◌∙◌, arith, subst, ⊎_elim, All, List, [], ◌∷◌, ◌++◌, map, drop, length, get_or, Option, Some, None, slice_get, set, Result, Ok, Err, OnOk, append_assoc}
 use Rattle.std.specs.Prelude.{IsTrue}
 use Rattle.std.specs.List.{count_by, Contains}
 use Rattle.std.proofs.lemmas.Bool.{cases_eq, eqb-true, true≢false}
@@ -10,11 +10,11 @@ use Rattle.legs.specs.Asking.{placed_legs, HasAdded}
 use Rattle.legs.specs.Boxes.{BoxView}
 use Rattle.legs.specs.Costs.{leg_feature}
 use Rattle.legs.specs.Finding.{FeaturePlace}
-use Rattle.legs.specs.Index.{is_of, last_leg_of}
+use Rattle.legs.specs.Index.{is_of, last_leg_of, legs_of}
 use Rattle.legs.specs.Legs.{LegView}
 use Rattle.legs.proofs.LastLemmas.{last_absent, last_at_end, last_holds, last_own, takes_then}
 use Rattle.tbtree.specs.Content.{ContentGrows}
-use Rattle.tbtree.specs.Descent.{content_of}
+use Rattle.tbtree.specs.Descent.{found_legs}
 use Rattle.tbtree.specs.Filling.{KeepsLegs}
 use Rattle.tbtree.specs.Joining.{in_last_leaf, HasAtEnd}
 use Rattle.tbtree.specs.Nodes.{Pages, pages_of_cache, with_legs}
@@ -25,9 +25,11 @@ use Rattle.tbtree.proofs.EndLemmas.{ends_fewer}
 use Rattle.tbtree.proofs.RoomLemmas.{count_all_other, count_all_same}
 use Rattle.tbtree.proofs.Still.{still}
 use Rattle.boxsearch.specs.Answers.{answered, of_tree}
-use Rattle.boxsearch.specs.Index.{IndexView, found_by, holds, place_of, words, with_place}
+use Rattle.boxsearch.specs.Index.{IndexView, finds, found_by, place_of, words, with_place}
 use Rattle.boxsearch.specs.Putting.{FillsSome, Puts, PutsAll}
+use Rattle.boxsearch.specs.Telling.{TellsTrack}
 use Rattle.boxsearch.proofs.AddLemmas.{made}
+use Rattle.boxsearch.proofs.TrackGrowth.{all_of_one, made_was, none_of_other, other_track, own_track}
 use Rattle.boxsearch.proofs.PlaceLemmas.{get-set_same, get-set_other, push_last, push_other}
 
 -- the last of some legs is among those of the last leaf
@@ -107,14 +109,14 @@ module _ (old new : IndexView) (feature : ℕ) (legs : List LegView) (was is : P
   place_of_own = ap (λ l. slice_get l feature) places ∙ get-set_same (with_place old.places feature) feature is was found
 
   -- what the pages said they say, and the legs
-  says : (i : IndexView) (leg : LegView) → (IsTrue i.cache.store.is_faithful → Contains (content_of (pages_of_cache i.cache) i.tree) leg) → holds i leg
-  says i leg there = λ fa.
-      let legs = content_of (pages_of_cache i.cache) i.tree in
+  says : (i : IndexView) (meets : BoxView → Bool) (leg : LegView) → (IsTrue i.cache.store.is_faithful → Contains (found_legs meets (pages_of_cache i.cache) i.tree) leg) → finds i meets leg
+  says i meets leg there = λ fa.
+      let legs = found_legs meets (pages_of_cache i.cache) i.tree in
       (elim i.cache.store.is_faithful as (λ b. IsTrue b → (IsTrue b → Contains legs leg) → Contains (cond b legs []) leg) [ true ↦ λ f h. h f | false ↦ λ f h. absurd (true≢false (sym f)) ]) fa there
 
-  said : (i : IndexView) (leg : LegView) → holds i leg → IsTrue i.cache.store.is_faithful → Contains (content_of (pages_of_cache i.cache) i.tree) leg
-  said i leg h = λ fa.
-      let legs = content_of (pages_of_cache i.cache) i.tree in
+  said : (i : IndexView) (meets : BoxView → Bool) (leg : LegView) → finds i meets leg → IsTrue i.cache.store.is_faithful → Contains (found_legs meets (pages_of_cache i.cache) i.tree) leg
+  said i meets leg h = λ fa.
+      let legs = found_legs meets (pages_of_cache i.cache) i.tree in
       (elim i.cache.store.is_faithful as (λ b. IsTrue b → (IsTrue b → Contains (cond b legs []) leg) → Contains legs leg) [ true ↦ λ f h. h f | false ↦ λ f h. absurd (true≢false (sym f)) ]) fa h
 
   count_of : (f : ℕ) → placed_legs (found_by new) f ≡ placed_legs (found_by old) f + count_by (is_of f) legs
@@ -133,8 +135,28 @@ module _ (old new : IndexView) (feature : ℕ) (legs : List LegView) (was is : P
   -- the legs of one feature that were put in
   takes_put : HasAdded words old new legs
   takes_put = record {
-    kept = λ leg h. says new leg (λ fa. All-contains (Contains (content_of (pages_of_cache new.cache) new.tree)) (content_of (pages_of_cache old.cache) old.tree) leg (met (was_faithful fa)).kept (said old leg h (was_faithful fa)));
-    put = λ k d l. says new (get_or legs k d) (λ fa. (met (was_faithful fa)).put k d l);
+    kept = λ meets prune leg h. says new meets leg (λ fa. All-contains (Contains (found_legs meets (pages_of_cache new.cache) new.tree)) (found_legs meets (pages_of_cache old.cache) old.tree) leg ((met (was_faithful fa)).kept meets prune) (said old meets leg h (was_faithful fa)));
+    put = λ meets prune k d l t. says new meets (get_or legs k d) (λ fa. (met (was_faithful fa)).put meets prune k d l t);
+    tracks = λ f told h fa.
+        let was_fa = was_faithful fa in
+        let f_of = fills was_fa in
+        let least = f_of.1.least some in
+        let nodes = pages_of_cache old.cache in
+        let nodes' = pages_of_cache new.cache in
+        let before : TellsTrack nodes old.tree.shape None f (slice_get old.places f) told = h was_fa in
+        let after : TellsTrack nodes' old.tree.shape None f (slice_get new.places f) (told ++ legs_of f legs) = ⊎_elim
+        (λ (e : f ≡ feature).
+        let mine = own_track nodes nodes' feature old.tree.leaves new.tree.leaves old.tree.shape least was is legs some f_of.0 f_of.1 one (slice_get old.places feature) (made_was old.places feature was found) told
+        (subst (λ g. TellsTrack nodes old.tree.shape None g (slice_get old.places g) told) e before) in
+        subst (λ g. TellsTrack nodes' old.tree.shape None g (slice_get new.places g) (told ++ legs_of g legs)) (sym e)
+        (subst (λ o. TellsTrack nodes' old.tree.shape None feature o (told ++ legs_of feature legs)) (sym place_of_own)
+        (subst (λ l. TellsTrack nodes' old.tree.shape None feature (Some is) (told ++ l)) (sym (all_of_one feature legs one)) mine)))
+        (λ (u : f ≢ feature).
+        let theirs = other_track nodes nodes' feature old.tree.leaves new.tree.leaves old.tree.shape least was is legs some f_of.0 f_of.1 one f u (slice_get old.places f) told before in
+        subst (λ o. TellsTrack nodes' old.tree.shape None f o (told ++ legs_of f legs)) (sym (place_of_other f u))
+        (subst (λ l. TellsTrack nodes' old.tree.shape None f (slice_get old.places f) l) (sym (append-nil told) ∙ ap (λ l. told ++ l) (sym (none_of_other feature f u legs one))) theirs))
+        (cases_eq f feature) in
+        subst (λ s. TellsTrack nodes' s None f (slice_get new.places f) (told ++ legs_of f legs)) (sym shape) after;
     counted = λ few. counted ∙ omega (arith, few);
     works = works;
     plan = ap Some shape;

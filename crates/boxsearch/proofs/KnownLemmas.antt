@@ -48,21 +48,21 @@ module _ {V : Type 0} (items : V → List LeafSpan) where
   module _ (old new : Cache) (shape : ShapeView) (places : List Place) (before room : List V) (f : ℕ) (place : Place) (h : AreKnown old shape places (map items before)) (w : Widens (map items before) (map items room)) (at : slice_get places f ≡ Some place) where
     -- what is known of each feature, once there is room
     known_room : AreKnown old shape places (map items room)
-    known_room = λ fa g place spans p s. ⊎_elim (λ k. h fa g place spans p k) (λ n. subst (IsKnown (pages_of_cache old) shape place) (sym n) tt) (w g spans s)
+    known_room = λ fa g place spans p s. ⊎_elim (λ k. h fa g place spans p k) (λ n. subst (IsKnown (pages_of_cache old) shape g place) (sym n) tt) (w g spans s)
 
     -- of the feature that is asked about
-    pub known_of : (d : V) → f < length room → IsTrue old.store.is_faithful → IsKnown (pages_of_cache old) shape place (items (get_or room f d))
+    pub known_of : (d : V) → f < length room → IsTrue old.store.is_faithful → IsKnown (pages_of_cache old) shape f place (items (get_or room f d))
     known_of d l fa = known_room fa f place (items (get_or room f d)) at (map_get room f d l)
 
     -- and after it was
-    pub known_after : (v : V) → OnlyReads old new → ((place : Place) (spans : List LeafSpan) → IsTrue old.store.is_faithful → IsKnown (pages_of_cache old) shape place spans → IsKnown (pages_of_cache new) shape place spans)
-        → (IsTrue old.store.is_faithful → IsKnown (pages_of_cache old) shape place (items v)) → AreKnown new shape places (map items (set room f v))
+    pub known_after : (v : V) → OnlyReads old new → ((g : ℕ) (place : Place) (spans : List LeafSpan) → IsTrue old.store.is_faithful → IsKnown (pages_of_cache old) shape g place spans → IsKnown (pages_of_cache new) shape g place spans)
+        → (IsTrue old.store.is_faithful → IsKnown (pages_of_cache old) shape f place (items v)) → AreKnown new shape places (map items (set room f v))
     known_after v reads lasts is = λ fa g other spans p s.
         let was = sym reads.store.faithful ∙ fa in
-        lasts other spans was
+        lasts g other spans was
         (⊎_elim
         (λ (e : (g ≡ f) × (items v ≡ spans)).
         let same : place ≡ other = some_same place other (sym at ∙ ap (slice_get places) (sym e.0) ∙ p) in
-        subst (λ l. IsKnown (pages_of_cache old) shape other l) e.1 (subst (λ q. IsKnown (pages_of_cache old) shape q (items v)) same (is was)))
+        subst (λ l. IsKnown (pages_of_cache old) shape g other l) e.1 (subst (λ h. IsKnown (pages_of_cache old) shape h other (items v)) (sym e.0) (subst (λ q. IsKnown (pages_of_cache old) shape f q (items v)) same (is was))))
         (λ k. known_room was g other spans p k)
         (set_has room f g v spans s))

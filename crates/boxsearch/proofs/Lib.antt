@@ -25,6 +25,7 @@ pub mod KnownLemmas
 pub mod KnowsLemmas
 pub mod RunCounts
 pub mod RunLemmas
+pub mod TrackGrowth
 pub mod EndLemmas
 pub mod EndedLemmas
 pub mod TurnLasts

@@ -5,7 +5,7 @@ use Rattle.legs.specs.Costs.{ShapeView}
 use Rattle.legs.specs.Index.{feature_count}
 use Rattle.legs.specs.Legs.{IsLeg}
 use Rattle.pagecache.specs.Cache.{Cache}
-use Rattle.tbtree.specs.Descent.{content_of}
+use Rattle.tbtree.specs.Descent.{content_of, found_legs}
 use Rattle.tbtree.specs.Insert.{Stands}
 use Rattle.tbtree.specs.Nodes.{pages_of_cache}
 use Rattle.tbtree.specs.Shape.{IsShape}
@@ -14,7 +14,7 @@ use Rattle.boxsearch.specs.Index.{content, new_index, IsSound}
 use Rattle.boxsearch.proofs.PlaceLemmas.{some_none}
 
 pub no_content : (cache : Cache) (shape : ShapeView) → content (new_index cache shape) ≡ []
-unfolding content_of
+unfolding found_legs
 no_content cache shape = elim cache.store.is_faithful as (λ b. cond b (content_of (pages_of_cache cache) (empty_tree shape)) [] ≡ []) [ true ↦ refl | false ↦ refl ]
 
 pub new_sound : (cache : Cache) (shape : ShapeView) → IsTrue cache.store.is_faithful → IsShape shape → cache.count ≡ cache.store.count → Stands (pages_of_cache cache) (empty_tree shape) [] (λ _. []) → IsSound (new_index cache shape)

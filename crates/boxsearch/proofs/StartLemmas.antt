@@ -1,5 +1,5 @@
 -- An index whose page 0 is marked.
-use Rattle.std.proofs.Common.{ℕ, ◌≡◌, ◌≢◌, ◌<◌, ◌≤◌, ⊎_elim, refl, sym, ap, ◌∙◌, arith, subst, true, false, cond, drop, length, List, [], All, IsTrue, Option, Some, None, option_map, Result}
+use Rattle.std.proofs.Common.{slice_get, Bool, ℕ, ◌≡◌, ◌≢◌, ◌<◌, ◌≤◌, ⊎_elim, refl, sym, ap, ◌∙◌, arith, subst, true, false, cond, drop, length, List, [], All, IsTrue, Option, Some, None, option_map, Result}
 use Rattle.std.specs.Prelude.{IfErr, OnOk, OnErr}
 use Rattle.std.proofs.lemmas.Bool.{cases_lt, true≢false}
 use Rattle.std.proofs.lemmas.Int.{clamps}
@@ -13,16 +13,17 @@ use Rattle.pagecache.specs.Cache.{Cache, IsClean, pages_as_written, payload_of}
 use Rattle.pagecache.specs.declared.fault.CacheFault.{CacheFault}
 use Rattle.pagecache.specs.declared.fault.CacheFault.TheVariants as cache
 use Rattle.tbnode.specs.Form.{node_of}
-use Rattle.tbtree.specs.Descent.{content_of, node_in, IsSameTree}
+use Rattle.tbtree.specs.Descent.{found_legs, node_in, IsSameTree}
 use Rattle.tbtree.specs.Insert.{Stands, IsPlace}
 use Rattle.tbtree.specs.Nodes.{Pages, pages_of_cache}
 use Rattle.tbtree.specs.declared.tree.TbTree.{TbTree}
 use Rattle.boxsearch.specs.Answers.{answered, of_cache}
-use Rattle.boxsearch.specs.Index.{IndexView, words, content, written, IsSound, IsMarked}
+use Rattle.boxsearch.specs.Index.{IndexView, words, content, legs_by, written, IsSound, IsMarked}
 use Rattle.boxsearch.specs.Marking.{Marks, IsNotMarked}
 use Rattle.pages.specs.declared.payload.Payload.{Payload}
 use Rattle.std.specs.List.{Contains}
 use Rattle.tbtree.proofs.Still.{still}
+use Rattle.boxsearch.proofs.TrackGrowth.{told_beside}
 use Rattle.boxsearch.proofs.PlaceLemmas.{some_none}
 use Rattle.boxsearch.proofs.AnswerLemmas.{each_fault, each_value, the_fault, Said}
 use Rattle.chains.specs.declared.spans.LeafSpan.{LeafSpan}
@@ -31,7 +32,7 @@ use Rattle.boxsearch.proofs.ResultLemmas.{on_ok, on_err}
 
 -- the laws of a tree that are cited here
 pub record FirstLaws : Type 0 where
-  pub content : (old new : Pages LegView BoxView) (tree : TbTree) → IsSameTree old new → content_of new tree ≡ content_of old tree
+  pub found : (old new : Pages LegView BoxView) (tree : TbTree) → IsSameTree old new → (meets : BoxView → Bool) → found_legs meets new tree ≡ found_legs meets old tree
   pub stands : (old new : Pages LegView BoxView) (tree : TbTree) (legs : List LegView) (pages : ℕ → List ℕ) → IsSameTree old new → Stands old tree legs pages → Stands new tree legs pages
 
 map_none : {X Y : Type 0} (f : X → Y) (o : Option X) → option_map f o ≡ None → o ≡ None
@@ -43,13 +44,16 @@ none_before None p u e = refl
 none_before (Some x) p u e = absurd (u (some_none x) e)
 
 module _ (laws : FirstLaws) (old : IndexView) (c : Cache) (known : List (List LeafSpan)) (b : IsBeside old.cache c) where
-  pub beside_content : content (with_cache old c known) ≡ content old
-  beside_content =
-      ap (λ b. cond b (content_of (pages_of_cache c) old.tree) []) b.faithful ∙
-      (elim old.cache.store.is_faithful as (λ b. old.cache.store.is_faithful ≡ b → cond b (content_of (pages_of_cache c) old.tree) [] ≡ cond b (content_of (pages_of_cache old.cache) old.tree) []) [
-        | true ↦ λ f. laws.content (pages_of_cache old.cache) (pages_of_cache c) old.tree (b.tree f)
+  beside_found : (meets : BoxView → Bool) → legs_by meets (with_cache old c known) ≡ legs_by meets old
+  beside_found meets =
+      ap (λ b. cond b (found_legs meets (pages_of_cache c) old.tree) []) b.faithful ∙
+      (elim old.cache.store.is_faithful as (λ b. old.cache.store.is_faithful ≡ b → cond b (found_legs meets (pages_of_cache c) old.tree) [] ≡ cond b (found_legs meets (pages_of_cache old.cache) old.tree) []) [
+        | true ↦ λ f. laws.found (pages_of_cache old.cache) (pages_of_cache c) old.tree (b.tree f) meets
         | false ↦ λ f. refl
       ]) refl
+
+  pub beside_content : content (with_cache old c known) ≡ content old
+  beside_content = beside_found (λ _. true)
 
   pub beside_sound : IsSound old → IsSound (with_cache old c known)
   beside_sound s =
@@ -110,7 +114,8 @@ module _ (laws : FirstLaws) (old : IndexView) (c : Cache) (known : List (List Le
       → Starts words old new (answered (λ fault. of_cache fault) r)
   starts r marked others first = record {
     content = same_content;
-    holds = λ leg h fa. subst (λ ls. Contains ls leg) (sym same_content) (h (was_faithful fa));
+    tracks = λ f legs h fa. told_beside old.tree.shape f (slice_get old.places f) legs (pages_of_cache old.cache) (pages_of_cache c) (λ p above. ap (option_map node_of) (m.rest (was_faithful fa) p above)) (h (was_faithful fa));
+    finds = λ meets leg h fa. subst (λ ls. Contains ls leg) (sym (beside_found laws old c known beside meets)) (h (was_faithful fa));
     ends = λ leg h fa.
         let e = h (was_faithful fa) in
         let at = e.at_end in

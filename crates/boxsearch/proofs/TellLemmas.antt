@@ -91,10 +91,10 @@ module _ (i : IndexView) (c : Cache) (query : BoxView) where
 -- of a retrieval
 module _ (i : IndexView) (c : Cache) (feature : ℕ) (period : Option PeriodView) (place : Place) (at : slice_get i.places feature ≡ Some place) where
   abbrev nodes_fault : Option ℕ
-  nodes_fault = chain_fault (pages_of_cache i.cache) period i.tree.shape place
+  nodes_fault = chain_fault (pages_of_cache i.cache) period i.tree.shape feature place
 
-  here_denied : (n : ℕ) → nodes_fault ≡ Some n → DeniesTrack (pages_of_cache i.cache) i.tree.shape period (slice_get i.places feature) n
-  here_denied n e = subst (λ o. DeniesTrack (pages_of_cache i.cache) i.tree.shape period o n) (sym at) e
+  here_denied : (n : ℕ) → nodes_fault ≡ Some n → DeniesTrack (pages_of_cache i.cache) i.tree.shape period feature (slice_get i.places feature) n
+  here_denied n e = subst (λ o. DeniesTrack (pages_of_cache i.cache) i.tree.shape period feature o n) (sym at) e
 
   track_denies : (fault : TreeFault) → (IsTrue i.cache.store.is_faithful → IsNamed (pages_of_cache i.cache) nodes_fault fault)
       → RefusesRead i.cache c fault → Denies words i (OfFeature feature period) (of_tree fault)
@@ -107,24 +107,24 @@ module _ (i : IndexView) (c : Cache) (feature : ℕ) (period : Option PeriodView
   track_denies tree.Spent named caused = absurd caused
 
   pub track_told : {A : Type 0} (items : A → List LegView) (r : Result A TreeFault)
-      → (IsTrue i.cache.store.is_faithful → OnOk r (IsPlaceChain (pages_of_cache i.cache) period i.tree.shape place))
+      → (IsTrue i.cache.store.is_faithful → OnOk r (IsPlaceChain (pages_of_cache i.cache) period i.tree.shape feature place))
       → (IsTrue i.cache.store.is_faithful → IfOk r (λ found. items found ≡ chain_legs (pages_of_cache i.cache) period i.tree.shape place))
       → (IsTrue i.cache.store.is_faithful → IfErr r (IsNamed (pages_of_cache i.cache) nodes_fault))
       → IfErr r (RefusesRead i.cache c)
       → MatchResult (answered (λ fault. of_tree fault) r) (λ found. tells i (OfFeature feature period) (items found)) (λ fault. Denies words i (OfFeature feature period) fault)
-  track_told items (Ok found) chain legs named caused = λ f. subst (λ o. TellsTrack (pages_of_cache i.cache) i.tree.shape period o (items found)) (sym at) (chain f, legs f)
+  track_told items (Ok found) chain legs named caused = λ f. subst (λ o. TellsTrack (pages_of_cache i.cache) i.tree.shape period feature o (items found)) (sym at) (chain f, legs f)
   track_told items (Err fault) chain legs named caused = track_denies fault named caused
 
 -- of a feature that is not there
 pub none_told : (i : IndexView) (feature : ℕ) (period : Option PeriodView) (legs : List LegView) → slice_get i.places feature ≡ None → legs ≡ [] → tells i (OfFeature feature period) legs
-none_told i feature period legs at e = λ f. subst (λ o. TellsTrack (pages_of_cache i.cache) i.tree.shape period o legs) (sym at) e
+none_told i feature period legs at e = λ f. subst (λ o. TellsTrack (pages_of_cache i.cache) i.tree.shape period feature o legs) (sym at) e
 
 -- what a sieve keeps
 module _ (i : IndexView) (c : Cache) (feature : ℕ) (period : PeriodView) (s : Sieve) where
   pub track_sieved : (place : Place) → slice_get i.places feature ≡ Some place → {A : Type 0} (items : A → List LegView) (r : Result A TreeFault)
-      → (IsTrue i.cache.store.is_faithful → OnOk r (IsPlaceChain (pages_of_cache i.cache) (Some period) i.tree.shape place))
+      → (IsTrue i.cache.store.is_faithful → OnOk r (IsPlaceChain (pages_of_cache i.cache) (Some period) i.tree.shape feature place))
       → (IsTrue i.cache.store.is_faithful → IfOk r (λ found. IsSieved s period (chain_legs (pages_of_cache i.cache) (Some period) i.tree.shape place) (items found)))
-      → (IsTrue i.cache.store.is_faithful → IfErr r (IsNamed (pages_of_cache i.cache) (chain_fault (pages_of_cache i.cache) (Some period) i.tree.shape place)))
+      → (IsTrue i.cache.store.is_faithful → IfErr r (IsNamed (pages_of_cache i.cache) (chain_fault (pages_of_cache i.cache) (Some period) i.tree.shape feature place)))
       → IfErr r (RefusesRead i.cache c)
       → MatchResult (answered (λ fault. of_tree fault) r) (λ found. TellsSieved words i feature period s (items found)) (λ fault. Denies words i (OfFeature feature (Some period)) fault)
   track_sieved place at items (Ok found) chain legs named caused = by i.cache.store.is_faithful refl
@@ -132,7 +132,7 @@ module _ (i : IndexView) (c : Cache) (feature : ℕ) (period : PeriodView) (s : 
       by : (b : Bool) → i.cache.store.is_faithful ≡ b → TellsSieved words i feature period s (items found)
       by true e = (
         chain_legs (pages_of_cache i.cache) (Some period) i.tree.shape place,
-        λ f. subst (λ o. TellsTrack (pages_of_cache i.cache) i.tree.shape (Some period) o (chain_legs (pages_of_cache i.cache) (Some period) i.tree.shape place)) (sym at) (chain f, refl),
+        λ f. subst (λ o. TellsTrack (pages_of_cache i.cache) i.tree.shape (Some period) feature o (chain_legs (pages_of_cache i.cache) (Some period) i.tree.shape place)) (sym at) (chain f, refl),
         legs e,
       )
       by false e = (items found, λ f. absurd (true≢false (sym f ∙ e)), sieved_self s period (items found))

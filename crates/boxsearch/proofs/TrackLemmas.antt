@@ -57,29 +57,29 @@ none_ceil n h = (λ i. zero-div n i + min 1 (zero-mod n i))
 
 module _ {A : Type 0} (i : IndexView) (f : ℕ) (place : Place) (c : Cache) (r : Result A TreeFault) (found : slice_get i.places f ≡ Some place) where
   pub track_found : (P : List LegView → ℕ → A → Type 0)
-      → (IsTrue i.cache.store.is_faithful → (legs : List LegView) (feature : ℕ) → HasFeature (pages_of_cache i.cache) i.tree.shape place feature legs → GivesRead r (P legs feature))
+      → (IsTrue i.cache.store.is_faithful → (legs : List LegView) → HasFeature (pages_of_cache i.cache) i.tree.shape place f legs → GivesRead r (P legs f))
       → IfOk (answered (λ fault. of_tree fault) r) (λ value. IsSound i → P (content i) f value)
   track_found P gives =
       each_value (λ fault. of_tree fault) (λ value. IsSound i → P (content i) f value) r
-      (under_ok (P (content i) f) r (λ s. values_of (P (content i) f) MayRefuseRead r (gives s.faithful (content i) f (has_feature i f place s found))))
+      (under_ok (P (content i) f) r (λ s. values_of (P (content i) f) MayRefuseRead r (gives s.faithful (content i) (has_feature i f place s found))))
 
   pub track_asked : (Q : List LegView → ℕ → Type 0)
-      → (IsTrue i.cache.store.is_faithful → (legs : List LegView) (feature : ℕ) → HasFeature (pages_of_cache i.cache) i.tree.shape place feature legs → OnOk r (Q legs feature))
+      → (IsTrue i.cache.store.is_faithful → (legs : List LegView) → HasFeature (pages_of_cache i.cache) i.tree.shape place f legs → OnOk r (Q legs f))
       → OnOk (answered (λ fault. of_tree fault) r) (IsSound i → Q (content i) f)
   track_asked Q asked =
       each_value (λ fault. of_tree fault) (λ value. IsSound i → Q (content i) f) r
-      (under_ok (λ _. Q (content i) f) r (λ s. asked s.faithful (content i) f (has_feature i f place s found)))
+      (under_ok (λ _. Q (content i) f) r (λ s. asked s.faithful (content i) (has_feature i f place s found)))
 
   -- why a retrieval is refused
   pub track_refusals : (known : List (List LeafSpan)) (P : List LegView → ℕ → A → Type 0) → i.tree.spent ≡ false
-      → (IsTrue i.cache.store.is_faithful → (legs : List LegView) (feature : ℕ) → HasFeature (pages_of_cache i.cache) i.tree.shape place feature legs → GivesRead r (P legs feature))
+      → (IsTrue i.cache.store.is_faithful → (legs : List LegView) → HasFeature (pages_of_cache i.cache) i.tree.shape place f legs → GivesRead r (P legs f))
       → IfErr r (RefusesRead i.cache c) → Refusals words i (with_cache i c known) (answered (λ fault. of_tree fault) r)
   track_refusals known P works gives caused =
       let said = each_fault (λ fault. of_tree fault) (RefusesRead i.cache c) (Said i.cache c) (read_said i.cache c) r caused in
       record {
         was_spent = λ e. absurd (true≢false (sym e ∙ works));
         sound = each_fault (λ fault. of_tree fault) (λ fault. IsSound i → MayRefuseRead fault) (λ fault. IsSound i → MayRefuse fault) (λ x h s. read_allowed x (h s)) r
-            (under MayRefuseRead r (λ s. faults_of (P (content i) f) MayRefuseRead r (gives s.faithful (content i) f (has_feature i f place s found))));
+            (under MayRefuseRead r (λ s. faults_of (P (content i) f) MayRefuseRead r (gives s.faithful (content i) (has_feature i f place s found))));
         store = λ e. the_fault (answered (λ fault. of_tree fault) r) (Said i.cache c) index.Store e said;
         full = λ e. the_fault (answered (λ fault. of_tree fault) r) (Said i.cache c) index.StoreFull e said;
       }

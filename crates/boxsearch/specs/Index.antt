@@ -1,6 +1,7 @@
 -- What contracts see of an index over pages.
-use Rattle.std.specs.Prelude.{ℕ, ◌≡◌, ◌<◌, ◌-◌, ◌^◌, ◌==◌, min, false, if◌then◌else◌, IsTrue, List, [], ◌∷◌, ◌++◌, map, length, slice_get, Some, All}
+use Rattle.std.specs.Prelude.{Bool, true, ℕ, ◌≡◌, ◌<◌, ◌-◌, ◌^◌, ◌==◌, min, false, if◌then◌else◌, IsTrue, List, [], ◌∷◌, ◌++◌, map, length, slice_get, Some, All}
 use Rattle.std.specs.List.{Contains}
+use Rattle.legs.specs.Boxes.{BoxView}
 use Rattle.legs.specs.Costs.{ShapeView}
 use Rattle.legs.specs.Finding.{FeaturePlace, Finding}
 use Rattle.legs.specs.Index.{feature_count}
@@ -10,7 +11,7 @@ use Rattle.pages.specs.Store.{IsSynced}
 use Rattle.pages.specs.declared.payload.Payload.{Payload}
 use Rattle.legs.specs.declared.listed.Listed.{Ghosts}
 use Rattle.pagecache.specs.Cache.{Cache, IsClean, is_changed, pages_as_written, payload_of, sealed_payload}
-use Rattle.tbtree.specs.Descent.{content_of}
+use Rattle.tbtree.specs.Descent.{found_legs}
 use Rattle.tbtree.specs.Insert.{Stands, IsPlace}
 use Rattle.tbtree.specs.Nodes.{pages_of_cache}
 use Rattle.tbtree.specs.Shape.{IsShape}
@@ -31,9 +32,14 @@ pub record IndexView : Type 0 where
   pub legs : ℕ
   pub known : List (List LeafSpan)
 
--- the legs that its pages say; none where its store is not faithful
+-- the legs that the way down its pages by a test of boxes finds; none where its store is not faithful
+abbrev pub legs_by : (BoxView → Bool) → IndexView → List LegView
+legs_by meets i =
+    if i.cache.store.is_faithful then found_legs meets (pages_of_cache i.cache) i.tree else []
+
+-- the legs that its pages say
 abbrev pub content : IndexView → List LegView
-content i = if i.cache.store.is_faithful then content_of (pages_of_cache i.cache) i.tree else []
+content i = legs_by (λ _. true) i
 
 -- what its pages say to a question, and which page says nothing to it; anything where its store is not faithful
 abbrev pub tells : IndexView → Question → List LegView → Type 0
@@ -44,9 +50,9 @@ abbrev pub denies : IndexView → Question → ℕ → Type 0
 denies i question page =
     IsTrue i.cache.store.is_faithful → Denies (pages_of_cache i.cache) i.tree i.places question page
 
--- its pages say the leg; anything where its store is not faithful
-abbrev pub holds : IndexView → LegView → Type 0
-holds i leg = IsTrue i.cache.store.is_faithful → Contains (content i) leg
+-- the way down its pages by a test of boxes finds the leg; anything where its store is not faithful
+abbrev pub finds : IndexView → (BoxView → Bool) → LegView → Type 0
+finds i meets leg = IsTrue i.cache.store.is_faithful → Contains (legs_by meets i) leg
 
 -- the last leaf of the leg's feature has the leg at its end; anything where its store is not faithful
 abbrev pub ends_with : IndexView → LegView → Type 0
@@ -112,7 +118,7 @@ words = record {
   content = λ index. content index;
   tells = λ index question legs. tells index question legs;
   denies = λ index question page. denies index question page;
-  holds = λ index leg. holds index leg;
+  finds = λ index meets leg. finds index meets leg;
   ends_with = λ index leg. ends_with index leg;
   counted = λ index. index.legs;
   is_sound = λ index. IsSound index;

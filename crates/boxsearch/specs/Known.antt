@@ -13,7 +13,7 @@ abbrev pub AreKnown : Cache → ShapeView → List Place → List (List LeafSpan
 AreKnown cache shape places known =
     IsTrue cache.store.is_faithful → (feature : ℕ) (place : Place) (spans : List LeafSpan)
     → slice_get places feature ≡ Some place → slice_get known feature ≡ Some spans
-    → IsKnown (pages_of_cache cache) shape place spans
+    → IsKnown (pages_of_cache cache) shape feature place spans
 
 -- of each feature is known what was known of it, or nothing
 abbrev pub Widens : List (List LeafSpan) → List (List LeafSpan) → Type 0

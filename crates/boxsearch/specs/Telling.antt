@@ -27,28 +27,30 @@ pub record TellsBox (nodes : Pages LegView BoxView) (tree : TbTree) (query : Box
   pub way : IsWay query nodes tree.root tree.levels
   pub met : IsInOrder (legs_met leg_boxes (meets query) nodes tree.root tree.levels) legs
 
--- the pages are the chain of a place, as far as it is read, and these are the legs that are kept of it; where there is no
--- place there is no leg
-abbrev pub TellsTrack : Pages LegView BoxView → ShapeView → Option PeriodView → Option Place
-    → List LegView → Type 0
-TellsTrack nodes shape period (Some place) legs =
-    IsPlaceChain nodes period shape place × (legs ≡ chain_legs nodes period shape place)
-TellsTrack nodes shape period None legs = legs ≡ []
+-- the pages are the chain of a feature's place, as far as it is read, and these are the legs that are kept of it; where
+-- there is no place there is no leg
+abbrev pub TellsTrack : Pages LegView BoxView → ShapeView → Option PeriodView → (feature : ℕ)
+    → Option Place → List LegView → Type 0
+TellsTrack nodes shape period feature (Some place) legs =
+    IsPlaceChain nodes period shape feature place
+    × (legs ≡ chain_legs nodes period shape place)
+TellsTrack nodes shape period feature None legs = legs ≡ []
 
 -- the page is the first one, from the place's last leaf back, that is not the chain's
-abbrev pub DeniesTrack : Pages LegView BoxView → ShapeView → Option PeriodView → Option Place → ℕ
-    → Type 0
-DeniesTrack nodes shape period (Some place) page = chain_fault nodes period shape place ≡ Some page
-DeniesTrack nodes shape period None page = ⊥
+abbrev pub DeniesTrack : Pages LegView BoxView → ShapeView → Option PeriodView → (feature : ℕ)
+    → Option Place → ℕ → Type 0
+DeniesTrack nodes shape period feature (Some place) page =
+    chain_fault nodes period shape feature place ≡ Some page
+DeniesTrack nodes shape period feature None page = ⊥
 
 -- what pages say to a question, by a tree and the places of its features
 abbrev pub Tells : Pages LegView BoxView → TbTree → List Place → Question → List LegView → Type 0
 Tells nodes tree places (InBox query) legs = TellsBox nodes tree query legs
 Tells nodes tree places (OfFeature feature period) legs =
-    TellsTrack nodes tree.shape period (slice_get places feature) legs
+    TellsTrack nodes tree.shape period feature (slice_get places feature) legs
 
 -- the page is met, and is not what it is to be there
 abbrev pub Denies : Pages LegView BoxView → TbTree → List Place → Question → ℕ → Type 0
 Denies nodes tree places (InBox query) page = IsOffWay query nodes tree.root tree.levels page
 Denies nodes tree places (OfFeature feature period) page =
-    DeniesTrack nodes tree.shape period (slice_get places feature) page
+    DeniesTrack nodes tree.shape period feature (slice_get places feature) page

@@ -14,7 +14,7 @@ impl<S: PageStore> Listed for TreeIndex<S> {
     ghost use Rattle.std.specs.Prelude.{Some, min, ◌≡◌, ◌-◌, ◌^◌};
     ghost use Rattle.pagecache.specs.Cache.{IsClean};
     ghost use Rattle.boxsearch.specs.Known.{KnowsBackTo};
-    ghost use Rattle.boxsearch.specs.Index.{content, denies, ends_with, found_by, holds, tells, written, IsSound, IsMarked};
+    ghost use Rattle.boxsearch.specs.Index.{content, denies, ends_with, finds, found_by, tells, written, IsSound, IsMarked};
 
     ghost content = { λ index. content index };
 
@@ -22,7 +22,7 @@ impl<S: PageStore> Listed for TreeIndex<S> {
 
     ghost denies = { λ index question page. denies index question page };
 
-    ghost holds = { λ index leg. holds index leg };
+    ghost finds = { λ index meets leg. finds index meets leg };
 
     ghost ends_with = { λ index leg. ends_with index leg };
 
@@ -55,7 +55,7 @@ impl<S: PageStore> Listed for TreeIndex<S> {
 impl<S: PageStore> LegIndex for TreeIndex<S> {
     ghost sound_lasts = { λ index sound. sound.works };
 
-    ghost held = { λ index leg sound. ((λ held. held sound.faithful), (λ there faithful. there)) };
+    ghost held = { λ index leg sound. ((λ found. found sound.faithful), (λ there faithful. there)) };
 
     ghost lawful = { λ index sound. sound.lawful };
 
@@ -118,13 +118,12 @@ impl<S: PageStore> LegIndex for TreeIndex<S> {
             return Ok(Vec::new(self.alloc));
         };
         chains::laws();
-        let feature = feature as usize;
-        if make_room(self.alloc, &mut self.known, feature).is_err() {
+        if make_room(self.alloc, &mut self.known, feature as usize).is_err() {
             return Err(IndexFault::Memory);
         }
         let shape = self.tree.shape;
-        let spans = &mut self.known[feature];
-        answer(trajectory(self.alloc, &mut self.cache, &shape, &place, spans))
+        let spans = &mut self.known[feature as usize];
+        answer(trajectory(self.alloc, &mut self.cache, &shape, feature, &place, spans))
     }
 
     fn track_in(
@@ -140,13 +139,14 @@ impl<S: PageStore> LegIndex for TreeIndex<S> {
             return Ok(Vec::new(self.alloc));
         };
         chains::laws();
-        let feature = feature as usize;
-        if make_room(self.alloc, &mut self.known, feature).is_err() {
+        if make_room(self.alloc, &mut self.known, feature as usize).is_err() {
             return Err(IndexFault::Memory);
         }
         let shape = self.tree.shape;
-        let spans = &mut self.known[feature];
+        let spans = &mut self.known[feature as usize];
         let cache = &mut self.cache;
-        answer(trajectory_in(self.alloc, cache, &shape, &place, period, sieve, spans))
+        answer(trajectory_in(
+            self.alloc, cache, &shape, feature, &place, period, sieve, spans,
+        ))
     }
 }

@@ -1,6 +1,8 @@
 //! The parts of an index, for what is kept beside its tree.
-ghost use Rattle.std.specs.Prelude.{ℕ, ◌≡◌, ◌≢◌, ◌<◌, ◌≤◌, ◌^◌, ◌↔◌, [], true, List, length, count_by, slice_get, IsTrue, None, Some};
-ghost use Rattle.std.specs.List.{sum_by};
+ghost use Rattle.std.specs.Prelude.{ℕ, ◌≡◌, ◌≢◌, ◌<◌, ◌≤◌, ◌^◌, ◌↔◌, [], true, filter, Bool, List, length, count_by, slice_get, IsTrue, None, Some};
+ghost use Rattle.std.specs.List.{sum_by, Contains};
+ghost use Rattle.legs.specs.Boxes.{BoxView, box_of};
+ghost use Rattle.legs.specs.Hull.{IsPruning, leg_boxes};
 ghost use Rattle.legs.specs.Legs.{LegView};
 ghost use Rattle.legs.specs.Index.{is_of, last_leg_of, CanFollowInTurn};
 ghost use Rattle.pagecache.specs.Cache.{payload_of, Cache, IsClean, IsSettled};
@@ -8,7 +10,7 @@ ghost use Rattle.tbtree.specs.declared.tree.Place.{Place};
 ghost use Rattle.chains.specs.declared.spans.LeafSpan.{LeafSpan};
 ghost use Rattle.boxsearch.specs.Beside.{with_cache, IsBeside};
 ghost use Rattle.boxsearch.specs.Bounds.{IsBounded};
-ghost use Rattle.boxsearch.specs.Index.{content, ends_with, IndexView, IsMarked, IsSound};
+ghost use Rattle.boxsearch.specs.Index.{content, ends_with, finds, IndexView, IsMarked, IsSound};
 ghost use Rattle.header.specs.Front.{SaysState};
 
 use crate::tree_index::TreeIndex;
@@ -119,6 +121,11 @@ pub fn laws()
 
     // The legs of a sound one follow one another from the first.
     ensures in_turn { (index : IndexView) → IsSound index → CanFollowInTurn [] (content index) }
+
+    // By a test of boxes a sound one finds those of its legs whose boxes meet.
+    ensures found { (index : IndexView) → IsSound index → (meets : BoxView → Bool)
+        → IsPruning leg_boxes meets → (leg : LegView) → finds index meets leg
+        ↔ Contains (filter (λ leg. meets (box_of leg)) (content index)) leg }
 
     // Each feature of a sound one ends with its last leg.
     ensures ended { (index : IndexView) → IsSound index → (leg : LegView)

@@ -131,10 +131,6 @@ counted_onto most legs (g ∷ gs) acc h c =
     (λ j r e. h (suc j) r e ∙ ap (λ k. min most (legs - k * most)) (let z : length acc + suc j ≡ length (g ∷ acc) + j = omega arith in z))
     (h 0 g refl ∙ ap (λ k. min most (legs - k * most)) (let z : length acc + 0 ≡ length acc = omega arith in z), c)
 
-fitting : (o : Option ℕ) (g f : ℕ) → g ≡ f → IfSome o (λ h. f ≡ h) → IfSome o (λ h. g ≡ h)
-fitting None g f e s = s
-fitting (Some h) g f e s = e ∙ s
-
 -- a leaf of such a row is placed as the chain has it
 placed_back : (nodes : Pages LegView BoxView) (f first most legs p : ℕ) (leaf : LeafView LegView) (rs : List (List LegView)) → IsBack nodes f first p leaf.previous rs
     → IsPlaced leaf p (spot_of most legs first (length rs))
@@ -150,14 +146,14 @@ back_none nodes f first next p (r ∷ rs) z b = absurd (omega (arith, z))
 
 module _ (nodes : Pages LegView BoxView) (period : Option PeriodView) where
   -- the leaves are a chain
-  pub is_chain : (f first most legs : ℕ) (rs : List (List LegView)) (link : Link) → IsBack nodes f first link.next link.page rs → Counted most legs rs → IfSome link.feature (λ g. f ≡ g)
+  pub is_chain : (f first most legs : ℕ) (rs : List (List LegView)) (link : Link) → IsBack nodes f first link.next link.page rs → Counted most legs rs → f ≡ link.feature
       → IsChain nodes period most legs first (length rs) link
   is_chain f first most legs [] link b c s = tt
   is_chain f first most legs (r ∷ rs) link b c s =
       let leaf = b.0 in
       let spot = spot_of most legs first (length rs) in
       let placed = placed_back nodes f first most legs link.page leaf rs b.2 in
-      let fits : Fits leaf link spot = record { count_is = ap length b.1.legs_are ∙ c.0; next_is = b.1.next_is; feature_is = fitting link.feature leaf.feature f b.1.feature_is s; placed = placed } in
+      let fits : Fits leaf link spot = record { count_is = ap length b.1.legs_are ∙ c.0; next_is = b.1.next_is; feature_is = b.1.feature_is ∙ s; placed = placed } in
       let here : IsLinked nodes link spot leaf = record { above = b.1.above; is = b.1.is; fits = fits } in
       (leaf, here, λ _. is_chain f first most legs rs (link_back link.page leaf) b.2 c.1 (sym b.1.feature_is))
 
@@ -166,7 +162,7 @@ module _ (nodes : Pages LegView BoxView) (period : Option PeriodView) where
   StopsRight [] = Unit {0}
   StopsRight (r ∷ rs) = (is_end period r ≡ true → filter (is_kept period) (unwound rs) ≡ []) × StopsRight rs
 
-  walk_is : (f first next p : ℕ) (rs : List (List LegView)) → IsBack nodes f first next p rs → StopsRight rs → walk nodes period (length rs) p ≡ filter (is_kept period) (unwound rs)
+  pub walk_is : (f first next p : ℕ) (rs : List (List LegView)) → IsBack nodes f first next p rs → StopsRight rs → walk nodes period (length rs) p ≡ filter (is_kept period) (unwound rs)
   walk_is f first next p [] b s = refl
   walk_is f first next p (r ∷ rs) b s =
       let leaf = b.0 in

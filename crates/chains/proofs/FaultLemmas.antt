@@ -18,19 +18,11 @@ use Rattle.tbtree.specs.declared.fault.TreeFault.{TreeFault}
 use Rattle.tbtree.specs.declared.fault.TreeFault.TheVariants.{Cache as OfCache, Malformed, Spent}
 use Rattle.tbtree.specs.declared.tree.Place.{Place}
 use Rattle.chains.specs.Chains.{AreHeld, IsChain, IsPlaceChain, NamesNone, is_stray, chain_fault, fault_from, legs_in, link_past, last_link}
-use Rattle.chains.specs.Links.{Fits, IsPlaced, fits, head_fits, is_linked, is_of_feature, is_placed, is_end, link_back, spot_of}
+use Rattle.chains.specs.Links.{Fits, IsPlaced, fits, head_fits, is_linked, is_placed, is_end, link_back, spot_of}
 use Rattle.chains.specs.declared.leaves.Link.{Link}
 use Rattle.chains.specs.declared.leaves.Spot.{Spot}
 use Rattle.legs.specs.GroupLemmas.{some_none}
 use Rattle.chains.proofs.StepLemmas.{true_false, fault_on, fault_end}
-
-feature_to : (o : Option ℕ) (f : ℕ) → is_of_feature o f ≡ true → IfSome o (λ w. f ≡ w)
-feature_to None f e = tt
-feature_to (Some w) f e = eqb-true f w e
-
-feature_from : (o : Option ℕ) (f : ℕ) → IfSome o (λ w. f ≡ w) → is_of_feature o f ≡ true
-feature_from None f e = refl
-feature_from (Some w) f e = eq-eqb f w e
 
 module _ {L : Type 0} (leaf : LeafView L) where
   placed_to : (page : ℕ) (spot : Spot) → is_placed leaf.previous page spot ≡ true → IsPlaced leaf page spot
@@ -58,20 +50,20 @@ module _ {L : Type 0} (leaf : LeafView L) where
   pub fits_to : (link : Link) (spot : Spot) → fits leaf link spot ≡ true → Fits leaf link spot
   unfolding fits
   fits_to link spot e =
-      let a = and_parts (is_of_feature link.feature leaf.feature) _ e in
+      let a = and_parts (leaf.feature == link.feature) _ e in
       let b = and_parts (length leaf.legs == spot.count) _ a.1 in
       let c = and_parts (leaf.next == link.next) _ b.1 in
       record {
         count_is = eqb-true (length leaf.legs) spot.count b.0;
         next_is = eqb-true leaf.next link.next c.0;
-        feature_is = feature_to link.feature leaf.feature a.0;
+        feature_is = eqb-true leaf.feature link.feature a.0;
         placed = placed_to link.page spot c.1;
       }
 
   pub fits_from : (link : Link) (spot : Spot) → Fits leaf link spot → fits leaf link spot ≡ true
   unfolding fits
   fits_from link spot f =
-      and_from (is_of_feature link.feature leaf.feature) _ (feature_from link.feature leaf.feature f.feature_is)
+      and_from (leaf.feature == link.feature) _ (eq-eqb leaf.feature link.feature f.feature_is)
       (and_from (length leaf.legs == spot.count) _ (eq-eqb (length leaf.legs) spot.count f.count_is)
       (and_from (leaf.next == link.next) _ (eq-eqb leaf.next link.next f.next_is) (placed_from link.page spot f.placed)))
 
@@ -144,16 +136,16 @@ none_of : (b : Bool) (rest : Option ℕ) → cond b (Some 0) rest ≡ None → (
 none_of true rest e = absurd (some_none 0 e)
 none_of false rest e = (refl, e)
 
-module _ (nodes : Pages LegView BoxView) (period : Option PeriodView) (shape : ShapeView) (place : Place) where
-  pub whole_to : chain_fault nodes period shape place ≡ None → IsPlaceChain nodes period shape place
+module _ (nodes : Pages LegView BoxView) (period : Option PeriodView) (shape : ShapeView) (f : ℕ) (place : Place) where
+  pub whole_to : chain_fault nodes period shape f place ≡ None → IsPlaceChain nodes period shape f place
   whole_to e =
-      let s = none_of (is_stray place) (fault_from nodes period shape.leaf place.legs place.first (div_ceil place.legs shape.leaf) (last_link place)) e in
-      (stray_to place s.0, chain_to nodes period shape.leaf place.legs place.first (div_ceil place.legs shape.leaf) (last_link place) s.1)
+      let s = none_of (is_stray place) (fault_from nodes period shape.leaf place.legs place.first (div_ceil place.legs shape.leaf) (last_link f place)) e in
+      (stray_to place s.0, chain_to nodes period shape.leaf place.legs place.first (div_ceil place.legs shape.leaf) (last_link f place) s.1)
 
-  pub whole_from : IsPlaceChain nodes period shape place → chain_fault nodes period shape place ≡ None
+  pub whole_from : IsPlaceChain nodes period shape f place → chain_fault nodes period shape f place ≡ None
   whole_from h =
-      ap (λ b. cond b (Some 0) (fault_from nodes period shape.leaf place.legs place.first (div_ceil place.legs shape.leaf) (last_link place))) (stray_from place h.0)
-      ∙ chain_from nodes period shape.leaf place.legs place.first (div_ceil place.legs shape.leaf) (last_link place) h.1
+      ap (λ b. cond b (Some 0) (fault_from nodes period shape.leaf place.legs place.first (div_ceil place.legs shape.leaf) (last_link f place))) (stray_from place h.0)
+      ∙ chain_from nodes period shape.leaf place.legs place.first (div_ceil place.legs shape.leaf) (last_link f place) h.1
 
 allowed_in_cache : (old new : Cache) (fault : CacheFault) (o : Option ℕ) → o ≡ None → RefusesReadInCache old new fault → NamesInCache (λ n. o ≡ Some n) fault → MayRefuseReadInCache fault
 allowed_in_cache old new cache.NoPage o z h s = h

@@ -13,3 +13,5 @@ mod AgainLemmas
 pub mod LiveLemmas
 pub mod SieveLemmas
 pub mod ReachLemmas
+pub mod RowLemmas
+pub mod ChainGrowth

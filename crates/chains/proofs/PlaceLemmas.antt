@@ -32,7 +32,7 @@ as_many inner levels root count rs pages n =
     (λ (h : levels ≤ 0). let z : levels ≡ 0 = omega (arith, h) in ap length (n.no_more 0 h) ∙ sym (ap length (n.empty z).0))
     (cases_lt 0 levels)
 
-never_stops : (nodes : Pages LegView BoxView) (rs : List (List LegView)) → StopsRight nodes None rs
+pub never_stops : (nodes : Pages LegView BoxView) (rs : List (List LegView)) → StopsRight nodes None rs
 never_stops nodes [] = tt
 never_stops nodes (r ∷ rs) = (λ e. absurd (true_false (sym e)), never_stops nodes rs)
 
@@ -87,13 +87,13 @@ module _ (nodes : Pages LegView BoxView) (shape : ShapeView) (place : Place) (f 
       record { first = sym b.1; last = b.0 }
 
   -- they are a chain
-  pub whole_chain : (period : Option PeriodView) → IsPlaceChain nodes period shape place
+  pub whole_chain : (period : Option PeriodView) → IsPlaceChain nodes period shape f place
   whole_chain period =
       let gs = groups shape.leaf (legs_of f legs) in
       let n : length (onto gs []) ≡ div_ceil place.legs shape.leaf = length_onto gs [] ∙ (let z : length gs + 0 ≡ length gs = omega arith in z) ∙ block_count in (
         names_none,
-        subst (λ n. IsChain nodes period shape.leaf place.legs place.first n (last_link place)) n
-            (is_chain nodes period f place.first shape.leaf place.legs (onto gs []) (last_link place) place_back counted tt),
+        subst (λ n. IsChain nodes period shape.leaf place.legs place.first n (last_link f place)) n
+            (is_chain nodes period f place.first shape.leaf place.legs (onto gs []) (last_link f place) place_back counted refl),
       )
 
   -- with exactly the feature's legs

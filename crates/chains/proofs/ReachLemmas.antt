@@ -184,13 +184,13 @@ spans_met nodes most legs first period f start next (span ∷ spans) (r ∷ rs) 
 
 module _ (nodes : Pages LegView BoxView) (shape : ShapeView) (place : Place) (f : ℕ) (legs : List LegView) (l : 0 < shape.leaf) (h : HasFeature nodes shape place f legs) where
   -- of pages that stand for a list, than the feature has leaves that meet it
-  pub few_met : (period : PeriodView) (spans : List LeafSpan) → IsKnown nodes shape place spans → count_by (may_meet period) spans ≤ known_bound f period (Some shape) legs
+  pub few_met : (period : PeriodView) (spans : List LeafSpan) → IsKnown nodes shape f place spans → count_by (may_meet period) spans ≤ known_bound f period (Some shape) legs
   unfolding known_bound
   few_met period spans known =
       let gs = groups shape.leaf (legs_of f legs) in
       let long : div_ceil place.legs shape.leaf ≡ length (onto gs []) =
       let a = length_onto gs [] in let b = block_count nodes shape place f legs l h in omega (arith, a, b) in
-      let met = spans_met nodes shape.leaf place.legs place.first period f place.first 0 spans (onto gs []) (last_link place)
-      (subst (λ n. AreSpans nodes shape.leaf place.legs place.first spans n (last_link place)) long known) (place_back nodes shape place f legs l h) in
+      let met = spans_met nodes shape.leaf place.legs place.first period f place.first 0 spans (onto gs []) (last_link f place)
+      (subst (λ n. AreSpans nodes shape.leaf place.legs place.first spans n (last_link f place)) long known) (place_back nodes shape place f legs l h) in
       let same = count_onto (meets_period period) gs [] in
       omega (arith, met, same)

@@ -343,7 +343,7 @@ module _ (nodes : Pages LegView BoxView) (most legs first : ℕ) where
   link_over_is passed spans n rest link back span t o z =
       let same_rest : t.rest ≡ rest = let m = t.more in omega (arith, m, z) in
       let after : (page : ℕ) → page ≡ t.leaf.previous → link_over span page ≡ link_back link.page t.leaf =
-      λ page p. ap (λ q. link_over span q) p ∙ ap (λ n. record { page = t.leaf.previous; next = n; feature = Some span.feature }) t.is.page_is ∙ ap (λ f. record { page = t.leaf.previous; next = link.page; feature = Some f }) t.is.feature_is in
+      λ page p. ap (λ q. link_over span q) p ∙ ap (λ n. record { page = t.leaf.previous; next = n; feature = span.feature }) t.is.page_is ∙ ap (λ f. record { page = t.leaf.previous; next = link.page; feature = f }) t.is.feature_is in
       (elim (slice_get spans (suc passed)) as (λ v. slice_get spans (suc passed) ≡ v → over span v rest ≡ Over back → back ≡ link_back link.page t.leaf) [
         | Some next ↦ λ g o.
             let b = there next (drop (suc (suc passed)) spans) t.rest (link_back link.page t.leaf) (subst (λ l. Spans l t.rest (link_back link.page t.leaf)) (drop_at spans (suc passed) next g) t.before) in
@@ -480,10 +480,10 @@ module _ (old new : Pages LegView BoxView) (same : (n : ℕ) → new.at n ≡ ol
   spans_last (span ∷ spans) (suc n) link h =
       (h.0, record { above = h.1.above; is = same link.page ∙ h.1.is; fits = h.1.fits }, h.2, spans_last spans n (link_back link.page h.0) h.3)
 
-pub known_lasts : (old new : Cache) (shape : ShapeView) (place : Place) (spans : List LeafSpan) → OnlyReads old new → IsTrue old.store.is_faithful
-    → IsKnown (pages_of_cache old) shape place spans → IsKnown (pages_of_cache new) shape place spans
-known_lasts old new shape place spans r f h =
-    spans_last (pages_of_cache old) (pages_of_cache new) (same_at old new r f) shape.leaf place.legs place.first spans (div_ceil place.legs shape.leaf) (last_link place) h
+pub known_lasts : (old new : Cache) (shape : ShapeView) (f : ℕ) (place : Place) (spans : List LeafSpan) → OnlyReads old new → IsTrue old.store.is_faithful
+    → IsKnown (pages_of_cache old) shape f place spans → IsKnown (pages_of_cache new) shape f place spans
+known_lasts old new shape f place spans r fa h =
+    spans_last (pages_of_cache old) (pages_of_cache new) (same_at old new r fa) shape.leaf place.legs place.first spans (div_ceil place.legs shape.leaf) (last_link f place) h
 
 le_to : (x y : ℤ) → x ≤ℤ y → int_le x y ≡ true
 le_to x y h = grind (arith, ints)

@@ -32,7 +32,7 @@ feature_of None = 0
 
 -- the link from what a page has to the leaf before it
 abbrev pub link_past : {L B : Type 0} → ℕ → Option (Option (Node L B)) → Link
-link_past page at = record { page = previous_of at; next = page; feature = Some (feature_of at) }
+link_past page at = record { page = previous_of at; next = page; feature = feature_of at }
 
 -- the page of the link is that leaf, and it is the one of the chain there
 pub record IsLinked {L B : Type 0} (nodes : Pages L B) (link : Link) (spot : Spot)
@@ -73,9 +73,9 @@ module _ (nodes : Pages LegView BoxView) (period : Option PeriodView) where
   walked (suc n) p =
       1 + cond (is_end period (legs_in (nodes.at p))) 0 (walked n (previous_of (nodes.at p)))
 
--- the link to the last leaf of a place
-abbrev pub last_link : Place → Link
-last_link place = record { page = place.last; next = 0; feature = None }
+-- the link to the last leaf of a feature's place
+abbrev pub last_link : ℕ → Place → Link
+last_link feature place = record { page = place.last; next = 0; feature = feature }
 
 -- a place without legs names no page
 pub record NamesNone (place : Place) : Type 0 where
@@ -86,21 +86,23 @@ pub record NamesNone (place : Place) : Type 0 where
 abbrev pub is_stray : Place → Bool
 is_stray place = (place.legs == 0) && not ((place.first == 0) && (place.last == 0))
 
--- the pages are a chain of leaves of one feature, linked both ways, each full but the last, from the place's last leaf
+-- the pages are a chain of leaves of the feature, linked both ways, each full but the last, from the place's last leaf
 -- back to its first, with as many legs as the place has; where there is a period, up to a leaf that starts before it
-abbrev pub IsPlaceChain : Pages LegView BoxView → Option PeriodView → ShapeView → Place → Type 0
-IsPlaceChain nodes period shape place =
+abbrev pub IsPlaceChain : Pages LegView BoxView → Option PeriodView → ShapeView → (feature : ℕ)
+    → Place → Type 0
+IsPlaceChain nodes period shape feature place =
     (place.legs ≡ 0 → NamesNone place)
     × IsChain nodes period shape.leaf place.legs place.first (div_ceil place.legs shape.leaf)
-    (last_link place)
+    (last_link feature place)
 
 -- the page at which the pages are not that chain, the first one from the place's last leaf back; none where they are.
 -- It is 0 where the place has no legs and names a page
-abbrev pub chain_fault : Pages LegView BoxView → Option PeriodView → ShapeView → Place → Option ℕ
-chain_fault nodes period shape place =
+abbrev pub chain_fault : Pages LegView BoxView → Option PeriodView → ShapeView → (feature : ℕ)
+    → Place → Option ℕ
+chain_fault nodes period shape feature place =
     cond (is_stray place) (Some 0)
     (fault_from nodes period shape.leaf place.legs place.first (div_ceil place.legs shape.leaf)
-    (last_link place))
+    (last_link feature place))
 
 -- what is kept of that chain, and how many of its leaves are read
 abbrev pub chain_legs : Pages LegView BoxView → Option PeriodView → ShapeView → Place → List LegView

@@ -1,5 +1,5 @@
 -- What is asked of a leaf on the way back along a chain, and what is taken of it.
-use Rattle.std.specs.Prelude.{ℕ, ◌≡◌, ◌≢◌, ◌-◌, ◌*◌, ◌<◌, ◌==◌, ◌&&◌, Bool, true, false, not, cond, min, if◌then◌else◌, List, [], ◌∷◌, filter, length, Option, Some, None, IfSome, int_lt}
+use Rattle.std.specs.Prelude.{ℕ, ◌≡◌, ◌≢◌, ◌-◌, ◌*◌, ◌<◌, ◌==◌, ◌&&◌, Bool, true, false, not, cond, min, if◌then◌else◌, List, [], ◌∷◌, filter, length, Option, Some, None, int_lt}
 use Rattle.timebase.specs.Period.{PeriodView}
 use Rattle.legs.specs.Legs.{LegView, is_live}
 use Rattle.legs.specs.declared.sieve.Sieve.{Sieve}
@@ -24,7 +24,7 @@ pub record IsPlaced {L : Type 0} (leaf : LeafView L) (page : ℕ) (spot : Spot) 
 pub record Fits {L : Type 0} (leaf : LeafView L) (link : Link) (spot : Spot) : Type 0 where
   pub count_is : length leaf.legs ≡ spot.count
   pub next_is : leaf.next ≡ link.next
-  pub feature_is : IfSome link.feature (λ feature. leaf.feature ≡ feature)
+  pub feature_is : leaf.feature ≡ link.feature
   pub placed : IsPlaced leaf link.page spot
 
 -- the same as tests, of a leaf's head and count of legs
@@ -32,13 +32,9 @@ abbrev pub is_placed : ℕ → ℕ → Spot → Bool
 is_placed previous page spot =
     cond (spot.before == 0) ((previous == 0) && (page == spot.first)) (not (previous == 0))
 
-abbrev pub is_of_feature : Option ℕ → ℕ → Bool
-is_of_feature None feature = true
-is_of_feature (Some wanted) feature = feature == wanted
-
 abbrev pub head_fits : LeafHead → ℕ → Link → Spot → Bool
 head_fits head count link spot =
-    is_of_feature link.feature head.feature
+    (head.feature == link.feature)
     && ((count == spot.count)
     && ((head.next == link.next) && is_placed head.previous link.page spot))
 
@@ -77,7 +73,7 @@ is_end (Some period) legs = begins_before period legs
 
 -- the link from a leaf to the one before it
 abbrev pub link_back : {L : Type 0} → ℕ → LeafView L → Link
-link_back page leaf = record { page = leaf.previous; next = page; feature = Some leaf.feature }
+link_back page leaf = record { page = leaf.previous; next = page; feature = leaf.feature }
 
 -- what is wanted of the kept legs of a leaf has been put behind the others, the last one first, and this is the link from
 -- it, if any

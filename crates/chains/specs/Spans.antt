@@ -42,15 +42,16 @@ AreSpans nodes most legs first (span ∷ spans) (suc n) link =
     × IsSpanOf span link.page leaf
     × AreSpans nodes most legs first spans n (link_back link.page leaf)
 
--- these are the spans of the last leaves of the place's chain, from the last one back
-abbrev pub IsKnown : Pages LegView BoxView → ShapeView → Place → List LeafSpan → Type 0
-IsKnown nodes shape place spans =
+-- these are the spans of the last leaves of the feature's chain, from the last one back
+abbrev pub IsKnown : Pages LegView BoxView → ShapeView → (feature : ℕ) → Place → List LeafSpan
+    → Type 0
+IsKnown nodes shape feature place spans =
     AreSpans nodes shape.leaf place.legs place.first spans (div_ceil place.legs shape.leaf)
-    (last_link place)
+    (last_link feature place)
 
 -- the link from a known leaf to the one before it
 abbrev pub link_over : LeafSpan → ℕ → Link
-link_over span before = record { page = before; next = span.page; feature = Some span.feature }
+link_over span before = record { page = before; next = span.page; feature = span.feature }
 
 -- a known leaf after the period is passed where the page before it is known too, or where there is none
 abbrev pub over : LeafSpan → Option LeafSpan → ℕ → Passing

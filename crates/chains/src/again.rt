@@ -67,7 +67,7 @@ fn take_node(
     let back = Link {
         page: head.previous,
         next: link.page,
-        feature: Some(head.feature),
+        feature: head.feature,
     };
     match is_end(&leaf, &want.period) {
         Some(true) => Ok(None),

@@ -20,12 +20,12 @@ use tbtree::{Place, TreeFault};
 use timebase::Period;
 
 /// A way to a leaf, from the one after it: its page, the page that it has as its next leaf (0 for the last leaf), and
-/// its feature, once a leaf has been read.
+/// its feature.
 #[derive(Clone, Copy, PartialEq, Eq, Debug)]
 pub(crate) struct Link {
     pub(crate) page: u32,
     pub(crate) next: u32,
-    pub(crate) feature: Option<u32>,
+    pub(crate) feature: u32,
 }
 
 /// How many legs the leaf has that is after `before` others of `most` legs, of a chain of that many legs.
@@ -73,11 +73,8 @@ fn is_placed(previous: u32, page: u32, spot: &Spot) -> bool
 pub(crate) fn head_fits(head: &LeafHead, count: usize, link: &Link, spot: &Spot) -> bool
     ensures { result ≡ head_fits head.now count link.now spot.now }
 {
-    let same = match link.feature {
-        Some(feature) => head.feature == feature,
-        None => true,
-    };
-    same && count as u64 == spot.count
+    head.feature == link.feature
+        && count as u64 == spot.count
         && head.next == link.next
         && is_placed(head.previous, link.page, spot)
 }
@@ -135,7 +132,7 @@ fn take_node(
     Ok(Some(Link {
         page: head.previous,
         next: link.page,
-        feature: Some(head.feature),
+        feature: head.feature,
     }))
 }
 

@@ -106,22 +106,23 @@ fn walk_back<S: PageStore>(
     alloc: Global,
     cache: &mut PageCache<S>,
     shape: &Shape,
+    feature: u32,
     place: &Place,
     want: &Want,
     spans: &mut Vec<LeafSpan>,
 ) -> Result<Vec<Leg>, TreeFault>
     requires known { IsTrue cache.old.store.is_faithful
-        → IsKnown (pages_of_cache cache.old) shape.now place.now spans.old.items }
+        → IsKnown (pages_of_cache cache.old) shape.now feature place.now spans.old.items }
     ensures found { IsTrue cache.old.store.is_faithful
         → IfOk result (λ found. HasTaken want.now.period want.now.sieve
         (chain_legs (pages_of_cache cache.old) want.now.period shape.now place.now)
         [] found.items) }
     ensures whole { IsTrue cache.old.store.is_faithful
-        → OnOk result (chain_fault (pages_of_cache cache.old) want.now.period shape.now place.now
+        → OnOk result (chain_fault (pages_of_cache cache.old) want.now.period shape.now feature place.now
         ≡ None) }
     ensures named { IsTrue cache.old.store.is_faithful
         → IfErr result (IsNamed (pages_of_cache cache.old)
-        (chain_fault (pages_of_cache cache.old) want.now.period shape.now place.now)) }
+        (chain_fault (pages_of_cache cache.old) want.now.period shape.now feature place.now)) }
     ensures reads { Reads cache.old cache.new result }
     ensures asked { IsTrue cache.old.store.is_faithful
         → OnOk result (RisesBy cache.old.asked cache.new.asked
@@ -137,7 +138,7 @@ fn walk_back<S: PageStore>(
     ensures most { cache.new.asked
         ≤ cache.old.asked + div_ceil place.now.legs shape.now.leaf }
     ensures learns { IsTrue cache.old.store.is_faithful
-        → IsKnown (pages_of_cache cache.old) shape.now place.now spans.new.items }
+        → IsKnown (pages_of_cache cache.old) shape.now feature place.now spans.new.items }
     ensures keeps { IsFront spans.old.items spans.new.items }
     ensures recalls { IsTrue cache.old.store.is_faithful
         → OnOk result (IsKnownBackTo (pages_of_cache cache.old) want.now.period shape.now place.now
@@ -153,7 +154,7 @@ fn walk_back<S: PageStore>(
     let mut link = Link {
         page: place.last,
         next: 0,
-        feature: None,
+        feature,
     };
     let mut found = Vec::new(alloc);
     'leaves: while left > 0 {
@@ -178,17 +179,18 @@ pub fn trajectory<S: PageStore>(
     alloc: Global,
     cache: &mut PageCache<S>,
     shape: &Shape,
+    feature: u32,
     place: &Place,
     spans: &mut Vec<LeafSpan>,
 ) -> Result<Vec<Leg>, ChainFault>
     requires known { IsTrue cache.old.store.is_faithful
-        → IsKnown (pages_of_cache cache.old) shape.now place.now spans.old.items }
+        → IsKnown (pages_of_cache cache.old) shape.now feature place.now spans.old.items }
 
     // Of pages that stand for a list: exactly the feature's legs; only a failed store and want of memory refuse.
-    ensures found { IsTrue cache.old.store.is_faithful → (legs : List LegView) (feature : ℕ)
+    ensures found { IsTrue cache.old.store.is_faithful → (legs : List LegView)
         → HasFeature (pages_of_cache cache.old) shape.now place.now feature legs
         → GivesRead result (λ found. found.items ≡ legs_of feature legs) }
-    ensures asked { IsTrue cache.old.store.is_faithful → (legs : List LegView) (feature : ℕ)
+    ensures asked { IsTrue cache.old.store.is_faithful → (legs : List LegView)
         → HasFeature (pages_of_cache cache.old) shape.now place.now feature legs
         → OnOk result (RisesBy cache.old.asked cache.new.asked
         (track_cost feature (Some shape.now) legs)) }
@@ -196,12 +198,12 @@ pub fn trajectory<S: PageStore>(
     // Of any pages: exactly the legs of a whole chain; all else is refused, where each page has a payload as malformed,
     // if not for want of memory or a store that failed.
     ensures chain { IsTrue cache.old.store.is_faithful
-        → OnOk result (IsPlaceChain (pages_of_cache cache.old) None shape.now place.now) }
+        → OnOk result (IsPlaceChain (pages_of_cache cache.old) None shape.now feature place.now) }
     ensures legs { IsTrue cache.old.store.is_faithful
         → IfOk result (λ found. found.items
         ≡ chain_legs (pages_of_cache cache.old) None shape.now place.now) }
     ensures only { IsTrue cache.old.store.is_faithful
-        → IsPlaceChain (pages_of_cache cache.old) None shape.now place.now
+        → IsPlaceChain (pages_of_cache cache.old) None shape.now feature place.now
         → IfErr result MayRefuseRead }
     ensures malformed { IsTrue cache.old.store.is_faithful
         → AreHeld (pages_of_cache cache.old) → IfErr result MayRefuseHeld }
@@ -209,11 +211,11 @@ pub fn trajectory<S: PageStore>(
     // Of any pages: a page that is named is the first one, from the place's last leaf back, that is not the chain's;
     // a page is asked for once for each leaf that is read.
     ensures whole { IsTrue cache.old.store.is_faithful
-        → OnOk result (chain_fault (pages_of_cache cache.old) None shape.now place.now
+        → OnOk result (chain_fault (pages_of_cache cache.old) None shape.now feature place.now
         ≡ None) }
     ensures named { IsTrue cache.old.store.is_faithful
         → IfErr result (IsNamed (pages_of_cache cache.old)
-        (chain_fault (pages_of_cache cache.old) None shape.now place.now)) }
+        (chain_fault (pages_of_cache cache.old) None shape.now feature place.now)) }
     ensures walked { IsTrue cache.old.store.is_faithful
         → OnOk result (RisesBy cache.old.asked cache.new.asked
         (chain_cost (pages_of_cache cache.old) None shape.now place.now)) }
@@ -224,7 +226,7 @@ pub fn trajectory<S: PageStore>(
     // What is known of the chain's last leaves, after it as before it: nothing is forgotten, and an answer leaves it
     // known whole.
     ensures learns { IsTrue cache.old.store.is_faithful
-        → IsKnown (pages_of_cache cache.old) shape.now place.now spans.new.items }
+        → IsKnown (pages_of_cache cache.old) shape.now feature place.now spans.new.items }
     ensures keeps { IsFront spans.old.items spans.new.items }
     ensures recalls { IsTrue cache.old.store.is_faithful → (period : Option PeriodView)
         → OnOk result (IsKnownBackTo (pages_of_cache cache.old) period shape.now place.now
@@ -239,7 +241,7 @@ pub fn trajectory<S: PageStore>(
         period: None,
         sieve: Sieve::All,
     };
-    let mut found = walk_back(alloc, cache, shape, place, &want, spans)?;
+    let mut found = walk_back(alloc, cache, shape, feature, place, &want, spans)?;
     found.reverse();
     Ok(found)
 }
@@ -254,21 +256,22 @@ pub fn trajectory_in<S: PageStore>(
     alloc: Global,
     cache: &mut PageCache<S>,
     shape: &Shape,
+    feature: u32,
     place: &Place,
     period: &Period,
     sieve: &Sieve,
     spans: &mut Vec<LeafSpan>,
 ) -> Result<Vec<Leg>, ChainFault>
     requires known { IsTrue cache.old.store.is_faithful
-        → IsKnown (pages_of_cache cache.old) shape.now place.now spans.old.items }
+        → IsKnown (pages_of_cache cache.old) shape.now feature place.now spans.old.items }
 
     // Of pages that stand for a list: what the sieve keeps of the feature's live legs; only a failed store and want
     // of memory refuse.
-    ensures found { IsTrue cache.old.store.is_faithful → (legs : List LegView) (feature : ℕ)
+    ensures found { IsTrue cache.old.store.is_faithful → (legs : List LegView)
         → HasFeature (pages_of_cache cache.old) shape.now place.now feature legs
         → GivesRead result (λ found. IsSieved sieve.now period.now
         (live_legs_of feature period.now legs) found.items) }
-    ensures asked { IsTrue cache.old.store.is_faithful → (legs : List LegView) (feature : ℕ)
+    ensures asked { IsTrue cache.old.store.is_faithful → (legs : List LegView)
         → HasFeature (pages_of_cache cache.old) shape.now place.now feature legs
         → OnOk result (RisesAtMost cache.old.asked cache.new.asked
         (track_in_bound feature period.now (Some shape.now) legs)) }
@@ -276,14 +279,14 @@ pub fn trajectory_in<S: PageStore>(
     // Of any pages: what it keeps of the live legs of a chain, as far as it is read; all else is refused, as by
     // `trajectory`.
     ensures chain { IsTrue cache.old.store.is_faithful
-        → OnOk result (IsPlaceChain (pages_of_cache cache.old) (Some period.now) shape.now
+        → OnOk result (IsPlaceChain (pages_of_cache cache.old) (Some period.now) shape.now feature
         place.now) }
     ensures legs { IsTrue cache.old.store.is_faithful
         → IfOk result (λ found. IsSieved sieve.now period.now
         (chain_legs (pages_of_cache cache.old) (Some period.now) shape.now place.now)
         found.items) }
     ensures only { IsTrue cache.old.store.is_faithful
-        → IsPlaceChain (pages_of_cache cache.old) (Some period.now) shape.now place.now
+        → IsPlaceChain (pages_of_cache cache.old) (Some period.now) shape.now feature place.now
         → IfErr result MayRefuseRead }
     ensures malformed { IsTrue cache.old.store.is_faithful
         → AreHeld (pages_of_cache cache.old) → IfErr result MayRefuseHeld }
@@ -291,11 +294,11 @@ pub fn trajectory_in<S: PageStore>(
     // Of any pages: a page that is named is the first one, from the place's last leaf back, that is not the chain's;
     // a page is asked for once for each leaf that is read.
     ensures whole { IsTrue cache.old.store.is_faithful
-        → OnOk result (chain_fault (pages_of_cache cache.old) (Some period.now) shape.now place.now
+        → OnOk result (chain_fault (pages_of_cache cache.old) (Some period.now) shape.now feature place.now
         ≡ None) }
     ensures named { IsTrue cache.old.store.is_faithful
         → IfErr result (IsNamed (pages_of_cache cache.old)
-        (chain_fault (pages_of_cache cache.old) (Some period.now) shape.now place.now)) }
+        (chain_fault (pages_of_cache cache.old) (Some period.now) shape.now feature place.now)) }
     ensures walked { IsTrue cache.old.store.is_faithful
         → OnOk result (RisesBy cache.old.asked cache.new.asked
         (known_cost (pages_of_cache cache.old) (Some period.now) shape.now place.now
@@ -311,7 +314,7 @@ pub fn trajectory_in<S: PageStore>(
         spans.old.items
         → OnOk result (RisesAtMost cache.old.asked cache.new.asked
         (count_by (may_meet period.now) spans.old.items)) }
-    ensures met { IsTrue cache.old.store.is_faithful → (legs : List LegView) (feature : ℕ)
+    ensures met { IsTrue cache.old.store.is_faithful → (legs : List LegView)
         → HasFeature (pages_of_cache cache.old) shape.now place.now feature legs
         → IsKnownBackTo (pages_of_cache cache.old) (Some period.now) shape.now place.now
         spans.old.items
@@ -321,7 +324,7 @@ pub fn trajectory_in<S: PageStore>(
     // What is known of the chain's last leaves, after it as before it: nothing is forgotten, and an answer leaves it
     // known back to the period, and to each that starts no earlier.
     ensures learns { IsTrue cache.old.store.is_faithful
-        → IsKnown (pages_of_cache cache.old) shape.now place.now spans.new.items }
+        → IsKnown (pages_of_cache cache.old) shape.now feature place.now spans.new.items }
     ensures keeps { IsFront spans.old.items spans.new.items }
     ensures recalls { IsTrue cache.old.store.is_faithful → (later : PeriodView)
         → period.now.start ≤ℤ later.start
@@ -338,7 +341,7 @@ pub fn trajectory_in<S: PageStore>(
         period: Some(*period),
         sieve: *sieve,
     };
-    let mut found = walk_back(alloc, cache, shape, place, &want, spans)?;
+    let mut found = walk_back(alloc, cache, shape, feature, place, &want, spans)?;
     found.reverse();
     Ok(found)
 }
@@ -347,12 +350,13 @@ pub fn trajectory_in<S: PageStore>(
 pub fn laws()
     // The pages are the chain of a place exactly where none is named as its fault.
     ensures whole { (nodes : Pages LegView BoxView) (period : Option PeriodView)
-        (shape : ShapeView) (place : Place) → chain_fault nodes period shape place ≡ None
-        ↔ IsPlaceChain nodes period shape place }
+        (shape : ShapeView) (feature : ℕ) (place : Place)
+        → chain_fault nodes period shape feature place ≡ None
+        ↔ IsPlaceChain nodes period shape feature place }
 
     // What is known lasts where pages are only read.
-    ensures lasts { (old new : Cache) (shape : ShapeView) (place : Place) (spans : List LeafSpan)
-        → OnlyReads old new → IsTrue old.store.is_faithful
-        → IsKnown (pages_of_cache old) shape place spans
-        → IsKnown (pages_of_cache new) shape place spans }
+    ensures lasts { (old new : Cache) (shape : ShapeView) (feature : ℕ) (place : Place)
+        (spans : List LeafSpan) → OnlyReads old new → IsTrue old.store.is_faithful
+        → IsKnown (pages_of_cache old) shape feature place spans
+        → IsKnown (pages_of_cache new) shape feature place spans }
 {}

@@ -42,7 +42,7 @@ fn link_over(span: &LeafSpan, before: u32) -> Link
     Link {
         page: before,
         next: span.page,
-        feature: Some(span.feature),
+        feature: span.feature,
     }
 }
 

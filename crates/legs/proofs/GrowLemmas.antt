@@ -4,6 +4,7 @@ use Rattle.std.specs.List.{Contains}
 use Rattle.std.proofs.lemmas.Int.{clamps}
 use Rattle.std.proofs.lemmas.List.{append-nil}
 use Rattle.legs.specs.Finding.{no_finding}
+use Rattle.legs.specs.Boxes.{box_of}
 use Rattle.legs.specs.Legs.{IsLeg, LegView}
 use Rattle.legs.specs.Places.{ListView}
 use Rattle.legs.specs.Questions.{answer_in}
@@ -18,7 +19,7 @@ list_words = record {
   content = λ index. index.legs;
   tells = λ index question legs. legs ≡ answer_in question index.legs;
   denies = λ index question page. ⊥;
-  holds = λ index leg. Contains index.legs leg;
+  finds = λ index meets leg. Contains index.legs leg × (meets (box_of leg) ≡ true);
   ends_with = λ index leg. last_leg_of leg.feature index.legs ≡ Some leg;
   counted = λ index. length index.legs;
   is_sound = λ index. (index.spent ≡ false) × All IsLeg index.legs;

@@ -3,14 +3,16 @@ use Rattle.std.proofs.Common.{ℕ, suc, ◌+◌, ◌<◌, ◌≡◌, ◌≢◌, 
 use Rattle.std.specs.List.{count_by, filter, fold, Contains}
 use Rattle.std.proofs.lemmas.Bool.{eqb-true, true≢false}
 use Rattle.std.proofs.lemmas.Grind.{fold-append}
-use Rattle.std.proofs.lemmas.List.{length-append, take_more}
-use Rattle.std.proofs.lemmas.List.Elements.{All-append, All-cons, All-contains, All-contains_itself, All-filter, All-nil, All-weaker, Contains-append_cases, Contains-append_left, Contains-append_right}
+use Rattle.std.proofs.lemmas.List.{append-nil, append_assoc, length-append, take_more}
+use Rattle.std.proofs.lemmas.List.Elements.{All-append, All-cons, All-contains, All-contains_itself, All-filter, All-nil, All-weaker, Contains-append_cases, Contains-append_left, Contains-append_right, filter-append}
 use Rattle.std.proofs.lemmas.List.Sums.{length-filter, sum_by-append}
 use Rattle.legs.specs.Asking.{placed_legs, HasAdded, Starts}
 use Rattle.legs.specs.Finding.{Finding}
 use Rattle.legs.specs.Index.{is_of, last_leg_of, legs_of}
+use Rattle.legs.specs.Boxes.{BoxView, box_of}
 use Rattle.legs.specs.Legs.{LegView}
 use Rattle.legs.specs.Places.{ListView}
+use Rattle.legs.specs.Questions.{OfFeature}
 use Rattle.legs.specs.declared.index.IndexFault.{IndexFault}
 use Rattle.legs.specs.declared.listed.Listed.{Ghosts}
 use Rattle.legs.proofs.GrowLemmas.{list_words}
@@ -80,8 +82,9 @@ module _ {I : Type 0} (g : Ghosts I) where
   -- no leg changes nothing
   pub takes_none : (a : I) → g.is_spent a ≡ false → HasAdded g a a []
   takes_none a works = record {
-    kept = λ leg h. h;
-    put = All-nil (g.holds a);
+    kept = λ meets prune leg h. h;
+    put = λ meets prune. All-nil (λ leg. meets (box_of leg) ≡ true → g.finds a meets leg);
+    tracks = λ f was h. subst (g.tells a (OfFeature f None)) (sym (append-nil was)) h;
     counted = λ few. omega arith;
     works = works;
     plan = refl;
@@ -96,8 +99,9 @@ module _ {I : Type 0} (g : Ghosts I) where
   takes_then a b c xs ys p q =
       let many = length-append xs ys in
       record {
-        kept = λ leg h. q.kept leg (p.kept leg h);
-        put = All-append (g.holds c) xs ys (All-weaker (g.holds b) (g.holds c) q.kept xs p.put) q.put;
+        kept = λ meets prune leg h. q.kept meets prune leg (p.kept meets prune leg h);
+        put = λ meets prune. All-append (λ leg. meets (box_of leg) ≡ true → g.finds c meets leg) xs ys (All-weaker (λ leg. meets (box_of leg) ≡ true → g.finds b meets leg) (λ leg. meets (box_of leg) ≡ true → g.finds c meets leg) (λ leg h t. q.kept meets prune leg (h t)) xs (p.put meets prune)) (q.put meets prune);
+        tracks = λ f was h. subst (g.tells c (OfFeature f None)) (append_assoc was (legs_of f xs) (legs_of f ys) ∙ ap (λ l. was ++ l) (sym (filter-append (is_of f) xs ys))) (q.tracks f (was ++ legs_of f xs) (p.tracks f was h));
         counted = λ few.
             let first = p.counted (omega (arith, few, many)) in
             let then = q.counted (omega (arith, few, many, first)) in
@@ -136,8 +140,9 @@ module _ {I : Type 0} (g : Ghosts I) where
   -- legs behind a start
   pub takes_started : {A : Type 0} (a b c : I) (legs : List LegView) (r : Result A IndexFault) → Starts g a b r → HasAdded g b c legs → HasAdded g a c legs
   takes_started a b c legs r s p = record {
-    kept = λ leg h. p.kept leg (s.holds leg h);
+    kept = λ meets prune leg h. p.kept meets prune leg (s.finds meets leg h);
     put = p.put;
+    tracks = λ f was h. p.tracks f was (s.tracks f was h);
     counted = λ few. p.counted (omega (arith, few, s.counted)) ∙ ap (λ n. n + length legs) s.counted;
     works = p.works;
     plan = p.plan ∙ s.later.plan;
@@ -157,11 +162,12 @@ module _ {I : Type 0} (g : Ghosts I) where
       let lasts : (f : ℕ) → last_leg_of f xs ≡ last_leg_of f ys = λ f. sym (last_filter f None xs) ∙ ap (last_or f None) (same f) ∙ last_filter f None ys in
       record {
         kept = p.kept;
-        put = λ k d l.
+        put = λ meets prune k d l.
             let leg = get_or ys k d in
             let own : Contains (legs_of leg.feature ys) leg = of_own leg ys (All-contains_itself ys k d l) in
             let there : Contains (legs_of leg.feature xs) leg = subst (λ ls. Contains ls leg) (sym (same leg.feature)) own in
-            All-contains (g.holds b) (legs_of leg.feature xs) leg (All-filter (is_of leg.feature) (g.holds b) xs p.put) there;
+            All-contains (λ leg. meets (box_of leg) ≡ true → g.finds b meets leg) (legs_of leg.feature xs) leg (All-filter (is_of leg.feature) (λ leg. meets (box_of leg) ≡ true → g.finds b meets leg) xs (p.put meets prune)) there;
+        tracks = λ f was h. subst (λ l. g.tells b (OfFeature f None) (was ++ l)) (same f) (p.tracks f was h);
         counted = λ few. p.counted (omega (arith, few, many)) ∙ ap (λ n. g.counted a + n) many;
         works = p.works;
         plan = p.plan;
@@ -190,8 +196,9 @@ pub list_takes : (old new : ListView) (legs : List LegView) → new.legs ≡ old
 list_takes old new legs is works =
     let at : (f : ℕ) → last_leg_of f new.legs ≡ last_or f (last_leg_of f old.legs) legs = λ f. ap (last_leg_of f) is ∙ last_append f old.legs legs in
     record {
-      kept = λ leg h. subst (λ ls. Contains ls leg) (sym is) (Contains-append_left old.legs legs leg h);
-      put = λ k d l. subst (λ ls. Contains ls (get_or legs k d)) (sym is) (Contains-append_right old.legs legs (get_or legs k d) (All-contains_itself legs k d l));
+      kept = λ meets prune leg h. (subst (λ ls. Contains ls leg) (sym is) (Contains-append_left old.legs legs leg h.0), h.1);
+      put = λ meets prune k d l t. (subst (λ ls. Contains ls (get_or legs k d)) (sym is) (Contains-append_right old.legs legs (get_or legs k d) (All-contains_itself legs k d l)), t);
+      tracks = λ f was h. ap (λ l. l ++ legs_of f legs) h ∙ sym (filter-append (is_of f) old.legs legs) ∙ ap (legs_of f) (sym is);
       counted = λ few. ap length is ∙ length-append old.legs legs;
       works = works;
       plan = refl;

@@ -1,8 +1,10 @@
 -- What a call of an index leaves, and why it is refused.
-use Rattle.std.specs.Prelude.{ℕ, ℤ, ◌≡◌, ◌≢◌, ◌≤◌, ◌<◌, ◌+◌, ◌^◌, ◌++◌, ◌∷◌, [], drop, true, false, length, count_by, slice_get, All, List, Option, Some, None, Result, Err, IfErr, IsErrOf, OnErr, OnOk}
+use Rattle.std.specs.Prelude.{Bool, ℕ, ℤ, ◌≡◌, ◌≢◌, ◌≤◌, ◌<◌, ◌+◌, ◌^◌, ◌++◌, ◌∷◌, [], drop, true, false, length, count_by, slice_get, All, List, Option, Some, None, Result, Err, IfErr, IsErrOf, OnErr, OnOk}
+use Rattle.legs.specs.Boxes.{BoxView, box_of}
+use Rattle.legs.specs.Hull.{IsPruning, leg_boxes}
 use Rattle.legs.specs.Legs.{LegView}
 use Rattle.legs.specs.Finding.{FeaturePlace, Finding}
-use Rattle.legs.specs.Index.{is_of, last_leg_of, MayRefuse, MayRefuseLeg, HasRisen, CanFollowInTurn}
+use Rattle.legs.specs.Index.{is_of, legs_of, last_leg_of, MayRefuse, MayRefuseLeg, HasRisen, CanFollowInTurn}
 use Rattle.legs.specs.Costs.{ShapeView, RisesBy, RisesAtMost, add_bound, add_all_bound}
 use Rattle.legs.specs.declared.index.IndexFault.{IndexFault}
 use Rattle.legs.specs.declared.index.IndexFault.TheVariants.{Memory, Store, Damaged, StoreFull, Spent}
@@ -94,11 +96,16 @@ placed_legs finding feature = legs_at (slice_get finding.places feature)
     legs_at (Some place) = place.legs
     legs_at None = 0
 
--- what legs make of an index, sound or not: it has each leg that it had, and these, and counts them. Each feature that they
--- have ends with the last one of them; each other one ends with the leg with which it ended, and is found where it was
+-- what legs make of an index, sound or not: by whatever test of boxes it finds each leg that it found, and each of these
+-- whose box meets, and it counts them. Each feature that they have ends with the last one of them; each other one ends with the leg with which it ended, and is found where it was
 pub record HasAdded {I : Type 0} (g : Ghosts I) (old new : I) (legs : List LegView) : Type 0 where
-  pub kept : (leg : LegView) → g.holds old leg → g.holds new leg
-  pub put : All (g.holds new) legs
+  pub kept : (meets : BoxView → Bool) → IsPruning leg_boxes meets → (leg : LegView)
+      → g.finds old meets leg → g.finds new meets leg
+  pub put : (meets : BoxView → Bool) → IsPruning leg_boxes meets
+      → All (λ leg. meets (box_of leg) ≡ true → g.finds new meets leg) legs
+  -- what its pages say of a feature they say still, and behind it those that it has of these
+  pub tracks : (feature : ℕ) (was : List LegView) → g.tells old (OfFeature feature None) was
+      → g.tells new (OfFeature feature None) (was ++ legs_of feature legs)
   pub counted : g.counted old + length legs < 2 ^ 64 → g.counted new ≡ g.counted old + length legs
   pub works : g.is_spent new ≡ false
   pub plan : g.plan new ≡ g.plan old
@@ -144,13 +151,16 @@ pub record LegRefusals {I A : Type 0} (g : Ghosts I) (old new : I) (legs : List 
   pub store : IsErrOf result Store → HasRisen (g.faults old) (g.faults new)
   pub full : IsErrOf result StoreFull → g.is_store_full new
 
--- what the start of a file's legs leaves: the list, and all that is found by, sound where it was, spent where it was. Once it is
+-- what the start of a file's legs leaves: the list, what its pages say, and all that is found by, sound where it was, spent where it was. Once it is
 -- answered, an index that was clean is marked; where it is not, no page as written has changed but page 0, and
 -- that one only where the store failed
 pub record Starts {I A : Type 0} (g : Ghosts I) (old new : I)
     (result : Result A IndexFault) : Type 0 where
   pub content : g.content new ≡ g.content old
-  pub holds : (leg : LegView) → g.holds old leg → g.holds new leg
+  pub tracks : (feature : ℕ) (legs : List LegView) → g.tells old (OfFeature feature None) legs
+      → g.tells new (OfFeature feature None) legs
+  pub finds : (meets : BoxView → Bool) (leg : LegView) → g.finds old meets leg
+      → g.finds new meets leg
   pub ends : (leg : LegView) → g.ends_with old leg → g.ends_with new leg
   pub counted : g.counted new ≡ g.counted old
   pub found_by : g.found_by new ≡ g.found_by old

@@ -1,5 +1,5 @@
 -- The least box that holds some legs.
-use Rattle.std.specs.Prelude.{List, [], ◌∷◌, Option, Some, None}
+use Rattle.std.specs.Prelude.{◌≡◌, Bool, false, List, [], ◌∷◌, Option, Some, None}
 use Rattle.legs.specs.Legs.{LegView}
 use Rattle.legs.specs.Boxes.{BoxView, box_of, cover_of}
 
@@ -24,6 +24,11 @@ module _ {L B : Type 0} (s : Boxes L B) where
   abbrev pub hull_of : List (List L) → Option B
   hull_of [] = None
   hull_of (r ∷ rs) = both (hull r) (hull_of rs)
+
+-- what does not meet the least box that holds two boxes meets neither of them
+abbrev pub IsPruning : {L B : Type 0} → Boxes L B → (B → Bool) → Type 0
+IsPruning {B = B} s meets =
+    (p q : B) → meets (s.cover p q) ≡ false → (meets p ≡ false) × (meets q ≡ false)
 
 -- the boxes of legs in the plane and in time
 abbrev pub leg_boxes : Boxes LegView BoxView

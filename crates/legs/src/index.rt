@@ -129,9 +129,9 @@ pub trait LegIndex: Listed {
     /// A sound index is not spent.
     ghost sound_lasts: { (index : Self) → Self.is_sound index → Self.is_spent index ≡ false };
 
-    /// A sound index has the legs of its list.
+    /// By the test that holds of all boxes a sound index finds the legs of its list.
     ghost held: { (index : Self) (leg : LegView) → Self.is_sound index
-        → Self.holds index leg ↔ Contains (Self.content index) leg };
+        → Self.finds index (λ _. true) leg ↔ Contains (Self.content index) leg };
 
     /// All legs of a sound index are lawful.
     ghost lawful: { (index : Self) → Self.is_sound index → All IsLeg (Self.content index) };

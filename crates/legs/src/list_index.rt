@@ -137,8 +137,9 @@ fn live_legs(alloc: Global, legs: &[Leg], period: &Period) -> Result<Vec<Leg>, A
 
 impl Listed for ListIndex {
     ghost use Rattle.std.specs.Prelude.{◌≡◌, false, All, None, Some, []};
-    ghost use Rattle.std.specs.Prelude.{length};
+    ghost use Rattle.std.specs.Prelude.{length, true};
     ghost use Rattle.std.specs.List.{Contains};
+    ghost use Rattle.legs.specs.Boxes.{box_of};
     ghost use Rattle.legs.specs.Finding.{no_finding};
     ghost use Rattle.legs.specs.Index.{last_leg_of};
     ghost use Rattle.legs.specs.Legs.{IsLeg};
@@ -152,7 +153,7 @@ impl Listed for ListIndex {
 
     ghost denies = { λ index question page. ⊥ };
 
-    ghost holds = { λ index leg. Contains index.legs leg };
+    ghost finds = { λ index meets leg. Contains index.legs leg × (meets (box_of leg) ≡ true) };
 
     ghost ends_with = { λ index leg. last_leg_of leg.feature index.legs ≡ Some leg };
 
@@ -180,12 +181,13 @@ impl Listed for ListIndex {
 }
 
 impl LegIndex for ListIndex {
+    ghost use Rattle.std.proofs.Common.{refl};
     ghost use Rattle.std.specs.Prelude.{◌≡◌, false, All};
     ghost use Rattle.legs.specs.Legs.{IsLeg};
 
     ghost sound_lasts = { λ index sound. sound.0 };
 
-    ghost held = { λ index leg sound. ((λ held. held), (λ there. there)) };
+    ghost held = { λ index leg sound. ((λ found. found.0), (λ there. (there, refl))) };
 
     ghost lawful = { λ index sound. sound.1 };
 

@@ -4,6 +4,7 @@
 /// say of all of them what a call leaves.
 pub trait Listed {
     ghost use Rattle.std.specs.Prelude.{ℕ, ℤ, Bool, List, Option};
+    ghost use Rattle.legs.specs.Boxes.{BoxView};
     ghost use Rattle.legs.specs.Legs.{LegView};
     ghost use Rattle.legs.specs.Costs.{ShapeView};
     ghost use Rattle.legs.specs.Finding.{Finding};
@@ -22,9 +23,10 @@ pub trait Listed {
     /// Its pages say nothing to a question: the page of that number is met, and is not what it is to be there.
     ghost denies: { Self → Question → ℕ → Type 0 };
 
-    /// It has the leg: a leaf below the root of its tree, whoever wrote it, or its list. Of an index over a store that is
-    /// not faithful nothing is known, and it says anything.
-    ghost holds: { Self → LegView → Type 0 };
+    /// The way down its tree by a test of boxes finds the leg, whoever wrote its pages: the test holds of the leg's box,
+    /// and of that of each entry on the way to its leaf; or its list has the leg, and the test holds of its box. Of an
+    /// index over a store that is not faithful nothing is known, and it says anything.
+    ghost finds: { Self → (BoxView → Bool) → LegView → Type 0 };
 
     /// The last leaf of the leg's feature, whoever wrote it, has the leg at its end; of an index that keeps a list,
     /// the leg is the last one of its feature. Of an index over a store that is not faithful nothing is known, and it

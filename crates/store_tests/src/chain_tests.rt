@@ -26,6 +26,7 @@ fn read(alloc: Global, pages: usize, last: bool) -> Option<(Vec<u64>, u64)> {
             alloc,
             &mut cache,
             &shape,
+            0,
             &place,
             &period,
             &Sieve::All,
@@ -33,7 +34,7 @@ fn read(alloc: Global, pages: usize, last: bool) -> Option<(Vec<u64>, u64)> {
         )
         .ok()?
     } else {
-        trajectory(alloc, &mut cache, &shape, &place, &mut Vec::new(alloc)).ok()?
+        trajectory(alloc, &mut cache, &shape, 0, &place, &mut Vec::new(alloc)).ok()?
     };
     let mut ordinals = Vec::new(alloc);
     for leg in &found {
@@ -113,11 +114,12 @@ fn told(alloc: Global, legs: u32, forged: &Forged) -> Option<Result<usize, Chain
     let shape = Shape::new(2, 2)?;
     let period = Period::new(Ms::new(0)?, Ms::new(9000)?)?;
     let (mut none, mut other) = (Vec::new(alloc), Vec::new(alloc));
-    let all = trajectory(alloc, &mut cache, &shape, &place, &mut none).map(|found| found.len());
+    let all = trajectory(alloc, &mut cache, &shape, 0, &place, &mut none).map(|found| found.len());
     let live = trajectory_in(
         alloc,
         &mut cache,
         &shape,
+        0,
         &place,
         &period,
         &Sieve::All,
@@ -142,11 +144,12 @@ fn leaf_over(page: u32, [previous, next]: [u32; 2], [feature, first, legs]: [u32
 /// How many legs there are, which leaf is forged over which page, and the page that is named. Of five legs the leaves
 /// are the pages 1, 2 and 4, of four legs the pages 1 and 2; page 3 is the root over the first two, and of four legs
 /// there is no page 4.
-const LIES: [(u32, u32, [u32; 2], [u32; 3], u32); 8] = [
+const LIES: [(u32, u32, [u32; 2], [u32; 3], u32); 9] = [
     // A leaf that is its own next one, alone, and where a leg is to come.
     (2, 1, [0, 1], [0, 0, 2], 1),
     (3, 1, [0, 1], [0, 0, 2], 1),
-    // A leaf of another feature than the leaf after it, and one with another count.
+    // A last leaf of another feature, a leaf of another one than the leaf after it, and one with another count.
+    (5, 4, [2, 0], [1, 4, 1], 4),
     (5, 2, [1, 4], [1, 2, 2], 2),
     (5, 2, [1, 4], [0, 2, 1], 2),
     // A first leaf whose `next` is 0, and a last one whose `previous` is 0, with a leaf to come.
@@ -180,6 +183,7 @@ fn fault(alloc: Global, calls: u64) -> Option<ChainFault> {
         alloc,
         &mut cache,
         &Shape::new(2, 2)?,
+        0,
         &place,
         &mut Vec::new(alloc),
     )

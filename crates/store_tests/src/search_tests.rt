@@ -102,11 +102,12 @@ fn counts(alloc: Global, shape: &Shape, period: &Period) -> Result<[usize; 3], T
     } = grow(alloc, 1, 5, u64::MAX)?;
     let (mut none, mut other) = (Vec::new(alloc), Vec::new(alloc));
     let found = search(alloc, &mut cache, &tree, &half_a_leg())?.len();
-    let all = trajectory(alloc, &mut cache, shape, &place, &mut none)?.len();
+    let all = trajectory(alloc, &mut cache, shape, 0, &place, &mut none)?.len();
     let live = trajectory_in(
         alloc,
         &mut cache,
         shape,
+        0,
         &place,
         period,
         &Sieve::All,

@@ -1,50 +1,28 @@
 -- What is met on the way down from a root, once pages say more.
-use Rattle.std.proofs.Common.{ℕ, zero, suc, Bool, take, drop, ◌-◌, ◌+◌, ◌<◌, ◌≤◌, ◌≡◌, ◌≢◌, ◌∙◌, ⊎_elim, All, List, [], ◌∷◌, ◌++◌, map, refl, sym, ap, arith, subst, true, Some, None, slice_get, slice_index_or, Result, Ok, Err}
+use Rattle.std.proofs.Common.{false, cond, Option, inl, inr, ◌⊎◌, ℕ, zero, suc, Bool, take, drop, ◌-◌, ◌+◌, ◌<◌, ◌≤◌, ◌≡◌, ◌≢◌, ◌∙◌, ⊎_elim, All, List, [], ◌∷◌, ◌++◌, map, refl, sym, ap, arith, subst, true, Some, None, slice_get, slice_index_or, Result, Ok, Err}
 use Rattle.std.specs.Prelude.{IfOk, OnOk}
 use Rattle.std.specs.List.{Contains, flat_map, filter}
-use Rattle.std.proofs.lemmas.Bool.{cases_eq}
-use Rattle.std.proofs.lemmas.List.{map-append}
+use Rattle.std.proofs.lemmas.Bool.{cases_eq, true≢false}
 use Rattle.std.proofs.lemmas.List.Elements.{All-append, All-cons, All-nil, All-contains, All-contains_itself, Contains-append_cases, Contains-append_left, Contains-append_right}
 use Rattle.std.proofs.lemmas.List.Sorted.{Contains-permutation, IsPermutation-sym}
 use Rattle.std.proofs.Math.Seq.{take-add}
-use Rattle.legs.specs.Boxes.{BoxView}
+use Rattle.legs.specs.Boxes.{BoxView, box_of}
 use Rattle.legs.specs.Legs.{LegView}
-use Rattle.legs.specs.Hull.{Boxes, leg_boxes}
+use Rattle.legs.specs.Hull.{Boxes, IsPruning, both, hull, leg_boxes}
 use Rattle.legs.specs.GroupLemmas.{some_none, some_same}
-use Rattle.tbtree.specs.Content.{kids, Carries, ContentGrows, HasLeg, IsFound, IsMet, Meets, SaysMore}
-use Rattle.tbtree.specs.Descent.{children_met, content_of, entries_in, legs_in, legs_met, node_at, pages_met, sort_by_ordinal}
+use Rattle.tbtree.specs.Content.{Carries, ContentGrows, Grafts, HasLeg, IsFound, IsMet, IsMetBy, KeepsKids, KeepsMet, Meets, SaysMore}
+use Rattle.tbtree.specs.Descent.{children_met, entries_in, found_legs, legs_in, legs_met, node_at, pages_met, sort_by_ordinal}
 use Rattle.tbtree.specs.Joining.{HasAtEnd}
-use Rattle.tbtree.specs.Nodes.{Node, Pages, ALeaf, AnInner, EntryView, Adds, Attaches, Becomes, Covers, Links, Pushes, Widens, with_entry, with_legs, with_next, with_wider}
+use Rattle.tbtree.specs.Nodes.{cover_all, cover_of_page, widened, Node, Pages, ALeaf, AnInner, EntryView, Adds, Attaches, Becomes, Covers, Links, Pushes, Widens, with_entry, with_legs, with_next, with_wider}
 use Rattle.tbtree.specs.declared.fault.TreeFault.{TreeFault}
 use Rattle.tbtree.specs.declared.tree.TbTree.{TbTree}
 use Rattle.tbtree.specs.declared.tree.Top.{Top}
+use Rattle.tbtree.proofs.GraftLemmas.{grafts_after, grafts_attached, grafts_first, grafts_on, grafts_rooted, grafts_same, grafts_up, has_first, has_got, has_later, kids_covered, kids_pushed, kids_then, kids_widened, no_element, only_one}
 use Rattle.tbtree.proofs.SortLemmas.{sort_moves}
-use Rattle.tbtree.proofs.Widening.{widened_children}
 
 module _ {X : Type 0} where
-  pub no_element : (x : X) → Contains [] x → ⊥
-  no_element x h = let l = h.1 in omega (arith, l)
-
-  pub has_first : (x : X) (xs : List X) → Contains (x ∷ xs) x
-  has_first x xs = (0, omega arith, refl)
-
-  has_later : (y x : X) (xs : List X) → Contains xs x → Contains (y ∷ xs) x
-  has_later y x xs h = Contains-append_right (y ∷ []) xs x h
-
-  pub has_got : (xs : List X) (i : ℕ) (x : X) → slice_get xs i ≡ Some x → Contains xs x
-  has_got [] i x e = absurd (some_none x (sym e))
-  has_got (y ∷ xs) zero x e = subst (λ z. Contains (y ∷ xs) z) (some_same y x e) (has_first y xs)
-  has_got (y ∷ xs) (suc i) x e = has_later y x xs (has_got xs i x e)
-
   all_of : (P : X → Type 0) (xs : List X) → ((x : X) → Contains xs x → P x) → All P xs
   all_of P xs each k d l = each (slice_index_or xs k d) (All-contains_itself xs k d l)
-
-  filter_every : (xs : List X) → filter (λ _. true) xs ≡ xs
-  filter_every [] = refl
-  filter_every (x ∷ xs) = ap (λ l. x ∷ l) (filter_every xs)
-
-only_one : {X : Type 0} (z x : X) → Contains (z ∷ []) x → z ≡ x
-only_one {X} z x h = All-contains (λ w. z ≡ w) (z ∷ []) x (All-cons (λ w. z ≡ w) z [] refl (All-nil (λ w. z ≡ w))) h
 
 module _ {X Y : Type 0} (f : X → List Y) where
   flat_has : (xs : List X) (x : X) (y : Y) → Contains xs x → Contains (f x) y → Contains (flat_map f xs) y
@@ -61,27 +39,125 @@ module _ {X Y : Type 0} (f : X → List Y) where
       (λ (later : Contains (flat_map f xs) y). let r = flat_of xs y later in (r.0, has_later z r.0 xs r.1, r.2))
       (Contains-append_cases (f z) (flat_map f xs) y h)
 
+-- a test of boxes that a box passes is passed by each that holds it
+module _ (meets : BoxView → Bool) (prune : IsPruning leg_boxes meets) where
+  by_cover : (p q : BoxView) → (meets p ≡ true) ⊎ (meets q ≡ true) → meets (leg_boxes.cover p q) ≡ true
+  by_cover p q h = (elim (meets (leg_boxes.cover p q)) as (λ b. meets (leg_boxes.cover p q) ≡ b → b ≡ true) [
+    | true ↦ λ e. refl
+    | false ↦ λ e. absurd (⊎_elim (λ (t : meets p ≡ true). true≢false (sym t ∙ (prune p q e).0)) (λ (t : meets q ≡ true). true≢false (sym t ∙ (prune p q e).1)) h)
+  ]) refl
+
+  -- it passes what there is, if anything
+  abbrev Passes : Option BoxView → Type 0
+  Passes None = ⊥
+  Passes (Some b) = meets b ≡ true
+
+  by_both : (a b : Option BoxView) → Passes a ⊎ Passes b → Passes (both leg_boxes a b)
+  by_both None None h = ⊎_elim (λ (f : ⊥). f) (λ (f : ⊥). f) h
+  by_both None (Some b) h = ⊎_elim (λ (f : ⊥). absurd f) (λ (t : meets b ≡ true). t) h
+  by_both (Some a) None h = ⊎_elim (λ (t : meets a ≡ true). t) (λ (f : ⊥). absurd f) h
+  by_both (Some a) (Some b) h = by_cover a b h
+
+  by_hull : (legs : List LegView) (leg : LegView) → Contains legs leg → meets (box_of leg) ≡ true → Passes (hull leg_boxes legs)
+  by_hull [] leg h t = absurd (no_element leg h)
+  by_hull (l ∷ ls) leg h t = by_both (Some (box_of l)) (hull leg_boxes ls) (⊎_elim
+      (λ (one : Contains (l ∷ []) leg). inl (subst (λ x. meets (box_of x) ≡ true) (sym (only_one l leg one)) t))
+      (λ (later : Contains ls leg). inr (by_hull ls leg later t))
+      (Contains-append_cases (l ∷ []) ls leg h))
+
+  -- a leg whose box meets is in a box that does
+  pub hull_meets : (legs : List LegView) (box : BoxView) (leg : LegView) → hull leg_boxes legs ≡ Some box → Contains legs leg → meets (box_of leg) ≡ true → meets box ≡ true
+  hull_meets legs box leg is h t = subst Passes is (by_hull legs leg h t)
+
+  -- the children of entries that are met
+  met_of : List (EntryView BoxView) → List ℕ
+  met_of es = map (λ (e : EntryView BoxView). e.child) (filter (λ (e : EntryView BoxView). meets e.bounds) es)
+
+  by_entries : (es : List (EntryView BoxView)) (q : ℕ) → Contains (met_of es) q → Passes (cover_all leg_boxes (map (λ (e : EntryView BoxView). e.bounds) es))
+  unfolding met_of
+  by_entries [] q h = absurd (no_element q h)
+  by_entries (e ∷ es) q h = by_both (Some e.bounds) (cover_all leg_boxes (map (λ (e : EntryView BoxView). e.bounds) es))
+      ((elim (meets e.bounds) as (λ b. meets e.bounds ≡ b → Contains (map (λ (x : EntryView BoxView). x.child) (cond b (e ∷ filter (λ (x : EntryView BoxView). meets x.bounds) es) (filter (λ (x : EntryView BoxView). meets x.bounds) es))) q → (meets e.bounds ≡ true) ⊎ Passes (cover_all leg_boxes (map (λ (x : EntryView BoxView). x.bounds) es))) [
+        | true ↦ λ t _. inl t
+        | false ↦ λ t c. inr (by_entries es q c)
+      ]) refl h)
+
+  met_cons : (e : EntryView BoxView) (es : List (EntryView BoxView)) (q : ℕ) → (meets e.bounds ≡ true) × (e.child ≡ q) ⊎ Contains (met_of es) q → Contains (met_of (e ∷ es)) q
+  unfolding met_of
+  met_cons e es q h = (elim (meets e.bounds) as (λ b. meets e.bounds ≡ b → Contains (map (λ (x : EntryView BoxView). x.child) (cond b (e ∷ filter (λ (x : EntryView BoxView). meets x.bounds) es) (filter (λ (x : EntryView BoxView). meets x.bounds) es))) q) [
+    | true ↦ λ t. ⊎_elim
+        (λ (one : (meets e.bounds ≡ true) × (e.child ≡ q)). subst (λ z. Contains (e.child ∷ met_of es) z) one.1 (has_first e.child (met_of es)))
+        (λ (later : Contains (met_of es) q). has_later e.child q (met_of es) later) h
+    | false ↦ λ t. ⊎_elim (λ (one : (meets e.bounds ≡ true) × (e.child ≡ q)). absurd (true≢false (sym one.0 ∙ t))) (λ (later : Contains (met_of es) q). later) h
+  ]) refl
+
+  met_uncons : (e : EntryView BoxView) (es : List (EntryView BoxView)) (q : ℕ) → Contains (met_of (e ∷ es)) q → (meets e.bounds ≡ true) × (e.child ≡ q) ⊎ Contains (met_of es) q
+  unfolding met_of
+  met_uncons e es q = (elim (meets e.bounds) as (λ b. meets e.bounds ≡ b → Contains (map (λ (x : EntryView BoxView). x.child) (cond b (e ∷ filter (λ (x : EntryView BoxView). meets x.bounds) es) (filter (λ (x : EntryView BoxView). meets x.bounds) es))) q → (meets e.bounds ≡ true) × (e.child ≡ q) ⊎ Contains (met_of es) q) [
+    | true ↦ λ t h. ⊎_elim
+        (λ (one : Contains (e.child ∷ []) q). inl (t, only_one e.child q one))
+        (λ (later : Contains (met_of es) q). inr later)
+        (Contains-append_cases (e.child ∷ []) (met_of es) q h)
+    | false ↦ λ t h. inr h
+  ]) refl
+
+  -- an entry at the end
+  met_left : (es fs : List (EntryView BoxView)) (q : ℕ) → Contains (met_of es) q → Contains (met_of (es ++ fs)) q
+  unfolding met_of
+  met_left [] fs q h = absurd (no_element q h)
+  met_left (e ∷ es) fs q h = met_cons e (es ++ fs) q (⊎_elim
+      (λ (one : (meets e.bounds ≡ true) × (e.child ≡ q)). inl one)
+      (λ (later : Contains (met_of es) q). inr (met_left es fs q later)) (met_uncons e es q h))
+
+  met_right : (es fs : List (EntryView BoxView)) (q : ℕ) → Contains (met_of fs) q → Contains (met_of (es ++ fs)) q
+  met_right [] fs q h = h
+  met_right (e ∷ es) fs q h = met_cons e (es ++ fs) q (inr (met_right es fs q h))
+
+  -- a widened entry
+  met_widened : (i : ℕ) (y : BoxView) (es : List (EntryView BoxView)) (q : ℕ) → Contains (met_of es) q → Contains (met_of (widened leg_boxes.cover i y es)) q
+  met_widened i y [] q h = h
+  met_widened zero y (e ∷ es) q h = met_cons (record { child = e.child; bounds = leg_boxes.cover e.bounds y }) es q (⊎_elim
+      (λ (one : (meets e.bounds ≡ true) × (e.child ≡ q)). inl (by_cover e.bounds y (inl one.0), one.1))
+      (λ (later : Contains (met_of es) q). inr later) (met_uncons e es q h))
+  met_widened (suc i) y (e ∷ es) q h = met_cons e (widened leg_boxes.cover i y es) q (⊎_elim
+      (λ (one : (meets e.bounds ≡ true) × (e.child ≡ q)). inl one)
+      (λ (later : Contains (met_of es) q). inr (met_widened i y es q later)) (met_uncons e es q h))
+
+  -- is met where what it is widened by is
+  met_wider : (i : ℕ) (y : BoxView) (es : List (EntryView BoxView)) (c : ℕ) → meets y ≡ true → slice_get (map (λ (e : EntryView BoxView). e.child) es) i ≡ Some c → Contains (met_of (widened leg_boxes.cover i y es)) c
+  met_wider i y [] c t at = absurd (some_none c (sym at))
+  met_wider zero y (e ∷ es) c t at = met_cons (record { child = e.child; bounds = leg_boxes.cover e.bounds y }) es c (inl (by_cover e.bounds y (inr t), some_same e.child c at))
+  met_wider (suc i) y (e ∷ es) c t at = met_cons e (widened leg_boxes.cover i y es) c (inr (met_wider i y es c t at))
+
+  children_are : (nodes : Pages LegView BoxView) (p : ℕ) → children_met meets nodes p ≡ met_of (entries_in (node_at nodes p))
+  unfolding children_met met_of
+  children_are nodes p = refl
+
 -- pages that say the same, or more and more
 pub says_same : (old new : Pages LegView BoxView) → ((p : ℕ) → new.at p ≡ old.at p) → SaysMore old new
 says_same old new same = record {
-  entries = λ p. elim p as (λ p. (q : ℕ) → Contains (kids (node_at old p)) q → Contains (kids (node_at new p)) q) [ zero ↦ λ q c. c | suc n ↦ λ q c. subst (λ x. Contains (kids x) q) (sym (same (suc n))) c ];
-  legs = λ p. elim p as (λ p. (leg : LegView) → Contains (legs_in (node_at old p)) leg → Contains (legs_in (node_at new p)) leg) [ zero ↦ λ leg c. c | suc n ↦ λ leg c. subst (λ x. Contains (legs_in x) leg) (sym (same (suc n))) c ];
+  entries = λ meets prune p q c. subst (λ l. Contains l q) (sym (children_are meets prune new p)) (subst (λ x. Contains (met_of meets prune (entries_in x)) q) (sym (same_at p)) (subst (λ l. Contains l q) (children_are meets prune old p) c));
+  legs = λ p leg c. subst (λ x. Contains (legs_in x) leg) (sym (same_at p)) c;
 }
+  where
+    same_at : (p : ℕ) → node_at new p ≡ node_at old p
+    same_at zero = refl
+    same_at (suc n) = same (suc n)
 
 pub says_none : (nodes : Pages LegView BoxView) → SaysMore nodes nodes
-says_none nodes = record { entries = λ p q c. c; legs = λ p leg c. c }
+says_none nodes = record { entries = λ meets prune p q c. c; legs = λ p leg c. c }
 
 pub says_then : (a b c : Pages LegView BoxView) → SaysMore a b → SaysMore b c → SaysMore a c
-says_then a b c s t = record { entries = λ p q h. t.entries p q (s.entries p q h); legs = λ p leg h. t.legs p leg (s.legs p leg h) }
+says_then a b c s t = record { entries = λ meets prune p q h. t.entries meets prune p q (s.entries meets prune p q h); legs = λ p leg h. t.legs p leg (s.legs p leg h) }
 
 -- one page that says more
 module _ (old new : Pages LegView BoxView) (p : ℕ) (node : Node LegView BoxView) (b : Becomes old p node new)
-    (more_kids : (q : ℕ) → Contains (kids (old.at p)) q → Contains (kids (Some (Some node))) q)
+    (more_kids : (meets : BoxView → Bool) (prune : IsPruning leg_boxes meets) (q : ℕ) → Contains (met_of meets prune (entries_in (old.at p))) q → Contains (met_of meets prune (entries_in (Some (Some node)))) q)
     (more_legs : (leg : LegView) → Contains (legs_in (old.at p)) leg → Contains (legs_in (Some (Some node))) leg) where
-  at_kids : (r q : ℕ) → Contains (kids (old.at r)) q → Contains (kids (new.at r)) q
-  at_kids r q c = ⊎_elim
-      (λ (e : r ≡ p). subst (λ x. Contains (kids x) q) (sym (ap new.at e ∙ b.now)) (more_kids q (subst (λ m. Contains (kids (old.at m)) q) e c)))
-      (λ (u : r ≢ p). subst (λ x. Contains (kids x) q) (sym (b.rest r u)) c)
+  at_kids : (meets : BoxView → Bool) (prune : IsPruning leg_boxes meets) (r q : ℕ) → Contains (met_of meets prune (entries_in (old.at r))) q → Contains (met_of meets prune (entries_in (new.at r))) q
+  at_kids meets prune r q c = ⊎_elim
+      (λ (e : r ≡ p). subst (λ x. Contains (met_of meets prune (entries_in x)) q) (sym (ap new.at e ∙ b.now)) (more_kids meets prune q (subst (λ m. Contains (met_of meets prune (entries_in (old.at m))) q) e c)))
+      (λ (u : r ≢ p). subst (λ x. Contains (met_of meets prune (entries_in x)) q) (sym (b.rest r u)) c)
       (cases_eq r p)
 
   at_legs : (r : ℕ) (leg : LegView) → Contains (legs_in (old.at r)) leg → Contains (legs_in (new.at r)) leg
@@ -90,243 +166,338 @@ module _ (old new : Pages LegView BoxView) (p : ℕ) (node : Node LegView BoxVie
       (λ (u : r ≢ p). subst (λ x. Contains (legs_in x) leg) (sym (b.rest r u)) c)
       (cases_eq r p)
 
+  node_kids : (meets : BoxView → Bool) (prune : IsPruning leg_boxes meets) (r q : ℕ) → Contains (met_of meets prune (entries_in (node_at old r))) q → Contains (met_of meets prune (entries_in (node_at new r))) q
+  node_kids meets prune zero q c = c
+  node_kids meets prune (suc n) q c = at_kids meets prune (suc n) q c
+
+  node_legs : (r : ℕ) (leg : LegView) → Contains (legs_in (node_at old r)) leg → Contains (legs_in (node_at new r)) leg
+  node_legs zero leg c = c
+  node_legs (suc n) leg c = at_legs (suc n) leg c
+
   says_becomes : SaysMore old new
   says_becomes = record {
-    entries = λ p. elim p as (λ p. (q : ℕ) → Contains (kids (node_at old p)) q → Contains (kids (node_at new p)) q) [ zero ↦ λ q c. c | suc n ↦ at_kids (suc n) ];
-    legs = λ p. elim p as (λ p. (leg : LegView) → Contains (legs_in (node_at old p)) leg → Contains (legs_in (node_at new p)) leg) [ zero ↦ λ leg c. c | suc n ↦ at_legs (suc n) ];
+    entries = λ meets prune r q c. subst (λ l. Contains l q) (sym (children_are meets prune new r)) (node_kids meets prune r q (subst (λ l. Contains l q) (children_are meets prune old r) c));
+    legs = node_legs;
   }
 
 -- a page that was there, and says more
-says_was : (old new : Pages LegView BoxView) (p : ℕ) (was node : Node LegView BoxView) → old.at p ≡ Some (Some was) → Becomes old p node new → ((q : ℕ) → Contains (kids (Some (Some was))) q → Contains (kids (Some (Some node))) q)
+says_was : (old new : Pages LegView BoxView) (p : ℕ) (was node : Node LegView BoxView) → old.at p ≡ Some (Some was) → Becomes old p node new
+    → ((meets : BoxView → Bool) (prune : IsPruning leg_boxes meets) (q : ℕ) → Contains (met_of meets prune (entries_in (Some (Some was)))) q → Contains (met_of meets prune (entries_in (Some (Some node)))) q)
     → ((leg : LegView) → Contains (legs_in (Some (Some was))) leg → Contains (legs_in (Some (Some node))) leg) → SaysMore old new
 says_was old new p was node e b ks ls = says_becomes old new p node b
-    (λ q c. ks q (subst (λ x. Contains (kids x) q) e c))
+    (λ meets prune q c. ks meets prune q (subst (λ x. Contains (met_of meets prune (entries_in x)) q) e c))
     (λ leg c. ls leg (subst (λ x. Contains (legs_in x) leg) e c))
 
 pub says_widened : (old new : Pages LegView BoxView) (p height e : ℕ) (y : BoxView) (c : ℕ) → Widens leg_boxes old p height e y new c → SaysMore old new
 says_widened old new p height e y c w =
-    let s : Boxes LegView BoxView = leg_boxes in
-    says_was old new p (AnInner w.page) (AnInner (with_wider s.cover e y w.page)) w.was w.becomes
-    (λ q h. subst (λ l. Contains l q) (sym (widened_children s.cover e y w.page.entries)) h)
+    says_was old new p (AnInner w.page) (AnInner (with_wider leg_boxes.cover e y w.page)) w.was w.becomes
+    (λ meets prune q h. met_widened meets prune e y w.page.entries q h)
     (λ leg h. h)
 
 pub says_attached : (old new : Pages LegView BoxView) (p height c : ℕ) (y : BoxView) → Attaches old p height c y new → SaysMore old new
 says_attached old new p height c y w =
     let e : EntryView BoxView = record { child = c; bounds = y } in
     says_was old new p (AnInner w.page) (AnInner (with_entry e w.page)) w.was w.becomes
-    (λ q h. subst (λ l. Contains l q) (sym (map-append (λ (x : EntryView BoxView). x.child) w.page.entries (e ∷ []))) (Contains-append_left (map (λ (x : EntryView BoxView). x.child) w.page.entries) (c ∷ []) q h))
+    (λ meets prune q h. met_left meets prune w.page.entries (e ∷ []) q h)
     (λ leg h. h)
 
 pub says_pushed : (old new : Pages LegView BoxView) (p : ℕ) (ys : List LegView) → Pushes old p ys new → SaysMore old new
 says_pushed old new p ys w = says_was old new p (ALeaf w.leaf) (ALeaf (with_legs ys w.leaf)) w.was w.becomes
-    (λ q h. h)
+    (λ meets prune q h. h)
     (λ leg h. Contains-append_left w.leaf.legs ys leg h)
 
 pub says_linked : (old new : Pages LegView BoxView) (p q : ℕ) → Links old p q new → SaysMore old new
-says_linked old new p q w = says_was old new p (ALeaf w.leaf) (ALeaf (with_next q w.leaf)) w.was w.becomes (λ q h. h) (λ leg h. h)
+says_linked old new p q w = says_was old new p (ALeaf w.leaf) (ALeaf (with_next q w.leaf)) w.was w.becomes (λ meets prune q h. h) (λ leg h. h)
+
+none_met : (meets : BoxView → Bool) (prune : IsPruning leg_boxes meets) (q : ℕ) → Contains (met_of meets prune []) q → ⊥
+unfolding met_of
+none_met meets prune q h = no_element q h
 
 pub says_added : (old new : Pages LegView BoxView) (node : Node LegView BoxView) (p : ℕ) → old.at old.count ≡ None → Adds old node new p → SaysMore old new
 says_added old new node p fresh w =
     let none : old.at p ≡ None = ap old.at w.number ∙ fresh in
     says_becomes old new p node w.becomes
-    (λ q c. absurd (no_element q (subst (λ x. Contains (kids x) q) none c)))
+    (λ meets prune q c. absurd (none_met meets prune q (subst (λ x. Contains (met_of meets prune (entries_in x)) q) none c)))
     (λ leg c. absurd (no_element leg (subst (λ x. Contains (legs_in x) leg) none c)))
 
 pub says_covered : (old new : Pages LegView BoxView) (p : ℕ) (y : BoxView) → Covers leg_boxes old p y new → SaysMore old new
 says_covered old new p y w = says_same old new w.rest
 
 -- what was met is met where pages say more
-pub met_more : (old new : Pages LegView BoxView) → SaysMore old new → (root n p : ℕ) → IsMet old root n p → IsMet new root n p
-met_more old new s root zero p m = m
-met_more old new s root (suc n) p m = (m.0, met_more old new s root n m.0 m.1, s.entries m.0 p m.2)
+met_more : (meets : BoxView → Bool) → IsPruning leg_boxes meets → (old new : Pages LegView BoxView) → SaysMore old new → (root n p : ℕ) → IsMet meets old root n p → IsMet meets new root n p
+met_more meets prune old new s root zero p m = m
+met_more meets prune old new s root (suc n) p m = (m.0, met_more meets prune old new s root n m.0 m.1, s.entries meets prune m.0 p m.2)
 
-pub leg_more : (old new : Pages LegView BoxView) → SaysMore old new → (root levels : ℕ) (leg : LegView) → HasLeg old root levels leg → HasLeg new root levels leg
-leg_more old new s root levels leg h = record { n = h.n; p = h.p; last = h.last; met = met_more old new s root h.n h.p h.met; leg_is = s.legs h.p leg h.leg_is }
+pub kept_more : (old new : Pages LegView BoxView) → SaysMore old new → (root levels : ℕ) → KeepsMet old new root levels root levels
+kept_more old new s root levels meets prune leg h = record { n = h.n; p = h.p; last = h.last; met = met_more meets prune old new s root h.n h.p h.met; leg_is = s.legs h.p leg h.leg_is; box = h.box }
+
+by_more : (old new : Pages LegView BoxView) → SaysMore old new → (root levels level : ℕ) (box : BoxView) (p : ℕ) → IsMetBy old root levels level box p → IsMetBy new root levels level box p
+by_more old new s root levels level box p m meets prune t n e = met_more meets prune old new s root n p (m meets prune t n e)
 
 -- the root is met at the top
-pub found_top : (nodes : Pages LegView BoxView) (root levels level : ℕ) → level + 1 ≡ levels → IsFound nodes nodes root levels level root
-found_top nodes root levels level top = record {
+pub found_top : (nodes : Pages LegView BoxView) (root levels level : ℕ) (box : BoxView) → level + 1 ≡ levels → IsFound nodes nodes root levels level box root
+found_top nodes root levels level box top = record {
   says = says_none nodes;
   counted = refl;
-  met = λ n e. subst (λ m. IsMet nodes root m root) (let z : 0 ≡ n = omega (arith, top, e) in z) refl;
+  same = λ p. refl;
+  met = λ meets prune t n e. subst (λ m. IsMet meets nodes root m root) (let z : 0 ≡ n = omega (arith, top, e) in z) refl;
 }
 
 -- what page p says, above page 0
-at_page : (nodes : Pages LegView BoxView) (p : ℕ) → 0 < p → node_at nodes p ≡ nodes.at p
+pub at_page : (nodes : Pages LegView BoxView) (p : ℕ) → 0 < p → node_at nodes p ≡ nodes.at p
 at_page nodes zero above = absurd (omega (arith, above))
 at_page nodes (suc n) above = refl
 
+-- the entries of a page that is an inner one
+met_at : (meets : BoxView → Bool) (prune : IsPruning leg_boxes meets) (nodes : Pages LegView BoxView) (p : ℕ) (node : Node LegView BoxView) → 0 < p → nodes.at p ≡ Some (Some node) → children_met meets nodes p ≡ met_of meets prune (entries_in (Some (Some node)))
+met_at meets prune nodes p node above is = children_are meets prune nodes p ∙ ap (λ x. met_of meets prune (entries_in x)) (at_page nodes p above ∙ is)
+
 -- a page below one that is met
-step_met : (nodes : Pages LegView BoxView) (root levels level p c : ℕ) → level + 1 < levels → ((n : ℕ) → n + suc (level + 1) ≡ levels → IsMet nodes root n p) → Contains (kids (node_at nodes p)) c → (n : ℕ) → n + suc level ≡ levels → IsMet nodes root n c
-step_met nodes root levels level p c below met h zero e = absurd (omega (arith, below, e))
-step_met nodes root levels level p c below met h (suc n) e = (p, met n (omega (arith, e)), h)
+step_met : (nodes : Pages LegView BoxView) (root levels level p c : ℕ) (box : BoxView) → level + 1 < levels → IsMetBy nodes root levels (level + 1) box p
+    → ((meets : BoxView → Bool) → IsPruning leg_boxes meets → meets box ≡ true → Contains (children_met meets nodes p) c) → IsMetBy nodes root levels level box c
+step_met nodes root levels level p c box below met h meets prune t zero e = absurd (omega (arith, below, e))
+step_met nodes root levels level p c box below met h meets prune t (suc n) e = (p, met meets prune t n (omega (arith, e)), h meets prune t)
 
 -- the child of an entry that is widened
-pub found_next : (old mid new : Pages LegView BoxView) (root levels level p e : ℕ) (y : BoxView) (c : ℕ) → level + 1 < levels → 0 < p → IsFound old mid root levels (level + 1) p → Widens leg_boxes mid p (level + 1) e y new c → IsFound old new root levels level c
+pub found_next : (old mid new : Pages LegView BoxView) (root levels level p e : ℕ) (y : BoxView) (c : ℕ) → level + 1 < levels → 0 < p → IsFound old mid root levels (level + 1) y p → Widens leg_boxes mid p (level + 1) e y new c → IsFound old new root levels level y c
 found_next old mid new root levels level p e y c below above f w =
     let more = says_widened mid new p (level + 1) e y c w in
-    let there : Contains (kids (node_at mid p)) c = subst (λ x. Contains (kids x) c) (sym (at_page mid p above ∙ w.was)) (has_got (map (λ (x : EntryView BoxView). x.child) w.page.entries) e c w.child) in
     record {
       says = says_then old mid new f.says more;
       counted = w.counted ∙ f.counted;
-      met = λ n is. met_more mid new more root n c (step_met mid root levels level p c below f.met there n is);
+      same = kids_then old mid new f.same (kids_widened mid new p (level + 1) e y c w);
+      met = step_met new root levels level p c y below (by_more mid new more root levels (level + 1) y p f.met)
+          (λ meets prune t. subst (λ l. Contains l c) (sym (met_at meets prune new p (AnInner (with_wider leg_boxes.cover e y w.page)) above w.becomes.now)) (met_wider meets prune e y w.page.entries c t w.child));
     }
 
 -- legs at the end of a leaf that is met are met
-pub leg_at_end : (nodes : Pages LegView BoxView) (root levels p : ℕ) (legs : List LegView) → 0 < levels → ((n : ℕ) → n + 1 ≡ levels → IsMet nodes root n p) → HasAtEnd nodes p legs → All (HasLeg nodes root levels) legs
-leg_at_end nodes root zero p legs some met h = absurd (omega (arith, some))
-leg_at_end nodes root (suc n) p legs some met h = all_of (HasLeg nodes root (suc n)) legs (λ leg c.
+pub legs_at_end : (nodes : Pages LegView BoxView) (root levels p : ℕ) (box : BoxView) (legs : List LegView) → 0 < levels → hull leg_boxes legs ≡ Some box → IsMetBy nodes root levels 0 box p → HasAtEnd nodes p legs
+    → (meets : BoxView → Bool) → IsPruning leg_boxes meets → All (λ leg. meets (box_of leg) ≡ true → HasLeg meets nodes root levels leg) legs
+legs_at_end nodes root zero p box legs some is met h meets prune = absurd (omega (arith, some))
+legs_at_end nodes root (suc n) p box legs some is met h meets prune = all_of (λ leg. meets (box_of leg) ≡ true → HasLeg meets nodes root (suc n) leg) legs (λ leg c t.
     record {
       n = n;
       p = p;
       last = refl;
-      met = met n (omega arith);
+      met = met meets prune (hull_meets meets prune legs box leg is c t) n (omega arith);
       leg_is = subst (λ x. Contains (legs_in x) leg) (sym (at_page nodes p h.above ∙ h.is)) (Contains-append_right h.leaf.legs legs leg c);
+      box = t;
     })
 
 -- a root over the old one
-under : (nodes : Pages LegView BoxView) (r root : ℕ) → Contains (kids (node_at nodes r)) root → (n p : ℕ) → IsMet nodes root n p → IsMet nodes r (suc n) p
-under nodes r root h zero p m = (r, refl, subst (λ x. Contains (kids (node_at nodes r)) x) (sym m) h)
-under nodes r root h (suc n) p m = (m.0, under nodes r root h n m.0 m.1, m.2)
+under : (meets : BoxView → Bool) (nodes : Pages LegView BoxView) (r root : ℕ) → Contains (children_met meets nodes r) root → (n p : ℕ) → IsMet meets nodes root n p → IsMet meets nodes r (suc n) p
+under meets nodes r root h zero p m = (r, refl, subst (λ x. Contains (children_met meets nodes r) x) (sym m) h)
+under meets nodes r root h (suc n) p m = (m.0, under meets nodes r root h n m.0 m.1, m.2)
 
-pub carries_rooted : (old mid new : Pages LegView BoxView) (root levels level c r : ℕ) (x y : BoxView) → 0 < mid.count → mid.at mid.count ≡ None → level + 1 ≡ levels → SaysMore old mid
-    → Adds mid (AnInner (record { level = level + 1; entries = record { child = root; bounds = x } ∷ record { child = c; bounds = y } ∷ [] })) new r → Carries old new root levels level c (record { root = r; levels = levels + 1 })
-carries_rooted old mid new root levels level c r x y some fresh top s w =
-    let more = says_added mid new _ r fresh w in
-    let says = says_then old mid new s more in
-    let above : 0 < r = let e = w.number in omega (arith, e, some) in
-    let is : kids (node_at new r) ≡ root ∷ c ∷ [] = ap (λ n. kids n) (at_page new r above ∙ w.becomes.now) in
+-- where a leg is met below the root, the box of all that the root has is
+first_step : (meets : BoxView → Bool) (nodes : Pages LegView BoxView) (root n p : ℕ) → IsMet meets nodes root (suc n) p → (q : ℕ) × Contains (children_met meets nodes root) q
+first_step meets nodes root zero p m = (p, subst (λ r. Contains (children_met meets nodes r) p) m.1 m.2)
+first_step meets nodes root (suc n) p m = first_step meets nodes root n m.0 m.1
+
+module _ (meets : BoxView → Bool) (prune : IsPruning leg_boxes meets) (nodes : Pages LegView BoxView) (root : ℕ) (node : Node LegView BoxView) (is : nodes.at root ≡ Some (Some node)) where
+  root_says : (o : Option (Option (Node LegView BoxView))) → node_at nodes root ≡ o → (o ≡ None) ⊎ (o ≡ Some (Some node))
+  root_says o e = (elim root as (λ r. nodes.at r ≡ Some (Some node) → node_at nodes r ≡ o → (o ≡ None) ⊎ (o ≡ Some (Some node))) [
+    | zero ↦ λ i e. inl (sym e)
+    | suc n ↦ λ i e. inr (sym e ∙ i)
+  ]) is e
+
+  kids_meet : (x : Node LegView BoxView) (q : ℕ) → Contains (met_of meets prune (entries_in (Some (Some x)))) q → Passes meets prune (cover_of_page leg_boxes x)
+  kids_meet (ALeaf leaf) q h = absurd (none_met meets prune q h)
+  kids_meet (AnInner page) q h = by_entries meets prune page.entries q h
+
+  legs_meet : (x : Node LegView BoxView) (leg : LegView) → Contains (legs_in (Some (Some x))) leg → meets (box_of leg) ≡ true → Passes meets prune (cover_of_page leg_boxes x)
+  legs_meet (ALeaf leaf) leg h t = by_hull meets prune leaf.legs leg h t
+  legs_meet (AnInner page) leg h t = absurd (no_element leg h)
+
+  root_meets : (levels : ℕ) (leg : LegView) (box : BoxView) → cover_of_page leg_boxes node ≡ Some box → HasLeg meets nodes root levels leg → meets box ≡ true
+  root_meets levels leg box cover h = subst (Passes meets prune) cover
+      (elim h.n as (λ n. IsMet meets nodes root n h.p → Passes meets prune (cover_of_page leg_boxes node)) [
+        | zero ↦ λ m. ⊎_elim
+            (λ (e : node_at nodes root ≡ None). absurd (no_element leg (subst (λ x. Contains (legs_in x) leg) e (subst (λ p. Contains (legs_in (node_at nodes p)) leg) m h.leg_is))))
+            (λ (e : node_at nodes root ≡ Some (Some node)). legs_meet node leg (subst (λ x. Contains (legs_in x) leg) e (subst (λ p. Contains (legs_in (node_at nodes p)) leg) m h.leg_is)) h.box)
+            (root_says (node_at nodes root) refl)
+        | suc n ↦ λ m.
+            let q = first_step meets nodes root n h.p m in
+            let c = subst (λ l. Contains l q.0) (children_are meets prune nodes root) q.1 in
+            ⊎_elim
+            (λ (e : node_at nodes root ≡ None). absurd (none_met meets prune q.0 (subst (λ x. Contains (met_of meets prune (entries_in x)) q.0) e c)))
+            (λ (e : node_at nodes root ≡ Some (Some node)). kids_meet node q.0 (subst (λ x. Contains (met_of meets prune (entries_in x)) q.0) e c))
+            (root_says (node_at nodes root) refl)
+      ] h.met)
+
+pub carries_rooted : (old mid new : Pages LegView BoxView) (root levels level c r : ℕ) (x y : BoxView) → root < c → c < old.count → mid.at mid.count ≡ None → level + 1 ≡ levels → Covers leg_boxes old root x mid
+    → Adds mid (AnInner (record { level = level + 1; entries = record { child = root; bounds = x } ∷ record { child = c; bounds = y } ∷ [] })) new r → Carries old new root levels level y c (record { root = r; levels = levels + 1 })
+carries_rooted old mid new root levels level c r x y low there fresh top w a =
+    let one : EntryView BoxView = record { child = root; bounds = x } in
+    let two : EntryView BoxView = record { child = c; bounds = y } in
+    let node : Node LegView BoxView = AnInner (record { level = level + 1; entries = one ∷ two ∷ [] }) in
+    let more = says_added mid new node r fresh a in
+    let says = says_then old mid new (says_covered old mid root x w) more in
+    let above : 0 < r = let e = a.number in let counted = w.counted in omega (arith, e, counted, there) in
     record {
       says = says;
-      kept = λ leg h.
+      kept = λ meets prune leg h.
+          let t = root_meets meets prune old root w.node w.is levels leg x w.cover h in
+          let there : Contains (children_met meets new r) root = subst (λ l. Contains l root) (sym (met_at meets prune new r node above a.becomes.now)) (met_cons meets prune one (two ∷ []) root (inl (t, refl))) in
           record {
             n = suc h.n;
             p = h.p;
             last = (let e = h.last in omega (arith, e));
-            met = under new r root (subst (λ l. Contains l root) (sym is) (has_first root (c ∷ []))) h.n h.p (met_more old new says root h.n h.p h.met);
+            met = under meets new r root there h.n h.p (met_more meets prune old new says root h.n h.p h.met);
             leg_is = says.legs h.p leg h.leg_is;
+            box = h.box;
           };
-      met = λ n e. subst (λ m. IsMet new r m c) (let one : 1 ≡ n = omega (arith, e, top) in one)
-          (r, refl, subst (λ l. Contains l c) (sym is) (Contains-append_right (root ∷ []) (c ∷ []) c (has_first c [])));
+      met = λ meets prune t n e. subst (λ m. IsMet meets new r m c) (let one : 1 ≡ n = omega (arith, e, top) in one)
+          (r, refl, subst (λ l. Contains l c) (sym (met_at meets prune new r node above a.becomes.now)) (met_cons meets prune one (two ∷ []) c (inr (met_cons meets prune two [] c (inl (t, refl))))));
+      grafts = grafts_rooted old mid new root c r (level + 1) x y low there w.counted fresh (kids_covered old mid root x w) a;
     }
 
 -- a page over a new one, which is hung
-pub carries_up : (old mid new : Pages LegView BoxView) (root levels level c q : ℕ) (y : BoxView) (top : Top) → 0 < old.count → old.at old.count ≡ None → level + 1 < top.levels
-    → Adds old (AnInner (record { level = level + 1; entries = record { child = c; bounds = y } ∷ [] })) mid q → Carries mid new root levels (level + 1) q top → Carries old new root levels level c top
-carries_up old mid new root levels level c q y top some fresh below w h =
-    let more = says_added old mid _ q fresh w in
-    let above : 0 < q = let e = w.number in omega (arith, e, some) in
-    let is : kids (node_at mid q) ≡ c ∷ [] = ap (λ n. kids n) (at_page mid q above ∙ w.becomes.now) in
+carries_up : (old mid new : Pages LegView BoxView) (root levels level c q : ℕ) (y : BoxView) (top : Top) → root < c → c < old.count → old.at old.count ≡ None → level + 1 < top.levels
+    → Adds old (AnInner (record { level = level + 1; entries = record { child = c; bounds = y } ∷ [] })) mid q → Carries mid new root levels (level + 1) y q top → Carries old new root levels level y c top
+carries_up old mid new root levels level c q y top low there fresh below w h =
+    let e : EntryView BoxView = record { child = c; bounds = y } in
+    let node : Node LegView BoxView = AnInner (record { level = level + 1; entries = e ∷ [] }) in
+    let more = says_added old mid node q fresh w in
+    let above : 0 < q = let e = w.number in omega (arith, e, there) in
     record {
       says = says_then old mid new more h.says;
-      kept = λ leg l. h.kept leg (leg_more old mid more root levels leg l);
-      met = step_met new top.root top.levels level q c below h.met (h.says.entries q c (subst (λ l. Contains l c) (sym is) (has_first c [])));
+      kept = λ meets prune leg l. h.kept meets prune leg (kept_more old mid more root levels meets prune leg l);
+      met = step_met new top.root top.levels level q c y below h.met
+          (λ meets prune t. h.says.entries meets prune q c (subst (λ l. Contains l c) (sym (met_at meets prune mid q node above w.becomes.now)) (met_cons meets prune e [] c (inl (t, refl)))));
+      grafts = grafts_up old mid new root top.root c q (level + 1) y low there fresh w h.grafts;
     }
 
 -- a page into a page that is found
-pub carries_on : (old mid new : Pages LegView BoxView) (root levels level c p : ℕ) (y : BoxView) → level + 1 < levels → 0 < p → IsFound old mid root levels (level + 1) p → Attaches mid p (level + 1) c y new → Carries old new root levels level c (record { root = root; levels = levels })
-carries_on old mid new root levels level c p y below above f w =
+pub carries_on : (old mid new : Pages LegView BoxView) (root levels level c p : ℕ) (y : BoxView) → root < c → c < old.count → level + 1 < levels → 0 < p → IsFound old mid root levels (level + 1) y p → Attaches mid p (level + 1) c y new → Carries old new root levels level y c (record { root = root; levels = levels })
+carries_on old mid new root levels level c p y low there below above f w =
     let more = says_attached mid new p (level + 1) c y w in
     let e : EntryView BoxView = record { child = c; bounds = y } in
     let says = says_then old mid new f.says more in
-    let is : kids (node_at new p) ≡ map (λ (x : EntryView BoxView). x.child) (w.page.entries ++ e ∷ []) = ap (λ n. kids n) (at_page new p above ∙ w.becomes.now) in
-    let there : Contains (kids (node_at new p)) c = subst (λ l. Contains l c) (sym (is ∙ map-append (λ (x : EntryView BoxView). x.child) w.page.entries (e ∷ []))) (Contains-append_right (map (λ (x : EntryView BoxView). x.child) w.page.entries) (c ∷ []) c (has_first c [])) in
     record {
       says = says;
-      kept = λ leg l. leg_more old new says root levels leg l;
-      met = step_met new root levels level p c below (λ n is. met_more mid new more root n p (f.met n is)) there;
+      kept = λ meets prune leg l. kept_more old new says root levels meets prune leg l;
+      met = step_met new root levels level p c y below (by_more mid new more root levels (level + 1) y p f.met)
+          (λ meets prune t. subst (λ l. Contains l c) (sym (met_at meets prune new p (AnInner (with_entry e w.page)) above w.becomes.now)) (met_right meets prune w.page.entries (e ∷ []) c (met_cons meets prune e [] c (inl (t, refl)))));
+      grafts = grafts_attached old mid new root c p (level + 1) y low there f.counted above f.same w;
     }
 
 -- the first leaf is the root
-pub carries_first : (nodes : Pages LegView BoxView) (root levels c : ℕ) → levels ≡ 0 → Carries nodes nodes root levels 0 c (record { root = c; levels = 1 })
-carries_first nodes root levels c none = record {
+pub carries_first : (nodes : Pages LegView BoxView) (root levels c : ℕ) (y : BoxView) → c < nodes.count → levels ≡ 0 → Carries nodes nodes root levels 0 y c (record { root = c; levels = 1 })
+carries_first nodes root levels c y there none = record {
   says = says_none nodes;
-  kept = λ leg h. (let e = h.last in absurd (omega (arith, e, none)));
-  met = λ n e. subst (λ m. IsMet nodes c m c) (let z : 0 ≡ n = omega (arith, e) in z) refl;
+  kept = λ meets prune leg h. (let e = h.last in absurd (omega (arith, e, none)));
+  met = λ meets prune t n e. subst (λ m. IsMet meets nodes c m c) (let z : 0 ≡ n = omega (arith, e) in z) refl;
+  grafts = grafts_first nodes root c there;
 }
 
 -- legs that are put in
 pub meets_none : (nodes : Pages LegView BoxView) (tree : TbTree) → Meets nodes nodes tree tree []
-meets_none nodes tree = record { kept = λ leg h. h; put = All-nil (HasLeg nodes tree.root tree.levels) }
+meets_none nodes tree = record { kept = λ meets prune leg h. h; put = λ meets prune. All-nil (λ leg. meets (box_of leg) ≡ true → HasLeg meets nodes tree.root tree.levels leg); grafts = grafts_same nodes.count nodes nodes tree.root (λ p. refl) (omega arith) }
 
-pub meets_grown : (old mid new : Pages LegView BoxView) (tree : TbTree) (p : ℕ) (legs : List LegView) → 0 < tree.levels → IsFound old mid tree.root tree.levels 0 p → Pushes mid p legs new → HasAtEnd new p legs → Meets old new tree tree legs
-meets_grown old mid new tree p legs some f w h =
+meets_grown : (old mid new : Pages LegView BoxView) (tree : TbTree) (p : ℕ) (box : BoxView) (legs : List LegView) → 0 < tree.levels → hull leg_boxes legs ≡ Some box → IsFound old mid tree.root tree.levels 0 box p → Pushes mid p legs new → HasAtEnd new p legs → Meets old new tree tree legs
+meets_grown old mid new tree p box legs some is f w h =
     let more = says_pushed mid new p legs w in
     record {
-      kept = λ leg l. leg_more old new (says_then old mid new f.says more) tree.root tree.levels leg l;
-      put = leg_at_end new tree.root tree.levels p legs some (λ n e. met_more mid new more tree.root n p (f.met n e)) h;
+      kept = kept_more old new (says_then old mid new f.says more) tree.root tree.levels;
+      put = legs_at_end new tree.root tree.levels p box legs some is (by_more mid new more tree.root tree.levels 0 box p f.met) h;
+      grafts = grafts_same old.count old new tree.root (kids_then old mid new f.same (kids_pushed mid new p legs w)) (let x = w.counted in let y = f.counted in omega (arith, x, y));
     }
 
-pub meets_begun : (old mid new : Pages LegView BoxView) (tree tree' : TbTree) (top : Top) (p : ℕ) (legs : List LegView) → SaysMore old mid → Carries mid new tree.root tree.levels 0 p top → tree'.root ≡ top.root → tree'.levels ≡ top.levels → 0 < top.levels
+pub meets_begun : (old mid new : Pages LegView BoxView) (tree tree' : TbTree) (top : Top) (p : ℕ) (box : BoxView) (legs : List LegView) → hull leg_boxes legs ≡ Some box → p ≡ old.count → old.count ≤ mid.count → KeepsKids old mid → SaysMore old mid → Carries mid new tree.root tree.levels 0 box p top → tree'.root ≡ top.root → tree'.levels ≡ top.levels → 0 < top.levels
     → HasAtEnd new p legs → Meets old new tree tree' legs
-meets_begun old mid new tree tree' top p legs s c r l some h =
-    let back : (leg : LegView) → HasLeg new top.root top.levels leg → HasLeg new tree'.root tree'.levels leg = λ leg h. subst (λ a. HasLeg new a tree'.levels leg) (sym r) (subst (λ b. HasLeg new top.root b leg) (sym l) h) in
+meets_begun old mid new tree tree' top p box legs is number more same s c r l some h =
+    let back : (meets : BoxView → Bool) (leg : LegView) → HasLeg meets new top.root top.levels leg → HasLeg meets new tree'.root tree'.levels leg = λ meets leg h. subst (λ a. HasLeg meets new a tree'.levels leg) (sym r) (subst (λ b. HasLeg meets new top.root b leg) (sym l) h) in
     record {
-      kept = λ leg h. back leg (c.kept leg (leg_more old mid s tree.root tree.levels leg h));
-      put = all_of (HasLeg new tree'.root tree'.levels) legs (λ leg at. back leg (All-contains (HasLeg new top.root top.levels) legs leg (leg_at_end new top.root top.levels p legs some c.met h) at));
+      kept = λ meets prune leg h. back meets leg (c.kept meets prune leg (kept_more old mid s tree.root tree.levels meets prune leg h));
+      put = λ meets prune. all_of (λ leg. meets (box_of leg) ≡ true → HasLeg meets new tree'.root tree'.levels leg) legs (λ leg at t. back meets leg (All-contains (λ leg. meets (box_of leg) ≡ true → HasLeg meets new top.root top.levels leg) legs leg (legs_at_end new top.root top.levels p box legs some is c.met h meets prune) at t));
+      grafts = subst (λ a. Grafts old.count old new tree.root a) (sym r) (grafts_after old.count old mid new tree.root top.root same more (subst (λ b. Grafts b mid new tree.root top.root) number c.grafts));
     }
 
-pub meets_then : (a b c : Pages LegView BoxView) (t u v : TbTree) (xs ys : List LegView) → Meets a b t u xs → Meets b c u v ys → Meets a c t v (xs ++ ys)
+meets_then : (a b c : Pages LegView BoxView) (t u v : TbTree) (xs ys : List LegView) → Meets a b t u xs → Meets b c u v ys → Meets a c t v (xs ++ ys)
 meets_then a b c t u v xs ys m n = record {
-  kept = λ leg h. n.kept leg (m.kept leg h);
-  put = All-append (HasLeg c v.root v.levels) xs ys (all_of (HasLeg c v.root v.levels) xs (λ leg h. n.kept leg (All-contains (HasLeg b u.root u.levels) xs leg m.put h))) n.put;
+  kept = λ meets prune leg h. n.kept meets prune leg (m.kept meets prune leg h);
+  put = λ meets prune. All-append (λ leg. meets (box_of leg) ≡ true → HasLeg meets c v.root v.levels leg) xs ys
+      (all_of (λ leg. meets (box_of leg) ≡ true → HasLeg meets c v.root v.levels leg) xs (λ leg h t. n.kept meets prune leg (All-contains (λ leg. meets (box_of leg) ≡ true → HasLeg meets b u.root u.levels leg) xs leg (m.put meets prune) h t))) (n.put meets prune);
+  grafts = grafts_on a b c t.root u.root v.root m.grafts n.grafts;
 }
 
 -- what is met, as a list
-listed : (nodes : Pages LegView BoxView) (root n p : ℕ) → IsMet nodes root n p → Contains (pages_met (λ _. true) nodes root n) p
-unfolding children_met
-listed nodes root zero p m = subst (λ x. Contains (x ∷ []) p) m (has_first p [])
-listed nodes root (suc n) p m =
-    flat_has (children_met (λ _. true) nodes) (pages_met (λ _. true) nodes root n) m.0 p (listed nodes root n m.0 m.1)
-    (subst (λ l. Contains l p) (ap (map (λ (e : EntryView BoxView). e.child)) (sym (filter_every (entries_in (node_at nodes m.0))))) m.2)
+listed : (meets : BoxView → Bool) (nodes : Pages LegView BoxView) (root n p : ℕ) → IsMet meets nodes root n p → Contains (pages_met meets nodes root n) p
+listed meets nodes root zero p m = subst (λ x. Contains (x ∷ []) p) m (has_first p [])
+listed meets nodes root (suc n) p m = flat_has (children_met meets nodes) (pages_met meets nodes root n) m.0 p (listed meets nodes root n m.0 m.1) m.2
 
-unlisted : (nodes : Pages LegView BoxView) (root n p : ℕ) → Contains (pages_met (λ _. true) nodes root n) p → IsMet nodes root n p
-unfolding flat_of children_met
-unlisted nodes root zero p h = sym (only_one root p h)
-unlisted nodes root (suc n) p h =
-    let r = flat_of (children_met (λ _. true) nodes) (pages_met (λ _. true) nodes root n) p h in
-    (r.0, unlisted nodes root n r.0 r.1, subst (λ l. Contains l p) (ap (map (λ (e : EntryView BoxView). e.child)) (filter_every (entries_in (node_at nodes r.0)))) r.2)
+unlisted : (meets : BoxView → Bool) (nodes : Pages LegView BoxView) (root n p : ℕ) → Contains (pages_met meets nodes root n) p → IsMet meets nodes root n p
+unlisted meets nodes root zero p h = sym (only_one root p h)
+unlisted meets nodes root (suc n) p h =
+    let r = flat_of (children_met meets nodes) (pages_met meets nodes root n) p h in
+    (r.0, unlisted meets nodes root n r.0 r.1, r.2)
 
-in_content : (nodes : Pages LegView BoxView) (tree : TbTree) (leg : LegView) → HasLeg nodes tree.root tree.levels leg → Contains (content_of nodes tree) leg
-unfolding content_of
-in_content nodes tree leg h =
-    let found : Contains (legs_met leg_boxes (λ _. true) nodes tree.root (suc h.n)) leg = flat_has (λ p. filter (λ _. true) (legs_in (node_at nodes p))) (pages_met (λ _. true) nodes tree.root h.n) h.p leg (listed nodes tree.root h.n h.p h.met)
-    (subst (λ l. Contains l leg) (sym (filter_every (legs_in (node_at nodes h.p)))) h.leg_is) in
-    let those = legs_met leg_boxes (λ _. true) nodes tree.root tree.levels in
-    Contains-permutation those (sort_by_ordinal those) leg (sort_moves those) (subst (λ n. Contains (legs_met leg_boxes (λ _. true) nodes tree.root n) leg) h.last found)
+-- the legs that pass a test
+passed : (test : LegView → Bool) (legs : List LegView) (leg : LegView) → Contains (filter test legs) leg → Contains legs leg × (test leg ≡ true)
+passed test [] leg h = absurd (no_element leg h)
+passed test (l ∷ ls) leg h = (elim (test l) as (λ b. test l ≡ b → Contains (cond b (l ∷ filter test ls) (filter test ls)) leg → Contains (l ∷ ls) leg × (test leg ≡ true)) [
+  | true ↦ λ t c. ⊎_elim
+      (λ (one : Contains (l ∷ []) leg). (Contains-append_left (l ∷ []) ls leg one, ap test (sym (only_one l leg one)) ∙ t))
+      (λ (later : Contains (filter test ls) leg). let r = passed test ls leg later in (has_later l leg ls r.0, r.1))
+      (Contains-append_cases (l ∷ []) (filter test ls) leg c)
+  | false ↦ λ t c. let r = passed test ls leg c in (has_later l leg ls r.0, r.1)
+]) refl h
 
-of_levels : (nodes : Pages LegView BoxView) (root levels : ℕ) (leg : LegView) → Contains (legs_met leg_boxes (λ _. true) nodes root levels) leg → HasLeg nodes root levels leg
-of_levels nodes root zero leg h = absurd (no_element leg h)
-of_levels nodes root (suc n) leg h =
-    let r = flat_of (λ p. filter (λ _. true) (legs_in (node_at nodes p))) (pages_met (λ _. true) nodes root n) leg h in
-    record { n = n; p = r.0; last = refl; met = unlisted nodes root n r.0 r.1; leg_is = subst (λ l. Contains l leg) (filter_every (legs_in (node_at nodes r.0))) r.2 }
+passes : (test : LegView → Bool) (legs : List LegView) (leg : LegView) → Contains legs leg → test leg ≡ true → Contains (filter test legs) leg
+passes test [] leg h t = absurd (no_element leg h)
+passes test (l ∷ ls) leg h t = ⊎_elim
+    (λ (one : Contains (l ∷ []) leg).
+    let e = only_one l leg one in
+    subst (λ b. Contains (cond b (l ∷ filter test ls) (filter test ls)) leg) (sym (ap test e ∙ t)) (subst (λ x. Contains (x ∷ filter test ls) leg) (sym e) (has_first leg (filter test ls))))
+    (λ (later : Contains ls leg).
+    (elim (test l) as (λ b. Contains (cond b (l ∷ filter test ls) (filter test ls)) leg) [ true ↦ has_later l leg (filter test ls) (passes test ls leg later t) | false ↦ passes test ls leg later t ]))
+    (Contains-append_cases (l ∷ []) ls leg h)
 
-of_content : (nodes : Pages LegView BoxView) (tree : TbTree) (leg : LegView) → Contains (content_of nodes tree) leg → HasLeg nodes tree.root tree.levels leg
-unfolding content_of
-of_content nodes tree leg h =
-    let those = legs_met leg_boxes (λ _. true) nodes tree.root tree.levels in
-    of_levels nodes tree.root tree.levels leg (Contains-permutation (sort_by_ordinal those) those leg (IsPermutation-sym those (sort_by_ordinal those) (sort_moves those)) h)
+in_found : (meets : BoxView → Bool) (nodes : Pages LegView BoxView) (tree : TbTree) (leg : LegView) → HasLeg meets nodes tree.root tree.levels leg → Contains (found_legs meets nodes tree) leg
+unfolding found_legs
+in_found meets nodes tree leg h =
+    let test : LegView → Bool = λ leg. meets (box_of leg) in
+    let found : Contains (legs_met leg_boxes meets nodes tree.root (suc h.n)) leg = flat_has (λ p. filter test (legs_in (node_at nodes p))) (pages_met meets nodes tree.root h.n) h.p leg (listed meets nodes tree.root h.n h.p h.met)
+    (passes test (legs_in (node_at nodes h.p)) leg h.leg_is h.box) in
+    let those = legs_met leg_boxes meets nodes tree.root tree.levels in
+    Contains-permutation those (sort_by_ordinal those) leg (sort_moves those) (subst (λ n. Contains (legs_met leg_boxes meets nodes tree.root n) leg) h.last found)
 
-pub content_grows : (old new : Pages LegView BoxView) (tree tree' : TbTree) (legs : List LegView) → Meets old new tree tree' legs → ContentGrows old new tree tree' legs
+of_levels : (meets : BoxView → Bool) (nodes : Pages LegView BoxView) (root levels : ℕ) (leg : LegView) → Contains (legs_met leg_boxes meets nodes root levels) leg → HasLeg meets nodes root levels leg
+of_levels meets nodes root zero leg h = absurd (no_element leg h)
+of_levels meets nodes root (suc n) leg h =
+    let test : LegView → Bool = λ leg. meets (box_of leg) in
+    let r = flat_of (λ p. filter test (legs_in (node_at nodes p))) (pages_met meets nodes root n) leg h in
+    let at = passed test (legs_in (node_at nodes r.0)) leg r.2 in
+    record { n = n; p = r.0; last = refl; met = unlisted meets nodes root n r.0 r.1; leg_is = at.0; box = at.1 }
+
+of_found : (meets : BoxView → Bool) (nodes : Pages LegView BoxView) (tree : TbTree) (leg : LegView) → Contains (found_legs meets nodes tree) leg → HasLeg meets nodes tree.root tree.levels leg
+unfolding found_legs
+of_found meets nodes tree leg h =
+    let those = legs_met leg_boxes meets nodes tree.root tree.levels in
+    of_levels meets nodes tree.root tree.levels leg (Contains-permutation (sort_by_ordinal those) those leg (IsPermutation-sym those (sort_by_ordinal those) (sort_moves those)) h)
+
+content_grows : (old new : Pages LegView BoxView) (tree tree' : TbTree) (legs : List LegView) → Meets old new tree tree' legs → ContentGrows old new tree tree' legs
 content_grows old new tree tree' legs m = record {
-  kept = all_of (Contains (content_of new tree')) (content_of old tree) (λ leg h. in_content new tree' leg (m.kept leg (of_content old tree leg h)));
-  put = all_of (Contains (content_of new tree')) legs (λ leg h. in_content new tree' leg (All-contains (HasLeg new tree'.root tree'.levels) legs leg m.put h));
+  kept = λ meets prune. all_of (Contains (found_legs meets new tree')) (found_legs meets old tree) (λ leg h. in_found meets new tree' leg (m.kept meets prune leg (of_found meets old tree leg h)));
+  put = λ meets prune. all_of (λ leg. meets (box_of leg) ≡ true → Contains (found_legs meets new tree') leg) legs (λ leg h t. in_found meets new tree' leg (All-contains (λ leg. meets (box_of leg) ≡ true → HasLeg meets new tree'.root tree'.levels leg) legs leg (m.put meets prune) h t));
+  grafts = m.grafts;
 }
 
-pub on_grown : (old mid new : Pages LegView BoxView) (tree : TbTree) (p last : ℕ) (legs : List LegView) (res : Result (Unit {0}) TreeFault) → 0 < tree.levels → p ≡ last → IsFound old mid tree.root tree.levels 0 p → OnOk res (Pushes mid p legs new) → OnOk res (HasAtEnd new last legs) → OnOk res (Meets old new tree tree legs)
-on_grown old mid new tree p last legs (Ok u) some same f w h = meets_grown old mid new tree p legs some f w (subst (λ q. HasAtEnd new q legs) (sym same) h)
-on_grown old mid new tree p last legs (Err x) some same f w h = tt
+pub on_grown : (old mid new : Pages LegView BoxView) (tree : TbTree) (p last : ℕ) (box : BoxView) (legs : List LegView) (res : Result (Unit {0}) TreeFault) → 0 < tree.levels → p ≡ last → hull leg_boxes legs ≡ Some box → IsFound old mid tree.root tree.levels 0 box p → OnOk res (Pushes mid p legs new) → OnOk res (HasAtEnd new last legs) → OnOk res (Meets old new tree tree legs)
+on_grown old mid new tree p last box legs (Ok u) some same is f w h = meets_grown old mid new tree p box legs some is f w (subst (λ q. HasAtEnd new q legs) (sym same) h)
+on_grown old mid new tree p last box legs (Err x) some same is f w h = tt
 
 pub on_says : (old new : Pages LegView BoxView) (node : Node LegView BoxView) (res : Result ℕ TreeFault) → OnOk res (old.at old.count ≡ None) → IfOk res (λ p. Adds old node new p) → OnOk res (SaysMore old new)
 on_says old new node (Ok p) fresh w = says_added old new node p fresh w
 on_says old new node (Err x) fresh w = tt
 
-pub on_carried : (old mid new : Pages LegView BoxView) (root levels level c q : ℕ) (y : BoxView) (res : Result Top TreeFault) → 0 < old.count → old.at old.count ≡ None → level + 1 < levels → IfOk res (λ top. levels ≤ top.levels)
-    → Adds old (AnInner (record { level = level + 1; entries = record { child = c; bounds = y } ∷ [] })) mid q → IfOk res (Carries mid new root levels (level + 1) q) → IfOk res (Carries old new root levels level c)
-on_carried old mid new root levels level c q y (Ok top) some fresh below higher w h = carries_up old mid new root levels level c q y top some fresh (omega (arith, below, higher)) w h
-on_carried old mid new root levels level c q y (Err x) some fresh below higher w h = tt
+pub on_carried : (old mid new : Pages LegView BoxView) (root levels level c q : ℕ) (y : BoxView) (res : Result Top TreeFault) → root < c → c < old.count → old.at old.count ≡ None → level + 1 < levels → IfOk res (λ top. levels ≤ top.levels)
+    → Adds old (AnInner (record { level = level + 1; entries = record { child = c; bounds = y } ∷ [] })) mid q → IfOk res (Carries mid new root levels (level + 1) y q) → IfOk res (Carries old new root levels level y c)
+on_carried old mid new root levels level c q y (Ok top) low there fresh below higher w h = carries_up old mid new root levels level c q y top low there fresh (omega (arith, below, higher)) w h
+on_carried old mid new root levels level c q y (Err x) low there fresh below higher w h = tt
 
-pub on_found : (old mid new : Pages LegView BoxView) (root levels level p e : ℕ) (y : BoxView) (res : Result ℕ TreeFault) → level + 1 < levels → OnOk res (0 < p) → IsFound old mid root levels (level + 1) p → IfOk res (λ c. Widens leg_boxes mid p (level + 1) e y new c) → IfOk res (IsFound old new root levels level)
+pub on_found : (old mid new : Pages LegView BoxView) (root levels level p e : ℕ) (y : BoxView) (res : Result ℕ TreeFault) → level + 1 < levels → OnOk res (0 < p) → IsFound old mid root levels (level + 1) y p → IfOk res (λ c. Widens leg_boxes mid p (level + 1) e y new c) → IfOk res (IsFound old new root levels level y)
 on_found old mid new root levels level p e y (Ok c) below above f w = found_next old mid new root levels level p e y c below above f w
 on_found old mid new root levels level p e y (Err x) below above f w = tt
 
@@ -336,4 +507,4 @@ meets_part a b c t u v legs n k m w = subst (λ l. Meets a c t v l) (ap (λ j. t
 
 -- whether it is spent is no part of it
 pub grows_spent : (old new : Pages LegView BoxView) (tree tree' : TbTree) (was is : Bool) (legs : List LegView) → Meets old new (record tree { spent = was }) tree' legs → ContentGrows old new tree (record tree' { spent = is }) legs
-grows_spent old new tree tree' was is legs m = content_grows old new tree (record tree' { spent = is }) legs (record { kept = m.kept; put = m.put })
+grows_spent old new tree tree' was is legs m = content_grows old new tree (record tree' { spent = is }) legs (record { kept = m.kept; put = m.put; grafts = m.grafts })

@@ -19,6 +19,7 @@ use Rattle.legs.specs.Hull.{hull, leg_boxes}
 use Rattle.legs.specs.Costs.{leg_feature}
 use Rattle.tbtree.specs.Nodes.{Pages, HasLastLeaf}
 use Rattle.tbtree.specs.Stands.{head_or_zero, page_at, pages_of, owner, marks, leaf_of, PlaceStands, NumbersStand, LeavesStand, TreeStands}
+use Rattle.tbtree.specs.Filling.{NamesLast}
 use Rattle.tbtree.specs.Way.{Hanging, Hung, Hangs}
 use Rattle.tbtree.specs.Insert.{Grows, Begins, IsPlace, Inserts}
 use Rattle.tbtree.specs.Joining.{AllJoined, Holds, Joined, Joins, JoinsAll}
@@ -261,6 +262,21 @@ few_enough old new tree tree' place place' ys x shape few most g legs pages st a
     let f = legs_below tree.shape.leaf g legs lf in
     let p : length rs * tree.shape.leaf ≤ (2 ^ 32 - 2) * 50 = mul-le (length rs) tree.shape.leaf (2 ^ 32 - 2) 50 (omega (arith, a, lp, few)) shape.most_leaf in
     absurd (most (omega (arith, a, lp, l)) low (let c = at.legs_are in omega (arith, c, f, p)))
+
+-- a place names the last leaf of its legs
+pub place_named : (old new : Pages LegView BoxView) (tree tree' : TbTree) (place place' : Place) (ys : List LegView) (x : TreeFault) → (NamesLast place → ⊥) → JoinsAll old new tree tree' place place' ys (Err x)
+place_named old new tree tree' place place' ys x torn g legs pages st at all w =
+    let n = st.tree_stands.numbers in
+    absurd (torn (
+      (λ z. (at.none z).1),
+      (λ z. ⊎_elim
+          (λ (none : place.legs ≡ 0). none)
+          (λ (some : place.legs ≢ 0).
+          let a = last_page tree.shape.leaf g place legs pages (omega (arith, some)) at in
+          let above = (n.within 0 place.last_index place.last a).0 in
+          absurd (omega (arith, above, z)))
+          (cases_eq place.legs 0)),
+    ))
 
 -- a tree without levels has no legs
 pub none_without_levels : (old new : Pages LegView BoxView) (tree tree' : TbTree) (place place' : Place) (ys : List LegView) (x : TreeFault) → tree.levels ≡ 0 → place.legs % tree.shape.leaf ≢ 0 → JoinsAll old new tree tree' place place' ys (Err x)

@@ -13,7 +13,7 @@ use Rattle.legs.specs.Costs.{height, leaves_of, leg_feature}
 use Rattle.legs.specs.Hull.{leg_boxes}
 use Rattle.legs.specs.Index.{CanFollowInTurn, legs_of}
 use Rattle.legs.specs.Legs.{LegView}
-use Rattle.tbtree.specs.Descent.{legs_met, pages_met, IsPruning, Descends, sort_by_ordinal, content_of, children_met, entries_in, legs_in, node_at, node_in, IsSameTree}
+use Rattle.tbtree.specs.Descent.{legs_met, pages_met, IsPruning, Descends, sort_by_ordinal, content_of, found_legs, children_met, entries_in, legs_in, node_at, node_in, IsSameTree}
 use Rattle.tbtree.specs.Insert.{Stands, IsPlace}
 use Rattle.tbtree.specs.Joining.{Holds}
 use Rattle.tbtree.specs.Nodes.{EntryView, Node, ALeaf, AnInner, Pages, HasLeaf}
@@ -74,11 +74,17 @@ module _ (meets : BoxView → Bool) (prune : IsPruning leg_boxes meets) (nodes :
   }
 
 pub content_is : (nodes : Pages LegView BoxView) (tree : TbTree) (legs : List LegView) (pages : ℕ → List ℕ) → IsShape tree.shape → Stands nodes tree legs pages → content_of nodes tree ≡ legs
-unfolding content_of
+unfolding found_legs
 content_is nodes tree legs pages shape st =
     let met = legs_met leg_boxes (λ _. true) nodes tree.root tree.levels in
     kept (λ _. true) (λ p q e. absurd (true≢false e)) nodes tree legs pages shape st (sort_by_ordinal met) (sort_moves met) (sort_up met)
     ∙ all_pass legs
+
+pub found_is : (meets : BoxView → Bool) (nodes : Pages LegView BoxView) (tree : TbTree) (legs : List LegView) (pages : ℕ → List ℕ) → IsPruning leg_boxes meets → IsShape tree.shape → Stands nodes tree legs pages → found_legs meets nodes tree ≡ filter (λ leg. meets (box_of leg)) legs
+unfolding found_legs
+found_is meets nodes tree legs pages prune shape st =
+    let met = legs_met leg_boxes meets nodes tree.root tree.levels in
+    kept meets prune nodes tree legs pages shape st (sort_by_ordinal met) (sort_moves met) (sort_up met)
 
 abbrev weight : Bool → ℕ
 weight b = cond b 1 0
@@ -235,9 +241,9 @@ module _ (old new : Pages LegView BoxView) (t : IsSameTree old new) where
   same_legs meets root zero = refl
   same_legs meets root (suc n) = λ i. flat_map (λ p. filter (λ leg. meets (leg_boxes.of leg)) (same_legs_in p i)) (same_pages meets root n i)
 
-  pub same_content : (tree : TbTree) → content_of new tree ≡ content_of old tree
-  unfolding content_of
-  same_content tree = ap sort_by_ordinal (same_legs (λ _. true) tree.root tree.levels)
+  pub same_found : (tree : TbTree) (meets : BoxView → Bool) → found_legs meets new tree ≡ found_legs meets old tree
+  unfolding found_legs
+  same_found tree meets = ap sort_by_ordinal (same_legs meets tree.root tree.levels)
 
   -- what a page above page 0 says of a tree, it still says
   still : (p : ℕ) (n : Node LegView BoxView) → 0 < p → old.at p ≡ Some (Some n) → new.at p ≡ Some (Some n)

@@ -18,7 +18,7 @@ use Rattle.tbtree.specs.Payloads.{TakesLegs, are_of_one_leaf}
 use Rattle.tbtree.specs.Stands.{last_or, new_leaf, owner}
 use Rattle.tbtree.specs.declared.fault.TreeFault.{TreeFault}
 use Rattle.tbtree.specs.declared.tree.Place.{Place}
-use Rattle.tbtree.proofs.ContentLemmas.{has_first, no_element}
+use Rattle.tbtree.proofs.GraftLemmas.{has_first, no_element}
 use Rattle.tbtree.proofs.EndLemmas.{goes_own, leaf_own}
 use Rattle.tbtree.proofs.FillLemmas.{all_in_last, length_part, part_is}
 use Rattle.tbtree.proofs.OldLeaf.{room, room_some, room_within, taken_all, taken_nil}
@@ -211,6 +211,7 @@ nothing_new nodes last = record {
 pub fills_none : (leaf : ℕ) (nodes : Pages LegView BoxView) (leaves : ℕ) (place : Place) → FillsLeaves leaf nodes nodes leaves leaves place place [] []
 fills_none leaf nodes leaves place = record {
   one = All-nil (λ leg. leg.feature ≡ 0);
+  least = λ h. absurd (omega (arith, h));
   took = λ h. absurd (let n = ap length (taken_nil leaf place.legs) in omega (arith, n, h));
   was = λ h. absurd (omega (arith, h));
   keeps = subst (λ l. KeepsLegs place.last l [] None nodes nodes) (sym (taken_nil leaf place.legs)) (nothing_new nodes place.last);
@@ -245,6 +246,7 @@ module _ (leaf : ℕ) (old mid new : Pages LegView BoxView) (leaves mid_leaves n
       ∙ ap (λ (ls : List LegView). Some (Some (ALeaf (record l { legs = ls })))) (ap (λ t. l.legs ++ t) (taken_nil leaf place.legs) ∙ append-nil l.legs) in
       record {
         one = own_of new new_place.last ys h;
+        least = λ _. some;
         took = λ _. (let a = g.last_is in omega (arith, a, last_is));
         was = λ _ above. ⊎_elim
             (λ (l : IsLeafAt old place.last). l)
@@ -425,6 +427,7 @@ module _ (leaf : ℕ) (old mid new : Pages LegView BoxView) (leaves mid_leaves n
         (All-weaker (λ p. (0 < p) × (p < mid.count)) (λ p. p < page) (λ p h. let n = begun.number in let b = h.1 in omega (arith, n, b)) pages so_far.there) so_far.made in
         record {
           one = one_all;
+          least = λ _. some;
           took = λ h. so_far.took (let n = ap length taken_is in omega (arith, n, h));
           was = λ _. was_of pages refl;
           keeps = subst (λ t. KeepsLegs place.last t (xs ++ ys) (slice_get (pages ++ page ∷ []) 0) old new) taken_is (keeps_all pages refl);

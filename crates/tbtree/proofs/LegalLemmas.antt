@@ -9,7 +9,7 @@ use Rattle.legs.specs.Legs.{IsLeg, LegView}
 use Rattle.pagecache.specs.Cache.{Cache, payload_of}
 use Rattle.pages.specs.declared.payload.Payload.{Payload}
 use Rattle.tbnode.specs.Form.{node_of, LegsAreLawful}
-use Rattle.tbtree.specs.Descent.{content_of, hits, legs_in, legs_met, node_at, pages_met, sort_by_ordinal}
+use Rattle.tbtree.specs.Descent.{content_of, found_legs, hits, legs_in, legs_met, node_at, pages_met, sort_by_ordinal}
 use Rattle.tbtree.specs.Nodes.{ALeaf, AnInner, Pages, pages_of_cache}
 use Rattle.tbtree.specs.declared.tree.TbTree.{TbTree}
 use Rattle.tbtree.proofs.SortLemmas.{sort_moves}
@@ -44,7 +44,7 @@ module _ (laws : LegsAreLawful) (cache : Cache) where
       (λ p. All-filter (λ leg. meets (leg_boxes.of leg)) IsLeg (legs_in (node_at nodes p)) (lawful_at p))
 
   pub content_lawful : (tree : TbTree) → All IsLeg (content_of nodes tree)
-  unfolding content_of
+  unfolding found_legs
   content_lawful tree =
       let met = legs_met leg_boxes (λ _. true) nodes tree.root tree.levels in
       All-permutation IsLeg met (sort_by_ordinal met) (sort_moves met) (met_lawful (λ _. true) tree.root tree.levels)

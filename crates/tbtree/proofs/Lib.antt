@@ -5,6 +5,7 @@ pub mod CoverLemmas
 pub mod Still
 pub mod HullLemmas
 pub mod Widening
+pub mod GraftLemmas
 pub mod FullLemmas
 pub mod RoomLemmas
 pub mod BeginLemmas

@@ -6,6 +6,7 @@ use Rattle.std.specs.List.Sorted.{IsPermutation, IsNonDecreasingBy}
 use Rattle.legs.specs.Legs.{LegView}
 use Rattle.legs.specs.Boxes.{BoxView, box_of}
 use Rattle.legs.specs.Costs.{cost, leaves_of}
+pub use Rattle.legs.specs.Hull.{IsPruning}
 use Rattle.legs.specs.Hull.{Boxes, leg_boxes}
 use Rattle.tbtree.specs.Nodes.{Pages, Node, ALeaf, AnInner, EntryView, InnerView, HasLeaf}
 use Rattle.tbtree.specs.declared.tree.TbTree.{TbTree}
@@ -71,10 +72,15 @@ abbrev pub sort_by_ordinal : List LegView → List LegView
 sort_by_ordinal [] = []
 sort_by_ordinal (leg ∷ legs) = insert_by_ordinal leg (sort_by_ordinal legs)
 
+-- the legs that the way down from a tree's root by a test of boxes finds, whatever its pages hold, in the order of their
+-- ordinals
+unfoldable pub found_legs : (BoxView → Bool) → Pages LegView BoxView → TbTree → List LegView
+found_legs meets nodes tree = sort_by_ordinal (legs_met leg_boxes meets nodes tree.root tree.levels)
+
 -- the content of a tree, whatever its pages hold: the legs of all leaves that are as many levels below the root as the
 -- tree has, in the order of their ordinals
-unfoldable pub content_of : Pages LegView BoxView → TbTree → List LegView
-content_of nodes tree = sort_by_ordinal (legs_met leg_boxes (λ _. true) nodes tree.root tree.levels)
+abbrev pub content_of : Pages LegView BoxView → TbTree → List LegView
+content_of nodes tree = found_legs (λ _. true) nodes tree
 
 -- what a page says as one of a tree, if anything
 abbrev pub node_in : {N : Type 0} → Option (Option N) → Option N
@@ -94,11 +100,6 @@ pub record HasInner {L B : Type 0} (nodes : Pages L B) (p level : ℕ) : Type 0 
   pub page : InnerView B
   pub is : nodes.at p ≡ Some (Some (AnInner page))
   pub level_is : page.level ≡ level
-
--- what does not meet the least box that holds two boxes meets neither of them
-abbrev pub IsPruning : {L B : Type 0} → Boxes L B → (B → Bool) → Type 0
-IsPruning {B = B} s meets =
-    (p q : B) → meets (s.cover p q) ≡ false → (meets p ≡ false) × (meets q ≡ false)
 
 -- the way down by a test of boxes, over pages that stand for legs
 pub record Descends (meets : BoxView → Bool) (nodes : Pages LegView BoxView) (tree : TbTree)

@@ -51,6 +51,10 @@ IsLeafAt nodes p = (leaf : LeafView LegView) × (nodes.at p ≡ Some (Some (ALea
 abbrev pub page_made : (leaf count : ℕ) → Place → List ℕ
 page_made leaf count place = cond (place.legs % leaf == 0) (count ∷ []) []
 
+-- a place that has legs names their last leaf, and one that has none names none
+abbrev pub NamesLast : Place → Type 0
+NamesLast place = (place.legs ≡ 0 → place.last ≡ 0) × (place.last ≡ 0 → place.legs ≡ 0)
+
 -- a feature's place once legs are put in, for which these pages are made, where there were so many leaves
 abbrev pub place_with : (leaves : ℕ) → Place → List LegView → List ℕ → Place
 place_with leaves place legs [] = record place { legs = place.legs + length legs }
@@ -65,6 +69,7 @@ place_with leaves place legs (p ∷ ps) = record {
 -- are made the others; these are the pages that are made
 pub record FillsLeaves (leaf : ℕ) (old new : Pages LegView BoxView) (leaves leaves' : ℕ)
     (place place' : Place) (legs : List LegView) (pages : List ℕ) : Type 0 where
+  pub least : 0 < length legs → 0 < leaf
   pub one : All (λ leg. leg.feature ≡ owner leg_feature legs) legs
   -- where the last leaf takes any there is one, and where the place has one, it is a leaf
   pub took : 0 < length (taken_by_last leaf place.legs legs) → 0 < place.last

@@ -1,8 +1,8 @@
 //! What holds of the pages of a tree.
-ghost use Rattle.std.specs.Prelude.{ℕ, [], List, Bool, ◌≡◌, ◌<◌, ◌*◌, ◌-◌, ◌≤◌, All, length, map};
+ghost use Rattle.std.specs.Prelude.{ℕ, [], List, Bool, ◌≡◌, ◌<◌, ◌*◌, ◌-◌, ◌≤◌, All, filter, length, map};
 ghost use Rattle.std.specs.List.{range_with_len};
 ghost use Rattle.std.specs.List.Sorted.{IsPermutation, IsNonDecreasingBy};
-ghost use Rattle.legs.specs.Boxes.{BoxView};
+ghost use Rattle.legs.specs.Boxes.{BoxView, box_of};
 ghost use Rattle.legs.specs.Costs.{height, leaves_of};
 ghost use Rattle.legs.specs.Hull.{leg_boxes};
 ghost use Rattle.legs.specs.Index.{legs_of, CanFollowInTurn};
@@ -10,7 +10,7 @@ ghost use Rattle.legs.specs.Legs.{IsLeg, LegView};
 ghost use Rattle.legs.specs.declared.tracks.Track.{Track};
 ghost use Rattle.pagecache.specs.Cache.{Cache};
 ghost use Rattle.tbtree.specs.Bounds.{IsBounded, IsBoundedPlace};
-ghost use Rattle.tbtree.specs.Descent.{content_of, sort_by_ordinal, Descends, IsPruning, IsSameTree};
+ghost use Rattle.tbtree.specs.Descent.{content_of, found_legs, sort_by_ordinal, Descends, IsPruning, IsSameTree};
 ghost use Rattle.tbtree.specs.Insert.{IsPlace, Stands};
 ghost use Rattle.tbtree.specs.Nodes.{Pages, pages_of_cache};
 ghost use Rattle.tbtree.specs.Shape.{IsShape};
@@ -25,12 +25,16 @@ pub fn laws()
     ensures content { (nodes : Pages LegView BoxView) (tree : TbTree) (legs : List LegView)
         (pages : ℕ → List ℕ) → IsShape tree.shape → Stands nodes tree legs pages
         → content_of nodes tree ≡ legs }
+    ensures found { (meets : BoxView → Bool) (nodes : Pages LegView BoxView) (tree : TbTree)
+        (legs : List LegView) (pages : ℕ → List ℕ) → IsPruning leg_boxes meets
+        → IsShape tree.shape → Stands nodes tree legs pages
+        → found_legs meets nodes tree ≡ filter (λ leg. meets (box_of leg)) legs }
     ensures lawful { (cache : Cache) (tree : TbTree)
         → All IsLeg (content_of (pages_of_cache cache) tree) }
 
     // Page 0 is no page of a tree, and pages that say nothing of one may change and be added.
     ensures same { (old new : Pages LegView BoxView) (tree : TbTree) → IsSameTree old new
-        → content_of new tree ≡ content_of old tree }
+        → (meets : BoxView → Bool) → found_legs meets new tree ≡ found_legs meets old tree }
     ensures same_stands { (old new : Pages LegView BoxView) (tree : TbTree)
         (legs : List LegView) (pages : ℕ → List ℕ) → IsSameTree old new
         → Stands old tree legs pages → Stands new tree legs pages }

@@ -4,7 +4,7 @@ ghost use Rattle.tbtree.specs.Faults.{RefusesWrite};
 ghost use Rattle.tbtree.specs.Content.{ContentGrows, Meets};
 ghost use Rattle.tbtree.specs.Nodes.{pages_of_cache};
 ghost use Rattle.tbtree.specs.Passes.{Passes, KeepsLength, KeepsOthers, Touches};
-ghost use Rattle.tbtree.specs.Filling.{FillsLeaves};
+ghost use Rattle.tbtree.specs.Filling.{FillsLeaves, NamesLast};
 ghost use Rattle.tbtree.specs.Joining.{JoinsAll};
 ghost use Rattle.tbtree.specs.declared.fault.TreeFault.{TreeFault};
 
@@ -57,6 +57,7 @@ fn put_all<S: PageStore>(
     ensures met { IsTrue cache.old.store.is_faithful → OnOk result
         (Meets (pages_of_cache cache.old) (pages_of_cache cache.new) tree.old tree.new legs.now) }
     ensures counted { OnOk result (place.new.legs ≡ place.old.legs + length legs.now) }
+    ensures named { 0 < length legs.now → OnOk result (NamesLast place.old) }
     ensures stays { 0 < place.old.legs % tree.old.shape.leaf
         → place.old.legs % tree.old.shape.leaf + length legs.now ≤ tree.old.shape.leaf
         → OnOk result (place.new.last ≡ place.old.last) }
@@ -117,6 +118,7 @@ pub fn insert_all<S: PageStore>(
         (ContentGrows (pages_of_cache cache.old) (pages_of_cache cache.new) tree.old tree.new
         legs.now) }
     ensures counted { OnOk result (place.new.legs ≡ place.old.legs + length legs.now) }
+    ensures named { 0 < length legs.now → OnOk result (NamesLast place.old) }
 
     // The last leaf stays the one where it has room for all, and else is it or a new page.
     ensures stays { 0 < place.old.legs % tree.old.shape.leaf

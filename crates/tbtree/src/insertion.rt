@@ -6,9 +6,9 @@ ghost use Rattle.tbtree.specs.Faults.{MayRefuseWrite, RefusesWrite};
 ghost use Rattle.tbtree.specs.Nodes.{pages_of_cache, HasLastLeaf, KeepsLeaves};
 ghost use Rattle.tbtree.specs.Passes.{Passes, KeepsLength, KeepsOthers, Touches};
 ghost use Rattle.tbtree.specs.Way.{IsOnWay, Hangs};
-ghost use Rattle.tbtree.specs.Content.{Carries, ContentGrows, IsFound, Meets, SaysMore};
+ghost use Rattle.tbtree.specs.Content.{Carries, ContentGrows, IsFound, KeepsKids, Meets, SaysMore};
 ghost use Rattle.tbtree.specs.Insert.{Grows, Begins, Inserts};
-ghost use Rattle.tbtree.specs.Filling.{page_made, place_with, BeginsLeaf, FillsLeaves, GrowsLeaf};
+ghost use Rattle.tbtree.specs.Filling.{page_made, place_with, BeginsLeaf, FillsLeaves, GrowsLeaf, NamesLast};
 ghost use Rattle.tbtree.specs.Joining.{HasAtEnd, Joins, JoinsAll};
 ghost use Rattle.tbtree.specs.Payloads.{TakesLegs, are_of_one_leaf};
 ghost use Rattle.tbtree.specs.Shape.{IsShape};
@@ -47,7 +47,7 @@ fn way<S: PageStore>(
         → OnOk result (KeepsLeaves (pages_of_cache cache.new) (pages_of_cache cache.old)) }
     ensures found { IsTrue cache.old.store.is_faithful → IfOk result
         (IsFound (pages_of_cache cache.old) (pages_of_cache cache.new) tree.now.root
-        tree.now.levels level) }
+        tree.now.levels level bounds.now) }
     ensures touches { Touches cache.old cache.new result }
     ensures asked { cache.new.asked + level + 1 ≤ cache.old.asked + tree.now.levels }
 {
@@ -113,9 +113,10 @@ fn root_over<S: PageStore>(
         → OnOk result (KeepsLeaves (pages_of_cache cache.old) (pages_of_cache cache.new)) }
     ensures no_more { IsTrue cache.old.store.is_faithful
         → OnOk result (KeepsLeaves (pages_of_cache cache.new) (pages_of_cache cache.old)) }
-    ensures carries { IsTrue cache.old.store.is_faithful → 0 < cache.old.count → IfOk result
+    ensures carries { IsTrue cache.old.store.is_faithful → tree.now.root < child.now.child
+        → child.now.child < cache.old.count → IfOk result
         (Carries (pages_of_cache cache.old) (pages_of_cache cache.new) tree.now.root
-        tree.now.levels level child.now.child) }
+        tree.now.levels level child.now.bounds child.now.child) }
     ensures touches { Touches cache.old cache.new result }
     ensures asked { cache.new.asked ≤ cache.old.asked + 2 }
     ensures levels { IfOk result (λ top. top.levels ≡ tree.now.levels + 1) }
@@ -151,9 +152,10 @@ fn hang<S: PageStore>(
         → OnOk result (KeepsLeaves (pages_of_cache cache.old) (pages_of_cache cache.new)) }
     ensures no_more { IsTrue cache.old.store.is_faithful
         → OnOk result (KeepsLeaves (pages_of_cache cache.new) (pages_of_cache cache.old)) }
-    ensures carries { IsTrue cache.old.store.is_faithful → 0 < cache.old.count → IfOk result
+    ensures carries { IsTrue cache.old.store.is_faithful → tree.now.root < child.now.child
+        → child.now.child < cache.old.count → IfOk result
         (Carries (pages_of_cache cache.old) (pages_of_cache cache.new) tree.now.root
-        tree.now.levels level child.now.child) }
+        tree.now.levels level child.now.bounds child.now.child) }
     ensures touches { Touches cache.old cache.new result }
     ensures asked { IfOk result (λ top. cache.new.asked + level
         ≤ cache.old.asked + top.levels) }
@@ -236,6 +238,8 @@ fn add_last<S: PageStore>(
         → are_of_one_leaf legs.now ≡ true → IfErr result MayRefuseWrite }
     ensures says { IsTrue cache.old.store.is_faithful
         → OnOk result (SaysMore (pages_of_cache cache.old) (pages_of_cache cache.new)) }
+    ensures kids { IsTrue cache.old.store.is_faithful
+        → OnOk result (KeepsKids (pages_of_cache cache.old) (pages_of_cache cache.new)) }
     ensures touches { Touches cache.old cache.new result }
     ensures asked { cache.new.asked ≤ cache.old.asked + 2 }
 {
@@ -267,9 +271,10 @@ fn hang_leaf<S: PageStore>(
         → OnOk result (KeepsLeaves (pages_of_cache cache.old) (pages_of_cache cache.new)) }
     ensures no_more { IsTrue cache.old.store.is_faithful
         → OnOk result (KeepsLeaves (pages_of_cache cache.new) (pages_of_cache cache.old)) }
-    ensures carries { IsTrue cache.old.store.is_faithful → 0 < cache.old.count → IfOk result
+    ensures carries { IsTrue cache.old.store.is_faithful → tree.now.root < page.now.child
+        → page.now.child < cache.old.count → IfOk result
         (Carries (pages_of_cache cache.old) (pages_of_cache cache.new) tree.now.root
-        tree.now.levels 0 page.now.child) }
+        tree.now.levels 0 page.now.bounds page.now.child) }
     ensures some { IfOk result (λ top. 0 < top.levels) }
     ensures touches { Touches cache.old cache.new result }
     ensures asked { IfOk result (λ top. cache.new.asked ≤ cache.old.asked + top.levels) }
@@ -299,7 +304,7 @@ fn begin<S: PageStore>(
     requires few_legs { place.old.legs + length legs.now < 2 ^ 64 }
     requires few_leaves { tree.old.leaves < 2 ^ 32 - 1 }
     requires few_levels { tree.old.levels < 2 ^ 16 - 1 }
-    requires first { 0 < cache.old.count }
+    requires root { tree.old.root < cache.old.count }
     ensures inserts { IsTrue cache.old.store.is_faithful
         → JoinsAll (pages_of_cache cache.old) (pages_of_cache cache.new) tree.old tree.new
         place.old place.new legs.now result }
@@ -340,6 +345,18 @@ fn begin<S: PageStore>(
     Ok(())
 }
 
+/// Whether a place has legs and names no last leaf, or has none and names one.
+fn is_torn(place: &Place) -> bool
+    ensures torn { result ≡ true → NamesLast place.now → ⊥ }
+    ensures whole { result ≡ false → NamesLast place.now }
+{
+    if place.legs == 0 {
+        place.last != 0
+    } else {
+        place.last == 0
+    }
+}
+
 /// Puts legs into their feature's last leaf, which has room for them, or into a new one.
 pub(crate) fn put<S: PageStore>(
     tree: &mut TbTree,
@@ -372,6 +389,7 @@ pub(crate) fn put<S: PageStore>(
     ensures place { OnOk result (place.new ≡ place_with tree.old.leaves place.old legs.now
         (page_made tree.old.shape.leaf cache.old.count place.old)) }
     ensures range { IsShape tree.old.shape }
+    ensures named { OnOk result (NamesLast place.old) }
     ensures begun { place.old.legs % tree.old.shape.leaf ≡ 0
         → OnOk result (tree.new.leaves ≡ tree.old.leaves + 1) }
     ensures grown { 0 < place.old.legs % tree.old.shape.leaf
@@ -384,6 +402,13 @@ pub(crate) fn put<S: PageStore>(
     let leaf = u64::from(tree.shape.leaf());
     if tree.leaves >= cache.count() || tree.levels >= MOST_LEVELS || place.legs > u64::MAX - leaf {
         return Err(TreeFault::Malformed(tree.root));
+    }
+    let root = tree.root;
+    if root >= cache.count() {
+        return Err(TreeFault::Malformed(root));
+    }
+    if is_torn(place) {
+        return Err(TreeFault::Malformed(place.last));
     }
     if place.legs % leaf == 0 {
         return begin(tree, cache, place, legs);
@@ -423,6 +448,7 @@ pub fn insert<S: PageStore>(
         (leg ∷ [])) }
     ensures place { OnOk result (place.new ≡ place_with tree.old.leaves place.old (leg ∷ [])
         (page_made tree.old.shape.leaf cache.old.count place.old)) }
+    ensures named { OnOk result (NamesLast place.old) }
 
     // What is left of the cache, over any pages.
     ensures passes { Passes cache.old cache.new }

@@ -2,13 +2,14 @@ use Rattle.boxsearch.proofs.StartLemmas.{beside_content, beside_sound}
 use Rattle.boxsearch.proofs.BoundLemmas.{alike, all_counted, bounded, first_held, first_there, place_counts}
 use Rattle.boxsearch.proofs.EndedLemmas.{ended}
 use Rattle.boxsearch.proofs.FlushLemmas.{in_turn, marked_of}
+use Rattle.boxsearch.proofs.IndexLemmas.{found_in}
 use Rattle.boxsearch.proofs.parts.laws.Goals as goal
 
 pub returns-clause-content : goal.returns-clause-content
-returns-clause-content c = beside_content (record { content = c.laws.ensures.same; stands = c.laws.ensures.same_stands })
+returns-clause-content c = beside_content (record { found = c.laws.ensures.same; stands = c.laws.ensures.same_stands })
 
 pub returns-clause-sound : goal.returns-clause-sound
-returns-clause-sound c = beside_sound (record { content = c.laws.ensures.same; stands = c.laws.ensures.same_stands })
+returns-clause-sound c = beside_sound (record { found = c.laws.ensures.same; stands = c.laws.ensures.same_stands })
 
 pub returns-clause-alike : goal.returns-clause-alike
 returns-clause-alike c = alike
@@ -33,6 +34,9 @@ returns-clause-in_turn c = in_turn
 
 pub returns-clause-marked : goal.returns-clause-marked
 returns-clause-marked c = marked_of
+
+pub returns-clause-found : goal.returns-clause-found
+returns-clause-found c = found_in c.laws.ensures.found
 
 pub returns-clause-ended : goal.returns-clause-ended
 returns-clause-ended c = ended

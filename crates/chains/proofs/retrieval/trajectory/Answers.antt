@@ -11,27 +11,27 @@ use Rattle.chains.proofs.SpanLemmas.{cost_whole}
 use Rattle.chains.proofs.retrieval.trajectory.Goals as goal
 
 pub returns-in_err-found-clause-found : goal.returns-in_err-found-clause-found
-returns-in_err-found-clause-found g c = λ fa legs f h.
+returns-in_err-found-clause-found g c = λ fa legs h.
     let p = err_from_is_err_and c.from_residual.result c.from_residual.ensures.1 in
     let some : 0 < c.args.shape.now.leaf = let least = c.walk_back.ensures.shape.least_leaf in omega (arith, least) in
     let nodes = pages_of_cache c.args.cache.now in
     let shape = c.args.shape.now in
     let place = c.args.place.now in
-    let whole = whole_from nodes None shape place (whole_chain nodes shape place f legs some h None) in
+    let whole = whole_from nodes None shape c.args.feature place (whole_chain nodes shape place c.args.feature legs some h None) in
     rw (p.1, p.2) (allowed_of nodes c.args.cache.now c.walk_back.new.cache _ _ whole c.in_err-found.ensures.reads.caused (c.in_err-found.ensures.named fa))
 
 pub returns-clause-found : goal.returns-clause-found
-returns-clause-found g c = λ fa legs f h.
+returns-clause-found g c = λ fa legs h.
     let nodes = pages_of_cache c.args.cache.now in
     let shape = c.args.shape.now in
     let place = c.args.place.now in
     let some : 0 < shape.leaf = let least = c.walk_back.ensures.shape.least_leaf in omega (arith, least) in
     let taken = c.in_ok-found.ensures.found fa in
     c.reverse.ensures.items ∙ ap reverse taken.1 ∙ reverse-reverse taken.0 ∙ taken.2
-    ∙ whole_walk nodes shape place f legs some h
+    ∙ whole_walk nodes shape place c.args.feature legs some h
 
 pub returns-clause-asked : goal.returns-clause-asked
-returns-clause-asked g c = λ fa legs f h below.
+returns-clause-asked g c = λ fa legs h below.
     let nodes = pages_of_cache c.args.cache.now in
     let shape = c.args.shape.now in
     let place = c.args.place.now in
@@ -39,7 +39,7 @@ returns-clause-asked g c = λ fa legs f h below.
     let asked = c.in_ok-found.ensures.asked fa below in
     let all = walked_all nodes (div_ceil place.legs shape.leaf) place.last in
     let each = cost_whole nodes c.args.spans.now.items (div_ceil place.legs shape.leaf) place.last in
-    let cost = whole_cost nodes shape place f legs some h in
+    let cost = whole_cost nodes shape place c.args.feature legs some h in
     omega (arith, asked, all, each, cost)
 
 pub returns-clause-legs : goal.returns-clause-legs
@@ -51,11 +51,11 @@ pub returns-in_err-found-clause-only : goal.returns-in_err-found-clause-only
 returns-in_err-found-clause-only g c = λ fa h.
     let p = err_from_is_err_and c.from_residual.result c.from_residual.ensures.1 in
     let nodes = pages_of_cache c.args.cache.now in
-    let whole = whole_from nodes None c.args.shape.now c.args.place.now h in
+    let whole = whole_from nodes None c.args.shape.now c.args.feature c.args.place.now h in
     rw (p.1, p.2) (allowed_of nodes c.args.cache.now c.walk_back.new.cache _ _ whole c.in_err-found.ensures.reads.caused (c.in_err-found.ensures.named fa))
 
 pub returns-clause-chain : goal.returns-clause-chain
-returns-clause-chain g c = λ fa. whole_to (pages_of_cache c.args.cache.now) None c.args.shape.now c.args.place.now (c.in_ok-found.ensures.whole fa)
+returns-clause-chain g c = λ fa. whole_to (pages_of_cache c.args.cache.now) None c.args.shape.now c.args.feature c.args.place.now (c.in_ok-found.ensures.whole fa)
 
 pub returns-clause-walked : goal.returns-clause-walked
 returns-clause-walked g c = λ fa below.

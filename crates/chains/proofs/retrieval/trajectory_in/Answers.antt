@@ -15,35 +15,35 @@ use Rattle.chains.proofs.SpanLemmas.{known_few}
 use Rattle.chains.proofs.retrieval.trajectory_in.Goals as goal
 
 pub returns-in_err-found-clause-found : goal.returns-in_err-found-clause-found
-returns-in_err-found-clause-found g c = λ fa legs f h.
+returns-in_err-found-clause-found g c = λ fa legs h.
     let p = err_from_is_err_and c.from_residual.result c.from_residual.ensures.1 in
     let some : 0 < c.args.shape.now.leaf = let least = c.walk_back.ensures.shape.least_leaf in omega (arith, least) in
     let nodes = pages_of_cache c.args.cache.now in
     let shape = c.args.shape.now in
     let place = c.args.place.now in
-    let whole = whole_from nodes (Some c.args.period.now) shape place (whole_chain nodes shape place f legs some h (Some c.args.period.now)) in
+    let whole = whole_from nodes (Some c.args.period.now) shape c.args.feature place (whole_chain nodes shape place c.args.feature legs some h (Some c.args.period.now)) in
     rw (p.1, p.2) (allowed_of nodes c.args.cache.now c.walk_back.new.cache _ _ whole c.in_err-found.ensures.reads.caused (c.in_err-found.ensures.named fa))
 
 pub returns-clause-found : goal.returns-clause-found
-returns-clause-found g c = λ fa legs f h.
+returns-clause-found g c = λ fa legs h.
     let old = c.args.cache.now in
     let shape = c.args.shape.now in
     let place = c.args.place.now in
     let period = c.args.period.now in
     let some : 0 < shape.leaf = let least = c.walk_back.ensures.shape.least_leaf in omega (arith, least) in
     let taken = c.in_ok-found.ensures.found fa in
-    sieved_by c.args.sieve.now period _ (live_legs_of f period legs) taken.0 c.reverse.new.self.items
-    (live_walk old shape place f legs some h period)
+    sieved_by c.args.sieve.now period _ (live_legs_of c.args.feature period legs) taken.0 c.reverse.new.self.items
+    (live_walk old shape place c.args.feature legs some h period)
     (c.reverse.ensures.items ∙ ap reverse taken.1 ∙ reverse-reverse taken.0) taken.2
 
 pub returns-clause-asked : goal.returns-clause-asked
-returns-clause-asked g c = λ fa legs f h.
+returns-clause-asked g c = λ fa legs h.
     let old = c.args.cache.now in
     let shape = c.args.shape.now in
     let place = c.args.place.now in
     let some : 0 < shape.leaf = let least = c.walk_back.ensures.shape.least_leaf in omega (arith, least) in
     let asked = c.in_ok-found.ensures.within fa in
-    let few = few_walked old shape place f legs some h c.args.period.now in
+    let few = few_walked old shape place c.args.feature legs some h c.args.period.now in
     omega (arith, asked, few)
 
 pub returns-clause-legs : goal.returns-clause-legs
@@ -56,28 +56,28 @@ pub returns-in_err-found-clause-only : goal.returns-in_err-found-clause-only
 returns-in_err-found-clause-only g c = λ fa h.
     let p = err_from_is_err_and c.from_residual.result c.from_residual.ensures.1 in
     let nodes = pages_of_cache c.args.cache.now in
-    let whole = whole_from nodes (Some c.args.period.now) c.args.shape.now c.args.place.now h in
+    let whole = whole_from nodes (Some c.args.period.now) c.args.shape.now c.args.feature c.args.place.now h in
     rw (p.1, p.2) (allowed_of nodes c.args.cache.now c.walk_back.new.cache _ _ whole c.in_err-found.ensures.reads.caused (c.in_err-found.ensures.named fa))
 
 pub returns-clause-chain : goal.returns-clause-chain
-returns-clause-chain g c = λ fa. whole_to (pages_of_cache c.args.cache.now) (Some c.args.period.now) c.args.shape.now c.args.place.now (c.in_ok-found.ensures.whole fa)
+returns-clause-chain g c = λ fa. whole_to (pages_of_cache c.args.cache.now) (Some c.args.period.now) c.args.shape.now c.args.feature c.args.place.now (c.in_ok-found.ensures.whole fa)
 
 pub returns-clause-known : goal.returns-clause-known
 returns-clause-known g c = λ fa back.
     let shape = c.args.shape.now in
     let place = c.args.place.now in
-    let few = known_few (pages_of_cache c.args.cache.now) c.args.period.now shape.leaf place.legs place.first c.args.spans.now.items (div_ceil place.legs shape.leaf) (last_link place) c.start.ensures.ordered (c.requires.known fa) back in
+    let few = known_few (pages_of_cache c.args.cache.now) c.args.period.now shape.leaf place.legs place.first c.args.spans.now.items (div_ceil place.legs shape.leaf) (last_link c.args.feature place) c.start.ensures.ordered (c.requires.known fa) back in
     let asked = c.in_ok-found.ensures.few fa in
     omega (arith, asked, few)
 
 pub returns-clause-met : goal.returns-clause-met
-returns-clause-met g c = λ fa legs f h back.
+returns-clause-met g c = λ fa legs h back.
     let nodes = pages_of_cache c.args.cache.now in
     let shape = c.args.shape.now in
     let place = c.args.place.now in
     let some : 0 < shape.leaf = let least = c.walk_back.ensures.shape.least_leaf in omega (arith, least) in
-    let few = known_few nodes c.args.period.now shape.leaf place.legs place.first c.args.spans.now.items (div_ceil place.legs shape.leaf) (last_link place) c.start.ensures.ordered (c.requires.known fa) back in
-    let met = few_met nodes shape place f legs some h c.args.period.now c.args.spans.now.items (c.requires.known fa) in
+    let few = known_few nodes c.args.period.now shape.leaf place.legs place.first c.args.spans.now.items (div_ceil place.legs shape.leaf) (last_link c.args.feature place) c.start.ensures.ordered (c.requires.known fa) back in
+    let met = few_met nodes shape place c.args.feature legs some h c.args.period.now c.args.spans.now.items (c.requires.known fa) in
     let asked = c.in_ok-found.ensures.few fa in
     omega (arith, asked, few, met)
 

@@ -26,7 +26,7 @@ leaves-preserved g c =
     let rest = c.leaves.left - 1 in
     let inv = c.leaves.invariant in
     let blocks = div_ceil legs shape.leaf in
-    let start = last_link c.args.place.now in
+    let start = last_link c.args.feature c.args.place.now in
     let less : n ≡ suc rest = omega (arith, c.leaves-test.true) in
     let most : c.from-most.result ≡ shape.leaf = search rules in
     let spot : spot_of c.from-most.result legs first rest ≡ spot_of shape.leaf legs first rest = ap (λ m. spot_of m legs first rest) most in
@@ -203,9 +203,9 @@ returns-in_default-clause-learns g c = λ fa.
     let t = c.in_ok-back.ensures.taken (inv.reads.store.faithful ∙ fa) in
     let is = sym (same_at old c.leaves.cache inv.reads fa link.page) ∙ t.is in
     let fit = ap (λ p. fits t.leaf link p) (sym spot) ∙ t.fit in
-    let past = past_read nodes shape.leaf place.legs place.first (div_ceil place.legs shape.leaf) (last_link place) c.leaves.passed c.leaves.spans.items c.step.new.spans.items c.leaves.left rest link t.leaf (inv.way fa) less
+    let past = past_read nodes shape.leaf place.legs place.first (div_ceil place.legs shape.leaf) (last_link c.args.feature place) c.leaves.passed c.leaves.spans.items c.step.new.spans.items c.leaves.left rest link t.leaf (inv.way fa) less
     (linked_by nodes link (spot_of shape.leaf place.legs place.first rest) t.leaf t.above is fit) t.learns in
-    all_known nodes shape.leaf place.legs place.first (div_ceil place.legs shape.leaf) (last_link place) (suc c.leaves.passed) c.step.new.spans.items rest (link_back link.page t.leaf) past
+    all_known nodes shape.leaf place.legs place.first (div_ceil place.legs shape.leaf) (last_link c.args.feature place) (suc c.leaves.passed) c.step.new.spans.items rest (link_back link.page t.leaf) past
 
 pub returns-clause-asked : goal.returns-clause-asked
 returns-clause-asked g c = λ fa below.
@@ -272,14 +272,14 @@ returns-in_err-back-clause-learns g c = λ fa.
     let shape = c.args.shape.now in
     let place = c.args.place.now in
     let blocks = div_ceil place.legs shape.leaf in
-    subst (λ spans. IsKnown nodes shape place spans) (sym c.in_err-back.ensures.forgets)
-    (all_known nodes shape.leaf place.legs place.first blocks (last_link place) c.leaves.passed c.leaves.spans.items c.leaves.left c.leaves.link (c.leaves.invariant.way fa))
+    subst (λ spans. IsKnown nodes shape c.args.feature place spans) (sym c.in_err-back.ensures.forgets)
+    (all_known nodes shape.leaf place.legs place.first blocks (last_link c.args.feature place) c.leaves.passed c.leaves.spans.items c.leaves.left c.leaves.link (c.leaves.invariant.way fa))
 
 pub returns-clause-learns : goal.returns-clause-learns
 returns-clause-learns g c = λ fa.
     let shape = c.args.shape.now in
     let place = c.args.place.now in
-    all_known (pages_of_cache c.args.cache.now) shape.leaf place.legs place.first (div_ceil place.legs shape.leaf) (last_link place) c.leaves.passed c.leaves.spans.items c.leaves.left c.leaves.link (c.leaves.invariant.way fa)
+    all_known (pages_of_cache c.args.cache.now) shape.leaf place.legs place.first (div_ceil place.legs shape.leaf) (last_link c.args.feature place) c.leaves.passed c.leaves.spans.items c.leaves.left c.leaves.link (c.leaves.invariant.way fa)
 
 pub returns-in_err-back-clause-reads : goal.returns-in_err-back-clause-reads
 returns-in_err-back-clause-reads g c =

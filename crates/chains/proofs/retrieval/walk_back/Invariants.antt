@@ -22,9 +22,9 @@ invariant-leaves g l =
     let blocks = div_ceil place.legs l.fn.shape.leaf in
     record {
       reads : OnlyReads old l.cache;
-      way : IsTrue old.store.is_faithful → IsOnWay nodes l.fn.shape.leaf place.legs place.first blocks (last_link place) l.passed l.spans.items l.left l.link;
+      way : IsTrue old.store.is_faithful → IsOnWay nodes l.fn.shape.leaf place.legs place.first blocks (last_link l.fn.feature place) l.passed l.spans.items l.left l.link;
       found : IsTrue old.store.is_faithful → IsFound nodes l.fn.want.period l.fn.want.sieve l.left l.link.page (walk nodes l.fn.want.period blocks place.last) l.found.items;
-      fault : IsTrue old.store.is_faithful → fault_from nodes l.fn.want.period l.fn.shape.leaf place.legs place.first l.left l.link ≡ chain_fault nodes l.fn.want.period l.fn.shape place;
+      fault : IsTrue old.store.is_faithful → fault_from nodes l.fn.want.period l.fn.shape.leaf place.legs place.first l.left l.link ≡ chain_fault nodes l.fn.want.period l.fn.shape l.fn.feature place;
       asked : IsTrue old.store.is_faithful → l.cache.asked < 2 ^ 64 - 1
           → l.cache.asked + walked_by nodes l.fn.want.period (drop l.passed l.spans.items) l.left l.link.page ≡ old.asked + walked_by nodes l.fn.want.period l.fn.spans.items blocks place.last;
       some : IsTrue old.store.is_faithful → l.cache.asked + walked_by nodes l.fn.want.period (drop l.passed l.spans.items) l.left l.link.page ≤ old.asked + walked_by nodes l.fn.want.period l.fn.spans.items blocks place.last;

@@ -12,7 +12,7 @@ use Rattle.tbtree.proofs.ContentLemmas.{meets_none, meets_part}
 use Rattle.tbtree.proofs.FillCosts.{filled_start, filled_part}
 use Rattle.tbtree.proofs.LeafLemmas.{fills_none, fills_part, placed_last, placed_legs, placed_new}
 use Rattle.tbtree.proofs.FillLemmas.{joins_none, length_part, part_in_last, part_joins, part_refused}
-use Rattle.tbtree.specs.Filling.{page_made, place_with, FillsLeaves}
+use Rattle.tbtree.specs.Filling.{page_made, place_with, FillsLeaves, NamesLast}
 use Rattle.tbtree.specs.Joining.{in_last_leaf, HasAtEnd}
 use Rattle.tbtree.specs.declared.tree.Place.{Place}
 use Rattle.tbtree.proofs.PassLemmas.{touches_none, touches_then}
@@ -35,6 +35,8 @@ leaves-init g c =
       counted = omega arith;
       stays = λ above room. refl;
       moves = inl refl;
+      begun = λ none. refl;
+      named = λ above. absurd (omega (arith, above));
       full = λ above left. absurd (omega (arith, above));
       ends = λ fa above. absurd (omega (arith, above));
       fills = λ fa.
@@ -101,6 +103,11 @@ leaves-preserved g c =
           let more = so_far.touches.passes.count in
           inr (omega (arith, at, more)))
           (cases_lt 0 filled);
+      begun = λ none. absurd (let some = fits.some in omega (arith, none, some));
+      named = λ above. ⊎_elim
+          (λ (before : 0 < n). so_far.named before)
+          (λ (first : n ≤ 0). subst NamesLast (so_far.begun (omega (arith, first))) put.named)
+          (cases_lt 0 n);
       full = λ above left. ap (λ m. m % leaf) counted ∙ mod_at_next c.leaves.place.legs k leaf (full left);
       ends = λ fa above. all_ends fa;
       fills = λ fa.
@@ -117,6 +124,11 @@ leaves-preserved g c =
           room full
           (λ z. put.begun (same ∙ z)) (λ z. put.begun_asked (same ∙ z)) (λ above. put.grown (omega (arith, same, above))) (λ above. put.grown_asked (omega (arith, same, above)));
     }
+
+pub returns-clause-named : goal.returns-clause-named
+returns-clause-named g c = λ some.
+    let over = c.leaves-test.false in
+    c.leaves.invariant.named (omega (arith, over, some))
 
 pub returns-clause-counted : goal.returns-clause-counted
 returns-clause-counted g c =

@@ -1,7 +1,7 @@
 use Rattle.std.proofs.Common.{ℕ, List, ◌≡◌, ◌≤◌, ◌<◌, ◌+◌, ◌-◌, ◌%◌, length, take}
 use Rattle.std.specs.Prelude.{IsTrue, Ok, ◌⊎◌}
 use Rattle.tbtree.specs.Content.{Meets}
-use Rattle.tbtree.specs.Filling.{FillsLeaves}
+use Rattle.tbtree.specs.Filling.{FillsLeaves, NamesLast}
 use Rattle.tbtree.specs.Joining.{in_last_leaf, HasAtEnd, JoinsAll}
 use Rattle.tbtree.specs.Nodes.{pages_of_cache}
 use Rattle.tbtree.specs.Passes.{Touches}
@@ -24,6 +24,8 @@ invariant-leaves g l = record {
   counted : l.place.legs ≡ l.fn.place.legs + l.from;
   stays : 0 < l.fn.place.legs % l.fn.tree.shape.leaf → l.fn.place.legs % l.fn.tree.shape.leaf + length l.legs ≤ l.fn.tree.shape.leaf → l.place.last ≡ l.fn.place.last;
   moves : (l.place.last ≡ l.fn.place.last) ⊎ (l.fn.cache.count ≤ l.place.last);
+  begun : l.from ≡ 0 → l.place ≡ l.fn.place;
+  named : 0 < l.from → NamesLast l.fn.place;
   full : 0 < l.from → l.from < length l.legs → l.place.legs % l.fn.tree.shape.leaf ≡ 0;
   ends : IsTrue l.fn.cache.store.is_faithful → 0 < l.from → HasAtEnd (pages_of_cache l.cache) l.place.last (in_last_leaf l.fn.tree.shape.leaf l.place.legs (take l.from l.legs));
   fills : IsTrue l.fn.cache.store.is_faithful → (pages : List ℕ) × FillsLeaves l.fn.tree.shape.leaf (pages_of_cache l.fn.cache) (pages_of_cache l.cache) l.fn.tree.leaves l.tree.leaves l.fn.place l.place (take l.from l.legs) pages × IsFull l.fn.tree.shape.leaf l.fn.place l.legs l.from;

@@ -46,7 +46,7 @@ returns-in_err-parent-clause-way g t c = λ fa.
 pub returns-then-from-tree-clause-found : goal.returns-then-from-tree-clause-found
 returns-then-from-tree-clause-found g t c = λ fa.
     let tree = c.args.tree.now in
-    found_top (pages_of_cache c.args.cache.now) tree.root tree.levels c.args.level (omega (arith, c.if-from-tree.true, c.from.ensures))
+    found_top (pages_of_cache c.args.cache.now) tree.root tree.levels c.args.level c.args.bounds.now (omega (arith, c.if-from-tree.true, c.from.ensures))
 
 pub returns-clause-found : goal.returns-clause-found
 returns-clause-found g t c = λ fa.

@@ -1,10 +1,12 @@
-use Rattle.std.proofs.Common.{◌∙◌, ap, subst, sym}
+use Rattle.std.proofs.Common.{◌∙◌, ap, refl, subst, sym}
 use Rattle.legs.specs.Legs.{LegView}
 use Rattle.tbtree.specs.Nodes.{pages_of_cache, HasLastLeaf}
+use Rattle.tbtree.specs.Payloads.{leaf_of_legs}
 use Rattle.tbtree.proofs.EndLemmas.{ends_added, ends_linked, on_added}
 use Rattle.tbtree.proofs.LeafLemmas.{begins_linked, on_alone, owner_first}
 use Rattle.tbtree.proofs.Still.{still}
 use Rattle.tbtree.proofs.ContentLemmas.{on_says, says_added, says_linked, says_then}
+use Rattle.tbtree.proofs.GraftLemmas.{kids_added, kids_linked, kids_then, on_kids}
 use Rattle.tbtree.proofs.insertion.add_last.Goals as goal
 
 pub returns-then-last-eq0-clause-ends : goal.returns-then-last-eq0-clause-ends
@@ -29,6 +31,18 @@ returns-clause-says g c = λ fa.
     let new = pages_of_cache c.link.new.cache in
     says_then old mid new (says_added old mid _ c.in_ok-page.page c.in_ok-page.ensures.fresh (c.in_ok-page.ensures.adds fa))
     (says_linked mid new c.args.last c.in_ok-page.page (c.in_ok-link.ensures.links (still _ _ c.add_leaf-2.ensures.touches.passes.store.faithful fa)))
+
+pub returns-then-last-eq0-clause-kids : goal.returns-then-last-eq0-clause-kids
+returns-then-last-eq0-clause-kids g c = λ fa.
+    on_kids (pages_of_cache c.args.cache.now) (pages_of_cache c.add_leaf.new.cache) (leaf_of_legs c.args.last c.args.legs.now) refl c.add_leaf.result c.add_leaf.ensures.fresh (c.add_leaf.ensures.adds fa)
+
+pub returns-clause-kids : goal.returns-clause-kids
+returns-clause-kids g c = λ fa.
+    let old = pages_of_cache c.args.cache.now in
+    let mid = pages_of_cache c.add_leaf-2.new.cache in
+    let new = pages_of_cache c.link.new.cache in
+    kids_then old mid new (kids_added old mid (leaf_of_legs c.args.last c.args.legs.now) c.in_ok-page.page c.in_ok-page.ensures.fresh refl (c.in_ok-page.ensures.adds fa))
+    (kids_linked mid new c.args.last c.in_ok-page.page (c.in_ok-link.ensures.links (still _ _ c.add_leaf-2.ensures.touches.passes.store.faithful fa)))
 
 pub returns-then-last-eq0-clause-leaf : goal.returns-then-last-eq0-clause-leaf
 returns-then-last-eq0-clause-leaf g c = λ fa.

@@ -42,9 +42,11 @@ returns-clause-ends g c = λ fa.
 pub returns-clause-met : goal.returns-clause-met
 returns-clause-met g c = λ fa.
     let more = c.add_last.ensures.touches.passes.count in
-    let first = c.requires.first in
-    meets_begun (pages_of_cache c.args.cache.now) (pages_of_cache c.add_last.new.cache) (pages_of_cache c.hang_leaf.new.cache) c.args.tree.now _ c.in_ok-top.top c.in_ok-page.page c.args.legs.now
-    (c.in_ok-page.ensures.says fa) (c.in_ok-top.ensures.carries (still _ _ c.add_last.ensures.touches.passes.store.faithful fa) (omega (arith, more, first))) refl refl c.in_ok-top.ensures.some (returns-clause-ends g c fa)
+    let root = c.requires.root in
+    let number = c.in_ok-page.ensures.number in
+    let there = (c.in_ok-page.ensures.leaf fa).there in
+    meets_begun (pages_of_cache c.args.cache.now) (pages_of_cache c.add_last.new.cache) (pages_of_cache c.hang_leaf.new.cache) c.args.tree.now _ c.in_ok-top.top c.in_ok-page.page c.cover_of_legs-bounds.result c.args.legs.now
+    c.cover_of_legs-bounds.ensures number more (c.in_ok-page.ensures.kids fa) (c.in_ok-page.ensures.says fa) (c.in_ok-top.ensures.carries (still _ _ c.add_last.ensures.touches.passes.store.faithful fa) (omega (arith, root, number)) there) refl refl c.in_ok-top.ensures.some (returns-clause-ends g c fa)
 
 pub returns-clause-leaf : goal.returns-clause-leaf
 returns-clause-leaf g c = λ fa.

@@ -72,5 +72,5 @@ pub returns-clause-met : goal.returns-clause-met
 returns-clause-met g c = λ fa.
     let tree = c.args.tree.now in
     let faithful = still _ _ c.way.ensures.touches.passes.store.faithful fa in
-    on_grown (pages_of_cache c.args.cache.now) (pages_of_cache c.way.new.cache) (pages_of_cache c.grow.new.cache) tree c.in_ok-page.page c.args.last c.args.legs.now c.grow.result c.requires.levels c.if-page-last.false
+    on_grown (pages_of_cache c.args.cache.now) (pages_of_cache c.way.new.cache) (pages_of_cache c.grow.new.cache) tree c.in_ok-page.page c.args.last c.cover_of_legs-bounds.result c.args.legs.now c.grow.result c.requires.levels c.if-page-last.false c.cover_of_legs-bounds.ensures
     (c.in_ok-page.ensures.found fa) (c.grow.ensures.pushes faithful) (returns-clause-ends g c fa)

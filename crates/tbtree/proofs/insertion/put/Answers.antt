@@ -2,7 +2,7 @@ use Rattle.std.proofs.Common.{◌≡◌, ◌∙◌, ◌<◌, ◌≤◌, ◌-◌,
 use Rattle.std.proofs.lemmas.Bool.{cases_lt}
 use Rattle.tbtree.specs.declared.fault.TreeFault.TheVariants.{Malformed}
 use Rattle.tbtree.specs.Nodes.{pages_of_cache}
-use Rattle.tbtree.proofs.InsertLemmas.{few_enough}
+use Rattle.tbtree.proofs.InsertLemmas.{few_enough, place_named}
 use Rattle.tbtree.proofs.OldLeaf.{fits}
 use Rattle.tbtree.proofs.insertion.put.Goals as goal
 use Rattle.tbtree.proofs.insertion.put.Goals.{then-tree-count-via-then-tree-count, then-tree-count-via-else-tree-count+then-tree-ge-MOST_LEVELS, then-tree-count-via-else-tree-count+else-tree-ge-MOST_LEVELS+then-place-leaf}
@@ -20,6 +20,13 @@ returns-then-tree-count-clause-inserts g c = λ fa.
       | then-tree-count-via-else-tree-count+then-tree-ge-MOST_LEVELS w ↦ (let e = w.if-tree-ge-MOST_LEVELS.true in omega (arith, b, e))
       | then-tree-count-via-else-tree-count+else-tree-ge-MOST_LEVELS+then-place-leaf w ↦ (let e = w.if-place-leaf.true in omega (arith, d, e, leaf, most))
     ])
+
+pub returns-then-is_torn-clause-inserts : goal.returns-then-is_torn-clause-inserts
+returns-then-is_torn-clause-inserts g c = λ fa.
+    let tree = c.args.tree.now in
+    let place = c.args.place.now in
+    let pages = pages_of_cache c.args.cache.now in
+    place_named pages pages tree tree place place c.args.legs.now (Malformed place.last) (c.is_torn.ensures.torn c.if-is_torn.true)
 
 pub begin-requires-clause-room : goal.begin-requires-clause-room
 begin-requires-clause-room g c =

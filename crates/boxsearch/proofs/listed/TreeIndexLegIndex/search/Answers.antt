@@ -57,4 +57,4 @@ pub invariant_of-self : goal.invariant_of-self
 invariant_of-self g c = λ fa f place spans at known.
     let reads = c.search.ensures.reads in
     let was = sym reads.store.faithful ∙ fa in
-    c.laws.ensures.lasts c.self.inside.cache c.search.new.cache c.self.inside.tree.shape place spans reads was (c.self.invariant was f place spans at known)
+    c.laws.ensures.lasts c.self.inside.cache c.search.new.cache c.self.inside.tree.shape f place spans reads was (c.self.invariant was f place spans at known)

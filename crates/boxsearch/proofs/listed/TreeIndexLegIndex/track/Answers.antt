@@ -79,7 +79,7 @@ trajectory-requires g c =
     let at : slice_get inside.places.items c.args.feature ≡ Some c.in-Some.place = ap (λ (i : IndexView). slice_get i.places c.args.feature) c.self.view_is ∙ sym c.place.ensures ∙ c.in-Some.is in
     let room = of_answer c.make_room.result (c.args.feature < length c.make_room.new.known.items) (sym c.is_err.ensures.value ∙ c.if-is_err.false) c.make_room.ensures.room in
     record {
-      known = λ fa. subst (λ v. IsKnown (pages_of_cache inside.cache) inside.tree.shape c.in-Some.place v.items) (sym c.index_mut-spans.ensures.value)
+      known = λ fa. subst (λ v. IsKnown (pages_of_cache inside.cache) inside.tree.shape c.args.feature c.in-Some.place v.items) (sym c.index_mut-spans.ensures.value)
           (known_of (λ v. v.items) inside.cache inside.cache inside.tree.shape inside.places.items inside.known.items c.make_room.new.known.items c.args.feature c.in-Some.place c.self.invariant c.make_room.ensures.widens at c.index_mut-spans.result.now room fa);
     }
 
@@ -90,7 +90,7 @@ invariant_of-self-2 g c =
     let reads = c.trajectory.ensures.reads.only in
     let at : slice_get inside.places.items c.args.feature ≡ Some c.in-Some.place = ap (λ (i : IndexView). slice_get i.places c.args.feature) c.self.view_is ∙ sym c.place.ensures ∙ c.in-Some.is in
     known_after (λ v. v.items) inside.cache new inside.tree.shape inside.places.items inside.known.items c.make_room.new.known.items c.args.feature c.in-Some.place c.self.invariant c.make_room.ensures.widens at c.trajectory.new.spans reads
-    (λ place spans fa h. c.laws.ensures.lasts inside.cache new inside.tree.shape place spans reads fa h) c.trajectory.ensures.learns
+    (λ f place spans fa h. c.laws.ensures.lasts inside.cache new inside.tree.shape f place spans reads fa h) c.trajectory.ensures.learns
 
 pub returns-then-is_err-clause-recalls : goal.returns-then-is_err-clause-recalls
 returns-then-is_err-clause-recalls g c =

@@ -80,7 +80,7 @@ trajectory_in-requires g c =
     let at : slice_get inside.places.items c.args.feature ≡ Some c.in-Some.place = ap (λ (i : IndexView). slice_get i.places c.args.feature) c.self.view_is ∙ sym c.place.ensures ∙ c.in-Some.is in
     let room = of_answer c.make_room.result (c.args.feature < length c.make_room.new.known.items) (sym c.is_err.ensures.value ∙ c.if-is_err.false) c.make_room.ensures.room in
     record {
-      known = λ fa. subst (λ v. IsKnown (pages_of_cache inside.cache) inside.tree.shape c.in-Some.place v.items) (sym c.index_mut-spans.ensures.value)
+      known = λ fa. subst (λ v. IsKnown (pages_of_cache inside.cache) inside.tree.shape c.args.feature c.in-Some.place v.items) (sym c.index_mut-spans.ensures.value)
           (known_of (λ v. v.items) inside.cache inside.cache inside.tree.shape inside.places.items inside.known.items c.make_room.new.known.items c.args.feature c.in-Some.place c.self.invariant c.make_room.ensures.widens at c.index_mut-spans.result.now room fa);
     }
 
@@ -91,7 +91,7 @@ invariant_of-self-2 g c =
     let reads = c.trajectory_in.ensures.reads.only in
     let at : slice_get inside.places.items c.args.feature ≡ Some c.in-Some.place = ap (λ (i : IndexView). slice_get i.places c.args.feature) c.self.view_is ∙ sym c.place.ensures ∙ c.in-Some.is in
     known_after (λ v. v.items) inside.cache new inside.tree.shape inside.places.items inside.known.items c.make_room.new.known.items c.args.feature c.in-Some.place c.self.invariant c.make_room.ensures.widens at c.trajectory_in.new.spans reads
-    (λ place spans fa h. c.laws.ensures.lasts inside.cache new inside.tree.shape place spans reads fa h) c.trajectory_in.ensures.learns
+    (λ f place spans fa h. c.laws.ensures.lasts inside.cache new inside.tree.shape f place spans reads fa h) c.trajectory_in.ensures.learns
 
 pub returns-then-is_err-clause-recalls : goal.returns-then-is_err-clause-recalls
 returns-then-is_err-clause-recalls g c =
@@ -142,5 +142,5 @@ returns-clause-asks_known g c =
     (each_value (λ fault. of_tree fault) (λ _. Knows inside → IsSound inside → Rises inside) c.trajectory_in.result
     (ok_two c.trajectory_in.result (Knows inside) (IsSound inside) (Rises inside)
     (λ knows s. on_ok c.trajectory_in.result (rises_capped_most inside.cache.asked new.asked (known_bound f period (Some inside.tree.shape) (content inside)))
-    (c.trajectory_in.ensures.met s.faithful (content inside) f (has_feature inside f c.in-Some.place s at)
+    (c.trajectory_in.ensures.met s.faithful (content inside) (has_feature inside f c.in-Some.place s at)
     (known_back (λ v. v.items) inside.cache new inside.tree.shape inside.places c.self.inside.known.items c.make_room.new.known.items f c.trajectory_in.ensures.reads.only c.make_room.ensures.holds room c.index_mut-spans.result.now c.trajectory_in.new.spans c.index_mut-spans.ensures.value c.in-Some.place period at knows s.faithful))))))

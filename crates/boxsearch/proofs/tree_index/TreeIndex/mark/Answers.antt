@@ -11,7 +11,7 @@ pub returns-clause-starts : goal.returns-clause-starts
 returns-clause-starts g c =
     let inside : IndexView = record { cache = c.self.inside.cache; tree = c.self.inside.tree; places = c.self.inside.places.items; legs = c.self.inside.legs; known = map (λ spans. spans.items) c.self.inside.known.items } in
     let new : IndexView = record inside { cache = c.mark_page.new.cache; known = map (λ spans. spans.items) c.new.result.items } in
-    let laws : FirstLaws = record { content = c.laws.ensures.same; stands = c.laws.ensures.same_stands } in
+    let laws : FirstLaws = record { found = c.laws.ensures.same; stands = c.laws.ensures.same_stands } in
     subst (λ i. Starts words i new c.of_pages.result) c.self.view_is
     (subst (λ r. Starts words inside new r) (sym c.of_pages.ensures)
     (starts laws inside c.mark_page.new.cache (map (λ spans. spans.items) c.new.result.items) c.mark_page.ensures.marks c.mark_page.result c.mark_page.ensures.marked c.mark_page.ensures.others c.mark_page.ensures.first))
