@@ -10,16 +10,18 @@ from pathlib import Path
 OWNER = re.compile(r"(?:pub(?:\([a-z ]+\))? )?(impl|trait)\b(.*)")
 FUNCTION = re.compile(r"(pub(?:\([a-z ]+\))? )?(?:const )?(?:unsafe )?fn (\w+)")
 TYPE = re.compile(r"(?:pub(?:\([a-z ]+\))? )?(?:struct|enum|trait|type|const|static|mod) (\w+)")
-CLAUSE = re.compile(r"(ensures|requires)\*?(?: (\w+))? \{")
+CLAUSE = re.compile(r"(ensures|requires)\*?(?: (\w+))? \{(?: (\w+))?")
 GHOST = re.compile(r"ghost (\w+)\b(?: *[:=(]|\s*$)")
 DEFINED = re.compile(r"(?:(?:abbrev|unfoldable|pub|record|data|rewrite) )*([^\s:(){}]+)(?: [({][^:]*| )?:|pub (?:record|data) (\S+)")
 FIELD = re.compile(r"  (?:pub )?([^\s:(){}]+) :")
+# The file of a crate's specs whose records are promises of calls: a clause that is one of them stands for its fields.
+PROMISES = "Promises.antt"
 
 
 @dataclass
 class Function:
     """A function or a method: its crate, its modules, its type or trait if any, the names of its clauses, and those of
-    the conditions that it asks for; one without a name has the name ''."""
+    the conditions that it asks for; one without a name has the name ''. The words are the first ones of the clauses."""
 
     crate: str
     modules: tuple
@@ -32,6 +34,7 @@ class Function:
     is_test: bool = False
     clauses: set = field(default_factory=set)
     conditions: set = field(default_factory=set)
+    words: dict = field(default_factory=dict)
 
     def places(self):
         """The paths by which a document may name it, in its crate."""
@@ -94,6 +97,8 @@ def read_source(crate, path, modules):
             is_test = False
         elif function and (found := CLAUSE.match(text)):
             (function.clauses if found[1] == "ensures" else function.conditions).add(found[2] or "")
+            if found[1] == "ensures":
+                function.words[found[2] or ""] = found[3]
         elif found := GHOST.match(text):
             crate.ghosts |= {(owner, found[1]), (found[1],)}
 
@@ -111,6 +116,13 @@ def read_definitions(crate, path):
             crate.fields.setdefault(whole, set())
         elif whole and (found := FIELD.match(line)):
             crate.fields[whole].add(found[1])
+
+
+def spread(crate, function):
+    """Puts the fields of a record of promises in the place of a clause that is one."""
+    for clause, word in function.words.items():
+        if any(path.name == PROMISES for path, _ in crate.places.get(word, [])):
+            function.clauses = function.clauses - {clause} | crate.fields[word]
 
 
 def shown_by(path):
@@ -135,6 +147,7 @@ def read_crate(folder):
     crate.words = {word for path in texts for word in re.findall(r"\w+", path.read_text())}
     shown = shown_by(folder / "src" / "lib.rt")
     for function in crate.functions:
+        spread(crate, function)
         function.is_shown = not function.modules or (function.owner or function.name) in shown
     crate.edits = {path.stem for path in (folder / "must-fail").glob("*.edit")}
     return crate

@@ -113,6 +113,14 @@ class Promises(Case):
         said = self.said(**{"crates/low/src/lib.rt": SOURCE.replace("    ensures value", "    ensures more { x }\n    ensures value")})
         self.assertEqual(said, ["crates/low/README.md:0: neither it nor a promise cites low::first: more"])
 
+    def test_a_clause_that_is_a_record_of_promises_stands_for_its_fields(self):
+        contract = "-- a call\npub record FirstCall (a result : ℕ) : Type 0 where\n  -- what it gives\n  pub value : result ≡ a\n"
+        files = {"crates/low/src/lib.rt": SOURCE.replace("value { result ≡ a }", "call { FirstCall a result }")}
+        self.assertEqual(self.said(**files, **{"crates/low/specs/Promises.antt": contract}), [])
+        more = contract + "\n  pub more : (n : ℕ)\n      → result ≡ a\n"
+        said = self.said(**files, **{"crates/low/specs/Promises.antt": more})
+        self.assertEqual(said, ["crates/low/README.md:0: neither it nor a promise cites low::first: more"])
+
     def test_a_crate_without_a_page(self):
         (self.folder / "crates" / "high" / "src").mkdir(parents=True)
         self.assertEqual(self.said(), ["crates/high/README.md:0: is not there"])

@@ -13,3 +13,4 @@ pub mod Lines
 pub mod Db
 pub mod Lasting
 pub mod Checking
+pub mod Promises

@@ -181,45 +181,14 @@ impl<I: Start> Core<I> {
 }
 
 impl<I: Start> Core<I> {
-    ghost use Rattle.std.specs.Prelude.{◌≡◌, IfErr, OnOk, OnErr, Err, true, false};
-    ghost use Rattle.trajdb.specs.Answers.{book_with, load_of};
-    ghost use Rattle.trajdb.specs.Database.{IsRefused, IsTold, LoadGives, FailsBy, Becomes, IsSound};
-    ghost use Rattle.trajdb.specs.Calls.{IsBookOf, IsLater, IsLoadStop, KeepsPages, PutsFile};
-    ghost use Rattle.legs.specs.Book.{Book};
+    ghost use Rattle.trajdb.specs.Promises.{LoadCall};
 
     /// Accepts a file, whole or not at all: how many data records, legs and distinct features it has,
     /// or the first fault of its text, or else of its joining.
     ///
     /// Where the database cannot tell, as for want of memory, it is failed: it answers nothing any more.
     pub fn load(&mut self, alloc: Global, bytes: &[u8]) -> Result<Counts, LoadFault>
-        ensures counts { IsSound I.Listed self.old
-            → LoadGives result (load_of self.old.limits self.old.book bytes.now) }
-        ensures becomes { IsTold result
-            → Becomes I.Listed self.old self.new (book_with self.old.limits
-            self.old.book bytes.now) }
-        ensures lives { IsTold result → self.new.failed ≡ false }
-
-        // A database that could not tell is failed.
-        ensures failed { IfErr result (λ fault. FailsBy fault → self.new.failed ≡ true) }
-        ensures stopped { IfErr result (IsLoadStop I.Listed self.old self.new) }
-        ensures later { IsLater I.Listed self.old self.new }
-
-        // A refused file changes nothing.
-        ensures refused { IfErr result (λ fault. IsRefused fault → self.new ≡ self.old) }
-
-        // An accepted file begins the database, and nothing else does.
-        ensures begun { OnOk result (self.new.begun ≡ true) }
-        ensures puts { IfOk result (PutsFile I.Listed self.old self.new bytes.now) }
-        ensures gives { (book : Book) → IsBookOf self.old book
-            → LoadGives result (load_of self.old.limits book bytes.now) }
-        ensures idle { OnErr result (self.new.begun ≡ self.old.begun) }
-
-        // What is left of the pages.
-        ensures pages { KeepsPages I.Listed self.old self.new }
-
-        // A failed database does nothing.
-        ensures was_failed { self.old.failed ≡ true
-            → (result ≡ Err (LoadFault.Run RunFault.Failed)) × (self.new ≡ self.old) }
+        ensures { LoadCall I.Listed self.old self.new bytes.now result }
     {
         if self.failed {
             return Err(LoadFault::Run(RunFault::Failed));
@@ -276,12 +245,7 @@ impl<I: Start> Core<I> {
 }
 
 impl<I: Start> Core<I> {
-    ghost use Rattle.std.specs.Prelude.{◌≡◌, IfOk, IfErr, IsErrOf, OnOk, OnErr, Err, true, false};
-    ghost use Rattle.trajdb.specs.Answers.{AcceptsBy, IsAnswer, IsCountsText, book_then};
-    ghost use Rattle.trajdb.specs.Database.{Becomes, IsSound};
-    ghost use Rattle.trajdb.specs.Calls.{AsksIn, AsksKnown, LearnsBy, Begins, BeginsBy, BeginsOnly, IsStopped, IsLater, KeepsPages, LeavesBook, Loads, LoadsWhole, TellsLoadBy};
-    ghost use Rattle.trajdb.specs.Telling.{IsToldAnswer, NamesBy};
-    ghost use Rattle.legs.specs.Asking.{Recalls};
+    ghost use Rattle.trajdb.specs.Promises.{CommandCall};
 
     /// The whole answer to a command, with the named files at hand.
     ///
@@ -292,51 +256,7 @@ impl<I: Start> Core<I> {
         command: &Command,
         files: &Files,
     ) -> Result<Vec<u8>, RunFault>
-        ensures text { IfOk result (λ text. IsSound I.Listed self.old
-            → IsAnswer self.old.limits files.now self.old.book command.now text.items) }
-        ensures becomes { OnOk result (Becomes I.Listed self.old self.new
-            (book_then self.old.limits files.now self.old.book command.now)) }
-        ensures lives { OnOk result (self.new.failed ≡ false) }
-        // Be the database sound or not, an answer is what the pages that were met say, and a page that is named is
-        // one that was met and is not what it is to be there.
-        ensures says { IfOk result (λ text.
-            IsToldAnswer I.Listed self.old files.now command.now text.items) }
-        ensures named { IfErr result (NamesBy I.Listed self.old files.now command.now) }
-        ensures asks { OnOk result (AsksIn I.Listed self.old self.new command.now) }
-        ensures asks_known { OnOk result (AsksKnown I.Listed self.old self.new command.now) }
-        ensures learns { OnOk result (LearnsBy I.Listed self.old self.new command.now) }
-        ensures recalls { (Loads files.now command.now → ⊥)
-            → Recalls I.Listed self.old.index self.new.index }
-        ensures later { IsLater I.Listed self.old self.new }
-
-        // All but a `load` of a file that is there leave the book; where that load is refused, the
-        // database is failed.
-        ensures question { (Loads files.now command.now → ⊥)
-            → LeavesBook I.Listed self.old self.new }
-        ensures refused { OnErr result (self.new.failed ≡ false
-            → LeavesBook I.Listed self.old self.new) }
-        ensures failed { OnErr result (Loads files.now command.now → self.new.failed ≡ true) }
-        ensures full { IsErrOf result RunFault.StoreFull → Loads files.now command.now }
-        ensures stopped { IfErr result (IsStopped I.Listed self.old self.new) }
-
-        // An accepted file begins the database, and nothing else does.
-        ensures begins { OnOk result (Begins I.Listed self.old self.new
-            (AcceptsBy self.old.limits files.now self.old.book command.now)) }
-        ensures only { BeginsOnly I.Listed self.old self.new
-            (AcceptsBy self.old.limits files.now self.old.book command.now) }
-
-        // Be the database sound or not, a `load` of a file that is there is answered with counts,
-        // and begins it, or with a refusal that changes nothing; and only one of a file without a
-        // fault of its text, answered with counts, begins it.
-        ensures told_load { IfOk result (λ text. TellsLoadBy I.Listed files.now self.old self.new
-            command.now text.items) }
-        ensures whole { BeginsBy self.old self.new (LoadsWhole files.now command.now) }
-        ensures told { IfOk result (λ text. BeginsBy self.old self.new (IsCountsText text.items)) }
-        ensures pages { KeepsPages I.Listed self.old self.new }
-
-        // A failed database does nothing.
-        ensures was_failed { self.old.failed ≡ true → (result ≡ Err RunFault.Failed)
-            × (self.new ≡ self.old) }
+        ensures { CommandCall I.Listed files.now self.old self.new command.now result }
     {
         if self.failed {
             return Err(RunFault::Failed);
@@ -410,10 +330,11 @@ impl<I: Start> Core<I> {
     ghost use Rattle.trajdb.specs.Answers.{AcceptsLine};
     ghost use Rattle.trajdb.specs.Faults.{IsNotOutput};
     ghost use Rattle.trajdb.specs.Lines.{HasDone, HasCut, HasNotDone};
-    ghost use Rattle.trajdb.specs.Run.{AcceptsSome, FailsAt, StopsAt, Runs, Stops, IsCut};
+    ghost use Rattle.trajdb.specs.Run.{FailsAt, Runs};
     ghost use Rattle.trajdb.specs.Database.{IsSound};
-    ghost use Rattle.trajdb.specs.Calls.{Begins, BeginsBy, BeginsOnly, IsRunStop, IsLater, KeepsPages, LoadsWholeBy, LoadsWholeSome};
-    ghost use Rattle.trajdb.specs.Telling.{HasCutTold, HasNamed, HasTold, TellsCut, TellsRun, TellsStop};
+    ghost use Rattle.trajdb.specs.Calls.{Begins, BeginsBy, BeginsOnly, IsRunStop, IsLater, KeepsPages, LoadsWholeBy};
+    ghost use Rattle.trajdb.specs.Promises.{RunCall};
+    ghost use Rattle.trajdb.specs.Telling.{HasCutTold, HasNamed, HasTold};
 
     /// One line of a script: its answer goes to the output.
     fn line<W: Write>(
@@ -476,57 +397,8 @@ impl<I: Start> Core<I> {
         ensures ok { OnOk result (IsSound I.Listed self.old
             → Runs files.now (W.contents out.old) (W.contents out.new)
             self.old self.new (lines_of script.now)) }
-        ensures sound { OnOk result (IsSound I.Listed self.old → IsSound I.Listed self.new) }
-        ensures lives { OnOk result (self.new.failed ≡ false) }
-
-        // Be the database sound or not: what was sent is the answers to lines, one after another, each by what the
-        // pages say that were met, and a page that is named is one that the next line met and is not what it is to
-        // be there.
-        ensures says { OnOk result (TellsRun I.Listed files.now (W.contents out.old)
-            (W.contents out.new) self.old self.new (lines_of script.now)) }
-        ensures says_cut { IsErrOf result RunFault.Output → TellsCut I.Listed files.now
-            (W.contents out.old) (W.contents out.new) self.old self.new (lines_of script.now) }
-        ensures named { IfErr result (λ fault. IsNotOutput fault → self.old.failed ≡ false
-            → TellsStop I.Listed files.now (W.contents out.old) (W.contents out.new) self.old
-            self.new fault (lines_of script.now)) }
-
-        // Where the output fails.
-        ensures output { IsErrOf result RunFault.Output → IsSound I.Listed self.old
-            → IsCut files.now
-            (W.contents out.old) (W.contents out.new) self.old self.new (lines_of script.now) }
-        ensures cut_sound { IsErrOf result RunFault.Output → IsSound I.Listed self.old
-            → IsSound I.Listed self.new }
-        ensures cut_lives { IsErrOf result RunFault.Output → self.new.failed ≡ false }
-
-        // Where the run stops at a line.
-        ensures refused { IfErr result (λ e. IsNotOutput e → self.old.failed ≡ false
-            → IsSound I.Listed self.old
-            → Stops files.now (W.contents out.old) (W.contents out.new) self.old self.new
-            (lines_of script.now)) }
-        ensures kept { IfErr result (λ e. IsNotOutput e → self.new.failed ≡ false
-            → IsSound I.Listed self.old → IsSound I.Listed self.new) }
-        ensures stops { IfErr result (λ fault. IsNotOutput fault → self.old.failed ≡ false
-            → StopsAt files.now self.new.failed fault (lines_of script.now)) }
-        ensures full { IsErrOf result RunFault.StoreFull → self.new.failed ≡ true }
-        ensures stopped { IfErr result (IsRunStop I.Listed self.old self.new) }
-        ensures later { IsLater I.Listed self.old self.new }
-
-        // An accepted file begins the database, and nothing else does.
-        ensures begins { OnOk result (Begins I.Listed self.old self.new
-            (AcceptsSome self.old.limits files.now self.old.book (lines_of script.now))) }
-        ensures only { BeginsOnly I.Listed self.old self.new
-            (AcceptsSome self.old.limits files.now self.old.book (lines_of script.now)) }
-
-        // Be the database sound or not, only a line that is a `load` of a file without a fault of
-        // its text begins it.
-        ensures whole { BeginsBy self.old self.new
-            (LoadsWholeSome files.now (lines_of script.now)) }
-        ensures pages { KeepsPages I.Listed self.old self.new }
-
-        // A failed database does nothing.
-        ensures was_failed { self.old.failed ≡ true → (result ≡ Err RunFault.Failed)
-            × (self.new ≡ self.old) }
-        ensures was_failed_output { self.old.failed ≡ true → out.new ≡ out.old }
+        ensures call { RunCall I.Listed W.contents files.now out.old out.new self.old self.new
+            (lines_of script.now) result }
     {
         if self.failed {
             return Err(RunFault::Failed);

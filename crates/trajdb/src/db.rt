@@ -37,25 +37,18 @@ impl<S: PageStore> Model for Db<S> {
 }
 
 impl<S: PageStore> Db<S> {
-    ghost use Rattle.std.specs.Prelude.{◌≡◌, ◌<◌, ℕ, List, Some, IfOk, IfErr, IsErrOf, IsTrue, OnOk, OnErr, Err, true, false};
+    ghost use Rattle.std.specs.Prelude.{◌≡◌, ◌<◌, Some, IfOk, IfErr, IsTrue, OnOk, true, false};
     ghost use Rattle.pages.specs.Sealed.{sealed};
     ghost use Rattle.pages.specs.Store.{IsSynced, Keeps, Store, Writes};
     ghost use Rattle.boxsearch.specs.Index.{words};
     ghost use Rattle.catalogue.specs.Beginning.{IsLeft};
     ghost use Rattle.header.specs.Fields.{header_payload};
-    ghost use Rattle.legs.specs.Book.{Book, empty_book};
+    ghost use Rattle.legs.specs.Book.{empty_book};
     ghost use Rattle.trajdb.specs.Script.{lines_of};
-    ghost use Rattle.trajdb.specs.Answers.{AcceptsBy, IsAnswer, IsCountsText, book_then, book_with, load_of};
-    ghost use Rattle.trajdb.specs.Faults.{IsNotOutput};
-    ghost use Rattle.trajdb.specs.Run.{AcceptsSome, StopsAt, Runs, Stops, IsCut};
-    ghost use Rattle.trajdb.specs.Database.{FailsBy, IsRefused, IsTold, LoadGives, Becomes};
-    ghost use Rattle.legs.specs.Asking.{Recalls};
-    ghost use Rattle.trajdb.specs.Calls.{AsksIn, AsksKnown, LearnsBy, Begins, BeginsBy, BeginsOnly, IsBookOf, IsLater, IsLoadStop, IsRunStop, IsStopped, KeepsPages, LeavesBook, Loads, LoadsWhole, LoadsWholeSome, PutsFile, TellsLoadBy};
-    ghost use Rattle.trajdb.specs.Telling.{IsToldAnswer, NamesBy, TellsCut, TellsRun, TellsStop};
+    ghost use Rattle.trajdb.specs.Run.{Runs};
+    ghost use Rattle.trajdb.specs.Promises.{CommandCall, KeepsStore, LoadCall, RunCall};
     ghost use Rattle.trajdb.specs.Db.{HasPages, IsAllowed, IsCaused, IsSoundDb};
-    ghost use Rattle.trajdb.specs.Lasting.{IsIdle, IsSafe};
-    ghost use Rattle.trajdb.specs.declared.RunFault.{RunFault};
-    ghost use Rattle.trajdb.specs.declared.LoadFault.{LoadFault};
+    ghost use Rattle.trajdb.specs.Lasting.{IsSafe};
 
     /// A new database over an empty store, with no file accepted, whose cache holds at most that many pages, at least
     /// 1. Names are hashed with the keys, which a stranger who chooses the names of a file is not to know.
@@ -113,26 +106,8 @@ impl<S: PageStore> Db<S> {
     ///
     /// Where the database cannot tell, it is failed: it answers nothing any more.
     pub fn load(&mut self, alloc: Global, bytes: &[u8]) -> Result<Counts, LoadFault>
-        ensures counts { IsSoundDb self.old
-            → LoadGives result (load_of self.old.limits self.old.book bytes.now) }
-        ensures becomes { IsTold result
-            → Becomes words self.old self.new (book_with self.old.limits self.old.book bytes.now) }
-        ensures lives { IsTold result → self.new.failed ≡ false }
-        ensures failed { IfErr result (λ fault. FailsBy fault → self.new.failed ≡ true) }
-        ensures stopped { IfErr result (IsLoadStop words self.old self.new) }
-        ensures later { IsLater words self.old self.new }
-        ensures refused { IfErr result (λ fault. IsRefused fault → self.new ≡ self.old) }
-        ensures begun { OnOk result (self.new.begun ≡ true) }
-        ensures puts { IfOk result (PutsFile words self.old self.new bytes.now) }
-        ensures gives { (book : Book) → IsBookOf self.old book
-            → LoadGives result (load_of self.old.limits book bytes.now) }
-        ensures idle { OnErr result (self.new.begun ≡ self.old.begun) }
-        ensures pages { KeepsPages words self.old self.new }
-        ensures rests { IsIdle self.old → IsIdle self.new }
-        ensures safe { (was : Store) → IsSoundDb self.old → HasPages self.old → IsSafe was self.old
-            → IsSafe was self.new }
-        ensures was_failed { self.old.failed ≡ true
-            → (result ≡ Err (LoadFault.Run RunFault.Failed)) × (self.new ≡ self.old) }
+        ensures call { LoadCall words self.old self.new bytes.now result }
+        ensures keeps { KeepsStore self.old self.new }
     {
         catalogue::laws();
         self.core.load(alloc, bytes)
@@ -147,54 +122,8 @@ impl<S: PageStore> Db<S> {
         command: &Command,
         files: &Files,
     ) -> Result<Vec<u8>, RunFault>
-        ensures text { IfOk result (λ text. IsSoundDb self.old
-            → IsAnswer self.old.limits files.now self.old.book command.now text.items) }
-        ensures becomes { OnOk result (Becomes words self.old self.new
-            (book_then self.old.limits files.now self.old.book command.now)) }
-        ensures lives { OnOk result (self.new.failed ≡ false) }
-
-        // Be the database sound or not, an answer is what the pages that were met say, and a page
-        // that is named is one that was met and is not what it is to be there.
-        ensures says { IfOk result (λ text.
-            IsToldAnswer words self.old files.now command.now text.items) }
-        ensures named { IfErr result (NamesBy words self.old files.now command.now) }
-        ensures asks { OnOk result (AsksIn words self.old self.new command.now) }
-        ensures asks_known { OnOk result (AsksKnown words self.old self.new command.now) }
-        ensures learns { OnOk result (LearnsBy words self.old self.new command.now) }
-        ensures recalls { (Loads files.now command.now → ⊥)
-            → Recalls words self.old.index self.new.index }
-        ensures later { IsLater words self.old self.new }
-
-        // All but a `load` of a file that is there leave the book; where that load is refused, the
-        // database is failed.
-        ensures question { (Loads files.now command.now → ⊥) → LeavesBook words self.old self.new }
-        ensures refused { OnErr result (self.new.failed ≡ false
-            → LeavesBook words self.old self.new) }
-        ensures failed { OnErr result (Loads files.now command.now → self.new.failed ≡ true) }
-        ensures full { IsErrOf result RunFault.StoreFull → Loads files.now command.now }
-        ensures stopped { IfErr result (IsStopped words self.old self.new) }
-
-        // An accepted file begins the database, and nothing else does.
-        ensures begins { OnOk result (Begins words self.old self.new
-            (AcceptsBy self.old.limits files.now self.old.book command.now)) }
-        ensures only { BeginsOnly words self.old self.new
-            (AcceptsBy self.old.limits files.now self.old.book command.now) }
-
-        // Be the database sound or not, a `load` of a file that is there is answered with counts,
-        // and begins it, or with a refusal that changes nothing; and only one of a file without a
-        // fault of its text, answered with counts, begins it.
-        ensures told_load { IfOk result (λ text. TellsLoadBy words files.now self.old self.new
-            command.now text.items) }
-        ensures whole { BeginsBy self.old self.new (LoadsWhole files.now command.now) }
-        ensures told { IfOk result (λ text. BeginsBy self.old self.new (IsCountsText text.items)) }
-        ensures pages { KeepsPages words self.old self.new }
-        ensures rests { IsIdle self.old → IsIdle self.new }
-        ensures safe { (was : Store) → IsSoundDb self.old → HasPages self.old → IsSafe was self.old
-            → IsSafe was self.new }
-
-        // A failed database does nothing.
-        ensures was_failed { self.old.failed ≡ true → (result ≡ Err RunFault.Failed)
-            × (self.new ≡ self.old) }
+        ensures call { CommandCall words files.now self.old self.new command.now result }
+        ensures keeps { KeepsStore self.old self.new }
     {
         catalogue::laws();
         self.core.command(alloc, command, files)
@@ -212,60 +141,9 @@ impl<S: PageStore> Db<S> {
         ensures ok { OnOk result (IsSoundDb self.old
             → Runs files.now (W.contents out.old) (W.contents out.new)
             self.old self.new (lines_of script.now)) }
-        ensures sound { OnOk result (IsSoundDb self.old → IsSoundDb self.new) }
-        ensures lives { OnOk result (self.new.failed ≡ false) }
-
-        // Be the database sound or not: what was sent is the answers to lines, one after another,
-        // each by what the pages say that were met, and a page that is named is one that the next
-        // line met and is not what it is to be there.
-        ensures says { OnOk result (TellsRun words files.now (W.contents out.old)
-            (W.contents out.new) self.old self.new (lines_of script.now)) }
-        ensures says_cut { IsErrOf result RunFault.Output → TellsCut words files.now
-            (W.contents out.old) (W.contents out.new) self.old self.new (lines_of script.now) }
-        ensures named { IfErr result (λ fault. IsNotOutput fault → self.old.failed ≡ false
-            → TellsStop words files.now (W.contents out.old) (W.contents out.new) self.old self.new
-            fault (lines_of script.now)) }
-
-        // Where the output fails.
-        ensures output { IsErrOf result RunFault.Output → IsSoundDb self.old → IsCut files.now
-            (W.contents out.old) (W.contents out.new) self.old self.new (lines_of script.now) }
-        ensures cut_sound { IsErrOf result RunFault.Output → IsSoundDb self.old
-            → IsSoundDb self.new }
-        ensures cut_lives { IsErrOf result RunFault.Output → self.new.failed ≡ false }
-
-        // Where the run stops at a line.
-        ensures refused { IfErr result (λ e. IsNotOutput e → self.old.failed ≡ false
-            → IsSoundDb self.old
-            → Stops files.now (W.contents out.old) (W.contents out.new) self.old self.new
-            (lines_of script.now)) }
-        ensures kept { IfErr result
-            (λ e. IsNotOutput e → self.new.failed ≡ false → IsSoundDb self.old
-            → IsSoundDb self.new) }
-        ensures stops { IfErr result (λ fault. IsNotOutput fault → self.old.failed ≡ false
-            → StopsAt files.now self.new.failed fault (lines_of script.now)) }
-        ensures full { IsErrOf result RunFault.StoreFull → self.new.failed ≡ true }
-        ensures stopped { IfErr result (IsRunStop words self.old self.new) }
-        ensures later { IsLater words self.old self.new }
-
-        // An accepted file begins the database, and nothing else does.
-        ensures begins { OnOk result (Begins words self.old self.new
-            (AcceptsSome self.old.limits files.now self.old.book (lines_of script.now))) }
-        ensures only { BeginsOnly words self.old self.new
-            (AcceptsSome self.old.limits files.now self.old.book (lines_of script.now)) }
-
-        // Be the database sound or not, only a line that is a `load` of a file without a fault of
-        // its text begins it.
-        ensures whole { BeginsBy self.old self.new
-            (LoadsWholeSome files.now (lines_of script.now)) }
-        ensures pages { KeepsPages words self.old self.new }
-        ensures rests { IsIdle self.old → IsIdle self.new }
-        ensures safe { (was : Store) → IsSoundDb self.old → HasPages self.old → IsSafe was self.old
-            → IsSafe was self.new }
-
-        // A failed database does nothing.
-        ensures was_failed { self.old.failed ≡ true → (result ≡ Err RunFault.Failed)
-            × (self.new ≡ self.old) }
-        ensures was_failed_output { self.old.failed ≡ true → out.new ≡ out.old }
+        ensures call { RunCall words W.contents files.now out.old out.new self.old self.new
+            (lines_of script.now) result }
+        ensures keeps { KeepsStore self.old self.new }
     {
         catalogue::laws();
         self.core.run(alloc, script, files, out)

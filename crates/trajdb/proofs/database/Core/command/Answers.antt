@@ -1,26 +1,84 @@
-use Rattle.std.proofs.Common.{Result, Ok, Err}
+use Rattle.std.proofs.Common.{rules, Result, Ok, Err}
 use Rattle.std.specs.Prelude.{OnOk}
 use Rattle.trajdb.proofs.database.Core.command.Goals as goal
 
-pub returns-in-Trajectory-clause-text : goal.returns-in-Trajectory-clause-text
-returns-in-Trajectory-clause-text g c = rw (c.in-Trajectory.is, ← c.as_str-in-Trajectory.ensures) c.track_text.ensures.text
+pub returns-in-Some : goal.returns-in-Some
+returns-in-Some g c = record {
+  text = search rules;
+  becomes = search rules;
+  lives = search rules;
+  says = search rules;
+  named = search rules;
+  asks = search rules;
+  asks_known = search rules;
+  learns = search rules;
+  recalls = search rules;
+  later = search rules;
+  question = search rules;
+  refused = search rules;
+  failed = search rules;
+  full = search rules;
+  stopped = search rules;
+  begins = search rules;
+  only = search rules;
+  told_load = search rules;
+  whole = search rules;
+  told = search rules;
+  pages = search rules;
+  was_failed = search rules;
+}
 
-pub returns-in-Trajectory-clause-asks : goal.returns-in-Trajectory-clause-asks
-returns-in-Trajectory-clause-asks g c = rw (c.in-Trajectory.is, ← c.as_str-in-Trajectory.ensures) c.track_text.ensures.asks
+pub returns-in-Features : goal.returns-in-Features
+returns-in-Features g c = rw (c.in-Features.is) (record {
+  text = c.features_text.ensures.text;
+  becomes = search rules;
+  lives = search rules;
+  says = c.features_text.ensures.says;
+  named = c.features_text.ensures.named;
+  asks = c.features_text.ensures.asks;
+  asks_known = c.features_text.ensures.asks_known;
+  learns = c.features_text.ensures.learns;
+  recalls = λ _. c.features_text.ensures.recalls;
+  later = search rules;
+  question = λ _. c.features_text.ensures.leaves;
+  refused = search rules;
+  failed = search rules;
+  full = search rules;
+  stopped = search rules;
+  begins = search rules;
+  only = search rules;
+  told_load = search rules;
+  whole = search rules;
+  told = search rules;
+  pages = search rules;
+  was_failed = search rules;
+})
 
-pub returns-in-Trajectory-clause-says : goal.returns-in-Trajectory-clause-says
-returns-in-Trajectory-clause-says g c = rw (c.in-Trajectory.is, ← c.as_str-in-Trajectory.ensures) c.track_text.ensures.says
-
-pub returns-in-Trajectory-clause-named : goal.returns-in-Trajectory-clause-named
-returns-in-Trajectory-clause-named g c = rw (c.in-Trajectory.is, ← c.as_str-in-Trajectory.ensures) c.track_text.ensures.named
-
-pub returns-in-Features-clause-asks_known : goal.returns-in-Features-clause-asks_known
-returns-in-Features-clause-asks_known g c = rw (c.in-Features.is) c.features_text.ensures.asks_known
-
-pub returns-in-Trajectory-clause-learns : goal.returns-in-Trajectory-clause-learns
-returns-in-Trajectory-clause-learns g c =
-    rw (c.in-Trajectory.is, ← c.as_str-in-Trajectory.ensures)
-    (on_ok c.track_text.result (λ learns sound. learns sound.tracks.lawful.few_names) c.track_text.ensures.learns) where
-      on_ok : {T E : Type 0} {P Q : Type 0} (r : Result T E) → (P → Q) → OnOk r P → OnOk r Q
-      on_ok (Ok x) f p = f p
-      on_ok (Err e) f p = tt
+pub returns-in-Trajectory : goal.returns-in-Trajectory
+returns-in-Trajectory g c = rw (c.in-Trajectory.is, ← c.as_str-in-Trajectory.ensures) (record {
+  text = c.track_text.ensures.text;
+  becomes = search rules;
+  lives = search rules;
+  says = c.track_text.ensures.says;
+  named = c.track_text.ensures.named;
+  asks = c.track_text.ensures.asks;
+  asks_known = search rules;
+  learns = on_ok c.track_text.result (λ learns sound. learns sound.tracks.lawful.few_names) c.track_text.ensures.learns;
+  recalls = λ _. c.track_text.ensures.recalls;
+  later = search rules;
+  question = λ _. c.track_text.ensures.leaves;
+  refused = search rules;
+  failed = search rules;
+  full = search rules;
+  stopped = search rules;
+  begins = search rules;
+  only = search rules;
+  told_load = search rules;
+  whole = search rules;
+  told = search rules;
+  pages = search rules;
+  was_failed = search rules;
+}) where
+  on_ok : {T E : Type 0} {P Q : Type 0} (r : Result T E) → (P → Q) → OnOk r P → OnOk r Q
+  on_ok (Ok x) f p = f p
+  on_ok (Err e) f p = tt

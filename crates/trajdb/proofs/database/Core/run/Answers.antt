@@ -1,4 +1,4 @@
-use Rattle.std.proofs.Common.{inl, ◌≡◌, ◌+◌, ◌∙◌, ap, refl, sym, subst, true}
+use Rattle.std.proofs.Common.{rules, inl, ◌≡◌, ◌+◌, ◌∙◌, ap, refl, sym, subst, true}
 use Rattle.std.specs.Prelude.{◌⊎◌, ◌↔◌}
 use Rattle.trajdb.specs.Answers.{AcceptsLine}
 use Rattle.trajdb.specs.Script.{lines_of}
@@ -7,17 +7,12 @@ use Rattle.trajdb.specs.Database.{CoreView}
 use Rattle.trajdb.specs.Lines.{HasDone, HasCut}
 use Rattle.trajdb.proofs.FaultLemmas.{later-refl, later-trans}
 use Rattle.trajdb.proofs.PageLemmas.{keeps-refl, keeps-trans}
-use Rattle.trajdb.proofs.RunLemmas.{whole_more, left_more, left_stops, begun_end, begun_more, begun_only, begun_start, at_start, at_more, at_cut, at_end, at_unflushed, next_line, nil_from_length}
+use Rattle.trajdb.proofs.RunLemmas.{whole_more, left_more, left_stops, begun_end, begun_more, begun_only, begun_start, at_start, at_more, at_cut, at_refused, at_end, at_unflushed, next_line, nil_from_length}
 use Rattle.trajdb.proofs.TracedLemmas.{traced_start, traced_more, traced_cut, traced_stop, traced_end, traced_unflushed}
 use Rattle.trajdb.proofs.database.Core.run.Goals as goal
 
-pub returns-in-Err-clause-output : goal.returns-in-Err-clause-output
-returns-in-Err-clause-output g c = λ is sound.
-    let at = c.loop-rest.invariant.at sound in
-    let next = next_line c.loop-rest.rest.now c.first_piece.result.0.now c.first_piece.result.1.now c.without_return.result.now c.first_piece.ensures.pieces c.without_return.ensures in
-    let cut = subst (λ (limits : LimitsView). HasCut limits c.args.files.now (g.W.Write.contents c.loop-rest.out) (g.W.Write.contents c.line.new.out)
-    c.loop-rest.self.book c.line.new.self.book c.without_return.result.now) c.loop-rest.invariant.later.limits (c.in-Err.ensures.cut is at.0) in
-    at_cut _ _ _ _ _ _ _ _ _ _ _ _ _ at.2 next cut
+pub loop-rest-init : goal.loop-rest-init
+loop-rest-init g c = record { lives = ap (λ (v : CoreView g.row.I.Denot). v.failed) (sym c.self.view_is) ∙ c.if-self.false; later = later-refl g.I.Listed _; pages = keeps-refl g.I.Listed _; whole = λ b. inl b; left = (0, refl); traced = (0, traced_start g.I.Listed c.args.files.now _ _ _); at = λ sound. (sound, 0, at_start _ _ _ _ _, begun_start c.args.self.now.limits c.args.files.now c.args.self.now.book (lines_of c.args.script.now) c.args.self.now.begun) }
 
 pub loop-rest-preserved : goal.loop-rest-preserved
 loop-rest-preserved g c = record {
@@ -51,76 +46,102 @@ returns-in-Ok-flush-clause-ok g c = λ sound.
     let at = c.loop-rest.invariant.at sound in
     at_end _ _ _ _ _ _ _ _ _ _ at.2 (nil_from_length c.loop-rest.rest.now (sym c.is_empty.ensures ∙ c.loop-rest-test.false)) c.in-Ok-flush.ensures.bytes
 
-pub returns-in-Err-flush-clause-output : goal.returns-in-Err-flush-clause-output
-returns-in-Err-flush-clause-output g c = λ is sound.
-    let at = c.loop-rest.invariant.at sound in
-    at_unflushed _ _ _ _ _ _ _ _ _ _ at.2 c.in-Err-flush.ensures.bytes
-
-pub loop-rest-init : goal.loop-rest-init
-loop-rest-init g c = record { lives = ap (λ (v : CoreView g.row.I.Denot). v.failed) (sym c.self.view_is) ∙ c.if-self.false; later = later-refl g.I.Listed _; pages = keeps-refl g.I.Listed _; whole = λ b. inl b; left = (0, refl); traced = (0, traced_start g.I.Listed c.args.files.now _ _ _); at = λ sound. (sound, 0, at_start _ _ _ _ _, begun_start c.args.self.now.limits c.args.files.now c.args.self.now.book (lines_of c.args.script.now) c.args.self.now.begun) }
-
-pub returns-in-Err-clause-pages : goal.returns-in-Err-clause-pages
-returns-in-Err-clause-pages g c = keeps-trans g.I.Listed c.args.self.now c.loop-rest.self c.line.new.self c.loop-rest.invariant.lives (λ s. (c.loop-rest.invariant.at s).0) c.loop-rest.invariant.pages c.line.ensures.pages
-
-pub returns-in-Ok-flush-clause-pages : goal.returns-in-Ok-flush-clause-pages
-returns-in-Ok-flush-clause-pages g c = c.loop-rest.invariant.pages
-
-pub returns-in-Err-flush-clause-pages : goal.returns-in-Err-flush-clause-pages
-returns-in-Err-flush-clause-pages g c = c.loop-rest.invariant.pages
-
-pub returns-in-Err-clause-only : goal.returns-in-Err-clause-only
-returns-in-Err-clause-only g c = λ sound.
-    let at = c.loop-rest.invariant.at sound in
-    let next = next_line c.loop-rest.rest.now c.first_piece.result.0.now c.first_piece.result.1.now c.without_return.result.now c.first_piece.ensures.pieces c.without_return.ensures in
-    let only = subst (λ (limits : LimitsView). c.line.new.self.begun ≡ true → (c.loop-rest.self.begun ≡ true) ⊎ AcceptsLine limits c.args.files.now c.loop-rest.self.book c.without_return.result.now)
-    c.loop-rest.invariant.later.limits (c.in-Err.ensures.only at.0) in
-    begun_only _ _ _ _ _ _ _ _ _ _ _ at.2 next _ _ _ at.3 only
-
-pub returns-in-Ok-flush-clause-begins : goal.returns-in-Ok-flush-clause-begins
-returns-in-Ok-flush-clause-begins g c = λ sound.
-    let at = c.loop-rest.invariant.at sound in
-    begun_end _ _ _ _ _ _ _ _ _ _ _ at.2 (nil_from_length c.loop-rest.rest.now (sym c.is_empty.ensures ∙ c.loop-rest-test.false)) at.3
-
-pub returns-in-Ok-flush-clause-only : goal.returns-in-Ok-flush-clause-only
-returns-in-Ok-flush-clause-only g c = λ sound.
-    let at = c.loop-rest.invariant.at sound in
-    (begun_end _ _ _ _ _ _ _ _ _ _ _ at.2 (nil_from_length c.loop-rest.rest.now (sym c.is_empty.ensures ∙ c.loop-rest-test.false)) at.3).0
-
-pub returns-in-Err-flush-clause-only : goal.returns-in-Err-flush-clause-only
-returns-in-Err-flush-clause-only g c = λ sound.
-    let at = c.loop-rest.invariant.at sound in
-    (begun_end _ _ _ _ _ _ _ _ _ _ _ at.2 (nil_from_length c.loop-rest.rest.now (sym c.is_empty.ensures ∙ c.loop-rest-test.false)) at.3).0
-
-pub returns-in-Err-clause-stops : goal.returns-in-Err-clause-stops
-returns-in-Err-clause-stops g c = λ inside lives.
+pub returns-in-Err-clause-call : goal.returns-in-Err-clause-call
+returns-in-Err-clause-call g c =
     let left = c.loop-rest.invariant.left in
-    let next = next_line c.loop-rest.rest.now c.first_piece.result.0.now c.first_piece.result.1.now c.without_return.result.now c.first_piece.ensures.pieces c.without_return.ensures in
-    left_stops _ _ _ _ _ _ _ left.0 left.1 next (c.in-Err.ensures.fails inside)
-
-pub returns-in-Err-clause-whole : goal.returns-in-Err-clause-whole
-returns-in-Err-clause-whole g c =
-    let left = c.loop-rest.invariant.left in
-    let next = next_line c.loop-rest.rest.now c.first_piece.result.0.now c.first_piece.result.1.now c.without_return.result.now c.first_piece.ensures.pieces c.without_return.ensures in
-    whole_more _ _ _ _ _ left.0 left.1 next _ _ _ c.loop-rest.invariant.whole c.line.ensures.whole
-
-pub returns-in-Err-clause-says_cut : goal.returns-in-Err-clause-says_cut
-returns-in-Err-clause-says_cut g c = λ is.
     let traced = c.loop-rest.invariant.traced in
     let next = next_line c.loop-rest.rest.now c.first_piece.result.0.now c.first_piece.result.1.now c.without_return.result.now c.first_piece.ensures.pieces c.without_return.ensures in
-    traced_cut g.I.Listed c.args.files.now _ _ _ _ _ _ _ _ _ _ traced.0 traced.1 next (c.in-Err.ensures.says_cut is)
+    record {
+      sound = tt;
+      lives = tt;
+      says = tt;
+      says_cut = λ is. traced_cut g.I.Listed c.args.files.now _ _ _ _ _ _ _ _ _ _ traced.0 traced.1 next (c.in-Err.ensures.says_cut is);
+      named = λ inside lives. traced_stop g.I.Listed c.args.files.now _ _ _ _ _ c.line.new.self _ _ _ _ traced.0 traced.1 next c.in-Err.fault (c.in-Err.ensures.named inside);
+      output = λ is sound.
+          let at = c.loop-rest.invariant.at sound in
+          let cut = subst (λ (limits : LimitsView). HasCut limits c.args.files.now (g.W.Write.contents c.loop-rest.out) (g.W.Write.contents c.line.new.out)
+          c.loop-rest.self.book c.line.new.self.book c.without_return.result.now) c.loop-rest.invariant.later.limits (c.in-Err.ensures.cut is at.0) in
+          at_cut _ _ _ _ _ _ _ _ _ _ _ _ _ at.2 next cut;
+      cut_sound = search rules;
+      cut_lives = search rules;
+      refused = λ inside lives sound.
+          let at = c.loop-rest.invariant.at sound in
+          at_refused _ _ _ _ _ _ _ _ _ _ _ _ _ _ at.2 next (c.in-Err.ensures.refused inside at.0);
+      kept = search rules;
+      stops = λ inside lives. left_stops _ _ _ _ _ _ _ left.0 left.1 next (c.in-Err.ensures.fails inside);
+      full = search rules;
+      stopped = search rules;
+      later = search rules;
+      begins = tt;
+      only = λ sound.
+          let at = c.loop-rest.invariant.at sound in
+          let only = subst (λ (limits : LimitsView). c.line.new.self.begun ≡ true → (c.loop-rest.self.begun ≡ true) ⊎ AcceptsLine limits c.args.files.now c.loop-rest.self.book c.without_return.result.now)
+          c.loop-rest.invariant.later.limits (c.in-Err.ensures.only at.0) in
+          begun_only _ _ _ _ _ _ _ _ _ _ _ at.2 next _ _ _ at.3 only;
+      whole = whole_more _ _ _ _ _ left.0 left.1 next _ _ _ c.loop-rest.invariant.whole c.line.ensures.whole;
+      pages = keeps-trans g.I.Listed c.args.self.now c.loop-rest.self c.line.new.self c.loop-rest.invariant.lives (λ s. (c.loop-rest.invariant.at s).0) c.loop-rest.invariant.pages c.line.ensures.pages;
+      was_failed = search rules;
+      was_failed_output = search rules;
+    }
 
-pub returns-in-Err-clause-named : goal.returns-in-Err-clause-named
-returns-in-Err-clause-named g c = λ inside lives.
+pub returns-in-Ok-flush-clause-call : goal.returns-in-Ok-flush-clause-call
+returns-in-Ok-flush-clause-call g c =
     let traced = c.loop-rest.invariant.traced in
-    let next = next_line c.loop-rest.rest.now c.first_piece.result.0.now c.first_piece.result.1.now c.without_return.result.now c.first_piece.ensures.pieces c.without_return.ensures in
-    traced_stop g.I.Listed c.args.files.now _ _ _ _ _ c.line.new.self _ _ _ _ traced.0 traced.1 next c.in-Err.fault (c.in-Err.ensures.named inside)
+    let ended = nil_from_length c.loop-rest.rest.now (sym c.is_empty.ensures ∙ c.loop-rest-test.false) in
+    record {
+      sound = search rules;
+      lives = search rules;
+      says = traced_end g.I.Listed c.args.files.now _ _ _ _ _ _ _ traced.0 traced.1 ended c.in-Ok-flush.ensures.bytes;
+      says_cut = search rules;
+      named = tt;
+      output = search rules;
+      cut_sound = search rules;
+      cut_lives = search rules;
+      refused = tt;
+      kept = tt;
+      stops = tt;
+      full = search rules;
+      stopped = tt;
+      later = search rules;
+      begins = λ sound.
+          let at = c.loop-rest.invariant.at sound in
+          begun_end _ _ _ _ _ _ _ _ _ _ _ at.2 ended at.3;
+      only = λ sound.
+          let at = c.loop-rest.invariant.at sound in
+          (begun_end _ _ _ _ _ _ _ _ _ _ _ at.2 ended at.3).0;
+      whole = search rules;
+      pages = c.loop-rest.invariant.pages;
+      was_failed = search rules;
+      was_failed_output = search rules;
+    }
 
-pub returns-in-Ok-flush-clause-says : goal.returns-in-Ok-flush-clause-says
-returns-in-Ok-flush-clause-says g c =
+pub returns-in-Err-flush-clause-call : goal.returns-in-Err-flush-clause-call
+returns-in-Err-flush-clause-call g c =
     let traced = c.loop-rest.invariant.traced in
-    traced_end g.I.Listed c.args.files.now _ _ _ _ _ _ _ traced.0 traced.1 (nil_from_length c.loop-rest.rest.now (sym c.is_empty.ensures ∙ c.loop-rest-test.false)) c.in-Ok-flush.ensures.bytes
-
-pub returns-in-Err-flush-clause-says_cut : goal.returns-in-Err-flush-clause-says_cut
-returns-in-Err-flush-clause-says_cut g c = λ is.
-    let traced = c.loop-rest.invariant.traced in
-    traced_unflushed g.I.Listed c.args.files.now _ _ _ _ _ _ _ traced.0 traced.1 c.in-Err-flush.ensures.bytes
+    let ended = nil_from_length c.loop-rest.rest.now (sym c.is_empty.ensures ∙ c.loop-rest-test.false) in
+    record {
+      sound = tt;
+      lives = tt;
+      says = tt;
+      says_cut = λ is. traced_unflushed g.I.Listed c.args.files.now _ _ _ _ _ _ _ traced.0 traced.1 c.in-Err-flush.ensures.bytes;
+      named = search rules;
+      output = λ is sound.
+          let at = c.loop-rest.invariant.at sound in
+          at_unflushed _ _ _ _ _ _ _ _ _ _ at.2 c.in-Err-flush.ensures.bytes;
+      cut_sound = search rules;
+      cut_lives = search rules;
+      refused = search rules;
+      kept = search rules;
+      stops = search rules;
+      full = search rules;
+      stopped = tt;
+      later = search rules;
+      begins = tt;
+      only = λ sound.
+          let at = c.loop-rest.invariant.at sound in
+          (begun_end _ _ _ _ _ _ _ _ _ _ _ at.2 ended at.3).0;
+      whole = search rules;
+      pages = c.loop-rest.invariant.pages;
+      was_failed = search rules;
+      was_failed_output = search rules;
+    }

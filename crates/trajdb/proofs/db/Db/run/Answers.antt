@@ -2,14 +2,11 @@ use Rattle.trajdb.proofs.LastingLemmas.{keeps_idle}
 use Rattle.trajdb.proofs.SafeLemmas.{keeps_safe}
 use Rattle.trajdb.proofs.db.Db.run.Goals as goal
 
-pub returns-clause-refused : goal.returns-clause-refused
-returns-clause-refused g c = rw (← c.self.view_is) c.run.ensures.refused
+pub returns-clause-call : goal.returns-clause-call
+returns-clause-call g c = rw (← c.self.view_is) c.run.ensures.call
 
-pub returns-clause-rests : goal.returns-clause-rests
-returns-clause-rests g c = rw (← c.self.view_is) (keeps_idle c.laws.ensures.rests _ _ c.run.ensures.pages)
-
-pub returns-clause-begins : goal.returns-clause-begins
-returns-clause-begins g c = rw (← c.self.view_is) c.run.ensures.begins
-
-pub returns-clause-safe : goal.returns-clause-safe
-returns-clause-safe g c = rw (← c.self.view_is) (keeps_safe _ _ c.run.ensures.pages c.run.ensures.later.index.faults (λ failed. (c.run.ensures.was_failed failed).1))
+pub returns-clause-keeps : goal.returns-clause-keeps
+returns-clause-keeps g c = record {
+  rests = rw (← c.self.view_is) (keeps_idle c.laws.ensures.rests _ _ c.run.ensures.call.pages);
+  safe = rw (← c.self.view_is) (keeps_safe _ _ c.run.ensures.call.pages c.run.ensures.call.later.index.faults (λ failed. (c.run.ensures.call.was_failed failed).1));
+}
