@@ -438,7 +438,8 @@ pub fn insert<S: PageStore>(
     ensures shape { tree.new.shape ≡ tree.old.shape }
 
     // Over any faithful pages: the place's last leaf has the leg at its end, where it had room, and else a leaf of the leg
-    // alone is made behind it; each other leaf is as it was, and the tree's content has each leg that it had, and the leg.
+    // alone is made behind it; each other leaf is as it was. By each test of boxes the way down finds each leg that it
+    // found, and the leg where its box meets; only pages that are made become entries.
     ensures fills { IsTrue cache.old.store.is_faithful → OnOk result
         (FillsLeaves tree.old.shape.leaf (pages_of_cache cache.old) (pages_of_cache cache.new)
         tree.old.leaves tree.new.leaves place.old place.new (leg ∷ [])
