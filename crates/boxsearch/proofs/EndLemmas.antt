@@ -27,9 +27,10 @@ use Rattle.tbtree.proofs.Still.{still}
 use Rattle.boxsearch.specs.Answers.{answered, of_tree}
 use Rattle.boxsearch.specs.Index.{IndexView, finds, found_by, place_of, words, with_place}
 use Rattle.boxsearch.specs.Putting.{FillsSome, Puts, PutsAll}
-use Rattle.boxsearch.specs.Telling.{TellsTrack}
+use Rattle.boxsearch.specs.Telling.{DeniesTrack, TellsTrack}
 use Rattle.boxsearch.proofs.AddLemmas.{made}
-use Rattle.boxsearch.proofs.TrackGrowth.{all_of_one, made_was, none_of_other, other_track, own_track}
+use Rattle.boxsearch.proofs.TrackGrowth.{all_of_one, denied_alike, made_was, none_of_other, own_track, told_alike}
+use Rattle.chains.proofs.ChainGrowth.{others_alike, AreAlike}
 use Rattle.boxsearch.proofs.PlaceLemmas.{get-set_same, get-set_other, push_last, push_other}
 
 -- the last of some legs is among those of the last leaf
@@ -152,11 +153,24 @@ module _ (old new : IndexView) (feature : ℕ) (legs : List LegView) (was is : P
         (subst (λ o. TellsTrack nodes' old.tree.shape None feature o (told ++ legs_of feature legs)) (sym place_of_own)
         (subst (λ l. TellsTrack nodes' old.tree.shape None feature (Some is) (told ++ l)) (sym (all_of_one feature legs one)) mine)))
         (λ (u : f ≢ feature).
-        let theirs = other_track nodes nodes' feature old.tree.leaves new.tree.leaves old.tree.shape least was is legs some f_of.0 f_of.1 one f u (slice_get old.places f) told before in
+        let theirs = told_alike nodes nodes' old.tree.shape None f (slice_get old.places f) told (others_alike nodes nodes' feature old.tree.leaves new.tree.leaves old.tree.shape least was is legs some f_of.0 f_of.1 one f u) before in
         subst (λ o. TellsTrack nodes' old.tree.shape None f o (told ++ legs_of f legs)) (sym (place_of_other f u))
         (subst (λ l. TellsTrack nodes' old.tree.shape None f (slice_get old.places f) l) (sym (append-nil told) ∙ ap (λ l. told ++ l) (sym (none_of_other feature f u legs one))) theirs))
         (cases_eq f feature) in
         subst (λ s. TellsTrack nodes' s None f (slice_get new.places f) (told ++ legs_of f legs)) (sym shape) after;
+    rests = λ f period e.
+        let u = other_feature legs some one f (last_absent f legs e) in
+        let alike : IsTrue new.cache.store.is_faithful → AreAlike (pages_of_cache old.cache) (pages_of_cache new.cache) f = λ fa.
+        let f_of = fills (was_faithful fa) in
+        others_alike (pages_of_cache old.cache) (pages_of_cache new.cache) feature old.tree.leaves new.tree.leaves old.tree.shape (f_of.1.least some) was is legs some f_of.0 f_of.1 one f u in
+        record {
+          told = λ l h fa. subst (λ s. TellsTrack (pages_of_cache new.cache) s period f (slice_get new.places f) l) (sym shape)
+              (subst (λ o. TellsTrack (pages_of_cache new.cache) old.tree.shape period f o l) (sym (place_of_other f u))
+              (told_alike (pages_of_cache old.cache) (pages_of_cache new.cache) old.tree.shape period f (slice_get old.places f) l (alike fa) (h (was_faithful fa))));
+          denied = λ n h fa. subst (λ s. DeniesTrack (pages_of_cache new.cache) s period f (slice_get new.places f) n) (sym shape)
+              (subst (λ o. DeniesTrack (pages_of_cache new.cache) old.tree.shape period f o n) (sym (place_of_other f u))
+              (denied_alike (pages_of_cache old.cache) (pages_of_cache new.cache) old.tree.shape period f (slice_get old.places f) n (alike fa) (h (was_faithful fa))));
+        };
     counted = λ few. counted ∙ omega (arith, few);
     works = works;
     plan = ap Some shape;

@@ -96,7 +96,7 @@ module _ (old : IndexView) (c : Cache) (known : List (List LeafSpan)) (r : OnlyR
     sound = still_sound;
     spent = refl;
     found_by = refl;
-    later = record { plan = refl; faults = r.store.faults; asked = (let a = r.asked in omega (arith, clamps, a)) };
+    later = record { plan = refl; faults = r.store.faults; asked = (let a = r.asked in omega (arith, clamps, a)); faithful = λ fa. r.store.faithful ∙ fa };
     clean = λ h n. r.changed n (h n);
     marked = still_marked;
     written = same_written;

@@ -26,6 +26,7 @@ pub mod KnowsLemmas
 pub mod RunCounts
 pub mod RunLemmas
 pub mod TrackGrowth
+pub mod BesideTells
 pub mod EndLemmas
 pub mod EndedLemmas
 pub mod TurnLasts

@@ -23,7 +23,7 @@ use Rattle.boxsearch.specs.Marking.{Marks, IsNotMarked}
 use Rattle.pages.specs.declared.payload.Payload.{Payload}
 use Rattle.std.specs.List.{Contains}
 use Rattle.tbtree.proofs.Still.{still}
-use Rattle.boxsearch.proofs.TrackGrowth.{told_beside}
+use Rattle.boxsearch.proofs.BesideTells.{denies_beside, tells_beside}
 use Rattle.boxsearch.proofs.PlaceLemmas.{some_none}
 use Rattle.boxsearch.proofs.AnswerLemmas.{each_fault, each_value, the_fault, Said}
 use Rattle.chains.specs.declared.spans.LeafSpan.{LeafSpan}
@@ -108,13 +108,18 @@ module _ (laws : FirstLaws) (old : IndexView) (c : Cache) (known : List (List Le
   written_is : (i : IndexView) → IsTrue i.cache.store.is_faithful → written i ≡ pages_as_written i.cache
   written_is i f = ap (λ b. cond b (pages_as_written i.cache) []) f
 
-  pub starts : (r : Result (Unit {0}) CacheFault) → OnOk r (IsTrue old.cache.store.is_faithful → 0 < old.cache.count → IsMarked c)
+  pub starts : (r : Result (Unit {0}) CacheFault) → OnOk r (IsTrue old.cache.store.is_faithful → IsMarked c)
       → OnErr r (IsTrue old.cache.store.is_faithful → IsClean old.cache → drop 1 (pages_as_written c) ≡ drop 1 (pages_as_written old.cache))
       → OnErr r (IsTrue old.cache.store.is_faithful → IsClean old.cache → (Faulted old.cache.store c.store → ⊥) → pages_as_written c ≡ pages_as_written old.cache)
       → Starts words old new (answered (λ fault. of_cache fault) r)
   starts r marked others first = record {
     content = same_content;
-    tracks = λ f legs h fa. told_beside old.tree.shape f (slice_get old.places f) legs (pages_of_cache old.cache) (pages_of_cache c) (λ p above. ap (option_map node_of) (m.rest (was_faithful fa) p above)) (h (was_faithful fa));
+    says = λ question.
+        let same : IsTrue c.store.is_faithful → (p : ℕ) → 0 < p → (pages_of_cache c).at p ≡ (pages_of_cache old.cache).at p = λ fa p above. ap (option_map node_of) (m.rest (was_faithful fa) p above) in
+        record {
+          told = λ legs h fa. tells_beside (pages_of_cache old.cache) (pages_of_cache c) (same fa) m.count old.tree old.places question legs (h (was_faithful fa));
+          denied = λ page h fa. denies_beside (pages_of_cache old.cache) (pages_of_cache c) (same fa) m.count old.tree old.places question page (h (was_faithful fa));
+        };
     finds = λ meets leg h fa. subst (λ ls. Contains ls leg) (sym (beside_found laws old c known beside meets)) (h (was_faithful fa));
     ends = λ leg h fa.
         let e = h (was_faithful fa) in
@@ -128,13 +133,13 @@ module _ (laws : FirstLaws) (old : IndexView) (c : Cache) (known : List (List Le
     found_by = refl;
     sound = still_sound;
     spent = refl;
-    later = record { plan = refl; faults = m.store.faults; asked = (let a = m.asked in omega (arith, clamps, a)) };
-    marks = each_value (λ fault. of_cache fault) (λ _. IsSound old → IsClean old.cache → IsMarked c) r (on_ok r (λ h s clean. h s.faithful s.stands.tree_stands.numbers.page_0) marked);
+    later = record { plan = refl; faults = m.store.faults; asked = (let a = m.asked in omega (arith, clamps, a)); faithful = λ fa. m.store.faithful ∙ fa };
+    marks = each_value (λ fault. of_cache fault) (λ _. IsTrue old.cache.store.is_faithful → IsMarked c) r marked;
     marked = m.stays;
-    others = each_fault (λ fault. of_cache fault) (λ _. IsSound old → IsClean old.cache → drop 1 (written new) ≡ drop 1 (written old)) (λ _. IsSound old → IsClean old.cache → drop 1 (written new) ≡ drop 1 (written old)) (λ x h. h) r
-        (on_err r (λ h s clean. ap (drop 1) (written_is new (m.store.faithful ∙ s.faithful)) ∙ h s.faithful clean ∙ sym (ap (drop 1) (written_is old s.faithful))) others);
-    first = each_fault (λ fault. of_cache fault) (λ _. IsSound old → IsClean old.cache → (HasRisen old.cache.store.faults c.store.faults → ⊥) → written new ≡ written old) (λ _. IsSound old → IsClean old.cache → (HasRisen old.cache.store.faults c.store.faults → ⊥) → written new ≡ written old) (λ x h. h) r
-        (on_err r (λ h s clean risen. written_is new (m.store.faithful ∙ s.faithful) ∙ h s.faithful clean risen ∙ sym (written_is old s.faithful)) first);
+    others = each_fault (λ fault. of_cache fault) (λ _. IsTrue old.cache.store.is_faithful → IsClean old.cache → drop 1 (written new) ≡ drop 1 (written old)) (λ _. IsTrue old.cache.store.is_faithful → IsClean old.cache → drop 1 (written new) ≡ drop 1 (written old)) (λ x h. h) r
+        (on_err r (λ h fa clean. ap (drop 1) (written_is new (m.store.faithful ∙ fa)) ∙ h fa clean ∙ sym (ap (drop 1) (written_is old fa))) others);
+    first = each_fault (λ fault. of_cache fault) (λ _. IsTrue old.cache.store.is_faithful → IsClean old.cache → (HasRisen old.cache.store.faults c.store.faults → ⊥) → written new ≡ written old) (λ _. IsTrue old.cache.store.is_faithful → IsClean old.cache → (HasRisen old.cache.store.faults c.store.faults → ⊥) → written new ≡ written old) (λ x h. h) r
+        (on_err r (λ h fa clean risen. written_is new (m.store.faithful ∙ fa) ∙ h fa clean risen ∙ sym (written_is old fa)) first);
   }
 
 -- why page 0 is not marked

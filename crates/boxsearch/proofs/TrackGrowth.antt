@@ -8,25 +8,29 @@ use Rattle.legs.specs.Boxes.{BoxView}
 use Rattle.legs.specs.Costs.{ShapeView}
 use Rattle.legs.specs.Index.{legs_of}
 use Rattle.legs.specs.Legs.{LegView}
-use Rattle.legs.specs.Places.{no_leg}
 use Rattle.tbtree.specs.Filling.{FillsLeaves}
 use Rattle.tbtree.specs.Nodes.{ALeaf, LeafView, Pages}
 use Rattle.tbtree.specs.Stands.{no_place}
 use Rattle.tbtree.specs.declared.tree.Place.{Place}
 use Rattle.tbtree.proofs.RoomLemmas.{neq-eqb}
-use Rattle.chains.specs.Chains.{last_link, NamesNone}
+use Rattle.timebase.specs.Period.{PeriodView}
+use Rattle.chains.specs.Chains.{NamesNone}
 use Rattle.chains.proofs.BackLemmas.{unwound}
-use Rattle.chains.proofs.ChainGrowth.{chain_beside, chain_of, no_legs, other_rows, rows_first, rows_more, rows_of, total_is, AreRows}
+use Rattle.chains.proofs.ChainGrowth.{chain_alike, chain_of, legs_alike, no_legs, rows_first, rows_more, rows_of, total_is, AreAlike, AreRows}
 use Rattle.boxsearch.specs.Index.{with_place}
-use Rattle.boxsearch.specs.Telling.{TellsTrack}
+use Rattle.boxsearch.specs.Telling.{DeniesTrack, TellsTrack}
 use Rattle.boxsearch.proofs.PlaceLemmas.{push_last}
 
--- where all pages but page 0 are as they were
-pub told_beside : (shape : ShapeView) (f : ℕ) (o : Option Place) (W : List LegView) (old new : Pages LegView BoxView) → ((p : ℕ) → 0 < p → new.at p ≡ old.at p) → TellsTrack old shape None f o W → TellsTrack new shape None f o W
-told_beside shape f None W old new same told = told
-told_beside shape f (Some place) W old new same told =
-    let c = chain_beside old new same shape.leaf place.legs place.first (div_ceil place.legs shape.leaf) (last_link f place) told.0.1 in
-    ((told.0.0, c.0), told.1 ∙ sym c.1)
+-- of a feature whose leaves are the same
+pub told_alike : (old new : Pages LegView BoxView) (shape : ShapeView) (period : Option PeriodView) (g : ℕ) (o : Option Place) (W : List LegView) → AreAlike old new g → TellsTrack old shape period g o W → TellsTrack new shape period g o W
+told_alike old new shape period g None W alike told = told
+told_alike old new shape period g (Some place) W alike told =
+    let c = legs_alike old new g alike period shape place told.0 in
+    (c.0, told.1 ∙ sym c.1)
+
+pub denied_alike : (old new : Pages LegView BoxView) (shape : ShapeView) (period : Option PeriodView) (g : ℕ) (o : Option Place) (page : ℕ) → AreAlike old new g → DeniesTrack old shape period g o page → DeniesTrack new shape period g o page
+denied_alike old new shape period g None page alike denied = denied
+denied_alike old new shape period g (Some place) page alike denied = chain_alike old new g alike period shape place ∙ denied
 
 -- the feature's own chain
 module _ (old new : Pages LegView BoxView) (f leaves leaves' : ℕ) (shape : ShapeView) (some : 0 < shape.leaf) (was is : Place) (legs : List LegView) (many : 0 < length legs) (pages : List ℕ)
@@ -68,19 +72,6 @@ module _ (old new : Pages LegView BoxView) (f leaves leaves' : ℕ) (shape : Sha
       let more = rows_first old new f leaves leaves' shape some was is legs many pages fills own z y x in
       told_by (W ++ legs) more.0 more.1 (more.2 ∙ ap (λ l. l ++ legs) (sym t)))
       h
-
-  -- and that of another one
-  pub other_track : (g : ℕ) → g ≢ f → (o : Option Place) (W : List LegView) → TellsTrack old shape None g o W → TellsTrack new shape None g o W
-  other_track g apart None W told = told
-  other_track g apart (Some place) W told =
-      let r = rows_of old shape g place some told.0 in
-      let before = chain_of old shape g place r.0 r.1 told.0.0 in
-      let rows : AreRows new g place.first place.last r.0 shape.leaf place.legs = other_rows old new g place.first place.last r.0 shape.leaf place.legs
-      (λ p leaf theirs e. fills.keeps.rest p leaf (λ l same.
-      let mine = fills.keeps.grown leaf (subst (λ q. 0 < q) same l) (ap old.at (sym same) ∙ e) in
-      apart (sym theirs ∙ sym (mine.own 0 no_leg many) ∙ own 0 no_leg many)) e) r.1 in
-      let after = chain_of new shape g place r.0 rows told.0.0 in
-      (after.0, told.1 ∙ before.1 ∙ sym after.1)
 
 -- the place of a feature was there, or was made
 pub made_was : (places : List Place) (feature : ℕ) (was : Place) → slice_get (with_place places feature) feature ≡ Some was → (slice_get places feature ≡ Some was) ⊎ ((slice_get places feature ≡ None) × (was ≡ no_place))

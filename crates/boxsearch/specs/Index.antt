@@ -130,6 +130,7 @@ words = record {
   found_by = λ index. found_by index;
   knows = λ index feature start. KnowsBackTo index.cache index.tree.shape index.places index.known
       feature start;
+  is_faithful = λ index. IsTrue index.cache.store.is_faithful;
   is_clean = λ index. IsClean index.cache;
   is_marked = λ index. IsMarked index.cache;
   written = λ index. written index;

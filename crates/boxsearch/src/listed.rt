@@ -11,7 +11,7 @@ use pages::PageStore;
 use timebase::Period;
 
 impl<S: PageStore> Listed for TreeIndex<S> {
-    ghost use Rattle.std.specs.Prelude.{Some, min, ◌≡◌, ◌-◌, ◌^◌};
+    ghost use Rattle.std.specs.Prelude.{IsTrue, Some, min, ◌≡◌, ◌-◌, ◌^◌};
     ghost use Rattle.pagecache.specs.Cache.{IsClean};
     ghost use Rattle.boxsearch.specs.Known.{KnowsBackTo};
     ghost use Rattle.boxsearch.specs.Index.{content, denies, ends_with, finds, found_by, tells, written, IsSound, IsMarked};
@@ -44,6 +44,8 @@ impl<S: PageStore> Listed for TreeIndex<S> {
 
     ghost knows = { λ index feature start. KnowsBackTo index.cache index.tree.shape index.places
         index.known feature start };
+
+    ghost is_faithful = { λ index. IsTrue index.cache.store.is_faithful };
 
     ghost is_clean = { λ index. IsClean index.cache };
 

@@ -14,8 +14,7 @@ pub(crate) fn mark_page<S: PageStore>(cache: &mut PageCache<S>) -> Result<(), Ca
     ensures marks { Marks cache.old cache.new }
     ensures header { OnOk result (MarksFirst cache.old cache.new) }
     ensures synced { OnOk result (SyncsMark cache.old cache.new) }
-    ensures marked { OnOk result (IsTrue cache.old.store.is_faithful → 0 < cache.old.count
-        → IsMarked cache.new) }
+    ensures marked { OnOk result (IsTrue cache.old.store.is_faithful → IsMarked cache.new) }
     ensures others { OnErr result (IsTrue cache.old.store.is_faithful → IsClean cache.old
         → drop 1 (pages_as_written cache.new) ≡ drop 1 (pages_as_written cache.old)) }
     ensures first { OnErr result (IsTrue cache.old.store.is_faithful → IsClean cache.old

@@ -122,7 +122,7 @@ pub fn laws()
     // The legs of a sound one follow one another from the first.
     ensures in_turn { (index : IndexView) → IsSound index → CanFollowInTurn [] (content index) }
 
-    // By a test of boxes a sound one finds those of its legs whose boxes meet.
+    // By a test of boxes that a greater box does not fail a sound one finds those of its legs whose boxes meet.
     ensures found { (index : IndexView) → IsSound index → (meets : BoxView → Bool)
         → IsPruning leg_boxes meets → (leg : LegView) → finds index meets leg
         ↔ Contains (filter (λ leg. meets (box_of leg)) (content index)) leg }

@@ -91,7 +91,7 @@ impl<S: PageStore> TreeIndex<S> {
         ensures header { OnOk result (MarksFirst self.old.cache self.new.cache) }
         ensures synced { OnOk result (SyncsMark self.old.cache self.new.cache) }
         ensures marked { OnOk result (IsTrue self.old.cache.store.is_faithful
-            → 0 < self.old.cache.count → IsMarked self.new.cache) }
+            → IsMarked self.new.cache) }
         ensures others { IsTrue self.old.cache.store.is_faithful → (n : ℕ) → 0 < n
             → payload_of self.new.cache n ≡ payload_of self.old.cache n }
     {

@@ -74,7 +74,7 @@ unfolding fits
 fits_by head count leaf link spot f p n c = λ i. head_fits (record { feature = f i; previous = p i; next = n i }) (c i) link spot
 
 -- what fits a link is a leaf
-linked_of : (o : Option (Option (Node LegView BoxView))) (link : Link) (spot : Spot) → is_linked o link spot ≡ true
+pub linked_of : (o : Option (Option (Node LegView BoxView))) (link : Link) (spot : Spot) → is_linked o link spot ≡ true
     → (leaf : LeafView LegView) × (0 < link.page) × (o ≡ Some (Some (ALeaf leaf))) × (fits leaf link spot ≡ true)
 linked_of None link spot e = absurd (true_false (sym e))
 linked_of (Some None) link spot e = absurd (true_false (sym (and_parts (not (link.page == 0)) false e).1))

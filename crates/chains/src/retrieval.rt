@@ -348,7 +348,7 @@ pub fn trajectory_in<S: PageStore>(
 
 /// What holds of a chain in any pages, for the proofs of a caller. It does nothing.
 pub fn laws()
-    // The pages are the chain of a place exactly where none is named as its fault.
+    // The pages are the chain of a feature's place exactly where none is named as its fault.
     ensures whole { (nodes : Pages LegView BoxView) (period : Option PeriodView)
         (shape : ShapeView) (feature : ℕ) (place : Place)
         → chain_fault nodes period shape feature place ≡ None

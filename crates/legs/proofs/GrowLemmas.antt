@@ -9,7 +9,7 @@ use Rattle.legs.specs.Legs.{IsLeg, LegView}
 use Rattle.legs.specs.Places.{ListView}
 use Rattle.legs.specs.Questions.{answer_in}
 use Rattle.legs.specs.Index.{last_leg_of, CanFollowInTurn}
-use Rattle.legs.specs.Asking.{Grows, IsLater, Leaves, LegRefusals, KeepsMarked}
+use Rattle.legs.specs.Asking.{Grows, IsLater, Leaves, LegRefusals}
 use Rattle.legs.specs.declared.index.IndexFault.{IndexFault}
 use Rattle.legs.specs.declared.listed.Listed.{Ghosts}
 
@@ -30,6 +30,7 @@ list_words = record {
   plan = λ index. None;
   found_by = λ index. no_finding;
   knows = λ index feature start. Unit {0};
+  is_faithful = λ index. ⊥;
   is_clean = λ index. ⊥;
   is_marked = λ index. ⊥;
   written = λ index. [];
@@ -39,18 +40,17 @@ list_words = record {
 abbrev pub IsGrowing : {I : Type 0} → Ghosts I → I → I → List LegView → List LegView → Type 0
 IsGrowing g old now all left =
     g.is_sound old → CanFollowInTurn (g.content old) all
-    → g.is_sound now × CanFollowInTurn (g.content now) left × (g.content now ++ left ≡ g.content old ++ all) × (g.is_marked old → g.is_marked now)
+    → g.is_sound now × CanFollowInTurn (g.content now) left × (g.content now ++ left ≡ g.content old ++ all)
 
 pub growing-more : {I : Type 0} (g : Ghosts I) (old now new : I) (all left : List LegView) (leg : LegView)
-    → IsGrowing g old now all (leg ∷ left) → Grows g now new (leg ∷ []) → KeepsMarked g now new (leg ∷ []) → IsGrowing g old new all left
-growing-more g old now new all left leg so_far more marks = λ sound turn.
+    → IsGrowing g old now all (leg ∷ left) → Grows g now new (leg ∷ []) → IsGrowing g old new all left
+growing-more g old now new all left leg so_far more = λ sound turn.
     let at = so_far sound turn in
     let ends = more at.0 (at.1.0, tt) in
     let content : g.content new ≡ g.content now ++ leg ∷ [] = ends.content in (
       ends.sound,
       subst (λ (ls : List LegView). CanFollowInTurn ls left) (sym content) at.1.1,
       ap (λ (ls : List LegView). ls ++ left) content ∙ append_assoc (g.content now) (leg ∷ []) left ∙ at.2,
-      λ marked. marks at.0 (at.1.0, tt) (at.3 marked),
     )
 
 pub growing-end : {I : Type 0} (g : Ghosts I) (old now : I) (all : List LegView) → IsGrowing g old now all [] → Grows g old now all
@@ -74,6 +74,7 @@ later-trans g a b c p q = record {
   plan = q.plan ∙ p.plan;
   faults = let x = p.faults in let y = q.faults in omega (arith, x, y);
   asked = let x = p.asked in let y = q.asked in omega (arith, x, y);
+  faithful = λ f. q.faithful (p.faithful f);
 }
 
 pub leaves-refl : {I : Type 0} (g : Ghosts I) (a : I) → Leaves g a a
@@ -85,7 +86,7 @@ leaves-refl g a = record {
   sound = λ s. s;
   spent = refl;
   found_by = refl;
-  later = record { plan = refl; faults = omega arith; asked = omega arith };
+  later = record { plan = refl; faults = omega arith; asked = omega arith; faithful = λ f. f };
   clean = λ c. c;
   marked = λ m. m;
   written = λ c. refl;

@@ -1,7 +1,7 @@
 -- The last leg of a feature.
 use Rattle.std.proofs.Common.{ℕ, suc, ◌+◌, ◌<◌, ◌≡◌, ◌≢◌, ◌==◌, ◌⊎◌, inl, inr, true, false, cond, ⊎_elim, refl, sym, ap, ◌∙◌, subst, arith, eq-eqb, All, List, [], ◌∷◌, ◌++◌, take, length, get_or, Option, Some, None, slice_get, Result}
 use Rattle.std.specs.List.{count_by, filter, fold, Contains}
-use Rattle.std.proofs.lemmas.Bool.{eqb-true, true≢false}
+use Rattle.std.proofs.lemmas.Bool.{eqb-true, ne_eqb, true≢false}
 use Rattle.std.proofs.lemmas.Grind.{fold-append}
 use Rattle.std.proofs.lemmas.List.{append-nil, append_assoc, length-append, take_more}
 use Rattle.std.proofs.lemmas.List.Elements.{All-append, All-cons, All-contains, All-contains_itself, All-filter, All-nil, All-weaker, Contains-append_cases, Contains-append_left, Contains-append_right, filter-append}
@@ -10,9 +10,10 @@ use Rattle.legs.specs.Asking.{placed_legs, HasAdded, Starts}
 use Rattle.legs.specs.Finding.{Finding}
 use Rattle.legs.specs.Index.{is_of, last_leg_of, legs_of}
 use Rattle.legs.specs.Boxes.{BoxView, box_of}
-use Rattle.legs.specs.Legs.{LegView}
+use Rattle.legs.specs.Legs.{LegView, is_live}
 use Rattle.legs.specs.Places.{ListView}
-use Rattle.legs.specs.Questions.{OfFeature}
+use Rattle.legs.specs.Questions.{answer_in, OfFeature}
+use Rattle.timebase.specs.Period.{PeriodView}
 use Rattle.legs.specs.declared.index.IndexFault.{IndexFault}
 use Rattle.legs.specs.declared.listed.Listed.{Ghosts}
 use Rattle.legs.proofs.GrowLemmas.{list_words}
@@ -85,6 +86,7 @@ module _ {I : Type 0} (g : Ghosts I) where
     kept = λ meets prune leg h. h;
     put = λ meets prune. All-nil (λ leg. meets (box_of leg) ≡ true → g.finds a meets leg);
     tracks = λ f was h. subst (g.tells a (OfFeature f None)) (sym (append-nil was)) h;
+    rests = λ f period none. record { told = λ l h. h; denied = λ p h. h };
     counted = λ few. omega arith;
     works = works;
     plan = refl;
@@ -102,6 +104,11 @@ module _ {I : Type 0} (g : Ghosts I) where
         kept = λ meets prune leg h. q.kept meets prune leg (p.kept meets prune leg h);
         put = λ meets prune. All-append (λ leg. meets (box_of leg) ≡ true → g.finds c meets leg) xs ys (All-weaker (λ leg. meets (box_of leg) ≡ true → g.finds b meets leg) (λ leg. meets (box_of leg) ≡ true → g.finds c meets leg) (λ leg h t. q.kept meets prune leg (h t)) xs (p.put meets prune)) (q.put meets prune);
         tracks = λ f was h. subst (g.tells c (OfFeature f None)) (append_assoc was (legs_of f xs) (legs_of f ys) ∙ ap (λ l. was ++ l) (sym (filter-append (is_of f) xs ys))) (q.tracks f (was ++ legs_of f xs) (p.tracks f was h));
+        rests = λ f period e.
+            let none = neither f e in
+            let first = p.rests f period none.0 in
+            let then = q.rests f period none.1 in
+            record { told = λ l h. then.told l (first.told l h); denied = λ n h. then.denied n (first.denied n h) };
         counted = λ few.
             let first = p.counted (omega (arith, few, many)) in
             let then = q.counted (omega (arith, few, many, first)) in
@@ -142,7 +149,11 @@ module _ {I : Type 0} (g : Ghosts I) where
   takes_started a b c legs r s p = record {
     kept = λ meets prune leg h. p.kept meets prune leg (s.finds meets leg h);
     put = p.put;
-    tracks = λ f was h. p.tracks f was (s.tracks f was h);
+    tracks = λ f was h. p.tracks f was ((s.says (OfFeature f None)).told was h);
+    rests = λ f period none.
+        let first = s.says (OfFeature f period) in
+        let then = p.rests f period none in
+        record { told = λ l h. then.told l (first.told l h); denied = λ n h. then.denied n (first.denied n h) };
     counted = λ few. p.counted (omega (arith, few, s.counted)) ∙ ap (λ n. n + length legs) s.counted;
     works = p.works;
     plan = p.plan ∙ s.later.plan;
@@ -168,6 +179,7 @@ module _ {I : Type 0} (g : Ghosts I) where
             let there : Contains (legs_of leg.feature xs) leg = subst (λ ls. Contains ls leg) (sym (same leg.feature)) own in
             All-contains (λ leg. meets (box_of leg) ≡ true → g.finds b meets leg) (legs_of leg.feature xs) leg (All-filter (is_of leg.feature) (λ leg. meets (box_of leg) ≡ true → g.finds b meets leg) xs (p.put meets prune)) there;
         tracks = λ f was h. subst (λ l. g.tells b (OfFeature f None) (was ++ l)) (same f) (p.tracks f was h);
+        rests = λ f period e. p.rests f period (lasts f ∙ e);
         counted = λ few. p.counted (omega (arith, few, many)) ∙ ap (λ n. g.counted a + n) many;
         works = p.works;
         plan = p.plan;
@@ -191,6 +203,27 @@ module _ {I : Type 0} (g : Ghosts I) where
                 (Contains-append_cases (z ∷ []) zs leg h)
           ]) refl
 
+-- where a feature has no last leg there is none of it
+pub last_absent : (f : ℕ) (xs : List LegView) → last_leg_of f xs ≡ None → All (λ leg. leg.feature ≢ f) xs
+last_absent f [] e = All-nil (λ leg. leg.feature ≢ f)
+last_absent f (x ∷ xs) e =
+    let rest = last_over f (cond (x.feature == f) (Some x) None) xs in
+    let none : last_leg_of f xs ≡ None = ⊎_elim (λ h. absurd (some_not h.0 (sym h.2 ∙ e))) (λ h. h.0) rest in
+    let first : cond (x.feature == f) (Some x) None ≡ None = ⊎_elim (λ h. absurd (some_not h.0 (sym h.2 ∙ e))) (λ h. sym h.1 ∙ e) rest in
+    All-cons (λ leg. leg.feature ≢ f) x xs (λ u. some_not x (ap (λ v. cond v (Some x) None) (sym (eq-eqb _ _ u)) ∙ first)) (last_absent f xs none)
+
+none_of : (f : ℕ) (xs : List LegView) → All (λ leg. leg.feature ≢ f) xs → legs_of f xs ≡ []
+none_of f [] apart = refl
+none_of f (x ∷ xs) apart =
+    ap (λ v. cond v (x ∷ legs_of f xs) (legs_of f xs)) (ne_eqb x.feature f (apart 0 x (omega arith)))
+    ∙ none_of f xs (λ i d l. apart (suc i) d (omega (arith, l)))
+
+-- what is asked of a feature is answered as before where there is no leg more of it
+answer_kept : (f : ℕ) (period : Option PeriodView) (xs ys : List LegView) → All (λ leg. leg.feature ≢ f) ys → answer_in (OfFeature f period) (xs ++ ys) ≡ answer_in (OfFeature f period) xs
+answer_kept f period xs ys apart =
+    let same : legs_of f (xs ++ ys) ≡ legs_of f xs = filter-append (is_of f) xs ys ∙ ap (λ l. legs_of f xs ++ l) (none_of f ys apart) ∙ append-nil (legs_of f xs) in
+    elim period as (λ o. answer_in (OfFeature f o) (xs ++ ys) ≡ answer_in (OfFeature f o) xs) [ None ↦ same | Some p ↦ ap (filter (is_live p)) same ]
+
 -- legs at the end of a list
 pub list_takes : (old new : ListView) (legs : List LegView) → new.legs ≡ old.legs ++ legs → new.spent ≡ false → HasAdded list_words old new legs
 list_takes old new legs is works =
@@ -198,6 +231,7 @@ list_takes old new legs is works =
     record {
       kept = λ meets prune leg h. (subst (λ ls. Contains ls leg) (sym is) (Contains-append_left old.legs legs leg h.0), h.1);
       put = λ meets prune k d l t. (subst (λ ls. Contains ls (get_or legs k d)) (sym is) (Contains-append_right old.legs legs (get_or legs k d) (All-contains_itself legs k d l)), t);
+      rests = λ f period e. record { told = λ l h. h ∙ sym (answer_kept f period old.legs legs (last_absent f legs e)) ∙ ap (answer_in (OfFeature f period)) (sym is); denied = λ n h. h };
       tracks = λ f was h. ap (λ l. l ++ legs_of f legs) h ∙ sym (filter-append (is_of f) old.legs legs) ∙ ap (legs_of f) (sym is);
       counted = λ few. ap length is ∙ length-append old.legs legs;
       works = works;
@@ -217,15 +251,6 @@ list_takes old new legs is works =
       places = λ f place e h. h;
       place_legs = λ f over. absurd (over refl);
     }
-
--- where a feature has no last leg there is none of it
-pub last_absent : (f : ℕ) (xs : List LegView) → last_leg_of f xs ≡ None → All (λ leg. leg.feature ≢ f) xs
-last_absent f [] e = All-nil (λ leg. leg.feature ≢ f)
-last_absent f (x ∷ xs) e =
-    let rest = last_over f (cond (x.feature == f) (Some x) None) xs in
-    let none : last_leg_of f xs ≡ None = ⊎_elim (λ h. absurd (some_not h.0 (sym h.2 ∙ e))) (λ h. h.0) rest in
-    let first : cond (x.feature == f) (Some x) None ≡ None = ⊎_elim (λ h. absurd (some_not h.0 (sym h.2 ∙ e))) (λ h. sym h.1 ∙ e) rest in
-    All-cons (λ leg. leg.feature ≢ f) x xs (λ u. some_not x (ap (λ v. cond v (Some x) None) (sym (eq-eqb _ _ u)) ∙ first)) (last_absent f xs none)
 
 -- the last leg of legs of one feature stands at their end
 pub last_at_end : (f : ℕ) (xs : List LegView) (y : LegView) → All (λ leg. leg.feature ≡ f) xs → last_leg_of f xs ≡ Some y → (front : List LegView) × (xs ≡ front ++ y ∷ [])

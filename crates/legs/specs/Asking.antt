@@ -14,11 +14,12 @@ use Rattle.legs.specs.Sieves.{IsSieved}
 use Rattle.legs.specs.declared.sieve.Sieve.{Sieve}
 use Rattle.timebase.specs.Period.{PeriodView}
 
--- the same index, later: its shape is the same, and what is counted did not fall
+-- the same index, later: its shape is the same, what is counted did not fall, and its store is faithful where it was
 pub record IsLater {I : Type 0} (g : Ghosts I) (old new : I) : Type 0 where
   pub plan : g.plan new ≡ g.plan old
   pub faults : g.faults old ≤ g.faults new
   pub asked : g.asked old ≤ g.asked new
+  pub faithful : g.is_faithful old → g.is_faithful new
 
 -- what a question leaves, answered or not: the list, and what its pages say, sound where it was, spent where it was, and
 -- the numbers by which it finds its legs; no page is marked as changed, and where none was, none is written
@@ -96,8 +97,13 @@ placed_legs finding feature = legs_at (slice_get finding.places feature)
     legs_at (Some place) = place.legs
     legs_at None = 0
 
--- what legs make of an index, sound or not: by whatever test of boxes it finds each leg that it found, and each of these
--- whose box meets, and it counts them. Each feature that they have ends with the last one of them; each other one ends with the leg with which it ended, and is found where it was
+-- what its pages told of a question they tell, and what they denied they deny
+pub record SaysStill {I : Type 0} (g : Ghosts I) (old new : I) (question : Question) : Type 0 where
+  pub told : (legs : List LegView) → g.tells old question legs → g.tells new question legs
+  pub denied : (page : ℕ) → g.denies old question page → g.denies new question page
+
+-- what legs make of an index, sound or not: by whatever test of boxes that a greater box does not fail it finds each leg
+-- that it found, and each of these whose box meets, and it counts them. Each feature that they have ends with the last one of them; each other one ends with the leg with which it ended, and is found where it was
 pub record HasAdded {I : Type 0} (g : Ghosts I) (old new : I) (legs : List LegView) : Type 0 where
   pub kept : (meets : BoxView → Bool) → IsPruning leg_boxes meets → (leg : LegView)
       → g.finds old meets leg → g.finds new meets leg
@@ -106,6 +112,9 @@ pub record HasAdded {I : Type 0} (g : Ghosts I) (old new : I) (legs : List LegVi
   -- what its pages say of a feature they say still, and behind it those that it has of these
   pub tracks : (feature : ℕ) (was : List LegView) → g.tells old (OfFeature feature None) was
       → g.tells new (OfFeature feature None) (was ++ legs_of feature legs)
+  -- and of one that has none of these what they said, in whatever period
+  pub rests : (feature : ℕ) (period : Option PeriodView) → last_leg_of feature legs ≡ None
+      → SaysStill g old new (OfFeature feature period)
   pub counted : g.counted old + length legs < 2 ^ 64 → g.counted new ≡ g.counted old + length legs
   pub works : g.is_spent new ≡ false
   pub plan : g.plan new ≡ g.plan old
@@ -134,11 +143,6 @@ AddAllAsks g old new legs =
     g.is_sound old → CanFollowInTurn (g.content old) legs
     → RisesAtMost (g.asked old) (g.asked new) (add_all_bound (g.plan old) (g.content old) legs)
 
--- legs that may follow a sound index, accepted or refused, leave page 0 marked
-abbrev pub KeepsMarked : {I : Type 0} → Ghosts I → I → I → List LegView → Type 0
-KeepsMarked g old new legs =
-    g.is_sound old → CanFollowInTurn (g.content old) legs → g.is_marked old → g.is_marked new
-
 -- why legs are refused, and what a refusal leaves: the index is spent, and one that was spent always says so,
 -- and stays as it is; a sound one refuses legs that may follow for want of memory, a store that failed or is
 -- full alone
@@ -152,13 +156,12 @@ pub record LegRefusals {I A : Type 0} (g : Ghosts I) (old new : I) (legs : List 
   pub full : IsErrOf result StoreFull → g.is_store_full new
 
 -- what the start of a file's legs leaves: the list, what its pages say, and all that is found by, sound where it was, spent where it was. Once it is
--- answered, an index that was clean is marked; where it is not, no page as written has changed but page 0, and
--- that one only where the store failed
+-- answered, an index over a faithful store is marked; where it is not, and it was clean, no page as written has changed but
+-- page 0, and that one only where the store failed
 pub record Starts {I A : Type 0} (g : Ghosts I) (old new : I)
     (result : Result A IndexFault) : Type 0 where
   pub content : g.content new ≡ g.content old
-  pub tracks : (feature : ℕ) (legs : List LegView) → g.tells old (OfFeature feature None) legs
-      → g.tells new (OfFeature feature None) legs
+  pub says : (question : Question) → SaysStill g old new question
   pub finds : (meets : BoxView → Bool) (leg : LegView) → g.finds old meets leg
       → g.finds new meets leg
   pub ends : (leg : LegView) → g.ends_with old leg → g.ends_with new leg
@@ -167,10 +170,10 @@ pub record Starts {I A : Type 0} (g : Ghosts I) (old new : I)
   pub sound : g.is_sound old → g.is_sound new
   pub spent : g.is_spent new ≡ g.is_spent old
   pub later : IsLater g old new
-  pub marks : OnOk result (g.is_sound old → g.is_clean old → g.is_marked new)
+  pub marks : OnOk result (g.is_faithful old → g.is_marked new)
   pub marked : g.is_marked old → g.is_marked new
   pub others : OnErr result
-      (g.is_sound old → g.is_clean old → drop 1 (g.written new) ≡ drop 1 (g.written old))
+      (g.is_faithful old → g.is_clean old → drop 1 (g.written new) ≡ drop 1 (g.written old))
   pub first : OnErr result
-      (g.is_sound old → g.is_clean old → (HasRisen (g.faults old) (g.faults new) → ⊥)
+      (g.is_faithful old → g.is_clean old → (HasRisen (g.faults old) (g.faults new) → ⊥)
       → g.written new ≡ g.written old)

@@ -41,7 +41,7 @@ pub trait LegIndex: Listed {
     ghost use Rattle.legs.specs.Index.{legs_in_box, legs_of, live_legs_of};
     ghost use Rattle.legs.specs.Questions.{InBox, OfFeature};
     ghost use Rattle.legs.specs.Costs.{known_bound, search_cost, track_cost, track_in_bound};
-    ghost use Rattle.legs.specs.Asking.{AddAllAsks, AddAsks, Asks, AsksAtMost, Denies, Grows, IsLater, KeepsMarked, Leaves, LegRefusals, Recalls, Refusals, HasAdded, TellsSieved};
+    ghost use Rattle.legs.specs.Asking.{AddAllAsks, AddAsks, Asks, AsksAtMost, Denies, Grows, IsLater, Leaves, LegRefusals, Recalls, Refusals, HasAdded, TellsSieved};
     ghost use Rattle.legs.specs.Sieves.{IsSieved};
 
     /// How many legs there are.
@@ -59,13 +59,14 @@ pub trait LegIndex: Listed {
 
     /// Puts a leg at the end of the list. The leg's ordinal is to be `len`, its feature at most the number of
     /// features so far, and its start not before the end of that feature's last leg; after any other leg, as of an
-    /// index that is not sound, it is said that the leg is there, and all that was, and with which leg each feature ends.
+    /// index that is not sound, it is said that the leg is found, and all that was, what is told of each feature, and with
+    /// which leg each ends.
     fn add(&mut self, leg: Leg) -> Result<(), IndexFault>
         ensures added { OnOk result (Grows Self.Listed self.old self.new (leg ∷ [])) }
         ensures takes { OnOk result (HasAdded Self.Listed self.old self.new (leg ∷ [])) }
         ensures asks { OnOk result (AddAsks Self.Listed self.old self.new leg) }
         ensures refusals { LegRefusals Self.Listed self.old self.new (leg ∷ []) result }
-        ensures marked { KeepsMarked Self.Listed self.old self.new (leg ∷ []) }
+        ensures marked { Self.is_marked self.old → Self.is_marked self.new }
         ensures later { IsLater Self.Listed self.old self.new };
 
     /// Puts legs at the end of the list, one after another.
@@ -74,7 +75,7 @@ pub trait LegIndex: Listed {
         ensures takes { OnOk result (HasAdded Self.Listed self.old self.new legs.now) }
         ensures asks { OnOk result (AddAllAsks Self.Listed self.old self.new legs.now) }
         ensures refusals { LegRefusals Self.Listed self.old self.new legs.now result }
-        ensures marked { KeepsMarked Self.Listed self.old self.new legs.now }
+        ensures marked { Self.is_marked self.old → Self.is_marked self.new }
         ensures later { IsLater Self.Listed self.old self.new };
 
     /// The legs whose box meets a box, each once, in accepted order.

@@ -173,6 +173,8 @@ impl Listed for ListIndex {
 
     ghost knows = { λ index feature start. Unit {0} };
 
+    ghost is_faithful = { λ index. ⊥ };
+
     ghost is_clean = { λ index. ⊥ };
 
     ghost is_marked = { λ index. ⊥ };

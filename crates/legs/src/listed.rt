@@ -58,6 +58,9 @@ pub trait Listed {
     /// no page whose legs all end before it, or all start after it.
     ghost knows: { Self → ℕ → ℤ → Type 0 };
 
+    /// Its store is faithful: its pages are what was written. Never of an index that keeps a list.
+    ghost is_faithful: { Self → Type 0 };
+
     /// No page is changed; never of an index that keeps a list.
     ghost is_clean: { Self → Type 0 };
 

@@ -10,7 +10,7 @@ use Rattle.legs.specs.Boxes.{BoxView, box_of}
 use Rattle.legs.specs.Legs.{LegView}
 use Rattle.legs.specs.Hull.{Boxes, IsPruning, both, hull, leg_boxes}
 use Rattle.legs.specs.GroupLemmas.{some_none, some_same}
-use Rattle.tbtree.specs.Content.{Carries, ContentGrows, Grafts, HasLeg, IsFound, IsMet, IsMetBy, KeepsKids, KeepsMet, Meets, SaysMore}
+use Rattle.tbtree.specs.Content.{Carries, ContentGrows, Grafts, HasLeg, IsFound, IsMet, IsMetBy, KeepsKids, KeepsMet, KeepsWay, Meets, SaysMore}
 use Rattle.tbtree.specs.Descent.{children_met, entries_in, found_legs, legs_in, legs_met, node_at, pages_met, sort_by_ordinal}
 use Rattle.tbtree.specs.Joining.{HasAtEnd}
 use Rattle.tbtree.specs.Nodes.{cover_all, cover_of_page, widened, Node, Pages, ALeaf, AnInner, EntryView, Adds, Attaches, Becomes, Covers, Links, Pushes, Widens, with_entry, with_legs, with_next, with_wider}
@@ -134,10 +134,12 @@ module _ (meets : BoxView → Bool) (prune : IsPruning leg_boxes meets) where
   children_are nodes p = refl
 
 -- pages that say the same, or more and more
-pub says_same : (old new : Pages LegView BoxView) → ((p : ℕ) → new.at p ≡ old.at p) → SaysMore old new
-says_same old new same = record {
+pub says_same : (old new : Pages LegView BoxView) → ((p : ℕ) → new.at p ≡ old.at p) → old.count ≤ new.count → SaysMore old new
+says_same old new same more = record {
   entries = λ meets prune p q c. subst (λ l. Contains l q) (sym (children_are meets prune new p)) (subst (λ x. Contains (met_of meets prune (entries_in x)) q) (sym (same_at p)) (subst (λ l. Contains l q) (children_are meets prune old p) c));
   legs = λ p leg c. subst (λ x. Contains (legs_in x) leg) (sym (same_at p)) c;
+  bare = λ p l none. same p ∙ none;
+  count = more;
 }
   where
     same_at : (p : ℕ) → node_at new p ≡ node_at old p
@@ -145,15 +147,15 @@ says_same old new same = record {
     same_at (suc n) = same (suc n)
 
 pub says_none : (nodes : Pages LegView BoxView) → SaysMore nodes nodes
-says_none nodes = record { entries = λ meets prune p q c. c; legs = λ p leg c. c }
+says_none nodes = record { entries = λ meets prune p q c. c; legs = λ p leg c. c; bare = λ p l none. none; count = omega arith }
 
 pub says_then : (a b c : Pages LegView BoxView) → SaysMore a b → SaysMore b c → SaysMore a c
-says_then a b c s t = record { entries = λ meets prune p q h. t.entries meets prune p q (s.entries meets prune p q h); legs = λ p leg h. t.legs p leg (s.legs p leg h) }
+says_then a b c s t = record { entries = λ meets prune p q h. t.entries meets prune p q (s.entries meets prune p q h); legs = λ p leg h. t.legs p leg (s.legs p leg h); bare = λ p l none. t.bare p (let more = s.count in omega (arith, l, more)) (s.bare p l none); count = (let x = s.count in let y = t.count in omega (arith, x, y)) }
 
 -- one page that says more
 module _ (old new : Pages LegView BoxView) (p : ℕ) (node : Node LegView BoxView) (b : Becomes old p node new)
     (more_kids : (meets : BoxView → Bool) (prune : IsPruning leg_boxes meets) (q : ℕ) → Contains (met_of meets prune (entries_in (old.at p))) q → Contains (met_of meets prune (entries_in (Some (Some node)))) q)
-    (more_legs : (leg : LegView) → Contains (legs_in (old.at p)) leg → Contains (legs_in (Some (Some node))) leg) where
+    (more_legs : (leg : LegView) → Contains (legs_in (old.at p)) leg → Contains (legs_in (Some (Some node))) leg) (more : old.count ≤ new.count) (held : p < old.count → old.at p ≡ None → ⊥) where
   at_kids : (meets : BoxView → Bool) (prune : IsPruning leg_boxes meets) (r q : ℕ) → Contains (met_of meets prune (entries_in (old.at r))) q → Contains (met_of meets prune (entries_in (new.at r))) q
   at_kids meets prune r q c = ⊎_elim
       (λ (e : r ≡ p). subst (λ x. Contains (met_of meets prune (entries_in x)) q) (sym (ap new.at e ∙ b.now)) (more_kids meets prune q (subst (λ m. Contains (met_of meets prune (entries_in (old.at m))) q) e c)))
@@ -178,36 +180,41 @@ module _ (old new : Pages LegView BoxView) (p : ℕ) (node : Node LegView BoxVie
   says_becomes = record {
     entries = λ meets prune r q c. subst (λ l. Contains l q) (sym (children_are meets prune new r)) (node_kids meets prune r q (subst (λ l. Contains l q) (children_are meets prune old r) c));
     legs = node_legs;
+    bare = λ r l none. ⊎_elim
+        (λ (e : r ≡ p). absurd (held (subst (λ m. m < old.count) e l) (ap old.at (sym e) ∙ none)))
+        (λ (u : r ≢ p). b.rest r u ∙ none)
+        (cases_eq r p);
+    count = more;
   }
 
 -- a page that was there, and says more
 says_was : (old new : Pages LegView BoxView) (p : ℕ) (was node : Node LegView BoxView) → old.at p ≡ Some (Some was) → Becomes old p node new
     → ((meets : BoxView → Bool) (prune : IsPruning leg_boxes meets) (q : ℕ) → Contains (met_of meets prune (entries_in (Some (Some was)))) q → Contains (met_of meets prune (entries_in (Some (Some node)))) q)
-    → ((leg : LegView) → Contains (legs_in (Some (Some was))) leg → Contains (legs_in (Some (Some node))) leg) → SaysMore old new
-says_was old new p was node e b ks ls = says_becomes old new p node b
+    → ((leg : LegView) → Contains (legs_in (Some (Some was))) leg → Contains (legs_in (Some (Some node))) leg) → new.count ≡ old.count → SaysMore old new
+says_was old new p was node e b ks ls same = says_becomes old new p node b
     (λ meets prune q c. ks meets prune q (subst (λ x. Contains (met_of meets prune (entries_in x)) q) e c))
-    (λ leg c. ls leg (subst (λ x. Contains (legs_in x) leg) e c))
+    (λ leg c. ls leg (subst (λ x. Contains (legs_in x) leg) e c)) (omega (arith, same)) (λ l none. some_none (Some was) (sym e ∙ none))
 
 pub says_widened : (old new : Pages LegView BoxView) (p height e : ℕ) (y : BoxView) (c : ℕ) → Widens leg_boxes old p height e y new c → SaysMore old new
 says_widened old new p height e y c w =
     says_was old new p (AnInner w.page) (AnInner (with_wider leg_boxes.cover e y w.page)) w.was w.becomes
     (λ meets prune q h. met_widened meets prune e y w.page.entries q h)
-    (λ leg h. h)
+    (λ leg h. h) w.counted
 
 pub says_attached : (old new : Pages LegView BoxView) (p height c : ℕ) (y : BoxView) → Attaches old p height c y new → SaysMore old new
 says_attached old new p height c y w =
     let e : EntryView BoxView = record { child = c; bounds = y } in
     says_was old new p (AnInner w.page) (AnInner (with_entry e w.page)) w.was w.becomes
     (λ meets prune q h. met_left meets prune w.page.entries (e ∷ []) q h)
-    (λ leg h. h)
+    (λ leg h. h) w.counted
 
 pub says_pushed : (old new : Pages LegView BoxView) (p : ℕ) (ys : List LegView) → Pushes old p ys new → SaysMore old new
 says_pushed old new p ys w = says_was old new p (ALeaf w.leaf) (ALeaf (with_legs ys w.leaf)) w.was w.becomes
     (λ meets prune q h. h)
-    (λ leg h. Contains-append_left w.leaf.legs ys leg h)
+    (λ leg h. Contains-append_left w.leaf.legs ys leg h) w.counted
 
 pub says_linked : (old new : Pages LegView BoxView) (p q : ℕ) → Links old p q new → SaysMore old new
-says_linked old new p q w = says_was old new p (ALeaf w.leaf) (ALeaf (with_next q w.leaf)) w.was w.becomes (λ meets prune q h. h) (λ leg h. h)
+says_linked old new p q w = says_was old new p (ALeaf w.leaf) (ALeaf (with_next q w.leaf)) w.was w.becomes (λ meets prune q h. h) (λ leg h. h) w.counted
 
 none_met : (meets : BoxView → Bool) (prune : IsPruning leg_boxes meets) (q : ℕ) → Contains (met_of meets prune []) q → ⊥
 unfolding met_of
@@ -218,10 +225,10 @@ says_added old new node p fresh w =
     let none : old.at p ≡ None = ap old.at w.number ∙ fresh in
     says_becomes old new p node w.becomes
     (λ meets prune q c. absurd (none_met meets prune q (subst (λ x. Contains (met_of meets prune (entries_in x)) q) none c)))
-    (λ leg c. absurd (no_element leg (subst (λ x. Contains (legs_in x) leg) none c)))
+    (λ leg c. absurd (no_element leg (subst (λ x. Contains (legs_in x) leg) none c))) (let e = w.counted in omega (arith, e)) (λ l _. let e = w.number in omega (arith, l, e))
 
 pub says_covered : (old new : Pages LegView BoxView) (p : ℕ) (y : BoxView) → Covers leg_boxes old p y new → SaysMore old new
-says_covered old new p y w = says_same old new w.rest
+says_covered old new p y w = says_same old new w.rest (let e = w.counted in omega (arith, e))
 
 -- what was met is met where pages say more
 met_more : (meets : BoxView → Bool) → IsPruning leg_boxes meets → (old new : Pages LegView BoxView) → SaysMore old new → (root n p : ℕ) → IsMet meets old root n p → IsMet meets new root n p
@@ -230,6 +237,32 @@ met_more meets prune old new s root (suc n) p m = (m.0, met_more meets prune old
 
 pub kept_more : (old new : Pages LegView BoxView) → SaysMore old new → (root levels : ℕ) → KeepsMet old new root levels root levels
 kept_more old new s root levels meets prune leg h = record { n = h.n; p = h.p; last = h.last; met = met_more meets prune old new s root h.n h.p h.met; leg_is = s.legs h.p leg h.leg_is; box = h.box }
+
+-- and the way from the same root
+way_more : (old new : Pages LegView BoxView) → SaysMore old new → (root levels : ℕ) → KeepsWay old new root levels root levels
+way_more old new s root levels = record {
+  met = λ meets prune n p l m. subst (λ k. IsMet meets new root k p) (let z : suc n ≡ suc n + (levels - levels) = omega arith in z) (met_more meets prune old new s root (suc n) p m);
+  higher = omega arith;
+  top = λ some there none. (refl, refl);
+}
+
+way_then : (a b c : Pages LegView BoxView) (r l s m t n : ℕ) → a.count ≤ b.count → ((p : ℕ) → p < a.count → a.at p ≡ None → b.at p ≡ None) → KeepsWay a b r l s m → KeepsWay b c s m t n → KeepsWay a c r l t n
+way_then a b c r l s m t n more bare f g =
+    let low = f.higher in
+    let high = g.higher in
+    record {
+      met = λ meets prune k p below h.
+          let h' : IsMet meets b s (suc (k + (m - l))) p = subst (λ j. IsMet meets b s j p) (let z : suc k + (m - l) ≡ suc (k + (m - l)) = omega arith in z) (f.met meets prune k p below h) in
+          subst (λ j. IsMet meets c t j p) (let z : suc (k + (m - l)) + (n - m) ≡ suc k + (n - l) = omega (arith, low, high) in z)
+          (g.met meets prune (k + (m - l)) p (omega (arith, below, low)) h');
+      higher = omega (arith, low, high);
+      top = λ some there none.
+          let e = f.top some there none in
+          let r_is = e.0 in
+          let l_is = e.1 in
+          let after = g.top (omega (arith, some, l_is)) (omega (arith, there, more, r_is)) (ap b.at r_is ∙ bare r there none) in
+          (after.0 ∙ r_is, after.1 ∙ l_is);
+    }
 
 by_more : (old new : Pages LegView BoxView) → SaysMore old new → (root levels level : ℕ) (box : BoxView) (p : ℕ) → IsMetBy old root levels level box p → IsMetBy new root levels level box p
 by_more old new s root levels level box p m meets prune t n e = met_more meets prune old new s root n p (m meets prune t n e)
@@ -309,6 +342,14 @@ module _ (meets : BoxView → Bool) (prune : IsPruning leg_boxes meets) (nodes :
   legs_meet (ALeaf leaf) leg h t = by_hull meets prune leaf.legs leg h t
   legs_meet (AnInner page) leg h t = absurd (no_element leg h)
 
+  child_meets : (q : ℕ) (box : BoxView) → cover_of_page leg_boxes node ≡ Some box → Contains (children_met meets nodes root) q → meets box ≡ true
+  child_meets q box cover h =
+      let c = subst (λ l. Contains l q) (children_are meets prune nodes root) h in
+      subst (Passes meets prune) cover (⊎_elim
+      (λ (e : node_at nodes root ≡ None). absurd (none_met meets prune q (subst (λ x. Contains (met_of meets prune (entries_in x)) q) e c)))
+      (λ (e : node_at nodes root ≡ Some (Some node)). kids_meet node q (subst (λ x. Contains (met_of meets prune (entries_in x)) q) e c))
+      (root_says (node_at nodes root) refl))
+
   root_meets : (levels : ℕ) (leg : LegView) (box : BoxView) → cover_of_page leg_boxes node ≡ Some box → HasLeg meets nodes root levels leg → meets box ≡ true
   root_meets levels leg box cover h = subst (Passes meets prune) cover
       (elim h.n as (λ n. IsMet meets nodes root n h.p → Passes meets prune (cover_of_page leg_boxes node)) [
@@ -347,6 +388,15 @@ carries_rooted old mid new root levels level c r x y low there fresh top w a =
             leg_is = says.legs h.p leg h.leg_is;
             box = h.box;
           };
+      way = record {
+        met = λ meets prune n p l m.
+            let q = first_step meets old root n p m in
+            let t = child_meets meets prune old root w.node w.is q.0 x w.cover q.1 in
+            let there : Contains (children_met meets new r) root = subst (λ l. Contains l root) (sym (met_at meets prune new r node above a.becomes.now)) (met_cons meets prune one (two ∷ []) root (inl (t, refl))) in
+            subst (λ k. IsMet meets new r k p) (let z : suc (suc n) ≡ suc n + (levels + 1 - levels) = omega arith in z) (under meets new r root there (suc n) p (met_more meets prune old new says root (suc n) p m));
+        higher = omega arith;
+        top = λ some l none. absurd (some_none (Some w.node) (sym w.is ∙ none));
+      };
       met = λ meets prune t n e. subst (λ m. IsMet meets new r m c) (let one : 1 ≡ n = omega (arith, e, top) in one)
           (r, refl, subst (λ l. Contains l c) (sym (met_at meets prune new r node above a.becomes.now)) (met_cons meets prune one (two ∷ []) c (inr (met_cons meets prune two [] c (inl (t, refl))))));
       grafts = grafts_rooted old mid new root c r (level + 1) x y low there w.counted fresh (kids_covered old mid root x w) a;
@@ -363,6 +413,7 @@ carries_up old mid new root levels level c q y top low there fresh below w h =
     record {
       says = says_then old mid new more h.says;
       kept = λ meets prune leg l. h.kept meets prune leg (kept_more old mid more root levels meets prune leg l);
+      way = way_then old mid new root levels root levels top.root top.levels more.count more.bare (way_more old mid more root levels) h.way;
       met = step_met new top.root top.levels level q c y below h.met
           (λ meets prune t. h.says.entries meets prune q c (subst (λ l. Contains l c) (sym (met_at meets prune mid q node above w.becomes.now)) (met_cons meets prune e [] c (inl (t, refl)))));
       grafts = grafts_up old mid new root top.root c q (level + 1) y low there fresh w h.grafts;
@@ -377,6 +428,7 @@ carries_on old mid new root levels level c p y low there below above f w =
     record {
       says = says;
       kept = λ meets prune leg l. kept_more old new says root levels meets prune leg l;
+      way = way_more old new says root levels;
       met = step_met new root levels level p c y below (by_more mid new more root levels (level + 1) y p f.met)
           (λ meets prune t. subst (λ l. Contains l c) (sym (met_at meets prune new p (AnInner (with_entry e w.page)) above w.becomes.now)) (met_right meets prune w.page.entries (e ∷ []) c (met_cons meets prune e [] c (inl (t, refl)))));
       grafts = grafts_attached old mid new root c p (level + 1) y low there f.counted above f.same w;
@@ -387,19 +439,22 @@ pub carries_first : (nodes : Pages LegView BoxView) (root levels c : ℕ) (y : B
 carries_first nodes root levels c y there none = record {
   says = says_none nodes;
   kept = λ meets prune leg h. (let e = h.last in absurd (omega (arith, e, none)));
+  way = record { met = λ meets prune n p l m. absurd (omega (arith, l, none)); higher = omega (arith, none); top = λ some l e. absurd (omega (arith, some, none)) };
   met = λ meets prune t n e. subst (λ m. IsMet meets nodes c m c) (let z : 0 ≡ n = omega (arith, e) in z) refl;
   grafts = grafts_first nodes root c there;
 }
 
 -- legs that are put in
 pub meets_none : (nodes : Pages LegView BoxView) (tree : TbTree) → Meets nodes nodes tree tree []
-meets_none nodes tree = record { kept = λ meets prune leg h. h; put = λ meets prune. All-nil (λ leg. meets (box_of leg) ≡ true → HasLeg meets nodes tree.root tree.levels leg); grafts = grafts_same nodes.count nodes nodes tree.root (λ p. refl) (omega arith) }
+meets_none nodes tree = record { kept = λ meets prune leg h. h; way = way_more nodes nodes (says_none nodes) tree.root tree.levels; says = says_none nodes; put = λ meets prune. All-nil (λ leg. meets (box_of leg) ≡ true → HasLeg meets nodes tree.root tree.levels leg); grafts = grafts_same nodes.count nodes nodes tree.root (λ p. refl) (omega arith) }
 
 meets_grown : (old mid new : Pages LegView BoxView) (tree : TbTree) (p : ℕ) (box : BoxView) (legs : List LegView) → 0 < tree.levels → hull leg_boxes legs ≡ Some box → IsFound old mid tree.root tree.levels 0 box p → Pushes mid p legs new → HasAtEnd new p legs → Meets old new tree tree legs
 meets_grown old mid new tree p box legs some is f w h =
     let more = says_pushed mid new p legs w in
     record {
       kept = kept_more old new (says_then old mid new f.says more) tree.root tree.levels;
+      way = way_more old new (says_then old mid new f.says more) tree.root tree.levels;
+      says = says_then old mid new f.says more;
       put = legs_at_end new tree.root tree.levels p box legs some is (by_more mid new more tree.root tree.levels 0 box p f.met) h;
       grafts = grafts_same old.count old new tree.root (kids_then old mid new f.same (kids_pushed mid new p legs w)) (let x = w.counted in let y = f.counted in omega (arith, x, y));
     }
@@ -410,6 +465,9 @@ meets_begun old mid new tree tree' top p box legs is number more same s c r l so
     let back : (meets : BoxView → Bool) (leg : LegView) → HasLeg meets new top.root top.levels leg → HasLeg meets new tree'.root tree'.levels leg = λ meets leg h. subst (λ a. HasLeg meets new a tree'.levels leg) (sym r) (subst (λ b. HasLeg meets new top.root b leg) (sym l) h) in
     record {
       kept = λ meets prune leg h. back meets leg (c.kept meets prune leg (kept_more old mid s tree.root tree.levels meets prune leg h));
+      way = subst (λ a. KeepsWay old new tree.root tree.levels a tree'.levels) (sym r) (subst (λ b. KeepsWay old new tree.root tree.levels top.root b) (sym l)
+          (way_then old mid new tree.root tree.levels tree.root tree.levels top.root top.levels more s.bare (way_more old mid s tree.root tree.levels) c.way));
+      says = says_then old mid new s c.says;
       put = λ meets prune. all_of (λ leg. meets (box_of leg) ≡ true → HasLeg meets new tree'.root tree'.levels leg) legs (λ leg at t. back meets leg (All-contains (λ leg. meets (box_of leg) ≡ true → HasLeg meets new top.root top.levels leg) legs leg (legs_at_end new top.root top.levels p box legs some is c.met h meets prune) at t));
       grafts = subst (λ a. Grafts old.count old new tree.root a) (sym r) (grafts_after old.count old mid new tree.root top.root same more (subst (λ b. Grafts b mid new tree.root top.root) number c.grafts));
     }
@@ -417,6 +475,8 @@ meets_begun old mid new tree tree' top p box legs is number more same s c r l so
 meets_then : (a b c : Pages LegView BoxView) (t u v : TbTree) (xs ys : List LegView) → Meets a b t u xs → Meets b c u v ys → Meets a c t v (xs ++ ys)
 meets_then a b c t u v xs ys m n = record {
   kept = λ meets prune leg h. n.kept meets prune leg (m.kept meets prune leg h);
+  way = way_then a b c t.root t.levels u.root u.levels v.root v.levels m.says.count m.says.bare m.way n.way;
+  says = says_then a b c m.says n.says;
   put = λ meets prune. All-append (λ leg. meets (box_of leg) ≡ true → HasLeg meets c v.root v.levels leg) xs ys
       (all_of (λ leg. meets (box_of leg) ≡ true → HasLeg meets c v.root v.levels leg) xs (λ leg h t. n.kept meets prune leg (All-contains (λ leg. meets (box_of leg) ≡ true → HasLeg meets b u.root u.levels leg) xs leg (m.put meets prune) h t))) (n.put meets prune);
   grafts = grafts_on a b c t.root u.root v.root m.grafts n.grafts;
@@ -481,6 +541,9 @@ content_grows : (old new : Pages LegView BoxView) (tree tree' : TbTree) (legs : 
 content_grows old new tree tree' legs m = record {
   kept = λ meets prune. all_of (Contains (found_legs meets new tree')) (found_legs meets old tree) (λ leg h. in_found meets new tree' leg (m.kept meets prune leg (of_found meets old tree leg h)));
   put = λ meets prune. all_of (λ leg. meets (box_of leg) ≡ true → Contains (found_legs meets new tree') leg) legs (λ leg h t. in_found meets new tree' leg (All-contains (λ leg. meets (box_of leg) ≡ true → HasLeg meets new tree'.root tree'.levels leg) legs leg (m.put meets prune) h t));
+  met = λ meets prune n p l h. listed meets new tree'.root (suc n + (tree'.levels - tree.levels)) p (m.way.met meets prune n p l (unlisted meets old tree.root (suc n) p h));
+  bare = m.says.bare;
+  top = m.way.top;
   grafts = m.grafts;
 }
 
@@ -507,4 +570,4 @@ meets_part a b c t u v legs n k m w = subst (λ l. Meets a c t v l) (ap (λ j. t
 
 -- whether it is spent is no part of it
 pub grows_spent : (old new : Pages LegView BoxView) (tree tree' : TbTree) (was is : Bool) (legs : List LegView) → Meets old new (record tree { spent = was }) tree' legs → ContentGrows old new tree (record tree' { spent = is }) legs
-grows_spent old new tree tree' was is legs m = content_grows old new tree (record tree' { spent = is }) legs (record { kept = m.kept; put = m.put; grafts = m.grafts })
+grows_spent old new tree tree' was is legs m = content_grows old new tree (record tree' { spent = is }) legs (record { kept = m.kept; way = m.way; says = m.says; put = m.put; grafts = m.grafts })

@@ -69,6 +69,7 @@ place_with leaves place legs (p ∷ ps) = record {
 -- are made the others; these are the pages that are made
 pub record FillsLeaves (leaf : ℕ) (old new : Pages LegView BoxView) (leaves leaves' : ℕ)
     (place place' : Place) (legs : List LegView) (pages : List ℕ) : Type 0 where
+  -- a leaf has room for a leg
   pub least : 0 < length legs → 0 < leaf
   pub one : All (λ leg. leg.feature ≡ owner leg_feature legs) legs
   -- where the last leaf takes any there is one, and where the place has one, it is a leaf

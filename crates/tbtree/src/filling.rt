@@ -108,8 +108,9 @@ pub fn insert_all<S: PageStore>(
         < length legs.now + tree.old.shape.leaf) }
 
     // Over any faithful pages: the place's last leaf has behind its own legs those from the first on for which it had
-    // room, and leaves that are made behind it have the others; each other leaf is as it was. By each test of boxes the way
-    // down finds each leg that it found, and each of these whose box meets; only pages that are made become entries.
+    // room, and leaves that are made behind it have the others; each other leaf is as it was. By each test of boxes that a
+    // greater box does not fail the way down meets each page that it met, and finds each leg that it found, and each of
+    // these whose box meets; only pages that are made become entries, and the old root.
     ensures fills { IsTrue cache.old.store.is_faithful → OnOk result
         ((pages : List ℕ) × FillsLeaves tree.old.shape.leaf (pages_of_cache cache.old)
         (pages_of_cache cache.new) tree.old.leaves tree.new.leaves place.old place.new legs.now

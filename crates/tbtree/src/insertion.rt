@@ -419,7 +419,8 @@ pub(crate) fn put<S: PageStore>(
     into_last(cache, tree, place, legs)
 }
 
-/// Puts a leg into the tree, at the place of its feature. Any refusal leaves the tree spent, and a spent tree is
+/// Puts a leg into the tree, at the place of its feature. A root that is not there is `Malformed`, and so is the last leaf of
+/// a place that has legs and names none, or has none and names one. Any refusal leaves the tree spent, and a spent tree is
 /// refused by `Spent`.
 pub fn insert<S: PageStore>(
     tree: &mut TbTree,
@@ -438,8 +439,9 @@ pub fn insert<S: PageStore>(
     ensures shape { tree.new.shape ≡ tree.old.shape }
 
     // Over any faithful pages: the place's last leaf has the leg at its end, where it had room, and else a leaf of the leg
-    // alone is made behind it; each other leaf is as it was. By each test of boxes the way down finds each leg that it
-    // found, and the leg where its box meets; only pages that are made become entries.
+    // alone is made behind it; each other leaf is as it was. By each test of boxes that a greater box does not fail the
+    // way down meets each page that it met, and finds each leg that it found, and the leg where its box meets; only pages
+    // that are made become entries, and the old root.
     ensures fills { IsTrue cache.old.store.is_faithful → OnOk result
         (FillsLeaves tree.old.shape.leaf (pages_of_cache cache.old) (pages_of_cache cache.new)
         tree.old.leaves tree.new.leaves place.old place.new (leg ∷ [])

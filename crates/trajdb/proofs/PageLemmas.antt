@@ -3,7 +3,7 @@ use Rattle.std.proofs.Common.{◌≡◌, ◌∙◌, refl, sym, ap, Bool, true, f
 use Rattle.std.specs.Prelude.{◌⊎◌}
 use Rattle.legs.specs.Asking.{Leaves as IndexLeaves}
 use Rattle.legs.specs.declared.listed.Listed.{Ghosts}
-use Rattle.trajdb.specs.Database.{CoreView, IsSound}
+use Rattle.trajdb.specs.Database.{CoreView}
 use Rattle.trajdb.specs.Calls.{HasPages, IsUnwritten, KeepsPages, LeavesBook, LeavesPages}
 use Rattle.trajdb.proofs.FaultLemmas.{leaves-refl, leaves-trans}
 
@@ -45,10 +45,10 @@ left_after g a b c (inr n) lives p h r =
     record { marked = λ m. r.marked (l.marked m); clean = λ k. unwritten g a.index b.index c.index l k (r.clean (l.clean k)) }
 
 -- one call after others, that did not fail it
-pub keeps-trans : {I : Type 0} (g : Ghosts I) (a b c : CoreView I) → b.failed ≡ false → (IsSound g a → IsSound g b) → KeepsPages g a b → KeepsPages g b c → KeepsPages g a c
-keeps-trans g a b c lives sound p q = record {
+pub keeps-trans : {I : Type 0} (g : Ghosts I) (a b c : CoreView I) → b.failed ≡ false → (g.is_faithful a.index → g.is_faithful b.index) → KeepsPages g a b → KeepsPages g b c → KeepsPages g a c
+keeps-trans g a b c lives stays p q = record {
   begun = λ t. q.begun (p.begun t);
   idle = λ n f. leaves-trans g a b c (p.idle (unbegun g b c q n (either b.begun)) lives) (q.idle n f);
-  pages = λ s h. q.pages (sound s) (p.pages s h);
-  written = λ s h. left_after g a b c (either b.begun) lives p (p.pages s h) (q.written (sound s) (p.pages s h));
+  pages = λ f h. q.pages (stays f) (p.pages f h);
+  written = λ f h. left_after g a b c (either b.begun) lives p (p.pages f h) (q.written (stays f) (p.pages f h));
 }

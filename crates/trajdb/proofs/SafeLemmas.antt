@@ -38,12 +38,12 @@ begun_safe db was pages begun = inl (pages.begun begun)
 -- every call keeps a store safe
 module _ (old new : DbView) (keeps : KeepsPages words old new) (risen : old.index.cache.store.faults ≤ new.index.cache.store.faults) (same : old.failed ≡ true → new ≡ old) where
   pub keeps_safe : (was : Store) → IsSoundDb old → HasPages old → IsSafe was old → IsSafe was new
-  keeps_safe was sound pages (inl m) = inl ((keeps.written sound pages).marked m)
+  keeps_safe was sound pages (inl m) = inl ((keeps.written sound.index.faithful pages).marked m)
   keeps_safe was sound pages (inr u) = by_state old.begun refl old.failed refl where
     by_state : (b : Bool) → old.begun ≡ b → (f : Bool) → old.failed ≡ f → IsSafe was new
-    by_state true begun f is = inl ((keeps.written sound pages).marked (pages.begun begun))
+    by_state true begun f is = inl ((keeps.written sound.index.faithful pages).marked (pages.begun begun))
     by_state false idle true is = subst (IsSafe was) (sym (same is)) (inr u)
-    by_state false idle false is = safe_after was old new risen u ((keeps.written sound pages).clean (pages.idle idle is))
+    by_state false idle false is = safe_after was old new risen u ((keeps.written sound.index.faithful pages).clean (pages.idle idle is))
 
 pub leaves_safe : (old new : DbView) → LeavesBook words old new → old.failed ≡ false → (was : Store) → IsSoundDb old → HasPages old → IsSafe was old → IsSafe was new
 leaves_safe old new leaves lives = keeps_safe old new (keeps_leaves words old new leaves) leaves.index.later.faults (λ failed. absurd (clash old.failed failed lives))

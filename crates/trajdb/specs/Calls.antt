@@ -66,8 +66,8 @@ pub record HasPages {I : Type 0} (g : Ghosts I) (core : CoreView I) : Type 0 whe
 pub record KeepsPages {I : Type 0} (g : Ghosts I) (old new : CoreView I) : Type 0 where
   pub begun : old.begun ≡ true → new.begun ≡ true
   pub idle : new.begun ≡ false → new.failed ≡ false → LeavesBook g old new
-  pub pages : IsSound g old → HasPages g old → HasPages g new
-  pub written : IsSound g old → HasPages g old → LeavesPages g old.index new.index
+  pub pages : g.is_faithful old.index → HasPages g old → HasPages g new
+  pub written : g.is_faithful old.index → HasPages g old → LeavesPages g old.index new.index
 
 -- a sound database has begun exactly where it had, or an accepted file began it
 abbrev pub Begins : {I : Type 0} → Ghosts I → CoreView I → CoreView I → Type 0 → Type 0

@@ -34,6 +34,8 @@ pub record LoadCall {I : Type 0} (g : Ghosts I) (old new : CoreView I) (bytes : 
   pub refused : IfErr result (λ fault. IsRefused fault → new ≡ old)
   -- an accepted file begins the database, and nothing else does
   pub begun : OnOk result (new.begun ≡ true)
+  -- page 0 of an index over a faithful store is marked then, sound or not
+  pub marks : OnOk result (g.is_faithful old.index → g.is_marked new.index)
   pub puts : IfOk result (PutsFile g old new bytes)
   pub gives : (book : Book) → IsBookOf old book
       → LoadGives result (load_of old.limits book bytes)

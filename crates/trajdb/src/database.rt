@@ -113,11 +113,8 @@ impl<I: Start> Core<I> {
         ensures failed { self.new.failed ≡ self.old.failed }
         ensures begun { OnOk result (self.new.begun ≡ true) }
         ensures idle { OnErr result (self.new.begun ≡ self.old.begun) }
-        ensures marks { OnOk result ((file : File) → IsSound I.Listed self.old
-            → Accepts self.old.limits self.old.book file new
-            → I.is_clean self.old.index → I.is_marked self.new.index) }
-        ensures pages { (file : File) → IsSound I.Listed self.old
-            → Accepts self.old.limits self.old.book file new
+        ensures marks { OnOk result (I.is_faithful self.old.index → I.is_marked self.new.index) }
+        ensures pages { I.is_faithful self.old.index
             → LeavesPages I.Listed self.old.index self.new.index }
     {
         let NewFile { head, joined, rows } = new;
@@ -163,9 +160,8 @@ impl<I: Start> Core<I> {
         ensures gives { (book : Book) → IsBookOf self.old book
             → LoadGives result (load_of self.old.limits book bytes.now) }
         ensures idle { OnErr result (self.new.begun ≡ self.old.begun) }
-        ensures marks { OnOk result (IsSound I.Listed self.old → I.is_clean self.old.index
-            → I.is_marked self.new.index) }
-        ensures pages { IsSound I.Listed self.old
+        ensures marks { OnOk result (I.is_faithful self.old.index → I.is_marked self.new.index) }
+        ensures pages { I.is_faithful self.old.index
             → LeavesPages I.Listed self.old.index self.new.index }
     {
         let new = match self.join_file(alloc, bytes) {

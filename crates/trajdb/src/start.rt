@@ -37,11 +37,8 @@ pub(crate) fn put_legs<I: Start>(index: &mut I, legs: &[Leg]) -> Result<(), Inde
         → HasRisen (I.faults index.old) (I.faults index.new) }
     ensures full { IsErrOf result IndexFault.StoreFull → I.is_store_full index.new }
     ensures later { IsLater I.Listed index.old index.new }
-    ensures marks { OnOk result (I.is_sound index.old
-        → CanFollowInTurn (I.content index.old) legs.now
-        → I.is_clean index.old → I.is_marked index.new) }
-    ensures pages { I.is_sound index.old → CanFollowInTurn (I.content index.old) legs.now
-        → LeavesPages I.Listed index.old index.new }
+    ensures marks { OnOk result (I.is_faithful index.old → I.is_marked index.new) }
+    ensures pages { I.is_faithful index.old → LeavesPages I.Listed index.old index.new }
 {
     index.start()?;
     index.add_all(legs)

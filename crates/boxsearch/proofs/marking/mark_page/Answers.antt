@@ -42,9 +42,9 @@ returns-clause-marked g c =
       | else-is_unfinished-via-else-is_unfinished w ↦ λ u same. true≢false (sym (c.is_unfinished.ensures.1 u) ∙ w.if-is_unfinished.false)
     ] in
     let unfinished : IsUnfinished w = subst (λ q. IsUnfinished q) (sym c.set_unfinished.ensures) (marked_is c.in_ok-page_mut.field-0.now) in
-    on_ok c.flush.result (λ written f h.
+    on_ok c.flush.result (λ written f.
     is_marked c.args.cache.now b (c.page_mut.follows.lender w) c.flush.new.self c.in_ok-page.field-0.now w c.page.follows.holds-at-none.0 c.in_ok-page.ensures.value not_marked
-    (c.page_mut.follows.holds w (ap is_ok c.in_ok-page_mut.was)) c.flush.ensures.stays c.flush.ensures.length c.flush.ensures.asked f h unfinished written) c.flush.ensures.written
+    (c.page_mut.follows.holds w (ap is_ok c.in_ok-page_mut.was)) c.flush.ensures.stays c.flush.ensures.length c.flush.ensures.asked f c.in_ok-page.ensures.below unfinished written) c.flush.ensures.written
 
 pub returns-clause-others : goal.returns-clause-others
 returns-clause-others g c =
@@ -82,5 +82,5 @@ pub returns-clause-synced : goal.returns-clause-synced
 returns-clause-synced g c = on_ok c.flush.result (λ synced f p at not_marked. synced) c.flush.ensures.synced
 
 pub returns-then-not-is_changed-clause-marked : goal.returns-then-not-is_changed-clause-marked
-returns-then-not-is_changed-clause-marked g c = λ f h.
-    already_marked _ _ c.in_ok-page.field-0.now c.page.follows.holds-at-none.0 c.in_ok-page.ensures.value (c.is_unfinished.ensures.0 c.if-is_unfinished.true) f h (sym c.is_changed.ensures ∙ c.if-not-is_changed.true)
+returns-then-not-is_changed-clause-marked g c = λ f.
+    already_marked _ _ c.in_ok-page.field-0.now c.page.follows.holds-at-none.0 c.in_ok-page.ensures.value (c.is_unfinished.ensures.0 c.if-is_unfinished.true) f c.in_ok-page.ensures.below (sym c.is_changed.ensures ∙ c.if-not-is_changed.true)

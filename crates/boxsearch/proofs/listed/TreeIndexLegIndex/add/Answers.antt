@@ -41,7 +41,7 @@ returns-clause-refusals g c =
     (refusals laws c.args.self.now c.put.new.self c.args.leg c.put.result works p)
 
 pub returns-clause-marked : goal.returns-clause-marked
-returns-clause-marked g c = λ s w m.
+returns-clause-marked g c = λ m.
     let mid : c.make_place.new.self ≡ made c.args.self.now c.leg.inside.feature = from_ok c.make_place.result (sym c.is_err.ensures.value ∙ c.if-is_err.false) c.make_place.ensures.ok in
     let p : Puts (made c.args.self.now c.leg.inside.feature) c.put.new.self c.args.leg c.put.result = subst (λ m. Puts m c.put.new.self c.args.leg c.put.result) mid c.put.ensures in
     marked_after c.args.self.now.cache c.put.new.self.cache p.passes m

@@ -47,6 +47,6 @@ returns-clause-others g c =
 pub returns-clause-marked : goal.returns-clause-marked
 returns-clause-marked g c =
     let new = c.mark_page.new.cache in
-    subst (λ i. OnOk c.of_pages.result (IsTrue i.cache.store.is_faithful → 0 < i.cache.count → IsMarked new)) c.self.view_is
-    (subst (λ r. OnOk r (IsTrue c.self.inside.cache.store.is_faithful → 0 < c.self.inside.cache.count → IsMarked new)) (sym c.of_pages.ensures)
-    (each_value (λ fault. of_cache fault) (λ _. IsTrue c.self.inside.cache.store.is_faithful → 0 < c.self.inside.cache.count → IsMarked new) c.mark_page.result c.mark_page.ensures.marked))
+    subst (λ i. OnOk c.of_pages.result (IsTrue i.cache.store.is_faithful → IsMarked new)) c.self.view_is
+    (subst (λ r. OnOk r (IsTrue c.self.inside.cache.store.is_faithful → IsMarked new)) (sym c.of_pages.ensures)
+    (each_value (λ fault. of_cache fault) (λ _. IsTrue c.self.inside.cache.store.is_faithful → IsMarked new) c.mark_page.result c.mark_page.ensures.marked))

@@ -30,7 +30,7 @@ loop-leg-preserved c =
     let so_far : IsGrowing list_words old now legs (leg ∷ drop (k + 1) legs) = subst (λ left. IsGrowing list_words old now legs left) next c.loop-leg.invariant.growing in
     let more = c.in_ok-add.ensures in
     record {
-      growing = growing-more list_words old now c.add.new.self legs (drop (k + 1) legs) leg so_far more.added more.marked;
+      growing = growing-more list_words old now c.add.new.self legs (drop (k + 1) legs) leg so_far more.added;
       later = later-trans list_words old now c.add.new.self c.loop-leg.invariant.later more.later;
       takes = takes_more list_words old now c.add.new.self legs k leg c.loop-leg-test.true c.leg-item.is c.loop-leg.invariant.takes more.takes;
     }

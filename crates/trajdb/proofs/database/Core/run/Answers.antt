@@ -18,7 +18,7 @@ pub loop-rest-preserved : goal.loop-rest-preserved
 loop-rest-preserved g c = record {
   lives = c.in-Ok.ensures.lives;
   later = later-trans g.I.Listed c.args.self.now c.loop-rest.self c.line.new.self c.loop-rest.invariant.later c.line.ensures.later;
-  pages = keeps-trans g.I.Listed c.args.self.now c.loop-rest.self c.line.new.self c.loop-rest.invariant.lives (λ s. (c.loop-rest.invariant.at s).0) c.loop-rest.invariant.pages c.line.ensures.pages;
+  pages = keeps-trans g.I.Listed c.args.self.now c.loop-rest.self c.line.new.self c.loop-rest.invariant.lives c.loop-rest.invariant.later.index.faithful c.loop-rest.invariant.pages c.line.ensures.pages;
   whole =
       let left = c.loop-rest.invariant.left in
       let next = next_line c.loop-rest.rest.now c.first_piece.result.0.now c.first_piece.result.1.now c.without_return.result.now c.first_piece.ensures.pieces c.without_return.ensures in
@@ -79,7 +79,7 @@ returns-in-Err-clause-call g c =
           c.loop-rest.invariant.later.limits (c.in-Err.ensures.only at.0) in
           begun_only _ _ _ _ _ _ _ _ _ _ _ at.2 next _ _ _ at.3 only;
       whole = whole_more _ _ _ _ _ left.0 left.1 next _ _ _ c.loop-rest.invariant.whole c.line.ensures.whole;
-      pages = keeps-trans g.I.Listed c.args.self.now c.loop-rest.self c.line.new.self c.loop-rest.invariant.lives (λ s. (c.loop-rest.invariant.at s).0) c.loop-rest.invariant.pages c.line.ensures.pages;
+      pages = keeps-trans g.I.Listed c.args.self.now c.loop-rest.self c.line.new.self c.loop-rest.invariant.lives c.loop-rest.invariant.later.index.faithful c.loop-rest.invariant.pages c.line.ensures.pages;
       was_failed = search rules;
       was_failed_output = search rules;
     }

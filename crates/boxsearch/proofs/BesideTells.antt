@@ -1,0 +1,69 @@
+-- Pages that say of all questions what they said, since all but page 0 are as they were.
+use Rattle.std.proofs.Common.{arith, ◌+◌, ℕ, zero, suc, Bool, ◌≡◌, ◌<◌, ◌∙◌, inl, inr, ⊎_elim, ◌⊎◌, All, List, length, refl, sym, ap, subst, slice_get}
+use Rattle.std.specs.List.{flat_map, filter}
+use Rattle.std.specs.Prelude.{map}
+use Rattle.std.proofs.lemmas.List.Elements.{All-weaker}
+use Rattle.legs.specs.Boxes.{BoxView}
+use Rattle.legs.specs.Hull.{leg_boxes}
+use Rattle.legs.specs.Legs.{LegView}
+use Rattle.legs.specs.Questions.{Question, InBox, OfFeature}
+use Rattle.tbtree.specs.Descent.{children_met, entries_in, legs_in, legs_met, met_count, node_at, pages_met, HasInner, IsInOrder}
+use Rattle.tbtree.specs.Nodes.{EntryView, HasLeaf, Pages}
+use Rattle.tbtree.specs.declared.tree.Place.{Place}
+use Rattle.tbtree.specs.declared.tree.TbTree.{TbTree}
+use Rattle.chains.proofs.ChainGrowth.{alike_beside}
+use Rattle.boxsearch.specs.Telling.{Denies, Tells}
+use Rattle.boxsearch.specs.Way.{meets, IsOnLevel, IsOffWay, IsWay}
+use Rattle.boxsearch.proofs.TrackGrowth.{denied_alike, told_alike}
+
+on_level : (old new : Pages LegView BoxView) → ((p : ℕ) → 0 < p → new.at p ≡ old.at p) → (k p : ℕ) → IsOnLevel old k p → IsOnLevel new k p
+on_level old new same zero p h = record { above = h.above; leaf = h.leaf; is = same p h.above ∙ h.is }
+on_level old new same (suc k) p h = record { above = h.above; page = h.page; is = same p h.above ∙ h.is; level_is = h.level_is }
+
+module _ (old new : Pages LegView BoxView) (same : (p : ℕ) → 0 < p → new.at p ≡ old.at p) (count : new.count ≡ old.count) where
+  same_node : (p : ℕ) → node_at new p ≡ node_at old p
+  same_node zero = refl
+  same_node (suc n) = same (suc n) (omega arith)
+
+  same_pages : (test : BoxView → Bool) (root n : ℕ) → pages_met test new root n ≡ pages_met test old root n
+  unfolding children_met
+  same_pages test root zero = refl
+  same_pages test root (suc n) = λ i. flat_map (λ p. map (λ (e : EntryView BoxView). e.child) (filter (λ e. test e.bounds) (entries_in (same_node p i)))) (same_pages test root n i)
+
+  same_counts : (test : BoxView → Bool) (root n : ℕ) → met_count test new root n ≡ met_count test old root n
+  same_counts test root zero = refl
+  same_counts test root (suc n) = (let a = same_counts test root n in let b : length (pages_met test new root n) ≡ length (pages_met test old root n) = ap length (same_pages test root n) in omega (arith, a, b))
+
+  same_legs : (test : BoxView → Bool) (root levels : ℕ) → legs_met leg_boxes test new root levels ≡ legs_met leg_boxes test old root levels
+  same_legs test root zero = refl
+  same_legs test root (suc n) = λ i. flat_map (λ p. filter (λ leg. test (leg_boxes.of leg)) (legs_in (same_node p i))) (same_pages test root n i)
+
+  way_beside : (query : BoxView) (root levels : ℕ) → IsWay query old root levels → IsWay query new root levels
+  way_beside query root levels w = record {
+    fit = λ n k e. subst (λ ps. All (λ p. IsOnLevel new k p) ps) (sym (same_pages (meets query) root n)) (All-weaker (λ p. IsOnLevel old k p) (λ p. IsOnLevel new k p) (on_level old new same k) (pages_met (meets query) old root n) (w.fit n k e));
+    few = λ n l. (let a = w.few n l in let b = same_counts (meets query) root n in omega (arith, a, b, count));
+  }
+
+  off_beside : (query : BoxView) (root levels p : ℕ) → IsOffWay query old root levels p → IsOffWay query new root levels p
+  off_beside query root levels p o = record {
+    n = o.n;
+    k = o.k;
+    level_is = o.level_is;
+    place = o.place;
+    met = ap (λ ps. slice_get ps o.place) (same_pages (meets query) root o.n) ∙ o.met;
+    wrong = ⊎_elim
+        (λ (h : IsOnLevel old o.k p → ⊥). inl (λ here. h (on_level new old (λ q above. sym (same q above)) o.k p here)))
+        (λ (h : met_count (meets query) old root o.n + o.place ≡ old.count). inr (let b = same_counts (meets query) root o.n in omega (arith, h, b, count)))
+        o.wrong;
+  }
+
+  pub tells_beside : (tree : TbTree) (places : List Place) (question : Question) (legs : List LegView) → Tells old tree places question legs → Tells new tree places question legs
+  tells_beside tree places (InBox query) legs t = record {
+    way = way_beside query tree.root tree.levels t.way;
+    met = subst (λ found. IsInOrder found legs) (sym (same_legs (meets query) tree.root tree.levels)) t.met;
+  }
+  tells_beside tree places (OfFeature feature period) legs t = told_alike old new tree.shape period feature (slice_get places feature) legs (alike_beside old new same feature) t
+
+  pub denies_beside : (tree : TbTree) (places : List Place) (question : Question) (page : ℕ) → Denies old tree places question page → Denies new tree places question page
+  denies_beside tree places (InBox query) page d = off_beside query tree.root tree.levels page d
+  denies_beside tree places (OfFeature feature period) page d = denied_alike old new tree.shape period feature (slice_get places feature) page (alike_beside old new same feature) d
