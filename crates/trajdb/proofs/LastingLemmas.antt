@@ -19,6 +19,7 @@ use Rattle.pages.specs.Store.{Store, IsLawful, IsSynced, IsSyncedButFirst}
 use Rattle.pages.specs.declared.payload.Payload.{Payload}
 use Rattle.pagecache.specs.Cache.{IsSettled}
 use Rattle.catalogue.specs.Closing.{IsNoStoreFault}
+use Rattle.catalogue.specs.Closing as closing
 use Rattle.register.specs.declared.fault.CatalogueFault.TheVariants.{Memory, StoreFull, Damaged, Unfinished, Version, Malformed}
 use Rattle.legs.specs.Asking.{Leaves as IndexLeaves}
 use Rattle.trajdb.specs.Calls.{IsLoadFault, KeepsPages}
@@ -26,7 +27,7 @@ use Rattle.trajdb.specs.Database.{catalogue_of, restored}
 use Rattle.trajdb.specs.Db.{DbView, HasPages, IsSoundDb}
 use Rattle.trajdb.specs.Db.{IsAllowed as IsAllowedOpening}
 use Rattle.trajdb.specs.Faults.{closed_answer, opened_fault_of}
-use Rattle.trajdb.specs.Lasting.{HasBook, IsFaultless, IsIdle, IsNamedAtOpen, IsStop, IsTrulyDamaged, TakesFew, IsTooFull}
+use Rattle.trajdb.specs.Lasting.{HasBook, IsClosingFault, IsFaultless, IsIdle, IsNamedAtOpen, IsStop, IsTrulyDamaged, TakesFew, IsTooFull}
 
 -- a book that is answered is that of the database
 pub opened_book : (shape : ShapeView) (limits : LimitsView) (book : Book) (c : CatalogueView) (index : IndexView) (begun : Bool) (db : DbView) → db ≡ restored words c index begun → IsLimits db.limits → AnswersBook shape limits book c index → HasBook shape limits book db
@@ -139,6 +140,17 @@ closed_full db (Err (Damaged page)) h e = absurd cc
 closed_full db (Err Unfinished) h e = absurd cc
 closed_full db (Err Version) h e = absurd cc
 closed_full db (Err Malformed) h e = absurd cc
+
+-- a store that failed, or is full, in the closing
+pub closed_caused : (db : DbView) (s : Store) (answer : Result (Unit {0}) CatalogueFault) → IfErr answer (closing.IsClosingFault db.index.cache.store s) → IfErr (closed_answer answer) (IsClosingFault db s)
+closed_caused db s (Ok x) h = tt
+closed_caused db s (Err Memory) h = tt
+closed_caused db s (Err fault.Store) h = h
+closed_caused db s (Err StoreFull) h = h
+closed_caused db s (Err (Damaged page)) h = tt
+closed_caused db s (Err Unfinished) h = tt
+closed_caused db s (Err Version) h = tt
+closed_caused db s (Err Malformed) h = tt
 
 pub closed_ordered : (db : DbView) (s : Store) (answer : Result (Unit {0}) CatalogueFault) → OnErr answer (IsMarked db.index.cache → IsUnfinishedStore s ⊎ IsSyncedButFirst s)
     → OnErr (closed_answer answer) (db.failed ≡ false → IsMarked db.index.cache → IsUnfinishedStore s ⊎ IsSyncedButFirst s)

@@ -1,23 +1,35 @@
 -- What each call of a database promises: one record for a call, each field of which is a clause. A public function that
--- ensures such a record ensures each of them. They are of a database over any index; what one over pages promises beside
--- them stands behind.
-use Rattle.std.specs.Prelude.{ℕ, ◌≡◌, List, Option, Result, Err, IfOk, IfErr, IsErrOf, OnOk, OnErr, true, false}
+-- ensures such a record ensures each of them. `load`, `command` and `run` are of a database over any index; what one over
+-- pages promises besides stands behind.
+use Rattle.std.specs.Prelude.{ℕ, ◌≡◌, ◌<◌, ◌⊎◌, List, Option, None, Result, Ok, Err, IfOk, IfErr, IsErrOf, IsTrue, OnOk, OnErr, true, false}
 use Rattle.std.specs.Global.{Vec}
 use Rattle.legs.specs.Asking.{Recalls}
 use Rattle.legs.specs.Book.{Book}
 use Rattle.legs.specs.declared.listed.Listed.{Ghosts}
-use Rattle.pages.specs.Store.{Store}
+use Rattle.legs.specs.Costs.{ShapeView}
+use Rattle.legs.specs.Limits.{LimitsView}
+use Rattle.tbtree.specs.declared.tree.Place.{Place}
+use Rattle.tbtree.specs.declared.tree.TbTree.{TbTree}
+use Rattle.pagecache.specs.Cache.{payload_of, stored_payload, IsClean}
+use Rattle.pages.specs.Store.{IsSynced, IsSyncedButFirst, Keeps, Stays, Store}
+use Rattle.boxsearch.specs.Index.{words, IsMarked}
+use Rattle.register.specs.Lasting.{first_fault, IsKept}
+use Rattle.register.specs.Saved.{CatalogueView}
+use Rattle.catalogue.specs.Holding.{HoldsBook, HoldsButFirst, IsUnfinishedStore}
 use Rattle.querylang.specs.declared.Command.{Command}
 use Rattle.trajdb.specs.Answers.{AcceptsBy, IsAnswer, IsCountsText, book_then, book_with, load_of}
-use Rattle.trajdb.specs.Calls.{AsksIn, AsksKnown, LearnsBy, Begins, BeginsBy, BeginsOnly, IsBookOf, IsLater, IsLoadStop, IsRunStop, IsStopped, KeepsPages, LeavesBook, Loads, LoadsWhole, LoadsWholeSome, PutsFile, TellsLoadBy}
+use Rattle.trajdb.specs.Calls.{AsksIn, AsksKnown, LearnsBy, Begins, BeginsBy, BeginsOnly, IsAsked, IsBookOf, IsLater, IsLoadFault, IsLoadStop, IsQuestionFault, IsRunStop, IsStopped, KeepsPages, LeavesBook, Loads, LoadsWhole, LoadsWholeSome, PutsFile, TellsLoadBy}
+use Rattle.trajdb.specs.Checking.{IsFirstFault, Reports}
 use Rattle.trajdb.specs.Database.{CoreView, FailsBy, IsRefused, IsSound, IsTold, LoadGives, Becomes}
 use Rattle.trajdb.specs.Db.{DbView, HasPages, IsSoundDb}
 use Rattle.trajdb.specs.Faults.{IsNotOutput}
-use Rattle.trajdb.specs.Lasting.{IsIdle, IsSafe}
+use Rattle.trajdb.specs.Lasting.{ComesFirst, HasBook, IsClosingFault, IsFaultless, IsIdle, IsNamedAtOpen, IsOpeningFault, IsSafe, IsSafeStore, IsStop, IsTooFull, IsTrulyDamaged, IsUnfinishedAnswer, TakesFew}
 use Rattle.trajdb.specs.Run.{AcceptsSome, StopsAt, Stops, IsCut}
 use Rattle.trajdb.specs.Telling.{IsToldAnswer, NamesBy, TellsCut, TellsRun, TellsStop}
 use Rattle.trajdb.specs.declared.Counts.{Counts}
 use Rattle.trajdb.specs.declared.LoadFault.{LoadFault}
+use Rattle.trajdb.specs.declared.OpenFault.{OpenFault}
+use Rattle.trajdb.specs.declared.Report.{Report}
 use Rattle.trajdb.specs.declared.RunFault.{RunFault}
 
 -- what `load` of a file promises
@@ -124,3 +136,100 @@ pub record RunCall {I O : Type 0} (g : Ghosts I) (shown : O → Option (List ℕ
 pub record KeepsStore (old new : DbView) : Type 0 where
   pub rests : IsIdle old → IsIdle new
   pub safe : (was : Store) → IsSoundDb old → HasPages old → IsSafe was old → IsSafe was new
+
+-- what `open` of a store promises, with a cache of so many pages, where `seen` is what contracts see of one that is
+-- handed back
+pub record OpenCall {S : Type 0} (seen : S → Store) (store : Store) (cache_pages : ℕ)
+    (result : Result DbView (S × OpenFault)) : Type 0 where
+  -- a store whose pages hold a book gives a sound database with that book
+  pub book : IfOk result (λ db. IsTrue store.is_faithful
+      → (shape : ShapeView) (limits : LimitsView) (book : Book)
+      → HoldsBook store shape limits book → HasBook shape limits book db)
+  pub holds : IfErr result (λ back. IsTrue store.is_faithful
+      → (shape : ShapeView) (limits : LimitsView) (book : Book)
+      → HoldsBook store shape limits book → IsStop back.1)
+  -- a store whose pages keep a catalogue is opened, but for memory and a store that failed
+  pub kept : IfErr result (λ back. IsTrue store.is_faithful
+      → (c : CatalogueView) (tree : TbTree) (places : List Place)
+      → IsKept (stored_payload store) store.count c tree places → IsStop back.1)
+  -- the pages as written keep what the database knows
+  pub idle : IfOk result (λ db. IsTrue store.is_faithful → IsIdle db)
+  pub begun : IfOk result (λ db. db.begun ≡ false)
+  pub lives : IfOk result (λ db. db.failed ≡ false)
+  pub capacity : IfOk result (λ db. db.index.cache.capacity ≡ cache_pages)
+  -- page 0 comes first
+  pub first : IfErr result (λ back. IsTrue store.is_faithful
+      → ComesFirst (first_fault store.count (stored_payload store 0)) back.1)
+  pub finished : IfOk result (λ db. IsTrue store.is_faithful
+      → first_fault store.count (stored_payload store 0) ≡ None)
+  -- a store that was not finished is refused as such
+  pub unfinished : IsTrue store.is_faithful → 0 < store.count → IsUnfinishedStore store
+      → IsUnfinishedAnswer result
+  -- the store stays as it is
+  pub stored : IfOk result (λ db. Stays store db.index.cache.store)
+  pub back : IfErr result (λ back. Stays store (seen back.0))
+  pub safe : IfOk result (λ db. IsTrue store.is_faithful → IsSoundDb db → IsSafe store db)
+  pub caused : IfErr result (λ back. IsOpeningFault store (seen back.0) back.1)
+  -- a page that is said to be damaged is so, and is the first that is met; pages that are said to be malformed keep
+  -- nothing, whatever stands in the damaged ones
+  pub damaged : IfErr result (λ back. IsTrulyDamaged store.is_faithful (stored_payload store)
+      store.count back.1)
+  pub named : IfErr result (λ back. IsTrue store.is_faithful
+      → IsNamedAtOpen (stored_payload store) store.count back.1)
+
+-- what `close` of a database promises of the store that is left
+pub record CloseCall (db : DbView) (left : Store)
+    (result : Result (Unit {0}) RunFault) : Type 0 where
+  -- it then holds the book
+  pub holds : OnOk result (IsSoundDb db → HasPages db → IsIdle db
+      → HoldsBook left db.index.tree.shape db.limits db.book)
+  -- all of it is synced where a file was accepted; else it stays as it is (`idle`)
+  pub synced : OnOk result (db.begun ≡ true → IsSynced left)
+  -- new pages are taken only for what its text needs beyond those of an earlier one
+  pub takes : OnOk result (TakesFew db left)
+  -- it is full only where it has no room for those
+  pub full : IsErrOf result RunFault.StoreFull → IsTooFull db
+  pub only : IfErr result (λ fault. IsSoundDb db → db.failed ≡ false → IsLoadFault fault)
+  pub unfinished : IfErr result (λ fault. IsFaultless fault → IsSoundDb db → HasPages db
+      → db.failed ≡ false → IsUnfinishedStore left)
+  -- before page 0 may say that the store is finished, all else is written and synced
+  pub refused : OnErr result (IsSoundDb db → HasPages db → db.failed ≡ false
+      → IsUnfinishedStore left ⊎ HoldsButFirst left db.index.tree.shape db.limits db.book)
+  -- so it is, but for what they hold, be the database sound or not
+  pub ordered : OnErr result (db.failed ≡ false → IsMarked db.index.cache
+      → IsUnfinishedStore left ⊎ IsSyncedButFirst left)
+  -- nothing is written before a file is accepted, and of a failed database
+  pub idle : db.failed ≡ false → db.begun ≡ false → (result ≡ Ok tt)
+      × (left ≡ db.index.cache.store)
+  pub failed : db.failed ≡ true → (result ≡ Err RunFault.Failed) × (left ≡ db.index.cache.store)
+  pub keeps : Keeps db.index.cache.store left
+  -- what a load that failed leaves is refused as not finished, or is the store that was there before, but for page 0
+  -- where the store failed
+  pub safe : db.failed ≡ true → (was : Store) → IsSafe was db → IsSafeStore was left
+  pub caused : IfErr result (IsClosingFault db left)
+
+-- what `check` of a database promises
+pub record CheckCall (old new : DbView) (result : Result Report RunFault) : Type 0 where
+  -- what passes is sound, whoever made the pages, and the report is true
+  pub sound : OnOk result (IsTrue old.index.cache.store.is_faithful → IsSoundDb new)
+  pub has_pages : OnOk result (IsTrue old.index.cache.store.is_faithful → HasPages new)
+  pub report : IfOk result (λ report. IsTrue old.index.cache.store.is_faithful
+      → Reports new report)
+  pub lives : OnOk result (new.failed ≡ false)
+  -- what is sound passes
+  pub only : IfErr result (λ fault. IsSoundDb old → HasPages old → IsIdle old
+      → old.failed ≡ false → IsQuestionFault fault)
+  pub works : IsErrOf result RunFault.Failed
+      → (old.failed ≡ true) ⊎ (words.is_spent old.index ≡ true)
+  -- which page is damaged, whoever made the pages
+  pub named : IsTrue old.index.cache.store.is_faithful → (n : ℕ)
+      → IsErrOf result (RunFault.Damaged n) → IsFirstFault old n
+  -- the book stays, and each page has the payload that it had; once it has passed, all that was changed is written, and
+  -- nothing is where nothing was changed
+  pub leaves : LeavesBook words old new
+  pub payloads : IsTrue old.index.cache.store.is_faithful → (page : ℕ)
+      → payload_of new.index.cache page ≡ payload_of old.index.cache page
+  pub written : OnOk result (IsClean new.index.cache)
+  pub pages : KeepsPages words old new
+  pub store : IfErr result (IsAsked words old.index new.index)
+  pub was_failed : old.failed ≡ true → (result ≡ Err RunFault.Failed) × (new ≡ old)

@@ -187,15 +187,7 @@ impl<S: PageStore> Core<TreeIndex<S>> {
 }
 
 impl<S: PageStore> Db<S> {
-    ghost use Rattle.std.specs.Prelude.{ℕ, ◌≡◌, ◌⊎◌, Err, IfErr, IfOk, IsErrOf, IsTrue, OnOk, false, true};
-    ghost use Rattle.pagecache.specs.Cache.{payload_of, IsClean};
-    ghost use Rattle.pages.specs.Store.{Store};
-    ghost use Rattle.boxsearch.specs.Index.{words};
-    ghost use Rattle.trajdb.specs.Calls.{IsAsked, IsQuestionFault, KeepsPages, LeavesBook};
-    ghost use Rattle.trajdb.specs.Checking.{IsFirstFault, Reports};
-    ghost use Rattle.trajdb.specs.Db.{HasPages, IsSoundDb};
-    ghost use Rattle.trajdb.specs.Lasting.{IsIdle, IsSafe};
-    ghost use Rattle.trajdb.specs.declared.RunFault.{RunFault};
+    ghost use Rattle.trajdb.specs.Promises.{CheckCall, KeepsStore};
 
     /// Tests that the pages of its store, whoever made them, and what is known beside them hold one
     /// book: all that is changed is written; each page is asked of the cache for its seal; page 0 is
@@ -208,39 +200,8 @@ impl<S: PageStore> Db<S> {
     /// does. Refused as well for want of memory, and where the store fails; a failed database is
     /// `Failed`. Whatever is answered, the book stays.
     pub fn check(&mut self) -> Result<Report, RunFault>
-        // What passes is sound, whoever made the pages, and the report is true.
-        ensures sound { OnOk result (IsTrue self.old.index.cache.store.is_faithful
-            → IsSoundDb self.new) }
-        ensures has_pages { OnOk result (IsTrue self.old.index.cache.store.is_faithful
-            → HasPages self.new) }
-        ensures report { IfOk result (λ report. IsTrue self.old.index.cache.store.is_faithful
-            → Reports self.new report) }
-        ensures lives { OnOk result (self.new.failed ≡ false) }
-
-        // What is sound passes.
-        ensures only { IfErr result (λ fault. IsSoundDb self.old → HasPages self.old
-            → IsIdle self.old → self.old.failed ≡ false → IsQuestionFault fault) }
-        ensures works { IsErrOf result RunFault.Failed
-            → (self.old.failed ≡ true) ⊎ (words.is_spent self.old.index ≡ true) }
-
-        // Which page is damaged, whoever made the pages.
-        ensures named { IsTrue self.old.index.cache.store.is_faithful → (n : ℕ)
-            → IsErrOf result (RunFault.Damaged n) → IsFirstFault self.old n }
-
-        // The book stays, and each page has the payload that it had; once it has passed, all that
-        // was changed is written, and nothing is where nothing was changed.
-        ensures leaves { LeavesBook words self.old self.new }
-        ensures payloads { IsTrue self.old.index.cache.store.is_faithful → (page : ℕ)
-            → payload_of self.new.index.cache page ≡ payload_of self.old.index.cache page }
-        ensures written { OnOk result (IsClean self.new.index.cache) }
-        ensures pages { KeepsPages words self.old self.new }
-        ensures rests { IsIdle self.old → IsIdle self.new }
-        ensures safe { (was : Store) → IsSoundDb self.old → HasPages self.old → IsSafe was self.old
-            → IsSafe was self.new }
-
-        ensures store { IfErr result (IsAsked words self.old.index self.new.index) }
-        ensures was_failed { self.old.failed ≡ true
-            → (result ≡ Err RunFault.Failed) × (self.new ≡ self.old) }
+        ensures call { CheckCall self.old self.new result }
+        ensures keeps { KeepsStore self.old self.new }
     {
         catalogue::laws();
         if self.core.failed {

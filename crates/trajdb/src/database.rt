@@ -180,9 +180,9 @@ impl<I: Start> Core<I> {
     ghost use Rattle.trajdb.specs.Promises.{LoadCall};
 
     /// Accepts a file, whole or not at all: how many data records, legs and distinct features it has,
-    /// or the first fault of its text, or else of its joining.
+    /// or the first fault of its text, or else of its joining, by which nothing changes.
     ///
-    /// Where the database cannot tell, as for want of memory, it is failed: it answers nothing any more.
+    /// Where the database cannot tell, as for want of memory, it is failed: it answers nothing any more (`Failed`).
     pub fn load(&mut self, alloc: Global, bytes: &[u8]) -> Result<Counts, LoadFault>
         ensures { LoadCall I.Listed self.old self.new bytes.now result }
     {
@@ -245,7 +245,8 @@ impl<I: Start> Core<I> {
 
     /// The whole answer to a command, with the named files at hand.
     ///
-    /// A command that is not answered changes nothing, or is a `load`, and the database is failed.
+    /// A command that is not answered changes nothing, or is a `load`, and the database is failed, and does nothing any
+    /// more (`Failed`).
     pub fn command(
         &mut self,
         alloc: Global,
@@ -381,7 +382,11 @@ impl<I: Start> Core<I> {
         }
     }
 
-    /// Runs a script over the database, and sends its answers.
+    /// Runs a script, with the named files at hand, and sends its answers.
+    ///
+    /// Where a line is not answered the run stops: the answers to the lines before it were sent, whole, and the database is
+    /// left as after these, or is failed, and the line a `load` of a file that is there. Where the output fails (`Output`) a
+    /// front of the answers was sent, all but the last of them whole. A failed database does nothing (`Failed`).
     pub fn run<W: Write>(
         &mut self,
         alloc: Global,

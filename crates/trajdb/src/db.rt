@@ -102,9 +102,9 @@ impl<S: PageStore> Db<S> {
     }
 
     /// Accepts a file, whole or not at all: how many data records, legs and distinct features it has,
-    /// or the first fault of its text, or else of its joining.
+    /// or the first fault of its text, or else of its joining, by which nothing changes.
     ///
-    /// Where the database cannot tell, it is failed: it answers nothing any more.
+    /// Where the database cannot tell, as for want of memory, it is failed: it answers nothing any more (`Failed`).
     pub fn load(&mut self, alloc: Global, bytes: &[u8]) -> Result<Counts, LoadFault>
         ensures call { LoadCall words self.old self.new bytes.now result }
         ensures keeps { KeepsStore self.old self.new }
@@ -115,7 +115,8 @@ impl<S: PageStore> Db<S> {
 
     /// The whole answer to a command, with the named files at hand.
     ///
-    /// A command that is not answered changes nothing, or is a `load`, and the database is failed.
+    /// A command that is not answered changes nothing, or is a `load`, and the database is failed, and does nothing any
+    /// more (`Failed`).
     pub fn command(
         &mut self,
         alloc: Global,
@@ -130,6 +131,10 @@ impl<S: PageStore> Db<S> {
     }
 
     /// Runs a script, with the named files at hand, and sends its answers.
+    ///
+    /// Where a line is not answered the run stops: the answers to the lines before it were sent, whole, and the database is
+    /// left as after these, or is failed, and the line a `load` of a file that is there. Where the output fails (`Output`) a
+    /// front of the answers was sent, all but the last of them whole. A failed database does nothing (`Failed`).
     pub fn run<W: Write>(
         &mut self,
         alloc: Global,

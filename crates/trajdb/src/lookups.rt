@@ -15,13 +15,12 @@ impl<S: PageStore> Db<S> {
     ghost use Rattle.legs.specs.Costs.{search_cost};
     ghost use Rattle.legs.specs.Questions.{InBox};
     ghost use Rattle.predicates.specs.Near.{box_near};
-    ghost use Rattle.pages.specs.Store.{Store};
     ghost use Rattle.boxsearch.specs.Index.{words};
     ghost use Rattle.trajdb.specs.Answers.{HoldsOfLeg};
     ghost use Rattle.trajdb.specs.Calls.{Asks, IsRefused, LeavesBook};
     ghost use Rattle.trajdb.specs.Db.{HasPages, IsSoundDb};
-    ghost use Rattle.trajdb.specs.Lasting.{IsIdle, IsSafe};
     ghost use Rattle.trajdb.specs.Picks.{Picks};
+    ghost use Rattle.trajdb.specs.Promises.{KeepsStore};
     ghost use Rattle.trajdb.specs.Telling.{ArePickedOf, Names};
     ghost use Rattle.trajdb.specs.declared.RunFault.{RunFault};
 
@@ -50,9 +49,7 @@ impl<S: PageStore> Db<S> {
         ensures refused { IfErr result (λ fault. self.old.failed ≡ false
             → IsRefused words self.old self.new fault) }
         ensures pages { HasPages self.old → HasPages self.new }
-        ensures rests { IsIdle self.old → IsIdle self.new }
-        ensures safe { (was : Store) → IsSoundDb self.old → HasPages self.old → IsSafe was self.old
-            → IsSafe was self.new }
+        ensures keeps { KeepsStore self.old self.new }
 
         // A failed database does nothing.
         ensures was_failed { self.old.failed ≡ true → (result ≡ Err RunFault.Failed)

@@ -8,10 +8,10 @@ use Rattle.trajdb.proofs.db.Db.legs.Goals as goal
 pub returns-clause-found : goal.returns-clause-found
 returns-clause-found g c = rw (← c.self.view_is) c.legs_for.ensures.found
 
-pub returns-clause-rests : goal.returns-clause-rests
-returns-clause-rests g c = rw (← c.self.view_is) (keeps_idle c.laws.ensures.rests _ _ (keeps_leaves words _ _ c.legs_for.ensures.leaves))
-
-pub returns-clause-safe : goal.returns-clause-safe
-returns-clause-safe g c =
+pub returns-clause-keeps : goal.returns-clause-keeps
+returns-clause-keeps g c =
     let lives : c.self.inside.core.failed ≡ false = sym (λ i. (c.self-inside.view_is i).core.failed) ∙ c.if-self.false in
-    rw (← c.self.view_is) (leaves_safe _ _ c.legs_for.ensures.leaves lives)
+    record {
+      rests = rw (← c.self.view_is) (keeps_idle c.laws.ensures.rests _ _ (keeps_leaves words _ _ c.legs_for.ensures.leaves));
+      safe = rw (← c.self.view_is) (leaves_safe _ _ c.legs_for.ensures.leaves lives);
+    }
