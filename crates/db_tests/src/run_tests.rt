@@ -168,10 +168,25 @@ const FILES: [(&str, &str); 31] = [
 
 pub(crate) fn named_files(alloc: Global) -> Result<Files, RunFault> {
     let mut files = Files::new(alloc);
-    for (name, text) in FILES {
+    for (name, text) in &FILES {
         files.add(name, Vec::from_slice(alloc, text.as_bytes())?)?;
     }
     Ok(files)
+}
+
+/// A new database over a store without pages, or why there is none, with the store.
+fn create<S: PageStore>(
+    alloc: Global,
+    keys: RandomState,
+    store: S,
+    limits: Limits,
+    shape: Shape,
+    cache_pages: usize,
+) -> Result<Db<S>, (S, OpenFault)> {
+    if store.len() > 0 {
+        return Err((store, OpenFault::Store));
+    }
+    Db::create(alloc, keys, store, shape, cache_pages.max(1), limits)
 }
 
 /// A new database over a store without pages, with leaves and inner pages of so many, and a cache of so many pages.
@@ -183,10 +198,7 @@ pub(crate) fn over<S: PageStore + Drop>(
     (leaf, inner, cache_pages): (u16, u16, usize),
 ) -> Result<Db<S>, RunFault> {
     let shape = Shape::new(leaf, inner).ok_or(RunFault::Failed)?;
-    if store.len() > 0 {
-        return Err(RunFault::Store);
-    }
-    match Db::create(alloc, keys, store, shape, cache_pages.max(1), limits) {
+    match create(alloc, keys, store, limits, shape, cache_pages) {
         Ok(db) => Ok(db),
         Err((_, OpenFault::Memory)) => Err(RunFault::Memory),
         Err(_) => Err(RunFault::Store),
