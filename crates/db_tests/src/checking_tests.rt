@@ -220,7 +220,7 @@ fn entries_in_another_order_are_told(rt: HostRuntime) -> Result<(), Fail> {
 }
 
 /// How a check went over a store that fails, once or for good.
-#[derive(Clone, Copy, PartialEq, Eq, Debug)]
+#[derive(Clone, Copy)]
 enum Checked {
     /// There is no database to check.
     Nothing,

@@ -114,7 +114,7 @@ fn line_behind(done: usize) -> &'static str {
 }
 
 /// How the script went.
-#[derive(Clone, Copy, PartialEq, Eq, Debug)]
+#[derive(Clone, Copy, PartialEq, Eq)]
 enum Outcome {
     /// It answered all.
     Whole,

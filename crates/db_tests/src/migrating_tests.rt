@@ -97,7 +97,7 @@ fn a_store_of_version_1_is_not_opened(rt: HostRuntime) -> Result<(), Fail> {
 }
 
 /// What is left of a new store into which nothing was brought over.
-#[derive(Clone, Copy, PartialEq, Eq, Debug)]
+#[derive(Clone, Copy, PartialEq, Eq)]
 enum Left {
     /// No page.
     Nothing,
