@@ -89,13 +89,34 @@ fn rows_of(alloc: Global, file: &File) -> Option<Rows> {
     Some(rows)
 }
 
+/// Accepts a file: its tracks.
+fn accepted(
+    alloc: Global,
+    keys: RandomState,
+    file: &File,
+    index: &mut TreeIndex<MemStore>,
+) -> Option<Tracks> {
+    let mut tracks = Tracks::new(alloc, keys).ok()?;
+    put(alloc, file, index, &mut tracks)?;
+    Some(tracks)
+}
+
+/// Accepts a file: what is known of it beside its head and its legs.
+fn known(
+    alloc: Global,
+    keys: RandomState,
+    file: &File,
+    index: &mut TreeIndex<MemStore>,
+) -> Option<(Tracks, Rows)> {
+    let tracks = accepted(alloc, keys, file, index)?;
+    Some((tracks, rows_of(alloc, file)?))
+}
+
 /// Accepts the example: its catalogue.
 fn load(alloc: Global, keys: RandomState, index: &mut TreeIndex<MemStore>) -> Option<Catalogue> {
     let limits = limits()?;
     let file = read_file(alloc, STANDARD.as_bytes()).ok()?;
-    let mut tracks = Tracks::new(alloc, keys).ok()?;
-    put(alloc, &file, index, &mut tracks)?;
-    let rows = rows_of(alloc, &file)?;
+    let (tracks, rows) = known(alloc, keys, &file, index)?;
     Some(Catalogue {
         head: Some(BookHead::from(file.head)),
         limits,
@@ -175,15 +196,27 @@ fn numbers_of(catalogue: &Catalogue) -> ([u64; 5], bool) {
     (numbers, catalogue.tracks.name(1) == Some("b"))
 }
 
-/// The same of what is restored of the example, and how many legs of its first feature the index has.
-fn restored(alloc: Global, keys: RandomState) -> Option<(([u64; 5], bool), usize)> {
-    let cache = PageCache::new(alloc, closed(alloc, keys)?, 4).ok()?;
-    let (catalogue, mut index) = restore(alloc, keys, cache).ok()?;
-    let legs = match index.track(0) {
+/// What is restored of the example.
+fn restored_parts(alloc: Global, keys: RandomState) -> Option<(Catalogue, TreeIndex<MemStore>)> {
+    let store = closed(alloc, keys)?;
+    match PageCache::new(alloc, store, 4) {
+        Ok(cache) => restore(alloc, keys, cache).ok(),
+        Err(_) => None,
+    }
+}
+
+/// How many legs of the first feature an index has.
+fn count_of_first(index: &mut TreeIndex<MemStore>) -> usize {
+    match index.track(0) {
         Ok(legs) => legs.len(),
         Err(_) => 0,
-    };
-    Some((numbers_of(&catalogue), legs))
+    }
+}
+
+/// The same of what is restored of the example, and how many legs of its first feature the index has.
+fn restored(alloc: Global, keys: RandomState) -> Option<(([u64; 5], bool), usize)> {
+    let (catalogue, mut index) = restored_parts(alloc, keys)?;
+    Some((numbers_of(&catalogue), count_of_first(&mut index)))
 }
 
 #[test]
