@@ -166,11 +166,17 @@ const FILES: [(&str, &str); 31] = [
     ),
 ];
 
-pub(crate) fn named_files(alloc: Global) -> Result<Files, RunFault> {
-    let mut files = Files::new(alloc);
-    for (name, text) in &FILES {
+/// Adds these files.
+fn add_all(alloc: Global, files: &mut Files, named: &[(&str, &str)]) -> Result<(), RunFault> {
+    for (name, text) in named {
         files.add(name, Vec::from_slice(alloc, text.as_bytes())?)?;
     }
+    Ok(())
+}
+
+pub(crate) fn named_files(alloc: Global) -> Result<Files, RunFault> {
+    let mut files = Files::new(alloc);
+    add_all(alloc, &mut files, &FILES)?;
     Ok(files)
 }
 
