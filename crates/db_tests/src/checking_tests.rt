@@ -1,5 +1,5 @@
 //! Databases that are checked.
-use crate::lasting_tests::{closed, loaded, opened, said};
+use crate::lasting_tests::{check, close, closed, loaded, opened, said};
 use pages::{Fuse, MemStore, PageStore, seal, unseal};
 use std::alloc::Global;
 use std::hash::RandomState;
@@ -16,31 +16,40 @@ fn found(pages: u32, legs: u64, features: u64) -> Result<Report, RunFault> {
     })
 }
 
-/// What checks find of the example: twice where it was loaded, once where it was opened, and once
-/// with a leg more.
+/// What two checks find of the example where it was loaded, and the store as it is closed then.
 fn checks_of_the_example(
     alloc: Global,
     keys: RandomState,
-) -> Option<[Result<Report, RunFault>; 4]> {
+) -> Option<([Result<Report, RunFault>; 2], MemStore)> {
     let mut db = loaded(alloc, keys, MemStore::new(alloc, 100)).ok()?;
-    let (first, second) = (db.check(), db.check());
-    let (store, _) = db.close(alloc);
+    let told = [check(&mut db), check(&mut db)];
+    Some((told, close(alloc, db).0))
+}
+
+/// What they find of that store where it is opened, and where a leg more is loaded into it.
+fn checks_of_the_opened(
+    alloc: Global,
+    keys: RandomState,
+    store: MemStore,
+) -> Option<[Result<Report, RunFault>; 2]> {
     let mut db = opened(alloc, keys, store, 1).ok()?;
-    let third = db.check();
+    let third = check(&mut db);
     said(alloc, &mut db, "load more.csv").1.ok()?;
-    Some([first, second, third, db.check()])
+    Some([third, check(&mut db)])
+}
+
+/// Whether all four find what they should.
+fn passes(alloc: Global, keys: RandomState) -> Option<bool> {
+    let (loaded, store) = checks_of_the_example(alloc, keys)?;
+    let opened = checks_of_the_opened(alloc, keys, store)?;
+    let is_loaded = loaded == [found(5, 5, 3), found(5, 5, 3)];
+    Some(is_loaded && opened == [found(6, 5, 3), found(7, 6, 4)])
 }
 
 #[test]
 fn the_example_passes(rt: HostRuntime) -> Result<(), Fail> {
     let (alloc, keys) = (rt.alloc(), RandomState::new(&rt)?);
-    let wanted = [
-        found(5, 5, 3),
-        found(5, 5, 3),
-        found(6, 5, 3),
-        found(7, 6, 4),
-    ];
-    assert!(rt; checks_of_the_example(alloc, keys) == Some(wanted));
+    assert!(rt; passes(alloc, keys) == Some(true));
     Ok(())
 }
 
@@ -71,25 +80,16 @@ const LIES: [(u32, usize, u32, u32); 13] = [
     (5, 167, 1, 0),
 ];
 
-/// The example, closed, with that value at a place of a page.
-fn lying(
-    alloc: Global,
-    keys: RandomState,
-    number: u32,
-    place: usize,
-    value: u32,
-) -> Result<MemStore, RunFault> {
-    let (mut store, _) = closed(alloc, keys, 100)?;
+/// Puts a value at a place of the payload of a page, under a right seal.
+fn lie(store: &mut MemStore, number: u32, place: usize, value: u32) -> Option<()> {
     let mut page = [0; 4096];
     if number >= store.len() || place > 4000 {
-        return Err(RunFault::Failed);
+        return None;
     }
-    store.read(number, &mut page).ok().ok_or(RunFault::Store)?;
-    let mut payload = unseal(number, &page).ok().ok_or(RunFault::Damaged(number))?;
+    store.read(number, &mut page).ok()?;
+    let mut payload = unseal(number, &page).ok()?;
     put_u32(&mut payload.bytes, place, value);
-    let page = seal(number, &payload);
-    store.write(number, &page).ok().ok_or(RunFault::Store)?;
-    Ok(store)
+    store.write(number, &seal(number, &payload)).ok()
 }
 
 /// All questions about the example.
@@ -103,83 +103,63 @@ features crosses 11.5 2.5 13 4 2012-01-17T12:33:41Z 2012-01-17T12:37:00Z
 write
 ";
 
-/// What a check answers over such a store, where each question is answered or names a page.
-fn checked_lie(
-    alloc: Global,
-    keys: RandomState,
-    number: u32,
-    place: usize,
-    value: u32,
-) -> Option<Result<Report, RunFault>> {
-    let store = lying(alloc, keys, number, place, value).ok()?;
-    let mut db = opened(alloc, keys, store, 1).ok()?;
-    let told = db.check();
-    for question in QUESTIONS.split('\n') {
-        match said(alloc, &mut db, question).1 {
-            Ok(()) | Err(RunFault::Damaged(_)) => {}
-            Err(_) => return None,
-        }
-    }
-    Some(told)
-}
-
-#[test]
-fn pages_that_lie_are_named(rt: HostRuntime) -> Result<(), Fail> {
-    let (alloc, keys) = (rt.alloc(), RandomState::new(&rt)?);
-    for (page, place, value, named) in LIES {
-        let told = checked_lie(alloc, keys, page, place, value);
-        assert!(rt;
-            told == Some(Err(RunFault::Damaged(named))),
-            "{value} at {place} of {page}: {told:?} for {named}"
-        );
-    }
-    Ok(())
-}
-
-/// The example, closed, with one byte of a page altered, so that its seal is broken.
-fn damaged(alloc: Global, keys: RandomState, number: u32) -> Result<MemStore, RunFault> {
-    let (mut store, _) = closed(alloc, keys, 100)?;
-    let mut page = [0; 4096];
-    if number >= store.len() {
-        return Err(RunFault::Failed);
-    }
-    store.read(number, &mut page).ok().ok_or(RunFault::Store)?;
-    page[100] ^= 1;
-    store.write(number, &page).ok().ok_or(RunFault::Store)?;
-    Ok(store)
-}
-
-/// The example, closed, with a damaged page, or with a value at a place of it under a right seal.
-fn altered(
-    alloc: Global,
-    keys: RandomState,
-    number: u32,
-    lie: Option<(usize, u32)>,
-) -> Result<MemStore, RunFault> {
-    match lie {
-        Some((place, value)) => lying(alloc, keys, number, place, value),
-        None => damaged(alloc, keys, number),
-    }
-}
-
-/// Which page each question over such a store names, 0 where it is answered, and 9 where it is refused otherwise.
-fn named(
-    alloc: Global,
-    keys: RandomState,
-    number: u32,
-    lie: Option<(usize, u32)>,
-) -> Option<[u32; 7]> {
-    let store = altered(alloc, keys, number, lie).ok()?;
-    let mut db = opened(alloc, keys, store, 1).ok()?;
+/// Which page each question names, 0 where it is answered, and 9 where it is refused otherwise.
+fn named(alloc: Global, db: &mut Db<MemStore>) -> [u32; 7] {
     let mut pages = [9; 7];
     for (page, question) in pages.iter_mut().zip(QUESTIONS.split('\n')) {
-        *page = match said(alloc, &mut db, question).1 {
+        *page = match said(alloc, db, question).1 {
             Ok(()) => 0,
             Err(RunFault::Damaged(page)) => page,
             Err(_) => 9,
         };
     }
-    Some(pages)
+    pages
+}
+
+/// The example, closed and opened, with a damaged page, or with a value at a place of it under a right seal.
+fn altered(
+    alloc: Global,
+    keys: RandomState,
+    number: u32,
+    value: Option<(usize, u32)>,
+) -> Option<Db<MemStore>> {
+    let (mut store, _) = closed(alloc, keys, 100).ok()?;
+    match value {
+        Some((place, value)) => lie(&mut store, number, place, value)?,
+        None if number < store.len() => store.set_byte(number, 100, 255),
+        None => return None,
+    }
+    opened(alloc, keys, store, 1).ok()
+}
+
+/// What a check answers over the example with such a page, and whether each question is answered or names a page.
+fn checked_lie(
+    alloc: Global,
+    keys: RandomState,
+    (number, place, value): (u32, usize, u32),
+) -> Option<(Result<Report, RunFault>, bool)> {
+    let mut db = altered(alloc, keys, number, Some((place, value)))?;
+    let told = check(&mut db);
+    let pages = named(alloc, &mut db);
+    Some((told, pages.iter().all(|page| *page < 9)))
+}
+
+/// The first of these pages that is not named so, if any.
+fn wrong_lie(alloc: Global, keys: RandomState) -> Option<usize> {
+    for (at, (page, place, value, named)) in LIES.iter().enumerate() {
+        let told = checked_lie(alloc, keys, (*page, *place, *value));
+        if told != Some((Err(RunFault::Damaged(*named)), true)) {
+            return Some(at);
+        }
+    }
+    None
+}
+
+#[test]
+fn pages_that_lie_are_named(rt: HostRuntime) -> Result<(), Fail> {
+    let (alloc, keys) = (rt.alloc(), RandomState::new(&rt)?);
+    assert_eq!(rt; wrong_lie(alloc, keys), None);
+    Ok(())
 }
 
 /// The leaf of the first feature, and the root, each damaged, and malformed under a right seal. The
@@ -191,19 +171,26 @@ const DAMAGE: [(u32, Option<(usize, u32)>, [u32; 7]); 4] = [
     (3, Some((16, 3)), [0, 3, 3, 0, 0, 0, 3]),
 ];
 
+/// The first of these over which a question names another page, if any.
+fn wrong_name(alloc: Global, keys: RandomState) -> Option<usize> {
+    for (at, (page, value, wanted)) in DAMAGE.iter().enumerate() {
+        let mut db = altered(alloc, keys, *page, *value)?;
+        if named(alloc, &mut db) != *wanted {
+            return Some(at);
+        }
+    }
+    Some(DAMAGE.len())
+}
+
 #[test]
 fn a_question_over_damage_names_it(rt: HostRuntime) -> Result<(), Fail> {
     let (alloc, keys) = (rt.alloc(), RandomState::new(&rt)?);
-    for (page, lie, wanted) in DAMAGE {
-        let told = named(alloc, keys, page, lie);
-        assert!(rt; told == Some(wanted), "{page}, {lie:?}: {told:?}");
-    }
+    assert_eq!(rt; wrong_name(alloc, keys), Some(DAMAGE.len()));
     Ok(())
 }
 
-/// What a check answers where the first two entries of the root are exchanged under a right seal.
-fn checked_exchange(alloc: Global, keys: RandomState) -> Option<Result<Report, RunFault>> {
-    let (mut store, _) = closed(alloc, keys, 100).ok()?;
+/// Exchanges the first two entries of the root, page 3, under a right seal.
+fn exchange(store: &mut MemStore) -> Option<()> {
     if store.len() < 4 {
         return None;
     }
@@ -214,8 +201,15 @@ fn checked_exchange(alloc: Global, keys: RandomState) -> Option<Result<Report, R
     first.copy_from_slice(&payload.bytes[16..72]);
     payload.bytes.copy_within(72..128, 16);
     payload.bytes[72..128].copy_from_slice(&first);
-    store.write(3, &seal(3, &payload)).ok()?;
-    Some(opened(alloc, keys, store, 256).ok()?.check())
+    store.write(3, &seal(3, &payload)).ok()
+}
+
+/// What a check answers then.
+fn checked_exchange(alloc: Global, keys: RandomState) -> Option<Result<Report, RunFault>> {
+    let (mut store, _) = closed(alloc, keys, 100).ok()?;
+    exchange(&mut store)?;
+    let mut db = opened(alloc, keys, store, 256).ok()?;
+    Some(check(&mut db))
 }
 
 #[test]
@@ -226,7 +220,7 @@ fn entries_in_another_order_are_told(rt: HostRuntime) -> Result<(), Fail> {
 }
 
 /// How a check went over a store that fails, once or for good.
-#[derive(Clone, Copy, PartialEq, Eq, Debug)]
+#[derive(Clone, Copy)]
 enum Checked {
     /// There is no database to check.
     Nothing,
@@ -240,7 +234,7 @@ enum Checked {
 
 /// Checks a database of the example with so many pages.
 fn check_twice<S: PageStore>(db: &mut Db<S>, pages: u32, once: bool) -> Checked {
-    let report = db.check();
+    let report = check(db);
     if report == found(pages, 5, 3) {
         return Checked::Passed;
     }
@@ -249,15 +243,37 @@ fn check_twice<S: PageStore>(db: &mut Db<S>, pages: u32, once: bool) -> Checked 
     } else {
         Err(RunFault::Store)
     };
-    if report == Err(RunFault::Store) && db.check() == again {
+    if report == Err(RunFault::Store) && check(db) == again {
         Checked::Again
     } else {
         Checked::Wrong
     }
 }
 
-/// Checks the example over a store that fails when so many calls have passed: as it is loaded, or as it is closed and
-/// opened.
+/// Checks the example as it is loaded over a store that fails when so many calls have passed.
+fn checked_loaded(alloc: Global, keys: RandomState, calls: u64, once: bool) -> Checked {
+    match loaded(
+        alloc,
+        keys,
+        Fuse::new(MemStore::new(alloc, 100), calls, once),
+    ) {
+        Ok(mut db) => check_twice(&mut db, 5, once),
+        Err(_) => Checked::Nothing,
+    }
+}
+
+/// Checks the example as it is closed, and opened over such a store.
+fn checked_opened(alloc: Global, keys: RandomState, calls: u64, once: bool) -> Checked {
+    let Ok((store, _)) = closed(alloc, keys, 100) else {
+        return Checked::Wrong;
+    };
+    match opened(alloc, keys, Fuse::new(store, calls, once), 1) {
+        Ok(mut db) => check_twice(&mut db, 6, once),
+        Err(_) => Checked::Nothing,
+    }
+}
+
+/// Checks the example in one of these two ways.
 fn checked_over(
     alloc: Global,
     keys: RandomState,
@@ -265,18 +281,9 @@ fn checked_over(
     (is_loaded, once): (bool, bool),
 ) -> Checked {
     if is_loaded {
-        let fuse = Fuse::new(MemStore::new(alloc, 100), calls, once);
-        return match loaded(alloc, keys, fuse) {
-            Ok(mut db) => check_twice(&mut db, 5, once),
-            Err(_) => Checked::Nothing,
-        };
-    }
-    let Ok((store, _)) = closed(alloc, keys, 100) else {
-        return Checked::Wrong;
-    };
-    match opened(alloc, keys, Fuse::new(store, calls, once), 1) {
-        Ok(mut db) => check_twice(&mut db, 6, once),
-        Err(_) => Checked::Nothing,
+        checked_loaded(alloc, keys, calls, once)
+    } else {
+        checked_opened(alloc, keys, calls, once)
     }
 }
 
@@ -294,17 +301,20 @@ fn count(alloc: Global, keys: RandomState, how: (bool, bool)) -> Option<(u32, u3
     Some((again, passed))
 }
 
+/// Whether both ways go so. Loaded, the three leaves are as they were added; the root, which has had its third entry since,
+/// is written, and all is made to last. Opened, the six pages are read for their seals, then page 0, the three leaves and
+/// the root.
+fn is_asked_again(alloc: Global, keys: RandomState, once: bool) -> Option<bool> {
+    let (again, passed) = count(alloc, keys, (true, once))?;
+    let (more, as_well) = count(alloc, keys, (false, once))?;
+    Some(again == 2 && passed > 0 && more > 10 && as_well > 0)
+}
+
 #[test]
 fn a_check_of_a_store_that_fails_is_asked_again(rt: HostRuntime) -> Result<(), Fail> {
     let (alloc, keys) = (rt.alloc(), RandomState::new(&rt)?);
     for once in [true, false] {
-        // The three leaves are as they were added; the root, which has had its third entry since, is
-        // written, and all is made to last.
-        let (again, passed) = count(alloc, keys, (true, once)).ok_or("a wrong check")?;
-        assert!(rt; again == 2 && passed > 0, "{again} again, {passed} passed");
-        // The six pages are read for their seals, then page 0, the three leaves and the root.
-        let (again, passed) = count(alloc, keys, (false, once)).ok_or("a wrong check")?;
-        assert!(rt; again > 10 && passed > 0, "{again} again, {passed} passed");
+        assert!(rt; is_asked_again(alloc, keys, once) == Some(true));
     }
     Ok(())
 }

@@ -1,15 +1,13 @@
-//! Stores and outputs that fail, want of memory, and files that are cut or hostile.
-use crate::run_tests::{STANDARD, over};
-use legs::{Limits, ListIndex};
+//! Stores and outputs that fail, and want of memory.
+use crate::run_tests::{STANDARD, listed, over, ran, ran_listed};
+use legs::Limits;
 use pages::{Fuse, MemStore, PageStore};
-use querylang::Command;
 use std::alloc::Global;
 use std::hash::RandomState;
 use std::io;
 use std::io::{ErrorKind, Write};
-use std::process::Abort;
 use std::test::Fail;
-use trajdb::{Core, Db, Files, LoadFault, Report, RunFault};
+use trajdb::{Db, Files, RunFault};
 
 /// The lines of a script over the example, and what each answers. The first three are the
 /// program's example.
@@ -116,7 +114,7 @@ fn line_behind(done: usize) -> &'static str {
 }
 
 /// How the script went.
-#[derive(Clone, Copy, PartialEq, Eq, Debug)]
+#[derive(Clone, Copy, PartialEq, Eq)]
 enum Outcome {
     /// It answered all.
     Whole,
@@ -126,50 +124,66 @@ enum Outcome {
     Wrong,
 }
 
-/// How a run went: what it answered and sent, and the same of the line behind, which may not be
-/// answered where the fault may last.
+/// How a run went: how many lines were answered, where those are whole answers, what it sent, and the same of the line
+/// behind, which may not be answered where the fault may last.
 fn judged(
-    ran: (Result<(), RunFault>, Vec<u8>),
-    behind: (Result<(), RunFault>, Vec<u8>),
+    done: Option<usize>,
+    ran: Result<(), RunFault>,
+    (behind, then): (&[u8], Result<(), RunFault>),
     may_last: bool,
 ) -> Outcome {
-    let Some(done) = answered(ran.1.as_slice()) else {
+    let Some(done) = done else {
         return Outcome::Wrong;
     };
-    let is_right = match (ran.0, behind.0) {
+    let is_right = match (ran, then) {
         (Ok(()), _) => done == LINES.len(),
         // The load failed, and the database with it.
         (Err(RunFault::Store | RunFault::Memory), Err(RunFault::Failed)) => done == 0,
         // No memory to read the line of the load: nothing is there.
-        (Err(RunFault::Memory), Ok(())) if done == 0 => {
-            behind.1.as_slice() == "ok 1\n0,0\n".as_bytes()
-        }
-        (Err(RunFault::Store | RunFault::Memory), Ok(())) => {
-            let is_answer = |line: &(&str, &str)| behind.1.as_slice() == line.1.as_bytes();
-            done > 0 && LINES.get(done).is_some_and(is_answer)
-        }
+        (Err(RunFault::Memory), Ok(())) if done == 0 => behind == "ok 1\n0,0\n".as_bytes(),
+        (Err(RunFault::Store | RunFault::Memory), Ok(())) => done > 0 && is_answer(done, behind),
         (Err(RunFault::Store), Err(RunFault::Store)) => {
-            may_last && done > 0 && behind.1.is_empty()
+            may_last && done > 0 && behind.is_empty()
         }
         _ => false,
     };
-    if !is_right {
-        return Outcome::Wrong;
+    match is_right {
+        true if done == LINES.len() => Outcome::Whole,
+        true => Outcome::Stopped,
+        false => Outcome::Wrong,
     }
-    if done == LINES.len() {
-        Outcome::Whole
-    } else {
-        Outcome::Stopped
+}
+
+/// Whether that is the answer to the line of a number.
+fn is_answer(number: usize, text: &[u8]) -> bool {
+    match LINES.get(number) {
+        Some((_, answer)) => text == answer.as_bytes(),
+        None => false,
     }
 }
 
 /// Whether a check of a database with the example or without it answers as it may.
-fn may_answer(report: Result<Report, RunFault>) -> bool {
-    match report {
+fn may_answer<S: PageStore>(db: &mut Db<S>) -> bool {
+    match db.check() {
         Ok(report) => report.legs == 5 || report.legs == 0,
         Err(RunFault::Memory | RunFault::Store | RunFault::Failed) => true,
         Err(_) => false,
     }
+}
+
+/// How the script goes over a database.
+fn went<S: PageStore>(
+    alloc: Global,
+    db: &mut Db<S>,
+    script: &[u8],
+    files: &Files,
+    may_last: bool,
+) -> Outcome {
+    let (out, first) = ran(alloc, db, script, files);
+    let done = answered(out.as_slice());
+    let line = line_behind(done.unwrap_or(0));
+    let (behind, then) = ran(alloc, db, line.as_bytes(), files);
+    judged(done, first, (behind.as_slice(), then), may_last)
 }
 
 /// How the script goes over a store, with one page in memory, and a check behind it.
@@ -181,34 +195,25 @@ fn paged<S: PageStore + Drop>(
 ) -> Result<Outcome, RunFault> {
     let files = named(alloc, "S1.csv", STANDARD.as_bytes())?;
     let script = script_of(alloc, LINES.as_slice())?;
-    // With room for all, since an output that fails is another test's.
-    let mut out = Vec::with_capacity(alloc, 1000)?;
-    let mut behind = Vec::with_capacity(alloc, 1000)?;
     let mut db = database(alloc, keys, store, 1)?;
-    let ran = db.run(alloc, script.as_slice(), &files, &mut out);
-    let line = line_behind(answered(out.as_slice()).unwrap_or(0));
-    let then = db.run(alloc, line.as_bytes(), &files, &mut behind);
-    if !may_answer(db.check()) {
-        return Ok(Outcome::Wrong);
+    let outcome = went(alloc, &mut db, script.as_slice(), &files, may_last);
+    match may_answer(&mut db) {
+        true => Ok(outcome),
+        false => Ok(Outcome::Wrong),
     }
-    Ok(judged((ran, out), (then, behind), may_last))
 }
 
 /// How the script goes over a list.
-fn listed(alloc: Global, keys: RandomState) -> Result<Outcome, RunFault> {
+fn over_list(alloc: Global, keys: RandomState) -> Result<Outcome, RunFault> {
     let files = named(alloc, "S1.csv", STANDARD.as_bytes())?;
     let script = script_of(alloc, LINES.as_slice())?;
-    let mut out = Vec::with_capacity(alloc, 1000)?;
-    let mut behind = Vec::with_capacity(alloc, 1000)?;
     let limits = Limits::new(1000, 1000).ok_or(RunFault::Failed)?;
-    let index = ListIndex::new(alloc);
-    let mut core = Core::new(alloc, keys, index, limits, true).map_err(|fault| RunFault::from(
-        fault.1,
-    ))?;
-    let ran = core.run(alloc, script.as_slice(), &files, &mut out);
-    let line = line_behind(answered(out.as_slice()).unwrap_or(0));
-    let then = core.run(alloc, line.as_bytes(), &files, &mut behind);
-    Ok(judged((ran, out), (then, behind), false))
+    let mut core = listed(alloc, keys, limits)?;
+    let (out, first) = ran_listed(alloc, &mut core, script.as_slice(), &files);
+    let done = answered(out.as_slice());
+    let line = line_behind(done.unwrap_or(0));
+    let (behind, then) = ran_listed(alloc, &mut core, line.as_bytes(), &files);
+    Ok(judged(done, first, (behind.as_slice(), then), false))
 }
 
 /// How the script goes over a store that fails when so many calls have passed, once or for good.
@@ -222,27 +227,37 @@ fn fused(alloc: Global, keys: RandomState, calls: u64, once: bool) -> Outcome {
     }
 }
 
-/// Whether the script stops where one of its calls of the store fails, and else is answered.
-fn check_fused<R: Abort + AllocGlobal>(rt: &R, keys: RandomState, once: bool) {
+/// How often of 50 the script is answered over a store that fails when so many calls have passed; `None` where it neither
+/// stops nor is answered, or stops behind a call with which it was answered.
+fn answered_of(alloc: Global, keys: RandomState, once: bool) -> Option<u32> {
     let mut whole = 0u32;
     for calls in 0..50 {
-        match fused(rt.alloc(), keys, calls, once) {
+        match fused(alloc, keys, calls, once) {
             Outcome::Whole => whole = whole.wrapping_add(1),
-            outcome => {
-                assert!(rt; outcome == Outcome::Stopped && whole == 0, "at {calls}");
-            }
+            Outcome::Stopped if whole == 0 => {}
+            _ => return None,
         }
     }
-    // A load and the questions make more than ten calls, and not so many.
-    assert!(rt; 0 < whole && whole < 40);
+    Some(whole)
 }
 
 #[test]
 fn a_store_that_fails_at_each_call(rt: HostRuntime) -> Result<(), Fail> {
     let keys = RandomState::new(&rt)?;
-    check_fused(&rt, keys, true);
-    check_fused(&rt, keys, false);
+    for once in [true, false] {
+        let whole = answered_of(rt.alloc(), keys, once).unwrap_or(0);
+        // A load and the questions make more than ten calls, and not so many.
+        assert!(rt; 0 < whole && whole < 40);
+    }
     Ok(())
+}
+
+/// Whether that is no wrong outcome: want of memory is none.
+fn is_none_wrong(outcome: Result<Outcome, RunFault>) -> bool {
+    match outcome {
+        Ok(outcome) => outcome != Outcome::Wrong,
+        Err(fault) => fault == RunFault::Memory || fault == RunFault::Store,
+    }
 }
 
 /// Passes wherever memory runs out, too; it is run with each allocation refused in turn.
@@ -253,17 +268,8 @@ fn no_wrong_answer_without_memory(rt: HostRuntime) -> Result<(), Fail> {
         Ok(keys) => keys,
         Err(_) => RandomState::new(&rt)?,
     };
-    for outcome in [
-        listed(alloc, keys),
-        paged(alloc, keys, MemStore::new(alloc, 100), false),
-    ] {
-        assert!(rt;
-            match outcome {
-                Ok(outcome) => outcome != Outcome::Wrong,
-                Err(fault) => fault == RunFault::Memory || fault == RunFault::Store,
-            }
-        );
-    }
+    let over_pages = paged(alloc, keys, MemStore::new(alloc, 100), false);
+    assert!(rt; is_none_wrong(over_list(alloc, keys)) && is_none_wrong(over_pages));
     Ok(())
 }
 
@@ -296,26 +302,22 @@ impl Write for Narrow {
     }
 }
 
-/// What the program's example answers over an output that takes so many bytes at a call and in all,
-/// and may be flushed; what that took, and what the database then counts.
+/// What a script answers over an output that takes so many bytes at a call and in all, and may be flushed, and what that
+/// took.
 fn sent(
     alloc: Global,
-    keys: RandomState,
+    db: &mut Db<MemStore>,
+    (script, files): (&[u8], &Files),
     (step, room, flushes): (usize, usize, bool),
-) -> Result<(Result<(), RunFault>, Vec<u8>, Vec<u8>), RunFault> {
-    let files = named(alloc, "S1.csv", STANDARD.as_bytes())?;
-    let script = script_of(alloc, &LINES[..3])?;
-    let mut db = database(alloc, keys, MemStore::new(alloc, 100), 256)?;
-    let taken = Vec::new(alloc);
+) -> (Result<(), RunFault>, Vec<u8>) {
     let mut out = Narrow {
-        taken,
+        taken: Vec::new(alloc),
         step,
         room,
         flushes,
     };
-    let ran = db.run(alloc, script.as_slice(), &files, &mut out);
-    let count = db.command(alloc, &Command::Count, &files)?;
-    Ok((ran, out.taken, count))
+    let ran = db.run(alloc, script, files, &mut out);
+    (ran, out.taken)
 }
 
 /// The front of a text that has room there.
@@ -326,23 +328,40 @@ fn front(text: &[u8], room: usize) -> &[u8] {
     text
 }
 
-/// Whether such an output has as much of the text as it has room for, is said to have failed where that is not all or it
-/// may not be flushed, and the database counts the example then.
+/// Whether such an output has as much of the text as it has room for, and is said to have failed where that is not all or
+/// it may not be flushed.
+fn is_sent(
+    alloc: Global,
+    db: &mut Db<MemStore>,
+    asked: (&[u8], &Files),
+    (step, room, flushes): (usize, usize, bool),
+    text: &[u8],
+) -> bool {
+    let (ran, taken) = sent(alloc, db, asked, (step, room, flushes));
+    let is_whole = flushes && room >= text.len();
+    taken.as_slice() == front(text, room)
+        && (ran == Ok(())) == is_whole
+        && (is_whole || ran == Err(RunFault::Output))
+}
+
+/// Whether a database counts the example.
+fn counts(alloc: Global, db: &mut Db<MemStore>, files: &Files) -> bool {
+    let (text, answer) = ran(alloc, db, b"count", files);
+    answer == Ok(()) && text.as_slice() == "ok 1\n5,3\n".as_bytes()
+}
+
+/// Whether the program's example goes so over such an output, and the database counts the example then.
 fn has_front(
     alloc: Global,
     keys: RandomState,
-    (step, room, flushes): (usize, usize, bool),
+    how: (usize, usize, bool),
     text: &[u8],
 ) -> Result<bool, RunFault> {
-    let (ran, taken, count) = sent(alloc, keys, (step, room, flushes))?;
-    let is_whole = flushes && room >= text.len();
-    let wanted = if is_whole {
-        Ok(())
-    } else {
-        Err(RunFault::Output)
-    };
-    let is_counted = count.as_slice() == "ok 1\n5,3\n".as_bytes();
-    Ok(ran == wanted && taken.as_slice() == front(text, room) && is_counted)
+    let files = named(alloc, "S1.csv", STANDARD.as_bytes())?;
+    let script = script_of(alloc, &LINES[..3])?;
+    let mut db = database(alloc, keys, MemStore::new(alloc, 100), 256)?;
+    let is_sent = is_sent(alloc, &mut db, (script.as_slice(), &files), how, text);
+    Ok(is_sent && counts(alloc, &mut db, &files))
 }
 
 /// The first length of which an output that takes so many bytes at a call has no front of the text, if any.
@@ -366,109 +385,6 @@ fn an_output_that_fails_has_a_prefix(rt: HostRuntime) -> Result<(), Fail> {
     for step in [1, 1000] {
         let wrong = wrong_front(rt.alloc(), keys, step);
         assert!(rt; wrong == Ok(None), "by {step}: {wrong:?}");
-    }
-    Ok(())
-}
-
-/// Whether the load of a file is accepted, or refused by its text and adds nothing.
-fn is_judged(alloc: Global, keys: RandomState, bytes: &[u8]) -> Result<bool, RunFault> {
-    let mut db = database(alloc, keys, MemStore::new(alloc, 100), 1)?;
-    match db.load(alloc, bytes) {
-        Ok(_) => Ok(true),
-        Err(LoadFault::Refused { .. }) => {
-            let count = db.command(alloc, &Command::Count, &Files::new(alloc))?;
-            Ok(count.as_slice() == "ok 1\n0,0\n".as_bytes())
-        }
-        Err(LoadFault::Run(fault)) => Err(fault),
-    }
-}
-
-#[test]
-fn a_file_that_is_cut_adds_nothing_or_is_accepted(rt: HostRuntime) -> Result<(), Fail> {
-    let (alloc, keys) = (rt.alloc(), RandomState::new(&rt)?);
-    let bytes = STANDARD.as_bytes();
-    for end in 0..bytes.len() {
-        let judged = is_judged(alloc, keys, &bytes[..end]);
-        assert!(rt; judged == Ok(true), "at {end}: {judged:?}");
-    }
-    Ok(())
-}
-
-/// Two header lines.
-const HEADS: &str = "\
-@stboundedby,local,2D,0 0,0 0,2020-01-01T00:00:00Z,2020-01-02T00:00:00Z,sec
-@columns,mfidref,trajectory
-";
-
-/// The beginnings of hostile files, what follows, and what their loads answer.
-const HOSTILE: [(&str, &[u8], &str); 16] = [
-    ("", b"", "refused F8 at 0\n"),
-    (
-        "@stboundedby,local,2D,0 0,0 0,",
-        b"2020-01-01T00:00:00,2020-01-02T00:00:00Z,sec",
-        "refused F5 at 1\n",
-    ),
-    (
-        "@stboundedby,local,2D,0 0,0 0,2020-01-01T00:00:00Z,2020-01-02T00:00:00Z,sec\n",
-        b"@columns,trajectory,mfidref",
-        "refused F7 at 2\n",
-    ),
-    (HEADS, b"x,0,1,\xff", "refused F1 at 3\n"),
-    (HEADS, b"@columns,mfidref,trajectory", "refused F2 at 3\n"),
-    (
-        "@stboundedby,local,2D,0 0,0 0,",
-        b"2020-01-01T00:00:00Z",
-        "refused F3 at 1\n",
-    ),
-    ("", b"x,0,1,0 0", "refused F8 at 1\n"),
-    (HEADS, b"x,0,1", "refused F11 at 3\n"),
-    (HEADS, b"x,0,1,0 0,y", "refused F11 at 3\n"),
-    (HEADS, b"x,0,1,0 0,", "ok 1\n1,1,1\n"),
-    (HEADS, b"\"x,0,1,0 0", "refused F11 at 3\n"),
-    (HEADS, b" ,0,1,0 0", "refused F12 at 3\n"),
-    (HEADS, b"x,0,1000000000000,0 0", "refused F13 at 3\n"),
-    (HEADS, b"x,1,1,0 0", "refused F14 at 3\n"),
-    (HEADS, b"x,0,1,", "refused F16 at 3\n"),
-    (HEADS, b"x,0,1,0 0 1", "refused F16 at 3\n"),
-];
-
-/// What the load of a hostile file answers over an index that keeps a list.
-fn listed_answer(alloc: Global, keys: RandomState, files: &Files) -> Result<Vec<u8>, RunFault> {
-    let limits = Limits::new(1000, 1000).ok_or(RunFault::Failed)?;
-    let index = ListIndex::new(alloc);
-    let mut core = Core::new(alloc, keys, index, limits, true).map_err(|fault| RunFault::from(
-        fault.1,
-    ))?;
-    let mut out = Vec::new(alloc);
-    core.run(alloc, b"load hostile", files, &mut out)?;
-    Ok(out)
-}
-
-/// Whether the load of a file that begins and goes on like this answers so, over pages and over a list.
-fn is_loaded(
-    alloc: Global,
-    keys: RandomState,
-    (head, rest): (&str, &[u8]),
-    want: &str,
-) -> Result<bool, RunFault> {
-    let mut bytes = Vec::from_slice(alloc, head.as_bytes())?;
-    bytes.extend_from_slice(rest)?;
-    let files = named(alloc, "hostile", bytes.as_slice())?;
-    let mut db = database(alloc, keys, MemStore::new(alloc, 100), 1)?;
-    let mut out = Vec::new(alloc);
-    db.run(alloc, b"load hostile", &files, &mut out)?;
-    let listed = listed_answer(alloc, keys, &files)?;
-    Ok(out.as_slice() == want.as_bytes() && listed.as_slice() == want.as_bytes())
-}
-
-#[test]
-fn hostile_files_are_refused(rt: HostRuntime) -> Result<(), Fail> {
-    let (alloc, keys) = (rt.alloc(), RandomState::new(&rt)?);
-    for (head, rest, want) in HOSTILE {
-        let same = is_loaded(alloc, keys, (head, rest), want)
-            .ok()
-            .ok_or("a run")?;
-        assert!(rt; same, "{want}");
     }
     Ok(())
 }

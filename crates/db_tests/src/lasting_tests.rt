@@ -1,5 +1,5 @@
 //! A database that is closed and opened again.
-use crate::run_tests::{STANDARD, over};
+use crate::run_tests::{STANDARD, over, ran};
 use legs::Limits;
 use pages::{Fuse, MemStore, PageStore, seal, unseal};
 use std::alloc::Global;
@@ -30,12 +30,24 @@ pub(crate) fn said<S: PageStore>(
     db: &mut Db<S>,
     script: &str,
 ) -> (Vec<u8>, Result<(), RunFault>) {
-    let mut out = Vec::new(alloc);
-    let result = match files(alloc) {
-        Ok(files) => db.run(alloc, script.as_bytes(), &files, &mut out),
+    match files(alloc) {
+        Ok(files) => ran(alloc, db, script.as_bytes(), &files),
+        Err(fault) => (Vec::new(alloc), Err(fault)),
+    }
+}
+
+/// The same of the example; its fault, where it is not answered.
+pub(crate) fn is_said<S: PageStore>(
+    alloc: Global,
+    db: &mut Db<S>,
+    script: &str,
+    want: &str,
+) -> Result<bool, RunFault> {
+    let (text, answer) = said(alloc, db, script);
+    match answer {
+        Ok(()) => Ok(text.as_slice() == want.as_bytes()),
         Err(fault) => Err(fault),
-    };
-    (out, result)
+    }
 }
 
 /// The example in a new database over a store.
@@ -46,8 +58,20 @@ pub(crate) fn loaded<S: PageStore + Drop>(
 ) -> Result<Db<S>, RunFault> {
     let limits = Limits::new(1000, 1000).ok_or(RunFault::Failed)?;
     let mut db = over(alloc, keys, store, limits, (50, 72, 256))?;
-    said(alloc, &mut db, "load S1.csv").1?;
-    Ok(db)
+    match said(alloc, &mut db, "load S1.csv").1 {
+        Ok(()) => Ok(db),
+        Err(fault) => Err(fault),
+    }
+}
+
+/// The store of a database that is closed, and what `close` answers.
+pub(crate) fn close<S: PageStore>(alloc: Global, db: Db<S>) -> (S, Result<(), RunFault>) {
+    db.close(alloc)
+}
+
+/// What a check finds.
+pub(crate) fn check<S: PageStore>(db: &mut Db<S>) -> Result<Report, RunFault> {
+    db.check()
 }
 
 /// The store of at most so many pages in which the example is closed, and what `close` answers.
@@ -57,7 +81,17 @@ pub(crate) fn closed(
     most: u32,
 ) -> Result<(MemStore, Result<(), RunFault>), RunFault> {
     let db = loaded(alloc, keys, MemStore::new(alloc, most))?;
-    Ok(db.close(alloc))
+    Ok(close(alloc, db))
+}
+
+/// A database over a store that is opened with so many pages in memory, or why it is not, with the store.
+fn open<S: PageStore>(
+    alloc: Global,
+    keys: RandomState,
+    store: S,
+    cache_pages: usize,
+) -> Result<Db<S>, (S, OpenFault)> {
+    Db::open(alloc, keys, store, cache_pages.max(1))
 }
 
 /// A database over a store that is opened with so many pages in memory, or why it is not.
@@ -67,9 +101,21 @@ pub(crate) fn opened<S: PageStore + Drop>(
     store: S,
     cache_pages: usize,
 ) -> Result<Db<S>, OpenFault> {
-    match Db::open(alloc, keys, store, cache_pages.max(1)) {
+    match open(alloc, keys, store, cache_pages) {
         Ok(db) => Ok(db),
         Err((_, fault)) => Err(fault),
+    }
+}
+
+/// Why a store is not opened, if it is not.
+pub(crate) fn refused<S: PageStore + Drop>(
+    alloc: Global,
+    keys: RandomState,
+    store: S,
+) -> Option<OpenFault> {
+    match open(alloc, keys, store, 1) {
+        Ok(_) => None,
+        Err((_, fault)) => Some(fault),
     }
 }
 
@@ -77,24 +123,17 @@ pub(crate) fn opened<S: PageStore + Drop>(
 const QUESTIONS: &str =
     "features crosses 11.5 2.5 13 4 2012-01-17T12:33:41Z 2012-01-17T12:37:00Z\ncount";
 
-/// What a script answers over a store that is opened with so many pages in memory, and the store as it is abandoned then;
-/// `None` where it is not opened or does not answer.
+/// Whether a script answers so over a store that is opened with so many pages in memory, and the store as it is abandoned
+/// then; `None` where it is not opened or does not answer.
 fn asked(
     alloc: Global,
     keys: RandomState,
     store: MemStore,
-    cache_pages: usize,
-    script: &str,
-) -> Option<(Vec<u8>, MemStore)> {
+    (script, cache_pages, want): (&str, usize, &str),
+) -> Option<(bool, MemStore)> {
     let mut db = opened(alloc, keys, store, cache_pages).ok()?;
-    let (text, answer) = said(alloc, &mut db, script);
-    answer.ok()?;
-    Some((text, db.abandon()))
-}
-
-/// Why a store is not opened, if it is not.
-fn refused(alloc: Global, keys: RandomState, store: MemStore) -> Option<OpenFault> {
-    opened(alloc, keys, store, 256).err()
+    let is_said = is_said(alloc, &mut db, script, want).ok()?;
+    Some((is_said, db.abandon()))
 }
 
 /// The example, closed in a store of six pages.
@@ -106,29 +145,32 @@ fn closed_well(alloc: Global, keys: RandomState) -> Option<MemStore> {
     Some(store)
 }
 
-/// A leg more is loaded into the example, as it was closed; what that answers, and the store as it is closed again.
-fn added(alloc: Global, keys: RandomState) -> Option<(Vec<u8>, MemStore)> {
-    let store = closed_well(alloc, keys)?;
-    let mut db = opened(alloc, keys, store, 2).ok()?;
-    let (text, answer) = said(alloc, &mut db, "load more.csv\ncount");
-    answer.ok()?;
-    let (store, answer) = db.close(alloc);
-    answer.ok()?;
-    Some((text, store))
+/// Whether a leg more is loaded into the example, as it was closed, and the store as it is closed again.
+fn added(alloc: Global, keys: RandomState) -> Option<(bool, MemStore)> {
+    let mut db = opened(alloc, keys, closed_well(alloc, keys)?, 2).ok()?;
+    let is_said = is_said(
+        alloc,
+        &mut db,
+        "load more.csv\ncount",
+        "ok 1\n1,1,1\nok 1\n6,4\n",
+    );
+    let (store, answer) = close(alloc, db);
+    Some((is_said == Ok(true) && answer.is_ok(), store))
+}
+
+/// Whether that goes well, and it is there when the store is opened.
+fn is_added(alloc: Global, keys: RandomState) -> Option<bool> {
+    let (is_said, store) = added(alloc, keys)?;
+    let script = "count\ntrajectory d\ntrajectory b";
+    let want = "ok 1\n6,4\nok 1\nd,0,1,0 0 0 0,,\nok 1\nb,10,190,10 2 11 3,walking,2\n";
+    let (is_there, _) = asked(alloc, keys, store, (script, 2, want))?;
+    Some(is_said && is_there)
 }
 
 #[test]
 fn legs_are_added_to_what_was_opened(rt: HostRuntime) -> Result<(), Fail> {
     let (alloc, keys) = (rt.alloc(), RandomState::new(&rt)?);
-    let (text, store) = added(alloc, keys).ok_or("not added")?;
-    assert!(rt; text.as_slice() == b"ok 1\n1,1,1\nok 1\n6,4\n".as_slice());
-    let (text, _) = asked(alloc, keys, store, 2, "count\ntrajectory d\ntrajectory b").ok_or(
-        "not asked",
-    )?;
-    assert!(rt;
-        text.as_slice()
-            == b"ok 1\n6,4\nok 1\nd,0,1,0 0 0 0,,\nok 1\nb,10,190,10 2 11 3,walking,2\n".as_slice()
-    );
+    assert!(rt; is_added(alloc, keys) == Some(true));
     Ok(())
 }
 
@@ -143,9 +185,9 @@ const ASKED: [(&str, usize, &str); 3] = [
 /// Whether all is answered so, and the store is not finished then.
 fn is_opened(alloc: Global, keys: RandomState) -> Option<bool> {
     let mut store = closed_well(alloc, keys)?;
-    for (script, cache_pages, want) in ASKED {
-        let (text, left) = asked(alloc, keys, store, cache_pages, script)?;
-        if text.as_slice() != want.as_bytes() {
+    for question in ASKED {
+        let (is_said, left) = asked(alloc, keys, store, question)?;
+        if !is_said {
             return Some(false);
         }
         store = left;
@@ -212,13 +254,20 @@ fn refused_with(alloc: Global, keys: RandomState, bytes: &[(usize, u8)]) -> Opti
     refused(alloc, keys, store)
 }
 
+/// The first of these that is refused otherwise, if any.
+fn wrong_header(alloc: Global, keys: RandomState) -> Option<usize> {
+    for (number, (bytes, fault)) in HEADERS.iter().enumerate() {
+        if refused_with(alloc, keys, bytes) != Some(*fault) {
+            return Some(number);
+        }
+    }
+    None
+}
+
 #[test]
 fn page_0_is_tested_in_order(rt: HostRuntime) -> Result<(), Fail> {
     let (alloc, keys) = (rt.alloc(), RandomState::new(&rt)?);
-    for (bytes, fault) in HEADERS {
-        let told = refused_with(alloc, keys, bytes);
-        assert!(rt; told == Some(fault), "{bytes:?}: {told:?}");
-    }
+    assert_eq!(rt; wrong_header(alloc, keys), None);
     Ok(())
 }
 
@@ -239,24 +288,21 @@ fn refused_damaged(alloc: Global, keys: RandomState, bytes: &[(u32, usize)]) -> 
     refused(alloc, keys, damaged(alloc, keys, bytes)?)
 }
 
-/// What a count and a question answer where its leaf is damaged, and why the run stops.
-fn asked_damaged(alloc: Global, keys: RandomState) -> Option<(Vec<u8>, Result<(), RunFault>)> {
-    let store = damaged(alloc, keys, &[(1, 100)])?;
-    let mut db = opened(alloc, keys, store, 1).ok()?;
-    Some(said(alloc, &mut db, "count\ntrajectory a"))
+/// Whether a count is answered where its leaf is damaged, and the run stops at the question behind it, and names the leaf.
+fn is_named(alloc: Global, keys: RandomState) -> Option<bool> {
+    let mut db = opened(alloc, keys, damaged(alloc, keys, &[(1, 100)])?, 1).ok()?;
+    let (text, answer) = said(alloc, &mut db, "count\ntrajectory a");
+    Some(answer == Err(RunFault::Damaged(1)) && text.as_slice() == COUNT.as_bytes())
 }
 
 #[test]
 fn a_page_that_is_damaged_is_named(rt: HostRuntime) -> Result<(), Fail> {
     let (alloc, keys) = (rt.alloc(), RandomState::new(&rt)?);
-    let (text, answer) = asked_damaged(alloc, keys).ok_or("not opened")?;
-    assert!(rt;
-        answer == Err(RunFault::Damaged(1)) && text.as_slice() == b"ok 1\n5,3\n".as_slice()
-    );
+    assert!(rt; is_named(alloc, keys) == Some(true));
     // Page 0 before a leaf, and the last of the six pages, which is the catalogue's, behind the text.
     let first = refused_damaged(alloc, keys, &[(0, 50), (1, 100)]);
-    assert!(rt; first == Some(OpenFault::Damaged(0)));
-    assert!(rt; refused_damaged(alloc, keys, &[(5, 4000)]) == Some(OpenFault::Damaged(5)));
+    let last = refused_damaged(alloc, keys, &[(5, 4000)]);
+    assert!(rt; first == Some(OpenFault::Damaged(0)) && last == Some(OpenFault::Damaged(5)));
     Ok(())
 }
 
@@ -271,13 +317,12 @@ fn is_full_at_closing(alloc: Global, keys: RandomState) -> Option<bool> {
 /// Whether a leg more is refused where it is closed in six, and the store is not finished then.
 fn is_full_at_a_load(alloc: Global, keys: RandomState) -> Option<bool> {
     let (store, answer) = closed(alloc, keys, 6).ok()?;
-    answer.ok()?;
     let mut db = opened(alloc, keys, store, 256).ok()?;
     let (text, ran) = said(alloc, &mut db, "load more.csv");
-    let (store, answer) = db.close(alloc);
-    let is_unfinished = refused(alloc, keys, store) == Some(OpenFault::Unfinished);
     let is_told = ran == Err(RunFault::StoreFull) && text.is_empty();
-    Some(is_told && answer == Err(RunFault::Failed) && is_unfinished)
+    let (store, failed) = close(alloc, db);
+    let is_unfinished = refused(alloc, keys, store) == Some(OpenFault::Unfinished);
+    Some(answer.is_ok() && is_told && failed == Err(RunFault::Failed) && is_unfinished)
 }
 
 #[test]
@@ -291,18 +336,24 @@ fn a_store_without_room_stays_unfinished(rt: HostRuntime) -> Result<(), Fail> {
 /// What `count` answers over the example.
 const COUNT: &str = "ok 1\n5,3\n";
 
-/// Whether a store failed before its database was closed or at that: such a store opens as one that
-/// was not finished, or whose page 0 was not written whole, or with the example, which it has.
+/// Whether a store opens as one that was not finished, or whose page 0 was not written whole, where that may be, or else
+/// with the example.
+fn may_open(alloc: Global, keys: RandomState, store: MemStore, may_be_unfinished: bool) -> bool {
+    match opened(alloc, keys, store, 1) {
+        Ok(mut db) => is_said(alloc, &mut db, "count", COUNT) == Ok(true),
+        Err(OpenFault::Unfinished | OpenFault::Damaged(0)) => may_be_unfinished,
+        Err(_) => false,
+    }
+}
+
+/// Closes a database: whether its store failed before that or at that. It opens then as it may.
 fn failed_at_closing(
     alloc: Global,
     keys: RandomState,
-    (store, answer): (MemStore, Result<(), RunFault>),
+    db: Db<Fuse<MemStore>>,
 ) -> Result<bool, RunFault> {
-    let is_kept = match opened(alloc, keys, store, 1) {
-        Ok(mut db) => said(alloc, &mut db, "count").0.as_slice() == COUNT.as_bytes(),
-        Err(OpenFault::Unfinished | OpenFault::Damaged(0)) => answer.is_err(),
-        Err(_) => false,
-    };
+    let (fuse, answer) = close(alloc, db);
+    let is_kept = may_open(alloc, keys, fuse.into_inner(), answer.is_err());
     match answer {
         Ok(()) if is_kept => Ok(false),
         Err(RunFault::Store | RunFault::Failed) if is_kept => Ok(true),
@@ -310,26 +361,34 @@ fn failed_at_closing(
     }
 }
 
-/// Opens and closes over a store that fails once, or for good, when so many calls have passed: whether it failed.
-fn fused(alloc: Global, keys: RandomState, calls: u64, once: bool) -> Result<bool, RunFault> {
+/// The example in a database that is opened over a store which fails once, or for good, when so many calls have passed;
+/// `None` where it failed at that, and the store, which is handed back, is opened then.
+fn opened_fused(
+    alloc: Global,
+    keys: RandomState,
+    calls: u64,
+    once: bool,
+) -> Result<Option<Db<Fuse<MemStore>>>, RunFault> {
     let (store, _) = closed(alloc, keys, 100)?;
-    let mut db = match Db::open(alloc, keys, Fuse::new(store, calls, once), 1) {
-        Ok(db) => db,
-        // The store is handed back, and is opened then.
-        Err((fuse, OpenFault::Store)) => {
-            return match opened(alloc, keys, fuse.into_inner(), 1) {
-                Ok(_) => Ok(true),
-                Err(_) => Err(RunFault::Failed),
-            };
-        }
-        Err(_) => return Err(RunFault::Failed),
+    match open(alloc, keys, Fuse::new(store, calls, once), 1) {
+        Ok(db) => Ok(Some(db)),
+        Err((fuse, OpenFault::Store)) => match refused(alloc, keys, fuse.into_inner()) {
+            None => Ok(None),
+            Some(_) => Err(RunFault::Failed),
+        },
+        Err(_) => Err(RunFault::Failed),
+    }
+}
+
+/// Opens, loads and closes over such a store: whether it failed.
+fn fused(alloc: Global, keys: RandomState, calls: u64, once: bool) -> Result<bool, RunFault> {
+    let Some(mut db) = opened_fused(alloc, keys, calls, once)? else {
+        return Ok(true);
     };
     match said(alloc, &mut db, "load head.csv").1 {
-        Ok(()) | Err(RunFault::Store) => {}
-        Err(fault) => return Err(fault),
+        Ok(()) | Err(RunFault::Store) => failed_at_closing(alloc, keys, db),
+        Err(fault) => Err(fault),
     }
-    let (fuse, answer) = db.close(alloc);
-    failed_at_closing(alloc, keys, (fuse.into_inner(), answer))
 }
 
 /// Makes a database of the example and closes it over a store that fails once, or for good, when so many calls have
@@ -341,13 +400,11 @@ fn fused_example(
     once: bool,
 ) -> Result<bool, RunFault> {
     let store = Fuse::new(MemStore::new(alloc, 100), calls, once);
-    let db = match loaded(alloc, keys, store) {
-        Ok(db) => db,
-        Err(RunFault::Store) => return Ok(true),
-        Err(fault) => return Err(fault),
-    };
-    let (fuse, answer) = db.close(alloc);
-    failed_at_closing(alloc, keys, (fuse.into_inner(), answer))
+    match loaded(alloc, keys, store) {
+        Ok(db) => failed_at_closing(alloc, keys, db),
+        Err(RunFault::Store) => Ok(true),
+        Err(fault) => Err(fault),
+    }
 }
 
 /// The last of 40 calls at which a store that is opened, and the example's, is said to have failed.
@@ -385,34 +442,41 @@ pub(crate) fn is_want(fault: RunFault) -> bool {
     matches!(fault, RunFault::Memory | RunFault::Store | RunFault::Output)
 }
 
-/// Whether the example, closed and opened again, is counted and found sound, or memory runs out.
-fn is_kept(alloc: Global, keys: RandomState) -> bool {
-    let (store, answer) = match closed(alloc, keys, 100) {
-        Ok(closed) => closed,
-        Err(fault) => return is_want(fault),
-    };
-    if let Err(fault) = answer {
-        return is_want(fault);
-    }
-    let mut db = match opened(alloc, keys, store, 1) {
-        Ok(db) => db,
-        Err(fault) => return fault == OpenFault::Memory,
-    };
-    let (text, answer) = said(alloc, &mut db, "count");
-    let is_told = match answer {
-        Ok(()) => text.as_slice() == b"ok 1\n5,3\n".as_slice(),
+/// Whether the example is counted, or memory runs out.
+fn is_counted(alloc: Global, db: &mut Db<MemStore>) -> bool {
+    match is_said(alloc, db, "count", COUNT) {
+        Ok(is_said) => is_said,
         Err(fault) => is_want(fault),
-    };
+    }
+}
+
+/// Whether the example is found sound, or memory runs out.
+fn is_sound(db: &mut Db<MemStore>) -> bool {
     let report = Report {
         pages: 6,
         legs: 5,
         features: 3,
     };
-    is_told
-        && match db.check() {
-            Ok(found) => found == report,
-            Err(fault) => fault == RunFault::Memory,
-        }
+    match check(db) {
+        Ok(found) => found == report,
+        Err(fault) => fault == RunFault::Memory,
+    }
+}
+
+/// Whether a store opens with the example, or memory runs out.
+fn is_there(alloc: Global, keys: RandomState, store: MemStore) -> bool {
+    match opened(alloc, keys, store, 1) {
+        Ok(mut db) => is_counted(alloc, &mut db) && is_sound(&mut db),
+        Err(fault) => fault == OpenFault::Memory,
+    }
+}
+
+/// Whether the example, closed and opened again, is counted and found sound, or memory runs out.
+fn is_kept(alloc: Global, keys: RandomState) -> bool {
+    match closed(alloc, keys, 100) {
+        Ok((store, Ok(()))) => is_there(alloc, keys, store),
+        Ok((_, Err(fault))) | Err(fault) => is_want(fault),
+    }
 }
 
 /// Passes wherever memory runs out, too; it is run with each allocation refused in turn.

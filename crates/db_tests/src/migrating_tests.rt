@@ -1,5 +1,5 @@
 //! A store of version 1 that is brought over.
-use crate::lasting_tests::{change, is_want, opened, said};
+use crate::lasting_tests::{change, check, close, is_said, is_want, opened, refused as not_opened};
 use crate::version_1::version_1;
 use migration::Migrate;
 use pages::{Fuse, MemStore, PageStore};
@@ -92,12 +92,12 @@ fn are_same(a: &mut MemStore, b: &mut MemStore) -> Option<bool> {
 fn a_store_of_version_1_is_not_opened(rt: HostRuntime) -> Result<(), Fail> {
     let (alloc, keys) = (rt.alloc(), RandomState::new(&rt)?);
     let store = version_1(alloc).ok_or("no store")?;
-    assert!(rt; opened(alloc, keys, store, 256).err() == Some(OpenFault::Version));
+    assert!(rt; not_opened(alloc, keys, store) == Some(OpenFault::Version));
     Ok(())
 }
 
 /// What is left of a new store into which nothing was brought over.
-#[derive(Clone, Copy, PartialEq, Eq, Debug)]
+#[derive(Clone, Copy, PartialEq, Eq)]
 enum Left {
     /// No page.
     Nothing,
@@ -111,7 +111,7 @@ enum Left {
 
 fn what_is_left<T: PageStore + Drop>(alloc: Global, keys: RandomState, store: T) -> Left {
     let pages = store.len();
-    match opened(alloc, keys, store, 1).err() {
+    match not_opened(alloc, keys, store) {
         _ if pages == 0 => Left::Nothing,
         Some(OpenFault::Unfinished) => Left::Unfinished,
         Some(OpenFault::Damaged(0)) if pages == 1 => Left::First,
@@ -133,48 +133,55 @@ fn refused<S: PageStore>(
 
 /// Whether the questions of the example have their answers.
 fn is_answered<S: PageStore>(alloc: Global, db: &mut Db<S>) -> bool {
-    let (text, answer) = said(alloc, db, QUESTIONS);
-    answer == Ok(()) && text.as_slice() == ANSWERS.as_bytes()
+    is_said(alloc, db, QUESTIONS, ANSWERS) == Ok(true)
+}
+
+/// The store into which a store was brought over, asked and closed.
+fn brought(alloc: Global, keys: RandomState, old: &mut MemStore) -> Option<MemStore> {
+    let mut db = migrated(alloc, keys, old, MemStore::new(alloc, 100), 1).ok()?;
+    let is_answered = is_answered(alloc, &mut db);
+    match close(alloc, db) {
+        (store, Ok(())) if is_answered => Some(store),
+        _ => None,
+    }
 }
 
 /// The store into which the example was brought over, asked and closed, where the old one was not
 /// changed by it.
 fn brought_over(alloc: Global, keys: RandomState) -> Option<MemStore> {
     let mut old = version_1(alloc)?;
-    let mut db = migrated(alloc, keys, &mut old, MemStore::new(alloc, 100), 1).ok()?;
-    let is_answered = is_answered(alloc, &mut db);
-    let (store, answer) = db.close(alloc);
-    let mut same = version_1(alloc)?;
-    if is_answered && answer == Ok(()) && are_same(&mut old, &mut same) == Some(true) {
-        Some(store)
-    } else {
-        None
+    let store = brought(alloc, keys, &mut old)?;
+    match are_same(&mut old, &mut version_1(alloc)?) {
+        Some(true) => Some(store),
+        _ => None,
     }
 }
 
-/// What a check finds in that store once it is opened and answers, and why it is not brought over again.
-fn kept(
-    alloc: Global,
-    keys: RandomState,
-) -> Option<(bool, Result<Report, RunFault>, Option<(OpenFault, Left)>)> {
+/// What a check finds in that store once it is opened and answers, and the store as it is left then.
+fn kept(alloc: Global, keys: RandomState) -> Option<(bool, Result<Report, RunFault>, MemStore)> {
     let mut db = opened(alloc, keys, brought_over(alloc, keys)?, 2).ok()?;
     let is_answered = is_answered(alloc, &mut db);
-    let report = db.check();
-    let mut store = db.abandon();
-    Some((is_answered, report, refused(alloc, keys, &mut store)))
+    let report = check(&mut db);
+    Some((is_answered, report, db.abandon()))
+}
+
+/// Whether it answers, is found whole, and is not brought over again, since it is of the present version.
+fn is_kept(alloc: Global, keys: RandomState) -> Option<bool> {
+    let (is_answered, report, mut store) = kept(alloc, keys)?;
+    let wanted = Report {
+        pages: 6,
+        legs: 5,
+        features: 3,
+    };
+    let again = refused(alloc, keys, &mut store);
+    let is_refused = again == Some((OpenFault::Version, Left::Nothing));
+    Some(is_answered && report == Ok(wanted) && is_refused)
 }
 
 #[test]
 fn the_example_is_brought_over(rt: HostRuntime) -> Result<(), Fail> {
     let (alloc, keys) = (rt.alloc(), RandomState::new(&rt)?);
-    let report = Report {
-        pages: 6,
-        legs: 5,
-        features: 3,
-    };
-    // What was brought over is of the present version.
-    let again = Some((OpenFault::Version, Left::Nothing));
-    assert!(rt; kept(alloc, keys) == Some((true, Ok(report), again)));
+    assert!(rt; is_kept(alloc, keys) == Some(true));
     Ok(())
 }
 
@@ -197,13 +204,20 @@ fn refused_with(
     refused(alloc, keys, &mut old)
 }
 
+/// The first of these with which it is refused otherwise, if any.
+fn wrong_header(alloc: Global, keys: RandomState) -> Option<usize> {
+    for (at, (bytes, fault)) in HEADERS.iter().enumerate() {
+        if refused_with(alloc, keys, bytes) != Some((*fault, Left::Nothing)) {
+            return Some(at);
+        }
+    }
+    None
+}
+
 #[test]
 fn page_0_is_tested_first(rt: HostRuntime) -> Result<(), Fail> {
     let (alloc, keys) = (rt.alloc(), RandomState::new(&rt)?);
-    for (bytes, fault) in HEADERS {
-        let told = refused_with(alloc, keys, bytes);
-        assert!(rt; told == Some((fault, Left::Nothing)), "{bytes:?}: {told:?}");
-    }
+    assert_eq!(rt; wrong_header(alloc, keys), None);
     let mut none = MemStore::new(alloc, 10);
     let told = refused(alloc, keys, &mut none);
     assert!(rt; told == Some((OpenFault::Malformed, Left::Nothing)));
@@ -235,83 +249,92 @@ fn refused_damaged(
     Some(refused(alloc, keys, &mut old))
 }
 
+/// The first of these of which something else is said, if any.
+fn wrong_damage(alloc: Global, keys: RandomState) -> Option<u32> {
+    for (page, left) in &DAMAGED {
+        let wanted = match left {
+            Some(left) => Some((OpenFault::Damaged(*page), *left)),
+            None => None,
+        };
+        if refused_damaged(alloc, keys, *page) != Some(wanted) {
+            return Some(*page);
+        }
+    }
+    None
+}
+
 #[test]
 fn a_page_that_is_damaged_is_said(rt: HostRuntime) -> Result<(), Fail> {
     let (alloc, keys) = (rt.alloc(), RandomState::new(&rt)?);
-    for (page, left) in DAMAGED {
-        let told = refused_damaged(alloc, keys, page);
-        let wanted = left.map(|left| (OpenFault::Damaged(page), left));
-        assert!(rt; told == Some(wanted), "{page}: {told:?}");
-    }
+    assert_eq!(rt; wrong_damage(alloc, keys), None);
     Ok(())
 }
 
-/// Why nothing is brought over where one of the two stores fails once, or for good, when so many of
-/// its calls have passed, and what is left.
-fn fused(
+/// Why nothing is brought over into a new store that fails once, or for good, when so many of its calls have passed, and
+/// what is left.
+fn fused_new(
     alloc: Global,
     keys: RandomState,
-    (calls, once, is_old): (u64, bool, bool),
+    calls: u64,
+    once: bool,
 ) -> Option<Option<(OpenFault, Left)>> {
-    let old = version_1(alloc)?;
-    let new = MemStore::new(alloc, 100);
-    if is_old {
-        let mut old = Fuse::new(old, calls, once);
-        return Some(refused(alloc, keys, &mut old));
-    }
-    let mut old = old;
-    match migrated(alloc, keys, &mut old, Fuse::new(new, calls, once), 1) {
+    let mut old = version_1(alloc)?;
+    let new = Fuse::new(MemStore::new(alloc, 100), calls, once);
+    match migrated(alloc, keys, &mut old, new, 1) {
         Ok(_) => Some(None),
         Err((new, fault)) => Some(Some((fault, what_is_left(alloc, keys, new.into_inner())))),
     }
 }
 
+/// The same where the old store fails so, or the new one.
+fn fused(
+    alloc: Global,
+    keys: RandomState,
+    (calls, once, is_old): (u64, bool, bool),
+) -> Option<Option<(OpenFault, Left)>> {
+    if !is_old {
+        return fused_new(alloc, keys, calls, once);
+    }
+    let mut old = Fuse::new(version_1(alloc)?, calls, once);
+    Some(refused(alloc, keys, &mut old))
+}
+
+/// With how many of 60 calls it is brought over; `None` where it is refused for something else than the store, leaves
+/// more, or is refused though fewer calls would do.
+fn whole_of(alloc: Global, keys: RandomState, (once, is_old): (bool, bool)) -> Option<u32> {
+    let mut whole = 0u32;
+    for calls in 0..60 {
+        match fused(alloc, keys, (calls, once, is_old))? {
+            None => whole = whole.saturating_add(1),
+            Some((OpenFault::Store, left)) if left != Left::More && whole == 0 => {}
+            Some(_) => return None,
+        }
+    }
+    Some(whole)
+}
+
 #[test]
 fn each_call_of_either_store_may_fail(rt: HostRuntime) -> Result<(), Fail> {
     let (alloc, keys) = (rt.alloc(), RandomState::new(&rt)?);
-    for (once, is_old) in [(true, true), (false, true), (true, false), (false, false)] {
-        let mut whole = 0u32;
-        for calls in 0..60 {
-            let told = fused(alloc, keys, (calls, once, is_old)).ok_or("no store")?;
-            match told {
-                None => whole = whole.saturating_add(1),
-                Some((fault, left)) => {
-                    assert!(rt;
-                        fault == OpenFault::Store && left != Left::More && whole == 0,
-                        "{calls}: {told:?}"
-                    );
-                }
-            }
-        }
+    for once in [true, false] {
         // Page 0, the catalogue, and three leaves twice, are eight calls of the old store.
-        assert!(rt;
-            if is_old {
-                whole == 52
-            } else {
-                0 < whole && whole < 55
-            },
-            "{whole}"
-        );
+        assert!(rt; whole_of(alloc, keys, (once, true)) == Some(52));
+        let whole = whole_of(alloc, keys, (once, false)).unwrap_or(0);
+        assert!(rt; 0 < whole && whole < 55, "{whole}");
     }
     Ok(())
 }
 
-/// Why a store is not brought over, or how many legs and features are counted once it is: `Failed`
-/// where these are not the example's.
-fn counted(
-    alloc: Global,
-    keys: RandomState,
-    old: &mut MemStore,
-) -> Result<Result<(), RunFault>, OpenFault> {
-    let mut db = match migrated(alloc, keys, old, MemStore::new(alloc, 100), 1) {
-        Ok(db) => db,
-        Err((_, fault)) => return Err(fault),
-    };
-    let (text, answer) = said(alloc, &mut db, "count");
-    if answer == Ok(()) && text.as_slice() != b"ok 1\n5,3\n".as_slice() {
-        return Ok(Err(RunFault::Failed));
+/// Whether a store is brought over and its legs and features are the example's, or memory runs out. A store in memory fails
+/// where it finds no room for a page.
+fn is_brought(alloc: Global, keys: RandomState, old: &mut MemStore) -> bool {
+    match migrated(alloc, keys, old, MemStore::new(alloc, 100), 1) {
+        Ok(mut db) => match is_said(alloc, &mut db, "count", "ok 1\n5,3\n") {
+            Ok(is_said) => is_said,
+            Err(fault) => is_want(fault),
+        },
+        Err((_, fault)) => fault == OpenFault::Memory || fault == OpenFault::Store,
     }
-    Ok(answer)
 }
 
 /// Passes wherever memory runs out, too; it is run with each allocation refused in turn.
@@ -322,17 +345,8 @@ fn no_wrong_store_without_memory(rt: HostRuntime) -> Result<(), Fail> {
         Ok(keys) => keys,
         Err(_) => RandomState::new(&rt)?,
     };
-    let Some(mut old) = version_1(alloc) else {
-        return Ok(());
-    };
-    let told = counted(alloc, keys, &mut old);
-    // A store in memory fails where it finds no room for a page.
-    assert!(rt;
-        match told {
-            Ok(Ok(())) => true,
-            Ok(Err(fault)) => is_want(fault),
-            Err(fault) => fault == OpenFault::Memory || fault == OpenFault::Store,
-        }
-    );
+    if let Some(mut old) = version_1(alloc) {
+        assert!(rt; is_brought(alloc, keys, &mut old));
+    }
     Ok(())
 }

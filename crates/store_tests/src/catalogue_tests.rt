@@ -1,8 +1,8 @@
 //! The pages of a store beside those of its tree: page 0, and a saved catalogue, byte by byte.
 use boxsearch::TreeIndex;
 use catalogue::{Catalogue, CatalogueFault, begin, close, restore, save};
-use legs::{BookHead, LegIndex, Limits, Tracks, join};
-use mfcsv::read_file;
+use legs::{BookHead, Joined, LegIndex, Limits, Tracks, join};
+use mfcsv::{File, read_file};
 use pagecache::{CacheFault, PageCache};
 use pages::{Fuse, MemStore, PageStore};
 use rows::Rows;
@@ -47,32 +47,92 @@ const TEXT: [u8; 353] = [
     101, 0, 0, 0, 0, 0, 0, 0, 1, 49,
 ];
 
+/// The limits of the example's book.
+fn limits() -> Option<Limits> {
+    Limits::new(1 << 24, 1 << 20)
+}
+
+/// An index without legs over at most so many pages.
+fn new_index(alloc: Global, most: u32) -> Option<TreeIndex<MemStore>> {
+    let (shape, limits) = (Shape::new(50, 72)?, limits()?);
+    match begin(alloc, MemStore::new(alloc, most), shape, 4, &limits) {
+        Ok(index) => Some(index),
+        Err(_) => None,
+    }
+}
+
+/// Accepts what was joined.
+fn accept(index: &mut TreeIndex<MemStore>, tracks: &mut Tracks, joined: &Joined) -> Option<()> {
+    index.add_all(joined.legs()).ok()?;
+    tracks.accept(joined).ok()
+}
+
+/// Joins a file, and accepts it.
+fn put(
+    alloc: Global,
+    file: &File,
+    index: &mut TreeIndex<MemStore>,
+    tracks: &mut Tracks,
+) -> Option<()> {
+    match join(alloc, None, tracks, &limits()?, file) {
+        Ok(joined) => accept(index, tracks, &joined),
+        Err(_) => None,
+    }
+}
+
+/// The attribute values of a file's records.
+fn rows_of(alloc: Global, file: &File) -> Option<Rows> {
+    let mut rows = Rows::new(alloc);
+    for entry in file.records.as_slice() {
+        rows.push(&entry.attributes).ok()?;
+    }
+    Some(rows)
+}
+
+/// Accepts a file: its tracks.
+fn accepted(
+    alloc: Global,
+    keys: RandomState,
+    file: &File,
+    index: &mut TreeIndex<MemStore>,
+) -> Option<Tracks> {
+    let mut tracks = Tracks::new(alloc, keys).ok()?;
+    put(alloc, file, index, &mut tracks)?;
+    Some(tracks)
+}
+
+/// Accepts a file: what is known of it beside its head and its legs.
+fn known(
+    alloc: Global,
+    keys: RandomState,
+    file: &File,
+    index: &mut TreeIndex<MemStore>,
+) -> Option<(Tracks, Rows)> {
+    let tracks = accepted(alloc, keys, file, index)?;
+    Some((tracks, rows_of(alloc, file)?))
+}
+
+/// Accepts the example: its catalogue.
+fn load(alloc: Global, keys: RandomState, index: &mut TreeIndex<MemStore>) -> Option<Catalogue> {
+    let limits = limits()?;
+    let file = read_file(alloc, STANDARD.as_bytes()).ok()?;
+    let (tracks, rows) = known(alloc, keys, &file, index)?;
+    Some(Catalogue {
+        head: Some(BookHead::from(file.head)),
+        limits,
+        tracks,
+        rows,
+    })
+}
+
 /// The example in an index over at most so many pages, and its catalogue.
 fn example(
     alloc: Global,
     keys: RandomState,
     most: u32,
 ) -> Option<(Catalogue, TreeIndex<MemStore>)> {
-    let limits = Limits::new(1 << 24, 1 << 20)?;
-    let shape = Shape::new(50, 72)?;
-    let Ok(mut index) = begin(alloc, MemStore::new(alloc, most), shape, 4, &limits) else {
-        return None;
-    };
-    let file = read_file(alloc, STANDARD.as_bytes()).ok()?;
-    let mut tracks = Tracks::new(alloc, keys).ok()?;
-    let joined = join(alloc, None, &tracks, &limits, &file).ok()?;
-    index.add_all(joined.legs()).ok()?;
-    tracks.accept(&joined).ok()?;
-    let mut rows = Rows::new(alloc);
-    for entry in file.records.into_vec() {
-        rows.push(&entry.attributes).ok()?;
-    }
-    let catalogue = Catalogue {
-        head: Some(BookHead::from(file.head)),
-        limits,
-        tracks,
-        rows,
-    };
+    let mut index = new_index(alloc, most)?;
+    let catalogue = load(alloc, keys, &mut index)?;
     Some((catalogue, index))
 }
 
@@ -83,6 +143,16 @@ fn as_wanted(cache: &mut PageCache<MemStore>) -> Option<(bool, bool, u32)> {
     Some((header, text, cache.count()))
 }
 
+/// Saves a catalogue twice: the second one takes the first one's page.
+fn save_twice(
+    alloc: Global,
+    catalogue: &Catalogue,
+    index: &mut TreeIndex<MemStore>,
+) -> Result<(), CatalogueFault> {
+    save(alloc, catalogue, index)?;
+    save(alloc, catalogue, index)
+}
+
 /// The same of the example, saved over `most` pages; the fault, if it is not saved.
 fn saved(
     alloc: Global,
@@ -90,8 +160,7 @@ fn saved(
     most: u32,
 ) -> Option<Result<(bool, bool, u32), CatalogueFault>> {
     let (catalogue, mut index) = example(alloc, keys, most)?;
-    // Saved twice: the second one takes the first one's page.
-    match save(alloc, &catalogue, &mut index).and_then(|()| save(alloc, &catalogue, &mut index)) {
+    match save_twice(alloc, &catalogue, &mut index) {
         Ok(()) => Some(Ok(as_wanted(index.cache_mut())?)),
         Err(fault) => Some(Err(fault)),
     }
@@ -127,15 +196,27 @@ fn numbers_of(catalogue: &Catalogue) -> ([u64; 5], bool) {
     (numbers, catalogue.tracks.name(1) == Some("b"))
 }
 
-/// The same of what is restored of the example, and how many legs of its first feature the index has.
-fn restored(alloc: Global, keys: RandomState) -> Option<(([u64; 5], bool), usize)> {
-    let cache = PageCache::new(alloc, closed(alloc, keys)?, 4).ok()?;
-    let (catalogue, mut index) = restore(alloc, keys, cache).ok()?;
-    let legs = match index.track(0) {
+/// What is restored of the example.
+fn restored_parts(alloc: Global, keys: RandomState) -> Option<(Catalogue, TreeIndex<MemStore>)> {
+    let store = closed(alloc, keys)?;
+    match PageCache::new(alloc, store, 4) {
+        Ok(cache) => restore(alloc, keys, cache).ok(),
+        Err(_) => None,
+    }
+}
+
+/// How many legs of the first feature an index has.
+fn count_of_first(index: &mut TreeIndex<MemStore>) -> usize {
+    match index.track(0) {
         Ok(legs) => legs.len(),
         Err(_) => 0,
-    };
-    Some((numbers_of(&catalogue), legs))
+    }
+}
+
+/// The same of what is restored of the example, and how many legs of its first feature the index has.
+fn restored(alloc: Global, keys: RandomState) -> Option<(([u64; 5], bool), usize)> {
+    let (catalogue, mut index) = restored_parts(alloc, keys)?;
+    Some((numbers_of(&catalogue), count_of_first(&mut index)))
 }
 
 #[test]

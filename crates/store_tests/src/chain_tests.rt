@@ -2,7 +2,7 @@
 use crate::samples::leg;
 use crate::trees::{Sample, grown};
 use chains::{ChainFault, trajectory, trajectory_in};
-use legs::Sieve;
+use legs::{Leg, Sieve};
 use pagecache::{CacheFault, PageCache};
 use pages::{Fuse, Kind, MemStore, PageStore, Payload, seal};
 use std::alloc::Global;
@@ -10,37 +10,47 @@ use tbnode::{init_leaf, leaf, push_leg, set_next};
 use tbtree::Shape;
 use timebase::{Ms, Period};
 
+/// All legs of a tree, or those that are live in a period.
+fn found(alloc: Global, sample: &mut Sample, period: Option<&Period>) -> Option<Vec<Leg>> {
+    let (shape, mut spans) = (Shape::new(2, 2)?, Vec::new(alloc));
+    let Sample { cache, place, .. } = sample;
+    match period {
+        Some(period) => {
+            trajectory_in(
+                alloc,
+                cache,
+                &shape,
+                0,
+                place,
+                period,
+                &Sieve::All,
+                &mut spans,
+            )
+            .ok()
+        }
+        None => trajectory(alloc, cache, &shape, 0, place, &mut spans).ok(),
+    }
+}
+
+/// The ordinals of some legs.
+fn ordinals(alloc: Global, legs: &[Leg]) -> Option<Vec<u64>> {
+    let mut ordinals = Vec::new(alloc);
+    for leg in legs {
+        ordinals.push(leg.ordinal).ok()?;
+    }
+    Some(ordinals)
+}
+
 /// The ordinals of all of five legs, or of those that are live in the last half second, and how many pages were
 /// asked for through a cache of so many.
 fn read(alloc: Global, pages: usize, last: bool) -> Option<(Vec<u64>, u64)> {
-    let Sample {
-        mut cache,
-        place,
-        ..
-    } = grown(alloc, pages, 5, u64::MAX)?;
-    let shape = Shape::new(2, 2)?;
-    let asked = cache.asked();
-    let found = if last {
-        let period = Period::new(Ms::new(4500)?, Ms::new(5000)?)?;
-        trajectory_in(
-            alloc,
-            &mut cache,
-            &shape,
-            0,
-            &place,
-            &period,
-            &Sieve::All,
-            &mut Vec::new(alloc),
-        )
-        .ok()?
-    } else {
-        trajectory(alloc, &mut cache, &shape, 0, &place, &mut Vec::new(alloc)).ok()?
-    };
-    let mut ordinals = Vec::new(alloc);
-    for leg in &found {
-        ordinals.push(leg.ordinal).ok()?;
-    }
-    Some((ordinals, cache.asked().saturating_sub(asked)))
+    let period = Period::new(Ms::new(4500)?, Ms::new(5000)?)?;
+    let mut sample = grown(alloc, pages, 5, u64::MAX)?;
+    let before = sample.cache.asked();
+    let period = if last { Some(&period) } else { None };
+    let legs = found(alloc, &mut sample, period)?;
+    let asked = sample.cache.asked().saturating_sub(before);
+    Some((ordinals(alloc, legs.as_slice())?, asked))
 }
 
 #[test]

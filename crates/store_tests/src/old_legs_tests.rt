@@ -2,7 +2,7 @@
 ghost use Rattle.std.specs.Prelude.{◌≤◌};
 
 use crate::samples::leg;
-use legs::{IndexFault, LegIndex, ListIndex, Track, Tracks};
+use legs::{IndexFault, Leg, LegIndex, ListIndex, Track, Tracks};
 use pages::{Kind, MemStore, PageStore, Payload, seal};
 use std::alloc::Global;
 use std::hash::RandomState;
@@ -72,22 +72,21 @@ fn places() -> [Place; 2] {
     ]
 }
 
+/// Adds a feature of so many legs, which end so many milliseconds after 1970.
+fn add(alloc: Global, tracks: &mut Tracks, name: &str, end: i64, legs: u64) -> Option<()> {
+    let end = Ms::new(end)?;
+    let name = String::from_str(alloc, name).ok()?;
+    tracks.add(name, Track { end, legs }).ok()?;
+    Some(())
+}
+
 fn tracks(alloc: Global, keys: RandomState) -> Option<Tracks> {
     let mut tracks = Tracks::new(alloc, keys).ok()?;
-    let first = Track {
-        end: Ms::new(5000)?,
-        legs: 3,
-    };
-    let second = Track {
-        end: Ms::new(4000)?,
-        legs: 2,
-    };
-    tracks.add(String::from_str(alloc, "a").ok()?, first).ok()?;
-    tracks.add(String::from_str(alloc, "b").ok()?, second).ok()?;
-    if tracks.set_rows(5) {
-        Some(tracks)
-    } else {
-        None
+    add(alloc, &mut tracks, "a", 5000, 3)?;
+    add(alloc, &mut tracks, "b", 4000, 2)?;
+    match tracks.set_rows(5) {
+        true => Some(tracks),
+        false => None,
     }
 }
 
@@ -166,45 +165,58 @@ fn long_store(alloc: Global, legs: u32) -> Option<MemStore> {
     Some(store)
 }
 
-/// Whether so many legs of one feature are brought, each the right one.
-fn brings(alloc: Global, keys: RandomState, legs: u32) -> Option<bool> {
-    let mut store = long_store(alloc, legs)?;
+/// Where so many legs of one feature stand there.
+fn long_place(legs: u32) -> Place {
     let last = legs.div_ceil(FULL);
-    let place = Place {
+    Place {
         first: 1,
         last,
         last_index: last.saturating_sub(1),
         legs: u64::from(legs),
-    };
-    let track = Track {
-        end: Ms::new(i64::from(legs).wrapping_mul(1000))?,
-        legs: u64::from(legs),
-    };
-    let mut tracks = Tracks::new(alloc, keys).ok()?;
-    tracks.add(String::from_str(alloc, "a").ok()?, track).ok()?;
-    let rows = u64::from(legs);
-    if !tracks.set_rows(rows) {
-        return None;
     }
+}
+
+/// The tracks of one feature of so many legs, each with a row of its own.
+fn long_tracks(alloc: Global, keys: RandomState, legs: u32) -> Option<Tracks> {
+    let mut tracks = Tracks::new(alloc, keys).ok()?;
+    let end = i64::from(legs).wrapping_mul(1000);
+    add(alloc, &mut tracks, "a", end, u64::from(legs))?;
+    match tracks.set_rows(u64::from(legs)) {
+        true => Some(tracks),
+        false => None,
+    }
+}
+
+/// What is brought of so many legs of one feature.
+fn brought_long(alloc: Global, keys: RandomState, legs: u32) -> Option<ListIndex> {
+    let tracks = long_tracks(alloc, keys, legs)?;
+    let mut store = long_store(alloc, legs)?;
     let mut index = ListIndex::new(alloc);
-    take_old_legs(
-        alloc,
-        keys,
-        &mut store,
-        63,
-        &[place],
-        &tracks,
-        rows,
-        &mut index,
-    )
-    .ok()?;
-    let found = index.track(0).ok()?;
+    let (places, rows) = ([long_place(legs)], u64::from(legs));
+    match take_old_legs(
+        alloc, keys, &mut store, 63, &places, &tracks, rows, &mut index,
+    ) {
+        Ok(()) => Some(index),
+        Err(_) => None,
+    }
+}
+
+/// Whether these are so many legs of one feature, each the right one.
+fn are_all(found: &[Leg], legs: u32) -> bool {
     for ordinal in 0..legs {
         if found.get(ordinal as usize).copied() != leg(ordinal, 0, ordinal) {
-            return Some(false);
+            return false;
         }
     }
-    Some(found.len() == legs as usize && index.len() == rows)
+    found.len() == legs as usize
+}
+
+/// Whether so many legs of one feature are brought, each the right one.
+fn brings(alloc: Global, keys: RandomState, legs: u32) -> Option<bool> {
+    let mut index = brought_long(alloc, keys, legs)?;
+    let count = index.len();
+    let found = index.track(0).ok()?;
+    Some(are_all(found.as_slice(), legs) && count == u64::from(legs))
 }
 
 #[test]

@@ -43,15 +43,11 @@ fn moments(t0: Ms, t1: Ms) -> (i64, i64) {
 }
 
 fn is_leg(leg: &Leg, facts: &Facts) -> bool {
-    let (numbers, times, ends) = *facts;
-    (leg.ordinal, leg.feature, leg.row) == numbers
-        && moments(leg.t0, leg.t1) == times
-        && [
-            leg.x0.units(),
-            leg.y0.units(),
-            leg.x1.units(),
-            leg.y1.units(),
-        ] == ends
+    let ((ordinal, feature, row), times, [x0, y0, x1, y1]) = *facts;
+    let is_numbered = leg.ordinal == ordinal && leg.feature == feature && leg.row == row;
+    let begins = leg.x0.units() == x0 && leg.y0.units() == y0;
+    let ends = leg.x1.units() == x1 && leg.y1.units() == y1;
+    is_numbered && moments(leg.t0, leg.t1) == times && begins && ends
 }
 
 fn are_legs(legs: &[Leg], facts: &[Facts]) -> bool {
@@ -84,12 +80,15 @@ fn joined(alloc: Global, tracks: &Tracks, file: &File) -> Option<Joined> {
     join(alloc, None, tracks, &limits, file).ok()
 }
 
+fn is_joined(joined: &Joined) -> bool {
+    let counted = (joined.record_count(), joined.feature_count()) == (3, 2);
+    are_legs(joined.legs(), &LEGS) && counted
+}
+
 fn joins(alloc: Global, keys: RandomState) -> Option<bool> {
     let file = read(alloc, FILE)?;
     let tracks = Tracks::new(alloc, keys).ok()?;
-    let joined = joined(alloc, &tracks, &file)?;
-    let counted = (joined.record_count(), joined.feature_count()) == (3, 2);
-    Some(are_legs(joined.legs(), &LEGS) && counted)
+    Some(is_joined(&joined(alloc, &tracks, &file)?))
 }
 
 #[test]
@@ -139,23 +138,39 @@ const REFUSED: [(&str, JoinCode, u64); 7] = [
     ),
 ];
 
-fn is_refused(alloc: Global, tracks: &Tracks, row: &(&str, JoinCode, u64)) -> Option<bool> {
-    let (text, code, number) = *row;
-    let head = BookHead::from(read(alloc, FILE)?.head);
+/// The head of the book that the file makes.
+fn book_head(alloc: Global) -> Option<BookHead> {
+    Some(BookHead::from(read(alloc, FILE)?.head))
+}
+
+/// Whether a file is refused so behind the first one; `None` where memory runs out.
+fn is_refused(
+    alloc: Global,
+    (head, tracks): (&BookHead, &Tracks),
+    text: &str,
+    wanted: JoinFault,
+) -> Option<bool> {
+    let limits = Limits::new(6, 2)?;
     let file = read(alloc, text)?;
-    match join(alloc, Some(&head), tracks, &Limits::new(6, 2)?, &file) {
+    match join(alloc, Some(head), tracks, &limits, &file) {
         Err(JoinFault::Memory) => None,
-        fault => Some(fault.err() == Some(JoinFault::Refused { code, number })),
+        Err(fault) => Some(fault == wanted),
+        Ok(_) => Some(false),
     }
 }
 
 fn refuses_second(alloc: Global, keys: RandomState) -> Option<bool> {
-    let tracks = accepted(alloc, keys)?;
-    let mut all = true;
-    for row in &REFUSED {
-        all = all && is_refused(alloc, &tracks, row)?;
+    let (head, tracks) = (book_head(alloc)?, accepted(alloc, keys)?);
+    for (text, code, number) in &REFUSED {
+        let fault = JoinFault::Refused {
+            code: *code,
+            number: *number,
+        };
+        if !is_refused(alloc, (&head, &tracks), text, fault)? {
+            return Some(false);
+        }
     }
-    Some(all)
+    Some(true)
 }
 
 #[test]
@@ -181,22 +196,25 @@ fn is_track(track: Option<Track>, end: i64, legs: u64) -> bool {
     }
 }
 
-fn accepts(alloc: Global, keys: RandomState) -> Option<bool> {
-    let tracks = accepted(alloc, keys)?;
-    let numbers = (
+fn has_names(tracks: &Tracks) -> bool {
+    tracks.feature("b") == Some(1)
+        && tracks.feature("c").is_none()
+        && tracks.name(0) == Some("a")
+        && tracks.name(2).is_none()
+}
+
+fn has_counts(tracks: &Tracks) -> bool {
+    let counts = (
         tracks.feature_count(),
         tracks.leg_count(),
         tracks.row_count(),
     );
-    Some(
-        numbers == (2, 5, 3)
-            && tracks.feature("b") == Some(1)
-            && tracks.feature("c").is_none()
-            && tracks.name(0) == Some("a")
-            && tracks.name(2).is_none()
-            && is_track(tracks.track(0), 1000, 4)
-            && is_track(tracks.track(1), 5000, 1),
-    )
+    counts == (2, 5, 3) && is_track(tracks.track(0), 1000, 4) && is_track(tracks.track(1), 5000, 1)
+}
+
+fn accepts(alloc: Global, keys: RandomState) -> Option<bool> {
+    let tracks = accepted(alloc, keys)?;
+    Some(has_names(&tracks) && has_counts(&tracks))
 }
 
 #[test]
@@ -208,12 +226,10 @@ fn a_file_is_accepted(rt: HostRuntime) -> Result<(), Fail> {
 
 fn is_step(step: &Step, times: (i64, i64), from: i64, to: i64) -> bool {
     moments(step.t0, step.t1) == times
-        && [
-            step.x0.units(),
-            step.y0.units(),
-            step.x1.units(),
-            step.y1.units(),
-        ] == [from, 0, to, 0]
+        && step.x0.units() == from
+        && step.x1.units() == to
+        && step.y0.units() == 0
+        && step.y1.units() == 0
 }
 
 fn are_steps(steps: &[Step]) -> bool {

@@ -262,7 +262,7 @@ fn files_are_read(rt: HostRuntime) -> Result<(), Fail> {
 }
 
 /// Files that are refused, each with its code and number.
-const REFUSED: [(&str, Code, u64); 26] = [
+const REFUSED: [(&str, Code, u64); 33] = [
     ("", Code::F8, 0),
     ("\n\n", Code::F8, 0),
     (bounded!(""), Code::F8, 0),
@@ -272,7 +272,13 @@ const REFUSED: [(&str, Code, u64); 26] = [
         Code::F8,
         2,
     ),
+    ("x,0,1,0 0", Code::F8, 1),
     (headed!("@STBOUNDEDBY\n"), Code::F2, 3),
+    (
+        "@stboundedby,local,2D,0 0,0 0,2020-01-01T00:00:00Z",
+        Code::F3,
+        1,
+    ),
     (
         "@stboundedby,local,4D,0 0,0 0,2020-01-01T00:00:00Z,",
         Code::F4,
@@ -291,10 +297,14 @@ const REFUSED: [(&str, Code, u64); 26] = [
     (in_unit!("minutes", ""), Code::F6, 1),
     (bounded!("@columns,mfidref,tragectory\n"), Code::F7, 2),
     (bounded!("@columns,,trajectory\n"), Code::F7, 2),
+    (bounded!("@columns,trajectory,mfidref"), Code::F7, 2),
+    (headed!("x,0,1"), Code::F11, 3),
     (headed!("x,0,1,0 0,y"), Code::F11, 3),
+    (headed!("\"x,0,1,0 0"), Code::F11, 3),
     (headed!(" ,0,1,0 0"), Code::F12, 3),
     (headed!("x,a,1,0 0"), Code::F13, 3),
     (headed!("x,0,1e3,0 0"), Code::F13, 3),
+    (headed!("x,0,1000000000000,0 0"), Code::F13, 3),
     (
         in_unit!("minute", "x,0,2020-01-01T00:00:30Z,0 0"),
         Code::F13,
@@ -323,6 +333,7 @@ const REFUSED: [(&str, Code, u64); 26] = [
     ),
     (headed!("x,0,1,0 0 y"), Code::F15, 3),
     (headed!("n,0,1,0 0 0 100000000.0000001"), Code::F15, 3),
+    (headed!("x,0,1,"), Code::F16, 3),
     (headed!("x,0,1,0 0 1"), Code::F16, 3),
     (headed!("q,0,0.002,0 0 1 1 2 2 3 3\n"), Code::F17, 3),
 ];
