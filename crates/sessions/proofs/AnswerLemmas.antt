@@ -36,7 +36,7 @@ answered old new s files sent sent' lines (Ok x) runs sound keeps idle limits pl
   after = new.book;
   run = runs is;
   holds = subst (λ k. HoldsBook s k old.limits new.book) (the_same new.index.tree.shape old.index.tree.shape plan)
-      (subst (λ l. HoldsBook s new.index.tree.shape l new.book) limits (holds (sound is) (keeps.pages is pages) (idle rests)));
+      (subst (λ l. HoldsBook s new.index.tree.shape l new.book) limits (holds (sound is) (keeps.pages is.index.faithful pages) (idle rests)));
 }
 answered old new s files sent sent' lines (Err e) runs sound keeps idle limits plan holds = tt
 
@@ -132,7 +132,7 @@ module _ (old new : DbView) (s : Store) (leaves : LeavesBook words old new) (res
   keeps closed holds idle pages sound has rest unbegun lives =
       let e = idle (leaves.failed ∙ lives) (leaves.begun ∙ unbegun) in
       let h = subst (λ r. OnOk r (IsSoundDb new → HasPages new → IsIdle new → HoldsBook s new.index.tree.shape new.limits new.book)) e holds in
-      still_holds (h (leaves.sound sound) (pages.pages sound has) (rests rest))
+      still_holds (h (leaves.sound sound) (pages.pages sound.index.faithful has) (rests rest))
 
 -- a database that was made with a book and is closed leaves a store that holds it
 pub closed_book : (db : DbView) (s : Store) (ran : Result (Unit {0}) RunFault) → OnOk ran (IsSoundDb db → HasPages db → IsIdle db → HoldsBook s db.index.tree.shape db.limits db.book) → ran ≡ Ok tt

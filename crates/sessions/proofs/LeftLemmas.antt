@@ -44,7 +44,7 @@ module _ (old new : DbView) (s : Store) (files : List (List ℕ × List ℕ)) (s
       subst (λ b. ClosesWith old.index.tree.shape old.limits b closed s) book
       (subst (λ l. ClosesWith old.index.tree.shape l new.book closed s) limits
       (subst (λ t. ClosesWith t new.limits new.book closed s) (the_same new.index.tree.shape old.index.tree.shape plan)
-      (closes closed holds only unfinished lives sound (keeps.pages was pages) (idle is_idle))))
+      (closes closed holds only unfinished lives sound (keeps.pages was.index.faithful pages) (idle is_idle))))
 
   -- and without a fault, where nothing began it
   unbegun : new.failed ≡ false → IsSoundDb old → old.begun ≡ false → (AcceptsSome old.limits files old.book lines → ⊥) → closed ≡ Ok tt
