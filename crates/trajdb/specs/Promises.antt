@@ -132,7 +132,7 @@ pub record RunCall {I O : Type 0} (g : Ghosts I) (shown : O → Option (List ℕ
   pub was_failed_output : old.failed ≡ true → out' ≡ out
 
 -- what a call of a database over pages keeps, whatever it answers: one at rest stays so until it accepts a file or
--- fails, and its store stays safe
+-- fails, and the store of a sound one, whose pages are as its state says, stays safe
 pub record KeepsStore (old new : DbView) : Type 0 where
   pub rests : IsIdle old → IsIdle new
   pub safe : (was : Store) → IsSoundDb old → HasPages old → IsSafe was old → IsSafe was new
