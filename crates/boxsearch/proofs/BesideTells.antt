@@ -25,7 +25,7 @@ module _ (old new : Pages LegView BoxView) (same : (p : ℕ) → 0 < p → new.a
   same_node zero = refl
   same_node (suc n) = same (suc n) (omega arith)
 
-  same_pages : (test : BoxView → Bool) (root n : ℕ) → pages_met test new root n ≡ pages_met test old root n
+  pub same_pages : (test : BoxView → Bool) (root n : ℕ) → pages_met test new root n ≡ pages_met test old root n
   unfolding children_met
   same_pages test root zero = refl
   same_pages test root (suc n) = λ i. flat_map (λ p. map (λ (e : EntryView BoxView). e.child) (filter (λ e. test e.bounds) (entries_in (same_node p i)))) (same_pages test root n i)

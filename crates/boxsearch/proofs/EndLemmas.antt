@@ -14,7 +14,7 @@ use Rattle.legs.specs.Index.{is_of, last_leg_of, legs_of}
 use Rattle.legs.specs.Legs.{LegView}
 use Rattle.legs.proofs.LastLemmas.{last_absent, last_at_end, last_holds, last_own, takes_then}
 use Rattle.tbtree.specs.Content.{ContentGrows}
-use Rattle.tbtree.specs.Descent.{found_legs}
+use Rattle.tbtree.specs.Descent.{found_legs, pages_met}
 use Rattle.tbtree.specs.Filling.{KeepsLegs}
 use Rattle.tbtree.specs.Joining.{in_last_leaf, HasAtEnd}
 use Rattle.tbtree.specs.Nodes.{Pages, pages_of_cache, with_legs}
@@ -138,6 +138,18 @@ module _ (old new : IndexView) (feature : ℕ) (legs : List LegView) (was is : P
   takes_put = record {
     kept = λ meets prune leg h. says new meets leg (λ fa. All-contains (Contains (found_legs meets (pages_of_cache new.cache) new.tree)) (found_legs meets (pages_of_cache old.cache) old.tree) leg ((met (was_faithful fa)).kept meets prune) (said old meets leg h (was_faithful fa)));
     put = λ meets prune k d l t. says new meets (get_or legs k d) (λ fa. (met (was_faithful fa)).put meets prune k d l t);
+    comes = λ meets prune above page h fa.
+        let m = met (was_faithful fa) in
+        let c = h (was_faithful fa) in
+        let e = c.1 in
+        let high = m.higher in
+        (c.0 + (new.tree.levels - old.tree.levels), omega (arith, e, high), subst (λ n. Contains (pages_met meets (pages_of_cache new.cache) new.tree.root n) page) (let z : suc c.0 + (new.tree.levels - old.tree.levels) ≡ suc (c.0 + (new.tree.levels - old.tree.levels)) = omega arith in z) (m.met meets prune c.0 page (omega (arith, e)) c.2));
+    bare = λ page h.
+        let m = met h.0 in
+        let more = m.grafts.count in
+        let there = h.2 in
+        (faithful ∙ h.0, h.1, omega (arith, there, more), m.bare page h.2 h.3);
+    top = λ levels h. (met h.0).top levels h.2 h.3;
     tracks = λ f told h fa.
         let was_fa = was_faithful fa in
         let f_of = fills was_fa in

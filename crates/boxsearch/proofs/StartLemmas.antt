@@ -1,5 +1,5 @@
 -- An index whose page 0 is marked.
-use Rattle.std.proofs.Common.{slice_get, Bool, ℕ, ◌≡◌, ◌≢◌, ◌<◌, ◌≤◌, ⊎_elim, refl, sym, ap, ◌∙◌, arith, subst, true, false, cond, drop, length, List, [], All, IsTrue, Option, Some, None, option_map, Result}
+use Rattle.std.proofs.Common.{suc, slice_get, Bool, ℕ, ◌≡◌, ◌≢◌, ◌<◌, ◌≤◌, ⊎_elim, refl, sym, ap, ◌∙◌, arith, subst, true, false, cond, drop, length, List, [], All, IsTrue, Option, Some, None, option_map, Result}
 use Rattle.std.specs.Prelude.{IfErr, OnOk, OnErr}
 use Rattle.std.proofs.lemmas.Bool.{cases_lt, true≢false}
 use Rattle.std.proofs.lemmas.Int.{clamps}
@@ -23,7 +23,7 @@ use Rattle.boxsearch.specs.Marking.{Marks, IsNotMarked}
 use Rattle.pages.specs.declared.payload.Payload.{Payload}
 use Rattle.std.specs.List.{Contains}
 use Rattle.tbtree.proofs.Still.{still}
-use Rattle.boxsearch.proofs.BesideTells.{denies_beside, tells_beside}
+use Rattle.boxsearch.proofs.BesideTells.{denies_beside, same_pages, tells_beside}
 use Rattle.boxsearch.proofs.PlaceLemmas.{some_none}
 use Rattle.boxsearch.proofs.AnswerLemmas.{each_fault, each_value, the_fault, Said}
 use Rattle.chains.specs.declared.spans.LeafSpan.{LeafSpan}
@@ -120,6 +120,13 @@ module _ (laws : FirstLaws) (old : IndexView) (c : Cache) (known : List (List Le
           told = λ legs h fa. tells_beside (pages_of_cache old.cache) (pages_of_cache c) (same fa) m.count old.tree old.places question legs (h (was_faithful fa));
           denied = λ page h fa. denies_beside (pages_of_cache old.cache) (pages_of_cache c) (same fa) m.count old.tree old.places question page (h (was_faithful fa));
         };
+    comes = λ meets above page h fa.
+        let at = h (was_faithful fa) in
+        (at.0, at.1, subst (λ ps. Contains ps page) (sym (same_pages (pages_of_cache old.cache) (pages_of_cache c) (λ p above. ap (option_map node_of) (m.rest (was_faithful fa) p above)) m.count meets old.tree.root (suc at.0))) at.2);
+    bare = λ page h.
+        let there = h.2 in
+        let same = m.count in
+        (m.store.faithful ∙ h.0, h.1, omega (arith, there, same), ap (option_map node_of) (m.rest h.0 page h.1) ∙ h.3);
     finds = λ meets leg h fa. subst (λ ls. Contains ls leg) (sym (beside_found laws old c known beside meets)) (h (was_faithful fa));
     ends = λ leg h fa.
         let e = h (was_faithful fa) in

@@ -1,5 +1,5 @@
 -- What contracts see of an index over pages.
-use Rattle.std.specs.Prelude.{Bool, true, ℕ, ◌≡◌, ◌<◌, ◌-◌, ◌^◌, ◌==◌, min, false, if◌then◌else◌, IsTrue, List, [], ◌∷◌, ◌++◌, map, length, slice_get, Some, All}
+use Rattle.std.specs.Prelude.{Bool, true, None, suc, ◌+◌, ℕ, ◌≡◌, ◌<◌, ◌-◌, ◌^◌, ◌==◌, min, false, if◌then◌else◌, IsTrue, List, [], ◌∷◌, ◌++◌, map, length, slice_get, Some, All}
 use Rattle.std.specs.List.{Contains}
 use Rattle.legs.specs.Boxes.{BoxView}
 use Rattle.legs.specs.Costs.{ShapeView}
@@ -11,7 +11,7 @@ use Rattle.pages.specs.Store.{IsSynced}
 use Rattle.pages.specs.declared.payload.Payload.{Payload}
 use Rattle.legs.specs.declared.listed.Listed.{Ghosts}
 use Rattle.pagecache.specs.Cache.{Cache, IsClean, is_changed, pages_as_written, payload_of, sealed_payload}
-use Rattle.tbtree.specs.Descent.{found_legs}
+use Rattle.tbtree.specs.Descent.{found_legs, pages_met}
 use Rattle.tbtree.specs.Insert.{Stands, IsPlace}
 use Rattle.tbtree.specs.Nodes.{pages_of_cache}
 use Rattle.tbtree.specs.Shape.{IsShape}
@@ -53,6 +53,19 @@ denies i question page =
 -- the way down its pages by a test of boxes finds the leg; anything where its store is not faithful
 abbrev pub finds : IndexView → (BoxView → Bool) → LegView → Type 0
 finds i meets leg = IsTrue i.cache.store.is_faithful → Contains (legs_by meets i) leg
+
+-- the way down its pages by a test of boxes comes to the page, below the root and so many levels above the leaves;
+-- anything where its store is not faithful
+abbrev pub comes_to : IndexView → (BoxView → Bool) → ℕ → ℕ → Type 0
+comes_to i meets above page =
+    IsTrue i.cache.store.is_faithful → (n : ℕ) × (suc n + suc above ≡ i.tree.levels)
+    × Contains (pages_met meets (pages_of_cache i.cache) i.tree.root (suc n)) page
+
+-- over a faithful store the page is there behind page 0, and has no payload
+abbrev pub is_bare : IndexView → ℕ → Type 0
+is_bare i page =
+    IsTrue i.cache.store.is_faithful × (0 < page) × (page < i.cache.count)
+    × ((pages_of_cache i.cache).at page ≡ None)
 
 -- the last leaf of the leg's feature has the leg at its end; anything where its store is not faithful
 abbrev pub ends_with : IndexView → LegView → Type 0
@@ -119,6 +132,8 @@ words = record {
   tells = λ index question legs. tells index question legs;
   denies = λ index question page. denies index question page;
   finds = λ index meets leg. finds index meets leg;
+  comes_to = λ index meets above page. comes_to index meets above page;
+  is_bare = λ index page. is_bare index page;
   ends_with = λ index leg. ends_with index leg;
   counted = λ index. index.legs;
   is_sound = λ index. IsSound index;

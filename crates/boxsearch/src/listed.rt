@@ -14,7 +14,7 @@ impl<S: PageStore> Listed for TreeIndex<S> {
     ghost use Rattle.std.specs.Prelude.{IsTrue, Some, min, ◌≡◌, ◌-◌, ◌^◌};
     ghost use Rattle.pagecache.specs.Cache.{IsClean};
     ghost use Rattle.boxsearch.specs.Known.{KnowsBackTo};
-    ghost use Rattle.boxsearch.specs.Index.{content, denies, ends_with, finds, found_by, tells, written, IsSound, IsMarked};
+    ghost use Rattle.boxsearch.specs.Index.{comes_to, content, denies, ends_with, finds, found_by, is_bare, tells, written, IsSound, IsMarked};
 
     ghost content = { λ index. content index };
 
@@ -23,6 +23,10 @@ impl<S: PageStore> Listed for TreeIndex<S> {
     ghost denies = { λ index question page. denies index question page };
 
     ghost finds = { λ index meets leg. finds index meets leg };
+
+    ghost comes_to = { λ index meets above page. comes_to index meets above page };
+
+    ghost is_bare = { λ index page. is_bare index page };
 
     ghost ends_with = { λ index leg. ends_with index leg };
 

@@ -85,6 +85,9 @@ module _ {I : Type 0} (g : Ghosts I) where
   takes_none a works = record {
     kept = λ meets prune leg h. h;
     put = λ meets prune. All-nil (λ leg. meets (box_of leg) ≡ true → g.finds a meets leg);
+    comes = λ meets prune above page h. h;
+    bare = λ page h. h;
+    top = λ some h. (refl, refl);
     tracks = λ f was h. subst (g.tells a (OfFeature f None)) (sym (append-nil was)) h;
     rests = λ f period none. record { told = λ l h. h; denied = λ p h. h };
     counted = λ few. omega arith;
@@ -103,6 +106,14 @@ module _ {I : Type 0} (g : Ghosts I) where
       record {
         kept = λ meets prune leg h. q.kept meets prune leg (p.kept meets prune leg h);
         put = λ meets prune. All-append (λ leg. meets (box_of leg) ≡ true → g.finds c meets leg) xs ys (All-weaker (λ leg. meets (box_of leg) ≡ true → g.finds b meets leg) (λ leg. meets (box_of leg) ≡ true → g.finds c meets leg) (λ leg h t. q.kept meets prune leg (h t)) xs (p.put meets prune)) (q.put meets prune);
+        comes = λ meets prune above page h. q.comes meets prune above page (p.comes meets prune above page h);
+        bare = λ page h. q.bare page (p.bare page h);
+        top = λ some h.
+            let first = p.top some h in
+            let r = first.0 in
+            let l = first.1 in
+            let then = q.top (omega (arith, some, l)) (subst (g.is_bare b) (sym r) (p.bare (g.found_by a).root h)) in
+            (then.0 ∙ r, then.1 ∙ l);
         tracks = λ f was h. subst (g.tells c (OfFeature f None)) (append_assoc was (legs_of f xs) (legs_of f ys) ∙ ap (λ l. was ++ l) (sym (filter-append (is_of f) xs ys))) (q.tracks f (was ++ legs_of f xs) (p.tracks f was h));
         rests = λ f period e.
             let none = neither f e in
@@ -149,6 +160,13 @@ module _ {I : Type 0} (g : Ghosts I) where
   takes_started a b c legs r s p = record {
     kept = λ meets prune leg h. p.kept meets prune leg (s.finds meets leg h);
     put = p.put;
+    comes = λ meets prune above page h. p.comes meets prune above page (s.comes meets above page h);
+    bare = λ page h. p.bare page (s.bare page h);
+    top = λ some h.
+        let r : (g.found_by b).root ≡ (g.found_by a).root = ap (λ (x : Finding). x.root) s.found_by in
+        let l : (g.found_by b).levels ≡ (g.found_by a).levels = ap (λ (x : Finding). x.levels) s.found_by in
+        let then = p.top (omega (arith, some, l)) (subst (g.is_bare b) (sym r) (s.bare (g.found_by a).root h)) in
+        (then.0 ∙ r, then.1 ∙ l);
     tracks = λ f was h. p.tracks f was ((s.says (OfFeature f None)).told was h);
     rests = λ f period none.
         let first = s.says (OfFeature f period) in
@@ -178,6 +196,9 @@ module _ {I : Type 0} (g : Ghosts I) where
             let own : Contains (legs_of leg.feature ys) leg = of_own leg ys (All-contains_itself ys k d l) in
             let there : Contains (legs_of leg.feature xs) leg = subst (λ ls. Contains ls leg) (sym (same leg.feature)) own in
             All-contains (λ leg. meets (box_of leg) ≡ true → g.finds b meets leg) (legs_of leg.feature xs) leg (All-filter (is_of leg.feature) (λ leg. meets (box_of leg) ≡ true → g.finds b meets leg) xs (p.put meets prune)) there;
+        comes = p.comes;
+        bare = p.bare;
+        top = p.top;
         tracks = λ f was h. subst (λ l. g.tells b (OfFeature f None) (was ++ l)) (same f) (p.tracks f was h);
         rests = λ f period e. p.rests f period (lasts f ∙ e);
         counted = λ few. p.counted (omega (arith, few, many)) ∙ ap (λ n. g.counted a + n) many;
@@ -232,6 +253,9 @@ list_takes old new legs is works =
       kept = λ meets prune leg h. (subst (λ ls. Contains ls leg) (sym is) (Contains-append_left old.legs legs leg h.0), h.1);
       put = λ meets prune k d l t. (subst (λ ls. Contains ls (get_or legs k d)) (sym is) (Contains-append_right old.legs legs (get_or legs k d) (All-contains_itself legs k d l)), t);
       rests = λ f period e. record { told = λ l h. h ∙ sym (answer_kept f period old.legs legs (last_absent f legs e)) ∙ ap (answer_in (OfFeature f period)) (sym is); denied = λ n h. h };
+      comes = λ meets prune above page h. h;
+      bare = λ page h. h;
+      top = λ some h. absurd h;
       tracks = λ f was h. ap (λ l. l ++ legs_of f legs) h ∙ sym (filter-append (is_of f) old.legs legs) ∙ ap (legs_of f) (sym is);
       counted = λ few. ap length is ∙ length-append old.legs legs;
       works = works;

@@ -109,6 +109,14 @@ pub record HasAdded {I : Type 0} (g : Ghosts I) (old new : I) (legs : List LegVi
       → g.finds old meets leg → g.finds new meets leg
   pub put : (meets : BoxView → Bool) → IsPruning leg_boxes meets
       → All (λ leg. meets (box_of leg) ≡ true → g.finds new meets leg) legs
+  -- the way down comes to each page below the root to which it came, as far above the leaves; a page without a payload
+  -- has none then, and where it is the root, it stays the root
+  pub comes : (meets : BoxView → Bool) → IsPruning leg_boxes meets → (above page : ℕ)
+      → g.comes_to old meets above page → g.comes_to new meets above page
+  pub bare : (page : ℕ) → g.is_bare old page → g.is_bare new page
+  pub top : 0 < (g.found_by old).levels → g.is_bare old (g.found_by old).root
+      → ((g.found_by new).root ≡ (g.found_by old).root)
+      × ((g.found_by new).levels ≡ (g.found_by old).levels)
   -- what its pages say of a feature they say still, and behind it those that it has of these
   pub tracks : (feature : ℕ) (was : List LegView) → g.tells old (OfFeature feature None) was
       → g.tells new (OfFeature feature None) (was ++ legs_of feature legs)
@@ -164,6 +172,9 @@ pub record Starts {I A : Type 0} (g : Ghosts I) (old new : I)
   pub says : (question : Question) → SaysStill g old new question
   pub finds : (meets : BoxView → Bool) (leg : LegView) → g.finds old meets leg
       → g.finds new meets leg
+  pub comes : (meets : BoxView → Bool) (above page : ℕ) → g.comes_to old meets above page
+      → g.comes_to new meets above page
+  pub bare : (page : ℕ) → g.is_bare old page → g.is_bare new page
   pub ends : (leg : LegView) → g.ends_with old leg → g.ends_with new leg
   pub counted : g.counted new ≡ g.counted old
   pub found_by : g.found_by new ≡ g.found_by old

@@ -155,6 +155,10 @@ impl Listed for ListIndex {
 
     ghost finds = { λ index meets leg. Contains index.legs leg × (meets (box_of leg) ≡ true) };
 
+    ghost comes_to = { λ index meets above page. ⊥ };
+
+    ghost is_bare = { λ index page. ⊥ };
+
     ghost ends_with = { λ index leg. last_leg_of leg.feature index.legs ≡ Some leg };
 
     ghost counted = { λ index. length index.legs };

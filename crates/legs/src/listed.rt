@@ -28,6 +28,14 @@ pub trait Listed {
     /// index over a store that is not faithful nothing is known, and it says anything.
     ghost finds: { Self → (BoxView → Bool) → LegView → Type 0 };
 
+    /// The way down its tree by a test of boxes comes to the page, below the root and so many levels above the leaves,
+    /// whoever wrote the pages; never of an index that keeps a list. Of an index over a store that is not faithful
+    /// nothing is known, and it says anything.
+    ghost comes_to: { Self → (BoxView → Bool) → ℕ → ℕ → Type 0 };
+
+    /// Over a faithful store the page is there behind page 0, and has no payload; never of an index that keeps a list.
+    ghost is_bare: { Self → ℕ → Type 0 };
+
     /// The last leaf of the leg's feature, whoever wrote it, has the leg at its end; of an index that keeps a list,
     /// the leg is the last one of its feature. Of an index over a store that is not faithful nothing is known, and it
     /// says anything.

@@ -542,6 +542,7 @@ content_grows old new tree tree' legs m = record {
   kept = λ meets prune. all_of (Contains (found_legs meets new tree')) (found_legs meets old tree) (λ leg h. in_found meets new tree' leg (m.kept meets prune leg (of_found meets old tree leg h)));
   put = λ meets prune. all_of (λ leg. meets (box_of leg) ≡ true → Contains (found_legs meets new tree') leg) legs (λ leg h t. in_found meets new tree' leg (All-contains (λ leg. meets (box_of leg) ≡ true → HasLeg meets new tree'.root tree'.levels leg) legs leg (m.put meets prune) h t));
   met = λ meets prune n p l h. listed meets new tree'.root (suc n + (tree'.levels - tree.levels)) p (m.way.met meets prune n p l (unlisted meets old tree.root (suc n) p h));
+  higher = m.way.higher;
   bare = m.says.bare;
   top = m.way.top;
   grafts = m.grafts;

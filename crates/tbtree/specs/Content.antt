@@ -39,6 +39,7 @@ pub record ContentGrows (old new : Pages LegView BoxView) (tree tree' : TbTree)
   pub met : (meets : BoxView → Bool) → IsPruning leg_boxes meets → (n p : ℕ) → suc n < tree.levels
       → Contains (pages_met meets old tree.root (suc n)) p
       → Contains (pages_met meets new tree'.root (suc n + (tree'.levels - tree.levels))) p
+  pub higher : tree.levels ≤ tree'.levels
   pub bare : (p : ℕ) → p < old.count → old.at p ≡ None → new.at p ≡ None
   pub top : 0 < tree.levels → tree.root < old.count → old.at tree.root ≡ None
       → (tree'.root ≡ tree.root) × (tree'.levels ≡ tree.levels)
