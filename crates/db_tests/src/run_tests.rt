@@ -241,8 +241,7 @@ fn is_front(out: &[u8], text: &[u8]) -> bool {
     }
 }
 
-/// What is said of a run: nothing where it sent all that is wanted; its fault where it stopped behind whole answers for
-/// want of memory, for which a store in memory fails, too; and that it failed where it did neither.
+/// Nothing of a run that sent all that is wanted; its fault, where it stopped behind whole answers for want of memory.
 fn judged(ran: Result<(), RunFault>, out: &[u8], want: &[u8]) -> Result<(), RunFault> {
     match ran {
         Ok(()) if out == want => Ok(()),
@@ -251,8 +250,7 @@ fn judged(ran: Result<(), RunFault>, out: &[u8], want: &[u8]) -> Result<(), RunF
     }
 }
 
-/// What a script answers, and how its run ends. In a function without a contract, as each call of a database here: what
-/// calls it has little to prove.
+/// What a script answers, and how its run ends, without a contract, so that what calls it has little to prove.
 pub(crate) fn ran<S: PageStore>(
     alloc: Global,
     db: &mut Db<S>,
@@ -358,8 +356,7 @@ fn run_listed(
     }
 }
 
-/// Whether a script answers so over a list, and over pages in two shapes, where it asks for as many whatever the cache
-/// holds. Where one allocation is refused it answers whole answers alone, and all of them when it is asked again.
+/// Whether a script answers so over a list, and over pages in two shapes, asking for as many whatever the cache holds.
 fn is_answered(
     alloc: Global,
     keys: RandomState,
