@@ -103,7 +103,8 @@ pub record SaysStill {I : Type 0} (g : Ghosts I) (old new : I) (question : Quest
   pub denied : (page : ℕ) → g.denies old question page → g.denies new question page
 
 -- what legs make of an index, sound or not: by whatever test of boxes that a greater box does not fail it finds each leg
--- that it found, and each of these whose box meets, and it counts them. Each feature that they have ends with the last one of them; each other one ends with the leg with which it ended, and is found where it was
+-- that it found, and each of these whose box meets, and it counts them. Each feature that they have ends with the last
+-- one of them; each other one ends with the leg with which it ended, and is found where it was
 pub record HasAdded {I : Type 0} (g : Ghosts I) (old new : I) (legs : List LegView) : Type 0 where
   pub kept : (meets : BoxView → Bool) → IsPruning leg_boxes meets → (leg : LegView)
       → g.finds old meets leg → g.finds new meets leg
@@ -163,9 +164,9 @@ pub record LegRefusals {I A : Type 0} (g : Ghosts I) (old new : I) (legs : List 
   pub store : IsErrOf result Store → HasRisen (g.faults old) (g.faults new)
   pub full : IsErrOf result StoreFull → g.is_store_full new
 
--- what the start of a file's legs leaves: the list, what its pages say, and all that is found by, sound where it was, spent where it was. Once it is
--- answered, an index over a faithful store is marked; where it is not, and it was clean, no page as written has changed but
--- page 0, and that one only where the store failed
+-- what the start of a file's legs leaves: the list, what its pages say, and all that is found by, sound where it was, spent
+-- where it was. Once it is answered, an index over a faithful store is marked; where it is not, and it was clean, no page as
+-- written has changed but page 0, and that one only where the store failed
 pub record Starts {I A : Type 0} (g : Ghosts I) (old new : I)
     (result : Result A IndexFault) : Type 0 where
   pub content : g.content new ≡ g.content old

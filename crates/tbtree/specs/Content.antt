@@ -13,9 +13,9 @@ use Rattle.tbtree.specs.declared.tree.Top.{Top}
 abbrev pub kids : Option (Option (Node LegView BoxView)) → List ℕ
 kids node = map (λ e. e.child) (entries_in node)
 
--- each page has the pages of its entries, in order, and behind them those of entries that were added: pages from the number `base` on, and,
--- in a page that was made, of the old root. Each of these is one entry of one page; the new root, which is the old one
--- or such a page, is none of them
+-- each page has the pages of its entries, in order, and behind them those of entries that were added: pages from the
+-- number `base` on, and, in a page that was made, the old root. Each of these is one entry of one page; the new root,
+-- which is the old one or such a page, is none of them
 pub record Grafts (base : ℕ) (old new : Pages LegView BoxView) (root root' : ℕ) : Type 0 where
   pub added : ℕ → List ℕ
   pub behind : (p : ℕ) → kids (node_at new p) ≡ kids (node_at old p) ++ added p
@@ -83,7 +83,7 @@ KeepsMet old new root levels root' levels' =
     (meets : BoxView → Bool) → IsPruning leg_boxes meets → (leg : LegView)
     → HasLeg meets old root levels leg → HasLeg meets new root' levels' leg
 
--- each page has the entries that it had
+-- each page has the pages of its entries
 abbrev pub KeepsKids : Pages LegView BoxView → Pages LegView BoxView → Type 0
 KeepsKids old new = (p : ℕ) → kids (node_at new p) ≡ kids (node_at old p)
 
