@@ -1,12 +1,13 @@
 -- Pages that say of all questions what they said, since all but page 0 are as they were.
 use Rattle.std.proofs.Common.{arith, ◌+◌, ℕ, zero, suc, Bool, ◌≡◌, ◌<◌, ◌∙◌, inl, inr, ⊎_elim, ◌⊎◌, All, List, length, refl, sym, ap, subst, slice_get}
-use Rattle.std.specs.List.{flat_map, filter}
+use Rattle.std.specs.List.{flat_map, filter, Contains}
 use Rattle.std.specs.Prelude.{map}
 use Rattle.std.proofs.lemmas.List.Elements.{All-weaker}
 use Rattle.legs.specs.Boxes.{BoxView}
 use Rattle.legs.specs.Hull.{leg_boxes}
 use Rattle.legs.specs.Legs.{LegView}
 use Rattle.legs.specs.Questions.{Question, InBox, OfFeature}
+use Rattle.tbtree.specs.Content.{kids, IsAstray, LeadsTo, LeadsToLeg}
 use Rattle.tbtree.specs.Descent.{children_met, entries_in, legs_in, legs_met, met_count, node_at, pages_met, HasInner, IsInOrder}
 use Rattle.tbtree.specs.Nodes.{EntryView, HasLeaf, Pages}
 use Rattle.tbtree.specs.declared.tree.Place.{Place}
@@ -37,6 +38,16 @@ module _ (old new : Pages LegView BoxView) (same : (p : ℕ) → 0 < p → new.a
   same_legs : (test : BoxView → Bool) (root levels : ℕ) → legs_met leg_boxes test new root levels ≡ legs_met leg_boxes test old root levels
   same_legs test root zero = refl
   same_legs test root (suc n) = λ i. flat_map (λ p. filter (λ leg. test (leg_boxes.of leg)) (legs_in (same_node p i))) (same_pages test root n i)
+
+  lead_beside : (root levels n p : ℕ) → LeadsTo old root levels n p → LeadsTo new root levels n p
+  lead_beside root levels zero p h = h
+  lead_beside root levels (suc n) p h = (h.0, h.1, lead_beside root levels n h.0 h.2, h.3, on_level old new same (suc h.1) h.0 h.4, subst (λ x. Contains (kids x) p) (sym (same_node h.0)) h.5)
+
+  pub astray_beside : (root levels above p : ℕ) → IsAstray old root levels above p → IsAstray new root levels above p
+  astray_beside root levels above p a = record { n = a.n; level_is = a.level_is; led = lead_beside root levels a.n p a.led; wrong = λ on. a.wrong (on_level new old (λ q high. sym (same q high)) above p on) }
+
+  pub leg_beside : (root levels : ℕ) (leg : LegView) → LeadsToLeg old root levels leg → LeadsToLeg new root levels leg
+  leg_beside root levels leg l = record { n = l.n; p = l.p; last = l.last; led = lead_beside root levels l.n l.p l.led; leg_is = subst (λ x. Contains (legs_in x) leg) (sym (same_node l.p)) l.leg_is }
 
   way_beside : (query : BoxView) (root levels : ℕ) → IsWay query old root levels → IsWay query new root levels
   way_beside query root levels w = record {

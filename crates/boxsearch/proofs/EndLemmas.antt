@@ -1,20 +1,21 @@
 -- What legs make of an index, whatever its pages hold.
-use Rattle.std.proofs.Common.{Bool, ℕ, zero, suc, ◌+◌, ◌-◌, ◌^◌, ◌%◌, ◌<◌, ◌≤◌, ◌≡◌, ◌≢◌, ◌==◌, min, true, false, cond, refl, sym, ap, ◌∙◌, arith, subst, ⊎_elim, All, List, [], ◌∷◌, ◌++◌, map, drop, length, get_or, Option, Some, None, slice_get, set, Result, Ok, Err, OnOk, append_assoc}
+use Rattle.std.proofs.Common.{Bool, ℕ, zero, suc, ◌+◌, ◌-◌, ◌^◌, ◌%◌, ◌<◌, ◌≤◌, ◌≡◌, ◌≢◌, ◌==◌, min, true, false, cond, refl, sym, ap, ◌∙◌, ◌⊎◌, inl, inr, arith, subst, ⊎_elim, All, List, [], ◌∷◌, ◌++◌, map, drop, length, get_or, Option, Some, None, slice_get, set, Result, Ok, Err, OnOk, append_assoc}
 use Rattle.std.specs.Prelude.{IsTrue}
 use Rattle.std.specs.List.{count_by, Contains}
 use Rattle.std.proofs.lemmas.Bool.{cases_eq, eqb-true, true≢false}
 use Rattle.std.proofs.lemmas.List.{append-nil, drop-append-le, length_push}
 use Rattle.std.proofs.lemmas.List.Elements.{All-cons, All-contains, All-nil}
 use Rattle.std.proofs.lemmas.Option.{slice_get-map}
-use Rattle.legs.specs.Asking.{placed_legs, HasAdded}
+use Rattle.legs.specs.Asking.{placed_legs, HasAdded, NoneBefore}
 use Rattle.legs.specs.Boxes.{BoxView}
 use Rattle.legs.specs.Costs.{leg_feature}
 use Rattle.legs.specs.Finding.{FeaturePlace}
 use Rattle.legs.specs.Index.{is_of, last_leg_of, legs_of}
 use Rattle.legs.specs.Legs.{LegView}
-use Rattle.legs.proofs.LastLemmas.{last_absent, last_at_end, last_holds, last_own, takes_then}
-use Rattle.tbtree.specs.Content.{ContentGrows}
-use Rattle.tbtree.specs.Descent.{found_legs, pages_met}
+use Rattle.legs.specs.Questions.{answer_in, OfFeature}
+use Rattle.legs.proofs.LastLemmas.{answer_alike, answer_none, last_absent, last_at_end, last_holds, last_own, takes_then}
+use Rattle.tbtree.specs.Content.{ContentGrows, LeadsToLeg}
+use Rattle.tbtree.specs.Descent.{found_legs, node_in, pages_met}
 use Rattle.tbtree.specs.Filling.{KeepsLegs}
 use Rattle.tbtree.specs.Joining.{in_last_leaf, HasAtEnd}
 use Rattle.tbtree.specs.Nodes.{Pages, pages_of_cache, with_legs}
@@ -25,7 +26,7 @@ use Rattle.tbtree.proofs.EndLemmas.{ends_fewer}
 use Rattle.tbtree.proofs.RoomLemmas.{count_all_other, count_all_same}
 use Rattle.tbtree.proofs.Still.{still}
 use Rattle.boxsearch.specs.Answers.{answered, of_tree}
-use Rattle.boxsearch.specs.Index.{IndexView, finds, found_by, place_of, words, with_place}
+use Rattle.boxsearch.specs.Index.{IndexView, finds, found_by, leads_to, place_of, words, with_place}
 use Rattle.boxsearch.specs.Putting.{FillsSome, Puts, PutsAll}
 use Rattle.boxsearch.specs.Telling.{DeniesTrack, TellsTrack}
 use Rattle.boxsearch.proofs.AddLemmas.{made}
@@ -81,7 +82,7 @@ made_legs places feature was =
 placed_is : (i : IndexView) (f : ℕ) → placed_legs (found_by i) f ≡ legs_in_place (slice_get i.places f)
 placed_is i f = at i.places f
   where
-    at : (places : List Place) (f : ℕ) → placed_legs (record { root = i.tree.root; levels = i.tree.levels; leaves = i.tree.leaves; legs = i.legs; places = map place_of places }) f ≡ legs_in_place (slice_get places f)
+    at : (places : List Place) (f : ℕ) → placed_legs (record { root = i.tree.root; levels = i.tree.levels; leaves = i.tree.leaves; legs = i.legs; pages = i.cache.count; places = map place_of places }) f ≡ legs_in_place (slice_get places f)
     at [] f = refl
     at (p ∷ ps) zero = refl
     at (p ∷ ps) (suc f) = at ps f
@@ -133,6 +134,13 @@ module _ (old new : IndexView) (feature : ℕ) (legs : List LegView) (was is : P
       omega (arith, same, none))
       (cases_eq f feature)
 
+  leads_more : (leg : LegView) → leads_to new leg → (b : Bool) → old.cache.store.is_faithful ≡ b → leads_to old leg ⊎ Contains legs leg
+  leads_more leg h true fa = ⊎_elim
+      (λ (k : LeadsToLeg (pages_of_cache old.cache) old.tree.root old.tree.levels leg). inl (λ _. k))
+      (λ (k : Contains legs leg). inr k)
+      ((met fa).only leg (h (faithful ∙ fa)))
+  leads_more leg h false none = inl (λ fa. absurd (true≢false (sym fa ∙ none)))
+
   -- the legs of one feature that were put in
   takes_put : HasAdded words old new legs
   takes_put = record {
@@ -148,28 +156,31 @@ module _ (old new : IndexView) (feature : ℕ) (legs : List LegView) (was is : P
         let m = met h.0 in
         let more = m.grafts.count in
         let there = h.2 in
-        (faithful ∙ h.0, h.1, omega (arith, there, more), m.bare page h.2 h.3);
+        (faithful ∙ h.0, h.1, omega (arith, there, more), ap node_in (m.bare page h.2 h.3) ∙ h.3);
+    astray = λ above page h fa. (met fa).astray above page (h (faithful ∙ fa));
+    leads = λ leg h. leads_more leg h old.cache.store.is_faithful refl;
     top = λ levels h. (met h.0).top levels h.2 h.3;
-    tracks = λ f told h fa.
+    tracks = λ f period told late h fa.
         let was_fa = was_faithful fa in
         let f_of = fills was_fa in
         let least = f_of.1.least some in
         let nodes = pages_of_cache old.cache in
         let nodes' = pages_of_cache new.cache in
-        let before : TellsTrack nodes old.tree.shape None f (slice_get old.places f) told = h was_fa in
-        let after : TellsTrack nodes' old.tree.shape None f (slice_get new.places f) (told ++ legs_of f legs) = ⊎_elim
+        let news : ℕ → List LegView = λ g. answer_in (OfFeature g period) legs in
+        let before : TellsTrack nodes old.tree.shape period f (slice_get old.places f) told = h was_fa in
+        let after : TellsTrack nodes' old.tree.shape period f (slice_get new.places f) (told ++ news f) = ⊎_elim
         (λ (e : f ≡ feature).
-        let mine = own_track nodes nodes' feature old.tree.leaves new.tree.leaves old.tree.shape least was is legs some f_of.0 f_of.1 one (slice_get old.places feature) (made_was old.places feature was found) told
-        (subst (λ g. TellsTrack nodes old.tree.shape None g (slice_get old.places g) told) e before) in
-        subst (λ g. TellsTrack nodes' old.tree.shape None g (slice_get new.places g) (told ++ legs_of g legs)) (sym e)
-        (subst (λ o. TellsTrack nodes' old.tree.shape None feature o (told ++ legs_of feature legs)) (sym place_of_own)
-        (subst (λ l. TellsTrack nodes' old.tree.shape None feature (Some is) (told ++ l)) (sym (all_of_one feature legs one)) mine)))
+        let mine = own_track nodes nodes' feature old.tree.leaves new.tree.leaves old.tree.shape least was is legs some f_of.0 f_of.1 one period (subst (NoneBefore period) (ap (λ g. legs_of g legs) e ∙ all_of_one feature legs one) late)
+        (slice_get old.places feature) (made_was old.places feature was found) told
+        (subst (λ g. TellsTrack nodes old.tree.shape period g (slice_get old.places g) told) e before) in
+        subst (λ g. TellsTrack nodes' old.tree.shape period g (slice_get new.places g) (told ++ news g)) (sym e)
+        (subst (λ o. TellsTrack nodes' old.tree.shape period feature o (told ++ news feature)) (sym place_of_own) mine))
         (λ (u : f ≢ feature).
-        let theirs = told_alike nodes nodes' old.tree.shape None f (slice_get old.places f) told (others_alike nodes nodes' feature old.tree.leaves new.tree.leaves old.tree.shape least was is legs some f_of.0 f_of.1 one f u) before in
-        subst (λ o. TellsTrack nodes' old.tree.shape None f o (told ++ legs_of f legs)) (sym (place_of_other f u))
-        (subst (λ l. TellsTrack nodes' old.tree.shape None f (slice_get old.places f) l) (sym (append-nil told) ∙ ap (λ l. told ++ l) (sym (none_of_other feature f u legs one))) theirs))
+        let theirs = told_alike nodes nodes' old.tree.shape period f (slice_get old.places f) told (others_alike nodes nodes' feature old.tree.leaves new.tree.leaves old.tree.shape least was is legs some f_of.0 f_of.1 one f u) before in
+        subst (λ o. TellsTrack nodes' old.tree.shape period f o (told ++ news f)) (sym (place_of_other f u))
+        (subst (λ l. TellsTrack nodes' old.tree.shape period f (slice_get old.places f) l) (sym (append-nil told) ∙ ap (λ l. told ++ l) (sym (answer_alike f period legs [] (none_of_other feature f u legs one) ∙ answer_none f period))) theirs))
         (cases_eq f feature) in
-        subst (λ s. TellsTrack nodes' s None f (slice_get new.places f) (told ++ legs_of f legs)) (sym shape) after;
+        subst (λ s. TellsTrack nodes' s period f (slice_get new.places f) (told ++ news f)) (sym shape) after;
     rests = λ f period e.
         let u = other_feature legs some one f (last_absent f legs e) in
         let alike : IsTrue new.cache.store.is_faithful → AreAlike (pages_of_cache old.cache) (pages_of_cache new.cache) f = λ fa.
@@ -184,6 +195,7 @@ module _ (old new : IndexView) (feature : ℕ) (legs : List LegView) (was is : P
               (denied_alike (pages_of_cache old.cache) (pages_of_cache new.cache) old.tree.shape period f (slice_get old.places f) n (alike fa) (h (was_faithful fa))));
         };
     counted = λ few. counted ∙ omega (arith, few);
+    room = λ fa. let m = met fa in (faithful ∙ fa, record { leaves = m.more; levels = m.higher; few = m.few; low = m.low; pages = m.pages });
     works = works;
     plan = ap Some shape;
     last = λ f leg e fa.

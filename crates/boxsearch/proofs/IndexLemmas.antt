@@ -19,7 +19,8 @@ use Rattle.tbtree.specs.declared.tree.TbTree.{TbTree}
 use Rattle.chains.specs.declared.spans.LeafSpan.{LeafSpan}
 use Rattle.boxsearch.specs.Beside.{with_cache}
 use Rattle.boxsearch.specs.Telling.{Tells, Denies}
-use Rattle.boxsearch.specs.Index.{IndexView, words, content, finds, legs_by, written, IsSound, IsMarked}
+use Rattle.boxsearch.proofs.StillLemmas.{ways_still}
+use Rattle.boxsearch.specs.Index.{IndexView, words, content, finds, found_by, legs_by, written, IsSound, IsMarked}
 
 pub content_is : (i : IndexView) → IsTrue i.cache.store.is_faithful → content i ≡ content_of (pages_of_cache i.cache) i.tree
 content_is i f = ap (λ b. cond b (content_of (pages_of_cache i.cache) i.tree) []) f
@@ -40,13 +41,16 @@ module _ (old : IndexView) (c : Cache) (known : List (List LeafSpan)) (r : OnlyR
   abbrev new : IndexView
   new = with_cache old c known
 
-  same_content : content new ≡ content old
-  same_content =
-      ap (λ b. cond b (content_of (pages_of_cache c) old.tree) []) r.store.faithful ∙
-      (elim old.cache.store.is_faithful as (λ b. old.cache.store.is_faithful ≡ b → cond b (content_of (pages_of_cache c) old.tree) [] ≡ cond b (content_of (pages_of_cache old.cache) old.tree) []) [
-        | true ↦ λ f. ap (λ n. content_of n old.tree) (same_pages old.cache c r f)
+  same_found : (meets : BoxView → Bool) → legs_by meets new ≡ legs_by meets old
+  same_found meets =
+      ap (λ b. cond b (found_legs meets (pages_of_cache c) old.tree) []) r.store.faithful ∙
+      (elim old.cache.store.is_faithful as (λ b. old.cache.store.is_faithful ≡ b → cond b (found_legs meets (pages_of_cache c) old.tree) [] ≡ cond b (found_legs meets (pages_of_cache old.cache) old.tree) []) [
+        | true ↦ λ f. ap (λ n. found_legs meets n old.tree) (same_pages old.cache c r f)
         | false ↦ λ f. refl
       ]) refl
+
+  same_content : content new ≡ content old
+  same_content = same_found (λ _. true)
 
   same_written : IsClean old.cache → written new ≡ written old
   same_written clean =
@@ -92,10 +96,11 @@ module _ (old : IndexView) (c : Cache) (known : List (List LeafSpan)) (r : OnlyR
     content = same_content;
     told = λ q legs h f. subst (λ n. Tells n old.tree old.places q legs) (same_pages old.cache c r f) (h (r.store.faithful ∙ f));
     denied = λ q page h f. subst (λ n. Denies n old.tree old.places q page) (same_pages old.cache c r f) (h (r.store.faithful ∙ f));
+    ways = ways_still old c known r.store.faithful r.count (λ f p above. ap (λ (n : Pages LegView BoxView). n.at p) (same_pages old.cache c r f)) same_found;
     counted = refl;
     sound = still_sound;
     spent = refl;
-    found_by = refl;
+    found_by = ap (λ n. record (found_by old) { pages = n }) r.count;
     later = record { plan = refl; faults = r.store.faults; asked = (let a = r.asked in omega (arith, clamps, a)); faithful = λ fa. r.store.faithful ∙ fa };
     clean = λ h n. r.changed n (h n);
     marked = still_marked;

@@ -6,6 +6,7 @@ pub mod FoundLemmas
 pub mod ResultLemmas
 pub mod AnswerLemmas
 pub mod IndexLemmas
+pub mod StillLemmas
 pub mod PlaceLemmas
 pub mod TrackLemmas
 pub mod QuestionLemmas
@@ -28,5 +29,6 @@ pub mod RunLemmas
 pub mod TrackGrowth
 pub mod BesideTells
 pub mod EndLemmas
+pub mod LedLemmas
 pub mod EndedLemmas
 pub mod TurnLasts

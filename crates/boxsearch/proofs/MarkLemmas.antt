@@ -55,12 +55,12 @@ not_first : (n : ℕ) → 0 < n → (0 == n) ≡ false
 not_first n h = grind (arith, nat_tests, h)
 
 -- page 0 that is not marked, and is made so and written
-module _ (a b c d : Cache) (p w : Payload) (r : Rests a b) (read : IsTrue a.store.is_faithful → payload_of a 0 ≡ Some p) (not_marked : IsUnfinished p → is_changed b 0 ≡ false → ⊥) (l : Lends 0 w b c) (s : KeepsPayloads c d) (len : SameLength c d) (asked : d.asked ≡ c.asked) where
+module _ (a b c d : Cache) (p w : Payload) (r : Rests a b) (read : IsTrue a.store.is_faithful → payload_of a 0 ≡ Some p) (not_marked : IsUnfinished p → is_changed a 0 ≡ false → ⊥) (l : Lends 0 w b c) (s : KeepsPayloads c d) (len : SameLength c d) (asked : d.asked ≡ c.asked) where
   was_not : IsMarked a → ⊥
   unfolding sealed_payload
   was_not m =
       let same : Some p ≡ Some m.payload = sym (read m.faithful) ∙ as_written a b r m.faithful m.unchanged ∙ ap (option_and_then (unsealed 0)) (r.stays.keeps.written m.faithful 0 m.there m.unchanged) ∙ m.sealed in
-      not_marked (subst (λ q. IsUnfinished q) (sym (some_same p m.payload same)) m.unfinished) (r.stays.changed 0 m.unchanged)
+      not_marked (subst (λ q. IsUnfinished q) (sym (some_same p m.payload same)) m.unfinished) m.unchanged
 
   fb : IsTrue a.store.is_faithful → IsTrue b.store.is_faithful
   fb f = r.stays.keeps.store.faithful ∙ f
@@ -113,5 +113,17 @@ already_marked a b p r read u f h same = record {
   unchanged = same;
   payload = p;
   sealed = sym (r.stays.keeps.settled (r.stays.keeps.store.faithful ∙ f) 0 same) ∙ r.stays.payloads f 0 ∙ read f;
+  unfinished = u;
+}
+
+-- and was
+pub was_marked : (a b : Cache) (p : Payload) → Rests a b → (IsTrue a.store.is_faithful → payload_of a 0 ≡ Some p) → IsUnfinished p → IsTrue a.store.is_faithful → 0 < a.count → is_changed a 0 ≡ false → IsMarked a
+unfolding sealed_payload
+was_marked a b p r read u f h same = record {
+  faithful = f;
+  there = h;
+  unchanged = same;
+  payload = p;
+  sealed = sym (ap (option_and_then (unsealed 0)) (r.stays.keeps.written f 0 h same)) ∙ sym (as_written a b r f same) ∙ read f;
   unfinished = u;
 }

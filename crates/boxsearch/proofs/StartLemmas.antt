@@ -7,8 +7,9 @@ use Rattle.legs.specs.Asking.{Refusals, Starts}
 use Rattle.legs.specs.Boxes.{BoxView}
 use Rattle.legs.specs.Index.{HasRisen, MayRefuse, feature_count}
 use Rattle.legs.specs.Legs.{IsLeg, LegView}
+use Rattle.legs.specs.declared.index.IndexFault.{IndexFault}
 use Rattle.legs.specs.declared.index.IndexFault.TheVariants as index
-use Rattle.pages.specs.Store.{Faulted}
+use Rattle.pages.specs.Store.{Faulted, IsSynced}
 use Rattle.pagecache.specs.Cache.{Cache, IsClean, pages_as_written, payload_of}
 use Rattle.pagecache.specs.declared.fault.CacheFault.{CacheFault}
 use Rattle.pagecache.specs.declared.fault.CacheFault.TheVariants as cache
@@ -18,12 +19,13 @@ use Rattle.tbtree.specs.Insert.{Stands, IsPlace}
 use Rattle.tbtree.specs.Nodes.{Pages, pages_of_cache}
 use Rattle.tbtree.specs.declared.tree.TbTree.{TbTree}
 use Rattle.boxsearch.specs.Answers.{answered, of_cache}
-use Rattle.boxsearch.specs.Index.{IndexView, words, content, legs_by, written, IsSound, IsMarked}
+use Rattle.boxsearch.specs.Index.{IndexView, words, content, found_by, legs_by, written, IsSound, IsMarked}
 use Rattle.boxsearch.specs.Marking.{Marks, IsNotMarked}
 use Rattle.pages.specs.declared.payload.Payload.{Payload}
 use Rattle.std.specs.List.{Contains}
 use Rattle.tbtree.proofs.Still.{still}
-use Rattle.boxsearch.proofs.BesideTells.{denies_beside, same_pages, tells_beside}
+use Rattle.boxsearch.proofs.BesideTells.{denies_beside, tells_beside}
+use Rattle.boxsearch.proofs.StillLemmas.{ways_still}
 use Rattle.boxsearch.proofs.PlaceLemmas.{some_none}
 use Rattle.boxsearch.proofs.AnswerLemmas.{each_fault, each_value, the_fault, Said}
 use Rattle.chains.specs.declared.spans.LeafSpan.{LeafSpan}
@@ -71,6 +73,32 @@ module _ (laws : FirstLaws) (old : IndexView) (c : Cache) (known : List (List Le
         placed = λ f place e. subst (λ l. IsPlace old.tree l s.pages f place) (sym legs) (s.placed f place e);
       }
 
+-- the page that is named is page 0
+same_page : (p q : ℕ) → index.Damaged p ≡ index.Damaged q → p ≡ q
+same_page p q e = cc
+
+names_first : (a b : Cache) (page : ℕ) (fault : CacheFault) → IsNotMarked a b fault → of_cache fault ≡ index.Damaged page → page ≡ 0
+names_first a b page cache.NoPage h e = sym (same_page 0 page e)
+names_first a b page cache.Store h e = absurd cc
+names_first a b page (cache.Damaged n) h e = sym (same_page n page e) ∙ h.0
+names_first a b page cache.StoreFull h e = absurd h
+names_first a b page cache.Memory h e = absurd cc
+
+-- and no index is said to be spent
+abbrev NotSpent : IndexFault → Type 0
+NotSpent index.Memory = Unit {0}
+NotSpent index.Store = Unit {0}
+NotSpent (index.Damaged n) = Unit {0}
+NotSpent index.StoreFull = Unit {0}
+NotSpent index.Spent = ⊥
+
+never_spent : (a b : Cache) (fault : CacheFault) → IsNotMarked a b fault → NotSpent (of_cache fault)
+never_spent a b cache.NoPage h = tt
+never_spent a b cache.Store h = tt
+never_spent a b (cache.Damaged n) h = tt
+never_spent a b cache.StoreFull h = tt
+never_spent a b cache.Memory h = tt
+
 module _ (laws : FirstLaws) (old : IndexView) (c : Cache) (known : List (List LeafSpan)) (m : Marks old.cache c) where
   abbrev new : IndexView
   new = with_cache old c known
@@ -111,8 +139,8 @@ module _ (laws : FirstLaws) (old : IndexView) (c : Cache) (known : List (List Le
   pub starts : (r : Result (Unit {0}) CacheFault) → OnOk r (IsTrue old.cache.store.is_faithful → IsMarked c)
       → OnErr r (IsTrue old.cache.store.is_faithful → IsClean old.cache → drop 1 (pages_as_written c) ≡ drop 1 (pages_as_written old.cache))
       → OnErr r (IsTrue old.cache.store.is_faithful → IsClean old.cache → (Faulted old.cache.store c.store → ⊥) → pages_as_written c ≡ pages_as_written old.cache)
-      → Starts words old new (answered (λ fault. of_cache fault) r)
-  starts r marked others first = record {
+      → OnOk r (IsTrue old.cache.store.is_faithful → (IsMarked old.cache → ⊥) → IsSynced c.store) → IfErr r (IsNotMarked old.cache c) → Starts words old new (answered (λ fault. of_cache fault) r)
+  starts r marked others first synced caused = record {
     content = same_content;
     says = λ question.
         let same : IsTrue c.store.is_faithful → (p : ℕ) → 0 < p → (pages_of_cache c).at p ≡ (pages_of_cache old.cache).at p = λ fa p above. ap (option_map node_of) (m.rest (was_faithful fa) p above) in
@@ -120,29 +148,18 @@ module _ (laws : FirstLaws) (old : IndexView) (c : Cache) (known : List (List Le
           told = λ legs h fa. tells_beside (pages_of_cache old.cache) (pages_of_cache c) (same fa) m.count old.tree old.places question legs (h (was_faithful fa));
           denied = λ page h fa. denies_beside (pages_of_cache old.cache) (pages_of_cache c) (same fa) m.count old.tree old.places question page (h (was_faithful fa));
         };
-    comes = λ meets above page h fa.
-        let at = h (was_faithful fa) in
-        (at.0, at.1, subst (λ ps. Contains ps page) (sym (same_pages (pages_of_cache old.cache) (pages_of_cache c) (λ p above. ap (option_map node_of) (m.rest (was_faithful fa) p above)) m.count meets old.tree.root (suc at.0))) at.2);
-    bare = λ page h.
-        let there = h.2 in
-        let same = m.count in
-        (m.store.faithful ∙ h.0, h.1, omega (arith, there, same), ap (option_map node_of) (m.rest h.0 page h.1) ∙ h.3);
-    finds = λ meets leg h fa. subst (λ ls. Contains ls leg) (sym (beside_found laws old c known beside meets)) (h (was_faithful fa));
-    ends = λ leg h fa.
-        let e = h (was_faithful fa) in
-        let at = e.at_end in
-        record {
-          place = e.place;
-          is = e.is;
-          at_end = record { above = at.above; leaf = at.leaf; is = ap (option_map node_of) (m.rest (was_faithful fa) e.place.last at.above) ∙ at.is; own = at.own };
-        };
+    ways = ways_still old c known m.store.faithful m.count (λ fa p above. ap (option_map node_of) (m.rest fa p above)) (beside_found laws old c known beside);
     counted = refl;
-    found_by = refl;
+    found_by = ap (λ n. record (found_by old) { pages = n }) m.count;
     sound = still_sound;
     spent = refl;
     later = record { plan = refl; faults = m.store.faults; asked = (let a = m.asked in omega (arith, clamps, a)); faithful = λ fa. m.store.faithful ∙ fa };
     marks = each_value (λ fault. of_cache fault) (λ _. IsTrue old.cache.store.is_faithful → IsMarked c) r marked;
     marked = m.stays;
+    synced = each_value (λ fault. of_cache fault) (λ _. IsTrue old.cache.store.is_faithful → (IsMarked old.cache → ⊥) → IsSynced c.store) r synced;
+    named = λ page e. the_fault (answered (λ fault. of_cache fault) r) (λ fault. fault ≡ index.Damaged page → page ≡ 0) (index.Damaged page) e
+        (each_fault (λ fault. of_cache fault) (IsNotMarked old.cache c) (λ fault. fault ≡ index.Damaged page → page ≡ 0) (names_first old.cache c page) r caused) refl;
+    works = λ e. absurd (the_fault (answered (λ fault. of_cache fault) r) NotSpent index.Spent e (each_fault (λ fault. of_cache fault) (IsNotMarked old.cache c) NotSpent (never_spent old.cache c) r caused));
     others = each_fault (λ fault. of_cache fault) (λ _. IsTrue old.cache.store.is_faithful → IsClean old.cache → drop 1 (written new) ≡ drop 1 (written old)) (λ _. IsTrue old.cache.store.is_faithful → IsClean old.cache → drop 1 (written new) ≡ drop 1 (written old)) (λ x h. h) r
         (on_err r (λ h fa clean. ap (drop 1) (written_is new (m.store.faithful ∙ fa)) ∙ h fa clean ∙ sym (ap (drop 1) (written_is old fa))) others);
     first = each_fault (λ fault. of_cache fault) (λ _. IsTrue old.cache.store.is_faithful → IsClean old.cache → (HasRisen old.cache.store.faults c.store.faults → ⊥) → written new ≡ written old) (λ _. IsTrue old.cache.store.is_faithful → IsClean old.cache → (HasRisen old.cache.store.faults c.store.faults → ⊥) → written new ≡ written old) (λ x h. h) r
@@ -158,9 +175,9 @@ not_marked_said a b cache.StoreFull h = h
 not_marked_said a b cache.Memory h = tt
 
 not_marked_allowed : (old : IndexView) (c : Cache) (fault : CacheFault) → IsNotMarked old.cache c fault → IsSound old → MayRefuse (of_cache fault)
-not_marked_allowed old c cache.NoPage h s = absurd (let t = s.stands.tree_stands.numbers.page_0 in omega (arith, t, h))
+not_marked_allowed old c cache.NoPage h s = absurd (let t = s.stands.tree_stands.numbers.page_0 in let l = h.0 in omega (arith, t, l))
 not_marked_allowed old c cache.Store h s = tt
-not_marked_allowed old c (cache.Damaged n) h s = s.stands.tree_stands.held 0 s.stands.tree_stands.numbers.page_0 (ap (option_map node_of) (h s.faithful))
+not_marked_allowed old c (cache.Damaged n) h s = s.stands.tree_stands.held 0 s.stands.tree_stands.numbers.page_0 (ap (option_map node_of) (h.1 s.faithful))
 not_marked_allowed old c cache.StoreFull h s = h
 not_marked_allowed old c cache.Memory h s = tt
 

@@ -11,7 +11,8 @@ use Rattle.pages.specs.Store.{IsSynced}
 use Rattle.pages.specs.declared.payload.Payload.{Payload}
 use Rattle.legs.specs.declared.listed.Listed.{Ghosts}
 use Rattle.pagecache.specs.Cache.{Cache, IsClean, is_changed, pages_as_written, payload_of, sealed_payload}
-use Rattle.tbtree.specs.Descent.{found_legs, pages_met}
+use Rattle.tbtree.specs.Content.{IsAstray, LeadsToLeg}
+use Rattle.tbtree.specs.Descent.{found_legs, node_in, pages_met}
 use Rattle.tbtree.specs.Insert.{Stands, IsPlace}
 use Rattle.tbtree.specs.Nodes.{pages_of_cache}
 use Rattle.tbtree.specs.Shape.{IsShape}
@@ -61,11 +62,24 @@ comes_to i meets above page =
     IsTrue i.cache.store.is_faithful → (n : ℕ) × (suc n + suc above ≡ i.tree.levels)
     × Contains (pages_met meets (pages_of_cache i.cache) i.tree.root (suc n)) page
 
--- over a faithful store the page is there behind page 0, and has no payload
+-- over a faithful store the page is there behind page 0, and is no page of a tree
 abbrev pub is_bare : IndexView → ℕ → Type 0
 is_bare i page =
     IsTrue i.cache.store.is_faithful × (0 < page) × (page < i.cache.count)
-    × ((pages_of_cache i.cache).at page ≡ None)
+    × (node_in ((pages_of_cache i.cache).at page) ≡ None)
+
+-- the way down its pages leads to the page, so many levels above the leaves, and the page is not of that level; anything
+-- where its store is not faithful
+abbrev pub is_astray : IndexView → ℕ → ℕ → Type 0
+is_astray i above page =
+    IsTrue i.cache.store.is_faithful
+    → IsAstray (pages_of_cache i.cache) i.tree.root i.tree.levels above page
+
+-- it leads to a leaf that has the leg; anything where its store is not faithful
+abbrev pub leads_to : IndexView → LegView → Type 0
+leads_to i leg =
+    IsTrue i.cache.store.is_faithful
+    → LeadsToLeg (pages_of_cache i.cache) i.tree.root i.tree.levels leg
 
 -- the last leaf of the leg's feature has the leg at its end; anything where its store is not faithful
 abbrev pub ends_with : IndexView → LegView → Type 0
@@ -122,6 +136,7 @@ found_by i =
       levels = i.tree.levels;
       leaves = i.tree.leaves;
       legs = i.legs;
+      pages = i.cache.count;
       places = map place_of i.places;
     }
 
@@ -134,6 +149,8 @@ words = record {
   finds = λ index meets leg. finds index meets leg;
   comes_to = λ index meets above page. comes_to index meets above page;
   is_bare = λ index page. is_bare index page;
+  is_astray = λ index above page. is_astray index above page;
+  leads_to = λ index leg. leads_to index leg;
   ends_with = λ index leg. ends_with index leg;
   counted = λ index. index.legs;
   is_sound = λ index. IsSound index;
@@ -148,6 +165,7 @@ words = record {
   is_faithful = λ index. IsTrue index.cache.store.is_faithful;
   is_clean = λ index. IsClean index.cache;
   is_marked = λ index. IsMarked index.cache;
+  is_synced = λ index. IsSynced index.cache.store;
   written = λ index. written index;
 }
 

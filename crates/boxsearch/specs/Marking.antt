@@ -18,10 +18,12 @@ pub record Marks (old new : Cache) : Type 0 where
   pub held : IsTrue old.store.is_faithful → payload_of old 0 ≢ None → payload_of new 0 ≢ None
   pub stays : IsMarked old → IsMarked new
 
--- why page 0 is not marked
+-- why page 0 is not marked: there is none, or it is damaged, or the store failed, or memory was wanted
 abbrev pub IsNotMarked : Cache → Cache → CacheFault → Type 0
-IsNotMarked old new cache.NoPage = old.count ≤ 0
+IsNotMarked old new cache.NoPage =
+    (old.count ≤ 0) × (IsTrue old.store.is_faithful → payload_of old 0 ≡ None)
 IsNotMarked old new cache.Store = Faulted old.store new.store
-IsNotMarked old new (cache.Damaged n) = IsTrue old.store.is_faithful → payload_of old 0 ≡ None
+IsNotMarked old new (cache.Damaged n) =
+    (n ≡ 0) × (IsTrue old.store.is_faithful → payload_of old 0 ≡ None)
 IsNotMarked old new cache.StoreFull = ⊥
 IsNotMarked old new cache.Memory = Unit {0}

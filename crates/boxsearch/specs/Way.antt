@@ -3,17 +3,13 @@ use Rattle.std.specs.Prelude.{ℕ, zero, suc, ◌≡◌, ◌+◌, ◌≤◌, ◌
 use Rattle.std.specs.List.{All}
 use Rattle.legs.specs.Legs.{LegView}
 use Rattle.legs.specs.Boxes.{BoxView, boxes_meet}
-use Rattle.tbtree.specs.Descent.{pages_met, met_count, HasInner}
-use Rattle.tbtree.specs.Nodes.{Pages, HasLeaf}
+pub use Rattle.tbtree.specs.Descent.{IsOnLevel}
+use Rattle.tbtree.specs.Descent.{pages_met, met_count}
+use Rattle.tbtree.specs.Nodes.{Pages}
 
 -- the test of a search
 abbrev pub meets : BoxView → BoxView → Bool
 meets query bounds = boxes_meet bounds query
-
--- the page is one of the level: a leaf on level 0, else an inner page
-abbrev pub IsOnLevel : Pages LegView BoxView → ℕ → ℕ → Type 0
-IsOnLevel nodes zero p = HasLeaf nodes p
-IsOnLevel nodes (suc k) p = HasInner nodes p (suc k)
 
 module _ (query : BoxView) (nodes : Pages LegView BoxView) (root levels : ℕ) where
   -- each page that is met is one of its level, and no more are met than there are

@@ -14,7 +14,8 @@ impl<S: PageStore> Listed for TreeIndex<S> {
     ghost use Rattle.std.specs.Prelude.{IsTrue, Some, min, ◌≡◌, ◌-◌, ◌^◌};
     ghost use Rattle.pagecache.specs.Cache.{IsClean};
     ghost use Rattle.boxsearch.specs.Known.{KnowsBackTo};
-    ghost use Rattle.boxsearch.specs.Index.{comes_to, content, denies, ends_with, finds, found_by, is_bare, tells, written, IsSound, IsMarked};
+    ghost use Rattle.boxsearch.specs.Index.{comes_to, content, denies, ends_with, finds, found_by, is_astray, is_bare, leads_to, tells, written, IsSound, IsMarked};
+    ghost use Rattle.pages.specs.Store.{IsSynced};
 
     ghost content = { λ index. content index };
 
@@ -27,6 +28,10 @@ impl<S: PageStore> Listed for TreeIndex<S> {
     ghost comes_to = { λ index meets above page. comes_to index meets above page };
 
     ghost is_bare = { λ index page. is_bare index page };
+
+    ghost is_astray = { λ index above page. is_astray index above page };
+
+    ghost leads_to = { λ index leg. leads_to index leg };
 
     ghost ends_with = { λ index leg. ends_with index leg };
 
@@ -55,11 +60,15 @@ impl<S: PageStore> Listed for TreeIndex<S> {
 
     ghost is_marked = { λ index. IsMarked index.cache };
 
+    ghost is_synced = { λ index. IsSynced index.cache.store };
+
     ghost written = { λ index. written index };
 }
 
 impl<S: PageStore> LegIndex for TreeIndex<S> {
     ghost sound_lasts = { λ index sound. sound.works };
+
+    ghost faithful = { λ index sound over. sound.faithful };
 
     ghost held = { λ index leg sound. ((λ found. found sound.faithful), (λ there faithful. there)) };
 

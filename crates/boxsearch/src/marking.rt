@@ -1,6 +1,6 @@
 //! The mark of a store that is not finished, in its page 0.
 ghost use Rattle.std.specs.Prelude.{◌≡◌, ◌<◌, drop, IsTrue, IfErr, OnErr, OnOk};
-ghost use Rattle.pages.specs.Store.{Faulted};
+ghost use Rattle.pages.specs.Store.{Faulted, IsSynced};
 ghost use Rattle.pagecache.specs.Cache.{IsClean, pages_as_written};
 ghost use Rattle.boxsearch.specs.Index.{IsMarked, MarksFirst, SyncsMark};
 ghost use Rattle.boxsearch.specs.Marking.{Marks, IsNotMarked};
@@ -14,6 +14,8 @@ pub(crate) fn mark_page<S: PageStore>(cache: &mut PageCache<S>) -> Result<(), Ca
     ensures marks { Marks cache.old cache.new }
     ensures header { OnOk result (MarksFirst cache.old cache.new) }
     ensures synced { OnOk result (SyncsMark cache.old cache.new) }
+    ensures unmarked { OnOk result (IsTrue cache.old.store.is_faithful
+        → (IsMarked cache.old → ⊥) → IsSynced cache.new.store) }
     ensures marked { OnOk result (IsTrue cache.old.store.is_faithful → IsMarked cache.new) }
     ensures others { OnErr result (IsTrue cache.old.store.is_faithful → IsClean cache.old
         → drop 1 (pages_as_written cache.new) ≡ drop 1 (pages_as_written cache.old)) }
@@ -22,7 +24,8 @@ pub(crate) fn mark_page<S: PageStore>(cache: &mut PageCache<S>) -> Result<(), Ca
         → pages_as_written cache.new ≡ pages_as_written cache.old) }
     ensures caused { IfErr result (IsNotMarked cache.old cache.new) }
 {
-    if is_unfinished(cache.page(0)?) && !cache.is_changed(0) {
+    let is_changed = cache.is_changed(0);
+    if is_unfinished(cache.page(0)?) && !is_changed {
         return Ok(());
     }
     set_unfinished(cache.page_mut(0)?);

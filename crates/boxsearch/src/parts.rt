@@ -1,5 +1,5 @@
 //! The parts of an index, for what is kept beside its tree.
-ghost use Rattle.std.specs.Prelude.{ℕ, ◌≡◌, ◌≢◌, ◌<◌, ◌≤◌, ◌^◌, ◌↔◌, [], true, filter, Bool, List, length, count_by, slice_get, IsTrue, None, Some};
+ghost use Rattle.std.specs.Prelude.{ℕ, ◌≡◌, ◌≢◌, ◌<◌, ◌≤◌, ◌^◌, ◌↔◌, [], true, filter, Bool, List, length, count_by, slice_get, IsTrue, None, Some, All};
 ghost use Rattle.std.specs.List.{sum_by, Contains};
 ghost use Rattle.legs.specs.Boxes.{BoxView, box_of};
 ghost use Rattle.legs.specs.Hull.{IsPruning, leg_boxes};
@@ -10,7 +10,8 @@ ghost use Rattle.tbtree.specs.declared.tree.Place.{Place};
 ghost use Rattle.chains.specs.declared.spans.LeafSpan.{LeafSpan};
 ghost use Rattle.boxsearch.specs.Beside.{with_cache, IsBeside};
 ghost use Rattle.boxsearch.specs.Bounds.{IsBounded};
-ghost use Rattle.boxsearch.specs.Index.{content, ends_with, finds, IndexView, IsMarked, IsSound};
+ghost use Rattle.boxsearch.specs.Index.{content, ends_with, finds, leads_to, tells, IndexView, IsMarked, IsSound};
+ghost use Rattle.legs.specs.Questions.{InBox};
 ghost use Rattle.header.specs.Front.{SaysState};
 
 use crate::tree_index::TreeIndex;
@@ -126,6 +127,10 @@ pub fn laws()
     ensures found { (index : IndexView) → IsSound index → (meets : BoxView → Bool)
         → IsPruning leg_boxes meets → (leg : LegView) → finds index meets leg
         ↔ Contains (filter (λ leg. meets (box_of leg)) (content index)) leg }
+
+    // Where it answers a box, the way down its pages leads to each leg of the answer, be it sound or not.
+    ensures led { (index : IndexView) → IsTrue index.cache.store.is_faithful → (query : BoxView)
+        (legs : List LegView) → tells index (InBox query) legs → All (leads_to index) legs }
 
     // Each feature of a sound one ends with its last leg.
     ensures ended { (index : IndexView) → IsSound index → (leg : LegView)

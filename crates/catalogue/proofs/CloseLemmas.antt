@@ -1,5 +1,5 @@
 -- A store that is closed.
-use Rattle.std.proofs.Common.{ℕ, zero, suc, ◌≡◌, ◌<◌, ◌≤◌, ◌==◌, ◌+◌, ◌^◌, true, false, Bool, ⊎_elim, List, [], ◌∷◌, map, take, length, get_or, refl, sym, ap, ◌∙◌, arith, subst, IsTrue, Option, Some, None, option_map, option_and_then, slice_get, unwrap_or, Result, Ok, Err, ◌≢◌}
+use Rattle.std.proofs.Common.{ℕ, zero, suc, ◌≡◌, ◌<◌, ◌≤◌, ◌==◌, ◌+◌, ◌^◌, true, false, Bool, cond, ◌⊎◌, inl, inr, ⊎_elim, List, [], ◌∷◌, map, take, length, get_or, refl, sym, ap, ◌∙◌, arith, subst, IsTrue, Option, Some, None, option_map, option_and_then, slice_get, unwrap_or, Result, Ok, Err, ◌≢◌}
 use Rattle.std.specs.Prelude.{IfErr, IsErrOf, All, AllPairs, fold, sum_by, count_by, if◌then◌else◌, ℤ, pos}
 use Rattle.std.specs.List.{range_with_len}
 use Rattle.std.proofs.lemmas.Bool.{cases_lt}
@@ -11,6 +11,7 @@ use Rattle.legs.specs.Book.{Book}
 use Rattle.legs.specs.Index.{feature_count, is_of, last_end}
 use Rattle.legs.specs.Law.{IsName}
 use Rattle.legs.specs.Legs.{IsLeg, LegView}
+use Rattle.legs.specs.Places.{no_leg}
 use Rattle.legs.specs.declared.head.BookHead.{BookHead}
 use Rattle.legs.specs.declared.tracks.Track.{Track}
 use Rattle.pages.specs.Store.{IsLawful as IsLawfulStore, Store}
@@ -29,9 +30,9 @@ use Rattle.catalogue.specs.Closing.{IsNoStoreFault}
 use Rattle.header.proofs.FrontLemmas.{begins_unfinished}
 use Rattle.catalogue.specs.Finishing.{Finishes, IsNotFinished, IsUnwrittenHeader, SaysUnfinished}
 use Rattle.catalogue.specs.Holding.{index_over, HoldsBook, IsOfBook, IsUnfinishedStore}
-use Rattle.register.specs.Lasting.{payload_fault, tracks_of, IsKept, IsLawful, IsLawfulFeature, IsWithin, Says}
+use Rattle.register.specs.Lasting.{payload_fault, tracks_of, IsKept, IsLawful, IsLawfulFeature, IsStop, IsWithin, Says}
 use Rattle.register.specs.Saved.{CatalogueView, KeepsFront}
-use Rattle.register.specs.Saving.{contents_of, end_of, feature_at, features_of, HasFew, IsCatalogue}
+use Rattle.register.specs.Saving.{contents_of, end_of, feature_at, features_of, HasFew, IsCatalogue, IsSavingStop}
 use Rattle.register.specs.Text.{IsWhole}
 use Rattle.register.specs.declared.contents.Feature.{Feature}
 use Rattle.register.specs.declared.fault.CatalogueFault.{CatalogueFault}
@@ -75,6 +76,26 @@ ends feature (leg ∷ legs) end all h e same =
 
 last_end_moment : (feature : ℕ) (legs : List LegView) → All IsLeg legs → (e : ℤ) → last_end feature legs ≡ Some e → IsMoment e
 last_end_moment feature legs all e same = ends feature legs None all (λ e none. absurd (none_some none)) e same
+
+-- a feature that has an end has a leg
+either_counted : (f : ℕ) (legs : List LegView) (d : Option ℤ) → (fold (λ end leg. if leg.feature == f then Some leg.t1 else end) d legs ≡ d) ⊎ (0 < count_by (is_of f) legs)
+either_counted f [] d = inl refl
+either_counted f (leg ∷ legs) d =
+    let sum = sum_by-cons (λ leg. cond (is_of f leg) 1 0) leg legs in
+    (elim (leg.feature == f) as (λ b. count_by (is_of f) (leg ∷ legs) ≡ cond b 1 0 + count_by (is_of f) legs
+    → (fold (λ end leg. if leg.feature == f then Some leg.t1 else end) (cond b (Some leg.t1) d) legs ≡ d) ⊎ (0 < count_by (is_of f) (leg ∷ legs))) [
+      | true ↦ λ n. inr (omega (arith, n))
+      | false ↦ λ n. ⊎_elim
+          (λ (same : fold (λ end leg. if leg.feature == f then Some leg.t1 else end) d legs ≡ d). inl same)
+          (λ (some : 0 < count_by (is_of f) legs). inr (omega (arith, n, some)))
+          (either_counted f legs d)
+    ]) sum
+
+ended_some : (f : ℕ) (legs : List LegView) (e : ℤ) → last_end f legs ≡ Some e → 0 < count_by (is_of f) legs
+ended_some f legs e is = ⊎_elim
+    (λ (none : last_end f legs ≡ None). absurd (none_some (sym none ∙ is)))
+    (λ (some : 0 < count_by (is_of f) legs). some)
+    (either_counted f legs None)
 
 -- the catalogue of a book has few features and rows
 module _ (c : CatalogueView) (book : Book) (of : IsOfBook c.limits book c) where
@@ -183,6 +204,7 @@ module _ (c : CatalogueView) (i : IndexView) (book : Book) (laws : PlaceLaws i) 
       let at = sym (unwrap_or-slice_get i.places k no_place) in
       record {
         name = subst IsName (sym (unwrap_or-slice_get c.tracks.names k [])) (subst (All IsName) (sym of.tracks.names) of.law.ordered.names k [] l);
+        some = subst (λ (p : Place). 0 < p.legs) at (let n = laws.counts k (get_or i.places k no_place) (slice_get-get_or i.places k no_place (let p = placed in omega (arith, l, p))) ∙ ap (count_by (is_of k)) legs in let some = ended_some k book.legs _ track.end in omega (arith, n, some));
         end = subst IsMoment (sym end) (last_end_moment k book.legs all_legs (get_or c.tracks.tracks k nowhere).end track.end);
         first = subst (λ (p : Place). p.first < i.cache.count) at place.0;
         last = subst (λ (p : Place). p.last < i.cache.count) at place.1;
@@ -198,6 +220,7 @@ module _ (c : CatalogueView) (i : IndexView) (book : Book) (laws : PlaceLaws i) 
     few_features = let l = fs_length in let s = names_same c book of in let f = of.law.ordered.few_features in omega (arith, l, s, f);
     few_legs = let l = of.tracks.legs in let f = of.law.ordered.few_legs in omega (arith, l, f);
     few_rows = let l = of.tracks.legs in let r = ap length of.rows in let f = of.law.ordered.few_rows in omega (arith, l, r, f);
+    some_row = λ some. let l = of.tracks.legs in let r = ap length of.rows in let row = of.tracks.lawful.rows 0 no_leg (omega (arith, l, some)) in omega (arith, r, row);
     none = λ e. nothing fs (fs_length ∙ names_same c book of ∙ ap (λ (b : Book). length b.names) (of.law.none (sym of.head ∙ e)));
     base = dated;
   }
@@ -222,6 +245,10 @@ module _ (a b : Cache) (m : IsMarked a) (same : page_of b 0 ≡ page_of a 0) whe
   unfolding sealed_payload
   still_says = record { payload = m.payload; sealed = ap (option_and_then (unsealed 0)) same ∙ m.sealed; unfinished = m.unfinished }
 
+-- a marked page 0 has a payload
+pub marked_some : (c : Cache) → IsMarked c → IsSettled c → payload_of c 0 ≢ None
+marked_some c m settled e = some_none m.payload (sym (settled m.faithful 0 m.unchanged ∙ m.sealed) ∙ e)
+
 -- a marked page 0 that begins as it did
 module _ (a b : Cache) (m : IsMarked a) (settled : IsSettled a) (front : KeepsFront a b) where
   was_is : front.was ≡ m.payload
@@ -245,14 +272,17 @@ module _ (laws : BesideLaws) (states : StateLaw) (c : CatalogueView) (i : IndexV
   was_unfinished = subst IsUnfinished (some_same header f.header (sym is ∙ f.was)) unfinished
 
   kept : IsKept (stored_payload s) s.count c i.tree i.places
-  kept = subst (λ n. IsKept (stored_payload s) n c i.tree i.places) (sound.count ∙ sym f.length) (record {
-    says = states (payload_of i.cache) (stored_payload s) f.header 1 f.stored_rest f.was f.stored_first was_unfinished.kind i.cache.count c i.tree i.places says;
-    whole = whole;
-    finished = ap payload_fault f.stored_first ∙ finished_header f.header was_unfinished;
-    within = within;
-    works = sound.works;
-    lawful = lawful;
-  })
+  kept =
+      let count : i.cache.count ≡ s.count = sound.count ∙ sym f.length in
+      record {
+        says = subst (λ n. Says (stored_payload s) n c i.tree i.places) count
+            (states (payload_of i.cache) (stored_payload s) f.header 1 f.stored_rest f.was f.stored_first was_unfinished.kind i.cache.count c i.tree i.places says);
+        whole = whole;
+        finished = ap payload_fault f.stored_first ∙ finished_header f.header was_unfinished;
+        within = subst (λ n. IsWithin n i.tree) count within;
+        works = sound.works;
+        lawful = subst (λ n. IsLawful n c i.places) count lawful;
+      }
 
   at_fresh : (p : ℕ) → payload_of (fresh s 1) p ≡ stored_payload s p
   at_fresh p = fresh_payload s 1 stored (faithful ∙ sound.faithful) p
@@ -291,6 +321,20 @@ module _ (laws : BesideLaws) (states : StateLaw) (c : CatalogueView) (i : IndexV
     sound = subst (λ n. IsSound (index_over s i.tree i.places n)) (sound.counted ∙ ap length legs) (laws.sound i (fresh s 1) [] beside sound);
     legs = laws.content i (fresh s 1) [] beside ∙ legs;
   }
+
+-- what refuses to finish a store where there is a page 0 refuses to save it
+stop_saves : (e : CatalogueFault) → IsStop e → IsSavingStop e
+stop_saves Memory h = tt
+stop_saves fault.Store h = tt
+stop_saves StoreFull h = tt
+stop_saves (Damaged n) h = h
+stop_saves Unfinished h = h
+stop_saves Version h = h
+stop_saves Malformed h = h
+
+pub only_stops : (P Q : Type 0) (r : Result (Unit {0}) CatalogueFault) → (P → IfErr r IsStop) → IfErr r (λ e. P → Q → IsSavingStop e)
+only_stops P Q (Ok x) h = tt
+only_stops P Q (Err e) h = λ p q. stop_saves e (h p)
 
 -- of what refuses to finish a store, only want of memory is no fault of the store
 pub only_memory : {P : Type 0} (a b : Cache) (r : Result (Unit {0}) CatalogueFault) → IfErr r (IsNotFinished a b) → (IsErrOf r Memory → P) → IfErr r (λ e. IsNoStoreFault e → P)

@@ -1,12 +1,13 @@
 -- A store that is marked as finished.
-use Rattle.std.proofs.Common.{ℕ, ◌≡◌, ◌<◌, ◌==◌, cond, false, length, sym, ap, ◌∙◌, arith, subst, IsTrue, Some, None, option_and_then}
+use Rattle.std.proofs.Common.{ℕ, ◌≡◌, ◌<◌, ◌==◌, cond, false, sym, ap, ◌∙◌, arith, subst, IsTrue, Some, None, option_and_then}
 use Rattle.std.proofs.lemmas.Bool.Decides.{nat_tests}
 use Rattle.pages.specs.Unsealed.{unsealed}
 use Rattle.pages.specs.declared.payload.Payload.{Payload}
-use Rattle.pagecache.specs.Cache.{Cache, payload_of, sealed_payload, stored_payload, IsWritten, SameLength, KeepsPayloads}
+use Rattle.pagecache.proofs.PageLemmas.{slice_get-take}
+use Rattle.pagecache.specs.Cache.{Cache, page_of, pages_as_written, payload_of, sealed_payload, stored_payload, IsWritten, SameLength, KeepsPayloads}
 use Rattle.header.specs.Front.{finished, finished_front, IsUnfinished}
 use Rattle.header.proofs.FrontLemmas.{finished_says, unfinished_says}
-use Rattle.catalogue.specs.Finishing.{Finishes, IsUnwrittenHeader, SaysUnfinished, SetsState}
+use Rattle.catalogue.specs.Finishing.{Finishes, IsUnwrittenHeader, SaysUnfinished, SetsState, StoresFinished}
 use Rattle.register.specs.Lasting.{front_fault, header_fault}
 use Rattle.register.specs.declared.fault.CatalogueFault.TheVariants.{Unfinished}
 
@@ -20,7 +21,7 @@ pub finished_header : (p : Payload) → IsUnfinished p → header_fault (finishe
 unfolding header_fault
 finished_header p u = ap (front_fault finished_front.version) (finished_says p u)
 
-not_first : (n : ℕ) → 0 < n → (0 == n) ≡ false
+pub not_first : (n : ℕ) → 0 < n → (0 == n) ≡ false
 not_first n h = grind (arith, nat_tests, h)
 
 -- all is written
@@ -45,25 +46,44 @@ module _ (a b : Cache) (s : KeepsPayloads a b) (written : IsWritten b) (f : IsTr
     set = sets.lends.writes.keeps.store.faithful ∙ still
 
     -- or is written too
-    module _ (d : Cache) (last : KeepsPayloads c d) (long : SameLength a b) (longer : SameLength c d) (all : IsWritten d) (counts : a.count ≡ a.store.count) where
+    module _ (d : Cache) (last : KeepsPayloads c d) (all : IsWritten d) where
       first_is : payload_of d 0 ≡ Some (finished sets.was)
       first_is = last.payloads set 0 ∙ sets.lends.writes.payloads still 0
 
       rest_is : (n : ℕ) → 0 < n → payload_of d n ≡ payload_of a n
       rest_is n h = last.payloads set n ∙ sets.lends.writes.payloads still n ∙ ap (λ v. cond v (Some (finished sets.was)) (payload_of b n)) (not_first n h) ∙ s.payloads f n
 
-      stored_is : (n : ℕ) → stored_payload d.store n ≡ payload_of d n
-      stored_is n = sym (all.stored (last.keeps.store.faithful ∙ set) (last.count ∙ sets.lends.writes.count ∙ s.count ∙ counts ∙ sym (longer ∙ sets.lends.length ∙ long)) n)
+      count_is : d.count ≡ a.count
+      count_is = last.count ∙ sets.lends.writes.count ∙ s.count
 
-      pub finishes : Finishes a d
-      finishes = record {
-        clean = all.clean;
-        count = last.count ∙ sets.lends.writes.count ∙ s.count;
-        length = longer ∙ sets.lends.length ∙ long;
+      -- of a page that is counted
+      stored_at : (n : ℕ) → n < a.count → stored_payload d.store n ≡ payload_of d n
+      unfolding stored_payload sealed_payload page_of pages_as_written
+      stored_at n h =
+          ap (option_and_then (unsealed n)) (sym (slice_get-take d.count n d.store.pages (let e = count_is in omega (arith, h, e))))
+          ∙ sym (all.sealed (last.keeps.store.faithful ∙ set) n)
+
+      pub stores : 0 < a.count → StoresFinished a d
+      stores some = record {
         header = sets.was;
         was = sym (s.payloads f 0) ∙ sets.before still;
-        first = first_is;
-        rest = rest_is;
-        stored_first = stored_is 0 ∙ first_is;
-        stored_rest = λ n h. stored_is n ∙ rest_is n h;
+        first = stored_at 0 some ∙ first_is;
+        rest = λ n h l. stored_at n l ∙ rest_is n h;
       }
+
+      module _ (long : SameLength a b) (longer : SameLength c d) (counts : a.count ≡ a.store.count) where
+        stored_is : (n : ℕ) → stored_payload d.store n ≡ payload_of d n
+        stored_is n = sym (all.stored (last.keeps.store.faithful ∙ set) (count_is ∙ counts ∙ sym (longer ∙ sets.lends.length ∙ long)) n)
+
+        pub finishes : Finishes a d
+        finishes = record {
+          clean = all.clean;
+          count = count_is;
+          length = longer ∙ sets.lends.length ∙ long;
+          header = sets.was;
+          was = sym (s.payloads f 0) ∙ sets.before still;
+          first = first_is;
+          rest = rest_is;
+          stored_first = stored_is 0 ∙ first_is;
+          stored_rest = λ n h. stored_is n ∙ rest_is n h;
+        }

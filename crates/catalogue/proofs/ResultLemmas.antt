@@ -1,6 +1,5 @@
 -- What follows of results, options and lists, by their cases.
-use Rattle.std.proofs.Common.{ℕ, suc, ◌≡◌, ◌+◌, [], ◌∷◌, List, length, map, slice_get, refl, arith, ◌∙◌, sym, ap, subst, Some, None, Result, Ok, Err, IfOk}
-use Rattle.std.specs.Prelude.{IfErr, OnOk}
+use Rattle.std.proofs.Common.{ℕ, suc, ◌≡◌, ◌+◌, [], ◌∷◌, List, length, map, slice_get, refl, arith, ◌∙◌, ap, Some, None}
 use Rattle.std.specs.List.{range_with_len}
 pub use Rattle.register.proofs.ReaderLemmas.{some_none, some_same, on_ok, if_ok, if_err, if_err_of}
 

@@ -1,5 +1,5 @@
 //! A store is closed.
-ghost use Rattle.std.specs.Prelude.{ℕ, List, ◌≡◌, ◌⊎◌, [], IfErr, IsErrOf, IsTrue, OnErr, OnOk, Some};
+ghost use Rattle.std.specs.Prelude.{ℕ, List, ◌≡◌, ◌≤◌, ◌⊎◌, [], IfErr, IsErrOf, IsTrue, OnErr, OnOk, Some};
 ghost use Rattle.legs.specs.Book.{Book};
 ghost use Rattle.legs.specs.declared.head.BookHead.{BookHead};
 ghost use Rattle.pages.specs.Store.{IsLawful, IsSynced, IsSyncedButFirst, Keeps};
@@ -8,9 +8,9 @@ ghost use Rattle.timebase.specs.Instant.{IsMoment};
 ghost use Rattle.boxsearch.specs.Beside.{with_cache};
 ghost use Rattle.boxsearch.specs.Index.{content, IsMarked, IsSound};
 ghost use Rattle.catalogue.specs.Closing.{IsClosingFault, IsNoStoreFault};
-ghost use Rattle.catalogue.specs.Holding.{HoldsBook, HoldsButFirst, IsOfBook, IsUnfinishedStore};
+ghost use Rattle.catalogue.specs.Holding.{HoldsBook, HoldsButFirst, HoldsIndex, HoldsIndexButFirst, IsOfBook, IsUnfinishedStore};
 ghost use Rattle.register.specs.Earlier.{AddsFew, AreEarlier, HasNoRoom};
-ghost use Rattle.register.specs.Saving.{contents_of, IsSavingStop, IsCaused};
+ghost use Rattle.register.specs.Saving.{contents_of, HasFew, IsSavingStop, IsCaused};
 ghost use Rattle.register.specs.Text.{catalogue_text};
 
 use crate::finishing::finish;
@@ -53,6 +53,9 @@ fn save_and_finish<S: PageStore>(
         → IsMarked index.old.cache → (book : Book)
         → IsOfBook catalogue.now.limits book catalogue.now → content index.old ≡ book.legs
         → HoldsBook index.new.cache.store index.old.tree.shape catalogue.now.limits book) }
+    ensures kept { OnOk result (index.new.cache.count ≤ index.new.cache.store.count
+        → IsMarked index.old.cache
+        → HoldsIndex index.new.cache.store catalogue.now index.old) }
     ensures synced { OnOk result (IsSynced index.new.cache.store) }
     ensures takes { OnOk result (IsTrue index.old.cache.store.is_faithful
         → index.old.cache.count ≡ index.old.cache.store.count → (pages : List ℕ)
@@ -67,13 +70,19 @@ fn save_and_finish<S: PageStore>(
     ensures only { IfErr result (λ fault. IsSound index.old → (book : Book)
         → IsOfBook catalogue.now.limits book catalogue.now → content index.old ≡ book.legs
         → IsSavingStop fault) }
-    ensures unfinished { IfErr result (λ fault. IsNoStoreFault fault → IsSound index.old
-        → IsMarked index.old.cache → IsUnfinishedStore index.new.cache.store) }
+    ensures only_marked { IfErr result (λ fault. IsMarked index.old.cache → HasFew catalogue.now
+        → IsSavingStop fault) }
+    ensures unfinished { IfErr result (λ fault. IsNoStoreFault fault → IsMarked index.old.cache
+        → IsUnfinishedStore index.new.cache.store) }
     ensures refused { OnErr result (IsLawful index.new.cache.store → IsSound index.old
         → IsMarked index.old.cache → (book : Book)
         → IsOfBook catalogue.now.limits book catalogue.now → content index.old ≡ book.legs
         → IsUnfinishedStore index.new.cache.store
         ⊎ HoldsButFirst index.new.cache.store index.old.tree.shape catalogue.now.limits book) }
+    ensures behind { OnErr result (IsLawful index.new.cache.store
+        → index.new.cache.count ≤ index.new.cache.store.count → IsMarked index.old.cache
+        → IsUnfinishedStore index.new.cache.store
+        ⊎ HoldsIndexButFirst index.new.cache.store catalogue.now index.old) }
     ensures ordered { OnErr result (IsMarked index.old.cache
         → IsUnfinishedStore index.new.cache.store ⊎ IsSyncedButFirst index.new.cache.store) }
     ensures keeps { Keeps index.old.cache.store index.new.cache.store }
@@ -103,6 +112,10 @@ pub fn close<S: PageStore>(
     ensures holds { OnOk result.1 (IsSound index → IsMarked index.cache → (book : Book)
         → IsOfBook catalogue.now.limits book catalogue.now → content index ≡ book.legs
         → HoldsBook (S.seen result.0) index.tree.shape catalogue.now.limits book) }
+
+    // It keeps the catalogue and the index, be the index sound or not.
+    ensures kept { OnOk result.1 (IsMarked index.cache
+        → HoldsIndex (S.seen result.0) catalogue.now index) }
     ensures synced { OnOk result.1 (IsSynced (S.seen result.0)) }
 
     // Its pages are as many as they were, and those that the text takes beyond an earlier one's.
@@ -121,8 +134,10 @@ pub fn close<S: PageStore>(
     ensures only { IfErr result.1 (λ fault. IsSound index → (book : Book)
         → IsOfBook catalogue.now.limits book catalogue.now → content index ≡ book.legs
         → IsSavingStop fault) }
-    ensures unfinished { IfErr result.1 (λ fault. IsNoStoreFault fault → IsSound index
-        → IsMarked index.cache → IsUnfinishedStore (S.seen result.0)) }
+    ensures only_marked { IfErr result.1 (λ fault. IsMarked index.cache → HasFew catalogue.now
+        → IsSavingStop fault) }
+    ensures unfinished { IfErr result.1 (λ fault. IsNoStoreFault fault → IsMarked index.cache
+        → IsUnfinishedStore (S.seen result.0)) }
 
     // Before page 0 may say that the store is finished, all else is written and synced.
     ensures refused { OnErr result.1 (IsSound index → IsMarked index.cache → (book : Book)
@@ -130,7 +145,9 @@ pub fn close<S: PageStore>(
         → IsUnfinishedStore (S.seen result.0)
         ⊎ HoldsButFirst (S.seen result.0) index.tree.shape catalogue.now.limits book) }
 
-    // So it is, but for what they hold, be the index sound or not.
+    // So it is, be the index sound or not.
+    ensures behind { OnErr result.1 (IsMarked index.cache → IsUnfinishedStore (S.seen result.0)
+        ⊎ HoldsIndexButFirst (S.seen result.0) catalogue.now index) }
     ensures ordered { OnErr result.1 (IsMarked index.cache
         → IsUnfinishedStore (S.seen result.0) ⊎ IsSyncedButFirst (S.seen result.0)) }
     ensures keeps { Keeps index.cache.store (S.seen result.0) }
@@ -140,8 +157,7 @@ pub fn close<S: PageStore>(
     let result = save_and_finish(alloc, catalogue, &mut index);
     let cache = index.into_cache();
     lawful(&cache);
-    // For its contract alone: the cache counts no more pages than the store, of which `StoreFull`
-    // is said.
+    // For its contract alone: the cache counts no more pages than the store.
     cache.count();
     (cache.into_store(), result)
 }

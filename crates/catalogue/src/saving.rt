@@ -1,5 +1,5 @@
 //! A catalogue is saved beside the legs of an index.
-ghost use Rattle.std.specs.Prelude.{ℕ, List, ◌≡◌, ◌<◌, false, IfErr, IsErrOf, IsTrue, OnErr, OnOk};
+ghost use Rattle.std.specs.Prelude.{ℕ, List, ◌≡◌, ◌≢◌, ◌<◌, false, IfErr, IsErrOf, IsTrue, None, OnErr, OnOk};
 ghost use Rattle.pages.specs.Store.{IsSynced};
 ghost use Rattle.pagecache.specs.Cache.{is_changed, page_of, payload_of};
 ghost use Rattle.boxsearch.specs.Beside.{with_cache, IsBeside};
@@ -58,7 +58,9 @@ pub fn save<S: PageStore>(
     ensures synced { OnOk result (IsSynced index.new.cache.store) }
     ensures content { OnOk result (content index.new ≡ content index.old) }
     ensures sound { OnOk result (IsSound index.old → IsSound index.new) }
-    ensures only { HasFew catalogue.now → IsSound index.old → IfErr result IsSavingStop }
+    ensures only { HasFew catalogue.now → IsTrue index.old.cache.store.is_faithful
+        → 0 < index.old.cache.count → payload_of index.old.cache 0 ≢ None
+        → IfErr result IsSavingStop }
     ensures caused { IfErr result (IsCaused index.old.cache index.new.cache) }
 {
     boxsearch::laws();

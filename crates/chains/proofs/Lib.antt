@@ -13,5 +13,6 @@ mod AgainLemmas
 pub mod LiveLemmas
 pub mod SieveLemmas
 pub mod ReachLemmas
-pub mod RowLemmas
+pub mod RoomLemmas
 pub mod ChainGrowth
+pub mod OwnGrowth

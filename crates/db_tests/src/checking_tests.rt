@@ -1,5 +1,7 @@
 //! Databases that are checked.
 use crate::lasting_tests::{check, close, closed, loaded, opened, said};
+use crate::run_tests::over;
+use legs::Limits;
 use pages::{Fuse, MemStore, PageStore, seal, unseal};
 use std::alloc::Global;
 use std::hash::RandomState;
@@ -186,6 +188,69 @@ fn wrong_name(alloc: Global, keys: RandomState) -> Option<usize> {
 fn a_question_over_damage_names_it(rt: HostRuntime) -> Result<(), Fail> {
     let (alloc, keys) = (rt.alloc(), RandomState::new(&rt)?);
     assert_eq!(rt; wrong_name(alloc, keys), Some(DAMAGE.len()));
+    Ok(())
+}
+
+/// Pages of the example that are damaged, or malformed under a right seal, what is loaded then, and the page that is
+/// named, 0 where it is loaded. A leg of the first feature goes by the root to leaf 1; a new leaf gets an entry of the root.
+const PUT: [(u32, Option<(usize, u32)>, &str, u32); 8] = [
+    (1, None, "load again.csv", 1),
+    (1, Some((12, 0x0033_0000)), "load again.csv", 1),
+    (2, None, "load again.csv", 0),
+    (3, None, "load again.csv", 3),
+    // The root is one level too high.
+    (3, Some((0, 0x0003_0002)), "load again.csv", 3),
+    // The root's first entry names the root: the place's last leaf is not the one to which the way leads.
+    (3, Some((16, 3)), "load again.csv", 1),
+    (1, None, "load more.csv", 0),
+    (3, None, "load more.csv", 3),
+];
+
+/// Which page a load names, 0 where it is answered, and 9 where it is refused otherwise.
+fn named_by_load(alloc: Global, db: &mut Db<MemStore>, load: &str) -> u32 {
+    match said(alloc, db, load).1 {
+        Ok(()) => 0,
+        Err(RunFault::Damaged(page)) => page,
+        Err(_) => 9,
+    }
+}
+
+/// The first of these loads that names another page, if any.
+fn wrong_load(alloc: Global, keys: RandomState) -> Option<usize> {
+    for (at, (page, value, load, wanted)) in PUT.iter().enumerate() {
+        let mut db = altered(alloc, keys, *page, *value)?;
+        if named_by_load(alloc, &mut db, load) != *wanted {
+            return Some(at);
+        }
+    }
+    Some(PUT.len())
+}
+
+#[test]
+fn a_load_over_damage_names_it(rt: HostRuntime) -> Result<(), Fail> {
+    let (alloc, keys) = (rt.alloc(), RandomState::new(&rt)?);
+    assert_eq!(rt; wrong_load(alloc, keys), Some(PUT.len()));
+    Ok(())
+}
+
+/// The example and a leg more of its first feature in leaves of two legs, opened, with that feature's first leaf damaged.
+fn with_a_damaged_first_leaf(alloc: Global, keys: RandomState) -> Option<Db<MemStore>> {
+    let limits = Limits::new(1000, 1000)?;
+    let mut db = over(alloc, keys, MemStore::new(alloc, 100), limits, (2, 2, 256)).ok()?;
+    said(alloc, &mut db, "load S1.csv\nload again.csv").1.ok()?;
+    let (mut store, _) = close(alloc, db);
+    if store.len() < 2 {
+        return None;
+    }
+    store.set_byte(1, 100, 255);
+    opened(alloc, keys, store, 1).ok()
+}
+
+#[test]
+fn a_load_looks_at_no_leaf_but_the_last(rt: HostRuntime) -> Result<(), Fail> {
+    let (alloc, keys) = (rt.alloc(), RandomState::new(&rt)?);
+    let mut db = with_a_damaged_first_leaf(alloc, keys).ok_or("a run")?;
+    assert_eq!(rt; named_by_load(alloc, &mut db, "load third.csv"), 0);
     Ok(())
 }
 

@@ -13,7 +13,7 @@ const HEAD: &str = "\
 @columns,mfidref,trajectory,state,xsd:token,\"type code\",xsd:integer
 ";
 
-/// The example, its header lines alone, and a leg behind them.
+/// The example, its header lines alone, and a leg behind them, of a new feature and of the first one, and one more.
 pub(crate) fn files(alloc: Global) -> Result<Files, RunFault> {
     let mut files = Files::new(alloc);
     files.add("S1.csv", Vec::from_slice(alloc, STANDARD.as_bytes())?)?;
@@ -21,6 +21,12 @@ pub(crate) fn files(alloc: Global) -> Result<Files, RunFault> {
     let mut more = Vec::from_slice(alloc, HEAD.as_bytes())?;
     more.extend_from_slice(b"d,0,1,0 0\n")?;
     files.add("more.csv", more)?;
+    let mut again = Vec::from_slice(alloc, HEAD.as_bytes())?;
+    again.extend_from_slice(b"a,190,200,10 3 11 3,walking,2\n")?;
+    files.add("again.csv", again)?;
+    let mut third = Vec::from_slice(alloc, HEAD.as_bytes())?;
+    third.extend_from_slice(b"a,200,210,11 3 12 3,walking,2\n")?;
+    files.add("third.csv", third)?;
     Ok(files)
 }
 

@@ -6,6 +6,8 @@ mod checking_tests;
 #[cfg(test)]
 mod failing_tests;
 #[cfg(test)]
+mod hostile_tests;
+#[cfg(test)]
 mod lasting_tests;
 #[cfg(test)]
 mod migrating_tests;

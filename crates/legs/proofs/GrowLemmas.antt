@@ -9,7 +9,7 @@ use Rattle.legs.specs.Legs.{IsLeg, LegView}
 use Rattle.legs.specs.Places.{ListView}
 use Rattle.legs.specs.Questions.{answer_in}
 use Rattle.legs.specs.Index.{last_leg_of, CanFollowInTurn}
-use Rattle.legs.specs.Asking.{Grows, IsLater, Leaves, LegRefusals}
+use Rattle.legs.specs.Asking.{Grows, IsLater, LeadsStill, Leaves, LegRefusals}
 use Rattle.legs.specs.declared.index.IndexFault.{IndexFault}
 use Rattle.legs.specs.declared.listed.Listed.{Ghosts}
 
@@ -22,6 +22,8 @@ list_words = record {
   finds = λ index meets leg. Contains index.legs leg × (meets (box_of leg) ≡ true);
   comes_to = λ index meets above page. ⊥;
   is_bare = λ index page. ⊥;
+  is_astray = λ index above page. ⊥;
+  leads_to = λ index leg. Contains index.legs leg;
   ends_with = λ index leg. last_leg_of leg.feature index.legs ≡ Some leg;
   counted = λ index. length index.legs;
   is_sound = λ index. (index.spent ≡ false) × All IsLeg index.legs;
@@ -35,6 +37,7 @@ list_words = record {
   is_faithful = λ index. ⊥;
   is_clean = λ index. ⊥;
   is_marked = λ index. ⊥;
+  is_synced = λ index. Unit {0};
   written = λ index. [];
 }
 
@@ -79,11 +82,25 @@ later-trans g a b c p q = record {
   faithful = λ f. q.faithful (p.faithful f);
 }
 
+pub ways-refl : {I : Type 0} (g : Ghosts I) (a : I) → LeadsStill g a a
+ways-refl g a = record { finds = λ meets leg h. h; comes = λ meets above page h. h; bare = λ page h. h; ends = λ leg h. h; astray = λ above page h. h; leads = λ leg h. h }
+
+ways-trans : {I : Type 0} (g : Ghosts I) (a b c : I) → LeadsStill g a b → LeadsStill g b c → LeadsStill g a c
+ways-trans g a b c p q = record {
+  finds = λ meets leg h. q.finds meets leg (p.finds meets leg h);
+  comes = λ meets above page h. q.comes meets above page (p.comes meets above page h);
+  bare = λ page h. q.bare page (p.bare page h);
+  ends = λ leg h. q.ends leg (p.ends leg h);
+  astray = λ above page h. p.astray above page (q.astray above page h);
+  leads = λ leg h. p.leads leg (q.leads leg h);
+}
+
 pub leaves-refl : {I : Type 0} (g : Ghosts I) (a : I) → Leaves g a a
 leaves-refl g a = record {
   content = refl;
   told = λ q l h. h;
   denied = λ q n h. h;
+  ways = ways-refl g a;
   counted = refl;
   sound = λ s. s;
   spent = refl;
@@ -99,6 +116,7 @@ leaves-trans g a b c p q = record {
   content = q.content ∙ p.content;
   told = λ x l h. p.told x l (q.told x l h);
   denied = λ x n h. p.denied x n (q.denied x n h);
+  ways = ways-trans g a b c p.ways q.ways;
   counted = q.counted ∙ p.counted;
   sound = λ s. q.sound (p.sound s);
   spent = q.spent ∙ p.spent;

@@ -1,12 +1,14 @@
 -- The last leg of a feature.
-use Rattle.std.proofs.Common.{ℕ, suc, ◌+◌, ◌<◌, ◌≡◌, ◌≢◌, ◌==◌, ◌⊎◌, inl, inr, true, false, cond, ⊎_elim, refl, sym, ap, ◌∙◌, subst, arith, eq-eqb, All, List, [], ◌∷◌, ◌++◌, take, length, get_or, Option, Some, None, slice_get, Result}
+use Rattle.std.proofs.Common.{ℕ, suc, ◌+◌, ◌-◌, ◌*◌, ◌<◌, ◌≤◌, ◌≤ℤ◌, ◌≡◌, ◌≢◌, ◌==◌, ◌⊎◌, inl, inr, true, false, cond, ⊎_elim, refl, sym, ap, ◌∙◌, subst, arith, eq-eqb, All, List, [], ◌∷◌, ◌++◌, take, length, get_or, Option, Some, None, slice_get, Result}
 use Rattle.std.specs.List.{count_by, filter, fold, Contains}
 use Rattle.std.proofs.lemmas.Bool.{eqb-true, ne_eqb, true≢false}
 use Rattle.std.proofs.lemmas.Grind.{fold-append}
 use Rattle.std.proofs.lemmas.List.{append-nil, append_assoc, length-append, take_more}
-use Rattle.std.proofs.lemmas.List.Elements.{All-append, All-cons, All-contains, All-contains_itself, All-filter, All-nil, All-weaker, Contains-append_cases, Contains-append_left, Contains-append_right, filter-append}
+use Rattle.std.proofs.lemmas.List.Elements.{All-append, All-cons, All-contains, All-contains_itself, All-filter, All-head, All-nil, All-tail, All-weaker, Contains-append_cases, Contains-append_left, Contains-append_right, filter-append}
 use Rattle.std.proofs.lemmas.List.Sums.{length-filter, sum_by-append}
-use Rattle.legs.specs.Asking.{placed_legs, HasAdded, Starts}
+use Rattle.std.proofs.Math.Nat.{add-mul}
+use Rattle.std.proofs.lemmas.Nat.{mul-le}
+use Rattle.legs.specs.Asking.{placed_legs, HasAdded, NoneBefore, Starts, TakesRoom}
 use Rattle.legs.specs.Finding.{Finding}
 use Rattle.legs.specs.Index.{is_of, last_leg_of, legs_of}
 use Rattle.legs.specs.Boxes.{BoxView, box_of}
@@ -79,6 +81,48 @@ last_filter f d (x ∷ xs) =
 count_then : (f : ℕ) (xs ys : List LegView) → count_by (is_of f) (xs ++ ys) ≡ count_by (is_of f) xs + count_by (is_of f) ys
 count_then f xs ys = sum_by-append (λ leg. cond (is_of f leg) 1 0) xs ys
 
+-- leaves and pages more, and then others
+room_then : (a b c : Finding) (m n all : ℕ) → all ≡ m + n → TakesRoom a b m → TakesRoom b c n → TakesRoom a c all
+room_then a b c m n all many p q =
+    let first = p.leaves in
+    let then = q.leaves in
+    let low = p.levels in
+    let high = q.levels in
+    let one = p.pages in
+    let two = q.pages in
+    let w : (b.leaves - a.leaves) * b.levels ≤ (b.leaves - a.leaves) * c.levels = mul-le (b.leaves - a.leaves) b.levels (b.leaves - a.leaves) c.levels (omega arith) high in
+    let s : (c.leaves - a.leaves) * c.levels ≡ (b.leaves - a.leaves) * c.levels + (c.leaves - b.leaves) * c.levels = ap (λ d. d * c.levels) (let z : c.leaves - a.leaves ≡ (b.leaves - a.leaves) + (c.leaves - b.leaves) = omega (arith, first, then) in z) ∙ add-mul (b.leaves - a.leaves) (c.leaves - b.leaves) c.levels in
+    record {
+      leaves = omega (arith, first, then);
+      levels = omega (arith, low, high);
+      few = (let x = p.few in let y = q.few in omega (arith, x, y, many));
+      low = (let x = p.low in let y = q.low in omega (arith, x, y, first, then));
+      pages = omega (arith, one, two, w, s);
+    }
+
+-- what answers a question about a feature, of no legs, of legs and others, and of legs that are alike for it
+pub answer_none : (f : ℕ) (period : Option PeriodView) → answer_in (OfFeature f period) [] ≡ []
+answer_none f None = refl
+answer_none f (Some p) = refl
+
+answer_then : (f : ℕ) (period : Option PeriodView) (xs ys : List LegView) → answer_in (OfFeature f period) (xs ++ ys) ≡ answer_in (OfFeature f period) xs ++ answer_in (OfFeature f period) ys
+answer_then f None xs ys = filter-append (is_of f) xs ys
+answer_then f (Some p) xs ys = ap (filter (is_live p)) (filter-append (is_of f) xs ys) ∙ filter-append (is_live p) (legs_of f xs) (legs_of f ys)
+
+pub answer_alike : (f : ℕ) (period : Option PeriodView) (xs ys : List LegView) → legs_of f xs ≡ legs_of f ys → answer_in (OfFeature f period) xs ≡ answer_in (OfFeature f period) ys
+answer_alike f None xs ys e = e
+answer_alike f (Some p) xs ys e = ap (filter (is_live p)) e
+
+all_parts : (P : LegView → Type 0) (xs ys : List LegView) → All P (xs ++ ys) → All P xs × All P ys
+all_parts P [] ys h = (All-nil P, h)
+all_parts P (x ∷ xs) ys h =
+    let on = all_parts P xs ys (All-tail P x (xs ++ ys) h) in
+    (All-cons P x xs (All-head P x (xs ++ ys) h) on.0, on.1)
+
+late_parts : (period : Option PeriodView) (xs ys : List LegView) → NoneBefore period (xs ++ ys) → NoneBefore period xs × NoneBefore period ys
+late_parts None xs ys h = (tt, tt)
+late_parts (Some p) xs ys h = all_parts (λ leg. p.start ≤ℤ leg.t0) xs ys h
+
 module _ {I : Type 0} (g : Ghosts I) where
   -- no leg changes nothing
   pub takes_none : (a : I) → g.is_spent a ≡ false → HasAdded g a a []
@@ -87,10 +131,13 @@ module _ {I : Type 0} (g : Ghosts I) where
     put = λ meets prune. All-nil (λ leg. meets (box_of leg) ≡ true → g.finds a meets leg);
     comes = λ meets prune above page h. h;
     bare = λ page h. h;
+    astray = λ above page h. h;
+    leads = λ leg h. inl h;
     top = λ some h. (refl, refl);
-    tracks = λ f was h. subst (g.tells a (OfFeature f None)) (sym (append-nil was)) h;
+    tracks = λ f period was late h. subst (g.tells a (OfFeature f period)) (sym (append-nil was) ∙ ap (λ l. was ++ l) (sym (answer_none f period))) h;
     rests = λ f period none. record { told = λ l h. h; denied = λ p h. h };
     counted = λ few. omega arith;
+    room = λ fa. (fa, record { leaves = omega arith; levels = omega arith; few = omega arith; low = omega arith; pages = omega arith });
     works = works;
     plan = refl;
     last = λ f leg e. absurd (some_not leg (sym e));
@@ -108,13 +155,21 @@ module _ {I : Type 0} (g : Ghosts I) where
         put = λ meets prune. All-append (λ leg. meets (box_of leg) ≡ true → g.finds c meets leg) xs ys (All-weaker (λ leg. meets (box_of leg) ≡ true → g.finds b meets leg) (λ leg. meets (box_of leg) ≡ true → g.finds c meets leg) (λ leg h t. q.kept meets prune leg (h t)) xs (p.put meets prune)) (q.put meets prune);
         comes = λ meets prune above page h. q.comes meets prune above page (p.comes meets prune above page h);
         bare = λ page h. q.bare page (p.bare page h);
+        astray = λ above page h. p.astray above page (q.astray above page h);
+        leads = λ leg h. ⊎_elim
+            (λ (k : g.leads_to b leg). ⊎_elim (λ (o : g.leads_to a leg). inl o) (λ (o : Contains xs leg). inr (Contains-append_left xs ys leg o)) (p.leads leg k))
+            (λ (k : Contains ys leg). inr (Contains-append_right xs ys leg k))
+            (q.leads leg h);
         top = λ some h.
             let first = p.top some h in
             let r = first.0 in
             let l = first.1 in
             let then = q.top (omega (arith, some, l)) (subst (g.is_bare b) (sym r) (p.bare (g.found_by a).root h)) in
             (then.0 ∙ r, then.1 ∙ l);
-        tracks = λ f was h. subst (g.tells c (OfFeature f None)) (append_assoc was (legs_of f xs) (legs_of f ys) ∙ ap (λ l. was ++ l) (sym (filter-append (is_of f) xs ys))) (q.tracks f (was ++ legs_of f xs) (p.tracks f was h));
+        tracks = λ f period was late h.
+            let each = late_parts period (legs_of f xs) (legs_of f ys) (subst (NoneBefore period) (filter-append (is_of f) xs ys) late) in
+            let first = answer_in (OfFeature f period) xs in
+            subst (g.tells c (OfFeature f period)) (append_assoc was first (answer_in (OfFeature f period) ys) ∙ ap (λ l. was ++ l) (sym (answer_then f period xs ys))) (q.tracks f period (was ++ first) each.1 (p.tracks f period was each.0 h));
         rests = λ f period e.
             let none = neither f e in
             let first = p.rests f period none.0 in
@@ -124,6 +179,10 @@ module _ {I : Type 0} (g : Ghosts I) where
             let first = p.counted (omega (arith, few, many)) in
             let then = q.counted (omega (arith, few, many, first)) in
             omega (arith, first, then, many);
+        room = λ fa.
+            let first = p.room fa in
+            let then = q.room first.0 in
+            (then.0, room_then (g.found_by a) (g.found_by b) (g.found_by c) (length xs) (length ys) (length (xs ++ ys)) many first.1 then.1);
         works = q.works;
         plan = q.plan ∙ p.plan;
         last = λ f leg e.
@@ -158,25 +217,28 @@ module _ {I : Type 0} (g : Ghosts I) where
   -- legs behind a start
   pub takes_started : {A : Type 0} (a b c : I) (legs : List LegView) (r : Result A IndexFault) → Starts g a b r → HasAdded g b c legs → HasAdded g a c legs
   takes_started a b c legs r s p = record {
-    kept = λ meets prune leg h. p.kept meets prune leg (s.finds meets leg h);
+    kept = λ meets prune leg h. p.kept meets prune leg (s.ways.finds meets leg h);
     put = p.put;
-    comes = λ meets prune above page h. p.comes meets prune above page (s.comes meets above page h);
-    bare = λ page h. p.bare page (s.bare page h);
+    comes = λ meets prune above page h. p.comes meets prune above page (s.ways.comes meets above page h);
+    bare = λ page h. p.bare page (s.ways.bare page h);
+    astray = λ above page h. s.ways.astray above page (p.astray above page h);
+    leads = λ leg h. ⊎_elim (λ (k : g.leads_to b leg). inl (s.ways.leads leg k)) (λ (k : Contains legs leg). inr k) (p.leads leg h);
     top = λ some h.
         let r : (g.found_by b).root ≡ (g.found_by a).root = ap (λ (x : Finding). x.root) s.found_by in
         let l : (g.found_by b).levels ≡ (g.found_by a).levels = ap (λ (x : Finding). x.levels) s.found_by in
-        let then = p.top (omega (arith, some, l)) (subst (g.is_bare b) (sym r) (s.bare (g.found_by a).root h)) in
+        let then = p.top (omega (arith, some, l)) (subst (g.is_bare b) (sym r) (s.ways.bare (g.found_by a).root h)) in
         (then.0 ∙ r, then.1 ∙ l);
-    tracks = λ f was h. p.tracks f was ((s.says (OfFeature f None)).told was h);
+    tracks = λ f period was late h. p.tracks f period was late ((s.says (OfFeature f period)).told was h);
     rests = λ f period none.
         let first = s.says (OfFeature f period) in
         let then = p.rests f period none in
         record { told = λ l h. then.told l (first.told l h); denied = λ n h. then.denied n (first.denied n h) };
     counted = λ few. p.counted (omega (arith, few, s.counted)) ∙ ap (λ n. n + length legs) s.counted;
+    room = λ fa. let all = p.room (s.later.faithful fa) in (all.0, subst (λ f. TakesRoom f (g.found_by c) (length legs)) s.found_by all.1);
     works = p.works;
     plan = p.plan ∙ s.later.plan;
     last = p.last;
-    others = λ leg e h. p.others leg e (s.ends leg h);
+    others = λ leg e h. p.others leg e (s.ways.ends leg h);
     places = λ f place e h. p.places f place e (ap (λ (x : Finding). slice_get x.places f) s.found_by ∙ h);
     place_legs = λ f over. p.place_legs f (λ e. over (sym s.later.plan ∙ e)) ∙ ap (λ x. placed_legs x f + count_by (is_of f) legs) s.found_by;
   }
@@ -198,10 +260,16 @@ module _ {I : Type 0} (g : Ghosts I) where
             All-contains (λ leg. meets (box_of leg) ≡ true → g.finds b meets leg) (legs_of leg.feature xs) leg (All-filter (is_of leg.feature) (λ leg. meets (box_of leg) ≡ true → g.finds b meets leg) xs (p.put meets prune)) there;
         comes = p.comes;
         bare = p.bare;
+        astray = p.astray;
+        leads = λ leg h. ⊎_elim
+            (λ (k : g.leads_to a leg). inl k)
+            (λ (k : Contains xs leg). inr (All-contains (λ l. Contains ys l) (legs_of leg.feature ys) leg (among leg.feature ys) (subst (λ ls. Contains ls leg) (same leg.feature) (of_own leg xs k))))
+            (p.leads leg h);
         top = p.top;
-        tracks = λ f was h. subst (λ l. g.tells b (OfFeature f None) (was ++ l)) (same f) (p.tracks f was h);
+        tracks = λ f period was late h. subst (λ l. g.tells b (OfFeature f period) (was ++ l)) (answer_alike f period xs ys (same f)) (p.tracks f period was (subst (NoneBefore period) (sym (same f)) late) h);
         rests = λ f period e. p.rests f period (lasts f ∙ e);
         counted = λ few. p.counted (omega (arith, few, many)) ∙ ap (λ n. g.counted a + n) many;
+        room = λ fa. let all = p.room fa in (all.0, subst (λ n. TakesRoom (g.found_by a) (g.found_by b) n) many all.1);
         works = p.works;
         plan = p.plan;
         last = λ f leg e. p.last f leg (lasts f ∙ e);
@@ -210,6 +278,9 @@ module _ {I : Type 0} (g : Ghosts I) where
         place_legs = λ f over. p.place_legs f over ∙ ap (λ n. placed_legs (g.found_by a) f + n) (sym (length-filter (is_of f) xs) ∙ ap length (same f) ∙ length-filter (is_of f) ys);
       }
     where
+      among : (f : ℕ) (zs : List LegView) → All (λ l. Contains zs l) (legs_of f zs)
+      among f zs = All-filter (is_of f) (λ l. Contains zs l) zs (All-contains_itself zs)
+
       of_own : (leg : LegView) (zs : List LegView) → Contains zs leg → Contains (legs_of leg.feature zs) leg
       of_own leg [] h = absurd (let l = h.1 in omega (arith, l))
       of_own leg (z ∷ zs) h =
@@ -255,9 +326,12 @@ list_takes old new legs is works =
       rests = λ f period e. record { told = λ l h. h ∙ sym (answer_kept f period old.legs legs (last_absent f legs e)) ∙ ap (answer_in (OfFeature f period)) (sym is); denied = λ n h. h };
       comes = λ meets prune above page h. h;
       bare = λ page h. h;
+      astray = λ above page h. h;
+      leads = λ leg h. Contains-append_cases old.legs legs leg (subst (λ ls. Contains ls leg) is h);
       top = λ some h. absurd h;
-      tracks = λ f was h. ap (λ l. l ++ legs_of f legs) h ∙ sym (filter-append (is_of f) old.legs legs) ∙ ap (legs_of f) (sym is);
+      tracks = λ f period was late h. ap (λ l. l ++ answer_in (OfFeature f period) legs) h ∙ sym (answer_then f period old.legs legs) ∙ ap (answer_in (OfFeature f period)) (sym is);
       counted = λ few. ap length is ∙ length-append old.legs legs;
+      room = λ fa. absurd fa;
       works = works;
       plan = refl;
       last = λ f leg e.

@@ -1,5 +1,6 @@
 -- What a call of an index leaves, and why it is refused.
-use Rattle.std.specs.Prelude.{Bool, ℕ, ℤ, ◌≡◌, ◌≢◌, ◌≤◌, ◌<◌, ◌+◌, ◌^◌, ◌++◌, ◌∷◌, [], drop, true, false, length, count_by, slice_get, All, List, Option, Some, None, Result, Err, IfErr, IsErrOf, OnErr, OnOk}
+use Rattle.std.specs.Prelude.{Bool, ℕ, ℤ, ◌⊎◌, ◌≡◌, ◌≢◌, ◌≤◌, ◌≤ℤ◌, ◌<◌, ◌+◌, ◌-◌, ◌*◌, ◌^◌, ◌++◌, ◌∷◌, [], drop, true, false, length, count_by, slice_get, All, List, Option, Some, None, Result, Err, IfErr, IsErrOf, OnErr, OnOk}
+use Rattle.std.specs.List.{Contains}
 use Rattle.legs.specs.Boxes.{BoxView, box_of}
 use Rattle.legs.specs.Hull.{IsPruning, leg_boxes}
 use Rattle.legs.specs.Legs.{LegView}
@@ -9,7 +10,7 @@ use Rattle.legs.specs.Costs.{ShapeView, RisesBy, RisesAtMost, add_bound, add_all
 use Rattle.legs.specs.declared.index.IndexFault.{IndexFault}
 use Rattle.legs.specs.declared.index.IndexFault.TheVariants.{Memory, Store, Damaged, StoreFull, Spent}
 use Rattle.legs.specs.declared.listed.Listed.{Ghosts}
-use Rattle.legs.specs.Questions.{Question, OfFeature}
+use Rattle.legs.specs.Questions.{Question, OfFeature, answer_in}
 use Rattle.legs.specs.Sieves.{IsSieved}
 use Rattle.legs.specs.declared.sieve.Sieve.{Sieve}
 use Rattle.timebase.specs.Period.{PeriodView}
@@ -21,14 +22,28 @@ pub record IsLater {I : Type 0} (g : Ghosts I) (old new : I) : Type 0 where
   pub asked : g.asked old ≤ g.asked new
   pub faithful : g.is_faithful old → g.is_faithful new
 
+-- where the ways down its pages lead, whoever wrote them: they find each leg that they found, and come to each page to which
+-- they came; a page that is none of a tree stays so; each feature ends with the leg with which it ended; none is astray that
+-- was not, and no leg is led to that was not
+pub record LeadsStill {I : Type 0} (g : Ghosts I) (old new : I) : Type 0 where
+  pub finds : (meets : BoxView → Bool) (leg : LegView) → g.finds old meets leg
+      → g.finds new meets leg
+  pub comes : (meets : BoxView → Bool) (above page : ℕ) → g.comes_to old meets above page
+      → g.comes_to new meets above page
+  pub bare : (page : ℕ) → g.is_bare old page → g.is_bare new page
+  pub ends : (leg : LegView) → g.ends_with old leg → g.ends_with new leg
+  pub astray : (above page : ℕ) → g.is_astray new above page → g.is_astray old above page
+  pub leads : (leg : LegView) → g.leads_to new leg → g.leads_to old leg
+
 -- what a question leaves, answered or not: the list, and what its pages say, sound where it was, spent where it was, and
--- the numbers by which it finds its legs; no page is marked as changed, and where none was, none is written
+-- the numbers by which it finds its legs; where no page was changed, none is, and none is written
 pub record Leaves {I : Type 0} (g : Ghosts I) (old new : I) : Type 0 where
   pub content : g.content new ≡ g.content old
   pub told : (question : Question) (legs : List LegView) → g.tells new question legs
       → g.tells old question legs
   pub denied : (question : Question) (page : ℕ) → g.denies new question page
       → g.denies old question page
+  pub ways : LeadsStill g old new
   pub counted : g.counted new ≡ g.counted old
   pub sound : g.is_sound old → g.is_sound new
   pub spent : g.is_spent new ≡ g.is_spent old
@@ -102,6 +117,20 @@ pub record SaysStill {I : Type 0} (g : Ghosts I) (old new : I) (question : Quest
   pub told : (legs : List LegView) → g.tells old question legs → g.tells new question legs
   pub denied : (page : ℕ) → g.denies old question page → g.denies new question page
 
+-- none of the legs starts before the period
+abbrev pub NoneBefore : Option PeriodView → List LegView → Type 0
+NoneBefore None legs = Unit {0}
+NoneBefore (Some period) legs = All (λ leg. period.start ≤ℤ leg.t0) legs
+
+-- there are no fewer leaves and levels, and at most a leaf more for each of so many legs; for each leaf more there is at most a
+-- level more, and at most as many pages more as there are levels
+pub record TakesRoom (old new : Finding) (legs : ℕ) : Type 0 where
+  pub leaves : old.leaves ≤ new.leaves
+  pub levels : old.levels ≤ new.levels
+  pub few : new.leaves ≤ old.leaves + legs
+  pub low : new.levels ≤ old.levels + (new.leaves - old.leaves)
+  pub pages : new.pages ≤ old.pages + (new.leaves - old.leaves) * new.levels
+
 -- what legs make of an index, sound or not: by whatever test of boxes that a greater box does not fail it finds each leg
 -- that it found, and each of these whose box meets, and it counts them. Each feature that they have ends with the last
 -- one of them; each other one ends with the leg with which it ended, and is found where it was
@@ -110,21 +139,28 @@ pub record HasAdded {I : Type 0} (g : Ghosts I) (old new : I) (legs : List LegVi
       → g.finds old meets leg → g.finds new meets leg
   pub put : (meets : BoxView → Bool) → IsPruning leg_boxes meets
       → All (λ leg. meets (box_of leg) ≡ true → g.finds new meets leg) legs
-  -- the way down comes to each page below the root to which it came, as far above the leaves; a page without a payload
-  -- has none then, and where it is the root, it stays the root
+  -- none is astray that was not, and no leg is led to but those that were and these
+  pub astray : (above page : ℕ) → g.is_astray new above page → g.is_astray old above page
+  pub leads : (leg : LegView) → g.leads_to new leg → g.leads_to old leg ⊎ Contains legs leg
+  -- the way down comes to each page below the root to which it came, as far above the leaves; a page that is none of a
+  -- tree stays so, and where it is the root, it stays the root
   pub comes : (meets : BoxView → Bool) → IsPruning leg_boxes meets → (above page : ℕ)
       → g.comes_to old meets above page → g.comes_to new meets above page
   pub bare : (page : ℕ) → g.is_bare old page → g.is_bare new page
   pub top : 0 < (g.found_by old).levels → g.is_bare old (g.found_by old).root
       → ((g.found_by new).root ≡ (g.found_by old).root)
       × ((g.found_by new).levels ≡ (g.found_by old).levels)
-  -- what its pages say of a feature they say still, and behind it those that it has of these
-  pub tracks : (feature : ℕ) (was : List LegView) → g.tells old (OfFeature feature None) was
-      → g.tells new (OfFeature feature None) (was ++ legs_of feature legs)
+  -- what its pages say of a feature they say still, and behind it those that it has of these, where none of them starts
+  -- before the period that is asked for
+  pub tracks : (feature : ℕ) (period : Option PeriodView) (was : List LegView)
+      → NoneBefore period (legs_of feature legs) → g.tells old (OfFeature feature period) was
+      → g.tells new (OfFeature feature period) (was ++ answer_in (OfFeature feature period) legs)
   -- and of one that has none of these what they said, in whatever period
   pub rests : (feature : ℕ) (period : Option PeriodView) → last_leg_of feature legs ≡ None
       → SaysStill g old new (OfFeature feature period)
   pub counted : g.counted old + length legs < 2 ^ 64 → g.counted new ≡ g.counted old + length legs
+  pub room : g.is_faithful old
+      → g.is_faithful new × TakesRoom (g.found_by old) (g.found_by new) (length legs)
   pub works : g.is_spent new ≡ false
   pub plan : g.plan new ≡ g.plan old
   pub last : (feature : ℕ) (leg : LegView) → last_leg_of feature legs ≡ Some leg
@@ -164,19 +200,15 @@ pub record LegRefusals {I A : Type 0} (g : Ghosts I) (old new : I) (legs : List 
   pub store : IsErrOf result Store → HasRisen (g.faults old) (g.faults new)
   pub full : IsErrOf result StoreFull → g.is_store_full new
 
--- what the start of a file's legs leaves: the list, what its pages say, and all that is found by, sound where it was, spent
--- where it was. Once it is answered, an index over a faithful store is marked; where it is not, and it was clean, no page as
--- written has changed but page 0, and that one only where the store failed
+-- what the start of a file's legs leaves: the list, what its pages say, where their ways lead, and all that is found by,
+-- sound where it was, spent where it was. Once it is answered, an index over a faithful store is marked, and synced where it
+-- was not; where it is refused, and the index was clean, no page as written has changed but page 0, and that one only where
+-- the store failed. It names no page as damaged but page 0, and says of none but a spent index that it is spent
 pub record Starts {I A : Type 0} (g : Ghosts I) (old new : I)
     (result : Result A IndexFault) : Type 0 where
   pub content : g.content new ≡ g.content old
   pub says : (question : Question) → SaysStill g old new question
-  pub finds : (meets : BoxView → Bool) (leg : LegView) → g.finds old meets leg
-      → g.finds new meets leg
-  pub comes : (meets : BoxView → Bool) (above page : ℕ) → g.comes_to old meets above page
-      → g.comes_to new meets above page
-  pub bare : (page : ℕ) → g.is_bare old page → g.is_bare new page
-  pub ends : (leg : LegView) → g.ends_with old leg → g.ends_with new leg
+  pub ways : LeadsStill g old new
   pub counted : g.counted new ≡ g.counted old
   pub found_by : g.found_by new ≡ g.found_by old
   pub sound : g.is_sound old → g.is_sound new
@@ -184,6 +216,9 @@ pub record Starts {I A : Type 0} (g : Ghosts I) (old new : I)
   pub later : IsLater g old new
   pub marks : OnOk result (g.is_faithful old → g.is_marked new)
   pub marked : g.is_marked old → g.is_marked new
+  pub synced : OnOk result (g.is_faithful old → (g.is_marked old → ⊥) → g.is_synced new)
+  pub named : (page : ℕ) → IsErrOf result (Damaged page) → page ≡ 0
+  pub works : IsErrOf result Spent → g.is_spent old ≡ true
   pub others : OnErr result
       (g.is_faithful old → g.is_clean old → drop 1 (g.written new) ≡ drop 1 (g.written old))
   pub first : OnErr result

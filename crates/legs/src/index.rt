@@ -35,7 +35,7 @@ pub enum IndexFault {
 /// A question is answered by what the pages say, whoever wrote them, and by nothing else: where a page that is met is
 /// not what it is to be there, it is `Damaged`, with that page.
 pub trait LegIndex: Listed {
-    ghost use Rattle.std.specs.Prelude.{ℤ, ◌≤ℤ◌, ◌≡◌, ◌↔◌, ◌∷◌, [], true, false, length, All, OnOk, IfOk, MatchResult};
+    ghost use Rattle.std.specs.Prelude.{ℤ, None, ◌≤ℤ◌, ◌≡◌, ◌≢◌, ◌↔◌, ◌∷◌, [], true, false, length, All, OnOk, IfOk, MatchResult};
     ghost use Rattle.std.specs.List.{Contains};
     ghost use Rattle.legs.specs.Legs.{IsLeg, LegView};
     ghost use Rattle.legs.specs.Index.{legs_in_box, legs_of, live_legs_of};
@@ -129,6 +129,9 @@ pub trait LegIndex: Listed {
 
     /// A sound index is not spent.
     ghost sound_lasts: { (index : Self) → Self.is_sound index → Self.is_spent index ≡ false };
+
+    /// A sound index over pages has a faithful store.
+    ghost faithful: { (index : Self) → Self.is_sound index → Self.plan index ≢ None → Self.is_faithful index };
 
     /// By the test that holds of all boxes a sound index finds the legs of its list.
     ghost held: { (index : Self) (leg : LegView) → Self.is_sound index

@@ -159,6 +159,10 @@ impl Listed for ListIndex {
 
     ghost is_bare = { λ index page. ⊥ };
 
+    ghost is_astray = { λ index above page. ⊥ };
+
+    ghost leads_to = { λ index leg. Contains index.legs leg };
+
     ghost ends_with = { λ index leg. last_leg_of leg.feature index.legs ≡ Some leg };
 
     ghost counted = { λ index. length index.legs };
@@ -183,6 +187,8 @@ impl Listed for ListIndex {
 
     ghost is_marked = { λ index. ⊥ };
 
+    ghost is_synced = { λ index. Unit {0} };
+
     ghost written = { λ index. [] };
 }
 
@@ -192,6 +198,8 @@ impl LegIndex for ListIndex {
     ghost use Rattle.legs.specs.Legs.{IsLeg};
 
     ghost sound_lasts = { λ index sound. sound.0 };
+
+    ghost faithful = { λ index sound over. over refl };
 
     ghost held = { λ index leg sound. ((λ found. found.0), (λ there. (there, refl))) };
 

@@ -33,8 +33,18 @@ pub trait Listed {
     /// nothing is known, and it says anything.
     ghost comes_to: { Self → (BoxView → Bool) → ℕ → ℕ → Type 0 };
 
-    /// Over a faithful store the page is there behind page 0, and has no payload; never of an index that keeps a list.
+    /// Over a faithful store the page is there behind page 0, and is no page of a tree: it has no payload, or one that is no
+    /// leaf and no inner page; never of an index that keeps a list.
     ghost is_bare: { Self → ℕ → Type 0 };
+
+    /// The way down its tree through pages that are each of their level leads to the page, so many levels above the leaves,
+    /// and the page is not of that level, whoever wrote the pages; never of an index that keeps a list. Of an index over a
+    /// store that is not faithful nothing is known, and it says anything.
+    ghost is_astray: { Self → ℕ → ℕ → Type 0 };
+
+    /// That way leads to a leaf that has the leg; or its list has the leg. Of an index over a store that is not faithful
+    /// nothing is known, and it says anything.
+    ghost leads_to: { Self → LegView → Type 0 };
 
     /// The last leaf of the leg's feature, whoever wrote it, has the leg at its end; of an index that keeps a list,
     /// the leg is the last one of its feature. Of an index over a store that is not faithful nothing is known, and it
@@ -74,6 +84,9 @@ pub trait Listed {
 
     /// Page 0 as written is an unfinished header, and not changed; never of an index that keeps a list.
     ghost is_marked: { Self → Type 0 };
+
+    /// Nothing of its store is unsynced; of an index that keeps a list, always.
+    ghost is_synced: { Self → Type 0 };
 
     /// The pages of its store as written.
     ghost written: { Self → List (List ℕ) };

@@ -1,5 +1,5 @@
 //! A rectangle and a period on the command line.
-use crate::words::Bounds;
+use arguments::Bounds;
 use querylang::{Command, LineCode, LineFault, parse_line};
 use sessions::Fault;
 use std::alloc::{AllocError, Global};

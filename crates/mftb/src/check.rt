@@ -1,7 +1,7 @@
 //! `mftb check`: whether the pages of a file hold one database.
 use crate::names::Names;
 use crate::opening::{open_asked, sweep};
-use crate::words::Check;
+use arguments::Check;
 use sessions::{Fault, check_and_close, send};
 use std::fs::File;
 use std::hash::RandomState;

@@ -1,5 +1,5 @@
 //! The part of a file that has the features of one of several parts.
-use crate::words::Part;
+use arguments::Part;
 use sessions::{Fault, MOST_BYTES, read_named, send_part};
 use std::io::Write;
 use std::rt;

@@ -1,7 +1,7 @@
 //! The files of all parts of a file, in a folder of the system.
 ghost use Rattle.std.specs.Prelude.{None};
 
-use crate::words::Parts;
+use arguments::Parts;
 use sessions::{Fault, MOST_BYTES, PartFolder, put_parts, read_named};
 use std::fs::File;
 use std::io::Write;

@@ -1,10 +1,10 @@
 //! `mftb info`: what a store holds.
 use crate::asked::{database_to_ask, store_to_ask};
-use crate::info_text::{push_json, push_lines};
 use crate::root::{Header, read_extent, read_header};
-use crate::words::Info;
-use legs::{BookHead, Box3, Limits};
+use arguments::Info;
+use legs::Box3;
 use pages::PageStore;
+use reports::{StoreReport, push_json, push_lines};
 use sessions::{CACHE_PAGES, Fault, send_all};
 use std::alloc::Global;
 use std::fs::File;
@@ -12,22 +12,6 @@ use std::io::Write;
 use std::random::RandomSource;
 use std::rt::Files;
 use trajdb::{Db, RunFault};
-
-/// What is said of a store that is finished.
-#[derive(Drop)]
-pub(crate) struct Said<'a> {
-    pub(crate) version: u32,
-    /// How many pages it has.
-    pub(crate) pages: u32,
-    /// What the first file said of all; `None` where none was accepted.
-    pub(crate) head: Option<&'a BookHead>,
-    pub(crate) legs: u64,
-    pub(crate) features: u64,
-    /// How much the database may hold.
-    pub(crate) limits: Limits,
-    /// The box over all legs; `None` without a leg.
-    pub(crate) extent: Option<Box3>,
-}
 
 /// What page 0 of a store says, and the box over all its legs. Of the tree the root alone is read.
 fn look<'a, S: PageStore>(store: &mut S) -> Result<(Header, Option<Box3>), Fault<'a>> {
@@ -41,8 +25,8 @@ fn said_of<S: PageStore>(
     database: &Db<S>,
     pages: u32,
     (header, extent): (Header, Option<Box3>),
-) -> Said<'_> {
-    Said {
+) -> StoreReport<'_> {
+    StoreReport {
         version: header.front.version,
         pages,
         head: database.head(),
@@ -54,7 +38,7 @@ fn said_of<S: PageStore>(
 }
 
 /// The text of what is said.
-fn text_of(alloc: Global, said: &Said<'_>, is_json: bool) -> Result<Vec<u8>, RunFault> {
+fn text_of(alloc: Global, said: &StoreReport<'_>, is_json: bool) -> Result<Vec<u8>, RunFault> {
     let mut text = Vec::new(alloc);
     if is_json {
         push_json(&mut text, said)?;

@@ -1,7 +1,7 @@
 //! `mftb migrate`: a store of version 1 is brought over into a new one.
 use crate::names::Names;
 use crate::opening::{is_absent, open_asked, open_in_place};
-use crate::words::Migrate;
+use arguments::Migrate;
 use pages::{FileStore, PageStore};
 use sessions::{Fault, migrate_and_close, send};
 use std::fs::File;

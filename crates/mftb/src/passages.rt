@@ -1,12 +1,12 @@
 //! `mftb moments`: when legs are inside a rectangle in a period.
 use crate::asked::{database_to_ask, store_to_ask};
 use crate::bounds::read_bounds;
-use crate::moments_text::{Frame, push_dwells, push_stays, push_visits};
-use crate::words::{Moments, Rows};
+use arguments::{Moments, Rows};
 use mfcsv::Dimension;
 use moments::{Stay, dwells_of, stays, visits_of};
 use pages::PageStore;
 use querylang::Command;
+use reports::{Frame, push_dwells, push_stays, push_visits};
 use sessions::{Fault, send_all};
 use std::alloc::Global;
 use std::fs::File;

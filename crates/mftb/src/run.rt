@@ -2,19 +2,16 @@
 ghost use Rattle.std.specs.Prelude.{◌≡◌, ◌<◌, IsTrue};
 ghost use Rattle.mftb.specs.declared.outcome.Outcome.{Outcome};
 
-use crate::followed::Followed;
 use crate::locks::hold_name;
 use crate::names::Names;
-use crate::noted::Noted;
-use crate::notes::Notes;
 use crate::opening::{is_absent, is_special, open_asked, open_in_place, sweep};
 use crate::outcome::Outcome;
-use crate::progress::{Progress, Told};
 use crate::reach::{Reach, reach_of};
 use crate::reading::{has_load, read_files};
 use crate::system_folder::SystemFolder;
 use crate::telling::{Given, tell, tell_made};
-use crate::words::{Run, Telling};
+use arguments::{Run, Telling};
+use monitor::{Followed, Noted, Notes, Progress, Told};
 use pages::PageStore;
 use sessions::{Fault, MOST_BYTES, Opening, answer, database, read_named, run_on_copy};
 use std::fs::File;

@@ -11,7 +11,7 @@ use crate::outcome::Outcome;
 use crate::passages::print_moments;
 use crate::run::run;
 use crate::telling::Before;
-use crate::words::{Task, read_words};
+use arguments::{Task, read_words};
 use clap::error::ErrorKind;
 use sessions::Fault;
 use std::fs::File;

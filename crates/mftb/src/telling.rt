@@ -1,12 +1,12 @@
 //! What is said of a run, in words, on standard error.
 use crate::bounds::line_of;
 use crate::catalogued::catalogue_of;
-use crate::notes::{Note, Notes, Place, What};
 use crate::reach::{Reach, reach_of};
 use crate::reading::cause_of_reading;
-use crate::words::{Bounds, Task, Telling};
+use arguments::{Bounds, Task, Telling};
 use catalogue::Catalogue;
 use legs::Box3;
+use monitor::{Note, Notes, Place, What};
 use querylang::{Command, LineCode, parse_line};
 use reasons::{Code, Known, Refusal, Shown, file_words, line_words, reach_words};
 use sessions::{Cause, Fault};

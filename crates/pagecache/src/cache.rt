@@ -1,5 +1,5 @@
 //! The cache as its callers see it.
-ghost use Rattle.std.specs.Prelude.{◌≡◌, ◌<◌, ◌≤◌, false, Some, None, IsTrue, IfOk, IfErr, OnOk, OnErr, IsErrOf, length};
+ghost use Rattle.std.specs.Prelude.{ℕ, ◌≡◌, ◌<◌, ◌≤◌, false, Some, None, IsTrue, IfOk, IfErr, OnOk, OnErr, IsErrOf, length};
 ghost use Rattle.std.specs.Borrow.{sem};
 ghost use Rattle.pagecache.specs.Cache.{fresh, is_changed, payload_of, Adds, KeepsPayloads, SameLength, AsksOnce, IsNotAdded, IsSettled, IsStopped, IsWritten, UnsyncsNone};
 ghost use Rattle.pages.specs.Store.{IsLawful, IsSynced};
@@ -72,13 +72,13 @@ impl<S: PageStore> PageCache<S> {
         self.slots.page_mut(number)
     }
 
-    /// Adds a page with a payload to the store, and returns its number, the count so far, which had
-    /// no payload. The page is sealed and written at once, with that payload.
+    /// Adds a page with a payload to the store, and returns its number, the count so far. No number from
+    /// there on had a payload. The page is sealed and written at once, with that payload.
     pub fn add(&mut self, payload: Payload) -> Result<u32, CacheFault>
         ensures adds { OnOk result (Adds payload self.old self.new) }
         ensures clean { OnOk result (is_changed self.new self.old.count ≡ false) }
         ensures number { IfOk result (λ number. number ≡ self.old.count) }
-        ensures none_before { payload_of self.old self.old.count ≡ None }
+        ensures none_before { (n : ℕ) → self.old.count ≤ n → payload_of self.old n ≡ None }
         ensures length { OnOk result (self.old.count ≡ self.old.store.count
             → self.new.count ≡ self.new.store.count) }
         ensures refused { OnErr result (KeepsPayloads self.old self.new) }
@@ -91,13 +91,13 @@ impl<S: PageStore> PageCache<S> {
     }
 
     /// Adds a page with a payload that is likely to change once more, and returns its number, the
-    /// count so far, which had no payload. It is sealed and written with its payload when it leaves
+    /// count so far. No number from there on had a payload. It is sealed and written with its payload when it leaves
     /// memory, or by `flush`; until then the store has zero bytes in its place, which are no sealed
     /// page. Where there is no memory to hold it, it is refused.
     pub fn add_changed(&mut self, payload: Payload) -> Result<u32, CacheFault>
         ensures adds { OnOk result (Adds payload self.old self.new) }
         ensures number { IfOk result (λ number. number ≡ self.old.count) }
-        ensures none_before { payload_of self.old self.old.count ≡ None }
+        ensures none_before { (n : ℕ) → self.old.count ≤ n → payload_of self.old n ≡ None }
         ensures length { OnOk result (self.old.count ≡ self.old.store.count
             → self.new.count ≡ self.new.store.count) }
         ensures refused { OnErr result (KeepsPayloads self.old self.new) }
@@ -109,13 +109,13 @@ impl<S: PageStore> PageCache<S> {
         self.slots.add_changed(payload)
     }
 
-    /// Adds a page with a zero payload to the store, and returns its number, the count so far, which
-    /// had no payload. The page is sealed and written at once, with zeros.
+    /// Adds a page with a zero payload to the store, and returns its number, the count so far. No
+    /// number from there on had a payload. The page is sealed and written at once, with zeros.
     pub fn add_page(&mut self, kind: Kind) -> Result<u32, CacheFault>
         ensures adds { OnOk result (Adds (zero_payload kind) self.old self.new) }
         ensures clean { OnOk result (is_changed self.new self.old.count ≡ false) }
         ensures number { IfOk result (λ number. number ≡ self.old.count) }
-        ensures none_before { payload_of self.old self.old.count ≡ None }
+        ensures none_before { (n : ℕ) → self.old.count ≤ n → payload_of self.old n ≡ None }
         ensures length { OnOk result (self.old.count ≡ self.old.store.count
             → self.new.count ≡ self.new.store.count) }
         ensures refused { OnErr result (KeepsPayloads self.old self.new) }

@@ -134,6 +134,7 @@ empty_is count fields c places head limits two tracks rows none = record {
     few_features = omega arith;
     few_legs = let l = ap (λ (t : TracksView). t.legs) tracks in omega (arith, l);
     few_rows = let l = ap length rows in omega (arith, l);
+    some_row = λ some. absurd (let l = ap (λ (t : TracksView). t.legs) tracks in omega (arith, l, some));
     none = λ e. refl;
     base = λ h e. absurd (none_some (sym head ∙ e));
   };
@@ -185,6 +186,17 @@ module _ (count : ℕ) (fields : Fields) (contents : Contents) (c : CatalogueVie
       let limit = ap (λ l. l.legs) of.limits in
       omega (arith, clamps, rows, legs, sum, few, least, limit, most)
 
+-- where there is a leg there is a row
+pub of_some_row : (count : ℕ) (fields : Fields) (contents : Contents) (c : CatalogueView) (places : List Place) → IsOf count fields (Some contents) c places → (tracks : TracksView) → tracks ≡ capped (tracks_of contents.lists.features 0) → 0 < tracks.legs → 0 < length contents.lists.rows
+of_some_row count fields contents c places of tracks is some =
+    let same = (of_contents count fields contents c places of).2 in
+    let fs = ap (λ (k : Contents). k.lists.features) same in
+    let rows = ap (λ (k : Contents). length k.lists.rows) same in
+    let legs = ap (λ (t : TracksView). t.legs) is in
+    let sum : c.tracks.legs ≡ sum_by (λ (f : Feature). f.kept.place.legs) contents.lists.features = ap (λ (t : TracksView). t.legs) of.lawful.tracks_are ∙ ap (sum_by (λ (f : Feature). f.kept.place.legs)) fs in
+    let row = of.lawful.some_row (omega (arith, clamps, legs, sum, some)) in
+    omega (arith, rows, row)
+
 -- a lawful catalogue has no more legs than the limit, and no more rows than legs, and so have the contents that it is of
 pub contents_few : (count : ℕ) (fields : Fields) (contents : Option Contents) (c : CatalogueView) (places : List Place) → IsOf count fields contents c places → AreFew fields.limits.legs contents
 contents_few count fields None c places of = tt
@@ -201,10 +213,10 @@ contents_few count fields (Some contents) c places of =
 -- a lawful catalogue of contents
 pub whole_is : (count : ℕ) (fields : Fields) (contents : Contents) (c : CatalogueView) (places : List Place) (known : Known) (h : BookHead)
     → IsKnown count contents.lists.features known → IsMoment h.base → head_of h ≡ contents.head → dimension_of (Some h) ≡ fields.dimension
-    → length known.tracks.names ≤ fields.limits.features → known.tracks.legs ≤ fields.limits.legs → fields.limits.legs < 2 ^ 64 - 1 → length contents.lists.rows ≤ known.tracks.legs
+    → length known.tracks.names ≤ fields.limits.features → known.tracks.legs ≤ fields.limits.legs → fields.limits.legs < 2 ^ 64 - 1 → length contents.lists.rows ≤ known.tracks.legs → (0 < known.tracks.legs → 0 < length contents.lists.rows)
     → c.head ≡ Some h → c.limits ≡ fields.limits → c.tracks ≡ record known.tracks { rows = length contents.lists.rows } → c.rows ≡ contents.lists.rows → places ≡ known.places.items
     → IsOf count fields (Some contents) c places
-whole_is count fields contents c places known h is base of_h dimension few_names few_legs most few_rows head limits tracks rows place =
+whole_is count fields contents c places known h is base of_h dimension few_names few_legs most few_rows some_row head limits tracks rows place =
     let fs = contents.lists.features in
     let legs : known.tracks.legs ≡ sum_by (λ (f : Feature). f.kept.place.legs) fs = let l = ap (λ (t : TracksView). t.legs) is.tracks in omega (arith, clamps, l, few_legs, most) in
     let uncapped : capped (tracks_of fs 0) ≡ tracks_of fs 0 = let l = sym (ap (λ (t : TracksView). t.legs) is.tracks) ∙ legs in (λ i. record (tracks_of fs 0) { legs = l i }) in
@@ -225,6 +237,7 @@ whole_is count fields contents c places known h is base of_h dimension few_names
         few_features = let n = ap (λ (t : TracksView). length t.names) is.tracks ∙ length-map fs (λ (f : Feature). f.name) in let f = ap (λ l. l.features) limits in omega (arith, n, f, few_names);
         few_legs = let l = ap (λ (t : TracksView). t.legs) tracks in let f = ap (λ l. l.legs) limits in omega (arith, l, f, few_legs);
         few_rows = let l = ap (λ (t : TracksView). t.legs) tracks in let r = ap length rows in omega (arith, l, r, few_rows);
+        some_row = λ some. let l = ap (λ (t : TracksView). t.legs) tracks in let r = ap length rows in let x = some_row (omega (arith, l, some)) in omega (arith, r, x);
         none = λ e. absurd (none_some (sym e ∙ head));
         base = λ k e. subst (λ (b : BookHead). IsMoment b.base) (some_same (sym head ∙ e)) base;
       };

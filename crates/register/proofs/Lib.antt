@@ -1,4 +1,5 @@
 pub mod BuildLemmas
+pub mod BookLemmas
 pub mod ReaderLemmas
 pub mod ValueLemmas
 pub mod PrefixLemmas

@@ -101,10 +101,11 @@ pub record IsWithin (count : ℕ) (tree : TbTree) : Type 0 where
   pub leaves : tree.leaves ≤ count
   pub levels : tree.levels ≤ 32
 
--- a feature among so many pages
+-- a feature among so many pages, which has a leg
 pub record IsLawfulFeature (count : ℕ) (feature : Feature) : Type 0 where
   pub name : IsName feature.name
   pub end : IsMoment feature.kept.end
+  pub some : 0 < feature.kept.place.legs
   pub first : feature.kept.place.first < count
   pub last : feature.kept.place.last < count
 
@@ -117,8 +118,8 @@ tracks_of features rows = record {
   rows = rows;
 }
 
--- a lawful catalogue of so many pages: its features have names and places of their own; there are
--- no more features and legs than the limits, and no more rows than legs; where no file was accepted
+-- a lawful catalogue of so many pages: its features have names and places of their own, and legs; there are no more
+-- features and legs than the limits, no more rows than legs, and a row where there is a leg; where no file was accepted
 -- there is no feature
 pub record IsLawful (count : ℕ) (c : CatalogueView) (places : List Place) : Type 0 where
   pub features : List Feature
@@ -129,6 +130,7 @@ pub record IsLawful (count : ℕ) (c : CatalogueView) (places : List Place) : Ty
   pub few_features : length features ≤ c.limits.features
   pub few_legs : c.tracks.legs ≤ c.limits.legs
   pub few_rows : length c.rows ≤ c.tracks.legs
+  pub some_row : 0 < c.tracks.legs → 0 < length c.rows
   pub none : c.head ≡ None → features ≡ []
   pub base : (head : BookHead) → c.head ≡ Some head → IsMoment head.base
 

@@ -38,11 +38,12 @@ fn is_name(name: &str) -> bool
     1 <= len && len <= 255
 }
 
-/// Whether a place is one among so many pages.
+/// Whether a place is one among so many pages, and has a leg.
 fn is_place(count: u32, place: &Place) -> bool
-    ensures { IsTrue result ↔ ((place.now.first < count) × (place.now.last < count)) }
+    ensures { IsTrue result ↔ ((place.now.first < count) × (place.now.last < count)
+        × (0 < place.now.legs)) }
 {
-    place.first < count && place.last < count
+    place.first < count && place.last < count && place.legs > 0
 }
 
 /// The track of a feature that is lawful among so many pages.
@@ -148,6 +149,13 @@ fn is_few(tracks: &Tracks, limits: &Limits) -> bool
     tracks.feature_count() <= u64::from(limits.features()) && tracks.leg_count() <= limits.legs()
 }
 
+/// Whether there are legs, and of so many rows none.
+fn lacks_rows(tracks: &Tracks, rows: usize) -> bool
+    ensures { IsTrue result ↔ ((rows ≡ 0) × (0 < tracks.now.legs)) }
+{
+    rows == 0 && tracks.leg_count() > 0
+}
+
 /// The catalogue of a database into which no file was accepted.
 fn empty_catalogue(
     alloc: Global,
@@ -192,6 +200,9 @@ fn whole_catalogue(
     };
     let Known { mut tracks, places } = known_of(alloc, keys, count, features)?;
     if !is_few(&tracks, &fields.limits) {
+        return Err(CatalogueFault::Malformed);
+    }
+    if lacks_rows(&tracks, rows.len()) {
         return Err(CatalogueFault::Malformed);
     }
     if !tracks.set_rows(rows.len() as u64) {

@@ -7,7 +7,10 @@ ghost use Rattle.tbtree.specs.declared.tree.TbTree.{TbTree};
 ghost use Rattle.register.specs.Chain.{pages_for};
 ghost use Rattle.register.specs.Earlier.{AreEarlier};
 ghost use Rattle.header.specs.Front.{with_state};
-ghost use Rattle.register.specs.Lasting.{IsKept, IsSame, Says};
+ghost use Rattle.legs.specs.Book.{Book};
+ghost use Rattle.legs.specs.Limits.{IsLimits};
+ghost use Rattle.legs.specs.Tracks.{StandsFor};
+ghost use Rattle.register.specs.Lasting.{IsKept, IsLawful, IsSame, Says};
 ghost use Rattle.register.specs.Saved.{CatalogueView};
 ghost use Rattle.register.specs.Saving.{contents_of};
 ghost use Rattle.register.specs.Text.{catalogue_text};
@@ -26,6 +29,11 @@ pub fn laws()
         → now 0 ≡ Some (with_state state header) → header.kind ≡ Header
         → (count : ℕ) (c : CatalogueView) (tree : TbTree) (places : List Place)
         → Says at count c tree places → Says now count c tree places }
+
+    // The tracks of a lawful catalogue stand for a book, with its head, names and rows.
+    ensures books { (count : ℕ) (c : CatalogueView) (places : List Place) → IsLawful count c places
+        → IsLimits c.limits → (book : Book) × StandsFor c.tracks book × (book.head ≡ c.head)
+        × (book.names ≡ c.tracks.names) × (book.rows ≡ c.rows) }
 
     // The pages of the text that they keep are those of an earlier one.
     ensures earlier { (at : ℕ → Option Payload) (count : ℕ) (c : CatalogueView) (tree : TbTree)

@@ -1,16 +1,16 @@
 -- What a run of the program sends, and what its store then holds.
 use Rattle.std.proofs.lemmas.Int.{clamps}
-use Rattle.std.proofs.Common.{arith, ℕ, ◌≡◌, ◌≤◌, ◌∙◌, ap, refl, sym, inl, inr, [], append-nil, length, true, false, Bool, IsTrue, List, Option, Some, Result, Ok, Err, subst}
+use Rattle.std.proofs.Common.{arith, ℕ, ◌≡◌, ◌≤◌, ◌⊎◌, ◌∙◌, ap, refl, sym, inl, inr, [], append-nil, length, true, false, Bool, IsTrue, List, Option, Some, Result, Ok, Err, subst}
 use Rattle.std.proofs.lemmas.List.{take_all}
 use Rattle.std.specs.Prelude.{IfErr, IfOk, IsErrOf, OnErr, OnOk}
 use Rattle.legs.specs.Book.{Book, empty_book}
 use Rattle.legs.specs.Costs.{ShapeView}
 use Rattle.legs.specs.Limits.{LimitsView}
-use Rattle.pages.specs.Store.{Store}
+use Rattle.pages.specs.Store.{Store, Faulted}
 use Rattle.boxsearch.specs.Index.{words}
-use Rattle.catalogue.specs.Holding.{HoldsBook, IsUnfinishedStore}
+use Rattle.catalogue.specs.Holding.{HoldsBook, HoldsButFirst, IsUnfinishedStore}
 use Rattle.catalogue.specs.Beginning.{IsLeftOver}
-use Rattle.trajdb.specs.Calls.{IsLoadFault, KeepsPages, LeavesBook}
+use Rattle.trajdb.specs.Calls.{IsAsked, IsLoadFault, KeepsPages, LeavesBook}
 use Rattle.trajdb.specs.Db.{DbView, HasPages, IsAllowed, IsSoundDb}
 use Rattle.trajdb.specs.Lasting.{HasBook, IsClosingFault, IsFaultless, IsIdle}
 use Rattle.trajdb.specs.Faults.{IsNotOutput}
@@ -21,7 +21,7 @@ use Rattle.trajdb.specs.declared.RunFault.{RunFault}
 use Rattle.trajdb.specs.declared.RunFault.TheVariants as run
 use Rattle.trajdb.specs.Checking.{Reports}
 use Rattle.trajdb.specs.declared.Report.{Report}
-use Rattle.sessions.specs.Answers.{Answers, Checks, IsNotOver, IsOverFault, SendsFront}
+use Rattle.sessions.specs.Answers.{Answers, Checks, IsCheckFault, IsNotOver, IsOverFault, SendsFront}
 use Rattle.sessions.specs.declared.fault.Fault.TheVariants.{Run, Open}
 
 pub the_same : (x y : ShapeView) → Some x ≡ Some y → x ≡ y
@@ -134,6 +134,25 @@ module _ (old new : DbView) (s : Store) (leaves : LeavesBook words old new) (res
       let h = subst (λ r. OnOk r (IsSoundDb new → HasPages new → IsIdle new → HoldsBook s new.index.tree.shape new.limits new.book)) e holds in
       still_holds (h (leaves.sound sound) (pages.pages sound.index.faithful has) (rests rest))
 
+-- a database that had not begun, and passed its check, is closed without a fault
+pub not_refused : (old new : DbView) (closed : Result (Unit {0}) RunFault) (e : RunFault) → closed ≡ Err e → LeavesBook words old new → new.failed ≡ false → (new.failed ≡ false → new.begun ≡ false → closed ≡ Ok tt) → old.begun ≡ false → ⊥
+not_refused old new closed e is leaves lives idle unbegun =
+    let done : closed ≡ Ok tt = idle lives (leaves.begun ∙ unbegun) in
+    cc
+
+-- why a check does not pass, by its store as the closing leaves it
+pub check_fault : (old new : DbView) (s : Store) (e : RunFault) → LeavesBook words old new → (new.failed ≡ false → new.begun ≡ false → s ≡ new.index.cache.store) → (new.failed ≡ true → s ≡ new.index.cache.store)
+    → IsAsked words old.index new.index e → (IsErrOf {T = Report} {E = RunFault} (Err e) run.Failed → (old.failed ≡ true) ⊎ (words.is_spent old.index ≡ true)) → old.begun ≡ false → IsCheckFault old s e
+check_fault old new s run.Memory leaves idle failed asked works unbegun = tt
+check_fault old new s run.Store leaves idle failed asked works unbegun = subst (λ k. Faulted old.index.cache.store k) (sym (is_left new.failed refl)) asked where
+  is_left : (b : Bool) → new.failed ≡ b → s ≡ new.index.cache.store
+  is_left false lives = idle lives (leaves.begun ∙ unbegun)
+  is_left true is = failed is
+check_fault old new s (run.Damaged page) leaves idle failed asked works unbegun = tt
+check_fault old new s run.StoreFull leaves idle failed asked works unbegun = asked
+check_fault old new s run.Failed leaves idle failed asked works unbegun = works refl
+check_fault old new s run.Output leaves idle failed asked works unbegun = asked
+
 -- a database that was made with a book and is closed leaves a store that holds it
 pub closed_book : (db : DbView) (s : Store) (ran : Result (Unit {0}) RunFault) → OnOk ran (IsSoundDb db → HasPages db → IsIdle db → HoldsBook s db.index.tree.shape db.limits db.book) → ran ≡ Ok tt
     → (shape : ShapeView) (limits : LimitsView) (book : Book) → HasBook shape limits book db → HasPages db → db.begun ≡ true → HoldsBook s shape limits book
@@ -143,6 +162,14 @@ closed_book db s ran holds is shape limits book has pages begun =
     subst (λ b. HoldsBook s shape limits b) has.book_is
     (subst (λ l. HoldsBook s shape l db.book) has.limits_are
     (subst (λ t. HoldsBook s t db.limits db.book) has.shape_is (closed has.sound pages idle)))
+
+-- and where the closing is refused, all pages but page 0 are those of such a store, unless it says that it is not finished
+pub closed_but_first : (db : DbView) (s : Store) (shape : ShapeView) (limits : LimitsView) (book : Book) → HasBook shape limits book db
+    → IsUnfinishedStore s ⊎ HoldsButFirst s db.index.tree.shape db.limits db.book → IsUnfinishedStore s ⊎ HoldsButFirst s shape limits book
+closed_but_first db s shape limits book has h =
+    subst (λ b. IsUnfinishedStore s ⊎ HoldsButFirst s shape limits b) has.book_is
+    (subst (λ l. IsUnfinishedStore s ⊎ HoldsButFirst s shape l db.book) has.limits_are
+    (subst (λ t. IsUnfinishedStore s ⊎ HoldsButFirst s t db.limits db.book) has.shape_is h))
 
 -- what is said of a fault
 pub err_of : {T E : Type 0} (P : E → Type 0) (r : Result T E) (e : E) → r ≡ Err e → IfErr r P → P e

@@ -1,7 +1,7 @@
 -- What a run on a copy makes of a store's name.
-use Rattle.std.proofs.Common.{ℕ, ◌≡◌, refl, sym, subst, inl, inr, [], ◌∷◌, true, false, Bool, IsTrue, List, Option, Some, None, Result, Ok, Err}
+use Rattle.std.proofs.Common.{ℕ, ◌≡◌, ◌⊎◌, ◌∙◌, refl, sym, subst, inl, inr, [], ◌∷◌, true, false, Bool, IsTrue, List, Option, Some, None, Result, Ok, Err}
 use Rattle.std.proofs.KnownBytes.{Appends-nil}
-use Rattle.std.specs.Prelude.{is_ok, IfOk, IfSome, IsOk, OnErr, OnOk}
+use Rattle.std.specs.Prelude.{is_ok, IfErr, IfOk, IfSome, IsOk, OnErr, OnOk}
 use Rattle.legs.specs.Book.{Book, empty_book}
 use Rattle.legs.specs.Costs.{ShapeView}
 use Rattle.legs.specs.Limits.{limits_of, LimitsView}
@@ -11,8 +11,11 @@ use Rattle.catalogue.specs.Holding.{HoldsBook}
 use Rattle.trajdb.specs.Db.{DbView, HasPages, IsSoundDb}
 use Rattle.trajdb.specs.Lasting.{HasBook, IsIdle}
 use Rattle.trajdb.proofs.SafeLemmas.{apart}
-use Rattle.sessions.specs.Answers.{Answers, SendsFront, new_shape}
-use Rattle.sessions.specs.Folder.{BeginsWith, History, HoldsNow, NameIsKept, RunsBeside, store_in}
+use Rattle.trajdb.specs.Run.{HasRun}
+use Rattle.trajdb.specs.declared.RunFault.{RunFault}
+use Rattle.sessions.specs.Answers.{said, Answers, ClosesAfter, Ends, FailsToLoad, SendsFront, new_shape}
+use Rattle.sessions.specs.declared.fault.Fault.{Fault}
+use Rattle.sessions.specs.Folder.{BeginsWith, History, HoldsNow, IsRefusedBeside, NameIsKept, RunsBeside, store_in}
 use Rattle.sessions.proofs.AnswerLemmas.{front_done}
 
 -- what a folder tells of a store's name is faithful
@@ -127,3 +130,40 @@ each (Ok x) P f = f
 pub only_if : {T E : Type 0} (P Q : T → Type 0) (r : Result T E) → ((x : T) → P x → Q x) → IfOk r P → IfOk r Q
 only_if P Q (Ok x) f h = f x h
 only_if P Q (Err e) f h = tt
+
+-- why a run over the database that was opened, or over none, is refused
+module _ (files : List (List ℕ × List ℕ)) (sent sent' : Option (List ℕ)) (lines : List (List ℕ)) (s : Store) where
+  abbrev pub Ended : DbView → Result (Unit {0}) Fault → Type 0
+  Ended db r = (ran : Result (Unit {0}) RunFault) × (closed : Result (Unit {0}) RunFault) × (r ≡ said ran closed) × (IsSoundDb db → HasPages db → IsIdle db → db.failed ≡ false → Ends db files sent sent' lines ran closed s)
+
+  refused_end : (db : DbView) (ran closed : Result (Unit {0}) RunFault) (limits : LimitsView) (book : Book) (fault : Fault) → said ran closed ≡ Err fault → Ends db files sent sent' lines ran closed s → IsRefusedBeside limits book files sent sent' lines fault
+  refused_end db (Ok x) (Ok y) limits book fault is e = absurd (cc is)
+  refused_end db (Ok x) (Err f) limits book fault is e = by_left e.left where
+    by_left : ClosesAfter db files lines e.done (Err f) s ⊎ FailsToLoad db files lines e.done (Ok x) (Err f) s → IsRefusedBeside limits book files sent sent' lines fault
+    by_left (inl h) = inr (inr (f, cc is, λ n. h.0.0))
+    by_left (inr h) = let w = h.ran_is in absurd (cc w)
+  refused_end db (Err f) closed limits book fault is e = inr (inr (f, cc is, λ n. (e.stopped n).0))
+
+  pub refused_run : {E : Type 0} (opened : Result DbView E) (r : Result (Unit {0}) Fault) (shape : ShapeView) (limits : LimitsView) (book : Book) (fault : Fault) → r ≡ Err fault
+      → OnErr opened (sent' ≡ sent) → IfOk opened (λ db. Ended db r) → IfOk opened (λ db. db.failed ≡ false) → IfOk opened HasPages → IfOk opened IsIdle
+      → IfOk opened (HasBook shape limits book) → IsRefusedBeside limits book files sent sent' lines fault
+  refused_run (Err e) r shape limits book fault is unsent ended lives pages idle has = inl unsent
+  refused_run (Ok db) r shape limits book fault is unsent ended lives pages idle has =
+      refused_end db ended.0 ended.1 limits book fault (sym ended.2 ∙ is) (ended.3 has.sound pages idle lives)
+
+  -- and of one that was brought to its end
+  pub refused_done : {E F : Type 0} (opened : Result DbView E) (ran : Result (Unit {0}) F) (shape : ShapeView) (limits : LimitsView) (book : Book) (fault : Fault) → ran ≡ Ok tt
+      → IfOk opened HasPages → IfOk opened IsIdle → OnOk ran (IsOk opened) → OnOk ran (IfOk opened (λ db. IsSoundDb db → HasPages db → IsIdle db → Answers db.index.tree.shape db.limits db.book files sent sent' lines s))
+      → IfOk opened (HasBook shape limits book) → IsRefusedBeside limits book files sent sent' lines fault
+  refused_done (Err e) ran shape limits book fault done pages idle ok answers has =
+      let not : IsOk {T = DbView} (Err e) = subst (λ r. OnOk r (IsOk {T = DbView} (Err e))) done ok in
+      let wrong : false ≡ true = not in absurd cc
+  refused_done (Ok db) ran shape limits book fault done pages idle ok answers has =
+      let a = (subst (λ r. OnOk r (IsSoundDb db → HasPages db → IsIdle db → Answers db.index.tree.shape db.limits db.book files sent sent' lines s)) done answers) has.sound pages idle in
+      inr (inl (a.after, subst (λ b. HasRun limits files sent sent' b a.after lines) has.book_is (subst (λ l. HasRun l files sent sent' db.book a.after lines) has.limits_are a.run)))
+
+-- a refusal says what it does where there is something
+pub if_refused : {E : Type 0} (kept : Result (Unit {0}) E) (was : Option History) (P : E → History → Type 0) → ((e : E) (past : History) → was ≡ Some past → P e past) → IfErr kept (λ e. IfSome was (P e))
+if_refused (Ok x) was P f = tt
+if_refused (Err e) None P f = tt
+if_refused (Err e) (Some past) P f = f e past refl

@@ -1,18 +1,19 @@
 -- What a run of the program sends, and what its store then holds.
-use Rattle.std.specs.Prelude.{ℕ, ◌≡◌, ◌≢◌, ◌⊎◌, ◌<◌, ◌-◌, [], List, length, take, slice_index_or, false, Option, Result, Ok, Err, OnOk}
+use Rattle.std.specs.Prelude.{ℕ, ◌≡◌, ◌≢◌, ◌⊎◌, ◌<◌, ◌-◌, [], List, length, take, slice_index_or, false, true, Option, Result, Ok, Err, IfErr, OnErr, OnOk}
 use Rattle.std.specs.Io.KnownBytes.{Appends}
 use Rattle.legs.specs.Book.{Book}
 use Rattle.legs.specs.Costs.{ShapeView}
 use Rattle.legs.specs.Limits.{LimitsView}
-use Rattle.pages.specs.Store.{Store, Faulted}
-use Rattle.boxsearch.specs.Index.{IndexView}
-use Rattle.catalogue.specs.Holding.{HoldsBook, IsUnfinishedStore}
+use Rattle.pages.specs.Store.{Store, Faulted, IsSynced}
+use Rattle.boxsearch.specs.Index.{written, IndexView, words}
+use Rattle.catalogue.specs.Holding.{HoldsBook, HoldsButFirst, HoldsIndex, HoldsIndexButFirst, IsUnfinishedStore}
 use Rattle.catalogue.specs.Beginning.{IsLeftOver}
 use Rattle.version1.specs.Migrating.{IsBrought}
 use Rattle.register.specs.Saved.{CatalogueView}
 use Rattle.migration.specs.Bringing.{IsMigratingFault}
-use Rattle.trajdb.specs.Calls.{IsLoadFault, LoadsBy}
-use Rattle.trajdb.specs.Db.{DbView}
+use Rattle.trajdb.specs.Calls.{IsLoadFault, LoadsBy, LoadsWholeSome, Speaks}
+use Rattle.trajdb.specs.Db.{DbView, IsSoundDb}
+use Rattle.trajdb.specs.Faults.{IsNotOutput}
 use Rattle.trajdb.specs.Lasting.{IsFaultless, IsSafe, IsSafeStore}
 use Rattle.trajdb.specs.Run.{run_book, AcceptsSome, HasRun, IsPrefixOf, IsRunText}
 use Rattle.trajdb.specs.declared.OpenFault.TheVariants as opening
@@ -46,11 +47,17 @@ pub record SendsFront (limits : LimitsView) (book : Book) (files : List (List �
   pub is_front : IsPrefixOf front text
 
 -- what the closing of a database with a book leaves, by what it answered: the store holds the book, or where memory ran
--- out or the store is full, it is one that is not finished; of a store that failed nothing is said
+-- out or the store is full, it is one that is not finished; where the store failed, it is that, or all of its pages but
+-- page 0 are those of one that holds the book, and are synced
 abbrev pub ClosesWith : ShapeView → LimitsView → Book → Result (Unit {0}) RunFault → Store → Type 0
 ClosesWith shape limits book (Ok x) store = HoldsBook store shape limits book
 ClosesWith shape limits book (Err fault) store =
     IsLoadFault fault × (IsFaultless fault → IsUnfinishedStore store)
+    × (IsUnfinishedStore store ⊎ HoldsButFirst store shape limits book)
+
+-- line k + 1 is there, and is a command, or is refused
+abbrev pub IsAtLine : List (List ℕ) → ℕ → Type 0
+IsAtLine lines k = (k < length lines) × Speaks (slice_index_or lines k [])
 
 -- line k + 1 is there, and is a `load` of a file that is there
 abbrev pub IsAtLoad : List (List ℕ × List ℕ) → List (List ℕ) → ℕ → Type 0
@@ -67,10 +74,25 @@ pub record FailsToLoad (db : DbView) (files : List (List ℕ × List ℕ)) (line
   pub closed_is : closed ≡ Err run.Failed
   pub safe : (was : Store) → IsSafe was db → IsSafeStore was store
 
+-- a store has the pages that a database counts, as they were written
+abbrev pub HasWritten : DbView → Store → Type 0
+HasWritten db store = take db.index.cache.count store.pages ≡ written db.index
+
+-- a database is closed with the book after so many lines; and without a fault where it had not begun and none of these
+-- lines is a `load` that is accepted
+abbrev pub ClosesAfter : DbView → List (List ℕ × List ℕ) → List (List ℕ) → ℕ
+    → (closed : Result (Unit {0}) RunFault) → Store → Type 0
+ClosesAfter db files lines done closed store =
+    ClosesWith db.index.tree.shape db.limits (run_book db.limits files db.book (take done lines))
+    closed store
+    × (db.begun ≡ false → OnErr closed (AcceptsSome db.limits files db.book (take done lines)))
+
 -- what a run over a database and its closing leave, whatever they answer: the answers to some first lines were sent, and
 -- to all lines where nothing is said to have failed; all of these answers, or where the output failed a front of them
--- that has all but the last one. The database was closed with the book after these lines, and without a fault where it
--- had not begun and no file was accepted; or the next line is a `load` of a file, which failed
+-- that has all but the last one. The database was closed with the book after these lines (`ClosesAfter`); or the next line
+-- is a `load` of a file, which failed. Where the run stopped at a line, that is the next one, and it says that memory ran
+-- out, or that the store failed or, at such a `load`, is full; where the closing says that it is full, it is. Where the
+-- closing answers well, all of the store is synced, or it has the pages that the database had, as they were written
 pub record Ends (db : DbView) (files : List (List ℕ × List ℕ)) (sent sent' : Option (List ℕ))
     (lines : List (List ℕ)) (ran closed : Result (Unit {0}) RunFault) (store : Store) : Type 0 where
   pub done : ℕ
@@ -80,14 +102,32 @@ pub record Ends (db : DbView) (files : List (List ℕ × List ℕ)) (sent sent' 
   pub sends : Appends sent sent' front
   pub is_front : IsPrefixOf front text
   pub whole : OnOk ran (done ≡ length lines)
+  pub stopped : IfErr ran (λ fault. IsNotOutput fault → IsLoadFault fault × IsAtLine lines done)
+  pub full : ran ≡ Err run.StoreFull → FailsToLoad db files lines done ran closed store
+  pub closed_full : closed ≡ Err run.StoreFull → store.count ≡ store.most
   pub all : ran ≢ Err run.Output → front ≡ text
   pub cut : ran ≡ Err run.Output
       → (before : List ℕ) × IsRunText db.limits files db.book (take (done - 1) lines) before
       × IsPrefixOf before front
-  pub left : (ClosesWith db.index.tree.shape db.limits
-      (run_book db.limits files db.book (take done lines)) closed store
-      × (db.begun ≡ false → (AcceptsSome db.limits files db.book lines → ⊥) → closed ≡ Ok tt))
+  pub left : ClosesAfter db files lines done closed store
       ⊎ FailsToLoad db files lines done ran closed store
+  pub lasts : OnOk closed (IsSynced store ⊎ HasWritten db store)
+
+-- a run over a database begins it: it had begun, or it is sound, and a file is accepted
+abbrev pub RunBegins : DbView → List (List ℕ × List ℕ) → List (List ℕ) → Type 0
+RunBegins db files lines =
+    (db.begun ≡ true) ⊎ (IsSoundDb db × AcceptsSome db.limits files db.book lines)
+
+-- no line begins it: it is sound, and no file is accepted, or no line is a `load` of a file without a fault of its text
+abbrev pub NoneBegins : DbView → List (List ℕ × List ℕ) → List (List ℕ) → Type 0
+NoneBegins db files lines =
+    (IsSoundDb db × (AcceptsSome db.limits files db.book lines → ⊥))
+    ⊎ (LoadsWholeSome files lines → ⊥)
+
+-- no line is a `load` of a file that is there
+abbrev pub OnlyAsks : List (List ℕ × List ℕ) → List (List ℕ) → Type 0
+OnlyAsks files lines =
+    (k : ℕ) → k < length lines → LoadsBy files (slice_index_or lines k []) → ⊥
 
 -- how a run and its closing are answered: the run's own fault comes first
 abbrev pub said : Result (Unit {0}) RunFault → Result (Unit {0}) RunFault → Result (Unit {0}) Fault
@@ -104,11 +144,31 @@ pub record Checks (store : Store) (shape : ShapeView) (limits : LimitsView) (boo
   pub legs : report.legs ≡ length book.legs
   pub features : report.features ≡ length book.names
 
--- a finished store of version 1, whose pages keep a catalogue, and chains of leaves that hold one list of legs
-pub record WasWhole (s : Store) : Type 0 where
+-- why a database that had not begun does not pass its check: its store failed, where that is said, and it had failed
+-- before, or takes no more legs, where it is said to have failed
+abbrev pub IsCheckFault : DbView → Store → RunFault → Type 0
+IsCheckFault db left run.Memory = Unit {0}
+IsCheckFault db left run.Store = Faulted db.index.cache.store left
+IsCheckFault db left (run.Damaged page) = Unit {0}
+IsCheckFault db left run.StoreFull = ⊥
+IsCheckFault db left run.Failed = (db.failed ≡ true) ⊎ (words.is_spent db.index ≡ true)
+IsCheckFault db left run.Output = ⊥
+
+-- a finished store of version 1, whose pages keep a catalogue, and chains of leaves that hold one list of legs, is brought
+-- over: the new store keeps that catalogue, and an index of these legs
+pub record BringsWhole (old left : Store) : Type 0 where
   pub catalogue : CatalogueView
   pub index : IndexView
-  pub brought : IsBrought s catalogue index
+  pub brought : IsBrought old catalogue index
+  pub kept : HoldsIndex left catalogue index
+
+-- such a one is not brought over, as the closing is refused: the new store is not finished, or all of its pages but page 0
+-- are those of one that keeps that catalogue and an index of these legs, and are synced
+pub record BringsButFirst (old left : Store) : Type 0 where
+  pub catalogue : CatalogueView
+  pub index : IndexView
+  pub brought : IsBrought old catalogue index
+  pub behind : IsUnfinishedStore left ⊎ HoldsIndexButFirst left catalogue index
 
 -- a store failed, or is full, where that is said of bringing one over: either store, or in the closing the new one
 abbrev pub IsOverFault : (old after new left : Store) → Fault → Type 0

@@ -6,7 +6,13 @@ use Rattle.legs.specs.Limits.{limits_of, LimitsView}
 use Rattle.pages.specs.Store.{Store}
 use Rattle.pages.specs.declared.unsynced.Unsynced.TheVariants.{Others}
 use Rattle.catalogue.specs.Holding.{HoldsBook}
+use Rattle.trajdb.specs.Calls.{IsLoadFault}
+use Rattle.trajdb.specs.Faults.{IsNotOutput}
+use Rattle.trajdb.specs.Run.{HasRun}
+use Rattle.trajdb.specs.declared.RunFault.{RunFault}
 use Rattle.sessions.specs.Answers.{Answers, new_shape}
+use Rattle.sessions.specs.declared.fault.Fault.{Fault}
+use Rattle.sessions.specs.declared.fault.Fault.TheVariants.{Run}
 
 -- the pages of the file of that name at each moment so far, the last one first; `None` where there was no file
 abbrev pub History : Type 0
@@ -74,6 +80,15 @@ IsKeptOnce old new = (store : Store) × NameIsKept store old new
 -- what the name stands for now holds the book, where a folder tells it
 abbrev pub HoldsNow : ShapeView → LimitsView → Book → Option History → Type 0
 HoldsNow shape limits book held = IfSome held (λ now. HoldsBook (store_in now) shape limits book)
+
+-- how a run on a copy over a book is refused: nothing was sent of it, or all was, or it says which kind of fault it is: of
+-- the output, want of memory, or of a store that failed or is full; that it is so, this does not say
+abbrev pub IsRefusedBeside : LimitsView → Book → List (List ℕ × List ℕ)
+    → (sent sent' : Option (List ℕ)) → List (List ℕ) → Fault → Type 0
+IsRefusedBeside limits book files sent sent' lines fault =
+    (sent' ≡ sent)
+    ⊎ (((after : Book) × HasRun limits files sent sent' book after lines)
+    ⊎ ((why : RunFault) × (fault ≡ Run why) × (IsNotOutput why → IsLoadFault why)))
 
 -- the store of a run over a book that is answered, and of which nothing else than its pages takes the name, which then
 -- stands for a file that holds the book after the run: a later run finds it

@@ -1,11 +1,11 @@
 //! A run that works on a copy beside the store.
-ghost use Rattle.std.specs.Prelude.{◌≡◌, ◌<◌, IfSome, IsTrue, OnErr, OnOk};
+ghost use Rattle.std.specs.Prelude.{◌≡◌, ◌<◌, IfErr, IfSome, IsTrue, OnErr, OnOk};
 ghost use Rattle.legs.specs.Book.{Book};
 ghost use Rattle.legs.specs.Costs.{ShapeView};
 ghost use Rattle.legs.specs.Limits.{LimitsView};
 ghost use Rattle.trajdb.specs.Script.{lines_of};
 ghost use Rattle.sessions.specs.Answers.{SendsFront};
-ghost use Rattle.sessions.specs.Folder.{BeginsWith, NameIsKept, IsKeptOnce, IsReplaced, RunsBeside, store_in};
+ghost use Rattle.sessions.specs.Folder.{BeginsWith, NameIsKept, IsKeptOnce, IsRefusedBeside, IsReplaced, RunsBeside, store_in};
 
 use crate::fault::Fault;
 use crate::folder::Folder;
@@ -109,6 +109,14 @@ pub fn run_on_copy<'a, F: Folder, W: Write>(
         → BeginsWith how.is_new (store_in past) shape limits book
         → SendsFront limits book files.now (W.contents out.old) (W.contents out.new)
         (lines_of script.now))) }
+
+    // Where something was sent, and not all, it is said to be refused for the output, for want of
+    // memory, or for a store that failed or is full. That it is so, this does not say.
+    ensures refused { IfErr result (λ fault. IfSome (F.held folder.old)
+        (λ past. (shape : ShapeView) (limits : LimitsView) (book : Book)
+        → BeginsWith how.is_new (store_in past) shape limits book
+        → IsRefusedBeside limits book files.now (W.contents out.old) (W.contents out.new)
+        (lines_of script.now) fault)) }
 {
     let store = match folder.copy() {
         Ok(store) => store,

@@ -1,9 +1,12 @@
 //! A database that is checked, and closed.
-ghost use Rattle.std.specs.Prelude.{◌≡◌, false, IfOk, IsTrue};
+ghost use Rattle.std.specs.Prelude.{ℕ, ◌≡◌, false, true, IfErr, IfOk, IsErrOf, IsTrue, OnOk};
+ghost use Rattle.pages.specs.Store.{IsSynced};
 ghost use Rattle.catalogue.specs.Holding.{HoldsBook};
+ghost use Rattle.trajdb.specs.Calls.{IsQuestionFault};
+ghost use Rattle.trajdb.specs.Checking.{IsFirstFault};
 ghost use Rattle.trajdb.specs.Db.{HasPages, IsSoundDb};
 ghost use Rattle.trajdb.specs.Lasting.{IsIdle};
-ghost use Rattle.sessions.specs.Answers.{Checks};
+ghost use Rattle.sessions.specs.Answers.{Checks, HasWritten, IsCheckFault};
 
 use pages::PageStore;
 use std::alloc::Global;
@@ -24,6 +27,27 @@ pub fn check_and_close<S: PageStore>(
     ensures kept { IsSoundDb database → HasPages database → IsIdle database
         → database.begun ≡ false → database.failed ≡ false
         → HoldsBook (S.seen result.0) database.index.tree.shape database.limits database.book }
+
+    // Nor does it lose a page that the database counts, be that sound or not: each stays as it was
+    // written; and of one that had failed the store stays.
+    ensures stays { IsTrue database.index.cache.store.is_faithful → IsIdle database
+        → database.begun ≡ false → database.failed ≡ false
+        → HasWritten database (S.seen result.0) }
+    ensures failed { database.failed ≡ true → S.seen result.0 ≡ database.index.cache.store }
+
+    // Where the database had begun, all of the store is synced where it passes.
+    ensures synced { OnOk result.1 (database.begun ≡ true → IsSynced (S.seen result.0)) }
+
+    // A sound database passes, but for want of memory or a store that failed; a page that is said to
+    // be damaged is the first that fails a check, whoever made the pages; and a store is said to have
+    // failed only where it did.
+    ensures only { IfErr result.1 (λ fault. IsSoundDb database → HasPages database
+        → IsIdle database → database.begun ≡ false → database.failed ≡ false
+        → IsQuestionFault fault) }
+    ensures named { IsTrue database.index.cache.store.is_faithful → database.begun ≡ false
+        → (page : ℕ) → IsErrOf result.1 (RunFault.Damaged page) → IsFirstFault database page }
+    ensures caused { IfErr result.1 (λ fault. database.begun ≡ false
+        → IsCheckFault database (S.seen result.0) fault) }
 {
     let checked = database.check();
     let (store, closed) = database.close(alloc);

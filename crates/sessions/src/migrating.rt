@@ -1,15 +1,16 @@
 //! A store of version 1 that is brought over into a new one, and closed.
-ghost use Rattle.std.specs.Prelude.{◌≡◌, None, Err, IfErr, IsTrue, OnOk};
+ghost use Rattle.std.specs.Prelude.{◌≡◌, ◌⊎◌, None, Err, IfErr, IsErrOf, IsTrue, OnOk};
 ghost use Rattle.legs.specs.Costs.{ShapeView};
 ghost use Rattle.legs.specs.Limits.{LimitsView};
 ghost use Rattle.legs.specs.Book.{Book};
 ghost use Rattle.pages.specs.Store.{IsSynced, Stays};
 ghost use Rattle.catalogue.specs.Beginning.{IsLeftOver};
-ghost use Rattle.catalogue.specs.Holding.{HoldsBook};
+ghost use Rattle.catalogue.specs.Holding.{HoldsBook, HoldsButFirst, IsUnfinishedStore};
 ghost use Rattle.pagecache.specs.Cache.{stored_payload};
 ghost use Rattle.version1.specs.OldStore.{old_first_fault, present_shape, HoldsOldBook};
 ghost use Rattle.trajdb.specs.declared.OpenFault.{OpenFault};
-ghost use Rattle.sessions.specs.Answers.{IsNotOver, IsOverFault, WasWhole};
+ghost use Rattle.trajdb.specs.declared.RunFault.{RunFault};
+ghost use Rattle.sessions.specs.Answers.{BringsButFirst, BringsWhole, IsNotOver, IsOverFault};
 
 use crate::fault::Fault;
 use crate::session::CACHE_PAGES;
@@ -40,13 +41,15 @@ pub fn migrate_and_close<'a, S: PageStore, T: PageStore>(
         → HoldsBook (T.seen result.0) (present_shape shape) limits book) }
     ensures synced { OnOk result.1 (IsSynced (T.seen result.0)) }
 
-    // It was a finished one of version 1, whose catalogue and chains of leaves are whole; one that
-    // holds a book is refused for memory, a store that failed, or a full one alone, and then the
-    // new one is not taken for a finished one, unless it failed in the closing.
+    // It was a finished one of version 1, whose catalogue and chains of leaves are whole, and the new
+    // one keeps that catalogue and an index of those legs; one that holds a book is refused for
+    // memory, a store that failed, or a full one alone, and then the new one is not taken for a
+    // finished one, unless it failed in the closing.
     ensures finished { OnOk result.1 (IsTrue (S.seen old.old).is_faithful
         → old_first_fault (S.seen old.old).count (stored_payload (S.seen old.old) 0) ≡ None) }
     ensures whole { OnOk result.1 (IsTrue (S.seen old.old).is_faithful
-        → IsTrue (T.seen new).is_faithful → WasWhole (S.seen old.old)) }
+        → IsTrue (T.seen new).is_faithful
+        → BringsWhole (S.seen old.old) (T.seen result.0)) }
     ensures left { IfErr result.1 (λ fault. IsTrue (S.seen old.old).is_faithful
         → IsTrue (T.seen new).is_faithful
         → (shape : ShapeView) (limits : LimitsView) (book : Book)
@@ -60,6 +63,19 @@ pub fn migrate_and_close<'a, S: PageStore, T: PageStore>(
         → IsLeftOver (T.seen new) (T.seen result.0) }
     ensures caused { IfErr result.1 (IsOverFault (S.seen old.old) (S.seen old.new) (T.seen new)
         (T.seen result.0)) }
+
+    // Where the closing is refused, the new one is not finished, or all of its pages but page 0 are
+    // those of a store that holds the book, and are synced; so it is of whatever the other store
+    // keeps.
+    ensures closing { (why : RunFault) → IsErrOf result.1 (Fault.Run why)
+        → IsTrue (S.seen old.old).is_faithful → IsTrue (T.seen new).is_faithful
+        → (shape : ShapeView) (limits : LimitsView) (book : Book)
+        → HoldsOldBook (S.seen old.old) shape limits book
+        → IsUnfinishedStore (T.seen result.0)
+        ⊎ HoldsButFirst (T.seen result.0) (present_shape shape) limits book }
+    ensures behind { (why : RunFault) → IsErrOf result.1 (Fault.Run why)
+        → IsTrue (S.seen old.old).is_faithful → IsTrue (T.seen new).is_faithful
+        → BringsButFirst (S.seen old.old) (T.seen result.0) }
 
     // The store of version 1 stays as it is.
     ensures stays { Stays (S.seen old.old) (S.seen old.new) }

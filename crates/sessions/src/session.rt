@@ -1,14 +1,19 @@
 //! A database over a store of any kind: it is made or opened, a script is run, and it is closed.
-ghost use Rattle.std.specs.Prelude.{◌≡◌, ◌<◌, ◌⊎◌, false, Result, Err, IfErr, IfOk, IsOk, IsTrue, OnErr, OnOk};
+ghost use Rattle.std.specs.Prelude.{◌≡◌, ◌<◌, ◌⊎◌, false, None, Result, Err, IfErr, IfOk, IsErrOf, IsOk, IsTrue, OnErr, OnOk};
 ghost use Rattle.legs.specs.Costs.{ShapeView};
 ghost use Rattle.legs.specs.Limits.{limits_of, LimitsView};
 ghost use Rattle.legs.specs.Book.{Book, empty_book};
 ghost use Rattle.trajdb.specs.Script.{lines_of};
 ghost use Rattle.catalogue.specs.Holding.{HoldsBook};
-ghost use Rattle.pages.specs.Store.{Stays};
-ghost use Rattle.trajdb.specs.Db.{HasPages, IsSoundDb};
-ghost use Rattle.trajdb.specs.Lasting.{HasBook, IsIdle, IsSafe};
-ghost use Rattle.sessions.specs.Answers.{new_shape, said, Answers, Ends, SendsFront};
+ghost use Rattle.pages.specs.Sealed.{sealed};
+ghost use Rattle.pages.specs.Store.{Faulted, IsSynced, Stays, Writes};
+ghost use Rattle.pagecache.specs.Cache.{stored_payload};
+ghost use Rattle.header.specs.Fields.{header_payload};
+ghost use Rattle.register.specs.Lasting.{first_fault};
+ghost use Rattle.trajdb.specs.Calls.{IsBookOf};
+ghost use Rattle.trajdb.specs.Db.{HasPages, IsAllowed, IsSoundDb};
+ghost use Rattle.trajdb.specs.Lasting.{ComesFirst, HasBook, IsIdle, IsNamedAtOpen, IsSafe, IsStop};
+ghost use Rattle.sessions.specs.Answers.{new_shape, said, Answers, Ends, HasWritten, NoneBegins, OnlyAsks, RunBegins, SendsFront};
 
 use crate::fault::Fault;
 use legs::Limits;
@@ -59,6 +64,48 @@ pub fn database<S: PageStore>(
     ensures lives { IfOk result (λ db. db.failed ≡ false) }
     ensures safe { IfOk result (λ db. IsTrue (S.seen store).is_faithful → IsSoundDb db
         → IsSafe (S.seen store) db) }
+    ensures capacity { IfOk result (λ db. db.index.cache.capacity ≡ cache_pages) }
+
+    // A store that is made has page 0 alone, its header, which is synced; one that has a page stays.
+    ensures header { IfOk result (λ db. IsTrue is_new → (S.seen store).count ≡ 0
+        → Writes 0 (sealed 0 (header_payload new_shape (limits_of 16777216 1048576)))
+        (S.seen store) db.index.cache.store) }
+    ensures synced { IfOk result (λ db. IsTrue is_new → (S.seen store).count ≡ 0
+        → IsSynced db.index.cache.store) }
+    ensures stored { IfOk result (λ db. (is_new ≡ false) ⊎ (0 < (S.seen store).count)
+        → Stays (S.seen store) db.index.cache.store) }
+
+    // A store that has a page is opened where it says that it is finished, and has not begun then;
+    // there is a book for which its tracks stand, be the database sound or not.
+    ensures finished { IfOk result (λ db. (is_new ≡ false) ⊎ (0 < (S.seen store).count)
+        → IsTrue (S.seen store).is_faithful
+        → first_fault (S.seen store).count (stored_payload (S.seen store) 0) ≡ None) }
+    ensures begun { IfOk result (λ db. (is_new ≡ false) ⊎ (0 < (S.seen store).count)
+        → db.begun ≡ false) }
+    ensures stands { IfOk result (λ db. (is_new ≡ false) ⊎ (0 < (S.seen store).count)
+        → IsTrue (S.seen store).is_faithful → (book : Book) × IsBookOf db book) }
+
+    // One that holds a book is refused for want of memory and a store that failed alone, and one
+    // that is to be made besides where there is no room for a page.
+    ensures holds { IfErr result (λ back. IsTrue (S.seen store).is_faithful
+        → (shape : ShapeView) (limits : LimitsView) (book : Book)
+        → HoldsBook (S.seen store) shape limits book → IsStop back.1) }
+    ensures made { IfErr result (λ back. IsTrue is_new → IsTrue (S.seen store).is_faithful
+        → (S.seen store).count ≡ 0 → IsAllowed back.1) }
+
+    // Page 0 comes first, a page that is said to be damaged is the one at which reading stops, and
+    // pages that are said to be malformed keep nothing, whatever stands in the damaged ones.
+    ensures first { IfErr result (λ back. (is_new ≡ false) ⊎ (0 < (S.seen store).count)
+        → IsTrue (S.seen store).is_faithful
+        → ComesFirst (first_fault (S.seen store).count (stored_payload (S.seen store) 0)) back.1) }
+    ensures named { IfErr result (λ back. IsTrue (S.seen store).is_faithful
+        → IsNamedAtOpen (stored_payload (S.seen store)) (S.seen store).count back.1) }
+
+    // A store is said to have failed, or to have no room, only where it did or has none.
+    ensures caused { IfErr result (λ back. back.1 ≡ OpenFault.Store
+        → Faulted (S.seen store) (S.seen back.0)) }
+    ensures full { IfErr result (λ back. back.1 ≡ OpenFault.StoreFull
+        → (S.seen store).most ≡ 0) }
 
     // A store that has a page, or of which none is to be made, stays where it is refused.
     ensures stays { IfErr result (λ back. (is_new ≡ false) ⊎ (0 < (S.seen store).count)
@@ -87,16 +134,36 @@ pub fn run_and_close<S: PageStore, W: Write>(
         files.now (W.contents out.old) (W.contents out.new) (lines_of script.now)
         (S.seen result.0))) }
 
+    // Where the database had begun, or a file was accepted, all of the store is synced then; where
+    // none begins it the store has the pages that the database counted, as they were written.
+    ensures synced { OnOk result.1 (OnOk result.2 (RunBegins database files.now
+        (lines_of script.now) → IsSynced (S.seen result.0))) }
+    ensures stays { OnOk result.1 (IsTrue database.index.cache.store.is_faithful
+        → IsIdle database → database.begun ≡ false
+        → NoneBegins database files.now (lines_of script.now)
+        → HasWritten database (S.seen result.0)) }
+
+    // So it has, whatever is answered, where no line is a load of a file that is there.
+    ensures asked { IsTrue database.index.cache.store.is_faithful → IsIdle database
+        → database.begun ≡ false → database.failed ≡ false
+        → OnlyAsks files.now (lines_of script.now) → HasWritten database (S.seen result.0) }
+
     // Whatever is answered, what was sent is the front of that text.
     ensures sent { IsSoundDb database → database.failed ≡ false
         → SendsFront database.limits database.book files.now (W.contents out.old)
         (W.contents out.new) (lines_of script.now) }
 
     // The database was closed with the book after the lines that were done, unless it is the load of
-    // a file that failed: the store is then not finished, or the one that was there before.
+    // a file that failed: the store is then not finished, or the one that was there before. A run
+    // that stops at a line has not done it, and says that it stops for memory or for the store.
+    // Where the closing answers well, all is synced, or each page stays as it was written.
     ensures ends { IsSoundDb database → HasPages database → IsIdle database
         → database.failed ≡ false → Ends database files.now (W.contents out.old)
         (W.contents out.new) (lines_of script.now) result.1 result.2 (S.seen result.0) }
+
+    // The store is said to have failed only where it did.
+    ensures caused { IsErrOf result.1 RunFault.Store ⊎ IsErrOf result.2 RunFault.Store
+        → Faulted database.index.cache.store (S.seen result.0) }
 {
     let ran = database.run(alloc, script, files, out);
     let (store, closed) = database.close(alloc);
@@ -132,6 +199,19 @@ pub fn answer<'a, S: PageStore, W: Write>(
         (W.contents out.new) (lines_of script.now) (S.seen result.0))) }
     ensures opened { OnOk result.1 (IsOk database) }
 
+    // Where the database had begun, or a file was accepted, all of the store is synced then; where
+    // none begins it the store has the pages that the database counted, as they were written.
+    ensures synced { OnOk result.1 (IfOk database (λ db. RunBegins db files.now
+        (lines_of script.now) → IsSynced (S.seen result.0))) }
+    ensures stays { OnOk result.1 (IfOk database (λ db. IsTrue db.index.cache.store.is_faithful
+        → IsIdle db → db.begun ≡ false → NoneBegins db files.now (lines_of script.now)
+        → HasWritten db (S.seen result.0))) }
+
+    // So it has, whatever is answered, where no line is a load of a file that is there.
+    ensures asked { IfOk database (λ db. IsTrue db.index.cache.store.is_faithful → IsIdle db
+        → db.begun ≡ false → db.failed ≡ false → OnlyAsks files.now (lines_of script.now)
+        → HasWritten db (S.seen result.0)) }
+
     // Where it is refused, what was sent is the front of that text, and nothing where there is no
     // database.
     ensures sent { OnErr result.1 (IfOk database (λ db. IsSoundDb db → db.failed ≡ false
@@ -139,13 +219,15 @@ pub fn answer<'a, S: PageStore, W: Write>(
         (lines_of script.now))) }
     ensures unsent { OnErr database (W.contents out.new ≡ W.contents out.old) }
 
-    // The store is left as the run and its closing leave it, whose fault is answered; where there is
-    // no database it is the one that was given back.
+    // The store is left as the run and its closing leave it, whose fault is answered, and is said to
+    // have failed only where it did; where there is no database it is the one that was given back.
     ensures ends { IfOk database (λ db. (ran : Result (Unit {0}) RunFault)
         × (closed : Result (Unit {0}) RunFault) × (result.1 ≡ said ran closed)
         × (IsSoundDb db → HasPages db → IsIdle db → db.failed ≡ false → Ends db files.now
         (W.contents out.old) (W.contents out.new) (lines_of script.now) ran closed
         (S.seen result.0))) }
+    ensures caused { IfOk database (λ db. IsErrOf result.1 (Fault.Run RunFault.Store)
+        → Faulted db.index.cache.store (S.seen result.0)) }
     ensures refused { IfErr database (λ back. (S.seen result.0 ≡ S.seen back.0)
         × (result.1 ≡ Err (Fault.Open back.1))) }
 {

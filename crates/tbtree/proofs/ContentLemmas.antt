@@ -1,23 +1,29 @@
 -- What is met on the way down from a root, once pages say more.
-use Rattle.std.proofs.Common.{false, cond, Option, inl, inr, ◌⊎◌, ℕ, zero, suc, Bool, take, drop, ◌-◌, ◌+◌, ◌<◌, ◌≤◌, ◌≡◌, ◌≢◌, ◌∙◌, ⊎_elim, All, List, [], ◌∷◌, ◌++◌, map, refl, sym, ap, arith, subst, true, Some, None, slice_get, slice_index_or, Result, Ok, Err}
+use Rattle.std.proofs.Common.{false, cond, Option, inl, inr, ◌⊎◌, ℕ, zero, suc, Bool, take, drop, ◌-◌, ◌+◌, ◌*◌, ◌<◌, ◌≤◌, ◌≡◌, ◌≢◌, ◌∙◌, ⊎_elim, All, List, [], ◌∷◌, ◌++◌, length, map, refl, sym, ap, arith, subst, true, Some, None, slice_get, slice_index_or, Result, Ok, Err}
 use Rattle.std.specs.Prelude.{IfOk, OnOk}
 use Rattle.std.specs.List.{Contains, flat_map, filter}
 use Rattle.std.proofs.lemmas.Bool.{cases_eq, true≢false}
 use Rattle.std.proofs.lemmas.List.Elements.{All-append, All-cons, All-nil, All-contains, All-contains_itself, Contains-append_cases, Contains-append_left, Contains-append_right}
 use Rattle.std.proofs.lemmas.List.Sorted.{Contains-permutation, IsPermutation-sym}
+use Rattle.std.proofs.Math.Nat.{add-mul}
 use Rattle.std.proofs.Math.Seq.{take-add}
+use Rattle.std.proofs.lemmas.List.{length-append}
+use Rattle.std.proofs.lemmas.Nat.{mul-le}
 use Rattle.legs.specs.Boxes.{BoxView, box_of}
 use Rattle.legs.specs.Legs.{LegView}
 use Rattle.legs.specs.Hull.{Boxes, IsPruning, both, hull, leg_boxes}
 use Rattle.legs.specs.GroupLemmas.{some_none, some_same}
-use Rattle.tbtree.specs.Content.{Carries, ContentGrows, Grafts, HasLeg, IsFound, IsMet, IsMetBy, KeepsKids, KeepsMet, KeepsWay, Meets, SaysMore}
-use Rattle.tbtree.specs.Descent.{children_met, entries_in, found_legs, legs_in, legs_met, node_at, pages_met, sort_by_ordinal}
+use Rattle.tbtree.specs.Content.{Carries, ContentGrows, Grafts, HasLeg, IsBareBeyond, IsFound, IsMet, IsMetBy, KeepsKids, KeepsKinds, KeepsMet, KeepsWay, LeadsToLeg, Meets, SaysMore}
+use Rattle.tbtree.specs.Descent.{children_met, entries_in, found_legs, legs_in, legs_met, node_at, node_in, pages_met, sort_by_ordinal, IsOnLevel}
 use Rattle.tbtree.specs.Joining.{HasAtEnd}
-use Rattle.tbtree.specs.Nodes.{cover_all, cover_of_page, widened, Node, Pages, ALeaf, AnInner, EntryView, Adds, Attaches, Becomes, Covers, Links, Pushes, Widens, with_entry, with_legs, with_next, with_wider}
+use Rattle.tbtree.specs.Nodes.{cover_all, cover_of_page, widened, Node, Pages, ALeaf, AnInner, EntryView, Adds, Attaches, Becomes, Covers, HasLeaf, Links, Pushes, Widens, with_entry, with_legs, with_next, with_wider}
 use Rattle.tbtree.specs.declared.fault.TreeFault.{TreeFault}
 use Rattle.tbtree.specs.declared.tree.TbTree.{TbTree}
 use Rattle.tbtree.specs.declared.tree.Top.{Top}
-use Rattle.tbtree.proofs.GraftLemmas.{grafts_after, grafts_attached, grafts_first, grafts_on, grafts_rooted, grafts_same, grafts_up, has_first, has_got, has_later, kids_covered, kids_pushed, kids_then, kids_widened, no_element, only_one}
+use Rattle.tbtree.proofs.ElementLemmas.{has_first, has_later, no_element, only_one}
+use Rattle.tbtree.proofs.GraftLemmas.{grafts_after, grafts_attached, grafts_first, grafts_on, grafts_rooted, grafts_same, grafts_up, kids_covered, kids_pushed, kids_then, kids_widened}
+use Rattle.tbtree.proofs.KindLemmas.{kinds_added, kinds_attached, kinds_covered, kinds_on, kinds_pushed, kinds_same, kinds_then, kinds_widened}
+use Rattle.tbtree.proofs.LeadLemmas.{astray_grafted, astray_same, only_grafted, only_same}
 use Rattle.tbtree.proofs.SortLemmas.{sort_moves}
 
 module _ {X : Type 0} where
@@ -32,7 +38,7 @@ module _ {X Y : Type 0} (f : X → List Y) where
       (λ (later : Contains xs x). Contains-append_right (f z) (flat_map f xs) y (flat_has xs x y later c))
       (Contains-append_cases (z ∷ []) xs x h)
 
-  flat_of : (xs : List X) (y : Y) → Contains (flat_map f xs) y → (x : X) × Contains xs x × Contains (f x) y
+  pub flat_of : (xs : List X) (y : Y) → Contains (flat_map f xs) y → (x : X) × Contains xs x × Contains (f x) y
   flat_of [] y h = absurd (no_element y h)
   flat_of (z ∷ xs) y h = ⊎_elim
       (λ (here : Contains (f z) y). (z, has_first z xs, here))
@@ -138,7 +144,7 @@ pub says_same : (old new : Pages LegView BoxView) → ((p : ℕ) → new.at p �
 says_same old new same more = record {
   entries = λ meets prune p q c. subst (λ l. Contains l q) (sym (children_are meets prune new p)) (subst (λ x. Contains (met_of meets prune (entries_in x)) q) (sym (same_at p)) (subst (λ l. Contains l q) (children_are meets prune old p) c));
   legs = λ p leg c. subst (λ x. Contains (legs_in x) leg) (sym (same_at p)) c;
-  bare = λ p l none. same p ∙ none;
+  bare = λ p l none. same p;
   count = more;
 }
   where
@@ -147,15 +153,15 @@ says_same old new same more = record {
     same_at (suc n) = same (suc n)
 
 pub says_none : (nodes : Pages LegView BoxView) → SaysMore nodes nodes
-says_none nodes = record { entries = λ meets prune p q c. c; legs = λ p leg c. c; bare = λ p l none. none; count = omega arith }
+says_none nodes = record { entries = λ meets prune p q c. c; legs = λ p leg c. c; bare = λ p l none. refl; count = omega arith }
 
 pub says_then : (a b c : Pages LegView BoxView) → SaysMore a b → SaysMore b c → SaysMore a c
-says_then a b c s t = record { entries = λ meets prune p q h. t.entries meets prune p q (s.entries meets prune p q h); legs = λ p leg h. t.legs p leg (s.legs p leg h); bare = λ p l none. t.bare p (let more = s.count in omega (arith, l, more)) (s.bare p l none); count = (let x = s.count in let y = t.count in omega (arith, x, y)) }
+says_then a b c s t = record { entries = λ meets prune p q h. t.entries meets prune p q (s.entries meets prune p q h); legs = λ p leg h. t.legs p leg (s.legs p leg h); bare = λ p l none. let was = s.bare p l none in t.bare p (let more = s.count in omega (arith, l, more)) (ap node_in was ∙ none) ∙ was; count = (let x = s.count in let y = t.count in omega (arith, x, y)) }
 
 -- one page that says more
 module _ (old new : Pages LegView BoxView) (p : ℕ) (node : Node LegView BoxView) (b : Becomes old p node new)
     (more_kids : (meets : BoxView → Bool) (prune : IsPruning leg_boxes meets) (q : ℕ) → Contains (met_of meets prune (entries_in (old.at p))) q → Contains (met_of meets prune (entries_in (Some (Some node)))) q)
-    (more_legs : (leg : LegView) → Contains (legs_in (old.at p)) leg → Contains (legs_in (Some (Some node))) leg) (more : old.count ≤ new.count) (held : p < old.count → old.at p ≡ None → ⊥) where
+    (more_legs : (leg : LegView) → Contains (legs_in (old.at p)) leg → Contains (legs_in (Some (Some node))) leg) (more : old.count ≤ new.count) (held : p < old.count → node_in (old.at p) ≡ None → ⊥) where
   at_kids : (meets : BoxView → Bool) (prune : IsPruning leg_boxes meets) (r q : ℕ) → Contains (met_of meets prune (entries_in (old.at r))) q → Contains (met_of meets prune (entries_in (new.at r))) q
   at_kids meets prune r q c = ⊎_elim
       (λ (e : r ≡ p). subst (λ x. Contains (met_of meets prune (entries_in x)) q) (sym (ap new.at e ∙ b.now)) (more_kids meets prune q (subst (λ m. Contains (met_of meets prune (entries_in (old.at m))) q) e c)))
@@ -181,8 +187,8 @@ module _ (old new : Pages LegView BoxView) (p : ℕ) (node : Node LegView BoxVie
     entries = λ meets prune r q c. subst (λ l. Contains l q) (sym (children_are meets prune new r)) (node_kids meets prune r q (subst (λ l. Contains l q) (children_are meets prune old r) c));
     legs = node_legs;
     bare = λ r l none. ⊎_elim
-        (λ (e : r ≡ p). absurd (held (subst (λ m. m < old.count) e l) (ap old.at (sym e) ∙ none)))
-        (λ (u : r ≢ p). b.rest r u ∙ none)
+        (λ (e : r ≡ p). absurd (held (subst (λ m. m < old.count) e l) (ap node_in (ap old.at (sym e)) ∙ none)))
+        (λ (u : r ≢ p). b.rest r u)
         (cases_eq r p);
     count = more;
   }
@@ -193,7 +199,7 @@ says_was : (old new : Pages LegView BoxView) (p : ℕ) (was node : Node LegView 
     → ((leg : LegView) → Contains (legs_in (Some (Some was))) leg → Contains (legs_in (Some (Some node))) leg) → new.count ≡ old.count → SaysMore old new
 says_was old new p was node e b ks ls same = says_becomes old new p node b
     (λ meets prune q c. ks meets prune q (subst (λ x. Contains (met_of meets prune (entries_in x)) q) e c))
-    (λ leg c. ls leg (subst (λ x. Contains (legs_in x) leg) e c)) (omega (arith, same)) (λ l none. some_none (Some was) (sym e ∙ none))
+    (λ leg c. ls leg (subst (λ x. Contains (legs_in x) leg) e c)) (omega (arith, same)) (λ l none. some_none was (sym (ap node_in e) ∙ none))
 
 pub says_widened : (old new : Pages LegView BoxView) (p height e : ℕ) (y : BoxView) (c : ℕ) → Widens leg_boxes old p height e y new c → SaysMore old new
 says_widened old new p height e y c w =
@@ -246,7 +252,7 @@ way_more old new s root levels = record {
   top = λ some there none. (refl, refl);
 }
 
-way_then : (a b c : Pages LegView BoxView) (r l s m t n : ℕ) → a.count ≤ b.count → ((p : ℕ) → p < a.count → a.at p ≡ None → b.at p ≡ None) → KeepsWay a b r l s m → KeepsWay b c s m t n → KeepsWay a c r l t n
+way_then : (a b c : Pages LegView BoxView) (r l s m t n : ℕ) → a.count ≤ b.count → ((p : ℕ) → p < a.count → node_in (a.at p) ≡ None → b.at p ≡ a.at p) → KeepsWay a b r l s m → KeepsWay b c s m t n → KeepsWay a c r l t n
 way_then a b c r l s m t n more bare f g =
     let low = f.higher in
     let high = g.higher in
@@ -260,7 +266,7 @@ way_then a b c r l s m t n more bare f g =
           let e = f.top some there none in
           let r_is = e.0 in
           let l_is = e.1 in
-          let after = g.top (omega (arith, some, l_is)) (omega (arith, there, more, r_is)) (ap b.at r_is ∙ bare r there none) in
+          let after = g.top (omega (arith, some, l_is)) (omega (arith, there, more, r_is)) (ap node_in (ap b.at r_is ∙ bare r there none) ∙ none) in
           (after.0 ∙ r_is, after.1 ∙ l_is);
     }
 
@@ -271,6 +277,7 @@ by_more old new s root levels level box p m meets prune t n e = met_more meets p
 pub found_top : (nodes : Pages LegView BoxView) (root levels level : ℕ) (box : BoxView) → level + 1 ≡ levels → IsFound nodes nodes root levels level box root
 found_top nodes root levels level box top = record {
   says = says_none nodes;
+  kinds = kinds_same nodes nodes (λ p. refl);
   counted = refl;
   same = λ p. refl;
   met = λ meets prune t n e. subst (λ m. IsMet meets nodes root m root) (let z : 0 ≡ n = omega (arith, top, e) in z) refl;
@@ -299,6 +306,7 @@ found_next old mid new root levels level p e y c below above f w =
       says = says_then old mid new f.says more;
       counted = w.counted ∙ f.counted;
       same = kids_then old mid new f.same (kids_widened mid new p (level + 1) e y c w);
+      kinds = kinds_then old mid new [] [] f.kinds (kinds_widened mid new p (level + 1) e y c w);
       met = step_met new root levels level p c y below (by_more mid new more root levels (level + 1) y p f.met)
           (λ meets prune t. subst (λ l. Contains l c) (sym (met_at meets prune new p (AnInner (with_wider leg_boxes.cover e y w.page)) above w.becomes.now)) (met_wider meets prune e y w.page.entries c t w.child));
     }
@@ -366,9 +374,10 @@ module _ (meets : BoxView → Bool) (prune : IsPruning leg_boxes meets) (nodes :
             (root_says (node_at nodes root) refl)
       ] h.met)
 
-pub carries_rooted : (old mid new : Pages LegView BoxView) (root levels level c r : ℕ) (x y : BoxView) → root < c → c < old.count → mid.at mid.count ≡ None → level + 1 ≡ levels → Covers leg_boxes old root x mid
+pub carries_rooted : (old mid new : Pages LegView BoxView) (root levels level c r : ℕ) (x y : BoxView) → root < c → old.count ≡ suc c → IsOnLevel old level c → mid.at mid.count ≡ None → level + 1 ≡ levels → Covers leg_boxes old root x mid
     → Adds mid (AnInner (record { level = level + 1; entries = record { child = root; bounds = x } ∷ record { child = c; bounds = y } ∷ [] })) new r → Carries old new root levels level y c (record { root = r; levels = levels + 1 })
-carries_rooted old mid new root levels level c r x y low there fresh top w a =
+carries_rooted old mid new root levels level c r x y low end on fresh top w a =
+    let there : c < old.count = omega (arith, end) in
     let one : EntryView BoxView = record { child = root; bounds = x } in
     let two : EntryView BoxView = record { child = c; bounds = y } in
     let node : Node LegView BoxView = AnInner (record { level = level + 1; entries = one ∷ two ∷ [] }) in
@@ -395,17 +404,21 @@ carries_rooted old mid new root levels level c r x y low there fresh top w a =
             let there : Contains (children_met meets new r) root = subst (λ l. Contains l root) (sym (met_at meets prune new r node above a.becomes.now)) (met_cons meets prune one (two ∷ []) root (inl (t, refl))) in
             subst (λ k. IsMet meets new r k p) (let z : suc (suc n) ≡ suc n + (levels + 1 - levels) = omega arith in z) (under meets new r root there (suc n) p (met_more meets prune old new says root (suc n) p m));
         higher = omega arith;
-        top = λ some l none. absurd (some_none (Some w.node) (sym w.is ∙ none));
+        top = λ some l none. absurd (some_none w.node (sym (ap node_in w.is) ∙ none));
       };
       met = λ meets prune t n e. subst (λ m. IsMet meets new r m c) (let one : 1 ≡ n = omega (arith, e, top) in one)
           (r, refl, subst (λ l. Contains l c) (sym (met_at meets prune new r node above a.becomes.now)) (met_cons meets prune one (two ∷ []) c (inr (met_cons meets prune two [] c (inl (t, refl))))));
-      grafts = grafts_rooted old mid new root c r (level + 1) x y low there w.counted fresh (kids_covered old mid root x w) a;
+      grafts = grafts_rooted old mid new root levels c r level x y low end top w.counted fresh on (kinds_covered old mid root x w) (kids_covered old mid root x w) a;
+      kinds = kinds_then old mid new [] [] (kinds_covered old mid root x w) (kinds_added mid new node r [] fresh (λ leg h. h) a);
+      low = omega (arith, top);
+      pages = (let c = w.counted in let d = a.counted in omega (arith, c, d, top));
     }
 
 -- a page over a new one, which is hung
-carries_up : (old mid new : Pages LegView BoxView) (root levels level c q : ℕ) (y : BoxView) (top : Top) → root < c → c < old.count → old.at old.count ≡ None → level + 1 < top.levels
+carries_up : (old mid new : Pages LegView BoxView) (root levels level c q : ℕ) (y : BoxView) (top : Top) → root < c → old.count ≡ suc c → IsOnLevel old level c → old.at old.count ≡ None → level + 1 < top.levels
     → Adds old (AnInner (record { level = level + 1; entries = record { child = c; bounds = y } ∷ [] })) mid q → Carries mid new root levels (level + 1) y q top → Carries old new root levels level y c top
-carries_up old mid new root levels level c q y top low there fresh below w h =
+carries_up old mid new root levels level c q y top low end on fresh below w h =
+    let there : c < old.count = omega (arith, end) in
     let e : EntryView BoxView = record { child = c; bounds = y } in
     let node : Node LegView BoxView = AnInner (record { level = level + 1; entries = e ∷ [] }) in
     let more = says_added old mid node q fresh w in
@@ -416,12 +429,15 @@ carries_up old mid new root levels level c q y top low there fresh below w h =
       way = way_then old mid new root levels root levels top.root top.levels more.count more.bare (way_more old mid more root levels) h.way;
       met = step_met new top.root top.levels level q c y below h.met
           (λ meets prune t. h.says.entries meets prune q c (subst (λ l. Contains l c) (sym (met_at meets prune mid q node above w.becomes.now)) (met_cons meets prune e [] c (inl (t, refl)))));
-      grafts = grafts_up old mid new root top.root c q (level + 1) y low there fresh w h.grafts;
+      grafts = grafts_up old mid new root levels top.root top.levels c q level y low end fresh on w h.grafts;
+      kinds = kinds_then old mid new [] [] (kinds_added old mid node q [] fresh (λ leg h. h) w) h.kinds;
+      low = h.low;
+      pages = (let c = w.counted in let d = h.pages in omega (arith, c, d));
     }
 
 -- a page into a page that is found
-pub carries_on : (old mid new : Pages LegView BoxView) (root levels level c p : ℕ) (y : BoxView) → root < c → c < old.count → level + 1 < levels → 0 < p → IsFound old mid root levels (level + 1) y p → Attaches mid p (level + 1) c y new → Carries old new root levels level y c (record { root = root; levels = levels })
-carries_on old mid new root levels level c p y low there below above f w =
+pub carries_on : (old mid new : Pages LegView BoxView) (root levels level c p : ℕ) (y : BoxView) → root < c → old.count ≡ suc c → IsOnLevel old level c → level + 1 < levels → 0 < p → IsFound old mid root levels (level + 1) y p → Attaches mid p (level + 1) c y new → Carries old new root levels level y c (record { root = root; levels = levels })
+carries_on old mid new root levels level c p y low end on below above f w =
     let more = says_attached mid new p (level + 1) c y w in
     let e : EntryView BoxView = record { child = c; bounds = y } in
     let says = says_then old mid new f.says more in
@@ -431,37 +447,56 @@ carries_on old mid new root levels level c p y low there below above f w =
       way = way_more old new says root levels;
       met = step_met new root levels level p c y below (by_more mid new more root levels (level + 1) y p f.met)
           (λ meets prune t. subst (λ l. Contains l c) (sym (met_at meets prune new p (AnInner (with_entry e w.page)) above w.becomes.now)) (met_right meets prune w.page.entries (e ∷ []) c (met_cons meets prune e [] c (inl (t, refl)))));
-      grafts = grafts_attached old mid new root c p (level + 1) y low there f.counted above f.same w;
+      grafts = grafts_attached old mid new root levels c p level y low end f.counted above on f.kinds f.same w;
+      kinds = kinds_then old mid new [] [] f.kinds (kinds_attached mid new p (level + 1) c y w);
+      low = omega arith;
+      pages = (let c = f.counted in let d = w.counted in omega (arith, c, d, below));
     }
 
 -- the first leaf is the root
-pub carries_first : (nodes : Pages LegView BoxView) (root levels c : ℕ) (y : BoxView) → c < nodes.count → levels ≡ 0 → Carries nodes nodes root levels 0 y c (record { root = c; levels = 1 })
-carries_first nodes root levels c y there none = record {
+pub carries_first : (nodes : Pages LegView BoxView) (root levels c : ℕ) (y : BoxView) → nodes.count ≡ suc c → HasLeaf nodes c → levels ≡ 0 → Carries nodes nodes root levels 0 y c (record { root = c; levels = 1 })
+carries_first nodes root levels c y end leaf none = record {
   says = says_none nodes;
   kept = λ meets prune leg h. (let e = h.last in absurd (omega (arith, e, none)));
   way = record { met = λ meets prune n p l m. absurd (omega (arith, l, none)); higher = omega (arith, none); top = λ some l e. absurd (omega (arith, some, none)) };
   met = λ meets prune t n e. subst (λ m. IsMet meets nodes c m c) (let z : 0 ≡ n = omega (arith, e) in z) refl;
-  grafts = grafts_first nodes root c there;
+  grafts = grafts_first nodes root levels c end none leaf;
+  kinds = kinds_same nodes nodes (λ p. refl);
+  low = omega arith;
+  pages = omega arith;
 }
 
 -- legs that are put in
 pub meets_none : (nodes : Pages LegView BoxView) (tree : TbTree) → Meets nodes nodes tree tree []
-meets_none nodes tree = record { kept = λ meets prune leg h. h; way = way_more nodes nodes (says_none nodes) tree.root tree.levels; says = says_none nodes; put = λ meets prune. All-nil (λ leg. meets (box_of leg) ≡ true → HasLeg meets nodes tree.root tree.levels leg); grafts = grafts_same nodes.count nodes nodes tree.root (λ p. refl) (omega arith) }
+meets_none nodes tree = record { kept = λ meets prune leg h. h; way = way_more nodes nodes (says_none nodes) tree.root tree.levels; says = says_none nodes; put = λ meets prune. All-nil (λ leg. meets (box_of leg) ≡ true → HasLeg meets nodes tree.root tree.levels leg); grafts = grafts_same nodes.count nodes nodes tree.root tree.levels [] (kinds_same nodes nodes (λ p. refl)) (λ p. refl) (omega arith) (omega arith); more = omega arith; few = omega arith; low = omega arith; pages = omega arith; astray = λ above p a. a; only = λ leg h. inl h }
 
 meets_grown : (old mid new : Pages LegView BoxView) (tree : TbTree) (p : ℕ) (box : BoxView) (legs : List LegView) → 0 < tree.levels → hull leg_boxes legs ≡ Some box → IsFound old mid tree.root tree.levels 0 box p → Pushes mid p legs new → HasAtEnd new p legs → Meets old new tree tree legs
 meets_grown old mid new tree p box legs some is f w h =
     let more = says_pushed mid new p legs w in
+    let kinds : KeepsKinds old new legs = kinds_then old mid new [] legs f.kinds (kinds_pushed mid new p legs w) in
+    let same = kids_then old mid new f.same (kids_pushed mid new p legs w) in
     record {
       kept = kept_more old new (says_then old mid new f.says more) tree.root tree.levels;
       way = way_more old new (says_then old mid new f.says more) tree.root tree.levels;
       says = says_then old mid new f.says more;
       put = legs_at_end new tree.root tree.levels p box legs some is (by_more mid new more tree.root tree.levels 0 box p f.met) h;
-      grafts = grafts_same old.count old new tree.root (kids_then old mid new f.same (kids_pushed mid new p legs w)) (let x = w.counted in let y = f.counted in omega (arith, x, y));
+      grafts = grafts_same old.count old new tree.root tree.levels legs kinds same (let x = w.counted in let y = f.counted in omega (arith, x, y)) (let x = w.counted in let y = f.counted in omega (arith, x, y));
+      more = omega arith;
+      few = omega arith;
+      low = omega arith;
+      pages = (let x = w.counted in let y = f.counted in omega (arith, x, y));
+      astray = astray_same old new tree.root tree.levels legs kinds same;
+      only = only_same old new tree.root tree.levels legs kinds same;
     }
 
-pub meets_begun : (old mid new : Pages LegView BoxView) (tree tree' : TbTree) (top : Top) (p : ℕ) (box : BoxView) (legs : List LegView) → hull leg_boxes legs ≡ Some box → p ≡ old.count → old.count ≤ mid.count → KeepsKids old mid → SaysMore old mid → Carries mid new tree.root tree.levels 0 box p top → tree'.root ≡ top.root → tree'.levels ≡ top.levels → 0 < top.levels
+pub meets_begun : (old mid new : Pages LegView BoxView) (tree tree' : TbTree) (top : Top) (p : ℕ) (box : BoxView) (legs : List LegView) → hull leg_boxes legs ≡ Some box → p ≡ old.count → mid.count ≡ old.count + 1 → tree'.leaves ≡ tree.leaves + 1 → 0 < length legs → IsBareBeyond old → KeepsKinds old mid legs → KeepsKids old mid → SaysMore old mid → Carries mid new tree.root tree.levels 0 box p top → tree'.root ≡ top.root → tree'.levels ≡ top.levels → 0 < top.levels
     → HasAtEnd new p legs → Meets old new tree tree' legs
-meets_begun old mid new tree tree' top p box legs is number more same s c r l some h =
+meets_begun old mid new tree tree' top p box legs is number counted leaves_are any none begun same s c r l some h =
+    let more : old.count ≤ mid.count = omega (arith, counted) in
+    let kinds : KeepsKinds old new legs = kinds_on old mid new legs begun c.kinds in
+    let grafts : Grafts old.count new.count old new tree.root tree.levels tree'.root tree'.levels =
+    subst (λ a. Grafts old.count new.count old new tree.root tree.levels a tree'.levels) (sym r) (subst (λ b. Grafts old.count new.count old new tree.root tree.levels top.root b) (sym l)
+    (grafts_after old.count new.count old mid new tree.root tree.levels top.root top.levels begun same more (subst (λ b. Grafts b new.count mid new tree.root tree.levels top.root top.levels) number c.grafts))) in
     let back : (meets : BoxView → Bool) (leg : LegView) → HasLeg meets new top.root top.levels leg → HasLeg meets new tree'.root tree'.levels leg = λ meets leg h. subst (λ a. HasLeg meets new a tree'.levels leg) (sym r) (subst (λ b. HasLeg meets new top.root b leg) (sym l) h) in
     record {
       kept = λ meets prune leg h. back meets leg (c.kept meets prune leg (kept_more old mid s tree.root tree.levels meets prune leg h));
@@ -469,8 +504,21 @@ meets_begun old mid new tree tree' top p box legs is number more same s c r l so
           (way_then old mid new tree.root tree.levels tree.root tree.levels top.root top.levels more s.bare (way_more old mid s tree.root tree.levels) c.way));
       says = says_then old mid new s c.says;
       put = λ meets prune. all_of (λ leg. meets (box_of leg) ≡ true → HasLeg meets new tree'.root tree'.levels leg) legs (λ leg at t. back meets leg (All-contains (λ leg. meets (box_of leg) ≡ true → HasLeg meets new top.root top.levels leg) legs leg (legs_at_end new top.root top.levels p box legs some is c.met h meets prune) at t));
-      grafts = subst (λ a. Grafts old.count old new tree.root a) (sym r) (grafts_after old.count old mid new tree.root top.root same more (subst (λ b. Grafts b mid new tree.root top.root) number c.grafts));
+      grafts = grafts;
+      more = omega (arith, leaves_are);
+      few = omega (arith, leaves_are, any);
+      low = (let x = c.low in omega (arith, leaves_are, x, l));
+      pages = subst (λ d. new.count ≤ old.count + d * tree'.levels) (let z : 1 ≡ tree'.leaves - tree.leaves = omega (arith, leaves_are) in z) (let few = c.pages in omega (arith, few, counted, l));
+      astray = astray_grafted old new tree.root tree.levels tree'.root tree'.levels legs kinds none grafts;
+      only = only_grafted old new tree.root tree.levels tree'.root tree'.levels legs kinds none grafts;
     }
+
+-- leaves more, and then others
+pages_then : (a b c t u v k l : ℕ) → t ≤ u → u ≤ v → k ≤ l → b ≤ a + (u - t) * k → c ≤ b + (v - u) * l → c ≤ a + (v - t) * l
+pages_then a b c t u v k l first then wide one two =
+    let w : (u - t) * k ≤ (u - t) * l = mul-le (u - t) k (u - t) l (omega arith) wide in
+    let s : (v - t) * l ≡ (u - t) * l + (v - u) * l = ap (λ d. d * l) (let z : v - t ≡ (u - t) + (v - u) = omega (arith, first, then) in z) ∙ add-mul (u - t) (v - u) l in
+    omega (arith, one, two, w, s)
 
 meets_then : (a b c : Pages LegView BoxView) (t u v : TbTree) (xs ys : List LegView) → Meets a b t u xs → Meets b c u v ys → Meets a c t v (xs ++ ys)
 meets_then a b c t u v xs ys m n = record {
@@ -479,7 +527,19 @@ meets_then a b c t u v xs ys m n = record {
   says = says_then a b c m.says n.says;
   put = λ meets prune. All-append (λ leg. meets (box_of leg) ≡ true → HasLeg meets c v.root v.levels leg) xs ys
       (all_of (λ leg. meets (box_of leg) ≡ true → HasLeg meets c v.root v.levels leg) xs (λ leg h t. n.kept meets prune leg (All-contains (λ leg. meets (box_of leg) ≡ true → HasLeg meets b u.root u.levels leg) xs leg (m.put meets prune) h t))) (n.put meets prune);
-  grafts = grafts_on a b c t.root u.root v.root m.grafts n.grafts;
+  grafts = grafts_on a b c t.root t.levels u.root u.levels v.root v.levels m.grafts n.grafts;
+  more = (let x = m.more in let y = n.more in omega (arith, x, y));
+  few = (let x = m.few in let y = n.few in let z = length-append xs ys in omega (arith, x, y, z));
+  low = (let x = m.low in let y = n.low in let z = m.more in let w = n.more in omega (arith, x, y, z, w));
+  pages = pages_then a.count b.count c.count t.leaves u.leaves v.leaves u.levels v.levels m.more n.more n.way.higher m.pages n.pages;
+  astray = λ above p h. m.astray above p (n.astray above p h);
+  only = λ leg h. ⊎_elim
+      (λ (k : LeadsToLeg b u.root u.levels leg). ⊎_elim
+      (λ (o : LeadsToLeg a t.root t.levels leg). inl o)
+      (λ (o : Contains xs leg). inr (Contains-append_left xs ys leg o))
+      (m.only leg k))
+      (λ (k : Contains ys leg). inr (Contains-append_right xs ys leg k))
+      (n.only leg h);
 }
 
 -- what is met, as a list
@@ -494,7 +554,7 @@ unlisted meets nodes root (suc n) p h =
     (r.0, unlisted meets nodes root n r.0 r.1, r.2)
 
 -- the legs that pass a test
-passed : (test : LegView → Bool) (legs : List LegView) (leg : LegView) → Contains (filter test legs) leg → Contains legs leg × (test leg ≡ true)
+pub passed : (test : LegView → Bool) (legs : List LegView) (leg : LegView) → Contains (filter test legs) leg → Contains legs leg × (test leg ≡ true)
 passed test [] leg h = absurd (no_element leg h)
 passed test (l ∷ ls) leg h = (elim (test l) as (λ b. test l ≡ b → Contains (cond b (l ∷ filter test ls) (filter test ls)) leg → Contains (l ∷ ls) leg × (test leg ≡ true)) [
   | true ↦ λ t c. ⊎_elim
@@ -545,7 +605,13 @@ content_grows old new tree tree' legs m = record {
   higher = m.way.higher;
   bare = m.says.bare;
   top = m.way.top;
+  astray = m.astray;
+  only = m.only;
   grafts = m.grafts;
+  more = m.more;
+  few = m.few;
+  low = m.low;
+  pages = m.pages;
 }
 
 pub on_grown : (old mid new : Pages LegView BoxView) (tree : TbTree) (p last : ℕ) (box : BoxView) (legs : List LegView) (res : Result (Unit {0}) TreeFault) → 0 < tree.levels → p ≡ last → hull leg_boxes legs ≡ Some box → IsFound old mid tree.root tree.levels 0 box p → OnOk res (Pushes mid p legs new) → OnOk res (HasAtEnd new last legs) → OnOk res (Meets old new tree tree legs)
@@ -556,10 +622,10 @@ pub on_says : (old new : Pages LegView BoxView) (node : Node LegView BoxView) (r
 on_says old new node (Ok p) fresh w = says_added old new node p fresh w
 on_says old new node (Err x) fresh w = tt
 
-pub on_carried : (old mid new : Pages LegView BoxView) (root levels level c q : ℕ) (y : BoxView) (res : Result Top TreeFault) → root < c → c < old.count → old.at old.count ≡ None → level + 1 < levels → IfOk res (λ top. levels ≤ top.levels)
+pub on_carried : (old mid new : Pages LegView BoxView) (root levels level c q : ℕ) (y : BoxView) (res : Result Top TreeFault) → root < c → old.count ≡ suc c → IsOnLevel old level c → old.at old.count ≡ None → level + 1 < levels → IfOk res (λ top. levels ≤ top.levels)
     → Adds old (AnInner (record { level = level + 1; entries = record { child = c; bounds = y } ∷ [] })) mid q → IfOk res (Carries mid new root levels (level + 1) y q) → IfOk res (Carries old new root levels level y c)
-on_carried old mid new root levels level c q y (Ok top) low there fresh below higher w h = carries_up old mid new root levels level c q y top low there fresh (omega (arith, below, higher)) w h
-on_carried old mid new root levels level c q y (Err x) low there fresh below higher w h = tt
+on_carried old mid new root levels level c q y (Ok top) low end on fresh below higher w h = carries_up old mid new root levels level c q y top low end on fresh (omega (arith, below, higher)) w h
+on_carried old mid new root levels level c q y (Err x) low end on fresh below higher w h = tt
 
 pub on_found : (old mid new : Pages LegView BoxView) (root levels level p e : ℕ) (y : BoxView) (res : Result ℕ TreeFault) → level + 1 < levels → OnOk res (0 < p) → IsFound old mid root levels (level + 1) y p → IfOk res (λ c. Widens leg_boxes mid p (level + 1) e y new c) → IfOk res (IsFound old new root levels level y)
 on_found old mid new root levels level p e y (Ok c) below above f w = found_next old mid new root levels level p e y c below above f w
@@ -571,4 +637,4 @@ meets_part a b c t u v legs n k m w = subst (λ l. Meets a c t v l) (ap (λ j. t
 
 -- whether it is spent is no part of it
 pub grows_spent : (old new : Pages LegView BoxView) (tree tree' : TbTree) (was is : Bool) (legs : List LegView) → Meets old new (record tree { spent = was }) tree' legs → ContentGrows old new tree (record tree' { spent = is }) legs
-grows_spent old new tree tree' was is legs m = content_grows old new tree (record tree' { spent = is }) legs (record { kept = m.kept; way = m.way; says = m.says; put = m.put; grafts = m.grafts })
+grows_spent old new tree tree' was is legs m = content_grows old new tree (record tree' { spent = is }) legs (record { kept = m.kept; way = m.way; says = m.says; put = m.put; grafts = m.grafts; more = m.more; few = m.few; low = m.low; pages = m.pages; astray = m.astray; only = m.only })

@@ -18,7 +18,7 @@ use Rattle.tbtree.specs.Payloads.{TakesLegs, are_of_one_leaf}
 use Rattle.tbtree.specs.Stands.{last_or, new_leaf, owner}
 use Rattle.tbtree.specs.declared.fault.TreeFault.{TreeFault}
 use Rattle.tbtree.specs.declared.tree.Place.{Place}
-use Rattle.tbtree.proofs.GraftLemmas.{has_first, no_element}
+use Rattle.tbtree.proofs.ElementLemmas.{has_first, no_element}
 use Rattle.tbtree.proofs.EndLemmas.{goes_own, leaf_own}
 use Rattle.tbtree.proofs.FillLemmas.{all_in_last, length_part, part_is}
 use Rattle.tbtree.proofs.OldLeaf.{room, room_some, room_within, taken_all, taken_nil}

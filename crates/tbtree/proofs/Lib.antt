@@ -5,7 +5,10 @@ pub mod CoverLemmas
 pub mod Still
 pub mod HullLemmas
 pub mod Widening
+pub mod ElementLemmas
+pub mod KindLemmas
 pub mod GraftLemmas
+pub mod LeadLemmas
 pub mod FullLemmas
 pub mod RoomLemmas
 pub mod BeginLemmas

@@ -101,6 +101,11 @@ pub record HasInner {L B : Type 0} (nodes : Pages L B) (p level : ℕ) : Type 0 
   pub is : nodes.at p ≡ Some (Some (AnInner page))
   pub level_is : page.level ≡ level
 
+-- the page is one of the level: a leaf on level 0, else an inner page
+abbrev pub IsOnLevel : Pages LegView BoxView → ℕ → ℕ → Type 0
+IsOnLevel nodes zero p = HasLeaf nodes p
+IsOnLevel nodes (suc k) p = HasInner nodes p (suc k)
+
 -- the way down by a test of boxes, over pages that stand for legs
 pub record Descends (meets : BoxView → Bool) (nodes : Pages LegView BoxView) (tree : TbTree)
     (legs : List LegView) : Type 0 where

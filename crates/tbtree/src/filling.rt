@@ -58,6 +58,7 @@ fn put_all<S: PageStore>(
         (Meets (pages_of_cache cache.old) (pages_of_cache cache.new) tree.old tree.new legs.now) }
     ensures counted { OnOk result (place.new.legs ≡ place.old.legs + length legs.now) }
     ensures named { 0 < length legs.now → OnOk result (NamesLast place.old) }
+    ensures rooted { 0 < length legs.now → OnOk result (tree.old.root < cache.old.count) }
     ensures stays { 0 < place.old.legs % tree.old.shape.leaf
         → place.old.legs % tree.old.shape.leaf + length legs.now ≤ tree.old.shape.leaf
         → OnOk result (place.new.last ≡ place.old.last) }
@@ -120,6 +121,7 @@ pub fn insert_all<S: PageStore>(
         legs.now) }
     ensures counted { OnOk result (place.new.legs ≡ place.old.legs + length legs.now) }
     ensures named { 0 < length legs.now → OnOk result (NamesLast place.old) }
+    ensures rooted { 0 < length legs.now → OnOk result (tree.old.root < cache.old.count) }
 
     // The last leaf stays the one where it has room for all, and else is it or a new page.
     ensures stays { 0 < place.old.legs % tree.old.shape.leaf

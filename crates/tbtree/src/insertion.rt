@@ -1,12 +1,13 @@
 //! Insertion.
-ghost use Rattle.std.specs.Prelude.{ℕ, [], ◌∷◌, None, length, ◌≢◌, ◌≡◌, ◌<◌, ◌≤◌, ◌+◌, ◌-◌, ◌*◌, ◌%◌, ◌^◌, IfOk, IfErr, OnOk, OnErr, IsTrue, false, true, Err};
+ghost use Rattle.std.specs.Prelude.{ℕ, suc, [], ◌∷◌, None, length, ◌≢◌, ◌≡◌, ◌<◌, ◌≤◌, ◌+◌, ◌-◌, ◌*◌, ◌%◌, ◌^◌, IfOk, IfErr, OnOk, OnErr, IsTrue, false, true, Err};
 ghost use Rattle.legs.specs.Costs.{leg_feature};
 ghost use Rattle.legs.specs.Hull.{leg_boxes};
 ghost use Rattle.tbtree.specs.Faults.{MayRefuseWrite, RefusesWrite};
 ghost use Rattle.tbtree.specs.Nodes.{pages_of_cache, HasLastLeaf, KeepsLeaves};
 ghost use Rattle.tbtree.specs.Passes.{Passes, KeepsLength, KeepsOthers, Touches};
 ghost use Rattle.tbtree.specs.Way.{IsOnWay, Hangs};
-ghost use Rattle.tbtree.specs.Content.{Carries, ContentGrows, IsFound, KeepsKids, Meets, SaysMore};
+ghost use Rattle.tbtree.specs.Content.{Carries, ContentGrows, IsBareBeyond, IsFound, KeepsKids, KeepsKinds, Meets, SaysMore};
+ghost use Rattle.tbtree.specs.Descent.{IsOnLevel};
 ghost use Rattle.tbtree.specs.Insert.{Grows, Begins, Inserts};
 ghost use Rattle.tbtree.specs.Filling.{page_made, place_with, BeginsLeaf, FillsLeaves, GrowsLeaf, NamesLast};
 ghost use Rattle.tbtree.specs.Joining.{HasAtEnd, Joins, JoinsAll};
@@ -114,7 +115,8 @@ fn root_over<S: PageStore>(
     ensures no_more { IsTrue cache.old.store.is_faithful
         → OnOk result (KeepsLeaves (pages_of_cache cache.new) (pages_of_cache cache.old)) }
     ensures carries { IsTrue cache.old.store.is_faithful → tree.now.root < child.now.child
-        → child.now.child < cache.old.count → IfOk result
+        → cache.old.count ≡ suc child.now.child
+        → IsOnLevel (pages_of_cache cache.old) level child.now.child → IfOk result
         (Carries (pages_of_cache cache.old) (pages_of_cache cache.new) tree.now.root
         tree.now.levels level child.now.bounds child.now.child) }
     ensures touches { Touches cache.old cache.new result }
@@ -153,7 +155,8 @@ fn hang<S: PageStore>(
     ensures no_more { IsTrue cache.old.store.is_faithful
         → OnOk result (KeepsLeaves (pages_of_cache cache.new) (pages_of_cache cache.old)) }
     ensures carries { IsTrue cache.old.store.is_faithful → tree.now.root < child.now.child
-        → child.now.child < cache.old.count → IfOk result
+        → cache.old.count ≡ suc child.now.child
+        → IsOnLevel (pages_of_cache cache.old) level child.now.child → IfOk result
         (Carries (pages_of_cache cache.old) (pages_of_cache cache.new) tree.now.root
         tree.now.levels level child.now.bounds child.now.child) }
     ensures touches { Touches cache.old cache.new result }
@@ -240,6 +243,11 @@ fn add_last<S: PageStore>(
         → OnOk result (SaysMore (pages_of_cache cache.old) (pages_of_cache cache.new)) }
     ensures kids { IsTrue cache.old.store.is_faithful
         → OnOk result (KeepsKids (pages_of_cache cache.old) (pages_of_cache cache.new)) }
+    ensures kinds { IsTrue cache.old.store.is_faithful → OnOk result
+        (KeepsKinds (pages_of_cache cache.old) (pages_of_cache cache.new) legs.now) }
+    ensures none { OnOk result (IsBareBeyond (pages_of_cache cache.old)) }
+    ensures counted { IsTrue cache.old.store.is_faithful
+        → OnOk result (cache.new.count ≡ cache.old.count + 1) }
     ensures touches { Touches cache.old cache.new result }
     ensures asked { cache.new.asked ≤ cache.old.asked + 2 }
 {
@@ -272,7 +280,8 @@ fn hang_leaf<S: PageStore>(
     ensures no_more { IsTrue cache.old.store.is_faithful
         → OnOk result (KeepsLeaves (pages_of_cache cache.new) (pages_of_cache cache.old)) }
     ensures carries { IsTrue cache.old.store.is_faithful → tree.now.root < page.now.child
-        → page.now.child < cache.old.count → IfOk result
+        → cache.old.count ≡ suc page.now.child
+        → IsOnLevel (pages_of_cache cache.old) 0 page.now.child → IfOk result
         (Carries (pages_of_cache cache.old) (pages_of_cache cache.new) tree.now.root
         tree.now.levels 0 page.now.bounds page.now.child) }
     ensures some { IfOk result (λ top. 0 < top.levels) }
@@ -389,6 +398,7 @@ pub(crate) fn put<S: PageStore>(
     ensures place { OnOk result (place.new ≡ place_with tree.old.leaves place.old legs.now
         (page_made tree.old.shape.leaf cache.old.count place.old)) }
     ensures range { IsShape tree.old.shape }
+    ensures rooted { OnOk result (tree.old.root < cache.old.count) }
     ensures named { OnOk result (NamesLast place.old) }
     ensures begun { place.old.legs % tree.old.shape.leaf ≡ 0
         → OnOk result (tree.new.leaves ≡ tree.old.leaves + 1) }
@@ -452,6 +462,7 @@ pub fn insert<S: PageStore>(
     ensures place { OnOk result (place.new ≡ place_with tree.old.leaves place.old (leg ∷ [])
         (page_made tree.old.shape.leaf cache.old.count place.old)) }
     ensures named { OnOk result (NamesLast place.old) }
+    ensures rooted { OnOk result (tree.old.root < cache.old.count) }
 
     // What is left of the cache, over any pages.
     ensures passes { Passes cache.old cache.new }

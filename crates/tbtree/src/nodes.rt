@@ -1,9 +1,10 @@
 //! The pages of a tree in a cache: each call here changes one page, adds one, or reads one.
-ghost use Rattle.std.specs.Prelude.{◌≡◌, ◌+◌, ◌≤◌, ◌<◌, [], ◌∷◌, OnOk, OnErr, IfOk, IfErr, IsTrue, None, length, true};
+ghost use Rattle.std.specs.Prelude.{ℕ, ◌≡◌, ◌+◌, ◌≤◌, ◌<◌, [], ◌∷◌, OnOk, OnErr, IfOk, IfErr, IsTrue, None, length, true};
 ghost use Rattle.legs.specs.Hull.{leg_boxes};
 ghost use Rattle.pagecache.specs.Cache as caches;
 ghost use Rattle.pagecache.specs.Cache.{payload_of, AsksOnce, IsNotAdded, KeepsPayloads};
 ghost use Rattle.tbnode.specs.Edits.{new_inner};
+ghost use Rattle.tbtree.specs.Content.{IsBareBeyond};
 ghost use Rattle.tbtree.specs.Faults.{MayRefuseWrite};
 ghost use Rattle.tbtree.specs.Nodes.{pages_of_cache, AnInner, Adds, Attaches, Covers, HasCover, HasEntry, HasLastLeaf, HasLeafRoom, HasRoom, Links, Pushes, Widens};
 ghost use Rattle.tbtree.specs.Passes.{Touches};
@@ -151,7 +152,7 @@ fn add_page<S: PageStore>(
 ) -> Result<u32, CacheFault>
     ensures adds { OnOk result (caches.Adds payload cache.old cache.new) }
     ensures number { IfOk result (λ number. number ≡ cache.old.count) }
-    ensures none_before { payload_of cache.old cache.old.count ≡ None }
+    ensures none_before { (n : ℕ) → cache.old.count ≤ n → payload_of cache.old n ≡ None }
     ensures length { OnOk result (cache.old.count ≡ cache.old.store.count
         → cache.new.count ≡ cache.new.store.count) }
     ensures refused { OnErr result (KeepsPayloads cache.old cache.new) }
@@ -179,6 +180,7 @@ pub(crate) fn add_leaf<S: PageStore>(
     ensures only { IsTrue cache.old.store.is_faithful
         → are_of_one_leaf legs.now ≡ true → IfErr result MayRefuseWrite }
     ensures fresh { OnOk result ((pages_of_cache cache.old).at cache.old.count ≡ None) }
+    ensures none { OnOk result (IsBareBeyond (pages_of_cache cache.old)) }
     ensures number { IfOk result (λ page. page ≡ cache.old.count) }
     ensures one { OnOk result (are_of_one_leaf legs.now ≡ true) }
     ensures touches { Touches cache.old cache.new result }

@@ -8,11 +8,11 @@ use Rattle.legs.specs.Law.{IsBook}
 use Rattle.legs.specs.Limits.{IsLimits, LimitsView}
 use Rattle.legs.specs.Tracks.{StandsFor}
 use Rattle.boxsearch.specs.Index.{content, words, IndexView, IsMarked, IsSound as IsSoundIndex}
-use Rattle.catalogue.specs.Holding.{AnswersBook, HoldsBook, HoldsButFirst, IsAtRest, IsOfBook, IsUnfinishedStore}
+use Rattle.catalogue.specs.Holding.{AnswersBook, HoldsBook, HoldsButFirst, HoldsIndex, HoldsIndexButFirst, IsAtRest, IsOfBook, IsUnfinishedStore}
 use Rattle.register.specs.Lasting as catalogue
 use Rattle.register.specs.Stopping as stopping
 use Rattle.register.specs.Saved.{CatalogueView}
-use Rattle.register.specs.Saving.{IsSavingStop}
+use Rattle.register.specs.Saving.{HasFew, IsSavingStop}
 use Rattle.register.specs.declared.fault.CatalogueFault.{CatalogueFault}
 use Rattle.register.specs.declared.fault.CatalogueFault.TheVariants as fault
 use Rattle.pages.specs.Store.{Store, IsLawful, IsSynced, IsSyncedButFirst}
@@ -115,6 +115,12 @@ pub closed_holds : (db : DbView) (s : Store) (answer : Result (Unit {0}) Catalog
 closed_holds db s (Ok x) legs h begun = λ sound pages idle. h sound.index (pages.begun begun) db.book (own_book db sound) legs
 closed_holds db s (Err e) legs h begun = tt
 
+-- and keeps its catalogue and its index
+pub closed_kept : (db : DbView) (s : Store) (answer : Result (Unit {0}) CatalogueFault) → OnOk answer (IsMarked db.index.cache → HoldsIndex s (catalogue_of db) db.index)
+    → OnOk (closed_answer answer) (db.begun ≡ true → IsMarked db.index.cache → HoldsIndex s (catalogue_of db) db.index)
+closed_kept db s (Ok x) h = λ begun. h
+closed_kept db s (Err e) h = tt
+
 -- all of it is synced
 pub closed_synced : (B : Type 0) (s : Store) (answer : Result (Unit {0}) CatalogueFault) → OnOk answer (IsSynced s) → OnOk (closed_answer answer) (B → IsSynced s)
 closed_synced B s (Ok x) h = λ b. h
@@ -157,23 +163,48 @@ pub closed_ordered : (db : DbView) (s : Store) (answer : Result (Unit {0}) Catal
 closed_ordered db s (Ok x) h = tt
 closed_ordered db s (Err e) h = λ lives marked. h marked
 
+pub closed_behind : (db : DbView) (s : Store) (answer : Result (Unit {0}) CatalogueFault) → OnErr answer (IsMarked db.index.cache → IsUnfinishedStore s ⊎ HoldsIndexButFirst s (catalogue_of db) db.index)
+    → OnErr (closed_answer answer) (db.failed ≡ false → IsMarked db.index.cache → IsUnfinishedStore s ⊎ HoldsIndexButFirst s (catalogue_of db) db.index)
+closed_behind db s (Ok x) h = tt
+closed_behind db s (Err e) h = λ lives. h
+
 pub closed_refused : (db : DbView) (s : Store) (answer : Result (Unit {0}) CatalogueFault) → content db.index ≡ db.book.legs
     → OnErr answer (IsSoundIndex db.index → IsMarked db.index.cache → (book : Book) → IsOfBook db.limits book (catalogue_of db) → content db.index ≡ book.legs → IsUnfinishedStore s ⊎ HoldsButFirst s db.index.tree.shape db.limits book)
     → db.begun ≡ true → OnErr (closed_answer answer) (IsSoundDb db → HasPages db → db.failed ≡ false → IsUnfinishedStore s ⊎ HoldsButFirst s db.index.tree.shape db.limits db.book)
 closed_refused db s (Ok x) legs h begun = tt
 closed_refused db s (Err e) legs h begun = λ sound pages lives. h sound.index (pages.begun begun) db.book (own_book db sound) legs
 
-pub closed_unfinished : (db : DbView) (s : Store) (answer : Result (Unit {0}) CatalogueFault)
-    → IfErr answer (λ fault. IsNoStoreFault fault → IsSoundIndex db.index → IsMarked db.index.cache → IsUnfinishedStore s)
+-- where memory ran out or the store is full, it says that it is not finished
+pub closed_unfinished_marked : (db : DbView) (s : Store) (answer : Result (Unit {0}) CatalogueFault) → IfErr answer (λ fault. IsNoStoreFault fault → IsMarked db.index.cache → IsUnfinishedStore s)
+    → IfErr (closed_answer answer) (λ fault. IsFaultless fault → db.failed ≡ false → IsMarked db.index.cache → IsUnfinishedStore s)
+closed_unfinished_marked db s (Ok x) h = tt
+closed_unfinished_marked db s (Err Memory) h = λ f lives. h tt
+closed_unfinished_marked db s (Err fault.Store) h = λ f. absurd f
+closed_unfinished_marked db s (Err StoreFull) h = λ f lives. h tt
+closed_unfinished_marked db s (Err (Damaged n)) h = λ f. absurd f
+closed_unfinished_marked db s (Err Unfinished) h = λ f. absurd f
+closed_unfinished_marked db s (Err Version) h = λ f. absurd f
+closed_unfinished_marked db s (Err Malformed) h = λ f. absurd f
+
+pub closed_unfinished : (db : DbView) (s : Store) (answer : Result (Unit {0}) CatalogueFault) → IfErr answer (λ fault. IsNoStoreFault fault → IsMarked db.index.cache → IsUnfinishedStore s)
     → db.begun ≡ true → IfErr (closed_answer answer) (λ fault. IsFaultless fault → IsSoundDb db → HasPages db → db.failed ≡ false → IsUnfinishedStore s)
-closed_unfinished db s (Ok x) h begun = tt
-closed_unfinished db s (Err Memory) h begun = λ f sound pages lives. h tt sound.index (pages.begun begun)
-closed_unfinished db s (Err fault.Store) h begun = λ f. absurd f
-closed_unfinished db s (Err StoreFull) h begun = λ f sound pages lives. h tt sound.index (pages.begun begun)
-closed_unfinished db s (Err (Damaged n)) h begun = λ f. absurd f
-closed_unfinished db s (Err Unfinished) h begun = λ f. absurd f
-closed_unfinished db s (Err Version) h begun = λ f. absurd f
-closed_unfinished db s (Err Malformed) h begun = λ f. absurd f
+closed_unfinished db s answer h begun = sound_too (closed_answer answer) (closed_unfinished_marked db s answer h) where
+  sound_too : (r : Result (Unit {0}) RunFault) → IfErr r (λ fault. IsFaultless fault → db.failed ≡ false → IsMarked db.index.cache → IsUnfinishedStore s)
+      → IfErr r (λ fault. IsFaultless fault → IsSoundDb db → HasPages db → db.failed ≡ false → IsUnfinishedStore s)
+  sound_too (Ok x) all = tt
+  sound_too (Err e) all = λ f sound pages lives. all f lives (pages.begun begun)
+
+-- where page 0 is marked it refuses for want of memory and by the store alone
+pub closed_only_marked : (db : DbView) (answer : Result (Unit {0}) CatalogueFault) → IfErr answer (λ fault. IsMarked db.index.cache → HasFew (catalogue_of db) → IsSavingStop fault)
+    → IfErr (closed_answer answer) (λ fault. db.failed ≡ false → IsMarked db.index.cache → HasFew (catalogue_of db) → IsLoadFault fault)
+closed_only_marked db (Ok x) h = tt
+closed_only_marked db (Err Memory) h = λ lives marked few. tt
+closed_only_marked db (Err fault.Store) h = λ lives marked few. tt
+closed_only_marked db (Err StoreFull) h = λ lives marked few. tt
+closed_only_marked db (Err (Damaged n)) h = λ lives. h
+closed_only_marked db (Err Unfinished) h = λ lives. h
+closed_only_marked db (Err Version) h = λ lives. h
+closed_only_marked db (Err Malformed) h = λ lives. h
 
 pub closed_only : (db : DbView) (answer : Result (Unit {0}) CatalogueFault) → content db.index ≡ db.book.legs
     → IfErr answer (λ fault. IsSoundIndex db.index → (book : Book) → IsOfBook db.limits book (catalogue_of db) → content db.index ≡ book.legs → IsSavingStop fault)

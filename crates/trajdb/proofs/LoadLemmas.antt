@@ -25,6 +25,7 @@ use Rattle.legs.specs.declared.joining.JoinFault.{JoinFault}
 use Rattle.legs.specs.declared.joining.JoinFault.TheVariants as join
 use Rattle.trajdb.specs.Answers.{book_by, book_with, counts_or, joined_counts, load_of}
 use Rattle.legs.specs.Counting.{names_after}
+use Rattle.trajdb.specs.Calls.{IsRefusedBy}
 use Rattle.trajdb.specs.Database.{FaultIs, IsRefused}
 use Rattle.trajdb.specs.Loads.{Accepts, IsRead, code_fault, counts_in, join_fault, values_of}
 use Rattle.trajdb.specs.declared.FileCode.{FileCode}
@@ -57,6 +58,19 @@ reading_more tracks limits text left rest joiner joiner' rows rows' r is e joins
 code_told : (limits : LimitsView) (book : Book) (fault : FileFault) (text : Result File (Code × ℕ)) → IsTextFault fault text → FaultIs (code_fault fault) (joined_counts limits book text)
 code_told limits book text.Memory said f = tt
 code_told limits book (text.Refused code number) said f = ap (joined_counts limits book) f
+
+code_read : (bytes : List ℕ) (fault : FileFault) → IsTextFault fault (file_of_bytes bytes) → IsRefusedBy bytes (code_fault fault)
+code_read bytes text.Memory f = tt
+code_read bytes (text.Refused code number) f = f
+
+pub reading_reads : (tracks : TracksView) (limits : LimitsView) (bytes : List ℕ) (left : Result File (Code × ℕ)) (joiner : JoiningView) (rows : List (List (List ℕ))) (fault : FileFault) → IsReading tracks limits (file_of_bytes bytes) left joiner rows
+    → IsTextFault fault left → IsRefusedBy bytes (code_fault fault)
+reading_reads tracks limits bytes left joiner rows fault is f = code_read bytes fault (all_fails fault is.records left (file_of_bytes bytes) is.said f)
+
+pub reading_head_reads : (tracks : TracksView) (limits : LimitsView) (bytes : List ℕ) (left over : Result File (Code × ℕ)) (joiner : JoiningView) (rows : List (List (List ℕ))) (fault : FileFault) → IsReading tracks limits (file_of_bytes bytes) left joiner rows
+    → over ≡ left → IsTextFault fault over → IsRefusedBy bytes (code_fault fault)
+reading_head_reads tracks limits bytes left over joiner rows fault is o f =
+    reading_reads tracks limits bytes left joiner rows fault is (subst (λ (t : Result File (Code × ℕ)). IsTextFault fault t) o f)
 
 pub reading_fails : (tracks : TracksView) (limits : LimitsView) (bytes : List ℕ) (left : Result File (Code × ℕ)) (joiner : JoiningView) (rows : List (List (List ℕ))) (fault : FileFault) (book : Book) → IsReading tracks limits (file_of_bytes bytes) left joiner rows
     → IsTextFault fault left → FaultIs (code_fault fault) (load_of limits book bytes)
@@ -97,6 +111,10 @@ pub reading_refused : (tracks : TracksView) (limits : LimitsView) (bytes : List 
 unfolding load_of
 reading_refused tracks limits bytes left joiner rows head book fault is said f =
     subst (λ (text : Result File (Code × ℕ)). FaultIs (join_fault fault) (joined_counts limits book text)) (sym said) (join_told limits book (file_of head is.records) fault f)
+
+pub join_read : (bytes : List ℕ) (file : File) (fault : JoinFault) → file_of_bytes bytes ≡ Ok file → IsRefusedBy bytes (join_fault fault)
+join_read bytes file join.Memory said = tt
+join_read bytes file (join.Refused code number) said = (file, said)
 
 -- what is told of a file that was read and joined
 pub accepted_counts : (limits : LimitsView) (book : Book) (bytes : List ℕ) (file : File) (new : NewFile) → file_of_bytes bytes ≡ Ok file → Accepts limits book file new → load_of limits book bytes ≡ Ok (counts_in new.joined)

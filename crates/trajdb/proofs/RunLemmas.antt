@@ -87,8 +87,8 @@ at_more limits files a b c old mid new lines rest others line k at e done =
     }
 
 pub at_cut : (limits : LimitsView) (files : Named) (a b c : Option (List ℕ)) (old mid new : Book) (lines : List (List ℕ)) (rest others line : List ℕ) (k : ℕ) → IsAt limits files a b old mid lines rest k
-    → lines_of rest ≡ line ∷ lines_of others → HasCut limits files b c mid new line → (j : ℕ) × HasCutRun limits files a c old new lines j
-at_cut limits files a b c old mid new lines rest others line k at e cut =
+    → lines_of rest ≡ line ∷ lines_of others → HasCut limits files b c mid new line → (P : ℕ → Type 0) → P (k + 1) → (j : ℕ) × HasCutRun limits files a c old new lines j × P j
+at_cut limits files a b c old mid new lines rest others line k at e cut P p =
     let next : drop k lines ≡ line ∷ lines_of others = at.left ∙ e in
     let answer : IsLineText limits files (run_book limits files old (take k lines)) line cut.text = subst (λ (book : Book). IsLineText limits files book line cut.text) at.book cut.answer in
     let back : k ≡ k + 1 - 1 = omega arith in
@@ -105,6 +105,7 @@ at_cut limits files a b c old mid new lines rest others line k at e cut =
         whole = (take cut.n cut.text, refl);
         book = cut.book ∙ ap (λ l. line_book limits files l line) at.book ∙ sym (book_more limits files old lines k line (lines_of others) next);
       },
+      p,
     )
 
 pub nth_line : (lines : List (List ℕ)) (k : ℕ) (line : List ℕ) (others : List (List ℕ)) → drop k lines ≡ line ∷ others → (k < length lines) × (get_or lines k [] ≡ line)
@@ -114,8 +115,8 @@ nth_line (x ∷ xs) zero line others e = (omega arith, (cons_parts x line xs oth
 nth_line (x ∷ xs) (suc k) line others e = let r = nth_line xs k line others e in (let l = r.0 in omega (arith, l), r.1)
 
 pub at_refused : (limits : LimitsView) (files : Named) (a b c : Option (List ℕ)) (old mid new : Book) (failed : Bool) (lines : List (List ℕ)) (rest others line : List ℕ) (k : ℕ) → IsAt limits files a b old mid lines rest k
-    → lines_of rest ≡ line ∷ lines_of others → HasNotDone files b c mid new failed line → (j : ℕ) × HasStopped limits files a c old new failed lines j
-at_refused limits files a b c old mid new failed lines rest others line k at e stop =
+    → lines_of rest ≡ line ∷ lines_of others → HasNotDone files b c mid new failed line → (P : ℕ → Type 0) → P k → (j : ℕ) × HasStopped limits files a c old new failed lines j × P j
+at_refused limits files a b c old mid new failed lines rest others line k at e stop P p =
     let nth = nth_line lines k line (lines_of others) (at.left ∙ e) in (
       k,
       record {
@@ -127,6 +128,7 @@ at_refused limits files a b c old mid new failed lines rest others line k at e s
         book = λ lives. stop.book lives ∙ at.book;
         loads = λ dead. subst (λ (l : List ℕ). LoadsBy files l) (sym nth.1) (stop.loads dead);
       },
+      p,
     )
 
 pub lines_none : lines_of [] ≡ []
@@ -171,8 +173,8 @@ shorter limits files book lines (suc j) text h =
     subst (λ (i : ℕ). Earlier limits files book lines i text) back (one_shorter limits files book lines j text h)
 
 pub at_unflushed : (limits : LimitsView) (files : Named) (a b c : Option (List ℕ)) (old new : Book) (lines : List (List ℕ)) (rest : List ℕ) (k : ℕ) → IsAt limits files a b old new lines rest k → Keeps b c
-    → (j : ℕ) × HasCutRun limits files a c old new lines j
-at_unflushed limits files a b c old new lines rest k at kept =
+    → (P : ℕ → Type 0) → P k → (j : ℕ) × HasCutRun limits files a c old new lines j × P j
+at_unflushed limits files a b c old new lines rest k at kept P p =
     let earlier = shorter limits files old lines k at.text at.answers in (
       k,
       record {
@@ -186,6 +188,7 @@ at_unflushed limits files a b c old new lines rest k at kept =
         whole = earlier.prefix;
         book = at.book;
       },
+      p,
     )
 
 pub nil_from_length : {X : Type 0} (xs : List X) → eqb (length xs) 0 ≡ true → xs ≡ []
@@ -242,6 +245,10 @@ module _ (limits : LimitsView) (files : Named) (a b : Option (List ℕ)) (old mi
 
   pub begun_more : ((new ≡ true) ↔ ((is ≡ true) ⊎ AcceptsLine limits files mid line)) → HasBegun limits files old lines was new (k + 1)
   begun_more h = (λ t. forth (h.0 t), λ w. h.1 (back w))
+
+  -- the line, which was answered or not, began it
+  pub begun_by : (new ≡ true → (is ≡ true) ⊎ AcceptsLine limits files mid line) → new ≡ true → (was ≡ true) ⊎ AcceptsSome limits files old (take (k + 1) lines)
+  begun_by h t = forth (h t)
 
   -- the line was not answered
   pub begun_only : (new ≡ true → (is ≡ true) ⊎ AcceptsLine limits files mid line) → new ≡ true → (was ≡ true) ⊎ AcceptsSome limits files old lines

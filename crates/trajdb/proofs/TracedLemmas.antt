@@ -1,6 +1,6 @@
 -- Runs over lines, one after another, each by what is told.
-use Rattle.std.proofs.Common.{ℕ, ◌+◌, ◌≡◌, ◌∙◌, ◌++◌, ◌∷◌, [], ap, sym, subst, refl, List, take, drop, Option}
-use Rattle.std.proofs.lemmas.List.{append_assoc, append-nil, take-append-drop}
+use Rattle.std.proofs.Common.{ℕ, ◌+◌, ◌-◌, ◌≡◌, ◌∙◌, ◌++◌, ◌∷◌, [], ap, sym, subst, refl, List, take, drop, Option, arith}
+use Rattle.std.proofs.lemmas.List.{append_assoc, append-nil, drop-take, take-append-drop, take-take}
 use Rattle.std.proofs.KnownBytes.{Appends-trans, Appends-nil, Appends-kept}
 use Rattle.std.specs.Io.KnownBytes.{Appends, Keeps}
 use Rattle.legs.specs.declared.listed.Listed.{Ghosts}
@@ -26,6 +26,39 @@ module _ {I : Type 0} (g : Ghosts I) (files : Named) where
     said,
     tells-more between mid new xs y others next rest line,
   )
+
+  -- lines are done that were so in two parts
+  record IsSplit (old new : CoreView I) (xs ys : List (List ℕ)) (text : List ℕ) : Type 0 where
+    mid : CoreView I
+    before : List ℕ
+    earlier : TellsLines g files old mid xs before
+    last : List ℕ
+    tells : TellsLines g files mid new ys last
+    text_is : text ≡ before ++ last
+
+  split : (old new : CoreView I) (xs ys : List (List ℕ)) (text : List ℕ) → TellsLines g files old new (xs ++ ys) text → IsSplit old new xs ys text
+  split old new [] ys text h = record { mid = old; before = []; earlier = (refl, refl); last = text; tells = h; text_is = refl }
+  split old new (x ∷ xs) ys text (between, first, others, e, said, rest) =
+      let more = split between new xs ys others rest in
+      record {
+        mid = more.mid;
+        before = first ++ more.before;
+        earlier = (between, first, more.before, refl, said, more.earlier);
+        last = more.last;
+        tells = more.tells;
+        text_is = e ∙ ap (λ t. first ++ t) more.text_is ∙ sym (append_assoc first more.before more.last);
+      }
+
+  -- the last of the first k lines, and those before it
+  split_last : (old new : CoreView I) (lines : List (List ℕ)) (k : ℕ) (text : List ℕ) → TellsLines g files old new (take k lines) text → IsSplit old new (take (k - 1) lines) (drop (k - 1) (take k lines)) text
+  split_last old new lines k text h =
+      let front : take (k - 1) (take k lines) ≡ take (k - 1) lines = take-take (k - 1) k lines (omega arith) in
+      let all : take (k - 1) lines ++ drop (k - 1) (take k lines) ≡ take k lines = ap (λ (l : List (List ℕ)). l ++ drop (k - 1) (take k lines)) (sym front) ∙ take-append-drop (k - 1) (take k lines) in
+      split old new (take (k - 1) lines) (drop (k - 1) (take k lines)) text (subst (λ (l : List (List ℕ)). TellsLines g files old new l text) (sym all) h)
+
+  -- one line is done
+  tells-one : (old new : CoreView I) (line text : List ℕ) → TellsLine g files old new line text → TellsLines g files old new (line ∷ []) text
+  tells-one old new line text said = (new, text, [], sym (append-nil text), said, (refl, refl))
 
   -- k lines are done, and these bytes of the script are left
   pub record IsTracedAt (sent now : Option (List ℕ)) (old new : CoreView I) (lines : List (List ℕ)) (rest : List ℕ) (k : ℕ) : Type 0 where
@@ -55,14 +88,22 @@ module _ {I : Type 0} (g : Ghosts I) (files : Named) where
     }
 
     pub traced_cut : HasCutTold g files b c mid new line → TellsCut g files a c old new lines
-    traced_cut cut = record {
-      k = k + 1;
-      text = at.text ++ cut.text;
-      tells = tells_next cut.text cut.tells;
-      written = at.text ++ take cut.n cut.text;
-      sends = Appends-trans a b c at.text (take cut.n cut.text) at.sends cut.sends;
-      prefix = (drop cut.n cut.text, ap (λ t. at.text ++ t) (sym (take-append-drop cut.n cut.text)) ∙ sym (append_assoc at.text (take cut.n cut.text) (drop cut.n cut.text)));
-    }
+    traced_cut cut =
+        let back : k ≡ k + 1 - 1 = omega arith in
+        let one : drop k (take (k + 1) lines) ≡ line ∷ [] = drop-take k 1 lines ∙ ap (λ (l : List (List ℕ)). take 1 l) next_at in
+        record {
+          k = k + 1;
+          mid = mid;
+          before = at.text;
+          earlier = subst (λ (j : ℕ). TellsLines g files old mid (take j lines) at.text) back at.tells;
+          text = cut.text;
+          last = subst (λ (j : ℕ). TellsLines g files mid new (drop j (take (k + 1) lines)) cut.text) back
+              (subst (λ (l : List (List ℕ)). TellsLines g files mid new l cut.text) (sym one) (tells-one mid new line cut.text cut.tells));
+          written = at.text ++ take cut.n cut.text;
+          sends = Appends-trans a b c at.text (take cut.n cut.text) at.sends cut.sends;
+          whole = (take cut.n cut.text, refl);
+          prefix = (drop cut.n cut.text, ap (λ t. at.text ++ t) (sym (take-append-drop cut.n cut.text)) ∙ sym (append_assoc at.text (take cut.n cut.text) (drop cut.n cut.text)));
+        }
 
     pub traced_stop : (fault : RunFault) → HasNamed g files b c mid new line fault → TellsStop g files a c old new fault lines
     traced_stop fault stop =
@@ -76,6 +117,7 @@ module _ {I : Type 0} (g : Ghosts I) (files : Named) where
           names = subst (λ (l : List ℕ). NamesLine g files mid l fault) (sym nth.1) stop.names;
           fails = subst (λ (l : List ℕ). FailsAt files new.failed fault l) (sym nth.1) stop.fails;
           left = subst (λ (l : List ℕ). (LoadsBy files l → ⊥) → LeavesBook g mid new) (sym nth.1) stop.left;
+          lives = stop.lives;
         }
 
   module _ (a b c : Option (List ℕ)) (old new : CoreView I) (lines : List (List ℕ)) (rest : List ℕ) (k : ℕ) (at : IsTracedAt a b old new lines rest k) where
@@ -88,11 +130,16 @@ module _ {I : Type 0} (g : Ghosts I) (files : Named) where
         }
 
     pub traced_unflushed : Keeps b c → TellsCut g files a c old new lines
-    traced_unflushed kept = record {
-      k = k;
-      text = at.text;
-      tells = at.tells;
-      written = at.text;
-      sends = Appends-kept a b c at.text at.sends kept;
-      prefix = ([], sym (append-nil at.text));
-    }
+    traced_unflushed kept =
+        let parts = split_last old new lines k at.text at.tells in record {
+          k = k;
+          mid = parts.mid;
+          before = parts.before;
+          earlier = parts.earlier;
+          text = parts.last;
+          last = parts.tells;
+          written = at.text;
+          sends = Appends-kept a b c at.text at.sends kept;
+          whole = (parts.last, parts.text_is);
+          prefix = ([], sym parts.text_is ∙ sym (append-nil at.text));
+        }

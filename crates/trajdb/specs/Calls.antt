@@ -19,10 +19,12 @@ use Rattle.querylang.specs.Line.{line_of}
 use Rattle.querylang.specs.declared.LineCode.{LineCode}
 use Rattle.querylang.specs.declared.Command.{Command}
 use Rattle.querylang.specs.declared.Command.TheVariants.{Load, Count, Box, Legs, Features, Trajectory, Write}
-use Rattle.trajdb.specs.Answers.{IsFileRefusal, counts_text, load_of, load_text}
+use Rattle.trajdb.specs.Answers.{counts_text, load_of, load_text}
 use Rattle.trajdb.specs.Files.{file_named}
 use Rattle.trajdb.specs.Database.{CoreView, IsSound}
 use Rattle.trajdb.specs.declared.Counts.{Counts}
+use Rattle.trajdb.specs.declared.FileCode.{FileCode}
+use Rattle.trajdb.specs.declared.FileCode.TheVariants.{Text, Join}
 use Rattle.trajdb.specs.declared.LoadFault.{LoadFault}
 use Rattle.trajdb.specs.declared.LoadFault.TheVariants.{Refused, Run}
 use Rattle.trajdb.specs.declared.RunFault.{RunFault}
@@ -51,7 +53,7 @@ pub record IsUnwritten {I : Type 0} (g : Ghosts I) (old new : I) : Type 0 where
   pub sound : g.is_sound old → g.is_sound new
 
 -- what a load leaves of the pages of an index, whatever it answers: page 0 stays marked; where no page was
--- changed, page 0 is marked, or nothing was written
+-- changed, page 0 is marked, or no page as written has changed but page 0, and that one only where the store failed
 pub record LeavesPages {I : Type 0} (g : Ghosts I) (old new : I) : Type 0 where
   pub marked : g.is_marked old → g.is_marked new
   pub clean : g.is_clean old → g.is_marked new ⊎ IsUnwritten g old new
@@ -61,8 +63,8 @@ pub record HasPages {I : Type 0} (g : Ghosts I) (core : CoreView I) : Type 0 whe
   pub begun : core.begun ≡ true → g.is_marked core.index
   pub idle : core.begun ≡ false → core.failed ≡ false → g.is_clean core.index
 
--- what a call leaves of the pages, whatever it answers: until a file is accepted it is as a question leaves
--- it, be the database sound or not
+-- what a call leaves of the pages, whatever it answers, be the database sound or not: one that has neither begun nor
+-- failed is as a question leaves it
 pub record KeepsPages {I : Type 0} (g : Ghosts I) (old new : CoreView I) : Type 0 where
   pub begun : old.begun ≡ true → new.begun ≡ true
   pub idle : new.begun ≡ false → new.failed ≡ false → LeavesBook g old new
@@ -176,6 +178,21 @@ LoadsBy files line = LoadsIn files (line_of line)
 abbrev pub IsWholeFile : List ℕ → Type 0
 IsWholeFile bytes = (file : File) × (file_of_bytes bytes ≡ Ok file)
 
+-- a file is refused for this fault: it is the first one of its text, or that has none and it is one of joining
+abbrev pub IsFaultOf : List ℕ → FileCode → ℕ → Type 0
+IsFaultOf bytes (Text code) number = file_of_bytes bytes ≡ Err (code, number)
+IsFaultOf bytes (Join code) number = IsWholeFile bytes
+
+-- a file that is refused is so for such a fault
+abbrev pub IsRefusedBy : List ℕ → LoadFault → Type 0
+IsRefusedBy bytes (Refused code number) = IsFaultOf bytes code number
+IsRefusedBy bytes (Run fault) = Unit {0}
+
+-- the text is the refusal of a file for such a fault
+abbrev pub IsRefusalOf : (bytes text : List ℕ) → Type 0
+IsRefusalOf bytes text =
+    (fault : FileCode × ℕ) × (text ≡ load_text (Err fault)) × IsFaultOf bytes fault.0 fault.1
+
 -- a file is there, and its text has no fault
 abbrev pub NamesWhole : Option (List ℕ) → Type 0
 NamesWhole None = ⊥
@@ -242,14 +259,14 @@ abbrev pub SaysLoad : {I : Type 0} → CoreView I → (bytes text : List ℕ) �
 SaysLoad old bytes text =
     (book : Book) → IsBookOf old book → text ≡ load_text (load_of old.limits book bytes)
 
--- a file is told of: by counts, and is taken in, and the database has begun, or by a refusal, which changes nothing
+-- a file is told of: by counts, and is taken in, and the database has begun, or by its refusal, which changes nothing
 abbrev pub TellsLoad : {I : Type 0} → Ghosts I → CoreView I → CoreView I → (bytes text : List ℕ)
     → Type 0
 TellsLoad g old new bytes text =
     SaysLoad old bytes text
     × (((counts : Counts) × (text ≡ counts_text counts) × PutsFile g old new bytes counts
     × (new.begun ≡ true))
-    ⊎ (IsFileRefusal text × (new ≡ old)))
+    ⊎ (IsRefusalOf bytes text × (new ≡ old)))
 
 -- so is one that is there
 abbrev pub TellsNamed : {I : Type 0} → Ghosts I → CoreView I → CoreView I → Option (List ℕ)

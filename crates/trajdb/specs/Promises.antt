@@ -15,12 +15,13 @@ use Rattle.pages.specs.Store.{IsSynced, IsSyncedButFirst, Keeps, Stays, Store}
 use Rattle.boxsearch.specs.Index.{words, IsMarked}
 use Rattle.register.specs.Lasting.{first_fault, IsKept}
 use Rattle.register.specs.Saved.{CatalogueView}
-use Rattle.catalogue.specs.Holding.{HoldsBook, HoldsButFirst, IsUnfinishedStore}
+use Rattle.register.specs.Saving.{HasFew}
+use Rattle.catalogue.specs.Holding.{HoldsBook, HoldsButFirst, HoldsIndex, HoldsIndexButFirst, IsUnfinishedStore}
 use Rattle.querylang.specs.declared.Command.{Command}
 use Rattle.trajdb.specs.Answers.{AcceptsBy, IsAnswer, IsCountsText, book_then, book_with, load_of}
-use Rattle.trajdb.specs.Calls.{AsksIn, AsksKnown, LearnsBy, Begins, BeginsBy, BeginsOnly, IsAsked, IsBookOf, IsLater, IsLoadFault, IsLoadStop, IsQuestionFault, IsRunStop, IsStopped, KeepsPages, LeavesBook, Loads, LoadsWhole, LoadsWholeSome, PutsFile, TellsLoadBy}
+use Rattle.trajdb.specs.Calls.{AsksIn, AsksKnown, LearnsBy, Begins, BeginsBy, BeginsOnly, IsAsked, IsBookOf, IsLater, IsLoadFault, IsLoadStop, IsQuestionFault, IsRefusedBy, IsRunStop, IsStopped, KeepsPages, LeavesBook, Loads, LoadsWhole, LoadsWholeSome, PutsFile, TellsLoadBy}
 use Rattle.trajdb.specs.Checking.{IsFirstFault, Reports}
-use Rattle.trajdb.specs.Database.{CoreView, FailsBy, IsRefused, IsSound, IsTold, LoadGives, Becomes}
+use Rattle.trajdb.specs.Database.{catalogue_of, CoreView, FailsBy, IsRefused, IsSound, IsTold, LoadGives, Becomes}
 use Rattle.trajdb.specs.Db.{DbView, HasPages, IsSoundDb}
 use Rattle.trajdb.specs.Faults.{IsNotOutput}
 use Rattle.trajdb.specs.Lasting.{ComesFirst, HasBook, IsClosingFault, IsFaultless, IsIdle, IsNamedAtOpen, IsOpeningFault, IsSafe, IsSafeStore, IsStop, IsTooFull, IsTrulyDamaged, IsUnfinishedAnswer, TakesFew}
@@ -48,7 +49,12 @@ pub record LoadCall {I : Type 0} (g : Ghosts I) (old new : CoreView I) (bytes : 
   pub begun : OnOk result (new.begun ≡ true)
   -- page 0 of an index over a faithful store is marked then, sound or not
   pub marks : OnOk result (g.is_faithful old.index → g.is_marked new.index)
+  -- so many legs are put in as are counted, and what else the file adds
   pub puts : IfOk result (PutsFile g old new bytes)
+  -- be the database sound or not, a file is refused for the first fault of its text, or for one of joining where that
+  -- has none
+  pub reads : IfErr result (IsRefusedBy bytes)
+  -- it is answered as for each book for which the tracks stand
   pub gives : (book : Book) → IsBookOf old book
       → LoadGives result (load_of old.limits book bytes)
   pub idle : OnErr result (new.begun ≡ old.begun)
@@ -152,6 +158,8 @@ pub record OpenCall {S : Type 0} (seen : S → Store) (store : Store) (cache_pag
   pub kept : IfErr result (λ back. IsTrue store.is_faithful
       → (c : CatalogueView) (tree : TbTree) (places : List Place)
       → IsKept (stored_payload store) store.count c tree places → IsStop back.1)
+  -- there is a book for which its tracks stand
+  pub stands : IfOk result (λ db. IsTrue store.is_faithful → (book : Book) × IsBookOf db book)
   -- the pages as written keep what the database knows
   pub idle : IfOk result (λ db. IsTrue store.is_faithful → IsIdle db)
   pub begun : IfOk result (λ db. db.begun ≡ false)
@@ -183,7 +191,10 @@ pub record CloseCall (db : DbView) (left : Store)
   -- it then holds the book
   pub holds : OnOk result (IsSoundDb db → HasPages db → IsIdle db
       → HoldsBook left db.index.tree.shape db.limits db.book)
-  -- all of it is synced where a file was accepted; else it stays as it is (`idle`)
+  -- be the database sound or not, its pages say its catalogue and its index
+  pub kept : OnOk result (db.begun ≡ true → IsMarked db.index.cache
+      → HoldsIndex left (catalogue_of db) db.index)
+  -- all of it is synced where it has begun; else it stays as it is (`idle`)
   pub synced : OnOk result (db.begun ≡ true → IsSynced left)
   -- new pages are taken only for what its text needs beyond those of an earlier one
   pub takes : OnOk result (TakesFew db left)
@@ -192,13 +203,20 @@ pub record CloseCall (db : DbView) (left : Store)
   pub only : IfErr result (λ fault. IsSoundDb db → db.failed ≡ false → IsLoadFault fault)
   pub unfinished : IfErr result (λ fault. IsFaultless fault → IsSoundDb db → HasPages db
       → db.failed ≡ false → IsUnfinishedStore left)
+  -- so it is where page 0 is marked, be the database sound or not
+  pub only_marked : IfErr result (λ fault. db.failed ≡ false → IsMarked db.index.cache
+      → HasFew (catalogue_of db) → IsLoadFault fault)
+  pub unfinished_marked : IfErr result (λ fault. IsFaultless fault → db.failed ≡ false
+      → IsMarked db.index.cache → IsUnfinishedStore left)
   -- before page 0 may say that the store is finished, all else is written and synced
   pub refused : OnErr result (IsSoundDb db → HasPages db → db.failed ≡ false
       → IsUnfinishedStore left ⊎ HoldsButFirst left db.index.tree.shape db.limits db.book)
-  -- so it is, but for what they hold, be the database sound or not
+  -- so it is, be the database sound or not
+  pub behind : OnErr result (db.failed ≡ false → IsMarked db.index.cache
+      → IsUnfinishedStore left ⊎ HoldsIndexButFirst left (catalogue_of db) db.index)
   pub ordered : OnErr result (db.failed ≡ false → IsMarked db.index.cache
       → IsUnfinishedStore left ⊎ IsSyncedButFirst left)
-  -- nothing is written before a file is accepted, and of a failed database
+  -- nothing is written of a database that has not begun, and of a failed one
   pub idle : db.failed ≡ false → db.begun ≡ false → (result ≡ Ok tt)
       × (left ≡ db.index.cache.store)
   pub failed : db.failed ≡ true → (result ≡ Err RunFault.Failed) × (left ≡ db.index.cache.store)

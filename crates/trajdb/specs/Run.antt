@@ -1,5 +1,5 @@
 -- The run of a script.
-use Rattle.std.specs.Prelude.{◌≡◌, ◌≢◌, ◌⊎◌, ℕ, ◌-◌, List, [], ◌∷◌, ◌++◌, take, Option, Bool, true, false, ◌<◌, length, slice_index_or}
+use Rattle.std.specs.Prelude.{◌≡◌, ◌≢◌, ◌⊎◌, ℕ, ◌+◌, ◌-◌, List, [], ◌∷◌, ◌++◌, take, Option, Bool, true, false, ◌<◌, length, slice_index_or}
 use Rattle.std.specs.Io.KnownBytes.{Appends}
 use Rattle.legs.specs.Limits.{LimitsView}
 use Rattle.legs.specs.Book.{Book}
@@ -87,14 +87,24 @@ abbrev pub Runs : {I : Type 0} → List (List ℕ × List ℕ) → Option (List 
     → CoreView I → CoreView I → List (List ℕ) → Type 0
 Runs files sent sent' old new lines = HasRun old.limits files sent sent' old.book new.book lines
 
--- of a database: some line is not done, and those before it are
+-- the database has begun only where it had, or where one of these lines is the load of a file that is accepted
+abbrev pub BeginsIn : {I : Type 0} → List (List ℕ × List ℕ) → CoreView I → CoreView I
+    → List (List ℕ) → Type 0
+BeginsIn files old new lines =
+    new.begun ≡ true → (old.begun ≡ true) ⊎ AcceptsSome old.limits files old.book lines
+
+-- of a database: some line is not done, and those before it are; it is begun by none behind that line, nor by that one
+-- where it is not failed
 abbrev pub Stops : {I : Type 0} → List (List ℕ × List ℕ) → Option (List ℕ) → Option (List ℕ)
     → CoreView I → CoreView I → List (List ℕ) → Type 0
 Stops files sent sent' old new lines =
     (k : ℕ) × HasStopped old.limits files sent sent' old.book new.book new.failed lines k
+    × BeginsIn files old new (take (k + 1) lines)
+    × (new.failed ≡ false → BeginsIn files old new (take k lines))
 
--- of a database: some lines are done, and the output failed at the last of them
+-- of a database: some lines are done, and the output failed at the last of them; it is begun by none behind that one
 abbrev pub IsCut : {I : Type 0} → List (List ℕ × List ℕ) → Option (List ℕ) → Option (List ℕ)
     → CoreView I → CoreView I → List (List ℕ) → Type 0
 IsCut files sent sent' old new lines =
     (k : ℕ) × HasCutRun old.limits files sent sent' old.book new.book lines k
+    × BeginsIn files old new (take k lines)

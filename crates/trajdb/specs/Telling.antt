@@ -1,7 +1,7 @@
 -- What a database answers by what the pages of its index say, be it sound or not: nothing else is answered, and where a
 -- page that is met is not what it is to be there, or the catalogue lacks a name or a row of what is to be shown, that page
 -- is named.
-use Rattle.std.specs.Prelude.{ℕ, ◌≡◌, ◌≤◌, ◌<◌, ◌++◌, ◌⊎◌, ◌↔◌, List, [], ◌∷◌, length, take, slice_index_or, All, Option, Some, None, Result, Ok, Err, true, false, codes, decimal}
+use Rattle.std.specs.Prelude.{ℕ, ◌≡◌, ◌≤◌, ◌<◌, ◌++◌, ◌-◌, ◌⊎◌, ◌↔◌, List, [], ◌∷◌, length, take, drop, slice_index_or, All, Option, Some, None, Result, Ok, Err, true, false, codes, decimal}
 use Rattle.std.specs.Io.KnownBytes.{Appends, Keeps}
 use Rattle.std.specs.List.{range_with_len}
 use Rattle.timebase.specs.Period.{PeriodView}
@@ -218,7 +218,7 @@ module _ {I : Type 0} (g : Ghosts I) (files : List (List ℕ × List ℕ)) where
     pub sends : Appends sent sent' text
 
   -- the first k lines are done, and their answers, whole, and nothing else were sent; this is why the next was not answered;
-  -- the database failed by it only where it is a `load` of a file that is there, and else it changed nothing
+  -- the database failed by it only where it is a `load` of a file that is there, and else it leaves what a question leaves
   pub record TellsStop (sent sent' : Option (List ℕ)) (old new : CoreView I) (fault : RunFault)
       (lines : List (List ℕ)) : Type 0 where
     pub k : ℕ
@@ -230,16 +230,22 @@ module _ {I : Type 0} (g : Ghosts I) (files : List (List ℕ × List ℕ)) where
     pub names : NamesLine mid (slice_index_or lines k []) fault
     pub fails : FailsAt files new.failed fault (slice_index_or lines k [])
     pub left : (LoadsBy files (slice_index_or lines k []) → ⊥) → LeavesBook g mid new
+    pub lives : new.failed ≡ false → LeavesBook g mid new
 
-  -- the first k lines are done, and what was sent is a prefix of their answers
+  -- the first k lines are done, all but the last of them and then that one; what was sent is a prefix of their answers, and
+  -- all of them but the last one are whole
   pub record TellsCut (sent sent' : Option (List ℕ)) (old new : CoreView I)
       (lines : List (List ℕ)) : Type 0 where
     pub k : ℕ
+    pub mid : CoreView I
+    pub before : List ℕ
+    pub earlier : TellsLines old mid (take (k - 1) lines) before
     pub text : List ℕ
-    pub tells : TellsLines old new (take k lines) text
+    pub last : TellsLines mid new (drop (k - 1) (take k lines)) text
     pub written : List ℕ
     pub sends : Appends sent sent' written
-    pub prefix : IsPrefixOf written text
+    pub whole : IsPrefixOf before written
+    pub prefix : IsPrefixOf written (before ++ text)
 
   -- a line is done, and of its answer the first n bytes were sent, or all
   pub record HasTold (sent sent' : Option (List ℕ)) (old new : CoreView I)
@@ -255,11 +261,12 @@ module _ {I : Type 0} (g : Ghosts I) (files : List (List ℕ × List ℕ)) where
     pub n : ℕ
     pub sends : Appends sent sent' (take n text)
 
-  -- a line is not answered, nothing was sent, and this is why; where it is no `load` of a file that is there, it changed
-  -- nothing
+  -- a line is not answered, nothing was sent, and this is why; the database failed by it only where it is a `load` of a file
+  -- that is there, and else it leaves what a question leaves
   pub record HasNamed (sent sent' : Option (List ℕ)) (old new : CoreView I) (line : List ℕ)
       (fault : RunFault) : Type 0 where
     pub sends : Keeps sent sent'
     pub names : NamesLine old line fault
     pub fails : FailsAt files new.failed fault line
     pub left : (LoadsBy files line → ⊥) → LeavesBook g old new
+    pub lives : new.failed ≡ false → LeavesBook g old new

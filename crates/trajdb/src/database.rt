@@ -24,7 +24,7 @@ pub struct Core<I: Start> {
     pub(crate) tracks: Tracks,
     pub(crate) rows: Rows,
     pub(crate) limits: Limits,
-    /// Whether a file was accepted since the database was made.
+    /// Whether the database was made, or a file was accepted since it was opened.
     pub(crate) begun: bool,
     pub(crate) failed: bool,
 }
@@ -98,7 +98,7 @@ impl<I: Start> Core<I> {
     ghost use Rattle.trajdb.specs.Answers.{book_with, load_of};
     ghost use Rattle.trajdb.specs.Database.{FaultIs, IsRefused, IsTold, LoadGives, Becomes, IsSound};
     ghost use Rattle.trajdb.specs.Loads.{Accepts, IsRead, PutsNew};
-    ghost use Rattle.trajdb.specs.Calls.{IsBookOf, IsJoinStop, IsLater, IsLoadFault, IsLoadStop, IsOfStore, LeavesPages, PutsFile};
+    ghost use Rattle.trajdb.specs.Calls.{IsBookOf, IsJoinStop, IsLater, IsLoadFault, IsLoadStop, IsOfStore, IsRefusedBy, LeavesPages, PutsFile};
 
     /// Takes in a file that was read and joined.
     fn take(&mut self, new: NewFile) -> Result<(), RunFault>
@@ -136,6 +136,7 @@ impl<I: Start> Core<I> {
             → FaultIs fault (load_of self.now.limits self.now.book bytes.now)) }
         ensures refused_by { IfErr result (λ fault. (book : Book) → IsBookOf self.now book
             → FaultIs fault (load_of self.now.limits book bytes.now)) }
+        ensures reads { IfErr result (IsRefusedBy bytes.now) }
         ensures stopped { IfErr result IsJoinStop }
     {
         match join_text(alloc, self.head.as_ref(), &self.tracks, &self.limits, bytes) {
@@ -157,6 +158,7 @@ impl<I: Start> Core<I> {
         ensures refused { IfErr result (λ fault. IsRefused fault → self.new ≡ self.old) }
         ensures begun { OnOk result (self.new.begun ≡ true) }
         ensures puts { IfOk result (PutsFile I.Listed self.old self.new bytes.now) }
+        ensures reads { IfErr result (IsRefusedBy bytes.now) }
         ensures gives { (book : Book) → IsBookOf self.old book
             → LoadGives result (load_of self.old.limits book bytes.now) }
         ensures idle { OnErr result (self.new.begun ≡ self.old.begun) }

@@ -82,7 +82,7 @@ impl<S: PageStore> Db<S> {
     ghost use Rattle.pages.specs.Store.{Store};
     ghost use Rattle.catalogue.specs.Holding.{IsUnfinishedStore};
     ghost use Rattle.trajdb.specs.Database.{restored};
-    ghost use Rattle.trajdb.specs.Db.{HasPages, IsSoundDb};
+    ghost use Rattle.trajdb.specs.Db.{HasPages};
     ghost use Rattle.trajdb.specs.Lasting.{IsSafe, IsSafeStore};
     ghost use Rattle.trajdb.specs.Promises.{CloseCall, OpenCall};
 
@@ -104,6 +104,7 @@ impl<S: PageStore> Db<S> {
         ensures { OpenCall S.seen (S.seen store) cache_pages result }
     {
         catalogue::laws();
+        register::laws();
         match catalogue::open(alloc, keys, store, cache_pages) {
             Ok((catalogue, index)) => Ok(Db {
                 core: Core::restored(catalogue, index, false),
@@ -149,9 +150,8 @@ impl<S: PageStore> Db<S> {
     pub fn abandon(self) -> S
         ensures store { S.seen result ≡ self.index.cache.store }
 
-        // Where a file was accepted, it is the store of one that was not finished.
-        ensures unfinished { IsSoundDb self → HasPages self → self.begun ≡ true
-            → IsUnfinishedStore (S.seen result) }
+        // Of one that has begun it is the store of one that was not finished.
+        ensures unfinished { HasPages self → self.begun ≡ true → IsUnfinishedStore (S.seen result) }
 
         // So it is where a load failed, or the store that was there before.
         ensures safe { (was : Store) → IsSafe was self → IsSafeStore was (S.seen result) }

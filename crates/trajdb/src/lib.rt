@@ -177,7 +177,7 @@ pub enum OpenFault {
     /// The page store has no room for a page.
     #[error("the store is full")]
     StoreFull,
-    /// The store was not finished: files were accepted, and it was not closed then.
+    /// The store was not finished: it was made, or a file was accepted, and it was not closed then.
     #[error("the store is not finished")]
     Unfinished,
     /// The store has another version.

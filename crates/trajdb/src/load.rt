@@ -8,7 +8,7 @@ ghost use Rattle.legs.specs.Joining.{IsJoining};
 ghost use Rattle.legs.specs.Book.{Book, head_with};
 ghost use Rattle.legs.specs.Tracks.{StandsFor};
 ghost use Rattle.trajdb.specs.Answers.{load_of};
-ghost use Rattle.trajdb.specs.Calls.{IsJoinStop};
+ghost use Rattle.trajdb.specs.Calls.{IsJoinStop, IsRefusedBy};
 ghost use Rattle.trajdb.specs.Database.{FaultIs};
 ghost use Rattle.trajdb.specs.Loads.{IsRead, code_fault, join_fault, counts_in};
 
@@ -95,6 +95,7 @@ pub(crate) fn join_text(
     ensures refused { IfErr result (λ fault. (book : Book) → StandsFor tracks.now book
         → book.head ≡ option_copied first.entry
         → FaultIs fault (load_of limits.now book bytes.now)) }
+    ensures reads { IfErr result (IsRefusedBy bytes.now) }
     ensures stopped { IfErr result IsJoinStop }
 {
     let mut reader = FileReader::new(alloc, bytes);

@@ -4,7 +4,7 @@ use Rattle.std.proofs.lemmas.Bool.{true≢false}
 use Rattle.pagecache.specs.Cache.{is_changed, Rests, IsRefused}
 use Rattle.header.specs.Front.{IsUnfinished}
 use Rattle.boxsearch.proofs.PlaceLemmas.{some_same}
-use Rattle.boxsearch.proofs.MarkLemmas.{already_marked, first_marked, first_rests, rests_marks, marks_trans, flushed_marks, is_marked, others_written}
+use Rattle.boxsearch.proofs.MarkLemmas.{already_marked, first_marked, first_rests, rests_marks, marks_trans, flushed_marks, is_marked, others_written, was_marked}
 use Rattle.header.proofs.FrontLemmas.{marked_is}
 use Rattle.boxsearch.proofs.ResultLemmas.{on_any, on_ok, on_fault, the_error}
 use Rattle.boxsearch.proofs.marking.mark_page.Goals.{else-is_unfinished-via-then-is_unfinished+else-not-is_changed, else-is_unfinished-via-else-is_unfinished}
@@ -26,8 +26,8 @@ pub returns-clause-marks : goal.returns-clause-marks
 returns-clause-marks g c =
     let b = c.page.follows.lender-at-none in
     let w = c.set_unfinished.new.payload in
-    let not_marked : IsUnfinished c.in_ok-page.field-0.now → is_changed b 0 ≡ false → ⊥ = elim c.else-is_unfinished.branch [
-      | else-is_unfinished-via-then-is_unfinished+else-not-is_changed w ↦ λ u same. true≢false (sym w.if-not-is_changed.false ∙ w.is_changed.ensures ∙ same)
+    let not_marked : IsUnfinished c.in_ok-page.field-0.now → is_changed c.args.cache.now 0 ≡ false → ⊥ = elim c.else-is_unfinished.branch [
+      | else-is_unfinished-via-then-is_unfinished+else-not-is_changed w ↦ λ u same. true≢false (sym w.if-not-is_changed.false ∙ c.is_changed-is_changed.ensures ∙ same)
       | else-is_unfinished-via-else-is_unfinished w ↦ λ u same. true≢false (sym (c.is_unfinished.ensures.1 u) ∙ w.if-is_unfinished.false)
     ] in
     flushed_marks c.args.cache.now b (c.page_mut.follows.lender w) c.flush.new.self c.in_ok-page.field-0.now w c.page.follows.holds-at-none.0 c.in_ok-page.ensures.value not_marked
@@ -37,8 +37,8 @@ pub returns-clause-marked : goal.returns-clause-marked
 returns-clause-marked g c =
     let b = c.page.follows.lender-at-none in
     let w = c.set_unfinished.new.payload in
-    let not_marked : IsUnfinished c.in_ok-page.field-0.now → is_changed b 0 ≡ false → ⊥ = elim c.else-is_unfinished.branch [
-      | else-is_unfinished-via-then-is_unfinished+else-not-is_changed w ↦ λ u same. true≢false (sym w.if-not-is_changed.false ∙ w.is_changed.ensures ∙ same)
+    let not_marked : IsUnfinished c.in_ok-page.field-0.now → is_changed c.args.cache.now 0 ≡ false → ⊥ = elim c.else-is_unfinished.branch [
+      | else-is_unfinished-via-then-is_unfinished+else-not-is_changed w ↦ λ u same. true≢false (sym w.if-not-is_changed.false ∙ c.is_changed-is_changed.ensures ∙ same)
       | else-is_unfinished-via-else-is_unfinished w ↦ λ u same. true≢false (sym (c.is_unfinished.ensures.1 u) ∙ w.if-is_unfinished.false)
     ] in
     let unfinished : IsUnfinished w = subst (λ q. IsUnfinished q) (sym c.set_unfinished.ensures) (marked_is c.in_ok-page_mut.field-0.now) in
@@ -50,8 +50,8 @@ pub returns-clause-others : goal.returns-clause-others
 returns-clause-others g c =
     let b = c.page.follows.lender-at-none in
     let w = c.set_unfinished.new.payload in
-    let not_marked : IsUnfinished c.in_ok-page.field-0.now → is_changed b 0 ≡ false → ⊥ = elim c.else-is_unfinished.branch [
-      | else-is_unfinished-via-then-is_unfinished+else-not-is_changed w ↦ λ u same. true≢false (sym w.if-not-is_changed.false ∙ w.is_changed.ensures ∙ same)
+    let not_marked : IsUnfinished c.in_ok-page.field-0.now → is_changed c.args.cache.now 0 ≡ false → ⊥ = elim c.else-is_unfinished.branch [
+      | else-is_unfinished-via-then-is_unfinished+else-not-is_changed w ↦ λ u same. true≢false (sym w.if-not-is_changed.false ∙ c.is_changed-is_changed.ensures ∙ same)
       | else-is_unfinished-via-else-is_unfinished w ↦ λ u same. true≢false (sym (c.is_unfinished.ensures.1 u) ∙ w.if-is_unfinished.false)
     ] in
     on_fault c.flush.result (λ f clean.
@@ -65,8 +65,8 @@ pub returns-clause-header : goal.returns-clause-header
 returns-clause-header g c =
     let b = c.page.follows.lender-at-none in
     let w = c.set_unfinished.new.payload in
-    let not_marked : IsUnfinished c.in_ok-page.field-0.now → is_changed b 0 ≡ false → ⊥ = elim c.else-is_unfinished.branch [
-      | else-is_unfinished-via-then-is_unfinished+else-not-is_changed w ↦ λ u same. true≢false (sym w.if-not-is_changed.false ∙ w.is_changed.ensures ∙ same)
+    let not_marked : IsUnfinished c.in_ok-page.field-0.now → is_changed c.args.cache.now 0 ≡ false → ⊥ = elim c.else-is_unfinished.branch [
+      | else-is_unfinished-via-then-is_unfinished+else-not-is_changed w ↦ λ u same. true≢false (sym w.if-not-is_changed.false ∙ c.is_changed-is_changed.ensures ∙ same)
       | else-is_unfinished-via-else-is_unfinished w ↦ λ u same. true≢false (sym (c.is_unfinished.ensures.1 u) ∙ w.if-is_unfinished.false)
     ] in
     on_any c.flush.result
@@ -83,4 +83,11 @@ returns-clause-synced g c = on_ok c.flush.result (λ synced f p at not_marked. s
 
 pub returns-then-not-is_changed-clause-marked : goal.returns-then-not-is_changed-clause-marked
 returns-then-not-is_changed-clause-marked g c = λ f.
-    already_marked _ _ c.in_ok-page.field-0.now c.page.follows.holds-at-none.0 c.in_ok-page.ensures.value (c.is_unfinished.ensures.0 c.if-is_unfinished.true) f c.in_ok-page.ensures.below (sym c.is_changed.ensures ∙ c.if-not-is_changed.true)
+    already_marked _ _ c.in_ok-page.field-0.now c.page.follows.holds-at-none.0 c.in_ok-page.ensures.value (c.is_unfinished.ensures.0 c.if-is_unfinished.true) f c.in_ok-page.ensures.below (c.page.follows.holds-at-none.0.stays.changed 0 (sym c.is_changed-is_changed.ensures ∙ c.if-not-is_changed.true))
+
+pub returns-then-not-is_changed-clause-unmarked : goal.returns-then-not-is_changed-clause-unmarked
+returns-then-not-is_changed-clause-unmarked g c = λ f not_marked.
+    absurd (not_marked (was_marked _ _ c.in_ok-page.field-0.now c.page.follows.holds-at-none.0 c.in_ok-page.ensures.value (c.is_unfinished.ensures.0 c.if-is_unfinished.true) f c.in_ok-page.ensures.below (sym c.is_changed-is_changed.ensures ∙ c.if-not-is_changed.true)))
+
+pub returns-clause-unmarked : goal.returns-clause-unmarked
+returns-clause-unmarked g c = on_ok c.flush.result (λ synced f not_marked. synced) c.flush.ensures.synced

@@ -3,6 +3,7 @@ use Rattle.boxsearch.proofs.BoundLemmas.{alike, all_counted, bounded, first_held
 use Rattle.boxsearch.proofs.EndedLemmas.{ended}
 use Rattle.boxsearch.proofs.FlushLemmas.{in_turn, marked_of}
 use Rattle.boxsearch.proofs.IndexLemmas.{found_in}
+use Rattle.boxsearch.proofs.LedLemmas.{box_led}
 use Rattle.boxsearch.proofs.parts.laws.Goals as goal
 
 pub returns-clause-content : goal.returns-clause-content
@@ -40,3 +41,6 @@ returns-clause-found c = found_in c.laws.ensures.found
 
 pub returns-clause-ended : goal.returns-clause-ended
 returns-clause-ended c = ended
+
+pub returns-clause-led : goal.returns-clause-led
+returns-clause-led c = box_led

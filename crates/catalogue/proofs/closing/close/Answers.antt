@@ -1,12 +1,12 @@
-use Rattle.std.proofs.Common.{ap, subst, sym, ◌∙◌, ◌⊎◌}
+use Rattle.std.proofs.Common.{◌≤◌, ap, subst, sym, ◌∙◌, ◌⊎◌}
 use Rattle.pages.specs.Store.{IsLawful, IsSynced, IsSyncedButFirst, Store}
 use Rattle.pagecache.specs.Cache.{Cache}
-use Rattle.boxsearch.specs.Index.{IsMarked, IsSound}
+use Rattle.boxsearch.specs.Index.{IsMarked}
 use Rattle.register.specs.Earlier.{AddsFew}
 use Rattle.register.specs.Saving.{contents_of}
 use Rattle.register.specs.Text.{catalogue_text}
 use Rattle.catalogue.specs.Closing.{IsNoStoreFault}
-use Rattle.catalogue.specs.Holding.{HoldsBook, HoldsButFirst, IsUnfinishedStore}
+use Rattle.catalogue.specs.Holding.{HoldsBook, HoldsButFirst, HoldsIndex, HoldsIndexButFirst, IsUnfinishedStore}
 use Rattle.catalogue.proofs.ResultLemmas.{if_err, on_ok}
 use Rattle.catalogue.proofs.RefusedLemmas.{map_err}
 use Rattle.catalogue.proofs.closing.close.Goals as goal
@@ -22,8 +22,23 @@ pub returns-clause-unfinished : goal.returns-clause-unfinished
 returns-clause-unfinished g c =
     let cache = c.into_cache-cache.ensures in
     let left = c.save_and_finish-result.new.index.cache.store in
-    if_err (λ fault. IsNoStoreFault fault → IsSound c.args.index → IsMarked c.args.index.cache → IsUnfinishedStore left) _ c.save_and_finish-result.result
-    (λ fault h none sound marked. subst IsUnfinishedStore (sym (c.into_store.ensures ∙ ap (λ (k : Cache). k.store) cache)) (h none sound marked)) c.save_and_finish-result.ensures.unfinished
+    if_err (λ fault. IsNoStoreFault fault → IsMarked c.args.index.cache → IsUnfinishedStore left) _ c.save_and_finish-result.result
+    (λ fault h none marked. subst IsUnfinishedStore (sym (c.into_store.ensures ∙ ap (λ (k : Cache). k.store) cache)) (h none marked)) c.save_and_finish-result.ensures.unfinished
+
+pub returns-clause-kept : goal.returns-clause-kept
+returns-clause-kept g c =
+    let left = c.into_store.ensures ∙ ap (λ (k : Cache). k.store) c.into_cache-cache.ensures in
+    let few = subst (λ (k : Cache). k.count ≤ k.store.count) c.into_cache-cache.ensures (rw c.count.ensures.value at c.count.ensures.within) in
+    on_ok c.save_and_finish-result.result (λ kept marked. subst (λ (s : Store). HoldsIndex s c.args.catalogue.now c.args.index) (sym left) (kept few marked)) c.save_and_finish-result.ensures.kept
+
+pub returns-clause-behind : goal.returns-clause-behind
+returns-clause-behind g c =
+    let cache = c.into_cache-cache.ensures in
+    let left = c.into_store.ensures ∙ ap (λ (k : Cache). k.store) cache in
+    let few = subst (λ (k : Cache). k.count ≤ k.store.count) cache (rw c.count.ensures.value at c.count.ensures.within) in
+    map_err c.save_and_finish-result.result (λ behind marked.
+    subst (λ (s : Store). IsUnfinishedStore s ⊎ HoldsIndexButFirst s c.args.catalogue.now c.args.index) (sym left)
+    (behind (subst (λ (k : Cache). IsLawful k.store) cache c.lawful.ensures) few marked)) c.save_and_finish-result.ensures.behind
 
 pub returns-clause-refused : goal.returns-clause-refused
 returns-clause-refused g c =

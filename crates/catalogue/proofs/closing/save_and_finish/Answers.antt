@@ -10,13 +10,14 @@ use Rattle.boxsearch.specs.Beside.{with_cache}
 use Rattle.boxsearch.specs.Index.{content, IndexView, IsMarked, IsSound}
 use Rattle.catalogue.specs.Closing.{IsNoStoreFault}
 use Rattle.catalogue.specs.Holding.{HoldsBook, HoldsButFirst, IsOfBook, IsUnfinishedStore}
-use Rattle.register.specs.Saved.{CatalogueView}
+use Rattle.register.specs.Saved.{CatalogueView, SparesTree}
 use Rattle.register.specs.Earlier.{AddsFew, AreEarlier, HasNoRoom}
-use Rattle.register.specs.Saving.{contents_of, IsSavingStop}
+use Rattle.register.specs.Saving.{contents_of, HasFew, IsSavingStop}
 use Rattle.register.specs.Text.{catalogue_text}
-use Rattle.catalogue.proofs.CloseLemmas.{closed_holds, front_unfinished, front_unwritten, of_catalogue, of_few, of_lawful, of_within, only_memory, says_stored, still_says, PlaceLaws}
-use Rattle.catalogue.proofs.ResultLemmas.{if_err_of, on_ok}
-use Rattle.catalogue.proofs.RefusedLemmas.{any_err, behind_holds, synced_but_first}
+use Rattle.catalogue.proofs.CloseLemmas.{closed_holds, front_unfinished, front_unwritten, marked_some, of_catalogue, of_few, of_lawful, of_within, only_memory, only_stops, says_stored, still_says, PlaceLaws}
+use Rattle.catalogue.proofs.KeptLemmas.{closed_keeps}
+use Rattle.catalogue.proofs.ResultLemmas.{if_err_of, on_ok, some_none}
+use Rattle.catalogue.proofs.RefusedLemmas.{any_err, behind_holds, behind_keeps, synced_but_first}
 use Rattle.catalogue.proofs.closing.save_and_finish.Goals as goal
 
 pub returns-in_err-save-clause-only : goal.returns-in_err-save-clause-only
@@ -24,14 +25,99 @@ returns-in_err-save-clause-only g c =
     let p = err_from_is_err_and c.from_residual.result c.from_residual.ensures.1 in
     let catalogue = c.args.catalogue.now in
     if_err_of (λ e. IsSound c.args.index.now → (book : Book) → IsOfBook catalogue.limits book catalogue → content c.args.index.now ≡ book.legs → IsSavingStop e) c.from_residual.result p.0 c.in_err-save.field-0.0 p.1 p.2
-    (λ sound book of legs. c.in_err-save.ensures.only (of_few catalogue book of) (subst (λ (i : IndexView). IsSound i) (sym c.settled.ensures.same) (c.laws.ensures.sound c.args.index.now c.args.index.now.cache [] (c.laws.ensures.alike c.args.index.now.cache c.args.index.now.cache refl refl refl (λ _ n. refl)) sound)))
+    (λ sound book of legs.
+    let i : IsSound c.settled.new.index = subst (λ (i : IndexView). IsSound i) (sym c.settled.ensures.same) (c.laws.ensures.sound c.args.index.now c.args.index.now.cache [] (c.laws.ensures.alike c.args.index.now.cache c.args.index.now.cache refl refl refl (λ _ n. refl)) sound) in
+    c.in_err-save.ensures.only (of_few catalogue book of) i.faithful (c.laws.ensures.some_page c.settled.new.index i) (c.laws.ensures.page_0 c.settled.new.index i))
+
+pub returns-in_err-save-clause-only_marked : goal.returns-in_err-save-clause-only_marked
+returns-in_err-save-clause-only_marked g c =
+    let p = err_from_is_err_and c.from_residual.result c.from_residual.ensures.1 in
+    let catalogue = c.args.catalogue.now in
+    let i = c.settled.new.index in
+    let same : i ≡ with_cache c.args.index.now c.args.index.now.cache [] = c.settled.ensures.same in
+    if_err_of (λ e. IsMarked c.args.index.now.cache → HasFew catalogue → IsSavingStop e) c.from_residual.result p.0 c.in_err-save.field-0.0 p.1 p.2
+    (λ was few.
+    let marked : IsMarked i.cache = subst (λ (x : IndexView). IsMarked x.cache) (sym same) was in
+    let settled : IsSettled i.cache = subst (λ (x : IndexView). IsSettled x.cache) (sym same) c.settled.ensures.settled in
+    c.in_err-save.ensures.only few marked.faithful marked.there (marked_some i.cache marked settled))
+
+pub returns-clause-only_marked : goal.returns-clause-only_marked
+returns-clause-only_marked g c =
+    let i = c.settled.new.index in
+    let j = c.save.new.index in
+    let same : i ≡ with_cache c.args.index.now c.args.index.now.cache [] = c.settled.ensures.same in
+    only_stops (IsMarked c.args.index.now.cache) (HasFew c.args.catalogue.now) c.finish.result (λ was.
+    let marked : IsMarked i.cache = subst (λ (x : IndexView). IsMarked x.cache) (sym same) was in
+    let front = c.in_ok-save.ensures.front marked.faithful marked.there in
+    let some = marked.there in
+    let more = c.save.ensures.later.count in
+    c.finish.ensures.only (c.save.ensures.later.store.faithful ∙ marked.faithful) (omega (arith, some, more)) (λ e. some_none front.payload (sym front.is ∙ e)))
+
+pub returns-clause-kept : goal.returns-clause-kept
+returns-clause-kept g c =
+    let was = c.args.index.now in
+    let i = c.settled.new.index in
+    let j = c.save.new.index in
+    let new = c.finish.new.index.cache in
+    let same : i ≡ with_cache was was.cache [] = c.settled.ensures.same in
+    both_ok c.finish.result c.finish.ensures.stores c.finish.ensures.finishes (λ stores finishes few was_marked.
+    let marked : IsMarked i.cache = subst (λ (x : IndexView). IsMarked x.cache) (sym same) was_marked in
+    let settled : IsSettled i.cache = subst (λ (x : IndexView). IsSettled x.cache) (sym same) c.settled.ensures.settled in
+    let faithful = c.save.ensures.later.store.faithful ∙ marked.faithful in
+    let front = c.in_ok-save.ensures.front marked.faithful marked.there in
+    let tree : j.tree ≡ was.tree = ap (λ (x : IndexView). x.tree) c.save.ensures.same ∙ ap (λ (x : IndexView). x.tree) same in
+    let places : j.places ≡ was.places = ap (λ (x : IndexView). x.places) c.save.ensures.same ∙ ap (λ (x : IndexView). x.places) same in
+    let some = marked.there in
+    let more = c.save.ensures.later.count in
+    let still = c.finish.ensures.later.count in
+    closed_keeps c.laws-2.ensures.state c.args.catalogue.now was j new (c.in_ok-save.ensures.saved marked.faithful)
+    front.payload front.is (front_unfinished i.cache j.cache marked settled front)
+    (stores faithful (omega (arith, some, more))) c.in_ok-save.ensures.written faithful (omega (arith, few, still))
+    (subst (λ (x : IndexView). SparesTree x.cache j.cache) same c.save.ensures.tree was_marked.faithful)
+    (λ even.
+    let counts = c.in_ok-save.ensures.beside.length (subst (λ (x : IndexView). x.cache.count ≡ x.cache.store.count) (sym same) even) in
+    (counts, finishes faithful counts))
+    tree places c.in_ok-save.ensures.whole) where
+      both_ok : {T E P Q R : Type 0} (r : Result T E) → OnOk r P → OnOk r Q → (P → Q → R) → OnOk r R
+      both_ok (Ok x) p q f = f p q
+      both_ok (Err e) p q f = tt
+
+pub returns-in_err-save-clause-behind : goal.returns-in_err-save-clause-behind
+returns-in_err-save-clause-behind g c =
+    let new = c.save.new.index.cache in
+    any_err c.from_residual.result (λ lawful few was.
+    let marked : IsMarked c.settled.new.index.cache = subst (λ (i : IndexView). IsMarked i.cache) (sym c.settled.ensures.same) was in
+    inl (says_stored new (still_says c.settled.new.index.cache new marked (c.save.ensures.first_written marked.faithful marked.there marked.unchanged))))
+
+pub returns-clause-behind : goal.returns-clause-behind
+returns-clause-behind g c =
+    let was = c.args.index.now in
+    let i = c.settled.new.index in
+    let j = c.save.new.index in
+    let same : i ≡ with_cache was was.cache [] = c.settled.ensures.same in
+    any_err c.finish.result (λ lawful few was_marked.
+    let marked : IsMarked i.cache = subst (λ (x : IndexView). IsMarked x.cache) (sym same) was_marked in
+    let settled : IsSettled i.cache = subst (λ (x : IndexView). IsSettled x.cache) (sym same) c.settled.ensures.settled in
+    let faithful = c.save.ensures.later.store.faithful ∙ marked.faithful in
+    let front = c.in_ok-save.ensures.front marked.faithful marked.there in
+    let tree : j.tree ≡ was.tree = ap (λ (x : IndexView). x.tree) c.save.ensures.same ∙ ap (λ (x : IndexView). x.tree) same in
+    let places : j.places ≡ was.places = ap (λ (x : IndexView). x.places) c.save.ensures.same ∙ ap (λ (x : IndexView). x.places) same in
+    let some = marked.there in
+    let more = c.save.ensures.later.count in
+    inr (behind_keeps c.laws-2.ensures.state c.args.catalogue.now was j c.finish.new.index.cache (c.in_ok-save.ensures.saved marked.faithful)
+    front.payload front.is (front_unfinished i.cache j.cache marked settled front)
+    faithful few c.in_ok-save.ensures.written (omega (arith, some, more)) c.finish.ensures.later lawful
+    (c.finish.ensures.others faithful c.in_ok-save.ensures.written.clean)
+    (c.finish.ensures.others_synced c.in_ok-save.ensures.written.clean (synced_but_first j.cache.store c.in_ok-save.ensures.synced))
+    (subst (λ (x : IndexView). SparesTree x.cache j.cache) same c.save.ensures.tree was_marked.faithful)
+    (λ even. c.in_ok-save.ensures.beside.length (subst (λ (x : IndexView). x.cache.count ≡ x.cache.store.count) (sym same) even)) tree places c.in_ok-save.ensures.whole))
 
 pub returns-in_err-save-clause-unfinished : goal.returns-in_err-save-clause-unfinished
 returns-in_err-save-clause-unfinished g c =
     let p = err_from_is_err_and c.from_residual.result c.from_residual.ensures.1 in
     let new = c.save.new.index.cache in
-    if_err_of (λ e. IsNoStoreFault e → IsSound c.args.index.now → IsMarked c.args.index.now.cache → IsUnfinishedStore new.store) c.from_residual.result p.0 c.in_err-save.field-0.0 p.1 p.2
-    (λ fault sound was.
+    if_err_of (λ e. IsNoStoreFault e → IsMarked c.args.index.now.cache → IsUnfinishedStore new.store) c.from_residual.result p.0 c.in_err-save.field-0.0 p.1 p.2
+    (λ fault was.
     let marked : IsMarked c.settled.new.index.cache = subst (λ (i : IndexView). IsMarked i.cache) (sym c.settled.ensures.same) was in
     says_stored new (still_says c.settled.new.index.cache new marked (c.save.ensures.first_written marked.faithful marked.there marked.unchanged)))
 
@@ -67,7 +153,7 @@ returns-clause-unfinished g c =
     let j = c.save.new.index in
     let new = c.finish.new.index.cache in
     let same : i ≡ with_cache c.args.index.now c.args.index.now.cache [] = c.settled.ensures.same in
-    only_memory j.cache new c.finish.result c.finish.ensures.caused (λ memory sound was_marked.
+    only_memory j.cache new c.finish.result c.finish.ensures.caused (λ memory was_marked.
     let marked : IsMarked i.cache = subst (λ (x : IndexView). IsMarked x.cache) (sym same) was_marked in
     let settled : IsSettled i.cache = subst (λ (x : IndexView). IsSettled x.cache) (sym same) c.settled.ensures.settled in
     let front = c.in_ok-save.ensures.front marked.faithful marked.there in

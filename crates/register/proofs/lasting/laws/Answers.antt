@@ -1,3 +1,4 @@
+use Rattle.register.proofs.BookLemmas.{stands_for_some}
 use Rattle.register.proofs.EarlierLemmas.{earlier_pages}
 use Rattle.register.proofs.SameLemmas.{kept_same}
 use Rattle.register.proofs.StateLemmas.{stated_says}
@@ -11,3 +12,6 @@ returns-clause-state c = stated_says
 
 pub returns-clause-earlier : goal.returns-clause-earlier
 returns-clause-earlier c = earlier_pages
+
+pub returns-clause-books : goal.returns-clause-books
+returns-clause-books c = stands_for_some

@@ -1,4 +1,4 @@
-use Rattle.std.proofs.Common.{◌≡◌, refl, sym, subst, IsTrue}
+use Rattle.std.proofs.Common.{◌≡◌, inl, refl, sym, subst, IsTrue}
 use Rattle.std.specs.Prelude.{IfSome, OnOk}
 use Rattle.legs.specs.Book.{Book}
 use Rattle.legs.specs.Costs.{ShapeView}
@@ -8,8 +8,8 @@ use Rattle.trajdb.specs.Db.{DbView, HasPages}
 use Rattle.trajdb.specs.Lasting.{IsIdle}
 use Rattle.trajdb.specs.Script.{lines_of}
 use Rattle.sessions.specs.Answers.{SendsFront}
-use Rattle.sessions.specs.Folder.{BeginsWith, History, NameIsKept, RunsBeside, store_in}
-use Rattle.sessions.proofs.FolderLemmas.{begun_with, beside, each, front_answered, front_opened, only_if, some_only, tells, under, under_err}
+use Rattle.sessions.specs.Folder.{BeginsWith, History, IsRefusedBeside, NameIsKept, RunsBeside, store_in}
+use Rattle.sessions.proofs.FolderLemmas.{begun_with, beside, each, front_answered, front_opened, if_refused, only_if, refused_done, refused_run, some_only, tells, under, under_err}
 use Rattle.sessions.proofs.beside.run_on_copy.Goals as goal
 
 pub returns-in-Ok-answered-clause-runs : goal.returns-in-Ok-answered-clause-runs
@@ -61,5 +61,48 @@ returns-in-Ok-answered-clause-sent g c =
     let pages = only_if (λ (db : DbView). IsTrue first.is_faithful → HasPages db) HasPages opened (λ db f. f faithful) c.database-database.ensures.pages in
     let idle = only_if (λ (db : DbView). IsTrue first.is_faithful → IsIdle db) IsIdle opened (λ db f. f faithful) c.database-database.ensures.idle in
     front_answered opened c.answer-store.result.1 c.args.files.now (g.W.Write.contents c.args.out.now) (g.W.Write.contents c.answer-store.new.out) lines last shape limits book c.in-Ok-answered.is
+    pages idle c.answer-store.ensures.opened c.answer-store.ensures.runs
+    (begun_with opened first (store_in past) same c.args.how.is_new shape limits book faithful c.database-database.ensures.new c.database-database.ensures.kept h))
+
+pub returns-in-Err-clause-refused : goal.returns-in-Err-clause-refused
+returns-in-Err-clause-refused g c =
+    let lines = lines_of c.args.script.now in
+    let sent = g.W.Write.contents c.args.out.now in
+    some_only (g.F.Folder.held c.args.folder.now) (λ past. (shape : ShapeView) (limits : LimitsView) (book : Book) → BeginsWith c.args.how.is_new (store_in past) shape limits book → IsRefusedBeside limits book c.args.files.now sent sent lines c.in-Err.fault)
+    (λ past e shape limits book h. inl refl)
+
+pub returns-in-Err-answered-clause-refused : goal.returns-in-Err-answered-clause-refused
+returns-in-Err-answered-clause-refused g c =
+    let first = g.F.Store.PageStore.seen c.in-Ok.store in
+    let last = g.F.Store.PageStore.seen c.answer-store.result.0 in
+    let opened = c.database-database.result in
+    let lines = lines_of c.args.script.now in
+    let sent = g.W.Write.contents c.args.out.now in
+    let sent' = g.W.Write.contents c.answer-store.new.out in
+    some_only (g.F.Folder.held c.args.folder.now) (λ past. (shape : ShapeView) (limits : LimitsView) (book : Book) → BeginsWith c.args.how.is_new (store_in past) shape limits book → IsRefusedBeside limits book c.args.files.now sent sent' lines c.in-Err-answered.fault)
+    (λ past e shape limits book h.
+    let same = subst (λ h. IfSome h (λ p. first ≡ store_in p)) e c.in-Ok.ensures.copies in
+    let faithful = subst (λ (s : Store). IsTrue s.is_faithful) (sym same) (tells past) in
+    let pages = only_if (λ (db : DbView). IsTrue first.is_faithful → HasPages db) HasPages opened (λ db f. f faithful) c.database-database.ensures.pages in
+    let idle = only_if (λ (db : DbView). IsTrue first.is_faithful → IsIdle db) IsIdle opened (λ db f. f faithful) c.database-database.ensures.idle in
+    refused_run c.args.files.now sent sent' lines last opened c.answer-store.result.1 shape limits book c.in-Err-answered.fault c.in-Err-answered.is
+    c.answer-store.ensures.unsent c.answer-store.ensures.ends c.database-database.ensures.lives pages idle
+    (begun_with opened first (store_in past) same c.args.how.is_new shape limits book faithful c.database-database.ensures.new c.database-database.ensures.kept h))
+
+pub returns-in-Ok-answered-clause-refused : goal.returns-in-Ok-answered-clause-refused
+returns-in-Ok-answered-clause-refused g c =
+    let first = g.F.Store.PageStore.seen c.in-Ok.store in
+    let last = g.F.Store.PageStore.seen c.answer-store.result.0 in
+    let opened = c.database-database.result in
+    let lines = lines_of c.args.script.now in
+    let sent = g.W.Write.contents c.args.out.now in
+    let sent' = g.W.Write.contents c.answer-store.new.out in
+    if_refused c.keep.result (g.F.Folder.held c.args.folder.now) (λ fault past. (shape : ShapeView) (limits : LimitsView) (book : Book) → BeginsWith c.args.how.is_new (store_in past) shape limits book → IsRefusedBeside limits book c.args.files.now sent sent' lines fault)
+    (λ fault past e shape limits book h.
+    let same = subst (λ h. IfSome h (λ p. first ≡ store_in p)) e c.in-Ok.ensures.copies in
+    let faithful = subst (λ (s : Store). IsTrue s.is_faithful) (sym same) (tells past) in
+    let pages = only_if (λ (db : DbView). IsTrue first.is_faithful → HasPages db) HasPages opened (λ db f. f faithful) c.database-database.ensures.pages in
+    let idle = only_if (λ (db : DbView). IsTrue first.is_faithful → IsIdle db) IsIdle opened (λ db f. f faithful) c.database-database.ensures.idle in
+    refused_done c.args.files.now sent sent' lines last opened c.answer-store.result.1 shape limits book fault c.in-Ok-answered.is
     pages idle c.answer-store.ensures.opened c.answer-store.ensures.runs
     (begun_with opened first (store_in past) same c.args.how.is_new shape limits book faithful c.database-database.ensures.new c.database-database.ensures.kept h))

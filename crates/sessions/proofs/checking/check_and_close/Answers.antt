@@ -1,9 +1,11 @@
-use Rattle.std.proofs.Common.{subst}
+use Rattle.std.proofs.Common.{◌≡◌, ◌∙◌, subst, true}
 use Rattle.std.specs.Prelude.{OnOk}
+use Rattle.pages.specs.Store.{IsSynced}
 use Rattle.catalogue.specs.Holding.{HoldsBook}
 use Rattle.trajdb.specs.Db.{HasPages, IsSoundDb}
 use Rattle.trajdb.specs.Lasting.{IsIdle}
-use Rattle.sessions.proofs.AnswerLemmas.{checks, keeps}
+use Rattle.sessions.proofs.AnswerLemmas.{check_fault, checks, keeps, not_refused}
+use Rattle.sessions.proofs.WrittenLemmas.{checked_failed, checked_stays}
 use Rattle.sessions.proofs.checking.check_and_close.Goals as goal
 
 pub returns-in-Ok-closed-clause-checks : goal.returns-in-Ok-closed-clause-checks
@@ -29,3 +31,70 @@ pub returns-in-Err-clause-kept : goal.returns-in-Err-clause-kept
 returns-in-Err-clause-kept g c =
     let e = c.check-checked.ensures.call in
     keeps c.args.database c.check-checked.new.self (g.S.PageStore.seen c.close-store.result.0) e.leaves c.check-checked.ensures.keeps.rests (λ l b. (c.close-store.ensures.idle l b).1) c.close-store.result.1 c.close-store.ensures.holds (λ l b. (c.close-store.ensures.idle l b).0) e.pages
+
+pub returns-in-Err-closed-clause-only : goal.returns-in-Err-closed-clause-only
+returns-in-Err-closed-clause-only g c = λ sound pages idle unbegun lives.
+    absurd (not_refused c.args.database c.check-checked.new.self c.close-store.result.1 c.in-Err-closed.fault c.in-Err-closed.is c.in-Ok.ensures.call.leaves c.in-Ok.ensures.call.lives (λ l b. (c.close-store.ensures.idle l b).0) unbegun)
+
+pub returns-in-Err-clause-only : goal.returns-in-Err-clause-only
+returns-in-Err-clause-only g c = λ sound pages idle unbegun lives. c.in-Err.ensures.call.only sound pages idle lives
+
+pub returns-in-Err-closed-clause-named : goal.returns-in-Err-closed-clause-named
+returns-in-Err-closed-clause-named g c = λ faithful unbegun page is.
+    absurd (not_refused c.args.database c.check-checked.new.self c.close-store.result.1 c.in-Err-closed.fault c.in-Err-closed.is c.in-Ok.ensures.call.leaves c.in-Ok.ensures.call.lives (λ l b. (c.close-store.ensures.idle l b).0) unbegun)
+
+pub returns-in-Err-clause-named : goal.returns-in-Err-clause-named
+returns-in-Err-clause-named g c = λ faithful unbegun page is. c.in-Err.ensures.call.named faithful page is
+
+pub returns-in-Err-closed-clause-caused : goal.returns-in-Err-closed-clause-caused
+returns-in-Err-closed-clause-caused g c = λ unbegun.
+    absurd (not_refused c.args.database c.check-checked.new.self c.close-store.result.1 c.in-Err-closed.fault c.in-Err-closed.is c.in-Ok.ensures.call.leaves c.in-Ok.ensures.call.lives (λ l b. (c.close-store.ensures.idle l b).0) unbegun)
+
+pub returns-in-Err-clause-caused : goal.returns-in-Err-clause-caused
+returns-in-Err-clause-caused g c =
+    let e = c.in-Err.ensures.call in
+    let d = c.close-store.ensures in
+    check_fault c.args.database c.check-checked.new.self (g.S.PageStore.seen c.close-store.result.0) c.in-Err.fault e.leaves (λ l b. (d.idle l b).1) (λ f. (d.failed f).1) e.store e.works
+
+pub returns-in-Ok-closed-clause-stays : goal.returns-in-Ok-closed-clause-stays
+returns-in-Ok-closed-clause-stays g c =
+    let e = c.check-checked.ensures.call in
+    let d = c.close-store.ensures in
+    checked_stays c.args.database c.check-checked.new.self (g.S.PageStore.seen c.close-store.result.0) e.leaves (λ l b. (d.idle l b).1)
+
+pub returns-in-Ok-closed-clause-failed : goal.returns-in-Ok-closed-clause-failed
+returns-in-Ok-closed-clause-failed g c =
+    let e = c.check-checked.ensures.call in
+    let d = c.close-store.ensures in
+    checked_failed c.args.database c.check-checked.new.self (g.S.PageStore.seen c.close-store.result.0) (λ f. (e.was_failed f).1) (λ f. (d.failed f).1)
+
+pub returns-in-Err-closed-clause-stays : goal.returns-in-Err-closed-clause-stays
+returns-in-Err-closed-clause-stays g c =
+    let e = c.check-checked.ensures.call in
+    let d = c.close-store.ensures in
+    checked_stays c.args.database c.check-checked.new.self (g.S.PageStore.seen c.close-store.result.0) e.leaves (λ l b. (d.idle l b).1)
+
+pub returns-in-Err-closed-clause-failed : goal.returns-in-Err-closed-clause-failed
+returns-in-Err-closed-clause-failed g c =
+    let e = c.check-checked.ensures.call in
+    let d = c.close-store.ensures in
+    checked_failed c.args.database c.check-checked.new.self (g.S.PageStore.seen c.close-store.result.0) (λ f. (e.was_failed f).1) (λ f. (d.failed f).1)
+
+pub returns-in-Err-clause-stays : goal.returns-in-Err-clause-stays
+returns-in-Err-clause-stays g c =
+    let e = c.check-checked.ensures.call in
+    let d = c.close-store.ensures in
+    checked_stays c.args.database c.check-checked.new.self (g.S.PageStore.seen c.close-store.result.0) e.leaves (λ l b. (d.idle l b).1)
+
+pub returns-in-Err-clause-failed : goal.returns-in-Err-clause-failed
+returns-in-Err-clause-failed g c =
+    let e = c.check-checked.ensures.call in
+    let d = c.close-store.ensures in
+    checked_failed c.args.database c.check-checked.new.self (g.S.PageStore.seen c.close-store.result.0) (λ f. (e.was_failed f).1) (λ f. (d.failed f).1)
+
+pub returns-in-Ok-closed-clause-synced : goal.returns-in-Ok-closed-clause-synced
+returns-in-Ok-closed-clause-synced g c = λ begun.
+    let new = c.check-checked.new.self in
+    let s = g.S.PageStore.seen c.close-store.result.0 in
+    let synced = subst (λ r. OnOk r (new.begun ≡ true → IsSynced s)) c.in-Ok-closed.is c.close-store.ensures.synced in
+    synced (c.check-checked.ensures.call.leaves.begun ∙ begun)

@@ -1,12 +1,14 @@
-use Rattle.std.proofs.Common.{◌≡◌, false, subst, true, OnOk}
+use Rattle.std.proofs.Common.{◌≡◌, ◌⊎◌, false, subst, true, OnOk}
+use Rattle.std.specs.Prelude.{OnErr}
 use Rattle.pages.specs.Store.{IsSynced}
-use Rattle.catalogue.specs.Holding.{IsUnfinishedStore}
+use Rattle.boxsearch.specs.Index.{IsMarked}
+use Rattle.catalogue.specs.Holding.{HoldsButFirst, HoldsIndex, HoldsIndexButFirst, IsUnfinishedStore}
 use Rattle.version1.specs.OldStore.{present_shape}
 use Rattle.trajdb.specs.Calls.{IsLoadFault}
 use Rattle.trajdb.specs.Db.{HasPages, IsSoundDb}
 use Rattle.trajdb.specs.Database.{catalogue_of}
 use Rattle.trajdb.specs.Lasting.{IsClosingFault, IsFaultless}
-use Rattle.sessions.proofs.AnswerLemmas.{closed_book, closing_fault, err_of, over_open, over_run}
+use Rattle.sessions.proofs.AnswerLemmas.{closed_book, closed_but_first, closing_fault, err_of, over_open, over_run}
 use Rattle.sessions.proofs.migrating.migrate_and_close.Goals as goal
 
 pub returns-in-Ok-closed-clause-holds : goal.returns-in-Ok-closed-clause-holds
@@ -34,10 +36,32 @@ returns-in-Err-clause-left g c = λ fa fb shape limits book h.
     over_open (g.T.PageStore.seen c.args.new) (g.T.PageStore.seen c.in-Err.store) c.in-Err.fault (e.holds fa fb shape limits book h) (e.left fa fb)
 
 pub returns-in-Ok-closed-clause-whole : goal.returns-in-Ok-closed-clause-whole
-returns-in-Ok-closed-clause-whole g c = λ fa fb. record { catalogue = catalogue_of c.in-Ok.database; index = c.in-Ok.database.index; brought = c.in-Ok.ensures.brought fa fb }
+returns-in-Ok-closed-clause-whole g c = λ fa fb.
+    let e = c.in-Ok.ensures in
+    let db = c.in-Ok.database in
+    let left = g.T.PageStore.seen c.close-store.result.0 in
+    let kept = subst (λ r. OnOk r (db.begun ≡ true → IsMarked db.index.cache → HoldsIndex left (catalogue_of db) db.index)) c.in-Ok-closed.is c.close-store.ensures.kept in
+    record { catalogue = catalogue_of db; index = db.index; brought = e.brought fa fb; kept = kept e.begun ((e.pages fa fb).begun e.begun) }
 
 pub returns-in-Err-closed-clause-caused : goal.returns-in-Err-closed-clause-caused
 returns-in-Err-closed-clause-caused g c =
     let left = g.T.PageStore.seen c.close-store.result.0 in
     closing_fault (g.S.PageStore.seen c.args.old.now) (g.S.PageStore.seen c.migrate.new.old) (g.T.PageStore.seen c.args.new) left c.in-Ok.database c.in-Err-closed.fault c.in-Ok.ensures.lives c.in-Ok.ensures.faults
     (err_of (λ f. IsClosingFault c.in-Ok.database left f) c.close-store.result.1 c.in-Err-closed.fault c.in-Err-closed.is c.close-store.ensures.caused)
+
+pub returns-in-Err-closed-clause-closing : goal.returns-in-Err-closed-clause-closing
+returns-in-Err-closed-clause-closing g c = λ why is fa fb shape limits book h.
+    let e = c.in-Ok.ensures in
+    let has = e.book fa fb shape limits book h in
+    let db = c.in-Ok.database in
+    let s = g.T.PageStore.seen c.close-store.result.0 in
+    let left = subst (λ r. OnErr r (IsSoundDb db → HasPages db → db.failed ≡ false → IsUnfinishedStore s ⊎ HoldsButFirst s db.index.tree.shape db.limits db.book)) c.in-Err-closed.is c.close-store.ensures.refused in
+    closed_but_first db s (present_shape shape) limits book has (left has.sound (e.pages fa fb) e.lives)
+
+pub returns-in-Err-closed-clause-behind : goal.returns-in-Err-closed-clause-behind
+returns-in-Err-closed-clause-behind g c = λ why is fa fb.
+    let e = c.in-Ok.ensures in
+    let db = c.in-Ok.database in
+    let left = g.T.PageStore.seen c.close-store.result.0 in
+    let behind = subst (λ r. OnErr r (db.failed ≡ false → IsMarked db.index.cache → IsUnfinishedStore left ⊎ HoldsIndexButFirst left (catalogue_of db) db.index)) c.in-Err-closed.is c.close-store.ensures.behind in
+    record { catalogue = catalogue_of db; index = db.index; brought = e.brought fa fb; behind = behind e.lives ((e.pages fa fb).begun e.begun) }

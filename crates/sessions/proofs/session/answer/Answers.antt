@@ -1,12 +1,16 @@
-use Rattle.std.proofs.Common.{◌≡◌, false, sym, subst, Result}
-use Rattle.std.specs.Prelude.{IfOk, OnErr, OnOk}
+use Rattle.std.proofs.Common.{◌≡◌, false, sym, subst, IsTrue, Result}
+use Rattle.std.specs.Prelude.{IfOk, IsErrOf, OnErr, OnOk}
+use Rattle.pages.specs.Store.{Faulted, IsSynced}
 use Rattle.trajdb.specs.Db.{DbView, HasPages, IsSoundDb}
 use Rattle.trajdb.specs.Lasting.{IsIdle}
 use Rattle.trajdb.specs.Script.{lines_of}
 use Rattle.trajdb.specs.declared.RunFault.{RunFault}
-use Rattle.sessions.specs.Answers.{said, Answers, Ends, SendsFront}
+use Rattle.trajdb.specs.declared.RunFault.TheVariants as run
+use Rattle.sessions.specs.declared.fault.Fault.TheVariants.{Run}
+use Rattle.sessions.specs.Answers.{said, Answers, Ends, HasWritten, NoneBegins, OnlyAsks, RunBegins, SendsFront}
 use Rattle.sessions.proofs.AnswerLemmas.{on_error}
-use Rattle.sessions.proofs.LeftLemmas.{on_said}
+use Rattle.sessions.proofs.LeftLemmas.{on_said, said_of}
+use Rattle.sessions.proofs.WrittenLemmas.{on_said_run}
 use Rattle.sessions.proofs.session.answer.Goals as goal
 
 pub returns-in-Ok-clause-runs : goal.returns-in-Ok-clause-runs
@@ -36,3 +40,34 @@ returns-in-Ok-clause-ends g c =
     let lines = lines_of c.args.script.now in
     subst (λ k. IfOk k (λ (d : DbView). (ran : Result (Unit {0}) RunFault) × (closed : Result (Unit {0}) RunFault) × (c.answer_of.result ≡ said ran closed) × (IsSoundDb d → HasPages d → IsIdle d → d.failed ≡ false → Ends d c.args.files.now sent sent' lines ran closed s))) (sym c.in-Ok.is)
     (r.1, r.2, c.answer_of.ensures, c.run_and_close-store.ensures.ends)
+
+pub returns-in-Ok-clause-caused : goal.returns-in-Ok-clause-caused
+returns-in-Ok-clause-caused g c =
+    let r = c.run_and_close-store.result in
+    let s = g.S.PageStore.seen r.0 in
+    subst (λ k. IfOk k (λ (d : DbView). IsErrOf c.answer_of.result (Run run.Store) → Faulted d.index.cache.store s)) (sym c.in-Ok.is)
+    (λ is. c.run_and_close-store.ensures.caused (said_of r.1 r.2 c.answer_of.result run.Store c.answer_of.ensures is))
+
+pub returns-in-Ok-clause-synced : goal.returns-in-Ok-clause-synced
+returns-in-Ok-clause-synced g c =
+    let r = c.run_and_close-store.result in
+    let s = g.S.PageStore.seen r.0 in
+    let lines = lines_of c.args.script.now in
+    subst (λ k. OnOk c.answer_of.result (IfOk k (λ (d : DbView). RunBegins d c.args.files.now lines → IsSynced s))) (sym c.in-Ok.is)
+    (on_said (RunBegins c.in-Ok.database c.args.files.now lines → IsSynced s) r.1 r.2 c.answer_of.result c.answer_of.ensures c.run_and_close-store.ensures.synced)
+
+pub returns-in-Ok-clause-stays : goal.returns-in-Ok-clause-stays
+returns-in-Ok-clause-stays g c =
+    let r = c.run_and_close-store.result in
+    let s = g.S.PageStore.seen r.0 in
+    let lines = lines_of c.args.script.now in
+    let db = c.in-Ok.database in
+    subst (λ k. OnOk c.answer_of.result (IfOk k (λ (d : DbView). IsTrue d.index.cache.store.is_faithful → IsIdle d → d.begun ≡ false → NoneBegins d c.args.files.now lines → HasWritten d s))) (sym c.in-Ok.is)
+    (on_said_run (IsTrue db.index.cache.store.is_faithful → IsIdle db → db.begun ≡ false → NoneBegins db c.args.files.now lines → HasWritten db s) r.1 r.2 c.answer_of.result c.answer_of.ensures c.run_and_close-store.ensures.stays)
+
+pub returns-in-Ok-clause-asked : goal.returns-in-Ok-clause-asked
+returns-in-Ok-clause-asked g c =
+    let s = g.S.PageStore.seen c.run_and_close-store.result.0 in
+    let lines = lines_of c.args.script.now in
+    subst (λ k. IfOk k (λ (d : DbView). IsTrue d.index.cache.store.is_faithful → IsIdle d → d.begun ≡ false → d.failed ≡ false → OnlyAsks c.args.files.now lines → HasWritten d s)) (sym c.in-Ok.is)
+    c.run_and_close-store.ensures.asked

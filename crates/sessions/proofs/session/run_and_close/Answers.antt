@@ -1,5 +1,6 @@
 use Rattle.trajdb.specs.Script.{lines_of}
-use Rattle.sessions.proofs.LeftLemmas.{answered_both, ended, sends_front}
+use Rattle.sessions.proofs.LeftLemmas.{answered_both, closing_full, ended, said_to_fail, sends_front}
+use Rattle.sessions.proofs.WrittenLemmas.{asked_stays, closed_lasts, ran_stays, synced_both}
 use Rattle.sessions.proofs.session.run_and_close.Goals as goal
 
 pub returns-clause-runs : goal.returns-clause-runs
@@ -15,10 +16,34 @@ returns-clause-sent g c =
     c.run-ran.ensures.ok e.output e.refused
 
 pub returns-clause-ends : goal.returns-clause-ends
-returns-clause-ends g c =
+returns-clause-ends g c = λ was pages idle lived.
     let e = c.run-ran.ensures.call in
     let k = c.run-ran.ensures.keeps in
     let d = c.close-store.ensures in
     ended c.args.database c.run-ran.new.self (g.S.PageStore.seen c.close-store.result.0) c.args.files.now (g.W.Write.contents c.args.out.now) (g.W.Write.contents c.run-ran.new.out) (lines_of c.args.script.now) c.close-store.result.1
-    e.pages k.rests e.later.limits e.later.index.plan e.only d.holds d.only d.unfinished (λ lives not. (d.idle lives not).0) (λ f. (d.failed f).0) k.safe d.safe c.run-ran.result
-    c.run-ran.ensures.ok e.sound e.lives e.output e.cut_sound e.cut_lives e.refused e.kept
+    e.pages k.rests e.later.limits e.later.index.plan e.only lived d.holds d.only d.unfinished (closing_full c.run-ran.new.self (g.S.PageStore.seen c.close-store.result.0) c.close-store.result.1 d.caused) d.refused (λ lives not. (d.idle lives not).0) (λ f. (d.failed f).0)
+    (closed_lasts c.args.database c.run-ran.new.self (g.S.PageStore.seen c.close-store.result.0) c.close-store.result.1 e.pages d.synced (λ lives not. (d.idle lives not).1) (λ f. (d.failed f).0)) k.safe d.safe c.run-ran.result
+    c.run-ran.ensures.ok e.sound e.lives e.output e.cut_sound e.cut_lives e.refused e.kept e.stopped e.full was pages idle lived
+
+pub returns-clause-caused : goal.returns-clause-caused
+returns-clause-caused g c =
+    let e = c.run-ran.ensures.call in
+    let d = c.close-store.ensures in
+    said_to_fail c.args.database c.run-ran.new.self (g.S.PageStore.seen c.close-store.result.0) c.run-ran.result c.close-store.result.1 e.stopped e.later.index.faults d.keeps.faults d.caused
+
+pub returns-clause-synced : goal.returns-clause-synced
+returns-clause-synced g c =
+    let e = c.run-ran.ensures.call in
+    synced_both c.args.database c.run-ran.new.self (g.S.PageStore.seen c.close-store.result.0) c.args.files.now (lines_of c.args.script.now) c.run-ran.result c.close-store.result.1 e.begins e.pages.begun c.close-store.ensures.synced
+
+pub returns-clause-stays : goal.returns-clause-stays
+returns-clause-stays g c =
+    let e = c.run-ran.ensures.call in
+    let d = c.close-store.ensures in
+    ran_stays c.args.database c.run-ran.new.self (g.S.PageStore.seen c.close-store.result.0) c.args.files.now (lines_of c.args.script.now) c.run-ran.result e.lives e.only e.whole e.pages (λ l b. (d.idle l b).1)
+
+pub returns-clause-asked : goal.returns-clause-asked
+returns-clause-asked g c =
+    let e = c.run-ran.ensures.call in
+    let d = c.close-store.ensures in
+    asked_stays c.args.database c.run-ran.new.self (g.S.PageStore.seen c.close-store.result.0) c.args.files.now (lines_of c.args.script.now) c.run-ran.result e.lives e.cut_lives e.stops e.whole e.pages (λ l b. (d.idle l b).1)

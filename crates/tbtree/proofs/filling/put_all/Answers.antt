@@ -14,7 +14,9 @@ use Rattle.tbtree.proofs.LeafLemmas.{fills_none, fills_part, placed_last, placed
 use Rattle.tbtree.proofs.FillLemmas.{joins_none, length_part, part_in_last, part_joins, part_refused}
 use Rattle.tbtree.specs.Filling.{page_made, place_with, FillsLeaves, NamesLast}
 use Rattle.tbtree.specs.Joining.{in_last_leaf, HasAtEnd}
+use Rattle.pagecache.specs.Cache.{Cache}
 use Rattle.tbtree.specs.declared.tree.Place.{Place}
+use Rattle.tbtree.specs.declared.tree.TbTree.{TbTree}
 use Rattle.tbtree.proofs.PassLemmas.{touches_none, touches_then}
 use Rattle.tbtree.proofs.RoomLemmas.{mod_at_next, mod_below_next}
 use Rattle.tbtree.proofs.Still.{still}
@@ -36,6 +38,8 @@ leaves-init g c =
       stays = λ above room. refl;
       moves = inl refl;
       begun = λ none. refl;
+      first = λ none. (refl, refl);
+      rooted = λ above. absurd (omega (arith, above));
       named = λ above. absurd (omega (arith, above));
       full = λ above left. absurd (omega (arith, above));
       ends = λ fa above. absurd (omega (arith, above));
@@ -104,6 +108,16 @@ leaves-preserved g c =
           inr (omega (arith, at, more)))
           (cases_lt 0 filled);
       begun = λ none. absurd (let some = fits.some in omega (arith, none, some));
+      first = λ none. absurd (let some = fits.some in omega (arith, none, some));
+      rooted = λ above. ⊎_elim
+          (λ (before : 0 < n). so_far.rooted before)
+          (λ (none : n ≤ 0).
+          let same = so_far.first (omega (arith, none)) in
+          let there = put.rooted in
+          let root = ap (λ (t : TbTree). t.root) same.0 in
+          let count = ap (λ (x : Cache). x.count) same.1 in
+          omega (arith, there, root, count))
+          (cases_lt 0 n);
       named = λ above. ⊎_elim
           (λ (before : 0 < n). so_far.named before)
           (λ (first : n ≤ 0). subst NamesLast (so_far.begun (omega (arith, first))) put.named)
@@ -129,6 +143,11 @@ pub returns-clause-named : goal.returns-clause-named
 returns-clause-named g c = λ some.
     let over = c.leaves-test.false in
     c.leaves.invariant.named (omega (arith, over, some))
+
+pub returns-clause-rooted : goal.returns-clause-rooted
+returns-clause-rooted g c = λ some.
+    let over = c.leaves-test.false in
+    c.leaves.invariant.rooted (omega (arith, over, some))
 
 pub returns-clause-counted : goal.returns-clause-counted
 returns-clause-counted g c =

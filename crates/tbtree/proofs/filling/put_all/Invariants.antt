@@ -25,6 +25,8 @@ invariant-leaves g l = record {
   stays : 0 < l.fn.place.legs % l.fn.tree.shape.leaf → l.fn.place.legs % l.fn.tree.shape.leaf + length l.legs ≤ l.fn.tree.shape.leaf → l.place.last ≡ l.fn.place.last;
   moves : (l.place.last ≡ l.fn.place.last) ⊎ (l.fn.cache.count ≤ l.place.last);
   begun : l.from ≡ 0 → l.place ≡ l.fn.place;
+  first : l.from ≡ 0 → (l.tree ≡ l.fn.tree) × (l.cache ≡ l.fn.cache);
+  rooted : 0 < l.from → l.fn.tree.root < l.fn.cache.count;
   named : 0 < l.from → NamesLast l.fn.place;
   full : 0 < l.from → l.from < length l.legs → l.place.legs % l.fn.tree.shape.leaf ≡ 0;
   ends : IsTrue l.fn.cache.store.is_faithful → 0 < l.from → HasAtEnd (pages_of_cache l.cache) l.place.last (in_last_leaf l.fn.tree.shape.leaf l.place.legs (take l.from l.legs));

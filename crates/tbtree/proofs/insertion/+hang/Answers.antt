@@ -12,6 +12,7 @@ use Rattle.tbtree.proofs.LawfulBoxes.{lawful}
 use Rattle.tbtree.proofs.Hanging.{hang_ups, hang_on, way_not, attach_not}
 use Rattle.tbtree.proofs.Still.{still}
 use Rattle.tbtree.proofs.ContentLemmas.{carries_on, on_carried}
+use Rattle.tbtree.proofs.KindLemmas.{inner_made}
 use Rattle.tbtree.proofs.insertion.+hang.Goals as goal
 
 pub returns-then-at-inner-eq0-clause-hangs : goal.returns-then-at-inner-eq0-clause-hangs
@@ -72,23 +73,24 @@ returns-in_err-attach-clause-hangs g t c = λ fa.
     rw (p.1, p.2) (attach_not leg_boxes lawful leg_feature tree.shape.inner tree.levels tree.root old mid (pages_of_cache c.attach.new.cache) c.args.level c.args.at c.args.child.now.child c.in_ok-parent.parent c.args.child.now.bounds _ wide below room on only)
 
 pub returns-then-at-inner-eq0-clause-carries : goal.returns-then-at-inner-eq0-clause-carries
-returns-then-at-inner-eq0-clause-carries g t c = λ fa low there.
+returns-then-at-inner-eq0-clause-carries g t c = λ fa low end on.
     let tree = c.args.tree.now in
     let number = (c.in_ok-page.ensures.adds fa).number in
     let counted = (c.in_ok-page.ensures.adds fa).counted in
     let same : c.child.inside.bounds ≡ c.args.child.now.bounds = ap (λ (e : EntryView BoxView). e.bounds) c.child.view_is in
     let below : c.args.level + 1 < tree.levels = omega (arith, c.if-from-tree.false, c.from.ensures, c.requires.level) in
     on_carried (pages_of_cache c.args.cache.now) (pages_of_cache c.add_inner.new.cache) (pages_of_cache c.hang.new.cache) tree.root tree.levels c.args.level c.args.child.now.child c.in_ok-page.page c.args.child.now.bounds c.hang.result
-    low there c.add_inner.ensures.fresh below c.hang.ensures.higher (c.in_ok-page.ensures.adds fa)
+    low end on c.add_inner.ensures.fresh below c.hang.ensures.higher (c.in_ok-page.ensures.adds fa)
     (subst (λ b. IfOk c.hang.result (Carries (pages_of_cache c.add_inner.new.cache) (pages_of_cache c.hang.new.cache) tree.root tree.levels (c.args.level + 1) b c.in_ok-page.page)) same
-    (c.hang.ensures.carries (still _ _ c.add_inner.ensures.touches.passes.store.faithful fa) (omega (arith, number, low, there)) (omega (arith, number, counted))))
+    (c.hang.ensures.carries (still _ _ c.add_inner.ensures.touches.passes.store.faithful fa) (omega (arith, number, low, end)) (omega (arith, number, counted))
+    (inner_made (pages_of_cache c.args.cache.now) (pages_of_cache c.add_inner.new.cache) c.args.level c.in_ok-page.page _ (omega (arith, number, end)) (c.in_ok-page.ensures.adds fa))))
 
 pub returns-clause-carries : goal.returns-clause-carries
-returns-clause-carries g t c = λ fa low there.
+returns-clause-carries g t c = λ fa low end on.
     let tree = c.args.tree.now in
     let same : c.child.inside.bounds ≡ c.args.child.now.bounds = ap (λ (e : EntryView BoxView). e.bounds) c.child.view_is in
     let below : c.args.level + 1 < tree.levels = omega (arith, c.if-from-tree.false, c.from.ensures, c.requires.level) in
     carries_on (pages_of_cache c.args.cache.now) (pages_of_cache c.way.new.cache) (pages_of_cache c.attach.new.cache) tree.root tree.levels c.args.level c.args.child.now.child c.in_ok-parent.parent c.args.child.now.bounds
-    low there below c.in_ok-attach.ensures.above
+    low end on below c.in_ok-attach.ensures.above
     (subst (λ b. IsFound (pages_of_cache c.args.cache.now) (pages_of_cache c.way.new.cache) tree.root tree.levels (c.args.level + 1) b c.in_ok-parent.parent) same (c.in_ok-parent.ensures.found fa))
     (c.in_ok-attach.ensures.attaches (still _ _ c.way.ensures.touches.passes.store.faithful fa))

@@ -6,6 +6,9 @@ use Rattle.tbtree.proofs.EndLemmas.{ends_added, ends_linked, on_added}
 use Rattle.tbtree.proofs.LeafLemmas.{begins_linked, on_alone, owner_first}
 use Rattle.tbtree.proofs.Still.{still}
 use Rattle.tbtree.proofs.ContentLemmas.{on_says, says_added, says_linked, says_then}
+use Rattle.legs.specs.Costs.{leg_feature}
+use Rattle.tbtree.specs.Stands.{new_leaf}
+use Rattle.tbtree.proofs.KindLemmas.{kinds_begun, on_counted, on_kinds}
 use Rattle.tbtree.proofs.GraftLemmas.{kids_added, kids_linked, kids_then, on_kids}
 use Rattle.tbtree.proofs.insertion.add_last.Goals as goal
 
@@ -55,3 +58,18 @@ returns-clause-leaf g c = λ fa.
     (c.in_ok-page.ensures.adds fa) c.if-page-last.false
     (subst (λ f. HasLastLeaf (pages_of_cache c.add_leaf-2.new.cache) c.args.last f) (ap (λ (leg : LegView). leg.feature) c.first.view_is ∙ sym (owner_first c.args.legs.now c.index-legs-0.result c.requires.some c.index-legs-0.is)) (c.in_ok-link.ensures.last faithful))
     (c.in_ok-link.ensures.links faithful)
+
+pub returns-then-last-eq0-clause-kinds : goal.returns-then-last-eq0-clause-kinds
+returns-then-last-eq0-clause-kinds g c = λ fa.
+    on_kinds (pages_of_cache c.args.cache.now) (pages_of_cache c.add_leaf.new.cache) (new_leaf leg_feature c.args.last c.args.legs.now) c.add_leaf.result c.add_leaf.ensures.fresh (c.add_leaf.ensures.adds fa)
+
+pub returns-clause-kinds : goal.returns-clause-kinds
+returns-clause-kinds g c = λ fa.
+    kinds_begun (pages_of_cache c.args.cache.now) (pages_of_cache c.add_leaf-2.new.cache) (pages_of_cache c.link.new.cache) (new_leaf leg_feature c.args.last c.args.legs.now) c.in_ok-page.page c.args.last c.in_ok-page.page c.in_ok-page.ensures.fresh (c.in_ok-page.ensures.adds fa)
+    (c.in_ok-link.ensures.links (still _ _ c.add_leaf-2.ensures.touches.passes.store.faithful fa))
+
+pub returns-then-last-eq0-clause-counted : goal.returns-then-last-eq0-clause-counted
+returns-then-last-eq0-clause-counted g c = λ fa. on_counted (pages_of_cache c.args.cache.now) (pages_of_cache c.add_leaf.new.cache) (new_leaf leg_feature c.args.last c.args.legs.now) c.add_leaf.result (c.add_leaf.ensures.adds fa)
+
+pub returns-clause-counted : goal.returns-clause-counted
+returns-clause-counted g c = λ fa. (c.in_ok-link.ensures.links (still _ _ c.add_leaf-2.ensures.touches.passes.store.faithful fa)).counted ∙ (c.in_ok-page.ensures.adds fa).counted

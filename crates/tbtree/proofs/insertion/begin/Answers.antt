@@ -1,7 +1,9 @@
 use Rattle.std.proofs.Common.{◌≡◌, ◌<◌, refl, arith, subst}
 use Rattle.std.proofs.lemmas.Result.{err_from_is_err_and}
 use Rattle.tbtree.specs.Filling.{BeginsLeaf}
-use Rattle.tbtree.specs.Nodes.{pages_of_cache}
+use Rattle.tbtree.specs.Nodes.{pages_of_cache, HasLeaf}
+use Rattle.tbtree.specs.Stands.{new_leaf}
+use Rattle.legs.specs.Costs.{leg_feature}
 use Rattle.tbtree.proofs.EndLemmas.{ends_kept}
 use Rattle.tbtree.proofs.LeafLemmas.{begins_kept}
 use Rattle.tbtree.proofs.InsertLemmas.{inserts_begun, hang_not, add_not}
@@ -41,12 +43,12 @@ returns-clause-ends g c = λ fa.
 
 pub returns-clause-met : goal.returns-clause-met
 returns-clause-met g c = λ fa.
-    let more = c.add_last.ensures.touches.passes.count in
     let root = c.requires.root in
     let number = c.in_ok-page.ensures.number in
-    let there = (c.in_ok-page.ensures.leaf fa).there in
+    let begins = c.in_ok-page.ensures.leaf fa in
+    let leaf : HasLeaf (pages_of_cache c.add_last.new.cache) c.in_ok-page.page = record { above = begins.above; leaf = new_leaf leg_feature c.args.place.now.last c.args.legs.now; is = begins.is } in
     meets_begun (pages_of_cache c.args.cache.now) (pages_of_cache c.add_last.new.cache) (pages_of_cache c.hang_leaf.new.cache) c.args.tree.now _ c.in_ok-top.top c.in_ok-page.page c.cover_of_legs-bounds.result c.args.legs.now
-    c.cover_of_legs-bounds.ensures number more (c.in_ok-page.ensures.kids fa) (c.in_ok-page.ensures.says fa) (c.in_ok-top.ensures.carries (still _ _ c.add_last.ensures.touches.passes.store.faithful fa) (omega (arith, root, number)) there) refl refl c.in_ok-top.ensures.some (returns-clause-ends g c fa)
+    c.cover_of_legs-bounds.ensures number (c.in_ok-page.ensures.counted fa) refl c.requires.some c.in_ok-page.ensures.none (c.in_ok-page.ensures.kinds fa) (c.in_ok-page.ensures.kids fa) (c.in_ok-page.ensures.says fa) (c.in_ok-top.ensures.carries (still _ _ c.add_last.ensures.touches.passes.store.faithful fa) (omega (arith, root, number)) (let counted = c.in_ok-page.ensures.counted fa in omega (arith, counted, number)) leaf) refl refl c.in_ok-top.ensures.some (returns-clause-ends g c fa)
 
 pub returns-clause-leaf : goal.returns-clause-leaf
 returns-clause-leaf g c = λ fa.

@@ -20,9 +20,9 @@ returns-then-tree-eq0-clause-hangs g c = λ fa.
     (first_hung leg_boxes leg_feature tree.shape.inner tree.levels tree.root pages tree.leaves page.child page.bounds c.if-tree-eq0.true)
 
 pub returns-then-tree-eq0-clause-carries : goal.returns-then-tree-eq0-clause-carries
-returns-then-tree-eq0-clause-carries g c = λ fa low there.
+returns-then-tree-eq0-clause-carries g c = λ fa low end leaf.
     let tree = c.args.tree.now in
     let pages = pages_of_cache c.args.cache.now in
     let same : c.args.page.now.child ≡ c.page.inside.child = ap (λ (e : EntryView BoxView). e.child) (sym c.page.view_is) in
     subst (λ n. Carries pages pages tree.root tree.levels 0 c.args.page.now.bounds c.args.page.now.child (record { root = n; levels = 1 })) same
-    (carries_first pages tree.root tree.levels c.args.page.now.child c.args.page.now.bounds there c.if-tree-eq0.true)
+    (carries_first pages tree.root tree.levels c.args.page.now.child c.args.page.now.bounds end leaf c.if-tree-eq0.true)

@@ -22,10 +22,10 @@ returns-in_err-bounds-clause-hangs g c = λ fa at.
     rw (p.1, p.2) (cover_refused leg_boxes lawful leg_feature tree.shape.inner tree.levels tree.root (pages_of_cache c.args.cache.now) (pages_of_cache c.cover.new.cache) c.args.level at c.args.child.now.child c.args.child.now.bounds _ c.requires.wide c.requires.top (c.in_err-bounds.ensures.only fa))
 
 pub returns-clause-carries : goal.returns-clause-carries
-returns-clause-carries g c = λ fa low there.
+returns-clause-carries g c = λ fa low end on.
     let tree = c.args.tree.now in
     let old = pages_of_cache c.args.cache.now in
     let mid = pages_of_cache c.cover.new.cache in
     carries_rooted old mid (pages_of_cache c.add_root.new.cache) tree.root tree.levels c.args.level c.args.child.now.child c.in_ok-root.root c.in_ok-bounds.bounds c.args.child.now.bounds
-    low there c.add_root.ensures.fresh c.requires.top (c.in_ok-bounds.ensures.covers fa)
+    low end on c.add_root.ensures.fresh c.requires.top (c.in_ok-bounds.ensures.covers fa)
     (c.in_ok-root.ensures.adds (still _ _ c.cover.ensures.touches.passes.store.faithful fa))

@@ -1,6 +1,6 @@
 use Rattle.mfcsv.specs.FileText.{file_of_bytes}
 use Rattle.std.specs.Option.{option_copied}
-use Rattle.trajdb.proofs.LoadLemmas.{reading_ends, reading_fails, reading_head_fails, reading_joined, reading_more, reading_refused, reading_starts}
+use Rattle.trajdb.proofs.LoadLemmas.{join_read, reading_ends, reading_fails, reading_head_fails, reading_head_reads, reading_joined, reading_more, reading_reads, reading_refused, reading_starts}
 use Rattle.trajdb.proofs.load.join_text.Goals as goal
 
 pub records-init : goal.records-init
@@ -33,3 +33,18 @@ returns-in-Err-finish-clause-refused c = λ book stands same.
     let said = reading_ends c.args.tracks.now c.args.limits.now c.args.bytes.now c.records.reader.text c.next_record.new.self.text c.records.joiner c.records.rows c.in-Ok-into_head.head c.records.invariant reads.1 (c.in-Ok-into_head.ensures.head reads.2) in
     rw c.join_fault.ensures (reading_refused c.args.tracks.now c.args.limits.now c.args.bytes.now c.records.reader.text c.records.joiner c.records.rows c.in-Ok-into_head.head book c.in-Err-finish.fault c.records.invariant said
     (c.in-Err-finish.ensures.refused c.args.limits.now book c.records.invariant.records (c.records.invariant.joining book stands) same))
+
+pub returns-in-Err-clause-reads : goal.returns-in-Err-clause-reads
+returns-in-Err-clause-reads c =
+    rw c.code_fault.ensures (reading_reads c.args.tracks.now c.args.limits.now c.args.bytes.now c.records.reader.text c.records.joiner c.records.rows c.in-Err.fault c.records.invariant (rw c.in-Err.fault-is at c.in-Err.ensures.reads).0)
+
+pub returns-in-Err-into_head-clause-reads : goal.returns-in-Err-into_head-clause-reads
+returns-in-Err-into_head-clause-reads c =
+    let reads = rw c.in-Ok-None.field-0-is at c.in-Ok-None.ensures.reads in
+    rw c.code_fault-in-Err-into_head.ensures (reading_head_reads c.args.tracks.now c.args.limits.now c.args.bytes.now c.records.reader.text c.next_record.new.self.text c.records.joiner c.records.rows c.in-Err-into_head.fault c.records.invariant reads.1 (c.in-Err-into_head.ensures.head reads.2))
+
+pub returns-in-Err-finish-clause-reads : goal.returns-in-Err-finish-clause-reads
+returns-in-Err-finish-clause-reads c =
+    let reads = rw c.in-Ok-None.field-0-is at c.in-Ok-None.ensures.reads in
+    let said = reading_ends c.args.tracks.now c.args.limits.now c.args.bytes.now c.records.reader.text c.next_record.new.self.text c.records.joiner c.records.rows c.in-Ok-into_head.head c.records.invariant reads.1 (c.in-Ok-into_head.ensures.head reads.2) in
+    rw c.join_fault.ensures (join_read c.args.bytes.now _ c.in-Err-finish.fault said)

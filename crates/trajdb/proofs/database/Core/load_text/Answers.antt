@@ -1,5 +1,6 @@
 use Rattle.std.proofs.Common.{ℕ, ◌≡◌, ◌∙◌, ap, sym, subst, inl, inr, Result, Ok, Err, IfOk}
 use Rattle.trajdb.specs.Answers.{counts_text, load_of, load_text}
+use Rattle.trajdb.specs.Calls.{IsRefusedBy}
 use Rattle.trajdb.specs.Database.{FaultIs, IsRefused}
 use Rattle.trajdb.specs.declared.FileCode.{FileCode}
 use Rattle.trajdb.proofs.database.Core.load_text.Goals.{in-Ok, in-Err-Refused}
@@ -23,6 +24,6 @@ returns-in-Ok-text-clause-told_load g c = elim c.match-load.branch [
             let told = load_of c.args.self.now.limits book c.args.bytes.now in
             let refused : told ≡ Err said = subst (λ fault. FaultIs fault told) w.in-Err-Refused.field-0-is (w.in-Err-Refused.ensures.gives book of) in
             text ∙ ap load_text (sym refused),
-        inr ((said, text), w.in-Err-Refused.ensures.refused (subst (λ fault. IsRefused fault) (sym w.in-Err-Refused.field-0-is) tt)),
+        inr ((said, text, subst (λ fault. IsRefusedBy c.args.bytes.now fault) w.in-Err-Refused.field-0-is w.in-Err-Refused.ensures.reads), w.in-Err-Refused.ensures.refused (subst (λ fault. IsRefused fault) (sym w.in-Err-Refused.field-0-is) tt)),
       )
 ]

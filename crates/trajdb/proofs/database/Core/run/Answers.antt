@@ -1,13 +1,14 @@
-use Rattle.std.proofs.Common.{rules, inl, ◌≡◌, ◌+◌, ◌∙◌, ap, refl, sym, subst, true}
+use Rattle.std.proofs.Common.{rules, inl, ◌≡◌, ◌+◌, ◌∙◌, ap, refl, sym, subst, take, true, false}
 use Rattle.std.specs.Prelude.{◌⊎◌, ◌↔◌}
 use Rattle.trajdb.specs.Answers.{AcceptsLine}
 use Rattle.trajdb.specs.Script.{lines_of}
 use Rattle.legs.specs.Limits.{LimitsView}
 use Rattle.trajdb.specs.Database.{CoreView}
 use Rattle.trajdb.specs.Lines.{HasDone, HasCut}
+use Rattle.trajdb.specs.Run.{BeginsIn}
 use Rattle.trajdb.proofs.FaultLemmas.{later-refl, later-trans}
 use Rattle.trajdb.proofs.PageLemmas.{keeps-refl, keeps-trans}
-use Rattle.trajdb.proofs.RunLemmas.{whole_more, left_more, left_stops, begun_end, begun_more, begun_only, begun_start, at_start, at_more, at_cut, at_refused, at_end, at_unflushed, next_line, nil_from_length}
+use Rattle.trajdb.proofs.RunLemmas.{whole_more, left_more, left_stops, begun_by, begun_end, begun_more, begun_only, begun_start, at_start, at_more, at_cut, at_refused, at_end, at_unflushed, next_line, nil_from_length}
 use Rattle.trajdb.proofs.TracedLemmas.{traced_start, traced_more, traced_cut, traced_stop, traced_end, traced_unflushed}
 use Rattle.trajdb.proofs.database.Core.run.Goals as goal
 
@@ -61,12 +62,18 @@ returns-in-Err-clause-call g c =
           let at = c.loop-rest.invariant.at sound in
           let cut = subst (λ (limits : LimitsView). HasCut limits c.args.files.now (g.W.Write.contents c.loop-rest.out) (g.W.Write.contents c.line.new.out)
           c.loop-rest.self.book c.line.new.self.book c.without_return.result.now) c.loop-rest.invariant.later.limits (c.in-Err.ensures.cut is at.0) in
-          at_cut _ _ _ _ _ _ _ _ _ _ _ _ _ at.2 next cut;
+          let only = subst (λ (limits : LimitsView). c.line.new.self.begun ≡ true → (c.loop-rest.self.begun ≡ true) ⊎ AcceptsLine limits c.args.files.now c.loop-rest.self.book c.without_return.result.now)
+          c.loop-rest.invariant.later.limits (c.in-Err.ensures.only at.0) in
+          at_cut _ _ _ _ _ _ _ _ _ _ _ _ _ at.2 next cut (λ j. BeginsIn c.args.files.now c.args.self.now c.line.new.self (take j (lines_of c.args.script.now))) (begun_by _ _ _ _ _ _ _ _ _ _ _ at.2 next _ _ _ at.3 only);
       cut_sound = search rules;
       cut_lives = search rules;
       refused = λ inside lives sound.
           let at = c.loop-rest.invariant.at sound in
-          at_refused _ _ _ _ _ _ _ _ _ _ _ _ _ _ at.2 next (c.in-Err.ensures.refused inside at.0);
+          let only = subst (λ (limits : LimitsView). c.line.new.self.begun ≡ true → (c.loop-rest.self.begun ≡ true) ⊎ AcceptsLine limits c.args.files.now c.loop-rest.self.book c.without_return.result.now)
+          c.loop-rest.invariant.later.limits (c.in-Err.ensures.only at.0) in
+          let r = at_refused _ _ _ _ _ _ _ _ _ _ _ _ _ _ at.2 next (c.in-Err.ensures.refused inside at.0) (λ j. BeginsIn c.args.files.now c.args.self.now c.line.new.self (take (j + 1) (lines_of c.args.script.now)) × (c.line.new.self.failed ≡ false → BeginsIn c.args.files.now c.args.self.now c.line.new.self (take j (lines_of c.args.script.now))))
+          (begun_by _ _ _ _ _ _ _ _ _ _ _ at.2 next _ _ _ at.3 only, λ alive begun. at.3.0 (sym ((c.in-Err.ensures.named inside).lives alive).begun ∙ begun)) in
+          (r.0, r.1, r.2.0, r.2.1);
       kept = search rules;
       stops = λ inside lives. left_stops _ _ _ _ _ _ _ left.0 left.1 next (c.in-Err.ensures.fails inside);
       full = search rules;
@@ -127,7 +134,7 @@ returns-in-Err-flush-clause-call g c =
       named = search rules;
       output = λ is sound.
           let at = c.loop-rest.invariant.at sound in
-          at_unflushed _ _ _ _ _ _ _ _ _ _ at.2 c.in-Err-flush.ensures.bytes;
+          at_unflushed _ _ _ _ _ _ _ _ _ _ at.2 c.in-Err-flush.ensures.bytes (λ j. BeginsIn c.args.files.now c.args.self.now c.loop-rest.self (take j (lines_of c.args.script.now))) at.3.0;
       cut_sound = search rules;
       cut_lives = search rules;
       refused = search rules;

@@ -8,28 +8,34 @@ use Rattle.pagecache.specs.Cache.{payload_of, IsSettled}
 use Rattle.boxsearch.specs.Index.{content, IndexView, IsMarked, IsSound as IsSoundIndex}
 use Rattle.catalogue.specs.Closing.{IsNoStoreFault}
 use Rattle.catalogue.specs.Closing as closing
-use Rattle.catalogue.specs.Holding.{HoldsBook, HoldsButFirst, IsOfBook, IsUnfinishedStore}
+use Rattle.catalogue.specs.Holding.{HoldsBook, HoldsButFirst, HoldsIndex, HoldsIndexButFirst, IsOfBook, IsUnfinishedStore}
 use Rattle.register.specs.Saved.{CatalogueView}
 use Rattle.register.specs.Earlier.{AddsFew, AreEarlier, HasNoRoom}
-use Rattle.register.specs.Saving.{contents_of, IsSavingStop}
+use Rattle.register.specs.Saving.{contents_of, HasFew, IsSavingStop}
 use Rattle.register.specs.Text.{catalogue_text}
 use Rattle.trajdb.specs.Db.{DbView, IsSoundDb}
 use Rattle.trajdb.specs.Faults.{closed_answer}
 use Rattle.trajdb.specs.Promises.{CloseCall}
 use Rattle.trajdb.specs.Lasting.{IsIdle, IsSafe, TakesFew}
-use Rattle.trajdb.proofs.LastingLemmas.{rest_book, closed_caused, closed_holds, closed_only, closed_ordered, closed_refused, closed_synced, closed_takes, closed_unfinished, rest_takes, closed_full}
+use Rattle.trajdb.proofs.LastingLemmas.{rest_book, closed_behind, closed_caused, closed_holds, closed_kept, closed_only, closed_only_marked, closed_ordered, closed_refused, closed_synced, closed_takes, closed_unfinished, closed_unfinished_marked, rest_takes, closed_full}
 use Rattle.trajdb.proofs.SafeLemmas.{left_safe}
 use Rattle.trajdb.proofs.db.Db.close.Goals as goal
 
 pub returns-then-failed : goal.returns-then-failed
 returns-then-failed g c = record {
   holds = search rules;
+  kept = search rules;
   synced = search rules;
   takes = search rules;
   full = λ full. absurd cc;
   only = search rules;
   unfinished = search rules;
+  only_marked = search rules;
+  unfinished_marked = search rules;
   refused = search rules;
+  behind = λ lives.
+      let failed : c.self.inside.core.failed ≡ true = sym (λ i. (c.self-inside.view_is i).core.failed) ∙ c.if-failed.true in
+      absurd (false≢true (sym lives ∙ sym (ap (λ (d : DbView). d.failed) c.self.view_is) ∙ failed));
   ordered = λ lives.
       let failed : c.self.inside.core.failed ≡ true = sym (λ i. (c.self-inside.view_is i).core.failed) ∙ c.if-failed.true in
       absurd (false≢true (sym lives ∙ sym (ap (λ (d : DbView). d.failed) c.self.view_is) ∙ failed));
@@ -58,6 +64,9 @@ returns-then-not-begun g c = record {
       subst (λ (d : DbView). HoldsBook (g.S.PageStore.seen c.rest-then-not-begun.result) d.index.tree.shape d.limits d.book) is
       (subst (λ (s : Store). HoldsBook s core.index.tree.shape core.limits core.book) (sym store)
       (rest_book c.laws.ensures.holds core c.into_parts-catalogue.ensures.legs lawful settled (subst IsSoundDb (sym is) sound) (subst IsIdle (sym is) idle) begun lives));
+  kept = λ begun.
+      let rests : c.self.inside.core.begun ≡ false = sym (λ i. (c.self-inside.view_is i).core.begun) ∙ c.if-not-begun.true in
+      absurd (false≢true (sym rests ∙ ap (λ (d : DbView). d.begun) c.self.view_is ∙ begun));
   synced = λ begun.
       let rests : c.self.inside.core.begun ≡ false = sym (λ i. (c.self-inside.view_is i).core.begun) ∙ c.if-not-begun.true in
       absurd (false≢true (sym rests ∙ ap (λ (d : DbView). d.begun) c.self.view_is ∙ begun));
@@ -68,7 +77,10 @@ returns-then-not-begun g c = record {
   full = λ full. absurd cc;
   only = search rules;
   unfinished = search rules;
+  only_marked = search rules;
+  unfinished_marked = search rules;
   refused = search rules;
+  behind = search rules;
   ordered = search rules;
   idle = search rules;
   failed = search rules;
@@ -91,6 +103,10 @@ returns g c =
           let first = subst (λ (x : IndexView). OnOk answer (IsSoundIndex x → IsMarked x.cache → (book : Book) → IsOfBook parts.limits book parts → content x ≡ book.legs → HoldsBook s x.tree.shape parts.limits book)) of.index c.close-store.ensures.holds in
           let second = subst (λ (k : CatalogueView). OnOk answer (IsSoundIndex core.index → IsMarked core.index.cache → (book : Book) → IsOfBook k.limits book k → content core.index ≡ book.legs → HoldsBook s core.index.tree.shape k.limits book)) of.catalogue first in
           closed_holds core s answer of.legs second begun;
+      kept =
+          let first = subst (λ (x : IndexView). OnOk answer (IsMarked x.cache → HoldsIndex s parts x)) of.index c.close-store.ensures.kept in
+          let second = subst (λ (k : CatalogueView). OnOk answer (IsMarked core.index.cache → HoldsIndex s k core.index)) of.catalogue first in
+          closed_kept core s answer second;
       synced = closed_synced (core.begun ≡ true) s answer c.close-store.ensures.synced;
       takes =
           let first = subst (λ (x : IndexView). OnOk answer (IsTrue x.cache.store.is_faithful → x.cache.count ≡ x.cache.store.count → (pages : List ℕ) → AreEarlier (payload_of x.cache) pages → AddsFew x.cache.count (catalogue_text (contents_of parts x.places)) pages s.count)) of.index c.close-store.ensures.takes in
@@ -105,12 +121,23 @@ returns g c =
           let second = subst (λ (k : CatalogueView). IfErr answer (λ fault. IsSoundIndex core.index → (book : Book) → IsOfBook k.limits book k → content core.index ≡ book.legs → IsSavingStop fault)) of.catalogue first in
           closed_only core answer of.legs second;
       unfinished =
-          let first = subst (λ (x : IndexView). IfErr answer (λ fault. IsNoStoreFault fault → IsSoundIndex x → IsMarked x.cache → IsUnfinishedStore s)) of.index c.close-store.ensures.unfinished in
+          let first = subst (λ (x : IndexView). IfErr answer (λ fault. IsNoStoreFault fault → IsMarked x.cache → IsUnfinishedStore s)) of.index c.close-store.ensures.unfinished in
           closed_unfinished core s answer first begun;
+      only_marked =
+          let first = subst (λ (x : IndexView). IfErr answer (λ fault. IsMarked x.cache → HasFew parts → IsSavingStop fault)) of.index c.close-store.ensures.only_marked in
+          let second = subst (λ (k : CatalogueView). IfErr answer (λ fault. IsMarked core.index.cache → HasFew k → IsSavingStop fault)) of.catalogue first in
+          closed_only_marked core answer second;
+      unfinished_marked =
+          let first = subst (λ (x : IndexView). IfErr answer (λ fault. IsNoStoreFault fault → IsMarked x.cache → IsUnfinishedStore s)) of.index c.close-store.ensures.unfinished in
+          closed_unfinished_marked core s answer first;
       refused =
           let first = subst (λ (x : IndexView). OnErr answer (IsSoundIndex x → IsMarked x.cache → (book : Book) → IsOfBook parts.limits book parts → content x ≡ book.legs → IsUnfinishedStore s ⊎ HoldsButFirst s x.tree.shape parts.limits book)) of.index c.close-store.ensures.refused in
           let second = subst (λ (k : CatalogueView). OnErr answer (IsSoundIndex core.index → IsMarked core.index.cache → (book : Book) → IsOfBook k.limits book k → content core.index ≡ book.legs → IsUnfinishedStore s ⊎ HoldsButFirst s core.index.tree.shape k.limits book)) of.catalogue first in
           closed_refused core s answer of.legs second begun;
+      behind =
+          let first = subst (λ (x : IndexView). OnErr answer (IsMarked x.cache → IsUnfinishedStore s ⊎ HoldsIndexButFirst s parts x)) of.index c.close-store.ensures.behind in
+          let second = subst (λ (k : CatalogueView). OnErr answer (IsMarked core.index.cache → IsUnfinishedStore s ⊎ HoldsIndexButFirst s k core.index)) of.catalogue first in
+          closed_behind core s answer second;
       ordered =
           let first = subst (λ (x : IndexView). OnErr answer (IsMarked x.cache → IsUnfinishedStore s ⊎ IsSyncedButFirst s)) of.index c.close-store.ensures.ordered in
           closed_ordered core s answer first;

@@ -1,6 +1,9 @@
-use Rattle.std.proofs.Common.{rules, sym, subst, false}
+use Rattle.std.proofs.Common.{rules, length, sym, subst, false}
+use Rattle.legs.specs.Book.{Book}
 use Rattle.pages.specs.Store.{Stays}
 use Rattle.pagecache.specs.Cache.{stored_payload}
+use Rattle.boxsearch.specs.Index.{written}
+use Rattle.trajdb.specs.Calls.{IsBookOf}
 use Rattle.trajdb.specs.Db.{DbView}
 use Rattle.trajdb.specs.Lasting.{IsNamedAtOpen, IsStop, IsTrulyDamaged}
 use Rattle.trajdb.proofs.LastingLemmas.{damaged_still, named_still, opened_book, stopped}
@@ -13,6 +16,10 @@ returns-in-Ok g c = record {
       opened_book shape limits book c.in-Ok.catalogue c.in-Ok.index false c.restored.result c.restored.ensures.core c.restored.ensures.limits (c.in-Ok.ensures.book fa shape limits book h);
   holds = search rules;
   kept = search rules;
+  stands = λ fa.
+      let kept = (c.in-Ok.ensures.rest fa).kept in
+      let b = c.laws-2.ensures.books (length (written c.in-Ok.index)) c.in-Ok.catalogue c.in-Ok.index.places kept.lawful kept.says.limits in
+      subst (λ (d : DbView). (book : Book) × IsBookOf d book) (sym c.restored.ensures.core) (b.0, record { limits = kept.says.limits; tracks = b.1; head = b.2; rows = b.4 });
   idle = search rules;
   begun = search rules;
   lives = search rules;
@@ -38,6 +45,7 @@ returns-in-Err g c = record {
       subst IsStop (sym c.from.ensures) (stopped c.in-Err.fault (c.in-Err.ensures.holds fa shape limits book h));
   kept = λ fa k tree places kept.
       subst IsStop (sym c.from.ensures) (stopped c.in-Err.fault (c.in-Err.ensures.kept fa k tree places kept));
+  stands = search rules;
   idle = search rules;
   begun = search rules;
   lives = search rules;

@@ -1,0 +1,40 @@
+-- Where the ways down an index lead, since all pages but page 0 are as they were.
+use Rattle.std.proofs.Common.{Bool, ℕ, suc, ◌≡◌, ◌<◌, ◌∙◌, arith, subst, sym, ap, List, IsTrue}
+use Rattle.std.specs.List.{Contains}
+use Rattle.legs.specs.Asking.{LeadsStill}
+use Rattle.legs.specs.Boxes.{BoxView}
+use Rattle.legs.specs.Legs.{LegView}
+use Rattle.pagecache.specs.Cache.{Cache}
+use Rattle.tbtree.specs.Descent.{node_in}
+use Rattle.tbtree.specs.Nodes.{pages_of_cache}
+use Rattle.tbtree.proofs.Still.{still}
+use Rattle.chains.specs.declared.spans.LeafSpan.{LeafSpan}
+use Rattle.boxsearch.specs.Beside.{with_cache}
+use Rattle.boxsearch.specs.Index.{IndexView, legs_by, words}
+use Rattle.boxsearch.proofs.BesideTells.{astray_beside, leg_beside, same_pages}
+
+module _ (old : IndexView) (c : Cache) (known : List (List LeafSpan)) (faithful : c.store.is_faithful ≡ old.cache.store.is_faithful) (count : c.count ≡ old.cache.count)
+    (same : IsTrue old.cache.store.is_faithful → (p : ℕ) → 0 < p → (pages_of_cache c).at p ≡ (pages_of_cache old.cache).at p) (found : (meets : BoxView → Bool) → legs_by meets (with_cache old c known) ≡ legs_by meets old) where
+  was : IsTrue c.store.is_faithful → IsTrue old.cache.store.is_faithful
+  was fa = still _ _ (sym faithful) fa
+
+  pub ways_still : LeadsStill words old (with_cache old c known)
+  ways_still = record {
+    finds = λ meets leg h fa. subst (λ ls. Contains ls leg) (sym (found meets)) (h (was fa));
+    comes = λ meets above page h fa.
+        let at = h (was fa) in
+        (at.0, at.1, subst (λ ps. Contains ps page) (sym (same_pages (pages_of_cache old.cache) (pages_of_cache c) (same (was fa)) count meets old.tree.root (suc at.0))) at.2);
+    bare = λ page h.
+        let there = h.2 in
+        (faithful ∙ h.0, h.1, omega (arith, there, count), ap node_in (same h.0 page h.1) ∙ h.3);
+    ends = λ leg h fa.
+        let e = h (was fa) in
+        let at = e.at_end in
+        record {
+          place = e.place;
+          is = e.is;
+          at_end = record { above = at.above; leaf = at.leaf; is = same (was fa) e.place.last at.above ∙ at.is; own = at.own };
+        };
+    astray = λ above page h fa. astray_beside (pages_of_cache c) (pages_of_cache old.cache) (λ p above. sym (same fa p above)) (sym count) old.tree.root old.tree.levels above page (h (faithful ∙ fa));
+    leads = λ leg h fa. leg_beside (pages_of_cache c) (pages_of_cache old.cache) (λ p above. sym (same fa p above)) (sym count) old.tree.root old.tree.levels leg (h (faithful ∙ fa));
+  }

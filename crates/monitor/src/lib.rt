@@ -1,0 +1,12 @@
+//! What a run is doing and what is noted of its answers: an output and a store that are followed.
+#![tactic(auto)]
+
+mod followed;
+mod noted;
+mod notes;
+mod progress;
+
+pub use followed::Followed;
+pub use noted::Noted;
+pub use notes::{Note, Notes, Place, What};
+pub use progress::{Progress, Told};
