@@ -1,7 +1,5 @@
 //! The words of the command line.
-use crate::task::{
-    Bounds, Check, Info, Migrate, Moments, Part, Parts, Rows, Run, Task, Telling,
-};
+use crate::task::{Bounds, Check, Info, Migrate, Moments, Part, Parts, Rows, Run, Task, Telling};
 use clap::{Arg, ArgAction, ArgMatches, Command, Error, value_parser};
 use std::alloc::{AllocError, Global};
 
