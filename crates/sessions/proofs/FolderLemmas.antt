@@ -1,19 +1,20 @@
 -- What a run on a copy makes of a store's name.
 use Rattle.std.proofs.Common.{ℕ, ◌≡◌, ◌⊎◌, ◌∙◌, refl, sym, subst, inl, inr, [], ◌∷◌, true, false, Bool, IsTrue, List, Option, Some, None, Result, Ok, Err}
 use Rattle.std.proofs.KnownBytes.{Appends-nil}
-use Rattle.std.specs.Prelude.{is_ok, IfErr, IfOk, IfSome, IsOk, OnErr, OnOk}
+use Rattle.std.specs.Prelude.{is_ok, MatchResult, IfErr, IfOk, IfSome, IsOk, OnErr, OnOk}
 use Rattle.legs.specs.Book.{Book, empty_book}
 use Rattle.legs.specs.Costs.{ShapeView}
 use Rattle.legs.specs.Limits.{limits_of, LimitsView}
 use Rattle.pages.specs.Store.{Store}
 use Rattle.pages.specs.declared.unsynced.Unsynced.TheVariants.{Others}
 use Rattle.catalogue.specs.Holding.{HoldsBook}
-use Rattle.trajdb.specs.Db.{DbView, HasPages, IsSoundDb}
+use Rattle.trajdb.specs.Db.{DbView, HasPages, IsAllowed, IsSoundDb}
 use Rattle.trajdb.specs.Lasting.{HasBook, IsIdle}
 use Rattle.trajdb.proofs.SafeLemmas.{apart}
 use Rattle.trajdb.specs.Run.{HasRun}
+use Rattle.trajdb.specs.declared.OpenFault.{OpenFault}
 use Rattle.trajdb.specs.declared.RunFault.{RunFault}
-use Rattle.sessions.specs.Answers.{said, Answers, ClosesAfter, Ends, FailsToLoad, SendsFront, new_shape}
+use Rattle.sessions.specs.Answers.{said, Answers, ClosesAfter, Ends, FailsToLoad, RunsOver, SendsFront, new_shape}
 use Rattle.sessions.specs.declared.fault.Fault.{Fault}
 use Rattle.sessions.specs.Folder.{BeginsWith, History, HoldsNow, IsRefusedBeside, NameIsKept, RunsBeside, store_in}
 use Rattle.sessions.proofs.AnswerLemmas.{front_done}
@@ -167,3 +168,35 @@ pub if_refused : {E : Type 0} (kept : Result (Unit {0}) E) (was : Option History
 if_refused (Ok x) was P f = tt
 if_refused (Err e) None P f = tt
 if_refused (Err e) (Some past) P f = f e past refl
+
+-- a run over what was made of a store: where it is answered there was a database, and where there was none nothing was sent
+module _ {S O : Type 0} (seen : S → Store) (shown : O → Option (List ℕ)) (files : List (List ℕ × List ℕ)) (out out' : O) (lines : List (List ℕ)) (store : Store) where
+  pub over_opened : (answered : Result (Unit {0}) Fault) (o : Result DbView (S × OpenFault)) → RunsOver seen shown o files out out' lines answered store → OnOk answered (IsOk o)
+  over_opened (Err e) o h = tt
+  over_opened (Ok x) (Ok db) h = refl
+  over_opened (Ok x) (Err back) h = let is = h.0 in absurd (cc is)
+
+  pub over_unsent : (answered : Result (Unit {0}) Fault) (o : Result DbView (S × OpenFault)) → RunsOver seen shown o files out out' lines answered store → OnErr o (shown out' ≡ shown out)
+  over_unsent answered (Ok db) h = tt
+  over_unsent answered (Err back) h = h.2
+
+  pub over_ended : (answered : Result (Unit {0}) Fault) (o : Result DbView (S × OpenFault)) → RunsOver seen shown o files out out' lines answered store → IfOk o (λ db. Ended files (shown out) (shown out') lines store db answered)
+  over_ended answered (Ok db) h = (h.0, h.1, h.2, h.3.ends)
+  over_ended answered (Err back) h = tt
+
+-- what is so of an answer and of all is so of both
+pub on_both : {T E : Type 0} (A B : Type 0) (r : Result T E) → A → OnOk r B → OnOk r (A × B)
+on_both A B (Ok x) a b = (a, b)
+on_both A B (Err e) a b = tt
+
+pub on_refusal : {T E : Type 0} (A : Type 0) (r : Result T E) → A → OnErr r A
+on_refusal A (Ok x) a = tt
+on_refusal A (Err e) a = a
+
+-- a database is made, or it is not, of a store without pages
+pub made_or_not : {S : Type 0} {is_new : Bool} (r : Result DbView (S × OpenFault)) (s : Store)
+    → IfOk r (λ db. IsTrue is_new → IsTrue s.is_faithful → s.count ≡ 0 → HasBook new_shape (limits_of 16777216 1048576) empty_book db)
+    → IfErr r (λ back. IsTrue is_new → IsTrue s.is_faithful → s.count ≡ 0 → IsAllowed back.1)
+    → IsTrue is_new → IsTrue s.is_faithful → s.count ≡ 0 → MatchResult r (HasBook new_shape (limits_of 16777216 1048576) empty_book) (λ back. IsAllowed back.1)
+made_or_not (Ok db) s new made n f z = new n f z
+made_or_not (Err back) s new made n f z = made n f z

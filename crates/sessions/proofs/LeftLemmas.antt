@@ -7,16 +7,13 @@ use Rattle.legs.specs.Book.{Book}
 use Rattle.legs.specs.Costs.{ShapeView}
 use Rattle.legs.specs.Limits.{LimitsView}
 use Rattle.pages.specs.Store.{Store, Faulted, IsSynced}
-use Rattle.pages.specs.declared.payload.Payload.{Payload}
 use Rattle.boxsearch.specs.Index.{words}
 use Rattle.catalogue.specs.Holding.{HoldsBook, HoldsButFirst, IsUnfinishedStore}
 use Rattle.trajdb.specs.Calls.{BeginsOnly, IsLoadFault, IsRunStop, KeepsPages}
-use Rattle.trajdb.specs.Db.{DbView, HasPages, IsAllowed, IsSoundDb}
-use Rattle.trajdb.specs.Lasting.{IsClosingFault, IsFaultless, IsIdle, IsNamedAtOpen, IsSafe, IsSafeStore}
+use Rattle.trajdb.specs.Db.{DbView, HasPages, IsSoundDb}
+use Rattle.trajdb.specs.Lasting.{IsClosingFault, IsFaultless, IsIdle, IsSafe, IsSafeStore}
 use Rattle.trajdb.specs.Faults.{IsNotOutput}
 use Rattle.trajdb.specs.Run.{run_book, AcceptsSome, BeginsIn, HasCutRun, HasStopped, IsCut, IsRunText, Runs, Stops}
-use Rattle.trajdb.specs.declared.OpenFault.{OpenFault}
-use Rattle.trajdb.specs.declared.OpenFault.TheVariants as opening
 use Rattle.trajdb.specs.declared.RunFault.{RunFault}
 use Rattle.trajdb.specs.declared.RunFault.TheVariants as run
 use Rattle.sessions.specs.Answers.{said, Answers, ClosesAfter, ClosesWith, Ends, FailsToLoad, HasWritten, SendsFront}
@@ -213,44 +210,16 @@ on_said P (Ok x) (Ok y) r is h = subst (λ k. OnOk k P) (sym is) h
 on_said P (Ok x) (Err e) r is h = subst (λ k. OnOk k P) (sym is) tt
 on_said P (Err e) closed r is h = subst (λ k. OnOk k P) (sym is) tt
 
--- what is said of each refusal is said where more is known
-pub always_so : {T E : Type 0} (P : E → Type 0) (H : Type 0) (r : Result T E) → IfErr r P → IfErr r (λ e. H → P e)
-always_so P H (Ok x) p = tt
-always_so P H (Err e) p = λ h. p
-
 -- what is said of each refusal says another thing of it
 pub err_more : {T E : Type 0} (P Q : E → Type 0) (r : Result T E) → ((e : E) → P e → Q e) → IfErr r P → IfErr r Q
 err_more P Q (Ok x) f h = tt
 err_more P Q (Err e) f h = f e h
 
--- what is said of each database is said where more is known
-pub so_opened : {T E : Type 0} (P : T → Type 0) (H : Type 0) (r : Result T E) → IfOk r P → IfOk r (λ x. H → P x)
-so_opened P H (Ok x) p = λ h. p
-so_opened P H (Err e) p = tt
-
 -- a store without pages of which one is to be made is none that is opened
-neither : (P : Type 0) (b : Bool) (n : ℕ) → b ≡ true → n ≡ 0 → (b ≡ false) ⊎ (0 < n) → P
+pub neither : (P : Type 0) (b : Bool) (n : ℕ) → b ≡ true → n ≡ 0 → (b ≡ false) ⊎ (0 < n) → P
 neither P b n is none (inl not) = let w : true ≡ false = sym is ∙ not in absurd cc
 neither P b n is none (inr some) = absurd (omega (arith, some, none))
-
-pub never : {T E : Type 0} (P : E → Type 0) (b : Bool) (n : ℕ) (r : Result T E) → b ≡ true → n ≡ 0 → IfErr r (λ e. (b ≡ false) ⊎ (0 < n) → P e)
-never P b n (Ok x) is none = tt
-never P b n (Err e) is none = neither (P e) b n is none
-
-pub never_opened : {T E : Type 0} (P : T → Type 0) (b : Bool) (n : ℕ) (r : Result T E) → b ≡ true → n ≡ 0 → IfOk r (λ x. (b ≡ false) ⊎ (0 < n) → P x)
-never_opened P b n (Ok x) is none = neither (P x) b n is none
-never_opened P b n (Err e) is none = tt
 
 -- a store without pages holds no book
 pub none_held : (store : Store) → store.count ≡ 0 → (shape : ShapeView) (limits : LimitsView) (book : Book) → HoldsBook store shape limits book → ⊥
 none_held store none shape limits book h = let root = h.kept.within.root in omega (arith, none, root)
-
--- a refusal of a new database names no page
-pub names_none : (at : ℕ → Option Payload) (count : ℕ) (e : OpenFault) → IsAllowed e → IsNamedAtOpen at count e
-names_none at count opening.Memory a = tt
-names_none at count opening.Store a = tt
-names_none at count (opening.Damaged page) a = absurd a
-names_none at count opening.StoreFull a = tt
-names_none at count opening.Unfinished a = absurd a
-names_none at count opening.Version a = absurd a
-names_none at count opening.Malformed a = absurd a

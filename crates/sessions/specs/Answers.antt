@@ -12,10 +12,12 @@ use Rattle.version1.specs.Migrating.{IsBrought}
 use Rattle.register.specs.Saved.{CatalogueView}
 use Rattle.migration.specs.Bringing.{IsMigratingFault}
 use Rattle.trajdb.specs.Calls.{IsLoadFault, LoadsBy, LoadsWholeSome, Speaks}
-use Rattle.trajdb.specs.Db.{DbView, IsSoundDb}
+use Rattle.trajdb.specs.Db.{DbView, HasPages, IsSoundDb}
 use Rattle.trajdb.specs.Faults.{IsNotOutput}
-use Rattle.trajdb.specs.Lasting.{IsFaultless, IsSafe, IsSafeStore}
-use Rattle.trajdb.specs.Run.{run_book, AcceptsSome, HasRun, IsPrefixOf, IsRunText}
+use Rattle.trajdb.specs.Lasting.{IsFaultless, IsIdle, IsSafe, IsSafeStore}
+use Rattle.trajdb.specs.Promises.{CloseCall, KeepsStore, RunCall}
+use Rattle.trajdb.specs.Run.{run_book, AcceptsSome, HasRun, IsPrefixOf, IsRunText, Runs}
+use Rattle.trajdb.specs.declared.OpenFault.{OpenFault}
 use Rattle.trajdb.specs.declared.OpenFault.TheVariants as opening
 use Rattle.trajdb.specs.declared.Report.{Report}
 use Rattle.trajdb.specs.declared.RunFault.{RunFault}
@@ -113,6 +115,19 @@ pub record Ends (db : DbView) (files : List (List ℕ × List ℕ)) (sent sent' 
       ⊎ FailsToLoad db files lines done ran closed store
   pub lasts : OnOk closed (IsSynced store ⊎ HasWritten db store)
 
+-- a run over a database and its closing, be it sound or not: there is a database between them, and the run and the closing
+-- do with it what each promises; over a sound one they leave what `Ends` says
+pub record RunsAndCloses {O : Type 0} (shown : O → Option (List ℕ)) (db : DbView)
+    (files : List (List ℕ × List ℕ)) (out out' : O) (lines : List (List ℕ))
+    (ran closed : Result (Unit {0}) RunFault) (store : Store) : Type 0 where
+  pub between : DbView
+  pub ok : OnOk ran (IsSoundDb db → Runs files (shown out) (shown out') db between lines)
+  pub run : RunCall words shown files out out' db between lines ran
+  pub keeps : KeepsStore db between
+  pub close : CloseCall between store closed
+  pub ends : IsSoundDb db → HasPages db → IsIdle db → db.failed ≡ false
+      → Ends db files (shown out) (shown out') lines ran closed store
+
 -- a run over a database begins it: it had begun, or it is sound, and a file is accepted
 abbrev pub RunBegins : DbView → List (List ℕ × List ℕ) → List (List ℕ) → Type 0
 RunBegins db files lines =
@@ -134,6 +149,18 @@ abbrev pub said : Result (Unit {0}) RunFault → Result (Unit {0}) RunFault → 
 said (Ok x) (Ok y) = Ok tt
 said (Ok x) (Err fault) = Err (Run fault)
 said (Err fault) closed = Err (Run fault)
+
+-- a database that was made or opened is run over and closed, and the fault of these is answered; where there is none, why is
+-- answered, the store is the one that was given back, and nothing was sent
+abbrev pub RunsOver : {S O : Type 0} (seen : S → Store) (shown : O → Option (List ℕ))
+    → Result DbView (S × OpenFault) → List (List ℕ × List ℕ) → (out out' : O)
+    → List (List ℕ) → Result (Unit {0}) Fault → Store → Type 0
+RunsOver seen shown (Ok db) files out out' lines answered store =
+    (ran : Result (Unit {0}) RunFault) × (closed : Result (Unit {0}) RunFault)
+    × (answered ≡ said ran closed)
+    × RunsAndCloses shown db files out out' lines ran closed store
+RunsOver seen shown (Err back) files out out' lines answered store =
+    (answered ≡ Err (Open back.1)) × (store ≡ seen back.0) × (shown out' ≡ shown out)
 
 -- the store holds the book, in a tree of that shape; the report says how many pages the store has, and how many legs and
 -- features the book

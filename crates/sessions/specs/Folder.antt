@@ -1,5 +1,5 @@
 -- What the name of a store stands for, from moment to moment, and what a run makes of it.
-use Rattle.std.specs.Prelude.{ℕ, ◌≡◌, ◌⊎◌, ◌^◌, ◌-◌, List, [], ◌∷◌, length, Bool, Option, Some, None, IfSome, IsTrue, true, ⊤}
+use Rattle.std.specs.Prelude.{ℕ, ◌≡◌, ◌<◌, ◌⊎◌, ◌^◌, ◌-◌, List, [], ◌∷◌, length, Bool, Option, Some, None, IfSome, IsTrue, MatchResult, OnErr, OnOk, Ok, Result, false, true, ⊤}
 use Rattle.legs.specs.Book.{Book, empty_book}
 use Rattle.legs.specs.Costs.{ShapeView}
 use Rattle.legs.specs.Limits.{limits_of, LimitsView}
@@ -7,10 +7,14 @@ use Rattle.pages.specs.Store.{Store}
 use Rattle.pages.specs.declared.unsynced.Unsynced.TheVariants.{Others}
 use Rattle.catalogue.specs.Holding.{HoldsBook}
 use Rattle.trajdb.specs.Calls.{IsLoadFault}
+use Rattle.trajdb.specs.Db.{DbView, IsAllowed}
 use Rattle.trajdb.specs.Faults.{IsNotOutput}
+use Rattle.trajdb.specs.Lasting.{HasBook}
+use Rattle.trajdb.specs.Promises.{OpenCall}
 use Rattle.trajdb.specs.Run.{HasRun}
+use Rattle.trajdb.specs.declared.OpenFault.{OpenFault}
 use Rattle.trajdb.specs.declared.RunFault.{RunFault}
-use Rattle.sessions.specs.Answers.{Answers, new_shape}
+use Rattle.sessions.specs.Answers.{Answers, RunsOver, new_shape}
 use Rattle.sessions.specs.declared.fault.Fault.{Fault}
 use Rattle.sessions.specs.declared.fault.Fault.TheVariants.{Run}
 
@@ -99,3 +103,23 @@ pub record RunsBeside (shape : ShapeView) (limits : LimitsView) (book : Book)
   pub answers : Answers shape limits book files sent sent' lines store
   pub kept : NameIsKept store old new
   pub held : HoldsNow shape limits answers.after new
+
+-- a run on a copy of what the name stood for, whatever that held: a store with pages was opened, and one without them was made
+-- a database where that was asked for; it was run over and closed (`RunsOver`). Where that is answered, the name is kept as
+-- `NameIsKept` says; it is refused as that was, or as the name was not given
+pub record RunsOnCopy {S O : Type 0} (seen : S → Store) (shown : O → Option (List ℕ))
+    (is_new : Bool) (cache_pages : ℕ) (old new : Option History)
+    (files : List (List ℕ × List ℕ)) (out out' : O) (lines : List (List ℕ))
+    (result : Result (Unit {0}) Fault) : Type 0 where
+  pub copy : Store
+  pub copies : IfSome old (λ past. copy ≡ store_in past)
+  pub opened : Result DbView (S × OpenFault)
+  pub opens : (is_new ≡ false) ⊎ (0 < copy.count) → OpenCall seen copy cache_pages opened
+  pub makes : IsTrue is_new → IsTrue copy.is_faithful → copy.count ≡ 0
+      → MatchResult opened (HasBook new_shape (limits_of 16777216 1048576) empty_book)
+      (λ back. IsAllowed back.1)
+  pub answered : Result (Unit {0}) Fault
+  pub store : Store
+  pub run : RunsOver seen shown opened files out out' lines answered store
+  pub kept : OnOk result ((answered ≡ Ok tt) × NameIsKept store old new)
+  pub refused : OnErr result ((answered ≡ result) ⊎ (answered ≡ Ok tt))

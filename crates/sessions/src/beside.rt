@@ -1,11 +1,11 @@
 //! A run that works on a copy beside the store.
-ghost use Rattle.std.specs.Prelude.{◌≡◌, ◌<◌, IfErr, IfSome, IsTrue, OnErr, OnOk};
+ghost use Rattle.std.specs.Prelude.{◌≡◌, ◌<◌, ◌⊎◌, IfErr, IfSome, IsErr, IsTrue, OnErr, OnOk};
 ghost use Rattle.legs.specs.Book.{Book};
 ghost use Rattle.legs.specs.Costs.{ShapeView};
 ghost use Rattle.legs.specs.Limits.{LimitsView};
 ghost use Rattle.trajdb.specs.Script.{lines_of};
 ghost use Rattle.sessions.specs.Answers.{SendsFront};
-ghost use Rattle.sessions.specs.Folder.{BeginsWith, NameIsKept, IsKeptOnce, IsRefusedBeside, IsReplaced, RunsBeside, store_in};
+ghost use Rattle.sessions.specs.Folder.{BeginsWith, NameIsKept, IsKeptOnce, IsRefusedBeside, IsReplaced, RunsBeside, RunsOnCopy, store_in};
 
 use crate::fault::Fault;
 use crate::folder::Folder;
@@ -95,6 +95,13 @@ pub fn run_on_copy<'a, F: Folder, W: Write>(
         → RunsBeside shape limits book files.now (W.contents out.old) (W.contents out.new)
         (lines_of script.now) (F.held folder.old) (F.held folder.new))) }
 
+    // Whatever the store held, there was no copy, and nothing was sent, or a database over the copy was
+    // opened or refused, run over and closed, and the name given to what that left, or not.
+    ensures over { (IsErr result × (W.contents out.new ≡ W.contents out.old))
+        ⊎ RunsOnCopy F.Store.PageStore.seen W.contents how.is_new how.cache_pages
+        (F.held folder.old) (F.held folder.new) files.now out.old out.new (lines_of script.now)
+        result }
+
     // Whatever the store held, the name was given to another file once at most, and that is on the
     // disk as far as the system can make it so.
     ensures once { OnOk result (IsKeptOnce (F.held folder.old) (F.held folder.new)) }
@@ -111,7 +118,7 @@ pub fn run_on_copy<'a, F: Folder, W: Write>(
         (lines_of script.now))) }
 
     // Where something was sent, and not all, it is said to be refused for the output, for want of
-    // memory, or for a store that failed or is full. That it is so, this does not say.
+    // memory, or for a store that failed or is full.
     ensures refused { IfErr result (λ fault. IfSome (F.held folder.old)
         (λ past. (shape : ShapeView) (limits : LimitsView) (book : Book)
         → BeginsWith how.is_new (store_in past) shape limits book

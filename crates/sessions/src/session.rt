@@ -1,19 +1,17 @@
 //! A database over a store of any kind: it is made or opened, a script is run, and it is closed.
-ghost use Rattle.std.specs.Prelude.{◌≡◌, ◌<◌, ◌⊎◌, false, None, Result, Err, IfErr, IfOk, IsErrOf, IsOk, IsTrue, OnErr, OnOk};
+ghost use Rattle.std.specs.Prelude.{◌≡◌, ◌<◌, ◌⊎◌, false, IfErr, IfOk, IsErrOf, IsTrue, OnErr, OnOk};
 ghost use Rattle.legs.specs.Costs.{ShapeView};
 ghost use Rattle.legs.specs.Limits.{limits_of, LimitsView};
 ghost use Rattle.legs.specs.Book.{Book, empty_book};
 ghost use Rattle.trajdb.specs.Script.{lines_of};
 ghost use Rattle.catalogue.specs.Holding.{HoldsBook};
 ghost use Rattle.pages.specs.Sealed.{sealed};
-ghost use Rattle.pages.specs.Store.{Faulted, IsSynced, Stays, Writes};
-ghost use Rattle.pagecache.specs.Cache.{stored_payload};
+ghost use Rattle.pages.specs.Store.{Faulted, IsSynced, Writes};
 ghost use Rattle.header.specs.Fields.{header_payload};
-ghost use Rattle.register.specs.Lasting.{first_fault};
-ghost use Rattle.trajdb.specs.Calls.{IsBookOf};
 ghost use Rattle.trajdb.specs.Db.{HasPages, IsAllowed, IsSoundDb};
-ghost use Rattle.trajdb.specs.Lasting.{ComesFirst, HasBook, IsIdle, IsNamedAtOpen, IsSafe, IsStop};
-ghost use Rattle.sessions.specs.Answers.{new_shape, said, Answers, Ends, HasWritten, NoneBegins, OnlyAsks, RunBegins, SendsFront};
+ghost use Rattle.trajdb.specs.Lasting.{HasBook, IsIdle, IsSafe, IsStop};
+ghost use Rattle.trajdb.specs.Promises.{OpenCall};
+ghost use Rattle.sessions.specs.Answers.{new_shape, said, Answers, HasWritten, NoneBegins, OnlyAsks, RunBegins, RunsAndCloses, RunsOver, SendsFront};
 
 use crate::fault::Fault;
 use legs::Limits;
@@ -66,24 +64,16 @@ pub fn database<S: PageStore>(
         → IsSafe (S.seen store) db) }
     ensures capacity { IfOk result (λ db. db.index.cache.capacity ≡ cache_pages) }
 
-    // A store that is made has page 0 alone, its header, which is synced; one that has a page stays.
+    // A store that has a page, or of which none is to be made, is opened, be what it holds sound or not.
+    ensures opens { (is_new ≡ false) ⊎ (0 < (S.seen store).count)
+        → OpenCall S.seen (S.seen store) cache_pages result }
+
+    // One that is made has page 0 alone, its header, which is synced.
     ensures header { IfOk result (λ db. IsTrue is_new → (S.seen store).count ≡ 0
         → Writes 0 (sealed 0 (header_payload new_shape (limits_of 16777216 1048576)))
         (S.seen store) db.index.cache.store) }
     ensures synced { IfOk result (λ db. IsTrue is_new → (S.seen store).count ≡ 0
         → IsSynced db.index.cache.store) }
-    ensures stored { IfOk result (λ db. (is_new ≡ false) ⊎ (0 < (S.seen store).count)
-        → Stays (S.seen store) db.index.cache.store) }
-
-    // A store that has a page is opened where it says that it is finished, and has not begun then;
-    // there is a book for which its tracks stand, be the database sound or not.
-    ensures finished { IfOk result (λ db. (is_new ≡ false) ⊎ (0 < (S.seen store).count)
-        → IsTrue (S.seen store).is_faithful
-        → first_fault (S.seen store).count (stored_payload (S.seen store) 0) ≡ None) }
-    ensures begun { IfOk result (λ db. (is_new ≡ false) ⊎ (0 < (S.seen store).count)
-        → db.begun ≡ false) }
-    ensures stands { IfOk result (λ db. (is_new ≡ false) ⊎ (0 < (S.seen store).count)
-        → IsTrue (S.seen store).is_faithful → (book : Book) × IsBookOf db book) }
 
     // One that holds a book is refused for want of memory and a store that failed alone, and one
     // that is to be made besides where there is no room for a page.
@@ -93,23 +83,11 @@ pub fn database<S: PageStore>(
     ensures made { IfErr result (λ back. IsTrue is_new → IsTrue (S.seen store).is_faithful
         → (S.seen store).count ≡ 0 → IsAllowed back.1) }
 
-    // Page 0 comes first, a page that is said to be damaged is the one at which reading stops, and
-    // pages that are said to be malformed keep nothing, whatever stands in the damaged ones.
-    ensures first { IfErr result (λ back. (is_new ≡ false) ⊎ (0 < (S.seen store).count)
-        → IsTrue (S.seen store).is_faithful
-        → ComesFirst (first_fault (S.seen store).count (stored_payload (S.seen store) 0)) back.1) }
-    ensures named { IfErr result (λ back. IsTrue (S.seen store).is_faithful
-        → IsNamedAtOpen (stored_payload (S.seen store)) (S.seen store).count back.1) }
-
     // A store is said to have failed, or to have no room, only where it did or has none.
     ensures caused { IfErr result (λ back. back.1 ≡ OpenFault.Store
         → Faulted (S.seen store) (S.seen back.0)) }
     ensures full { IfErr result (λ back. back.1 ≡ OpenFault.StoreFull
         → (S.seen store).most ≡ 0) }
-
-    // A store that has a page, or of which none is to be made, stays where it is refused.
-    ensures stays { IfErr result (λ back. (is_new ≡ false) ⊎ (0 < (S.seen store).count)
-        → Stays (S.seen store) (S.seen back.0)) }
 {
     if is_new && store.len() == 0 {
         let shape = Shape::new(50, 72).unwrap();
@@ -153,13 +131,13 @@ pub fn run_and_close<S: PageStore, W: Write>(
         → SendsFront database.limits database.book files.now (W.contents out.old)
         (W.contents out.new) (lines_of script.now) }
 
-    // The database was closed with the book after the lines that were done, unless it is the load of
-    // a file that failed: the store is then not finished, or the one that was there before. A run
-    // that stops at a line has not done it, and says that it stops for memory or for the store.
-    // Where the closing answers well, all is synced, or each page stays as it was written.
-    ensures ends { IsSoundDb database → HasPages database → IsIdle database
-        → database.failed ≡ false → Ends database files.now (W.contents out.old)
-        (W.contents out.new) (lines_of script.now) result.1 result.2 (S.seen result.0) }
+    // Be it sound or not, it is run as `Db::run` does it, and then closed as `Db::close` does. A sound
+    // one was closed with the book after the lines that were done, unless it is the load of a file
+    // that failed: the store is then not finished, or the one that was there before. A run that stops
+    // at a line has not done it, and says that it stops for memory or for the store. Where the closing
+    // answers well, all is synced, or each page stays as it was written.
+    ensures both { RunsAndCloses W.contents database files.now out.old out.new
+        (lines_of script.now) result.1 result.2 (S.seen result.0) }
 
     // The store is said to have failed only where it did.
     ensures caused { IsErrOf result.1 RunFault.Store ⊎ IsErrOf result.2 RunFault.Store
@@ -197,7 +175,6 @@ pub fn answer<'a, S: PageStore, W: Write>(
     ensures runs { OnOk result.1 (IfOk database (λ db. IsSoundDb db → HasPages db → IsIdle db
         → Answers db.index.tree.shape db.limits db.book files.now (W.contents out.old)
         (W.contents out.new) (lines_of script.now) (S.seen result.0))) }
-    ensures opened { OnOk result.1 (IsOk database) }
 
     // Where the database had begun, or a file was accepted, all of the store is synced then; where
     // none begins it the store has the pages that the database counted, as they were written.
@@ -212,24 +189,18 @@ pub fn answer<'a, S: PageStore, W: Write>(
         → db.begun ≡ false → db.failed ≡ false → OnlyAsks files.now (lines_of script.now)
         → HasWritten db (S.seen result.0)) }
 
-    // Where it is refused, what was sent is the front of that text, and nothing where there is no
-    // database.
+    // Where it is refused, what was sent is the front of that text.
     ensures sent { OnErr result.1 (IfOk database (λ db. IsSoundDb db → db.failed ≡ false
         → SendsFront db.limits db.book files.now (W.contents out.old) (W.contents out.new)
         (lines_of script.now))) }
-    ensures unsent { OnErr database (W.contents out.new ≡ W.contents out.old) }
 
     // The store is left as the run and its closing leave it, whose fault is answered, and is said to
-    // have failed only where it did; where there is no database it is the one that was given back.
-    ensures ends { IfOk database (λ db. (ran : Result (Unit {0}) RunFault)
-        × (closed : Result (Unit {0}) RunFault) × (result.1 ≡ said ran closed)
-        × (IsSoundDb db → HasPages db → IsIdle db → db.failed ≡ false → Ends db files.now
-        (W.contents out.old) (W.contents out.new) (lines_of script.now) ran closed
-        (S.seen result.0))) }
+    // have failed only where it did; where there is no database it is the one that was given back, and
+    // nothing is sent.
+    ensures over { RunsOver S.seen W.contents database files.now out.old out.new
+        (lines_of script.now) result.1 (S.seen result.0) }
     ensures caused { IfOk database (λ db. IsErrOf result.1 (Fault.Run RunFault.Store)
         → Faulted db.index.cache.store (S.seen result.0)) }
-    ensures refused { IfErr database (λ back. (S.seen result.0 ≡ S.seen back.0)
-        × (result.1 ≡ Err (Fault.Open back.1))) }
 {
     match database {
         Ok(database) => {

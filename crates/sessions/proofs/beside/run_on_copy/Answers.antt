@@ -1,4 +1,4 @@
-use Rattle.std.proofs.Common.{◌≡◌, inl, refl, sym, subst, IsTrue}
+use Rattle.std.proofs.Common.{◌≡◌, ◌⊎◌, inl, inr, refl, sym, subst, IsTrue, Ok}
 use Rattle.std.specs.Prelude.{IfSome, OnOk}
 use Rattle.legs.specs.Book.{Book}
 use Rattle.legs.specs.Costs.{ShapeView}
@@ -9,7 +9,7 @@ use Rattle.trajdb.specs.Lasting.{IsIdle}
 use Rattle.trajdb.specs.Script.{lines_of}
 use Rattle.sessions.specs.Answers.{SendsFront}
 use Rattle.sessions.specs.Folder.{BeginsWith, History, IsRefusedBeside, NameIsKept, RunsBeside, store_in}
-use Rattle.sessions.proofs.FolderLemmas.{begun_with, beside, each, front_answered, front_opened, if_refused, only_if, refused_done, refused_run, some_only, tells, under, under_err}
+use Rattle.sessions.proofs.FolderLemmas.{begun_with, beside, each, front_answered, front_opened, if_refused, made_or_not, on_both, on_refusal, only_if, over_ended, over_opened, over_unsent, refused_done, refused_run, some_only, tells, under, under_err}
 use Rattle.sessions.proofs.beside.run_on_copy.Goals as goal
 
 pub returns-in-Ok-answered-clause-runs : goal.returns-in-Ok-answered-clause-runs
@@ -29,7 +29,7 @@ returns-in-Ok-answered-clause-runs g c =
     each c.keep.result (λ limits. (book : Book) → B past shape limits book → R shape limits book) (λ limits.
     each c.keep.result (λ book. B past shape limits book → R shape limits book) (λ book.
     each c.keep.result (λ h. R shape limits book) (λ (h : B past shape limits book).
-    beside opened c.answer-store.result.1 c.keep.result c.args.files.now (g.W.Write.contents c.args.out.now) (g.W.Write.contents c.answer-store.new.out) (lines_of c.args.script.now) first last was is c.database-database.ensures.pages c.database-database.ensures.idle c.answer-store.ensures.opened c.in-Ok-answered.is c.answer-store.ensures.runs kept
+    beside opened c.answer-store.result.1 c.keep.result c.args.files.now (g.W.Write.contents c.args.out.now) (g.W.Write.contents c.answer-store.new.out) (lines_of c.args.script.now) first last was is c.database-database.ensures.pages c.database-database.ensures.idle (over_opened g.F.Store.PageStore.seen g.W.Write.contents c.args.files.now c.args.out.now c.answer-store.new.out (lines_of c.args.script.now) (g.F.Store.PageStore.seen c.answer-store.result.0) c.answer-store.result.1 c.database-database.result c.answer-store.ensures.over) c.in-Ok-answered.is c.answer-store.ensures.runs kept
     opened refl c.keep.result refl shape limits book faithful
     (begun_with opened first (store_in past) same c.args.how.is_new shape limits book faithful c.database-database.ensures.new c.database-database.ensures.kept h))))))
 
@@ -44,7 +44,7 @@ returns-in-Err-answered-clause-sent g c =
     let same = subst (λ h. IfSome h (λ p. first ≡ store_in p)) e c.in-Ok.ensures.copies in
     let faithful = subst (λ (s : Store). IsTrue s.is_faithful) (sym same) (tells past) in
     front_opened opened c.answer-store.result.1 c.args.files.now (g.W.Write.contents c.args.out.now) (g.W.Write.contents c.answer-store.new.out) lines shape limits book c.in-Err-answered.fault c.in-Err-answered.is
-    c.database-database.ensures.lives c.answer-store.ensures.sent c.answer-store.ensures.unsent
+    c.database-database.ensures.lives c.answer-store.ensures.sent (over_unsent g.F.Store.PageStore.seen g.W.Write.contents c.args.files.now c.args.out.now c.answer-store.new.out (lines_of c.args.script.now) (g.F.Store.PageStore.seen c.answer-store.result.0) c.answer-store.result.1 c.database-database.result c.answer-store.ensures.over)
     (begun_with opened first (store_in past) same c.args.how.is_new shape limits book faithful c.database-database.ensures.new c.database-database.ensures.kept h))
 
 pub returns-in-Ok-answered-clause-sent : goal.returns-in-Ok-answered-clause-sent
@@ -61,7 +61,7 @@ returns-in-Ok-answered-clause-sent g c =
     let pages = only_if (λ (db : DbView). IsTrue first.is_faithful → HasPages db) HasPages opened (λ db f. f faithful) c.database-database.ensures.pages in
     let idle = only_if (λ (db : DbView). IsTrue first.is_faithful → IsIdle db) IsIdle opened (λ db f. f faithful) c.database-database.ensures.idle in
     front_answered opened c.answer-store.result.1 c.args.files.now (g.W.Write.contents c.args.out.now) (g.W.Write.contents c.answer-store.new.out) lines last shape limits book c.in-Ok-answered.is
-    pages idle c.answer-store.ensures.opened c.answer-store.ensures.runs
+    pages idle (over_opened g.F.Store.PageStore.seen g.W.Write.contents c.args.files.now c.args.out.now c.answer-store.new.out (lines_of c.args.script.now) (g.F.Store.PageStore.seen c.answer-store.result.0) c.answer-store.result.1 c.database-database.result c.answer-store.ensures.over) c.answer-store.ensures.runs
     (begun_with opened first (store_in past) same c.args.how.is_new shape limits book faithful c.database-database.ensures.new c.database-database.ensures.kept h))
 
 pub returns-in-Err-clause-refused : goal.returns-in-Err-clause-refused
@@ -86,7 +86,7 @@ returns-in-Err-answered-clause-refused g c =
     let pages = only_if (λ (db : DbView). IsTrue first.is_faithful → HasPages db) HasPages opened (λ db f. f faithful) c.database-database.ensures.pages in
     let idle = only_if (λ (db : DbView). IsTrue first.is_faithful → IsIdle db) IsIdle opened (λ db f. f faithful) c.database-database.ensures.idle in
     refused_run c.args.files.now sent sent' lines last opened c.answer-store.result.1 shape limits book c.in-Err-answered.fault c.in-Err-answered.is
-    c.answer-store.ensures.unsent c.answer-store.ensures.ends c.database-database.ensures.lives pages idle
+    (over_unsent g.F.Store.PageStore.seen g.W.Write.contents c.args.files.now c.args.out.now c.answer-store.new.out (lines_of c.args.script.now) (g.F.Store.PageStore.seen c.answer-store.result.0) c.answer-store.result.1 c.database-database.result c.answer-store.ensures.over) (over_ended g.F.Store.PageStore.seen g.W.Write.contents c.args.files.now c.args.out.now c.answer-store.new.out (lines_of c.args.script.now) (g.F.Store.PageStore.seen c.answer-store.result.0) c.answer-store.result.1 c.database-database.result c.answer-store.ensures.over) c.database-database.ensures.lives pages idle
     (begun_with opened first (store_in past) same c.args.how.is_new shape limits book faithful c.database-database.ensures.new c.database-database.ensures.kept h))
 
 pub returns-in-Ok-answered-clause-refused : goal.returns-in-Ok-answered-clause-refused
@@ -104,5 +104,42 @@ returns-in-Ok-answered-clause-refused g c =
     let pages = only_if (λ (db : DbView). IsTrue first.is_faithful → HasPages db) HasPages opened (λ db f. f faithful) c.database-database.ensures.pages in
     let idle = only_if (λ (db : DbView). IsTrue first.is_faithful → IsIdle db) IsIdle opened (λ db f. f faithful) c.database-database.ensures.idle in
     refused_done c.args.files.now sent sent' lines last opened c.answer-store.result.1 shape limits book fault c.in-Ok-answered.is
-    pages idle c.answer-store.ensures.opened c.answer-store.ensures.runs
+    pages idle (over_opened g.F.Store.PageStore.seen g.W.Write.contents c.args.files.now c.args.out.now c.answer-store.new.out (lines_of c.args.script.now) (g.F.Store.PageStore.seen c.answer-store.result.0) c.answer-store.result.1 c.database-database.result c.answer-store.ensures.over) c.answer-store.ensures.runs
     (begun_with opened first (store_in past) same c.args.how.is_new shape limits book faithful c.database-database.ensures.new c.database-database.ensures.kept h))
+
+pub returns-in-Err-clause-over : goal.returns-in-Err-clause-over
+returns-in-Err-clause-over g c = inl (refl, refl)
+
+pub returns-in-Err-answered-clause-over : goal.returns-in-Err-answered-clause-over
+returns-in-Err-answered-clause-over g c = inr (record {
+  copy = g.F.Store.PageStore.seen c.in-Ok.store;
+  copies = c.in-Ok.ensures.copies;
+  opened = c.database-database.result;
+  opens = c.database-database.ensures.opens;
+  makes = made_or_not c.database-database.result _ c.database-database.ensures.new c.database-database.ensures.made;
+  answered = c.answer-store.result.1;
+  store = g.F.Store.PageStore.seen c.answer-store.result.0;
+  run = c.answer-store.ensures.over;
+  kept = tt;
+  refused = inl c.in-Err-answered.is;
+})
+
+pub returns-in-Ok-answered-clause-over : goal.returns-in-Ok-answered-clause-over
+returns-in-Ok-answered-clause-over g c =
+    let last = g.F.Store.PageStore.seen c.answer-store.result.0 in
+    let was = g.F.Folder.held c.args.folder.now in
+    let is = g.F.Folder.held c.keep.new.folder in
+    let answered = c.answer-store.result.1 in
+    let kept = subst (λ h. OnOk c.keep.result (NameIsKept last h is)) c.copy.ensures.stays c.keep.ensures.kept in
+    inr (record {
+      copy = g.F.Store.PageStore.seen c.in-Ok.store;
+      copies = c.in-Ok.ensures.copies;
+      opened = c.database-database.result;
+      opens = c.database-database.ensures.opens;
+      makes = made_or_not c.database-database.result _ c.database-database.ensures.new c.database-database.ensures.made;
+      answered = answered;
+      store = last;
+      run = c.answer-store.ensures.over;
+      kept = on_both (answered ≡ Ok tt) (NameIsKept last was is) c.keep.result c.in-Ok-answered.is kept;
+      refused = on_refusal ((answered ≡ c.keep.result) ⊎ (answered ≡ Ok tt)) c.keep.result (inr c.in-Ok-answered.is);
+    })

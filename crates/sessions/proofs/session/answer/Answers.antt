@@ -1,13 +1,12 @@
-use Rattle.std.proofs.Common.{◌≡◌, false, sym, subst, IsTrue, Result}
+use Rattle.std.proofs.Common.{◌≡◌, false, sym, subst, IsTrue}
 use Rattle.std.specs.Prelude.{IfOk, IsErrOf, OnErr, OnOk}
 use Rattle.pages.specs.Store.{Faulted, IsSynced}
 use Rattle.trajdb.specs.Db.{DbView, HasPages, IsSoundDb}
 use Rattle.trajdb.specs.Lasting.{IsIdle}
 use Rattle.trajdb.specs.Script.{lines_of}
-use Rattle.trajdb.specs.declared.RunFault.{RunFault}
 use Rattle.trajdb.specs.declared.RunFault.TheVariants as run
 use Rattle.sessions.specs.declared.fault.Fault.TheVariants.{Run}
-use Rattle.sessions.specs.Answers.{said, Answers, Ends, HasWritten, NoneBegins, OnlyAsks, RunBegins, SendsFront}
+use Rattle.sessions.specs.Answers.{Answers, HasWritten, NoneBegins, OnlyAsks, RunBegins, RunsOver, SendsFront}
 use Rattle.sessions.proofs.AnswerLemmas.{on_error}
 use Rattle.sessions.proofs.LeftLemmas.{on_said, said_of}
 use Rattle.sessions.proofs.WrittenLemmas.{on_said_run}
@@ -31,15 +30,12 @@ returns-in-Ok-clause-sent g c =
     subst (λ k. OnErr c.answer_of.result (IfOk k (λ (d : DbView). IsSoundDb d → d.failed ≡ false → SendsFront d.limits d.book c.args.files.now sent sent' (lines_of c.args.script.now)))) (sym c.in-Ok.is)
     (on_error (IsSoundDb db → db.failed ≡ false → SendsFront db.limits db.book c.args.files.now sent sent' (lines_of c.args.script.now)) c.answer_of.result c.run_and_close-store.ensures.sent)
 
-pub returns-in-Ok-clause-ends : goal.returns-in-Ok-clause-ends
-returns-in-Ok-clause-ends g c =
+pub returns-in-Ok-clause-over : goal.returns-in-Ok-clause-over
+returns-in-Ok-clause-over g c =
     let r = c.run_and_close-store.result in
     let s = g.S.PageStore.seen r.0 in
-    let sent = g.W.Write.contents c.args.out.now in
-    let sent' = g.W.Write.contents c.run_and_close-store.new.out in
-    let lines = lines_of c.args.script.now in
-    subst (λ k. IfOk k (λ (d : DbView). (ran : Result (Unit {0}) RunFault) × (closed : Result (Unit {0}) RunFault) × (c.answer_of.result ≡ said ran closed) × (IsSoundDb d → HasPages d → IsIdle d → d.failed ≡ false → Ends d c.args.files.now sent sent' lines ran closed s))) (sym c.in-Ok.is)
-    (r.1, r.2, c.answer_of.ensures, c.run_and_close-store.ensures.ends)
+    subst (λ k. RunsOver g.S.PageStore.seen g.W.Write.contents k c.args.files.now c.args.out.now c.run_and_close-store.new.out (lines_of c.args.script.now) c.answer_of.result s) (sym c.in-Ok.is)
+    (r.1, r.2, c.answer_of.ensures, c.run_and_close-store.ensures.both)
 
 pub returns-in-Ok-clause-caused : goal.returns-in-Ok-clause-caused
 returns-in-Ok-clause-caused g c =

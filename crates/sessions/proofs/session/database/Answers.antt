@@ -1,22 +1,20 @@
-use Rattle.std.proofs.Common.{◌≡◌, ◌<◌, ◌⊎◌, ◌∙◌, false, rules, sym, subst, IsTrue, None, Some}
+use Rattle.std.proofs.Common.{◌≡◌, ◌∙◌, rules, sym, subst, IsTrue, Some}
 use Rattle.std.specs.Prelude.{IfOk}
 use Rattle.boxsearch.specs.Index.{words}
 use Rattle.legs.specs.Book.{Book, empty_book}
 use Rattle.legs.specs.Costs.{ShapeView}
 use Rattle.legs.specs.Limits.{limits_of, LimitsView}
 use Rattle.trajdb.specs.Db.{DbView, IsAllowed, IsCaused, IsSoundDb}
-use Rattle.trajdb.specs.Lasting.{ComesFirst, HasBook, IsNamedAtOpen, IsOpeningFault, IsSafe, IsStop}
+use Rattle.trajdb.specs.Lasting.{HasBook, IsOpeningFault, IsSafe, IsStop}
+use Rattle.trajdb.specs.Promises.{OpenCall}
 use Rattle.trajdb.specs.declared.OpenFault.TheVariants as opening
 use Rattle.sessions.specs.Answers.{new_shape}
 use Rattle.header.specs.Fields.{header_payload}
 use Rattle.pages.specs.Sealed.{sealed}
-use Rattle.pages.specs.Store.{Faulted, IsSynced, Stays, Store, Writes}
-use Rattle.trajdb.specs.Calls.{IsBookOf}
-use Rattle.pagecache.specs.Cache.{stored_payload}
+use Rattle.pages.specs.Store.{Faulted, IsSynced, Writes}
 use Rattle.catalogue.specs.Holding.{HoldsBook}
-use Rattle.register.specs.Lasting.{first_fault}
 use Rattle.sessions.proofs.AnswerLemmas.{created, more_known, no_pages, the_same}
-use Rattle.sessions.proofs.LeftLemmas.{always_so, err_more, names_none, never, never_opened, none_held, so_opened}
+use Rattle.sessions.proofs.LeftLemmas.{err_more, neither, none_held}
 use Rattle.sessions.proofs.session.database.Goals as goal
 
 pub returns-then-len-eq0-clause-new : goal.returns-then-len-eq0-clause-new
@@ -36,18 +34,6 @@ returns-then-len-eq0-clause-safe g c =
     let s = g.S.PageStore.seen c.args.store in
     more_known (λ (db : DbView). IsTrue s.is_faithful → (was : Store) → IsSafe was db) (λ db. IsTrue s.is_faithful → IsSoundDb db → IsSafe s db) c.create.result (λ db h f sound. h f s) c.create.ensures.safe
 
-pub returns-then-len-eq0-clause-finished : goal.returns-then-len-eq0-clause-finished
-returns-then-len-eq0-clause-finished g c =
-    let s = g.S.PageStore.seen c.args.store in
-    let none : s.count ≡ 0 = sym c.len.ensures ∙ c.if-len-eq0.true in
-    never_opened (λ (db : DbView). IsTrue s.is_faithful → first_fault s.count (stored_payload s 0) ≡ None) c.args.is_new s.count c.create.result c.if-is_new.true none
-
-pub returns-then-len-eq0-clause-begun : goal.returns-then-len-eq0-clause-begun
-returns-then-len-eq0-clause-begun g c =
-    let s = g.S.PageStore.seen c.args.store in
-    let none : s.count ≡ 0 = sym c.len.ensures ∙ c.if-len-eq0.true in
-    never_opened (λ (db : DbView). db.begun ≡ false) c.args.is_new s.count c.create.result c.if-is_new.true none
-
 pub returns-then-len-eq0-clause-holds : goal.returns-then-len-eq0-clause-holds
 returns-then-len-eq0-clause-holds g c =
     let s = g.S.PageStore.seen c.args.store in
@@ -59,17 +45,6 @@ pub returns-then-len-eq0-clause-made : goal.returns-then-len-eq0-clause-made
 returns-then-len-eq0-clause-made g c =
     let s = g.S.PageStore.seen c.args.store in
     err_more (λ back. IsTrue s.is_faithful → IsAllowed back.1) (λ back. IsTrue c.args.is_new → IsTrue s.is_faithful → s.count ≡ 0 → IsAllowed back.1) c.create.result (λ back a n f z. a f) c.create.ensures.only
-
-pub returns-then-len-eq0-clause-first : goal.returns-then-len-eq0-clause-first
-returns-then-len-eq0-clause-first g c =
-    let s = g.S.PageStore.seen c.args.store in
-    let none : s.count ≡ 0 = sym c.len.ensures ∙ c.if-len-eq0.true in
-    never (λ back. IsTrue s.is_faithful → ComesFirst (first_fault s.count (stored_payload s 0)) back.1) c.args.is_new s.count c.create.result c.if-is_new.true none
-
-pub returns-then-len-eq0-clause-named : goal.returns-then-len-eq0-clause-named
-returns-then-len-eq0-clause-named g c =
-    let s = g.S.PageStore.seen c.args.store in
-    err_more (λ back. IsTrue s.is_faithful → IsAllowed back.1) (λ back. IsTrue s.is_faithful → IsNamedAtOpen (stored_payload s) s.count back.1) c.create.result (λ back a f. names_none (stored_payload s) s.count back.1 (a f)) c.create.ensures.only
 
 pub returns-then-len-eq0-clause-caused : goal.returns-then-len-eq0-clause-caused
 returns-then-len-eq0-clause-caused g c =
@@ -83,21 +58,6 @@ returns-then-len-eq0-clause-full g c =
     err_more (λ back. IsCaused s (g.S.PageStore.seen back.0) back.1) (λ back. back.1 ≡ opening.StoreFull → s.most ≡ 0) c.create.result
     (λ back h is. subst (λ e. IsCaused s (g.S.PageStore.seen back.0) e) is h) c.create.ensures.caused
 
-pub returns-clause-finished : goal.returns-clause-finished
-returns-clause-finished g c =
-    let s = g.S.PageStore.seen c.args.store in
-    so_opened (λ (db : DbView). IsTrue s.is_faithful → first_fault s.count (stored_payload s 0) ≡ None) ((c.args.is_new ≡ false) ⊎ (0 < s.count)) c.open.result c.open.ensures.finished
-
-pub returns-clause-begun : goal.returns-clause-begun
-returns-clause-begun g c =
-    let s = g.S.PageStore.seen c.args.store in
-    so_opened (λ (db : DbView). db.begun ≡ false) ((c.args.is_new ≡ false) ⊎ (0 < s.count)) c.open.result c.open.ensures.begun
-
-pub returns-clause-first : goal.returns-clause-first
-returns-clause-first g c =
-    let s = g.S.PageStore.seen c.args.store in
-    always_so (λ back. IsTrue s.is_faithful → ComesFirst (first_fault s.count (stored_payload s 0)) back.1) ((c.args.is_new ≡ false) ⊎ (0 < s.count)) c.open.result c.open.ensures.first
-
 pub returns-clause-caused : goal.returns-clause-caused
 returns-clause-caused g c =
     let s = g.S.PageStore.seen c.args.store in
@@ -109,17 +69,6 @@ returns-clause-full g c =
     let s = g.S.PageStore.seen c.args.store in
     err_more (λ back. IsOpeningFault s (g.S.PageStore.seen back.0) back.1) (λ back. back.1 ≡ opening.StoreFull → s.most ≡ 0) c.open.result
     (λ back h is. absurd (subst (λ e. IsOpeningFault s (g.S.PageStore.seen back.0) e) is h)) c.open.ensures.caused
-
-pub returns-then-len-eq0-clause-stays : goal.returns-then-len-eq0-clause-stays
-returns-then-len-eq0-clause-stays g c =
-    let s = g.S.PageStore.seen c.args.store in
-    let none : s.count ≡ 0 = sym c.len.ensures ∙ c.if-len-eq0.true in
-    never (λ back. Stays s (g.S.PageStore.seen back.0)) c.args.is_new s.count c.create.result c.if-is_new.true none
-
-pub returns-clause-stays : goal.returns-clause-stays
-returns-clause-stays g c =
-    let s = g.S.PageStore.seen c.args.store in
-    always_so (λ back. Stays s (g.S.PageStore.seen back.0)) ((c.args.is_new ≡ false) ⊎ (0 < s.count)) c.open.result c.open.ensures.back
 
 pub returns-then-len-eq0-clause-header : goal.returns-then-len-eq0-clause-header
 returns-then-len-eq0-clause-header g c =
@@ -135,24 +84,11 @@ returns-then-len-eq0-clause-synced g c =
     let s = g.S.PageStore.seen c.args.store in
     more_known (λ (db : DbView). IsSynced db.index.cache.store) (λ db. IsTrue c.args.is_new → s.count ≡ 0 → IsSynced db.index.cache.store) c.create.result (λ db h n z. h) c.create.ensures.synced
 
-pub returns-then-len-eq0-clause-stored : goal.returns-then-len-eq0-clause-stored
-returns-then-len-eq0-clause-stored g c =
+pub returns-then-len-eq0-clause-opens : goal.returns-then-len-eq0-clause-opens
+returns-then-len-eq0-clause-opens g c =
     let s = g.S.PageStore.seen c.args.store in
     let none : s.count ≡ 0 = sym c.len.ensures ∙ c.if-len-eq0.true in
-    never_opened (λ (db : DbView). Stays s db.index.cache.store) c.args.is_new s.count c.create.result c.if-is_new.true none
+    neither (OpenCall g.S.PageStore.seen s c.args.cache_pages c.create.result) c.args.is_new s.count c.if-is_new.true none
 
-pub returns-then-len-eq0-clause-stands : goal.returns-then-len-eq0-clause-stands
-returns-then-len-eq0-clause-stands g c =
-    let s = g.S.PageStore.seen c.args.store in
-    let none : s.count ≡ 0 = sym c.len.ensures ∙ c.if-len-eq0.true in
-    never_opened (λ (db : DbView). IsTrue s.is_faithful → (book : Book) × IsBookOf db book) c.args.is_new s.count c.create.result c.if-is_new.true none
-
-pub returns-clause-stored : goal.returns-clause-stored
-returns-clause-stored g c =
-    let s = g.S.PageStore.seen c.args.store in
-    so_opened (λ (db : DbView). Stays s db.index.cache.store) ((c.args.is_new ≡ false) ⊎ (0 < s.count)) c.open.result c.open.ensures.stored
-
-pub returns-clause-stands : goal.returns-clause-stands
-returns-clause-stands g c =
-    let s = g.S.PageStore.seen c.args.store in
-    so_opened (λ (db : DbView). IsTrue s.is_faithful → (book : Book) × IsBookOf db book) ((c.args.is_new ≡ false) ⊎ (0 < s.count)) c.open.result c.open.ensures.stands
+pub returns-clause-opens : goal.returns-clause-opens
+returns-clause-opens g c = λ h. c.open.ensures

@@ -15,15 +15,23 @@ returns-clause-sent g c =
     sends_front c.args.database c.run-ran.new.self c.args.files.now (g.W.Write.contents c.args.out.now) (g.W.Write.contents c.run-ran.new.out) (lines_of c.args.script.now) c.run-ran.result
     c.run-ran.ensures.ok e.output e.refused
 
-pub returns-clause-ends : goal.returns-clause-ends
-returns-clause-ends g c = λ was pages idle lived.
+pub returns-clause-both : goal.returns-clause-both
+returns-clause-both g c =
     let e = c.run-ran.ensures.call in
     let k = c.run-ran.ensures.keeps in
     let d = c.close-store.ensures in
-    ended c.args.database c.run-ran.new.self (g.S.PageStore.seen c.close-store.result.0) c.args.files.now (g.W.Write.contents c.args.out.now) (g.W.Write.contents c.run-ran.new.out) (lines_of c.args.script.now) c.close-store.result.1
-    e.pages k.rests e.later.limits e.later.index.plan e.only lived d.holds d.only d.unfinished (closing_full c.run-ran.new.self (g.S.PageStore.seen c.close-store.result.0) c.close-store.result.1 d.caused) d.refused (λ lives not. (d.idle lives not).0) (λ f. (d.failed f).0)
-    (closed_lasts c.args.database c.run-ran.new.self (g.S.PageStore.seen c.close-store.result.0) c.close-store.result.1 e.pages d.synced (λ lives not. (d.idle lives not).1) (λ f. (d.failed f).0)) k.safe d.safe c.run-ran.result
-    c.run-ran.ensures.ok e.sound e.lives e.output e.cut_sound e.cut_lives e.refused e.kept e.stopped e.full was pages idle lived
+    record {
+      between = c.run-ran.new.self;
+      ok = c.run-ran.ensures.ok;
+      run = e;
+      keeps = k;
+      close = d;
+      ends = λ was pages idle lived.
+          ended c.args.database c.run-ran.new.self (g.S.PageStore.seen c.close-store.result.0) c.args.files.now (g.W.Write.contents c.args.out.now) (g.W.Write.contents c.run-ran.new.out) (lines_of c.args.script.now) c.close-store.result.1
+          e.pages k.rests e.later.limits e.later.index.plan e.only lived d.holds d.only d.unfinished (closing_full c.run-ran.new.self (g.S.PageStore.seen c.close-store.result.0) c.close-store.result.1 d.caused) d.refused (λ lives not. (d.idle lives not).0) (λ f. (d.failed f).0)
+          (closed_lasts c.args.database c.run-ran.new.self (g.S.PageStore.seen c.close-store.result.0) c.close-store.result.1 e.pages d.synced (λ lives not. (d.idle lives not).1) (λ f. (d.failed f).0)) k.safe d.safe c.run-ran.result
+          c.run-ran.ensures.ok e.sound e.lives e.output e.cut_sound e.cut_lives e.refused e.kept e.stopped e.full was pages idle lived;
+    }
 
 pub returns-clause-caused : goal.returns-clause-caused
 returns-clause-caused g c =
