@@ -11,7 +11,7 @@ use Rattle.trajdb.specs.declared.OpenFault.TheVariants as opening
 use Rattle.sessions.specs.Answers.{new_shape}
 use Rattle.header.specs.Fields.{header_payload}
 use Rattle.pages.specs.Sealed.{sealed}
-use Rattle.pages.specs.Store.{Faulted, IsSynced, Writes}
+use Rattle.pages.specs.Store.{Faulted, IsSynced, Store, Writes}
 use Rattle.catalogue.specs.Holding.{HoldsBook}
 use Rattle.sessions.proofs.AnswerLemmas.{created, more_known, no_pages, the_same}
 use Rattle.sessions.proofs.LeftLemmas.{err_more, neither, none_held}
