@@ -3,7 +3,7 @@ use Rattle.std.proofs.Common.{false, cond, Option, inl, inr, ◌⊎◌, ℕ, zer
 use Rattle.std.specs.Prelude.{IfOk, OnOk}
 use Rattle.std.specs.List.{Contains, flat_map, filter}
 use Rattle.std.proofs.lemmas.Bool.{cases_eq, true≢false}
-use Rattle.std.proofs.lemmas.List.Elements.{All-append, All-cons, All-nil, All-contains, All-contains_itself, Contains-append_cases, Contains-append_left, Contains-append_right}
+use Rattle.std.proofs.lemmas.List.Elements.{All-append, All-nil, All-contains, All-contains_itself, Contains-append_cases, Contains-append_left, Contains-append_right}
 use Rattle.std.proofs.lemmas.List.Sorted.{Contains-permutation, IsPermutation-sym}
 use Rattle.std.proofs.Math.Nat.{add-mul}
 use Rattle.std.proofs.Math.Seq.{take-add}
@@ -11,7 +11,7 @@ use Rattle.std.proofs.lemmas.List.{length-append}
 use Rattle.std.proofs.lemmas.Nat.{mul-le}
 use Rattle.legs.specs.Boxes.{BoxView, box_of}
 use Rattle.legs.specs.Legs.{LegView}
-use Rattle.legs.specs.Hull.{Boxes, IsPruning, both, hull, leg_boxes}
+use Rattle.legs.specs.Hull.{IsPruning, both, hull, leg_boxes}
 use Rattle.legs.specs.GroupLemmas.{some_none, some_same}
 use Rattle.tbtree.specs.Content.{Carries, ContentGrows, Grafts, HasLeg, IsBareBeyond, IsFound, IsMet, IsMetBy, KeepsKids, KeepsKinds, KeepsMet, KeepsWay, LeadsToLeg, Meets, SaysMore}
 use Rattle.tbtree.specs.Descent.{children_met, entries_in, found_legs, legs_in, legs_met, node_at, node_in, pages_met, sort_by_ordinal, IsOnLevel}
@@ -597,7 +597,7 @@ of_found meets nodes tree leg h =
     let those = legs_met leg_boxes meets nodes tree.root tree.levels in
     of_levels meets nodes tree.root tree.levels leg (Contains-permutation (sort_by_ordinal those) those leg (IsPermutation-sym those (sort_by_ordinal those) (sort_moves those)) h)
 
-content_grows : (old new : Pages LegView BoxView) (tree tree' : TbTree) (legs : List LegView) → Meets old new tree tree' legs → ContentGrows old new tree tree' legs
+pub content_grows : (old new : Pages LegView BoxView) (tree tree' : TbTree) (legs : List LegView) → Meets old new tree tree' legs → ContentGrows old new tree tree' legs
 content_grows old new tree tree' legs m = record {
   kept = λ meets prune. all_of (Contains (found_legs meets new tree')) (found_legs meets old tree) (λ leg h. in_found meets new tree' leg (m.kept meets prune leg (of_found meets old tree leg h)));
   put = λ meets prune. all_of (λ leg. meets (box_of leg) ≡ true → Contains (found_legs meets new tree') leg) legs (λ leg h t. in_found meets new tree' leg (All-contains (λ leg. meets (box_of leg) ≡ true → HasLeg meets new tree'.root tree'.levels leg) legs leg (m.put meets prune) h t));

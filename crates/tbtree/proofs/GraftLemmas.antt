@@ -1,5 +1,5 @@
 -- The entries that pages get.
-use Rattle.std.proofs.Common.{Result, Ok, Err, ℕ, zero, suc, Bool, true, false, cond, ◌==◌, ◌-◌, ◌+◌, ◌<◌, ◌≤◌, ◌≡◌, ◌≢◌, ◌∙◌, ◌⊎◌, inl, inr, ⊎_elim, List, [], ◌∷◌, ◌++◌, length, map, refl, sym, ap, arith, subst, Option, Some, None, slice_get, append_assoc, eq-eqb}
+use Rattle.std.proofs.Common.{Result, Ok, Err, ℕ, zero, suc, cond, ◌==◌, ◌-◌, ◌+◌, ◌<◌, ◌≤◌, ◌≡◌, ◌≢◌, ◌∙◌, ◌⊎◌, inl, inr, ⊎_elim, List, [], ◌∷◌, ◌++◌, length, refl, sym, ap, arith, subst, Some, None, slice_get, append_assoc, eq-eqb}
 use Rattle.std.specs.Prelude.{IfOk, OnOk}
 use Rattle.std.specs.List.{Contains}
 use Rattle.std.proofs.lemmas.Bool.{cases_eq, cases_lt}
@@ -10,11 +10,11 @@ use Rattle.legs.specs.Legs.{LegView}
 use Rattle.legs.specs.Hull.{leg_boxes}
 use Rattle.legs.specs.GroupLemmas.{some_none, some_same}
 use Rattle.tbtree.specs.Content.{kids, Grafts, IsMadeBelow, IsMadeRoot, IsOldRoot, KeepsKids, KeepsKinds}
-use Rattle.tbtree.specs.Descent.{entries_in, node_at, HasInner, IsOnLevel}
+use Rattle.tbtree.specs.Descent.{node_at, HasInner, IsOnLevel}
 use Rattle.tbtree.specs.declared.fault.TreeFault.{TreeFault}
 use Rattle.tbtree.specs.Nodes.{Node, Pages, ALeaf, AnInner, InnerView, EntryView, HasLeaf, Adds, Attaches, Becomes, Covers, Links, Pushes, Widens, with_entry, with_wider}
 use Rattle.tbtree.proofs.ElementLemmas.{got_of, has_first, has_got, has_later, no_element, only_one}
-use Rattle.tbtree.proofs.KindLemmas.{kinds_added, kinds_attached, kinds_covered, kinds_then, level_was, on_level, one_level}
+use Rattle.tbtree.proofs.KindLemmas.{kinds_added, kinds_attached, level_was, on_level, one_level}
 use Rattle.tbtree.proofs.RoomLemmas.{neq-eqb}
 use Rattle.tbtree.proofs.Widening.{widened_children}
 
@@ -231,7 +231,7 @@ grafts_on a b c s l t m u n f g = grafts_then a.count b.count c.count a b c s l 
     (f.made p q h))
 
 -- the pages of one that has changed
-becomes_rest : (old new : Pages LegView BoxView) (r : ℕ) (node : Node LegView BoxView) → Becomes old r node new → (p : ℕ) → p ≢ r → kids (node_at new p) ≡ kids (node_at old p)
+pub becomes_rest : (old new : Pages LegView BoxView) (r : ℕ) (node : Node LegView BoxView) → Becomes old r node new → (p : ℕ) → p ≢ r → kids (node_at new p) ≡ kids (node_at old p)
 becomes_rest old new r node b zero u = refl
 becomes_rest old new r node b (suc n) u = ap (λ x. kids x) (b.rest (suc n) u)
 

@@ -243,9 +243,18 @@ last_leaf old tree place f legs pages st at h =
       end = ap (λ g. head_or_zero (pages_of g (drop (suc place.last_index) ms))) own ∙ ap head_or_zero marked.1;
     }
 
-pub add_not : (old new : Pages LegView BoxView) (tree tree' : TbTree) (place place' : Place) (ys : List LegView) (x : TreeFault) → 0 < length ys → ((0 < place.last → HasLastLeaf old place.last (owner leg_feature ys)) → are_of_one_leaf ys ≡ true → MayRefuseWrite x) → JoinsAll old new tree tree' place place' ys (Err x)
+-- and is no page that is not there
+last_below : (old : Pages LegView BoxView) (tree : TbTree) (place : Place) (f : ℕ) (legs : List LegView) (pages : ℕ → List ℕ) → Holds old tree legs pages → IsPlace tree legs pages f place → place.last < old.count
+last_below old tree place f legs pages st at =
+    let n = st.tree_stands.numbers in
+    ⊎_elim
+    (λ (u : place.legs ≡ 0). let z = (at.none u).1 in let first = n.page_0 in omega (arith, z, first))
+    (λ (u : place.legs ≢ 0). (n.within 0 place.last_index place.last (last_page tree.shape.leaf f place legs pages (omega (arith, u)) at)).1)
+    (cases_eq place.legs 0)
+
+pub add_not : (old new : Pages LegView BoxView) (tree tree' : TbTree) (place place' : Place) (ys : List LegView) (x : TreeFault) → 0 < length ys → ((0 < place.last → HasLastLeaf old place.last (owner leg_feature ys)) → place.last < old.count → are_of_one_leaf ys ≡ true → MayRefuseWrite x) → JoinsAll old new tree tree' place place' ys (Err x)
 add_not old new tree tree' place place' ys x some only f legs pages st at all w =
-    only (λ h. subst (λ g. HasLastLeaf old place.last g) (sym (owner_is f ys some all)) (last_leaf old tree place f legs pages st at h)) (of_one_leaf f legs ys all w)
+    only (λ h. subst (λ g. HasLastLeaf old place.last g) (sym (owner_is f ys some all)) (last_leaf old tree place f legs pages st at h)) (last_below old tree place f legs pages st at) (of_one_leaf f legs ys all w)
 
 -- no count is past its type
 pub few_enough : (old new : Pages LegView BoxView) (tree tree' : TbTree) (place place' : Place) (ys : List LegView) (x : TreeFault) → IsShape tree.shape → old.count < 2 ^ 32 → (tree.leaves < old.count → tree.levels < 34 → place.legs < 2 ^ 64 - 51 → ⊥) → JoinsAll old new tree tree' place place' ys (Err x)

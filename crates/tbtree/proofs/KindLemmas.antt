@@ -1,5 +1,5 @@
 -- What pages stay: leaves, and inner pages of their levels.
-use Rattle.std.proofs.Common.{ℕ, zero, suc, ◌+◌, ◌<◌, ◌≤◌, ◌≡◌, ◌≢◌, ◌∙◌, ◌⊎◌, inl, inr, ⊎_elim, List, [], ◌++◌, refl, sym, ap, arith, subst, Option, Some, None, Result, Ok, Err}
+use Rattle.std.proofs.Common.{ℕ, zero, suc, ◌+◌, ◌<◌, ◌≡◌, ◌≢◌, ◌∙◌, ◌⊎◌, inl, inr, ⊎_elim, List, [], ◌++◌, refl, sym, ap, arith, subst, Option, Some, None, Result, Ok, Err}
 use Rattle.std.specs.Prelude.{IfOk, OnOk}
 use Rattle.std.specs.List.{Contains}
 use Rattle.std.proofs.lemmas.Bool.{cases_eq}
@@ -142,7 +142,7 @@ kinds_attached old new p height c y w = kinds_inner old new p w.page (with_entry
 pub kinds_pushed : (old new : Pages LegView BoxView) (p : ℕ) (ys : List LegView) → Pushes old p ys new → KeepsKinds old new ys
 kinds_pushed old new p ys w = kinds_leaf old new p w.leaf (with_legs ys w.leaf) ys w.was w.becomes (λ leg h. Contains-append_cases w.leaf.legs ys leg h)
 
-kinds_linked : (old new : Pages LegView BoxView) (p q : ℕ) → Links old p q new → KeepsKinds old new []
+pub kinds_linked : (old new : Pages LegView BoxView) (p q : ℕ) → Links old p q new → KeepsKinds old new []
 kinds_linked old new p q w = kinds_leaf old new p w.leaf (with_next q w.leaf) [] w.was w.becomes (λ leg h. inl h)
 
 pub kinds_covered : (old new : Pages LegView BoxView) (p : ℕ) (y : BoxView) → Covers leg_boxes old p y new → KeepsKinds old new []

@@ -50,3 +50,4 @@ pub mod EndLemmas
 pub mod FillLemmas
 pub mod LeafLemmas
 pub mod FillCosts
+pub mod NeedsLemmas

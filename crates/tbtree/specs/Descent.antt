@@ -1,6 +1,6 @@
 -- The way down from a tree's root: the pages that are met and the legs that they have, for any pages. Page 0 is none of
 -- a tree's.
-use Rattle.std.specs.Prelude.{ℕ, zero, suc, ◌≡◌, ◌+◌, ◌<◌, ◌≤◌, Bool, true, false, cond, nat_lt, List, [], ◌∷◌, map, filter, length, Option, Some, None}
+use Rattle.std.specs.Prelude.{ℕ, zero, suc, ◌≡◌, ◌+◌, ◌<◌, ◌≤◌, Bool, true, cond, nat_lt, List, [], ◌∷◌, map, filter, length, Option, Some, None}
 use Rattle.std.specs.List.{flat_map, All}
 use Rattle.std.specs.List.Sorted.{IsPermutation, IsNonDecreasingBy}
 use Rattle.legs.specs.Legs.{LegView}

@@ -11,5 +11,6 @@ pub mod Joining
 pub mod Filling
 pub mod Descent
 pub mod Content
+pub mod Needs
 pub mod Bounds
 pub mod Turn

@@ -1,7 +1,8 @@
 //! Many legs of one feature, put in leaf by leaf.
-ghost use Rattle.std.specs.Prelude.{ℕ, List, ◌≡◌, ◌<◌, ◌≤◌, ◌⊎◌, ◌+◌, ◌-◌, ◌*◌, ◌%◌, OnOk, OnErr, IfErr, IsTrue, false, true, Err, length};
-ghost use Rattle.tbtree.specs.Faults.{RefusesWrite};
+ghost use Rattle.std.specs.Prelude.{ℕ, List, ◌≡◌, ◌<◌, ◌≤◌, ◌⊎◌, ◌+◌, ◌-◌, ◌*◌, ◌%◌, OnOk, OnErr, IfErr, IsTrue, false, true, Err, drop, length, take};
+ghost use Rattle.tbtree.specs.Faults.{IfNamed, RefusesWrite};
 ghost use Rattle.tbtree.specs.Content.{ContentGrows, Meets};
+ghost use Rattle.tbtree.specs.Needs.{BlamesNext};
 ghost use Rattle.tbtree.specs.Nodes.{pages_of_cache};
 ghost use Rattle.tbtree.specs.Passes.{Passes, KeepsLength, KeepsOthers, Touches};
 ghost use Rattle.tbtree.specs.Filling.{FillsLeaves, NamesLast};
@@ -43,6 +44,9 @@ fn put_all<S: PageStore>(
         place.old place.new legs.now result }
     ensures spent { tree.new.spent ≡ tree.old.spent }
     ensures shape { tree.new.shape ≡ tree.old.shape }
+    ensures blames { IsTrue cache.old.store.is_faithful → IfErr result
+        (IfNamed (BlamesNext cache.old cache.new tree.old tree.new place.old place.new
+        legs.now)) }
     ensures touches { Touches cache.old cache.new result }
     ensures asked { OnOk result (cache.new.asked ≤ cache.old.asked + tree.new.levels
         + (tree.new.leaves - tree.old.leaves) * (tree.new.levels + 2)) }
@@ -97,6 +101,13 @@ pub fn insert_all<S: PageStore>(
     ensures others { KeepsOthers cache.old cache.new }
     ensures length { OnOk result (KeepsLength cache.old cache.new) }
     ensures caused { tree.old.spent ≡ false → IfErr result (RefusesWrite cache.old cache.new) }
+
+    // A page that is named, damaged or malformed, was not what the next legs need of it at the
+    // place, once those before them were put in: these are as many as the last leaf has room for, or
+    // as a new one takes. The tree and the place are as those before them left them.
+    ensures blames { tree.old.spent ≡ false → IsTrue cache.old.store.is_faithful → IfErr result
+        (IfNamed (BlamesNext cache.old cache.new tree.old tree.new place.old place.new
+        legs.now)) }
 
     // For the leaf that is there at most as many pages are asked for as the tree has levels, and for
     // each leaf that is made at most two more; and no more leaves are made than fill up, but for the

@@ -1,9 +1,12 @@
 //! Insertion.
 ghost use Rattle.std.specs.Prelude.{ℕ, suc, [], ◌∷◌, None, length, ◌≢◌, ◌≡◌, ◌<◌, ◌≤◌, ◌+◌, ◌-◌, ◌*◌, ◌%◌, ◌^◌, IfOk, IfErr, OnOk, OnErr, IsTrue, false, true, Err};
+ghost use Rattle.legs.specs.Boxes.{BoxView};
 ghost use Rattle.legs.specs.Costs.{leg_feature};
 ghost use Rattle.legs.specs.Hull.{leg_boxes};
-ghost use Rattle.tbtree.specs.Faults.{MayRefuseWrite, RefusesWrite};
-ghost use Rattle.tbtree.specs.Nodes.{pages_of_cache, HasLastLeaf, KeepsLeaves};
+ghost use Rattle.legs.specs.Legs.{LegView};
+ghost use Rattle.tbtree.specs.Faults.{IfNamed, MayRefuseWrite, RefusesWrite};
+ghost use Rattle.tbtree.specs.Needs.{block_of, entry_of, CanGrow, GoesOn, IsFit, IsNoEnd, IsNoHook, IsOnWayTo, KeepsUpper, StopsAbove};
+ghost use Rattle.tbtree.specs.Nodes.{pages_of_cache, HasCover, HasLastLeaf, KeepsLeaves, Pages};
 ghost use Rattle.tbtree.specs.Passes.{Passes, KeepsLength, KeepsOthers, Touches};
 ghost use Rattle.tbtree.specs.Way.{IsOnWay, Hangs};
 ghost use Rattle.tbtree.specs.Content.{Carries, ContentGrows, IsBareBeyond, IsFound, KeepsKids, KeepsKinds, Meets, SaysMore};
@@ -49,6 +52,12 @@ fn way<S: PageStore>(
     ensures found { IsTrue cache.old.store.is_faithful → IfOk result
         (IsFound (pages_of_cache cache.old) (pages_of_cache cache.new) tree.now.root
         tree.now.levels level bounds.now) }
+    ensures reaches { IsTrue cache.old.store.is_faithful → (number n : ℕ)
+        → at ≡ block_of tree.now.shape.inner number level → n + suc level ≡ tree.now.levels
+        → IfOk result (IsOnWayTo (pages_of_cache cache.old) tree.now number n) }
+    ensures blames { IsTrue cache.old.store.is_faithful → (number : ℕ)
+        → at ≡ block_of tree.now.shape.inner number level
+        → IfErr result (IfNamed (StopsAbove (pages_of_cache cache.old) tree.now number level)) }
     ensures touches { Touches cache.old cache.new result }
     ensures asked { cache.new.asked + level + 1 ≤ cache.old.asked + tree.now.levels }
 {
@@ -83,6 +92,10 @@ fn into_leaf<S: PageStore>(
         (GrowsLeaf (pages_of_cache cache.old) (pages_of_cache cache.new) last legs.now) }
     ensures met { IsTrue cache.old.store.is_faithful → OnOk result
         (Meets (pages_of_cache cache.old) (pages_of_cache cache.new) tree.now tree.now legs.now) }
+    ensures blames { IsTrue cache.old.store.is_faithful → IfErr result (IfNamed (λ page.
+        GoesOn (pages_of_cache cache.old) tree.now number page
+        → (page ≡ last → CanGrow (pages_of_cache cache.old) tree.now number legs.now page)
+        → ⊥)) }
     ensures touches { Touches cache.old cache.new result }
     ensures asked { cache.new.asked ≤ cache.old.asked + tree.now.levels }
 {
@@ -119,6 +132,8 @@ fn root_over<S: PageStore>(
         → IsOnLevel (pages_of_cache cache.old) level child.now.child → IfOk result
         (Carries (pages_of_cache cache.old) (pages_of_cache cache.new) tree.now.root
         tree.now.levels level child.now.bounds child.now.child) }
+    ensures blames { IsTrue cache.old.store.is_faithful → IfErr result (IfNamed (λ page.
+        (page ≡ tree.now.root) × (HasCover leg_boxes (pages_of_cache cache.old) page → ⊥))) }
     ensures touches { Touches cache.old cache.new result }
     ensures asked { cache.new.asked ≤ cache.old.asked + 2 }
     ensures levels { IfOk result (λ top. top.levels ≡ tree.now.levels + 1) }
@@ -159,6 +174,12 @@ fn hang<S: PageStore>(
         → IsOnLevel (pages_of_cache cache.old) level child.now.child → IfOk result
         (Carries (pages_of_cache cache.old) (pages_of_cache cache.new) tree.now.root
         tree.now.levels level child.now.bounds child.now.child) }
+    ensures blames { IsTrue cache.old.store.is_faithful
+        → (number : ℕ) (was : Pages LegView BoxView)
+        → at ≡ block_of tree.now.shape.inner number level
+        → ((k : ℕ) → k < level → entry_of tree.now.shape.inner number k ≡ 0)
+        → KeepsUpper level was (pages_of_cache cache.old)
+        → IfErr result (IfNamed (IsNoHook was tree.now number)) }
     ensures touches { Touches cache.old cache.new result }
     ensures asked { IfOk result (λ top. cache.new.asked + level
         ≤ cache.old.asked + top.levels) }
@@ -210,6 +231,9 @@ fn into_last<S: PageStore>(
     ensures place { OnOk result (place.new ≡ place_with tree.now.leaves place.old legs.now []) }
     ensures met { IsTrue cache.old.store.is_faithful → OnOk result
         (Meets (pages_of_cache cache.old) (pages_of_cache cache.new) tree.now tree.now legs.now) }
+    ensures blames { IsTrue cache.old.store.is_faithful → IfErr result
+        (IfNamed (λ page. IsFit (pages_of_cache cache.old) tree.now place.old legs.now page → ⊥)) }
+    ensures unmoved { OnErr result (place.new ≡ place.old) }
     ensures touches { Touches cache.old cache.new result }
     ensures asked { cache.new.asked ≤ cache.old.asked + tree.now.levels }
 {
@@ -238,7 +262,8 @@ fn add_last<S: PageStore>(
     ensures number { IfOk result (λ page. page ≡ cache.old.count) }
     ensures only { IsTrue cache.old.store.is_faithful
         → (0 < last → HasLastLeaf (pages_of_cache cache.old) last (owner leg_feature legs.now))
-        → are_of_one_leaf legs.now ≡ true → IfErr result MayRefuseWrite }
+        → last < cache.old.count → are_of_one_leaf legs.now ≡ true
+        → IfErr result MayRefuseWrite }
     ensures says { IsTrue cache.old.store.is_faithful
         → OnOk result (SaysMore (pages_of_cache cache.old) (pages_of_cache cache.new)) }
     ensures kids { IsTrue cache.old.store.is_faithful
@@ -248,17 +273,19 @@ fn add_last<S: PageStore>(
     ensures none { OnOk result (IsBareBeyond (pages_of_cache cache.old)) }
     ensures counted { IsTrue cache.old.store.is_faithful
         → OnOk result (cache.new.count ≡ cache.old.count + 1) }
+    ensures blames { IsTrue cache.old.store.is_faithful
+        → IfErr result (IfNamed (IsNoEnd (pages_of_cache cache.old) last legs.now)) }
     ensures touches { Touches cache.old cache.new result }
     ensures asked { cache.new.asked ≤ cache.old.asked + 2 }
 {
     if last == 0 {
         return nodes::add_leaf(cache, last, legs);
     }
-    let first = &legs[0];
-    let page = nodes::add_leaf(cache, last, legs)?;
-    if page == last {
+    if last >= cache.count() {
         return Err(TreeFault::Malformed(last));
     }
+    let first = &legs[0];
+    let page = nodes::add_leaf(cache, last, legs)?;
     nodes::link(cache, last, first.feature, page)?;
     Ok(page)
 }
@@ -285,6 +312,9 @@ fn hang_leaf<S: PageStore>(
         (Carries (pages_of_cache cache.old) (pages_of_cache cache.new) tree.now.root
         tree.now.levels 0 page.now.bounds page.now.child) }
     ensures some { IfOk result (λ top. 0 < top.levels) }
+    ensures blames { IsTrue cache.old.store.is_faithful → (was : Pages LegView BoxView)
+        → KeepsUpper 0 was (pages_of_cache cache.old)
+        → IfErr result (IfNamed (IsNoHook was tree.now tree.now.leaves)) }
     ensures touches { Touches cache.old cache.new result }
     ensures asked { IfOk result (λ top. cache.new.asked ≤ cache.old.asked + top.levels) }
     ensures higher { IfOk result (λ top. tree.now.levels ≤ top.levels) }
@@ -328,6 +358,9 @@ fn begin<S: PageStore>(
     ensures shape { tree.new.shape ≡ tree.old.shape }
     ensures met { IsTrue cache.old.store.is_faithful → OnOk result
         (Meets (pages_of_cache cache.old) (pages_of_cache cache.new) tree.old tree.new legs.now) }
+    ensures blames { IsTrue cache.old.store.is_faithful → IfErr result
+        (IfNamed (λ page. IsFit (pages_of_cache cache.old) tree.old place.old legs.now page → ⊥)) }
+    ensures unmoved { OnErr result ((tree.new ≡ tree.old) × (place.new ≡ place.old)) }
     ensures touches { Touches cache.old cache.new result }
     ensures asked { OnOk result (cache.new.asked
         ≤ cache.old.asked + (tree.new.levels + 2)) }
@@ -383,6 +416,9 @@ pub(crate) fn put<S: PageStore>(
     ensures shape { tree.new.shape ≡ tree.old.shape }
     ensures met { IsTrue cache.old.store.is_faithful → OnOk result
         (Meets (pages_of_cache cache.old) (pages_of_cache cache.new) tree.old tree.new legs.now) }
+    ensures blames { IsTrue cache.old.store.is_faithful → IfErr result
+        (IfNamed (λ page. IsFit (pages_of_cache cache.old) tree.old place.old legs.now page → ⊥)) }
+    ensures unmoved { OnErr result ((tree.new ≡ tree.old) × (place.new ≡ place.old)) }
     ensures touches { Touches cache.old cache.new result }
     ensures asked { OnOk result (cache.new.asked
         ≤ cache.old.asked + (2 * (tree.new.levels - 1) + 4)) }
@@ -430,8 +466,8 @@ pub(crate) fn put<S: PageStore>(
 }
 
 /// Puts a leg into the tree, at the place of its feature. A root that is not there is `Malformed`, and so is the last leaf of
-/// a place that has legs and names none, or has none and names one. Any refusal leaves the tree spent, and a spent tree is
-/// refused by `Spent`.
+/// a place that has legs and names none, or has none and names one. A last leaf that is not there, behind which one is to
+/// be made, is `Malformed` before that is made. Any refusal leaves the tree spent, and a spent tree is refused by `Spent`.
 pub fn insert<S: PageStore>(
     tree: &mut TbTree,
     cache: &mut PageCache<S>,
@@ -471,6 +507,14 @@ pub fn insert<S: PageStore>(
     ensures caused { tree.old.spent ≡ false → IfErr result (RefusesWrite cache.old cache.new) }
     ensures asked { OnOk result (cache.new.asked
         ≤ cache.old.asked + (2 * (tree.new.levels - 1) + 4)) }
+
+    // A page that is named, damaged or malformed, was not what the leg needs of it at its place,
+    // before anything was written.
+    ensures blames { tree.old.spent ≡ false → IsTrue cache.old.store.is_faithful
+        → IfErr result (IfNamed (λ page.
+        IsFit (pages_of_cache cache.old) tree.old place.old (leg ∷ []) page → ⊥)) }
+    ensures unmoved { OnErr result ((tree.new ≡ record tree.old { spent = true })
+        × (place.new ≡ place.old)) }
 
     // A refusal is for good.
     ensures works { OnOk result (tree.new.spent ≡ false) }

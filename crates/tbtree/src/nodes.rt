@@ -5,7 +5,7 @@ ghost use Rattle.pagecache.specs.Cache as caches;
 ghost use Rattle.pagecache.specs.Cache.{payload_of, AsksOnce, IsNotAdded, KeepsPayloads};
 ghost use Rattle.tbnode.specs.Edits.{new_inner};
 ghost use Rattle.tbtree.specs.Content.{IsBareBeyond};
-ghost use Rattle.tbtree.specs.Faults.{MayRefuseWrite};
+ghost use Rattle.tbtree.specs.Faults.{IfNamed, MayRefuseWrite};
 ghost use Rattle.tbtree.specs.Nodes.{pages_of_cache, AnInner, Adds, Attaches, Covers, HasCover, HasEntry, HasLastLeaf, HasLeafRoom, HasRoom, Links, Pushes, Widens};
 ghost use Rattle.tbtree.specs.Passes.{Touches};
 ghost use Rattle.tbtree.specs.Payloads.{TakesLegs, are_of_one_leaf, leaf_of_legs};
@@ -31,6 +31,9 @@ pub(crate) fn widen<S: PageStore>(
     ensures only { IsTrue cache.old.store.is_faithful
         → HasEntry (pages_of_cache cache.old) page level entry → IfErr result MayRefuseWrite }
     ensures above { OnOk result (0 < page) }
+    ensures blames { IsTrue cache.old.store.is_faithful
+        → IfErr result (IfNamed (λ n. (n ≡ page)
+        × (HasEntry (pages_of_cache cache.old) page level entry → ⊥))) }
     ensures touches { Touches cache.old cache.new result }
     ensures asked { cache.new.asked ≤ cache.old.asked + 1 }
 {
@@ -65,6 +68,9 @@ pub(crate) fn grow<S: PageStore>(
     ensures takes { IsTrue cache.old.store.is_faithful
         → OnOk result (HasLeafRoom (pages_of_cache cache.old) page
         (λ leaf. TakesLegs most leaf legs.now)) }
+    ensures blames { IsTrue cache.old.store.is_faithful
+        → IfErr result (IfNamed (λ n. (n ≡ page) × (HasLeafRoom (pages_of_cache cache.old) page
+        (λ leaf. TakesLegs most leaf legs.now) → ⊥))) }
     ensures touches { Touches cache.old cache.new result }
     ensures asked { cache.new.asked ≤ cache.old.asked + 1 }
 {
@@ -95,6 +101,9 @@ pub(crate) fn link<S: PageStore>(
         → HasLastLeaf (pages_of_cache cache.old) page feature → IfErr result MayRefuseWrite }
     ensures last { IsTrue cache.old.store.is_faithful
         → OnOk result (HasLastLeaf (pages_of_cache cache.old) page feature) }
+    ensures blames { IsTrue cache.old.store.is_faithful
+        → IfErr result (IfNamed (λ n. (n ≡ page)
+        × (HasLastLeaf (pages_of_cache cache.old) page feature → ⊥))) }
     ensures touches { Touches cache.old cache.new result }
     ensures asked { cache.new.asked ≤ cache.old.asked + 1 }
 {
@@ -127,6 +136,9 @@ pub(crate) fn attach<S: PageStore>(
     ensures only { IsTrue cache.old.store.is_faithful
         → HasRoom (pages_of_cache cache.old) page level most → IfErr result MayRefuseWrite }
     ensures above { OnOk result (0 < page) }
+    ensures blames { IsTrue cache.old.store.is_faithful
+        → IfErr result (IfNamed (λ n. (n ≡ page)
+        × (HasRoom (pages_of_cache cache.old) page level most → ⊥))) }
     ensures touches { Touches cache.old cache.new result }
     ensures asked { cache.new.asked ≤ cache.old.asked + 1 }
 {
@@ -183,6 +195,8 @@ pub(crate) fn add_leaf<S: PageStore>(
     ensures none { OnOk result (IsBareBeyond (pages_of_cache cache.old)) }
     ensures number { IfOk result (λ page. page ≡ cache.old.count) }
     ensures one { OnOk result (are_of_one_leaf legs.now ≡ true) }
+    ensures blames { IsTrue cache.old.store.is_faithful → IfErr result
+        (IfNamed (λ n. (n ≡ previous) × (are_of_one_leaf legs.now ≡ true → ⊥))) }
     ensures touches { Touches cache.old cache.new result }
     ensures asked { cache.new.asked ≤ cache.old.asked + 1 }
 {
@@ -205,6 +219,7 @@ pub(crate) fn add_inner<S: PageStore>(
         (pages_of_cache cache.new)) }
     ensures fresh { (pages_of_cache cache.old).at cache.old.count ≡ None }
     ensures only { IsTrue cache.old.store.is_faithful → IfErr result MayRefuseWrite }
+    ensures blames { IfErr result (IfNamed (λ n. ⊥)) }
     ensures touches { Touches cache.old cache.new result }
     ensures asked { cache.new.asked ≤ cache.old.asked + 1 }
 {
@@ -228,6 +243,7 @@ pub(crate) fn add_root<S: PageStore>(
         (pages_of_cache cache.new)) }
     ensures fresh { (pages_of_cache cache.old).at cache.old.count ≡ None }
     ensures only { IsTrue cache.old.store.is_faithful → IfErr result MayRefuseWrite }
+    ensures blames { IfErr result (IfNamed (λ n. ⊥)) }
     ensures touches { Touches cache.old cache.new result }
     ensures asked { cache.new.asked ≤ cache.old.asked + 1 }
 {
@@ -245,6 +261,9 @@ pub(crate) fn cover<S: PageStore>(cache: &mut PageCache<S>, page: u32) -> Result
         (pages_of_cache cache.new)) }
     ensures only { IsTrue cache.old.store.is_faithful
         → HasCover leg_boxes (pages_of_cache cache.old) page → IfErr result MayRefuseWrite }
+    ensures blames { IsTrue cache.old.store.is_faithful
+        → IfErr result (IfNamed (λ n. (n ≡ page)
+        × (HasCover leg_boxes (pages_of_cache cache.old) page → ⊥))) }
     ensures touches { Touches cache.old cache.new result }
     ensures asked { cache.new.asked ≤ cache.old.asked + 1 }
 {

@@ -1,14 +1,15 @@
 use Rattle.std.proofs.Math.Nat.{zero-mod}
 use Rattle.std.specs.Prelude.{IsTrue}
 use Rattle.legs.specs.Legs.{LegView}
-use Rattle.std.proofs.Common.{List, [], drop, ◌≡◌, ◌<◌, ◌≤◌, ◌+◌, ◌-◌, ◌%◌, ◌∙◌, refl, ap, arith, length, subst, sym, take, inl, inr, ⊎_elim, ◌⊎◌, Ok}
+use Rattle.std.proofs.Common.{List, [], drop, ◌≡◌, ◌<◌, ◌≤◌, ◌+◌, ◌-◌, ◌%◌, ◌∙◌, refl, ap, arith, length, subst, sym, take, inl, inr, ⊎_elim, ◌⊎◌, Ok, length-take, length-drop}
 use Rattle.std.proofs.lemmas.Bool.{cases_lt}
 use Rattle.std.proofs.lemmas.List.{take_all}
+use Rattle.std.proofs.lemmas.Int.{clamps}
 use Rattle.std.proofs.lemmas.Result.{err_from_is_err_and}
 use Rattle.legs.specs.Costs.{ShapeView}
 use Rattle.tbtree.specs.Nodes.{pages_of_cache}
 use Rattle.tbtree.specs.Content.{Meets}
-use Rattle.tbtree.proofs.ContentLemmas.{meets_none, meets_part}
+use Rattle.tbtree.proofs.ContentLemmas.{content_grows, meets_none, meets_part}
 use Rattle.tbtree.proofs.FillCosts.{filled_start, filled_part}
 use Rattle.tbtree.proofs.LeafLemmas.{fills_none, fills_part, placed_last, placed_legs, placed_new}
 use Rattle.tbtree.proofs.FillLemmas.{joins_none, length_part, part_in_last, part_joins, part_refused}
@@ -20,6 +21,9 @@ use Rattle.tbtree.specs.declared.tree.TbTree.{TbTree}
 use Rattle.tbtree.proofs.PassLemmas.{touches_none, touches_then}
 use Rattle.tbtree.proofs.RoomLemmas.{mod_at_next, mod_below_next}
 use Rattle.tbtree.proofs.Still.{still}
+use Rattle.tbtree.specs.Needs.{BlamesNext, IsFit, PutsSome}
+use Rattle.tbtree.proofs.FaultLemmas.{named_then}
+use Rattle.tbtree.proofs.NeedsLemmas.{next_part}
 use Rattle.tbtree.proofs.filling.put_all.Goals as goal
 
 pub leaves-init : goal.leaves-init
@@ -172,3 +176,50 @@ returns-clause-fills g c = λ fa.
     let over = c.leaves-test.false in
     let f = so_far.fills fa in
     (f.0, subst (λ l. FillsLeaves c.args.tree.now.shape.leaf (pages_of_cache c.args.cache.now) (pages_of_cache c.leaves.cache) c.args.tree.now.leaves c.leaves.tree.leaves c.args.place.now c.leaves.place l f.0) (take_all c.leaves.from legs (omega (arith, over))) f.1)
+
+pub returns-in_err-put-clause-blames : goal.returns-in_err-put-clause-blames
+returns-in_err-put-clause-blames g c = λ fa.
+    let legs = c.args.legs.now in
+    let old = c.args.cache.now in
+    let mid = c.leaves.cache in
+    let nodes = pages_of_cache mid in
+    let was = c.args.tree.now in
+    let place_was = c.args.place.now in
+    let tree = c.leaves.tree in
+    let place = c.leaves.place in
+    let n = c.leaves.from in
+    let k = c.fitting-many.result in
+    let so_far = c.leaves.invariant in
+    let put = c.in_err-put.ensures in
+    let leaf = was.shape.leaf in
+    let room = tree.shape.leaf - place.legs % tree.shape.leaf in
+    let fits = c.fitting-many.ensures in
+    let is : tree.shape.leaf ≡ leaf = ap (λ (s : ShapeView). s.leaf) so_far.shape in
+    let room_is : room ≡ leaf - place.legs % leaf = ap (λ m. m - place.legs % m) is in
+    let own : c.leaf-leaf.result ≡ leaf = c.leaf-leaf.ensures.value in
+    let some : n < length legs = c.leaves-test.true in
+    let fit : place.legs % leaf + k ≤ leaf = subst (λ m. place.legs % m + k ≤ m) own fits.room in
+    let full : n + k < length legs → k ≡ room = λ left.
+    let all : place.legs % leaf + k ≡ leaf = subst (λ m. place.legs % m + k ≡ m) own (fits.full (omega (arith, left))) in
+    omega (arith, all, room_is) in
+    let within : n + k ≤ length legs = let most = fits.most in omega (arith, most, some) in
+    let next = next_part n k room legs within (omega (arith, fit, room_is)) full in
+    let some_next : 0 < length (take room (drop n legs)) =
+    let many = fits.some in
+    let long = length-take (n + k - n) (drop n legs) in
+    let left = length-drop n legs in
+    subst (λ l. 0 < length l) next (omega (arith, clamps, many, long, left, within)) in
+    let fills = so_far.fills fa in
+    let first : PutsSome old mid was tree place_was place (take n legs) = record {
+      shape = so_far.shape;
+      passes = so_far.touches.passes;
+      length = so_far.touches.length;
+      pages = fills.0;
+      fills = fills.1;
+      grows = content_grows (pages_of_cache old) nodes was tree (take n legs) (so_far.met fa);
+    } in
+    let p = err_from_is_err_and c.from_residual.result c.from_residual.ensures.1 in
+    rw (p.1, p.2) (named_then (λ page. IsFit nodes tree place (take (n + k - n) (drop n legs)) page → ⊥) (BlamesNext old c.put.new.cache was c.put.new.tree place_was c.put.new.place legs)
+    (λ q h. subst (λ t. BlamesNext old c.put.new.cache was t place_was c.put.new.place legs q) (sym put.unmoved.0) (subst (λ r. BlamesNext old c.put.new.cache was tree place_was r legs q) (sym put.unmoved.1)
+    (record { from = n; within = some; mid = mid; first = first; start = λ none. ((so_far.first none).1, subst (λ t. tree ≡ record t { spent = tree.spent }) (so_far.first none).0 refl, so_far.begun none); after = c.put.ensures.touches.passes; some = some_next; unfit = λ fit. h (subst (λ l. IsFit nodes tree place l q) (sym next) fit) }))) _
+    (put.blames (still _ _ so_far.touches.passes.store.faithful fa)))

@@ -1,4 +1,4 @@
-use Rattle.std.proofs.Common.{◌≡◌, ◌≢◌, ◌∙◌, ◌+◌, ◌/◌, ◌%◌, ◌<◌, arith, ap, subst, suc, sym}
+use Rattle.std.proofs.Common.{◌≡◌, ◌≢◌, ◌∙◌, ◌+◌, ◌/◌, ◌%◌, ◌<◌, arith, ap, refl, subst, suc, sym}
 use Rattle.std.specs.Prelude.{Ok, Err, IfOk}
 use Rattle.std.proofs.lemmas.Result.{err_from_is_err_and}
 use Rattle.legs.specs.Hull.{leg_boxes}
@@ -13,6 +13,9 @@ use Rattle.tbtree.proofs.Hanging.{hang_ups, hang_on, way_not, attach_not}
 use Rattle.tbtree.proofs.Still.{still}
 use Rattle.tbtree.proofs.ContentLemmas.{carries_on, on_carried}
 use Rattle.tbtree.proofs.KindLemmas.{inner_made}
+use Rattle.tbtree.specs.Needs.{entry_of, IsInnerOnWay, IsNoHook, StopsAbove}
+use Rattle.tbtree.proofs.FaultLemmas.{named_then}
+use Rattle.tbtree.proofs.NeedsLemmas.{begins_more, block_up, entry_up, inner_on_way, named_none, no_room_up, no_way_up, root_bare, upper_added}
 use Rattle.tbtree.proofs.insertion.+hang.Goals as goal
 
 pub returns-then-at-inner-eq0-clause-hangs : goal.returns-then-at-inner-eq0-clause-hangs
@@ -94,3 +97,54 @@ returns-clause-carries g t c = λ fa low end on.
     low end on below c.in_ok-attach.ensures.above
     (subst (λ b. IsFound (pages_of_cache c.args.cache.now) (pages_of_cache c.way.new.cache) tree.root tree.levels (c.args.level + 1) b c.in_ok-parent.parent) same (c.in_ok-parent.ensures.found fa))
     (c.in_ok-attach.ensures.attaches (still _ _ c.way.ensures.touches.passes.store.faithful fa))
+
+pub returns-then-from-tree-clause-blames : goal.returns-then-from-tree-clause-blames
+returns-then-from-tree-clause-blames g t c = λ fa number was block begins keeps.
+    root_bare c.args.tree.now number c.args.level was (pages_of_cache c.args.cache.now) c.root_over.result (omega (arith, c.requires.level)) (λ k low. begins k (omega (arith, low, c.if-from-tree.true, c.from.ensures))) keeps (c.root_over.ensures.blames fa)
+
+pub returns-then-at-inner-eq0-clause-blames : goal.returns-then-at-inner-eq0-clause-blames
+returns-then-at-inner-eq0-clause-blames g t c = λ fa number was block begins keeps.
+    let inner = c.args.tree.now.shape.inner in
+    let by = c.from-inner.result in
+    let is : by ≡ inner = c.from-inner.ensures ∙ c.inner.ensures.value in
+    let here : entry_of inner number c.args.level ≡ 0 = sym (entry_up inner by number c.args.level c.args.at is block) ∙ c.if-at-inner-eq0.true in
+    c.hang.ensures.blames (still _ _ c.add_inner.ensures.touches.passes.store.faithful fa) number was (block_up inner by number c.args.level c.args.at is block) (begins_more inner number c.args.level begins here)
+    (upper_added c.args.level was (pages_of_cache c.args.cache.now) (pages_of_cache c.add_inner.new.cache) _ c.in_ok-page.page refl c.add_inner.ensures.fresh (c.in_ok-page.ensures.adds fa) keeps)
+
+pub returns-in_err-page-clause-blames : goal.returns-in_err-page-clause-blames
+returns-in_err-page-clause-blames g t c = λ fa number was block begins keeps.
+    let p = err_from_is_err_and c.from_residual.result c.from_residual.ensures.1 in
+    rw (p.1, p.2) (named_none (IsNoHook was c.args.tree.now number) _ c.in_err-page.ensures.blames)
+
+pub returns-in_err-parent-clause-blames : goal.returns-in_err-parent-clause-blames
+returns-in_err-parent-clause-blames g t c = λ fa number was block begins keeps.
+    let tree = c.args.tree.now in
+    let inner = tree.shape.inner in
+    let by = c.from-inner.result in
+    let old = pages_of_cache c.args.cache.now in
+    let is : by ≡ inner = c.from-inner.ensures ∙ c.inner.ensures.value in
+    let here = entry_up inner by number c.args.level c.args.at is block in
+    let some : 0 < entry_of inner number c.args.level = let u = c.if-at-inner-eq0.false in omega (arith, u, here) in
+    let p = err_from_is_err_and c.from_residual-in_err-parent.result c.from_residual-in_err-parent.ensures.1 in
+    rw (p.1, p.2) (named_then (StopsAbove old tree number (c.args.level + 1)) (IsNoHook was tree number) (λ q s. no_way_up tree number c.args.level was old q keeps some s) _
+    (c.in_err-parent.ensures.blames fa number (block_up inner by number c.args.level c.args.at is block)))
+
+pub returns-in_err-attach-clause-blames : goal.returns-in_err-attach-clause-blames
+returns-in_err-attach-clause-blames g t c = λ fa number was block begins keeps.
+    let tree = c.args.tree.now in
+    let inner = tree.shape.inner in
+    let by = c.from-inner.result in
+    let old = pages_of_cache c.args.cache.now in
+    let mid = pages_of_cache c.way.new.cache in
+    let parent = c.in_ok-parent.parent in
+    let faithful = still _ _ c.way.ensures.touches.passes.store.faithful fa in
+    let is : by ≡ inner = c.from-inner.ensures ∙ c.inner.ensures.value in
+    let here = entry_up inner by number c.args.level c.args.at is block in
+    let some : 0 < entry_of inner number c.args.level = let u = c.if-at-inner-eq0.false in omega (arith, u, here) in
+    let below : c.args.level + 1 < tree.levels = omega (arith, c.if-from-tree.false, c.from.ensures, c.requires.level) in
+    let on : IsInnerOnWay old tree number c.args.level parent = inner_on_way tree number old c.args.level parent below
+    (λ m e. c.in_ok-parent.ensures.reaches fa number m (block_up inner by number c.args.level c.args.at is block) e) in
+    let p = err_from_is_err_and c.from_residual-in_err-attach.result c.from_residual-in_err-attach.ensures.1 in
+    rw (p.1, p.2) (named_then (λ q. (q ≡ parent) × (HasRoom mid parent (c.args.level + 1) c.inner-2.result → ⊥)) (IsNoHook was tree number)
+    (λ q h. no_room_up tree number c.args.level was old mid parent c.inner-2.result q _ keeps (c.in_ok-parent.ensures.found fa) c.inner-2.ensures.value on begins some h) _
+    (c.in_err-attach.ensures.blames faithful))

@@ -8,6 +8,9 @@ use Rattle.tbtree.specs.Way.{IsOnWay}
 use Rattle.tbtree.proofs.WayLemmas.{way_start, way_steps, way_refused}
 use Rattle.tbtree.proofs.Still.{still}
 use Rattle.tbtree.proofs.ContentLemmas.{found_top, on_found}
+use Rattle.tbtree.specs.Needs.{StopsAbove}
+use Rattle.tbtree.proofs.FaultLemmas.{named_then}
+use Rattle.tbtree.proofs.NeedsLemmas.{block_up, entry_up, reached, reached_top, stopped, stops_up}
 use Rattle.tbtree.proofs.insertion.+way.Goals as goal
 
 pub returns-then-from-tree-clause-way : goal.returns-then-from-tree-clause-way
@@ -57,3 +60,38 @@ returns-clause-found g t c = λ fa.
     let faithful = still _ _ c.way.ensures.touches.passes.store.faithful fa in
     let below : c.args.level + 1 < tree.levels = omega (arith, c.if-from-tree.false, c.from.ensures, c.requires.level) in
     on_found old mid new tree.root tree.levels c.args.level c.in_ok-parent.parent (c.args.at % c.from-inner.result) c.args.bounds.now c.widen.result below c.widen.ensures.above (c.in_ok-parent.ensures.found fa) (c.widen.ensures.widens faithful)
+
+pub returns-then-from-tree-clause-reaches : goal.returns-then-from-tree-clause-reaches
+returns-then-from-tree-clause-reaches g t c = λ fa number n block far.
+    reached_top c.args.tree.now number (pages_of_cache c.args.cache.now) c.args.level n (omega (arith, c.if-from-tree.true, c.from.ensures)) far
+
+pub returns-clause-reaches : goal.returns-clause-reaches
+returns-clause-reaches g t c = λ fa number n block far.
+    let tree = c.args.tree.now in
+    let by = c.from-inner.result in
+    let faithful = still _ _ c.way.ensures.touches.passes.store.faithful fa in
+    let is : by ≡ tree.shape.inner = c.from-inner.ensures ∙ c.inner.ensures.value in
+    let below : c.args.level + 1 < tree.levels = omega (arith, c.if-from-tree.false, c.from.ensures, c.requires.level) in
+    reached tree number (pages_of_cache c.args.cache.now) (pages_of_cache c.way.new.cache) (pages_of_cache c.widen.new.cache) n c.args.level (c.args.at % by) c.in_ok-parent.parent c.args.bounds.now c.widen.result
+    (entry_up tree.shape.inner by number c.args.level c.args.at is block) c.widen.ensures.above below far
+    (λ m e. c.in_ok-parent.ensures.reaches fa number m (block_up tree.shape.inner by number c.args.level c.args.at is block) e) (c.in_ok-parent.ensures.found fa) (c.widen.ensures.widens faithful)
+
+pub returns-clause-blames : goal.returns-clause-blames
+returns-clause-blames g t c = λ fa number block.
+    let tree = c.args.tree.now in
+    let by = c.from-inner.result in
+    let faithful = still _ _ c.way.ensures.touches.passes.store.faithful fa in
+    let is : by ≡ tree.shape.inner = c.from-inner.ensures ∙ c.inner.ensures.value in
+    let below : c.args.level + 1 < tree.levels = omega (arith, c.if-from-tree.false, c.from.ensures, c.requires.level) in
+    stopped tree number (pages_of_cache c.args.cache.now) (pages_of_cache c.way.new.cache) c.args.level (c.args.at % by) c.in_ok-parent.parent c.args.bounds.now c.widen.result
+    (entry_up tree.shape.inner by number c.args.level c.args.at is block) below
+    (λ m e. c.in_ok-parent.ensures.reaches fa number m (block_up tree.shape.inner by number c.args.level c.args.at is block) e) (c.in_ok-parent.ensures.found fa) (c.widen.ensures.blames faithful)
+
+pub returns-in_err-parent-clause-blames : goal.returns-in_err-parent-clause-blames
+returns-in_err-parent-clause-blames g t c = λ fa number block.
+    let tree = c.args.tree.now in
+    let old = pages_of_cache c.args.cache.now in
+    let is : c.from-inner.result ≡ tree.shape.inner = c.from-inner.ensures ∙ c.inner.ensures.value in
+    let p = err_from_is_err_and c.from_residual.result c.from_residual.ensures.1 in
+    rw (p.1, p.2) (named_then (StopsAbove old tree number (c.args.level + 1)) (StopsAbove old tree number c.args.level) (λ q s. stops_up tree number old c.args.level q s) _
+    (c.in_err-parent.ensures.blames fa number (block_up tree.shape.inner c.from-inner.result number c.args.level c.args.at is block)))

@@ -9,6 +9,9 @@ use Rattle.tbtree.proofs.LeafLemmas.{begins_kept}
 use Rattle.tbtree.proofs.InsertLemmas.{inserts_begun, hang_not, add_not}
 use Rattle.tbtree.proofs.Still.{still}
 use Rattle.tbtree.proofs.ContentLemmas.{meets_begun}
+use Rattle.tbtree.specs.Needs.{IsFit, IsNoEnd, IsNoHook}
+use Rattle.tbtree.proofs.FaultLemmas.{named_then}
+use Rattle.tbtree.proofs.NeedsLemmas.{unfit_end, unfit_hook, upper_begun}
 use Rattle.tbtree.proofs.insertion.begin.Goals as goal
 use Rattle.tbtree.proofs.insertion.begin.Goals.{then-place-eq0, else-place-eq0}
 
@@ -60,3 +63,23 @@ returns-clause-leaf g c = λ fa.
     let faithful = still _ _ c.add_last.ensures.touches.passes.store.faithful fa in
     subst (λ p. BeginsLeaf old new last legs p) c.in_ok-page.ensures.number
     (begins_kept old mid new last legs c.in_ok-page.page (c.in_ok-page.ensures.leaf fa) (c.in_ok-top.ensures.leaves faithful) (c.in_ok-top.ensures.no_more faithful) c.hang_leaf.ensures.touches.passes.count)
+
+pub returns-in_err-page-clause-blames : goal.returns-in_err-page-clause-blames
+returns-in_err-page-clause-blames g c = λ fa.
+    let tree = c.args.tree.now in
+    let place = c.args.place.now in
+    let legs = c.args.legs.now in
+    let old = pages_of_cache c.args.cache.now in
+    let p = err_from_is_err_and c.from_residual.result c.from_residual.ensures.1 in
+    rw (p.1, p.2) (named_then (IsNoEnd old place.last legs) (λ page. IsFit old tree place legs page → ⊥) (λ q h fit. unfit_end old tree place legs q c.requires.full h fit) _ (c.in_err-page.ensures.blames fa))
+
+pub returns-in_err-top-clause-blames : goal.returns-in_err-top-clause-blames
+returns-in_err-top-clause-blames g c = λ fa.
+    let tree = c.args.tree.now in
+    let place = c.args.place.now in
+    let legs = c.args.legs.now in
+    let old = pages_of_cache c.args.cache.now in
+    let keeps = upper_begun old (pages_of_cache c.add_last.new.cache) place.last c.in_ok-page.page legs c.in_ok-page.ensures.none (c.in_ok-page.ensures.begins fa) in
+    let p = err_from_is_err_and c.from_residual-in_err-top.result c.from_residual-in_err-top.ensures.1 in
+    rw (p.1, p.2) (named_then (IsNoHook old tree tree.leaves) (λ page. IsFit old tree place legs page → ⊥) (λ q h fit. unfit_hook old tree place legs q c.requires.full h fit) _
+    (c.in_err-top.ensures.blames (still _ _ c.add_last.ensures.touches.passes.store.faithful fa) old keeps))

@@ -1,4 +1,4 @@
-use Rattle.std.proofs.Common.{◌≡◌, ap, subst, sym}
+use Rattle.std.proofs.Common.{◌≡◌, ap, arith, refl, subst, sym}
 use Rattle.std.specs.Prelude.{Ok}
 use Rattle.legs.specs.Boxes.{BoxView}
 use Rattle.legs.specs.Hull.{leg_boxes}
@@ -26,3 +26,6 @@ returns-then-tree-eq0-clause-carries g c = λ fa low end leaf.
     let same : c.args.page.now.child ≡ c.page.inside.child = ap (λ (e : EntryView BoxView). e.child) (sym c.page.view_is) in
     subst (λ n. Carries pages pages tree.root tree.levels 0 c.args.page.now.bounds c.args.page.now.child (record { root = n; levels = 1 })) same
     (carries_first pages tree.root tree.levels c.args.page.now.child c.args.page.now.bounds end leaf c.if-tree-eq0.true)
+
+pub returns-clause-blames : goal.returns-clause-blames
+returns-clause-blames g c = λ fa was keeps. c.hang.ensures.blames fa c.args.tree.now.leaves was refl (λ k below. absurd (omega (arith, below))) keeps

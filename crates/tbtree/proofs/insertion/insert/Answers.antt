@@ -6,6 +6,9 @@ use Rattle.tbtree.specs.Nodes.{pages_of_cache}
 use Rattle.tbtree.proofs.InsertLemmas.{inserts_joined, inserts_spent, joins_one}
 use Rattle.tbtree.proofs.ContentLemmas.{grows_spent}
 use Rattle.tbtree.proofs.LeafLemmas.{fills_one}
+use Rattle.tbtree.specs.Needs.{IsFit}
+use Rattle.tbtree.proofs.FaultLemmas.{named_then}
+use Rattle.tbtree.proofs.NeedsLemmas.{fit_spent}
 use Rattle.tbtree.proofs.insertion.insert.Goals as goal
 
 pub returns-clause-joins : goal.returns-clause-joins
@@ -41,3 +44,13 @@ returns-clause-fills g c = λ fa.
     let below = mod_below place.legs leaf some in
     fills_one leaf (pages_of_cache c.args.cache.now) (pages_of_cache c.put.new.cache) c.args.tree.now.leaves c.put.new.tree.leaves place c.put.new.place (c.args.leg ∷ []) some (omega arith) (omega (arith, below))
     (put.grows fa) (put.begins fa) (put.ends fa) put.place put.grown put.begun
+
+pub returns-in_err-put-clause-blames : goal.returns-in_err-put-clause-blames
+returns-in_err-put-clause-blames g c = λ _ fa.
+    let tree = c.args.tree.now in
+    let place = c.args.place.now in
+    let old = pages_of_cache c.args.cache.now in
+    let legs = c.args.leg ∷ [] in
+    let p = err_from_is_err_and c.from_residual.result c.from_residual.ensures.1 in
+    rw (p.1, p.2) (named_then (λ page. IsFit old (record tree { spent = true }) place legs page → ⊥) (λ page. IsFit old tree place legs page → ⊥) (λ q h fit. h (fit_spent old tree tree.spent true place legs q fit)) _
+    (c.in_err-put.ensures.blames fa))

@@ -1,4 +1,4 @@
-use Rattle.std.proofs.Common.{◌<◌, arith, subst}
+use Rattle.std.proofs.Common.{◌<◌, ◌-◌, ◌≡◌, arith, refl, subst}
 use Rattle.std.specs.Prelude.{IfErr, OnOk}
 use Rattle.std.proofs.lemmas.Result.{err_from_is_err_and}
 use Rattle.legs.specs.Legs.{LegView}
@@ -16,6 +16,9 @@ use Rattle.tbtree.proofs.LeafLemmas.{grows_pushed}
 use Rattle.tbtree.proofs.Growing.{grow_way, grow_elsewhere, grow_refused}
 use Rattle.tbtree.proofs.Still.{still}
 use Rattle.tbtree.proofs.ContentLemmas.{on_grown}
+use Rattle.tbtree.specs.Needs.{CanGrow, GoesOn, StopsAbove}
+use Rattle.tbtree.proofs.FaultLemmas.{named_then}
+use Rattle.tbtree.proofs.NeedsLemmas.{no_room, no_way}
 use Rattle.tbtree.proofs.insertion.into_leaf.Goals as goal
 
 pub returns-clause-ends : goal.returns-clause-ends
@@ -74,3 +77,23 @@ returns-clause-met g c = λ fa.
     let faithful = still _ _ c.way.ensures.touches.passes.store.faithful fa in
     on_grown (pages_of_cache c.args.cache.now) (pages_of_cache c.way.new.cache) (pages_of_cache c.grow.new.cache) tree c.in_ok-page.page c.args.last c.cover_of_legs-bounds.result c.args.legs.now c.grow.result c.requires.levels c.if-page-last.false c.cover_of_legs-bounds.ensures
     (c.in_ok-page.ensures.found fa) (c.grow.ensures.pushes faithful) (returns-clause-ends g c fa)
+
+pub returns-in_err-page-clause-blames : goal.returns-in_err-page-clause-blames
+returns-in_err-page-clause-blames g c = λ fa.
+    let tree = c.args.tree.now in
+    let old = pages_of_cache c.args.cache.now in
+    let number = c.args.number in
+    let p = err_from_is_err_and c.from_residual.result c.from_residual.ensures.1 in
+    rw (p.1, p.2) (named_then (StopsAbove old tree number 0) (λ page. GoesOn old tree number page → (page ≡ c.args.last → CanGrow old tree number c.args.legs.now page) → ⊥) (λ q s on can. no_way tree number old q s on) _
+    (c.in_err-page.ensures.blames fa number refl))
+
+pub returns-then-page-last-clause-blames : goal.returns-then-page-last-clause-blames
+returns-then-page-last-clause-blames g c = λ fa on can.
+    let tree = c.args.tree.now in
+    let some = c.requires.levels in
+    c.if-page-last.true ((can refl).ends (tree.levels - 1) c.in_ok-page.page (omega (arith, some)) (c.in_ok-page.ensures.reaches fa c.args.number (tree.levels - 1) refl (omega (arith, some))))
+
+pub returns-clause-blames : goal.returns-clause-blames
+returns-clause-blames g c = λ fa.
+    no_room c.args.tree.now c.args.number (pages_of_cache c.args.cache.now) (pages_of_cache c.way.new.cache) c.in_ok-page.page c.args.last c.leaf-most.result c.args.legs.now c.grow.result c.if-page-last.false c.leaf-most.ensures.value
+    (c.in_ok-page.ensures.leaves fa) (c.grow.ensures.blames (still _ _ c.way.ensures.touches.passes.store.faithful fa))
