@@ -6,7 +6,7 @@ use Rattle.legs.specs.Asking.{AddAllAsks, Grows, LegRefusals}
 use Rattle.legs.specs.Blocks.{runs_after}
 use Rattle.legs.specs.Boxes.{BoxView}
 use Rattle.legs.specs.Costs.{add_all_bound, features_among, height, leaves_made, leaves_of, leg_feature}
-use Rattle.legs.specs.Index.{CanFollowInTurn, MayRefuseLeg, feature_count}
+use Rattle.legs.specs.Index.{CanFollowInTurn, MayRefuseLeg, feature_count, legs_of}
 use Rattle.legs.specs.Legs.{IsLeg, LegView}
 use Rattle.legs.specs.declared.index.IndexFault.{IndexFault}
 use Rattle.tbtree.specs.Insert.{IsPlace, Stands}
@@ -97,13 +97,29 @@ module _ (laws : Laws) (orders : AllLaws) (old new : IndexView) (legs : List Leg
       (asked_at_most old.cache.asked new.cache.asked R F M (new.tree.leaves - old.tree.leaves) new.tree.levels (height shape.inner (leaves_of shape (before ++ legs))) asks.asked runs made levels)
   all_asked (Err x) numbers k asks = tt
 
-  pub all_refusals : (r : Result (Unit {0}) IndexFault) → old.tree.spent ≡ false → Taking old new (taken legs turns) r → LegRefusals words old new legs r
-  all_refusals r works k = record {
+  pub all_refusals : (r : Result (Unit {0}) IndexFault) → ((f : ℕ) → legs_of f (taken legs turns) ≡ legs_of f legs) → old.tree.spent ≡ false → Taking old new (taken legs turns) r → LegRefusals words old new legs r
+  all_refusals r same works k = record {
     spent = k.spent;
     was_spent = λ e. absurd (true≢false (sym e ∙ works));
     sound = refused r k.refused;
     store = k.store;
     full = k.full;
+    skips = λ e. absurd (k.works_on e);
+    blames = λ page e. (let n = k.blames page e in record {
+      first = n.first;
+      next = n.next;
+      others = n.others;
+      order = λ f. n.order f ∙ same f;
+      feature = n.feature;
+      one = n.one;
+      some = n.some;
+      mid = n.mid;
+      none = n.none;
+      added = n.added;
+      stays = n.stays;
+      fits = n.fits;
+      unfit = n.unfit;
+    });
   }
     where
       refused : (r : Result (Unit {0}) IndexFault) → IfErr r (λ fault. (before : List LegView) → HoldsLegs old before → CanTakeInTurn before (taken legs turns) → MayRefuseLeg fault) → IfErr r (λ fault. IsSound old → CanFollowInTurn (content old) legs → MayRefuseLeg fault)

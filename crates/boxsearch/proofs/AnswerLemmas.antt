@@ -1,5 +1,5 @@
 -- What the answers of the parts say of the answers of the index.
-use Rattle.std.proofs.Common.{◌≡◌, Bool, true, false, refl, sym, subst, Result, Ok, Err}
+use Rattle.std.proofs.Common.{ℕ, ◌≡◌, Bool, true, false, refl, sym, subst, Result, Ok, Err}
 use Rattle.std.specs.Prelude.{MatchResult, IfOk, IfErr, IsErrOf}
 use Rattle.legs.specs.Index.{MayRefuse, MayRefuseLeg, HasRisen}
 use Rattle.legs.specs.declared.index.IndexFault.{IndexFault}
@@ -7,7 +7,7 @@ use Rattle.legs.specs.declared.index.IndexFault.TheVariants as index
 use Rattle.pagecache.specs.Cache.{Cache}
 use Rattle.pagecache.specs.declared.fault.CacheFault.{CacheFault}
 use Rattle.pagecache.specs.declared.fault.CacheFault.TheVariants as cache
-use Rattle.tbtree.specs.Faults.{MayRefuseRead, MayRefuseReadInCache, MayRefuseWrite, MayRefuseWriteInCache, RefusesRead, RefusesReadInCache, RefusesWrite, RefusesWriteInCache}
+use Rattle.tbtree.specs.Faults.{IfNamed, MayRefuseRead, MayRefuseReadInCache, MayRefuseWrite, MayRefuseWriteInCache, RefusesRead, RefusesReadInCache, RefusesWrite, RefusesWriteInCache}
 use Rattle.tbtree.specs.declared.fault.TreeFault.{TreeFault}
 use Rattle.tbtree.specs.declared.fault.TreeFault.TheVariants as tree
 use Rattle.boxsearch.specs.Answers.{answered, of_cache, of_tree}
@@ -60,7 +60,7 @@ SaidOfLeg old new index.Memory = Unit {0}
 SaidOfLeg old new index.Store = HasRisen old.store.faults new.store.faults
 SaidOfLeg old new (index.Damaged n) = Unit {0}
 SaidOfLeg old new index.StoreFull = new.count ≡ new.store.most
-SaidOfLeg old new index.Spent = Unit {0}
+SaidOfLeg old new index.Spent = ⊥
 
 read_cache_said : (old new : Cache) (fault : CacheFault) → RefusesReadInCache old new fault → Said old new (of_cache fault)
 read_cache_said old new cache.NoPage h = tt
@@ -90,7 +90,7 @@ write_cache_said old new cache.Memory h = tt
 pub write_said : (old new : Cache) (fault : TreeFault) → RefusesWrite old new fault → SaidOfLeg old new (of_tree fault)
 write_said old new (tree.Cache fault) h = write_cache_said old new fault h
 write_said old new (tree.Malformed n) h = tt
-write_said old new tree.Spent h = tt
+write_said old new tree.Spent h = absurd h
 
 -- what good pages allow, a sound index may answer
 read_cache_allowed : (fault : CacheFault) → MayRefuseReadInCache fault → MayRefuse (of_cache fault)
@@ -116,3 +116,15 @@ pub write_allowed : (fault : TreeFault) → MayRefuseWrite fault → MayRefuseLe
 write_allowed (tree.Cache fault) h = write_cache_allowed fault h
 write_allowed (tree.Malformed n) h = h
 write_allowed tree.Spent h = h
+
+-- what is so of the page that a refused insertion names is so of the one that the answer names
+pub named_said : (old new : Cache) (H : Type 0) (F : ℕ → Type 0) (r : Result (Unit {0}) TreeFault) → IfErr r (RefusesWrite old new) → (H → IfErr r (IfNamed F))
+    → (page : ℕ) → IsErrOf (answered (λ fault. of_tree fault) r) (index.Damaged page) → H → F page
+named_said old new H F (Ok x) c b page e h = absurd cc
+named_said old new H F (Err (tree.Cache cache.NoPage)) c b page e h = absurd c
+named_said old new H F (Err (tree.Cache cache.Store)) c b page e h = absurd cc
+named_said old new H F (Err (tree.Cache (cache.Damaged n))) c b page e h = let same : n ≡ page = cc in subst F same (b h)
+named_said old new H F (Err (tree.Cache cache.StoreFull)) c b page e h = absurd cc
+named_said old new H F (Err (tree.Cache cache.Memory)) c b page e h = absurd cc
+named_said old new H F (Err (tree.Malformed n)) c b page e h = let same : n ≡ page = cc in subst F same (b h)
+named_said old new H F (Err tree.Spent) c b page e h = absurd cc

@@ -3,20 +3,20 @@ use Rattle.std.proofs.Common.{Bool, ℕ, zero, suc, ◌+◌, ◌-◌, ◌^◌, �
 use Rattle.std.specs.Prelude.{IsTrue}
 use Rattle.std.specs.List.{count_by, Contains}
 use Rattle.std.proofs.lemmas.Bool.{cases_eq, eqb-true, true≢false}
-use Rattle.std.proofs.lemmas.List.{append-nil, drop-append-le, length_push}
-use Rattle.std.proofs.lemmas.List.Elements.{All-cons, All-contains, All-nil}
+use Rattle.std.proofs.lemmas.List.{append-nil, drop-append-le, length-set, length_push}
+use Rattle.std.proofs.lemmas.List.Elements.{All-cons, All-contains, All-contains_itself, All-nil, All-weaker}
 use Rattle.std.proofs.lemmas.Option.{slice_get-map}
 use Rattle.legs.specs.Asking.{placed_legs, HasAdded, NoneBefore}
 use Rattle.legs.specs.Boxes.{BoxView}
 use Rattle.legs.specs.Costs.{leg_feature}
-use Rattle.legs.specs.Finding.{FeaturePlace}
-use Rattle.legs.specs.Index.{is_of, last_leg_of, legs_of}
+use Rattle.legs.specs.Finding.{place_in, FeaturePlace, IsMade, IsMadeEntry, MovesLast}
+use Rattle.legs.specs.Index.{features_after, is_of, last_leg_of, legs_of}
 use Rattle.legs.specs.Legs.{LegView}
 use Rattle.legs.specs.Questions.{answer_in, OfFeature}
 use Rattle.legs.proofs.LastLemmas.{answer_alike, answer_none, last_absent, last_at_end, last_holds, last_own, takes_then}
-use Rattle.tbtree.specs.Content.{ContentGrows, LeadsToLeg}
-use Rattle.tbtree.specs.Descent.{found_legs, node_in, pages_met}
-use Rattle.tbtree.specs.Filling.{KeepsLegs}
+use Rattle.tbtree.specs.Content.{kids, ContentGrows, IsMadeBelow, IsMadeRoot, IsOldRoot, LeadsToLeg}
+use Rattle.tbtree.specs.Descent.{found_legs, node_at, node_in, pages_met}
+use Rattle.tbtree.specs.Filling.{place_with, KeepsLegs}
 use Rattle.tbtree.specs.Joining.{in_last_leaf, HasAtEnd}
 use Rattle.tbtree.specs.Nodes.{Pages, pages_of_cache, with_legs}
 use Rattle.tbtree.specs.Stands.{no_place}
@@ -26,13 +26,14 @@ use Rattle.tbtree.proofs.EndLemmas.{ends_fewer}
 use Rattle.tbtree.proofs.RoomLemmas.{count_all_other, count_all_same}
 use Rattle.tbtree.proofs.Still.{still}
 use Rattle.boxsearch.specs.Answers.{answered, of_tree}
-use Rattle.boxsearch.specs.Index.{IndexView, finds, found_by, leads_to, place_of, words, with_place}
+use Rattle.boxsearch.specs.Index.{IndexView, children, finds, found_by, leads_to, place_for, place_of, words, with_place}
 use Rattle.boxsearch.specs.Putting.{FillsSome, Puts, PutsAll}
 use Rattle.boxsearch.specs.Telling.{DeniesTrack, TellsTrack}
 use Rattle.boxsearch.proofs.AddLemmas.{made}
 use Rattle.boxsearch.proofs.TrackGrowth.{all_of_one, denied_alike, made_was, none_of_other, own_track, told_alike}
 use Rattle.chains.proofs.ChainGrowth.{others_alike, AreAlike}
-use Rattle.boxsearch.proofs.PlaceLemmas.{get-set_same, get-set_other, push_last, push_other}
+use Rattle.boxsearch.proofs.MadeLemmas.{features_one, for_alike, many_with, moves_by, placed_in, rising_held}
+use Rattle.boxsearch.proofs.PlaceLemmas.{get-set_same, get-set_other, got_within, place_made, place_there, push_last, push_other}
 
 -- the last of some legs is among those of the last leaf
 last_in_leaf : (leaf count : ℕ) (front : List LegView) (leg : LegView) → (others : List LegView) × (in_last_leaf leaf count (front ++ leg ∷ []) ≡ others ++ leg ∷ [])
@@ -59,7 +60,7 @@ get_made_other places feature f u =
     ]) refl
 
 -- how many legs the place of a feature counts, if there is one
-abbrev legs_in_place : Option Place → ℕ
+abbrev pub legs_in_place : Option Place → ℕ
 legs_in_place (Some place) = place.legs
 legs_in_place None = 0
 
@@ -69,7 +70,7 @@ get_beyond (x ∷ xs) zero l = absurd (omega (arith, l))
 get_beyond (x ∷ xs) (suc i) l = get_beyond xs i (omega (arith, l))
 
 -- one that is made counts none
-made_legs : (places : List Place) (feature : ℕ) (was : Place) → slice_get (with_place places feature) feature ≡ Some was → legs_in_place (slice_get places feature) ≡ was.legs
+pub made_legs : (places : List Place) (feature : ℕ) (was : Place) → slice_get (with_place places feature) feature ≡ Some was → legs_in_place (slice_get places feature) ≡ was.legs
 made_legs places feature was =
     (elim (feature == length places) as (λ v. (feature == length places) ≡ v → slice_get (cond v (places ++ no_place ∷ []) places) feature ≡ Some was → legs_in_place (slice_get places feature) ≡ was.legs) [
       | true ↦ λ is found.
@@ -79,7 +80,7 @@ made_legs places feature was =
     ]) refl
 
 -- the places as numbers
-placed_is : (i : IndexView) (f : ℕ) → placed_legs (found_by i) f ≡ legs_in_place (slice_get i.places f)
+pub placed_is : (i : IndexView) (f : ℕ) → placed_legs (found_by i) f ≡ legs_in_place (slice_get i.places f)
 placed_is i f = at i.places f
   where
     at : (places : List Place) (f : ℕ) → placed_legs (record { root = i.tree.root; levels = i.tree.levels; leaves = i.tree.leaves; legs = i.legs; pages = i.cache.count; places = map place_of places }) f ≡ legs_in_place (slice_get places f)
@@ -141,8 +142,64 @@ module _ (old new : IndexView) (feature : ℕ) (legs : List LegView) (was is : P
       ((met fa).only leg (h (faithful ∙ fa)))
   leads_more leg h false none = inl (λ fa. absurd (true≢false (sym fa ∙ none)))
 
+  -- the entries that a page had, and those behind them
+  entry_made : (fa : IsTrue old.cache.store.is_faithful) (page q : ℕ) → Contains ((met fa).grafts.added page) q → IsMadeEntry (found_by old) (found_by new) page q
+  entry_made fa page q h = ⊎_elim
+      (λ (m : IsMadeBelow old.cache.count (pages_of_cache new.cache) page q). inl (m.from, m.there))
+      (λ (m : IsOldRoot (pages_of_cache old.cache) (pages_of_cache new.cache) old.tree.root old.tree.levels page q). inr (m.made, m.is))
+      ((met fa).grafts.made page q h)
+
+  children_more : (fa : IsTrue old.cache.store.is_faithful) (page : ℕ) → (added : List ℕ) × (children new page ≡ children old page ++ added) × All (IsMadeEntry (found_by old) (found_by new) page) added
+  children_more fa page =
+      let g = (met fa).grafts in (
+        g.added page,
+        ap (λ b. cond b (kids (node_at (pages_of_cache new.cache) page)) []) (faithful ∙ fa) ∙ g.behind page
+            ∙ ap (λ l. l ++ g.added page) (sym (ap (λ b. cond b (kids (node_at (pages_of_cache old.cache) page)) []) fa)),
+        All-weaker (Contains (g.added page)) (IsMadeEntry (found_by old) (found_by new) page) (λ q h. entry_made fa page q h) (g.added page) (All-contains_itself (g.added page)),
+      )
+
+  -- there are as many places as features then
+  features_are : length new.places ≡ features_after (length old.places) legs
+  features_are =
+      let within = got_within (with_place old.places feature) feature was found in
+      ap length places ∙ length-set (with_place old.places feature) feature is ∙ many_with old.places feature within ∙ sym (features_one legs (length old.places) feature some one)
+
+  -- as many pages at least as leaves were made, and the root is the old one or was
+  pages_held : IsTrue old.cache.store.is_faithful → new.tree.leaves + old.cache.count ≤ old.tree.leaves + new.cache.count
+  pages_held fa =
+      let f = fills fa in
+      let count = (met fa).grafts.count in
+      let more = rising_held (pages_of_cache new.cache) old.tree.shape.leaf old.cache.count was.last new.cache.count _ f.0 f.1.made f.1.there count in
+      let leaves = f.1.counted in
+      omega (arith, more, leaves)
+
+  root_made : IsTrue old.cache.store.is_faithful → (new.tree.root ≡ old.tree.root) ⊎ IsMade (found_by old) (found_by new) new.tree.root
+  root_made fa = ⊎_elim
+      (λ (e : (new.tree.root ≡ old.tree.root) × (new.tree.levels ≡ old.tree.levels)). inl e.0)
+      (λ (m : IsMadeRoot old.cache.count (pages_of_cache new.cache) new.tree.root new.tree.levels). inr (m.from, m.there))
+      (met fa).grafts.root_is
+
+  -- the last leaf of each feature
+  moves_at : IsTrue old.cache.store.is_faithful → (f : ℕ) → MovesLast (found_by old) (found_by new) f
+  moves_at fa f = ⊎_elim
+      (λ (e : f ≡ feature).
+      let g = fills fa in
+      let by = moves_by (found_by old) (found_by new) was legs (pages_of_cache new.cache) old.tree.shape.leaf was.last _ g.0 g.1.made g.1.there g.1.counted in
+      let now : place_in (found_by new) f ≡ place_of (place_with old.tree.leaves was legs g.0) = placed_in new f ∙ ap (λ k. place_of (place_for new.places k)) e ∙ ap place_of (sym (place_there new.places feature is place_of_own)) ∙ ap place_of g.1.place_is in
+      let before : place_in (found_by old) f ≡ place_of was = placed_in old f ∙ ap (λ k. place_of (place_for old.places k)) e ∙ ap place_of (sym (place_made old.places feature was found)) in
+      subst (λ p. Moves p (place_in (found_by new) f)) (sym before) (subst (λ q. Moves (place_of was) q) (sym now) by))
+      (λ (u : f ≢ feature).
+      let same : place_in (found_by new) f ≡ place_in (found_by old) f = placed_in new f ∙ ap place_of (for_alike old.places new.places f (place_of_other f u)) ∙ sym (placed_in old f) in
+      inl (ap (λ (p : FeaturePlace). p.last) same, ap (λ (p : FeaturePlace). p.last_index) same))
+      (cases_eq f feature)
+    where
+      Moves : FeaturePlace → FeaturePlace → Type 0
+      Moves p q =
+          ((q.last ≡ p.last) × (q.last_index ≡ p.last_index))
+          ⊎ (IsMade (found_by old) (found_by new) q.last × (old.tree.leaves ≤ q.last_index) × (q.last_index < new.tree.leaves))
+
   -- the legs of one feature that were put in
-  takes_put : HasAdded words old new legs
+  pub takes_put : HasAdded words old new legs
   takes_put = record {
     kept = λ meets prune leg h. says new meets leg (λ fa. All-contains (Contains (found_legs meets (pages_of_cache new.cache) new.tree)) (found_legs meets (pages_of_cache old.cache) old.tree) leg ((met (was_faithful fa)).kept meets prune) (said old meets leg h (was_faithful fa)));
     put = λ meets prune k d l t. says new meets (get_or legs k d) (λ fa. (met (was_faithful fa)).put meets prune k d l t);
@@ -157,6 +214,9 @@ module _ (old new : IndexView) (feature : ℕ) (legs : List LegView) (was is : P
         let more = m.grafts.count in
         let there = h.2 in
         (faithful ∙ h.0, h.1, omega (arith, there, more), ap node_in (m.bare page h.2 h.3) ∙ h.3);
+    children = children_more;
+    moves = moves_at;
+    features = features_are;
     astray = λ above page h fa. (met fa).astray above page (h (faithful ∙ fa));
     leads = λ leg h. leads_more leg h old.cache.store.is_faithful refl;
     top = λ levels h. (met h.0).top levels h.2 h.3;
@@ -195,7 +255,7 @@ module _ (old new : IndexView) (feature : ℕ) (legs : List LegView) (was is : P
               (denied_alike (pages_of_cache old.cache) (pages_of_cache new.cache) old.tree.shape period f (slice_get old.places f) n (alike fa) (h (was_faithful fa))));
         };
     counted = λ few. counted ∙ omega (arith, few);
-    room = λ fa. let m = met fa in (faithful ∙ fa, record { leaves = m.more; levels = m.higher; few = m.few; low = m.low; pages = m.pages });
+    room = λ fa. let m = met fa in (faithful ∙ fa, record { leaves = m.more; levels = m.higher; few = m.few; low = m.low; pages = m.pages; held = pages_held fa; root = root_made fa });
     works = works;
     plan = ap Some shape;
     last = λ f leg e fa.

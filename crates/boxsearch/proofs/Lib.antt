@@ -6,8 +6,10 @@ pub mod FoundLemmas
 pub mod ResultLemmas
 pub mod AnswerLemmas
 pub mod IndexLemmas
+pub mod FitBeside
 pub mod StillLemmas
 pub mod PlaceLemmas
+pub mod MadeLemmas
 pub mod TrackLemmas
 pub mod QuestionLemmas
 pub mod TellLemmas
@@ -17,6 +19,7 @@ pub mod MarkLemmas
 pub mod StartLemmas
 pub mod BoundLemmas
 pub mod FlushLemmas
+pub mod BlameLemmas
 pub mod TakingTurns
 pub mod TurnSteps
 pub mod TurnOrder

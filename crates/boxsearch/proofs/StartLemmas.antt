@@ -19,7 +19,7 @@ use Rattle.tbtree.specs.Insert.{Stands, IsPlace}
 use Rattle.tbtree.specs.Nodes.{Pages, pages_of_cache}
 use Rattle.tbtree.specs.declared.tree.TbTree.{TbTree}
 use Rattle.boxsearch.specs.Answers.{answered, of_cache}
-use Rattle.boxsearch.specs.Index.{IndexView, words, content, found_by, legs_by, written, IsSound, IsMarked}
+use Rattle.boxsearch.specs.Index.{IndexView, words, content, found_by, is_unreadable, legs_by, written, IsSound, IsMarked}
 use Rattle.boxsearch.specs.Marking.{Marks, IsNotMarked}
 use Rattle.pages.specs.declared.payload.Payload.{Payload}
 use Rattle.std.specs.List.{Contains}
@@ -77,10 +77,10 @@ module _ (laws : FirstLaws) (old : IndexView) (c : Cache) (known : List (List Le
 same_page : (p q : ℕ) → index.Damaged p ≡ index.Damaged q → p ≡ q
 same_page p q e = cc
 
-names_first : (a b : Cache) (page : ℕ) (fault : CacheFault) → IsNotMarked a b fault → of_cache fault ≡ index.Damaged page → page ≡ 0
-names_first a b page cache.NoPage h e = sym (same_page 0 page e)
+names_first : (a b : Cache) (page : ℕ) (fault : CacheFault) → IsNotMarked a b fault → of_cache fault ≡ index.Damaged page → (page ≡ 0) × (IsTrue a.store.is_faithful → payload_of a 0 ≡ None)
+names_first a b page cache.NoPage h e = (sym (same_page 0 page e), h.1)
 names_first a b page cache.Store h e = absurd cc
-names_first a b page (cache.Damaged n) h e = sym (same_page n page e) ∙ h.0
+names_first a b page (cache.Damaged n) h e = (sym (same_page n page e) ∙ h.0, h.1)
 names_first a b page cache.StoreFull h e = absurd h
 names_first a b page cache.Memory h e = absurd cc
 
@@ -139,8 +139,8 @@ module _ (laws : FirstLaws) (old : IndexView) (c : Cache) (known : List (List Le
   pub starts : (r : Result (Unit {0}) CacheFault) → OnOk r (IsTrue old.cache.store.is_faithful → IsMarked c)
       → OnErr r (IsTrue old.cache.store.is_faithful → IsClean old.cache → drop 1 (pages_as_written c) ≡ drop 1 (pages_as_written old.cache))
       → OnErr r (IsTrue old.cache.store.is_faithful → IsClean old.cache → (Faulted old.cache.store c.store → ⊥) → pages_as_written c ≡ pages_as_written old.cache)
-      → OnOk r (IsTrue old.cache.store.is_faithful → (IsMarked old.cache → ⊥) → IsSynced c.store) → IfErr r (IsNotMarked old.cache c) → Starts words old new (answered (λ fault. of_cache fault) r)
-  starts r marked others first synced caused = record {
+      → OnOk r (IsTrue old.cache.store.is_faithful → (IsMarked old.cache → ⊥) → IsSynced c.store) → OnOk r (IsTrue old.cache.store.is_faithful → payload_of old.cache 0 ≡ None → ⊥) → IfErr r (IsNotMarked old.cache c) → Starts words old new (answered (λ fault. of_cache fault) r)
+  starts r marked others first synced there caused = record {
     content = same_content;
     says = λ question.
         let same : IsTrue c.store.is_faithful → (p : ℕ) → 0 < p → (pages_of_cache c).at p ≡ (pages_of_cache old.cache).at p = λ fa p above. ap (option_map node_of) (m.rest (was_faithful fa) p above) in
@@ -157,8 +157,9 @@ module _ (laws : FirstLaws) (old : IndexView) (c : Cache) (known : List (List Le
     marks = each_value (λ fault. of_cache fault) (λ _. IsTrue old.cache.store.is_faithful → IsMarked c) r marked;
     marked = m.stays;
     synced = each_value (λ fault. of_cache fault) (λ _. IsTrue old.cache.store.is_faithful → (IsMarked old.cache → ⊥) → IsSynced c.store) r synced;
-    named = λ page e. the_fault (answered (λ fault. of_cache fault) r) (λ fault. fault ≡ index.Damaged page → page ≡ 0) (index.Damaged page) e
-        (each_fault (λ fault. of_cache fault) (IsNotMarked old.cache c) (λ fault. fault ≡ index.Damaged page → page ≡ 0) (names_first old.cache c page) r caused) refl;
+    named = λ page e. the_fault (answered (λ fault. of_cache fault) r) (λ fault. fault ≡ index.Damaged page → (page ≡ 0) × is_unreadable old 0) (index.Damaged page) e
+        (each_fault (λ fault. of_cache fault) (IsNotMarked old.cache c) (λ fault. fault ≡ index.Damaged page → (page ≡ 0) × is_unreadable old 0) (names_first old.cache c page) r caused) refl;
+    there = each_value (λ fault. of_cache fault) (λ _. IsTrue old.cache.store.is_faithful → is_unreadable old 0 → ⊥) r (on_ok r (λ h fa none. h fa (none fa)) there);
     works = λ e. absurd (the_fault (answered (λ fault. of_cache fault) r) NotSpent index.Spent e (each_fault (λ fault. of_cache fault) (IsNotMarked old.cache c) NotSpent (never_spent old.cache c) r caused));
     others = each_fault (λ fault. of_cache fault) (λ _. IsTrue old.cache.store.is_faithful → IsClean old.cache → drop 1 (written new) ≡ drop 1 (written old)) (λ _. IsTrue old.cache.store.is_faithful → IsClean old.cache → drop 1 (written new) ≡ drop 1 (written old)) (λ x h. h) r
         (on_err r (λ h fa clean. ap (drop 1) (written_is new (m.store.faithful ∙ fa)) ∙ h fa clean ∙ sym (ap (drop 1) (written_is old fa))) others);

@@ -1,20 +1,23 @@
 -- Legs put into an index in any order in which each feature's ordinals rise.
 use Rattle.std.proofs.Common.{ℕ, zero, suc, All, drop, take, get_or, ◌≡◌, ◌≢◌, ◌≤◌, ◌<◌, ◌+◌, ◌*◌, ◌-◌, ◌^◌, min, max, refl, sym, ap, ◌∙◌, arith, subst, ⊎_elim, true, false, List, [], ◌∷◌, ◌++◌, length, set, Some, slice_get, Result, Ok, Err, OnOk, OnErr, append_assoc}
-use Rattle.std.specs.Prelude.{IfErr}
-use Rattle.std.proofs.lemmas.Bool.{cases_eq}
+use Rattle.std.specs.Prelude.{Bool, IfErr, IsErrOf, IsTrue}
+use Rattle.std.proofs.lemmas.Bool.{cases_eq, true≢false}
 use Rattle.std.proofs.lemmas.Int.{clamps}
 use Rattle.std.proofs.lemmas.List.{length-append, length-drop, length-set, append-nil, take_all}
+use Rattle.std.proofs.lemmas.List.Elements.{filter-append}
 use Rattle.std.proofs.lemmas.Nat.{mul-le}
-use Rattle.legs.specs.Asking.{IsLater}
+use Rattle.legs.specs.Asking.{Blames, HasAdded, IsLater}
 use Rattle.legs.specs.Boxes.{BoxView}
-use Rattle.legs.specs.Index.{MayRefuseLeg, feature_count, legs_of}
+use Rattle.legs.specs.Index.{MayRefuseLeg, feature_count, is_of, legs_of}
 use Rattle.legs.specs.Legs.{LegView}
 use Rattle.legs.specs.Places.{no_leg}
 use Rattle.legs.specs.declared.index.IndexFault.{IndexFault}
 use Rattle.legs.specs.declared.index.IndexFault.TheVariants as index
+use Rattle.legs.proofs.LastLemmas.{takes_none, takes_then}
 use Rattle.tbtree.specs.Faults.{GivesWrite, MayRefuseWrite, RefusesWrite}
 use Rattle.tbtree.specs.Insert.{IsPlace}
 use Rattle.tbtree.specs.Joining.{AllJoined, CanJoinInTurn, CanTakeInTurn, Holds}
+use Rattle.tbtree.specs.Needs.{BlamesNext}
 use Rattle.tbtree.specs.Nodes.{Pages, pages_of_cache}
 use Rattle.tbtree.specs.Shape.{IsShape}
 use Rattle.tbtree.specs.Stands.{no_place}
@@ -22,12 +25,13 @@ use Rattle.tbtree.specs.declared.fault.TreeFault.{TreeFault}
 use Rattle.tbtree.specs.declared.tree.Place.{Place}
 use Rattle.tbtree.specs.declared.tree.TbTree.{TbTree}
 use Rattle.boxsearch.specs.Answers.{answered, of_tree}
-use Rattle.boxsearch.specs.Index.{IndexView, words, IsMarked, with_place}
+use Rattle.boxsearch.specs.Index.{IndexView, is_unfit, words, IsMarked, with_place}
 use Rattle.boxsearch.specs.Putting.{PutsAll, spent_from}
 use Rattle.boxsearch.specs.Taking.{HoldsLegs, Taking, taken}
 use Rattle.boxsearch.specs.declared.turns.Turn.{Turn}
 use Rattle.boxsearch.proofs.AddLemmas.{made, marked_after, feature_count-push}
-use Rattle.boxsearch.proofs.AnswerLemmas.{each_fault, the_fault, SaidOfLeg, write_said, write_allowed}
+use Rattle.boxsearch.proofs.AnswerLemmas.{each_fault, named_said, the_fault, SaidOfLeg, write_said, write_allowed}
+use Rattle.boxsearch.proofs.BlameLemmas.{blames_run, blames_unfaithful}
 use Rattle.boxsearch.proofs.PlaceLemmas.{get-set_same, get-set_other, made_places, length-made, some_same}
 use Rattle.boxsearch.proofs.TrackLemmas.{no_legs}
 
@@ -134,8 +138,18 @@ module _ (laws : OrderLaws) (old new : IndexView) (feature : ℕ) (legs : List L
   allowed (Ok tt) p = tt
   allowed (Err x) p = λ before s w. gives laws old new feature legs before some one (Err x) p s w
 
-  pub joined : (r : Result (Unit {0}) TreeFault) → PutsAll (made old feature) new feature legs r → Taking old new legs (answered (λ fault. of_tree fault) r)
-  joined r p =
+  -- a page that is named was not what the next of them needed of it
+  blamed : (r : Result (Unit {0}) TreeFault) → PutsAll (made old feature) new feature legs r → old.tree.spent ≡ false → (page : ℕ) → IsErrOf (answered (λ fault. of_tree fault) r) (index.Damaged page) → Blames words old new legs page
+  blamed r p works page e = by_store old.cache.store.is_faithful refl
+    where
+      by_store : (b : Bool) → old.cache.store.is_faithful ≡ b → Blames words old new legs page
+      by_store true is =
+          blames_run old new feature legs p.was p.is page some one p.found p.places works p.room
+          (named_said old.cache new.cache (IsTrue old.cache.store.is_faithful) (BlamesNext old.cache new.cache old.tree new.tree p.was p.is legs) r p.caused p.blames page e is)
+      by_store false is = blames_unfaithful old new feature legs page some one works p.room is
+
+  pub joined : (r : Result (Unit {0}) TreeFault) → PutsAll (made old feature) new feature legs r → old.tree.spent ≡ false → Taking old new legs (answered (λ fault. of_tree fault) r)
+  joined r p works =
       let say : TreeFault → IndexFault = λ fault. of_tree fault in
       let said = each_fault say (RefusesWrite old.cache new.cache) (SaidOfLeg old.cache new.cache) (write_said old.cache new.cache) r p.caused in
       record {
@@ -147,6 +161,8 @@ module _ (laws : OrderLaws) (old new : IndexView) (feature : ℕ) (legs : List L
             (λ fault. (before : List LegView) → HoldsLegs old before → CanTakeInTurn before legs → MayRefuseLeg fault) (λ x h before s w. write_allowed x (h before s w)) r (allowed r p);
         store = λ e. the_fault (answered say r) (SaidOfLeg old.cache new.cache) index.Store e said;
         full = λ e. the_fault (answered say r) (SaidOfLeg old.cache new.cache) index.StoreFull e said;
+        works_on = λ e. the_fault (answered say r) (SaidOfLeg old.cache new.cache) index.Spent e said;
+        blames = blamed r p works;
         marked = marked_after old.cache new.cache p.passes;
       }
 
@@ -158,6 +174,27 @@ take_back : (b xs ys : List LegView) → CanTakeInTurn b (xs ++ ys) → CanTakeI
 take_back b [] ys w = subst (λ l. CanTakeInTurn l ys) (sym (append-nil b)) w
 take_back b (x ∷ xs) ys w = subst (λ l. CanTakeInTurn l ys) (append_assoc b (x ∷ []) xs) (take_back (b ++ x ∷ []) xs ys w.1)
 
+nil_left : (xs ys : List LegView) → xs ++ ys ≡ [] → xs ≡ []
+nil_left [] ys e = refl
+nil_left (x ∷ xs) ys e = absurd cc
+
+nil_right : (xs ys : List LegView) → xs ++ ys ≡ [] → ys ≡ []
+nil_right [] ys e = e
+nil_right (x ∷ xs) ys e = absurd cc
+
+some_run : (xs run : List LegView) → 0 < length run → xs ++ run ≡ [] → ⊥
+some_run xs run some e = let none : length run ≡ 0 = ap length (nil_right xs run e) in omega (arith, some, none)
+
+-- the legs before a run, those of the run in whatever order of their features, and those behind it
+after_run : (f : ℕ) (done run left first next others all : List LegView) → done ++ (run ++ left) ≡ all → legs_of f (first ++ next ++ others) ≡ legs_of f run → legs_of f (done ++ first ++ next ++ (others ++ left)) ≡ legs_of f all
+after_run f done run left first next others all are same =
+    let whole : done ++ first ++ next ++ (others ++ left) ≡ done ++ (first ++ next ++ others ++ left) =
+    ap (λ l. l ++ (others ++ left)) (append_assoc done first next) ∙ append_assoc done (first ++ next) (others ++ left) ∙ ap (λ l. done ++ l) (sym (append_assoc (first ++ next) others left)) in
+    let behind : legs_of f (first ++ next ++ others ++ left) ≡ legs_of f (run ++ left) =
+    filter-append (is_of f) (first ++ next ++ others) left ∙ ap (λ l. l ++ legs_of f left) same ∙ sym (filter-append (is_of f) run left) in
+    ap (legs_of f) whole ∙ filter-append (is_of f) done (first ++ next ++ others ++ left) ∙ ap (λ l. legs_of f done ++ l) behind
+    ∙ sym (filter-append (is_of f) done (run ++ left)) ∙ ap (legs_of f) are
+
 -- as far as a loop over legs has come, from an index to what it is now
 pub record IsTaking (old now : IndexView) (all left : List LegView) : Type 0 where
   pub going : (before : List LegView) → HoldsLegs old before → CanTakeInTurn before all
@@ -166,6 +203,10 @@ pub record IsTaking (old now : IndexView) (all left : List LegView) : Type 0 whe
   pub shape : now.tree.shape ≡ old.tree.shape
   pub marked : IsMarked old.cache → IsMarked now.cache
   pub faults : old.cache.store.faults ≤ now.cache.store.faults
+  pub done : List LegView
+  pub added : HasAdded words old now done
+  pub are : done ++ left ≡ all
+  pub start : done ≡ [] → now ≡ old
 
 pub taking_start : (old : IndexView) (all : List LegView) → old.tree.spent ≡ false → IsTaking old old all all
 taking_start old all works = record {
@@ -174,10 +215,14 @@ taking_start old all works = record {
   shape = refl;
   marked = λ m. m;
   faults = omega arith;
+  done = [];
+  added = takes_none words old works;
+  are = refl;
+  start = λ _. refl;
 }
 
-pub taking_more : (old now new : IndexView) (all left run : List LegView) → IsTaking old now all (run ++ left) → Taking now new run (Ok tt) → IsLater words now new → IsTaking old new all left
-taking_more old now new all left run so_far more later = record {
+pub taking_more : (old now new : IndexView) (all left run : List LegView) → IsTaking old now all (run ++ left) → Taking now new run (Ok tt) → IsLater words now new → 0 < length run → HasAdded words now new run → IsTaking old new all left
+taking_more old now new all left run so_far more later some added = record {
   going = λ before s w.
       let at = so_far.going before s w in
       let done = at.0 in
@@ -191,6 +236,10 @@ taking_more old now new all left run so_far more later = record {
   shape = more.shape ∙ so_far.shape;
   marked = λ m. more.marked (so_far.marked m);
   faults = let a = so_far.faults in let b = later.faults in omega (arith, a, b);
+  done = so_far.done ++ run;
+  added = takes_then words old now new so_far.done run so_far.added added;
+  are = append_assoc so_far.done run left ∙ so_far.are;
+  start = λ e. absurd (some_run so_far.done run some e);
 }
 
 pub taking_end : (old now : IndexView) (all : List LegView) → IsTaking old now all [] → Taking old now all (Ok tt)
@@ -205,6 +254,8 @@ taking_end old now all so_far = record {
   refused = tt;
   store = λ e. absurd cc;
   full = λ e. absurd cc;
+  works_on = λ e. absurd cc;
+  blames = λ page e. absurd cc;
   marked = so_far.marked;
 }
 
@@ -217,6 +268,24 @@ taking_refused old now new all left run fault so_far more = record {
   refused = λ before s w. (let at = so_far.going before s w in more.refused (before ++ at.0) at.1 (take_front (before ++ at.0) run left at.2));
   store = λ e. (let a = so_far.faults in let b = more.store e in omega (arith, clamps, a, b));
   full = more.full;
+  works_on = more.works_on;
+  blames = λ page e.
+      let n = more.blames page e in
+      record {
+        first = so_far.done ++ n.first;
+        next = n.next;
+        others = n.others ++ left;
+        order = λ f. after_run f so_far.done run left n.first n.next n.others all so_far.are (n.order f);
+        feature = n.feature;
+        one = n.one;
+        some = n.some;
+        mid = n.mid;
+        none = λ e. subst (λ i. is_unfit i n.next page) (so_far.start (nil_left so_far.done n.first e)) (n.none (nil_right so_far.done n.first e));
+        added = takes_then words old now n.mid so_far.done n.first so_far.added n.added;
+        stays = λ fa. n.stays (so_far.added.room fa).0;
+        fits = λ shape is. n.fits shape (ap Some so_far.shape ∙ is);
+        unfit = n.unfit;
+      };
   marked = λ m. more.marked (so_far.marked m);
 }
 
@@ -232,25 +301,8 @@ taking_none old mid new legs is same =
       refused = λ before s w. tt;
       store = λ e. absurd cc;
       full = λ e. absurd cc;
-      marked = λ m. subst (λ c. IsMarked c) (sym cache) m;
-    }
-
--- a feature that is more than the next one has no place, and spends the index
-pub taking_absent : (old mid new : IndexView) (feature : ℕ) (legs : List LegView) → 0 < length legs → All (λ leg. leg.feature ≡ feature) legs → mid ≡ made old feature → new ≡ spent_from mid → (feature < length mid.places → ⊥) → Taking old new legs (Err index.Spent)
-taking_absent old mid new feature legs some one made_is is none =
-    let cache : new.cache ≡ old.cache = ap (λ (v : IndexView). v.cache) is ∙ ap (λ (v : IndexView). v.cache) made_is in
-    record {
-      takes = tt;
-      shape = tt;
-      works = tt;
-      spent = ap (λ (v : IndexView). v.tree.spent) is;
-      refused = λ before s w. none
-          (let low = head_fits feature before legs some one w in
-          let n = s.features in
-          let m = length-made old.places feature (omega (arith, n, low)) in
-          omega (arith, clamps, m, ap (λ (v : IndexView). length v.places) made_is));
-      store = λ e. absurd cc;
-      full = λ e. absurd cc;
+      works_on = λ e. absurd cc;
+      blames = λ page e. absurd cc;
       marked = λ m. subst (λ c. IsMarked c) (sym cache) m;
     }
 

@@ -3,11 +3,13 @@ use Rattle.std.proofs.Common.{ℕ, suc, ◌≡◌, ◌≢◌, ◌≤◌, ◌<◌
 use Rattle.std.proofs.lemmas.Bool.{cases_eq}
 use Rattle.std.proofs.lemmas.Bool.Decides.{nat_tests}
 use Rattle.std.proofs.lemmas.List.{length_push, length-set}
+use Rattle.legs.specs.Index.{feature_count, CanFollowInTurn, SkipNone}
 use Rattle.legs.specs.Legs.{LegView}
 use Rattle.tbtree.specs.declared.tree.Place.{Place}
-use Rattle.boxsearch.specs.Turns.{leaf_for, open_after, open_with, opened_from, turns_from, Fit}
+use Rattle.boxsearch.specs.Turns.{leaf_for, open_after, open_with, opened_from, turns_from}
 use Rattle.boxsearch.specs.declared.turns.Open.{Open}
 use Rattle.boxsearch.specs.declared.turns.Turn.{Turn}
+use Rattle.boxsearch.proofs.AddLemmas.{feature_count-push}
 use Rattle.boxsearch.proofs.TakingTurns.{drop_next}
 
 pub opened_length : (most feature : ℕ) (places : List Place) → length (opened_from most feature places) ≡ length places
@@ -28,6 +30,14 @@ pub length_after : (most : ℕ) (ends : List Open) (feature made : ℕ) → feat
 unfolding open_after
 length_after most ends feature made h = length-set (open_with ends feature made) feature _ ∙ length_with ends feature made h
 
+-- legs that may follow skip no feature
+pub none_skipped : (before legs : List LegView) (n : ℕ) → n ≡ feature_count before → CanFollowInTurn before legs → SkipNone n legs
+none_skipped before [] n e w = tt
+none_skipped before (leg ∷ legs) n e w = (
+  (let low = w.0.feature in omega (arith, low, e)),
+  none_skipped (before ++ leg ∷ []) legs (max n (leg.feature + 1)) (ap (λ k. max k (leg.feature + 1)) e ∙ sym (feature_count-push before leg)) w.1,
+)
+
 pub next_leg : (legs : List LegView) (k : ℕ) (leg : LegView) → k < length legs → leg ≡ get_or legs k leg → drop k legs ≡ leg ∷ drop (k + 1) legs
 next_leg legs k leg l is = let next : suc k ≡ k + 1 = omega arith in drop_next legs k leg l ∙ ap (λ x. x ∷ drop (suc k) legs) (sym is) ∙ ap (λ n. leg ∷ drop n legs) next
 
@@ -42,13 +52,13 @@ turns_step most base k ends ends' legs turns all leg leaf feature made l is f m 
     ap (turns_from most ends base k) (next_leg legs k leg l is) ∙ (λ i. record { leaf = sym leaf' i; place = k } ∷ turns_from most (sym ends'' i) base (k + 1) rest) in
     append_assoc turns (t ∷ []) (turns_from most ends' base (k + 1) rest) ∙ ap (λ l. turns ++ l) (sym step) ∙ so_far
 
-pub fit_next : (n k : ℕ) (legs : List LegView) (leg : LegView) → k < length legs → leg ≡ get_or legs k leg → Fit n (drop k legs) → (leg.feature ≤ n) × Fit (max n (leg.feature + 1)) (drop (k + 1) legs)
-fit_next n k legs leg l is h = subst (λ ls. Fit n ls) (next_leg legs k leg l is) h
+pub fit_next : (n k : ℕ) (legs : List LegView) (leg : LegView) → k < length legs → leg ≡ get_or legs k leg → SkipNone n (drop k legs) → (leg.feature ≤ n) × SkipNone (max n (leg.feature + 1)) (drop (k + 1) legs)
+fit_next n k legs leg l is h = subst (λ ls. SkipNone n ls) (next_leg legs k leg l is) h
 
-pub fit_step : (most k : ℕ) (ends ends' : List Open) (legs : List LegView) (leg : LegView) (feature made : ℕ) → k < length legs → leg ≡ get_or legs k leg → feature ≡ leg.feature → ends' ≡ open_after most ends feature made → Fit (length ends) (drop k legs) → Fit (length ends') (drop (k + 1) legs)
+pub fit_step : (most k : ℕ) (ends ends' : List Open) (legs : List LegView) (leg : LegView) (feature made : ℕ) → k < length legs → leg ≡ get_or legs k leg → feature ≡ leg.feature → ends' ≡ open_after most ends feature made → SkipNone (length ends) (drop k legs) → SkipNone (length ends') (drop (k + 1) legs)
 fit_step most k ends ends' legs leg feature made l is f b h =
     let on = fit_next (length ends) k legs leg l is h in
     let low = on.0 in
     let len = length_after most ends feature made (omega (arith, f, low)) in
     let same : max (length ends) (leg.feature + 1) ≡ length ends' = (let e = ap length b in omega (arith, f, len, e)) in
-    subst (λ n. Fit n (drop (k + 1) legs)) same on.1
+    subst (λ n. SkipNone n (drop (k + 1) legs)) same on.1

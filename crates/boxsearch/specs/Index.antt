@@ -1,8 +1,8 @@
 -- What contracts see of an index over pages.
-use Rattle.std.specs.Prelude.{Bool, true, None, suc, ◌+◌, ℕ, ◌≡◌, ◌<◌, ◌-◌, ◌^◌, ◌==◌, min, false, if◌then◌else◌, IsTrue, List, [], ◌∷◌, ◌++◌, map, length, slice_get, Some, All}
+use Rattle.std.specs.Prelude.{Bool, true, None, suc, ◌+◌, ℕ, ◌≡◌, ◌<◌, ◌-◌, ◌^◌, ◌==◌, min, false, if◌then◌else◌, IsTrue, List, [], ◌∷◌, ◌++◌, map, length, slice_get, slice_index_or, Some, All}
 use Rattle.std.specs.List.{Contains}
 use Rattle.legs.specs.Boxes.{BoxView}
-use Rattle.legs.specs.Costs.{ShapeView}
+use Rattle.legs.specs.Costs.{ShapeView, leg_feature}
 use Rattle.legs.specs.Finding.{FeaturePlace, Finding}
 use Rattle.legs.specs.Index.{feature_count}
 use Rattle.legs.specs.Legs.{IsLeg, LegView}
@@ -11,12 +11,13 @@ use Rattle.pages.specs.Store.{IsSynced}
 use Rattle.pages.specs.declared.payload.Payload.{Payload}
 use Rattle.legs.specs.declared.listed.Listed.{Ghosts}
 use Rattle.pagecache.specs.Cache.{Cache, IsClean, is_changed, pages_as_written, payload_of, sealed_payload}
-use Rattle.tbtree.specs.Content.{IsAstray, LeadsToLeg}
-use Rattle.tbtree.specs.Descent.{found_legs, node_in, pages_met}
+use Rattle.tbtree.specs.Content.{kids, IsAstray, LeadsToLeg}
+use Rattle.tbtree.specs.Descent.{found_legs, node_at, node_in, pages_met}
 use Rattle.tbtree.specs.Insert.{Stands, IsPlace}
+use Rattle.tbtree.specs.Needs.{IsFit}
 use Rattle.tbtree.specs.Nodes.{pages_of_cache}
 use Rattle.tbtree.specs.Shape.{IsShape}
-use Rattle.tbtree.specs.Stands.{empty_tree, no_place}
+use Rattle.tbtree.specs.Stands.{empty_tree, no_place, owner}
 use Rattle.tbtree.specs.declared.tree.Place.{Place}
 use Rattle.tbtree.specs.declared.tree.TbTree.{TbTree}
 use Rattle.chains.specs.declared.spans.LeafSpan.{LeafSpan}
@@ -85,6 +86,26 @@ leads_to i leg =
 abbrev pub ends_with : IndexView → LegView → Type 0
 ends_with i leg = IsTrue i.cache.store.is_faithful → EndsWith (pages_of_cache i.cache) i.places leg
 
+-- the place of a feature; of one that has none, as the next one, that of a feature without legs
+abbrev pub place_for : List Place → ℕ → Place
+place_for places feature = slice_index_or places feature no_place
+
+-- the page is not what these legs need of it at the place of their feature; anything where its store is not faithful
+abbrev pub is_unfit : IndexView → List LegView → ℕ → Type 0
+is_unfit i legs page =
+    IsTrue i.cache.store.is_faithful
+    → IsFit (pages_of_cache i.cache) i.tree (place_for i.places (owner leg_feature legs)) legs page
+    → ⊥
+
+-- the pages of the entries of the page; none where its store is not faithful
+abbrev pub children : IndexView → ℕ → List ℕ
+children i page =
+    if i.cache.store.is_faithful then kids (node_at (pages_of_cache i.cache) page) else []
+
+-- the page has no payload; anything where its store is not faithful
+abbrev pub is_unreadable : IndexView → ℕ → Type 0
+is_unreadable i page = IsTrue i.cache.store.is_faithful → payload_of i.cache page ≡ None
+
 -- the pages as written; none where its store is not faithful
 abbrev pub written : IndexView → List (List ℕ)
 written i = if i.cache.store.is_faithful then pages_as_written i.cache else []
@@ -151,8 +172,12 @@ words = record {
   is_bare = λ index page. is_bare index page;
   is_astray = λ index above page. is_astray index above page;
   leads_to = λ index leg. leads_to index leg;
+  is_unfit = λ index legs page. is_unfit index legs page;
+  children = λ index page. children index page;
+  is_unreadable = λ index page. is_unreadable index page;
   ends_with = λ index leg. ends_with index leg;
   counted = λ index. index.legs;
+  features = λ index. length index.places;
   is_sound = λ index. IsSound index;
   is_spent = λ index. index.tree.spent;
   faults = λ index. index.cache.store.faults;

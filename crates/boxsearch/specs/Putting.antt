@@ -1,11 +1,12 @@
 -- Helpers of private functions: what putting legs into its tree makes of an index.
 use Rattle.std.specs.Prelude.{ℕ, ◌≡◌, ◌≤◌, ◌+◌, ◌*◌, ◌-◌, ◌^◌, ◌<◌, min, true, false, IsTrue, OnOk, OnErr, IfErr, List, [], ◌∷◌, length, Result, Some, slice_get, set}
 use Rattle.legs.specs.Legs.{LegView}
-use Rattle.tbtree.specs.Faults.{RefusesWrite}
+use Rattle.tbtree.specs.Faults.{IfNamed, RefusesWrite}
 use Rattle.tbtree.specs.Insert.{Inserts}
 use Rattle.tbtree.specs.Content.{ContentGrows}
 use Rattle.tbtree.specs.Filling.{FillsLeaves}
 use Rattle.tbtree.specs.Joining.{Joins, JoinsAll}
+use Rattle.tbtree.specs.Needs.{BlamesNext, IsFit}
 use Rattle.tbtree.specs.Nodes.{pages_of_cache}
 use Rattle.tbtree.specs.Passes.{Passes, KeepsLength}
 use Rattle.tbtree.specs.declared.fault.TreeFault.{TreeFault}
@@ -37,11 +38,15 @@ pub record Puts (old new : IndexView) (leg : LegView)
       → OnOk result (ContentGrows (pages_of_cache old.cache) (pages_of_cache new.cache) old.tree
       new.tree (leg ∷ []))
   pub placed : OnOk result (is.legs ≡ was.legs + 1)
+  pub unmoved : OnErr result ((new.tree ≡ record old.tree { spent = true }) × (is ≡ was))
   pub shape : new.tree.shape ≡ old.tree.shape
+  pub room : 0 < old.tree.shape.leaf
   pub passes : Passes old.cache new.cache
   pub count : OnOk result (KeepsLength old.cache new.cache)
   pub few : new.cache.count < 2 ^ 32
   pub caused : IfErr result (RefusesWrite old.cache new.cache)
+  pub blames : IsTrue old.cache.store.is_faithful → IfErr result
+      (IfNamed (λ page. IsFit (pages_of_cache old.cache) old.tree was (leg ∷ []) page → ⊥))
   pub asked : OnOk result (new.cache.asked ≤ old.cache.asked + (2 * (new.tree.levels - 1) + 4))
   pub works : OnOk result (new.tree.spent ≡ false)
   pub spent : OnErr result (new.tree.spent ≡ true)
@@ -63,10 +68,13 @@ pub record PutsAll (old new : IndexView) (feature : ℕ) (legs : List LegView)
       new.tree legs)
   pub placed : OnOk result (is.legs ≡ was.legs + length legs)
   pub shape : new.tree.shape ≡ old.tree.shape
+  pub room : 0 < old.tree.shape.leaf
   pub passes : Passes old.cache new.cache
   pub count : OnOk result (KeepsLength old.cache new.cache)
   pub few : new.cache.count < 2 ^ 32
   pub caused : IfErr result (RefusesWrite old.cache new.cache)
+  pub blames : IsTrue old.cache.store.is_faithful → IfErr result
+      (IfNamed (BlamesNext old.cache new.cache old.tree new.tree was is legs))
   pub asked : OnOk result (new.cache.asked
       ≤ old.cache.asked + new.tree.levels
       + (new.tree.leaves - old.tree.leaves) * (new.tree.levels + 2))

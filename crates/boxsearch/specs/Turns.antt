@@ -1,6 +1,8 @@
 -- The turns of legs, leaf by leaf.
-use Rattle.std.specs.Prelude.{ℕ, ◌+◌, ◌-◌, ◌*◌, ◌%◌, ◌^◌, ◌==◌, ◌≤◌, min, max, if◌then◌else◌, List, [], ◌∷◌, ◌++◌, length, slice_index_or, slice_set}
+use Rattle.std.specs.Prelude.{ℕ, ◌+◌, ◌-◌, ◌*◌, ◌%◌, ◌^◌, ◌==◌, min, if◌then◌else◌, List, [], ◌∷◌, ◌++◌, length, slice_index_or, slice_set}
 use Rattle.legs.specs.Legs.{LegView}
+use Rattle.legs.specs.declared.index.IndexFault.{IndexFault}
+use Rattle.legs.specs.declared.index.IndexFault.TheVariants.{Damaged, Memory, Spent, Store, StoreFull}
 use Rattle.tbtree.specs.declared.tree.Place.{Place}
 use Rattle.boxsearch.specs.declared.turns.Open.{Open}
 use Rattle.boxsearch.specs.declared.turns.Turn.{Turn}
@@ -41,10 +43,13 @@ turns_from most ends base place (leg ∷ legs) =
     record { leaf = leaf_for ends leg.feature (base + place); place = place }
     ∷ turns_from most (open_after most ends leg.feature (base + place)) base (place + 1) legs
 
--- each leg's feature is there or is the next one
-abbrev pub Fit : ℕ → List LegView → Type 0
-Fit features [] = Unit {0}
-Fit features (leg ∷ legs) = (leg.feature ≤ features) × Fit (max features (leg.feature + 1)) legs
+-- turns are not told for want of memory, or of legs that skip a feature
+abbrev pub IsTurnFault : IndexFault → Type 0
+IsTurnFault Memory = Unit {0}
+IsTurnFault Store = ⊥
+IsTurnFault (Damaged page) = ⊥
+IsTurnFault StoreFull = ⊥
+IsTurnFault Spent = Unit {0}
 
 -- a turn's place in the order
 abbrev pub turn_number : Turn → ℕ

@@ -44,7 +44,8 @@ fn next_run(run: &mut Vec<Leg>, legs: &[Leg], turns: &[Turn]) -> Result<u32, All
     Ok(feature)
 }
 
-/// Puts legs of one feature into its leaves, whatever the order of the legs before them.
+/// Puts legs of one feature into its leaves, whatever the order of the legs before them. Legs that skip a feature have no
+/// turns, so that there is a place for each.
 fn join<S: PageStore>(
     index: &mut TreeIndex<S>,
     feature: usize,
@@ -66,7 +67,7 @@ fn join<S: PageStore>(
     }
     if !index.has_place(feature) {
         index.spend();
-        return Err(IndexFault::Spent);
+        return Err(IndexFault::Memory);
     }
     answer(index.put_all(feature, legs))
 }

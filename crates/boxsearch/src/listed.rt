@@ -11,10 +11,10 @@ use pages::PageStore;
 use timebase::Period;
 
 impl<S: PageStore> Listed for TreeIndex<S> {
-    ghost use Rattle.std.specs.Prelude.{IsTrue, Some, min, ◌≡◌, ◌-◌, ◌^◌};
+    ghost use Rattle.std.specs.Prelude.{IsTrue, Some, length, min, ◌≡◌, ◌-◌, ◌^◌};
     ghost use Rattle.pagecache.specs.Cache.{IsClean};
     ghost use Rattle.boxsearch.specs.Known.{KnowsBackTo};
-    ghost use Rattle.boxsearch.specs.Index.{comes_to, content, denies, ends_with, finds, found_by, is_astray, is_bare, leads_to, tells, written, IsSound, IsMarked};
+    ghost use Rattle.boxsearch.specs.Index.{children, comes_to, content, denies, ends_with, finds, found_by, is_astray, is_bare, is_unreadable, is_unfit, leads_to, tells, written, IsSound, IsMarked};
     ghost use Rattle.pages.specs.Store.{IsSynced};
 
     ghost content = { λ index. content index };
@@ -33,9 +33,17 @@ impl<S: PageStore> Listed for TreeIndex<S> {
 
     ghost leads_to = { λ index leg. leads_to index leg };
 
+    ghost is_unfit = { λ index legs page. is_unfit index legs page };
+
+    ghost children = { λ index page. children index page };
+
+    ghost is_unreadable = { λ index page. is_unreadable index page };
+
     ghost ends_with = { λ index leg. ends_with index leg };
 
     ghost counted = { λ index. index.legs };
+
+    ghost features = { λ index. length index.places };
 
     ghost is_sound = { λ index. IsSound index };
 
@@ -112,9 +120,9 @@ impl<S: PageStore> LegIndex for TreeIndex<S> {
         let most = u64::from(self.tree.shape.leaf());
         let turns = match turns_of(self.alloc, self.places.as_slice(), most, legs) {
             Ok(turns) => turns,
-            Err(_fault) => {
+            Err(fault) => {
                 self.tree.spent = true;
-                return Err(IndexFault::Memory);
+                return Err(fault);
             }
         };
         join_all(self, legs, turns.as_slice())

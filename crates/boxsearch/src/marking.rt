@@ -1,7 +1,7 @@
 //! The mark of a store that is not finished, in its page 0.
-ghost use Rattle.std.specs.Prelude.{◌≡◌, ◌<◌, drop, IsTrue, IfErr, OnErr, OnOk};
+ghost use Rattle.std.specs.Prelude.{◌≡◌, ◌<◌, drop, None, IsTrue, IfErr, OnErr, OnOk};
 ghost use Rattle.pages.specs.Store.{Faulted, IsSynced};
-ghost use Rattle.pagecache.specs.Cache.{IsClean, pages_as_written};
+ghost use Rattle.pagecache.specs.Cache.{IsClean, pages_as_written, payload_of};
 ghost use Rattle.boxsearch.specs.Index.{IsMarked, MarksFirst, SyncsMark};
 ghost use Rattle.boxsearch.specs.Marking.{Marks, IsNotMarked};
 
@@ -22,6 +22,8 @@ pub(crate) fn mark_page<S: PageStore>(cache: &mut PageCache<S>) -> Result<(), Ca
     ensures first { OnErr result (IsTrue cache.old.store.is_faithful → IsClean cache.old
         → (Faulted cache.old.store cache.new.store → ⊥)
         → pages_as_written cache.new ≡ pages_as_written cache.old) }
+    ensures there { OnOk result (IsTrue cache.old.store.is_faithful
+        → payload_of cache.old 0 ≡ None → ⊥) }
     ensures caused { IfErr result (IsNotMarked cache.old cache.new) }
 {
     let is_changed = cache.is_changed(0);

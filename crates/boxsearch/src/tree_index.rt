@@ -181,6 +181,7 @@ impl<S: PageStore> TreeIndex<S> {
         requires feature { leg.feature < length self.old.places }
         ensures { Puts self.old self.new leg result }
     {
+        prove!(self.tree.shape.leaf() > 0);
         let (alloc, feature) = (self.alloc, leg.feature as usize);
         self.known = Vec::new(alloc);
         let mut place = self.places[feature];
@@ -199,6 +200,7 @@ impl<S: PageStore> TreeIndex<S> {
         requires feature { feature < length self.old.places }
         ensures { PutsAll self.old self.new feature legs.now result }
     {
+        prove!(self.tree.shape.leaf() > 0);
         let memory = self.alloc;
         self.known = Vec::new(memory);
         let mut place = self.places[feature];

@@ -1,8 +1,9 @@
 //! The order in which legs fill leaf after leaf.
 ghost use Rattle.std.specs.Prelude.{◌≡◌, ◌+◌, ◌<◌, ◌≤◌, ◌^◌, length, IfOk, IfErr, OnOk};
 ghost use Rattle.std.specs.List.Sorted.{IsPermutation, IsNonDecreasingBy};
+ghost use Rattle.legs.specs.Index.{SkipNone};
 ghost use Rattle.legs.specs.declared.index.IndexFault.TheVariants.{Memory};
-ghost use Rattle.boxsearch.specs.Turns.{leaf_for, open_after, opened_from, turn_number, turns_from, Fit};
+ghost use Rattle.boxsearch.specs.Turns.{leaf_for, open_after, opened_from, turn_number, turns_from, IsTurnFault};
 
 use legs::{IndexFault, Leg};
 use std::alloc::Global;
@@ -48,6 +49,7 @@ fn take(ends: &mut Vec<Open>, most: u64, feature: usize, made: u32) -> Result<u3
     ensures leaf { IfOk result (λ leaf. leaf ≡ leaf_for ends.old.items feature made) }
     ensures after { OnOk result (ends.new.items ≡ open_after most ends.old.items feature made) }
     ensures only { IfErr result (λ fault. feature ≤ length ends.old.items → fault ≡ Memory) }
+    ensures kinds { IfErr result IsTurnFault }
 {
     if feature == ends.len() {
         ends.push(Open {
@@ -88,7 +90,9 @@ fn turns_as_they_stand(
     requires few { length places.now + length legs.now < 2 ^ 32 }
     ensures turns { IfOk result (λ turns. turns.items
         ≡ turns_from most (opened_from most 0 places.now) (length places.now) 0 legs.now) }
-    ensures only { IfErr result (λ fault. Fit (length places.now) legs.now → fault ≡ Memory) }
+    ensures only { IfErr result (λ fault. SkipNone (length places.now) legs.now
+        → fault ≡ Memory) }
+    ensures kinds { IfErr result IsTurnFault }
 {
     let mut ends = opened(alloc, places, most)?;
     let mut turns = Vec::with_capacity(alloc, legs.len())?;
@@ -117,7 +121,9 @@ pub(crate) fn turns_of(
         (turns_from most (opened_from most 0 places.now) (length places.now) 0 legs.now)
         turns.items) }
     ensures rises { IfOk result (λ turns. IsNonDecreasingBy turn_number turns.items) }
-    ensures only { IfErr result (λ fault. Fit (length places.now) legs.now → fault ≡ Memory) }
+    ensures only { IfErr result (λ fault. SkipNone (length places.now) legs.now
+        → fault ≡ Memory) }
+    ensures kinds { IfErr result IsTurnFault }
 {
     if places.len() > u32::MAX as usize || legs.len() > u32::MAX as usize - places.len() {
         return Err(IndexFault::Memory);

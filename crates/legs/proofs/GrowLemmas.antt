@@ -1,6 +1,7 @@
 -- Legs put at the end of an index, one after another.
-use Rattle.std.proofs.Common.{◌≡◌, ◌≤◌, ◌∙◌, ◌++◌, true, Err, ◌∷◌, [], false, ap, sym, subst, refl, length, All, None, Some, List, arith, append_assoc}
+use Rattle.std.proofs.Common.{ℕ, ⊎_elim, inr, max, ◌+◌, ◌≡◌, ◌≤◌, ◌∙◌, ◌++◌, true, Err, ◌∷◌, [], false, ap, sym, subst, refl, length, All, None, Some, List, arith, append_assoc}
 use Rattle.std.specs.List.{Contains}
+use Rattle.std.specs.Prelude.{IsErrOf}
 use Rattle.std.proofs.lemmas.Int.{clamps}
 use Rattle.std.proofs.lemmas.List.{append-nil}
 use Rattle.legs.specs.Finding.{no_finding}
@@ -8,9 +9,10 @@ use Rattle.legs.specs.Boxes.{box_of}
 use Rattle.legs.specs.Legs.{IsLeg, LegView}
 use Rattle.legs.specs.Places.{ListView}
 use Rattle.legs.specs.Questions.{answer_in}
-use Rattle.legs.specs.Index.{last_leg_of, CanFollowInTurn}
-use Rattle.legs.specs.Asking.{Grows, IsLater, LeadsStill, Leaves, LegRefusals}
+use Rattle.legs.specs.Index.{feature_count, features_after, last_leg_of, CanFollowInTurn, SkipNone}
+use Rattle.legs.specs.Asking.{Blames, Grows, IsLater, LeadsStill, Leaves, LegRefusals, SkipsFeature}
 use Rattle.legs.specs.declared.index.IndexFault.{IndexFault}
+use Rattle.legs.specs.declared.index.IndexFault.TheVariants as index
 use Rattle.legs.specs.declared.listed.Listed.{Ghosts}
 
 -- what contracts say of an index that keeps a list
@@ -24,8 +26,12 @@ list_words = record {
   is_bare = λ index page. ⊥;
   is_astray = λ index above page. ⊥;
   leads_to = λ index leg. Contains index.legs leg;
+  is_unfit = λ index legs page. ⊥;
+  children = λ index page. [];
+  is_unreadable = λ index page. ⊥;
   ends_with = λ index leg. last_leg_of leg.feature index.legs ≡ Some leg;
   counted = λ index. length index.legs;
+  features = λ index. feature_count index.legs;
   is_sound = λ index. (index.spent ≡ false) × All IsLeg index.legs;
   is_spent = λ index. index.spent;
   faults = λ index. 0;
@@ -63,15 +69,29 @@ growing-end g old now all so_far = λ sound turn.
     let at = so_far sound turn in
     record { sound = at.0; content = sym (append-nil (g.content now)) ∙ at.2 }
 
+-- what is left skips no feature where all did not
+skip_rest : (n : ℕ) (done rest : List LegView) → SkipNone n (done ++ rest) → SkipNone (features_after n done) rest
+skip_rest n [] rest h = h
+skip_rest n (x ∷ xs) rest h = skip_rest (max n (x.feature + 1)) xs rest h.1
+
 -- a leg that is refused spends the index
-pub growing-refused : {I : Type 0} (g : Ghosts I) (old now new : I) (all left : List LegView) (leg : LegView) (fault : IndexFault) → (g.is_spent old ≡ true → ⊥) → g.faults old ≤ g.faults now → IsGrowing g old now all (leg ∷ left)
+pub growing-refused : {I : Type 0} (g : Ghosts I) (old now new : I) (all done left : List LegView) (leg : LegView) (fault : IndexFault) → (g.is_spent old ≡ true → ⊥) → (g.is_spent now ≡ true → ⊥) → g.features now ≡ features_after (g.features old) done → done ++ leg ∷ left ≡ all → g.faults old ≤ g.faults now → IsGrowing g old now all (leg ∷ left)
+    → ((page : ℕ) → IsErrOf {T = Unit {0}} (Err fault) (index.Damaged page) → Blames g old new all page)
     → LegRefusals {A = Unit {0}} g now new (leg ∷ []) (Err fault) → LegRefusals {A = Unit {0}} g old new all (Err fault)
-growing-refused g old now new all left leg fault works faults so_far r = record {
+growing-refused g old now new all done left leg fault works still features are faults so_far blames r = record {
   spent = r.spent;
   was_spent = λ e. absurd (works e);
   sound = λ s w. (let at = so_far s w in r.sound at.0 (at.1.0, tt));
   store = λ e. (let risen = r.store e in omega (arith, clamps, faults, risen));
   full = r.full;
+  skips = λ e. inr
+      (⊎_elim
+      (λ (was : g.is_spent now ≡ true). absurd (still was))
+      (λ (skips : SkipsFeature g now (leg ∷ [])) (none : SkipNone (g.features old) all).
+      let rest = skip_rest (g.features old) done (leg ∷ left) (subst (SkipNone (g.features old)) (sym are) none) in
+      skips (subst (λ n. leg.feature ≤ n) (sym features) rest.0, tt))
+      (r.skips e));
+  blames = blames;
 }
 
 pub later-trans : {I : Type 0} (g : Ghosts I) (a b c : I) → IsLater g a b → IsLater g b c → IsLater g a c
@@ -83,7 +103,17 @@ later-trans g a b c p q = record {
 }
 
 pub ways-refl : {I : Type 0} (g : Ghosts I) (a : I) → LeadsStill g a a
-ways-refl g a = record { finds = λ meets leg h. h; comes = λ meets above page h. h; bare = λ page h. h; ends = λ leg h. h; astray = λ above page h. h; leads = λ leg h. h }
+ways-refl g a = record {
+  finds = λ meets leg h. h;
+  comes = λ meets above page h. h;
+  bare = λ page h. h;
+  ends = λ leg h. h;
+  astray = λ above page h. h;
+  leads = λ leg h. h;
+  features = refl;
+  children = λ page. refl;
+  unfit = λ legs page h. h;
+}
 
 ways-trans : {I : Type 0} (g : Ghosts I) (a b c : I) → LeadsStill g a b → LeadsStill g b c → LeadsStill g a c
 ways-trans g a b c p q = record {
@@ -93,6 +123,9 @@ ways-trans g a b c p q = record {
   ends = λ leg h. q.ends leg (p.ends leg h);
   astray = λ above page h. p.astray above page (q.astray above page h);
   leads = λ leg h. p.leads leg (q.leads leg h);
+  features = q.features ∙ p.features;
+  children = λ page. q.children page ∙ p.children page;
+  unfit = λ legs page h. p.unfit legs page (q.unfit legs page h);
 }
 
 pub leaves-refl : {I : Type 0} (g : Ghosts I) (a : I) → Leaves g a a

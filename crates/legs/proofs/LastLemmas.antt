@@ -1,5 +1,5 @@
 -- The last leg of a feature.
-use Rattle.std.proofs.Common.{ℕ, suc, ◌+◌, ◌-◌, ◌*◌, ◌<◌, ◌≤◌, ◌≤ℤ◌, ◌≡◌, ◌≢◌, ◌==◌, ◌⊎◌, inl, inr, true, false, cond, ⊎_elim, refl, sym, ap, ◌∙◌, subst, arith, eq-eqb, All, List, [], ◌∷◌, ◌++◌, take, length, get_or, Option, Some, None, slice_get, Result}
+use Rattle.std.proofs.Common.{ℕ, suc, ◌+◌, ◌-◌, ◌*◌, ◌<◌, ◌≤◌, ◌≤ℤ◌, ◌≡◌, ◌≢◌, ◌==◌, max, ◌⊎◌, inl, inr, true, false, cond, ⊎_elim, refl, sym, ap, ◌∙◌, subst, arith, eq-eqb, All, List, [], ◌∷◌, ◌++◌, take, length, get_or, Option, Some, None, slice_get, Result}
 use Rattle.std.specs.List.{count_by, filter, fold, Contains}
 use Rattle.std.proofs.lemmas.Bool.{eqb-true, ne_eqb, true≢false}
 use Rattle.std.proofs.lemmas.Grind.{fold-append}
@@ -8,9 +8,9 @@ use Rattle.std.proofs.lemmas.List.Elements.{All-append, All-cons, All-contains, 
 use Rattle.std.proofs.lemmas.List.Sums.{length-filter, sum_by-append}
 use Rattle.std.proofs.Math.Nat.{add-mul}
 use Rattle.std.proofs.lemmas.Nat.{mul-le}
-use Rattle.legs.specs.Asking.{placed_legs, HasAdded, NoneBefore, Starts, TakesRoom}
-use Rattle.legs.specs.Finding.{Finding}
-use Rattle.legs.specs.Index.{is_of, last_leg_of, legs_of}
+use Rattle.legs.specs.Asking.{placed_legs, Blames, HasAdded, NoneBefore, Starts, TakesRoom}
+use Rattle.legs.specs.Finding.{place_in, Finding, IsMade, IsMadeEntry, MovesLast}
+use Rattle.legs.specs.Index.{feature_count, features_after, is_of, last_leg_of, legs_of}
 use Rattle.legs.specs.Boxes.{BoxView, box_of}
 use Rattle.legs.specs.Legs.{LegView, is_live}
 use Rattle.legs.specs.Places.{ListView}
@@ -82,6 +82,58 @@ count_then : (f : ℕ) (xs ys : List LegView) → count_by (is_of f) (xs ++ ys) 
 count_then f xs ys = sum_by-append (λ leg. cond (is_of f leg) 1 0) xs ys
 
 -- leaves and pages more, and then others
+-- no fewer pages
+more_pages : (a b : Finding) (m : ℕ) → TakesRoom a b m → a.pages ≤ b.pages
+more_pages a b m p = (let x = p.held in let y = p.leaves in omega (arith, x, y))
+
+-- a page that was made, first or then
+made_then : (a b c : Finding) (m n : ℕ) → TakesRoom a b m → TakesRoom b c n → (q : ℕ) → IsMade a b q ⊎ IsMade b c q → IsMade a c q
+made_then a b c m n p r q =
+    let one = more_pages a b m p in
+    let two = more_pages b c n r in
+    ⊎_elim
+    (λ (e : IsMade a b q). (e.0, (let h = e.1 in omega (arith, h, two))))
+    (λ (e : IsMade b c q). ((let l = e.0 in omega (arith, l, one)), e.1))
+
+-- an entry that was made
+entry_then : (a b c : Finding) (m n : ℕ) → TakesRoom a b m → TakesRoom b c n → (p q : ℕ) → IsMadeEntry a b p q ⊎ IsMadeEntry b c p q → IsMadeEntry a c p q
+entry_then a b c m n r s p q =
+    let one = more_pages a b m r in
+    ⊎_elim
+    (λ (e : IsMadeEntry a b p q). ⊎_elim (λ (f : IsMade a b q). inl (made_then a b c m n r s q (inl f))) (λ (f : (a.pages ≤ p) × (q ≡ a.root)). inr f) e)
+    (λ (e : IsMadeEntry b c p q).
+    ⊎_elim
+    (λ (f : IsMade b c q). inl (made_then a b c m n r s q (inr f)))
+    (λ (f : (b.pages ≤ p) × (q ≡ b.root)).
+    ⊎_elim
+    (λ (root : b.root ≡ a.root). inr ((let l = f.0 in omega (arith, l, one)), f.1 ∙ root))
+    (λ (root : IsMade a b b.root). inl (made_then a b c m n r s q (inl (subst (IsMade a b) (sym f.1) root))))
+    r.root)
+    e)
+
+-- the last leaf of a feature
+moves_then : (a b c : Finding) (m n : ℕ) → TakesRoom a b m → TakesRoom b c n → (f : ℕ) → MovesLast a b f → MovesLast b c f → MovesLast a c f
+moves_then a b c m n r s f p q =
+    let first = r.leaves in
+    let then = s.leaves in
+    let was = place_in a f in
+    let mid = place_in b f in
+    let is = place_in c f in
+    ⊎_elim
+    (λ (e : (is.last ≡ mid.last) × (is.last_index ≡ mid.last_index)).
+    ⊎_elim
+    (λ (d : (mid.last ≡ was.last) × (mid.last_index ≡ was.last_index)). inl (e.0 ∙ d.0, e.1 ∙ d.1))
+    (λ (d : IsMade a b mid.last × (a.leaves ≤ mid.last_index) × (mid.last_index < b.leaves)).
+    let same = e.1 in
+    let low = d.1 in
+    let high = d.2 in
+    inr (made_then a b c m n r s is.last (inl (subst (IsMade a b) (sym e.0) d.0)), omega (arith, same, low), omega (arith, same, high, then)))
+    p)
+    (λ (e : IsMade b c is.last × (b.leaves ≤ is.last_index) × (is.last_index < c.leaves)).
+    let low = e.1 in
+    inr (made_then a b c m n r s is.last (inr e.0), omega (arith, low, first), e.2))
+    q
+
 room_then : (a b c : Finding) (m n all : ℕ) → all ≡ m + n → TakesRoom a b m → TakesRoom b c n → TakesRoom a c all
 room_then a b c m n all many p q =
     let first = p.leaves in
@@ -98,6 +150,15 @@ room_then a b c m n all many p q =
       few = (let x = p.few in let y = q.few in omega (arith, x, y, many));
       low = (let x = p.low in let y = q.low in omega (arith, x, y, first, then));
       pages = omega (arith, one, two, w, s);
+      held = (let x = p.held in let y = q.held in omega (arith, x, y));
+      root = ⊎_elim
+          (λ (e : c.root ≡ b.root).
+          ⊎_elim
+          (λ (f : b.root ≡ a.root). inl (e ∙ f))
+          (λ (f : IsMade a b b.root). inr (made_then a b c m n p q c.root (inl (subst (IsMade a b) (sym e) f))))
+          p.root)
+          (λ (e : IsMade b c c.root). inr (made_then a b c m n p q c.root (inr e)))
+          q.root;
     }
 
 -- what answers a question about a feature, of no legs, of legs and others, and of legs that are alike for it
@@ -113,7 +174,7 @@ pub answer_alike : (f : ℕ) (period : Option PeriodView) (xs ys : List LegView)
 answer_alike f None xs ys e = e
 answer_alike f (Some p) xs ys e = ap (filter (is_live p)) e
 
-all_parts : (P : LegView → Type 0) (xs ys : List LegView) → All P (xs ++ ys) → All P xs × All P ys
+pub all_parts : (P : LegView → Type 0) (xs ys : List LegView) → All P (xs ++ ys) → All P xs × All P ys
 all_parts P [] ys h = (All-nil P, h)
 all_parts P (x ∷ xs) ys h =
     let on = all_parts P xs ys (All-tail P x (xs ++ ys) h) in
@@ -123,6 +184,60 @@ late_parts : (period : Option PeriodView) (xs ys : List LegView) → NoneBefore 
 late_parts None xs ys h = (tt, tt)
 late_parts (Some p) xs ys h = all_parts (λ leg. p.start ≤ℤ leg.t0) xs ys h
 
+-- the legs of a feature are among them, and each is one of its feature
+among : (f : ℕ) (zs : List LegView) → All (λ l. Contains zs l) (legs_of f zs)
+among f zs = All-filter (is_of f) (λ l. Contains zs l) zs (All-contains_itself zs)
+
+of_own : (leg : LegView) (zs : List LegView) → Contains zs leg → Contains (legs_of leg.feature zs) leg
+of_own leg [] h = absurd (let l = h.1 in omega (arith, l))
+of_own leg (z ∷ zs) h =
+    (elim (z.feature == leg.feature) as (λ v. (z.feature == leg.feature) ≡ v → Contains (cond v (z ∷ legs_of leg.feature zs) (legs_of leg.feature zs)) leg) [
+      | true ↦ λ is. ⊎_elim
+          (λ (one : Contains (z ∷ []) leg). Contains-append_left (z ∷ []) (legs_of leg.feature zs) leg one)
+          (λ (later : Contains zs leg). Contains-append_right (z ∷ []) (legs_of leg.feature zs) leg (of_own leg zs later))
+          (Contains-append_cases (z ∷ []) zs leg h)
+      | false ↦ λ is. ⊎_elim
+          (λ (one : Contains (z ∷ []) leg). absurd (true≢false (sym (eq-eqb z.feature leg.feature (ap (λ (l : LegView). l.feature) (All-contains (λ l. z ≡ l) (z ∷ []) leg (All-cons (λ l. z ≡ l) z [] refl (All-nil (λ l. z ≡ l))) one))) ∙ is)))
+          (λ (later : Contains zs leg). of_own leg zs later)
+          (Contains-append_cases (z ∷ []) zs leg h)
+    ]) refl
+
+-- legs of which each feature has the same ones
+alike_has : (xs ys : List LegView) → ((f : ℕ) → legs_of f xs ≡ legs_of f ys) → (leg : LegView) → Contains xs leg → Contains ys leg
+alike_has xs ys same leg h = All-contains (λ l. Contains ys l) (legs_of leg.feature ys) leg (among leg.feature ys) (subst (λ ls. Contains ls leg) (same leg.feature) (of_own leg xs h))
+
+-- features do not go, and each of the legs' is there
+pub count_up : (legs : List LegView) (n : ℕ) → n ≤ features_after n legs
+count_up [] n = omega arith
+count_up (x ∷ xs) n = let rest = count_up xs (max n (x.feature + 1)) in omega (arith, rest)
+
+features_has : (legs : List LegView) (n : ℕ) (leg : LegView) → Contains legs leg → leg.feature < features_after n legs
+features_has [] n leg h = absurd (let l = h.1 in omega (arith, l))
+features_has (x ∷ xs) n leg h =
+    ⊎_elim
+    (λ (one : Contains (x ∷ []) leg).
+    let same : x ≡ leg = All-contains (λ l. x ≡ l) (x ∷ []) leg (All-cons (λ l. x ≡ l) x [] refl (All-nil (λ l. x ≡ l))) one in
+    let up = count_up xs (max n (x.feature + 1)) in
+    let f : x.feature ≡ leg.feature = ap (λ (l : LegView). l.feature) same in
+    omega (arith, up, f))
+    (λ (later : Contains xs leg). features_has xs (max n (x.feature + 1)) leg later)
+    (Contains-append_cases (x ∷ []) xs leg h)
+
+features_most : (legs : List LegView) (n m : ℕ) → n ≤ m → All (λ leg. leg.feature < m) legs → features_after n legs ≤ m
+features_most [] n m low each = low
+features_most (x ∷ xs) n m low each =
+    let here = All-head (λ (leg : LegView). leg.feature < m) x xs each in
+    features_most xs (max n (x.feature + 1)) m (omega (arith, low, here)) (All-tail (λ (leg : LegView). leg.feature < m) x xs each)
+
+features_alike : (n : ℕ) (xs ys : List LegView) → ((f : ℕ) → legs_of f xs ≡ legs_of f ys) → features_after n xs ≡ features_after n ys
+features_alike n xs ys same =
+    let least : (xs ys : List LegView) → ((f : ℕ) → legs_of f xs ≡ legs_of f ys) → features_after n xs ≤ features_after n ys = λ xs ys same.
+    features_most xs n (features_after n ys) (count_up ys n)
+    (All-weaker (λ l. Contains xs l) (λ (l : LegView). l.feature < features_after n ys) (λ l h. features_has ys n l (alike_has xs ys same l h)) xs (All-contains_itself xs)) in
+    let one = least xs ys same in
+    let two = least ys xs (λ f. sym (same f)) in
+    omega (arith, one, two)
+
 module _ {I : Type 0} (g : Ghosts I) where
   -- no leg changes nothing
   pub takes_none : (a : I) → g.is_spent a ≡ false → HasAdded g a a []
@@ -131,13 +246,16 @@ module _ {I : Type 0} (g : Ghosts I) where
     put = λ meets prune. All-nil (λ leg. meets (box_of leg) ≡ true → g.finds a meets leg);
     comes = λ meets prune above page h. h;
     bare = λ page h. h;
+    children = λ fa page. ([], sym (append-nil (g.children a page)), All-nil (IsMadeEntry (g.found_by a) (g.found_by a) page));
+    moves = λ fa f. inl (refl, refl);
+    features = refl;
     astray = λ above page h. h;
     leads = λ leg h. inl h;
     top = λ some h. (refl, refl);
     tracks = λ f period was late h. subst (g.tells a (OfFeature f period)) (sym (append-nil was) ∙ ap (λ l. was ++ l) (sym (answer_none f period))) h;
     rests = λ f period none. record { told = λ l h. h; denied = λ p h. h };
     counted = λ few. omega arith;
-    room = λ fa. (fa, record { leaves = omega arith; levels = omega arith; few = omega arith; low = omega arith; pages = omega arith });
+    room = λ fa. (fa, record { leaves = omega arith; levels = omega arith; few = omega arith; low = omega arith; pages = omega arith; held = omega arith; root = inl refl });
     works = works;
     plan = refl;
     last = λ f leg e. absurd (some_not leg (sym e));
@@ -155,6 +273,25 @@ module _ {I : Type 0} (g : Ghosts I) where
         put = λ meets prune. All-append (λ leg. meets (box_of leg) ≡ true → g.finds c meets leg) xs ys (All-weaker (λ leg. meets (box_of leg) ≡ true → g.finds b meets leg) (λ leg. meets (box_of leg) ≡ true → g.finds c meets leg) (λ leg h t. q.kept meets prune leg (h t)) xs (p.put meets prune)) (q.put meets prune);
         comes = λ meets prune above page h. q.comes meets prune above page (p.comes meets prune above page h);
         bare = λ page h. q.bare page (p.bare page h);
+        children = λ fa page.
+            let x = p.room fa in
+            let y = q.room x.0 in
+            let first = p.children fa page in
+            let then = q.children x.0 page in
+            let A = g.found_by a in
+            let B = g.found_by b in
+            let C = g.found_by c in (
+              first.0 ++ then.0,
+              then.1 ∙ ap (λ l. l ++ then.0) first.1 ∙ append_assoc (g.children a page) first.0 then.0,
+              All-append (IsMadeEntry A C page) first.0 then.0
+                  (All-weaker (IsMadeEntry A B page) (IsMadeEntry A C page) (λ n h. entry_then A B C (length xs) (length ys) x.1 y.1 page n (inl h)) first.0 first.2)
+                  (All-weaker (IsMadeEntry B C page) (IsMadeEntry A C page) (λ n h. entry_then A B C (length xs) (length ys) x.1 y.1 page n (inr h)) then.0 then.2),
+            );
+        moves = λ fa f.
+            let x = p.room fa in
+            let y = q.room x.0 in
+            moves_then (g.found_by a) (g.found_by b) (g.found_by c) (length xs) (length ys) x.1 y.1 f (p.moves fa f) (q.moves x.0 f);
+        features = q.features ∙ ap (λ n. features_after n ys) p.features ∙ sym (fold-append (λ count (leg : LegView). max count (leg.feature + 1)) (g.features a) xs ys);
         astray = λ above page h. p.astray above page (q.astray above page h);
         leads = λ leg h. ⊎_elim
             (λ (k : g.leads_to b leg). ⊎_elim (λ (o : g.leads_to a leg). inl o) (λ (o : Contains xs leg). inr (Contains-append_left xs ys leg o)) (p.leads leg k))
@@ -221,6 +358,11 @@ module _ {I : Type 0} (g : Ghosts I) where
     put = p.put;
     comes = λ meets prune above page h. p.comes meets prune above page (s.ways.comes meets above page h);
     bare = λ page h. p.bare page (s.ways.bare page h);
+    children = λ fa page.
+        let added = p.children (s.later.faithful fa) page in
+        (added.0, added.1 ∙ ap (λ l. l ++ added.0) (s.ways.children page), subst (λ x. All (IsMadeEntry x (g.found_by c) page) added.0) s.found_by added.2);
+    moves = λ fa f. subst (λ x. MovesLast x (g.found_by c) f) s.found_by (p.moves (s.later.faithful fa) f);
+    features = p.features ∙ ap (λ n. features_after n legs) s.ways.features;
     astray = λ above page h. s.ways.astray above page (p.astray above page h);
     leads = λ leg h. ⊎_elim (λ (k : g.leads_to b leg). inl (s.ways.leads leg k)) (λ (k : Contains legs leg). inr k) (p.leads leg h);
     top = λ some h.
@@ -243,6 +385,24 @@ module _ {I : Type 0} (g : Ghosts I) where
     place_legs = λ f over. p.place_legs f (λ e. over (sym s.later.plan ∙ e)) ∙ ap (λ x. placed_legs x f + count_by (is_of f) legs) s.found_by;
   }
 
+  -- a page that they blame
+  pub blames_started : {A : Type 0} (a b c : I) (legs : List LegView) (page : ℕ) (r : Result A IndexFault) → Starts g a b r → Blames g b c legs page → Blames g a c legs page
+  blames_started a b c legs page r s n = record {
+    first = n.first;
+    next = n.next;
+    others = n.others;
+    order = n.order;
+    feature = n.feature;
+    one = n.one;
+    some = n.some;
+    mid = n.mid;
+    none = λ e. s.ways.unfit n.next page (n.none e);
+    added = takes_started a b n.mid n.first r s n.added;
+    stays = λ fa. n.stays (s.later.faithful fa);
+    fits = λ shape e. n.fits shape (s.later.plan ∙ e);
+    unfit = n.unfit;
+  }
+
   -- a leg more of some
   pub takes_more : (a b c : I) (legs : List LegView) (i : ℕ) (leg : LegView) → i < length legs → leg ≡ get_or legs i leg → HasAdded g a b (take i legs) → HasAdded g b c (leg ∷ []) → HasAdded g a c (take (i + 1) legs)
   takes_more a b c legs i leg l is p q = subst (λ ls. HasAdded g a c ls) (sym (take_more legs i leg l ∙ ap (λ x. take i legs ++ x ∷ []) (sym is))) (takes_then a b c (take i legs) (leg ∷ []) p q)
@@ -260,10 +420,13 @@ module _ {I : Type 0} (g : Ghosts I) where
             All-contains (λ leg. meets (box_of leg) ≡ true → g.finds b meets leg) (legs_of leg.feature xs) leg (All-filter (is_of leg.feature) (λ leg. meets (box_of leg) ≡ true → g.finds b meets leg) xs (p.put meets prune)) there;
         comes = p.comes;
         bare = p.bare;
+        children = p.children;
+        moves = p.moves;
+        features = p.features ∙ features_alike (g.features a) xs ys same;
         astray = p.astray;
         leads = λ leg h. ⊎_elim
             (λ (k : g.leads_to a leg). inl k)
-            (λ (k : Contains xs leg). inr (All-contains (λ l. Contains ys l) (legs_of leg.feature ys) leg (among leg.feature ys) (subst (λ ls. Contains ls leg) (same leg.feature) (of_own leg xs k))))
+            (λ (k : Contains xs leg). inr (alike_has xs ys same leg k))
             (p.leads leg h);
         top = p.top;
         tracks = λ f period was late h. subst (λ l. g.tells b (OfFeature f period) (was ++ l)) (answer_alike f period xs ys (same f)) (p.tracks f period was (subst (NoneBefore period) (sym (same f)) late) h);
@@ -277,23 +440,6 @@ module _ {I : Type 0} (g : Ghosts I) where
         places = λ f place e h. p.places f place (lasts f ∙ e) h;
         place_legs = λ f over. p.place_legs f over ∙ ap (λ n. placed_legs (g.found_by a) f + n) (sym (length-filter (is_of f) xs) ∙ ap length (same f) ∙ length-filter (is_of f) ys);
       }
-    where
-      among : (f : ℕ) (zs : List LegView) → All (λ l. Contains zs l) (legs_of f zs)
-      among f zs = All-filter (is_of f) (λ l. Contains zs l) zs (All-contains_itself zs)
-
-      of_own : (leg : LegView) (zs : List LegView) → Contains zs leg → Contains (legs_of leg.feature zs) leg
-      of_own leg [] h = absurd (let l = h.1 in omega (arith, l))
-      of_own leg (z ∷ zs) h =
-          (elim (z.feature == leg.feature) as (λ v. (z.feature == leg.feature) ≡ v → Contains (cond v (z ∷ legs_of leg.feature zs) (legs_of leg.feature zs)) leg) [
-            | true ↦ λ is. ⊎_elim
-                (λ (one : Contains (z ∷ []) leg). Contains-append_left (z ∷ []) (legs_of leg.feature zs) leg one)
-                (λ (later : Contains zs leg). Contains-append_right (z ∷ []) (legs_of leg.feature zs) leg (of_own leg zs later))
-                (Contains-append_cases (z ∷ []) zs leg h)
-            | false ↦ λ is. ⊎_elim
-                (λ (one : Contains (z ∷ []) leg). absurd (true≢false (sym (eq-eqb z.feature leg.feature (ap (λ (l : LegView). l.feature) (All-contains (λ l. z ≡ l) (z ∷ []) leg (All-cons (λ l. z ≡ l) z [] refl (All-nil (λ l. z ≡ l))) one))) ∙ is)))
-                (λ (later : Contains zs leg). of_own leg zs later)
-                (Contains-append_cases (z ∷ []) zs leg h)
-          ]) refl
 
 -- where a feature has no last leg there is none of it
 pub last_absent : (f : ℕ) (xs : List LegView) → last_leg_of f xs ≡ None → All (λ leg. leg.feature ≢ f) xs
@@ -326,6 +472,9 @@ list_takes old new legs is works =
       rests = λ f period e. record { told = λ l h. h ∙ sym (answer_kept f period old.legs legs (last_absent f legs e)) ∙ ap (answer_in (OfFeature f period)) (sym is); denied = λ n h. h };
       comes = λ meets prune above page h. h;
       bare = λ page h. h;
+      children = λ fa. absurd fa;
+      moves = λ fa. absurd fa;
+      features = ap feature_count is ∙ fold-append (λ count (leg : LegView). max count (leg.feature + 1)) 0 old.legs legs;
       astray = λ above page h. h;
       leads = λ leg h. Contains-append_cases old.legs legs leg (subst (λ ls. Contains ls leg) is h);
       top = λ some h. absurd h;

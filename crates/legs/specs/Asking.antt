@@ -1,11 +1,11 @@
 -- What a call of an index leaves, and why it is refused.
-use Rattle.std.specs.Prelude.{Bool, ℕ, ℤ, ◌⊎◌, ◌≡◌, ◌≢◌, ◌≤◌, ◌≤ℤ◌, ◌<◌, ◌+◌, ◌-◌, ◌*◌, ◌^◌, ◌++◌, ◌∷◌, [], drop, true, false, length, count_by, slice_get, All, List, Option, Some, None, Result, Err, IfErr, IsErrOf, OnErr, OnOk}
+use Rattle.std.specs.Prelude.{Bool, ℕ, ℤ, ◌⊎◌, ◌≡◌, ◌≢◌, ◌≤◌, ◌≤ℤ◌, ◌<◌, ◌+◌, ◌-◌, ◌*◌, ◌%◌, ◌^◌, ◌++◌, ◌∷◌, [], drop, true, false, length, count_by, slice_get, All, List, Option, Some, None, Result, Err, IfErr, IsErrOf, OnErr, OnOk}
 use Rattle.std.specs.List.{Contains}
 use Rattle.legs.specs.Boxes.{BoxView, box_of}
 use Rattle.legs.specs.Hull.{IsPruning, leg_boxes}
 use Rattle.legs.specs.Legs.{LegView}
-use Rattle.legs.specs.Finding.{FeaturePlace, Finding}
-use Rattle.legs.specs.Index.{is_of, legs_of, last_leg_of, MayRefuse, MayRefuseLeg, HasRisen, CanFollowInTurn}
+use Rattle.legs.specs.Finding.{FeaturePlace, Finding, IsMade, IsMadeEntry, MovesLast, StaysAt}
+use Rattle.legs.specs.Index.{features_after, is_of, legs_of, last_leg_of, MayRefuse, MayRefuseLeg, HasRisen, CanFollowInTurn, SkipNone}
 use Rattle.legs.specs.Costs.{ShapeView, RisesBy, RisesAtMost, add_bound, add_all_bound}
 use Rattle.legs.specs.declared.index.IndexFault.{IndexFault}
 use Rattle.legs.specs.declared.index.IndexFault.TheVariants.{Memory, Store, Damaged, StoreFull, Spent}
@@ -24,7 +24,8 @@ pub record IsLater {I : Type 0} (g : Ghosts I) (old new : I) : Type 0 where
 
 -- where the ways down its pages lead, whoever wrote them: they find each leg that they found, and come to each page to which
 -- they came; a page that is none of a tree stays so; each feature ends with the leg with which it ended; none is astray that
--- was not, and no leg is led to that was not
+-- was not, and no leg is led to that was not; each page has the entries that it had, and is what legs need of it where it
+-- was; there are as many features
 pub record LeadsStill {I : Type 0} (g : Ghosts I) (old new : I) : Type 0 where
   pub finds : (meets : BoxView → Bool) (leg : LegView) → g.finds old meets leg
       → g.finds new meets leg
@@ -34,6 +35,10 @@ pub record LeadsStill {I : Type 0} (g : Ghosts I) (old new : I) : Type 0 where
   pub ends : (leg : LegView) → g.ends_with old leg → g.ends_with new leg
   pub astray : (above page : ℕ) → g.is_astray new above page → g.is_astray old above page
   pub leads : (leg : LegView) → g.leads_to new leg → g.leads_to old leg
+  pub features : g.features new ≡ g.features old
+  pub children : (page : ℕ) → g.children new page ≡ g.children old page
+  pub unfit : (legs : List LegView) (page : ℕ) → g.is_unfit new legs page
+      → g.is_unfit old legs page
 
 -- what a question leaves, answered or not: the list, and what its pages say, sound where it was, spent where it was, and
 -- the numbers by which it finds its legs; where no page was changed, none is, and none is written
@@ -123,13 +128,15 @@ NoneBefore None legs = Unit {0}
 NoneBefore (Some period) legs = All (λ leg. period.start ≤ℤ leg.t0) legs
 
 -- there are no fewer leaves and levels, and at most a leaf more for each of so many legs; for each leaf more there is at most a
--- level more, and at most as many pages more as there are levels
+-- level more, and at least one page more, and at most as many as there are levels; the root is the old one, or was made
 pub record TakesRoom (old new : Finding) (legs : ℕ) : Type 0 where
   pub leaves : old.leaves ≤ new.leaves
   pub levels : old.levels ≤ new.levels
   pub few : new.leaves ≤ old.leaves + legs
   pub low : new.levels ≤ old.levels + (new.leaves - old.leaves)
   pub pages : new.pages ≤ old.pages + (new.leaves - old.leaves) * new.levels
+  pub held : new.leaves + old.pages ≤ old.leaves + new.pages
+  pub root : (new.root ≡ old.root) ⊎ IsMade old new new.root
 
 -- what legs make of an index, sound or not: by whatever test of boxes that a greater box does not fail it finds each leg
 -- that it found, and each of these whose box meets, and it counts them. Each feature that they have ends with the last
@@ -147,6 +154,13 @@ pub record HasAdded {I : Type 0} (g : Ghosts I) (old new : I) (legs : List LegVi
   pub comes : (meets : BoxView → Bool) → IsPruning leg_boxes meets → (above page : ℕ)
       → g.comes_to old meets above page → g.comes_to new meets above page
   pub bare : (page : ℕ) → g.is_bare old page → g.is_bare new page
+  -- over a faithful store each page has the entries that it had, in their order, and behind them pages that were made, and
+  -- in a page that was made the old root; the last leaf of each feature is the one that it was, or was made
+  pub children : g.is_faithful old → (page : ℕ)
+      → (added : List ℕ) × (g.children new page ≡ g.children old page ++ added)
+      × All (IsMadeEntry (g.found_by old) (g.found_by new) page) added
+  pub moves : g.is_faithful old → (feature : ℕ)
+      → MovesLast (g.found_by old) (g.found_by new) feature
   pub top : 0 < (g.found_by old).levels → g.is_bare old (g.found_by old).root
       → ((g.found_by new).root ≡ (g.found_by old).root)
       × ((g.found_by new).levels ≡ (g.found_by old).levels)
@@ -159,6 +173,7 @@ pub record HasAdded {I : Type 0} (g : Ghosts I) (old new : I) (legs : List LegVi
   pub rests : (feature : ℕ) (period : Option PeriodView) → last_leg_of feature legs ≡ None
       → SaysStill g old new (OfFeature feature period)
   pub counted : g.counted old + length legs < 2 ^ 64 → g.counted new ≡ g.counted old + length legs
+  pub features : g.features new ≡ features_after (g.features old) legs
   pub room : g.is_faithful old
       → g.is_faithful new × TakesRoom (g.found_by old) (g.found_by new) (length legs)
   pub works : g.is_spent new ≡ false
@@ -188,9 +203,34 @@ AddAllAsks g old new legs =
     g.is_sound old → CanFollowInTurn (g.content old) legs
     → RisesAtMost (g.asked old) (g.asked new) (add_all_bound (g.plan old) (g.content old) legs)
 
+-- once the first ones of the legs, in whatever order of their features, were put in, if any, the page is not what the next
+-- ones need of it: legs of one feature, no more than its last leaf has room for, or than a new one takes where that is full.
+-- The tree and the places are left as those first ones made them
+pub record Blames {I : Type 0} (g : Ghosts I) (old new : I) (legs : List LegView)
+    (page : ℕ) : Type 0 where
+  pub first : List LegView
+  pub next : List LegView
+  pub others : List LegView
+  pub order : (feature : ℕ) → legs_of feature (first ++ next ++ others) ≡ legs_of feature legs
+  pub feature : ℕ
+  pub one : All (λ leg. leg.feature ≡ feature) next
+  pub some : 0 < length next
+  pub mid : I
+  pub none : first ≡ [] → g.is_unfit old next page
+  pub added : HasAdded g old mid first
+  pub stays : g.is_faithful old → StaysAt (g.found_by mid) (g.found_by new)
+  pub fits : (shape : ShapeView) → g.plan old ≡ Some shape
+      → length next ≤ shape.leaf - placed_legs (g.found_by mid) feature % shape.leaf
+  pub unfit : g.is_unfit mid next page
+
+-- one of the legs is of a feature above the one that is next then: the index has a place for each feature below the next
+abbrev pub SkipsFeature : {I : Type 0} → Ghosts I → I → List LegView → Type 0
+SkipsFeature g index legs = SkipNone (g.features index) legs → ⊥
+
 -- why legs are refused, and what a refusal leaves: the index is spent, and one that was spent always says so,
 -- and stays as it is; a sound one refuses legs that may follow for want of memory, a store that failed or is
--- full alone
+-- full alone; a page that is named, be it sound or not, is not what the legs that were to be put in next need of it, and
+-- one that was not spent says that it is only of legs that skip a feature
 pub record LegRefusals {I A : Type 0} (g : Ghosts I) (old new : I) (legs : List LegView)
     (result : Result A IndexFault) : Type 0 where
   pub spent : OnErr result (g.is_spent new ≡ true)
@@ -199,11 +239,14 @@ pub record LegRefusals {I A : Type 0} (g : Ghosts I) (old new : I) (legs : List 
       (λ fault. g.is_sound old → CanFollowInTurn (g.content old) legs → MayRefuseLeg fault)
   pub store : IsErrOf result Store → HasRisen (g.faults old) (g.faults new)
   pub full : IsErrOf result StoreFull → g.is_store_full new
+  pub skips : IsErrOf result Spent → (g.is_spent old ≡ true) ⊎ SkipsFeature g old legs
+  pub blames : (page : ℕ) → IsErrOf result (Damaged page) → Blames g old new legs page
 
 -- what the start of a file's legs leaves: the list, what its pages say, where their ways lead, and all that is found by,
 -- sound where it was, spent where it was. Once it is answered, an index over a faithful store is marked, and synced where it
 -- was not; where it is refused, and the index was clean, no page as written has changed but page 0, and that one only where
--- the store failed. It names no page as damaged but page 0, and says of none but a spent index that it is spent
+-- the store failed. It names no page as damaged but page 0, where that one has no payload, and then always; it says of none but
+-- a spent index that it is spent
 pub record Starts {I A : Type 0} (g : Ghosts I) (old new : I)
     (result : Result A IndexFault) : Type 0 where
   pub content : g.content new ≡ g.content old
@@ -217,7 +260,8 @@ pub record Starts {I A : Type 0} (g : Ghosts I) (old new : I)
   pub marks : OnOk result (g.is_faithful old → g.is_marked new)
   pub marked : g.is_marked old → g.is_marked new
   pub synced : OnOk result (g.is_faithful old → (g.is_marked old → ⊥) → g.is_synced new)
-  pub named : (page : ℕ) → IsErrOf result (Damaged page) → page ≡ 0
+  pub named : (page : ℕ) → IsErrOf result (Damaged page) → (page ≡ 0) × g.is_unreadable old 0
+  pub there : OnOk result (g.is_faithful old → g.is_unreadable old 0 → ⊥)
   pub works : IsErrOf result Spent → g.is_spent old ≡ true
   pub others : OnErr result
       (g.is_faithful old → g.is_clean old → drop 1 (g.written new) ≡ drop 1 (g.written old))

@@ -27,6 +27,16 @@ live_legs_of feature period legs = filter (is_live period) (legs_of feature legs
 abbrev pub feature_count : List LegView → ℕ
 feature_count legs = fold (λ count leg. max count (leg.feature + 1)) 0 legs
 
+-- how many there are once these legs came, where there were so many
+abbrev pub features_after : ℕ → List LegView → ℕ
+features_after features legs = fold (λ count leg. max count (leg.feature + 1)) features legs
+
+-- none of the legs skips a feature: each is of one that is there, or of the next one
+abbrev pub SkipNone : (features : ℕ) → List LegView → Type 0
+SkipNone features [] = Unit {0}
+SkipNone features (leg ∷ legs) =
+    (leg.feature ≤ features) × SkipNone (max features (leg.feature + 1)) legs
+
 -- when the last leg of a feature ends
 abbrev pub last_end : ℕ → List LegView → Option ℤ
 last_end feature legs =

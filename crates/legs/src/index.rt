@@ -22,7 +22,7 @@ pub enum IndexFault {
     /// There is no room for another page.
     #[error("the store is full")]
     StoreFull,
-    /// An earlier `add` was refused.
+    /// An earlier `add` was refused; or this one is, of a leg whose feature is above the next one.
     #[error("the index is spent")]
     Spent,
 }

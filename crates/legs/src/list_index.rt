@@ -141,7 +141,7 @@ impl Listed for ListIndex {
     ghost use Rattle.std.specs.List.{Contains};
     ghost use Rattle.legs.specs.Boxes.{box_of};
     ghost use Rattle.legs.specs.Finding.{no_finding};
-    ghost use Rattle.legs.specs.Index.{last_leg_of};
+    ghost use Rattle.legs.specs.Index.{feature_count, last_leg_of};
     ghost use Rattle.legs.specs.Legs.{IsLeg};
     ghost use Rattle.legs.specs.Questions.{answer_in};
 
@@ -163,9 +163,17 @@ impl Listed for ListIndex {
 
     ghost leads_to = { λ index leg. Contains index.legs leg };
 
+    ghost is_unfit = { λ index legs page. ⊥ };
+
+    ghost children = { λ index page. [] };
+
+    ghost is_unreadable = { λ index page. ⊥ };
+
     ghost ends_with = { λ index leg. last_leg_of leg.feature index.legs ≡ Some leg };
 
     ghost counted = { λ index. length index.legs };
+
+    ghost features = { λ index. feature_count index.legs };
 
     ghost is_spent = { λ index. index.spent };
 

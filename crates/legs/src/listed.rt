@@ -46,6 +46,19 @@ pub trait Listed {
     /// nothing is known, and it says anything.
     ghost leads_to: { Self → LegView → Type 0 };
 
+    /// The page is not what these legs, of one feature and put in next, need of it at the place of their feature, whoever
+    /// wrote it; never of an index that keeps a list. Of an index over a store that is not faithful nothing is known, and
+    /// it says anything.
+    ghost is_unfit: { Self → List LegView → ℕ → Type 0 };
+
+    /// The pages of the entries of the page, in their order, whoever wrote it; none of page 0, of a page that is no inner
+    /// one, of an index over a store that is not faithful, or of one that keeps a list.
+    ghost children: { Self → ℕ → List ℕ };
+
+    /// The page has no payload: it is not there, or what lies there is not sealed; never of an index that keeps a list.
+    /// Of an index over a store that is not faithful nothing is known, and it says anything.
+    ghost is_unreadable: { Self → ℕ → Type 0 };
+
     /// The last leaf of the leg's feature, whoever wrote it, has the leg at its end; of an index that keeps a list,
     /// the leg is the last one of its feature. Of an index over a store that is not faithful nothing is known, and it
     /// says anything.
@@ -53,6 +66,9 @@ pub trait Listed {
 
     /// How many legs it counts.
     ghost counted: { Self → ℕ };
+
+    /// How many features it has a place for: each below that number.
+    ghost features: { Self → ℕ };
 
     /// An `add` was refused.
     ghost is_spent: { Self → Bool };

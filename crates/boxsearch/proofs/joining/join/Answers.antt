@@ -1,7 +1,6 @@
-use Rattle.std.proofs.Common.{◌≡◌, OnOk, subst, sym, ◌∙◌}
-use Rattle.std.proofs.lemmas.Bool.{true≢false}
+use Rattle.std.proofs.Common.{◌≡◌, OnOk, ap, subst, sym, ◌∙◌}
 use Rattle.legs.specs.Asking.{HasAdded}
-use Rattle.boxsearch.specs.Index.{words}
+use Rattle.boxsearch.specs.Index.{IndexView, words}
 use Rattle.boxsearch.specs.Putting.{PutsAll}
 use Rattle.boxsearch.specs.Runs.{RunsAsk}
 use Rattle.boxsearch.specs.Taking.{Taking}
@@ -9,7 +8,7 @@ use Rattle.boxsearch.proofs.AddLemmas.{made}
 use Rattle.boxsearch.proofs.EndLemmas.{run_takes}
 use Rattle.boxsearch.proofs.ResultLemmas.{from_ok}
 use Rattle.boxsearch.proofs.RunLemmas.{joined_asks}
-use Rattle.boxsearch.proofs.TakingTurns.{OrderLaws, joined, taking_absent}
+use Rattle.boxsearch.proofs.TakingTurns.{OrderLaws, joined, taking_none}
 use Rattle.boxsearch.proofs.joining.join.Goals as goal
 
 pub returns-clause-taking : goal.returns-clause-taking
@@ -20,13 +19,13 @@ returns-clause-taking g c =
     let mid : c.make_place.new.self ≡ made old c.args.feature = from_ok c.make_place.result (sym c.is_err.ensures.value ∙ c.if-is_err.false) c.make_place.ensures.ok in
     let p : PutsAll (made old c.args.feature) c.put_all.new.self c.args.feature legs c.put_all.result = subst (λ m. PutsAll m c.put_all.new.self c.args.feature legs c.put_all.result) mid c.put_all.ensures in
     subst (λ r. Taking old c.put_all.new.self legs r) (sym c.answer.ensures)
-    (joined laws old c.put_all.new.self c.args.feature legs c.requires.some c.requires.one c.put_all.result p)
+    (joined laws old c.put_all.new.self c.args.feature legs c.requires.some c.requires.one c.put_all.result p c.requires.works)
 
 pub returns-then-not-has_place-clause-taking : goal.returns-then-not-has_place-clause-taking
 returns-then-not-has_place-clause-taking g c =
     let old = c.args.index.now in
     let mid : c.make_place.new.self ≡ made old c.args.feature = from_ok c.make_place.result (sym c.is_err.ensures.value ∙ c.if-is_err.false) c.make_place.ensures.ok in
-    taking_absent old c.make_place.new.self c.spend-then-not-has_place.new.self c.args.feature c.args.legs.now c.requires.some c.requires.one mid c.spend-then-not-has_place.ensures (λ h. true≢false (sym (c.if-not-has_place.ensures.1 h)))
+    taking_none old c.make_place.new.self c.spend-then-not-has_place.new.self c.args.legs.now c.spend-then-not-has_place.ensures (ap (λ (i : IndexView). i.cache) mid)
 
 pub returns-clause-asks : goal.returns-clause-asks
 returns-clause-asks g c =

@@ -43,7 +43,8 @@ runs-preserved g c =
     let fewer : R (drop k turns) ≡ 1 + R (drop (k + c.len-from.result) turns) = runs_run legs turns k (length run) c.in-Ok.ensures.whole ∙ ap (λ n. 1 + R (drop (k + n) turns)) (sym many) in
     let within : R (drop k turns) ≤ R turns = c.runs.invariant.fewer in
     let one : (R turns - R (drop k turns)) + 1 ≡ R turns - R (drop (k + c.len-from.result) turns) = omega (arith, fewer, within) in
-    let all = taking_more old c.runs.index c.join.new.index (taken legs turns) (taken legs (drop (k + length run) turns)) run so_far (subst (λ ls. Taking c.runs.index c.join.new.index ls (Ok tt)) c.as_slice.ensures.value c.in_ok-join.ensures.taking) more in
+    let all = taking_more old c.runs.index c.join.new.index (taken legs turns) (taken legs (drop (k + length run) turns)) run so_far (subst (λ ls. Taking c.runs.index c.join.new.index ls (Ok tt)) c.as_slice.ensures.value c.in_ok-join.ensures.taking) more
+    c.in-Ok.ensures.some (subst (λ ls. HasAdded words c.runs.index c.join.new.index ls) c.as_slice.ensures.value c.in_ok-join.ensures.takes) in
     record {
       within = (let most = c.in-Ok.ensures.most in let d = length-drop k turns in omega (arith, many, most, d, c.runs.invariant.within));
       taking = subst (λ n. IsTaking old c.join.new.index (taken legs turns) (taken legs (drop (k + n) turns))) (sym many) all;

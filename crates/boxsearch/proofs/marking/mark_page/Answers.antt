@@ -3,7 +3,7 @@ use Rattle.std.specs.Result.{is_ok}
 use Rattle.std.proofs.lemmas.Bool.{true≢false}
 use Rattle.pagecache.specs.Cache.{is_changed, Rests, IsRefused}
 use Rattle.header.specs.Front.{IsUnfinished}
-use Rattle.boxsearch.proofs.PlaceLemmas.{some_same}
+use Rattle.boxsearch.proofs.PlaceLemmas.{some_none, some_same}
 use Rattle.boxsearch.proofs.MarkLemmas.{already_marked, first_marked, first_rests, rests_marks, marks_trans, flushed_marks, is_marked, others_written, was_marked}
 use Rattle.header.proofs.FrontLemmas.{marked_is}
 use Rattle.boxsearch.proofs.ResultLemmas.{on_any, on_ok, on_fault, the_error}
@@ -91,3 +91,9 @@ returns-then-not-is_changed-clause-unmarked g c = λ f not_marked.
 
 pub returns-clause-unmarked : goal.returns-clause-unmarked
 returns-clause-unmarked g c = on_ok c.flush.result (λ synced f not_marked. synced) c.flush.ensures.synced
+
+pub returns-then-not-is_changed-clause-there : goal.returns-then-not-is_changed-clause-there
+returns-then-not-is_changed-clause-there g c = λ f none. some_none _ (sym (c.in_ok-page.ensures.value f) ∙ none)
+
+pub returns-clause-there : goal.returns-clause-there
+returns-clause-there g c = on_any c.flush.result (λ f none. some_none _ (sym (c.in_ok-page.ensures.value f) ∙ none))

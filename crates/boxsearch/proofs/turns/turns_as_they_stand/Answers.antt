@@ -1,7 +1,8 @@
 use Rattle.std.proofs.Common.{◌≡◌, ◌∙◌, ◌++◌, drop, ◌<◌, ◌+◌, ap, sym, subst, refl, arith, length}
 use Rattle.std.proofs.lemmas.Result.{err_from_is_err_and}
+use Rattle.legs.specs.Index.{SkipNone}
 use Rattle.legs.specs.Legs.{LegView}
-use Rattle.boxsearch.specs.Turns.{Fit, turns_from}
+use Rattle.boxsearch.specs.Turns.{turns_from}
 use Rattle.boxsearch.proofs.TurnSteps.{opened_length, turns_step, fit_next, fit_step}
 use Rattle.boxsearch.proofs.turns.turns_as_they_stand.Goals as goal
 
@@ -11,7 +12,7 @@ loop-place-init c =
     let legs = c.args.legs.now in
     let e = c.in_ok-ends.ensures.opened in record {
       turns = ap (λ ts. ts ++ turns_from c.args.most c.in_ok-ends.ends.items (length places) 0 legs) c.in_ok-turns.ensures.items ∙ ap (λ l. turns_from c.args.most l (length places) 0 legs) e;
-      fit = λ f. subst (λ n. Fit n legs) (sym (ap length e ∙ opened_length c.args.most 0 places)) f;
+      fit = λ f. subst (λ n. SkipNone n legs) (sym (ap length e ∙ opened_length c.args.most 0 places)) f;
     }
 
 pub returns-in_err-leaf-clause-only : goal.returns-in_err-leaf-clause-only

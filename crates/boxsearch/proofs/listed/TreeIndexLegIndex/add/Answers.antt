@@ -1,13 +1,15 @@
-use Rattle.std.proofs.Common.{◌≡◌, ◌-◌, ◌^◌, min, ap, subst, sym, ◌∙◌, ◌∷◌, ◌++◌, [], Some}
+use Rattle.std.proofs.Common.{◌≡◌, ◌<◌, ◌-◌, ◌^◌, min, inr, true, false, arith, refl, ap, subst, sym, ◌∙◌, ◌∷◌, ◌++◌, [], length, Some}
 use Rattle.std.specs.Prelude.{OnOk}
+use Rattle.std.proofs.lemmas.Bool.{true≢false}
 use Rattle.legs.specs.Asking.{Ends, HasAdded, LegRefusals}
 use Rattle.legs.specs.Costs.{RisesAtMost, add_bound}
 use Rattle.legs.specs.Index.{CanFollowInTurn}
 use Rattle.legs.specs.Legs.{LegView}
-use Rattle.boxsearch.specs.Index.{IndexView, words, content, IsSound}
+use Rattle.boxsearch.specs.Index.{IndexView, words, content, with_place, IsSound}
 use Rattle.boxsearch.specs.Putting.{Puts}
 use Rattle.boxsearch.proofs.AddLemmas.{Laws, made, added, asked, refusals, marked_after}
 use Rattle.boxsearch.proofs.EndLemmas.{leg_takes}
+use Rattle.boxsearch.proofs.PlaceLemmas.{past_made}
 use Rattle.boxsearch.proofs.ResultLemmas.{from_ok}
 use Rattle.boxsearch.proofs.listed.TreeIndexLegIndex.add.Goals as goal
 
@@ -52,3 +54,23 @@ returns-clause-takes g c =
     let mid : c.make_place.new.self ≡ made c.args.self.now c.leg.inside.feature = from_ok c.make_place.result (sym c.is_err.ensures.value ∙ c.if-is_err.false) c.make_place.ensures.ok in
     let p : Puts (made c.args.self.now c.args.leg.feature) c.put.new.self c.args.leg c.put.result = subst (λ m. Puts m c.put.new.self c.args.leg c.put.result) (mid ∙ ap (made c.args.self.now) feature) c.put.ensures in
     subst (λ r. OnOk r (HasAdded words c.args.self.now c.put.new.self (c.args.leg ∷ []))) (sym c.answer.ensures) (leg_takes c.args.self.now c.put.new.self c.args.leg c.put.result p)
+
+pub returns-then-feature-len-clause-refusals : goal.returns-then-feature-len-clause-refusals
+returns-then-feature-len-clause-refusals g c =
+    let old = c.args.self.now in
+    let works : old.tree.spent ≡ false = sym (ap (λ (i : IndexView). i.tree.spent) c.self.view_is) ∙ c.if-self.false in
+    let own : c.leg.inside.feature ≡ c.args.leg.feature = ap (λ (l : LegView). l.feature) c.leg.view_is in
+    let mid : c.make_place.new.self ≡ made old c.leg.inside.feature = from_ok c.make_place.result (sym c.is_err.ensures.value ∙ c.if-is_err.false) c.make_place.ensures.ok in
+    let many : length c.self-2.inside.places.items ≡ length (with_place old.places c.leg.inside.feature) = ap (λ (i : IndexView). length i.places) (c.self-2.view_is ∙ mid) in
+    let len = c.len.ensures in
+    let past = c.if-feature-len.true in
+    let above : length old.places < c.args.leg.feature = subst (λ n. length old.places < n) own (past_made old.places c.leg.inside.feature (λ l. omega (arith, l, many, len, past))) in
+    record {
+      spent = refl;
+      was_spent = λ e. absurd (true≢false (sym e ∙ works));
+      sound = λ s w. (let low = w.0.feature in let n = s.features in omega (arith, low, above, n));
+      store = λ e. absurd cc;
+      full = λ e. absurd cc;
+      skips = λ e. inr (λ none. (let low = none.0 in omega (arith, low, above)));
+      blames = λ page e. absurd cc;
+    }

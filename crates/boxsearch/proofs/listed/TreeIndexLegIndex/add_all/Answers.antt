@@ -1,27 +1,44 @@
-use Rattle.std.proofs.Common.{◌≡◌, ◌<◌, ◌∙◌, OnOk, false, List, length, All, ap, subst, sym, arith, refl}
+use Rattle.std.proofs.Common.{ℕ, ◌≡◌, ◌<◌, ◌∙◌, inr, OnOk, Err, true, false, List, length, All, ap, subst, sym, arith, refl}
 use Rattle.std.proofs.lemmas.Bool.{true≢false}
-use Rattle.legs.specs.Asking.{HasAdded}
+use Rattle.legs.specs.Asking.{HasAdded, LegRefusals}
+use Rattle.legs.specs.Index.{legs_of, MayRefuseLeg, SkipNone}
+use Rattle.legs.specs.Legs.{LegView}
+use Rattle.legs.specs.declared.index.IndexFault.{IndexFault}
+use Rattle.legs.specs.declared.index.IndexFault.TheVariants as index
 use Rattle.legs.proofs.LastLemmas.{takes_alike}
-use Rattle.boxsearch.specs.Index.{IndexView, words}
+use Rattle.boxsearch.specs.Index.{IndexView, content, words}
 use Rattle.boxsearch.specs.Taking.{taken, AreTurns}
+use Rattle.boxsearch.specs.Turns.{IsTurnFault}
 use Rattle.boxsearch.specs.declared.turns.Turn.{Turn}
 use Rattle.boxsearch.proofs.AddLemmas.{Laws}
 use Rattle.boxsearch.proofs.AllLemmas.{AllLaws, all_added, all_asked, all_refusals}
 use Rattle.boxsearch.proofs.ResultLemmas.{on_ok}
 use Rattle.boxsearch.proofs.TurnLasts.{as_many_taken, same_legs}
+use Rattle.boxsearch.proofs.TurnSteps.{none_skipped}
 use Rattle.boxsearch.proofs.TurnOrder.{AreNumbered, are_numbered, are_turns, turns_within}
 use Rattle.boxsearch.proofs.listed.TreeIndexLegIndex.add_all.Goals as goal
 
+-- turns that are not told spend the index
+no_turns : (old new : IndexView) (legs : List LegView) (fault : IndexFault) → old.tree.spent ≡ false → new.tree.spent ≡ true → IsTurnFault fault → (SkipNone (length old.places) legs → fault ≡ index.Memory) → LegRefusals {A = Unit {0}} words old new legs (Err fault)
+no_turns old new legs fault works spent kind only = record {
+  spent = spent;
+  was_spent = λ e. absurd (true≢false (sym e ∙ works));
+  sound = λ s w. subst (λ f. MayRefuseLeg f) (sym (only (none_skipped (content old) legs (length old.places) s.features w))) tt;
+  store = λ e. absurd (subst (λ f. IsTurnFault f) (let same : fault ≡ index.Store = cc in same) kind);
+  full = λ e. absurd (subst (λ f. IsTurnFault f) (let same : fault ≡ index.StoreFull = cc in same) kind);
+  skips = λ e. inr (λ none. (let same : fault ≡ index.Spent = cc in memory_not_spent (sym (only none) ∙ same)));
+  blames = λ page e. absurd (subst (λ f. IsTurnFault f) (let same : fault ≡ index.Damaged page = cc in same) kind);
+}
+  where
+    memory_not_spent : index.Memory ≡ index.Spent → ⊥
+    memory_not_spent e = absurd cc
+
 pub returns-in-Err-clause-refusals : goal.returns-in-Err-clause-refusals
 returns-in-Err-clause-refusals g c =
-    let works : c.args.self.now.tree.spent ≡ false = sym (ap (λ (i : IndexView). i.tree.spent) c.self.view_is) ∙ c.if-self.false in
-    record {
-      spent = refl;
-      was_spent = λ e. absurd (true≢false (sym e ∙ works));
-      sound = λ s w. tt;
-      store = λ e. absurd cc;
-      full = λ e. absurd cc;
-    }
+    let old = c.args.self.now in
+    let works : old.tree.spent ≡ false = sym (ap (λ (i : IndexView). i.tree.spent) c.self.view_is) ∙ c.if-self.false in
+    let places : c.as_slice.result.now ≡ old.places = c.as_slice.ensures.value ∙ ap (λ (v : IndexView). v.places) c.self.view_is in
+    no_turns old _ c.args.legs.now c.in-Err.fault works refl c.in-Err.ensures.kinds (subst (λ ps. SkipNone (length ps) c.args.legs.now → c.in-Err.fault ≡ index.Memory) places c.in-Err.ensures.only)
 
 pub join_all-requires-clause-within : goal.join_all-requires-clause-within
 join_all-requires-clause-within g c =
@@ -78,7 +95,9 @@ returns-clause-refusals g c =
     let rules : Laws = record { content = c.laws.ensures.content; lawful = c.laws.ensures.lawful; height = c.laws.ensures.height; fits = c.laws.ensures.fits; absent = c.laws.ensures.absent } in
     let orders : AllLaws = record { taken = c.order_laws.ensures.taken; reordered = c.order_laws.ensures.reordered } in
     let works : old.tree.spent ≡ false = sym (ap (λ (v : IndexView). v.tree.spent) c.self.view_is) ∙ c.if-self.false in
-    all_refusals rules orders old c.join_all.new.index legs turns are c.join_all.result works c.join_all.ensures.taking
+    let plainly = same_legs c.laws.ensures.in_order c.as_slice.result.now c.from-most.result legs c.in-Ok.turns.items c.in-Ok.ensures.few c.in-Ok.ensures.permutation c.in-Ok.ensures.rises in
+    let same = subst (λ ts. (f : ℕ) → legs_of f (taken legs ts) ≡ legs_of f legs) (sym c.as_slice-2.ensures.value) plainly in
+    all_refusals rules orders old c.join_all.new.index legs turns are c.join_all.result same works c.join_all.ensures.taking
 
 pub returns-clause-takes : goal.returns-clause-takes
 returns-clause-takes g c =

@@ -23,10 +23,12 @@ returns-then-is_ok g c =
       met = c.insert_all-result.ensures.met;
       placed = c.insert_all-result.ensures.counted;
       shape = c.insert_all-result.ensures.shape;
+      room = let l = c.leaf.ensures.range.least_leaf in let v = c.leaf.ensures.value in omega (arith, l, v);
       passes = c.insert_all-result.ensures.passes;
       count = c.insert_all-result.ensures.length;
       few = let a = c.if-prove.false in let b = c.count.ensures.value in omega (arith, a, b);
       caused = c.insert_all-result.ensures.caused works;
+      blames = c.insert_all-result.ensures.blames works;
       asked = c.insert_all-result.ensures.asked;
       more = c.insert_all-result.ensures.more;
       higher = c.insert_all-result.ensures.higher;
@@ -53,10 +55,12 @@ returns-else-is_ok g c =
       met = c.insert_all-result.ensures.met;
       placed = c.insert_all-result.ensures.counted;
       shape = c.insert_all-result.ensures.shape;
+      room = let l = c.leaf.ensures.range.least_leaf in let v = c.leaf.ensures.value in omega (arith, l, v);
       passes = c.insert_all-result.ensures.passes;
       count = c.insert_all-result.ensures.length;
       few = let a = c.if-prove.false in let b = c.count.ensures.value in omega (arith, a, b);
       caused = c.insert_all-result.ensures.caused works;
+      blames = c.insert_all-result.ensures.blames works;
       asked = c.insert_all-result.ensures.asked;
       more = c.insert_all-result.ensures.more;
       higher = c.insert_all-result.ensures.higher;
