@@ -1,5 +1,5 @@
 -- A file that is read and joined, record by record.
-use Rattle.std.proofs.Common.{[], ◌∷◌, ◌++◌, ◌≡◌, ◌∙◌, ℕ, List, Option, Result, Ok, Err, ap, length, refl, subst, sym}
+use Rattle.std.proofs.Common.{[], ◌∷◌, ◌++◌, ◌≡◌, ◌∙◌, ℕ, List, Option, Result, Ok, Err, inr, ap, length, refl, subst, sym}
 use Rattle.std.proofs.lemmas.List.{map_push}
 use Rattle.mfcsv.specs.FileText.{file_of_bytes}
 use Rattle.mfcsv.specs.Rows.{rows_of}
@@ -20,17 +20,20 @@ use Rattle.legs.specs.Legs.{LegView}
 use Rattle.legs.specs.Limits.{LimitsView}
 use Rattle.legs.specs.Tracks.{StandsFor, TracksView}
 use Rattle.legs.specs.declared.head.BookHead.{BookHead}
+use Rattle.legs.specs.declared.listed.Listed.{Ghosts}
 use Rattle.legs.specs.declared.joining.JoinCode.{JoinCode}
 use Rattle.legs.specs.declared.joining.JoinFault.{JoinFault}
 use Rattle.legs.specs.declared.joining.JoinFault.TheVariants as join
 use Rattle.trajdb.specs.Answers.{book_by, book_with, counts_or, joined_counts, load_of}
 use Rattle.legs.specs.Counting.{names_after}
-use Rattle.trajdb.specs.Calls.{IsRefusedBy}
-use Rattle.trajdb.specs.Database.{FaultIs, IsRefused}
+use Rattle.trajdb.specs.Calls.{BlamesFile, IsRefusedBy, NamesFile}
+use Rattle.trajdb.specs.Database.{CoreView, FaultIs, IsRefused}
 use Rattle.trajdb.specs.Loads.{Accepts, IsRead, code_fault, counts_in, join_fault, values_of}
 use Rattle.trajdb.specs.declared.FileCode.{FileCode}
 use Rattle.trajdb.specs.declared.LoadFault.{LoadFault}
 use Rattle.trajdb.specs.declared.LoadFault.TheVariants.{Refused, Run}
+use Rattle.trajdb.specs.declared.RunFault.{RunFault}
+use Rattle.trajdb.specs.declared.RunFault.TheVariants as run
 use Rattle.trajdb.specs.declared.load.NewFile.{NewFile}
 
 -- some records were read and joined, and this is left of the text
@@ -144,3 +147,12 @@ refused_book limits book bytes fault said = refused_by limits book (file_of_byte
 pub told_kept : (limits : LimitsView) (book : Book) (bytes : List ℕ) (fault : LoadFault) → IsRefused fault → FaultIs fault (load_of limits book bytes) → book ≡ book_with limits book bytes
 told_kept limits book bytes (Refused code number) told said = sym (refused_book limits book bytes (code, number) said)
 told_kept limits book bytes (Run fault) told said = absurd told
+
+-- what a file's legs are refused for
+pub names_file : {I : Type 0} (g : Ghosts I) (old new : CoreView I) (bytes : List ℕ) (fault : RunFault) → BlamesFile g old new bytes fault → NamesFile g old new bytes fault
+names_file g old new bytes run.Memory h = tt
+names_file g old new bytes run.Store h = tt
+names_file g old new bytes (run.Damaged page) h = h
+names_file g old new bytes run.StoreFull h = tt
+names_file g old new bytes run.Failed h = inr h
+names_file g old new bytes run.Output h = tt

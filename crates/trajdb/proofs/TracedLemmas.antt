@@ -114,7 +114,7 @@ module _ {I : Type 0} (g : Ghosts I) (files : Named) where
           text = at.text;
           tells = at.tells;
           sends = Appends-kept a b c at.text at.sends stop.sends;
-          names = subst (λ (l : List ℕ). NamesLine g files mid l fault) (sym nth.1) stop.names;
+          names = subst (λ (l : List ℕ). NamesLine g files mid new l fault) (sym nth.1) stop.names;
           fails = subst (λ (l : List ℕ). FailsAt files new.failed fault l) (sym nth.1) stop.fails;
           left = subst (λ (l : List ℕ). (LoadsBy files l → ⊥) → LeavesBook g mid new) (sym nth.1) stop.left;
           lives = stop.lives;

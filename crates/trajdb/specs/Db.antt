@@ -1,5 +1,6 @@
 -- What contracts see of a database over pages.
-use Rattle.std.specs.Prelude.{◌≡◌}
+use Rattle.std.specs.Prelude.{ℕ, ◌≡◌}
+use Rattle.legs.specs.Costs.{ShapeView}
 use Rattle.boxsearch.specs.Index.{IndexView, words}
 use Rattle.pages.specs.Store.{Store, Faulted}
 use Rattle.trajdb.specs.Database.{CoreView, IsSound as IsSoundCore}
@@ -9,6 +10,19 @@ use Rattle.trajdb.specs.declared.OpenFault.TheVariants.{Memory, Store as StoreFa
 
 abbrev pub DbView : Type 0
 DbView = CoreView IndexView
+
+-- its store, as its cache sees it; the shape of its tree; how many pages its cache holds at most, and counts
+abbrev pub store_of : DbView → Store
+store_of db = db.index.cache.store
+
+abbrev pub shape_of : DbView → ShapeView
+shape_of db = db.index.tree.shape
+
+abbrev pub capacity_of : DbView → ℕ
+capacity_of db = db.index.cache.capacity
+
+abbrev pub page_count_of : DbView → ℕ
+page_count_of db = db.index.cache.count
 
 -- the index is sound, the tracks are those of the book, and the book keeps the law
 abbrev pub IsSoundDb : DbView → Type 0

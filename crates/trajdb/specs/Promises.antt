@@ -19,7 +19,7 @@ use Rattle.register.specs.Saving.{HasFew}
 use Rattle.catalogue.specs.Holding.{HoldsBook, HoldsButFirst, HoldsIndex, HoldsIndexButFirst, IsUnfinishedStore}
 use Rattle.querylang.specs.declared.Command.{Command}
 use Rattle.trajdb.specs.Answers.{AcceptsBy, IsAnswer, IsCountsText, book_then, book_with, load_of}
-use Rattle.trajdb.specs.Calls.{AsksIn, AsksKnown, LearnsBy, Begins, BeginsBy, BeginsOnly, IsAsked, IsBookOf, IsLater, IsLoadFault, IsLoadStop, IsQuestionFault, IsRefusedBy, IsRunStop, IsStopped, KeepsPages, LeavesBook, Loads, LoadsWhole, LoadsWholeSome, PutsFile, TellsLoadBy}
+use Rattle.trajdb.specs.Calls.{AsksIn, AsksKnown, BlamesLoad, LearnsBy, Begins, BeginsBy, BeginsOnly, IsAsked, IsBookOf, IsLater, IsLoadFault, IsLoadStop, IsQuestionFault, IsRefusedBy, IsRunStop, IsStopped, KeepsPages, LeavesBook, Loads, LoadsWhole, LoadsWholeSome, PutsFile, TellsLoadBy}
 use Rattle.trajdb.specs.Checking.{IsFirstFault, Reports}
 use Rattle.trajdb.specs.Database.{catalogue_of, CoreView, FailsBy, IsRefused, IsSound, IsTold, LoadGives, Becomes}
 use Rattle.trajdb.specs.Db.{DbView, HasPages, IsSoundDb}
@@ -54,6 +54,9 @@ pub record LoadCall {I : Type 0} (g : Ghosts I) (old new : CoreView I) (bytes : 
   -- be the database sound or not, a file is refused for the first fault of its text, or for one of joining where that
   -- has none
   pub reads : IfErr result (IsRefusedBy bytes)
+  -- a page that is named is page 0, which had no payload, or was not what the next of its legs needed of it; and that the
+  -- database failed is said where it had, or where its legs skip a feature
+  pub blames : IfErr result (BlamesLoad g old new bytes)
   -- it is answered as for each book for which the tracks stand
   pub gives : (book : Book) → IsBookOf old book
       → LoadGives result (load_of old.limits book bytes)
@@ -71,10 +74,10 @@ pub record CommandCall {I : Type 0} (g : Ghosts I) (files : List (List ℕ × Li
       → IsAnswer old.limits files old.book command text.items)
   pub becomes : OnOk result (Becomes g old new (book_then old.limits files old.book command))
   pub lives : OnOk result (new.failed ≡ false)
-  -- be the database sound or not, an answer is what the pages that were met say, and a page that is named is one that
-  -- was met and is not what it is to be there
+  -- be the database sound or not, an answer is what the pages that were met say, and a page that a question names is one
+  -- that it met and is not what it is to be there, and one that a `load` names is page 0, or one that its legs blame
   pub says : IfOk result (λ text. IsToldAnswer g old files command text.items)
-  pub named : IfErr result (NamesBy g old files command)
+  pub named : IfErr result (NamesBy g old new files command)
   pub asks : OnOk result (AsksIn g old new command)
   pub asks_known : OnOk result (AsksKnown g old new command)
   pub learns : OnOk result (LearnsBy g old new command)
@@ -106,7 +109,7 @@ pub record RunCall {I O : Type 0} (g : Ghosts I) (shown : O → Option (List ℕ
   pub sound : OnOk result (IsSound g old → IsSound g new)
   pub lives : OnOk result (new.failed ≡ false)
   -- be the database sound or not: what was sent is the answers to lines, one after another, each by what the pages say
-  -- that were met, and a page that is named is one that the next line met and is not what it is to be there
+  -- that were met, and a page that is named is one that the next line names, as a command does
   pub says : OnOk result (TellsRun g files (shown out) (shown out') old new lines)
   pub says_cut : IsErrOf result RunFault.Output
       → TellsCut g files (shown out) (shown out') old new lines

@@ -25,7 +25,7 @@ use Rattle.querylang.specs.declared.LineCode.{LineCode}
 use Rattle.querylang.specs.declared.Command.{Command}
 use Rattle.querylang.specs.declared.Command.TheVariants.{Load, Count, Box, Legs, Features, Trajectory, Write}
 use Rattle.trajdb.specs.Answers.{HoldsOfLeg, IsCountsText, IsFileRefusal, file_answer, legs_text, names_text, ok_text, refusal_text}
-use Rattle.trajdb.specs.Calls.{IsLater, LeavesBook, Loads, LoadsBy, TellsLoadBy}
+use Rattle.trajdb.specs.Calls.{IsLater, LeavesBook, Loads, LoadsBy, NamesFile, TellsLoadBy}
 use Rattle.trajdb.specs.Database.{CoreView}
 use Rattle.trajdb.specs.Files.{file_named}
 use Rattle.trajdb.specs.Picks.{Picks}
@@ -155,24 +155,24 @@ module _ {I : Type 0} (g : Ghosts I) (core : CoreView I) where
   Names P Failed = (core.failed ≡ true) ⊎ (g.is_spent core.index ≡ true)
   Names P Output = Unit {0}
 
-  -- a file that is not there meets no page; of one that is there this says nothing
-  abbrev pub NamesLoad : Option (List ℕ) → RunFault → Type 0
-  NamesLoad (Some bytes) fault = Unit {0}
-  NamesLoad None fault = Names (λ page. ⊥) fault
+  -- a file that is not there meets no page; of one that is there a page that is named is page 0, or is blamed by its legs
+  abbrev pub NamesLoad : CoreView I → Option (List ℕ) → RunFault → Type 0
+  NamesLoad new (Some bytes) fault = NamesFile g core new bytes fault
+  NamesLoad new None fault = Names (λ page. ⊥) fault
 
   -- why a command is refused: a page that a question names is one that it met
-  abbrev pub NamesBy : List (List ℕ × List ℕ) → Command → RunFault → Type 0
-  NamesBy files (Load name) fault = NamesLoad (file_named files name) fault
-  NamesBy files Count fault = Names (λ page. ⊥) fault
-  NamesBy files (Box rect period) fault = Names (DeniesLegs (InBox (box_over rect period))) fault
-  NamesBy files (Legs predicate rect period) fault =
+  abbrev pub NamesBy : CoreView I → List (List ℕ × List ℕ) → Command → RunFault → Type 0
+  NamesBy new files (Load name) fault = NamesLoad new (file_named files name) fault
+  NamesBy new files Count fault = Names (λ page. ⊥) fault
+  NamesBy new files (Box rect period) fault = Names (DeniesLegs (InBox (box_over rect period))) fault
+  NamesBy new files (Legs predicate rect period) fault =
       Names (DeniesLegs (InBox (box_near predicate rect period))) fault
-  NamesBy files (Features predicate rect period) fault =
+  NamesBy new files (Features predicate rect period) fault =
       Names (λ page. length core.book.names ≤ most → DeniesSome period page) fault
-  NamesBy files (Trajectory name) fault =
+  NamesBy new files (Trajectory name) fault =
       Names (λ page. length core.book.names ≤ most
       → DeniesTrack (feature_of core.book.names name) page) fault
-  NamesBy files Write fault = Names (DeniesFile core.book.head) fault
+  NamesBy new files Write fault = Names (DeniesFile core.book.head) fault
 
 -- what a command that is answered leaves, be the database sound or not: a question all that is known of the book, and a
 -- `load` of a file that is there what its answer tells; the database is not failed
@@ -202,13 +202,14 @@ module _ {I : Type 0} (g : Ghosts I) (files : List (List ℕ × List ℕ)) where
       × TellsLine old mid line first × TellsLines mid new lines others
 
   -- why a line was not answered
-  abbrev pub NamesSaid : CoreView I → Result (Option Command) LineCode → RunFault → Type 0
-  NamesSaid core (Ok (Some command)) fault = NamesBy g core files command fault
-  NamesSaid core (Ok None) fault = fault ≡ Memory
-  NamesSaid core (Err code) fault = fault ≡ Memory
+  abbrev pub NamesSaid : (old new : CoreView I) → Result (Option Command) LineCode → RunFault
+      → Type 0
+  NamesSaid old new (Ok (Some command)) fault = NamesBy g old new files command fault
+  NamesSaid old new (Ok None) fault = fault ≡ Memory
+  NamesSaid old new (Err code) fault = fault ≡ Memory
 
-  unfoldable pub NamesLine : CoreView I → List ℕ → RunFault → Type 0
-  NamesLine core line fault = NamesSaid core (line_of line) fault
+  unfoldable pub NamesLine : (old new : CoreView I) → List ℕ → RunFault → Type 0
+  NamesLine old new line fault = NamesSaid old new (line_of line) fault
 
   -- all lines are done, and their answers and nothing else were sent
   pub record TellsRun (sent sent' : Option (List ℕ)) (old new : CoreView I)
@@ -227,7 +228,7 @@ module _ {I : Type 0} (g : Ghosts I) (files : List (List ℕ × List ℕ)) where
     pub text : List ℕ
     pub tells : TellsLines old mid (take k lines) text
     pub sends : Appends sent sent' text
-    pub names : NamesLine mid (slice_index_or lines k []) fault
+    pub names : NamesLine mid new (slice_index_or lines k []) fault
     pub fails : FailsAt files new.failed fault (slice_index_or lines k [])
     pub left : (LoadsBy files (slice_index_or lines k []) → ⊥) → LeavesBook g mid new
     pub lives : new.failed ≡ false → LeavesBook g mid new
@@ -266,7 +267,7 @@ module _ {I : Type 0} (g : Ghosts I) (files : List (List ℕ × List ℕ)) where
   pub record HasNamed (sent sent' : Option (List ℕ)) (old new : CoreView I) (line : List ℕ)
       (fault : RunFault) : Type 0 where
     pub sends : Keeps sent sent'
-    pub names : NamesLine old line fault
+    pub names : NamesLine old new line fault
     pub fails : FailsAt files new.failed fault line
     pub left : (LoadsBy files line → ⊥) → LeavesBook g old new
     pub lives : new.failed ≡ false → LeavesBook g old new

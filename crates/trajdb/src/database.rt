@@ -98,7 +98,7 @@ impl<I: Start> Core<I> {
     ghost use Rattle.trajdb.specs.Answers.{book_with, load_of};
     ghost use Rattle.trajdb.specs.Database.{FaultIs, IsRefused, IsTold, LoadGives, Becomes, IsSound};
     ghost use Rattle.trajdb.specs.Loads.{Accepts, IsRead, PutsNew};
-    ghost use Rattle.trajdb.specs.Calls.{IsBookOf, IsJoinStop, IsLater, IsLoadFault, IsLoadStop, IsOfStore, IsRefusedBy, LeavesPages, PutsFile};
+    ghost use Rattle.trajdb.specs.Calls.{BlamesLegs, BlamesLoad, IsBookOf, IsJoinStop, IsLater, IsLoadFault, IsLoadStop, IsOfStore, IsRefusedBy, LeavesPages, PutsFile};
 
     /// Takes in a file that was read and joined.
     fn take(&mut self, new: NewFile) -> Result<(), RunFault>
@@ -113,6 +113,8 @@ impl<I: Start> Core<I> {
         ensures failed { self.new.failed ≡ self.old.failed }
         ensures begun { OnOk result (self.new.begun ≡ true) }
         ensures idle { OnErr result (self.new.begun ≡ self.old.begun) }
+        ensures blames { IfErr result
+            (BlamesLegs I.Listed self.old.index self.new.index new.joined.legs) }
         ensures marks { OnOk result (I.is_faithful self.old.index → I.is_marked self.new.index) }
         ensures pages { I.is_faithful self.old.index
             → LeavesPages I.Listed self.old.index self.new.index }
@@ -159,6 +161,7 @@ impl<I: Start> Core<I> {
         ensures begun { OnOk result (self.new.begun ≡ true) }
         ensures puts { IfOk result (PutsFile I.Listed self.old self.new bytes.now) }
         ensures reads { IfErr result (IsRefusedBy bytes.now) }
+        ensures blames { IfErr result (BlamesLoad I.Listed self.old self.new bytes.now) }
         ensures gives { (book : Book) → IsBookOf self.old book
             → LoadGives result (load_of self.old.limits book bytes.now) }
         ensures idle { OnErr result (self.new.begun ≡ self.old.begun) }
@@ -205,7 +208,7 @@ impl<I: Start> Core<I> {
     ghost use Rattle.std.specs.Prelude.{◌≡◌, IfOk, IfErr, OnOk, OnErr, Some, true, false};
     ghost use Rattle.trajdb.specs.Answers.{named_book, named_text, AcceptsNamed, IsCountsText};
     ghost use Rattle.trajdb.specs.Database.{Becomes, IsSound};
-    ghost use Rattle.trajdb.specs.Calls.{Begins, BeginsBy, BeginsOnly, IsStopped, IsLater, IsWholeFile, KeepsPages, TellsLoad};
+    ghost use Rattle.trajdb.specs.Calls.{Begins, BeginsBy, BeginsOnly, IsStopped, IsLater, IsWholeFile, KeepsPages, NamesFile, TellsLoad};
 
     /// The answer to `load` of a file.
     fn load_text(&mut self, alloc: Global, bytes: &[u8]) -> Result<Vec<u8>, RunFault>
@@ -223,6 +226,7 @@ impl<I: Start> Core<I> {
             (AcceptsNamed self.old.limits self.old.book (Some bytes.now)) }
         ensures whole { BeginsBy self.old self.new (IsWholeFile bytes.now) }
         ensures told { IfOk result (λ text. BeginsBy self.old self.new (IsCountsText text.items)) }
+        ensures blames { IfErr result (NamesFile I.Listed self.old self.new bytes.now) }
         ensures told_load { IfOk result (λ text. TellsLoad I.Listed self.old self.new bytes.now
             text.items) }
         ensures pages { KeepsPages I.Listed self.old self.new }
@@ -297,7 +301,7 @@ impl<I: Start> Core<I> {
         ensures lives { OnOk result (self.new.failed ≡ false) }
         ensures says { IfOk result (λ text.
             TellsLine I.Listed files.now self.old self.new line.now text.items) }
-        ensures named { IfErr result (NamesLine I.Listed files.now self.old line.now) }
+        ensures named { IfErr result (NamesLine I.Listed files.now self.old self.new line.now) }
         ensures later { IsLater I.Listed self.old self.new }
         ensures speaks { OnErr result (Speaks line.now) }
         ensures refused { OnErr result (self.new.failed ≡ false

@@ -100,7 +100,8 @@ pub enum RunFault {
     /// The page store has no room for another page.
     #[error("the store is full")]
     StoreFull,
-    /// An earlier load stopped half way, so the database answers nothing any more.
+    /// An earlier load stopped half way, so the database answers nothing any more; or its index has no place for a
+    /// feature that the catalogue names, and this one stops.
     #[error("the database failed earlier")]
     Failed,
     /// The output took no more bytes.

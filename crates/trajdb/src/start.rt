@@ -3,7 +3,8 @@ ghost use Rattle.std.specs.Prelude.{OnOk, IfErr, IsErrOf};
 ghost use Rattle.legs.specs.Index.{CanFollowInTurn, HasRisen, MayRefuseLeg};
 ghost use Rattle.legs.specs.Asking.{Grows, HasAdded, IsLater};
 ghost use Rattle.legs.specs.declared.index.IndexFault.{IndexFault};
-ghost use Rattle.trajdb.specs.Calls.{LeavesPages};
+ghost use Rattle.trajdb.specs.Calls.{BlamesLegs, LeavesPages};
+ghost use Rattle.trajdb.specs.Faults.{run_fault_of};
 
 use legs::{IndexFault, Leg, LegIndex, ListIndex};
 
@@ -36,6 +37,8 @@ pub(crate) fn put_legs<I: Start>(index: &mut I, legs: &[Leg]) -> Result<(), Inde
     ensures store { IsErrOf result IndexFault.Store
         → HasRisen (I.faults index.old) (I.faults index.new) }
     ensures full { IsErrOf result IndexFault.StoreFull → I.is_store_full index.new }
+    ensures blames { IfErr result (λ fault.
+        BlamesLegs I.Listed index.old index.new legs.now (run_fault_of fault)) }
     ensures later { IsLater I.Listed index.old index.new }
     ensures marks { OnOk result (I.is_faithful index.old → I.is_marked index.new) }
     ensures pages { I.is_faithful index.old → LeavesPages I.Listed index.old index.new }

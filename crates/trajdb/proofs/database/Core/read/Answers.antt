@@ -1,7 +1,8 @@
 use Rattle.std.proofs.Common.{ℕ, List, ◌∙◌, ◌++◌, ap, sym, Ok}
 use Rattle.legs.specs.Book.{head_with}
+use Rattle.trajdb.specs.Calls.{BlamesFile}
 use Rattle.trajdb.specs.declared.Counts.{Counts}
-use Rattle.trajdb.proofs.LoadLemmas.{accepted_book, accepted_counts, told_kept}
+use Rattle.trajdb.proofs.LoadLemmas.{accepted_book, accepted_counts, names_file, told_kept}
 use Rattle.trajdb.proofs.database.Core.read.Goals as goal
 
 pub returns-in-Err-clause-becomes : goal.returns-in-Err-clause-becomes
@@ -38,3 +39,9 @@ pub returns-in-Ok-take-clause-gives : goal.returns-in-Ok-take-clause-gives
 returns-in-Ok-take-clause-gives g c = λ book of.
     let is = c.in-Ok.ensures.read in
     accepted_counts c.args.self.now.limits book c.args.bytes.now is.file c.in-Ok.new is.said (is.accepts book of.tracks of.head) ∙ ap Ok (sym c.counts_of-counts.ensures)
+
+pub returns-in-Err-take-clause-blames : goal.returns-in-Err-take-clause-blames
+returns-in-Err-take-clause-blames g c =
+    let is = c.in-Ok.ensures.read in
+    let blamed : BlamesFile g.I.Listed c.args.self.now c.take.new.self c.args.bytes.now c.in-Err-take.fault = record { file = is.file; said = is.said; legs = c.in-Ok.new.joined.legs; adds = λ book of. (is.accepts book of.tracks of.head).0.legs; blames = c.in-Err-take.ensures.blames } in
+    names_file g.I.Listed c.args.self.now c.take.new.self c.args.bytes.now c.in-Err-take.fault blamed

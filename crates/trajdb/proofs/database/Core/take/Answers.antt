@@ -1,8 +1,11 @@
 use Rattle.std.proofs.Common.{◌++◌, ◌∙◌, ap, refl, sym, subst, List, ℕ}
+use Rattle.std.proofs.lemmas.Result.{err_from_is_err_and}
 use Rattle.legs.specs.Book.{Book, head_with}
 use Rattle.legs.specs.Tracks.{StandsFor}
 use Rattle.legs.specs.Law.{IsBook}
 use Rattle.trajdb.specs.Loads.{values_of}
+use Rattle.trajdb.specs.Calls.{BlamesLegs}
+use Rattle.trajdb.specs.Faults.{run_fault_of}
 use Rattle.trajdb.proofs.BookLemmas.{with_file-parts}
 use Rattle.trajdb.proofs.database.Core.take.Goals as goal
 
@@ -42,3 +45,9 @@ returns-clause-puts g c =
             rows = ap (λ (b : Book). b.rows) same;
           };
     })
+
+pub returns-in_err-put_legs-clause-blames : goal.returns-in_err-put_legs-clause-blames
+returns-in_err-put_legs-clause-blames g c =
+    let blames : BlamesLegs g.I.Listed c.args.self.now.index c.put_legs.new.index c.args.new.joined.legs (run_fault_of c.in_err-put_legs.field-0.0) = rw (← c.self.view_is) (rw c.legs.ensures at c.in_err-put_legs.ensures.blames) in
+    let p = err_from_is_err_and c.from_residual.result c.from_residual.ensures.1 in
+    rw (p.1, p.2) blames
