@@ -1,5 +1,6 @@
 //! The folder of a store's file, as the system has it.
-ghost use Rattle.std.specs.Prelude.{◌≡◌, None};
+ghost use Rattle.std.specs.Prelude.{◌≡◌, None, IfErr};
+ghost use Rattle.sessions.specs.Folder.{IsOfFolder};
 
 use crate::held_file::HeldFile;
 use crate::locks::{Held, Hold, hold_name, is_named, open_held};
@@ -80,7 +81,9 @@ fn set_rights<R: Files<File = File>>(
 }
 
 /// Makes the file of a name that no other run has made.
-fn make<'a, R: Files<File = File>>(rt: &R, name: &str, mode: u32) -> Result<File, Fault<'a>> {
+fn make<'a, R: Files<File = File>>(rt: &R, name: &str, mode: u32) -> Result<File, Fault<'a>>
+    ensures named { IfErr result IsOfFolder }
+{
     let mut how = File::options();
     how.read(true).write(true).create_new(true).mode(mode);
     match how.open(rt, name) {
@@ -161,7 +164,8 @@ impl<'a, 'p, R: Files<File = File> + Clock + Eprint> SystemFolder<'a, 'p, R> {
     /// Makes the copy. Where there are no locks, another run may have replaced the store before, whose
     /// copy this one would take back: it is refused then.
     fn make_copy<'b>(&mut self) -> Result<File, Fault<'b>>
-        ensures { self.new.is_settled ≡ self.old.is_settled }
+        ensures settled { self.new.is_settled ≡ self.old.is_settled }
+        ensures named { IfErr result IsOfFolder }
     {
         let (rt, name) = (self.rt, self.names.copy.as_str());
         let mode = if self.store.is_some() {

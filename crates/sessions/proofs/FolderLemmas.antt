@@ -16,7 +16,7 @@ use Rattle.trajdb.specs.declared.OpenFault.{OpenFault}
 use Rattle.trajdb.specs.declared.RunFault.{RunFault}
 use Rattle.sessions.specs.Answers.{said, Answers, ClosesAfter, Ends, FailsToLoad, RunsOver, SendsFront, new_shape}
 use Rattle.sessions.specs.declared.fault.Fault.{Fault}
-use Rattle.sessions.specs.Folder.{BeginsWith, History, HoldsNow, IsRefusedBeside, NameIsKept, RunsBeside, store_in}
+use Rattle.sessions.specs.Folder.{BeginsWith, History, HoldsNow, IsOfFolder, IsRefusedBeside, NameIsKept, RunsBeside, store_in}
 use Rattle.sessions.proofs.AnswerLemmas.{front_done}
 
 -- what a folder tells of a store's name is faithful
@@ -189,9 +189,10 @@ pub on_both : {T E : Type 0} (A B : Type 0) (r : Result T E) → A → OnOk r B 
 on_both A B (Ok x) a b = (a, b)
 on_both A B (Err e) a b = tt
 
-pub on_refusal : {T E : Type 0} (A : Type 0) (r : Result T E) → A → OnErr r A
-on_refusal A (Ok x) a = tt
-on_refusal A (Err e) a = a
+-- a run that is answered is refused as its folder refuses it
+pub refused_by_folder : (answered r : Result (Unit {0}) Fault) → answered ≡ Ok tt → IfErr r IsOfFolder → IfErr r (λ fault. (answered ≡ Err fault) ⊎ ((answered ≡ Ok tt) × IsOfFolder fault))
+refused_by_folder answered (Ok x) is named = tt
+refused_by_folder answered (Err fault) is named = inr (is, named)
 
 -- a database is made, or it is not, of a store without pages
 pub made_or_not : {S : Type 0} {is_new : Bool} (r : Result DbView (S × OpenFault)) (s : Store)

@@ -12,7 +12,7 @@ use Rattle.version1.specs.Migrating.{IsBrought}
 use Rattle.register.specs.Saved.{CatalogueView}
 use Rattle.migration.specs.Bringing.{IsMigratingFault}
 use Rattle.trajdb.specs.Calls.{IsLoadFault, LoadsBy, LoadsWholeSome, Speaks}
-use Rattle.trajdb.specs.Db.{DbView, HasPages, IsSoundDb}
+use Rattle.trajdb.specs.Db.{page_count_of, shape_of, store_of, DbView, HasPages, IsSoundDb}
 use Rattle.trajdb.specs.Faults.{IsNotOutput}
 use Rattle.trajdb.specs.Lasting.{IsFaultless, IsIdle, IsSafe, IsSafeStore}
 use Rattle.trajdb.specs.Promises.{CloseCall, KeepsStore, RunCall}
@@ -78,14 +78,14 @@ pub record FailsToLoad (db : DbView) (files : List (List ℕ × List ℕ)) (line
 
 -- a store has the pages that a database counts, as they were written
 abbrev pub HasWritten : DbView → Store → Type 0
-HasWritten db store = take db.index.cache.count store.pages ≡ written db.index
+HasWritten db store = take (page_count_of db) store.pages ≡ written db.index
 
 -- a database is closed with the book after so many lines; and without a fault where it had not begun and none of these
 -- lines is a `load` that is accepted
 abbrev pub ClosesAfter : DbView → List (List ℕ × List ℕ) → List (List ℕ) → ℕ
     → (closed : Result (Unit {0}) RunFault) → Store → Type 0
 ClosesAfter db files lines done closed store =
-    ClosesWith db.index.tree.shape db.limits (run_book db.limits files db.book (take done lines))
+    ClosesWith (shape_of db) db.limits (run_book db.limits files db.book (take done lines))
     closed store
     × (db.begun ≡ false → OnErr closed (AcceptsSome db.limits files db.book (take done lines)))
 
@@ -175,7 +175,7 @@ pub record Checks (store : Store) (shape : ShapeView) (limits : LimitsView) (boo
 -- before, or takes no more legs, where it is said to have failed
 abbrev pub IsCheckFault : DbView → Store → RunFault → Type 0
 IsCheckFault db left run.Memory = Unit {0}
-IsCheckFault db left run.Store = Faulted db.index.cache.store left
+IsCheckFault db left run.Store = Faulted (store_of db) left
 IsCheckFault db left (run.Damaged page) = Unit {0}
 IsCheckFault db left run.StoreFull = ⊥
 IsCheckFault db left run.Failed = (db.failed ≡ true) ⊎ (words.is_spent db.index ≡ true)

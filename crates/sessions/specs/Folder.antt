@@ -1,5 +1,5 @@
 -- What the name of a store stands for, from moment to moment, and what a run makes of it.
-use Rattle.std.specs.Prelude.{ℕ, ◌≡◌, ◌<◌, ◌⊎◌, ◌^◌, ◌-◌, List, [], ◌∷◌, length, Bool, Option, Some, None, IfSome, IsTrue, MatchResult, OnErr, OnOk, Ok, Result, false, true, ⊤}
+use Rattle.std.specs.Prelude.{ℕ, ◌≡◌, ◌<◌, ◌⊎◌, ◌^◌, ◌-◌, List, [], ◌∷◌, length, Bool, Option, Some, None, IfErr, IfSome, IsErr, IsTrue, MatchResult, OnOk, Err, Ok, Result, false, true, ⊤}
 use Rattle.legs.specs.Book.{Book, empty_book}
 use Rattle.legs.specs.Costs.{ShapeView}
 use Rattle.legs.specs.Limits.{limits_of, LimitsView}
@@ -14,9 +14,10 @@ use Rattle.trajdb.specs.Promises.{OpenCall}
 use Rattle.trajdb.specs.Run.{HasRun}
 use Rattle.trajdb.specs.declared.OpenFault.{OpenFault}
 use Rattle.trajdb.specs.declared.RunFault.{RunFault}
+use Rattle.trajdb.specs.declared.RunFault.TheVariants.{Memory, Store as StoreFailed}
 use Rattle.sessions.specs.Answers.{Answers, RunsOver, new_shape}
 use Rattle.sessions.specs.declared.fault.Fault.{Fault}
-use Rattle.sessions.specs.declared.fault.Fault.TheVariants.{Run}
+use Rattle.sessions.specs.declared.fault.Fault.TheVariants.{Bounds, CannotRead, CannotWrite, InUse, NoPart, NoStore, NoSuchStore, NotEmpty, Open, Run}
 
 -- the pages of the file of that name at each moment so far, the last one first; `None` where there was no file
 abbrev pub History : Type 0
@@ -85,6 +86,24 @@ IsKeptOnce old new = (store : Store) × NameIsKept store old new
 abbrev pub HoldsNow : ShapeView → LimitsView → Book → Option History → Type 0
 HoldsNow shape limits book held = IfSome held (λ now. HoldsBook (store_in now) shape limits book)
 
+-- why a folder refuses a run: memory ran out, a call of the system failed, or another run holds the store. It names no page
+-- of a database, and says nothing of a script or a part
+abbrev pub IsOfFolder : Fault → Type 0
+IsOfFolder (Run why) = (why ≡ Memory) ⊎ (why ≡ StoreFailed)
+IsOfFolder (Open why) = ⊥
+IsOfFolder (CannotRead name) = ⊥
+IsOfFolder (CannotWrite name) = ⊥
+IsOfFolder NotEmpty = ⊥
+IsOfFolder (NoPart number count) = ⊥
+IsOfFolder InUse = Unit {0}
+IsOfFolder (NoStore cause) = Unit {0}
+IsOfFolder NoSuchStore = ⊥
+IsOfFolder (Bounds code) = ⊥
+
+-- it makes no copy
+abbrev pub IsNotCopied : Result (Unit {0}) Fault → Type 0
+IsNotCopied result = IsErr result × IfErr result IsOfFolder
+
 -- how a run on a copy over a book is refused: nothing was sent of it, or all was, or it says which kind of fault it is: of
 -- the output, want of memory, or of a store that failed or is full; that it is so, this does not say
 abbrev pub IsRefusedBeside : LimitsView → Book → List (List ℕ × List ℕ)
@@ -106,7 +125,7 @@ pub record RunsBeside (shape : ShapeView) (limits : LimitsView) (book : Book)
 
 -- a run on a copy of what the name stood for, whatever that held: a store with pages was opened, and one without them was made
 -- a database where that was asked for; it was run over and closed (`RunsOver`). Where that is answered, the name is kept as
--- `NameIsKept` says; it is refused as that was, or as the name was not given
+-- `NameIsKept` says; it is refused as that was, or as the folder did not give the name
 pub record RunsOnCopy {S O : Type 0} (seen : S → Store) (shown : O → Option (List ℕ))
     (is_new : Bool) (cache_pages : ℕ) (old new : Option History)
     (files : List (List ℕ × List ℕ)) (out out' : O) (lines : List (List ℕ))
@@ -122,4 +141,5 @@ pub record RunsOnCopy {S O : Type 0} (seen : S → Store) (shown : O → Option 
   pub store : Store
   pub run : RunsOver seen shown opened files out out' lines answered store
   pub kept : OnOk result ((answered ≡ Ok tt) × NameIsKept store old new)
-  pub refused : OnErr result ((answered ≡ result) ⊎ (answered ≡ Ok tt))
+  pub refused : IfErr result
+      (λ fault. (answered ≡ Err fault) ⊎ ((answered ≡ Ok tt) × IsOfFolder fault))

@@ -1,11 +1,11 @@
 //! A run that works on a copy beside the store.
-ghost use Rattle.std.specs.Prelude.{◌≡◌, ◌<◌, ◌⊎◌, IfErr, IfSome, IsErr, IsTrue, OnErr, OnOk};
+ghost use Rattle.std.specs.Prelude.{◌≡◌, ◌<◌, ◌⊎◌, IfErr, IfSome, IsTrue, OnErr, OnOk};
 ghost use Rattle.legs.specs.Book.{Book};
 ghost use Rattle.legs.specs.Costs.{ShapeView};
 ghost use Rattle.legs.specs.Limits.{LimitsView};
 ghost use Rattle.trajdb.specs.Script.{lines_of};
 ghost use Rattle.sessions.specs.Answers.{SendsFront};
-ghost use Rattle.sessions.specs.Folder.{BeginsWith, NameIsKept, IsKeptOnce, IsRefusedBeside, IsReplaced, RunsBeside, RunsOnCopy, store_in};
+ghost use Rattle.sessions.specs.Folder.{BeginsWith, NameIsKept, IsKeptOnce, IsNotCopied, IsOfFolder, IsRefusedBeside, IsReplaced, RunsBeside, RunsOnCopy, store_in};
 
 use crate::fault::Fault;
 use crate::folder::Folder;
@@ -35,6 +35,7 @@ fn give<'a, F: Folder>(folder: &mut F, mut store: F::Store) -> Result<(), Fault<
     ensures replaced { OnOk result (IsReplaced (F.Store.PageStore.seen store) (F.held folder.old)
         (F.held folder.new)) }
     ensures stays { OnErr result (F.held folder.new ≡ F.held folder.old) }
+    ensures named { IfErr result IsOfFolder }
     ensures settled { OnOk result (IsTrue (F.is_settled folder.new)) }
 {
     if store.sync().is_err() {
@@ -54,6 +55,7 @@ fn keep<'a, F: Folder>(folder: &mut F, store: F::Store) -> Result<(), Fault<'a>>
     ensures kept { OnOk result (NameIsKept (F.Store.PageStore.seen store) (F.held folder.old)
         (F.held folder.new)) }
     ensures stays { OnErr result (F.held folder.new ≡ F.held folder.old) }
+    ensures named { IfErr result IsOfFolder }
     ensures settled { OnOk result (IsTrue (F.is_settled folder.old)
         → IsTrue (F.is_settled folder.new)) }
 {
@@ -95,9 +97,10 @@ pub fn run_on_copy<'a, F: Folder, W: Write>(
         → RunsBeside shape limits book files.now (W.contents out.old) (W.contents out.new)
         (lines_of script.now) (F.held folder.old) (F.held folder.new))) }
 
-    // Whatever the store held, there was no copy, and nothing was sent, or a database over the copy was
-    // opened or refused, run over and closed, and the name given to what that left, or not.
-    ensures over { (IsErr result × (W.contents out.new ≡ W.contents out.old))
+    // Whatever the store held, there was no copy, for which the folder says why, and nothing was sent, or a
+    // database over the copy was opened or refused, run over and closed, and the name given to what that
+    // left, or not.
+    ensures over { (IsNotCopied result × (W.contents out.new ≡ W.contents out.old))
         ⊎ RunsOnCopy F.Store.PageStore.seen W.contents how.is_new how.cache_pages
         (F.held folder.old) (F.held folder.new) files.now out.old out.new (lines_of script.now)
         result }

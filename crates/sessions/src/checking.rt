@@ -4,7 +4,7 @@ ghost use Rattle.pages.specs.Store.{IsSynced};
 ghost use Rattle.catalogue.specs.Holding.{HoldsBook};
 ghost use Rattle.trajdb.specs.Calls.{IsQuestionFault};
 ghost use Rattle.trajdb.specs.Checking.{IsFirstFault};
-ghost use Rattle.trajdb.specs.Db.{HasPages, IsSoundDb};
+ghost use Rattle.trajdb.specs.Db.{shape_of, store_of, HasPages, IsSoundDb};
 ghost use Rattle.trajdb.specs.Lasting.{IsIdle};
 ghost use Rattle.sessions.specs.Answers.{Checks, HasWritten, IsCheckFault};
 
@@ -19,21 +19,21 @@ pub fn check_and_close<S: PageStore>(
     mut database: Db<S>,
 ) -> (S, Result<Report, RunFault>)
     // The store then holds the book that was opened, and the report is that of it.
-    ensures checks { IfOk result.1 (λ report. IsTrue database.index.cache.store.is_faithful
+    ensures checks { IfOk result.1 (λ report. IsTrue (store_of database).is_faithful
         → IsIdle database → database.begun ≡ false
-        → Checks (S.seen result.0) database.index.tree.shape database.limits database.book report) }
+        → Checks (S.seen result.0) (shape_of database) database.limits database.book report) }
 
     // A book that the store held it holds, whatever is answered.
     ensures kept { IsSoundDb database → HasPages database → IsIdle database
         → database.begun ≡ false → database.failed ≡ false
-        → HoldsBook (S.seen result.0) database.index.tree.shape database.limits database.book }
+        → HoldsBook (S.seen result.0) (shape_of database) database.limits database.book }
 
     // Nor does it lose a page that the database counts, be that sound or not: each stays as it was
     // written; and of one that had failed the store stays.
-    ensures stays { IsTrue database.index.cache.store.is_faithful → IsIdle database
+    ensures stays { IsTrue (store_of database).is_faithful → IsIdle database
         → database.begun ≡ false → database.failed ≡ false
         → HasWritten database (S.seen result.0) }
-    ensures failed { database.failed ≡ true → S.seen result.0 ≡ database.index.cache.store }
+    ensures failed { database.failed ≡ true → S.seen result.0 ≡ store_of database }
 
     // Where the database had begun, all of the store is synced where it passes.
     ensures synced { OnOk result.1 (database.begun ≡ true → IsSynced (S.seen result.0)) }
@@ -44,7 +44,7 @@ pub fn check_and_close<S: PageStore>(
     ensures only { IfErr result.1 (λ fault. IsSoundDb database → HasPages database
         → IsIdle database → database.begun ≡ false → database.failed ≡ false
         → IsQuestionFault fault) }
-    ensures named { IsTrue database.index.cache.store.is_faithful → database.begun ≡ false
+    ensures named { IsTrue (store_of database).is_faithful → database.begun ≡ false
         → (page : ℕ) → IsErrOf result.1 (RunFault.Damaged page) → IsFirstFault database page }
     ensures caused { IfErr result.1 (λ fault. database.begun ≡ false
         → IsCheckFault database (S.seen result.0) fault) }

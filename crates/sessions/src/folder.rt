@@ -1,7 +1,7 @@
 //! The contract of the folder that a store's file is in.
-ghost use Rattle.std.specs.Prelude.{◌≡◌, Bool, Option, IfOk, IfSome, IsTrue, OnErr, OnOk, false};
+ghost use Rattle.std.specs.Prelude.{◌≡◌, Bool, Option, IfErr, IfOk, IfSome, IsTrue, OnErr, OnOk, false};
 ghost use Rattle.pages.specs.Store.{IsSynced};
-ghost use Rattle.sessions.specs.Folder.{HasPagesHeld, History, IsReplaced, store_in};
+ghost use Rattle.sessions.specs.Folder.{HasPagesHeld, History, IsOfFolder, IsReplaced, store_in};
 
 use crate::fault::Fault;
 use pages::PageStore;
@@ -27,6 +27,7 @@ pub trait Folder {
     fn copy<'a>(&mut self) -> Result<Self::Store, Fault<'a>>
         ensures stays { held self.new ≡ held self.old }
         ensures settled { is_settled self.new ≡ is_settled self.old }
+        ensures named { IfErr result IsOfFolder }
         ensures copies { IfOk result (λ store. IfSome (held self.old)
             (λ past. Self.Store.PageStore.seen store ≡ store_in past)) };
 
@@ -41,7 +42,8 @@ pub trait Folder {
         requires { IsSynced (Self.Store.PageStore.seen store) }
         ensures replaced { OnOk result (IsReplaced (Self.Store.PageStore.seen store)
             (held self.old) (held self.new)) }
-        ensures stays { OnErr result (held self.new ≡ held self.old) };
+        ensures stays { OnErr result (held self.new ≡ held self.old) }
+        ensures named { IfErr result IsOfFolder };
 
     /// Makes the name that was given last, where the system can.
     fn settle(&mut self)

@@ -8,7 +8,7 @@ ghost use Rattle.catalogue.specs.Holding.{HoldsBook};
 ghost use Rattle.pages.specs.Sealed.{sealed};
 ghost use Rattle.pages.specs.Store.{Faulted, IsSynced, Writes};
 ghost use Rattle.header.specs.Fields.{header_payload};
-ghost use Rattle.trajdb.specs.Db.{HasPages, IsAllowed, IsSoundDb};
+ghost use Rattle.trajdb.specs.Db.{capacity_of, shape_of, store_of, HasPages, IsAllowed, IsSoundDb};
 ghost use Rattle.trajdb.specs.Lasting.{HasBook, IsIdle, IsSafe, IsStop};
 ghost use Rattle.trajdb.specs.Promises.{OpenCall};
 ghost use Rattle.sessions.specs.Answers.{new_shape, said, Answers, HasWritten, NoneBegins, OnlyAsks, RunBegins, RunsAndCloses, RunsOver, SendsFront};
@@ -62,7 +62,7 @@ pub fn database<S: PageStore>(
     ensures lives { IfOk result (λ db. db.failed ≡ false) }
     ensures safe { IfOk result (λ db. IsTrue (S.seen store).is_faithful → IsSoundDb db
         → IsSafe (S.seen store) db) }
-    ensures capacity { IfOk result (λ db. db.index.cache.capacity ≡ cache_pages) }
+    ensures capacity { IfOk result (λ db. capacity_of db ≡ cache_pages) }
 
     // A store that has a page, or of which none is to be made, is opened, be what it holds sound or not.
     ensures opens { (is_new ≡ false) ⊎ (0 < (S.seen store).count)
@@ -71,9 +71,9 @@ pub fn database<S: PageStore>(
     // One that is made has page 0 alone, its header, which is synced.
     ensures header { IfOk result (λ db. IsTrue is_new → (S.seen store).count ≡ 0
         → Writes 0 (sealed 0 (header_payload new_shape (limits_of 16777216 1048576)))
-        (S.seen store) db.index.cache.store) }
+        (S.seen store) (store_of db)) }
     ensures synced { IfOk result (λ db. IsTrue is_new → (S.seen store).count ≡ 0
-        → IsSynced db.index.cache.store) }
+        → IsSynced (store_of db)) }
 
     // One that holds a book is refused for want of memory and a store that failed alone, and one
     // that is to be made besides where there is no room for a page.
@@ -108,7 +108,7 @@ pub fn run_and_close<S: PageStore, W: Write>(
     // Where neither is refused, what was sent is exactly the text of the run over the book, and the
     // store then holds the book after it, in a tree of the same shape.
     ensures runs { OnOk result.1 (OnOk result.2 (IsSoundDb database → HasPages database
-        → IsIdle database → Answers database.index.tree.shape database.limits database.book
+        → IsIdle database → Answers (shape_of database) database.limits database.book
         files.now (W.contents out.old) (W.contents out.new) (lines_of script.now)
         (S.seen result.0))) }
 
@@ -116,13 +116,13 @@ pub fn run_and_close<S: PageStore, W: Write>(
     // none begins it the store has the pages that the database counted, as they were written.
     ensures synced { OnOk result.1 (OnOk result.2 (RunBegins database files.now
         (lines_of script.now) → IsSynced (S.seen result.0))) }
-    ensures stays { OnOk result.1 (IsTrue database.index.cache.store.is_faithful
+    ensures stays { OnOk result.1 (IsTrue (store_of database).is_faithful
         → IsIdle database → database.begun ≡ false
         → NoneBegins database files.now (lines_of script.now)
         → HasWritten database (S.seen result.0)) }
 
     // So it has, whatever is answered, where no line is a load of a file that is there.
-    ensures asked { IsTrue database.index.cache.store.is_faithful → IsIdle database
+    ensures asked { IsTrue (store_of database).is_faithful → IsIdle database
         → database.begun ≡ false → database.failed ≡ false
         → OnlyAsks files.now (lines_of script.now) → HasWritten database (S.seen result.0) }
 
@@ -141,7 +141,7 @@ pub fn run_and_close<S: PageStore, W: Write>(
 
     // The store is said to have failed only where it did.
     ensures caused { IsErrOf result.1 RunFault.Store ⊎ IsErrOf result.2 RunFault.Store
-        → Faulted database.index.cache.store (S.seen result.0) }
+        → Faulted (store_of database) (S.seen result.0) }
 {
     let ran = database.run(alloc, script, files, out);
     let (store, closed) = database.close(alloc);
@@ -173,19 +173,19 @@ pub fn answer<'a, S: PageStore, W: Write>(
     // What was sent is exactly the text of the run over the book, and the store then holds the book
     // after it, in a tree of the same shape.
     ensures runs { OnOk result.1 (IfOk database (λ db. IsSoundDb db → HasPages db → IsIdle db
-        → Answers db.index.tree.shape db.limits db.book files.now (W.contents out.old)
+        → Answers (shape_of db) db.limits db.book files.now (W.contents out.old)
         (W.contents out.new) (lines_of script.now) (S.seen result.0))) }
 
     // Where the database had begun, or a file was accepted, all of the store is synced then; where
     // none begins it the store has the pages that the database counted, as they were written.
     ensures synced { OnOk result.1 (IfOk database (λ db. RunBegins db files.now
         (lines_of script.now) → IsSynced (S.seen result.0))) }
-    ensures stays { OnOk result.1 (IfOk database (λ db. IsTrue db.index.cache.store.is_faithful
+    ensures stays { OnOk result.1 (IfOk database (λ db. IsTrue (store_of db).is_faithful
         → IsIdle db → db.begun ≡ false → NoneBegins db files.now (lines_of script.now)
         → HasWritten db (S.seen result.0))) }
 
     // So it has, whatever is answered, where no line is a load of a file that is there.
-    ensures asked { IfOk database (λ db. IsTrue db.index.cache.store.is_faithful → IsIdle db
+    ensures asked { IfOk database (λ db. IsTrue (store_of db).is_faithful → IsIdle db
         → db.begun ≡ false → db.failed ≡ false → OnlyAsks files.now (lines_of script.now)
         → HasWritten db (S.seen result.0)) }
 
@@ -200,7 +200,7 @@ pub fn answer<'a, S: PageStore, W: Write>(
     ensures over { RunsOver S.seen W.contents database files.now out.old out.new
         (lines_of script.now) result.1 (S.seen result.0) }
     ensures caused { IfOk database (λ db. IsErrOf result.1 (Fault.Run RunFault.Store)
-        → Faulted db.index.cache.store (S.seen result.0)) }
+        → Faulted (store_of db) (S.seen result.0)) }
 {
     match database {
         Ok(database) => {

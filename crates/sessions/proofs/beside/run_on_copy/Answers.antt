@@ -1,4 +1,4 @@
-use Rattle.std.proofs.Common.{◌≡◌, ◌⊎◌, inl, inr, refl, sym, subst, IsTrue, Ok}
+use Rattle.std.proofs.Common.{◌≡◌, inl, inr, refl, sym, subst, IsTrue, Ok}
 use Rattle.std.specs.Prelude.{IfSome, OnOk}
 use Rattle.legs.specs.Book.{Book}
 use Rattle.legs.specs.Costs.{ShapeView}
@@ -9,7 +9,7 @@ use Rattle.trajdb.specs.Lasting.{IsIdle}
 use Rattle.trajdb.specs.Script.{lines_of}
 use Rattle.sessions.specs.Answers.{SendsFront}
 use Rattle.sessions.specs.Folder.{BeginsWith, History, IsRefusedBeside, NameIsKept, RunsBeside, store_in}
-use Rattle.sessions.proofs.FolderLemmas.{begun_with, beside, each, front_answered, front_opened, if_refused, made_or_not, on_both, on_refusal, only_if, over_ended, over_opened, over_unsent, refused_done, refused_run, some_only, tells, under, under_err}
+use Rattle.sessions.proofs.FolderLemmas.{begun_with, beside, each, front_answered, front_none, front_opened, if_refused, made_or_not, on_both, only_if, over_ended, over_opened, over_unsent, refused_by_folder, refused_done, refused_run, some_only, tells, under, under_err}
 use Rattle.sessions.proofs.beside.run_on_copy.Goals as goal
 
 pub returns-in-Ok-answered-clause-runs : goal.returns-in-Ok-answered-clause-runs
@@ -64,6 +64,13 @@ returns-in-Ok-answered-clause-sent g c =
     pages idle (over_opened g.F.Store.PageStore.seen g.W.Write.contents c.args.files.now c.args.out.now c.answer-store.new.out (lines_of c.args.script.now) (g.F.Store.PageStore.seen c.answer-store.result.0) c.answer-store.result.1 c.database-database.result c.answer-store.ensures.over) c.answer-store.ensures.runs
     (begun_with opened first (store_in past) same c.args.how.is_new shape limits book faithful c.database-database.ensures.new c.database-database.ensures.kept h))
 
+pub returns-in-Err-clause-sent : goal.returns-in-Err-clause-sent
+returns-in-Err-clause-sent g c =
+    let lines = lines_of c.args.script.now in
+    let sent = g.W.Write.contents c.args.out.now in
+    some_only (g.F.Folder.held c.args.folder.now) (λ past. (shape : ShapeView) (limits : LimitsView) (book : Book) → BeginsWith c.args.how.is_new (store_in past) shape limits book → SendsFront limits book c.args.files.now sent sent lines)
+    (λ past e shape limits book h. front_none limits book c.args.files.now sent lines)
+
 pub returns-in-Err-clause-refused : goal.returns-in-Err-clause-refused
 returns-in-Err-clause-refused g c =
     let lines = lines_of c.args.script.now in
@@ -108,7 +115,7 @@ returns-in-Ok-answered-clause-refused g c =
     (begun_with opened first (store_in past) same c.args.how.is_new shape limits book faithful c.database-database.ensures.new c.database-database.ensures.kept h))
 
 pub returns-in-Err-clause-over : goal.returns-in-Err-clause-over
-returns-in-Err-clause-over g c = inl (refl, refl)
+returns-in-Err-clause-over g c = inl ((cc, c.in-Err.ensures.named), refl)
 
 pub returns-in-Err-answered-clause-over : goal.returns-in-Err-answered-clause-over
 returns-in-Err-answered-clause-over g c = inr (record {
@@ -141,5 +148,5 @@ returns-in-Ok-answered-clause-over g c =
       store = last;
       run = c.answer-store.ensures.over;
       kept = on_both (answered ≡ Ok tt) (NameIsKept last was is) c.keep.result c.in-Ok-answered.is kept;
-      refused = on_refusal ((answered ≡ c.keep.result) ⊎ (answered ≡ Ok tt)) c.keep.result (inr c.in-Ok-answered.is);
+      refused = refused_by_folder answered c.keep.result c.in-Ok-answered.is c.keep.ensures.named;
     })
