@@ -205,7 +205,7 @@ AddAllAsks g old new legs =
 
 -- once the first ones of the legs, in whatever order of their features, were put in, if any, the page is not what the next
 -- ones need of it: legs of one feature, no more than its last leaf has room for, or than a new one takes where that is full.
--- The tree and the places are left as those first ones made them
+-- The root, the levels, the leaves and the places are left as those first ones made them
 pub record Blames {I : Type 0} (g : Ghosts I) (old new : I) (legs : List LegView)
     (page : ℕ) : Type 0 where
   pub first : List LegView
@@ -245,8 +245,8 @@ pub record LegRefusals {I A : Type 0} (g : Ghosts I) (old new : I) (legs : List 
 -- what the start of a file's legs leaves: the list, what its pages say, where their ways lead, and all that is found by,
 -- sound where it was, spent where it was. Once it is answered, an index over a faithful store is marked, and synced where it
 -- was not; where it is refused, and the index was clean, no page as written has changed but page 0, and that one only where
--- the store failed. It names no page as damaged but page 0, where that one has no payload, and then always; it says of none but
--- a spent index that it is spent
+-- the store failed. It names no page as damaged but page 0, where that one has no payload, and is not answered then; it says of
+-- none but a spent index that it is spent
 pub record Starts {I A : Type 0} (g : Ghosts I) (old new : I)
     (result : Result A IndexFault) : Type 0 where
   pub content : g.content new ≡ g.content old

@@ -242,7 +242,7 @@ pub record HasJoined {I : Type 0} (new : CoreView I) (limits : LimitsView) (book
   pub rows : new.book.rows ≡ (with_file book file).rows
 
 -- a file is taken in, be the database sound or not: so many legs are put into its index, exactly those that the file adds
--- to whatever book its tracks stand for
+-- to whatever book its tracks stand for, and its page 0 had a payload
 pub record PutsFile {I : Type 0} (g : Ghosts I) (old new : CoreView I) (bytes : List ℕ)
     (counts : Counts) : Type 0 where
   pub file : File
@@ -250,6 +250,7 @@ pub record PutsFile {I : Type 0} (g : Ghosts I) (old new : CoreView I) (bytes : 
   pub legs : List LegView
   pub many : counts.legs ≡ length legs
   pub taken : HasAdded g old.index new.index legs
+  pub there : g.is_faithful old.index → g.is_unreadable old.index 0 → ⊥
   pub head : new.book.head ≡ head_with old.book.head file.head
   pub rows : new.book.rows ≡ old.book.rows ++ map (λ it. it.attributes) file.records
   pub joins : (book : Book) → IsBookOf old book → HasJoined new old.limits book file legs

@@ -63,6 +63,7 @@ pub record IsRead (tracks : TracksView) (head : Option BookHead) (limits : Limit
 pub record PutsNew {I : Type 0} (g : Ghosts I) (old new : CoreView I)
     (file : NewFile) : Type 0 where
   pub taken : HasAdded g old.index new.index file.joined.legs
+  pub there : g.is_faithful old.index → g.is_unreadable old.index 0 → ⊥
   pub head : new.book.head ≡ head_with old.book.head file.head
   pub rows : new.book.rows ≡ old.book.rows ++ file.rows
   pub joins : (book : Book) → IsBookOf old book → (it : File)

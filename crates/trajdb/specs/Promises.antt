@@ -55,7 +55,7 @@ pub record LoadCall {I : Type 0} (g : Ghosts I) (old new : CoreView I) (bytes : 
   -- has none
   pub reads : IfErr result (IsRefusedBy bytes)
   -- a page that is named is page 0, which had no payload, or was not what the next of its legs needed of it; and that the
-  -- database failed is said where it had, or where its legs skip a feature
+  -- database failed is said where it had, where the index was spent, or where its legs skip a feature
   pub blames : IfErr result (BlamesLoad g old new bytes)
   -- it is answered as for each book for which the tracks stand
   pub gives : (book : Book) → IsBookOf old book

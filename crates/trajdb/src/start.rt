@@ -32,6 +32,7 @@ impl Start for ListIndex {
 pub(crate) fn put_legs<I: Start>(index: &mut I, legs: &[Leg]) -> Result<(), IndexFault>
     ensures added { OnOk result (Grows I.Listed index.old index.new legs.now) }
     ensures taken { OnOk result (HasAdded I.Listed index.old index.new legs.now) }
+    ensures there { OnOk result (I.is_faithful index.old → I.is_unreadable index.old 0 → ⊥) }
     ensures sound { IfErr result (λ fault. I.is_sound index.old
         → CanFollowInTurn (I.content index.old) legs.now → MayRefuseLeg fault) }
     ensures store { IsErrOf result IndexFault.Store

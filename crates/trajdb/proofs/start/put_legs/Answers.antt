@@ -16,9 +16,16 @@ on_ok : {T E P Q : Type 0} (r : Result T E) → (P → Q) → OnOk r P → OnOk 
 on_ok (Ok x) f h = f h
 on_ok (Err e) f h = tt
 
+on_each : {T E P : Type 0} (r : Result T E) → P → OnOk r P
+on_each (Ok x) h = h
+on_each (Err e) h = tt
+
 pub returns-clause-taken : goal.returns-clause-taken
 returns-clause-taken g c =
     on_ok c.add_all.result (takes_started g.I.Listed c.args.index.now c.start.new.self c.add_all.new.self c.args.legs.now _ c.in_ok-start.ensures.starts) c.add_all.ensures.takes
+
+pub returns-clause-there : goal.returns-clause-there
+returns-clause-there g c = on_each c.add_all.result c.in_ok-start.ensures.starts.there
 
 -- why the start is refused
 start_blames : {I A : Type 0} (g : Ghosts I) (old new : I) (legs : List LegView) (fault : IndexFault) → Starts {A = A} g old new (Err fault) → BlamesLegs g old new legs (run_fault_of fault)

@@ -30,6 +30,7 @@ returns-in-Ok-take-clause-puts g c =
       legs = c.in-Ok.new.joined.legs;
       many = ap (λ (n : Counts). n.legs) c.counts_of-counts.ensures;
       taken = puts.taken;
+      there = puts.there;
       head = puts.head ∙ ap (head_with c.args.self.now.book.head) is.head_is;
       rows = puts.rows ∙ ap (λ (rows : List (List (List ℕ))). c.args.self.now.book.rows ++ rows) is.rows_are;
       joins = λ book of. puts.joins book of is.file (is.accepts book of.tracks of.head);

@@ -31,6 +31,7 @@ pub returns-clause-puts : goal.returns-clause-puts
 returns-clause-puts g c =
     rw (← c.self.view_is) (record {
       taken = rw c.legs.ensures at c.in_ok-put_legs.ensures.taken;
+      there = c.in_ok-put_legs.ensures.there;
       head = c.keep_head.ensures;
       rows = c.in_ok-append.ensures.appended;
       joins = λ book of it accepts.
