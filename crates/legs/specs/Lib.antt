@@ -10,6 +10,7 @@ pub mod GroupSteps
 pub mod Hull
 pub mod Costs
 pub mod Finding
+pub mod Hanging
 pub mod Asking
 pub mod Law
 pub mod Limits
