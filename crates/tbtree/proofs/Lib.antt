@@ -51,3 +51,5 @@ pub mod FillLemmas
 pub mod LeafLemmas
 pub mod FillCosts
 pub mod NeedsLemmas
+pub mod UpperLemmas
+pub mod UpperPages
