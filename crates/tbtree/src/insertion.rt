@@ -17,6 +17,7 @@ ghost use Rattle.tbtree.specs.Joining.{HasAtEnd, Joins, JoinsAll};
 ghost use Rattle.tbtree.specs.Payloads.{TakesLegs, are_of_one_leaf};
 ghost use Rattle.tbtree.specs.Shape.{IsShape};
 ghost use Rattle.tbtree.specs.Stands.{owner};
+ghost use Rattle.tbtree.specs.Upper.{HasHung, HasHungBlock, HasHungLeaf, HasMadeLeaf, IsBlockPage};
 ghost use Rattle.tbtree.specs.declared.fault.TreeFault.{TreeFault};
 
 use crate::fault::TreeFault;
@@ -58,6 +59,8 @@ fn way<S: PageStore>(
     ensures blames { IsTrue cache.old.store.is_faithful → (number : ℕ)
         → at ≡ block_of tree.now.shape.inner number level
         → IfErr result (IfNamed (StopsAbove (pages_of_cache cache.old) tree.now number level)) }
+    ensures block { IsTrue cache.old.store.is_faithful
+        → IfOk result (IsBlockPage (pages_of_cache cache.old) tree.now level at) }
     ensures touches { Touches cache.old cache.new result }
     ensures asked { cache.new.asked + level + 1 ≤ cache.old.asked + tree.now.levels }
 {
@@ -96,6 +99,8 @@ fn into_leaf<S: PageStore>(
         GoesOn (pages_of_cache cache.old) tree.now number page
         → (page ≡ last → CanGrow (pages_of_cache cache.old) tree.now number legs.now page)
         → ⊥)) }
+    ensures hung { IsTrue cache.old.store.is_faithful → OnOk result
+        (HasHung (pages_of_cache cache.old) (pages_of_cache cache.new) tree.now tree.now) }
     ensures touches { Touches cache.old cache.new result }
     ensures asked { cache.new.asked ≤ cache.old.asked + tree.now.levels }
 {
@@ -134,6 +139,9 @@ fn root_over<S: PageStore>(
         tree.now.levels level child.now.bounds child.now.child) }
     ensures blames { IsTrue cache.old.store.is_faithful → IfErr result (IfNamed (λ page.
         (page ≡ tree.now.root) × (HasCover leg_boxes (pages_of_cache cache.old) page → ⊥))) }
+    ensures hung { IsTrue cache.old.store.is_faithful → 0 < cache.old.count → (at : ℕ)
+        → IfOk result (HasHungBlock (pages_of_cache cache.old) (pages_of_cache cache.new) tree.now
+        level at child.now.child) }
     ensures touches { Touches cache.old cache.new result }
     ensures asked { cache.new.asked ≤ cache.old.asked + 2 }
     ensures levels { IfOk result (λ top. top.levels ≡ tree.now.levels + 1) }
@@ -180,6 +188,9 @@ fn hang<S: PageStore>(
         → ((k : ℕ) → k < level → entry_of tree.now.shape.inner number k ≡ 0)
         → KeepsUpper level was (pages_of_cache cache.old)
         → IfErr result (IfNamed (IsNoHook was tree.now number)) }
+    ensures hung { IsTrue cache.old.store.is_faithful → 0 < cache.old.count
+        → IfOk result (HasHungBlock (pages_of_cache cache.old) (pages_of_cache cache.new) tree.now
+        level at child.now.child) }
     ensures touches { Touches cache.old cache.new result }
     ensures asked { IfOk result (λ top. cache.new.asked + level
         ≤ cache.old.asked + top.levels) }
@@ -233,6 +244,8 @@ fn into_last<S: PageStore>(
         (Meets (pages_of_cache cache.old) (pages_of_cache cache.new) tree.now tree.now legs.now) }
     ensures blames { IsTrue cache.old.store.is_faithful → IfErr result
         (IfNamed (λ page. IsFit (pages_of_cache cache.old) tree.now place.old legs.now page → ⊥)) }
+    ensures hung { IsTrue cache.old.store.is_faithful → OnOk result
+        (HasHung (pages_of_cache cache.old) (pages_of_cache cache.new) tree.now tree.now) }
     ensures unmoved { OnErr result (place.new ≡ place.old) }
     ensures touches { Touches cache.old cache.new result }
     ensures asked { cache.new.asked ≤ cache.old.asked + tree.now.levels }
@@ -315,6 +328,9 @@ fn hang_leaf<S: PageStore>(
     ensures blames { IsTrue cache.old.store.is_faithful → (was : Pages LegView BoxView)
         → KeepsUpper 0 was (pages_of_cache cache.old)
         → IfErr result (IfNamed (IsNoHook was tree.now tree.now.leaves)) }
+    ensures hung { IsTrue cache.old.store.is_faithful → (was : Pages LegView BoxView)
+        → HasMadeLeaf was (pages_of_cache cache.old) tree.now page.now.child
+        → IfOk result (HasHungLeaf was (pages_of_cache cache.new) tree.now) }
     ensures touches { Touches cache.old cache.new result }
     ensures asked { IfOk result (λ top. cache.new.asked ≤ cache.old.asked + top.levels) }
     ensures higher { IfOk result (λ top. tree.now.levels ≤ top.levels) }
@@ -360,6 +376,8 @@ fn begin<S: PageStore>(
         (Meets (pages_of_cache cache.old) (pages_of_cache cache.new) tree.old tree.new legs.now) }
     ensures blames { IsTrue cache.old.store.is_faithful → IfErr result
         (IfNamed (λ page. IsFit (pages_of_cache cache.old) tree.old place.old legs.now page → ⊥)) }
+    ensures hung { IsTrue cache.old.store.is_faithful → OnOk result
+        (HasHung (pages_of_cache cache.old) (pages_of_cache cache.new) tree.old tree.new) }
     ensures unmoved { OnErr result ((tree.new ≡ tree.old) × (place.new ≡ place.old)) }
     ensures touches { Touches cache.old cache.new result }
     ensures asked { OnOk result (cache.new.asked
@@ -418,6 +436,8 @@ pub(crate) fn put<S: PageStore>(
         (Meets (pages_of_cache cache.old) (pages_of_cache cache.new) tree.old tree.new legs.now) }
     ensures blames { IsTrue cache.old.store.is_faithful → IfErr result
         (IfNamed (λ page. IsFit (pages_of_cache cache.old) tree.old place.old legs.now page → ⊥)) }
+    ensures hung { IsTrue cache.old.store.is_faithful → OnOk result
+        (HasHung (pages_of_cache cache.old) (pages_of_cache cache.new) tree.old tree.new) }
     ensures unmoved { OnErr result ((tree.new ≡ tree.old) × (place.new ≡ place.old)) }
     ensures touches { Touches cache.old cache.new result }
     ensures asked { OnOk result (cache.new.asked
@@ -487,7 +507,8 @@ pub fn insert<S: PageStore>(
     // Over any faithful pages: the place's last leaf has the leg at its end, where it had room, and else a leaf of the leg
     // alone is made behind it; each other leaf is as it was. By each test of boxes that a greater box does not fail the
     // way down meets each page that it met, and finds each leg that it found, and the leg where its box meets; only pages
-    // that are made become entries, and the old root.
+    // that are made become entries, and the old root. A leaf that is made is hung into the tree, and nothing else is done to
+    // the upper part of it.
     ensures fills { IsTrue cache.old.store.is_faithful → OnOk result
         (FillsLeaves tree.old.shape.leaf (pages_of_cache cache.old) (pages_of_cache cache.new)
         tree.old.leaves tree.new.leaves place.old place.new (leg ∷ [])
@@ -495,6 +516,8 @@ pub fn insert<S: PageStore>(
     ensures met { IsTrue cache.old.store.is_faithful → OnOk result
         (ContentGrows (pages_of_cache cache.old) (pages_of_cache cache.new) tree.old tree.new
         (leg ∷ [])) }
+    ensures hung { IsTrue cache.old.store.is_faithful → OnOk result
+        (HasHung (pages_of_cache cache.old) (pages_of_cache cache.new) tree.old tree.new) }
     ensures place { OnOk result (place.new ≡ place_with tree.old.leaves place.old (leg ∷ [])
         (page_made tree.old.shape.leaf cache.old.count place.old)) }
     ensures named { OnOk result (NamesLast place.old) }

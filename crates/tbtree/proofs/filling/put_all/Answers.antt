@@ -24,6 +24,7 @@ use Rattle.tbtree.proofs.Still.{still}
 use Rattle.tbtree.specs.Needs.{BlamesNext, IsFit, PutsSome}
 use Rattle.tbtree.proofs.FaultLemmas.{named_then}
 use Rattle.tbtree.proofs.NeedsLemmas.{next_part}
+use Rattle.tbtree.proofs.UpperPages.{hung_none, hung_then}
 use Rattle.tbtree.proofs.filling.put_all.Goals as goal
 
 pub leaves-init : goal.leaves-init
@@ -51,6 +52,7 @@ leaves-init g c =
           let none = fills_none tree.shape.leaf (pages_of_cache cache) tree.leaves c.args.place.now in
           ([], none, λ some. ap (λ (l : List LegView). length l % tree.shape.leaf) none.made ∙ zero-mod tree.shape.leaf);
       met = λ fa. meets_none (pages_of_cache cache) tree;
+      hung = λ fa. hung_none (pages_of_cache cache) (pages_of_cache cache) tree (λ p. refl) refl;
       filled = filled_start tree.shape.leaf (length c.args.legs.now) cache tree c.args.place.now (omega (arith, least));
     }
 
@@ -137,6 +139,7 @@ leaves-preserved g c =
           (subst (λ m. c.put.new.place ≡ place_with c.leaves.tree.leaves c.leaves.place (take (n + k - n) (drop n legs)) (page_made m now.count c.leaves.place)) is put.place)
           (λ above. put.grown (omega (arith, same, above))) (λ z. put.begun (same ∙ z));
       met = λ fa. meets_part (pages_of_cache old) (pages_of_cache now) (pages_of_cache new) c.args.tree.now c.leaves.tree c.put.new.tree legs n k (so_far.met fa) (put.met (still _ _ so_far.touches.passes.store.faithful fa));
+      hung = λ fa. hung_then (pages_of_cache old) (pages_of_cache now) (pages_of_cache new) c.args.tree.now c.leaves.tree c.put.new.tree so_far.shape (so_far.hung fa) (put.hung (still _ _ so_far.touches.passes.store.faithful fa));
       filled = filled_part leaf n k (length legs) old now new c.args.tree.now c.leaves.tree c.put.new.tree c.leaves.place c.put.new.place
           fits.some so_far.filled c.leaves-test.true put.higher counted
           room full

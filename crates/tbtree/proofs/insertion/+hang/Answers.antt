@@ -16,6 +16,7 @@ use Rattle.tbtree.proofs.KindLemmas.{inner_made}
 use Rattle.tbtree.specs.Needs.{entry_of, IsInnerOnWay, IsNoHook, StopsAbove}
 use Rattle.tbtree.proofs.FaultLemmas.{named_then}
 use Rattle.tbtree.proofs.NeedsLemmas.{begins_more, block_up, entry_up, inner_on_way, named_none, no_room_up, no_way_up, root_bare, upper_added}
+use Rattle.tbtree.proofs.UpperPages.{hung_attached, on_hung_above}
 use Rattle.tbtree.proofs.insertion.+hang.Goals as goal
 
 pub returns-then-at-inner-eq0-clause-hangs : goal.returns-then-at-inner-eq0-clause-hangs
@@ -148,3 +149,20 @@ returns-in_err-attach-clause-blames g t c = λ fa number was block begins keeps.
     rw (p.1, p.2) (named_then (λ q. (q ≡ parent) × (HasRoom mid parent (c.args.level + 1) c.inner-2.result → ⊥)) (IsNoHook was tree number)
     (λ q h. no_room_up tree number c.args.level was old mid parent c.inner-2.result q _ keeps (c.in_ok-parent.ensures.found fa) c.inner-2.ensures.value on begins some h) _
     (c.in_err-attach.ensures.blames faithful))
+
+pub returns-then-at-inner-eq0-clause-hung : goal.returns-then-at-inner-eq0-clause-hung
+returns-then-at-inner-eq0-clause-hung g t c = λ fa some.
+    let tree = c.args.tree.now in
+    let is : c.from-inner.result ≡ tree.shape.inner = c.from-inner.ensures ∙ c.inner.ensures.value in
+    let below : c.args.level + 1 < tree.levels = omega (arith, c.if-from-tree.false, c.from.ensures, c.requires.level) in
+    let more = c.add_inner.ensures.touches.passes.count in
+    on_hung_above (pages_of_cache c.args.cache.now) (pages_of_cache c.add_inner.new.cache) (pages_of_cache c.hang.new.cache) c.from-inner.result c.args.level c.args.at c.args.child.now.child c.in_ok-page.page c.args.child.now.bounds tree c.hang.result
+    is some below c.if-at-inner-eq0.true (c.in_ok-page.ensures.adds fa) (c.hang.ensures.hung (still _ _ c.add_inner.ensures.touches.passes.store.faithful fa) (omega (arith, some, more)))
+
+pub returns-clause-hung : goal.returns-clause-hung
+returns-clause-hung g t c = λ fa some.
+    let tree = c.args.tree.now in
+    let is : c.from-inner.result ≡ tree.shape.inner = c.from-inner.ensures ∙ c.inner.ensures.value in
+    let below : c.args.level + 1 < tree.levels = omega (arith, c.if-from-tree.false, c.from.ensures, c.requires.level) in
+    hung_attached (pages_of_cache c.args.cache.now) (pages_of_cache c.way.new.cache) (pages_of_cache c.attach.new.cache) c.from-inner.result c.args.level c.args.at c.args.child.now.child c.in_ok-parent.parent c.args.child.now.bounds c.child.inside.bounds tree
+    is below c.if-at-inner-eq0.false c.in_ok-attach.ensures.above (c.in_ok-parent.ensures.block fa) (c.in_ok-parent.ensures.found fa) (c.in_ok-attach.ensures.attaches (still _ _ c.way.ensures.touches.passes.store.faithful fa))

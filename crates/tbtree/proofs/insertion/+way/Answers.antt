@@ -11,6 +11,7 @@ use Rattle.tbtree.proofs.ContentLemmas.{found_top, on_found}
 use Rattle.tbtree.specs.Needs.{StopsAbove}
 use Rattle.tbtree.proofs.FaultLemmas.{named_then}
 use Rattle.tbtree.proofs.NeedsLemmas.{block_up, entry_up, reached, reached_top, stopped, stops_up}
+use Rattle.tbtree.proofs.UpperPages.{block_top, on_block}
 use Rattle.tbtree.proofs.insertion.+way.Goals as goal
 
 pub returns-then-from-tree-clause-way : goal.returns-then-from-tree-clause-way
@@ -95,3 +96,16 @@ returns-in_err-parent-clause-blames g t c = λ fa number block.
     let p = err_from_is_err_and c.from_residual.result c.from_residual.ensures.1 in
     rw (p.1, p.2) (named_then (StopsAbove old tree number (c.args.level + 1)) (StopsAbove old tree number c.args.level) (λ q s. stops_up tree number old c.args.level q s) _
     (c.in_err-parent.ensures.blames fa number (block_up tree.shape.inner c.from-inner.result number c.args.level c.args.at is block)))
+
+pub returns-then-from-tree-clause-block : goal.returns-then-from-tree-clause-block
+returns-then-from-tree-clause-block g t c = λ fa.
+    block_top (pages_of_cache c.args.cache.now) c.args.level c.args.at c.args.tree.now (omega (arith, c.if-from-tree.true, c.from.ensures))
+
+pub returns-clause-block : goal.returns-clause-block
+returns-clause-block g t c = λ fa.
+    let tree = c.args.tree.now in
+    let by = c.from-inner.result in
+    let is : by ≡ tree.shape.inner = c.from-inner.ensures ∙ c.inner.ensures.value in
+    let below : c.args.level + 1 < tree.levels = omega (arith, c.if-from-tree.false, c.from.ensures, c.requires.level) in
+    on_block (pages_of_cache c.args.cache.now) (pages_of_cache c.way.new.cache) (pages_of_cache c.widen.new.cache) by c.args.level c.args.at c.in_ok-parent.parent tree c.args.bounds.now c.widen.result
+    is c.widen.ensures.above below (c.in_ok-parent.ensures.block fa) (c.in_ok-parent.ensures.found fa) (c.widen.ensures.widens (still _ _ c.way.ensures.touches.passes.store.faithful fa))

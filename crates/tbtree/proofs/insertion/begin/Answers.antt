@@ -12,6 +12,7 @@ use Rattle.tbtree.proofs.ContentLemmas.{meets_begun}
 use Rattle.tbtree.specs.Needs.{IsFit, IsNoEnd, IsNoHook}
 use Rattle.tbtree.proofs.FaultLemmas.{named_then}
 use Rattle.tbtree.proofs.NeedsLemmas.{unfit_end, unfit_hook, upper_begun}
+use Rattle.tbtree.proofs.UpperPages.{hung_one, leaf_made}
 use Rattle.tbtree.proofs.insertion.begin.Goals as goal
 use Rattle.tbtree.proofs.insertion.begin.Goals.{then-place-eq0, else-place-eq0}
 
@@ -83,3 +84,11 @@ returns-in_err-top-clause-blames g c = λ fa.
     let p = err_from_is_err_and c.from_residual-in_err-top.result c.from_residual-in_err-top.ensures.1 in
     rw (p.1, p.2) (named_then (IsNoHook old tree tree.leaves) (λ page. IsFit old tree place legs page → ⊥) (λ q h fit. unfit_hook old tree place legs q c.requires.full h fit) _
     (c.in_err-top.ensures.blames (still _ _ c.add_last.ensures.touches.passes.store.faithful fa) old keeps))
+
+pub returns-clause-hung : goal.returns-clause-hung
+returns-clause-hung g c = λ fa.
+    let old = pages_of_cache c.args.cache.now in
+    let tree = c.args.tree.now in
+    hung_one old (pages_of_cache c.hang_leaf.new.cache) tree _ c.in_ok-top.top refl refl refl
+    (c.in_ok-top.ensures.hung (still _ _ c.add_last.ensures.touches.passes.store.faithful fa) old
+    (leaf_made old (pages_of_cache c.add_last.new.cache) c.in_ok-page.page tree (c.in_ok-page.ensures.kids fa) c.in_ok-page.ensures.none (c.in_ok-page.ensures.counted fa) c.in_ok-page.ensures.number))

@@ -9,6 +9,7 @@ use Rattle.tbtree.proofs.LeafLemmas.{fills_one}
 use Rattle.tbtree.specs.Needs.{IsFit}
 use Rattle.tbtree.proofs.FaultLemmas.{named_then}
 use Rattle.tbtree.proofs.NeedsLemmas.{fit_spent}
+use Rattle.tbtree.proofs.UpperPages.{hung_spent}
 use Rattle.tbtree.proofs.insertion.insert.Goals as goal
 
 pub returns-clause-joins : goal.returns-clause-joins
@@ -54,3 +55,7 @@ returns-in_err-put-clause-blames g c = λ _ fa.
     let p = err_from_is_err_and c.from_residual.result c.from_residual.ensures.1 in
     rw (p.1, p.2) (named_then (λ page. IsFit old (record tree { spent = true }) place legs page → ⊥) (λ page. IsFit old tree place legs page → ⊥) (λ q h fit. h (fit_spent old tree tree.spent true place legs q fit)) _
     (c.in_err-put.ensures.blames fa))
+
+pub returns-clause-hung : goal.returns-clause-hung
+returns-clause-hung g c = λ fa.
+    hung_spent (pages_of_cache c.args.cache.now) (pages_of_cache c.put.new.cache) c.args.tree.now c.put.new.tree true false (c.in_ok-put.ensures.hung fa)
