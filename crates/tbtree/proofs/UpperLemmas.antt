@@ -4,9 +4,7 @@ use Rattle.std.proofs.lemmas.Bool.{cases_eq}
 use Rattle.legs.specs.Hanging.{block_page, hung, hung_first, with_entry, with_leaf, with_leaves, with_page, IsSameUpper, Upper}
 use Rattle.tbtree.proofs.RoomLemmas.{neq-eqb}
 
-pub upper_same : (u : Upper) → IsSameUpper u u
-upper_same u = record { root = refl; levels = refl; leaves = refl; pages = refl; children = λ p. refl }
-
+-- of three of which the first is the same as the second, and this as the third
 pub upper_then : (a b c : Upper) → IsSameUpper a b → IsSameUpper b c → IsSameUpper a c
 upper_then a b c s t = record { root = s.root ∙ t.root; levels = s.levels ∙ t.levels; leaves = s.leaves ∙ t.leaves; pages = s.pages ∙ t.pages; children = λ p. s.children p ∙ t.children p }
 

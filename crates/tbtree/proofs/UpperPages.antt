@@ -1,5 +1,5 @@
 -- What a page that is made or changed makes of the upper part of a tree.
-use Rattle.std.proofs.Common.{Bool, ℕ, zero, suc, cond, ◌==◌, ◌+◌, ◌-◌, ◌/◌, ◌%◌, ◌<◌, ◌≤◌, ◌≡◌, ◌≢◌, ◌∙◌, ⊎_elim, List, [], ◌∷◌, ◌++◌, refl, sym, ap, arith, subst, Some, None, slice_get, slice_index_or, eq-eqb}
+use Rattle.std.proofs.Common.{Bool, ℕ, zero, suc, cond, ◌==◌, ◌+◌, ◌-◌, ◌/◌, ◌%◌, ◌<◌, ◌≤◌, ◌≡◌, ◌≢◌, ◌∙◌, ⊎_elim, List, [], ◌∷◌, ◌++◌, refl, sym, ap, arith, subst, Some, slice_get, slice_index_or, eq-eqb}
 use Rattle.std.specs.Prelude.{Result, Ok, Err, IfOk, OnOk}
 use Rattle.std.proofs.lemmas.Bool.{cases_eq}
 use Rattle.std.proofs.lemmas.List.{map-append}
@@ -12,7 +12,7 @@ use Rattle.legs.specs.Hull.{leg_boxes}
 use Rattle.legs.specs.Legs.{LegView}
 use Rattle.tbtree.specs.Content.{kids, IsBareBeyond, IsFound, KeepsKids}
 use Rattle.tbtree.specs.Descent.{node_at}
-use Rattle.tbtree.specs.Nodes.{Node, Pages, AnInner, InnerView, EntryView, Adds, Attaches, Becomes, Covers, Pushes, Widens, with_entry}
+use Rattle.tbtree.specs.Nodes.{Node, Pages, AnInner, EntryView, Adds, Attaches, Covers, Pushes, Widens, with_entry}
 use Rattle.tbtree.specs.Upper.{upper, upper_of, HasHung, HasHungBlock, HasHungLeaf, HasMadeLeaf, IsBlockPage}
 use Rattle.tbtree.specs.declared.fault.TreeFault.{TreeFault}
 use Rattle.tbtree.specs.declared.tree.TbTree.{TbTree}
@@ -20,7 +20,7 @@ use Rattle.tbtree.specs.declared.tree.Top.{Top}
 use Rattle.tbtree.proofs.ContentLemmas.{at_page}
 use Rattle.tbtree.proofs.GraftLemmas.{becomes_rest, kids_covered, kids_pushed, kids_then}
 use Rattle.tbtree.proofs.RoomLemmas.{neq-eqb}
-use Rattle.tbtree.proofs.UpperLemmas.{entry_same, hung_in, hung_same, hung_up, leaf_same, leaves_same, leaves_then, page_same, upper_same, upper_then}
+use Rattle.tbtree.proofs.UpperLemmas.{entry_same, hung_in, hung_same, hung_up, leaves_same, leaves_then, page_same, upper_then}
 
 -- what a test of a number gives at it, and elsewhere
 at_that : (p q : ℕ) (xs ys : List ℕ) → p ≡ q → cond (p == q) xs ys ≡ xs

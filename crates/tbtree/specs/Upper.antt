@@ -1,4 +1,5 @@
--- The upper part of a tree over pages, whatever they hold, and what leaves that are hung into it make of it.
+-- The upper part of a tree over pages, whatever they hold, and what leaves that are hung into it
+-- make of it.
 use Rattle.std.specs.Prelude.{ℕ, suc, ◌≡◌, ◌≤◌, ◌+◌, ◌-◌, []}
 use Rattle.legs.specs.Boxes.{BoxView}
 use Rattle.legs.specs.Hanging.{block_page, hung, with_leaf, with_leaves, with_page, IsSameUpper, Upper}
@@ -22,7 +23,8 @@ upper_of nodes root levels leaves = record {
 abbrev pub upper : Pages LegView BoxView → TbTree → Upper
 upper nodes tree = upper_of nodes tree.root tree.levels tree.leaves
 
--- leaves were hung into a tree, as many as there are more, and nothing else was done to its upper part
+-- leaves were hung into a tree, as many as there are more, and nothing else was done to its upper
+-- part
 pub record HasHung (old new : Pages LegView BoxView) (tree tree' : TbTree) : Type 0 where
   pub more : tree.leaves ≤ tree'.leaves
   pub is : IsSameUpper (upper new tree')
@@ -36,8 +38,8 @@ IsBlockPage nodes tree level block page =
     (steps : ℕ) → steps + suc level ≡ tree.levels
     → page ≡ block_page tree.shape.inner (upper nodes tree) steps block
 
--- the page `child` of a new block of that number, so many levels above the leaves, was hung, and nothing else was done to
--- the upper part
+-- the page `child` of a new block of that number, so many levels above the leaves, was hung, and
+-- nothing else was done to the upper part
 abbrev pub HasHungBlock : (old new : Pages LegView BoxView) → TbTree → (level block child : ℕ) → Top
     → Type 0
 HasHungBlock old new tree level block child top =
@@ -45,7 +47,7 @@ HasHungBlock old new tree level block child top =
     → IsSameUpper (upper_of new top.root top.levels tree.leaves)
     (hung tree.shape.inner (upper old tree) steps block child)
 
--- a page without entries was made, the next one, and nothing else was done to the upper part
+-- the page, the next one, was made without entries, and nothing else was done to the upper part
 pub record HasMadeLeaf (old new : Pages LegView BoxView) (tree : TbTree) (page : ℕ) : Type 0 where
   pub is : IsSameUpper (upper new tree) (with_page (upper old tree) [])
   pub number : page ≡ old.count
