@@ -1,39 +1,44 @@
 -- What legs make of an index, whatever its pages hold.
 use Rattle.std.proofs.Common.{Bool, ℕ, zero, suc, ◌+◌, ◌-◌, ◌^◌, ◌%◌, ◌<◌, ◌≤◌, ◌≡◌, ◌≢◌, ◌==◌, min, true, false, cond, refl, sym, ap, ◌∙◌, ◌⊎◌, inl, inr, arith, subst, ⊎_elim, All, List, [], ◌∷◌, ◌++◌, map, drop, length, get_or, Option, Some, None, slice_get, set, Result, Ok, Err, OnOk, append_assoc}
 use Rattle.std.specs.Prelude.{IsTrue}
+use Rattle.std.specs.Int.{div_ceil}
 use Rattle.std.specs.List.{count_by, Contains}
 use Rattle.std.proofs.lemmas.Bool.{cases_eq, eqb-true, true≢false}
 use Rattle.std.proofs.lemmas.List.{append-nil, drop-append-le, length-set, length_push}
-use Rattle.std.proofs.lemmas.List.Elements.{All-cons, All-contains, All-contains_itself, All-nil, All-weaker}
+use Rattle.std.proofs.lemmas.List.Elements.{All-cons, All-contains, All-nil}
 use Rattle.std.proofs.lemmas.Option.{slice_get-map}
-use Rattle.legs.specs.Asking.{placed_legs, HasAdded, NoneBefore}
+use Rattle.legs.specs.Asking.{leaves_filled, placed_legs, upper_part, HasAdded, NoneBefore}
 use Rattle.legs.specs.Boxes.{BoxView}
-use Rattle.legs.specs.Costs.{leg_feature}
-use Rattle.legs.specs.Finding.{place_in, FeaturePlace, IsMade, IsMadeEntry, MovesLast}
+use Rattle.legs.specs.Costs.{leg_feature, ShapeView}
+use Rattle.legs.specs.Finding.{place_in, FeaturePlace, IsMade, MovesLast}
+use Rattle.legs.specs.Hanging.{with_leaves, IsSameUpper}
 use Rattle.legs.specs.Index.{features_after, is_of, last_leg_of, legs_of}
 use Rattle.legs.specs.Legs.{LegView}
 use Rattle.legs.specs.Questions.{answer_in, OfFeature}
+use Rattle.legs.proofs.HangingLemmas.{leaves_same, upper_then}
 use Rattle.legs.proofs.LastLemmas.{answer_alike, answer_none, last_absent, last_at_end, last_holds, last_own, takes_then}
-use Rattle.tbtree.specs.Content.{kids, ContentGrows, IsMadeBelow, IsMadeRoot, IsOldRoot, LeadsToLeg}
+use Rattle.tbtree.specs.Content.{kids, ContentGrows, IsMadeRoot, LeadsToLeg}
 use Rattle.tbtree.specs.Descent.{found_legs, node_at, node_in, pages_met}
 use Rattle.tbtree.specs.Filling.{place_with, KeepsLegs}
 use Rattle.tbtree.specs.Joining.{in_last_leaf, HasAtEnd}
 use Rattle.tbtree.specs.Nodes.{Pages, pages_of_cache, with_legs}
 use Rattle.tbtree.specs.Stands.{no_place}
+use Rattle.tbtree.specs.Upper.{upper, HasHung}
 use Rattle.tbtree.specs.declared.fault.TreeFault.{TreeFault}
 use Rattle.tbtree.specs.declared.tree.Place.{Place}
 use Rattle.tbtree.proofs.EndLemmas.{ends_fewer}
 use Rattle.tbtree.proofs.RoomLemmas.{count_all_other, count_all_same}
 use Rattle.tbtree.proofs.Still.{still}
 use Rattle.boxsearch.specs.Answers.{answered, of_tree}
-use Rattle.boxsearch.specs.Index.{IndexView, children, finds, found_by, leads_to, place_for, place_of, words, with_place}
+use Rattle.boxsearch.specs.Index.{IndexView, finds, found_by, leads_to, place_for, place_of, words, with_place}
 use Rattle.boxsearch.specs.Putting.{FillsSome, Puts, PutsAll}
 use Rattle.boxsearch.specs.Telling.{DeniesTrack, TellsTrack}
 use Rattle.boxsearch.proofs.AddLemmas.{made}
 use Rattle.boxsearch.proofs.TrackGrowth.{all_of_one, denied_alike, made_was, none_of_other, own_track, told_alike}
 use Rattle.chains.proofs.ChainGrowth.{others_alike, AreAlike}
+use Rattle.boxsearch.proofs.LeafCounts.{filled_one, leaves_more}
 use Rattle.boxsearch.proofs.MadeLemmas.{features_one, for_alike, many_with, moves_by, placed_in, rising_held}
-use Rattle.boxsearch.proofs.PlaceLemmas.{get-set_same, get-set_other, got_within, place_made, place_there, push_last, push_other}
+use Rattle.boxsearch.proofs.PlaceLemmas.{get-set_same, get-set_other, got_within, some_same, place_made, place_there, push_last, push_other}
 
 -- the last of some legs is among those of the last leaf
 last_in_leaf : (leaf count : ℕ) (front : List LegView) (leg : LegView) → (others : List LegView) × (in_last_leaf leaf count (front ++ leg ∷ []) ≡ others ++ leg ∷ [])
@@ -96,7 +101,8 @@ module _ (old new : IndexView) (feature : ℕ) (legs : List LegView) (was is : P
     (faithful : new.cache.store.is_faithful ≡ old.cache.store.is_faithful) (shape : new.tree.shape ≡ old.tree.shape) (works : new.tree.spent ≡ false)
     (counted : new.legs ≡ min (old.legs + length legs) (2 ^ 64 - 1)) (placed : is.legs ≡ was.legs + length legs)
     (fills : IsTrue old.cache.store.is_faithful → FillsSome old new was is legs)
-    (met : IsTrue old.cache.store.is_faithful → ContentGrows (pages_of_cache old.cache) (pages_of_cache new.cache) old.tree new.tree legs) where
+    (met : IsTrue old.cache.store.is_faithful → ContentGrows (pages_of_cache old.cache) (pages_of_cache new.cache) old.tree new.tree legs)
+    (hangs : IsTrue old.cache.store.is_faithful → HasHung (pages_of_cache old.cache) (pages_of_cache new.cache) old.tree new.tree) where
   was_faithful : IsTrue new.cache.store.is_faithful → IsTrue old.cache.store.is_faithful
   was_faithful fa = still _ _ (sym faithful) fa
 
@@ -142,21 +148,44 @@ module _ (old new : IndexView) (feature : ℕ) (legs : List LegView) (was is : P
       ((met fa).only leg (h (faithful ∙ fa)))
   leads_more leg h false none = inl (λ fa. absurd (true≢false (sym fa ∙ none)))
 
-  -- the entries that a page had, and those behind them
-  entry_made : (fa : IsTrue old.cache.store.is_faithful) (page q : ℕ) → Contains ((met fa).grafts.added page) q → IsMadeEntry (found_by old) (found_by new) page q
-  entry_made fa page q h = ⊎_elim
-      (λ (m : IsMadeBelow old.cache.count (pages_of_cache new.cache) page q). inl (m.from, m.there))
-      (λ (m : IsOldRoot (pages_of_cache old.cache) (pages_of_cache new.cache) old.tree.root old.tree.levels page q). inr (m.made, m.is))
-      ((met fa).grafts.made page q h)
+  -- there are as many leaves more as the legs of the places fill more
+  filled_more : IsTrue old.cache.store.is_faithful → (shape : ShapeView) → Some old.tree.shape ≡ Some shape → (n : ℕ) → length new.places ≤ n
+      → new.tree.leaves + leaves_filled shape.leaf (found_by old) n ≡ old.tree.leaves + leaves_filled shape.leaf (found_by new) n
+  filled_more fa shape e n l =
+      let g = fills fa in
+      let own : old.tree.shape ≡ shape = some_same old.tree.shape shape e in
+      let leaf = old.tree.shape.leaf in
+      let A = found_by old in
+      let B = found_by new in
+      let before : placed_legs A feature ≡ was.legs = placed_is old feature ∙ made_legs old.places feature was found in
+      let after : placed_legs B feature ≡ was.legs + length legs = placed_is new feature ∙ ap legs_in_place place_of_own ∙ placed in
+      let others : (f : ℕ) → f ≢ feature → placed_legs B f ≡ placed_legs A f = λ f u. placed_is new f ∙ ap legs_in_place (place_of_other f u) ∙ sym (placed_is old f) in
+      let within = got_within new.places feature is place_of_own in
+      let one = filled_one leaf A B feature n others (omega (arith, within, l)) in
+      let some_leaf = g.1.least some in
+      let more = leaves_more (pages_of_cache new.cache) leaf old.cache.count was.last was.legs legs g.0 some_leaf g.1.made in
+      let low : div_ceil (placed_legs A feature) leaf ≡ div_ceil was.legs leaf = ap (λ k. div_ceil k leaf) before in
+      let high : div_ceil (placed_legs B feature) leaf ≡ div_ceil (was.legs + length legs) leaf = ap (λ k. div_ceil k leaf) after in
+      let counted = g.1.counted in
+      subst (λ (s : ShapeView). new.tree.leaves + leaves_filled s.leaf A n ≡ old.tree.leaves + leaves_filled s.leaf B n) own (omega (arith, one, more, low, high, counted))
 
-  children_more : (fa : IsTrue old.cache.store.is_faithful) (page : ℕ) → (added : List ℕ) × (children new page ≡ children old page ++ added) × All (IsMadeEntry (found_by old) (found_by new) page) added
-  children_more fa page =
-      let g = (met fa).grafts in (
-        g.added page,
-        ap (λ b. cond b (kids (node_at (pages_of_cache new.cache) page)) []) (faithful ∙ fa) ∙ g.behind page
-            ∙ ap (λ l. l ++ g.added page) (sym (ap (λ b. cond b (kids (node_at (pages_of_cache old.cache) page)) []) fa)),
-        All-weaker (Contains (g.added page)) (IsMadeEntry (found_by old) (found_by new) page) (λ q h. entry_made fa page q h) (g.added page) (All-contains_itself (g.added page)),
-      )
+  -- the upper part is what hanging so many leaves makes of it
+  part_old : IsTrue old.cache.store.is_faithful → IsSameUpper (upper (pages_of_cache old.cache) old.tree) (upper_part words old)
+  part_old fa = record { root = refl; levels = refl; leaves = refl; pages = refl; children = λ p. sym (ap (λ b. cond b (kids (node_at (pages_of_cache old.cache) p)) []) fa) }
+
+  part_new : IsTrue old.cache.store.is_faithful → IsSameUpper (upper_part words new) (upper (pages_of_cache new.cache) new.tree)
+  part_new fa = record { root = refl; levels = refl; leaves = refl; pages = refl; children = λ p. ap (λ b. cond b (kids (node_at (pages_of_cache new.cache) p)) []) (faithful ∙ fa) }
+
+  hung_more : IsTrue old.cache.store.is_faithful → (shape : ShapeView) → Some old.tree.shape ≡ Some shape → IsSameUpper (upper_part words new) (with_leaves shape.inner (new.tree.leaves - old.tree.leaves) (upper_part words old))
+  hung_more fa shape e =
+      let n = new.tree.leaves - old.tree.leaves in
+      let own : old.tree.shape ≡ shape = some_same old.tree.shape shape e in
+      let inner = old.tree.shape.inner in
+      let was = upper (pages_of_cache old.cache) old.tree in
+      let is = upper (pages_of_cache new.cache) new.tree in
+      subst (λ (s : ShapeView). IsSameUpper (upper_part words new) (with_leaves s.inner n (upper_part words old))) own
+      (upper_then (upper_part words new) is (with_leaves inner n (upper_part words old)) (part_new fa)
+      (upper_then is (with_leaves inner n was) (with_leaves inner n (upper_part words old)) (hangs fa).is (leaves_same inner n was (upper_part words old) (part_old fa))))
 
   -- there are as many places as features then
   features_are : length new.places ≡ features_after (length old.places) legs
@@ -214,7 +243,8 @@ module _ (old new : IndexView) (feature : ℕ) (legs : List LegView) (was is : P
         let more = m.grafts.count in
         let there = h.2 in
         (faithful ∙ h.0, h.1, omega (arith, there, more), ap node_in (m.bare page h.2 h.3) ∙ h.3);
-    children = children_more;
+    hung = hung_more;
+    filled = filled_more;
     moves = moves_at;
     features = features_are;
     astray = λ above page h fa. (met fa).astray above page (h (faithful ∙ fa));
@@ -286,13 +316,13 @@ module _ (old new : IndexView) (feature : ℕ) (legs : List LegView) (was is : P
 pub leg_takes : (old new : IndexView) (leg : LegView) (r : Result (Unit {0}) TreeFault) → Puts (made old leg.feature) new leg r → OnOk (answered (λ fault. of_tree fault) r) (HasAdded words old new (leg ∷ []))
 leg_takes old new leg (Ok tt) p =
     let one : All (λ l. l.feature ≡ leg.feature) (leg ∷ []) = All-cons (λ l. l.feature ≡ leg.feature) leg [] refl (All-nil (λ l. l.feature ≡ leg.feature)) in
-    takes_put old new leg.feature (leg ∷ []) p.was p.is (omega arith) one p.found p.places p.passes.store.faithful p.shape p.works p.legs p.placed p.fills p.met
+    takes_put old new leg.feature (leg ∷ []) p.was p.is (omega arith) one p.found p.places p.passes.store.faithful p.shape p.works p.legs p.placed p.fills p.met p.hung
 leg_takes old new leg (Err x) p = tt
 
 -- legs of one feature
 pub run_takes : (old new : IndexView) (feature : ℕ) (legs : List LegView) → 0 < length legs → All (λ leg. leg.feature ≡ feature) legs → (r : Result (Unit {0}) TreeFault) → PutsAll (made old feature) new feature legs r
     → OnOk (answered (λ fault. of_tree fault) r) (HasAdded words old new legs)
-run_takes old new feature legs some one (Ok tt) p = takes_put old new feature legs p.was p.is some one p.found p.places p.passes.store.faithful p.shape p.works p.counted p.placed p.fills p.met
+run_takes old new feature legs some one (Ok tt) p = takes_put old new feature legs p.was p.is some one p.found p.places p.passes.store.faithful p.shape p.works p.counted p.placed p.fills p.met p.hung
 run_takes old new feature legs some one (Err x) p = tt
 
 -- a run more

@@ -10,6 +10,7 @@ pub mod FitBeside
 pub mod StillLemmas
 pub mod PlaceLemmas
 pub mod MadeLemmas
+pub mod LeafCounts
 pub mod TrackLemmas
 pub mod QuestionLemmas
 pub mod TellLemmas

@@ -8,8 +8,9 @@ use Rattle.std.proofs.lemmas.List.Elements.{All-append, All-cons, All-contains, 
 use Rattle.std.proofs.lemmas.List.Sums.{length-filter, sum_by-append}
 use Rattle.std.proofs.Math.Nat.{add-mul}
 use Rattle.std.proofs.lemmas.Nat.{mul-le}
-use Rattle.legs.specs.Asking.{placed_legs, Blames, HasAdded, NoneBefore, Starts, TakesRoom}
-use Rattle.legs.specs.Finding.{place_in, Finding, IsMade, IsMadeEntry, MovesLast}
+use Rattle.legs.specs.Asking.{leaves_filled, placed_legs, upper_part, Blames, HasAdded, NoneBefore, Starts, TakesRoom}
+use Rattle.legs.specs.Finding.{place_in, Finding, IsMade, MovesLast}
+use Rattle.legs.specs.Hanging.{with_leaves, IsSameUpper}
 use Rattle.legs.specs.Index.{feature_count, features_after, is_of, last_leg_of, legs_of}
 use Rattle.legs.specs.Boxes.{BoxView, box_of}
 use Rattle.legs.specs.Legs.{LegView, is_live}
@@ -19,6 +20,7 @@ use Rattle.timebase.specs.Period.{PeriodView}
 use Rattle.legs.specs.declared.index.IndexFault.{IndexFault}
 use Rattle.legs.specs.declared.listed.Listed.{Ghosts}
 use Rattle.legs.proofs.GrowLemmas.{list_words}
+use Rattle.legs.proofs.HangingLemmas.{leaves_same, leaves_then, upper_refl, upper_then}
 
 pub some_not : (x : LegView) → Some x ≡ None → ⊥
 some_not x e = absurd cc
@@ -94,22 +96,6 @@ made_then a b c m n p r q =
     ⊎_elim
     (λ (e : IsMade a b q). (e.0, (let h = e.1 in omega (arith, h, two))))
     (λ (e : IsMade b c q). ((let l = e.0 in omega (arith, l, one)), e.1))
-
--- an entry that was made
-entry_then : (a b c : Finding) (m n : ℕ) → TakesRoom a b m → TakesRoom b c n → (p q : ℕ) → IsMadeEntry a b p q ⊎ IsMadeEntry b c p q → IsMadeEntry a c p q
-entry_then a b c m n r s p q =
-    let one = more_pages a b m r in
-    ⊎_elim
-    (λ (e : IsMadeEntry a b p q). ⊎_elim (λ (f : IsMade a b q). inl (made_then a b c m n r s q (inl f))) (λ (f : (a.pages ≤ p) × (q ≡ a.root)). inr f) e)
-    (λ (e : IsMadeEntry b c p q).
-    ⊎_elim
-    (λ (f : IsMade b c q). inl (made_then a b c m n r s q (inr f)))
-    (λ (f : (b.pages ≤ p) × (q ≡ b.root)).
-    ⊎_elim
-    (λ (root : b.root ≡ a.root). inr ((let l = f.0 in omega (arith, l, one)), f.1 ∙ root))
-    (λ (root : IsMade a b b.root). inl (made_then a b c m n r s q (inl (subst (IsMade a b) (sym f.1) root))))
-    r.root)
-    e)
 
 -- the last leaf of a feature
 moves_then : (a b c : Finding) (m n : ℕ) → TakesRoom a b m → TakesRoom b c n → (f : ℕ) → MovesLast a b f → MovesLast b c f → MovesLast a c f
@@ -246,7 +232,8 @@ module _ {I : Type 0} (g : Ghosts I) where
     put = λ meets prune. All-nil (λ leg. meets (box_of leg) ≡ true → g.finds a meets leg);
     comes = λ meets prune above page h. h;
     bare = λ page h. h;
-    children = λ fa page. ([], sym (append-nil (g.children a page)), All-nil (IsMadeEntry (g.found_by a) (g.found_by a) page));
+    hung = λ fa shape e. (let none : (g.found_by a).leaves - (g.found_by a).leaves ≡ 0 = omega arith in subst (λ n. IsSameUpper (upper_part g a) (with_leaves shape.inner n (upper_part g a))) (sym none) (upper_refl (upper_part g a)));
+    filled = λ fa shape e n l. refl;
     moves = λ fa f. inl (refl, refl);
     features = refl;
     astray = λ above page h. h;
@@ -273,20 +260,27 @@ module _ {I : Type 0} (g : Ghosts I) where
         put = λ meets prune. All-append (λ leg. meets (box_of leg) ≡ true → g.finds c meets leg) xs ys (All-weaker (λ leg. meets (box_of leg) ≡ true → g.finds b meets leg) (λ leg. meets (box_of leg) ≡ true → g.finds c meets leg) (λ leg h t. q.kept meets prune leg (h t)) xs (p.put meets prune)) (q.put meets prune);
         comes = λ meets prune above page h. q.comes meets prune above page (p.comes meets prune above page h);
         bare = λ page h. q.bare page (p.bare page h);
-        children = λ fa page.
+        hung = λ fa shape e.
             let x = p.room fa in
             let y = q.room x.0 in
-            let first = p.children fa page in
-            let then = q.children x.0 page in
-            let A = g.found_by a in
-            let B = g.found_by b in
-            let C = g.found_by c in (
-              first.0 ++ then.0,
-              then.1 ∙ ap (λ l. l ++ then.0) first.1 ∙ append_assoc (g.children a page) first.0 then.0,
-              All-append (IsMadeEntry A C page) first.0 then.0
-                  (All-weaker (IsMadeEntry A B page) (IsMadeEntry A C page) (λ n h. entry_then A B C (length xs) (length ys) x.1 y.1 page n (inl h)) first.0 first.2)
-                  (All-weaker (IsMadeEntry B C page) (IsMadeEntry A C page) (λ n h. entry_then A B C (length xs) (length ys) x.1 y.1 page n (inr h)) then.0 then.2),
-            );
+            let la = (g.found_by a).leaves in
+            let lb = (g.found_by b).leaves in
+            let lc = (g.found_by c).leaves in
+            let first = x.1.leaves in
+            let then = y.1.leaves in
+            let inner = shape.inner in
+            let more : lb - la + (lc - lb) ≡ lc - la = omega (arith, first, then) in
+            let both = leaves_then inner (lb - la) (lc - lb) (upper_part g a) in
+            let up = leaves_same inner (lc - lb) (upper_part g b) (with_leaves inner (lb - la) (upper_part g a)) (p.hung fa shape e) in
+            let all = upper_then (upper_part g c) (with_leaves inner (lc - lb) (upper_part g b)) (with_leaves inner (lc - lb) (with_leaves inner (lb - la) (upper_part g a))) (q.hung x.0 shape (p.plan ∙ e)) up in
+            subst (λ n. IsSameUpper (upper_part g c) (with_leaves inner n (upper_part g a))) more (subst (λ u. IsSameUpper (upper_part g c) u) (sym both) all);
+        filled = λ fa shape e n l.
+            let x = p.room fa in
+            let up = count_up ys (g.features b) in
+            let many = q.features in
+            let first = p.filled fa shape e n (omega (arith, l, up, many)) in
+            let then = q.filled x.0 shape (p.plan ∙ e) n l in
+            omega (arith, first, then);
         moves = λ fa f.
             let x = p.room fa in
             let y = q.room x.0 in
@@ -358,9 +352,14 @@ module _ {I : Type 0} (g : Ghosts I) where
     put = p.put;
     comes = λ meets prune above page h. p.comes meets prune above page (s.ways.comes meets above page h);
     bare = λ page h. p.bare page (s.ways.bare page h);
-    children = λ fa page.
-        let added = p.children (s.later.faithful fa) page in
-        (added.0, added.1 ∙ ap (λ l. l ++ added.0) (s.ways.children page), subst (λ x. All (IsMadeEntry x (g.found_by c) page) added.0) s.found_by added.2);
+    hung = λ fa shape e.
+        let f = s.found_by in
+        let same : IsSameUpper (upper_part g b) (upper_part g a) = record { root = ap (λ (x : Finding). x.root) f; levels = ap (λ (x : Finding). x.levels) f; leaves = ap (λ (x : Finding). x.leaves) f; pages = ap (λ (x : Finding). x.pages) f; children = s.ways.children } in
+        let more : (g.found_by c).leaves - (g.found_by b).leaves ≡ (g.found_by c).leaves - (g.found_by a).leaves = ap (λ (x : Finding). (g.found_by c).leaves - x.leaves) f in
+        let n = (g.found_by c).leaves - (g.found_by b).leaves in
+        subst (λ k. IsSameUpper (upper_part g c) (with_leaves shape.inner k (upper_part g a))) more
+        (upper_then (upper_part g c) (with_leaves shape.inner n (upper_part g b)) (with_leaves shape.inner n (upper_part g a)) (p.hung (s.later.faithful fa) shape (s.later.plan ∙ e)) (leaves_same shape.inner n (upper_part g b) (upper_part g a) same));
+    filled = λ fa shape e n l. subst (λ x. (g.found_by c).leaves + leaves_filled shape.leaf x n ≡ x.leaves + leaves_filled shape.leaf (g.found_by c) n) s.found_by (p.filled (s.later.faithful fa) shape (s.later.plan ∙ e) n l);
     moves = λ fa f. subst (λ x. MovesLast x (g.found_by c) f) s.found_by (p.moves (s.later.faithful fa) f);
     features = p.features ∙ ap (λ n. features_after n legs) s.ways.features;
     astray = λ above page h. s.ways.astray above page (p.astray above page h);
@@ -420,7 +419,8 @@ module _ {I : Type 0} (g : Ghosts I) where
             All-contains (λ leg. meets (box_of leg) ≡ true → g.finds b meets leg) (legs_of leg.feature xs) leg (All-filter (is_of leg.feature) (λ leg. meets (box_of leg) ≡ true → g.finds b meets leg) xs (p.put meets prune)) there;
         comes = p.comes;
         bare = p.bare;
-        children = p.children;
+        hung = p.hung;
+        filled = p.filled;
         moves = p.moves;
         features = p.features ∙ features_alike (g.features a) xs ys same;
         astray = p.astray;
@@ -472,7 +472,8 @@ list_takes old new legs is works =
       rests = λ f period e. record { told = λ l h. h ∙ sym (answer_kept f period old.legs legs (last_absent f legs e)) ∙ ap (answer_in (OfFeature f period)) (sym is); denied = λ n h. h };
       comes = λ meets prune above page h. h;
       bare = λ page h. h;
-      children = λ fa. absurd fa;
+      hung = λ fa. absurd fa;
+      filled = λ fa. absurd fa;
       moves = λ fa. absurd fa;
       features = ap feature_count is ∙ fold-append (λ count (leg : LegView). max count (leg.feature + 1)) 0 old.legs legs;
       astray = λ above page h. h;

@@ -1,10 +1,12 @@
 -- What a call of an index leaves, and why it is refused.
-use Rattle.std.specs.Prelude.{Bool, ℕ, ℤ, ◌⊎◌, ◌≡◌, ◌≢◌, ◌≤◌, ◌≤ℤ◌, ◌<◌, ◌+◌, ◌-◌, ◌*◌, ◌%◌, ◌^◌, ◌++◌, ◌∷◌, [], drop, true, false, length, count_by, slice_get, All, List, Option, Some, None, Result, Err, IfErr, IsErrOf, OnErr, OnOk}
+use Rattle.std.specs.Int.{div_ceil}
+use Rattle.std.specs.Prelude.{Bool, ℕ, zero, suc, ℤ, ◌⊎◌, ◌≡◌, ◌≢◌, ◌≤◌, ◌≤ℤ◌, ◌<◌, ◌+◌, ◌-◌, ◌*◌, ◌%◌, ◌^◌, ◌++◌, ◌∷◌, [], drop, true, false, length, count_by, slice_get, All, List, Option, Some, None, Result, Err, IfErr, IsErrOf, OnErr, OnOk}
 use Rattle.std.specs.List.{Contains}
 use Rattle.legs.specs.Boxes.{BoxView, box_of}
 use Rattle.legs.specs.Hull.{IsPruning, leg_boxes}
 use Rattle.legs.specs.Legs.{LegView}
-use Rattle.legs.specs.Finding.{FeaturePlace, Finding, IsMade, IsMadeEntry, MovesLast, StaysAt}
+use Rattle.legs.specs.Finding.{FeaturePlace, Finding, IsMade, MovesLast, StaysAt}
+use Rattle.legs.specs.Hanging.{with_leaves, IsSameUpper, Upper}
 use Rattle.legs.specs.Index.{features_after, is_of, legs_of, last_leg_of, MayRefuse, MayRefuseLeg, HasRisen, CanFollowInTurn, SkipNone}
 use Rattle.legs.specs.Costs.{ShapeView, RisesBy, RisesAtMost, add_bound, add_all_bound}
 use Rattle.legs.specs.declared.index.IndexFault.{IndexFault}
@@ -117,6 +119,12 @@ placed_legs finding feature = legs_at (slice_get finding.places feature)
     legs_at (Some place) = place.legs
     legs_at None = 0
 
+-- how many leaves the legs of the first so many features fill, where a leaf takes `leaf` of them
+abbrev pub leaves_filled : (leaf : ℕ) → Finding → ℕ → ℕ
+leaves_filled leaf finding zero = 0
+leaves_filled leaf finding (suc n) =
+    leaves_filled leaf finding n + div_ceil (placed_legs finding n) leaf
+
 -- what its pages told of a question they tell, and what they denied they deny
 pub record SaysStill {I : Type 0} (g : Ghosts I) (old new : I) (question : Question) : Type 0 where
   pub told : (legs : List LegView) → g.tells old question legs → g.tells new question legs
@@ -138,6 +146,16 @@ pub record TakesRoom (old new : Finding) (legs : ℕ) : Type 0 where
   pub held : new.leaves + old.pages ≤ old.leaves + new.pages
   pub root : (new.root ≡ old.root) ⊎ IsMade old new new.root
 
+-- the upper part of the tree of an index over pages
+abbrev pub upper_part : {I : Type 0} → Ghosts I → I → Upper
+upper_part g index = record {
+  root = (g.found_by index).root;
+  levels = (g.found_by index).levels;
+  leaves = (g.found_by index).leaves;
+  pages = (g.found_by index).pages;
+  children = g.children index;
+}
+
 -- what legs make of an index, sound or not: by whatever test of boxes that a greater box does not fail it finds each leg
 -- that it found, and each of these whose box meets, and it counts them. Each feature that they have ends with the last
 -- one of them; each other one ends with the leg with which it ended, and is found where it was
@@ -154,11 +172,17 @@ pub record HasAdded {I : Type 0} (g : Ghosts I) (old new : I) (legs : List LegVi
   pub comes : (meets : BoxView → Bool) → IsPruning leg_boxes meets → (above page : ℕ)
       → g.comes_to old meets above page → g.comes_to new meets above page
   pub bare : (page : ℕ) → g.is_bare old page → g.is_bare new page
-  -- over a faithful store each page has the entries that it had, in their order, and behind them pages that were made, and
-  -- in a page that was made the old root; the last leaf of each feature is the one that it was, or was made
-  pub children : g.is_faithful old → (page : ℕ)
-      → (added : List ℕ) × (g.children new page ≡ g.children old page ++ added)
-      × All (IsMadeEntry (g.found_by old) (g.found_by new) page) added
+  -- over a faithful store the root, the levels, the pages and their entries are what hanging so many leaves more makes of
+  -- them, one after another; the last leaf of each feature is the one that it was, or was made
+  pub hung : g.is_faithful old → (shape : ShapeView) → g.plan old ≡ Some shape
+      → IsSameUpper (upper_part g new)
+      (with_leaves shape.inner ((g.found_by new).leaves - (g.found_by old).leaves)
+      (upper_part g old))
+  -- there are as many leaves more as the legs of its places fill more
+  pub filled : g.is_faithful old → (shape : ShapeView) → g.plan old ≡ Some shape → (n : ℕ)
+      → g.features new ≤ n
+      → (g.found_by new).leaves + leaves_filled shape.leaf (g.found_by old) n
+      ≡ (g.found_by old).leaves + leaves_filled shape.leaf (g.found_by new) n
   pub moves : g.is_faithful old → (feature : ℕ)
       → MovesLast (g.found_by old) (g.found_by new) feature
   pub top : 0 < (g.found_by old).levels → g.is_bare old (g.found_by old).root

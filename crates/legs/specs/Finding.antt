@@ -37,10 +37,6 @@ MovesLast old new feature =
     × (old.leaves ≤ (place_in new feature).last_index)
     × ((place_in new feature).last_index < new.leaves))
 
--- the page q was made; or the page p was, and q is the old root
-abbrev pub IsMadeEntry : (old new : Finding) → (p q : ℕ) → Type 0
-IsMadeEntry old new p q = IsMade old new q ⊎ ((old.pages ≤ p) × (q ≡ old.root))
-
 -- the same root, levels, leaves and places, but for places of features that came later, and no fewer pages
 pub record StaysAt (old new : Finding) : Type 0 where
   pub root : new.root ≡ old.root

@@ -51,5 +51,4 @@ pub mod FillLemmas
 pub mod LeafLemmas
 pub mod FillCosts
 pub mod NeedsLemmas
-pub mod UpperLemmas
 pub mod UpperPages

@@ -20,7 +20,7 @@ use Rattle.tbtree.specs.declared.tree.Top.{Top}
 use Rattle.tbtree.proofs.ContentLemmas.{at_page}
 use Rattle.tbtree.proofs.GraftLemmas.{becomes_rest, kids_covered, kids_pushed, kids_then}
 use Rattle.tbtree.proofs.RoomLemmas.{neq-eqb}
-use Rattle.tbtree.proofs.UpperLemmas.{entry_same, hung_in, hung_same, hung_up, leaves_same, leaves_then, page_same, upper_then}
+use Rattle.legs.proofs.HangingLemmas.{entry_same, hung_in, hung_same, hung_up, leaves_same, leaves_then, page_same, upper_then}
 
 -- what a test of a number gives at it, and elsewhere
 at_that : (p q : ℕ) (xs ys : List ℕ) → p ≡ q → cond (p == q) xs ys ≡ xs

@@ -220,6 +220,7 @@ returns-in_err-put-clause-blames g c = λ fa.
       pages = fills.0;
       fills = fills.1;
       grows = content_grows (pages_of_cache old) nodes was tree (take n legs) (so_far.met fa);
+      hung = so_far.hung fa;
     } in
     let p = err_from_is_err_and c.from_residual.result c.from_residual.ensures.1 in
     rw (p.1, p.2) (named_then (λ page. IsFit nodes tree place (take (n + k - n) (drop n legs)) page → ⊥) (BlamesNext old c.put.new.cache was c.put.new.tree place_was c.put.new.place legs)

@@ -21,6 +21,7 @@ returns-then-is_ok g c =
       joins = c.insert_all-result.ensures.joins works;
       fills = c.insert_all-result.ensures.fills;
       met = c.insert_all-result.ensures.met;
+      hung = c.insert_all-result.ensures.hung;
       placed = c.insert_all-result.ensures.counted;
       shape = c.insert_all-result.ensures.shape;
       room = let l = c.leaf.ensures.range.least_leaf in let v = c.leaf.ensures.value in omega (arith, l, v);
@@ -53,6 +54,7 @@ returns-else-is_ok g c =
       joins = c.insert_all-result.ensures.joins works;
       fills = c.insert_all-result.ensures.fills;
       met = c.insert_all-result.ensures.met;
+      hung = c.insert_all-result.ensures.hung;
       placed = c.insert_all-result.ensures.counted;
       shape = c.insert_all-result.ensures.shape;
       room = let l = c.leaf.ensures.range.least_leaf in let v = c.leaf.ensures.value in omega (arith, l, v);

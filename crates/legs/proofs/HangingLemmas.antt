@@ -1,8 +1,10 @@
 -- Upper parts that are the same, and what is made of them.
 use Rattle.std.proofs.Common.{ℕ, zero, suc, cond, ◌==◌, ◌+◌, ◌/◌, ◌%◌, ◌≡◌, ◌≢◌, ◌∙◌, ⊎_elim, List, [], ◌∷◌, ◌++◌, refl, sym, ap, arith, subst, slice_index_or, eq-eqb}
-use Rattle.std.proofs.lemmas.Bool.{cases_eq}
+use Rattle.std.proofs.lemmas.Bool.{cases_eq, ne_eqb}
 use Rattle.legs.specs.Hanging.{block_page, hung, hung_first, with_entry, with_leaf, with_leaves, with_page, IsSameUpper, Upper}
-use Rattle.tbtree.proofs.RoomLemmas.{neq-eqb}
+
+pub upper_refl : (a : Upper) → IsSameUpper a a
+upper_refl a = record { root = refl; levels = refl; leaves = refl; pages = refl; children = λ p. refl }
 
 -- of three of which the first is the same as the second, and this as the third
 pub upper_then : (a b c : Upper) → IsSameUpper a b → IsSameUpper b c → IsSameUpper a c
@@ -39,7 +41,7 @@ pub hung_up : (inner : ℕ) (u : Upper) (n block child : ℕ) → block % inner 
 hung_up inner u n block child begins = ap (λ t. cond t (hung inner (with_page u (child ∷ [])) n (block / inner) u.pages) (with_entry u (block_page inner u n (block / inner)) child)) (eq-eqb (block % inner) 0 begins)
 
 pub hung_in : (inner : ℕ) (u : Upper) (n block child : ℕ) → block % inner ≢ 0 → hung inner u (suc n) block child ≡ with_entry u (block_page inner u n (block / inner)) child
-hung_in inner u n block child not = ap (λ t. cond t (hung inner (with_page u (child ∷ [])) n (block / inner) u.pages) (with_entry u (block_page inner u n (block / inner)) child)) (neq-eqb (block % inner) 0 not)
+hung_in inner u n block child not = ap (λ t. cond t (hung inner (with_page u (child ∷ [])) n (block / inner) u.pages) (with_entry u (block_page inner u n (block / inner)) child)) (ne_eqb (block % inner) 0 not)
 
 -- a block is hung
 pub hung_same : (inner : ℕ) (n : ℕ) (a b : Upper) (block child : ℕ) → IsSameUpper a b → IsSameUpper (hung inner a n block child) (hung inner b n block child)
