@@ -164,7 +164,8 @@ module _ {I : Type 0} (g : Ghosts I) (core : CoreView I) where
   abbrev pub NamesBy : CoreView I → List (List ℕ × List ℕ) → Command → RunFault → Type 0
   NamesBy new files (Load name) fault = NamesLoad new (file_named files name) fault
   NamesBy new files Count fault = Names (λ page. ⊥) fault
-  NamesBy new files (Box rect period) fault = Names (DeniesLegs (InBox (box_over rect period))) fault
+  NamesBy new files (Box rect period) fault =
+      Names (DeniesLegs (InBox (box_over rect period))) fault
   NamesBy new files (Legs predicate rect period) fault =
       Names (DeniesLegs (InBox (box_near predicate rect period))) fault
   NamesBy new files (Features predicate rect period) fault =
