@@ -26,8 +26,8 @@ pub record IsLater {I : Type 0} (g : Ghosts I) (old new : I) : Type 0 where
 
 -- where the ways down its pages lead, whoever wrote them: they find each leg that they found, and come to each page to which
 -- they came; a page that is none of a tree stays so; each feature ends with the leg with which it ended; none is astray that
--- was not, and no leg is led to that was not; each page has the entries that it had, and is what legs need of it where it
--- was; there are as many features
+-- was not, and no leg is led to that was not; the entries of each page name the pages that they named, and it is what legs
+-- need of it where it was; there are as many features
 pub record LeadsStill {I : Type 0} (g : Ghosts I) (old new : I) : Type 0 where
   pub finds : (meets : BoxView → Bool) (leg : LegView) → g.finds old meets leg
       → g.finds new meets leg
@@ -172,8 +172,9 @@ pub record HasAdded {I : Type 0} (g : Ghosts I) (old new : I) (legs : List LegVi
   pub comes : (meets : BoxView → Bool) → IsPruning leg_boxes meets → (above page : ℕ)
       → g.comes_to old meets above page → g.comes_to new meets above page
   pub bare : (page : ℕ) → g.is_bare old page → g.is_bare new page
-  -- over a faithful store the root, the levels, the pages and their entries are what hanging so many leaves more makes of
-  -- them, one after another; the last leaf of each feature is the one that it was, or was made
+  -- over a faithful store the root, the levels, how many pages there are, and which pages each page's entries name, in order,
+  -- are what hanging so many leaves more makes of them, one after another; the last leaf of each feature is the one that it
+  -- was, or was made
   pub hung : g.is_faithful old → (shape : ShapeView) → g.plan old ≡ Some shape
       → IsSameUpper (upper_part g new)
       (with_leaves shape.inner ((g.found_by new).leaves - (g.found_by old).leaves)

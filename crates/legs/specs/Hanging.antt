@@ -25,7 +25,7 @@ with_entry u page child =
     }
 
 -- the page of the block of that number, so many levels below the root: from the root down, each time by the entry that the
--- number of the block names
+-- number of the block names; page 0 where there is no such entry
 abbrev pub block_page : (inner : ℕ) → Upper → (steps block : ℕ) → ℕ
 block_page inner u zero block = u.root
 block_page inner u (suc steps) block =
@@ -42,7 +42,7 @@ hung inner u (suc steps) block child =
     then hung inner (with_page u (child ∷ [])) steps (block / inner) u.pages
     else with_entry u (block_page inner u steps (block / inner)) child
 
--- the page of a new leaf, the next page, is hung; the first leaf is the root
+-- the page of a new leaf, the next page, is hung; in a tree without levels it is the root
 abbrev pub hung_first : (inner : ℕ) → Upper → (levels : ℕ) → Upper
 hung_first inner u zero = record (with_page u []) { root = u.pages; levels = 1 }
 hung_first inner u (suc steps) = hung inner (with_page u []) steps u.leaves u.pages
