@@ -50,5 +50,6 @@ pub mod EndLemmas
 pub mod FillLemmas
 pub mod LeafLemmas
 pub mod FillCosts
+pub mod MovedLemmas
 pub mod NeedsLemmas
 pub mod UpperPages

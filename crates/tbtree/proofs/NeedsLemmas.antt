@@ -345,7 +345,7 @@ blames_spent old new tree tree' a b place place' legs page h =
       from = h.from;
       within = h.within;
       mid = h.mid;
-      first = record { shape = f.shape; passes = f.passes; length = f.length; pages = f.pages; fills = f.fills; grows = content_spent (pages_of_cache old) (pages_of_cache h.mid) tree tree' a b (take h.from legs) f.grows; hung = record { more = f.hung.more; is = f.hung.is } };
+      first = record { shape = f.shape; passes = f.passes; length = f.length; pages = f.pages; fills = f.fills; grows = content_spent (pages_of_cache old) (pages_of_cache h.mid) tree tree' a b (take h.from legs) f.grows; hung = record { more = f.hung.more; is = f.hung.is }; moved = record { stays = f.moved.stays; moves = f.moved.moves } };
       start = h.start;
       after = h.after;
       some = h.some;

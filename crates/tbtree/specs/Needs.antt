@@ -13,7 +13,7 @@ use Rattle.tbtree.specs.Nodes.{pages_of_cache, Pages, HasCover, HasEntry, HasLas
 use Rattle.tbtree.specs.Passes.{KeepsLength, Passes}
 use Rattle.tbtree.specs.Payloads.{TakesLegs, are_of_one_leaf}
 use Rattle.tbtree.specs.Stands.{owner}
-use Rattle.tbtree.specs.Upper.{HasHung}
+use Rattle.tbtree.specs.Upper.{HasHung, HasMoved}
 use Rattle.tbtree.specs.declared.tree.Place.{Place}
 use Rattle.tbtree.specs.declared.tree.TbTree.{TbTree}
 
@@ -116,6 +116,7 @@ pub record PutsSome (old mid : Cache) (tree tree' : TbTree) (place place' : Plac
       tree'.leaves place place' legs pages
   pub grows : ContentGrows (pages_of_cache old) (pages_of_cache mid) tree tree' legs
   pub hung : HasHung (pages_of_cache old) (pages_of_cache mid) tree tree'
+  pub moved : HasMoved (pages_of_cache old) tree tree' place place'
 
 -- the first of the legs were put in, if any, and not all, which left the tree and the place so, and
 -- pages of which this one is not what the next legs need of it

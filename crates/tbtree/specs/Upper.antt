@@ -1,12 +1,13 @@
 -- The upper part of a tree over pages, whatever they hold, and what leaves that are hung into it
 -- make of it.
-use Rattle.std.specs.Prelude.{ℕ, suc, ◌≡◌, ◌≤◌, ◌+◌, ◌-◌, []}
+use Rattle.std.specs.Prelude.{ℕ, suc, ◌≡◌, ◌<◌, ◌≤◌, ◌+◌, ◌-◌, []}
 use Rattle.legs.specs.Boxes.{BoxView}
 use Rattle.legs.specs.Hanging.{block_page, hung, with_leaf, with_leaves, with_page, IsSameUpper, Upper}
 use Rattle.legs.specs.Legs.{LegView}
 use Rattle.tbtree.specs.Content.{kids}
 use Rattle.tbtree.specs.Descent.{node_at}
 use Rattle.tbtree.specs.Nodes.{Pages}
+use Rattle.tbtree.specs.declared.tree.Place.{Place}
 use Rattle.tbtree.specs.declared.tree.TbTree.{TbTree}
 use Rattle.tbtree.specs.declared.tree.Top.{Top}
 
@@ -29,6 +30,17 @@ pub record HasHung (old new : Pages LegView BoxView) (tree tree' : TbTree) : Typ
   pub more : tree.leaves ≤ tree'.leaves
   pub is : IsSameUpper (upper new tree')
       (with_leaves tree.shape.inner (tree'.leaves - tree.leaves) (upper old tree))
+
+-- a place names the last leaf that it named, by the same number, where no leaf was made; else the
+-- last one that was made, the next page when it was hung
+pub record HasMoved (old : Pages LegView BoxView) (tree tree' : TbTree) (place place' : Place)
+    : Type 0 where
+  pub stays : tree'.leaves ≡ tree.leaves
+      → (place'.last ≡ place.last) × (place'.last_index ≡ place.last_index)
+  pub moves : tree.leaves < tree'.leaves
+      → (suc place'.last_index ≡ tree'.leaves)
+      × (place'.last ≡ (with_leaves tree.shape.inner (place'.last_index - tree.leaves)
+      (upper old tree)).pages)
 
 -- Helpers of private functions.
 

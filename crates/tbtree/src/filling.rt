@@ -7,7 +7,7 @@ ghost use Rattle.tbtree.specs.Nodes.{pages_of_cache};
 ghost use Rattle.tbtree.specs.Passes.{Passes, KeepsLength, KeepsOthers, Touches};
 ghost use Rattle.tbtree.specs.Filling.{FillsLeaves, NamesLast};
 ghost use Rattle.tbtree.specs.Joining.{JoinsAll};
-ghost use Rattle.tbtree.specs.Upper.{HasHung};
+ghost use Rattle.tbtree.specs.Upper.{HasHung, HasMoved};
 ghost use Rattle.tbtree.specs.declared.fault.TreeFault.{TreeFault};
 
 use crate::fault::TreeFault;
@@ -63,6 +63,8 @@ fn put_all<S: PageStore>(
         (Meets (pages_of_cache cache.old) (pages_of_cache cache.new) tree.old tree.new legs.now) }
     ensures hung { IsTrue cache.old.store.is_faithful → OnOk result
         (HasHung (pages_of_cache cache.old) (pages_of_cache cache.new) tree.old tree.new) }
+    ensures moved { IsTrue cache.old.store.is_faithful → OnOk result
+        (HasMoved (pages_of_cache cache.old) tree.old tree.new place.old place.new) }
     ensures counted { OnOk result (place.new.legs ≡ place.old.legs + length legs.now) }
     ensures named { 0 < length legs.now → OnOk result (NamesLast place.old) }
     ensures rooted { 0 < length legs.now → OnOk result (tree.old.root < cache.old.count) }
@@ -126,7 +128,8 @@ pub fn insert_all<S: PageStore>(
     // room, and leaves that are made behind it have the others; each other leaf is as it was. By each test of boxes that a
     // greater box does not fail the way down meets each page that it met, and finds each leg that it found, and each of
     // these whose box meets; only pages that are made become entries, and the old root. The leaves that are made are hung
-    // into the tree, one after another, and nothing else is done to the upper part of it.
+    // into the tree, one after another, and nothing else is done to the upper part of it. The place names its last leaf
+    // as before, or the last one that is made.
     ensures fills { IsTrue cache.old.store.is_faithful → OnOk result
         ((pages : List ℕ) × FillsLeaves tree.old.shape.leaf (pages_of_cache cache.old)
         (pages_of_cache cache.new) tree.old.leaves tree.new.leaves place.old place.new legs.now
@@ -136,6 +139,8 @@ pub fn insert_all<S: PageStore>(
         legs.now) }
     ensures hung { IsTrue cache.old.store.is_faithful → OnOk result
         (HasHung (pages_of_cache cache.old) (pages_of_cache cache.new) tree.old tree.new) }
+    ensures moved { IsTrue cache.old.store.is_faithful → OnOk result
+        (HasMoved (pages_of_cache cache.old) tree.old tree.new place.old place.new) }
     ensures counted { OnOk result (place.new.legs ≡ place.old.legs + length legs.now) }
     ensures named { 0 < length legs.now → OnOk result (NamesLast place.old) }
     ensures rooted { 0 < length legs.now → OnOk result (tree.old.root < cache.old.count) }

@@ -17,7 +17,7 @@ ghost use Rattle.tbtree.specs.Joining.{HasAtEnd, Joins, JoinsAll};
 ghost use Rattle.tbtree.specs.Payloads.{TakesLegs, are_of_one_leaf};
 ghost use Rattle.tbtree.specs.Shape.{IsShape};
 ghost use Rattle.tbtree.specs.Stands.{owner};
-ghost use Rattle.tbtree.specs.Upper.{HasHung, HasHungBlock, HasHungLeaf, HasMadeLeaf, IsBlockPage};
+ghost use Rattle.tbtree.specs.Upper.{HasHung, HasHungBlock, HasHungLeaf, HasMadeLeaf, HasMoved, IsBlockPage};
 ghost use Rattle.tbtree.specs.declared.fault.TreeFault.{TreeFault};
 
 use crate::fault::TreeFault;
@@ -508,7 +508,7 @@ pub fn insert<S: PageStore>(
     // alone is made behind it; each other leaf is as it was. By each test of boxes that a greater box does not fail the
     // way down meets each page that it met, and finds each leg that it found, and the leg where its box meets; only pages
     // that are made become entries, and the old root. A leaf that is made is hung into the tree, and nothing else is done to
-    // the upper part of it.
+    // the upper part of it. The place names its last leaf as before, or the one that is made.
     ensures fills { IsTrue cache.old.store.is_faithful → OnOk result
         (FillsLeaves tree.old.shape.leaf (pages_of_cache cache.old) (pages_of_cache cache.new)
         tree.old.leaves tree.new.leaves place.old place.new (leg ∷ [])
@@ -518,6 +518,8 @@ pub fn insert<S: PageStore>(
         (leg ∷ [])) }
     ensures hung { IsTrue cache.old.store.is_faithful → OnOk result
         (HasHung (pages_of_cache cache.old) (pages_of_cache cache.new) tree.old tree.new) }
+    ensures moved { IsTrue cache.old.store.is_faithful → OnOk result
+        (HasMoved (pages_of_cache cache.old) tree.old tree.new place.old place.new) }
     ensures place { OnOk result (place.new ≡ place_with tree.old.leaves place.old (leg ∷ [])
         (page_made tree.old.shape.leaf cache.old.count place.old)) }
     ensures named { OnOk result (NamesLast place.old) }

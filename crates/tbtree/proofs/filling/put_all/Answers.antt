@@ -24,6 +24,7 @@ use Rattle.tbtree.proofs.Still.{still}
 use Rattle.tbtree.specs.Needs.{BlamesNext, IsFit, PutsSome}
 use Rattle.tbtree.proofs.FaultLemmas.{named_then}
 use Rattle.tbtree.proofs.NeedsLemmas.{next_part}
+use Rattle.tbtree.proofs.MovedLemmas.{moved_none, moved_put}
 use Rattle.tbtree.proofs.UpperPages.{hung_none, hung_then}
 use Rattle.tbtree.proofs.filling.put_all.Goals as goal
 
@@ -53,6 +54,7 @@ leaves-init g c =
           ([], none, λ some. ap (λ (l : List LegView). length l % tree.shape.leaf) none.made ∙ zero-mod tree.shape.leaf);
       met = λ fa. meets_none (pages_of_cache cache) tree;
       hung = λ fa. hung_none (pages_of_cache cache) (pages_of_cache cache) tree (λ p. refl) refl;
+      moved = λ fa. moved_none (pages_of_cache cache) tree c.args.place.now;
       filled = filled_start tree.shape.leaf (length c.args.legs.now) cache tree c.args.place.now (omega (arith, least));
     }
 
@@ -140,6 +142,8 @@ leaves-preserved g c =
           (λ above. put.grown (omega (arith, same, above))) (λ z. put.begun (same ∙ z));
       met = λ fa. meets_part (pages_of_cache old) (pages_of_cache now) (pages_of_cache new) c.args.tree.now c.leaves.tree c.put.new.tree legs n k (so_far.met fa) (put.met (still _ _ so_far.touches.passes.store.faithful fa));
       hung = λ fa. hung_then (pages_of_cache old) (pages_of_cache now) (pages_of_cache new) c.args.tree.now c.leaves.tree c.put.new.tree so_far.shape (so_far.hung fa) (put.hung (still _ _ so_far.touches.passes.store.faithful fa));
+      moved = λ fa. moved_put (pages_of_cache old) (pages_of_cache now) c.args.tree.now c.leaves.tree c.put.new.tree c.args.place.now c.leaves.place c.put.new.place c.leaves.tree.shape.leaf (take (n + k - n) (drop n legs))
+          (so_far.hung fa) (so_far.moved fa) put.place put.begun put.grown;
       filled = filled_part leaf n k (length legs) old now new c.args.tree.now c.leaves.tree c.put.new.tree c.leaves.place c.put.new.place
           fits.some so_far.filled c.leaves-test.true put.higher counted
           room full
@@ -221,6 +225,7 @@ returns-in_err-put-clause-blames g c = λ fa.
       fills = fills.1;
       grows = content_grows (pages_of_cache old) nodes was tree (take n legs) (so_far.met fa);
       hung = so_far.hung fa;
+      moved = so_far.moved fa;
     } in
     let p = err_from_is_err_and c.from_residual.result c.from_residual.ensures.1 in
     rw (p.1, p.2) (named_then (λ page. IsFit nodes tree place (take (n + k - n) (drop n legs)) page → ⊥) (BlamesNext old c.put.new.cache was c.put.new.tree place_was c.put.new.place legs)

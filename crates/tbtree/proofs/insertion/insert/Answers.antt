@@ -1,4 +1,4 @@
-use Rattle.std.proofs.Common.{true, false, [], ◌∷◌, ◌<◌, arith}
+use Rattle.std.proofs.Common.{true, false, [], ◌∷◌, ◌<◌, refl, arith}
 use Rattle.std.proofs.lemmas.Nat.{mod_below}
 use Rattle.std.specs.Prelude.{Ok, Err}
 use Rattle.std.proofs.lemmas.Result.{err_from_is_err_and}
@@ -9,7 +9,8 @@ use Rattle.tbtree.proofs.LeafLemmas.{fills_one}
 use Rattle.tbtree.specs.Needs.{IsFit}
 use Rattle.tbtree.proofs.FaultLemmas.{named_then}
 use Rattle.tbtree.proofs.NeedsLemmas.{fit_spent}
-use Rattle.tbtree.proofs.UpperPages.{hung_spent}
+use Rattle.tbtree.proofs.MovedLemmas.{moved_none, moved_put, moved_spent}
+use Rattle.tbtree.proofs.UpperPages.{hung_none, hung_spent}
 use Rattle.tbtree.proofs.insertion.insert.Goals as goal
 
 pub returns-clause-joins : goal.returns-clause-joins
@@ -59,3 +60,13 @@ returns-in_err-put-clause-blames g c = λ _ fa.
 pub returns-clause-hung : goal.returns-clause-hung
 returns-clause-hung g c = λ fa.
     hung_spent (pages_of_cache c.args.cache.now) (pages_of_cache c.put.new.cache) c.args.tree.now c.put.new.tree true false (c.in_ok-put.ensures.hung fa)
+
+pub returns-clause-moved : goal.returns-clause-moved
+returns-clause-moved g c = λ fa.
+    let old = pages_of_cache c.args.cache.now in
+    let tree = c.args.tree.now in
+    let place = c.args.place.now in
+    let put = c.in_ok-put.ensures in
+    moved_spent old tree c.put.new.tree tree.spent false place c.put.new.place
+    (moved_put old old tree tree c.put.new.tree place place c.put.new.place tree.shape.leaf (c.args.leg ∷ [])
+    (hung_none old old tree (λ p. refl) refl) (moved_none old tree place) put.place put.begun put.grown)
