@@ -112,7 +112,7 @@ module _ (old new : IndexView) (feature : ℕ) (legs : List LegView) (was is : P
         none = λ e. absurd (let none = from_none e in omega (arith, none, more));
         added = takes_put old mid feature (take n.from legs) was is (let long = length-take n.from legs in let within = n.within in omega (arith, clamps, long, within, more)) (All-take O n.from legs one) found places
             f.passes.store.faithful f.shape refl refl (ap (λ (p : Place). p.legs) f.fills.place_is ∙ placed_legs old.tree.leaves was (take n.from legs) f.pages)
-            (λ fa. (f.pages, f.fills)) (λ fa. content_spent_after (pages_of_cache old.cache) (pages_of_cache n.mid) old.tree new.tree new.tree.spent false (take n.from legs) f.grows) (λ fa. record { more = f.hung.more; is = f.hung.is });
+            (λ fa. (f.pages, f.fills)) (λ fa. content_spent_after (pages_of_cache old.cache) (pages_of_cache n.mid) old.tree new.tree new.tree.spent false (take n.from legs) f.grows) (λ fa. record { more = f.hung.more; is = f.hung.is }) (λ fa. record { stays = f.moved.stays; moves = f.moved.moves });
         stays = λ fa. record { root = refl; levels = refl; leaves = refl; pages = n.after.count; places = λ f place e. e };
         fits = λ shape e. fits_at shape (legs_placed (found_by mid) feature) (placed_is mid feature ∙ ap legs_in_place place_now) e;
         unfit = unfit_now;

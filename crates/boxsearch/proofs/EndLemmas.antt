@@ -3,7 +3,7 @@ use Rattle.std.proofs.Common.{Bool, ℕ, zero, suc, ◌+◌, ◌-◌, ◌^◌, �
 use Rattle.std.specs.Prelude.{IsTrue}
 use Rattle.std.specs.Int.{div_ceil}
 use Rattle.std.specs.List.{count_by, Contains}
-use Rattle.std.proofs.lemmas.Bool.{cases_eq, eqb-true, true≢false}
+use Rattle.std.proofs.lemmas.Bool.{cases_eq, cases_lt, eqb-true, true≢false}
 use Rattle.std.proofs.lemmas.List.{append-nil, drop-append-le, length-set, length_push}
 use Rattle.std.proofs.lemmas.List.Elements.{All-cons, All-contains, All-nil}
 use Rattle.std.proofs.lemmas.Option.{slice_get-map}
@@ -19,11 +19,11 @@ use Rattle.legs.proofs.HangingLemmas.{leaves_same, upper_then}
 use Rattle.legs.proofs.LastLemmas.{answer_alike, answer_none, last_absent, last_at_end, last_holds, last_own, takes_then}
 use Rattle.tbtree.specs.Content.{kids, ContentGrows, IsMadeRoot, LeadsToLeg}
 use Rattle.tbtree.specs.Descent.{found_legs, node_at, node_in, pages_met}
-use Rattle.tbtree.specs.Filling.{place_with, KeepsLegs}
+use Rattle.tbtree.specs.Filling.{FillsLeaves, KeepsLegs}
 use Rattle.tbtree.specs.Joining.{in_last_leaf, HasAtEnd}
 use Rattle.tbtree.specs.Nodes.{Pages, pages_of_cache, with_legs}
 use Rattle.tbtree.specs.Stands.{no_place}
-use Rattle.tbtree.specs.Upper.{upper, HasHung}
+use Rattle.tbtree.specs.Upper.{upper, HasHung, HasMoved}
 use Rattle.tbtree.specs.declared.fault.TreeFault.{TreeFault}
 use Rattle.tbtree.specs.declared.tree.Place.{Place}
 use Rattle.tbtree.proofs.EndLemmas.{ends_fewer}
@@ -37,7 +37,7 @@ use Rattle.boxsearch.proofs.AddLemmas.{made}
 use Rattle.boxsearch.proofs.TrackGrowth.{all_of_one, denied_alike, made_was, none_of_other, own_track, told_alike}
 use Rattle.chains.proofs.ChainGrowth.{others_alike, AreAlike}
 use Rattle.boxsearch.proofs.LeafCounts.{filled_one, leaves_more}
-use Rattle.boxsearch.proofs.MadeLemmas.{features_one, for_alike, many_with, moves_by, placed_in, rising_held}
+use Rattle.boxsearch.proofs.MadeLemmas.{features_one, for_alike, many_with, placed_in, rising_held}
 use Rattle.boxsearch.proofs.PlaceLemmas.{get-set_same, get-set_other, got_within, some_same, place_made, place_there, push_last, push_other}
 
 -- the last of some legs is among those of the last leaf
@@ -102,7 +102,8 @@ module _ (old new : IndexView) (feature : ℕ) (legs : List LegView) (was is : P
     (counted : new.legs ≡ min (old.legs + length legs) (2 ^ 64 - 1)) (placed : is.legs ≡ was.legs + length legs)
     (fills : IsTrue old.cache.store.is_faithful → FillsSome old new was is legs)
     (met : IsTrue old.cache.store.is_faithful → ContentGrows (pages_of_cache old.cache) (pages_of_cache new.cache) old.tree new.tree legs)
-    (hangs : IsTrue old.cache.store.is_faithful → HasHung (pages_of_cache old.cache) (pages_of_cache new.cache) old.tree new.tree) where
+    (hangs : IsTrue old.cache.store.is_faithful → HasHung (pages_of_cache old.cache) (pages_of_cache new.cache) old.tree new.tree)
+    (moveds : IsTrue old.cache.store.is_faithful → HasMoved (pages_of_cache old.cache) old.tree new.tree was is) where
   was_faithful : IsTrue new.cache.store.is_faithful → IsTrue old.cache.store.is_faithful
   was_faithful fa = still _ _ (sym faithful) fa
 
@@ -209,23 +210,47 @@ module _ (old new : IndexView) (feature : ℕ) (legs : List LegView) (was is : P
       (met fa).grafts.root_is
 
   -- the last leaf of each feature
-  moves_at : IsTrue old.cache.store.is_faithful → (f : ℕ) → MovesLast (found_by old) (found_by new) f
-  moves_at fa f = ⊎_elim
-      (λ (e : f ≡ feature).
-      let g = fills fa in
-      let by = moves_by (found_by old) (found_by new) was legs (pages_of_cache new.cache) old.tree.shape.leaf was.last _ g.0 g.1.made g.1.there g.1.counted in
-      let now : place_in (found_by new) f ≡ place_of (place_with old.tree.leaves was legs g.0) = placed_in new f ∙ ap (λ k. place_of (place_for new.places k)) e ∙ ap place_of (sym (place_there new.places feature is place_of_own)) ∙ ap place_of g.1.place_is in
-      let before : place_in (found_by old) f ≡ place_of was = placed_in old f ∙ ap (λ k. place_of (place_for old.places k)) e ∙ ap place_of (sym (place_made old.places feature was found)) in
-      subst (λ p. Moves p (place_in (found_by new) f)) (sym before) (subst (λ q. Moves (place_of was) q) (sym now) by))
-      (λ (u : f ≢ feature).
-      let same : place_in (found_by new) f ≡ place_in (found_by old) f = placed_in new f ∙ ap place_of (for_alike old.places new.places f (place_of_other f u)) ∙ sym (placed_in old f) in
-      inl (ap (λ (p : FeaturePlace). p.last) same, ap (λ (p : FeaturePlace). p.last_index) same))
-      (cases_eq f feature)
+  moves_own : (fa : IsTrue old.cache.store.is_faithful) (pages : List ℕ) → FillsLeaves old.tree.shape.leaf (pages_of_cache old.cache) (pages_of_cache new.cache) old.tree.leaves new.tree.leaves was is legs pages
+      → MovesLast old.tree.shape (upper_part words old) (found_by old) (found_by new) feature
+  moves_own fa pages g =
+      let leaf = old.tree.shape.leaf in
+      let m = moveds fa in
+      let now : place_in (found_by new) feature ≡ place_of is = placed_in new feature ∙ ap place_of (sym (place_there new.places feature is place_of_own)) in
+      let before : place_in (found_by old) feature ≡ place_of was = placed_in old feature ∙ ap place_of (sym (place_made old.places feature was found)) in
+      let more = leaves_more (pages_of_cache new.cache) leaf old.cache.count was.last was.legs legs pages (g.least some) g.made in
+      let high : div_ceil is.legs leaf ≡ div_ceil (was.legs + length legs) leaf = ap (λ n. div_ceil n leaf) placed in
+      let counted = g.counted in
+      subst (λ p. Moves p (place_in (found_by new) feature)) (sym before) (subst (λ q. Moves (place_of was) q) (sym now) (⊎_elim
+      (λ (few : new.tree.leaves ≤ old.tree.leaves).
+      let same = m.stays (omega (arith, few, counted)) in
+      inl (omega (arith, more, high, few, counted), same.0, same.1))
+      (λ (up : old.tree.leaves < new.tree.leaves).
+      let at = m.moves up in
+      let number = at.0 in
+      let n = is.last_index - old.tree.leaves in
+      inr (omega (arith, more, high, up, counted), omega (arith, number, up), omega (arith, number), at.1 ∙ (leaves_same old.tree.shape.inner n (upper (pages_of_cache old.cache) old.tree) (upper_part words old) (part_old fa)).pages))
+      (by_leaves (cases_lt old.tree.leaves new.tree.leaves))))
     where
+      by_leaves : (old.tree.leaves < new.tree.leaves) ⊎ (new.tree.leaves ≤ old.tree.leaves) → (new.tree.leaves ≤ old.tree.leaves) ⊎ (old.tree.leaves < new.tree.leaves)
+      by_leaves (inl l) = inr l
+      by_leaves (inr l) = inl l
+
       Moves : FeaturePlace → FeaturePlace → Type 0
       Moves p q =
-          ((q.last ≡ p.last) × (q.last_index ≡ p.last_index))
-          ⊎ (IsMade (found_by old) (found_by new) q.last × (old.tree.leaves ≤ q.last_index) × (q.last_index < new.tree.leaves))
+          ((div_ceil q.legs old.tree.shape.leaf ≡ div_ceil p.legs old.tree.shape.leaf) × (q.last ≡ p.last) × (q.last_index ≡ p.last_index))
+          ⊎ ((div_ceil p.legs old.tree.shape.leaf < div_ceil q.legs old.tree.shape.leaf) × (old.tree.leaves ≤ q.last_index) × (q.last_index < new.tree.leaves)
+          × (q.last ≡ (with_leaves old.tree.shape.inner (q.last_index - old.tree.leaves) (upper_part words old)).pages))
+
+  moves_at : IsTrue old.cache.store.is_faithful → (shape : ShapeView) → Some old.tree.shape ≡ Some shape → (f : ℕ) → MovesLast shape (upper_part words old) (found_by old) (found_by new) f
+  moves_at fa shape e f =
+      let own : old.tree.shape ≡ shape = some_same old.tree.shape shape e in
+      let g = fills fa in
+      subst (λ s. MovesLast s (upper_part words old) (found_by old) (found_by new) f) own (⊎_elim
+      (λ (at : f ≡ feature). subst (λ k. MovesLast old.tree.shape (upper_part words old) (found_by old) (found_by new) k) (sym at) (moves_own fa g.0 g.1))
+      (λ (u : f ≢ feature).
+      let same : place_in (found_by new) f ≡ place_in (found_by old) f = placed_in new f ∙ ap place_of (for_alike old.places new.places f (place_of_other f u)) ∙ sym (placed_in old f) in
+      inl (ap (λ (p : FeaturePlace). div_ceil p.legs old.tree.shape.leaf) same, ap (λ (p : FeaturePlace). p.last) same, ap (λ (p : FeaturePlace). p.last_index) same))
+      (cases_eq f feature))
 
   -- the legs of one feature that were put in
   pub takes_put : HasAdded words old new legs
@@ -316,13 +341,13 @@ module _ (old new : IndexView) (feature : ℕ) (legs : List LegView) (was is : P
 pub leg_takes : (old new : IndexView) (leg : LegView) (r : Result (Unit {0}) TreeFault) → Puts (made old leg.feature) new leg r → OnOk (answered (λ fault. of_tree fault) r) (HasAdded words old new (leg ∷ []))
 leg_takes old new leg (Ok tt) p =
     let one : All (λ l. l.feature ≡ leg.feature) (leg ∷ []) = All-cons (λ l. l.feature ≡ leg.feature) leg [] refl (All-nil (λ l. l.feature ≡ leg.feature)) in
-    takes_put old new leg.feature (leg ∷ []) p.was p.is (omega arith) one p.found p.places p.passes.store.faithful p.shape p.works p.legs p.placed p.fills p.met p.hung
+    takes_put old new leg.feature (leg ∷ []) p.was p.is (omega arith) one p.found p.places p.passes.store.faithful p.shape p.works p.legs p.placed p.fills p.met p.hung p.moved
 leg_takes old new leg (Err x) p = tt
 
 -- legs of one feature
 pub run_takes : (old new : IndexView) (feature : ℕ) (legs : List LegView) → 0 < length legs → All (λ leg. leg.feature ≡ feature) legs → (r : Result (Unit {0}) TreeFault) → PutsAll (made old feature) new feature legs r
     → OnOk (answered (λ fault. of_tree fault) r) (HasAdded words old new legs)
-run_takes old new feature legs some one (Ok tt) p = takes_put old new feature legs p.was p.is some one p.found p.places p.passes.store.faithful p.shape p.works p.counted p.placed p.fills p.met p.hung
+run_takes old new feature legs some one (Ok tt) p = takes_put old new feature legs p.was p.is some one p.found p.places p.passes.store.faithful p.shape p.works p.counted p.placed p.fills p.met p.hung p.moved
 run_takes old new feature legs some one (Err x) p = tt
 
 -- a run more

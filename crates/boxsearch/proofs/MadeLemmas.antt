@@ -1,15 +1,15 @@
 -- Leaves and places that legs make.
-use Rattle.std.proofs.Common.{ℕ, zero, suc, ◌+◌, ◌≡◌, ◌<◌, ◌≤◌, ◌∙◌, ◌⊎◌, ◌==◌, ◌++◌, cond, false, inl, inr, max, ⊎_elim, arith, refl, sym, ap, All, List, [], ◌∷◌, length, map, Option, Some, None, slice_get}
+use Rattle.std.proofs.Common.{ℕ, zero, suc, ◌+◌, ◌≡◌, ◌<◌, ◌≤◌, ◌∙◌, ◌==◌, ◌++◌, cond, false, max, ⊎_elim, arith, refl, sym, ap, All, List, [], ◌∷◌, length, map, Option, Some, None, slice_get}
 use Rattle.std.proofs.lemmas.Bool.{cases_lt}
 use Rattle.std.proofs.lemmas.Bool.Decides.{nat_tests}
 use Rattle.std.proofs.lemmas.List.Elements.{All-head, All-tail}
 use Rattle.legs.specs.Boxes.{BoxView}
-use Rattle.legs.specs.Finding.{place_in, FeaturePlace, Finding, IsMade}
+use Rattle.legs.specs.Finding.{place_in}
 use Rattle.legs.specs.Index.{features_after}
 use Rattle.legs.specs.Legs.{LegView}
-use Rattle.tbtree.specs.Filling.{place_with, AreLeaves}
+use Rattle.tbtree.specs.Filling.{AreLeaves}
 use Rattle.tbtree.specs.Nodes.{Pages}
-use Rattle.tbtree.specs.Stands.{last_or, no_place}
+use Rattle.tbtree.specs.Stands.{no_place}
 use Rattle.tbtree.specs.declared.tree.Place.{Place}
 use Rattle.boxsearch.specs.Index.{IndexView, found_by, place_for, place_of, with_place}
 use Rattle.boxsearch.proofs.PlaceLemmas.{length-made}
@@ -18,7 +18,7 @@ use Rattle.boxsearch.proofs.PlaceLemmas.{length-made}
 abbrev IsThere : ℕ → ℕ → Type 0
 IsThere count p = (0 < p) × (p < count)
 
--- as many pages at least as leaves are made, and the last of them is one that was
+-- as many pages at least as leaves are made
 pub rising_held : (nodes : Pages LegView BoxView) (leaf least before count : ℕ) (legs : List LegView) (ps : List ℕ) → AreLeaves nodes leaf least before legs ps → All (IsThere count) ps → least ≤ count → least + length ps ≤ count
 rising_held nodes leaf least before count legs [] made there few = omega (arith, few)
 rising_held nodes leaf least before count legs (p ∷ ps) made there few =
@@ -27,14 +27,6 @@ rising_held nodes leaf least before count legs (p ∷ ps) made there few =
     let high = here.1 in
     let rest = rising_held nodes leaf (suc p) p count _ ps made.3 (All-tail (IsThere count) p ps there) (omega (arith, high)) in
     omega (arith, low, rest)
-
-pub last_made : (nodes : Pages LegView BoxView) (leaf least before count : ℕ) (legs : List LegView) (p : ℕ) (ps : List ℕ) → AreLeaves nodes leaf least before legs (p ∷ ps) → All (IsThere count) (p ∷ ps) → (least ≤ last_or p ps) × (last_or p ps < count)
-last_made nodes leaf least before count legs p [] made there = (made.1, (All-head (IsThere count) p [] there).1)
-last_made nodes leaf least before count legs p (q ∷ qs) made there =
-    let rest = last_made nodes leaf (suc p) p count _ q qs made.3 (All-tail (IsThere count) p (q ∷ qs) there) in
-    let low = made.1 in
-    let more = rest.0 in
-    (omega (arith, low, more), rest.1)
 
 -- there are as many places, where the feature is above the next one
 with_most : (places : List Place) (feature : ℕ) → length places < feature → length (with_place places feature) ≡ length places
@@ -82,10 +74,3 @@ for_is (p ∷ ps) (suc f) = for_is ps f
 
 pub for_alike : (xs ys : List Place) (f : ℕ) → slice_get ys f ≡ slice_get xs f → place_for ys f ≡ place_for xs f
 for_alike xs ys f e = for_is ys f ∙ ap or_none e ∙ sym (for_is xs f)
-
--- the last leaf of a place is the one that it was, or was made
-pub moves_by : (old new : Finding) (was : Place) (legs : List LegView) (nodes : Pages LegView BoxView) (leaf before : ℕ) (left : List LegView) (ps : List ℕ) → AreLeaves nodes leaf old.pages before left ps → All (IsThere new.pages) ps → new.leaves ≡ old.leaves + length ps
-    → (let is = place_with old.leaves was legs ps in
-    ((is.last ≡ was.last) × (is.last_index ≡ was.last_index)) ⊎ (IsMade old new is.last × (old.leaves ≤ is.last_index) × (is.last_index < new.leaves)))
-moves_by old new was legs nodes leaf before left [] made there counted = inl (refl, refl)
-moves_by old new was legs nodes leaf before left (p ∷ ps) made there counted = inr (last_made nodes leaf old.pages before new.pages left p ps made there, omega arith, omega (arith, counted))

@@ -9,7 +9,7 @@ use Rattle.tbtree.specs.Joining.{Joins, JoinsAll}
 use Rattle.tbtree.specs.Needs.{BlamesNext, IsFit}
 use Rattle.tbtree.specs.Nodes.{pages_of_cache}
 use Rattle.tbtree.specs.Passes.{Passes, KeepsLength}
-use Rattle.tbtree.specs.Upper.{HasHung}
+use Rattle.tbtree.specs.Upper.{HasHung, HasMoved}
 use Rattle.tbtree.specs.declared.fault.TreeFault.{TreeFault}
 use Rattle.tbtree.specs.declared.tree.Place.{Place}
 use Rattle.boxsearch.specs.Index.{IndexView}
@@ -41,6 +41,8 @@ pub record Puts (old new : IndexView) (leg : LegView)
   pub hung : IsTrue old.cache.store.is_faithful
       → OnOk result (HasHung (pages_of_cache old.cache) (pages_of_cache new.cache) old.tree
       new.tree)
+  pub moved : IsTrue old.cache.store.is_faithful
+      → OnOk result (HasMoved (pages_of_cache old.cache) old.tree new.tree was is)
   pub placed : OnOk result (is.legs ≡ was.legs + 1)
   pub unmoved : OnErr result ((new.tree ≡ record old.tree { spent = true }) × (is ≡ was))
   pub shape : new.tree.shape ≡ old.tree.shape
@@ -73,6 +75,8 @@ pub record PutsAll (old new : IndexView) (feature : ℕ) (legs : List LegView)
   pub hung : IsTrue old.cache.store.is_faithful
       → OnOk result (HasHung (pages_of_cache old.cache) (pages_of_cache new.cache) old.tree
       new.tree)
+  pub moved : IsTrue old.cache.store.is_faithful
+      → OnOk result (HasMoved (pages_of_cache old.cache) old.tree new.tree was is)
   pub placed : OnOk result (is.legs ≡ was.legs + length legs)
   pub shape : new.tree.shape ≡ old.tree.shape
   pub room : 0 < old.tree.shape.leaf

@@ -1,5 +1,6 @@
 -- The last leg of a feature.
 use Rattle.std.proofs.Common.{ℕ, suc, ◌+◌, ◌-◌, ◌*◌, ◌<◌, ◌≤◌, ◌≤ℤ◌, ◌≡◌, ◌≢◌, ◌==◌, max, ◌⊎◌, inl, inr, true, false, cond, ⊎_elim, refl, sym, ap, ◌∙◌, subst, arith, eq-eqb, All, List, [], ◌∷◌, ◌++◌, take, length, get_or, Option, Some, None, slice_get, Result}
+use Rattle.std.specs.Int.{div_ceil}
 use Rattle.std.specs.List.{count_by, filter, fold, Contains}
 use Rattle.std.proofs.lemmas.Bool.{eqb-true, ne_eqb, true≢false}
 use Rattle.std.proofs.lemmas.Grind.{fold-append}
@@ -10,7 +11,8 @@ use Rattle.std.proofs.Math.Nat.{add-mul}
 use Rattle.std.proofs.lemmas.Nat.{mul-le}
 use Rattle.legs.specs.Asking.{leaves_filled, placed_legs, upper_part, Blames, HasAdded, NoneBefore, Starts, TakesRoom}
 use Rattle.legs.specs.Finding.{place_in, Finding, IsMade, MovesLast}
-use Rattle.legs.specs.Hanging.{with_leaves, IsSameUpper}
+use Rattle.legs.specs.Costs.{ShapeView}
+use Rattle.legs.specs.Hanging.{with_leaves, IsSameUpper, Upper}
 use Rattle.legs.specs.Index.{feature_count, features_after, is_of, last_leg_of, legs_of}
 use Rattle.legs.specs.Boxes.{BoxView, box_of}
 use Rattle.legs.specs.Legs.{LegView, is_live}
@@ -98,26 +100,37 @@ made_then a b c m n p r q =
     (λ (e : IsMade b c q). ((let l = e.0 in omega (arith, l, one)), e.1))
 
 -- the last leaf of a feature
-moves_then : (a b c : Finding) (m n : ℕ) → TakesRoom a b m → TakesRoom b c n → (f : ℕ) → MovesLast a b f → MovesLast b c f → MovesLast a c f
-moves_then a b c m n r s f p q =
-    let first = r.leaves in
-    let then = s.leaves in
+moves_then : (shape : ShapeView) (u v : Upper) (a b c : Finding) (f : ℕ) → a.leaves ≤ b.leaves → b.leaves ≤ c.leaves → IsSameUpper v (with_leaves shape.inner (b.leaves - a.leaves) u) → MovesLast shape u a b f → MovesLast shape v b c f → MovesLast shape u a c f
+moves_then shape u v a b c f first then up p q =
     let was = place_in a f in
     let mid = place_in b f in
     let is = place_in c f in
+    let D : ℕ → ℕ = λ n. div_ceil n shape.leaf in
+    let W : ℕ → ℕ = λ n. (with_leaves shape.inner n u).pages in
     ⊎_elim
-    (λ (e : (is.last ≡ mid.last) × (is.last_index ≡ mid.last_index)).
+    (λ (e : (D is.legs ≡ D mid.legs) × (is.last ≡ mid.last) × (is.last_index ≡ mid.last_index)).
     ⊎_elim
-    (λ (d : (mid.last ≡ was.last) × (mid.last_index ≡ was.last_index)). inl (e.0 ∙ d.0, e.1 ∙ d.1))
-    (λ (d : IsMade a b mid.last × (a.leaves ≤ mid.last_index) × (mid.last_index < b.leaves)).
-    let same = e.1 in
+    (λ (d : (D mid.legs ≡ D was.legs) × (mid.last ≡ was.last) × (mid.last_index ≡ was.last_index)). inl (e.0 ∙ d.0, e.1 ∙ d.1, e.2 ∙ d.2))
+    (λ (d : (D was.legs < D mid.legs) × (a.leaves ≤ mid.last_index) × (mid.last_index < b.leaves) × (mid.last ≡ W (mid.last_index - a.leaves))).
+    let more = d.0 in
+    let same = e.0 in
+    let index = e.2 in
     let low = d.1 in
     let high = d.2 in
-    inr (made_then a b c m n r s is.last (inl (subst (IsMade a b) (sym e.0) d.0)), omega (arith, same, low), omega (arith, same, high, then)))
+    inr (omega (arith, more, same), omega (arith, index, low), omega (arith, index, high, then), e.1 ∙ d.3 ∙ ap (λ n. W (n - a.leaves)) (sym e.2)))
     p)
-    (λ (e : IsMade b c is.last × (b.leaves ≤ is.last_index) × (is.last_index < c.leaves)).
+    (λ (e : (D mid.legs < D is.legs) × (b.leaves ≤ is.last_index) × (is.last_index < c.leaves) × (is.last ≡ (with_leaves shape.inner (is.last_index - b.leaves) v).pages)).
+    let more = e.0 in
     let low = e.1 in
-    inr (made_then a b c m n r s is.last (inr e.0), omega (arith, low, first), e.2))
+    let n = is.last_index - b.leaves in
+    let m = b.leaves - a.leaves in
+    let sum : m + n ≡ is.last_index - a.leaves = omega (arith, first, low) in
+    let at : (with_leaves shape.inner n v).pages ≡ W (is.last_index - a.leaves) = (leaves_same shape.inner n v (with_leaves shape.inner m u) up).pages ∙ ap (λ (x : Upper). x.pages) (sym (leaves_then shape.inner m n u)) ∙ ap W sum in
+    let rose : D was.legs < D is.legs = ⊎_elim
+    (λ (d : (D mid.legs ≡ D was.legs) × (mid.last ≡ was.last) × (mid.last_index ≡ was.last_index)). (let s = d.0 in omega (arith, s, more)))
+    (λ (d : (D was.legs < D mid.legs) × (a.leaves ≤ mid.last_index) × (mid.last_index < b.leaves) × (mid.last ≡ W (mid.last_index - a.leaves))). (let s = d.0 in omega (arith, s, more)))
+    p in
+    inr (rose, omega (arith, low, first), e.2, e.3 ∙ at))
     q
 
 room_then : (a b c : Finding) (m n all : ℕ) → all ≡ m + n → TakesRoom a b m → TakesRoom b c n → TakesRoom a c all
@@ -234,7 +247,7 @@ module _ {I : Type 0} (g : Ghosts I) where
     bare = λ page h. h;
     hung = λ fa shape e. (let none : (g.found_by a).leaves - (g.found_by a).leaves ≡ 0 = omega arith in subst (λ n. IsSameUpper (upper_part g a) (with_leaves shape.inner n (upper_part g a))) (sym none) (upper_refl (upper_part g a)));
     filled = λ fa shape e n l. refl;
-    moves = λ fa f. inl (refl, refl);
+    moves = λ fa shape e f. inl (refl, refl, refl);
     features = refl;
     astray = λ above page h. h;
     leads = λ leg h. inl h;
@@ -281,10 +294,10 @@ module _ {I : Type 0} (g : Ghosts I) where
             let first = p.filled fa shape e n (omega (arith, l, up, many)) in
             let then = q.filled x.0 shape (p.plan ∙ e) n l in
             omega (arith, first, then);
-        moves = λ fa f.
+        moves = λ fa shape e f.
             let x = p.room fa in
             let y = q.room x.0 in
-            moves_then (g.found_by a) (g.found_by b) (g.found_by c) (length xs) (length ys) x.1 y.1 f (p.moves fa f) (q.moves x.0 f);
+            moves_then shape (upper_part g a) (upper_part g b) (g.found_by a) (g.found_by b) (g.found_by c) f x.1.leaves y.1.leaves (p.hung fa shape e) (p.moves fa shape e f) (q.moves x.0 shape (p.plan ∙ e) f);
         features = q.features ∙ ap (λ n. features_after n ys) p.features ∙ sym (fold-append (λ count (leg : LegView). max count (leg.feature + 1)) (g.features a) xs ys);
         astray = λ above page h. p.astray above page (q.astray above page h);
         leads = λ leg h. ⊎_elim
@@ -360,7 +373,14 @@ module _ {I : Type 0} (g : Ghosts I) where
         subst (λ k. IsSameUpper (upper_part g c) (with_leaves shape.inner k (upper_part g a))) more
         (upper_then (upper_part g c) (with_leaves shape.inner n (upper_part g b)) (with_leaves shape.inner n (upper_part g a)) (p.hung (s.later.faithful fa) shape (s.later.plan ∙ e)) (leaves_same shape.inner n (upper_part g b) (upper_part g a) same));
     filled = λ fa shape e n l. subst (λ x. (g.found_by c).leaves + leaves_filled shape.leaf x n ≡ x.leaves + leaves_filled shape.leaf (g.found_by c) n) s.found_by (p.filled (s.later.faithful fa) shape (s.later.plan ∙ e) n l);
-    moves = λ fa f. subst (λ x. MovesLast x (g.found_by c) f) s.found_by (p.moves (s.later.faithful fa) f);
+    moves = λ fa shape e f.
+        let r = s.found_by in
+        let same : IsSameUpper (upper_part g b) (upper_part g a) = record { root = ap (λ (x : Finding). x.root) r; levels = ap (λ (x : Finding). x.levels) r; leaves = ap (λ (x : Finding). x.leaves) r; pages = ap (λ (x : Finding). x.pages) r; children = s.ways.children } in
+        let none : (g.found_by b).leaves - (g.found_by a).leaves ≡ 0 = (let l : (g.found_by b).leaves ≡ (g.found_by a).leaves = ap (λ (x : Finding). x.leaves) r in omega (arith, l)) in
+        let up : IsSameUpper (upper_part g b) (with_leaves shape.inner ((g.found_by b).leaves - (g.found_by a).leaves) (upper_part g a)) = subst (λ n. IsSameUpper (upper_part g b) (with_leaves shape.inner n (upper_part g a))) (sym none) same in
+        let stays : MovesLast shape (upper_part g a) (g.found_by a) (g.found_by b) f = subst (λ x. MovesLast shape (upper_part g a) (g.found_by a) x f) (sym r) (inl (refl, refl, refl)) in
+        let fb = s.later.faithful fa in
+        moves_then shape (upper_part g a) (upper_part g b) (g.found_by a) (g.found_by b) (g.found_by c) f (let l : (g.found_by b).leaves ≡ (g.found_by a).leaves = ap (λ (x : Finding). x.leaves) r in omega (arith, l)) (p.room fb).1.leaves up stays (p.moves fb shape (s.later.plan ∙ e) f);
     features = p.features ∙ ap (λ n. features_after n legs) s.ways.features;
     astray = λ above page h. s.ways.astray above page (p.astray above page h);
     leads = λ leg h. ⊎_elim (λ (k : g.leads_to b leg). inl (s.ways.leads leg k)) (λ (k : Contains legs leg). inr k) (p.leads leg h);

@@ -174,7 +174,7 @@ pub record HasAdded {I : Type 0} (g : Ghosts I) (old new : I) (legs : List LegVi
   pub bare : (page : ℕ) → g.is_bare old page → g.is_bare new page
   -- over a faithful store the root, the levels, how many pages there are, and which pages each page's entries name, in order,
   -- are what hanging so many leaves more makes of them, one after another; the last leaf of each feature is the one that it
-  -- was, or was made
+  -- was, or was made, and then of the page and number that hanging gave it
   pub hung : g.is_faithful old → (shape : ShapeView) → g.plan old ≡ Some shape
       → IsSameUpper (upper_part g new)
       (with_leaves shape.inner ((g.found_by new).leaves - (g.found_by old).leaves)
@@ -184,8 +184,8 @@ pub record HasAdded {I : Type 0} (g : Ghosts I) (old new : I) (legs : List LegVi
       → g.features new ≤ n
       → (g.found_by new).leaves + leaves_filled shape.leaf (g.found_by old) n
       ≡ (g.found_by old).leaves + leaves_filled shape.leaf (g.found_by new) n
-  pub moves : g.is_faithful old → (feature : ℕ)
-      → MovesLast (g.found_by old) (g.found_by new) feature
+  pub moves : g.is_faithful old → (shape : ShapeView) → g.plan old ≡ Some shape → (feature : ℕ)
+      → MovesLast shape (upper_part g old) (g.found_by old) (g.found_by new) feature
   pub top : 0 < (g.found_by old).levels → g.is_bare old (g.found_by old).root
       → ((g.found_by new).root ≡ (g.found_by old).root)
       × ((g.found_by new).levels ≡ (g.found_by old).levels)

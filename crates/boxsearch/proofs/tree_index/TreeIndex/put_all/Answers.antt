@@ -22,6 +22,7 @@ returns-then-is_ok g c =
       fills = c.insert_all-result.ensures.fills;
       met = c.insert_all-result.ensures.met;
       hung = c.insert_all-result.ensures.hung;
+      moved = c.insert_all-result.ensures.moved;
       placed = c.insert_all-result.ensures.counted;
       shape = c.insert_all-result.ensures.shape;
       room = let l = c.leaf.ensures.range.least_leaf in let v = c.leaf.ensures.value in omega (arith, l, v);
@@ -55,6 +56,7 @@ returns-else-is_ok g c =
       fills = c.insert_all-result.ensures.fills;
       met = c.insert_all-result.ensures.met;
       hung = c.insert_all-result.ensures.hung;
+      moved = c.insert_all-result.ensures.moved;
       placed = c.insert_all-result.ensures.counted;
       shape = c.insert_all-result.ensures.shape;
       room = let l = c.leaf.ensures.range.least_leaf in let v = c.leaf.ensures.value in omega (arith, l, v);
