@@ -10,7 +10,7 @@ use Rattle.legs.specs.Legs.{IsLeg, LegView}
 use Rattle.legs.specs.Places.{ListView}
 use Rattle.legs.specs.Questions.{answer_in}
 use Rattle.legs.specs.Index.{feature_count, features_after, last_leg_of, CanFollowInTurn, SkipNone}
-use Rattle.legs.specs.Asking.{Blames, Grows, IsLater, LeadsStill, Leaves, LegRefusals, SkipsFeature}
+use Rattle.legs.specs.Asking.{Blames, Grows, IsLater, LacksPages, LeadsStill, Leaves, LegRefusals, SkipsFeature}
 use Rattle.legs.specs.declared.index.IndexFault.{IndexFault}
 use Rattle.legs.specs.declared.index.IndexFault.TheVariants as index
 use Rattle.legs.specs.declared.listed.Listed.{Ghosts}
@@ -27,7 +27,7 @@ list_words = record {
   is_astray = λ index above page. ⊥;
   leads_to = λ index leg. Contains index.legs leg;
   is_unfit = λ index legs page. ⊥;
-  children = λ index page. [];
+  node = λ index page. None;
   is_unreadable = λ index page. ⊥;
   ends_with = λ index leg. last_leg_of leg.feature index.legs ≡ Some leg;
   counted = λ index. length index.legs;
@@ -77,13 +77,15 @@ skip_rest n (x ∷ xs) rest h = skip_rest (max n (x.feature + 1)) xs rest h.1
 -- a leg that is refused spends the index
 pub growing-refused : {I : Type 0} (g : Ghosts I) (old now new : I) (all done left : List LegView) (leg : LegView) (fault : IndexFault) → (g.is_spent old ≡ true → ⊥) → (g.is_spent now ≡ true → ⊥) → g.features now ≡ features_after (g.features old) done → done ++ leg ∷ left ≡ all → g.faults old ≤ g.faults now → IsGrowing g old now all (leg ∷ left)
     → ((page : ℕ) → IsErrOf {T = Unit {0}} (Err fault) (index.Damaged page) → Blames g old new all page)
+    → (IsErrOf {T = Unit {0}} (Err fault) index.StoreFull → LacksPages g old new all)
     → LegRefusals {A = Unit {0}} g now new (leg ∷ []) (Err fault) → LegRefusals {A = Unit {0}} g old new all (Err fault)
-growing-refused g old now new all done left leg fault works still features are faults so_far blames r = record {
+growing-refused g old now new all done left leg fault works still features are faults so_far blames lacks r = record {
   spent = r.spent;
   was_spent = λ e. absurd (works e);
   sound = λ s w. (let at = so_far s w in r.sound at.0 (at.1.0, tt));
   store = λ e. (let risen = r.store e in omega (arith, clamps, faults, risen));
   full = r.full;
+  lacks = lacks;
   skips = λ e. inr
       (⊎_elim
       (λ (was : g.is_spent now ≡ true). absurd (still was))
@@ -111,7 +113,7 @@ ways-refl g a = record {
   astray = λ above page h. h;
   leads = λ leg h. h;
   features = refl;
-  children = λ page. refl;
+  node = λ page. refl;
   unfit = λ legs page h. h;
 }
 
@@ -124,7 +126,7 @@ ways-trans g a b c p q = record {
   astray = λ above page h. p.astray above page (q.astray above page h);
   leads = λ leg h. p.leads leg (q.leads leg h);
   features = q.features ∙ p.features;
-  children = λ page. q.children page ∙ p.children page;
+  node = λ page. q.node page ∙ p.node page;
   unfit = λ legs page h. p.unfit legs page (q.unfit legs page h);
 }
 

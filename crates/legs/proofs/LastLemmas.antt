@@ -1,6 +1,5 @@
 -- The last leg of a feature.
 use Rattle.std.proofs.Common.{ℕ, suc, ◌+◌, ◌-◌, ◌*◌, ◌<◌, ◌≤◌, ◌≤ℤ◌, ◌≡◌, ◌≢◌, ◌==◌, max, ◌⊎◌, inl, inr, true, false, cond, ⊎_elim, refl, sym, ap, ◌∙◌, subst, arith, eq-eqb, All, List, [], ◌∷◌, ◌++◌, take, length, get_or, Option, Some, None, slice_get, Result}
-use Rattle.std.specs.Int.{div_ceil}
 use Rattle.std.specs.List.{count_by, filter, fold, Contains}
 use Rattle.std.proofs.lemmas.Bool.{eqb-true, ne_eqb, true≢false}
 use Rattle.std.proofs.lemmas.Grind.{fold-append}
@@ -9,12 +8,10 @@ use Rattle.std.proofs.lemmas.List.Elements.{All-append, All-cons, All-contains, 
 use Rattle.std.proofs.lemmas.List.Sums.{length-filter, sum_by-append}
 use Rattle.std.proofs.Math.Nat.{add-mul}
 use Rattle.std.proofs.lemmas.Nat.{mul-le}
-use Rattle.legs.specs.Asking.{leaves_filled, placed_legs, upper_part, Blames, HasAdded, NoneBefore, Starts, TakesRoom}
-use Rattle.legs.specs.Finding.{place_in, Finding, IsMade, MovesLast}
-use Rattle.legs.specs.Costs.{ShapeView}
-use Rattle.legs.specs.Hanging.{with_leaves, IsSameUpper, Upper}
+use Rattle.legs.specs.Asking.{placed_legs, planted, Blames, HasAdded, LacksPages, NoneBefore, Starts, TakesRoom}
+use Rattle.legs.specs.Finding.{place_in, Finding, IsMade}
 use Rattle.legs.specs.Index.{feature_count, features_after, is_of, last_leg_of, legs_of}
-use Rattle.legs.specs.Boxes.{BoxView, box_of}
+use Rattle.legs.specs.Boxes.{box_of}
 use Rattle.legs.specs.Legs.{LegView, is_live}
 use Rattle.legs.specs.Places.{ListView}
 use Rattle.legs.specs.Questions.{answer_in, OfFeature}
@@ -22,7 +19,7 @@ use Rattle.timebase.specs.Period.{PeriodView}
 use Rattle.legs.specs.declared.index.IndexFault.{IndexFault}
 use Rattle.legs.specs.declared.listed.Listed.{Ghosts}
 use Rattle.legs.proofs.GrowLemmas.{list_words}
-use Rattle.legs.proofs.HangingLemmas.{leaves_same, leaves_then, upper_refl, upper_then}
+use Rattle.legs.proofs.GrowingLemmas.{lacks_from, plants_alike, plants_from, plants_none, plants_then, IsSamePlanted}
 
 pub some_not : (x : LegView) → Some x ≡ None → ⊥
 some_not x e = absurd cc
@@ -98,40 +95,6 @@ made_then a b c m n p r q =
     ⊎_elim
     (λ (e : IsMade a b q). (e.0, (let h = e.1 in omega (arith, h, two))))
     (λ (e : IsMade b c q). ((let l = e.0 in omega (arith, l, one)), e.1))
-
--- the last leaf of a feature
-moves_then : (shape : ShapeView) (u v : Upper) (a b c : Finding) (f : ℕ) → a.leaves ≤ b.leaves → b.leaves ≤ c.leaves → IsSameUpper v (with_leaves shape.inner (b.leaves - a.leaves) u) → MovesLast shape u a b f → MovesLast shape v b c f → MovesLast shape u a c f
-moves_then shape u v a b c f first then up p q =
-    let was = place_in a f in
-    let mid = place_in b f in
-    let is = place_in c f in
-    let D : ℕ → ℕ = λ n. div_ceil n shape.leaf in
-    let W : ℕ → ℕ = λ n. (with_leaves shape.inner n u).pages in
-    ⊎_elim
-    (λ (e : (D is.legs ≡ D mid.legs) × (is.last ≡ mid.last) × (is.last_index ≡ mid.last_index)).
-    ⊎_elim
-    (λ (d : (D mid.legs ≡ D was.legs) × (mid.last ≡ was.last) × (mid.last_index ≡ was.last_index)). inl (e.0 ∙ d.0, e.1 ∙ d.1, e.2 ∙ d.2))
-    (λ (d : (D was.legs < D mid.legs) × (a.leaves ≤ mid.last_index) × (mid.last_index < b.leaves) × (mid.last ≡ W (mid.last_index - a.leaves))).
-    let more = d.0 in
-    let same = e.0 in
-    let index = e.2 in
-    let low = d.1 in
-    let high = d.2 in
-    inr (omega (arith, more, same), omega (arith, index, low), omega (arith, index, high, then), e.1 ∙ d.3 ∙ ap (λ n. W (n - a.leaves)) (sym e.2)))
-    p)
-    (λ (e : (D mid.legs < D is.legs) × (b.leaves ≤ is.last_index) × (is.last_index < c.leaves) × (is.last ≡ (with_leaves shape.inner (is.last_index - b.leaves) v).pages)).
-    let more = e.0 in
-    let low = e.1 in
-    let n = is.last_index - b.leaves in
-    let m = b.leaves - a.leaves in
-    let sum : m + n ≡ is.last_index - a.leaves = omega (arith, first, low) in
-    let at : (with_leaves shape.inner n v).pages ≡ W (is.last_index - a.leaves) = (leaves_same shape.inner n v (with_leaves shape.inner m u) up).pages ∙ ap (λ (x : Upper). x.pages) (sym (leaves_then shape.inner m n u)) ∙ ap W sum in
-    let rose : D was.legs < D is.legs = ⊎_elim
-    (λ (d : (D mid.legs ≡ D was.legs) × (mid.last ≡ was.last) × (mid.last_index ≡ was.last_index)). (let s = d.0 in omega (arith, s, more)))
-    (λ (d : (D was.legs < D mid.legs) × (a.leaves ≤ mid.last_index) × (mid.last_index < b.leaves) × (mid.last ≡ W (mid.last_index - a.leaves))). (let s = d.0 in omega (arith, s, more)))
-    p in
-    inr (rose, omega (arith, low, first), e.2, e.3 ∙ at))
-    q
 
 room_then : (a b c : Finding) (m n all : ℕ) → all ≡ m + n → TakesRoom a b m → TakesRoom b c n → TakesRoom a c all
 room_then a b c m n all many p q =
@@ -237,6 +200,13 @@ features_alike n xs ys same =
     let two = least ys xs (λ f. sym (same f)) in
     omega (arith, one, two)
 
+-- an index that finds by the same numbers, and whose pages say the same
+pub same_planted : {I : Type 0} (g : Ghosts I) (a b : I) → g.found_by b ≡ g.found_by a → ((p : ℕ) → g.node b p ≡ g.node a p) → IsSamePlanted (planted g b) (planted g a)
+same_planted g a b r node = record {
+  tree = record { root = ap (λ (x : Finding). x.root) r; levels = ap (λ (x : Finding). x.levels) r; leaves = ap (λ (x : Finding). x.leaves) r; pages = ap (λ (x : Finding). x.pages) r; node = node };
+  place = λ f. ap (λ x. place_in x f) r;
+}
+
 module _ {I : Type 0} (g : Ghosts I) where
   -- no leg changes nothing
   pub takes_none : (a : I) → g.is_spent a ≡ false → HasAdded g a a []
@@ -245,9 +215,7 @@ module _ {I : Type 0} (g : Ghosts I) where
     put = λ meets prune. All-nil (λ leg. meets (box_of leg) ≡ true → g.finds a meets leg);
     comes = λ meets prune above page h. h;
     bare = λ page h. h;
-    hung = λ fa shape e. (let none : (g.found_by a).leaves - (g.found_by a).leaves ≡ 0 = omega arith in subst (λ n. IsSameUpper (upper_part g a) (with_leaves shape.inner n (upper_part g a))) (sym none) (upper_refl (upper_part g a)));
-    filled = λ fa shape e n l. refl;
-    moves = λ fa shape e f. inl (refl, refl, refl);
+    grown = λ fa shape e. plants_none shape (planted g a);
     features = refl;
     astray = λ above page h. h;
     leads = λ leg h. inl h;
@@ -273,31 +241,7 @@ module _ {I : Type 0} (g : Ghosts I) where
         put = λ meets prune. All-append (λ leg. meets (box_of leg) ≡ true → g.finds c meets leg) xs ys (All-weaker (λ leg. meets (box_of leg) ≡ true → g.finds b meets leg) (λ leg. meets (box_of leg) ≡ true → g.finds c meets leg) (λ leg h t. q.kept meets prune leg (h t)) xs (p.put meets prune)) (q.put meets prune);
         comes = λ meets prune above page h. q.comes meets prune above page (p.comes meets prune above page h);
         bare = λ page h. q.bare page (p.bare page h);
-        hung = λ fa shape e.
-            let x = p.room fa in
-            let y = q.room x.0 in
-            let la = (g.found_by a).leaves in
-            let lb = (g.found_by b).leaves in
-            let lc = (g.found_by c).leaves in
-            let first = x.1.leaves in
-            let then = y.1.leaves in
-            let inner = shape.inner in
-            let more : lb - la + (lc - lb) ≡ lc - la = omega (arith, first, then) in
-            let both = leaves_then inner (lb - la) (lc - lb) (upper_part g a) in
-            let up = leaves_same inner (lc - lb) (upper_part g b) (with_leaves inner (lb - la) (upper_part g a)) (p.hung fa shape e) in
-            let all = upper_then (upper_part g c) (with_leaves inner (lc - lb) (upper_part g b)) (with_leaves inner (lc - lb) (with_leaves inner (lb - la) (upper_part g a))) (q.hung x.0 shape (p.plan ∙ e)) up in
-            subst (λ n. IsSameUpper (upper_part g c) (with_leaves inner n (upper_part g a))) more (subst (λ u. IsSameUpper (upper_part g c) u) (sym both) all);
-        filled = λ fa shape e n l.
-            let x = p.room fa in
-            let up = count_up ys (g.features b) in
-            let many = q.features in
-            let first = p.filled fa shape e n (omega (arith, l, up, many)) in
-            let then = q.filled x.0 shape (p.plan ∙ e) n l in
-            omega (arith, first, then);
-        moves = λ fa shape e f.
-            let x = p.room fa in
-            let y = q.room x.0 in
-            moves_then shape (upper_part g a) (upper_part g b) (g.found_by a) (g.found_by b) (g.found_by c) f x.1.leaves y.1.leaves (p.hung fa shape e) (p.moves fa shape e f) (q.moves x.0 shape (p.plan ∙ e) f);
+        grown = λ fa shape e. plants_then shape (planted g a) (planted g b) (planted g c) xs ys (p.grown fa shape e) (q.grown (p.room fa).0 shape (p.plan ∙ e));
         features = q.features ∙ ap (λ n. features_after n ys) p.features ∙ sym (fold-append (λ count (leg : LegView). max count (leg.feature + 1)) (g.features a) xs ys);
         astray = λ above page h. p.astray above page (q.astray above page h);
         leads = λ leg h. ⊎_elim
@@ -365,22 +309,7 @@ module _ {I : Type 0} (g : Ghosts I) where
     put = p.put;
     comes = λ meets prune above page h. p.comes meets prune above page (s.ways.comes meets above page h);
     bare = λ page h. p.bare page (s.ways.bare page h);
-    hung = λ fa shape e.
-        let f = s.found_by in
-        let same : IsSameUpper (upper_part g b) (upper_part g a) = record { root = ap (λ (x : Finding). x.root) f; levels = ap (λ (x : Finding). x.levels) f; leaves = ap (λ (x : Finding). x.leaves) f; pages = ap (λ (x : Finding). x.pages) f; children = s.ways.children } in
-        let more : (g.found_by c).leaves - (g.found_by b).leaves ≡ (g.found_by c).leaves - (g.found_by a).leaves = ap (λ (x : Finding). (g.found_by c).leaves - x.leaves) f in
-        let n = (g.found_by c).leaves - (g.found_by b).leaves in
-        subst (λ k. IsSameUpper (upper_part g c) (with_leaves shape.inner k (upper_part g a))) more
-        (upper_then (upper_part g c) (with_leaves shape.inner n (upper_part g b)) (with_leaves shape.inner n (upper_part g a)) (p.hung (s.later.faithful fa) shape (s.later.plan ∙ e)) (leaves_same shape.inner n (upper_part g b) (upper_part g a) same));
-    filled = λ fa shape e n l. subst (λ x. (g.found_by c).leaves + leaves_filled shape.leaf x n ≡ x.leaves + leaves_filled shape.leaf (g.found_by c) n) s.found_by (p.filled (s.later.faithful fa) shape (s.later.plan ∙ e) n l);
-    moves = λ fa shape e f.
-        let r = s.found_by in
-        let same : IsSameUpper (upper_part g b) (upper_part g a) = record { root = ap (λ (x : Finding). x.root) r; levels = ap (λ (x : Finding). x.levels) r; leaves = ap (λ (x : Finding). x.leaves) r; pages = ap (λ (x : Finding). x.pages) r; children = s.ways.children } in
-        let none : (g.found_by b).leaves - (g.found_by a).leaves ≡ 0 = (let l : (g.found_by b).leaves ≡ (g.found_by a).leaves = ap (λ (x : Finding). x.leaves) r in omega (arith, l)) in
-        let up : IsSameUpper (upper_part g b) (with_leaves shape.inner ((g.found_by b).leaves - (g.found_by a).leaves) (upper_part g a)) = subst (λ n. IsSameUpper (upper_part g b) (with_leaves shape.inner n (upper_part g a))) (sym none) same in
-        let stays : MovesLast shape (upper_part g a) (g.found_by a) (g.found_by b) f = subst (λ x. MovesLast shape (upper_part g a) (g.found_by a) x f) (sym r) (inl (refl, refl, refl)) in
-        let fb = s.later.faithful fa in
-        moves_then shape (upper_part g a) (upper_part g b) (g.found_by a) (g.found_by b) (g.found_by c) f (let l : (g.found_by b).leaves ≡ (g.found_by a).leaves = ap (λ (x : Finding). x.leaves) r in omega (arith, l)) (p.room fb).1.leaves up stays (p.moves fb shape (s.later.plan ∙ e) f);
+    grown = λ fa shape e. plants_from shape (planted g a) (planted g b) (planted g c) legs (same_planted g a b s.found_by s.ways.node) (p.grown (s.later.faithful fa) shape (s.later.plan ∙ e));
     features = p.features ∙ ap (λ n. features_after n legs) s.ways.features;
     astray = λ above page h. s.ways.astray above page (p.astray above page h);
     leads = λ leg h. ⊎_elim (λ (k : g.leads_to b leg). inl (s.ways.leads leg k)) (λ (k : Contains legs leg). inr k) (p.leads leg h);
@@ -422,6 +351,11 @@ module _ {I : Type 0} (g : Ghosts I) where
     unfit = n.unfit;
   }
 
+  -- pages that they lack
+  pub lacks_started : {A : Type 0} (a b c : I) (legs : List LegView) (r : Result A IndexFault) → Starts g a b r → LacksPages g b c legs → LacksPages g a c legs
+  lacks_started a b c legs r s l = λ fa shape e.
+      lacks_from shape (planted g a) (planted g b) (g.found_by c).pages legs (same_planted g a b s.found_by s.ways.node) (l (s.later.faithful fa) shape (s.later.plan ∙ e))
+
   -- a leg more of some
   pub takes_more : (a b c : I) (legs : List LegView) (i : ℕ) (leg : LegView) → i < length legs → leg ≡ get_or legs i leg → HasAdded g a b (take i legs) → HasAdded g b c (leg ∷ []) → HasAdded g a c (take (i + 1) legs)
   takes_more a b c legs i leg l is p q = subst (λ ls. HasAdded g a c ls) (sym (take_more legs i leg l ∙ ap (λ x. take i legs ++ x ∷ []) (sym is))) (takes_then a b c (take i legs) (leg ∷ []) p q)
@@ -439,9 +373,7 @@ module _ {I : Type 0} (g : Ghosts I) where
             All-contains (λ leg. meets (box_of leg) ≡ true → g.finds b meets leg) (legs_of leg.feature xs) leg (All-filter (is_of leg.feature) (λ leg. meets (box_of leg) ≡ true → g.finds b meets leg) xs (p.put meets prune)) there;
         comes = p.comes;
         bare = p.bare;
-        hung = p.hung;
-        filled = p.filled;
-        moves = p.moves;
+        grown = λ fa shape e. plants_alike shape (planted g a) (planted g b) xs ys same (p.grown fa shape e);
         features = p.features ∙ features_alike (g.features a) xs ys same;
         astray = p.astray;
         leads = λ leg h. ⊎_elim
@@ -492,9 +424,7 @@ list_takes old new legs is works =
       rests = λ f period e. record { told = λ l h. h ∙ sym (answer_kept f period old.legs legs (last_absent f legs e)) ∙ ap (answer_in (OfFeature f period)) (sym is); denied = λ n h. h };
       comes = λ meets prune above page h. h;
       bare = λ page h. h;
-      hung = λ fa. absurd fa;
-      filled = λ fa. absurd fa;
-      moves = λ fa. absurd fa;
+      grown = λ fa. absurd fa;
       features = ap feature_count is ∙ fold-append (λ count (leg : LegView). max count (leg.feature + 1)) 0 old.legs legs;
       astray = λ above page h. h;
       leads = λ leg h. Contains-append_cases old.legs legs leg (subst (λ ls. Contains ls leg) is h);

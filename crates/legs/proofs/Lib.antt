@@ -10,7 +10,7 @@ pub mod CountLemmas
 pub mod AcceptLemmas
 pub mod MomentLemmas
 pub mod GrowLemmas
-pub mod HangingLemmas
+pub mod GrowingLemmas
 pub mod LastLemmas
 pub mod WidthLemmas
 pub mod LawLemmas

@@ -1,12 +1,11 @@
 -- What a call of an index leaves, and why it is refused.
-use Rattle.std.specs.Int.{div_ceil}
-use Rattle.std.specs.Prelude.{Bool, ℕ, zero, suc, ℤ, ◌⊎◌, ◌≡◌, ◌≢◌, ◌≤◌, ◌≤ℤ◌, ◌<◌, ◌+◌, ◌-◌, ◌*◌, ◌%◌, ◌^◌, ◌++◌, ◌∷◌, [], drop, true, false, length, count_by, slice_get, All, List, Option, Some, None, Result, Err, IfErr, IsErrOf, OnErr, OnOk}
+use Rattle.std.specs.Prelude.{Bool, ℕ, ℤ, ◌⊎◌, ◌≡◌, ◌≢◌, ◌≤◌, ◌≤ℤ◌, ◌<◌, ◌+◌, ◌-◌, ◌*◌, ◌%◌, ◌^◌, ◌++◌, ◌∷◌, [], drop, true, false, length, count_by, slice_get, All, List, Option, Some, None, Result, Err, IfErr, IsErrOf, OnErr, OnOk}
 use Rattle.std.specs.List.{Contains}
 use Rattle.legs.specs.Boxes.{BoxView, box_of}
 use Rattle.legs.specs.Hull.{IsPruning, leg_boxes}
 use Rattle.legs.specs.Legs.{LegView}
-use Rattle.legs.specs.Finding.{FeaturePlace, Finding, IsMade, MovesLast, StaysAt}
-use Rattle.legs.specs.Hanging.{with_leaves, IsSameUpper, Upper}
+use Rattle.legs.specs.Finding.{place_in, FeaturePlace, Finding, IsMade, StaysAt}
+use Rattle.legs.specs.Growing.{LacksRoom, Planted, Plants}
 use Rattle.legs.specs.Index.{features_after, is_of, legs_of, last_leg_of, MayRefuse, MayRefuseLeg, HasRisen, CanFollowInTurn, SkipNone}
 use Rattle.legs.specs.Costs.{ShapeView, RisesBy, RisesAtMost, add_bound, add_all_bound}
 use Rattle.legs.specs.declared.index.IndexFault.{IndexFault}
@@ -26,8 +25,8 @@ pub record IsLater {I : Type 0} (g : Ghosts I) (old new : I) : Type 0 where
 
 -- where the ways down its pages lead, whoever wrote them: they find each leg that they found, and come to each page to which
 -- they came; a page that is none of a tree stays so; each feature ends with the leg with which it ended; none is astray that
--- was not, and no leg is led to that was not; the entries of each page name the pages that they named, and it is what legs
--- need of it where it was; there are as many features
+-- was not, and no leg is led to that was not; each page says of a tree what it said, and is what legs need of it where it
+-- was; there are as many features
 pub record LeadsStill {I : Type 0} (g : Ghosts I) (old new : I) : Type 0 where
   pub finds : (meets : BoxView → Bool) (leg : LegView) → g.finds old meets leg
       → g.finds new meets leg
@@ -38,7 +37,7 @@ pub record LeadsStill {I : Type 0} (g : Ghosts I) (old new : I) : Type 0 where
   pub astray : (above page : ℕ) → g.is_astray new above page → g.is_astray old above page
   pub leads : (leg : LegView) → g.leads_to new leg → g.leads_to old leg
   pub features : g.features new ≡ g.features old
-  pub children : (page : ℕ) → g.children new page ≡ g.children old page
+  pub node : (page : ℕ) → g.node new page ≡ g.node old page
   pub unfit : (legs : List LegView) (page : ℕ) → g.is_unfit new legs page
       → g.is_unfit old legs page
 
@@ -119,12 +118,6 @@ placed_legs finding feature = legs_at (slice_get finding.places feature)
     legs_at (Some place) = place.legs
     legs_at None = 0
 
--- how many leaves the legs of the first so many features fill, where a leaf takes `leaf` of them
-abbrev pub leaves_filled : (leaf : ℕ) → Finding → ℕ → ℕ
-leaves_filled leaf finding zero = 0
-leaves_filled leaf finding (suc n) =
-    leaves_filled leaf finding n + div_ceil (placed_legs finding n) leaf
-
 -- what its pages told of a question they tell, and what they denied they deny
 pub record SaysStill {I : Type 0} (g : Ghosts I) (old new : I) (question : Question) : Type 0 where
   pub told : (legs : List LegView) → g.tells old question legs → g.tells new question legs
@@ -146,14 +139,17 @@ pub record TakesRoom (old new : Finding) (legs : ℕ) : Type 0 where
   pub held : new.leaves + old.pages ≤ old.leaves + new.pages
   pub root : (new.root ≡ old.root) ⊎ IsMade old new new.root
 
--- the upper part of the tree of an index over pages
-abbrev pub upper_part : {I : Type 0} → Ghosts I → I → Upper
-upper_part g index = record {
-  root = (g.found_by index).root;
-  levels = (g.found_by index).levels;
-  leaves = (g.found_by index).leaves;
-  pages = (g.found_by index).pages;
-  children = g.children index;
+-- the tree of an index over pages, and the place of each feature
+abbrev pub planted : {I : Type 0} → Ghosts I → I → Planted
+planted g index = record {
+  tree = record {
+    root = (g.found_by index).root;
+    levels = (g.found_by index).levels;
+    leaves = (g.found_by index).leaves;
+    pages = (g.found_by index).pages;
+    node = g.node index;
+  };
+  place = place_in (g.found_by index);
 }
 
 -- what legs make of an index, sound or not: by whatever test of boxes that a greater box does not fail it finds each leg
@@ -172,20 +168,10 @@ pub record HasAdded {I : Type 0} (g : Ghosts I) (old new : I) (legs : List LegVi
   pub comes : (meets : BoxView → Bool) → IsPruning leg_boxes meets → (above page : ℕ)
       → g.comes_to old meets above page → g.comes_to new meets above page
   pub bare : (page : ℕ) → g.is_bare old page → g.is_bare new page
-  -- over a faithful store the root, the levels, how many pages there are, and which pages each page's entries name, in order,
-  -- are what hanging so many leaves more makes of them, one after another; the last leaf of each feature is the one that it
-  -- was, or was made, and then of the page and number that hanging gave it
-  pub hung : g.is_faithful old → (shape : ShapeView) → g.plan old ≡ Some shape
-      → IsSameUpper (upper_part g new)
-      (with_leaves shape.inner ((g.found_by new).leaves - (g.found_by old).leaves)
-      (upper_part g old))
-  -- there are as many leaves more as the legs of its places fill more
-  pub filled : g.is_faithful old → (shape : ShapeView) → g.plan old ≡ Some shape → (n : ℕ)
-      → g.features new ≤ n
-      → (g.found_by new).leaves + leaves_filled shape.leaf (g.found_by old) n
-      ≡ (g.found_by old).leaves + leaves_filled shape.leaf (g.found_by new) n
-  pub moves : g.is_faithful old → (shape : ShapeView) → g.plan old ≡ Some shape → (feature : ℕ)
-      → MovesLast shape (upper_part g old) (g.found_by old) (g.found_by new) feature
+  -- over a faithful store its tree, what each of its pages says, and its places are exactly what putting these in as runs,
+  -- one after another, makes of them
+  pub grown : g.is_faithful old → (shape : ShapeView) → g.plan old ≡ Some shape
+      → Plants shape (planted g old) (planted g new) legs
   pub top : 0 < (g.found_by old).levels → g.is_bare old (g.found_by old).root
       → ((g.found_by new).root ≡ (g.found_by old).root)
       × ((g.found_by new).levels ≡ (g.found_by old).levels)
@@ -252,10 +238,17 @@ pub record Blames {I : Type 0} (g : Ghosts I) (old new : I) (legs : List LegView
 abbrev pub SkipsFeature : {I : Type 0} → Ghosts I → I → List LegView → Type 0
 SkipsFeature g index legs = SkipNone (g.features index) legs → ⊥
 
+-- over a faithful store the legs take more pages than there are now
+abbrev pub LacksPages : {I : Type 0} → Ghosts I → I → I → List LegView → Type 0
+LacksPages g old new legs =
+    g.is_faithful old → (shape : ShapeView) → g.plan old ≡ Some shape
+    → LacksRoom shape (planted g old) (g.found_by new).pages legs
+
 -- why legs are refused, and what a refusal leaves: the index is spent, and one that was spent always says so,
 -- and stays as it is; a sound one refuses legs that may follow for want of memory, a store that failed or is
--- full alone; a page that is named, be it sound or not, is not what the legs that were to be put in next need of it, and
--- one that was not spent says that it is only of legs that skip a feature
+-- full alone. Be it sound or not: where the store is said to be full, there is no room for another page, and the legs take more
+-- pages than there are; a page that is named is not what the legs that were to be put in next need of it; and one that was not
+-- spent says that it is only of legs that skip a feature
 pub record LegRefusals {I A : Type 0} (g : Ghosts I) (old new : I) (legs : List LegView)
     (result : Result A IndexFault) : Type 0 where
   pub spent : OnErr result (g.is_spent new ≡ true)
@@ -264,6 +257,7 @@ pub record LegRefusals {I A : Type 0} (g : Ghosts I) (old new : I) (legs : List 
       (λ fault. g.is_sound old → CanFollowInTurn (g.content old) legs → MayRefuseLeg fault)
   pub store : IsErrOf result Store → HasRisen (g.faults old) (g.faults new)
   pub full : IsErrOf result StoreFull → g.is_store_full new
+  pub lacks : IsErrOf result StoreFull → LacksPages g old new legs
   pub skips : IsErrOf result Spent → (g.is_spent old ≡ true) ⊎ SkipsFeature g old legs
   pub blames : (page : ℕ) → IsErrOf result (Damaged page) → Blames g old new legs page
 
@@ -271,7 +265,7 @@ pub record LegRefusals {I A : Type 0} (g : Ghosts I) (old new : I) (legs : List 
 -- sound where it was, spent where it was. Once it is answered, an index over a faithful store is marked, and synced where it
 -- was not; where it is refused, and the index was clean, no page as written has changed but page 0, and that one only where
 -- the store failed. It names no page as damaged but page 0, where that one has no payload, and is not answered then; it says of
--- none but a spent index that it is spent
+-- none but a spent index that it is spent, and of no store that it is full
 pub record Starts {I A : Type 0} (g : Ghosts I) (old new : I)
     (result : Result A IndexFault) : Type 0 where
   pub content : g.content new ≡ g.content old
@@ -288,6 +282,7 @@ pub record Starts {I A : Type 0} (g : Ghosts I) (old new : I)
   pub named : (page : ℕ) → IsErrOf result (Damaged page) → (page ≡ 0) × g.is_unreadable old 0
   pub there : OnOk result (g.is_faithful old → g.is_unreadable old 0 → ⊥)
   pub works : IsErrOf result Spent → g.is_spent old ≡ true
+  pub roomy : IsErrOf result StoreFull → ⊥
   pub others : OnErr result
       (g.is_faithful old → g.is_clean old → drop 1 (g.written new) ≡ drop 1 (g.written old))
   pub first : OnErr result

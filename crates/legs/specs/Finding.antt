@@ -1,8 +1,5 @@
 -- The numbers by which an index finds its legs.
-use Rattle.std.specs.Int.{div_ceil}
-use Rattle.std.specs.Prelude.{ℕ, ◌≡◌, ◌≤◌, ◌<◌, ◌-◌, ◌⊎◌, List, [], Some, slice_get, slice_index_or}
-use Rattle.legs.specs.Costs.{ShapeView}
-use Rattle.legs.specs.Hanging.{with_leaves, Upper}
+use Rattle.std.specs.Prelude.{ℕ, ◌≡◌, ◌≤◌, ◌<◌, List, [], Some, slice_get, slice_index_or}
 
 -- the place of a feature among the pages of an index: its first and its last leaf, the last one's number among all
 -- leaves, and the number of its legs
@@ -30,21 +27,6 @@ place_in finding feature =
 -- the page was made
 abbrev pub IsMade : (old new : Finding) → ℕ → Type 0
 IsMade old new page = (old.pages ≤ page) × (page < new.pages)
-
--- the last leaf of a feature is the one that it was, of the same number, where its legs fill no leaf more; else it is of a
--- number that came, and its page is the next one once the leaves of lower numbers were hung
-abbrev pub MovesLast : ShapeView → (was : Upper) → (old new : Finding) → (feature : ℕ) → Type 0
-MovesLast shape was old new feature =
-    ((div_ceil (place_in new feature).legs shape.leaf
-    ≡ div_ceil (place_in old feature).legs shape.leaf)
-    × ((place_in new feature).last ≡ (place_in old feature).last)
-    × ((place_in new feature).last_index ≡ (place_in old feature).last_index))
-    ⊎ ((div_ceil (place_in old feature).legs shape.leaf
-    < div_ceil (place_in new feature).legs shape.leaf)
-    × (old.leaves ≤ (place_in new feature).last_index)
-    × ((place_in new feature).last_index < new.leaves)
-    × ((place_in new feature).last
-    ≡ (with_leaves shape.inner ((place_in new feature).last_index - old.leaves) was).pages))
 
 -- the same root, levels, leaves and places, but for places of features that came later, and no fewer pages
 pub record StaysAt (old new : Finding) : Type 0 where

@@ -10,7 +10,8 @@ pub mod GroupSteps
 pub mod Hull
 pub mod Costs
 pub mod Finding
-pub mod Hanging
+pub mod Nodes
+pub mod Growing
 pub mod Asking
 pub mod Law
 pub mod Limits

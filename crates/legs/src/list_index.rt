@@ -165,7 +165,7 @@ impl Listed for ListIndex {
 
     ghost is_unfit = { λ index legs page. ⊥ };
 
-    ghost children = { λ index page. [] };
+    ghost node = { λ index page. None };
 
     ghost is_unreadable = { λ index page. ⊥ };
 

@@ -8,6 +8,7 @@ pub trait Listed {
     ghost use Rattle.legs.specs.Legs.{LegView};
     ghost use Rattle.legs.specs.Costs.{ShapeView};
     ghost use Rattle.legs.specs.Finding.{Finding};
+    ghost use Rattle.legs.specs.Nodes.{Node};
     ghost use Rattle.legs.specs.Questions.{Question};
 
     /// The legs in the index, in accepted order; of an index over pages, none where its store is not faithful.
@@ -20,7 +21,8 @@ pub trait Listed {
     /// be there. Of an index over a store that is not faithful nothing is known, and it says anything.
     ghost tells: { Self → Question → List LegView → Type 0 };
 
-    /// Its pages say nothing to a question: the page of that number is met, and is not what it is to be there.
+    /// Its pages say nothing to a question: the page of that number is the first that is met and is not what it is to be
+    /// there, or the first that is met beyond as many as there are.
     ghost denies: { Self → Question → ℕ → Type 0 };
 
     /// The way down its tree by a test of boxes finds the leg, whoever wrote its pages: the test holds of the leg's box,
@@ -51,9 +53,9 @@ pub trait Listed {
     /// it says anything.
     ghost is_unfit: { Self → List LegView → ℕ → Type 0 };
 
-    /// The pages of the entries of the page, in their order, whoever wrote it; none of page 0, of a page that is no inner
-    /// one, of an index over a store that is not faithful, or of one that keeps a list.
-    ghost children: { Self → ℕ → List ℕ };
+    /// What the page says, whoever wrote it: a leaf or an inner page; nothing of page 0, of any other page, of an index over
+    /// a store that is not faithful, or of one that keeps a list.
+    ghost node: { Self → ℕ → Option (Node LegView BoxView) };
 
     /// The page has no payload: it is not there, or what lies there is not sealed; never of an index that keeps a list.
     /// Of an index over a store that is not faithful nothing is known, and it says anything.

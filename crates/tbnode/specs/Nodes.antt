@@ -1,57 +1,16 @@
--- What a page of a tree says: a leaf of legs, or an inner page of entries.
-use Rattle.std.specs.Prelude.{ℕ, zero, suc, List, [], ◌∷◌, ◌++◌, Option, Some, None}
-
--- legs of one feature, in the order of their ordinals, with the pages of the feature's leaves before and after (0 for none)
-pub record LeafView (L : Type 0) : Type 0 where
-  pub feature : ℕ
-  pub previous : ℕ
-  pub next : ℕ
-  pub legs : List L
-
--- a page below, and the least box that holds its legs
-pub record EntryView (B : Type 0) : Type 0 where
-  pub child : ℕ
-  pub bounds : B
-
--- entries, on a level above the leaves
-pub record InnerView (B : Type 0) : Type 0 where
-  pub level : ℕ
-  pub entries : List (EntryView B)
-
-pub data Node (L B : Type 0) : Type 0 where
-  ALeaf : LeafView L → Node L B
-  AnInner : InnerView B → Node L B
-
--- the leaf, where the node is one
-abbrev pub as_leaf : {L B : Type 0} → Option (Node L B) → Option (LeafView L)
-as_leaf None = None
-as_leaf (Some (ALeaf leaf)) = Some leaf
-as_leaf (Some (AnInner page)) = None
-
--- the inner page, where the node is one
-abbrev pub as_inner : {L B : Type 0} → Option (Node L B) → Option (InnerView B)
-as_inner None = None
-as_inner (Some (ALeaf leaf)) = None
-as_inner (Some (AnInner page)) = Some page
-
--- a leaf with a leg more at its end
-abbrev pub with_leg : {L : Type 0} → L → LeafView L → LeafView L
-with_leg leg leaf = record leaf { legs = leaf.legs ++ leg ∷ [] }
-
--- a leaf with another next leaf
-abbrev pub with_next : {L : Type 0} → ℕ → LeafView L → LeafView L
-with_next page leaf = record leaf { next = page }
-
--- an inner page with an entry more at its end
-abbrev pub with_entry : {B : Type 0} → EntryView B → InnerView B → InnerView B
-with_entry entry page = record page { entries = page.entries ++ entry ∷ [] }
-
--- the entries, with the bounds of entry i covering a box as well
-abbrev pub widened : {B : Type 0} → (B → B → B) → ℕ → B → List (EntryView B) → List (EntryView B)
-widened cover i box [] = []
-widened cover zero box (e ∷ es) = record e { bounds = cover e.bounds box } ∷ es
-widened cover (suc i) box (e ∷ es) = e ∷ widened cover i box es
-
--- an inner page with one entry widened
-abbrev pub with_wider : {B : Type 0} → (B → B → B) → ℕ → B → InnerView B → InnerView B
-with_wider cover i box page = record page { entries = widened cover i box page.entries }
+-- What a page of a tree says.
+pub use Rattle.legs.specs.Nodes.{
+  LeafView,
+  EntryView,
+  InnerView,
+  Node,
+  ALeaf,
+  AnInner,
+  as_leaf,
+  as_inner,
+  with_leg,
+  with_next,
+  with_entry,
+  widened,
+  with_wider,
+}

@@ -19,8 +19,10 @@ module _ {L B : Type 0} (s : Boxes L B) (laws : AreLawful s) (feature : L → �
       subst (λ z. Hung s feature inner z q new runs ys (pages 0) count) u (hang_root s laws feature inner levels root old mid new K j p q (K + 1) f box runs ys pages count h (omega (arith, e)) (omega arith) c w eb ep ej v)
 
   -- the old root cannot be read
-  pub cover_refused : (old new : Pages L B) (K j p : ℕ) (box : B) (x : TreeFault) → 1 < inner → K + 1 ≡ levels → (HasCover s old root → MayRefuseWrite x) → Hangs s feature inner levels root old new K j p box (Err x)
-  cover_refused old new K j p box x h e only runs ys pages count eb ep ej v = only (root_has s laws feature inner levels root K old runs ys pages count (omega (arith, h)) (omega (arith, e)) v)
+  pub cover_refused : (old new : Pages L B) (K j p : ℕ) (box : B) (x : TreeFault) → 1 < inner → K + 1 ≡ levels → (0 < root → HasCover s old root → MayRefuseWrite x) → Hangs s feature inner levels root old new K j p box (Err x)
+  cover_refused old new K j p box x h e only runs ys pages count eb ep ej v =
+      let top = v.numbers.top K (omega (arith, e)) in
+      only (v.numbers.within K 0 root top.1).0 (root_has s laws feature inner levels root K old runs ys pages count (omega (arith, h)) (omega (arith, e)) v)
 
   pub hang_ups : (old mid new : Pages L B) (K j p q : ℕ) (box : B) (res : Result Top TreeFault) → 1 < inner → K < levels → j % inner ≡ 0 → Adds old (AnInner (record { level = K + 1; entries = record { child = p; bounds = box } ∷ [] })) mid q
       → Hangs s feature inner levels root mid new (K + 1) (j / inner) q box res → Hangs s feature inner levels root old new K j p box res

@@ -26,7 +26,7 @@ use Rattle.tbtree.proofs.RoomLemmas.{neq-eqb}
 use Rattle.tbtree.proofs.Widening.{leaf_same}
 
 -- legs at the end of a leaf are of one feature
-own_of : (nodes : Pages LegView BoxView) (p : ℕ) (ys : List LegView) → HasAtEnd nodes p ys → All (λ leg. leg.feature ≡ owner leg_feature ys) ys
+pub own_of : (nodes : Pages LegView BoxView) (p : ℕ) (ys : List LegView) → HasAtEnd nodes p ys → All (λ leg. leg.feature ≡ owner leg_feature ys) ys
 own_of nodes p [] h = All-nil (λ leg. leg.feature ≡ 0)
 own_of nodes p (y ∷ ys) h = λ k d l. h.own k d l ∙ sym (h.own 0 y (omega arith))
 

@@ -11,6 +11,7 @@ pub mod GraftLemmas
 pub mod LeadLemmas
 pub mod FullLemmas
 pub mod RoomLemmas
+pub mod RoomyPages
 pub mod BeginLemmas
 pub mod NewRun
 pub mod PushLemmas
@@ -50,6 +51,5 @@ pub mod EndLemmas
 pub mod FillLemmas
 pub mod LeafLemmas
 pub mod FillCosts
-pub mod MovedLemmas
 pub mod NeedsLemmas
-pub mod UpperPages
+pub mod PlantedPages

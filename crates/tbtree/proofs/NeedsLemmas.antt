@@ -1,7 +1,7 @@
 -- A page that a refused insertion names was not what it needs.
 use Rattle.std.proofs.Common.{ℕ, zero, suc, ◌+◌, ◌-◌, ◌/◌, ◌%◌, ◌<◌, ◌≤◌, ◌≡◌, ◌≢◌, ◌∙◌, inl, inr, ⊎_elim, All, Bool, List, [], drop, length, length-drop, take, refl, sym, ap, arith, subst, slice_get, true, Some, None}
 use Rattle.std.specs.List.{Contains}
-use Rattle.std.specs.Prelude.{Result, Ok, Err, IfOk, IfErr, OnOk}
+use Rattle.std.specs.Prelude.{option_map, Result, Ok, Err, IfOk, IfErr, IsTrue, OnOk}
 use Rattle.std.proofs.lemmas.Bool.{cases_eq, cases_lt}
 use Rattle.std.proofs.lemmas.List.{length-map, take_all}
 use Rattle.legs.specs.Boxes.{BoxView, box_of}
@@ -9,10 +9,13 @@ use Rattle.legs.specs.Costs.{leg_feature}
 use Rattle.legs.specs.GroupLemmas.{some_none, some_same}
 use Rattle.legs.specs.Hull.{leg_boxes}
 use Rattle.legs.specs.Legs.{LegView}
-use Rattle.pagecache.specs.Cache.{Cache}
+use Rattle.pagecache.specs.Cache.{payload_of, Cache, IsRefused}
+use Rattle.pagecache.specs.declared.fault.CacheFault.{CacheFault}
+use Rattle.pagecache.specs.declared.fault.CacheFault.TheVariants as cache
+use Rattle.tbnode.specs.Form.{node_of}
 use Rattle.tbtree.specs.Content.{kids, ContentGrows, IsBareBeyond, IsFound}
 use Rattle.tbtree.specs.Descent.{found_legs, node_at, HasInner}
-use Rattle.tbtree.specs.Faults.{IfNamed}
+use Rattle.tbtree.specs.Faults.{fault_of, IfNamed}
 use Rattle.tbtree.specs.Insert.{Begins}
 use Rattle.tbtree.specs.Needs.{block_of, entry_of, BeginsAll, BlamesNext, CanGrow, GoesOn, IsFit, IsInnerOnWay, IsNoEnd, IsNoHook, IsOnWayTo, KeepsUpper, StopsAbove, TakesLeaf}
 use Rattle.tbtree.specs.Nodes.{pages_of_cache, cover_of_page, Adds, ALeaf, AnInner, EntryView, HasCover, HasEntry, HasLastLeaf, HasLeafRoom, HasRoom, InnerView, KeepsLeaves, LeafView, Links, Node, Pages, Widens, with_next}
@@ -30,6 +33,20 @@ use Rattle.tbtree.proofs.KindLemmas.{kinds_added, kinds_linked, level_was, not_b
 -- no page is named
 pub named_none : (P : ℕ → Type 0) (x : TreeFault) → IfNamed (λ n. ⊥) x → IfNamed P x
 named_none P x h = named_then (λ n. ⊥) P (λ n none. absurd none) x h
+
+-- a page that is not lent has no box
+pub not_lent : {T : Type 0} (old new : Cache) (page : ℕ) (res : Result T CacheFault) (fault : CacheFault) (x : TreeFault) → IsTrue old.store.is_faithful → res ≡ Err fault → IfErr res (λ e. IsRefused page e old new) → x ≡ fault_of page fault → IfNamed (λ n. (n ≡ page) × (0 < page → HasCover leg_boxes (pages_of_cache old) page → ⊥)) x
+not_lent old new page res fault x fa refused r is = subst (λ (y : TreeFault). IfNamed (λ n. (n ≡ page) × (0 < page → HasCover leg_boxes (pages_of_cache old) page → ⊥)) y) (sym is) (said fault (subst (λ a. IfErr a (λ e. IsRefused page e old new)) refused r))
+  where
+    none : payload_of old page ≡ None → 0 < page → HasCover leg_boxes (pages_of_cache old) page → ⊥
+    none e above c = some_none (Some c.node) (sym c.is ∙ ap (λ o. option_map node_of o) e)
+
+    said : (f : CacheFault) → IsRefused page f old new → IfNamed (λ n. (n ≡ page) × (0 < page → HasCover leg_boxes (pages_of_cache old) page → ⊥)) (fault_of page f)
+    said cache.NoPage h = (refl, none (h.1 fa))
+    said cache.Store h = tt
+    said (cache.Damaged n) h = (h.0, none (h.1 fa))
+    said cache.StoreFull h = tt
+    said cache.Memory h = tt
 
 -- the block above a block, and its entry for it
 pub block_up : (inner by number level at : ℕ) → by ≡ inner → at ≡ block_of inner number level → at / by ≡ block_of inner number (level + 1)
@@ -218,9 +235,9 @@ module _ (tree : TbTree) (number : ℕ) where
       x blames
 
   -- nor can one be hung where the root had no box
-  pub root_bare : {T : Type 0} (level : ℕ) (was nodes : Pages LegView BoxView) (res : Result T TreeFault) → 0 < tree.levels → BeginsAll tree number → KeepsUpper level was nodes → IfErr res (IfNamed (λ p. (p ≡ tree.root) × (HasCover leg_boxes nodes p → ⊥))) → IfErr res (IfNamed (IsNoHook was tree number))
+  pub root_bare : {T : Type 0} (level : ℕ) (was nodes : Pages LegView BoxView) (res : Result T TreeFault) → 0 < tree.levels → BeginsAll tree number → KeepsUpper level was nodes → IfErr res (IfNamed (λ p. (p ≡ tree.root) × (0 < p → HasCover leg_boxes nodes p → ⊥))) → IfErr res (IfNamed (IsNoHook was tree number))
   root_bare level was nodes (Ok t) some begins k blames = tt
-  root_bare level was nodes (Err x) some begins k blames = named_then (λ p. (p ≡ tree.root) × (HasCover leg_boxes nodes p → ⊥)) (IsNoHook was tree number) (λ p h. inr (h.0, some, begins, λ c. h.1 (k.cover p c))) x blames
+  root_bare level was nodes (Err x) some begins k blames = named_then (λ p. (p ≡ tree.root) × (0 < p → HasCover leg_boxes nodes p → ⊥)) (IsNoHook was tree number) (λ p h. inr (h.0, some, begins, λ above c. h.1 above (k.cover p c))) x blames
 
   -- a leaf that begins a block of each level below cannot be hung where the way to it stops, nor at a page without room
   pub no_way_up : (level : ℕ) (was nodes : Pages LegView BoxView) (p : ℕ) → KeepsUpper level was nodes → 0 < entry_of tree.shape.inner number level → StopsAbove nodes tree number (level + 1) p → IsNoHook was tree number p
@@ -270,7 +287,7 @@ module _ (nodes : Pages LegView BoxView) (tree : TbTree) (place : Place) (legs :
   pub unfit_hook : place.legs % tree.shape.leaf ≡ 0 → IsNoHook nodes tree tree.leaves p → IsFit nodes tree place legs p → ⊥
   unfit_hook full h fit = ⊎_elim
       (λ (none : TakesLeaf nodes tree tree.leaves p → ⊥). none (fit.hangs full))
-      (λ (top : (p ≡ tree.root) × (0 < tree.levels) × BeginsAll tree tree.leaves × (HasCover leg_boxes nodes p → ⊥)). top.3 (fit.top top.0 full top.1 top.2).1)
+      (λ (top : (p ≡ tree.root) × (0 < tree.levels) × BeginsAll tree tree.leaves × (0 < p → HasCover leg_boxes nodes p → ⊥)). let has = fit.top top.0 full top.1 top.2 in top.3 has.0 has.1)
       h
 
 -- whether the tree is spent is no part of it
@@ -345,7 +362,7 @@ blames_spent old new tree tree' a b place place' legs page h =
       from = h.from;
       within = h.within;
       mid = h.mid;
-      first = record { shape = f.shape; passes = f.passes; length = f.length; pages = f.pages; fills = f.fills; grows = content_spent (pages_of_cache old) (pages_of_cache h.mid) tree tree' a b (take h.from legs) f.grows; hung = record { more = f.hung.more; is = f.hung.is }; moved = record { stays = f.moved.stays; moves = f.moved.moves } };
+      first = record { shape = f.shape; passes = f.passes; length = f.length; pages = f.pages; fills = f.fills; grows = content_spent (pages_of_cache old) (pages_of_cache h.mid) tree tree' a b (take h.from legs) f.grows; grown = f.grown };
       start = h.start;
       after = h.after;
       some = h.some;

@@ -114,3 +114,16 @@ abbrev pub IsNamed : Pages LegView BoxView → Option ℕ → TreeFault → Type
 IsNamed nodes at fault =
     NamesEach (λ n. at ≡ Some n)
     (λ n. (at ≡ Some n) × (0 < n → n < nodes.count → nodes.at n ≢ None)) fault
+
+-- of a store that is said to be full P holds
+abbrev pub FillsInCache : Type 0 → CacheFault → Type 0
+FillsInCache P cache.NoPage = Unit {0}
+FillsInCache P cache.Store = Unit {0}
+FillsInCache P (cache.Damaged n) = Unit {0}
+FillsInCache P cache.StoreFull = P
+FillsInCache P cache.Memory = Unit {0}
+
+abbrev pub IfFull : Type 0 → TreeFault → Type 0
+IfFull P (OfCache fault) = FillsInCache P fault
+IfFull P (Malformed n) = Unit {0}
+IfFull P Spent = Unit {0}

@@ -14,4 +14,4 @@ pub mod Content
 pub mod Needs
 pub mod Bounds
 pub mod Turn
-pub mod Upper
+pub mod Planting

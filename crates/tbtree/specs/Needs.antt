@@ -13,7 +13,7 @@ use Rattle.tbtree.specs.Nodes.{pages_of_cache, Pages, HasCover, HasEntry, HasLas
 use Rattle.tbtree.specs.Passes.{KeepsLength, Passes}
 use Rattle.tbtree.specs.Payloads.{TakesLegs, are_of_one_leaf}
 use Rattle.tbtree.specs.Stands.{owner}
-use Rattle.tbtree.specs.Upper.{HasHung, HasMoved}
+use Rattle.tbtree.specs.Planting.{HasPlanted}
 use Rattle.tbtree.specs.declared.tree.Place.{Place}
 use Rattle.tbtree.specs.declared.tree.TbTree.{TbTree}
 
@@ -115,8 +115,8 @@ pub record PutsSome (old mid : Cache) (tree tree' : TbTree) (place place' : Plac
   pub fills : FillsLeaves tree.shape.leaf (pages_of_cache old) (pages_of_cache mid) tree.leaves
       tree'.leaves place place' legs pages
   pub grows : ContentGrows (pages_of_cache old) (pages_of_cache mid) tree tree' legs
-  pub hung : HasHung (pages_of_cache old) (pages_of_cache mid) tree tree'
-  pub moved : HasMoved (pages_of_cache old) tree tree' place place'
+  pub grown : HasPlanted (owner leg_feature legs) (pages_of_cache old) (pages_of_cache mid) tree
+      tree' place place' legs
 
 -- the first of the legs were put in, if any, and not all, which left the tree and the place so, and
 -- pages of which this one is not what the next legs need of it
@@ -145,12 +145,12 @@ pub record StopsAbove (nodes : Pages LegView BoxView) (tree : TbTree) (number le
   pub lacks : HasEntry nodes p (suc above) (entry_of tree.shape.inner number above) → ⊥
 
 -- the page p cannot take the leaf of that number, or is the root of some levels, over which a root
--- is to be put, and has no box
+-- is to be put, and is page 0 or has no box
 abbrev pub IsNoHook : Pages LegView BoxView → TbTree → (number : ℕ) → ℕ → Type 0
 IsNoHook nodes tree number p =
     (TakesLeaf nodes tree number p → ⊥)
     ⊎ ((p ≡ tree.root) × (0 < tree.levels) × BeginsAll tree number
-    × (HasCover leg_boxes nodes p → ⊥))
+    × (0 < p → HasCover leg_boxes nodes p → ⊥))
 
 -- the page p is the last leaf, and cannot have a leaf of the legs behind it
 abbrev pub IsNoEnd : Pages LegView BoxView → (last : ℕ) → List LegView → ℕ → Type 0

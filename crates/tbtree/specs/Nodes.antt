@@ -1,17 +1,20 @@
 -- The pages of a tree.
-use Rattle.std.specs.Prelude.{ℕ, ◌≡◌, ◌≢◌, ◌+◌, ◌<◌, length, List, [], ◌∷◌, ◌++◌, map, slice_get, Option, Some, None, option_map}
+use Rattle.std.specs.Prelude.{ℕ, ◌≡◌, ◌≢◌, ◌+◌, ◌<◌, length, List, map, slice_get, Option, Some, option_map}
 use Rattle.legs.specs.Legs.{LegView}
 use Rattle.legs.specs.Boxes.{BoxView}
-use Rattle.legs.specs.Hull.{Boxes, hull, both}
+use Rattle.legs.specs.Hull.{Boxes}
 use Rattle.pagecache.specs.Cache.{Cache, payload_of}
 use Rattle.tbnode.specs.Form.{node_of}
-pub use Rattle.tbnode.specs.Nodes.{
+pub use Rattle.legs.specs.Nodes.{
   LeafView,
   EntryView,
   InnerView,
   Node,
   ALeaf,
   AnInner,
+  cover_all,
+  cover_of_page,
+  with_legs,
   with_next,
   with_entry,
   with_wider,
@@ -52,26 +55,13 @@ module _ {L B : Type 0} (s : Boxes L B) where
     pub becomes : Becomes old p (AnInner (with_wider s.cover e y page)) new
     pub counted : new.count ≡ old.count
 
-  -- the least box that holds some boxes, and all that a page has
-  abbrev pub cover_all : List B → Option B
-  cover_all [] = None
-  cover_all (b ∷ bs) = both s (Some b) (cover_all bs)
-
-  abbrev pub cover_of_page : Node L B → Option B
-  cover_of_page (ALeaf l) = hull s l.legs
-  cover_of_page (AnInner x) = cover_all (boxes x)
-
   -- y is the least box that holds all that the page p has
   pub record Covers (old : Pages L B) (p : ℕ) (y : B) (new : Pages L B) : Type 0 where
     pub node : Node L B
     pub is : old.at p ≡ Some (Some node)
-    pub cover : cover_of_page node ≡ Some y
+    pub cover : cover_of_page s node ≡ Some y
     pub rest : (q : ℕ) → new.at q ≡ old.at q
     pub counted : new.count ≡ old.count
-
--- a leaf with legs more at its end
-abbrev pub with_legs : {L : Type 0} → List L → LeafView L → LeafView L
-with_legs legs leaf = record leaf { legs = leaf.legs ++ legs }
 
 -- the leaf p has ys at its end
 pub record Pushes {L B : Type 0} (old : Pages L B) (p : ℕ) (ys : List L)

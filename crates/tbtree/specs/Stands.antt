@@ -4,6 +4,7 @@ use Rattle.std.specs.List.{zip, count_by}
 use Rattle.legs.specs.Blocks.{block, level}
 use Rattle.legs.specs.Costs.{ShapeView}
 use Rattle.legs.specs.Hull.{Boxes, hull_of}
+pub use Rattle.legs.specs.Nodes.{new_leaf, owner}
 use Rattle.tbtree.specs.declared.tree.Place.{Place}
 use Rattle.tbtree.specs.declared.tree.TbTree.{TbTree}
 use Rattle.tbtree.specs.Nodes.{Pages, ALeaf, AnInner, LeafView, InnerView, children, boxes}
@@ -20,16 +21,6 @@ last_or d (x ∷ xs) = last_or x xs
 abbrev pub pages_of : ℕ → List (ℕ × ℕ) → List ℕ
 pages_of f [] = []
 pages_of f (m ∷ ms) = cond (m.0 == f) (m.1 ∷ pages_of f ms) (pages_of f ms)
-
--- the feature of a run
-abbrev pub owner : {L : Type 0} → (L → ℕ) → List L → ℕ
-owner feature [] = 0
-owner feature (l ∷ ls) = feature l
-
--- a leaf of legs, with that leaf before it and none after it
-abbrev pub new_leaf : {L : Type 0} → (L → ℕ) → ℕ → List L → LeafView L
-new_leaf feature previous legs =
-    record { feature = owner feature legs; previous = previous; next = 0; legs = legs }
 
 -- page j of level k
 abbrev pub page_at : (ℕ → List ℕ) → ℕ → ℕ → Option ℕ

@@ -1,13 +1,15 @@
 //! Many legs of one feature, put in leaf by leaf.
-ghost use Rattle.std.specs.Prelude.{ℕ, List, ◌≡◌, ◌<◌, ◌≤◌, ◌⊎◌, ◌+◌, ◌-◌, ◌*◌, ◌%◌, OnOk, OnErr, IfErr, IsTrue, false, true, Err, drop, length, take};
-ghost use Rattle.tbtree.specs.Faults.{IfNamed, RefusesWrite};
+ghost use Rattle.std.specs.Prelude.{ℕ, All, List, ◌≡◌, ◌<◌, ◌≤◌, ◌⊎◌, ◌+◌, ◌-◌, ◌*◌, ◌%◌, OnOk, OnErr, IfErr, IsTrue, false, true, Err, drop, length, take};
+ghost use Rattle.tbtree.specs.Faults.{IfFull, IfNamed, RefusesWrite};
 ghost use Rattle.tbtree.specs.Content.{ContentGrows, Meets};
 ghost use Rattle.tbtree.specs.Needs.{BlamesNext};
 ghost use Rattle.tbtree.specs.Nodes.{pages_of_cache};
 ghost use Rattle.tbtree.specs.Passes.{Passes, KeepsLength, KeepsOthers, Touches};
 ghost use Rattle.tbtree.specs.Filling.{FillsLeaves, NamesLast};
 ghost use Rattle.tbtree.specs.Joining.{JoinsAll};
-ghost use Rattle.tbtree.specs.Upper.{HasHung, HasMoved};
+ghost use Rattle.tbtree.specs.Planting.{HasLacked, HasPlanted};
+ghost use Rattle.tbtree.specs.Stands.{owner};
+ghost use Rattle.legs.specs.Costs.{leg_feature};
 ghost use Rattle.tbtree.specs.declared.fault.TreeFault.{TreeFault};
 
 use crate::fault::TreeFault;
@@ -48,6 +50,10 @@ fn put_all<S: PageStore>(
     ensures blames { IsTrue cache.old.store.is_faithful → IfErr result
         (IfNamed (BlamesNext cache.old cache.new tree.old tree.new place.old place.new
         legs.now)) }
+    ensures lacks { IsTrue cache.old.store.is_faithful
+        → All (λ leg. leg.feature ≡ owner leg_feature legs.now) legs.now → IfErr result
+        (IfFull (HasLacked (owner leg_feature legs.now) (pages_of_cache cache.old) tree.old
+        place.old cache.new.count legs.now)) }
     ensures touches { Touches cache.old cache.new result }
     ensures asked { OnOk result (cache.new.asked ≤ cache.old.asked + tree.new.levels
         + (tree.new.leaves - tree.old.leaves) * (tree.new.levels + 2)) }
@@ -61,10 +67,9 @@ fn put_all<S: PageStore>(
         pages) }
     ensures met { IsTrue cache.old.store.is_faithful → OnOk result
         (Meets (pages_of_cache cache.old) (pages_of_cache cache.new) tree.old tree.new legs.now) }
-    ensures hung { IsTrue cache.old.store.is_faithful → OnOk result
-        (HasHung (pages_of_cache cache.old) (pages_of_cache cache.new) tree.old tree.new) }
-    ensures moved { IsTrue cache.old.store.is_faithful → OnOk result
-        (HasMoved (pages_of_cache cache.old) tree.old tree.new place.old place.new) }
+    ensures grown { IsTrue cache.old.store.is_faithful → OnOk result
+        (HasPlanted (owner leg_feature legs.now) (pages_of_cache cache.old)
+        (pages_of_cache cache.new) tree.old tree.new place.old place.new legs.now) }
     ensures counted { OnOk result (place.new.legs ≡ place.old.legs + length legs.now) }
     ensures named { 0 < length legs.now → OnOk result (NamesLast place.old) }
     ensures rooted { 0 < length legs.now → OnOk result (tree.old.root < cache.old.count) }
@@ -114,6 +119,12 @@ pub fn insert_all<S: PageStore>(
         (IfNamed (BlamesNext cache.old cache.new tree.old tree.new place.old place.new
         legs.now)) }
 
+    // Where the store is said to be full, the legs, which are of one feature, take more pages than there are then.
+    ensures lacks { tree.old.spent ≡ false → IsTrue cache.old.store.is_faithful
+        → All (λ leg. leg.feature ≡ owner leg_feature legs.now) legs.now
+        → IfErr result (IfFull (HasLacked (owner leg_feature legs.now) (pages_of_cache cache.old)
+        tree.old place.old cache.new.count legs.now)) }
+
     // For the leaf that is there at most as many pages are asked for as the tree has levels, and for
     // each leaf that is made at most two more; and no more leaves are made than fill up, but for the
     // last.
@@ -127,9 +138,8 @@ pub fn insert_all<S: PageStore>(
     // Over any faithful pages: the place's last leaf has behind its own legs those from the first on for which it had
     // room, and leaves that are made behind it have the others; each other leaf is as it was. By each test of boxes that a
     // greater box does not fail the way down meets each page that it met, and finds each leg that it found, and each of
-    // these whose box meets; only pages that are made become entries, and the old root. The leaves that are made are hung
-    // into the tree, one after another, and nothing else is done to the upper part of it. The place names its last leaf
-    // as before, or the last one that is made.
+    // these whose box meets; only pages that are made become entries, and the old root. What all pages say then, and the
+    // place, is exactly what a plain program makes of what they said.
     ensures fills { IsTrue cache.old.store.is_faithful → OnOk result
         ((pages : List ℕ) × FillsLeaves tree.old.shape.leaf (pages_of_cache cache.old)
         (pages_of_cache cache.new) tree.old.leaves tree.new.leaves place.old place.new legs.now
@@ -137,10 +147,9 @@ pub fn insert_all<S: PageStore>(
     ensures met { IsTrue cache.old.store.is_faithful → OnOk result
         (ContentGrows (pages_of_cache cache.old) (pages_of_cache cache.new) tree.old tree.new
         legs.now) }
-    ensures hung { IsTrue cache.old.store.is_faithful → OnOk result
-        (HasHung (pages_of_cache cache.old) (pages_of_cache cache.new) tree.old tree.new) }
-    ensures moved { IsTrue cache.old.store.is_faithful → OnOk result
-        (HasMoved (pages_of_cache cache.old) tree.old tree.new place.old place.new) }
+    ensures grown { IsTrue cache.old.store.is_faithful → OnOk result
+        (HasPlanted (owner leg_feature legs.now) (pages_of_cache cache.old)
+        (pages_of_cache cache.new) tree.old tree.new place.old place.new legs.now) }
     ensures counted { OnOk result (place.new.legs ≡ place.old.legs + length legs.now) }
     ensures named { 0 < length legs.now → OnOk result (NamesLast place.old) }
     ensures rooted { 0 < length legs.now → OnOk result (tree.old.root < cache.old.count) }

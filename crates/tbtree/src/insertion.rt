@@ -4,7 +4,7 @@ ghost use Rattle.legs.specs.Boxes.{BoxView};
 ghost use Rattle.legs.specs.Costs.{leg_feature};
 ghost use Rattle.legs.specs.Hull.{leg_boxes};
 ghost use Rattle.legs.specs.Legs.{LegView};
-ghost use Rattle.tbtree.specs.Faults.{IfNamed, MayRefuseWrite, RefusesWrite};
+ghost use Rattle.tbtree.specs.Faults.{IfFull, IfNamed, MayRefuseWrite, RefusesWrite};
 ghost use Rattle.tbtree.specs.Needs.{block_of, entry_of, CanGrow, GoesOn, IsFit, IsNoEnd, IsNoHook, IsOnWayTo, KeepsUpper, StopsAbove};
 ghost use Rattle.tbtree.specs.Nodes.{pages_of_cache, HasCover, HasLastLeaf, KeepsLeaves, Pages};
 ghost use Rattle.tbtree.specs.Passes.{Passes, KeepsLength, KeepsOthers, Touches};
@@ -17,7 +17,7 @@ ghost use Rattle.tbtree.specs.Joining.{HasAtEnd, Joins, JoinsAll};
 ghost use Rattle.tbtree.specs.Payloads.{TakesLegs, are_of_one_leaf};
 ghost use Rattle.tbtree.specs.Shape.{IsShape};
 ghost use Rattle.tbtree.specs.Stands.{owner};
-ghost use Rattle.tbtree.specs.Upper.{HasHung, HasHungBlock, HasHungLeaf, HasMadeLeaf, HasMoved, IsBlockPage};
+ghost use Rattle.tbtree.specs.Planting.{HasGrownLeaf, HasHungBlock, HasHungLeaf, HasLacked, HasLackedBlock, HasLackedLeaf, HasLackedRun, HasPlanted, HasRun, HasWidened, IsBlockPage};
 ghost use Rattle.tbtree.specs.declared.fault.TreeFault.{TreeFault};
 
 use crate::fault::TreeFault;
@@ -61,6 +61,10 @@ fn way<S: PageStore>(
         → IfErr result (IfNamed (StopsAbove (pages_of_cache cache.old) tree.now number level)) }
     ensures block { IsTrue cache.old.store.is_faithful
         → IfOk result (IsBlockPage (pages_of_cache cache.old) tree.now level at) }
+    ensures widened { IsTrue cache.old.store.is_faithful → OnOk result
+        (HasWidened (pages_of_cache cache.old) (pages_of_cache cache.new) tree.now level at
+        bounds.now) }
+    ensures full { IfErr result (IfFull ⊥) }
     ensures touches { Touches cache.old cache.new result }
     ensures asked { cache.new.asked + level + 1 ≤ cache.old.asked + tree.now.levels }
 {
@@ -99,8 +103,10 @@ fn into_leaf<S: PageStore>(
         GoesOn (pages_of_cache cache.old) tree.now number page
         → (page ≡ last → CanGrow (pages_of_cache cache.old) tree.now number legs.now page)
         → ⊥)) }
-    ensures hung { IsTrue cache.old.store.is_faithful → OnOk result
-        (HasHung (pages_of_cache cache.old) (pages_of_cache cache.new) tree.now tree.now) }
+    ensures grown { IsTrue cache.old.store.is_faithful → OnOk result
+        (HasGrownLeaf (pages_of_cache cache.old) (pages_of_cache cache.new) tree.now number last
+        legs.now) }
+    ensures full { IfErr result (IfFull ⊥) }
     ensures touches { Touches cache.old cache.new result }
     ensures asked { cache.new.asked ≤ cache.old.asked + tree.now.levels }
 {
@@ -138,10 +144,13 @@ fn root_over<S: PageStore>(
         (Carries (pages_of_cache cache.old) (pages_of_cache cache.new) tree.now.root
         tree.now.levels level child.now.bounds child.now.child) }
     ensures blames { IsTrue cache.old.store.is_faithful → IfErr result (IfNamed (λ page.
-        (page ≡ tree.now.root) × (HasCover leg_boxes (pages_of_cache cache.old) page → ⊥))) }
+        (page ≡ tree.now.root)
+        × (0 < page → HasCover leg_boxes (pages_of_cache cache.old) page → ⊥))) }
     ensures hung { IsTrue cache.old.store.is_faithful → 0 < cache.old.count → (at : ℕ)
         → IfOk result (HasHungBlock (pages_of_cache cache.old) (pages_of_cache cache.new) tree.now
-        level at child.now.child) }
+        level at child.now) }
+    ensures full { IsTrue cache.old.store.is_faithful → (at : ℕ) → IfErr result (IfFull
+        (HasLackedBlock (pages_of_cache cache.old) tree.now level at child.now cache.new.count)) }
     ensures touches { Touches cache.old cache.new result }
     ensures asked { cache.new.asked ≤ cache.old.asked + 2 }
     ensures levels { IfOk result (λ top. top.levels ≡ tree.now.levels + 1) }
@@ -190,7 +199,9 @@ fn hang<S: PageStore>(
         → IfErr result (IfNamed (IsNoHook was tree.now number)) }
     ensures hung { IsTrue cache.old.store.is_faithful → 0 < cache.old.count
         → IfOk result (HasHungBlock (pages_of_cache cache.old) (pages_of_cache cache.new) tree.now
-        level at child.now.child) }
+        level at child.now) }
+    ensures full { IsTrue cache.old.store.is_faithful → 0 < cache.old.count → IfErr result (IfFull
+        (HasLackedBlock (pages_of_cache cache.old) tree.now level at child.now cache.new.count)) }
     ensures touches { Touches cache.old cache.new result }
     ensures asked { IfOk result (λ top. cache.new.asked + level
         ≤ cache.old.asked + top.levels) }
@@ -244,9 +255,11 @@ fn into_last<S: PageStore>(
         (Meets (pages_of_cache cache.old) (pages_of_cache cache.new) tree.now tree.now legs.now) }
     ensures blames { IsTrue cache.old.store.is_faithful → IfErr result
         (IfNamed (λ page. IsFit (pages_of_cache cache.old) tree.now place.old legs.now page → ⊥)) }
-    ensures hung { IsTrue cache.old.store.is_faithful → OnOk result
-        (HasHung (pages_of_cache cache.old) (pages_of_cache cache.new) tree.now tree.now) }
+    ensures run { IsTrue cache.old.store.is_faithful → OnOk result
+        (HasRun (pages_of_cache cache.old) (pages_of_cache cache.new) tree.now tree.now place.old
+        legs.now) }
     ensures unmoved { OnErr result (place.new ≡ place.old) }
+    ensures full { IfErr result (IfFull ⊥) }
     ensures touches { Touches cache.old cache.new result }
     ensures asked { cache.new.asked ≤ cache.old.asked + tree.now.levels }
 {
@@ -288,6 +301,7 @@ fn add_last<S: PageStore>(
         → OnOk result (cache.new.count ≡ cache.old.count + 1) }
     ensures blames { IsTrue cache.old.store.is_faithful
         → IfErr result (IfNamed (IsNoEnd (pages_of_cache cache.old) last legs.now)) }
+    ensures full { IfErr result (IfFull (cache.new.count ≡ cache.old.count)) }
     ensures touches { Touches cache.old cache.new result }
     ensures asked { cache.new.asked ≤ cache.old.asked + 2 }
 {
@@ -328,9 +342,10 @@ fn hang_leaf<S: PageStore>(
     ensures blames { IsTrue cache.old.store.is_faithful → (was : Pages LegView BoxView)
         → KeepsUpper 0 was (pages_of_cache cache.old)
         → IfErr result (IfNamed (IsNoHook was tree.now tree.now.leaves)) }
-    ensures hung { IsTrue cache.old.store.is_faithful → (was : Pages LegView BoxView)
-        → HasMadeLeaf was (pages_of_cache cache.old) tree.now page.now.child
-        → IfOk result (HasHungLeaf was (pages_of_cache cache.new) tree.now) }
+    ensures hung { IsTrue cache.old.store.is_faithful → 0 < cache.old.count → IfOk result
+        (HasHungLeaf (pages_of_cache cache.old) (pages_of_cache cache.new) tree.now page.now) }
+    ensures full { IsTrue cache.old.store.is_faithful → 0 < cache.old.count → IfErr result (IfFull
+        (HasLackedLeaf (pages_of_cache cache.old) tree.now page.now cache.new.count)) }
     ensures touches { Touches cache.old cache.new result }
     ensures asked { IfOk result (λ top. cache.new.asked ≤ cache.old.asked + top.levels) }
     ensures higher { IfOk result (λ top. tree.now.levels ≤ top.levels) }
@@ -376,9 +391,12 @@ fn begin<S: PageStore>(
         (Meets (pages_of_cache cache.old) (pages_of_cache cache.new) tree.old tree.new legs.now) }
     ensures blames { IsTrue cache.old.store.is_faithful → IfErr result
         (IfNamed (λ page. IsFit (pages_of_cache cache.old) tree.old place.old legs.now page → ⊥)) }
-    ensures hung { IsTrue cache.old.store.is_faithful → OnOk result
-        (HasHung (pages_of_cache cache.old) (pages_of_cache cache.new) tree.old tree.new) }
+    ensures run { IsTrue cache.old.store.is_faithful → OnOk result
+        (HasRun (pages_of_cache cache.old) (pages_of_cache cache.new) tree.old tree.new place.old
+        legs.now) }
     ensures unmoved { OnErr result ((tree.new ≡ tree.old) × (place.new ≡ place.old)) }
+    ensures full { IsTrue cache.old.store.is_faithful → IfErr result (IfFull
+        (HasLackedRun (pages_of_cache cache.old) tree.old place.old legs.now cache.new.count)) }
     ensures touches { Touches cache.old cache.new result }
     ensures asked { OnOk result (cache.new.asked
         ≤ cache.old.asked + (tree.new.levels + 2)) }
@@ -436,9 +454,12 @@ pub(crate) fn put<S: PageStore>(
         (Meets (pages_of_cache cache.old) (pages_of_cache cache.new) tree.old tree.new legs.now) }
     ensures blames { IsTrue cache.old.store.is_faithful → IfErr result
         (IfNamed (λ page. IsFit (pages_of_cache cache.old) tree.old place.old legs.now page → ⊥)) }
-    ensures hung { IsTrue cache.old.store.is_faithful → OnOk result
-        (HasHung (pages_of_cache cache.old) (pages_of_cache cache.new) tree.old tree.new) }
+    ensures run { IsTrue cache.old.store.is_faithful → OnOk result
+        (HasRun (pages_of_cache cache.old) (pages_of_cache cache.new) tree.old tree.new place.old
+        legs.now) }
     ensures unmoved { OnErr result ((tree.new ≡ tree.old) × (place.new ≡ place.old)) }
+    ensures full { IsTrue cache.old.store.is_faithful → IfErr result (IfFull
+        (HasLackedRun (pages_of_cache cache.old) tree.old place.old legs.now cache.new.count)) }
     ensures touches { Touches cache.old cache.new result }
     ensures asked { OnOk result (cache.new.asked
         ≤ cache.old.asked + (2 * (tree.new.levels - 1) + 4)) }
@@ -485,9 +506,10 @@ pub(crate) fn put<S: PageStore>(
     into_last(cache, tree, place, legs)
 }
 
-/// Puts a leg into the tree, at the place of its feature. A root that is not there is `Malformed`, and so is the last leaf of
-/// a place that has legs and names none, or has none and names one. A last leaf that is not there, behind which one is to
-/// be made, is `Malformed` before that is made. Any refusal leaves the tree spent, and a spent tree is refused by `Spent`.
+/// Puts a leg into the tree, at the place of its feature. A root that is not there is `Malformed`, and so is page 0 where a
+/// root is to be put over it, and the last leaf of a place that has legs and names none, or has none and names one. A last
+/// leaf that is not there, behind which one is to be made, is `Malformed` before that is made. Any refusal leaves the tree
+/// spent, and a spent tree is refused by `Spent`.
 pub fn insert<S: PageStore>(
     tree: &mut TbTree,
     cache: &mut PageCache<S>,
@@ -507,8 +529,8 @@ pub fn insert<S: PageStore>(
     // Over any faithful pages: the place's last leaf has the leg at its end, where it had room, and else a leaf of the leg
     // alone is made behind it; each other leaf is as it was. By each test of boxes that a greater box does not fail the
     // way down meets each page that it met, and finds each leg that it found, and the leg where its box meets; only pages
-    // that are made become entries, and the old root. A leaf that is made is hung into the tree, and nothing else is done to
-    // the upper part of it. The place names its last leaf as before, or the one that is made.
+    // that are made become entries, and the old root. What all pages say then, and the place, is exactly what a plain program
+    // makes of what they said.
     ensures fills { IsTrue cache.old.store.is_faithful → OnOk result
         (FillsLeaves tree.old.shape.leaf (pages_of_cache cache.old) (pages_of_cache cache.new)
         tree.old.leaves tree.new.leaves place.old place.new (leg ∷ [])
@@ -516,10 +538,9 @@ pub fn insert<S: PageStore>(
     ensures met { IsTrue cache.old.store.is_faithful → OnOk result
         (ContentGrows (pages_of_cache cache.old) (pages_of_cache cache.new) tree.old tree.new
         (leg ∷ [])) }
-    ensures hung { IsTrue cache.old.store.is_faithful → OnOk result
-        (HasHung (pages_of_cache cache.old) (pages_of_cache cache.new) tree.old tree.new) }
-    ensures moved { IsTrue cache.old.store.is_faithful → OnOk result
-        (HasMoved (pages_of_cache cache.old) tree.old tree.new place.old place.new) }
+    ensures grown { IsTrue cache.old.store.is_faithful → OnOk result
+        (HasPlanted leg.feature (pages_of_cache cache.old) (pages_of_cache cache.new) tree.old
+        tree.new place.old place.new (leg ∷ [])) }
     ensures place { OnOk result (place.new ≡ place_with tree.old.leaves place.old (leg ∷ [])
         (page_made tree.old.shape.leaf cache.old.count place.old)) }
     ensures named { OnOk result (NamesLast place.old) }
@@ -540,6 +561,11 @@ pub fn insert<S: PageStore>(
         IsFit (pages_of_cache cache.old) tree.old place.old (leg ∷ []) page → ⊥)) }
     ensures unmoved { OnErr result ((tree.new ≡ record tree.old { spent = true })
         × (place.new ≡ place.old)) }
+
+    // Where the store is said to be full, the leg takes more pages than there are then.
+    ensures lacks { tree.old.spent ≡ false → IsTrue cache.old.store.is_faithful
+        → IfErr result (IfFull (HasLacked leg.feature (pages_of_cache cache.old) tree.old
+        place.old cache.new.count (leg ∷ []))) }
 
     // A refusal is for good.
     ensures works { OnOk result (tree.new.spent ≡ false) }

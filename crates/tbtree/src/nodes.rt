@@ -5,7 +5,7 @@ ghost use Rattle.pagecache.specs.Cache as caches;
 ghost use Rattle.pagecache.specs.Cache.{payload_of, AsksOnce, IsNotAdded, KeepsPayloads};
 ghost use Rattle.tbnode.specs.Edits.{new_inner};
 ghost use Rattle.tbtree.specs.Content.{IsBareBeyond};
-ghost use Rattle.tbtree.specs.Faults.{IfNamed, MayRefuseWrite};
+ghost use Rattle.tbtree.specs.Faults.{IfFull, IfNamed, MayRefuseWrite};
 ghost use Rattle.tbtree.specs.Nodes.{pages_of_cache, AnInner, Adds, Attaches, Covers, HasCover, HasEntry, HasLastLeaf, HasLeafRoom, HasRoom, Links, Pushes, Widens};
 ghost use Rattle.tbtree.specs.Passes.{Touches};
 ghost use Rattle.tbtree.specs.Payloads.{TakesLegs, are_of_one_leaf, leaf_of_legs};
@@ -34,6 +34,7 @@ pub(crate) fn widen<S: PageStore>(
     ensures blames { IsTrue cache.old.store.is_faithful
         → IfErr result (IfNamed (λ n. (n ≡ page)
         × (HasEntry (pages_of_cache cache.old) page level entry → ⊥))) }
+    ensures full { IfErr result (IfFull ⊥) }
     ensures touches { Touches cache.old cache.new result }
     ensures asked { cache.new.asked ≤ cache.old.asked + 1 }
 {
@@ -71,6 +72,7 @@ pub(crate) fn grow<S: PageStore>(
     ensures blames { IsTrue cache.old.store.is_faithful
         → IfErr result (IfNamed (λ n. (n ≡ page) × (HasLeafRoom (pages_of_cache cache.old) page
         (λ leaf. TakesLegs most leaf legs.now) → ⊥))) }
+    ensures full { IfErr result (IfFull ⊥) }
     ensures touches { Touches cache.old cache.new result }
     ensures asked { cache.new.asked ≤ cache.old.asked + 1 }
 {
@@ -104,6 +106,7 @@ pub(crate) fn link<S: PageStore>(
     ensures blames { IsTrue cache.old.store.is_faithful
         → IfErr result (IfNamed (λ n. (n ≡ page)
         × (HasLastLeaf (pages_of_cache cache.old) page feature → ⊥))) }
+    ensures full { IfErr result (IfFull ⊥) }
     ensures touches { Touches cache.old cache.new result }
     ensures asked { cache.new.asked ≤ cache.old.asked + 1 }
 {
@@ -139,6 +142,7 @@ pub(crate) fn attach<S: PageStore>(
     ensures blames { IsTrue cache.old.store.is_faithful
         → IfErr result (IfNamed (λ n. (n ≡ page)
         × (HasRoom (pages_of_cache cache.old) page level most → ⊥))) }
+    ensures full { IfErr result (IfFull ⊥) }
     ensures touches { Touches cache.old cache.new result }
     ensures asked { cache.new.asked ≤ cache.old.asked + 1 }
 {
@@ -197,6 +201,7 @@ pub(crate) fn add_leaf<S: PageStore>(
     ensures one { OnOk result (are_of_one_leaf legs.now ≡ true) }
     ensures blames { IsTrue cache.old.store.is_faithful → IfErr result
         (IfNamed (λ n. (n ≡ previous) × (are_of_one_leaf legs.now ≡ true → ⊥))) }
+    ensures full { IfErr result (IfFull (cache.new.count ≡ cache.old.count)) }
     ensures touches { Touches cache.old cache.new result }
     ensures asked { cache.new.asked ≤ cache.old.asked + 1 }
 {
@@ -220,6 +225,7 @@ pub(crate) fn add_inner<S: PageStore>(
     ensures fresh { (pages_of_cache cache.old).at cache.old.count ≡ None }
     ensures only { IsTrue cache.old.store.is_faithful → IfErr result MayRefuseWrite }
     ensures blames { IfErr result (IfNamed (λ n. ⊥)) }
+    ensures full { IfErr result (IfFull (cache.new.count ≡ cache.old.count)) }
     ensures touches { Touches cache.old cache.new result }
     ensures asked { cache.new.asked ≤ cache.old.asked + 1 }
 {
@@ -244,6 +250,7 @@ pub(crate) fn add_root<S: PageStore>(
     ensures fresh { (pages_of_cache cache.old).at cache.old.count ≡ None }
     ensures only { IsTrue cache.old.store.is_faithful → IfErr result MayRefuseWrite }
     ensures blames { IfErr result (IfNamed (λ n. ⊥)) }
+    ensures full { IfErr result (IfFull (cache.new.count ≡ cache.old.count)) }
     ensures touches { Touches cache.old cache.new result }
     ensures asked { cache.new.asked ≤ cache.old.asked + 1 }
 {
@@ -254,19 +261,24 @@ pub(crate) fn add_root<S: PageStore>(
     Ok(page)
 }
 
-/// The least box that holds all that a page has.
+/// The least box that holds all that a page has; page 0 is none of a tree's.
 pub(crate) fn cover<S: PageStore>(cache: &mut PageCache<S>, page: u32) -> Result<Box3, TreeFault>
     ensures covers { IsTrue cache.old.store.is_faithful
         → IfOk result (λ bounds. Covers leg_boxes (pages_of_cache cache.old) page bounds
         (pages_of_cache cache.new)) }
-    ensures only { IsTrue cache.old.store.is_faithful
+    ensures only { IsTrue cache.old.store.is_faithful → 0 < page
         → HasCover leg_boxes (pages_of_cache cache.old) page → IfErr result MayRefuseWrite }
+    ensures above { OnOk result (0 < page) }
     ensures blames { IsTrue cache.old.store.is_faithful
         → IfErr result (IfNamed (λ n. (n ≡ page)
-        × (HasCover leg_boxes (pages_of_cache cache.old) page → ⊥))) }
+        × (0 < page → HasCover leg_boxes (pages_of_cache cache.old) page → ⊥))) }
+    ensures full { IfErr result (IfFull ⊥) }
     ensures touches { Touches cache.old cache.new result }
     ensures asked { cache.new.asked ≤ cache.old.asked + 1 }
 {
+    if page == 0 {
+        return Err(TreeFault::Malformed(page));
+    }
     let payload = match cache.page(page) {
         Ok(payload) => payload,
         Err(fault) => return Err(TreeFault::of(fault, page)),

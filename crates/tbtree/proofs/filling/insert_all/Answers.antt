@@ -5,8 +5,6 @@ use Rattle.tbtree.proofs.ContentLemmas.{grows_spent}
 use Rattle.tbtree.specs.Needs.{BlamesNext}
 use Rattle.tbtree.proofs.FaultLemmas.{named_then}
 use Rattle.tbtree.proofs.NeedsLemmas.{blames_spent}
-use Rattle.tbtree.proofs.MovedLemmas.{moved_spent}
-use Rattle.tbtree.proofs.UpperPages.{hung_spent}
 use Rattle.tbtree.proofs.filling.insert_all.Goals as goal
 
 pub returns-clause-met : goal.returns-clause-met
@@ -26,10 +24,5 @@ returns-in_err-put_all-clause-blames g c = λ _ fa.
     rw (p.1, p.2) (named_then (BlamesNext old new (record was { spent = true }) tree place_was place legs) (BlamesNext old new was tree place_was place legs) (λ q h. blames_spent old new was tree true was.spent place_was place legs q h) _
     (c.in_err-put_all.ensures.blames fa))
 
-pub returns-clause-hung : goal.returns-clause-hung
-returns-clause-hung g c = λ fa.
-    hung_spent (pages_of_cache c.args.cache.now) (pages_of_cache c.put_all.new.cache) c.args.tree.now c.put_all.new.tree true false (c.in_ok-put_all.ensures.hung fa)
-
-pub returns-clause-moved : goal.returns-clause-moved
-returns-clause-moved g c = λ fa.
-    moved_spent (pages_of_cache c.args.cache.now) c.args.tree.now c.put_all.new.tree true false c.args.place.now c.put_all.new.place (c.in_ok-put_all.ensures.moved fa)
+pub returns-clause-grown : goal.returns-clause-grown
+returns-clause-grown g c = λ fa. c.in_ok-put_all.ensures.grown fa

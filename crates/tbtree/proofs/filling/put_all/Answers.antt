@@ -1,20 +1,22 @@
 use Rattle.std.proofs.Math.Nat.{zero-mod}
 use Rattle.std.specs.Prelude.{IsTrue}
 use Rattle.legs.specs.Legs.{LegView}
-use Rattle.std.proofs.Common.{List, [], drop, ◌≡◌, ◌<◌, ◌≤◌, ◌+◌, ◌-◌, ◌%◌, ◌∙◌, refl, ap, arith, length, subst, sym, take, inl, inr, ⊎_elim, ◌⊎◌, Ok, length-take, length-drop}
+use Rattle.std.proofs.Common.{ℕ, List, [], drop, ◌≡◌, ◌<◌, ◌≤◌, ◌+◌, ◌-◌, ◌%◌, ◌∙◌, refl, ap, arith, length, subst, sym, take, inl, inr, ⊎_elim, ◌⊎◌, Ok, length-take, length-drop}
 use Rattle.std.proofs.lemmas.Bool.{cases_lt}
 use Rattle.std.proofs.lemmas.List.{take_all}
 use Rattle.std.proofs.lemmas.Int.{clamps}
 use Rattle.std.proofs.lemmas.Result.{err_from_is_err_and}
-use Rattle.legs.specs.Costs.{ShapeView}
+use Rattle.legs.specs.Costs.{leg_feature, ShapeView}
 use Rattle.tbtree.specs.Nodes.{pages_of_cache}
 use Rattle.tbtree.specs.Content.{Meets}
 use Rattle.tbtree.proofs.ContentLemmas.{content_grows, meets_none, meets_part}
 use Rattle.tbtree.proofs.FillCosts.{filled_start, filled_part}
-use Rattle.tbtree.proofs.LeafLemmas.{fills_none, fills_part, placed_last, placed_legs, placed_new}
+use Rattle.tbtree.proofs.LeafLemmas.{IsFull, fills_none, fills_part, own_of, placed_last, placed_legs, placed_new}
 use Rattle.tbtree.proofs.FillLemmas.{joins_none, length_part, part_in_last, part_joins, part_refused}
 use Rattle.tbtree.specs.Filling.{page_made, place_with, FillsLeaves, NamesLast}
 use Rattle.tbtree.specs.Joining.{in_last_leaf, HasAtEnd}
+use Rattle.tbtree.specs.Planting.{HasLacked, HasLackedRun, HasPlanted}
+use Rattle.tbtree.specs.Stands.{owner}
 use Rattle.pagecache.specs.Cache.{Cache}
 use Rattle.tbtree.specs.declared.tree.Place.{Place}
 use Rattle.tbtree.specs.declared.tree.TbTree.{TbTree}
@@ -22,10 +24,10 @@ use Rattle.tbtree.proofs.PassLemmas.{touches_none, touches_then}
 use Rattle.tbtree.proofs.RoomLemmas.{mod_at_next, mod_below_next}
 use Rattle.tbtree.proofs.Still.{still}
 use Rattle.tbtree.specs.Needs.{BlamesNext, IsFit, PutsSome}
-use Rattle.tbtree.proofs.FaultLemmas.{named_then}
+use Rattle.tbtree.proofs.FaultLemmas.{full_then, named_then}
 use Rattle.tbtree.proofs.NeedsLemmas.{next_part}
-use Rattle.tbtree.proofs.MovedLemmas.{moved_none, moved_put}
-use Rattle.tbtree.proofs.UpperPages.{hung_none, hung_then}
+use Rattle.tbtree.proofs.PlantedPages.{planted_first, planted_none, planted_one, planted_part}
+use Rattle.tbtree.proofs.RoomyPages.{lacked_part}
 use Rattle.tbtree.proofs.filling.put_all.Goals as goal
 
 pub leaves-init : goal.leaves-init
@@ -53,8 +55,7 @@ leaves-init g c =
           let none = fills_none tree.shape.leaf (pages_of_cache cache) tree.leaves c.args.place.now in
           ([], none, λ some. ap (λ (l : List LegView). length l % tree.shape.leaf) none.made ∙ zero-mod tree.shape.leaf);
       met = λ fa. meets_none (pages_of_cache cache) tree;
-      hung = λ fa. hung_none (pages_of_cache cache) (pages_of_cache cache) tree (λ p. refl) refl;
-      moved = λ fa. moved_none (pages_of_cache cache) tree c.args.place.now;
+      grown = λ fa. planted_none (owner leg_feature c.args.legs.now) (pages_of_cache cache) tree c.args.place.now;
       filled = filled_start tree.shape.leaf (length c.args.legs.now) cache tree c.args.place.now (omega (arith, least));
     }
 
@@ -94,6 +95,14 @@ leaves-preserved g c =
     (put.ends (still _ _ so_far.touches.passes.store.faithful fa)) in
     let stays_put : 0 < filled → c.put.new.place.last ≡ c.leaves.place.last = λ above. ap (λ (p : Place). p.last) put.place ∙ placed_last c.leaves.tree.shape.leaf c.leaves.tree.leaves now.count c.leaves.place (take (n + k - n) (drop n legs)) (omega (arith, same, above)) in
     let made_put : filled ≡ 0 → c.put.new.place.last ≡ now.count = λ z. ap (λ (p : Place). p.last) put.place ∙ placed_new c.leaves.tree.shape.leaf c.leaves.tree.leaves now.count c.leaves.place (take (n + k - n) (drop n legs)) (same ∙ z) in
+    let all_fills : IsTrue old.store.is_faithful → (pages : List ℕ) × FillsLeaves leaf (pages_of_cache old) (pages_of_cache new) c.args.tree.now.leaves c.put.new.tree.leaves c.args.place.now c.put.new.place (take (n + k) legs) pages × IsFull leaf c.args.place.now legs (n + k) = λ fa.
+    let now_faithful = still _ _ so_far.touches.passes.store.faithful fa in
+    let least = c.leaf-leaf.ensures.range.least_leaf in
+    fills_part leaf (pages_of_cache old) (pages_of_cache now) (pages_of_cache new) c.args.tree.now.leaves c.leaves.tree.leaves c.put.new.tree.leaves c.args.place.now c.leaves.place c.put.new.place legs n k
+    (omega (arith, least)) fits.some within (so_far.fills fa) (λ above. so_far.full above c.leaves-test.true) room full
+    (λ above. put.grows now_faithful (omega (arith, same, above))) (λ z. put.begins now_faithful (same ∙ z)) (put.ends now_faithful) (all_ends fa)
+    (subst (λ m. c.put.new.place ≡ place_with c.leaves.tree.leaves c.leaves.place (take (n + k - n) (drop n legs)) (page_made m now.count c.leaves.place)) is put.place)
+    (λ above. put.grown (omega (arith, same, above))) (λ z. put.begun (same ∙ z)) in
     record {
       within = within;
       joins = λ fa. part_joins (pages_of_cache old) (pages_of_cache now) (pages_of_cache new) c.args.tree.now c.leaves.tree c.put.new.tree c.args.place.now c.leaves.place c.put.new.place
@@ -132,18 +141,13 @@ leaves-preserved g c =
           (cases_lt 0 n);
       full = λ above left. ap (λ m. m % leaf) counted ∙ mod_at_next c.leaves.place.legs k leaf (full left);
       ends = λ fa above. all_ends fa;
-      fills = λ fa.
-          let now_faithful = still _ _ so_far.touches.passes.store.faithful fa in
-          let least = c.leaf-leaf.ensures.range.least_leaf in
-          fills_part leaf (pages_of_cache old) (pages_of_cache now) (pages_of_cache new) c.args.tree.now.leaves c.leaves.tree.leaves c.put.new.tree.leaves c.args.place.now c.leaves.place c.put.new.place legs n k
-          (omega (arith, least)) fits.some within (so_far.fills fa) (λ above. so_far.full above c.leaves-test.true) room full
-          (λ above. put.grows now_faithful (omega (arith, same, above))) (λ z. put.begins now_faithful (same ∙ z)) (put.ends now_faithful) (all_ends fa)
-          (subst (λ m. c.put.new.place ≡ place_with c.leaves.tree.leaves c.leaves.place (take (n + k - n) (drop n legs)) (page_made m now.count c.leaves.place)) is put.place)
-          (λ above. put.grown (omega (arith, same, above))) (λ z. put.begun (same ∙ z));
+      fills = λ fa. all_fills fa;
       met = λ fa. meets_part (pages_of_cache old) (pages_of_cache now) (pages_of_cache new) c.args.tree.now c.leaves.tree c.put.new.tree legs n k (so_far.met fa) (put.met (still _ _ so_far.touches.passes.store.faithful fa));
-      hung = λ fa. hung_then (pages_of_cache old) (pages_of_cache now) (pages_of_cache new) c.args.tree.now c.leaves.tree c.put.new.tree so_far.shape (so_far.hung fa) (put.hung (still _ _ so_far.touches.passes.store.faithful fa));
-      moved = λ fa. moved_put (pages_of_cache old) (pages_of_cache now) c.args.tree.now c.leaves.tree c.put.new.tree c.args.place.now c.leaves.place c.put.new.place c.leaves.tree.shape.leaf (take (n + k - n) (drop n legs))
-          (so_far.hung fa) (so_far.moved fa) put.place put.begun put.grown;
+      grown = λ fa.
+          let now_faithful = still _ _ so_far.touches.passes.store.faithful fa in
+          let part = take (n + k - n) (drop n legs) in
+          planted_part (pages_of_cache old) (pages_of_cache now) (pages_of_cache new) c.args.tree.now c.leaves.tree c.put.new.tree c.args.place.now c.leaves.place c.put.new.place legs n k fits.some within (all_fills fa).1.one so_far.shape (so_far.grown fa)
+          (planted_one (pages_of_cache now) (pages_of_cache new) c.leaves.tree c.put.new.tree c.leaves.place c.put.new.place part (put.run now_faithful) put.place);
       filled = filled_part leaf n k (length legs) old now new c.args.tree.now c.leaves.tree c.put.new.tree c.leaves.place c.put.new.place
           fits.some so_far.filled c.leaves-test.true put.higher counted
           room full
@@ -175,6 +179,13 @@ returns-clause-met g c = λ fa.
     let over = c.leaves-test.false in
     subst (λ l. Meets (pages_of_cache c.args.cache.now) (pages_of_cache c.leaves.cache) c.args.tree.now c.leaves.tree l) (take_all c.leaves.from legs (omega (arith, over)))
     (so_far.met fa)
+
+pub returns-clause-grown : goal.returns-clause-grown
+returns-clause-grown g c = λ fa.
+    let legs = c.args.legs.now in
+    let over = c.leaves-test.false in
+    subst (λ l. HasPlanted (owner leg_feature legs) (pages_of_cache c.args.cache.now) (pages_of_cache c.leaves.cache) c.args.tree.now c.leaves.tree c.args.place.now c.leaves.place l) (take_all c.leaves.from legs (omega (arith, over)))
+    (c.leaves.invariant.grown fa)
 
 pub returns-clause-fills : goal.returns-clause-fills
 returns-clause-fills g c = λ fa.
@@ -224,11 +235,32 @@ returns-in_err-put-clause-blames g c = λ fa.
       pages = fills.0;
       fills = fills.1;
       grows = content_grows (pages_of_cache old) nodes was tree (take n legs) (so_far.met fa);
-      hung = so_far.hung fa;
-      moved = so_far.moved fa;
+      grown = planted_first (pages_of_cache old) nodes was tree place_was place legs n (λ none. ((so_far.first none).0, ap (λ (x : Cache). pages_of_cache x) (so_far.first none).1, so_far.begun none)) (so_far.grown fa);
     } in
     let p = err_from_is_err_and c.from_residual.result c.from_residual.ensures.1 in
     rw (p.1, p.2) (named_then (λ page. IsFit nodes tree place (take (n + k - n) (drop n legs)) page → ⊥) (BlamesNext old c.put.new.cache was c.put.new.tree place_was c.put.new.place legs)
     (λ q h. subst (λ t. BlamesNext old c.put.new.cache was t place_was c.put.new.place legs q) (sym put.unmoved.0) (subst (λ r. BlamesNext old c.put.new.cache was tree place_was r legs q) (sym put.unmoved.1)
     (record { from = n; within = some; mid = mid; first = first; start = λ none. ((so_far.first none).1, subst (λ t. tree ≡ record t { spent = tree.spent }) (so_far.first none).0 refl, so_far.begun none); after = c.put.ensures.touches.passes; some = some_next; unfit = λ fit. h (subst (λ l. IsFit nodes tree place l q) (sym next) fit) }))) _
     (put.blames (still _ _ so_far.touches.passes.store.faithful fa)))
+
+pub returns-in_err-put-clause-lacks : goal.returns-in_err-put-clause-lacks
+returns-in_err-put-clause-lacks g c = λ fa one.
+    let legs = c.args.legs.now in
+    let old = pages_of_cache c.args.cache.now in
+    let mid = pages_of_cache c.leaves.cache in
+    let was = c.args.tree.now in
+    let place_was = c.args.place.now in
+    let tree = c.leaves.tree in
+    let place = c.leaves.place in
+    let n = c.leaves.from in
+    let k = c.fitting-many.result in
+    let most = c.put.new.cache.count in
+    let so_far = c.leaves.invariant in
+    let fits = c.fitting-many.ensures in
+    let is : c.leaf-leaf.result ≡ tree.shape.leaf = c.leaf-leaf.ensures.value ∙ sym (ap (λ (s : ShapeView). s.leaf) so_far.shape) in
+    let room : place.legs % tree.shape.leaf + k ≤ tree.shape.leaf = subst (λ m. place.legs % m + k ≤ m) is fits.room in
+    let within : n + k ≤ length legs = let many = fits.most in let some = c.leaves-test.true in omega (arith, many, some) in
+    let p = err_from_is_err_and c.from_residual.result c.from_residual.ensures.1 in
+    rw (p.1, p.2) (full_then (HasLackedRun mid tree place (take (n + k - n) (drop n legs)) most) (HasLacked (owner leg_feature legs) old was place_was most legs)
+    (λ h. lacked_part old mid was tree place_was place legs n k most fits.some within one so_far.shape room (so_far.grown fa) h) _
+    (c.in_err-put.ensures.full (still _ _ so_far.touches.passes.store.faithful fa)))

@@ -5,7 +5,9 @@ use Rattle.tbtree.specs.Filling.{FillsLeaves, NamesLast}
 use Rattle.tbtree.specs.Joining.{in_last_leaf, HasAtEnd, JoinsAll}
 use Rattle.tbtree.specs.Nodes.{pages_of_cache}
 use Rattle.tbtree.specs.Passes.{Touches}
-use Rattle.tbtree.specs.Upper.{HasHung, HasMoved}
+use Rattle.tbtree.specs.Planting.{HasPlanted}
+use Rattle.tbtree.specs.Stands.{owner}
+use Rattle.legs.specs.Costs.{leg_feature}
 use Rattle.tbtree.proofs.LeafLemmas.{IsFull}
 use Rattle.tbtree.proofs.FillCosts.{IsFilled}
 use Rattle.tbtree.proofs.filling.put_all.Given as goal
@@ -33,7 +35,6 @@ invariant-leaves g l = record {
   ends : IsTrue l.fn.cache.store.is_faithful → 0 < l.from → HasAtEnd (pages_of_cache l.cache) l.place.last (in_last_leaf l.fn.tree.shape.leaf l.place.legs (take l.from l.legs));
   fills : IsTrue l.fn.cache.store.is_faithful → (pages : List ℕ) × FillsLeaves l.fn.tree.shape.leaf (pages_of_cache l.fn.cache) (pages_of_cache l.cache) l.fn.tree.leaves l.tree.leaves l.fn.place l.place (take l.from l.legs) pages × IsFull l.fn.tree.shape.leaf l.fn.place l.legs l.from;
   met : IsTrue l.fn.cache.store.is_faithful → Meets (pages_of_cache l.fn.cache) (pages_of_cache l.cache) l.fn.tree l.tree (take l.from l.legs);
-  hung : IsTrue l.fn.cache.store.is_faithful → HasHung (pages_of_cache l.fn.cache) (pages_of_cache l.cache) l.fn.tree l.tree;
-  moved : IsTrue l.fn.cache.store.is_faithful → HasMoved (pages_of_cache l.fn.cache) l.fn.tree l.tree l.fn.place l.place;
+  grown : IsTrue l.fn.cache.store.is_faithful → HasPlanted (owner leg_feature l.legs) (pages_of_cache l.fn.cache) (pages_of_cache l.cache) l.fn.tree l.tree l.fn.place l.place (take l.from l.legs);
   filled : IsFilled l.fn.tree.shape.leaf l.from (length l.legs) l.fn.cache l.cache l.fn.tree l.tree l.place;
 }

@@ -1,5 +1,5 @@
 use Rattle.std.proofs.Common.{◌≡◌, ◌≢◌, ◌∙◌, ◌+◌, ◌/◌, ◌%◌, ◌<◌, arith, ap, refl, subst, suc, sym}
-use Rattle.std.specs.Prelude.{Ok, Err, IfOk}
+use Rattle.std.specs.Prelude.{Ok, Err, IfErr, IfOk}
 use Rattle.std.proofs.lemmas.Result.{err_from_is_err_and}
 use Rattle.legs.specs.Hull.{leg_boxes}
 use Rattle.legs.specs.Costs.{leg_feature}
@@ -14,9 +14,13 @@ use Rattle.tbtree.proofs.Still.{still}
 use Rattle.tbtree.proofs.ContentLemmas.{carries_on, on_carried}
 use Rattle.tbtree.proofs.KindLemmas.{inner_made}
 use Rattle.tbtree.specs.Needs.{entry_of, IsInnerOnWay, IsNoHook, StopsAbove}
-use Rattle.tbtree.proofs.FaultLemmas.{named_then}
+use Rattle.tbtree.proofs.FaultLemmas.{full_then, named_then}
 use Rattle.tbtree.proofs.NeedsLemmas.{begins_more, block_up, entry_up, inner_on_way, named_none, no_room_up, no_way_up, root_bare, upper_added}
-use Rattle.tbtree.proofs.UpperPages.{hung_attached, on_hung_above}
+use Rattle.legs.specs.Growing.{entry_to}
+use Rattle.tbtree.specs.Planting.{HasHungBlock, HasLackedBlock, HasWidened}
+use Rattle.tbtree.proofs.PlantedPages.{hung_attached, on_hung_above}
+use Rattle.tbtree.proofs.RoomyPages.{lacked_above, on_lacked_up}
+use Rattle.tbtree.specs.Faults.{IfFull}
 use Rattle.tbtree.proofs.insertion.+hang.Goals as goal
 
 pub returns-then-at-inner-eq0-clause-hangs : goal.returns-then-at-inner-eq0-clause-hangs
@@ -153,16 +157,58 @@ returns-in_err-attach-clause-blames g t c = λ fa number was block begins keeps.
 pub returns-then-at-inner-eq0-clause-hung : goal.returns-then-at-inner-eq0-clause-hung
 returns-then-at-inner-eq0-clause-hung g t c = λ fa some.
     let tree = c.args.tree.now in
+    let entry = c.args.child.now in
+    let mid = pages_of_cache c.add_inner.new.cache in
+    let new = pages_of_cache c.hang.new.cache in
+    let same : c.child.inside.bounds ≡ entry.bounds = ap (λ (e : EntryView BoxView). e.bounds) c.child.view_is in
     let is : c.from-inner.result ≡ tree.shape.inner = c.from-inner.ensures ∙ c.inner.ensures.value in
     let below : c.args.level + 1 < tree.levels = omega (arith, c.if-from-tree.false, c.from.ensures, c.requires.level) in
     let more = c.add_inner.ensures.touches.passes.count in
-    on_hung_above (pages_of_cache c.args.cache.now) (pages_of_cache c.add_inner.new.cache) (pages_of_cache c.hang.new.cache) c.from-inner.result c.args.level c.args.at c.args.child.now.child c.in_ok-page.page c.args.child.now.bounds tree c.hang.result
-    is some below c.if-at-inner-eq0.true (c.in_ok-page.ensures.adds fa) (c.hang.ensures.hung (still _ _ c.add_inner.ensures.touches.passes.store.faithful fa) (omega (arith, some, more)))
+    on_hung_above (pages_of_cache c.args.cache.now) mid new c.from-inner.result c.args.level c.args.at c.in_ok-page.page entry tree c.hang.result
+    is some below c.if-at-inner-eq0.true (c.in_ok-page.ensures.adds fa)
+    (subst (λ b. IfOk c.hang.result (HasHungBlock mid new tree (c.args.level + 1) (c.args.at / c.from-inner.result) (entry_to c.in_ok-page.page b))) same
+    (c.hang.ensures.hung (still _ _ c.add_inner.ensures.touches.passes.store.faithful fa) (omega (arith, some, more))))
 
 pub returns-clause-hung : goal.returns-clause-hung
 returns-clause-hung g t c = λ fa some.
     let tree = c.args.tree.now in
+    let entry = c.args.child.now in
+    let old = pages_of_cache c.args.cache.now in
+    let mid = pages_of_cache c.way.new.cache in
+    let same : c.child.inside.bounds ≡ entry.bounds = ap (λ (e : EntryView BoxView). e.bounds) c.child.view_is in
     let is : c.from-inner.result ≡ tree.shape.inner = c.from-inner.ensures ∙ c.inner.ensures.value in
     let below : c.args.level + 1 < tree.levels = omega (arith, c.if-from-tree.false, c.from.ensures, c.requires.level) in
-    hung_attached (pages_of_cache c.args.cache.now) (pages_of_cache c.way.new.cache) (pages_of_cache c.attach.new.cache) c.from-inner.result c.args.level c.args.at c.args.child.now.child c.in_ok-parent.parent c.args.child.now.bounds c.child.inside.bounds tree
-    is below c.if-at-inner-eq0.false c.in_ok-attach.ensures.above (c.in_ok-parent.ensures.block fa) (c.in_ok-parent.ensures.found fa) (c.in_ok-attach.ensures.attaches (still _ _ c.way.ensures.touches.passes.store.faithful fa))
+    hung_attached old mid (pages_of_cache c.attach.new.cache) c.from-inner.result c.args.level c.args.at c.in_ok-parent.parent entry tree
+    is below c.if-at-inner-eq0.false c.in_ok-attach.ensures.above (c.in_ok-parent.ensures.block fa)
+    (subst (λ b. HasWidened old mid tree (c.args.level + 1) (c.args.at / c.from-inner.result) b) same (c.in_ok-parent.ensures.widened fa)) (c.in_ok-attach.ensures.attaches (still _ _ c.way.ensures.touches.passes.store.faithful fa))
+
+pub returns-then-from-tree-clause-full : goal.returns-then-from-tree-clause-full
+returns-then-from-tree-clause-full g t c = λ fa some. c.root_over.ensures.full fa c.args.at
+
+pub returns-in_err-page-clause-full : goal.returns-in_err-page-clause-full
+returns-in_err-page-clause-full g t c = λ fa some.
+    let tree = c.args.tree.now in
+    let old = pages_of_cache c.args.cache.now in
+    let entry = c.args.child.now in
+    let most = c.add_inner.new.cache.count in
+    let is : c.from-inner.result ≡ tree.shape.inner = c.from-inner.ensures ∙ c.inner.ensures.value in
+    let below : c.args.level + 1 < tree.levels = omega (arith, c.if-from-tree.false, c.from.ensures, c.requires.level) in
+    let p = err_from_is_err_and c.from_residual.result c.from_residual.ensures.1 in
+    rw (p.1, p.2) (full_then (most ≡ c.args.cache.now.count) (HasLackedBlock old tree c.args.level c.args.at entry most)
+    (λ same. lacked_above old c.args.level c.args.at c.from-inner.result most entry tree is below c.if-at-inner-eq0.true same) _
+    c.in_err-page.ensures.full)
+
+pub returns-then-at-inner-eq0-clause-full : goal.returns-then-at-inner-eq0-clause-full
+returns-then-at-inner-eq0-clause-full g t c = λ fa some.
+    let tree = c.args.tree.now in
+    let entry = c.args.child.now in
+    let mid = pages_of_cache c.add_inner.new.cache in
+    let most = c.hang.new.cache.count in
+    let same : c.child.inside.bounds ≡ entry.bounds = ap (λ (e : EntryView BoxView). e.bounds) c.child.view_is in
+    let is : c.from-inner.result ≡ tree.shape.inner = c.from-inner.ensures ∙ c.inner.ensures.value in
+    let below : c.args.level + 1 < tree.levels = omega (arith, c.if-from-tree.false, c.from.ensures, c.requires.level) in
+    let more = c.add_inner.ensures.touches.passes.count in
+    on_lacked_up (pages_of_cache c.args.cache.now) mid c.from-inner.result c.args.level c.args.at c.in_ok-page.page most entry tree c.hang.result
+    is some below c.if-at-inner-eq0.true (c.in_ok-page.ensures.adds fa)
+    (subst (λ b. IfErr c.hang.result (IfFull (HasLackedBlock mid tree (c.args.level + 1) (c.args.at / c.from-inner.result) (entry_to c.in_ok-page.page b) most))) same
+    (c.hang.ensures.full (still _ _ c.add_inner.ensures.touches.passes.store.faithful fa) (omega (arith, some, more))))

@@ -11,7 +11,7 @@ use Rattle.tbtree.proofs.ContentLemmas.{found_top, on_found}
 use Rattle.tbtree.specs.Needs.{StopsAbove}
 use Rattle.tbtree.proofs.FaultLemmas.{named_then}
 use Rattle.tbtree.proofs.NeedsLemmas.{block_up, entry_up, reached, reached_top, stopped, stops_up}
-use Rattle.tbtree.proofs.UpperPages.{block_top, on_block}
+use Rattle.tbtree.proofs.PlantedPages.{block_top, on_block, on_widened, widened_top}
 use Rattle.tbtree.proofs.insertion.+way.Goals as goal
 
 pub returns-then-from-tree-clause-way : goal.returns-then-from-tree-clause-way
@@ -109,3 +109,16 @@ returns-clause-block g t c = λ fa.
     let below : c.args.level + 1 < tree.levels = omega (arith, c.if-from-tree.false, c.from.ensures, c.requires.level) in
     on_block (pages_of_cache c.args.cache.now) (pages_of_cache c.way.new.cache) (pages_of_cache c.widen.new.cache) by c.args.level c.args.at c.in_ok-parent.parent tree c.args.bounds.now c.widen.result
     is c.widen.ensures.above below (c.in_ok-parent.ensures.block fa) (c.in_ok-parent.ensures.found fa) (c.widen.ensures.widens (still _ _ c.way.ensures.touches.passes.store.faithful fa))
+
+pub returns-then-from-tree-clause-widened : goal.returns-then-from-tree-clause-widened
+returns-then-from-tree-clause-widened g t c = λ fa.
+    widened_top (pages_of_cache c.args.cache.now) c.args.level c.args.at c.args.tree.now c.args.bounds.now (omega (arith, c.if-from-tree.true, c.from.ensures))
+
+pub returns-clause-widened : goal.returns-clause-widened
+returns-clause-widened g t c = λ fa.
+    let tree = c.args.tree.now in
+    let by = c.from-inner.result in
+    let is : by ≡ tree.shape.inner = c.from-inner.ensures ∙ c.inner.ensures.value in
+    let below : c.args.level + 1 < tree.levels = omega (arith, c.if-from-tree.false, c.from.ensures, c.requires.level) in
+    on_widened (pages_of_cache c.args.cache.now) (pages_of_cache c.way.new.cache) (pages_of_cache c.widen.new.cache) by c.args.level c.args.at c.in_ok-parent.parent tree c.args.bounds.now c.widen.result
+    is c.widen.ensures.above below (c.in_ok-parent.ensures.block fa) (c.in_ok-parent.ensures.widened fa) (c.widen.ensures.widens (still _ _ c.way.ensures.touches.passes.store.faithful fa))

@@ -10,9 +10,12 @@ use Rattle.tbtree.proofs.InsertLemmas.{inserts_begun, hang_not, add_not}
 use Rattle.tbtree.proofs.Still.{still}
 use Rattle.tbtree.proofs.ContentLemmas.{meets_begun}
 use Rattle.tbtree.specs.Needs.{IsFit, IsNoEnd, IsNoHook}
-use Rattle.tbtree.proofs.FaultLemmas.{named_then}
+use Rattle.tbtree.proofs.FaultLemmas.{full_then, named_then}
 use Rattle.tbtree.proofs.NeedsLemmas.{unfit_end, unfit_hook, upper_begun}
-use Rattle.tbtree.proofs.UpperPages.{hung_one, leaf_made}
+use Rattle.tbtree.proofs.PlantedPages.{is_run_begun, run_begun}
+use Rattle.legs.specs.Growing.{entry_to}
+use Rattle.tbtree.specs.Planting.{HasLackedLeaf, HasLackedRun}
+use Rattle.tbtree.proofs.RoomyPages.{lacked_begun, lacked_new}
 use Rattle.tbtree.proofs.insertion.begin.Goals as goal
 use Rattle.tbtree.proofs.insertion.begin.Goals.{then-place-eq0, else-place-eq0}
 
@@ -85,10 +88,38 @@ returns-in_err-top-clause-blames g c = λ fa.
     rw (p.1, p.2) (named_then (IsNoHook old tree tree.leaves) (λ page. IsFit old tree place legs page → ⊥) (λ q h fit. unfit_hook old tree place legs q c.requires.full h fit) _
     (c.in_err-top.ensures.blames (still _ _ c.add_last.ensures.touches.passes.store.faithful fa) old keeps))
 
-pub returns-clause-hung : goal.returns-clause-hung
-returns-clause-hung g c = λ fa.
-    let old = pages_of_cache c.args.cache.now in
+pub returns-clause-run : goal.returns-clause-run
+returns-clause-run g c = λ fa.
+    let root = c.requires.root in
+    let more = c.add_last.ensures.touches.passes.count in
+    let run = is_run_begun (pages_of_cache c.args.cache.now) (pages_of_cache c.add_last.new.cache) c.args.tree.now c.args.place.now c.args.legs.now c.in_ok-page.page c.requires.some c.requires.full c.requires.room (c.in_ok-page.ensures.leaf fa) in
+    run_begun (pages_of_cache c.args.cache.now) (pages_of_cache c.add_last.new.cache) (pages_of_cache c.hang_leaf.new.cache) c.args.tree.now c.in_ok-top.top c.args.place.now c.args.legs.now c.in_ok-page.page c.cover_of_legs-bounds.result
+    (omega (arith, root)) c.requires.full c.cover_of_legs-bounds.ensures c.in_ok-page.ensures.number (c.in_ok-page.ensures.begins fa)
+    (c.in_ok-top.ensures.hung (still _ _ c.add_last.ensures.touches.passes.store.faithful fa) (omega (arith, root, more))) run
+
+pub returns-in_err-page-clause-full : goal.returns-in_err-page-clause-full
+returns-in_err-page-clause-full g c = λ fa.
     let tree = c.args.tree.now in
-    hung_one old (pages_of_cache c.hang_leaf.new.cache) tree _ c.in_ok-top.top refl refl refl
-    (c.in_ok-top.ensures.hung (still _ _ c.add_last.ensures.touches.passes.store.faithful fa) old
-    (leaf_made old (pages_of_cache c.add_last.new.cache) c.in_ok-page.page tree (c.in_ok-page.ensures.kids fa) c.in_ok-page.ensures.none (c.in_ok-page.ensures.counted fa) c.in_ok-page.ensures.number))
+    let place = c.args.place.now in
+    let legs = c.args.legs.now in
+    let old = pages_of_cache c.args.cache.now in
+    let most = c.add_last.new.cache.count in
+    let p = err_from_is_err_and c.from_residual.result c.from_residual.ensures.1 in
+    rw (p.1, p.2) (full_then (most ≡ c.args.cache.now.count) (HasLackedRun old tree place legs most) (λ same. lacked_new old tree place legs most c.requires.full same) _ c.in_err-page.ensures.full)
+
+pub returns-in_err-top-clause-full : goal.returns-in_err-top-clause-full
+returns-in_err-top-clause-full g c = λ fa.
+    let tree = c.args.tree.now in
+    let place = c.args.place.now in
+    let legs = c.args.legs.now in
+    let old = pages_of_cache c.args.cache.now in
+    let mid = pages_of_cache c.add_last.new.cache in
+    let page = c.in_ok-page.page in
+    let box = c.cover_of_legs-bounds.result in
+    let most = c.hang_leaf.new.cache.count in
+    let root = c.requires.root in
+    let more = c.add_last.ensures.touches.passes.count in
+    let p = err_from_is_err_and c.from_residual-in_err-top.result c.from_residual-in_err-top.ensures.1 in
+    rw (p.1, p.2) (full_then (HasLackedLeaf mid tree (entry_to page box) most) (HasLackedRun old tree place legs most)
+    (λ h. lacked_begun old mid tree place legs page most box (omega (arith, root)) c.requires.full c.cover_of_legs-bounds.ensures c.in_ok-page.ensures.number (c.in_ok-page.ensures.begins fa) h) _
+    (c.in_err-top.ensures.full (still _ _ c.add_last.ensures.touches.passes.store.faithful fa) (omega (arith, root, more))))

@@ -8,8 +8,8 @@ use Rattle.tbtree.specs.Content.{Carries}
 use Rattle.tbtree.specs.Way.{Hangs}
 use Rattle.tbtree.proofs.InsertLemmas.{first_hung}
 use Rattle.tbtree.proofs.ContentLemmas.{carries_first}
-use Rattle.tbtree.specs.Upper.{HasHungLeaf}
-use Rattle.tbtree.proofs.UpperPages.{leaf_first, on_leaf_hung, some_made}
+use Rattle.tbtree.specs.Planting.{HasHungLeaf}
+use Rattle.tbtree.proofs.PlantedPages.{leaf_first, on_leaf_hung}
 use Rattle.tbtree.proofs.insertion.hang_leaf.Goals as goal
 
 pub returns-then-tree-eq0-clause-hangs : goal.returns-then-tree-eq0-clause-hangs
@@ -33,17 +33,14 @@ pub returns-clause-blames : goal.returns-clause-blames
 returns-clause-blames g c = λ fa was keeps. c.hang.ensures.blames fa c.args.tree.now.leaves was refl (λ k below. absurd (omega (arith, below))) keeps
 
 pub returns-then-tree-eq0-clause-hung : goal.returns-then-tree-eq0-clause-hung
-returns-then-tree-eq0-clause-hung g c = λ fa was made.
+returns-then-tree-eq0-clause-hung g c = λ fa first.
     let tree = c.args.tree.now in
     let pages = pages_of_cache c.args.cache.now in
     let page = c.args.page.now in
     let same : page.child ≡ c.page.inside.child = ap (λ (e : EntryView BoxView). e.child) (sym c.page.view_is) in
-    subst (λ n. HasHungLeaf was pages tree (record { root = n; levels = 1 })) same (leaf_first was pages page.child tree c.if-tree-eq0.true made)
+    subst (λ n. HasHungLeaf pages pages tree page (record { root = n; levels = 1 })) same (leaf_first pages page tree c.if-tree-eq0.true)
 
 pub returns-clause-hung : goal.returns-clause-hung
-returns-clause-hung g c = λ fa was made.
-    let tree = c.args.tree.now in
-    let old = pages_of_cache c.args.cache.now in
-    let page = c.args.page.now.child in
+returns-clause-hung g c = λ fa first.
     let some = c.if-tree-eq0.false in
-    on_leaf_hung was old (pages_of_cache c.hang.new.cache) page tree c.hang.result (omega (arith, some)) made (c.hang.ensures.hung fa (some_made was old page tree made))
+    on_leaf_hung (pages_of_cache c.args.cache.now) (pages_of_cache c.hang.new.cache) c.args.page.now c.args.tree.now c.hang.result (omega (arith, some)) (c.hang.ensures.hung fa first)

@@ -1,4 +1,4 @@
-use Rattle.std.proofs.Common.{true, false, [], ◌∷◌, ◌<◌, refl, arith}
+use Rattle.std.proofs.Common.{true, false, [], ◌∷◌, ◌<◌, arith}
 use Rattle.std.proofs.lemmas.Nat.{mod_below}
 use Rattle.std.specs.Prelude.{Ok, Err}
 use Rattle.std.proofs.lemmas.Result.{err_from_is_err_and}
@@ -7,10 +7,11 @@ use Rattle.tbtree.proofs.InsertLemmas.{inserts_joined, inserts_spent, joins_one}
 use Rattle.tbtree.proofs.ContentLemmas.{grows_spent}
 use Rattle.tbtree.proofs.LeafLemmas.{fills_one}
 use Rattle.tbtree.specs.Needs.{IsFit}
-use Rattle.tbtree.proofs.FaultLemmas.{named_then}
+use Rattle.tbtree.proofs.FaultLemmas.{full_then, named_then}
 use Rattle.tbtree.proofs.NeedsLemmas.{fit_spent}
-use Rattle.tbtree.proofs.MovedLemmas.{moved_none, moved_put, moved_spent}
-use Rattle.tbtree.proofs.UpperPages.{hung_none, hung_spent}
+use Rattle.tbtree.proofs.PlantedPages.{planted_one}
+use Rattle.tbtree.specs.Planting.{HasLacked, HasLackedRun}
+use Rattle.tbtree.proofs.RoomyPages.{lacked_one}
 use Rattle.tbtree.proofs.insertion.insert.Goals as goal
 
 pub returns-clause-joins : goal.returns-clause-joins
@@ -57,16 +58,21 @@ returns-in_err-put-clause-blames g c = λ _ fa.
     rw (p.1, p.2) (named_then (λ page. IsFit old (record tree { spent = true }) place legs page → ⊥) (λ page. IsFit old tree place legs page → ⊥) (λ q h fit. h (fit_spent old tree tree.spent true place legs q fit)) _
     (c.in_err-put.ensures.blames fa))
 
-pub returns-clause-hung : goal.returns-clause-hung
-returns-clause-hung g c = λ fa.
-    hung_spent (pages_of_cache c.args.cache.now) (pages_of_cache c.put.new.cache) c.args.tree.now c.put.new.tree true false (c.in_ok-put.ensures.hung fa)
+pub returns-clause-grown : goal.returns-clause-grown
+returns-clause-grown g c = λ fa.
+    let put = c.in_ok-put.ensures in
+    let r = put.run fa in
+    planted_one (pages_of_cache c.args.cache.now) (pages_of_cache c.put.new.cache) c.args.tree.now c.put.new.tree c.args.place.now c.put.new.place (c.args.leg ∷ []) (record { run = r.run; is = r.is }) put.place
 
-pub returns-clause-moved : goal.returns-clause-moved
-returns-clause-moved g c = λ fa.
-    let old = pages_of_cache c.args.cache.now in
+pub returns-in_err-put-clause-lacks : goal.returns-in_err-put-clause-lacks
+returns-in_err-put-clause-lacks g c = λ _ fa.
     let tree = c.args.tree.now in
     let place = c.args.place.now in
-    let put = c.in_ok-put.ensures in
-    moved_spent old tree c.put.new.tree tree.spent false place c.put.new.place
-    (moved_put old old tree tree c.put.new.tree place place c.put.new.place tree.shape.leaf (c.args.leg ∷ [])
-    (hung_none old old tree (λ p. refl) refl) (moved_none old tree place) put.place put.begun put.grown)
+    let old = pages_of_cache c.args.cache.now in
+    let most = c.put.new.cache.count in
+    let leaf = tree.shape.leaf in
+    let least = c.put.ensures.range.least_leaf in
+    let room = mod_below place.legs leaf (omega (arith, least)) in
+    let p = err_from_is_err_and c.from_residual.result c.from_residual.ensures.1 in
+    rw (p.1, p.2) (full_then (HasLackedRun old tree place (c.args.leg ∷ []) most) (HasLacked c.args.leg.feature old tree place most (c.args.leg ∷ [])) (λ h. lacked_one old tree place c.args.leg most room h) _
+    (c.in_err-put.ensures.full fa))

@@ -6,6 +6,7 @@ use Rattle.tbtree.proofs.InsertLemmas.{inserts_last}
 use Rattle.tbtree.specs.Needs.{CanGrow, GoesOn, IsFit}
 use Rattle.tbtree.proofs.FaultLemmas.{named_then}
 use Rattle.tbtree.proofs.NeedsLemmas.{unfit_leaf}
+use Rattle.tbtree.proofs.PlantedPages.{is_run_grown, run_grown}
 use Rattle.tbtree.proofs.insertion.into_last.Goals as goal
 
 pub returns-clause-inserts : goal.returns-clause-inserts
@@ -26,3 +27,14 @@ returns-in_err-into_leaf-clause-blames g c = λ fa.
     let p = err_from_is_err_and c.from_residual.result c.from_residual.ensures.1 in
     rw (p.1, p.2) (named_then (λ page. GoesOn old tree place.last_index page → (page ≡ place.last → CanGrow old tree place.last_index legs page) → ⊥) (λ page. IsFit old tree place legs page → ⊥) (λ q h fit. unfit_leaf old tree place legs q c.requires.there h fit) _
     (c.in_err-into_leaf.ensures.blames fa))
+
+pub returns-clause-run : goal.returns-clause-run
+returns-clause-run g c = λ fa.
+    let old = pages_of_cache c.args.cache.now in
+    let new = pages_of_cache c.into_leaf.new.cache in
+    let tree = c.args.tree.now in
+    let place = c.args.place.now in
+    let legs = c.args.legs.now in
+    let grown = c.in_ok-into_leaf.ensures.grown fa in
+    run_grown old new tree place legs c.requires.there grown
+    (is_run_grown old new tree place legs c.requires.levels c.requires.some c.requires.there c.requires.room (c.in_ok-into_leaf.ensures.leaf fa) grown.found)

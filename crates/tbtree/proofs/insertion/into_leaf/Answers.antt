@@ -19,7 +19,7 @@ use Rattle.tbtree.proofs.ContentLemmas.{on_grown}
 use Rattle.tbtree.specs.Needs.{CanGrow, GoesOn, StopsAbove}
 use Rattle.tbtree.proofs.FaultLemmas.{named_then}
 use Rattle.tbtree.proofs.NeedsLemmas.{no_room, no_way}
-use Rattle.tbtree.proofs.UpperPages.{on_hung_none}
+use Rattle.tbtree.proofs.PlantedPages.{on_grown_leaf}
 use Rattle.tbtree.proofs.insertion.into_leaf.Goals as goal
 
 pub returns-clause-ends : goal.returns-clause-ends
@@ -99,7 +99,8 @@ returns-clause-blames g c = λ fa.
     no_room c.args.tree.now c.args.number (pages_of_cache c.args.cache.now) (pages_of_cache c.way.new.cache) c.in_ok-page.page c.args.last c.leaf-most.result c.args.legs.now c.grow.result c.if-page-last.false c.leaf-most.ensures.value
     (c.in_ok-page.ensures.leaves fa) (c.grow.ensures.blames (still _ _ c.way.ensures.touches.passes.store.faithful fa))
 
-pub returns-clause-hung : goal.returns-clause-hung
-returns-clause-hung g c = λ fa.
-    on_hung_none (pages_of_cache c.args.cache.now) (pages_of_cache c.way.new.cache) (pages_of_cache c.grow.new.cache) c.in_ok-page.page c.args.tree.now c.cover_of_legs-bounds.result c.args.legs.now c.grow.result
-    (c.in_ok-page.ensures.found fa) (c.grow.ensures.pushes (still _ _ c.way.ensures.touches.passes.store.faithful fa))
+pub returns-clause-grown : goal.returns-clause-grown
+returns-clause-grown g c = λ fa.
+    let faithful = still _ _ c.way.ensures.touches.passes.store.faithful fa in
+    on_grown_leaf (pages_of_cache c.args.cache.now) (pages_of_cache c.way.new.cache) (pages_of_cache c.grow.new.cache) c.args.number c.in_ok-page.page c.args.last c.leaf-most.result c.args.tree.now c.cover_of_legs-bounds.result c.args.legs.now c.grow.result
+    c.if-page-last.false c.requires.levels c.cover_of_legs-bounds.ensures (c.in_ok-page.ensures.block fa) (c.in_ok-page.ensures.widened fa) (c.grow.ensures.takes faithful) (c.grow.ensures.pushes faithful)

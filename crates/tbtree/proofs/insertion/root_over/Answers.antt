@@ -1,4 +1,3 @@
-use Rattle.std.proofs.Common.{◌+◌}
 use Rattle.std.proofs.lemmas.Result.{err_from_is_err_and}
 use Rattle.legs.specs.Hull.{leg_boxes}
 use Rattle.legs.specs.Costs.{leg_feature}
@@ -7,7 +6,7 @@ use Rattle.tbtree.proofs.LawfulBoxes.{lawful}
 use Rattle.tbtree.proofs.Hanging.{hang_rooted, cover_refused}
 use Rattle.tbtree.proofs.Still.{still}
 use Rattle.tbtree.proofs.ContentLemmas.{carries_rooted}
-use Rattle.tbtree.proofs.UpperPages.{hung_rooted}
+use Rattle.tbtree.proofs.PlantedPages.{hung_rooted}
 use Rattle.tbtree.proofs.insertion.root_over.Goals as goal
 
 pub returns-clause-hangs : goal.returns-clause-hangs
@@ -33,5 +32,5 @@ returns-clause-carries g c = λ fa low end on.
 
 pub returns-clause-hung : goal.returns-clause-hung
 returns-clause-hung g c = λ fa some at.
-    hung_rooted (pages_of_cache c.args.cache.now) (pages_of_cache c.cover.new.cache) (pages_of_cache c.add_root.new.cache) c.args.child.now.child c.in_ok-root.root c.args.level (c.args.level + 1) at c.in_ok-bounds.bounds c.args.child.now.bounds c.in_ok-bounds.bounds c.args.tree.now
-    c.requires.top some (c.in_ok-bounds.ensures.covers fa) (c.in_ok-root.ensures.adds (still _ _ c.cover.ensures.touches.passes.store.faithful fa))
+    hung_rooted (pages_of_cache c.args.cache.now) (pages_of_cache c.cover.new.cache) (pages_of_cache c.add_root.new.cache) c.args.tree.now c.in_ok-root.root c.args.level c.args.child.now c.in_ok-bounds.bounds
+    c.requires.top some c.in_ok-bounds.ensures.above (c.in_ok-bounds.ensures.covers fa) (c.in_ok-root.ensures.adds (still _ _ c.cover.ensures.touches.passes.store.faithful fa)) at

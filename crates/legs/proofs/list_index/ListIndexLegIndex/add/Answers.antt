@@ -1,4 +1,4 @@
-use Rattle.std.proofs.Common.{ℕ, ◌≡◌, ◌<◌, ◌∙◌, ◌∷◌, [], inr, false, refl, sym, ap, arith, subst, length, Global, Vec}
+use Rattle.std.proofs.Common.{ℕ, ◌≡◌, ◌<◌, ◌∙◌, ◌∷◌, [], inr, false, refl, sym, ap, arith, subst, Global, Vec}
 use Rattle.std.proofs.lemmas.Bool.{true≢false}
 use Rattle.std.proofs.lemmas.List.{length-map}
 use Rattle.std.proofs.lemmas.List.Elements.{All-push}
@@ -34,6 +34,7 @@ returns-then-leg-len-clause-refusals c =
       sound = λ s w. (let low = w.0.feature in omega (arith, low, above));
       store = λ e. absurd cc;
       full = λ e. absurd cc;
+      lacks = λ e. absurd cc;
       skips = λ e. inr (λ none. (let low = none.0 in omega (arith, low, above)));
       blames = λ page e. absurd cc;
     }

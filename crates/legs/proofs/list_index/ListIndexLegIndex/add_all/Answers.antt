@@ -18,7 +18,7 @@ returns-in_err-add-clause-refusals c =
     let so_far : IsGrowing list_words old now legs (leg ∷ drop (k + 1) legs) = subst (λ left. IsGrowing list_words old now legs left) next c.loop-leg.invariant.growing in
     let p = err_from_is_err_and c.from_residual.result c.from_residual.ensures.1 in
     let are : take k legs ++ leg ∷ drop (k + 1) legs ≡ legs = ap (λ l. take k legs ++ l) (sym next) ∙ take-append-drop k legs in
-    rw (p.1, p.2) (growing-refused list_words old now c.add.new.self legs (take k legs) (drop (k + 1) legs) leg c.in_err-add.field-0.0 (λ e. true≢false (sym e ∙ sym c.spent.ensures ∙ c.if-spent.false)) (λ e. true≢false (sym e ∙ c.loop-leg.invariant.takes.works)) c.loop-leg.invariant.takes.features are c.loop-leg.invariant.later.faults so_far (λ page e. absurd (c.in_err-add.ensures.refusals.blames page e).unfit) c.in_err-add.ensures.refusals)
+    rw (p.1, p.2) (growing-refused list_words old now c.add.new.self legs (take k legs) (drop (k + 1) legs) leg c.in_err-add.field-0.0 (λ e. true≢false (sym e ∙ sym c.spent.ensures ∙ c.if-spent.false)) (λ e. true≢false (sym e ∙ c.loop-leg.invariant.takes.works)) c.loop-leg.invariant.takes.features are c.loop-leg.invariant.later.faults so_far (λ page e. absurd (c.in_err-add.ensures.refusals.blames page e).unfit) (λ e f. absurd f) c.in_err-add.ensures.refusals)
 
 pub loop-leg-preserved : goal.loop-leg-preserved
 loop-leg-preserved c =
