@@ -7,7 +7,7 @@ use Rattle.std.proofs.lemmas.Int.{clamps}
 use Rattle.std.proofs.lemmas.List.{length_push, length-set}
 use Rattle.std.proofs.lemmas.List.Elements.{All-cons, All-nil}
 use Rattle.std.proofs.lemmas.Nat.{mul-le}
-use Rattle.legs.specs.Asking.{placed_legs, Ends, LegRefusals}
+use Rattle.legs.specs.Asking.{placed_legs, Ends, LacksPages, LegRefusals}
 use Rattle.legs.specs.Boxes.{BoxView}
 use Rattle.legs.specs.Costs.{RisesAtMost, add_bound, height, leaves_of}
 use Rattle.legs.specs.Index.{CanFollow, CanFollowInTurn, MayRefuseLeg, feature_count, legs_of}
@@ -138,8 +138,8 @@ module _ (laws : Laws) (old new : IndexView) (leg : LegView) where
   allowed (Ok tt) p = tt
   allowed (Err x) p = λ s w. gives (Err x) p s w.0
 
-  pub refusals : (r : Result (Unit {0}) TreeFault) → old.tree.spent ≡ false → Puts (made old leg.feature) new leg r → LegRefusals words old new (leg ∷ []) (answered (λ fault. of_tree fault) r)
-  refusals r works p =
+  pub refusals : (r : Result (Unit {0}) TreeFault) → old.tree.spent ≡ false → Puts (made old leg.feature) new leg r → (IsErrOf (answered (λ fault. of_tree fault) r) index.StoreFull → LacksPages words old new (leg ∷ [])) → LegRefusals words old new (leg ∷ []) (answered (λ fault. of_tree fault) r)
+  refusals r works p lacks =
       let say : TreeFault → IndexFault = λ fault. of_tree fault in
       let said = each_fault say (RefusesWrite old.cache new.cache) (SaidOfLeg old.cache new.cache) (write_said old.cache new.cache) r p.caused in
       let Same : Type 0 = (new.tree ≡ record old.tree { spent = true }) × (p.is ≡ p.was) in
@@ -149,6 +149,7 @@ module _ (laws : Laws) (old new : IndexView) (leg : LegView) where
         sound = each_fault say (λ fault. IsSound old → CanFollowInTurn (content old) (leg ∷ []) → MayRefuseWrite fault) (λ fault. IsSound old → CanFollowInTurn (content old) (leg ∷ []) → MayRefuseLeg fault) (λ x h s w. write_allowed x (h s w)) r (allowed r p);
         store = λ e. the_fault (answered say r) (SaidOfLeg old.cache new.cache) index.Store e said;
         full = λ e. the_fault (answered say r) (SaidOfLeg old.cache new.cache) index.StoreFull e said;
+        lacks = lacks;
         skips = λ e. absurd (the_fault (answered say r) (SaidOfLeg old.cache new.cache) index.Spent e said);
         blames = λ page e. record {
           first = [];

@@ -2,13 +2,14 @@
 use Rattle.std.proofs.Common.{ℕ, ◌≡◌, ◌≤◌, ◌+◌, ◌-◌, ◌*◌, ◌∙◌, ◌++◌, [], arith, length, false, List, All, ap, sym, subst, Result, Ok, Err, OnOk}
 use Rattle.std.specs.Prelude.{IfErr}
 use Rattle.std.proofs.lemmas.Bool.{true≢false}
-use Rattle.legs.specs.Asking.{AddAllAsks, Grows, LegRefusals}
+use Rattle.legs.specs.Asking.{planted, AddAllAsks, Grows, LegRefusals}
 use Rattle.legs.specs.Blocks.{runs_after}
 use Rattle.legs.specs.Boxes.{BoxView}
 use Rattle.legs.specs.Costs.{add_all_bound, features_among, height, leaves_made, leaves_of, leg_feature}
 use Rattle.legs.specs.Index.{CanFollowInTurn, MayRefuseLeg, feature_count, legs_of}
 use Rattle.legs.specs.Legs.{IsLeg, LegView}
 use Rattle.legs.specs.declared.index.IndexFault.{IndexFault}
+use Rattle.legs.proofs.GrowingLemmas.{lacks_alike}
 use Rattle.tbtree.specs.Insert.{IsPlace, Stands}
 use Rattle.tbtree.specs.Joining.{CanTakeInTurn, Holds, IsReordered, leaf_by_leaf}
 use Rattle.tbtree.specs.Nodes.{Pages, pages_of_cache}
@@ -104,6 +105,7 @@ module _ (laws : Laws) (orders : AllLaws) (old new : IndexView) (legs : List Leg
     sound = refused r k.refused;
     store = k.store;
     full = k.full;
+    lacks = λ e fa shape is. lacks_alike shape (planted words old) new.cache.count (taken legs turns) legs same (k.lacks e fa shape is);
     skips = λ e. absurd (k.works_on e);
     blames = λ page e. (let n = k.blames page e in record {
       first = n.first;

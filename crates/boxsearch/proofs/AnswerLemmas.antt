@@ -7,7 +7,7 @@ use Rattle.legs.specs.declared.index.IndexFault.TheVariants as index
 use Rattle.pagecache.specs.Cache.{Cache}
 use Rattle.pagecache.specs.declared.fault.CacheFault.{CacheFault}
 use Rattle.pagecache.specs.declared.fault.CacheFault.TheVariants as cache
-use Rattle.tbtree.specs.Faults.{IfNamed, MayRefuseRead, MayRefuseReadInCache, MayRefuseWrite, MayRefuseWriteInCache, RefusesRead, RefusesReadInCache, RefusesWrite, RefusesWriteInCache}
+use Rattle.tbtree.specs.Faults.{FillsInCache, IfFull, IfNamed, MayRefuseRead, MayRefuseReadInCache, MayRefuseWrite, MayRefuseWriteInCache, RefusesRead, RefusesReadInCache, RefusesWrite, RefusesWriteInCache}
 use Rattle.tbtree.specs.declared.fault.TreeFault.{TreeFault}
 use Rattle.tbtree.specs.declared.fault.TreeFault.TheVariants as tree
 use Rattle.boxsearch.specs.Answers.{answered, of_cache, of_tree}
@@ -116,6 +116,26 @@ pub write_allowed : (fault : TreeFault) → MayRefuseWrite fault → MayRefuseLe
 write_allowed (tree.Cache fault) h = write_cache_allowed fault h
 write_allowed (tree.Malformed n) h = h
 write_allowed tree.Spent h = h
+
+-- what is so of a store that a refused insertion says is full is so of the one that the answer says is
+abbrev pub OfFull : Type 0 → IndexFault → Type 0
+OfFull P index.Memory = Unit {0}
+OfFull P index.Store = Unit {0}
+OfFull P (index.Damaged n) = Unit {0}
+OfFull P index.StoreFull = P
+OfFull P index.Spent = Unit {0}
+
+full_cache_said : (P : Type 0) (fault : CacheFault) → FillsInCache P fault → OfFull P (of_cache fault)
+full_cache_said P cache.NoPage h = tt
+full_cache_said P cache.Store h = tt
+full_cache_said P (cache.Damaged n) h = tt
+full_cache_said P cache.StoreFull h = h
+full_cache_said P cache.Memory h = tt
+
+pub full_said : (P : Type 0) (fault : TreeFault) → IfFull P fault → OfFull P (of_tree fault)
+full_said P (tree.Cache fault) h = full_cache_said P fault h
+full_said P (tree.Malformed n) h = tt
+full_said P tree.Spent h = tt
 
 -- what is so of the page that a refused insertion names is so of the one that the answer names
 pub named_said : (old new : Cache) (H : Type 0) (F : ℕ → Type 0) (r : Result (Unit {0}) TreeFault) → IfErr r (RefusesWrite old new) → (H → IfErr r (IfNamed F))

@@ -1,5 +1,5 @@
 -- Pages that say of all questions what they said, since all but page 0 are as they were.
-use Rattle.std.proofs.Common.{arith, ◌+◌, ℕ, zero, suc, Bool, ◌≡◌, ◌<◌, ◌∙◌, inl, inr, ⊎_elim, ◌⊎◌, All, List, length, refl, sym, ap, subst, slice_get}
+use Rattle.std.proofs.Common.{arith, ◌+◌, ℕ, zero, suc, Bool, ◌≡◌, ◌<◌, ◌∙◌, inl, inr, ⊎_elim, ◌⊎◌, All, List, length, take, refl, sym, ap, subst, slice_get}
 use Rattle.std.specs.List.{flat_map, filter, Contains}
 use Rattle.std.specs.Prelude.{map}
 use Rattle.std.proofs.lemmas.List.Elements.{All-weaker}
@@ -14,7 +14,7 @@ use Rattle.tbtree.specs.declared.tree.Place.{Place}
 use Rattle.tbtree.specs.declared.tree.TbTree.{TbTree}
 use Rattle.chains.proofs.ChainGrowth.{alike_beside}
 use Rattle.boxsearch.specs.Telling.{Denies, Tells}
-use Rattle.boxsearch.specs.Way.{meets, IsOnLevel, IsOffWay, IsWay}
+use Rattle.boxsearch.specs.Way.{meets, IsFirstBeyond, IsFirstWrong, IsOnLevel, IsOffWay, IsWay}
 use Rattle.boxsearch.proofs.TrackGrowth.{denied_alike, told_alike}
 
 on_level : (old new : Pages LegView BoxView) → ((p : ℕ) → 0 < p → new.at p ≡ old.at p) → (k p : ℕ) → IsOnLevel old k p → IsOnLevel new k p
@@ -49,10 +49,31 @@ module _ (old new : Pages LegView BoxView) (same : (p : ℕ) → 0 < p → new.a
   pub leg_beside : (root levels : ℕ) (leg : LegView) → LeadsToLeg old root levels leg → LeadsToLeg new root levels leg
   leg_beside root levels leg l = record { n = l.n; p = l.p; last = l.last; led = lead_beside root levels l.n l.p l.led; leg_is = subst (λ x. Contains (legs_in x) leg) (sym (same_node l.p)) l.leg_is }
 
+  levels_beside : (test : BoxView → Bool) (root n k : ℕ) (cut : List ℕ → List ℕ) → All (λ p. IsOnLevel old k p) (cut (pages_met test old root n)) → All (λ p. IsOnLevel new k p) (cut (pages_met test new root n))
+  levels_beside test root n k cut all = subst (λ ps. All (λ p. IsOnLevel new k p) (cut ps)) (sym (same_pages test root n)) (All-weaker (λ p. IsOnLevel old k p) (λ p. IsOnLevel new k p) (on_level old new same k) (cut (pages_met test old root n)) all)
+
   way_beside : (query : BoxView) (root levels : ℕ) → IsWay query old root levels → IsWay query new root levels
   way_beside query root levels w = record {
-    fit = λ n k e. subst (λ ps. All (λ p. IsOnLevel new k p) ps) (sym (same_pages (meets query) root n)) (All-weaker (λ p. IsOnLevel old k p) (λ p. IsOnLevel new k p) (on_level old new same k) (pages_met (meets query) old root n) (w.fit n k e));
+    fit = λ n k e. levels_beside (meets query) root n k (λ ps. ps) (w.fit n k e);
     few = λ n l. (let a = w.few n l in let b = same_counts (meets query) root n in omega (arith, a, b, count));
+  }
+
+  wrong_beside : (query : BoxView) (root levels n k p : ℕ) → IsFirstWrong query old root levels n k p → IsFirstWrong query new root levels n k p
+  wrong_beside query root levels n k p h = record {
+    few = let a = h.few in let b = same_counts (meets query) root (suc n) in omega (arith, a, b, count);
+    first = record {
+      place = h.first.place;
+      is = ap (λ ps. slice_get ps h.first.place) (same_pages (meets query) root n) ∙ h.first.is;
+      before = levels_beside (meets query) root n k (take h.first.place) h.first.before;
+      fails = λ here. h.first.fails (on_level new old (λ q above. sym (same q above)) k p here);
+    };
+  }
+
+  beyond_beside : (query : BoxView) (root levels n p : ℕ) → IsFirstBeyond query old root levels n p → IsFirstBeyond query new root levels n p
+  beyond_beside query root levels n p h = record {
+    place = h.place;
+    is = ap (λ ps. slice_get ps h.place) (same_pages (meets query) root n) ∙ h.is;
+    many = let a = h.many in let b = same_counts (meets query) root n in omega (arith, a, b, count);
   }
 
   off_beside : (query : BoxView) (root levels p : ℕ) → IsOffWay query old root levels p → IsOffWay query new root levels p
@@ -60,12 +81,11 @@ module _ (old new : Pages LegView BoxView) (same : (p : ℕ) → 0 < p → new.a
     n = o.n;
     k = o.k;
     level_is = o.level_is;
-    place = o.place;
-    met = ap (λ ps. slice_get ps o.place) (same_pages (meets query) root o.n) ∙ o.met;
-    wrong = ⊎_elim
-        (λ (h : IsOnLevel old o.k p → ⊥). inl (λ here. h (on_level new old (λ q above. sym (same q above)) o.k p here)))
-        (λ (h : met_count (meets query) old root o.n + o.place ≡ old.count). inr (let b = same_counts (meets query) root o.n in omega (arith, h, b, count)))
-        o.wrong;
+    higher = λ m j e w. levels_beside (meets query) root m j (λ ps. ps) (o.higher m j e w);
+    stops = ⊎_elim
+        (λ (h : IsFirstWrong query old root levels o.n o.k p). inl (wrong_beside query root levels o.n o.k p h))
+        (λ (h : IsFirstBeyond query old root levels o.n p). inr (beyond_beside query root levels o.n p h))
+        o.stops;
   }
 
   pub tells_beside : (tree : TbTree) (places : List Place) (question : Question) (legs : List LegView) → Tells old tree places question legs → Tells new tree places question legs

@@ -12,6 +12,7 @@ use Rattle.legs.proofs.LastLemmas.{takes_none}
 use Rattle.pagecache.specs.Cache.{Cache}
 use Rattle.tbtree.specs.Needs.{BlamesNext, IsFit, next_legs}
 use Rattle.tbtree.specs.Nodes.{pages_of_cache}
+use Rattle.tbtree.specs.Planting.{HasPlanted}
 use Rattle.tbtree.specs.Stands.{owner}
 use Rattle.tbtree.specs.declared.tree.Place.{Place}
 use Rattle.tbtree.specs.declared.tree.TbTree.{TbTree}
@@ -19,12 +20,8 @@ use Rattle.tbtree.proofs.LeafLemmas.{placed_legs}
 use Rattle.tbtree.proofs.NeedsLemmas.{content_spent_after, fit_spent}
 use Rattle.boxsearch.specs.Index.{IndexView, found_by, is_unfit, place_for, with_place, words}
 use Rattle.boxsearch.proofs.EndLemmas.{legs_in_place, made_legs, placed_is, takes_put}
+use Rattle.boxsearch.proofs.MadeLemmas.{owner_of}
 use Rattle.boxsearch.proofs.PlaceLemmas.{get-set_same, one_fits, place_made, place_there, some_same, stays_at}
-
--- the feature of some legs of it
-pub owner_of : (f : ℕ) (part : List LegView) → 0 < length part → All (λ leg. leg.feature ≡ f) part → owner leg_feature part ≡ f
-owner_of f [] some one = absurd (omega (arith, some))
-owner_of f (x ∷ xs) some one = one 0 x (omega arith)
 
 module _ (old new : IndexView) (feature : ℕ) (legs : List LegView) (was is : Place) (page : ℕ) (some : 0 < length legs) (one : All (λ leg. leg.feature ≡ feature) legs)
     (found : slice_get (with_place old.places feature) feature ≡ Some was) (places : new.places ≡ set (with_place old.places feature) feature is)
@@ -100,6 +97,7 @@ module _ (old new : IndexView) (feature : ℕ) (legs : List LegView) (was is : P
   blames_at (suc k) more =
       let O : LegView → Type 0 = λ leg. leg.feature ≡ feature in
       let f = n.first in
+      let some_first : 0 < length (take n.from legs) = (let long = length-take n.from legs in let within = n.within in omega (arith, clamps, long, within, more)) in
       record {
         first = take n.from legs;
         next = next;
@@ -110,9 +108,9 @@ module _ (old new : IndexView) (feature : ℕ) (legs : List LegView) (was is : P
         some = n.some;
         mid = mid;
         none = λ e. absurd (let none = from_none e in omega (arith, none, more));
-        added = takes_put old mid feature (take n.from legs) was is (let long = length-take n.from legs in let within = n.within in omega (arith, clamps, long, within, more)) (All-take O n.from legs one) found places
+        added = takes_put old mid feature (take n.from legs) was is some_first (All-take O n.from legs one) found places
             f.passes.store.faithful f.shape refl refl (ap (λ (p : Place). p.legs) f.fills.place_is ∙ placed_legs old.tree.leaves was (take n.from legs) f.pages)
-            (λ fa. (f.pages, f.fills)) (λ fa. content_spent_after (pages_of_cache old.cache) (pages_of_cache n.mid) old.tree new.tree new.tree.spent false (take n.from legs) f.grows) (λ fa. record { more = f.hung.more; is = f.hung.is }) (λ fa. record { stays = f.moved.stays; moves = f.moved.moves });
+            (λ fa. (f.pages, f.fills)) (λ fa. content_spent_after (pages_of_cache old.cache) (pages_of_cache n.mid) old.tree new.tree new.tree.spent false (take n.from legs) f.grows) (λ fa. subst (λ o. HasPlanted o (pages_of_cache old.cache) (pages_of_cache n.mid) old.tree new.tree was is (take n.from legs)) (owner_of feature (take n.from legs) some_first (All-take O n.from legs one)) f.grown);
         stays = λ fa. record { root = refl; levels = refl; leaves = refl; pages = n.after.count; places = λ f place e. e };
         fits = λ shape e. fits_at shape (legs_placed (found_by mid) feature) (placed_is mid feature ∙ ap legs_in_place place_now) e;
         unfit = unfit_now;

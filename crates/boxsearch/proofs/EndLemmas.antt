@@ -1,29 +1,32 @@
 -- What legs make of an index, whatever its pages hold.
-use Rattle.std.proofs.Common.{Bool, ℕ, zero, suc, ◌+◌, ◌-◌, ◌^◌, ◌%◌, ◌<◌, ◌≤◌, ◌≡◌, ◌≢◌, ◌==◌, min, true, false, cond, refl, sym, ap, ◌∙◌, ◌⊎◌, inl, inr, arith, subst, ⊎_elim, All, List, [], ◌∷◌, ◌++◌, map, drop, length, get_or, Option, Some, None, slice_get, set, Result, Ok, Err, OnOk, append_assoc}
-use Rattle.std.specs.Prelude.{IsTrue}
-use Rattle.std.specs.Int.{div_ceil}
+use Rattle.std.proofs.Common.{Bool, ℕ, zero, suc, ◌+◌, ◌-◌, ◌^◌, ◌%◌, ◌<◌, ◌≤◌, ◌≡◌, ◌≢◌, ◌==◌, min, true, false, cond, refl, sym, ap, ◌∙◌, ◌⊎◌, inl, inr, arith, subst, ⊎_elim, All, List, [], ◌∷◌, ◌++◌, map, drop, length, get_or, Option, Some, None, slice_get, set, Result, Ok, Err, OnOk, append_assoc, eq-eqb}
+use Rattle.std.specs.Prelude.{IfErr, IsErrOf, IsTrue}
 use Rattle.std.specs.List.{count_by, Contains}
-use Rattle.std.proofs.lemmas.Bool.{cases_eq, cases_lt, eqb-true, true≢false}
+use Rattle.std.proofs.lemmas.Bool.{cases_eq, eqb-true, ne_eqb, true≢false}
 use Rattle.std.proofs.lemmas.List.{append-nil, drop-append-le, length-set, length_push}
 use Rattle.std.proofs.lemmas.List.Elements.{All-cons, All-contains, All-nil}
 use Rattle.std.proofs.lemmas.Option.{slice_get-map}
-use Rattle.legs.specs.Asking.{leaves_filled, placed_legs, upper_part, HasAdded, NoneBefore}
+use Rattle.legs.specs.Asking.{placed_legs, planted, HasAdded, LacksPages, NoneBefore}
 use Rattle.legs.specs.Boxes.{BoxView}
 use Rattle.legs.specs.Costs.{leg_feature, ShapeView}
-use Rattle.legs.specs.Finding.{place_in, FeaturePlace, IsMade, MovesLast}
-use Rattle.legs.specs.Hanging.{with_leaves, IsSameUpper}
+use Rattle.legs.specs.Finding.{place_in, FeaturePlace, IsMade}
+use Rattle.legs.specs.Growing as growing
+use Rattle.legs.specs.Growing.{IsSameView, LacksRoom, Planted, Plants}
 use Rattle.legs.specs.Index.{features_after, is_of, last_leg_of, legs_of}
 use Rattle.legs.specs.Legs.{LegView}
 use Rattle.legs.specs.Questions.{answer_in, OfFeature}
-use Rattle.legs.proofs.HangingLemmas.{leaves_same, upper_then}
+use Rattle.legs.specs.declared.index.IndexFault.{IndexFault}
+use Rattle.legs.specs.declared.index.IndexFault.TheVariants as index
+use Rattle.legs.proofs.GrowingLemmas.{lacks_from, plants_from, plants_to}
 use Rattle.legs.proofs.LastLemmas.{answer_alike, answer_none, last_absent, last_at_end, last_holds, last_own, takes_then}
-use Rattle.tbtree.specs.Content.{kids, ContentGrows, IsMadeRoot, LeadsToLeg}
+use Rattle.tbtree.specs.Content.{ContentGrows, IsMadeRoot, LeadsToLeg}
 use Rattle.tbtree.specs.Descent.{found_legs, node_at, node_in, pages_met}
+use Rattle.tbtree.specs.Faults.{IfFull}
 use Rattle.tbtree.specs.Filling.{FillsLeaves, KeepsLegs}
 use Rattle.tbtree.specs.Joining.{in_last_leaf, HasAtEnd}
 use Rattle.tbtree.specs.Nodes.{Pages, pages_of_cache, with_legs}
 use Rattle.tbtree.specs.Stands.{no_place}
-use Rattle.tbtree.specs.Upper.{upper, HasHung, HasMoved}
+use Rattle.tbtree.specs.Planting.{view, HasLacked, HasPlanted}
 use Rattle.tbtree.specs.declared.fault.TreeFault.{TreeFault}
 use Rattle.tbtree.specs.declared.tree.Place.{Place}
 use Rattle.tbtree.proofs.EndLemmas.{ends_fewer}
@@ -34,10 +37,10 @@ use Rattle.boxsearch.specs.Index.{IndexView, finds, found_by, leads_to, place_fo
 use Rattle.boxsearch.specs.Putting.{FillsSome, Puts, PutsAll}
 use Rattle.boxsearch.specs.Telling.{DeniesTrack, TellsTrack}
 use Rattle.boxsearch.proofs.AddLemmas.{made}
+use Rattle.boxsearch.proofs.AnswerLemmas.{each_fault, full_said, the_fault, OfFull}
 use Rattle.boxsearch.proofs.TrackGrowth.{all_of_one, denied_alike, made_was, none_of_other, own_track, told_alike}
 use Rattle.chains.proofs.ChainGrowth.{others_alike, AreAlike}
-use Rattle.boxsearch.proofs.LeafCounts.{filled_one, leaves_more}
-use Rattle.boxsearch.proofs.MadeLemmas.{features_one, for_alike, many_with, placed_in, rising_held}
+use Rattle.boxsearch.proofs.MadeLemmas.{features_one, for_alike, many_with, owner_of, placed_in, rising_held}
 use Rattle.boxsearch.proofs.PlaceLemmas.{get-set_same, get-set_other, got_within, some_same, place_made, place_there, push_last, push_other}
 
 -- the last of some legs is among those of the last leaf
@@ -96,14 +99,17 @@ placed_is i f = at i.places f
 same_place : (xs ys : List Place) (f : ℕ) (place : FeaturePlace) → slice_get ys f ≡ slice_get xs f → slice_get (map place_of xs) f ≡ Some place → slice_get (map place_of ys) f ≡ Some place
 same_place xs ys f place e h = slice_get-map place_of ys f ∙ ap (λ (o : Option Place). elim o as (λ _. Option FeaturePlace) [ Some q ↦ Some (place_of q) | None ↦ None ]) e ∙ sym (slice_get-map place_of xs f) ∙ h
 
+-- the tree of an index is the one that its pages say
+view_said : (i : IndexView) → IsTrue i.cache.store.is_faithful → IsSameView (view (pages_of_cache i.cache) i.tree) (planted words i).tree
+view_said i fa = record { root = refl; levels = refl; leaves = refl; pages = refl; node = λ p. sym (ap (λ b. cond b (node_in (node_at (pages_of_cache i.cache) p)) None) fa) }
+
 module _ (old new : IndexView) (feature : ℕ) (legs : List LegView) (was is : Place) (some : 0 < length legs) (one : All (λ leg. leg.feature ≡ feature) legs)
     (found : slice_get (with_place old.places feature) feature ≡ Some was) (places : new.places ≡ set (with_place old.places feature) feature is)
     (faithful : new.cache.store.is_faithful ≡ old.cache.store.is_faithful) (shape : new.tree.shape ≡ old.tree.shape) (works : new.tree.spent ≡ false)
     (counted : new.legs ≡ min (old.legs + length legs) (2 ^ 64 - 1)) (placed : is.legs ≡ was.legs + length legs)
     (fills : IsTrue old.cache.store.is_faithful → FillsSome old new was is legs)
     (met : IsTrue old.cache.store.is_faithful → ContentGrows (pages_of_cache old.cache) (pages_of_cache new.cache) old.tree new.tree legs)
-    (hangs : IsTrue old.cache.store.is_faithful → HasHung (pages_of_cache old.cache) (pages_of_cache new.cache) old.tree new.tree)
-    (moveds : IsTrue old.cache.store.is_faithful → HasMoved (pages_of_cache old.cache) old.tree new.tree was is) where
+    (grows : IsTrue old.cache.store.is_faithful → HasPlanted feature (pages_of_cache old.cache) (pages_of_cache new.cache) old.tree new.tree was is legs) where
   was_faithful : IsTrue new.cache.store.is_faithful → IsTrue old.cache.store.is_faithful
   was_faithful fa = still _ _ (sym faithful) fa
 
@@ -149,45 +155,6 @@ module _ (old new : IndexView) (feature : ℕ) (legs : List LegView) (was is : P
       ((met fa).only leg (h (faithful ∙ fa)))
   leads_more leg h false none = inl (λ fa. absurd (true≢false (sym fa ∙ none)))
 
-  -- there are as many leaves more as the legs of the places fill more
-  filled_more : IsTrue old.cache.store.is_faithful → (shape : ShapeView) → Some old.tree.shape ≡ Some shape → (n : ℕ) → length new.places ≤ n
-      → new.tree.leaves + leaves_filled shape.leaf (found_by old) n ≡ old.tree.leaves + leaves_filled shape.leaf (found_by new) n
-  filled_more fa shape e n l =
-      let g = fills fa in
-      let own : old.tree.shape ≡ shape = some_same old.tree.shape shape e in
-      let leaf = old.tree.shape.leaf in
-      let A = found_by old in
-      let B = found_by new in
-      let before : placed_legs A feature ≡ was.legs = placed_is old feature ∙ made_legs old.places feature was found in
-      let after : placed_legs B feature ≡ was.legs + length legs = placed_is new feature ∙ ap legs_in_place place_of_own ∙ placed in
-      let others : (f : ℕ) → f ≢ feature → placed_legs B f ≡ placed_legs A f = λ f u. placed_is new f ∙ ap legs_in_place (place_of_other f u) ∙ sym (placed_is old f) in
-      let within = got_within new.places feature is place_of_own in
-      let one = filled_one leaf A B feature n others (omega (arith, within, l)) in
-      let some_leaf = g.1.least some in
-      let more = leaves_more (pages_of_cache new.cache) leaf old.cache.count was.last was.legs legs g.0 some_leaf g.1.made in
-      let low : div_ceil (placed_legs A feature) leaf ≡ div_ceil was.legs leaf = ap (λ k. div_ceil k leaf) before in
-      let high : div_ceil (placed_legs B feature) leaf ≡ div_ceil (was.legs + length legs) leaf = ap (λ k. div_ceil k leaf) after in
-      let counted = g.1.counted in
-      subst (λ (s : ShapeView). new.tree.leaves + leaves_filled s.leaf A n ≡ old.tree.leaves + leaves_filled s.leaf B n) own (omega (arith, one, more, low, high, counted))
-
-  -- the upper part is what hanging so many leaves makes of it
-  part_old : IsTrue old.cache.store.is_faithful → IsSameUpper (upper (pages_of_cache old.cache) old.tree) (upper_part words old)
-  part_old fa = record { root = refl; levels = refl; leaves = refl; pages = refl; children = λ p. sym (ap (λ b. cond b (kids (node_at (pages_of_cache old.cache) p)) []) fa) }
-
-  part_new : IsTrue old.cache.store.is_faithful → IsSameUpper (upper_part words new) (upper (pages_of_cache new.cache) new.tree)
-  part_new fa = record { root = refl; levels = refl; leaves = refl; pages = refl; children = λ p. ap (λ b. cond b (kids (node_at (pages_of_cache new.cache) p)) []) (faithful ∙ fa) }
-
-  hung_more : IsTrue old.cache.store.is_faithful → (shape : ShapeView) → Some old.tree.shape ≡ Some shape → IsSameUpper (upper_part words new) (with_leaves shape.inner (new.tree.leaves - old.tree.leaves) (upper_part words old))
-  hung_more fa shape e =
-      let n = new.tree.leaves - old.tree.leaves in
-      let own : old.tree.shape ≡ shape = some_same old.tree.shape shape e in
-      let inner = old.tree.shape.inner in
-      let was = upper (pages_of_cache old.cache) old.tree in
-      let is = upper (pages_of_cache new.cache) new.tree in
-      subst (λ (s : ShapeView). IsSameUpper (upper_part words new) (with_leaves s.inner n (upper_part words old))) own
-      (upper_then (upper_part words new) is (with_leaves inner n (upper_part words old)) (part_new fa)
-      (upper_then is (with_leaves inner n was) (with_leaves inner n (upper_part words old)) (hangs fa).is (leaves_same inner n was (upper_part words old) (part_old fa))))
-
   -- there are as many places as features then
   features_are : length new.places ≡ features_after (length old.places) legs
   features_are =
@@ -209,48 +176,32 @@ module _ (old new : IndexView) (feature : ℕ) (legs : List LegView) (was is : P
       (λ (m : IsMadeRoot old.cache.count (pages_of_cache new.cache) new.tree.root new.tree.levels). inr (m.from, m.there))
       (met fa).grafts.root_is
 
-  -- the last leaf of each feature
-  moves_own : (fa : IsTrue old.cache.store.is_faithful) (pages : List ℕ) → FillsLeaves old.tree.shape.leaf (pages_of_cache old.cache) (pages_of_cache new.cache) old.tree.leaves new.tree.leaves was is legs pages
-      → MovesLast old.tree.shape (upper_part words old) (found_by old) (found_by new) feature
-  moves_own fa pages g =
-      let leaf = old.tree.shape.leaf in
-      let m = moveds fa in
-      let now : place_in (found_by new) feature ≡ place_of is = placed_in new feature ∙ ap place_of (sym (place_there new.places feature is place_of_own)) in
-      let before : place_in (found_by old) feature ≡ place_of was = placed_in old feature ∙ ap place_of (sym (place_made old.places feature was found)) in
-      let more = leaves_more (pages_of_cache new.cache) leaf old.cache.count was.last was.legs legs pages (g.least some) g.made in
-      let high : div_ceil is.legs leaf ≡ div_ceil (was.legs + length legs) leaf = ap (λ n. div_ceil n leaf) placed in
-      let counted = g.counted in
-      subst (λ p. Moves p (place_in (found_by new) feature)) (sym before) (subst (λ q. Moves (place_of was) q) (sym now) (⊎_elim
-      (λ (few : new.tree.leaves ≤ old.tree.leaves).
-      let same = m.stays (omega (arith, few, counted)) in
-      inl (omega (arith, more, high, few, counted), same.0, same.1))
-      (λ (up : old.tree.leaves < new.tree.leaves).
-      let at = m.moves up in
-      let number = at.0 in
-      let n = is.last_index - old.tree.leaves in
-      inr (omega (arith, more, high, up, counted), omega (arith, number, up), omega (arith, number), at.1 ∙ (leaves_same old.tree.shape.inner n (upper (pages_of_cache old.cache) old.tree) (upper_part words old) (part_old fa)).pages))
-      (by_leaves (cases_lt old.tree.leaves new.tree.leaves))))
-    where
-      by_leaves : (old.tree.leaves < new.tree.leaves) ⊎ (new.tree.leaves ≤ old.tree.leaves) → (new.tree.leaves ≤ old.tree.leaves) ⊎ (old.tree.leaves < new.tree.leaves)
-      by_leaves (inl l) = inr l
-      by_leaves (inr l) = inl l
+  -- its tree and its places are what putting the legs in makes of them
+  part_new : IsTrue old.cache.store.is_faithful → IsSameView (planted words new).tree (view (pages_of_cache new.cache) new.tree)
+  part_new fa = record { root = refl; levels = refl; leaves = refl; pages = refl; node = λ p. ap (λ b. cond b (node_in (node_at (pages_of_cache new.cache) p)) None) (faithful ∙ fa) }
 
-      Moves : FeaturePlace → FeaturePlace → Type 0
-      Moves p q =
-          ((div_ceil q.legs old.tree.shape.leaf ≡ div_ceil p.legs old.tree.shape.leaf) × (q.last ≡ p.last) × (q.last_index ≡ p.last_index))
-          ⊎ ((div_ceil p.legs old.tree.shape.leaf < div_ceil q.legs old.tree.shape.leaf) × (old.tree.leaves ≤ q.last_index) × (q.last_index < new.tree.leaves)
-          × (q.last ≡ (with_leaves old.tree.shape.inner (q.last_index - old.tree.leaves) (upper_part words old)).pages))
+  before_at : place_in (found_by old) feature ≡ place_of was
+  before_at = placed_in old feature ∙ ap place_of (sym (place_made old.places feature was found))
 
-  moves_at : IsTrue old.cache.store.is_faithful → (shape : ShapeView) → Some old.tree.shape ≡ Some shape → (f : ℕ) → MovesLast shape (upper_part words old) (found_by old) (found_by new) f
-  moves_at fa shape e f =
-      let own : old.tree.shape ≡ shape = some_same old.tree.shape shape e in
-      let g = fills fa in
-      subst (λ s. MovesLast s (upper_part words old) (found_by old) (found_by new) f) own (⊎_elim
-      (λ (at : f ≡ feature). subst (λ k. MovesLast old.tree.shape (upper_part words old) (found_by old) (found_by new) k) (sym at) (moves_own fa g.0 g.1))
+  after_at : (f : ℕ) → place_in (found_by new) f ≡ growing.with_place (place_in (found_by old)) feature (place_of is) f
+  after_at f = ⊎_elim
+      (λ (e : f ≡ feature).
+      ap (λ g. place_in (found_by new) g) e ∙ placed_in new feature ∙ ap place_of (sym (place_there new.places feature is place_of_own))
+      ∙ sym (ap (λ b. cond b (place_of is) (place_in (found_by old) f)) (eq-eqb f feature e)))
       (λ (u : f ≢ feature).
-      let same : place_in (found_by new) f ≡ place_in (found_by old) f = placed_in new f ∙ ap place_of (for_alike old.places new.places f (place_of_other f u)) ∙ sym (placed_in old f) in
-      inl (ap (λ (p : FeaturePlace). div_ceil p.legs old.tree.shape.leaf) same, ap (λ (p : FeaturePlace). p.last) same, ap (λ (p : FeaturePlace). p.last_index) same))
-      (cases_eq f feature))
+      placed_in new f ∙ ap place_of (for_alike old.places new.places f (place_of_other f u)) ∙ sym (placed_in old f)
+      ∙ sym (ap (λ b. cond b (place_of is) (place_in (found_by old) f)) (ne_eqb f feature u)))
+      (cases_eq f feature)
+
+  grown_at : IsTrue old.cache.store.is_faithful → (shape : ShapeView) → Some old.tree.shape ≡ Some shape → Plants shape (planted words old) (planted words new) legs
+  grown_at fa shape e =
+      let from : Planted = planted words old in
+      let to : Planted = planted words new in
+      let before : Planted = record { tree = view (pages_of_cache old.cache) old.tree; place = place_in (found_by old) } in
+      let after : Planted = record { tree = view (pages_of_cache new.cache) new.tree; place = growing.with_place (place_in (found_by old)) feature (place_of is) } in
+      subst (λ (s : ShapeView). Plants s from to legs) (some_same old.tree.shape shape e)
+      (plants_to old.tree.shape from after to legs (record { tree = part_new fa; place = after_at })
+      (plants_from old.tree.shape from before after legs (record { tree = view_said old fa; place = λ f. refl }) (grows fa (place_in (found_by old)) before_at)))
 
   -- the legs of one feature that were put in
   pub takes_put : HasAdded words old new legs
@@ -268,9 +219,7 @@ module _ (old new : IndexView) (feature : ℕ) (legs : List LegView) (was is : P
         let more = m.grafts.count in
         let there = h.2 in
         (faithful ∙ h.0, h.1, omega (arith, there, more), ap node_in (m.bare page h.2 h.3) ∙ h.3);
-    hung = hung_more;
-    filled = filled_more;
-    moves = moves_at;
+    grown = grown_at;
     features = features_are;
     astray = λ above page h fa. (met fa).astray above page (h (faithful ∙ fa));
     leads = λ leg h. leads_more leg h old.cache.store.is_faithful refl;
@@ -337,17 +286,31 @@ module _ (old new : IndexView) (feature : ℕ) (legs : List LegView) (was is : P
     place_legs = λ f over. count_of f;
   }
 
+-- legs of one feature take more pages than there are
+pub lacks_put : (old new : IndexView) (feature : ℕ) (legs : List LegView) (was : Place) → slice_get (with_place old.places feature) feature ≡ Some was
+    → (r : Result (Unit {0}) TreeFault) → (IsTrue old.cache.store.is_faithful → IfErr r (IfFull (HasLacked feature (pages_of_cache old.cache) old.tree was new.cache.count legs))) → IsErrOf (answered (λ fault. of_tree fault) r) index.StoreFull → LacksPages words old new legs
+lacks_put old new feature legs was found r lacks e = λ fa shape is.
+    let say : TreeFault → IndexFault = λ fault. of_tree fault in
+    let Lacks : Type 0 = HasLacked feature (pages_of_cache old.cache) old.tree was new.cache.count legs in
+    let from : Planted = planted words old in
+    let before : Planted = record { tree = view (pages_of_cache old.cache) old.tree; place = place_in (found_by old) } in
+    let at : place_in (found_by old) feature ≡ place_of was = placed_in old feature ∙ ap place_of (sym (place_made old.places feature was found)) in
+    subst (λ (s : ShapeView). LacksRoom s from new.cache.count legs) (some_same old.tree.shape shape is)
+    (lacks_from old.tree.shape from before new.cache.count legs (record { tree = view_said old fa; place = λ f. refl })
+    (the_fault (answered say r) (OfFull Lacks) index.StoreFull e (each_fault say (IfFull Lacks) (OfFull Lacks) (full_said Lacks) r (lacks fa)) (place_in (found_by old)) at))
+
 -- a leg
 pub leg_takes : (old new : IndexView) (leg : LegView) (r : Result (Unit {0}) TreeFault) → Puts (made old leg.feature) new leg r → OnOk (answered (λ fault. of_tree fault) r) (HasAdded words old new (leg ∷ []))
 leg_takes old new leg (Ok tt) p =
     let one : All (λ l. l.feature ≡ leg.feature) (leg ∷ []) = All-cons (λ l. l.feature ≡ leg.feature) leg [] refl (All-nil (λ l. l.feature ≡ leg.feature)) in
-    takes_put old new leg.feature (leg ∷ []) p.was p.is (omega arith) one p.found p.places p.passes.store.faithful p.shape p.works p.legs p.placed p.fills p.met p.hung p.moved
+    takes_put old new leg.feature (leg ∷ []) p.was p.is (omega arith) one p.found p.places p.passes.store.faithful p.shape p.works p.legs p.placed p.fills p.met p.grown
 leg_takes old new leg (Err x) p = tt
 
 -- legs of one feature
 pub run_takes : (old new : IndexView) (feature : ℕ) (legs : List LegView) → 0 < length legs → All (λ leg. leg.feature ≡ feature) legs → (r : Result (Unit {0}) TreeFault) → PutsAll (made old feature) new feature legs r
     → OnOk (answered (λ fault. of_tree fault) r) (HasAdded words old new legs)
-run_takes old new feature legs some one (Ok tt) p = takes_put old new feature legs p.was p.is some one p.found p.places p.passes.store.faithful p.shape p.works p.counted p.placed p.fills p.met p.hung p.moved
+run_takes old new feature legs some one (Ok tt) p = takes_put old new feature legs p.was p.is some one p.found p.places p.passes.store.faithful p.shape p.works p.counted p.placed p.fills p.met
+    (λ fa. subst (λ o. HasPlanted o (pages_of_cache old.cache) (pages_of_cache new.cache) old.tree new.tree p.was p.is legs) (owner_of feature legs some one) (p.grown fa))
 run_takes old new feature legs some one (Err x) p = tt
 
 -- a run more

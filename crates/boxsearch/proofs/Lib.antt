@@ -10,7 +10,6 @@ pub mod FitBeside
 pub mod StillLemmas
 pub mod PlaceLemmas
 pub mod MadeLemmas
-pub mod LeafCounts
 pub mod TrackLemmas
 pub mod QuestionLemmas
 pub mod TellLemmas

@@ -99,6 +99,21 @@ never_spent a b (cache.Damaged n) h = tt
 never_spent a b cache.StoreFull h = tt
 never_spent a b cache.Memory h = tt
 
+-- and no store to be full
+abbrev NotFull : IndexFault → Type 0
+NotFull index.Memory = Unit {0}
+NotFull index.Store = Unit {0}
+NotFull (index.Damaged n) = Unit {0}
+NotFull index.StoreFull = ⊥
+NotFull index.Spent = Unit {0}
+
+never_full : (a b : Cache) (fault : CacheFault) → IsNotMarked a b fault → NotFull (of_cache fault)
+never_full a b cache.NoPage h = tt
+never_full a b cache.Store h = tt
+never_full a b (cache.Damaged n) h = tt
+never_full a b cache.StoreFull h = h
+never_full a b cache.Memory h = tt
+
 module _ (laws : FirstLaws) (old : IndexView) (c : Cache) (known : List (List LeafSpan)) (m : Marks old.cache c) where
   abbrev new : IndexView
   new = with_cache old c known
@@ -161,6 +176,7 @@ module _ (laws : FirstLaws) (old : IndexView) (c : Cache) (known : List (List Le
         (each_fault (λ fault. of_cache fault) (IsNotMarked old.cache c) (λ fault. fault ≡ index.Damaged page → (page ≡ 0) × is_unreadable old 0) (names_first old.cache c page) r caused) refl;
     there = each_value (λ fault. of_cache fault) (λ _. IsTrue old.cache.store.is_faithful → is_unreadable old 0 → ⊥) r (on_ok r (λ h fa none. h fa (none fa)) there);
     works = λ e. absurd (the_fault (answered (λ fault. of_cache fault) r) NotSpent index.Spent e (each_fault (λ fault. of_cache fault) (IsNotMarked old.cache c) NotSpent (never_spent old.cache c) r caused));
+    roomy = λ e. the_fault (answered (λ fault. of_cache fault) r) NotFull index.StoreFull e (each_fault (λ fault. of_cache fault) (IsNotMarked old.cache c) NotFull (never_full old.cache c) r caused);
     others = each_fault (λ fault. of_cache fault) (λ _. IsTrue old.cache.store.is_faithful → IsClean old.cache → drop 1 (written new) ≡ drop 1 (written old)) (λ _. IsTrue old.cache.store.is_faithful → IsClean old.cache → drop 1 (written new) ≡ drop 1 (written old)) (λ x h. h) r
         (on_err r (λ h fa clean. ap (drop 1) (written_is new (m.store.faithful ∙ fa)) ∙ h fa clean ∙ sym (ap (drop 1) (written_is old fa))) others);
     first = each_fault (λ fault. of_cache fault) (λ _. IsTrue old.cache.store.is_faithful → IsClean old.cache → (HasRisen old.cache.store.faults c.store.faults → ⊥) → written new ≡ written old) (λ _. IsTrue old.cache.store.is_faithful → IsClean old.cache → (HasRisen old.cache.store.faults c.store.faults → ⊥) → written new ≡ written old) (λ x h. h) r

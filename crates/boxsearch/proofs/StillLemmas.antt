@@ -1,19 +1,18 @@
 -- Where the ways down an index lead, since all pages but page 0 are as they were.
-use Rattle.std.proofs.Common.{Bool, true, false, cond, ℕ, suc, ◌≡◌, ◌<◌, ◌∙◌, arith, refl, subst, sym, ap, List, [], IsTrue}
+use Rattle.std.proofs.Common.{Bool, true, false, cond, ℕ, suc, ◌≡◌, ◌<◌, ◌∙◌, arith, refl, subst, sym, ap, List, [], None, IsTrue}
 use Rattle.std.specs.List.{Contains}
 use Rattle.legs.specs.Asking.{LeadsStill}
 use Rattle.legs.specs.Boxes.{BoxView}
 use Rattle.legs.specs.Costs.{leg_feature}
 use Rattle.legs.specs.Legs.{LegView}
 use Rattle.pagecache.specs.Cache.{Cache}
-use Rattle.tbtree.specs.Content.{kids}
 use Rattle.tbtree.specs.Descent.{node_at, node_in}
 use Rattle.tbtree.specs.Nodes.{pages_of_cache}
 use Rattle.tbtree.specs.Stands.{owner}
 use Rattle.tbtree.proofs.Still.{still}
 use Rattle.chains.specs.declared.spans.LeafSpan.{LeafSpan}
 use Rattle.boxsearch.specs.Beside.{with_cache}
-use Rattle.boxsearch.specs.Index.{IndexView, children, legs_by, place_for, words}
+use Rattle.boxsearch.specs.Index.{IndexView, node, legs_by, place_for, words}
 use Rattle.boxsearch.proofs.BesideTells.{astray_beside, leg_beside, same_pages}
 use Rattle.boxsearch.proofs.FitBeside.{fit_beside, same_node}
 
@@ -22,12 +21,12 @@ module _ (old : IndexView) (c : Cache) (known : List (List LeafSpan)) (faithful 
   was : IsTrue c.store.is_faithful → IsTrue old.cache.store.is_faithful
   was fa = still _ _ (sym faithful) fa
 
-  children_still : (page : ℕ) (b : Bool) → old.cache.store.is_faithful ≡ b → children (with_cache old c known) page ≡ children old page
-  children_still page true fa =
-      ap (λ b. cond b (kids (node_at (pages_of_cache c) page)) []) (faithful ∙ fa)
-      ∙ ap kids (same_node (pages_of_cache old.cache) (pages_of_cache c) (same fa) page)
-      ∙ sym (ap (λ b. cond b (kids (node_at (pages_of_cache old.cache) page)) []) fa)
-  children_still page false fa = ap (λ b. cond b (kids (node_at (pages_of_cache c) page)) []) (faithful ∙ fa) ∙ sym (ap (λ b. cond b (kids (node_at (pages_of_cache old.cache) page)) []) fa)
+  node_still : (page : ℕ) (b : Bool) → old.cache.store.is_faithful ≡ b → node (with_cache old c known) page ≡ node old page
+  node_still page true fa =
+      ap (λ b. cond b (node_in (node_at (pages_of_cache c) page)) None) (faithful ∙ fa)
+      ∙ ap node_in (same_node (pages_of_cache old.cache) (pages_of_cache c) (same fa) page)
+      ∙ sym (ap (λ b. cond b (node_in (node_at (pages_of_cache old.cache) page)) None) fa)
+  node_still page false fa = ap (λ b. cond b (node_in (node_at (pages_of_cache c) page)) None) (faithful ∙ fa) ∙ sym (ap (λ b. cond b (node_in (node_at (pages_of_cache old.cache) page)) None) fa)
 
   pub ways_still : LeadsStill words old (with_cache old c known)
   ways_still = record {
@@ -48,7 +47,7 @@ module _ (old : IndexView) (c : Cache) (known : List (List LeafSpan)) (faithful 
         };
     astray = λ above page h fa. astray_beside (pages_of_cache c) (pages_of_cache old.cache) (λ p above. sym (same fa p above)) (sym count) old.tree.root old.tree.levels above page (h (faithful ∙ fa));
     features = refl;
-    children = λ page. children_still page old.cache.store.is_faithful refl;
+    node = λ page. node_still page old.cache.store.is_faithful refl;
     unfit = λ legs page h fa fit.
         let now : IsTrue c.store.is_faithful = faithful ∙ fa in
         h now (fit_beside (pages_of_cache old.cache) (pages_of_cache c) (same fa) count old.tree (place_for old.places (owner leg_feature legs)) legs page fit);

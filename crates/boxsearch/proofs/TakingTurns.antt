@@ -6,21 +6,25 @@ use Rattle.std.proofs.lemmas.Int.{clamps}
 use Rattle.std.proofs.lemmas.List.{length-append, length-drop, length-set, append-nil, take_all}
 use Rattle.std.proofs.lemmas.List.Elements.{filter-append}
 use Rattle.std.proofs.lemmas.Nat.{mul-le}
-use Rattle.legs.specs.Asking.{Blames, HasAdded, IsLater}
+use Rattle.legs.specs.Asking.{planted, Blames, HasAdded, IsLater}
 use Rattle.legs.specs.Boxes.{BoxView}
+use Rattle.legs.specs.Costs.{leg_feature}
+use Rattle.legs.specs.Growing.{LacksRoom, Planted}
 use Rattle.legs.specs.Index.{MayRefuseLeg, feature_count, is_of, legs_of}
 use Rattle.legs.specs.Legs.{LegView}
 use Rattle.legs.specs.Places.{no_leg}
 use Rattle.legs.specs.declared.index.IndexFault.{IndexFault}
 use Rattle.legs.specs.declared.index.IndexFault.TheVariants as index
+use Rattle.legs.proofs.GrowingLemmas.{lacks_more, lacks_then}
 use Rattle.legs.proofs.LastLemmas.{takes_none, takes_then}
-use Rattle.tbtree.specs.Faults.{GivesWrite, MayRefuseWrite, RefusesWrite}
+use Rattle.tbtree.specs.Faults.{GivesWrite, IfFull, MayRefuseWrite, RefusesWrite}
 use Rattle.tbtree.specs.Insert.{IsPlace}
 use Rattle.tbtree.specs.Joining.{AllJoined, CanJoinInTurn, CanTakeInTurn, Holds}
 use Rattle.tbtree.specs.Needs.{BlamesNext}
 use Rattle.tbtree.specs.Nodes.{Pages, pages_of_cache}
+use Rattle.tbtree.specs.Planting.{HasLacked}
 use Rattle.tbtree.specs.Shape.{IsShape}
-use Rattle.tbtree.specs.Stands.{no_place}
+use Rattle.tbtree.specs.Stands.{no_place, owner}
 use Rattle.tbtree.specs.declared.fault.TreeFault.{TreeFault}
 use Rattle.tbtree.specs.declared.tree.Place.{Place}
 use Rattle.tbtree.specs.declared.tree.TbTree.{TbTree}
@@ -32,6 +36,8 @@ use Rattle.boxsearch.specs.declared.turns.Turn.{Turn}
 use Rattle.boxsearch.proofs.AddLemmas.{made, marked_after, feature_count-push}
 use Rattle.boxsearch.proofs.AnswerLemmas.{each_fault, named_said, the_fault, SaidOfLeg, write_said, write_allowed}
 use Rattle.boxsearch.proofs.BlameLemmas.{blames_run, blames_unfaithful}
+use Rattle.boxsearch.proofs.EndLemmas.{lacks_put}
+use Rattle.boxsearch.proofs.MadeLemmas.{owner_of}
 use Rattle.boxsearch.proofs.PlaceLemmas.{get-set_same, get-set_other, made_places, length-made, some_same}
 use Rattle.boxsearch.proofs.TrackLemmas.{no_legs}
 
@@ -148,6 +154,13 @@ module _ (laws : OrderLaws) (old new : IndexView) (feature : ℕ) (legs : List L
           (named_said old.cache new.cache (IsTrue old.cache.store.is_faithful) (BlamesNext old.cache new.cache old.tree new.tree p.was p.is legs) r p.caused p.blames page e is)
       by_store false is = blames_unfaithful old new feature legs page some one works p.room is
 
+  -- the feature of the legs is theirs
+  all_own : All (λ leg. leg.feature ≡ owner leg_feature legs) legs
+  all_own = subst (λ f. All (λ leg. leg.feature ≡ f) legs) (sym (owner_of feature legs some one)) one
+
+  lacked : (r : Result (Unit {0}) TreeFault) (n : Pages LegView BoxView) (tree : TbTree) (place : Place) (most : ℕ) → IfErr r (IfFull (HasLacked (owner leg_feature legs) n tree place most legs)) → IfErr r (IfFull (HasLacked feature n tree place most legs))
+  lacked r n tree place most h = subst (λ f. IfErr r (IfFull (HasLacked f n tree place most legs))) (owner_of feature legs some one) h
+
   pub joined : (r : Result (Unit {0}) TreeFault) → PutsAll (made old feature) new feature legs r → old.tree.spent ≡ false → Taking old new legs (answered (λ fault. of_tree fault) r)
   joined r p works =
       let say : TreeFault → IndexFault = λ fault. of_tree fault in
@@ -161,6 +174,7 @@ module _ (laws : OrderLaws) (old new : IndexView) (feature : ℕ) (legs : List L
             (λ fault. (before : List LegView) → HoldsLegs old before → CanTakeInTurn before legs → MayRefuseLeg fault) (λ x h before s w. write_allowed x (h before s w)) r (allowed r p);
         store = λ e. the_fault (answered say r) (SaidOfLeg old.cache new.cache) index.Store e said;
         full = λ e. the_fault (answered say r) (SaidOfLeg old.cache new.cache) index.StoreFull e said;
+        lacks = lacks_put old new feature legs p.was p.found r (λ fa. lacked r (pages_of_cache old.cache) old.tree p.was new.cache.count (p.lacks fa all_own));
         works_on = λ e. the_fault (answered say r) (SaidOfLeg old.cache new.cache) index.Spent e said;
         blames = blamed r p works;
         marked = marked_after old.cache new.cache p.passes;
@@ -254,6 +268,7 @@ taking_end old now all so_far = record {
   refused = tt;
   store = λ e. absurd cc;
   full = λ e. absurd cc;
+  lacks = λ e. absurd cc;
   works_on = λ e. absurd cc;
   blames = λ page e. absurd cc;
   marked = so_far.marked;
@@ -268,6 +283,13 @@ taking_refused old now new all left run fault so_far more = record {
   refused = λ before s w. (let at = so_far.going before s w in more.refused (before ++ at.0) at.1 (take_front (before ++ at.0) run left at.2));
   store = λ e. (let a = so_far.faults in let b = more.store e in omega (arith, clamps, a, b));
   full = more.full;
+  lacks = λ e fa shape is.
+      let from : Planted = planted words old in
+      let mid : Planted = planted words now in
+      let pages = new.cache.count in
+      subst (λ l. LacksRoom shape from pages l) (append_assoc so_far.done run left ∙ so_far.are)
+      (lacks_more shape from pages (so_far.done ++ run) left
+      (lacks_then shape from mid pages so_far.done run (so_far.added.grown fa shape is) (more.lacks e (so_far.added.room fa).0 shape (ap Some so_far.shape ∙ is))));
   works_on = more.works_on;
   blames = λ page e.
       let n = more.blames page e in
@@ -301,6 +323,7 @@ taking_none old mid new legs is same =
       refused = λ before s w. tt;
       store = λ e. absurd cc;
       full = λ e. absurd cc;
+      lacks = λ e. absurd cc;
       works_on = λ e. absurd cc;
       blames = λ page e. absurd cc;
       marked = λ m. subst (λ c. IsMarked c) (sym cache) m;

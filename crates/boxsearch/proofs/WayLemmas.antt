@@ -1,5 +1,5 @@
 -- The way down, a level at a time.
-use Rattle.std.proofs.Common.{ℕ, zero, suc, [], ◌∷◌, ◌++◌, ◌≡◌, ◌+◌, ◌-◌, ◌^◌, ◌<◌, ◌≤◌, List, length, sym, ap, ◌∙◌, arith, subst, Some, slice_get, All, inl, inr, ⊎_elim}
+use Rattle.std.proofs.Common.{ℕ, zero, suc, [], ◌∷◌, ◌++◌, ◌≡◌, ◌+◌, ◌-◌, ◌^◌, ◌<◌, ◌≤◌, List, length, sym, ap, ◌∙◌, arith, subst, Some, slice_get, take, All, inl, inr, ⊎_elim}
 use Rattle.std.specs.Prelude.{IsTrue, min}
 use Rattle.std.specs.List.{flat_map}
 use Rattle.std.proofs.lemmas.Bool.{cases_lt}
@@ -14,7 +14,7 @@ use Rattle.tbtree.specs.Faults.{IfNamed, RefusesRead}
 use Rattle.tbtree.specs.Nodes.{Pages, pages_of_cache, HasLeaf}
 use Rattle.tbtree.specs.declared.fault.TreeFault.{TreeFault}
 use Rattle.tbtree.specs.declared.fault.TreeFault.TheVariants.{Malformed}
-use Rattle.boxsearch.specs.Way.{meets, IsOnLevel, IsWay, IsOffWay}
+use Rattle.boxsearch.specs.Way.{meets, IsFirstWithout, IsOnLevel, IsWay, IsOffWay}
 use Rattle.boxsearch.proofs.SameLemmas.{below_same, hits_same, inner_after, inner_before, leaf_after, leaf_before}
 
 pub malformed_is : (Q : ℕ → Type 0) (fault : TreeFault) (page : ℕ) → fault ≡ Malformed page → Q page → IfNamed Q fault
@@ -30,6 +30,27 @@ root_alone now items fresh root e f h = e ∙ f ∙ ap (λ l. l ++ root ∷ []) 
 -- a count of asks below the greatest has risen by one
 pub one_more : (a b : ℕ) → b ≡ min (a + 1) (2 ^ 64 - 1) → b < 2 ^ 64 - 1 → (a < 2 ^ 64 - 1) × (b ≡ a + 1)
 one_more a b e l = (omega (arith, e, l), omega (arith, e, l))
+
+-- the pages of the first levels are each on its level
+module _ (query : BoxView) (nodes : Pages LegView BoxView) (root levels : ℕ) where
+  abbrev pub FitsTo : ℕ → Type 0
+  FitsTo depth = (n k : ℕ) → n + suc k ≡ levels → n < depth → All (λ p. IsOnLevel nodes k p) (pages_met (meets query) nodes root n)
+
+  -- no level is above the first
+  pub fits_none : FitsTo 0
+  fits_none n k l w = absurd (omega (arith, w))
+
+-- of pages of which P and Q hold alike, the first without
+first_then : (P Q : ℕ → Type 0) → ((p : ℕ) → P p → Q p) → ((p : ℕ) → Q p → P p) → (now met : List ℕ) → now ≡ met → (p : ℕ)
+    → IsFirstWithout P now p → IsFirstWithout Q met p
+first_then P Q there back now met e p f =
+    let before = All-same P (take f.place met) (take f.place now) (ap (take f.place) (sym e)) f.before in
+    record {
+      place = f.place;
+      is = ap (λ xs. slice_get xs f.place) (sym e) ∙ f.is;
+      before = λ i d w. there _ (before i d w);
+      fails = λ h. f.fails (back p h);
+    }
 
 module _ (a b : Cache) (reads : OnlyReads a b) (fa : IsTrue a.store.is_faithful) (query : BoxView) (root : ℕ) where
   -- the pages of the next level
@@ -76,40 +97,48 @@ module _ (a b : Cache) (reads : OnlyReads a b) (fa : IsTrue a.store.is_faithful)
         let all = All-same (λ p. HasLeaf (pages_of_cache a) p) now _ e (way.fit n 0 l) in
         λ i d w. leaf_after a b reads fa _ (all i d w)
 
-    pub inner_off_way : (n k i p : ℕ) (now : List ℕ) → 0 < k → n + suc k ≡ levels → now ≡ pages_met (meets query) (pages_of_cache a) root n
-        → slice_get now i ≡ Some p → (HasInner (pages_of_cache b) p k → ⊥) → IsOffWay query (pages_of_cache a) root levels p
-    inner_off_way n zero i p now some l e at off = absurd (omega (arith, some))
-    inner_off_way n (suc k) i p now some l e at off = record {
+    -- the first page of a level that is not read
+    pub inner_off_way : (n k left p : ℕ) (now : List ℕ) → 0 < k → n + suc k ≡ levels → now ≡ pages_met (meets query) (pages_of_cache a) root n
+        → FitsTo query (pages_of_cache a) root levels n → left + met_count (meets query) (pages_of_cache a) root (suc n) ≡ a.count
+        → IsFirstWithout (λ q. HasInner (pages_of_cache b) q k) now p → IsOffWay query (pages_of_cache a) root levels p
+    inner_off_way n zero left p now some l e fits all off = absurd (omega (arith, some))
+    inner_off_way n (suc k) left p now some l e fits all off = record {
       n = n;
       k = suc k;
       level_is = l;
-      place = i;
-      met = ap (λ xs. slice_get xs i) (sym e) ∙ at;
-      wrong = inl (λ h. off (inner_after a b reads fa p (suc k) h));
+      higher = fits;
+      stops = inl (record {
+        few = omega (arith, all);
+        first = first_then (λ q. HasInner (pages_of_cache b) q (suc k)) (λ q. IsOnLevel (pages_of_cache a) (suc k) q)
+            (λ q h. inner_before a b reads fa q (suc k) h) (λ q h. inner_after a b reads fa q (suc k) h) now _ e p off;
+      });
     }
 
-    pub leaf_off_way : (n i p : ℕ) (now : List ℕ) → n + 1 ≡ levels → now ≡ pages_met (meets query) (pages_of_cache a) root n
-        → slice_get now i ≡ Some p → (HasLeaf (pages_of_cache b) p → ⊥) → IsOffWay query (pages_of_cache a) root levels p
-    leaf_off_way n i p now l e at off = record {
+    pub leaf_off_way : (n left p : ℕ) (now : List ℕ) → n + 1 ≡ levels → now ≡ pages_met (meets query) (pages_of_cache a) root n
+        → FitsTo query (pages_of_cache a) root levels n → left + met_count (meets query) (pages_of_cache a) root (suc n) ≡ a.count
+        → IsFirstWithout (λ q. HasLeaf (pages_of_cache b) q) now p → IsOffWay query (pages_of_cache a) root levels p
+    leaf_off_way n left p now l e fits all off = record {
       n = n;
       k = 0;
       level_is = l;
-      place = i;
-      met = ap (λ xs. slice_get xs i) (sym e) ∙ at;
-      wrong = inl (λ h. off (leaf_after a b reads fa p h));
+      higher = fits;
+      stops = inl (record {
+        few = omega (arith, all);
+        first = first_then (λ q. HasLeaf (pages_of_cache b) q) (λ q. IsOnLevel (pages_of_cache a) 0 q)
+            (λ q h. leaf_before a b reads fa q h) (λ q h. leaf_after a b reads fa q h) now _ e p off;
+      });
     }
 
 -- the levels one after another, and how many pages are met on them
 module _ (query : BoxView) (nodes : Pages LegView BoxView) (root levels : ℕ) where
-  pub many_off_way : (n k i p : ℕ) (now : List ℕ) → n + suc k ≡ levels → now ≡ pages_met (meets query) nodes root n
+  pub many_off_way : (n k i p : ℕ) (now : List ℕ) → n + suc k ≡ levels → now ≡ pages_met (meets query) nodes root n → FitsTo query nodes root levels n
       → slice_get now i ≡ Some p → met_count (meets query) nodes root n + i ≡ nodes.count → IsOffWay query nodes root levels p
-  many_off_way n k i p now l e at many = record {
+  many_off_way n k i p now l e fits at many = record {
     n = n;
     k = k;
     level_is = l;
-    place = i;
-    met = ap (λ xs. slice_get xs i) (sym e) ∙ at;
-    wrong = inr many;
+    higher = fits;
+    stops = inr (record { place = i; is = ap (λ xs. slice_get xs i) (sym e) ∙ at; many = many });
   }
 
   pub few_on_way : (n : ℕ) (now : List ℕ) → suc n ≤ levels → now ≡ pages_met (meets query) nodes root n
@@ -125,12 +154,12 @@ module _ (query : BoxView) (nodes : Pages LegView BoxView) (root levels : ℕ) w
   counted n j now s e =
       ap (met_count (meets query) nodes root) s ∙ ap (λ (xs : List ℕ). met_count (meets query) nodes root n + length xs) (sym e)
 
-  -- the pages of the first levels are each on its level
-  abbrev pub FitsTo : ℕ → Type 0
-  FitsTo depth = (n k : ℕ) → n + suc k ≡ levels → n < depth → All (λ p. IsOnLevel nodes k p) (pages_met (meets query) nodes root n)
+  -- and how many are left then
+  pub left_on : (n m left : ℕ) → m ≡ suc n → left + met_count (meets query) nodes root m ≡ nodes.count → left + met_count (meets query) nodes root (suc n) ≡ nodes.count
+  left_on n m left s e = subst (λ v. left + met_count (meets query) nodes root v ≡ nodes.count) s e
 
-  -- and those of one level more
-  pub fits_more : (n k m : ℕ) → n + suc k ≡ levels → m ≡ suc n → All (λ p. IsOnLevel nodes k p) (pages_met (meets query) nodes root n) → FitsTo n → FitsTo m
+  -- where the pages of the first levels are each on its level, and those of one level more
+  pub fits_more : (n k m : ℕ) → n + suc k ≡ levels → m ≡ suc n → All (λ p. IsOnLevel nodes k p) (pages_met (meets query) nodes root n) → FitsTo query nodes root levels n → FitsTo query nodes root levels m
   fits_more n k m l s all above x y e w =
       ⊎_elim
       (λ (h : x < n). above x y e h)
@@ -142,7 +171,7 @@ module _ (query : BoxView) (nodes : Pages LegView BoxView) (root levels : ℕ) w
       (cases_lt x n)
 
   -- no fewer pages are met on more levels
-  met_rises : (n d m : ℕ) → n + d ≡ m → met_count (meets query) nodes root n ≤ met_count (meets query) nodes root m
+  pub met_rises : (n d m : ℕ) → n + d ≡ m → met_count (meets query) nodes root n ≤ met_count (meets query) nodes root m
   met_rises n zero m e =
       let same : n ≡ m = omega (arith, e) in
       let met = ap (met_count (meets query) nodes root) same in
@@ -153,7 +182,7 @@ module _ (query : BoxView) (nodes : Pages LegView BoxView) (root levels : ℕ) w
       omega (arith, fewer)
 
   -- where each level fits, and some or no pages are left, the way is whole
-  pub way_whole : (left m : ℕ) → m ≡ levels → FitsTo levels → left + met_count (meets query) nodes root m ≡ nodes.count → IsWay query nodes root levels
+  pub way_whole : (left m : ℕ) → m ≡ levels → FitsTo query nodes root levels levels → left + met_count (meets query) nodes root m ≡ nodes.count → IsWay query nodes root levels
   way_whole left m s fits all = record {
     fit = λ n k l. fits n k l (omega (arith, l));
     few = λ n h.

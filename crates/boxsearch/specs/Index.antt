@@ -1,9 +1,9 @@
 -- What contracts see of an index over pages.
-use Rattle.std.specs.Prelude.{Bool, true, None, suc, ◌+◌, ℕ, ◌≡◌, ◌<◌, ◌-◌, ◌^◌, ◌==◌, min, false, if◌then◌else◌, IsTrue, List, [], ◌∷◌, ◌++◌, map, length, slice_get, slice_index_or, Some, All}
+use Rattle.std.specs.Prelude.{Bool, true, None, suc, ◌+◌, ℕ, ◌≡◌, ◌<◌, ◌-◌, ◌^◌, ◌==◌, min, false, if◌then◌else◌, IsTrue, List, [], ◌∷◌, ◌++◌, map, length, slice_get, slice_index_or, Option, Some, All}
 use Rattle.std.specs.List.{Contains}
 use Rattle.legs.specs.Boxes.{BoxView}
 use Rattle.legs.specs.Costs.{ShapeView, leg_feature}
-use Rattle.legs.specs.Finding.{FeaturePlace, Finding}
+use Rattle.legs.specs.Finding.{Finding}
 use Rattle.legs.specs.Index.{feature_count}
 use Rattle.legs.specs.Legs.{IsLeg, LegView}
 use Rattle.legs.specs.Questions.{Question}
@@ -11,11 +11,12 @@ use Rattle.pages.specs.Store.{IsSynced}
 use Rattle.pages.specs.declared.payload.Payload.{Payload}
 use Rattle.legs.specs.declared.listed.Listed.{Ghosts}
 use Rattle.pagecache.specs.Cache.{Cache, IsClean, is_changed, pages_as_written, payload_of, sealed_payload}
-use Rattle.tbtree.specs.Content.{kids, IsAstray, LeadsToLeg}
+use Rattle.tbtree.specs.Content.{IsAstray, LeadsToLeg}
 use Rattle.tbtree.specs.Descent.{found_legs, node_at, node_in, pages_met}
 use Rattle.tbtree.specs.Insert.{Stands, IsPlace}
 use Rattle.tbtree.specs.Needs.{IsFit}
-use Rattle.tbtree.specs.Nodes.{pages_of_cache}
+use Rattle.tbtree.specs.Nodes.{pages_of_cache, Node}
+pub use Rattle.tbtree.specs.Planting.{place_of}
 use Rattle.tbtree.specs.Shape.{IsShape}
 use Rattle.tbtree.specs.Stands.{empty_tree, no_place, owner}
 use Rattle.tbtree.specs.declared.tree.Place.{Place}
@@ -97,10 +98,10 @@ is_unfit i legs page =
     → IsFit (pages_of_cache i.cache) i.tree (place_for i.places (owner leg_feature legs)) legs page
     → ⊥
 
--- the pages of the entries of the page; none where its store is not faithful
-abbrev pub children : IndexView → ℕ → List ℕ
-children i page =
-    if i.cache.store.is_faithful then kids (node_at (pages_of_cache i.cache) page) else []
+-- what the page says, as one of a tree; nothing where its store is not faithful
+abbrev pub node : IndexView → ℕ → Option (Node LegView BoxView)
+node i page =
+    if i.cache.store.is_faithful then node_in (node_at (pages_of_cache i.cache) page) else None
 
 -- the page has no payload; anything where its store is not faithful
 abbrev pub is_unreadable : IndexView → ℕ → Type 0
@@ -145,10 +146,6 @@ abbrev pub SyncsMark : Cache → Cache → Type 0
 SyncsMark old new = IsTrue old.store.is_faithful → (p : Payload) → payload_of old 0 ≡ Some p
     → (IsUnfinished p → ⊥) → IsSynced new.store
 
--- where a feature's legs are
-abbrev pub place_of : Place → FeaturePlace
-place_of p = record { first = p.first; last = p.last; last_index = p.last_index; legs = p.legs }
-
 -- the numbers by which it finds its legs
 abbrev pub found_by : IndexView → Finding
 found_by i =
@@ -173,7 +170,7 @@ words = record {
   is_astray = λ index above page. is_astray index above page;
   leads_to = λ index leg. leads_to index leg;
   is_unfit = λ index legs page. is_unfit index legs page;
-  children = λ index page. children index page;
+  node = λ index page. node index page;
   is_unreadable = λ index page. is_unreadable index page;
   ends_with = λ index leg. ends_with index leg;
   counted = λ index. index.legs;

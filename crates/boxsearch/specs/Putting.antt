@@ -1,7 +1,8 @@
 -- Helpers of private functions: what putting legs into its tree makes of an index.
-use Rattle.std.specs.Prelude.{ℕ, ◌≡◌, ◌≤◌, ◌+◌, ◌*◌, ◌-◌, ◌^◌, ◌<◌, min, true, false, IsTrue, OnOk, OnErr, IfErr, List, [], ◌∷◌, length, Result, Some, slice_get, set}
+use Rattle.std.specs.Prelude.{ℕ, ◌≡◌, ◌≤◌, ◌+◌, ◌*◌, ◌-◌, ◌^◌, ◌<◌, min, true, false, IsTrue, OnOk, OnErr, IfErr, List, [], ◌∷◌, length, Result, Some, slice_get, set, All}
+use Rattle.legs.specs.Costs.{leg_feature}
 use Rattle.legs.specs.Legs.{LegView}
-use Rattle.tbtree.specs.Faults.{IfNamed, RefusesWrite}
+use Rattle.tbtree.specs.Faults.{IfFull, IfNamed, RefusesWrite}
 use Rattle.tbtree.specs.Insert.{Inserts}
 use Rattle.tbtree.specs.Content.{ContentGrows}
 use Rattle.tbtree.specs.Filling.{FillsLeaves}
@@ -9,7 +10,8 @@ use Rattle.tbtree.specs.Joining.{Joins, JoinsAll}
 use Rattle.tbtree.specs.Needs.{BlamesNext, IsFit}
 use Rattle.tbtree.specs.Nodes.{pages_of_cache}
 use Rattle.tbtree.specs.Passes.{Passes, KeepsLength}
-use Rattle.tbtree.specs.Upper.{HasHung, HasMoved}
+use Rattle.tbtree.specs.Stands.{owner}
+use Rattle.tbtree.specs.Planting.{HasLacked, HasPlanted}
 use Rattle.tbtree.specs.declared.fault.TreeFault.{TreeFault}
 use Rattle.tbtree.specs.declared.tree.Place.{Place}
 use Rattle.boxsearch.specs.Index.{IndexView}
@@ -38,11 +40,9 @@ pub record Puts (old new : IndexView) (leg : LegView)
   pub met : IsTrue old.cache.store.is_faithful
       → OnOk result (ContentGrows (pages_of_cache old.cache) (pages_of_cache new.cache) old.tree
       new.tree (leg ∷ []))
-  pub hung : IsTrue old.cache.store.is_faithful
-      → OnOk result (HasHung (pages_of_cache old.cache) (pages_of_cache new.cache) old.tree
-      new.tree)
-  pub moved : IsTrue old.cache.store.is_faithful
-      → OnOk result (HasMoved (pages_of_cache old.cache) old.tree new.tree was is)
+  pub grown : IsTrue old.cache.store.is_faithful
+      → OnOk result (HasPlanted leg.feature (pages_of_cache old.cache) (pages_of_cache new.cache)
+      old.tree new.tree was is (leg ∷ []))
   pub placed : OnOk result (is.legs ≡ was.legs + 1)
   pub unmoved : OnErr result ((new.tree ≡ record old.tree { spent = true }) × (is ≡ was))
   pub shape : new.tree.shape ≡ old.tree.shape
@@ -53,6 +53,9 @@ pub record Puts (old new : IndexView) (leg : LegView)
   pub caused : IfErr result (RefusesWrite old.cache new.cache)
   pub blames : IsTrue old.cache.store.is_faithful → IfErr result
       (IfNamed (λ page. IsFit (pages_of_cache old.cache) old.tree was (leg ∷ []) page → ⊥))
+  pub lacks : IsTrue old.cache.store.is_faithful → IfErr result
+      (IfFull (HasLacked leg.feature (pages_of_cache old.cache) old.tree was new.cache.count
+      (leg ∷ [])))
   pub asked : OnOk result (new.cache.asked ≤ old.cache.asked + (2 * (new.tree.levels - 1) + 4))
   pub works : OnOk result (new.tree.spent ≡ false)
   pub spent : OnErr result (new.tree.spent ≡ true)
@@ -72,11 +75,9 @@ pub record PutsAll (old new : IndexView) (feature : ℕ) (legs : List LegView)
   pub met : IsTrue old.cache.store.is_faithful
       → OnOk result (ContentGrows (pages_of_cache old.cache) (pages_of_cache new.cache) old.tree
       new.tree legs)
-  pub hung : IsTrue old.cache.store.is_faithful
-      → OnOk result (HasHung (pages_of_cache old.cache) (pages_of_cache new.cache) old.tree
-      new.tree)
-  pub moved : IsTrue old.cache.store.is_faithful
-      → OnOk result (HasMoved (pages_of_cache old.cache) old.tree new.tree was is)
+  pub grown : IsTrue old.cache.store.is_faithful
+      → OnOk result (HasPlanted (owner leg_feature legs) (pages_of_cache old.cache)
+      (pages_of_cache new.cache) old.tree new.tree was is legs)
   pub placed : OnOk result (is.legs ≡ was.legs + length legs)
   pub shape : new.tree.shape ≡ old.tree.shape
   pub room : 0 < old.tree.shape.leaf
@@ -86,6 +87,10 @@ pub record PutsAll (old new : IndexView) (feature : ℕ) (legs : List LegView)
   pub caused : IfErr result (RefusesWrite old.cache new.cache)
   pub blames : IsTrue old.cache.store.is_faithful → IfErr result
       (IfNamed (BlamesNext old.cache new.cache old.tree new.tree was is legs))
+  pub lacks : IsTrue old.cache.store.is_faithful
+      → All (λ leg. leg.feature ≡ owner leg_feature legs) legs → IfErr result
+      (IfFull (HasLacked (owner leg_feature legs) (pages_of_cache old.cache) old.tree was
+      new.cache.count legs))
   pub asked : OnOk result (new.cache.asked
       ≤ old.cache.asked + new.tree.levels
       + (new.tree.leaves - old.tree.leaves) * (new.tree.levels + 2))

@@ -1,6 +1,6 @@
 -- An index whose legs came in any order, and what legs make of it.
 use Rattle.std.specs.Prelude.{ℕ, ◌≡◌, ◌==◌, List, [], ◌++◌, map, length, slice_get, slice_index_or, Some, IsTrue, true, false, Result, OnOk, OnErr, IfErr, IsErrOf}
-use Rattle.legs.specs.Asking.{Blames}
+use Rattle.legs.specs.Asking.{Blames, LacksPages}
 use Rattle.legs.specs.Costs.{leg_feature}
 use Rattle.legs.specs.Index.{feature_count, CanFollowInTurn, HasRisen, MayRefuseLeg}
 use Rattle.legs.specs.Legs.{LegView}
@@ -44,6 +44,7 @@ pub record Taking (old new : IndexView) (legs : List LegView)
       → MayRefuseLeg fault)
   pub store : IsErrOf result Store → HasRisen old.cache.store.faults new.cache.store.faults
   pub full : IsErrOf result StoreFull → new.cache.count ≡ new.cache.store.most
+  pub lacks : IsErrOf result StoreFull → LacksPages words old new legs
   pub works_on : IsErrOf result Spent → ⊥
   pub blames : (page : ℕ) → IsErrOf result (Damaged page) → Blames words old new legs page
   pub marked : IsMarked old.cache → IsMarked new.cache

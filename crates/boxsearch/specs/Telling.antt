@@ -49,7 +49,7 @@ Tells nodes tree places (InBox query) legs = TellsBox nodes tree query legs
 Tells nodes tree places (OfFeature feature period) legs =
     TellsTrack nodes tree.shape period feature (slice_get places feature) legs
 
--- the page is met, and is not what it is to be there
+-- the page is the first that is met and is not what it is to be there, or the first that is met beyond as many as there are
 abbrev pub Denies : Pages LegView BoxView → TbTree → List Place → Question → ℕ → Type 0
 Denies nodes tree places (InBox query) page = IsOffWay query nodes tree.root tree.levels page
 Denies nodes tree places (OfFeature feature period) page =

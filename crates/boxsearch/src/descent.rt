@@ -11,7 +11,7 @@ ghost use Rattle.tbtree.specs.Faults.{GivesRead, IfNamed, MayRefuseRead, Refuses
 ghost use Rattle.tbtree.specs.Insert.{Stands};
 ghost use Rattle.tbtree.specs.Nodes.{pages_of_cache, HasLeaf};
 ghost use Rattle.tbtree.specs.declared.fault.TreeFault.{TreeFault};
-ghost use Rattle.boxsearch.specs.Way.{meets, IsWay, IsOffWay};
+ghost use Rattle.boxsearch.specs.Way.{meets, IsFirstWithout, IsWay, IsOffWay};
 
 use crate::nodes::{push_children, push_legs};
 use legs::{Box3, Leg};
@@ -41,8 +41,8 @@ fn next_level<S: PageStore>(
         → All (λ p. HasInner (pages_of_cache cache.old) p level) pages.now
         → IfErr result MayRefuseRead }
     ensures named { IsTrue cache.old.store.is_faithful
-        → IfErr result (IfNamed (λ n. (i : ℕ) × (slice_get pages.now i ≡ Some n)
-        × (HasInner (pages_of_cache cache.old) n level → ⊥))) }
+        → IfErr result (IfNamed (IsFirstWithout (λ p. HasInner (pages_of_cache cache.old) p level)
+        pages.now)) }
     ensures reads { Reads cache.old cache.new result }
     ensures asked { OnOk result (RisesBy cache.old.asked cache.new.asked (length pages.now)) }
     ensures most { cache.new.asked ≤ cache.old.asked + length pages.now }
@@ -70,8 +70,8 @@ fn legs_in<S: PageStore>(
     ensures only { IsTrue cache.old.store.is_faithful
         → All (λ p. HasLeaf (pages_of_cache cache.old) p) pages.now → IfErr result MayRefuseRead }
     ensures named { IsTrue cache.old.store.is_faithful
-        → IfErr result (IfNamed (λ n. (i : ℕ) × (slice_get pages.now i ≡ Some n)
-        × (HasLeaf (pages_of_cache cache.old) n → ⊥))) }
+        → IfErr result (IfNamed (IsFirstWithout (λ p. HasLeaf (pages_of_cache cache.old) p)
+        pages.now)) }
     ensures reads { Reads cache.old cache.new result }
     ensures asked { OnOk result (RisesBy cache.old.asked cache.new.asked (length pages.now)) }
     ensures most { cache.new.asked ≤ cache.old.asked + length pages.now }
@@ -137,10 +137,10 @@ fn collected<S: PageStore>(
 
 /// The legs of a tree whose boxes meet a box, each once, in the order in which they were accepted.
 ///
-/// Pages are read level by level from the root down. A page that is not the inner page or the leaf that the tree
-/// expects there is `Malformed`, and so is the first page that would be read beyond as many as the store has. What
-/// else the cache refuses is `Cache`, and so is want of memory for the legs or the numbers of pages. A spent tree is
-/// `Spent`.
+/// Pages are read level by level from the root down. The first page that is not the inner page or the leaf that the
+/// tree expects there is `Malformed`. Where a level has more pages than are left of as many as the store has, none of
+/// them is read, and the first one beyond is `Malformed`. What else the cache refuses is `Cache`, and so is want of
+/// memory for the legs or the numbers of pages. A spent tree is `Spent`.
 #[tactic(auto, using(chains::proofs::ReadLemmas::reading))]
 pub fn search<S: PageStore>(
     alloc: Global,
@@ -160,8 +160,8 @@ pub fn search<S: PageStore>(
         (search_cost query.now (Some tree.now.shape) legs)) }
 
     // Of any pages: the legs of the pages that are met, in order, and only where each of them is what the tree expects;
-    // where each is, nothing else refuses. A page that is said to be malformed or damaged is one that is not, or the
-    // first one that is met beyond as many as there are.
+    // where each is, nothing else refuses. A page that is said to be malformed or damaged is the first one that is not,
+    // level by level from the root down; but where with a level more are met than there are, the first one beyond.
     ensures met { IsTrue cache.old.store.is_faithful
         → IfOk result (λ found. IsInOrder (legs_met leg_boxes (meets query.now)
         (pages_of_cache cache.old) tree.now.root tree.now.levels) found.items) }

@@ -14,7 +14,7 @@ impl<S: PageStore> Listed for TreeIndex<S> {
     ghost use Rattle.std.specs.Prelude.{IsTrue, Some, length, min, ◌≡◌, ◌-◌, ◌^◌};
     ghost use Rattle.pagecache.specs.Cache.{IsClean};
     ghost use Rattle.boxsearch.specs.Known.{KnowsBackTo};
-    ghost use Rattle.boxsearch.specs.Index.{children, comes_to, content, denies, ends_with, finds, found_by, is_astray, is_bare, is_unreadable, is_unfit, leads_to, tells, written, IsSound, IsMarked};
+    ghost use Rattle.boxsearch.specs.Index.{node, comes_to, content, denies, ends_with, finds, found_by, is_astray, is_bare, is_unreadable, is_unfit, leads_to, tells, written, IsSound, IsMarked};
     ghost use Rattle.pages.specs.Store.{IsSynced};
 
     ghost content = { λ index. content index };
@@ -35,7 +35,7 @@ impl<S: PageStore> Listed for TreeIndex<S> {
 
     ghost is_unfit = { λ index legs page. is_unfit index legs page };
 
-    ghost children = { λ index page. children index page };
+    ghost node = { λ index page. node index page };
 
     ghost is_unreadable = { λ index page. is_unreadable index page };
 

@@ -1,12 +1,12 @@
-use Rattle.std.proofs.Common.{ℕ, ◌≡◌, ◌+◌, ◌-◌, ◌<◌, [], ◌∷◌, List, length, suc, arith, ap, ◌∙◌, Some, slice_get}
+use Rattle.std.proofs.Common.{ℕ, ◌≡◌, ◌+◌, ◌-◌, ◌<◌, [], ◌∷◌, List, length, suc, arith, ap, ◌∙◌}
 use Rattle.std.proofs.lemmas.Result.{err_from_is_err_and}
 use Rattle.tbtree.specs.Descent.{pages_met, met_count, HasInner}
 use Rattle.tbtree.specs.Nodes.{pages_of_cache, HasLeaf}
-use Rattle.boxsearch.specs.Way.{meets, IsOffWay}
+use Rattle.boxsearch.specs.Way.{meets, IsFirstWithout, IsOffWay}
 use Rattle.boxsearch.proofs.FoundLemmas.{if_ok, if_err, on_ok}
 use Rattle.chains.proofs.ReadLemmas.{caused_after, reads_then, reads_trans}
 use Rattle.tbtree.proofs.FaultLemmas.{named_then}
-use Rattle.boxsearch.proofs.WayLemmas.{malformed_caused, root_alone, level_down, level_legs, counted, few_on_way, many_off_way, inners_on_way, inner_off_way, leaves_on_way, leaf_off_way, inners_fit, leaves_fit, fits_more, way_whole, malformed_is}
+use Rattle.boxsearch.proofs.WayLemmas.{malformed_caused, root_alone, level_down, level_legs, counted, few_on_way, many_off_way, left_on, inners_on_way, inner_off_way, leaves_on_way, leaf_off_way, inners_fit, leaves_fit, fits_more, fits_none, way_whole, malformed_is}
 use Rattle.boxsearch.proofs.descent.collected.Goals as goal
 
 pub loop-level-preserved : goal.loop-level-preserved
@@ -75,7 +75,7 @@ returns-in_err-spend-clause-named g c = λ fa.
     let rooted : now ≡ root ∷ [] = root_alone now c.push.new.self.items c.new-pages.result.items root c.deref.ensures.value c.in_ok-push.ensures.items c.new-pages.ensures.items in
     let last : 0 + suc (levels - 1) ≡ levels = omega (arith, c.requires.levels) in
     let many : met_count (meets query) nodes root 0 + c.count.result ≡ nodes.count = omega (arith, c.count.ensures.value) in
-    rw (p.1, p.2) (malformed_is (IsOffWay query nodes root levels) _ e.1 e.3 (many_off_way query nodes root levels 0 (levels - 1) c.count.result e.1 now last rooted e.2 many))
+    rw (p.1, p.2) (malformed_is (IsOffWay query nodes root levels) _ e.1 e.3 (many_off_way query nodes root levels 0 (levels - 1) c.count.result e.1 now last rooted (fits_none query nodes root levels) e.2 many))
 
 pub returns-in_err-pages-clause-only : goal.returns-in_err-pages-clause-only
 returns-in_err-pages-clause-only g c = λ fa way.
@@ -99,10 +99,12 @@ returns-in_err-pages-clause-named g c = λ fa.
     let now = c.deref-in-loop-level.result.now in
     let some : 0 < levels - level = omega (arith, c.loop-level-test.true) in
     let last : level - 1 + suc (levels - level) ≡ levels = omega (arith, c.loop-level-test.true) in
+    let up : level ≡ suc (level - 1) = omega arith in
+    let so_far = left_on query (pages_of_cache old) root levels (level - 1) level c.loop-level.left up (inv.left fa) in
     rw (p.1, p.2) (named_then
-    (λ q. (i : ℕ) × (slice_get now i ≡ Some q) × (HasInner (pages_of_cache c.loop-level.cache) q (levels - level) → ⊥))
+    (IsFirstWithout (λ q. HasInner (pages_of_cache c.loop-level.cache) q (levels - level)) now)
     (IsOffWay query (pages_of_cache old) root levels)
-    (λ q h. inner_off_way old c.loop-level.cache inv.reads fa query root levels (level - 1) (levels - level) h.0 q now some last (c.deref-in-loop-level.ensures.value ∙ inv.found fa) h.1 h.2)
+    (λ q h. inner_off_way old c.loop-level.cache inv.reads fa query root levels (level - 1) (levels - level) c.loop-level.left q now some last (c.deref-in-loop-level.ensures.value ∙ inv.found fa) (inv.way fa) so_far h)
     _
     (c.in_err-pages.ensures.named (inv.reads.store.faithful ∙ fa)))
 
@@ -143,8 +145,14 @@ returns-in_err-spend-2-clause-named g c = λ fa.
     let so_far = inv.left fa in
     let last : level + suc (levels - level - 1) ≡ levels = omega (arith, c.loop-level-test.true) in
     let many : met_count (meets query) nodes root level + c.loop-level.left ≡ nodes.count = omega (arith, so_far) in
+    let some : 0 < levels - level = omega (arith, c.loop-level-test.true) in
+    let deep : level - 1 + suc (levels - level) ≡ levels = omega (arith, c.loop-level-test.true) in
+    let fits = fits_more query nodes root levels (level - 1) (levels - level) level deep up
+    (inners_fit old c.loop-level.cache inv.reads fa query root (level - 1) (levels - level) c.deref-in-loop-level.result.now some (c.deref-in-loop-level.ensures.value ∙ inv.found fa)
+    (c.in_ok-pages.ensures.way (inv.reads.store.faithful ∙ fa)))
+    (inv.way fa) in
     rw (p.1, p.2) (malformed_is (IsOffWay query nodes root levels) _ e.1 e.3
-    (many_off_way query nodes root levels level (levels - level - 1) c.loop-level.left e.1 below last (c.deref-in-loop-level-2.ensures.value ∙ met) e.2 many))
+    (many_off_way query nodes root levels level (levels - level - 1) c.loop-level.left e.1 below last (c.deref-in-loop-level-2.ensures.value ∙ met) fits e.2 many))
 
 pub returns-clause-found : goal.returns-clause-found
 returns-clause-found g c = λ fa.
@@ -194,11 +202,13 @@ returns-clause-named g c = λ fa.
     let levels = c.args.tree.now.levels in
     let now = c.deref-2.result.now in
     let last : level - 1 + 1 ≡ levels = omega (arith, c.loop-level-test.false, c.requires.levels) in
+    let up : level ≡ suc (level - 1) = omega arith in
+    let so_far = left_on query (pages_of_cache old) root levels (level - 1) level c.loop-level.left up (inv.left fa) in
     if_err c.legs_in.result _ _
     (λ fault h. named_then
-    (λ q. (i : ℕ) × (slice_get now i ≡ Some q) × (HasLeaf (pages_of_cache c.loop-level.cache) q → ⊥))
+    (IsFirstWithout (λ q. HasLeaf (pages_of_cache c.loop-level.cache) q) now)
     (IsOffWay query (pages_of_cache old) root levels)
-    (λ q k. leaf_off_way old c.loop-level.cache inv.reads fa query root levels (level - 1) k.0 q now last (c.deref-2.ensures.value ∙ inv.found fa) k.1 k.2)
+    (λ q k. leaf_off_way old c.loop-level.cache inv.reads fa query root levels (level - 1) c.loop-level.left q now last (c.deref-2.ensures.value ∙ inv.found fa) (inv.way fa) so_far k)
     fault
     h)
     (c.legs_in.ensures.named (inv.reads.store.faithful ∙ fa))

@@ -1,7 +1,7 @@
-use Rattle.std.proofs.Common.{ℕ, ◌≡◌, ◌+◌, suc, arith, sym, ap, ◌∙◌, Some, slice_get, get_or, subst}
+use Rattle.std.proofs.Common.{◌≡◌, ◌+◌, suc, arith, sym, ap, ◌∙◌, Some, slice_get, get_or, subst}
 use Rattle.std.proofs.lemmas.Option.{slice_get-get_or}
 use Rattle.std.proofs.lemmas.Result.{err_from_is_err_and}
-use Rattle.boxsearch.specs.Way.{meets}
+use Rattle.boxsearch.specs.Way.{meets, IsFirstWithout}
 use Rattle.legs.specs.Hull.{leg_boxes}
 use Rattle.tbtree.specs.Descent.{hits}
 use Rattle.tbtree.specs.Nodes.{pages_of_cache, HasLeaf}
@@ -64,7 +64,12 @@ returns-in_err-push_legs-clause-named g c = λ fa.
     let at : slice_get pages i ≡ Some page = slice_get-get_or pages i 0 c.loop-page-test.true in
     rw (p.1, p.2) (named_then
     (λ n. (n ≡ page) × (HasLeaf (pages_of_cache c.loop-page.cache) page → ⊥))
-    (λ n. (k : ℕ) × (slice_get pages k ≡ Some n) × (HasLeaf (pages_of_cache c.args.cache.now) n → ⊥))
-    (λ n h. (i, at ∙ ap Some (sym h.0), λ has. h.1 (leaf_after c.args.cache.now c.loop-page.cache inv.reads fa page (subst (λ m. HasLeaf (pages_of_cache c.args.cache.now) m) h.0 has))))
+    (IsFirstWithout (λ q. HasLeaf (pages_of_cache c.args.cache.now) q) pages)
+    (λ n h. record {
+      place = i;
+      is = at ∙ ap Some (sym h.0);
+      before = inv.way fa;
+      fails = λ has. h.1 (leaf_after c.args.cache.now c.loop-page.cache inv.reads fa page (subst (λ q. HasLeaf (pages_of_cache c.args.cache.now) q) h.0 has));
+    })
     _
     (c.in_err-push_legs.ensures.named (inv.reads.store.faithful ∙ fa)))

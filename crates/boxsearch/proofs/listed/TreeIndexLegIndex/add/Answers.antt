@@ -8,7 +8,7 @@ use Rattle.legs.specs.Legs.{LegView}
 use Rattle.boxsearch.specs.Index.{IndexView, words, content, with_place, IsSound}
 use Rattle.boxsearch.specs.Putting.{Puts}
 use Rattle.boxsearch.proofs.AddLemmas.{Laws, made, added, asked, refusals, marked_after}
-use Rattle.boxsearch.proofs.EndLemmas.{leg_takes}
+use Rattle.boxsearch.proofs.EndLemmas.{lacks_put, leg_takes}
 use Rattle.boxsearch.proofs.PlaceLemmas.{past_made}
 use Rattle.boxsearch.proofs.ResultLemmas.{from_ok}
 use Rattle.boxsearch.proofs.listed.TreeIndexLegIndex.add.Goals as goal
@@ -40,7 +40,7 @@ returns-clause-refusals g c =
     let p : Puts (made c.args.self.now c.args.leg.feature) c.put.new.self c.args.leg c.put.result = subst (λ m. Puts m c.put.new.self c.args.leg c.put.result) (mid ∙ ap (made c.args.self.now) feature) c.put.ensures in
     let works = sym (ap (λ (i : IndexView). i.tree.spent) c.self.view_is) ∙ c.if-self.false in
     subst (λ r. LegRefusals words c.args.self.now c.put.new.self (c.args.leg ∷ []) r) (sym c.answer.ensures)
-    (refusals laws c.args.self.now c.put.new.self c.args.leg c.put.result works p)
+    (refusals laws c.args.self.now c.put.new.self c.args.leg c.put.result works p (lacks_put c.args.self.now c.put.new.self c.args.leg.feature (c.args.leg ∷ []) p.was p.found c.put.result p.lacks))
 
 pub returns-clause-marked : goal.returns-clause-marked
 returns-clause-marked g c = λ m.
@@ -71,6 +71,7 @@ returns-then-feature-len-clause-refusals g c =
       sound = λ s w. (let low = w.0.feature in let n = s.features in omega (arith, low, above, n));
       store = λ e. absurd cc;
       full = λ e. absurd cc;
+      lacks = λ e. absurd cc;
       skips = λ e. inr (λ none. (let low = none.0 in omega (arith, low, above)));
       blames = λ page e. absurd cc;
     }

@@ -26,6 +26,7 @@ no_turns old new legs fault works spent kind only = record {
   sound = λ s w. subst (λ f. MayRefuseLeg f) (sym (only (none_skipped (content old) legs (length old.places) s.features w))) tt;
   store = λ e. absurd (subst (λ f. IsTurnFault f) (let same : fault ≡ index.Store = cc in same) kind);
   full = λ e. absurd (subst (λ f. IsTurnFault f) (let same : fault ≡ index.StoreFull = cc in same) kind);
+  lacks = λ e. absurd (subst (λ f. IsTurnFault f) (let same : fault ≡ index.StoreFull = cc in same) kind);
   skips = λ e. inr (λ none. (let same : fault ≡ index.Spent = cc in memory_not_spent (sym (only none) ∙ same)));
   blames = λ page e. absurd (subst (λ f. IsTurnFault f) (let same : fault ≡ index.Damaged page = cc in same) kind);
 }

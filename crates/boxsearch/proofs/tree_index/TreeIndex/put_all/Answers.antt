@@ -21,8 +21,7 @@ returns-then-is_ok g c =
       joins = c.insert_all-result.ensures.joins works;
       fills = c.insert_all-result.ensures.fills;
       met = c.insert_all-result.ensures.met;
-      hung = c.insert_all-result.ensures.hung;
-      moved = c.insert_all-result.ensures.moved;
+      grown = c.insert_all-result.ensures.grown;
       placed = c.insert_all-result.ensures.counted;
       shape = c.insert_all-result.ensures.shape;
       room = let l = c.leaf.ensures.range.least_leaf in let v = c.leaf.ensures.value in omega (arith, l, v);
@@ -31,6 +30,7 @@ returns-then-is_ok g c =
       few = let a = c.if-prove.false in let b = c.count.ensures.value in omega (arith, a, b);
       caused = c.insert_all-result.ensures.caused works;
       blames = c.insert_all-result.ensures.blames works;
+      lacks = c.insert_all-result.ensures.lacks works;
       asked = c.insert_all-result.ensures.asked;
       more = c.insert_all-result.ensures.more;
       higher = c.insert_all-result.ensures.higher;
@@ -55,8 +55,7 @@ returns-else-is_ok g c =
       joins = c.insert_all-result.ensures.joins works;
       fills = c.insert_all-result.ensures.fills;
       met = c.insert_all-result.ensures.met;
-      hung = c.insert_all-result.ensures.hung;
-      moved = c.insert_all-result.ensures.moved;
+      grown = c.insert_all-result.ensures.grown;
       placed = c.insert_all-result.ensures.counted;
       shape = c.insert_all-result.ensures.shape;
       room = let l = c.leaf.ensures.range.least_leaf in let v = c.leaf.ensures.value in omega (arith, l, v);
@@ -65,6 +64,7 @@ returns-else-is_ok g c =
       few = let a = c.if-prove.false in let b = c.count.ensures.value in omega (arith, a, b);
       caused = c.insert_all-result.ensures.caused works;
       blames = c.insert_all-result.ensures.blames works;
+      lacks = c.insert_all-result.ensures.lacks works;
       asked = c.insert_all-result.ensures.asked;
       more = c.insert_all-result.ensures.more;
       higher = c.insert_all-result.ensures.higher;
