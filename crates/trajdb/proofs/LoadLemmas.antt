@@ -153,6 +153,6 @@ pub names_file : {I : Type 0} (g : Ghosts I) (old new : CoreView I) (bytes : Lis
 names_file g old new bytes run.Memory h = tt
 names_file g old new bytes run.Store h = tt
 names_file g old new bytes (run.Damaged page) h = h
-names_file g old new bytes run.StoreFull h = tt
+names_file g old new bytes run.StoreFull h = h
 names_file g old new bytes run.Failed h = inr h
 names_file g old new bytes run.Output h = tt

@@ -21,14 +21,13 @@ use Rattle.legs.specs.declared.listed.Listed.{Ghosts}
 use Rattle.predicates.specs.Predicates.{Holds}
 use Rattle.predicates.specs.Near.{box_near}
 use Rattle.predicates.specs.declared.Predicate.{Predicate}
-use Rattle.trajdb.specs.Answers.{HoldsOfLeg, file_answer, legs_text, names_text}
+use Rattle.trajdb.specs.Answers.{file_answer, legs_text, names_text}
 use Rattle.trajdb.specs.Calls.{IsText, LeavesBook}
 use Rattle.trajdb.specs.Database.{CoreView}
 use Rattle.trajdb.specs.Faults.{run_fault_of}
-use Rattle.trajdb.specs.Telling.{AreLive, ArePickedOf, AreToldOf, IsToldFile, DeniesFile, DeniesLegs, DeniesSome, DeniesTrack, Names, PicksLive}
+use Rattle.trajdb.specs.Telling.{AreLive, ArePickedOf, AreToldOf, IsToldFile, DeniesFile, DeniesFirst, DeniesLegs, DeniesLive, DeniesPicks, DeniesTrack, IsLiveTold, Names, PicksLive}
 use Rattle.trajdb.specs.declared.RunFault.{RunFault}
 use Rattle.trajdb.specs.declared.RunFault.TheVariants.{Memory, Store, Damaged, StoreFull, Failed, Output}
-use Rattle.trajdb.proofs.FaultLemmas.{picks_all}
 
 module _ {I : Type 0} (g : Ghosts I) (core : CoreView I) where
   pub names_weaker : (P Q : ℕ → Type 0) (fault : RunFault) → ((page : ℕ) → P page → Q page) → Names g core P fault → Names g core Q fault
@@ -78,9 +77,9 @@ module _ {I : Type 0} (g : Ghosts I) (core : CoreView I) where
 
   pub features_names : (new : Book) (predicate : Predicate) (rect : RectView) (period : PeriodView) (features : List ℕ) (fault : RunFault) → new ≡ core.book
       → (length core.book.names ≤ most → PicksLive g core predicate rect period (range_with_len 0 (length core.book.names)) features)
-      → IsText (All (λ f. f < length new.names) features) fault → Names g core (λ page. length core.book.names ≤ most → DeniesSome g core period page) fault
+      → IsText (All (λ f. f < length new.names) features) fault → Names g core (λ page. length core.book.names ≤ most → DeniesFirst g core period page) fault
   features_names new predicate rect period features fault same picks text =
-      text_names (All (λ f. f < length new.names) features) (λ page. length core.book.names ≤ most → DeniesSome g core period page) fault text
+      text_names (All (λ f. f < length new.names) features) (λ page. length core.book.names ≤ most → DeniesFirst g core period page) fault text
       (λ page zero lacks few.
       absurd (lacks (subst (λ (b : Book). All (λ f. f < length b.names) features) (sym same)
       (live_all predicate rect period (λ f. f < length core.book.names) (range_with_len 0 (length core.book.names)) features (below (length core.book.names) (length core.book.names) (omega arith)) (picks few)))))
@@ -115,14 +114,14 @@ module _ {I : Type 0} (g : Ghosts I) (old now : CoreView I) (leaves : LeavesBook
   failed_before (inr s) = inr (sym leaves.index.spent ∙ s)
 
   pub some_names : (period : PeriodView) (feature : ℕ) (fault : RunFault) → (length old.book.names ≤ most → feature < length old.book.names)
-      → Names g now (λ page. g.denies now.index (OfFeature feature (Some period)) page) fault
-      → Names g old (λ page. length old.book.names ≤ most → DeniesSome g old period page) fault
-  some_names period feature Memory less h = tt
-  some_names period feature Store less h = tt
-  some_names period feature (Damaged page) less h = λ few. (feature, less few, leaves.index.denied (OfFeature feature (Some period)) page h)
-  some_names period feature StoreFull less h = tt
-  some_names period feature Failed less h = failed_before h
-  some_names period feature Output less h = tt
+      → ((earlier : ℕ) → earlier < feature → IsLiveTold g old period earlier) → Names g now (DeniesLive g now period feature) fault
+      → Names g old (λ page. length old.book.names ≤ most → DeniesFirst g old period page) fault
+  some_names period feature Memory less told h = tt
+  some_names period feature Store less told h = tt
+  some_names period feature (Damaged page) less told h = λ few. (feature, less few, (λ over. h.0 (subst (λ t. IsOver t feature period) (sym leaves.tracks) over), leaves.index.denied (OfFeature feature (Some period)) page h.1), told)
+  some_names period feature StoreFull less told h = tt
+  some_names period feature Failed less told h = failed_before h
+  some_names period feature Output less told h = tt
 
 -- what is shown of a book that is the same, of legs that are the same
 pub shown_legs : (old new : Book) (a b : List LegView) → new ≡ old → a ≡ b → legs_text new a ≡ legs_text old b
@@ -164,10 +163,14 @@ module _ {I : Type 0} (g : Ghosts I) (core : CoreView I) where
 
   -- of those picked of them
   pub picked_names : (predicate : Predicate) (rect : RectView) (period : PeriodView) (new : Book) (picked shown : List LegView) (fault : RunFault) → new ≡ core.book
-      → ArePickedOf g core predicate rect period picked → shown ≡ picked → IsText (All (IsThere new) shown) fault → Names g core (DeniesLegs g core (InBox (box_near predicate rect period))) fault
-  picked_names predicate rect period new picked shown fault same (legs, told, picks) e text =
-      legs_names g core new (InBox (box_near predicate rect period)) legs shown fault same told
-      (λ all. subst (All (IsThere core.book)) (sym e) (picks_all (HoldsOfLeg predicate rect period) (IsThere core.book) legs picked all picks)) text
+      → ArePickedOf g core predicate rect period picked → shown ≡ picked → IsText (All (IsThere new) shown) fault → Names g core (DeniesPicks g core predicate rect period) fault
+  picked_names predicate rect period new picked shown fault same are e text =
+      text_names g core (All (IsThere new) shown) (DeniesPicks g core predicate rect period) fault text
+      (λ page zero lacks. inr (zero, picked, are, λ all. lacks (subst (λ b. All (IsThere b) shown) (sym same) (subst (All (IsThere core.book)) (sym e) all))))
+
+  -- and a page that the index denies is one that is named of them
+  pub picked_denied : (predicate : Predicate) (rect : RectView) (period : PeriodView) (fault : RunFault) → Names g core (λ page. g.denies core.index (InBox (box_near predicate rect period)) page) fault → Names g core (DeniesPicks g core predicate rect period) fault
+  picked_denied predicate rect period fault h = names_weaker g core (λ page. g.denies core.index (InBox (box_near predicate rect period)) page) (DeniesPicks g core predicate rect period) fault (λ page denied. inl denied) h
 
   -- as a file
   pub file_says : (o : Option BookHead) (head : BookHead) (legs : List LegView) (text : List ℕ) → o ≡ Some head → g.tells core.index (InBox everything) legs → All (IsThere core.book) legs → text ≡ file_answer core.book head legs → IsToldFile g core o text
@@ -195,6 +198,15 @@ module _ {I : Type 0} (g : Ghosts I) (core : CoreView I) (F : Type 0) (o : Optio
   denied_of index.StoreFull h = tt
   denied_of index.Spent h = inr h
 
--- of one that is not
+-- of a feature that is not over
+pub live_denied : {I : Type 0} (g : Ghosts I) (core : CoreView I) (period : PeriodView) (feature : ℕ) (fault : IndexFault) → (IsOver core.tracks feature period → ⊥)
+    → Denies g core.index (OfFeature feature (Some period)) fault → Names g core (DeniesLive g core period feature) (run_fault_of fault)
+live_denied g core period feature index.Memory still h = tt
+live_denied g core period feature index.Store still h = tt
+live_denied g core period feature (index.Damaged page) still h = (still, h)
+live_denied g core period feature index.StoreFull still h = tt
+live_denied g core period feature index.Spent still h = inr h
+
+-- of one that is not there
 pub told_none : {I : Type 0} (g : Ghosts I) (core : CoreView I) (o : Option ℕ) (legs : List LegView) → o ≡ None → legs ≡ [] → AreToldOf g core o legs
 told_none g core o legs e h = subst (λ o. AreToldOf g core o legs) (sym e) h

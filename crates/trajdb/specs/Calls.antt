@@ -11,7 +11,7 @@ use Rattle.predicates.specs.Near.{box_near}
 use Rattle.legs.specs.Limits.{LimitsView, IsLimits}
 use Rattle.legs.specs.Tracks.{IsOver, StandsFor}
 use Rattle.legs.specs.Index.{HasRisen, legs_of}
-use Rattle.legs.specs.Asking.{Blames, HasAdded, IsLater as IsLaterIndex, Leaves as IndexLeaves, SkipsFeature}
+use Rattle.legs.specs.Asking.{Blames, HasAdded, IsLater as IsLaterIndex, LacksPages, Leaves as IndexLeaves, SkipsFeature}
 use Rattle.legs.specs.declared.listed.Listed.{Ghosts}
 use Rattle.mfcsv.specs.FileText.{file_of_bytes}
 use Rattle.mfcsv.specs.declared.File.{File}
@@ -255,14 +255,15 @@ pub record PutsFile {I : Type 0} (g : Ghosts I) (old new : CoreView I) (bytes : 
   pub rows : new.book.rows ≡ old.book.rows ++ map (λ it. it.attributes) file.records
   pub joins : (book : Book) → IsBookOf old book → HasJoined new old.limits book file legs
 
--- why the legs of a file are not put into an index, be it sound or not: a page that is named is page 0, which has no payload, or
--- is not what the next of the legs need of it; and that it failed is said where it was spent, or where the legs skip a feature
+-- why the legs of a file are not put into an index, be it sound or not: a page that is named is page 0, which has no payload,
+-- or is not what the next of the legs need of it; of a store that is said to be full they take more pages than there are; and
+-- that it failed is said where it was spent, or where the legs skip a feature
 abbrev pub BlamesLegs : {I : Type 0} → Ghosts I → I → I → List LegView → RunFault → Type 0
 BlamesLegs g old new legs Memory = Unit {0}
 BlamesLegs g old new legs Store = Unit {0}
 BlamesLegs g old new legs (Damaged page) =
     ((page ≡ 0) × g.is_unreadable old 0) ⊎ Blames g old new legs page
-BlamesLegs g old new legs StoreFull = Unit {0}
+BlamesLegs g old new legs StoreFull = LacksPages g old new legs
 BlamesLegs g old new legs Failed = (g.is_spent old ≡ true) ⊎ SkipsFeature g old legs
 BlamesLegs g old new legs Output = Unit {0}
 
@@ -275,13 +276,14 @@ pub record BlamesFile {I : Type 0} (g : Ghosts I) (old new : CoreView I) (bytes 
   pub adds : (book : Book) → IsBookOf old book → joined old.limits book file ≡ Ok legs
   pub blames : BlamesLegs g old.index new.index legs fault
 
--- why a file is not loaded: a page that is named, and that the database failed, have such a reason, or it had failed
+-- why a file is not loaded: a page that is named, that the store is full, and that the database failed, have such a reason, or
+-- it had failed
 abbrev pub NamesFile : {I : Type 0} → Ghosts I → CoreView I → CoreView I → List ℕ → RunFault
     → Type 0
 NamesFile g old new bytes Memory = Unit {0}
 NamesFile g old new bytes Store = Unit {0}
 NamesFile g old new bytes (Damaged page) = BlamesFile g old new bytes (Damaged page)
-NamesFile g old new bytes StoreFull = Unit {0}
+NamesFile g old new bytes StoreFull = BlamesFile g old new bytes StoreFull
 NamesFile g old new bytes Failed = (old.failed ≡ true) ⊎ BlamesFile g old new bytes Failed
 NamesFile g old new bytes Output = Unit {0}
 

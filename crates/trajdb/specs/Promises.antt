@@ -54,8 +54,9 @@ pub record LoadCall {I : Type 0} (g : Ghosts I) (old new : CoreView I) (bytes : 
   -- be the database sound or not, a file is refused for the first fault of its text, or for one of joining where that
   -- has none
   pub reads : IfErr result (IsRefusedBy bytes)
-  -- a page that is named is page 0, which had no payload, or was not what the next of its legs needed of it; and that the
-  -- database failed is said where it had, where the index was spent, or where its legs skip a feature
+  -- a page that is named is page 0, which had no payload, or was not what the next of its legs needed of it; that the store
+  -- is full is said where they take more pages than there are then; and that the database failed where it had, where the
+  -- index was spent, or where its legs skip a feature
   pub blames : IfErr result (BlamesLoad g old new bytes)
   -- it is answered as for each book for which the tracks stand
   pub gives : (book : Book) → IsBookOf old book

@@ -132,16 +132,36 @@ module _ {I : Type 0} (g : Ghosts I) (core : CoreView I) where
       ⊎ ((page ≡ 0) × (legs : List LegView) × g.tells core.index question legs
       × (All (IsThere core.book) legs → ⊥))
 
-  -- so is it for a feature's legs, if there is one; for those of some feature; and for all legs, where there is a head
+  -- so is it for the legs of its box that a predicate picks: page 0 is named for a leg that is picked, and for no other one
+  abbrev pub DeniesPicks : Predicate → RectView → PeriodView → ℕ → Type 0
+  DeniesPicks predicate rect period page =
+      g.denies core.index (InBox (box_near predicate rect period)) page
+      ⊎ ((page ≡ 0) × (picked : List LegView) × ArePickedOf predicate rect period picked
+      × (All (IsThere core.book) picked → ⊥))
+
+  -- the page is denied for a feature's legs, if there is one
   abbrev pub DeniesTrack : Option ℕ → ℕ → Type 0
   DeniesTrack (Some feature) page = DeniesLegs (OfFeature feature None) page
   DeniesTrack None page = ⊥
 
-  abbrev pub DeniesSome : PeriodView → ℕ → Type 0
-  DeniesSome period page =
-      (feature : ℕ) × (feature < length core.book.names)
+  -- the last leg of a feature does not end before a period, and the page is met by the question for its legs that are live
+  -- in it, and is not what it is to be there
+  abbrev pub DeniesLive : PeriodView → ℕ → ℕ → Type 0
+  DeniesLive period feature page =
+      (IsOver core.tracks feature period → ⊥)
       × g.denies core.index (OfFeature feature (Some period)) page
 
+  -- the last leg of a feature ends before a period, or the index tells which of its legs are live in it
+  abbrev pub IsLiveTold : PeriodView → ℕ → Type 0
+  IsLiveTold period feature = (legs : List LegView) × AreLive period feature legs
+
+  -- the page is denied for a feature, and of each one before it, by their numbers, the legs are told or it is over
+  abbrev pub DeniesFirst : PeriodView → ℕ → Type 0
+  DeniesFirst period page =
+      (feature : ℕ) × (feature < length core.book.names) × DeniesLive period feature page
+      × ((earlier : ℕ) → earlier < feature → IsLiveTold period earlier)
+
+  -- the page is denied for all legs, where there is a head
   abbrev pub DeniesFile : Option BookHead → ℕ → Type 0
   DeniesFile (Some head) page = DeniesLegs (InBox everything) page
   DeniesFile None page = ⊥
@@ -167,9 +187,9 @@ module _ {I : Type 0} (g : Ghosts I) (core : CoreView I) where
   NamesBy new files (Box rect period) fault =
       Names (DeniesLegs (InBox (box_over rect period))) fault
   NamesBy new files (Legs predicate rect period) fault =
-      Names (DeniesLegs (InBox (box_near predicate rect period))) fault
+      Names (DeniesPicks predicate rect period) fault
   NamesBy new files (Features predicate rect period) fault =
-      Names (λ page. length core.book.names ≤ most → DeniesSome period page) fault
+      Names (λ page. length core.book.names ≤ most → DeniesFirst period page) fault
   NamesBy new files (Trajectory name) fault =
       Names (λ page. length core.book.names ≤ most
       → DeniesTrack (feature_of core.book.names name) page) fault

@@ -51,7 +51,7 @@ impl<I: Start> Core<I> {
     ghost use Rattle.legs.specs.Questions.{InBox, OfFeature};
     ghost use Rattle.legs.specs.Sieves.{IsSieved};
     ghost use Rattle.trajdb.specs.Database.{IsSound};
-    ghost use Rattle.trajdb.specs.Telling.{ArePickedOf, AreSievedLive, AreToldOf, DeniesFile, DeniesLegs, DeniesSome, DeniesTrack, HoldsLive, IsToldFeatures, IsToldFile, IsToldLegs, IsToldPicks, IsToldTrack, Names, PicksLive};
+    ghost use Rattle.trajdb.specs.Telling.{ArePickedOf, AreSievedLive, AreToldOf, DeniesFile, DeniesFirst, DeniesLegs, DeniesLive, DeniesPicks, DeniesTrack, HoldsLive, IsToldFeatures, IsToldFile, IsToldLegs, IsToldPicks, IsToldTrack, Names, PicksLive};
     ghost use Rattle.trajdb.specs.Calls.{IsText, IsRefused, LeavesBook, Asks, AsksAtMost, KnowsEach, KnowsOf, KnowsTrack, feature_bound, features_bound, known_features_bound, track_asks, write_asks};
 
     /// How legs are written.
@@ -190,7 +190,7 @@ impl<I: Start> Core<I> {
         ensures says { IfOk result (λ legs. AreSievedLive I.Listed self.old
             sieve.now period.now feature legs.items) }
         ensures named { IfErr result (Names I.Listed self.old
-            (λ page. I.denies self.old.index (OfFeature feature (Some period.now)) page)) }
+            (DeniesLive I.Listed self.old period.now feature)) }
         ensures asks { OnOk result (feature < length self.old.book.names
             → AsksAtMost I.Listed self.old self.new (feature_bound feature period.now)) }
         ensures asks_known { OnOk result (KnowsOf I.Listed self.old period.now feature
@@ -221,7 +221,7 @@ impl<I: Start> Core<I> {
         ensures says { IfOk result (λ yes. HoldsLive I.Listed self.old predicate
             rect.now period.now feature (IsTrue yes)) }
         ensures named { IfErr result (Names I.Listed self.old
-            (λ page. I.denies self.old.index (OfFeature feature (Some period.now)) page)) }
+            (DeniesLive I.Listed self.old period.now feature)) }
         ensures asks { OnOk result (feature < length self.old.book.names
             → AsksAtMost I.Listed self.old self.new (feature_bound feature period.now)) }
         ensures asks_known { OnOk result (KnowsOf I.Listed self.old period.now feature
@@ -259,7 +259,7 @@ impl<I: Start> Core<I> {
             (range_with_len 0 (length self.old.book.names)) features.items) }
         ensures named { IfErr result (Names I.Listed self.old
             (λ page. length self.old.book.names ≤ most
-            → DeniesSome I.Listed self.old period.now page)) }
+            → DeniesFirst I.Listed self.old period.now page)) }
         ensures asks { OnOk result (AsksAtMost I.Listed self.old self.new (features_bound
             (range_with_len 0 (length self.old.book.names)) period.now)) }
         ensures asks_known { OnOk result (KnowsEach I.Listed self.old period.now
@@ -430,8 +430,7 @@ impl<I: Start> Core<I> {
         ensures says { IfOk result (λ text. IsToldPicks I.Listed self.old predicate
             rect.now period.now text.items) }
         ensures named { IfErr result (Names I.Listed self.old
-            (DeniesLegs I.Listed self.old
-            (InBox (box_near predicate rect.now period.now)))) }
+            (DeniesPicks I.Listed self.old predicate rect.now period.now)) }
         ensures asks { OnOk result (Asks I.Listed self.old self.new (search_cost
             (box_near predicate rect.now period.now))) }
         ensures recalls { Recalls I.Listed self.old.index self.new.index }
@@ -456,7 +455,7 @@ impl<I: Start> Core<I> {
             → IsToldFeatures I.Listed self.old predicate rect.now period.now text.items) }
         ensures named { IfErr result (Names I.Listed self.old
             (λ page. length self.old.book.names ≤ most
-            → DeniesSome I.Listed self.old period.now page)) }
+            → DeniesFirst I.Listed self.old period.now page)) }
         ensures asks { OnOk result (AsksAtMost I.Listed self.old self.new
             (features_bound (range_with_len 0 (length self.old.book.names)) period.now)) }
         ensures asks_known { OnOk result (KnowsEach I.Listed self.old period.now

@@ -7,7 +7,7 @@ use Rattle.legs.specs.Legs.{LegView}
 use Rattle.legs.specs.declared.index.IndexFault.{IndexFault}
 use Rattle.legs.specs.declared.index.IndexFault.TheVariants as index
 use Rattle.legs.specs.declared.listed.Listed.{Ghosts}
-use Rattle.legs.proofs.LastLemmas.{blames_started, takes_started}
+use Rattle.legs.proofs.LastLemmas.{blames_started, lacks_started, takes_started}
 use Rattle.trajdb.specs.Calls.{BlamesLegs}
 use Rattle.trajdb.specs.Faults.{run_fault_of}
 use Rattle.trajdb.proofs.start.put_legs.Goals as goal
@@ -32,7 +32,7 @@ start_blames : {I A : Type 0} (g : Ghosts I) (old new : I) (legs : List LegView)
 start_blames g old new legs index.Memory s = tt
 start_blames g old new legs index.Store s = tt
 start_blames g old new legs (index.Damaged page) s = inl (s.named page refl)
-start_blames g old new legs index.StoreFull s = tt
+start_blames g old new legs index.StoreFull s = absurd (s.roomy refl)
 start_blames g old new legs index.Spent s = inl (s.works refl)
 
 -- why the legs are refused behind it
@@ -41,7 +41,7 @@ legs_blamed g old mid new legs started s (Ok tt) r = tt
 legs_blamed g old mid new legs started s (Err index.Memory) r = tt
 legs_blamed g old mid new legs started s (Err index.Store) r = tt
 legs_blamed g old mid new legs started s (Err (index.Damaged page)) r = inr (blames_started g old mid new legs page started s (r.blames page refl))
-legs_blamed g old mid new legs started s (Err index.StoreFull) r = tt
+legs_blamed g old mid new legs started s (Err index.StoreFull) r = lacks_started g old mid new legs started s (r.lacks refl)
 legs_blamed g old mid new legs started s (Err index.Spent) r = ⊎_elim
     (λ (was : g.is_spent mid ≡ true). inl (sym s.spent ∙ was))
     (λ (skips : SkipsFeature g mid legs). inr (λ (none : SkipNone (g.features old) legs). skips (subst (λ n. SkipNone n legs) (sym s.ways.features) none)))

@@ -6,6 +6,7 @@ use Rattle.trajdb.specs.Answers.{HoldsOfFeature}
 use Rattle.legs.specs.Costs.{known_bound}
 use Rattle.trajdb.proofs.FaultLemmas.{leaves-refl, leaves-trans, bound_more, knows_kept, known_more}
 use Rattle.trajdb.specs.Calls.{KnowsOf, feature_bound}
+use Rattle.trajdb.specs.Telling.{IsLiveTold}
 use Rattle.std.proofs.lemmas.Bool.{cases_lt}
 use Rattle.trajdb.proofs.PickLemmas.{IsPicking, picking-start, picking-yes, picking-no, picking-end, range_more, range_none, range_all}
 use Rattle.std.proofs.lemmas.Result.{err_from_is_err_and}
@@ -19,6 +20,7 @@ loop-feature-init g c = record {
   asks = λ s. omega arith;
   asks_known = λ s k. omega arith;
   recalls = λ f start h. h;
+  told = λ f below. absurd (omega (arith, below));
   learned = λ f below. absurd (omega (arith, below));
   picked = λ s.
       let book = c.args.self.now.book in
@@ -63,6 +65,16 @@ loop-feature-preserved g c = record {
       let more = known_more feature c.args.period.now (g.I.Listed.plan c.args.self.now.index) c.args.self.now.book.legs in
       omega (arith, so_far, now, same, more);
   recalls = λ f start h. c.in_ok-holds_for.ensures.recalls f start (c.loop-feature.invariant.recalls f start h);
+  told = λ f below.
+      let feature = c.loop-feature.feature in
+      ⊎_elim
+      (λ (lt : f < feature). c.loop-feature.invariant.told f lt)
+      (λ (ge : feature ≤ f).
+      let is : feature ≡ f = omega (arith, ge, below) in
+      let now = c.in_ok-holds_for.ensures.says in
+      subst (λ (k : ℕ). IsLiveTold g.I.Listed c.args.self.now c.args.period.now k) is
+      (now.0, live_before g.I.Listed c.args.self.now c.loop-feature.self c.loop-feature.invariant.leaves c.args.period.now feature now.0 now.1))
+      (cases_lt f feature);
   learned = λ f below.
       let feature = c.loop-feature.feature in
       ⊎_elim
@@ -141,7 +153,7 @@ returns-in_err-holds_for-clause-named g c =
     let test = c.loop-feature-test.true in
     rw (p.1, p.2)
     (some_names g.I.Listed c.args.self.now c.loop-feature.self c.loop-feature.invariant.leaves c.args.period.now c.loop-feature.feature _
-    (λ few. let count = c.feature_count-feature-end.ensures few in omega (arith, count, test)) c.in_err-holds_for.ensures.named)
+    (λ few. let count = c.feature_count-feature-end.ensures few in omega (arith, count, test)) c.loop-feature.invariant.told c.in_err-holds_for.ensures.named)
 
 pub returns-clause-learns : goal.returns-clause-learns
 returns-clause-learns g c = λ s f less.

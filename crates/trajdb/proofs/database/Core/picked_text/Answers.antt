@@ -1,10 +1,8 @@
 use Rattle.std.proofs.Common.{All, ◌∙◌}
 use Rattle.std.proofs.lemmas.Result.{IfErr-weaker, IfOk-weaker, err_from_is_err_and}
-use Rattle.trajdb.proofs.TellingLemmas.{denied_names, picked_names, ok_both, shown_legs, there_legs}
+use Rattle.trajdb.proofs.TellingLemmas.{picked_denied, picked_names, ok_both, shown_legs, there_legs}
 use Rattle.trajdb.specs.Answers.{HoldsOfLeg}
 use Rattle.legs.specs.Law.{IsThere}
-use Rattle.legs.specs.Questions.{InBox}
-use Rattle.predicates.specs.Near.{box_near}
 use Rattle.trajdb.proofs.FaultLemmas.{text_refused, there_picked}
 use Rattle.trajdb.proofs.database.Core.picked_text.Goals as goal
 
@@ -35,4 +33,4 @@ returns-clause-named g c =
 pub returns-in_err-legs-clause-named : goal.returns-in_err-legs-clause-named
 returns-in_err-legs-clause-named g c =
     let p = err_from_is_err_and c.from_residual.result c.from_residual.ensures.1 in
-    rw (p.1, p.2) (denied_names g.I.Listed c.args.self.now (InBox (box_near c.args.predicate c.args.rect.now c.args.period.now)) _ c.in_err-legs.ensures.named)
+    rw (p.1, p.2) (picked_denied g.I.Listed c.args.self.now c.args.predicate c.args.rect.now c.args.period.now _ c.in_err-legs.ensures.named)
