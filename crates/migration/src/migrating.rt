@@ -18,11 +18,12 @@ pub trait Migrate<T: PageStore> {
     ghost use Rattle.tbtree.specs.declared.tree.Place.{Place};
     ghost use Rattle.tbtree.specs.declared.tree.TbTree.{TbTree};
     ghost use Rattle.version1.specs.Migrating.{IsBrought};
+    ghost use Rattle.version1.specs.Naming.{AreWhole, IsNamedOfChains};
     ghost use Rattle.version1.specs.OldStore.{old_first_fault, present_shape, HoldsOldBook, IsKeptOld};
     ghost use Rattle.trajdb.specs.Database.{catalogue_of};
     ghost use Rattle.trajdb.specs.Db.{HasPages, IsAllowed};
     ghost use Rattle.trajdb.specs.Lasting.{ComesFirst, HasBook, IsTrulyDamaged};
-    ghost use Rattle.migration.specs.Bringing.{IsLegFault, IsMigratingFault};
+    ghost use Rattle.migration.specs.Bringing.{IfDamaged, IsLegFault, IsMigratingFault, IsNamedOfOld};
 
     /// Brings the database of a finished store of version 1 over into an empty store, with a cache of
     /// at most that many pages, at least 1: the same legs, names, attribute values, base, coordinate
@@ -39,10 +40,10 @@ pub trait Migrate<T: PageStore> {
     /// no header (`Malformed`), has another version than 1, is of a store that was not finished, or of
     /// one in another state (`Malformed`); then the first page that is damaged, or malformed, as met;
     /// where the leaves of the features are not whole, `Damaged` is the page at which the walk along
-    /// them fails, or page 0 where all of them do not have the legs that are to be (no clause says
-    /// which). `StoreFull` is the new store. Where it is refused the new
-    /// store is handed back: without pages, with a page 0 that says that it is not finished, or with
-    /// page 0 alone, whose write failed.
+    /// them fails, or page 0 where all of them do not have the legs that are to be; that it is no
+    /// other page without a payload no clause says. `StoreFull` is the new store. Where it is
+    /// refused the new store is handed back: without pages, with a page 0 that says that it is not
+    /// finished, or with page 0 alone, whose write failed.
     fn migrate<S: PageStore>(
         alloc: Global,
         keys: RandomState,
@@ -64,8 +65,11 @@ pub trait Migrate<T: PageStore> {
             → (shape : ShapeView) (limits : LimitsView) (book : Book)
             → HoldsOldBook (S.seen old.old) shape limits book → IsAllowed back.1) }
 
-        // Whatever the pages keep is brought over, but for memory, the two stores and a damaged page;
-        // where they keep no catalogue, a page that is said to be damaged is so.
+        // Whatever the pages keep is brought over, but for memory, the two stores and a damaged page:
+        // no page where the chains of all features are whole, and else one that the chains name.
+        // Where the pages keep no catalogue, a page that is said to be damaged is so, and is the one
+        // at which reading it stops; pages that are said to be malformed keep none, whatever the
+        // damaged ones have.
         ensures brought { IfOk result (λ db. IsTrue (S.seen old.old).is_faithful
             → IsTrue (T.seen new).is_faithful
             → IsBrought (S.seen old.old) (catalogue_of db) db.index) }
@@ -74,6 +78,16 @@ pub trait Migrate<T: PageStore> {
             → (c : CatalogueView) (tree : TbTree) (places : List Place)
             → IsKeptOld (stored_payload (S.seen old.old)) (S.seen old.old).count c tree places
             → IsLegFault back.1) }
+        ensures whole { IfErr result (λ back. IsTrue (S.seen old.old).is_faithful
+            → IsTrue (T.seen new).is_faithful
+            → (c : CatalogueView) (tree : TbTree) (places : List Place)
+            → IsKeptOld (stored_payload (S.seen old.old)) (S.seen old.old).count c tree places
+            → AreWhole (S.seen old.old) c tree places → IsAllowed back.1) }
+        ensures chains { IfErr result (λ back. IsTrue (S.seen old.old).is_faithful
+            → IsTrue (T.seen new).is_faithful
+            → (c : CatalogueView) (tree : TbTree) (places : List Place)
+            → IsKeptOld (stored_payload (S.seen old.old)) (S.seen old.old).count c tree places
+            → IfDamaged (IsNamedOfChains (S.seen old.old) c tree places) back.1) }
         ensures damaged { IfErr result (λ back. IsTrue (S.seen old.old).is_faithful
             → IsTrue (T.seen new).is_faithful
             → ((c : CatalogueView) (tree : TbTree) (places : List Place)
@@ -81,6 +95,12 @@ pub trait Migrate<T: PageStore> {
             → ⊥)
             → IsTrulyDamaged (S.seen old.old).is_faithful
             (stored_payload (S.seen old.old)) (S.seen old.old).count back.1) }
+        ensures named { IfErr result (λ back. IsTrue (S.seen old.old).is_faithful
+            → IsTrue (T.seen new).is_faithful
+            → ((c : CatalogueView) (tree : TbTree) (places : List Place)
+            → IsKeptOld (stored_payload (S.seen old.old)) (S.seen old.old).count c tree places
+            → ⊥)
+            → IsNamedOfOld (stored_payload (S.seen old.old)) (S.seen old.old).count back.1) }
 
         // It has begun: page 0 of the new store says that it is not finished.
         ensures begun { IfOk result (λ db. db.begun ≡ true) }

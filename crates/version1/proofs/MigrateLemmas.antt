@@ -1,11 +1,11 @@
 -- A store of version 1 that is brought over.
-use Rattle.std.proofs.Common.{ℕ, ◌≡◌, ◌<◌, ◌≤◌, ◌∙◌, ◌⊎◌, ◌∷◌, ⊎_elim, inl, inr, List, [], length, slice_get, Option, Some, None, refl, sym, ap, subst, arith, IsTrue}
+use Rattle.std.proofs.Common.{ℕ, ◌≡◌, ◌<◌, ◌≤◌, ◌∙◌, ⊎_elim, inl, inr, List, length, slice_get, Option, Some, None, refl, sym, ap, subst, arith, IsTrue}
 use Rattle.std.proofs.lemmas.Int.{clamps}
 use Rattle.std.specs.Option.{option_and_then, option_map}
 use Rattle.legs.specs.Book.{Book}
 use Rattle.legs.specs.Boxes.{BoxView}
 use Rattle.legs.specs.Costs.{ShapeView}
-use Rattle.legs.specs.Index.{HasRisen, MayRefuseLeg}
+use Rattle.legs.specs.Index.{MayRefuseLeg}
 use Rattle.legs.specs.Legs.{LegView}
 use Rattle.legs.specs.Limits.{LimitsView}
 use Rattle.legs.specs.declared.index.IndexFault.{IndexFault}
@@ -14,7 +14,7 @@ use Rattle.legs.specs.Tracks.{TracksView}
 use Rattle.legs.specs.declared.tracks.Track.{Track}
 use Rattle.pages.specs.Store.{Store as StoreView, Faulted, IsLawful, Keeps, Stays}
 use Rattle.pages.specs.Unsealed.{unsealed}
-use Rattle.pagecache.specs.Cache.{stored_payload, Cache}
+use Rattle.pagecache.specs.Cache.{stored_payload}
 use Rattle.pagecache.specs.declared.fault.CacheFault.{CacheFault}
 use Rattle.pagecache.specs.declared.fault.CacheFault.TheVariants as cache
 use Rattle.version1.specs.OldForm.{old_node_of}
@@ -27,7 +27,7 @@ use Rattle.boxsearch.specs.Index.{content, words, IndexView, IsSound}
 use Rattle.version1.specs.OldLegs.{pages_of_old}
 use Rattle.catalogue.specs.Beginning.{IsCaused}
 use Rattle.register.specs.ChainReader.{fault_of}
-use Rattle.catalogue.specs.Holding.{AnswersBook, IsUnfinishedStore}
+use Rattle.catalogue.specs.Holding.{AnswersBook}
 use Rattle.register.specs.Lasting.{IsStop}
 use Rattle.catalogue.specs.Beginning.{IsLeftOver}
 use Rattle.version1.specs.Migrating.{brought_fault, IsLegFault, IsMigratingFault}

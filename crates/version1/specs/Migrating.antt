@@ -1,5 +1,5 @@
 -- A store of version 1 that is brought over into a new store.
-use Rattle.std.specs.Prelude.{ℕ, ◌≡◌, ◌≤◌, ◌⊎◌, List, []}
+use Rattle.std.specs.Prelude.{ℕ, ◌≡◌, ◌⊎◌, List}
 use Rattle.legs.specs.declared.index.IndexFault.{IndexFault}
 use Rattle.legs.specs.declared.index.IndexFault.TheVariants as index
 use Rattle.pages.specs.Store.{Store as StoreView, Faulted}
@@ -8,7 +8,6 @@ use Rattle.treecheck.specs.Check.{HoldChains}
 use Rattle.tbtree.specs.declared.tree.Place.{Place}
 use Rattle.boxsearch.specs.Index.{content, IndexView, IsSound}
 use Rattle.version1.specs.OldLegs.{pages_of_old}
-use Rattle.catalogue.specs.Holding.{IsUnfinishedStore}
 use Rattle.version1.specs.OldStore.{AnswersOld}
 use Rattle.register.specs.Saved.{CatalogueView}
 use Rattle.register.specs.declared.fault.CatalogueFault.{CatalogueFault}

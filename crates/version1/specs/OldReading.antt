@@ -1,5 +1,5 @@
 -- Helpers of private functions: a catalogue that is being read from a lent store of version 1.
-use Rattle.std.specs.Prelude.{ℕ, ◌≡◌, ◌≤◌, ◌<◌, ◌⊎◌, min, List, Option, Some, None}
+use Rattle.std.specs.Prelude.{ℕ, ◌≡◌, ◌≤◌, ◌<◌, ◌⊎◌, min, List, Option, Some, None, IsTrue}
 use Rattle.legs.specs.Costs.{ShapeView}
 use Rattle.legs.specs.Limits.{IsLimits}
 use Rattle.pages.specs.Store.{Store as StoreView, Faulted}
@@ -7,6 +7,7 @@ use Rattle.pages.specs.declared.payload.Payload.{Payload}
 use Rattle.pagecache.specs.Cache.{stored_payload}
 use Rattle.header.specs.Fields.{FitsFields, SaysShape}
 use Rattle.register.specs.Lasting.{ComesFirst, IsDamagedPage}
+use Rattle.register.specs.Stopping.{IsMended}
 use Rattle.version1.specs.OldStore.{old_header_fault, HasOldFields, IsOldShape}
 use Rattle.register.specs.declared.fault.CatalogueFault.{CatalogueFault}
 use Rattle.register.specs.declared.fault.CatalogueFault.TheVariants.{Memory, Store, StoreFull, Damaged, Unfinished, Version, Malformed}
@@ -24,6 +25,11 @@ IsLentFault old new (Damaged page) =
 IsLentFault old new Unfinished = ⊥
 IsLentFault old new Version = ⊥
 IsLentFault old new Malformed = Unit {0}
+
+-- the pages of a faithful store, where those that are damaged have any payload
+pub record MayBeLent (s : StoreView) (at : ℕ → Option Payload) : Type 0 where
+  pub faithful : IsTrue s.is_faithful
+  pub mended : IsMended (stored_payload s) s.count at
 
 -- why page n is not read: it is not there, or damaged, or the store failed
 abbrev pub IsUnread : ℕ → StoreView → StoreView → CatalogueFault → Type 0

@@ -1,5 +1,5 @@
 -- Helpers of private functions: legs that wait until there are so many that they are put into an index together.
-use Rattle.std.specs.Prelude.{◌≡◌, List, [], ◌∷◌, ◌++◌}
+use Rattle.std.specs.Prelude.{◌≡◌, List, ◌++◌}
 use Rattle.legs.specs.Index.{CanFollowInTurn}
 use Rattle.legs.specs.Legs.{LegView}
 use Rattle.legs.specs.declared.listed.Listed.{Ghosts}

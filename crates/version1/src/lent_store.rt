@@ -1,9 +1,11 @@
 //! The pages of a lent store, which are read and never written.
-ghost use Rattle.std.specs.Prelude.{◌≡◌, ◌<◌, Some, None, IsTrue, IfErr, IfOk, OnOk};
+ghost use Rattle.std.specs.Prelude.{ℕ, ◌≡◌, ◌<◌, Option, Some, None, IsTrue, IfErr, IfOk, OnOk};
 ghost use Rattle.pages.specs.Store.{Stays};
 ghost use Rattle.pagecache.specs.Cache.{stored_payload};
-ghost use Rattle.register.specs.ChainReader.{rest_of, IsBroken};
-ghost use Rattle.version1.specs.OldReading.{IsLentFault, IsUnread};
+ghost use Rattle.pages.specs.declared.payload.Payload.{Payload};
+ghost use Rattle.register.specs.ChainReader.{rest_of, stop_of, BreaksAt};
+ghost use Rattle.version1.specs.Naming.{IfDamaged};
+ghost use Rattle.version1.specs.OldReading.{IsLentFault, IsUnread, MayBeLent};
 
 use pages::{PageFault, PageStore, Payload, unseal};
 use register::{CatalogueFault, ChainReader};
@@ -40,12 +42,16 @@ pub(crate) fn read_sealed<S: PageStore>(
 /// Reads the next page of the chain from a lent store.
 fn load_lent<S: PageStore>(store: &mut S, reader: &mut ChainReader) -> Result<(), CatalogueFault>
     requires { 0 < reader.old.left }
-    ensures same { OnOk result (IsTrue (S.seen store.old).is_faithful
-        → rest_of (stored_payload (S.seen store.old)) reader.new
-        ≡ rest_of (stored_payload (S.seen store.old)) reader.old) }
+    ensures same { OnOk result ((at : ℕ → Option Payload) → MayBeLent (S.seen store.old) at
+        → rest_of at reader.new ≡ rest_of at reader.old) }
+    ensures along { OnOk result (IsTrue (S.seen store.old).is_faithful
+        → stop_of (stored_payload (S.seen store.old)) reader.new
+        ≡ stop_of (stored_payload (S.seen store.old)) reader.old) }
     ensures left { OnOk result (reader.new.left < reader.old.left) }
-    ensures broken { IfErr result (λ e. IsBroken e → IsTrue (S.seen store.old).is_faithful
-        → rest_of (stored_payload (S.seen store.old)) reader.old ≡ None) }
+    ensures broken { IfErr result (λ e. (at : ℕ → Option Payload)
+        → MayBeLent (S.seen store.old) at → BreaksAt at e → rest_of at reader.old ≡ None) }
+    ensures stops { IfErr result (λ e. IsTrue (S.seen store.old).is_faithful → IfDamaged (λ page.
+        stop_of (stored_payload (S.seen store.old)) reader.old ≡ Some page) e) }
     ensures stays { Stays (S.seen store.old) (S.seen store.new) }
     ensures caused { IfErr result (IsLentFault (S.seen store.old) (S.seen store.new)) }
 {
@@ -60,12 +66,13 @@ pub(crate) fn fill_lent<S: PageStore>(
     store: &mut S,
     reader: &mut ChainReader,
 ) -> Result<(), CatalogueFault>
-    ensures same { OnOk result (IsTrue (S.seen store.old).is_faithful
-        → rest_of (stored_payload (S.seen store.old)) reader.new
-        ≡ rest_of (stored_payload (S.seen store.old)) reader.old) }
+    ensures same { OnOk result ((at : ℕ → Option Payload) → MayBeLent (S.seen store.old) at
+        → rest_of at reader.new ≡ rest_of at reader.old) }
     ensures ended { OnOk result (reader.new.left ≡ 0) }
-    ensures broken { IfErr result (λ e. IsBroken e → IsTrue (S.seen store.old).is_faithful
-        → rest_of (stored_payload (S.seen store.old)) reader.old ≡ None) }
+    ensures broken { IfErr result (λ e. (at : ℕ → Option Payload)
+        → MayBeLent (S.seen store.old) at → BreaksAt at e → rest_of at reader.old ≡ None) }
+    ensures stops { IfErr result (λ e. IsTrue (S.seen store.old).is_faithful → IfDamaged (λ page.
+        stop_of (stored_payload (S.seen store.old)) reader.old ≡ Some page) e) }
     ensures stays { Stays (S.seen store.old) (S.seen store.new) }
     ensures caused { IfErr result (IsLentFault (S.seen store.old) (S.seen store.new)) }
 {

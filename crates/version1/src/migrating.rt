@@ -1,5 +1,5 @@
 //! A store of version 1 is brought over.
-ghost use Rattle.std.specs.Prelude.{◌≡◌, ◌<◌, ◌≤◌, [], List, None, IsTrue, IfErr, IfOk};
+ghost use Rattle.std.specs.Prelude.{◌≡◌, ◌<◌, ◌≤◌, ◌^◌, [], List, length, None, IsTrue, IfErr, IfOk};
 ghost use Rattle.legs.specs.Asking.{IsLater};
 ghost use Rattle.legs.specs.Book.{Book};
 ghost use Rattle.legs.specs.Costs.{ShapeView};
@@ -16,6 +16,7 @@ ghost use Rattle.catalogue.specs.Holding.{AnswersBook, IsUnfinishedStore};
 ghost use Rattle.register.specs.Lasting.{ComesFirst, IsBehindFirst, IsStop, IsTrulyDamaged};
 ghost use Rattle.catalogue.specs.Beginning.{IsLeftOver};
 ghost use Rattle.version1.specs.Migrating.{brought_fault, IsBrought, IsLegFault, IsMigratingFault};
+ghost use Rattle.version1.specs.Naming.{AreWhole, IfDamaged, IsNamedOfChains, IsNamedOfLeaves, NamesOldStop};
 ghost use Rattle.version1.specs.OldStore.{old_first_fault, present_shape, AnswersOld, AnswersOldBook, HoldsOldBook, IsKeptOld, IsOldReadingFault};
 ghost use Rattle.register.specs.Saved.{CatalogueView};
 ghost use Rattle.register.specs.Saving.{IsSavingStop};
@@ -81,6 +82,9 @@ fn read_beside<S: PageStore, T: PageStore>(
         → ⊥) }
     ensures damaged { IfErr result (λ back. IsTrulyDamaged (S.seen old.old).is_faithful
         (stored_payload (S.seen old.old)) (S.seen old.old).count back.1) }
+    ensures named { IfErr result (λ back. IsTrue (S.seen old.old).is_faithful
+        → IsTrue (T.seen new).is_faithful
+        → NamesOldStop (stored_payload (S.seen old.old)) (S.seen old.old).count back.1) }
     ensures stays { Stays (S.seen old.old) (S.seen old.new) }
     ensures stored { IfOk result (λ r. Stays (T.seen new) (T.seen r.1)) }
     ensures back { IfErr result (λ back. Stays (T.seen new) (T.seen back.0)) }
@@ -136,6 +140,10 @@ fn bring_legs<S: PageStore, T: PageStore>(
         → content index ≡ [] → Agree tracks.now tracks.now.rows tracks.now.legs
         → (legs : List LegView) → HoldChains (pages_of_old (S.seen old.old)) leaf tracks.now.rows
         tracks.now.legs places.now tracks.now.tracks legs → IsSavingStop back.1) }
+    ensures named { IfErr result (λ back. IsTrue (S.seen old.old).is_faithful → IsSound index
+        → content index ≡ [] → length places.now < 2 ^ 32
+        → IfDamaged (IsNamedOfLeaves (pages_of_old (S.seen old.old)) leaf tracks.now.rows places.now
+        tracks.now.tracks) back.1) }
     ensures works { IfErr result (λ back. IsTrue (S.seen old.old).is_faithful → IsSound index
         → content index ≡ [] → IsLegFault back.1) }
     ensures behind { IfErr result (λ back. IsBehindFirst back.1) }
@@ -163,7 +171,7 @@ fn bring_legs<S: PageStore, T: PageStore>(
 /// another version, is of a store that was not finished, or of one in another state (`Malformed`);
 /// then the first page that is damaged, or malformed, as met; a chain of leaves that is not whole
 /// is `Damaged`, with the page at which the walk along it fails, or page 0 where all of them do not
-/// have the legs that are to be (no clause says which).
+/// have the legs that are to be; that it is no other page without a payload no clause says.
 ///
 /// Where it is refused the new store is handed back: without pages, with a page 0 that says that it
 /// is not finished, or with page 0 alone, whose write failed.
@@ -191,19 +199,36 @@ pub fn migrate<S: PageStore, T: PageStore>(
         → (shape : ShapeView) (limits : LimitsView) (book : Book)
         → HoldsOldBook (S.seen old.old) shape limits book → IsSavingStop back.1) }
 
-    // Where the pages keep a catalogue, only memory, the two stores and a damaged page stop it; where
-    // they keep none, a page that is said to be damaged is so.
+    // Where the pages keep a catalogue, only memory, the two stores and a damaged page stop it: no
+    // page where the chains of all features are whole, and else one that the chains name. Where the
+    // pages keep no catalogue, a page that is said to be damaged is so, and is the one at which
+    // reading it stops; pages that are said to be malformed keep none, whatever the damaged ones have.
     ensures kept { IfErr result (λ back. IsTrue (S.seen old.old).is_faithful
         → IsTrue (T.seen new).is_faithful
         → (c : CatalogueView) (tree : TbTree) (places : List Place)
         → IsKeptOld (stored_payload (S.seen old.old)) (S.seen old.old).count c tree places
         → IsLegFault back.1) }
+    ensures whole { IfErr result (λ back. IsTrue (S.seen old.old).is_faithful
+        → IsTrue (T.seen new).is_faithful
+        → (c : CatalogueView) (tree : TbTree) (places : List Place)
+        → IsKeptOld (stored_payload (S.seen old.old)) (S.seen old.old).count c tree places
+        → AreWhole (S.seen old.old) c tree places → IsSavingStop back.1) }
+    ensures chains { IfErr result (λ back. IsTrue (S.seen old.old).is_faithful
+        → IsTrue (T.seen new).is_faithful
+        → (c : CatalogueView) (tree : TbTree) (places : List Place)
+        → IsKeptOld (stored_payload (S.seen old.old)) (S.seen old.old).count c tree places
+        → IfDamaged (IsNamedOfChains (S.seen old.old) c tree places) back.1) }
     ensures damaged { IfErr result (λ back. IsTrue (S.seen old.old).is_faithful
         → IsTrue (T.seen new).is_faithful
         → ((c : CatalogueView) (tree : TbTree) (places : List Place)
         → IsKeptOld (stored_payload (S.seen old.old)) (S.seen old.old).count c tree places → ⊥)
         → IsTrulyDamaged (S.seen old.old).is_faithful
         (stored_payload (S.seen old.old)) (S.seen old.old).count back.1) }
+    ensures named { IfErr result (λ back. IsTrue (S.seen old.old).is_faithful
+        → IsTrue (T.seen new).is_faithful
+        → ((c : CatalogueView) (tree : TbTree) (places : List Place)
+        → IsKeptOld (stored_payload (S.seen old.old)) (S.seen old.old).count c tree places → ⊥)
+        → NamesOldStop (stored_payload (S.seen old.old)) (S.seen old.old).count back.1) }
 
     // Page 0 of the new store says that it is not finished, and that of the other comes first.
     ensures marked { IfOk result (λ r. IsTrue (S.seen old.old).is_faithful

@@ -1,5 +1,5 @@
 //! The legs of a lent store of version 1.
-ghost use Rattle.std.specs.Prelude.{ℕ, ◌≡◌, ◌≢◌, ◌+◌, ◌-◌, ◌<◌, ◌^◌, List, Some, [], ◌⊎◌, None, IsErrOf, IfOk, IfErr, IsTrue, OnOk};
+ghost use Rattle.std.specs.Prelude.{ℕ, ◌≡◌, ◌≢◌, ◌+◌, ◌-◌, ◌<◌, ◌^◌, List, length, Some, [], ◌⊎◌, None, IsErrOf, IfOk, IfErr, IsTrue, OnOk};
 ghost use Rattle.legs.specs.Asking.{IsLater};
 ghost use Rattle.legs.specs.Index.{HasRisen, MayRefuseLeg};
 ghost use Rattle.legs.specs.Legs.{LegView};
@@ -8,12 +8,13 @@ ghost use Rattle.pages.specs.Store.{Faulted, Stays};
 ghost use Rattle.pagecache.specs.Cache.{fresh, payload_of};
 ghost use Rattle.version1.specs.OldForm.{old_node_of};
 ghost use Rattle.treecheck.specs.Check.{HoldChains};
-ghost use Rattle.tbtree.specs.Faults.{IfMalformed, MayRefuseRead, RefusesRead};
+ghost use Rattle.tbtree.specs.Faults.{IfMalformed, IfNamed, MayRefuseRead, RefusesRead};
 ghost use Rattle.tbtree.specs.Turn.{ComeInTurn, IsRising};
 ghost use Rattle.tbtree.specs.Descent.{legs_in};
 ghost use Rattle.treecheck.specs.Checking.{Agree};
 ghost use Rattle.chains.specs.Reads.{Reads};
 ghost use Rattle.version1.specs.OldLegs.{pages_of_old, unsealing, AreAmong, AreOpened, AreReadable, AreSurveyed, HaveEachOf, HaveLegsOf, IsNumbered, IsReadable, Opens, StandByOrdinal};
+ghost use Rattle.version1.specs.Naming.{IfDamagedInIndex, IsNamedOfLeaves};
 ghost use Rattle.treecheck.specs.Walking.{after, pages_by, IsNextNode, Notes};
 ghost use Rattle.treecheck.specs.declared.walking.Met.{Met};
 
@@ -160,6 +161,10 @@ fn survey_leaves<S: PageStore>(
         → Agree tracks.now rows tracks.now.legs → (legs : List LegView)
         → HoldChains (pages_by old_node_of (fresh (S.seen store.old) 1)) most rows tracks.now.legs
         places.now tracks.now.tracks legs → MayRefuseRead fault) }
+    ensures named { IfErr result (λ fault. IsTrue (S.seen store.old).is_faithful
+        → length places.now < 2 ^ 32
+        → IfNamed (IsNamedOfLeaves (pages_by old_node_of (fresh (S.seen store.old) 1)) most rows
+        places.now tracks.now.tracks) fault) }
     ensures reads { Reads (fresh (S.seen store.old) 1) (fresh (S.seen store.new) 1) result }
 {
     let legs = tracks.leg_count();
@@ -261,8 +266,8 @@ fn open_next<S: PageStore>(
 /// are opened and not used up: at most one leaf a feature.
 ///
 /// A store whose chains a check would refuse is `Damaged`, with the page at which the walk along them
-/// fails, or page 0 where all of them do not have the legs that are to be. No clause says which, nor
-/// what is said of memory.
+/// fails, or page 0 where all of them do not have the legs that are to be. That it is no other page without
+/// a payload no clause says, nor what is said of memory.
 pub fn take_old_legs<S: PageStore, I: LegIndex>(
     alloc: Global,
     keys: RandomState,
@@ -286,6 +291,12 @@ pub fn take_old_legs<S: PageStore, I: LegIndex>(
         → Agree tracks.now rows tracks.now.legs → (legs : List LegView)
         → HoldChains (pages_of_old (S.seen old.old)) most rows tracks.now.legs places.now
         tracks.now.tracks legs → MayRefuseLeg fault) }
+
+    // Of chains that are not whole, which page is named.
+    ensures named { IfErr result (λ fault. IsTrue (S.seen old.old).is_faithful
+        → I.is_sound index.old → I.content index.old ≡ [] → length places.now < 2 ^ 32
+        → IfDamagedInIndex (IsNamedOfLeaves (pages_of_old (S.seen old.old)) most rows places.now
+        tracks.now.tracks) fault) }
 
     // The store is only read, and the index stays marked.
     ensures stays { Stays (S.seen old.old) (S.seen old.new) }

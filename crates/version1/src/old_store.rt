@@ -1,14 +1,16 @@
 //! The catalogue of a finished store of version 1, which is lent and read.
-ghost use Rattle.std.specs.Prelude.{◌≡◌, ◌≤◌, List, None, Option, IsTrue, IfErr, IfOk};
+ghost use Rattle.std.specs.Prelude.{ℕ, ◌≡◌, ◌≤◌, List, Some, None, Option, IsTrue, IfErr, IfOk};
 ghost use Rattle.legs.specs.Book.{Book};
 ghost use Rattle.legs.specs.Costs.{ShapeView};
 ghost use Rattle.legs.specs.Limits.{LimitsView};
 ghost use Rattle.pages.specs.Store.{Stays};
 ghost use Rattle.pagecache.specs.Cache.{stored_payload};
 ghost use Rattle.chains.specs.Reads.{OnlyReads};
-ghost use Rattle.register.specs.ChainReader.{IsBroken};
+ghost use Rattle.pages.specs.declared.payload.Payload.{Payload};
+ghost use Rattle.register.specs.ChainReader.{reader_of, stop_of, BreaksAt};
 ghost use Rattle.register.specs.Lasting.{ComesFirst, IsReadingFault, IsStop, IsTrulyDamaged};
-ghost use Rattle.version1.specs.OldReading.{IsBringingFault, SaysOldFields};
+ghost use Rattle.version1.specs.Naming.{IfDamaged, NamesOldStop};
+ghost use Rattle.version1.specs.OldReading.{IsBringingFault, MayBeLent, SaysOldFields};
 ghost use Rattle.version1.specs.OldStore.{old_first_fault, AnswersOld, AnswersOldBook, HoldsOldBook, IsKeptOld, IsOldReadingFault};
 ghost use Rattle.register.specs.Restoring.{HoldsContents, IsRest};
 ghost use Rattle.register.specs.Saved.{CatalogueView};
@@ -58,6 +60,7 @@ fn read_old_header<S: PageStore>(lent: &mut S) -> Result<OldFields, CatalogueFau
     ensures caused { IfErr result (IsReadingFault (S.seen lent.old) (S.seen lent.new)) }
     ensures damaged { IfErr result (IsTrulyDamaged (S.seen lent.old).is_faithful
         (stored_payload (S.seen lent.old)) (S.seen lent.old).count) }
+    ensures zero { IfErr result (IfDamaged (λ page. page ≡ 0)) }
 {
     match read_sealed(lent, 0) {
         Ok(payload) => old_header_of(&payload),
@@ -74,14 +77,16 @@ fn read_old_contents<S: PageStore, T: PageStore>(
     fields: &Fields,
 ) -> Result<Option<Contents>, CatalogueFault>
     requires { cache.old.count ≡ 0 }
-    ensures holds { IfOk result (λ contents. IsTrue (S.seen lent.old).is_faithful
-        → IsTrue cache.old.store.is_faithful → HoldsContents (stored_payload (S.seen lent.old))
-        (S.seen lent.old).count fields.now.first fields.now.length contents) }
-    ensures broken { IfErr result (λ e. IsBroken e → IsTrue (S.seen lent.old).is_faithful
-        → IsTrue cache.old.store.is_faithful
+    ensures holds { IfOk result (λ contents. IsTrue cache.old.store.is_faithful
+        → (at : ℕ → Option Payload) → MayBeLent (S.seen lent.old) at
+        → HoldsContents at (S.seen lent.old).count fields.now.first fields.now.length contents) }
+    ensures broken { IfErr result (λ e. IsTrue cache.old.store.is_faithful
+        → (at : ℕ → Option Payload) → MayBeLent (S.seen lent.old) at → BreaksAt at e
         → (contents : Option Contents) → AreFew fields.now.limits.legs contents
-        → HoldsContents (stored_payload (S.seen lent.old)) (S.seen lent.old).count
-        fields.now.first fields.now.length contents → ⊥) }
+        → HoldsContents at (S.seen lent.old).count fields.now.first fields.now.length contents
+        → ⊥) }
+    ensures stops { IfErr result (λ e. IsTrue (S.seen lent.old).is_faithful → IfDamaged (λ page.
+        stop_of (stored_payload (S.seen lent.old)) (reader_of fields.now) ≡ Some page) e) }
     ensures stays { Stays (S.seen lent.old) (S.seen lent.new) }
     ensures reads { OnlyReads cache.old cache.new }
     ensures caused { IfErr result (IsBringingFault (S.seen lent.old) (S.seen lent.new)
@@ -105,13 +110,15 @@ fn read_old_rest<S: PageStore, T: PageStore>(
     fields: &Fields,
 ) -> Result<(Catalogue, Vec<Place>), CatalogueFault>
     requires { cache.old.count ≡ 0 }
-    ensures rest { IfOk result (λ r. IsTrue (S.seen lent.old).is_faithful
-        → IsTrue cache.old.store.is_faithful → IsRest (stored_payload (S.seen lent.old))
-        (S.seen lent.old).count fields.now r.0 r.1.items) }
-    ensures broken { IfErr result (λ e. IsBroken e → IsTrue (S.seen lent.old).is_faithful
-        → IsTrue cache.old.store.is_faithful → (c : CatalogueView) (places : List Place)
-        → IsRest (stored_payload (S.seen lent.old)) (S.seen lent.old).count fields.now c places
-        → ⊥) }
+    ensures rest { IfOk result (λ r. IsTrue cache.old.store.is_faithful
+        → (at : ℕ → Option Payload) → MayBeLent (S.seen lent.old) at
+        → IsRest at (S.seen lent.old).count fields.now r.0 r.1.items) }
+    ensures broken { IfErr result (λ e. IsTrue cache.old.store.is_faithful
+        → (at : ℕ → Option Payload) → MayBeLent (S.seen lent.old) at → BreaksAt at e
+        → (c : CatalogueView) (places : List Place)
+        → IsRest at (S.seen lent.old).count fields.now c places → ⊥) }
+    ensures stops { IfErr result (λ e. IsTrue (S.seen lent.old).is_faithful → IfDamaged (λ page.
+        stop_of (stored_payload (S.seen lent.old)) (reader_of fields.now) ≡ Some page) e) }
     ensures stays { Stays (S.seen lent.old) (S.seen lent.new) }
     ensures reads { OnlyReads cache.old cache.new }
     ensures caused { IfErr result (IsBringingFault (S.seen lent.old) (S.seen lent.new)
@@ -168,13 +175,17 @@ pub(crate) fn read_old<S: PageStore, T: PageStore>(
         → IsKeptOld (stored_payload (S.seen lent.old)) (S.seen lent.old).count c tree places
         → ⊥) }
 
-    // The store stays as it is, and a page of it that is said to be damaged is so.
+    // The store stays as it is, and a page of it that is said to be damaged is so, and is the one at
+    // which reading stops.
     ensures stays { Stays (S.seen lent.old) (S.seen lent.new) }
     ensures reads { OnlyReads cache.old cache.new }
     ensures caused { IfErr result (IsOldReadingFault (S.seen lent.old) (S.seen lent.new)
         cache.old.store cache.new.store) }
     ensures damaged { IfErr result (IsTrulyDamaged (S.seen lent.old).is_faithful
         (stored_payload (S.seen lent.old)) (S.seen lent.old).count) }
+    ensures named { IfErr result (λ e. IsTrue (S.seen lent.old).is_faithful
+        → IsTrue cache.old.store.is_faithful
+        → NamesOldStop (stored_payload (S.seen lent.old)) (S.seen lent.old).count e) }
 {
     let old = read_old_header(lent)?;
     let (catalogue, places) = read_old_rest(alloc, keys, lent, cache, &old.fields)?;

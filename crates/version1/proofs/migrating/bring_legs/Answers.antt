@@ -6,7 +6,9 @@ use Rattle.treecheck.specs.Check.{HoldChains}
 use Rattle.catalogue.specs.Holding.{IsUnfinishedStore}
 use Rattle.register.specs.Saving.{IsSavingStop}
 use Rattle.catalogue.proofs.CloseLemmas.{says_stored, still_says}
+use Rattle.version1.specs.Naming.{IfDamaged, IfDamagedInIndex, IsNamedOfLeaves}
 use Rattle.version1.proofs.MigrateLemmas.{allowed_leg}
+use Rattle.version1.proofs.NamedLemmas.{brought_named}
 use Rattle.version1.proofs.migrating.bring_legs.Goals as goal
 
 pub returns-in-Err-clause-unfinished : goal.returns-in-Err-clause-unfinished
@@ -25,3 +27,14 @@ returns-in-Err-clause-only g c = λ fa sound none agree legs holds.
     subst IsSavingStop (sym c.brought.ensures) (allowed_leg c.in-Err.fault (c.in-Err.ensures.only fa sound none
     (subst (λ r. Agree tracks r tracks.legs) rows agree) legs
     (subst (λ n. HoldChains nodes n c.row_count-rows.result tracks.legs c.args.places.now tracks.tracks legs) most chains)))
+
+pub returns-in-Err-clause-named : goal.returns-in-Err-clause-named
+returns-in-Err-clause-named g c = λ fa sound none few.
+    let tracks = c.args.tracks.now in
+    let places = c.args.places.now in
+    let nodes = pages_of_old (g.S.PageStore.seen c.args.old.now) in
+    let fault = c.in-Err.fault in
+    let most = subst (λ n. IfDamagedInIndex (IsNamedOfLeaves nodes n c.row_count-rows.result places tracks.tracks) fault) c.from-most.ensures (c.in-Err.ensures.named fa sound none few) in
+    let named = subst (λ r. IfDamagedInIndex (IsNamedOfLeaves nodes c.args.leaf r places tracks.tracks) fault) c.row_count-rows.ensures.value most in
+    let names = IsNamedOfLeaves nodes c.args.leaf tracks.rows places tracks.tracks in
+    subst (IfDamaged names) (sym c.brought.ensures) (brought_named names fault named)

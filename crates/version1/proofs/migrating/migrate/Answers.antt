@@ -1,4 +1,4 @@
-use Rattle.std.proofs.Common.{◌≡◌, ◌∙◌, List, IsTrue, sym, ap, subst}
+use Rattle.std.proofs.Common.{◌≡◌, ◌∙◌, ◌<◌, List, length, sym, ap, subst}
 use Rattle.legs.specs.Costs.{ShapeView}
 use Rattle.pagecache.specs.Cache.{stored_payload}
 use Rattle.treecheck.specs.Check.{HoldChains}
@@ -8,6 +8,12 @@ use Rattle.boxsearch.specs.Index.{content}
 use Rattle.version1.specs.OldLegs.{pages_of_old}
 use Rattle.version1.specs.OldStore.{AnswersOld}
 use Rattle.register.specs.Saved.{CatalogueView}
+use Rattle.catalogue.proofs.OpenLemmas.{stop_of}
+use Rattle.tbtree.specs.declared.tree.Place.{Place}
+use Rattle.tbtree.specs.declared.tree.TbTree.{TbTree}
+use Rattle.version1.specs.Naming.{IsNamedOfChains}
+use Rattle.version1.proofs.NamedLemmas.{chains_of, kept_agrees, kept_few, named_as, named_of, stop_named}
+use Rattle.version1.proofs.OldBookLemmas.{old_kept_same}
 use Rattle.version1.proofs.MigrateLemmas.{allowed_stop, book_agrees, book_brought, book_chains, caused_beginning, chains_as, leg_stop, old_pages_stay, same_shape}
 use Rattle.version1.proofs.migrating.migrate.Goals as goal
 
@@ -80,3 +86,56 @@ returns-in-Err-bring_legs-clause-damaged g c = λ fa fb none.
     let read = c.in-Ok.read.0 in
     let answers = c.in-Ok.ensures.kept fa fb in
     absurd (none read.catalogue answers.tree read.places.items answers.kept)
+
+pub returns-in-Err-clause-whole : goal.returns-in-Err-clause-whole
+returns-in-Err-clause-whole g c = λ fa fb catalogue tree places kept whole.
+    allowed_stop c.in-Err.back.1 (stop_of c.in-Err.back.1 (λ no. c.in-Err.ensures.broken fa fb no catalogue tree places kept))
+
+pub returns-in-Err-clause-chains : goal.returns-in-Err-clause-chains
+returns-in-Err-clause-chains g c = λ fa fb catalogue tree places kept.
+    stop_named (IsNamedOfChains (g.S.PageStore.seen c.args.old.now) catalogue tree places) c.in-Err.back.1 (stop_of c.in-Err.back.1 (λ no. c.in-Err.ensures.broken fa fb no catalogue tree places kept))
+
+pub returns-in-Err-bring_legs-clause-whole : goal.returns-in-Err-bring_legs-clause-whole
+returns-in-Err-bring_legs-clause-whole g c = λ fa fb catalogue tree places kept whole.
+    let s = g.S.PageStore.seen c.args.old.now in
+    let at = stored_payload s in
+    let mid = g.S.PageStore.seen c.read_beside.new.old in
+    let stays = c.in-Ok.ensures.stays in
+    let read = c.in-Ok.read.0 in
+    let tracks = read.catalogue.tracks in
+    let fm = stays.keeps.faithful ∙ fa in
+    let ft = c.in-Ok.ensures.stored.keeps.faithful ∙ fb in
+    let answers = c.in-Ok.ensures.kept fa fb in
+    let one = old_kept_same at s.count read.catalogue catalogue answers.tree tree read.places.items places answers.kept kept in
+    let leaf : tree.shape.leaf ≡ read.leaf = sym (ap (λ (t : TbTree). t.shape.leaf) one.tree_is) ∙ answers.leaf_is in
+    let chains = chains_of (pages_of_old s) read.leaf read.catalogue catalogue tree read.places.items places whole.0 one.catalogue leaf one.places_are whole.1 in
+    let agrees = kept_agrees at s.count read.catalogue answers.tree read.places.items answers.kept in
+    let same = sym (ap (λ (v : CatalogueView). v.tracks) c.catalogue.view_is) in
+    c.in-Err-bring_legs.ensures.only fm (c.in-Ok-begin.ensures.sound ft) c.in-Ok-begin.ensures.empty (subst (λ (t : TracksView). Agree t t.rows t.legs) same agrees) whole.0
+    (chains_as (pages_of_old mid) read.leaf tracks c.catalogue.inside.tracks read.places.items c.as_slice.result.now whole.0 same (sym c.as_slice.ensures.value)
+    (subst (λ nodes. HoldChains nodes read.leaf tracks.rows tracks.legs read.places.items tracks.tracks whole.0) (sym (old_pages_stay s mid fa stays)) chains))
+
+pub returns-in-Err-bring_legs-clause-chains : goal.returns-in-Err-bring_legs-clause-chains
+returns-in-Err-bring_legs-clause-chains g c = λ fa fb catalogue tree places kept.
+    let s = g.S.PageStore.seen c.args.old.now in
+    let at = stored_payload s in
+    let mid = g.S.PageStore.seen c.read_beside.new.old in
+    let stays = c.in-Ok.ensures.stays in
+    let read = c.in-Ok.read.0 in
+    let tracks = read.catalogue.tracks in
+    let fm = stays.keeps.faithful ∙ fa in
+    let ft = c.in-Ok.ensures.stored.keeps.faithful ∙ fb in
+    let answers = c.in-Ok.ensures.kept fa fb in
+    let one = old_kept_same at s.count read.catalogue catalogue answers.tree tree read.places.items places answers.kept kept in
+    let leaf : tree.shape.leaf ≡ read.leaf = sym (ap (λ (t : TbTree). t.shape.leaf) one.tree_is) ∙ answers.leaf_is in
+    let few = subst (λ (l : List Place). length l < 4294967296) (sym c.as_slice.ensures.value) (kept_few at s.count read.catalogue answers.tree read.places.items answers.kept) in
+    let same = ap (λ (v : CatalogueView). v.tracks) c.catalogue.view_is in
+    let e = c.in-Err-bring_legs.back.1 in
+    named_of (pages_of_old s) read.leaf read.catalogue catalogue tree read.places.items places e one.catalogue leaf one.places_are
+    (named_as (pages_of_old s) (pages_of_old mid) read.leaf c.catalogue.inside.tracks tracks c.as_slice.result.now read.places.items e (old_pages_stay s mid fa stays) same c.as_slice.ensures.value
+    (c.in-Err-bring_legs.ensures.named fm (c.in-Ok-begin.ensures.sound ft) c.in-Ok-begin.ensures.empty few))
+
+pub returns-in-Err-bring_legs-clause-named : goal.returns-in-Err-bring_legs-clause-named
+returns-in-Err-bring_legs-clause-named g c = λ fa fb none.
+    let answers = c.in-Ok.ensures.kept fa fb in
+    absurd (none c.in-Ok.read.0.catalogue answers.tree c.in-Ok.read.0.places.items answers.kept)

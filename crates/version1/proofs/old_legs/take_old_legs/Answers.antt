@@ -5,8 +5,14 @@ use Rattle.version1.specs.OldForm.{old_node_of}
 use Rattle.treecheck.specs.Check.{legs_on, HoldChains}
 use Rattle.tbtree.specs.Descent.{sort_by_ordinal}
 use Rattle.legs.specs.Index.{MayRefuseLeg}
+use Rattle.legs.specs.Boxes.{BoxView}
+use Rattle.legs.specs.Legs.{LegView}
+use Rattle.tbtree.specs.Faults.{IfNamed}
+use Rattle.tbtree.specs.Nodes.{Pages}
 use Rattle.version1.specs.OldLegs.{pages_of_old, HaveEachOf, HaveLegsOf, IsNumbered}
+use Rattle.version1.specs.Naming.{IfDamagedInIndex, IsNamedOfLeaves}
 use Rattle.treecheck.specs.Walking.{pages_by}
+use Rattle.version1.proofs.NamedLemmas.{named_leg, none_named}
 use Rattle.version1.proofs.OldLemmas.{same_old, stays_read}
 use Rattle.version1.proofs.OpenedLemmas.{allowed_leg, works_leg}
 use Rattle.version1.proofs.SurveyedLemmas.{have_each}
@@ -117,3 +123,36 @@ returns-clause-works g c = on_err c.bring.result (λ fault h fa sound empty.
     let there = subst (λ nodes. HaveLegsOf nodes c.as_slice.result.now list) (sym (same_by old_node_of (fresh first 1) (fresh mid 1) reads fa)) (subst (λ ms. HaveLegsOf nodes ms list) (sym c.as_slice.ensures.value) have) in
     let total_is = subst (λ n. IsNumbered n list) (sym c.leg_count.ensures) numbered in
     h (reads.store.faithful ∙ fa) sound empty list there total_is) c.bring.ensures.works
+
+pub returns-clause-named : goal.returns-clause-named
+returns-clause-named g c = on_err c.bring.result (λ fault h fa sound empty few.
+    let first = g.S.PageStore.seen c.args.old.now in
+    let mid = g.S.PageStore.seen c.survey_leaves.new.store in
+    let reads = c.survey_leaves.ensures.reads.only in
+    let total = c.args.tracks.now.legs in
+    let places = c.args.places.now in
+    let tracks = c.args.tracks.now.tracks in
+    let nodes = pages_by old_node_of (fresh first 1) in
+    let leaves = c.in-Ok.survey.leaves.items in
+    let s = c.in-Ok.ensures.surveyed fa in
+    let list = sort_by_ordinal (legs_on nodes (joined s.chains)) in
+    let n = c.laws.ensures.numbered (legs_on nodes (joined s.chains)) total s.once in
+    let all : HoldChains nodes c.args.most c.args.rows total places tracks list = held_list nodes c.args.most c.args.rows total places tracks leaves s n in
+    let numbered : IsNumbered total list = record { in_turn = c.laws.ensures.chained nodes c.args.most c.args.rows total places tracks list c.requires all; numbers = n.1 } in
+    let have : HaveLegsOf nodes leaves list = legs_are nodes c.args.most c.args.rows total places tracks leaves s n in
+    let each : HaveEachOf nodes leaves list = have_each nodes c.args.most c.args.rows total places tracks leaves c.requires s list n.0 in
+    let same = sym (same_by old_node_of (fresh first 1) (fresh mid 1) reads fa) in
+    let back = sym c.as_slice.ensures.value in
+    let there = subst (λ nodes. HaveLegsOf nodes c.as_slice.result.now list) same (subst (λ ms. HaveLegsOf nodes ms list) back have) in
+    let each_there = subst (λ nodes. HaveEachOf nodes c.as_slice.result.now list) same (subst (λ ms. HaveEachOf nodes ms list) back each) in
+    let total_is = subst (λ n. IsNumbered n list) (sym c.leg_count.ensures) numbered in
+    none_named (IsNamedOfLeaves (pages_of_old first) c.args.most c.args.rows places tracks) fault (h (reads.store.faithful ∙ fa) sound empty list there each_there total_is)) c.bring.ensures.only
+
+pub returns-in-Err-clause-named : goal.returns-in-Err-clause-named
+returns-in-Err-clause-named g c = λ fa sound empty few.
+    let first = g.S.PageStore.seen c.args.old.now in
+    let err = c.in-Err.ensures in
+    let names = λ (nodes : Pages LegView BoxView). IsNamedOfLeaves nodes c.args.most c.args.rows c.args.places.now c.args.tracks.now.tracks in
+    let there = subst (λ nodes. IfNamed (names nodes) c.in-Err.fault) (same_old first (g.met.S.PageStore.lawful c.args.old.now) fa) (err.named fa few) in
+    subst (IfDamagedInIndex (names (pages_of_old first))) (sym c.of_tree.ensures)
+    (named_leg (names (pages_of_old first)) (fresh first 1) (fresh (g.S.PageStore.seen c.survey_leaves.new.store) 1) c.in-Err.fault err.reads.caused there)
