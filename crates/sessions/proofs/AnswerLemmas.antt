@@ -6,11 +6,11 @@ use Rattle.std.specs.Prelude.{IfErr, IfOk, IsErrOf, OnErr, OnOk}
 use Rattle.legs.specs.Book.{Book, empty_book}
 use Rattle.legs.specs.Costs.{ShapeView}
 use Rattle.legs.specs.Limits.{LimitsView}
-use Rattle.pages.specs.Store.{Store, Faulted}
+use Rattle.pages.specs.Store.{Store}
 use Rattle.boxsearch.specs.Index.{words}
 use Rattle.catalogue.specs.Holding.{HoldsBook, HoldsButFirst, IsUnfinishedStore}
 use Rattle.catalogue.specs.Beginning.{IsLeftOver}
-use Rattle.trajdb.specs.Calls.{IsAsked, IsLoadFault, KeepsPages, LeavesBook}
+use Rattle.trajdb.specs.Calls.{IsLoadFault, KeepsPages, LeavesBook}
 use Rattle.trajdb.specs.Db.{DbView, HasPages, IsAllowed, IsSoundDb}
 use Rattle.trajdb.specs.Lasting.{HasBook, IsClosingFault, IsFaultless, IsIdle}
 use Rattle.trajdb.specs.Faults.{IsNotOutput}
@@ -21,7 +21,7 @@ use Rattle.trajdb.specs.declared.RunFault.{RunFault}
 use Rattle.trajdb.specs.declared.RunFault.TheVariants as run
 use Rattle.trajdb.specs.Checking.{Reports}
 use Rattle.trajdb.specs.declared.Report.{Report}
-use Rattle.sessions.specs.Answers.{Answers, Checks, IsCheckFault, IsNotOver, IsOverFault, SendsFront}
+use Rattle.sessions.specs.Answers.{Answers, Checks, IsNotOver, IsOverFault, SendsFront}
 use Rattle.sessions.specs.declared.fault.Fault.TheVariants.{Run, Open}
 
 pub the_same : (x y : ShapeView) → Some x ≡ Some y → x ≡ y
@@ -117,12 +117,12 @@ module _ (old new : DbView) (s : Store) (leaves : LeavesBook words old new) (res
 
   pub checks : (report : Report) → new.failed ≡ false → (IsSoundDb new → HasPages new → IsIdle new → HoldsBook s new.index.tree.shape new.limits new.book)
       → (IsTrue old.index.cache.store.is_faithful → IsSoundDb new) → (IsTrue old.index.cache.store.is_faithful → HasPages new) → (IsTrue old.index.cache.store.is_faithful → Reports new report)
-      → IsTrue old.index.cache.store.is_faithful → IsIdle old → old.begun ≡ false → Checks s old.index.tree.shape old.limits old.book report
-  checks report lives holds sound pages reports fa idle unbegun =
+      → IsTrue old.index.cache.store.is_faithful → IsIdle old → Checks s old report
+  checks report lives holds sound pages reports fa idle =
       let r = reports fa in
       record {
         holds = still_holds (holds (sound fa) (pages fa) (rests idle));
-        pages = r.pages ∙ ap (λ (k : Store). k.count) (sym (same lives (leaves.begun ∙ unbegun)));
+        pages = λ unbegun. r.pages ∙ ap (λ (k : Store). k.count) (sym (same lives (leaves.begun ∙ unbegun)));
         legs = r.legs ∙ ap (λ (b : Book). length b.legs) leaves.book;
         features = r.features ∙ ap (λ (b : Book). length b.names) leaves.book;
       }
@@ -139,19 +139,6 @@ pub not_refused : (old new : DbView) (closed : Result (Unit {0}) RunFault) (e : 
 not_refused old new closed e is leaves lives idle unbegun =
     let done : closed ≡ Ok tt = idle lives (leaves.begun ∙ unbegun) in
     cc
-
--- why a check does not pass, by its store as the closing leaves it
-pub check_fault : (old new : DbView) (s : Store) (e : RunFault) → LeavesBook words old new → (new.failed ≡ false → new.begun ≡ false → s ≡ new.index.cache.store) → (new.failed ≡ true → s ≡ new.index.cache.store)
-    → IsAsked words old.index new.index e → (IsErrOf {T = Report} {E = RunFault} (Err e) run.Failed → (old.failed ≡ true) ⊎ (words.is_spent old.index ≡ true)) → old.begun ≡ false → IsCheckFault old s e
-check_fault old new s run.Memory leaves idle failed asked works unbegun = tt
-check_fault old new s run.Store leaves idle failed asked works unbegun = subst (λ k. Faulted old.index.cache.store k) (sym (is_left new.failed refl)) asked where
-  is_left : (b : Bool) → new.failed ≡ b → s ≡ new.index.cache.store
-  is_left false lives = idle lives (leaves.begun ∙ unbegun)
-  is_left true is = failed is
-check_fault old new s (run.Damaged page) leaves idle failed asked works unbegun = tt
-check_fault old new s run.StoreFull leaves idle failed asked works unbegun = asked
-check_fault old new s run.Failed leaves idle failed asked works unbegun = works refl
-check_fault old new s run.Output leaves idle failed asked works unbegun = asked
 
 -- a database that was made with a book and is closed leaves a store that holds it
 pub closed_book : (db : DbView) (s : Store) (ran : Result (Unit {0}) RunFault) → OnOk ran (IsSoundDb db → HasPages db → IsIdle db → HoldsBook s db.index.tree.shape db.limits db.book) → ran ≡ Ok tt

@@ -1,4 +1,6 @@
 pub mod AnswerLemmas
+pub mod BroughtLemmas
+pub mod CheckLemmas
 pub mod FolderLemmas
 mod LeftLemmas
 pub mod PutLemmas

@@ -15,7 +15,7 @@ use Rattle.trajdb.specs.Calls.{IsLoadFault, LoadsBy, LoadsWholeSome, Speaks}
 use Rattle.trajdb.specs.Db.{page_count_of, shape_of, store_of, DbView, HasPages, IsSoundDb}
 use Rattle.trajdb.specs.Faults.{IsNotOutput}
 use Rattle.trajdb.specs.Lasting.{IsFaultless, IsIdle, IsSafe, IsSafeStore}
-use Rattle.trajdb.specs.Promises.{CloseCall, KeepsStore, RunCall}
+use Rattle.trajdb.specs.Promises.{CheckCall, CloseCall, KeepsStore, RunCall}
 use Rattle.trajdb.specs.Run.{run_book, AcceptsSome, HasRun, IsPrefixOf, IsRunText, Runs}
 use Rattle.trajdb.specs.declared.OpenFault.{OpenFault}
 use Rattle.trajdb.specs.declared.OpenFault.TheVariants as opening
@@ -162,22 +162,46 @@ RunsOver seen shown (Ok db) files out out' lines answered store =
 RunsOver seen shown (Err back) files out out' lines answered store =
     (answered ≡ Err (Open back.1)) × (store ≡ seen back.0) × (shown out' ≡ shown out)
 
--- the store holds the book, in a tree of that shape; the report says how many pages the store has, and how many legs and
--- features the book
-pub record Checks (store : Store) (shape : ShapeView) (limits : LimitsView) (book : Book)
-    (report : Report) : Type 0 where
-  pub holds : HoldsBook store shape limits book
-  pub pages : report.pages ≡ store.count
-  pub legs : report.legs ≡ length book.legs
-  pub features : report.features ≡ length book.names
+-- the store holds the book of a database, in a tree of its shape; the report says how many legs and features the book has,
+-- and, where the database had not begun, how many pages the store
+pub record Checks (store : Store) (db : DbView) (report : Report) : Type 0 where
+  pub holds : HoldsBook store (shape_of db) db.limits db.book
+  pub pages : db.begun ≡ false → report.pages ≡ store.count
+  pub legs : report.legs ≡ length db.book.legs
+  pub features : report.features ≡ length db.book.names
 
--- why a database that had not begun does not pass its check: its store failed, where that is said, and it had failed
--- before, or takes no more legs, where it is said to have failed
+-- a store holds the book of a database, or is not finished, or has all pages but page 0 of one that holds it, synced
+abbrev pub HoldsOrNot : Store → DbView → Type 0
+HoldsOrNot store db =
+    HoldsBook store (shape_of db) db.limits db.book
+    ⊎ (IsUnfinishedStore store ⊎ HoldsButFirst store (shape_of db) db.limits db.book)
+
+-- how a check and its closing are answered: the check's own fault comes first
+abbrev pub said_checked : Result Report RunFault → Result (Unit {0}) RunFault
+    → Result Report RunFault
+said_checked (Ok report) (Ok x) = Ok report
+said_checked (Ok report) (Err fault) = Err fault
+said_checked (Err fault) closed = Err fault
+
+-- a check of a database and its closing, be it sound or not: there is a database between them, and the check and the closing
+-- do with it what each promises
+pub record ChecksAndCloses (db : DbView) (store : Store)
+    (answered : Result Report RunFault) : Type 0 where
+  pub between : DbView
+  pub checked : Result Report RunFault
+  pub closed : Result (Unit {0}) RunFault
+  pub answers : answered ≡ said_checked checked closed
+  pub check : CheckCall db between checked
+  pub keeps : KeepsStore db between
+  pub close : CloseCall between store closed
+
+-- why a database does not pass its check, or is not closed then: its store failed, where that is said, or is full, as only
+-- the closing of one that had begun says, and it had failed before, or takes no more legs, where it is said to have failed
 abbrev pub IsCheckFault : DbView → Store → RunFault → Type 0
 IsCheckFault db left run.Memory = Unit {0}
 IsCheckFault db left run.Store = Faulted (store_of db) left
 IsCheckFault db left (run.Damaged page) = Unit {0}
-IsCheckFault db left run.StoreFull = ⊥
+IsCheckFault db left run.StoreFull = (db.begun ≡ true) × (left.count ≡ left.most)
 IsCheckFault db left run.Failed = (db.failed ≡ true) ⊎ (words.is_spent db.index ≡ true)
 IsCheckFault db left run.Output = ⊥
 

@@ -2,11 +2,12 @@
 ghost use Rattle.std.specs.Prelude.{ℕ, ◌≡◌, false, true, IfErr, IfOk, IsErrOf, IsTrue, OnOk};
 ghost use Rattle.pages.specs.Store.{IsSynced};
 ghost use Rattle.catalogue.specs.Holding.{HoldsBook};
-ghost use Rattle.trajdb.specs.Calls.{IsQuestionFault};
+ghost use Rattle.trajdb.specs.Calls.{IsLoadFault, IsQuestionFault};
 ghost use Rattle.trajdb.specs.Checking.{IsFirstFault};
 ghost use Rattle.trajdb.specs.Db.{shape_of, store_of, HasPages, IsSoundDb};
 ghost use Rattle.trajdb.specs.Lasting.{IsIdle};
-ghost use Rattle.sessions.specs.Answers.{Checks, HasWritten, IsCheckFault};
+ghost use Rattle.sessions.specs.Answers.{Checks, ChecksAndCloses, HasWritten, HoldsOrNot};
+ghost use Rattle.sessions.specs.Answers.{IsCheckFault};
 
 use pages::PageStore;
 use std::alloc::Global;
@@ -18,15 +19,17 @@ pub fn check_and_close<S: PageStore>(
     alloc: Global,
     mut database: Db<S>,
 ) -> (S, Result<Report, RunFault>)
-    // The store then holds the book that was opened, and the report is that of it.
+    // The store then holds the book of the database, and the report is that of it.
     ensures checks { IfOk result.1 (λ report. IsTrue (store_of database).is_faithful
-        → IsIdle database → database.begun ≡ false
-        → Checks (S.seen result.0) (shape_of database) database.limits database.book report) }
+        → IsIdle database → Checks (S.seen result.0) database report) }
 
-    // A book that the store held it holds, whatever is answered.
+    // A book that the store held it holds, whatever is answered; where the database had begun, it
+    // holds the book, is not finished, or has all pages but page 0 of one that holds it, synced.
     ensures kept { IsSoundDb database → HasPages database → IsIdle database
         → database.begun ≡ false → database.failed ≡ false
         → HoldsBook (S.seen result.0) (shape_of database) database.limits database.book }
+    ensures left { IsSoundDb database → HasPages database → IsIdle database
+        → database.failed ≡ false → HoldsOrNot (S.seen result.0) database }
 
     // Nor does it lose a page that the database counts, be that sound or not: each stays as it was
     // written; and of one that had failed the store stays.
@@ -38,16 +41,21 @@ pub fn check_and_close<S: PageStore>(
     // Where the database had begun, all of the store is synced where it passes.
     ensures synced { OnOk result.1 (database.begun ≡ true → IsSynced (S.seen result.0)) }
 
-    // A sound database passes, but for want of memory or a store that failed; a page that is said to
-    // be damaged is the first that fails a check, whoever made the pages; and a store is said to have
-    // failed only where it did.
+    // Be it sound or not, it is checked as `Db::check` does it, and closed as `Db::close` does it.
+    ensures both { ChecksAndCloses database (S.seen result.0) result.1 }
+
+    // A sound database passes, but for want of memory or a store that failed, and one that had
+    // begun is closed then, but for these and a full store; a page that is said to be damaged is
+    // the first that fails a check, whoever made the pages; and a store is said to have failed, or
+    // to be full, only where it did or is.
     ensures only { IfErr result.1 (λ fault. IsSoundDb database → HasPages database
         → IsIdle database → database.begun ≡ false → database.failed ≡ false
         → IsQuestionFault fault) }
-    ensures named { IsTrue (store_of database).is_faithful → database.begun ≡ false
+    ensures stops { IfErr result.1 (λ fault. IsSoundDb database → HasPages database
+        → IsIdle database → database.failed ≡ false → IsLoadFault fault) }
+    ensures named { IsTrue (store_of database).is_faithful
         → (page : ℕ) → IsErrOf result.1 (RunFault.Damaged page) → IsFirstFault database page }
-    ensures caused { IfErr result.1 (λ fault. database.begun ≡ false
-        → IsCheckFault database (S.seen result.0) fault) }
+    ensures caused { IfErr result.1 (IsCheckFault database (S.seen result.0)) }
 {
     let checked = database.check();
     let (store, closed) = database.close(alloc);

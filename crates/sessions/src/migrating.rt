@@ -1,5 +1,5 @@
 //! A store of version 1 that is brought over into a new one, and closed.
-ghost use Rattle.std.specs.Prelude.{◌≡◌, ◌⊎◌, None, Err, IfErr, IsErrOf, IsTrue, OnOk};
+ghost use Rattle.std.specs.Prelude.{◌≡◌, ◌⊎◌, List, None, Err, IfErr, IsErrOf, IsTrue, OnOk};
 ghost use Rattle.legs.specs.Costs.{ShapeView};
 ghost use Rattle.legs.specs.Limits.{LimitsView};
 ghost use Rattle.legs.specs.Book.{Book};
@@ -7,7 +7,15 @@ ghost use Rattle.pages.specs.Store.{IsSynced, Stays};
 ghost use Rattle.catalogue.specs.Beginning.{IsLeftOver};
 ghost use Rattle.catalogue.specs.Holding.{HoldsBook, HoldsButFirst, IsUnfinishedStore};
 ghost use Rattle.pagecache.specs.Cache.{stored_payload};
-ghost use Rattle.version1.specs.OldStore.{old_first_fault, present_shape, HoldsOldBook};
+ghost use Rattle.register.specs.Saved.{CatalogueView};
+ghost use Rattle.tbtree.specs.declared.tree.Place.{Place};
+ghost use Rattle.tbtree.specs.declared.tree.TbTree.{TbTree};
+ghost use Rattle.version1.specs.OldStore.{old_first_fault, present_shape, HoldsOldBook, IsKeptOld};
+ghost use Rattle.migration.specs.Bringing.{IfDamaged, IsLegFault, IsNamedOfOld};
+ghost use Rattle.version1.specs.Naming.{AreWhole, IsNamedOfChains};
+ghost use Rattle.trajdb.specs.Db.{IsAllowed};
+ghost use Rattle.trajdb.specs.Calls.{IsLoadFault};
+ghost use Rattle.trajdb.specs.Lasting.{ComesFirst, IsFaultless, IsTrulyDamaged};
 ghost use Rattle.trajdb.specs.declared.OpenFault.{OpenFault};
 ghost use Rattle.trajdb.specs.declared.RunFault.{RunFault};
 ghost use Rattle.sessions.specs.Answers.{BringsButFirst, BringsWhole, IsNotOver, IsOverFault};
@@ -64,6 +72,42 @@ pub fn migrate_and_close<'a, S: PageStore, T: PageStore>(
     ensures caused { IfErr result.1 (IsOverFault (S.seen old.old) (S.seen old.new) (T.seen new)
         (T.seen result.0)) }
 
+    // Then the fault of page 0 comes first; one whose pages keep a catalogue is refused for memory,
+    // a store that failed, a full one, or a damaged page alone: no page where the chains of all
+    // features are whole, and else one that the chains name; and where they keep none, a page that
+    // is said to be damaged is so, and is the one at which reading stops.
+    ensures first { (fault : OpenFault) → result.1 ≡ Err (Fault.Open fault)
+        → IsTrue (S.seen old.old).is_faithful → ComesFirst
+        (old_first_fault (S.seen old.old).count (stored_payload (S.seen old.old) 0)) fault }
+    ensures kept { (fault : OpenFault) → result.1 ≡ Err (Fault.Open fault)
+        → IsTrue (S.seen old.old).is_faithful → IsTrue (T.seen new).is_faithful
+        → (c : CatalogueView) (tree : TbTree) (places : List Place)
+        → IsKeptOld (stored_payload (S.seen old.old)) (S.seen old.old).count c tree places
+        → IsLegFault fault }
+    ensures unbroken { (fault : OpenFault) → result.1 ≡ Err (Fault.Open fault)
+        → IsTrue (S.seen old.old).is_faithful → IsTrue (T.seen new).is_faithful
+        → (c : CatalogueView) (tree : TbTree) (places : List Place)
+        → IsKeptOld (stored_payload (S.seen old.old)) (S.seen old.old).count c tree places
+        → AreWhole (S.seen old.old) c tree places → IsAllowed fault }
+    ensures chains { (fault : OpenFault) → result.1 ≡ Err (Fault.Open fault)
+        → IsTrue (S.seen old.old).is_faithful → IsTrue (T.seen new).is_faithful
+        → (c : CatalogueView) (tree : TbTree) (places : List Place)
+        → IsKeptOld (stored_payload (S.seen old.old)) (S.seen old.old).count c tree places
+        → IfDamaged (IsNamedOfChains (S.seen old.old) c tree places) fault }
+    ensures damaged { (fault : OpenFault) → result.1 ≡ Err (Fault.Open fault)
+        → IsTrue (S.seen old.old).is_faithful → IsTrue (T.seen new).is_faithful
+        → ((c : CatalogueView) (tree : TbTree) (places : List Place)
+        → IsKeptOld (stored_payload (S.seen old.old)) (S.seen old.old).count c tree places
+        → ⊥)
+        → IsTrulyDamaged (S.seen old.old).is_faithful (stored_payload (S.seen old.old))
+        (S.seen old.old).count fault }
+    ensures named { (fault : OpenFault) → result.1 ≡ Err (Fault.Open fault)
+        → IsTrue (S.seen old.old).is_faithful → IsTrue (T.seen new).is_faithful
+        → ((c : CatalogueView) (tree : TbTree) (places : List Place)
+        → IsKeptOld (stored_payload (S.seen old.old)) (S.seen old.old).count c tree places
+        → ⊥)
+        → IsNamedOfOld (stored_payload (S.seen old.old)) (S.seen old.old).count fault }
+
     // Where the closing is refused, the new one is not finished, or all of its pages but page 0 are
     // those of a store that holds the book, and are synced; so it is of whatever the other store
     // keeps.
@@ -76,6 +120,15 @@ pub fn migrate_and_close<'a, S: PageStore, T: PageStore>(
     ensures behind { (why : RunFault) → IsErrOf result.1 (Fault.Run why)
         → IsTrue (S.seen old.old).is_faithful → IsTrue (T.seen new).is_faithful
         → BringsButFirst (S.seen old.old) (T.seen result.0) }
+
+    // Whatever the other store keeps, the closing is refused for memory, a store that failed, or a
+    // full one alone, and where it is for memory or a full one, the new one is not finished.
+    ensures only { (why : RunFault) → IsErrOf result.1 (Fault.Run why)
+        → IsTrue (S.seen old.old).is_faithful → IsTrue (T.seen new).is_faithful
+        → IsLoadFault why }
+    ensures unfinished { (why : RunFault) → IsErrOf result.1 (Fault.Run why)
+        → IsTrue (S.seen old.old).is_faithful → IsTrue (T.seen new).is_faithful
+        → IsFaultless why → IsUnfinishedStore (T.seen result.0) }
 
     // The store of version 1 stays as it is.
     ensures stays { Stays (S.seen old.old) (S.seen old.new) }

@@ -4,9 +4,10 @@ ghost use Rattle.legs.specs.Costs.{ShapeView};
 ghost use Rattle.legs.specs.Limits.{limits_of, LimitsView};
 ghost use Rattle.legs.specs.Book.{Book, empty_book};
 ghost use Rattle.trajdb.specs.Script.{lines_of};
+ghost use Rattle.catalogue.specs.Beginning.{IsLeft};
 ghost use Rattle.catalogue.specs.Holding.{HoldsBook};
 ghost use Rattle.pages.specs.Sealed.{sealed};
-ghost use Rattle.pages.specs.Store.{Faulted, IsSynced, Writes};
+ghost use Rattle.pages.specs.Store.{Faulted, IsSynced, Keeps, Writes};
 ghost use Rattle.header.specs.Fields.{header_payload};
 ghost use Rattle.trajdb.specs.Db.{capacity_of, shape_of, store_of, HasPages, IsAllowed, IsSoundDb};
 ghost use Rattle.trajdb.specs.Lasting.{HasBook, IsIdle, IsSafe, IsStop};
@@ -88,6 +89,12 @@ pub fn database<S: PageStore>(
         → Faulted (S.seen store) (S.seen back.0)) }
     ensures full { IfErr result (λ back. back.1 ≡ OpenFault.StoreFull
         → (S.seen store).most ≡ 0) }
+
+    // The store that is handed back: where one was to be made, it has no page, or page 0 alone,
+    // which of a faithful one is that header, unless the store failed.
+    ensures keeps { IfErr result (λ back. Keeps (S.seen store) (S.seen back.0)) }
+    ensures left { IfErr result (λ back. IsTrue is_new → (S.seen store).count ≡ 0
+        → IsLeft new_shape (limits_of 16777216 1048576) (S.seen store) (S.seen back.0)) }
 {
     if is_new && store.len() == 0 {
         let shape = Shape::new(50, 72).unwrap();

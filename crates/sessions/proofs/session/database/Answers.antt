@@ -1,5 +1,5 @@
 use Rattle.std.proofs.Common.{◌≡◌, ◌∙◌, rules, sym, subst, IsTrue, Some}
-use Rattle.std.specs.Prelude.{IfOk}
+use Rattle.std.specs.Prelude.{IfErr, IfOk}
 use Rattle.boxsearch.specs.Index.{words}
 use Rattle.legs.specs.Book.{Book, empty_book}
 use Rattle.legs.specs.Costs.{ShapeView}
@@ -11,7 +11,8 @@ use Rattle.trajdb.specs.declared.OpenFault.TheVariants as opening
 use Rattle.sessions.specs.Answers.{new_shape}
 use Rattle.header.specs.Fields.{header_payload}
 use Rattle.pages.specs.Sealed.{sealed}
-use Rattle.pages.specs.Store.{Faulted, IsSynced, Store, Writes}
+use Rattle.pages.specs.Store.{Faulted, IsSynced, Keeps, Stays, Store, Writes}
+use Rattle.catalogue.specs.Beginning.{IsLeft}
 use Rattle.catalogue.specs.Holding.{HoldsBook}
 use Rattle.sessions.proofs.AnswerLemmas.{created, more_known, no_pages, the_same}
 use Rattle.sessions.proofs.LeftLemmas.{err_more, neither, none_held}
@@ -92,3 +93,16 @@ returns-then-len-eq0-clause-opens g c =
 
 pub returns-clause-opens : goal.returns-clause-opens
 returns-clause-opens g c = λ h. c.open.ensures
+
+pub returns-clause-keeps : goal.returns-clause-keeps
+returns-clause-keeps g c =
+    let s = g.S.PageStore.seen c.args.store in
+    err_more (λ back. Stays s (g.S.PageStore.seen back.0)) (λ back. Keeps s (g.S.PageStore.seen back.0)) c.open.result (λ back h. h.keeps) c.open.ensures.back
+
+pub returns-then-len-eq0-clause-left : goal.returns-then-len-eq0-clause-left
+returns-then-len-eq0-clause-left g c =
+    let s = g.S.PageStore.seen c.args.store in
+    let shape : c.unwrap-shape.result ≡ new_shape = the_same c.unwrap-shape.result new_shape (sym c.unwrap-shape.ensures ∙ c.new.ensures) in
+    err_more (λ back. IsLeft new_shape (limits_of 16777216 1048576) s (g.S.PageStore.seen back.0)) (λ back. IsTrue c.args.is_new → s.count ≡ 0 → IsLeft new_shape (limits_of 16777216 1048576) s (g.S.PageStore.seen back.0)) c.create.result (λ back h n z. h)
+    (subst (λ (l : LimitsView). IfErr c.create.result (λ back. IsLeft new_shape l s (g.S.PageStore.seen back.0))) c.limits.ensures
+    (subst (λ (k : ShapeView). IfErr c.create.result (λ back. IsLeft k c.limits.result s (g.S.PageStore.seen back.0))) shape c.create.ensures.left))
