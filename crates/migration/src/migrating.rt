@@ -40,10 +40,9 @@ pub trait Migrate<T: PageStore> {
     /// no header (`Malformed`), has another version than 1, is of a store that was not finished, or of
     /// one in another state (`Malformed`); then the first page that is damaged, or malformed, as met;
     /// where the leaves of the features are not whole, `Damaged` is the page at which the walk along
-    /// them fails, or page 0 where all of them do not have the legs that are to be; that it is no
-    /// other page without a payload no clause says. `StoreFull` is the new store. Where it is
-    /// refused the new store is handed back: without pages, with a page 0 that says that it is not
-    /// finished, or with page 0 alone, whose write failed.
+    /// them fails, or page 0 where all of them do not have the legs that are to be. `StoreFull` is
+    /// the new store. Where it is refused the new store is handed back: without pages, with a page 0
+    /// that says that it is not finished, or with page 0 alone, whose write failed.
     fn migrate<S: PageStore>(
         alloc: Global,
         keys: RandomState,

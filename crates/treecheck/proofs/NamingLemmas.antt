@@ -9,8 +9,9 @@ use Rattle.pagecache.specs.declared.fault.CacheFault.{CacheFault}
 use Rattle.pagecache.specs.declared.fault.CacheFault.TheVariants as cache
 use Rattle.tbnode.specs.Form.{node_of}
 use Rattle.chains.specs.Chains.{AreHeld}
-use Rattle.tbtree.specs.Faults.{IfMalformed, MayRefuseRead, NamesEach, NamesInCache, RefusesRead, RefusesReadInCache}
+use Rattle.tbtree.specs.Faults.{IfMalformed, IfNamed, MayRefuseRead, NamesEach, NamesInCache, RefusesRead, RefusesReadInCache}
 use Rattle.tbtree.specs.Nodes.{Pages, pages_of_cache}
+use Rattle.tbtree.proofs.FaultLemmas.{names_then}
 use Rattle.tbtree.specs.declared.fault.TreeFault.{TreeFault}
 use Rattle.tbtree.specs.declared.fault.TreeFault.TheVariants.{Cache as OfCache, Malformed, Spent}
 use Rattle.boxsearch.specs.Answers.{answered, of_cache, of_tree}
@@ -31,6 +32,10 @@ use Rattle.treecheck.proofs.CheckingLemmas.{chains_once}
 use Rattle.treecheck.specs.Descent.{DescentStopsAt}
 use Rattle.treecheck.proofs.SurveyLemmas.{as_many}
 use Rattle.treecheck.specs.Stopping.{AllStopAt}
+
+-- what is said of a page that is named is said of one that is malformed
+pub malformed_of : (P : ℕ → Type 0) (fault : TreeFault) → IfNamed P fault → IfMalformed P fault
+malformed_of P fault h = names_then P P (λ _. Unit {0}) P (λ _ _. tt) (λ _ p. p) fault h
 
 -- a page that says a node has a payload
 pub has_payload : (c : Cache) (p : ℕ) → (pages_of_cache c).at p ≢ None → payload_of c p ≢ None

@@ -8,7 +8,7 @@ ghost use Rattle.chains.specs.Reads.{Reads};
 ghost use Rattle.treecheck.specs.Check.{legs_on, IsLeafOf, AreLeavesOf, AreChains};
 ghost use Rattle.tbtree.specs.Turn.{last_leg, first_ordinal, ComesAfter, ComeInTurn};
 ghost use Rattle.tbtree.specs.Descent.{legs_in};
-ghost use Rattle.tbtree.specs.Faults.{IfMalformed, MayRefuseRead};
+ghost use Rattle.tbtree.specs.Faults.{IfNamed, MayRefuseRead};
 ghost use Rattle.tbtree.specs.Nodes.{LeafView, ALeaf};
 ghost use Rattle.treecheck.specs.Stopping.{AllStopAt, WalkStopsAt};
 ghost use Rattle.treecheck.specs.Walking.{after, pages_by, IsAtEnd, IsNextNode, Notes, Strays, Surveys, TakesLeaf, Walks};
@@ -188,7 +188,7 @@ pub trait LeafReader {
     ghost use Rattle.tbnode.specs.Nodes.{Node};
     ghost use Rattle.chains.specs.Reads.{Reads};
     ghost use Rattle.treecheck.specs.Check.{IsLeafOf};
-    ghost use Rattle.tbtree.specs.Faults.{IfMalformed, MayRefuseRead};
+    ghost use Rattle.tbtree.specs.Faults.{IfNamed, MayRefuseRead};
     ghost use Rattle.tbtree.specs.Turn.{ComeInTurn};
     ghost use Rattle.tbtree.specs.Descent.{legs_in};
     ghost use Rattle.treecheck.specs.Walking.{pages_by, Strays, TakesLeaf};
@@ -202,8 +202,8 @@ pub trait LeafReader {
     /// The node that a payload says.
     ghost node: { Payload → Option (Node LegView BoxView) };
 
-    /// Takes the next leaf of a way. Where its page is not that leaf it is malformed; where no page
-    /// is named, or none is there, the page that names it is.
+    /// Takes the next leaf of a way. Where its page is not that leaf it is malformed, or damaged;
+    /// where no page is named, or none is there, the page that names it is malformed.
     fn take_leaf(
         source: &mut Self::Source,
         walk: &mut Walk,
@@ -222,7 +222,7 @@ pub trait LeafReader {
             (legs_in ((pages_by node (seen source.old)).at walk.old.page))
             → IfErr result MayRefuseRead }
         ensures strays { IsTrue (seen source.old).store.is_faithful
-            → IfErr result (IfMalformed (Strays (pages_by node (seen source.old)) most rows
+            → IfErr result (IfNamed (Strays (pages_by node (seen source.old)) most rows
             walk.old)) }
         ensures reads { Reads (seen source.old) (seen source.new) result };
 }
@@ -306,7 +306,7 @@ pub fn walk_chain<R: LeafReader>(
         → IfErr result MayRefuseRead }
     ensures stops { IsTrue (R.seen source.old).store.is_faithful
         → IfErr result
-        (IfMalformed (WalkStopsAt (pages_by R.node (R.seen source.old)) most rows feature
+        (IfNamed (WalkStopsAt (pages_by R.node (R.seen source.old)) most rows feature
         place.now track.now)) }
     ensures reads { Reads (R.seen source.old) (R.seen source.new) result }
 {
@@ -363,7 +363,7 @@ pub fn walk_all<R: LeafReader>(
         tracks.now.tracks chains
         → IfErr result MayRefuseRead }
     ensures stops { IsTrue (R.seen source.old).store.is_faithful
-        → IfErr result (IfMalformed (AllStopAt (pages_by R.node (R.seen source.old)) most rows
+        → IfErr result (IfNamed (AllStopAt (pages_by R.node (R.seen source.old)) most rows
         places.now tracks.now.tracks)) }
     ensures reads { Reads (R.seen source.old) (R.seen source.new) result }
 {

@@ -1,5 +1,5 @@
 -- Which page is named, of a store of version 1 whose chains of leaves are not whole.
-use Rattle.std.proofs.Common.{ℕ, ◌≡◌, ◌<◌, ◌∙◌, List, length, inl, inr, refl, sym, ap, subst, arith, IsTrue, option_map}
+use Rattle.std.proofs.Common.{ℕ, ◌≡◌, ◌<◌, ◌∙◌, List, length, refl, sym, ap, subst, arith}
 use Rattle.std.proofs.lemmas.List.{length-map}
 use Rattle.legs.specs.Boxes.{BoxView}
 use Rattle.legs.specs.Index.{MayRefuseLeg}
@@ -17,7 +17,7 @@ use Rattle.register.specs.Lasting.{IsStop}
 use Rattle.register.specs.Saved.{CatalogueView}
 use Rattle.register.specs.declared.fault.CatalogueFault.{CatalogueFault}
 use Rattle.register.specs.declared.fault.CatalogueFault.TheVariants.{Memory, Store, StoreFull, Damaged, Unfinished, Version, Malformed as Malforms}
-use Rattle.tbtree.specs.Faults.{IfMalformed, IfNamed, MayRefuseRead, RefusesRead}
+use Rattle.tbtree.specs.Faults.{IfNamed, MayRefuseRead, RefusesRead}
 use Rattle.tbtree.specs.Nodes.{Pages}
 use Rattle.tbtree.specs.declared.fault.TreeFault.{TreeFault}
 use Rattle.tbtree.specs.declared.fault.TreeFault.TheVariants.{Cache as OfCache, Malformed, Spent}
@@ -26,24 +26,22 @@ use Rattle.tbtree.specs.declared.tree.TbTree.{TbTree}
 use Rattle.treecheck.specs.Check.{HoldChains}
 use Rattle.treecheck.specs.Checking.{Agree}
 use Rattle.treecheck.specs.Stopping.{AllStopAt}
-use Rattle.treecheck.specs.Walking.{pages_by, Surveys}
+use Rattle.treecheck.specs.Walking.{Surveys}
 use Rattle.treecheck.specs.declared.walking.Survey.{Survey}
 use Rattle.version1.specs.Migrating.{brought_fault}
 use Rattle.version1.specs.Naming.{HaveLeaves, IfDamaged, IfDamagedInIndex, IsNamedOfLeaves}
-use Rattle.version1.specs.OldForm.{old_node_of}
 use Rattle.version1.specs.OldStore.{IsKeptOld}
 
--- the page at which the walk stops is named, or one without a payload
-pub walk_named : (old new : Cache) (most rows : ℕ) (places : List Place) (tracks : List Track) (fault : TreeFault) → IsTrue old.store.is_faithful → RefusesRead old new fault
-    → IfMalformed (AllStopAt (pages_by old_node_of old) most rows places tracks) fault → (HaveLeaves (pages_by old_node_of old) most rows places tracks → MayRefuseRead fault)
-    → IfNamed (IsNamedOfLeaves (pages_by old_node_of old) most rows places tracks) fault
-walk_named old new most rows places tracks (OfCache cache.NoPage) fa c s o = tt
-walk_named old new most rows places tracks (OfCache cache.Store) fa c s o = tt
-walk_named old new most rows places tracks (OfCache (cache.Damaged n)) fa c s o = record { walk = λ _. inl (c.0, ap (λ p. option_map old_node_of p) (c.1 fa)); list = λ h. absurd (o h) }
-walk_named old new most rows places tracks (OfCache cache.StoreFull) fa c s o = tt
-walk_named old new most rows places tracks (OfCache cache.Memory) fa c s o = tt
-walk_named old new most rows places tracks (Malformed n) fa c s o = record { walk = λ _. inr s; list = λ h. absurd (o h) }
-walk_named old new most rows places tracks Spent fa c s o = tt
+-- the page at which the walk stops is named
+pub walk_named : (nodes : Pages LegView BoxView) (most rows : ℕ) (places : List Place) (tracks : List Track) (fault : TreeFault) → IfNamed (AllStopAt nodes most rows places tracks) fault → (HaveLeaves nodes most rows places tracks → MayRefuseRead fault)
+    → IfNamed (IsNamedOfLeaves nodes most rows places tracks) fault
+walk_named nodes most rows places tracks (OfCache cache.NoPage) s o = tt
+walk_named nodes most rows places tracks (OfCache cache.Store) s o = tt
+walk_named nodes most rows places tracks (OfCache (cache.Damaged n)) s o = record { walk = λ _. s; list = λ h. absurd (o h) }
+walk_named nodes most rows places tracks (OfCache cache.StoreFull) s o = tt
+walk_named nodes most rows places tracks (OfCache cache.Memory) s o = tt
+walk_named nodes most rows places tracks (Malformed n) s o = record { walk = λ _. s; list = λ h. absurd (o h) }
+walk_named nodes most rows places tracks Spent s o = tt
 
 -- page 0 is named where each feature has its leaves
 pub zero_named : (nodes : Pages LegView BoxView) (most rows : ℕ) (places : List Place) (tracks : List Track) (survey : Survey) → Surveys nodes most rows places tracks survey → IsNamedOfLeaves nodes most rows places tracks 0

@@ -1,5 +1,5 @@
 -- Which page of a store of version 1 is named, where it is not brought over.
-use Rattle.std.specs.Prelude.{ℕ, ◌≡◌, ◌<◌, ◌⊎◌, List, Option, Some, None}
+use Rattle.std.specs.Prelude.{ℕ, ◌≡◌, ◌⊎◌, List, Option, Some, None}
 use Rattle.legs.specs.Boxes.{BoxView}
 use Rattle.legs.specs.Legs.{LegView}
 use Rattle.legs.specs.declared.index.IndexFault.{IndexFault}
@@ -35,11 +35,10 @@ module _ (nodes : Pages LegView BoxView) (most rows : ℕ) (places : List Place)
   abbrev pub HaveLeaves : Type 0
   HaveLeaves = (chains : List (List ℕ)) × AreChains nodes most rows 0 places tracks chains
 
-  -- page n is named, of leaves that do not hold one list of legs: where not each feature has its leaves, it is there and has
-  -- no payload, or the walk along them stops at it; where each has its leaves, it is page 0
+  -- page n is named, of leaves that do not hold one list of legs: where not each feature has its leaves, the walk along them
+  -- stops at it; where each has its leaves, it is page 0
   pub record IsNamedOfLeaves (n : ℕ) : Type 0 where
-    pub walk : (HaveLeaves → ⊥)
-        → ((n < nodes.count) × (nodes.at n ≡ None)) ⊎ AllStopAt nodes most rows places tracks n
+    pub walk : (HaveLeaves → ⊥) → AllStopAt nodes most rows places tracks n
     pub list : HaveLeaves → n ≡ 0
 
 -- page n is named, of a catalogue that the pages of a store of version 1 keep and of which the chains are not whole

@@ -171,7 +171,7 @@ fn bring_legs<S: PageStore, T: PageStore>(
 /// another version, is of a store that was not finished, or of one in another state (`Malformed`);
 /// then the first page that is damaged, or malformed, as met; a chain of leaves that is not whole
 /// is `Damaged`, with the page at which the walk along it fails, or page 0 where all of them do not
-/// have the legs that are to be; that it is no other page without a payload no clause says.
+/// have the legs that are to be.
 ///
 /// Where it is refused the new store is handed back: without pages, with a page 0 that says that it
 /// is not finished, or with page 0 alone, whose write failed.

@@ -8,7 +8,7 @@ ghost use Rattle.pages.specs.Store.{Faulted, Stays};
 ghost use Rattle.pagecache.specs.Cache.{fresh, payload_of};
 ghost use Rattle.version1.specs.OldForm.{old_node_of};
 ghost use Rattle.treecheck.specs.Check.{HoldChains};
-ghost use Rattle.tbtree.specs.Faults.{IfMalformed, IfNamed, MayRefuseRead, RefusesRead};
+ghost use Rattle.tbtree.specs.Faults.{IfNamed, MayRefuseRead, NamesEach, RefusesRead};
 ghost use Rattle.tbtree.specs.Turn.{ComeInTurn, IsRising};
 ghost use Rattle.tbtree.specs.Descent.{legs_in};
 ghost use Rattle.treecheck.specs.Checking.{Agree};
@@ -57,8 +57,10 @@ fn read_payload<S: PageStore>(store: &mut S, page: u32, from: u32) -> Result<Pay
     ensures only { IfErr result (λ fault. IsTrue (S.seen store.old).is_faithful
         → page < (S.seen store.old).count
         → payload_of (fresh (S.seen store.old) 1) page ≢ None → MayRefuseRead fault) }
-    ensures named { IfErr result (IfMalformed (λ n. (n ≡ from)
-        × (page < (S.seen store.old).count → ⊥))) }
+    ensures named { IfErr result (NamesEach
+        (λ n. (n ≡ page) × (IsTrue (S.seen store.old).is_faithful
+        → payload_of (fresh (S.seen store.old) 1) page ≡ None))
+        (λ n. (n ≡ from) × (page < (S.seen store.old).count → ⊥))) }
     ensures stays { Stays (S.seen store.old) (S.seen store.new) }
     ensures caused { IfErr result
         (RefusesRead (fresh (S.seen store.old) 1) (fresh (S.seen store.new) 1)) }
@@ -266,8 +268,8 @@ fn open_next<S: PageStore>(
 /// are opened and not used up: at most one leaf a feature.
 ///
 /// A store whose chains a check would refuse is `Damaged`, with the page at which the walk along them
-/// fails, or page 0 where all of them do not have the legs that are to be. That it is no other page without
-/// a payload no clause says, nor what is said of memory.
+/// fails, or page 0 where all of them do not have the legs that are to be. What is said of memory no
+/// clause says.
 pub fn take_old_legs<S: PageStore, I: LegIndex>(
     alloc: Global,
     keys: RandomState,

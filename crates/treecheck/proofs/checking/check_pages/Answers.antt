@@ -21,7 +21,7 @@ use Rattle.treecheck.specs.Naming.{HoldLeaves, HoldList, IsFirstDamaged, IsFirst
 use Rattle.treecheck.specs.Descent.{DescentStopsAt}
 use Rattle.std.proofs.Common.{ℕ, List, ◌≡◌}
 use Rattle.treecheck.specs.Stopping.{AllStopAt}
-use Rattle.treecheck.proofs.NamingLemmas.{has_payload, later_named, miscounted, state_named, tree_later, walk_later, zero_later}
+use Rattle.treecheck.proofs.NamingLemmas.{has_payload, later_named, malformed_of, miscounted, state_named, tree_later, walk_later, zero_later}
 use Rattle.treecheck.proofs.WalkedLemmas.{same_pages}
 use Rattle.treecheck.proofs.CheckingLemmas.{checked, list_of, list_whole, order_same, order_strict, are_met, within, whole, strict, over, last}
 use Rattle.treecheck.proofs.checking.check_pages.Goals as goal
@@ -182,7 +182,8 @@ returns-in_err-survey-clause-named g c = λ fa.
     (caused_after old c.check_state.new.cache c.walk_all.new.source fault reads c.in_err-survey.ensures.reads.caused)
     (walk_later c.args.begun tree rows total places tracks old c.walk_all.new.source fa held some count fault
     (subst (λ nodes. IfMalformed (AllStopAt nodes tree.shape.leaf rows places tracks.tracks) fault) same
-    (subst (λ n. IfMalformed (AllStopAt (pages_of_cache c.check_state.new.cache) n rows places tracks.tracks) fault) most (c.in_err-survey.ensures.stops (reads.store.faithful ∙ fa))))
+    (subst (λ n. IfMalformed (AllStopAt (pages_of_cache c.check_state.new.cache) n rows places tracks.tracks) fault) most
+    (malformed_of (AllStopAt (pages_of_cache c.check_state.new.cache) c.from-most.result rows places tracks.tracks) fault (c.in_err-survey.ensures.stops (reads.store.faithful ∙ fa)))))
     (λ few k. c.in_err-survey.ensures.only (reads.store.faithful ∙ fa) few k.0
     (subst (λ nodes. AreChains nodes c.from-most.result rows 0 places tracks.tracks k.0) (sym same)
     (subst (λ n. AreChains (pages_of_cache old) n rows 0 places tracks.tracks k.0) (sym most) k.1)))))

@@ -9,8 +9,8 @@ use Rattle.treecheck.proofs.SurveyLemmas.{surveyed_on, surveyed_all, chain_of, a
 use Rattle.tbtree.specs.Stands.{no_place}
 use Rattle.std.proofs.lemmas.Option.{slice_get-get_or}
 use Rattle.treecheck.proofs.WalkedLemmas.{same_by}
-use Rattle.tbtree.specs.Faults.{IfMalformed}
-use Rattle.tbtree.proofs.FaultLemmas.{malformed_then}
+use Rattle.tbtree.specs.Faults.{IfNamed}
+use Rattle.tbtree.proofs.FaultLemmas.{named_then}
 use Rattle.treecheck.specs.Stopping.{AllStopAt, ArePaired, WalkStopsAt}
 use Rattle.treecheck.proofs.StoppingLemmas.{before_on, first_stops, none_paired}
 use Rattle.treecheck.proofs.walking.walk_all.Goals as goal
@@ -106,6 +106,6 @@ returns-in_err-walk_chain-clause-stops g c = λ fa.
     let same = same_by g.R.LeafReader.node (g.R.LeafReader.seen c.args.source.now) (g.R.LeafReader.seen c.loop-feature.source) inv.reads fa in
     let both : ArePaired nodes c.args.most c.args.rows c.args.places.now c.args.tracks.now.tracks = record { many = c.are_paired.ensures.0 c.if-not-are_paired.false; few = omega (arith, c.if-places.false) } in
     let fault = c.in_err-walk_chain.field-0.0 in
-    rw (p.1, p.2) (malformed_then (WalkStopsAt nodes c.args.most c.args.rows f place c.in-Some.track) (AllStopAt nodes c.args.most c.args.rows c.args.places.now c.args.tracks.now.tracks)
+    rw (p.1, p.2) (named_then (WalkStopsAt nodes c.args.most c.args.rows f place c.in-Some.track) (AllStopAt nodes c.args.most c.args.rows c.args.places.now c.args.tracks.now.tracks)
     (first_stops nodes c.args.most c.args.rows c.args.places.now c.args.tracks.now.tracks f place c.in-Some.track at (sym c.track.ensures.value ∙ c.in-Some.is) both (inv.before fa)) fault
-    (subst (λ nodes. IfMalformed (WalkStopsAt nodes c.args.most c.args.rows f place c.in-Some.track) fault) same (c.in_err-walk_chain.ensures.stops (inv.reads.store.faithful ∙ fa))))
+    (subst (λ nodes. IfNamed (WalkStopsAt nodes c.args.most c.args.rows f place c.in-Some.track) fault) same (c.in_err-walk_chain.ensures.stops (inv.reads.store.faithful ∙ fa))))

@@ -6,8 +6,8 @@ use Rattle.tbtree.specs.Turn.{ComeInTurn}
 use Rattle.tbtree.specs.Descent.{legs_in}
 use Rattle.treecheck.specs.Stopping.{WalkStopsAt}
 use Rattle.treecheck.specs.Walking.{pages_by, Strays, TakesLeaf}
-use Rattle.tbtree.specs.Faults.{IfMalformed}
-use Rattle.tbtree.proofs.FaultLemmas.{malformed_then}
+use Rattle.tbtree.specs.Faults.{IfNamed}
+use Rattle.tbtree.proofs.FaultLemmas.{named_then}
 use Rattle.chains.proofs.ReadLemmas.{caused_after, reads_refl, reads_trans}
 use Rattle.treecheck.proofs.WalkedLemmas.{same_by, walked_none, walked_on, walked_leaf, walked_end, walked_past, walked_stray, walked_whole, some_left, none_left, next_left}
 use Rattle.treecheck.proofs.walking.walk_chain.Goals as goal
@@ -72,10 +72,10 @@ returns-in_err-take_leaf-clause-stops g c = λ fa.
     let nodes = pages_by g.R.LeafReader.node (g.R.LeafReader.seen c.args.source.now) in
     let some : 0 < c.leaves.walk.left = some_left c.args.place.now.legs c.args.most c.leaves.counter c.leaves.walk.left c.requires (subst (λ n. c.leaves.counter < n) c.div_ceil-end.ensures c.leaves-test.true) inv.left in
     let same = same_by g.R.LeafReader.node (g.R.LeafReader.seen c.args.source.now) (g.R.LeafReader.seen c.leaves.source) inv.reads fa in
-    rw (p.1, p.2) (malformed_then (Strays nodes c.args.most c.args.rows c.leaves.walk) (WalkStopsAt nodes c.args.most c.args.rows c.args.feature c.args.place.now c.args.track.now)
+    rw (p.1, p.2) (named_then (Strays nodes c.args.most c.args.rows c.leaves.walk) (WalkStopsAt nodes c.args.most c.args.rows c.args.feature c.args.place.now c.args.track.now)
     (λ n s. walked_stray nodes c.args.most c.args.rows c.args.feature c.args.place.now c.leaves.walk c.args.survey.now c.leaves.survey c.args.track.now n (inv.walked fa) some s)
     c.in_err-take_leaf.field-0.0
-    (subst (λ nodes. IfMalformed (Strays nodes c.args.most c.args.rows c.leaves.walk) c.in_err-take_leaf.field-0.0) same (c.in_err-take_leaf.ensures.strays (inv.reads.store.faithful ∙ fa))))
+    (subst (λ nodes. IfNamed (Strays nodes c.args.most c.args.rows c.leaves.walk) c.in_err-take_leaf.field-0.0) same (c.in_err-take_leaf.ensures.strays (inv.reads.store.faithful ∙ fa))))
 
 pub returns-then-not-is_at_end-clause-stops : goal.returns-then-not-is_at_end-clause-stops
 returns-then-not-is_at_end-clause-stops g c = λ fa.

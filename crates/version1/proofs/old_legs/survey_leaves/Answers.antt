@@ -45,10 +45,9 @@ returns-then-not-agree-clause-only g c = λ fa agrees legs held.
 pub returns-in_err-survey-clause-named : goal.returns-in_err-survey-clause-named
 returns-in_err-survey-clause-named g c =
     let p = err_from_is_err_and c.from_residual.result c.from_residual.ensures.1 in
-    let old = fresh (g.S.PageStore.seen c.args.store.now) 1 in
     let err = c.in_err-survey.ensures in
     rw (p.1, p.2) (λ fa few.
-    walk_named old (fresh (g.S.PageStore.seen c.walk_all.new.source) 1) c.args.most c.args.rows c.args.places.now c.args.tracks.now.tracks c.in_err-survey.field-0.0 fa err.reads.caused (err.stops fa) (λ h. err.only fa few h.0 h.1))
+    walk_named (pages_by old_node_of (fresh (g.S.PageStore.seen c.args.store.now) 1)) c.args.most c.args.rows c.args.places.now c.args.tracks.now.tracks c.in_err-survey.field-0.0 (err.stops fa) (λ h. err.only fa few h.0 h.1))
 
 pub returns-then-not-is_whole-clause-named : goal.returns-then-not-is_whole-clause-named
 returns-then-not-is_whole-clause-named g c = λ fa few.
