@@ -13,6 +13,7 @@ use Rattle.tbtree.specs.Nodes.{EntryView, HasLeaf, Pages}
 use Rattle.tbtree.specs.declared.tree.Place.{Place}
 use Rattle.tbtree.specs.declared.tree.TbTree.{TbTree}
 use Rattle.chains.proofs.ChainGrowth.{alike_beside}
+use Rattle.boxsearch.specs.Order.{stable_by_ordinal}
 use Rattle.boxsearch.specs.Telling.{Denies, Tells}
 use Rattle.boxsearch.specs.Way.{meets, IsFirstBeyond, IsFirstWrong, IsOnLevel, IsOffWay, IsWay}
 use Rattle.boxsearch.proofs.TrackGrowth.{denied_alike, told_alike}
@@ -92,6 +93,7 @@ module _ (old new : Pages LegView BoxView) (same : (p : ℕ) → 0 < p → new.a
   tells_beside tree places (InBox query) legs t = record {
     way = way_beside query tree.root tree.levels t.way;
     met = subst (λ found. IsInOrder found legs) (sym (same_legs (meets query) tree.root tree.levels)) t.met;
+    stable = t.stable ∙ ap stable_by_ordinal (sym (same_legs (meets query) tree.root tree.levels));
   }
   tells_beside tree places (OfFeature feature period) legs t = told_alike old new tree.shape period feature (slice_get places feature) legs (alike_beside old new same feature) t
 

@@ -1,5 +1,6 @@
 pub mod PushLemmas
 pub mod SameLemmas
+pub mod StableLemmas
 pub mod WayLemmas
 pub mod PruningLemmas
 pub mod FoundLemmas

@@ -24,6 +24,7 @@ use Rattle.tbtree.specs.declared.fault.TreeFault.TheVariants as tree
 use Rattle.tbtree.specs.declared.tree.Place.{Place}
 use Rattle.boxsearch.specs.Answers.{answered, of_tree}
 use Rattle.boxsearch.specs.Index.{IndexView, words, tells}
+use Rattle.boxsearch.specs.Order.{stable_by_ordinal}
 use Rattle.boxsearch.specs.Telling.{TellsTrack, DeniesTrack}
 use Rattle.boxsearch.specs.Way.{meets, IsWay, IsOffWay}
 use Rattle.boxsearch.proofs.PlaceLemmas.{some_none}
@@ -69,24 +70,27 @@ module _ (i : IndexView) (c : Cache) (query : BoxView) where
     abbrev Meets : Result A TreeFault → Type 0
     Meets r = IsTrue i.cache.store.is_faithful → IfOk r (λ found. IsInOrder (legs_met leg_boxes (meets query) (pages_of_cache i.cache) i.tree.root i.tree.levels) (items found))
 
+    abbrev Stably : Result A TreeFault → Type 0
+    Stably r = IsTrue i.cache.store.is_faithful → IfOk r (λ found. items found ≡ stable_by_ordinal (legs_met leg_boxes (meets query) (pages_of_cache i.cache) i.tree.root i.tree.levels))
+
     abbrev NamesOff : Result A TreeFault → Type 0
     NamesOff r = IsTrue i.cache.store.is_faithful → IfErr r (IfNamed (IsOffWay query (pages_of_cache i.cache) i.tree.root i.tree.levels))
 
     abbrev Told : Result A TreeFault → Type 0
     Told r = MatchResult (answered (λ fault. of_tree fault) r) (λ found. tells i (InBox query) (items found)) (λ fault. Denies words i (InBox query) fault)
 
-    told : (r : Result A TreeFault) → Ways r → Meets r → NamesOff r → IfErr r (RefusesRead i.cache c) → Told r
-    told (Ok found) way met named caused = λ f. record { way = way f; met = met f }
-    told (Err fault) way met named caused = search_denies fault named caused
+    told : (r : Result A TreeFault) → Ways r → Meets r → Stably r → NamesOff r → IfErr r (RefusesRead i.cache c) → Told r
+    told (Ok found) way met stable named caused = λ f. record { way = way f; met = met f; stable = stable f }
+    told (Err fault) way met stable named caused = search_denies fault named caused
 
-    told_by : (spent : Bool) → i.tree.spent ≡ spent → (r : Result A TreeFault) → Ways r → Meets r → NamesOff r
+    told_by : (spent : Bool) → i.tree.spent ≡ spent → (r : Result A TreeFault) → Ways r → Meets r → Stably r → NamesOff r
         → (i.tree.spent ≡ true → (r ≡ Err tree.Spent) × (c ≡ i.cache)) → (i.tree.spent ≡ false → IfErr r (RefusesRead i.cache c)) → Told r
-    told_by true e r way met named refused caused = subst Told (sym (refused e).0) e
-    told_by false e r way met named refused caused = told r way met named (caused e)
+    told_by true e r way met stable named refused caused = subst Told (sym (refused e).0) e
+    told_by false e r way met stable named refused caused = told r way met stable named (caused e)
 
-    pub search_told : (r : Result A TreeFault) → Ways r → Meets r → NamesOff r
+    pub search_told : (r : Result A TreeFault) → Ways r → Meets r → Stably r → NamesOff r
         → (i.tree.spent ≡ true → (r ≡ Err tree.Spent) × (c ≡ i.cache)) → (i.tree.spent ≡ false → IfErr r (RefusesRead i.cache c)) → Told r
-    search_told r way met named refused caused = told_by i.tree.spent refl r way met named refused caused
+    search_told r way met stable named refused caused = told_by i.tree.spent refl r way met stable named refused caused
 
 -- of a retrieval
 module _ (i : IndexView) (c : Cache) (feature : ℕ) (period : Option PeriodView) (place : Place) (at : slice_get i.places feature ≡ Some place) where

@@ -1,3 +1,4 @@
+pub mod Order
 pub mod Way
 pub mod Telling
 pub mod Index

@@ -11,6 +11,7 @@ ghost use Rattle.tbtree.specs.Faults.{GivesRead, IfNamed, MayRefuseRead, Refuses
 ghost use Rattle.tbtree.specs.Insert.{Stands};
 ghost use Rattle.tbtree.specs.Nodes.{pages_of_cache, HasLeaf};
 ghost use Rattle.tbtree.specs.declared.fault.TreeFault.{TreeFault};
+ghost use Rattle.boxsearch.specs.Order.{stable_by_ordinal};
 ghost use Rattle.boxsearch.specs.Way.{meets, IsFirstWithout, IsWay, IsOffWay};
 
 use crate::nodes::{push_children, push_legs};
@@ -159,12 +160,16 @@ pub fn search<S: PageStore>(
         → OnOk result (RisesBy cache.old.asked cache.new.asked
         (search_cost query.now (Some tree.now.shape) legs)) }
 
-    // Of any pages: the legs of the pages that are met, in order, and only where each of them is what the tree expects;
-    // where each is, nothing else refuses. A page that is said to be malformed or damaged is the first one that is not,
-    // level by level from the root down; but where with a level more are met than there are, the first one beyond.
+    // Of any pages: the legs of the pages that are met, in order, those of one ordinal as they are met, and only where
+    // each page is what the tree expects; where each is, nothing else refuses. A page that is said to be malformed or
+    // damaged is the first one that is not, level by level from the root down; but where with a level more are met than
+    // there are, the first one beyond.
     ensures met { IsTrue cache.old.store.is_faithful
         → IfOk result (λ found. IsInOrder (legs_met leg_boxes (meets query.now)
         (pages_of_cache cache.old) tree.now.root tree.now.levels) found.items) }
+    ensures stable { IsTrue cache.old.store.is_faithful
+        → IfOk result (λ found. found.items ≡ stable_by_ordinal (legs_met leg_boxes
+        (meets query.now) (pages_of_cache cache.old) tree.now.root tree.now.levels)) }
     ensures way { IsTrue cache.old.store.is_faithful
         → OnOk result (IsWay query.now (pages_of_cache cache.old) tree.now.root tree.now.levels) }
     ensures only { tree.now.spent ≡ false → IsTrue cache.old.store.is_faithful

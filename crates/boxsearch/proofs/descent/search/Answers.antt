@@ -1,12 +1,14 @@
-use Rattle.std.proofs.Common.{rules, arith, ◌∙◌}
+use Rattle.std.proofs.Common.{rules, arith, ap, ◌∙◌}
 use Rattle.std.proofs.lemmas.List.Sorted.{IsNonDecreasingBy-from_sort_by_key}
 use Rattle.std.proofs.lemmas.Result.{err_from_is_err_and}
 use Rattle.legs.specs.Hull.{leg_boxes}
 use Rattle.tbtree.specs.Descent.{legs_met}
 use Rattle.tbtree.specs.Nodes.{pages_of_cache}
+use Rattle.boxsearch.specs.Order.{stable_by_ordinal}
 use Rattle.boxsearch.specs.Way.{meets}
 use Rattle.boxsearch.proofs.FoundLemmas.{way_of, none_found, none_asked, in_order, cost_is}
 use Rattle.boxsearch.proofs.PruningLemmas.{pruning}
+use Rattle.boxsearch.proofs.StableLemmas.{stable_from_sort}
 use Rattle.boxsearch.proofs.WayLemmas.{way_none}
 use Rattle.boxsearch.proofs.descent.search.Goals as goal
 
@@ -46,6 +48,12 @@ returns-clause-met g c = λ fa.
     c.in_ok-found.found.items c.sort_by_key.new.self.items
     (c.in_ok-found.ensures.found fa) c.in_ok-sort_by_key.ensures.permutation
     (IsNonDecreasingBy-from_sort_by_key (λ l. l.ordinal) _ c.in_ok-sort_by_key.ensures.sorted (λ a r q k. search rules))
+
+pub returns-clause-stable : goal.returns-clause-stable
+returns-clause-stable g c = λ fa.
+    stable_from_sort c.in_ok-found.found.items c.sort_by_key.new.self.items
+    c.in_ok-sort_by_key.ensures.sorted c.in_ok-sort_by_key.ensures.stable (λ a r q k. search rules)
+    ∙ ap stable_by_ordinal (c.in_ok-found.ensures.found fa)
 
 pub returns-clause-found : goal.returns-clause-found
 returns-clause-found g c = λ ns fa legs pages s.

@@ -51,7 +51,7 @@ returns-clause-told g c =
     let q = c.args.query.now in
     subst (λ i. MatchResult c.answer.result (λ legs. tells i (InBox q) legs.items) (λ fault. Denies words i (InBox q) fault)) c.self.view_is
     (subst (λ r. MatchResult r (λ legs. tells inside (InBox q) legs.items) (λ fault. Denies words inside (InBox q) fault)) (sym c.answer.ensures)
-    (search_told inside c.search.new.cache q (λ legs. legs.items) c.search.result c.search.ensures.way c.search.ensures.met c.search.ensures.named c.search.ensures.spent c.search.ensures.caused))
+    (search_told inside c.search.new.cache q (λ legs. legs.items) c.search.result c.search.ensures.way c.search.ensures.met c.search.ensures.stable c.search.ensures.named c.search.ensures.spent c.search.ensures.caused))
 
 pub invariant_of-self : goal.invariant_of-self
 invariant_of-self g c = λ fa f place spans at known.
