@@ -8,7 +8,7 @@ use Rattle.parts.specs.Names.{part_of}
 use Rattle.mfcsv.specs.FileText.{file_of_bytes}
 use Rattle.mfcsv.specs.declared.Code.{Code}
 use Rattle.mfcsv.specs.declared.File.{File}
-use Rattle.parts.specs.Part.{blank_fields, file_part, has, owner_of, said_part, stays, text_part, whole_part}
+use Rattle.parts.specs.Part.{blank_fields, file_part, has, owner_of, part_text, said_part, stays, text_part, whole_part}
 use Rattle.parts.specs.Written.{record_text}
 use Rattle.parts.specs.Texts.{PartView, begun, with_fields}
 use Rattle.parts.proofs.PartLemmas.{whole_says}
@@ -122,3 +122,18 @@ pub part_says : {V E : Type 0} (items : V → List ℕ) (r : Result V E) (k n : 
 part_says items r k n bytes (Err fault) e ok h = absurd (cc)
 part_says items (Err error) k n bytes (Ok file) e ok h = tt
 part_says items (Ok text) k n bytes (Ok file) e ok h = ap file_of_bytes h ∙ whole_says k n bytes file e
+
+-- the text of a part, where the bytes have no fault
+pub if_whole : {V E : Type 0} (items : V → List ℕ) (r : Result V E) (whole same : List ℕ) (b : Bool) → b ≡ true
+    → IfOk r (λ text. items text ≡ whole) → IfOk r (λ text. items text ≡ cond b whole same)
+if_whole items (Ok text) whole same b e h = h ∙ sym (ap (λ c. cond c whole same) e)
+if_whole items (Err error) whole same b e h = tt
+
+-- what that text says, of any bytes
+said_by : (k n : ℕ) (bytes : List ℕ) (said : Result File (Code × ℕ)) → file_of_bytes bytes ≡ said
+    → file_of_bytes (cond (is_ok said) (whole_part k n bytes) bytes) ≡ said_part k n said
+said_by k n bytes (Ok file) e = part_file k n bytes file e
+said_by k n bytes (Err fault) e = e
+
+pub part_text_says : (k n : ℕ) (bytes : List ℕ) → file_of_bytes (part_text k n bytes) ≡ said_part k n (file_of_bytes bytes)
+part_text_says k n bytes = said_by k n bytes (file_of_bytes bytes) refl

@@ -1,8 +1,9 @@
 -- A part of a file.
-use Rattle.std.specs.Prelude.{ℕ, ◌==◌, ◌||◌, Bool, true, if◌then◌else◌, List, [], ◌∷◌, Option, Some, None, filter, map, Result, Ok, Err}
+use Rattle.std.specs.Prelude.{ℕ, ◌==◌, ◌||◌, Bool, true, if◌then◌else◌, List, [], ◌∷◌, Option, Some, None, filter, map, is_ok, Result, Ok, Err}
 use Rattle.std.specs.List.{flat_map}
 use Rattle.csv.specs.Reading.{records, default_config}
 use Rattle.mfcsv.specs.Rows.{Row, cut, field, without_marks}
+use Rattle.mfcsv.specs.FileText.{file_of_bytes}
 use Rattle.mfcsv.specs.Header.{is_header_row}
 use Rattle.mfcsv.specs.Views.{RecordView}
 use Rattle.mfcsv.specs.declared.Code.{Code}
@@ -60,3 +61,7 @@ text_part k n fields = record_text (fields_part k n fields)
 -- record of the whole
 abbrev pub whole_part : ℕ → ℕ → List ℕ → List ℕ
 whole_part k n bytes = 10 ∷ flat_map (text_part k n) (records default_config (without_marks bytes))
+
+-- the text of part k of n of a file: that of its records, or the file itself where it has a fault
+abbrev pub part_text : (k n : ℕ) → List ℕ → List ℕ
+part_text k n bytes = if is_ok (file_of_bytes bytes) then whole_part k n bytes else bytes

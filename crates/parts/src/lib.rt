@@ -10,7 +10,7 @@ ghost use Rattle.std.specs.Prelude.{◌≡◌, ◌<◌, ◌≤◌, ◌+◌, map,
 ghost use Rattle.std.specs.List.{range_with_len};
 ghost use Rattle.mfcsv.specs.FileText.{file_of_bytes};
 ghost use Rattle.parts.specs.Faults.{FaultLaw};
-ghost use Rattle.parts.specs.Part.{file_part, said_part, whole_part};
+ghost use Rattle.parts.specs.Part.{file_part, part_text, said_part, whole_part};
 
 mod cutting;
 mod names;
@@ -61,7 +61,10 @@ fn whole_part(alloc: Global, k: u64, n: u64, bytes: &[u8]) -> Result<Vec<u8>, Al
 /// A file with a fault is given back as it is, so that each part is refused as the whole is.
 pub fn part(alloc: Global, k: u64, n: u64, bytes: &[u8]) -> Result<Vec<u8>, AllocError>
     requires { k < n }
-    ensures { IfOk result
+    // Byte for byte, the text of its records, or the file itself where that has a fault.
+    ensures text { IfOk result (λ text. text.items ≡ part_text k n bytes.now) }
+    // So it says the head of the whole and its own records under their numbers, or the same fault.
+    ensures says { IfOk result
         (λ text. file_of_bytes text.items ≡ said_part k n (file_of_bytes bytes.now)) }
 {
     if is_whole(alloc, bytes)? {
