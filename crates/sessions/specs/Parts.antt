@@ -1,26 +1,26 @@
 -- What the program sends of a file that is split by feature.
-use Rattle.std.specs.Prelude.{ℕ, ◌≡◌, ◌≤◌, ◌+◌, ◌++◌, ◌∷◌, ◌⊎◌, [], List, Option, Some, None, length, map, take}
+use Rattle.std.specs.Prelude.{ℕ, ◌≡◌, ◌≤◌, ◌+◌, ◌++◌, ◌∷◌, [], List, Option, Some, None, length, map, take}
 use Rattle.std.specs.List.{range_with_len}
 use Rattle.std.specs.Io.KnownBytes.{Appends}
 use Rattle.mfcsv.specs.FileText.{file_of_bytes}
-use Rattle.parts.specs.Part.{said_part, whole_part}
+use Rattle.parts.specs.Part.{part_text, said_part, whole_part}
 use Rattle.trajdb.specs.Run.{IsPrefixOf}
 
 -- a text says what part k of n of the file is to say
 abbrev pub SaysPart : (k n : ℕ) → List ℕ → List ℕ → Type 0
 SaysPart k n bytes text = file_of_bytes text ≡ said_part k n (file_of_bytes bytes)
 
--- the text that was sent says it
+-- the text of the part was sent, and says it
 pub record SendsPart (k n : ℕ) (bytes : List ℕ) (sent sent' : Option (List ℕ)) : Type 0 where
-  pub text : List ℕ
-  pub appended : Appends sent sent' text
-  pub says : SaysPart k n bytes text
+  pub appended : Appends sent sent' (part_text k n bytes)
+  pub says : SaysPart k n bytes (part_text k n bytes)
 
--- what was sent is the front of a text that says it, or nothing
+-- what was sent is a front of that text, or nothing, and the text says it
 pub record SendsSome (k n : ℕ) (bytes : List ℕ) (sent sent' : Option (List ℕ)) : Type 0 where
   pub front : List ℕ
   pub appended : Appends sent sent' front
-  pub of : (front ≡ []) ⊎ ((text : List ℕ) × SaysPart k n bytes text × IsPrefixOf front text)
+  pub of : IsPrefixOf front (part_text k n bytes)
+  pub says : SaysPart k n bytes (part_text k n bytes)
 
 -- parts that were put into a folder, in order, with their texts
 abbrev pub Puts : Type 0

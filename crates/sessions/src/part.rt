@@ -19,9 +19,9 @@ pub fn send_part<'a, W: Write>(
     out: &mut W,
 ) -> Result<(), Fault<'a>>
     requires { k < n }
-    // What was sent says exactly the records of the part, under their numbers in the whole, or the
-    // fault of the whole; where it is refused, what was sent is the front of such a text, or
-    // nothing.
+    // What was sent is the text of the part, which says exactly its records, under their numbers in
+    // the whole; or the file itself where that has a fault. Where it is refused, what was sent is a
+    // front of that text, or nothing.
     ensures sends { OnOk result
         (SendsPart k n bytes.now (W.contents out.old) (W.contents out.new)) }
     ensures cut { OnErr result (SendsSome k n bytes.now (W.contents out.old) (W.contents out.new)) }
