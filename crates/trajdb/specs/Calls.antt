@@ -297,6 +297,29 @@ abbrev pub SaysLoad : {I : Type 0} → CoreView I → (bytes text : List ℕ) �
 SaysLoad old bytes text =
     (book : Book) → IsBookOf old book → text ≡ load_text (load_of old.limits book bytes)
 
+-- a file that is refused for some book for which the tracks stand leaves the index as it is, whatever is answered: nothing
+-- is put into it, and nothing is written
+abbrev pub SparesIndex : {I : Type 0} → CoreView I → CoreView I → List ℕ → Type 0
+SparesIndex old new bytes =
+    (book : Book) → IsBookOf old book → (fault : FileCode × ℕ)
+    → load_of old.limits book bytes ≡ Err fault → new.index ≡ old.index
+
+-- so does one that is there
+abbrev pub SparesNamed : {I : Type 0} → CoreView I → CoreView I → Option (List ℕ) → Type 0
+SparesNamed old new (Some bytes) = SparesIndex old new bytes
+SparesNamed old new None = Unit {0}
+
+-- so does that of a `load`
+abbrev pub SparesBy : {I : Type 0} → List (List ℕ × List ℕ) → CoreView I → CoreView I → Command
+    → Type 0
+SparesBy files old new (Load name) = SparesNamed old new (file_named files name)
+SparesBy files old new Count = Unit {0}
+SparesBy files old new (Box rect period) = Unit {0}
+SparesBy files old new (Legs predicate rect period) = Unit {0}
+SparesBy files old new (Features predicate rect period) = Unit {0}
+SparesBy files old new (Trajectory name) = Unit {0}
+SparesBy files old new Write = Unit {0}
+
 -- a file is told of: by counts, and is taken in, and the database has begun, or by its refusal, which changes nothing
 abbrev pub TellsLoad : {I : Type 0} → Ghosts I → CoreView I → CoreView I → (bytes text : List ℕ)
     → Type 0

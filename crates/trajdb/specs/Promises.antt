@@ -19,7 +19,7 @@ use Rattle.register.specs.Saving.{HasFew}
 use Rattle.catalogue.specs.Holding.{HoldsBook, HoldsButFirst, HoldsIndex, HoldsIndexButFirst, IsUnfinishedStore}
 use Rattle.querylang.specs.declared.Command.{Command}
 use Rattle.trajdb.specs.Answers.{AcceptsBy, IsAnswer, IsCountsText, book_then, book_with, load_of}
-use Rattle.trajdb.specs.Calls.{AsksIn, AsksKnown, BlamesLoad, LearnsBy, Begins, BeginsBy, BeginsOnly, IsAsked, IsBookOf, IsLater, IsLoadFault, IsLoadStop, IsQuestionFault, IsRefusedBy, IsRunStop, IsStopped, KeepsPages, LeavesBook, Loads, LoadsWhole, LoadsWholeSome, PutsFile, TellsLoadBy}
+use Rattle.trajdb.specs.Calls.{AsksIn, AsksKnown, BlamesLoad, LearnsBy, Begins, BeginsBy, BeginsOnly, IsAsked, IsBookOf, IsLater, IsLoadFault, IsLoadStop, IsQuestionFault, IsRefusedBy, IsRunStop, IsStopped, KeepsPages, LeavesBook, Loads, LoadsWhole, LoadsWholeSome, PutsFile, SparesBy, SparesIndex, TellsLoadBy}
 use Rattle.trajdb.specs.Checking.{IsFirstFault, Reports}
 use Rattle.trajdb.specs.Database.{catalogue_of, CoreView, FailsBy, IsRefused, IsSound, IsTold, LoadGives, Becomes}
 use Rattle.trajdb.specs.Db.{DbView, HasPages, IsSoundDb}
@@ -61,6 +61,9 @@ pub record LoadCall {I : Type 0} (g : Ghosts I) (old new : CoreView I) (bytes : 
   -- it is answered as for each book for which the tracks stand
   pub gives : (book : Book) → IsBookOf old book
       → LoadGives result (load_of old.limits book bytes)
+  -- a file that is refused for such a book leaves the index as it is, so that nothing is put into it and nothing is
+  -- written, also where memory runs out before that is told
+  pub unwritten : SparesIndex old new bytes
   pub idle : OnErr result (new.begun ≡ old.begun)
   -- what is left of the pages
   pub pages : KeepsPages g old new
@@ -96,6 +99,9 @@ pub record CommandCall {I : Type 0} (g : Ghosts I) (files : List (List ℕ × Li
   -- be the database sound or not, a `load` of a file that is there is answered with counts, and begins it, or with a
   -- refusal that changes nothing; and only one of a file without a fault of its text, answered with counts, begins it
   pub told_load : IfOk result (λ text. TellsLoadBy g files old new command text.items)
+  -- a `load` of a file that is refused for some book for which the tracks stand leaves the index as it is, whatever is
+  -- answered, so that nothing is written
+  pub unwritten : SparesBy files old new command
   pub whole : BeginsBy old new (LoadsWhole files command)
   pub told : IfOk result (λ text. BeginsBy old new (IsCountsText text.items))
   pub pages : KeepsPages g old new

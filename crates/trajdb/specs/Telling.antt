@@ -25,7 +25,7 @@ use Rattle.querylang.specs.declared.LineCode.{LineCode}
 use Rattle.querylang.specs.declared.Command.{Command}
 use Rattle.querylang.specs.declared.Command.TheVariants.{Load, Count, Box, Legs, Features, Trajectory, Write}
 use Rattle.trajdb.specs.Answers.{HoldsOfLeg, IsCountsText, IsFileRefusal, file_answer, legs_text, names_text, ok_text, refusal_text}
-use Rattle.trajdb.specs.Calls.{IsLater, LeavesBook, Loads, LoadsBy, NamesFile, TellsLoadBy}
+use Rattle.trajdb.specs.Calls.{IsLater, LeavesBook, Loads, LoadsBy, NamesFile, SparesBy, TellsLoadBy}
 use Rattle.trajdb.specs.Database.{CoreView}
 use Rattle.trajdb.specs.Files.{file_named}
 use Rattle.trajdb.specs.Picks.{Picks}
@@ -222,10 +222,12 @@ module _ {I : Type 0} (g : Ghosts I) (files : List (List ℕ × List ℕ)) where
       (mid : CoreView I) × (first : List ℕ) × (others : List ℕ) × (text ≡ first ++ others)
       × TellsLine old mid line first × TellsLines mid new lines others
 
-  -- why a line was not answered
+  -- why a line was not answered; a `load` of a file that is refused for some book for which the tracks stand leaves the index
+  -- as it is
   abbrev pub NamesSaid : (old new : CoreView I) → Result (Option Command) LineCode → RunFault
       → Type 0
-  NamesSaid old new (Ok (Some command)) fault = NamesBy g old new files command fault
+  NamesSaid old new (Ok (Some command)) fault =
+      NamesBy g old new files command fault × SparesBy files old new command
   NamesSaid old new (Ok None) fault = fault ≡ Memory
   NamesSaid old new (Err code) fault = fault ≡ Memory
 

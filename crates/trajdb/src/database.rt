@@ -98,7 +98,7 @@ impl<I: Start> Core<I> {
     ghost use Rattle.trajdb.specs.Answers.{book_with, load_of};
     ghost use Rattle.trajdb.specs.Database.{FaultIs, IsRefused, IsTold, LoadGives, Becomes, IsSound};
     ghost use Rattle.trajdb.specs.Loads.{Accepts, IsRead, PutsNew};
-    ghost use Rattle.trajdb.specs.Calls.{BlamesLegs, BlamesLoad, IsBookOf, IsJoinStop, IsLater, IsLoadFault, IsLoadStop, IsOfStore, IsRefusedBy, LeavesPages, PutsFile};
+    ghost use Rattle.trajdb.specs.Calls.{BlamesLegs, BlamesLoad, IsBookOf, IsJoinStop, IsLater, IsLoadFault, IsLoadStop, IsOfStore, IsRefusedBy, LeavesPages, PutsFile, SparesIndex};
 
     /// Takes in a file that was read and joined.
     fn take(&mut self, new: NewFile) -> Result<(), RunFault>
@@ -165,6 +165,7 @@ impl<I: Start> Core<I> {
         ensures gives { (book : Book) → IsBookOf self.old book
             → LoadGives result (load_of self.old.limits book bytes.now) }
         ensures idle { OnErr result (self.new.begun ≡ self.old.begun) }
+        ensures unwritten { SparesIndex self.old self.new bytes.now }
         ensures marks { OnOk result (I.is_faithful self.old.index → I.is_marked self.new.index) }
         ensures pages { I.is_faithful self.old.index
             → LeavesPages I.Listed self.old.index self.new.index }
@@ -208,7 +209,7 @@ impl<I: Start> Core<I> {
     ghost use Rattle.std.specs.Prelude.{◌≡◌, IfOk, IfErr, OnOk, OnErr, Some, true, false};
     ghost use Rattle.trajdb.specs.Answers.{named_book, named_text, AcceptsNamed, IsCountsText};
     ghost use Rattle.trajdb.specs.Database.{Becomes, IsSound};
-    ghost use Rattle.trajdb.specs.Calls.{Begins, BeginsBy, BeginsOnly, IsStopped, IsLater, IsWholeFile, KeepsPages, NamesFile, TellsLoad};
+    ghost use Rattle.trajdb.specs.Calls.{Begins, BeginsBy, BeginsOnly, IsStopped, IsLater, IsWholeFile, KeepsPages, NamesFile, SparesIndex, TellsLoad};
 
     /// The answer to `load` of a file.
     fn load_text(&mut self, alloc: Global, bytes: &[u8]) -> Result<Vec<u8>, RunFault>
@@ -229,6 +230,7 @@ impl<I: Start> Core<I> {
         ensures blames { IfErr result (NamesFile I.Listed self.old self.new bytes.now) }
         ensures told_load { IfOk result (λ text. TellsLoad I.Listed self.old self.new bytes.now
             text.items) }
+        ensures unwritten { SparesIndex self.old self.new bytes.now }
         ensures pages { KeepsPages I.Listed self.old self.new }
     {
         let text = match self.load(alloc, bytes) {

@@ -1,7 +1,10 @@
-use Rattle.std.proofs.Common.{ℕ, List, ◌∙◌, ◌++◌, ap, sym, Ok}
+use Rattle.std.proofs.Common.{ℕ, List, ◌≡◌, ◌∙◌, ◌++◌, ap, sym, Ok, Err, Result}
 use Rattle.legs.specs.Book.{head_with}
+use Rattle.trajdb.specs.Answers.{load_of}
 use Rattle.trajdb.specs.Calls.{BlamesFile}
 use Rattle.trajdb.specs.declared.Counts.{Counts}
+use Rattle.trajdb.specs.declared.FileCode.{FileCode}
+use Rattle.trajdb.specs.Loads.{counts_in}
 use Rattle.trajdb.proofs.LoadLemmas.{accepted_book, accepted_counts, names_file, told_kept}
 use Rattle.trajdb.proofs.database.Core.read.Goals as goal
 
@@ -46,3 +49,17 @@ returns-in-Err-take-clause-blames g c =
     let is = c.in-Ok.ensures.read in
     let blamed : BlamesFile g.I.Listed c.args.self.now c.take.new.self c.args.bytes.now c.in-Err-take.fault = record { file = is.file; said = is.said; legs = c.in-Ok.new.joined.legs; adds = λ book of. (is.accepts book of.tracks of.head).0.legs; blames = c.in-Err-take.ensures.blames } in
     names_file g.I.Listed c.args.self.now c.take.new.self c.args.bytes.now c.in-Err-take.fault blamed
+
+-- what is accepted is not refused
+not_both : (told : Result Counts (FileCode × ℕ)) (counts : Counts) (fault : FileCode × ℕ) → told ≡ Ok counts → told ≡ Err fault → ⊥
+not_both told counts fault a b = let n : Ok counts ≡ Err fault = sym a ∙ b in cc
+
+pub returns-in-Ok-take-clause-unwritten : goal.returns-in-Ok-take-clause-unwritten
+returns-in-Ok-take-clause-unwritten g c = λ book of fault refused.
+    let is = c.in-Ok.ensures.read in
+    absurd (not_both (load_of c.args.self.now.limits book c.args.bytes.now) (counts_in c.in-Ok.new.joined) fault (accepted_counts c.args.self.now.limits book c.args.bytes.now is.file c.in-Ok.new is.said (is.accepts book of.tracks of.head)) refused)
+
+pub returns-in-Err-take-clause-unwritten : goal.returns-in-Err-take-clause-unwritten
+returns-in-Err-take-clause-unwritten g c = λ book of fault refused.
+    let is = c.in-Ok.ensures.read in
+    absurd (not_both (load_of c.args.self.now.limits book c.args.bytes.now) (counts_in c.in-Ok.new.joined) fault (accepted_counts c.args.self.now.limits book c.args.bytes.now is.file c.in-Ok.new is.said (is.accepts book of.tracks of.head)) refused)
