@@ -1,5 +1,5 @@
 //! Why the program failed.
-ghost use Rattle.std.specs.Prelude.{◌≤◌};
+ghost use Rattle.std.specs.Prelude.{◌≡◌, ◌≤◌};
 
 use crate::cause::Cause;
 use querylang::LineCode;
@@ -57,18 +57,34 @@ impl Fault<'_> {
 }
 
 impl From<AllocError> for Fault<'_> {
+    ghost use Rattle.sessions.specs.declared.fault.Fault.{Fault};
+    ghost use Rattle.sessions.specs.declared.fault.Fault.TheVariants.{Run};
+    ghost use Rattle.trajdb.specs.declared.RunFault.{RunFault};
+
+    ghost from_gives = { λ e r. r ≡ Run RunFault.Memory };
+
     fn from(_: AllocError) -> Self {
         Fault::Run(RunFault::Memory)
     }
 }
 
 impl From<RunFault> for Fault<'_> {
+    ghost use Rattle.sessions.specs.declared.fault.Fault.{Fault};
+    ghost use Rattle.sessions.specs.declared.fault.Fault.TheVariants.{Run};
+
+    ghost from_gives = { λ e r. r ≡ Run e };
+
     fn from(fault: RunFault) -> Self {
         Fault::Run(fault)
     }
 }
 
 impl From<OpenFault> for Fault<'_> {
+    ghost use Rattle.sessions.specs.declared.fault.Fault.{Fault};
+    ghost use Rattle.sessions.specs.declared.fault.Fault.TheVariants.{Open};
+
+    ghost from_gives = { λ e r. r ≡ Open e };
+
     fn from(fault: OpenFault) -> Self {
         Fault::Open(fault)
     }
