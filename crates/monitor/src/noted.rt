@@ -1,5 +1,6 @@
 //! A store that knows whether it was written.
-ghost use Rattle.std.specs.Prelude.{◌≡◌};
+ghost use Rattle.std.specs.Prelude.{◌≡◌, ◌<◌, ◌≤◌, Some, false, slice_get, IsTrue, OnErr, OnOk};
+ghost use Rattle.pages.specs.Store.{Faulted, IsSynced, MayUnsync, SameUnsynced, Stays, Tears, Unsyncs, Writes};
 
 use crate::progress::Progress;
 use pages::{PageStore, StoreFault};
@@ -8,6 +9,9 @@ use std::rt::Clock;
 
 /// A store over another one that knows whether a page was to be written, and tells of each page that is
 /// read or written.
+///
+/// A `write` is noted, be it refused or not, and stays noted; no other call writes a page or notes
+/// one. So where nothing is noted, a faithful store has the pages that it was made with.
 #[derive(Drop)]
 pub struct Noted<'a, 'b, S, R: Clock + Eprint> {
     store: S,
@@ -16,9 +20,12 @@ pub struct Noted<'a, 'b, S, R: Clock + Eprint> {
 }
 
 impl<'a, 'b, S: PageStore, R: Clock + Eprint> Noted<'a, 'b, S, R> {
+    ghost use Rattle.monitor.specs.Noted.{was_written};
+
     /// The store over that one, of which nothing was written.
     pub fn new(store: S, progress: &'a Progress<'b, R>) -> Noted<'a, 'b, S, R>
-        ensures { ⟦<Noted<'a, 'b, S, R> as PageStore>⟧.seen result ≡ S.seen store }
+        ensures seen { ⟦<Noted<'a, 'b, S, R> as PageStore>⟧.seen result ≡ S.seen store }
+        ensures unwritten { was_written result ≡ false }
     {
         Noted {
             store,
@@ -28,12 +35,16 @@ impl<'a, 'b, S: PageStore, R: Clock + Eprint> Noted<'a, 'b, S, R> {
     }
 
     /// Whether a page was to be written.
-    pub fn is_written(&self) -> bool {
+    pub fn is_written(&self) -> bool
+        ensures { result ≡ was_written self.now }
+    {
         self.is_written
     }
 }
 
 impl<'a, 'b, S: PageStore, R: Clock + Eprint> PageStore for Noted<'a, 'b, S, R> {
+    ghost use Rattle.monitor.specs.Noted.{was_written};
+
     ghost seen = { λ s. S.seen s.store };
 
     ghost lawful = { λ s. S.lawful s.store };
@@ -46,18 +57,66 @@ impl<'a, 'b, S: PageStore, R: Clock + Eprint> PageStore for Noted<'a, 'b, S, R> 
         self.store.most()
     }
 
-    fn read(&mut self, number: u32, page: &mut [u8; 4096]) -> Result<(), StoreFault> {
+    /// Reads a page, which is not noted.
+    fn read(&mut self, number: u32, page: &mut [u8; 4096]) -> Result<(), StoreFault>
+        requires { number < (⟦<Noted<'a, 'b, S, R> as PageStore>⟧.seen self.old).count }
+        ensures read { OnOk result
+            (IsTrue (⟦<Noted<'a, 'b, S, R> as PageStore>⟧.seen self.old).is_faithful
+            → slice_get (⟦<Noted<'a, 'b, S, R> as PageStore>⟧.seen self.old).pages number
+            ≡ Some page.new) }
+        ensures stays { Stays (⟦<Noted<'a, 'b, S, R> as PageStore>⟧.seen self.old)
+            (⟦<Noted<'a, 'b, S, R> as PageStore>⟧.seen self.new) }
+        ensures unsynced { SameUnsynced (⟦<Noted<'a, 'b, S, R> as PageStore>⟧.seen self.old)
+            (⟦<Noted<'a, 'b, S, R> as PageStore>⟧.seen self.new) }
+        ensures cause { OnErr result
+            (Faulted (⟦<Noted<'a, 'b, S, R> as PageStore>⟧.seen self.old)
+            (⟦<Noted<'a, 'b, S, R> as PageStore>⟧.seen self.new)) }
+        ensures noted { was_written self.new ≡ was_written self.old }
+    {
         self.progress.page();
         self.store.read(number, page)
     }
 
-    fn write(&mut self, number: u32, page: &[u8; 4096]) -> Result<(), StoreFault> {
+    /// Writes a page, and notes it, be it refused or not.
+    fn write(&mut self, number: u32, page: &[u8; 4096]) -> Result<(), StoreFault>
+        requires next { number ≤ (⟦<Noted<'a, 'b, S, R> as PageStore>⟧.seen self.old).count }
+        requires room { number < (⟦<Noted<'a, 'b, S, R> as PageStore>⟧.seen self.old).most }
+        ensures written { OnOk result
+            (Writes number page.now (⟦<Noted<'a, 'b, S, R> as PageStore>⟧.seen self.old)
+            (⟦<Noted<'a, 'b, S, R> as PageStore>⟧.seen self.new)) }
+        ensures unsynced { OnOk result
+            (Unsyncs number (⟦<Noted<'a, 'b, S, R> as PageStore>⟧.seen self.old)
+            (⟦<Noted<'a, 'b, S, R> as PageStore>⟧.seen self.new)) }
+        ensures torn { OnErr result
+            (Tears number (⟦<Noted<'a, 'b, S, R> as PageStore>⟧.seen self.old)
+            (⟦<Noted<'a, 'b, S, R> as PageStore>⟧.seen self.new)) }
+        ensures torn_unsynced { OnErr result
+            (MayUnsync number (⟦<Noted<'a, 'b, S, R> as PageStore>⟧.seen self.old)
+            (⟦<Noted<'a, 'b, S, R> as PageStore>⟧.seen self.new)) }
+        ensures cause { OnErr result
+            (Faulted (⟦<Noted<'a, 'b, S, R> as PageStore>⟧.seen self.old)
+            (⟦<Noted<'a, 'b, S, R> as PageStore>⟧.seen self.new)) }
+        ensures noted { IsTrue (was_written self.new) }
+    {
         self.is_written = true;
         self.progress.page();
         self.store.write(number, page)
     }
 
-    fn sync(&mut self) -> Result<(), StoreFault> {
+    /// Makes what was written last, which changes nothing of what is noted.
+    fn sync(&mut self) -> Result<(), StoreFault>
+        ensures stays { Stays (⟦<Noted<'a, 'b, S, R> as PageStore>⟧.seen self.old)
+            (⟦<Noted<'a, 'b, S, R> as PageStore>⟧.seen self.new) }
+        ensures synced { OnOk result
+            (IsSynced (⟦<Noted<'a, 'b, S, R> as PageStore>⟧.seen self.new)) }
+        ensures unsynced { OnErr result
+            (SameUnsynced (⟦<Noted<'a, 'b, S, R> as PageStore>⟧.seen self.old)
+            (⟦<Noted<'a, 'b, S, R> as PageStore>⟧.seen self.new)) }
+        ensures cause { OnErr result
+            (Faulted (⟦<Noted<'a, 'b, S, R> as PageStore>⟧.seen self.old)
+            (⟦<Noted<'a, 'b, S, R> as PageStore>⟧.seen self.new)) }
+        ensures noted { was_written self.new ≡ was_written self.old }
+    {
         self.store.sync()
     }
 }
