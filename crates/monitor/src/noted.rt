@@ -10,8 +10,8 @@ use std::rt::Clock;
 /// A store over another one that knows whether a page was to be written, and tells of each page that is
 /// read or written.
 ///
-/// A `write` is noted, be it refused or not, and stays noted; no other call writes a page or notes
-/// one. So where nothing is noted, a faithful store has the pages that it was made with.
+/// A `write` is noted, be it refused or not, and stays noted; no other call changes a page or notes
+/// a write. So where nothing is noted, a faithful store has the pages that it was made with.
 #[derive(Drop)]
 pub struct Noted<'a, 'b, S, R: Clock + Eprint> {
     store: S,

@@ -10,12 +10,12 @@ use Rattle.trajdb.specs.Run.{IsPrefixOf}
 abbrev pub SaysPart : (k n : ℕ) → List ℕ → List ℕ → Type 0
 SaysPart k n bytes text = file_of_bytes text ≡ said_part k n (file_of_bytes bytes)
 
--- the text of the part was sent, and says it
+-- the text of the part was sent; it says the part, as it follows from its definition
 pub record SendsPart (k n : ℕ) (bytes : List ℕ) (sent sent' : Option (List ℕ)) : Type 0 where
   pub appended : Appends sent sent' (part_text k n bytes)
   pub says : SaysPart k n bytes (part_text k n bytes)
 
--- what was sent is a front of that text, or nothing, and the text says it
+-- what was sent is a front of that text, or nothing; the text says the part, as above
 pub record SendsSome (k n : ℕ) (bytes : List ℕ) (sent sent' : Option (List ℕ)) : Type 0 where
   pub front : List ℕ
   pub appended : Appends sent sent' front

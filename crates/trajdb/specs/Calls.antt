@@ -298,18 +298,18 @@ SaysLoad old bytes text =
     (book : Book) → IsBookOf old book → text ≡ load_text (load_of old.limits book bytes)
 
 -- a file that is refused for some book for which the tracks stand leaves the index as it is, whatever is answered: nothing
--- is put into it, and nothing is written
+-- is put into it, and no page is changed
 abbrev pub SparesIndex : {I : Type 0} → CoreView I → CoreView I → List ℕ → Type 0
 SparesIndex old new bytes =
     (book : Book) → IsBookOf old book → (fault : FileCode × ℕ)
     → load_of old.limits book bytes ≡ Err fault → new.index ≡ old.index
 
--- so does one that is there
+-- so does one that is there; of one that is not nothing is said
 abbrev pub SparesNamed : {I : Type 0} → CoreView I → CoreView I → Option (List ℕ) → Type 0
 SparesNamed old new (Some bytes) = SparesIndex old new bytes
 SparesNamed old new None = Unit {0}
 
--- so does that of a `load`
+-- so does that of a `load`; of any other command nothing is said
 abbrev pub SparesBy : {I : Type 0} → List (List ℕ × List ℕ) → CoreView I → CoreView I → Command
     → Type 0
 SparesBy files old new (Load name) = SparesNamed old new (file_named files name)

@@ -61,8 +61,8 @@ pub record LoadCall {I : Type 0} (g : Ghosts I) (old new : CoreView I) (bytes : 
   -- it is answered as for each book for which the tracks stand
   pub gives : (book : Book) → IsBookOf old book
       → LoadGives result (load_of old.limits book bytes)
-  -- a file that is refused for such a book leaves the index as it is, so that nothing is put into it and nothing is
-  -- written, also where memory runs out before that is told
+  -- a file that is refused for such a book leaves the index as it is, so that nothing is put into it and no page is
+  -- changed, also where memory runs out before that is told
   pub unwritten : SparesIndex old new bytes
   pub idle : OnErr result (new.begun ≡ old.begun)
   -- what is left of the pages
@@ -100,7 +100,7 @@ pub record CommandCall {I : Type 0} (g : Ghosts I) (files : List (List ℕ × Li
   -- refusal that changes nothing; and only one of a file without a fault of its text, answered with counts, begins it
   pub told_load : IfOk result (λ text. TellsLoadBy g files old new command text.items)
   -- a `load` of a file that is refused for some book for which the tracks stand leaves the index as it is, whatever is
-  -- answered, so that nothing is written
+  -- answered, so that no page is changed
   pub unwritten : SparesBy files old new command
   pub whole : BeginsBy old new (LoadsWhole files command)
   pub told : IfOk result (λ text. BeginsBy old new (IsCountsText text.items))
