@@ -17,10 +17,10 @@ use Rattle.tbtree.specs.Stands.{owner}
 use Rattle.tbtree.specs.declared.tree.Place.{Place}
 use Rattle.tbtree.specs.declared.tree.TbTree.{TbTree}
 use Rattle.tbtree.proofs.LeafLemmas.{placed_legs}
+use Rattle.tbtree.proofs.PlantedPages.{owner_of}
 use Rattle.tbtree.proofs.NeedsLemmas.{content_spent_after, fit_spent}
 use Rattle.boxsearch.specs.Index.{IndexView, found_by, is_unfit, place_for, with_place, words}
 use Rattle.boxsearch.proofs.EndLemmas.{legs_in_place, made_legs, placed_is, takes_put}
-use Rattle.boxsearch.proofs.MadeLemmas.{owner_of}
 use Rattle.boxsearch.proofs.PlaceLemmas.{get-set_same, one_fits, place_made, place_there, some_same, stays_at}
 
 module _ (old new : IndexView) (feature : ℕ) (legs : List LegView) (was is : Place) (page : ℕ) (some : 0 < length legs) (one : All (λ leg. leg.feature ≡ feature) legs)

@@ -30,6 +30,7 @@ use Rattle.tbtree.specs.Planting.{view, HasLacked, HasPlanted}
 use Rattle.tbtree.specs.declared.fault.TreeFault.{TreeFault}
 use Rattle.tbtree.specs.declared.tree.Place.{Place}
 use Rattle.tbtree.proofs.EndLemmas.{ends_fewer}
+use Rattle.tbtree.proofs.PlantedPages.{owner_of}
 use Rattle.tbtree.proofs.RoomLemmas.{count_all_other, count_all_same}
 use Rattle.tbtree.proofs.Still.{still}
 use Rattle.boxsearch.specs.Answers.{answered, of_tree}
@@ -40,7 +41,7 @@ use Rattle.boxsearch.proofs.AddLemmas.{made}
 use Rattle.boxsearch.proofs.AnswerLemmas.{each_fault, full_said, the_fault, OfFull}
 use Rattle.boxsearch.proofs.TrackGrowth.{all_of_one, denied_alike, made_was, none_of_other, own_track, told_alike}
 use Rattle.chains.proofs.ChainGrowth.{others_alike, AreAlike}
-use Rattle.boxsearch.proofs.MadeLemmas.{features_one, for_alike, many_with, owner_of, placed_in, rising_held}
+use Rattle.boxsearch.proofs.MadeLemmas.{features_one, for_alike, many_with, placed_in, rising_held}
 use Rattle.boxsearch.proofs.PlaceLemmas.{get-set_same, get-set_other, got_within, some_same, place_made, place_there, push_last, push_other}
 
 -- the last of some legs is among those of the last leaf

@@ -4,13 +4,12 @@ use Rattle.std.proofs.lemmas.Bool.{cases_lt}
 use Rattle.std.proofs.lemmas.Bool.Decides.{nat_tests}
 use Rattle.std.proofs.lemmas.List.Elements.{All-head, All-tail}
 use Rattle.legs.specs.Boxes.{BoxView}
-use Rattle.legs.specs.Costs.{leg_feature}
 use Rattle.legs.specs.Finding.{place_in}
 use Rattle.legs.specs.Index.{features_after}
 use Rattle.legs.specs.Legs.{LegView}
 use Rattle.tbtree.specs.Filling.{AreLeaves}
 use Rattle.tbtree.specs.Nodes.{Pages}
-use Rattle.tbtree.specs.Stands.{no_place, owner}
+use Rattle.tbtree.specs.Stands.{no_place}
 use Rattle.tbtree.specs.declared.tree.Place.{Place}
 use Rattle.boxsearch.specs.Index.{IndexView, found_by, place_for, place_of, with_place}
 use Rattle.boxsearch.proofs.PlaceLemmas.{length-made}
@@ -75,8 +74,3 @@ for_is (p ∷ ps) (suc f) = for_is ps f
 
 pub for_alike : (xs ys : List Place) (f : ℕ) → slice_get ys f ≡ slice_get xs f → place_for ys f ≡ place_for xs f
 for_alike xs ys f e = for_is ys f ∙ ap or_none e ∙ sym (for_is xs f)
-
--- the feature of some legs of it
-pub owner_of : (f : ℕ) (part : List LegView) → 0 < length part → All (λ leg. leg.feature ≡ f) part → owner leg_feature part ≡ f
-owner_of f [] some one = absurd (omega (arith, some))
-owner_of f (x ∷ xs) some one = one 0 x (omega arith)

@@ -28,6 +28,7 @@ use Rattle.tbtree.specs.Stands.{no_place, owner}
 use Rattle.tbtree.specs.declared.fault.TreeFault.{TreeFault}
 use Rattle.tbtree.specs.declared.tree.Place.{Place}
 use Rattle.tbtree.specs.declared.tree.TbTree.{TbTree}
+use Rattle.tbtree.proofs.PlantedPages.{owner_of}
 use Rattle.boxsearch.specs.Answers.{answered, of_tree}
 use Rattle.boxsearch.specs.Index.{IndexView, is_unfit, words, IsMarked, with_place}
 use Rattle.boxsearch.specs.Putting.{PutsAll, spent_from}
@@ -37,7 +38,6 @@ use Rattle.boxsearch.proofs.AddLemmas.{made, marked_after, feature_count-push}
 use Rattle.boxsearch.proofs.AnswerLemmas.{each_fault, named_said, the_fault, SaidOfLeg, write_said, write_allowed}
 use Rattle.boxsearch.proofs.BlameLemmas.{blames_run, blames_unfaithful}
 use Rattle.boxsearch.proofs.EndLemmas.{lacks_put}
-use Rattle.boxsearch.proofs.MadeLemmas.{owner_of}
 use Rattle.boxsearch.proofs.PlaceLemmas.{get-set_same, get-set_other, made_places, length-made, some_same}
 use Rattle.boxsearch.proofs.TrackLemmas.{no_legs}
 

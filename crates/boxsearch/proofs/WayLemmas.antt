@@ -14,7 +14,7 @@ use Rattle.tbtree.specs.Faults.{IfNamed, RefusesRead}
 use Rattle.tbtree.specs.Nodes.{Pages, pages_of_cache, HasLeaf}
 use Rattle.tbtree.specs.declared.fault.TreeFault.{TreeFault}
 use Rattle.tbtree.specs.declared.fault.TreeFault.TheVariants.{Malformed}
-use Rattle.boxsearch.specs.Way.{meets, IsFirstWithout, IsOnLevel, IsWay, IsOffWay}
+use Rattle.boxsearch.specs.Way.{meets, IsFirstNot, IsOnLevel, IsWay, IsOffWay}
 use Rattle.boxsearch.proofs.SameLemmas.{below_same, hits_same, inner_after, inner_before, leaf_after, leaf_before}
 
 pub malformed_is : (Q : ℕ → Type 0) (fault : TreeFault) (page : ℕ) → fault ≡ Malformed page → Q page → IfNamed Q fault
@@ -42,7 +42,7 @@ module _ (query : BoxView) (nodes : Pages LegView BoxView) (root levels : ℕ) w
 
 -- of pages of which P and Q hold alike, the first without
 first_then : (P Q : ℕ → Type 0) → ((p : ℕ) → P p → Q p) → ((p : ℕ) → Q p → P p) → (now met : List ℕ) → now ≡ met → (p : ℕ)
-    → IsFirstWithout P now p → IsFirstWithout Q met p
+    → IsFirstNot P now p → IsFirstNot Q met p
 first_then P Q there back now met e p f =
     let before = All-same P (take f.place met) (take f.place now) (ap (take f.place) (sym e)) f.before in
     record {
@@ -100,7 +100,7 @@ module _ (a b : Cache) (reads : OnlyReads a b) (fa : IsTrue a.store.is_faithful)
     -- the first page of a level that is not read
     pub inner_off_way : (n k left p : ℕ) (now : List ℕ) → 0 < k → n + suc k ≡ levels → now ≡ pages_met (meets query) (pages_of_cache a) root n
         → FitsTo query (pages_of_cache a) root levels n → left + met_count (meets query) (pages_of_cache a) root (suc n) ≡ a.count
-        → IsFirstWithout (λ q. HasInner (pages_of_cache b) q k) now p → IsOffWay query (pages_of_cache a) root levels p
+        → IsFirstNot (λ q. HasInner (pages_of_cache b) q k) now p → IsOffWay query (pages_of_cache a) root levels p
     inner_off_way n zero left p now some l e fits all off = absurd (omega (arith, some))
     inner_off_way n (suc k) left p now some l e fits all off = record {
       n = n;
@@ -116,7 +116,7 @@ module _ (a b : Cache) (reads : OnlyReads a b) (fa : IsTrue a.store.is_faithful)
 
     pub leaf_off_way : (n left p : ℕ) (now : List ℕ) → n + 1 ≡ levels → now ≡ pages_met (meets query) (pages_of_cache a) root n
         → FitsTo query (pages_of_cache a) root levels n → left + met_count (meets query) (pages_of_cache a) root (suc n) ≡ a.count
-        → IsFirstWithout (λ q. HasLeaf (pages_of_cache b) q) now p → IsOffWay query (pages_of_cache a) root levels p
+        → IsFirstNot (λ q. HasLeaf (pages_of_cache b) q) now p → IsOffWay query (pages_of_cache a) root levels p
     leaf_off_way n left p now l e fits all off = record {
       n = n;
       k = 0;

@@ -12,7 +12,7 @@ abbrev pub meets : BoxView → BoxView → Bool
 meets query bounds = boxes_meet bounds query
 
 -- of some pages, p is the first of which P does not hold, told by its place
-pub record IsFirstWithout (P : ℕ → Type 0) (pages : List ℕ) (p : ℕ) : Type 0 where
+pub record IsFirstNot (P : ℕ → Type 0) (pages : List ℕ) (p : ℕ) : Type 0 where
   pub place : ℕ
   pub is : slice_get pages place ≡ Some p
   pub before : All P (take place pages)
@@ -29,7 +29,7 @@ module _ (query : BoxView) (nodes : Pages LegView BoxView) (root levels : ℕ) w
   -- no more are met than there are
   pub record IsFirstWrong (n k p : ℕ) : Type 0 where
     pub few : met_count (meets query) nodes root (suc n) ≤ nodes.count
-    pub first : IsFirstWithout (λ q. IsOnLevel nodes k q) (pages_met (meets query) nodes root n) p
+    pub first : IsFirstNot (λ q. IsOnLevel nodes k q) (pages_met (meets query) nodes root n) p
 
   -- page p is the first, of those that are met n levels below the root, that is met beyond as many as there are
   pub record IsFirstBeyond (n p : ℕ) : Type 0 where

@@ -12,7 +12,7 @@ ghost use Rattle.tbtree.specs.Insert.{Stands};
 ghost use Rattle.tbtree.specs.Nodes.{pages_of_cache, HasLeaf};
 ghost use Rattle.tbtree.specs.declared.fault.TreeFault.{TreeFault};
 ghost use Rattle.boxsearch.specs.Order.{stable_by_ordinal};
-ghost use Rattle.boxsearch.specs.Way.{meets, IsFirstWithout, IsWay, IsOffWay};
+ghost use Rattle.boxsearch.specs.Way.{meets, IsFirstNot, IsWay, IsOffWay};
 
 use crate::nodes::{push_children, push_legs};
 use legs::{Box3, Leg};
@@ -42,7 +42,7 @@ fn next_level<S: PageStore>(
         → All (λ p. HasInner (pages_of_cache cache.old) p level) pages.now
         → IfErr result MayRefuseRead }
     ensures named { IsTrue cache.old.store.is_faithful
-        → IfErr result (IfNamed (IsFirstWithout (λ p. HasInner (pages_of_cache cache.old) p level)
+        → IfErr result (IfNamed (IsFirstNot (λ p. HasInner (pages_of_cache cache.old) p level)
         pages.now)) }
     ensures reads { Reads cache.old cache.new result }
     ensures asked { OnOk result (RisesBy cache.old.asked cache.new.asked (length pages.now)) }
@@ -71,7 +71,7 @@ fn legs_in<S: PageStore>(
     ensures only { IsTrue cache.old.store.is_faithful
         → All (λ p. HasLeaf (pages_of_cache cache.old) p) pages.now → IfErr result MayRefuseRead }
     ensures named { IsTrue cache.old.store.is_faithful
-        → IfErr result (IfNamed (IsFirstWithout (λ p. HasLeaf (pages_of_cache cache.old) p)
+        → IfErr result (IfNamed (IsFirstNot (λ p. HasLeaf (pages_of_cache cache.old) p)
         pages.now)) }
     ensures reads { Reads cache.old cache.new result }
     ensures asked { OnOk result (RisesBy cache.old.asked cache.new.asked (length pages.now)) }

@@ -2,7 +2,7 @@ use Rattle.std.proofs.Common.{ℕ, ◌≡◌, ◌+◌, ◌-◌, ◌<◌, [], ◌
 use Rattle.std.proofs.lemmas.Result.{err_from_is_err_and}
 use Rattle.tbtree.specs.Descent.{pages_met, met_count, HasInner}
 use Rattle.tbtree.specs.Nodes.{pages_of_cache, HasLeaf}
-use Rattle.boxsearch.specs.Way.{meets, IsFirstWithout, IsOffWay}
+use Rattle.boxsearch.specs.Way.{meets, IsFirstNot, IsOffWay}
 use Rattle.boxsearch.proofs.FoundLemmas.{if_ok, if_err, on_ok}
 use Rattle.chains.proofs.ReadLemmas.{caused_after, reads_then, reads_trans}
 use Rattle.tbtree.proofs.FaultLemmas.{named_then}
@@ -102,7 +102,7 @@ returns-in_err-pages-clause-named g c = λ fa.
     let up : level ≡ suc (level - 1) = omega arith in
     let so_far = left_on query (pages_of_cache old) root levels (level - 1) level c.loop-level.left up (inv.left fa) in
     rw (p.1, p.2) (named_then
-    (IsFirstWithout (λ q. HasInner (pages_of_cache c.loop-level.cache) q (levels - level)) now)
+    (IsFirstNot (λ q. HasInner (pages_of_cache c.loop-level.cache) q (levels - level)) now)
     (IsOffWay query (pages_of_cache old) root levels)
     (λ q h. inner_off_way old c.loop-level.cache inv.reads fa query root levels (level - 1) (levels - level) c.loop-level.left q now some last (c.deref-in-loop-level.ensures.value ∙ inv.found fa) (inv.way fa) so_far h)
     _
@@ -206,7 +206,7 @@ returns-clause-named g c = λ fa.
     let so_far = left_on query (pages_of_cache old) root levels (level - 1) level c.loop-level.left up (inv.left fa) in
     if_err c.legs_in.result _ _
     (λ fault h. named_then
-    (IsFirstWithout (λ q. HasLeaf (pages_of_cache c.loop-level.cache) q) now)
+    (IsFirstNot (λ q. HasLeaf (pages_of_cache c.loop-level.cache) q) now)
     (IsOffWay query (pages_of_cache old) root levels)
     (λ q k. leaf_off_way old c.loop-level.cache inv.reads fa query root levels (level - 1) c.loop-level.left q now last (c.deref-2.ensures.value ∙ inv.found fa) (inv.way fa) so_far k)
     fault

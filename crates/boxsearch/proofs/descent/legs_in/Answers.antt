@@ -1,7 +1,7 @@
 use Rattle.std.proofs.Common.{◌≡◌, ◌+◌, suc, arith, sym, ap, ◌∙◌, Some, slice_get, get_or, subst}
 use Rattle.std.proofs.lemmas.Option.{slice_get-get_or}
 use Rattle.std.proofs.lemmas.Result.{err_from_is_err_and}
-use Rattle.boxsearch.specs.Way.{meets, IsFirstWithout}
+use Rattle.boxsearch.specs.Way.{meets, IsFirstNot}
 use Rattle.legs.specs.Hull.{leg_boxes}
 use Rattle.tbtree.specs.Descent.{hits}
 use Rattle.tbtree.specs.Nodes.{pages_of_cache, HasLeaf}
@@ -64,7 +64,7 @@ returns-in_err-push_legs-clause-named g c = λ fa.
     let at : slice_get pages i ≡ Some page = slice_get-get_or pages i 0 c.loop-page-test.true in
     rw (p.1, p.2) (named_then
     (λ n. (n ≡ page) × (HasLeaf (pages_of_cache c.loop-page.cache) page → ⊥))
-    (IsFirstWithout (λ q. HasLeaf (pages_of_cache c.args.cache.now) q) pages)
+    (IsFirstNot (λ q. HasLeaf (pages_of_cache c.args.cache.now) q) pages)
     (λ n h. record {
       place = i;
       is = at ∙ ap Some (sym h.0);
