@@ -3,7 +3,7 @@ ghost use Rattle.std.specs.Prelude.{◌≡◌, ◌<◌, ◌≤◌, ◌^◌, ◌-
 ghost use Rattle.std.proofs.Common.{arith};
 ghost use Rattle.pages.specs.Bytes.{HoldPages, known_pages, whole_pages};
 ghost use Rattle.pages.specs.Store.{HasRisen};
-ghost use Rattle.pages.specs.declared.unsynced.Unsynced.TheVariants.{Nothing};
+ghost use Rattle.pages.specs.declared.unsynced.Unsynced.TheVariants.{Nothing, Others};
 
 use crate::byte_file::ByteFile;
 use crate::store::{PageStore, StoreFault};
@@ -31,7 +31,8 @@ pub struct FileStore<F: ByteFile = SystemFile<File>> {
 
 impl<F: ByteFile> FileStore<F> {
     /// The store of a file's whole pages, of at most 2^32 - 1 pages: a rest of less than a page is
-    /// no page, and a file of more pages is refused, as is one that does not tell its length.
+    /// no page, and a file of more pages is refused, as is one that does not tell its length. Any
+    /// page may be unsynced.
     pub fn new(file: F) -> Result<FileStore<F>, StoreFault>
     where
         F: Drop,
@@ -41,6 +42,8 @@ impl<F: ByteFile> FileStore<F> {
             (⟦<FileStore<F> as PageStore>⟧.seen s).most ≡ 2 ^ 32 - 1) }
         ensures faults { IfOk result (λ s.
             (⟦<FileStore<F> as PageStore>⟧.seen s).faults ≡ 0) }
+        ensures unsynced { IfOk result (λ s.
+            (⟦<FileStore<F> as PageStore>⟧.seen s).unsynced ≡ Others) }
         ensures too_long { IfSome (F.bytes file)
             (λ xs. 2 ^ 32 ≤ length xs / 4096 → IsErr result) }
     {
@@ -72,8 +75,8 @@ impl<F: ByteFile> FileStore<F> {
 }
 
 impl<F: FileExt + OpenFile + Drop> FileStore<SystemFile<F>> {
-    /// The store in the file at a path, which is made, empty, where there is none. Refused is a
-    /// file that the system does not open or that has 2^32 pages or more.
+    /// The store in the file at a path, which is made, empty, where there is none; any page may be
+    /// unsynced. Refused is a file that the system does not open or that has 2^32 pages or more.
     pub fn open<R: Files<File = F>>(
         rt: &R,
         path: &str,
@@ -82,6 +85,8 @@ impl<F: FileExt + OpenFile + Drop> FileStore<SystemFile<F>> {
             (⟦<FileStore<SystemFile<F>> as PageStore>⟧.seen s).most ≡ 2 ^ 32 - 1) }
         ensures faults { IfOk result (λ s.
             (⟦<FileStore<SystemFile<F>> as PageStore>⟧.seen s).faults ≡ 0) }
+        ensures unsynced { IfOk result (λ s.
+            (⟦<FileStore<SystemFile<F>> as PageStore>⟧.seen s).unsynced ≡ Others) }
     {
         match SystemFile::open(rt, path) {
             Ok(file) => FileStore::new(file),
