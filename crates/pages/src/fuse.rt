@@ -1,6 +1,6 @@
 //! A store that fails on purpose.
-ghost use Rattle.std.specs.Prelude.{◌≡◌, ◌<◌, ◌≤◌, IsTrue, Some, ◌↔◌};
-ghost use Rattle.pages.specs.Store.{HasRisen, MayUnsync, Tears};
+ghost use Rattle.std.specs.Prelude.{◌≡◌, ◌≢◌, ◌<◌, ◌≤◌, ◌↔◌, Some, slice_get, IsTrue, IsErr, OnErr, OnOk};
+ghost use Rattle.pages.specs.Store.{HasRisen, Faulted, IsSynced, MayUnsync, SameUnsynced, Stays, Tears, Unsyncs, Writes};
 
 use crate::sealing::blank;
 use crate::store::{PageStore, StoreFault};
@@ -100,6 +100,7 @@ impl<S: PageStore> Fuse<S> {
 
 impl<S: PageStore> PageStore for Fuse<S> {
     ghost use Rattle.pages.specs.Store.{Store, IsLawful};
+    ghost use Rattle.pages.specs.Fuse.{inner, is_once, left_of, left_after};
 
     ghost seen = { λ s. record (S.seen s.store) { faults = s.faults } };
 
@@ -114,7 +115,23 @@ impl<S: PageStore> PageStore for Fuse<S> {
         self.store.most()
     }
 
-    fn read(&mut self, number: u32, page: &mut [u8; 4096]) -> Result<(), StoreFault> {
+    /// Reads a page of the store below, unless the fuse fails the call.
+    fn read(&mut self, number: u32, page: &mut [u8; 4096]) -> Result<(), StoreFault>
+        requires { number < (⟦<Fuse<S> as PageStore>⟧.seen self.old).count }
+        ensures fails { left_of self.old ≡ Some 0 → IsErr result }
+        ensures passes { OnErr result (left_of self.old ≢ Some 0
+            → Faulted (S.seen (inner self.old)) (S.seen (inner self.new))) }
+        ensures left { left_of self.new ≡ left_after (is_once self.old) (left_of self.old) }
+        ensures once { is_once self.new ≡ is_once self.old }
+        ensures read { OnOk result (IsTrue (⟦<Fuse<S> as PageStore>⟧.seen self.old).is_faithful
+            → slice_get (⟦<Fuse<S> as PageStore>⟧.seen self.old).pages number ≡ Some page.new) }
+        ensures stays { Stays (⟦<Fuse<S> as PageStore>⟧.seen self.old)
+            (⟦<Fuse<S> as PageStore>⟧.seen self.new) }
+        ensures unsynced { SameUnsynced (⟦<Fuse<S> as PageStore>⟧.seen self.old)
+            (⟦<Fuse<S> as PageStore>⟧.seen self.new) }
+        ensures cause { OnErr result (Faulted (⟦<Fuse<S> as PageStore>⟧.seen self.old)
+            (⟦<Fuse<S> as PageStore>⟧.seen self.new)) }
+    {
         if self.burns() {
             return Err(self.failed());
         }
@@ -124,7 +141,27 @@ impl<S: PageStore> PageStore for Fuse<S> {
         }
     }
 
-    fn write(&mut self, number: u32, page: &[u8; 4096]) -> Result<(), StoreFault> {
+    /// Writes a page of the store below, unless the fuse fails the call, and then leaves a page of
+    /// zero bytes where there is one.
+    fn write(&mut self, number: u32, page: &[u8; 4096]) -> Result<(), StoreFault>
+        requires next { number ≤ (⟦<Fuse<S> as PageStore>⟧.seen self.old).count }
+        requires room { number < (⟦<Fuse<S> as PageStore>⟧.seen self.old).most }
+        ensures fails { left_of self.old ≡ Some 0 → IsErr result }
+        ensures passes { OnErr result (left_of self.old ≢ Some 0
+            → Faulted (S.seen (inner self.old)) (S.seen (inner self.new))) }
+        ensures left { left_of self.new ≡ left_after (is_once self.old) (left_of self.old) }
+        ensures once { is_once self.new ≡ is_once self.old }
+        ensures written { OnOk result (Writes number page.now
+            (⟦<Fuse<S> as PageStore>⟧.seen self.old) (⟦<Fuse<S> as PageStore>⟧.seen self.new)) }
+        ensures unsynced { OnOk result (Unsyncs number
+            (⟦<Fuse<S> as PageStore>⟧.seen self.old) (⟦<Fuse<S> as PageStore>⟧.seen self.new)) }
+        ensures torn { OnErr result (Tears number
+            (⟦<Fuse<S> as PageStore>⟧.seen self.old) (⟦<Fuse<S> as PageStore>⟧.seen self.new)) }
+        ensures torn_unsynced { OnErr result (MayUnsync number
+            (⟦<Fuse<S> as PageStore>⟧.seen self.old) (⟦<Fuse<S> as PageStore>⟧.seen self.new)) }
+        ensures cause { OnErr result (Faulted
+            (⟦<Fuse<S> as PageStore>⟧.seen self.old) (⟦<Fuse<S> as PageStore>⟧.seen self.new)) }
+    {
         if self.burns() {
             self.spoil(number);
             return Err(self.failed());
@@ -135,7 +172,21 @@ impl<S: PageStore> PageStore for Fuse<S> {
         }
     }
 
-    fn sync(&mut self) -> Result<(), StoreFault> {
+    /// Syncs the store below, unless the fuse fails the call.
+    fn sync(&mut self) -> Result<(), StoreFault>
+        ensures fails { left_of self.old ≡ Some 0 → IsErr result }
+        ensures passes { OnErr result (left_of self.old ≢ Some 0
+            → Faulted (S.seen (inner self.old)) (S.seen (inner self.new))) }
+        ensures left { left_of self.new ≡ left_after (is_once self.old) (left_of self.old) }
+        ensures once { is_once self.new ≡ is_once self.old }
+        ensures stays { Stays (⟦<Fuse<S> as PageStore>⟧.seen self.old)
+            (⟦<Fuse<S> as PageStore>⟧.seen self.new) }
+        ensures synced { OnOk result (IsSynced (⟦<Fuse<S> as PageStore>⟧.seen self.new)) }
+        ensures unsynced { OnErr result (SameUnsynced
+            (⟦<Fuse<S> as PageStore>⟧.seen self.old) (⟦<Fuse<S> as PageStore>⟧.seen self.new)) }
+        ensures cause { OnErr result (Faulted
+            (⟦<Fuse<S> as PageStore>⟧.seen self.old) (⟦<Fuse<S> as PageStore>⟧.seen self.new)) }
+    {
         if self.burns() {
             return Err(self.failed());
         }

@@ -1,7 +1,7 @@
 //! A store in memory.
-ghost use Rattle.std.specs.Prelude.{◌≡◌, ◌<◌, ◌≤◌, ◌^◌, true, vec_len};
+ghost use Rattle.std.specs.Prelude.{◌≡◌, ◌<◌, ◌≤◌, ◌^◌, true, vec_len, Some, slice_get, IsTrue, IsOk, OnErr, OnOk};
 ghost use Rattle.std.proofs.Common.{arith};
-ghost use Rattle.pages.specs.Store.{empty_store, with_byte};
+ghost use Rattle.pages.specs.Store.{empty_store, with_byte, Faulted, IsSynced, MayUnsync, SameUnsynced, Stays, Tears, Unsyncs, Writes};
 
 use crate::store::{PageStore, StoreFault};
 use crate::unsynced::Unsynced;
@@ -69,12 +69,39 @@ impl PageStore for MemStore {
         self.most
     }
 
-    fn read(&mut self, number: u32, page: &mut [u8; 4096]) -> Result<(), StoreFault> {
+    /// Reads a page, and is never refused.
+    fn read(&mut self, number: u32, page: &mut [u8; 4096]) -> Result<(), StoreFault>
+        requires { number < (⟦<MemStore as PageStore>⟧.seen self.old).count }
+        ensures works { IsOk result }
+        ensures read { OnOk result (IsTrue (⟦<MemStore as PageStore>⟧.seen self.old).is_faithful
+            → slice_get (⟦<MemStore as PageStore>⟧.seen self.old).pages number ≡ Some page.new) }
+        ensures stays { Stays (⟦<MemStore as PageStore>⟧.seen self.old)
+            (⟦<MemStore as PageStore>⟧.seen self.new) }
+        ensures unsynced { SameUnsynced (⟦<MemStore as PageStore>⟧.seen self.old)
+            (⟦<MemStore as PageStore>⟧.seen self.new) }
+        ensures cause { OnErr result (Faulted (⟦<MemStore as PageStore>⟧.seen self.old)
+            (⟦<MemStore as PageStore>⟧.seen self.new)) }
+    {
         *page = self.pages[number as usize];
         Ok(())
     }
 
-    fn write(&mut self, number: u32, page: &[u8; 4096]) -> Result<(), StoreFault> {
+    /// Writes a page, which may be one more. Refused is only one more that finds no memory.
+    fn write(&mut self, number: u32, page: &[u8; 4096]) -> Result<(), StoreFault>
+        requires next { number ≤ (⟦<MemStore as PageStore>⟧.seen self.old).count }
+        requires room { number < (⟦<MemStore as PageStore>⟧.seen self.old).most }
+        ensures works { number < (⟦<MemStore as PageStore>⟧.seen self.old).count → IsOk result }
+        ensures written { OnOk result (Writes number page.now
+            (⟦<MemStore as PageStore>⟧.seen self.old) (⟦<MemStore as PageStore>⟧.seen self.new)) }
+        ensures unsynced { OnOk result (Unsyncs number
+            (⟦<MemStore as PageStore>⟧.seen self.old) (⟦<MemStore as PageStore>⟧.seen self.new)) }
+        ensures torn { OnErr result (Tears number
+            (⟦<MemStore as PageStore>⟧.seen self.old) (⟦<MemStore as PageStore>⟧.seen self.new)) }
+        ensures torn_unsynced { OnErr result (MayUnsync number
+            (⟦<MemStore as PageStore>⟧.seen self.old) (⟦<MemStore as PageStore>⟧.seen self.new)) }
+        ensures cause { OnErr result (Faulted
+            (⟦<MemStore as PageStore>⟧.seen self.old) (⟦<MemStore as PageStore>⟧.seen self.new)) }
+    {
         self.unsynced = self.unsynced.with_written(number);
         let place = number as usize;
         if place < self.pages.len() {
@@ -90,7 +117,17 @@ impl PageStore for MemStore {
         }
     }
 
-    fn sync(&mut self) -> Result<(), StoreFault> {
+    /// Makes what was written last, and is never refused.
+    fn sync(&mut self) -> Result<(), StoreFault>
+        ensures works { IsOk result }
+        ensures stays { Stays (⟦<MemStore as PageStore>⟧.seen self.old)
+            (⟦<MemStore as PageStore>⟧.seen self.new) }
+        ensures synced { OnOk result (IsSynced (⟦<MemStore as PageStore>⟧.seen self.new)) }
+        ensures unsynced { OnErr result (SameUnsynced
+            (⟦<MemStore as PageStore>⟧.seen self.old) (⟦<MemStore as PageStore>⟧.seen self.new)) }
+        ensures cause { OnErr result (Faulted
+            (⟦<MemStore as PageStore>⟧.seen self.old) (⟦<MemStore as PageStore>⟧.seen self.new)) }
+    {
         self.unsynced = Unsynced::Nothing;
         Ok(())
     }
