@@ -1,5 +1,5 @@
 -- What contracts see of a cache, and what a call does to it.
-use Rattle.std.specs.Prelude.{ℕ, Bool, false, ◌≡◌, ◌≢◌, ◌+◌, ◌-◌, ◌^◌, ◌<◌, ◌≤◌, ◌==◌, if◌then◌else◌, min, List, [], take, drop, Option, Some, None, option_map, option_and_then, unwrap_or, slice_get, nat_eq, IsTrue, ⊤}
+use Rattle.std.specs.Prelude.{ℕ, Bool, false, ◌≡◌, ◌≢◌, ◌⊎◌, ◌+◌, ◌-◌, ◌^◌, ◌<◌, ◌≤◌, ◌==◌, if◌then◌else◌, min, List, [], take, drop, Option, Some, None, option_map, option_and_then, unwrap_or, slice_get, nat_eq, IsTrue, ⊤}
 use Rattle.std.specs.Option.{option_or}
 use Rattle.std.specs.Map.{lookup}
 use Rattle.std.specs.Box.{box_value}
@@ -124,6 +124,12 @@ pub record Adds (w : Payload) (old new : Cache) : Type 0 where
 -- the store has as many pages as before
 abbrev pub SameLength : Cache → Cache → Type 0
 SameLength old new = new.store.count ≡ old.store.count
+
+-- the store has as many pages as before, or one more where it had as many as the cache
+abbrev pub MayGrow : Cache → Cache → Type 0
+MayGrow old new =
+    SameLength old new
+    ⊎ ((old.store.count ≡ old.count) × (new.store.count ≡ old.count + 1))
 
 -- the store failed, or memory was wanted
 abbrev pub IsStopped : CacheFault → Cache → Cache → Type 0
