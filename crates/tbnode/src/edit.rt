@@ -8,6 +8,7 @@ ghost use Rattle.tbnode.specs.Layout.{leg_bytes, entry_bytes};
 ghost use Rattle.tbnode.specs.Form.{node_of, slack_of, IsClear};
 ghost use Rattle.tbnode.specs.Edits.{TakesLeg, new_leaf, leaf_with_leg, leaf_with_next};
 ghost use Rattle.tbnode.specs.Edits.{new_inner, inner_with_entry, inner_with_wider};
+ghost use Rattle.tbnode.specs.declared.views.TheConstants.{MOST_ENTRIES};
 ghost use Rattle.tbnode.specs.Steps.{LegReadsBack, EntryReadsBack, pushed};
 
 use crate::entries::{Entry, entry_in};
@@ -95,7 +96,7 @@ pub fn init_inner(payload: &mut Payload, level: u16, entry: &Entry)
 /// Puts an entry at the end of an inner page that has room for it. No other field changes.
 pub fn push_entry(payload: &mut Payload, entry: &Entry)
     requires inner { IsSome (as_inner (node_of payload.old)) }
-    requires room { ForSome (as_inner (node_of payload.old)) (λ page. length page.entries < 72) }
+    requires room { ForSome (as_inner (node_of payload.old)) (λ page. length page.entries < MOST_ENTRIES) }
     ensures node { node_of payload.new
         ≡ option_map (inner_with_entry entry.now) (as_inner (node_of payload.old)) }
     ensures rest { slack_of payload.new ≡ drop 56 (slack_of payload.old) }

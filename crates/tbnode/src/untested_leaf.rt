@@ -2,6 +2,7 @@
 ghost use Rattle.std.specs.Prelude.{◌≡◌, length, IfSome, IsSome};
 ghost use Rattle.tbnode.specs.Form.{node_of, is_counted};
 ghost use Rattle.tbnode.specs.Nodes.{as_leaf};
+ghost use Rattle.tbnode.specs.declared.views.TheConstants.{MOST_LEGS};
 
 use crate::fields::{part, u16_at, u32_at};
 use crate::laid::{is_live_in, is_near_in, some_leg};
@@ -57,7 +58,7 @@ impl<'a> UntestedLeaf<'a> {
     pub fn len(&self) -> usize
         ensures value { OfLeaf self.now (λ leaf. result ≡ length leaf.legs) }
         ensures least { 1 ≤ result }
-        ensures most { result ≤ 50 }
+        ensures most { result ≤ MOST_LEGS }
     {
         usize::from(u16_at(&self.payload.bytes, 12))
     }

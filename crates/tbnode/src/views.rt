@@ -75,7 +75,7 @@ impl<'a> Leaf<'a> {
     pub fn len(&self) -> usize
         ensures value { result ≡ length self.now.legs }
         ensures least { 1 ≤ result }
-        ensures most { result ≤ 50 }
+        ensures most { result ≤ MOST_LEGS }
     {
         usize::from(u16_at(&self.payload.bytes, 12))
     }
@@ -155,7 +155,7 @@ impl<'a> Inner<'a> {
     pub fn len(&self) -> usize
         ensures value { result ≡ length self.now.entries }
         ensures least { 1 ≤ result }
-        ensures most { result ≤ 72 }
+        ensures most { result ≤ MOST_ENTRIES }
     {
         usize::from(u16_at(&self.payload.bytes, 2))
     }
