@@ -71,6 +71,17 @@ IsSavingStop Unfinished = ⊥
 IsSavingStop Version = ⊥
 IsSavingStop Malformed = ⊥
 
+-- the refusals over a faithful store: page 0 is damaged where it is there and has no payload, and the store is malformed
+-- where it has no page
+abbrev pub IsSavingFault : Cache → CatalogueFault → Type 0
+IsSavingFault c Memory = Unit {0}
+IsSavingFault c Store = Unit {0}
+IsSavingFault c StoreFull = Unit {0}
+IsSavingFault c (Damaged page) = (page ≡ 0) × (0 < c.count) × (payload_of c 0 ≡ None)
+IsSavingFault c Unfinished = ⊥
+IsSavingFault c Version = ⊥
+IsSavingFault c Malformed = c.count ≡ 0
+
 -- the store failed where that is said, and is full where that is said
 abbrev pub IsCaused : Cache → Cache → CatalogueFault → Type 0
 IsCaused old new Memory = Unit {0}

@@ -17,7 +17,7 @@ ghost use Rattle.header.specs.Fields.{first_of, FitsFields};
 ghost use Rattle.register.specs.ChainSteps.{IsAhead, StaysWithin};
 ghost use Rattle.register.specs.Earlier.{AddsFew, AreEarlier, HasNoRoom};
 ghost use Rattle.register.specs.Saved.{dimension_of, fields_for, head_of, Continues, IsWrittenButFirst, KeepsFront, SparesTree};
-ghost use Rattle.register.specs.Saving.{contents_of, end_of, feature_at, features_of, wanted, HasFew, HasPageZero, IsSavingStop, IsCatalogue, IsCaused, IsNotWritten, KeepsTree, Puts, PutsFields, Saves};
+ghost use Rattle.register.specs.Saving.{contents_of, end_of, feature_at, features_of, wanted, HasFew, HasPageZero, IsSavingFault, IsSavingStop, IsCatalogue, IsCaused, IsNotWritten, KeepsTree, Puts, PutsFields, Saves};
 ghost use Rattle.register.specs.declared.fault.CatalogueFault.TheVariants.{Malformed};
 ghost use Rattle.register.specs.Text.{catalogue_text, feature_text, features_text, head_text, lists_text, row_text, rows_text, HasFeatures, IsFeature, IsHead, IsNumber, IsShortText, IsWhole};
 
@@ -269,9 +269,11 @@ fn earlier_page<S: PageStore>(cache: &mut PageCache<S>) -> Result<u32, Catalogue
     ensures first { IfOk result (λ page. IsTrue cache.old.store.is_faithful → (payload : Payload)
         → payload_of cache.old 0 ≡ Some payload → page ≡ first_of payload) }
     ensures some { OnOk result (0 < cache.old.count) }
+    ensures there { OnOk result (HasPageZero cache.old) }
     ensures reads { OnlyReads cache.old cache.new }
     ensures only { IsTrue cache.old.store.is_faithful → 0 < cache.old.count
         → HasPageZero cache.old → IfErr result IsSavingStop }
+    ensures named { IsTrue cache.old.store.is_faithful → IfErr result (IsSavingFault cache.old) }
     ensures caused { IfErr result (IsCaused cache.old cache.new) }
     ensures room { IfErr result (λ fault. wanted fault ≡ 0) }
 {
@@ -434,7 +436,8 @@ fn fields_for(catalogue: &Catalogue, tree: TbTree, first: u32, length: u64) -> F
 /// and synced; and in page 0, which is not written yet, where it is, with the limits and the tree.
 /// How page 0 begins stays, finished or not, and so do the pages of the tree.
 ///
-/// Refused for want of memory, and where the store fails or is full; page 0 stays then.
+/// Refused for want of memory, and where the store fails or is full; page 0 stays then. Where page 0 is damaged, it is
+/// named, and a store without a page is malformed.
 pub fn keep<S: PageStore>(
     alloc: Global,
     catalogue: &Catalogue,
@@ -455,6 +458,7 @@ pub fn keep<S: PageStore>(
         → page_of cache.new 0 ≡ page_of cache.old 0 }
     ensures first_unmarked { OnErr result (0 < cache.old.count
         → is_changed cache.old 0 ≡ false → is_changed cache.new 0 ≡ false) }
+    ensures some { OnOk result (0 < cache.old.count) }
     ensures later { Continues cache.old cache.new }
     ensures tree { SparesTree cache.old cache.new }
     ensures length { OnOk result (KeepsLength cache.old cache.new) }
@@ -469,6 +473,8 @@ pub fn keep<S: PageStore>(
     ensures synced { OnOk result (IsSynced cache.new.store) }
     ensures only { HasFew catalogue.now → IsTrue cache.old.store.is_faithful
         → 0 < cache.old.count → HasPageZero cache.old → IfErr result IsSavingStop }
+    ensures named { HasFew catalogue.now → IsTrue cache.old.store.is_faithful
+        → IfErr result (IsSavingFault cache.old) }
     ensures caused { IfErr result (IsCaused cache.old cache.new) }
 {
     let earlier = earlier_page(cache)?;
