@@ -14,10 +14,11 @@ use Rattle.tbtree.specs.Shape.{IsShape}
 use Rattle.tbtree.specs.declared.tree.Place.{Place}
 use Rattle.tbtree.specs.declared.tree.TbTree.{TbTree}
 use Rattle.register.specs.Chain.{most_used}
+use Rattle.register.specs.ChainSteps.{Spares}
 use Rattle.register.specs.ChainWriter.{HasText}
 use Rattle.header.specs.Fields.{FitsFields, HasFields}
 use Rattle.register.specs.Lasting.{Says}
-use Rattle.register.specs.Saved.{fields_for, CatalogueView, KeepsFront, SparesTree}
+use Rattle.register.specs.Saved.{fields_for, CatalogueView, KeepsFront}
 use Rattle.register.specs.Saving.{contents_of, KeepsTree, PutsFields}
 use Rattle.register.specs.Text.{catalogue_text}
 use Rattle.header.specs.declared.header_fields.Fields.{Fields}
@@ -28,11 +29,14 @@ not_first : (n : ℕ) → 0 < n → (0 == n) ≡ false
 not_first n h = grind (arith, nat_tests, h)
 
 -- pages that are only read
-pub reads_spare : (a b : Cache) → OnlyReads a b → SparesTree a b
+pub reads_spare : (a b : Cache) → OnlyReads a b → Spares a b
 reads_spare a b r = λ f. record {
-  count = (let n = r.count in omega (arith, n));
-  held = λ p l e. ((let n = r.count in omega (arith, n, l)), ap (option_map node_of) (sym (r.payloads f p)) ∙ e);
-  rest = λ p h. ap (λ o. node_in (option_map node_of o)) (r.payloads f p);
+  tree = record {
+    count = (let n = r.count in omega (arith, n));
+    held = λ p l e. ((let n = r.count in omega (arith, n, l)), ap (option_map node_of) (sym (r.payloads f p)) ∙ e);
+    rest = λ p h. ap (λ o. node_in (option_map node_of o)) (r.payloads f p);
+  };
+  others = λ p v h e k. r.payloads f p ∙ e;
 }
 
 pub not_zero : (n : ℕ) → 1 ≤ n → 0 ≢ n
@@ -48,19 +52,22 @@ module _ (c d : Cache) (fields : Fields) (puts : PutsFields fields c d) where
   pub puts_length : KeepsLength c d
   puts_length e = puts.lends.writes.count ∙ e ∙ sym puts.lends.length
 
-  pub puts_spare : SparesTree c d
+  pub puts_spare : Spares c d
   puts_spare f =
       let count = puts.lends.writes.count in
       record {
-        count = omega (arith, count);
-        held = λ p l e. (
-          omega (arith, count, l),
-          ⊎_elim
-              (λ (h : 0 < p). ap (option_map node_of) (sym (other f p h)) ∙ e)
-              (λ (h : p ≤ 0). let z : 0 ≡ p = omega (arith, h) in absurd (some_none (node_of puts.now) (sym (ap (option_map node_of) (now_is f)) ∙ ap (λ k. option_map node_of (payload_of d k)) z ∙ e)))
-              (cases_lt 0 p),
-        );
-        rest = λ p h. ap (λ o. node_in (option_map node_of o)) (other f p h);
+        tree = record {
+          count = omega (arith, count);
+          held = λ p l e. (
+            omega (arith, count, l),
+            ⊎_elim
+                (λ (h : 0 < p). ap (option_map node_of) (sym (other f p h)) ∙ e)
+                (λ (h : p ≤ 0). let z : 0 ≡ p = omega (arith, h) in absurd (some_none (node_of puts.now) (sym (ap (option_map node_of) (now_is f)) ∙ ap (λ k. option_map node_of (payload_of d k)) z ∙ e)))
+                (cases_lt 0 p),
+          );
+          rest = λ p h. ap (λ o. node_in (option_map node_of o)) (other f p h);
+        };
+        others = λ p v h e k. other f p h ∙ e;
       }
 
   puts_count : d.count ≡ c.count
@@ -100,9 +107,9 @@ module _ (c d : Cache) (fields : Fields) (puts : PutsFields fields c d) where
           text = text (payload_of d) (other fc) ∙ ap (λ l. Some (catalogue_text (contents_of catalogue l))) (sym same_places);
         }
 
--- whatever is answered, the pages of a tree say what they said
-pub all_spare : {T E : Type 0} (a b x d : Cache) (fields : Fields) (r : Result T E) → OnlyReads a b → KeepsTree b x → OnOk r (PutsFields fields x d) → OnErr r (Rests x d) → SparesTree a d
+-- whatever is answered, the pages that are none of a catalogue's say what they said
+pub all_spare : {T E : Type 0} (a b x d : Cache) (fields : Fields) (r : Result T E) → OnlyReads a b → KeepsTree b x → OnOk r (PutsFields fields x d) → OnErr r (Rests x d) → Spares a d
 all_spare a b x d fields r reads kept puts rests = spares_then a x d (kept.passes.store.faithful ∙ reads.store.faithful) (spares_then a b x reads.store.faithful (reads_spare a b reads) kept.tree) (last r puts rests) where
-  last : {T E : Type 0} (r : Result T E) → OnOk r (PutsFields fields x d) → OnErr r (Rests x d) → SparesTree x d
+  last : {T E : Type 0} (r : Result T E) → OnOk r (PutsFields fields x d) → OnErr r (Rests x d) → Spares x d
   last (Ok v) puts rests = puts_spare x d fields puts
   last (Err e) puts rests = stays_spares x d rests.stays

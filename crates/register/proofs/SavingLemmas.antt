@@ -10,20 +10,17 @@ use Rattle.pagecache.specs.Cache.{Cache, IsRefused}
 use Rattle.pagecache.specs.declared.fault.CacheFault.{CacheFault}
 use Rattle.pagecache.specs.declared.fault.CacheFault.TheVariants as cache
 use Rattle.register.specs.ChainReader.{fault_of}
-use Rattle.tbtree.specs.Descent.{IsSameTree}
-use Rattle.tbtree.specs.Nodes.{Pages, pages_of_cache}
 use Rattle.tbtree.specs.Passes.{Passes}
-use Rattle.legs.specs.Boxes.{BoxView}
-use Rattle.legs.specs.Legs.{LegView}
 use Rattle.register.specs.Chain.{pages_for}
-use Rattle.register.specs.ChainSteps.{lacked, Reuses, StaysWithin}
+use Rattle.register.specs.ChainSteps.{lacked, Reuses, Spares, StaysWithin}
 use Rattle.register.specs.ChainWriter.{Holds, IsAllowed, WriterView, IsCaused as IsCausedThere}
 use Rattle.register.proofs.ReuseLemmas.{reuses_refl, reuses_then}
+use Rattle.register.proofs.SpareLemmas.{pages_refl, pages_trans}
 use Rattle.register.proofs.WithinLemmas.{pages_for_more, pages_more, wanted_same, within_held, within_more}
 use Rattle.std.specs.Option.{option_map}
 use Rattle.legs.specs.declared.head.BookHead.{BookHead}
 use Rattle.tbtree.specs.declared.tree.Place.{Place}
-use Rattle.register.specs.Saved.{head_of, CatalogueView, SparesTree}
+use Rattle.register.specs.Saved.{head_of, CatalogueView}
 use Rattle.register.specs.Text.{HasFeatures, IsHead, IsNumber, IsRow, IsShortText, IsWhole}
 use Rattle.register.specs.Saving.{contents_of, features_of, wanted, HasPageZero, IsSavingStop, IsCatalogue, IsCaused, KeepsTree, Puts, Saves}
 use Rattle.register.specs.declared.fault.CatalogueFault.{CatalogueFault}
@@ -53,16 +50,6 @@ passes_trans a b c p q =
       written = λ f h u. q.written (p.store.faithful ∙ f) (omega (arith, more, h)) (p.unmarked h u) ∙ p.written f h u;
     }
 
-same_tree_refl : (a : Pages LegView BoxView) → IsSameTree a a
-same_tree_refl a = record { count = omega arith; held = λ p l e. (l, e); rest = λ p h. refl }
-
-same_tree_trans : (a b c : Pages LegView BoxView) → IsSameTree a b → IsSameTree b c → IsSameTree a c
-same_tree_trans a b c p q = record {
-  count = omega (arith, p.count, q.count);
-  held = λ n l e. let x = q.held n l e in p.held n x.0 x.1;
-  rest = λ n h. q.rest n h ∙ p.rest n h;
-}
-
 -- a text that is not written yet grows
 grown : (c : Cache) (w : WriterView) (bytes text : List ℕ) → Holds c w text → Holds c (record w { text = w.text ++ bytes }) (text ++ bytes)
 grown c w bytes text h f =
@@ -84,7 +71,7 @@ pushed_only bytes c w v e = record {
     passes = passes_refl c;
     holds = λ text h. subst (λ v. Holds c v (text ++ bytes)) (sym e) (grown c w bytes text h);
     length = λ e. e;
-    tree = λ text h f. same_tree_refl (pages_of_cache c);
+    tree = λ text h f. pages_refl c;
     reuses = subst (λ (v : WriterView). Reuses c w.pages w.earlier c v.pages v.earlier) (sym e) (reuses_refl c w.pages w.earlier);
     caused = tt;
     within = tt;
@@ -107,7 +94,7 @@ puts_then first second a b c w v u (Ok x) p q = record {
   passes = passes_trans a b c p.passes q.passes;
   holds = λ text h. subst (λ t. Holds c u t) (append_assoc text first second) (q.holds (text ++ first) (p.holds text h));
   length = λ e. q.length (p.length e);
-  tree = λ text h f. same_tree_trans (pages_of_cache a) (pages_of_cache b) (pages_of_cache c) (p.tree text h f) (q.tree (text ++ first) (p.holds text h) (p.passes.store.faithful ∙ f));
+  tree = λ text h f. pages_trans a b c (p.tree text h f) (q.tree (text ++ first) (p.holds text h) (p.passes.store.faithful ∙ f));
   reuses = reuses_then a b c w.pages v.pages u.pages w.earlier v.earlier u.earlier p.reuses q.reuses;
   caused = tt;
   within = tt;
@@ -116,7 +103,7 @@ puts_then first second a b c w v u (Err e) p q = record {
   passes = passes_trans a b c p.passes q.passes;
   holds = tt;
   length = tt;
-  tree = λ text h f. same_tree_trans (pages_of_cache a) (pages_of_cache b) (pages_of_cache c) (p.tree text h f) (q.tree (text ++ first) (p.holds text h) (p.passes.store.faithful ∙ f));
+  tree = λ text h f. pages_trans a b c (p.tree text h f) (q.tree (text ++ first) (p.holds text h) (p.passes.store.faithful ∙ f));
   reuses = tt;
   caused = caused_after a b c e p.passes q.caused;
   within = λ text h. subst (λ t. StaysWithin (pages_for t) a w.pages w.earlier c (wanted e)) (append_assoc text first second)
@@ -156,7 +143,7 @@ caused_saving a b cache.StoreFull h = h
 caused_saving a b cache.Memory h = tt
 
 -- the pages that a text fills are not all written
-pub refused_text : (a d : Cache) (w v : WriterView) (e : CacheFault) (f : CatalogueFault) → f ≡ fault_of e → Passes a d → ((text : List ℕ) → Holds a w text → SparesTree a d) → ((text : List ℕ) → Holds a w text → IsTrue a.store.is_faithful → IsAllowed e) → IsCausedThere a d e
+pub refused_text : (a d : Cache) (w v : WriterView) (e : CacheFault) (f : CatalogueFault) → f ≡ fault_of e → Passes a d → ((text : List ℕ) → Holds a w text → Spares a d) → ((text : List ℕ) → Holds a w text → IsTrue a.store.is_faithful → IsAllowed e) → IsCausedThere a d e
     → ((text : List ℕ) → Holds a w text → StaysWithin (pages_for text) a w.pages w.earlier d (lacked e)) → Saves [] a d w v (Err f)
 refused_text a d w v e f is passes tree only caused within = record {
   puts = record {
@@ -231,17 +218,17 @@ pub guarded_error : {T E : Type 0} (P : E → Type 0) (r : Result T E) (e : E) �
 guarded_error P r e is h = subst (λ r. OnErr r (IfErr r P)) is h
 
 -- a text begun, put together and written
-module _ (bytes : List ℕ) (a b c d : Cache) (w v : WriterView) (begun : Passes a b) (held : Holds b w []) (spared : SparesTree a b) (put : Puts bytes b c w v (Ok tt)) where
+module _ (bytes : List ℕ) (a b c d : Cache) (w v : WriterView) (begun : Passes a b) (held : Holds b w []) (spared : Spares a b) (put : Puts bytes b c w v (Ok tt)) where
   holds_all : Holds c v ([] ++ bytes)
   holds_all = put.holds [] held
 
-  pub whole_kept : Passes c d → ((text : List ℕ) → Holds c v text → SparesTree c d) → KeepsTree a d
+  pub whole_kept : Passes c d → ((text : List ℕ) → Holds c v text → Spares c d) → KeepsTree a d
   whole_kept last tree = record {
     passes = passes_trans a c d (passes_trans a b c begun put.passes) last;
     tree = λ f.
         let fb = begun.store.faithful ∙ f in
-        same_tree_trans (pages_of_cache a) (pages_of_cache c) (pages_of_cache d)
-        (same_tree_trans (pages_of_cache a) (pages_of_cache b) (pages_of_cache c) (spared f) (put.tree [] held fb))
+        pages_trans a c d
+        (pages_trans a b c (spared f) (put.tree [] held fb))
         (tree ([] ++ bytes) holds_all (put.passes.store.faithful ∙ fb));
   }
 

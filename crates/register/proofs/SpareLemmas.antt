@@ -17,8 +17,7 @@ use Rattle.tbtree.specs.Descent.{IsSameTree, node_in}
 use Rattle.tbtree.specs.Nodes.{Pages, pages_of_cache}
 use Rattle.tbtree.specs.Passes.{Passes, KeepsLength}
 use Rattle.register.specs.Chain.{part_payload}
-use Rattle.register.specs.ChainSteps.{Fills, Gives, PayloadsStay}
-use Rattle.register.specs.Saved.{SparesTree}
+use Rattle.register.specs.ChainSteps.{Fills, Gives, PayloadsStay, Spares, SparesPages}
 use Rattle.register.specs.ChainWriter.{IsCaused}
 
 -- a step that is passed on is caused by what came before it too
@@ -69,9 +68,15 @@ fills_passes a b n w above l = record {
   written = λ f h u. l.writes.keeps.written f 0 h u;
 }
 
--- the pages of a tree
-pub spares_refl : (a : Cache) → SparesTree a a
-spares_refl a = λ f. record { count = omega arith; held = λ p h e. (h, e); rest = λ p h. refl }
+-- the pages that are none of a catalogue's
+pub pages_refl : (a : Cache) → SparesPages a a
+pages_refl a = record {
+  tree = record { count = omega arith; held = λ p h e. (h, e); rest = λ p h. refl };
+  others = λ p v h e k. e;
+}
+
+pub spares_refl : (a : Cache) → Spares a a
+spares_refl a = λ f. pages_refl a
 
 same_trans : (a b c : Pages LegView BoxView) → IsSameTree a b → IsSameTree b c → IsSameTree a c
 same_trans a b c s t = record {
@@ -80,17 +85,26 @@ same_trans a b c s t = record {
   rest = λ p h. t.rest p h ∙ s.rest p h;
 }
 
-pub spares_then : (a b c : Cache) → b.store.is_faithful ≡ a.store.is_faithful → SparesTree a b → SparesTree b c → SparesTree a c
-spares_then a b c same s t = λ f. same_trans _ _ _ (s f) (t (same ∙ f))
+pub pages_trans : (a b c : Cache) → SparesPages a b → SparesPages b c → SparesPages a c
+pages_trans a b c s t = record {
+  tree = same_trans (pages_of_cache a) (pages_of_cache b) (pages_of_cache c) s.tree t.tree;
+  others = λ p v h e k. t.others p v h (s.others p v h e k) k;
+}
 
-pub spares_trans : (a b c : Cache) → Passes a b → SparesTree a b → SparesTree b c → SparesTree a c
+pub spares_then : (a b c : Cache) → b.store.is_faithful ≡ a.store.is_faithful → Spares a b → Spares b c → Spares a c
+spares_then a b c same s t = λ f. pages_trans a b c (s f) (t (same ∙ f))
+
+pub spares_trans : (a b c : Cache) → Passes a b → Spares a b → Spares b c → Spares a c
 spares_trans a b c p s t = spares_then a b c p.store.faithful s t
 
-pub stays_spares : (a b : Cache) → KeepsPayloads a b → SparesTree a b
+pub stays_spares : (a b : Cache) → KeepsPayloads a b → Spares a b
 stays_spares a b s = λ f. record {
-  count = (let c = s.count in omega (arith, c));
-  held = λ p h e. ((let c = s.count in omega (arith, c, h)), ap (option_map node_of) (sym (s.payloads f p)) ∙ e);
-  rest = λ p h. ap (λ o. node_in (option_map node_of o)) (s.payloads f p);
+  tree = record {
+    count = (let c = s.count in omega (arith, c));
+    held = λ p h e. ((let c = s.count in omega (arith, c, h)), ap (option_map node_of) (sym (s.payloads f p)) ∙ e);
+    rest = λ p h. ap (λ o. node_in (option_map node_of o)) (s.payloads f p);
+  };
+  others = λ p v h e k. s.payloads f p ∙ e;
 }
 
 -- a payload that says no node
@@ -149,20 +163,31 @@ module _ (a b : Cache) (n : ℕ) (w : Payload) (now : (m : ℕ) → payload_of b
         (eqb_tells n p);
   }
 
-pub adds_spares : (a b : Cache) (w : Payload) → node_of w ≡ None → payload_of a a.count ≡ None → Adds w a b → SparesTree a b
-adds_spares a b w e none s = λ f. spared_more a b a.count w (s.payloads f) e (ap (λ o. node_in (option_map node_of o)) none) refl s.count
-
-pub fills_spares : (a b : Cache) (n : ℕ) (next : ℕ) (text : _) (v : Payload) → v.kind ≡ Catalogue → (IsTrue a.store.is_faithful → payload_of a n ≡ Some v) → Fills n (part_payload next text) a b → SparesTree a b
-fills_spares a b n next text v k at l = λ f.
-    spared a b n (part_payload next text) (l.writes.payloads f) (node_of-part next text)
-    (ap (λ o. node_in (option_map node_of o)) (at f) ∙ node_of-catalogue v k) (sym l.writes.count)
-
-pub stays_stay : (a b : Cache) → KeepsPayloads a b → PayloadsStay a b
-stays_stay a b s = λ f p v e. s.payloads f p ∙ e
-
 pub adds_stay : (a b : Cache) (w : Payload) → payload_of a a.count ≡ None → Adds w a b → PayloadsStay a b
 adds_stay a b w none s = λ f p v e.
     s.payloads f p ∙ ap (λ t. cond t (Some w) (payload_of a p)) (no_page a.count p (λ at. some_none v (sym e ∙ ap (payload_of a) (sym at) ∙ none))) ∙ e
+
+pub adds_spares : (a b : Cache) (w : Payload) → node_of w ≡ None → payload_of a a.count ≡ None → Adds w a b → Spares a b
+adds_spares a b w e none s = λ f. record {
+  tree = spared_more a b a.count w (s.payloads f) e (ap (λ o. node_in (option_map node_of o)) none) refl s.count;
+  others = λ p v h is k. adds_stay a b w none s f p v is;
+}
+
+one_kind : (v u : Payload) → Some v ≡ Some u → v.kind ≡ Catalogue → u.kind ≡ Catalogue
+one_kind v u e k = let same : v ≡ u = cc in sym (ap (λ (x : Payload). x.kind) same) ∙ k
+
+pub fills_spares : (a b : Cache) (n : ℕ) (next : ℕ) (text : _) (v : Payload) → v.kind ≡ Catalogue → (IsTrue a.store.is_faithful → payload_of a n ≡ Some v) → Fills n (part_payload next text) a b → Spares a b
+fills_spares a b n next text v k at l = λ f.
+    let before = ap (λ o. node_in (option_map node_of o)) (at f) ∙ node_of-catalogue v k in
+    record {
+      tree = spared a b n (part_payload next text) (l.writes.payloads f) (node_of-part next text) before (sym l.writes.count);
+      others = λ p u h e other.
+          elsewhere a b n (part_payload next text) (l.writes.payloads f) (node_of-part next text) before p
+          (λ z. other (one_kind v u (sym (at f) ∙ ap (payload_of a) z ∙ e) k)) ∙ e;
+    }
+
+pub stays_stay : (a b : Cache) → KeepsPayloads a b → PayloadsStay a b
+stays_stay a b s = λ f p v e. s.payloads f p ∙ e
 
 pub stay_trans : (a b c : Cache) → Passes a b → PayloadsStay a b → PayloadsStay b c → PayloadsStay a c
 stay_trans a b c p s t = λ f n v e. t (p.store.faithful ∙ f) n v (s f n v e)

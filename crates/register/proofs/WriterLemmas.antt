@@ -15,8 +15,7 @@ use Rattle.tbtree.specs.Passes.{Passes}
 use Rattle.register.proofs.SpareLemmas.{is_page, no_page, fills_spares, spares_trans, stays_spares}
 use Rattle.register.proofs.ChainLemmas.{pages_of, text_is_at, written_length}
 use Rattle.register.specs.Chain.{most_used, part_payload, text_at}
-use Rattle.register.specs.ChainSteps.{Fills, Gives, IsNumber, IsPutBehind, OnlyAsks}
-use Rattle.register.specs.Saved.{SparesTree}
+use Rattle.register.specs.ChainSteps.{Fills, Gives, IsNumber, IsPutBehind, OnlyAsks, Spares}
 use Rattle.register.specs.ChainWriter.{AreWritten, HasText, Holds, HoldsText, IsOwn, WriterView}
 
 -- a number that none of a list reaches is none of them
@@ -119,7 +118,7 @@ module _ (a b d : Cache) (w : WriterView) (l page : ℕ) (part : List ℕ) (give
       let f : IsTrue a.store.is_faithful = sym passes.store.faithful ∙ sym lends.writes.keeps.store.faithful ∙ fd in
       step lends f earlier rest keys text puts is len some (h f)
 
-  pub tree_step : {T E : Type 0} (r : Result T E) (text : List ℕ) → 0 < length w.pages → SparesTree a b → OnOk r (Fills l (part_payload page part) b d) → OnErr r (OnlyAsks b d) → Holds a w text → SparesTree a d
+  pub tree_step : {T E : Type 0} (r : Result T E) (text : List ℕ) → 0 < length w.pages → Spares a b → OnOk r (Fills l (part_payload page part) b d) → OnErr r (OnlyAsks b d) → Holds a w text → Spares a d
   tree_step (Ok x) text some tree lends rests h = λ f.
       let o : IsOwn (payload_of a) l = subst (IsOwn (payload_of a)) (sym at) ((h f).own (length w.pages - 1) 0 (omega (arith, some))) in
       spares_trans a b d passes tree (fills_spares b d l page part o.payload o.kind (λ _. gives.stay f l o.payload o.is) lends) f
@@ -149,8 +148,8 @@ module _ (a b d : Cache) (v : WriterView) (l page done k : ℕ) (ks items bytes 
       (subst (λ t. Fills l (part_payload page t) b d) part_is lends)
       (subst (λ ks. All (λ p. p < a.count) ks → IsPutBehind ks page keys) pages puts) (cut done 4040 v.text) len (omega (arith, y, more)) h)
 
-  pub part_tree : {T E : Type 0} (r : Result T E) (text : List ℕ) → 0 < length v.pages → SparesTree a b → OnOk r (Fills l (part_payload page (take k (drop done bytes))) b d) → OnErr r (OnlyAsks b d)
-      → Holds a (record v { text = drop done v.text }) text → SparesTree a d
+  pub part_tree : {T E : Type 0} (r : Result T E) (text : List ℕ) → 0 < length v.pages → Spares a b → OnOk r (Fills l (part_payload page (take k (drop done bytes))) b d) → OnErr r (OnlyAsks b d)
+      → Holds a (record v { text = drop done v.text }) text → Spares a d
   part_tree r text some tree lends rests h = tree_step a b d (record v { text = drop done v.text }) l page (take k (drop done bytes)) gives passes at r text some tree lends rests h
 
 among_below : (xs : List ℕ) (q n : ℕ) → All (λ p. p < n) xs → list_any (nat_eq q) xs ≡ true → q < n
@@ -244,7 +243,7 @@ pub pages_taken : (c : Cache) (w : WriterView) (text : List ℕ) → length w.te
 pages_taken c w text short h some f = counted_pages (payload_of c) c.count w.pages w.earlier w.text text short some (h f)
 
 -- so is a page that is the last one
-pub last_tree : (a d : Cache) (w : WriterView) (l next : ℕ) (bytes text : List ℕ) → l ≡ get_or w.pages (length w.pages - 1) 0 → 0 < length w.pages → Fills l (part_payload next bytes) a d → Holds a w text → SparesTree a d
+pub last_tree : (a d : Cache) (w : WriterView) (l next : ℕ) (bytes text : List ℕ) → l ≡ get_or w.pages (length w.pages - 1) 0 → 0 < length w.pages → Fills l (part_payload next bytes) a d → Holds a w text → Spares a d
 last_tree a d w l next bytes text at some lends h = λ f.
     let o : IsOwn (payload_of a) l = subst (IsOwn (payload_of a)) (sym at) ((h f).own (length w.pages - 1) 0 (omega (arith, some))) in
     fills_spares a d l next bytes o.payload o.kind (λ _. o.is) lends f

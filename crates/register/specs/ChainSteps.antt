@@ -8,7 +8,9 @@ use Rattle.pagecache.specs.declared.fault.CacheFault.TheVariants as cache
 use Rattle.tbtree.specs.Passes.{Passes, KeepsLength}
 use Rattle.register.specs.ChainWriter.{Holds, IsOwn, WriterView}
 use Rattle.register.specs.Earlier.{AreLinked}
-use Rattle.register.specs.Saved.{SparesTree}
+use Rattle.tbtree.specs.Descent.{IsSameTree}
+use Rattle.tbtree.specs.Nodes.{pages_of_cache}
+use Rattle.register.specs.Saved.{OthersStay}
 
 -- the number of a page above page 0, in four bytes
 pub record IsNumber (page : ℕ) : Type 0 where
@@ -30,6 +32,14 @@ abbrev pub PayloadsStay : Cache → Cache → Type 0
 PayloadsStay old new =
     IsTrue old.store.is_faithful → (p : ℕ) (payload : Payload) → payload_of old p ≡ Some payload
     → payload_of new p ≡ Some payload
+
+-- the pages of a tree say what they said, and the pages that are none of a catalogue's have their payloads
+pub record SparesPages (old new : Cache) : Type 0 where
+  pub tree : IsSameTree (pages_of_cache old) (pages_of_cache new)
+  pub others : OthersStay (payload_of old) (payload_of new)
+
+abbrev pub Spares : Cache → Cache → Type 0
+Spares old new = IsTrue old.store.is_faithful → SparesPages old new
 
 -- page n is there, and one of a catalogue
 pub record IsThere (c : Cache) (n : ℕ) : Type 0 where
@@ -111,5 +121,5 @@ pub record WritesParts (old : Cache) (v : WriterView) (n : ℕ) (new : Cache)
   pub holds : (text : List ℕ) → Holds old v text → Holds new (behind n w) text
   pub passes : Passes old new
   pub length : KeepsLength old new
-  pub tree : (text : List ℕ) → Holds old v text → SparesTree old new
+  pub tree : (text : List ℕ) → Holds old v text → Spares old new
   pub reuses : Reuses old v.pages v.earlier new w.pages w.earlier

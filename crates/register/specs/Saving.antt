@@ -14,9 +14,9 @@ use Rattle.tbtree.specs.Passes.{KeepsLength, Passes}
 use Rattle.tbtree.specs.Stands.{no_place}
 use Rattle.tbtree.specs.declared.tree.Place.{Place}
 use Rattle.register.specs.Chain.{pages_for}
-use Rattle.register.specs.ChainSteps.{Reuses, StaysWithin}
+use Rattle.register.specs.ChainSteps.{Reuses, Spares, StaysWithin}
 use Rattle.register.specs.ChainWriter.{Holds, WriterView}
-use Rattle.register.specs.Saved.{head_of, CatalogueView, SparesTree}
+use Rattle.register.specs.Saved.{head_of, CatalogueView}
 use Rattle.register.specs.declared.contents.Contents.{Contents}
 use Rattle.register.specs.declared.contents.Feature.{Feature}
 use Rattle.register.specs.declared.fault.CatalogueFault.{CatalogueFault}
@@ -118,7 +118,7 @@ pub record Puts (bytes : List ℕ) (old new : Cache) (w v : WriterView)
   pub passes : Passes old new
   pub holds : OnOk result ((text : List ℕ) → Holds old w text → Holds new v (text ++ bytes))
   pub length : OnOk result (KeepsLength old new)
-  pub tree : (text : List ℕ) → Holds old w text → SparesTree old new
+  pub tree : (text : List ℕ) → Holds old w text → Spares old new
   pub reuses : OnOk result (Reuses old w.pages w.earlier new v.pages v.earlier)
   pub caused : IfErr result (IsCaused old new)
   pub within : IfErr result (λ fault. (text : List ℕ) → Holds old w text
@@ -146,7 +146,8 @@ pub record PutsFields (fields : Fields) (old new : Cache) : Type 0 where
   pub front : take 12 now.bytes ≡ take 12 was.bytes
   pub rest : drop 60 now.bytes ≡ drop 60 was.bytes
 
--- whatever is answered: page 0 is as it was, and the pages of a tree say what they said
+-- whatever is answered: page 0 is as it was, the pages of a tree say what they said, and the pages that are none of a
+-- catalogue's have their payloads
 pub record KeepsTree (old new : Cache) : Type 0 where
   pub passes : Passes old new
-  pub tree : SparesTree old new
+  pub tree : Spares old new

@@ -7,8 +7,7 @@ ghost use Rattle.tbtree.specs.Passes.{Passes, KeepsLength};
 ghost use Rattle.indexmap.specs.IndexSet.{insert_key, contains, spare};
 ghost use Rattle.pages.specs.declared.payload.Payload.{Payload};
 ghost use Rattle.register.specs.Chain.{next_in, part_payload};
-ghost use Rattle.register.specs.ChainSteps.{lacked, AreNumbers, Fills, IsAhead, IsNumber, IsPutBehind, Gives, IsThere, OnlyAsks, PayloadsStay, Reuses, StaysWithin};
-ghost use Rattle.register.specs.Saved.{SparesTree};
+ghost use Rattle.register.specs.ChainSteps.{lacked, AreNumbers, Fills, IsAhead, IsNumber, IsPutBehind, Gives, IsThere, OnlyAsks, PayloadsStay, Reuses, Spares, StaysWithin};
 ghost use Rattle.register.specs.ChainWriter.{IsAllowed, IsCaused};
 
 use indexmap::IndexSet;
@@ -142,7 +141,7 @@ fn following<S: PageStore>(cache: &mut PageCache<S>, page: u32) -> Result<Option
 fn add_first<S: PageStore>(cache: &mut PageCache<S>) -> Result<(), CacheFault>
     ensures some { OnOk result (0 < cache.new.count) }
     ensures passes { Passes cache.old cache.new }
-    ensures tree { SparesTree cache.old cache.new }
+    ensures tree { Spares cache.old cache.new }
     ensures length { OnOk result (KeepsLength cache.old cache.new) }
     ensures stay { PayloadsStay cache.old cache.new }
     ensures none { 0 < cache.old.count → cache.new.count ≡ cache.old.count }
@@ -178,7 +177,7 @@ fn add_above<S: PageStore>(cache: &mut PageCache<S>) -> Result<u32, CacheFault>
     ensures one { OnOk result (0 < cache.old.count → cache.new.count ≡ cache.old.count + 1) }
     ensures none { OnErr result (0 < cache.old.count → cache.new.count ≡ cache.old.count) }
     ensures passes { Passes cache.old cache.new }
-    ensures tree { SparesTree cache.old cache.new }
+    ensures tree { Spares cache.old cache.new }
     ensures only { IfErr result IsAllowed }
     ensures caused { IfErr result (IsCaused cache.old cache.new) }
 {
@@ -207,7 +206,7 @@ fn reused<S: PageStore>(
     ensures count { cache.new.count ≡ cache.old.count }
     ensures stay { PayloadsStay cache.old cache.new }
     ensures passes { Passes cache.old cache.new }
-    ensures tree { SparesTree cache.old cache.new }
+    ensures tree { Spares cache.old cache.new }
     ensures only { IfErr result IsAllowed }
     ensures caused { IfErr result (IsCaused cache.old cache.new) }
     ensures room { IfErr result (λ fault. lacked fault ≡ 0) }
@@ -233,7 +232,7 @@ fn next_page<S: PageStore>(
     ensures within { IfErr result (λ fault. StaysWithin (length pages.now.keys + 1)
         cache.old pages.now.keys earlier cache.new (lacked fault)) }
     ensures passes { Passes cache.old cache.new }
-    ensures tree { SparesTree cache.old cache.new }
+    ensures tree { Spares cache.old cache.new }
     ensures only { IfErr result IsAllowed }
     ensures caused { IfErr result (IsCaused cache.old cache.new) }
 {
@@ -271,7 +270,7 @@ fn take_page<S: PageStore>(
     ensures within { IfErr result (λ fault. StaysWithin (length pages.old.keys + 1)
         cache.old pages.old.keys earlier cache.new (lacked fault)) }
     ensures passes { Passes cache.old cache.new }
-    ensures tree { SparesTree cache.old cache.new }
+    ensures tree { Spares cache.old cache.new }
     ensures only { IfErr result IsAllowed }
     ensures caused { IfErr result (IsCaused cache.old cache.new) }
 {
@@ -288,8 +287,7 @@ impl ChainWriter {
     ghost use Rattle.std.specs.Int.{div_ceil};
     ghost use Rattle.tbtree.specs.Passes.{Passes, KeepsLength};
     ghost use Rattle.register.specs.Chain.{most_used, pages_for};
-    ghost use Rattle.register.specs.ChainSteps.{behind, lacked, IsAhead, IsNumber, Reuses, StaysWithin, TakesFew};
-    ghost use Rattle.register.specs.Saved.{SparesTree};
+    ghost use Rattle.register.specs.ChainSteps.{behind, lacked, IsAhead, IsNumber, Reuses, Spares, StaysWithin, TakesFew};
     ghost use Rattle.register.specs.ChainWriter.{HasText, Holds, IsAllowed, IsCaused};
 
     /// A writer of a text, to an earlier chain that begins at that page, 0 for none. The numbers of
@@ -308,7 +306,7 @@ impl ChainWriter {
             (lacked fault)) }
         ensures passes { Passes cache.old cache.new }
         ensures length { OnOk result (KeepsLength cache.old cache.new) }
-        ensures tree { SparesTree cache.old cache.new }
+        ensures tree { Spares cache.old cache.new }
         ensures only { IsTrue cache.old.store.is_faithful → IfErr result IsAllowed }
         ensures caused { IfErr result (IsCaused cache.old cache.new) }
     {
@@ -365,7 +363,7 @@ impl ChainWriter {
         ensures passes { Passes cache.old cache.new }
         ensures length { OnOk result (KeepsLength cache.old cache.new) }
         ensures tree { (text : List ℕ) → Holds cache.old (behind done self.old) text
-            → SparesTree cache.old cache.new }
+            → Spares cache.old cache.new }
         ensures only { (text : List ℕ) → Holds cache.old (behind done self.old) text
             → IsTrue cache.old.store.is_faithful → IfErr result IsAllowed }
         ensures caused { IfErr result (IsCaused cache.old cache.new) }
@@ -399,7 +397,7 @@ impl ChainWriter {
         ensures passes { Passes cache.old cache.new }
         ensures length { OnOk result (KeepsLength cache.old cache.new) }
         ensures tree { (text : List ℕ) → Holds cache.old self.old text
-            → SparesTree cache.old cache.new }
+            → Spares cache.old cache.new }
         ensures only { (text : List ℕ) → Holds cache.old self.old text
             → IsTrue cache.old.store.is_faithful → IfErr result IsAllowed }
         ensures caused { IfErr result (IsCaused cache.old cache.new) }
@@ -448,7 +446,7 @@ impl ChainWriter {
         ensures passes { Passes cache.old cache.new }
         ensures length { OnOk result (KeepsLength cache.old cache.new) }
         ensures tree { (text : List ℕ) → Holds cache.old self.now text
-            → SparesTree cache.old cache.new }
+            → Spares cache.old cache.new }
         ensures only { (text : List ℕ) → Holds cache.old self.now text
             → IsTrue cache.old.store.is_faithful → IfErr result IsAllowed }
         ensures caused { IfErr result (IsCaused cache.old cache.new) }
@@ -481,7 +479,7 @@ impl ChainWriter {
         ensures passes { Passes cache.old cache.new }
         ensures length { OnOk result (KeepsLength cache.old cache.new) }
         ensures tree { (text : List ℕ) → Holds cache.old self text
-            → SparesTree cache.old cache.new }
+            → Spares cache.old cache.new }
         ensures only { (text : List ℕ) → Holds cache.old self text
             → IsTrue cache.old.store.is_faithful → IfErr result IsAllowed }
         ensures caused { IfErr result (IsCaused cache.old cache.new) }

@@ -16,7 +16,7 @@ ghost use Rattle.tbtree.specs.Shape.{IsShape};
 ghost use Rattle.header.specs.Fields.{first_of, FitsFields};
 ghost use Rattle.register.specs.ChainSteps.{IsAhead, StaysWithin};
 ghost use Rattle.register.specs.Earlier.{AddsFew, AreEarlier, HasNoRoom};
-ghost use Rattle.register.specs.Saved.{dimension_of, fields_for, head_of, Continues, IsWrittenButFirst, KeepsFront, SparesTree};
+ghost use Rattle.register.specs.Saved.{dimension_of, fields_for, head_of, Continues, IsWrittenButFirst, KeepsFront, SparesOthers, SparesTree};
 ghost use Rattle.register.specs.Saving.{contents_of, end_of, feature_at, features_of, wanted, HasFew, HasPageZero, IsSavingFault, IsSavingStop, IsCatalogue, IsCaused, IsNotWritten, KeepsTree, Puts, PutsFields, Saves};
 ghost use Rattle.register.specs.declared.fault.CatalogueFault.TheVariants.{Malformed};
 ghost use Rattle.register.specs.Text.{catalogue_text, feature_text, features_text, head_text, lists_text, row_text, rows_text, HasFeatures, IsFeature, IsHead, IsNumber, IsShortText, IsWhole};
@@ -434,7 +434,7 @@ fn fields_for(catalogue: &Catalogue, tree: TbTree, first: u32, length: u64) -> F
 /// Keeps a catalogue in pages: its text, with the places of the features in a tree, in a chain of
 /// them, those of an earlier catalogue first, which is then written with all else that is changed,
 /// and synced; and in page 0, which is not written yet, where it is, with the limits and the tree.
-/// How page 0 begins stays, finished or not, and so do the pages of the tree.
+/// How page 0 begins stays, finished or not, and so do the pages of the tree, and all that are none of a catalogue's.
 ///
 /// Refused for want of memory, and where the store fails or is full; page 0 stays then. Where page 0 is damaged, it is
 /// named, and a store without a page is malformed.
@@ -461,6 +461,7 @@ pub fn keep<S: PageStore>(
     ensures some { OnOk result (0 < cache.old.count) }
     ensures later { Continues cache.old cache.new }
     ensures tree { SparesTree cache.old cache.new }
+    ensures others { SparesOthers cache.old cache.new }
     ensures length { OnOk result (KeepsLength cache.old cache.new) }
     ensures takes { IsTrue cache.old.store.is_faithful → (pages : List ℕ)
         → AreEarlier (payload_of cache.old) pages → AddsFew cache.old.count

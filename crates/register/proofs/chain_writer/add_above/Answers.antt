@@ -1,4 +1,4 @@
-use Rattle.register.proofs.SpareLemmas.{gives_added, adds_spares, spares_trans, zero_catalogue}
+use Rattle.register.proofs.SpareLemmas.{gives_added, adds_spares, spares_trans, stays_spares, zero_catalogue}
 use Rattle.register.proofs.chain_writer.add_above.Goals as goal
 
 pub returns-clause-gives : goal.returns-clause-gives
@@ -10,3 +10,8 @@ pub returns-clause-tree : goal.returns-clause-tree
 returns-clause-tree g c =
     spares_trans c.args.cache.now c.add_first.new.cache c.add_zeros.new.cache c.add_first.ensures.passes c.add_first.ensures.tree
     (adds_spares c.add_first.new.cache c.add_zeros.new.cache _ zero_catalogue c.in_ok-page.ensures.none_before c.in_ok-page.ensures.adds)
+
+pub returns-in_err-page-clause-tree : goal.returns-in_err-page-clause-tree
+returns-in_err-page-clause-tree g c =
+    spares_trans c.args.cache.now c.add_first.new.cache c.add_zeros.new.cache c.add_first.ensures.passes c.add_first.ensures.tree
+    (stays_spares c.add_first.new.cache c.add_zeros.new.cache c.in_err-page.ensures.refused)

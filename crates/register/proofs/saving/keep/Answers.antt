@@ -49,9 +49,14 @@ returns-clause-written g c =
     }) c.write_fields.ensures.puts
 
 pub returns-clause-tree : goal.returns-clause-tree
-returns-clause-tree g c =
-    all_spare c.args.cache.now c.earlier_page.new.cache c.write_whole.new.cache c.write_fields.new.cache c.fields_for-fields.result c.write_fields.result c.earlier_page.ensures.reads c.write_whole.ensures.kept
-    c.write_fields.ensures.puts c.write_fields.ensures.rests
+returns-clause-tree g c f =
+    (all_spare c.args.cache.now c.earlier_page.new.cache c.write_whole.new.cache c.write_fields.new.cache c.fields_for-fields.result c.write_fields.result c.earlier_page.ensures.reads c.write_whole.ensures.kept
+    c.write_fields.ensures.puts c.write_fields.ensures.rests f).tree
+
+pub returns-clause-others : goal.returns-clause-others
+returns-clause-others g c f =
+    (all_spare c.args.cache.now c.earlier_page.new.cache c.write_whole.new.cache c.write_fields.new.cache c.fields_for-fields.result c.write_fields.result c.earlier_page.ensures.reads c.write_whole.ensures.kept
+    c.write_fields.ensures.puts c.write_fields.ensures.rests f).others
 
 pub returns-clause-synced : goal.returns-clause-synced
 returns-clause-synced g c =

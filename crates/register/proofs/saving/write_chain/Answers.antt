@@ -8,6 +8,8 @@ use Rattle.register.specs.Text.{catalogue_text}
 use Rattle.register.specs.Chain.{pages_for}
 use Rattle.register.proofs.ReuseLemmas.{reuses_then, takes_all}
 use Rattle.register.proofs.SavingLemmas.{whole_kept}
+use Rattle.register.proofs.SpareLemmas.{spares_trans}
+use Rattle.tbtree.proofs.PassLemmas.{passes_trans}
 use Rattle.register.proofs.saving.write_chain.Goals as goal
 
 pub returns-in-Ok-finish-clause-kept : goal.returns-in-Ok-finish-clause-kept
@@ -33,6 +35,15 @@ returns-in-Err-finish-clause-kept g c =
     let bytes : List ℕ = catalogue_text (contents_of c.args.catalogue.now c.args.places.now) in
     let put : Puts bytes b x w v (Ok tt) = subst (λ r. Puts bytes b x w v r) c.in_ok-write_catalogue.was c.write_catalogue.ensures.puts in
     whole_kept bytes a b x d w v c.in-Ok.ensures.passes c.in-Ok.ensures.holds c.in-Ok.ensures.tree put c.finish.ensures.passes c.finish.ensures.tree
+
+pub returns-in_err-write_catalogue-clause-kept : goal.returns-in_err-write_catalogue-clause-kept
+returns-in_err-write_catalogue-clause-kept g c =
+    let a = c.args.cache.now in
+    let b = c.new.new.cache in
+    let x = c.write_catalogue.new.cache in
+    let begun = c.in-Ok.ensures in
+    let put = c.write_catalogue.ensures.puts in
+    record { passes = passes_trans a b x begun.passes put.passes; tree = spares_trans a b x begun.passes begun.tree (put.tree [] begun.holds) }
 
 pub returns-in-Ok-finish-clause-takes : goal.returns-in-Ok-finish-clause-takes
 returns-in-Ok-finish-clause-takes g c = λ es ahead.
