@@ -103,11 +103,14 @@ fn check_state<S: PageStore>(cache: &mut PageCache<S>, begun: bool) -> Result<()
 }
 
 /// Whether a survey is whole: each feature has a leg, each ordinal below the total stands once, and
-/// features are in the order of their first legs. The ordinals are put in order.
+/// features are in the order of their first legs. The ordinals may be put in another order; nothing
+/// else of the survey changes.
 pub fn is_whole(places: &[Place], total: u64, survey: &mut Survey) -> bool
     ensures whole { IsTrue result → IsSurveyWhole places.now total survey.old }
     ensures only { IsSurveyWhole places.now total survey.old → IsTrue result }
     ensures leaves { survey.new.leaves ≡ survey.old.leaves }
+    ensures firsts { survey.new.firsts ≡ survey.old.firsts }
+    ensures ordinals { IsPermutation survey.old.ordinals.items survey.new.ordinals.items }
 {
     if survey.ordinals.len() as u64 != total {
         return false;

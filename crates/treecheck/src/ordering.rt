@@ -27,6 +27,7 @@ pub fn are_once(ordinals: &mut Vec<u64>) -> bool
         → IsPermutation ordinals.old.items (range_with_len 0 (length ordinals.old.items)) }
     ensures only { (total : ℕ) → IsPermutation ordinals.old.items (range_with_len 0 total)
         → IsTrue result }
+    ensures moved { IsPermutation ordinals.old.items ordinals.new.items }
 {
     tbtree::laws();
     ordinals.sort_unstable();
