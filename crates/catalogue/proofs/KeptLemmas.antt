@@ -17,7 +17,7 @@ use Rattle.catalogue.specs.Finishing.{Finishes, StoresFinished}
 use Rattle.catalogue.specs.Holding.{pages_of_store, HoldsIndex}
 use Rattle.register.specs.Chain.{chain_text, is_part, most_used, next_in, text_at, text_in}
 use Rattle.register.specs.Lasting.{payload_fault, Says}
-use Rattle.register.specs.Saved.{CatalogueView, IsWrittenButFirst}
+use Rattle.register.specs.Saved.{CatalogueView, IsWrittenButFirst, OthersStay}
 use Rattle.register.specs.Saving.{contents_of, IsCatalogue}
 use Rattle.register.specs.Text.{IsWhole}
 use Rattle.catalogue.proofs.FinishLemmas.{finished_header, not_first}
@@ -66,6 +66,20 @@ module _ (at now : ℕ → Option Payload) (there : (n : ℕ) (x : Payload) → 
     text = text_more s.length s.first _ s.text;
   }
 
+-- where all pages but page 0 are written, no page behind them has a payload
+none_past : (c : Cache) → IsTrue c.store.is_faithful → IsWrittenButFirst c → (n : ℕ) → 0 < n → c.count ≤ n → payload_of c n ≡ None
+unfolding sealed_payload page_of pages_as_written
+none_past c faithful but n h l = but.settled faithful n (but.clean n (omega (arith, h))) ∙ ap (option_and_then (unsealed n)) (slice_get-take_none c.count n c.store.pages l)
+
+-- what is written and finished is in the store
+pub stored_others : (a b new : Cache) → OthersStay (payload_of a) (payload_of b) → IsTrue b.store.is_faithful → IsWrittenButFirst b → StoresFinished b new → OthersStay (payload_of a) (stored_payload new.store)
+stored_others a b new stay faithful but f = λ p v h e k.
+    let some : payload_of b p ≡ Some v = stay p v h e k in
+    ⊎_elim
+    (λ (l : p < b.count). f.rest p h l ∙ some)
+    (λ (l : b.count ≤ p). absurd (some_none v (sym some ∙ none_past b faithful but p h l)))
+    (cases_lt p b.count)
+
 -- a saved index that is finished is kept by its store, sound or not
 module _ (states : StateLaw) (c : CatalogueView) (was i : IndexView) (new : Cache) (says : Says (payload_of i.cache) i.cache.count c i.tree i.places)
     (header : Payload) (is : payload_of i.cache 0 ≡ Some header) (unfinished : IsUnfinished header)
@@ -82,8 +96,7 @@ module _ (states : StateLaw) (c : CatalogueView) (was i : IndexView) (new : Cach
   counted_rest n h = ap (λ b. cond b (Some (finished f.header)) (payload_of i.cache n)) (not_first n h)
 
   none_behind : (n : ℕ) → 0 < n → i.cache.count ≤ n → payload_of i.cache n ≡ None
-  unfolding sealed_payload page_of pages_as_written
-  none_behind n h l = but.settled faithful n (but.clean n (omega (arith, h))) ∙ ap (option_and_then (unsealed n)) (slice_get-take_none i.cache.count n i.cache.store.pages l)
+  none_behind n h l = none_past i.cache faithful but n h l
 
   there : (n : ℕ) (x : Payload) → counted n ≡ Some x → stored_payload new.store n ≡ Some x
   there zero x e = f.first ∙ e

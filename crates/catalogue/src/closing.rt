@@ -3,14 +3,15 @@ ghost use Rattle.std.specs.Prelude.{ℕ, List, ◌≡◌, ◌≤◌, ◌⊎◌, 
 ghost use Rattle.legs.specs.Book.{Book};
 ghost use Rattle.legs.specs.declared.head.BookHead.{BookHead};
 ghost use Rattle.pages.specs.Store.{IsLawful, IsSynced, IsSyncedButFirst, Keeps};
-ghost use Rattle.pagecache.specs.Cache.{payload_of, IsSettled};
+ghost use Rattle.pagecache.specs.Cache.{payload_of, stored_payload, IsSettled};
 ghost use Rattle.timebase.specs.Instant.{IsMoment};
 ghost use Rattle.boxsearch.specs.Beside.{with_cache};
 ghost use Rattle.boxsearch.specs.Index.{content, IsMarked, IsSound};
 ghost use Rattle.catalogue.specs.Closing.{IsClosingFault, IsNoStoreFault};
 ghost use Rattle.catalogue.specs.Holding.{HoldsBook, HoldsButFirst, HoldsIndex, HoldsIndexButFirst, IsOfBook, IsUnfinishedStore};
 ghost use Rattle.register.specs.Earlier.{AddsFew, AreEarlier, HasNoRoom};
-ghost use Rattle.register.specs.Saving.{contents_of, HasFew, IsSavingStop, IsCaused};
+ghost use Rattle.register.specs.Saved.{OthersStay};
+ghost use Rattle.register.specs.Saving.{contents_of, HasFew, IsSavingFault, IsSavingStop, IsCaused};
 ghost use Rattle.register.specs.Text.{catalogue_text};
 
 use crate::finishing::finish;
@@ -72,6 +73,10 @@ fn save_and_finish<S: PageStore>(
         → IsSavingStop fault) }
     ensures only_marked { IfErr result (λ fault. IsMarked index.old.cache → HasFew catalogue.now
         → IsSavingStop fault) }
+    ensures named { IfErr result (λ fault. IsTrue index.old.cache.store.is_faithful
+        → HasFew catalogue.now → IsSavingFault index.old.cache fault) }
+    ensures others { OnOk result (IsTrue index.old.cache.store.is_faithful
+        → OthersStay (payload_of index.old.cache) (stored_payload index.new.cache.store)) }
     ensures unfinished { IfErr result (λ fault. IsNoStoreFault fault → IsMarked index.old.cache
         → IsUnfinishedStore index.new.cache.store) }
     ensures refused { OnErr result (IsLawful index.new.cache.store → IsSound index.old
@@ -136,6 +141,14 @@ pub fn close<S: PageStore>(
         → IsSavingStop fault) }
     ensures only_marked { IfErr result.1 (λ fault. IsMarked index.cache → HasFew catalogue.now
         → IsSavingStop fault) }
+
+    // Of a faithful store only page 0 is named, where it has no payload.
+    ensures named { IfErr result.1 (λ fault. IsTrue index.cache.store.is_faithful
+        → HasFew catalogue.now → IsSavingFault index.cache fault) }
+
+    // Page 0 and those of a catalogue aside, each page is in the store as it was.
+    ensures others { OnOk result.1 (IsTrue index.cache.store.is_faithful
+        → OthersStay (payload_of index.cache) (stored_payload (S.seen result.0))) }
     ensures unfinished { IfErr result.1 (λ fault. IsNoStoreFault fault → IsMarked index.cache
         → IsUnfinishedStore (S.seen result.0)) }
 

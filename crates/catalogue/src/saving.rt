@@ -6,8 +6,8 @@ ghost use Rattle.boxsearch.specs.Beside.{with_cache, IsBeside};
 ghost use Rattle.boxsearch.specs.Index.{content, IsSound};
 ghost use Rattle.register.specs.Earlier.{AddsFew, AreEarlier, HasNoRoom};
 ghost use Rattle.register.specs.Lasting.{Says};
-ghost use Rattle.register.specs.Saved.{Continues, IsWrittenButFirst, KeepsFront, SparesTree};
-ghost use Rattle.register.specs.Saving.{contents_of, HasFew, IsSavingStop, IsCatalogue, IsCaused};
+ghost use Rattle.register.specs.Saved.{Continues, IsWrittenButFirst, KeepsFront, SparesOthers, SparesTree};
+ghost use Rattle.register.specs.Saving.{contents_of, HasFew, IsSavingFault, IsSavingStop, IsCatalogue, IsCaused};
 ghost use Rattle.register.specs.Text.{catalogue_text, IsWhole};
 
 use boxsearch::TreeIndex;
@@ -21,7 +21,7 @@ use std::alloc::Global;
 /// How page 0 begins stays, finished or not.
 ///
 /// Refused for want of memory, and where the store fails or is full; the legs stay, and so does
-/// page 0.
+/// page 0. Where page 0 is damaged, it is named, and a store without a page is malformed.
 pub fn save<S: PageStore>(
     alloc: Global,
     catalogue: &Catalogue,
@@ -42,8 +42,10 @@ pub fn save<S: PageStore>(
         → page_of index.new.cache 0 ≡ page_of index.old.cache 0 }
     ensures first_unmarked { OnErr result (0 < index.old.cache.count
         → is_changed index.old.cache 0 ≡ false → is_changed index.new.cache 0 ≡ false) }
+    ensures some { OnOk result (0 < index.old.cache.count) }
     ensures later { Continues index.old.cache index.new.cache }
     ensures tree { SparesTree index.old.cache index.new.cache }
+    ensures others { SparesOthers index.old.cache index.new.cache }
     ensures takes { IsTrue index.old.cache.store.is_faithful → (pages : List ℕ)
         → AreEarlier (payload_of index.old.cache) pages → AddsFew index.old.cache.count
         (catalogue_text (contents_of catalogue.now index.new.places)) pages
@@ -61,6 +63,8 @@ pub fn save<S: PageStore>(
     ensures only { HasFew catalogue.now → IsTrue index.old.cache.store.is_faithful
         → 0 < index.old.cache.count → payload_of index.old.cache 0 ≢ None
         → IfErr result IsSavingStop }
+    ensures named { HasFew catalogue.now → IsTrue index.old.cache.store.is_faithful
+        → IfErr result (IsSavingFault index.old.cache) }
     ensures caused { IfErr result (IsCaused index.old.cache index.new.cache) }
 {
     boxsearch::laws();

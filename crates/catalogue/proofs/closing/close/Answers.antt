@@ -1,8 +1,9 @@
 use Rattle.std.proofs.Common.{◌≤◌, ap, subst, sym, ◌∙◌, ◌⊎◌}
 use Rattle.pages.specs.Store.{IsLawful, IsSynced, IsSyncedButFirst, Store}
-use Rattle.pagecache.specs.Cache.{Cache}
+use Rattle.pagecache.specs.Cache.{Cache, payload_of, stored_payload}
 use Rattle.boxsearch.specs.Index.{IsMarked}
 use Rattle.register.specs.Earlier.{AddsFew}
+use Rattle.register.specs.Saved.{OthersStay}
 use Rattle.register.specs.Saving.{contents_of}
 use Rattle.register.specs.Text.{catalogue_text}
 use Rattle.catalogue.specs.Closing.{IsNoStoreFault}
@@ -65,3 +66,9 @@ returns-clause-takes g c =
     let text = catalogue_text (contents_of c.args.catalogue.now i.places) in
     on_ok c.save_and_finish-result.result (λ takes faithful even pages earlier.
     subst (λ (s : Store). AddsFew i.cache.count text pages s.count) (sym left) (takes faithful even pages earlier)) c.save_and_finish-result.ensures.takes
+
+pub returns-clause-others : goal.returns-clause-others
+returns-clause-others g c =
+    let left = c.into_store.ensures ∙ ap (λ (k : Cache). k.store) c.into_cache-cache.ensures in
+    on_ok c.save_and_finish-result.result (λ others faithful.
+    subst (λ (s : Store). OthersStay (payload_of c.args.index.cache) (stored_payload s)) (sym left) (others faithful)) c.save_and_finish-result.ensures.others

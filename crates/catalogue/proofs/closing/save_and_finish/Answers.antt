@@ -10,12 +10,12 @@ use Rattle.boxsearch.specs.Beside.{with_cache}
 use Rattle.boxsearch.specs.Index.{content, IndexView, IsMarked, IsSound}
 use Rattle.catalogue.specs.Closing.{IsNoStoreFault}
 use Rattle.catalogue.specs.Holding.{HoldsBook, HoldsButFirst, IsOfBook, IsUnfinishedStore}
-use Rattle.register.specs.Saved.{CatalogueView, SparesTree}
+use Rattle.register.specs.Saved.{CatalogueView, SparesOthers, SparesTree}
 use Rattle.register.specs.Earlier.{AddsFew, AreEarlier, HasNoRoom}
 use Rattle.register.specs.Saving.{contents_of, HasFew, IsSavingStop}
 use Rattle.register.specs.Text.{catalogue_text}
 use Rattle.catalogue.proofs.CloseLemmas.{closed_holds, front_unfinished, front_unwritten, marked_some, of_catalogue, of_few, of_lawful, of_within, only_memory, only_stops, says_stored, still_says, PlaceLaws}
-use Rattle.catalogue.proofs.KeptLemmas.{closed_keeps}
+use Rattle.catalogue.proofs.KeptLemmas.{closed_keeps, stored_others}
 use Rattle.catalogue.proofs.ResultLemmas.{if_err_of, on_ok, some_none}
 use Rattle.catalogue.proofs.RefusedLemmas.{any_err, behind_holds, behind_keeps, synced_but_first}
 use Rattle.catalogue.proofs.closing.save_and_finish.Goals as goal
@@ -81,6 +81,21 @@ returns-clause-kept g c =
       both_ok : {T E P Q R : Type 0} (r : Result T E) → OnOk r P → OnOk r Q → (P → Q → R) → OnOk r R
       both_ok (Ok x) p q f = f p q
       both_ok (Err e) p q f = tt
+
+pub returns-clause-others : goal.returns-clause-others
+returns-clause-others g c =
+    let was = c.args.index.now in
+    let i = c.settled.new.index in
+    let j = c.save.new.index in
+    let same : i ≡ with_cache was was.cache [] = c.settled.ensures.same in
+    let later = c.save.ensures.later in
+    let some = c.in_ok-save.ensures.some in
+    let more = later.count in
+    on_ok c.finish.result (λ stores was_faithful.
+    let faithful : IsTrue i.cache.store.is_faithful = subst (λ (x : IndexView). IsTrue x.cache.store.is_faithful) (sym same) was_faithful in
+    let still = later.store.faithful ∙ faithful in
+    stored_others was.cache j.cache c.finish.new.index.cache (subst (λ (x : IndexView). SparesOthers x.cache j.cache) same c.save.ensures.others was_faithful) still
+    c.in_ok-save.ensures.written (stores still (omega (arith, some, more)))) c.finish.ensures.stores
 
 pub returns-in_err-save-clause-behind : goal.returns-in_err-save-clause-behind
 returns-in_err-save-clause-behind g c =
