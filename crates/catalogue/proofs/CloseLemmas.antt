@@ -38,7 +38,7 @@ use Rattle.register.specs.declared.contents.Feature.{Feature}
 use Rattle.register.specs.declared.fault.CatalogueFault.{CatalogueFault}
 use Rattle.register.specs.declared.fault.CatalogueFault.TheVariants.{Memory, StoreFull, Damaged, Unfinished, Version, Malformed}
 use Rattle.register.specs.declared.fault.CatalogueFault.TheVariants as fault
-use Rattle.catalogue.proofs.FinishLemmas.{finished_header}
+use Rattle.catalogue.proofs.AgainLemmas.{unfinished_may, MayFinish}
 use Rattle.catalogue.proofs.OpenLemmas.{fresh_payload}
 use Rattle.catalogue.proofs.ResultLemmas.{map_range, none_some, some_none, some_same}
 use Rattle.catalogue.proofs.RestLemmas.{BesideLaws, StateLaw}
@@ -257,28 +257,31 @@ module _ (a b : Cache) (m : IsMarked a) (settled : IsSettled a) (front : KeepsFr
   pub front_unfinished : IsUnfinished front.payload
   front_unfinished = begins_unfinished front.was front.payload front.kind front.front (subst IsUnfinished (sym was_is) m.unfinished)
 
+  pub marked_may : MayFinish front.payload
+  marked_may = unfinished_may front.payload front_unfinished
+
   pub front_unwritten : page_of b 0 ≡ page_of a 0 → IsUnwrittenHeader b
   front_unwritten same = record { written = still_says a b m same; payload = front.payload; is = front.is; unfinished = front_unfinished }
 
 -- a saved index that is finished is held by its store
 module _ (laws : BesideLaws) (states : StateLaw) (c : CatalogueView) (i : IndexView) (book : Book) (new : Cache) (sound : IsSound i) (of : IsOfBook c.limits book c) (legs : content i ≡ book.legs)
     (lawful : IsLawful i.cache.count c i.places) (within : IsWithin i.cache.count i.tree) (says : Says (payload_of i.cache) i.cache.count c i.tree i.places) (whole : IsWhole (contents_of c i.places))
-    (header : Payload) (is : payload_of i.cache 0 ≡ Some header) (unfinished : IsUnfinished header)
+    (header : Payload) (is : payload_of i.cache 0 ≡ Some header) (may : MayFinish header)
     (f : Finishes i.cache new) (stored : IsLawfulStore new.store) (faithful : new.store.is_faithful ≡ i.cache.store.is_faithful) where
   abbrev s : Store
   s = new.store
 
-  was_unfinished : IsUnfinished f.header
-  was_unfinished = subst IsUnfinished (some_same header f.header (sym is ∙ f.was)) unfinished
+  was_may : MayFinish f.header
+  was_may = subst MayFinish (some_same header f.header (sym is ∙ f.was)) may
 
   kept : IsKept (stored_payload s) s.count c i.tree i.places
   kept =
       let count : i.cache.count ≡ s.count = sound.count ∙ sym f.length in
       record {
         says = subst (λ n. Says (stored_payload s) n c i.tree i.places) count
-            (states (payload_of i.cache) (stored_payload s) f.header 1 f.stored_rest f.was f.stored_first was_unfinished.kind i.cache.count c i.tree i.places says);
+            (states (payload_of i.cache) (stored_payload s) f.header 1 f.stored_rest f.was f.stored_first was_may.kind i.cache.count c i.tree i.places says);
         whole = whole;
-        finished = ap payload_fault f.stored_first ∙ finished_header f.header was_unfinished;
+        finished = ap payload_fault f.stored_first ∙ was_may.fine;
         within = subst (λ n. IsWithin n i.tree) count within;
         works = sound.works;
         lawful = subst (λ n. IsLawful n c i.places) count lawful;

@@ -12,7 +12,7 @@ use Rattle.tbtree.specs.Nodes.{pages_of_cache}
 use Rattle.tbtree.specs.declared.tree.Place.{Place}
 use Rattle.tbtree.specs.declared.tree.TbTree.{TbTree}
 use Rattle.boxsearch.specs.Index.{IndexView}
-use Rattle.header.specs.Front.{finished, IsUnfinished}
+use Rattle.header.specs.Front.{finished}
 use Rattle.catalogue.specs.Finishing.{Finishes, StoresFinished}
 use Rattle.catalogue.specs.Holding.{pages_of_store, HoldsIndex}
 use Rattle.register.specs.Chain.{chain_text, is_part, most_used, next_in, text_at, text_in}
@@ -20,7 +20,8 @@ use Rattle.register.specs.Lasting.{payload_fault, Says}
 use Rattle.register.specs.Saved.{CatalogueView, IsWrittenButFirst, OthersStay}
 use Rattle.register.specs.Saving.{contents_of, IsCatalogue}
 use Rattle.register.specs.Text.{IsWhole}
-use Rattle.catalogue.proofs.FinishLemmas.{finished_header, not_first}
+use Rattle.catalogue.proofs.AgainLemmas.{MayFinish}
+use Rattle.catalogue.proofs.FinishLemmas.{not_first}
 use Rattle.catalogue.proofs.ResultLemmas.{none_some, some_none, some_same}
 use Rattle.catalogue.proofs.RestLemmas.{StateLaw}
 
@@ -82,11 +83,11 @@ stored_others a b new stay faithful but f = λ p v h e k.
 
 -- a saved index that is finished is kept by its store, sound or not
 module _ (states : StateLaw) (c : CatalogueView) (was i : IndexView) (new : Cache) (says : Says (payload_of i.cache) i.cache.count c i.tree i.places)
-    (header : Payload) (is : payload_of i.cache 0 ≡ Some header) (unfinished : IsUnfinished header)
+    (header : Payload) (is : payload_of i.cache 0 ≡ Some header) (may : MayFinish header)
     (f : StoresFinished i.cache new) (but : IsWrittenButFirst i.cache) (faithful : IsTrue i.cache.store.is_faithful) (few : i.cache.count ≤ new.store.count)
     (spares : IsSameTree (pages_of_cache was.cache) (pages_of_cache i.cache)) where
-  header_unfinished : IsUnfinished f.header
-  header_unfinished = subst IsUnfinished (some_same header f.header (sym is ∙ f.was)) unfinished
+  header_may : MayFinish f.header
+  header_may = subst MayFinish (some_same header f.header (sym is ∙ f.was)) may
 
   -- the pages that are counted, page 0 that of a finished store
   abbrev counted : ℕ → Option Payload
@@ -109,7 +110,7 @@ module _ (states : StateLaw) (c : CatalogueView) (was i : IndexView) (new : Cach
 
   stored_says : Says (stored_payload new.store) new.store.count c i.tree i.places
   stored_says = says_more counted (stored_payload new.store) there i.cache.count new.store.count c i.tree i.places few
-      (states (payload_of i.cache) counted f.header 1 counted_rest f.was refl header_unfinished.kind i.cache.count c i.tree i.places says)
+      (states (payload_of i.cache) counted f.header 1 counted_rest f.was refl header_may.kind i.cache.count c i.tree i.places says)
 
   stored_pages : (p : ℕ) → 0 < p → p < was.cache.count → node_in (option_map node_of (stored_payload new.store p)) ≡ node_in (option_map node_of (payload_of was.cache p))
   stored_pages p h l = ap (λ o. node_in (option_map node_of o)) (f.rest p h (let n = spares.count in omega (arith, n, l))) ∙ spares.rest p h
@@ -135,7 +136,7 @@ module _ (states : StateLaw) (c : CatalogueView) (was i : IndexView) (new : Cach
   pub closed_keeps : (was.cache.count ≡ was.cache.store.count → (i.cache.count ≡ i.cache.store.count) × Finishes i.cache new)
       → i.tree ≡ was.tree → i.places ≡ was.places → (IsCatalogue c → IsWhole (contents_of c i.places)) → HoldsIndex new.store c was
   closed_keeps all tree places whole = record {
-    finished = ap payload_fault f.first ∙ finished_header f.header header_unfinished;
+    finished = ap payload_fault f.first ∙ header_may.fine;
     says = subst (λ t. Says (stored_payload new.store) new.store.count c t was.places) tree (subst (λ l. Says (stored_payload new.store) new.store.count c i.tree l) places stored_says);
     whole = subst (λ l. IsCatalogue c → IsWhole (contents_of c l)) places whole;
     pages = stored_pages;

@@ -5,6 +5,7 @@ pub mod HeaderLemmas
 pub mod OpenLemmas
 pub mod FinishLemmas
 pub mod RestLemmas
+pub mod AgainLemmas
 pub mod KeptLemmas
 pub mod CloseLemmas
 pub mod RefusedLemmas

@@ -13,13 +13,14 @@ use Rattle.legs.specs.Book.{Book}
 use Rattle.tbtree.specs.Descent.{IsSameTree}
 use Rattle.tbtree.specs.Nodes.{pages_of_cache}
 use Rattle.boxsearch.specs.Index.{content, IndexView, IsSound}
-use Rattle.header.specs.Front.{IsUnfinished, finished}
+use Rattle.header.specs.Front.{finished}
 use Rattle.catalogue.specs.Finishing.{Finishes, IsLaterCache, StoresFinished}
 use Rattle.catalogue.specs.Holding.{HoldsButFirst, HoldsIndexButFirst, IsOfBook}
 use Rattle.register.specs.Lasting.{IsLawful as IsLawfulCatalogue, IsWithin, Says}
 use Rattle.register.specs.Saved.{CatalogueView, IsWrittenButFirst}
 use Rattle.register.specs.Saving.{contents_of, IsCatalogue}
 use Rattle.register.specs.Text.{IsWhole}
+use Rattle.catalogue.proofs.AgainLemmas.{MayFinish}
 use Rattle.catalogue.proofs.CloseLemmas.{closed_holds}
 use Rattle.catalogue.proofs.KeptLemmas.{closed_keeps}
 use Rattle.pagecache.proofs.PageLemmas.{slice_get-take}
@@ -110,7 +111,7 @@ module _ (j new : Cache) (but : IsWrittenButFirst j) (faithful : IsTrue j.store.
 
 -- so the store would keep a catalogue and an index with a page 0 that says that it is finished, sound or not
 module _ (states : StateLaw) (c : CatalogueView) (was j : IndexView) (new : Cache) (says : Says (payload_of j.cache) j.cache.count c j.tree j.places)
-    (header : Payload) (is : payload_of j.cache 0 ≡ Some header) (unfinished : IsUnfinished header)
+    (header : Payload) (is : payload_of j.cache 0 ≡ Some header) (may : MayFinish header)
     (faithful : IsTrue j.cache.store.is_faithful) (few : new.count ≤ new.store.count)
     (but : IsWrittenButFirst j.cache) (there : 0 < j.cache.count) (later : IsLaterCache j.cache new) (stored : IsLawful new.store) (others : SameOthers j.cache new) (synced : IsSyncedButFirst new.store)
     (spares : IsSameTree (pages_of_cache was.cache) (pages_of_cache j.cache)) where
@@ -138,7 +139,7 @@ module _ (states : StateLaw) (c : CatalogueView) (was j : IndexView) (new : Cach
       → j.tree ≡ was.tree → j.places ≡ was.places → (IsCatalogue c → IsWhole (contents_of c j.places)) → HoldsIndexButFirst new.store c was
   behind_keeps even tree places whole_text = record {
     whole = behind;
-    holds = closed_keeps states c was j (fresh behind 1) says header is unfinished stores_behind but faithful (let n = later.count in omega (arith, n, few)) spares
+    holds = closed_keeps states c was j (fresh behind 1) says header is may stores_behind but faithful (let n = later.count in omega (arith, n, few)) spares
         (λ e. (even e, finishes_but_first j.cache new but faithful there (even e) later.store.faithful later.count later.length stored others header is))
         tree places whole_text;
     count = refl;
@@ -149,7 +150,7 @@ module _ (states : StateLaw) (c : CatalogueView) (was j : IndexView) (new : Cach
 -- so the store would hold the book with a page 0 that says that it is finished
 module _ (laws : BesideLaws) (states : StateLaw) (c : CatalogueView) (j : IndexView) (book : Book) (new : Cache) (sound : IsSound j) (of : IsOfBook c.limits book c) (legs : content j ≡ book.legs)
     (lawful : IsLawfulCatalogue j.cache.count c j.places) (within : IsWithin j.cache.count j.tree) (says : Says (payload_of j.cache) j.cache.count c j.tree j.places) (whole_text : IsWhole (contents_of c j.places))
-    (header : Payload) (is : payload_of j.cache 0 ≡ Some header) (unfinished : IsUnfinished header)
+    (header : Payload) (is : payload_of j.cache 0 ≡ Some header) (may : MayFinish header)
     (but : IsWrittenButFirst j.cache) (there : 0 < j.cache.count) (later : IsLaterCache j.cache new) (stored : IsLawful new.store) (others : SameOthers j.cache new) (synced : IsSyncedButFirst new.store) where
   pub behind_holds : HoldsButFirst new.store j.tree.shape c.limits book
   behind_holds =
@@ -157,7 +158,7 @@ module _ (laws : BesideLaws) (states : StateLaw) (c : CatalogueView) (j : IndexV
       let fine = whole_lawful j.cache new but sound.faithful there sound.count later.store.faithful later.count later.length stored others header is in
       record {
         whole = finished_store new.store header;
-        holds = closed_holds laws states c j book (fresh (finished_store new.store header) 1) sound of legs lawful within says whole_text header is unfinished finishes fine later.store.faithful;
+        holds = closed_holds laws states c j book (fresh (finished_store new.store header) 1) sound of legs lawful within says whole_text header is may finishes fine later.store.faithful;
         count = refl;
         others = refl;
         synced = synced;

@@ -1,5 +1,5 @@
 //! A store is closed.
-ghost use Rattle.std.specs.Prelude.{ℕ, List, ◌≡◌, ◌≤◌, ◌⊎◌, [], IfErr, IsErrOf, IsTrue, OnErr, OnOk, Some};
+ghost use Rattle.std.specs.Prelude.{ℕ, Bool, List, ◌≡◌, ◌≤◌, ◌⊎◌, [], IfErr, IsErrOf, IsTrue, OnErr, OnOk, Some};
 ghost use Rattle.legs.specs.Book.{Book};
 ghost use Rattle.legs.specs.declared.head.BookHead.{BookHead};
 ghost use Rattle.pages.specs.Store.{IsLawful, IsSynced, IsSyncedButFirst, Keeps};
@@ -9,6 +9,7 @@ ghost use Rattle.boxsearch.specs.Beside.{with_cache};
 ghost use Rattle.boxsearch.specs.Index.{content, IsMarked, IsSound};
 ghost use Rattle.catalogue.specs.Closing.{IsClosingFault, IsNoStoreFault};
 ghost use Rattle.catalogue.specs.Holding.{HoldsBook, HoldsButFirst, HoldsIndex, HoldsIndexButFirst, IsOfBook, IsUnfinishedStore};
+ghost use Rattle.header.specs.Front.{SaysState};
 ghost use Rattle.register.specs.Earlier.{AddsFew, AreEarlier, HasNoRoom};
 ghost use Rattle.register.specs.Saved.{OthersStay};
 ghost use Rattle.register.specs.Saving.{contents_of, HasFew, IsSavingFault, IsSavingStop, IsCaused};
@@ -56,6 +57,14 @@ fn save_and_finish<S: PageStore>(
         → HoldsBook index.new.cache.store index.old.tree.shape catalogue.now.limits book) }
     ensures kept { OnOk result (index.new.cache.count ≤ index.new.cache.store.count
         → IsMarked index.old.cache
+        → HoldsIndex index.new.cache.store catalogue.now index.old) }
+    ensures holds_headed { OnOk result (IsLawful index.new.cache.store → IsSound index.old
+        → (begun : Bool) → SaysState begun (payload_of index.old.cache 0) → (book : Book)
+        → IsOfBook catalogue.now.limits book catalogue.now → content index.old ≡ book.legs
+        → HoldsBook index.new.cache.store index.old.tree.shape catalogue.now.limits book) }
+    ensures kept_headed { OnOk result (index.new.cache.count ≤ index.new.cache.store.count
+        → IsTrue index.old.cache.store.is_faithful
+        → (begun : Bool) → SaysState begun (payload_of index.old.cache 0)
         → HoldsIndex index.new.cache.store catalogue.now index.old) }
     ensures synced { OnOk result (IsSynced index.new.cache.store) }
     ensures takes { OnOk result (IsTrue index.old.cache.store.is_faithful
@@ -107,7 +116,8 @@ fn save_and_finish<S: PageStore>(
 ///
 /// Refused for want of memory, and where the store fails or is full. Where memory ran out or the
 /// store is full, its page 0 still says that it is not finished; where the store failed, it does, or
-/// all pages but page 0 are written as those of the closed store, and synced.
+/// all pages but page 0 are written as those of the closed store, and synced. Where page 0 is damaged, it is named, and a
+/// store without a page is malformed.
 pub fn close<S: PageStore>(
     alloc: Global,
     catalogue: &Catalogue,
@@ -120,6 +130,15 @@ pub fn close<S: PageStore>(
 
     // It keeps the catalogue and the index, be the index sound or not.
     ensures kept { OnOk result.1 (IsMarked index.cache
+        → HoldsIndex (S.seen result.0) catalogue.now index) }
+
+    // So it does where page 0 was the header of a store, finished or not.
+    ensures holds_headed { OnOk result.1 (IsSound index → (begun : Bool)
+        → SaysState begun (payload_of index.cache 0) → (book : Book)
+        → IsOfBook catalogue.now.limits book catalogue.now → content index ≡ book.legs
+        → HoldsBook (S.seen result.0) index.tree.shape catalogue.now.limits book) }
+    ensures kept_headed { OnOk result.1 (IsTrue index.cache.store.is_faithful → (begun : Bool)
+        → SaysState begun (payload_of index.cache 0)
         → HoldsIndex (S.seen result.0) catalogue.now index) }
     ensures synced { OnOk result.1 (IsSynced (S.seen result.0)) }
 

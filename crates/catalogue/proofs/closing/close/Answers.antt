@@ -72,3 +72,16 @@ returns-clause-others g c =
     let left = c.into_store.ensures ∙ ap (λ (k : Cache). k.store) c.into_cache-cache.ensures in
     on_ok c.save_and_finish-result.result (λ others faithful.
     subst (λ (s : Store). OthersStay (payload_of c.args.index.cache) (stored_payload s)) (sym left) (others faithful)) c.save_and_finish-result.ensures.others
+
+pub returns-clause-holds_headed : goal.returns-clause-holds_headed
+returns-clause-holds_headed g c =
+    let cache = c.into_cache-cache.ensures in
+    on_ok c.save_and_finish-result.result (λ holds sound begun says book of legs.
+    subst (λ (s : Store). HoldsBook s c.args.index.tree.shape c.args.catalogue.now.limits book) (sym (c.into_store.ensures ∙ ap (λ (k : Cache). k.store) cache))
+    (holds (subst (λ (k : Cache). IsLawful k.store) cache c.lawful.ensures) sound begun says book of legs)) c.save_and_finish-result.ensures.holds_headed
+
+pub returns-clause-kept_headed : goal.returns-clause-kept_headed
+returns-clause-kept_headed g c =
+    let left = c.into_store.ensures ∙ ap (λ (k : Cache). k.store) c.into_cache-cache.ensures in
+    let few = subst (λ (k : Cache). k.count ≤ k.store.count) c.into_cache-cache.ensures (rw c.count.ensures.value at c.count.ensures.within) in
+    on_ok c.save_and_finish-result.result (λ kept faithful begun says. subst (λ (s : Store). HoldsIndex s c.args.catalogue.now c.args.index) (sym left) (kept few faithful begun says)) c.save_and_finish-result.ensures.kept_headed

@@ -14,7 +14,9 @@ use Rattle.register.specs.Saved.{CatalogueView, SparesOthers, SparesTree}
 use Rattle.register.specs.Earlier.{AddsFew, AreEarlier, HasNoRoom}
 use Rattle.register.specs.Saving.{contents_of, HasFew, IsSavingStop}
 use Rattle.register.specs.Text.{catalogue_text}
-use Rattle.catalogue.proofs.CloseLemmas.{closed_holds, front_unfinished, front_unwritten, marked_some, of_catalogue, of_few, of_lawful, of_within, only_memory, only_stops, says_stored, still_says, PlaceLaws}
+use Rattle.header.specs.Front.{SaysState}
+use Rattle.catalogue.proofs.AgainLemmas.{front_may}
+use Rattle.catalogue.proofs.CloseLemmas.{closed_holds, front_unwritten, marked_may, marked_some, of_catalogue, of_few, of_lawful, of_within, only_memory, only_stops, says_stored, still_says, PlaceLaws}
 use Rattle.catalogue.proofs.KeptLemmas.{closed_keeps, stored_others}
 use Rattle.catalogue.proofs.ResultLemmas.{if_err_of, on_ok, some_none}
 use Rattle.catalogue.proofs.RefusedLemmas.{any_err, behind_holds, behind_keeps, synced_but_first}
@@ -71,9 +73,38 @@ returns-clause-kept g c =
     let more = c.save.ensures.later.count in
     let still = c.finish.ensures.later.count in
     closed_keeps c.laws-2.ensures.state c.args.catalogue.now was j new (c.in_ok-save.ensures.saved marked.faithful)
-    front.payload front.is (front_unfinished i.cache j.cache marked settled front)
+    front.payload front.is (marked_may i.cache j.cache marked settled front)
     (stores faithful (omega (arith, some, more))) c.in_ok-save.ensures.written faithful (omega (arith, few, still))
     (subst (λ (x : IndexView). SparesTree x.cache j.cache) same c.save.ensures.tree was_marked.faithful)
+    (λ even.
+    let counts = c.in_ok-save.ensures.beside.length (subst (λ (x : IndexView). x.cache.count ≡ x.cache.store.count) (sym same) even) in
+    (counts, finishes faithful counts))
+    tree places c.in_ok-save.ensures.whole) where
+      both_ok : {T E P Q R : Type 0} (r : Result T E) → OnOk r P → OnOk r Q → (P → Q → R) → OnOk r R
+      both_ok (Ok x) p q f = f p q
+      both_ok (Err e) p q f = tt
+
+pub returns-clause-kept_headed : goal.returns-clause-kept_headed
+returns-clause-kept_headed g c =
+    let was = c.args.index.now in
+    let i = c.settled.new.index in
+    let j = c.save.new.index in
+    let new = c.finish.new.index.cache in
+    let same : i ≡ with_cache was was.cache [] = c.settled.ensures.same in
+    both_ok c.finish.result c.finish.ensures.stores c.finish.ensures.finishes (λ stores finishes few was_faithful begun says.
+    let first : IsTrue i.cache.store.is_faithful = subst (λ (x : IndexView). IsTrue x.cache.store.is_faithful) (sym same) was_faithful in
+    let headed : SaysState begun (payload_of i.cache 0) = subst (λ (x : IndexView). SaysState begun (payload_of x.cache 0)) (sym same) says in
+    let faithful = c.save.ensures.later.store.faithful ∙ first in
+    let some = c.in_ok-save.ensures.some in
+    let front = c.in_ok-save.ensures.front first some in
+    let tree : j.tree ≡ was.tree = ap (λ (x : IndexView). x.tree) c.save.ensures.same ∙ ap (λ (x : IndexView). x.tree) same in
+    let places : j.places ≡ was.places = ap (λ (x : IndexView). x.places) c.save.ensures.same ∙ ap (λ (x : IndexView). x.places) same in
+    let more = c.save.ensures.later.count in
+    let still = c.finish.ensures.later.count in
+    closed_keeps c.laws-2.ensures.state c.args.catalogue.now was j new (c.in_ok-save.ensures.saved first)
+    front.payload front.is (front_may i.cache j.cache front begun headed)
+    (stores faithful (omega (arith, some, more))) c.in_ok-save.ensures.written faithful (omega (arith, few, still))
+    (subst (λ (x : IndexView). SparesTree x.cache j.cache) same c.save.ensures.tree was_faithful)
     (λ even.
     let counts = c.in_ok-save.ensures.beside.length (subst (λ (x : IndexView). x.cache.count ≡ x.cache.store.count) (sym same) even) in
     (counts, finishes faithful counts))
@@ -120,7 +151,7 @@ returns-clause-behind g c =
     let some = marked.there in
     let more = c.save.ensures.later.count in
     inr (behind_keeps c.laws-2.ensures.state c.args.catalogue.now was j c.finish.new.index.cache (c.in_ok-save.ensures.saved marked.faithful)
-    front.payload front.is (front_unfinished i.cache j.cache marked settled front)
+    front.payload front.is (marked_may i.cache j.cache marked settled front)
     faithful few c.in_ok-save.ensures.written (omega (arith, some, more)) c.finish.ensures.later lawful
     (c.finish.ensures.others faithful c.in_ok-save.ensures.written.clean)
     (c.finish.ensures.others_synced c.in_ok-save.ensures.written.clean (synced_but_first j.cache.store c.in_ok-save.ensures.synced))
@@ -159,7 +190,32 @@ returns-clause-holds g c =
     (closed_holds (record { content = laws.content; sound = laws.sound; alike = laws.alike }) c.laws-2.ensures.state catalogue j book new saved of legs
     (of_lawful catalogue j book places saved of legs dated) (of_within catalogue j book places saved of legs dated)
     (c.in_ok-save.ensures.saved sound.faithful) (c.in_ok-save.ensures.whole (of_catalogue catalogue book of))
-    front.payload front.is (front_unfinished i.cache j.cache marked settled front)
+    front.payload front.is (marked_may i.cache j.cache marked settled front)
+    (finishes saved.faithful saved.count) lawful c.finish.ensures.later.store.faithful)) c.finish.ensures.finishes
+
+pub returns-clause-holds_headed : goal.returns-clause-holds_headed
+returns-clause-holds_headed g c =
+    let i = c.settled.new.index in
+    let j = c.save.new.index in
+    let new = c.finish.new.index.cache in
+    let catalogue = c.args.catalogue.now in
+    let laws = c.laws.ensures in
+    let same : i ≡ with_cache c.args.index.now c.args.index.now.cache [] = c.settled.ensures.same in
+    let dated : (head : BookHead) → catalogue.head ≡ Some head → IsMoment head.base = λ head e. c.dated.ensures head (ap (λ (v : CatalogueView). v.head) c.catalogue.view_is ∙ e) in
+    on_ok c.finish.result (λ finishes lawful was_sound begun says book of was_legs.
+    let beside = laws.alike c.args.index.now.cache c.args.index.now.cache refl refl refl (λ _ n. refl) in
+    let sound : IsSound i = subst (λ (x : IndexView). IsSound x) (sym same) (laws.sound c.args.index.now c.args.index.now.cache [] beside was_sound) in
+    let headed : SaysState begun (payload_of i.cache 0) = subst (λ (x : IndexView). SaysState begun (payload_of x.cache 0)) (sym same) says in
+    let saved : IsSound j = c.in_ok-save.ensures.sound sound in
+    let legs : content j ≡ book.legs = c.in_ok-save.ensures.content ∙ ap (λ (x : IndexView). content x) same ∙ was_legs in
+    let places : PlaceLaws j = record { bounds = laws.bounds j saved; counts = laws.counts j saved; total = laws.total j saved } in
+    let front = c.in_ok-save.ensures.front sound.faithful c.in_ok-save.ensures.some in
+    let shape = ap (λ (x : IndexView). x.tree.shape) c.save.ensures.same ∙ ap (λ (x : IndexView). x.tree.shape) same in
+    subst (λ t. HoldsBook new.store t catalogue.limits book) shape
+    (closed_holds (record { content = laws.content; sound = laws.sound; alike = laws.alike }) c.laws-2.ensures.state catalogue j book new saved of legs
+    (of_lawful catalogue j book places saved of legs dated) (of_within catalogue j book places saved of legs dated)
+    (c.in_ok-save.ensures.saved sound.faithful) (c.in_ok-save.ensures.whole (of_catalogue catalogue book of))
+    front.payload front.is (front_may i.cache j.cache front begun headed)
     (finishes saved.faithful saved.count) lawful c.finish.ensures.later.store.faithful)) c.finish.ensures.finishes
 
 pub returns-clause-unfinished : goal.returns-clause-unfinished
@@ -211,7 +267,7 @@ returns-clause-refused g c =
     (behind_holds (record { content = laws.content; sound = laws.sound; alike = laws.alike }) c.laws-2.ensures.state catalogue j book new saved of legs
     (of_lawful catalogue j book places saved of legs dated) (of_within catalogue j book places saved of legs dated)
     (c.in_ok-save.ensures.saved sound.faithful) (c.in_ok-save.ensures.whole (of_catalogue catalogue book of))
-    front.payload front.is (front_unfinished i.cache j.cache marked settled front)
+    front.payload front.is (marked_may i.cache j.cache marked settled front)
     c.in_ok-save.ensures.written (omega (arith, some, more)) later lawful
     (c.finish.ensures.others saved.faithful c.in_ok-save.ensures.written.clean)
     (c.finish.ensures.others_synced c.in_ok-save.ensures.written.clean (synced_but_first j.cache.store c.in_ok-save.ensures.synced)))))
