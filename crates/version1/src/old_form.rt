@@ -67,7 +67,7 @@ impl<'a> OldLeaf<'a> {
     pub fn len(&self) -> usize
         ensures value { result ≡ length self.now.legs }
         ensures least { 1 ≤ result }
-        ensures most { result ≤ 63 }
+        ensures most { result ≤ MOST_OLD_LEGS }
     {
         usize::from(u16_at(&self.payload.bytes, 12))
     }
@@ -131,8 +131,8 @@ fn is_old_leaf(bytes: &[u8]) -> bool
     requires { length bytes.now ≡ 4056 }
     ensures { result ≡ is_old_leaf bytes.now }
 {
-    let count = u16_at(bytes, 12);
-    1 <= count && count <= 63 && u16_at(bytes, 14) == 0 && are_old_legs(bytes, usize::from(count))
+    let count = usize::from(u16_at(bytes, 12));
+    1 <= count && count <= MOST_OLD_LEGS && u16_at(bytes, 14) == 0 && are_old_legs(bytes, count)
 }
 
 /// The payload as a leaf of version 1; `None` where it does not have the form: kind `Leaf`, a count
