@@ -159,6 +159,7 @@ fn survey_leaves<S: PageStore>(
     ensures surveyed { IfOk result (λ survey. IsTrue (S.seen store.old).is_faithful
         → AreSurveyed (pages_by old_node_of (fresh (S.seen store.old) 1)) most rows
         tracks.now.legs places.now tracks.now.tracks survey.leaves.items) }
+    ensures agree { OnOk result (Agree tracks.now rows tracks.now.legs) }
     ensures only { IfErr result (λ fault. IsTrue (S.seen store.old).is_faithful
         → Agree tracks.now rows tracks.now.legs → (legs : List LegView)
         → HoldChains (pages_by old_node_of (fresh (S.seen store.old) 1)) most rows tracks.now.legs
@@ -286,6 +287,9 @@ pub fn take_old_legs<S: PageStore, I: LegIndex>(
         → I.content index.old ≡ [] → I.is_sound index.new
         × HoldChains (pages_of_old (S.seen old.old)) most rows tracks.now.legs places.now
         tracks.now.tracks (I.content index.new)) }
+
+    // The tracks have the numbers of what is brought.
+    ensures agree { OnOk result (Agree tracks.now rows tracks.now.legs) }
 
     // Whole chains are brought, but for memory, a store that failed, or a full one.
     ensures only { IfErr result (λ fault. IsTrue (S.seen old.old).is_faithful
