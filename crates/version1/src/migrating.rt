@@ -163,7 +163,8 @@ fn bring_legs<S: PageStore, T: PageStore>(
 
 /// Brings a store of version 1, which is lent, over into an empty one: the catalogue that its pages
 /// keep, and an index of its legs, with leaves of 50 legs at most, over a page 0 that says that the
-/// new store is not finished. The cache holds at most that many pages, at least 1.
+/// new store is not finished. The cache is begun for at most that many pages, at least 1; no clause
+/// says so of the index that is answered.
 ///
 /// The legs are put in many at a time, and of them is kept in memory what [`take_old_legs`] keeps. The
 /// store of version 1 is read, each page of it by its seal, and never written. Of its page 0 it is
