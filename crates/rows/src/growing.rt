@@ -32,7 +32,7 @@ impl Model for GrowingRows {
 }
 
 impl GrowingRows {
-    ghost use Rattle.std.specs.Prelude.{◌≡◌, [], OnOk};
+    ghost use Rattle.std.specs.Prelude.{◌≡◌, [], OnOk, OnErr};
     ghost use Rattle.rows.specs.Rows.{with_row, with_value};
 
     /// No row, and no value of one.
@@ -48,9 +48,10 @@ impl GrowingRows {
     }
 
     /// Puts a value behind those of the row that is begun. After a refusal, for want of memory, all
-    /// are refused.
+    /// are refused; the rows, and the values so far, are as before.
     pub fn push_value(&mut self, value: &str) -> Result<(), AllocError>
-        ensures { OnOk result (self.new ≡ with_value self.old value.now) }
+        ensures pushed { OnOk result (self.new ≡ with_value self.old value.now) }
+        ensures stays { OnErr result (self.new ≡ self.old) }
     {
         if !self.is_whole {
             return Err(AllocError);
@@ -62,9 +63,10 @@ impl GrowingRows {
     }
 
     /// Puts the row that is begun behind the others, and begins one without values. It is refused
-    /// where memory runs out, and where the row has 2^32 values.
+    /// where memory runs out, and where the row has 2^32 values; then all is as before.
     pub fn end_row(&mut self) -> Result<(), AllocError>
-        ensures { OnOk result (self.new ≡ with_row self.old) }
+        ensures ended { OnOk result (self.new ≡ with_row self.old) }
+        ensures stays { OnErr result (self.new ≡ self.old) }
     {
         let (first, end) = (self.first, self.values.len());
         let Ok(count) = u32::try_from(end - first) else {

@@ -51,7 +51,7 @@ returns-in-Ok-clause-takes g c = λ at may.
     record {
       taken = (
         c.loop.rows.row,
-        ap (λ (r : Grown). r.rows) c.in-Ok.ensures ∙ ap (λ rs. rs ++ c.loop.rows.row ∷ []) (inv.others at may),
+        ap (λ (r : Grown). r.rows) c.in-Ok.ensures.ended ∙ ap (λ rs. rs ++ c.loop.rows.row ∷ []) (inv.others at may),
         record { each = inv.each at may; many = many ∙ omega (arith, c.loop-test.false, c.loop.auto.counter-end) },
         inv.taken at may,
       );

@@ -17,8 +17,8 @@ invariant_of-self-2 c =
       λ t. c.in_ok-push_field.ensures.partial,
     )
 
-pub returns : goal.returns
-returns c =
+pub returns-clause-pushed : goal.returns-clause-pushed
+returns-clause-pushed c =
     let values = fields_of c.self.inside.values in
     let pushed = c.in_ok-push_field.ensures.fields ∙ ap (λ b. values ++ (b ++ c.as_bytes.result.now) ∷ []) (c.self.invariant.1 c.if-not-self.false) ∙ ap (λ b. values ++ b ∷ []) c.as_bytes.ensures.value in
     ap (λ vs. grown vs c.self.inside.places.items c.self.inside.first) pushed
