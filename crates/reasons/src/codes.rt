@@ -103,12 +103,14 @@ const CODES: [Code; 30] = [
 ];
 
 impl Code {
-    ghost use Rattle.std.specs.Prelude.{◌≡◌, ◌<◌, length, IfSome};
+    ghost use Rattle.std.specs.Prelude.{◌≡◌, ◌≢◌, ◌<◌, length, MatchOption};
     ghost use Rattle.reasons.specs.Codes.{code_text};
+    ghost use Rattle.reasons.specs.declared.codes.Code.{Code};
 
-    /// The code of a text, as `F18`.
+    /// The code of a text, as `F18`; `None` where no code has that text.
     pub fn read(text: &str) -> Option<Code>
-        ensures { IfSome result (λ code. code_text code ≡ text.now) }
+        ensures { MatchOption result ((code : Code) → code_text code ≢ text.now)
+            (λ code. code_text code ≡ text.now) }
     {
         for code in CODES {
             if code.as_str() == text {
