@@ -1,9 +1,15 @@
 //! The fields of a record, and the words of a text.
+ghost use Rattle.std.specs.Prelude.{◌≡◌, ◌≤◌, length};
+ghost use Rattle.std.specs.List.{prefix_len, suffix_len};
+ghost use Rattle.mfcsv.specs.Rows.{cut, is_blank};
+
 use csv::ByteRecord;
 use std::str;
 
 /// Whether a byte separates the words of a line.
-pub(crate) fn is_blank(c: u8) -> bool {
+pub(crate) fn is_blank(c: u8) -> bool
+    ensures { result ≡ is_blank c }
+{
     c == b' ' || c == b'\t'
 }
 
@@ -12,16 +18,27 @@ pub(crate) fn is_separator(c: u8) -> bool {
     is_blank(c) || c == b'\r' || c == b'\n'
 }
 
+fn blanks_in_front(bytes: &[u8]) -> usize
+    ensures value { result ≡ prefix_len is_blank bytes.now }
+    ensures within { result ≤ length bytes.now }
+{
+    bytes.iter().take_while(|c| is_blank(**c)).count()
+}
+
+fn blanks_at_end(bytes: &[u8]) -> usize
+    ensures value { result ≡ suffix_len is_blank bytes.now }
+    ensures within { result ≤ length bytes.now }
+{
+    bytes.iter().rev().take_while(|c| is_blank(**c)).count()
+}
+
 /// Bytes without the spaces and tabs at their ends.
-pub fn cut(bytes: &[u8]) -> &[u8] {
-    let Some(first) = bytes.iter().position(|c| !is_blank(*c)) else {
-        return b"".as_slice();
-    };
-    let rest = &bytes[first..];
-    match rest.iter().rposition(|c| !is_blank(*c)) {
-        Some(last) => &rest[..last + 1],
-        None => rest,
-    }
+pub fn cut(bytes: &[u8]) -> &[u8]
+    ensures { result.now ≡ cut bytes.now }
+{
+    let rest = &bytes[blanks_in_front(bytes)..];
+    let end = rest.len() - blanks_at_end(rest);
+    &rest[..end]
 }
 
 /// Bytes as a text; a blank one where they are not UTF-8.
