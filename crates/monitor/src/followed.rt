@@ -23,7 +23,10 @@ impl<'a, 'b, W: Write, R: Clock + Eprint> Followed<'a, 'b, W, R> {
         out: &'a mut W,
         progress: &'a Progress<'b, R>,
         notes: Notes,
-    ) -> Followed<'a, 'b, W, R> {
+    ) -> Followed<'a, 'b, W, R>
+        ensures same_reference { result.out.ghost_name ≡ out.entry.ghost_name }
+        ensures contents { W.contents result.out.now ≡ W.contents out.old }
+    {
         Followed {
             out,
             progress,
