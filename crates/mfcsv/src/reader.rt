@@ -1,5 +1,5 @@
 //! Reading a file record by record.
-ghost use Rattle.std.specs.Prelude.{◌≡◌, ◌<◌, ◌∷◌, [], true, IfOk, IfSome, length, option_to_list};
+ghost use Rattle.std.specs.Prelude.{◌≡◌, ◌<◌, ◌∷◌, [], true, IfErr, IfOk, IfSome, length, option_to_list};
 ghost use Rattle.std.specs.List.{list_all};
 ghost use Rattle.std.specs.Str.{is_utf8};
 ghost use Rattle.mfcsv.specs.Unread.{bytes_left, cells, rows_left};
@@ -7,6 +7,8 @@ ghost use Rattle.mfcsv.specs.Header.{kind_of, heads_after};
 ghost use Rattle.mfcsv.specs.FileText.{file_with, first_fault, line_of, records_of};
 ghost use Rattle.mfcsv.specs.Answer.{Judges, fault_at};
 ghost use Rattle.mfcsv.specs.Left.{GivesHead, HasNoRecord, IsUnread, ReadsNext, text_left};
+ghost use Rattle.mfcsv.specs.declared.Code.{Code};
+ghost use Rattle.mfcsv.specs.declared.FileFault.{FileFault};
 
 use crate::data_record::read_record;
 use crate::header::{Heads, Kind, kind_of};
@@ -62,7 +64,8 @@ fn take(
 
 /// The head of a file of these header lines.
 fn head_of(heads: Heads) -> Result<Head, FileFault>
-    ensures { GivesHead result (file_with heads.bounds heads.columns []) }
+    ensures head { GivesHead result (file_with heads.bounds heads.columns []) }
+    ensures missing { IfErr result (λ fault. fault ≡ FileFault.Refused Code.F8 0) }
 {
     match (heads.bounds, heads.columns) {
         (Some(bounds), Some(line)) => Ok(Head {
@@ -178,7 +181,8 @@ fn end_of(heads: &Heads)
 }
 
 impl<'a> FileReader<'a> {
-    ghost use Rattle.std.specs.Prelude.{◌≡◌, ◌<◌, true, Err, IfErr, IfOk, IfSome, Some};
+    ghost use Rattle.std.specs.Prelude.{◌≡◌, ◌<◌, true, Err, IfErr, IfOk, IfSome, None, Some};
+    ghost use Rattle.mfcsv.specs.declared.Code.{Code};
     ghost use Rattle.mfcsv.specs.declared.FileFault.{FileFault};
     ghost use Rattle.mfcsv.specs.FileText.{file_of_bytes};
     ghost use Rattle.mfcsv.specs.Left.{GivesHead, ReadsRecord};
@@ -241,6 +245,8 @@ impl<'a> FileReader<'a> {
     pub fn into_head(self) -> Result<Head, FileFault>
         ensures head { self.entry.is_over ≡ true → GivesHead result self.entry.text }
         ensures told { (fault : FileFault) → self.entry.told ≡ Some fault → result ≡ Err fault }
+        ensures missing { self.entry.told ≡ None
+            → IfErr result (λ fault. fault ≡ FileFault.Refused Code.F8 0) }
     {
         let FileReader { unread, stage } = self;
         match stage {

@@ -7,4 +7,4 @@ use Rattle.mfcsv.proofs.reader.FileReader.into_head.Goals as goal
 pub returns-in-Reading-clause-head : goal.returns-in-Reading-clause-head
 returns-in-Reading-clause-head c =
     let unread = c.self.inside.unread in
-    over_head c.self.inside.stage unread.number unread.heads (rows_left unread.reader) c.args.self c.head_of.result c.in-Reading.is (ap (λ (v : LeftView). v.text) c.self.view_is) (ap (λ (v : LeftView). v.is_over) c.self.view_is) c.head_of.ensures
+    over_head c.self.inside.stage unread.number unread.heads (rows_left unread.reader) c.args.self c.head_of.result c.in-Reading.is (ap (λ (v : LeftView). v.text) c.self.view_is) (ap (λ (v : LeftView). v.is_over) c.self.view_is) c.head_of.ensures.head
