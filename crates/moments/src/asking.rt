@@ -1,5 +1,6 @@
 //! The stays that a database tells.
 ghost use Rattle.std.specs.Prelude.{◌≡◌, All, Err, false, IfErr, IfOk, map, OnOk, true};
+ghost use Rattle.legs.specs.Asking.{Recalls};
 ghost use Rattle.legs.specs.Boxes.{box_over};
 ghost use Rattle.legs.specs.Costs.{search_cost};
 ghost use Rattle.legs.specs.Questions.{InBox};
@@ -55,6 +56,9 @@ pub fn stays<S: PageStore>(
         (λ page. words.denies db.old.index (InBox (box_over rect.now period.now)) page)) }
     ensures asks { OnOk result (Asks words db.old db.new
         (search_cost (box_over rect.now period.now))) }
+
+    // What the index knew of the leaves of its features it knows afterwards.
+    ensures recalls { Recalls words db.old.index db.new.index }
     ensures leaves { LeavesBook words db.old db.new }
     ensures refused { IfErr result (λ fault. db.old.failed ≡ false
         → IsRefused words db.old db.new fault) }
