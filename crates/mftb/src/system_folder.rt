@@ -1,12 +1,12 @@
 //! The folder of a store's file, as the system has it.
-ghost use Rattle.std.specs.Prelude.{◌≡◌, None, IfErr};
+ghost use Rattle.std.specs.Prelude.{◌≡◌, false, None, IfErr};
 ghost use Rattle.sessions.specs.Folder.{IsOfFolder};
 
 use crate::held_file::HeldFile;
 use crate::locks::{Held, Hold, hold_name, is_named, open_held};
 use crate::names::Names;
 use monitor::{Noted, Progress};
-use pages::FileStore;
+use pages::{FileStore, PageStore};
 use sessions::{Cause, Fault, Folder};
 use std::fs::{File, Metadata};
 use std::io::{Eprint, Read, Write};
@@ -188,6 +188,9 @@ impl<'a, 'p, R: Files<File = File> + Clock + Eprint> SystemFolder<'a, 'p, R> {
 }
 
 impl<'a, 'p, R: Files<File = File> + Clock + Eprint> Folder for SystemFolder<'a, 'p, R> {
+    ghost use Rattle.monitor.specs.Noted.{was_written};
+    ghost use Rattle.sessions.specs.Folder.{HasPagesHeld};
+
     type Store = Noted<'a, 'p, FileStore<HeldFile<'a, File>>, R>;
 
     ghost held = { λ _. None };
@@ -202,7 +205,13 @@ impl<'a, 'p, R: Files<File = File> + Clock + Eprint> Folder for SystemFolder<'a,
         }
     }
 
-    fn differs(&self, store: &Noted<'a, 'p, FileStore<HeldFile<'a, File>>, R>) -> bool {
+    /// Whether a page of the copy was to be written.
+    fn differs(&self, store: &Noted<'a, 'p, FileStore<HeldFile<'a, File>>, R>) -> bool
+        ensures held { result ≡ false → HasPagesHeld
+            (⟦<Noted<'a, 'p, FileStore<HeldFile<'a, File>>, R> as PageStore>⟧.seen store.now)
+            (⟦<SystemFolder<'a, 'p, R> as Folder>⟧.held self.now) }
+        ensures noted { result ≡ was_written store.now }
+    {
         store.is_written()
     }
 
