@@ -1,4 +1,6 @@
 //! What the words of the command line ask for.
+ghost use Rattle.std.specs.Prelude.{◌≡◌};
+ghost use Rattle.arguments.specs.Telling.{is_told};
 
 /// When it is said in words what went wrong.
 #[derive(Clone, Copy, PartialEq, Eq, Debug)]
@@ -13,7 +15,9 @@ pub enum Telling {
 
 impl Telling {
     /// Whether it is said, on a terminal or elsewhere.
-    pub fn is_told(self, is_terminal: bool) -> bool {
+    pub fn is_told(self, is_terminal: bool) -> bool
+        ensures { result ≡ is_told self is_terminal }
+    {
         match self {
             Telling::OnTerminal => is_terminal,
             Telling::Always => true,

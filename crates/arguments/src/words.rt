@@ -6,212 +6,339 @@ use std::alloc::{AllocError, Global};
 /// How many pages a cache holds where no word says it.
 const CACHE_PAGES: u32 = 256;
 
-fn required<'a>(alloc: Global, name: &'a str, help: &'a str) -> Arg<'a> {
-    Arg::new(alloc, name)
-        .help(help)
+/// What a word of a command is.
+#[derive(Clone, Copy)]
+enum Form<'a> {
+    /// It has to be there.
+    Required,
+    /// It has to be there, and is a number of that at least.
+    Count(u32),
+    /// It has to be there, and may begin with a minus as numbers below 0 do.
+    Bound,
+    /// As many words as there are.
+    Names,
+    /// `--NAME`, without a value.
+    Flag,
+    /// `--NAME`, without a value, and not beside that other one.
+    FlagWithout(&'a str),
+    /// `--NAME`, without a value, and that letter for it.
+    FlagOrLetter(char),
+    /// `--NAME VALUE`, a number.
+    Number(&'a str),
+    /// `--NAME N`, a number of 1 at least, and that where it is not there.
+    CountOr(&'a str),
+}
+
+/// A word of a command: its name, what it is, and what is said of it.
+#[derive(Clone, Copy)]
+struct Word<'a> {
+    name: &'a str,
+    form: Form<'a>,
+    help: &'a str,
+}
+
+impl<'a> Word<'a> {
+    fn new(form: Form<'a>, name: &'a str, help: &'a str) -> Word<'a> {
+        Word { name, form, help }
+    }
+}
+
+/// A word that has to be there.
+fn required<'a>(alloc: Global, word: Word<'a>) -> Arg<'a> {
+    Arg::new(alloc, word.name)
+        .help(word.help)
         .required(true)
         .action(ArgAction::Set)
 }
 
-/// The word `--cache-pages N`.
-fn cache_pages<'a>(alloc: Global) -> Arg<'a> {
-    Arg::new(alloc, "cache-pages")
-        .long("cache-pages")
-        .value_name("N")
-        .help("How many pages of the file are kept in memory, 4096 bytes each")
-        .value_parser(value_parser!(u32).range(1..))
-        .default_value("256")
-}
-
 /// A word `--NAME` without a value.
-fn flag<'a>(alloc: Global, name: &'a str, help: &'a str) -> Arg<'a> {
-    Arg::new(alloc, name)
-        .long(name)
-        .help(help)
+fn flag<'a>(alloc: Global, word: Word<'a>) -> Arg<'a> {
+    Arg::new(alloc, word.name)
+        .long(word.name)
+        .help(word.help)
         .action(ArgAction::SetTrue)
 }
 
+/// A word `--NAME VALUE`, a number of that at least.
+fn number<'a>(alloc: Global, word: Word<'a>, value: &'a str, least: i64) -> Arg<'a> {
+    Arg::new(alloc, word.name)
+        .long(word.name)
+        .value_name(value)
+        .help(word.help)
+        .value_parser(value_parser!(u32).range(least..))
+}
+
+fn arg_of<'a>(alloc: Global, word: Word<'a>) -> Result<Arg<'a>, AllocError> {
+    match word.form {
+        Form::Required => Ok(required(alloc, word)),
+        Form::Count(least) => Ok(required(alloc, word).value_parser(value_parser!(u32).range(
+            i64::from(least)..,
+        ))),
+        Form::Bound => Ok(required(alloc, word).allow_negative_numbers(true)),
+        Form::Names => Ok(Arg::new(alloc, word.name).help(word.help).num_args(0..)),
+        Form::Flag => Ok(flag(alloc, word)),
+        Form::FlagWithout(other) => flag(alloc, word).conflicts_with(other),
+        Form::FlagOrLetter(letter) => Ok(flag(alloc, word).short(letter)),
+        Form::Number(value) => Ok(number(alloc, word, value, 0)),
+        Form::CountOr(default) => Ok(number(alloc, word, "N", 1).default_value(default)),
+    }
+}
+
+/// The command of that name, with these words in their order.
+fn command<'a>(
+    alloc: Global,
+    name: &'a str,
+    about: &'a str,
+    words: &[Word<'a>],
+) -> Result<Command<'a>, AllocError> {
+    let mut command = Command::new(alloc, name).about(about);
+    for word in words {
+        command = command.arg(arg_of(alloc, *word)?)?;
+    }
+    Ok(command)
+}
+
+/// The word `--cache-pages N`.
+fn cache_pages<'a>() -> Word<'a> {
+    Word::new(
+        Form::CountOr("256"),
+        "cache-pages",
+        "How many pages of the file are kept in memory, 4096 bytes each",
+    )
+}
+
 /// The word `--explain`.
-fn explain<'a>(alloc: Global) -> Result<Arg<'a>, AllocError> {
-    flag(
-        alloc,
+fn explain<'a>() -> Word<'a> {
+    Word::new(
+        Form::FlagWithout("quiet"),
         "explain",
         "Say on standard error, in words, what went wrong; on a terminal it is said anyway",
     )
-    .conflicts_with("quiet")
 }
 
 /// The word `-q`.
-fn quiet<'a>(alloc: Global) -> Arg<'a> {
-    flag(
-        alloc,
+fn quiet<'a>() -> Word<'a> {
+    Word::new(
+        Form::FlagOrLetter('q'),
         "quiet",
         "Say on standard error only why the run could not go on",
     )
-    .short('q')
-}
-
-/// A word `--NAME N`.
-fn number<'a>(alloc: Global, name: &'a str, value: &'a str, help: &'a str) -> Arg<'a> {
-    Arg::new(alloc, name)
-        .long(name)
-        .value_name(value)
-        .help(help)
-        .value_parser(value_parser!(u32).range(0..))
 }
 
 /// The words of `mftb run`.
 fn run_command<'a>(alloc: Global) -> Result<Command<'a>, AllocError> {
-    Command::new(alloc, "run")
-        .about("Runs a script over the database that a file keeps, and prints its answers")
-        .arg(required(
-            alloc,
+    let words = [
+        Word::new(
+            Form::Required,
             "STORE",
             "The file that keeps the database; it is made where it is absent or empty",
-        ))?
-        .arg(required(alloc, "SCRIPT", "The file of the script, a command a line"))?
-        .arg(
-            Arg::new(alloc, "FILES")
-                .help("The files that the script may load, by these names")
-                .num_args(0..),
-        )?
-        .arg(cache_pages(alloc))?
-        .arg(flag(
-            alloc,
+        ),
+        Word::new(
+            Form::Required,
+            "SCRIPT",
+            "The file of the script, a command a line",
+        ),
+        Word::new(
+            Form::Names,
+            "FILES",
+            "The files that the script may load, by these names",
+        ),
+        cache_pages(),
+        Word::new(
+            Form::Flag,
             "in-place",
             "Load into the file itself and not into a copy: what is killed then loses the store",
-        ))?
-        .arg(flag(
-            alloc,
+        ),
+        Word::new(
+            Form::Flag,
             "existing",
             "Refuse a STORE that is absent or empty, and make none",
-        ))?
-        .arg(flag(
-            alloc,
+        ),
+        Word::new(
+            Form::Flag,
             "strict",
             "End with status 3 where a line or a file was refused",
-        ))?
-        .arg(explain(alloc)?)?
-        .arg(quiet(alloc))?
-        .arg(flag(
-            alloc,
+        ),
+        explain(),
+        quiet(),
+        Word::new(
+            Form::Flag,
             "progress",
             "Say on standard error what the run is doing",
-        ))
+        ),
+    ];
+    let about = "Runs a script over the database that a file keeps, and prints its answers";
+    command(alloc, "run", about, &words)
 }
 
 /// The words of `mftb check`.
 fn check_command<'a>(alloc: Global) -> Result<Command<'a>, AllocError> {
-    Command::new(alloc, "check")
-        .about("Checks that the pages of a file hold one database")
-        .arg(required(alloc, "STORE", "The file that keeps the database"))?
-        .arg(cache_pages(alloc))?
-        .arg(explain(alloc)?)?
-        .arg(quiet(alloc))
+    let words = [
+        Word::new(Form::Required, "STORE", "The file that keeps the database"),
+        cache_pages(),
+        explain(),
+        quiet(),
+    ];
+    command(
+        alloc,
+        "check",
+        "Checks that the pages of a file hold one database",
+        &words,
+    )
 }
 
 /// The words of `mftb migrate`.
 fn migrate_command<'a>(alloc: Global) -> Result<Command<'a>, AllocError> {
-    Command::new(alloc, "migrate")
-        .about("Brings the database of a file of version 1 over into a new file")
-        .arg(required(
-            alloc,
+    let words = [
+        Word::new(
+            Form::Required,
             "OLD",
             "The file of version 1; it is read and not written",
-        ))?
-        .arg(required(
-            alloc,
+        ),
+        Word::new(
+            Form::Required,
             "NEW",
             "The file that is to keep the database; it is absent or empty",
-        ))
+        ),
+    ];
+    let about = "Brings the database of a file of version 1 over into a new file";
+    command(alloc, "migrate", about, &words)
 }
 
 /// The words of `mftb part`.
 fn part_command<'a>(alloc: Global) -> Result<Command<'a>, AllocError> {
-    Command::new(alloc, "part")
-        .about("Prints the part of a file that has the features of one of several parts")
-        .arg(required(alloc, "K", "The number of the part, from 0").value_parser(value_parser!(
-            u32
-        ).range(0..)))?
-        .arg(required(alloc, "N", "How many parts there are").value_parser(value_parser!(u32).range(
-            1..,
-        )))?
-        .arg(required(alloc, "FILE", "The file; it is read and not written"))
+    let words = [
+        Word::new(Form::Count(0), "K", "The number of the part, from 0"),
+        Word::new(Form::Count(1), "N", "How many parts there are"),
+        Word::new(
+            Form::Required,
+            "FILE",
+            "The file; it is read and not written",
+        ),
+    ];
+    let about = "Prints the part of a file that has the features of one of several parts";
+    command(alloc, "part", about, &words)
 }
 
 /// The words of `mftb parts`.
 fn parts_command<'a>(alloc: Global) -> Result<Command<'a>, AllocError> {
-    Command::new(alloc, "parts")
-        .about("Writes the parts of a file into a folder, 16 by one pass")
-        .arg(required(alloc, "N", "How many parts there are").value_parser(value_parser!(u32).range(
-            1..,
-        )))?
-        .arg(required(alloc, "FILE", "The file; it is read and not written"))?
-        .arg(required(
-            alloc,
+    let words = [
+        Word::new(Form::Count(1), "N", "How many parts there are"),
+        Word::new(
+            Form::Required,
+            "FILE",
+            "The file; it is read and not written",
+        ),
+        Word::new(
+            Form::Required,
             "DIR",
             "The folder; part K is its file part-K.csv, which is replaced where it is there",
-        ))?
-        .arg(number(alloc, "first", "K", "Write no part before this one"))?
-        .arg(number(alloc, "count", "C", "Write only so many parts"))
-}
-
-/// A word of a rectangle or a period; a number may be below 0.
-fn bound<'a>(alloc: Global, name: &'a str, help: &'a str) -> Arg<'a> {
-    required(alloc, name, help).allow_negative_numbers(true)
-}
-
-/// The words of a rectangle and a period.
-fn with_bounds<'a>(alloc: Global, command: Command<'a>) -> Result<Command<'a>, AllocError> {
-    command
-        .arg(bound(alloc, "X1", "The least x"))?
-        .arg(bound(alloc, "Y1", "The least y"))?
-        .arg(bound(alloc, "X2", "The greatest x"))?
-        .arg(bound(alloc, "Y2", "The greatest y"))?
-        .arg(bound(alloc, "T1", "The first moment, as 2012-01-17T12:33:41Z"))?
-        .arg(bound(alloc, "T2", "The last moment"))
+        ),
+        Word::new(Form::Number("K"), "first", "Write no part before this one"),
+        Word::new(Form::Number("C"), "count", "Write only so many parts"),
+    ];
+    command(
+        alloc,
+        "parts",
+        "Writes the parts of a file into a folder, 16 by one pass",
+        &words,
+    )
 }
 
 /// The words of `mftb moments`.
 fn moments_command<'a>(alloc: Global) -> Result<Command<'a>, AllocError> {
-    let command = Command::new(alloc, "moments")
-        .about("Prints when legs are inside a rectangle in a period, as exact fractions")
-        .arg(required(alloc, "STORE", "The file that keeps the database"))?;
-    let dwell = flag(
-        alloc,
-        "dwell",
-        "Print a record a feature: how long it stays in all",
-    );
-    with_bounds(alloc, command)?
-        .arg(flag(
-            alloc,
+    let words = [
+        Word::new(Form::Required, "STORE", "The file that keeps the database"),
+        Word::new(Form::Bound, "X1", "The least x"),
+        Word::new(Form::Bound, "Y1", "The least y"),
+        Word::new(Form::Bound, "X2", "The greatest x"),
+        Word::new(Form::Bound, "Y2", "The greatest y"),
+        Word::new(
+            Form::Bound,
+            "T1",
+            "The first moment, as 2012-01-17T12:33:41Z",
+        ),
+        Word::new(Form::Bound, "T2", "The last moment"),
+        Word::new(
+            Form::Flag,
             "visits",
             "Print a record a visit: the stays of a feature, joined over legs without a gap",
-        ))?
-        .arg(dwell.conflicts_with("visits")?)?
-        .arg(cache_pages(alloc))
+        ),
+        Word::new(
+            Form::FlagWithout("visits"),
+            "dwell",
+            "Print a record a feature: how long it stays in all",
+        ),
+        cache_pages(),
+    ];
+    let about = "Prints when legs are inside a rectangle in a period, as exact fractions";
+    command(alloc, "moments", about, &words)
 }
 
 /// The words of `mftb info`.
 fn info_command<'a>(alloc: Global) -> Result<Command<'a>, AllocError> {
-    Command::new(alloc, "info")
-        .about("Prints what the database of a file holds")
-        .arg(required(alloc, "STORE", "The file that keeps the database"))?
-        .arg(flag(alloc, "json", "Print one object of JSON"))
+    let words = [
+        Word::new(Form::Required, "STORE", "The file that keeps the database"),
+        Word::new(Form::Flag, "json", "Print one object of JSON"),
+    ];
+    command(
+        alloc,
+        "info",
+        "Prints what the database of a file holds",
+        &words,
+    )
 }
 
+/// The commands of the program.
+#[derive(Clone, Copy)]
+enum Verb {
+    Run,
+    Check,
+    Migrate,
+    Part,
+    Parts,
+    Moments,
+    Info,
+}
+
+/// The commands in the order in which the help says them.
+const VERBS: [Verb; 7] = [
+    Verb::Run,
+    Verb::Check,
+    Verb::Migrate,
+    Verb::Part,
+    Verb::Parts,
+    Verb::Moments,
+    Verb::Info,
+];
+
+fn command_of<'a>(alloc: Global, verb: Verb) -> Result<Command<'a>, AllocError> {
+    match verb {
+        Verb::Run => run_command(alloc),
+        Verb::Check => check_command(alloc),
+        Verb::Migrate => migrate_command(alloc),
+        Verb::Part => part_command(alloc),
+        Verb::Parts => parts_command(alloc),
+        Verb::Moments => moments_command(alloc),
+        Verb::Info => info_command(alloc),
+    }
+}
+
+/// The words of the program.
 fn mftb<'a>(alloc: Global) -> Result<Command<'a>, AllocError> {
-    Command::new(alloc, "mftb")
+    let mut command = Command::new(alloc, "mftb")
         .about("A trajectory database")
         .version("0.1.0")
-        .subcommand_required(true)
-        .subcommand(run_command(alloc)?)?
-        .subcommand(check_command(alloc)?)?
-        .subcommand(migrate_command(alloc)?)?
-        .subcommand(part_command(alloc)?)?
-        .subcommand(parts_command(alloc)?)?
-        .subcommand(moments_command(alloc)?)?
-        .subcommand(info_command(alloc)?)
+        .subcommand_required(true);
+    for verb in VERBS {
+        command = command.subcommand(command_of(alloc, verb)?)?;
+    }
+    Ok(command)
+}
+
+/// A word that is there.
+fn word_of<'a>(matches: &ArgMatches<'a>, name: &str) -> &'a str {
+    matches.get_str(name).unwrap_or("")
 }
 
 /// How many pages the cache is to hold.
@@ -237,9 +364,9 @@ fn run_of<'a>(alloc: Global, matches: &ArgMatches<'a>) -> Result<Run<'a>, Error>
         files.push(*name)?;
     }
     Ok(Run {
-        store: matches.get_str("STORE").unwrap_or(""),
+        store: word_of(matches, "STORE"),
         cache_pages: cache_pages_of(matches),
-        script: matches.get_str("SCRIPT").unwrap_or(""),
+        script: word_of(matches, "SCRIPT"),
         files,
         in_place: matches.get_flag("in-place"),
         progress: matches.get_flag("progress"),
@@ -247,11 +374,6 @@ fn run_of<'a>(alloc: Global, matches: &ArgMatches<'a>) -> Result<Run<'a>, Error>
         is_strict: matches.get_flag("strict"),
         is_existing: matches.get_flag("existing"),
     })
-}
-
-/// A word that is there.
-fn word_of<'a>(matches: &ArgMatches<'a>, name: &str) -> &'a str {
-    matches.get_str(name).unwrap_or("")
 }
 
 /// What `mftb moments` is asked to do.
@@ -277,47 +399,52 @@ fn moments_of<'a>(matches: &ArgMatches<'a>) -> Moments<'a> {
     }
 }
 
+/// What `mftb check` is asked to do.
+fn check_of<'a>(matches: &ArgMatches<'a>) -> Check<'a> {
+    Check {
+        store: word_of(matches, "STORE"),
+        cache_pages: cache_pages_of(matches),
+        telling: telling_of(matches),
+    }
+}
+
+/// What `mftb parts` is asked to do.
+fn parts_of<'a>(matches: &ArgMatches<'a>) -> Parts<'a> {
+    Parts {
+        parts: matches.get_one("N").unwrap_or(1),
+        first: matches.get_one("first").unwrap_or(0),
+        count: matches.get_one("count"),
+        file: word_of(matches, "FILE"),
+        folder: word_of(matches, "DIR"),
+    }
+}
+
 /// Reads the words, of which the first is the program's name.
 pub fn read_words<'a>(alloc: Global, words: &'a [String]) -> Result<Task<'a>, Error> {
     let matches = mftb(alloc)?.try_get_matches_from(words)?;
-    match matches.subcommand() {
-        Some(("check", matches)) => Ok(Task::Check(Check {
-            store: matches.get_str("STORE").unwrap_or(""),
-            cache_pages: cache_pages_of(matches),
-            telling: telling_of(matches),
-        })),
-        Some(("migrate", matches)) => Ok(Task::Migrate(Migrate {
-            old: matches.get_str("OLD").unwrap_or(""),
-            new: matches.get_str("NEW").unwrap_or(""),
-        })),
-        Some(("part", matches)) => Ok(Task::Part(Part {
+    let (name, found) = matches.subcommand().unwrap_or(("run", &matches));
+    task_of(alloc, name, found)
+}
+
+/// What the words of a command ask for.
+fn task_of<'a>(alloc: Global, name: &str, matches: &ArgMatches<'a>) -> Result<Task<'a>, Error> {
+    Ok(match name {
+        "check" => Task::Check(check_of(matches)),
+        "migrate" => Task::Migrate(Migrate {
+            old: word_of(matches, "OLD"),
+            new: word_of(matches, "NEW"),
+        }),
+        "part" => Task::Part(Part {
             part: matches.get_one("K").unwrap_or(0),
             parts: matches.get_one("N").unwrap_or(1),
-            file: matches.get_str("FILE").unwrap_or(""),
-        })),
-        Some(("parts", matches)) => Ok(Task::Parts(Parts {
-            parts: matches.get_one("N").unwrap_or(1),
-            first: matches.get_one("first").unwrap_or(0),
-            count: matches.get_one("count"),
-            file: matches.get_str("FILE").unwrap_or(""),
-            folder: matches.get_str("DIR").unwrap_or(""),
-        })),
-        Some(("moments", matches)) => Ok(Task::Moments(moments_of(matches))),
-        Some(("info", matches)) => Ok(Task::Info(Info {
+            file: word_of(matches, "FILE"),
+        }),
+        "parts" => Task::Parts(parts_of(matches)),
+        "moments" => Task::Moments(moments_of(matches)),
+        "info" => Task::Info(Info {
             store: word_of(matches, "STORE"),
             is_json: matches.get_flag("json"),
-        })),
-        Some((_, matches)) => Ok(Task::Run(run_of(alloc, matches)?)),
-        None => Ok(Task::Run(Run {
-            store: "",
-            cache_pages: CACHE_PAGES,
-            script: "",
-            files: Vec::new(alloc),
-            in_place: false,
-            progress: false,
-            telling: Telling::OnTerminal,
-            is_strict: false,
-            is_existing: false,
-        })),
-    }
+        }),
+        _ => Task::Run(run_of(alloc, matches)?),
+    })
 }
