@@ -1,5 +1,5 @@
 -- Pages that say of all questions what they said, since all but page 0 are as they were.
-use Rattle.std.proofs.Common.{arith, ◌+◌, ℕ, zero, suc, Bool, ◌≡◌, ◌<◌, ◌∙◌, inl, inr, ⊎_elim, ◌⊎◌, All, List, length, take, refl, sym, ap, subst, slice_get}
+use Rattle.std.proofs.Common.{arith, ℕ, zero, suc, Bool, ◌≡◌, ◌<◌, ◌∙◌, inl, inr, ⊎_elim, All, List, length, take, refl, sym, ap, subst, slice_get}
 use Rattle.std.specs.List.{flat_map, filter, Contains}
 use Rattle.std.specs.Prelude.{map}
 use Rattle.std.proofs.lemmas.List.Elements.{All-weaker}
@@ -8,8 +8,8 @@ use Rattle.legs.specs.Hull.{leg_boxes}
 use Rattle.legs.specs.Legs.{LegView}
 use Rattle.legs.specs.Questions.{Question, InBox, OfFeature}
 use Rattle.tbtree.specs.Content.{kids, IsAstray, LeadsTo, LeadsToLeg}
-use Rattle.tbtree.specs.Descent.{children_met, entries_in, legs_in, legs_met, met_count, node_at, pages_met, HasInner, IsInOrder}
-use Rattle.tbtree.specs.Nodes.{EntryView, HasLeaf, Pages}
+use Rattle.tbtree.specs.Descent.{children_met, entries_in, legs_in, legs_met, met_count, node_at, pages_met, IsInOrder}
+use Rattle.tbtree.specs.Nodes.{EntryView, Pages}
 use Rattle.tbtree.specs.declared.tree.Place.{Place}
 use Rattle.tbtree.specs.declared.tree.TbTree.{TbTree}
 use Rattle.chains.proofs.ChainGrowth.{alike_beside}

@@ -1,6 +1,5 @@
 -- A page that a refused run of legs names was not what the next of them needed of it.
-use Rattle.std.proofs.Common.{Bool, ℕ, zero, suc, ◌+◌, ◌-◌, ◌^◌, ◌%◌, ◌<◌, ◌≤◌, ◌≡◌, ◌∙◌, min, true, false, refl, sym, ap, arith, subst, All, List, [], ◌∷◌, ◌++◌, take, drop, length, Some, None, slice_get, set, append_assoc, length-take, take-append-drop}
-use Rattle.std.specs.Prelude.{IsTrue}
+use Rattle.std.proofs.Common.{ℕ, zero, suc, ◌+◌, ◌-◌, ◌^◌, ◌%◌, ◌<◌, ◌≤◌, ◌≡◌, ◌∙◌, min, false, refl, sym, ap, arith, subst, All, List, [], ◌∷◌, ◌++◌, take, drop, length, Some, slice_get, set, append_assoc, length-take, take-append-drop}
 use Rattle.std.proofs.lemmas.Bool.{true≢false}
 use Rattle.std.proofs.lemmas.Int.{clamps}
 use Rattle.std.proofs.lemmas.List.Elements.{All-cons, All-drop, All-nil, All-take}

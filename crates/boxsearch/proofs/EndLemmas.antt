@@ -22,7 +22,7 @@ use Rattle.legs.proofs.LastLemmas.{answer_alike, answer_none, last_absent, last_
 use Rattle.tbtree.specs.Content.{ContentGrows, IsMadeRoot, LeadsToLeg}
 use Rattle.tbtree.specs.Descent.{found_legs, node_at, node_in, pages_met}
 use Rattle.tbtree.specs.Faults.{IfFull}
-use Rattle.tbtree.specs.Filling.{FillsLeaves, KeepsLegs}
+use Rattle.tbtree.specs.Filling.{KeepsLegs}
 use Rattle.tbtree.specs.Joining.{in_last_leaf, HasAtEnd}
 use Rattle.tbtree.specs.Nodes.{Pages, pages_of_cache, with_legs}
 use Rattle.tbtree.specs.Stands.{no_place}
@@ -34,7 +34,7 @@ use Rattle.tbtree.proofs.PlantedPages.{owner_of}
 use Rattle.tbtree.proofs.RoomLemmas.{count_all_other, count_all_same}
 use Rattle.tbtree.proofs.Still.{still}
 use Rattle.boxsearch.specs.Answers.{answered, of_tree}
-use Rattle.boxsearch.specs.Index.{IndexView, finds, found_by, leads_to, place_for, place_of, words, with_place}
+use Rattle.boxsearch.specs.Index.{IndexView, finds, found_by, leads_to, place_of, words, with_place}
 use Rattle.boxsearch.specs.Putting.{FillsSome, Puts, PutsAll}
 use Rattle.boxsearch.specs.Telling.{DeniesTrack, TellsTrack}
 use Rattle.boxsearch.proofs.AddLemmas.{made}

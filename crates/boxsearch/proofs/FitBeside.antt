@@ -1,5 +1,5 @@
 -- Pages of which legs need what they needed, since all but page 0 are as they were.
-use Rattle.std.proofs.Common.{ℕ, zero, suc, ◌+◌, ◌≡◌, ◌<◌, ◌∙◌, arith, refl, sym, ap, subst, List, slice_get, Some}
+use Rattle.std.proofs.Common.{ℕ, zero, suc, ◌≡◌, ◌<◌, ◌∙◌, arith, refl, sym, ap, List, slice_get}
 use Rattle.legs.specs.Boxes.{BoxView}
 use Rattle.legs.specs.Legs.{LegView}
 use Rattle.tbtree.specs.Content.{kids}

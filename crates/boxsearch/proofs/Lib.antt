@@ -36,3 +36,4 @@ pub mod EndLemmas
 pub mod LedLemmas
 pub mod EndedLemmas
 pub mod TurnLasts
+pub mod ChainCosts

@@ -1,5 +1,5 @@
 -- An index whose page 0 is marked.
-use Rattle.std.proofs.Common.{suc, slice_get, Bool, ℕ, ◌≡◌, ◌≢◌, ◌<◌, ◌≤◌, ⊎_elim, refl, sym, ap, ◌∙◌, arith, subst, true, false, cond, drop, length, List, [], All, IsTrue, Option, Some, None, option_map, Result}
+use Rattle.std.proofs.Common.{suc, slice_get, Bool, ℕ, ◌≡◌, ◌≢◌, ◌<◌, ◌≤◌, ⊎_elim, refl, sym, ap, ◌∙◌, arith, subst, true, false, cond, drop, length, List, [], All, IsTrue, Option, Some, None, option_map, Result, ◌+◌}
 use Rattle.std.specs.Prelude.{IfErr, OnOk, OnErr}
 use Rattle.std.proofs.lemmas.Bool.{cases_lt, true≢false}
 use Rattle.std.proofs.lemmas.Int.{clamps}
@@ -154,8 +154,8 @@ module _ (laws : FirstLaws) (old : IndexView) (c : Cache) (known : List (List Le
   pub starts : (r : Result (Unit {0}) CacheFault) → OnOk r (IsTrue old.cache.store.is_faithful → IsMarked c)
       → OnErr r (IsTrue old.cache.store.is_faithful → IsClean old.cache → drop 1 (pages_as_written c) ≡ drop 1 (pages_as_written old.cache))
       → OnErr r (IsTrue old.cache.store.is_faithful → IsClean old.cache → (Faulted old.cache.store c.store → ⊥) → pages_as_written c ≡ pages_as_written old.cache)
-      → OnOk r (IsTrue old.cache.store.is_faithful → (IsMarked old.cache → ⊥) → IsSynced c.store) → OnOk r (IsTrue old.cache.store.is_faithful → payload_of old.cache 0 ≡ None → ⊥) → IfErr r (IsNotMarked old.cache c) → Starts words old new (answered (λ fault. of_cache fault) r)
-  starts r marked others first synced there caused = record {
+      → OnOk r (IsTrue old.cache.store.is_faithful → (IsMarked old.cache → ⊥) → IsSynced c.store) → OnOk r (IsTrue old.cache.store.is_faithful → payload_of old.cache 0 ≡ None → ⊥) → IfErr r (IsNotMarked old.cache c) → c.asked ≤ old.cache.asked + 2 → Starts words old new (answered (λ fault. of_cache fault) r)
+  starts r marked others first synced there caused most = record {
     content = same_content;
     says = λ question.
         let same : IsTrue c.store.is_faithful → (p : ℕ) → 0 < p → (pages_of_cache c).at p ≡ (pages_of_cache old.cache).at p = λ fa p above. ap (option_map node_of) (m.rest (was_faithful fa) p above) in
@@ -169,6 +169,7 @@ module _ (laws : FirstLaws) (old : IndexView) (c : Cache) (known : List (List Le
     sound = still_sound;
     spent = refl;
     later = record { plan = refl; faults = m.store.faults; asked = (let a = m.asked in omega (arith, clamps, a)); faithful = λ fa. m.store.faithful ∙ fa };
+    asks = omega (arith, clamps, most);
     marks = each_value (λ fault. of_cache fault) (λ _. IsTrue old.cache.store.is_faithful → IsMarked c) r marked;
     marked = m.stays;
     synced = each_value (λ fault. of_cache fault) (λ _. IsTrue old.cache.store.is_faithful → (IsMarked old.cache → ⊥) → IsSynced c.store) r synced;

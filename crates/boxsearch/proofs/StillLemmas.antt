@@ -1,10 +1,9 @@
 -- Where the ways down an index lead, since all pages but page 0 are as they were.
-use Rattle.std.proofs.Common.{Bool, true, false, cond, ℕ, suc, ◌≡◌, ◌<◌, ◌∙◌, arith, refl, subst, sym, ap, List, [], None, IsTrue}
+use Rattle.std.proofs.Common.{Bool, true, false, cond, ℕ, suc, ◌≡◌, ◌<◌, ◌∙◌, arith, refl, subst, sym, ap, List, None, IsTrue}
 use Rattle.std.specs.List.{Contains}
 use Rattle.legs.specs.Asking.{LeadsStill}
 use Rattle.legs.specs.Boxes.{BoxView}
 use Rattle.legs.specs.Costs.{leg_feature}
-use Rattle.legs.specs.Legs.{LegView}
 use Rattle.pagecache.specs.Cache.{Cache}
 use Rattle.tbtree.specs.Descent.{node_at, node_in}
 use Rattle.tbtree.specs.Nodes.{pages_of_cache}

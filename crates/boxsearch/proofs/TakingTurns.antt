@@ -1,7 +1,7 @@
 -- Legs put into an index in any order in which each feature's ordinals rise.
 use Rattle.std.proofs.Common.{ℕ, zero, suc, All, drop, take, get_or, ◌≡◌, ◌≢◌, ◌≤◌, ◌<◌, ◌+◌, ◌*◌, ◌-◌, ◌^◌, min, max, refl, sym, ap, ◌∙◌, arith, subst, ⊎_elim, true, false, List, [], ◌∷◌, ◌++◌, length, set, Some, slice_get, Result, Ok, Err, OnOk, OnErr, append_assoc}
 use Rattle.std.specs.Prelude.{Bool, IfErr, IsErrOf, IsTrue}
-use Rattle.std.proofs.lemmas.Bool.{cases_eq, true≢false}
+use Rattle.std.proofs.lemmas.Bool.{cases_eq}
 use Rattle.std.proofs.lemmas.Int.{clamps}
 use Rattle.std.proofs.lemmas.List.{length-append, length-drop, length-set, append-nil, take_all}
 use Rattle.std.proofs.lemmas.List.Elements.{filter-append}

@@ -13,7 +13,7 @@ use Rattle.legs.specs.Index.{legs_of}
 use Rattle.legs.specs.Legs.{LegView, is_live}
 use Rattle.legs.specs.Questions.{answer_in, OfFeature}
 use Rattle.tbtree.specs.Filling.{FillsLeaves}
-use Rattle.tbtree.specs.Nodes.{ALeaf, LeafView, Pages}
+use Rattle.tbtree.specs.Nodes.{Pages}
 use Rattle.tbtree.specs.Stands.{no_place}
 use Rattle.tbtree.specs.declared.tree.Place.{Place}
 use Rattle.tbtree.proofs.RoomLemmas.{neq-eqb}

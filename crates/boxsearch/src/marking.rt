@@ -1,5 +1,5 @@
 //! The mark of a store that is not finished, in its page 0.
-ghost use Rattle.std.specs.Prelude.{◌≡◌, ◌<◌, drop, None, IsTrue, IfErr, OnErr, OnOk};
+ghost use Rattle.std.specs.Prelude.{◌≡◌, ◌<◌, ◌≤◌, ◌+◌, drop, None, IsTrue, IfErr, OnErr, OnOk};
 ghost use Rattle.pages.specs.Store.{Faulted, IsSynced};
 ghost use Rattle.pagecache.specs.Cache.{IsClean, pages_as_written, payload_of};
 ghost use Rattle.boxsearch.specs.Index.{IsMarked, MarksFirst, SyncsMark};
@@ -25,6 +25,7 @@ pub(crate) fn mark_page<S: PageStore>(cache: &mut PageCache<S>) -> Result<(), Ca
     ensures there { OnOk result (IsTrue cache.old.store.is_faithful
         → payload_of cache.old 0 ≡ None → ⊥) }
     ensures caused { IfErr result (IsNotMarked cache.old cache.new) }
+    ensures asks { cache.new.asked ≤ cache.old.asked + 2 }
 {
     let is_changed = cache.is_changed(0);
     if is_unfinished(cache.page(0)?) && !is_changed {

@@ -1,5 +1,6 @@
 -- What a call of an index leaves, and why it is refused.
 use Rattle.std.specs.Prelude.{Bool, ℕ, ℤ, ◌⊎◌, ◌≡◌, ◌≢◌, ◌≤◌, ◌≤ℤ◌, ◌<◌, ◌+◌, ◌-◌, ◌*◌, ◌%◌, ◌^◌, ◌++◌, ◌∷◌, [], drop, true, false, length, count_by, slice_get, All, List, Option, Some, None, Result, Err, IfErr, IsErrOf, OnErr, OnOk}
+use Rattle.std.specs.Int.{div_ceil}
 use Rattle.std.specs.List.{Contains}
 use Rattle.legs.specs.Boxes.{BoxView, box_of}
 use Rattle.legs.specs.Hull.{IsPruning, leg_boxes}
@@ -101,6 +102,24 @@ abbrev pub AsksAtMost : {I : Type 0} → Ghosts I → I → I → (Option ShapeV
 AsksAtMost g old new bound =
     g.is_sound old → RisesAtMost (g.asked old) (g.asked new) (bound (g.plan old) (g.content old))
 
+-- how many legs the place of a feature counts; none where there is no place
+abbrev pub placed_legs : Finding → ℕ → ℕ
+placed_legs finding feature = legs_at (slice_get finding.places feature)
+  where
+    legs_at : Option FeaturePlace → ℕ
+    legs_at (Some place) = place.legs
+    legs_at None = 0
+
+-- whatever its pages say, a search asks for no more pages than there are
+abbrev pub AsksNoMore : {I : Type 0} → Ghosts I → I → I → Type 0
+AsksNoMore g old new = g.asked new ≤ g.asked old + (g.found_by old).pages
+
+-- and a question about a feature for no more than full leaves of its legs would be
+abbrev pub AsksChain : {I : Type 0} → Ghosts I → I → I → ℕ → Type 0
+AsksChain g old new feature =
+    (shape : ShapeView) → g.plan old ≡ Some shape
+    → g.asked new ≤ g.asked old + div_ceil (placed_legs (g.found_by old) feature) shape.leaf
+
 -- a sound index is sound, and has these legs at its end
 pub record Ends {I : Type 0} (g : Ghosts I) (old new : I) (legs : List LegView) : Type 0 where
   pub sound : g.is_sound new
@@ -109,14 +128,6 @@ pub record Ends {I : Type 0} (g : Ghosts I) (old new : I) (legs : List LegView) 
 -- what legs make of a sound index, where they may follow one another
 abbrev pub Grows : {I : Type 0} → Ghosts I → I → I → List LegView → Type 0
 Grows g old new legs = g.is_sound old → CanFollowInTurn (g.content old) legs → Ends g old new legs
-
--- how many legs the place of a feature counts; none where there is no place
-abbrev pub placed_legs : Finding → ℕ → ℕ
-placed_legs finding feature = legs_at (slice_get finding.places feature)
-  where
-    legs_at : Option FeaturePlace → ℕ
-    legs_at (Some place) = place.legs
-    legs_at None = 0
 
 -- what its pages told of a question they tell, and what they denied they deny
 pub record SaysStill {I : Type 0} (g : Ghosts I) (old new : I) (question : Question) : Type 0 where
@@ -276,6 +287,7 @@ pub record Starts {I A : Type 0} (g : Ghosts I) (old new : I)
   pub sound : g.is_sound old → g.is_sound new
   pub spent : g.is_spent new ≡ g.is_spent old
   pub later : IsLater g old new
+  pub asks : g.asked new ≤ g.asked old + 2
   pub marks : OnOk result (g.is_faithful old → g.is_marked new)
   pub marked : g.is_marked old → g.is_marked new
   pub synced : OnOk result (g.is_faithful old → (g.is_marked old → ⊥) → g.is_synced new)

@@ -41,7 +41,7 @@ pub trait LegIndex: Listed {
     ghost use Rattle.legs.specs.Index.{legs_in_box, legs_of, live_legs_of};
     ghost use Rattle.legs.specs.Questions.{InBox, OfFeature};
     ghost use Rattle.legs.specs.Costs.{known_bound, search_cost, track_cost, track_in_bound};
-    ghost use Rattle.legs.specs.Asking.{AddAllAsks, AddAsks, Asks, AsksAtMost, Denies, Grows, IsLater, Leaves, LegRefusals, Recalls, Refusals, HasAdded, TellsSieved};
+    ghost use Rattle.legs.specs.Asking.{AddAllAsks, AddAsks, Asks, AsksAtMost, AsksChain, AsksNoMore, Denies, Grows, HasAdded, IsLater, Leaves, LegRefusals, Recalls, Refusals, TellsSieved};
     ghost use Rattle.legs.specs.Sieves.{IsSieved};
 
     /// How many legs there are.
@@ -85,6 +85,7 @@ pub trait LegIndex: Listed {
         ensures told { MatchResult result (λ legs. Self.tells self.old (InBox query.now) legs.items)
             (λ fault. Denies Self.Listed self.old (InBox query.now) fault) }
         ensures asks { OnOk result (Asks Self.Listed self.old self.new (search_cost query.now)) }
+        ensures most { AsksNoMore Self.Listed self.old self.new }
         ensures leaves { Leaves Self.Listed self.old self.new }
         ensures recalls { Recalls Self.Listed self.old self.new }
         ensures refusals { Refusals Self.Listed self.old self.new result };
@@ -97,6 +98,7 @@ pub trait LegIndex: Listed {
             (λ legs. Self.tells self.old (OfFeature feature None) legs.items)
             (λ fault. Denies Self.Listed self.old (OfFeature feature None) fault) }
         ensures asks { OnOk result (Asks Self.Listed self.old self.new (track_cost feature)) }
+        ensures most { AsksChain Self.Listed self.old self.new feature }
         ensures learns { OnOk result ((start : ℤ) → Self.knows self.new feature start) }
         ensures leaves { Leaves Self.Listed self.old self.new }
         ensures recalls { Recalls Self.Listed self.old self.new }
@@ -121,6 +123,7 @@ pub trait LegIndex: Listed {
             (track_in_bound feature period.now)) }
         ensures asks_known { OnOk result (Self.knows self.old feature period.now.start
             → AsksAtMost Self.Listed self.old self.new (known_bound feature period.now)) }
+        ensures most { AsksChain Self.Listed self.old self.new feature }
         ensures learns { OnOk result ((start : ℤ) → period.now.start ≤ℤ start
             → Self.knows self.new feature start) }
         ensures leaves { Leaves Self.Listed self.old self.new }

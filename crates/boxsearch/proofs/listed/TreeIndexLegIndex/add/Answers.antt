@@ -1,4 +1,4 @@
-use Rattle.std.proofs.Common.{◌≡◌, ◌<◌, ◌-◌, ◌^◌, min, inr, true, false, arith, refl, ap, subst, sym, ◌∙◌, ◌∷◌, ◌++◌, [], length, Some}
+use Rattle.std.proofs.Common.{◌≡◌, ◌<◌, ◌-◌, ◌^◌, min, inr, false, arith, refl, ap, subst, sym, ◌∙◌, ◌∷◌, ◌++◌, [], length, Some}
 use Rattle.std.specs.Prelude.{OnOk}
 use Rattle.std.proofs.lemmas.Bool.{true≢false}
 use Rattle.legs.specs.Asking.{Ends, HasAdded, LegRefusals}

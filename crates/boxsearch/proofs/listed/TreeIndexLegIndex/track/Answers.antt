@@ -1,21 +1,24 @@
-use Rattle.std.proofs.Common.{set, ◌≡◌, ◌-◌, ◌^◌, ◌<◌, length, min, ap, subst, sym, ◌∙◌, arith, false, slice_get, Some, None, map, ℕ, ℤ, IsTrue, Option}
+use Rattle.std.specs.Int.{div_ceil}
+use Rattle.legs.specs.Costs.{ShapeView}
+use Rattle.std.proofs.Common.{set, ◌≡◌, ◌-◌, ◌^◌, ◌<◌, length, min, ap, subst, sym, ◌∙◌, arith, false, slice_get, Some, None, map, ℕ, ℤ, IsTrue, Option, ◌≤◌, ◌+◌}
 use Rattle.std.specs.Prelude.{IfOk, MatchResult, OnOk}
 use Rattle.timebase.specs.Period.{PeriodView}
 use Rattle.boxsearch.specs.Known.{KnowsBackTo}
 use Rattle.boxsearch.proofs.AnswerLemmas.{each_value}
 use Rattle.boxsearch.proofs.KnowsLemmas.{learned, ok_all, recalled}
-use Rattle.legs.specs.Asking.{Denies, Leaves, Refusals}
+use Rattle.legs.specs.Asking.{placed_legs, Denies, Leaves, Refusals}
 use Rattle.legs.specs.Questions.{OfFeature}
 use Rattle.legs.specs.Costs.{RisesBy, track_cost}
 use Rattle.legs.specs.Index.{legs_of}
 use Rattle.boxsearch.specs.Answers.{answered, of_tree}
-use Rattle.boxsearch.specs.Index.{IndexView, words, content, tells, IsSound}
+use Rattle.boxsearch.specs.Index.{found_by, IndexView, words, content, tells, IsSound}
 use Rattle.boxsearch.proofs.IndexLemmas.{reads_leave}
 use Rattle.boxsearch.proofs.KnownLemmas.{known_after, known_of, of_answer}
 use Rattle.tbtree.specs.Nodes.{pages_of_cache}
 use Rattle.chains.specs.Spans.{IsKnown, IsKnownBackTo}
 use Rattle.boxsearch.proofs.ResultLemmas.{on_ok}
 use Rattle.boxsearch.proofs.TellLemmas.{none_told, track_told}
+use Rattle.boxsearch.proofs.ChainCosts.{chain_capped}
 use Rattle.boxsearch.proofs.TrackLemmas.{absent, absent_cost, rises_capped, track_asked, track_found, track_refusals}
 use Rattle.boxsearch.proofs.listed.TreeIndexLegIndex.track.Goals as goal
 
@@ -123,3 +126,12 @@ returns-clause-learns g c =
     subst (λ r. OnOk r P) (sym c.answer.ensures)
     (each_value (λ fault. of_tree fault) (λ _. P) c.trajectory.result
     (on_ok c.trajectory.result (λ (h : IsTrue inside.cache.store.is_faithful → (period : Option PeriodView) → Unit {0} → Back period) start. learned (λ v. v.items) inside.cache new inside.tree.shape inside.places c.self.inside.known.items c.make_room.new.known.items f c.trajectory.ensures.reads.only c.make_room.ensures.holds room c.index_mut-spans.result.now c.trajectory.new.spans c.index_mut-spans.ensures.value c.in-Some.place start at (λ fa period _. h fa (Some period) tt)) back))
+
+pub returns-clause-most : goal.returns-clause-most
+returns-clause-most g c =
+    let inside : IndexView = record { cache = c.self.inside.cache; tree = c.self.inside.tree; places = c.self.inside.places.items; legs = c.self.inside.legs; known = map (λ spans. spans.items) c.self.inside.known.items } in
+    let f = c.args.feature in
+    let new = c.trajectory.new.cache.asked in
+    let at : slice_get inside.places f ≡ Some c.in-Some.place = ap (λ (i : IndexView). slice_get i.places f) c.self.view_is ∙ sym c.place.ensures ∙ c.in-Some.is in
+    subst (λ (i : IndexView). (shape : ShapeView) → Some i.tree.shape ≡ Some shape → min new (2 ^ 64 - 1) ≤ min i.cache.asked (2 ^ 64 - 1) + div_ceil (placed_legs (found_by i) f) shape.leaf) c.self.view_is
+    (chain_capped inside f c.in-Some.place new at c.trajectory.ensures.most)

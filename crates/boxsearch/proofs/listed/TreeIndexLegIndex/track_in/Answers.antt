@@ -1,23 +1,26 @@
-use Rattle.std.proofs.Common.{set, ◌≡◌, ◌-◌, ◌^◌, ◌<◌, length, min, ap, subst, sym, ◌∙◌, false, slice_get, Some, map, ℕ, ℤ, ◌≤ℤ◌, IsTrue}
+use Rattle.std.specs.Int.{div_ceil}
+use Rattle.legs.specs.Costs.{ShapeView}
+use Rattle.std.proofs.Common.{set, ◌≡◌, ◌-◌, ◌^◌, ◌<◌, length, min, ap, subst, sym, ◌∙◌, false, slice_get, Some, map, ℕ, ℤ, ◌≤ℤ◌, IsTrue, ◌≤◌, ◌+◌}
 use Rattle.std.specs.Prelude.{IfOk, MatchResult, OnOk, filter}
 use Rattle.timebase.specs.Period.{PeriodView}
 use Rattle.boxsearch.specs.Known.{KnowsBackTo}
 use Rattle.boxsearch.proofs.AnswerLemmas.{each_value}
 use Rattle.boxsearch.proofs.KnowsLemmas.{known_back, learned, le_then, ok_all, ok_two, recalled}
-use Rattle.legs.specs.Asking.{Denies, Leaves, Refusals, TellsSieved}
+use Rattle.legs.specs.Asking.{placed_legs, Denies, Leaves, Refusals, TellsSieved}
 use Rattle.legs.specs.Sieves.{IsSieved, sieved_same}
 use Rattle.legs.specs.Questions.{OfFeature}
 use Rattle.legs.specs.Costs.{RisesAtMost, known_bound, track_in_bound}
 use Rattle.legs.specs.Index.{live_legs_of}
 use Rattle.legs.specs.Legs.{is_live}
 use Rattle.boxsearch.specs.Answers.{answered, of_tree}
-use Rattle.boxsearch.specs.Index.{IndexView, words, content, IsSound}
+use Rattle.boxsearch.specs.Index.{found_by, IndexView, words, content, IsSound}
 use Rattle.boxsearch.proofs.IndexLemmas.{reads_leave}
 use Rattle.boxsearch.proofs.KnownLemmas.{known_after, known_of, of_answer}
 use Rattle.tbtree.specs.Nodes.{pages_of_cache}
 use Rattle.chains.specs.Spans.{IsKnown, IsKnownBackTo}
 use Rattle.boxsearch.proofs.ResultLemmas.{on_ok}
 use Rattle.boxsearch.proofs.TellLemmas.{none_sieved, track_sieved}
+use Rattle.boxsearch.proofs.ChainCosts.{chain_capped}
 use Rattle.boxsearch.proofs.TrackLemmas.{absent, has_feature, rises_capped_most, track_asked, track_found, track_refusals}
 use Rattle.boxsearch.proofs.listed.TreeIndexLegIndex.track_in.Goals as goal
 
@@ -144,3 +147,12 @@ returns-clause-asks_known g c =
     (λ knows s. on_ok c.trajectory_in.result (rises_capped_most inside.cache.asked new.asked (known_bound f period (Some inside.tree.shape) (content inside)))
     (c.trajectory_in.ensures.met s.faithful (content inside) (has_feature inside f c.in-Some.place s at)
     (known_back (λ v. v.items) inside.cache new inside.tree.shape inside.places c.self.inside.known.items c.make_room.new.known.items f c.trajectory_in.ensures.reads.only c.make_room.ensures.holds room c.index_mut-spans.result.now c.trajectory_in.new.spans c.index_mut-spans.ensures.value c.in-Some.place period at knows s.faithful))))))
+
+pub returns-clause-most : goal.returns-clause-most
+returns-clause-most g c =
+    let inside : IndexView = record { cache = c.self.inside.cache; tree = c.self.inside.tree; places = c.self.inside.places.items; legs = c.self.inside.legs; known = map (λ spans. spans.items) c.self.inside.known.items } in
+    let f = c.args.feature in
+    let new = c.trajectory_in.new.cache.asked in
+    let at : slice_get inside.places f ≡ Some c.in-Some.place = ap (λ (i : IndexView). slice_get i.places f) c.self.view_is ∙ sym c.place.ensures ∙ c.in-Some.is in
+    subst (λ (i : IndexView). (shape : ShapeView) → Some i.tree.shape ≡ Some shape → min new (2 ^ 64 - 1) ≤ min i.cache.asked (2 ^ 64 - 1) + div_ceil (placed_legs (found_by i) f) shape.leaf) c.self.view_is
+    (chain_capped inside f c.in-Some.place new at c.trajectory_in.ensures.most)

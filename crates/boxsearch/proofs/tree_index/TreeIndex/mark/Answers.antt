@@ -14,7 +14,7 @@ returns-clause-starts g c =
     let laws : FirstLaws = record { found = c.laws.ensures.same; stands = c.laws.ensures.same_stands } in
     subst (λ i. Starts words i new c.of_pages.result) c.self.view_is
     (subst (λ r. Starts words inside new r) (sym c.of_pages.ensures)
-    (starts laws inside c.mark_page.new.cache (map (λ spans. spans.items) c.new.result.items) c.mark_page.ensures.marks c.mark_page.result c.mark_page.ensures.marked c.mark_page.ensures.others c.mark_page.ensures.first c.mark_page.ensures.unmarked c.mark_page.ensures.there c.mark_page.ensures.caused))
+    (starts laws inside c.mark_page.new.cache (map (λ spans. spans.items) c.new.result.items) c.mark_page.ensures.marks c.mark_page.result c.mark_page.ensures.marked c.mark_page.ensures.others c.mark_page.ensures.first c.mark_page.ensures.unmarked c.mark_page.ensures.there c.mark_page.ensures.caused c.mark_page.ensures.asks))
 
 pub returns-clause-refusals : goal.returns-clause-refusals
 returns-clause-refusals g c =
