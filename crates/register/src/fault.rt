@@ -2,11 +2,11 @@
 use std::alloc::{AllocError, AllocFailed};
 use thiserror::Error;
 
-/// Why a catalogue was not saved or restored.
+/// Why a catalogue was not saved or restored, and so why a database was not made, or not opened.
 #[derive(Clone, Copy, PartialEq, Eq, Debug, Error)]
 pub enum CatalogueFault {
     /// Memory ran out.
-    #[error("out of memory")]
+    #[error("memory ran out")]
     Memory,
     /// The store failed.
     #[error("the store failed")]

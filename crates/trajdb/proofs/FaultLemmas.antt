@@ -1,5 +1,5 @@
 -- Why calls stopped.
-use Rattle.std.proofs.Common.{ℕ, ◌+◌, ◌≤◌, ◌≡◌, ◌∙◌, refl, arith, List, Option, Some, None, All, false, Bool, [], ◌∷◌, eqb, inl, inr, length, ◌<◌, ⊎_elim, subst, sym}
+use Rattle.std.proofs.Common.{ℕ, zero, suc, ◌-◌, ◌+◌, ◌≤◌, ◌≡◌, ◌∙◌, refl, arith, List, Option, Some, None, All, false, Bool, [], ◌∷◌, eqb, inl, inr, length, ◌<◌, ⊎_elim, subst, sym}
 use Rattle.std.specs.Prelude.{filter}
 use Rattle.legs.specs.Legs.{LegView}
 use Rattle.legs.specs.Book.{Book}
@@ -12,7 +12,9 @@ use Rattle.legs.specs.declared.listed.Listed.{Ghosts}
 use Rattle.legs.specs.declared.index.IndexFault.{IndexFault}
 use Rattle.legs.specs.declared.index.IndexFault.TheVariants as index
 use Rattle.legs.specs.Tracks.{IsOver, TracksView}
-use Rattle.legs.specs.Asking.{Recalls}
+use Rattle.legs.specs.Asking.{AsksChain, placed_legs, Leaves as IndexLeaves, Recalls}
+use Rattle.legs.specs.Finding.{Finding}
+use Rattle.std.specs.Int.{div_ceil}
 use Rattle.trajdb.specs.declared.RunFault.{RunFault}
 use Rattle.trajdb.specs.declared.RunFault.TheVariants.{Memory, Store, Damaged, StoreFull, Failed, Output}
 use Rattle.std.specs.List.{range_with_len}
@@ -22,7 +24,7 @@ use Rattle.trajdb.specs.Answers.{track_of}
 use Rattle.trajdb.specs.Picks.{Picks}
 use Rattle.trajdb.specs.Faults.{run_fault_of}
 use Rattle.trajdb.specs.Database.{CoreView, IsSound}
-use Rattle.trajdb.specs.Calls.{IsLater, LeavesBook, feature_bound, features_bound, IsText, IsRefused, IsStopped, IsRunStop, KnowsOf, known_features_bound}
+use Rattle.trajdb.specs.Calls.{AsksChains, AsksTrack, full_leaves, IsLater, LeavesBook, feature_bound, features_bound, IsText, IsRefused, IsStopped, IsRunStop, KnowsOf, known_features_bound}
 
 -- a text that was not made, of what is there
 pub text_refused : {I : Type 0} (g : Ghosts I) (old new : CoreView I) (P : Type 0) (fault : RunFault) → IsText P fault → (IsSound g old → P) → IsRefused g old new fault
@@ -162,3 +164,47 @@ bound_more k period plan legs = sum_by-map-range_with_len_more (λ bound. bound)
 
 pub there_all : (old new : Book) (legs : List LegView) → All (IsThere old) old.legs → new ≡ old → legs ≡ old.legs → All (IsThere new) legs
 there_all old new legs all same found = rw (same, found) all
+
+-- full leaves of one more feature
+leaves_more : (finding : Finding) (shape : ShapeView) (k : ℕ) → full_leaves finding shape (range_with_len 0 (k + 1)) ≡ full_leaves finding shape (range_with_len 0 k) + div_ceil (placed_legs finding k) shape.leaf
+leaves_more finding shape k = sum_by-map-range_with_len_more (λ leaves. leaves) (λ feature. div_ceil (placed_legs finding feature) shape.leaf) 0 k k (let e : 0 + k ≡ k = omega arith in e)
+
+leaves_grow : (finding : Finding) (shape : ShapeView) (k d : ℕ) → full_leaves finding shape (range_with_len 0 k) ≤ full_leaves finding shape (range_with_len 0 (k + d))
+leaves_grow finding shape k zero =
+    let same : k ≡ k + 0 = omega arith in
+    let here : full_leaves finding shape (range_with_len 0 k) ≤ full_leaves finding shape (range_with_len 0 k) = omega arith in
+    subst (λ (n : ℕ). full_leaves finding shape (range_with_len 0 k) ≤ full_leaves finding shape (range_with_len 0 n)) same here
+leaves_grow finding shape k (suc d) =
+    let before = leaves_grow finding shape k d in
+    let more = leaves_more finding shape (k + d) in
+    let same : k + d + 1 ≡ k + suc d = omega arith in
+    let here : full_leaves finding shape (range_with_len 0 k) ≤ full_leaves finding shape (range_with_len 0 (k + d + 1)) = omega (arith, before, more) in
+    subst (λ (n : ℕ). full_leaves finding shape (range_with_len 0 k) ≤ full_leaves finding shape (range_with_len 0 n)) same here
+
+leaves_most : (finding : Finding) (shape : ShapeView) (k n : ℕ) → k ≤ n → full_leaves finding shape (range_with_len 0 k) ≤ full_leaves finding shape (range_with_len 0 n)
+leaves_most finding shape k n le =
+    let same : k + (n - k) ≡ n = omega (arith, le) in
+    subst (λ (m : ℕ). full_leaves finding shape (range_with_len 0 k) ≤ full_leaves finding shape (range_with_len 0 m)) same (leaves_grow finding shape k (n - k))
+
+-- a question about one more feature, after those about the ones before it
+pub chains_more : {I : Type 0} (g : Ghosts I) (a b c : I) (k : ℕ) → IndexLeaves g a b → AsksChains g a b (range_with_len 0 k) → AsksChain g b c k → AsksChains g a c (range_with_len 0 (k + 1))
+chains_more g a b c k leaves before now shape plan =
+    let first = before shape plan in
+    let next : g.asked c ≤ g.asked b + div_ceil (placed_legs (g.found_by a) k) shape.leaf =
+    subst (λ (finding : Finding). g.asked c ≤ g.asked b + div_ceil (placed_legs finding k) shape.leaf) leaves.found_by (now shape (leaves.later.plan ∙ plan)) in
+    let more = leaves_more (g.found_by a) shape k in
+    omega (arith, first, next, more)
+
+-- the first features ask for no more than all of them
+pub chains_all : {I : Type 0} (g : Ghosts I) (a b : I) (k n : ℕ) → k ≤ n → AsksChains g a b (range_with_len 0 k) → AsksChains g a b (range_with_len 0 n)
+chains_all g a b k n le asks shape plan =
+    let first = asks shape plan in
+    let all = leaves_most (g.found_by a) shape k n le in
+    omega (arith, first, all)
+
+-- a question about the feature of a name
+pub track_asked : {I : Type 0} (g : Ghosts I) (a b : I) (o : Option ℕ) (feature : ℕ) → o ≡ Some feature → AsksChain g a b feature → AsksTrack g a b o
+track_asked g a b o feature there asks = subst (λ (p : Option ℕ). AsksTrack g a b p) (sym there) asks
+
+pub none_asked : {I : Type 0} (g : Ghosts I) (a : I) (o : Option ℕ) → o ≡ None → AsksTrack g a a o
+none_asked g a o there = subst (λ (p : Option ℕ). AsksTrack g a a p) (sym there) refl

@@ -1,6 +1,6 @@
 -- A database that lasts between runs.
 use Rattle.trajdb.specs.declared.RunFault.{RunFault}
-use Rattle.std.proofs.Common.{ℕ, Bool, Option, ◌≡◌, refl, sym, ap, ◌∙◌, arith, subst, true, false, Result, Ok, Err, IsTrue}
+use Rattle.std.proofs.Common.{Bool, ◌≡◌, refl, sym, ap, ◌∙◌, arith, subst, true, false, Result, Ok, Err, IsTrue}
 use Rattle.std.specs.Prelude.{◌⊎◌, IfErr, OnErr, OnOk, IsErrOf}
 use Rattle.legs.specs.Book.{Book}
 use Rattle.legs.specs.Costs.{ShapeView}
@@ -9,14 +9,11 @@ use Rattle.legs.specs.Limits.{IsLimits, LimitsView}
 use Rattle.legs.specs.Tracks.{StandsFor}
 use Rattle.boxsearch.specs.Index.{content, words, IndexView, IsMarked, IsSound as IsSoundIndex}
 use Rattle.catalogue.specs.Holding.{AnswersBook, HoldsBook, HoldsButFirst, HoldsIndex, HoldsIndexButFirst, IsAtRest, IsOfBook, IsUnfinishedStore}
-use Rattle.register.specs.Lasting as catalogue
-use Rattle.register.specs.Stopping as stopping
 use Rattle.register.specs.Saved.{CatalogueView}
 use Rattle.register.specs.Saving.{HasFew, IsSavingStop}
 use Rattle.register.specs.declared.fault.CatalogueFault.{CatalogueFault}
 use Rattle.register.specs.declared.fault.CatalogueFault.TheVariants as fault
 use Rattle.pages.specs.Store.{Store, IsLawful, IsSynced, IsSyncedButFirst}
-use Rattle.pages.specs.declared.payload.Payload.{Payload}
 use Rattle.pagecache.specs.Cache.{IsSettled}
 use Rattle.catalogue.specs.Closing.{IsNoStoreFault}
 use Rattle.catalogue.specs.Closing as closing
@@ -25,9 +22,8 @@ use Rattle.legs.specs.Asking.{Leaves as IndexLeaves}
 use Rattle.trajdb.specs.Calls.{IsLoadFault, KeepsPages}
 use Rattle.trajdb.specs.Database.{catalogue_of, restored}
 use Rattle.trajdb.specs.Db.{DbView, HasPages, IsSoundDb}
-use Rattle.trajdb.specs.Db.{IsAllowed as IsAllowedOpening}
-use Rattle.trajdb.specs.Faults.{closed_answer, opened_fault_of}
-use Rattle.trajdb.specs.Lasting.{HasBook, IsClosingFault, IsFaultless, IsIdle, IsNamedAtOpen, IsStop, IsTrulyDamaged, TakesFew, IsTooFull}
+use Rattle.trajdb.specs.Faults.{closed_answer}
+use Rattle.trajdb.specs.Lasting.{HasBook, IsClosingFault, IsFaultless, IsIdle, TakesFew, IsTooFull}
 
 -- a book that is answered is that of the database
 pub opened_book : (shape : ShapeView) (limits : LimitsView) (book : Book) (c : CatalogueView) (index : IndexView) (begun : Bool) (db : DbView) → db ≡ restored words c index begun → IsLimits db.limits → AnswersBook shape limits book c index → HasBook shape limits book db
@@ -47,46 +43,6 @@ opened_book shape limits book c index begun db is lawful answers =
       book_is = all;
       limits_are = limits_are;
     }
-
--- a page that is damaged is said to be
-pub damaged_still : (faithful : Bool) (at : ℕ → Option Payload) (count : ℕ) (e : CatalogueFault) → catalogue.IsTrulyDamaged faithful at count e → IsTrulyDamaged faithful at count (opened_fault_of e)
-damaged_still faithful at count Memory h = tt
-damaged_still faithful at count fault.Store h = tt
-damaged_still faithful at count StoreFull h = tt
-damaged_still faithful at count (Damaged page) h = h
-damaged_still faithful at count Unfinished h = tt
-damaged_still faithful at count Version h = tt
-damaged_still faithful at count Malformed h = tt
-
--- and what is named
-pub named_still : (at : ℕ → Option Payload) (count : ℕ) (e : CatalogueFault) → stopping.NamesStop at count e → IsNamedAtOpen at count (opened_fault_of e)
-named_still at count Memory h = tt
-named_still at count fault.Store h = tt
-named_still at count StoreFull h = tt
-named_still at count (Damaged page) h = h
-named_still at count Unfinished h = tt
-named_still at count Version h = tt
-named_still at count Malformed h = h
-
--- want of memory and a store that failed stay so
-pub stopped : (e : CatalogueFault) → catalogue.IsStop e → IsStop (opened_fault_of e)
-stopped Memory h = tt
-stopped fault.Store h = tt
-stopped StoreFull h = h
-stopped (Damaged page) h = h
-stopped Unfinished h = h
-stopped Version h = h
-stopped Malformed h = h
-
--- and so does a new store that is full
-pub allowed_opening : (e : CatalogueFault) → IsSavingStop e → IsAllowedOpening (opened_fault_of e)
-allowed_opening Memory h = tt
-allowed_opening fault.Store h = tt
-allowed_opening StoreFull h = tt
-allowed_opening (Damaged page) h = h
-allowed_opening Unfinished h = h
-allowed_opening Version h = h
-allowed_opening Malformed h = h
 
 -- a database that is as a question leaves it is at rest where it was
 pub keeps_idle : ((c : CatalogueView) (a b : IndexView) → IsAtRest c a → IndexLeaves words a b → IsAtRest c b) → (old new : DbView) → KeepsPages words old new → IsIdle old → IsIdle new

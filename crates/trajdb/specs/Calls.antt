@@ -1,17 +1,19 @@
 -- What a call of a database leaves, and why it stopped.
-use Rattle.std.specs.Prelude.{ℕ, ℤ, ◌≡◌, ◌<◌, [], slice_index_or, true, false, List, Option, Some, None, Result, Ok, Err, IsTrue, is_some, if◌then◌else◌, ◌⊎◌, ◌↔◌, drop, length, sum_by, map, ◌++◌}
+use Rattle.std.specs.Prelude.{ℕ, ℤ, ◌≡◌, ◌<◌, ◌≤◌, ◌+◌, [], slice_index_or, true, false, List, Option, Some, None, Result, Ok, Err, IsTrue, is_some, if◌then◌else◌, ◌⊎◌, ◌↔◌, drop, length, sum_by, map, ◌++◌}
+use Rattle.std.specs.Int.{div_ceil}
 use Rattle.std.specs.List.{range_with_len}
 use Rattle.timebase.specs.Period.{PeriodView}
 use Rattle.legs.specs.declared.head.BookHead.{BookHead}
 use Rattle.legs.specs.Legs.{LegView}
 use Rattle.legs.specs.Boxes.{box_over, everything}
 use Rattle.legs.specs.Book.{Book, feature_of, head_with, joined, with_file}
-use Rattle.legs.specs.Costs.{ShapeView, RisesBy, RisesAtMost, known_bound, reaches, search_cost, track_cost, track_in_bound}
+use Rattle.legs.specs.Costs.{ShapeView, RisesBy, RisesAtMost, add_all_bound, known_bound, reaches, search_cost, track_cost, track_in_bound}
 use Rattle.predicates.specs.Near.{box_near}
-use Rattle.legs.specs.Limits.{LimitsView, IsLimits}
+use Rattle.legs.specs.Finding.{Finding}
+use Rattle.legs.specs.Limits.{LimitsView, IsLimits, most}
 use Rattle.legs.specs.Tracks.{IsOver, StandsFor}
-use Rattle.legs.specs.Index.{HasRisen, legs_of}
-use Rattle.legs.specs.Asking.{Blames, HasAdded, IsLater as IsLaterIndex, LacksPages, Leaves as IndexLeaves, SkipsFeature}
+use Rattle.legs.specs.Index.{CanFollowInTurn, HasRisen, legs_of}
+use Rattle.legs.specs.Asking.{AsksChain, AsksNoMore, placed_legs, Blames, HasAdded, IsLater as IsLaterIndex, LacksPages, Leaves as IndexLeaves, SkipsFeature}
 use Rattle.legs.specs.declared.listed.Listed.{Ghosts}
 use Rattle.mfcsv.specs.FileText.{file_of_bytes}
 use Rattle.mfcsv.specs.declared.File.{File}
@@ -57,6 +59,13 @@ pub record IsUnwritten {I : Type 0} (g : Ghosts I) (old new : I) : Type 0 where
 pub record LeavesPages {I : Type 0} (g : Ghosts I) (old new : I) : Type 0 where
   pub marked : g.is_marked old → g.is_marked new
   pub clean : g.is_clean old → g.is_marked new ⊎ IsUnwritten g old new
+
+-- of a sound index legs that may follow one another ask for at most what they ask for alone, and twice for page 0
+abbrev pub LoadAsks : {I : Type 0} → Ghosts I → I → I → List LegView → Type 0
+LoadAsks g old new legs =
+    g.is_sound old → CanFollowInTurn (g.content old) legs
+    → RisesAtMost (g.asked old) (g.asked new)
+    (add_all_bound (g.plan old) (g.content old) legs + 2)
 
 -- of a database that has begun page 0 is marked; of one that has neither begun nor failed no page is changed
 pub record HasPages {I : Type 0} (g : Ghosts I) (core : CoreView I) : Type 0 where
@@ -404,6 +413,12 @@ AsksFor book plan (Trajectory name) old new =
     RisesBy old new (track_asks (feature_of book.names name) plan book.legs)
 AsksFor book plan Write old new = RisesBy old new (write_asks book.head plan book.legs)
 
+-- a load that is answered asked for at most what the legs that it put in ask for, and twice for page 0
+abbrev pub AsksForLegs : {I : Type 0} → Ghosts I → CoreView I → CoreView I → Type 0
+AsksForLegs g old new =
+    RisesAtMost (g.asked old.index) (g.asked new.index)
+    (add_all_bound (g.plan old.index) old.book.legs (drop (length old.book.legs) new.book.legs) + 2)
+
 -- of a sound database a question asked for that many pages
 abbrev pub Asks : {I : Type 0} → Ghosts I → CoreView I → CoreView I
     → (Option ShapeView → List LegView → ℕ) → Type 0
@@ -436,6 +451,38 @@ AsksKnown g old new (Features predicate rect period) =
     (known_features_bound (range_with_len 0 (length old.book.names)) period)
 AsksKnown g old new (Trajectory name) = Unit {0}
 AsksKnown g old new Write = Unit {0}
+
+-- how many full leaves the legs of features would be
+abbrev pub full_leaves : Finding → ShapeView → List ℕ → ℕ
+full_leaves finding shape features =
+    sum_by (λ leaves. leaves)
+    (map (λ feature. div_ceil (placed_legs finding feature) shape.leaf) features)
+
+-- whatever its pages say, questions about features ask for no more of them than full leaves of their legs would be
+abbrev pub AsksChains : {I : Type 0} → Ghosts I → I → I → List ℕ → Type 0
+AsksChains g old new features =
+    (shape : ShapeView) → g.plan old ≡ Some shape
+    → g.asked new ≤ g.asked old + full_leaves (g.found_by old) shape features
+
+-- so does one about a feature that may be there, and for none where it is not
+abbrev pub AsksTrack : {I : Type 0} → Ghosts I → I → I → Option ℕ → Type 0
+AsksTrack g old new (Some feature) = AsksChain g old new feature
+AsksTrack g old new None = g.asked new ≡ g.asked old
+
+-- whatever the pages say, and answered or not, a command that searches asks for no more of them than there are, one about
+-- features, of which there are not too many, for no more than full leaves of their legs would be, and `count` for none
+abbrev pub AsksFew : {I : Type 0} → Ghosts I → CoreView I → CoreView I → Command → Type 0
+AsksFew g old new (Load name) = Unit {0}
+AsksFew g old new Count = g.asked new.index ≡ g.asked old.index
+AsksFew g old new (Box rect period) = AsksNoMore g old.index new.index
+AsksFew g old new (Legs predicate rect period) = AsksNoMore g old.index new.index
+AsksFew g old new (Features predicate rect period) =
+    length old.book.names ≤ most
+    → AsksChains g old.index new.index (range_with_len 0 (length old.book.names))
+AsksFew g old new (Trajectory name) =
+    length old.book.names ≤ most
+    → AsksTrack g old.index new.index (feature_of old.book.names name)
+AsksFew g old new Write = AsksNoMore g old.index new.index
 
 -- a sound database that answered `features` knows each feature back to the period, and one that answered `trajectory`
 -- knows that feature whole

@@ -5,8 +5,8 @@ use Rattle.boxsearch.specs.Index.{IndexView, words}
 use Rattle.pages.specs.Store.{Store, Faulted}
 use Rattle.trajdb.specs.Database.{CoreView, IsSound as IsSoundCore}
 use Rattle.trajdb.specs.Calls.{HasPages as HasPagesCore}
-use Rattle.trajdb.specs.declared.OpenFault.{OpenFault}
-use Rattle.trajdb.specs.declared.OpenFault.TheVariants.{Memory, Store as StoreFailed, Damaged, StoreFull, Unfinished, Version, Malformed}
+use Rattle.register.specs.declared.fault.CatalogueFault.{CatalogueFault}
+use Rattle.register.specs.declared.fault.CatalogueFault.TheVariants.{Memory, Store as StoreFailed, Damaged, StoreFull, Unfinished, Version, Malformed}
 
 abbrev pub DbView : Type 0
 DbView = CoreView IndexView
@@ -32,18 +32,8 @@ IsSoundDb db = IsSoundCore words db
 abbrev pub HasPages : DbView → Type 0
 HasPages db = HasPagesCore words db
 
--- the refusals of a new database over a faithful store
-abbrev pub IsAllowed : OpenFault → Type 0
-IsAllowed Memory = Unit {0}
-IsAllowed StoreFailed = Unit {0}
-IsAllowed (Damaged page) = ⊥
-IsAllowed StoreFull = Unit {0}
-IsAllowed Unfinished = ⊥
-IsAllowed Version = ⊥
-IsAllowed Malformed = ⊥
-
 -- the store failed where that is said, and has no room for any page where that is said
-abbrev pub IsCaused : Store → Store → OpenFault → Type 0
+abbrev pub IsCaused : Store → Store → CatalogueFault → Type 0
 IsCaused old new Memory = Unit {0}
 IsCaused old new StoreFailed = Faulted old new
 IsCaused old new (Damaged page) = Unit {0}

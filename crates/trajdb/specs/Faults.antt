@@ -6,8 +6,6 @@ use Rattle.pagecache.specs.declared.fault.CacheFault.{CacheFault}
 use Rattle.pagecache.specs.declared.fault.CacheFault.TheVariants as cache
 use Rattle.register.specs.declared.fault.CatalogueFault.{CatalogueFault}
 use Rattle.register.specs.declared.fault.CatalogueFault.TheVariants as catalogue
-use Rattle.trajdb.specs.declared.OpenFault.{OpenFault}
-use Rattle.trajdb.specs.declared.OpenFault.TheVariants as opening
 use Rattle.trajdb.specs.declared.RunFault.{RunFault}
 use Rattle.trajdb.specs.declared.RunFault.TheVariants.{Memory, Store, Damaged, StoreFull, Failed, Output}
 
@@ -29,24 +27,14 @@ IsNotOutput Failed = Unit {0}
 IsNotOutput Output = ⊥
 
 -- what a fault of the cache is to a new database
-abbrev pub open_fault_of : CacheFault → OpenFault
-open_fault_of cache.NoPage = opening.Damaged 0
-open_fault_of cache.Store = opening.Store
-open_fault_of (cache.Damaged page) = opening.Damaged page
-open_fault_of cache.StoreFull = opening.StoreFull
-open_fault_of cache.Memory = opening.Memory
+abbrev pub open_fault_of : CacheFault → CatalogueFault
+open_fault_of cache.NoPage = catalogue.Damaged 0
+open_fault_of cache.Store = catalogue.Store
+open_fault_of (cache.Damaged page) = catalogue.Damaged page
+open_fault_of cache.StoreFull = catalogue.StoreFull
+open_fault_of cache.Memory = catalogue.Memory
 
--- what a fault of the catalogue is to a database that is opened
-abbrev pub opened_fault_of : CatalogueFault → OpenFault
-opened_fault_of catalogue.Memory = opening.Memory
-opened_fault_of catalogue.Store = opening.Store
-opened_fault_of catalogue.StoreFull = opening.StoreFull
-opened_fault_of (catalogue.Damaged page) = opening.Damaged page
-opened_fault_of catalogue.Unfinished = opening.Unfinished
-opened_fault_of catalogue.Version = opening.Version
-opened_fault_of catalogue.Malformed = opening.Malformed
-
--- and to one that is closed
+-- what a fault of the catalogue is to a database that is closed
 abbrev pub closed_fault_of : CatalogueFault → RunFault
 closed_fault_of catalogue.Memory = Memory
 closed_fault_of catalogue.Store = Store

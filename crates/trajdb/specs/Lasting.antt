@@ -1,26 +1,21 @@
 -- A database that lasts between runs.
-use Rattle.std.specs.Prelude.{ℕ, ◌≡◌, ◌≤◌, ◌⊎◌, drop, Bool, true, false, List, Option, Some, None, Result, Ok, Err, IsTrue}
+use Rattle.std.specs.Prelude.{ℕ, ◌≡◌, ◌≤◌, ◌⊎◌, drop, true, false, List, Result, Ok, Err, IsTrue}
 use Rattle.legs.specs.Book.{Book}
 use Rattle.legs.specs.Costs.{ShapeView}
 use Rattle.legs.specs.Limits.{LimitsView}
 use Rattle.pages.specs.Store.{Store, Faulted, IsLawful}
-use Rattle.pages.specs.declared.payload.Payload.{Payload}
 use Rattle.boxsearch.specs.Index.{written, IndexView, IsMarked, IsSound as IsSoundIndex}
 use Rattle.catalogue.specs.Holding.{HoldsBook, IsAtRest, IsUnfinishedStore}
 use Rattle.pagecache.specs.Cache.{payload_of}
 use Rattle.register.specs.Earlier.{AddsFew, AreEarlier, HasNoRoom}
-use Rattle.register.specs.Lasting.{IsDamagedPage}
+use Rattle.register.specs.Lasting.{IsStop}
 use Rattle.register.specs.Saving.{contents_of}
-use Rattle.register.specs.Stopping.{KeepsNothing, ReadStopsAt}
 use Rattle.register.specs.Text.{catalogue_text}
 use Rattle.register.specs.declared.fault.CatalogueFault.{CatalogueFault}
 use Rattle.trajdb.specs.Database.{catalogue_of}
 use Rattle.trajdb.specs.Db.{DbView, IsSoundDb}
-use Rattle.trajdb.specs.Faults.{opened_fault_of}
-use Rattle.trajdb.specs.declared.OpenFault.{OpenFault}
 use Rattle.trajdb.specs.declared.RunFault.{RunFault}
 use Rattle.trajdb.specs.declared.RunFault.TheVariants as run
-use Rattle.trajdb.specs.declared.OpenFault.TheVariants.{Memory, Store as StoreFailed, Damaged, StoreFull, Unfinished, Version, Malformed}
 
 -- a database that has neither begun nor failed is at rest: its pages as written, of a finished store, keep its catalogue
 abbrev pub IsIdle : DbView → Type 0
@@ -34,66 +29,10 @@ pub record HasBook (shape : ShapeView) (limits : LimitsView) (book : Book)
   pub book_is : db.book ≡ book
   pub limits_are : db.limits ≡ limits
 
--- memory ran out, or the store failed
-abbrev pub IsStop : OpenFault → Type 0
-IsStop Memory = Unit {0}
-IsStop StoreFailed = Unit {0}
-IsStop (Damaged page) = ⊥
-IsStop StoreFull = ⊥
-IsStop Unfinished = ⊥
-IsStop Version = ⊥
-IsStop Malformed = ⊥
-
--- what can be said where page 0 is right: neither its state nor its version
-abbrev pub IsBehindFirst : OpenFault → Type 0
-IsBehindFirst Memory = Unit {0}
-IsBehindFirst StoreFailed = Unit {0}
-IsBehindFirst (Damaged page) = Unit {0}
-IsBehindFirst StoreFull = Unit {0}
-IsBehindFirst Unfinished = ⊥
-IsBehindFirst Version = ⊥
-IsBehindFirst Malformed = Unit {0}
-
--- the fault of page 0 is answered, where it has one; memory and the store may stop before
-abbrev pub ComesFirst : Option CatalogueFault → OpenFault → Type 0
-ComesFirst (Some first) fault = (fault ≡ opened_fault_of first) ⊎ IsStop fault
-ComesFirst None fault = IsBehindFirst fault
-
--- the store failed where that is said, and none is full
-abbrev pub IsOpeningFault : Store → Store → OpenFault → Type 0
-IsOpeningFault old new Memory = Unit {0}
-IsOpeningFault old new StoreFailed = Faulted old new
-IsOpeningFault old new (Damaged page) = Unit {0}
-IsOpeningFault old new StoreFull = ⊥
-IsOpeningFault old new Unfinished = Unit {0}
-IsOpeningFault old new Version = Unit {0}
-IsOpeningFault old new Malformed = Unit {0}
-
--- a page that is said to be damaged is so
-abbrev pub IsTrulyDamaged : Bool → (ℕ → Option Payload) → ℕ → OpenFault → Type 0
-IsTrulyDamaged faithful at count Memory = Unit {0}
-IsTrulyDamaged faithful at count StoreFailed = Unit {0}
-IsTrulyDamaged faithful at count (Damaged page) = IsDamagedPage faithful at count page
-IsTrulyDamaged faithful at count StoreFull = Unit {0}
-IsTrulyDamaged faithful at count Unfinished = Unit {0}
-IsTrulyDamaged faithful at count Version = Unit {0}
-IsTrulyDamaged faithful at count Malformed = Unit {0}
-
--- the page that is said to be damaged is the one at which reading stops; pages that are said to be
--- malformed keep nothing, whatever stands in the damaged ones
-abbrev pub IsNamedAtOpen : (ℕ → Option Payload) → ℕ → OpenFault → Type 0
-IsNamedAtOpen at count Memory = Unit {0}
-IsNamedAtOpen at count StoreFailed = Unit {0}
-IsNamedAtOpen at count (Damaged page) = ReadStopsAt at count page
-IsNamedAtOpen at count StoreFull = Unit {0}
-IsNamedAtOpen at count Unfinished = Unit {0}
-IsNamedAtOpen at count Version = Unit {0}
-IsNamedAtOpen at count Malformed = KeepsNothing at count
-
 -- a store that was not finished is refused as such, but for memory and a store that failed
-abbrev pub IsUnfinishedAnswer : {X Y : Type 0} → Result X (Y × OpenFault) → Type 0
+abbrev pub IsUnfinishedAnswer : {X Y : Type 0} → Result X (Y × CatalogueFault) → Type 0
 IsUnfinishedAnswer (Ok db) = ⊥
-IsUnfinishedAnswer (Err back) = (back.1 ≡ OpenFault.Unfinished) ⊎ IsStop back.1
+IsUnfinishedAnswer (Err back) = (back.1 ≡ CatalogueFault.Unfinished) ⊎ IsStop back.1
 
 -- no store failed
 abbrev pub IsFaultless : RunFault → Type 0

@@ -13,23 +13,24 @@ use Rattle.tbtree.specs.declared.tree.TbTree.{TbTree}
 use Rattle.pagecache.specs.Cache.{payload_of, stored_payload, IsClean}
 use Rattle.pages.specs.Store.{IsSynced, IsSyncedButFirst, Keeps, Stays, Store}
 use Rattle.boxsearch.specs.Index.{words, IsMarked}
-use Rattle.register.specs.Lasting.{first_fault, IsKept}
+use Rattle.register.specs.Lasting.{first_fault, ComesFirst, IsKept, IsReadingFault, IsStop, IsTrulyDamaged}
+use Rattle.register.specs.Stopping.{NamesStop}
 use Rattle.register.specs.Saved.{CatalogueView}
 use Rattle.register.specs.Saving.{HasFew}
 use Rattle.catalogue.specs.Holding.{HoldsBook, HoldsButFirst, HoldsIndex, HoldsIndexButFirst, IsUnfinishedStore}
 use Rattle.querylang.specs.declared.Command.{Command}
 use Rattle.trajdb.specs.Answers.{AcceptsBy, IsAnswer, IsCountsText, book_then, book_with, load_of}
-use Rattle.trajdb.specs.Calls.{AsksIn, AsksKnown, BlamesLoad, LearnsBy, Begins, BeginsBy, BeginsOnly, IsAsked, IsBookOf, IsLater, IsLoadFault, IsLoadStop, IsQuestionFault, IsRefusedBy, IsRunStop, IsStopped, KeepsPages, LeavesBook, Loads, LoadsWhole, LoadsWholeSome, PutsFile, SparesBy, SparesIndex, TellsLoadBy}
+use Rattle.trajdb.specs.Calls.{AsksFew, AsksForLegs, AsksIn, AsksKnown, BlamesLoad, LearnsBy, Begins, BeginsBy, BeginsOnly, IsAsked, IsBookOf, IsLater, IsLoadFault, IsLoadStop, IsQuestionFault, IsRefusedBy, IsRunStop, IsStopped, KeepsPages, LeavesBook, Loads, LoadsWhole, LoadsWholeSome, PutsFile, SparesBy, SparesIndex, TellsLoadBy}
 use Rattle.trajdb.specs.Checking.{IsFirstFault, Reports}
 use Rattle.trajdb.specs.Database.{catalogue_of, CoreView, FailsBy, IsRefused, IsSound, IsTold, LoadGives, Becomes}
 use Rattle.trajdb.specs.Db.{DbView, HasPages, IsSoundDb}
 use Rattle.trajdb.specs.Faults.{IsNotOutput}
-use Rattle.trajdb.specs.Lasting.{ComesFirst, HasBook, IsClosingFault, IsFaultless, IsIdle, IsNamedAtOpen, IsOpeningFault, IsSafe, IsSafeStore, IsStop, IsTooFull, IsTrulyDamaged, IsUnfinishedAnswer, TakesFew}
+use Rattle.trajdb.specs.Lasting.{HasBook, IsClosingFault, IsFaultless, IsIdle, IsSafe, IsSafeStore, IsTooFull, IsUnfinishedAnswer, TakesFew}
 use Rattle.trajdb.specs.Run.{AcceptsSome, StopsAt, Stops, IsCut}
 use Rattle.trajdb.specs.Telling.{IsToldAnswer, NamesBy, TellsCut, TellsRun, TellsStop}
 use Rattle.trajdb.specs.declared.Counts.{Counts}
 use Rattle.trajdb.specs.declared.LoadFault.{LoadFault}
-use Rattle.trajdb.specs.declared.OpenFault.{OpenFault}
+use Rattle.register.specs.declared.fault.CatalogueFault.{CatalogueFault}
 use Rattle.trajdb.specs.declared.Report.{Report}
 use Rattle.trajdb.specs.declared.RunFault.{RunFault}
 
@@ -49,6 +50,8 @@ pub record LoadCall {I : Type 0} (g : Ghosts I) (old new : CoreView I) (bytes : 
   pub begun : OnOk result (new.begun ≡ true)
   -- page 0 of an index over a faithful store is marked then, sound or not
   pub marks : OnOk result (g.is_faithful old.index → g.is_marked new.index)
+  -- of a sound database it asked for at most what these legs ask for, and twice for page 0
+  pub asks : OnOk result (IsSound g old → AsksForLegs g old new)
   -- so many legs are put in as are counted, and what else the file adds
   pub puts : IfOk result (PutsFile g old new bytes)
   -- be the database sound or not, a file is refused for the first fault of its text, or for one of joining where that
@@ -84,6 +87,7 @@ pub record CommandCall {I : Type 0} (g : Ghosts I) (files : List (List ℕ × Li
   pub named : IfErr result (NamesBy g old new files command)
   pub asks : OnOk result (AsksIn g old new command)
   pub asks_known : OnOk result (AsksKnown g old new command)
+  pub most : AsksFew g old new command
   pub learns : OnOk result (LearnsBy g old new command)
   pub recalls : (Loads files command → ⊥) → Recalls g old.index new.index
   pub later : IsLater g old new
@@ -156,7 +160,7 @@ pub record KeepsStore (old new : DbView) : Type 0 where
 -- what `open` of a store promises, with a cache of so many pages, where `seen` is what contracts see of one that is
 -- handed back
 pub record OpenCall {S : Type 0} (seen : S → Store) (store : Store) (cache_pages : ℕ)
-    (result : Result DbView (S × OpenFault)) : Type 0 where
+    (result : Result DbView (S × CatalogueFault)) : Type 0 where
   -- a store whose pages hold a book gives a sound database with that book
   pub book : IfOk result (λ db. IsTrue store.is_faithful
       → (shape : ShapeView) (limits : LimitsView) (book : Book)
@@ -187,13 +191,13 @@ pub record OpenCall {S : Type 0} (seen : S → Store) (store : Store) (cache_pag
   pub stored : IfOk result (λ db. Stays store db.index.cache.store)
   pub back : IfErr result (λ back. Stays store (seen back.0))
   pub safe : IfOk result (λ db. IsTrue store.is_faithful → IsSoundDb db → IsSafe store db)
-  pub caused : IfErr result (λ back. IsOpeningFault store (seen back.0) back.1)
+  pub caused : IfErr result (λ back. IsReadingFault store (seen back.0) back.1)
   -- a page that is said to be damaged is so, and is the first that is met; pages that are said to be malformed keep
   -- nothing, whatever stands in the damaged ones
   pub damaged : IfErr result (λ back. IsTrulyDamaged store.is_faithful (stored_payload store)
       store.count back.1)
   pub named : IfErr result (λ back. IsTrue store.is_faithful
-      → IsNamedAtOpen (stored_payload store) store.count back.1)
+      → NamesStop (stored_payload store) store.count back.1)
 
 -- what `close` of a database promises of the store that is left
 pub record CloseCall (db : DbView) (left : Store)

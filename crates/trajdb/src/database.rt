@@ -45,7 +45,7 @@ impl<I: Start> Model for Core<I> {
 }
 
 impl<I: Start> Core<I> {
-    ghost use Rattle.std.specs.Prelude.{◌≡◌, [], IfOk, IfErr, false};
+    ghost use Rattle.std.specs.Prelude.{◌≡◌, [], None, IfOk, IfErr, false};
     ghost use Rattle.legs.specs.Book.{empty_book};
     ghost use Rattle.trajdb.specs.Database.{IsSound};
 
@@ -65,6 +65,10 @@ impl<I: Start> Core<I> {
         ensures index { IfOk result (λ core. core.index ≡ index) }
         ensures begun { IfOk result (λ core. core.begun ≡ begun) }
         ensures lives { IfOk result (λ core. core.failed ≡ false) }
+        ensures tracks { IfOk result (λ core. core.tracks
+            ≡ record { names = []; tracks = []; legs = 0; rows = 0 }) }
+        ensures parts { IfOk result (λ core. core.book
+            ≡ record { head = None; names = []; legs = I.content index; rows = [] }) }
         ensures refused { IfErr result (λ back. back.0 ≡ index) }
     {
         prove!(limits.legs() > 0);
@@ -98,7 +102,7 @@ impl<I: Start> Core<I> {
     ghost use Rattle.trajdb.specs.Answers.{book_with, load_of};
     ghost use Rattle.trajdb.specs.Database.{FaultIs, IsRefused, IsTold, LoadGives, Becomes, IsSound};
     ghost use Rattle.trajdb.specs.Loads.{Accepts, IsRead, PutsNew};
-    ghost use Rattle.trajdb.specs.Calls.{BlamesLegs, BlamesLoad, IsBookOf, IsJoinStop, IsLater, IsLoadFault, IsLoadStop, IsOfStore, IsRefusedBy, LeavesPages, PutsFile, SparesIndex};
+    ghost use Rattle.trajdb.specs.Calls.{AsksForLegs, BlamesLegs, BlamesLoad, IsBookOf, IsJoinStop, IsLater, IsLoadFault, IsLoadStop, IsOfStore, IsRefusedBy, LeavesPages, PutsFile, SparesIndex};
 
     /// Takes in a file that was read and joined.
     fn take(&mut self, new: NewFile) -> Result<(), RunFault>
@@ -115,6 +119,9 @@ impl<I: Start> Core<I> {
         ensures idle { OnErr result (self.new.begun ≡ self.old.begun) }
         ensures blames { IfErr result
             (BlamesLegs I.Listed self.old.index self.new.index new.joined.legs) }
+        ensures asks { OnOk result ((file : File) → IsSound I.Listed self.old
+            → Accepts self.old.limits self.old.book file new
+            → AsksForLegs I.Listed self.old self.new) }
         ensures marks { OnOk result (I.is_faithful self.old.index → I.is_marked self.new.index) }
         ensures pages { I.is_faithful self.old.index
             → LeavesPages I.Listed self.old.index self.new.index }
@@ -165,6 +172,8 @@ impl<I: Start> Core<I> {
         ensures gives { (book : Book) → IsBookOf self.old book
             → LoadGives result (load_of self.old.limits book bytes.now) }
         ensures idle { OnErr result (self.new.begun ≡ self.old.begun) }
+        ensures asks { OnOk result (IsSound I.Listed self.old
+            → AsksForLegs I.Listed self.old self.new) }
         ensures unwritten { SparesIndex self.old self.new bytes.now }
         ensures marks { OnOk result (I.is_faithful self.old.index → I.is_marked self.new.index) }
         ensures pages { I.is_faithful self.old.index

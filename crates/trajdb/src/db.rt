@@ -1,5 +1,6 @@
 //! The database.
 ghost use Rattle.std.specs.Prelude.{◌≡◌};
+ghost use Rattle.trajdb.specs.Faults.{open_fault_of};
 
 use crate::database::Core;
 use crate::files::Files;
@@ -8,6 +9,7 @@ use crate::{Counts, LoadFault, OpenFault, RunFault};
 use boxsearch::TreeIndex;
 use catalogue::begin;
 use legs::{IndexFault, Limits};
+use pagecache::CacheFault;
 use pages::PageStore;
 use querylang::Command;
 use std::alloc::Global;
@@ -17,7 +19,19 @@ use std::marker::Model;
 use tbtree::Shape;
 
 impl<S: PageStore> Start for TreeIndex<S> {
-    fn start(&mut self) -> Result<(), IndexFault> {
+    ghost use Rattle.std.specs.Prelude.{◌≡◌, ◌<◌, ℕ, OnOk, IsTrue};
+    ghost use Rattle.legs.specs.Asking.{Refusals, Starts};
+    ghost use Rattle.pagecache.specs.Cache.{payload_of};
+    ghost use Rattle.boxsearch.specs.Index.{words, MarksFirst};
+
+    // Page 0 is what it was but for its kind and its first 12 bytes, and no other page has another payload.
+    fn start(&mut self) -> Result<(), IndexFault>
+        ensures starts { Starts words self.old self.new result }
+        ensures refusals { Refusals words self.old self.new result }
+        ensures header { OnOk result (MarksFirst self.old.cache self.new.cache) }
+        ensures others { IsTrue self.old.cache.store.is_faithful → (n : ℕ) → 0 < n
+            → payload_of self.new.cache n ≡ payload_of self.old.cache n }
+    {
         self.mark()
     }
 }
@@ -36,6 +50,19 @@ impl<S: PageStore> Model for Db<S> {
     ghost view = { λ a. a.core };
 }
 
+/// What a fault of the cache is to a new database.
+fn fault_of(fault: CacheFault) -> OpenFault
+    ensures { result ≡ open_fault_of fault }
+{
+    match fault {
+        CacheFault::NoPage => OpenFault::Damaged(0),
+        CacheFault::Store => OpenFault::Store,
+        CacheFault::Damaged(page) => OpenFault::Damaged(page),
+        CacheFault::StoreFull => OpenFault::StoreFull,
+        CacheFault::Memory => OpenFault::Memory,
+    }
+}
+
 impl<S: PageStore> Db<S> {
     ghost use Rattle.std.specs.Prelude.{◌≡◌, ◌<◌, Some, IfOk, IfErr, IsTrue, OnOk, true, false};
     ghost use Rattle.pages.specs.Sealed.{sealed};
@@ -47,7 +74,8 @@ impl<S: PageStore> Db<S> {
     ghost use Rattle.trajdb.specs.Script.{lines_of};
     ghost use Rattle.trajdb.specs.Run.{Runs};
     ghost use Rattle.trajdb.specs.Promises.{CommandCall, KeepsStore, LoadCall, RunCall};
-    ghost use Rattle.trajdb.specs.Db.{HasPages, IsAllowed, IsCaused, IsSoundDb};
+    ghost use Rattle.register.specs.Saving.{IsSavingStop};
+    ghost use Rattle.trajdb.specs.Db.{HasPages, IsCaused, IsSoundDb};
     ghost use Rattle.trajdb.specs.Lasting.{IsSafe};
 
     /// A new database over an empty store, with no file accepted, whose cache holds at most that many pages, at least
@@ -77,7 +105,8 @@ impl<S: PageStore> Db<S> {
         ensures pages { IfOk result (λ db. IsTrue (S.seen store).is_faithful → HasPages db) }
         ensures safe { IfOk result (λ db. IsTrue (S.seen store).is_faithful → (was : Store)
             → IsSafe was db) }
-        ensures only { IfErr result (λ back. IsTrue (S.seen store).is_faithful → IsAllowed back.1) }
+        ensures only { IfErr result (λ back. IsTrue (S.seen store).is_faithful
+            → IsSavingStop back.1) }
         ensures caused { IfErr result (λ back. IsCaused (S.seen store) (S.seen back.0) back.1) }
 
         // The store that is handed back.
@@ -86,7 +115,7 @@ impl<S: PageStore> Db<S> {
     {
         let index = match begin(alloc, store, shape, cache_pages, &limits) {
             Ok(index) => index,
-            Err((store, fault)) => return Err((store, OpenFault::from(fault))),
+            Err((store, fault)) => return Err((store, fault_of(fault))),
         };
         match Core::new(alloc, keys, index, limits, true) {
             Ok(core) => Ok(Db { core }),

@@ -7,13 +7,13 @@ use crate::db::Db;
 use crate::start::Start;
 use crate::{OpenFault, RunFault};
 use boxsearch::TreeIndex;
-use catalogue::{Catalogue, CatalogueFault};
+use catalogue::Catalogue;
 use pages::PageStore;
 use std::alloc::Global;
 use std::hash::RandomState;
 
 /// What closing answers, as an answer of the database.
-fn closed(answer: Result<(), CatalogueFault>) -> Result<(), RunFault>
+fn closed(answer: Result<(), OpenFault>) -> Result<(), RunFault>
     ensures { result ≡ closed_answer answer }
 {
     match answer {
@@ -109,7 +109,7 @@ impl<S: PageStore> Db<S> {
             Ok((catalogue, index)) => Ok(Db {
                 core: Core::restored(catalogue, index, false),
             }),
-            Err((store, fault)) => Err((store, OpenFault::from(fault))),
+            Err(back) => Err(back),
         }
     }
 

@@ -16,13 +16,13 @@ mod questions;
 mod script;
 mod start;
 
-use catalogue::CatalogueFault;
+/// Why a database was not made, or not opened.
+pub use catalogue::CatalogueFault as OpenFault;
 pub use database::Core;
 pub use db::Db;
 pub use files::Files;
 use legs::{IndexFault, JoinCode};
 use mfcsv::Code;
-use pagecache::CacheFault;
 pub use start::Start;
 use std::alloc::{AllocError, AllocFailed};
 use std::fmt;
@@ -129,18 +129,18 @@ impl<T: Drop> From<AllocFailed<T>> for RunFault {
     }
 }
 
-impl From<CatalogueFault> for RunFault {
+impl From<OpenFault> for RunFault {
     ghost use Rattle.trajdb.specs.Faults.{closed_fault_of};
 
     ghost from_gives = { λ e r. r ≡ closed_fault_of e };
 
-    fn from(fault: CatalogueFault) -> RunFault {
+    fn from(fault: OpenFault) -> RunFault {
         match fault {
-            CatalogueFault::Memory => RunFault::Memory,
-            CatalogueFault::Store => RunFault::Store,
-            CatalogueFault::StoreFull => RunFault::StoreFull,
-            CatalogueFault::Damaged(page) => RunFault::Damaged(page),
-            CatalogueFault::Unfinished | CatalogueFault::Version | CatalogueFault::Malformed => {
+            OpenFault::Memory => RunFault::Memory,
+            OpenFault::Store => RunFault::Store,
+            OpenFault::StoreFull => RunFault::StoreFull,
+            OpenFault::Damaged(page) => RunFault::Damaged(page),
+            OpenFault::Unfinished | OpenFault::Version | OpenFault::Malformed => {
                 RunFault::Damaged(0)
             }
         }
@@ -159,66 +159,6 @@ impl From<IndexFault> for RunFault {
             IndexFault::Damaged(page) => RunFault::Damaged(page),
             IndexFault::StoreFull => RunFault::StoreFull,
             IndexFault::Spent => RunFault::Failed,
-        }
-    }
-}
-
-/// Why a database was not made, or not opened.
-#[derive(Clone, Copy, PartialEq, Eq, Debug, Error)]
-pub enum OpenFault {
-    /// Memory ran out.
-    #[error("memory ran out")]
-    Memory,
-    /// The page store failed.
-    #[error("the store failed")]
-    Store,
-    /// A page is not what it should be.
-    #[error("page {0} is damaged")]
-    Damaged(u32),
-    /// The page store has no room for a page.
-    #[error("the store is full")]
-    StoreFull,
-    /// The store was not finished: it was made, or a file was accepted, and it was not closed then.
-    #[error("the store is not finished")]
-    Unfinished,
-    /// The store has another version.
-    #[error("the store has another version")]
-    Version,
-    /// It is no store, or what it says is not in order.
-    #[error("the store is malformed")]
-    Malformed,
-}
-
-impl From<CatalogueFault> for OpenFault {
-    ghost use Rattle.trajdb.specs.Faults.{opened_fault_of};
-
-    ghost from_gives = { λ e r. r ≡ opened_fault_of e };
-
-    fn from(fault: CatalogueFault) -> OpenFault {
-        match fault {
-            CatalogueFault::Memory => OpenFault::Memory,
-            CatalogueFault::Store => OpenFault::Store,
-            CatalogueFault::StoreFull => OpenFault::StoreFull,
-            CatalogueFault::Damaged(page) => OpenFault::Damaged(page),
-            CatalogueFault::Unfinished => OpenFault::Unfinished,
-            CatalogueFault::Version => OpenFault::Version,
-            CatalogueFault::Malformed => OpenFault::Malformed,
-        }
-    }
-}
-
-impl From<CacheFault> for OpenFault {
-    ghost use Rattle.trajdb.specs.Faults.{open_fault_of};
-
-    ghost from_gives = { λ e r. r ≡ open_fault_of e };
-
-    fn from(fault: CacheFault) -> OpenFault {
-        match fault {
-            CacheFault::NoPage => OpenFault::Damaged(0),
-            CacheFault::Store => OpenFault::Store,
-            CacheFault::Damaged(page) => OpenFault::Damaged(page),
-            CacheFault::StoreFull => OpenFault::StoreFull,
-            CacheFault::Memory => OpenFault::Memory,
         }
     }
 }

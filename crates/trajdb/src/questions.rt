@@ -44,7 +44,7 @@ impl<I: Start> Core<I> {
     ghost use Rattle.legs.specs.Book.{feature_of};
     ghost use Rattle.trajdb.specs.Picks.{Picks};
     ghost use Rattle.trajdb.specs.Answers.{HoldsOfFeature, HoldsOfLeg, IsFeaturesAnswer, IsLegsAnswer, frame_of, entry_of, file_answer, legs_text, name_of, names_text, track_of, write_text};
-    ghost use Rattle.legs.specs.Asking.{Recalls};
+    ghost use Rattle.legs.specs.Asking.{AsksChain, AsksNoMore, Recalls};
     ghost use Rattle.legs.specs.Costs.{known_bound, search_cost, track_in_bound};
     ghost use Rattle.predicates.specs.Near.{box_near};
     ghost use Rattle.legs.specs.Law.{IsThere};
@@ -52,7 +52,7 @@ impl<I: Start> Core<I> {
     ghost use Rattle.legs.specs.Sieves.{IsSieved};
     ghost use Rattle.trajdb.specs.Database.{IsSound};
     ghost use Rattle.trajdb.specs.Telling.{ArePickedOf, AreSievedLive, AreToldOf, DeniesFile, DeniesFirst, DeniesLegs, DeniesLive, DeniesPicks, DeniesTrack, HoldsLive, IsToldFeatures, IsToldFile, IsToldLegs, IsToldPicks, IsToldTrack, Names, PicksLive};
-    ghost use Rattle.trajdb.specs.Calls.{IsText, IsRefused, LeavesBook, Asks, AsksAtMost, KnowsEach, KnowsOf, KnowsTrack, feature_bound, features_bound, known_features_bound, track_asks, write_asks};
+    ghost use Rattle.trajdb.specs.Calls.{IsText, IsRefused, LeavesBook, Asks, AsksAtMost, AsksChains, AsksTrack, KnowsEach, KnowsOf, KnowsTrack, feature_bound, features_bound, known_features_bound, track_asks, write_asks};
 
     /// How legs are written.
     fn frame(&self) -> Frame
@@ -123,6 +123,7 @@ impl<I: Start> Core<I> {
         ensures recalls { Recalls I.Listed self.old.index self.new.index }
         ensures leaves { LeavesBook I.Listed self.old self.new }
         ensures refused { IfErr result (IsRefused I.Listed self.old self.new) }
+        ensures most { AsksNoMore I.Listed self.old.index self.new.index }
     {
         Ok(self.index.search(&Box3::new(rect, period))?)
     }
@@ -143,6 +144,9 @@ impl<I: Start> Core<I> {
         ensures recalls { Recalls I.Listed self.old.index self.new.index }
         ensures leaves { LeavesBook I.Listed self.old self.new }
         ensures refused { IfErr result (IsRefused I.Listed self.old self.new) }
+        ensures most { length self.old.book.names ≤ most
+            → AsksTrack I.Listed self.old.index self.new.index (feature_of
+            self.old.book.names name.now) }
     {
         match self.tracks.feature(name) {
             Some(feature) => Ok(self.index.track(feature)?),
@@ -170,6 +174,7 @@ impl<I: Start> Core<I> {
         ensures recalls { Recalls I.Listed self.old.index self.new.index }
         ensures leaves { LeavesBook I.Listed self.old self.new }
         ensures refused { IfErr result (IsRefused I.Listed self.old self.new) }
+        ensures most { AsksNoMore I.Listed self.old.index self.new.index }
     {
         let near = self.index.search(&search_box(predicate, rect, period))?;
         Ok(holding(alloc, near.as_slice(), predicate, rect, period)?)
@@ -199,6 +204,7 @@ impl<I: Start> Core<I> {
         ensures recalls { Recalls I.Listed self.old.index self.new.index }
         ensures leaves { LeavesBook I.Listed self.old self.new }
         ensures refused { IfErr result (IsRefused I.Listed self.old self.new) }
+        ensures most { AsksChain I.Listed self.old.index self.new.index feature }
     {
         if self.tracks.is_over(feature, period) {
             return Ok(Vec::new(alloc));
@@ -230,6 +236,7 @@ impl<I: Start> Core<I> {
         ensures recalls { Recalls I.Listed self.old.index self.new.index }
         ensures leaves { LeavesBook I.Listed self.old self.new }
         ensures refused { IfErr result (IsRefused I.Listed self.old self.new) }
+        ensures most { AsksChain I.Listed self.old.index self.new.index feature }
     {
         let wanted = sieve(predicate, rect);
         let legs = self.live_legs(alloc, feature, period, &wanted)?;
@@ -270,6 +277,9 @@ impl<I: Start> Core<I> {
         ensures recalls { Recalls I.Listed self.old.index self.new.index }
         ensures leaves { LeavesBook I.Listed self.old self.new }
         ensures refused { IfErr result (IsRefused I.Listed self.old self.new) }
+        ensures most { length self.old.book.names ≤ most
+            → AsksChains I.Listed self.old.index self.new.index
+            (range_with_len 0 (length self.old.book.names)) }
     {
         let mut features = Vec::new(alloc);
         for feature in 0..self.feature_count() {
@@ -343,6 +353,7 @@ impl<I: Start> Core<I> {
         ensures recalls { Recalls I.Listed self.old.index self.new.index }
         ensures leaves { LeavesBook I.Listed self.old self.new }
         ensures refused { IfErr result (IsRefused I.Listed self.old self.new) }
+        ensures most { AsksNoMore I.Listed self.old.index self.new.index }
     {
         Ok(self.index.search(&Box3::everything())?)
     }
@@ -360,6 +371,7 @@ impl<I: Start> Core<I> {
         ensures recalls { Recalls I.Listed self.old.index self.new.index }
         ensures leaves { LeavesBook I.Listed self.old self.new }
         ensures refused { IfErr result (IsRefused I.Listed self.old self.new) }
+        ensures most { AsksNoMore I.Listed self.old.index self.new.index }
     {
         if self.head.is_none() {
             return Ok(refusal_text(alloc, "Q10")?);
@@ -390,6 +402,7 @@ impl<I: Start> Core<I> {
         ensures recalls { Recalls I.Listed self.old.index self.new.index }
         ensures leaves { LeavesBook I.Listed self.old self.new }
         ensures refused { IfErr result (IsRefused I.Listed self.old self.new) }
+        ensures most { AsksNoMore I.Listed self.old.index self.new.index }
     {
         let legs = self.legs_in(rect, period)?;
         self.legs_text(alloc, legs.as_slice())
@@ -412,6 +425,9 @@ impl<I: Start> Core<I> {
         ensures recalls { Recalls I.Listed self.old.index self.new.index }
         ensures leaves { LeavesBook I.Listed self.old self.new }
         ensures refused { IfErr result (IsRefused I.Listed self.old self.new) }
+        ensures most { length self.old.book.names ≤ most
+            → AsksTrack I.Listed self.old.index self.new.index (feature_of
+            self.old.book.names name.now) }
     {
         let legs = self.legs_of(alloc, name)?;
         self.legs_text(alloc, legs.as_slice())
@@ -436,6 +452,7 @@ impl<I: Start> Core<I> {
         ensures recalls { Recalls I.Listed self.old.index self.new.index }
         ensures leaves { LeavesBook I.Listed self.old self.new }
         ensures refused { IfErr result (IsRefused I.Listed self.old self.new) }
+        ensures most { AsksNoMore I.Listed self.old.index self.new.index }
     {
         let legs = self.legs_for(alloc, predicate, rect, period)?;
         self.legs_text(alloc, legs.as_slice())
@@ -466,6 +483,9 @@ impl<I: Start> Core<I> {
         ensures recalls { Recalls I.Listed self.old.index self.new.index }
         ensures leaves { LeavesBook I.Listed self.old self.new }
         ensures refused { IfErr result (IsRefused I.Listed self.old self.new) }
+        ensures most { length self.old.book.names ≤ most
+            → AsksChains I.Listed self.old.index self.new.index
+            (range_with_len 0 (length self.old.book.names)) }
     {
         let features = self.features_for(alloc, predicate, rect, period)?;
         self.names_text(alloc, features.as_slice())

@@ -3,7 +3,7 @@ ghost use Rattle.std.specs.Prelude.{OnOk, IfErr, IsErrOf};
 ghost use Rattle.legs.specs.Index.{CanFollowInTurn, HasRisen, MayRefuseLeg};
 ghost use Rattle.legs.specs.Asking.{Grows, HasAdded, IsLater};
 ghost use Rattle.legs.specs.declared.index.IndexFault.{IndexFault};
-ghost use Rattle.trajdb.specs.Calls.{BlamesLegs, LeavesPages};
+ghost use Rattle.trajdb.specs.Calls.{BlamesLegs, LeavesPages, LoadAsks};
 ghost use Rattle.trajdb.specs.Faults.{run_fault_of};
 
 use legs::{IndexFault, Leg, LegIndex, ListIndex};
@@ -41,6 +41,7 @@ pub(crate) fn put_legs<I: Start>(index: &mut I, legs: &[Leg]) -> Result<(), Inde
     ensures blames { IfErr result (λ fault.
         BlamesLegs I.Listed index.old index.new legs.now (run_fault_of fault)) }
     ensures later { IsLater I.Listed index.old index.new }
+    ensures asks { OnOk result (LoadAsks I.Listed index.old index.new legs.now) }
     ensures marks { OnOk result (I.is_faithful index.old → I.is_marked index.new) }
     ensures pages { I.is_faithful index.old → LeavesPages I.Listed index.old index.new }
 {

@@ -1,8 +1,9 @@
-use Rattle.std.proofs.Common.{◌≡◌, ◌∙◌, inl, inr, ⊎_elim, refl, subst, sym, true, List, Result, Ok, Err}
+use Rattle.std.proofs.Common.{◌≡◌, ◌∙◌, ap, arith, inl, inr, ⊎_elim, refl, subst, sym, true, List, Result, Ok, Err}
 use Rattle.std.proofs.lemmas.Result.{err_from_is_err_and}
 use Rattle.std.specs.Prelude.{IfErr, OnOk}
 use Rattle.legs.specs.Asking.{LegRefusals, SkipsFeature, Starts}
-use Rattle.legs.specs.Index.{SkipNone}
+use Rattle.legs.specs.Costs.{add_all_bound}
+use Rattle.legs.specs.Index.{CanFollowInTurn, SkipNone}
 use Rattle.legs.specs.Legs.{LegView}
 use Rattle.legs.specs.declared.index.IndexFault.{IndexFault}
 use Rattle.legs.specs.declared.index.IndexFault.TheVariants as index
@@ -54,3 +55,16 @@ returns-in_err-start-clause-blames g c =
 
 pub returns-clause-blames : goal.returns-clause-blames
 returns-clause-blames g c = legs_blamed g.I.Listed c.args.index.now c.start.new.self c.add_all.new.self c.args.legs.now _ c.in_ok-start.ensures.starts c.add_all.result c.add_all.ensures.refusals
+
+pub returns-clause-asks : goal.returns-clause-asks
+returns-clause-asks g c = on_ok c.add_all.result (λ asked sound follow. (
+    let s = c.in_ok-start.ensures.starts in
+    let i = g.I.Listed in
+    let old = c.args.index.now in
+    let mid = c.start.new.self in
+    let legs = c.args.legs.now in
+    let rises = asked (s.sound sound) (subst (λ l. CanFollowInTurn l legs) (sym s.content) follow) in
+    let same : add_all_bound (i.plan mid) (i.content mid) legs ≡ add_all_bound (i.plan old) (i.content old) legs =
+    ap (λ p. add_all_bound p (i.content mid) legs) s.later.plan ∙ ap (λ l. add_all_bound (i.plan old) l legs) s.content in
+    let start = s.asks in
+    omega (arith, rises, same, start))) c.add_all.ensures.asks

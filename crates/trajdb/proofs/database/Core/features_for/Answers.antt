@@ -4,7 +4,7 @@ use Rattle.legs.specs.Legs.{LegView}
 use Rattle.legs.specs.Book.{Book}
 use Rattle.trajdb.specs.Answers.{HoldsOfFeature}
 use Rattle.legs.specs.Costs.{known_bound}
-use Rattle.trajdb.proofs.FaultLemmas.{leaves-refl, leaves-trans, bound_more, knows_kept, known_more}
+use Rattle.trajdb.proofs.FaultLemmas.{leaves-refl, leaves-trans, bound_more, chains_all, chains_more, knows_kept, known_more}
 use Rattle.trajdb.specs.Calls.{KnowsOf, feature_bound}
 use Rattle.trajdb.specs.Telling.{IsLiveTold}
 use Rattle.std.proofs.lemmas.Bool.{cases_lt}
@@ -32,6 +32,7 @@ loop-feature-init g c = record {
       let L = IsPickingLive g.I.Listed c.args.self.now c.args.predicate c.args.rect.now c.args.period.now (range_with_len 0 (length book.names)) in
       subst (λ (l : List ℕ). L l c.new-features.result.items) (sym (range_all (length book.names)))
       (subst (λ (l : List ℕ). L (range_with_len 0 (length book.names)) l) (sym c.new-features.ensures.items) (λ rest h. h));
+  most = λ shape plan. omega arith;
 }
 
 pub loop-feature-preserved : goal.loop-feature-preserved
@@ -126,6 +127,7 @@ loop-feature-preserved g c = record {
             (live_no g.I.Listed old c.args.predicate c.args.rect.now c.args.period.now all others c.loop-feature.features.items c.loop-feature.feature told.0 so_far live
             (λ h. absurd (let t : IsTrue false = sym w.if-branch.false ∙ told.2.1 h in cc)))
       ];
+  most = chains_more g.I.Listed c.args.self.now.index c.loop-feature.self.index c.holds_for.new.self.index c.loop-feature.feature c.loop-feature.invariant.leaves.index c.loop-feature.invariant.most c.in_ok-holds_for.ensures.most;
 }
 
 pub returns-clause-found : goal.returns-clause-found
@@ -162,3 +164,31 @@ returns-clause-learns g c = λ s f less.
     let over = c.loop-feature-test.false in
     let same : length c.loop-feature.self.book.names ≡ length c.args.self.now.book.names = ap (λ (b : Book). length b.names) c.loop-feature.invariant.leaves.book in
     c.loop-feature.invariant.learned f (omega (arith, less, count, over, same))
+
+pub returns-clause-most : goal.returns-clause-most
+returns-clause-most g c = λ few.
+    let names = c.args.self.now.book.names in
+    let count = c.feature_count-feature-end.ensures few in
+    let end = c.loop-feature.auto.feature-end in
+    let within : c.loop-feature.feature ≤ length names = omega (arith, count, end) in
+    chains_all g.I.Listed c.args.self.now.index c.loop-feature.self.index c.loop-feature.feature (length names) within c.loop-feature.invariant.most
+
+pub returns-in_err-holds_for-clause-most : goal.returns-in_err-holds_for-clause-most
+returns-in_err-holds_for-clause-most g c = λ few.
+    let names = c.args.self.now.book.names in
+    let feature = c.loop-feature.feature in
+    let count = c.feature_count-feature-end.ensures few in
+    let test = c.loop-feature-test.true in
+    let less : feature + 1 ≤ length names = omega (arith, count, test) in
+    chains_all g.I.Listed c.args.self.now.index c.holds_for.new.self.index (feature + 1) (length names) less
+    (chains_more g.I.Listed c.args.self.now.index c.loop-feature.self.index c.holds_for.new.self.index feature c.loop-feature.invariant.leaves.index c.loop-feature.invariant.most c.in_err-holds_for.ensures.most)
+
+pub returns-in_err-push-clause-most : goal.returns-in_err-push-clause-most
+returns-in_err-push-clause-most g c = λ few.
+    let names = c.args.self.now.book.names in
+    let feature = c.loop-feature.feature in
+    let count = c.feature_count-feature-end.ensures few in
+    let test = c.loop-feature-test.true in
+    let less : feature + 1 ≤ length names = omega (arith, count, test) in
+    chains_all g.I.Listed c.args.self.now.index c.holds_for.new.self.index (feature + 1) (length names) less
+    (chains_more g.I.Listed c.args.self.now.index c.loop-feature.self.index c.holds_for.new.self.index feature c.loop-feature.invariant.leaves.index c.loop-feature.invariant.most c.in_ok-holds_for.ensures.most)

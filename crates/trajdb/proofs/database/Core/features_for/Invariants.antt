@@ -2,7 +2,7 @@ use Rattle.std.proofs.Common.{ℕ, ◌<◌, ◌≤◌, ◌+◌, ◌-◌, length}
 use Rattle.std.specs.List.{range_with_len}
 use Rattle.trajdb.specs.Answers.{HoldsOfFeature}
 use Rattle.trajdb.specs.Database.{IsSound}
-use Rattle.trajdb.specs.Calls.{KnowsEach, KnowsOf, LeavesBook, features_bound, known_features_bound}
+use Rattle.trajdb.specs.Calls.{AsksChains, KnowsEach, KnowsOf, LeavesBook, features_bound, known_features_bound}
 use Rattle.legs.specs.Asking.{Recalls}
 use Rattle.legs.specs.Limits.{most}
 use Rattle.trajdb.proofs.PickLemmas.{IsPicking}
@@ -29,4 +29,5 @@ invariant-loop-feature g l = record {
   live : length l.initial.self.book.names ≤ most
       → IsPickingLive g.I.Listed l.initial.self l.predicate l.rect l.period (range_with_len 0 (length l.initial.self.book.names))
       (range_with_len l.feature (length l.initial.self.book.names - l.feature)) l.features.items;
+  most : AsksChains g.I.Listed l.initial.self.index l.self.index (range_with_len 0 l.feature);
 }

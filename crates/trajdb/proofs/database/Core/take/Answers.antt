@@ -1,4 +1,5 @@
-use Rattle.std.proofs.Common.{◌++◌, ◌∙◌, ap, refl, sym, subst, List, ℕ}
+use Rattle.std.proofs.Common.{◌++◌, ◌∙◌, ◌+◌, ◌≡◌, [], ◌∷◌, ap, drop, length, refl, sym, subst, List, ℕ}
+use Rattle.legs.specs.Costs.{add_all_bound, RisesAtMost}
 use Rattle.std.proofs.lemmas.Result.{err_from_is_err_and}
 use Rattle.legs.specs.Book.{Book, head_with}
 use Rattle.legs.specs.Tracks.{StandsFor}
@@ -52,3 +53,19 @@ returns-in_err-put_legs-clause-blames g c =
     let blames : BlamesLegs g.I.Listed c.args.self.now.index c.put_legs.new.index c.args.new.joined.legs (run_fault_of c.in_err-put_legs.field-0.0) = rw (← c.self.view_is) (rw c.legs.ensures at c.in_err-put_legs.ensures.blames) in
     let p = err_from_is_err_and c.from_residual.result c.from_residual.ensures.1 in
     rw (p.1, p.2) blames
+
+behind : {A : Type 0} (xs ys : List A) → drop (length xs) (xs ++ ys) ≡ ys
+behind [] ys = refl
+behind (x ∷ xs) ys = behind xs ys
+
+pub returns-clause-asks : goal.returns-clause-asks
+returns-clause-asks g c =
+    rw (← c.self.view_is) (λ file sound accepts.
+    let i = g.I.Listed in
+    let old = c.self.inside.index in
+    let new = c.put_legs.new.index in
+    let legs = c.args.new.joined.legs in
+    let ends = (rw c.legs.ensures at c.in_ok-put_legs.ensures.added) sound.index accepts.1 in
+    let rises = (rw c.legs.ensures at c.in_ok-put_legs.ensures.asks) sound.index accepts.1 in
+    let added : drop (length (i.content old)) (i.content new) ≡ legs = ap (drop (length (i.content old))) ends.content ∙ behind (i.content old) legs in
+    subst (λ l. RisesAtMost (i.asked old) (i.asked new) (add_all_bound (i.plan old) (i.content old) l + 2)) (sym added) rises)

@@ -1,12 +1,10 @@
 use Rattle.std.proofs.Common.{rules, length, sym, subst, false}
 use Rattle.legs.specs.Book.{Book}
 use Rattle.pages.specs.Store.{Stays}
-use Rattle.pagecache.specs.Cache.{stored_payload}
 use Rattle.boxsearch.specs.Index.{written}
 use Rattle.trajdb.specs.Calls.{IsBookOf}
 use Rattle.trajdb.specs.Db.{DbView}
-use Rattle.trajdb.specs.Lasting.{IsNamedAtOpen, IsStop, IsTrulyDamaged}
-use Rattle.trajdb.proofs.LastingLemmas.{damaged_still, named_still, opened_book, stopped}
+use Rattle.trajdb.proofs.LastingLemmas.{opened_book}
 use Rattle.trajdb.proofs.SafeLemmas.{opened_safe}
 use Rattle.trajdb.proofs.db.Db.open.Goals as goal
 
@@ -36,31 +34,4 @@ returns-in-Ok g c = record {
   caused = search rules;
   damaged = search rules;
   named = search rules;
-}
-
-pub returns-in-Err : goal.returns-in-Err
-returns-in-Err g c = record {
-  book = search rules;
-  holds = λ fa shape limits book h.
-      subst IsStop (sym c.from.ensures) (stopped c.in-Err.fault (c.in-Err.ensures.holds fa shape limits book h));
-  kept = λ fa k tree places kept.
-      subst IsStop (sym c.from.ensures) (stopped c.in-Err.fault (c.in-Err.ensures.kept fa k tree places kept));
-  stands = search rules;
-  idle = search rules;
-  begun = search rules;
-  lives = search rules;
-  capacity = search rules;
-  first = search rules;
-  finished = search rules;
-  unfinished = search rules;
-  stored = search rules;
-  back = search rules;
-  safe = search rules;
-  caused = search rules;
-  damaged =
-      let s = g.S.PageStore.seen c.args.store in
-      subst (IsTrulyDamaged s.is_faithful (stored_payload s) s.count) (sym c.from.ensures) (damaged_still s.is_faithful (stored_payload s) s.count c.in-Err.fault c.in-Err.ensures.damaged);
-  named = λ fa.
-      let s = g.S.PageStore.seen c.args.store in
-      subst (IsNamedAtOpen (stored_payload s) s.count) (sym c.from.ensures) (named_still (stored_payload s) s.count c.in-Err.fault (c.in-Err.ensures.named fa));
 }
