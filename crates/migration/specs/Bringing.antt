@@ -1,49 +1,38 @@
 -- Why a database of version 1 is not brought over.
-use Rattle.std.specs.Prelude.{ℕ, ◌≡◌, ◌⊎◌, Option}
-use Rattle.pages.specs.Store.{Store, Faulted}
-use Rattle.pages.specs.declared.payload.Payload.{Payload}
-use Rattle.trajdb.specs.declared.OpenFault.{OpenFault}
-use Rattle.trajdb.specs.declared.OpenFault.TheVariants.{Memory, Store as StoreFailed, Damaged, StoreFull, Unfinished, Version, Malformed}
-use Rattle.version1.specs.Naming.{KeepsNothingOld, OldReadStopsAt}
+use Rattle.std.specs.Prelude.{List}
+use Rattle.pages.specs.Store.{Store}
+use Rattle.pagecache.specs.Cache.{stored_payload}
+use Rattle.register.specs.Lasting.{IsTrulyDamaged}
+use Rattle.register.specs.Saved.{CatalogueView}
+use Rattle.register.specs.Saving.{IsSavingStop}
+use Rattle.register.specs.declared.fault.CatalogueFault.{CatalogueFault}
+use Rattle.tbtree.specs.declared.tree.Place.{Place}
+use Rattle.tbtree.specs.declared.tree.TbTree.{TbTree}
+use Rattle.version1.specs.Migrating.{IsLegFault}
+use Rattle.version1.specs.Naming.{AreWhole, IfDamaged, IsNamedOfChains, NamesOldStop}
+use Rattle.version1.specs.OldStore.{IsKeptOld}
 
--- why a store whose pages keep a catalogue is not brought over: memory ran out, a store failed or is full, or a page,
--- as of a chain of leaves that is not whole, is damaged
-abbrev pub IsLegFault : OpenFault → Type 0
-IsLegFault Memory = Unit {0}
-IsLegFault StoreFailed = Unit {0}
-IsLegFault (Damaged page) = Unit {0}
-IsLegFault StoreFull = Unit {0}
-IsLegFault Unfinished = ⊥
-IsLegFault Version = ⊥
-IsLegFault Malformed = ⊥
+-- why a store whose pages keep this catalogue is refused: memory, one of the two stores, or a damaged page; no page where
+-- the chains of all features are whole, and else one that the chains name
+pub record RefusesKept (old : Store) (c : CatalogueView) (tree : TbTree) (places : List Place)
+    (fault : CatalogueFault) : Type 0 where
+  pub only : IsLegFault fault
+  pub whole : AreWhole old c tree places → IsSavingStop fault
+  pub chains : IfDamaged (IsNamedOfChains old c tree places) fault
 
--- P of the page that is said to be damaged
-abbrev pub IfDamaged : (ℕ → Type 0) → OpenFault → Type 0
-IfDamaged P Memory = Unit {0}
-IfDamaged P StoreFailed = Unit {0}
-IfDamaged P (Damaged page) = P page
-IfDamaged P StoreFull = Unit {0}
-IfDamaged P Unfinished = Unit {0}
-IfDamaged P Version = Unit {0}
-IfDamaged P Malformed = Unit {0}
+-- and one whose pages keep none: a page that is said to be damaged is so, and is the one at which reading stops; pages that
+-- are said to be malformed keep none, whatever stands in the damaged ones
+pub record RefusesUnkept (old : Store) (fault : CatalogueFault) : Type 0 where
+  pub damaged : IsTrulyDamaged old.is_faithful (stored_payload old) old.count fault
+  pub named : NamesOldStop (stored_payload old) old.count fault
 
--- the page that is said to be damaged is the one at which reading the catalogue of version 1 stops; pages that are said to
--- be malformed keep none, whatever stands in the damaged ones
-abbrev pub IsNamedOfOld : (ℕ → Option Payload) → ℕ → OpenFault → Type 0
-IsNamedOfOld at count Memory = Unit {0}
-IsNamedOfOld at count StoreFailed = Unit {0}
-IsNamedOfOld at count (Damaged page) = OldReadStopsAt at count page
-IsNamedOfOld at count StoreFull = Unit {0}
-IsNamedOfOld at count Unfinished = Unit {0}
-IsNamedOfOld at count Version = Unit {0}
-IsNamedOfOld at count Malformed = KeepsNothingOld at count
+-- the catalogue, the tree and the places are kept by the pages of a store of version 1
+abbrev pub KeepsOld : Store → CatalogueView → TbTree → List Place → Type 0
+KeepsOld old c tree places = IsKeptOld (stored_payload old) old.count c tree places
 
--- one of two stores failed where that is said, and the second, which is new, is full where that is said
-abbrev pub IsMigratingFault : (old after new left : Store) → OpenFault → Type 0
-IsMigratingFault old after new left Memory = Unit {0}
-IsMigratingFault old after new left StoreFailed = Faulted old after ⊎ Faulted new left
-IsMigratingFault old after new left (Damaged page) = Unit {0}
-IsMigratingFault old after new left StoreFull = left.count ≡ left.most
-IsMigratingFault old after new left Unfinished = Unit {0}
-IsMigratingFault old after new left Version = Unit {0}
-IsMigratingFault old after new left Malformed = Unit {0}
+-- why a store of version 1 is refused, whatever its pages keep
+pub record RefusesOld (old : Store) (fault : CatalogueFault) : Type 0 where
+  pub kept : (c : CatalogueView) (tree : TbTree) (places : List Place)
+      → KeepsOld old c tree places → RefusesKept old c tree places fault
+  pub unkept : ((c : CatalogueView) (tree : TbTree) (places : List Place)
+      → KeepsOld old c tree places → ⊥) → RefusesUnkept old fault

@@ -14,16 +14,14 @@ pub trait Migrate<T: PageStore> {
     ghost use Rattle.pages.specs.Store.{Stays};
     ghost use Rattle.pagecache.specs.Cache.{stored_payload};
     ghost use Rattle.catalogue.specs.Beginning.{IsLeftOver};
-    ghost use Rattle.register.specs.Saved.{CatalogueView};
-    ghost use Rattle.tbtree.specs.declared.tree.Place.{Place};
-    ghost use Rattle.tbtree.specs.declared.tree.TbTree.{TbTree};
-    ghost use Rattle.version1.specs.Migrating.{IsBrought};
-    ghost use Rattle.version1.specs.Naming.{AreWhole, IsNamedOfChains};
-    ghost use Rattle.version1.specs.OldStore.{old_first_fault, present_shape, HoldsOldBook, IsKeptOld};
+    ghost use Rattle.version1.specs.Migrating.{IsBrought, IsMigratingFault};
+    ghost use Rattle.version1.specs.OldStore.{old_first_fault, present_shape, HoldsOldBook};
     ghost use Rattle.trajdb.specs.Database.{catalogue_of};
-    ghost use Rattle.trajdb.specs.Db.{HasPages, IsAllowed};
-    ghost use Rattle.trajdb.specs.Lasting.{ComesFirst, HasBook, IsTrulyDamaged};
-    ghost use Rattle.migration.specs.Bringing.{IfDamaged, IsLegFault, IsMigratingFault, IsNamedOfOld};
+    ghost use Rattle.trajdb.specs.Db.{HasPages};
+    ghost use Rattle.register.specs.Lasting.{ComesFirst};
+    ghost use Rattle.register.specs.Saving.{IsSavingStop};
+    ghost use Rattle.trajdb.specs.Lasting.{HasBook};
+    ghost use Rattle.migration.specs.Bringing.{RefusesOld};
 
     /// Brings the database of a finished store of version 1 over into an empty store, with a cache of
     /// at most that many pages, at least 1: the same legs, names, attribute values, base, coordinate
@@ -62,44 +60,14 @@ pub trait Migrate<T: PageStore> {
         ensures holds { IfErr result (λ back. IsTrue (S.seen old.old).is_faithful
             → IsTrue (T.seen new).is_faithful
             → (shape : ShapeView) (limits : LimitsView) (book : Book)
-            → HoldsOldBook (S.seen old.old) shape limits book → IsAllowed back.1) }
+            → HoldsOldBook (S.seen old.old) shape limits book → IsSavingStop back.1) }
 
-        // Whatever the pages keep is brought over, but for memory, the two stores and a damaged page:
-        // no page where the chains of all features are whole, and else one that the chains name.
-        // Where the pages keep no catalogue, a page that is said to be damaged is so, and is the one
-        // at which reading it stops; pages that are said to be malformed keep none, whatever the
-        // damaged ones have.
+        // Whatever the pages keep is brought over, and else it is said why not.
         ensures brought { IfOk result (λ db. IsTrue (S.seen old.old).is_faithful
             → IsTrue (T.seen new).is_faithful
             → IsBrought (S.seen old.old) (catalogue_of db) db.index) }
-        ensures kept { IfErr result (λ back. IsTrue (S.seen old.old).is_faithful
-            → IsTrue (T.seen new).is_faithful
-            → (c : CatalogueView) (tree : TbTree) (places : List Place)
-            → IsKeptOld (stored_payload (S.seen old.old)) (S.seen old.old).count c tree places
-            → IsLegFault back.1) }
-        ensures whole { IfErr result (λ back. IsTrue (S.seen old.old).is_faithful
-            → IsTrue (T.seen new).is_faithful
-            → (c : CatalogueView) (tree : TbTree) (places : List Place)
-            → IsKeptOld (stored_payload (S.seen old.old)) (S.seen old.old).count c tree places
-            → AreWhole (S.seen old.old) c tree places → IsAllowed back.1) }
-        ensures chains { IfErr result (λ back. IsTrue (S.seen old.old).is_faithful
-            → IsTrue (T.seen new).is_faithful
-            → (c : CatalogueView) (tree : TbTree) (places : List Place)
-            → IsKeptOld (stored_payload (S.seen old.old)) (S.seen old.old).count c tree places
-            → IfDamaged (IsNamedOfChains (S.seen old.old) c tree places) back.1) }
-        ensures damaged { IfErr result (λ back. IsTrue (S.seen old.old).is_faithful
-            → IsTrue (T.seen new).is_faithful
-            → ((c : CatalogueView) (tree : TbTree) (places : List Place)
-            → IsKeptOld (stored_payload (S.seen old.old)) (S.seen old.old).count c tree places
-            → ⊥)
-            → IsTrulyDamaged (S.seen old.old).is_faithful
-            (stored_payload (S.seen old.old)) (S.seen old.old).count back.1) }
-        ensures named { IfErr result (λ back. IsTrue (S.seen old.old).is_faithful
-            → IsTrue (T.seen new).is_faithful
-            → ((c : CatalogueView) (tree : TbTree) (places : List Place)
-            → IsKeptOld (stored_payload (S.seen old.old)) (S.seen old.old).count c tree places
-            → ⊥)
-            → IsNamedOfOld (stored_payload (S.seen old.old)) (S.seen old.old).count back.1) }
+        ensures refuses { IfErr result (λ back. IsTrue (S.seen old.old).is_faithful
+            → IsTrue (T.seen new).is_faithful → RefusesOld (S.seen old.old) back.1) }
 
         // It has begun: page 0 of the new store says that it is not finished.
         ensures begun { IfOk result (λ db. db.begun ≡ true) }
@@ -132,7 +100,7 @@ impl<T: PageStore> Migrate<T> for Db<T> {
     ) -> Result<Db<T>, (T, OpenFault)> {
         match version1::migrate(alloc, keys, old, new, cache_pages) {
             Ok((catalogue, index)) => Ok(Db::from_parts(catalogue, index, true)),
-            Err((store, fault)) => Err((store, OpenFault::from(fault))),
+            Err(back) => Err(back),
         }
     }
 }
