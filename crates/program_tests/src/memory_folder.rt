@@ -124,6 +124,7 @@ pub(crate) struct MemFolder {
     past: VecDeque<Option<Vec<[u8; 4096]>>>,
     calls: Calls,
     is_settled: bool,
+    refusals: u64,
     has_copy: bool,
 }
 
@@ -136,6 +137,7 @@ impl MemFolder {
             past: VecDeque::new(alloc),
             calls,
             is_settled: true,
+            refusals: 0,
             has_copy: false,
         }
     }
@@ -168,6 +170,17 @@ impl MemFolder {
         self.is_settled
     }
 
+    /// Counts a refusal.
+    fn refused(&mut self)
+        ensures refusals { HasRisen self.old.refusals self.new.refusals }
+        ensures file { self.new.file ≡ self.old.file }
+        ensures past { self.new.past ≡ self.old.past }
+        ensures settled { self.new.is_settled ≡ self.old.is_settled }
+        ensures copy { self.new.has_copy ≡ self.old.has_copy }
+    {
+        self.refusals = self.refusals.saturating_add(1);
+    }
+
     /// The pages of a copy of the store's file.
     fn pages(&self) -> Result<Vec<[u8; 4096]>, AllocError>
         ensures { IfOk result (λ v. v.items ≡ pages_in (option_map (λ v. v.items) self.now.file)) }
@@ -187,8 +200,13 @@ impl Folder for MemFolder {
 
     ghost is_settled = { λ f. f.is_settled };
 
+    ghost refusals = { λ f. f.refusals };
+
+    ghost has_copy = { λ f. f.has_copy };
+
     fn copy<'a>(&mut self) -> Result<MemCopy, Fault<'a>> {
         if self.calls.burns() {
+            self.refused();
             return Err(Fault::Run(RunFault::Store));
         }
         match self.pages() {
@@ -201,7 +219,10 @@ impl Folder for MemFolder {
                     calls: self.calls,
                 })
             }
-            Ok(_) | Err(_) => Err(Fault::Run(RunFault::Memory)),
+            Ok(_) | Err(_) => {
+                self.refused();
+                Err(Fault::Run(RunFault::Memory))
+            }
         }
     }
 
@@ -213,6 +234,7 @@ impl Folder for MemFolder {
         self.calls = store.calls;
         self.is_settled = false;
         if self.calls.burns() {
+            self.refused();
             return Err(Fault::Run(RunFault::Store));
         }
         let old = self.file.take();
@@ -224,6 +246,7 @@ impl Folder for MemFolder {
             }
             Err(refused) => {
                 self.file = refused.value;
+                self.refused();
                 Err(Fault::Run(RunFault::Memory))
             }
         }

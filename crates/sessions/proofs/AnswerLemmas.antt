@@ -10,13 +10,14 @@ use Rattle.pages.specs.Store.{Store}
 use Rattle.boxsearch.specs.Index.{words}
 use Rattle.catalogue.specs.Holding.{HoldsBook, HoldsButFirst, IsUnfinishedStore}
 use Rattle.catalogue.specs.Beginning.{IsLeftOver}
+use Rattle.register.specs.Saving.{IsSavingStop}
 use Rattle.trajdb.specs.Calls.{IsLoadFault, KeepsPages, LeavesBook}
-use Rattle.trajdb.specs.Db.{DbView, HasPages, IsAllowed, IsSoundDb}
+use Rattle.trajdb.specs.Db.{DbView, HasPages, IsSoundDb}
 use Rattle.trajdb.specs.Lasting.{HasBook, IsClosingFault, IsFaultless, IsIdle}
 use Rattle.trajdb.specs.Faults.{IsNotOutput}
 use Rattle.trajdb.specs.Run.{HasCutRun, HasRun, HasStopped, IsCut, IsRunText, Runs, Stops}
-use Rattle.trajdb.specs.declared.OpenFault.{OpenFault}
-use Rattle.trajdb.specs.declared.OpenFault.TheVariants as opening
+use Rattle.register.specs.declared.fault.CatalogueFault.{CatalogueFault}
+use Rattle.register.specs.declared.fault.CatalogueFault.TheVariants as opening
 use Rattle.trajdb.specs.declared.RunFault.{RunFault}
 use Rattle.trajdb.specs.declared.RunFault.TheVariants as run
 use Rattle.trajdb.specs.Checking.{Reports}
@@ -163,7 +164,7 @@ pub err_of : {T E : Type 0} (P : E → Type 0) (r : Result T E) (e : E) → r �
 err_of P r e is h = subst (λ k. IfErr k P) is h
 
 -- why a store that holds a book is not brought over
-pub over_open : (new left : Store) (e : OpenFault) → IsAllowed e → IsLeftOver new left → IsNotOver new left (Open e)
+pub over_open : (new left : Store) (e : CatalogueFault) → IsSavingStop e → IsLeftOver new left → IsNotOver new left (Open e)
 over_open new left opening.Memory a l = l
 over_open new left opening.Store a l = l
 over_open new left (opening.Damaged page) a l = a

@@ -7,12 +7,12 @@ use Rattle.legs.specs.Tracks.{TracksView}
 use Rattle.register.specs.Saved.{CatalogueView}
 use Rattle.register.specs.Saving.{HasFew}
 use Rattle.version1.specs.Migrating.{IsBrought}
-use Rattle.trajdb.specs.declared.OpenFault.{OpenFault}
+use Rattle.register.specs.declared.fault.CatalogueFault.{CatalogueFault}
 use Rattle.trajdb.specs.declared.RunFault.{RunFault}
 use Rattle.sessions.specs.declared.fault.Fault.{Fault}
 use Rattle.sessions.specs.declared.fault.Fault.TheVariants.{Run, Open}
 
-pub same_open : (x y : OpenFault) → ◌≡◌ {A = Result (Unit {0}) Fault} (Err (Open x)) (Err (Open y)) → x ≡ y
+pub same_open : (x y : CatalogueFault) → ◌≡◌ {A = Result (Unit {0}) Fault} (Err (Open x)) (Err (Open y)) → x ≡ y
 same_open x y o = cc
 
 pub same_run : (x y : RunFault) → ◌≡◌ {A = Result (Unit {0}) Fault} (Err (Run x)) (Err (Run y)) → x ≡ y

@@ -1,22 +1,23 @@
 -- What a run on a copy makes of a store's name.
-use Rattle.std.proofs.Common.{ℕ, ◌≡◌, ◌⊎◌, ◌∙◌, refl, sym, subst, inl, inr, [], ◌∷◌, true, false, Bool, IsTrue, List, Option, Some, None, Result, Ok, Err}
+use Rattle.std.proofs.Common.{ℕ, arith, ⊎_elim, ◌≤◌, ◌≡◌, ◌⊎◌, ◌∙◌, refl, sym, subst, inl, inr, [], ◌∷◌, true, false, Bool, IsTrue, List, Option, Some, None, Result, Ok, Err}
 use Rattle.std.proofs.KnownBytes.{Appends-nil}
 use Rattle.std.specs.Prelude.{is_ok, MatchResult, IfErr, IfOk, IfSome, IsOk, OnErr, OnOk}
 use Rattle.legs.specs.Book.{Book, empty_book}
 use Rattle.legs.specs.Costs.{ShapeView}
 use Rattle.legs.specs.Limits.{limits_of, LimitsView}
-use Rattle.pages.specs.Store.{Store}
+use Rattle.pages.specs.Store.{Store, HasRisen}
 use Rattle.pages.specs.declared.unsynced.Unsynced.TheVariants.{Others}
 use Rattle.catalogue.specs.Holding.{HoldsBook}
-use Rattle.trajdb.specs.Db.{DbView, HasPages, IsAllowed, IsSoundDb}
+use Rattle.register.specs.Saving.{IsSavingStop}
+use Rattle.trajdb.specs.Db.{DbView, HasPages, IsSoundDb}
 use Rattle.trajdb.specs.Lasting.{HasBook, IsIdle}
 use Rattle.trajdb.proofs.SafeLemmas.{apart}
 use Rattle.trajdb.specs.Run.{HasRun}
-use Rattle.trajdb.specs.declared.OpenFault.{OpenFault}
+use Rattle.register.specs.declared.fault.CatalogueFault.{CatalogueFault}
 use Rattle.trajdb.specs.declared.RunFault.{RunFault}
 use Rattle.sessions.specs.Answers.{said, Answers, ClosesAfter, Ends, FailsToLoad, RunsOver, SendsFront, new_shape}
 use Rattle.sessions.specs.declared.fault.Fault.{Fault}
-use Rattle.sessions.specs.Folder.{BeginsWith, History, HoldsNow, IsOfFolder, IsRefusedBeside, NameIsKept, RunsBeside, store_in}
+use Rattle.sessions.specs.Folder.{BeginsWith, History, HoldsNow, IsRefusedBeside, IsRefusedByFolder, NameIsKept, RunsBeside, store_in}
 use Rattle.sessions.proofs.AnswerLemmas.{front_done}
 
 -- what a folder tells of a store's name is faithful
@@ -171,16 +172,16 @@ if_refused (Err e) (Some past) P f = f e past refl
 
 -- a run over what was made of a store: where it is answered there was a database, and where there was none nothing was sent
 module _ {S O : Type 0} (seen : S → Store) (shown : O → Option (List ℕ)) (files : List (List ℕ × List ℕ)) (out out' : O) (lines : List (List ℕ)) (store : Store) where
-  pub over_opened : (answered : Result (Unit {0}) Fault) (o : Result DbView (S × OpenFault)) → RunsOver seen shown o files out out' lines answered store → OnOk answered (IsOk o)
+  pub over_opened : (answered : Result (Unit {0}) Fault) (o : Result DbView (S × CatalogueFault)) → RunsOver seen shown o files out out' lines answered store → OnOk answered (IsOk o)
   over_opened (Err e) o h = tt
   over_opened (Ok x) (Ok db) h = refl
   over_opened (Ok x) (Err back) h = let is = h.0 in absurd (cc is)
 
-  pub over_unsent : (answered : Result (Unit {0}) Fault) (o : Result DbView (S × OpenFault)) → RunsOver seen shown o files out out' lines answered store → OnErr o (shown out' ≡ shown out)
+  pub over_unsent : (answered : Result (Unit {0}) Fault) (o : Result DbView (S × CatalogueFault)) → RunsOver seen shown o files out out' lines answered store → OnErr o (shown out' ≡ shown out)
   over_unsent answered (Ok db) h = tt
   over_unsent answered (Err back) h = h.2
 
-  pub over_ended : (answered : Result (Unit {0}) Fault) (o : Result DbView (S × OpenFault)) → RunsOver seen shown o files out out' lines answered store → IfOk o (λ db. Ended files (shown out) (shown out') lines store db answered)
+  pub over_ended : (answered : Result (Unit {0}) Fault) (o : Result DbView (S × CatalogueFault)) → RunsOver seen shown o files out out' lines answered store → IfOk o (λ db. Ended files (shown out) (shown out') lines store db answered)
   over_ended answered (Ok db) h = (h.0, h.1, h.2, h.3.ends)
   over_ended answered (Err back) h = tt
 
@@ -189,15 +190,20 @@ pub on_both : {T E : Type 0} (A B : Type 0) (r : Result T E) → A → OnOk r B 
 on_both A B (Ok x) a b = (a, b)
 on_both A B (Err e) a b = tt
 
+-- what a folder was refused lasts
+pub widened : (first before after last : ℕ) (store : Store) (fault : Fault) → first ≤ before → after ≤ last → IsRefusedByFolder before after store fault → IsRefusedByFolder first last store fault
+widened first before after last store fault early late h = (h.0, ⊎_elim (λ (rises : HasRisen before after). inl (omega (arith, early, late, rises))) inr h.1)
+
 -- a run that is answered is refused as its folder refuses it
-pub refused_by_folder : (answered r : Result (Unit {0}) Fault) → answered ≡ Ok tt → IfErr r IsOfFolder → IfErr r (λ fault. (answered ≡ Err fault) ⊎ ((answered ≡ Ok tt) × IsOfFolder fault))
-refused_by_folder answered (Ok x) is named = tt
-refused_by_folder answered (Err fault) is named = inr (is, named)
+pub refused_by_folder : (first before after : ℕ) (store : Store) (answered r : Result (Unit {0}) Fault) → first ≤ before → answered ≡ Ok tt → IfErr r (IsRefusedByFolder before after store)
+    → IfErr r (λ fault. (answered ≡ Err fault) ⊎ ((answered ≡ Ok tt) × IsRefusedByFolder first after store fault))
+refused_by_folder first before after store answered (Ok x) later is named = tt
+refused_by_folder first before after store answered (Err fault) later is named = inr (is, widened first before after after store fault later (omega arith) named)
 
 -- a database is made, or it is not, of a store without pages
-pub made_or_not : {S : Type 0} {is_new : Bool} (r : Result DbView (S × OpenFault)) (s : Store)
+pub made_or_not : {S : Type 0} {is_new : Bool} (r : Result DbView (S × CatalogueFault)) (s : Store)
     → IfOk r (λ db. IsTrue is_new → IsTrue s.is_faithful → s.count ≡ 0 → HasBook new_shape (limits_of 16777216 1048576) empty_book db)
-    → IfErr r (λ back. IsTrue is_new → IsTrue s.is_faithful → s.count ≡ 0 → IsAllowed back.1)
-    → IsTrue is_new → IsTrue s.is_faithful → s.count ≡ 0 → MatchResult r (HasBook new_shape (limits_of 16777216 1048576) empty_book) (λ back. IsAllowed back.1)
+    → IfErr r (λ back. IsTrue is_new → IsTrue s.is_faithful → s.count ≡ 0 → IsSavingStop back.1)
+    → IsTrue is_new → IsTrue s.is_faithful → s.count ≡ 0 → MatchResult r (HasBook new_shape (limits_of 16777216 1048576) empty_book) (λ back. IsSavingStop back.1)
 made_or_not (Ok db) s new made n f z = new n f z
 made_or_not (Err back) s new made n f z = made n f z

@@ -8,17 +8,16 @@ use Rattle.pages.specs.Store.{Store, Faulted, IsSynced}
 use Rattle.boxsearch.specs.Index.{written, IndexView, words}
 use Rattle.catalogue.specs.Holding.{HoldsBook, HoldsButFirst, HoldsIndex, HoldsIndexButFirst, IsUnfinishedStore}
 use Rattle.catalogue.specs.Beginning.{IsLeftOver}
-use Rattle.version1.specs.Migrating.{IsBrought}
+use Rattle.version1.specs.Migrating.{IsBrought, IsMigratingFault}
 use Rattle.register.specs.Saved.{CatalogueView}
-use Rattle.migration.specs.Bringing.{IsMigratingFault}
 use Rattle.trajdb.specs.Calls.{IsLoadFault, LoadsBy, LoadsWholeSome, Speaks}
 use Rattle.trajdb.specs.Db.{page_count_of, shape_of, store_of, DbView, HasPages, IsSoundDb}
 use Rattle.trajdb.specs.Faults.{IsNotOutput}
 use Rattle.trajdb.specs.Lasting.{IsFaultless, IsIdle, IsSafe, IsSafeStore}
 use Rattle.trajdb.specs.Promises.{CheckCall, CloseCall, KeepsStore, RunCall}
 use Rattle.trajdb.specs.Run.{run_book, AcceptsSome, HasRun, IsPrefixOf, IsRunText, Runs}
-use Rattle.trajdb.specs.declared.OpenFault.{OpenFault}
-use Rattle.trajdb.specs.declared.OpenFault.TheVariants as opening
+use Rattle.register.specs.declared.fault.CatalogueFault.{CatalogueFault}
+use Rattle.register.specs.declared.fault.CatalogueFault.TheVariants as opening
 use Rattle.trajdb.specs.declared.Report.{Report}
 use Rattle.trajdb.specs.declared.RunFault.{RunFault}
 use Rattle.trajdb.specs.declared.RunFault.TheVariants as run
@@ -153,7 +152,7 @@ said (Err fault) closed = Err (Run fault)
 -- a database that was made or opened is run over and closed, and the fault of these is answered; where there is none, why is
 -- answered, the store is the one that was given back, and nothing was sent
 abbrev pub RunsOver : {S O : Type 0} (seen : S → Store) (shown : O → Option (List ℕ))
-    → Result DbView (S × OpenFault) → List (List ℕ × List ℕ) → (out out' : O)
+    → Result DbView (S × CatalogueFault) → List (List ℕ × List ℕ) → (out out' : O)
     → List (List ℕ) → Result (Unit {0}) Fault → Store → Type 0
 RunsOver seen shown (Ok db) files out out' lines answered store =
     (ran : Result (Unit {0}) RunFault) × (closed : Result (Unit {0}) RunFault)

@@ -3,16 +3,17 @@ use Rattle.std.specs.Prelude.{ℕ, ◌≡◌, ◌<◌, ◌⊎◌, ◌^◌, ◌-�
 use Rattle.legs.specs.Book.{Book, empty_book}
 use Rattle.legs.specs.Costs.{ShapeView}
 use Rattle.legs.specs.Limits.{limits_of, LimitsView}
-use Rattle.pages.specs.Store.{Store}
+use Rattle.pages.specs.Store.{Store, Faulted, HasRisen}
 use Rattle.pages.specs.declared.unsynced.Unsynced.TheVariants.{Others}
 use Rattle.catalogue.specs.Holding.{HoldsBook}
+use Rattle.register.specs.Saving.{IsSavingStop}
 use Rattle.trajdb.specs.Calls.{IsLoadFault}
-use Rattle.trajdb.specs.Db.{DbView, IsAllowed}
+use Rattle.trajdb.specs.Db.{DbView}
 use Rattle.trajdb.specs.Faults.{IsNotOutput}
 use Rattle.trajdb.specs.Lasting.{HasBook}
 use Rattle.trajdb.specs.Promises.{OpenCall}
 use Rattle.trajdb.specs.Run.{HasRun}
-use Rattle.trajdb.specs.declared.OpenFault.{OpenFault}
+use Rattle.register.specs.declared.fault.CatalogueFault.{CatalogueFault}
 use Rattle.trajdb.specs.declared.RunFault.{RunFault}
 use Rattle.trajdb.specs.declared.RunFault.TheVariants.{Memory, Store as StoreFailed}
 use Rattle.sessions.specs.Answers.{Answers, RunsOver, new_shape}
@@ -100,9 +101,17 @@ IsOfFolder (NoStore cause) = Unit {0}
 IsOfFolder NoSuchStore = ⊥
 IsOfFolder (Bounds code) = ⊥
 
--- it makes no copy
-abbrev pub IsNotCopied : Result (Unit {0}) Fault → Type 0
-IsNotCopied result = IsErr result × IfErr result IsOfFolder
+-- it makes no copy, and so was refused once more
+abbrev pub IsNotCopied : (before after : ℕ) → Result (Unit {0}) Fault → Type 0
+IsNotCopied before after result =
+    IsErr result × IfErr result (λ fault. IsOfFolder fault × HasRisen before after)
+
+-- a folder does not give the name to a copy: it was refused once more, or the copy's store failed, where that is said
+abbrev pub IsRefusedByFolder : (before after : ℕ) → Store → Fault → Type 0
+IsRefusedByFolder before after store fault =
+    IsOfFolder fault
+    × (HasRisen before after
+    ⊎ ((fault ≡ Run StoreFailed) × ((failed : Store) × Faulted store failed)))
 
 -- how a run on a copy over a book is refused: nothing was sent of it, or all was, or it says which kind of fault it is: of
 -- the output, want of memory, or of a store that failed or is full; that it is so, this does not say
@@ -127,19 +136,20 @@ pub record RunsBeside (shape : ShapeView) (limits : LimitsView) (book : Book)
 -- a database where that was asked for; it was run over and closed (`RunsOver`). Where that is answered, the name is kept as
 -- `NameIsKept` says; it is refused as that was, or as the folder did not give the name
 pub record RunsOnCopy {S O : Type 0} (seen : S → Store) (shown : O → Option (List ℕ))
-    (is_new : Bool) (cache_pages : ℕ) (old new : Option History)
+    (is_new : Bool) (cache_pages before after : ℕ) (old new : Option History)
     (files : List (List ℕ × List ℕ)) (out out' : O) (lines : List (List ℕ))
     (result : Result (Unit {0}) Fault) : Type 0 where
   pub copy : Store
   pub copies : IfSome old (λ past. copy ≡ store_in past)
-  pub opened : Result DbView (S × OpenFault)
+  pub opened : Result DbView (S × CatalogueFault)
   pub opens : (is_new ≡ false) ⊎ (0 < copy.count) → OpenCall seen copy cache_pages opened
   pub makes : IsTrue is_new → IsTrue copy.is_faithful → copy.count ≡ 0
       → MatchResult opened (HasBook new_shape (limits_of 16777216 1048576) empty_book)
-      (λ back. IsAllowed back.1)
+      (λ back. IsSavingStop back.1)
   pub answered : Result (Unit {0}) Fault
   pub store : Store
   pub run : RunsOver seen shown opened files out out' lines answered store
   pub kept : OnOk result ((answered ≡ Ok tt) × NameIsKept store old new)
   pub refused : IfErr result
-      (λ fault. (answered ≡ Err fault) ⊎ ((answered ≡ Ok tt) × IsOfFolder fault))
+      (λ fault. (answered ≡ Err fault)
+      ⊎ ((answered ≡ Ok tt) × IsRefusedByFolder before after store fault))

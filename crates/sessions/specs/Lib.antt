@@ -1,3 +1,4 @@
 pub mod Answers
 pub mod Parts
 pub mod Folder
+pub mod Texts

@@ -1,5 +1,5 @@
 //! Sending what is answered besides a script's answers.
-ghost use Rattle.std.specs.Prelude.{ℕ, take, IsOk, OnErr, OnOk};
+ghost use Rattle.std.specs.Prelude.{ℕ, ◌≡◌, take, IfErr, IsOk, OnErr, OnOk};
 ghost use Rattle.std.specs.Io.KnownBytes.{Appends, Keeps};
 
 use crate::fault::Fault;
@@ -11,6 +11,7 @@ use trajdb::RunFault;
 /// Where it was not written, or is not sent, `Output`.
 pub fn send<'a, W: Write>(written: io::Result<()>, out: &mut W) -> Result<(), Fault<'a>>
     ensures written { OnOk result (IsOk written) }
+    ensures fault { IfErr result (λ e. e ≡ Fault.Run RunFault.Output) }
     ensures stays { Keeps (W.contents out.old) (W.contents out.new) }
 {
     if written.is_err() || out.flush().is_err() {
@@ -24,6 +25,7 @@ fn send_each<'a, W: Write>(out: &mut W, bytes: &[u8]) -> Result<(), Fault<'a>>
     ensures sent { OnOk result (Appends (W.contents out.old) (W.contents out.new) bytes.now) }
     ensures part { OnErr result ((n : ℕ) × Appends (W.contents out.old) (W.contents out.new)
         (take n bytes.now)) }
+    ensures fault { IfErr result (λ e. e ≡ Fault.Run RunFault.Output) }
 {
     let mut rest = bytes;
     while !rest.is_empty() {
@@ -42,6 +44,7 @@ pub fn send_all<'a, W: Write>(out: &mut W, bytes: &[u8]) -> Result<(), Fault<'a>
     ensures sent { OnOk result (Appends (W.contents out.old) (W.contents out.new) bytes.now) }
     ensures part { OnErr result ((n : ℕ) × Appends (W.contents out.old) (W.contents out.new)
         (take n bytes.now)) }
+    ensures fault { IfErr result (λ e. e ≡ Fault.Run RunFault.Output) }
 {
     match send_each(out, bytes) {
         Ok(()) => match out.flush() {

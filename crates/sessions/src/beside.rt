@@ -1,11 +1,11 @@
 //! A run that works on a copy beside the store.
-ghost use Rattle.std.specs.Prelude.{◌≡◌, ◌<◌, ◌⊎◌, IfErr, IfSome, IsTrue, OnErr, OnOk};
+ghost use Rattle.std.specs.Prelude.{◌≡◌, ◌<◌, ◌⊎◌, IfErr, IfSome, IsTrue, OnErr, OnOk, false};
 ghost use Rattle.legs.specs.Book.{Book};
 ghost use Rattle.legs.specs.Costs.{ShapeView};
 ghost use Rattle.legs.specs.Limits.{LimitsView};
 ghost use Rattle.trajdb.specs.Script.{lines_of};
 ghost use Rattle.sessions.specs.Answers.{SendsFront};
-ghost use Rattle.sessions.specs.Folder.{BeginsWith, NameIsKept, IsKeptOnce, IsNotCopied, IsOfFolder, IsRefusedBeside, IsReplaced, RunsBeside, RunsOnCopy, store_in};
+ghost use Rattle.sessions.specs.Folder.{BeginsWith, NameIsKept, IsKeptOnce, IsNotCopied, IsRefusedByFolder, IsRefusedBeside, IsReplaced, RunsBeside, RunsOnCopy, store_in};
 
 use crate::fault::Fault;
 use crate::folder::Folder;
@@ -34,8 +34,10 @@ pub struct Opening {
 fn give<'a, F: Folder>(folder: &mut F, mut store: F::Store) -> Result<(), Fault<'a>>
     ensures replaced { OnOk result (IsReplaced (F.Store.PageStore.seen store) (F.held folder.old)
         (F.held folder.new)) }
+    ensures taken { OnOk result (F.has_copy folder.new ≡ false) }
     ensures stays { OnErr result (F.held folder.new ≡ F.held folder.old) }
-    ensures named { IfErr result IsOfFolder }
+    ensures named { IfErr result (IsRefusedByFolder (F.refusals folder.old)
+        (F.refusals folder.new) (F.Store.PageStore.seen store)) }
     ensures settled { OnOk result (IsTrue (F.is_settled folder.new)) }
 {
     if store.sync().is_err() {
@@ -54,8 +56,10 @@ fn give<'a, F: Folder>(folder: &mut F, mut store: F::Store) -> Result<(), Fault<
 fn keep<'a, F: Folder>(folder: &mut F, store: F::Store) -> Result<(), Fault<'a>>
     ensures kept { OnOk result (NameIsKept (F.Store.PageStore.seen store) (F.held folder.old)
         (F.held folder.new)) }
+    ensures gone { F.has_copy folder.new ≡ false }
     ensures stays { OnErr result (F.held folder.new ≡ F.held folder.old) }
-    ensures named { IfErr result IsOfFolder }
+    ensures named { IfErr result (IsRefusedByFolder (F.refusals folder.old)
+        (F.refusals folder.new) (F.Store.PageStore.seen store)) }
     ensures settled { OnOk result (IsTrue (F.is_settled folder.old)
         → IsTrue (F.is_settled folder.new)) }
 {
@@ -100,8 +104,10 @@ pub fn run_on_copy<'a, F: Folder, W: Write>(
     // Whatever the store held, there was no copy, for which the folder says why, and nothing was sent, or a
     // database over the copy was opened or refused, run over and closed, and the name given to what that
     // left, or not.
-    ensures over { (IsNotCopied result × (W.contents out.new ≡ W.contents out.old))
+    ensures over { (IsNotCopied (F.refusals folder.old) (F.refusals folder.new) result
+        × (W.contents out.new ≡ W.contents out.old))
         ⊎ RunsOnCopy F.Store.PageStore.seen W.contents how.is_new how.cache_pages
+        (F.refusals folder.old) (F.refusals folder.new)
         (F.held folder.old) (F.held folder.new) files.now out.old out.new (lines_of script.now)
         result }
 
@@ -110,6 +116,9 @@ pub fn run_on_copy<'a, F: Folder, W: Write>(
     ensures once { OnOk result (IsKeptOnce (F.held folder.old) (F.held folder.new)) }
     ensures settled { OnOk result (IsTrue (F.is_settled folder.old)
         → IsTrue (F.is_settled folder.new)) }
+
+    // No copy is left beside the store's file, whatever is answered.
+    ensures gone { F.has_copy folder.new ≡ false }
 
     // Where it is refused the name stands for what it stood for, all along, and what was sent is
     // the front of that text.

@@ -43,6 +43,11 @@ impl From<io::ErrorKind> for Cause {
 }
 
 impl Display for Cause {
+    ghost use Rattle.std.specs.Prelude.{Some};
+    ghost use Rattle.sessions.specs.Texts.{cause_text};
+
+    ghost output = { λ c. Some (cause_text c) };
+
     fn fmt<W: fmt::Write>(&self, f: &mut Formatter<W>) -> fmt::Result {
         f.write_str(match self {
             Cause::Absent => "there is no such file or folder",

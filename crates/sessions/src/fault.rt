@@ -1,5 +1,6 @@
 //! Why the program failed.
-ghost use Rattle.std.specs.Prelude.{◌≡◌, ◌≤◌};
+ghost use Rattle.std.specs.Prelude.{◌≡◌, ◌≤◌, ◌↔◌, IsTrue};
+ghost use Rattle.sessions.specs.Texts.{bounds_words, status_of, IsOfStore};
 
 use crate::cause::Cause;
 use querylang::LineCode;
@@ -36,6 +37,7 @@ pub enum Fault<'a> {
 impl Fault<'_> {
     /// The exit status of the program: 2 where its words are wrong, else 1.
     pub fn status(&self) -> u8
+        ensures value { result ≡ status_of self.now }
         ensures fails { 1 ≤ result }
         ensures most { result ≤ 2 }
     {
@@ -46,7 +48,9 @@ impl Fault<'_> {
     }
 
     /// Whether a store that failed is the fault.
-    pub fn is_of_store(&self) -> bool {
+    pub fn is_of_store(&self) -> bool
+        ensures { IsTrue result ↔ IsOfStore self.now }
+    {
         match self {
             Fault::Run(fault) => *fault == RunFault::Store,
             Fault::Open(fault) => *fault == OpenFault::Store,
@@ -91,7 +95,9 @@ impl From<OpenFault> for Fault<'_> {
 }
 
 /// Why a rectangle or a period is refused.
-fn bounds_text(code: LineCode) -> &'static str {
+fn bounds_text(code: LineCode) -> &'static str
+    ensures { result.now ≡ bounds_words code }
+{
     match code {
         LineCode::Q5 => "a coordinate is no number, or out of range",
         LineCode::Q6 => "X1 is above X2, or Y1 above Y2",
@@ -103,6 +109,11 @@ fn bounds_text(code: LineCode) -> &'static str {
 
 /// What the fault's line says after `mftb: `.
 impl Display for Fault<'_> {
+    ghost use Rattle.std.specs.Prelude.{Some};
+    ghost use Rattle.sessions.specs.Texts.{fault_text};
+
+    ghost output = { λ f. Some (fault_text f) };
+
     fn fmt<W: fmt::Write>(&self, f: &mut Formatter<W>) -> fmt::Result {
         match self {
             Fault::Run(RunFault::Memory) | Fault::Open(OpenFault::Memory) => f.write_str("memory"),

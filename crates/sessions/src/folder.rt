@@ -1,6 +1,6 @@
 //! The contract of the folder that a store's file is in.
-ghost use Rattle.std.specs.Prelude.{◌≡◌, Bool, Option, IfErr, IfOk, IfSome, IsTrue, OnErr, OnOk, false};
-ghost use Rattle.pages.specs.Store.{IsSynced};
+ghost use Rattle.std.specs.Prelude.{ℕ, ◌≡◌, ◌≤◌, Bool, Option, IfErr, IfOk, IfSome, IsTrue, OnErr, OnOk, false};
+ghost use Rattle.pages.specs.Store.{HasRisen, IsSynced};
 ghost use Rattle.sessions.specs.Folder.{HasPagesHeld, History, IsOfFolder, IsReplaced, store_in};
 
 use crate::fault::Fault;
@@ -21,6 +21,12 @@ pub trait Folder {
     /// Whether each name that was given is on the disk, as far as the system can make it so.
     ghost is_settled: { Self → Bool };
 
+    /// How often it was refused to make a copy, or to give it the name.
+    ghost refusals: { Self → ℕ };
+
+    /// Whether a copy that this folder made lies beside the store's file.
+    ghost has_copy: { Self → Bool };
+
     /// Makes a copy of the store's file beside it, or a new file where there is none, and opens it.
     /// What is then written to it changes the copy alone. Where it is refused, `discard` takes away
     /// what was made.
@@ -28,6 +34,8 @@ pub trait Folder {
         ensures stays { held self.new ≡ held self.old }
         ensures settled { is_settled self.new ≡ is_settled self.old }
         ensures named { IfErr result IsOfFolder }
+        ensures cause { OnErr result (HasRisen (refusals self.old) (refusals self.new)) }
+        ensures later { refusals self.old ≤ refusals self.new }
         ensures copies { IfOk result (λ store. IfSome (held self.old)
             (λ past. Self.Store.PageStore.seen store ≡ store_in past)) };
 
@@ -42,16 +50,21 @@ pub trait Folder {
         requires { IsSynced (Self.Store.PageStore.seen store) }
         ensures replaced { OnOk result (IsReplaced (Self.Store.PageStore.seen store)
             (held self.old) (held self.new)) }
+        ensures taken { OnOk result (has_copy self.new ≡ false) }
         ensures stays { OnErr result (held self.new ≡ held self.old) }
-        ensures named { IfErr result IsOfFolder };
+        ensures named { IfErr result IsOfFolder }
+        ensures cause { OnErr result (HasRisen (refusals self.old) (refusals self.new)) };
 
     /// Makes the name that was given last, where the system can.
     fn settle(&mut self)
         ensures stays { held self.new ≡ held self.old }
+        ensures copy { has_copy self.new ≡ has_copy self.old }
         ensures settled { IsTrue (is_settled self.new) };
 
     /// Takes away the copy, where there is one that this folder made.
     fn discard(&mut self)
+        ensures gone { has_copy self.new ≡ false }
+        ensures later { refusals self.old ≤ refusals self.new }
         ensures stays { held self.new ≡ held self.old }
         ensures settled { is_settled self.new ≡ is_settled self.old };
 }

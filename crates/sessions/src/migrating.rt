@@ -7,16 +7,12 @@ ghost use Rattle.pages.specs.Store.{IsSynced, Stays};
 ghost use Rattle.catalogue.specs.Beginning.{IsLeftOver};
 ghost use Rattle.catalogue.specs.Holding.{HoldsBook, HoldsButFirst, IsUnfinishedStore};
 ghost use Rattle.pagecache.specs.Cache.{stored_payload};
-ghost use Rattle.register.specs.Saved.{CatalogueView};
-ghost use Rattle.tbtree.specs.declared.tree.Place.{Place};
-ghost use Rattle.tbtree.specs.declared.tree.TbTree.{TbTree};
-ghost use Rattle.version1.specs.OldStore.{old_first_fault, present_shape, HoldsOldBook, IsKeptOld};
-ghost use Rattle.migration.specs.Bringing.{IfDamaged, IsLegFault, IsNamedOfOld};
-ghost use Rattle.version1.specs.Naming.{AreWhole, IsNamedOfChains};
-ghost use Rattle.trajdb.specs.Db.{IsAllowed};
+ghost use Rattle.version1.specs.OldStore.{old_first_fault, present_shape, HoldsOldBook};
+ghost use Rattle.migration.specs.Bringing.{RefusesOld};
 ghost use Rattle.trajdb.specs.Calls.{IsLoadFault};
-ghost use Rattle.trajdb.specs.Lasting.{ComesFirst, IsFaultless, IsTrulyDamaged};
-ghost use Rattle.trajdb.specs.declared.OpenFault.{OpenFault};
+ghost use Rattle.register.specs.Lasting.{ComesFirst};
+ghost use Rattle.register.specs.declared.fault.CatalogueFault.{CatalogueFault};
+ghost use Rattle.trajdb.specs.Lasting.{IsFaultless};
 ghost use Rattle.trajdb.specs.declared.RunFault.{RunFault};
 ghost use Rattle.sessions.specs.Answers.{BringsButFirst, BringsWhole, IsNotOver, IsOverFault};
 
@@ -66,47 +62,19 @@ pub fn migrate_and_close<'a, S: PageStore, T: PageStore>(
 
     // Whatever the other store holds, where it is not brought over the new one has no page, says that
     // it is not finished, or has a page 0 alone, whose write failed.
-    ensures refused { (fault : OpenFault) → result.1 ≡ Err (Fault.Open fault)
+    ensures refused { (fault : CatalogueFault) → result.1 ≡ Err (Fault.Open fault)
         → IsTrue (S.seen old.old).is_faithful → IsTrue (T.seen new).is_faithful
         → IsLeftOver (T.seen new) (T.seen result.0) }
     ensures caused { IfErr result.1 (IsOverFault (S.seen old.old) (S.seen old.new) (T.seen new)
         (T.seen result.0)) }
 
-    // Then the fault of page 0 comes first; one whose pages keep a catalogue is refused for memory,
-    // a store that failed, a full one, or a damaged page alone: no page where the chains of all
-    // features are whole, and else one that the chains name; and where they keep none, a page that
-    // is said to be damaged is so, and is the one at which reading stops.
-    ensures first { (fault : OpenFault) → result.1 ≡ Err (Fault.Open fault)
+    // Then the fault of page 0 comes first, and else it is what the pages keep that says why.
+    ensures first { (fault : CatalogueFault) → result.1 ≡ Err (Fault.Open fault)
         → IsTrue (S.seen old.old).is_faithful → ComesFirst
         (old_first_fault (S.seen old.old).count (stored_payload (S.seen old.old) 0)) fault }
-    ensures kept { (fault : OpenFault) → result.1 ≡ Err (Fault.Open fault)
+    ensures refuses { (fault : CatalogueFault) → result.1 ≡ Err (Fault.Open fault)
         → IsTrue (S.seen old.old).is_faithful → IsTrue (T.seen new).is_faithful
-        → (c : CatalogueView) (tree : TbTree) (places : List Place)
-        → IsKeptOld (stored_payload (S.seen old.old)) (S.seen old.old).count c tree places
-        → IsLegFault fault }
-    ensures unbroken { (fault : OpenFault) → result.1 ≡ Err (Fault.Open fault)
-        → IsTrue (S.seen old.old).is_faithful → IsTrue (T.seen new).is_faithful
-        → (c : CatalogueView) (tree : TbTree) (places : List Place)
-        → IsKeptOld (stored_payload (S.seen old.old)) (S.seen old.old).count c tree places
-        → AreWhole (S.seen old.old) c tree places → IsAllowed fault }
-    ensures chains { (fault : OpenFault) → result.1 ≡ Err (Fault.Open fault)
-        → IsTrue (S.seen old.old).is_faithful → IsTrue (T.seen new).is_faithful
-        → (c : CatalogueView) (tree : TbTree) (places : List Place)
-        → IsKeptOld (stored_payload (S.seen old.old)) (S.seen old.old).count c tree places
-        → IfDamaged (IsNamedOfChains (S.seen old.old) c tree places) fault }
-    ensures damaged { (fault : OpenFault) → result.1 ≡ Err (Fault.Open fault)
-        → IsTrue (S.seen old.old).is_faithful → IsTrue (T.seen new).is_faithful
-        → ((c : CatalogueView) (tree : TbTree) (places : List Place)
-        → IsKeptOld (stored_payload (S.seen old.old)) (S.seen old.old).count c tree places
-        → ⊥)
-        → IsTrulyDamaged (S.seen old.old).is_faithful (stored_payload (S.seen old.old))
-        (S.seen old.old).count fault }
-    ensures named { (fault : OpenFault) → result.1 ≡ Err (Fault.Open fault)
-        → IsTrue (S.seen old.old).is_faithful → IsTrue (T.seen new).is_faithful
-        → ((c : CatalogueView) (tree : TbTree) (places : List Place)
-        → IsKeptOld (stored_payload (S.seen old.old)) (S.seen old.old).count c tree places
-        → ⊥)
-        → IsNamedOfOld (stored_payload (S.seen old.old)) (S.seen old.old).count fault }
+        → RefusesOld (S.seen old.old) fault }
 
     // Where the closing is refused, the new one is not finished, or all of its pages but page 0 are
     // those of a store that holds the book, and are synced; so it is of whatever the other store

@@ -1,5 +1,6 @@
 //! The part of a file that has the features of one of several parts.
-ghost use Rattle.std.specs.Prelude.{◌<◌, OnErr, OnOk};
+ghost use Rattle.std.specs.Prelude.{◌≡◌, ◌<◌, ◌⊎◌, IfErr, OnErr, OnOk};
+ghost use Rattle.std.specs.Io.KnownBytes.{Keeps};
 ghost use Rattle.sessions.specs.Parts.{SendsPart, SendsSome};
 
 use crate::answering::send_all;
@@ -25,6 +26,8 @@ pub fn send_part<'a, W: Write>(
     ensures sends { OnOk result
         (SendsPart k n bytes.now (W.contents out.old) (W.contents out.new)) }
     ensures cut { OnErr result (SendsSome k n bytes.now (W.contents out.old) (W.contents out.new)) }
+    ensures fault { IfErr result (λ e. (e ≡ Fault.Run RunFault.Output)
+        ⊎ ((e ≡ Fault.Run RunFault.Memory) × Keeps (W.contents out.old) (W.contents out.new))) }
 {
     match part(alloc, u64::from(k), u64::from(n), bytes) {
         Ok(text) => send_all(out, &text),

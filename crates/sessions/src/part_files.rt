@@ -1,5 +1,5 @@
 //! The files of all parts of a file.
-ghost use Rattle.std.specs.Prelude.{◌≡◌, ◌<◌, ◌≤◌, ◌+◌, ◌^◌, ◌∷◌, [], List, ℕ, Option, OnErr, OnOk, length, map};
+ghost use Rattle.std.specs.Prelude.{◌≡◌, ◌<◌, ◌≤◌, ◌+◌, ◌^◌, ◌∷◌, [], List, ℕ, ◌⊎◌, Option, IfErr, OnErr, OnOk, length, map};
 ghost use Rattle.sessions.specs.Parts.{HasFirst, HasFirstTexts, Puts, parts_from, numbered, with_puts};
 
 use parts::parts;
@@ -24,7 +24,8 @@ pub trait PartFolder {
     fn put(&mut self, part: u64, text: &[u8]) -> Result<(), RunFault>
         ensures put { OnOk result
             (puts self.new ≡ with_puts (puts self.old) ((part, text.now) ∷ [])) }
-        ensures stays { OnErr result (puts self.new ≡ puts self.old) };
+        ensures stays { OnErr result (puts self.new ≡ puts self.old) }
+        ensures fault { IfErr result (λ e. (e ≡ RunFault.Memory) ⊎ (e ≡ RunFault.Output)) };
 }
 
 /// Puts the texts of parts, of which the first has that number, into a folder.
@@ -34,6 +35,7 @@ fn put_texts<F: PartFolder>(folder: &mut F, first: u64, texts: &[Vec<u8>]) -> Re
         ≡ with_puts (F.puts folder.old) (numbered first (map (λ text. text.items) texts.now))) }
     ensures some { OnErr result (HasFirstTexts first (map (λ text. text.items) texts.now)
         (F.puts folder.old) (F.puts folder.new)) }
+    ensures fault { IfErr result (λ e. (e ≡ RunFault.Memory) ⊎ (e ≡ RunFault.Output)) }
 {
     let mut part = first;
     for text in texts {
@@ -65,6 +67,7 @@ pub fn put_parts<F: PartFolder>(
     // Where one is not put, only parts before it were.
     ensures some { OnErr result (HasFirst first count n bytes.now
         (F.puts folder.old) (F.puts folder.new)) }
+    ensures fault { IfErr result (λ e. (e ≡ RunFault.Memory) ⊎ (e ≡ RunFault.Output)) }
 {
     let mut done = 0;
     while done < count {

@@ -3,14 +3,16 @@ ghost use Rattle.std.specs.Prelude.{◌≡◌, ◌<◌, ◌⊎◌, false, IfErr,
 ghost use Rattle.legs.specs.Costs.{ShapeView};
 ghost use Rattle.legs.specs.Limits.{limits_of, LimitsView};
 ghost use Rattle.legs.specs.Book.{Book, empty_book};
+ghost use Rattle.register.specs.Saving.{IsSavingStop};
+ghost use Rattle.register.specs.Lasting.{IsStop};
 ghost use Rattle.trajdb.specs.Script.{lines_of};
 ghost use Rattle.catalogue.specs.Beginning.{IsLeft};
 ghost use Rattle.catalogue.specs.Holding.{HoldsBook};
 ghost use Rattle.pages.specs.Sealed.{sealed};
 ghost use Rattle.pages.specs.Store.{Faulted, IsSynced, Keeps, Writes};
 ghost use Rattle.header.specs.Fields.{header_payload};
-ghost use Rattle.trajdb.specs.Db.{capacity_of, shape_of, store_of, HasPages, IsAllowed, IsSoundDb};
-ghost use Rattle.trajdb.specs.Lasting.{HasBook, IsIdle, IsSafe, IsStop};
+ghost use Rattle.trajdb.specs.Db.{capacity_of, shape_of, store_of, HasPages, IsSoundDb};
+ghost use Rattle.trajdb.specs.Lasting.{HasBook, IsIdle, IsSafe};
 ghost use Rattle.trajdb.specs.Promises.{OpenCall};
 ghost use Rattle.sessions.specs.Answers.{new_shape, said, Answers, HasWritten, NoneBegins, OnlyAsks, RunBegins, RunsAndCloses, RunsOver, SendsFront};
 
@@ -82,7 +84,7 @@ pub fn database<S: PageStore>(
         → (shape : ShapeView) (limits : LimitsView) (book : Book)
         → HoldsBook (S.seen store) shape limits book → IsStop back.1) }
     ensures made { IfErr result (λ back. IsTrue is_new → IsTrue (S.seen store).is_faithful
-        → (S.seen store).count ≡ 0 → IsAllowed back.1) }
+        → (S.seen store).count ≡ 0 → IsSavingStop back.1) }
 
     // A store is said to have failed, or to have no room, only where it did or has none.
     ensures caused { IfErr result (λ back. back.1 ≡ OpenFault.Store

@@ -1,4 +1,4 @@
-use Rattle.std.proofs.Common.{◌≡◌, inl, inr, refl, sym, subst, IsTrue, Ok}
+use Rattle.std.proofs.Common.{◌≡◌, inl, inr, refl, sym, subst, IsTrue, Ok, arith}
 use Rattle.std.specs.Prelude.{IfSome, OnOk}
 use Rattle.legs.specs.Book.{Book}
 use Rattle.legs.specs.Costs.{ShapeView}
@@ -115,7 +115,10 @@ returns-in-Ok-answered-clause-refused g c =
     (begun_with opened first (store_in past) same c.args.how.is_new shape limits book faithful c.database-database.ensures.new c.database-database.ensures.kept h))
 
 pub returns-in-Err-clause-over : goal.returns-in-Err-clause-over
-returns-in-Err-clause-over g c = inl ((cc, c.in-Err.ensures.named), refl)
+returns-in-Err-clause-over g c =
+    let early = c.in-Err.ensures.cause in
+    let late = c.discard.ensures.later in
+    inl ((cc, (c.in-Err.ensures.named, omega (arith, early, late))), refl)
 
 pub returns-in-Err-answered-clause-over : goal.returns-in-Err-answered-clause-over
 returns-in-Err-answered-clause-over g c = inr (record {
@@ -148,5 +151,6 @@ returns-in-Ok-answered-clause-over g c =
       store = last;
       run = c.answer-store.ensures.over;
       kept = on_both (answered ≡ Ok tt) (NameIsKept last was is) c.keep.result c.in-Ok-answered.is kept;
-      refused = refused_by_folder answered c.keep.result c.in-Ok-answered.is c.keep.ensures.named;
+      refused = refused_by_folder (g.F.Folder.refusals c.args.folder.now) (g.F.Folder.refusals c.copy.new.self) (g.F.Folder.refusals c.keep.new.folder) last answered c.keep.result
+          c.in-Ok.ensures.later c.in-Ok-answered.is c.keep.ensures.named;
     })

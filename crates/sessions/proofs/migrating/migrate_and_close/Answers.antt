@@ -1,14 +1,13 @@
 use Rattle.std.proofs.Common.{◌≡◌, ◌⊎◌, false, subst, true, OnOk}
 use Rattle.std.specs.Prelude.{OnErr}
 use Rattle.register.specs.Saving.{HasFew}
-use Rattle.migration.specs.Bringing.{IfDamaged, IsLegFault}
+use Rattle.migration.specs.Bringing.{RefusesOld}
 use Rattle.pages.specs.Store.{IsSynced}
 use Rattle.boxsearch.specs.Index.{IsMarked}
 use Rattle.catalogue.specs.Holding.{HoldsButFirst, HoldsIndex, HoldsIndexButFirst, IsUnfinishedStore}
-use Rattle.version1.specs.Naming.{IsNamedOfChains}
 use Rattle.version1.specs.OldStore.{present_shape}
 use Rattle.trajdb.specs.Calls.{IsLoadFault}
-use Rattle.trajdb.specs.Db.{HasPages, IsAllowed, IsSoundDb}
+use Rattle.trajdb.specs.Db.{HasPages, IsSoundDb}
 use Rattle.trajdb.specs.Database.{catalogue_of}
 use Rattle.trajdb.specs.Lasting.{IsClosingFault, IsFaultless}
 use Rattle.sessions.proofs.BroughtLemmas.{brought_few, same_open, same_run}
@@ -70,10 +69,6 @@ returns-in-Err-closed-clause-behind g c = λ why is fa fb.
     let behind = subst (λ r. OnErr r (db.failed ≡ false → IsMarked db.index.cache → IsUnfinishedStore left ⊎ HoldsIndexButFirst left (catalogue_of db) db.index)) c.in-Err-closed.is c.close-store.ensures.behind in
     record { catalogue = catalogue_of db; index = db.index; brought = e.brought fa fb; behind = behind e.lives ((e.pages fa fb).begun e.begun) }
 
-pub returns-in-Err-clause-kept : goal.returns-in-Err-clause-kept
-returns-in-Err-clause-kept g c = λ fault is fa fb k tree places h.
-    subst IsLegFault (same_open c.in-Err.fault fault is) (c.in-Err.ensures.kept fa fb k tree places h)
-
 pub returns-in-Err-closed-clause-only : goal.returns-in-Err-closed-clause-only
 returns-in-Err-closed-clause-only g c = λ why is fa fb.
     let e = c.in-Ok.ensures in
@@ -82,10 +77,6 @@ returns-in-Err-closed-clause-only g c = λ why is fa fb.
     subst IsLoadFault (same_run c.in-Err-closed.fault why is)
     (only e.lives ((e.pages fa fb).begun e.begun) (brought_few (g.S.PageStore.seen c.args.old.now) (catalogue_of db) db.index (e.brought fa fb)))
 
-pub returns-in-Err-clause-unbroken : goal.returns-in-Err-clause-unbroken
-returns-in-Err-clause-unbroken g c = λ fault is fa fb k tree places h w.
-    subst IsAllowed (same_open c.in-Err.fault fault is) (c.in-Err.ensures.whole fa fb k tree places h w)
-
-pub returns-in-Err-clause-chains : goal.returns-in-Err-clause-chains
-returns-in-Err-clause-chains g c = λ fault is fa fb k tree places h.
-    subst (IfDamaged (IsNamedOfChains (g.S.PageStore.seen c.args.old.now) k tree places)) (same_open c.in-Err.fault fault is) (c.in-Err.ensures.chains fa fb k tree places h)
+pub returns-in-Err-clause-refuses : goal.returns-in-Err-clause-refuses
+returns-in-Err-clause-refuses g c = λ fault is fa fb.
+    subst (RefusesOld (g.S.PageStore.seen c.args.old.now)) (same_open c.in-Err.fault fault is) (c.in-Err.ensures.refuses fa fb)

@@ -4,10 +4,12 @@ use Rattle.boxsearch.specs.Index.{words}
 use Rattle.legs.specs.Book.{Book, empty_book}
 use Rattle.legs.specs.Costs.{ShapeView}
 use Rattle.legs.specs.Limits.{limits_of, LimitsView}
-use Rattle.trajdb.specs.Db.{DbView, IsAllowed, IsCaused, IsSoundDb}
-use Rattle.trajdb.specs.Lasting.{HasBook, IsOpeningFault, IsSafe, IsStop}
+use Rattle.register.specs.Saving.{IsSavingStop}
+use Rattle.register.specs.Lasting.{IsStop, IsReadingFault}
+use Rattle.trajdb.specs.Db.{DbView, IsCaused, IsSoundDb}
+use Rattle.trajdb.specs.Lasting.{HasBook, IsSafe}
 use Rattle.trajdb.specs.Promises.{OpenCall}
-use Rattle.trajdb.specs.declared.OpenFault.TheVariants as opening
+use Rattle.register.specs.declared.fault.CatalogueFault.TheVariants as opening
 use Rattle.sessions.specs.Answers.{new_shape}
 use Rattle.header.specs.Fields.{header_payload}
 use Rattle.pages.specs.Sealed.{sealed}
@@ -39,13 +41,13 @@ pub returns-then-len-eq0-clause-holds : goal.returns-then-len-eq0-clause-holds
 returns-then-len-eq0-clause-holds g c =
     let s = g.S.PageStore.seen c.args.store in
     let none : s.count ≡ 0 = sym c.len.ensures ∙ c.if-len-eq0.true in
-    err_more (λ back. IsTrue s.is_faithful → IsAllowed back.1) (λ back. IsTrue s.is_faithful → (shape : ShapeView) (limits : LimitsView) (book : Book) → HoldsBook s shape limits book → IsStop back.1)
+    err_more (λ back. IsTrue s.is_faithful → IsSavingStop back.1) (λ back. IsTrue s.is_faithful → (shape : ShapeView) (limits : LimitsView) (book : Book) → HoldsBook s shape limits book → IsStop back.1)
     c.create.result (λ back a f shape limits book h. absurd (none_held s none shape limits book h)) c.create.ensures.only
 
 pub returns-then-len-eq0-clause-made : goal.returns-then-len-eq0-clause-made
 returns-then-len-eq0-clause-made g c =
     let s = g.S.PageStore.seen c.args.store in
-    err_more (λ back. IsTrue s.is_faithful → IsAllowed back.1) (λ back. IsTrue c.args.is_new → IsTrue s.is_faithful → s.count ≡ 0 → IsAllowed back.1) c.create.result (λ back a n f z. a f) c.create.ensures.only
+    err_more (λ back. IsTrue s.is_faithful → IsSavingStop back.1) (λ back. IsTrue c.args.is_new → IsTrue s.is_faithful → s.count ≡ 0 → IsSavingStop back.1) c.create.result (λ back a n f z. a f) c.create.ensures.only
 
 pub returns-then-len-eq0-clause-caused : goal.returns-then-len-eq0-clause-caused
 returns-then-len-eq0-clause-caused g c =
@@ -62,14 +64,14 @@ returns-then-len-eq0-clause-full g c =
 pub returns-clause-caused : goal.returns-clause-caused
 returns-clause-caused g c =
     let s = g.S.PageStore.seen c.args.store in
-    err_more (λ back. IsOpeningFault s (g.S.PageStore.seen back.0) back.1) (λ back. back.1 ≡ opening.Store → Faulted s (g.S.PageStore.seen back.0)) c.open.result
-    (λ back h is. subst (λ e. IsOpeningFault s (g.S.PageStore.seen back.0) e) is h) c.open.ensures.caused
+    err_more (λ back. IsReadingFault s (g.S.PageStore.seen back.0) back.1) (λ back. back.1 ≡ opening.Store → Faulted s (g.S.PageStore.seen back.0)) c.open.result
+    (λ back h is. subst (λ e. IsReadingFault s (g.S.PageStore.seen back.0) e) is h) c.open.ensures.caused
 
 pub returns-clause-full : goal.returns-clause-full
 returns-clause-full g c =
     let s = g.S.PageStore.seen c.args.store in
-    err_more (λ back. IsOpeningFault s (g.S.PageStore.seen back.0) back.1) (λ back. back.1 ≡ opening.StoreFull → s.most ≡ 0) c.open.result
-    (λ back h is. absurd (subst (λ e. IsOpeningFault s (g.S.PageStore.seen back.0) e) is h)) c.open.ensures.caused
+    err_more (λ back. IsReadingFault s (g.S.PageStore.seen back.0) back.1) (λ back. back.1 ≡ opening.StoreFull → s.most ≡ 0) c.open.result
+    (λ back h is. absurd (subst (λ e. IsReadingFault s (g.S.PageStore.seen back.0) e) is h)) c.open.ensures.caused
 
 pub returns-then-len-eq0-clause-header : goal.returns-then-len-eq0-clause-header
 returns-then-len-eq0-clause-header g c =
