@@ -1,8 +1,11 @@
 //! The files of all parts of a file, in a folder of the system.
-ghost use Rattle.std.specs.Prelude.{None};
+ghost use Rattle.std.specs.Prelude.{◌≡◌, IfOk, None};
+ghost use Rattle.std.specs.String.{string_bytes};
+ghost use Rattle.mftb.specs.Names.{part_name};
 
 use arguments::Parts;
 use sessions::{Fault, MOST_BYTES, PartFolder, put_parts, read_named};
+use std::alloc::{AllocError, Global};
 use std::fs::File;
 use std::io::Write;
 use std::rt::Files;
@@ -22,12 +25,19 @@ fn write_file<R: Files<File = File>>(rt: &R, name: &str, bytes: &[u8]) -> io::Re
     file.write_all(bytes)
 }
 
+/// The name of the file of a part in a folder.
+fn name_of(alloc: Global, folder: &str, part: u64) -> Result<String, AllocError>
+    ensures { IfOk result (λ name. string_bytes name ≡ part_name folder.now part) }
+{
+    format!(in alloc; "{folder}/part-{part}.csv")
+}
+
 impl<'a, R: Files<File = File> + AllocGlobal> PartFolder for SystemParts<'a, R> {
     ghost puts = { λ _. None };
 
     fn put(&mut self, part: u64, text: &[u8]) -> Result<(), RunFault> {
         let alloc = self.rt.alloc();
-        let name = format!(in alloc; "{}/part-{part}.csv", self.folder)?;
+        let name = name_of(alloc, self.folder, part)?;
         let beside = format!(in alloc; "{name}.new")?;
         let (name, beside) = (name.as_str(), beside.as_str());
         if write_file(self.rt, beside, text).is_err()

@@ -1,4 +1,8 @@
 //! What a run reads before it opens a store.
+ghost use Rattle.std.specs.Prelude.{◌≡◌, ℕ, [], List, IfOk, OnOk, map};
+ghost use Rattle.trajdb.specs.Files.{files_with};
+ghost use Rattle.mftb.specs.Reading.{AreRead};
+
 use querylang::{Command, LineFault, parse_line};
 use sessions::{Cause, Fault, MOST_BYTES, read_named};
 use std::alloc::Global;
@@ -11,7 +15,10 @@ fn add_file<'a, R: rt::Files + AllocGlobal>(
     rt: &R,
     files: &mut Files,
     name: &'a str,
-) -> Result<(), Fault<'a>> {
+) -> Result<(), Fault<'a>>
+    ensures { OnOk result ((bytes : List ℕ)
+        × (files.new ≡ files_with files.old name.now bytes)) }
+{
     let bytes = read_named(rt, name, MOST_BYTES)?;
     match files.add(name, bytes) {
         Ok(()) => Ok(()),
@@ -23,7 +30,9 @@ fn add_file<'a, R: rt::Files + AllocGlobal>(
 pub(crate) fn read_files<'a, R: rt::Files + AllocGlobal>(
     rt: &R,
     names: &[&'a str],
-) -> Result<Files, Fault<'a>> {
+) -> Result<Files, Fault<'a>>
+    ensures { IfOk result (AreRead [] (map (λ n. n.now) names.now)) }
+{
     let mut files = Files::new(rt.alloc());
     for name in names {
         add_file(rt, &mut files, name)?;

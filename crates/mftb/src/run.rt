@@ -1,5 +1,5 @@
 //! `mftb run`: a script over the database that a file keeps.
-ghost use Rattle.std.specs.Prelude.{◌≡◌, ◌<◌, IsTrue};
+ghost use Rattle.std.specs.Prelude.{◌≡◌, ◌<◌, ◌↔◌, IfOk, IsTrue};
 ghost use Rattle.mftb.specs.declared.outcome.Outcome.{Outcome};
 
 use crate::locks::hold_name;
@@ -108,7 +108,7 @@ fn run_beside<'a, R: rt::Files<File = File> + rt::Clock + Eprint, W: Write>(
 
 /// How a run ended in which so many lines and files were refused.
 fn outcome_of(is_strict: bool, refused: u64) -> Outcome
-    ensures { result ≡ Outcome.Refused → IsTrue is_strict × (0 < refused) }
+    ensures { (result ≡ Outcome.Refused) ↔ (IsTrue is_strict × (0 < refused)) }
 {
     if is_strict && refused > 0 {
         Outcome::Refused
@@ -144,13 +144,22 @@ fn is_without_legs<R: rt::Files<File = File>>(rt: &R, name: &str, is_told: bool)
     is_told && reach_of(rt, name) == Reach::Nowhere
 }
 
-/// Reads all that is named, opens the store, and then runs the script.
-pub(crate) fn run<
-    'a,
-    R: rt::Files<File = File> + rt::Clock + Eprint + AllocGlobal + RandomSource,
-    W: Write,
->(rt: &R, run: &Run<'a>, out: &mut W, is_terminal: bool) -> Result<Outcome, Fault<'a>> {
-    let alloc = rt.alloc();
+/// What a run works on.
+#[derive(Drop)]
+struct Work {
+    script: Vec<u8>,
+    files: Files,
+    names: Names,
+    how: Opening,
+}
+
+/// Reads all that is named, and looks whether the store is there.
+fn read_work<'a, R: rt::Files<File = File> + AllocGlobal + RandomSource>(
+    rt: &R,
+    run: &Run<'a>,
+) -> Result<Work, Fault<'a>>
+    ensures { IfOk result (λ work. 0 < work.how.cache_pages) }
+{
     let script = read_named(rt, run.script, MOST_BYTES)?;
     let files = read_files(rt, &run.files)?;
     let Ok(keys) = RandomState::new(rt) else {
@@ -158,7 +167,7 @@ pub(crate) fn run<
     };
     let names = Names::new(rt, run.store)?;
     let how = Opening {
-        alloc,
+        alloc: rt.alloc(),
         keys,
         is_new: is_absent(rt, names.store.as_str()),
         cache_pages: run.cache_pages.max(1),
@@ -166,24 +175,60 @@ pub(crate) fn run<
     if how.is_new && run.is_existing {
         return Err(Fault::NoSuchStore);
     }
-    let is_shown = is_terminal && run.telling != Telling::Never;
-    let progress = Progress::new(rt, Told::new(run.progress, is_shown), &script);
-    let is_told = run.telling.is_told(is_terminal);
-    let is_empty = how.is_new || is_without_legs(rt, names.store.as_str(), is_told);
-    let mut out = Followed::new(out, &progress, Notes::new(alloc, is_told, is_empty));
-    let ended = run_named(rt, run, &names, &progress, how, &script, &files, &mut out);
-    progress.clear();
-    if ended.is_ok() && is_told && how.is_new && !has_load(alloc, &script)? {
-        tell_made(rt, run.store);
-    }
+    Ok(Work {
+        script,
+        files,
+        names,
+        how,
+    })
+}
+
+/// Says what a run has done that its answers do not say, and how it ended.
+fn told<'a, R: rt::Files<File = File> + Eprint + AllocGlobal + RandomSource>(
+    rt: &R,
+    run: &Run<'a>,
+    work: &Work,
+    notes: &Notes,
+    ended: Result<(), Fault<'a>>,
+) -> Result<Outcome, Fault<'a>> {
     let given = Given {
         name: run.script,
-        script: &script,
-        files: &files,
+        script: &work.script,
+        files: &work.files,
     };
-    tell(rt, run.store, &given, out.notes());
+    tell(rt, run.store, &given, notes);
     match ended {
-        Ok(()) => Ok(outcome_of(run.is_strict, out.notes().refused())),
-        Err(fault) => Err(names.caused(fault)),
+        Ok(()) => Ok(outcome_of(run.is_strict, notes.refused())),
+        Err(fault) => Err(work.names.caused(fault)),
     }
+}
+
+/// Reads all that is named, opens the store, and then runs the script.
+pub(crate) fn run<
+    'a,
+    R: rt::Files<File = File> + rt::Clock + Eprint + AllocGlobal + RandomSource,
+    W: Write,
+>(rt: &R, run: &Run<'a>, out: &mut W, is_terminal: bool) -> Result<Outcome, Fault<'a>> {
+    let work = read_work(rt, run)?;
+    let (how, script) = (work.how, work.script.as_slice());
+    let is_shown = is_terminal && run.telling != Telling::Never;
+    let progress = Progress::new(rt, Told::new(run.progress, is_shown), script);
+    let is_told = run.telling.is_told(is_terminal);
+    let is_empty = how.is_new || is_without_legs(rt, work.names.store.as_str(), is_told);
+    let mut out = Followed::new(out, &progress, Notes::new(how.alloc, is_told, is_empty));
+    let ended = run_named(
+        rt,
+        run,
+        &work.names,
+        &progress,
+        how,
+        script,
+        &work.files,
+        &mut out,
+    );
+    progress.clear();
+    if ended.is_ok() && is_told && how.is_new && !has_load(how.alloc, script)? {
+        tell_made(rt, run.store);
+    }
+    told(rt, run, &work, out.notes(), ended)
 }

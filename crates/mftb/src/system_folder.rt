@@ -1,5 +1,6 @@
 //! The folder of a store's file, as the system has it.
-ghost use Rattle.std.specs.Prelude.{◌≡◌, false, None, IfErr};
+ghost use Rattle.std.specs.Prelude.{◌≡◌, ◌≤◌, false, None, IfErr};
+ghost use Rattle.pages.specs.Store.{HasRisen};
 ghost use Rattle.sessions.specs.Folder.{IsOfFolder};
 
 use crate::held_file::HeldFile;
@@ -38,6 +39,8 @@ pub(crate) struct SystemFolder<'a, 'p, R: Files<File = File> + Clock + Eprint> {
     is_made: bool,
     /// Whether the system was asked to make each name last that was given.
     is_settled: bool,
+    /// How often it was refused to make a copy, or to give it the name.
+    refusals: u64,
 }
 
 /// Takes a file's name away, where it has one.
@@ -148,6 +151,7 @@ impl<'a, 'p, R: Files<File = File> + Clock + Eprint> SystemFolder<'a, 'p, R> {
                 lock,
                 is_made: false,
                 is_settled: true,
+                refusals: 0,
             }),
             Err(fault) => {
                 let _ = fs::remove_file(rt, names.lock.as_str());
@@ -161,10 +165,20 @@ impl<'a, 'p, R: Files<File = File> + Clock + Eprint> SystemFolder<'a, 'p, R> {
         let _ = fs::remove_file(self.rt, self.names.lock.as_str());
     }
 
+    /// Counts a refusal.
+    fn count_refusal(&mut self)
+        ensures refusals { HasRisen self.old.refusals self.new.refusals }
+        ensures later { self.old.refusals ≤ self.new.refusals }
+        ensures settled { self.new.is_settled ≡ self.old.is_settled }
+    {
+        self.refusals = self.refusals.saturating_add(1);
+    }
+
     /// Makes the copy. Where there are no locks, another run may have replaced the store before, whose
     /// copy this one would take back: it is refused then.
     fn make_copy<'b>(&mut self) -> Result<File, Fault<'b>>
         ensures settled { self.new.is_settled ≡ self.old.is_settled }
+        ensures refusals { self.new.refusals ≡ self.old.refusals }
         ensures named { IfErr result IsOfFolder }
     {
         let (rt, name) = (self.rt, self.names.copy.as_str());
@@ -197,11 +211,24 @@ impl<'a, 'p, R: Files<File = File> + Clock + Eprint> Folder for SystemFolder<'a,
 
     ghost is_settled = { λ s. s.is_settled };
 
+    ghost refusals = { λ s. s.refusals };
+
+    ghost has_copy = { λ s. s.is_made };
+
     fn copy<'b>(&mut self) -> Result<Noted<'a, 'p, FileStore<HeldFile<'a, File>>, R>, Fault<'b>> {
-        let copy = self.make_copy()?;
+        let copy = match self.make_copy() {
+            Ok(copy) => copy,
+            Err(fault) => {
+                self.count_refusal();
+                return Err(fault);
+            }
+        };
         match FileStore::new(HeldFile::noted(copy, &self.names.cause)) {
             Ok(store) => Ok(Noted::new(store, self.progress)),
-            Err(_) => Err(Fault::NoStore(Cause::Other)),
+            Err(_) => {
+                self.count_refusal();
+                Err(Fault::NoStore(Cause::Other))
+            }
         }
     }
 
@@ -222,6 +249,7 @@ impl<'a, 'p, R: Files<File = File> + Clock + Eprint> Folder for SystemFolder<'a,
         let (copy, name) = (self.names.copy.as_str(), self.names.store.as_str());
         self.is_settled = false;
         if let Err(error) = fs::rename(self.rt, copy, name) {
+            self.count_refusal();
             return Err(Fault::NoStore(Cause::from(error.kind())));
         }
         self.is_made = false;

@@ -1,0 +1,8 @@
+-- What a run reads before it opens a store.
+use Rattle.std.specs.Prelude.{ℕ, ◌≡◌, List, [], ◌∷◌}
+use Rattle.trajdb.specs.Files.{files_with}
+
+-- the files of these names were read, one after another, and put beside others
+abbrev pub AreRead : List (List ℕ × List ℕ) → List (List ℕ) → List (List ℕ × List ℕ) → Type 0
+AreRead files [] all = all ≡ files
+AreRead files (name ∷ names) all = (bytes : List ℕ) × AreRead (files_with files name bytes) names all
