@@ -114,7 +114,7 @@ placed_legs finding feature = legs_at (slice_get finding.places feature)
 abbrev pub AsksNoMore : {I : Type 0} → Ghosts I → I → I → Type 0
 AsksNoMore g old new = g.asked new ≤ g.asked old + (g.found_by old).pages
 
--- and a question about a feature for no more than full leaves of its legs would be
+-- and a question about a feature for no more than full leaves of as many legs as its place counts would be
 abbrev pub AsksChain : {I : Type 0} → Ghosts I → I → I → ℕ → Type 0
 AsksChain g old new feature =
     (shape : ShapeView) → g.plan old ≡ Some shape

@@ -1,5 +1,5 @@
 //! The folder of a store's file, as the system has it.
-ghost use Rattle.std.specs.Prelude.{◌≡◌, ◌≤◌, false, None, IfErr};
+ghost use Rattle.std.specs.Prelude.{◌≡◌, ◌≤◌, false, None, IfErr, IsTrue, OnOk};
 ghost use Rattle.pages.specs.Store.{HasRisen};
 ghost use Rattle.sessions.specs.Folder.{IsOfFolder};
 
@@ -179,6 +179,7 @@ impl<'a, 'p, R: Files<File = File> + Clock + Eprint> SystemFolder<'a, 'p, R> {
     fn make_copy<'b>(&mut self) -> Result<File, Fault<'b>>
         ensures settled { self.new.is_settled ≡ self.old.is_settled }
         ensures refusals { self.new.refusals ≡ self.old.refusals }
+        ensures made { OnOk result (IsTrue self.new.is_made) }
         ensures named { IfErr result IsOfFolder }
     {
         let (rt, name) = (self.rt, self.names.copy.as_str());

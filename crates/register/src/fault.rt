@@ -14,10 +14,10 @@ pub enum CatalogueFault {
     /// The store has no room for another page.
     #[error("the store is full")]
     StoreFull,
-    /// A page is not what was written.
+    /// A page is not what it should be.
     #[error("page {0} is damaged")]
     Damaged(u32),
-    /// The store was not finished: files were accepted, and it was not closed then.
+    /// The store was not finished: it was made, or a file was accepted, and it was not closed then.
     #[error("the store is not finished")]
     Unfinished,
     /// The store has another version.

@@ -191,14 +191,14 @@ on_both A B (Ok x) a b = (a, b)
 on_both A B (Err e) a b = tt
 
 -- what a folder was refused lasts
-pub widened : (first before after last : ℕ) (store : Store) (fault : Fault) → first ≤ before → after ≤ last → IsRefusedByFolder before after store fault → IsRefusedByFolder first last store fault
-widened first before after last store fault early late h = (h.0, ⊎_elim (λ (rises : HasRisen before after). inl (omega (arith, early, late, rises))) inr h.1)
+pub widened : (first before after last : ℕ) (fault : Fault) → first ≤ before → after ≤ last → IsRefusedByFolder before after fault → IsRefusedByFolder first last fault
+widened first before after last fault early late h = (h.0, ⊎_elim (λ (rises : HasRisen before after). inl (omega (arith, early, late, rises))) inr h.1)
 
 -- a run that is answered is refused as its folder refuses it
-pub refused_by_folder : (first before after : ℕ) (store : Store) (answered r : Result (Unit {0}) Fault) → first ≤ before → answered ≡ Ok tt → IfErr r (IsRefusedByFolder before after store)
-    → IfErr r (λ fault. (answered ≡ Err fault) ⊎ ((answered ≡ Ok tt) × IsRefusedByFolder first after store fault))
-refused_by_folder first before after store answered (Ok x) later is named = tt
-refused_by_folder first before after store answered (Err fault) later is named = inr (is, widened first before after after store fault later (omega arith) named)
+pub refused_by_folder : (first before after : ℕ) (answered r : Result (Unit {0}) Fault) → first ≤ before → answered ≡ Ok tt → IfErr r (IsRefusedByFolder before after)
+    → IfErr r (λ fault. (answered ≡ Err fault) ⊎ ((answered ≡ Ok tt) × IsRefusedByFolder first after fault))
+refused_by_folder first before after answered (Ok x) later is named = tt
+refused_by_folder first before after answered (Err fault) later is named = inr (is, widened first before after after fault later (omega arith) named)
 
 -- a database is made, or it is not, of a store without pages
 pub made_or_not : {S : Type 0} {is_new : Bool} (r : Result DbView (S × CatalogueFault)) (s : Store)

@@ -3,7 +3,7 @@ use Rattle.std.specs.Prelude.{ℕ, ◌≡◌, ◌<◌, ◌⊎◌, ◌^◌, ◌-�
 use Rattle.legs.specs.Book.{Book, empty_book}
 use Rattle.legs.specs.Costs.{ShapeView}
 use Rattle.legs.specs.Limits.{limits_of, LimitsView}
-use Rattle.pages.specs.Store.{Store, Faulted, HasRisen}
+use Rattle.pages.specs.Store.{Store, HasRisen}
 use Rattle.pages.specs.declared.unsynced.Unsynced.TheVariants.{Others}
 use Rattle.catalogue.specs.Holding.{HoldsBook}
 use Rattle.register.specs.Saving.{IsSavingStop}
@@ -106,12 +106,11 @@ abbrev pub IsNotCopied : (before after : ℕ) → Result (Unit {0}) Fault → Ty
 IsNotCopied before after result =
     IsErr result × IfErr result (λ fault. IsOfFolder fault × HasRisen before after)
 
--- a folder does not give the name to a copy: it was refused once more, or the copy's store failed, where that is said
-abbrev pub IsRefusedByFolder : (before after : ℕ) → Store → Fault → Type 0
-IsRefusedByFolder before after store fault =
-    IsOfFolder fault
-    × (HasRisen before after
-    ⊎ ((fault ≡ Run StoreFailed) × ((failed : Store) × Faulted store failed)))
+-- a folder does not give the name to a copy: it was refused once more, or it is said that a store failed; that it was the
+-- copy's, which was not made to last, this does not say
+abbrev pub IsRefusedByFolder : (before after : ℕ) → Fault → Type 0
+IsRefusedByFolder before after fault =
+    IsOfFolder fault × (HasRisen before after ⊎ (fault ≡ Run StoreFailed))
 
 -- how a run on a copy over a book is refused: nothing was sent of it, or all was, or it says which kind of fault it is: of
 -- the output, want of memory, or of a store that failed or is full; that it is so, this does not say
@@ -152,4 +151,4 @@ pub record RunsOnCopy {S O : Type 0} (seen : S → Store) (shown : O → Option 
   pub kept : OnOk result ((answered ≡ Ok tt) × NameIsKept store old new)
   pub refused : IfErr result
       (λ fault. (answered ≡ Err fault)
-      ⊎ ((answered ≡ Ok tt) × IsRefusedByFolder before after store fault))
+      ⊎ ((answered ≡ Ok tt) × IsRefusedByFolder before after fault))

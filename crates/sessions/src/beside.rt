@@ -37,7 +37,7 @@ fn give<'a, F: Folder>(folder: &mut F, mut store: F::Store) -> Result<(), Fault<
     ensures taken { OnOk result (F.has_copy folder.new ≡ false) }
     ensures stays { OnErr result (F.held folder.new ≡ F.held folder.old) }
     ensures named { IfErr result (IsRefusedByFolder (F.refusals folder.old)
-        (F.refusals folder.new) (F.Store.PageStore.seen store)) }
+        (F.refusals folder.new)) }
     ensures settled { OnOk result (IsTrue (F.is_settled folder.new)) }
 {
     if store.sync().is_err() {
@@ -59,7 +59,7 @@ fn keep<'a, F: Folder>(folder: &mut F, store: F::Store) -> Result<(), Fault<'a>>
     ensures gone { F.has_copy folder.new ≡ false }
     ensures stays { OnErr result (F.held folder.new ≡ F.held folder.old) }
     ensures named { IfErr result (IsRefusedByFolder (F.refusals folder.old)
-        (F.refusals folder.new) (F.Store.PageStore.seen store)) }
+        (F.refusals folder.new)) }
     ensures settled { OnOk result (IsTrue (F.is_settled folder.old)
         → IsTrue (F.is_settled folder.new)) }
 {

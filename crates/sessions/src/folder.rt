@@ -24,7 +24,8 @@ pub trait Folder {
     /// How often it was refused to make a copy, or to give it the name.
     ghost refusals: { Self → ℕ };
 
-    /// Whether a copy that this folder made lies beside the store's file.
+    /// Whether a copy that this folder made lies beside the store's file, as far as the system let it be
+    /// taken away.
     ghost has_copy: { Self → Bool };
 
     /// Makes a copy of the store's file beside it, or a new file where there is none, and opens it.
@@ -36,6 +37,7 @@ pub trait Folder {
         ensures named { IfErr result IsOfFolder }
         ensures cause { OnErr result (HasRisen (refusals self.old) (refusals self.new)) }
         ensures later { refusals self.old ≤ refusals self.new }
+        ensures made { OnOk result (IsTrue (has_copy self.new)) }
         ensures copies { IfOk result (λ store. IfSome (held self.old)
             (λ past. Self.Store.PageStore.seen store ≡ store_in past)) };
 

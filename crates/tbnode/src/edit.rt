@@ -96,7 +96,8 @@ pub fn init_inner(payload: &mut Payload, level: u16, entry: &Entry)
 /// Puts an entry at the end of an inner page that has room for it. No other field changes.
 pub fn push_entry(payload: &mut Payload, entry: &Entry)
     requires inner { IsSome (as_inner (node_of payload.old)) }
-    requires room { ForSome (as_inner (node_of payload.old)) (λ page. length page.entries < MOST_ENTRIES) }
+    requires room { ForSome (as_inner (node_of payload.old))
+        (λ page. length page.entries < MOST_ENTRIES) }
     ensures node { node_of payload.new
         ≡ option_map (inner_with_entry entry.now) (as_inner (node_of payload.old)) }
     ensures rest { slack_of payload.new ≡ drop 56 (slack_of payload.old) }

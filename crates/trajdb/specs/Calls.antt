@@ -452,13 +452,13 @@ AsksKnown g old new (Features predicate rect period) =
 AsksKnown g old new (Trajectory name) = Unit {0}
 AsksKnown g old new Write = Unit {0}
 
--- how many full leaves the legs of features would be
+-- how many full leaves as many legs as the places of features count would be
 abbrev pub full_leaves : Finding → ShapeView → List ℕ → ℕ
 full_leaves finding shape features =
     sum_by (λ leaves. leaves)
     (map (λ feature. div_ceil (placed_legs finding feature) shape.leaf) features)
 
--- whatever its pages say, questions about features ask for no more of them than full leaves of their legs would be
+-- whatever its pages say, questions about features ask for no more of them than these
 abbrev pub AsksChains : {I : Type 0} → Ghosts I → I → I → List ℕ → Type 0
 AsksChains g old new features =
     (shape : ShapeView) → g.plan old ≡ Some shape
@@ -470,7 +470,7 @@ AsksTrack g old new (Some feature) = AsksChain g old new feature
 AsksTrack g old new None = g.asked new ≡ g.asked old
 
 -- whatever the pages say, and answered or not, a command that searches asks for no more of them than there are, one about
--- features, of which there are not too many, for no more than full leaves of their legs would be, and `count` for none
+-- features, of which there are not too many, for no more than full leaves of what their places count, and `count` for none
 abbrev pub AsksFew : {I : Type 0} → Ghosts I → CoreView I → CoreView I → Command → Type 0
 AsksFew g old new (Load name) = Unit {0}
 AsksFew g old new Count = g.asked new.index ≡ g.asked old.index

@@ -151,6 +151,6 @@ returns-in-Ok-answered-clause-over g c =
       store = last;
       run = c.answer-store.ensures.over;
       kept = on_both (answered ≡ Ok tt) (NameIsKept last was is) c.keep.result c.in-Ok-answered.is kept;
-      refused = refused_by_folder (g.F.Folder.refusals c.args.folder.now) (g.F.Folder.refusals c.copy.new.self) (g.F.Folder.refusals c.keep.new.folder) last answered c.keep.result
+      refused = refused_by_folder (g.F.Folder.refusals c.args.folder.now) (g.F.Folder.refusals c.copy.new.self) (g.F.Folder.refusals c.keep.new.folder) answered c.keep.result
           c.in-Ok.ensures.later c.in-Ok-answered.is c.keep.ensures.named;
     })
