@@ -173,6 +173,7 @@ impl MemFolder {
     /// Counts a refusal.
     fn refused(&mut self)
         ensures refusals { HasRisen self.old.refusals self.new.refusals }
+        ensures later { self.old.refusals ≤ self.new.refusals }
         ensures file { self.new.file ≡ self.old.file }
         ensures past { self.new.past ≡ self.old.past }
         ensures settled { self.new.is_settled ≡ self.old.is_settled }
