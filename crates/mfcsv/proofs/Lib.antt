@@ -1,5 +1,3 @@
-pub mod CutLemmas
-pub mod WordLemmas
 pub mod TextLemmas
 pub mod UnreadLemmas
 pub mod RowLemmas

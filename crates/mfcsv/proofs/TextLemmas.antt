@@ -1,14 +1,15 @@
 -- A field is text exactly where it is text when cut.
-use Rattle.std.proofs.Common.{[], ◌∷◌, map, reverse, ℕ, ◌+◌, ◌-◌, ◌<◌, ◌≡◌, ◌∙◌, ap, refl, List, length, take, drop, get_or, true, false, arith, inl, inr}
+use Rattle.std.proofs.Common.{[], ◌∷◌, map, reverse, ℕ, ◌+◌, ◌-◌, ◌<◌, ◌≡◌, ◌∙◌, ap, refl, List, length, take, drop, get_or, true, false, arith, inl, inr, unwrap_or, zero, suc}
 use Rattle.std.proofs.lemmas.Bool.{cases_lt, and_parts, false_from_ne_true}
 use Rattle.std.proofs.lemmas.List.Sums.{prefix_len_passes, prefix_len-le-length, suffix_len-le-length}
 use Rattle.std.proofs.lemmas.List.{get_or-reverse, get_or-drop, get_or-take, get_or_past, take-append-drop, length-drop, length-take-le}
 use Rattle.std.proofs.lemmas.Str.{IsUtf8-append, IsUtf8-from_ascii, IsUtf8-drop, IsUtf8-take, IsUtf8-from_is_utf8, is_utf8-from_IsUtf8}
 use Rattle.std.specs.List.{list_all, prefix_len, suffix_len}
 use Rattle.std.specs.Str.{IsAscii, IsUtf8, is_utf8}
-use Rattle.csv.specs.Records.{AllText}
-use Rattle.mfcsv.specs.Rows.{is_blank, cut, cut_front, cut_back}
-use Rattle.mfcsv.proofs.CutLemmas.{blank_ascii, boundary_after, boundary_at_end}
+use Rattle.csv.specs.Records.{AllText, field_at}
+use Rattle.mfcsv.specs.Rows.{field}
+use Rattle.words.specs.Words.{is_blank, cut, cut_front, cut_back}
+use Rattle.words.proofs.CutLemmas.{blank_ascii, boundary_after, boundary_at_end}
 
 small : 0 < 128
 small = omega arith
@@ -79,3 +80,10 @@ AllText-from_cut (f ∷ fs) h =
 
 pub not_all-cut : (fields : List (List ℕ)) → ¬ (AllText fields) → list_all is_utf8 (map cut fields) ≡ false
 not_all-cut fields h = false_from_ne_true (list_all is_utf8 (map cut fields)) (λ t. h (AllText-from_cut fields t))
+
+-- the field at a place of the cut ones is the one at that place, cut
+pub field-cut : (fields : List (List ℕ)) (place : ℕ) → field (map cut fields) place ≡ cut (unwrap_or (field_at fields place) [])
+unfolding field_at cut
+field-cut [] place = refl
+field-cut (f ∷ fs) zero = refl
+field-cut (f ∷ fs) (suc place) = field-cut fs place

@@ -1,8 +1,10 @@
 -- The records of a file, and their fields.
-use Rattle.std.specs.Prelude.{ℕ, nat_le, slice_index, ◌-◌, ◌==◌, ◌&&◌, ◌||◌, not, Bool, if◌then◌else◌, List, [], ◌∷◌, map, filter, take, drop, length, slice_index_or, bytes_eq}
-use Rattle.std.specs.List.{prefix_len, suffix_len, slice_split}
+use Rattle.std.specs.Prelude.{ℕ, nat_le, slice_index, ◌&&◌, Bool, if◌then◌else◌, List, [], ◌∷◌, map, length, slice_index_or, bytes_eq}
 use Rattle.std.specs.Char.{to_ascii_lowercase}
 use Rattle.csv.specs.Reading.{records, default_config, is_bom}
+unfoldable pub use Rattle.words.specs.Words.{cut}
+pub use Rattle.words.specs.Words.{is_empty}
+use Rattle.words.specs.Words.{is_separator, words_between}
 
 -- a record: its fields, cut
 abbrev pub Row : Type 0
@@ -21,20 +23,6 @@ without_marks (a ∷ []) = a ∷ []
 without_marks (a ∷ b ∷ []) = a ∷ b ∷ []
 without_marks (a ∷ b ∷ c ∷ rest) = if is_bom a b c then without_marks rest else a ∷ b ∷ c ∷ rest
 
--- a space or a tab
-abbrev pub is_blank : ℕ → Bool
-is_blank c = (c == 32) || (c == 9)
-
-abbrev pub cut_front : List ℕ → List ℕ
-cut_front field = drop (prefix_len is_blank field) field
-
-abbrev pub cut_back : List ℕ → List ℕ
-cut_back field = take (length field - suffix_len is_blank field) field
-
--- a field without the spaces and tabs at both its ends
-unfoldable pub cut : List ℕ → List ℕ
-cut field = cut_back (cut_front field)
-
 -- the records of a file, as csv reads them behind the byte order marks: comma, double quote, no header
 -- row, any number of fields; each field cut
 abbrev pub rows_of : List ℕ → List Row
@@ -44,18 +32,10 @@ rows_of bytes = map (map cut) (records default_config (without_marks bytes))
 abbrev pub field : Row → ℕ → List ℕ
 field row place = slice_index_or row place []
 
--- nothing left of a field that was cut
-abbrev pub is_empty : List ℕ → Bool
-is_empty text = length text == 0
-
 -- the same text, but for the case of ASCII letters
 abbrev pub same_word : List ℕ → List ℕ → Bool
 same_word a b = bytes_eq (map to_ascii_lowercase a) (map to_ascii_lowercase b)
 
--- a space, a tab, CR or LF
-abbrev pub is_separator : ℕ → Bool
-is_separator c = is_blank c || (c == 13) || (c == 10)
-
--- what stands between runs of separators
-unfoldable pub words : List ℕ → List (List ℕ)
-words text = filter (λ piece. not (is_empty piece)) (slice_split is_separator text)
+-- what stands between runs of spaces, tabs, CR and LF
+abbrev pub words : List ℕ → List (List ℕ)
+words text = words_between is_separator text

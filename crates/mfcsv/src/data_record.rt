@@ -2,7 +2,7 @@
 ghost use Rattle.std.specs.Prelude.{◌≡◌, ◌≤◌, ◌<◌, ◌+◌, ◌<ℤ◌, ◌-ℤ◌, int_lt, pos, ℕ, Some, true, length, drop, IfOk, MatchOption};
 ghost use Rattle.std.specs.Prelude.{◌∷◌, [], not};
 ghost use Rattle.std.specs.List.{list_all, prefix_len};
-ghost use Rattle.mfcsv.specs.Rows.{field, is_empty, is_separator, words};
+ghost use Rattle.mfcsv.specs.Rows.{field, is_empty, words};
 ghost use Rattle.mfcsv.specs.Unread.{cells};
 ghost use Rattle.mfcsv.specs.Views.{leg_count};
 ghost use Rattle.mfcsv.specs.DataRecord.{has_wrong_fields, has_wrong_name, moment_read, coordinates, positions_of, attributes_of, record_of};
@@ -16,6 +16,7 @@ use csv::StringRecord;
 use fixedpoint::{Coord, read_coord};
 use std::alloc::{AllocError, Global};
 use timebase::{Ms, TimeFault, read_time};
+use words::{Separator, next_word};
 
 /// Whether all fields from a place on are blank.
 fn are_blank_from(row: &StringRecord, first: usize) -> bool
@@ -70,46 +71,6 @@ fn read_span(clock: &Clock, row: &StringRecord) -> Result<(Ms, Ms), RowFault>
         return Err(RowFault::Refused(Code::F14));
     }
     Ok((t0, t1))
-}
-
-fn is_separator(c: u8) -> bool
-    ensures { result ≡ is_separator c }
-{
-    c == b' ' || c == b'\t' || c == b'\r' || c == b'\n'
-}
-
-fn separators_in_front(text: &str) -> usize
-    ensures value { result ≡ prefix_len is_separator text.now }
-    ensures within { result ≤ length text.now }
-{
-    text.as_bytes()
-        .iter()
-        .take_while(|c| is_separator(**c))
-        .count()
-}
-
-fn word_len(text: &str) -> usize
-    ensures value { result ≡ prefix_len (λ c. not (is_separator c)) text.now }
-    ensures within { result ≤ length text.now }
-{
-    text.as_bytes()
-        .iter()
-        .take_while(|c| !is_separator(**c))
-        .count()
-}
-
-/// The first word of a text, and what stands behind it.
-fn next_word(text: &str) -> Option<(&str, &str)>
-    ensures { MatchOption result (words text.now ≡ [])
-        (λ w. (words text.now ≡ w.0.now ∷ words w.1.now) × (length w.1.now < length text.now)) }
-{
-    let start = separators_in_front(text);
-    let rest = &text[start..];
-    if rest.is_empty() {
-        return None;
-    }
-    let end = word_len(rest);
-    Some((&rest[..end], &rest[end..]))
 }
 
 /// The coordinates of a position that were read so far, where it is not whole.
@@ -177,7 +138,7 @@ fn read_positions(alloc: Global, dimension: Dimension, text: &str) -> Result<Pos
     let mut positions = Vec::with_capacity(alloc, 2)?;
     let mut rest = text;
     let mut waiting = Waiting::Nothing;
-    while let Some((word, after)) = next_word(rest) {
+    while let Some((word, after)) = next_word(rest, Separator::BlankOrLineEnd) {
         let Ok(coordinate) = read_coord(word) else {
             return Err(RowFault::Refused(Code::F15));
         };

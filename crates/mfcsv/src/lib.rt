@@ -15,6 +15,7 @@ mod rows;
 use fixedpoint::Coord;
 pub use read::read_file;
 pub use reader::FileReader;
+pub use rows::without_marks;
 use std::fmt;
 use std::marker::Model;
 use thiserror::Error;

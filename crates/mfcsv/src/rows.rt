@@ -1,7 +1,6 @@
 //! The records of a file, one at a time, and their fields.
 ghost use Rattle.std.specs.Prelude.{◌≡◌, ◌≤◌, map, length};
-ghost use Rattle.std.specs.List.{prefix_len, suffix_len};
-ghost use Rattle.mfcsv.specs.Rows.{cut, field, has_mark, is_blank, rows_of, same_word, without_marks, is_empty};
+ghost use Rattle.mfcsv.specs.Rows.{field, has_mark, rows_of, same_word, without_marks};
 ghost use Rattle.mfcsv.specs.Unread.{IsBetweenRows, MayFail, ReadsRow, bytes_left, cells, fault_of, rows_left};
 ghost use Rattle.csv.specs.Reading.{error_kind};
 ghost use Rattle.std.specs.Prelude.{IfOk};
@@ -9,6 +8,7 @@ ghost use Rattle.std.specs.Prelude.{IfOk};
 use crate::{Code, Text};
 use csv::{Error, ErrorKind, Reader, ReaderBuilder, StringRecord};
 use std::alloc::{AllocError, AllocFailed, Global};
+use words::cut_text;
 
 /// Why a record was not taken in.
 #[derive(Clone, Copy, PartialEq, Eq, Debug)]
@@ -44,7 +44,7 @@ fn has_mark(bytes: &[u8]) -> bool
 }
 
 /// The bytes without the byte order marks at their very start.
-fn without_marks(bytes: &[u8]) -> &[u8]
+pub fn without_marks(bytes: &[u8]) -> &[u8]
     ensures { result.now ≡ without_marks bytes.now }
 {
     let mut rest = bytes;
@@ -92,43 +92,12 @@ pub(crate) fn next_row(reader: &mut Reader<&[u8]>, row: &mut StringRecord) -> Re
     }
 }
 
-fn blanks_in_front(text: &str) -> usize
-    ensures value { result ≡ prefix_len is_blank text.now }
-    ensures within { result ≤ length text.now }
-{
-    text.as_bytes()
-        .iter()
-        .take_while(|c| **c == b' ' || **c == b'\t')
-        .count()
-}
-
-fn blanks_at_end(text: &str) -> usize
-    ensures value { result ≡ suffix_len is_blank text.now }
-    ensures within { result ≤ length text.now }
-{
-    text.as_bytes()
-        .iter()
-        .rev()
-        .take_while(|c| **c == b' ' || **c == b'\t')
-        .count()
-}
-
-/// A field without the spaces and tabs at its ends.
-fn cut_field(text: &str) -> &str
-    ensures { result.now ≡ cut text.now }
-{
-    let start = blanks_in_front(text);
-    let rest = &text[start..];
-    let end = rest.len() - blanks_at_end(rest);
-    &rest[..end]
-}
-
 /// The field at a place, cut; blank where there is none.
 pub(crate) fn field_at(row: &StringRecord, place: usize) -> &str
     ensures { result.now ≡ field (cells row.now) place }
 {
     match row.get(place) {
-        Some(text) => cut_field(text),
+        Some(text) => cut_text(text),
         None => "",
     }
 }

@@ -21,62 +21,60 @@ use std::random::RandomSource;
 use std::{fs, rt};
 use trajdb::{Files, RunFault};
 
-/// Runs a script over a store as it lies there.
+/// What a run works on.
+#[derive(Drop)]
+struct Work {
+    script: Vec<u8>,
+    files: Files,
+    names: Names,
+    how: Opening,
+}
+
+/// Runs the script over a store as it lies there.
 fn run_over<'a, S: PageStore + Drop, W: Write>(
     store: S,
-    how: Opening,
-    script: &[u8],
-    files: &Files,
+    work: &Work,
     out: &mut W,
 ) -> Result<(), Fault<'a>>
-    requires { 0 < how.cache_pages }
+    requires { 0 < work.now.how.cache_pages }
 {
+    let how = work.how;
     let opened = database(how.alloc, how.keys, store, how.is_new, how.cache_pages);
-    let (_store, result) = answer(how.alloc, opened, script, files, out);
+    let (_store, result) = answer(how.alloc, opened, &work.script, &work.files, out);
     result
 }
 
 /// Runs a script that only asks over a store that is there. It is opened to be read alone.
 fn ask<'a, R: rt::Files<File = File> + rt::Clock + Eprint, W: Write>(
     rt: &R,
-    names: &Names,
+    work: &Work,
     progress: &Progress<'_, R>,
-    how: Opening,
-    script: &[u8],
-    files: &Files,
     out: &mut W,
 ) -> Result<(), Fault<'a>>
-    requires { 0 < how.cache_pages }
+    requires { 0 < work.now.how.cache_pages }
 {
-    sweep(rt, names);
-    run_over(
-        Noted::new(open_asked(rt, names)?, progress),
-        how,
-        script,
-        files,
-        out,
-    )
+    sweep(rt, &work.names);
+    let store = open_asked(rt, &work.names)?;
+    run_over(Noted::new(store, progress), work, out)
 }
 
 /// Runs a script that may write over the store as it lies there. Where the folder may not be written,
 /// the lock of the store's file alone keeps others out.
 fn run_in_place<'a, R: rt::Files<File = File> + rt::Clock + Eprint, W: Write>(
     rt: &R,
-    names: &Names,
+    work: &Work,
     progress: &Progress<'_, R>,
-    how: Opening,
-    script: &[u8],
-    files: &Files,
     out: &mut W,
 ) -> Result<(), Fault<'a>>
-    requires { 0 < how.cache_pages }
+    requires { 0 < work.now.how.cache_pages }
 {
+    let names = &work.names;
     let lock = match hold_name(rt, names.lock.as_str()) {
         Err(Fault::InUse) => return Err(Fault::InUse),
         held => held.ok(),
     };
     let result = match open_in_place(rt, names) {
-        Ok(store) => run_over(Noted::new(store, progress), how, script, files, out),
+        Ok(store) => run_over(Noted::new(store, progress), work, out),
         Err(fault) => Err(fault),
     };
     if let Some(lock) = lock {
@@ -91,17 +89,14 @@ fn run_in_place<'a, R: rt::Files<File = File> + rt::Clock + Eprint, W: Write>(
 /// Runs a script that may write over a copy of the store.
 fn run_beside<'a, R: rt::Files<File = File> + rt::Clock + Eprint, W: Write>(
     rt: &R,
-    names: &Names,
+    work: &Work,
     progress: &Progress<'_, R>,
-    how: Opening,
-    script: &[u8],
-    files: &Files,
     out: &mut W,
 ) -> Result<(), Fault<'a>>
-    requires { 0 < how.cache_pages }
+    requires { 0 < work.now.how.cache_pages }
 {
-    let mut folder = SystemFolder::take(rt, names, progress)?;
-    let result = run_on_copy(&mut folder, how, script, files, out);
+    let mut folder = SystemFolder::take(rt, &work.names, progress)?;
+    let result = run_on_copy(&mut folder, work.how, &work.script, &work.files, out);
     folder.give_back();
     result
 }
@@ -117,40 +112,29 @@ fn outcome_of(is_strict: bool, refused: u64) -> Outcome
     }
 }
 
-/// Runs a script over the store of those names, in the way that it asks for.
+/// Runs the script over the store, in the way that it asks for.
 fn run_named<'a, R: rt::Files<File = File> + rt::Clock + Eprint, W: Write>(
     rt: &R,
-    run: &Run<'a>,
-    names: &Names,
+    is_in_place: bool,
+    work: &Work,
     progress: &Progress<'_, R>,
-    how: Opening,
-    script: &[u8],
-    files: &Files,
     out: &mut W,
 ) -> Result<(), Fault<'a>>
-    requires { 0 < how.cache_pages }
+    requires { 0 < work.now.how.cache_pages }
 {
-    if !how.is_new && !has_load(how.alloc, script)? {
-        ask(rt, names, progress, how, script, files, out)
-    } else if run.in_place || is_special(rt, names.store.as_str()) {
-        run_in_place(rt, names, progress, how, script, files, out)
+    let how = work.how;
+    if !how.is_new && !has_load(how.alloc, &work.script)? {
+        ask(rt, work, progress, out)
+    } else if is_in_place || is_special(rt, work.names.store.as_str()) {
+        run_in_place(rt, work, progress, out)
     } else {
-        run_beside(rt, names, progress, how, script, files, out)
+        run_beside(rt, work, progress, out)
     }
 }
 
 /// Whether the store of that name has no legs, where that is to be known.
 fn is_without_legs<R: rt::Files<File = File>>(rt: &R, name: &str, is_told: bool) -> bool {
     is_told && reach_of(rt, name) == Reach::Nowhere
-}
-
-/// What a run works on.
-#[derive(Drop)]
-struct Work {
-    script: Vec<u8>,
-    files: Files,
-    names: Names,
-    how: Opening,
 }
 
 /// Reads all that is named, and looks whether the store is there.
@@ -210,24 +194,15 @@ pub(crate) fn run<
     W: Write,
 >(rt: &R, run: &Run<'a>, out: &mut W, is_terminal: bool) -> Result<Outcome, Fault<'a>> {
     let work = read_work(rt, run)?;
-    let (how, script) = (work.how, work.script.as_slice());
+    let how = work.how;
     let is_shown = is_terminal && run.telling != Telling::Never;
-    let progress = Progress::new(rt, Told::new(run.progress, is_shown), script);
+    let progress = Progress::new(rt, Told::new(run.progress, is_shown), &work.script);
     let is_told = run.telling.is_told(is_terminal);
     let is_empty = how.is_new || is_without_legs(rt, work.names.store.as_str(), is_told);
     let mut out = Followed::new(out, &progress, Notes::new(how.alloc, is_told, is_empty));
-    let ended = run_named(
-        rt,
-        run,
-        &work.names,
-        &progress,
-        how,
-        script,
-        &work.files,
-        &mut out,
-    );
+    let ended = run_named(rt, run.in_place, &work, &progress, &mut out);
     progress.clear();
-    if ended.is_ok() && is_told && how.is_new && !has_load(how.alloc, script)? {
+    if ended.is_ok() && is_told && how.is_new && !has_load(how.alloc, &work.script)? {
         tell_made(rt, run.store);
     }
     told(rt, run, &work, out.notes(), ended)

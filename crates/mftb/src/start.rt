@@ -12,6 +12,7 @@ use crate::passages::print_moments;
 use crate::run::run;
 use crate::telling::Before;
 use arguments::{Task, read_words};
+use clap::Error;
 use clap::error::ErrorKind;
 use sessions::Fault;
 use std::fs::File;
@@ -63,6 +64,43 @@ fn has_strict(words: &[String]) -> bool
     false
 }
 
+/// Says why the words are not read, or gives the help that they ask for: the exit status.
+fn answer_words<W: Write, V: Write>(error: &Error, out: &mut W, faults: &mut V) -> u8
+    ensures { result ≤ 2 }
+{
+    if error.kind() == ErrorKind::OutOfMemory {
+        let _ = writeln!(faults, "mftb: memory");
+        1
+    } else if error.use_stderr() {
+        let _ = write!(faults, "{error}");
+        2
+    } else {
+        let _ = write!(out, "{error}");
+        0
+    }
+}
+
+/// Does what the program is asked to do, and says what went wrong: the exit status.
+fn end<
+    R: rt::Files<File = File> + rt::Clock + Eprint + AllocGlobal + RandomSource,
+    W: Write,
+    V: Write,
+>(rt: &R, task: &Task<'_>, words: &[String], out: &mut W, faults: &mut V, is_terminal: bool) -> u8
+    ensures status { result ≤ 3 }
+    ensures strict { result ≡ 3 → Any (λ w. string_bytes w ≡ codes "--strict") words.now }
+{
+    let before = Before::new(rt, task, is_terminal);
+    match perform(rt, task, out, is_terminal) {
+        Ok(Outcome::Refused) if has_strict(words) => 3,
+        Ok(_) => 0,
+        Err(fault) => {
+            let _ = writeln!(faults, "mftb: {fault}");
+            before.tell(rt, task, &fault);
+            fault.status()
+        }
+    }
+}
+
 /// Runs the program, and answers its exit status: 0, or 3 where a line or a file was refused and
 /// `--strict` is among the words, or 2 for wrong words, or 1 for any other fault.
 ///
@@ -77,29 +115,8 @@ pub fn start<
     ensures status { result ≤ 3 }
     ensures strict { result ≡ 3 → Any (λ w. string_bytes w ≡ codes "--strict") words.now }
 {
-    let task = match read_words(rt.alloc(), words) {
-        Ok(task) => task,
-        Err(error) if error.kind() == ErrorKind::OutOfMemory => {
-            let _ = writeln!(faults, "mftb: memory");
-            return 1;
-        }
-        Err(error) if error.use_stderr() => {
-            let _ = write!(faults, "{error}");
-            return 2;
-        }
-        Err(help) => {
-            let _ = write!(out, "{help}");
-            return 0;
-        }
-    };
-    let before = Before::new(rt, &task, is_terminal);
-    match perform(rt, &task, out, is_terminal) {
-        Ok(Outcome::Refused) if has_strict(words) => 3,
-        Ok(_) => 0,
-        Err(fault) => {
-            let _ = writeln!(faults, "mftb: {fault}");
-            before.tell(rt, &task, &fault);
-            fault.status()
-        }
+    match read_words(rt.alloc(), words) {
+        Ok(task) => end(rt, &task, words, out, faults, is_terminal),
+        Err(error) => answer_words(&error, out, faults),
     }
 }

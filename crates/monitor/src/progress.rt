@@ -1,12 +1,12 @@
 //! What a long run is doing, said on standard error.
 use crate::notes::Place;
-use reasons::cut;
 use std::cell::Cell;
 use std::fmt;
 use std::fmt::{Display, Formatter};
 use std::io::Eprint;
 use std::rt::Clock;
 use std::time::{Duration, Instant};
+use words::cut;
 
 /// How many milliseconds a run lasts before a terminal shows what it does, and how many pass before it
 /// is shown again.

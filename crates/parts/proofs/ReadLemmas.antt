@@ -1,14 +1,12 @@
 -- How a read of a record changes what is left.
-use Rattle.std.specs.List.{prefix_len, suffix_len}
-use Rattle.std.proofs.lemmas.List.{take_rest}
-use Rattle.std.proofs.Common.{[], ◌∷◌, ℕ, ◌+◌, ◌-◌, take, drop, ◌≡◌, ◌∙◌, ap, sym, refl, List, Bool, length, true, false, inl, Option, Some, unwrap_or, Ok}
+use Rattle.std.proofs.Common.{[], ◌∷◌, ℕ, ◌+◌, ◌≡◌, ◌∙◌, ap, sym, refl, List, Bool, length, true, false, inl, Option, Some, unwrap_or, Ok}
 use Rattle.csv.specs.Machine.{Read, ends_at_end, next_record}
 use Rattle.csv.specs.Reading.{ReadRecord, Reached, default_config, is_flexible, records, records_from, source_of, strip_bom, took_first}
 use Rattle.csv.specs.Records.{Row as CsvRow, fields_of}
 use Rattle.csv.specs.declared.parser.State.{State}
 use Rattle.csv.specs.declared.parser.State.TheVariants as st
 use Rattle.csv.proofs.ReadFacts.{rows-end, rows-more}
-use Rattle.mfcsv.specs.Rows.{cut, cut_back, is_blank, without_marks}
+use Rattle.mfcsv.specs.Rows.{without_marks}
 use Rattle.mfcsv.specs.Unread.{IsBetweenRows, Source, bytes_left}
 use Rattle.mfcsv.proofs.UnreadLemmas.{next-between, records_from-next, records_from-none, strip_bom-without_marks}
 use Rattle.parts.specs.Raw.{ReadsRaw, TakesRaw, raw_left}
@@ -59,12 +57,3 @@ reads_raw old new row false is r first same =
 pub starts_raw : (reader : Source) (bytes : List ℕ) → source_of known reader ≡ Some (strip_bom (without_marks bytes)) → reader.state ≡ st.StartRecord → raw_left reader ≡ records default_config (without_marks bytes)
 starts_raw reader bytes source state =
     raw_left-is reader st.StartRecord (without_marks bytes) state (left-of reader (strip_bom (without_marks bytes)) source ∙ strip_bom-without_marks bytes)
-
--- the two steps of cutting a field
-pub cut_slices : (t : List ℕ) (a b : ℕ) → a ≡ prefix_len is_blank t → b ≡ suffix_len is_blank (take (length t - a) (drop a t))
-    → take (length (take (length t - a) (drop a t)) - b) (take (length t - a) (drop a t)) ≡ cut t
-unfolding cut
-cut_slices t a b e f =
-    ap (λ (xs : List ℕ). take (length xs - b) xs) (take_rest t a)
-    ∙ ap (λ n. take (length (drop a t) - n) (drop a t)) (f ∙ ap (suffix_len is_blank) (take_rest t a))
-    ∙ ap (λ n. cut_back (drop n t)) e

@@ -1,7 +1,7 @@
 -- The lines of a script: what each asks for, or why it is refused.
-use Rattle.std.specs.Prelude.{ℕ, ◌+◌, ◌-◌, ◌==◌, ◌&&◌, ◌||◌, not, Bool, if◌then◌else◌, List, [], filter, take, drop, length, slice_index, slice_index_or, bytes_eq, codes, Option, Some, None, Result, Ok, Err, ℤ, int_le}
-use Rattle.std.specs.List.{prefix_len, suffix_len, slice_split}
+use Rattle.std.specs.Prelude.{ℕ, ◌+◌, ◌==◌, ◌&&◌, ◌||◌, not, Bool, if◌then◌else◌, List, [], length, slice_index, slice_index_or, bytes_eq, codes, Option, Some, None, Result, Ok, Err, ℤ, int_le}
 use Rattle.std.specs.Str.{is_utf8}
+use Rattle.words.specs.Words.{behind_word, cut, first_word, is_blank, is_empty, words_between}
 use Rattle.fixedpoint.specs.Number.{coord_of}
 use Rattle.fixedpoint.specs.declared.NumberFault.{NumberFault}
 use Rattle.timebase.specs.Instant.{moment_of}
@@ -18,37 +18,9 @@ use Rattle.querylang.specs.declared.Command.{Command}
 use Rattle.querylang.specs.declared.Command.TheVariants.{Load, Count, Box, Legs, Features, Trajectory, Write}
 use Rattle.querylang.specs.declared.parse.Question.{Question}
 
--- a space or a tab
-abbrev pub is_blank : ℕ → Bool
-is_blank c = (c == 32) || (c == 9)
-
-abbrev pub cut_front : List ℕ → List ℕ
-cut_front text = drop (prefix_len is_blank text) text
-
-abbrev pub cut_back : List ℕ → List ℕ
-cut_back text = take (length text - suffix_len is_blank text) text
-
--- a text without the spaces and tabs at both its ends
-unfoldable pub cut : List ℕ → List ℕ
-cut text = cut_back (cut_front text)
-
-abbrev pub is_empty : List ℕ → Bool
-is_empty text = length text == 0
-
 -- what stands between runs of spaces and tabs
-unfoldable pub words : List ℕ → List (List ℕ)
-words text = filter (λ piece. not (is_empty piece)) (slice_split is_blank text)
-
--- the length of the first word of a text that begins with one
-abbrev pub word_len : List ℕ → ℕ
-word_len text = prefix_len (λ c. not (is_blank c)) text
-
--- the first word of a text that begins with one, and what stands behind it
-abbrev pub first_word : List ℕ → List ℕ
-first_word text = take (word_len text) text
-
-abbrev pub behind_word : List ℕ → List ℕ
-behind_word text = drop (word_len text) text
+abbrev pub words : List ℕ → List (List ℕ)
+words text = words_between is_blank text
 
 -- a rectangle of four coordinates: Q5 where one of them is not read, Q6 where a lesser one is the greater
 abbrev pub rectangle : Result ℤ NumberFault → Result ℤ NumberFault → Result ℤ NumberFault
@@ -151,18 +123,18 @@ keyword_of word =
 
 -- what a text asks for whose first word is that command
 abbrev pub asked : Keyword → List ℕ → Result Command LineCode
-asked keyword.Load text = named Load (name_of (behind_word text))
+asked keyword.Load text = named Load (name_of (behind_word is_blank text))
 asked keyword.Count text = alone Count (words text)
 asked keyword.Box text = box_of (words text)
 asked keyword.Legs text = tested Legs (question_of (words text))
 asked keyword.Features text = tested Features (question_of (words text))
-asked keyword.Trajectory text = named Trajectory (name_of (behind_word text))
+asked keyword.Trajectory text = named Trajectory (name_of (behind_word is_blank text))
 asked keyword.Write text = alone Write (words text)
 asked keyword.Unknown text = Err Q2
 
 -- what a text asks for that is cut
 unfoldable pub command_of : List ℕ → Result Command LineCode
-command_of text = asked (keyword_of (first_word text)) text
+command_of text = asked (keyword_of (first_word is_blank text)) text
 
 -- a blank line, or one whose first byte is then `#`
 abbrev pub is_no_command : List ℕ → Bool

@@ -6,7 +6,6 @@
 ghost use Rattle.std.specs.Prelude.{◌≡◌};
 
 mod parse;
-mod words;
 
 use legs::Rect;
 pub use parse::parse_line;

@@ -6,7 +6,6 @@ ghost use Rattle.querylang.specs.Line.{words, word_at};
 ghost use Rattle.querylang.specs.Answer.{Gives};
 ghost use Rattle.querylang.specs.declared.Command.TheVariants.{Features, Legs, Load, Trajectory};
 
-use crate::words::{cut_line, cut_text, split_word, words_of};
 use crate::{Command, LineCode, LineFault, Name};
 use fixedpoint::read_coord;
 use legs::Rect;
@@ -14,6 +13,7 @@ use predicates::Predicate;
 use std::alloc::Global;
 use std::str;
 use timebase::{Period, read_instant};
+use words::{Separator, cut, cut_text, split_word, words_of};
 
 /// The word at a place.
 fn word_at<'a>(words: &[&'a str], place: usize) -> &'a str
@@ -244,15 +244,25 @@ fn keyword_of(word: &str) -> Keyword
 fn read_command(alloc: Global, text: &str) -> Result<Command, LineFault>
     ensures { Gives result (command_of text.now) }
 {
-    let (word, rest) = split_word(text);
+    let (word, rest) = split_word(text, Separator::Blank);
     match keyword_of(word) {
         Keyword::Load => read_load(alloc, rest),
         Keyword::Trajectory => read_trajectory(alloc, rest),
-        Keyword::Count => refused(read_alone(Command::Count, words_of(alloc, text)?.as_slice())),
-        Keyword::Box => refused(read_box(words_of(alloc, text)?.as_slice())),
-        Keyword::Legs => refused(read_legs(words_of(alloc, text)?.as_slice())),
-        Keyword::Features => refused(read_features(words_of(alloc, text)?.as_slice())),
-        Keyword::Write => refused(read_alone(Command::Write, words_of(alloc, text)?.as_slice())),
+        Keyword::Count => refused(read_alone(
+            Command::Count,
+            words_of(alloc, text, Separator::Blank)?.as_slice(),
+        )),
+        Keyword::Box => refused(read_box(words_of(alloc, text, Separator::Blank)?.as_slice())),
+        Keyword::Legs => refused(read_legs(words_of(alloc, text, Separator::Blank)?.as_slice())),
+        Keyword::Features => refused(read_features(words_of(
+            alloc,
+            text,
+            Separator::Blank,
+        )?.as_slice())),
+        Keyword::Write => refused(read_alone(
+            Command::Write,
+            words_of(alloc, text, Separator::Blank)?.as_slice(),
+        )),
         Keyword::Unknown => Err(LineFault::Refused(LineCode::Q2)),
     }
 }
@@ -278,7 +288,7 @@ pub fn parse_line(alloc: Global, line: &[u8]) -> Result<Option<Command>, LineFau
     // Memory is not wanted for a line that asks for nothing.
     ensures memory { IsErrOf result LineFault.Memory → line_of line.now ≡ Ok None → ⊥ }
 {
-    let text = cut_line(line);
+    let text = cut(line);
     if text.is_empty() || text[0] == b'#' {
         return Ok(None);
     }

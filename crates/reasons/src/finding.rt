@@ -3,6 +3,7 @@ ghost use Rattle.std.specs.Prelude.{◌<◌};
 
 use crate::fields::field_at;
 use csv::{ByteRecord, Reader, ReaderBuilder};
+use mfcsv::without_marks;
 use std::alloc::{AllocError, Global};
 use timebase::{Ms, Unit, read_instant};
 
@@ -140,23 +141,6 @@ impl Heads {
             self.columns = Some(Columns { line, count });
         }
     }
-}
-
-/// The bytes behind a byte order mark that they begin with.
-fn behind_mark(bytes: &[u8]) -> Option<&[u8]> {
-    bytes.strip_prefix(b"\xEF\xBB\xBF".as_slice())
-}
-
-/// The bytes without the byte order marks at their very start.
-fn without_marks(bytes: &[u8]) -> &[u8] {
-    let mut rest = bytes;
-    for _ in 0..bytes.len() {
-        match behind_mark(rest) {
-            Some(behind) => rest = behind,
-            None => return rest,
-        }
-    }
-    rest
 }
 
 /// The lines of a text that were counted so far.

@@ -15,7 +15,6 @@ mod refusal;
 mod shown;
 
 pub use codes::Code;
-pub use fields::cut;
 pub use file_reasons::file_words;
 pub use known::Known;
 pub use line_reasons::line_words;

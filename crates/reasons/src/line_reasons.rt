@@ -2,11 +2,12 @@
 ghost use Rattle.std.specs.Prelude.{◌≤◌};
 
 use crate::codes::Code;
-use crate::fields::{cut, text_of, word_at, word_count};
+use crate::fields::{text_of, word_at, word_count};
 use crate::shown::Shown;
 use fixedpoint::{NumberFault, read_coord};
 use std::alloc::{AllocError, Global};
 use timebase::{TimeFault, read_instant};
+use words::cut;
 
 /// The first word of a line, which names its command.
 fn command_of(line: &str) -> &str {

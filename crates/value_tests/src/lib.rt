@@ -1,4 +1,4 @@
-//! Tests of what stands below a store: numbers, moments, files, legs, rectangles, predicates, scripts, answers and
+//! Tests of what stands below a store: words, numbers, moments, files, legs, rectangles, predicates, scripts, answers and
 //! the parts of a file.
 #![tactic(auto)]
 
@@ -22,5 +22,7 @@ mod querylang_tests;
 mod rows_tests;
 #[cfg(test)]
 mod timebase_tests;
+#[cfg(test)]
+mod words_tests;
 #[cfg(test)]
 mod writer_tests;

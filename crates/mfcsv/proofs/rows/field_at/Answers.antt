@@ -1,11 +1,11 @@
 use Rattle.std.proofs.Common.{◌∙◌, ap, sym, List, ℕ, [], unwrap_or, Option}
 use Rattle.csv.specs.Records.{fields_of}
 use Rattle.mfcsv.specs.Rows.{cut}
-use Rattle.mfcsv.proofs.CutLemmas.{field-cut}
+use Rattle.mfcsv.proofs.TextLemmas.{field-cut}
 use Rattle.mfcsv.proofs.rows.field_at.Goals as goal
 
 pub returns-in-Some : goal.returns-in-Some
-returns-in-Some c = c.cut_field.ensures ∙ ap (λ (o : Option (List ℕ)). cut (unwrap_or o [])) c.in-Some.ensures.value ∙ sym (field-cut (fields_of c.args.row.now) c.args.place)
+returns-in-Some c = c.cut_text.ensures ∙ ap (λ (o : Option (List ℕ)). cut (unwrap_or o [])) c.in-Some.ensures.value ∙ sym (field-cut (fields_of c.args.row.now) c.args.place)
 
 pub returns-in-None : goal.returns-in-None
 unfolding cut

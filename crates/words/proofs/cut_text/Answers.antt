@@ -1,8 +1,8 @@
 use Rattle.std.proofs.Common.{◌∙◌, arith, ap}
 use Rattle.std.specs.List.{prefix_len, suffix_len}
-use Rattle.querylang.proofs.CutLemmas.{boundary_after, boundary_at_end, blank_ascii, cut_is}
-use Rattle.querylang.specs.Line.{is_blank}
-use Rattle.querylang.proofs.words.cut_text.Goals as goal
+use Rattle.words.proofs.CutLemmas.{boundary_after, boundary_at_end, blank_ascii, cut_is}
+use Rattle.words.specs.Words.{is_blank}
+use Rattle.words.proofs.cut_text.Goals as goal
 
 pub range_from-rest-requires : goal.range_from-rest-requires
 range_from-rest-requires c =

@@ -1,15 +1,16 @@
--- Where a text may be cut, and the fields of a record after the cut.
-use Rattle.std.proofs.Common.{[], ◌∷◌, map, reverse, ℕ, zero, suc, ◌+◌, ◌-◌, ◌<◌, ◌≤◌, ◌≡◌, ◌∙◌, ap, refl, List, Bool, length, drop, get_or, true, false, not, arith, inl, inr, unwrap_or}
+-- Where a text may be cut.
+use Rattle.std.proofs.Common.{reverse, ℕ, zero, suc, ◌+◌, ◌-◌, ◌<◌, ◌≤◌, ◌≡◌, ◌∙◌, ap, refl, List, Bool, length, take, drop, get_or, true, false, not, arith, inl, inr}
 use Rattle.std.proofs.lemmas.Bool.Decides.{nat_tests}
 use Rattle.std.proofs.lemmas.Bool.{cases_lt}
 use Rattle.std.proofs.Math.Nat.{sub-zero}
 use Rattle.std.proofs.lemmas.List.Sums.{prefix_len_passes, prefix_len_stops, prefix_len-le-length, suffix_len-le-length}
-use Rattle.std.proofs.lemmas.List.{get_or-reverse}
+use Rattle.std.proofs.lemmas.List.{get_or-reverse, take_all, length-drop}
 use Rattle.std.proofs.lemmas.Str.{IsCharBoundary-after_ascii, IsCharBoundary-before_ascii, IsCharBoundary-start, IsCharBoundary-end}
 use Rattle.std.specs.List.{prefix_len, suffix_len, slice_range}
 use Rattle.std.specs.Str.{IsUtf8, IsCharBoundary}
-use Rattle.csv.specs.Records.{field_at}
-use Rattle.mfcsv.specs.Rows.{field, is_blank, is_separator, cut}
+use Rattle.words.specs.Words.{cut, is_blank, is_separator, separates}
+use Rattle.words.specs.declared.Separator.{Separator}
+use Rattle.words.specs.declared.Separator.TheVariants.{Blank, BlankOrLineEnd}
 
 -- a test that only ASCII passes
 abbrev pub OnlyAscii : (ℕ → Bool) → Type 0
@@ -18,8 +19,12 @@ OnlyAscii p = (c : ℕ) → p c ≡ true → c < 128
 pub blank_ascii : OnlyAscii is_blank
 blank_ascii c h = grind (arith, nat_tests)
 
-pub separator_ascii : OnlyAscii is_separator
+separator_ascii : OnlyAscii is_separator
 separator_ascii c h = grind (arith, nat_tests)
+
+pub separates_ascii : (s : Separator) → OnlyAscii (separates s)
+separates_ascii Blank = blank_ascii
+separates_ascii BlankOrLineEnd = separator_ascii
 
 -- behind what passes at the front
 pub boundary_after : (p : ℕ → Bool) → OnlyAscii p → (f : List ℕ) (n : ℕ) → IsUtf8 f → n ≤ prefix_len p f → IsCharBoundary f n
@@ -61,9 +66,12 @@ pub cut_is : (t rest : List ℕ) (a b : ℕ) → a ≡ prefix_len is_blank t →
 unfolding cut
 cut_is t rest a b e f g = rw (sub-zero, g, f, e) refl
 
--- the field at a place of the cut ones is the one at that place, cut
-pub field-cut : (fields : List (List ℕ)) (place : ℕ) → field (map cut fields) place ≡ cut (unwrap_or (field_at fields place) [])
-unfolding field_at cut
-field-cut [] place = refl
-field-cut (f ∷ fs) zero = refl
-field-cut (f ∷ fs) (suc place) = field-cut fs place
+-- a slice to the end
+rest_is : (n : ℕ) (xs : List ℕ) → take (length xs - n) (drop n xs) ≡ drop n xs
+rest_is n xs = take_all (length xs - n) (drop n xs) (omega (arith, length-drop n xs))
+
+-- the two steps of cutting a line
+pub cut_line_is : (line : List ℕ) (a b : ℕ) → a ≡ prefix_len is_blank line → b ≡ suffix_len is_blank (take (length line - a) (drop a line))
+    → take (length (take (length line - a) (drop a line)) - b) (take (length line - a) (drop a line)) ≡ cut line
+unfolding cut
+cut_line_is line a b e f = rw (f, rest_is a line, e) refl

@@ -1,5 +1,0 @@
-use Rattle.querylang.proofs.CutLemmas.{cut_line_is}
-use Rattle.querylang.proofs.words.cut_line.Goals as goal
-
-pub returns : goal.returns
-returns c = cut_line_is c.args.line.now c.blanks_in_front.result c.blanks_at_end.result c.blanks_in_front.ensures.value c.blanks_at_end.ensures.value
