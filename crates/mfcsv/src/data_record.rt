@@ -1,7 +1,6 @@
 //! The data records.
-ghost use Rattle.std.specs.Prelude.{◌≡◌, ◌≤◌, ◌<◌, ◌+◌, ◌<ℤ◌, ◌-ℤ◌, int_lt, pos, ℕ, Some, true, length, drop, IfOk, MatchOption};
-ghost use Rattle.std.specs.Prelude.{◌∷◌, [], not};
-ghost use Rattle.std.specs.List.{list_all, prefix_len};
+ghost use Rattle.std.specs.Prelude.{◌≡◌, ◌≤◌, ◌+◌, ◌<ℤ◌, ◌-ℤ◌, int_lt, pos, ℕ, Some, true, length, drop, IfOk};
+ghost use Rattle.std.specs.List.{list_all};
 ghost use Rattle.mfcsv.specs.Rows.{field, is_empty, words};
 ghost use Rattle.mfcsv.specs.Unread.{cells};
 ghost use Rattle.mfcsv.specs.Views.{leg_count};

@@ -1,5 +1,5 @@
 //! The records of a file, one at a time, and their fields.
-ghost use Rattle.std.specs.Prelude.{◌≡◌, ◌≤◌, map, length};
+ghost use Rattle.std.specs.Prelude.{◌≡◌, ◌≤◌, length};
 ghost use Rattle.mfcsv.specs.Rows.{field, has_mark, rows_of, same_word, without_marks};
 ghost use Rattle.mfcsv.specs.Unread.{IsBetweenRows, MayFail, ReadsRow, bytes_left, cells, fault_of, rows_left};
 ghost use Rattle.csv.specs.Reading.{error_kind};

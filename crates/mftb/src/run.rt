@@ -113,7 +113,7 @@ fn outcome_of(is_strict: bool, refused: u64) -> Outcome
 }
 
 /// Runs the script over the store, in the way that it asks for.
-fn run_named<'a, R: rt::Files<File = File> + rt::Clock + Eprint, W: Write>(
+fn run_as_asked<'a, R: rt::Files<File = File> + rt::Clock + Eprint, W: Write>(
     rt: &R,
     is_in_place: bool,
     work: &Work,
@@ -200,7 +200,7 @@ pub(crate) fn run<
     let is_told = run.telling.is_told(is_terminal);
     let is_empty = how.is_new || is_without_legs(rt, work.names.store.as_str(), is_told);
     let mut out = Followed::new(out, &progress, Notes::new(how.alloc, is_told, is_empty));
-    let ended = run_named(rt, run.in_place, &work, &progress, &mut out);
+    let ended = run_as_asked(rt, run.in_place, &work, &progress, &mut out);
     progress.clear();
     if ended.is_ok() && is_told && how.is_new && !has_load(how.alloc, &work.script)? {
         tell_made(rt, run.store);

@@ -80,8 +80,8 @@ fn answer_words<W: Write, V: Write>(error: &Error, out: &mut W, faults: &mut V) 
     }
 }
 
-/// Does what the program is asked to do, and says what went wrong: the exit status.
-fn end<
+/// Performs a task, and says what went wrong: the exit status.
+fn answer_task<
     R: rt::Files<File = File> + rt::Clock + Eprint + AllocGlobal + RandomSource,
     W: Write,
     V: Write,
@@ -116,7 +116,7 @@ pub fn start<
     ensures strict { result ≡ 3 → Any (λ w. string_bytes w ≡ codes "--strict") words.now }
 {
     match read_words(rt.alloc(), words) {
-        Ok(task) => end(rt, &task, words, out, faults, is_terminal),
+        Ok(task) => answer_task(rt, &task, words, out, faults, is_terminal),
         Err(error) => answer_words(&error, out, faults),
     }
 }

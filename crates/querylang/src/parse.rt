@@ -10,7 +10,7 @@ use crate::{Command, LineCode, LineFault, Name};
 use fixedpoint::read_coord;
 use legs::Rect;
 use predicates::Predicate;
-use std::alloc::Global;
+use std::alloc::{AllocError, Global};
 use std::str;
 use timebase::{Period, read_instant};
 use words::{Separator, cut, cut_text, split_word, words_of};
@@ -239,6 +239,13 @@ fn keyword_of(word: &str) -> Keyword
     }
 }
 
+/// The words of a line.
+fn line_words(alloc: Global, text: &str) -> Result<Vec<&str>, AllocError>
+    ensures { IfOk result (λ ws. map (λ w. w.now) ws.items ≡ words text.now) }
+{
+    words_of(alloc, text, Separator::Blank)
+}
+
 /// What a text asks for that is cut.
 #[tactic(auto, unfolding(crate::specs::Line::command_of))]
 fn read_command(alloc: Global, text: &str) -> Result<Command, LineFault>
@@ -248,21 +255,11 @@ fn read_command(alloc: Global, text: &str) -> Result<Command, LineFault>
     match keyword_of(word) {
         Keyword::Load => read_load(alloc, rest),
         Keyword::Trajectory => read_trajectory(alloc, rest),
-        Keyword::Count => refused(read_alone(
-            Command::Count,
-            words_of(alloc, text, Separator::Blank)?.as_slice(),
-        )),
-        Keyword::Box => refused(read_box(words_of(alloc, text, Separator::Blank)?.as_slice())),
-        Keyword::Legs => refused(read_legs(words_of(alloc, text, Separator::Blank)?.as_slice())),
-        Keyword::Features => refused(read_features(words_of(
-            alloc,
-            text,
-            Separator::Blank,
-        )?.as_slice())),
-        Keyword::Write => refused(read_alone(
-            Command::Write,
-            words_of(alloc, text, Separator::Blank)?.as_slice(),
-        )),
+        Keyword::Count => refused(read_alone(Command::Count, line_words(alloc, text)?.as_slice())),
+        Keyword::Box => refused(read_box(line_words(alloc, text)?.as_slice())),
+        Keyword::Legs => refused(read_legs(line_words(alloc, text)?.as_slice())),
+        Keyword::Features => refused(read_features(line_words(alloc, text)?.as_slice())),
+        Keyword::Write => refused(read_alone(Command::Write, line_words(alloc, text)?.as_slice())),
         Keyword::Unknown => Err(LineFault::Refused(LineCode::Q2)),
     }
 }

@@ -22,35 +22,10 @@ pub(crate) fn word_at(line: &str, place: usize) -> &str {
     text_of(words.nth(place).unwrap_or(b"".as_slice()))
 }
 
-/// How many words a line has.
-pub(crate) fn word_count(line: &str) -> usize {
-    line.as_bytes()
-        .split(|c| Separator::Blank.separates(*c))
-        .filter(|w| !w.is_empty())
-        .count()
-}
-
-/// The first coordinate of a trajectory, and what stands behind it.
-pub(crate) fn split_coordinate(trajectory: &[u8]) -> Option<(&str, &[u8])> {
-    let first = trajectory
-        .iter()
-        .position(|c| !Separator::BlankOrLineEnd.separates(*c))?;
-    let rest = &trajectory[first..];
-    let end = match rest
-        .iter()
-        .position(|c| Separator::BlankOrLineEnd.separates(*c))
-    {
-        Some(end) => end,
-        None => rest.len(),
-    };
-    Some((text_of(&rest[..end]), &rest[end..]))
-}
-
-/// How many coordinates a trajectory has.
-pub(crate) fn coordinate_count(trajectory: &str) -> usize {
-    trajectory
-        .as_bytes()
-        .split(|c| Separator::BlankOrLineEnd.separates(*c))
+/// How many words a text has.
+pub(crate) fn word_count(text: &str, between: Separator) -> usize {
+    text.as_bytes()
+        .split(|c| between.separates(*c))
         .filter(|w| !w.is_empty())
         .count()
 }

@@ -7,7 +7,7 @@ use crate::shown::Shown;
 use fixedpoint::{NumberFault, read_coord};
 use std::alloc::{AllocError, Global};
 use timebase::{TimeFault, read_instant};
-use words::cut;
+use words::{Separator, cut};
 
 /// The first word of a line, which names its command.
 fn command_of(line: &str) -> &str {
@@ -44,7 +44,7 @@ fn unknown_command(alloc: Global, line: &str) -> Result<String, AllocError> {
 
 fn wrong_words(alloc: Global, line: &str) -> Result<String, AllocError> {
     let command = command_of(line);
-    let found = word_count(line).saturating_sub(1);
+    let found = word_count(line, Separator::Blank).saturating_sub(1);
     match command {
         "load" | "trajectory" => format!(in alloc; "{command} takes a name, found none"),
         "count" | "write" => {

@@ -1,6 +1,6 @@
 //! Why a data record of a file is refused.
 use crate::codes::Code;
-use crate::fields::{coordinate_count, field_at, split_coordinate};
+use crate::fields::{field_at, word_count};
 use crate::finding::{Bounds, Found};
 use crate::known::Known;
 use crate::line_reasons::{coordinate_fault, instant_fault};
@@ -11,6 +11,7 @@ use mfcsv::{Record, read_file};
 use std::alloc::{AllocError, Global};
 use std::str;
 use timebase::{Ms, TimeFault, Unit, read_time};
+use words::{Separator, next_word};
 
 /// A field that is not UTF-8.
 pub(crate) fn no_text(alloc: Global, found: &Found) -> Result<String, AllocError> {
@@ -97,9 +98,9 @@ pub(crate) fn no_duration(alloc: Global, found: &Found) -> Result<String, AllocE
 
 /// A coordinate that is not read.
 pub(crate) fn wrong_coordinate(alloc: Global, found: &Found) -> Result<String, AllocError> {
-    let mut rest = field_at(&found.row, 3).as_bytes();
+    let mut rest = field_at(&found.row, 3);
     for number in 1..u64::MAX {
-        let Some((word, behind)) = split_coordinate(rest) else {
+        let Some((word, behind)) = next_word(rest, Separator::BlankOrLineEnd) else {
             break;
         };
         if let Some(fault) = coordinate_fault(word) {
@@ -113,7 +114,7 @@ pub(crate) fn wrong_coordinate(alloc: Global, found: &Found) -> Result<String, A
 
 /// A trajectory without a position, or with one that is not whole.
 pub(crate) fn wrong_positions(alloc: Global, found: &Found) -> Result<String, AllocError> {
-    let count = coordinate_count(field_at(&found.row, 3));
+    let count = word_count(field_at(&found.row, 3), Separator::BlankOrLineEnd);
     if count == 0 {
         return String::from_str(alloc, "its trajectory has no position");
     }
@@ -133,7 +134,7 @@ fn duration_of(found: &Found) -> Option<i64> {
 /// Fewer milliseconds than legs.
 pub(crate) fn short_duration(alloc: Global, found: &Found) -> Result<String, AllocError> {
     let coordinates = found.heads.coordinates();
-    let positions = coordinate_count(field_at(&found.row, 3)) / coordinates;
+    let positions = word_count(field_at(&found.row, 3), Separator::BlankOrLineEnd) / coordinates;
     let legs = positions.saturating_sub(1).max(1);
     match duration_of(found) {
         Some(millis) => {

@@ -1,5 +1,5 @@
-//! Tests of what stands below a store: words, numbers, moments, files, legs, rectangles, predicates, scripts, answers and
-//! the parts of a file.
+//! Tests of what stands below a store: words, numbers, moments, files, legs, rectangles, predicates,
+//! scripts, answers and the parts of a file.
 #![tactic(auto)]
 
 #[cfg(test)]

@@ -21,6 +21,8 @@ fn words_are_counted(rt: HostRuntime) -> Result<(), Fail> {
         );
         assert!(rt; counts == (of_line, of_lines), "{text:?}");
     }
+    let words = words_of(alloc, "\tbox 1  2 ", Separator::Blank)?;
+    assert!(rt; words.as_slice() == ["box", "1", "2"].as_slice());
     Ok(())
 }
 
@@ -28,6 +30,10 @@ fn words_are_counted(rt: HostRuntime) -> Result<(), Fail> {
 fn a_text_is_cut(rt: HostRuntime) {
     assert!(rt; cut(b" a\tb\t ".as_slice()) == b"a\tb".as_slice());
     assert!(rt; cut_text("\t").is_empty());
+}
+
+#[test]
+fn a_word_is_split_off(rt: HostRuntime) {
     assert!(rt; split_word("load two words", Separator::Blank) == ("load", " two words"));
     assert!(rt; next_word(" 10 20", Separator::Blank) == Some(("10", " 20")));
     assert!(rt; next_word(" \t", Separator::Blank).is_none());

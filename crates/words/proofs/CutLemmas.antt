@@ -35,7 +35,7 @@ boundary_after p ascii f (suc k) u h =
     let e : suc k ≡ k + 1 = omega arith in
     rw e (IsCharBoundary-after_ascii f k u in_f (ascii (get_or f k 0) (prefix_len_passes p f k 0 lt)))
 
-not_false : (b : Bool) → not b ≡ false → b ≡ true
+pub not_false : (b : Bool) → not b ≡ false → b ≡ true
 not_false true e = refl
 not_false false e = cc
 
@@ -61,7 +61,7 @@ boundary_at_end p ascii f (suc k) h =
     let last : p (get_or f (length f - suc k) 0) ≡ true = rw at at passes in
     IsCharBoundary-before_ascii f (length f - suc k) (omega arith) (ascii _ last)
 
--- the two steps of cutting a field
+-- the two steps of cutting a text
 pub cut_is : (t rest : List ℕ) (a b : ℕ) → a ≡ prefix_len is_blank t → rest ≡ drop a t → b ≡ suffix_len is_blank rest → slice_range rest 0 (length rest - b) ≡ cut t
 unfolding cut
 cut_is t rest a b e f g = rw (sub-zero, g, f, e) refl
@@ -70,7 +70,7 @@ cut_is t rest a b e f g = rw (sub-zero, g, f, e) refl
 rest_is : (n : ℕ) (xs : List ℕ) → take (length xs - n) (drop n xs) ≡ drop n xs
 rest_is n xs = take_all (length xs - n) (drop n xs) (omega (arith, length-drop n xs))
 
--- the two steps of cutting a line
+-- the two steps of cutting bytes
 pub cut_line_is : (line : List ℕ) (a b : ℕ) → a ≡ prefix_len is_blank line → b ≡ suffix_len is_blank (take (length line - a) (drop a line))
     → take (length (take (length line - a) (drop a line)) - b) (take (length line - a) (drop a line)) ≡ cut line
 unfolding cut

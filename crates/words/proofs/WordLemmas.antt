@@ -7,6 +7,7 @@ use Rattle.std.proofs.lemmas.List.{drop_all, take_all, length-take-le, length-dr
 use Rattle.std.proofs.lemmas.List.Splits.{slice_split-cons_yes, slice_split-cons_no, slice_split_first}
 use Rattle.std.proofs.Math.Seq.{drop-cons}
 use Rattle.std.specs.List.{prefix_len, slice_split, onto_first}
+use Rattle.words.proofs.CutLemmas.{not_false}
 use Rattle.words.specs.Words.{is_empty, word_len, words_between}
 
 module _ (p : ℕ → Bool) where
@@ -60,10 +61,6 @@ module _ (p : ℕ → Bool) where
       by false s z more =
           let w : 1 + word_len p cs ≡ suc (length cs) = rw s at z in
           slice_split-cons_no p c cs s ∙ ap (onto_first c) (more (omega arith))
-
-  not_false : (b : Bool) → not b ≡ false → b ≡ true
-  not_false true e = refl
-  not_false false e = cc
 
   -- behind a word, what separates it changes nothing
   words-behind : (text : List ℕ) (n : ℕ) → n < length text → p (get_or text n 0) ≡ true → words_between p (drop n text) ≡ words_between p (drop (n + 1) text)

@@ -27,13 +27,17 @@ abbrev pub separates : Separator → ℕ → Bool
 separates Blank = is_blank
 separates BlankOrLineEnd = is_separator
 
--- nothing
+-- a text of no bytes
 abbrev pub is_empty : List ℕ → Bool
 is_empty text = length text == 0
 
 -- what stands between runs of bytes that pass a test
 unfoldable pub words_between : (ℕ → Bool) → List ℕ → List (List ℕ)
 words_between between text = filter (λ piece. not (is_empty piece)) (slice_split between text)
+
+-- a text without all that separates at its front
+abbrev pub from_word : (ℕ → Bool) → List ℕ → List ℕ
+from_word between text = drop (prefix_len between text) text
 
 -- the length of the first word of a text that begins with one
 abbrev pub word_len : (ℕ → Bool) → List ℕ → ℕ

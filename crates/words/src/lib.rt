@@ -1,9 +1,11 @@
-//! The words of a text: what stands between blanks, one after another, and a text without the blanks at its ends.
+//! The words of a text, one after another, and a text without the blanks at its ends.
 #![tactic(auto)]
 
-ghost use Rattle.std.specs.Prelude.{◌≡◌, ◌≤◌, ◌<◌, ◌∷◌, [], length, map, not, IfOk, MatchOption};
+ghost use Rattle.std.specs.Prelude.{◌≡◌, ◌≤◌, ◌<◌, ◌∷◌, [], length, map, not};
+ghost use Rattle.std.specs.Prelude.{IfOk, IfSome, MatchOption};
 ghost use Rattle.std.specs.List.{prefix_len, suffix_len};
-ghost use Rattle.words.specs.Words.{behind_word, cut, first_word, is_blank, separates, words_between};
+ghost use Rattle.words.specs.Words.{behind_word, cut, first_word, from_word, is_blank, separates};
+ghost use Rattle.words.specs.Words.{words_between};
 
 use std::alloc::{AllocError, Global};
 
@@ -81,7 +83,8 @@ fn word_len(text: &[u8], between: Separator) -> usize
     text.iter().take_while(|c| !between.separates(**c)).count()
 }
 
-/// The first word of a text that begins with one, and what stands behind it.
+/// The first word of a text that begins with one, and what stands behind it; an empty word and the
+/// whole text where it begins with none.
 pub fn split_word(text: &str, between: Separator) -> (&str, &str)
     ensures word { result.0.now ≡ first_word (separates between) text.now }
     ensures rest { result.1.now ≡ behind_word (separates between) text.now }
@@ -92,10 +95,12 @@ pub fn split_word(text: &str, between: Separator) -> (&str, &str)
 
 /// The first word of a text, and what stands behind it; `None` where there is no word.
 pub fn next_word(text: &str, between: Separator) -> Option<(&str, &str)>
-    ensures { MatchOption result (words_between (separates between) text.now ≡ [])
+    ensures found { MatchOption result (words_between (separates between) text.now ≡ [])
         (λ w. (words_between (separates between) text.now
         ≡ w.0.now ∷ words_between (separates between) w.1.now)
         × (length w.1.now < length text.now)) }
+    ensures behind { IfSome result (λ w. w.1.now
+        ≡ behind_word (separates between) (from_word (separates between) text.now)) }
 {
     let start = separators_in_front(text.as_bytes(), between);
     let rest = &text[start..];

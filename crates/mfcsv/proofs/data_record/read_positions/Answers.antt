@@ -21,23 +21,23 @@ none_waits (XAndY x y) e = absurd (cc)
 
 pub returns-in_default-read_coord-clause-positions : goal.returns-in_default-read_coord-clause-positions
 returns-in_default-read_coord-clause-positions c =
-    reading-fault c.args.dimension (words c.args.text.now) c.loop-word.positions.items c.loop-word.waiting c.in-Some.word.now (words c.in-Some.after.now) c.in_default-read_coord.field-0 (rw c.in-Some.ensures.0 at c.loop-word.invariant.0) (sym c.in_default-read_coord.ensures.value)
+    reading-fault c.args.dimension (words c.args.text.now) c.loop-word.positions.items c.loop-word.waiting c.in-Some.word.now (words c.in-Some.after.now) c.in_default-read_coord.field-0 (rw c.in-Some.ensures.found.0 at c.loop-word.invariant.0) (sym c.in_default-read_coord.ensures.value)
 
 pub loop-word-preserved-in-Part : goal.loop-word-preserved-in-Part
 loop-word-preserved-in-Part c =
-    let here : IsReading c.args.dimension (words c.args.text.now) c.loop-word.positions.items c.loop-word.waiting (c.in-Some.word.now ∷ words c.in-Some.after.now) = rw c.in-Some.ensures.0 at c.loop-word.invariant.0 in
+    let here : IsReading c.args.dimension (words c.args.text.now) c.loop-word.positions.items c.loop-word.waiting (c.in-Some.word.now ∷ words c.in-Some.after.now) = rw c.in-Some.ensures.found.0 at c.loop-word.invariant.0 in
     let more = reading-more c.args.dimension (words c.args.text.now) c.loop-word.positions.items c.loop-word.waiting c.in-Some.word.now (words c.in-Some.after.now) c.in-Ok.coordinate here (sym c.in-Ok.ensures.value) in
     (subst (λ (p : Placed). Reads c.args.dimension (words c.args.text.now) c.loop-word.positions.items p (words c.in-Some.after.now)) (sym c.in-Part.ensures) more, search rules)
 
 pub loop-word-preserved : goal.loop-word-preserved
 loop-word-preserved c =
-    let here : IsReading c.args.dimension (words c.args.text.now) c.loop-word.positions.items c.loop-word.waiting (c.in-Some.word.now ∷ words c.in-Some.after.now) = rw c.in-Some.ensures.0 at c.loop-word.invariant.0 in
+    let here : IsReading c.args.dimension (words c.args.text.now) c.loop-word.positions.items c.loop-word.waiting (c.in-Some.word.now ∷ words c.in-Some.after.now) = rw c.in-Some.ensures.found.0 at c.loop-word.invariant.0 in
     let more = reading-more c.args.dimension (words c.args.text.now) c.loop-word.positions.items c.loop-word.waiting c.in-Some.word.now (words c.in-Some.after.now) c.in-Ok.coordinate here (sym c.in-Ok.ensures.value) in
     (rw c.in_ok-push-in-Whole.ensures.items (subst (λ (p : Placed). Reads c.args.dimension (words c.args.text.now) c.loop-word.positions.items p (words c.in-Some.after.now)) (sym c.in-Whole.ensures) more), search rules)
 
 pub returns-then-waits-clause-positions : goal.returns-then-waits-clause-positions
 returns-then-waits-clause-positions c =
-    let here = rw c.in_default.ensures at c.loop-word.invariant.0 in
+    let here = rw c.in_default.ensures.found at c.loop-word.invariant.0 in
     elim c.then-waits.branch [
       | then-waits-via-then-waits w ↦
           reading-left_over c.args.dimension (words c.args.text.now) c.loop-word.positions.items c.loop-word.waiting here (some_wait c.loop-word.waiting (sym c.waits.ensures ∙ w.if-waits.true))
@@ -47,5 +47,5 @@ returns-then-waits-clause-positions c =
 
 pub returns-clause-positions : goal.returns-clause-positions
 returns-clause-positions c =
-    let here = rw c.in_default.ensures at c.loop-word.invariant.0 in
+    let here = rw c.in_default.ensures.found at c.loop-word.invariant.0 in
     rw c.from.ensures (reading-end c.args.dimension (words c.args.text.now) c.loop-word.positions.items (rw (none_waits c.loop-word.waiting (sym c.waits.ensures ∙ c.if-waits.false)) at here) (grind (arith, nat_tests)))
