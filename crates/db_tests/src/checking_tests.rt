@@ -1,8 +1,7 @@
 //! Databases that are checked.
-use crate::lasting_tests::{check, close, closed, loaded, opened, said};
-use crate::run_tests::over;
-use legs::Limits;
-use pages::{Fuse, MemStore, PageStore, seal, unseal};
+use crate::lasting_tests::{check, close, closed, loaded, opened, payload_of, put, said};
+use crate::run_tests::database;
+use pages::{Fuse, MemStore, PageStore};
 use std::alloc::Global;
 use std::hash::RandomState;
 use std::test::Fail;
@@ -28,16 +27,21 @@ fn checks_of_the_example(
     Some((told, close(alloc, db).0))
 }
 
-/// What they find of that store where it is opened, and where a leg more is loaded into it.
+/// What they find of a database, and where a leg more is loaded into it.
+fn checks_with_more(alloc: Global, db: &mut Db<MemStore>) -> Option<[Result<Report, RunFault>; 2]> {
+    let first = check(db);
+    said(alloc, db, "load more.csv").1.ok()?;
+    Some([first, check(db)])
+}
+
+/// The same of that store where it is opened.
 fn checks_of_the_opened(
     alloc: Global,
     keys: RandomState,
     store: MemStore,
 ) -> Option<[Result<Report, RunFault>; 2]> {
     let mut db = opened(alloc, keys, store, 1).ok()?;
-    let third = check(&mut db);
-    said(alloc, &mut db, "load more.csv").1.ok()?;
-    Some([third, check(&mut db)])
+    checks_with_more(alloc, &mut db)
 }
 
 /// Whether all four find what they should.
@@ -84,14 +88,21 @@ const LIES: [(u32, usize, u32, u32); 13] = [
 
 /// Puts a value at a place of the payload of a page, under a right seal.
 fn lie(store: &mut MemStore, number: u32, place: usize, value: u32) -> Option<()> {
-    let mut page = [0; 4096];
-    if number >= store.len() || place > 4000 {
+    if place > 4000 {
         return None;
     }
-    store.read(number, &mut page).ok()?;
-    let mut payload = unseal(number, &page).ok()?;
+    let mut payload = payload_of(store, number)?;
     put_u32(&mut payload.bytes, place, value);
-    store.write(number, &seal(number, &payload)).ok()
+    put(store, number, &payload)
+}
+
+/// Damages a page.
+fn damage(store: &mut MemStore, number: u32) -> Option<()> {
+    if number >= store.len() {
+        return None;
+    }
+    store.set_byte(number, 100, 255);
+    Some(())
 }
 
 /// All questions about the example.
@@ -105,15 +116,20 @@ features crosses 11.5 2.5 13 4 2012-01-17T12:33:41Z 2012-01-17T12:37:00Z
 write
 ";
 
-/// Which page each question names, 0 where it is answered, and 9 where it is refused otherwise.
+/// Which page a line names, 0 where it is answered, and 9 where it is refused otherwise.
+fn named_by(alloc: Global, db: &mut Db<MemStore>, line: &str) -> u32 {
+    match said(alloc, db, line).1 {
+        Ok(()) => 0,
+        Err(RunFault::Damaged(page)) => page,
+        Err(_) => 9,
+    }
+}
+
+/// Which page each question names.
 fn named(alloc: Global, db: &mut Db<MemStore>) -> [u32; 7] {
     let mut pages = [9; 7];
     for (page, question) in pages.iter_mut().zip(QUESTIONS.split('\n')) {
-        *page = match said(alloc, db, question).1 {
-            Ok(()) => 0,
-            Err(RunFault::Damaged(page)) => page,
-            Err(_) => 9,
-        };
+        *page = named_by(alloc, db, question);
     }
     pages
 }
@@ -128,29 +144,30 @@ fn altered(
     let (mut store, _) = closed(alloc, keys, 100).ok()?;
     match value {
         Some((place, value)) => lie(&mut store, number, place, value)?,
-        None if number < store.len() => store.set_byte(number, 100, 255),
-        None => return None,
+        None => damage(&mut store, number)?,
     }
     opened(alloc, keys, store, 1).ok()
 }
 
-/// What a check answers over the example with such a page, and whether each question is answered or names a page.
-fn checked_lie(
+/// Whether a check names a page, and each question is answered or names one.
+fn is_named(alloc: Global, db: &mut Db<MemStore>, page: u32) -> bool {
+    check(db) == Err(RunFault::Damaged(page)) && named(alloc, db).iter().all(|page| *page < 9)
+}
+
+/// The same over the example with such a page.
+fn is_lie_named(
     alloc: Global,
     keys: RandomState,
-    (number, place, value): (u32, usize, u32),
-) -> Option<(Result<Report, RunFault>, bool)> {
+    (number, place, value, named): (u32, usize, u32, u32),
+) -> Option<bool> {
     let mut db = altered(alloc, keys, number, Some((place, value)))?;
-    let told = check(&mut db);
-    let pages = named(alloc, &mut db);
-    Some((told, pages.iter().all(|page| *page < 9)))
+    Some(is_named(alloc, &mut db, named))
 }
 
 /// The first of these pages that is not named so, if any.
 fn wrong_lie(alloc: Global, keys: RandomState) -> Option<usize> {
-    for (at, (page, place, value, named)) in LIES.iter().enumerate() {
-        let told = checked_lie(alloc, keys, (*page, *place, *value));
-        if told != Some((Err(RunFault::Damaged(*named)), true)) {
+    for (at, lie) in LIES.iter().enumerate() {
+        if is_lie_named(alloc, keys, *lie) != Some(true) {
             return Some(at);
         }
     }
@@ -173,21 +190,31 @@ const DAMAGE: [(u32, Option<(usize, u32)>, [u32; 7]); 4] = [
     (3, Some((16, 3)), [0, 3, 3, 0, 0, 0, 3]),
 ];
 
+/// Which page each question names over such a page.
+fn named_over(
+    alloc: Global,
+    keys: RandomState,
+    page: u32,
+    value: Option<(usize, u32)>,
+) -> Option<[u32; 7]> {
+    let mut db = altered(alloc, keys, page, value)?;
+    Some(named(alloc, &mut db))
+}
+
 /// The first of these over which a question names another page, if any.
 fn wrong_name(alloc: Global, keys: RandomState) -> Option<usize> {
     for (at, (page, value, wanted)) in DAMAGE.iter().enumerate() {
-        let mut db = altered(alloc, keys, *page, *value)?;
-        if named(alloc, &mut db) != *wanted {
+        if named_over(alloc, keys, *page, *value) != Some(*wanted) {
             return Some(at);
         }
     }
-    Some(DAMAGE.len())
+    None
 }
 
 #[test]
 fn a_question_over_damage_names_it(rt: HostRuntime) -> Result<(), Fail> {
     let (alloc, keys) = (rt.alloc(), RandomState::new(&rt)?);
-    assert_eq!(rt; wrong_name(alloc, keys), Some(DAMAGE.len()));
+    assert_eq!(rt; wrong_name(alloc, keys), None);
     Ok(())
 }
 
@@ -206,74 +233,85 @@ const PUT: [(u32, Option<(usize, u32)>, &str, u32); 8] = [
     (3, None, "load more.csv", 3),
 ];
 
-/// Which page a load names, 0 where it is answered, and 9 where it is refused otherwise.
-fn named_by_load(alloc: Global, db: &mut Db<MemStore>, load: &str) -> u32 {
-    match said(alloc, db, load).1 {
-        Ok(()) => 0,
-        Err(RunFault::Damaged(page)) => page,
-        Err(_) => 9,
-    }
+/// Which page a load names over such a page.
+fn named_by_load(
+    alloc: Global,
+    keys: RandomState,
+    (page, value): (u32, Option<(usize, u32)>),
+    load: &str,
+) -> Option<u32> {
+    let mut db = altered(alloc, keys, page, value)?;
+    Some(named_by(alloc, &mut db, load))
 }
 
 /// The first of these loads that names another page, if any.
 fn wrong_load(alloc: Global, keys: RandomState) -> Option<usize> {
     for (at, (page, value, load, wanted)) in PUT.iter().enumerate() {
-        let mut db = altered(alloc, keys, *page, *value)?;
-        if named_by_load(alloc, &mut db, load) != *wanted {
+        if named_by_load(alloc, keys, (*page, *value), load) != Some(*wanted) {
             return Some(at);
         }
     }
-    Some(PUT.len())
+    None
 }
 
 #[test]
 fn a_load_over_damage_names_it(rt: HostRuntime) -> Result<(), Fail> {
     let (alloc, keys) = (rt.alloc(), RandomState::new(&rt)?);
-    assert_eq!(rt; wrong_load(alloc, keys), Some(PUT.len()));
+    assert_eq!(rt; wrong_load(alloc, keys), None);
     Ok(())
 }
 
-/// The example and a leg more of its first feature in leaves of two legs, opened, with that feature's first leaf damaged.
-fn with_a_damaged_first_leaf(alloc: Global, keys: RandomState) -> Option<Db<MemStore>> {
-    let limits = Limits::new(1000, 1000)?;
-    let mut db = over(alloc, keys, MemStore::new(alloc, 100), limits, (2, 2, 256)).ok()?;
-    said(alloc, &mut db, "load S1.csv\nload again.csv").1.ok()?;
-    let (mut store, _) = close(alloc, db);
-    if store.len() < 2 {
-        return None;
+/// The store of the example and a leg more of its first feature in leaves of two legs.
+fn in_small_leaves(alloc: Global, keys: RandomState) -> Option<MemStore> {
+    let mut db = database(alloc, keys, MemStore::new(alloc, 100), (2, 2, 256)).ok()?;
+    let loaded = said(alloc, &mut db, "load S1.csv\nload again.csv").1;
+    let (store, _) = close(alloc, db);
+    match loaded {
+        Ok(()) => Some(store),
+        Err(_) => None,
     }
-    store.set_byte(1, 100, 255);
+}
+
+/// The same, opened, with that feature's first leaf damaged.
+fn with_a_damaged_first_leaf(alloc: Global, keys: RandomState) -> Option<Db<MemStore>> {
+    let mut store = in_small_leaves(alloc, keys)?;
+    damage(&mut store, 1)?;
     opened(alloc, keys, store, 1).ok()
+}
+
+/// Which page a third leg of that feature names then.
+fn named_by_a_third(alloc: Global, keys: RandomState) -> Option<u32> {
+    let mut db = with_a_damaged_first_leaf(alloc, keys)?;
+    Some(named_by(alloc, &mut db, "load third.csv"))
 }
 
 #[test]
 fn a_load_looks_at_no_leaf_but_the_last(rt: HostRuntime) -> Result<(), Fail> {
     let (alloc, keys) = (rt.alloc(), RandomState::new(&rt)?);
-    let mut db = with_a_damaged_first_leaf(alloc, keys).ok_or("a run")?;
-    assert_eq!(rt; named_by_load(alloc, &mut db, "load third.csv"), 0);
+    assert_eq!(rt; named_by_a_third(alloc, keys), Some(0));
     Ok(())
 }
 
 /// Exchanges the first two entries of the root, page 3, under a right seal.
 fn exchange(store: &mut MemStore) -> Option<()> {
-    if store.len() < 4 {
-        return None;
-    }
-    let mut page = [0; 4096];
-    store.read(3, &mut page).ok()?;
-    let mut payload = unseal(3, &page).ok()?;
+    let mut payload = payload_of(store, 3)?;
     let mut first = [0; 56];
     first.copy_from_slice(&payload.bytes[16..72]);
     payload.bytes.copy_within(72..128, 16);
     payload.bytes[72..128].copy_from_slice(&first);
-    store.write(3, &seal(3, &payload)).ok()
+    put(store, 3, &payload)
+}
+
+/// The example with these entries exchanged, opened.
+fn exchanged(alloc: Global, keys: RandomState) -> Option<Db<MemStore>> {
+    let (mut store, _) = closed(alloc, keys, 100).ok()?;
+    exchange(&mut store)?;
+    opened(alloc, keys, store, 256).ok()
 }
 
 /// What a check answers then.
 fn checked_exchange(alloc: Global, keys: RandomState) -> Option<Result<Report, RunFault>> {
-    let (mut store, _) = closed(alloc, keys, 100).ok()?;
-    exchange(&mut store)?;
-    let mut db = opened(alloc, keys, store, 256).ok()?;
+    let mut db = exchanged(alloc, keys)?;
     Some(check(&mut db))
 }
 

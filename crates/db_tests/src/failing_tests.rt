@@ -1,23 +1,35 @@
 //! Stores and outputs that fail, and want of memory.
-use crate::run_tests::{STANDARD, listed, over, ran, ran_listed};
-use legs::Limits;
+use crate::lasting_tests::check;
+use crate::run_tests::{STANDARD, database, listed, ran, ran_listed};
+use legs::{Limits, ListIndex};
 use pages::{Fuse, MemStore, PageStore};
 use std::alloc::Global;
 use std::hash::RandomState;
 use std::io;
 use std::io::{ErrorKind, Write};
 use std::test::Fail;
-use trajdb::{Db, Files, RunFault};
+use trajdb::{Core, Db, Files, RunFault};
 
-/// The lines of a script over the example, and what each answers. The first three are the
-/// program's example.
+/// A line that loads the example, and what it answers.
+const LOAD: (&str, &str) = ("# first\nload S1.csv\n", "ok 1\n4,5,3\n");
+
+/// One that counts it.
+const COUNT: (&str, &str) = ("count\n", "ok 1\n5,3\n");
+
+/// One that asks for the legs in a box.
+const BOX: (&str, &str) = (
+    "box 11.5 2.5 13 4 2012-01-17T12:33:41Z 2012-01-17T12:37:00Z\n",
+    "ok 2\na,10,150,11 2 12 3,walking,1\na,150,190,12 3 10 3,walking,2\n",
+);
+
+/// The lines of the program's example.
+const EXAMPLE: [(&str, &str); 3] = [LOAD, COUNT, BOX];
+
+/// These lines and more.
 const LINES: [(&str, &str); 9] = [
-    ("# first\nload S1.csv\n", "ok 1\n4,5,3\n"),
-    ("count\n", "ok 1\n5,3\n"),
-    (
-        "box 11.5 2.5 13 4 2012-01-17T12:33:41Z 2012-01-17T12:37:00Z\n",
-        "ok 2\na,10,150,11 2 12 3,walking,1\na,150,190,12 3 10 3,walking,2\n",
-    ),
+    LOAD,
+    COUNT,
+    BOX,
     (
         "legs ever 11.5 2.5 13 4 2012-01-17T12:33:41Z 2012-01-17T12:37:00Z\n",
         "ok 2\na,10,150,11 2 12 3,walking,1\na,150,190,12 3 10 3,walking,2\n",
@@ -76,17 +88,6 @@ fn text_of(alloc: Global, lines: &[(&str, &str)]) -> Result<Vec<u8>, RunFault> {
         text.extend_from_slice(answer.as_bytes())?;
     }
     Ok(text)
-}
-
-/// A new database over a store without pages, with so many pages in memory.
-fn database<S: PageStore + Drop>(
-    alloc: Global,
-    keys: RandomState,
-    store: S,
-    cache_pages: usize,
-) -> Result<Db<S>, RunFault> {
-    let limits = Limits::new(1000, 1000).ok_or(RunFault::Failed)?;
-    over(alloc, keys, store, limits, (50, 72, cache_pages))
 }
 
 /// Of how many of the lines these bytes are the answers, where they are whole answers.
@@ -164,19 +165,18 @@ fn is_answer(number: usize, text: &[u8]) -> bool {
 
 /// Whether a check of a database with the example or without it answers as it may.
 fn may_answer<S: PageStore>(db: &mut Db<S>) -> bool {
-    match db.check() {
+    match check(db) {
         Ok(report) => report.legs == 5 || report.legs == 0,
         Err(RunFault::Memory | RunFault::Store | RunFault::Failed) => true,
         Err(_) => false,
     }
 }
 
-/// How the script goes over a database.
+/// How a script of all lines goes over a database.
 fn went<S: PageStore>(
     alloc: Global,
     db: &mut Db<S>,
-    script: &[u8],
-    files: &Files,
+    (script, files): (&[u8], &Files),
     may_last: bool,
 ) -> Outcome {
     let (out, first) = ran(alloc, db, script, files);
@@ -186,6 +186,21 @@ fn went<S: PageStore>(
     judged(done, first, (behind.as_slice(), then), may_last)
 }
 
+/// How it goes, and a check behind it.
+fn went_and_checked<S: PageStore>(
+    alloc: Global,
+    db: &mut Db<S>,
+    may_last: bool,
+) -> Result<Outcome, RunFault> {
+    let files = named(alloc, "S1.csv", STANDARD.as_bytes())?;
+    let script = script_of(alloc, &LINES)?;
+    let outcome = went(alloc, db, (script.as_slice(), &files), may_last);
+    match may_answer(db) {
+        true => Ok(outcome),
+        false => Ok(Outcome::Wrong),
+    }
+}
+
 /// How the script goes over a store, with one page in memory, and a check behind it.
 fn paged<S: PageStore + Drop>(
     alloc: Global,
@@ -193,27 +208,43 @@ fn paged<S: PageStore + Drop>(
     store: S,
     may_last: bool,
 ) -> Result<Outcome, RunFault> {
-    let files = named(alloc, "S1.csv", STANDARD.as_bytes())?;
-    let script = script_of(alloc, LINES.as_slice())?;
-    let mut db = database(alloc, keys, store, 1)?;
-    let outcome = went(alloc, &mut db, script.as_slice(), &files, may_last);
-    match may_answer(&mut db) {
-        true => Ok(outcome),
-        false => Ok(Outcome::Wrong),
+    match database(alloc, keys, store, (50, 72, 1)) {
+        Ok(mut db) => went_and_checked(alloc, &mut db, may_last),
+        Err(fault) => Err(fault),
+    }
+}
+
+/// How a script of all lines goes over a list.
+fn went_listed(
+    alloc: Global,
+    core: &mut Core<ListIndex>,
+    (script, files): (&[u8], &Files),
+) -> Outcome {
+    let (out, first) = ran_listed(alloc, core, script, files);
+    let done = answered(out.as_slice());
+    let line = line_behind(done.unwrap_or(0));
+    let (behind, then) = ran_listed(alloc, core, line.as_bytes(), files);
+    judged(done, first, (behind.as_slice(), then), false)
+}
+
+/// The same of a new list.
+fn over_new_list(
+    alloc: Global,
+    keys: RandomState,
+    asked: (&[u8], &Files),
+) -> Result<Outcome, RunFault> {
+    let limits = Limits::new(1000, 1000).ok_or(RunFault::Failed)?;
+    match listed(alloc, keys, limits) {
+        Ok(mut core) => Ok(went_listed(alloc, &mut core, asked)),
+        Err(fault) => Err(fault),
     }
 }
 
 /// How the script goes over a list.
 fn over_list(alloc: Global, keys: RandomState) -> Result<Outcome, RunFault> {
     let files = named(alloc, "S1.csv", STANDARD.as_bytes())?;
-    let script = script_of(alloc, LINES.as_slice())?;
-    let limits = Limits::new(1000, 1000).ok_or(RunFault::Failed)?;
-    let mut core = listed(alloc, keys, limits)?;
-    let (out, first) = ran_listed(alloc, &mut core, script.as_slice(), &files);
-    let done = answered(out.as_slice());
-    let line = line_behind(done.unwrap_or(0));
-    let (behind, then) = ran_listed(alloc, &mut core, line.as_bytes(), &files);
-    Ok(judged(done, first, (behind.as_slice(), then), false))
+    let script = script_of(alloc, &LINES)?;
+    over_new_list(alloc, keys, (script.as_slice(), &files))
 }
 
 /// How the script goes over a store that fails when so many calls have passed, once or for good.
@@ -351,22 +382,34 @@ fn counts(alloc: Global, db: &mut Db<MemStore>, files: &Files) -> bool {
 }
 
 /// Whether the program's example goes so over such an output, and the database counts the example then.
+fn is_sent_and_counted(
+    alloc: Global,
+    db: &mut Db<MemStore>,
+    how: (usize, usize, bool),
+    text: &[u8],
+) -> Result<bool, RunFault> {
+    let files = named(alloc, "S1.csv", STANDARD.as_bytes())?;
+    let script = script_of(alloc, &EXAMPLE)?;
+    let is_sent = is_sent(alloc, db, (script.as_slice(), &files), how, text);
+    Ok(is_sent && counts(alloc, db, &files))
+}
+
+/// The same of a new database.
 fn has_front(
     alloc: Global,
     keys: RandomState,
     how: (usize, usize, bool),
     text: &[u8],
 ) -> Result<bool, RunFault> {
-    let files = named(alloc, "S1.csv", STANDARD.as_bytes())?;
-    let script = script_of(alloc, &LINES[..3])?;
-    let mut db = database(alloc, keys, MemStore::new(alloc, 100), 256)?;
-    let is_sent = is_sent(alloc, &mut db, (script.as_slice(), &files), how, text);
-    Ok(is_sent && counts(alloc, &mut db, &files))
+    match database(alloc, keys, MemStore::new(alloc, 100), (50, 72, 256)) {
+        Ok(mut db) => is_sent_and_counted(alloc, &mut db, how, text),
+        Err(fault) => Err(fault),
+    }
 }
 
 /// The first length of which an output that takes so many bytes at a call has no front of the text, if any.
 fn wrong_front(alloc: Global, keys: RandomState, step: usize) -> Result<Option<usize>, RunFault> {
-    let text = text_of(alloc, &LINES[..3])?;
+    let text = text_of(alloc, &EXAMPLE)?;
     for room in 0..=text.len() {
         if !has_front(alloc, keys, (step, room, true), text.as_slice())? {
             return Ok(Some(room));

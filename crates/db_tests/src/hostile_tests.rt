@@ -1,7 +1,6 @@
 //! Hostile files, through the database over pages and over a list.
-use crate::run_tests::{listed, over, ran, ran_listed};
+use crate::run_tests::is_answered;
 use legs::Limits;
-use pages::MemStore;
 use std::alloc::Global;
 use std::hash::RandomState;
 use std::test::Fail;
@@ -54,45 +53,31 @@ fn named(alloc: Global, head: &str, rest: &[u8]) -> Result<Files, RunFault> {
     Ok(files)
 }
 
-/// Whether its load answers so over pages.
-fn is_told(alloc: Global, keys: RandomState, files: &Files, want: &str) -> Result<bool, RunFault> {
-    let limits = Limits::new(1000, 1000).ok_or(RunFault::Failed)?;
-    let mut db = over(alloc, keys, MemStore::new(alloc, 100), limits, (50, 72, 1))?;
-    let (out, run) = ran(alloc, &mut db, b"load hostile", files);
-    Ok(run.is_ok() && out.as_slice() == want.as_bytes())
-}
-
-/// The same over a list.
-fn is_told_of_a_list(
+/// Whether its load answers so over pages and over a list.
+fn is_told(
     alloc: Global,
     keys: RandomState,
-    files: &Files,
-    want: &str,
+    (head, rest, want): (&str, &[u8], &str),
 ) -> Result<bool, RunFault> {
     let limits = Limits::new(1000, 1000).ok_or(RunFault::Failed)?;
-    let mut core = listed(alloc, keys, limits)?;
-    let (out, run) = ran_listed(alloc, &mut core, b"load hostile", files);
-    Ok(run.is_ok() && out.as_slice() == want.as_bytes())
+    let files = named(alloc, head, rest)?;
+    let asked = (b"load hostile".as_slice(), want.as_bytes());
+    is_answered(alloc, keys, limits, &files, asked)
 }
 
 /// The first file of a table that is answered otherwise, if any.
-fn wrong_file(
-    alloc: Global,
-    keys: RandomState,
-    table: &[(&str, &[u8], &str)],
-) -> Result<Option<usize>, RunFault> {
+fn wrong_file(alloc: Global, keys: RandomState, table: &[(&str, &[u8], &str)]) -> Option<usize> {
     for (at, (head, rest, want)) in table.iter().enumerate() {
-        let files = named(alloc, head, rest)?;
-        if !is_told(alloc, keys, &files, want)? || !is_told_of_a_list(alloc, keys, &files, want)? {
-            return Ok(Some(at));
+        if is_told(alloc, keys, (head, rest, want)) != Ok(true) {
+            return Some(at);
         }
     }
-    Ok(None)
+    None
 }
 
 #[test]
 fn hostile_files_are_refused(rt: HostRuntime) -> Result<(), Fail> {
     let keys = RandomState::new(&rt)?;
-    assert!(rt; wrong_file(rt.alloc(), keys, &HOSTILE) == Ok(None));
+    assert_eq!(rt; wrong_file(rt.alloc(), keys, &HOSTILE), None);
     Ok(())
 }

@@ -1,32 +1,35 @@
 //! A database that is closed and opened again.
-use crate::run_tests::{STANDARD, over, ran};
-use legs::Limits;
-use pages::{Fuse, MemStore, PageStore, seal, unseal};
+use crate::run_tests::{STANDARD, add_all, database, ran};
+use pages::{Fuse, MemStore, PageStore, Payload, seal, unseal};
 use std::alloc::Global;
 use std::hash::RandomState;
 use std::test::Fail;
 use trajdb::{Db, Files, OpenFault, Report, RunFault};
 
-/// The header lines of the example.
-const HEAD: &str = "\
-@stboundedby,urn:x-ogc:def:crs:EPSG:6.6:4326,2D,50.23 9.23,50.31 9.27,2012-01-17T12:33:41Z,2012-01-17T12:37:00Z,sec
-@columns,mfidref,trajectory,state,xsd:token,\"type code\",xsd:integer
-";
+/// The header lines of the example, and then these lines.
+macro_rules! headed {
+    ($lines:literal) => {
+        concat!(
+            "@stboundedby,urn:x-ogc:def:crs:EPSG:6.6:4326,2D,50.23 9.23,50.31 9.27,2012-01-17T12:33:41Z,2012-01-17T12:37:00Z,sec\n",
+            "@columns,mfidref,trajectory,state,xsd:token,\"type code\",xsd:integer\n",
+            $lines
+        )
+    };
+}
 
 /// The example, its header lines alone, and a leg behind them, of a new feature and of the first one, and one more.
-pub(crate) fn files(alloc: Global) -> Result<Files, RunFault> {
+const FILES: [(&str, &str); 5] = [
+    ("S1.csv", STANDARD),
+    ("head.csv", headed!("")),
+    ("more.csv", headed!("d,0,1,0 0\n")),
+    ("again.csv", headed!("a,190,200,10 3 11 3,walking,2\n")),
+    ("third.csv", headed!("a,200,210,11 3 12 3,walking,2\n")),
+];
+
+/// These files.
+fn files(alloc: Global) -> Result<Files, RunFault> {
     let mut files = Files::new(alloc);
-    files.add("S1.csv", Vec::from_slice(alloc, STANDARD.as_bytes())?)?;
-    files.add("head.csv", Vec::from_slice(alloc, HEAD.as_bytes())?)?;
-    let mut more = Vec::from_slice(alloc, HEAD.as_bytes())?;
-    more.extend_from_slice(b"d,0,1,0 0\n")?;
-    files.add("more.csv", more)?;
-    let mut again = Vec::from_slice(alloc, HEAD.as_bytes())?;
-    again.extend_from_slice(b"a,190,200,10 3 11 3,walking,2\n")?;
-    files.add("again.csv", again)?;
-    let mut third = Vec::from_slice(alloc, HEAD.as_bytes())?;
-    third.extend_from_slice(b"a,200,210,11 3 12 3,walking,2\n")?;
-    files.add("third.csv", third)?;
+    add_all(alloc, &mut files, &FILES)?;
     Ok(files)
 }
 
@@ -62,8 +65,7 @@ pub(crate) fn loaded<S: PageStore + Drop>(
     keys: RandomState,
     store: S,
 ) -> Result<Db<S>, RunFault> {
-    let limits = Limits::new(1000, 1000).ok_or(RunFault::Failed)?;
-    let mut db = over(alloc, keys, store, limits, (50, 72, 256))?;
+    let mut db = database(alloc, keys, store, (50, 72, 256))?;
     match said(alloc, &mut db, "load S1.csv").1 {
         Ok(()) => Ok(db),
         Err(fault) => Err(fault),
@@ -119,10 +121,7 @@ pub(crate) fn refused<S: PageStore + Drop>(
     keys: RandomState,
     store: S,
 ) -> Option<OpenFault> {
-    match open(alloc, keys, store, 1) {
-        Ok(_) => None,
-        Err((_, fault)) => Some(fault),
-    }
+    opened(alloc, keys, store, 1).err()
 }
 
 /// The features that cross, and how much there is.
@@ -130,7 +129,7 @@ const QUESTIONS: &str =
     "features crosses 11.5 2.5 13 4 2012-01-17T12:33:41Z 2012-01-17T12:37:00Z\ncount";
 
 /// Whether a script answers so over a store that is opened with so many pages in memory, and the store as it is abandoned
-/// then; `None` where it is not opened or does not answer.
+/// then; `None` where it is not opened.
 fn asked(
     alloc: Global,
     keys: RandomState,
@@ -138,7 +137,7 @@ fn asked(
     (script, cache_pages, want): (&str, usize, &str),
 ) -> Option<(bool, MemStore)> {
     let mut db = opened(alloc, keys, store, cache_pages).ok()?;
-    let is_said = is_said(alloc, &mut db, script, want).ok()?;
+    let is_said = is_said(alloc, &mut db, script, want) == Ok(true);
     Some((is_said, db.abandon()))
 }
 
@@ -208,36 +207,48 @@ fn what_is_closed_is_opened(rt: HostRuntime) -> Result<(), Fail> {
     Ok(())
 }
 
-/// The store of the example that was loaded, and abandoned.
-fn abandoned(alloc: Global, keys: RandomState) -> Option<MemStore> {
+/// Why the store of the example is not opened that was loaded, and abandoned.
+fn refused_abandoned(alloc: Global, keys: RandomState) -> Option<OpenFault> {
     let db = loaded(alloc, keys, MemStore::new(alloc, 100)).ok()?;
-    Some(db.abandon())
+    refused(alloc, keys, db.abandon())
 }
 
 #[test]
 fn a_store_that_is_abandoned_is_unfinished(rt: HostRuntime) -> Result<(), Fail> {
     let (alloc, keys) = (rt.alloc(), RandomState::new(&rt)?);
-    let store = abandoned(alloc, keys).ok_or("not loaded")?;
-    assert!(rt; refused(alloc, keys, store) == Some(OpenFault::Unfinished));
+    assert!(rt; refused_abandoned(alloc, keys) == Some(OpenFault::Unfinished));
     let empty = MemStore::new(alloc, 100);
     assert!(rt; refused(alloc, keys, empty) == Some(OpenFault::Malformed));
     Ok(())
 }
 
-/// Page 0 sealed again with other bytes at these places of its payload.
-pub(crate) fn change(store: &mut MemStore, bytes: &[(usize, u8)]) -> Option<()> {
-    if store.len() == 0 {
+/// The payload of a page.
+pub(crate) fn payload_of<S: PageStore>(store: &mut S, number: u32) -> Option<Payload> {
+    if number >= store.len() {
         return None;
     }
     let mut page = [0; 4096];
-    store.read(0, &mut page).ok()?;
-    let mut payload = unseal(0, &page).ok()?;
+    store.read(number, &mut page).ok()?;
+    unseal(number, &page).ok()
+}
+
+/// Puts a payload into a page that is there, under a right seal.
+pub(crate) fn put<S: PageStore>(store: &mut S, number: u32, payload: &Payload) -> Option<()> {
+    if number >= store.len() {
+        return None;
+    }
+    store.write(number, &seal(number, payload)).ok()
+}
+
+/// Page 0 sealed again with other bytes at these places of its payload.
+pub(crate) fn change(store: &mut MemStore, bytes: &[(usize, u8)]) -> Option<()> {
+    let mut payload = payload_of(store, 0)?;
     for (place, byte) in bytes {
         if let Some(old) = payload.bytes.get_mut(*place) {
             *old = *byte;
         }
     }
-    store.write(0, &seal(0, &payload)).ok()
+    put(store, 0, &payload)
 }
 
 /// Bytes at places of page 0, and why the store is not opened: the magic, the version, the state, the shape, the limits,
@@ -294,11 +305,17 @@ fn refused_damaged(alloc: Global, keys: RandomState, bytes: &[(u32, usize)]) -> 
     refused(alloc, keys, damaged(alloc, keys, bytes)?)
 }
 
-/// Whether a count is answered where its leaf is damaged, and the run stops at the question behind it, and names the leaf.
+/// Whether a count is answered, and the run stops at the question behind it, and names its leaf, which is damaged.
+fn is_leaf_named(alloc: Global, db: &mut Db<MemStore>) -> bool {
+    let (text, answer) = said(alloc, db, "count\ntrajectory a");
+    answer == Err(RunFault::Damaged(1)) && text.as_slice() == COUNT.as_bytes()
+}
+
+/// The same of the example with that leaf damaged.
 fn is_named(alloc: Global, keys: RandomState) -> Option<bool> {
-    let mut db = opened(alloc, keys, damaged(alloc, keys, &[(1, 100)])?, 1).ok()?;
-    let (text, answer) = said(alloc, &mut db, "count\ntrajectory a");
-    Some(answer == Err(RunFault::Damaged(1)) && text.as_slice() == COUNT.as_bytes())
+    let store = damaged(alloc, keys, &[(1, 100)])?;
+    let mut db = opened(alloc, keys, store, 1).ok()?;
+    Some(is_leaf_named(alloc, &mut db))
 }
 
 #[test]
@@ -320,15 +337,30 @@ fn is_full_at_closing(alloc: Global, keys: RandomState) -> Option<bool> {
     Some(answer == Err(RunFault::StoreFull) && is_unfinished)
 }
 
+/// Whether a leg more finds no room in a database.
+fn is_full(alloc: Global, db: &mut Db<MemStore>) -> bool {
+    let (text, ran) = said(alloc, db, "load more.csv");
+    ran == Err(RunFault::StoreFull) && text.is_empty()
+}
+
+/// The same, and the store as it is closed then, and what `close` answers.
+fn full(
+    alloc: Global,
+    keys: RandomState,
+    store: MemStore,
+) -> Option<(bool, MemStore, Result<(), RunFault>)> {
+    let mut db = opened(alloc, keys, store, 256).ok()?;
+    let is_full = is_full(alloc, &mut db);
+    let (store, answer) = close(alloc, db);
+    Some((is_full, store, answer))
+}
+
 /// Whether a leg more is refused where it is closed in six, and the store is not finished then.
 fn is_full_at_a_load(alloc: Global, keys: RandomState) -> Option<bool> {
     let (store, answer) = closed(alloc, keys, 6).ok()?;
-    let mut db = opened(alloc, keys, store, 256).ok()?;
-    let (text, ran) = said(alloc, &mut db, "load more.csv");
-    let is_told = ran == Err(RunFault::StoreFull) && text.is_empty();
-    let (store, failed) = close(alloc, db);
+    let (is_full, store, failed) = full(alloc, keys, store)?;
     let is_unfinished = refused(alloc, keys, store) == Some(OpenFault::Unfinished);
-    Some(answer.is_ok() && is_told && failed == Err(RunFault::Failed) && is_unfinished)
+    Some(answer.is_ok() && is_full && failed == Err(RunFault::Failed) && is_unfinished)
 }
 
 #[test]
@@ -367,34 +399,35 @@ fn failed_at_closing(
     }
 }
 
-/// The example in a database that is opened over a store which fails once, or for good, when so many calls have passed;
-/// `None` where it failed at that, and the store, which is handed back, is opened then.
-fn opened_fused(
+/// Loads into a database and closes it: whether its store failed.
+fn failed_when_opened(
     alloc: Global,
     keys: RandomState,
-    calls: u64,
-    once: bool,
-) -> Result<Option<Db<Fuse<MemStore>>>, RunFault> {
-    let (store, _) = closed(alloc, keys, 100)?;
-    match open(alloc, keys, Fuse::new(store, calls, once), 1) {
-        Ok(db) => Ok(Some(db)),
+    mut db: Db<Fuse<MemStore>>,
+) -> Result<bool, RunFault> {
+    match said(alloc, &mut db, "load head.csv").1 {
+        Ok(()) | Err(RunFault::Store) => failed_at_closing(alloc, keys, db),
+        Err(fault) => Err(fault),
+    }
+}
+
+/// Opens, loads and closes over a store: whether it failed. Where it failed at opening, the store, which is handed back,
+/// is opened then.
+fn failed(alloc: Global, keys: RandomState, store: Fuse<MemStore>) -> Result<bool, RunFault> {
+    match open(alloc, keys, store, 1) {
+        Ok(db) => failed_when_opened(alloc, keys, db),
         Err((fuse, OpenFault::Store)) => match refused(alloc, keys, fuse.into_inner()) {
-            None => Ok(None),
+            None => Ok(true),
             Some(_) => Err(RunFault::Failed),
         },
         Err(_) => Err(RunFault::Failed),
     }
 }
 
-/// Opens, loads and closes over such a store: whether it failed.
+/// The same over the example's store, which fails once, or for good, when so many calls have passed.
 fn fused(alloc: Global, keys: RandomState, calls: u64, once: bool) -> Result<bool, RunFault> {
-    let Some(mut db) = opened_fused(alloc, keys, calls, once)? else {
-        return Ok(true);
-    };
-    match said(alloc, &mut db, "load head.csv").1 {
-        Ok(()) | Err(RunFault::Store) => failed_at_closing(alloc, keys, db),
-        Err(fault) => Err(fault),
-    }
+    let (store, _) = closed(alloc, keys, 100)?;
+    failed(alloc, keys, Fuse::new(store, calls, once))
 }
 
 /// Makes a database of the example and closes it over a store that fails once, or for good, when so many calls have
@@ -444,12 +477,12 @@ fn a_store_that_fails_is_said_to(rt: HostRuntime) -> Result<(), Fail> {
 
 /// Whether a fault is one of want of memory: a store, and an output, that are kept in memory fail
 /// where they find no room.
-pub(crate) fn is_want(fault: RunFault) -> bool {
+fn is_want(fault: RunFault) -> bool {
     matches!(fault, RunFault::Memory | RunFault::Store | RunFault::Output)
 }
 
 /// Whether the example is counted, or memory runs out.
-fn is_counted(alloc: Global, db: &mut Db<MemStore>) -> bool {
+pub(crate) fn is_counted(alloc: Global, db: &mut Db<MemStore>) -> bool {
     match is_said(alloc, db, "count", COUNT) {
         Ok(is_said) => is_said,
         Err(fault) => is_want(fault),

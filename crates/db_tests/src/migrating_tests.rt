@@ -1,5 +1,7 @@
 //! A store of version 1 that is brought over.
-use crate::lasting_tests::{change, check, close, is_said, is_want, opened, refused as not_opened};
+use crate::lasting_tests::{
+    change, check, close, is_counted, is_said, opened, refused as not_opened,
+};
 use crate::version_1::version_1;
 use migration::Migrate;
 use pages::{Fuse, MemStore, PageStore};
@@ -125,10 +127,8 @@ fn refused<S: PageStore>(
     keys: RandomState,
     old: &mut S,
 ) -> Option<(OpenFault, Left)> {
-    match migrated(alloc, keys, old, MemStore::new(alloc, 100), 1) {
-        Ok(_) => None,
-        Err((new, fault)) => Some((fault, what_is_left(alloc, keys, new))),
-    }
+    let (new, fault) = migrated(alloc, keys, old, MemStore::new(alloc, 100), 1).err()?;
+    Some((fault, what_is_left(alloc, keys, new)))
 }
 
 /// Whether the questions of the example have their answers.
@@ -146,12 +146,17 @@ fn brought(alloc: Global, keys: RandomState, old: &mut MemStore) -> Option<MemSt
     }
 }
 
+/// Whether a store has the pages of version 1.
+fn is_unchanged(alloc: Global, old: &mut MemStore) -> Option<bool> {
+    are_same(old, &mut version_1(alloc)?)
+}
+
 /// The store into which the example was brought over, asked and closed, where the old one was not
 /// changed by it.
 fn brought_over(alloc: Global, keys: RandomState) -> Option<MemStore> {
     let mut old = version_1(alloc)?;
     let store = brought(alloc, keys, &mut old)?;
-    match are_same(&mut old, &mut version_1(alloc)?) {
+    match is_unchanged(alloc, &mut old) {
         Some(true) => Some(store),
         _ => None,
     }
@@ -270,6 +275,17 @@ fn a_page_that_is_damaged_is_said(rt: HostRuntime) -> Result<(), Fail> {
     Ok(())
 }
 
+/// Why a store is not brought over into a new one that fails, if it is not, and what is left of that.
+fn refused_new(
+    alloc: Global,
+    keys: RandomState,
+    old: &mut MemStore,
+    new: Fuse<MemStore>,
+) -> Option<(OpenFault, Left)> {
+    let (new, fault) = migrated(alloc, keys, old, new, 1).err()?;
+    Some((fault, what_is_left(alloc, keys, new.into_inner())))
+}
+
 /// Why nothing is brought over into a new store that fails once, or for good, when so many of its calls have passed, and
 /// what is left.
 fn fused_new(
@@ -280,10 +296,7 @@ fn fused_new(
 ) -> Option<Option<(OpenFault, Left)>> {
     let mut old = version_1(alloc)?;
     let new = Fuse::new(MemStore::new(alloc, 100), calls, once);
-    match migrated(alloc, keys, &mut old, new, 1) {
-        Ok(_) => Some(None),
-        Err((new, fault)) => Some(Some((fault, what_is_left(alloc, keys, new.into_inner())))),
-    }
+    Some(refused_new(alloc, keys, &mut old, new))
 }
 
 /// The same where the old store fails so, or the new one.
@@ -329,10 +342,7 @@ fn each_call_of_either_store_may_fail(rt: HostRuntime) -> Result<(), Fail> {
 /// where it finds no room for a page.
 fn is_brought(alloc: Global, keys: RandomState, old: &mut MemStore) -> bool {
     match migrated(alloc, keys, old, MemStore::new(alloc, 100), 1) {
-        Ok(mut db) => match is_said(alloc, &mut db, "count", "ok 1\n5,3\n") {
-            Ok(is_said) => is_said,
-            Err(fault) => is_want(fault),
-        },
+        Ok(mut db) => is_counted(alloc, &mut db),
         Err((_, fault)) => fault == OpenFault::Memory || fault == OpenFault::Store,
     }
 }

@@ -1,24 +1,13 @@
 //! The pages of a database: how many it asks for, a store that has no room, and pages that others change.
-use crate::run_tests::{named_files, over, ran};
-use legs::Limits;
-use pages::{FileStore, MemStore, PageStore, seal, unseal};
+use crate::lasting_tests::{is_said, payload_of, put, said};
+use crate::run_tests::database;
+use pages::{FileStore, MemStore};
 use std::alloc::Global;
 use std::fs::File;
 use std::hash::RandomState;
 use std::test::Fail;
 use std::{fs, rt};
-use trajdb::{Db, Files, RunFault};
-
-/// A new database over a store without pages, with so many to a leaf, to an inner page and in memory.
-fn database<S: PageStore + Drop>(
-    alloc: Global,
-    keys: RandomState,
-    store: S,
-    pages: (u16, u16, usize),
-) -> Result<Db<S>, RunFault> {
-    let limits = Limits::new(1000, 1000).ok_or(RunFault::Failed)?;
-    over(alloc, keys, store, limits, pages)
-}
+use trajdb::{Db, RunFault};
 
 /// Questions, and for how many pages each asks, at least and at most.
 const QUESTIONS: [(&str, u64, u64); 5] = [
@@ -37,22 +26,24 @@ const QUESTIONS: [(&str, u64, u64); 5] = [
     ("write", 0, 6),
 ];
 
-/// For how many pages a line asks over the example in leaves and inner pages of two, with so many pages in memory.
+/// For how many pages a line asks once the example is loaded.
+fn asked_by(alloc: Global, db: &mut Db<MemStore>, line: &str) -> Result<u64, RunFault> {
+    said(alloc, db, "load S1.csv").1?;
+    let before = db.asked();
+    said(alloc, db, line).1?;
+    Ok(db.asked().wrapping_sub(before))
+}
+
+/// The same in leaves and inner pages of two, with so many pages in memory.
 fn asked(
     alloc: Global,
     keys: RandomState,
     cache_pages: usize,
     line: &str,
 ) -> Result<u64, RunFault> {
-    let files = named_files(alloc)?;
-    let store = MemStore::new(alloc, 1000);
-    let mut db = database(alloc, keys, store, (2, 2, cache_pages))?;
-    let (_, loaded) = ran(alloc, &mut db, b"load S1.csv", &files);
-    let before = db.asked();
-    let (_, answered) = ran(alloc, &mut db, line.as_bytes(), &files);
-    match (loaded, answered) {
-        (Ok(()), Ok(())) => Ok(db.asked().wrapping_sub(before)),
-        _ => Err(RunFault::Failed),
+    match database(alloc, keys, MemStore::new(alloc, 1000), (2, 2, cache_pages)) {
+        Ok(mut db) => asked_by(alloc, &mut db, line),
+        Err(fault) => Err(fault),
     }
 }
 
@@ -76,15 +67,19 @@ fn a_question_asks_for_so_many_pages(rt: HostRuntime) -> Result<(), Fail> {
     Ok(())
 }
 
-/// Why the example is not loaded into a store of three pages, how many bytes that run sends, and why the database
-/// then does not count, and does not run an empty script.
+/// How many bytes the load of the example sends, why it is refused, and why the database then does not count, and does
+/// not run an empty script.
+fn refusals(alloc: Global, db: &mut Db<MemStore>) -> (usize, [Option<RunFault>; 3]) {
+    let (out, load) = said(alloc, db, "load S1.csv");
+    let count = said(alloc, db, "count").1;
+    let empty = said(alloc, db, "").1;
+    (out.len(), [load.err(), count.err(), empty.err()])
+}
+
+/// The same over a store of three pages.
 fn refused(alloc: Global, keys: RandomState) -> Result<(usize, [Option<RunFault>; 3]), RunFault> {
-    let files = named_files(alloc)?;
     let mut db = database(alloc, keys, MemStore::new(alloc, 3), (50, 72, 256))?;
-    let (out, load) = ran(alloc, &mut db, b"load S1.csv", &files);
-    let (_, count) = ran(alloc, &mut db, b"count", &files);
-    let (_, empty) = ran(alloc, &mut db, b"", &files);
-    Ok((out.len(), [load.err(), count.err(), empty.err()]))
+    Ok(refusals(alloc, &mut db))
 }
 
 #[test]
@@ -105,31 +100,17 @@ fn file_store<R: rt::Files<File = File>>(rt: &R) -> Option<FileStore> {
     FileStore::open(rt, FILE).ok()
 }
 
-/// The example in a store, through a cache of one page, which is that of `b`.
-fn in_a_file(
-    alloc: Global,
-    keys: RandomState,
-    store: FileStore,
-) -> Result<Db<FileStore>, RunFault> {
-    let files = named_files(alloc)?;
-    let mut db = database(alloc, keys, store, (50, 72, 1))?;
-    match ran(alloc, &mut db, b"load S1.csv\ntrajectory b", &files).1 {
-        Ok(()) => Ok(db),
-        Err(fault) => Err(fault),
-    }
+/// Lets the first leg of page 1 end at x = 13.
+fn move_leg(store: &mut FileStore) -> Option<()> {
+    let mut payload = payload_of(store, 1)?;
+    payload.bytes[64..72].copy_from_slice(&[0, 0, 0, 0, 7, 0xbf, 0xa4, 0x80]);
+    put(store, 1, &payload)
 }
 
-/// Lets the first leg of page 1 end at x = 13, by another store over that file.
+/// The same by another store over that file.
 fn change<R: rt::Files<File = File>>(rt: &R) -> Option<()> {
     let mut store = FileStore::open(rt, FILE).ok()?;
-    if store.len() < 2 {
-        return None;
-    }
-    let mut page = [0; 4096];
-    store.read(1, &mut page).ok()?;
-    let mut payload = unseal(1, &page).ok()?;
-    payload.bytes[64..72].copy_from_slice(&[0, 0, 0, 0, 7, 0xbf, 0xa4, 0x80]);
-    store.write(1, &seal(1, &payload)).ok()
+    move_leg(&mut store)
 }
 
 /// What is asked after the change, and its answer.
@@ -158,22 +139,30 @@ const CHANGED: [(&str, &str); 5] = [
 
 /// The first of these that is answered otherwise, if any.
 fn wrong_answer(alloc: Global, db: &mut Db<FileStore>) -> Option<usize> {
-    let files = Files::new(alloc);
     for (at, (line, want)) in CHANGED.iter().enumerate() {
-        let (text, answer) = ran(alloc, db, line.as_bytes(), &files);
-        if answer != Ok(()) || text.as_slice() != want.as_bytes() {
+        if is_said(alloc, db, line, want) != Ok(true) {
             return Some(at);
         }
     }
-    None
+    Some(CHANGED.len())
+}
+
+/// The same where the example is loaded, the page in memory is that of `b`, and the file changes then.
+fn wrong_behind_a_change(rt: &HostRuntime, db: &mut Db<FileStore>) -> Option<usize> {
+    said(rt.alloc(), db, "load S1.csv\ntrajectory b").1.ok()?;
+    change(rt)?;
+    wrong_answer(rt.alloc(), db)
+}
+
+/// The same through a cache of one page.
+fn wrong_in_a_file(rt: &HostRuntime, keys: RandomState) -> Option<usize> {
+    let mut db = database(rt.alloc(), keys, file_store(rt)?, (50, 72, 1)).ok()?;
+    wrong_behind_a_change(rt, &mut db)
 }
 
 #[test]
 fn answers_are_those_of_the_pages(rt: HostRuntime) -> Result<(), Fail> {
     let keys = RandomState::new(&rt)?;
-    let store = file_store(&rt).ok_or("no file")?;
-    let mut db = in_a_file(rt.alloc(), keys, store).ok().ok_or("a run")?;
-    assert!(rt; change(&rt).is_some());
-    assert_eq!(rt; wrong_answer(rt.alloc(), &mut db), None);
+    assert_eq!(rt; wrong_in_a_file(&rt, keys), Some(CHANGED.len()));
     Ok(())
 }

@@ -167,17 +167,28 @@ const FILES: [(&str, &str); 31] = [
 ];
 
 /// Adds these files.
-fn add_all(alloc: Global, files: &mut Files, named: &[(&str, &str)]) -> Result<(), RunFault> {
+pub(crate) fn add_all(
+    alloc: Global,
+    files: &mut Files,
+    named: &[(&str, &str)],
+) -> Result<(), RunFault> {
     for (name, text) in named {
         files.add(name, Vec::from_slice(alloc, text.as_bytes())?)?;
     }
     Ok(())
 }
 
-pub(crate) fn named_files(alloc: Global) -> Result<Files, RunFault> {
+/// Adds the files of most scripts.
+fn add_worked(alloc: Global, files: &mut Files) -> Result<(), RunFault> {
+    add_all(alloc, files, &FILES)
+}
+
+fn named_files(alloc: Global) -> Result<Files, RunFault> {
     let mut files = Files::new(alloc);
-    add_all(alloc, &mut files, &FILES)?;
-    Ok(files)
+    match add_worked(alloc, &mut files) {
+        Ok(()) => Ok(files),
+        Err(fault) => Err(fault),
+    }
 }
 
 /// A new database over a store without pages, or why there is none, with the store.
@@ -196,7 +207,7 @@ fn create<S: PageStore>(
 }
 
 /// A new database over a store without pages, with leaves and inner pages of so many, and a cache of so many pages.
-pub(crate) fn over<S: PageStore + Drop>(
+fn over<S: PageStore + Drop>(
     alloc: Global,
     keys: RandomState,
     store: S,
@@ -211,14 +222,17 @@ pub(crate) fn over<S: PageStore + Drop>(
     }
 }
 
-/// The same over a store in memory.
-fn new_database(
+/// The same with room for 1000 legs and as many features.
+pub(crate) fn database<S: PageStore + Drop>(
     alloc: Global,
     keys: RandomState,
-    limits: Limits,
+    store: S,
     pages: (u16, u16, usize),
-) -> Result<Db<MemStore>, RunFault> {
-    over(alloc, keys, MemStore::new(alloc, 1_000_000), limits, pages)
+) -> Result<Db<S>, RunFault> {
+    match Limits::new(1000, 1000) {
+        Some(limits) => over(alloc, keys, store, limits, pages),
+        None => Err(RunFault::Failed),
+    }
 }
 
 /// The files, asked for again where one allocation is refused.
@@ -295,6 +309,18 @@ pub(crate) fn ran_listed(
     }
 }
 
+/// How many pages were asked for when a script has run, if it answers what is wanted.
+fn asked_for(
+    alloc: Global,
+    db: &mut Db<MemStore>,
+    files: &Files,
+    (script, want): (&[u8], &[u8]),
+) -> Result<u64, RunFault> {
+    let (out, ran) = ran(alloc, db, script, files);
+    judged(ran, out.as_slice(), want)?;
+    Ok(db.asked())
+}
+
 /// How many pages a script asks for on a new database over pages, if it answers what is wanted.
 fn run_once(
     alloc: Global,
@@ -302,12 +328,12 @@ fn run_once(
     limits: Limits,
     pages: (u16, u16, usize),
     files: &Files,
-    (script, want): (&[u8], &[u8]),
+    asked: (&[u8], &[u8]),
 ) -> Result<u64, RunFault> {
-    let mut db = new_database(alloc, keys, limits, pages)?;
-    let (out, ran) = ran(alloc, &mut db, script, files);
-    judged(ran, out.as_slice(), want)?;
-    Ok(db.asked())
+    match over(alloc, keys, MemStore::new(alloc, 1_000_000), limits, pages) {
+        Ok(mut db) => asked_for(alloc, &mut db, files, asked),
+        Err(fault) => Err(fault),
+    }
 }
 
 /// The same, asked again where one allocation is refused.
@@ -328,16 +354,28 @@ fn run_paged(
 }
 
 /// Runs a script over an index that keeps a list, which is to answer what is wanted.
+fn answer_listed(
+    alloc: Global,
+    core: &mut Core<ListIndex>,
+    files: &Files,
+    (script, want): (&[u8], &[u8]),
+) -> Result<(), RunFault> {
+    let (out, ran) = ran_listed(alloc, core, script, files);
+    judged(ran, out.as_slice(), want)
+}
+
+/// The same over a new one.
 fn run_listed_once(
     alloc: Global,
     keys: RandomState,
     limits: Limits,
     files: &Files,
-    (script, want): (&[u8], &[u8]),
+    asked: (&[u8], &[u8]),
 ) -> Result<(), RunFault> {
-    let mut core = listed(alloc, keys, limits)?;
-    let (out, ran) = ran_listed(alloc, &mut core, script, files);
-    judged(ran, out.as_slice(), want)
+    match listed(alloc, keys, limits) {
+        Ok(mut core) => answer_listed(alloc, &mut core, files, asked),
+        Err(fault) => Err(fault),
+    }
 }
 
 /// The same, asked again where one allocation is refused.
@@ -357,7 +395,7 @@ fn run_listed(
 }
 
 /// Whether a script answers so over a list, and over pages in two shapes, asking for as many whatever the cache holds.
-fn is_answered(
+pub(crate) fn is_answered(
     alloc: Global,
     keys: RandomState,
     limits: Limits,
@@ -374,6 +412,34 @@ fn is_answered(
     Ok(same)
 }
 
+/// The first script that does not answer what stands behind it, if any.
+fn wrong_answer(
+    alloc: Global,
+    keys: RandomState,
+    limits: Limits,
+    files: &Files,
+    scripts: &[(&str, &str)],
+) -> Option<usize> {
+    for (at, (script, want)) in scripts.iter().enumerate() {
+        let asked = (script.as_bytes(), want.as_bytes());
+        if is_answered(alloc, keys, limits, files, asked) != Ok(true) {
+            return Some(at);
+        }
+    }
+    None
+}
+
+/// The same over the files of most scripts.
+fn wrong_script(
+    alloc: Global,
+    keys: RandomState,
+    limits: Limits,
+    scripts: &[(&str, &str)],
+) -> Result<Option<usize>, RunFault> {
+    let files = files(alloc)?;
+    Ok(wrong_answer(alloc, keys, limits, &files, scripts))
+}
+
 /// Whether the scripts answer what stands behind them, under these limits.
 fn check_under<R: Abort + AllocGlobal + RandomSource>(
     rt: &R,
@@ -382,12 +448,8 @@ fn check_under<R: Abort + AllocGlobal + RandomSource>(
 ) -> Result<(), Fail> {
     let keys = RandomState::new(rt)?;
     let limits = Limits::new(legs, features).ok_or("limits")?;
-    let files = files(rt.alloc()).ok().ok_or("files")?;
-    for (script, want) in scripts {
-        let asked = (script.as_bytes(), want.as_bytes());
-        let told = is_answered(rt.alloc(), keys, limits, &files, asked);
-        assert!(rt; told == Ok(true), "{want}: {told:?}");
-    }
+    let wrong = wrong_script(rt.alloc(), keys, limits, scripts);
+    assert!(rt; wrong == Ok(None), "{wrong:?}");
     Ok(())
 }
 
@@ -707,36 +769,36 @@ fn count(alloc: Global, db: &mut Db<MemStore>) -> Result<Vec<u8>, RunFault> {
     db.command(alloc, &Command::Count, &Files::new(alloc))
 }
 
-/// What the example adds, and what a database then says of itself.
-fn load_and_count(
-    alloc: Global,
-    keys: RandomState,
-    limits: Limits,
-) -> Result<(Counts, Vec<u8>), RunFault> {
-    let mut db = new_database(alloc, keys, limits, (2, 2, 1))?;
-    let counts = load(alloc, &mut db)?;
-    Ok((counts, count(alloc, &mut db)?))
-}
-
-#[test]
-fn a_file_is_loaded_and_a_command_answered(rt: HostRuntime) -> Result<(), Fail> {
-    let keys = RandomState::new(&rt)?;
-    let limits = Limits::new(1000, 1000).ok_or("limits")?;
-    let told = match load_and_count(rt.alloc(), keys, limits) {
-        // One allocation was refused.
-        Err(RunFault::Memory | RunFault::Store) => load_and_count(rt.alloc(), keys, limits),
-        told => told,
-    };
+/// Whether the example adds its records, legs and features, and a database then says so of itself.
+fn counts(alloc: Global, db: &mut Db<MemStore>) -> Result<bool, RunFault> {
     let want = Counts {
         records: 4,
         legs: 5,
         features: 3,
     };
-    let is_told = match told {
-        Ok((counts, text)) => counts == want && text.as_slice() == b"ok 1\n5,3\n".as_slice(),
-        Err(_) => false,
+    if load(alloc, db)? != want {
+        return Ok(false);
+    }
+    Ok(count(alloc, db)?.as_slice() == b"ok 1\n5,3\n".as_slice())
+}
+
+/// The same of a new database.
+fn load_and_count(alloc: Global, keys: RandomState) -> Result<bool, RunFault> {
+    match database(alloc, keys, MemStore::new(alloc, 1_000_000), (2, 2, 1)) {
+        Ok(mut db) => counts(alloc, &mut db),
+        Err(fault) => Err(fault),
+    }
+}
+
+#[test]
+fn a_file_is_loaded_and_a_command_answered(rt: HostRuntime) -> Result<(), Fail> {
+    let (alloc, keys) = (rt.alloc(), RandomState::new(&rt)?);
+    let told = match load_and_count(alloc, keys) {
+        // One allocation was refused.
+        Err(RunFault::Memory | RunFault::Store) => load_and_count(alloc, keys),
+        told => told,
     };
-    assert!(rt; is_told);
+    assert!(rt; told == Ok(true));
     Ok(())
 }
 

@@ -108,17 +108,25 @@ fn page(front: &[u8], digest: &[u8; 32]) -> [u8; 4096] {
     page
 }
 
-/// The six pages, in a store of at most ten.
-pub(crate) fn version_1(alloc: Global) -> Option<MemStore> {
-    let mut store = MemStore::new(alloc, 10);
-    let fronts: [&[u8]; 6] = [
-        &HEADER, &LEAF_OF_A, &LEAF_OF_B, &ROOT, &LEAF_OF_C, &CATALOGUE,
-    ];
-    for (front, digest) in fronts.iter().zip(DIGESTS.iter()) {
+/// The first bytes of the six pages.
+const FRONTS: [&[u8]; 6] = [
+    &HEADER, &LEAF_OF_A, &LEAF_OF_B, &ROOT, &LEAF_OF_C, &CATALOGUE,
+];
+
+/// Adds pages of such first bytes and digests to a store.
+fn add(store: &mut MemStore, fronts: &[&[u8]], digests: &[[u8; 32]]) -> Option<()> {
+    for (front, digest) in fronts.iter().zip(digests.iter()) {
         let number = store.len();
         if number < store.most() {
             store.write(number, &page(front, digest)).ok()?;
         }
     }
+    Some(())
+}
+
+/// The six pages, in a store of at most ten.
+pub(crate) fn version_1(alloc: Global) -> Option<MemStore> {
+    let mut store = MemStore::new(alloc, 10);
+    add(&mut store, &FRONTS, &DIGESTS)?;
     Some(store)
 }
