@@ -353,26 +353,28 @@ fn check_twice<S: PageStore>(db: &mut Db<S>, pages: u32, once: bool) -> Checked 
     }
 }
 
+/// Checks a database where there is one.
+fn check_any(db: Option<Db<Fuse<MemStore>>>, pages: u32, once: bool) -> Checked {
+    match db {
+        Some(mut db) => check_twice(&mut db, pages, once),
+        None => Checked::Nothing,
+    }
+}
+
 /// Checks the example as it is loaded over a store that fails when so many calls have passed.
 fn checked_loaded(alloc: Global, keys: RandomState, calls: u64, once: bool) -> Checked {
-    match loaded(
-        alloc,
-        keys,
-        Fuse::new(MemStore::new(alloc, 100), calls, once),
-    ) {
-        Ok(mut db) => check_twice(&mut db, 5, once),
-        Err(_) => Checked::Nothing,
-    }
+    let store = Fuse::new(MemStore::new(alloc, 100), calls, once);
+    check_any(loaded(alloc, keys, store).ok(), 5, once)
 }
 
 /// Checks the example as it is closed, and opened over such a store.
 fn checked_opened(alloc: Global, keys: RandomState, calls: u64, once: bool) -> Checked {
-    let Ok((store, _)) = closed(alloc, keys, 100) else {
-        return Checked::Wrong;
-    };
-    match opened(alloc, keys, Fuse::new(store, calls, once), 1) {
-        Ok(mut db) => check_twice(&mut db, 6, once),
-        Err(_) => Checked::Nothing,
+    match closed(alloc, keys, 100) {
+        Ok((store, _)) => {
+            let store = Fuse::new(store, calls, once);
+            check_any(opened(alloc, keys, store, 1).ok(), 6, once)
+        }
+        Err(_) => Checked::Wrong,
     }
 }
 

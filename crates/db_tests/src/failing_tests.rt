@@ -192,8 +192,8 @@ fn went_and_checked<S: PageStore>(
     db: &mut Db<S>,
     may_last: bool,
 ) -> Result<Outcome, RunFault> {
-    let files = named(alloc, "S1.csv", STANDARD.as_bytes())?;
     let script = script_of(alloc, &LINES)?;
+    let files = named(alloc, "S1.csv", STANDARD.as_bytes())?;
     let outcome = went(alloc, db, (script.as_slice(), &files), may_last);
     match may_answer(db) {
         true => Ok(outcome),
@@ -242,8 +242,8 @@ fn over_new_list(
 
 /// How the script goes over a list.
 fn over_list(alloc: Global, keys: RandomState) -> Result<Outcome, RunFault> {
-    let files = named(alloc, "S1.csv", STANDARD.as_bytes())?;
     let script = script_of(alloc, &LINES)?;
+    let files = named(alloc, "S1.csv", STANDARD.as_bytes())?;
     over_new_list(alloc, keys, (script.as_slice(), &files))
 }
 
@@ -388,8 +388,8 @@ fn is_sent_and_counted(
     how: (usize, usize, bool),
     text: &[u8],
 ) -> Result<bool, RunFault> {
-    let files = named(alloc, "S1.csv", STANDARD.as_bytes())?;
     let script = script_of(alloc, &EXAMPLE)?;
+    let files = named(alloc, "S1.csv", STANDARD.as_bytes())?;
     let is_sent = is_sent(alloc, db, (script.as_slice(), &files), how, text);
     Ok(is_sent && counts(alloc, db, &files))
 }

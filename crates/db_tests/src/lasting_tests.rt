@@ -10,7 +10,8 @@ use trajdb::{Db, Files, OpenFault, Report, RunFault};
 macro_rules! headed {
     ($lines:literal) => {
         concat!(
-            "@stboundedby,urn:x-ogc:def:crs:EPSG:6.6:4326,2D,50.23 9.23,50.31 9.27,2012-01-17T12:33:41Z,2012-01-17T12:37:00Z,sec\n",
+            "@stboundedby,urn:x-ogc:def:crs:EPSG:6.6:4326,2D,50.23 9.23,50.31 9.27,",
+            "2012-01-17T12:33:41Z,2012-01-17T12:37:00Z,sec\n",
             "@columns,mfidref,trajectory,state,xsd:token,\"type code\",xsd:integer\n",
             $lines
         )
@@ -305,7 +306,8 @@ fn refused_damaged(alloc: Global, keys: RandomState, bytes: &[(u32, usize)]) -> 
     refused(alloc, keys, damaged(alloc, keys, bytes)?)
 }
 
-/// Whether a count is answered, and the run stops at the question behind it, and names its leaf, which is damaged.
+/// Whether a count is answered, and the run stops at the question behind it, and names its leaf,
+/// which is damaged.
 fn is_leaf_named(alloc: Global, db: &mut Db<MemStore>) -> bool {
     let (text, answer) = said(alloc, db, "count\ntrajectory a");
     answer == Err(RunFault::Damaged(1)) && text.as_slice() == COUNT.as_bytes()
@@ -411,8 +413,8 @@ fn failed_when_opened(
     }
 }
 
-/// Opens, loads and closes over a store: whether it failed. Where it failed at opening, the store, which is handed back,
-/// is opened then.
+/// Opens, loads and closes over a store: whether it failed. Where it failed at opening, the store,
+/// which is handed back, is opened then.
 fn failed(alloc: Global, keys: RandomState, store: Fuse<MemStore>) -> Result<bool, RunFault> {
     match open(alloc, keys, store, 1) {
         Ok(db) => failed_when_opened(alloc, keys, db),
@@ -424,7 +426,8 @@ fn failed(alloc: Global, keys: RandomState, store: Fuse<MemStore>) -> Result<boo
     }
 }
 
-/// The same over the example's store, which fails once, or for good, when so many calls have passed.
+/// The same over the example's store, which fails once, or for good, when so many calls have
+/// passed.
 fn fused(alloc: Global, keys: RandomState, calls: u64, once: bool) -> Result<bool, RunFault> {
     let (store, _) = closed(alloc, keys, 100)?;
     failed(alloc, keys, Fuse::new(store, calls, once))

@@ -275,7 +275,8 @@ fn a_page_that_is_damaged_is_said(rt: HostRuntime) -> Result<(), Fail> {
     Ok(())
 }
 
-/// Why a store is not brought over into a new one that fails, if it is not, and what is left of that.
+/// Why a store is not brought over into a new one that fails, if it is not, and what is left of
+/// that.
 fn refused_new(
     alloc: Global,
     keys: RandomState,

@@ -67,8 +67,8 @@ fn a_question_asks_for_so_many_pages(rt: HostRuntime) -> Result<(), Fail> {
     Ok(())
 }
 
-/// How many bytes the load of the example sends, why it is refused, and why the database then does not count, and does
-/// not run an empty script.
+/// How many bytes the load of the example sends, why it is refused, and why the database then does
+/// not count, and does not run an empty script.
 fn refusals(alloc: Global, db: &mut Db<MemStore>) -> (usize, [Option<RunFault>; 3]) {
     let (out, load) = said(alloc, db, "load S1.csv");
     let count = said(alloc, db, "count").1;
@@ -147,7 +147,8 @@ fn wrong_answer(alloc: Global, db: &mut Db<FileStore>) -> Option<usize> {
     Some(CHANGED.len())
 }
 
-/// The same where the example is loaded, the page in memory is that of `b`, and the file changes then.
+/// The same where the example is loaded, the page in memory is that of `b`, and the file changes
+/// then.
 fn wrong_behind_a_change(rt: &HostRuntime, db: &mut Db<FileStore>) -> Option<usize> {
     said(rt.alloc(), db, "load S1.csv\ntrajectory b").1.ok()?;
     change(rt)?;

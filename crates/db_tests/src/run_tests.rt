@@ -528,17 +528,21 @@ const REFUSED: [(&str, &str); 10] = [
     ("load none\nwrite\n", "refused Q9\nrefused Q10\n"),
 ];
 
-#[test]
-fn lines_are_refused(rt: HostRuntime) -> Result<(), Fail> {
-    check(&rt, &REFUSED)?;
-    let keys = RandomState::new(&rt)?;
-    let limits = Limits::new(1, 1).ok_or("limits")?;
-    let files = Files::new(rt.alloc());
+/// Whether a line is refused that is no UTF-8.
+fn is_bad_text_refused(alloc: Global, keys: RandomState) -> Result<bool, RunFault> {
+    let limits = Limits::new(1, 1).ok_or(RunFault::Failed)?;
     let asked = (
         b"\xff\n#\xff\ncount\r".as_slice(),
         b"refused Q1\nok 1\n0,0\n".as_slice(),
     );
-    assert!(rt; is_answered(rt.alloc(), keys, limits, &files, asked) == Ok(true));
+    is_answered(alloc, keys, limits, &Files::new(alloc), asked)
+}
+
+#[test]
+fn lines_are_refused(rt: HostRuntime) -> Result<(), Fail> {
+    check(&rt, &REFUSED)?;
+    let keys = RandomState::new(&rt)?;
+    assert!(rt; is_bad_text_refused(rt.alloc(), keys) == Ok(true));
     Ok(())
 }
 
