@@ -1,6 +1,6 @@
 //! Legs of features in turn, put into a tree one by one.
+use crate::command_line::Words;
 use crate::feed::{leg, places};
-use crate::words::Words;
 use anyhow::{Result, bail};
 use pagecache::PageCache;
 use pages::{Kind, MemStore};

@@ -9,6 +9,7 @@
 //! - `script SCRIPT FILES`: a script over a database whose index is a list.
 #![tactic(auto)]
 
+mod command_line;
 mod feed;
 mod insertions;
 mod node_calls;
@@ -16,11 +17,10 @@ mod page_calls;
 mod retrievals;
 mod scripts;
 mod searches;
-mod words;
 
 use anyhow::{Result, bail};
+use command_line::Words;
 use std::env;
-use words::Words;
 
 fn main(rt: HostRuntime) -> Result<()> {
     let mut words = Words::new(env::args(&rt)?);

@@ -1,6 +1,6 @@
 //! Calls of `tbnode`, many of one kind.
+use crate::command_line::Words;
 use crate::feed::position;
-use crate::words::Words;
 use anyhow::{Result, bail};
 use legs::{Box3, Leg};
 use pages::{Kind, Payload};

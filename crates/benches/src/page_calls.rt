@@ -1,7 +1,7 @@
 //! Calls of `pages` and `pagecache`, many of one kind.
 ghost use Rattle.std.specs.Prelude.{◌<◌};
 
-use crate::words::Words;
+use crate::command_line::Words;
 use anyhow::{Result, bail};
 use pagecache::PageCache;
 use pages::{FileStore, Kind, MemStore, PageStore, Payload, seal, unseal};

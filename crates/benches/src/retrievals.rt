@@ -1,6 +1,6 @@
 //! The legs of 1,000 features in turn, of 1,000,000 legs, each by its leaves.
+use crate::command_line::Words;
 use crate::feed::{leg, places};
-use crate::words::Words;
 use anyhow::{Result, bail};
 use chains::{trajectory, trajectory_in};
 use legs::Sieve;

@@ -1,5 +1,5 @@
 //! A script over a database whose index is a list.
-use crate::words::Words;
+use crate::command_line::Words;
 use anyhow::{Context, Result, bail};
 use legs::{Limits, ListIndex};
 use std::hash::RandomState;

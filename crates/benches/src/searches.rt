@@ -1,6 +1,6 @@
 //! The legs in a box, in an index over pages and in a list, of legs of 1,000 features in turn.
+use crate::command_line::Words;
 use crate::feed::{places, position};
-use crate::words::Words;
 use anyhow::{Context, Result, bail};
 use boxsearch::{TreeIndex, search};
 use fixedpoint::Coord;
