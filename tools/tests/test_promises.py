@@ -136,6 +136,14 @@ class Promises(Case):
         said = self.said(**{"crates/low/README.md": OWN.replace("first(3)", "first(4)")})
         self.assertEqual(said, ["crates/low/README.md:8: crates/low/src/tests.rt has no line let a = first(4);"])
 
+    def test_lines_of_an_example_stand_one_behind_another(self):
+        swapped = "assert_eq!(rt; a, 3);\nlet a = first(3);"
+        said = self.said(**{"crates/low/README.md": OWN.replace("let a = first(3);", swapped)})
+        told = "crates/low/src/tests.rt has no line let a = first(3); behind the line before it"
+        self.assertEqual(said, [f"crates/low/README.md:9: {told}"])
+        apart = swapped.replace("\n", "\n//...\n")
+        self.assertEqual(self.said(**{"crates/low/README.md": OWN.replace("let a = first(3);", apart)}), [])
+
     def test_a_file_and_a_link_that_are_not_there(self):
         text = "# It\n\nSee `crates/low/src/tost.rt`, [them](docs/PROMISES.md#none)\nand [it](docs/NONE.md).\n"
         said = self.said(**{"README.md": text})
