@@ -1,6 +1,7 @@
 //! Stores and outputs that fail, and want of memory.
 use crate::lasting_tests::check;
-use crate::run_tests::{STANDARD, database, listed, ran, ran_listed};
+use crate::run_tests::{database, listed, ran, ran_listed};
+use crate::worked_files::STANDARD;
 use legs::{Limits, ListIndex};
 use pages::{Fuse, MemStore, PageStore};
 use std::alloc::Global;

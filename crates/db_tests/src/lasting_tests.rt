@@ -1,5 +1,6 @@
 //! A database that is closed and opened again.
-use crate::run_tests::{STANDARD, add_all, database, ran};
+use crate::run_tests::{add_all, database, ran};
+use crate::worked_files::STANDARD;
 use pages::{Fuse, MemStore, PageStore, Payload, seal, unseal};
 use std::alloc::Global;
 use std::hash::RandomState;

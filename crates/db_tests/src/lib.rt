@@ -17,3 +17,5 @@ mod page_tests;
 mod run_tests;
 #[cfg(test)]
 mod version_1;
+#[cfg(test)]
+mod worked_files;
