@@ -16,7 +16,6 @@ use tbtree::{Place, Shape, TbTree, TreeFault, insert, insert_all};
 ///
 /// What it keeps beside them are the spans of the leaves that were read, by feature, until a page may be another one: a
 /// leaf that is known to be off a period is not read again.
-#[derive(Drop)]
 pub struct TreeIndex<S: PageStore> {
     pub(crate) alloc: Global,
     pub(crate) cache: PageCache<S>,
@@ -24,6 +23,20 @@ pub struct TreeIndex<S: PageStore> {
     pub(crate) places: Vec<Place>,
     pub(crate) legs: u64,
     pub(crate) known: Vec<Vec<LeafSpan>>,
+}
+
+// In one place, and not at each end of what owns it.
+impl<S: PageStore + Drop> Drop for TreeIndex<S> {
+    fn drop(self) {
+        let TreeIndex {
+            alloc,
+            cache,
+            tree,
+            places,
+            legs,
+            known,
+        } = self;
+    }
 }
 
 impl<S: PageStore> Model for TreeIndex<S> {
@@ -138,7 +151,15 @@ impl<S: PageStore> TreeIndex<S> {
     pub fn into_cache(self) -> PageCache<S>
         ensures { result ≡ self.cache }
     {
-        self.cache
+        let TreeIndex {
+            alloc,
+            cache,
+            tree,
+            places,
+            legs,
+            known,
+        } = self;
+        cache
     }
 
     /// The place of a feature; none of one that is not there.

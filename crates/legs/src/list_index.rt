@@ -13,12 +13,23 @@ use std::marker::Model;
 use timebase::Period;
 
 /// Legs in a vector, and for each feature the places of its legs.
-#[derive(Drop)]
 pub struct ListIndex {
     alloc: Global,
     legs: Vec<Leg>,
     places: Vec<Vec<usize>>,
     spent: bool,
+}
+
+// In one place, and not at each end of what owns it.
+impl Drop for ListIndex {
+    fn drop(self) {
+        let ListIndex {
+            alloc,
+            legs,
+            places,
+            spent,
+        } = self;
+    }
 }
 
 impl Model for ListIndex {

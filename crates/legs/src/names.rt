@@ -7,11 +7,21 @@ use std::marker::Model;
 
 /// The names that a file's records so far have, in order of first appearance, and the latest of
 /// each.
-#[derive(Drop)]
 pub(crate) struct Names {
     alloc: Global,
     names: IndexSet<String, RandomState>,
     latest: Vec<Latest>,
+}
+
+// In one place, and not at each end of what owns it.
+impl Drop for Names {
+    fn drop(self) {
+        let Names {
+            alloc,
+            names,
+            latest,
+        } = self;
+    }
 }
 
 impl Model for Names {

@@ -23,7 +23,6 @@ pub struct Track {
 
 /// The names of a book's features in order of first acceptance, each with its track; the number of
 /// all legs, and of all rows of attribute values (one row for each record).
-#[derive(Drop)]
 pub struct Tracks {
     alloc: Global,
     keys: RandomState,
@@ -31,6 +30,20 @@ pub struct Tracks {
     tracks: Vec<Track>,
     legs: u64,
     rows: u64,
+}
+
+// In one place, and not at each end of what owns it.
+impl Drop for Tracks {
+    fn drop(self) {
+        let Tracks {
+            alloc,
+            keys,
+            names,
+            tracks,
+            legs,
+            rows,
+        } = self;
+    }
 }
 
 impl Model for Tracks {

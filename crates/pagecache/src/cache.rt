@@ -190,6 +190,6 @@ impl<S: PageStore> PageCache<S> {
     pub fn into_store(self) -> S
         ensures { S.seen result ≡ self.store }
     {
-        self.slots.store
+        self.slots.into_store()
     }
 }

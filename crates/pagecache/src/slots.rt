@@ -22,13 +22,25 @@ pub struct Held {
 }
 
 /// The pages in memory, the one used last first, over the store.
-#[derive(Drop)]
 pub struct Slots<S> {
     pub(crate) store: S,
     held: LruCache<u32, Held>,
     pub(crate) count: u32,
     pub(crate) asked: u64,
     alloc: Global,
+}
+
+// In one place, and not at each end of what owns it.
+impl<S: Drop> Drop for Slots<S> {
+    fn drop(self) {
+        let Slots {
+            store,
+            held,
+            count,
+            asked,
+            alloc,
+        } = self;
+    }
 }
 
 /// A page of zero bytes.
@@ -60,6 +72,20 @@ impl<S: PageStore> Slots<S> {
             }),
             Err(error) => Err((store, error)),
         }
+    }
+
+    /// The store below, as it stands.
+    pub(crate) fn into_store(self) -> S
+        ensures { result ≡ self.store }
+    {
+        let Slots {
+            store,
+            held,
+            count,
+            asked,
+            alloc,
+        } = self;
+        store
     }
 
     /// Writes a page that is changed.

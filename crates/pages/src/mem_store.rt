@@ -8,7 +8,6 @@ use crate::unsynced::Unsynced;
 use std::alloc::Global;
 
 /// A store in memory. It is faithful, and a new page that finds no memory is a fault of it.
-#[derive(Drop)]
 pub struct MemStore {
     pages: Vec<[u8; 4096]>,
     most: u32,
@@ -16,6 +15,18 @@ pub struct MemStore {
     unsynced: Unsynced,
     ghost within: { vec_len pages ≤ most },
     ghost fits: { most < 2 ^ 32 },
+}
+
+// In one place, and not at each end of what owns it.
+impl Drop for MemStore {
+    fn drop(self) {
+        let MemStore {
+            pages,
+            most,
+            faults,
+            unsynced,
+        } = self;
+    }
 }
 
 impl MemStore {

@@ -14,12 +14,22 @@ use std::marker::Model;
 ///
 /// All values stand in one text, one after another, with 8 bytes for each value and 16 for each row
 /// beside it. Blank values that `Values` counts at a row's end are counted here too, not kept.
-#[derive(Drop)]
 pub struct Rows {
     values: ByteRecord,
     places: Vec<Place>,
     /// Whether no value was left half written, for want of memory.
     is_whole: bool,
+}
+
+// In one place, and not at each end of what owns it.
+impl Drop for Rows {
+    fn drop(self) {
+        let Rows {
+            values,
+            places,
+            is_whole,
+        } = self;
+    }
 }
 
 impl Model for Rows {

@@ -8,6 +8,7 @@ use crate::output::send;
 use crate::script::{first_piece, without_return};
 use crate::start::{Start, put_legs};
 use crate::{Counts, LoadFault, RunFault};
+use catalogue::Catalogue;
 use legs::{BookHead, Limits, Tracks};
 use querylang::{Command, LineFault, parse_line};
 use rows::Rows;
@@ -17,7 +18,6 @@ use std::io::Write;
 use std::marker::Model;
 
 /// Accepted files behind an index of their legs.
-#[derive(Drop)]
 pub struct Core<I: Start> {
     pub(crate) index: I,
     pub(crate) head: Option<BookHead>,
@@ -27,6 +27,21 @@ pub struct Core<I: Start> {
     /// Whether the database was made, or a file was accepted since it was opened.
     pub(crate) begun: bool,
     pub(crate) failed: bool,
+}
+
+// In one place, and not at each end of what owns it.
+impl<I: Start + Drop> Drop for Core<I> {
+    fn drop(self) {
+        let Core {
+            index,
+            head,
+            tracks,
+            rows,
+            limits,
+            begun,
+            failed,
+        } = self;
+    }
 }
 
 impl<I: Start> Model for Core<I> {
@@ -47,7 +62,7 @@ impl<I: Start> Model for Core<I> {
 impl<I: Start> Core<I> {
     ghost use Rattle.std.specs.Prelude.{◌≡◌, [], None, IfOk, IfErr, false};
     ghost use Rattle.legs.specs.Book.{empty_book};
-    ghost use Rattle.trajdb.specs.Database.{IsSound};
+    ghost use Rattle.trajdb.specs.Database.{catalogue_of, IsSound};
 
     /// A database without files over an index without legs, which has begun or not. Names are hashed with the keys,
     /// which a stranger who chooses the names of a file is not to know.
@@ -91,6 +106,30 @@ impl<I: Start> Core<I> {
         ensures { result ≡ I.asked self.now.index }
     {
         self.index.asked()
+    }
+
+    /// What is kept of a database: its catalogue, and the index of its legs.
+    pub(crate) fn into_parts(self) -> (Catalogue, I)
+        ensures catalogue { result.0 ≡ catalogue_of self }
+        ensures index { result.1 ≡ self.index }
+        ensures legs { I.content self.index ≡ self.book.legs }
+    {
+        let Core {
+            index,
+            head,
+            tracks,
+            rows,
+            limits,
+            begun,
+            failed,
+        } = self;
+        let catalogue = Catalogue {
+            head,
+            limits,
+            tracks,
+            rows,
+        };
+        (catalogue, index)
     }
 }
 

@@ -8,10 +8,16 @@ use std::alloc::{AllocError, Global};
 use std::marker::Model;
 
 /// Files by name; of two with one name the first counts.
-#[derive(Drop)]
 pub struct Files {
     alloc: Global,
     files: IndexMap<String, Vec<u8>>,
+}
+
+// In one place, and not at each end of what owns it.
+impl Drop for Files {
+    fn drop(self) {
+        let Files { alloc, files } = self;
+    }
 }
 
 impl Model for Files {

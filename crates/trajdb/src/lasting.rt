@@ -25,7 +25,7 @@ fn closed(answer: Result<(), OpenFault>) -> Result<(), RunFault>
 impl<I: Start> Core<I> {
     ghost use Rattle.std.specs.Prelude.{◌≡◌, false};
     ghost use Rattle.legs.specs.Limits.{IsLimits};
-    ghost use Rattle.trajdb.specs.Database.{catalogue_of, restored};
+    ghost use Rattle.trajdb.specs.Database.{restored};
 
     /// A database of a catalogue and the index of its legs: one that was made, or one that was opened
     /// and into which no file was accepted since.
@@ -49,29 +49,6 @@ impl<I: Start> Core<I> {
             begun,
             failed: false,
         }
-    }
-
-    /// What is kept of a database: its catalogue, and the index of its legs.
-    fn into_parts(self) -> (Catalogue, I)
-        ensures catalogue { result.0 ≡ catalogue_of self }
-        ensures index { result.1 ≡ self.index }
-        ensures legs { I.content self.index ≡ self.book.legs }
-    {
-        let Core {
-            index,
-            head,
-            tracks,
-            rows,
-            limits,
-            ..
-        } = self;
-        let catalogue = Catalogue {
-            head,
-            limits,
-            tracks,
-            rows,
-        };
-        (catalogue, index)
     }
 }
 

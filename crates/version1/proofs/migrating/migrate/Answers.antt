@@ -14,7 +14,7 @@ use Rattle.tbtree.specs.declared.tree.TbTree.{TbTree}
 use Rattle.version1.specs.Naming.{IsNamedOfChains}
 use Rattle.version1.proofs.NamedLemmas.{chains_of, kept_agrees, kept_few, named_as, named_of, stop_named}
 use Rattle.version1.proofs.OldBookLemmas.{old_kept_same}
-use Rattle.version1.proofs.MigrateLemmas.{allowed_stop, book_agrees, book_brought, book_chains, caused_beginning, chains_as, leg_stop, old_pages_stay, same_shape}
+use Rattle.version1.proofs.MigrateLemmas.{allowed_stop, book_agrees, book_brought, book_chains, caused_beginning, chains_as, left_later, leg_stop, old_pages_stay, same_shape}
 use Rattle.version1.proofs.migrating.migrate.Goals as goal
 
 pub returns-in-Err-clause-holds : goal.returns-in-Err-clause-holds
@@ -28,6 +28,12 @@ returns-in-Err-begin-clause-caused g c =
     let mid = g.T.PageStore.seen c.in-Ok.read.1 in
     let left = g.T.PageStore.seen c.in-Err-begin.new in
     caused_beginning old after new mid left c.in-Err-begin.fault c.fault_of.result c.in-Ok.ensures.stored c.in-Err-begin.ensures.kept (g.met.T.PageStore.lawful c.in-Err-begin.new) c.in-Err-begin.ensures.caused c.fault_of.ensures
+
+pub returns-in-Err-begin-clause-left : goal.returns-in-Err-begin-clause-left
+returns-in-Err-begin-clause-left g c = λ fa fb.
+    let stays = c.in-Ok.ensures.stored in
+    left_later (g.T.PageStore.seen c.args.new) (g.T.PageStore.seen c.in-Ok.read.1) (g.T.PageStore.seen c.in-Err-begin.new) stays
+    (c.in-Err-begin.ensures.over (stays.keeps.faithful ∙ fb))
 
 pub returns-in-Ok-bring_legs-clause-brought : goal.returns-in-Ok-bring_legs-clause-brought
 returns-in-Ok-bring_legs-clause-brought g c = λ fa fb.
