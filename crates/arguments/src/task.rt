@@ -106,7 +106,7 @@ pub struct Bounds<'a> {
 
 /// What is printed of stays.
 #[derive(Clone, Copy)]
-pub enum Rows {
+pub enum RowKind {
     /// A record a leg.
     Legs,
     /// A record a visit.
@@ -125,7 +125,7 @@ pub struct Moments<'a> {
     /// The rectangle and the period.
     pub bounds: Bounds<'a>,
     /// What is printed.
-    pub rows: Rows,
+    pub rows: RowKind,
 }
 
 /// What `mftb info` is asked to do.

@@ -1,5 +1,7 @@
 //! The words of the command line.
-use crate::task::{Bounds, Check, Info, Migrate, Moments, Part, Parts, Rows, Run, Task, Telling};
+use crate::task::{
+    Bounds, Check, Info, Migrate, Moments, Part, Parts, RowKind, Run, Task, Telling,
+};
 use clap::{Arg, ArgAction, ArgMatches, Command, Error, value_parser};
 use std::alloc::{AllocError, Global};
 
@@ -390,11 +392,11 @@ fn moments_of<'a>(matches: &ArgMatches<'a>) -> Moments<'a> {
         cache_pages: cache_pages_of(matches),
         bounds: Bounds { corners, times },
         rows: if matches.get_flag("visits") {
-            Rows::Visits
+            RowKind::Visits
         } else if matches.get_flag("dwell") {
-            Rows::Dwell
+            RowKind::Dwell
         } else {
-            Rows::Legs
+            RowKind::Legs
         },
     }
 }

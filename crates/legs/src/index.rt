@@ -58,9 +58,8 @@ pub trait LegIndex: Listed {
         ensures { result ≡ Self.asked self.now };
 
     /// Puts a leg at the end of the list. The leg's ordinal is to be `len`, its feature at most the number of
-    /// features so far, and its start not before the end of that feature's last leg; after any other leg, as of an
-    /// index that is not sound, it is said that the leg is found, and all that was, what is told of each feature, and with
-    /// which leg each ends.
+    /// features so far, and its start not before the end of that feature's last leg. Of any other leg, and of an index
+    /// that is not sound, `takes` still says that it is found, as is all that was, and what is told of each feature.
     fn add(&mut self, leg: Leg) -> Result<(), IndexFault>
         ensures added { OnOk result (Grows Self.Listed self.old self.new (leg ∷ [])) }
         ensures takes { OnOk result (HasAdded Self.Listed self.old self.new (leg ∷ [])) }

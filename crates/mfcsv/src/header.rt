@@ -78,7 +78,7 @@ fn dimension_of(text: &str) -> Option<Dimension>
 
 /// The time unit that a text names, a blank one `sec`; `None` where it names none that files may have.
 #[tactic(auto, unfolding(crate::specs::Header::unit_of))]
-fn unit_of(text: &str) -> Option<Unit>
+pub fn unit_of(text: &str) -> Option<Unit>
     ensures { result ≡ unit_of text.now }
 {
     if text.is_empty() || is_word(text, "sec") {

@@ -13,6 +13,7 @@ mod reader;
 mod rows;
 
 use fixedpoint::Coord;
+pub use header::unit_of;
 pub use read::read_file;
 pub use reader::FileReader;
 pub use rows::without_marks;
@@ -126,12 +127,14 @@ impl Model for Text {
 impl Text {
     ghost use Rattle.std.specs.String.{string_bytes};
 
+    /// Lends the text.
     pub fn as_str(&self) -> &str
         ensures { result.now ≡ self.now }
     {
         self.text.as_str()
     }
 
+    /// Gives the text.
     pub fn into_string(self) -> String
         ensures { string_bytes result ≡ self }
     {
@@ -214,12 +217,14 @@ impl Model for Columns {
 }
 
 impl Columns {
+    /// Lends the list.
     pub fn as_slice(&self) -> &[Column]
         ensures { result.now ≡ self.now }
     {
         self.columns.as_slice()
     }
 
+    /// Gives the list.
     pub fn into_vec(self) -> Vec<Column>
         ensures { result.items ≡ self }
     {
@@ -268,12 +273,14 @@ impl Model for Positions {
 }
 
 impl Positions {
+    /// Lends the list.
     pub fn as_slice(&self) -> &[Position]
         ensures { result.now ≡ self.now }
     {
         self.positions.as_slice()
     }
 
+    /// Gives the list.
     pub fn into_vec(self) -> Vec<Position>
         ensures { result.items ≡ self }
     {
@@ -352,12 +359,14 @@ impl Model for Records {
 }
 
 impl Records {
+    /// Lends the list.
     pub fn as_slice(&self) -> &[Record]
         ensures { result.now ≡ self.now }
     {
         self.records.as_slice()
     }
 
+    /// Gives the list.
     pub fn into_vec(self) -> Vec<Record>
         ensures { result.items ≡ self }
     {

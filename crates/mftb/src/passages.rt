@@ -1,7 +1,7 @@
 //! `mftb moments`: when legs are inside a rectangle in a period.
 use crate::asked::{database_to_ask, store_to_ask};
 use crate::bounds::read_bounds;
-use arguments::{Moments, Rows};
+use arguments::{Moments, RowKind};
 use mfcsv::Dimension;
 use moments::{Stay, dwells_of, stays, visits_of};
 use pages::PageStore;
@@ -39,17 +39,17 @@ fn text_of<S: PageStore>(
     database: &Db<S>,
     stays: &[Stay],
     period: &Period,
-    rows: Rows,
+    rows: RowKind,
 ) -> Result<Vec<u8>, RunFault> {
     let frame = frame_of(database)?;
     let mut text = Vec::new(alloc);
     match rows {
-        Rows::Legs => push_stays(alloc, &mut text, database, &frame, period, stays)?,
-        Rows::Visits => {
+        RowKind::Legs => push_stays(alloc, &mut text, database, &frame, period, stays)?,
+        RowKind::Visits => {
             let visits = visits_of(alloc, stays)?;
             push_visits(alloc, &mut text, database, &frame, &visits)?;
         }
-        Rows::Dwell => {
+        RowKind::Dwell => {
             let visits = visits_of(alloc, stays)?;
             push_dwells(alloc, &mut text, database, &dwells_of(alloc, &visits)?)?;
         }
@@ -62,7 +62,7 @@ fn ask<S: PageStore>(
     alloc: Global,
     database: &mut Db<S>,
     command: &Command,
-    rows: Rows,
+    rows: RowKind,
 ) -> Result<Vec<u8>, RunFault> {
     match command {
         Command::Box(rect, period) => {

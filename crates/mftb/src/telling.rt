@@ -6,7 +6,7 @@ use crate::reading::cause_of_reading;
 use arguments::{Bounds, Task, Telling};
 use catalogue::Catalogue;
 use legs::Box3;
-use monitor::{Note, Notes, Place, What};
+use monitor::{LineSpan, Note, Notes, What};
 use querylang::{Command, LineCode, parse_line};
 use reasons::{Code, Known, Refusal, Shown, file_words, line_words, reach_words};
 use sessions::{Cause, Fault};
@@ -103,7 +103,7 @@ fn is_of_joining(what: What) -> bool {
 
 impl Given<'_> {
     /// What is said of a line of the script.
-    fn at_line(&self, alloc: Global, place: Place, words: &str) -> Result<String, AllocError> {
+    fn at_line(&self, alloc: Global, place: LineSpan, words: &str) -> Result<String, AllocError> {
         let (script, line) = (Shown(self.name), place.line);
         format!(in alloc; "{script} line {line}: {words}")
     }
@@ -112,7 +112,7 @@ impl Given<'_> {
     fn refusal_words(
         &self,
         alloc: Global,
-        place: Place,
+        place: LineSpan,
         refusal: Refusal,
         ground: &Ground,
     ) -> Result<String, AllocError> {
@@ -128,7 +128,7 @@ impl Given<'_> {
     }
 
     /// What is said of a feature that the store does not have.
-    fn feature_words(&self, alloc: Global, place: Place) -> Result<String, AllocError> {
+    fn feature_words(&self, alloc: Global, place: LineSpan) -> Result<String, AllocError> {
         let words = match parse_line(alloc, place.text_in(self.script)) {
             Ok(Some(command)) => {
                 let name = Shown(name_in(&command));
@@ -143,7 +143,7 @@ impl Given<'_> {
     fn question_words(
         &self,
         alloc: Global,
-        place: Place,
+        place: LineSpan,
         ground: &Ground,
     ) -> Result<Option<String>, AllocError> {
         let Reach::Within(reach) = &ground.reach else {

@@ -8,5 +8,5 @@ mod progress;
 
 pub use followed::Followed;
 pub use noted::Noted;
-pub use notes::{Note, Notes, Place, What};
+pub use notes::{LineSpan, Note, Notes, What};
 pub use progress::{Progress, Told};

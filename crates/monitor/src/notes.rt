@@ -22,7 +22,7 @@ pub enum What {
 
 /// Where a line stands in a script.
 #[derive(Clone, Copy)]
-pub struct Place {
+pub struct LineSpan {
     /// Its number, from 1.
     pub line: u64,
     /// The byte at which it begins, from 0.
@@ -31,7 +31,7 @@ pub struct Place {
     pub end: usize,
 }
 
-impl Place {
+impl LineSpan {
     /// The line, in its script.
     pub fn text_in(self, script: &[u8]) -> &[u8] {
         script.get(self.start..self.end).unwrap_or(b"".as_slice())
@@ -42,7 +42,7 @@ impl Place {
 #[derive(Clone, Copy)]
 pub struct Note {
     /// Where the line stands.
-    pub place: Place,
+    pub place: LineSpan,
     /// What is said of its answer.
     pub what: What,
 }
@@ -154,7 +154,7 @@ impl Notes {
     }
 
     /// Notes what is to be said of the answer to a line, as so many legs were loaded.
-    pub fn note(&mut self, answer: &[u8], place: Place, text: &[u8], legs: u64) {
+    pub fn note(&mut self, answer: &[u8], place: LineSpan, text: &[u8], legs: u64) {
         let is_empty = self.is_empty && legs == 0;
         let what = match Refusal::read(answer) {
             Some(refusal) => {

@@ -1,5 +1,5 @@
 //! What a long run is doing, said on standard error.
-use crate::notes::Place;
+use crate::notes::LineSpan;
 use std::cell::Cell;
 use std::fmt;
 use std::fmt::{Display, Formatter};
@@ -160,8 +160,8 @@ impl<'a, R: Clock + Eprint> Progress<'a, R> {
     }
 
     /// Where the line stands that the run is at, and the line.
-    pub fn at(&self) -> (Place, &'a [u8]) {
-        let place = Place {
+    pub fn at(&self) -> (LineSpan, &'a [u8]) {
+        let place = LineSpan {
             line: self.line.get(),
             start: self.start.get(),
             end: self.end.get(),

@@ -3,7 +3,7 @@ ghost use Rattle.std.specs.Prelude.{◌<◌};
 
 use crate::fields::field_at;
 use csv::{ByteRecord, Reader, ReaderBuilder};
-use mfcsv::without_marks;
+use mfcsv::{unit_of, without_marks};
 use std::alloc::{AllocError, Global};
 use timebase::{Ms, Unit, read_instant};
 
@@ -69,23 +69,12 @@ pub(crate) fn column_count(row: &ByteRecord) -> usize {
     0
 }
 
-/// The unit that a text names; a blank one is `sec`.
-fn unit_of(text: &str) -> Unit {
-    if text.eq_ignore_ascii_case("minute") {
-        Unit::Minute
-    } else if text.eq_ignore_ascii_case("absolute") {
-        Unit::Absolute
-    } else {
-        Unit::Sec
-    }
-}
-
 fn bounds_of(row: &ByteRecord, line: u64) -> Bounds {
     let is_flat = field_at(row, 2).eq_ignore_ascii_case("2d");
     Bounds {
         line,
         coordinates: if is_flat { 2 } else { 3 },
-        unit: unit_of(field_at(row, 7)),
+        unit: unit_of(field_at(row, 7)).unwrap_or(Unit::Sec),
         start: read_instant(field_at(row, 5)).ok(),
     }
 }

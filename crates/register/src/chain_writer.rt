@@ -10,6 +10,7 @@ ghost use Rattle.register.specs.Chain.{next_in, part_payload};
 ghost use Rattle.register.specs.ChainSteps.{lacked, AreNumbers, Fills, IsAhead, IsNumber, IsPutBehind, Gives, IsThere, OnlyAsks, PayloadsStay, Reuses, Spares, StaysWithin};
 ghost use Rattle.register.specs.ChainWriter.{IsAllowed, IsCaused};
 
+use crate::chain_reader::MOST_USED;
 use indexmap::IndexSet;
 use pagecache::{CacheFault, PageCache};
 use pages::{Kind, PageStore, Payload};
@@ -19,7 +20,7 @@ use std::marker::Model;
 use tbnode::fields::{put, put_u16, put_u32, u32_at};
 
 /// How many bytes of the text a page has at most.
-const FULL: usize = 4040;
+const FULL: usize = MOST_USED as usize;
 
 /// Writes a text to a chain of pages: to those of an earlier chain first, and to new ones behind
 /// them.

@@ -34,7 +34,7 @@ fn test_state(state: u32) -> Result<(), CatalogueFault>
     Err(CatalogueFault::Malformed)
 }
 
-/// Whether a header begins as that of a finished store of a version.
+/// Why a header does not begin as that of a finished store of a version, if it does not.
 pub fn test_front(version: u32, front: Option<Front>) -> Result<(), CatalogueFault>
     ensures value { result ≡ result_of (front_fault version front) }
     ensures caused { IfErr result (λ e. (old new : Store) → IsReadingFault old new e) }

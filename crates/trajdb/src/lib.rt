@@ -16,7 +16,7 @@ mod questions;
 mod script;
 mod start;
 
-/// Why a database was not made, or not opened.
+/// Why a database was not made, not opened or not brought over.
 pub use catalogue::CatalogueFault as OpenFault;
 pub use database::Core;
 pub use db::Db;
