@@ -14,7 +14,7 @@ pub trait Migrate<T: PageStore> {
     ghost use Rattle.pages.specs.Store.{Stays};
     ghost use Rattle.pagecache.specs.Cache.{stored_payload};
     ghost use Rattle.catalogue.specs.Beginning.{IsLeftOver};
-    ghost use Rattle.version1.specs.Migrating.{IsBrought, IsMigratingFault};
+    ghost use Rattle.version1.specs.Migrating.{IsBrought, IsMigratingFault, IsRightlyFull};
     ghost use Rattle.version1.specs.OldStore.{old_first_fault, present_shape, HoldsOldBook};
     ghost use Rattle.trajdb.specs.Database.{catalogue_of};
     ghost use Rattle.trajdb.specs.Db.{HasPages};
@@ -68,6 +68,11 @@ pub trait Migrate<T: PageStore> {
             → IsBrought (S.seen old.old) (catalogue_of db) db.index) }
         ensures refuses { IfErr result (λ back. IsTrue (S.seen old.old).is_faithful
             → IsTrue (T.seen new).is_faithful → RefusesOld (S.seen old.old) back.1) }
+
+        // The new store is said to be full only where it may have no page, or has no room for the legs.
+        ensures full { IfErr result (λ back. back.1 ≡ OpenFault.StoreFull
+            → IsTrue (S.seen old.old).is_faithful → IsTrue (T.seen new).is_faithful
+            → IsRightlyFull (S.seen old.old) (T.seen new) (T.seen back.0)) }
 
         // It has begun: page 0 of the new store says that it is not finished.
         ensures begun { IfOk result (λ db. db.begun ≡ true) }

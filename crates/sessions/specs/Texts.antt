@@ -1,5 +1,5 @@
 -- What the program says of a fault, and how it ends then.
-use Rattle.std.specs.Prelude.{ℕ, ◌≡◌, ◌⊎◌, List, ◌++◌, codes, decimal}
+use Rattle.std.specs.Prelude.{ℕ, ◌≡◌, List, ◌++◌, codes, decimal}
 use Rattle.querylang.specs.declared.LineCode.{LineCode}
 use Rattle.querylang.specs.declared.LineCode.TheVariants.{Q1, Q2, Q3, Q4, Q5, Q6, Q7, Q8}
 use Rattle.register.specs.declared.fault.CatalogueFault.TheVariants as opening

@@ -7,6 +7,7 @@ ghost use Rattle.pages.specs.Store.{IsSynced, Stays};
 ghost use Rattle.catalogue.specs.Beginning.{IsLeftOver};
 ghost use Rattle.catalogue.specs.Holding.{HoldsBook, HoldsButFirst, IsUnfinishedStore};
 ghost use Rattle.pagecache.specs.Cache.{stored_payload};
+ghost use Rattle.version1.specs.Migrating.{IsRightlyFull};
 ghost use Rattle.version1.specs.OldStore.{old_first_fault, present_shape, HoldsOldBook};
 ghost use Rattle.migration.specs.Bringing.{RefusesOld};
 ghost use Rattle.trajdb.specs.Calls.{IsLoadFault};
@@ -22,7 +23,7 @@ use migration::Migrate;
 use pages::PageStore;
 use std::alloc::Global;
 use std::hash::RandomState;
-use trajdb::Db;
+use trajdb::{Db, OpenFault};
 
 /// Brings a store of version 1 over into an empty one, with a cache of `CACHE_PAGES` pages, closes
 /// that, and gives it back. Names are hashed with the keys, which a stranger who chooses the names
@@ -75,6 +76,11 @@ pub fn migrate_and_close<'a, S: PageStore, T: PageStore>(
     ensures refuses { (fault : CatalogueFault) → result.1 ≡ Err (Fault.Open fault)
         → IsTrue (S.seen old.old).is_faithful → IsTrue (T.seen new).is_faithful
         → RefusesOld (S.seen old.old) fault }
+
+    // That it is full is said before the closing only where it may have no page, or has no room for the legs.
+    ensures full { result.1 ≡ Err (Fault.Open OpenFault.StoreFull)
+        → IsTrue (S.seen old.old).is_faithful → IsTrue (T.seen new).is_faithful
+        → IsRightlyFull (S.seen old.old) (T.seen new) (T.seen result.0) }
 
     // Where the closing is refused, the new one is not finished, or all of its pages but page 0 are
     // those of a store that holds the book, and are synced; so it is of whatever the other store

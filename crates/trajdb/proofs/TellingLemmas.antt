@@ -107,7 +107,8 @@ module _ {I : Type 0} (g : Ghosts I) (core : CoreView I) where
 module _ {I : Type 0} (g : Ghosts I) (old now : CoreView I) (leaves : LeavesBook g old now) where
   pub live_before : (period : PeriodView) (feature : ℕ) (legs : List LegView) → AreLive g now period feature legs → AreLive g old period feature legs
   live_before period feature legs (inl (over, e)) = inl (subst (λ t. IsOver t feature period) leaves.tracks over, e)
-  live_before period feature legs (inr told) = inr (leaves.index.told (OfFeature feature (Some period)) legs told)
+  live_before period feature legs (inr (still, told)) =
+      inr ((λ over. still (subst (λ t. IsOver t feature period) (sym leaves.tracks) over)), leaves.index.told (OfFeature feature (Some period)) legs told)
 
   failed_before : (now.failed ≡ true) ⊎ (g.is_spent now.index ≡ true) → (old.failed ≡ true) ⊎ (g.is_spent old.index ≡ true)
   failed_before (inl f) = inl (sym leaves.failed ∙ f)

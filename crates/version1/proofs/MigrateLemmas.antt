@@ -161,3 +161,19 @@ left_empty new left l e fa s = inl (s.pages fa ∙ empty_pages new l e fa)
 
 pub left_later : (new mid left : StoreView) → Stays new mid → IsLeftOver mid left → IsLeftOver new left
 left_later new mid left s h = ⊎_elim inl (λ r. inr (⊎_elim inl (λ f. inr (f.0, faulted_before new mid left s.keeps.faults f.1)) r)) h
+
+-- the new store is said to be full where an index says so
+pub full_index : (fault : IndexFault) → brought_fault fault ≡ StoreFull → fault ≡ index.StoreFull
+full_index index.Memory e = let no : Memory ≡ StoreFull = e in absurd (cc)
+full_index index.Store e = let no : Store ≡ StoreFull = e in absurd (cc)
+full_index (index.Damaged page) e = let no : Damaged page ≡ StoreFull = e in absurd (cc)
+full_index index.StoreFull e = refl
+full_index index.Spent e = let no : Malformed ≡ StoreFull = e in absurd (cc)
+
+-- one that is said to be full where its page 0 is written may have no page
+pub full_beginning : (new mid left : StoreView) (fault : CacheFault) → Stays new mid → IsCaused mid left fault → fault_of fault ≡ StoreFull → new.most ≡ 0
+full_beginning new mid left cache.NoPage stays caused e = let no : Malformed ≡ StoreFull = e in absurd (cc)
+full_beginning new mid left cache.Store stays caused e = let no : Store ≡ StoreFull = e in absurd (cc)
+full_beginning new mid left (cache.Damaged page) stays caused e = let no : Damaged page ≡ StoreFull = e in absurd (cc)
+full_beginning new mid left cache.StoreFull stays caused e = sym stays.keeps.most ∙ caused
+full_beginning new mid left cache.Memory stays caused e = let no : Memory ≡ StoreFull = e in absurd (cc)

@@ -6,8 +6,8 @@ use Rattle.std.proofs.lemmas.List.Sorted.{IsPermutation-map, IsPermutation-sym, 
 use Rattle.std.proofs.lemmas.List.Elements.{All-head, All-tail, All-nil, All-cons}
 use Rattle.std.specs.Map.{lookup}
 use Rattle.std.proofs.lemmas.Bool.{eqb-true}
-use Rattle.std.proofs.lemmas.List.{length-map}
-use Rattle.legs.specs.Asking.{IsLater}
+use Rattle.std.proofs.lemmas.List.{length-map, take-append-drop}
+use Rattle.legs.specs.Asking.{IsLater, LacksPages}
 use Rattle.legs.proofs.RecordLemmas.{follow_append}
 use Rattle.legs.specs.Blocks.{joined}
 use Rattle.legs.specs.Boxes.{BoxView}
@@ -32,8 +32,9 @@ use Rattle.boxsearch.specs.Answers.{of_tree}
 use Rattle.tbtree.specs.Faults.{RefusesRead}
 use Rattle.tbtree.specs.declared.fault.TreeFault.{TreeFault}
 use Rattle.tbtree.specs.declared.fault.TreeFault.TheVariants.{Cache as OfCache, Malformed, Spent}
+use Rattle.version1.proofs.GrownLemmas.{grown_none, lacks_behind}
 use Rattle.version1.specs.OldLegs.{AreAmong, AreSurveyed, HaveLegsOf, IsNumbered, IsOneOf, StandByOrdinal}
-use Rattle.version1.specs.Waiting.{Holds, MayWait}
+use Rattle.version1.specs.Waiting.{GrowsBy, GrowsOn, Holds, MayWait}
 use Rattle.treecheck.specs.Ordering.{IsSurveyWhole}
 use Rattle.treecheck.specs.Walking.{IsMet, Surveys}
 use Rattle.treecheck.specs.declared.walking.Met.{Met}
@@ -101,6 +102,7 @@ module _ {I : Type 0} (g : Ghosts I) where
     pub content : g.content now ++ waiting ≡ take n list
     pub rest : CanFollowInTurn (g.content now ++ waiting) (drop n list)
     pub marked : g.is_marked first → g.is_marked now
+    pub grown : GrowsBy g first now (g.content now)
 
   pub brought_none : (index : I) (opened : List (ℕ × LegView)) (waiting : List LegView) (total : ℕ) (list : List LegView) → opened ≡ [] → waiting ≡ [] → g.is_sound index → g.content index ≡ [] → IsNumbered total list
       → Brought index index opened waiting 0 list
@@ -112,6 +114,7 @@ module _ {I : Type 0} (g : Ghosts I) where
         content = nothing;
         rest = subst (λ l. CanFollowInTurn l list) (sym nothing) numbered.in_turn;
         marked = λ m. m;
+        grown = grown_none g index (g.content index) empty;
       }
 
   -- the leg at the next ordinal is the next one
@@ -131,10 +134,18 @@ module _ {I : Type 0} (g : Ghosts I) where
     pub next_waits : MayWait g now (waiting ++ leg ∷ [])
     next_waits = (b.may.0, follow_append (g.content now) waiting (leg ∷ []) b.may.1 (next_rest.0, tt))
 
+    -- with it, those that wait may take more pages than there are, and so does the list
+    pub next_lacks : (later : I) → IsLater g first now → LacksPages g now later (waiting ++ leg ∷ []) → LacksPages g first later list
+    next_lacks later is_later lacks =
+        lacks_behind g first now later (waiting ++ leg ∷ []) (drop (n + 1) list) list is_later b.grown lacks
+        (ap (λ l. l ++ drop (n + 1) list) (sym (append_assoc (g.content now) waiting (leg ∷ [])) ∙ ap (λ l. l ++ leg ∷ []) b.content ∙ sym (take_next list n leg next_leg))
+        ∙ take-append-drop (n + 1) list)
+
     pub brought_on : (later : I) (left : List (ℕ × LegView)) (after : List LegView) (next : ℕ) → n + 1 ≡ next → StandByOrdinal list left
         → (MayWait g now (waiting ++ leg ∷ []) → Holds g now later (waiting ++ leg ∷ []) after)
-        → (MayWait g now (waiting ++ leg ∷ []) → g.is_marked now → g.is_marked later) → Brought first later left after next list
-    brought_on later left after next s keep holds marks =
+        → (MayWait g now (waiting ++ leg ∷ []) → g.is_marked now → g.is_marked later)
+        → IsLater g first now → (MayWait g now (waiting ++ leg ∷ []) → GrowsOn g now later) → Brought first later left after next list
+    brought_on later left after next s keep holds marks is_later grows =
         let h = holds next_waits in
         let more : g.content later ++ after ≡ (g.content now ++ waiting) ++ leg ∷ [] = h.content ∙ sym (append_assoc (g.content now) waiting (leg ∷ [])) in
         record {
@@ -143,7 +154,14 @@ module _ {I : Type 0} (g : Ghosts I) where
           content = more ∙ ap (λ l. l ++ leg ∷ []) b.content ∙ sym (take_next list n leg next_leg) ∙ ap (λ n. take n list) s;
           rest = subst (λ n. CanFollowInTurn (g.content later ++ after) (drop n list)) s (subst (λ l. CanFollowInTurn l (drop (n + 1) list)) (sym more) next_rest.1);
           marked = λ m. marks next_waits (b.marked m);
+          grown = grows next_waits first is_later b.grown;
         }
+
+  -- those that wait in the end may take more pages than there are, and so does the list
+  pub last_lacks : (first now later : I) (opened : List (ℕ × LegView)) (waiting : List LegView) (n : ℕ) (list : List LegView) → Brought first now opened waiting n list
+      → IsLater g first now → LacksPages g now later waiting → LacksPages g first later list
+  last_lacks first now later opened waiting n list b is_later lacks =
+      lacks_behind g first now later waiting (drop n list) list is_later b.grown lacks (ap (λ l. l ++ drop n list) b.content ∙ take-append-drop n list)
 
 take_past : {X : Type 0} (xs : List X) (i : ℕ) → length xs ≤ i → take i xs ≡ xs
 take_past [] zero l = refl

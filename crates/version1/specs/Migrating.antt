@@ -1,12 +1,15 @@
 -- A store of version 1 that is brought over into a new store.
-use Rattle.std.specs.Prelude.{ℕ, ◌≡◌, ◌⊎◌, List}
+use Rattle.std.specs.Prelude.{ℕ, ◌≡◌, ◌⊎◌, List, []}
+use Rattle.legs.specs.Asking.{planted}
+use Rattle.legs.specs.Growing.{LacksRoom}
+use Rattle.legs.specs.Legs.{LegView}
 use Rattle.legs.specs.declared.index.IndexFault.{IndexFault}
 use Rattle.legs.specs.declared.index.IndexFault.TheVariants as index
 use Rattle.pages.specs.Store.{Store as StoreView, Faulted}
 use Rattle.pagecache.specs.Cache.{stored_payload}
 use Rattle.treecheck.specs.Check.{HoldChains}
 use Rattle.tbtree.specs.declared.tree.Place.{Place}
-use Rattle.boxsearch.specs.Index.{content, IndexView, IsSound}
+use Rattle.boxsearch.specs.Index.{content, words, IndexView, IsSound}
 use Rattle.version1.specs.OldLegs.{pages_of_old}
 use Rattle.version1.specs.OldStore.{AnswersOld}
 use Rattle.register.specs.Saved.{CatalogueView}
@@ -51,3 +54,23 @@ IsMigratingFault old after new left (Damaged page) = Unit {0}
 IsMigratingFault old after new left Unfinished = Unit {0}
 IsMigratingFault old after new left Version = Unit {0}
 IsMigratingFault old after new left Malformed = Unit {0}
+
+-- the legs that the chains of a store of version 1 hold, put into an index without legs over page 0 alone, take more pages than
+-- the new store has
+pub record LacksRoomForOld (old new : StoreView) : Type 0 where
+  pub catalogue : CatalogueView
+  pub leaf : ℕ
+  pub places : List Place
+  pub index : IndexView
+  pub legs : List LegView
+  pub kept : AnswersOld (stored_payload old) old.count catalogue leaf index.tree.shape places
+  pub sound : IsSound index
+  pub empty : content index ≡ []
+  pub one : index.cache.count ≡ 1
+  pub held : HoldChains (pages_of_old old) leaf catalogue.tracks.rows catalogue.tracks.legs places
+      catalogue.tracks.tracks legs
+  pub lacks : LacksRoom index.tree.shape (planted words index) new.count legs
+
+-- a new store is rightly said to be full: it may have no page, or it has no room for the legs
+abbrev pub IsRightlyFull : (old new left : StoreView) → Type 0
+IsRightlyFull old new left = (new.most ≡ 0) ⊎ LacksRoomForOld old left

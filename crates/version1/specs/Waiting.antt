@@ -1,5 +1,8 @@
 -- Helpers of private functions: legs that wait until there are so many that they are put into an index together.
-use Rattle.std.specs.Prelude.{◌≡◌, List, ◌++◌}
+use Rattle.std.specs.Prelude.{◌≡◌, List, Some, ◌++◌}
+use Rattle.legs.specs.Asking.{planted, IsLater}
+use Rattle.legs.specs.Costs.{ShapeView}
+use Rattle.legs.specs.Growing.{Plants}
 use Rattle.legs.specs.Index.{CanFollowInTurn}
 use Rattle.legs.specs.Legs.{LegView}
 use Rattle.legs.specs.declared.listed.Listed.{Ghosts}
@@ -13,3 +16,15 @@ pub record Holds {I : Type 0} (g : Ghosts I) (old new : I)
     (before after : List LegView) : Type 0 where
   pub may : MayWait g new after
   pub content : g.content new ++ after ≡ g.content old ++ before
+
+-- over a faithful store the tree and the places of an index are what putting these legs in makes of those of an earlier one
+abbrev pub GrowsBy : {I : Type 0} → Ghosts I → I → I → List LegView → Type 0
+GrowsBy g old new legs =
+    g.is_faithful old → (shape : ShapeView) → g.plan old ≡ Some shape
+    → Plants shape (planted g old) (planted g new) legs
+
+-- where they were what the index's own legs make of those of an earlier one, they still are
+abbrev pub GrowsOn : {I : Type 0} → Ghosts I → I → I → Type 0
+GrowsOn {I} g old new =
+    (first : I) → IsLater g first old → GrowsBy g first old (g.content old)
+    → GrowsBy g first new (g.content new)

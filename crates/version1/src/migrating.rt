@@ -1,8 +1,9 @@
 //! A store of version 1 is brought over.
 ghost use Rattle.std.specs.Prelude.{◌≡◌, ◌<◌, ◌≤◌, ◌^◌, [], List, length, None, IsTrue, IfErr, IfOk};
-ghost use Rattle.legs.specs.Asking.{IsLater};
+ghost use Rattle.legs.specs.Asking.{planted, IsLater};
 ghost use Rattle.legs.specs.Book.{Book};
 ghost use Rattle.legs.specs.Costs.{ShapeView};
+ghost use Rattle.legs.specs.Growing.{LacksRoom};
 ghost use Rattle.legs.specs.Legs.{LegView};
 ghost use Rattle.legs.specs.Limits.{LimitsView};
 ghost use Rattle.legs.specs.declared.index.IndexFault.{IndexFault};
@@ -15,7 +16,7 @@ ghost use Rattle.version1.specs.OldLegs.{pages_of_old};
 ghost use Rattle.catalogue.specs.Holding.{AnswersBook, IsUnfinishedStore};
 ghost use Rattle.register.specs.Lasting.{ComesFirst, IsBehindFirst, IsStop, IsTrulyDamaged};
 ghost use Rattle.catalogue.specs.Beginning.{IsLeftOver};
-ghost use Rattle.version1.specs.Migrating.{brought_fault, IsBrought, IsLegFault, IsMigratingFault};
+ghost use Rattle.version1.specs.Migrating.{brought_fault, IsBrought, IsLegFault, IsMigratingFault, IsRightlyFull};
 ghost use Rattle.version1.specs.Naming.{AreWhole, IfDamaged, IsNamedOfChains, IsNamedOfLeaves, NamesOldStop};
 ghost use Rattle.version1.specs.OldStore.{old_first_fault, present_shape, AnswersOld, AnswersOldBook, HoldsOldBook, IsKeptOld, IsOldReadingFault};
 ghost use Rattle.register.specs.Saved.{CatalogueView};
@@ -146,6 +147,11 @@ fn bring_legs<S: PageStore, T: PageStore>(
         tracks.now.tracks) back.1) }
     ensures works { IfErr result (λ back. IsTrue (S.seen old.old).is_faithful → IsSound index
         → content index ≡ [] → IsLegFault back.1) }
+    ensures full { IfErr result (λ back. back.1 ≡ CatalogueFault.StoreFull
+        → IsTrue (S.seen old.old).is_faithful → IsSound index → content index ≡ []
+        → (legs : List LegView) × HoldChains (pages_of_old (S.seen old.old)) leaf
+        tracks.now.rows tracks.now.legs places.now tracks.now.tracks legs
+        × LacksRoom index.tree.shape (planted words index) (T.seen back.0).count legs) }
     ensures behind { IfErr result (λ back. IsBehindFirst back.1) }
     ensures stays { Stays (S.seen old.old) (S.seen old.new) }
     ensures caused { IfErr result (λ back. IsMigratingFault (S.seen old.old) (S.seen old.new)
@@ -230,6 +236,11 @@ pub fn migrate<S: PageStore, T: PageStore>(
         → ((c : CatalogueView) (tree : TbTree) (places : List Place)
         → IsKeptOld (stored_payload (S.seen old.old)) (S.seen old.old).count c tree places → ⊥)
         → NamesOldStop (stored_payload (S.seen old.old)) (S.seen old.old).count back.1) }
+
+    // The new store is said to be full only where it has no room for the legs.
+    ensures full { IfErr result (λ back. back.1 ≡ CatalogueFault.StoreFull
+        → IsTrue (S.seen old.old).is_faithful → IsTrue (T.seen new).is_faithful
+        → IsRightlyFull (S.seen old.old) (T.seen new) (T.seen back.0)) }
 
     // Page 0 of the new store says that it is not finished, and that of the other comes first.
     ensures marked { IfOk result (λ r. IsTrue (S.seen old.old).is_faithful

@@ -1,6 +1,6 @@
 //! The legs of a lent store of version 1.
 ghost use Rattle.std.specs.Prelude.{ℕ, ◌≡◌, ◌≢◌, ◌+◌, ◌-◌, ◌<◌, ◌^◌, List, length, Some, [], ◌⊎◌, None, IsErrOf, IfOk, IfErr, IsTrue, OnOk};
-ghost use Rattle.legs.specs.Asking.{IsLater};
+ghost use Rattle.legs.specs.Asking.{IsLater, LacksPages};
 ghost use Rattle.legs.specs.Index.{HasRisen, MayRefuseLeg};
 ghost use Rattle.legs.specs.Legs.{LegView};
 ghost use Rattle.legs.specs.declared.index.IndexFault.{IndexFault};
@@ -317,6 +317,10 @@ pub fn take_old_legs<S: PageStore, I: LegIndex>(
         → Faulted (S.seen old.old) (S.seen old.new)
         ⊎ HasRisen (I.faults index.old) (I.faults index.new) }
     ensures full { IsErrOf result IndexFault.StoreFull → I.is_store_full index.new }
+    ensures lacks { IsErrOf result IndexFault.StoreFull → IsTrue (S.seen old.old).is_faithful
+        → I.is_sound index.old → I.content index.old ≡ [] → (legs : List LegView)
+        × HoldChains (pages_of_old (S.seen old.old)) most rows tracks.now.legs places.now
+        tracks.now.tracks legs × LacksPages I.Listed index.old index.new legs }
 {
     treecheck::laws();
     let survey = match survey_leaves(alloc, old, most, places, tracks, rows) {
@@ -364,6 +368,10 @@ fn bring<S: PageStore, I: LegIndex>(
         → Faulted (S.seen old.old) (S.seen old.new)
         ⊎ HasRisen (I.faults index.old) (I.faults index.new) }
     ensures full { IsErrOf result IndexFault.StoreFull → I.is_store_full index.new }
+    ensures lacks { IsErrOf result IndexFault.StoreFull → IsTrue (S.seen old.old).is_faithful
+        → I.is_sound index.old → I.content index.old ≡ [] → (list : List LegView)
+        → HaveLegsOf (pages_by old_node_of (fresh (S.seen old.old) 1)) leaves.now list
+        → IsNumbered legs list → LacksPages I.Listed index.old index.new list }
     ensures later { IsLater I.Listed index.old index.new }
 {
     let mut opened = HashMap::with_hasher(alloc, keys);

@@ -1,4 +1,4 @@
-use Rattle.std.proofs.Common.{◌≡◌, ◌∙◌, ◌<◌, List, length, sym, ap, subst}
+use Rattle.std.proofs.Common.{inl, inr, ◌≡◌, ◌∙◌, ◌<◌, List, length, sym, ap, subst}
 use Rattle.legs.specs.Costs.{ShapeView}
 use Rattle.pagecache.specs.Cache.{stored_payload}
 use Rattle.treecheck.specs.Check.{HoldChains}
@@ -14,7 +14,7 @@ use Rattle.tbtree.specs.declared.tree.TbTree.{TbTree}
 use Rattle.version1.specs.Naming.{IsNamedOfChains}
 use Rattle.version1.proofs.NamedLemmas.{chains_of, kept_agrees, kept_few, named_as, named_of, stop_named}
 use Rattle.version1.proofs.OldBookLemmas.{old_kept_same}
-use Rattle.version1.proofs.MigrateLemmas.{allowed_stop, book_agrees, book_brought, book_chains, caused_beginning, chains_as, left_later, leg_stop, old_pages_stay, same_shape}
+use Rattle.version1.proofs.MigrateLemmas.{allowed_stop, book_agrees, book_brought, book_chains, caused_beginning, chains_as, full_beginning, left_later, leg_stop, old_pages_stay, same_shape}
 use Rattle.version1.proofs.migrating.migrate.Goals as goal
 
 pub returns-in-Err-clause-holds : goal.returns-in-Err-clause-holds
@@ -145,3 +145,34 @@ pub returns-in-Err-bring_legs-clause-named : goal.returns-in-Err-bring_legs-clau
 returns-in-Err-bring_legs-clause-named g c = λ fa fb none.
     let answers = c.in-Ok.ensures.kept fa fb in
     absurd (none c.in-Ok.read.0.catalogue answers.tree c.in-Ok.read.0.places.items answers.kept)
+
+pub returns-in-Err-begin-clause-full : goal.returns-in-Err-begin-clause-full
+returns-in-Err-begin-clause-full g c = λ e fa fb.
+    let new = g.T.PageStore.seen c.args.new in
+    let mid = g.T.PageStore.seen c.in-Ok.read.1 in
+    let left = g.T.PageStore.seen c.in-Err-begin.new in
+    inl (full_beginning new mid left c.in-Err-begin.fault c.in-Ok.ensures.stored c.in-Err-begin.ensures.caused (sym c.fault_of.ensures ∙ e))
+
+pub returns-in-Err-bring_legs-clause-full : goal.returns-in-Err-bring_legs-clause-full
+returns-in-Err-bring_legs-clause-full g c = λ e fa fb.
+    let s = g.S.PageStore.seen c.args.old.now in
+    let mid = g.S.PageStore.seen c.read_beside.new.old in
+    let stays = c.in-Ok.ensures.stays in
+    let read = c.in-Ok.read.0 in
+    let sound = c.in-Ok-begin.ensures.sound (c.in-Ok.ensures.stored.keeps.faithful ∙ fb) in
+    let full = c.in-Err-bring_legs.ensures.full e (stays.keeps.faithful ∙ fa) sound c.in-Ok-begin.ensures.empty in
+    let tracks = read.catalogue.tracks in
+    inr (record {
+      catalogue = read.catalogue;
+      leaf = read.leaf;
+      places = read.places.items;
+      index = c.in-Ok-begin.index;
+      legs = full.0;
+      kept = subst (λ (near : ShapeView). AnswersOld (stored_payload s) s.count read.catalogue read.leaf near read.places.items) (sym c.in-Ok-begin.ensures.shape) (c.in-Ok.ensures.kept fa fb);
+      sound = sound;
+      empty = c.in-Ok-begin.ensures.empty;
+      one = c.in-Ok-begin.ensures.count;
+      held = subst (λ nodes. HoldChains nodes read.leaf tracks.rows tracks.legs read.places.items tracks.tracks full.0) (old_pages_stay s mid fa stays)
+          (chains_as (pages_of_old mid) read.leaf c.catalogue.inside.tracks tracks c.as_slice.result.now read.places.items full.0 (ap (λ (v : CatalogueView). v.tracks) c.catalogue.view_is) c.as_slice.ensures.value full.1);
+      lacks = full.2;
+    })

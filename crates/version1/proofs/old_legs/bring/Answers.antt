@@ -1,7 +1,7 @@
 use Rattle.std.proofs.Common.{length, arith, ◌≡◌, ◌+◌, ◌∙◌, inl, inr, Err, IsErrOf, nat_eq, Some, refl, sym, ap, subst}
 use Rattle.std.proofs.lemmas.List.{append-nil}
 use Rattle.std.proofs.lemmas.Result.{err_from_is_err_and}
-use Rattle.legs.specs.declared.index.IndexFault.TheVariants.{Store}
+use Rattle.legs.specs.declared.index.IndexFault.TheVariants.{Store, StoreFull}
 use Rattle.std.specs.Map.{lookup}
 use Rattle.std.specs.Option.{IsSome}
 use Rattle.pagecache.specs.Cache.{fresh}
@@ -11,7 +11,7 @@ use Rattle.version1.specs.OldLegs.{AreOpened, AreReadable, HaveLegsOf}
 use Rattle.treecheck.specs.Walking.{pages_by}
 use Rattle.version1.proofs.OldLemmas.{reads_stays}
 use Rattle.version1.proofs.OpenedLemmas.{allowed_leg, damaged_works, next_opened, not_none, opened_none, opened_taken, works_leg}
-use Rattle.version1.proofs.TakingLemmas.{same_err, on_err, on_ok, all_taken, brought_none, brought_on, next_waits, later_refl, later_trans, risen_after, stays_refl, stays_trans, stand_taken, store_failed}
+use Rattle.version1.proofs.TakingLemmas.{same_err, on_err, on_ok, all_taken, brought_none, brought_on, last_lacks, next_lacks, next_waits, later_refl, later_trans, risen_after, stays_refl, stays_trans, stand_taken, store_failed}
 use Rattle.treecheck.proofs.WalkedLemmas.{same_by}
 use Rattle.version1.proofs.old_legs.bring.Goals as goal
 
@@ -40,7 +40,7 @@ legs-preserved g c =
           let stand = c.in-Ok.ensures.opened (inv.stays.keeps.faithful ∙ fa) list b.stand (subst (λ nodes. HaveLegsOf nodes c.args.leaves.now list) (sym same) have) in
           let at : lookup (nat_eq n) c.open_next.new.opened.entries ≡ Some c.in-Some.leg = sym c.remove.ensures.value ∙ c.in-Some.is in
           brought_on g.I.Listed c.args.index.now c.legs.index c.legs.opened.entries c.open_next.new.opened.entries c.legs.waiting.items n c.args.legs list b numbered stand c.in-Some.leg at c.put_behind.new.index c.remove.new.self.entries c.put_behind.new.waiting.items (n + 1) refl
-          (stand_taken list c.open_next.new.opened.entries c.remove.new.self.entries (nat_eq n) stand c.remove.ensures.updates.0) c.in_ok-put_behind.ensures.holds c.in_ok-put_behind.ensures.marked;
+          (stand_taken list c.open_next.new.opened.entries c.remove.new.self.entries (nat_eq n) stand c.remove.ensures.updates.0) c.in_ok-put_behind.ensures.holds c.in_ok-put_behind.ensures.marked inv.later c.in_ok-put_behind.ensures.grown;
       opened = λ fa rises.
           let nodes = pages_by old_node_of (fresh first 1) in
           let same = same_by old_node_of (fresh first 1) (fresh now 1) (reads_stays first now inv.stays) fa in
@@ -182,3 +182,22 @@ returns-in_err-put_behind-clause-works g c =
     let stand = c.in-Ok.ensures.opened (inv.stays.keeps.faithful ∙ fa) list b.stand (subst (λ nodes. HaveLegsOf nodes c.args.leaves.now list) (sym same) have) in
     let at : lookup (nat_eq n) c.open_next.new.opened.entries ≡ Some c.in-Some.leg = sym c.remove.ensures.value ∙ c.in-Some.is in
     λ e. subst MayRefuseLeg e (c.in_err-put_behind.ensures.only (next_waits g.I.Listed c.args.index.now c.legs.index c.legs.opened.entries c.open_next.new.opened.entries c.legs.waiting.items n c.args.legs list b numbered stand c.in-Some.leg at)))
+
+pub returns-clause-lacks : goal.returns-clause-lacks
+returns-clause-lacks g c = λ e fa sound empty list have numbered.
+    let inv = c.legs.invariant in
+    last_lacks g.I.Listed c.args.index.now c.legs.index c.put_waiting.new.index c.legs.opened.entries c.legs.waiting.items c.legs.ordinal-counter list (inv.brought fa sound empty list have numbered) inv.later (c.put_waiting.ensures.lacks e)
+
+pub returns-in_err-put_behind-clause-lacks : goal.returns-in_err-put_behind-clause-lacks
+returns-in_err-put_behind-clause-lacks g c = λ e fa sound empty list have numbered.
+    let p = err_from_is_err_and c.from_residual.result c.from_residual.ensures.1 in
+    let first = g.S.PageStore.seen c.args.old.now in
+    let now = g.S.PageStore.seen c.legs.old in
+    let inv = c.legs.invariant in
+    let n = c.legs.ordinal-counter in
+    let b = inv.brought fa sound empty list have numbered in
+    let same = same_by old_node_of (fresh first 1) (fresh now 1) (reads_stays first now inv.stays) fa in
+    let stand = c.in-Ok.ensures.opened (inv.stays.keeps.faithful ∙ fa) list b.stand (subst (λ nodes. HaveLegsOf nodes c.args.leaves.now list) (sym same) have) in
+    let at : lookup (nat_eq n) c.open_next.new.opened.entries ≡ Some c.in-Some.leg = sym c.remove.ensures.value ∙ c.in-Some.is in
+    next_lacks g.I.Listed c.args.index.now c.legs.index c.legs.opened.entries c.open_next.new.opened.entries c.legs.waiting.items n c.args.legs list b numbered stand c.in-Some.leg at c.put_behind.new.index inv.later
+    (c.put_behind.ensures.lacks (subst (λ r. IsErrOf r StoreFull) (p.1 ∙ ap (λ x. Err x) p.2 ∙ sym c.in_err-put_behind.was) e))

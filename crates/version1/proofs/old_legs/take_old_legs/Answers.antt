@@ -71,6 +71,29 @@ returns-clause-marked g c = λ fa sound empty marked.
     let total_is = subst (λ n. IsNumbered n list) (sym c.leg_count.ensures) numbered in
     c.bring.ensures.marked (reads.store.faithful ∙ fa) sound empty marked list there total_is
 
+pub returns-clause-lacks : goal.returns-clause-lacks
+returns-clause-lacks g c = λ e fa sound empty.
+    let first = g.S.PageStore.seen c.args.old.now in
+    let mid = g.S.PageStore.seen c.survey_leaves.new.store in
+    let reads = c.survey_leaves.ensures.reads.only in
+    let total = c.args.tracks.now.legs in
+    let places = c.args.places.now in
+    let tracks = c.args.tracks.now.tracks in
+    let nodes = pages_by old_node_of (fresh first 1) in
+    let leaves = c.in-Ok.survey.leaves.items in
+    let s = c.in-Ok.ensures.surveyed fa in
+    let list = sort_by_ordinal (legs_on nodes (joined s.chains)) in
+    let n = c.laws.ensures.numbered (legs_on nodes (joined s.chains)) total s.once in
+    let held : HoldChains nodes c.args.most c.args.rows total places tracks list = held_list nodes c.args.most c.args.rows total places tracks leaves s n in
+    let numbered : IsNumbered total list = record { in_turn = c.laws.ensures.chained nodes c.args.most c.args.rows total places tracks list c.requires held; numbers = n.1 } in
+    let have : HaveLegsOf nodes leaves list = legs_are nodes c.args.most c.args.rows total places tracks leaves s n in
+    let there = subst (λ nodes. HaveLegsOf nodes c.as_slice.result.now list) (sym (same_by old_node_of (fresh first 1) (fresh mid 1) reads fa)) (subst (λ ms. HaveLegsOf nodes ms list) (sym c.as_slice.ensures.value) have) in
+    let total_is = subst (λ n. IsNumbered n list) (sym c.leg_count.ensures) numbered in (
+      list,
+      subst (λ nodes. HoldChains nodes c.args.most c.args.rows total places tracks list) (same_old first (g.met.S.PageStore.lawful c.args.old.now) fa) held,
+      c.bring.ensures.lacks e (reads.store.faithful ∙ fa) sound empty list there total_is,
+    )
+
 pub returns-in-Err-clause-only : goal.returns-in-Err-clause-only
 returns-in-Err-clause-only g c = λ fa sound empty agrees legs held.
     let first = g.S.PageStore.seen c.args.old.now in
