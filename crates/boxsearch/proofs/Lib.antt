@@ -36,4 +36,5 @@ pub mod EndLemmas
 pub mod LedLemmas
 pub mod EndedLemmas
 pub mod TurnLasts
+pub mod AskedLemmas
 pub mod ChainCosts

@@ -1,5 +1,5 @@
 -- An index whose page 0 is marked.
-use Rattle.std.proofs.Common.{suc, slice_get, Bool, ℕ, ◌≡◌, ◌≢◌, ◌<◌, ◌≤◌, ⊎_elim, refl, sym, ap, ◌∙◌, arith, subst, true, false, cond, drop, length, List, [], All, IsTrue, Option, Some, None, option_map, Result, ◌+◌}
+use Rattle.std.proofs.Common.{Bool, ℕ, ◌≡◌, ◌≢◌, ◌<◌, ◌≤◌, ⊎_elim, refl, sym, ap, ◌∙◌, arith, subst, true, false, cond, drop, length, List, [], All, IsTrue, Option, Some, None, option_map, Result, ◌+◌}
 use Rattle.std.specs.Prelude.{IfErr, OnOk, OnErr}
 use Rattle.std.proofs.lemmas.Bool.{cases_lt, true≢false}
 use Rattle.std.proofs.lemmas.Int.{clamps}
@@ -22,7 +22,6 @@ use Rattle.boxsearch.specs.Answers.{answered, of_cache}
 use Rattle.boxsearch.specs.Index.{IndexView, words, content, found_by, is_unreadable, legs_by, written, IsSound, IsMarked}
 use Rattle.boxsearch.specs.Marking.{Marks, IsNotMarked}
 use Rattle.pages.specs.declared.payload.Payload.{Payload}
-use Rattle.std.specs.List.{Contains}
 use Rattle.tbtree.proofs.Still.{still}
 use Rattle.boxsearch.proofs.BesideTells.{denies_beside, tells_beside}
 use Rattle.boxsearch.proofs.StillLemmas.{ways_still}
