@@ -70,6 +70,7 @@ of_each_cache P none store damaged full memory (cache.Damaged n) = damaged n
 of_each_cache P none store damaged full memory cache.StoreFull = full
 of_each_cache P none store damaged full memory cache.Memory = memory
 
+-- and so of the faults of a tree
 of_each_tree : (P : TreeFault → Type 0) → ((fault : CacheFault) → P (tree.Cache fault)) → ((n : ℕ) → P (tree.Malformed n)) → P tree.Spent → (fault : TreeFault) → P fault
 of_each_tree P in_cache malformed spent (tree.Cache fault) = in_cache fault
 of_each_tree P in_cache malformed spent (tree.Malformed n) = malformed n

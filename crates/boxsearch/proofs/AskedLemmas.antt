@@ -94,8 +94,8 @@ module _ {seen now : IndexView} (view : seen ≡ now) (f : ℕ) {o : Option Plac
     asked_known new v reads lasts =
         known_after items seen.cache seen.tree.shape seen.places seen.known room f place known widens asked_place new v reads (λ g other spans fa h. lasts seen.cache new seen.tree.shape g other spans reads fa h)
 
--- what the index knew, it knows
-pub asked_recalls : {seen now : IndexView} → seen ≡ now → (known : List (List LeafSpan)) (new : Cache)
+-- what was known of the index that is seen is known of the one that it is
+asked_recalls : {seen now : IndexView} → seen ≡ now → (known : List (List LeafSpan)) (new : Cache)
     → ((g : ℕ) (start : ℤ) → KnowsBackTo seen.cache seen.tree.shape seen.places seen.known g start → KnowsBackTo new seen.tree.shape seen.places known g start)
     → (g : ℕ) (start : ℤ) → KnowsBackTo now.cache now.tree.shape now.places now.known g start → KnowsBackTo new seen.tree.shape seen.places known g start
 asked_recalls {seen = seen} view known new h =
@@ -107,6 +107,7 @@ pub room_recalls : {seen now : IndexView} → seen ≡ now → (room : List (Lis
 room_recalls {seen = seen} view room holds = asked_recalls view room seen.cache (λ g start h fa place at. let k = h fa place at in (k.0, holds g k.0 k.1, k.2))
 
 module _ {V : Type 0} (items : V → List LeafSpan) {seen now : IndexView} (view : seen ≡ now) (f : ℕ) (new : Cache) (room : List V) (reads : OnlyReads seen.cache new) (holds : Holds seen.known (map items room)) (l : f < length room) {was : V} (v : V) (there : was ≡ get_or room f was) where
+  -- what the index knew of each feature it knows after a walk for one
   pub walk_recalls : IsFront (items was) (items v) → (g : ℕ) (start : ℤ) → KnowsBackTo now.cache now.tree.shape now.places now.known g start → KnowsBackTo new seen.tree.shape seen.places (map items (set room f v)) g start
   walk_recalls front = asked_recalls view (map items (set room f v)) new (recalled items seen.cache new seen.tree.shape seen.places seen.known room f reads holds l was v there front)
 

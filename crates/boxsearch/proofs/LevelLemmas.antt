@@ -16,6 +16,7 @@ use Rattle.boxsearch.proofs.WayLemmas.{one_more}
 pub level_reads : {T : Type 0} (old now new : Cache) (r : Result T TreeFault) (fault : TreeFault) → ((y : TreeFault) × (r ≡ Err y) × (y ≡ fault)) → OnlyReads old now → OnlyReads now new → RefusesRead now new fault → Reads old new r
 level_reads old now new r fault p so_far reads caused = record { only = reads_trans old now new so_far reads; caused = rw (p.1, p.2) (caused_after old now new fault so_far caused) }
 
+-- the place of the next page
 next_is : (i : ℕ) → i + 1 ≡ suc i
 next_is i = omega arith
 

@@ -47,10 +47,11 @@ join_all-requires-clause-within g c =
     let legs = c.args.legs.now in
     subst (λ (ts : List Turn). All (λ (t : Turn). t.place < length legs) ts) (sym c.as_slice-2.ensures.value) (turns_within _ _ _ legs c.in-Ok.turns.items c.in-Ok.ensures.permutation)
 
--- the laws of a tree and of orders
+-- the laws of a tree
 the_laws : (g : given.Over) → goal.After-drop-turns g → Laws
 the_laws g c = record { content = c.laws.ensures.content; lawful = c.laws.ensures.lawful; height = c.laws.ensures.height; fits = c.laws.ensures.fits; absent = c.laws.ensures.absent }
 
+-- the laws of orders
 the_orders : (g : given.Over) → goal.After-drop-turns g → AllLaws
 the_orders g c = record { taken = c.order_laws.ensures.taken; reordered = c.order_laws.ensures.reordered }
 
@@ -66,6 +67,7 @@ the_numbers g c =
     subst (λ (i : IndexView). AreNumbered i.places i.tree.shape.leaf legs c.as_slice-2.result.now) c.self.view_is
     (subst (λ ps. AreNumbered ps c.self.inside.tree.shape.leaf legs c.as_slice-2.result.now) c.as_slice.ensures.value (subst (λ n. AreNumbered c.as_slice.result.now n legs c.as_slice-2.result.now) e (subst (λ ts. AreNumbered c.as_slice.result.now c.from-most.result legs ts) (sym c.as_slice-2.ensures.value) plain)))
 
+-- and so they are turns of the index
 the_turns : (g : given.Over) (c : goal.After-drop-turns g) → AreTurns c.args.self.now.places c.args.self.now.tree.shape.leaf c.args.legs.now c.as_slice-2.result.now
 the_turns g c = are_turns c.args.self.now.places c.args.self.now.tree.shape.leaf c.args.legs.now c.as_slice-2.result.now (the_numbers g c)
 
