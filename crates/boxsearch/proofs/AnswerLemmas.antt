@@ -62,17 +62,25 @@ SaidOfLeg old new (index.Damaged n) = Unit {0}
 SaidOfLeg old new index.StoreFull = new.count ≡ new.store.most
 SaidOfLeg old new index.Spent = ⊥
 
+-- what holds of each kind of fault holds of a fault
+pub of_each_cache : (P : CacheFault → Type 0) → P cache.NoPage → P cache.Store → ((n : ℕ) → P (cache.Damaged n)) → P cache.StoreFull → P cache.Memory → (fault : CacheFault) → P fault
+of_each_cache P none store damaged full memory cache.NoPage = none
+of_each_cache P none store damaged full memory cache.Store = store
+of_each_cache P none store damaged full memory (cache.Damaged n) = damaged n
+of_each_cache P none store damaged full memory cache.StoreFull = full
+of_each_cache P none store damaged full memory cache.Memory = memory
+
+-- and so of the faults of a tree
+of_each_tree : (P : TreeFault → Type 0) → ((fault : CacheFault) → P (tree.Cache fault)) → ((n : ℕ) → P (tree.Malformed n)) → P tree.Spent → (fault : TreeFault) → P fault
+of_each_tree P in_cache malformed spent (tree.Cache fault) = in_cache fault
+of_each_tree P in_cache malformed spent (tree.Malformed n) = malformed n
+of_each_tree P in_cache malformed spent tree.Spent = spent
+
 read_cache_said : (old new : Cache) (fault : CacheFault) → RefusesReadInCache old new fault → Said old new (of_cache fault)
-read_cache_said old new cache.NoPage h = tt
-read_cache_said old new cache.Store h = h
-read_cache_said old new (cache.Damaged n) h = tt
-read_cache_said old new cache.StoreFull h = h
-read_cache_said old new cache.Memory h = tt
+read_cache_said old new = of_each_cache (λ fault. RefusesReadInCache old new fault → Said old new (of_cache fault)) (λ h. tt) (λ h. h) (λ n h. tt) (λ h. h) (λ h. tt)
 
 pub read_said : (old new : Cache) (fault : TreeFault) → RefusesRead old new fault → Said old new (of_tree fault)
-read_said old new (tree.Cache fault) h = read_cache_said old new fault h
-read_said old new (tree.Malformed n) h = tt
-read_said old new tree.Spent h = tt
+read_said old new = of_each_tree (λ fault. RefusesRead old new fault → Said old new (of_tree fault)) (read_cache_said old new) (λ n h. tt) (λ h. tt)
 
 -- of a tree that may be spent
 pub search_said : {A : Type 0} (spent : Bool) (old new : Cache) (r : Result A TreeFault) → (spent ≡ true → (r ≡ Err tree.Spent) × (new ≡ old)) → (spent ≡ false → IfErr r (RefusesRead old new))
@@ -81,41 +89,23 @@ search_said true old new r refused caused = subst (λ r. IfErr (answered (λ fau
 search_said false old new r refused caused = each_fault (λ fault. of_tree fault) (RefusesRead old new) (Said old new) (read_said old new) r (caused refl)
 
 write_cache_said : (old new : Cache) (fault : CacheFault) → RefusesWriteInCache old new fault → SaidOfLeg old new (of_cache fault)
-write_cache_said old new cache.NoPage h = tt
-write_cache_said old new cache.Store h = h
-write_cache_said old new (cache.Damaged n) h = tt
-write_cache_said old new cache.StoreFull h = h
-write_cache_said old new cache.Memory h = tt
+write_cache_said old new = of_each_cache (λ fault. RefusesWriteInCache old new fault → SaidOfLeg old new (of_cache fault)) (λ h. tt) (λ h. h) (λ n h. tt) (λ h. h) (λ h. tt)
 
 pub write_said : (old new : Cache) (fault : TreeFault) → RefusesWrite old new fault → SaidOfLeg old new (of_tree fault)
-write_said old new (tree.Cache fault) h = write_cache_said old new fault h
-write_said old new (tree.Malformed n) h = tt
-write_said old new tree.Spent h = absurd h
+write_said old new = of_each_tree (λ fault. RefusesWrite old new fault → SaidOfLeg old new (of_tree fault)) (write_cache_said old new) (λ n h. tt) (λ h. absurd h)
 
 -- what good pages allow, a sound index may answer
 read_cache_allowed : (fault : CacheFault) → MayRefuseReadInCache fault → MayRefuse (of_cache fault)
-read_cache_allowed cache.NoPage h = h
-read_cache_allowed cache.Store h = tt
-read_cache_allowed (cache.Damaged n) h = h
-read_cache_allowed cache.StoreFull h = h
-read_cache_allowed cache.Memory h = tt
+read_cache_allowed = of_each_cache (λ fault. MayRefuseReadInCache fault → MayRefuse (of_cache fault)) (λ h. h) (λ h. tt) (λ n h. h) (λ h. h) (λ h. tt)
 
 pub read_allowed : (fault : TreeFault) → MayRefuseRead fault → MayRefuse (of_tree fault)
-read_allowed (tree.Cache fault) h = read_cache_allowed fault h
-read_allowed (tree.Malformed n) h = h
-read_allowed tree.Spent h = h
+read_allowed = of_each_tree (λ fault. MayRefuseRead fault → MayRefuse (of_tree fault)) read_cache_allowed (λ n h. h) (λ h. h)
 
 write_cache_allowed : (fault : CacheFault) → MayRefuseWriteInCache fault → MayRefuseLeg (of_cache fault)
-write_cache_allowed cache.NoPage h = h
-write_cache_allowed cache.Store h = tt
-write_cache_allowed (cache.Damaged n) h = h
-write_cache_allowed cache.StoreFull h = tt
-write_cache_allowed cache.Memory h = tt
+write_cache_allowed = of_each_cache (λ fault. MayRefuseWriteInCache fault → MayRefuseLeg (of_cache fault)) (λ h. h) (λ h. tt) (λ n h. h) (λ h. tt) (λ h. tt)
 
 pub write_allowed : (fault : TreeFault) → MayRefuseWrite fault → MayRefuseLeg (of_tree fault)
-write_allowed (tree.Cache fault) h = write_cache_allowed fault h
-write_allowed (tree.Malformed n) h = h
-write_allowed tree.Spent h = h
+write_allowed = of_each_tree (λ fault. MayRefuseWrite fault → MayRefuseLeg (of_tree fault)) write_cache_allowed (λ n h. h) (λ h. h)
 
 -- what is so of a store that a refused insertion says is full is so of the one that the answer says is
 abbrev pub OfFull : Type 0 → IndexFault → Type 0
@@ -126,16 +116,10 @@ OfFull P index.StoreFull = P
 OfFull P index.Spent = Unit {0}
 
 full_cache_said : (P : Type 0) (fault : CacheFault) → FillsInCache P fault → OfFull P (of_cache fault)
-full_cache_said P cache.NoPage h = tt
-full_cache_said P cache.Store h = tt
-full_cache_said P (cache.Damaged n) h = tt
-full_cache_said P cache.StoreFull h = h
-full_cache_said P cache.Memory h = tt
+full_cache_said P = of_each_cache (λ fault. FillsInCache P fault → OfFull P (of_cache fault)) (λ h. tt) (λ h. tt) (λ n h. tt) (λ h. h) (λ h. tt)
 
 pub full_said : (P : Type 0) (fault : TreeFault) → IfFull P fault → OfFull P (of_tree fault)
-full_said P (tree.Cache fault) h = full_cache_said P fault h
-full_said P (tree.Malformed n) h = tt
-full_said P tree.Spent h = tt
+full_said P = of_each_tree (λ fault. IfFull P fault → OfFull P (of_tree fault)) (full_cache_said P) (λ n h. tt) (λ h. tt)
 
 -- what is so of the page that a refused insertion names is so of the one that the answer names
 pub named_said : (old new : Cache) (H : Type 0) (F : ℕ → Type 0) (r : Result (Unit {0}) TreeFault) → IfErr r (RefusesWrite old new) → (H → IfErr r (IfNamed F))

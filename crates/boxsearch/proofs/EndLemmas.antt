@@ -41,7 +41,7 @@ use Rattle.boxsearch.proofs.AddLemmas.{made}
 use Rattle.boxsearch.proofs.AnswerLemmas.{each_fault, full_said, the_fault, OfFull}
 use Rattle.boxsearch.proofs.TrackGrowth.{all_of_one, denied_alike, made_was, none_of_other, own_track, told_alike}
 use Rattle.chains.proofs.ChainGrowth.{others_alike, AreAlike}
-use Rattle.boxsearch.proofs.MadeLemmas.{features_one, for_alike, many_with, placed_in, rising_held}
+use Rattle.boxsearch.proofs.MadeLemmas.{by_place, features_one, for_alike, found_places, many_with, placed_in, rising_held}
 use Rattle.boxsearch.proofs.PlaceLemmas.{get-set_same, get-set_other, got_within, some_same, place_made, place_there, push_last, push_other}
 
 -- the last of some legs is among those of the last leaf
@@ -90,12 +90,7 @@ made_legs places feature was =
 
 -- the places as numbers
 pub placed_is : (i : IndexView) (f : ℕ) → placed_legs (found_by i) f ≡ legs_in_place (slice_get i.places f)
-placed_is i f = at i.places f
-  where
-    at : (places : List Place) (f : ℕ) → placed_legs (record { root = i.tree.root; levels = i.tree.levels; leaves = i.tree.leaves; legs = i.legs; pages = i.cache.count; places = map place_of places }) f ≡ legs_in_place (slice_get places f)
-    at [] f = refl
-    at (p ∷ ps) zero = refl
-    at (p ∷ ps) (suc f) = at ps f
+placed_is i f = by_place (λ places g. placed_legs (found_places i places) g) (λ places g. legs_in_place (slice_get places g)) (λ g. refl) (λ p ps. refl) (λ p ps g. refl) (λ p ps g. refl) i.places f
 
 same_place : (xs ys : List Place) (f : ℕ) (place : FeaturePlace) → slice_get ys f ≡ slice_get xs f → slice_get (map place_of xs) f ≡ Some place → slice_get (map place_of ys) f ≡ Some place
 same_place xs ys f place e h = slice_get-map place_of ys f ∙ ap (λ (o : Option Place). elim o as (λ _. Option FeaturePlace) [ Some q ↦ Some (place_of q) | None ↦ None ]) e ∙ sym (slice_get-map place_of xs f) ∙ h

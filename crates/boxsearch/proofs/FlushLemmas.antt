@@ -9,14 +9,13 @@ use Rattle.legs.specs.declared.index.IndexFault.{IndexFault}
 use Rattle.legs.specs.declared.index.IndexFault.TheVariants as index
 use Rattle.pagecache.specs.Cache.{payload_of, Cache, IsClean, IsSettled, IsStopped, SameLength, KeepsPayloads, UnsyncsNone}
 use Rattle.pagecache.specs.declared.fault.CacheFault.{CacheFault}
-use Rattle.pagecache.specs.declared.fault.CacheFault.TheVariants as cache
 use Rattle.chains.specs.Reads.{OnlyReads}
 use Rattle.boxsearch.specs.Answers.{answered, of_cache}
 use Rattle.chains.specs.declared.spans.LeafSpan.{LeafSpan}
 use Rattle.boxsearch.specs.Beside.{with_cache}
 use Rattle.boxsearch.specs.Index.{content, IndexView, words, IsMarked, IsSound}
 use Rattle.header.specs.Front.{SaysState}
-use Rattle.boxsearch.proofs.AnswerLemmas.{each_fault, the_fault, Said}
+use Rattle.boxsearch.proofs.AnswerLemmas.{each_fault, of_each_cache, the_fault, Said}
 
 -- no page has another payload
 pub flush_reads : (old new : Cache) → KeepsPayloads old new → UnsyncsNone old new → SameLength old new → new.asked ≡ old.asked → OnlyReads old new
@@ -34,25 +33,13 @@ flush_reads old new s u l a = record {
 }
 
 stopped_said : (a b : Cache) (fault : CacheFault) → IsStopped fault a b → Said a b (of_cache fault)
-stopped_said a b cache.NoPage h = tt
-stopped_said a b cache.Store h = h
-stopped_said a b (cache.Damaged n) h = tt
-stopped_said a b cache.StoreFull h = h
-stopped_said a b cache.Memory h = tt
+stopped_said a b = of_each_cache (λ fault. IsStopped fault a b → Said a b (of_cache fault)) (λ h. tt) (λ h. h) (λ n h. tt) (λ h. h) (λ h. tt)
 
 stopped_may : (old : IndexView) (c : Cache) (fault : CacheFault) → IsStopped fault old.cache c → MayRefuse (of_cache fault)
-stopped_may old c cache.NoPage h = h
-stopped_may old c cache.Store h = tt
-stopped_may old c (cache.Damaged n) h = h
-stopped_may old c cache.StoreFull h = h
-stopped_may old c cache.Memory h = tt
+stopped_may old c = of_each_cache (λ fault. IsStopped fault old.cache c → MayRefuse (of_cache fault)) (λ h. h) (λ h. tt) (λ n h. h) (λ h. h) (λ h. tt)
 
 stopped_allowed : (old : IndexView) (c : Cache) (fault : CacheFault) → IsStopped fault old.cache c → IsSound old → MayRefuse (of_cache fault)
-stopped_allowed old c cache.NoPage h s = h
-stopped_allowed old c cache.Store h s = tt
-stopped_allowed old c (cache.Damaged n) h s = h
-stopped_allowed old c cache.StoreFull h s = h
-stopped_allowed old c cache.Memory h s = tt
+stopped_allowed old c fault h s = stopped_may old c fault h
 
 pub flush_refusals : (old : IndexView) (c : Cache) (known : List (List LeafSpan)) (r : Result (Unit {0}) CacheFault) → old.tree.spent ≡ false → IfErr r (λ fault. IsStopped fault old.cache c) → Refusals words old (with_cache old c known) (answered (λ fault. of_cache fault) r)
 flush_refusals old c known r works caused =

@@ -1,7 +1,5 @@
 -- What an index knows of its features' leaves.
-use Rattle.std.proofs.Common.{ℕ, zero, suc, ◌≡◌, ◌<◌, ◌⊎◌, inl, inr, ⊎_elim, false, List, [], ◌∷◌, ◌++◌, length, map, get_or, set, refl, sym, ap, ◌∙◌, arith, subst, Some, slice_get, Result, Ok, Err, is_err, IsTrue}
-use Rattle.std.specs.Prelude.{OnOk}
-use Rattle.std.proofs.lemmas.Bool.{true≢false}
+use Rattle.std.proofs.Common.{ℕ, zero, suc, ◌≡◌, ◌<◌, ◌⊎◌, inl, inr, ⊎_elim, List, [], ◌∷◌, ◌++◌, length, map, get_or, set, refl, sym, ap, ◌∙◌, arith, subst, Some, slice_get, IsTrue}
 use Rattle.legs.specs.Costs.{ShapeView}
 use Rattle.pagecache.specs.Cache.{Cache}
 use Rattle.tbtree.specs.Nodes.{pages_of_cache}
@@ -26,11 +24,6 @@ pub widens_more : (old mid new : List (List LeafSpan)) → Widens old mid → ne
 widens_more old mid new w e = λ f spans h.
     ⊎_elim (λ k. w f spans k) (λ n. inr n) (push_has mid f spans (ap (λ l. slice_get l f) (sym e) ∙ h))
 
--- what holds of an answer holds where it is no fault
-pub of_answer : {A E : Type 0} (r : Result A E) (P : Type 0) → is_err r ≡ false → OnOk r P → P
-of_answer (Ok a) P e h = h
-of_answer (Err x) P e h = absurd (true≢false e)
-
 module _ {V : Type 0} (items : V → List LeafSpan) where
   map_get : (xs : List V) (i : ℕ) (d : V) → i < length xs → slice_get (map items xs) i ≡ Some (items (get_or xs i d))
   map_get [] i d l = absurd (omega (arith, l))
@@ -45,19 +38,19 @@ module _ {V : Type 0} (items : V → List LeafSpan) where
   set_has (x ∷ xs) (suc i) zero v spans e = inr e
   set_has (x ∷ xs) (suc i) (suc j) v spans e = ⊎_elim (λ h. inl (ap suc h.0, h.1)) (λ h. inr h) (set_has xs i j v spans e)
 
-  module _ (old new : Cache) (shape : ShapeView) (places : List Place) (before room : List V) (f : ℕ) (place : Place) (h : AreKnown old shape places (map items before)) (w : Widens (map items before) (map items room)) (at : slice_get places f ≡ Some place) where
+  module _ (old : Cache) (shape : ShapeView) (places : List Place) (known : List (List LeafSpan)) (room : List V) (f : ℕ) (place : Place) (h : AreKnown old shape places known) (w : Widens known (map items room)) (at : slice_get places f ≡ Some place) where
     -- what is known of each feature, once there is room
     known_room : AreKnown old shape places (map items room)
     known_room = λ fa g place spans p s. ⊎_elim (λ k. h fa g place spans p k) (λ n. subst (IsKnown (pages_of_cache old) shape g place) (sym n) tt) (w g spans s)
 
     -- of the feature that is asked about
-    pub known_of : (d : V) → f < length room → IsTrue old.store.is_faithful → IsKnown (pages_of_cache old) shape f place (items (get_or room f d))
-    known_of d l fa = known_room fa f place (items (get_or room f d)) at (map_get room f d l)
+    pub known_of : (was : V) → f < length room → was ≡ get_or room f was → IsTrue old.store.is_faithful → IsKnown (pages_of_cache old) shape f place (items was)
+    known_of was l there fa = subst (λ v. IsKnown (pages_of_cache old) shape f place (items v)) (sym there) (known_room fa f place (items (get_or room f was)) at (map_get room f was l))
 
     -- and after it was
-    pub known_after : (v : V) → OnlyReads old new → ((g : ℕ) (place : Place) (spans : List LeafSpan) → IsTrue old.store.is_faithful → IsKnown (pages_of_cache old) shape g place spans → IsKnown (pages_of_cache new) shape g place spans)
+    pub known_after : (new : Cache) (v : V) → OnlyReads old new → ((g : ℕ) (place : Place) (spans : List LeafSpan) → IsTrue old.store.is_faithful → IsKnown (pages_of_cache old) shape g place spans → IsKnown (pages_of_cache new) shape g place spans)
         → (IsTrue old.store.is_faithful → IsKnown (pages_of_cache old) shape f place (items v)) → AreKnown new shape places (map items (set room f v))
-    known_after v reads lasts is = λ fa g other spans p s.
+    known_after new v reads lasts is = λ fa g other spans p s.
         let was = sym reads.store.faithful ∙ fa in
         lasts g other spans was
         (⊎_elim

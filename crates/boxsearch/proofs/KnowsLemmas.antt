@@ -63,12 +63,12 @@ module _ {V : Type 0} (items : V → List LeafSpan) where
   set_there (x ∷ xs) (suc i) zero v n = refl
   set_there (x ∷ xs) (suc i) (suc j) v n = set_there xs i j v (λ e. n (ap suc e))
 
-  module _ (old new : Cache) (shape : ShapeView) (places : List Place) (before room : List V) (f : ℕ) (reads : OnlyReads old new) (holds : Holds (map items before) (map items room)) (l : f < length room) (was v : V) (there : was ≡ get_or room f was) where
+  module _ (old new : Cache) (shape : ShapeView) (places : List Place) (known : List (List LeafSpan)) (room : List V) (f : ℕ) (reads : OnlyReads old new) (holds : Holds known (map items room)) (l : f < length room) (was v : V) (there : was ≡ get_or room f was) where
     here : slice_get (map items room) f ≡ Some (items was)
     here = get_items room f was l ∙ ap (λ x. Some (items x)) (sym there)
 
     -- what was known of each feature is known after a question about one
-    pub recalled : IsFront (items was) (items v) → (g : ℕ) (start : ℤ) → KnowsBackTo old shape places (map items before) g start → KnowsBackTo new shape places (map items (set room f v)) g start
+    pub recalled : IsFront (items was) (items v) → (g : ℕ) (start : ℤ) → KnowsBackTo old shape places known g start → KnowsBackTo new shape places (map items (set room f v)) g start
     recalled front g start h = λ fa place at.
         let old_fa = sym reads.store.faithful ∙ fa in
         let k = h old_fa place at in
@@ -101,7 +101,7 @@ module _ {V : Type 0} (items : V → List LeafSpan) where
         )
 
     -- what the walk knew of it
-    pub known_back : (place : Place) (period : PeriodView) → slice_get places f ≡ Some place → KnowsBackTo old shape places (map items before) f period.start
+    pub known_back : (place : Place) (period : PeriodView) → slice_get places f ≡ Some place → KnowsBackTo old shape places known f period.start
         → IsTrue old.store.is_faithful → IsKnownBackTo (pages_of_cache old) (Some period) shape place (items was)
     known_back place period at h fa =
         let k = h fa place at in

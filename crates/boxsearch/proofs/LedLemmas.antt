@@ -1,5 +1,5 @@
 -- The way down leads to what a box is answered with.
-use Rattle.std.proofs.Common.{ℕ, zero, suc, Bool, true, false, cond, ◌+◌, ◌<◌, ◌≡◌, All, List, [], ◌∷◌, map, refl, sym, arith, subst, ⊎_elim, IsTrue, slice_index_or}
+use Rattle.std.proofs.Common.{ℕ, zero, suc, Bool, true, false, cond, ◌+◌, ◌≡◌, All, List, [], ◌∷◌, map, refl, sym, arith, subst, ⊎_elim, IsTrue, slice_index_or}
 use Rattle.std.specs.List.{filter, Contains}
 use Rattle.std.proofs.lemmas.List.Elements.{All-contains, All-contains_itself, Contains-append_cases}
 use Rattle.std.proofs.lemmas.List.Sorted.{Contains-permutation, IsPermutation-sym}

@@ -36,4 +36,6 @@ pub mod EndLemmas
 pub mod LedLemmas
 pub mod EndedLemmas
 pub mod TurnLasts
+pub mod LevelLemmas
+pub mod AskedLemmas
 pub mod ChainCosts

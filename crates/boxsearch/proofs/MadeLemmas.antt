@@ -4,7 +4,7 @@ use Rattle.std.proofs.lemmas.Bool.{cases_lt}
 use Rattle.std.proofs.lemmas.Bool.Decides.{nat_tests}
 use Rattle.std.proofs.lemmas.List.Elements.{All-head, All-tail}
 use Rattle.legs.specs.Boxes.{BoxView}
-use Rattle.legs.specs.Finding.{place_in}
+use Rattle.legs.specs.Finding.{Finding, place_in}
 use Rattle.legs.specs.Index.{features_after}
 use Rattle.legs.specs.Legs.{LegView}
 use Rattle.tbtree.specs.Filling.{AreLeaves}
@@ -53,14 +53,20 @@ features_one (x ∷ y ∷ ys) n feature some one =
     ∙ ap (λ f. max (max n (f + 1)) (feature + 1)) own
     ∙ (let same : max (max n (feature + 1)) (feature + 1) ≡ max n (feature + 1) = omega arith in same)
 
+-- what is read of a list by the place of a feature
+pub by_place : {X : Type 0} (F G : List Place → ℕ → X) → ((f : ℕ) → F [] f ≡ G [] f) → ((p : Place) (ps : List Place) → F (p ∷ ps) zero ≡ G (p ∷ ps) zero)
+    → ((p : Place) (ps : List Place) (f : ℕ) → F (p ∷ ps) (suc f) ≡ F ps f) → ((p : Place) (ps : List Place) (f : ℕ) → G ps f ≡ G (p ∷ ps) (suc f)) → (places : List Place) (f : ℕ) → F places f ≡ G places f
+by_place F G none here past back [] f = none f
+by_place F G none here past back (p ∷ ps) zero = here p ps
+by_place F G none here past back (p ∷ ps) (suc f) = past p ps f ∙ by_place F G none here past back ps f ∙ back p ps f
+
+-- an index as it is found, with other places
+abbrev pub found_places : IndexView → List Place → Finding
+found_places i places = record (found_by i) { places = map place_of places }
+
 -- the place of a feature as numbers
 pub placed_in : (i : IndexView) (f : ℕ) → place_in (found_by i) f ≡ place_of (place_for i.places f)
-placed_in i f = at i.places f
-  where
-    at : (places : List Place) (f : ℕ) → place_in (record { root = i.tree.root; levels = i.tree.levels; leaves = i.tree.leaves; legs = i.legs; pages = i.cache.count; places = map place_of places }) f ≡ place_of (place_for places f)
-    at [] f = refl
-    at (p ∷ ps) zero = refl
-    at (p ∷ ps) (suc f) = at ps f
+placed_in i f = by_place (λ places g. place_in (found_places i places) g) (λ places g. place_of (place_for places g)) (λ g. refl) (λ p ps. refl) (λ p ps g. refl) (λ p ps g. refl) i.places f
 
 -- two lists that have the same at a place have the same place for the feature
 abbrev or_none : Option Place → Place
@@ -68,9 +74,7 @@ or_none (Some place) = place
 or_none None = no_place
 
 for_is : (places : List Place) (f : ℕ) → place_for places f ≡ or_none (slice_get places f)
-for_is [] f = refl
-for_is (p ∷ ps) zero = refl
-for_is (p ∷ ps) (suc f) = for_is ps f
+for_is places f = by_place (λ places g. place_for places g) (λ places g. or_none (slice_get places g)) (λ g. refl) (λ p ps. refl) (λ p ps g. refl) (λ p ps g. refl) places f
 
 pub for_alike : (xs ys : List Place) (f : ℕ) → slice_get ys f ≡ slice_get xs f → place_for ys f ≡ place_for xs f
 for_alike xs ys f e = for_is ys f ∙ ap or_none e ∙ sym (for_is xs f)

@@ -43,24 +43,10 @@ wider_meets outer inner query h e =
     (wider_interval inner.t_min inner.t_max query.t_min query.t_max outer.t_min outer.t_max h.first h.last (and_right (in_x && in_y) in_t e))
 
 holds_one : (p q : BoxView) → Holds (cover_of p q) p
-holds_one p q = record {
-  left = omega (arith, ints, clamps);
-  right = omega (arith, ints, clamps);
-  bottom = omega (arith, ints, clamps);
-  top = omega (arith, ints, clamps);
-  first = omega (arith, ints, clamps);
-  last = omega (arith, ints, clamps);
-}
+holds_one p q = record { left = omega (arith, ints, clamps); right = omega (arith, ints, clamps); bottom = omega (arith, ints, clamps); top = omega (arith, ints, clamps); first = omega (arith, ints, clamps); last = omega (arith, ints, clamps) }
 
 holds_other : (p q : BoxView) → Holds (cover_of p q) q
-holds_other p q = record {
-  left = omega (arith, ints, clamps);
-  right = omega (arith, ints, clamps);
-  bottom = omega (arith, ints, clamps);
-  top = omega (arith, ints, clamps);
-  first = omega (arith, ints, clamps);
-  last = omega (arith, ints, clamps);
-}
+holds_other p q = record { left = omega (arith, ints, clamps); right = omega (arith, ints, clamps); bottom = omega (arith, ints, clamps); top = omega (arith, ints, clamps); first = omega (arith, ints, clamps); last = omega (arith, ints, clamps) }
 
 misses : (a b : Bool) → (a ≡ true → b ≡ true) → b ≡ false → a ≡ false
 misses true b f e = absurd (false≢true (sym e ∙ f refl))

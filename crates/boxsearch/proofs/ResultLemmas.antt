@@ -29,3 +29,11 @@ on_err {T} {E} {P} {Q} r f h = (elim r as (λ r. OnErr r P → OnErr r Q) [ Ok x
 pub now_says : {E X : Type 0} (r : Result (Unit {0}) E) (F : Type 0) (P : X → Type 0) (a b : X) → (F → b ≡ a) → (F → OnOk r (P a)) → OnOk r (F → P b)
 now_says (Ok x) F P a b same h = λ f. subst P (sym (same f)) (h f)
 now_says (Err e) F P a b same h = tt
+
+-- of two things that are the same the one that is seen
+abbrev pub seen_of : {A : Type 0} {a b : A} → a ≡ b → A
+seen_of {a = a} e = a
+
+-- what is said of a thing, and of an answer about it, is said of those that are the same
+pub of_same : {A B : Type 0} {a b : A} {x y : B} (P : A → B → Type 0) → a ≡ b → y ≡ x → P a x → P b y
+of_same {b = b} {x = x} P e w h = subst (λ r. P b r) (sym w) (subst (λ i. P i x) e h)

@@ -1,5 +1,5 @@
 -- A cache that was only read has the nodes that it had.
-use Rattle.std.proofs.Common.{ℕ, zero, suc, ◌≡◌, ◌≢◌, Bool, List, sym, ap, ◌∙◌, All, Some, option_map, map, [], ◌∷◌, ◌++◌, take, slice_get, refl}
+use Rattle.std.proofs.Common.{ℕ, zero, suc, ◌≡◌, ◌≢◌, Bool, List, sym, ap, ◌∙◌, All, Some, option_map, map, [], ◌∷◌, ◌++◌, take, slice_get, refl, subst, Result, OnOk}
 use Rattle.std.specs.Prelude.{IsTrue}
 use Rattle.std.specs.List.{filter, flat_map}
 use Rattle.std.proofs.lemmas.Grind.{flat_map-append}
@@ -46,6 +46,10 @@ children_there c p payload meets n e = ap (λ o. map (λ e. e.child) (filter (λ
 pub hits_there : (c : Cache) (p : ℕ) (payload : Payload) (meets : BoxView → Bool) → p ≢ 0 → payload_of c p ≡ Some payload
     → filter (λ leg. meets (leg_boxes.of leg)) (legs_in (Some (node_of payload))) ≡ hits leg_boxes meets (pages_of_cache c) p
 hits_there c p payload meets n e = ap (λ o. filter (λ leg. meets (leg_boxes.of leg)) (legs_in o)) (sym (node_there c p payload n e))
+
+-- what is pushed is what the page says
+pub pushed_there : {X E : Type 0} (r : Result (Unit {0}) E) (found new : List X) {piece there : List X} → piece ≡ there → OnOk r (new ≡ found ++ piece) → OnOk r (new ≡ found ++ there)
+pushed_there r found new same pushed = subst (λ l. OnOk r (new ≡ found ++ l)) same pushed
 
 module _ (a b : Cache) (reads : OnlyReads a b) (fa : IsTrue a.store.is_faithful) where
   pub same_at : (p : ℕ) → (pages_of_cache b).at p ≡ (pages_of_cache a).at p

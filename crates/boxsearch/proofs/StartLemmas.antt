@@ -1,5 +1,5 @@
 -- An index whose page 0 is marked.
-use Rattle.std.proofs.Common.{suc, slice_get, Bool, ℕ, ◌≡◌, ◌≢◌, ◌<◌, ◌≤◌, ⊎_elim, refl, sym, ap, ◌∙◌, arith, subst, true, false, cond, drop, length, List, [], All, IsTrue, Option, Some, None, option_map, Result, ◌+◌}
+use Rattle.std.proofs.Common.{Bool, ℕ, ◌≡◌, ◌≢◌, ◌<◌, ◌≤◌, ⊎_elim, refl, sym, ap, ◌∙◌, arith, subst, true, false, cond, drop, length, List, [], All, IsTrue, Option, Some, None, option_map, Result, ◌+◌}
 use Rattle.std.specs.Prelude.{IfErr, OnOk, OnErr}
 use Rattle.std.proofs.lemmas.Bool.{cases_lt, true≢false}
 use Rattle.std.proofs.lemmas.Int.{clamps}
@@ -22,12 +22,11 @@ use Rattle.boxsearch.specs.Answers.{answered, of_cache}
 use Rattle.boxsearch.specs.Index.{IndexView, words, content, found_by, is_unreadable, legs_by, written, IsSound, IsMarked}
 use Rattle.boxsearch.specs.Marking.{Marks, IsNotMarked}
 use Rattle.pages.specs.declared.payload.Payload.{Payload}
-use Rattle.std.specs.List.{Contains}
 use Rattle.tbtree.proofs.Still.{still}
 use Rattle.boxsearch.proofs.BesideTells.{denies_beside, tells_beside}
 use Rattle.boxsearch.proofs.StillLemmas.{ways_still}
 use Rattle.boxsearch.proofs.PlaceLemmas.{some_none}
-use Rattle.boxsearch.proofs.AnswerLemmas.{each_fault, each_value, the_fault, Said}
+use Rattle.boxsearch.proofs.AnswerLemmas.{each_fault, each_value, of_each_cache, the_fault, Said}
 use Rattle.chains.specs.declared.spans.LeafSpan.{LeafSpan}
 use Rattle.boxsearch.specs.Beside.{with_cache, IsBeside}
 use Rattle.boxsearch.proofs.ResultLemmas.{on_ok, on_err}
@@ -93,11 +92,7 @@ NotSpent index.StoreFull = Unit {0}
 NotSpent index.Spent = ⊥
 
 never_spent : (a b : Cache) (fault : CacheFault) → IsNotMarked a b fault → NotSpent (of_cache fault)
-never_spent a b cache.NoPage h = tt
-never_spent a b cache.Store h = tt
-never_spent a b (cache.Damaged n) h = tt
-never_spent a b cache.StoreFull h = tt
-never_spent a b cache.Memory h = tt
+never_spent a b = of_each_cache (λ fault. IsNotMarked a b fault → NotSpent (of_cache fault)) (λ h. tt) (λ h. tt) (λ n h. tt) (λ h. tt) (λ h. tt)
 
 -- and no store to be full
 abbrev NotFull : IndexFault → Type 0
@@ -108,11 +103,7 @@ NotFull index.StoreFull = ⊥
 NotFull index.Spent = Unit {0}
 
 never_full : (a b : Cache) (fault : CacheFault) → IsNotMarked a b fault → NotFull (of_cache fault)
-never_full a b cache.NoPage h = tt
-never_full a b cache.Store h = tt
-never_full a b (cache.Damaged n) h = tt
-never_full a b cache.StoreFull h = h
-never_full a b cache.Memory h = tt
+never_full a b = of_each_cache (λ fault. IsNotMarked a b fault → NotFull (of_cache fault)) (λ h. tt) (λ h. tt) (λ n h. tt) (λ h. h) (λ h. tt)
 
 module _ (laws : FirstLaws) (old : IndexView) (c : Cache) (known : List (List LeafSpan)) (m : Marks old.cache c) where
   abbrev new : IndexView
@@ -186,11 +177,7 @@ module _ (laws : FirstLaws) (old : IndexView) (c : Cache) (known : List (List Le
 
 -- why page 0 is not marked
 not_marked_said : (a b : Cache) (fault : CacheFault) → IsNotMarked a b fault → Said a b (of_cache fault)
-not_marked_said a b cache.NoPage h = tt
-not_marked_said a b cache.Store h = h
-not_marked_said a b (cache.Damaged n) h = tt
-not_marked_said a b cache.StoreFull h = h
-not_marked_said a b cache.Memory h = tt
+not_marked_said a b = of_each_cache (λ fault. IsNotMarked a b fault → Said a b (of_cache fault)) (λ h. tt) (λ h. h) (λ n h. tt) (λ h. h) (λ h. tt)
 
 not_marked_allowed : (old : IndexView) (c : Cache) (fault : CacheFault) → IsNotMarked old.cache c fault → IsSound old → MayRefuse (of_cache fault)
 not_marked_allowed old c cache.NoPage h s = absurd (let t = s.stands.tree_stands.numbers.page_0 in let l = h.0 in omega (arith, t, l))

@@ -9,17 +9,18 @@ use Rattle.boxsearch.proofs.EndLemmas.{run_takes}
 use Rattle.boxsearch.proofs.ResultLemmas.{from_ok}
 use Rattle.boxsearch.proofs.RunLemmas.{joined_asks}
 use Rattle.boxsearch.proofs.TakingTurns.{OrderLaws, joined, taking_none}
+use Rattle.boxsearch.proofs.joining.join.Given as given
 use Rattle.boxsearch.proofs.joining.join.Goals as goal
+
+-- what putting the run makes of it
+has_put : (g : given.Over) (c : goal.After-answer g) → PutsAll (made c.args.index.now c.args.feature) c.put_all.new.self c.args.feature c.args.legs.now c.put_all.result
+has_put g c = subst (λ m. PutsAll m c.put_all.new.self c.args.feature c.args.legs.now c.put_all.result) (from_ok c.make_place.result (sym c.is_err.ensures.value ∙ c.if-is_err.false) c.make_place.ensures.ok) c.put_all.ensures
 
 pub returns-clause-taking : goal.returns-clause-taking
 returns-clause-taking g c =
     let laws : OrderLaws = record { fits = c.order_laws.ensures.fits; absent = c.order_laws.ensures.absent } in
-    let old = c.args.index.now in
-    let legs = c.args.legs.now in
-    let mid : c.make_place.new.self ≡ made old c.args.feature = from_ok c.make_place.result (sym c.is_err.ensures.value ∙ c.if-is_err.false) c.make_place.ensures.ok in
-    let p : PutsAll (made old c.args.feature) c.put_all.new.self c.args.feature legs c.put_all.result = subst (λ m. PutsAll m c.put_all.new.self c.args.feature legs c.put_all.result) mid c.put_all.ensures in
-    subst (λ r. Taking old c.put_all.new.self legs r) (sym c.answer.ensures)
-    (joined laws old c.put_all.new.self c.args.feature legs c.requires.some c.requires.one c.put_all.result p c.requires.works)
+    subst (λ r. Taking c.args.index.now c.put_all.new.self c.args.legs.now r) (sym c.answer.ensures)
+    (joined laws c.args.index.now c.put_all.new.self c.args.feature c.args.legs.now c.requires.some c.requires.one c.put_all.result (has_put g c) c.requires.works)
 
 pub returns-then-not-has_place-clause-taking : goal.returns-then-not-has_place-clause-taking
 returns-then-not-has_place-clause-taking g c =
@@ -29,16 +30,9 @@ returns-then-not-has_place-clause-taking g c =
 
 pub returns-clause-asks : goal.returns-clause-asks
 returns-clause-asks g c =
-    let old = c.args.index.now in
-    let legs = c.args.legs.now in
-    let mid : c.make_place.new.self ≡ made old c.args.feature = from_ok c.make_place.result (sym c.is_err.ensures.value ∙ c.if-is_err.false) c.make_place.ensures.ok in
-    let p : PutsAll (made old c.args.feature) c.put_all.new.self c.args.feature legs c.put_all.result = subst (λ m. PutsAll m c.put_all.new.self c.args.feature legs c.put_all.result) mid c.put_all.ensures in
-    subst (λ r. OnOk r (RunsAsk old c.put_all.new.self 1)) (sym c.answer.ensures) (joined_asks old c.put_all.new.self c.args.feature legs c.put_all.result p)
+    subst (λ r. OnOk r (RunsAsk c.args.index.now c.put_all.new.self 1)) (sym c.answer.ensures) (joined_asks c.args.index.now c.put_all.new.self c.args.feature c.args.legs.now c.put_all.result (has_put g c))
 
 pub returns-clause-takes : goal.returns-clause-takes
 returns-clause-takes g c =
-    let old = c.args.index.now in
-    let legs = c.args.legs.now in
-    let mid : c.make_place.new.self ≡ made old c.args.feature = from_ok c.make_place.result (sym c.is_err.ensures.value ∙ c.if-is_err.false) c.make_place.ensures.ok in
-    let p : PutsAll (made old c.args.feature) c.put_all.new.self c.args.feature legs c.put_all.result = subst (λ m. PutsAll m c.put_all.new.self c.args.feature legs c.put_all.result) mid c.put_all.ensures in
-    subst (λ r. OnOk r (HasAdded words old c.put_all.new.self legs)) (sym c.answer.ensures) (run_takes old c.put_all.new.self c.args.feature legs c.requires.some c.requires.one c.put_all.result p)
+    let takes = run_takes c.args.index.now c.put_all.new.self c.args.feature c.args.legs.now c.requires.some c.requires.one c.put_all.result (has_put g c) in
+    subst (λ r. OnOk r (HasAdded words c.args.index.now c.put_all.new.self c.args.legs.now)) (sym c.answer.ensures) takes

@@ -1,7 +1,6 @@
-use Rattle.std.proofs.Common.{rules, ◌++◌, ap, ◌∙◌}
+use Rattle.std.proofs.Common.{rules}
 use Rattle.boxsearch.specs.Way.{meets}
-use Rattle.boxsearch.proofs.ResultLemmas.{on_ok}
-use Rattle.boxsearch.proofs.SameLemmas.{children_there}
+use Rattle.boxsearch.proofs.SameLemmas.{children_there, pushed_there}
 use Rattle.boxsearch.proofs.nodes.push_children.Goals as goal
 
 pub returns-clause-reads : goal.returns-clause-reads
@@ -12,5 +11,4 @@ returns-in-Err-clause-reads g c = record { only = search rules; caused = search 
 
 pub returns-clause-pushed : goal.returns-clause-pushed
 returns-clause-pushed g c = λ fa.
-    let there = children_there c.args.cache.now c.args.page c.in-Ok.payload.now (meets c.args.query.now) c.if-page-eq0.false (c.in-Ok.ensures.value fa) in
-    on_ok c.push_inner.result (λ e. e ∙ ap (λ l. c.args.found.now.items ++ l) there) c.push_inner.ensures.pushed
+    pushed_there c.push_inner.result c.args.found.now.items c.push_inner.new.found.items (children_there c.args.cache.now c.args.page c.in-Ok.payload.now (meets c.args.query.now) c.if-page-eq0.false (c.in-Ok.ensures.value fa)) (c.push_inner.ensures.pushed)

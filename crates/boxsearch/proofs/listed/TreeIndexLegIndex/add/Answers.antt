@@ -11,49 +11,44 @@ use Rattle.boxsearch.proofs.AddLemmas.{Laws, made, added, asked, refusals, marke
 use Rattle.boxsearch.proofs.EndLemmas.{lacks_put, leg_takes}
 use Rattle.boxsearch.proofs.PlaceLemmas.{past_made}
 use Rattle.boxsearch.proofs.ResultLemmas.{from_ok}
+use Rattle.boxsearch.proofs.listed.TreeIndexLegIndex.add.Given as given
 use Rattle.boxsearch.proofs.listed.TreeIndexLegIndex.add.Goals as goal
+
+-- the laws of a tree
+the_laws : (g : given.Over) → goal.After-answer g → Laws
+the_laws g c = record { content = c.laws.ensures.content; lawful = c.laws.ensures.lawful; height = c.laws.ensures.height; fits = c.laws.ensures.fits; absent = c.laws.ensures.absent }
+
+-- what putting the leg makes of an index that has a place for its feature
+has_put : (g : given.Over) (c : goal.After-answer g) → Puts (made c.args.self.now c.args.leg.feature) c.put.new.self c.args.leg c.put.result
+has_put g c =
+    let feature = ap (λ (l : LegView). l.feature) c.leg.view_is in
+    let mid : c.make_place.new.self ≡ made c.args.self.now c.leg.inside.feature = from_ok c.make_place.result (sym c.is_err.ensures.value ∙ c.if-is_err.false) c.make_place.ensures.ok in
+    subst (λ m. Puts m c.put.new.self c.args.leg c.put.result) (mid ∙ ap (made c.args.self.now) feature) c.put.ensures
 
 pub returns-clause-added : goal.returns-clause-added
 returns-clause-added g c =
-    let laws : Laws = record { content = c.laws.ensures.content; lawful = c.laws.ensures.lawful; height = c.laws.ensures.height; fits = c.laws.ensures.fits; absent = c.laws.ensures.absent } in
-    let feature = ap (λ (l : LegView). l.feature) c.leg.view_is in
-    let mid : c.make_place.new.self ≡ made c.args.self.now c.leg.inside.feature = from_ok c.make_place.result (sym c.is_err.ensures.value ∙ c.if-is_err.false) c.make_place.ensures.ok in
-    let p : Puts (made c.args.self.now c.args.leg.feature) c.put.new.self c.args.leg c.put.result = subst (λ m. Puts m c.put.new.self c.args.leg c.put.result) (mid ∙ ap (made c.args.self.now) feature) c.put.ensures in
     subst (λ r. OnOk r (IsSound c.args.self.now → CanFollowInTurn (content c.args.self.now) (c.args.leg ∷ []) → Ends words c.args.self.now c.put.new.self (c.args.leg ∷ []))) (sym c.answer.ensures)
-    (added laws c.args.self.now c.put.new.self c.args.leg c.put.result p)
+    (added (the_laws g c) c.args.self.now c.put.new.self c.args.leg c.put.result (has_put g c))
 
 pub returns-clause-asks : goal.returns-clause-asks
 returns-clause-asks g c =
-    let laws : Laws = record { content = c.laws.ensures.content; lawful = c.laws.ensures.lawful; height = c.laws.ensures.height; fits = c.laws.ensures.fits; absent = c.laws.ensures.absent } in
-    let feature = ap (λ (l : LegView). l.feature) c.leg.view_is in
-    let mid : c.make_place.new.self ≡ made c.args.self.now c.leg.inside.feature = from_ok c.make_place.result (sym c.is_err.ensures.value ∙ c.if-is_err.false) c.make_place.ensures.ok in
-    let p : Puts (made c.args.self.now c.args.leg.feature) c.put.new.self c.args.leg c.put.result = subst (λ m. Puts m c.put.new.self c.args.leg c.put.result) (mid ∙ ap (made c.args.self.now) feature) c.put.ensures in
     let now = c.args.self.now in
     subst (λ r. OnOk r (IsSound now → CanFollowInTurn (content now) (c.args.leg ∷ []) → RisesAtMost (min now.cache.asked (2 ^ 64 - 1)) (min c.put.new.self.cache.asked (2 ^ 64 - 1)) (add_bound (Some now.tree.shape) (content now ++ c.args.leg ∷ [])))) (sym c.answer.ensures)
-    (asked laws now c.put.new.self c.args.leg c.put.result p)
+    (asked (the_laws g c) now c.put.new.self c.args.leg c.put.result (has_put g c))
 
 pub returns-clause-refusals : goal.returns-clause-refusals
 returns-clause-refusals g c =
-    let laws : Laws = record { content = c.laws.ensures.content; lawful = c.laws.ensures.lawful; height = c.laws.ensures.height; fits = c.laws.ensures.fits; absent = c.laws.ensures.absent } in
-    let feature = ap (λ (l : LegView). l.feature) c.leg.view_is in
-    let mid : c.make_place.new.self ≡ made c.args.self.now c.leg.inside.feature = from_ok c.make_place.result (sym c.is_err.ensures.value ∙ c.if-is_err.false) c.make_place.ensures.ok in
-    let p : Puts (made c.args.self.now c.args.leg.feature) c.put.new.self c.args.leg c.put.result = subst (λ m. Puts m c.put.new.self c.args.leg c.put.result) (mid ∙ ap (made c.args.self.now) feature) c.put.ensures in
+    let p = has_put g c in
     let works = sym (ap (λ (i : IndexView). i.tree.spent) c.self.view_is) ∙ c.if-self.false in
     subst (λ r. LegRefusals words c.args.self.now c.put.new.self (c.args.leg ∷ []) r) (sym c.answer.ensures)
-    (refusals laws c.args.self.now c.put.new.self c.args.leg c.put.result works p (lacks_put c.args.self.now c.put.new.self c.args.leg.feature (c.args.leg ∷ []) p.was p.found c.put.result p.lacks))
+    (refusals (the_laws g c) c.args.self.now c.put.new.self c.args.leg c.put.result works p (lacks_put c.args.self.now c.put.new.self c.args.leg.feature (c.args.leg ∷ []) p.was p.found c.put.result p.lacks))
 
 pub returns-clause-marked : goal.returns-clause-marked
-returns-clause-marked g c = λ m.
-    let mid : c.make_place.new.self ≡ made c.args.self.now c.leg.inside.feature = from_ok c.make_place.result (sym c.is_err.ensures.value ∙ c.if-is_err.false) c.make_place.ensures.ok in
-    let p : Puts (made c.args.self.now c.leg.inside.feature) c.put.new.self c.args.leg c.put.result = subst (λ m. Puts m c.put.new.self c.args.leg c.put.result) mid c.put.ensures in
-    marked_after c.args.self.now.cache c.put.new.self.cache p.passes m
+returns-clause-marked g c = marked_after c.args.self.now.cache c.put.new.self.cache (has_put g c).passes
 
 pub returns-clause-takes : goal.returns-clause-takes
 returns-clause-takes g c =
-    let feature = ap (λ (l : LegView). l.feature) c.leg.view_is in
-    let mid : c.make_place.new.self ≡ made c.args.self.now c.leg.inside.feature = from_ok c.make_place.result (sym c.is_err.ensures.value ∙ c.if-is_err.false) c.make_place.ensures.ok in
-    let p : Puts (made c.args.self.now c.args.leg.feature) c.put.new.self c.args.leg c.put.result = subst (λ m. Puts m c.put.new.self c.args.leg c.put.result) (mid ∙ ap (made c.args.self.now) feature) c.put.ensures in
-    subst (λ r. OnOk r (HasAdded words c.args.self.now c.put.new.self (c.args.leg ∷ []))) (sym c.answer.ensures) (leg_takes c.args.self.now c.put.new.self c.args.leg c.put.result p)
+    subst (λ r. OnOk r (HasAdded words c.args.self.now c.put.new.self (c.args.leg ∷ []))) (sym c.answer.ensures) (leg_takes c.args.self.now c.put.new.self c.args.leg c.put.result (has_put g c))
 
 pub returns-then-feature-len-clause-refusals : goal.returns-then-feature-len-clause-refusals
 returns-then-feature-len-clause-refusals g c =

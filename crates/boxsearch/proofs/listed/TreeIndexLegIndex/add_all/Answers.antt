@@ -16,6 +16,7 @@ use Rattle.boxsearch.proofs.ResultLemmas.{on_ok}
 use Rattle.boxsearch.proofs.TurnLasts.{as_many_taken, same_legs}
 use Rattle.boxsearch.proofs.TurnSteps.{none_skipped}
 use Rattle.boxsearch.proofs.TurnOrder.{AreNumbered, are_numbered, are_turns, turns_within}
+use Rattle.boxsearch.proofs.listed.TreeIndexLegIndex.add_all.Given as given
 use Rattle.boxsearch.proofs.listed.TreeIndexLegIndex.add_all.Goals as goal
 
 -- turns that are not told spend the index
@@ -46,65 +47,52 @@ join_all-requires-clause-within g c =
     let legs = c.args.legs.now in
     subst (λ (ts : List Turn). All (λ (t : Turn). t.place < length legs) ts) (sym c.as_slice-2.ensures.value) (turns_within _ _ _ legs c.in-Ok.turns.items c.in-Ok.ensures.permutation)
 
-pub returns-clause-added : goal.returns-clause-added
-returns-clause-added g c =
-    let old = c.args.self.now in
+-- the laws of a tree
+the_laws : (g : given.Over) → goal.After-drop-turns g → Laws
+the_laws g c = record { content = c.laws.ensures.content; lawful = c.laws.ensures.lawful; height = c.laws.ensures.height; fits = c.laws.ensures.fits; absent = c.laws.ensures.absent }
+
+-- the laws of orders
+the_orders : (g : given.Over) → goal.After-drop-turns g → AllLaws
+the_orders g c = record { taken = c.order_laws.ensures.taken; reordered = c.order_laws.ensures.reordered }
+
+-- the turns that are told have the numbers of those of the index
+the_numbers : (g : given.Over) (c : goal.After-drop-turns g) → AreNumbered c.args.self.now.places c.args.self.now.tree.shape.leaf c.args.legs.now c.as_slice-2.result.now
+the_numbers g c =
     let legs = c.args.legs.now in
-    let turns = c.as_slice-2.result.now in
-    let places : c.as_slice.result.now ≡ old.places = c.as_slice.ensures.value ∙ ap (λ (v : IndexView). v.places) c.self.view_is in
-    let leaf : c.from-most.result ≡ old.tree.shape.leaf = c.from-most.ensures ∙ c.leaf.ensures.value ∙ ap (λ (v : IndexView). v.tree.shape.leaf) c.self.view_is in
+    let made = c.in-Ok.turns.items in
+    let e = c.from-most.ensures ∙ c.leaf.ensures.value in
     let least = c.leaf.ensures.range.least_leaf in
     let most = c.leaf.ensures.range.most_leaf in
-    let plain : AreNumbered c.as_slice.result.now c.from-most.result legs c.in-Ok.turns.items = are_numbered c.laws.ensures.in_order c.as_slice.result.now c.from-most.result legs c.in-Ok.turns.items (let e = c.from-most.ensures in let v = c.leaf.ensures.value in omega (arith, e, v, least)) (let e = c.from-most.ensures in let v = c.leaf.ensures.value in omega (arith, e, v, most)) c.in-Ok.ensures.few c.in-Ok.ensures.permutation c.in-Ok.ensures.rises in
-    let numbers : AreNumbered old.places old.tree.shape.leaf legs turns =
-    subst (λ ps. AreNumbered ps old.tree.shape.leaf legs turns) places (subst (λ n. AreNumbered c.as_slice.result.now n legs turns) leaf (subst (λ ts. AreNumbered c.as_slice.result.now c.from-most.result legs ts) (sym c.as_slice-2.ensures.value) plain)) in
-    let are : AreTurns old.places old.tree.shape.leaf legs turns = are_turns old.places old.tree.shape.leaf legs turns numbers in
-    let rules : Laws = record { content = c.laws.ensures.content; lawful = c.laws.ensures.lawful; height = c.laws.ensures.height; fits = c.laws.ensures.fits; absent = c.laws.ensures.absent } in
-    let orders : AllLaws = record { taken = c.order_laws.ensures.taken; reordered = c.order_laws.ensures.reordered } in
-    all_added rules orders old c.join_all.new.index legs turns are c.join_all.result c.join_all.ensures.taking
+    let plain : AreNumbered c.as_slice.result.now c.from-most.result legs made = are_numbered c.laws.ensures.in_order c.as_slice.result.now c.from-most.result legs made (omega (arith, e, least)) (omega (arith, e, most)) c.in-Ok.ensures.few c.in-Ok.ensures.permutation c.in-Ok.ensures.rises in
+    subst (λ (i : IndexView). AreNumbered i.places i.tree.shape.leaf legs c.as_slice-2.result.now) c.self.view_is
+    (subst (λ ps. AreNumbered ps c.self.inside.tree.shape.leaf legs c.as_slice-2.result.now) c.as_slice.ensures.value (subst (λ n. AreNumbered c.as_slice.result.now n legs c.as_slice-2.result.now) e (subst (λ ts. AreNumbered c.as_slice.result.now c.from-most.result legs ts) (sym c.as_slice-2.ensures.value) plain)))
+
+-- and so they are turns of the index
+the_turns : (g : given.Over) (c : goal.After-drop-turns g) → AreTurns c.args.self.now.places c.args.self.now.tree.shape.leaf c.args.legs.now c.as_slice-2.result.now
+the_turns g c = are_turns c.args.self.now.places c.args.self.now.tree.shape.leaf c.args.legs.now c.as_slice-2.result.now (the_numbers g c)
+
+-- they take the legs of each feature in their order
+same_taken : (g : given.Over) (c : goal.After-drop-turns g) (f : ℕ) → legs_of f (taken c.args.legs.now c.in-Ok.turns.items) ≡ legs_of f c.args.legs.now
+same_taken g c = same_legs c.laws.ensures.in_order c.as_slice.result.now c.from-most.result c.args.legs.now c.in-Ok.turns.items c.in-Ok.ensures.few c.in-Ok.ensures.permutation c.in-Ok.ensures.rises
+
+pub returns-clause-added : goal.returns-clause-added
+returns-clause-added g c =
+    all_added (the_laws g c) (the_orders g c) c.args.self.now c.join_all.new.index c.args.legs.now c.as_slice-2.result.now (the_turns g c) c.join_all.result c.join_all.ensures.taking
 
 pub returns-clause-asks : goal.returns-clause-asks
 returns-clause-asks g c =
-    let old = c.args.self.now in
-    let legs = c.args.legs.now in
-    let turns = c.as_slice-2.result.now in
-    let places : c.as_slice.result.now ≡ old.places = c.as_slice.ensures.value ∙ ap (λ (v : IndexView). v.places) c.self.view_is in
-    let leaf : c.from-most.result ≡ old.tree.shape.leaf = c.from-most.ensures ∙ c.leaf.ensures.value ∙ ap (λ (v : IndexView). v.tree.shape.leaf) c.self.view_is in
-    let least = c.leaf.ensures.range.least_leaf in
-    let most = c.leaf.ensures.range.most_leaf in
-    let plain : AreNumbered c.as_slice.result.now c.from-most.result legs c.in-Ok.turns.items = are_numbered c.laws.ensures.in_order c.as_slice.result.now c.from-most.result legs c.in-Ok.turns.items (let e = c.from-most.ensures in let v = c.leaf.ensures.value in omega (arith, e, v, least)) (let e = c.from-most.ensures in let v = c.leaf.ensures.value in omega (arith, e, v, most)) c.in-Ok.ensures.few c.in-Ok.ensures.permutation c.in-Ok.ensures.rises in
-    let numbers : AreNumbered old.places old.tree.shape.leaf legs turns =
-    subst (λ ps. AreNumbered ps old.tree.shape.leaf legs turns) places (subst (λ n. AreNumbered c.as_slice.result.now n legs turns) leaf (subst (λ ts. AreNumbered c.as_slice.result.now c.from-most.result legs ts) (sym c.as_slice-2.ensures.value) plain)) in
-    let are : AreTurns old.places old.tree.shape.leaf legs turns = are_turns old.places old.tree.shape.leaf legs turns numbers in
-    let rules : Laws = record { content = c.laws.ensures.content; lawful = c.laws.ensures.lawful; height = c.laws.ensures.height; fits = c.laws.ensures.fits; absent = c.laws.ensures.absent } in
-    let orders : AllLaws = record { taken = c.order_laws.ensures.taken; reordered = c.order_laws.ensures.reordered } in
-    all_asked rules orders old c.join_all.new.index legs turns are c.join_all.result numbers c.join_all.ensures.taking c.join_all.ensures.asks
+    all_asked (the_laws g c) (the_orders g c) c.args.self.now c.join_all.new.index c.args.legs.now c.as_slice-2.result.now (the_turns g c) c.join_all.result (the_numbers g c) c.join_all.ensures.taking c.join_all.ensures.asks
 
 pub returns-clause-refusals : goal.returns-clause-refusals
 returns-clause-refusals g c =
-    let old = c.args.self.now in
-    let legs = c.args.legs.now in
-    let turns = c.as_slice-2.result.now in
-    let places : c.as_slice.result.now ≡ old.places = c.as_slice.ensures.value ∙ ap (λ (v : IndexView). v.places) c.self.view_is in
-    let leaf : c.from-most.result ≡ old.tree.shape.leaf = c.from-most.ensures ∙ c.leaf.ensures.value ∙ ap (λ (v : IndexView). v.tree.shape.leaf) c.self.view_is in
-    let least = c.leaf.ensures.range.least_leaf in
-    let most = c.leaf.ensures.range.most_leaf in
-    let plain : AreNumbered c.as_slice.result.now c.from-most.result legs c.in-Ok.turns.items = are_numbered c.laws.ensures.in_order c.as_slice.result.now c.from-most.result legs c.in-Ok.turns.items (let e = c.from-most.ensures in let v = c.leaf.ensures.value in omega (arith, e, v, least)) (let e = c.from-most.ensures in let v = c.leaf.ensures.value in omega (arith, e, v, most)) c.in-Ok.ensures.few c.in-Ok.ensures.permutation c.in-Ok.ensures.rises in
-    let numbers : AreNumbered old.places old.tree.shape.leaf legs turns =
-    subst (λ ps. AreNumbered ps old.tree.shape.leaf legs turns) places (subst (λ n. AreNumbered c.as_slice.result.now n legs turns) leaf (subst (λ ts. AreNumbered c.as_slice.result.now c.from-most.result legs ts) (sym c.as_slice-2.ensures.value) plain)) in
-    let are : AreTurns old.places old.tree.shape.leaf legs turns = are_turns old.places old.tree.shape.leaf legs turns numbers in
-    let rules : Laws = record { content = c.laws.ensures.content; lawful = c.laws.ensures.lawful; height = c.laws.ensures.height; fits = c.laws.ensures.fits; absent = c.laws.ensures.absent } in
-    let orders : AllLaws = record { taken = c.order_laws.ensures.taken; reordered = c.order_laws.ensures.reordered } in
-    let works : old.tree.spent ≡ false = sym (ap (λ (v : IndexView). v.tree.spent) c.self.view_is) ∙ c.if-self.false in
-    let plainly = same_legs c.laws.ensures.in_order c.as_slice.result.now c.from-most.result legs c.in-Ok.turns.items c.in-Ok.ensures.few c.in-Ok.ensures.permutation c.in-Ok.ensures.rises in
-    let same = subst (λ ts. (f : ℕ) → legs_of f (taken legs ts) ≡ legs_of f legs) (sym c.as_slice-2.ensures.value) plainly in
-    all_refusals rules orders old c.join_all.new.index legs turns are c.join_all.result same works c.join_all.ensures.taking
+    let works = sym (ap (λ (i : IndexView). i.tree.spent) c.self.view_is) ∙ c.if-self.false in
+    let same = subst (λ ts. (f : ℕ) → legs_of f (taken c.args.legs.now ts) ≡ legs_of f c.args.legs.now) (sym c.as_slice-2.ensures.value) (same_taken g c) in
+    all_refusals (the_laws g c) (the_orders g c) c.args.self.now c.join_all.new.index c.args.legs.now c.as_slice-2.result.now (the_turns g c) c.join_all.result same works c.join_all.ensures.taking
 
 pub returns-clause-takes : goal.returns-clause-takes
 returns-clause-takes g c =
     let legs = c.args.legs.now in
     let turns = c.in-Ok.turns.items in
-    let same = same_legs c.laws.ensures.in_order c.as_slice.result.now c.from-most.result legs turns c.in-Ok.ensures.few c.in-Ok.ensures.permutation c.in-Ok.ensures.rises in
     let many = as_many_taken c.from-most.result legs turns _ _ c.in-Ok.ensures.permutation in
     let takes = subst (λ ts. OnOk c.join_all.result (HasAdded words c.args.self.now c.join_all.new.index (taken legs ts))) c.as_slice-2.ensures.value c.join_all.ensures.takes in
-    on_ok c.join_all.result (takes_alike words c.args.self.now c.join_all.new.index (taken legs turns) legs same many) takes
+    on_ok c.join_all.result (takes_alike words c.args.self.now c.join_all.new.index (taken legs turns) legs (same_taken g c) many) takes

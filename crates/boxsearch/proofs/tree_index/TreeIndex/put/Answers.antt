@@ -1,4 +1,4 @@
-use Rattle.std.proofs.Common.{◌≡◌, ◌+◌, ◌-◌, ◌^◌, ◌<◌, ◌∙◌, min, ap, subst, sym, arith, length, [], ◌∷◌, Some, slice_get, set, map}
+use Rattle.std.proofs.Common.{ℕ, OnOk, ◌≡◌, ◌+◌, ◌-◌, ◌^◌, ◌<◌, ◌∙◌, min, ap, subst, sym, arith, length, [], ◌∷◌, Some, slice_get, set, map}
 use Rattle.std.proofs.lemmas.Option.{slice_get-get_or}
 use Rattle.legs.specs.Legs.{LegView}
 use Rattle.tbtree.specs.Filling.{page_made}
@@ -7,74 +7,51 @@ use Rattle.tbtree.proofs.LeafLemmas.{placed_legs}
 use Rattle.boxsearch.specs.Index.{IndexView}
 use Rattle.boxsearch.specs.Putting.{Puts}
 use Rattle.boxsearch.proofs.ResultLemmas.{on_any, on_none, on_ok}
+use Rattle.boxsearch.proofs.tree_index.TreeIndex.put.Given as given
+use Rattle.boxsearch.proofs.tree_index.TreeIndex.put.Goals.{After-is_ok}
 use Rattle.boxsearch.proofs.tree_index.TreeIndex.put.Goals as goal
+
+-- what putting the leg makes of the index, with as many legs as it then counts
+put_makes : (g : given.Over) (c : After-is_ok g) (legs : ℕ) → OnOk c.insert-result.result (legs ≡ min (c.self.inside.legs + 1) (2 ^ 64 - 1))
+    → Puts c.args.self.now (record { cache = c.insert-result.new.cache; tree = c.insert-result.new.tree; places = set c.self.inside.places.items c.leg.inside.feature c.insert-result.new.place; legs = legs; known = map (λ spans. spans.items) c.new.result.items }) c.args.leg c.insert-result.result
+put_makes g c legs counts =
+    let places = c.self.inside.places.items in
+    let new : IndexView = record { cache = c.insert-result.new.cache; tree = c.insert-result.new.tree; places = set places c.leg.inside.feature c.insert-result.new.place; legs = legs; known = map (λ spans. spans.items) c.new.result.items } in
+    let works = ap (λ (v : IndexView). v.tree.spent) c.self.view_is ∙ c.requires.works in
+    let feature : c.leg.inside.feature ≡ c.args.leg.feature = ap (λ (l : LegView). l.feature) c.leg.view_is in
+    let count = ap (λ (v : IndexView). length v.places) c.self.view_is in
+    let below = c.requires.feature in
+    let within : c.leg.inside.feature < length places = omega (arith, feature, count, below) in
+    subst (λ old. Puts old new c.args.leg c.insert-result.result) c.self.view_is (record {
+      was = c.index.result.now;
+      is = c.insert-result.new.place;
+      found = ap (slice_get places) (sym feature) ∙ slice_get-get_or places c.leg.inside.feature c.index.result.now within ∙ ap Some (sym c.index.ensures);
+      places = ap (λ i. set places i c.insert-result.new.place) feature;
+      inserts = c.insert-result.ensures.inserts works;
+      joins = c.insert-result.ensures.joins works;
+      fills = λ fa. on_ok c.insert-result.result (λ f. (page_made c.self.inside.tree.shape.leaf c.self.inside.cache.count c.index.result.now, f)) (c.insert-result.ensures.fills fa);
+      met = c.insert-result.ensures.met;
+      grown = c.insert-result.ensures.grown;
+      placed = on_ok c.insert-result.result (λ e. ap (λ (p : Place). p.legs) e ∙ placed_legs _ c.index.result.now (c.args.leg ∷ []) _) c.insert-result.ensures.place;
+      unmoved = c.insert-result.ensures.unmoved;
+      shape = c.insert-result.ensures.shape;
+      room = let l = c.leaf.ensures.range.least_leaf in let v = c.leaf.ensures.value in omega (arith, l, v);
+      passes = c.insert-result.ensures.passes;
+      count = c.insert-result.ensures.length;
+      few = let a = c.if-prove.false in let b = c.count.ensures.value in omega (arith, a, b);
+      caused = c.insert-result.ensures.caused works;
+      blames = c.insert-result.ensures.blames works;
+      lacks = c.insert-result.ensures.lacks works;
+      asked = c.insert-result.ensures.asked;
+      works = c.insert-result.ensures.works;
+      spent = c.insert-result.ensures.spent;
+      legs = counts;
+    })
 
 pub returns-then-is_ok : goal.returns-then-is_ok
 returns-then-is_ok g c =
-    let places = c.self.inside.places.items in
-    let new : IndexView = record { cache = c.insert-result.new.cache; tree = c.insert-result.new.tree; places = set places c.leg.inside.feature c.insert-result.new.place; legs = c.saturating_add-self-inside.result; known = map (λ spans. spans.items) c.new.result.items } in
-    let works = ap (λ (v : IndexView). v.tree.spent) c.self.view_is ∙ c.requires.works in
-    let feature : c.leg.inside.feature ≡ c.args.leg.feature = ap (λ (l : LegView). l.feature) c.leg.view_is in
-    let count = ap (λ (v : IndexView). length v.places) c.self.view_is in
-    let below = c.requires.feature in
-    let within : c.leg.inside.feature < length places = omega (arith, feature, count, below) in
-    subst (λ old. Puts old new c.args.leg c.insert-result.result) c.self.view_is (record {
-      was = c.index.result.now;
-      is = c.insert-result.new.place;
-      found = ap (slice_get places) (sym feature) ∙ slice_get-get_or places c.leg.inside.feature c.index.result.now within ∙ ap Some (sym c.index.ensures);
-      places = ap (λ i. set places i c.insert-result.new.place) feature;
-      inserts = c.insert-result.ensures.inserts works;
-      joins = c.insert-result.ensures.joins works;
-      fills = λ fa. on_ok c.insert-result.result (λ f. (page_made c.self.inside.tree.shape.leaf c.self.inside.cache.count c.index.result.now, f)) (c.insert-result.ensures.fills fa);
-      met = c.insert-result.ensures.met;
-      grown = c.insert-result.ensures.grown;
-      placed = on_ok c.insert-result.result (λ e. ap (λ (p : Place). p.legs) e ∙ placed_legs _ c.index.result.now (c.args.leg ∷ []) _) c.insert-result.ensures.place;
-      unmoved = c.insert-result.ensures.unmoved;
-      shape = c.insert-result.ensures.shape;
-      room = let l = c.leaf.ensures.range.least_leaf in let v = c.leaf.ensures.value in omega (arith, l, v);
-      passes = c.insert-result.ensures.passes;
-      count = c.insert-result.ensures.length;
-      few = let a = c.if-prove.false in let b = c.count.ensures.value in omega (arith, a, b);
-      caused = c.insert-result.ensures.caused works;
-      blames = c.insert-result.ensures.blames works;
-      lacks = c.insert-result.ensures.lacks works;
-      asked = c.insert-result.ensures.asked;
-      works = c.insert-result.ensures.works;
-      spent = c.insert-result.ensures.spent;
-      legs = let l : new.legs ≡ min (c.self.inside.legs + 1) (2 ^ 64 - 1) = c.saturating_add-self-inside.ensures in on_any c.insert-result.result l;
-    })
+    let now : c.saturating_add-self-inside.result ≡ min (c.self.inside.legs + 1) (2 ^ 64 - 1) = c.saturating_add-self-inside.ensures in
+    put_makes g (goal.at.returns-then-is_ok g c).After-is_ok c.saturating_add-self-inside.result (on_any c.insert-result.result now)
 
 pub returns-else-is_ok : goal.returns-else-is_ok
-returns-else-is_ok g c =
-    let places = c.self.inside.places.items in
-    let new : IndexView = record { cache = c.insert-result.new.cache; tree = c.insert-result.new.tree; places = set places c.leg.inside.feature c.insert-result.new.place; legs = c.self.inside.legs; known = map (λ spans. spans.items) c.new.result.items } in
-    let works = ap (λ (v : IndexView). v.tree.spent) c.self.view_is ∙ c.requires.works in
-    let feature : c.leg.inside.feature ≡ c.args.leg.feature = ap (λ (l : LegView). l.feature) c.leg.view_is in
-    let count = ap (λ (v : IndexView). length v.places) c.self.view_is in
-    let below = c.requires.feature in
-    let within : c.leg.inside.feature < length places = omega (arith, feature, count, below) in
-    subst (λ old. Puts old new c.args.leg c.insert-result.result) c.self.view_is (record {
-      was = c.index.result.now;
-      is = c.insert-result.new.place;
-      found = ap (slice_get places) (sym feature) ∙ slice_get-get_or places c.leg.inside.feature c.index.result.now within ∙ ap Some (sym c.index.ensures);
-      places = ap (λ i. set places i c.insert-result.new.place) feature;
-      inserts = c.insert-result.ensures.inserts works;
-      joins = c.insert-result.ensures.joins works;
-      fills = λ fa. on_ok c.insert-result.result (λ f. (page_made c.self.inside.tree.shape.leaf c.self.inside.cache.count c.index.result.now, f)) (c.insert-result.ensures.fills fa);
-      met = c.insert-result.ensures.met;
-      grown = c.insert-result.ensures.grown;
-      placed = on_ok c.insert-result.result (λ e. ap (λ (p : Place). p.legs) e ∙ placed_legs _ c.index.result.now (c.args.leg ∷ []) _) c.insert-result.ensures.place;
-      unmoved = c.insert-result.ensures.unmoved;
-      shape = c.insert-result.ensures.shape;
-      room = let l = c.leaf.ensures.range.least_leaf in let v = c.leaf.ensures.value in omega (arith, l, v);
-      passes = c.insert-result.ensures.passes;
-      count = c.insert-result.ensures.length;
-      few = let a = c.if-prove.false in let b = c.count.ensures.value in omega (arith, a, b);
-      caused = c.insert-result.ensures.caused works;
-      blames = c.insert-result.ensures.blames works;
-      lacks = c.insert-result.ensures.lacks works;
-      asked = c.insert-result.ensures.asked;
-      works = c.insert-result.ensures.works;
-      spent = c.insert-result.ensures.spent;
-      legs = on_none _ c.insert-result.result (sym c.is_ok.ensures.value ∙ c.if-is_ok.false);
-    })
+returns-else-is_ok g c = put_makes g (goal.at.returns-else-is_ok g c).After-is_ok c.self.inside.legs (on_none _ c.insert-result.result (sym c.is_ok.ensures.value ∙ c.if-is_ok.false))
