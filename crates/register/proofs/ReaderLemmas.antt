@@ -1,6 +1,6 @@
 -- The text that is left in a chain of pages.
 use Rattle.std.proofs.Common.{ℕ, suc, ◌≡◌, ◌-◌, ◌<◌, ◌≤◌, ◌==◌, min, Bool, true, false, cond, List, [], ◌++◌, drop, length, refl, sym, ap, ◌∙◌, arith, subst, ⊎_elim, IsTrue, Option, Some, None, option_map, option_and_then, unwrap_or, Result, Ok, Err, OnOk, OnErr}
-use Rattle.std.specs.Prelude.{IfErr, IfOk}
+use Rattle.std.specs.Prelude.{IfErr, IfOk, IsErrAnd}
 use Rattle.std.specs.Int.{div_ceil}
 use Rattle.std.proofs.lemmas.Bool.{cases_lt}
 use Rattle.std.proofs.lemmas.Grind.{div_ceil_times}
@@ -248,8 +248,8 @@ rests_reads a b rests = record {
 }
 
 -- and one reader's
-pub goes_on : {r s t : ReaderView} (a b c : Cache) → ReadsOn a b r s → ReadsOn b c s t → ReadsOn a c r t
-goes_on {r} {s} {t} a b c p q = record {
+pub goes_on : {r s t : ReaderView} {a b c : Cache} → ReadsOn a b r s → ReadsOn b c s t → ReadsOn a c r t
+goes_on {r} {s} {t} {a} {b} {c} p q = record {
   only = reads_trans a b c p.only q.only;
   along = λ f.
       let same : payload_of b ≡ payload_of a = (λ i n. p.only.payloads f n i) in
@@ -263,6 +263,11 @@ skips {a} bytes p e = record { only = p.only; along = λ f. ap (stop_of (payload
 -- what a fault says, at the exit of a `?`
 pub if_err_of : {T E : Type 0} (P : E → Type 0) (r : Result T E) (f e : E) → r ≡ Err f → f ≡ e → P e → IfErr r P
 if_err_of P r f e is same h = subst (λ r. IfErr r P) (sym (is ∙ ap Err same)) h
+
+-- a result that is that fault
+pub on_err_and : {T E : Type 0} (P : Result T E → Type 0) (r : Result T E) (e : E) → IsErrAnd r (λ f. f ≡ e) → P (Err e) → P r
+on_err_and P (Ok x) e is h = absurd is
+on_err_and P (Err f) e is h = subst (λ f. P (Err f)) (sym is) h
 
 -- a fault of a later reading
 pub later_fault : {r s : ReaderView} (a b c : Cache) (e : CatalogueFault) → ReadsOn a b r s → IsReaderFault b c s e → IsReaderFault a c r e
@@ -278,8 +283,8 @@ later_fault {r} {s} a b c Version reads h = h
 later_fault {r} {s} a b c Malformed reads h = tt
 
 -- at the exit of a `?`
-pub later : {T : Type 0} {s t : ReaderView} (a b c : Cache) (r : Result T CatalogueFault) (f e : CatalogueFault) → r ≡ Err f → f ≡ e → ReadsOn a b s t → IsReaderFault b c t e → IfErr r (IsReaderFault a c s)
-later {T} {s} {t} a b c r f e is same reads h = if_err_of (IsReaderFault a c s) r f e is same (later_fault a b c e reads h)
+pub later : {T : Type 0} {s t u : ReaderView} {a b c : Cache} (r : Result T CatalogueFault) (e : CatalogueFault) → IsErrAnd r (λ f. f ≡ e) → ReadsOn a b s t → ReadsOn b c t u → IsReaderFault b c t e → IfErr r (IsReaderFault a c s)
+later {T} {s} {t} {u} {a} {b} {c} r e is reads more h = on_err_and (λ r. IfErr r (IsReaderFault a c s)) r e is (later_fault a b c e reads h)
 
 -- and at the end of a body
 pub later_end : {T : Type 0} {s t : ReaderView} (a b c : Cache) (r : Result T CatalogueFault) → ReadsOn a b s t → IfErr r (IsReaderFault b c t) → IfErr r (IsReaderFault a c s)

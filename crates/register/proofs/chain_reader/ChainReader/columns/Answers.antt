@@ -28,7 +28,7 @@ loop-preserved g c =
     let x = c.in_ok-column.field-0 in
     let items = c.in_ok-push.ensures.items in
     record {
-      reads = goes_on c.args.cache.now c.loop.cache c.column.new.cache inv.reads c.column.ensures.reads;
+      reads = goes_on inv.reads c.column.ensures.reads;
       each = λ at may. all_pushed column_text IsColumn column_free xs ys x items (inv.each at may) (c.in_ok-column.ensures.takes at (may_still inv.reads may)).taken.0;
       many = ap length items ∙ length_push xs x ∙ ap (λ n. n + 1) inv.many;
       taken = λ at may. pushed column_text IsColumn column_free xs ys x (rest_of at c.args.self.now) (rest_of at c.loop.self) (rest_of at c.column.new.self) items (inv.taken at may) (c.in_ok-column.ensures.takes at (may_still inv.reads may)).taken.1;
@@ -48,12 +48,10 @@ returns-clause-takes g c = λ at may.
     }
 
 pub returns-in_err-column-clause-caused : goal.returns-in_err-column-clause-caused
-returns-in_err-column-clause-caused g c =
-    let p = err_from_is_err_and c.from_residual.result c.from_residual.ensures.1 in
-    later c.args.cache.now c.loop.cache c.column.new.cache c.from_residual.result p.0 c.in_err-column.field-0.0 p.1 p.2 c.loop.invariant.reads c.in_err-column.ensures.caused
+returns-in_err-column-clause-caused g c = later _ _ c.from_residual.ensures.1 c.loop.invariant.reads c.in_err-column.ensures.reads c.in_err-column.ensures.caused
 
 pub returns-in_err-column-clause-reads : goal.returns-in_err-column-clause-reads
-returns-in_err-column-clause-reads g c = goes_on c.args.cache.now c.loop.cache c.column.new.cache c.loop.invariant.reads c.in_err-column.ensures.reads
+returns-in_err-column-clause-reads g c = goes_on c.loop.invariant.reads c.in_err-column.ensures.reads
 
 pub returns-in_err-push-clause-reads : goal.returns-in_err-push-clause-reads
-returns-in_err-push-clause-reads g c = goes_on c.args.cache.now c.loop.cache c.column.new.cache c.loop.invariant.reads c.in_ok-column.ensures.reads
+returns-in_err-push-clause-reads g c = goes_on c.loop.invariant.reads c.in_ok-column.ensures.reads

@@ -28,7 +28,7 @@ loop-preserved g c =
     let x = c.in_ok-feature.field-0 in
     let items = c.in_ok-push.ensures.items in
     record {
-      reads = goes_on c.args.cache.now c.loop.cache c.feature.new.cache inv.reads c.feature.ensures.reads;
+      reads = goes_on inv.reads c.feature.ensures.reads;
       each = λ at may. all_pushed feature_text IsFeature feature_free xs ys x items (inv.each at may) (c.in_ok-feature.ensures.takes at (may_still inv.reads may)).taken.0;
       many = ap length items ∙ length_push xs x ∙ ap (λ n. n + 1) inv.many;
       taken = λ at may. pushed feature_text IsFeature feature_free xs ys x (rest_of at c.args.self.now) (rest_of at c.loop.self) (rest_of at c.feature.new.self) items (inv.taken at may) (c.in_ok-feature.ensures.takes at (may_still inv.reads may)).taken.1;
@@ -43,12 +43,10 @@ returns-clause-takes g c = λ at may.
     }
 
 pub returns-in_err-feature-clause-caused : goal.returns-in_err-feature-clause-caused
-returns-in_err-feature-clause-caused g c =
-    let p = err_from_is_err_and c.from_residual.result c.from_residual.ensures.1 in
-    later c.args.cache.now c.loop.cache c.feature.new.cache c.from_residual.result p.0 c.in_err-feature.field-0.0 p.1 p.2 c.loop.invariant.reads c.in_err-feature.ensures.caused
+returns-in_err-feature-clause-caused g c = later _ _ c.from_residual.ensures.1 c.loop.invariant.reads c.in_err-feature.ensures.reads c.in_err-feature.ensures.caused
 
 pub returns-in_err-feature-clause-reads : goal.returns-in_err-feature-clause-reads
-returns-in_err-feature-clause-reads g c = goes_on c.args.cache.now c.loop.cache c.feature.new.cache c.loop.invariant.reads c.in_err-feature.ensures.reads
+returns-in_err-feature-clause-reads g c = goes_on c.loop.invariant.reads c.in_err-feature.ensures.reads
 
 pub returns-in_err-push-clause-reads : goal.returns-in_err-push-clause-reads
-returns-in_err-push-clause-reads g c = goes_on c.args.cache.now c.loop.cache c.feature.new.cache c.loop.invariant.reads c.in_ok-feature.ensures.reads
+returns-in_err-push-clause-reads g c = goes_on c.loop.invariant.reads c.in_ok-feature.ensures.reads

@@ -29,7 +29,7 @@ loop-preserved g c =
     let ys = c.value.new.rows.row in
     let takes = λ (at : ℕ → Option Payload) (may : MayBe c.args.cache.now at). (c.in_ok-value.ensures.takes at (may_still inv.reads may)).taken in
     record {
-      reads = goes_on c.args.cache.now c.loop.cache c.value.new.cache inv.reads c.value.ensures.reads;
+      reads = goes_on inv.reads c.value.ensures.reads;
       others = λ at may. ap (λ (r : Grown). r.rows) (takes at may).1 ∙ inv.others at may;
       each = λ at may. all_pushed short_text IsShortText short_free xs ys (takes at may).0 (ap (λ (r : Grown). r.row) (takes at may).1) (inv.each at may) (takes at may).2;
       many = λ at may. ap length (ap (λ (r : Grown). r.row) (takes at may).1) ∙ length_push xs (takes at may).0 ∙ ap (λ n. n + 1) (inv.many at may);
@@ -37,12 +37,10 @@ loop-preserved g c =
     }
 
 pub returns-in_err-value-clause-caused : goal.returns-in_err-value-clause-caused
-returns-in_err-value-clause-caused g c =
-    let p = err_from_is_err_and c.from_residual.result c.from_residual.ensures.1 in
-    later c.args.cache.now c.loop.cache c.value.new.cache c.from_residual.result p.0 c.in_err-value.field-0.0 p.1 p.2 c.loop.invariant.reads c.in_err-value.ensures.caused
+returns-in_err-value-clause-caused g c = later _ _ c.from_residual.ensures.1 c.loop.invariant.reads c.in_err-value.ensures.reads c.in_err-value.ensures.caused
 
 pub returns-in_err-value-clause-reads : goal.returns-in_err-value-clause-reads
-returns-in_err-value-clause-reads g c = goes_on c.args.cache.now c.loop.cache c.value.new.cache c.loop.invariant.reads c.in_err-value.ensures.reads
+returns-in_err-value-clause-reads g c = goes_on c.loop.invariant.reads c.in_err-value.ensures.reads
 
 pub returns-in-Ok-clause-takes : goal.returns-in-Ok-clause-takes
 returns-in-Ok-clause-takes g c = λ at may.

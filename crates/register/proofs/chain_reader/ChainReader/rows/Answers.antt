@@ -29,7 +29,7 @@ loop-preserved g c =
     let ys = c.row.new.rows.rows in
     let takes = λ (at : ℕ → Option Payload) (may : MayBe c.args.cache.now at). (c.in_ok-row.ensures.takes at (may_still inv.reads may)).taken in
     record {
-      reads = goes_on c.args.cache.now c.loop.cache c.row.new.cache inv.reads c.row.ensures.reads;
+      reads = goes_on inv.reads c.row.ensures.reads;
       ended = c.in_ok-row.ensures.ended;
       each = λ at may. all_pushed row_text (IsRow c.args.columns) (row_free c.args.columns) xs ys (takes at may).0 (takes at may).1 (inv.each at may) (takes at may).2;
       many = λ at may. ap length (takes at may).1 ∙ length_push xs (takes at may).0 ∙ ap (λ n. n + 1) (inv.many at may);
@@ -37,12 +37,10 @@ loop-preserved g c =
     }
 
 pub returns-in_err-row-clause-caused : goal.returns-in_err-row-clause-caused
-returns-in_err-row-clause-caused g c =
-    let p = err_from_is_err_and c.from_residual.result c.from_residual.ensures.1 in
-    later c.args.cache.now c.loop.cache c.row.new.cache c.from_residual.result p.0 c.in_err-row.field-0.0 p.1 p.2 c.loop.invariant.reads c.in_err-row.ensures.caused
+returns-in_err-row-clause-caused g c = later _ _ c.from_residual.ensures.1 c.loop.invariant.reads c.in_err-row.ensures.reads c.in_err-row.ensures.caused
 
 pub returns-in_err-row-clause-reads : goal.returns-in_err-row-clause-reads
-returns-in_err-row-clause-reads g c = goes_on c.args.cache.now c.loop.cache c.row.new.cache c.loop.invariant.reads c.in_err-row.ensures.reads
+returns-in_err-row-clause-reads g c = goes_on c.loop.invariant.reads c.in_err-row.ensures.reads
 
 pub returns-clause-takes : goal.returns-clause-takes
 returns-clause-takes g c = λ at may.

@@ -37,9 +37,7 @@ returns-clause-takes g c = λ at may.
     c.in_ok-text.text c.in_ok-text.ensures.text.0 c.in_ok-text.ensures.text.1 (ap (λ r. rest_of at r) (sym c.skip.ensures))
 
 pub returns-in_err-fill-clause-caused : goal.returns-in_err-fill-clause-caused
-returns-in_err-fill-clause-caused g c =
-    let p = err_from_is_err_and c.from_residual-in_err-fill.result c.from_residual-in_err-fill.ensures.1 in
-    later c.args.cache.now c.u64.new.cache c.fill.new.cache c.from_residual-in_err-fill.result p.0 c.in_err-fill.field-0.0 p.1 p.2 c.in_ok-len.ensures.reads c.in_err-fill.ensures.caused
+returns-in_err-fill-clause-caused g c = later _ _ c.from_residual-in_err-fill.ensures.1 c.in_ok-len.ensures.reads c.in_err-fill.ensures.reads c.in_err-fill.ensures.caused
 
 pub returns-in_err-text-clause-caused : goal.returns-in_err-text-clause-caused
 returns-in_err-text-clause-caused g c =
@@ -47,10 +45,10 @@ returns-in_err-text-clause-caused g c =
     if_err_of (IsReaderFault c.args.cache.now c.fill.new.cache c.args.self.now) c.from_residual-in_err-text.result p.0 c.in_err-text.field-0.0 p.1 p.2 (text_read c.args.cache.now c.fill.new.cache c.args.self.now c.in_err-text.field-0.0 c.in_err-text.ensures.memory)
 
 pub returns-in_err-fill-clause-reads : goal.returns-in_err-fill-clause-reads
-returns-in_err-fill-clause-reads g c = goes_on c.args.cache.now c.u64.new.cache c.fill.new.cache c.in_ok-len.ensures.reads c.in_err-fill.ensures.reads
+returns-in_err-fill-clause-reads g c = goes_on c.in_ok-len.ensures.reads c.in_err-fill.ensures.reads
 
 pub returns-in_err-text-clause-reads : goal.returns-in_err-text-clause-reads
-returns-in_err-text-clause-reads g c = goes_on c.args.cache.now c.u64.new.cache c.fill.new.cache c.in_ok-len.ensures.reads c.in_ok-fill.ensures.reads
+returns-in_err-text-clause-reads g c = goes_on c.in_ok-len.ensures.reads c.in_ok-fill.ensures.reads
 
 pub returns-clause-reads : goal.returns-clause-reads
-returns-clause-reads g c = skips (drop c.in_ok-len.len c.fill.new.self.bytes) (goes_on c.args.cache.now c.u64.new.cache c.fill.new.cache c.in_ok-len.ensures.reads c.in_ok-fill.ensures.reads) c.skip.ensures
+returns-clause-reads g c = skips (drop c.in_ok-len.len c.fill.new.self.bytes) (goes_on c.in_ok-len.ensures.reads c.in_ok-fill.ensures.reads) c.skip.ensures
