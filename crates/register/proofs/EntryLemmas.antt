@@ -14,7 +14,7 @@ use Rattle.register.specs.declared.contents.Head.{Head}
 use Rattle.register.specs.declared.contents.Lists.{Lists}
 use Rattle.register.specs.declared.contents.Space.{Space}
 use Rattle.register.proofs.PrefixLemmas.{numbers_free, short_free, signed_free, column_free, feature_free, row_free, features_free, head_free}
-use Rattle.register.proofs.SequenceLemmas.{list_lacks, IsPair, Lacks}
+use Rattle.register.proofs.SequenceLemmas.{IsPair}
 
 abbrev pub column_pair : IsPair column_text IsColumn short_text IsShortText short_text (λ _. IsShortText)
 column_pair = record { left = λ v. v.name; right = λ v. v.kind; free = short_free; parts = λ v k. (k.name, k.kind); whole = λ v. refl }
@@ -65,16 +65,3 @@ features_pair = counted_pair feature_text 4 32 refl HasFeatures AreFeatures (λ 
 
 abbrev pub rows_pair : (columns most : ℕ) → IsPair rows_text (AreFewRows columns most) (big_bytes 4) (IsNumber 32) (λ l. flat_map row_text l) (AreRows columns)
 rows_pair columns most = counted_pair row_text 4 32 refl (AreFewRows columns most) (AreRows columns) (λ v k. (k.has.few, record { each = k.has.each; many = refl }))
-
--- where one is not there, so many are not
-pub no_columns : (xs : List Column) (old mid : Option (List ℕ)) (n : ℕ) → All IsColumn xs → length xs < n → old ≡ option_map (λ s. flat_map column_text xs ++ s) mid → Lacks column_text IsColumn mid → Lacks (λ l. flat_map column_text l) (AreColumns n) old
-no_columns xs old mid n h l is none ys t k e = list_lacks column_text IsColumn column_free xs old mid n h l is none ys t k.each k.many e
-
-pub no_features : (xs : List Feature) (old mid : Option (List ℕ)) (n : ℕ) → All IsFeature xs → length xs < n → old ≡ option_map (λ s. flat_map feature_text xs ++ s) mid → Lacks feature_text IsFeature mid → Lacks (λ l. flat_map feature_text l) (AreFeatures n) old
-no_features xs old mid n h l is none ys t k e = list_lacks feature_text IsFeature feature_free xs old mid n h l is none ys t k.each k.many e
-
-pub no_values : (xs : List (List ℕ)) (old mid : Option (List ℕ)) (n : ℕ) → All IsShortText xs → length xs < n → old ≡ option_map (λ s. flat_map short_text xs ++ s) mid → Lacks short_text IsShortText mid → Lacks (λ l. flat_map short_text l) (IsRow n) old
-no_values xs old mid n h l is none ys t k e = list_lacks short_text IsShortText short_free xs old mid n h l is none ys t k.each k.many e
-
-pub no_rows : (columns : ℕ) (xs : List (List (List ℕ))) (old mid : Option (List ℕ)) (n : ℕ) → All (IsRow columns) xs → length xs < n → old ≡ option_map (λ s. flat_map row_text xs ++ s) mid → Lacks row_text (IsRow columns) mid → Lacks (λ l. flat_map row_text l) (AreRows columns n) old
-no_rows columns xs old mid n h l is none ys t k e = list_lacks row_text (IsRow columns) (row_free columns) xs old mid n h l is none ys t k.each k.many e

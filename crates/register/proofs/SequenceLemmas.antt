@@ -1,8 +1,8 @@
 -- One value behind another, and lists of values.
-use Rattle.std.proofs.Common.{ℕ, ◌≡◌, ◌≢◌, ◌<◌, List, [], ◌∷◌, ◌++◌, length, sym, ap, ◌∙◌, arith, subst, refl, Option, Some, None, option_map, All, Result, Ok, Err}
+use Rattle.std.proofs.Common.{ℕ, ◌≡◌, ◌≢◌, ◌+◌, ◌<◌, List, [], ◌∷◌, ◌++◌, length, sym, ap, ◌∙◌, arith, subst, refl, Option, Some, None, option_map, All, Result, Ok, Err}
 use Rattle.std.specs.Prelude.{IfErr, IsErrAnd}
 use Rattle.std.specs.List.{flat_map}
-use Rattle.std.proofs.lemmas.List.{append_assoc, append-nil}
+use Rattle.std.proofs.lemmas.List.{append_assoc, append-nil, length_push}
 use Rattle.std.proofs.lemmas.List.Elements.{All-push}
 use Rattle.pagecache.specs.Cache.{Cache}
 use Rattle.register.specs.ChainReader.{ReaderView, rest_of, BreaksAt, IsReaderFault, MayBe, ReadsOn, Takes, TakesInto}
@@ -31,11 +31,11 @@ taken_both A a old mid new p q =
 
 -- lists of values
 module _ {V : Type 0} (text : V → List ℕ) (ok : V → Type 0) (free : IsFree text ok) where
-  pub flat_push : (xs : List V) (x : V) → flat_map text (xs ++ x ∷ []) ≡ flat_map text xs ++ text x
+  flat_push : (xs : List V) (x : V) → flat_map text (xs ++ x ∷ []) ≡ flat_map text xs ++ text x
   flat_push [] x = append-nil (text x)
   flat_push (y ∷ ys) x = ap (λ l. text y ++ l) (flat_push ys x) ∙ sym (append_assoc (text y) (flat_map text ys) (text x))
 
-  pub more_taken : (xs : List V) (x : V) (old mid new : Option (List ℕ)) → old ≡ option_map (λ t. flat_map text xs ++ t) mid → mid ≡ option_map (λ t. text x ++ t) new → old ≡ option_map (λ t. flat_map text (xs ++ x ∷ []) ++ t) new
+  more_taken : (xs : List V) (x : V) (old mid new : Option (List ℕ)) → old ≡ option_map (λ t. flat_map text xs ++ t) mid → mid ≡ option_map (λ t. text x ++ t) new → old ≡ option_map (λ t. flat_map text (xs ++ x ∷ []) ++ t) new
   more_taken xs x old mid new p q = taken_both (flat_map text xs) (text x) old mid new p q ∙ ap (λ l. option_map (λ t. l ++ t) new) (sym (flat_push xs x))
 
   split_at : (xs : List V) (mid : Option (List ℕ)) (ys : List V) (t : List ℕ) → All ok xs → All ok ys → length xs < length ys → option_map (λ s. flat_map text xs ++ s) mid ≡ Some (flat_map text ys ++ t) → (Lacks text ok mid → ⊥)
@@ -44,18 +44,6 @@ module _ {V : Type 0} (text : V → List ℕ) (ok : V → Type 0) (free : IsFree
       let x = list_split text ok free xs ys s t h k l (some_same (flat_map text xs ++ s) (flat_map text ys ++ t) e) in
       n x.0 (flat_map text x.1 ++ t) x.2 (ap Some x.3)
 
-  -- where one is not there, so many are not
-  pub list_lacks : (xs : List V) (old mid : Option (List ℕ)) (n : ℕ) → All ok xs → length xs < n → old ≡ option_map (λ s. flat_map text xs ++ s) mid → Lacks text ok mid
-      → (ys : List V) (t : List ℕ) → All ok ys → length ys ≡ n → old ≢ Some (flat_map text ys ++ t)
-  list_lacks xs old mid n h l is none ys t k m e = split_at xs mid ys t h k (omega (arith, l, m)) (sym is ∙ e) none
-
-  -- one more is read
-  pub pushed : (xs ys : List V) (x : V) (old mid new : Option (List ℕ)) → ys ≡ xs ++ x ∷ [] → old ≡ option_map (λ t. flat_map text xs ++ t) mid → mid ≡ option_map (λ t. text x ++ t) new → old ≡ option_map (λ t. flat_map text ys ++ t) new
-  pushed xs ys x old mid new e p q = more_taken xs x old mid new p q ∙ ap (λ l. option_map (λ t. flat_map text l ++ t) new) (sym e)
-
-  pub all_pushed : (xs ys : List V) (x : V) → ys ≡ xs ++ x ∷ [] → All ok xs → ok x → All ok ys
-  all_pushed xs ys x e h k = subst (λ l. All ok l) (sym e) (All-push ok xs x h k)
-
 -- what a call that reads a value leaves, and what it says where it is refused
 abbrev pub Leaves : {V : Type 0} → Cache → Cache → ReaderView → ReaderView → (V → List ℕ) → (V → Type 0) → Result V CatalogueFault → Type 0
 Leaves a b s t text ok r = record {
@@ -63,6 +51,26 @@ Leaves a b s t text ok r = record {
   reads : ReadsOn a b s t;
   caused : IfErr r (IsReaderFault a b s);
 }
+
+-- the same where the value is put somewhere
+abbrev pub LeavesInto : {V T : Type 0} → Cache → Cache → ReaderView → ReaderView → (V → List ℕ) → (V → Type 0) → (V → Type 0) → Result T CatalogueFault → Type 0
+LeavesInto a b s t text ok is_put r = record {
+  takes : (at : ℕ → Option Payload) → MayBe a at → TakesInto at text ok is_put (rest_of at s) (rest_of at t) r;
+  reads : ReadsOn a b s t;
+  caused : IfErr r (IsReaderFault a b s);
+}
+
+-- what is refused is not there, wherever it was to be put
+module _ {V T : Type 0} {text : V → List ℕ} {ok is_put : V → Type 0} {a b : Cache} {s t : ReaderView} {e : CatalogueFault} where
+  pub from_into : ReadsOn a b s t → ((at : ℕ → Option Payload) → MayBe a at → TakesInto {T = T} at text ok is_put (rest_of at s) (rest_of at t) (Err e)) → IsReaderFault a b s e → Leaves a b s t text ok (Err e)
+  from_into reads takes caused = record { takes = λ at may. record { taken = tt; lacks = (takes at may).lacks }; reads = reads; caused = caused }
+
+  pub into_refused : {r : Result T CatalogueFault} → IsErrAnd r (λ f. f ≡ e) → Leaves a b s t text ok (Err e) → LeavesInto a b s t text ok is_put r
+  into_refused {r} is p = on_err_and (λ r. LeavesInto a b s t text ok is_put r) r e is (record {
+    takes = λ at may. record { taken = tt; lacks = (p.takes at may).lacks };
+    reads = p.reads;
+    caused = p.caused;
+  })
 
 -- a value that is made of two: its text is theirs, and what the second is goes with the first
 pub record IsPair {A B V : Type 0} (text : V → List ℕ) (ok : V → Type 0) (first : A → List ℕ) (is_first : A → Type 0) (second : B → List ℕ) (is_second : A → B → Type 0) : Type 0 where
@@ -145,3 +153,61 @@ last_read pair (Err e) own makes p q = second_refused pair refl p q
 -- what is said of a value by an equal number is said by this one
 pub goes_with : {N V : Type 0} {a b : Cache} {s t : ReaderView} {text : V → List ℕ} {r : Result V CatalogueFault} (is : N → V → Type 0) {n m : N} → n ≡ m → Leaves a b s t text (is n) r → Leaves a b s t text (is m) r
 goes_with {a = a} {b = b} {s = s} {t = t} {text = text} {r = r} is same h = subst (λ n. Leaves a b s t text (is n) r) same h
+
+-- so many values of a list are taken, one behind another
+pub record AreTaken {V : Type 0} (text : V → List ℕ) (ok : V → Type 0) (xs : List V) (n : ℕ) (old new : Option (List ℕ)) : Type 0 where
+  pub each : All ok xs
+  pub many : length xs ≡ n
+  pub taken : old ≡ option_map (λ t. flat_map text xs ++ t) new
+
+abbrev pub HasRead : {V : Type 0} → Cache → Cache → ReaderView → ReaderView → (V → List ℕ) → (V → Type 0) → List V → ℕ → Type 0
+HasRead a b s t text ok xs n = record {
+  reads : ReadsOn a b s t;
+  taken : (at : ℕ → Option Payload) → MayBe a at → AreTaken text ok xs n (rest_of at s) (rest_of at t);
+}
+
+module _ {V : Type 0} {text : V → List ℕ} {ok : V → Type 0} (free : IsFree text ok) {a b : Cache} {s t : ReaderView} {xs : List V} {n : ℕ} where
+  -- one more is put behind them
+  pub one_put : {T : Type 0} {c : Cache} {u : ReaderView} {ys : List V} {y : T} → HasRead a b s t text ok xs n → ReadsOn b c t u
+      → ((at : ℕ → Option Payload) → MayBe b at → TakesInto at text ok (λ x. ys ≡ xs ++ x ∷ []) (rest_of at t) (rest_of at u) (Ok y)) → HasRead a c s u text ok ys (n + 1)
+  one_put {u = u} p reads takes = record {
+    reads = goes_on p.reads reads;
+    taken = λ at may.
+        let before = p.taken at may in
+        let one = (takes at (may_still p.reads may)).taken in
+        let text_is = ap (λ l. option_map (λ t. flat_map text l ++ t) (rest_of at u)) (sym one.1) in
+        record {
+          each = subst (λ l. All ok l) (sym one.1) (All-push ok xs one.0 before.each one.2);
+          many = ap length one.1 ∙ length_push xs one.0 ∙ ap (λ n. n + 1) before.many;
+          taken = more_taken text ok free xs one.0 (rest_of at s) (rest_of at t) (rest_of at u) before.taken one.3 ∙ text_is;
+        };
+  }
+
+  -- one more that was read
+  pub one_read : {c : Cache} {u : ReaderView} {ys : List V} {x : V} → ys ≡ xs ++ x ∷ [] → HasRead a b s t text ok xs n → Leaves b c t u text ok (Ok x) → HasRead a c s u text ok ys (n + 1)
+  one_read {x = x} items p q =
+      one_put {T = V} {y = x} p q.reads (λ at may. let one = (q.takes at may).taken in record { taken = (x, items, one.0, one.1); lacks = tt })
+
+  -- one is refused before there are so many
+  pub list_refused : {c : Cache} {u : ReaderView} {count : ℕ} {are : List V → Type 0} {r : Result (List V) CatalogueFault} {e : CatalogueFault} → ((l : List V) → are l → All ok l × (length l ≡ count)) → n < count
+      → IsErrAnd r (λ f. f ≡ e) → HasRead a b s t text ok xs n → Leaves b c t u text ok (Err e) → Leaves a c s u (λ l. flat_map text l) are r
+  list_refused {c} {u} {are = are} {r = r} {e = e} parts less is p q = on_err_and (λ r. Leaves a c s u (λ l. flat_map text l) are r) r e is (record {
+    takes = λ at may. let before = p.taken at may in record {
+      taken = tt;
+      lacks = λ k l t' h found.
+          let many = (parts l h).1 in
+          let own = before.many in
+          split_at text ok free xs (rest_of at t) l t' before.each (parts l h).0 (omega (arith, less, many, own)) (sym before.taken ∙ found) ((q.takes at (may_still p.reads may)).lacks k);
+    };
+    reads = goes_on p.reads q.reads;
+    caused = later_fault a b c e p.reads q.caused;
+  })
+
+  -- there are so many
+  pub list_read : {count : ℕ} {are : List V → Type 0} {ys : List V} → ((l : List V) → All ok l → length l ≡ count → are l) → n ≡ count → ys ≡ xs
+      → HasRead a b s t text ok xs n → Leaves a b s t (λ l. flat_map text l) are (Ok ys)
+  list_read {are = are} makes many same p = subst (λ l. Leaves a b s t (λ l. flat_map text l) are (Ok l)) (sym same) (record {
+    takes = λ at may. let all = p.taken at may in record { taken = (makes xs all.each (all.many ∙ many), all.taken); lacks = tt };
+    reads = p.reads;
+    caused = tt;
+  })
