@@ -13,7 +13,7 @@ use Rattle.pagecache.specs.declared.fault.CacheFault.TheVariants as cache
 use Rattle.chains.specs.Reads.{OnlyReads}
 pub use Rattle.chains.proofs.ReadLemmas.{reads_trans}
 use Rattle.register.specs.Chain.{most_used, is_part, next_in, text_in, chain_stop, chain_text, text_at, text_stop}
-use Rattle.register.specs.ChainReader.{ReaderView, fault_of, rest_of, stop_of, BreaksAt, IsBroken, IsPageFault, IsReadFault, IsReaderFault, IsTextFault, MayBe, ReadsOn, TakesPart}
+use Rattle.register.specs.ChainReader.{ReaderView, fault_of, rest_of, stop_of, BreaksAt, IsBroken, IsPageFault, IsReadFault, IsReaderFault, IsTextFault, MayBe, ReadsOn, Takes, TakesInto, TakesPart}
 use Rattle.register.specs.declared.fault.CatalogueFault.{CatalogueFault}
 use Rattle.register.specs.declared.fault.CatalogueFault.TheVariants.{Memory, Store, StoreFull, Damaged, Unfinished, Version, Malformed}
 
@@ -339,3 +339,43 @@ read_fault a b r (Damaged n) h = h.0
 read_fault a b r Unfinished h = h
 read_fault a b r Version h = h
 read_fault a b r Malformed h = tt
+
+-- what a call that reads a value leaves, and what it says where it is refused
+abbrev pub Leaves : {V : Type 0} → Cache → Cache → ReaderView → ReaderView → (V → List ℕ) → (V → Type 0) → Result V CatalogueFault → Type 0
+Leaves a b s t text ok r = record {
+  takes : (at : ℕ → Option Payload) → MayBe a at → Takes at text ok (rest_of at s) (rest_of at t) r;
+  reads : ReadsOn a b s t;
+  caused : IfErr r (IsReaderFault a b s);
+}
+
+-- the same where the value is put somewhere
+abbrev pub LeavesInto : {V T : Type 0} → Cache → Cache → ReaderView → ReaderView → (V → List ℕ) → (V → Type 0) → (V → Type 0) → Result T CatalogueFault → Type 0
+LeavesInto a b s t text ok is_put r = record {
+  takes : (at : ℕ → Option Payload) → MayBe a at → TakesInto at text ok is_put (rest_of at s) (rest_of at t) r;
+  reads : ReadsOn a b s t;
+  caused : IfErr r (IsReaderFault a b s);
+}
+
+-- a refusal that is passed on
+pub refused : {V : Type 0} {text : V → List ℕ} {ok : V → Type 0} {a b : Cache} {s t : ReaderView} {r : Result V CatalogueFault} {e : CatalogueFault} → IsErrAnd r (λ f. f ≡ e) → Leaves a b s t text ok (Err e) → Leaves a b s t text ok r
+refused {text = text} {ok = ok} {a = a} {b = b} {s = s} {t = t} {r = r} {e = e} is p = on_err_and (λ r. Leaves a b s t text ok r) r e is p
+
+-- what is refused is not there, wherever it was to be put
+module _ {V T : Type 0} {text : V → List ℕ} {ok is_put : V → Type 0} {a b : Cache} {s t : ReaderView} {e : CatalogueFault} where
+  pub from_into : ReadsOn a b s t → ((at : ℕ → Option Payload) → MayBe a at → TakesInto {T = T} at text ok is_put (rest_of at s) (rest_of at t) (Err e)) → IsReaderFault a b s e → Leaves a b s t text ok (Err e)
+  from_into reads takes caused = record { takes = λ at may. record { taken = tt; lacks = (takes at may).lacks }; reads = reads; caused = caused }
+
+  pub into_refused : {r : Result T CatalogueFault} → IsErrAnd r (λ f. f ≡ e) → Leaves a b s t text ok (Err e) → LeavesInto a b s t text ok is_put r
+  into_refused {r} is p = on_err_and (λ r. LeavesInto a b s t text ok is_put r) r e is (record {
+    takes = λ at may. record { taken = tt; lacks = (p.takes at may).lacks };
+    reads = p.reads;
+    caused = p.caused;
+  })
+
+-- what is read is put somewhere
+pub into_read : {V T : Type 0} {text : V → List ℕ} {ok is_put : V → Type 0} {a b : Cache} {s t : ReaderView} {v : V} {y : T} → is_put v → Leaves a b s t text ok (Ok v) → LeavesInto a b s t text ok is_put (Ok y)
+into_read {v = v} put p = record {
+  takes = λ at may. let one = (p.takes at may).taken in record { taken = (v, put, one.0, one.1); lacks = tt };
+  reads = p.reads;
+  caused = tt;
+}

@@ -9,19 +9,12 @@ use Rattle.register.specs.ChainReader.{ReaderView, rest_of, BreaksAt, IsReaderFa
 use Rattle.pages.specs.declared.payload.Payload.{Payload}
 use Rattle.register.specs.declared.fault.CatalogueFault.{CatalogueFault}
 use Rattle.register.specs.declared.fault.CatalogueFault.TheVariants.{Malformed}
-use Rattle.register.proofs.ReaderLemmas.{goes_on, later_fault, map_map, map_same, may_still, on_err_and, some_none, some_same}
+use Rattle.register.proofs.ReaderLemmas.{goes_on, later_fault, map_map, map_same, may_still, on_err_and, some_none, some_same, Leaves}
 use Rattle.register.proofs.PrefixLemmas.{IsFree, list_split}
 
 -- no text of such a value stands there
 abbrev pub Lacks : {V : Type 0} → (V → List ℕ) → (V → Type 0) → Option (List ℕ) → Type 0
 Lacks {V = V} text ok old = (v : V) (t : List ℕ) → ok v → old ≢ Some (text v ++ t)
-
-module _ {V : Type 0} (text : V → List ℕ) (ok : V → Type 0) where
-  pub lacks_err : {at : ℕ → Option Payload} (old new : Option (List ℕ)) (r : Result V CatalogueFault) (e f : CatalogueFault) → r ≡ Err f → f ≡ e → (BreaksAt at e → Lacks text ok old) → Takes at text ok old new r
-  lacks_err {at} old new r e f is same h = subst (λ r. Takes at text ok old new r) (sym (is ∙ ap Err same)) (record { taken = tt; lacks = h })
-
-  pub into_err : {T : Type 0} {at : ℕ → Option Payload} (is_put : V → Type 0) (old new : Option (List ℕ)) (r : Result T CatalogueFault) (e f : CatalogueFault) → r ≡ Err f → f ≡ e → (BreaksAt at e → Lacks text ok old) → TakesInto at text ok is_put old new r
-  into_err {T} {at} is_put old new r e f is same h = subst (λ r. TakesInto at text ok is_put old new r) (sym (is ∙ ap Err same)) (record { taken = tt; lacks = h })
 
 -- one behind another
 pub taken_both : (A a : List ℕ) (old mid new : Option (List ℕ)) → old ≡ option_map (λ t. A ++ t) mid → mid ≡ option_map (λ t. a ++ t) new → old ≡ option_map (λ t. (A ++ a) ++ t) new
@@ -43,34 +36,6 @@ module _ {V : Type 0} (text : V → List ℕ) (ok : V → Type 0) (free : IsFree
   split_at xs (Some s) ys t h k l e n =
       let x = list_split text ok free xs ys s t h k l (some_same (flat_map text xs ++ s) (flat_map text ys ++ t) e) in
       n x.0 (flat_map text x.1 ++ t) x.2 (ap Some x.3)
-
--- what a call that reads a value leaves, and what it says where it is refused
-abbrev pub Leaves : {V : Type 0} → Cache → Cache → ReaderView → ReaderView → (V → List ℕ) → (V → Type 0) → Result V CatalogueFault → Type 0
-Leaves a b s t text ok r = record {
-  takes : (at : ℕ → Option Payload) → MayBe a at → Takes at text ok (rest_of at s) (rest_of at t) r;
-  reads : ReadsOn a b s t;
-  caused : IfErr r (IsReaderFault a b s);
-}
-
--- the same where the value is put somewhere
-abbrev pub LeavesInto : {V T : Type 0} → Cache → Cache → ReaderView → ReaderView → (V → List ℕ) → (V → Type 0) → (V → Type 0) → Result T CatalogueFault → Type 0
-LeavesInto a b s t text ok is_put r = record {
-  takes : (at : ℕ → Option Payload) → MayBe a at → TakesInto at text ok is_put (rest_of at s) (rest_of at t) r;
-  reads : ReadsOn a b s t;
-  caused : IfErr r (IsReaderFault a b s);
-}
-
--- what is refused is not there, wherever it was to be put
-module _ {V T : Type 0} {text : V → List ℕ} {ok is_put : V → Type 0} {a b : Cache} {s t : ReaderView} {e : CatalogueFault} where
-  pub from_into : ReadsOn a b s t → ((at : ℕ → Option Payload) → MayBe a at → TakesInto {T = T} at text ok is_put (rest_of at s) (rest_of at t) (Err e)) → IsReaderFault a b s e → Leaves a b s t text ok (Err e)
-  from_into reads takes caused = record { takes = λ at may. record { taken = tt; lacks = (takes at may).lacks }; reads = reads; caused = caused }
-
-  pub into_refused : {r : Result T CatalogueFault} → IsErrAnd r (λ f. f ≡ e) → Leaves a b s t text ok (Err e) → LeavesInto a b s t text ok is_put r
-  into_refused {r} is p = on_err_and (λ r. LeavesInto a b s t text ok is_put r) r e is (record {
-    takes = λ at may. record { taken = tt; lacks = (p.takes at may).lacks };
-    reads = p.reads;
-    caused = p.caused;
-  })
 
 -- a value that is made of two: its text is theirs, and what the second is goes with the first
 pub record IsPair {A B V : Type 0} (text : V → List ℕ) (ok : V → Type 0) (first : A → List ℕ) (is_first : A → Type 0) (second : B → List ℕ) (is_second : A → B → Type 0) : Type 0 where

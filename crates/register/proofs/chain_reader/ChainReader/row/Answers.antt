@@ -3,10 +3,10 @@ use Rattle.std.proofs.Common.{ℕ, refl, Err, Option}
 use Rattle.pages.specs.declared.payload.Payload.{Payload}
 use Rattle.register.specs.ChainReader.{MayBe}
 use Rattle.register.specs.Text.{IsRow}
-use Rattle.register.proofs.ReaderLemmas.{may_still}
+use Rattle.register.proofs.ReaderLemmas.{from_into, into_refused, may_still}
 use Rattle.rows.specs.Rows.{Grown}
 use Rattle.register.proofs.PrefixLemmas.{short_free}
-use Rattle.register.proofs.SequenceLemmas.{from_into, into_refused, list_refused, one_put}
+use Rattle.register.proofs.SequenceLemmas.{list_refused, one_put}
 use Rattle.register.proofs.chain_reader.ChainReader.row.Goals as goal
 
 pub returns-in_err-value : goal.returns-in_err-value

@@ -1,6 +1,7 @@
 use Rattle.std.proofs.Common.{arith}
 use Rattle.register.proofs.PrefixLemmas.{row_free}
-use Rattle.register.proofs.SequenceLemmas.{from_into, list_read, list_refused, one_put}
+use Rattle.register.proofs.ReaderLemmas.{from_into}
+use Rattle.register.proofs.SequenceLemmas.{list_read, list_refused, one_put}
 use Rattle.register.proofs.chain_reader.ChainReader.rows.Goals as goal
 
 pub returns-in_err-row : goal.returns-in_err-row
