@@ -356,6 +356,16 @@ LeavesInto a b s t text ok is_put r = record {
   caused : IfErr r (IsReaderFault a b s);
 }
 
+-- what a call that reads pages until so many bytes stand ready leaves
+abbrev pub IsFilled : Cache → Cache → ReaderView → ReaderView → ℕ → Result (Unit {0}) CatalogueFault → Type 0
+IsFilled a b s t n r = record {
+  same : OnOk r ((at : ℕ → Option Payload) → MayBe a at → rest_of at t ≡ rest_of at s);
+  ready : OnOk r (n ≤ length t.bytes);
+  broken : IfErr r (λ e. (at : ℕ → Option Payload) → MayBe a at → BreaksAt at e → (text : List ℕ) → rest_of at s ≡ Some text → length text < n);
+  reads : ReadsOn a b s t;
+  caused : IfErr r (IsReaderFault a b s);
+}
+
 -- a refusal that is passed on
 pub refused : {V : Type 0} {text : V → List ℕ} {ok : V → Type 0} {a b : Cache} {s t : ReaderView} {r : Result V CatalogueFault} {e : CatalogueFault} → IsErrAnd r (λ f. f ≡ e) → Leaves a b s t text ok (Err e) → Leaves a b s t text ok r
 refused {text = text} {ok = ok} {a = a} {b = b} {s = s} {t = t} {r = r} {e = e} is p = on_err_and (λ r. Leaves a b s t text ok r) r e is p

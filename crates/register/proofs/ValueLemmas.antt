@@ -12,7 +12,7 @@ use Rattle.register.specs.ChainReader.{ReaderView, rest_of, BreaksAt, IsReaderFa
 use Rattle.register.specs.Text.{short_text, IsNumber, IsShortText}
 use Rattle.register.specs.declared.fault.CatalogueFault.{CatalogueFault}
 use Rattle.register.specs.declared.fault.CatalogueFault.TheVariants.{Memory, Store, StoreFull, Damaged, Unfinished, Version, Malformed}
-use Rattle.register.proofs.ReaderLemmas.{goes_on, later_fault, map_map, map_same, may_still, on_err_and, skips, some_none, some_same, text_read, Leaves}
+use Rattle.register.proofs.ReaderLemmas.{goes_on, later_fault, map_map, map_same, may_still, on_err_and, skips, some_none, some_same, text_read, IsFilled, Leaves}
 
 -- two texts that are equal in front of something, where they are of one length
 pub same_front : (a b s t : List ℕ) → length a ≡ length b → a ++ s ≡ b ++ t → (a ≡ b) × (s ≡ t)
@@ -64,33 +64,33 @@ text_fault at Unfinished h f b = absurd b
 text_fault at Version h f b = absurd b
 text_fault at Malformed h f b = f refl
 
--- a text behind its length: the length was read, and more bytes
-module _ {a b c : Cache} {s t u : ReaderView} {n : ℕ} (len : Leaves a b s t (big_bytes 8) (IsNumber 64) (Ok n)) (reads : ReadsOn b c t u) where
+-- a text behind its length: the length was read, and pages until as many bytes stand ready
+module _ {a b : Cache} {s t : ReaderView} {n : ℕ} (len : Leaves a b s t (big_bytes 8) (IsNumber 64) (Ok n)) where
   split : (at : ℕ → Option Payload) → MayBe a at → (v w : List ℕ) → IsShortText v → rest_of at s ≡ Some (short_text v ++ w) → (n ≡ length v) × (rest_of at t ≡ Some (v ++ w))
   split at may v w is e = let l = (len.takes at may).taken in behind n (rest_of at t) v w l.0 is.short (sym l.1 ∙ e)
 
   -- the text is not there whole
-  pub text_cut : {e : CatalogueFault} → ((at : ℕ → Option Payload) → MayBe b at → BreaksAt at e → (x : List ℕ) → rest_of at t ≡ Some x → length x < n) → IsReaderFault b c t e → Leaves a c s u short_text IsShortText (Err e)
-  text_cut {e} broken caused = record {
+  pub text_cut : {c : Cache} {u : ReaderView} {e : CatalogueFault} → IsFilled b c t u n (Err e) → Leaves a c s u short_text IsShortText (Err e)
+  text_cut {c} {e = e} fill = record {
     takes = λ at may. record {
       taken = tt;
       lacks = λ k v w is found.
           let l = split at may v w is found in
-          let short = broken at (may_still len.reads may) k (v ++ w) l.1 in
+          let short = fill.broken at (may_still len.reads may) k (v ++ w) l.1 in
           let both = length-append v w in
           let own = l.0 in
           absurd (omega (arith, short, both, own));
     };
-    reads = goes_on len.reads reads;
-    caused = later_fault a b c e len.reads caused;
+    reads = goes_on len.reads fill.reads;
+    caused = later_fault a b c e len.reads fill.caused;
   }
 
-  module _ (same : (at : ℕ → Option Payload) → MayBe b at → rest_of at u ≡ rest_of at t) (enough : n ≤ length u.bytes) where
+  module _ {c : Cache} {u : ReaderView} (fill : IsFilled b c t u n (Ok tt)) where
     abbrev own : List ℕ
     own = take n u.bytes
 
     own_length : length own ≡ n
-    own_length = length-take-le n u.bytes enough
+    own_length = length-take-le n u.bytes fill.ready
 
     front_is : (rest : Option (List ℕ)) (v t : List ℕ) → length own ≡ length v → option_map (λ t. own ++ t) rest ≡ Some (v ++ t) → own ≡ v
     front_is None v t l e = absurd (some_none (v ++ t) (sym e))
@@ -103,11 +103,11 @@ module _ {a b c : Cache} {s t u : ReaderView} {n : ℕ} (len : Leaves a b s t (b
         taken = tt;
         lacks = λ k v w is found.
             let l = split at may v w is found in
-            let there = sym (ready at u n) ∙ same at (may_still len.reads may) ∙ l.1 in
+            let there = sym (ready at u n) ∙ fill.same at (may_still len.reads may) ∙ l.1 in
             let front = front_is (rest_of at (record u { bytes = drop n u.bytes })) v w (own_length ∙ l.0) there in
             text_fault at e fault broken k (subst (λ x. IsUtf8 x) (sym front) is.utf8);
       };
-      reads = goes_on len.reads reads;
+      reads = goes_on len.reads fill.reads;
       caused = text_read a c s e fault;
     }
 
@@ -116,7 +116,7 @@ module _ {a b c : Cache} {s t u : ReaderView} {n : ℕ} (len : Leaves a b s t (b
     text_taken {w} {v} is utf8 end = record {
       takes = λ at may.
           let l = (len.takes at may).taken in
-          let mid = sym (same at (may_still len.reads may)) ∙ ready at u n ∙ ap (λ r. option_map (λ s. own ++ s) (rest_of at r)) (sym end) in
+          let mid = sym (fill.same at (may_still len.reads may)) ∙ ready at u n ∙ ap (λ r. option_map (λ s. own ++ s) (rest_of at r)) (sym end) in
           record {
             taken = (
               record { utf8 = utf8; short = subst (λ k. k < 2 ^ 64) (sym (ap length is ∙ own_length)) l.0 },
@@ -127,6 +127,6 @@ module _ {a b c : Cache} {s t u : ReaderView} {n : ℕ} (len : Leaves a b s t (b
             );
             lacks = tt;
           };
-      reads = skips (drop n u.bytes) (goes_on len.reads reads) end;
+      reads = skips (drop n u.bytes) (goes_on len.reads fill.reads) end;
       caused = tt;
     }

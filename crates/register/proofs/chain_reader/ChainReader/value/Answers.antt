@@ -4,18 +4,14 @@ use Rattle.register.proofs.ValueLemmas.{no_text, text_cut, text_taken}
 use Rattle.register.proofs.chain_reader.ChainReader.value.Goals as goal
 
 pub returns-in_err-fill : goal.returns-in_err-fill
-returns-in_err-fill g c =
-    let fill = c.in_err-fill.ensures in
-    into_refused c.from_residual-in_err-fill.ensures.1 (text_cut c.in_ok-len.ensures fill.reads fill.broken fill.caused)
+returns-in_err-fill g c = into_refused c.from_residual-in_err-fill.ensures.1 (text_cut c.in_ok-len.ensures c.in_err-fill.ensures)
 
 pub returns-in_err-put_ready : goal.returns-in_err-put_ready
 returns-in_err-put_ready g c =
-    let fill = c.in_ok-fill.ensures in
     let put = c.in_err-put_ready.ensures in
-    into_refused c.from_residual-in_err-put_ready.ensures.1 (no_text c.in_ok-len.ensures fill.reads fill.same fill.ready put.memory put.broken)
+    into_refused c.from_residual-in_err-put_ready.ensures.1 (no_text c.in_ok-len.ensures c.in_ok-fill.ensures put.memory put.broken)
 
 pub returns : goal.returns
 returns g c =
-    let fill = c.in_ok-fill.ensures in
     let put = c.in_ok-put_ready.ensures in
-    into_read put.put (text_taken c.in_ok-len.ensures fill.reads fill.same fill.ready refl put.text c.skip.ensures)
+    into_read put.put (text_taken c.in_ok-len.ensures c.in_ok-fill.ensures refl put.text c.skip.ensures)

@@ -34,7 +34,7 @@ loop-done-preserved g c =
         passes = passes_trans a b d inv.passes c.write_part.ensures.passes;
         length = λ e. ok.length (inv.length e);
         tree = λ text h. spares_trans a b d inv.passes (inv.tree text h) (c.write_part.ensures.tree text (inv.holds text h));
-        reuses = reuses_then a b d w.pages v.pages u.pages w.earlier v.earlier u.earlier inv.reuses ok.reuses;
+        reuses = reuses_then inv.reuses ok.reuses;
       },
     )
 
