@@ -1,4 +1,4 @@
--- Columns, features, rows and what is made of them: what is lacking where a part is not there.
+-- Columns, features, rows and what is made of them: each is made of two, one behind the other.
 use Rattle.std.proofs.Common.{ℕ, ◌≡◌, ◌<◌, ◌-◌, ◌^◌, min, List, ◌++◌, length, refl, sym, ap, ◌∙◌, arith, subst, All, ℤ, Option, Some, option_map, Ok}
 use Rattle.std.proofs.lemmas.Int.{clamps}
 use Rattle.std.specs.List.{flat_map}
@@ -16,15 +16,19 @@ use Rattle.register.specs.declared.contents.Space.{Space}
 use Rattle.register.proofs.PrefixLemmas.{numbers_free, short_free, signed_free, column_free, feature_free, row_free, features_free, head_free}
 use Rattle.register.proofs.SequenceLemmas.{IsPair}
 
+-- a column: its name, and its type
 abbrev pub column_pair : IsPair column_text IsColumn short_text IsShortText short_text (λ _. IsShortText)
 column_pair = record { left = λ v. v.name; right = λ v. v.kind; free = short_free; parts = λ v k. (k.name, k.kind); whole = λ v. refl }
 
+-- a feature: its name, and what is kept of it
 abbrev pub feature_pair : IsPair feature_text IsFeature short_text IsShortText kept_text (λ _. IsKept)
 feature_pair = record { left = λ v. v.name; right = λ v. v.kept; free = short_free; parts = λ v k. (k.name, k.kept); whole = λ v. refl }
 
+-- a coordinate reference system, and columns
 abbrev pub space_pair : IsPair space_text IsSpace short_text IsShortText columns_text (λ _. HasColumns)
 space_pair = record { left = λ v. v.crs; right = λ v. v.columns; free = short_free; parts = λ v k. (k.crs, k.columns); whole = λ v. refl }
 
+-- a base, and a space
 abbrev pub head_pair : IsPair head_text IsHead signed_bytes IsSigned space_text (λ _. IsSpace)
 head_pair = record { left = λ v. v.base; right = λ v. v.space; free = signed_free; parts = λ v k. (k.base, k.space); whole = λ v. refl }
 
@@ -32,7 +36,7 @@ head_pair = record { left = λ v. v.base; right = λ v. v.space; free = signed_f
 pub head_made : (v : Head) (base : ℤ) → base ≡ v.base → IsSigned base → IsSpace v.space → IsHead v × (base ≡ v.base)
 head_made v base same h k = (record { base = subst IsSigned same h; space = k }, same)
 
--- no more rows than there are legs
+-- features, and no more rows than they have legs
 abbrev pub lists_pair : (columns most : ℕ) → IsPair lists_text (AreRead columns most) features_text HasFeatures rows_text (λ features. AreFewRows columns (min (leg_sum features) (2 ^ 64 - 1)))
 lists_pair columns most = record {
   left = λ v. v.features;
@@ -42,7 +46,7 @@ lists_pair columns most = record {
   whole = λ v. refl;
 }
 
--- the rows have a value for each column of the head
+-- a head, and lists whose rows have a value for each of its columns
 abbrev pub contents_pair : (most : ℕ) → IsPair contents_text (λ contents. IsRead most (Some contents)) head_text IsHead lists_text (λ head. AreRead (length head.space.columns) most)
 contents_pair most = record {
   left = λ v. v.head;
@@ -57,11 +61,14 @@ module _ {V : Type 0} (text : V → List ℕ) (n bits : ℕ) (fits : 2 ^ bits �
   abbrev counted_pair : IsPair (λ l. big_bytes n (length l) ++ flat_map text l) ok (big_bytes n) (IsNumber bits) (λ l. flat_map text l) are
   counted_pair = record { left = λ l. length l; right = λ l. l; free = numbers_free n bits fits; parts = parts; whole = λ l. refl }
 
+-- columns behind their number
 abbrev pub columns_pair : IsPair columns_text HasColumns (big_bytes 8) (IsNumber 64) (λ l. flat_map column_text l) AreColumns
 columns_pair = counted_pair column_text 8 64 refl HasColumns AreColumns (λ v k. (k.few, record { each = k.each; many = refl }))
 
+-- features behind theirs
 abbrev pub features_pair : IsPair features_text HasFeatures (big_bytes 4) (IsNumber 32) (λ l. flat_map feature_text l) AreFeatures
 features_pair = counted_pair feature_text 4 32 refl HasFeatures AreFeatures (λ v k. (k.few, record { each = k.each; many = refl }))
 
+-- and so few rows behind theirs
 abbrev pub rows_pair : (columns most : ℕ) → IsPair rows_text (AreFewRows columns most) (big_bytes 4) (IsNumber 32) (λ l. flat_map row_text l) (AreRows columns)
 rows_pair columns most = counted_pair row_text 4 32 refl (AreFewRows columns most) (AreRows columns) (λ v k. (k.has.few, record { each = k.has.each; many = refl }))

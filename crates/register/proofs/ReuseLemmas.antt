@@ -112,6 +112,7 @@ module _ (a d : Cache) (taken : List ℕ) (earlier : ℕ) (same : d.store.is_fai
 pub reuses_of : {a b : Cache} {ks taken now : List ℕ} {e earlier next : ℕ} → ks ≡ taken → e ≡ earlier → Reuses a ks e b now next → Reuses a taken earlier b now next
 reuses_of {a} {b} {ks} {taken} {now} {e} {earlier} {next} pages ahead h = subst (λ e. Reuses a taken e b now next) ahead (subst (λ ks. Reuses a ks e b now next) pages h)
 
+-- and a page is put behind those pages
 pub behind_of : {ks taken now : List ℕ} {page : ℕ} (a : Cache) → ks ≡ taken → (All (λ p. p < a.count) ks → IsPutBehind ks page now) → All (λ p. p < a.count) taken → IsPutBehind taken page now
 behind_of {now = now} {page = page} a pages h = subst (λ ks. All (λ p. p < a.count) ks → IsPutBehind ks page now) pages h
 

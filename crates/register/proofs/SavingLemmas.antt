@@ -92,7 +92,7 @@ caused_after a b c Unfinished p h = h
 caused_after a b c Version p h = h
 caused_after a b c Malformed p h = tt
 
--- some bytes, and others behind them
+-- some bytes, and others behind them, refused or not
 puts_both : (first second : List ℕ) (a b c : Cache) (w v u : WriterView) (r : Result (Unit {0}) CatalogueFault) → Puts first a b w v (Ok tt) → Puts second b c v u r → Puts (first ++ second) a c w u r
 puts_both first second a b c w v u (Ok x) p q = record {
   passes = passes_trans a b c p.passes q.passes;
@@ -129,11 +129,13 @@ puts_longer some all a b w v e less p = record {
       within_more (pages_for (text ++ some)) (pages_for (text ++ all)) a b w.pages w.earlier (wanted e) (pages_more (length (text ++ some)) (length (text ++ all)) (omega (arith, l, m, less))) (p.within text h);
 }
 
+-- so it is with other bytes behind them
 pub puts_front : {first : List ℕ} {a b : Cache} {w v : WriterView} {r : Result (Unit {0}) CatalogueFault} {e : CatalogueFault} (second : List ℕ) → IsErrAnd r (λ f. f ≡ e) → Puts first a b w v (Err e) → Puts (first ++ second) a b w v r
 puts_front {first} {a} {b} {w} {v} {r} {e} second is p =
     let l = length-append first second in
     on_err_and (λ r. Puts (first ++ second) a b w v r) r e is (puts_longer first (first ++ second) a b w v e (omega (arith, l)) p)
 
+-- and in a text that is saved
 saves_longer : {some all : List ℕ} {a b : Cache} {w v : WriterView} {r : Result (Unit {0}) CatalogueFault} {e : CatalogueFault} → IsErrAnd r (λ f. f ≡ e) → length some ≤ length all → Saves some a b w v (Err e) → Saves all a b w v r
 saves_longer {some} {all} {a} {b} {w} {v} {r} {e} is less s = on_err_and (λ r. Saves all a b w v r) r e is (record { puts = puts_longer some all a b w v e less s.puts; only = s.only })
 
@@ -169,9 +171,11 @@ refused_text a d w v e f is passes tree only caused within = record {
   only = λ text h f. subst IsSavingStop (sym is) (allowed_saving e (only text h f));
 }
 
+-- some bytes, and others behind them
 pub puts_then : {first second : List ℕ} {a b c : Cache} {w v u : WriterView} {r : Result (Unit {0}) CatalogueFault} → Puts first a b w v (Ok tt) → Puts second b c v u r → Puts (first ++ second) a c w u r
 puts_then {first} {second} {a} {b} {c} {w} {v} {u} {r} p q = puts_both first second a b c w v u r p q
 
+-- the same of bytes that are saved
 pub saves_then : {first second : List ℕ} {a b c : Cache} {w v u : WriterView} {r : Result (Unit {0}) CatalogueFault} → Saves first a b w v (Ok tt) → Saves second b c v u r → Saves (first ++ second) a c w u r
 saves_then {first} p q = record {
   puts = puts_then p.puts q.puts;
@@ -182,6 +186,7 @@ saves_then {first} p q = record {
 pub puts_same : {some all : List ℕ} {a b : Cache} {w v : WriterView} {r : Result (Unit {0}) CatalogueFault} → some ≡ all → Puts some a b w v r → Puts all a b w v r
 puts_same {a = a} {b = b} {w = w} {v = v} {r = r} e s = subst (λ l. Puts l a b w v r) e s
 
+-- those that are saved are these
 pub saves_same : {some all : List ℕ} {a b : Cache} {w v : WriterView} {r : Result (Unit {0}) CatalogueFault} → some ≡ all → Saves some a b w v r → Saves all a b w v r
 saves_same {a = a} {b = b} {w = w} {v = v} {r = r} e s = subst (λ l. Saves l a b w v r) e s
 
@@ -289,6 +294,7 @@ module _ {a b c : Cache} {w v u : WriterView} {r : Result (Unit {0}) CatalogueFa
 
 -- one of them is refused, and so are they all behind their number
 module _ {a b c : Cache} {w v u : WriterView} {r : Result (Unit {0}) CatalogueFault} {e : CatalogueFault} {V : Type 0} (text : V → List ℕ) (refused : IsErrAnd r (λ f. f ≡ e)) {count n : ℕ} where
+  -- those that a number names
   pub named_refused : (f : ℕ → V) (all : ℕ) → count ≡ all → n < count → Saves (big_bytes 4 count ++ flat_map text (map f (range_with_len 0 n))) a b w v (Ok tt) → Saves (text (f n)) b c v u (Err e)
       → Saves (big_bytes 4 (length (map f (range_with_len 0 all))) ++ flat_map text (map f (range_with_len 0 all))) a c w u r
   named_refused f all is less p q =
@@ -298,6 +304,7 @@ module _ {a b c : Cache} {w v u : WriterView} {r : Result (Unit {0}) CatalogueFa
       let next = big_bytes 4 count ++ flat_map text (map f (range_with_len 0 (n + 1))) in
       saves_longer refused (subst (λ k. length next ≤ length (big_bytes 4 k ++ flat_map text items)) long first) (named_saved text f (big_bytes 4 count) p q)
 
+  -- those of a list
   pub listed_refused : {x : V} (xs : List V) → count ≡ length xs → n < length xs → get_or xs n x ≡ x → Saves (big_bytes 4 count ++ flat_map text (take n xs)) a b w v (Ok tt) → Saves (text x) b c v u (Err e)
       → Saves (big_bytes 4 (length xs) ++ flat_map text xs) a c w u r
   listed_refused xs is less at p q =

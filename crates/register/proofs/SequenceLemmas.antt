@@ -46,18 +46,22 @@ pub record IsPair {A B V : Type 0} (text : V → List ℕ) (ok : V → Type 0) (
   pub whole : (v : V) → text v ≡ first (left v) ++ second (right v)
 
 module _ {A B V : Type 0} {text : V → List ℕ} {ok : V → Type 0} {first : A → List ℕ} {is_first : A → Type 0} {second : B → List ℕ} {is_second : A → B → Type 0} (pair : IsPair text ok first is_first second is_second) where
+  -- what follows the value's text follows the second's
   in_two : (v : V) (t : List ℕ) → text v ++ t ≡ first (pair.left v) ++ (second (pair.right v) ++ t)
   in_two v t = ap (λ l. l ++ t) (pair.whole v) ∙ append_assoc (first (pair.left v)) (second (pair.right v)) t
 
+  -- where no first of the two stands, no such value does
   no_first : (old : Option (List ℕ)) → Lacks first is_first old → Lacks text ok old
   no_first old h v t k e = h (pair.left v) (second (pair.right v) ++ t) (pair.parts v k).0 (e ∙ ap Some (in_two v t))
 
+  -- behind the first of the two there stands the second
   behind : (x : A) (mid : Option (List ℕ)) → is_first x → (v : V) (t : List ℕ) → ok v → option_map (λ s. first x ++ s) mid ≡ Some (text v ++ t) → (x ≡ pair.left v) × (mid ≡ Some (second (pair.right v) ++ t))
   behind x None h v t k e = absurd (some_none (text v ++ t) (sym e))
   behind x (Some s) h v t k e =
       let y = pair.free x (pair.left v) s (second (pair.right v) ++ t) h (pair.parts v k).0 (some_same (first x ++ s) (text v ++ t) e ∙ in_two v t) in
       (y.0, ap Some y.1)
 
+  -- where no second of the two stands there, no such value stands here
   no_second : (x : A) (old mid : Option (List ℕ)) → is_first x → old ≡ option_map (λ s. first x ++ s) mid → Lacks second (is_second x) mid → Lacks text ok old
   no_second x old mid h is l v t k e =
       let y = behind x mid h v t k (sym is ∙ e) in
@@ -83,7 +87,8 @@ module _ {A B V : Type 0} {text : V → List ℕ} {ok : V → Type 0} {first : A
   }
 
   -- or where it was read and the second is refused
-  pub second_refused : {a b c : Cache} {s t u : ReaderView} {r : Result V CatalogueFault} {x : A} {e : CatalogueFault} → IsErrAnd r (λ f. f ≡ e) → Leaves a b s t first is_first (Ok x) → Leaves b c t u second (is_second x) (Err e) → Leaves a c s u text ok r
+  pub second_refused : {a b c : Cache} {s t u : ReaderView} {r : Result V CatalogueFault} {x : A} {e : CatalogueFault} → IsErrAnd r (λ f. f ≡ e)
+      → Leaves a b s t first is_first (Ok x) → Leaves b c t u second (is_second x) (Err e) → Leaves a c s u text ok r
   second_refused {a} {b} {c} {s} {t} {u} {r} {x} {e} h p q = on_err_and (λ r. Leaves a c s u text ok r) r e h (record {
     takes = λ at may. let one = (p.takes at may).taken in record {
       taken = tt;
@@ -94,7 +99,8 @@ module _ {A B V : Type 0} {text : V → List ℕ} {ok : V → Type 0} {first : A
   })
 
   -- where both were read, so was the value
-  pub both_read : {a b c : Cache} {s t u : ReaderView} {v : V} {x : A} → (is_first x → is_second x (pair.right v) → ok v × (x ≡ pair.left v)) → Leaves a b s t first is_first (Ok x) → Leaves b c t u second (is_second x) (Ok (pair.right v)) → Leaves a c s u text ok (Ok v)
+  pub both_read : {a b c : Cache} {s t u : ReaderView} {v : V} {x : A} → (is_first x → is_second x (pair.right v) → ok v × (x ≡ pair.left v))
+      → Leaves a b s t first is_first (Ok x) → Leaves b c t u second (is_second x) (Ok (pair.right v)) → Leaves a c s u text ok (Ok v)
   both_read {a} {b} {c} {s} {t} {u} {v} {x} makes p q = record {
     takes = λ at may.
         let one = (p.takes at may).taken in
@@ -125,6 +131,7 @@ pub record AreTaken {V : Type 0} (text : V → List ℕ) (ok : V → Type 0) (xs
   pub many : length xs ≡ n
   pub taken : old ≡ option_map (λ t. flat_map text xs ++ t) new
 
+-- and a reader has taken them
 abbrev pub HasRead : {V : Type 0} → Cache → Cache → ReaderView → ReaderView → (V → List ℕ) → (V → Type 0) → List V → ℕ → Type 0
 HasRead a b s t text ok xs n = record {
   reads : ReadsOn a b s t;

@@ -108,6 +108,7 @@ same_spare a b count same = λ f. record {
   others = λ p v h e k. same f p ∙ e;
 }
 
+-- as where the payloads are kept
 pub stays_spares : (a b : Cache) → KeepsPayloads a b → Spares a b
 stays_spares a b s = same_spare a b s.count s.payloads
 

@@ -96,11 +96,12 @@ pub no_body : (most : ℕ) (old : Option (List ℕ)) → ((c : Contents) (t : Li
 no_body most old h None t k e = absurd (let f = k.flag_is in omega (arith, f))
 no_body most old h (Some c) t k e = h c t k.read e
 
--- a byte in front of it says whether it is there
+-- the byte that says whether it is there fits into eight bits
 pub flag_fits : (v : Option Contents) → IsNumber 8 (flag_of v)
 flag_fits None = omega arith
 flag_fits (Some c) = omega arith
 
+-- a whole text: that byte, and what stands behind it
 abbrev pub catalogue_pair : (most : ℕ) → IsPair catalogue_text (IsRead most) (λ n. n ∷ []) (IsNumber 8) body_text (IsBody most)
 catalogue_pair most = record {
   left = flag_of;
