@@ -1,19 +1,11 @@
 -- Columns, features, rows and what is made of them: each is made of two, one behind the other.
-use Rattle.std.proofs.Common.{ℕ, ◌≡◌, ◌<◌, ◌-◌, ◌^◌, min, List, ◌++◌, length, refl, sym, ap, ◌∙◌, arith, subst, All, ℤ, Option, Some, option_map, Ok}
-use Rattle.std.proofs.lemmas.Int.{clamps}
+use Rattle.std.proofs.Common.{ℕ, ◌≡◌, ◌-◌, ◌^◌, min, List, ◌++◌, length, refl, arith, subst, ℤ, Some}
 use Rattle.std.specs.List.{flat_map}
 use Rattle.byteorder.specs.Endian.{big_bytes}
-use Rattle.mfcsv.specs.declared.Column.{Column}
 use Rattle.tbnode.specs.Parts.{signed_bytes}
-use Rattle.pages.specs.declared.payload.Payload.{Payload}
-use Rattle.register.specs.ChainReader.{Takes}
-use Rattle.register.specs.Text.{short_text, column_text, columns_text, contents_text, feature_text, features_text, head_text, kept_text, lists_text, row_text, rows_text, space_text, leg_sum, AreColumns, AreFeatures, AreFewRows, AreLists, AreRead, AreRows, HasColumns, HasFeatures, HasRows, IsColumn, IsFeature, IsHead, IsKept, IsNumber, IsRead, IsRow, IsShortText, IsSigned, IsSpace}
-use Rattle.register.specs.declared.contents.Contents.{Contents}
-use Rattle.register.specs.declared.contents.Feature.{Feature}
+use Rattle.register.specs.Text.{short_text, column_text, columns_text, contents_text, feature_text, features_text, head_text, kept_text, lists_text, row_text, rows_text, space_text, leg_sum, AreColumns, AreFeatures, AreFewRows, AreRead, AreRows, HasColumns, HasFeatures, IsColumn, IsFeature, IsHead, IsKept, IsNumber, IsRead, IsShortText, IsSigned, IsSpace}
 use Rattle.register.specs.declared.contents.Head.{Head}
-use Rattle.register.specs.declared.contents.Lists.{Lists}
-use Rattle.register.specs.declared.contents.Space.{Space}
-use Rattle.register.proofs.PrefixLemmas.{numbers_free, short_free, signed_free, column_free, feature_free, row_free, features_free, head_free}
+use Rattle.register.proofs.PrefixLemmas.{numbers_free, short_free, signed_free, features_free, head_free}
 use Rattle.register.proofs.SequenceLemmas.{IsPair}
 
 -- a column: its name, and its type

@@ -1,11 +1,11 @@
 -- One value behind another, and lists of values.
 use Rattle.std.proofs.Common.{ℕ, ◌≡◌, ◌≢◌, ◌+◌, ◌<◌, List, [], ◌∷◌, ◌++◌, length, sym, ap, ◌∙◌, arith, subst, refl, Option, Some, None, option_map, All, Result, Ok, Err}
-use Rattle.std.specs.Prelude.{IfErr, IsErrAnd}
+use Rattle.std.specs.Prelude.{IsErrAnd}
 use Rattle.std.specs.List.{flat_map}
 use Rattle.std.proofs.lemmas.List.{append_assoc, append-nil, length_push}
 use Rattle.std.proofs.lemmas.List.Elements.{All-push}
 use Rattle.pagecache.specs.Cache.{Cache}
-use Rattle.register.specs.ChainReader.{ReaderView, rest_of, BreaksAt, IsReaderFault, MayBe, ReadsOn, Takes, TakesInto}
+use Rattle.register.specs.ChainReader.{ReaderView, rest_of, MayBe, ReadsOn, TakesInto}
 use Rattle.pages.specs.declared.payload.Payload.{Payload}
 use Rattle.register.specs.declared.fault.CatalogueFault.{CatalogueFault}
 use Rattle.register.specs.declared.fault.CatalogueFault.TheVariants.{Malformed}

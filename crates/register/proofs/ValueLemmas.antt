@@ -1,5 +1,5 @@
 -- Values that are read one after another.
-use Rattle.std.proofs.Common.{ℕ, ◌≡◌, ◌<◌, ◌≤◌, ◌^◌, List, ◌++◌, drop, take, length, refl, sym, ap, ◌∙◌, arith, subst, Option, Some, None, option_map, Result, Ok, Err}
+use Rattle.std.proofs.Common.{ℕ, ◌≡◌, ◌<◌, ◌^◌, List, ◌++◌, drop, take, length, refl, sym, ap, ◌∙◌, arith, subst, Option, Some, None, option_map, Result, Ok, Err}
 use Rattle.std.specs.Prelude.{IsErrAnd, IsErrOf, IsUtf8}
 use Rattle.std.proofs.lemmas.List.{append_assoc, append_cancel_left, length-append, length-take-le, take-append-drop}
 use Rattle.std.proofs.Math.Seq.{take-append_seam}
@@ -8,7 +8,7 @@ use Rattle.byteorder.specs.Numbers.{big_number-reads_back, length-bytes_high_fir
 use Rattle.pages.specs.declared.payload.Payload.{Payload}
 use Rattle.pagecache.specs.Cache.{Cache}
 use Rattle.register.specs.Chain.{text_at}
-use Rattle.register.specs.ChainReader.{ReaderView, rest_of, BreaksAt, IsReaderFault, IsTextFault, MayBe, ReadsOn, Takes}
+use Rattle.register.specs.ChainReader.{ReaderView, rest_of, BreaksAt, IsTextFault, MayBe, Takes}
 use Rattle.register.specs.Text.{short_text, IsNumber, IsShortText}
 use Rattle.register.specs.declared.fault.CatalogueFault.{CatalogueFault}
 use Rattle.register.specs.declared.fault.CatalogueFault.TheVariants.{Memory, Store, StoreFull, Damaged, Unfinished, Version, Malformed}

@@ -1,5 +1,5 @@
 use Rattle.register.proofs.WithinLemmas.{either, full_is, no_full, within_few, within_full}
-use Rattle.std.proofs.Common.{List, ℕ, [], ◌∙◌, refl, sym, subst, Result, Ok, Err, OnOk, ⊎_elim, ◌≡◌}
+use Rattle.std.proofs.Common.{List, ℕ, ◌∙◌, refl, sym, subst, Result, Ok, Err, OnOk, ⊎_elim, ◌≡◌}
 use Rattle.register.proofs.ReaderLemmas.{on_ok}
 use Rattle.register.proofs.ReuseLemmas.{read_ahead}
 use Rattle.register.specs.Earlier.{AddsFew}

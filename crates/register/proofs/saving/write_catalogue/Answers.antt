@@ -1,4 +1,4 @@
-use Rattle.std.proofs.Common.{ℕ, ◌∙◌, IsTrue, ◌∷◌, ◌++◌, List, Result, Ok, Err, OnOk, subst}
+use Rattle.std.proofs.Common.{ℕ, ◌∙◌, IsTrue, ◌++◌, List, Result, Ok, Err, OnOk, subst}
 use Rattle.std.specs.Prelude.{IfErr}
 use Rattle.register.specs.Saved.{CatalogueView}
 use Rattle.register.specs.Saving.{contents_of, features_of, HasFew, IsSavingStop, IsCatalogue}

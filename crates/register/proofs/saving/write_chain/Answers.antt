@@ -1,7 +1,7 @@
 use Rattle.register.proofs.WithinLemmas.{pages_more, wanted_same, within_text}
 use Rattle.register.proofs.ReaderLemmas.{if_err_of}
 use Rattle.register.specs.ChainSteps.{lacked, StaysWithin}
-use Rattle.std.proofs.Common.{List, ℕ, ◌-◌, ◌++◌, [], arith, drop, length, subst, ap, sym, ◌∙◌}
+use Rattle.std.proofs.Common.{List, ℕ, [], arith, length, subst, ap, sym, ◌∙◌}
 use Rattle.register.specs.Saving.{contents_of, wanted}
 use Rattle.register.specs.Text.{catalogue_text}
 use Rattle.register.specs.Chain.{pages_for}

@@ -1,7 +1,7 @@
-use Rattle.std.proofs.Common.{◌≡◌, ◌++◌, [], ◌∙◌, subst, List, ℕ}
+use Rattle.std.proofs.Common.{◌++◌, ◌∙◌, subst, List, ℕ}
 use Rattle.std.proofs.lemmas.List.{append-nil}
 use Rattle.register.specs.Saving.{feature_at}
-use Rattle.register.specs.Text.{feature_text, kept_text, short_text, IsKept, IsShortText}
+use Rattle.register.specs.Text.{kept_text, short_text, IsKept, IsShortText}
 use Rattle.register.proofs.EncodingLemmas.{always}
 use Rattle.register.proofs.SavingLemmas.{pushed_only, saves_then, saves_same}
 use Rattle.register.proofs.saving.write_feature.Goals as goal

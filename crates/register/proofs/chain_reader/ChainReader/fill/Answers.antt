@@ -1,6 +1,5 @@
 use Rattle.std.proofs.Common.{◌∙◌, ap, sym, arith, length}
 use Rattle.std.proofs.lemmas.List.{length-drop}
-use Rattle.std.proofs.lemmas.Result.{err_from_is_err_and}
 use Rattle.register.proofs.ReaderLemmas.{ended, goes_on, later, may_still}
 use Rattle.register.proofs.chain_reader.ChainReader.fill.Goals as goal
 

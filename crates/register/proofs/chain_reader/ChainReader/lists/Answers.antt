@@ -23,9 +23,9 @@ returns g c = both_read (lists_pair c.args.columns c.args.limits.now.legs) (λ h
 pub returns-then-legs : goal.returns-then-legs
 returns-then-legs g c = first_unfit (lists_pair c.args.columns c.args.limits.now.legs)
     (λ v k same.
-        let sum = c.leg_sum-legs.ensures in
-        let limit = c.legs.ensures.value in
-        let legs = ap leg_sum same in
-        let few = k.few.legs in
-        omega (arith, clamps, sum, limit, legs, few, c.if-legs.true))
+    let sum = c.leg_sum-legs.ensures in
+    let limit = c.legs.ensures.value in
+    let legs = ap leg_sum same in
+    let few = k.few.legs in
+    omega (arith, clamps, sum, limit, legs, few, c.if-legs.true))
     c.in_ok-features.ensures

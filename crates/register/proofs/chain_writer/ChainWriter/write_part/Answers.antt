@@ -1,9 +1,9 @@
 use Rattle.register.proofs.WithinLemmas.{part_within, refused_room}
 use Rattle.std.specs.Prelude.{IfErr, OnErr}
-use Rattle.std.proofs.Common.{◌≡◌, ◌+◌, ◌-◌, ◌<◌, All, ap, arith, subst, Result, Ok, Err}
+use Rattle.std.proofs.Common.{◌≡◌, ◌+◌, ◌-◌, ap, arith, Result, Ok, Err}
 use Rattle.register.proofs.ReaderLemmas.{on_ok}
 use Rattle.register.proofs.ReuseLemmas.{behind_of, part_reuses, reuses_of}
-use Rattle.register.specs.ChainSteps.{IsPutBehind, Reuses, lacked}
+use Rattle.register.specs.ChainSteps.{lacked}
 use Rattle.register.proofs.WriterLemmas.{part_holds, part_tree}
 use Rattle.register.specs.ChainWriter.{WriterView}
 use Rattle.register.proofs.chain_writer.ChainWriter.write_part.Goals as goal
