@@ -286,10 +286,6 @@ later_fault {r} {s} a b c Malformed reads h = tt
 pub later : {T : Type 0} {s t u : ReaderView} {a b c : Cache} (r : Result T CatalogueFault) (e : CatalogueFault) → IsErrAnd r (λ f. f ≡ e) → ReadsOn a b s t → ReadsOn b c t u → IsReaderFault b c t e → IfErr r (IsReaderFault a c s)
 later {T} {s} {t} {u} {a} {b} {c} r e is reads more h = if_err_of (IsReaderFault a c s) r e is (later_fault a b c e reads h)
 
--- and at the end of a body
-pub later_end : {T : Type 0} {s t : ReaderView} (a b c : Cache) (r : Result T CatalogueFault) → ReadsOn a b s t → IfErr r (IsReaderFault b c t) → IfErr r (IsReaderFault a c s)
-later_end {T} {s} {t} a b c r reads h = if_err (IsReaderFault b c t) (IsReaderFault a c s) r (λ e k. later_fault a b c e reads k) h
-
 -- one of bytes that are read
 pub text_read : (a b : Cache) (r : ReaderView) (e : CatalogueFault) → IsTextFault e → IsReaderFault a b r e
 text_read a b r Memory h = tt
