@@ -265,9 +265,13 @@ pub on_err_and : {T E : Type 0} (P : Result T E → Type 0) (r : Result T E) (e 
 on_err_and P (Ok x) e is h = absurd is
 on_err_and P (Err f) e is h = subst (λ f. P (Err f)) (sym is) h
 
+-- what a fault says, where the result is told to be that one
+pub if_err_of : {T E : Type 0} (P : E → Type 0) (r : Result T E) (f e : E) → r ≡ Err f → f ≡ e → P e → IfErr r P
+if_err_of P r f e is same h = subst (λ r. IfErr r P) (sym (is ∙ ap Err same)) h
+
 -- and what a fault says
-pub if_err_of : {T E : Type 0} (P : E → Type 0) (r : Result T E) (e : E) → IsErrAnd r (λ f. f ≡ e) → P e → IfErr r P
-if_err_of P r e is h = on_err_and (λ r. IfErr r P) r e is h
+pub if_err_and : {T E : Type 0} (P : E → Type 0) (r : Result T E) (e : E) → IsErrAnd r (λ f. f ≡ e) → P e → IfErr r P
+if_err_and P r e is h = on_err_and (λ r. IfErr r P) r e is h
 
 -- a fault of a later reading
 pub later_fault : {r s : ReaderView} (a b c : Cache) (e : CatalogueFault) → ReadsOn a b r s → IsReaderFault b c s e → IsReaderFault a c r e
@@ -284,7 +288,7 @@ later_fault {r} {s} a b c Malformed reads h = tt
 
 -- at the exit of a `?`
 pub later : {T : Type 0} {s t u : ReaderView} {a b c : Cache} (r : Result T CatalogueFault) (e : CatalogueFault) → IsErrAnd r (λ f. f ≡ e) → ReadsOn a b s t → ReadsOn b c t u → IsReaderFault b c t e → IfErr r (IsReaderFault a c s)
-later {T} {s} {t} {u} {a} {b} {c} r e is reads more h = if_err_of (IsReaderFault a c s) r e is (later_fault a b c e reads h)
+later {T} {s} {t} {u} {a} {b} {c} r e is reads more h = if_err_and (IsReaderFault a c s) r e is (later_fault a b c e reads h)
 
 -- one of bytes that are read
 pub text_read : (a b : Cache) (r : ReaderView) (e : CatalogueFault) → IsTextFault e → IsReaderFault a b r e

@@ -3,13 +3,13 @@ use Rattle.std.proofs.lemmas.Bool.{cases_lt, true≢false}
 use Rattle.register.specs.ChainReader.{IsBroken}
 use Rattle.register.specs.Building.{IsOf}
 use Rattle.register.specs.Saved.{CatalogueView}
-use Rattle.register.proofs.ReaderLemmas.{if_err_of}
+use Rattle.register.proofs.ReaderLemmas.{if_err_and}
 use Rattle.register.proofs.BuildLemmas.{of_lawful, of_few, of_rows, of_some_row, whole_is, too_many, no_more}
 use Rattle.register.proofs.building.whole_catalogue.Goals as goal
 
 pub returns-in_err-tracks-clause-broken : goal.returns-in_err-tracks-clause-broken
 returns-in_err-tracks-clause-broken c =
-    if_err_of (λ e. IsBroken e → (k : CatalogueView) → (places : _) → IsOf c.args.count c.args.fields.now (Some c.args.contents) k places → ⊥) c.from_residual.result c.in_err-tracks.field-0.0 c.from_residual.ensures.1
+    if_err_and (λ e. IsBroken e → (k : CatalogueView) → (places : _) → IsOf c.args.count c.args.fields.now (Some c.args.contents) k places → ⊥) c.from_residual.result c.in_err-tracks.field-0.0 c.from_residual.ensures.1
     (λ b k places of. c.in_err-tracks.ensures.broken b (of_lawful c.args.count c.args.fields.now c.args.contents k places of))
 
 pub returns-then-not-is_few-clause-broken : goal.returns-then-not-is_few-clause-broken

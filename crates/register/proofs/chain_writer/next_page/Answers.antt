@@ -1,5 +1,5 @@
 use Rattle.register.proofs.WithinLemmas.{lacked_one, within_none}
-use Rattle.register.proofs.ReaderLemmas.{if_err_of}
+use Rattle.register.proofs.ReaderLemmas.{if_err_and}
 use Rattle.std.proofs.Common.{◌≡◌, ◌≤◌, ◌<◌, ◌+◌, ◌∙◌, ap, arith, subst, sym, IsTrue, Some, length}
 use Rattle.std.specs.Prelude.{IfSome}
 use Rattle.pages.specs.declared.payload.Payload.{Payload}
@@ -45,6 +45,6 @@ returns-in_err-page-in-None-clause-within g c =
     let keys = c.args.pages.now.keys in
     let same = c.reused.ensures.count in
     let fault = c.in_err-page-in-None.field-0.0 in
-    if_err_of (λ e. StaysWithin (length keys + 1) a keys c.args.earlier d (lacked e)) c.from_residual-in_err-page-in-None.result fault c.from_residual-in_err-page-in-None.ensures.1
+    if_err_and (λ e. StaysWithin (length keys + 1) a keys c.args.earlier d (lacked e)) c.from_residual-in_err-page-in-None.result fault c.from_residual-in_err-page-in-None.ensures.1
     (within_none a d keys c.args.earlier (lacked fault) (c.in_ok-next.ensures.none c.in-None.is)
     (λ some. c.in_err-page-in-None.ensures.none (subst (λ n. 0 < n) (sym same) some) ∙ same) (lacked_one fault))

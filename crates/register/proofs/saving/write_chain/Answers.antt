@@ -1,5 +1,5 @@
 use Rattle.register.proofs.WithinLemmas.{pages_more, wanted_same, within_text}
-use Rattle.register.proofs.ReaderLemmas.{if_err_of}
+use Rattle.register.proofs.ReaderLemmas.{if_err_and}
 use Rattle.register.specs.ChainSteps.{lacked, StaysWithin}
 use Rattle.std.proofs.Common.{List, ℕ, [], arith, length, subst, ap, sym, ◌∙◌}
 use Rattle.register.specs.Saving.{contents_of, wanted}
@@ -43,7 +43,7 @@ returns-in_err-write_catalogue-clause-within g c =
     let begun = c.in-Ok.ensures in
     let fault = c.in_err-write_catalogue.field-0.0 in
     let text : List ℕ = catalogue_text (contents_of c.args.catalogue.now c.args.places.now) in
-    if_err_of (λ e. StaysWithin (pages_for text) a [] c.args.earlier x (wanted e)) c.from_residual.result fault c.from_residual.ensures.1
+    if_err_and (λ e. StaysWithin (pages_for text) a [] c.args.earlier x (wanted e)) c.from_residual.result fault c.from_residual.ensures.1
     (within_text [] text a c.new.new.cache x c.in-Ok.writer c.args.earlier (wanted fault) (omega arith) (pages_more 0 (length text) (omega arith)) begun.passes.store.faithful begun.reuses begun.holds (c.in_err-write_catalogue.ensures.puts.within [] begun.holds))
 
 pub returns-in-Err-finish-clause-within : goal.returns-in-Err-finish-clause-within
