@@ -1,5 +1,5 @@
 -- A book for which the tracks of a lawful catalogue stand.
-use Rattle.std.proofs.Common.{ℕ, zero, suc, Bool, true, false, cond, ◌==◌, ◌+◌, ◌<◌, ◌≤◌, ◌≡◌, ◌≢◌, ◌∙◌, ◌⊎◌, inl, inr, ⊎_elim, All, List, [], ◌∷◌, ◌++◌, length, length-append, map, max, refl, sym, ap, arith, subst, Option, Some, None, eq-eqb, ℤ, pos}
+use Rattle.std.proofs.Common.{ℕ, zero, suc, true, false, cond, ◌==◌, ◌+◌, ◌<◌, ◌≤◌, ◌≡◌, ◌≢◌, ◌∙◌, ◌⊎◌, inl, inr, ⊎_elim, All, List, [], ◌∷◌, ◌++◌, length, length-append, map, max, refl, sym, ap, arith, Option, Some, None, eq-eqb, ℤ, pos}
 use Rattle.std.specs.Prelude.{fold, slice_index_or, count_by, sum_by}
 use Rattle.std.proofs.lemmas.Bool.{ne_eqb}
 use Rattle.std.proofs.lemmas.Grind.{fold-append}
@@ -8,7 +8,7 @@ use Rattle.std.proofs.lemmas.List.{length-map}
 use Rattle.std.proofs.lemmas.List.Elements.{All-append, All-cons, All-head, All-nil, All-tail}
 use Rattle.std.proofs.lemmas.List.Sums.{sum_by-append, sum_by-cons}
 use Rattle.legs.specs.Book.{Book}
-use Rattle.legs.specs.Index.{feature_count, is_of, last_end}
+use Rattle.legs.specs.Index.{is_of}
 use Rattle.legs.specs.Legs.{LegView}
 use Rattle.legs.specs.Limits.{IsLimits}
 use Rattle.legs.specs.Tracks.{IsTrack, StandsFor, TracksView}

@@ -1,6 +1,6 @@
 -- The text that is left in a chain of pages.
 use Rattle.std.proofs.Common.{ℕ, suc, ◌≡◌, ◌-◌, ◌<◌, ◌≤◌, ◌==◌, min, Bool, true, false, cond, List, [], ◌++◌, drop, length, refl, sym, ap, ◌∙◌, arith, subst, ⊎_elim, IsTrue, Option, Some, None, option_map, option_and_then, unwrap_or, Result, Ok, Err, OnOk, OnErr}
-use Rattle.std.specs.Prelude.{IfErr, IfOk}
+use Rattle.std.specs.Prelude.{IfErr, IfOk, IsErrAnd}
 use Rattle.std.specs.Int.{div_ceil}
 use Rattle.std.proofs.lemmas.Bool.{cases_lt}
 use Rattle.std.proofs.lemmas.Grind.{div_ceil_times}
@@ -13,7 +13,7 @@ use Rattle.pagecache.specs.declared.fault.CacheFault.TheVariants as cache
 use Rattle.chains.specs.Reads.{OnlyReads}
 pub use Rattle.chains.proofs.ReadLemmas.{reads_trans}
 use Rattle.register.specs.Chain.{most_used, is_part, next_in, text_in, chain_stop, chain_text, text_at, text_stop}
-use Rattle.register.specs.ChainReader.{ReaderView, fault_of, rest_of, stop_of, BreaksAt, IsBroken, IsPageFault, IsReadFault, IsReaderFault, IsTextFault, MayBe, ReadsOn, TakesPart}
+use Rattle.register.specs.ChainReader.{ReaderView, fault_of, rest_of, stop_of, BreaksAt, IsBroken, IsPageFault, IsReadFault, IsReaderFault, IsTextFault, MayBe, ReadsOn, Takes, TakesInto, TakesPart}
 use Rattle.register.specs.declared.fault.CatalogueFault.{CatalogueFault}
 use Rattle.register.specs.declared.fault.CatalogueFault.TheVariants.{Memory, Store, StoreFull, Damaged, Unfinished, Version, Malformed}
 
@@ -248,8 +248,8 @@ rests_reads a b rests = record {
 }
 
 -- and one reader's
-pub goes_on : {r s t : ReaderView} (a b c : Cache) → ReadsOn a b r s → ReadsOn b c s t → ReadsOn a c r t
-goes_on {r} {s} {t} a b c p q = record {
+pub goes_on : {r s t : ReaderView} {a b c : Cache} → ReadsOn a b r s → ReadsOn b c s t → ReadsOn a c r t
+goes_on {r} {s} {t} {a} {b} {c} p q = record {
   only = reads_trans a b c p.only q.only;
   along = λ f.
       let same : payload_of b ≡ payload_of a = (λ i n. p.only.payloads f n i) in
@@ -260,9 +260,18 @@ goes_on {r} {s} {t} a b c p q = record {
 pub skips : {a b : Cache} {r s t : ReaderView} (bytes : List ℕ) → ReadsOn a b r s → t ≡ record s { bytes = bytes } → ReadsOn a b r t
 skips {a} bytes p e = record { only = p.only; along = λ f. ap (stop_of (payload_of a)) e ∙ p.along f }
 
--- what a fault says, at the exit of a `?`
+-- what holds of a fault holds of a result that is it, at the exit of a `?`
+pub on_err_and : {T E : Type 0} (P : Result T E → Type 0) (r : Result T E) (e : E) → IsErrAnd r (λ f. f ≡ e) → P (Err e) → P r
+on_err_and P (Ok x) e is h = absurd is
+on_err_and P (Err f) e is h = subst (λ f. P (Err f)) (sym is) h
+
+-- what a fault says, where the result is told to be that one
 pub if_err_of : {T E : Type 0} (P : E → Type 0) (r : Result T E) (f e : E) → r ≡ Err f → f ≡ e → P e → IfErr r P
 if_err_of P r f e is same h = subst (λ r. IfErr r P) (sym (is ∙ ap Err same)) h
+
+-- and what a fault says
+pub if_err_and : {T E : Type 0} (P : E → Type 0) (r : Result T E) (e : E) → IsErrAnd r (λ f. f ≡ e) → P e → IfErr r P
+if_err_and P r e is h = on_err_and (λ r. IfErr r P) r e is h
 
 -- a fault of a later reading
 pub later_fault : {r s : ReaderView} (a b c : Cache) (e : CatalogueFault) → ReadsOn a b r s → IsReaderFault b c s e → IsReaderFault a c r e
@@ -278,12 +287,8 @@ later_fault {r} {s} a b c Version reads h = h
 later_fault {r} {s} a b c Malformed reads h = tt
 
 -- at the exit of a `?`
-pub later : {T : Type 0} {s t : ReaderView} (a b c : Cache) (r : Result T CatalogueFault) (f e : CatalogueFault) → r ≡ Err f → f ≡ e → ReadsOn a b s t → IsReaderFault b c t e → IfErr r (IsReaderFault a c s)
-later {T} {s} {t} a b c r f e is same reads h = if_err_of (IsReaderFault a c s) r f e is same (later_fault a b c e reads h)
-
--- and at the end of a body
-pub later_end : {T : Type 0} {s t : ReaderView} (a b c : Cache) (r : Result T CatalogueFault) → ReadsOn a b s t → IfErr r (IsReaderFault b c t) → IfErr r (IsReaderFault a c s)
-later_end {T} {s} {t} a b c r reads h = if_err (IsReaderFault b c t) (IsReaderFault a c s) r (λ e k. later_fault a b c e reads k) h
+pub later : {T : Type 0} {s t u : ReaderView} {a b c : Cache} (r : Result T CatalogueFault) (e : CatalogueFault) → IsErrAnd r (λ f. f ≡ e) → ReadsOn a b s t → ReadsOn b c t u → IsReaderFault b c t e → IfErr r (IsReaderFault a c s)
+later {T} {s} {t} {u} {a} {b} {c} r e is reads more h = if_err_and (IsReaderFault a c s) r e is (later_fault a b c e reads h)
 
 -- one of bytes that are read
 pub text_read : (a b : Cache) (r : ReaderView) (e : CatalogueFault) → IsTextFault e → IsReaderFault a b r e
@@ -334,3 +339,53 @@ read_fault a b r (Damaged n) h = h.0
 read_fault a b r Unfinished h = h
 read_fault a b r Version h = h
 read_fault a b r Malformed h = tt
+
+-- what a call that reads a value leaves, and what it says where it is refused
+abbrev pub Leaves : {V : Type 0} → Cache → Cache → ReaderView → ReaderView → (V → List ℕ) → (V → Type 0) → Result V CatalogueFault → Type 0
+Leaves a b s t text ok r = record {
+  takes : (at : ℕ → Option Payload) → MayBe a at → Takes at text ok (rest_of at s) (rest_of at t) r;
+  reads : ReadsOn a b s t;
+  caused : IfErr r (IsReaderFault a b s);
+}
+
+-- the same where the value is put somewhere
+abbrev pub LeavesInto : {V T : Type 0} → Cache → Cache → ReaderView → ReaderView → (V → List ℕ) → (V → Type 0) → (V → Type 0) → Result T CatalogueFault → Type 0
+LeavesInto a b s t text ok is_put r = record {
+  takes : (at : ℕ → Option Payload) → MayBe a at → TakesInto at text ok is_put (rest_of at s) (rest_of at t) r;
+  reads : ReadsOn a b s t;
+  caused : IfErr r (IsReaderFault a b s);
+}
+
+-- what a call that reads pages until so many bytes stand ready leaves
+abbrev pub IsFilled : Cache → Cache → ReaderView → ReaderView → ℕ → Result (Unit {0}) CatalogueFault → Type 0
+IsFilled a b s t n r = record {
+  same : OnOk r ((at : ℕ → Option Payload) → MayBe a at → rest_of at t ≡ rest_of at s);
+  ready : OnOk r (n ≤ length t.bytes);
+  broken : IfErr r (λ e. (at : ℕ → Option Payload) → MayBe a at → BreaksAt at e → (text : List ℕ) → rest_of at s ≡ Some text → length text < n);
+  reads : ReadsOn a b s t;
+  caused : IfErr r (IsReaderFault a b s);
+}
+
+-- a refusal that is passed on
+pub refused : {V : Type 0} {text : V → List ℕ} {ok : V → Type 0} {a b : Cache} {s t : ReaderView} {r : Result V CatalogueFault} {e : CatalogueFault} → IsErrAnd r (λ f. f ≡ e) → Leaves a b s t text ok (Err e) → Leaves a b s t text ok r
+refused {text = text} {ok = ok} {a = a} {b = b} {s = s} {t = t} {r = r} {e = e} is p = on_err_and (λ r. Leaves a b s t text ok r) r e is p
+
+-- what is refused is not there, wherever it was to be put
+module _ {V T : Type 0} {text : V → List ℕ} {ok is_put : V → Type 0} {a b : Cache} {s t : ReaderView} {e : CatalogueFault} where
+  pub from_into : ReadsOn a b s t → ((at : ℕ → Option Payload) → MayBe a at → TakesInto {T = T} at text ok is_put (rest_of at s) (rest_of at t) (Err e)) → IsReaderFault a b s e → Leaves a b s t text ok (Err e)
+  from_into reads takes caused = record { takes = λ at may. record { taken = tt; lacks = (takes at may).lacks }; reads = reads; caused = caused }
+
+  pub into_refused : {r : Result T CatalogueFault} → IsErrAnd r (λ f. f ≡ e) → Leaves a b s t text ok (Err e) → LeavesInto a b s t text ok is_put r
+  into_refused {r} is p = on_err_and (λ r. LeavesInto a b s t text ok is_put r) r e is (record {
+    takes = λ at may. record { taken = tt; lacks = (p.takes at may).lacks };
+    reads = p.reads;
+    caused = p.caused;
+  })
+
+-- what is read is put somewhere
+pub into_read : {V T : Type 0} {text : V → List ℕ} {ok is_put : V → Type 0} {a b : Cache} {s t : ReaderView} {v : V} {y : T} → is_put v → Leaves a b s t text ok (Ok v) → LeavesInto a b s t text ok is_put (Ok y)
+into_read {v = v} put p = record {
+  takes = λ at may. let one = (p.takes at may).taken in record { taken = (v, put, one.0, one.1); lacks = tt };
+  reads = p.reads;
+  caused = tt;
+}

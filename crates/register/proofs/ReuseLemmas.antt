@@ -56,8 +56,8 @@ reuses_refl c taken earlier pages h = record {
   ahead = subst (λ n. IsAhead c taken earlier (drop n pages)) (let z : 0 ≡ length taken - length taken = omega arith in z) h;
 }
 
-pub reuses_then : (a b c : Cache) (t u v : List ℕ) (e f g : ℕ) → Reuses a t e b u f → Reuses b u f c v g → Reuses a t e c v g
-reuses_then a b c t u v e f g p q pages h =
+pub reuses_then : {a b c : Cache} {t u v : List ℕ} {e f g : ℕ} → Reuses a t e b u f → Reuses b u f c v g → Reuses a t e c v g
+reuses_then {c = c} {t} {u} {v} {g = g} p q pages h =
     let first = p pages h in
     let second = q (drop (length u - length t) pages) first.ahead in
     let more = first.more in
@@ -108,6 +108,14 @@ module _ (a d : Cache) (taken : List ℕ) (earlier : ℕ) (same : d.store.is_fai
       one page next [] below (omega (arith, n)) (omega (arith, n)) h tt
   reuses_none page next none count below (q ∷ pages) h = absurd (none q pages h)
 
+-- where a writer has the pages and the earlier ones that are said
+pub reuses_of : {a b : Cache} {ks taken now : List ℕ} {e earlier next : ℕ} → ks ≡ taken → e ≡ earlier → Reuses a ks e b now next → Reuses a taken earlier b now next
+reuses_of {a} {b} {ks} {taken} {now} {e} {earlier} {next} pages ahead h = subst (λ e. Reuses a taken e b now next) ahead (subst (λ ks. Reuses a ks e b now next) pages h)
+
+-- and a page is put behind those pages
+pub behind_of : {ks taken now : List ℕ} {page : ℕ} (a : Cache) → ks ≡ taken → (All (λ p. p < a.count) ks → IsPutBehind ks page now) → All (λ p. p < a.count) taken → IsPutBehind taken page now
+behind_of {now = now} {page = page} a pages h = subst (λ ks. All (λ p. p < a.count) ks → IsPutBehind ks page now) pages h
+
 -- the last page before it is written
 pub part_reuses : (a b d : Cache) (taken now : List ℕ) (earlier next l page : ℕ) (w : Payload) → 0 < length taken → l ≡ get_or taken (length taken - 1) 0 → (All (λ p. p < a.count) taken → IsPutBehind taken page now) → Fills l w b d → Reuses a taken earlier b now next → Reuses a taken earlier d now next
 part_reuses a b d taken now earlier next l page w some at put fills reuses pages h =
@@ -147,6 +155,10 @@ begun_ahead a earlier pages f some names h = record {
   below = All-nil (λ q. q < a.count);
   linked = subst (λ p. AreLinked (payload_of a) [] p pages) (sym (names f h.payload h.is)) h.linked;
 }
+
+-- nor is one where that page was only read
+pub read_ahead : {a b : Cache} {earlier : ℕ} {pages : List ℕ} → OnlyReads a b → 0 < a.count → (IsTrue a.store.is_faithful → (payload : Payload) → payload_of a 0 ≡ Some payload → earlier ≡ number_at 4 44 payload.bytes) → IsTrue a.store.is_faithful → AreEarlier (payload_of a) pages → IsAhead b [] earlier pages
+read_ahead {a} {b} {earlier} {pages} reads some names f h = ahead_reads a b [] earlier pages reads (begun_ahead a earlier pages f some names h)
 
 -- the next page of an earlier text is above page 0, and none of those before
 apart_any : (ks : List ℕ) (q : ℕ) → All (λ m. m ≢ q) ks → list_any (nat_eq q) ks ≡ false

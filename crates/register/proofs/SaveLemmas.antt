@@ -23,26 +23,19 @@ use Rattle.register.specs.Saving.{contents_of, KeepsTree, PutsFields}
 use Rattle.register.specs.Text.{catalogue_text}
 use Rattle.header.specs.declared.header_fields.Fields.{Fields}
 use Rattle.register.proofs.ReaderLemmas.{some_none}
-use Rattle.register.proofs.SpareLemmas.{spares_then, stays_spares}
+use Rattle.register.proofs.SpareLemmas.{same_spare, spares_then, stays_spares}
 
 not_first : (n : ℕ) → 0 < n → (0 == n) ≡ false
 not_first n h = grind (arith, nat_tests, h)
 
 -- pages that are only read
 pub reads_spare : (a b : Cache) → OnlyReads a b → Spares a b
-reads_spare a b r = λ f. record {
-  tree = record {
-    count = (let n = r.count in omega (arith, n));
-    held = λ p l e. ((let n = r.count in omega (arith, n, l)), ap (option_map node_of) (sym (r.payloads f p)) ∙ e);
-    rest = λ p h. ap (λ o. node_in (option_map node_of o)) (r.payloads f p);
-  };
-  others = λ p v h e k. r.payloads f p ∙ e;
-}
+reads_spare a b r = same_spare a b r.count r.payloads
 
 pub not_zero : (n : ℕ) → 1 ≤ n → 0 ≢ n
 not_zero n h e = omega (arith, h, e)
 
-module _ (c d : Cache) (fields : Fields) (puts : PutsFields fields c d) where
+module _ {c d : Cache} {fields : Fields} (puts : PutsFields fields c d) where
   other : IsTrue c.store.is_faithful → (p : ℕ) → 0 < p → payload_of d p ≡ payload_of c p
   other f p h = puts.lends.writes.payloads f p ∙ ap (λ v. cond v (Some puts.now) (payload_of c p)) (not_first p h)
 
@@ -73,7 +66,7 @@ module _ (c d : Cache) (fields : Fields) (puts : PutsFields fields c d) where
   puts_count : d.count ≡ c.count
   puts_count = puts.lends.writes.count
 
-  module _ (a b : Cache) (reads : OnlyReads a b) (passes : Passes b c) (fa : IsTrue a.store.is_faithful) where
+  module _ {a b : Cache} (reads : OnlyReads a b) (passes : Passes b c) (fa : IsTrue a.store.is_faithful) where
     fc : IsTrue c.store.is_faithful
     fc = passes.store.faithful ∙ reads.store.faithful ∙ fa
 
@@ -108,8 +101,8 @@ module _ (c d : Cache) (fields : Fields) (puts : PutsFields fields c d) where
         }
 
 -- whatever is answered, the pages that are none of a catalogue's say what they said
-pub all_spare : {T E : Type 0} (a b x d : Cache) (fields : Fields) (r : Result T E) → OnlyReads a b → KeepsTree b x → OnOk r (PutsFields fields x d) → OnErr r (Rests x d) → Spares a d
-all_spare a b x d fields r reads kept puts rests = spares_then a x d (kept.passes.store.faithful ∙ reads.store.faithful) (spares_then a b x reads.store.faithful (reads_spare a b reads) kept.tree) (last r puts rests) where
+pub all_spare : {T E : Type 0} {a b x : Cache} (d : Cache) (fields : Fields) (r : Result T E) → OnlyReads a b → KeepsTree b x → OnOk r (PutsFields fields x d) → OnErr r (Rests x d) → Spares a d
+all_spare {a = a} {b = b} {x = x} d fields r reads kept puts rests = spares_then a x d (kept.passes.store.faithful ∙ reads.store.faithful) (spares_then a b x reads.store.faithful (reads_spare a b reads) kept.tree) (last r puts rests) where
   last : {T E : Type 0} (r : Result T E) → OnOk r (PutsFields fields x d) → OnErr r (Rests x d) → Spares x d
-  last (Ok v) puts rests = puts_spare x d fields puts
+  last (Ok v) puts rests = puts_spare puts
   last (Err e) puts rests = stays_spares x d rests.stays

@@ -1,10 +1,12 @@
 -- Bytes that are put behind one another while a text is saved.
-use Rattle.std.proofs.Common.{ℕ, zero, suc, ◌≡◌, ◌+◌, ◌-◌, ◌<◌, ◌≤◌, ◌++◌, ◌∷◌, [], List, drop, map, take, length, refl, sym, ap, ◌∙◌, arith, subst, All, IsTrue, Some, Result, Ok, Err}
-use Rattle.std.specs.Prelude.{IfErr, OnErr}
+use Rattle.std.proofs.Common.{ℕ, zero, suc, ◌≡◌, ◌+◌, ◌-◌, ◌<◌, ◌≤◌, ◌++◌, ◌∷◌, [], List, drop, map, take, length, get_or, refl, sym, ap, ◌∙◌, arith, subst, All, IsTrue, Some, Result, Ok, Err}
+use Rattle.std.specs.Prelude.{IfErr, IsErrAnd, OnErr}
 use Rattle.std.specs.List.{flat_map, range_with_len}
 use Rattle.std.proofs.lemmas.Grind.{flat_map-append}
-use Rattle.std.proofs.lemmas.List.{append_assoc, append-nil, length-append, map-append, take-append-drop}
+use Rattle.std.proofs.lemmas.List.{append_assoc, append-nil, length-append, length-map, map-append, take-append-drop}
 use Rattle.std.proofs.lemmas.List.Elements.{All-push}
+use Rattle.std.proofs.lemmas.List.FromFn.{length-range_with_len}
+use Rattle.byteorder.specs.Endian.{big_bytes}
 use Rattle.std.proofs.lemmas.Int.{clamps}
 use Rattle.pagecache.specs.Cache.{Cache, IsRefused}
 use Rattle.pagecache.specs.declared.fault.CacheFault.{CacheFault}
@@ -14,6 +16,8 @@ use Rattle.tbtree.specs.Passes.{Passes}
 use Rattle.register.specs.Chain.{pages_for}
 use Rattle.register.specs.ChainSteps.{lacked, Reuses, Spares, StaysWithin}
 use Rattle.register.specs.ChainWriter.{Holds, IsAllowed, WriterView, IsCaused as IsCausedThere}
+use Rattle.register.proofs.EncodingLemmas.{listed_more}
+use Rattle.register.proofs.ReaderLemmas.{on_err_and}
 use Rattle.register.proofs.ReuseLemmas.{reuses_refl, reuses_then}
 use Rattle.register.proofs.SpareLemmas.{pages_refl, pages_trans}
 use Rattle.register.proofs.WithinLemmas.{pages_for_more, pages_more, wanted_same, within_held, within_more}
@@ -21,7 +25,7 @@ use Rattle.std.specs.Option.{option_map}
 use Rattle.legs.specs.declared.head.BookHead.{BookHead}
 use Rattle.tbtree.specs.declared.tree.Place.{Place}
 use Rattle.register.specs.Saved.{head_of, CatalogueView}
-use Rattle.register.specs.Text.{HasFeatures, IsHead, IsNumber, IsRow, IsShortText, IsWhole}
+use Rattle.register.specs.Text.{catalogue_text, features_text, head_text, rows_text, HasFeatures, IsHead, IsNumber, IsRow, IsShortText, IsWhole}
 use Rattle.register.specs.Saving.{contents_of, features_of, wanted, HasPageZero, IsSavingStop, IsCatalogue, IsCaused, KeepsTree, Puts, Saves}
 use Rattle.register.specs.declared.fault.CatalogueFault.{CatalogueFault}
 use Rattle.register.specs.declared.fault.CatalogueFault.TheVariants.{Memory, Store, StoreFull, Damaged, Unfinished, Version, Malformed}
@@ -65,8 +69,8 @@ grown c w bytes text h f =
     }
 
 -- bytes that are only put behind the others
-pub pushed_only : (bytes : List ℕ) (c : Cache) (w v : WriterView) → v ≡ record w { text = w.text ++ bytes } → Saves bytes c c w v (Ok tt)
-pushed_only bytes c w v e = record {
+pub pushed_only : {bytes : List ℕ} {c : Cache} {w v : WriterView} → v ≡ record w { text = w.text ++ bytes } → Saves bytes c c w v (Ok tt)
+pushed_only {bytes} {c} {w} {v} e = record {
   puts = record {
     passes = passes_refl c;
     holds = λ text h. subst (λ v. Holds c v (text ++ bytes)) (sym e) (grown c w bytes text h);
@@ -88,18 +92,18 @@ caused_after a b c Unfinished p h = h
 caused_after a b c Version p h = h
 caused_after a b c Malformed p h = tt
 
--- some bytes, and others behind them
-pub puts_then : (first second : List ℕ) (a b c : Cache) (w v u : WriterView) (r : Result (Unit {0}) CatalogueFault) → Puts first a b w v (Ok tt) → Puts second b c v u r → Puts (first ++ second) a c w u r
-puts_then first second a b c w v u (Ok x) p q = record {
+-- some bytes, and others behind them, refused or not
+puts_both : (first second : List ℕ) (a b c : Cache) (w v u : WriterView) (r : Result (Unit {0}) CatalogueFault) → Puts first a b w v (Ok tt) → Puts second b c v u r → Puts (first ++ second) a c w u r
+puts_both first second a b c w v u (Ok x) p q = record {
   passes = passes_trans a b c p.passes q.passes;
   holds = λ text h. subst (λ t. Holds c u t) (append_assoc text first second) (q.holds (text ++ first) (p.holds text h));
   length = λ e. q.length (p.length e);
   tree = λ text h f. pages_trans a b c (p.tree text h f) (q.tree (text ++ first) (p.holds text h) (p.passes.store.faithful ∙ f));
-  reuses = reuses_then a b c w.pages v.pages u.pages w.earlier v.earlier u.earlier p.reuses q.reuses;
+  reuses = reuses_then p.reuses q.reuses;
   caused = tt;
   within = tt;
 }
-puts_then first second a b c w v u (Err e) p q = record {
+puts_both first second a b c w v u (Err e) p q = record {
   passes = passes_trans a b c p.passes q.passes;
   holds = tt;
   length = tt;
@@ -111,7 +115,7 @@ puts_then first second a b c w v u (Err e) p q = record {
 }
 
 -- what is refused is refused in a longer text
-pub puts_longer : (some all : List ℕ) (a b : Cache) (w v : WriterView) (e : CatalogueFault) → length some ≤ length all → Puts some a b w v (Err e) → Puts all a b w v (Err e)
+puts_longer : (some all : List ℕ) (a b : Cache) (w v : WriterView) (e : CatalogueFault) → length some ≤ length all → Puts some a b w v (Err e) → Puts all a b w v (Err e)
 puts_longer some all a b w v e less p = record {
   passes = p.passes;
   holds = tt;
@@ -125,8 +129,15 @@ puts_longer some all a b w v e less p = record {
       within_more (pages_for (text ++ some)) (pages_for (text ++ all)) a b w.pages w.earlier (wanted e) (pages_more (length (text ++ some)) (length (text ++ all)) (omega (arith, l, m, less))) (p.within text h);
 }
 
-pub saves_longer : (some all : List ℕ) (a b : Cache) (w v : WriterView) (r : Result (Unit {0}) CatalogueFault) (f e : CatalogueFault) → r ≡ Err f → f ≡ e → length some ≤ length all → Saves some a b w v (Err e) → Saves all a b w v r
-saves_longer some all a b w v r f e is same less s = subst (λ r. Saves all a b w v r) (sym (is ∙ ap Err same)) (record { puts = puts_longer some all a b w v e less s.puts; only = s.only })
+-- so it is with other bytes behind them
+pub puts_front : {first : List ℕ} {a b : Cache} {w v : WriterView} {r : Result (Unit {0}) CatalogueFault} {e : CatalogueFault} (second : List ℕ) → IsErrAnd r (λ f. f ≡ e) → Puts first a b w v (Err e) → Puts (first ++ second) a b w v r
+puts_front {first} {a} {b} {w} {v} {r} {e} second is p =
+    let l = length-append first second in
+    on_err_and (λ r. Puts (first ++ second) a b w v r) r e is (puts_longer first (first ++ second) a b w v e (omega (arith, l)) p)
+
+-- and in a text that is saved
+saves_longer : {some all : List ℕ} {a b : Cache} {w v : WriterView} {r : Result (Unit {0}) CatalogueFault} {e : CatalogueFault} → IsErrAnd r (λ f. f ≡ e) → length some ≤ length all → Saves some a b w v (Err e) → Saves all a b w v r
+saves_longer {some} {all} {a} {b} {w} {v} {r} {e} is less s = on_err_and (λ r. Saves all a b w v r) r e is (record { puts = puts_longer some all a b w v e less s.puts; only = s.only })
 
 allowed_saving : (e : CacheFault) → IsAllowed e → IsSavingStop (fault_of e)
 allowed_saving cache.NoPage h = h
@@ -160,25 +171,31 @@ refused_text a d w v e f is passes tree only caused within = record {
   only = λ text h f. subst IsSavingStop (sym is) (allowed_saving e (only text h f));
 }
 
-pub saves_then : (first second : List ℕ) (a b c : Cache) (w v u : WriterView) (r : Result (Unit {0}) CatalogueFault) → Saves first a b w v (Ok tt) → Saves second b c v u r → Saves (first ++ second) a c w u r
-saves_then first second a b c w v u r p q = record {
-  puts = puts_then first second a b c w v u r p.puts q.puts;
+-- some bytes, and others behind them
+pub puts_then : {first second : List ℕ} {a b c : Cache} {w v u : WriterView} {r : Result (Unit {0}) CatalogueFault} → Puts first a b w v (Ok tt) → Puts second b c v u r → Puts (first ++ second) a c w u r
+puts_then {first} {second} {a} {b} {c} {w} {v} {u} {r} p q = puts_both first second a b c w v u r p q
+
+-- the same of bytes that are saved
+pub saves_then : {first second : List ℕ} {a b c : Cache} {w v u : WriterView} {r : Result (Unit {0}) CatalogueFault} → Saves first a b w v (Ok tt) → Saves second b c v u r → Saves (first ++ second) a c w u r
+saves_then {first} p q = record {
+  puts = puts_then p.puts q.puts;
   only = λ text h f. q.only (text ++ first) (p.puts.holds text h) (p.puts.passes.store.faithful ∙ f);
 }
 
 -- the bytes are these
-pub puts_same : (some all : List ℕ) (a b : Cache) (w v : WriterView) (r : Result (Unit {0}) CatalogueFault) → some ≡ all → Puts some a b w v r → Puts all a b w v r
-puts_same some all a b w v r e s = subst (λ l. Puts l a b w v r) e s
+pub puts_same : {some all : List ℕ} {a b : Cache} {w v : WriterView} {r : Result (Unit {0}) CatalogueFault} → some ≡ all → Puts some a b w v r → Puts all a b w v r
+puts_same {a = a} {b = b} {w = w} {v = v} {r = r} e s = subst (λ l. Puts l a b w v r) e s
 
-pub saves_same : (some all : List ℕ) (a b : Cache) (w v : WriterView) (r : Result (Unit {0}) CatalogueFault) → some ≡ all → Saves some a b w v r → Saves all a b w v r
-saves_same some all a b w v r e s = subst (λ l. Saves l a b w v r) e s
+-- those that are saved are these
+pub saves_same : {some all : List ℕ} {a b : Cache} {w v : WriterView} {r : Result (Unit {0}) CatalogueFault} → some ≡ all → Saves some a b w v r → Saves all a b w v r
+saves_same {a = a} {b = b} {w = w} {v = v} {r = r} e s = subst (λ l. Saves l a b w v r) e s
 
 range_push : (a n : ℕ) → range_with_len a (suc n) ≡ range_with_len a n ++ (a + n) ∷ []
 range_push a zero = ap (λ k. k ∷ []) (let e : a ≡ a + zero = omega arith in e)
 range_push a (suc n) = ap (λ l. a ∷ l) (range_push (a + 1) n ∙ ap (λ k. range_with_len (a + 1) n ++ k ∷ []) (let e : a + 1 + n ≡ a + suc n = omega arith in e))
 
 -- one item more of those that a number names
-pub named_more : {V : Type 0} (text : V → List ℕ) (f : ℕ → V) (front : List ℕ) (n : ℕ) → (front ++ flat_map text (map f (range_with_len 0 n))) ++ text (f n) ≡ front ++ flat_map text (map f (range_with_len 0 (n + 1)))
+named_more : {V : Type 0} (text : V → List ℕ) (f : ℕ → V) (front : List ℕ) (n : ℕ) → (front ++ flat_map text (map f (range_with_len 0 n))) ++ text (f n) ≡ front ++ flat_map text (map f (range_with_len 0 (n + 1)))
 named_more text f front n =
     append_assoc front (flat_map text (map f (range_with_len 0 n))) (text (f n))
     ∙ ap (λ l. front ++ (flat_map text (map f (range_with_len 0 n)) ++ l)) (sym (append-nil (text (f n))))
@@ -218,10 +235,7 @@ pub guarded_error : {T E : Type 0} (P : E → Type 0) (r : Result T E) (e : E) �
 guarded_error P r e is h = subst (λ r. OnErr r (IfErr r P)) is h
 
 -- a text begun, put together and written
-module _ (bytes : List ℕ) (a b c d : Cache) (w v : WriterView) (begun : Passes a b) (held : Holds b w []) (spared : Spares a b) (put : Puts bytes b c w v (Ok tt)) where
-  holds_all : Holds c v ([] ++ bytes)
-  holds_all = put.holds [] held
-
+module _ {bytes : List ℕ} {a b c d : Cache} {w v : WriterView} (begun : Passes a b) (held : Holds b w []) (spared : Spares a b) (put : Puts bytes b c w v (Ok tt)) where
   pub whole_kept : Passes c d → ((text : List ℕ) → Holds c v text → Spares c d) → KeepsTree a d
   whole_kept last tree = record {
     passes = passes_trans a c d (passes_trans a b c begun put.passes) last;
@@ -229,8 +243,15 @@ module _ (bytes : List ℕ) (a b c d : Cache) (w v : WriterView) (begun : Passes
         let fb = begun.store.faithful ∙ f in
         pages_trans a c d
         (pages_trans a b c (spared f) (put.tree [] held fb))
-        (tree ([] ++ bytes) holds_all (put.passes.store.faithful ∙ fb));
+        (tree ([] ++ bytes) (put.holds [] held) (put.passes.store.faithful ∙ fb));
   }
+
+-- a catalogue in which a file was accepted: its head, and its lists
+pub with_head : {view saved : CatalogueView} {head : BookHead} {a b : Cache} {w v : WriterView} {r : Result (Unit {0}) CatalogueFault} (places : List Place) → view ≡ saved → view.head ≡ Some head
+    → Puts ((1 ∷ head_text (head_of head)) ++ (features_text (features_of view.tracks places) ++ rows_text view.rows)) a b w v r → Puts (catalogue_text (contents_of saved places)) a b w v r
+with_head {view} {saved} {head} {a} {b} {w} {v} {r} places same is p =
+    subst (λ c. Puts (catalogue_text (contents_of c places)) a b w v r) same
+    (puts_same (ap (λ h. catalogue_text (option_map (λ (x : BookHead). record { head = head_of x; lists = record { features = features_of view.tracks places; rows = view.rows } }) h)) (sym is)) p)
 
 -- the text of more items is as long or longer
 named_longer : {V : Type 0} (text : V → List ℕ) (f : ℕ → V) (n m : ℕ) → length (flat_map text (map f (range_with_len 0 n))) ≤ length (flat_map text (map f (range_with_len 0 (n + m))))
@@ -242,7 +263,7 @@ named_longer text f n (suc m) =
     let k : n + m + 1 ≡ n + suc m = omega arith in
     subst (λ k. length (flat_map text (map f (range_with_len 0 n))) ≤ length (flat_map text (map f (range_with_len 0 k)))) k (omega (arith, before, l, e))
 
-pub named_first : {V : Type 0} (text : V → List ℕ) (f : ℕ → V) (front : List ℕ) (n all : ℕ) → n ≤ all → length (front ++ flat_map text (map f (range_with_len 0 n))) ≤ length (front ++ flat_map text (map f (range_with_len 0 all)))
+named_first : {V : Type 0} (text : V → List ℕ) (f : ℕ → V) (front : List ℕ) (n all : ℕ) → n ≤ all → length (front ++ flat_map text (map f (range_with_len 0 n))) ≤ length (front ++ flat_map text (map f (range_with_len 0 all)))
 named_first text f front n all few =
     let e : n + (all - n) ≡ all = omega (arith, few) in
     let first = flat_map text (map f (range_with_len 0 n)) in
@@ -251,7 +272,7 @@ named_first text f front n all few =
     let h : length first ≤ length (flat_map text (map f (range_with_len 0 all))) = subst (λ k. length first ≤ length (flat_map text (map f (range_with_len 0 k)))) e (named_longer text f n (all - n)) in
     omega (arith, l, m, h)
 
-pub listed_first : {V : Type 0} (text : V → List ℕ) (xs : List V) (front : List ℕ) (n : ℕ) → length (front ++ flat_map text (take n xs)) ≤ length (front ++ flat_map text xs)
+listed_first : {V : Type 0} (text : V → List ℕ) (xs : List V) (front : List ℕ) (n : ℕ) → length (front ++ flat_map text (take n xs)) ≤ length (front ++ flat_map text xs)
 listed_first text xs front n =
     let first = flat_map text (take n xs) in
     let l = length-append front first in
@@ -259,3 +280,34 @@ listed_first text xs front n =
     let e = ap length (ap (flat_map text) (sym (take-append-drop n xs)) ∙ flat_map-append text (take n xs) (drop n xs)) in
     let k = length-append first (flat_map text (drop n xs)) in
     omega (arith, l, m, e, k)
+
+module _ {a b c : Cache} {w v u : WriterView} {r : Result (Unit {0}) CatalogueFault} {V : Type 0} (text : V → List ℕ) where
+  -- one item more of those that a number names is saved
+  module _ (f : ℕ → V) {n : ℕ} where
+    pub named_saved : (front : List ℕ) → Saves (front ++ flat_map text (map f (range_with_len 0 n))) a b w v (Ok tt) → Saves (text (f n)) b c v u r → Saves (front ++ flat_map text (map f (range_with_len 0 (n + 1)))) a c w u r
+    named_saved front p q = saves_same (named_more text f front n) (saves_then p q)
+
+  -- one item more of a list is saved
+  module _ (xs : List V) {x : V} {n : ℕ} (less : n < length xs) (is : get_or xs n x ≡ x) where
+    pub listed_saved : (front : List ℕ) → Saves (front ++ flat_map text (take n xs)) a b w v (Ok tt) → Saves (text x) b c v u r → Saves (front ++ flat_map text (take (n + 1) xs)) a c w u r
+    listed_saved front p q = saves_same (listed_more text xs x x front n less is) (saves_then p q)
+
+-- one of them is refused, and so are they all behind their number
+module _ {a b c : Cache} {w v u : WriterView} {r : Result (Unit {0}) CatalogueFault} {e : CatalogueFault} {V : Type 0} (text : V → List ℕ) (refused : IsErrAnd r (λ f. f ≡ e)) {count n : ℕ} where
+  -- those that a number names
+  pub named_refused : (f : ℕ → V) (all : ℕ) → count ≡ all → n < count → Saves (big_bytes 4 count ++ flat_map text (map f (range_with_len 0 n))) a b w v (Ok tt) → Saves (text (f n)) b c v u (Err e)
+      → Saves (big_bytes 4 (length (map f (range_with_len 0 all))) ++ flat_map text (map f (range_with_len 0 all))) a c w u r
+  named_refused f all is less p q =
+      let items = map f (range_with_len 0 all) in
+      let long = is ∙ sym (length-map (range_with_len 0 all) f ∙ length-range_with_len 0 all) in
+      let first = named_first text f (big_bytes 4 count) (n + 1) all (omega (arith, is, less)) in
+      let next = big_bytes 4 count ++ flat_map text (map f (range_with_len 0 (n + 1))) in
+      saves_longer refused (subst (λ k. length next ≤ length (big_bytes 4 k ++ flat_map text items)) long first) (named_saved text f (big_bytes 4 count) p q)
+
+  -- those of a list
+  pub listed_refused : {x : V} (xs : List V) → count ≡ length xs → n < length xs → get_or xs n x ≡ x → Saves (big_bytes 4 count ++ flat_map text (take n xs)) a b w v (Ok tt) → Saves (text x) b c v u (Err e)
+      → Saves (big_bytes 4 (length xs) ++ flat_map text xs) a c w u r
+  listed_refused xs is less at p q =
+      let next = big_bytes 4 count ++ flat_map text (take (n + 1) xs) in
+      let first = listed_first text xs (big_bytes 4 count) (n + 1) in
+      saves_longer refused (subst (λ k. length next ≤ length (big_bytes 4 k ++ flat_map text xs)) is first) (listed_saved text xs less at (big_bytes 4 count) p q)

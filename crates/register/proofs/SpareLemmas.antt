@@ -97,15 +97,20 @@ spares_then a b c same s t = λ f. pages_trans a b c (s f) (t (same ∙ f))
 pub spares_trans : (a b c : Cache) → Passes a b → Spares a b → Spares b c → Spares a c
 spares_trans a b c p s t = spares_then a b c p.store.faithful s t
 
-pub stays_spares : (a b : Cache) → KeepsPayloads a b → Spares a b
-stays_spares a b s = λ f. record {
+-- no page has another payload
+pub same_spare : (a b : Cache) → b.count ≡ a.count → (IsTrue a.store.is_faithful → (p : ℕ) → payload_of b p ≡ payload_of a p) → Spares a b
+same_spare a b count same = λ f. record {
   tree = record {
-    count = (let c = s.count in omega (arith, c));
-    held = λ p h e. ((let c = s.count in omega (arith, c, h)), ap (option_map node_of) (sym (s.payloads f p)) ∙ e);
-    rest = λ p h. ap (λ o. node_in (option_map node_of o)) (s.payloads f p);
+    count = omega (arith, count);
+    held = λ p h e. (omega (arith, count, h), ap (option_map node_of) (sym (same f p)) ∙ e);
+    rest = λ p h. ap (λ o. node_in (option_map node_of o)) (same f p);
   };
-  others = λ p v h e k. s.payloads f p ∙ e;
+  others = λ p v h e k. same f p ∙ e;
 }
+
+-- as where the payloads are kept
+pub stays_spares : (a b : Cache) → KeepsPayloads a b → Spares a b
+stays_spares a b s = same_spare a b s.count s.payloads
 
 -- a payload that says no node
 node_of-catalogue : (p : Payload) → p.kind ≡ Catalogue → node_of p ≡ None

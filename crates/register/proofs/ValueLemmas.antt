@@ -1,17 +1,18 @@
 -- Values that are read one after another.
-use Rattle.std.proofs.Common.{ℕ, ◌≡◌, ◌<◌, ◌≤◌, ◌^◌, List, ◌++◌, drop, take, length, refl, sym, ap, ◌∙◌, arith, subst, Option, Some, None, option_map, Result, Ok, Err}
-use Rattle.std.specs.Prelude.{IsUtf8, IsErrOf}
+use Rattle.std.proofs.Common.{ℕ, ◌≡◌, ◌<◌, ◌^◌, List, ◌++◌, drop, take, length, refl, sym, ap, ◌∙◌, arith, subst, Option, Some, None, option_map, Result, Ok, Err}
+use Rattle.std.specs.Prelude.{IsErrAnd, IsErrOf, IsUtf8}
 use Rattle.std.proofs.lemmas.List.{append_assoc, append_cancel_left, length-append, length-take-le, take-append-drop}
 use Rattle.std.proofs.Math.Seq.{take-append_seam}
 use Rattle.byteorder.specs.Endian.{big_bytes, big_number}
 use Rattle.byteorder.specs.Numbers.{big_number-reads_back, length-bytes_high_first}
 use Rattle.pages.specs.declared.payload.Payload.{Payload}
+use Rattle.pagecache.specs.Cache.{Cache}
 use Rattle.register.specs.Chain.{text_at}
-use Rattle.register.specs.ChainReader.{ReaderView, rest_of, BreaksAt, IsTextFault, Takes}
+use Rattle.register.specs.ChainReader.{ReaderView, rest_of, BreaksAt, IsTextFault, MayBe, Takes}
 use Rattle.register.specs.Text.{short_text, IsNumber, IsShortText}
 use Rattle.register.specs.declared.fault.CatalogueFault.{CatalogueFault}
 use Rattle.register.specs.declared.fault.CatalogueFault.TheVariants.{Memory, Store, StoreFull, Damaged, Unfinished, Version, Malformed}
-use Rattle.register.proofs.ReaderLemmas.{map_map, map_same, some_none, some_same}
+use Rattle.register.proofs.ReaderLemmas.{goes_on, later_fault, map_map, map_same, may_still, on_err_and, skips, some_none, some_same, text_read, IsFilled, Leaves}
 
 -- two texts that are equal in front of something, where they are of one length
 pub same_front : (a b s t : List ℕ) → length a ≡ length b → a ++ s ≡ b ++ t → (a ≡ b) × (s ≡ t)
@@ -26,9 +27,9 @@ big_same n m k s t h l e =
 
 -- a value of n bytes is not there where there are fewer
 module _ {V : Type 0} (text : V → List ℕ) (is_value : V → Type 0) (n : ℕ) (len : (v : V) → length (text v) ≡ n) where
-  pub failed : {at : ℕ → Option Payload} (old new : Option (List ℕ)) (r : Result V CatalogueFault) (e f : CatalogueFault) → r ≡ Err f → f ≡ e → (BreaksAt at e → (t : List ℕ) → old ≡ Some t → length t < n) → Takes at text is_value old new r
-  failed {at} old new r e f is same h =
-      subst (λ r. Takes at text is_value old new r) (sym (is ∙ ap Err same)) (record {
+  pub failed : {at : ℕ → Option Payload} {old new : Option (List ℕ)} {r : Result V CatalogueFault} (e : CatalogueFault) → IsErrAnd r (λ f. f ≡ e) → (BreaksAt at e → (t : List ℕ) → old ≡ Some t → length t < n) → Takes at text is_value old new r
+  failed {at} {old} {new} {r} e is h =
+      on_err_and (λ r. Takes at text is_value old new r) r e is (record {
         taken = tt;
         lacks = λ b v t k found.
             let short = h b (text v ++ t) found in
@@ -53,67 +54,79 @@ behind n (Some s) v t h l e =
     let both = big_same 8 n (length v) s (v ++ t) h l same in
     (both.0, ap Some both.1)
 
-module _ (old mid new : Option (List ℕ)) (n : ℕ) (small : IsNumber 64 n) (length_is : old ≡ option_map (λ s. big_bytes 8 n ++ s) mid) where
-  split : (v t : List ℕ) → IsShortText v → old ≡ Some (short_text v ++ t) → (n ≡ length v) × (mid ≡ Some (v ++ t))
-  split v t is e = behind n mid v t small is.short (sym length_is ∙ e)
+-- what is broken is no text
+text_fault : {T Q : Type 0} (at : ℕ → Option Payload) (e : CatalogueFault) → IsTextFault e → (IsErrOf {T = T} (Err e) Malformed → Q) → BreaksAt at e → Q
+text_fault at Memory h f b = absurd b
+text_fault at Store h f b = absurd b
+text_fault at StoreFull h f b = absurd b
+text_fault at (Damaged n) h f b = absurd h
+text_fault at Unfinished h f b = absurd b
+text_fault at Version h f b = absurd b
+text_fault at Malformed h f b = f refl
+
+-- a text behind its length: the length was read, and pages until as many bytes stand ready
+module _ {a b : Cache} {s t : ReaderView} {n : ℕ} (len : Leaves a b s t (big_bytes 8) (IsNumber 64) (Ok n)) where
+  split : (at : ℕ → Option Payload) → MayBe a at → (v w : List ℕ) → IsShortText v → rest_of at s ≡ Some (short_text v ++ w) → (n ≡ length v) × (rest_of at t ≡ Some (v ++ w))
+  split at may v w is e = let l = (len.takes at may).taken in behind n (rest_of at t) v w l.0 is.short (sym l.1 ∙ e)
 
   -- the text is not there whole
-  pub text_cut : {at : ℕ → Option Payload} (r : Result (List ℕ) CatalogueFault) (e f : CatalogueFault) → r ≡ Err f → f ≡ e → (BreaksAt at e → (t : List ℕ) → mid ≡ Some t → length t < n) → Takes at short_text IsShortText old new r
-  text_cut {at} r e f is same h =
-      subst (λ r. Takes at short_text IsShortText old new r) (sym (is ∙ ap Err same)) (record {
-        taken = tt;
-        lacks = λ b v t k found.
-            let s = split v t k found in
-            let short = h b (v ++ t) s.1 in
-            let both = length-append v t in
-            let own = s.0 in
-            absurd (omega (arith, short, both, own));
-      })
+  pub text_cut : {c : Cache} {u : ReaderView} {e : CatalogueFault} → IsFilled b c t u n (Err e) → Leaves a c s u short_text IsShortText (Err e)
+  text_cut {c} {e = e} fill = record {
+    takes = λ at may. record {
+      taken = tt;
+      lacks = λ k v w is found.
+          let l = split at may v w is found in
+          let short = fill.broken at (may_still len.reads may) k (v ++ w) l.1 in
+          let both = length-append v w in
+          let own = l.0 in
+          absurd (omega (arith, short, both, own));
+    };
+    reads = goes_on len.reads fill.reads;
+    caused = later_fault a b c e len.reads fill.caused;
+  }
 
-  module _ (at : ℕ → Option Payload) (ahead : ReaderView) (same : rest_of at ahead ≡ mid) (enough : n ≤ length ahead.bytes) where
+  module _ {c : Cache} {u : ReaderView} (fill : IsFilled b c t u n (Ok tt)) where
     abbrev own : List ℕ
-    own = take n ahead.bytes
-
-    abbrev after : Option (List ℕ)
-    after = rest_of at (record ahead { bytes = drop n ahead.bytes })
+    own = take n u.bytes
 
     own_length : length own ≡ n
-    own_length = length-take-le n ahead.bytes enough
+    own_length = length-take-le n u.bytes fill.ready
 
     front_is : (rest : Option (List ℕ)) (v t : List ℕ) → length own ≡ length v → option_map (λ t. own ++ t) rest ≡ Some (v ++ t) → own ≡ v
     front_is None v t l e = absurd (some_none (v ++ t) (sym e))
     front_is (Some s) v t l e = (same_front own v s t l (some_same (own ++ s) (v ++ t) e)).0
 
     -- it is there, and is no text
-    pub no_text : (r : Result (List ℕ) CatalogueFault) (e f : CatalogueFault) → r ≡ Err f → f ≡ e → (BreaksAt at e → IsUtf8 own → ⊥) → Takes at short_text IsShortText old new r
-    no_text r e f is same' h =
-        subst (λ r. Takes at short_text IsShortText old new r) (sym (is ∙ ap Err same')) (record {
-          taken = tt;
-          lacks = λ b v t k found.
-              let s = split v t k found in
-              let l = own_length ∙ s.0 in
-              let front = front_is after v t l (sym (ready at ahead n) ∙ same ∙ s.1) in
-              h b (subst (λ x. IsUtf8 x) (sym front) k.utf8);
-        })
-
-    pub text_taken : (v : List ℕ) → v ≡ own → IsUtf8 v → after ≡ new → Takes at short_text IsShortText old new (Ok v)
-    text_taken v is utf8 end = record {
-      taken = (
-        record { utf8 = utf8; short = subst (λ k. k < 2 ^ 64) (sym (ap length is ∙ own_length)) small },
-        length_is ∙ ap (option_map (λ s. big_bytes 8 n ++ s)) (sym same ∙ ready at ahead n ∙ ap (option_map (λ s. own ++ s)) end)
-            ∙ map_map (λ s. big_bytes 8 n ++ s) (λ s. own ++ s) new
-            ∙ map_same (λ s. big_bytes 8 n ++ (own ++ s)) (λ s. short_text v ++ s) new
-            (λ s. sym (append_assoc (big_bytes 8 n) own s) ∙ ap (λ k. (big_bytes 8 k ++ own) ++ s) (sym own_length ∙ sym (ap length is)) ∙ ap (λ x. (big_bytes 8 (length v) ++ x) ++ s) (sym is)),
-      );
-      lacks = tt;
+    pub no_text : {T : Type 0} {e : CatalogueFault} → IsTextFault e → (IsErrOf {T = T} (Err e) Malformed → IsUtf8 own → ⊥) → Leaves a c s u short_text IsShortText (Err e)
+    no_text {e = e} fault broken = record {
+      takes = λ at may. record {
+        taken = tt;
+        lacks = λ k v w is found.
+            let l = split at may v w is found in
+            let there = sym (ready at u n) ∙ fill.same at (may_still len.reads may) ∙ l.1 in
+            let front = front_is (rest_of at (record u { bytes = drop n u.bytes })) v w (own_length ∙ l.0) there in
+            text_fault at e fault broken k (subst (λ x. IsUtf8 x) (sym front) is.utf8);
+      };
+      reads = goes_on len.reads fill.reads;
+      caused = text_read a c s e fault;
     }
 
--- what is broken is no text
-pub text_fault : {T : Type 0} (at : ℕ → Option Payload) (Q : Type 0) (r : Result T CatalogueFault) (e : CatalogueFault) → r ≡ Err e → IsTextFault e → (IsErrOf r Malformed → Q) → BreaksAt at e → Q
-text_fault at Q r Memory is h f b = absurd b
-text_fault at Q r Store is h f b = absurd b
-text_fault at Q r StoreFull is h f b = absurd b
-text_fault at Q r (Damaged n) is h f b = absurd h
-text_fault at Q r Unfinished is h f b = absurd b
-text_fault at Q r Version is h f b = absurd b
-text_fault at Q r Malformed is h f b = f (subst (λ r. IsErrOf r Malformed) (sym is) refl)
+    -- it is there, and is one
+    pub text_taken : {w : ReaderView} {v : List ℕ} → v ≡ own → IsUtf8 v → w ≡ record u { bytes = drop n u.bytes } → Leaves a c s w short_text IsShortText (Ok v)
+    text_taken {w} {v} is utf8 end = record {
+      takes = λ at may.
+          let l = (len.takes at may).taken in
+          let mid = sym (fill.same at (may_still len.reads may)) ∙ ready at u n ∙ ap (λ r. option_map (λ s. own ++ s) (rest_of at r)) (sym end) in
+          record {
+            taken = (
+              record { utf8 = utf8; short = subst (λ k. k < 2 ^ 64) (sym (ap length is ∙ own_length)) l.0 },
+              l.1 ∙ ap (option_map (λ s. big_bytes 8 n ++ s)) mid
+                  ∙ map_map (λ s. big_bytes 8 n ++ s) (λ s. own ++ s) (rest_of at w)
+                  ∙ map_same (λ s. big_bytes 8 n ++ (own ++ s)) (λ s. short_text v ++ s) (rest_of at w)
+                  (λ s. sym (append_assoc (big_bytes 8 n) own s) ∙ ap (λ k. (big_bytes 8 k ++ own) ++ s) (sym own_length ∙ sym (ap length is)) ∙ ap (λ x. (big_bytes 8 (length v) ++ x) ++ s) (sym is)),
+            );
+            lacks = tt;
+          };
+      reads = skips (drop n u.bytes) (goes_on len.reads fill.reads) end;
+      caused = tt;
+    }

@@ -9,11 +9,11 @@ use Rattle.pages.specs.declared.payload.Payload.{Payload}
 use Rattle.tbnode.specs.Parts.{part}
 use Rattle.register.specs.Chain.{most_used, is_catalogue, is_part, next_in, text_in, chain_text, text_at}
 use Rattle.register.specs.ChainReader.{ReaderView, rest_of}
-use Rattle.register.specs.Text.{body_text, catalogue_text, IsBody, IsRead, IsWhole}
+use Rattle.register.specs.Text.{body_text, catalogue_text, flag_of, IsBody, IsNumber, IsRead, IsWhole}
 use Rattle.register.specs.declared.contents.Contents.{Contents}
-use Rattle.register.proofs.ReaderLemmas.{map_map, some_none, some_same, text_end}
+use Rattle.register.proofs.ReaderLemmas.{some_none, some_same, text_end}
 use Rattle.register.proofs.PrefixLemmas.{whole_free}
-use Rattle.register.proofs.SequenceLemmas.{Lacks}
+use Rattle.register.proofs.SequenceLemmas.{IsPair, Lacks}
 
 and_first : (a b : Bool) → (a && b) ≡ true → a ≡ true
 and_first true b e = refl
@@ -96,16 +96,20 @@ pub no_body : (most : ℕ) (old : Option (List ℕ)) → ((c : Contents) (t : Li
 no_body most old h None t k e = absurd (let f = k.flag_is in omega (arith, f))
 no_body most old h (Some c) t k e = h c t k.read e
 
--- behind the byte in front of it
-pub no_flagged : (most flag : ℕ) (old mid : Option (List ℕ)) → old ≡ option_map (λ t. flag ∷ t) mid → Lacks body_text (IsBody most flag) mid → Lacks catalogue_text (IsRead most) old
-no_flagged most flag old None is l v t k e = absurd (some_none (catalogue_text v ++ t) (sym e ∙ is))
-no_flagged most flag old (Some s) is l v t k e =
-    let same = some_same (flag ∷ s) (catalogue_text v ++ t) (sym is ∙ e) in
-    l v t (record { read = k; flag_is = sym (ap (λ l. get_or l 0 0) same) }) (ap (λ l. Some (drop 1 l)) same)
+-- the byte that says whether it is there fits into eight bits
+pub flag_fits : (v : Option Contents) → IsNumber 8 (flag_of v)
+flag_fits None = omega arith
+flag_fits (Some c) = omega arith
 
-pub flagged_taken : (most flag : ℕ) (c : Option Contents) (old mid new : Option (List ℕ)) → old ≡ option_map (λ t. flag ∷ t) mid → IsBody most flag c → mid ≡ option_map (λ t. body_text c ++ t) new → old ≡ option_map (λ t. catalogue_text c ++ t) new
-flagged_taken most flag c old mid new p body q =
-    p ∙ ap (option_map (λ t. flag ∷ t)) q ∙ map_map (λ t. flag ∷ t) (λ t. body_text c ++ t) new ∙ ap (λ n. option_map (λ t. n ∷ (body_text c ++ t)) new) (sym body.flag_is)
+-- a whole text: that byte, and what stands behind it
+abbrev pub catalogue_pair : (most : ℕ) → IsPair catalogue_text (IsRead most) (λ n. n ∷ []) (IsNumber 8) body_text (IsBody most)
+catalogue_pair most = record {
+  left = flag_of;
+  right = λ v. v;
+  free = λ a b s t h k e. (ap (λ l. get_or l 0 0) e, ap (drop 1) e);
+  parts = λ v k. (flag_fits v, record { read = k; flag_is = refl });
+  whole = λ v. refl;
+}
 
 pub no_whole : (most : ℕ) (old : Option (List ℕ)) → Lacks catalogue_text (IsRead most) old → (c : Option Contents) → IsRead most c → old ≢ Some (catalogue_text c)
 no_whole most old h c k e = h c [] k (e ∙ ap Some (sym (append-nil (catalogue_text c))))

@@ -1,6 +1,6 @@
 -- A refused text takes new pages but for want of earlier ones.
 use Rattle.std.proofs.Common.{ℕ, suc, ◌≡◌, ◌+◌, ◌-◌, ◌*◌, ◌<◌, ◌≤◌, ◌++◌, ◌∷◌, [], List, drop, length, refl, sym, ap, ◌∙◌, arith, subst, All, IsTrue, Result, Ok, Err, Option, ◌⊎◌, inl, inr, ⊎_elim}
-use Rattle.std.specs.Prelude.{IfErr, IsErrOf, OnErr, OnOk}
+use Rattle.std.specs.Prelude.{IfErr, IsErrAnd, IsErrOf, OnErr, OnOk}
 use Rattle.std.specs.Int.{div_ceil}
 use Rattle.std.proofs.lemmas.List.{length-append, length-drop, length_push}
 use Rattle.pagecache.specs.Cache.{Cache, IsRefused, payload_of}
@@ -143,14 +143,14 @@ within_text first text a x d v earlier k some less same reuses held within pages
     (held_pages (payload_of x) x.count v.pages v.earlier v.text first (held (same ∙ ahead.faithful)))
 
 -- so few pages were added
-pub within_few : (text : List ℕ) (a b d : Cache) (earlier k : ℕ) (pages : List ℕ) → b.count ≡ a.count → IsAhead b [] earlier pages → StaysWithin (pages_for text) b [] earlier d k → AddsFew a.count text pages d.count
-within_few text a b d earlier k pages same ahead within =
+pub within_few : {b : Cache} {earlier : ℕ} {pages : List ℕ} (text : List ℕ) (a d : Cache) (k : ℕ) → b.count ≡ a.count → IsAhead b [] earlier pages → StaysWithin (pages_for text) b [] earlier d k → AddsFew a.count text pages d.count
+within_few {pages = pages} text a d k same ahead within =
     let n = within pages ahead in
     omega (arith, same, n)
 
 -- and there was no room for them all
-pub within_full : (text : List ℕ) (a b d : Cache) (earlier : ℕ) (pages : List ℕ) (e : CatalogueFault) → e ≡ StoreFull → b.count ≡ a.count → d.store.most ≡ a.store.most → IsCaused b d e → IsAhead b [] earlier pages → StaysWithin (pages_for text) b [] earlier d (wanted e) → HasNoRoom a.count a.store.most text pages
-within_full text a b d earlier pages e full same most caused ahead within =
+pub within_full : {b : Cache} {earlier : ℕ} {pages : List ℕ} (text : List ℕ) (a d : Cache) (e : CatalogueFault) → e ≡ StoreFull → b.count ≡ a.count → d.store.most ≡ a.store.most → IsCaused b d e → IsAhead b [] earlier pages → StaysWithin (pages_for text) b [] earlier d (wanted e) → HasNoRoom a.count a.store.most text pages
+within_full {b} {pages = pages} text a d e full same most caused ahead within =
     let n : d.count + 1 ≤ b.count + ((pages_for text - 0) - length pages) = subst (λ e. d.count + wanted e ≤ b.count + ((pages_for text - 0) - length pages)) full (within pages ahead) in
     let is : d.count ≡ d.store.most = subst (IsCaused b d) full caused in
     omega (arith, same, most, is, n)
@@ -164,9 +164,10 @@ error_of : {T : Type 0} → CatalogueFault → Result T CatalogueFault → Catal
 error_of d (Ok x) = d
 error_of d (Err e) = e
 
-pub full_is : {T : Type 0} (r : Result T CatalogueFault) (f e : CatalogueFault) → r ≡ Err f → f ≡ e → IsErrOf r StoreFull → e ≡ StoreFull
+pub full_is : {T : Type 0} (r : Result T CatalogueFault) (e : CatalogueFault) → IsErrAnd r (λ f. f ≡ e) → IsErrOf r StoreFull → e ≡ StoreFull
 unfolding error_of
-full_is r f e is same full = sym same ∙ ap (error_of f) (sym is ∙ full)
+full_is (Ok x) e is full = absurd is
+full_is (Err f) e is full = sym is ∙ ap (error_of f) full
 
 pub either : {T E P Q R : Type 0} (r : Result T E) → (P → R) → (Q → R) → OnOk r P → OnErr r Q → R
 either (Ok x) f g p q = f p

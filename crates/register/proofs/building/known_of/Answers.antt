@@ -1,9 +1,8 @@
 use Rattle.std.proofs.Common.{◌≡◌, ◌∙◌, ◌++◌, ◌∷◌, [], ap, sym, subst}
 use Rattle.std.specs.Vec.Iter.{into_iter_items}
 use Rattle.std.proofs.lemmas.List.{append_assoc}
-use Rattle.std.proofs.lemmas.Result.{err_from_is_err_and}
 use Rattle.register.specs.Building.{AreLawful}
-use Rattle.register.proofs.ReaderLemmas.{if_err_of}
+use Rattle.register.proofs.ReaderLemmas.{if_err_and}
 use Rattle.register.proofs.BuildLemmas.{known_more, known_not}
 use Rattle.register.specs.ChainReader.{IsBroken}
 use Rattle.register.proofs.building.known_of.Goals as goal
@@ -19,8 +18,7 @@ loop-feature-preserved c =
 pub returns-in_err-add_feature-clause-broken : goal.returns-in_err-add_feature-clause-broken
 returns-in_err-add_feature-clause-broken c =
     let steps : into_iter_items c.loop-feature.feature-iterator ≡ c.in-Some.feature ∷ into_iter_items c.next.new.self = c.in-Some.ensures.steps.0 in
-    let p = err_from_is_err_and c.from_residual-in_err-add_feature.result c.from_residual-in_err-add_feature.ensures.1 in
-    if_err_of (λ e. IsBroken e → AreLawful c.args.count c.args.features → ⊥) c.from_residual-in_err-add_feature.result p.0 c.in_err-add_feature.field-0.0 p.1 p.2
+    if_err_and (λ e. IsBroken e → AreLawful c.args.count c.args.features → ⊥) c.from_residual-in_err-add_feature.result c.in_err-add_feature.field-0.0 c.from_residual-in_err-add_feature.ensures.1
     (λ b lawful. known_not c.args.count c.loop-feature.yielded (into_iter_items c.next.new.self) c.in-Some.feature c.loop-feature.known c.loop-feature.invariant.known
     (c.in_err-add_feature.ensures.broken b)
     (subst (λ l. AreLawful c.args.count l) (c.loop-feature.invariant.all ∙ ap (λ l. c.loop-feature.yielded ++ l) steps) lawful))

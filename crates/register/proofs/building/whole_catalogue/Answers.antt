@@ -1,17 +1,15 @@
 use Rattle.std.proofs.Common.{◌≡◌, ◌∙◌, ◌<◌, ◌≤◌, ◌-◌, ◌^◌, ap, sym, refl, arith, length, nat_le, Some, true, false, ⊎_elim}
 use Rattle.std.proofs.lemmas.Bool.{cases_lt, true≢false}
-use Rattle.std.proofs.lemmas.Result.{err_from_is_err_and}
 use Rattle.register.specs.ChainReader.{IsBroken}
 use Rattle.register.specs.Building.{IsOf}
 use Rattle.register.specs.Saved.{CatalogueView}
-use Rattle.register.proofs.ReaderLemmas.{if_err_of}
+use Rattle.register.proofs.ReaderLemmas.{if_err_and}
 use Rattle.register.proofs.BuildLemmas.{of_lawful, of_few, of_rows, of_some_row, whole_is, too_many, no_more}
 use Rattle.register.proofs.building.whole_catalogue.Goals as goal
 
 pub returns-in_err-tracks-clause-broken : goal.returns-in_err-tracks-clause-broken
 returns-in_err-tracks-clause-broken c =
-    let p = err_from_is_err_and c.from_residual.result c.from_residual.ensures.1 in
-    if_err_of (λ e. IsBroken e → (k : CatalogueView) → (places : _) → IsOf c.args.count c.args.fields.now (Some c.args.contents) k places → ⊥) c.from_residual.result p.0 c.in_err-tracks.field-0.0 p.1 p.2
+    if_err_and (λ e. IsBroken e → (k : CatalogueView) → (places : _) → IsOf c.args.count c.args.fields.now (Some c.args.contents) k places → ⊥) c.from_residual.result c.in_err-tracks.field-0.0 c.from_residual.ensures.1
     (λ b k places of. c.in_err-tracks.ensures.broken b (of_lawful c.args.count c.args.fields.now c.args.contents k places of))
 
 pub returns-then-not-is_few-clause-broken : goal.returns-then-not-is_few-clause-broken

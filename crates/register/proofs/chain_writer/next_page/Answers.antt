@@ -1,6 +1,5 @@
 use Rattle.register.proofs.WithinLemmas.{lacked_one, within_none}
-use Rattle.register.proofs.ReaderLemmas.{if_err_of}
-use Rattle.std.proofs.lemmas.Result.{err_from_is_err_and}
+use Rattle.register.proofs.ReaderLemmas.{if_err_and}
 use Rattle.std.proofs.Common.{◌≡◌, ◌≤◌, ◌<◌, ◌+◌, ◌∙◌, ap, arith, subst, sym, IsTrue, Some, length}
 use Rattle.std.specs.Prelude.{IfSome}
 use Rattle.pages.specs.declared.payload.Payload.{Payload}
@@ -41,12 +40,11 @@ returns-in_ok-page-in-None-clause-reuses g c =
 
 pub returns-in_err-page-in-None-clause-within : goal.returns-in_err-page-in-None-clause-within
 returns-in_err-page-in-None-clause-within g c =
-    let p = err_from_is_err_and c.from_residual-in_err-page-in-None.result c.from_residual-in_err-page-in-None.ensures.1 in
     let a = c.args.cache.now in
     let d = c.add_above.new.cache in
     let keys = c.args.pages.now.keys in
     let same = c.reused.ensures.count in
     let fault = c.in_err-page-in-None.field-0.0 in
-    if_err_of (λ e. StaysWithin (length keys + 1) a keys c.args.earlier d (lacked e)) c.from_residual-in_err-page-in-None.result p.0 fault p.1 p.2
+    if_err_and (λ e. StaysWithin (length keys + 1) a keys c.args.earlier d (lacked e)) c.from_residual-in_err-page-in-None.result fault c.from_residual-in_err-page-in-None.ensures.1
     (within_none a d keys c.args.earlier (lacked fault) (c.in_ok-next.ensures.none c.in-None.is)
     (λ some. c.in_err-page-in-None.ensures.none (subst (λ n. 0 < n) (sym same) some) ∙ same) (lacked_one fault))

@@ -1,5 +1,4 @@
 use Rattle.std.proofs.Common.{◌≡◌, ◌∙◌, sym, subst, List, ℕ, IsTrue, Option}
-use Rattle.std.proofs.lemmas.Result.{err_from_is_err_and}
 use Rattle.pages.specs.declared.payload.Payload.{Payload}
 use Rattle.pagecache.specs.Cache.{payload_of}
 use Rattle.tbtree.specs.declared.tree.Place.{Place}
@@ -8,26 +7,24 @@ use Rattle.register.specs.Lasting.{IsKept, IsStop, IsTrulyDamaged}
 use Rattle.register.specs.Restoring.{IsRest}
 use Rattle.register.specs.Stopping.{NamesStop}
 use Rattle.register.specs.Saved.{CatalogueView}
-use Rattle.register.proofs.ReaderLemmas.{if_err_of, may_be, may_read, reads_trans}
+use Rattle.register.proofs.ReaderLemmas.{if_err_and, may_be, may_read, reads_trans}
 use Rattle.register.proofs.RestoreLemmas.{broken_of, damaged_of, fields_kept, kept_fields, named_behind, named_first, no_kept, rest_kept}
 use Rattle.register.proofs.restoring.read_back.Goals as goal
 
 pub returns-in_err-fields-clause-broken : goal.returns-in_err-fields-clause-broken
 returns-in_err-fields-clause-broken g c =
-    let p = err_from_is_err_and c.from_residual.result c.from_residual.ensures.1 in
     let at = payload_of c.args.cache.now in
     let count = c.args.cache.now.count in
-    if_err_of (λ e. IsTrue c.args.cache.now.store.is_faithful → (IsStop e → ⊥) → (k : CatalogueView) (tree : TbTree) (places : List Place) → IsKept at count k tree places → ⊥) c.from_residual.result p.0 c.in_err-fields.field-0.0 p.1 p.2
+    if_err_and (λ e. IsTrue c.args.cache.now.store.is_faithful → (IsStop e → ⊥) → (k : CatalogueView) (tree : TbTree) (places : List Place) → IsKept at count k tree places → ⊥) c.from_residual.result c.in_err-fields.field-0.0 c.from_residual.ensures.1
     (λ fa not k tree places kept. c.in_err-fields.ensures.broken fa not (fields_kept at count k tree places kept) (kept_fields at count k tree places kept))
 
 pub returns-in_err-catalogue-clause-broken : goal.returns-in_err-catalogue-clause-broken
 returns-in_err-catalogue-clause-broken g c =
-    let p = err_from_is_err_and c.from_residual-in_err-catalogue.result c.from_residual-in_err-catalogue.ensures.1 in
     let at = payload_of c.args.cache.now in
     let count = c.args.cache.now.count in
     let mid = c.read_header.new.cache in
     let reads = c.in_ok-fields.ensures.reads in
-    if_err_of (λ e. IsTrue c.args.cache.now.store.is_faithful → (IsStop e → ⊥) → (k : CatalogueView) (tree : TbTree) (places : List Place) → IsKept at count k tree places → ⊥) c.from_residual-in_err-catalogue.result p.0 c.in_err-catalogue.field-0.0 p.1 p.2
+    if_err_and (λ e. IsTrue c.args.cache.now.store.is_faithful → (IsStop e → ⊥) → (k : CatalogueView) (tree : TbTree) (places : List Place) → IsKept at count k tree places → ⊥) c.from_residual-in_err-catalogue.result c.in_err-catalogue.field-0.0 c.from_residual-in_err-catalogue.ensures.1
     (λ fa not.
     let fb = reads.store.faithful ∙ fa in
     let broken = broken_of mid c.read_rest.new.cache c.in_ok-fields.fields c.in_err-catalogue.field-0.0 c.in_err-catalogue.ensures.reads fb c.in_err-catalogue.ensures.caused not in
@@ -38,25 +35,22 @@ returns-in_err-catalogue-clause-broken g c =
 
 pub returns-in_err-catalogue-clause-damaged : goal.returns-in_err-catalogue-clause-damaged
 returns-in_err-catalogue-clause-damaged g c =
-    let p = err_from_is_err_and c.from_residual-in_err-catalogue.result c.from_residual-in_err-catalogue.ensures.1 in
     let a = c.args.cache.now in
-    if_err_of (λ e. IsTrulyDamaged a.store.is_faithful (payload_of a) a.count e) c.from_residual-in_err-catalogue.result p.0 c.in_err-catalogue.field-0.0 p.1 p.2
+    if_err_and (λ e. IsTrulyDamaged a.store.is_faithful (payload_of a) a.count e) c.from_residual-in_err-catalogue.result c.in_err-catalogue.field-0.0 c.from_residual-in_err-catalogue.ensures.1
     (damaged_of a c.read_header.new.cache c.read_rest.new.cache c.in_ok-fields.fields c.in_err-catalogue.field-0.0 c.in_ok-fields.ensures.reads c.in_err-catalogue.ensures.reads c.in_err-catalogue.ensures.caused)
 
 pub returns-in_err-fields-clause-named : goal.returns-in_err-fields-clause-named
 returns-in_err-fields-clause-named g c =
-    let p = err_from_is_err_and c.from_residual.result c.from_residual.ensures.1 in
     let a = c.args.cache.now in
     let err = c.in_err-fields.ensures in
-    if_err_of (λ e. IsTrue a.store.is_faithful → NamesStop (payload_of a) a.count e) c.from_residual.result p.0 c.in_err-fields.field-0.0 p.1 p.2
+    if_err_and (λ e. IsTrue a.store.is_faithful → NamesStop (payload_of a) a.count e) c.from_residual.result c.in_err-fields.field-0.0 c.from_residual.ensures.1
     (λ fa. named_first (payload_of a) a.count a.store.is_faithful fa c.in_err-fields.field-0.0 (err.first fa) (err.broken fa) err.zero err.damaged)
 
 pub returns-in_err-catalogue-clause-named : goal.returns-in_err-catalogue-clause-named
 returns-in_err-catalogue-clause-named g c =
-    let p = err_from_is_err_and c.from_residual-in_err-catalogue.result c.from_residual-in_err-catalogue.ensures.1 in
     let a = c.args.cache.now in
     let err = c.in_err-catalogue.ensures in
-    if_err_of (λ e. IsTrue a.store.is_faithful → NamesStop (payload_of a) a.count e) c.from_residual-in_err-catalogue.result p.0 c.in_err-catalogue.field-0.0 p.1 p.2
+    if_err_and (λ e. IsTrue a.store.is_faithful → NamesStop (payload_of a) a.count e) c.from_residual-in_err-catalogue.result c.in_err-catalogue.field-0.0 c.from_residual-in_err-catalogue.ensures.1
     (λ fa. named_behind a c.read_header.new.cache c.read_rest.new.cache c.in_ok-fields.fields fa c.in_ok-fields.ensures.reads (c.in_ok-fields.ensures.says fa) c.in_err-catalogue.field-0.0 err.caused err.broken)
 
 pub returns-clause-kept : goal.returns-clause-kept

@@ -1,5 +1,4 @@
 use Rattle.std.proofs.Common.{ℕ, subst, List, Option}
-use Rattle.std.proofs.lemmas.Result.{err_from_is_err_and}
 use Rattle.pages.specs.declared.payload.Payload.{Payload}
 use Rattle.tbtree.specs.declared.tree.Place.{Place}
 use Rattle.register.specs.ChainReader.{reader_of, BreaksAt, IsReaderFault, IsTextFault, MayBe}
@@ -8,16 +7,15 @@ use Rattle.register.specs.Lasting.{IsWithin}
 use Rattle.register.specs.Restoring.{IsRest}
 use Rattle.register.specs.Saved.{CatalogueView}
 use Rattle.register.proofs.BuildLemmas.{contents_few}
-use Rattle.register.proofs.ReaderLemmas.{if_err, if_err_of, if_ok, is_broken, text_read}
+use Rattle.register.proofs.ReaderLemmas.{if_err, if_err_and, if_ok, is_broken, text_read}
 use Rattle.register.proofs.RestoreLemmas.{no_rest}
 use Rattle.register.proofs.restoring.read_rest.Goals as goal
 
 pub returns-in_err-contents-clause-broken : goal.returns-in_err-contents-clause-broken
 returns-in_err-contents-clause-broken g c =
-    let p = err_from_is_err_and c.from_residual.result c.from_residual.ensures.1 in
     let count = c.args.cache.now.count in
     let fields = c.args.fields.now in
-    if_err_of (λ e. (at : ℕ → Option Payload) → MayBe c.args.cache.now at → BreaksAt at e → (k : CatalogueView) (places : List Place) → IsRest at count fields k places → ⊥) c.from_residual.result p.0 c.in_err-contents.field-0.0 p.1 p.2
+    if_err_and (λ e. (at : ℕ → Option Payload) → MayBe c.args.cache.now at → BreaksAt at e → (k : CatalogueView) (places : List Place) → IsRest at count fields k places → ⊥) c.from_residual.result c.in_err-contents.field-0.0 c.from_residual.ensures.1
     (λ at may b k places rest. c.in_err-contents.ensures.broken at may b rest.contents (contents_few count fields rest.contents k places rest.of) rest.holds)
 
 pub returns-clause-broken : goal.returns-clause-broken

@@ -1,8 +1,7 @@
 use Rattle.register.proofs.WithinLemmas.{either, full_is, no_full, within_few, within_full}
-use Rattle.std.proofs.lemmas.Result.{err_from_is_err_and}
-use Rattle.std.proofs.Common.{List, ℕ, [], ◌∙◌, refl, sym, subst, Result, Ok, Err, OnOk, ⊎_elim, ◌≡◌}
+use Rattle.std.proofs.Common.{List, ℕ, ◌∙◌, refl, sym, subst, Result, Ok, Err, OnOk, ⊎_elim, ◌≡◌}
 use Rattle.register.proofs.ReaderLemmas.{on_ok}
-use Rattle.register.proofs.ReuseLemmas.{ahead_reads, begun_ahead}
+use Rattle.register.proofs.ReuseLemmas.{read_ahead}
 use Rattle.register.specs.Earlier.{AddsFew}
 use Rattle.register.specs.Saving.{contents_of, wanted}
 use Rattle.register.specs.Text.{catalogue_text}
@@ -11,35 +10,25 @@ use Rattle.register.proofs.saving.keep.Goals as goal
 
 pub returns-clause-front : goal.returns-clause-front
 returns-clause-front g c =
-    let a = c.args.cache.now in
-    let b = c.earlier_page.new.cache in
-    let x = c.write_whole.new.cache in
-    let d = c.write_fields.new.cache in
-    on_ok c.write_fields.result (λ puts fa some. keeps_front x d c.fields_for-fields.result puts a b c.earlier_page.ensures.reads c.write_whole.ensures.kept.passes fa some) c.write_fields.ensures.puts
+    on_ok c.write_fields.result (λ puts fa some. keeps_front puts c.earlier_page.ensures.reads c.write_whole.ensures.kept.passes fa some) c.write_fields.ensures.puts
 
 pub returns-clause-saved : goal.returns-clause-saved
 returns-clause-saved g c =
-    let a = c.args.cache.now in
-    let b = c.earlier_page.new.cache in
-    let x = c.write_whole.new.cache in
-    let d = c.write_fields.new.cache in
     let tree = c.args.tree in
     let places = c.args.places.now in
-    on_both c.write_fields.result (λ puts fits fa.
     let reads = c.earlier_page.ensures.reads in
-    let fb = reads.store.faithful ∙ fa in
-    says x d c.fields_for-fields.result puts a b reads c.write_whole.ensures.kept.passes fa c.args.catalogue.now tree tree places places c.in_ok-first.first c.in_ok-first.length
-    c.fields_for-fields.ensures fits refl refl (c.in_ok-first.ensures.text fb) (c.in_ok-first.ensures.few fb)) c.write_fields.ensures.puts c.write_fields.ensures.fits where
+    let first = c.in_ok-first.ensures in
+    on_both c.write_fields.result (λ puts fits fa.
+    says puts reads c.write_whole.ensures.kept.passes fa c.args.catalogue.now tree tree places places c.in_ok-first.first c.in_ok-first.length
+    c.fields_for-fields.ensures fits refl refl (first.text (reads.store.faithful ∙ fa)) (first.few (reads.store.faithful ∙ fa))) c.write_fields.ensures.puts c.write_fields.ensures.fits where
       on_both : {T E : Type 0} {P Q R : Type 0} (r : Result T E) → (P → Q → R) → OnOk r P → OnOk r Q → OnOk r R
       on_both (Ok x) f p q = f p q
       on_both (Err e) f p q = tt
 
 pub returns-clause-length : goal.returns-clause-length
 returns-clause-length g c =
-    let x = c.write_whole.new.cache in
-    let d = c.write_fields.new.cache in
     let reads = c.earlier_page.ensures.reads in
-    on_ok c.write_fields.result (λ puts even. puts_length x d c.fields_for-fields.result puts (c.in_ok-first.ensures.length (reads.count ∙ even ∙ sym reads.length))) c.write_fields.ensures.puts
+    on_ok c.write_fields.result (λ puts even. puts_length puts (c.in_ok-first.ensures.length (reads.count ∙ even ∙ sym reads.length))) c.write_fields.ensures.puts
 
 pub returns-clause-written : goal.returns-clause-written
 returns-clause-written g c =
@@ -50,13 +39,11 @@ returns-clause-written g c =
 
 pub returns-clause-tree : goal.returns-clause-tree
 returns-clause-tree g c f =
-    (all_spare c.args.cache.now c.earlier_page.new.cache c.write_whole.new.cache c.write_fields.new.cache c.fields_for-fields.result c.write_fields.result c.earlier_page.ensures.reads c.write_whole.ensures.kept
-    c.write_fields.ensures.puts c.write_fields.ensures.rests f).tree
+    (all_spare c.write_fields.new.cache c.fields_for-fields.result c.write_fields.result c.earlier_page.ensures.reads c.write_whole.ensures.kept c.write_fields.ensures.puts c.write_fields.ensures.rests f).tree
 
 pub returns-clause-others : goal.returns-clause-others
 returns-clause-others g c f =
-    (all_spare c.args.cache.now c.earlier_page.new.cache c.write_whole.new.cache c.write_fields.new.cache c.fields_for-fields.result c.write_fields.result c.earlier_page.ensures.reads c.write_whole.ensures.kept
-    c.write_fields.ensures.puts c.write_fields.ensures.rests f).others
+    (all_spare c.write_fields.new.cache c.fields_for-fields.result c.write_fields.result c.earlier_page.ensures.reads c.write_whole.ensures.kept c.write_fields.ensures.puts c.write_fields.ensures.rests f).others
 
 pub returns-clause-synced : goal.returns-clause-synced
 returns-clause-synced g c =
@@ -64,14 +51,12 @@ returns-clause-synced g c =
 
 pub returns-clause-takes : goal.returns-clause-takes
 returns-clause-takes g c = λ fa es are.
-    let a = c.args.cache.now in
     let b = c.earlier_page.new.cache in
     let x = c.write_whole.new.cache in
-    let earlier = c.in_ok-earlier.earlier in
+    let d = c.write_fields.new.cache in
     let reads = c.earlier_page.ensures.reads in
     let text : List ℕ = catalogue_text (contents_of c.args.catalogue.now c.args.places.now) in
-    let ahead = ahead_reads a b [] earlier es reads (begun_ahead a earlier es fa c.in_ok-earlier.ensures.some c.in_ok-earlier.ensures.first are) in
-    let d = c.write_fields.new.cache in
+    let ahead = read_ahead reads c.in_ok-earlier.ensures.some c.in_ok-earlier.ensures.first fa are in
     let count : d.count ≡ x.count = either c.write_fields.result (λ puts. puts.lends.writes.count) (λ rests. rests.stays.count) c.write_fields.ensures.puts c.write_fields.ensures.rests in
     subst (λ n. AddsFew n text es d.count) reads.count (subst (λ n. AddsFew b.count text es n) (sym count) (c.in_ok-first.ensures.takes es ahead))
 
@@ -80,24 +65,15 @@ returns-clause-full g c = λ full fa es are. absurd (no_full c.write_fields.resu
 
 pub returns-in_err-first-clause-takes : goal.returns-in_err-first-clause-takes
 returns-in_err-first-clause-takes g c = λ fa es are.
-    let a = c.args.cache.now in
-    let b = c.earlier_page.new.cache in
-    let x = c.write_whole.new.cache in
-    let earlier = c.in_ok-earlier.earlier in
     let reads = c.earlier_page.ensures.reads in
-    let text : List ℕ = catalogue_text (contents_of c.args.catalogue.now c.args.places.now) in
-    let ahead = ahead_reads a b [] earlier es reads (begun_ahead a earlier es fa c.in_ok-earlier.ensures.some c.in_ok-earlier.ensures.first are) in
-    within_few text a b x earlier (wanted c.in_err-first.field-0.0) es reads.count ahead c.in_err-first.ensures.within
+    let text = catalogue_text (contents_of c.args.catalogue.now c.args.places.now) in
+    within_few text c.args.cache.now c.write_whole.new.cache (wanted c.in_err-first.field-0.0) reads.count (read_ahead reads c.in_ok-earlier.ensures.some c.in_ok-earlier.ensures.first fa are) c.in_err-first.ensures.within
 
 pub returns-in_err-first-clause-full : goal.returns-in_err-first-clause-full
 returns-in_err-first-clause-full g c = λ full fa es are.
-    let p = err_from_is_err_and c.from_residual-in_err-first.result c.from_residual-in_err-first.ensures.1 in
-    let a = c.args.cache.now in
-    let b = c.earlier_page.new.cache in
-    let x = c.write_whole.new.cache in
-    let earlier = c.in_ok-earlier.earlier in
     let reads = c.earlier_page.ensures.reads in
-    let text : List ℕ = catalogue_text (contents_of c.args.catalogue.now c.args.places.now) in
-    let ahead = ahead_reads a b [] earlier es reads (begun_ahead a earlier es fa c.in_ok-earlier.ensures.some c.in_ok-earlier.ensures.first are) in
-    let fault = c.in_err-first.field-0.0 in
-    within_full text a b x earlier es fault (full_is c.from_residual-in_err-first.result p.0 fault p.1 p.2 full) reads.count (c.write_whole.ensures.kept.passes.store.most ∙ reads.store.most) c.in_err-first.ensures.caused ahead c.in_err-first.ensures.within
+    let most = c.write_whole.ensures.kept.passes.store.most ∙ reads.store.most in
+    let text = catalogue_text (contents_of c.args.catalogue.now c.args.places.now) in
+    let is_full = full_is c.from_residual-in_err-first.result _ c.from_residual-in_err-first.ensures.1 full in
+    within_full text c.args.cache.now c.write_whole.new.cache c.in_err-first.field-0.0 is_full reads.count most c.in_err-first.ensures.caused
+    (read_ahead reads c.in_ok-earlier.ensures.some c.in_ok-earlier.ensures.first fa are) c.in_err-first.ensures.within

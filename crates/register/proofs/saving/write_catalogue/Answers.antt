@@ -1,43 +1,20 @@
-use Rattle.std.proofs.lemmas.List.{length-append}
-use Rattle.std.proofs.lemmas.Result.{err_from_is_err_and}
-use Rattle.std.proofs.Common.{ℕ, Ok, ◌∙◌, IsTrue, ◌∷◌, ◌++◌, List, Result, Err, OnOk, ap, sym, subst, arith}
+use Rattle.std.proofs.Common.{ℕ, ◌∙◌, IsTrue, ◌++◌, List, Result, Ok, Err, OnOk, subst}
 use Rattle.std.specs.Prelude.{IfErr}
-use Rattle.std.specs.Option.{option_map}
-use Rattle.legs.specs.declared.head.BookHead.{BookHead}
-use Rattle.register.specs.Saved.{head_of, CatalogueView}
-use Rattle.register.specs.Saving.{contents_of, features_of, HasFew, IsSavingStop, IsCatalogue, Puts, Saves}
+use Rattle.register.specs.Saved.{CatalogueView}
+use Rattle.register.specs.Saving.{contents_of, features_of, HasFew, IsSavingStop, IsCatalogue}
 use Rattle.register.specs.ChainWriter.{Holds}
-use Rattle.register.specs.Text.{catalogue_text, features_text, head_text, rows_text, IsWhole}
-use Rattle.register.proofs.SavingLemmas.{puts_then, puts_same, whole_contents, puts_longer}
+use Rattle.register.specs.Text.{features_text, rows_text, IsWhole}
+use Rattle.register.proofs.SavingLemmas.{puts_front, puts_then, whole_contents, with_head}
 use Rattle.register.proofs.saving.write_catalogue.Goals as goal
 
 pub returns-in_ok-write_head-in-Some-clause-puts : goal.returns-in_ok-write_head-in-Some-clause-puts
-returns-in_ok-write_head-in-Some-clause-puts g c =
-    let a = c.args.cache.now in
-    let b = c.write_head.new.cache in
-    let d = c.write_lists.new.cache in
-    let view : CatalogueView = record { head = c.catalogue.inside.head; limits = c.catalogue.inside.limits; tracks = c.catalogue.inside.tracks; rows = c.catalogue.inside.rows } in
-    let tracks = view.tracks in
-    let places = c.args.places.now in
-    let rows : List (List (List ℕ)) = view.rows in
-    let head = 1 ∷ head_text (head_of c.in-Some.head) in
-    let lists : List ℕ = features_text (features_of tracks places) ++ rows_text rows in
-    let more : Puts lists b d c.write_head.new.writer c.write_lists.new.writer c.write_lists.result =
-    c.write_lists.ensures.puts in
-    let first : Saves head a b c.args.writer.now c.write_head.new.writer (Ok tt) = subst (λ r. Saves head a b c.args.writer.now c.write_head.new.writer r) c.in_ok-write_head-in-Some.was c.write_head.ensures.saves in
-    subst (λ v. Puts (catalogue_text (contents_of v places)) a d c.args.writer.now c.write_lists.new.writer c.write_lists.result) c.catalogue.view_is
-    (puts_same (head ++ lists) (catalogue_text (contents_of view places)) a d c.args.writer.now c.write_lists.new.writer c.write_lists.result
-    (ap (λ h. catalogue_text (option_map (λ (x : BookHead). record { head = head_of x; lists = record { features = features_of tracks places; rows = rows } }) h)) (sym c.in-Some.is))
-    (puts_then head lists a b d c.args.writer.now c.write_head.new.writer c.write_lists.new.writer c.write_lists.result first.puts more))
+returns-in_ok-write_head-in-Some-clause-puts g c = with_head c.args.places.now c.catalogue.view_is c.in-Some.is (puts_then c.in_ok-write_head-in-Some.ensures.saves.puts c.write_lists.ensures.puts)
 
 pub returns-in_ok-write_head-in-Some-clause-only : goal.returns-in_ok-write_head-in-Some-clause-only
 returns-in_ok-write_head-in-Some-clause-only g c =
-    let a = c.args.cache.now in
-    let b = c.write_head.new.cache in
-    let head = 1 ∷ head_text (head_of c.in-Some.head) in
-    let first : Saves head a b c.args.writer.now c.write_head.new.writer (Ok tt) = subst (λ r. Saves head a b c.args.writer.now c.write_head.new.writer r) c.in_ok-write_head-in-Some.was c.write_head.ensures.saves in
-    subst (λ v. HasFew v → (text : List ℕ) → Holds a c.args.writer.now text → IsTrue a.store.is_faithful → IfErr c.write_lists.result IsSavingStop) c.catalogue.view_is (λ few text h f.
-    c.write_lists.ensures.only few.features few.rows (text ++ head) (first.puts.holds text h) (first.puts.passes.store.faithful ∙ f))
+    let first = c.in_ok-write_head-in-Some.ensures.saves.puts in
+    subst (λ v. HasFew v → (text : List ℕ) → Holds c.args.cache.now c.args.writer.now text → IsTrue c.args.cache.now.store.is_faithful → IfErr c.write_lists.result IsSavingStop) c.catalogue.view_is
+    (λ few text h f. c.write_lists.ensures.only few.features few.rows _ (first.holds text h) (first.passes.store.faithful ∙ f))
 
 pub returns-in_ok-write_head-in-Some-clause-whole : goal.returns-in_ok-write_head-in-Some-clause-whole
 returns-in_ok-write_head-in-Some-clause-whole g c =
@@ -55,21 +32,5 @@ returns-in_ok-write_head-in-Some-clause-whole g c =
 
 pub returns-in_err-write_head-in-Some-clause-puts : goal.returns-in_err-write_head-in-Some-clause-puts
 returns-in_err-write_head-in-Some-clause-puts g c =
-    let p = err_from_is_err_and c.from_residual.result c.from_residual.ensures.1 in
-    let a = c.args.cache.now in
-    let b = c.write_head.new.cache in
-    let w = c.args.writer.now in
-    let u = c.write_head.new.writer in
-    let fault = c.in_err-write_head-in-Some.field-0.0 in
-    let view : CatalogueView = record { head = c.catalogue.inside.head; limits = c.catalogue.inside.limits; tracks = c.catalogue.inside.tracks; rows = c.catalogue.inside.rows } in
-    let tracks = view.tracks in
-    let places = c.args.places.now in
-    let rows : List (List (List ℕ)) = view.rows in
-    let head = 1 ∷ head_text (head_of c.in-Some.head) in
-    let lists : List ℕ = features_text (features_of tracks places) ++ rows_text rows in
-    let l = length-append head lists in
-    let first : Saves head a b w u (Err fault) = subst (λ r. Saves head a b w u r) c.in_err-write_head-in-Some.was c.write_head.ensures.saves in
-    let all : Puts (head ++ lists) a b w u c.from_residual.result = subst (λ r. Puts (head ++ lists) a b w u r) (sym (p.1 ∙ ap Err p.2)) (puts_longer head (head ++ lists) a b w u fault (omega (arith, l)) first.puts) in
-    subst (λ v. Puts (catalogue_text (contents_of v places)) a b w u c.from_residual.result) c.catalogue.view_is
-    (puts_same (head ++ lists) (catalogue_text (contents_of view places)) a b w u c.from_residual.result
-    (ap (λ h. catalogue_text (option_map (λ (x : BookHead). record { head = head_of x; lists = record { features = features_of tracks places; rows = rows } }) h)) (sym c.in-Some.is)) all)
+    let lists = features_text (features_of c.catalogue.inside.tracks c.args.places.now) ++ rows_text c.catalogue.inside.rows in
+    with_head c.args.places.now c.catalogue.view_is c.in-Some.is (puts_front lists c.from_residual.ensures.1 c.in_err-write_head-in-Some.ensures.saves.puts)

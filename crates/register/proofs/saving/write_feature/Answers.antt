@@ -1,7 +1,7 @@
-use Rattle.std.proofs.Common.{◌≡◌, ◌++◌, [], ◌∙◌, subst, List, ℕ}
+use Rattle.std.proofs.Common.{◌++◌, ◌∙◌, subst, List, ℕ}
 use Rattle.std.proofs.lemmas.List.{append-nil}
 use Rattle.register.specs.Saving.{feature_at}
-use Rattle.register.specs.Text.{feature_text, kept_text, short_text, IsKept, IsShortText}
+use Rattle.register.specs.Text.{kept_text, short_text, IsKept, IsShortText}
 use Rattle.register.proofs.EncodingLemmas.{always}
 use Rattle.register.proofs.SavingLemmas.{pushed_only, saves_then, saves_same}
 use Rattle.register.proofs.saving.write_feature.Goals as goal
@@ -9,15 +9,10 @@ use Rattle.register.proofs.saving.write_feature.Goals as goal
 pub returns-clause-saves : goal.returns-clause-saves
 unfolding feature_at
 returns-clause-saves g c =
-    let cache = c.args.cache.now in
     let bytes : List ℕ = short_text c.name_at.result.now ++ kept_text c.kept_at-kept.result in
-    let all = feature_text (feature_at c.args.tracks.now c.args.places.now c.args.feature) in
     let kept = c.kept_at-kept.ensures in
-    let same : bytes ++ [] ≡ all = append-nil bytes ∙ (λ i. short_text (c.name_at.ensures i) ++ kept_text (kept i)) in
-    saves_same (bytes ++ []) all cache c.write_text.new.cache c.args.writer.now c.write_text.new.writer c.write_text.result same
-    (saves_then bytes [] cache cache c.write_text.new.cache c.args.writer.now c.push_feature.new.writer c.write_text.new.writer c.write_text.result
-    (pushed_only bytes cache c.args.writer.now c.push_feature.new.writer c.in_ok-push_feature.ensures.pushed)
-    c.write_text.ensures.saves)
+    saves_same (append-nil bytes ∙ (λ i. short_text (c.name_at.ensures i) ++ kept_text (kept i)))
+    (saves_then (pushed_only c.in_ok-push_feature.ensures.pushed) c.write_text.ensures.saves)
 
 pub returns-clause-whole : goal.returns-clause-whole
 unfolding feature_at

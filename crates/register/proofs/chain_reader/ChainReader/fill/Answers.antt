@@ -1,6 +1,5 @@
 use Rattle.std.proofs.Common.{◌∙◌, ap, sym, arith, length}
 use Rattle.std.proofs.lemmas.List.{length-drop}
-use Rattle.std.proofs.lemmas.Result.{err_from_is_err_and}
 use Rattle.register.proofs.ReaderLemmas.{ended, goes_on, later, may_still}
 use Rattle.register.proofs.chain_reader.ChainReader.fill.Goals as goal
 
@@ -15,14 +14,12 @@ returns-then-self-eq0-clause-broken g c = λ at may u text e.
 pub loop-self-preserved : goal.loop-self-preserved
 loop-self-preserved g c =
     let i = c.loop-self.invariant in record {
-      reads = goes_on c.args.cache.now c.loop-self.cache c.load.new.cache i.reads c.load.ensures.reads;
+      reads = goes_on i.reads c.load.ensures.reads;
       same = λ at may. c.in_ok-load.ensures.same at (may_still i.reads may) ∙ i.same at may;
     }
 
 pub returns-in_err-load-clause-reads : goal.returns-in_err-load-clause-reads
-returns-in_err-load-clause-reads g c = goes_on c.args.cache.now c.loop-self.cache c.load.new.cache c.loop-self.invariant.reads c.load.ensures.reads
+returns-in_err-load-clause-reads g c = goes_on c.loop-self.invariant.reads c.load.ensures.reads
 
 pub returns-in_err-load-clause-caused : goal.returns-in_err-load-clause-caused
-returns-in_err-load-clause-caused g c =
-    let p = err_from_is_err_and c.from_residual.result c.from_residual.ensures.1 in
-    later c.args.cache.now c.loop-self.cache c.load.new.cache c.from_residual.result p.0 c.in_err-load.field-0.0 p.1 p.2 c.loop-self.invariant.reads c.in_err-load.ensures.caused
+returns-in_err-load-clause-caused g c = later _ _ c.from_residual.ensures.1 c.loop-self.invariant.reads c.in_err-load.ensures.reads c.in_err-load.ensures.caused

@@ -1,6 +1,5 @@
 use Rattle.std.proofs.Common.{drop, ◌∙◌, ap, sym}
 use Rattle.register.specs.ChainReader.{rest_of}
-use Rattle.std.proofs.lemmas.Result.{err_from_is_err_and}
 use Rattle.register.proofs.KeptLemmas.{kept_length, fixed_taken}
 use Rattle.register.specs.Text.{kept_text, IsKept}
 use Rattle.register.proofs.ReaderLemmas.{skips}
@@ -8,9 +7,7 @@ use Rattle.register.proofs.ValueLemmas.{failed}
 use Rattle.register.proofs.chain_reader.ChainReader.kept.Goals as goal
 
 pub returns-in_err-fill-clause-takes : goal.returns-in_err-fill-clause-takes
-returns-in_err-fill-clause-takes g c = λ at may.
-    let p = err_from_is_err_and c.from_residual.result c.from_residual.ensures.1 in
-    failed kept_text IsKept 28 kept_length _ _ c.from_residual.result _ p.0 p.1 p.2 (λ b. c.in_err-fill.ensures.broken at may b)
+returns-in_err-fill-clause-takes g c = λ at may. failed kept_text IsKept 28 kept_length _ c.from_residual.ensures.1 (c.in_err-fill.ensures.broken at may)
 
 pub returns-clause-takes : goal.returns-clause-takes
 returns-clause-takes g c = λ at may.

@@ -1,56 +1,12 @@
-use Rattle.register.proofs.ReaderLemmas.{goes_on, if_err_of, later, may_still, skips, text_read}
-use Rattle.std.proofs.Common.{ap, drop, sym, take}
-use Rattle.std.specs.Prelude.{IsUtf8}
-use Rattle.std.proofs.lemmas.Result.{err_from_is_err_and}
-use Rattle.register.specs.ChainReader.{rest_of, IsReaderFault}
-use Rattle.register.proofs.ValueLemmas.{text_cut, text_fault, no_text, text_taken}
+use Rattle.register.proofs.ReaderLemmas.{refused}
+use Rattle.register.proofs.ValueLemmas.{no_text, text_cut, text_taken}
 use Rattle.register.proofs.chain_reader.ChainReader.text.Goals as goal
 
-pub returns-in_err-fill-clause-takes : goal.returns-in_err-fill-clause-takes
-returns-in_err-fill-clause-takes g c = λ at may.
-    let p = err_from_is_err_and c.from_residual-in_err-fill.result c.from_residual-in_err-fill.ensures.1 in
-    let old = rest_of at c.args.self.now in
-    let mid = rest_of at c.u64.new.self in
-    let new = rest_of at c.fill.new.self in
-    let n = (c.in_ok-len.ensures.takes at may).taken in
-    text_cut old mid new c.in_ok-len.len n.0 n.1 c.from_residual-in_err-fill.result c.in_err-fill.field-0.0 p.0 p.1 p.2
-    (λ b. c.in_err-fill.ensures.broken at (may_still c.in_ok-len.ensures.reads may) b)
+pub returns-in_err-fill : goal.returns-in_err-fill
+returns-in_err-fill g c = refused c.from_residual-in_err-fill.ensures.1 (text_cut c.in_ok-len.ensures c.in_err-fill.ensures)
 
-pub returns-in_err-text-clause-takes : goal.returns-in_err-text-clause-takes
-returns-in_err-text-clause-takes g c = λ at may.
-    let p = err_from_is_err_and c.from_residual-in_err-text.result c.from_residual-in_err-text.ensures.1 in
-    let old = rest_of at c.args.self.now in
-    let mid = rest_of at c.u64.new.self in
-    let new = rest_of at c.fill.new.self in
-    let n = (c.in_ok-len.ensures.takes at may).taken in
-    no_text old mid new c.in_ok-len.len n.0 n.1 at c.fill.new.self (c.in_ok-fill.ensures.same at (may_still c.in_ok-len.ensures.reads may)) c.in_ok-fill.ensures.ready
-    c.from_residual-in_err-text.result c.in_err-text.field-0.0 p.0 p.1 p.2
-    (text_fault at (IsUtf8 (take c.in_ok-len.len c.fill.new.self.bytes) → ⊥) c.ready_text.result c.in_err-text.field-0.0 c.in_err-text.was c.in_err-text.ensures.memory c.ready_text.ensures.broken)
+pub returns-in_err-text : goal.returns-in_err-text
+returns-in_err-text g c = refused c.from_residual-in_err-text.ensures.1 (no_text c.in_ok-len.ensures c.in_ok-fill.ensures c.in_err-text.ensures.memory c.in_err-text.ensures.broken)
 
-pub returns-clause-takes : goal.returns-clause-takes
-returns-clause-takes g c = λ at may.
-    let old = rest_of at c.args.self.now in
-    let mid = rest_of at c.u64.new.self in
-    let new = rest_of at c.skip.new.self in
-    let n = (c.in_ok-len.ensures.takes at may).taken in
-    text_taken old mid new c.in_ok-len.len n.0 n.1 at c.fill.new.self (c.in_ok-fill.ensures.same at (may_still c.in_ok-len.ensures.reads may)) c.in_ok-fill.ensures.ready
-    c.in_ok-text.text c.in_ok-text.ensures.text.0 c.in_ok-text.ensures.text.1 (ap (λ r. rest_of at r) (sym c.skip.ensures))
-
-pub returns-in_err-fill-clause-caused : goal.returns-in_err-fill-clause-caused
-returns-in_err-fill-clause-caused g c =
-    let p = err_from_is_err_and c.from_residual-in_err-fill.result c.from_residual-in_err-fill.ensures.1 in
-    later c.args.cache.now c.u64.new.cache c.fill.new.cache c.from_residual-in_err-fill.result p.0 c.in_err-fill.field-0.0 p.1 p.2 c.in_ok-len.ensures.reads c.in_err-fill.ensures.caused
-
-pub returns-in_err-text-clause-caused : goal.returns-in_err-text-clause-caused
-returns-in_err-text-clause-caused g c =
-    let p = err_from_is_err_and c.from_residual-in_err-text.result c.from_residual-in_err-text.ensures.1 in
-    if_err_of (IsReaderFault c.args.cache.now c.fill.new.cache c.args.self.now) c.from_residual-in_err-text.result p.0 c.in_err-text.field-0.0 p.1 p.2 (text_read c.args.cache.now c.fill.new.cache c.args.self.now c.in_err-text.field-0.0 c.in_err-text.ensures.memory)
-
-pub returns-in_err-fill-clause-reads : goal.returns-in_err-fill-clause-reads
-returns-in_err-fill-clause-reads g c = goes_on c.args.cache.now c.u64.new.cache c.fill.new.cache c.in_ok-len.ensures.reads c.in_err-fill.ensures.reads
-
-pub returns-in_err-text-clause-reads : goal.returns-in_err-text-clause-reads
-returns-in_err-text-clause-reads g c = goes_on c.args.cache.now c.u64.new.cache c.fill.new.cache c.in_ok-len.ensures.reads c.in_ok-fill.ensures.reads
-
-pub returns-clause-reads : goal.returns-clause-reads
-returns-clause-reads g c = skips (drop c.in_ok-len.len c.fill.new.self.bytes) (goes_on c.args.cache.now c.u64.new.cache c.fill.new.cache c.in_ok-len.ensures.reads c.in_ok-fill.ensures.reads) c.skip.ensures
+pub returns : goal.returns
+returns g c = text_taken c.in_ok-len.ensures c.in_ok-fill.ensures c.in_ok-text.ensures.text.0 c.in_ok-text.ensures.text.1 c.skip.ensures

@@ -1,18 +1,16 @@
 use Rattle.std.proofs.Common.{ℕ, ◌≢◌, ◌∙◌, sym, Option, Some}
 use Rattle.std.proofs.lemmas.Bool.{true≢false}
-use Rattle.std.proofs.lemmas.Result.{err_from_is_err_and}
 use Rattle.pages.specs.declared.payload.Payload.{Payload}
 use Rattle.register.specs.ChainReader.{rest_of, BreaksAt, MayBe}
 use Rattle.register.specs.Text.{catalogue_text, IsRead}
 use Rattle.register.specs.declared.contents.Contents.{Contents}
-use Rattle.register.proofs.ReaderLemmas.{if_err_of}
+use Rattle.register.proofs.ReaderLemmas.{if_err_and}
 use Rattle.register.proofs.WholeLemmas.{no_whole, left_over}
 use Rattle.register.proofs.chain_reader.ChainReader.whole.Goals as goal
 
 pub returns-in_err-contents-clause-broken : goal.returns-in_err-contents-clause-broken
 returns-in_err-contents-clause-broken g c =
-    let p = err_from_is_err_and c.from_residual.result c.from_residual.ensures.1 in
-    if_err_of (λ e. (at : ℕ → Option Payload) → MayBe c.args.cache.now at → BreaksAt at e → (contents : Option Contents) → IsRead c.args.limits.now.legs contents → rest_of at c.args.self.now ≢ Some (catalogue_text contents)) c.from_residual.result p.0 c.in_err-contents.field-0.0 p.1 p.2
+    if_err_and (λ e. (at : ℕ → Option Payload) → MayBe c.args.cache.now at → BreaksAt at e → (contents : Option Contents) → IsRead c.args.limits.now.legs contents → rest_of at c.args.self.now ≢ Some (catalogue_text contents)) c.from_residual.result c.in_err-contents.field-0.0 c.from_residual.ensures.1
     (λ at may b contents k. no_whole c.args.limits.now.legs (rest_of at c.args.self.now) ((c.in_err-contents.ensures.takes at may).lacks b) contents k)
 
 pub returns-then-not-is_at_end-clause-broken : goal.returns-then-not-is_at_end-clause-broken

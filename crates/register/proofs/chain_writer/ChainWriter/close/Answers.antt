@@ -1,7 +1,6 @@
 use Rattle.register.proofs.WithinLemmas.{refused_room}
 use Rattle.register.specs.ChainSteps.{lacked}
-use Rattle.register.proofs.ReaderLemmas.{if_err_of}
-use Rattle.std.proofs.lemmas.Result.{err_from_is_err_and}
+use Rattle.register.proofs.ReaderLemmas.{if_err_and}
 use Rattle.std.proofs.Common.{◌≡◌, ◌≤◌, length, ap, ◌∙◌, arith}
 use Rattle.register.proofs.WriterLemmas.{closed, last_tree, pages_taken}
 use Rattle.register.specs.ChainWriter.{WriterView}
@@ -29,6 +28,5 @@ returns-in_err-write_page-clause-pages g c = λ text h some f. pages_taken c.arg
 
 pub returns-in_err-write_page-clause-room : goal.returns-in_err-write_page-clause-room
 returns-in_err-write_page-clause-room g c =
-    let p = err_from_is_err_and c.from_residual.result c.from_residual.ensures.1 in
     let fault = c.in_err-write_page.field-0.0 in
-    if_err_of (λ e. lacked e ≡ 0) c.from_residual.result p.0 fault p.1 p.2 (refused_room c.last-last.result fault c.args.cache.now c.write_page.new.cache c.in_err-write_page.ensures.refused)
+    if_err_and (λ e. lacked e ≡ 0) c.from_residual.result fault c.from_residual.ensures.1 (refused_room c.last-last.result fault c.args.cache.now c.write_page.new.cache c.in_err-write_page.ensures.refused)

@@ -3,8 +3,7 @@ use Rattle.register.specs.ChainWriter.{Holds}
 use Rattle.register.specs.ChainSteps.{behind, lacked, StaysWithin}
 use Rattle.register.specs.Chain.{pages_for}
 use Rattle.std.proofs.lemmas.List.{length-drop}
-use Rattle.register.proofs.ReaderLemmas.{if_err_of}
-use Rattle.std.proofs.lemmas.Result.{err_from_is_err_and}
+use Rattle.register.proofs.ReaderLemmas.{if_err_and}
 use Rattle.std.proofs.Common.{◌∙◌, arith, List, ℕ, ap, drop, length, ◌<◌, ◌+◌}
 use Rattle.tbtree.proofs.PassLemmas.{passes_trans}
 use Rattle.register.proofs.ReuseLemmas.{reuses_then}
@@ -34,13 +33,12 @@ loop-done-preserved g c =
         passes = passes_trans a b d inv.passes c.write_part.ensures.passes;
         length = λ e. ok.length (inv.length e);
         tree = λ text h. spares_trans a b d inv.passes (inv.tree text h) (c.write_part.ensures.tree text (inv.holds text h));
-        reuses = reuses_then a b d w.pages v.pages u.pages w.earlier v.earlier u.earlier inv.reuses ok.reuses;
+        reuses = reuses_then inv.reuses ok.reuses;
       },
     )
 
 pub returns-in_err-write_part-clause-within : goal.returns-in_err-write_part-clause-within
 returns-in_err-write_part-clause-within g c =
-    let p = err_from_is_err_and c.from_residual.result c.from_residual.ensures.1 in
     let a = c.args.cache.now in
     let b = c.loop-done.cache in
     let d = c.write_part.new.cache in
@@ -49,7 +47,7 @@ returns-in_err-write_part-clause-within g c =
     let done = c.loop-done.done in
     let inv = c.loop-done.invariant.2 in
     let fault = c.in_err-write_part.field-0.0 in
-    if_err_of (λ e. (text : List ℕ) → Holds a w text → StaysWithin (pages_for text) a w.pages w.earlier d (lacked e)) c.from_residual.result p.0 fault p.1 p.2 (λ text h pages ahead.
+    if_err_and (λ e. (text : List ℕ) → Holds a w text → StaysWithin (pages_for text) a w.pages w.earlier d (lacked e)) c.from_residual.result fault c.from_residual.ensures.1 (λ text h pages ahead.
     let l = length-drop done v.text in
     let same = ap length inv.text in
     let len = c.loop-done.invariant.1 in

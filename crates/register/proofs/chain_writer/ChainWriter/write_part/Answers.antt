@@ -1,9 +1,9 @@
 use Rattle.register.proofs.WithinLemmas.{part_within, refused_room}
 use Rattle.std.specs.Prelude.{IfErr, OnErr}
-use Rattle.std.proofs.Common.{◌≡◌, ◌+◌, ◌-◌, ◌<◌, All, ap, arith, subst, Result, Ok, Err}
+use Rattle.std.proofs.Common.{◌≡◌, ◌+◌, ◌-◌, ap, arith, Result, Ok, Err}
 use Rattle.register.proofs.ReaderLemmas.{on_ok}
-use Rattle.register.proofs.ReuseLemmas.{part_reuses}
-use Rattle.register.specs.ChainSteps.{IsPutBehind, Reuses, lacked}
+use Rattle.register.proofs.ReuseLemmas.{behind_of, part_reuses, reuses_of}
+use Rattle.register.specs.ChainSteps.{lacked}
 use Rattle.register.proofs.WriterLemmas.{part_holds, part_tree}
 use Rattle.register.specs.ChainWriter.{WriterView}
 use Rattle.register.proofs.chain_writer.ChainWriter.write_part.Goals as goal
@@ -28,31 +28,22 @@ returns-clause-tree g c = λ text h.
 pub returns-clause-reuses : goal.returns-clause-reuses
 returns-clause-reuses g c =
     let a = c.args.cache.now in
-    let b = c.take_page.new.cache in
     let v : WriterView = c.args.self.now in
-    let keys = c.take_page.new.pages.keys in
-    let page = c.in_ok-page.page in
     let pages = ap (λ (v : WriterView). v.pages) c.self.view_is in
     let earlier = ap (λ (v : WriterView). v.earlier) c.self.view_is in
     on_ok c.write_page.result (λ fills.
-    part_reuses a b c.write_page.new.cache v.pages keys v.earlier c.in_ok-page.next c.last-last.result page _ c.last-last.ensures.some c.last-last.ensures.last
-    (subst (λ ks. All (λ p. p < a.count) ks → IsPutBehind ks page keys) pages c.in_ok-page.ensures.put) fills
-    (subst (λ e. Reuses a v.pages e b keys c.in_ok-page.next) earlier (subst (λ ks. Reuses a ks c.self.inside.earlier b keys c.in_ok-page.next) pages c.in_ok-page.ensures.reuses))) c.write_page.ensures.writes
+    part_reuses a c.take_page.new.cache c.write_page.new.cache v.pages c.take_page.new.pages.keys v.earlier c.in_ok-page.next c.last-last.result c.in_ok-page.page _ c.last-last.ensures.some c.last-last.ensures.last
+    (behind_of a pages c.in_ok-page.ensures.put) fills (reuses_of pages earlier c.in_ok-page.ensures.reuses)) c.write_page.ensures.writes
 
 pub returns-clause-within : goal.returns-clause-within
 returns-clause-within g c =
     let a = c.args.cache.now in
     let b = c.take_page.new.cache in
     let d = c.write_page.new.cache in
-    let v : WriterView = c.args.self.now in
-    let keys = c.take_page.new.pages.keys in
-    let page = c.in_ok-page.page in
     let pages = ap (λ (v : WriterView). v.pages) c.self.view_is in
     let earlier = ap (λ (v : WriterView). v.earlier) c.self.view_is in
     both_err c.write_page.result (λ e asks refused.
-    part_within a b d v.pages keys v.earlier c.in_ok-page.next page (lacked e)
-    (subst (λ ks. All (λ p. p < a.count) ks → IsPutBehind ks page keys) pages c.in_ok-page.ensures.put)
-    (subst (λ e. Reuses a v.pages e b keys c.in_ok-page.next) earlier (subst (λ ks. Reuses a ks c.self.inside.earlier b keys c.in_ok-page.next) pages c.in_ok-page.ensures.reuses))
+    part_within a b d c.args.self.now.pages c.take_page.new.pages.keys c.args.self.now.earlier c.in_ok-page.next c.in_ok-page.page (lacked e) (behind_of a pages c.in_ok-page.ensures.put) (reuses_of pages earlier c.in_ok-page.ensures.reuses)
     asks.stays.count (refused_room c.last-last.result e b d refused)) c.write_page.ensures.rests c.write_page.ensures.refused where
       both_err : {T E P : Type 0} {Q R : E → Type 0} (r : Result T E) → ((e : E) → P → Q e → R e) → OnErr r P → IfErr r Q → IfErr r R
       both_err (Ok x) f p q = tt
