@@ -1,6 +1,6 @@
 -- A database that lasts between runs.
 use Rattle.trajdb.specs.declared.RunFault.{RunFault}
-use Rattle.std.proofs.Common.{Bool, ◌≡◌, refl, sym, ap, ◌∙◌, arith, subst, true, false, Result, Ok, Err, IsTrue}
+use Rattle.std.proofs.Common.{Bool, inl, inr, ◌≡◌, refl, sym, ap, ◌∙◌, arith, subst, true, false, Result, Ok, Err, IsTrue}
 use Rattle.std.specs.Prelude.{◌⊎◌, IfErr, OnErr, OnOk, IsErrOf}
 use Rattle.legs.specs.Book.{Book}
 use Rattle.legs.specs.Costs.{ShapeView}
@@ -10,11 +10,12 @@ use Rattle.legs.specs.Tracks.{StandsFor}
 use Rattle.boxsearch.specs.Index.{content, words, IndexView, IsMarked, IsSound as IsSoundIndex}
 use Rattle.catalogue.specs.Holding.{AnswersBook, HoldsBook, HoldsButFirst, HoldsIndex, HoldsIndexButFirst, IsAtRest, IsOfBook, IsUnfinishedStore}
 use Rattle.register.specs.Saved.{CatalogueView}
-use Rattle.register.specs.Saving.{HasFew, IsSavingStop}
+use Rattle.register.specs.Saving.{HasFew, IsSavingFault, IsSavingStop}
 use Rattle.register.specs.declared.fault.CatalogueFault.{CatalogueFault}
 use Rattle.register.specs.declared.fault.CatalogueFault.TheVariants as fault
 use Rattle.pages.specs.Store.{Store, IsLawful, IsSynced, IsSyncedButFirst}
-use Rattle.pagecache.specs.Cache.{IsSettled}
+use Rattle.header.specs.Front.{SaysState}
+use Rattle.pagecache.specs.Cache.{payload_of, IsSettled}
 use Rattle.catalogue.specs.Closing.{IsNoStoreFault}
 use Rattle.catalogue.specs.Closing as closing
 use Rattle.register.specs.declared.fault.CatalogueFault.TheVariants.{Memory, StoreFull, Damaged, Unfinished, Version, Malformed}
@@ -23,7 +24,7 @@ use Rattle.trajdb.specs.Calls.{IsLoadFault, KeepsPages}
 use Rattle.trajdb.specs.Database.{catalogue_of, restored}
 use Rattle.trajdb.specs.Db.{DbView, HasPages, IsSoundDb}
 use Rattle.trajdb.specs.Faults.{closed_answer}
-use Rattle.trajdb.specs.Lasting.{HasBook, IsClosingFault, IsFaultless, IsIdle, TakesFew, IsTooFull}
+use Rattle.trajdb.specs.Lasting.{HasBook, IsClosingFault, IsFaultless, IsIdle, NamesFirst, TakesFew, IsTooFull}
 
 -- a book that is answered is that of the database
 pub opened_book : (shape : ShapeView) (limits : LimitsView) (book : Book) (c : CatalogueView) (index : IndexView) (begun : Bool) (db : DbView) → db ≡ restored words c index begun → IsLimits db.limits → AnswersBook shape limits book c index → HasBook shape limits book db
@@ -76,6 +77,19 @@ pub closed_kept : (db : DbView) (s : Store) (answer : Result (Unit {0}) Catalogu
     → OnOk (closed_answer answer) (db.begun ≡ true → IsMarked db.index.cache → HoldsIndex s (catalogue_of db) db.index)
 closed_kept db s (Ok x) h = λ begun. h
 closed_kept db s (Err e) h = tt
+
+-- so it does where page 0 says whether the index has begun
+pub closed_holds_headed : (db : DbView) (s : Store) (answer : Result (Unit {0}) CatalogueFault) → content db.index ≡ db.book.legs
+    → OnOk answer (IsSoundIndex db.index → (begun : Bool) → SaysState begun (payload_of db.index.cache 0) → (book : Book) → IsOfBook db.limits book (catalogue_of db) → content db.index ≡ book.legs → HoldsBook s db.index.tree.shape db.limits book)
+    → OnOk (closed_answer answer) (IsSoundDb db → db.begun ≡ true → (begun : Bool) → SaysState begun (payload_of db.index.cache 0) → HoldsBook s db.index.tree.shape db.limits db.book)
+closed_holds_headed db s (Ok x) legs h = λ sound _ begun says. h sound.index begun says db.book (own_book db sound) legs
+closed_holds_headed db s (Err e) legs h = tt
+
+pub closed_kept_headed : (db : DbView) (s : Store) (answer : Result (Unit {0}) CatalogueFault)
+    → OnOk answer (IsTrue db.index.cache.store.is_faithful → (begun : Bool) → SaysState begun (payload_of db.index.cache 0) → HoldsIndex s (catalogue_of db) db.index)
+    → OnOk (closed_answer answer) (db.begun ≡ true → IsTrue db.index.cache.store.is_faithful → (begun : Bool) → SaysState begun (payload_of db.index.cache 0) → HoldsIndex s (catalogue_of db) db.index)
+closed_kept_headed db s (Ok x) h = λ _. h
+closed_kept_headed db s (Err e) h = tt
 
 -- all of it is synced
 pub closed_synced : (B : Type 0) (s : Store) (answer : Result (Unit {0}) CatalogueFault) → OnOk answer (IsSynced s) → OnOk (closed_answer answer) (B → IsSynced s)
@@ -161,6 +175,18 @@ closed_only_marked db (Err (Damaged n)) h = λ lives. h
 closed_only_marked db (Err Unfinished) h = λ lives. h
 closed_only_marked db (Err Version) h = λ lives. h
 closed_only_marked db (Err Malformed) h = λ lives. h
+
+-- page 0 alone is named
+pub closed_named : (db : DbView) (answer : Result (Unit {0}) CatalogueFault) → IfErr answer (λ fault. IsTrue db.index.cache.store.is_faithful → HasFew (catalogue_of db) → IsSavingFault db.index.cache fault)
+    → IfErr (closed_answer answer) (λ fault. IsTrue db.index.cache.store.is_faithful → HasFew (catalogue_of db) → NamesFirst db fault)
+closed_named db (Ok x) h = tt
+closed_named db (Err Memory) h = λ faithful few. tt
+closed_named db (Err fault.Store) h = λ faithful few. tt
+closed_named db (Err StoreFull) h = λ faithful few. tt
+closed_named db (Err (Damaged page)) h = λ faithful few. (let saving = h faithful few in (saving.0, inr saving.2))
+closed_named db (Err Unfinished) h = λ faithful few. absurd (h faithful few)
+closed_named db (Err Version) h = λ faithful few. absurd (h faithful few)
+closed_named db (Err Malformed) h = λ faithful few. (refl, inl (h faithful few))
 
 pub closed_only : (db : DbView) (answer : Result (Unit {0}) CatalogueFault) → content db.index ≡ db.book.legs
     → IfErr answer (λ fault. IsSoundIndex db.index → (book : Book) → IsOfBook db.limits book (catalogue_of db) → content db.index ≡ book.legs → IsSavingStop fault)

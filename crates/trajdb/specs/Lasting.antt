@@ -1,5 +1,5 @@
 -- A database that lasts between runs.
-use Rattle.std.specs.Prelude.{ℕ, ◌≡◌, ◌≤◌, ◌⊎◌, drop, true, false, List, Result, Ok, Err, IsTrue}
+use Rattle.std.specs.Prelude.{ℕ, ◌≡◌, ◌≤◌, ◌⊎◌, drop, true, false, List, None, Result, Ok, Err, IsTrue}
 use Rattle.legs.specs.Book.{Book}
 use Rattle.legs.specs.Costs.{ShapeView}
 use Rattle.legs.specs.Limits.{LimitsView}
@@ -53,7 +53,17 @@ IsClosingFault db new run.StoreFull = new.count ≡ new.most
 IsClosingFault db new run.Failed = db.failed ≡ true
 IsClosingFault db new run.Output = ⊥
 
--- there are as many pages as the database had over a faithful store, all of them counted, and those
+-- a page that a closing names is page 0, which is not there or has no payload
+abbrev pub NamesFirst : DbView → RunFault → Type 0
+NamesFirst db run.Memory = Unit {0}
+NamesFirst db run.Store = Unit {0}
+NamesFirst db (run.Damaged page) = (page ≡ 0)
+    × ((db.index.cache.count ≡ 0) ⊎ (payload_of db.index.cache 0 ≡ None))
+NamesFirst db run.StoreFull = Unit {0}
+NamesFirst db run.Failed = Unit {0}
+NamesFirst db run.Output = Unit {0}
+
+-- over a faithful store, all of whose pages are counted, there are no more than the database had and those
 -- that the text of its catalogue takes beyond these of an earlier one
 abbrev pub TakesFew : DbView → Store → Type 0
 TakesFew db left =

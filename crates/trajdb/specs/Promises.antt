@@ -1,7 +1,7 @@
 -- What each call of a database promises: one record for a call, each field of which is a clause. A public function that
 -- ensures such a record ensures each of them. `load`, `command` and `run` are of a database over any index; what one over
 -- pages promises besides stands behind.
-use Rattle.std.specs.Prelude.{ℕ, ◌≡◌, ◌<◌, ◌⊎◌, List, Option, None, Result, Ok, Err, IfOk, IfErr, IsErrOf, IsTrue, OnOk, OnErr, true, false}
+use Rattle.std.specs.Prelude.{ℕ, ◌≡◌, ◌<◌, ◌⊎◌, Bool, List, Option, None, Result, Ok, Err, IfOk, IfErr, IsErrOf, IsTrue, OnOk, OnErr, true, false}
 use Rattle.std.specs.Global.{Vec}
 use Rattle.legs.specs.Asking.{Recalls}
 use Rattle.legs.specs.Book.{Book}
@@ -13,6 +13,7 @@ use Rattle.tbtree.specs.declared.tree.TbTree.{TbTree}
 use Rattle.pagecache.specs.Cache.{payload_of, stored_payload, IsClean}
 use Rattle.pages.specs.Store.{IsSynced, IsSyncedButFirst, Keeps, Stays, Store}
 use Rattle.boxsearch.specs.Index.{words, IsMarked}
+use Rattle.header.specs.Front.{SaysState}
 use Rattle.register.specs.Lasting.{first_fault, ComesFirst, IsKept, IsReadingFault, IsStop, IsTrulyDamaged}
 use Rattle.register.specs.Stopping.{NamesStop}
 use Rattle.register.specs.Saved.{CatalogueView}
@@ -25,7 +26,7 @@ use Rattle.trajdb.specs.Checking.{IsFirstFault, Reports}
 use Rattle.trajdb.specs.Database.{catalogue_of, CoreView, FailsBy, IsRefused, IsSound, IsTold, LoadGives, Becomes}
 use Rattle.trajdb.specs.Db.{DbView, HasPages, IsSoundDb}
 use Rattle.trajdb.specs.Faults.{IsNotOutput}
-use Rattle.trajdb.specs.Lasting.{HasBook, IsClosingFault, IsFaultless, IsIdle, IsSafe, IsSafeStore, IsTooFull, IsUnfinishedAnswer, TakesFew}
+use Rattle.trajdb.specs.Lasting.{HasBook, IsClosingFault, IsFaultless, IsIdle, IsSafe, IsSafeStore, IsTooFull, IsUnfinishedAnswer, NamesFirst, TakesFew}
 use Rattle.trajdb.specs.Run.{AcceptsSome, StopsAt, Stops, IsCut}
 use Rattle.trajdb.specs.Telling.{IsToldAnswer, NamesBy, TellsCut, TellsRun, TellsStop}
 use Rattle.trajdb.specs.declared.Counts.{Counts}
@@ -208,6 +209,13 @@ pub record CloseCall (db : DbView) (left : Store)
   -- be the database sound or not, its pages say its catalogue and its index
   pub kept : OnOk result (db.begun ≡ true → IsMarked db.index.cache
       → HoldsIndex left (catalogue_of db) db.index)
+  -- so it is where page 0 is not marked, as of parts that were put together, once it says whether the index has begun
+  pub holds_headed : OnOk result (IsSoundDb db → db.begun ≡ true → (begun : Bool)
+      → SaysState begun (payload_of db.index.cache 0)
+      → HoldsBook left db.index.tree.shape db.limits db.book)
+  pub kept_headed : OnOk result (db.begun ≡ true → IsTrue db.index.cache.store.is_faithful
+      → (begun : Bool) → SaysState begun (payload_of db.index.cache 0)
+      → HoldsIndex left (catalogue_of db) db.index)
   -- all of it is synced where it has begun; else it stays as it is (`idle`)
   pub synced : OnOk result (db.begun ≡ true → IsSynced left)
   -- new pages are taken only for what its text needs beyond those of an earlier one
@@ -222,6 +230,9 @@ pub record CloseCall (db : DbView) (left : Store)
       → HasFew (catalogue_of db) → IsLoadFault fault)
   pub unfinished_marked : IfErr result (λ fault. IsFaultless fault → db.failed ≡ false
       → IsMarked db.index.cache → IsUnfinishedStore left)
+  -- and whatever page 0 is, a page that is named is that one, and cannot be read
+  pub named : IfErr result (λ fault. IsTrue db.index.cache.store.is_faithful
+      → HasFew (catalogue_of db) → NamesFirst db fault)
   -- before page 0 may say that the store is finished, all else is written and synced
   pub refused : OnErr result (IsSoundDb db → HasPages db → db.failed ≡ false
       → IsUnfinishedStore left ⊎ HoldsButFirst left db.index.tree.shape db.limits db.book)

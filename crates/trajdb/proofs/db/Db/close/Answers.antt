@@ -1,5 +1,5 @@
 use Rattle.register.specs.declared.fault.CatalogueFault.{CatalogueFault}
-use Rattle.std.proofs.Common.{rules, ℕ, IsTrue, List, ◌≡◌, ◌∙◌, ap, sym, subst, true, false}
+use Rattle.std.proofs.Common.{rules, Bool, ℕ, IsTrue, List, ◌≡◌, ◌∙◌, ap, sym, subst, true, false}
 use Rattle.std.specs.Prelude.{◌⊎◌, IfErr, OnErr, OnOk, IsErrOf}
 use Rattle.legs.specs.Book.{Book}
 use Rattle.std.proofs.lemmas.Bool.{false≢true}
@@ -11,13 +11,14 @@ use Rattle.catalogue.specs.Closing as closing
 use Rattle.catalogue.specs.Holding.{HoldsBook, HoldsButFirst, HoldsIndex, HoldsIndexButFirst, IsOfBook, IsUnfinishedStore}
 use Rattle.register.specs.Saved.{CatalogueView}
 use Rattle.register.specs.Earlier.{AddsFew, AreEarlier, HasNoRoom}
-use Rattle.register.specs.Saving.{contents_of, HasFew, IsSavingStop}
+use Rattle.register.specs.Saving.{contents_of, HasFew, IsSavingFault, IsSavingStop}
 use Rattle.register.specs.Text.{catalogue_text}
+use Rattle.header.specs.Front.{SaysState}
 use Rattle.trajdb.specs.Db.{DbView, IsSoundDb}
 use Rattle.trajdb.specs.Faults.{closed_answer}
 use Rattle.trajdb.specs.Promises.{CloseCall}
 use Rattle.trajdb.specs.Lasting.{IsIdle, IsSafe, TakesFew}
-use Rattle.trajdb.proofs.LastingLemmas.{rest_book, closed_behind, closed_caused, closed_holds, closed_kept, closed_only, closed_only_marked, closed_ordered, closed_refused, closed_synced, closed_takes, closed_unfinished, closed_unfinished_marked, rest_takes, closed_full}
+use Rattle.trajdb.proofs.LastingLemmas.{rest_book, closed_behind, closed_caused, closed_holds, closed_holds_headed, closed_kept, closed_kept_headed, closed_named, closed_only, closed_only_marked, closed_ordered, closed_refused, closed_synced, closed_takes, closed_unfinished, closed_unfinished_marked, rest_takes, closed_full}
 use Rattle.trajdb.proofs.SafeLemmas.{left_safe}
 use Rattle.trajdb.proofs.db.Db.close.Goals as goal
 
@@ -25,6 +26,8 @@ pub returns-then-failed : goal.returns-then-failed
 returns-then-failed g c = record {
   holds = search rules;
   kept = search rules;
+  holds_headed = search rules;
+  kept_headed = search rules;
   synced = search rules;
   takes = search rules;
   full = λ full. absurd cc;
@@ -32,6 +35,7 @@ returns-then-failed g c = record {
   unfinished = search rules;
   only_marked = search rules;
   unfinished_marked = search rules;
+  named = search rules;
   refused = search rules;
   behind = λ lives.
       let failed : c.self.inside.core.failed ≡ true = sym (λ i. (c.self-inside.view_is i).core.failed) ∙ c.if-failed.true in
@@ -67,6 +71,12 @@ returns-then-not-begun g c = record {
   kept = λ begun.
       let rests : c.self.inside.core.begun ≡ false = sym (λ i. (c.self-inside.view_is i).core.begun) ∙ c.if-not-begun.true in
       absurd (false≢true (sym rests ∙ ap (λ (d : DbView). d.begun) c.self.view_is ∙ begun));
+  holds_headed = λ sound begun.
+      let rests : c.self.inside.core.begun ≡ false = sym (λ i. (c.self-inside.view_is i).core.begun) ∙ c.if-not-begun.true in
+      absurd (false≢true (sym rests ∙ ap (λ (d : DbView). d.begun) c.self.view_is ∙ begun));
+  kept_headed = λ begun.
+      let rests : c.self.inside.core.begun ≡ false = sym (λ i. (c.self-inside.view_is i).core.begun) ∙ c.if-not-begun.true in
+      absurd (false≢true (sym rests ∙ ap (λ (d : DbView). d.begun) c.self.view_is ∙ begun));
   synced = λ begun.
       let rests : c.self.inside.core.begun ≡ false = sym (λ i. (c.self-inside.view_is i).core.begun) ∙ c.if-not-begun.true in
       absurd (false≢true (sym rests ∙ ap (λ (d : DbView). d.begun) c.self.view_is ∙ begun));
@@ -79,6 +89,7 @@ returns-then-not-begun g c = record {
   unfinished = search rules;
   only_marked = search rules;
   unfinished_marked = search rules;
+  named = search rules;
   refused = search rules;
   behind = search rules;
   ordered = search rules;
@@ -107,6 +118,14 @@ returns g c =
           let first = subst (λ (x : IndexView). OnOk answer (IsMarked x.cache → HoldsIndex s parts x)) of.index c.close-store.ensures.kept in
           let second = subst (λ (k : CatalogueView). OnOk answer (IsMarked core.index.cache → HoldsIndex s k core.index)) of.catalogue first in
           closed_kept core s answer second;
+      holds_headed =
+          let first = subst (λ (x : IndexView). OnOk answer (IsSoundIndex x → (begun : Bool) → SaysState begun (payload_of x.cache 0) → (book : Book) → IsOfBook parts.limits book parts → content x ≡ book.legs → HoldsBook s x.tree.shape parts.limits book)) of.index c.close-store.ensures.holds_headed in
+          let second = subst (λ (k : CatalogueView). OnOk answer (IsSoundIndex core.index → (begun : Bool) → SaysState begun (payload_of core.index.cache 0) → (book : Book) → IsOfBook k.limits book k → content core.index ≡ book.legs → HoldsBook s core.index.tree.shape k.limits book)) of.catalogue first in
+          closed_holds_headed core s answer of.legs second;
+      kept_headed =
+          let first = subst (λ (x : IndexView). OnOk answer (IsTrue x.cache.store.is_faithful → (begun : Bool) → SaysState begun (payload_of x.cache 0) → HoldsIndex s parts x)) of.index c.close-store.ensures.kept_headed in
+          let second = subst (λ (k : CatalogueView). OnOk answer (IsTrue core.index.cache.store.is_faithful → (begun : Bool) → SaysState begun (payload_of core.index.cache 0) → HoldsIndex s k core.index)) of.catalogue first in
+          closed_kept_headed core s answer second;
       synced = closed_synced (core.begun ≡ true) s answer c.close-store.ensures.synced;
       takes =
           let first = subst (λ (x : IndexView). OnOk answer (IsTrue x.cache.store.is_faithful → x.cache.count ≡ x.cache.store.count → (pages : List ℕ) → AreEarlier (payload_of x.cache) pages → AddsFew x.cache.count (catalogue_text (contents_of parts x.places)) pages s.count)) of.index c.close-store.ensures.takes in
@@ -130,6 +149,10 @@ returns g c =
       unfinished_marked =
           let first = subst (λ (x : IndexView). IfErr answer (λ fault. IsNoStoreFault fault → IsMarked x.cache → IsUnfinishedStore s)) of.index c.close-store.ensures.unfinished in
           closed_unfinished_marked core s answer first;
+      named =
+          let first = subst (λ (x : IndexView). IfErr answer (λ fault. IsTrue x.cache.store.is_faithful → HasFew parts → IsSavingFault x.cache fault)) of.index c.close-store.ensures.named in
+          let second = subst (λ (k : CatalogueView). IfErr answer (λ fault. IsTrue core.index.cache.store.is_faithful → HasFew k → IsSavingFault core.index.cache fault)) of.catalogue first in
+          closed_named core answer second;
       refused =
           let first = subst (λ (x : IndexView). OnErr answer (IsSoundIndex x → IsMarked x.cache → (book : Book) → IsOfBook parts.limits book parts → content x ≡ book.legs → IsUnfinishedStore s ⊎ HoldsButFirst s x.tree.shape parts.limits book)) of.index c.close-store.ensures.refused in
           let second = subst (λ (k : CatalogueView). OnErr answer (IsSoundIndex core.index → IsMarked core.index.cache → (book : Book) → IsOfBook k.limits book k → content core.index ≡ book.legs → IsUnfinishedStore s ⊎ HoldsButFirst s core.index.tree.shape k.limits book)) of.catalogue first in
