@@ -1,4 +1,5 @@
 pub mod Answers
+pub mod Causes
 pub mod Parts
 pub mod Folder
 pub mod Texts

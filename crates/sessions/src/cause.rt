@@ -28,6 +28,11 @@ pub enum Cause {
 }
 
 impl From<io::ErrorKind> for Cause {
+    ghost use Rattle.std.specs.Prelude.{◌≡◌};
+    ghost use Rattle.sessions.specs.Causes.{cause_of};
+
+    ghost from_gives = { λ kind cause. cause ≡ cause_of kind };
+
     fn from(kind: io::ErrorKind) -> Cause {
         match kind {
             io::ErrorKind::NotFound => Cause::Absent,
