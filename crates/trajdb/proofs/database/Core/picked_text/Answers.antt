@@ -1,4 +1,4 @@
-use Rattle.std.proofs.Common.{All, ◌∙◌}
+use Rattle.std.proofs.Common.{All}
 use Rattle.std.proofs.lemmas.Result.{IfErr-weaker, IfOk-weaker, err_from_is_err_and}
 use Rattle.trajdb.proofs.TellingLemmas.{picked_denied, picked_names, shown_before}
 use Rattle.trajdb.specs.Answers.{HoldsOfLeg}
