@@ -1,5 +1,5 @@
 -- What the form of a leaf and of an inner page says.
-use Rattle.std.proofs.Common.{◌≡◌, ◌≢◌, ℕ, ◌-◌, ◌<◌, ◌≤◌, ◌==◌, true, false, ◌&&◌, ◌||◌, if◌then◌else◌, List, length, Some, None, slice_get, refl, sym, ap, ◌∙◌, nat_le, nat_lt}
+use Rattle.std.proofs.Common.{◌≡◌, ◌≢◌, ℕ, ◌-◌, ◌<◌, ◌≤◌, ◌==◌, true, false, ◌&&◌, ◌||◌, if◌then◌else◌, List, length, Some, None, slice_get, refl, sym, ap, ◌∙◌, arith, nat_le, nat_lt}
 use Rattle.std.proofs.lemmas.Bool.{leb-true, eqb-true, le-leb, eq-eqb}
 use Rattle.legs.specs.Legs.{LegView}
 use Rattle.legs.specs.Boxes.{BoxView}
@@ -111,6 +111,22 @@ legs_counted bytes v e = ap (λ w. length w.legs) (sym e) ∙ length-legs bytes
 
 pub entries_counted : (bytes : List ℕ) (v : InnerView BoxView) → inner_of bytes ≡ v → length v.entries ≡ entry_count bytes
 entries_counted bytes v e = ap (λ w. length w.entries) (sym e) ∙ length-entries bytes
+
+-- a count that a head tells is the number of what is counted, from 1 to as many as a page has room for
+pub told_count : {r n len most : ℕ} → r ≡ n → len ≡ n → 1 ≤ n → n ≤ most → record { value : r ≡ len; least : 1 ≤ r; most : r ≤ most }
+told_count told counted some room = record { value = told ∙ sym counted; least = omega (arith, told, some); most = omega (arith, told, room) }
+
+-- a leg that is there is one of the legs that the head counts, of which there are at most 50
+pub leg_within : (bytes : List ℕ) (v : LeafView LegView) (i : ℕ) → is_leaf bytes ≡ true → leaf_of bytes ≡ v → i < length v.legs → (i < leg_count bytes) × (i < 50)
+leg_within bytes v i form is h =
+    let count = legs_counted bytes v is in
+    (omega (arith, count, h), omega (arith, count, h, (leaf_form bytes form).room))
+
+-- an entry that is there is one of the entries that the head counts, of which there are at most 72
+pub entry_within : (bytes : List ℕ) (v : InnerView BoxView) (i : ℕ) → is_inner bytes ≡ true → inner_of bytes ≡ v → i < length v.entries → (i < entry_count bytes) × (i < 72)
+entry_within bytes v i form is h =
+    let count = entries_counted bytes v is in
+    (omega (arith, count, h), omega (arith, count, h, (inner_form bytes form).room))
 
 pub leg_shown : (bytes : List ℕ) (v : LeafView LegView) (i : ℕ) (l : LegView) → leaf_of bytes ≡ v → i < length v.legs → l ≡ leg_at bytes i → slice_get v.legs i ≡ Some l
 unfolding leaf_of

@@ -1,6 +1,6 @@
 -- An inner page after a change.
 use Rattle.std.proofs.Common.{◌≡◌, ◌≢◌, ℕ, ◌+◌, ◌*◌, ◌^◌, ◌<◌, ◌≤◌, Bool, true, false, if◌then◌else◌, List, [], ◌∷◌, ◌++◌, length, Some, None, refl, sym, ap, ◌∙◌, arith, inl, inr, ⊎_elim, ◌⊎◌, replicate}
-use Rattle.std.specs.Option.{is_some}
+use Rattle.std.specs.Option.{is_some, ForSome}
 use Rattle.std.specs.Prelude.{option_map}
 use Rattle.std.proofs.lemmas.Bool.Decides.{eqb_tells}
 use Rattle.std.proofs.lemmas.Bool.{false≢true, cases_lt}
@@ -106,6 +106,31 @@ module _ (bytes : List ℕ) (x : EntryView BoxView) (len : 4056 ≤ length bytes
             (all_below-same (is_entry_at new) (is_entry_at bytes) n (λ i h. ap is_entry (slot_kept i h)) ∙ entries)
             (ap is_entry slot_new ∙ back.lawful);
       })
+
+-- a payload that says an inner page which has room for an entry
+pub record HasRoom (p : Payload) : Type 0 where
+  pub held : HoldsInner p
+  pub room : length (inner_of p.bytes).entries < 72
+  pub small : entry_count p.bytes < 72
+
+pub has_room : (p : Payload) → is_some (as_inner (node_of p)) ≡ true → ForSome (as_inner (node_of p)) (λ page. length page.entries < 72) → HasRoom p
+has_room p some room =
+    let h = inner_held p some in
+    let t = room (inner_of p.bytes) (inner_is p h) in
+    record { held = h; room = t; small = omega (arith, t, length-entries p.bytes) }
+
+-- a payload that says an inner page which has an entry i
+pub record HasEntry (p : Payload) (i : ℕ) : Type 0 where
+  pub held : HoldsInner p
+  pub within : i < length (inner_of p.bytes).entries
+  pub below : i < entry_count p.bytes
+  pub most : entry_count p.bytes ≤ 72
+
+pub has_entry : (p : Payload) (i : ℕ) → is_some (as_inner (node_of p)) ≡ true → ForSome (as_inner (node_of p)) (λ page. i < length page.entries) → HasEntry p i
+has_entry p i some within =
+    let h = inner_held p some in
+    let t = within (inner_of p.bytes) (inner_is p h) in
+    record { held = h; within = t; below = omega (arith, t, length-entries p.bytes); most = (inner_form p.bytes h.form).room }
 
 pub entry_pushed : (p : Payload) (x : EntryView BoxView) (new : List ℕ) → new ≡ pushed 56 2 (entry_bytes x) p.bytes → 4056 ≤ length p.bytes → HoldsInner p → EntryReadsBack x
     → length (inner_of p.bytes).entries < 72 → node_of (record p { bytes = new }) ≡ option_map (inner_with_entry x) (as_inner (node_of p))

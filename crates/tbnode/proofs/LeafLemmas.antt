@@ -1,7 +1,7 @@
 -- A leaf after a change.
 use Rattle.std.proofs.Common.{◌≡◌, ℕ, ◌+◌, ◌-◌, ◌*◌, ◌^◌, ◌<◌, ◌≤◌, ◌==◌, ◌||◌, ◌&&◌, Bool, true, false, nat_lt, if◌then◌else◌, List, [], ◌∷◌, ◌++◌, length, Some, None, refl, sym, ap, ◌∙◌, arith, inl, inr, ◌⊎◌, replicate}
 use Rattle.std.proofs.lemmas.List.{length-replicate}
-use Rattle.std.specs.Option.{is_some}
+use Rattle.std.specs.Option.{is_some, ForSome}
 use Rattle.std.specs.Prelude.{option_map}
 use Rattle.std.proofs.lemmas.Bool.{lt-ltb, false≢true}
 use Rattle.byteorder.specs.Endian.{big_bytes, big_number}
@@ -126,6 +126,18 @@ module _ (bytes : List ℕ) (l : LegView) (len : 4056 ≤ length bytes) (small :
               ∙ and_both (all_below (is_leg_at new) n) (is_leg_at new n)
               (all_below-same (is_leg_at new) (is_leg_at bytes) n kept_lawful ∙ legs) new_lawful;
         })
+
+-- a payload that says a leaf which takes a leg
+pub record IsTaken (p : Payload) (l : LegView) : Type 0 where
+  pub held : HoldsLeaf p
+  pub takes : TakesLeg (leaf_of p.bytes) l
+  pub small : leg_count p.bytes < 50
+
+pub is_taken : (p : Payload) (l : LegView) → is_some (as_leaf (node_of p)) ≡ true → ForSome (as_leaf (node_of p)) (λ leaf. TakesLeg leaf l) → IsTaken p l
+is_taken p l some takes =
+    let h = leaf_held p some in
+    let t = takes (leaf_of p.bytes) (leaf_is p h) in
+    record { held = h; takes = t; small = omega (arith, t.room, length-legs p.bytes) }
 
 pub leg_pushed : (p : Payload) (l : LegView) (new : List ℕ) → new ≡ pushed 80 12 (leg_bytes l) p.bytes → 4056 ≤ length p.bytes → HoldsLeaf p → LegReadsBack l → TakesLeg (leaf_of p.bytes) l
     → node_of (record p { bytes = new }) ≡ option_map (leaf_with_leg l) (as_leaf (node_of p))

@@ -1,5 +1,5 @@
 -- The bytes of a leg and of an entry read back.
-use Rattle.std.proofs.Common.{◌≡◌, ℤ, ◌^◌, ◌<◌, ◌==◌, Bool, true, ◌&&◌, [], ◌++◌, length, refl, ap, ◌∙◌, arith, unsigned_abs, Some}
+use Rattle.std.proofs.Common.{◌≡◌, ℕ, ℤ, ◌^◌, ◌<◌, ◌==◌, Bool, true, ◌&&◌, [], ◌++◌, length, refl, ap, ◌∙◌, arith, unsigned_abs, Some}
 use Rattle.std.specs.Prelude.{◌<ℤ◌, ◌≤ℤ◌, int_le, int_lt, if◌then◌else◌, Option, None}
 use Rattle.std.specs.Option.{is_some}
 use Rattle.std.specs.Int.{w64, cast_unsigned, cast_signed}
@@ -51,112 +51,75 @@ coord_some z h =
     let o : Bool → Option ℤ = λ b. if b then Some z else None in
     ap (λ b. is_some (o b)) (le-leb (unsigned_abs z) most h)
 
+-- three coordinates in range are each some coordinate
+three_some : (x y z : ℤ) → IsInRange x → IsInRange y → IsInRange z → (is_some (units_within x) && is_some (units_within y) && is_some (units_within z)) ≡ true
+three_some x y z in_x in_y in_z =
+    let a = is_some (units_within x) in
+    let b = is_some (units_within y) in
+    and_both (a && b) (is_some (units_within z)) (and_both a b (coord_some x in_x) (coord_some y in_y)) (coord_some z in_z)
+
 module _ (l : LegView) where
-  ordinal_of : l.ordinal < 2 ^ 64 → number_at 8 0 (leg_bytes l) ≡ l.ordinal
-  unfolding leg_bytes number_at part
-  ordinal_of h = big_number-reads_back 8 l.ordinal [] h
-
-  t0_of : FitsSigned w64 l.t0 → signed_at 8 (leg_bytes l) ≡ l.t0
-  unfolding leg_bytes signed_at number_at part
-  t0_of f = read_back l.t0 f
-
-  t1_of : FitsSigned w64 l.t1 → signed_at 16 (leg_bytes l) ≡ l.t1
-  unfolding leg_bytes signed_at number_at part
-  t1_of f = read_back l.t1 f
-
-  x0_of : FitsSigned w64 l.x0 → signed_at 24 (leg_bytes l) ≡ l.x0
-  unfolding leg_bytes signed_at number_at part
-  x0_of f = read_back l.x0 f
-
-  y0_of : FitsSigned w64 l.y0 → signed_at 32 (leg_bytes l) ≡ l.y0
-  unfolding leg_bytes signed_at number_at part
-  y0_of f = read_back l.y0 f
-
-  z0_of : FitsSigned w64 l.z0 → signed_at 40 (leg_bytes l) ≡ l.z0
-  unfolding leg_bytes signed_at number_at part
-  z0_of f = read_back l.z0 f
-
-  x1_of : FitsSigned w64 l.x1 → signed_at 48 (leg_bytes l) ≡ l.x1
-  unfolding leg_bytes signed_at number_at part
-  x1_of f = read_back l.x1 f
-
-  y1_of : FitsSigned w64 l.y1 → signed_at 56 (leg_bytes l) ≡ l.y1
-  unfolding leg_bytes signed_at number_at part
-  y1_of f = read_back l.y1 f
-
-  z1_of : FitsSigned w64 l.z1 → signed_at 64 (leg_bytes l) ≡ l.z1
-  unfolding leg_bytes signed_at number_at part
-  z1_of f = read_back l.z1 f
-
-  row_of : l.row < 2 ^ 32 → number_at 4 72 (leg_bytes l) ≡ l.row
-  unfolding leg_bytes number_at part
-  row_of h = big_number-reads_back 4 l.row [] h
+  pub length-leg_bytes : length (leg_bytes l) ≡ 80
+  unfolding leg_bytes
+  length-leg_bytes = refl
 
   zero_of : number_at 4 76 (leg_bytes l) ≡ 0
   unfolding leg_bytes number_at part
   zero_of = refl
 
-  pub length-leg_bytes : length (leg_bytes l) ≡ 80
-  unfolding leg_bytes
-  length-leg_bytes = refl
-
-  leg_same : l.ordinal < 2 ^ 64 → l.row < 2 ^ 32 → IsLeg l → leg_of l.feature (leg_bytes l) ≡ l
-  unfolding leg_of
-  leg_same o r k = λ i. record {
-    ordinal = ordinal_of o i;
-    feature = l.feature;
-    t0 = t0_of (moment_fits l.t0 k.t0) i;
-    t1 = t1_of (moment_fits l.t1 k.t1) i;
-    x0 = x0_of (coord_fits l.x0 k.x0) i;
-    y0 = y0_of (coord_fits l.y0 k.y0) i;
-    z0 = z0_of (coord_fits l.z0 k.z0) i;
-    x1 = x1_of (coord_fits l.x1 k.x1) i;
-    y1 = y1_of (coord_fits l.y1 k.y1) i;
-    z1 = z1_of (coord_fits l.z1 k.z1) i;
-    row = row_of r i;
+  -- the bytes of a lawful leg, read as a leg of a feature, say that leg
+  leg_same : (f : ℕ) → l.ordinal < 2 ^ 64 → l.row < 2 ^ 32 → IsLeg l → leg_of f (leg_bytes l) ≡ record l { feature = f }
+  unfolding leg_of leg_bytes signed_at number_at part
+  leg_same f o r k = λ i. record {
+    ordinal = big_number-reads_back 8 l.ordinal [] o i;
+    feature = f;
+    t0 = read_back l.t0 (moment_fits l.t0 k.t0) i;
+    t1 = read_back l.t1 (moment_fits l.t1 k.t1) i;
+    x0 = read_back l.x0 (coord_fits l.x0 k.x0) i;
+    y0 = read_back l.y0 (coord_fits l.y0 k.y0) i;
+    z0 = read_back l.z0 (coord_fits l.z0 k.z0) i;
+    x1 = read_back l.x1 (coord_fits l.x1 k.x1) i;
+    y1 = read_back l.y1 (coord_fits l.y1 k.y1) i;
+    z1 = read_back l.z1 (coord_fits l.z1 k.z1) i;
+    row = big_number-reads_back 4 l.row [] r i;
   }
 
-  moments_laid : IsLeg l → has_moments (leg_of 0 (leg_bytes l)) ≡ true
-  unfolding has_moments leg_of
+  moments_laid : IsLeg l → has_moments l ≡ true
+  unfolding has_moments
   moments_laid k =
-      let a = t0_of (moment_fits l.t0 k.t0) in
-      let b = t1_of (moment_fits l.t1 k.t1) in
-      (λ i. int_lt (a i) (b i) && is_some (some_moment (a i)) && is_some (some_moment (b i)))
-      ∙ and_both (int_lt l.t0 l.t1 && is_some (some_moment l.t0)) (is_some (some_moment l.t1))
+      and_both (int_lt l.t0 l.t1 && is_some (some_moment l.t0)) (is_some (some_moment l.t1))
       (and_both (int_lt l.t0 l.t1) (is_some (some_moment l.t0)) (lt_to l.t0 l.t1 k.rises) (moment_some l.t0 k.t0)) (moment_some l.t1 k.t1)
 
-  start_laid : IsLeg l → has_start (leg_of 0 (leg_bytes l)) ≡ true
-  unfolding has_start leg_of
-  start_laid k =
-      let a = x0_of (coord_fits l.x0 k.x0) in
-      let b = y0_of (coord_fits l.y0 k.y0) in
-      let c = z0_of (coord_fits l.z0 k.z0) in
-      and_both (is_some (units_within (signed_at 24 (leg_bytes l))) && is_some (units_within (signed_at 32 (leg_bytes l)))) (is_some (units_within (signed_at 40 (leg_bytes l))))
-      (and_both (is_some (units_within (signed_at 24 (leg_bytes l)))) (is_some (units_within (signed_at 32 (leg_bytes l))))
-      (ap (λ z. is_some (units_within z)) a ∙ coord_some l.x0 k.x0) (ap (λ z. is_some (units_within z)) b ∙ coord_some l.y0 k.y0))
-      (ap (λ z. is_some (units_within z)) c ∙ coord_some l.z0 k.z0)
+  start_laid : IsLeg l → has_start l ≡ true
+  unfolding has_start
+  start_laid k = three_some l.x0 l.y0 l.z0 k.x0 k.y0 k.z0
 
-  end_laid : IsLeg l → has_end (leg_of 0 (leg_bytes l)) ≡ true
-  unfolding has_end leg_of
-  end_laid k =
-      let a = x1_of (coord_fits l.x1 k.x1) in
-      let b = y1_of (coord_fits l.y1 k.y1) in
-      let c = z1_of (coord_fits l.z1 k.z1) in
-      and_both (is_some (units_within (signed_at 48 (leg_bytes l))) && is_some (units_within (signed_at 56 (leg_bytes l)))) (is_some (units_within (signed_at 64 (leg_bytes l))))
-      (and_both (is_some (units_within (signed_at 48 (leg_bytes l)))) (is_some (units_within (signed_at 56 (leg_bytes l))))
-      (ap (λ z. is_some (units_within z)) a ∙ coord_some l.x1 k.x1) (ap (λ z. is_some (units_within z)) b ∙ coord_some l.y1 k.y1))
-      (ap (λ z. is_some (units_within z)) c ∙ coord_some l.z1 k.z1)
+  end_laid : IsLeg l → has_end l ≡ true
+  unfolding has_end
+  end_laid k = three_some l.x1 l.y1 l.z1 k.x1 k.y1 k.z1
 
-  leg_lawful : IsLeg l → is_leg (leg_bytes l) ≡ true
+-- the tests of a leg do not look at its feature
+abbrev of_none : LegView → LegView
+of_none l = record l { feature = 0 }
+
+lawful_of_none : (l : LegView) → IsLeg l → IsLeg (of_none l)
+lawful_of_none l k = record { rises = k.rises; t0 = k.t0; t1 = k.t1; x0 = k.x0; y0 = k.y0; z0 = k.z0; x1 = k.x1; y1 = k.y1; z1 = k.z1 }
+
+module _ (l : LegView) where
+  leg_lawful : l.ordinal < 2 ^ 64 → l.row < 2 ^ 32 → IsLeg l → is_leg (leg_bytes l) ≡ true
   unfolding is_leg
-  leg_lawful k =
-      let v = leg_of 0 (leg_bytes l) in
-      and_both ((has_moments v && has_start v) && has_end v) (number_at 4 76 (leg_bytes l) == 0)
-      (and_both (has_moments v && has_start v) (has_end v) (and_both (has_moments v) (has_start v) (moments_laid k) (start_laid k)) (end_laid k))
-      (ap (λ n. n == 0) zero_of)
+  leg_lawful o r k =
+      let tests : LegView → Bool = λ v. has_moments v && has_start v && has_end v in
+      let v = of_none l in
+      let laid = lawful_of_none l k in
+      and_both (tests (leg_of 0 (leg_bytes l))) (number_at 4 76 (leg_bytes l) == 0)
+      (ap tests (leg_same l 0 o r k)
+      ∙ and_both (has_moments v && has_start v) (has_end v)
+      (and_both (has_moments v) (has_start v) (moments_laid v laid) (start_laid v laid)) (end_laid v laid))
+      (ap (λ n. n == 0) (zero_of l))
 
   pub leg_reads_back : l.ordinal < 2 ^ 64 → l.row < 2 ^ 32 → IsLeg l → LegReadsBack l
-  leg_reads_back o r k = record { lawful = leg_lawful k; same = leg_same o r k }
+  leg_reads_back o r k = record { lawful = leg_lawful o r k; same = leg_same l l.feature o r k }
 
 -- each bound fits its bytes
 pub record BoundsFit (b : BoxView) : Type 0 where

@@ -107,7 +107,8 @@ picks_all P L (x ∷ xs) picked all (inr (unheld, h)) = picks_all P L xs picked 
 pub there_picked : (old new : Book) (P : LegView → Type 0) (legs found : List LegView) → All (IsThere old) old.legs → new ≡ old → legs ≡ found → Picks P old.legs found → All (IsThere new) legs
 there_picked old new P legs found all same e h = rw (same, e) (picks_all P (IsThere old) old.legs found all h)
 
-below : (n m : ℕ) → n ≤ m → All (λ f. f < m) (range_with_len 0 n)
+-- the numbers below one are below each that is no less
+pub below : (n m : ℕ) → n ≤ m → All (λ f. f < m) (range_with_len 0 n)
 below n m h = λ k d inside.
     let all = length-range_with_len 0 n in
     let less : k < n = omega (arith, inside, all) in
@@ -201,6 +202,10 @@ chains_all g a b k n le asks shape plan =
     let first = asks shape plan in
     let all = leaves_most (g.found_by a) shape k n le in
     omega (arith, first, all)
+
+-- and so with one chain more
+pub chains_next : {I : Type 0} (g : Ghosts I) (a b c : I) (k n : ℕ) → k < n → IndexLeaves g a b → AsksChains g a b (range_with_len 0 k) → AsksChain g b c k → AsksChains g a c (range_with_len 0 n)
+chains_next g a b c k n less leaves before now = chains_all g a c (k + 1) n (omega (arith, less)) (chains_more g a b c k leaves before now)
 
 -- a question about the feature of a name
 pub track_asked : {I : Type 0} (g : Ghosts I) (a b : I) (o : Option ℕ) (feature : ℕ) → o ≡ Some feature → AsksChain g a b feature → AsksTrack g a b o

@@ -9,11 +9,15 @@ use Rattle.pages.specs.Store.{Store, Stays, IsLawful}
 use Rattle.pages.specs.declared.unsynced.Unsynced.{Unsynced}
 use Rattle.pagecache.specs.Cache.{page_of, pages_as_written, payload_of, sealed_payload, stored_payload}
 use Rattle.boxsearch.specs.Index.{words, written, IndexView, IsMarked, IsSound as IsSoundIndex}
-use Rattle.catalogue.specs.Holding.{HoldsBook}
+use Rattle.catalogue.specs.Holding.{HoldsBook, IsAtRest}
+use Rattle.register.specs.Saved.{CatalogueView}
+use Rattle.legs.specs.Asking.{Leaves as IndexLeaves}
 use Rattle.catalogue.proofs.CloseLemmas.{says_stored}
 use Rattle.trajdb.specs.Calls.{IsUnwritten, KeepsPages, LeavesBook}
 use Rattle.trajdb.specs.Db.{DbView, HasPages, IsSoundDb}
+use Rattle.trajdb.specs.Promises.{KeepsStore}
 use Rattle.trajdb.specs.Lasting.{IsSafe, IsSafeStore, IsUnchanged, IsUntouched}
+use Rattle.trajdb.proofs.LastingLemmas.{keeps_idle}
 use Rattle.trajdb.proofs.PageLemmas.{clash, keeps_leaves}
 
 -- a call that wrote no page, after others
@@ -47,6 +51,18 @@ module _ (old new : DbView) (keeps : KeepsPages words old new) (risen : old.inde
 
 pub leaves_safe : (old new : DbView) → LeavesBook words old new → old.failed ≡ false → (was : Store) → IsSoundDb old → HasPages old → IsSafe was old → IsSafe was new
 leaves_safe old new leaves lives = keeps_safe old new (keeps_leaves words old new leaves) leaves.index.later.faults (λ failed. absurd (clash old.failed failed lives))
+
+-- what catalogues at rest stay over what a question leaves
+abbrev pub RestsStay : Type 0
+RestsStay = (c : CatalogueView) (a b : IndexView) → IsAtRest c a → IndexLeaves words a b → IsAtRest c b
+
+-- so a call keeps the store of a database
+pub keeps_store : RestsStay → (old new : DbView) → KeepsPages words old new → old.index.cache.store.faults ≤ new.index.cache.store.faults → (old.failed ≡ true → new ≡ old) → KeepsStore old new
+keeps_store stay old new keeps risen same = record { rests = keeps_idle stay old new keeps; safe = keeps_safe old new keeps risen same }
+
+-- and so does a question
+pub leaves_store : RestsStay → (old new : DbView) → LeavesBook words old new → old.failed ≡ false → KeepsStore old new
+leaves_store stay old new leaves lives = record { rests = keeps_idle stay old new (keeps_leaves words old new leaves); safe = leaves_safe old new leaves lives }
 
 -- the pages as written of a sound index are those of its store
 written_all : (i : IndexView) → IsSoundIndex i → IsLawful i.cache.store → written i ≡ i.cache.store.pages

@@ -4,7 +4,7 @@ use Rattle.std.specs.Prelude.{◌⊎◌, OnOk}
 use Rattle.std.specs.List.{range_with_len}
 use Rattle.std.proofs.lemmas.List.{append_assoc, append-nil, map-append, take_more}
 use Rattle.std.proofs.lemmas.List.Elements.{All-nil, All-cons, All-head, All-tail}
-use Rattle.std.proofs.lemmas.List.FromFn.{get_or-range_with_len, length-range_with_len}
+use Rattle.std.proofs.lemmas.Result.{IfOk-weaker}
 use Rattle.timebase.specs.Period.{PeriodView}
 use Rattle.legs.specs.Asking.{Denies}
 use Rattle.legs.specs.Boxes.{RectView, everything}
@@ -27,6 +27,7 @@ use Rattle.trajdb.specs.Database.{CoreView}
 use Rattle.trajdb.specs.Faults.{run_fault_of}
 use Rattle.trajdb.specs.Telling.{AreLive, ArePickedOf, AreToldOf, IsToldFile, DeniesFile, DeniesFirst, DeniesLegs, DeniesLive, DeniesPicks, DeniesTrack, IsLiveTold, Names, PicksLive}
 use Rattle.trajdb.specs.declared.RunFault.{RunFault}
+use Rattle.trajdb.proofs.FaultLemmas.{below}
 use Rattle.trajdb.specs.declared.RunFault.TheVariants.{Memory, Store, Damaged, StoreFull, Failed, Output}
 
 module _ {I : Type 0} (g : Ghosts I) (core : CoreView I) where
@@ -67,13 +68,6 @@ module _ {I : Type 0} (g : Ghosts I) (core : CoreView I) where
   live_all predicate rect period L (x ∷ xs) picked all (legs, live, inl (holds, others, e, h)) =
       subst (λ (l : List ℕ). All L l) (sym e) (All-cons L x others (All-head L x xs all) (live_all predicate rect period L xs others (All-tail L x xs all) h))
   live_all predicate rect period L (x ∷ xs) picked all (legs, live, inr (unheld, h)) = live_all predicate rect period L xs picked (All-tail L x xs all) h
-
-  below : (n m : ℕ) → n ≤ m → All (λ f. f < m) (range_with_len 0 n)
-  below n m h = λ k d inside.
-      let all = length-range_with_len 0 n in
-      let less : k < n = omega (arith, inside, all) in
-      let i = get_or-range_with_len 0 n k d less in
-      omega (arith, i, less, h)
 
   pub features_names : (new : Book) (predicate : Predicate) (rect : RectView) (period : PeriodView) (features : List ℕ) (fault : RunFault) → new ≡ core.book
       → (length core.book.names ≤ most → PicksLive g core predicate rect period (range_with_len 0 (length core.book.names)) features)
@@ -143,6 +137,12 @@ map_more f xs i x y ys zs less at so_far more is =
 pub ok_both : {T E : Type 0} (r : Result T E) (P : T → Type 0) (Q : Type 0) → IfOk r P → OnOk r Q → IfOk r (λ t. P t × Q)
 ok_both (Ok t) P Q p q = (p, q)
 ok_both (Err e) P Q p q = tt
+
+-- a text of legs that are there, of the book after the call, is that text of legs that are there, of the book before it
+pub shown_before : {T E : Type 0} (r : Result T E) (items : T → List ℕ) (old now : Book) (shown legs : List LegView) → now ≡ old → shown ≡ legs
+    → IfOk r (λ text. items text ≡ legs_text now shown) → OnOk r (All (IsThere now) shown) → IfOk r (λ text. All (IsThere old) legs × (items text ≡ legs_text old legs))
+shown_before r items old now shown legs same value text there =
+    IfOk-weaker r _ _ (λ t h. (there_legs old now shown legs same value h.1, h.0 ∙ shown_legs old now shown legs same value)) (ok_both r _ _ text there)
 
 pub shown_names : (old new : Book) (a b : List ℕ) → new ≡ old → a ≡ b → names_text new a ≡ names_text old b
 shown_names old new a b same e = (λ i. names_text (same i) (e i))

@@ -7,39 +7,37 @@ use Rattle.tbnode.specs.Parts.{put}
 use Rattle.tbnode.specs.Steps.{pushed}
 use Rattle.tbnode.proofs.LeafLemmas.{begun, begun_count, leaf_begun}
 use Rattle.tbnode.proofs.RestLemmas.{begun_leg_clear}
+use Rattle.tbnode.proofs.edit.init_leaf.Goals.{After-put_u32-2}
 use Rattle.tbnode.proofs.edit.init_leaf.Goals as goal
 
 written : (zeros one two : List ℕ) (n feature previous : ℕ) → one ≡ put 0 (big_bytes 4 n) zeros → two ≡ put 4 (big_bytes 4 previous) one → n ≡ feature → two ≡ begun feature previous zeros
 written zeros one two n feature previous e f same =
     f ∙ ap (put 4 (big_bytes 4 previous)) (e ∙ ap (λ k. put 0 (big_bytes 4 k) zeros) same)
 
+-- before the leg the bytes are a leaf of no legs yet
+is_begun : (c : goal.After-put_u32-2) → c.put_u32-2.new.bytes ≡ begun c.args.leg.now.feature c.args.previous c.zero.result.bytes
+is_begun c = written c.zero.result.bytes c.put_u32.new.bytes c.put_u32-2.new.bytes c.leg.inside.feature c.args.leg.now.feature c.args.previous c.put_u32.ensures c.put_u32-2.ensures (ap (λ l. l.feature) c.leg.view_is)
+
+-- and then that leg is written into them
+is_pushed : (c : goal.After-append_leg) → c.append_leg.new.bytes ≡ pushed 80 12 (leg_bytes c.args.leg.now) (begun c.args.leg.now.feature c.args.previous c.zero.result.bytes)
+is_pushed c = c.append_leg.ensures.pushed ∙ ap (pushed 80 12 (leg_bytes c.args.leg.now)) (is_begun (goal.at.returns-clause-node c).After-put_u32-2)
+
 pub append_leg-requires-clause-room : goal.append_leg-requires-clause-room
 unfolding zero_payload
 append_leg-requires-clause-room c =
-    let l = c.args.leg.now in
-    let zeros = c.zero.result.bytes in
-    let none = begun_count l.feature c.args.previous 4056 zeros (ap (λ p. p.bytes) c.zero.ensures) (omega arith) in
-    let e = ap leg_count (written zeros c.put_u32.new.bytes c.put_u32-2.new.bytes c.leg.inside.feature l.feature c.args.previous c.put_u32.ensures c.put_u32-2.ensures (ap (λ l. l.feature) c.leg.view_is)) in
+    let none = begun_count c.args.leg.now.feature c.args.previous 4056 c.zero.result.bytes (ap (λ p. p.bytes) c.zero.ensures) (omega arith) in
+    let e = ap leg_count (is_begun (goal.at.append_leg-requires-clause-room c).After-put_u32-2) in
     omega (arith, none, e)
 
 pub returns-clause-node : goal.returns-clause-node
 unfolding zero_payload
 returns-clause-node c =
-    let l = c.args.leg.now in
-    let zeros = c.zero.result.bytes in
-    let same : c.leg.inside.feature ≡ l.feature = ap (λ l. l.feature) c.leg.view_is in
+    let same : c.leg.inside.feature ≡ c.args.leg.now.feature = ap (λ l. l.feature) c.leg.view_is in
     let small : c.leg.inside.feature < 2 ^ 32 = search rules in
-    let e = written zeros c.put_u32.new.bytes c.put_u32-2.new.bytes c.leg.inside.feature l.feature c.args.previous c.put_u32.ensures c.put_u32-2.ensures same in
-    leaf_begun _ c.args.previous l zeros c.append_leg.new.bytes (ap (λ p. p.kind) c.zero.ensures) refl
-    (c.append_leg.ensures.pushed ∙ ap (pushed 80 12 (leg_bytes l)) e) (ap (λ p. p.bytes) c.zero.ensures) (omega (arith, same, small)) (omega arith)
-    c.append_leg.ensures.reads_back
+    leaf_begun _ c.args.previous c.args.leg.now c.zero.result.bytes c.append_leg.new.bytes (ap (λ p. p.kind) c.zero.ensures) refl
+    (is_pushed c) (ap (λ p. p.bytes) c.zero.ensures) (omega (arith, same, small)) (omega arith) c.append_leg.ensures.reads_back
 
 pub returns-clause-clear : goal.returns-clause-clear
 unfolding zero_payload
 returns-clause-clear c =
-    let l = c.args.leg.now in
-    let zeros = c.zero.result.bytes in
-    let same : c.leg.inside.feature ≡ l.feature = ap (λ l. l.feature) c.leg.view_is in
-    let e = written zeros c.put_u32.new.bytes c.put_u32-2.new.bytes c.leg.inside.feature l.feature c.args.previous c.put_u32.ensures c.put_u32-2.ensures same in
-    begun_leg_clear _ c.args.previous l zeros (ap (λ p. p.kind) c.zero.ensures)
-    (c.append_leg.ensures.pushed ∙ ap (pushed 80 12 (leg_bytes l)) e) (ap (λ p. p.bytes) c.zero.ensures)
+    begun_leg_clear _ c.args.previous c.args.leg.now c.zero.result.bytes (ap (λ p. p.kind) c.zero.ensures) (is_pushed c) (ap (λ p. p.bytes) c.zero.ensures)

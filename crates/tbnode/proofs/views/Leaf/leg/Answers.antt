@@ -1,34 +1,25 @@
-use Rattle.std.proofs.Common.{ap, ◌∙◌, arith, ◌<◌}
+use Rattle.std.proofs.Common.{ap, ◌∙◌, arith}
 use Rattle.tbnode.specs.Form.{leg_count, is_leg_at, leaf_of}
 use Rattle.tbnode.specs.Layout.{leg_of, is_leg}
 use Rattle.tbnode.specs.Parts.{slot}
-use Rattle.tbnode.proofs.FormLemmas.{leaf_form, legs_counted, leg_shown, leg_lawful}
+use Rattle.tbnode.proofs.FormLemmas.{leaf_form, leg_within, leg_shown, leg_lawful}
 use Rattle.tbnode.proofs.ListLemmas.{all_below-at}
 use Rattle.tbnode.proofs.views.Leaf.leg.Goals as goal
 
 pub overflow_mul-i : goal.overflow_mul-i
-overflow_mul-i c =
-    let bytes = c.self.inside.payload.now.bytes in
-    let f = leaf_form bytes c.self.invariant in
-    omega (arith, f.room, c.requires, legs_counted bytes _ c.self.view_is)
+overflow_mul-i c = omega (arith, (leg_within c.self.inside.payload.now.bytes _ c.args.i c.self.invariant c.self.view_is c.requires).1)
 
 pub overflow_add-i : goal.overflow_add-i
-overflow_add-i c =
-    let bytes = c.self.inside.payload.now.bytes in
-    let f = leaf_form bytes c.self.invariant in
-    omega (arith, f.room, c.requires, legs_counted bytes _ c.self.view_is)
+overflow_add-i c = omega (arith, (leg_within c.self.inside.payload.now.bytes _ c.args.i c.self.invariant c.self.view_is c.requires).1)
 
 pub part-requires : goal.part-requires
-part-requires c =
-    let bytes = c.self.inside.payload.now.bytes in
-    let f = leaf_form bytes c.self.invariant in
-    omega (arith, f.room, c.requires, legs_counted bytes _ c.self.view_is)
+part-requires c = omega (arith, (leg_within c.self.inside.payload.now.bytes _ c.args.i c.self.invariant c.self.view_is c.requires).1)
 
 pub leg_in-requires-clause-lawful : goal.leg_in-requires-clause-lawful
 leg_in-requires-clause-lawful c =
     let bytes = c.self.inside.payload.now.bytes in
     let f = leaf_form bytes c.self.invariant in
-    let h : c.args.i < leg_count bytes = omega (arith, c.requires, legs_counted bytes _ c.self.view_is) in
+    let h = (leg_within bytes _ c.args.i c.self.invariant c.self.view_is c.requires).0 in
     ap is_leg c.part.ensures.value ∙ leg_lawful bytes c.args.i (all_below-at (is_leg_at bytes) (leg_count bytes) c.args.i f.legs h)
 
 pub returns-clause-value : goal.returns-clause-value

@@ -4,7 +4,7 @@ use Rattle.legs.specs.Questions.{InBox}
 use Rattle.legs.specs.Boxes.{box_of, box_over, boxes_meet}
 use Rattle.legs.specs.Law.{IsThere}
 use Rattle.trajdb.proofs.FaultLemmas.{text_refused, there_among}
-use Rattle.trajdb.proofs.TellingLemmas.{denied_names, legs_names, ok_both, shown_legs, there_legs}
+use Rattle.trajdb.proofs.TellingLemmas.{denied_names, legs_names, shown_before}
 use Rattle.trajdb.proofs.database.Core.box_text.Goals as goal
 
 pub returns-clause-refused : goal.returns-clause-refused
@@ -22,14 +22,9 @@ returns-clause-named g c =
 
 pub returns-clause-says : goal.returns-clause-says
 returns-clause-says g c =
-    let old = c.args.self.now.book in
-    let now = c.legs_in.new.self.book in
-    let shown = c.as_slice.result.now in
-    let legs = c.in_ok-legs.legs.items in
-    let same = c.in_ok-legs.ensures.leaves.book in
-    let value = c.as_slice.ensures.value in
-    IfOk-weaker c.legs_text.result _ _ (λ text h. (legs, c.in_ok-legs.ensures.says, (there_legs old now shown legs same value h.1, h.0 ∙ shown_legs old now shown legs same value)))
-    (ok_both c.legs_text.result _ _ c.legs_text.ensures.text c.legs_text.ensures.there)
+    IfOk-weaker c.legs_text.result _ _ (λ text h. (c.in_ok-legs.legs.items, c.in_ok-legs.ensures.says, h))
+    (shown_before c.legs_text.result (λ v. v.items) c.args.self.now.book c.legs_in.new.self.book c.as_slice.result.now c.in_ok-legs.legs.items
+    c.in_ok-legs.ensures.leaves.book c.as_slice.ensures.value c.legs_text.ensures.text c.legs_text.ensures.there)
 
 pub returns-in_err-legs-clause-named : goal.returns-in_err-legs-clause-named
 returns-in_err-legs-clause-named g c =

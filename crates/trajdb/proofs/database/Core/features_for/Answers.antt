@@ -4,7 +4,7 @@ use Rattle.legs.specs.Legs.{LegView}
 use Rattle.legs.specs.Book.{Book}
 use Rattle.trajdb.specs.Answers.{HoldsOfFeature}
 use Rattle.legs.specs.Costs.{known_bound}
-use Rattle.trajdb.proofs.FaultLemmas.{leaves-refl, leaves-trans, bound_more, chains_all, chains_more, knows_kept, known_more}
+use Rattle.trajdb.proofs.FaultLemmas.{leaves-refl, leaves-trans, bound_more, chains_all, chains_more, chains_next, knows_kept, known_more}
 use Rattle.trajdb.specs.Calls.{KnowsOf, feature_bound}
 use Rattle.trajdb.specs.Telling.{IsLiveTold}
 use Rattle.std.proofs.lemmas.Bool.{cases_lt}
@@ -175,20 +175,10 @@ returns-clause-most g c = λ few.
 
 pub returns-in_err-holds_for-clause-most : goal.returns-in_err-holds_for-clause-most
 returns-in_err-holds_for-clause-most g c = λ few.
-    let names = c.args.self.now.book.names in
-    let feature = c.loop-feature.feature in
-    let count = c.feature_count-feature-end.ensures few in
-    let test = c.loop-feature-test.true in
-    let less : feature + 1 ≤ length names = omega (arith, count, test) in
-    chains_all g.I.Listed c.args.self.now.index c.holds_for.new.self.index (feature + 1) (length names) less
-    (chains_more g.I.Listed c.args.self.now.index c.loop-feature.self.index c.holds_for.new.self.index feature c.loop-feature.invariant.leaves.index c.loop-feature.invariant.most c.in_err-holds_for.ensures.most)
+    chains_next g.I.Listed c.args.self.now.index c.loop-feature.self.index c.holds_for.new.self.index c.loop-feature.feature (length c.args.self.now.book.names)
+    (omega (arith, c.feature_count-feature-end.ensures few, c.loop-feature-test.true)) c.loop-feature.invariant.leaves.index c.loop-feature.invariant.most c.in_err-holds_for.ensures.most
 
 pub returns-in_err-push-clause-most : goal.returns-in_err-push-clause-most
 returns-in_err-push-clause-most g c = λ few.
-    let names = c.args.self.now.book.names in
-    let feature = c.loop-feature.feature in
-    let count = c.feature_count-feature-end.ensures few in
-    let test = c.loop-feature-test.true in
-    let less : feature + 1 ≤ length names = omega (arith, count, test) in
-    chains_all g.I.Listed c.args.self.now.index c.holds_for.new.self.index (feature + 1) (length names) less
-    (chains_more g.I.Listed c.args.self.now.index c.loop-feature.self.index c.holds_for.new.self.index feature c.loop-feature.invariant.leaves.index c.loop-feature.invariant.most c.in_ok-holds_for.ensures.most)
+    chains_next g.I.Listed c.args.self.now.index c.loop-feature.self.index c.holds_for.new.self.index c.loop-feature.feature (length c.args.self.now.book.names)
+    (omega (arith, c.feature_count-feature-end.ensures few, c.loop-feature-test.true)) c.loop-feature.invariant.leaves.index c.loop-feature.invariant.most c.in_ok-holds_for.ensures.most

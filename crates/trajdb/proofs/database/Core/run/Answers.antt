@@ -1,4 +1,4 @@
-use Rattle.std.proofs.Common.{rules, inl, ◌≡◌, ◌+◌, ◌∙◌, ap, refl, sym, subst, take, true, false}
+use Rattle.std.proofs.Common.{rules, [], inl, ◌≡◌, ◌+◌, ◌∙◌, ap, refl, sym, subst, take, true, false}
 use Rattle.std.specs.Prelude.{◌⊎◌, ◌↔◌}
 use Rattle.trajdb.specs.Answers.{AcceptsLine}
 use Rattle.trajdb.specs.Script.{lines_of}
@@ -10,7 +10,9 @@ use Rattle.trajdb.proofs.FaultLemmas.{later-refl, later-trans}
 use Rattle.trajdb.proofs.PageLemmas.{keeps-refl, keeps-trans}
 use Rattle.trajdb.proofs.RunLemmas.{whole_more, left_more, left_stops, begun_by, begun_end, begun_more, begun_only, begun_start, at_start, at_more, at_cut, at_refused, at_end, at_unflushed, next_line, nil_from_length}
 use Rattle.trajdb.proofs.TracedLemmas.{traced_start, traced_more, traced_cut, traced_stop, traced_end, traced_unflushed}
+use Rattle.trajdb.proofs.database.Core.run.Given as given
 use Rattle.trajdb.proofs.database.Core.run.Goals as goal
+use Rattle.trajdb.proofs.database.Core.run.Goals.{After-flush}
 
 pub loop-rest-init : goal.loop-rest-init
 loop-rest-init g c = record { lives = ap (λ (v : CoreView g.row.I.Denot). v.failed) (sym c.self.view_is) ∙ c.if-self.false; later = later-refl g.I.Listed _; pages = keeps-refl g.I.Listed _; whole = λ b. inl b; left = (0, refl); traced = (0, traced_start g.I.Listed c.args.files.now _ _ _); at = λ sound. (sound, 0, at_start _ _ _ _ _, begun_start c.args.self.now.limits c.args.files.now c.args.self.now.book (lines_of c.args.script.now) c.args.self.now.begun) }
@@ -42,10 +44,14 @@ loop-rest-preserved g c = record {
       (c.in-Ok.ensures.sound at.0, _, at_more _ _ _ _ _ _ _ _ _ _ _ _ _ at.2 next done, begun_more _ _ _ _ _ _ _ _ _ _ _ at.2 next _ _ _ at.3 begins);
 }
 
+-- no line is left behind the last
+none_left : (g : given.Over) (c : goal.After-flush g) → c.loop-rest.rest.now ≡ []
+none_left g c = nil_from_length c.loop-rest.rest.now (sym c.is_empty.ensures ∙ c.loop-rest-test.false)
+
 pub returns-in-Ok-flush-clause-ok : goal.returns-in-Ok-flush-clause-ok
 returns-in-Ok-flush-clause-ok g c = λ sound.
     let at = c.loop-rest.invariant.at sound in
-    at_end _ _ _ _ _ _ _ _ _ _ at.2 (nil_from_length c.loop-rest.rest.now (sym c.is_empty.ensures ∙ c.loop-rest-test.false)) c.in-Ok-flush.ensures.bytes
+    at_end _ _ _ _ _ _ _ _ _ _ at.2 (none_left g (goal.at.returns-in-Ok-flush-clause-ok g c).After-flush) c.in-Ok-flush.ensures.bytes
 
 pub returns-in-Err-clause-call : goal.returns-in-Err-clause-call
 returns-in-Err-clause-call g c =
@@ -92,63 +98,51 @@ returns-in-Err-clause-call g c =
     }
 
 pub returns-in-Ok-flush-clause-call : goal.returns-in-Ok-flush-clause-call
-returns-in-Ok-flush-clause-call g c =
-    let traced = c.loop-rest.invariant.traced in
-    let ended = nil_from_length c.loop-rest.rest.now (sym c.is_empty.ensures ∙ c.loop-rest-test.false) in
-    record {
-      sound = search rules;
-      lives = search rules;
-      says = traced_end g.I.Listed c.args.files.now _ _ _ _ _ _ _ traced.0 traced.1 ended c.in-Ok-flush.ensures.bytes;
-      says_cut = search rules;
-      named = tt;
-      output = search rules;
-      cut_sound = search rules;
-      cut_lives = search rules;
-      refused = tt;
-      kept = tt;
-      stops = tt;
-      full = search rules;
-      stopped = tt;
-      later = search rules;
-      begins = λ sound.
-          let at = c.loop-rest.invariant.at sound in
-          begun_end _ _ _ _ _ _ _ _ _ _ _ at.2 ended at.3;
-      only = λ sound.
-          let at = c.loop-rest.invariant.at sound in
-          (begun_end _ _ _ _ _ _ _ _ _ _ _ at.2 ended at.3).0;
-      whole = search rules;
-      pages = c.loop-rest.invariant.pages;
-      was_failed = search rules;
-      was_failed_output = search rules;
-    }
+returns-in-Ok-flush-clause-call g c = record {
+  sound = search rules;
+  lives = search rules;
+  says = traced_end g.I.Listed c.args.files.now _ _ _ _ _ _ _ c.loop-rest.invariant.traced.0 c.loop-rest.invariant.traced.1 (none_left g (goal.at.returns-in-Ok-flush-clause-call g c).After-flush) c.in-Ok-flush.ensures.bytes;
+  says_cut = search rules;
+  named = tt;
+  output = search rules;
+  cut_sound = search rules;
+  cut_lives = search rules;
+  refused = tt;
+  kept = tt;
+  stops = tt;
+  full = search rules;
+  stopped = tt;
+  later = search rules;
+  begins = λ sound. begun_end _ _ _ _ _ _ _ _ _ _ _ (c.loop-rest.invariant.at sound).2 (none_left g (goal.at.returns-in-Ok-flush-clause-call g c).After-flush) (c.loop-rest.invariant.at sound).3;
+  only = λ sound. (begun_end _ _ _ _ _ _ _ _ _ _ _ (c.loop-rest.invariant.at sound).2 (none_left g (goal.at.returns-in-Ok-flush-clause-call g c).After-flush) (c.loop-rest.invariant.at sound).3).0;
+  whole = search rules;
+  pages = c.loop-rest.invariant.pages;
+  was_failed = search rules;
+  was_failed_output = search rules;
+}
 
 pub returns-in-Err-flush-clause-call : goal.returns-in-Err-flush-clause-call
-returns-in-Err-flush-clause-call g c =
-    let traced = c.loop-rest.invariant.traced in
-    let ended = nil_from_length c.loop-rest.rest.now (sym c.is_empty.ensures ∙ c.loop-rest-test.false) in
-    record {
-      sound = tt;
-      lives = tt;
-      says = tt;
-      says_cut = λ is. traced_unflushed g.I.Listed c.args.files.now _ _ _ _ _ _ _ traced.0 traced.1 c.in-Err-flush.ensures.bytes;
-      named = search rules;
-      output = λ is sound.
-          let at = c.loop-rest.invariant.at sound in
-          at_unflushed _ _ _ _ _ _ _ _ _ _ at.2 c.in-Err-flush.ensures.bytes (λ j. BeginsIn c.args.files.now c.args.self.now c.loop-rest.self (take j (lines_of c.args.script.now))) at.3.0;
-      cut_sound = search rules;
-      cut_lives = search rules;
-      refused = search rules;
-      kept = search rules;
-      stops = search rules;
-      full = search rules;
-      stopped = tt;
-      later = search rules;
-      begins = tt;
-      only = λ sound.
-          let at = c.loop-rest.invariant.at sound in
-          (begun_end _ _ _ _ _ _ _ _ _ _ _ at.2 ended at.3).0;
-      whole = search rules;
-      pages = c.loop-rest.invariant.pages;
-      was_failed = search rules;
-      was_failed_output = search rules;
-    }
+returns-in-Err-flush-clause-call g c = record {
+  sound = tt;
+  lives = tt;
+  says = tt;
+  says_cut = λ is. traced_unflushed g.I.Listed c.args.files.now _ _ _ _ _ _ _ c.loop-rest.invariant.traced.0 c.loop-rest.invariant.traced.1 c.in-Err-flush.ensures.bytes;
+  named = search rules;
+  output = λ is sound.
+      let at = c.loop-rest.invariant.at sound in
+      at_unflushed _ _ _ _ _ _ _ _ _ _ at.2 c.in-Err-flush.ensures.bytes (λ j. BeginsIn c.args.files.now c.args.self.now c.loop-rest.self (take j (lines_of c.args.script.now))) at.3.0;
+  cut_sound = search rules;
+  cut_lives = search rules;
+  refused = search rules;
+  kept = search rules;
+  stops = search rules;
+  full = search rules;
+  stopped = tt;
+  later = search rules;
+  begins = tt;
+  only = λ sound. (begun_end _ _ _ _ _ _ _ _ _ _ _ (c.loop-rest.invariant.at sound).2 (none_left g (goal.at.returns-in-Err-flush-clause-call g c).After-flush) (c.loop-rest.invariant.at sound).3).0;
+  whole = search rules;
+  pages = c.loop-rest.invariant.pages;
+  was_failed = search rules;
+  was_failed_output = search rules;
+}

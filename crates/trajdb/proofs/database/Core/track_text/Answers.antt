@@ -1,7 +1,7 @@
 use Rattle.std.proofs.Common.{◌≤◌, ◌∙◌, All, length}
 use Rattle.legs.specs.Limits.{most}
 use Rattle.std.proofs.lemmas.Result.{IfErr-weaker, IfOk-weaker}
-use Rattle.trajdb.proofs.TellingLemmas.{ok_both, shown_legs, there_legs, track_names}
+use Rattle.trajdb.proofs.TellingLemmas.{shown_before, track_names}
 use Rattle.legs.specs.Book.{feature_of}
 use Rattle.legs.specs.Law.{IsThere}
 use Rattle.trajdb.proofs.FaultLemmas.{text_refused, there_track}
@@ -16,14 +16,9 @@ returns-clause-refused g c =
 
 pub returns-clause-says : goal.returns-clause-says
 returns-clause-says g c =
-    let old = c.args.self.now.book in
-    let now = c.legs_of.new.self.book in
-    let shown = c.as_slice.result.now in
-    let legs = c.in_ok-legs.legs.items in
-    let same = c.in_ok-legs.ensures.leaves.book in
-    let value = c.as_slice.ensures.value in
-    IfOk-weaker c.legs_text.result _ _ (λ text h few. (legs, c.in_ok-legs.ensures.says few, (there_legs old now shown legs same value h.1, h.0 ∙ shown_legs old now shown legs same value)))
-    (ok_both c.legs_text.result _ _ c.legs_text.ensures.text c.legs_text.ensures.there)
+    IfOk-weaker c.legs_text.result _ _ (λ text h few. (c.in_ok-legs.legs.items, c.in_ok-legs.ensures.says few, h))
+    (shown_before c.legs_text.result (λ v. v.items) c.args.self.now.book c.legs_of.new.self.book c.as_slice.result.now c.in_ok-legs.legs.items
+    c.in_ok-legs.ensures.leaves.book c.as_slice.ensures.value c.legs_text.ensures.text c.legs_text.ensures.there)
 
 pub returns-clause-named : goal.returns-clause-named
 returns-clause-named g c =

@@ -1,8 +1,5 @@
 use Rattle.std.proofs.Common.{◌≡◌, ◌∙◌, sym, false}
-use Rattle.boxsearch.specs.Index.{words}
-use Rattle.trajdb.proofs.LastingLemmas.{keeps_idle}
-use Rattle.trajdb.proofs.PageLemmas.{keeps_leaves}
-use Rattle.trajdb.proofs.SafeLemmas.{leaves_safe}
+use Rattle.trajdb.proofs.SafeLemmas.{leaves_store}
 use Rattle.trajdb.proofs.db.Db.legs.Goals as goal
 
 pub returns-clause-found : goal.returns-clause-found
@@ -14,7 +11,4 @@ returns-clause-recalls g c = rw (← c.self.view_is) c.legs_for.ensures.recalls
 pub returns-clause-keeps : goal.returns-clause-keeps
 returns-clause-keeps g c =
     let lives : c.self.inside.core.failed ≡ false = sym (λ i. (c.self-inside.view_is i).core.failed) ∙ c.if-self.false in
-    record {
-      rests = rw (← c.self.view_is) (keeps_idle c.laws.ensures.rests _ _ (keeps_leaves words _ _ c.legs_for.ensures.leaves));
-      safe = rw (← c.self.view_is) (leaves_safe _ _ c.legs_for.ensures.leaves lives);
-    }
+    rw (← c.self.view_is) (leaves_store c.laws.ensures.rests _ _ c.legs_for.ensures.leaves lives)

@@ -1,12 +1,8 @@
-use Rattle.trajdb.proofs.LastingLemmas.{keeps_idle}
-use Rattle.trajdb.proofs.SafeLemmas.{keeps_safe}
+use Rattle.trajdb.proofs.SafeLemmas.{keeps_store}
 use Rattle.trajdb.proofs.db.Db.load.Goals as goal
 
 pub returns-clause-call : goal.returns-clause-call
 returns-clause-call g c = rw (← c.self.view_is) c.load.ensures
 
 pub returns-clause-keeps : goal.returns-clause-keeps
-returns-clause-keeps g c = record {
-  rests = rw (← c.self.view_is) (keeps_idle c.laws.ensures.rests _ _ c.load.ensures.pages);
-  safe = rw (← c.self.view_is) (keeps_safe _ _ c.load.ensures.pages c.load.ensures.later.index.faults (λ failed. (c.load.ensures.was_failed failed).1));
-}
+returns-clause-keeps g c = rw (← c.self.view_is) (keeps_store c.laws.ensures.rests _ _ c.load.ensures.pages c.load.ensures.later.index.faults (λ failed. (c.load.ensures.was_failed failed).1))
