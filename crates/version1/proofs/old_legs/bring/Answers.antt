@@ -11,7 +11,6 @@ use Rattle.legs.specs.Index.{MayRefuseLeg}
 use Rattle.legs.specs.Legs.{LegView}
 use Rattle.legs.specs.declared.listed.Listed.{Ghosts}
 use Rattle.version1.specs.OldLegs.{AreOpened, AreReadable, HaveLegsOf, IsNumbered, StandByOrdinal}
-use Rattle.tbtree.specs.Turn.{IsRising}
 use Rattle.treecheck.specs.Walking.{pages_by}
 use Rattle.treecheck.specs.declared.walking.Met.{Met}
 use Rattle.version1.proofs.OldLemmas.{reads_stays}
