@@ -117,28 +117,34 @@ module _ {I : Type 0} (g : Ghosts I) where
         grown = grown_none g index (g.content index) empty;
       }
 
+  -- at the next ordinal a leg of the list is opened
+  pub record StandsNext (first now : I) (opened more : List (ℕ × LegView)) (waiting : List LegView) (n total : ℕ) (list : List LegView) (leg : LegView) : Type 0 where
+    pub brought : Brought first now opened waiting n list
+    pub numbered : IsNumbered total list
+    pub stand : StandByOrdinal list more
+    pub at : lookup (nat_eq n) more ≡ Some leg
+
   -- the leg at the next ordinal is the next one
-  module _ (first now : I) (opened more : List (ℕ × LegView)) (waiting : List LegView) (n total : ℕ) (list : List LegView) (b : Brought first now opened waiting n list) (numbered : IsNumbered total list) (stand : StandByOrdinal list more)
-      (leg : LegView) (at : lookup (nat_eq n) more ≡ Some leg) where
+  module _ {first now : I} {opened more : List (ℕ × LegView)} {waiting : List LegView} {n total : ℕ} {list : List LegView} {leg : LegView} (k : StandsNext first now opened more waiting n total list leg) where
     pub next_leg : slice_get list n ≡ Some leg
     next_leg =
-        let s = stand n leg at in
+        let s = k.stand n leg k.at in
         let i = s.1.0 in
-        let o : leg.ordinal ≡ 0 + i = number_at 0 total list i leg numbered.numbers s.1.1 in
+        let o : leg.ordinal ≡ 0 + i = number_at 0 total list i leg k.numbered.numbers s.1.1 in
         let same : i ≡ n = (let p = s.0 in omega (arith, o, p)) in
         subst (λ i. slice_get list i ≡ Some leg) same s.1.1
 
     next_rest : CanFollowInTurn (g.content now ++ waiting) (leg ∷ drop (n + 1) list)
-    next_rest = subst (CanFollowInTurn (g.content now ++ waiting)) (drop_at list n leg next_leg) b.rest
+    next_rest = subst (CanFollowInTurn (g.content now ++ waiting)) (drop_at list n leg next_leg) k.brought.rest
 
     pub next_waits : MayWait g now (waiting ++ leg ∷ [])
-    next_waits = (b.may.0, follow_append (g.content now) waiting (leg ∷ []) b.may.1 (next_rest.0, tt))
+    next_waits = (k.brought.may.0, follow_append (g.content now) waiting (leg ∷ []) k.brought.may.1 (next_rest.0, tt))
 
     -- with it, those that wait may take more pages than there are, and so does the list
     pub next_lacks : (later : I) → IsLater g first now → LacksPages g now later (waiting ++ leg ∷ []) → LacksPages g first later list
     next_lacks later is_later lacks =
-        lacks_behind g first now later (waiting ++ leg ∷ []) (drop (n + 1) list) list is_later b.grown lacks
-        (ap (λ l. l ++ drop (n + 1) list) (sym (append_assoc (g.content now) waiting (leg ∷ [])) ∙ ap (λ l. l ++ leg ∷ []) b.content ∙ sym (take_next list n leg next_leg))
+        lacks_behind g first now later (waiting ++ leg ∷ []) (drop (n + 1) list) list is_later k.brought.grown lacks
+        (ap (λ l. l ++ drop (n + 1) list) (sym (append_assoc (g.content now) waiting (leg ∷ [])) ∙ ap (λ l. l ++ leg ∷ []) k.brought.content ∙ sym (take_next list n leg next_leg))
         ∙ take-append-drop (n + 1) list)
 
     pub brought_on : (later : I) (left : List (ℕ × LegView)) (after : List LegView) (next : ℕ) → n + 1 ≡ next → StandByOrdinal list left
@@ -151,10 +157,10 @@ module _ {I : Type 0} (g : Ghosts I) where
         record {
           stand = keep;
           may = h.may;
-          content = more ∙ ap (λ l. l ++ leg ∷ []) b.content ∙ sym (take_next list n leg next_leg) ∙ ap (λ n. take n list) s;
+          content = more ∙ ap (λ l. l ++ leg ∷ []) k.brought.content ∙ sym (take_next list n leg next_leg) ∙ ap (λ n. take n list) s;
           rest = subst (λ n. CanFollowInTurn (g.content later ++ after) (drop n list)) s (subst (λ l. CanFollowInTurn l (drop (n + 1) list)) (sym more) next_rest.1);
-          marked = λ m. marks next_waits (b.marked m);
-          grown = grows next_waits first is_later b.grown;
+          marked = λ m. marks next_waits (k.brought.marked m);
+          grown = grows next_waits first is_later k.brought.grown;
         }
 
   -- those that wait in the end may take more pages than there are, and so does the list

@@ -22,7 +22,40 @@ use Rattle.treecheck.proofs.NamingLemmas.{either_named}
 use Rattle.treecheck.proofs.SoundLemmas.{TreeLaws, ended, sound, tracks_are, agrees, few, held, passed}
 use Rattle.treecheck.proofs.WalkedLemmas.{same_pages}
 use Rattle.legs.specs.declared.index.IndexFault.TheVariants.{Damaged}
+use Rattle.treecheck.proofs.checking.check.Given as given
 use Rattle.treecheck.proofs.checking.check.Goals as goal
+
+-- where the pages pass, the index is sound, and its tracks are those that were given
+sound_after : (g : given.Over) (c : goal.After-answer g) (P : IndexView → Type 0) → ((v : IndexView) → IsSound v → AreTracksOf c.args.tracks.now c.args.rows (content v) → P v)
+    → OnOk c.answer.result (IsTrue c.args.index.now.cache.store.is_faithful → P c.put_places.new.self)
+sound_after g c P holds =
+    let index : IndexView = c.args.index.now in
+    let lent : IndexView = c.take_places-places.new.self in
+    let left : IndexView = c.check_index-given.new.index in
+    let given = c.check_index-given in
+    let rest = c.take_places-places.ensures.rest in
+    let new : IndexView = record index { cache = left.cache; known = [] } in
+    let ends : c.put_places.new.self ≡ new = c.put_places.ensures ∙ ended index lent left c.take_places-places.result.items rest given.ensures.same c.take_places-places.ensures.taken in
+    let tracks = c.args.tracks.now in
+    let rows = c.args.rows in
+    let places : List Place = c.as_slice.result.now in
+    let laws : TreeLaws = record { content = c.laws.ensures.content; lawful = c.laws.ensures.lawful } in
+    let value : places ≡ index.places = c.as_slice.ensures.value ∙ c.take_places-places.ensures.taken in
+    let works : index.tree.spent ≡ false = sym (ap (λ (v : TbTree). v.spent) c.tree.ensures) ∙ c.if-tree.false in
+    subst (λ (v : IndexView). OnOk c.answer.result (IsTrue index.cache.store.is_faithful → P v)) (sym ends)
+    (subst (λ r. OnOk r (IsTrue index.cache.store.is_faithful → P new)) (sym c.answer.ensures)
+    (each_value (λ fault. of_tree fault) (λ _. IsTrue index.cache.store.is_faithful → P new) given.result
+    (passed given.result (IsTrue index.cache.store.is_faithful) (IsChecked (pages_of_cache index.cache) index.tree rows index.legs places tracks.tracks) (Agree tracks rows index.legs) (index.cache.count ≡ index.cache.store.count) (P new)
+    (subst (λ (v : IndexView). IsTrue v.cache.store.is_faithful → OnOk given.result (IsChecked (pages_of_cache v.cache) v.tree rows v.legs places tracks.tracks)) rest given.ensures.checked)
+    (subst (λ (v : IndexView). OnOk given.result (Agree tracks rows v.legs)) rest given.ensures.agree)
+    (subst (λ (v : IndexView). OnOk given.result (v.cache.count ≡ v.cache.store.count)) rest given.ensures.count)
+    (λ fa k a n.
+    let reads : OnlyReads index.cache left.cache = subst (λ (v : IndexView). OnlyReads v.cache left.cache) rest given.ensures.reads.only in
+    let shape : IsShape index.tree.shape = subst (λ (v : IndexView). IsShape v.tree.shape) rest given.ensures.shape in
+    let h = subst (λ nodes. HoldLegs nodes index.tree rows index.legs index.places tracks.tracks) (sym (same_pages index.cache left.cache reads fa))
+    (subst (λ places. HoldLegs (pages_of_cache index.cache) index.tree rows index.legs places tracks.tracks) value (c.laws-2.ensures.checked (pages_of_cache index.cache) index.tree rows index.legs places tracks.tracks shape k)) in
+    let many : left.cache.count ≡ left.cache.store.count = reads.count ∙ n ∙ sym reads.length in
+    holds new (sound laws new tracks rows (reads.store.faithful ∙ fa) works shape many h) (tracks_are laws new tracks rows (reads.store.faithful ∙ fa) works shape many h a)))))
 
 pub returns-clause-same : goal.returns-clause-same
 returns-clause-same g c =
@@ -31,62 +64,10 @@ returns-clause-same g c =
     (ended c.args.index.now c.take_places-places.new.self left c.take_places-places.result.items c.take_places-places.ensures.rest c.check_index-given.ensures.same c.take_places-places.ensures.taken)
 
 pub returns-clause-sound : goal.returns-clause-sound
-returns-clause-sound g c =
-    let index : IndexView = c.args.index.now in
-    let lent : IndexView = c.take_places-places.new.self in
-    let left : IndexView = c.check_index-given.new.index in
-    let given = c.check_index-given in
-    let rest = c.take_places-places.ensures.rest in
-    let new : IndexView = record index { cache = left.cache; known = [] } in
-    let ends : c.put_places.new.self ≡ new = c.put_places.ensures ∙ ended index lent left c.take_places-places.result.items rest given.ensures.same c.take_places-places.ensures.taken in
-    let tracks = c.args.tracks.now in
-    let rows = c.args.rows in
-    let places : List Place = c.as_slice.result.now in
-    let laws : TreeLaws = record { content = c.laws.ensures.content; lawful = c.laws.ensures.lawful } in
-    let value : places ≡ index.places = c.as_slice.ensures.value ∙ c.take_places-places.ensures.taken in
-    let works : index.tree.spent ≡ false = sym (ap (λ (v : TbTree). v.spent) c.tree.ensures) ∙ c.if-tree.false in
-    subst (λ (v : IndexView). OnOk c.answer.result (IsTrue index.cache.store.is_faithful → IsSound v)) (sym ends)
-    (subst (λ r. OnOk r (IsTrue index.cache.store.is_faithful → IsSound new)) (sym c.answer.ensures)
-    (each_value (λ fault. of_tree fault) (λ _. IsTrue index.cache.store.is_faithful → IsSound new) given.result
-    (passed given.result (IsTrue index.cache.store.is_faithful) (IsChecked (pages_of_cache index.cache) index.tree rows index.legs places tracks.tracks) (Agree tracks rows index.legs) (index.cache.count ≡ index.cache.store.count) (IsSound new)
-    (subst (λ (v : IndexView). IsTrue v.cache.store.is_faithful → OnOk given.result (IsChecked (pages_of_cache v.cache) v.tree rows v.legs places tracks.tracks)) rest given.ensures.checked)
-    (subst (λ (v : IndexView). OnOk given.result (Agree tracks rows v.legs)) rest given.ensures.agree)
-    (subst (λ (v : IndexView). OnOk given.result (v.cache.count ≡ v.cache.store.count)) rest given.ensures.count)
-    (λ fa k a n.
-    let reads : OnlyReads index.cache left.cache = subst (λ (v : IndexView). OnlyReads v.cache left.cache) rest given.ensures.reads.only in
-    let shape : IsShape index.tree.shape = subst (λ (v : IndexView). IsShape v.tree.shape) rest given.ensures.shape in
-    let h = subst (λ nodes. HoldLegs nodes index.tree rows index.legs index.places tracks.tracks) (sym (same_pages index.cache left.cache reads fa))
-    (subst (λ places. HoldLegs (pages_of_cache index.cache) index.tree rows index.legs places tracks.tracks) value (c.laws-2.ensures.checked (pages_of_cache index.cache) index.tree rows index.legs places tracks.tracks shape k)) in
-    sound laws new tracks rows (reads.store.faithful ∙ fa) works shape (reads.count ∙ n ∙ sym reads.length) h))))
+returns-clause-sound g c = sound_after g c IsSound (λ v s a. s)
 
 pub returns-clause-tracks : goal.returns-clause-tracks
-returns-clause-tracks g c =
-    let index : IndexView = c.args.index.now in
-    let lent : IndexView = c.take_places-places.new.self in
-    let left : IndexView = c.check_index-given.new.index in
-    let given = c.check_index-given in
-    let rest = c.take_places-places.ensures.rest in
-    let new : IndexView = record index { cache = left.cache; known = [] } in
-    let ends : c.put_places.new.self ≡ new = c.put_places.ensures ∙ ended index lent left c.take_places-places.result.items rest given.ensures.same c.take_places-places.ensures.taken in
-    let tracks = c.args.tracks.now in
-    let rows = c.args.rows in
-    let places : List Place = c.as_slice.result.now in
-    let laws : TreeLaws = record { content = c.laws.ensures.content; lawful = c.laws.ensures.lawful } in
-    let value : places ≡ index.places = c.as_slice.ensures.value ∙ c.take_places-places.ensures.taken in
-    let works : index.tree.spent ≡ false = sym (ap (λ (v : TbTree). v.spent) c.tree.ensures) ∙ c.if-tree.false in
-    subst (λ (v : IndexView). OnOk c.answer.result (IsTrue index.cache.store.is_faithful → AreTracksOf tracks rows (content v))) (sym ends)
-    (subst (λ r. OnOk r (IsTrue index.cache.store.is_faithful → AreTracksOf tracks rows (content new))) (sym c.answer.ensures)
-    (each_value (λ fault. of_tree fault) (λ _. IsTrue index.cache.store.is_faithful → AreTracksOf tracks rows (content new)) given.result
-    (passed given.result (IsTrue index.cache.store.is_faithful) (IsChecked (pages_of_cache index.cache) index.tree rows index.legs places tracks.tracks) (Agree tracks rows index.legs) (index.cache.count ≡ index.cache.store.count) (AreTracksOf tracks rows (content new))
-    (subst (λ (v : IndexView). IsTrue v.cache.store.is_faithful → OnOk given.result (IsChecked (pages_of_cache v.cache) v.tree rows v.legs places tracks.tracks)) rest given.ensures.checked)
-    (subst (λ (v : IndexView). OnOk given.result (Agree tracks rows v.legs)) rest given.ensures.agree)
-    (subst (λ (v : IndexView). OnOk given.result (v.cache.count ≡ v.cache.store.count)) rest given.ensures.count)
-    (λ fa k a n.
-    let reads : OnlyReads index.cache left.cache = subst (λ (v : IndexView). OnlyReads v.cache left.cache) rest given.ensures.reads.only in
-    let shape : IsShape index.tree.shape = subst (λ (v : IndexView). IsShape v.tree.shape) rest given.ensures.shape in
-    let h = subst (λ nodes. HoldLegs nodes index.tree rows index.legs index.places tracks.tracks) (sym (same_pages index.cache left.cache reads fa))
-    (subst (λ places. HoldLegs (pages_of_cache index.cache) index.tree rows index.legs places tracks.tracks) value (c.laws-2.ensures.checked (pages_of_cache index.cache) index.tree rows index.legs places tracks.tracks shape k)) in
-    tracks_are laws new tracks rows (reads.store.faithful ∙ fa) works shape (reads.count ∙ n ∙ sym reads.length) h a))))
+returns-clause-tracks g c = sound_after g c (λ v. AreTracksOf c.args.tracks.now c.args.rows (content v)) (λ v s a. a)
 
 pub returns-clause-only : goal.returns-clause-only
 returns-clause-only g c = λ s a says.

@@ -1,8 +1,9 @@
-use Rattle.std.proofs.Common.{suc, ◌≡◌, ◌-◌, ◌<◌, length, Some, slice_get, arith, sym, ap, ◌∙◌, subst}
+use Rattle.std.proofs.Common.{ℕ, suc, ◌≡◌, ◌≢◌, ◌-◌, ◌<◌, ◌≤◌, List, length, Some, slice_get, arith, sym, ap, ◌∙◌, subst}
 use Rattle.std.proofs.lemmas.Bool.{true≢false}
 use Rattle.tbtree.specs.Nodes.{pages_of_cache}
 use Rattle.treecheck.specs.Levels.{pages_of_leaves, named_below, IsHeight, IsInLevel, LevelsStandAbove}
 use Rattle.treecheck.specs.declared.walking.Met.{Met}
+use Rattle.tbtree.specs.declared.tree.TbTree.{TbTree}
 use Rattle.std.proofs.lemmas.List.{length-map}
 use Rattle.std.specs.Prelude.{IfErr}
 use Rattle.treecheck.specs.Descent.{DescentStopsAt, FitsLeaves, IsHighestWithout}
@@ -12,28 +13,50 @@ use Rattle.treecheck.proofs.DescentLemmas.{fit_stops, unfit_stops}
 use Rattle.treecheck.proofs.LevelsLemmas.{first_leaf}
 use Rattle.boxsearch.proofs.ResultLemmas.{on_ok}
 use Rattle.treecheck.proofs.StandLemmas.{stands_over, stands_empty, height_of, levels_of}
+use Rattle.treecheck.proofs.levels.check_tree.Given as given
 use Rattle.treecheck.proofs.levels.check_tree.Goals as goal
 use Rattle.treecheck.proofs.levels.check_tree.Goals.{else-height-eq0-via-then-height-eq0+else-leaves-tree, else-height-eq0-via-else-height-eq0}
 
-pub returns-clause-over : goal.returns-clause-over
-returns-clause-over g c = λ fa met within.
-    let nodes = pages_of_cache c.args.cache.now in
+-- what is so of a tree that has levels and is of so many leaves
+record HasLevels (tree : TbTree) (leaves : List Met) (inner : ℕ) : Type 0 where
+  levels_are : tree.levels ≡ suc (tree.levels - 1)
+  inner_is : inner ≡ tree.shape.inner
+  some : 0 < tree.shape.inner
+  leaves_are : tree.leaves ≡ length leaves
+
+has_levels : (tree : TbTree) (leaves : List Met) (inner : ℕ) → tree.levels ≢ 0 → inner ≡ tree.shape.inner → 2 ≤ tree.shape.inner → tree.leaves ≡ length leaves → HasLevels tree leaves inner
+has_levels tree leaves inner levels is least are = record { levels_are = omega (arith, levels); inner_is = is; some = omega (arith, least); leaves_are = are }
+
+-- it is as high as its leaves want, and a single leaf is its root
+record IsHigh (tree : TbTree) (leaves : List Met) (inner : ℕ) : Type 0 where
+  has : HasLevels tree leaves inner
+  high : IsHeight tree.shape.inner (length leaves) (tree.levels - 1)
+  top : tree.levels - 1 ≡ 0 → slice_get (pages_of_leaves leaves) 0 ≡ Some tree.root
+
+is_high : (g : given.Over) (c : goal.After-check_levels g) → IsHigh c.args.tree.now c.args.leaves.now c.from-inner.result
+is_high g c =
     let tree = c.args.tree.now in
     let leaves = c.args.leaves.now in
     let h = tree.levels - 1 in
-    let levels_are : tree.levels ≡ suc h = omega (arith, c.if-tree-eq0.false) in
-    let inner_is : c.from-inner.result ≡ tree.shape.inner = c.from-inner.ensures ∙ c.inner.ensures.value in
-    let range = c.inner.ensures.range in
-    let some : 0 < tree.shape.inner = omega (arith, range.least_inner) in
-    let leaves_are : tree.leaves ≡ length leaves = sym (c.if-leaves-from.false ∙ c.from.ensures) in
-    let high : IsHeight tree.shape.inner (length leaves) h = subst (λ n. IsHeight n (length leaves) h) inner_is c.in-Some.ensures.height in
-    let top : h ≡ 0 → slice_get (pages_of_leaves leaves) 0 ≡ Some tree.root =
-    elim c.else-height-eq0.branch [
-      | else-height-eq0-via-then-height-eq0+else-leaves-tree w ↦ λ z. first_leaf leaves w.index-leaves-0.result tree.root high.some w.index-leaves-0.is (ap (λ (m : Met). m.page) w.index-leaves-0.is ∙ w.if-leaves-tree.false)
-      | else-height-eq0-via-else-height-eq0 w ↦ λ z. absurd (w.if-height-eq0.false z)
-    ] in
+    let has = has_levels tree leaves c.from-inner.result c.if-tree-eq0.false (c.from-inner.ensures ∙ c.inner.ensures.value) c.inner.ensures.range.least_inner (sym (c.if-leaves-from.false ∙ c.from.ensures)) in
+    let high : IsHeight tree.shape.inner (length leaves) h = subst (λ n. IsHeight n (length leaves) h) has.inner_is c.in-Some.ensures.height in
+    record {
+      has = has;
+      high = high;
+      top = elim c.else-height-eq0.branch [
+        | else-height-eq0-via-then-height-eq0+else-leaves-tree w ↦ λ z. first_leaf leaves w.index-leaves-0.result tree.root high.some w.index-leaves-0.is (ap (λ (m : Met). m.page) w.index-leaves-0.is ∙ w.if-leaves-tree.false)
+        | else-height-eq0-via-else-height-eq0 w ↦ λ z. absurd (w.if-height-eq0.false z)
+      ];
+    }
+
+pub returns-clause-over : goal.returns-clause-over
+returns-clause-over g c = λ fa met within.
+    let tree = c.args.tree.now in
+    let leaves = c.args.leaves.now in
+    let k = is_high g c in
     on_ok c.check_levels.result
-    (λ stand. stands_over nodes tree leaves h levels_are some leaves_are met high top (subst (λ n. LevelsStandAbove nodes n h tree.root leaves) inner_is stand) within)
+    (λ stand. stands_over (pages_of_cache c.args.cache.now) tree leaves (tree.levels - 1) k.has.levels_are k.has.some k.has.leaves_are met k.high k.top
+    (subst (λ n. LevelsStandAbove (pages_of_cache c.args.cache.now) n (tree.levels - 1) tree.root leaves) k.has.inner_is stand) within)
     (c.check_levels.ensures.stand fa)
 
 pub returns-then-tree-eq0-clause-over : goal.returns-then-tree-eq0-clause-over
@@ -42,31 +65,20 @@ returns-then-tree-eq0-clause-over g c = λ fa met within.
 
 pub returns-in_default-clause-only : goal.returns-in_default-clause-only
 returns-in_default-clause-only g c = λ fa met pages over.
-    let nodes = pages_of_cache c.args.cache.now in
     let tree = c.args.tree.now in
     let leaves = c.args.leaves.now in
     let h = tree.levels - 1 in
-    let levels_are : tree.levels ≡ suc h = omega (arith, c.if-tree-eq0.false) in
-    let inner_is : c.from-inner.result ≡ tree.shape.inner = c.from-inner.ensures ∙ c.inner.ensures.value in
-    let range = c.inner.ensures.range in
-    let some : 0 < tree.shape.inner = omega (arith, range.least_inner) in
-    let leaves_are : tree.leaves ≡ length leaves = sym (c.if-leaves-from.false ∙ c.from.ensures) in
-    let high = height_of nodes tree leaves h levels_are some leaves_are met pages over in
-    let found = c.in_default.ensures.none (subst (λ n. IsHeight n (length leaves) h) (sym inner_is) high) in
-    true≢false (sym found)
+    let k = has_levels tree leaves c.from-inner.result c.if-tree-eq0.false (c.from-inner.ensures ∙ c.inner.ensures.value) c.inner.ensures.range.least_inner (sym (c.if-leaves-from.false ∙ c.from.ensures)) in
+    let high = height_of (pages_of_cache c.args.cache.now) tree leaves h k.levels_are k.some k.leaves_are met pages over in
+    true≢false (sym (c.in_default.ensures.none (subst (λ n. IsHeight n (length leaves) h) (sym k.inner_is) high)))
 
 pub returns-clause-only : goal.returns-clause-only
 returns-clause-only g c = λ fa met pages over.
     let nodes = pages_of_cache c.args.cache.now in
     let tree = c.args.tree.now in
-    let leaves = c.args.leaves.now in
     let h = tree.levels - 1 in
-    let levels_are : tree.levels ≡ suc h = omega (arith, c.if-tree-eq0.false) in
-    let inner_is : c.from-inner.result ≡ tree.shape.inner = c.from-inner.ensures ∙ c.inner.ensures.value in
-    let range = c.inner.ensures.range in
-    let some : 0 < tree.shape.inner = omega (arith, range.least_inner) in
-    let leaves_are : tree.leaves ≡ length leaves = sym (c.if-leaves-from.false ∙ c.from.ensures) in
-    c.check_levels.ensures.only fa (subst (λ n. LevelsStandAbove nodes n h tree.root leaves) (sym inner_is) (levels_of nodes tree leaves h levels_are some leaves_are met pages over))
+    let k = (is_high g c).has in
+    c.check_levels.ensures.only fa (subst (λ n. LevelsStandAbove nodes n h tree.root c.args.leaves.now) (sym k.inner_is) (levels_of nodes tree c.args.leaves.now h k.levels_are k.some k.leaves_are met pages over))
 
 pub returns-then-leaves-from-clause-stops : goal.returns-then-leaves-from-clause-stops
 returns-then-leaves-from-clause-stops g c = λ fa met.
@@ -89,23 +101,13 @@ returns-clause-stops g c = λ fa met.
     let tree = c.args.tree.now in
     let leaves = c.args.leaves.now in
     let h = tree.levels - 1 in
-    let levels_are : tree.levels ≡ suc h = omega (arith, c.if-tree-eq0.false) in
-    let inner_is : c.from-inner.result ≡ tree.shape.inner = c.from-inner.ensures ∙ c.inner.ensures.value in
-    let range = c.inner.ensures.range in
-    let some : 0 < tree.shape.inner = omega (arith, range.least_inner) in
-    let leaves_are : tree.leaves ≡ length leaves = sym (c.if-leaves-from.false ∙ c.from.ensures) in
-    let high : IsHeight tree.shape.inner (length leaves) h = subst (λ n. IsHeight n (length leaves) h) inner_is c.in-Some.ensures.height in
-    let top : h ≡ 0 → slice_get (pages_of_leaves leaves) 0 ≡ Some tree.root =
-    elim c.else-height-eq0.branch [
-      | else-height-eq0-via-then-height-eq0+else-leaves-tree w ↦ λ z. first_leaf leaves w.index-leaves-0.result tree.root high.some w.index-leaves-0.is (ap (λ (m : Met). m.page) w.index-leaves-0.is ∙ w.if-leaves-tree.false)
-      | else-height-eq0-via-else-height-eq0 w ↦ λ z. absurd (w.if-height-eq0.false z)
-    ] in
+    let k = is_high g c in
     let many = length-map leaves (λ (m : Met). m.page) in
     let fits : FitsLeaves tree (pages_of_leaves leaves) = record {
-      leaves_are = leaves_are ∙ sym many;
+      leaves_are = k.has.leaves_are ∙ sym many;
       none = λ z. absurd (c.if-tree-eq0.false z);
-      height = λ _. subst (λ l. IsHeight tree.shape.inner l h) (sym many) high;
-      root = λ one. top (omega (arith, one));
+      height = λ _. subst (λ l. IsHeight tree.shape.inner l h) (sym many) k.high;
+      root = λ one. k.top (omega (arith, one));
     } in
-    refused_map (IsHighestWithout (IsInLevel nodes tree.shape.inner leaves) (named_below nodes tree.root) h) (DescentStopsAt nodes tree (pages_of_leaves leaves)) (fit_stops nodes tree leaves some met fits) c.check_levels.result
-    (subst (λ inner. IfErr c.check_levels.result (IfMalformed (IsHighestWithout (IsInLevel nodes inner leaves) (named_below nodes tree.root) h))) inner_is (c.check_levels.ensures.stops fa))
+    refused_map (IsHighestWithout (IsInLevel nodes tree.shape.inner leaves) (named_below nodes tree.root) h) (DescentStopsAt nodes tree (pages_of_leaves leaves)) (fit_stops nodes tree leaves k.has.some met fits) c.check_levels.result
+    (subst (λ inner. IfErr c.check_levels.result (IfMalformed (IsHighestWithout (IsInLevel nodes inner leaves) (named_below nodes tree.root) h))) k.has.inner_is (c.check_levels.ensures.stops fa))

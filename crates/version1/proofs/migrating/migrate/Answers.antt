@@ -1,13 +1,16 @@
-use Rattle.std.proofs.Common.{inl, inr, ◌≡◌, ◌∙◌, ◌<◌, List, length, sym, ap, subst}
+use Rattle.std.proofs.Common.{inl, inr, ◌≡◌, ◌∙◌, ◌<◌, IsTrue, List, length, sym, ap, subst}
 use Rattle.legs.specs.Costs.{ShapeView}
+use Rattle.legs.specs.Legs.{LegView}
 use Rattle.pagecache.specs.Cache.{stored_payload}
 use Rattle.treecheck.specs.Check.{HoldChains}
 use Rattle.legs.specs.Tracks.{TracksView}
 use Rattle.treecheck.specs.Checking.{Agree}
 use Rattle.boxsearch.specs.Index.{content}
 use Rattle.version1.specs.OldLegs.{pages_of_old}
-use Rattle.version1.specs.OldStore.{AnswersOld}
+use Rattle.version1.specs.OldStore.{AnswersOld, IsKeptOld}
 use Rattle.register.specs.Saved.{CatalogueView}
+use Rattle.register.specs.Lasting.{IsSame}
+use Rattle.register.specs.Saving.{IsSavingStop}
 use Rattle.catalogue.proofs.OpenLemmas.{stop_of}
 use Rattle.tbtree.specs.declared.tree.Place.{Place}
 use Rattle.tbtree.specs.declared.tree.TbTree.{TbTree}
@@ -15,7 +18,36 @@ use Rattle.version1.specs.Naming.{IsNamedOfChains}
 use Rattle.version1.proofs.NamedLemmas.{chains_of, kept_agrees, kept_few, named_as, named_of, stop_named}
 use Rattle.version1.proofs.OldBookLemmas.{old_kept_same}
 use Rattle.version1.proofs.MigrateLemmas.{allowed_stop, book_agrees, book_brought, book_chains, caused_beginning, chains_as, full_beginning, left_later, leg_stop, old_pages_stay, same_shape}
+use Rattle.version1.proofs.migrating.migrate.Given as given
 use Rattle.version1.proofs.migrating.migrate.Goals as goal
+
+-- where the legs are not brought and their chains are whole, what stops them is none of the store's
+not_brought : (g : given.Over) (c : goal.After-drop-catalogue-inside-in-Err-bring_legs-4 g) → IsTrue (g.S.PageStore.seen c.args.old.now).is_faithful → IsTrue (g.T.PageStore.seen c.args.new).is_faithful
+    → Agree c.in-Ok.read.0.catalogue.tracks c.in-Ok.read.0.catalogue.tracks.rows c.in-Ok.read.0.catalogue.tracks.legs → (legs : List LegView)
+    → HoldChains (pages_of_old (g.S.PageStore.seen c.args.old.now)) c.in-Ok.read.0.leaf c.in-Ok.read.0.catalogue.tracks.rows c.in-Ok.read.0.catalogue.tracks.legs c.in-Ok.read.0.places.items c.in-Ok.read.0.catalogue.tracks.tracks legs
+    → IsSavingStop c.in-Err-bring_legs.back.1
+not_brought g c fa fb agrees legs chains =
+    let s = g.S.PageStore.seen c.args.old.now in
+    let mid = g.S.PageStore.seen c.read_beside.new.old in
+    let stays = c.in-Ok.ensures.stays in
+    let read = c.in-Ok.read.0 in
+    let tracks = read.catalogue.tracks in
+    let ft = c.in-Ok.ensures.stored.keeps.faithful ∙ fb in
+    let same = sym (ap (λ (v : CatalogueView). v.tracks) c.catalogue.view_is) in
+    c.in-Err-bring_legs.ensures.only (stays.keeps.faithful ∙ fa) (c.in-Ok-begin.ensures.sound ft) c.in-Ok-begin.ensures.empty (subst (λ (t : TracksView). Agree t t.rows t.legs) same agrees) legs
+    (chains_as (pages_of_old mid) read.leaf tracks c.catalogue.inside.tracks read.places.items c.as_slice.result.now legs same (sym c.as_slice.ensures.value)
+    (subst (λ nodes. HoldChains nodes read.leaf tracks.rows tracks.legs read.places.items tracks.tracks legs) (sym (old_pages_stay s mid fa stays)) chains))
+
+-- what is read is what the pages keep, whatever else they are said to keep
+kept_one : (g : given.Over) (c : goal.After-drop-catalogue-inside-in-Err-bring_legs-4 g) (fa : IsTrue (g.S.PageStore.seen c.args.old.now).is_faithful) (fb : IsTrue (g.T.PageStore.seen c.args.new).is_faithful) (catalogue : CatalogueView) (tree : TbTree) (places : List Place)
+    → IsKeptOld (stored_payload (g.S.PageStore.seen c.args.old.now)) (g.S.PageStore.seen c.args.old.now).count catalogue tree places
+    → IsSame c.in-Ok.read.0.catalogue catalogue (c.in-Ok.ensures.kept fa fb).tree tree c.in-Ok.read.0.places.items places × (tree.shape.leaf ≡ c.in-Ok.read.0.leaf)
+kept_one g c fa fb catalogue tree places kept =
+    let s = g.S.PageStore.seen c.args.old.now in
+    let read = c.in-Ok.read.0 in
+    let answers = c.in-Ok.ensures.kept fa fb in
+    let one = old_kept_same (stored_payload s) s.count read.catalogue catalogue answers.tree tree read.places.items places answers.kept kept in
+    (one, sym (ap (λ (t : TbTree). t.shape.leaf) one.tree_is) ∙ answers.leaf_is)
 
 pub returns-in-Err-clause-holds : goal.returns-in-Err-clause-holds
 returns-in-Err-clause-holds g c = λ fa fb shape limits book h. allowed_stop c.in-Err.back.1 (c.in-Err.ensures.holds fa fb shape limits book h)
@@ -70,19 +102,10 @@ returns-in-Ok-bring_legs-clause-book g c = λ fa fb shape limits book h.
 pub returns-in-Err-bring_legs-clause-holds : goal.returns-in-Err-bring_legs-clause-holds
 returns-in-Err-bring_legs-clause-holds g c = λ fa fb shape limits book h.
     let s = g.S.PageStore.seen c.args.old.now in
-    let mid = g.S.PageStore.seen c.read_beside.new.old in
-    let stays = c.in-Ok.ensures.stays in
     let read = c.in-Ok.read.0 in
-    let tracks = read.catalogue.tracks in
-    let fm = stays.keeps.faithful ∙ fa in
-    let ft = c.in-Ok.ensures.stored.keeps.faithful ∙ fb in
     let answers = c.in-Ok.ensures.book fa fb shape limits book h in
     let agrees = book_agrees c.laws.ensures.held_chains s read.catalogue read.leaf read.shape read.places.items c.in-Ok.ensures.leaf shape limits book answers in
-    let chains = book_chains c.laws.ensures.held_chains s read.catalogue read.leaf read.shape read.places.items c.in-Ok.ensures.leaf shape limits book answers in
-    let same = sym (ap (λ (v : CatalogueView). v.tracks) c.catalogue.view_is) in
-    c.in-Err-bring_legs.ensures.only fm (c.in-Ok-begin.ensures.sound ft) c.in-Ok-begin.ensures.empty (subst (λ (t : TracksView). Agree t t.rows t.legs) same agrees) book.legs
-    (chains_as (pages_of_old mid) read.leaf tracks c.catalogue.inside.tracks read.places.items c.as_slice.result.now book.legs same (sym c.as_slice.ensures.value)
-    (subst (λ nodes. HoldChains nodes read.leaf tracks.rows tracks.legs read.places.items tracks.tracks book.legs) (sym (old_pages_stay s mid fa stays)) chains))
+    not_brought g c fa fb agrees book.legs (book_chains c.laws.ensures.held_chains s read.catalogue read.leaf read.shape read.places.items c.in-Ok.ensures.leaf shape limits book answers)
 
 pub returns-in-Err-clause-kept : goal.returns-in-Err-clause-kept
 returns-in-Err-clause-kept g c = λ fa fb catalogue tree places kept. leg_stop c.in-Err.back.1 (λ no. c.in-Err.ensures.broken fa fb no catalogue tree places kept)
@@ -104,42 +127,27 @@ returns-in-Err-clause-chains g c = λ fa fb catalogue tree places kept.
 pub returns-in-Err-bring_legs-clause-whole : goal.returns-in-Err-bring_legs-clause-whole
 returns-in-Err-bring_legs-clause-whole g c = λ fa fb catalogue tree places kept whole.
     let s = g.S.PageStore.seen c.args.old.now in
-    let at = stored_payload s in
-    let mid = g.S.PageStore.seen c.read_beside.new.old in
-    let stays = c.in-Ok.ensures.stays in
     let read = c.in-Ok.read.0 in
-    let tracks = read.catalogue.tracks in
-    let fm = stays.keeps.faithful ∙ fa in
-    let ft = c.in-Ok.ensures.stored.keeps.faithful ∙ fb in
     let answers = c.in-Ok.ensures.kept fa fb in
-    let one = old_kept_same at s.count read.catalogue catalogue answers.tree tree read.places.items places answers.kept kept in
-    let leaf : tree.shape.leaf ≡ read.leaf = sym (ap (λ (t : TbTree). t.shape.leaf) one.tree_is) ∙ answers.leaf_is in
-    let chains = chains_of (pages_of_old s) read.leaf read.catalogue catalogue tree read.places.items places whole.0 one.catalogue leaf one.places_are whole.1 in
-    let agrees = kept_agrees at s.count read.catalogue answers.tree read.places.items answers.kept in
-    let same = sym (ap (λ (v : CatalogueView). v.tracks) c.catalogue.view_is) in
-    c.in-Err-bring_legs.ensures.only fm (c.in-Ok-begin.ensures.sound ft) c.in-Ok-begin.ensures.empty (subst (λ (t : TracksView). Agree t t.rows t.legs) same agrees) whole.0
-    (chains_as (pages_of_old mid) read.leaf tracks c.catalogue.inside.tracks read.places.items c.as_slice.result.now whole.0 same (sym c.as_slice.ensures.value)
-    (subst (λ nodes. HoldChains nodes read.leaf tracks.rows tracks.legs read.places.items tracks.tracks whole.0) (sym (old_pages_stay s mid fa stays)) chains))
+    let k = kept_one g c fa fb catalogue tree places kept in
+    let agrees = kept_agrees (stored_payload s) s.count read.catalogue answers.tree read.places.items answers.kept in
+    not_brought g c fa fb agrees whole.0 (chains_of (pages_of_old s) read.leaf read.catalogue catalogue tree read.places.items places whole.0 k.0.catalogue k.1 k.0.places_are whole.1)
 
 pub returns-in-Err-bring_legs-clause-chains : goal.returns-in-Err-bring_legs-clause-chains
 returns-in-Err-bring_legs-clause-chains g c = λ fa fb catalogue tree places kept.
     let s = g.S.PageStore.seen c.args.old.now in
-    let at = stored_payload s in
     let mid = g.S.PageStore.seen c.read_beside.new.old in
     let stays = c.in-Ok.ensures.stays in
     let read = c.in-Ok.read.0 in
-    let tracks = read.catalogue.tracks in
-    let fm = stays.keeps.faithful ∙ fa in
     let ft = c.in-Ok.ensures.stored.keeps.faithful ∙ fb in
     let answers = c.in-Ok.ensures.kept fa fb in
-    let one = old_kept_same at s.count read.catalogue catalogue answers.tree tree read.places.items places answers.kept kept in
-    let leaf : tree.shape.leaf ≡ read.leaf = sym (ap (λ (t : TbTree). t.shape.leaf) one.tree_is) ∙ answers.leaf_is in
-    let few = subst (λ (l : List Place). length l < 4294967296) (sym c.as_slice.ensures.value) (kept_few at s.count read.catalogue answers.tree read.places.items answers.kept) in
+    let k = kept_one g c fa fb catalogue tree places kept in
+    let few = subst (λ (l : List Place). length l < 4294967296) (sym c.as_slice.ensures.value) (kept_few (stored_payload s) s.count read.catalogue answers.tree read.places.items answers.kept) in
     let same = ap (λ (v : CatalogueView). v.tracks) c.catalogue.view_is in
     let e = c.in-Err-bring_legs.back.1 in
-    named_of (pages_of_old s) read.leaf read.catalogue catalogue tree read.places.items places e one.catalogue leaf one.places_are
-    (named_as (pages_of_old s) (pages_of_old mid) read.leaf c.catalogue.inside.tracks tracks c.as_slice.result.now read.places.items e (old_pages_stay s mid fa stays) same c.as_slice.ensures.value
-    (c.in-Err-bring_legs.ensures.named fm (c.in-Ok-begin.ensures.sound ft) c.in-Ok-begin.ensures.empty few))
+    named_of (pages_of_old s) read.leaf read.catalogue catalogue tree read.places.items places e k.0.catalogue k.1 k.0.places_are
+    (named_as (pages_of_old s) (pages_of_old mid) read.leaf c.catalogue.inside.tracks read.catalogue.tracks c.as_slice.result.now read.places.items e (old_pages_stay s mid fa stays) same c.as_slice.ensures.value
+    (c.in-Err-bring_legs.ensures.named (stays.keeps.faithful ∙ fa) (c.in-Ok-begin.ensures.sound ft) c.in-Ok-begin.ensures.empty few))
 
 pub returns-in-Err-bring_legs-clause-named : goal.returns-in-Err-bring_legs-clause-named
 returns-in-Err-bring_legs-clause-named g c = λ fa fb none.

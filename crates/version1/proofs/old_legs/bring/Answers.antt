@@ -1,19 +1,57 @@
-use Rattle.std.proofs.Common.{length, arith, ◌≡◌, ◌+◌, ◌∙◌, inl, inr, Err, IsErrOf, nat_eq, Some, refl, sym, ap, subst}
+use Rattle.std.proofs.Common.{length, arith, ◌≡◌, ◌+◌, ◌∙◌, inl, inr, Err, IsErrOf, IsTrue, List, [], ℕ, Some, nat_eq, refl, sym, ap, subst}
 use Rattle.std.proofs.lemmas.List.{append-nil}
 use Rattle.std.proofs.lemmas.Result.{err_from_is_err_and}
-use Rattle.legs.specs.declared.index.IndexFault.TheVariants.{Store, StoreFull}
+use Rattle.legs.specs.declared.index.IndexFault.TheVariants as index
 use Rattle.std.specs.Map.{lookup}
 use Rattle.std.specs.Option.{IsSome}
+use Rattle.pages.specs.Store.{Store, Stays}
 use Rattle.pagecache.specs.Cache.{fresh}
 use Rattle.version1.specs.OldForm.{old_node_of}
 use Rattle.legs.specs.Index.{MayRefuseLeg}
-use Rattle.version1.specs.OldLegs.{AreOpened, AreReadable, HaveLegsOf}
+use Rattle.legs.specs.Legs.{LegView}
+use Rattle.legs.specs.declared.listed.Listed.{Ghosts}
+use Rattle.version1.specs.OldLegs.{AreOpened, AreReadable, HaveLegsOf, IsNumbered, StandByOrdinal}
 use Rattle.treecheck.specs.Walking.{pages_by}
+use Rattle.treecheck.specs.declared.walking.Met.{Met}
 use Rattle.version1.proofs.OldLemmas.{reads_stays}
 use Rattle.version1.proofs.OpenedLemmas.{allowed_leg, damaged_works, next_opened, not_none, opened_none, opened_taken, works_leg}
-use Rattle.version1.proofs.TakingLemmas.{same_err, on_err, on_ok, all_taken, brought_none, brought_on, last_lacks, next_lacks, next_waits, later_refl, later_trans, risen_after, stays_refl, stays_trans, stand_taken, store_failed}
+use Rattle.version1.proofs.TakingLemmas.{same_err, on_err, on_ok, all_taken, brought_none, brought_on, last_lacks, next_lacks, next_waits, later_refl, later_trans, risen_after, stays_refl, stays_trans, stand_taken, store_failed, Brought, StandsNext}
 use Rattle.treecheck.proofs.WalkedLemmas.{same_by}
+use Rattle.version1.proofs.old_legs.bring.Given as given
 use Rattle.version1.proofs.old_legs.bring.Goals as goal
+
+module _ (first now : Store) (stays : Stays first now) (fa : IsTrue first.is_faithful) where
+  -- the pages of a store that was read have the nodes that they had
+  same_nodes : pages_by old_node_of (fresh now 1) ≡ pages_by old_node_of (fresh first 1)
+  same_nodes = same_by old_node_of (fresh first 1) (fresh now 1) (reads_stays first now stays) fa
+
+  -- with the next leaf those that begin with the next leg or an earlier one are opened
+  opened_on : {leaves : List Met} {next later n : ℕ} {opened more : List (ℕ × LegView)} → AreOpened (pages_by old_node_of (fresh first 1)) leaves next n n opened
+      → (IsTrue now.is_faithful → AreOpened (pages_by old_node_of (fresh now 1)) leaves next n n opened → AreOpened (pages_by old_node_of (fresh now 1)) leaves later n (n + 1) more)
+      → AreOpened (pages_by old_node_of (fresh first 1)) leaves later n (n + 1) more
+  opened_on {leaves} {next} {later} {n} {opened} {more} are on =
+      subst (λ nodes. AreOpened nodes leaves later n (n + 1) more) same_nodes
+      (on (stays.keeps.faithful ∙ fa) (subst (λ nodes. AreOpened nodes leaves next n n opened) (sym same_nodes) are))
+
+  -- the leg that is taken is the next one of the list
+  stands_next : {I : Type 0} (g : Ghosts I) {old index : I} {opened more : List (ℕ × LegView)} {waiting : List LegView} {n total : ℕ} {list : List LegView} {leg : LegView} (leaves : List Met) → Brought g old index opened waiting n list
+      → HaveLegsOf (pages_by old_node_of (fresh first 1)) leaves list → IsNumbered total list
+      → (IsTrue now.is_faithful → (legs : List LegView) → StandByOrdinal legs opened → HaveLegsOf (pages_by old_node_of (fresh now 1)) leaves legs → StandByOrdinal legs more)
+      → lookup (nat_eq n) more ≡ Some leg → StandsNext g old index opened more waiting n total list leg
+  stands_next g {list = list} leaves b have numbered on at = record {
+    brought = b;
+    numbered = numbered;
+    stand = on (stays.keeps.faithful ∙ fa) list b.stand (subst (λ nodes. HaveLegsOf nodes leaves list) (sym same_nodes) have);
+    at = at;
+  }
+
+-- where the leg is not put, it is the next one
+next_refused : (g : given.Over) (c : goal.After-drop-opened-in_err-put_behind g) → IsTrue (g.S.PageStore.seen c.args.old.now).is_faithful → g.I.Listed.is_sound c.args.index.now → g.I.Listed.content c.args.index.now ≡ []
+    → (list : List LegView) → HaveLegsOf (pages_by old_node_of (fresh (g.S.PageStore.seen c.args.old.now) 1)) c.args.leaves.now list → IsNumbered c.args.legs list
+    → StandsNext g.I.Listed c.args.index.now c.legs.index c.legs.opened.entries c.open_next.new.opened.entries c.legs.waiting.items c.legs.ordinal-counter c.args.legs list c.in-Some.leg
+next_refused g c fa sound empty list have numbered =
+    stands_next (g.S.PageStore.seen c.args.old.now) (g.S.PageStore.seen c.legs.old) c.legs.invariant.stays fa g.I.Listed c.args.leaves.now (c.legs.invariant.brought fa sound empty list have numbered) have numbered c.in-Ok.ensures.opened
+    (sym c.remove.ensures.value ∙ c.in-Some.is)
 
 pub legs-init : goal.legs-init
 legs-init g c = record {
@@ -35,19 +73,12 @@ legs-preserved g c =
       later = later_trans g.I.Listed c.args.index.now c.legs.index c.put_behind.new.index inv.later c.put_behind.ensures.later;
       few = c.in_ok-put_behind.ensures.few;
       brought = λ fa sound empty list have numbered.
-          let b = inv.brought fa sound empty list have numbered in
-          let same = same_by old_node_of (fresh first 1) (fresh now 1) (reads_stays first now inv.stays) fa in
-          let stand = c.in-Ok.ensures.opened (inv.stays.keeps.faithful ∙ fa) list b.stand (subst (λ nodes. HaveLegsOf nodes c.args.leaves.now list) (sym same) have) in
-          let at : lookup (nat_eq n) c.open_next.new.opened.entries ≡ Some c.in-Some.leg = sym c.remove.ensures.value ∙ c.in-Some.is in
-          brought_on g.I.Listed c.args.index.now c.legs.index c.legs.opened.entries c.open_next.new.opened.entries c.legs.waiting.items n c.args.legs list b numbered stand c.in-Some.leg at c.put_behind.new.index c.remove.new.self.entries c.put_behind.new.waiting.items (n + 1) refl
-          (stand_taken list c.open_next.new.opened.entries c.remove.new.self.entries (nat_eq n) stand c.remove.ensures.updates.0) c.in_ok-put_behind.ensures.holds c.in_ok-put_behind.ensures.marked inv.later c.in_ok-put_behind.ensures.grown;
+          let k = stands_next first now inv.stays fa g.I.Listed c.args.leaves.now (inv.brought fa sound empty list have numbered) have numbered c.in-Ok.ensures.opened (sym c.remove.ensures.value ∙ c.in-Some.is) in
+          brought_on g.I.Listed k c.put_behind.new.index c.remove.new.self.entries c.put_behind.new.waiting.items (n + 1) refl
+          (stand_taken list c.open_next.new.opened.entries c.remove.new.self.entries (nat_eq n) k.stand c.remove.ensures.updates.0) c.in_ok-put_behind.ensures.holds c.in_ok-put_behind.ensures.marked inv.later c.in_ok-put_behind.ensures.grown;
       opened = λ fa rises.
-          let nodes = pages_by old_node_of (fresh first 1) in
-          let same = same_by old_node_of (fresh first 1) (fresh now 1) (reads_stays first now inv.stays) fa in
-          let here = subst (λ nodes. AreOpened nodes c.args.leaves.now c.legs.next n n c.legs.opened.entries) (sym same) (inv.opened fa rises) in
-          let on = c.in-Ok.ensures.on (inv.stays.keeps.faithful ∙ fa) rises here in
-          opened_taken nodes c.args.leaves.now c.in-Ok.next n c.open_next.new.opened.entries c.remove.new.self.entries
-          (subst (λ nodes. AreOpened nodes c.args.leaves.now c.in-Ok.next n (n + 1) c.open_next.new.opened.entries) same on) c.remove.ensures.updates.0;
+          opened_taken (pages_by old_node_of (fresh first 1)) c.args.leaves.now c.in-Ok.next n c.open_next.new.opened.entries c.remove.new.self.entries
+          (opened_on first now inv.stays fa (inv.opened fa rises) (λ f. c.in-Ok.ensures.on f rises)) c.remove.ensures.updates.0;
     }
 
 pub returns-clause-brought : goal.returns-clause-brought
@@ -105,63 +136,40 @@ returns-in_err-put_behind-clause-later g c = later_trans g.I.Listed c.args.index
 
 pub returns-in_err-put_behind-clause-marked : goal.returns-in_err-put_behind-clause-marked
 returns-in_err-put_behind-clause-marked g c = λ fa sound empty marked list have numbered.
-    let first = g.S.PageStore.seen c.args.old.now in
-    let now = g.S.PageStore.seen c.legs.old in
-    let inv = c.legs.invariant in
-    let n = c.legs.ordinal-counter in
-    let b = inv.brought fa sound empty list have numbered in
-    let same = same_by old_node_of (fresh first 1) (fresh now 1) (reads_stays first now inv.stays) fa in
-    let stand = c.in-Ok.ensures.opened (inv.stays.keeps.faithful ∙ fa) list b.stand (subst (λ nodes. HaveLegsOf nodes c.args.leaves.now list) (sym same) have) in
-    let at : lookup (nat_eq n) c.open_next.new.opened.entries ≡ Some c.in-Some.leg = sym c.remove.ensures.value ∙ c.in-Some.is in
-    c.put_behind.ensures.marked (next_waits g.I.Listed c.args.index.now c.legs.index c.legs.opened.entries c.open_next.new.opened.entries c.legs.waiting.items n c.args.legs list b numbered stand c.in-Some.leg at) (b.marked marked)
+    let k = next_refused g c fa sound empty list have numbered in
+    c.put_behind.ensures.marked (next_waits g.I.Listed k) (k.brought.marked marked)
 
 pub returns-in_err-put_behind-clause-store : goal.returns-in_err-put_behind-clause-store
 returns-in_err-put_behind-clause-store g c = λ e.
     let p = err_from_is_err_and c.from_residual.result c.from_residual.ensures.1 in
     inr (risen_after (g.I.Listed.faults c.args.index.now) (g.I.Listed.faults c.legs.index) (g.I.Listed.faults c.put_behind.new.index) c.legs.invariant.later.faults
-    (c.put_behind.ensures.store (subst (λ r. IsErrOf r Store) (p.1 ∙ ap (λ x. Err x) p.2 ∙ sym c.in_err-put_behind.was) e)))
+    (c.put_behind.ensures.store (subst (λ r. IsErrOf r index.Store) (p.1 ∙ ap (λ x. Err x) p.2 ∙ sym c.in_err-put_behind.was) e)))
 
 pub returns-in-Err-clause-store : goal.returns-in-Err-clause-store
 returns-in-Err-clause-store g c = λ e.
     inl (risen_after (g.S.PageStore.seen c.args.old.now).faults (g.S.PageStore.seen c.legs.old).faults (g.S.PageStore.seen c.open_next.new.store).faults c.legs.invariant.stays.keeps.faults
-    (store_failed (g.S.PageStore.seen c.legs.old) (g.S.PageStore.seen c.open_next.new.store) c.in-Err.fault c.in-Err.ensures.caused (sym c.of_tree.ensures ∙ same_err c.of_tree.result Store e)))
+    (store_failed (g.S.PageStore.seen c.legs.old) (g.S.PageStore.seen c.open_next.new.store) c.in-Err.fault c.in-Err.ensures.caused (sym c.of_tree.ensures ∙ same_err c.of_tree.result index.Store e)))
 
 pub returns-in-Err-clause-only : goal.returns-in-Err-clause-only
 returns-in-Err-clause-only g c = λ fa sound empty list have each numbered.
-    let first = g.S.PageStore.seen c.args.old.now in
-    let now = g.S.PageStore.seen c.legs.old in
     let inv = c.legs.invariant in
-    let same = same_by old_node_of (fresh first 1) (fresh now 1) (reads_stays first now inv.stays) fa in
+    let same = same_nodes (g.S.PageStore.seen c.args.old.now) (g.S.PageStore.seen c.legs.old) inv.stays fa in
     subst MayRefuseLeg (sym c.of_tree.ensures)
     (allowed_leg c.in-Err.fault (c.in-Err.ensures.only (inv.stays.keeps.faithful ∙ fa) (subst (λ nodes. AreReadable nodes c.args.leaves.now) (sym same) each.readable)))
 
 pub returns-in_default-clause-only : goal.returns-in_default-clause-only
 returns-in_default-clause-only g c = λ fa sound empty list have each numbered.
-    let first = g.S.PageStore.seen c.args.old.now in
-    let now = g.S.PageStore.seen c.legs.old in
-    let inv = c.legs.invariant in
     let n = c.legs.ordinal-counter in
-    let nodes = pages_by old_node_of (fresh first 1) in
-    let same = same_by old_node_of (fresh first 1) (fresh now 1) (reads_stays first now inv.stays) fa in
-    let here = subst (λ nodes. AreOpened nodes c.args.leaves.now c.legs.next n n c.legs.opened.entries) (sym same) (inv.opened fa each.rises) in
-    let on = c.in-Ok.ensures.on (inv.stays.keeps.faithful ∙ fa) each.rises here in
+    let nodes = pages_by old_node_of (fresh (g.S.PageStore.seen c.args.old.now) 1) in
     let there = next_opened nodes c.args.leaves.now c.in-Ok.next n c.args.legs list c.open_next.new.opened.entries each numbered c.legs-test.true
-    (subst (λ nodes. AreOpened nodes c.args.leaves.now c.in-Ok.next n (n + 1) c.open_next.new.opened.entries) same on) in
+    (opened_on (g.S.PageStore.seen c.args.old.now) (g.S.PageStore.seen c.legs.old) c.legs.invariant.stays fa (c.legs.invariant.opened fa each.rises) (λ f. c.in-Ok.ensures.on f each.rises)) in
     not_none c.remove.result c.in_default.not-Some (subst IsSome (sym c.remove.ensures.value) there)
 
 pub returns-in_err-put_behind-clause-only : goal.returns-in_err-put_behind-clause-only
 returns-in_err-put_behind-clause-only g c =
     let p = err_from_is_err_and c.from_residual.result c.from_residual.ensures.1 in
     rw (p.1, p.2) (λ fa sound empty list have each numbered.
-    let first = g.S.PageStore.seen c.args.old.now in
-    let now = g.S.PageStore.seen c.legs.old in
-    let inv = c.legs.invariant in
-    let n = c.legs.ordinal-counter in
-    let b = inv.brought fa sound empty list have numbered in
-    let same = same_by old_node_of (fresh first 1) (fresh now 1) (reads_stays first now inv.stays) fa in
-    let stand = c.in-Ok.ensures.opened (inv.stays.keeps.faithful ∙ fa) list b.stand (subst (λ nodes. HaveLegsOf nodes c.args.leaves.now list) (sym same) have) in
-    let at : lookup (nat_eq n) c.open_next.new.opened.entries ≡ Some c.in-Some.leg = sym c.remove.ensures.value ∙ c.in-Some.is in
-    c.in_err-put_behind.ensures.only (next_waits g.I.Listed c.args.index.now c.legs.index c.legs.opened.entries c.open_next.new.opened.entries c.legs.waiting.items n c.args.legs list b numbered stand c.in-Some.leg at))
+    c.in_err-put_behind.ensures.only (next_waits g.I.Listed (next_refused g c fa sound empty list have numbered)))
 
 pub returns-in-Err-clause-works : goal.returns-in-Err-clause-works
 returns-in-Err-clause-works g c = λ fa sound empty list have numbered e. works_leg (fresh (g.S.PageStore.seen c.legs.old) 1) (fresh (g.S.PageStore.seen c.open_next.new.store) 1) c.in-Err.fault c.in-Err.ensures.caused (sym c.of_tree.ensures ∙ e)
@@ -172,16 +180,8 @@ returns-in_default-clause-works g c = λ fa sound empty list have numbered. dama
 pub returns-in_err-put_behind-clause-works : goal.returns-in_err-put_behind-clause-works
 returns-in_err-put_behind-clause-works g c =
     let p = err_from_is_err_and c.from_residual.result c.from_residual.ensures.1 in
-    rw (p.1, p.2) (λ fa sound empty list have numbered.
-    let first = g.S.PageStore.seen c.args.old.now in
-    let now = g.S.PageStore.seen c.legs.old in
-    let inv = c.legs.invariant in
-    let n = c.legs.ordinal-counter in
-    let b = inv.brought fa sound empty list have numbered in
-    let same = same_by old_node_of (fresh first 1) (fresh now 1) (reads_stays first now inv.stays) fa in
-    let stand = c.in-Ok.ensures.opened (inv.stays.keeps.faithful ∙ fa) list b.stand (subst (λ nodes. HaveLegsOf nodes c.args.leaves.now list) (sym same) have) in
-    let at : lookup (nat_eq n) c.open_next.new.opened.entries ≡ Some c.in-Some.leg = sym c.remove.ensures.value ∙ c.in-Some.is in
-    λ e. subst MayRefuseLeg e (c.in_err-put_behind.ensures.only (next_waits g.I.Listed c.args.index.now c.legs.index c.legs.opened.entries c.open_next.new.opened.entries c.legs.waiting.items n c.args.legs list b numbered stand c.in-Some.leg at)))
+    rw (p.1, p.2) (λ fa sound empty list have numbered e.
+    subst MayRefuseLeg e (c.in_err-put_behind.ensures.only (next_waits g.I.Listed (next_refused g c fa sound empty list have numbered))))
 
 pub returns-clause-lacks : goal.returns-clause-lacks
 returns-clause-lacks g c = λ e fa sound empty list have numbered.
@@ -191,13 +191,5 @@ returns-clause-lacks g c = λ e fa sound empty list have numbered.
 pub returns-in_err-put_behind-clause-lacks : goal.returns-in_err-put_behind-clause-lacks
 returns-in_err-put_behind-clause-lacks g c = λ e fa sound empty list have numbered.
     let p = err_from_is_err_and c.from_residual.result c.from_residual.ensures.1 in
-    let first = g.S.PageStore.seen c.args.old.now in
-    let now = g.S.PageStore.seen c.legs.old in
-    let inv = c.legs.invariant in
-    let n = c.legs.ordinal-counter in
-    let b = inv.brought fa sound empty list have numbered in
-    let same = same_by old_node_of (fresh first 1) (fresh now 1) (reads_stays first now inv.stays) fa in
-    let stand = c.in-Ok.ensures.opened (inv.stays.keeps.faithful ∙ fa) list b.stand (subst (λ nodes. HaveLegsOf nodes c.args.leaves.now list) (sym same) have) in
-    let at : lookup (nat_eq n) c.open_next.new.opened.entries ≡ Some c.in-Some.leg = sym c.remove.ensures.value ∙ c.in-Some.is in
-    next_lacks g.I.Listed c.args.index.now c.legs.index c.legs.opened.entries c.open_next.new.opened.entries c.legs.waiting.items n c.args.legs list b numbered stand c.in-Some.leg at c.put_behind.new.index inv.later
-    (c.put_behind.ensures.lacks (subst (λ r. IsErrOf r StoreFull) (p.1 ∙ ap (λ x. Err x) p.2 ∙ sym c.in_err-put_behind.was) e))
+    next_lacks g.I.Listed (next_refused g c fa sound empty list have numbered) c.put_behind.new.index c.legs.invariant.later
+    (c.put_behind.ensures.lacks (subst (λ r. IsErrOf r index.StoreFull) (p.1 ∙ ap (λ x. Err x) p.2 ∙ sym c.in_err-put_behind.was) e))

@@ -1,4 +1,4 @@
-use Rattle.std.proofs.Common.{◌∙◌, sym, subst}
+use Rattle.std.proofs.Common.{◌∙◌, ℕ, List, IsTrue, sym, subst}
 use Rattle.legs.specs.Blocks.{joined}
 use Rattle.pagecache.specs.Cache.{fresh}
 use Rattle.version1.specs.OldForm.{old_node_of}
@@ -7,17 +7,21 @@ use Rattle.tbtree.specs.Descent.{sort_by_ordinal}
 use Rattle.legs.specs.Index.{MayRefuseLeg}
 use Rattle.legs.specs.Boxes.{BoxView}
 use Rattle.legs.specs.Legs.{LegView}
+use Rattle.legs.specs.declared.tracks.Track.{Track}
 use Rattle.tbtree.specs.Faults.{IfNamed}
 use Rattle.tbtree.specs.Nodes.{Pages}
+use Rattle.tbtree.specs.declared.tree.Place.{Place}
 use Rattle.version1.specs.OldLegs.{pages_of_old, HaveEachOf, HaveLegsOf, IsNumbered}
 use Rattle.version1.specs.Naming.{IfDamagedInIndex, IsNamedOfLeaves}
 use Rattle.treecheck.specs.Walking.{pages_by}
+use Rattle.treecheck.specs.declared.walking.Met.{Met}
 use Rattle.version1.proofs.NamedLemmas.{named_leg, none_named}
 use Rattle.version1.proofs.OldLemmas.{same_old, stays_read}
 use Rattle.version1.proofs.OpenedLemmas.{allowed_leg, works_leg}
 use Rattle.version1.proofs.SurveyedLemmas.{have_each}
 use Rattle.version1.proofs.TakingLemmas.{held_list, legs_are, on_err, on_ok, stays_trans}
 use Rattle.treecheck.proofs.WalkedLemmas.{same_by}
+use Rattle.version1.proofs.old_legs.take_old_legs.Given as given
 use Rattle.version1.proofs.old_legs.take_old_legs.Goals as goal
 
 pub returns-in-Err-clause-stays : goal.returns-in-Err-clause-stays
@@ -30,69 +34,57 @@ returns-clause-stays g c =
     (stays_read (g.S.PageStore.seen c.args.old.now) (g.S.PageStore.seen c.survey_leaves.new.store) (g.met.S.PageStore.lawful c.args.old.now) (g.met.S.PageStore.lawful c.survey_leaves.new.store) c.survey_leaves.ensures.reads.only)
     c.bring.ensures.stays
 
+-- what the chains hold, in order, and what the leaves, as they are given on, have of it
+record Listed (chains nodes : Pages LegView BoxView) (most rows total : ℕ) (places : List Place) (tracks : List Track) (leaves : List Met) (legs : ℕ) : Type 0 where
+  list : List LegView
+  held : HoldChains chains most rows total places tracks list
+  have : HaveLegsOf nodes leaves list
+  each : HaveEachOf nodes leaves list
+  numbered : IsNumbered legs list
+
+-- the store that the leaves were read from is as faithful as it was
+still : (g : given.Over) (c : goal.After-drop-survey-3 g) → IsTrue (g.S.PageStore.seen c.args.old.now).is_faithful → IsTrue (g.S.PageStore.seen c.survey_leaves.new.store).is_faithful
+still g c fa = c.survey_leaves.ensures.reads.only.store.faithful ∙ fa
+
+-- a survey says what the chains hold
+listed : (g : given.Over) (c : goal.After-drop-survey-3 g) → IsTrue (g.S.PageStore.seen c.args.old.now).is_faithful
+    → Listed (pages_of_old (g.S.PageStore.seen c.args.old.now)) (pages_by old_node_of (fresh (g.S.PageStore.seen c.survey_leaves.new.store) 1)) c.args.most c.args.rows c.args.tracks.now.legs c.args.places.now c.args.tracks.now.tracks c.as_slice.result.now c.leg_count.result
+listed g c fa =
+    let first = g.S.PageStore.seen c.args.old.now in
+    let total = c.args.tracks.now.legs in
+    let places = c.args.places.now in
+    let tracks = c.args.tracks.now.tracks in
+    let nodes = pages_by old_node_of (fresh first 1) in
+    let leaves = c.in-Ok.survey.leaves.items in
+    let s = c.in-Ok.ensures.surveyed fa in
+    let list = sort_by_ordinal (legs_on nodes (joined s.chains)) in
+    let n = c.laws.ensures.numbered (legs_on nodes (joined s.chains)) total s.once in
+    let held : HoldChains nodes c.args.most c.args.rows total places tracks list = held_list nodes c.args.most c.args.rows total places tracks leaves s n in
+    let have : HaveLegsOf nodes leaves list = legs_are nodes c.args.most c.args.rows total places tracks leaves s n in
+    let each : HaveEachOf nodes leaves list = have_each nodes c.args.most c.args.rows total places tracks leaves c.requires s list n.0 in
+    let same = sym (same_by old_node_of (fresh first 1) (fresh (g.S.PageStore.seen c.survey_leaves.new.store) 1) c.survey_leaves.ensures.reads.only fa) in
+    let back = sym c.as_slice.ensures.value in
+    record {
+      list = list;
+      held = subst (λ nodes. HoldChains nodes c.args.most c.args.rows total places tracks list) (same_old first (g.met.S.PageStore.lawful c.args.old.now) fa) held;
+      have = subst (λ nodes. HaveLegsOf nodes c.as_slice.result.now list) same (subst (λ ms. HaveLegsOf nodes ms list) back have);
+      each = subst (λ nodes. HaveEachOf nodes c.as_slice.result.now list) same (subst (λ ms. HaveEachOf nodes ms list) back each);
+      numbered = subst (λ n. IsNumbered n list) (sym c.leg_count.ensures) (record { in_turn = c.laws.ensures.chained nodes c.args.most c.args.rows total places tracks list c.requires held; numbers = n.1 });
+    }
+
 pub returns-clause-brought : goal.returns-clause-brought
 returns-clause-brought g c = on_ok c.bring.result (λ h fa sound empty.
-    let first = g.S.PageStore.seen c.args.old.now in
-    let mid = g.S.PageStore.seen c.survey_leaves.new.store in
-    let reads = c.survey_leaves.ensures.reads.only in
-    let total = c.args.tracks.now.legs in
-    let places = c.args.places.now in
-    let tracks = c.args.tracks.now.tracks in
-    let nodes = pages_by old_node_of (fresh first 1) in
-    let leaves = c.in-Ok.survey.leaves.items in
-    let s = c.in-Ok.ensures.surveyed fa in
-    let list = sort_by_ordinal (legs_on nodes (joined s.chains)) in
-    let n = c.laws.ensures.numbered (legs_on nodes (joined s.chains)) total s.once in
-    let held : HoldChains nodes c.args.most c.args.rows total places tracks list = held_list nodes c.args.most c.args.rows total places tracks leaves s n in
-    let numbered : IsNumbered total list = record { in_turn = c.laws.ensures.chained nodes c.args.most c.args.rows total places tracks list c.requires held; numbers = n.1 } in
-    let have : HaveLegsOf nodes leaves list = legs_are nodes c.args.most c.args.rows total places tracks leaves s n in
-    let there = subst (λ nodes. HaveLegsOf nodes c.as_slice.result.now list) (sym (same_by old_node_of (fresh first 1) (fresh mid 1) reads fa)) (subst (λ ms. HaveLegsOf nodes ms list) (sym c.as_slice.ensures.value) have) in
-    let total_is = subst (λ n. IsNumbered n list) (sym c.leg_count.ensures) numbered in
-    let r = h (reads.store.faithful ∙ fa) sound empty list there total_is in
-    (r.0, subst (HoldChains (pages_of_old first) c.args.most c.args.rows total places tracks) (sym r.1) (subst (λ nodes. HoldChains nodes c.args.most c.args.rows total places tracks list) (same_old first (g.met.S.PageStore.lawful c.args.old.now) fa) held))) c.bring.ensures.brought
+    let l = listed g c fa in
+    let r = h (still g c fa) sound empty l.list l.have l.numbered in
+    (r.0, subst (HoldChains (pages_of_old (g.S.PageStore.seen c.args.old.now)) c.args.most c.args.rows c.args.tracks.now.legs c.args.places.now c.args.tracks.now.tracks) (sym r.1) l.held)) c.bring.ensures.brought
 
 pub returns-clause-marked : goal.returns-clause-marked
-returns-clause-marked g c = λ fa sound empty marked.
-    let first = g.S.PageStore.seen c.args.old.now in
-    let mid = g.S.PageStore.seen c.survey_leaves.new.store in
-    let reads = c.survey_leaves.ensures.reads.only in
-    let total = c.args.tracks.now.legs in
-    let places = c.args.places.now in
-    let tracks = c.args.tracks.now.tracks in
-    let nodes = pages_by old_node_of (fresh first 1) in
-    let leaves = c.in-Ok.survey.leaves.items in
-    let s = c.in-Ok.ensures.surveyed fa in
-    let list = sort_by_ordinal (legs_on nodes (joined s.chains)) in
-    let n = c.laws.ensures.numbered (legs_on nodes (joined s.chains)) total s.once in
-    let held : HoldChains nodes c.args.most c.args.rows total places tracks list = held_list nodes c.args.most c.args.rows total places tracks leaves s n in
-    let numbered : IsNumbered total list = record { in_turn = c.laws.ensures.chained nodes c.args.most c.args.rows total places tracks list c.requires held; numbers = n.1 } in
-    let have : HaveLegsOf nodes leaves list = legs_are nodes c.args.most c.args.rows total places tracks leaves s n in
-    let there = subst (λ nodes. HaveLegsOf nodes c.as_slice.result.now list) (sym (same_by old_node_of (fresh first 1) (fresh mid 1) reads fa)) (subst (λ ms. HaveLegsOf nodes ms list) (sym c.as_slice.ensures.value) have) in
-    let total_is = subst (λ n. IsNumbered n list) (sym c.leg_count.ensures) numbered in
-    c.bring.ensures.marked (reads.store.faithful ∙ fa) sound empty marked list there total_is
+returns-clause-marked g c = λ fa sound empty marked. (let l = listed g c fa in c.bring.ensures.marked (still g c fa) sound empty marked l.list l.have l.numbered)
 
 pub returns-clause-lacks : goal.returns-clause-lacks
 returns-clause-lacks g c = λ e fa sound empty.
-    let first = g.S.PageStore.seen c.args.old.now in
-    let mid = g.S.PageStore.seen c.survey_leaves.new.store in
-    let reads = c.survey_leaves.ensures.reads.only in
-    let total = c.args.tracks.now.legs in
-    let places = c.args.places.now in
-    let tracks = c.args.tracks.now.tracks in
-    let nodes = pages_by old_node_of (fresh first 1) in
-    let leaves = c.in-Ok.survey.leaves.items in
-    let s = c.in-Ok.ensures.surveyed fa in
-    let list = sort_by_ordinal (legs_on nodes (joined s.chains)) in
-    let n = c.laws.ensures.numbered (legs_on nodes (joined s.chains)) total s.once in
-    let held : HoldChains nodes c.args.most c.args.rows total places tracks list = held_list nodes c.args.most c.args.rows total places tracks leaves s n in
-    let numbered : IsNumbered total list = record { in_turn = c.laws.ensures.chained nodes c.args.most c.args.rows total places tracks list c.requires held; numbers = n.1 } in
-    let have : HaveLegsOf nodes leaves list = legs_are nodes c.args.most c.args.rows total places tracks leaves s n in
-    let there = subst (λ nodes. HaveLegsOf nodes c.as_slice.result.now list) (sym (same_by old_node_of (fresh first 1) (fresh mid 1) reads fa)) (subst (λ ms. HaveLegsOf nodes ms list) (sym c.as_slice.ensures.value) have) in
-    let total_is = subst (λ n. IsNumbered n list) (sym c.leg_count.ensures) numbered in (
-      list,
-      subst (λ nodes. HoldChains nodes c.args.most c.args.rows total places tracks list) (same_old first (g.met.S.PageStore.lawful c.args.old.now) fa) held,
-      c.bring.ensures.lacks e (reads.store.faithful ∙ fa) sound empty list there total_is,
-    )
+    let l = listed g c fa in
+    (l.list, l.held, c.bring.ensures.lacks e (still g c fa) sound empty l.list l.have l.numbered)
 
 pub returns-in-Err-clause-only : goal.returns-in-Err-clause-only
 returns-in-Err-clause-only g c = λ fa sound empty agrees legs held.
@@ -102,74 +94,22 @@ returns-in-Err-clause-only g c = λ fa sound empty agrees legs held.
 
 pub returns-clause-only : goal.returns-clause-only
 returns-clause-only g c = on_err c.bring.result (λ fault h fa sound empty agrees legs held.
-    let first = g.S.PageStore.seen c.args.old.now in
-    let mid = g.S.PageStore.seen c.survey_leaves.new.store in
-    let reads = c.survey_leaves.ensures.reads.only in
-    let total = c.args.tracks.now.legs in
-    let places = c.args.places.now in
-    let tracks = c.args.tracks.now.tracks in
-    let nodes = pages_by old_node_of (fresh first 1) in
-    let leaves = c.in-Ok.survey.leaves.items in
-    let s = c.in-Ok.ensures.surveyed fa in
-    let list = sort_by_ordinal (legs_on nodes (joined s.chains)) in
-    let n = c.laws.ensures.numbered (legs_on nodes (joined s.chains)) total s.once in
-    let all : HoldChains nodes c.args.most c.args.rows total places tracks list = held_list nodes c.args.most c.args.rows total places tracks leaves s n in
-    let numbered : IsNumbered total list = record { in_turn = c.laws.ensures.chained nodes c.args.most c.args.rows total places tracks list c.requires all; numbers = n.1 } in
-    let have : HaveLegsOf nodes leaves list = legs_are nodes c.args.most c.args.rows total places tracks leaves s n in
-    let each : HaveEachOf nodes leaves list = have_each nodes c.args.most c.args.rows total places tracks leaves c.requires s list n.0 in
-    let same = sym (same_by old_node_of (fresh first 1) (fresh mid 1) reads fa) in
-    let back = sym c.as_slice.ensures.value in
-    let there = subst (λ nodes. HaveLegsOf nodes c.as_slice.result.now list) same (subst (λ ms. HaveLegsOf nodes ms list) back have) in
-    let each_there = subst (λ nodes. HaveEachOf nodes c.as_slice.result.now list) same (subst (λ ms. HaveEachOf nodes ms list) back each) in
-    let total_is = subst (λ n. IsNumbered n list) (sym c.leg_count.ensures) numbered in
-    h (reads.store.faithful ∙ fa) sound empty list there each_there total_is) c.bring.ensures.only
+    let l = listed g c fa in
+    h (still g c fa) sound empty l.list l.have l.each l.numbered) c.bring.ensures.only
 
 pub returns-in-Err-clause-works : goal.returns-in-Err-clause-works
 returns-in-Err-clause-works g c = λ fa sound empty e. works_leg (fresh (g.S.PageStore.seen c.args.old.now) 1) (fresh (g.S.PageStore.seen c.survey_leaves.new.store) 1) c.in-Err.fault c.in-Err.ensures.reads.caused (sym c.of_tree.ensures ∙ e)
 
 pub returns-clause-works : goal.returns-clause-works
 returns-clause-works g c = on_err c.bring.result (λ fault h fa sound empty.
-    let first = g.S.PageStore.seen c.args.old.now in
-    let mid = g.S.PageStore.seen c.survey_leaves.new.store in
-    let reads = c.survey_leaves.ensures.reads.only in
-    let total = c.args.tracks.now.legs in
-    let places = c.args.places.now in
-    let tracks = c.args.tracks.now.tracks in
-    let nodes = pages_by old_node_of (fresh first 1) in
-    let leaves = c.in-Ok.survey.leaves.items in
-    let s = c.in-Ok.ensures.surveyed fa in
-    let list = sort_by_ordinal (legs_on nodes (joined s.chains)) in
-    let n = c.laws.ensures.numbered (legs_on nodes (joined s.chains)) total s.once in
-    let held : HoldChains nodes c.args.most c.args.rows total places tracks list = held_list nodes c.args.most c.args.rows total places tracks leaves s n in
-    let numbered : IsNumbered total list = record { in_turn = c.laws.ensures.chained nodes c.args.most c.args.rows total places tracks list c.requires held; numbers = n.1 } in
-    let have : HaveLegsOf nodes leaves list = legs_are nodes c.args.most c.args.rows total places tracks leaves s n in
-    let there = subst (λ nodes. HaveLegsOf nodes c.as_slice.result.now list) (sym (same_by old_node_of (fresh first 1) (fresh mid 1) reads fa)) (subst (λ ms. HaveLegsOf nodes ms list) (sym c.as_slice.ensures.value) have) in
-    let total_is = subst (λ n. IsNumbered n list) (sym c.leg_count.ensures) numbered in
-    h (reads.store.faithful ∙ fa) sound empty list there total_is) c.bring.ensures.works
+    let l = listed g c fa in
+    h (still g c fa) sound empty l.list l.have l.numbered) c.bring.ensures.works
 
 pub returns-clause-named : goal.returns-clause-named
 returns-clause-named g c = on_err c.bring.result (λ fault h fa sound empty few.
-    let first = g.S.PageStore.seen c.args.old.now in
-    let mid = g.S.PageStore.seen c.survey_leaves.new.store in
-    let reads = c.survey_leaves.ensures.reads.only in
-    let total = c.args.tracks.now.legs in
-    let places = c.args.places.now in
-    let tracks = c.args.tracks.now.tracks in
-    let nodes = pages_by old_node_of (fresh first 1) in
-    let leaves = c.in-Ok.survey.leaves.items in
-    let s = c.in-Ok.ensures.surveyed fa in
-    let list = sort_by_ordinal (legs_on nodes (joined s.chains)) in
-    let n = c.laws.ensures.numbered (legs_on nodes (joined s.chains)) total s.once in
-    let all : HoldChains nodes c.args.most c.args.rows total places tracks list = held_list nodes c.args.most c.args.rows total places tracks leaves s n in
-    let numbered : IsNumbered total list = record { in_turn = c.laws.ensures.chained nodes c.args.most c.args.rows total places tracks list c.requires all; numbers = n.1 } in
-    let have : HaveLegsOf nodes leaves list = legs_are nodes c.args.most c.args.rows total places tracks leaves s n in
-    let each : HaveEachOf nodes leaves list = have_each nodes c.args.most c.args.rows total places tracks leaves c.requires s list n.0 in
-    let same = sym (same_by old_node_of (fresh first 1) (fresh mid 1) reads fa) in
-    let back = sym c.as_slice.ensures.value in
-    let there = subst (λ nodes. HaveLegsOf nodes c.as_slice.result.now list) same (subst (λ ms. HaveLegsOf nodes ms list) back have) in
-    let each_there = subst (λ nodes. HaveEachOf nodes c.as_slice.result.now list) same (subst (λ ms. HaveEachOf nodes ms list) back each) in
-    let total_is = subst (λ n. IsNumbered n list) (sym c.leg_count.ensures) numbered in
-    none_named (IsNamedOfLeaves (pages_of_old first) c.args.most c.args.rows places tracks) fault (h (reads.store.faithful ∙ fa) sound empty list there each_there total_is)) c.bring.ensures.only
+    let l = listed g c fa in
+    none_named (IsNamedOfLeaves (pages_of_old (g.S.PageStore.seen c.args.old.now)) c.args.most c.args.rows c.args.places.now c.args.tracks.now.tracks) fault
+    (h (still g c fa) sound empty l.list l.have l.each l.numbered)) c.bring.ensures.only
 
 pub returns-in-Err-clause-named : goal.returns-in-Err-clause-named
 returns-in-Err-clause-named g c = λ fa sound empty few.
