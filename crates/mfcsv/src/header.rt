@@ -76,7 +76,8 @@ fn dimension_of(text: &str) -> Option<Dimension>
     }
 }
 
-/// The time unit that a text names, a blank one `sec`; `None` where it names none that files may have.
+/// The time unit that a text without blanks at its ends names, an empty one `sec`; `None` where it names
+/// none that files may have.
 #[tactic(auto, unfolding(crate::specs::Header::unit_of))]
 pub fn unit_of(text: &str) -> Option<Unit>
     ensures { result ≡ unit_of text.now }

@@ -209,7 +209,7 @@ pub record CloseCall (db : DbView) (left : Store)
   -- be the database sound or not, its pages say its catalogue and its index
   pub kept : OnOk result (db.begun ≡ true → IsMarked db.index.cache
       → HoldsIndex left (catalogue_of db) db.index)
-  -- so it is where page 0 is not marked, as of parts that were put together, once it says whether the index has begun
+  -- so it is, marked or not, where page 0 is the header of a store of this version, finished or not
   pub holds_headed : OnOk result (IsSoundDb db → db.begun ≡ true → (begun : Bool)
       → SaysState begun (payload_of db.index.cache 0)
       → HoldsBook left db.index.tree.shape db.limits db.book)

@@ -58,7 +58,8 @@ module _ {I : Type 0} (g : Ghosts I) (core : CoreView I) where
   abbrev pub AreLive : PeriodView → ℕ → List LegView → Type 0
   AreLive period feature legs =
       (IsOver core.tracks feature period × (legs ≡ []))
-      ⊎ ((IsOver core.tracks feature period → ⊥) × g.tells core.index (OfFeature feature (Some period)) legs)
+      ⊎ ((IsOver core.tracks feature period → ⊥)
+      × g.tells core.index (OfFeature feature (Some period)) legs)
 
   -- what a sieve keeps of them
   abbrev pub AreSievedLive : Sieve → PeriodView → ℕ → List LegView → Type 0

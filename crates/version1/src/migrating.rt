@@ -237,7 +237,7 @@ pub fn migrate<S: PageStore, T: PageStore>(
         → IsKeptOld (stored_payload (S.seen old.old)) (S.seen old.old).count c tree places → ⊥)
         → NamesOldStop (stored_payload (S.seen old.old)) (S.seen old.old).count back.1) }
 
-    // The new store is said to be full only where it has no room for the legs.
+    // The new store is said to be full only where it may have no page, or has no room for the legs.
     ensures full { IfErr result (λ back. back.1 ≡ CatalogueFault.StoreFull
         → IsTrue (S.seen old.old).is_faithful → IsTrue (T.seen new).is_faithful
         → IsRightlyFull (S.seen old.old) (T.seen new) (T.seen back.0)) }
