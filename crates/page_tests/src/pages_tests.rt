@@ -182,7 +182,25 @@ fn a_rest_is_no_page(rt: HostRuntime) -> Result<(), Fail> {
 
 /// A file of that many bytes which fails each call but `len`.
 #[derive(Drop)]
-struct Broken(u64);
+struct Broken {
+    len: u64,
+    refusals: u64,
+}
+
+impl Broken {
+    ghost use Rattle.std.specs.Prelude.{◌≤◌, IsErr};
+    ghost use Rattle.pages.specs.Store.{HasRisen};
+
+    /// Refuses a call.
+    fn refused(&mut self) -> io::Result<()>
+        ensures refused { IsErr result }
+        ensures cause { HasRisen self.old.refusals self.new.refusals }
+        ensures later { self.old.refusals ≤ self.new.refusals }
+    {
+        self.refusals = self.refusals.saturating_add(1);
+        Err(io::Error::from(io::ErrorKind::Other))
+    }
+}
 
 impl ByteFile for Broken {
     ghost use Rattle.std.specs.Prelude.{true, None};
@@ -191,26 +209,31 @@ impl ByteFile for Broken {
 
     ghost is_synced = { λ _. true };
 
+    ghost refusals = { λ f. f.refusals };
+
     fn len(&self) -> io::Result<u64> {
-        Ok(self.0)
+        Ok(self.len)
     }
 
     fn read_at(&mut self, _place: u64, _buf: &mut [u8]) -> io::Result<()> {
-        Err(io::Error::from(io::ErrorKind::Other))
+        self.refused()
     }
 
     fn write_at(&mut self, _place: u64, _buf: &[u8]) -> io::Result<()> {
-        Err(io::Error::from(io::ErrorKind::Other))
+        self.refused()
     }
 
     fn sync(&mut self) -> io::Result<()> {
-        Err(io::Error::from(io::ErrorKind::Other))
+        self.refused()
     }
 }
 
 #[test]
 fn a_file_that_fails(rt: HostRuntime) -> Result<(), Fail> {
-    let mut store = FileStore::new(Broken(4096))?;
+    let mut store = FileStore::new(Broken {
+        len: 4096,
+        refusals: 0,
+    })?;
     assert!(rt; got(&mut store, 0).is_none());
     assert!(rt; !put(&mut store, 1, &worked_page()));
     assert!(rt; store.sync() == Err(StoreFault));

@@ -1,6 +1,7 @@
 //! The contract of a file of bytes.
 ghost use Rattle.std.specs.Prelude.{ℕ, ◌≡◌, ◌≤◌, ◌+◌, Bool, IsTrue, List, Option, length, slice_range, IfOk, IfSome, OnErr, OnOk};
 ghost use Rattle.pages.specs.Bytes.{StaysAround};
+ghost use Rattle.pages.specs.Store.{HasRisen};
 
 use std::io;
 
@@ -16,6 +17,10 @@ pub trait ByteFile {
     /// nothing counts as synced.
     ghost is_synced: { Self → Bool };
 
+    /// How often it was refused to read or write bytes, or to make them last. It never falls; 2^64 - 1 stands for any
+    /// greater number.
+    ghost refusals: { Self → ℕ };
+
     /// How many bytes there are.
     fn len(&self) -> io::Result<u64>
         ensures { IfOk result (λ n. IfSome (bytes self.now) (λ xs. n ≡ length xs)) };
@@ -25,7 +30,9 @@ pub trait ByteFile {
         ensures read { OnOk result (IfSome (bytes self.old)
             (λ xs. slice_range xs place (place + length buf.new) ≡ buf.new)) }
         ensures stays { bytes self.new ≡ bytes self.old }
-        ensures synced { is_synced self.new ≡ is_synced self.old };
+        ensures synced { is_synced self.new ≡ is_synced self.old }
+        ensures cause { OnErr result (HasRisen (refusals self.old) (refusals self.new)) }
+        ensures later { refusals self.old ≤ refusals self.new };
 
     /// Writes bytes from a place on, which may be the file's end. A refusal leaves any bytes
     /// there, and no other byte changes.
@@ -34,11 +41,15 @@ pub trait ByteFile {
         ensures written { OnOk result (IfSome (bytes self.new)
             (λ xs. slice_range xs place (place + length buf.now) ≡ buf.now)) }
         ensures around { StaysAround place (place + length buf.now)
-            (bytes self.old) (bytes self.new) };
+            (bytes self.old) (bytes self.new) }
+        ensures cause { OnErr result (HasRisen (refusals self.old) (refusals self.new)) }
+        ensures later { refusals self.old ≤ refusals self.new };
 
     /// Makes what was written last, as on a disk.
     fn sync(&mut self) -> io::Result<()>
         ensures stays { bytes self.new ≡ bytes self.old }
         ensures synced { OnOk result (IsTrue (is_synced self.new)) }
-        ensures unsynced { OnErr result (is_synced self.new ≡ is_synced self.old) };
+        ensures unsynced { OnErr result (is_synced self.new ≡ is_synced self.old) }
+        ensures cause { OnErr result (HasRisen (refusals self.old) (refusals self.new)) }
+        ensures later { refusals self.old ≤ refusals self.new };
 }

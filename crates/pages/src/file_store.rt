@@ -2,7 +2,6 @@
 ghost use Rattle.std.specs.Prelude.{◌≡◌, ◌<◌, ◌≤◌, ◌^◌, ◌-◌, ◌/◌, is_some, length, IfOk, IsErr, IfSome, IsTrue};
 ghost use Rattle.std.proofs.Common.{arith};
 ghost use Rattle.pages.specs.Bytes.{HoldPages, known_pages, whole_pages};
-ghost use Rattle.pages.specs.Store.{HasRisen};
 ghost use Rattle.pages.specs.declared.unsynced.Unsynced.TheVariants.{Nothing, Others};
 
 use crate::byte_file::ByteFile;
@@ -16,13 +15,12 @@ use std::rt::Files;
 /// A store in a file: page n is the bytes from 4,096 n to 4,096 n + 4,095.
 ///
 /// It is faithful where the file tells its bytes. Each page is read and written by one call of the
-/// file. What the file held before may be unsynced, and nothing is once its own `sync` has answered
-/// `Ok`.
+/// file, and it fails only where the file refuses one, which counts as a fault. What the file held
+/// before may be unsynced, and nothing is once its own `sync` has answered `Ok`.
 #[derive(Drop)]
 pub struct FileStore<F: ByteFile = SystemFile<File>> {
     file: F,
     count: u32,
-    faults: u64,
     unsynced: Unsynced,
     ghost small: { count < 2 ^ 32 },
     ghost fits: { HoldPages 4096 count (F.bytes file) },
@@ -37,11 +35,12 @@ impl<F: ByteFile> FileStore<F> {
     where
         F: Drop,
         ensures pages { IfOk result (λ s. IfSome (F.bytes file)
-            (λ xs. ⟦<FileStore<F> as PageStore>⟧.seen s ≡ whole_pages xs)) }
+            (λ xs. ⟦<FileStore<F> as PageStore>⟧.seen s
+            ≡ record (whole_pages xs) { faults = F.refusals file })) }
         ensures most { IfOk result (λ s.
             (⟦<FileStore<F> as PageStore>⟧.seen s).most ≡ 2 ^ 32 - 1) }
         ensures faults { IfOk result (λ s.
-            (⟦<FileStore<F> as PageStore>⟧.seen s).faults ≡ 0) }
+            (⟦<FileStore<F> as PageStore>⟧.seen s).faults ≡ F.refusals file) }
         ensures unsynced { IfOk result (λ s.
             (⟦<FileStore<F> as PageStore>⟧.seen s).unsynced ≡ Others) }
         ensures too_long { IfSome (F.bytes file)
@@ -56,21 +55,8 @@ impl<F: ByteFile> FileStore<F> {
         Ok(FileStore {
             file,
             count,
-            faults: 0,
             unsynced: Unsynced::Others,
         })
-    }
-
-    /// Counts a fault.
-    fn failed(&mut self) -> StoreFault
-        ensures file { self.new.file ≡ self.old.file }
-        ensures count { self.new.count ≡ self.old.count }
-        ensures unsynced { self.new.unsynced ≡ self.old.unsynced }
-        ensures cause { HasRisen self.old.faults self.new.faults }
-        ensures faults { self.old.faults ≤ self.new.faults }
-    {
-        self.faults = self.faults.saturating_add(1);
-        StoreFault
     }
 }
 
@@ -102,7 +88,7 @@ impl<F: ByteFile> PageStore for FileStore<F> {
     ghost seen = { λ s. record {
       count = s.count;
       most = 2 ^ 32 - 1;
-      faults = s.faults;
+      faults = F.refusals s.file;
       unsynced = s.unsynced;
       is_faithful = is_some (F.bytes s.file);
       pages = known_pages 4096 s.count (F.bytes s.file);
@@ -125,7 +111,7 @@ impl<F: ByteFile> PageStore for FileStore<F> {
     fn read(&mut self, number: u32, page: &mut [u8; 4096]) -> Result<(), StoreFault> {
         match self.file.read_at(u64::from(number) * 4096, page) {
             Ok(()) => Ok(()),
-            Err(_) => Err(self.failed()),
+            Err(_) => Err(StoreFault),
         }
     }
 
@@ -138,7 +124,7 @@ impl<F: ByteFile> PageStore for FileStore<F> {
                 }
                 Ok(())
             }
-            Err(_) => Err(self.failed()),
+            Err(_) => Err(StoreFault),
         }
     }
 
@@ -148,7 +134,7 @@ impl<F: ByteFile> PageStore for FileStore<F> {
                 self.unsynced = Unsynced::Nothing;
                 Ok(())
             }
-            Err(_) => Err(self.failed()),
+            Err(_) => Err(StoreFault),
         }
     }
 }

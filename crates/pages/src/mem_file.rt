@@ -1,6 +1,7 @@
 //! A file of bytes in memory.
 ghost use Rattle.std.specs.Prelude.{◌≡◌, ◌≤◌, ◌+◌, length, true, Some};
 ghost use Rattle.std.specs.List.{replace_range};
+ghost use Rattle.pages.specs.Store.{HasRisen};
 
 use crate::byte_file::ByteFile;
 use std::io;
@@ -9,6 +10,8 @@ use std::io;
 #[derive(Drop)]
 pub struct MemFile {
     bytes: Vec<u8>,
+    /// How many calls were refused.
+    refusals: u64,
 }
 
 /// Writes bytes over as many from a place on.
@@ -22,9 +25,20 @@ fn overwrite(bytes: &mut [u8], start: usize, buf: &[u8])
 impl MemFile {
     /// A file that holds these bytes.
     pub fn new(bytes: Vec<u8>) -> MemFile
-        ensures { ⟦<MemFile as ByteFile>⟧.bytes result ≡ Some bytes.items }
+        ensures bytes { ⟦<MemFile as ByteFile>⟧.bytes result ≡ Some bytes.items }
+        ensures refusals { ⟦<MemFile as ByteFile>⟧.refusals result ≡ 0 }
     {
-        MemFile { bytes }
+        MemFile { bytes, refusals: 0 }
+    }
+
+    /// Counts a refusal.
+    fn refused(&mut self, kind: io::ErrorKind) -> io::Error
+        ensures bytes { self.new.bytes ≡ self.old.bytes }
+        ensures cause { HasRisen self.old.refusals self.new.refusals }
+        ensures later { self.old.refusals ≤ self.new.refusals }
+    {
+        self.refusals = self.refusals.saturating_add(1);
+        io::Error::from(kind)
     }
 }
 
@@ -32,6 +46,8 @@ impl ByteFile for MemFile {
     ghost bytes = { λ f. Some f.bytes.items };
 
     ghost is_synced = { λ _. true };
+
+    ghost refusals = { λ f. f.refusals };
 
     fn len(&self) -> io::Result<u64> {
         Ok(self.bytes.len() as u64)
@@ -44,17 +60,17 @@ impl ByteFile for MemFile {
                 buf.copy_from_slice(&self.bytes[start..end]);
                 Ok(())
             }
-            _ => Err(io::Error::from(io::ErrorKind::UnexpectedEof)),
+            _ => Err(self.refused(io::ErrorKind::UnexpectedEof)),
         }
     }
 
     fn write_at(&mut self, place: u64, buf: &[u8]) -> io::Result<()> {
         let start = place as usize;
         let Some(end) = start.checked_add(buf.len()) else {
-            return Err(io::Error::from(io::ErrorKind::FileTooLarge));
+            return Err(self.refused(io::ErrorKind::FileTooLarge));
         };
-        if end > self.bytes.len() {
-            self.bytes.resize(end, 0)?;
+        if end > self.bytes.len() && self.bytes.resize(end, 0).is_err() {
+            return Err(self.refused(io::ErrorKind::OutOfMemory));
         }
         overwrite(&mut self.bytes, start, buf);
         Ok(())

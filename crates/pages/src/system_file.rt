@@ -1,5 +1,6 @@
 //! A file of the system.
-ghost use Rattle.std.specs.Prelude.{true, None};
+ghost use Rattle.std.specs.Prelude.{◌≡◌, ◌≤◌, true, None, IfOk, OnErr};
+ghost use Rattle.pages.specs.Store.{HasRisen};
 
 use crate::byte_file::ByteFile;
 use std::fs::{File, OpenFile};
@@ -12,15 +13,30 @@ use std::rt::Files;
 #[derive(Drop)]
 pub struct SystemFile<F = File> {
     file: F,
+    /// How many calls were refused.
+    refusals: u64,
+}
+
+/// Counts a call that was refused.
+fn counted(refusals: &mut u64, answer: io::Result<()>) -> io::Result<()>
+    ensures cause { OnErr result (HasRisen refusals.old refusals.new) }
+    ensures later { refusals.old ≤ refusals.new }
+{
+    if answer.is_err() {
+        *refusals = refusals.saturating_add(1);
+    }
+    answer
 }
 
 impl<F: FileExt + OpenFile> SystemFile<F> {
     /// Opens the file at a path to be read and written, and makes it, empty, where there is none.
-    pub fn open<R: Files<File = F>>(rt: &R, path: &str) -> io::Result<SystemFile<F>> {
+    pub fn open<R: Files<File = F>>(rt: &R, path: &str) -> io::Result<SystemFile<F>>
+        ensures { IfOk result (λ file. ⟦<SystemFile<F> as ByteFile>⟧.refusals file ≡ 0) }
+    {
         let mut options = File::options();
         options.read(true).write(true).create(true);
         let file = options.open(rt, path)?;
-        Ok(SystemFile { file })
+        Ok(SystemFile { file, refusals: 0 })
     }
 }
 
@@ -29,19 +45,21 @@ impl<F: FileExt + OpenFile> ByteFile for SystemFile<F> {
 
     ghost is_synced = { λ _. true };
 
+    ghost refusals = { λ f. f.refusals };
+
     fn len(&self) -> io::Result<u64> {
         Ok(self.file.metadata()?.len())
     }
 
     fn read_at(&mut self, place: u64, buf: &mut [u8]) -> io::Result<()> {
-        self.file.read_exact_at(buf, place)
+        counted(&mut self.refusals, self.file.read_exact_at(buf, place))
     }
 
     fn write_at(&mut self, place: u64, buf: &[u8]) -> io::Result<()> {
-        self.file.write_all_at(buf, place)
+        counted(&mut self.refusals, self.file.write_all_at(buf, place))
     }
 
     fn sync(&mut self) -> io::Result<()> {
-        self.file.sync_all()
+        counted(&mut self.refusals, self.file.sync_all())
     }
 }

@@ -5,7 +5,7 @@ use Rattle.pages.proofs.file_store.FileStorePageStore.write.Goals as goal
 pub returns-then-number-self-clause-written : goal.returns-then-number-self-clause-written
 returns-then-number-self-clause-written g c =
     let e = c.in-Ok.ensures in record {
-      keeps = record { most = refl; faithful = still_told _ _ _ _ e.around; faults = omega arith };
+      keeps = record { most = refl; faithful = still_told _ _ _ _ e.around; faults = e.later };
       count = omega arith;
       pages = λ f. known-written 4096 c.args.number c.args.self.now.count _ _ _ (g.F.ByteFile.bytes c.args.self.now.file) (g.F.ByteFile.bytes c.write_at.new.self) c.args.page.now f
           (omega arith) c.requires.next (ap (λ k. k * 4096) c.from.ensures) (omega arith) e.written e.around;
@@ -14,7 +14,7 @@ returns-then-number-self-clause-written g c =
 pub returns-else-number-self-clause-written : goal.returns-else-number-self-clause-written
 returns-else-number-self-clause-written g c =
     let e = c.in-Ok.ensures in record {
-      keeps = record { most = refl; faithful = still_told _ _ _ _ e.around; faults = omega arith };
+      keeps = record { most = refl; faithful = still_told _ _ _ _ e.around; faults = e.later };
       count = omega arith;
       pages = λ f. known-written 4096 c.args.number c.args.self.now.count _ _ _ (g.F.ByteFile.bytes c.args.self.now.file) (g.F.ByteFile.bytes c.write_at.new.self) c.args.page.now f
           (omega arith) c.requires.next (ap (λ k. k * 4096) c.from.ensures) (omega arith) e.written e.around;
@@ -23,10 +23,10 @@ returns-else-number-self-clause-written g c =
 pub returns-in-Err-clause-torn : goal.returns-in-Err-clause-torn
 returns-in-Err-clause-torn g c =
     let e = c.in-Err.ensures in record {
-      keeps = record { most = refl; faithful = rw c.failed.ensures.file (still_told _ _ _ _ e.around); faults = c.failed.ensures.faults };
-      count = inl c.failed.ensures.count;
+      keeps = record { most = refl; faithful = still_told _ _ _ _ e.around; faults = e.later };
+      count = inl refl;
       pages = λ f.
           let size : length c.args.page.now ≡ 4096 = omega arith in
-          rw (c.failed.ensures.file, c.failed.ensures.count) (known-torn 4096 c.args.number c.args.self.now.count _ _ (g.F.ByteFile.bytes c.args.self.now.file) (g.F.ByteFile.bytes c.write_at.new.self) f
-          c.requires.next (ap (λ k. k * 4096) c.from.ensures) size e.around);
+          known-torn 4096 c.args.number c.args.self.now.count _ _ (g.F.ByteFile.bytes c.args.self.now.file) (g.F.ByteFile.bytes c.write_at.new.self) f
+          c.requires.next (ap (λ k. k * 4096) c.from.ensures) size e.around;
     }
