@@ -15,10 +15,11 @@ use Rattle.mfcsv.specs.declared.FileFault.TheVariants.{Refused, Memory}
 use Rattle.mfcsv.specs.declared.reader.Stage.{Stage}
 use Rattle.mfcsv.specs.declared.reader.Stage.TheVariants.{Reading, Over, Failed}
 
--- what is left of a file: what it says, a number that falls with each record, whether it is known that
--- there is none, and the fault that was told, if one was
+-- what is left of a file: what it says, the header lines that were read, a number that falls with each record, whether
+-- it is known that there is none, and the fault that was told, if one was
 pub record LeftView : Type 0 where
   pub text : Result File (Code × ℕ)
+  pub heads : HeadsView
   pub most : ℕ
   pub is_over : Bool
   pub told : Option FileFault

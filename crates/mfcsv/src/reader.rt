@@ -160,6 +160,7 @@ impl<'a> Model for FileReader<'a> {
 
     ghost view = { λ a. record {
       text = text_at a.stage a.unread.number a.unread.heads (rows_left a.unread.reader);
+      heads = a.unread.heads;
       most = length (bytes_left a.unread.reader);
       is_over = is_over a.stage;
       told = told_by a.stage;
@@ -181,10 +182,10 @@ fn end_of(heads: &Heads)
 }
 
 impl<'a> FileReader<'a> {
-    ghost use Rattle.std.specs.Prelude.{◌≡◌, ◌<◌, true, Err, IfErr, IfOk, IfSome, None, Some};
+    ghost use Rattle.std.specs.Prelude.{◌≡◌, ◌<◌, [], true, Err, IfErr, IfOk, IfSome, None, Some};
     ghost use Rattle.mfcsv.specs.declared.Code.{Code};
     ghost use Rattle.mfcsv.specs.declared.FileFault.{FileFault};
-    ghost use Rattle.mfcsv.specs.FileText.{file_of_bytes};
+    ghost use Rattle.mfcsv.specs.FileText.{file_of_bytes, file_with};
     ghost use Rattle.mfcsv.specs.Left.{GivesHead, ReadsRecord};
 
     /// A reader of all of a file. Byte order marks at the very start are dropped.
@@ -238,15 +239,18 @@ impl<'a> FileReader<'a> {
         }
     }
 
-    /// The head of the file, once there is no data record any more.
+    /// The head of the file, once there is no data record any more; before that, the one that the header lines make
+    /// that were read.
     ///
     /// # Errors
-    /// F8 at 0 where a header line is missing; a fault that was told.
+    /// F8 at 0 where one of these is missing; a fault that was told.
     pub fn into_head(self) -> Result<Head, FileFault>
         ensures head { self.entry.is_over ≡ true → GivesHead result self.entry.text }
-        ensures told { (fault : FileFault) → self.entry.told ≡ Some fault → result ≡ Err fault }
+        ensures so_far { self.entry.told ≡ None → GivesHead result
+            (file_with self.entry.heads.bounds self.entry.heads.columns []) }
         ensures missing { self.entry.told ≡ None
             → IfErr result (λ fault. fault ≡ FileFault.Refused Code.F8 0) }
+        ensures told { (fault : FileFault) → self.entry.told ≡ Some fault → result ≡ Err fault }
     {
         let FileReader { unread, stage } = self;
         match stage {
