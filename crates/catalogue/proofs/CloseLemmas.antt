@@ -29,7 +29,7 @@ use Rattle.header.specs.Front.{IsUnfinished, finished}
 use Rattle.catalogue.specs.Closing.{IsNoStoreFault}
 use Rattle.header.proofs.FrontLemmas.{begins_unfinished}
 use Rattle.catalogue.specs.Finishing.{Finishes, IsNotFinished, IsUnwrittenHeader, SaysUnfinished}
-use Rattle.catalogue.specs.Holding.{index_over, HoldsBook, IsOfBook, IsUnfinishedStore}
+use Rattle.catalogue.specs.Holding.{HoldsBook, IsOfBook, IsUnfinishedStore}
 use Rattle.register.specs.Lasting.{payload_fault, tracks_of, IsKept, IsLawful, IsLawfulFeature, IsStop, IsWithin, Says}
 use Rattle.register.specs.Saved.{CatalogueView, KeepsFront}
 use Rattle.register.specs.Saving.{contents_of, end_of, feature_at, features_of, HasFew, IsCatalogue, IsSavingStop}
@@ -41,7 +41,7 @@ use Rattle.register.specs.declared.fault.CatalogueFault.TheVariants as fault
 use Rattle.catalogue.proofs.AgainLemmas.{unfinished_may, MayFinish}
 use Rattle.catalogue.proofs.OpenLemmas.{fresh_payload}
 use Rattle.catalogue.proofs.ResultLemmas.{map_range, none_some, some_none, some_same}
-use Rattle.catalogue.proofs.RestLemmas.{BesideLaws, StateLaw}
+use Rattle.catalogue.proofs.RestLemmas.{book_held, BesideLaws, StateLaw}
 
 map_both : {X Y Z : Type 0} (g : Y → Z) (f : X → Y) (xs : List X) → map g (map f xs) ≡ map (λ x. g (f x)) xs
 map_both g f [] = refl
@@ -314,16 +314,7 @@ module _ (laws : BesideLaws) (states : StateLaw) (c : CatalogueView) (i : IndexV
       }
 
   pub closed_holds : HoldsBook s i.tree.shape c.limits book
-  closed_holds = record {
-    catalogue = c;
-    tree = i.tree;
-    places = i.places;
-    kept = kept;
-    shape_is = refl;
-    of = of;
-    sound = subst (λ n. IsSound (index_over s i.tree i.places n)) (sound.counted ∙ ap length legs) (laws.sound i (fresh s 1) [] beside sound);
-    legs = laws.content i (fresh s 1) [] beside ∙ legs;
-  }
+  closed_holds = book_held laws c i book s kept beside sound of legs
 
 -- what refuses to finish a store where there is a page 0 refuses to save it
 stop_saves : (e : CatalogueFault) → IsStop e → IsSavingStop e

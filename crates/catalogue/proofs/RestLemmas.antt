@@ -95,6 +95,20 @@ stored_in : (s : Store) (n : ℕ) → payload_in s.pages n ≡ stored_payload s 
 unfolding payload_in stored_payload
 stored_in s n = refl
 
+-- a store that keeps a sound index of a book, in pages that say the same, holds the book
+pub book_held : (laws : BesideLaws) (c : CatalogueView) (i : IndexView) (book : Book) (s : Store) → IsKept (stored_payload s) s.count c i.tree i.places → IsBeside i.cache (fresh s 1) → IsSound i → IsOfBook c.limits book c → content i ≡ book.legs
+    → HoldsBook s i.tree.shape c.limits book
+book_held laws c i book s kept beside sound of legs = record {
+  catalogue = c;
+  tree = i.tree;
+  places = i.places;
+  kept = kept;
+  shape_is = refl;
+  of = of;
+  sound = subst (λ n. IsSound (index_over s i.tree i.places n)) (sound.counted ∙ ap length legs) (laws.sound i (fresh s 1) [] beside sound);
+  legs = laws.content i (fresh s 1) [] beside ∙ legs;
+}
+
 -- at rest the pages of a store hold the book that a sound index and a catalogue are of
 module _ (laws : BesideLaws) (c : CatalogueView) (i : IndexView) (book : Book) (f : IsTrue i.cache.store.is_faithful) (lawful : IsLawful i.cache.store) (settled : IsSettled i.cache)
     (rest : IsAtRest c i) (sound : IsSound i) (of : IsOfBook c.limits book c) (legs : content i ≡ book.legs) where
@@ -119,17 +133,5 @@ module _ (laws : BesideLaws) (c : CatalogueView) (i : IndexView) (book : Book) (
   beside : IsBeside i.cache (fresh s 1)
   beside = laws.alike i.cache (fresh s 1) refl (sym sound.count) refl (λ _. payloads)
 
-  legs_are : i.legs ≡ length book.legs
-  legs_are = sound.counted ∙ ap (λ l. length l) legs
-
   pub rest_holds : HoldsBook s i.tree.shape c.limits book
-  rest_holds = record {
-    catalogue = c;
-    tree = i.tree;
-    places = i.places;
-    kept = kept;
-    shape_is = refl;
-    of = of;
-    sound = subst (λ n. IsSound (index_over s i.tree i.places n)) legs_are (laws.sound i (fresh s 1) [] beside sound);
-    legs = laws.content i (fresh s 1) [] beside ∙ legs;
-  }
+  rest_holds = book_held laws c i book s kept beside sound of legs

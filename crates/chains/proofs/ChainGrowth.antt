@@ -1,34 +1,27 @@
 -- What a chain tells once legs are put into it, whoever wrote its pages.
-use Rattle.std.proofs.Common.{ℕ, zero, suc, Bool, true, false, cond, ◌==◌, ◌+◌, ◌*◌, ◌-◌, ◌%◌, ◌<◌, ◌≤◌, ◌≡◌, ◌≢◌, ◌∙◌, ◌⊎◌, inl, inr, All, List, [], ◌∷◌, ◌++◌, take, drop, length, length-append, append_assoc, refl, sym, ap, arith, subst, ⊎_elim, Option, Some, None, slice_get, eq-eqb}
-use Rattle.std.specs.Prelude.{min}
+use Rattle.std.proofs.Common.{ℕ, zero, suc, Bool, true, false, cond, ◌-◌, ◌%◌, ◌<◌, ◌≡◌, ◌≢◌, ◌∙◌, ◌⊎◌, inl, inr, All, List, [], ◌∷◌, ◌++◌, take, drop, length, refl, sym, ap, arith, subst, ⊎_elim, Option, Some, None, slice_get}
 use Rattle.std.specs.Int.{div_ceil}
 use Rattle.std.specs.List.{filter, Contains}
-use Rattle.std.proofs.lemmas.Bool.{cases_eq, eqb-true}
-use Rattle.std.proofs.lemmas.List.{append-nil, length-take, length-take-le, length-drop, take-append-drop}
-use Rattle.std.proofs.lemmas.List.Elements.{All-drop, All-head, All-tail, Contains-append_cases}
-use Rattle.std.proofs.lemmas.Grind.{div_ceil_times}
-use Rattle.std.proofs.lemmas.Int.{clamps}
-use Rattle.legs.specs.BlockLemmas.{all_pass}
+use Rattle.std.proofs.lemmas.Bool.{cases_eq}
+use Rattle.std.proofs.lemmas.List.Elements.{All-drop, All-head, Contains-append_cases}
 use Rattle.legs.specs.Boxes.{BoxView}
 use Rattle.legs.specs.Costs.{ShapeView, leg_feature}
 use Rattle.legs.specs.GroupLemmas.{some_same}
 use Rattle.legs.specs.Legs.{LegView}
 use Rattle.legs.specs.Places.{no_leg}
-use Rattle.tbtree.specs.Filling.{place_with, with_behind, AreLeaves, FillsLeaves, HasMore, IsLeafAt, KeepsLegs}
+use Rattle.tbtree.specs.Filling.{with_behind, AreLeaves, FillsLeaves, IsLeafAt}
 use Rattle.tbtree.specs.Joining.{left_over, taken_by_last}
 use Rattle.tbtree.specs.Nodes.{ALeaf, LeafView, Node, Pages, with_legs, with_next}
-use Rattle.tbtree.specs.Stands.{head_or_zero, last_or, new_leaf, owner}
+use Rattle.tbtree.specs.Stands.{head_or_zero, new_leaf, owner}
 use Rattle.tbtree.specs.declared.tree.Place.{Place}
 use Rattle.tbtree.proofs.ElementLemmas.{no_element, only_one}
 use Rattle.tbtree.proofs.Widening.{leaf_same}
-use Rattle.chains.specs.Chains.{chain_fault, chain_legs, fault_from, feature_of, is_stray, last_link, legs_in, link_past, previous_of, IsChain, IsPlaceChain, NamesNone, walk}
+use Rattle.chains.specs.Chains.{chain_fault, chain_legs, fault_from, feature_of, is_stray, last_link, legs_in, link_past, previous_of, IsChain, IsPlaceChain, walk}
 use Rattle.chains.specs.Links.{is_end, is_kept, is_linked, link_back, spot_of}
 use Rattle.chains.specs.declared.leaves.Link.{Link}
 use Rattle.chains.specs.declared.leaves.Spot.{Spot}
 use Rattle.timebase.specs.Period.{PeriodView}
 use Rattle.chains.proofs.FaultLemmas.{fits_to, linked_of, whole_from, whole_to}
-use Rattle.chains.proofs.BackLemmas.{is_chain, unwound, walk_is, Counted, IsBack, IsRunPage}
-use Rattle.chains.proofs.PlaceLemmas.{never_stops}
 
 -- pages that have the same leaves of a feature
 pub record AreAlike (old new : Pages LegView BoxView) (g : ℕ) : Type 0 where

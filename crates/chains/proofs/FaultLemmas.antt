@@ -1,6 +1,6 @@
 -- A chain is whole exactly where it breaks at no page.
 use Rattle.std.proofs.Common.{ℕ, zero, suc, ◌≡◌, ◌<◌, ◌==◌, Bool, true, false, cond, length, refl, sym, ap, ◌∙◌, arith, ⊎_elim, Option, Some, None, IsTrue}
-use Rattle.std.specs.Prelude.{not, ◌&&◌, ◌≢◌, IfSome, option_map}
+use Rattle.std.specs.Prelude.{not, ◌&&◌, ◌≢◌, option_map}
 use Rattle.std.specs.Int.{div_ceil}
 use Rattle.std.proofs.lemmas.Bool.{and_parts, and_from, and_cases, not-true, not-false, not_from_true, not_from_false, eqb-true, eqb-false, eq-eqb, ne_eqb}
 use Rattle.timebase.specs.Period.{PeriodView}

@@ -1,5 +1,5 @@
 -- What a feature's own chain tells once legs are put into it, whoever wrote its pages.
-use Rattle.std.proofs.Common.{ℕ, zero, suc, Bool, true, false, cond, ◌==◌, ◌+◌, ◌*◌, ◌-◌, ◌%◌, ◌<◌, ◌≤◌, ◌≤ℤ◌, ◌≡◌, ◌≢◌, ◌∙◌, ◌⊎◌, inl, inr, All, List, [], ◌∷◌, ◌++◌, take, drop, length, length-append, append_assoc, refl, sym, ap, arith, subst, ⊎_elim, Option, Some, None, slice_get, eq-eqb, ℤ}
+use Rattle.std.proofs.Common.{ℕ, zero, suc, true, false, cond, ◌==◌, ◌+◌, ◌*◌, ◌-◌, ◌%◌, ◌<◌, ◌≤◌, ◌≤ℤ◌, ◌≡◌, ◌≢◌, ◌∙◌, All, List, [], ◌∷◌, ◌++◌, take, drop, length, length-append, append_assoc, refl, sym, ap, arith, subst, Option, Some, None, slice_get, eq-eqb, ℤ}
 use Rattle.std.specs.Prelude.{int_lt, min}
 use Rattle.std.specs.Int.{div_ceil}
 use Rattle.std.specs.List.{filter}
@@ -17,11 +17,11 @@ use Rattle.legs.specs.Legs.{LegView}
 use Rattle.tbtree.specs.Filling.{place_with, with_behind, AreLeaves, FillsLeaves, HasMore}
 use Rattle.tbtree.specs.Joining.{left_over, taken_by_last}
 use Rattle.tbtree.specs.Nodes.{ALeaf, LeafView, Pages, with_legs, with_next}
-use Rattle.tbtree.specs.Stands.{head_or_zero, last_or, new_leaf, owner}
+use Rattle.tbtree.specs.Stands.{head_or_zero, last_or, new_leaf}
 use Rattle.tbtree.specs.declared.tree.Place.{Place}
 use Rattle.tbtree.proofs.Widening.{leaf_same}
-use Rattle.chains.specs.Chains.{chain_legs, last_link, legs_in, previous_of, walk, IsChain, IsLinked, IsPlaceChain, NamesNone}
-use Rattle.chains.specs.Links.{is_end, is_kept, link_back, spot_of}
+use Rattle.chains.specs.Chains.{chain_legs, last_link, legs_in, previous_of, walk, IsChain, IsPlaceChain}
+use Rattle.chains.specs.Links.{is_end, is_kept, link_back}
 use Rattle.chains.specs.declared.leaves.Link.{Link}
 use Rattle.timebase.specs.Period.{PeriodView}
 use Rattle.chains.proofs.ChainGrowth.{owner_is}

@@ -65,5 +65,9 @@ pub reads_then : {T : Type 0} (a b c : Cache) (r : Result T TreeFault) → OnlyR
 reads_then a b c (Ok y) p q = record { only = reads_trans a b c p q.only; caused = tt }
 reads_then a b c (Err e) p q = record { only = reads_trans a b c p q.only; caused = caused_after a b c e p q.caused }
 
+-- and a refusal after calls that were not refused, whatever it is that each call gives
+pub reads_refused : {T U : Type 0} (a b c : Cache) (e : TreeFault) → OnlyReads a b → Reads {T = T} b c (Err e) → Reads {T = U} a c (Err e)
+reads_refused a b c e p q = record { only = reads_trans a b c p q.only; caused = caused_after a b c e p q.caused }
+
 -- what a call after another may cite
 pub ruleset reading = (reads_trans, reads_refl, caused_after)

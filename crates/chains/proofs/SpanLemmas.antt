@@ -107,21 +107,17 @@ not_live period leg off =
     ]) refl
 
 module _ (period : PeriodView) (span : LeafSpan) where
+  none_live : ((leg : LegView) → IsWithin span.start span.end leg → int_max leg.t0 period.start ≤ℤ int_min leg.t1 period.end → ⊥) → (legs : List LegView) → All (IsWithin span.start span.end) legs → filter (is_live period) legs ≡ []
+  none_live off [] all = refl
+  none_live off (leg ∷ legs) all =
+      let out = not_live period leg (off leg (All-head (IsWithin span.start span.end) leg legs all)) in
+      ap (λ b. cond b (leg ∷ filter (is_live period) legs) (filter (is_live period) legs)) out ∙ none_live off legs (All-tail (IsWithin span.start span.end) leg legs all)
+
   none_after : period.end <ℤ span.start → (legs : List LegView) → All (IsWithin span.start span.end) legs → filter (is_live period) legs ≡ []
-  none_after off [] all = refl
-  none_after off (leg ∷ legs) all =
-      let h = All-head (IsWithin span.start span.end) leg legs all in
-      let starts = h.starts in
-      let out = not_live period leg (λ live. omega (arith, ints, clamps, live, off, starts)) in
-      ap (λ b. cond b (leg ∷ filter (is_live period) legs) (filter (is_live period) legs)) out ∙ none_after off legs (All-tail (IsWithin span.start span.end) leg legs all)
+  none_after off = none_live (λ leg h live. let starts = h.starts in omega (arith, ints, clamps, live, off, starts))
 
   none_before : span.end <ℤ period.start → (legs : List LegView) → All (IsWithin span.start span.end) legs → filter (is_live period) legs ≡ []
-  none_before off [] all = refl
-  none_before off (leg ∷ legs) all =
-      let h = All-head (IsWithin span.start span.end) leg legs all in
-      let ends = h.ends in
-      let out = not_live period leg (λ live. omega (arith, ints, clamps, live, off, ends)) in
-      ap (λ b. cond b (leg ∷ filter (is_live period) legs) (filter (is_live period) legs)) out ∙ none_before off legs (All-tail (IsWithin span.start span.end) leg legs all)
+  none_before off = none_live (λ leg h live. let ends = h.ends in omega (arith, ints, clamps, live, off, ends))
 
   begins_not : period.end <ℤ span.start → period.start ≤ℤ period.end → (legs : List LegView) → All (IsWithin span.start span.end) legs → begins_before period legs ≡ false
   begins_not off order [] all = refl

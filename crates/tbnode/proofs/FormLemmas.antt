@@ -1,15 +1,12 @@
 -- What the form of a leaf and of an inner page says.
-use Rattle.std.proofs.Common.{◌≡◌, ◌≢◌, ℕ, ◌-◌, ◌<◌, ◌≤◌, ◌==◌, true, false, ◌&&◌, ◌||◌, if◌then◌else◌, List, length, Some, None, slice_get, refl, sym, ap, ◌∙◌, arith, nat_le, nat_lt}
+use Rattle.std.proofs.Common.{◌≡◌, ℕ, ◌-◌, ◌<◌, ◌≤◌, ◌==◌, true, ◌&&◌, ◌||◌, List, length, Some, slice_get, sym, ap, ◌∙◌, arith, nat_le, nat_lt}
 use Rattle.std.proofs.lemmas.Bool.{leb-true, eqb-true, le-leb, eq-eqb}
 use Rattle.legs.specs.Legs.{LegView}
 use Rattle.legs.specs.Boxes.{BoxView}
-use Rattle.pages.specs.declared.payload.Kind.{Kind}
-use Rattle.pages.specs.declared.payload.Kind.TheVariants.{Header, Leaf, Inner, Catalogue}
-use Rattle.pages.specs.declared.payload.Payload.{Payload}
-use Rattle.tbnode.specs.Nodes.{LeafView, EntryView, InnerView, Node, ALeaf, AnInner, as_leaf, as_inner}
+use Rattle.tbnode.specs.Nodes.{LeafView, EntryView, InnerView}
 use Rattle.tbnode.specs.Parts.{number_at, slot, all_below}
 use Rattle.tbnode.specs.Layout.{is_leg}
-use Rattle.tbnode.specs.Form.{leg_count, leg_at, leaf_of, is_leg_at, is_leaf, level_of, entry_count, entry_at, inner_of, is_entry_at, is_inner, node_by, node_of}
+use Rattle.tbnode.specs.Form.{leg_count, leg_at, leaf_of, is_leg_at, is_leaf, level_of, entry_count, entry_at, inner_of, is_entry_at, is_inner}
 use Rattle.tbnode.proofs.ListLemmas.{and_left, and_right, and_both, length-made, get-made}
 
 pub record LeafForm (bytes : List ℕ) : Type 0 where
@@ -39,12 +36,8 @@ pub is_leaf-form : (bytes : List ℕ) → LeafForm bytes → is_leaf bytes ≡ t
 unfolding is_leaf
 is_leaf-form bytes f =
     let n = leg_count bytes in
-    let a = nat_le 1 n in
-    let b = nat_le n 50 in
-    let z = number_at 2 14 bytes == 0 in
-    let l = all_below (is_leg_at bytes) n in
-    and_both ((a && b) && z) l
-    (and_both (a && b) z (and_both a b (le-leb 1 n f.some) (le-leb n 50 f.room)) (eq-eqb (number_at 2 14 bytes) 0 f.zero))
+    and_both _ _
+    (and_both _ _ (and_both _ _ (le-leb 1 n f.some) (le-leb n 50 f.room)) (eq-eqb (number_at 2 14 bytes) 0 f.zero))
     f.legs
 
 pub record InnerForm (bytes : List ℕ) : Type 0 where
@@ -82,16 +75,10 @@ pub is_inner-form : (bytes : List ℕ) → InnerForm bytes → is_inner bytes �
 unfolding is_inner
 is_inner-form bytes f =
     let n = entry_count bytes in
-    let v = nat_le 1 (level_of bytes) in
-    let a = nat_le 1 n in
-    let b = nat_le n 72 in
-    let y = number_at 8 4 bytes == 0 in
-    let z = number_at 4 12 bytes == 0 in
-    let l = all_below (is_entry_at bytes) n in
-    and_both (((v && a) && b) && (y && z)) l
-    (and_both ((v && a) && b) (y && z)
-    (and_both (v && a) b (and_both v a (le-leb 1 (level_of bytes) f.above) (le-leb 1 n f.some)) (le-leb n 72 f.room))
-    (and_both y z (eq-eqb (number_at 8 4 bytes) 0 f.zeros) (eq-eqb (number_at 4 12 bytes) 0 f.zero)))
+    and_both _ _
+    (and_both _ _
+    (and_both _ _ (and_both _ _ (le-leb 1 (level_of bytes) f.above) (le-leb 1 n f.some)) (le-leb n 72 f.room))
+    (and_both _ _ (eq-eqb (number_at 8 4 bytes) 0 f.zeros) (eq-eqb (number_at 4 12 bytes) 0 f.zero)))
     f.entries
 
 pub leg_lawful : (bytes : List ℕ) (i : ℕ) → is_leg_at bytes i ≡ true → is_leg (slot 80 i bytes) ≡ true
@@ -135,57 +122,3 @@ leg_shown bytes v i l e h is = get-made (leg_at bytes) (leg_count bytes) i l v.l
 pub entry_shown : (bytes : List ℕ) (v : InnerView BoxView) (i : ℕ) (x : EntryView BoxView) → inner_of bytes ≡ v → i < length v.entries → x ≡ entry_at bytes i → slice_get v.entries i ≡ Some x
 unfolding inner_of
 entry_shown bytes v i x e h is = get-made (entry_at bytes) (entry_count bytes) i x v.entries (ap (λ w. w.entries) e) h is
-
-pub node_of-leaf : (p : Payload) → p.kind ≡ Leaf → is_leaf p.bytes ≡ true → node_of p ≡ Some (ALeaf (leaf_of p.bytes))
-unfolding node_of
-node_of-leaf p k e =
-    let n : Node LegView BoxView = ALeaf (leaf_of p.bytes) in
-    ap (λ j. node_by j p.bytes) k ∙ ap (λ b. if b then Some n else None) e
-
-pub node_of-inner : (p : Payload) → p.kind ≡ Inner → is_inner p.bytes ≡ true → node_of p ≡ Some (AnInner (inner_of p.bytes))
-unfolding node_of
-node_of-inner p k e =
-    let n : Node LegView BoxView = AnInner (inner_of p.bytes) in
-    ap (λ j. node_by j p.bytes) k ∙ ap (λ b. if b then Some n else None) e
-
-pub leaf-some : (p : Payload) (v : LeafView LegView) → p.kind ≡ Leaf → is_leaf p.bytes ≡ true → v ≡ leaf_of p.bytes → Some v ≡ as_leaf (node_of p)
-leaf-some p v k e is = ap Some is ∙ ap as_leaf (sym (node_of-leaf p k e))
-
-pub leaf-none : (p : Payload) → p.kind ≡ Leaf → is_leaf p.bytes ≡ false → None ≡ as_leaf (node_of p)
-unfolding node_of
-leaf-none p k e =
-    let n : Node LegView BoxView = ALeaf (leaf_of p.bytes) in
-    sym (ap (λ j. as_leaf (node_by j p.bytes)) k ∙ ap (λ b. as_leaf (if b then Some n else None)) e)
-
-no_leaf_by : (k : Kind) (bytes : List ℕ) → k ≢ Leaf → None ≡ as_leaf (node_by k bytes)
-no_leaf_by Header bytes h = refl
-no_leaf_by Leaf bytes h = absurd (h refl)
-no_leaf_by Inner bytes h =
-    let n : Node LegView BoxView = AnInner (inner_of bytes) in
-    elim (is_inner bytes) as (λ b. None ≡ as_leaf (if b then Some n else None)) [ true ↦ refl | false ↦ refl ]
-no_leaf_by Catalogue bytes h = refl
-
-pub leaf-other : (p : Payload) → p.kind ≢ Leaf → None ≡ as_leaf (node_of p)
-unfolding node_of
-leaf-other p h = no_leaf_by p.kind p.bytes h
-
-pub inner-some : (p : Payload) (v : InnerView BoxView) → p.kind ≡ Inner → is_inner p.bytes ≡ true → v ≡ inner_of p.bytes → Some v ≡ as_inner (node_of p)
-inner-some p v k e is = ap Some is ∙ ap as_inner (sym (node_of-inner p k e))
-
-pub inner-none : (p : Payload) → p.kind ≡ Inner → is_inner p.bytes ≡ false → None ≡ as_inner (node_of p)
-unfolding node_of
-inner-none p k e =
-    let n : Node LegView BoxView = AnInner (inner_of p.bytes) in
-    sym (ap (λ j. as_inner (node_by j p.bytes)) k ∙ ap (λ b. as_inner (if b then Some n else None)) e)
-
-no_inner_by : (k : Kind) (bytes : List ℕ) → k ≢ Inner → None ≡ as_inner (node_by k bytes)
-no_inner_by Header bytes h = refl
-no_inner_by Leaf bytes h =
-    let n : Node LegView BoxView = ALeaf (leaf_of bytes) in
-    elim (is_leaf bytes) as (λ b. None ≡ as_inner (if b then Some n else None)) [ true ↦ refl | false ↦ refl ]
-no_inner_by Inner bytes h = absurd (h refl)
-no_inner_by Catalogue bytes h = refl
-
-pub inner-other : (p : Payload) → p.kind ≢ Inner → None ≡ as_inner (node_of p)
-unfolding node_of
-inner-other p h = no_inner_by p.kind p.bytes h

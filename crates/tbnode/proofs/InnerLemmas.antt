@@ -1,63 +1,29 @@
 -- An inner page after a change.
-use Rattle.std.proofs.Common.{◌≡◌, ◌≢◌, ℕ, ◌+◌, ◌*◌, ◌^◌, ◌<◌, ◌≤◌, Bool, true, false, if◌then◌else◌, List, [], ◌∷◌, ◌++◌, length, Some, None, refl, sym, ap, ◌∙◌, arith, inl, inr, ⊎_elim, ◌⊎◌, replicate}
+use Rattle.std.proofs.Common.{◌≡◌, ◌≢◌, ℕ, ◌+◌, ◌*◌, ◌^◌, ◌<◌, ◌≤◌, true, List, [], ◌∷◌, ◌++◌, length, Some, sym, ap, ◌∙◌, arith, inl, inr, ⊎_elim, ◌⊎◌, replicate}
 use Rattle.std.specs.Option.{is_some, ForSome}
 use Rattle.std.specs.Prelude.{option_map}
 use Rattle.std.proofs.lemmas.Bool.Decides.{eqb_tells}
-use Rattle.std.proofs.lemmas.Bool.{false≢true, cases_lt}
+use Rattle.std.proofs.lemmas.Bool.{cases_lt}
 use Rattle.byteorder.specs.Endian.{big_bytes, big_number}
 use Rattle.legs.specs.Legs.{LegView}
 use Rattle.legs.specs.Boxes.{BoxView, cover_of}
-use Rattle.pages.specs.declared.payload.Kind.{Kind}
-use Rattle.pages.specs.declared.payload.Kind.TheVariants.{Header, Leaf, Inner, Catalogue}
+use Rattle.pages.specs.declared.payload.Kind.TheVariants.{Inner}
 use Rattle.pages.specs.declared.payload.Payload.{Payload}
-use Rattle.tbnode.specs.Nodes.{EntryView, InnerView, Node, ALeaf, AnInner, as_inner, with_entry, widened, with_wider}
+use Rattle.tbnode.specs.Nodes.{EntryView, Node, AnInner, as_inner, with_entry, widened, with_wider}
 use Rattle.tbnode.specs.Parts.{put, number_at, slot, all_below}
 use Rattle.tbnode.specs.Layout.{entry_bytes, entry_of, is_entry}
-use Rattle.tbnode.specs.Form.{leaf_of, is_leaf, level_of, entry_count, entry_at, inner_of, is_entry_at, is_inner, node_by, node_of}
+use Rattle.tbnode.specs.Form.{level_of, entry_count, entry_at, inner_of, is_entry_at, is_inner, node_of}
 use Rattle.tbnode.specs.Edits.{new_inner, inner_with_entry, inner_with_wider}
 use Rattle.tbnode.specs.Steps.{EntryReadsBack, pushed}
 use Rattle.tbnode.proofs.ListLemmas.{and_both, all_below-at, all_below-same, all_below-more, all_below-true, made, made-same, made-more, made-widened}
 use Rattle.tbnode.proofs.LegLemmas.{length-entry_bytes}
-use Rattle.tbnode.proofs.FormLemmas.{inner_form, is_inner-form, length-entries, node_of-inner}
+use Rattle.tbnode.proofs.FormLemmas.{inner_form, is_inner-form, length-entries}
+use Rattle.tbnode.proofs.KindLemmas.{HoldsInner, an_inner, changed, held, node_is, seen_is}
 use Rattle.tbnode.proofs.SlotLemmas.{number-set, number-unset, head-slot, slot-before, slot-after, slot-same, count-pushed, head-pushed, slot-pushed, slot-last, length-set}
 use Rattle.tbnode.proofs.LeafLemmas.{replicated, zero_number}
 
 same_or_not : (i t : ℕ) → (i ≡ t) ⊎ (i ≢ t)
 same_or_not i t = ⊎_elim (λ y. inl y.1) (λ n. inr n.1) (eqb_tells i t)
-
-pub record HoldsInner (p : Payload) : Type 0 where
-  pub kind : p.kind ≡ Inner
-  pub form : is_inner p.bytes ≡ true
-
-inner_by : (k : Kind) (bytes : List ℕ) → is_some (as_inner (node_by k bytes)) ≡ true → (k ≡ Inner) × (is_inner bytes ≡ true)
-inner_by Header bytes h = absurd (false≢true h)
-inner_by Leaf bytes h =
-    let n : Node LegView BoxView = ALeaf (leaf_of bytes) in
-    let tested : (b : Bool) → is_some (as_inner (if b then Some n else None)) ≡ true → ⊥ =
-    λ b. elim b as (λ b. is_some (as_inner (if b then Some n else None)) ≡ true → ⊥) [ true ↦ λ e. false≢true e | false ↦ λ e. false≢true e ] in
-    absurd (tested (is_leaf bytes) h)
-inner_by Inner bytes h =
-    let n : Node LegView BoxView = AnInner (inner_of bytes) in
-    let tested : (b : Bool) → is_some (as_inner (if b then Some n else None)) ≡ true → b ≡ true =
-    λ b. elim b as (λ b. is_some (as_inner (if b then Some n else None)) ≡ true → b ≡ true) [ true ↦ λ _. refl | false ↦ λ e. e ] in
-    (refl, tested (is_inner bytes) h)
-inner_by Catalogue bytes h = absurd (false≢true h)
-
-pub inner_held : (p : Payload) → is_some (as_inner (node_of p)) ≡ true → HoldsInner p
-unfolding node_of
-inner_held p h = let e = inner_by p.kind p.bytes h in record { kind = e.0; form = e.1 }
-
-pub inner_is : (p : Payload) → HoldsInner p → as_inner (node_of p) ≡ Some (inner_of p.bytes)
-inner_is p h = ap as_inner (node_of-inner p h.kind h.form)
-
-pub inner_changed : (f : InnerView BoxView → Node LegView BoxView) (p : Payload) (new : List ℕ) → HoldsInner p → is_inner new ≡ true → AnInner (inner_of new) ≡ f (inner_of p.bytes)
-    → node_of (record p { bytes = new }) ≡ option_map f (as_inner (node_of p))
-inner_changed f p new h form e =
-    node_of-inner (record p { bytes = new }) h.kind form ∙ ap Some e ∙ sym (ap (option_map f) (inner_is p h))
-
-module _ (old new : List ℕ) where
-  entry_at-same : (i : ℕ) → slot 56 i new ≡ slot 56 i old → entry_at new i ≡ entry_at old i
-  entry_at-same i s = ap entry_of s
 
 -- an entry more
 module _ (bytes : List ℕ) (x : EntryView BoxView) (len : 4056 ≤ length bytes) (small : entry_count bytes < 72) (back : EntryReadsBack x) where
@@ -115,8 +81,8 @@ pub record HasRoom (p : Payload) : Type 0 where
 
 pub has_room : (p : Payload) → is_some (as_inner (node_of p)) ≡ true → ForSome (as_inner (node_of p)) (λ page. length page.entries < 72) → HasRoom p
 has_room p some room =
-    let h = inner_held p some in
-    let t = room (inner_of p.bytes) (inner_is p h) in
+    let h = held an_inner p some in
+    let t = room (inner_of p.bytes) (seen_is an_inner p h) in
     record { held = h; room = t; small = omega (arith, t, length-entries p.bytes) }
 
 -- a payload that says an inner page which has an entry i
@@ -128,8 +94,8 @@ pub record HasEntry (p : Payload) (i : ℕ) : Type 0 where
 
 pub has_entry : (p : Payload) (i : ℕ) → is_some (as_inner (node_of p)) ≡ true → ForSome (as_inner (node_of p)) (λ page. i < length page.entries) → HasEntry p i
 has_entry p i some within =
-    let h = inner_held p some in
-    let t = within (inner_of p.bytes) (inner_is p h) in
+    let h = held an_inner p some in
+    let t = within (inner_of p.bytes) (seen_is an_inner p h) in
     record { held = h; within = t; below = omega (arith, t, length-entries p.bytes); most = (inner_form p.bytes h.form).room }
 
 pub entry_pushed : (p : Payload) (x : EntryView BoxView) (new : List ℕ) → new ≡ pushed 56 2 (entry_bytes x) p.bytes → 4056 ≤ length p.bytes → HoldsInner p → EntryReadsBack x
@@ -140,7 +106,7 @@ entry_pushed p x new e len h back room =
     let small : entry_count bytes < 72 = omega (arith, room, length-entries bytes) in
     let form : is_inner new ≡ true = ap is_inner e ∙ form_pushed bytes x len small back f.above f.zeros f.zero f.entries in
     let view : inner_of new ≡ with_entry x (inner_of bytes) = ap inner_of e ∙ entries_pushed bytes x len small back in
-    inner_changed (inner_with_entry x) p new h form (ap (λ v. let y : Node LegView BoxView = AnInner v in y) view)
+    changed an_inner (inner_with_entry x) p new h form (ap (λ v. let y : Node LegView BoxView = AnInner v in y) view)
 
 -- an inner page of no entries yet
 module _ (level m : ℕ) (zeros : List ℕ) (are : zeros ≡ replicate m 0) (room : 16 ≤ m) where
@@ -182,7 +148,7 @@ inner_begun p level x zeros new kind is e are above h back =
     let z = still_zero level 4056 zeros are (omega arith) in
     let form = form_pushed bytes x len small back (omega (arith, l, above)) (z 8 4 (omega arith) (omega arith)) (z 4 12 (omega arith) (omega arith)) entries in
     let view = entries_pushed bytes x len small back ∙ ap (with_entry x) (begun_inner level 4056 zeros are (omega arith) h) in
-    node_of-inner p kind (ap is_inner (is ∙ e) ∙ form)
+    node_is an_inner p kind (ap is_inner (is ∙ e) ∙ form)
     ∙ ap (λ v. let y : Node LegView BoxView = AnInner v in Some y) (ap inner_of (is ∙ e) ∙ view)
 
 -- an entry is written over
@@ -246,4 +212,4 @@ entry_widened p t x box new e len h back within is =
     let below : t < entry_count bytes = omega (arith, within, length-entries bytes) in
     let form : is_inner new ≡ true = ap is_inner e ∙ over_form bytes t x len below f.room back h.form in
     let view : inner_of new ≡ with_wider (λ p q. cover_of p q) t box (inner_of bytes) = ap inner_of e ∙ over_view bytes t x len below f.room back box is in
-    inner_changed (inner_with_wider t box) p new h form (ap (λ v. let y : Node LegView BoxView = AnInner v in y) view)
+    changed an_inner (inner_with_wider t box) p new h form (ap (λ v. let y : Node LegView BoxView = AnInner v in y) view)

@@ -16,7 +16,7 @@ use Rattle.tbnode.specs.Layout.{leg_of, is_leg, has_moments, has_start, has_end}
 use Rattle.tbnode.specs.Form.{feature_of, leg_count, leg_at, leaf_of, is_leg_at, LegsAreLawful}
 use Rattle.tbnode.proofs.ListLemmas.{and_left, and_right, all_below-at, all-made}
 use Rattle.tbnode.proofs.FormLemmas.{leaf_form, leg_lawful}
-use Rattle.tbnode.proofs.LeafLemmas.{HoldsLeaf, leaf_held, leaf_is}
+use Rattle.tbnode.proofs.KindLemmas.{HoldsLeaf, a_leaf, held, seen_is}
 
 le_from : (x y : ℤ) → int_le x y ≡ true → x ≤ℤ y
 le_from x y h = grind (arith, ints)
@@ -162,6 +162,6 @@ legs_of_form p h =
 
 pub legs_are_lawful : LegsAreLawful
 legs_are_lawful p l e =
-    let h = leaf_held p (ap (λ o. is_some (as_leaf o)) e) in
-    let same : leaf_of p.bytes ≡ l = same_Some (leaf_of p.bytes) l (sym (leaf_is p h) ∙ ap as_leaf e) in
+    let h = held a_leaf p (ap (λ o. is_some (as_leaf o)) e) in
+    let same : leaf_of p.bytes ≡ l = same_Some (leaf_of p.bytes) l (sym (seen_is a_leaf p h) ∙ ap as_leaf e) in
     subst (λ (v : LeafView LegView). All IsLeg v.legs) same (legs_of_form p h)

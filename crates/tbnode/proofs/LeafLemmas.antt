@@ -1,55 +1,25 @@
 -- A leaf after a change.
-use Rattle.std.proofs.Common.{◌≡◌, ℕ, ◌+◌, ◌-◌, ◌*◌, ◌^◌, ◌<◌, ◌≤◌, ◌==◌, ◌||◌, ◌&&◌, Bool, true, false, nat_lt, if◌then◌else◌, List, [], ◌∷◌, ◌++◌, length, Some, None, refl, sym, ap, ◌∙◌, arith, inl, inr, ◌⊎◌, replicate}
+use Rattle.std.proofs.Common.{◌≡◌, ℕ, ◌+◌, ◌-◌, ◌*◌, ◌^◌, ◌<◌, ◌≤◌, ◌==◌, ◌||◌, ◌&&◌, true, nat_lt, List, [], ◌∷◌, ◌++◌, length, Some, refl, sym, ap, ◌∙◌, arith, inl, inr, ◌⊎◌, replicate}
 use Rattle.std.proofs.lemmas.List.{length-replicate}
 use Rattle.std.specs.Option.{is_some, ForSome}
 use Rattle.std.specs.Prelude.{option_map}
-use Rattle.std.proofs.lemmas.Bool.{lt-ltb, false≢true}
+use Rattle.std.proofs.lemmas.Bool.{lt-ltb}
 use Rattle.byteorder.specs.Endian.{big_bytes, big_number}
 use Rattle.legs.specs.Legs.{LegView}
 use Rattle.legs.specs.Boxes.{BoxView}
-use Rattle.pages.specs.declared.payload.Kind.{Kind}
-use Rattle.pages.specs.declared.payload.Kind.TheVariants.{Header, Leaf, Inner, Catalogue}
+use Rattle.pages.specs.declared.payload.Kind.TheVariants.{Leaf}
 use Rattle.pages.specs.declared.payload.Payload.{Payload}
-use Rattle.tbnode.specs.Nodes.{LeafView, Node, ALeaf, AnInner, as_leaf, with_leg, with_next}
+use Rattle.tbnode.specs.Nodes.{Node, ALeaf, as_leaf, with_leg, with_next}
 use Rattle.tbnode.specs.Parts.{put, number_at, slot, all_below}
 use Rattle.tbnode.specs.Layout.{leg_bytes, leg_of, is_leg}
-use Rattle.tbnode.specs.Form.{feature_of, leg_count, leg_at, leaf_of, is_leg_at, is_leaf, inner_of, is_inner, node_by, node_of}
+use Rattle.tbnode.specs.Form.{feature_of, leg_count, leg_at, leaf_of, is_leg_at, is_leaf, node_of}
 use Rattle.tbnode.specs.Edits.{TakesLeg, new_leaf, leaf_with_leg, leaf_with_next}
 use Rattle.tbnode.specs.Steps.{LegReadsBack, pushed}
 use Rattle.tbnode.proofs.ListLemmas.{and_both, all_below-same, all_below-more, or_else, made, made-same, made-more}
 use Rattle.tbnode.proofs.LegLemmas.{length-leg_bytes}
-use Rattle.tbnode.proofs.FormLemmas.{leaf_form, is_leaf-form, length-legs, leg_shown, node_of-leaf}
+use Rattle.tbnode.proofs.FormLemmas.{leaf_form, is_leaf-form, length-legs, leg_shown}
+use Rattle.tbnode.proofs.KindLemmas.{HoldsLeaf, a_leaf, changed, held, node_is, seen_is}
 use Rattle.tbnode.proofs.SlotLemmas.{number-set, number-unset, slot-unset, count-pushed, head-pushed, slot-pushed, slot-last, zeros-part, length-set}
-
-pub record HoldsLeaf (p : Payload) : Type 0 where
-  pub kind : p.kind ≡ Leaf
-  pub form : is_leaf p.bytes ≡ true
-
-leaf_by : (k : Kind) (bytes : List ℕ) → is_some (as_leaf (node_by k bytes)) ≡ true → (k ≡ Leaf) × (is_leaf bytes ≡ true)
-leaf_by Header bytes h = absurd (false≢true h)
-leaf_by Leaf bytes h =
-    let n : Node LegView BoxView = ALeaf (leaf_of bytes) in
-    let tested : (b : Bool) → is_some (as_leaf (if b then Some n else None)) ≡ true → b ≡ true =
-    λ b. elim b as (λ b. is_some (as_leaf (if b then Some n else None)) ≡ true → b ≡ true) [ true ↦ λ _. refl | false ↦ λ e. e ] in
-    (refl, tested (is_leaf bytes) h)
-leaf_by Inner bytes h =
-    let n : Node LegView BoxView = AnInner (inner_of bytes) in
-    let tested : (b : Bool) → is_some (as_leaf (if b then Some n else None)) ≡ true → ⊥ =
-    λ b. elim b as (λ b. is_some (as_leaf (if b then Some n else None)) ≡ true → ⊥) [ true ↦ λ e. false≢true e | false ↦ λ e. false≢true e ] in
-    absurd (tested (is_inner bytes) h)
-leaf_by Catalogue bytes h = absurd (false≢true h)
-
-pub leaf_held : (p : Payload) → is_some (as_leaf (node_of p)) ≡ true → HoldsLeaf p
-unfolding node_of
-leaf_held p h = let e = leaf_by p.kind p.bytes h in record { kind = e.0; form = e.1 }
-
-pub leaf_is : (p : Payload) → HoldsLeaf p → as_leaf (node_of p) ≡ Some (leaf_of p.bytes)
-leaf_is p h = ap as_leaf (node_of-leaf p h.kind h.form)
-
-pub leaf_changed : (f : LeafView LegView → Node LegView BoxView) (p : Payload) (new : List ℕ) → HoldsLeaf p → is_leaf new ≡ true → ALeaf (leaf_of new) ≡ f (leaf_of p.bytes)
-    → node_of (record p { bytes = new }) ≡ option_map f (as_leaf (node_of p))
-leaf_changed f p new h form e =
-    node_of-leaf (record p { bytes = new }) h.kind form ∙ ap Some e ∙ sym (ap (option_map f) (leaf_is p h))
 
 leg_at-same : (old new : List ℕ) (i : ℕ) → feature_of new ≡ feature_of old → slot 80 i new ≡ slot 80 i old → leg_at new i ≡ leg_at old i
 leg_at-same old new i f s = λ j. leg_of (f j) (s j)
@@ -135,8 +105,8 @@ pub record IsTaken (p : Payload) (l : LegView) : Type 0 where
 
 pub is_taken : (p : Payload) (l : LegView) → is_some (as_leaf (node_of p)) ≡ true → ForSome (as_leaf (node_of p)) (λ leaf. TakesLeg leaf l) → IsTaken p l
 is_taken p l some takes =
-    let h = leaf_held p some in
-    let t = takes (leaf_of p.bytes) (leaf_is p h) in
+    let h = held a_leaf p some in
+    let t = takes (leaf_of p.bytes) (seen_is a_leaf p h) in
     record { held = h; takes = t; small = omega (arith, t.room, length-legs p.bytes) }
 
 pub leg_pushed : (p : Payload) (l : LegView) (new : List ℕ) → new ≡ pushed 80 12 (leg_bytes l) p.bytes → 4056 ≤ length p.bytes → HoldsLeaf p → LegReadsBack l → TakesLeg (leaf_of p.bytes) l
@@ -155,7 +125,7 @@ leg_pushed p l new e len h back takes =
     takes.above (leg_at bytes (n - 1)) (leg_shown bytes (leaf_of bytes) j (leg_at bytes (n - 1)) refl (omega (arith, count, z)) (ap (leg_at bytes) is)) in
     let form : is_leaf new ≡ true = ap is_leaf e ∙ form_pushed bytes l len small back takes.feature f.zero f.legs up in
     let legs : leaf_of new ≡ with_leg l (leaf_of bytes) = ap leaf_of e ∙ legs_pushed bytes l len small back takes.feature in
-    leaf_changed (leaf_with_leg l) p new h form (ap (λ v. let x : Node LegView BoxView = ALeaf v in x) legs)
+    changed a_leaf (leaf_with_leg l) p new h form (ap (λ v. let x : Node LegView BoxView = ALeaf v in x) legs)
 
 -- another next leaf
 abbrev pub linked : ℕ → List ℕ → List ℕ
@@ -203,7 +173,7 @@ pub next_set : (p : Payload) (next : ℕ) (new : List ℕ) → new ≡ linked ne
 next_set p next new e room small h =
     let form : is_leaf new ≡ true = ap is_leaf e ∙ form_linked p.bytes next room h.form in
     let legs : leaf_of new ≡ with_next next (leaf_of p.bytes) = ap leaf_of e ∙ legs_linked p.bytes next room small in
-    leaf_changed (leaf_with_next next) p new h form (ap (λ v. let x : Node LegView BoxView = ALeaf v in x) legs)
+    changed a_leaf (leaf_with_next next) p new h form (ap (λ v. let x : Node LegView BoxView = ALeaf v in x) legs)
 
 pub replicated : (m : ℕ) → let zeros : List ℕ = replicate m 0 in length zeros ≡ m
 replicated m = length-replicate {A = ℕ} m 0
@@ -274,5 +244,5 @@ leaf_begun p previous l zeros new kind is e are h g back =
     let legs = ap (all_below (is_leg_at bytes)) none in
     let form = form_pushed bytes l len small back feature zero legs (λ z. absurd (omega (arith, z, none))) in
     let view = legs_pushed bytes l len small back feature ∙ ap (with_leg l) (begun_leaf l.feature previous 4056 zeros are (omega arith) h g) in
-    node_of-leaf p kind (ap is_leaf (is ∙ e) ∙ form)
+    node_is a_leaf p kind (ap is_leaf (is ∙ e) ∙ form)
     ∙ ap (λ v. let x : Node LegView BoxView = ALeaf v in Some x) (ap leaf_of (is ∙ e) ∙ view)

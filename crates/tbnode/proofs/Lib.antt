@@ -2,6 +2,7 @@ pub mod PartLemmas
 pub mod ListLemmas
 pub mod LaidLemmas
 pub mod FormLemmas
+pub mod KindLemmas
 pub mod LegLemmas
 pub mod SlotLemmas
 pub mod LeafLemmas

@@ -12,7 +12,7 @@ use Rattle.tbnode.specs.Layout.{leg_of, is_leg}
 use Rattle.tbnode.specs.Form.{feature_of, leg_count, leg_at, leaf_of, is_leg_at, is_counted, node_of}
 use Rattle.tbnode.proofs.ListLemmas.{and_left, and_right, and_both, all_below-at}
 use Rattle.tbnode.proofs.FormLemmas.{leaf_form, leg_lawful, leg_shown, legs_counted}
-use Rattle.tbnode.proofs.LeafLemmas.{HoldsLeaf, leaf_held, leaf_is}
+use Rattle.tbnode.proofs.KindLemmas.{HoldsLeaf, a_leaf, held, seen_is}
 
 pub record IsCounted (bytes : List ℕ) : Type 0 where
   pub some : 1 ≤ leg_count bytes
@@ -39,8 +39,8 @@ pub record Says (p : Payload) (l : LeafView LegView) : Type 0 where
 
 pub says : (p : Payload) (l : LeafView LegView) → node_of p ≡ Some (ALeaf l) → Says p l
 says p l e =
-    let h = leaf_held p (ap (λ o. is_some (as_leaf o)) e) in
-    record { held = h; is = same_Some (leaf_of p.bytes) l (sym (leaf_is p h) ∙ ap as_leaf e) }
+    let h = held a_leaf p (ap (λ o. is_some (as_leaf o)) e) in
+    record { held = h; is = same_Some (leaf_of p.bytes) l (sym (seen_is a_leaf p h) ∙ ap as_leaf e) }
 
 -- the bytes of a leg of it are lawful, and say that leg
 pub leg_said : (p : Payload) (l : LeafView LegView) (i : ℕ) → Says p l → i < leg_count p.bytes → slice_get l.legs i ≡ Some (leg_at p.bytes i)

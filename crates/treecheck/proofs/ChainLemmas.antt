@@ -21,6 +21,7 @@ use Rattle.tbtree.specs.declared.tree.Place.{Place}
 use Rattle.legs.specs.BlockLemmas.{all_pass}
 use Rattle.legs.specs.GroupLemmas.{some_none, some_same}
 use Rattle.tbtree.proofs.KeyRuns.{is}
+use Rattle.treecheck.proofs.CheckingLemmas.{chains_once, rising_map}
 use Rattle.treecheck.proofs.LeafChains.{runs_rise, legs_at, own, all_legs, leaves_own}
 use Rattle.tbtree.proofs.OrdinalOrder.{IsUp}
 use Rattle.tbtree.proofs.OwnedLists.{AreOwned, joined_map, owned_at, owned_beyond, numbered_rise}
@@ -38,14 +39,6 @@ module _ {X Y : Type 0} (h : X → Y) where
   get_map [] i x e = absurd (some_none x (sym e))
   get_map (z ∷ xs) zero x e = ap (λ z. Some (h z)) (some_same z x e)
   get_map (z ∷ xs) (suc i) x e = get_map xs i x e
-
-  pub rising_map : (num : Y → ℕ) (xs : List X) → IsRising (λ x. num (h x)) xs → IsRising num (map h xs)
-  rising_map num [] r = tt
-  rising_map num (x ∷ xs) r = (past (num (h x)) xs r.0, rising_map num xs r.1)
-    where
-      past : (a : ℕ) (xs : List X) → IsPast (λ x. num (h x)) a xs → IsPast num a (map h xs)
-      past a [] r = tt
-      past a (x ∷ xs) r = (r.0, past a xs r.1)
 
 module _ {X : Type 0} where
   pub get_some : (xs : List X) (i : ℕ) → i < length xs → (x : X) × (slice_get xs i ≡ Some x)
@@ -216,33 +209,10 @@ module _ (nodes : Pages LegView BoxView) (most rows total : ℕ) (places : List 
   chained = in_turn rows total css legs turns
 
 module _ (nodes : Pages LegView BoxView) (most rows : ℕ) where
-  -- the leaves of a feature are found in one way
-  one_chain : (f previous page left : ℕ) (ps qs : List ℕ) → AreLeavesFrom nodes most f previous page left ps → AreLeavesFrom nodes most f previous page left qs → ps ≡ qs
-  one_chain f previous page left [] [] a b = refl
-  one_chain f previous page left [] (q ∷ qs) a b = absurd (let z = a.0 in let s = b.1.some in omega (arith, z, s))
-  one_chain f previous page left (p ∷ ps) [] a b = absurd (let z = b.0 in let s = a.1.some in omega (arith, z, s))
-  one_chain f previous page left (p ∷ ps) (q ∷ qs) a b =
-      let same : q ≡ p = sym b.0 ∙ a.0 in
-      let rest : ps ≡ qs = one_chain f p (next_in (nodes.at p)) (left - most) ps qs a.2 (subst (λ q. AreLeavesFrom nodes most f q (next_in (nodes.at q)) (left - most) qs) same b.2) in
-      λ i. sym same i ∷ rest i
-
-  one_way : (g : ℕ) (places : List Place) (tracks : List Track) (xs ys : List (List ℕ)) → AreChains nodes most rows g places tracks xs → AreChains nodes most rows g places tracks ys → xs ≡ ys
-  one_way g [] [] [] [] a b = refl
-  one_way g [] [] [] (y ∷ ys) a b = absurd b
-  one_way g [] [] (x ∷ xs) ys a b = absurd a
-  one_way g [] (track ∷ tracks) xs ys a b = absurd a
-  one_way g (place ∷ places) [] xs ys a b = absurd a
-  one_way g (place ∷ places) (track ∷ tracks) [] ys a b = absurd a
-  one_way g (place ∷ places) (track ∷ tracks) (x ∷ xs) [] a b = absurd b
-  one_way g (place ∷ places) (track ∷ tracks) (x ∷ xs) (y ∷ ys) a b =
-      let here : x ≡ y = one_chain g 0 place.first place.legs x y a.0.leaves b.0.leaves in
-      let on : xs ≡ ys = one_way (suc g) places tracks xs ys a.1 b.1 in
-      λ i. here i ∷ on i
-
   -- chains hold one list alone
   pub one_list : (total : ℕ) (places : List Place) (tracks : List Track) (a b : List LegView) → HoldChains nodes most rows total places tracks a → HoldChains nodes most rows total places tracks b → a ≡ b
   one_list total places tracks a b x y =
-      let chains : y.chains ≡ x.chains = one_way 0 places tracks y.chains x.chains y.are_chains x.are_chains in
+      let chains : y.chains ≡ x.chains = chains_once nodes most rows 0 places tracks y.chains x.chains y.are_chains x.are_chains in
       let moved : IsPermutation (legs_on nodes (joined x.chains)) b = subst (λ c. IsPermutation (legs_on nodes (joined c)) b) chains y.moved in
       let both : IsPermutation a b = IsPermutation-trans a (legs_on nodes (joined x.chains)) b (IsPermutation-sym (legs_on nodes (joined x.chains)) a x.moved) moved in
       sym (sym (all_pass b) ∙ own_order number (λ _. true) a a b (numbered_rise total a x.numbered) both (all_pass a) (rising_up number b (numbered_rise total b y.numbered)))

@@ -210,17 +210,3 @@ module _ (nodes : Pages LegView BoxView) (tree : TbTree) (rows total : ℕ) (pla
       once = subst (λ ns. IsPermutation ns (range_with_len 0 total)) (ap (λ cs. map (λ leg. leg.ordinal) (legs_on nodes (joined cs))) (sym same_chains) ∙ sym sv.ordinals) k.once;
       firsts = subst (IsRising (λ n. n)) (ap (map (λ pages. first_ordinal (legs_on nodes pages))) (sym same_chains) ∙ sym sv.firsts) (rising_map (λ pages. first_ordinal (legs_on nodes pages)) (λ n. n) k.chains k.firsts);
     }
-
-    -- the order of the tree, which is the only one of the firsts
-    module _ (in_order : (number : ℕ → ℕ) (rising ordered : List ℕ) → IsRising number rising → IsPermutation rising ordered → IsNonDecreasingBy number ordered → ordered ≡ rising) (rises : IsNonDecreasingBy (λ (m : Met). m.first) leaves) where
-      same_order : map page_of leaves ≡ k.order
-      same_order = order_same k.chains k.are_chains k.order k.ordered k.rises in_order rises
-
-      pub strict : IsRising (λ (m : Met). m.first) leaves
-      strict = order_strict k.chains k.are_chains k.order k.ordered k.rises in_order rises
-
-      pub over : IsTreeOver nodes tree (map page_of leaves) k.pages
-      over = subst (λ order. IsTreeOver nodes tree order k.pages) (sym same_order) k.over
-
-      pub last : NameLast places leaves
-      last = λ f place e. ap (λ l. slice_get l place.last_index) same_order ∙ k.last_index f place e

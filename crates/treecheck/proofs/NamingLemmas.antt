@@ -1,5 +1,5 @@
 -- Which page a check names.
-use Rattle.std.proofs.Common.{ℕ, zero, suc, Bool, ◌≡◌, ◌≢◌, ◌<◌, ◌∙◌, List, [], ◌∷◌, length, filter, true, None, Result, Ok, Err, inl, inr, refl, sym, ap, subst, arith, IsTrue}
+use Rattle.std.proofs.Common.{ℕ, zero, suc, Bool, ◌≡◌, ◌≢◌, ◌<◌, ◌∙◌, List, length, true, None, Result, Ok, Err, inl, inr, refl, sym, ap, subst, arith, IsTrue}
 use Rattle.std.specs.Option.{option_map}
 use Rattle.std.specs.Prelude.{IfErr, IsErrOf, ◌⊎◌}
 use Rattle.legs.specs.declared.index.IndexFault.{IndexFault}
@@ -24,6 +24,7 @@ use Rattle.legs.specs.Boxes.{BoxView}
 use Rattle.legs.specs.Legs.{LegView}
 use Rattle.std.specs.List.Sorted.{IsPermutation}
 use Rattle.std.proofs.lemmas.List.Sorted.{IsPermutation-trans, IsPermutation-sym}
+use Rattle.legs.specs.BlockLemmas.{all_pass}
 use Rattle.legs.specs.Blocks.{joined}
 use Rattle.tbtree.specs.Turn.{IsRising}
 use Rattle.tbtree.proofs.RisingLists.{own_order, rising_up}
@@ -57,31 +58,7 @@ miscounted begun tree rows total places tracks c n m = record {
     none n zero e h = e
     none n (suc count) e h = absurd (h (omega arith))
 
-module _ (begun : Bool) (tree : TbTree) (rows total : ℕ) (places : List Place) (tracks : TracksView) (old new : Cache) (fa : IsTrue old.store.is_faithful) (held : AreHeld (pages_of_cache old)) (some : 0 < old.count) (same : old.count ≡ old.store.count) where
-  abbrev Malforms : ℕ → Type 0
-  Malforms = IsFirstMalformed begun tree rows total places tracks old
-
-  none_damaged : (fault : CacheFault) → RefusesReadInCache old new fault → NamesInCache (IsFirstDamaged old) fault
-  none_damaged cache.NoPage c = tt
-  none_damaged cache.Store c = tt
-  none_damaged (cache.Damaged n) c = absurd (has_payload old n (held n c.0) (c.1 fa))
-  none_damaged cache.StoreFull c = tt
-  none_damaged cache.Memory c = tt
-
-  -- once each page was read, none is damaged, and page 0 is malformed where it does not say the state
-  pub state_named : (fault : TreeFault) → RefusesRead old new fault → (SaysState begun (payload_of old 0) → MayRefuseRead fault) → NamesEach (λ _. ⊥) (λ n. n ≡ 0) fault → NamesEach (IsFirstDamaged old) Malforms fault
-  state_named (OfCache fault) c o k = none_damaged fault c
-  state_named (Malformed n) c o k = record {
-    held = λ p l. has_payload old p (held p l);
-    counted = λ no. absurd (no same);
-    state = λ _ _. k;
-    walk = λ h. absurd (o h.says);
-    list = λ h. absurd (o h.says);
-    descent = λ h. absurd (o h.says);
-    rest = λ h. absurd (o h.says);
-  }
-  state_named Spent c o k = tt
-
+module _ (tree : TbTree) (rows total : ℕ) (places : List Place) (tracks : TracksView) (old : Cache) where
   abbrev nodes : Pages LegView BoxView
   nodes = pages_of_cache old
 
@@ -138,8 +115,33 @@ module _ (begun : Bool) (tree : TbTree) (rows total : ℕ) (places : List Place)
   }
   tree_later h k leaves is Spent s o = tt
 
-  -- and once page 0 said it
-  pub later_named : SaysState begun (payload_of old 0) → (fault : TreeFault) → RefusesRead old new fault → IfMalformed IsLater fault → NamesEach (IsFirstDamaged old) Malforms fault
+module _ (begun : Bool) (tree : TbTree) (rows total : ℕ) (places : List Place) (tracks : TracksView) (old new : Cache) (fa : IsTrue old.store.is_faithful) (held : AreHeld (pages_of_cache old)) (some : 0 < old.count) (same : old.count ≡ old.store.count) where
+  abbrev Malforms : ℕ → Type 0
+  Malforms = IsFirstMalformed begun tree rows total places tracks old
+
+  none_damaged : (fault : CacheFault) → RefusesReadInCache old new fault → NamesInCache (IsFirstDamaged old) fault
+  none_damaged cache.NoPage c = tt
+  none_damaged cache.Store c = tt
+  none_damaged (cache.Damaged n) c = absurd (has_payload old n (held n c.0) (c.1 fa))
+  none_damaged cache.StoreFull c = tt
+  none_damaged cache.Memory c = tt
+
+  -- once each page was read, none is damaged, and page 0 is malformed where it does not say the state
+  pub state_named : (fault : TreeFault) → RefusesRead old new fault → (SaysState begun (payload_of old 0) → MayRefuseRead fault) → NamesEach (λ _. ⊥) (λ n. n ≡ 0) fault → NamesEach (IsFirstDamaged old) Malforms fault
+  state_named (OfCache fault) c o k = none_damaged fault c
+  state_named (Malformed n) c o k = record {
+    held = λ p l. has_payload old p (held p l);
+    counted = λ no. absurd (no same);
+    state = λ _ _. k;
+    walk = λ h. absurd (o h.says);
+    list = λ h. absurd (o h.says);
+    descent = λ h. absurd (o h.says);
+    rest = λ h. absurd (o h.says);
+  }
+  state_named Spent c o k = tt
+
+  -- and once page 0 said it, a page is named of which what is to be known later is known
+  pub later_named : SaysState begun (payload_of old 0) → (fault : TreeFault) → RefusesRead old new fault → IfMalformed (IsLater tree rows total places tracks old) fault → NamesEach (IsFirstDamaged old) Malforms fault
   later_named says (OfCache fault) c l = none_damaged fault c
   later_named says (Malformed n) c l = record {
     held = λ p l. has_payload old p (held p l);
@@ -152,9 +154,9 @@ module _ (begun : Bool) (tree : TbTree) (rows total : ℕ) (places : List Place)
   }
   later_named says Spent c l = tt
 
-all_pass : (xs : List ℕ) → filter (λ _. true) xs ≡ xs
-all_pass [] = refl
-all_pass (x ∷ xs) = ap (λ l. x ∷ l) (all_pass xs)
+-- the order of pages that are whole
+pub order_of : (c : Cache) (tree : TbTree) (rows total : ℕ) (places : List Place) (tracks : TracksView) (k : IsChecked (pages_of_cache c) tree rows total places tracks.tracks) → IsOrder c tree rows places tracks k.order
+order_of c tree rows total places tracks k = record { chains = k.chains; are_chains = k.are_chains; ordered = k.ordered; rises = k.rises }
 
 -- pages that rise by their numbers are in one order alone
 one_order : (num : ℕ → ℕ) (a b : List ℕ) → IsRising num a → IsRising num b → IsPermutation a b → b ≡ a

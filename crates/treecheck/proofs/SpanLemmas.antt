@@ -4,9 +4,7 @@ use Rattle.std.proofs.Math.Nat.{pow-suc, one-le-pow, mul-div_cancel}
 use Rattle.legs.specs.Boxes.{BoxView}
 use Rattle.legs.specs.Legs.{LegView}
 use Rattle.tbtree.specs.Nodes.{Pages}
-use Rattle.treecheck.specs.Descent.{IsFirstWithout}
-use Rattle.treecheck.specs.Levels.{named_below, AllStandAbove, IsInBlock, IsInLevel}
-use Rattle.treecheck.specs.declared.walking.Met.{Met}
+use Rattle.treecheck.specs.Levels.{named_below}
 
 pub pow_above : (inner k : ℕ) → 0 < inner → 0 < inner ^ k
 pow_above inner k h = let p = one-le-pow k inner h in omega (arith, p)
@@ -21,43 +19,24 @@ span_down inner height level span h l e =
 pub width_above : (inner height level span : ℕ) → 0 < inner → level < height → span ≡ inner ^ (height - level) → 0 < span / inner
 width_above inner height level span h l e = subst (λ n. 0 < n) (sym (span_down inner height level span h l e)) (pow_above inner (height - (level + 1)) h)
 
-module _ (nodes : Pages LegView BoxView) (inner height level span root : ℕ) (leaves : List Met) (pages : List ℕ) where
-  -- the level that is read is the one that n and k say
-  pub level_is : (k n : ℕ) → 0 < inner → n + suc k ≡ height → n ≡ level → span ≡ inner ^ (height - level) → pages ≡ named_below nodes root level
-      → AllStandAbove nodes (height - level) (span / inner) span leaves pages
-      → AllStandAbove nodes (suc k) (inner ^ k) (inner ^ suc k) leaves (named_below nodes root n)
-  level_is k n h e s p q all =
-      let a : height - level ≡ suc k = omega (arith, e, s) in
-      let b : height - (level + 1) ≡ k = omega (arith, e, s) in
-      let l : level < height = omega (arith, e, s) in
-      let w : span / inner ≡ inner ^ k = span_down inner height level span h l p ∙ ap (λ n. inner ^ n) b in
-      subst (λ xs. AllStandAbove nodes (suc k) (inner ^ k) (inner ^ suc k) leaves xs) (q ∙ ap (named_below nodes root) (sym s))
-      (subst (λ m. AllStandAbove nodes (suc k) (inner ^ k) m leaves pages) (p ∙ ap (λ n. inner ^ n) a)
-      (subst (λ m. AllStandAbove nodes (suc k) m span leaves pages) w
-      (subst (λ m. AllStandAbove nodes m (span / inner) span leaves pages) a all)))
+-- the pages of a level: how high they are, how many leaves an entry of each stands above, and how many each, and which they are
+pub record Level : Type 0 where
+  pub height : ℕ
+  pub width : ℕ
+  pub span : ℕ
+  pub pages : List ℕ
 
-  pub level_from : (k n : ℕ) → 0 < inner → n + suc k ≡ height → n ≡ level → span ≡ inner ^ (height - level) → pages ≡ named_below nodes root level
-      → AllStandAbove nodes (suc k) (inner ^ k) (inner ^ suc k) leaves (named_below nodes root n)
-      → AllStandAbove nodes (height - level) (span / inner) span leaves pages
-  level_from k n h e s p q all =
-      let a : height - level ≡ suc k = omega (arith, e, s) in
-      let b : height - (level + 1) ≡ k = omega (arith, e, s) in
-      let l : level < height = omega (arith, e, s) in
-      let w : span / inner ≡ inner ^ k = span_down inner height level span h l p ∙ ap (λ n. inner ^ n) b in
-      subst (λ m. AllStandAbove nodes m (span / inner) span leaves pages) (sym a)
-      (subst (λ m. AllStandAbove nodes (suc k) m span leaves pages) (sym w)
-      (subst (λ m. AllStandAbove nodes (suc k) (inner ^ k) m leaves pages) (sym (p ∙ ap (λ n. inner ^ n) a))
-      (subst (λ xs. AllStandAbove nodes (suc k) (inner ^ k) (inner ^ suc k) leaves xs) (sym (q ∙ ap (named_below nodes root) (sym s))) all)))
+abbrev pub level_at : (height width span : ℕ) → List ℕ → Level
+level_at height width span pages = record { height = height; width = width; span = span; pages = pages }
 
-  pub level_stops : (k n : ℕ) → 0 < inner → n + suc k ≡ height → n ≡ level → span ≡ inner ^ (height - level) → pages ≡ named_below nodes root level
-      → (page : ℕ) → IsFirstWithout (IsInBlock nodes (height - level) (span / inner) span leaves) pages page
-      → IsFirstWithout (IsInLevel nodes inner leaves k) (named_below nodes root n) page
-  level_stops k n h e s p q page f =
-      let a : height - level ≡ suc k = omega (arith, e, s) in
-      let b : height - (level + 1) ≡ k = omega (arith, e, s) in
-      let l : level < height = omega (arith, e, s) in
-      let w : span / inner ≡ inner ^ k = span_down inner height level span h l p ∙ ap (λ n. inner ^ n) b in
-      subst (λ xs. IsFirstWithout (IsInLevel nodes inner leaves k) xs page) (q ∙ ap (named_below nodes root) (sym s))
-      (subst (λ m. IsFirstWithout (IsInBlock nodes (suc k) (inner ^ k) m leaves) pages page) (p ∙ ap (λ n. inner ^ n) a)
-      (subst (λ m. IsFirstWithout (IsInBlock nodes (suc k) m span leaves) pages page) w
-      (subst (λ m. IsFirstWithout (IsInBlock nodes m (span / inner) span leaves) pages page) a f)))
+-- the level that is read is the one that n and k say
+pub level_is : (nodes : Pages LegView BoxView) (inner height level span root : ℕ) (pages : List ℕ) (k n : ℕ) → 0 < inner → n + suc k ≡ height → n ≡ level → span ≡ inner ^ (height - level) → pages ≡ named_below nodes root level
+    → level_at (height - level) (span / inner) span pages ≡ level_at (suc k) (inner ^ k) (inner ^ suc k) (named_below nodes root n)
+level_is nodes inner height level span root pages k n h e s p q =
+    let a : height - level ≡ suc k = omega (arith, e, s) in
+    let b : height - (level + 1) ≡ k = omega (arith, e, s) in
+    let l : level < height = omega (arith, e, s) in
+    let w : span / inner ≡ inner ^ k = span_down inner height level span h l p ∙ ap (λ n. inner ^ n) b in
+    let v : span ≡ inner ^ suc k = p ∙ ap (λ n. inner ^ n) a in
+    let xs : pages ≡ named_below nodes root n = q ∙ ap (named_below nodes root) (sym s) in
+    λ i. level_at (a i) (w i) (v i) (xs i)

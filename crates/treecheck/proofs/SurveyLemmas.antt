@@ -4,7 +4,7 @@ use Rattle.std.specs.List.{All}
 use Rattle.std.specs.Option.{unwrap_or}
 use Rattle.std.proofs.lemmas.List.{append-nil, map-append}
 use Rattle.std.proofs.lemmas.List.Concat.{flat_map-append}
-use Rattle.std.proofs.lemmas.List.Elements.{All-nil, All-append}
+use Rattle.std.proofs.lemmas.List.Elements.{All-append}
 use Rattle.legs.specs.Blocks.{joined}
 use Rattle.legs.specs.Boxes.{BoxView}
 use Rattle.legs.specs.Legs.{LegView}
@@ -43,16 +43,6 @@ module _ (nodes : Pages LegView BoxView) (most rows : ℕ) where
     pub pages_are : map (λ (m : Met). m.page) survey.leaves.items ≡ joined done
     pub are_met : All (λ (m : Met). IsMet (nodes.at m.page) m) survey.leaves.items
     pub firsts : survey.firsts.items ≡ map (λ pages. first_ordinal (legs_on nodes pages)) done
-
-  pub surveyed_none : (places : List Place) (tracks : List Track) (survey : Survey) → survey.ordinals.items ≡ [] → survey.leaves.items ≡ [] → survey.firsts.items ≡ [] → Surveyed 0 places tracks survey
-  surveyed_none places tracks survey o l f = record {
-    done = [];
-    on = λ rest h. h;
-    ordinals = o;
-    pages_are = ap (map (λ (m : Met). m.page)) l;
-    are_met = subst (All (λ (m : Met). IsMet (nodes.at m.page) m)) (sym l) (All-nil (λ (m : Met). IsMet (nodes.at m.page) m));
-    firsts = f;
-  }
 
   pub surveyed_on : (feature next : ℕ) (places : List Place) (tracks : List Track) (place : Place) (track : Track) (old mid new : Survey) → feature + 1 ≡ next
       → slice_get places feature ≡ Some place → slice_get tracks feature ≡ Some track → Surveyed feature places tracks old → Walks nodes most rows feature place track old mid

@@ -35,6 +35,16 @@ same_by node old new r fa = λ i. record { at = λ p. option_map node (r.payload
 pub same_pages : (old new : Cache) → OnlyReads old new → IsTrue old.store.is_faithful → pages_of_cache new ≡ pages_of_cache old
 same_pages old new = same_by node_of old new
 
+-- what is so of the pages as they were and of some leaves is so of pages that were only read since and of the same leaves
+pub as_after : (old new : Cache) → OnlyReads old new → IsTrue old.store.is_faithful → (given leaves : List Met) → given ≡ leaves → (P : Pages LegView BoxView → List Met → Type 0)
+    → P (pages_of_cache old) leaves → P (pages_of_cache new) given
+as_after old new r fa given leaves e P h = subst (λ nodes. P nodes given) (sym (same_pages old new r fa)) (subst (P (pages_of_cache old)) (sym e) h)
+
+-- and the other way
+pub as_before : (old new : Cache) → OnlyReads old new → IsTrue old.store.is_faithful → (given leaves : List Met) → given ≡ leaves → (P : Pages LegView BoxView → List Met → Type 0)
+    → P (pages_of_cache new) given → P (pages_of_cache old) leaves
+as_before old new r fa given leaves e P h = subst (P (pages_of_cache old)) e (subst (λ nodes. P nodes given) (same_pages old new r fa) h)
+
 pub turn_append : (f rows : ℕ) (d : Option LegView) (xs ys : List LegView) → ComeInTurn f rows d (xs ++ ys) → ComeInTurn f rows (last_leg d xs) ys
 turn_append f rows d [] ys h = h
 turn_append f rows d (x ∷ xs) ys h = turn_append f rows (Some x) xs ys h.3

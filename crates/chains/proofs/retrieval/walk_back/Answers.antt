@@ -1,104 +1,138 @@
-use Rattle.std.proofs.Common.{rules, ◌≡◌, ◌+◌, ◌-◌, suc, arith, ap, subst, sym, ◌∙◌, drop, slice_get, Some, None}
+use Rattle.std.proofs.Common.{ℕ, Option, true, false, IsTrue, rules, ◌≡◌, ◌+◌, ◌-◌, suc, arith, ap, subst, sym, ◌∙◌, drop, slice_get, Some, None}
 use Rattle.std.proofs.lemmas.Result.{err_from_is_err_and}
-use Rattle.tbtree.specs.Nodes.{pages_of_cache}
+use Rattle.tbtree.specs.Nodes.{Pages, pages_of_cache}
 use Rattle.std.specs.Int.{div_ceil}
 use Rattle.chains.specs.Chains.{fault_from, last_link, walk, walked}
 use Rattle.chains.specs.Spans.{AreSpans, AsksAs, IsKnown, pass_at, walked_by}
-use Rattle.chains.proofs.SpanLemmas.{all_known, asks_last, asks_on, cost_none, few_last, few_on, past_read, rest_same, spans_last}
+use Rattle.chains.proofs.SpanLemmas.{IsOnWay, all_known, asks_last, asks_on, cost_none, few_last, few_on, past_read, rest_same, spans_last}
 use Rattle.chains.proofs.ReachLemmas.{front_then, reached_all, reached_end, reached_on}
 use Rattle.chains.proofs.WalkLemmas.{linked_by}
 use Rattle.chains.specs.Links.{fits, is_end, link_back, spot_of}
-use Rattle.chains.specs.Taking.{fault_at}
-use Rattle.chains.proofs.ReadLemmas.{caused_after, reads_trans}
+use Rattle.chains.specs.Taking.{fault_at, TakesPage}
+use Rattle.chains.specs.declared.leaves.Link.{Link}
+use Rattle.legs.specs.Boxes.{BoxView}
+use Rattle.legs.specs.Legs.{LegView}
+use Rattle.chains.proofs.ReadLemmas.{reads_refused, reads_trans}
 use Rattle.chains.proofs.StepLemmas.{IsFound, found_all, same_at, goes_on, ends, found_on, found_end, asked_on, asked_end, fault_on, fault_end, fault_stops, fault_before, named_after}
+use Rattle.chains.proofs.retrieval.walk_back.Given as given
+use Rattle.chains.proofs.retrieval.walk_back.Goals.{In_ok-back}
 use Rattle.chains.proofs.retrieval.walk_back.Goals as goal
+
+module _ (g : given.Over) (c : In_ok-back g) where
+  abbrev nodes : Pages LegView BoxView
+  nodes = pages_of_cache c.args.cache.now
+
+  abbrev rest : ℕ
+  rest = c.leaves.left - 1
+
+  less : c.leaves.left ≡ suc rest
+  less = omega (arith, c.leaves-test.true)
+
+  -- the leaf is asked for as what is known of it says
+  abbrev Asks : Option Link → Type 0
+  Asks back = AsksAs (pass_at (slice_get c.leaves.spans.items c.leaves.passed) (slice_get c.leaves.spans.items (suc c.leaves.passed)) rest c.args.want.now.period) back c.leaves.cache c.step.new.cache
+
+  asks : (back : Option Link) → c.in_ok-back.field-0 ≡ back → Asks back
+  asks back is = subst Asks is c.in_ok-back.ensures.asked
+
+  module _ (fa : IsTrue c.args.cache.now.store.is_faithful) where
+    -- the leaf is taken of the pages as they were
+    taken : TakesPage nodes c.leaves.link (spot_of c.args.shape.now.leaf c.args.place.now.legs c.args.place.now.first rest) c.args.want.now.period c.args.want.now.sieve c.leaves.found.items c.step.new.found.items
+        (record { old = c.leaves.spans.items; new = c.step.new.spans.items; passed = c.leaves.passed }) c.in_ok-back.field-0
+    taken =
+        let t = c.in_ok-back.ensures.taken (c.leaves.invariant.reads.store.faithful ∙ fa) in
+        let most : c.from-most.result ≡ c.args.shape.now.leaf = search rules in
+        record {
+          leaf = t.leaf;
+          above = t.above;
+          is = sym (same_at c.args.cache.now c.leaves.cache c.leaves.invariant.reads fa c.leaves.link.page) ∙ t.is;
+          fit = ap (λ m. fits t.leaf c.leaves.link (spot_of m c.args.place.now.legs c.args.place.now.first rest)) (sym most) ∙ t.fit;
+          takes = t.takes;
+          learns = t.learns;
+        }
+
+    -- the way goes on to the leaf before it, or ends with it
+    on : (back : Link) → c.in_ok-back.field-0 ≡ Some back → (is_end c.args.want.now.period taken.leaf.legs ≡ false) × (back ≡ link_back c.leaves.link.page taken.leaf)
+    on back is = goes_on (is_end c.args.want.now.period taken.leaf.legs) back (link_back c.leaves.link.page taken.leaf) (sym is ∙ taken.takes.link)
+
+    last : c.in_ok-back.field-0 ≡ None → is_end c.args.want.now.period taken.leaf.legs ≡ true
+    last is = ends (is_end c.args.want.now.period taken.leaf.legs) (link_back c.leaves.link.page taken.leaf) (sym is ∙ taken.takes.link)
+
+    -- and it is on the way that is known
+    past : IsOnWay nodes c.args.shape.now.leaf c.args.place.now.legs c.args.place.now.first (div_ceil c.args.place.now.legs c.args.shape.now.leaf) (last_link c.args.feature c.args.place.now) (suc c.leaves.passed) c.step.new.spans.items rest (link_back c.leaves.link.page taken.leaf)
+    past =
+        let legs = c.args.place.now.legs in
+        let first = c.args.place.now.first in
+        let leaf = c.args.shape.now.leaf in
+        past_read nodes leaf legs first (div_ceil legs leaf) (last_link c.args.feature c.args.place.now) c.leaves.passed c.leaves.spans.items c.step.new.spans.items c.leaves.left rest c.leaves.link taken.leaf (c.leaves.invariant.way fa) less
+        (linked_by nodes c.leaves.link (spot_of leaf legs first rest) taken.leaf taken.above taken.is taken.fit) taken.learns
+
+    -- what is left to walk costs as much by what is known now
+    walked_same : (back : Link) → c.in_ok-back.field-0 ≡ Some back
+        → walked_by nodes c.args.want.now.period (drop (c.leaves.passed + 1) c.step.new.spans.items) rest back.page ≡ walked_by nodes c.args.want.now.period (drop (suc c.leaves.passed) c.leaves.spans.items) rest taken.leaf.previous
+    walked_same back is =
+        let passed = c.leaves.passed in
+        let spans = c.leaves.spans.items in
+        let next : passed + 1 ≡ suc passed = omega arith in
+        ap (λ k. walked_by nodes c.args.want.now.period (drop k c.step.new.spans.items) rest back.page) next
+        ∙ ap (λ l. walked_by nodes c.args.want.now.period l rest back.page) (rest_same passed c.leaves.link.page spans c.step.new.spans.items taken.leaf (c.leaves.invariant.way fa).within taken.learns)
+        ∙ ap (λ b. walked_by nodes c.args.want.now.period (drop (suc passed) spans) rest b.page) (on back is).1
 
 pub leaves-preserved : goal.leaves-preserved
 leaves-preserved g c =
+    let at = (goal.at.leaves-preserved g c).In_ok-back in
     let old = c.args.cache.now in
     let nodes = pages_of_cache old in
     let period = c.args.want.now.period in
     let shape = c.args.shape.now in
-    let legs = c.args.place.now.legs in
-    let first = c.args.place.now.first in
+    let place = c.args.place.now in
     let link = c.leaves.link in
     let n = c.leaves.left in
     let rest = c.leaves.left - 1 in
     let inv = c.leaves.invariant in
-    let blocks = div_ceil legs shape.leaf in
-    let start = last_link c.args.feature c.args.place.now in
-    let less : n ≡ suc rest = omega (arith, c.leaves-test.true) in
-    let most : c.from-most.result ≡ shape.leaf = search rules in
-    let spot : spot_of c.from-most.result legs first rest ≡ spot_of shape.leaf legs first rest = ap (λ m. spot_of m legs first rest) most in
+    let blocks = div_ceil place.legs shape.leaf in
+    let less : n ≡ suc rest = less g at in
+    let next : c.leaves.passed + 1 ≡ suc c.leaves.passed = omega arith in
     record {
       reads = reads_trans old c.leaves.cache c.step.new.cache inv.reads c.step.ensures.reads.only;
-      way = λ fa.
-          let t = c.in_ok-back.ensures.taken (inv.reads.store.faithful ∙ fa) in
-          let is = sym (same_at old c.leaves.cache inv.reads fa link.page) ∙ t.is in
-          let s = goes_on (is_end period t.leaf.legs) c.in-Some.back (link_back link.page t.leaf) (sym c.in-Some.is ∙ t.takes.link) in
-          let fit = ap (λ p. fits t.leaf link p) (sym spot) ∙ t.fit in
-          let past = past_read nodes shape.leaf legs first blocks start c.leaves.passed c.leaves.spans.items c.step.new.spans.items n rest link t.leaf (inv.way fa) less (linked_by nodes link (spot_of shape.leaf legs first rest) t.leaf t.above is fit) t.learns in
-          let next : c.leaves.passed + 1 ≡ suc c.leaves.passed = omega arith in
-          rw (next, s.1) past;
+      way = λ fa. (let s = on g at fa c.in-Some.back c.in-Some.is in rw (next, s.1) (past g at fa));
       found = λ fa.
-          let t = c.in_ok-back.ensures.taken (inv.reads.store.faithful ∙ fa) in
-          let is = sym (same_at old c.leaves.cache inv.reads fa link.page) ∙ t.is in
-          let s = goes_on (is_end period t.leaf.legs) c.in-Some.back (link_back link.page t.leaf) (sym c.in-Some.is ∙ t.takes.link) in
-          let whole = walk nodes period blocks c.args.place.now.last in
+          let t = taken g at fa in
+          let s = on g at fa c.in-Some.back c.in-Some.is in
+          let whole = walk nodes period blocks place.last in
           subst (λ b. IsFound nodes period c.args.want.now.sieve rest b.page whole c.step.new.found.items) (sym s.1)
-          (found_on nodes period link t.leaf is rest n less c.args.want.now.sieve c.leaves.found.items c.step.new.found.items whole s.0 t.takes.legs (inv.found fa));
+          (found_on nodes period link t.leaf t.is rest n less c.args.want.now.sieve c.leaves.found.items c.step.new.found.items whole s.0 t.takes.legs (inv.found fa));
       fault = λ fa.
-          let t = c.in_ok-back.ensures.taken (inv.reads.store.faithful ∙ fa) in
-          let is = sym (same_at old c.leaves.cache inv.reads fa link.page) ∙ t.is in
-          let s = goes_on (is_end period t.leaf.legs) c.in-Some.back (link_back link.page t.leaf) (sym c.in-Some.is ∙ t.takes.link) in
-          let fit = ap (λ p. fits t.leaf link p) (sym spot) ∙ t.fit in
-          ap (λ b. fault_from nodes period shape.leaf legs first rest b) s.1
-          ∙ sym (fault_on nodes period link t.leaf is rest n less shape.leaf legs first t.above fit s.0) ∙ inv.fault fa;
+          let t = taken g at fa in
+          let s = on g at fa c.in-Some.back c.in-Some.is in
+          ap (λ b. fault_from nodes period shape.leaf place.legs place.first rest b) s.1
+          ∙ sym (fault_on nodes period link t.leaf t.is rest n less shape.leaf place.legs place.first t.above t.fit s.0) ∙ inv.fault fa;
       asked = λ fa l.
-          let t = c.in_ok-back.ensures.taken (inv.reads.store.faithful ∙ fa) in
-          let is = sym (same_at old c.leaves.cache inv.reads fa link.page) ∙ t.is in
-          let s = goes_on (is_end period t.leaf.legs) c.in-Some.back (link_back link.page t.leaf) (sym c.in-Some.is ∙ t.takes.link) in
-          let spans = c.leaves.spans.items in
-          let passed = c.leaves.passed in
-          let asks : AsksAs (pass_at (slice_get spans passed) (slice_get spans (suc passed)) rest period) (Some c.in-Some.back) c.leaves.cache c.step.new.cache =
-          subst (λ back. AsksAs (pass_at (slice_get spans passed) (slice_get spans (suc passed)) rest period) back c.leaves.cache c.step.new.cache) c.in-Some.is c.in_ok-back.ensures.asked in
-          let on = asks_on nodes period passed spans rest n link.page less t.leaf is c.leaves.cache c.step.new.cache c.in-Some.back asks s.0 l in
-          let so_far = inv.asked fa on.0 in
-          let next : passed + 1 ≡ suc passed = omega arith in
-          let same = ap (λ k. walked_by nodes period (drop k c.step.new.spans.items) rest c.in-Some.back.page) next
-          ∙ ap (λ l. walked_by nodes period l rest c.in-Some.back.page) (rest_same passed link.page spans c.step.new.spans.items t.leaf (inv.way fa).within t.learns)
-          ∙ ap (λ b. walked_by nodes period (drop (suc passed) spans) rest b.page) s.1 in
-          omega (arith, on.1, so_far, same);
+          let t = taken g at fa in
+          let s = on g at fa c.in-Some.back c.in-Some.is in
+          let more = asks_on nodes period c.leaves.passed c.leaves.spans.items rest n link.page less t.leaf t.is c.leaves.cache c.step.new.cache c.in-Some.back (asks g at (Some c.in-Some.back) c.in-Some.is) s.0 l in
+          let so_far = inv.asked fa more.0 in
+          let same = walked_same g at fa c.in-Some.back c.in-Some.is in
+          omega (arith, more.1, so_far, same);
       some = λ fa.
-          let t = c.in_ok-back.ensures.taken (inv.reads.store.faithful ∙ fa) in
-          let is = sym (same_at old c.leaves.cache inv.reads fa link.page) ∙ t.is in
-          let s = goes_on (is_end period t.leaf.legs) c.in-Some.back (link_back link.page t.leaf) (sym c.in-Some.is ∙ t.takes.link) in
-          let spans = c.leaves.spans.items in
-          let passed = c.leaves.passed in
-          let asks : AsksAs (pass_at (slice_get spans passed) (slice_get spans (suc passed)) rest period) (Some c.in-Some.back) c.leaves.cache c.step.new.cache =
-          subst (λ back. AsksAs (pass_at (slice_get spans passed) (slice_get spans (suc passed)) rest period) back c.leaves.cache c.step.new.cache) c.in-Some.is c.in_ok-back.ensures.asked in
-          let on = few_on nodes period passed spans rest n link.page less t.leaf is c.leaves.cache c.step.new.cache c.in-Some.back asks s.0 in
+          let t = taken g at fa in
+          let s = on g at fa c.in-Some.back c.in-Some.is in
+          let more = few_on nodes period c.leaves.passed c.leaves.spans.items rest n link.page less t.leaf t.is c.leaves.cache c.step.new.cache c.in-Some.back (asks g at (Some c.in-Some.back) c.in-Some.is) s.0 in
           let so_far = inv.some fa in
-          let next : passed + 1 ≡ suc passed = omega arith in
-          let same = ap (λ k. walked_by nodes period (drop k c.step.new.spans.items) rest c.in-Some.back.page) next
-          ∙ ap (λ l. walked_by nodes period l rest c.in-Some.back.page) (rest_same passed link.page spans c.step.new.spans.items t.leaf (inv.way fa).within t.learns)
-          ∙ ap (λ b. walked_by nodes period (drop (suc passed) spans) rest b.page) s.1 in
-          omega (arith, on, so_far, same);
+          let same = walked_same g at fa c.in-Some.back c.in-Some.is in
+          omega (arith, more, so_far, same);
       within = λ fa.
-          let t = c.in_ok-back.ensures.taken (inv.reads.store.faithful ∙ fa) in
-          let is = sym (same_at old c.leaves.cache inv.reads fa link.page) ∙ t.is in
-          let s = goes_on (is_end period t.leaf.legs) c.in-Some.back (link_back link.page t.leaf) (sym c.in-Some.is ∙ t.takes.link) in
+          let t = taken g at fa in
+          let s = on g at fa c.in-Some.back c.in-Some.is in
           let so_far = inv.within fa in
-          let more = asked_on nodes period link t.leaf is rest n less s.0 in
+          let more = asked_on nodes period link t.leaf t.is rest n less s.0 in
           let same = ap (λ b. walked nodes period rest b.page) s.1 in
           omega (arith, c.step.ensures.most, so_far, more, same);
       keeps = front_then c.args.spans.now.items c.leaves.spans.items c.step.new.spans.items inv.keeps c.step.ensures.keeps;
       reached = λ fa.
-          let t = c.in_ok-back.ensures.taken (inv.reads.store.faithful ∙ fa) in
-          let is = sym (same_at old c.leaves.cache inv.reads fa link.page) ∙ t.is in
-          let s = goes_on (is_end period t.leaf.legs) c.in-Some.back (link_back link.page t.leaf) (sym c.in-Some.is ∙ t.takes.link) in
-          let next : c.leaves.passed + 1 ≡ suc c.leaves.passed = omega arith in
-          rw (next, s.1) (reached_on nodes period blocks c.args.place.now.last c.leaves.passed link.page c.leaves.spans.items c.step.new.spans.items n rest link.page t.leaf (inv.way fa).within t.learns less is (inv.reached fa));
+          let t = taken g at fa in
+          let s = on g at fa c.in-Some.back c.in-Some.is in
+          rw (next, s.1) (reached_on nodes period blocks place.last c.leaves.passed link.page c.leaves.spans.items c.step.new.spans.items n rest link.page t.leaf (inv.way fa).within t.learns less t.is (inv.reached fa));
       passed = omega (arith, inv.passed, less);
       few = omega (arith, c.step.ensures.most, inv.few, less);
     }
@@ -122,90 +156,42 @@ returns-in_err-back-clause-named g c = λ fa.
 
 pub returns-in_default-clause-found : goal.returns-in_default-clause-found
 returns-in_default-clause-found g c = λ fa.
-    let old = c.args.cache.now in
-    let link = c.leaves.link in
-    let inv = c.leaves.invariant in
-    let less : c.leaves.left ≡ suc (c.leaves.left - 1) = omega (arith, c.leaves-test.true) in
-    let t = c.in_ok-back.ensures.taken (inv.reads.store.faithful ∙ fa) in
-    let is = sym (same_at old c.leaves.cache inv.reads fa link.page) ∙ t.is in
-    let s = ends (is_end c.args.want.now.period t.leaf.legs) (link_back link.page t.leaf) (sym c.in_default.is ∙ t.takes.link) in
-    found_end (pages_of_cache old) c.args.want.now.period link t.leaf is (c.leaves.left - 1) c.leaves.left less c.args.want.now.sieve c.leaves.found.items c.step.new.found.items _ s t.takes.legs (inv.found fa)
+    let at = (goal.at.returns-in_default-clause-found g c).In_ok-back in
+    let t = taken g at fa in
+    found_end (pages_of_cache c.args.cache.now) c.args.want.now.period c.leaves.link t.leaf t.is (c.leaves.left - 1) c.leaves.left (less g at) c.args.want.now.sieve c.leaves.found.items c.step.new.found.items _ (last g at fa c.in_default.is) t.takes.legs (c.leaves.invariant.found fa)
 
 pub returns-in_default-clause-whole : goal.returns-in_default-clause-whole
 returns-in_default-clause-whole g c = λ fa.
-    let old = c.args.cache.now in
-    let shape = c.args.shape.now in
+    let at = (goal.at.returns-in_default-clause-whole g c).In_ok-back in
     let place = c.args.place.now in
-    let link = c.leaves.link in
-    let rest = c.leaves.left - 1 in
-    let inv = c.leaves.invariant in
-    let less : c.leaves.left ≡ suc rest = omega (arith, c.leaves-test.true) in
-    let most : c.from-most.result ≡ shape.leaf = search rules in
-    let spot : spot_of c.from-most.result place.legs place.first rest ≡ spot_of shape.leaf place.legs place.first rest = ap (λ m. spot_of m place.legs place.first rest) most in
-    let t = c.in_ok-back.ensures.taken (inv.reads.store.faithful ∙ fa) in
-    let is = sym (same_at old c.leaves.cache inv.reads fa link.page) ∙ t.is in
-    let s = ends (is_end c.args.want.now.period t.leaf.legs) (link_back link.page t.leaf) (sym c.in_default.is ∙ t.takes.link) in
-    let fit = ap (λ p. fits t.leaf link p) (sym spot) ∙ t.fit in
-    sym (inv.fault fa) ∙ fault_end (pages_of_cache old) c.args.want.now.period link t.leaf is rest c.leaves.left less shape.leaf place.legs place.first t.above fit s
+    let t = taken g at fa in
+    sym (c.leaves.invariant.fault fa)
+    ∙ fault_end (pages_of_cache c.args.cache.now) c.args.want.now.period c.leaves.link t.leaf t.is (c.leaves.left - 1) c.leaves.left (less g at) c.args.shape.now.leaf place.legs place.first t.above t.fit (last g at fa c.in_default.is)
 
 pub returns-in_default-clause-asked : goal.returns-in_default-clause-asked
 returns-in_default-clause-asked g c = λ fa below.
-    let old = c.args.cache.now in
-    let nodes = pages_of_cache old in
-    let period = c.args.want.now.period in
-    let link = c.leaves.link in
-    let rest = c.leaves.left - 1 in
-    let inv = c.leaves.invariant in
-    let less : c.leaves.left ≡ suc rest = omega (arith, c.leaves-test.true) in
-    let t = c.in_ok-back.ensures.taken (inv.reads.store.faithful ∙ fa) in
-    let is = sym (same_at old c.leaves.cache inv.reads fa link.page) ∙ t.is in
-    let s = ends (is_end period t.leaf.legs) (link_back link.page t.leaf) (sym c.in_default.is ∙ t.takes.link) in
-    let spans = c.leaves.spans.items in
-    let passed = c.leaves.passed in
-    let asks : AsksAs (pass_at (slice_get spans passed) (slice_get spans (suc passed)) rest period) None c.leaves.cache c.step.new.cache =
-    subst (λ back. AsksAs (pass_at (slice_get spans passed) (slice_get spans (suc passed)) rest period) back c.leaves.cache c.step.new.cache) c.in_default.is c.in_ok-back.ensures.asked in
-    let last = asks_last nodes period passed spans rest c.leaves.left link.page less t.leaf is c.leaves.cache c.step.new.cache asks s below in
-    let so_far = inv.asked fa last.0 in
-    omega (arith, last.1, so_far)
+    let at = (goal.at.returns-in_default-clause-asked g c).In_ok-back in
+    let t = taken g at fa in
+    let end = asks_last (pages_of_cache c.args.cache.now) c.args.want.now.period c.leaves.passed c.leaves.spans.items (c.leaves.left - 1) c.leaves.left c.leaves.link.page (less g at) t.leaf t.is c.leaves.cache c.step.new.cache
+    (asks g at None c.in_default.is) (last g at fa c.in_default.is) below in
+    let so_far = c.leaves.invariant.asked fa end.0 in
+    omega (arith, end.1, so_far)
 
 pub returns-in_default-clause-few : goal.returns-in_default-clause-few
 returns-in_default-clause-few g c = λ fa.
-    let old = c.args.cache.now in
-    let nodes = pages_of_cache old in
-    let period = c.args.want.now.period in
-    let link = c.leaves.link in
-    let rest = c.leaves.left - 1 in
-    let inv = c.leaves.invariant in
-    let less : c.leaves.left ≡ suc rest = omega (arith, c.leaves-test.true) in
-    let t = c.in_ok-back.ensures.taken (inv.reads.store.faithful ∙ fa) in
-    let is = sym (same_at old c.leaves.cache inv.reads fa link.page) ∙ t.is in
-    let s = ends (is_end period t.leaf.legs) (link_back link.page t.leaf) (sym c.in_default.is ∙ t.takes.link) in
-    let spans = c.leaves.spans.items in
-    let passed = c.leaves.passed in
-    let asks : AsksAs (pass_at (slice_get spans passed) (slice_get spans (suc passed)) rest period) None c.leaves.cache c.step.new.cache =
-    subst (λ back. AsksAs (pass_at (slice_get spans passed) (slice_get spans (suc passed)) rest period) back c.leaves.cache c.step.new.cache) c.in_default.is c.in_ok-back.ensures.asked in
-    let last = few_last nodes period passed spans rest c.leaves.left link.page less t.leaf is c.leaves.cache c.step.new.cache asks s in
-    let so_far = inv.some fa in
-    omega (arith, last, so_far)
+    let at = (goal.at.returns-in_default-clause-few g c).In_ok-back in
+    let t = taken g at fa in
+    let end = few_last (pages_of_cache c.args.cache.now) c.args.want.now.period c.leaves.passed c.leaves.spans.items (c.leaves.left - 1) c.leaves.left c.leaves.link.page (less g at) t.leaf t.is c.leaves.cache c.step.new.cache
+    (asks g at None c.in_default.is) (last g at fa c.in_default.is) in
+    let so_far = c.leaves.invariant.some fa in
+    omega (arith, end, so_far)
 
 pub returns-in_default-clause-learns : goal.returns-in_default-clause-learns
 returns-in_default-clause-learns g c = λ fa.
-    let old = c.args.cache.now in
-    let nodes = pages_of_cache old in
-    let shape = c.args.shape.now in
+    let at = (goal.at.returns-in_default-clause-learns g c).In_ok-back in
     let place = c.args.place.now in
-    let link = c.leaves.link in
-    let rest = c.leaves.left - 1 in
-    let inv = c.leaves.invariant in
-    let less : c.leaves.left ≡ suc rest = omega (arith, c.leaves-test.true) in
-    let most : c.from-most.result ≡ shape.leaf = search rules in
-    let spot : spot_of c.from-most.result place.legs place.first rest ≡ spot_of shape.leaf place.legs place.first rest = ap (λ m. spot_of m place.legs place.first rest) most in
-    let t = c.in_ok-back.ensures.taken (inv.reads.store.faithful ∙ fa) in
-    let is = sym (same_at old c.leaves.cache inv.reads fa link.page) ∙ t.is in
-    let fit = ap (λ p. fits t.leaf link p) (sym spot) ∙ t.fit in
-    let past = past_read nodes shape.leaf place.legs place.first (div_ceil place.legs shape.leaf) (last_link c.args.feature place) c.leaves.passed c.leaves.spans.items c.step.new.spans.items c.leaves.left rest link t.leaf (inv.way fa) less
-    (linked_by nodes link (spot_of shape.leaf place.legs place.first rest) t.leaf t.above is fit) t.learns in
-    all_known nodes shape.leaf place.legs place.first (div_ceil place.legs shape.leaf) (last_link c.args.feature place) (suc c.leaves.passed) c.step.new.spans.items rest (link_back link.page t.leaf) past
+    let leaf = c.args.shape.now.leaf in
+    all_known (pages_of_cache c.args.cache.now) leaf place.legs place.first (div_ceil place.legs leaf) (last_link c.args.feature place) (suc c.leaves.passed) c.step.new.spans.items (c.leaves.left - 1) (link_back c.leaves.link.page (taken g at fa).leaf) (past g at fa)
 
 pub returns-clause-asked : goal.returns-clause-asked
 returns-clause-asked g c = λ fa below.
@@ -218,16 +204,11 @@ returns-clause-asked g c = λ fa below.
 
 pub returns-in_default-clause-within : goal.returns-in_default-clause-within
 returns-in_default-clause-within g c = λ fa.
-    let old = c.args.cache.now in
-    let link = c.leaves.link in
-    let inv = c.leaves.invariant in
-    let less : c.leaves.left ≡ suc (c.leaves.left - 1) = omega (arith, c.leaves-test.true) in
-    let t = c.in_ok-back.ensures.taken (inv.reads.store.faithful ∙ fa) in
-    let is = sym (same_at old c.leaves.cache inv.reads fa link.page) ∙ t.is in
-    let s = ends (is_end c.args.want.now.period t.leaf.legs) (link_back link.page t.leaf) (sym c.in_default.is ∙ t.takes.link) in
-    let so_far = inv.within fa in
-    let last = asked_end (pages_of_cache old) c.args.want.now.period link t.leaf is (c.leaves.left - 1) c.leaves.left less s in
-    omega (arith, c.step.ensures.most, so_far, last)
+    let at = (goal.at.returns-in_default-clause-within g c).In_ok-back in
+    let t = taken g at fa in
+    let so_far = c.leaves.invariant.within fa in
+    let end = asked_end (pages_of_cache c.args.cache.now) c.args.want.now.period c.leaves.link t.leaf t.is (c.leaves.left - 1) c.leaves.left (less g at) (last g at fa c.in_default.is) in
+    omega (arith, c.step.ensures.most, so_far, end)
 
 pub step-requires-clause-known : goal.step-requires-clause-known
 step-requires-clause-known g c = λ fa.
@@ -247,18 +228,12 @@ returns-clause-found g c = λ fa.
 
 pub returns-in_default-clause-recalls : goal.returns-in_default-clause-recalls
 returns-in_default-clause-recalls g c = λ fa.
-    let old = c.args.cache.now in
-    let nodes = pages_of_cache old in
-    let period = c.args.want.now.period in
+    let at = (goal.at.returns-in_default-clause-recalls g c).In_ok-back in
     let place = c.args.place.now in
     let link = c.leaves.link in
-    let rest = c.leaves.left - 1 in
     let inv = c.leaves.invariant in
-    let less : c.leaves.left ≡ suc rest = omega (arith, c.leaves-test.true) in
-    let t = c.in_ok-back.ensures.taken (inv.reads.store.faithful ∙ fa) in
-    let is = sym (same_at old c.leaves.cache inv.reads fa link.page) ∙ t.is in
-    let s = ends (is_end period t.leaf.legs) (link_back link.page t.leaf) (sym c.in_default.is ∙ t.takes.link) in
-    reached_end nodes period (div_ceil place.legs c.args.shape.now.leaf) place.last c.leaves.passed link.page c.leaves.spans.items c.step.new.spans.items c.leaves.left rest link.page t.leaf (inv.way fa).within t.learns less is (inv.reached fa) s
+    let t = taken g at fa in
+    reached_end (pages_of_cache c.args.cache.now) c.args.want.now.period (div_ceil place.legs c.args.shape.now.leaf) place.last c.leaves.passed link.page c.leaves.spans.items c.step.new.spans.items c.leaves.left (c.leaves.left - 1) link.page t.leaf (inv.way fa).within t.learns (less g at) t.is (inv.reached fa) (last g at fa c.in_default.is)
 
 pub returns-clause-recalls : goal.returns-clause-recalls
 returns-clause-recalls g c = λ fa.
@@ -284,10 +259,7 @@ returns-clause-learns g c = λ fa.
 pub returns-in_err-back-clause-reads : goal.returns-in_err-back-clause-reads
 returns-in_err-back-clause-reads g c =
     let p = err_from_is_err_and c.from_residual.result c.from_residual.ensures.1 in
-    record {
-      only = reads_trans c.args.cache.now c.leaves.cache c.step.new.cache c.leaves.invariant.reads c.step.ensures.reads.only;
-      caused = rw (p.1, p.2) (caused_after c.args.cache.now c.leaves.cache c.step.new.cache c.in_err-back.field-0.0 c.leaves.invariant.reads c.in_err-back.ensures.reads.caused);
-    }
+    rw (p.1, p.2) (reads_refused c.args.cache.now c.leaves.cache c.step.new.cache c.in_err-back.field-0.0 c.leaves.invariant.reads c.in_err-back.ensures.reads)
 
 pub returns-in_default-clause-reads : goal.returns-in_default-clause-reads
 returns-in_default-clause-reads g c =

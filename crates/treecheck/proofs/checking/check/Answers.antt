@@ -1,4 +1,4 @@
-use Rattle.std.proofs.Common.{[], ◌≡◌, ◌<◌, length, false, sym, ap, ◌∙◌, subst, List, IsTrue}
+use Rattle.std.proofs.Common.{[], refl, ◌≡◌, ◌<◌, length, false, sym, ap, ◌∙◌, subst, List, IsTrue}
 use Rattle.std.specs.Prelude.{IfErr, IsErrOf, OnOk}
 use Rattle.legs.specs.Asking.{Leaves}
 use Rattle.legs.specs.Index.{MayRefuse}
@@ -25,43 +25,57 @@ use Rattle.legs.specs.declared.index.IndexFault.TheVariants.{Damaged}
 use Rattle.treecheck.proofs.checking.check.Given as given
 use Rattle.treecheck.proofs.checking.check.Goals as goal
 
--- where the pages pass, the index is sound, and its tracks are those that were given
-sound_after : (g : given.Over) (c : goal.After-answer g) (P : IndexView → Type 0) → ((v : IndexView) → IsSound v → AreTracksOf c.args.tracks.now c.args.rows (content v) → P v)
-    → OnOk c.answer.result (IsTrue c.args.index.now.cache.store.is_faithful → P c.put_places.new.self)
-sound_after g c P holds =
+-- the index is as it was, over the cache that was lent
+index_is : (g : given.Over) (c : goal.After-answer g) → c.put_places.new.self ≡ with_cache c.args.index.now c.check_index-given.new.index.cache []
+index_is g c =
+    c.put_places.ensures
+    ∙ ended c.args.index.now c.take_places-places.new.self c.check_index-given.new.index c.take_places-places.result.items c.take_places-places.ensures.rest c.check_index-given.ensures.same c.take_places-places.ensures.taken
+
+-- whose pages were only read
+index_reads : (g : given.Over) (c : goal.After-answer g) → OnlyReads c.args.index.now.cache c.check_index-given.new.index.cache
+index_reads g c = subst (λ (v : IndexView). OnlyReads v.cache c.check_index-given.new.index.cache) c.take_places-places.ensures.rest c.check_index-given.ensures.reads.only
+
+-- where the pages pass, what follows from them is so
+passes : (g : given.Over) (c : goal.After-answer g) (P : Type 0)
+    → (IsTrue c.args.index.now.cache.store.is_faithful → IsChecked (pages_of_cache c.args.index.now.cache) c.args.index.now.tree c.args.rows c.args.index.now.legs c.args.index.now.places c.args.tracks.now.tracks
+    → Agree c.args.tracks.now c.args.rows c.args.index.now.legs → c.args.index.now.cache.count ≡ c.args.index.now.cache.store.count → P)
+    → OnOk c.answer.result (IsTrue c.args.index.now.cache.store.is_faithful → P)
+passes g c P follows =
     let index : IndexView = c.args.index.now in
-    let lent : IndexView = c.take_places-places.new.self in
-    let left : IndexView = c.check_index-given.new.index in
     let given = c.check_index-given in
     let rest = c.take_places-places.ensures.rest in
-    let new : IndexView = record index { cache = left.cache; known = [] } in
-    let ends : c.put_places.new.self ≡ new = c.put_places.ensures ∙ ended index lent left c.take_places-places.result.items rest given.ensures.same c.take_places-places.ensures.taken in
     let tracks = c.args.tracks.now in
     let rows = c.args.rows in
     let places : List Place = c.as_slice.result.now in
-    let laws : TreeLaws = record { content = c.laws.ensures.content; lawful = c.laws.ensures.lawful } in
-    let value : places ≡ index.places = c.as_slice.ensures.value ∙ c.take_places-places.ensures.taken in
-    let works : index.tree.spent ≡ false = sym (ap (λ (v : TbTree). v.spent) c.tree.ensures) ∙ c.if-tree.false in
-    subst (λ (v : IndexView). OnOk c.answer.result (IsTrue index.cache.store.is_faithful → P v)) (sym ends)
-    (subst (λ r. OnOk r (IsTrue index.cache.store.is_faithful → P new)) (sym c.answer.ensures)
-    (each_value (λ fault. of_tree fault) (λ _. IsTrue index.cache.store.is_faithful → P new) given.result
-    (passed given.result (IsTrue index.cache.store.is_faithful) (IsChecked (pages_of_cache index.cache) index.tree rows index.legs places tracks.tracks) (Agree tracks rows index.legs) (index.cache.count ≡ index.cache.store.count) (P new)
+    let whole : List Place → Type 0 = λ places. IsChecked (pages_of_cache index.cache) index.tree rows index.legs places tracks.tracks in
+    subst (λ r. OnOk r (IsTrue index.cache.store.is_faithful → P)) (sym c.answer.ensures)
+    (each_value (λ fault. of_tree fault) (λ _. IsTrue index.cache.store.is_faithful → P) given.result
+    (passed given.result (IsTrue index.cache.store.is_faithful) (whole places) (Agree tracks rows index.legs) (index.cache.count ≡ index.cache.store.count) P
     (subst (λ (v : IndexView). IsTrue v.cache.store.is_faithful → OnOk given.result (IsChecked (pages_of_cache v.cache) v.tree rows v.legs places tracks.tracks)) rest given.ensures.checked)
     (subst (λ (v : IndexView). OnOk given.result (Agree tracks rows v.legs)) rest given.ensures.agree)
     (subst (λ (v : IndexView). OnOk given.result (v.cache.count ≡ v.cache.store.count)) rest given.ensures.count)
-    (λ fa k a n.
-    let reads : OnlyReads index.cache left.cache = subst (λ (v : IndexView). OnlyReads v.cache left.cache) rest given.ensures.reads.only in
-    let shape : IsShape index.tree.shape = subst (λ (v : IndexView). IsShape v.tree.shape) rest given.ensures.shape in
-    let h = subst (λ nodes. HoldLegs nodes index.tree rows index.legs index.places tracks.tracks) (sym (same_pages index.cache left.cache reads fa))
-    (subst (λ places. HoldLegs (pages_of_cache index.cache) index.tree rows index.legs places tracks.tracks) value (c.laws-2.ensures.checked (pages_of_cache index.cache) index.tree rows index.legs places tracks.tracks shape k)) in
-    let many : left.cache.count ≡ left.cache.store.count = reads.count ∙ n ∙ sym reads.length in
-    holds new (sound laws new tracks rows (reads.store.faithful ∙ fa) works shape many h) (tracks_are laws new tracks rows (reads.store.faithful ∙ fa) works shape many h a)))))
+    (λ fa k. follows fa (subst whole (c.as_slice.ensures.value ∙ c.take_places-places.ensures.taken) k))))
+
+-- and the index is sound, with the tracks that were given
+sound_after : (g : given.Over) (c : goal.After-answer g) (P : IndexView → Type 0) → ((v : IndexView) → IsSound v → AreTracksOf c.args.tracks.now c.args.rows (content v) → P v)
+    → OnOk c.answer.result (IsTrue c.args.index.now.cache.store.is_faithful → P c.put_places.new.self)
+sound_after g c P holds = passes g c (P c.put_places.new.self) (λ fa k a n.
+    let index : IndexView = c.args.index.now in
+    let left = c.check_index-given.new.index.cache in
+    let new : IndexView = with_cache index left [] in
+    let tracks = c.args.tracks.now in
+    let rows = c.args.rows in
+    let laws : TreeLaws = record { content = c.laws.ensures.content; lawful = c.laws.ensures.lawful } in
+    let works : index.tree.spent ≡ false = sym (ap (λ (v : TbTree). v.spent) c.tree.ensures) ∙ c.if-tree.false in
+    let reads = index_reads g c in
+    let shape : IsShape index.tree.shape = subst (λ (v : IndexView). IsShape v.tree.shape) c.take_places-places.ensures.rest c.check_index-given.ensures.shape in
+    let h = subst (λ nodes. HoldLegs nodes index.tree rows index.legs index.places tracks.tracks) (sym (same_pages index.cache left reads fa))
+    (c.laws-2.ensures.checked (pages_of_cache index.cache) index.tree rows index.legs index.places tracks.tracks shape k) in
+    let many : left.count ≡ left.store.count = reads.count ∙ n ∙ sym reads.length in
+    subst P (sym (index_is g c)) (holds new (sound laws new tracks rows (reads.store.faithful ∙ fa) works shape many h) (tracks_are laws new tracks rows (reads.store.faithful ∙ fa) works shape many h a)))
 
 pub returns-clause-same : goal.returns-clause-same
-returns-clause-same g c =
-    let left : IndexView = c.check_index-given.new.index in
-    subst (λ (v : IndexView). v ≡ with_cache c.args.index.now v.cache v.known) (sym c.put_places.ensures)
-    (ended c.args.index.now c.take_places-places.new.self left c.take_places-places.result.items c.take_places-places.ensures.rest c.check_index-given.ensures.same c.take_places-places.ensures.taken)
+returns-clause-same g c = subst (λ (v : IndexView). v ≡ with_cache c.args.index.now v.cache v.known) (sym (index_is g c)) refl
 
 pub returns-clause-sound : goal.returns-clause-sound
 returns-clause-sound g c = sound_after g c IsSound (λ v s a. s)
@@ -73,7 +87,6 @@ pub returns-clause-only : goal.returns-clause-only
 returns-clause-only g c = λ s a says.
     let index : IndexView = c.args.index.now in
     let given = c.check_index-given in
-    let rest = c.take_places-places.ensures.rest in
     let tracks = c.args.tracks.now in
     let rows = c.args.rows in
     let places : List Place = c.as_slice.result.now in
@@ -81,7 +94,7 @@ returns-clause-only g c = λ s a says.
     let back : index.places ≡ places = sym (c.as_slice.ensures.value ∙ c.take_places-places.ensures.taken) in
     let k = c.laws-2.ensures.held (pages_of_cache index.cache) index.tree rows index.legs index.places tracks.tracks s.shape (held laws index tracks rows s a) in
     let allowed = subst (λ (v : IndexView). IsTrue v.cache.store.is_faithful → v.cache.count ≡ v.cache.store.count → SaysState c.args.begun (payload_of v.cache 0)
-    → length places < 4294967296 → Agree tracks rows v.legs → IsChecked (pages_of_cache v.cache) v.tree rows v.legs places tracks.tracks → IfErr given.result MayRefuseRead) rest given.ensures.only in
+    → length places < 4294967296 → Agree tracks rows v.legs → IsChecked (pages_of_cache v.cache) v.tree rows v.legs places tracks.tracks → IfErr given.result MayRefuseRead) c.take_places-places.ensures.rest given.ensures.only in
     subst (λ r. IfErr r MayRefuse) (sym c.answer.ensures)
     (each_fault (λ fault. of_tree fault) MayRefuseRead MayRefuse (λ x h. read_allowed x h) given.result
     (allowed s.faithful s.count says (subst (λ (places : List Place). length places < 4294967296) back (few laws index tracks rows s a)) (agrees laws index tracks rows s a)
@@ -89,14 +102,7 @@ returns-clause-only g c = λ s a says.
 
 pub returns-clause-leaves : goal.returns-clause-leaves
 returns-clause-leaves g c =
-    let index : IndexView = c.args.index.now in
-    let lent : IndexView = c.take_places-places.new.self in
-    let left : IndexView = c.check_index-given.new.index in
-    let given = c.check_index-given in
-    let rest = c.take_places-places.ensures.rest in
-    let ends : c.put_places.new.self ≡ with_cache index left.cache [] = c.put_places.ensures ∙ ended index lent left c.take_places-places.result.items rest given.ensures.same c.take_places-places.ensures.taken in
-    let reads : OnlyReads index.cache left.cache = subst (λ (v : IndexView). OnlyReads v.cache left.cache) rest given.ensures.reads.only in
-    subst (λ (v : IndexView). Leaves words index v) (sym ends) (reads_leave index left.cache [] reads)
+    subst (λ (v : IndexView). Leaves words c.args.index.now v) (sym (index_is g c)) (reads_leave c.args.index.now c.check_index-given.new.index.cache [] (index_reads g c))
 
 pub returns-clause-named : goal.returns-clause-named
 returns-clause-named g c = λ fa n e.
@@ -117,18 +123,4 @@ returns-clause-named g c = λ fa n e.
 
 pub returns-clause-whole : goal.returns-clause-whole
 returns-clause-whole g c =
-    let index : IndexView = c.args.index.now in
-    let given = c.check_index-given in
-    let rest = c.take_places-places.ensures.rest in
-    let tracks = c.args.tracks.now in
-    let rows = c.args.rows in
-    let places : List Place = c.as_slice.result.now in
-    let value : places ≡ index.places = c.as_slice.ensures.value ∙ c.take_places-places.ensures.taken in
-    let whole : List Place → Type 0 = λ places. IsChecked (pages_of_cache index.cache) index.tree rows index.legs places tracks.tracks in
-    subst (λ r. OnOk r (IsTrue index.cache.store.is_faithful → whole index.places)) (sym c.answer.ensures)
-    (each_value (λ fault. of_tree fault) (λ _. IsTrue index.cache.store.is_faithful → whole index.places) given.result
-    (passed given.result (IsTrue index.cache.store.is_faithful) (whole places) (Agree tracks rows index.legs) (index.cache.count ≡ index.cache.store.count) (whole index.places)
-    (subst (λ (v : IndexView). IsTrue v.cache.store.is_faithful → OnOk given.result (IsChecked (pages_of_cache v.cache) v.tree rows v.legs places tracks.tracks)) rest given.ensures.checked)
-    (subst (λ (v : IndexView). OnOk given.result (Agree tracks rows v.legs)) rest given.ensures.agree)
-    (subst (λ (v : IndexView). OnOk given.result (v.cache.count ≡ v.cache.store.count)) rest given.ensures.count)
-    (λ fa k a n. subst whole value k)))
+    passes g c (IsChecked (pages_of_cache c.args.index.now.cache) c.args.index.now.tree c.args.rows c.args.index.now.legs c.args.index.now.places c.args.tracks.now.tracks) (λ fa k a n. k)

@@ -1,4 +1,4 @@
-use Rattle.std.proofs.Common.{◌<◌, sym, ◌∙◌, subst}
+use Rattle.std.proofs.Common.{ℕ, List, ◌≡◌, ◌<◌, sym, ap, ◌∙◌, subst, slice_get, IsTrue}
 use Rattle.std.specs.List.{All}
 use Rattle.std.specs.List.Sorted.{IsPermutation}
 use Rattle.std.proofs.lemmas.Bool.{true≢false}
@@ -13,24 +13,117 @@ use Rattle.treecheck.specs.Levels.{StandsOver, pages_of_leaves}
 use Rattle.treecheck.specs.Walking.{IsMet, Surveys}
 use Rattle.treecheck.specs.Ordering.{NameLast}
 use Rattle.treecheck.specs.declared.walking.Met.{Met}
-use Rattle.chains.proofs.ReadLemmas.{caused_after, reads_trans}
-use Rattle.tbtree.specs.Faults.{IfMalformed}
+use Rattle.chains.specs.Reads.{OnlyReads}
+use Rattle.chains.proofs.ReadLemmas.{caused_after, reads_refused, reads_trans}
+use Rattle.tbtree.specs.Faults.{IfMalformed, NamesEach, RefusesRead}
+use Rattle.tbtree.specs.declared.fault.TreeFault.{TreeFault}
+use Rattle.tbtree.specs.declared.tree.Place.{Place}
+use Rattle.tbtree.specs.declared.tree.TbTree.{TbTree}
+use Rattle.tbtree.specs.Turn.{IsRising}
+use Rattle.pagecache.specs.Cache.{Cache}
+use Rattle.legs.specs.Tracks.{TracksView}
+use Rattle.treecheck.specs.declared.walking.Survey.{Survey}
 use Rattle.tbtree.specs.declared.fault.TreeFault.TheVariants.{Malformed}
 use Rattle.tbtree.proofs.FaultLemmas.{names_then}
 use Rattle.treecheck.specs.Naming.{HoldLeaves, HoldList, IsFirstDamaged, IsFirstMalformed, IsMiscounted, IsOrder}
 use Rattle.treecheck.specs.Descent.{DescentStopsAt}
-use Rattle.std.proofs.Common.{ℕ, List, ◌≡◌}
 use Rattle.treecheck.specs.Stopping.{AllStopAt}
-use Rattle.treecheck.proofs.NamingLemmas.{has_payload, later_named, malformed_of, miscounted, state_named, tree_later, walk_later, zero_later}
-use Rattle.treecheck.proofs.WalkedLemmas.{same_pages}
-use Rattle.treecheck.proofs.CheckingLemmas.{checked, list_of, list_whole, order_same, order_strict, are_met, within, whole, strict, over, last}
+use Rattle.treecheck.proofs.NamingLemmas.{has_payload, IsLater, later_named, malformed_of, miscounted, order_of, state_named, tree_later, walk_later, zero_later}
+use Rattle.treecheck.proofs.WalkedLemmas.{as_after, as_before, same_pages}
+use Rattle.treecheck.proofs.CheckingLemmas.{checked, list_of, list_whole, order_same, order_strict, are_met, within, whole}
+use Rattle.treecheck.proofs.checking.check_pages.Given as given
+use Rattle.treecheck.proofs.checking.check_pages.Goals.{After-as_slice, After-check_state, After-check_tree, After-put_in_order, After-walk_all, In_ok-check_tree, In_ok-survey}
 use Rattle.treecheck.proofs.checking.check_pages.Goals as goal
+
+-- up to page 0 all was read of the pages as they were
+begun_reads : (g : given.Over) (c : After-check_state g) → OnlyReads c.args.cache.now c.check_state.new.cache
+begun_reads g c = reads_trans c.args.cache.now c.read_pages.new.cache c.check_state.new.cache c.read_pages.ensures.reads.only c.check_state.ensures.reads.only
+
+-- up to the leaves
+walked_reads : (g : given.Over) (c : After-walk_all g) → OnlyReads c.args.cache.now c.walk_all.new.source
+walked_reads g c = reads_trans c.args.cache.now c.check_state.new.cache c.walk_all.new.source
+    (reads_trans c.args.cache.now c.read_pages.new.cache c.check_state.new.cache c.read_pages.ensures.reads.only c.check_state.ensures.reads.only) c.walk_all.ensures.reads.only
+
+-- and up to the tree
+tree_reads : (g : given.Over) (c : After-check_tree g) → OnlyReads c.args.cache.now c.walk_all.new.source → OnlyReads c.args.cache.now c.check_tree.new.cache
+tree_reads g c walked = reads_trans c.args.cache.now c.walk_all.new.source c.check_tree.new.cache walked c.check_tree.ensures.reads.only
+
+-- the survey is one of the pages as they were
+surveyed : (g : given.Over) (c : In_ok-survey g) → IsTrue c.args.cache.now.store.is_faithful
+    → Surveys (pages_of_cache c.args.cache.now) c.args.tree.now.shape.leaf c.args.rows c.args.places.now c.args.tracks.now.tracks c.in_ok-survey.survey
+surveyed g c fa =
+    let mid = c.check_state.new.cache in
+    let reads = reads_trans c.args.cache.now c.read_pages.new.cache mid c.read_pages.ensures.reads.only c.check_state.ensures.reads.only in
+    let of : Pages LegView BoxView → ℕ → Type 0 = λ nodes n. Surveys nodes n c.args.rows c.args.places.now c.args.tracks.now.tracks c.in_ok-survey.survey in
+    subst (λ nodes. of nodes c.args.tree.now.shape.leaf) (same_pages c.args.cache.now mid reads fa)
+    (subst (of (pages_of_cache mid)) (c.from-most.ensures ∙ c.leaf.ensures.value) (c.in_ok-survey.ensures.surveyed (reads.store.faithful ∙ fa)))
+
+-- leaves are as they were met, and are pages of the tree
+abbrev AreMet : Pages LegView BoxView → List Met → Type 0
+AreMet nodes leaves = All (λ (m : Met). IsMet (nodes.at m.page) m) leaves
+
+abbrev AreInside : Pages LegView BoxView → List Met → Type 0
+AreInside nodes leaves = All (λ p. (0 < p) × (p < nodes.count)) (pages_of_leaves leaves)
+
+-- what the leaves of a survey are, once they are in order, which is the only one that rises
+record InOrder (old : Cache) (tree : TbTree) (rows : ℕ) (places : List Place) (tracks : TracksView) (survey : Survey) (leaves : List Met) : Type 0 where
+  moved : IsPermutation survey.leaves.items leaves
+  met : AreMet (pages_of_cache old) leaves
+  inside : AreInside (pages_of_cache old) leaves
+  order_is : (order : List ℕ) → IsOrder old tree rows places tracks order → pages_of_leaves leaves ≡ order
+  rising : (order : List ℕ) → IsOrder old tree rows places tracks order → IsRising (λ (m : Met). m.first) leaves
+
+in_order : (g : given.Over) (c : After-put_in_order g) → Surveys (pages_of_cache c.args.cache.now) c.args.tree.now.shape.leaf c.args.rows c.args.places.now c.args.tracks.now.tracks c.in_ok-survey.survey
+    → InOrder c.args.cache.now c.args.tree.now c.args.rows c.args.places.now c.args.tracks.now c.in_ok-survey.survey c.put_in_order.new.survey.leaves.items
+in_order g c sv =
+    let nodes = pages_of_cache c.args.cache.now in
+    let tree = c.args.tree.now in
+    let rows = c.args.rows in
+    let total = c.args.legs in
+    let places = c.args.places.now in
+    let tracks = c.args.tracks.now.tracks in
+    let survey = c.in_ok-survey.survey in
+    let leaves = c.put_in_order.new.survey.leaves.items in
+    let moved : IsPermutation survey.leaves.items leaves = subst (λ v. IsPermutation v.items leaves) c.is_whole.ensures.leaves c.put_in_order.ensures.moved in
+    record {
+      moved = moved;
+      met = are_met nodes tree rows total places tracks survey leaves sv moved;
+      inside = within nodes tree rows total places tracks survey leaves sv moved;
+      order_is = λ order o. order_same nodes tree rows total places tracks survey leaves sv moved o.chains o.are_chains order o.ordered o.rises c.laws.ensures.in_order c.put_in_order.ensures.rises;
+      rising = λ order o. order_strict nodes tree rows total places tracks survey leaves sv moved o.chains o.are_chains order o.ordered o.rises c.laws.ensures.in_order c.put_in_order.ensures.rises;
+    }
+
+-- where the way down is found, a tree stands over the leaves
+stands : (g : given.Over) (c : In_ok-check_tree g) → IsTrue c.args.cache.now.store.is_faithful → OnlyReads c.args.cache.now c.walk_all.new.source
+    → InOrder c.args.cache.now c.args.tree.now c.args.rows c.args.places.now c.args.tracks.now c.in_ok-survey.survey c.put_in_order.new.survey.leaves.items
+    → StandsOver (pages_of_cache c.args.cache.now) c.args.tree.now (pages_of_leaves c.put_in_order.new.survey.leaves.items)
+stands g c fa reads f =
+    let value = c.as_slice.ensures.value in
+    as_before _ _ reads fa _ _ value (λ nodes leaves. StandsOver nodes c.args.tree.now (pages_of_leaves leaves))
+    (c.in_ok-check_tree.ensures.over (reads.store.faithful ∙ fa) (as_after _ _ reads fa _ _ value AreMet f.met) (as_after _ _ reads fa _ _ value AreInside f.inside))
+
+-- once page 0 said its state, a page is named of which what is to be known later is known
+name_later : (g : given.Over) (c : After-walk_all g) → IsTrue c.args.cache.now.store.is_faithful → (new : Cache) (fault : TreeFault) → RefusesRead c.args.cache.now new fault
+    → IfMalformed (IsLater c.args.tree.now c.args.rows c.args.legs c.args.places.now c.args.tracks.now c.args.cache.now) fault
+    → NamesEach (IsFirstDamaged c.args.cache.now) (IsFirstMalformed c.args.begun c.args.tree.now c.args.rows c.args.legs c.args.places.now c.args.tracks.now c.args.cache.now) fault
+name_later g c fa new fault =
+    let first = c.read_pages.ensures.reads.only in
+    later_named c.args.begun c.args.tree.now c.args.rows c.args.legs c.args.places.now c.args.tracks.now c.args.cache.now new fa (c.in_ok-read_pages.ensures.held fa) c.in_ok-read_pages.ensures.some c.in_ok-read_pages.ensures.count
+    (subst (SaysState c.args.begun) (first.payloads fa 0) (c.in_ok-check_state.ensures.says (first.store.faithful ∙ fa))) fault
+
+-- where the walk passed, that is page 0, but for the pages of the tree
+name_zero : (g : given.Over) (c : After-walk_all g) → IsTrue c.args.cache.now.store.is_faithful → HoldLeaves c.args.cache.now c.args.tree.now c.args.rows c.args.places.now c.args.tracks.now
+    → (HoldList c.args.cache.now c.args.tree.now c.args.rows c.args.places.now c.args.tracks.now c.args.legs → (order : List ℕ) → IsOrder c.args.cache.now c.args.tree.now c.args.rows c.args.places.now c.args.tracks.now order
+    → ((pages : ℕ → List ℕ) → IsTreeOver (pages_of_cache c.args.cache.now) c.args.tree.now order pages → ⊥) → ⊥)
+    → IsFirstMalformed c.args.begun c.args.tree.now c.args.rows c.args.legs c.args.places.now c.args.tracks.now c.args.cache.now 0
+name_zero g c fa chains apart =
+    name_later g c fa c.args.cache.now (Malformed 0) tt (zero_later c.args.tree.now c.args.rows c.args.legs c.args.places.now c.args.tracks.now c.args.cache.now chains apart)
 
 pub returns-in_err-survey-clause-only : goal.returns-in_err-survey-clause-only
 returns-in_err-survey-clause-only g c = λ fa same says few agrees k.
     let p = err_from_is_err_and c.from_residual-in_err-survey.result c.from_residual-in_err-survey.ensures.1 in
     let old = c.args.cache.now in
-    let reads = reads_trans old c.read_pages.new.cache c.check_state.new.cache c.read_pages.ensures.reads.only c.check_state.ensures.reads.only in
+    let reads = begun_reads g (goal.at.returns-in_err-survey-clause-only g c).After-check_state in
     let most = c.from-most.ensures ∙ c.leaf.ensures.value in
     rw (p.1, p.2) (c.in_err-survey.ensures.only (reads.store.faithful ∙ fa) few k.chains
     (subst (λ nodes. AreChains nodes c.from-most.result c.args.rows 0 c.args.places.now c.args.tracks.now.tracks k.chains) (sym (same_pages old c.check_state.new.cache reads fa))
@@ -38,84 +131,44 @@ returns-in_err-survey-clause-only g c = λ fa same says few agrees k.
 
 pub returns-then-not-is_whole-clause-only : goal.returns-then-not-is_whole-clause-only
 returns-then-not-is_whole-clause-only g c = λ fa same says few agrees k.
-    let old = c.args.cache.now in
-    let reads = reads_trans old c.read_pages.new.cache c.check_state.new.cache c.read_pages.ensures.reads.only c.check_state.ensures.reads.only in
-    let most = c.from-most.ensures ∙ c.leaf.ensures.value in
+    let sv = surveyed g (goal.at.returns-then-not-is_whole-clause-only g c).In_ok-survey fa in
     let survey = c.in_ok-survey.survey in
-    let sv = subst (λ nodes. Surveys nodes c.args.tree.now.shape.leaf c.args.rows c.args.places.now c.args.tracks.now.tracks survey) (same_pages old c.check_state.new.cache reads fa)
-    (subst (λ n. Surveys (pages_of_cache c.check_state.new.cache) n c.args.rows c.args.places.now c.args.tracks.now.tracks survey) most (c.in_ok-survey.ensures.surveyed (reads.store.faithful ∙ fa))) in
-    let w = whole (pages_of_cache old) c.args.tree.now c.args.rows c.args.legs c.args.places.now c.args.tracks.now.tracks survey survey.leaves.items sv (IsPermutation-refl survey.leaves.items) k in
+    let w = whole (pages_of_cache c.args.cache.now) c.args.tree.now c.args.rows c.args.legs c.args.places.now c.args.tracks.now.tracks survey survey.leaves.items sv (IsPermutation-refl survey.leaves.items) k in
     true≢false (sym (c.is_whole.ensures.only w) ∙ c.if-not-is_whole.true)
 
 pub returns-then-not-put_in_order-clause-only : goal.returns-then-not-put_in_order-clause-only
 returns-then-not-put_in_order-clause-only g c = λ fa same says few agrees k.
-    let old = c.args.cache.now in
-    let reads = reads_trans old c.read_pages.new.cache c.check_state.new.cache c.read_pages.ensures.reads.only c.check_state.ensures.reads.only in
-    let most = c.from-most.ensures ∙ c.leaf.ensures.value in
-    let survey = c.in_ok-survey.survey in
-    let sv = subst (λ nodes. Surveys nodes c.args.tree.now.shape.leaf c.args.rows c.args.places.now c.args.tracks.now.tracks survey) (same_pages old c.check_state.new.cache reads fa)
-    (subst (λ n. Surveys (pages_of_cache c.check_state.new.cache) n c.args.rows c.args.places.now c.args.tracks.now.tracks survey) most (c.in_ok-survey.ensures.surveyed (reads.store.faithful ∙ fa))) in
-    let leaves = c.put_in_order.new.survey.leaves.items in
-    let moved : IsPermutation survey.leaves.items leaves = subst (λ v. IsPermutation v.items leaves) c.is_whole.ensures.leaves c.put_in_order.ensures.moved in
-    let r = strict (pages_of_cache old) c.args.tree.now c.args.rows c.args.legs c.args.places.now c.args.tracks.now.tracks survey leaves sv moved k c.laws.ensures.in_order c.put_in_order.ensures.rises in
-    true≢false (sym (c.put_in_order.ensures.strict.1 r) ∙ c.if-not-put_in_order.true)
+    let at = goal.at.returns-then-not-put_in_order-clause-only g c in
+    let ordered = in_order g at.After-put_in_order (surveyed g at.In_ok-survey fa) in
+    true≢false (sym (c.put_in_order.ensures.strict.1 (ordered.rising k.order (order_of _ _ _ _ _ _ k))) ∙ c.if-not-put_in_order.true)
 
 pub returns-in_err-check_tree-clause-only : goal.returns-in_err-check_tree-clause-only
 returns-in_err-check_tree-clause-only g c = λ fa same says few agrees k.
     let p = err_from_is_err_and c.from_residual-in_err-check_tree.result c.from_residual-in_err-check_tree.ensures.1 in
-    let old = c.args.cache.now in
-    let reads = reads_trans old c.read_pages.new.cache c.check_state.new.cache c.read_pages.ensures.reads.only c.check_state.ensures.reads.only in
-    let later = reads_trans old c.check_state.new.cache c.walk_all.new.source reads c.walk_all.ensures.reads.only in
-    let most = c.from-most.ensures ∙ c.leaf.ensures.value in
-    let survey = c.in_ok-survey.survey in
-    let sv = subst (λ nodes. Surveys nodes c.args.tree.now.shape.leaf c.args.rows c.args.places.now c.args.tracks.now.tracks survey) (same_pages old c.check_state.new.cache reads fa)
-    (subst (λ n. Surveys (pages_of_cache c.check_state.new.cache) n c.args.rows c.args.places.now c.args.tracks.now.tracks survey) most (c.in_ok-survey.ensures.surveyed (reads.store.faithful ∙ fa))) in
-    let leaves = c.put_in_order.new.survey.leaves.items in
-    let moved : IsPermutation survey.leaves.items leaves = subst (λ v. IsPermutation v.items leaves) c.is_whole.ensures.leaves c.put_in_order.ensures.moved in
-    let mets = are_met (pages_of_cache old) c.args.tree.now c.args.rows c.args.legs c.args.places.now c.args.tracks.now.tracks survey leaves sv moved in
-    let ov = over (pages_of_cache old) c.args.tree.now c.args.rows c.args.legs c.args.places.now c.args.tracks.now.tracks survey leaves sv moved k c.laws.ensures.in_order c.put_in_order.ensures.rises in
-    let back = sym (same_pages old c.walk_all.new.source later fa) in
+    let at = goal.at.returns-in_err-check_tree-clause-only g c in
+    let reads = walked_reads g at.After-walk_all in
+    let ordered = in_order g at.After-put_in_order (surveyed g at.In_ok-survey fa) in
     let value = c.as_slice.ensures.value in
-    rw (p.1, p.2) (c.in_err-check_tree.ensures.only (later.store.faithful ∙ fa)
-    (subst (λ ms. All (λ (m : Met). IsMet ((pages_of_cache c.walk_all.new.source).at m.page) m) ms) (sym value) (subst (λ (nodes : Pages LegView BoxView). All (λ (m : Met). IsMet (nodes.at m.page) m) leaves) back mets))
-    k.pages
-    (subst (λ ms. IsTreeOver (pages_of_cache c.walk_all.new.source) c.args.tree.now (pages_of_leaves ms) k.pages) (sym value) (subst (λ nodes. IsTreeOver nodes c.args.tree.now (pages_of_leaves leaves) k.pages) back ov)))
+    let over = subst (λ order. IsTreeOver (pages_of_cache c.args.cache.now) c.args.tree.now order k.pages) (sym (ordered.order_is k.order (order_of _ _ _ _ _ _ k))) k.over in
+    rw (p.1, p.2) (c.in_err-check_tree.ensures.only (reads.store.faithful ∙ fa) (as_after _ _ reads fa _ _ value AreMet ordered.met) k.pages
+    (as_after _ _ reads fa _ _ value (λ nodes leaves. IsTreeOver nodes c.args.tree.now (pages_of_leaves leaves) k.pages) over))
 
 pub returns-then-not-name_last-clause-only : goal.returns-then-not-name_last-clause-only
 returns-then-not-name_last-clause-only g c = λ fa same says few agrees k.
-    let old = c.args.cache.now in
-    let reads = reads_trans old c.read_pages.new.cache c.check_state.new.cache c.read_pages.ensures.reads.only c.check_state.ensures.reads.only in
-    let most = c.from-most.ensures ∙ c.leaf.ensures.value in
-    let survey = c.in_ok-survey.survey in
-    let sv = subst (λ nodes. Surveys nodes c.args.tree.now.shape.leaf c.args.rows c.args.places.now c.args.tracks.now.tracks survey) (same_pages old c.check_state.new.cache reads fa)
-    (subst (λ n. Surveys (pages_of_cache c.check_state.new.cache) n c.args.rows c.args.places.now c.args.tracks.now.tracks survey) most (c.in_ok-survey.ensures.surveyed (reads.store.faithful ∙ fa))) in
-    let leaves = c.put_in_order.new.survey.leaves.items in
-    let moved : IsPermutation survey.leaves.items leaves = subst (λ v. IsPermutation v.items leaves) c.is_whole.ensures.leaves c.put_in_order.ensures.moved in
-    let l = last (pages_of_cache old) c.args.tree.now c.args.rows c.args.legs c.args.places.now c.args.tracks.now.tracks survey leaves sv moved k c.laws.ensures.in_order c.put_in_order.ensures.rises in
-    true≢false (sym (c.name_last.ensures.1 (subst (NameLast c.args.places.now) (sym c.as_slice-2.ensures.value) l)) ∙ c.if-not-name_last.true)
+    let at = goal.at.returns-then-not-name_last-clause-only g c in
+    let ordered = in_order g at.After-put_in_order (surveyed g at.In_ok-survey fa) in
+    let last : NameLast c.args.places.now c.put_in_order.new.survey.leaves.items = λ f place e. ap (λ l. slice_get l place.last_index) (ordered.order_is k.order (order_of _ _ _ _ _ _ k)) ∙ k.last_index f place e in
+    true≢false (sym (c.name_last.ensures.1 (subst (NameLast c.args.places.now) (sym c.as_slice-2.ensures.value) last)) ∙ c.if-not-name_last.true)
 
 pub returns-clause-checked : goal.returns-clause-checked
 returns-clause-checked g c = λ fa.
-    let old = c.args.cache.now in
-    let reads = reads_trans old c.read_pages.new.cache c.check_state.new.cache c.read_pages.ensures.reads.only c.check_state.ensures.reads.only in
-    let later = reads_trans old c.check_state.new.cache c.walk_all.new.source reads c.walk_all.ensures.reads.only in
-    let most = c.from-most.ensures ∙ c.leaf.ensures.value in
-    let survey = c.in_ok-survey.survey in
-    let sv = subst (λ nodes. Surveys nodes c.args.tree.now.shape.leaf c.args.rows c.args.places.now c.args.tracks.now.tracks survey) (same_pages old c.check_state.new.cache reads fa)
-    (subst (λ n. Surveys (pages_of_cache c.check_state.new.cache) n c.args.rows c.args.places.now c.args.tracks.now.tracks survey) most (c.in_ok-survey.ensures.surveyed (reads.store.faithful ∙ fa))) in
-    let leaves = c.put_in_order.new.survey.leaves.items in
-    let moved : IsPermutation survey.leaves.items leaves = subst (λ v. IsPermutation v.items leaves) c.is_whole.ensures.leaves c.put_in_order.ensures.moved in
-    let mets = are_met (pages_of_cache old) c.args.tree.now c.args.rows c.args.legs c.args.places.now c.args.tracks.now.tracks survey leaves sv moved in
-    let in_pages = within (pages_of_cache old) c.args.tree.now c.args.rows c.args.legs c.args.places.now c.args.tracks.now.tracks survey leaves sv moved in
-    let back = sym (same_pages old c.walk_all.new.source later fa) in
-    let value = c.as_slice.ensures.value in
-    let stands = c.in_ok-check_tree.ensures.over (later.store.faithful ∙ fa)
-    (subst (λ ms. All (λ (m : Met). IsMet ((pages_of_cache c.walk_all.new.source).at m.page) m) ms) (sym value) (subst (λ (nodes : Pages LegView BoxView). All (λ (m : Met). IsMet (nodes.at m.page) m) leaves) back mets))
-    (subst (λ ms. All (λ p. (0 < p) × (p < c.walk_all.new.source.count)) (pages_of_leaves ms)) (sym value) (subst (λ n. All (λ p. (0 < p) × (p < n)) (pages_of_leaves leaves)) (sym later.count) in_pages)) in
-    let st = subst (λ nodes. StandsOver nodes c.args.tree.now (pages_of_leaves leaves)) (same_pages old c.walk_all.new.source later fa) (subst (λ ms. StandsOver (pages_of_cache c.walk_all.new.source) c.args.tree.now (pages_of_leaves ms)) value stands) in
-    checked (pages_of_cache old) c.args.tree.now c.args.rows c.args.legs c.args.places.now c.args.tracks.now.tracks survey leaves sv moved
+    let at = goal.at.returns-clause-checked g c in
+    let sv = surveyed g at.In_ok-survey fa in
+    let ordered = in_order g at.After-put_in_order sv in
+    let tree = stands g at.In_ok-check_tree fa (walked_reads g at.After-walk_all) ordered in
+    checked (pages_of_cache c.args.cache.now) c.args.tree.now c.args.rows c.args.legs c.args.places.now c.args.tracks.now.tracks c.in_ok-survey.survey c.put_in_order.new.survey.leaves.items sv ordered.moved
     c.in_ok-read_pages.ensures.some (c.in_ok-read_pages.ensures.held fa) (c.is_whole.ensures.whole c.if-not-is_whole.false)
-    (c.put_in_order.ensures.strict.0 c.if-not-put_in_order.false) st.pages st.is_over
+    (c.put_in_order.ensures.strict.0 c.if-not-put_in_order.false) tree.pages tree.is_over
     (subst (NameLast c.args.places.now) c.as_slice-2.ensures.value (c.name_last.ensures.0 c.if-not-name_last.false))
 
 pub returns-then-not-agree-clause-only : goal.returns-then-not-agree-clause-only
@@ -163,250 +216,113 @@ returns-in_err-check_state-clause-named g c = λ fa.
 pub returns-in_err-survey-clause-named : goal.returns-in_err-survey-clause-named
 returns-in_err-survey-clause-named g c = λ fa.
     let p = err_from_is_err_and c.from_residual-in_err-survey.result c.from_residual-in_err-survey.ensures.1 in
+    let at = goal.at.returns-in_err-survey-clause-named g c in
     let old = c.args.cache.now in
-    let tree = c.args.tree.now in
+    let mid = c.check_state.new.cache in
+    let leaf = c.args.tree.now.shape.leaf in
     let rows = c.args.rows in
-    let total = c.args.legs in
     let places = c.args.places.now in
     let tracks = c.args.tracks.now in
-    let held = c.in_ok-read_pages.ensures.held fa in
-    let some = c.in_ok-read_pages.ensures.some in
-    let count = c.in_ok-read_pages.ensures.count in
-    let first = c.read_pages.ensures.reads.only in
-    let says = subst (SaysState c.args.begun) (first.payloads fa 0) (c.in_ok-check_state.ensures.says (first.store.faithful ∙ fa)) in
-    let reads = reads_trans old c.read_pages.new.cache c.check_state.new.cache first c.check_state.ensures.reads.only in
+    let reads = begun_reads g at.After-check_state in
+    let same = same_pages old mid reads fa in
     let most = c.from-most.ensures ∙ c.leaf.ensures.value in
     let fault = c.in_err-survey.field-0.0 in
-    let same = same_pages old c.check_state.new.cache reads fa in
-    rw (p.1, p.2) (later_named c.args.begun tree rows total places tracks old c.walk_all.new.source fa held some count says fault
-    (caused_after old c.check_state.new.cache c.walk_all.new.source fault reads c.in_err-survey.ensures.reads.caused)
-    (walk_later c.args.begun tree rows total places tracks old c.walk_all.new.source fa held some count fault
-    (subst (λ nodes. IfMalformed (AllStopAt nodes tree.shape.leaf rows places tracks.tracks) fault) same
-    (subst (λ n. IfMalformed (AllStopAt (pages_of_cache c.check_state.new.cache) n rows places tracks.tracks) fault) most
-    (malformed_of (AllStopAt (pages_of_cache c.check_state.new.cache) c.from-most.result rows places tracks.tracks) fault (c.in_err-survey.ensures.stops (reads.store.faithful ∙ fa)))))
+    let stops : Pages LegView BoxView → ℕ → Type 0 = λ nodes n. IfMalformed (AllStopAt nodes n rows places tracks.tracks) fault in
+    rw (p.1, p.2) (name_later g at.After-walk_all fa c.walk_all.new.source fault
+    (caused_after old mid c.walk_all.new.source fault reads c.in_err-survey.ensures.reads.caused)
+    (walk_later c.args.tree.now rows c.args.legs places tracks old fault
+    (subst (λ nodes. stops nodes leaf) same (subst (stops (pages_of_cache mid)) most
+    (malformed_of (AllStopAt (pages_of_cache mid) c.from-most.result rows places tracks.tracks) fault (c.in_err-survey.ensures.stops (reads.store.faithful ∙ fa)))))
     (λ few k. c.in_err-survey.ensures.only (reads.store.faithful ∙ fa) few k.0
     (subst (λ nodes. AreChains nodes c.from-most.result rows 0 places tracks.tracks k.0) (sym same)
     (subst (λ n. AreChains (pages_of_cache old) n rows 0 places tracks.tracks k.0) (sym most) k.1)))))
 
 pub returns-then-not-is_whole-clause-named : goal.returns-then-not-is_whole-clause-named
 returns-then-not-is_whole-clause-named g c = λ fa.
-    let old = c.args.cache.now in
-    let tree = c.args.tree.now in
-    let rows = c.args.rows in
-    let total = c.args.legs in
-    let places = c.args.places.now in
-    let tracks = c.args.tracks.now in
-    let held = c.in_ok-read_pages.ensures.held fa in
-    let some = c.in_ok-read_pages.ensures.some in
-    let count = c.in_ok-read_pages.ensures.count in
-    let first = c.read_pages.ensures.reads.only in
-    let says = subst (SaysState c.args.begun) (first.payloads fa 0) (c.in_ok-check_state.ensures.says (first.store.faithful ∙ fa)) in
-    let reads = reads_trans old c.read_pages.new.cache c.check_state.new.cache first c.check_state.ensures.reads.only in
-    let most = c.from-most.ensures ∙ c.leaf.ensures.value in
+    let at = goal.at.returns-then-not-is_whole-clause-named g c in
+    let sv = surveyed g at.In_ok-survey fa in
     let survey = c.in_ok-survey.survey in
-    let sv = subst (λ nodes. Surveys nodes tree.shape.leaf rows places tracks.tracks survey) (same_pages old c.check_state.new.cache reads fa)
-    (subst (λ n. Surveys (pages_of_cache c.check_state.new.cache) n rows places tracks.tracks survey) most (c.in_ok-survey.ensures.surveyed (reads.store.faithful ∙ fa))) in
-    let chains : HoldLeaves old tree rows places tracks = (sv.chains, sv.are_chains) in
-    later_named c.args.begun tree rows total places tracks old old fa held some count says (Malformed 0) tt (zero_later c.args.begun tree rows total places tracks old old fa held some count chains
-    (λ k _ _ _. true≢false (sym (c.is_whole.ensures.only (list_whole (pages_of_cache old) tree rows total places tracks.tracks survey survey.leaves.items sv (IsPermutation-refl survey.leaves.items) k.0 k.1)) ∙ c.if-not-is_whole.true)))
+    name_zero g at.After-walk_all fa (sv.chains, sv.are_chains) (λ k _ _ _.
+    let w = list_whole (pages_of_cache c.args.cache.now) c.args.tree.now c.args.rows c.args.legs c.args.places.now c.args.tracks.now.tracks survey survey.leaves.items sv (IsPermutation-refl survey.leaves.items) k.0 k.1 in
+    true≢false (sym (c.is_whole.ensures.only w) ∙ c.if-not-is_whole.true))
 
 pub returns-then-not-agree-clause-named : goal.returns-then-not-agree-clause-named
 returns-then-not-agree-clause-named g c = λ fa.
-    let old = c.args.cache.now in
-    let tree = c.args.tree.now in
-    let rows = c.args.rows in
-    let total = c.args.legs in
-    let places = c.args.places.now in
-    let tracks = c.args.tracks.now in
-    let held = c.in_ok-read_pages.ensures.held fa in
-    let some = c.in_ok-read_pages.ensures.some in
-    let count = c.in_ok-read_pages.ensures.count in
-    let first = c.read_pages.ensures.reads.only in
-    let says = subst (SaysState c.args.begun) (first.payloads fa 0) (c.in_ok-check_state.ensures.says (first.store.faithful ∙ fa)) in
-    let reads = reads_trans old c.read_pages.new.cache c.check_state.new.cache first c.check_state.ensures.reads.only in
-    let most = c.from-most.ensures ∙ c.leaf.ensures.value in
-    let survey = c.in_ok-survey.survey in
-    let sv = subst (λ nodes. Surveys nodes tree.shape.leaf rows places tracks.tracks survey) (same_pages old c.check_state.new.cache reads fa)
-    (subst (λ n. Surveys (pages_of_cache c.check_state.new.cache) n rows places tracks.tracks survey) most (c.in_ok-survey.ensures.surveyed (reads.store.faithful ∙ fa))) in
-    let chains : HoldLeaves old tree rows places tracks = (sv.chains, sv.are_chains) in
-    later_named c.args.begun tree rows total places tracks old old fa held some count says (Malformed 0) tt (zero_later c.args.begun tree rows total places tracks old old fa held some count chains
-    (λ k _ _ _. true≢false (sym (c.agree.ensures.1 k.2) ∙ c.if-not-agree.true)))
+    let at = goal.at.returns-then-not-agree-clause-named g c in
+    let sv = surveyed g at.In_ok-survey fa in
+    name_zero g at.After-walk_all fa (sv.chains, sv.are_chains) (λ k _ _ _. true≢false (sym (c.agree.ensures.1 k.2) ∙ c.if-not-agree.true))
 
 pub returns-then-not-put_in_order-clause-named : goal.returns-then-not-put_in_order-clause-named
 returns-then-not-put_in_order-clause-named g c = λ fa.
-    let old = c.args.cache.now in
-    let tree = c.args.tree.now in
-    let rows = c.args.rows in
-    let total = c.args.legs in
-    let places = c.args.places.now in
-    let tracks = c.args.tracks.now in
-    let held = c.in_ok-read_pages.ensures.held fa in
-    let some = c.in_ok-read_pages.ensures.some in
-    let count = c.in_ok-read_pages.ensures.count in
-    let first = c.read_pages.ensures.reads.only in
-    let says = subst (SaysState c.args.begun) (first.payloads fa 0) (c.in_ok-check_state.ensures.says (first.store.faithful ∙ fa)) in
-    let reads = reads_trans old c.read_pages.new.cache c.check_state.new.cache first c.check_state.ensures.reads.only in
-    let most = c.from-most.ensures ∙ c.leaf.ensures.value in
-    let survey = c.in_ok-survey.survey in
-    let sv = subst (λ nodes. Surveys nodes tree.shape.leaf rows places tracks.tracks survey) (same_pages old c.check_state.new.cache reads fa)
-    (subst (λ n. Surveys (pages_of_cache c.check_state.new.cache) n rows places tracks.tracks survey) most (c.in_ok-survey.ensures.surveyed (reads.store.faithful ∙ fa))) in
-    let chains : HoldLeaves old tree rows places tracks = (sv.chains, sv.are_chains) in
-    let leaves = c.put_in_order.new.survey.leaves.items in
-    let moved : IsPermutation survey.leaves.items leaves = subst (λ v. IsPermutation v.items leaves) c.is_whole.ensures.leaves c.put_in_order.ensures.moved in
-    let in_order = c.laws.ensures.in_order in
-    let rises = c.put_in_order.ensures.rises in
-    later_named c.args.begun tree rows total places tracks old old fa held some count says (Malformed 0) tt (zero_later c.args.begun tree rows total places tracks old old fa held some count chains
-    (λ k order o _.
-    let r = order_strict (pages_of_cache old) tree rows total places tracks.tracks survey leaves sv moved o.chains o.are_chains order o.ordered o.rises in_order rises in
-    true≢false (sym (c.put_in_order.ensures.strict.1 r) ∙ c.if-not-put_in_order.true)))
+    let at = goal.at.returns-then-not-put_in_order-clause-named g c in
+    let sv = surveyed g at.In_ok-survey fa in
+    name_zero g at.After-walk_all fa (sv.chains, sv.are_chains) (λ _ order o _.
+    true≢false (sym (c.put_in_order.ensures.strict.1 ((in_order g at.After-put_in_order sv).rising order o)) ∙ c.if-not-put_in_order.true))
 
 pub returns-in_err-check_tree-clause-named : goal.returns-in_err-check_tree-clause-named
 returns-in_err-check_tree-clause-named g c = λ fa.
     let p = err_from_is_err_and c.from_residual-in_err-check_tree.result c.from_residual-in_err-check_tree.ensures.1 in
-    let old = c.args.cache.now in
+    let at = goal.at.returns-in_err-check_tree-clause-named g c in
     let tree = c.args.tree.now in
     let rows = c.args.rows in
     let total = c.args.legs in
     let places = c.args.places.now in
     let tracks = c.args.tracks.now in
-    let held = c.in_ok-read_pages.ensures.held fa in
-    let some = c.in_ok-read_pages.ensures.some in
-    let count = c.in_ok-read_pages.ensures.count in
-    let first = c.read_pages.ensures.reads.only in
-    let says = subst (SaysState c.args.begun) (first.payloads fa 0) (c.in_ok-check_state.ensures.says (first.store.faithful ∙ fa)) in
-    let reads = reads_trans old c.read_pages.new.cache c.check_state.new.cache first c.check_state.ensures.reads.only in
-    let most = c.from-most.ensures ∙ c.leaf.ensures.value in
-    let survey = c.in_ok-survey.survey in
-    let sv = subst (λ nodes. Surveys nodes tree.shape.leaf rows places tracks.tracks survey) (same_pages old c.check_state.new.cache reads fa)
-    (subst (λ n. Surveys (pages_of_cache c.check_state.new.cache) n rows places tracks.tracks survey) most (c.in_ok-survey.ensures.surveyed (reads.store.faithful ∙ fa))) in
-    let chains : HoldLeaves old tree rows places tracks = (sv.chains, sv.are_chains) in
     let leaves = c.put_in_order.new.survey.leaves.items in
-    let moved : IsPermutation survey.leaves.items leaves = subst (λ v. IsPermutation v.items leaves) c.is_whole.ensures.leaves c.put_in_order.ensures.moved in
-    let in_order = c.laws.ensures.in_order in
-    let rises = c.put_in_order.ensures.rises in
-    let later = reads_trans old c.check_state.new.cache c.walk_all.new.source reads c.walk_all.ensures.reads.only in
-    let nodes = pages_of_cache old in
-    let value = c.as_slice.ensures.value in
-    let same = same_pages old c.walk_all.new.source later fa in
-    let back = sym same in
-    let same_order : (order : List ℕ) → IsOrder old tree rows places tracks order → pages_of_leaves leaves ≡ order = λ order o. order_same nodes tree rows total places tracks.tracks survey leaves sv moved o.chains o.are_chains order o.ordered o.rises in_order rises in
-    let mets = are_met nodes tree rows total places tracks.tracks survey leaves sv moved in
-    let met = subst (λ ms. All (λ (m : Met). IsMet ((pages_of_cache c.walk_all.new.source).at m.page) m) ms) (sym value) (subst (λ (nodes : Pages LegView BoxView). All (λ (m : Met). IsMet (nodes.at m.page) m) leaves) back mets) in
     let fault = c.in_err-check_tree.field-0.0 in
-    let one = list_of nodes tree rows total places tracks.tracks survey leaves sv moved (c.is_whole.ensures.whole c.if-not-is_whole.false) in
-    let list : HoldList old tree rows places tracks total = (one.0, one.1, c.agree.ensures.0 c.if-not-agree.false) in
-    rw (p.1, p.2) (later_named c.args.begun tree rows total places tracks old c.check_tree.new.cache fa held some count says fault
-    (caused_after old c.walk_all.new.source c.check_tree.new.cache fault later c.in_err-check_tree.ensures.reads.caused)
-    (tree_later c.args.begun tree rows total places tracks old c.check_tree.new.cache fa held some count chains list (pages_of_leaves leaves) same_order fault
-    (subst (λ ms. IfMalformed (DescentStopsAt nodes tree (pages_of_leaves ms)) fault) value
-    (subst (λ nodes. IfMalformed (DescentStopsAt nodes tree (pages_of_leaves c.as_slice.result.now)) fault) same
-    (c.in_err-check_tree.ensures.stops (later.store.faithful ∙ fa) met)))
-    (λ pages over. c.in_err-check_tree.ensures.only (later.store.faithful ∙ fa) met pages
-    (subst (λ ms. IsTreeOver (pages_of_cache c.walk_all.new.source) tree (pages_of_leaves ms) pages) (sym value) (subst (λ nodes. IsTreeOver nodes tree (pages_of_leaves leaves) pages) back over)))))
+    let value = c.as_slice.ensures.value in
+    let reads = walked_reads g at.After-walk_all in
+    let sv = surveyed g at.In_ok-survey fa in
+    let ordered = in_order g at.After-put_in_order sv in
+    let met = as_after _ _ reads fa _ _ value AreMet ordered.met in
+    let one = list_of (pages_of_cache c.args.cache.now) tree rows total places tracks.tracks c.in_ok-survey.survey leaves sv ordered.moved (c.is_whole.ensures.whole c.if-not-is_whole.false) in
+    rw (p.1, p.2) (name_later g at.After-walk_all fa c.check_tree.new.cache fault
+    (caused_after c.args.cache.now c.walk_all.new.source c.check_tree.new.cache fault reads c.in_err-check_tree.ensures.reads.caused)
+    (tree_later tree rows total places tracks c.args.cache.now (sv.chains, sv.are_chains) (one.0, one.1, c.agree.ensures.0 c.if-not-agree.false) (pages_of_leaves leaves) ordered.order_is fault
+    (as_before _ _ reads fa _ _ value (λ nodes leaves. IfMalformed (DescentStopsAt nodes tree (pages_of_leaves leaves)) fault) (c.in_err-check_tree.ensures.stops (reads.store.faithful ∙ fa) met))
+    (λ pages over. c.in_err-check_tree.ensures.only (reads.store.faithful ∙ fa) met pages (as_after _ _ reads fa _ _ value (λ nodes leaves. IsTreeOver nodes tree (pages_of_leaves leaves) pages) over))))
 
 pub returns-then-not-name_last-clause-named : goal.returns-then-not-name_last-clause-named
 returns-then-not-name_last-clause-named g c = λ fa.
-    let old = c.args.cache.now in
-    let tree = c.args.tree.now in
-    let rows = c.args.rows in
-    let total = c.args.legs in
-    let places = c.args.places.now in
-    let tracks = c.args.tracks.now in
-    let held = c.in_ok-read_pages.ensures.held fa in
-    let some = c.in_ok-read_pages.ensures.some in
-    let count = c.in_ok-read_pages.ensures.count in
-    let first = c.read_pages.ensures.reads.only in
-    let says = subst (SaysState c.args.begun) (first.payloads fa 0) (c.in_ok-check_state.ensures.says (first.store.faithful ∙ fa)) in
-    let reads = reads_trans old c.read_pages.new.cache c.check_state.new.cache first c.check_state.ensures.reads.only in
-    let most = c.from-most.ensures ∙ c.leaf.ensures.value in
-    let survey = c.in_ok-survey.survey in
-    let sv = subst (λ nodes. Surveys nodes tree.shape.leaf rows places tracks.tracks survey) (same_pages old c.check_state.new.cache reads fa)
-    (subst (λ n. Surveys (pages_of_cache c.check_state.new.cache) n rows places tracks.tracks survey) most (c.in_ok-survey.ensures.surveyed (reads.store.faithful ∙ fa))) in
-    let chains : HoldLeaves old tree rows places tracks = (sv.chains, sv.are_chains) in
-    let leaves = c.put_in_order.new.survey.leaves.items in
-    let moved : IsPermutation survey.leaves.items leaves = subst (λ v. IsPermutation v.items leaves) c.is_whole.ensures.leaves c.put_in_order.ensures.moved in
-    let in_order = c.laws.ensures.in_order in
-    let rises = c.put_in_order.ensures.rises in
-    let later = reads_trans old c.check_state.new.cache c.walk_all.new.source reads c.walk_all.ensures.reads.only in
-    let nodes = pages_of_cache old in
-    let value = c.as_slice.ensures.value in
-    let same = same_pages old c.walk_all.new.source later fa in
-    let back = sym same in
-    let same_order : (order : List ℕ) → IsOrder old tree rows places tracks order → pages_of_leaves leaves ≡ order = λ order o. order_same nodes tree rows total places tracks.tracks survey leaves sv moved o.chains o.are_chains order o.ordered o.rises in_order rises in
-    let mets = are_met nodes tree rows total places tracks.tracks survey leaves sv moved in
-    let met = subst (λ ms. All (λ (m : Met). IsMet ((pages_of_cache c.walk_all.new.source).at m.page) m) ms) (sym value) (subst (λ (nodes : Pages LegView BoxView). All (λ (m : Met). IsMet (nodes.at m.page) m) leaves) back mets) in
-    let in_pages = within nodes tree rows total places tracks.tracks survey leaves sv moved in
-    let stands = c.in_ok-check_tree.ensures.over (later.store.faithful ∙ fa) met
-    (subst (λ ms. All (λ p. (0 < p) × (p < c.walk_all.new.source.count)) (pages_of_leaves ms)) (sym value) (subst (λ n. All (λ p. (0 < p) × (p < n)) (pages_of_leaves leaves)) (sym later.count) in_pages)) in
-    let st = subst (λ nodes. StandsOver nodes tree (pages_of_leaves leaves)) same (subst (λ ms. StandsOver (pages_of_cache c.walk_all.new.source) tree (pages_of_leaves ms)) value stands) in
-    later_named c.args.begun tree rows total places tracks old old fa held some count says (Malformed 0) tt (zero_later c.args.begun tree rows total places tracks old old fa held some count chains
-    (λ k order o none. none st.pages (subst (λ order. IsTreeOver nodes tree order st.pages) (same_order order o) st.is_over)))
+    let at = goal.at.returns-then-not-name_last-clause-named g c in
+    let sv = surveyed g at.In_ok-survey fa in
+    let ordered = in_order g at.After-put_in_order sv in
+    let tree = stands g at.In_ok-check_tree fa (walked_reads g at.After-walk_all) ordered in
+    name_zero g at.After-walk_all fa (sv.chains, sv.are_chains) (λ _ order o none.
+    none tree.pages (subst (λ order. IsTreeOver (pages_of_cache c.args.cache.now) c.args.tree.now order tree.pages) (ordered.order_is order o) tree.is_over))
 
 pub returns-in_err-check_state-clause-reads : goal.returns-in_err-check_state-clause-reads
 returns-in_err-check_state-clause-reads g c =
     let p = err_from_is_err_and c.from_residual-in_err-check_state.result c.from_residual-in_err-check_state.ensures.1 in
-    record {
-      only = reads_trans c.args.cache.now c.read_pages.new.cache c.check_state.new.cache c.read_pages.ensures.reads.only c.check_state.ensures.reads.only;
-      caused = rw (p.1, p.2) (caused_after c.args.cache.now c.read_pages.new.cache c.check_state.new.cache c.in_err-check_state.field-0.0 c.read_pages.ensures.reads.only c.in_err-check_state.ensures.reads.caused);
-    }
+    rw (p.1, p.2) (reads_refused c.args.cache.now c.read_pages.new.cache c.check_state.new.cache c.in_err-check_state.field-0.0 c.read_pages.ensures.reads.only c.in_err-check_state.ensures.reads)
 
 pub returns-in_err-survey-clause-reads : goal.returns-in_err-survey-clause-reads
 returns-in_err-survey-clause-reads g c =
-    let stated = reads_trans c.args.cache.now c.read_pages.new.cache c.check_state.new.cache c.read_pages.ensures.reads.only c.check_state.ensures.reads.only in
     let p = err_from_is_err_and c.from_residual-in_err-survey.result c.from_residual-in_err-survey.ensures.1 in
-    record {
-      only = reads_trans c.args.cache.now c.check_state.new.cache c.walk_all.new.source stated c.walk_all.ensures.reads.only;
-      caused = rw (p.1, p.2) (caused_after c.args.cache.now c.check_state.new.cache c.walk_all.new.source c.in_err-survey.field-0.0 stated c.in_err-survey.ensures.reads.caused);
-    }
+    let begun = begun_reads g (goal.at.returns-in_err-survey-clause-reads g c).After-check_state in
+    rw (p.1, p.2) (reads_refused c.args.cache.now c.check_state.new.cache c.walk_all.new.source c.in_err-survey.field-0.0 begun c.in_err-survey.ensures.reads)
 
 pub returns-then-not-is_whole-clause-reads : goal.returns-then-not-is_whole-clause-reads
-returns-then-not-is_whole-clause-reads g c =
-    let stated = reads_trans c.args.cache.now c.read_pages.new.cache c.check_state.new.cache c.read_pages.ensures.reads.only c.check_state.ensures.reads.only in
-    record {
-      only = reads_trans c.args.cache.now c.check_state.new.cache c.walk_all.new.source stated c.walk_all.ensures.reads.only;
-      caused = tt;
-    }
+returns-then-not-is_whole-clause-reads g c = record { only = walked_reads g (goal.at.returns-then-not-is_whole-clause-reads g c).After-walk_all; caused = tt }
 
 pub returns-then-not-agree-clause-reads : goal.returns-then-not-agree-clause-reads
-returns-then-not-agree-clause-reads g c =
-    let stated = reads_trans c.args.cache.now c.read_pages.new.cache c.check_state.new.cache c.read_pages.ensures.reads.only c.check_state.ensures.reads.only in
-    record {
-      only = reads_trans c.args.cache.now c.check_state.new.cache c.walk_all.new.source stated c.walk_all.ensures.reads.only;
-      caused = tt;
-    }
+returns-then-not-agree-clause-reads g c = record { only = walked_reads g (goal.at.returns-then-not-agree-clause-reads g c).After-walk_all; caused = tt }
 
 pub returns-then-not-put_in_order-clause-reads : goal.returns-then-not-put_in_order-clause-reads
-returns-then-not-put_in_order-clause-reads g c =
-    let stated = reads_trans c.args.cache.now c.read_pages.new.cache c.check_state.new.cache c.read_pages.ensures.reads.only c.check_state.ensures.reads.only in
-    record {
-      only = reads_trans c.args.cache.now c.check_state.new.cache c.walk_all.new.source stated c.walk_all.ensures.reads.only;
-      caused = tt;
-    }
+returns-then-not-put_in_order-clause-reads g c = record { only = walked_reads g (goal.at.returns-then-not-put_in_order-clause-reads g c).After-walk_all; caused = tt }
 
 pub returns-in_err-check_tree-clause-reads : goal.returns-in_err-check_tree-clause-reads
 returns-in_err-check_tree-clause-reads g c =
-    let stated = reads_trans c.args.cache.now c.read_pages.new.cache c.check_state.new.cache c.read_pages.ensures.reads.only c.check_state.ensures.reads.only in
-    let walked = reads_trans c.args.cache.now c.check_state.new.cache c.walk_all.new.source stated c.walk_all.ensures.reads.only in
     let p = err_from_is_err_and c.from_residual-in_err-check_tree.result c.from_residual-in_err-check_tree.ensures.1 in
-    record {
-      only = reads_trans c.args.cache.now c.walk_all.new.source c.check_tree.new.cache walked c.check_tree.ensures.reads.only;
-      caused = rw (p.1, p.2) (caused_after c.args.cache.now c.walk_all.new.source c.check_tree.new.cache c.in_err-check_tree.field-0.0 walked c.in_err-check_tree.ensures.reads.caused);
-    }
+    let walked = walked_reads g (goal.at.returns-in_err-check_tree-clause-reads g c).After-walk_all in
+    rw (p.1, p.2) (reads_refused c.args.cache.now c.walk_all.new.source c.check_tree.new.cache c.in_err-check_tree.field-0.0 walked c.in_err-check_tree.ensures.reads)
 
 pub returns-then-not-name_last-clause-reads : goal.returns-then-not-name_last-clause-reads
 returns-then-not-name_last-clause-reads g c =
-    let stated = reads_trans c.args.cache.now c.read_pages.new.cache c.check_state.new.cache c.read_pages.ensures.reads.only c.check_state.ensures.reads.only in
-    let walked = reads_trans c.args.cache.now c.check_state.new.cache c.walk_all.new.source stated c.walk_all.ensures.reads.only in
-    record {
-      only = reads_trans c.args.cache.now c.walk_all.new.source c.check_tree.new.cache walked c.check_tree.ensures.reads.only;
-      caused = tt;
-    }
+    let at = goal.at.returns-then-not-name_last-clause-reads g c in
+    record { only = tree_reads g at.After-check_tree (walked_reads g at.After-walk_all); caused = tt }
 
 pub returns-clause-reads : goal.returns-clause-reads
 returns-clause-reads g c =
-    let stated = reads_trans c.args.cache.now c.read_pages.new.cache c.check_state.new.cache c.read_pages.ensures.reads.only c.check_state.ensures.reads.only in
-    let walked = reads_trans c.args.cache.now c.check_state.new.cache c.walk_all.new.source stated c.walk_all.ensures.reads.only in
-    record {
-      only = reads_trans c.args.cache.now c.walk_all.new.source c.check_tree.new.cache walked c.check_tree.ensures.reads.only;
-      caused = tt;
-    }
+    let at = goal.at.returns-clause-reads g c in
+    record { only = tree_reads g at.After-check_tree (walked_reads g at.After-walk_all); caused = tt }

@@ -1,32 +1,57 @@
-use Rattle.std.proofs.Common.{suc, ◌≡◌, ◌+◌, ◌-◌, ◌/◌, ◌<◌, ◌≤◌, arith, sym, ap, ◌∙◌, subst, ⊎_elim}
+use Rattle.std.proofs.Common.{ℕ, List, suc, ◌≡◌, ◌+◌, ◌-◌, ◌/◌, ◌^◌, ◌<◌, ◌≤◌, arith, refl, sym, ap, ◌∙◌, subst, ⊎_elim, IsTrue}
 use Rattle.std.proofs.lemmas.Bool.{cases_lt}
 use Rattle.std.proofs.lemmas.Result.{err_from_is_err_and}
 use Rattle.std.specs.List.{flat_map}
 use Rattle.tbtree.specs.Nodes.{pages_of_cache}
-use Rattle.chains.proofs.ReadLemmas.{caused_after, reads_trans}
+use Rattle.chains.proofs.ReadLemmas.{reads_refused, reads_trans}
 use Rattle.treecheck.proofs.WalkedLemmas.{same_pages}
 use Rattle.treecheck.specs.Descent.{IsFirstWithout, IsHighestWithout}
 use Rattle.tbtree.specs.Faults.{IfMalformed}
 use Rattle.tbtree.proofs.FaultLemmas.{malformed_then}
-use Rattle.treecheck.proofs.SpanLemmas.{span_down, width_above, level_is, level_from, level_stops}
+use Rattle.treecheck.proofs.SpanLemmas.{Level, level_at, span_down, width_above, level_is}
 use Rattle.treecheck.specs.Levels.{named_by, named_below, AllStandAbove, IsInBlock, IsInLevel}
+use Rattle.treecheck.specs.declared.walking.Met.{Met}
+use Rattle.tbtree.specs.Nodes.{Pages}
+use Rattle.legs.specs.Boxes.{BoxView}
+use Rattle.legs.specs.Legs.{LegView}
+use Rattle.treecheck.proofs.levels.check_levels.Given as given
+use Rattle.treecheck.proofs.levels.check_levels.Goals.{After-deref}
 use Rattle.treecheck.proofs.levels.check_levels.Goals as goal
 
 pub level_below-requires : goal.level_below-requires
 level_below-requires g c = width_above c.args.inner c.args.height c.loop-level.level c.loop-level.span c.requires.inner c.loop-level-test.true c.loop-level.invariant.span
 
+-- the level that is read
+abbrev read_level : (g : given.Over) (c : After-deref g) → Level
+read_level g c = level_at (c.args.height - c.loop-level.level) (c.loop-level.span / c.args.inner) c.loop-level.span c.deref.result.now
+
+-- it is, of the pages as they were, the one that n and k say
+level_read : (g : given.Over) (c : After-deref g) → IsTrue c.args.cache.now.store.is_faithful → (k n : ℕ) → n + suc k ≡ c.args.height → n ≡ c.loop-level.level
+    → read_level g c ≡ level_at (suc k) (c.args.inner ^ k) (c.args.inner ^ suc k) (named_below (pages_of_cache c.args.cache.now) c.args.root n)
+level_read g c fa k n e s =
+    level_is (pages_of_cache c.args.cache.now) c.args.inner c.args.height c.loop-level.level c.loop-level.span c.args.root c.deref.result.now k n c.requires.inner e s c.loop-level.invariant.span (c.deref.ensures.value ∙ c.loop-level.invariant.pages fa)
+
+-- so many levels are below it
+abbrev below : ℕ → ℕ → ℕ
+below height level = height - (level + 1)
+
+abbrev AreAbove : Pages LegView BoxView → List Met → Level → Type 0
+AreAbove nodes leaves level = AllStandAbove nodes level.height level.width level.span leaves level.pages
+
+abbrev IsFirstBeside : Pages LegView BoxView → List Met → ℕ → Level → Type 0
+IsFirstBeside nodes leaves page level = IsFirstWithout (IsInBlock nodes level.height level.width level.span leaves) level.pages page
+
 pub returns-in_err-pages-clause-only : goal.returns-in_err-pages-clause-only
 returns-in_err-pages-clause-only g c = λ fa all.
     let p = err_from_is_err_and c.from_residual-in_err-pages.result c.from_residual-in_err-pages.ensures.1 in
     let old = c.args.cache.now in
-    let nodes = pages_of_cache old in
     let inv = c.loop-level.invariant in
     let level = c.loop-level.level in
-    let k = c.args.height - (level + 1) in
-    let n : level + suc k ≡ c.args.height = omega (arith, c.loop-level-test.true) in
-    let here = level_from nodes c.args.inner c.args.height level c.loop-level.span c.args.root c.args.leaves.now c.deref.result.now k level c.requires.inner n (omega arith) inv.span (c.deref.ensures.value ∙ inv.pages fa) (all k level n) in
+    let n : level + suc (below c.args.height level) ≡ c.args.height = omega (arith, c.loop-level-test.true) in
+    let before = (goal.at.returns-in_err-pages-clause-only g c).After-deref in
+    let here = subst (AreAbove (pages_of_cache old) c.args.leaves.now) (sym (level_read g before fa (below c.args.height level) level n refl)) (all (below c.args.height level) level n) in
     rw (p.1, p.2) (c.in_err-pages.ensures.only (inv.reads.store.faithful ∙ fa)
-    (subst (λ nodes. AllStandAbove nodes (c.args.height - level) (c.loop-level.span / c.args.inner) c.loop-level.span c.args.leaves.now c.deref.result.now) (sym (same_pages old c.loop-level.cache inv.reads fa)) here))
+    (subst (λ nodes. AreAbove nodes c.args.leaves.now (read_level g before)) (sym (same_pages old c.loop-level.cache inv.reads fa)) here))
 
 pub loop-level-preserved : goal.loop-level-preserved
 loop-level-preserved g c =
@@ -48,9 +73,9 @@ loop-level-preserved g c =
           ⊎_elim
           (λ (b : n < level). inv.above fa k n e b)
           (λ (b : level ≤ n).
-          let here : AllStandAbove nodes (c.args.height - level) (c.loop-level.span / c.args.inner) c.loop-level.span c.args.leaves.now c.deref.result.now =
-          subst (λ nodes. AllStandAbove nodes (c.args.height - level) (c.loop-level.span / c.args.inner) c.loop-level.span c.args.leaves.now c.deref.result.now) (same_pages old c.loop-level.cache inv.reads fa) (c.in_ok-pages.ensures.above (inv.reads.store.faithful ∙ fa)) in
-          level_is nodes c.args.inner c.args.height level c.loop-level.span c.args.root c.args.leaves.now c.deref.result.now k n c.requires.inner e (omega (arith, b, l)) inv.span (c.deref.ensures.value ∙ inv.pages fa) here)
+          let before = (goal.at.loop-level-preserved g c).After-deref in
+          subst (AreAbove nodes c.args.leaves.now) (level_read g before fa k n e (omega (arith, b, l)))
+          (subst (λ nodes. AreAbove nodes c.args.leaves.now (read_level g before)) (same_pages old c.loop-level.cache inv.reads fa) (c.in_ok-pages.ensures.above (inv.reads.store.faithful ∙ fa))))
           (cases_lt n level);
     }
 
@@ -61,28 +86,23 @@ returns-clause-stand g c = λ fa k n e.
 pub returns-in_err-pages-clause-reads : goal.returns-in_err-pages-clause-reads
 returns-in_err-pages-clause-reads g c =
     let p = err_from_is_err_and c.from_residual-in_err-pages.result c.from_residual-in_err-pages.ensures.1 in
-    record {
-      only = reads_trans c.args.cache.now c.loop-level.cache c.level_below.new.cache c.loop-level.invariant.reads c.level_below.ensures.reads.only;
-      caused = rw (p.1, p.2) (caused_after c.args.cache.now c.loop-level.cache c.level_below.new.cache c.in_err-pages.field-0.0 c.loop-level.invariant.reads c.in_err-pages.ensures.reads.caused);
-    }
+    rw (p.1, p.2) (reads_refused c.args.cache.now c.loop-level.cache c.level_below.new.cache c.in_err-pages.field-0.0 c.loop-level.invariant.reads c.in_err-pages.ensures.reads)
 
 pub returns-in_err-pages-clause-stops : goal.returns-in_err-pages-clause-stops
 returns-in_err-pages-clause-stops g c = λ fa.
     let p = err_from_is_err_and c.from_residual-in_err-pages.result c.from_residual-in_err-pages.ensures.1 in
-    let old = c.args.cache.now in
-    let nodes = pages_of_cache old in
+    let nodes = pages_of_cache c.args.cache.now in
     let inv = c.loop-level.invariant in
     let level = c.loop-level.level in
-    let k = c.args.height - (level + 1) in
-    let n : level + suc k ≡ c.args.height = omega (arith, c.loop-level-test.true) in
+    let n : level + suc (below c.args.height level) ≡ c.args.height = omega (arith, c.loop-level-test.true) in
     let fault = c.in_err-pages.field-0.0 in
-    let from = IsFirstWithout (IsInBlock nodes (c.args.height - level) (c.loop-level.span / c.args.inner) c.loop-level.span c.args.leaves.now) c.deref.result.now in
-    rw (p.1, p.2) (malformed_then from (IsHighestWithout (IsInLevel nodes c.args.inner c.args.leaves.now) (named_below nodes c.args.root) c.args.height)
+    let before = (goal.at.returns-in_err-pages-clause-stops g c).After-deref in
+    rw (p.1, p.2) (malformed_then (λ page. IsFirstBeside nodes c.args.leaves.now page (read_level g before)) (IsHighestWithout (IsInLevel nodes c.args.inner c.args.leaves.now) (named_below nodes c.args.root) c.args.height)
     (λ page s. record {
       above = level;
-      below = k;
+      below = below c.args.height level;
       all = n;
       higher = λ a i l e. inv.above fa i a e l;
-      first = level_stops nodes c.args.inner c.args.height level c.loop-level.span c.args.root c.args.leaves.now c.deref.result.now k level c.requires.inner n (omega arith) inv.span (c.deref.ensures.value ∙ inv.pages fa) page s;
+      first = subst (IsFirstBeside nodes c.args.leaves.now page) (level_read g before fa (below c.args.height level) level n refl) s;
     }) fault
-    (subst (λ nodes. IfMalformed (IsFirstWithout (IsInBlock nodes (c.args.height - level) (c.loop-level.span / c.args.inner) c.loop-level.span c.args.leaves.now) c.deref.result.now) fault) (same_pages old c.loop-level.cache inv.reads fa) (c.in_err-pages.ensures.stops (inv.reads.store.faithful ∙ fa))))
+    (subst (λ nodes. IfMalformed (λ page. IsFirstBeside nodes c.args.leaves.now page (read_level g before)) fault) (same_pages c.args.cache.now c.loop-level.cache inv.reads fa) (c.in_err-pages.ensures.stops (inv.reads.store.faithful ∙ fa))))

@@ -6,10 +6,10 @@ use Rattle.std.proofs.lemmas.List.{take_all}
 use Rattle.std.specs.List.{flat_map}
 use Rattle.legs.specs.Blocks.{block}
 use Rattle.tbtree.specs.Nodes.{pages_of_cache}
-use Rattle.chains.proofs.ReadLemmas.{caused_after, reads_trans}
+use Rattle.chains.proofs.ReadLemmas.{reads_refused, reads_trans}
 use Rattle.boxsearch.proofs.PushLemmas.{some_same}
 use Rattle.boxsearch.proofs.SameLemmas.{flat_more}
-use Rattle.treecheck.proofs.WalkedLemmas.{same_pages}
+use Rattle.treecheck.proofs.WalkedLemmas.{as_after, as_before, same_pages}
 use Rattle.std.proofs.Common.{ℕ, List}
 use Rattle.legs.specs.Boxes.{BoxView}
 use Rattle.legs.specs.Legs.{LegView}
@@ -19,33 +19,42 @@ use Rattle.tbtree.specs.Faults.{IfMalformed}
 use Rattle.tbtree.proofs.FaultLemmas.{malformed_then}
 use Rattle.treecheck.specs.declared.walking.Met.{Met}
 use Rattle.treecheck.specs.Levels.{named_by, IsInBlock, StandsAbove}
+use Rattle.treecheck.proofs.levels.level_below.Given as given
+use Rattle.treecheck.proofs.levels.level_below.Goals.{After-block-under}
 use Rattle.treecheck.proofs.levels.level_below.Goals as goal
+
+-- the page that is read
+abbrev asked : (g : given.Over) → After-block-under g → ℕ
+asked g c = get_or c.args.pages.now c.loop-i.i 0
+
+is_asked : (g : given.Over) (c : After-block-under g) → slice_get c.args.pages.now c.loop-i.i ≡ Some (asked g c)
+is_asked g c = slice_get-get_or c.args.pages.now c.loop-i.i 0 c.loop-i-test.true
+
+-- that it stands above some leaves of some pages
+abbrev IsOver : (g : given.Over) → After-block-under g → Pages LegView BoxView → List Met → Type 0
+IsOver g c nodes under = StandsAbove nodes c.args.level c.args.width under (asked g c)
 
 pub loop-i-preserved : goal.loop-i-preserved
 loop-i-preserved g c =
+    let before = (goal.at.loop-i-preserved g c).After-block-under in
     let old = c.args.cache.now in
     let pages = c.args.pages.now in
     let i = c.loop-i.i in
     let inv = c.loop-i.invariant in
-    let page = get_or pages i 0 in
-    let at : slice_get pages i ≡ Some page = slice_get-get_or pages i 0 c.loop-i-test.true in
+    let page = asked g before in
     record {
       reads = reads_trans old c.loop-i.cache c.take_page.new.cache inv.reads c.take_page.ensures.reads.only;
       named = λ fa.
-          let same = same_pages old c.loop-i.cache inv.reads fa in
           let next : i + 1 ≡ suc i = omega arith in
-          flat_more (named_by (pages_of_cache old)) pages i (i + 1) page c.loop-i.below.items c.take_page.new.below.items (named_by (pages_of_cache c.loop-i.cache) page) at next
-          (ap (λ nodes. named_by nodes page) same) (c.in_ok-take_page.ensures.pushed (inv.reads.store.faithful ∙ fa)) (inv.named fa);
+          flat_more (named_by (pages_of_cache old)) pages i (i + 1) page c.loop-i.below.items c.take_page.new.below.items (named_by (pages_of_cache c.loop-i.cache) page) (is_asked g before) next
+          (ap (λ nodes. named_by nodes page) (same_pages old c.loop-i.cache inv.reads fa)) (c.in_ok-take_page.ensures.pushed (inv.reads.store.faithful ∙ fa)) (inv.named fa);
       above = λ fa j p l e.
-          let same = same_pages old c.loop-i.cache inv.reads fa in
-          let here : StandsAbove (pages_of_cache old) c.args.level c.args.width (block c.args.span i c.args.leaves.now) page =
-          subst (λ under. StandsAbove (pages_of_cache old) c.args.level c.args.width under page) c.block-under.ensures
-          (subst (λ nodes. StandsAbove nodes c.args.level c.args.width c.block-under.result.now page) same (c.in_ok-take_page.ensures.above (inv.reads.store.faithful ∙ fa))) in
+          let here = as_before _ _ inv.reads fa _ _ c.block-under.ensures (IsOver g before) (c.in_ok-take_page.ensures.above (inv.reads.store.faithful ∙ fa)) in
           ⊎_elim
           (λ (k : j < i). inv.above fa j p k e)
           (λ (k : i ≤ j).
           let s : i ≡ j = omega (arith, k, l) in
-          let q : page ≡ p = some_same page p (sym at ∙ ap (slice_get pages) s ∙ e) in
+          let q : page ≡ p = some_same page p (sym (is_asked g before) ∙ ap (slice_get pages) s ∙ e) in
           subst (λ p. StandsAbove (pages_of_cache old) c.args.level c.args.width (block c.args.span j c.args.leaves.now) p) q
           (subst (λ i. StandsAbove (pages_of_cache old) c.args.level c.args.width (block c.args.span i c.args.leaves.now) page) s here))
           (cases_lt j i);
@@ -54,14 +63,9 @@ loop-i-preserved g c =
 pub returns-in_err-take_page-clause-only : goal.returns-in_err-take_page-clause-only
 returns-in_err-take_page-clause-only g c = λ fa all.
     let p = err_from_is_err_and c.from_residual.result c.from_residual.ensures.1 in
-    let old = c.args.cache.now in
+    let before = (goal.at.returns-in_err-take_page-clause-only g c).After-block-under in
     let inv = c.loop-i.invariant in
-    let i = c.loop-i.i in
-    let page = get_or c.args.pages.now i 0 in
-    let at : slice_get c.args.pages.now i ≡ Some page = slice_get-get_or c.args.pages.now i 0 c.loop-i-test.true in
-    let same = same_pages old c.loop-i.cache inv.reads fa in
-    let here = subst (λ under. StandsAbove (pages_of_cache old) c.args.level c.args.width under page) (sym c.block-under.ensures) (all i page at) in
-    rw (p.1, p.2) (c.in_err-take_page.ensures.only (inv.reads.store.faithful ∙ fa) (subst (λ nodes. StandsAbove nodes c.args.level c.args.width c.block-under.result.now page) (sym same) here))
+    rw (p.1, p.2) (c.in_err-take_page.ensures.only (inv.reads.store.faithful ∙ fa) (as_after _ _ inv.reads fa _ _ c.block-under.ensures (IsOver g before) (all c.loop-i.i (asked g before) (is_asked g before))))
 
 pub returns-clause-above : goal.returns-clause-above
 returns-clause-above g c = λ fa j p e.
@@ -75,24 +79,18 @@ returns-clause-named g c = λ fa.
 pub returns-in_err-take_page-clause-reads : goal.returns-in_err-take_page-clause-reads
 returns-in_err-take_page-clause-reads g c =
     let p = err_from_is_err_and c.from_residual.result c.from_residual.ensures.1 in
-    record {
-      only = reads_trans c.args.cache.now c.loop-i.cache c.take_page.new.cache c.loop-i.invariant.reads c.take_page.ensures.reads.only;
-      caused = rw (p.1, p.2) (caused_after c.args.cache.now c.loop-i.cache c.take_page.new.cache c.in_err-take_page.field-0.0 c.loop-i.invariant.reads c.in_err-take_page.ensures.reads.caused);
-    }
+    rw (p.1, p.2) (reads_refused c.args.cache.now c.loop-i.cache c.take_page.new.cache c.in_err-take_page.field-0.0 c.loop-i.invariant.reads c.in_err-take_page.ensures.reads)
 
 pub returns-in_err-take_page-clause-stops : goal.returns-in_err-take_page-clause-stops
 returns-in_err-take_page-clause-stops g c = λ fa.
     let p = err_from_is_err_and c.from_residual.result c.from_residual.ensures.1 in
-    let old = c.args.cache.now in
+    let before = (goal.at.returns-in_err-take_page-clause-stops g c).After-block-under in
+    let nodes = pages_of_cache c.args.cache.now in
     let inv = c.loop-i.invariant in
     let i = c.loop-i.i in
-    let page = get_or c.args.pages.now i 0 in
-    let at : slice_get c.args.pages.now i ≡ Some page = slice_get-get_or c.args.pages.now i 0 c.loop-i-test.true in
-    let same = same_pages old c.loop-i.cache inv.reads fa in
+    let under = block c.args.span i c.args.leaves.now in
     let fault = c.in_err-take_page.field-0.0 in
-    let block_is = c.block-under.ensures in
-    let stops : List Met → Pages LegView BoxView → ℕ → Type 0 = λ under nodes n. (n ≡ page) × (StandsAbove nodes c.args.level c.args.width under page → ⊥) in
-    rw (p.1, p.2) (malformed_then (stops (block c.args.span i c.args.leaves.now) (pages_of_cache old)) (IsFirstWithout (IsInBlock (pages_of_cache old) c.args.level c.args.width c.args.span c.args.leaves.now) c.args.pages.now)
-    (λ n s. record { place = i; is = at ∙ ap Some (sym s.0); before = inv.above fa; fails = λ k. s.1 (subst (λ q. StandsAbove (pages_of_cache old) c.args.level c.args.width (block c.args.span i c.args.leaves.now) q) s.0 k) }) fault
-    (subst (λ under. IfMalformed (stops under (pages_of_cache old)) fault) block_is
-    (subst (λ nodes. IfMalformed (stops c.block-under.result.now nodes) fault) same (c.in_err-take_page.ensures.stops (inv.reads.store.faithful ∙ fa)))))
+    let stops : Pages LegView BoxView → List Met → ℕ → Type 0 = λ nodes under n. (n ≡ asked g before) × (IsOver g before nodes under → ⊥) in
+    rw (p.1, p.2) (malformed_then (stops nodes under) (IsFirstWithout (IsInBlock nodes c.args.level c.args.width c.args.span c.args.leaves.now) c.args.pages.now)
+    (λ n s. record { place = i; is = is_asked g before ∙ ap Some (sym s.0); before = inv.above fa; fails = λ k. s.1 (subst (λ q. StandsAbove nodes c.args.level c.args.width under q) s.0 k) }) fault
+    (as_before _ _ inv.reads fa _ _ c.block-under.ensures (λ nodes under. IfMalformed (stops nodes under) fault) (c.in_err-take_page.ensures.stops (inv.reads.store.faithful ∙ fa))))

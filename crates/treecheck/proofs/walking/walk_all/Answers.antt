@@ -1,10 +1,10 @@
 use Rattle.std.specs.Option.{unwrap_or}
-use Rattle.std.proofs.Common.{rules, [], ◌∷◌, ◌++◌, ◌≡◌, ◌+◌, Some, slice_get, get_or, sym, ap, ◌∙◌, subst, arith, refl}
+use Rattle.std.proofs.Common.{IsTrue, rules, [], ◌∷◌, ◌++◌, ◌≡◌, ◌+◌, Some, slice_get, get_or, sym, ap, ◌∙◌, subst, arith, refl}
 use Rattle.std.proofs.lemmas.Bool.{true≢false}
 use Rattle.std.proofs.lemmas.Result.{err_from_is_err_and}
 use Rattle.treecheck.specs.Check.{AreLeavesOf}
 use Rattle.treecheck.specs.Walking.{pages_by, Walks}
-use Rattle.chains.proofs.ReadLemmas.{caused_after, reads_trans}
+use Rattle.chains.proofs.ReadLemmas.{reads_refused, reads_trans}
 use Rattle.treecheck.proofs.SurveyLemmas.{surveyed_on, surveyed_all, chain_of, as_many, get_at}
 use Rattle.tbtree.specs.Stands.{no_place}
 use Rattle.std.proofs.lemmas.Option.{slice_get-get_or}
@@ -40,10 +40,7 @@ returns-in_err-walk_chain-clause-only g c = λ fa few chains whole.
 pub returns-in_err-walk_chain-clause-reads : goal.returns-in_err-walk_chain-clause-reads
 returns-in_err-walk_chain-clause-reads g c =
     let p = err_from_is_err_and c.from_residual.result c.from_residual.ensures.1 in
-    record {
-      only = reads_trans (g.R.LeafReader.seen c.args.source.now) (g.R.LeafReader.seen c.loop-feature.source) (g.R.LeafReader.seen c.walk_chain.new.source) c.loop-feature.invariant.reads c.walk_chain.ensures.reads.only;
-      caused = rw (p.1, p.2) (caused_after (g.R.LeafReader.seen c.args.source.now) (g.R.LeafReader.seen c.loop-feature.source) (g.R.LeafReader.seen c.walk_chain.new.source) c.in_err-walk_chain.field-0.0 c.loop-feature.invariant.reads c.in_err-walk_chain.ensures.reads.caused);
-    }
+    rw (p.1, p.2) (reads_refused (g.R.LeafReader.seen c.args.source.now) (g.R.LeafReader.seen c.loop-feature.source) (g.R.LeafReader.seen c.walk_chain.new.source) c.in_err-walk_chain.field-0.0 c.loop-feature.invariant.reads c.in_err-walk_chain.ensures.reads)
 
 pub returns-in_err-push-clause-reads : goal.returns-in_err-push-clause-reads
 returns-in_err-push-clause-reads g c =
@@ -55,24 +52,21 @@ returns-in_err-push-clause-reads g c =
 pub loop-feature-preserved : goal.loop-feature-preserved
 loop-feature-preserved g c =
     let inv = c.loop-feature.invariant in
+    let nodes = pages_by g.R.LeafReader.node (g.R.LeafReader.seen c.args.source.now) in
+    let f = c.loop-feature.feature in
+    let place = get_or c.args.places.now f no_place in
+    let at : slice_get c.args.places.now f ≡ Some place = slice_get-get_or c.args.places.now f no_place (omega (arith, c.loop-feature-test.true, c.if-places.false)) in
+    let walks : IsTrue (g.R.LeafReader.seen c.args.source.now).store.is_faithful → Walks nodes c.args.most c.args.rows f place c.in-Some.track c.loop-feature.survey c.walk_chain.new.survey = λ fa.
+    subst (λ nodes. Walks nodes c.args.most c.args.rows f place c.in-Some.track c.loop-feature.survey c.walk_chain.new.survey) (same_by g.R.LeafReader.node (g.R.LeafReader.seen c.args.source.now) (g.R.LeafReader.seen c.loop-feature.source) inv.reads fa) (c.in_ok-walk_chain.ensures.walked (inv.reads.store.faithful ∙ fa)) in
     record {
       reads = reads_trans (g.R.LeafReader.seen c.args.source.now) (g.R.LeafReader.seen c.loop-feature.source) (g.R.LeafReader.seen c.walk_chain.new.source) inv.reads c.walk_chain.ensures.reads.only;
       surveyed = λ fa.
-          let nodes = pages_by g.R.LeafReader.node (g.R.LeafReader.seen c.args.source.now) in
-          let f = c.loop-feature.feature in
-          let place = get_or c.args.places.now f no_place in
-          let at : slice_get c.args.places.now f ≡ Some place = slice_get-get_or c.args.places.now f no_place (omega (arith, c.loop-feature-test.true, c.if-places.false)) in
-          let walks = subst (λ nodes. Walks nodes c.args.most c.args.rows f place c.in-Some.track c.loop-feature.survey c.walk_chain.new.survey) (same_by g.R.LeafReader.node (g.R.LeafReader.seen c.args.source.now) (g.R.LeafReader.seen c.loop-feature.source) inv.reads fa) (c.in_ok-walk_chain.ensures.walked (inv.reads.store.faithful ∙ fa)) in
           surveyed_on nodes c.args.most c.args.rows f (f + 1) c.args.places.now c.args.tracks.now.tracks place c.in-Some.track c.loop-feature.survey c.walk_chain.new.survey
-          (record { ordinals = c.walk_chain.new.survey.ordinals; leaves = c.walk_chain.new.survey.leaves; firsts = c.push.new.self }) refl at (sym c.track.ensures.value ∙ c.in-Some.is) (inv.surveyed fa) walks refl refl
+          (record { ordinals = c.walk_chain.new.survey.ordinals; leaves = c.walk_chain.new.survey.leaves; firsts = c.push.new.self }) refl at (sym c.track.ensures.value ∙ c.in-Some.is) (inv.surveyed fa) (walks fa) refl refl
           (c.in_ok-push.ensures.items ∙ ap (λ n. c.walk_chain.new.survey.firsts.items ++ n ∷ []) (c.ordinal_at.ensures ∙ (λ i. unwrap_or (slice_get (c.deref.ensures.value i) ((c.len-start.ensures ∙ c.loop-feature.survey.ordinals.ok.0) i)) 0)));
       before = λ fa.
-          let nodes = pages_by g.R.LeafReader.node (g.R.LeafReader.seen c.args.source.now) in
-          let f = c.loop-feature.feature in
-          let place = get_or c.args.places.now f no_place in
-          let at : slice_get c.args.places.now f ≡ Some place = slice_get-get_or c.args.places.now f no_place (omega (arith, c.loop-feature-test.true, c.if-places.false)) in
-          let walks = subst (λ nodes. Walks nodes c.args.most c.args.rows f place c.in-Some.track c.loop-feature.survey c.walk_chain.new.survey) (same_by g.R.LeafReader.node (g.R.LeafReader.seen c.args.source.now) (g.R.LeafReader.seen c.loop-feature.source) inv.reads fa) (c.in_ok-walk_chain.ensures.walked (inv.reads.store.faithful ∙ fa)) in
-          before_on nodes c.args.most c.args.rows c.args.places.now c.args.tracks.now.tracks f (f + 1) place c.in-Some.track walks.pages refl at (sym c.track.ensures.value ∙ c.in-Some.is) walks.leaves (inv.before fa);
+          let w = walks fa in
+          before_on nodes c.args.most c.args.rows c.args.places.now c.args.tracks.now.tracks f (f + 1) place c.in-Some.track w.pages refl at (sym c.track.ensures.value ∙ c.in-Some.is) w.leaves (inv.before fa);
     }
 
 pub returns-clause-surveyed : goal.returns-clause-surveyed

@@ -8,9 +8,18 @@ use Rattle.treecheck.specs.Stopping.{WalkStopsAt}
 use Rattle.treecheck.specs.Walking.{pages_by, Strays, TakesLeaf}
 use Rattle.tbtree.specs.Faults.{IfNamed}
 use Rattle.tbtree.proofs.FaultLemmas.{named_then}
-use Rattle.chains.proofs.ReadLemmas.{caused_after, reads_refl, reads_trans}
+use Rattle.chains.proofs.ReadLemmas.{reads_refl, reads_refused, reads_trans}
 use Rattle.treecheck.proofs.WalkedLemmas.{same_by, walked_none, walked_on, walked_leaf, walked_end, walked_past, walked_stray, walked_whole, some_left, none_left, next_left}
+use Rattle.treecheck.proofs.walking.walk_chain.Given as given
+use Rattle.treecheck.proofs.walking.walk_chain.Goals.{After-leaves, After-take_leaf}
 use Rattle.treecheck.proofs.walking.walk_chain.Goals as goal
+
+-- in the loop some legs are left to meet, and none behind it
+some_wait : (g : given.Over) (c : After-take_leaf g) → 0 < c.leaves.walk.left
+some_wait g c = some_left c.args.place.now.legs c.args.most c.leaves.counter c.leaves.walk.left c.requires (subst (λ n. c.leaves.counter < n) c.div_ceil-end.ensures c.leaves-test.true) c.leaves.invariant.left
+
+none_wait : (g : given.Over) (c : After-leaves g) → c.leaves.walk.left ≡ 0
+none_wait g c = none_left c.args.place.now.legs c.args.most c.leaves.counter c.leaves.walk.left c.requires (subst (λ n. n ≤ c.leaves.counter) c.div_ceil-end.ensures c.leaves-test.false) c.leaves.invariant.left
 
 pub leaves-init : goal.leaves-init
 leaves-init g c = record {
@@ -25,7 +34,7 @@ returns-in_err-take_leaf-clause-only g c = λ fa pages whole.
     let inv = c.leaves.invariant in
     let nodes = pages_by g.R.LeafReader.node (g.R.LeafReader.seen c.args.source.now) in
     let w = inv.walked fa in
-    let some : 0 < c.leaves.walk.left = some_left c.args.place.now.legs c.args.most c.leaves.counter c.leaves.walk.left c.requires (subst (λ n. c.leaves.counter < n) c.div_ceil-end.ensures c.leaves-test.true) inv.left in
+    let some = some_wait g (goal.at.returns-in_err-take_leaf-clause-only g c).After-take_leaf in
     let next = walked_leaf nodes c.args.most c.args.rows c.args.feature c.args.place.now c.leaves.walk c.args.survey.now c.leaves.survey c.args.track.now pages w some whole in
     let same = sym (same_by g.R.LeafReader.node (g.R.LeafReader.seen c.args.source.now) (g.R.LeafReader.seen c.leaves.source) inv.reads fa) in
     rw (p.1, p.2) (c.in_err-take_leaf.ensures.only (inv.reads.store.faithful ∙ fa)
@@ -35,15 +44,12 @@ returns-in_err-take_leaf-clause-only g c = λ fa pages whole.
 pub returns-in_err-take_leaf-clause-reads : goal.returns-in_err-take_leaf-clause-reads
 returns-in_err-take_leaf-clause-reads g c =
     let p = err_from_is_err_and c.from_residual.result c.from_residual.ensures.1 in
-    record {
-      only = reads_trans (g.R.LeafReader.seen c.args.source.now) (g.R.LeafReader.seen c.leaves.source) (g.R.LeafReader.seen c.take_leaf.new.source) c.leaves.invariant.reads c.take_leaf.ensures.reads.only;
-      caused = rw (p.1, p.2) (caused_after (g.R.LeafReader.seen c.args.source.now) (g.R.LeafReader.seen c.leaves.source) (g.R.LeafReader.seen c.take_leaf.new.source) c.in_err-take_leaf.field-0.0 c.leaves.invariant.reads c.in_err-take_leaf.ensures.reads.caused);
-    }
+    rw (p.1, p.2) (reads_refused (g.R.LeafReader.seen c.args.source.now) (g.R.LeafReader.seen c.leaves.source) (g.R.LeafReader.seen c.take_leaf.new.source) c.in_err-take_leaf.field-0.0 c.leaves.invariant.reads c.in_err-take_leaf.ensures.reads)
 
 pub leaves-preserved : goal.leaves-preserved
 leaves-preserved g c =
     let inv = c.leaves.invariant in
-    let some : 0 < c.leaves.walk.left = some_left c.args.place.now.legs c.args.most c.leaves.counter c.leaves.walk.left c.requires (subst (λ n. c.leaves.counter < n) c.div_ceil-end.ensures c.leaves-test.true) inv.left in
+    let some = some_wait g (goal.at.leaves-preserved g c).After-take_leaf in
     record {
       reads = reads_trans (g.R.LeafReader.seen c.args.source.now) (g.R.LeafReader.seen c.leaves.source) (g.R.LeafReader.seen c.take_leaf.new.source) inv.reads c.take_leaf.ensures.reads.only;
       left = c.in_ok-take_leaf.ensures.left ∙ next_left c.args.place.now.legs c.args.most c.leaves.counter c.leaves.walk.left inv.left;
@@ -55,14 +61,14 @@ leaves-preserved g c =
 pub returns-then-not-is_at_end-clause-only : goal.returns-then-not-is_at_end-clause-only
 returns-then-not-is_at_end-clause-only g c = λ fa pages whole.
     let inv = c.leaves.invariant in
-    let none : c.leaves.walk.left ≡ 0 = none_left c.args.place.now.legs c.args.most c.leaves.counter c.leaves.walk.left c.requires (subst (λ n. n ≤ c.leaves.counter) c.div_ceil-end.ensures c.leaves-test.false) inv.left in
+    let none = none_wait g (goal.at.returns-then-not-is_at_end-clause-only g c).After-leaves in
     let end = walked_whole (pages_by g.R.LeafReader.node (g.R.LeafReader.seen c.args.source.now)) c.args.most c.args.rows c.args.feature c.args.place.now c.leaves.walk c.args.survey.now c.leaves.survey c.args.track.now pages (inv.walked fa) none whole in
     true≢false (sym (c.is_at_end.ensures.1 end) ∙ c.if-not-is_at_end.true)
 
 pub returns-clause-walked : goal.returns-clause-walked
 returns-clause-walked g c = λ fa.
     let inv = c.leaves.invariant in
-    let none : c.leaves.walk.left ≡ 0 = none_left c.args.place.now.legs c.args.most c.leaves.counter c.leaves.walk.left c.requires (subst (λ n. n ≤ c.leaves.counter) c.div_ceil-end.ensures c.leaves-test.false) inv.left in
+    let none = none_wait g (goal.at.returns-clause-walked g c).After-leaves in
     walked_end (pages_by g.R.LeafReader.node (g.R.LeafReader.seen c.args.source.now)) c.args.most c.args.rows c.args.feature c.args.place.now c.leaves.walk c.args.survey.now c.leaves.survey c.args.track.now (inv.walked fa) none (c.is_at_end.ensures.0 c.if-not-is_at_end.false)
 
 pub returns-in_err-take_leaf-clause-stops : goal.returns-in_err-take_leaf-clause-stops
@@ -70,7 +76,7 @@ returns-in_err-take_leaf-clause-stops g c = λ fa.
     let p = err_from_is_err_and c.from_residual.result c.from_residual.ensures.1 in
     let inv = c.leaves.invariant in
     let nodes = pages_by g.R.LeafReader.node (g.R.LeafReader.seen c.args.source.now) in
-    let some : 0 < c.leaves.walk.left = some_left c.args.place.now.legs c.args.most c.leaves.counter c.leaves.walk.left c.requires (subst (λ n. c.leaves.counter < n) c.div_ceil-end.ensures c.leaves-test.true) inv.left in
+    let some = some_wait g (goal.at.returns-in_err-take_leaf-clause-stops g c).After-take_leaf in
     let same = same_by g.R.LeafReader.node (g.R.LeafReader.seen c.args.source.now) (g.R.LeafReader.seen c.leaves.source) inv.reads fa in
     rw (p.1, p.2) (named_then (Strays nodes c.args.most c.args.rows c.leaves.walk) (WalkStopsAt nodes c.args.most c.args.rows c.args.feature c.args.place.now c.args.track.now)
     (λ n s. walked_stray nodes c.args.most c.args.rows c.args.feature c.args.place.now c.leaves.walk c.args.survey.now c.leaves.survey c.args.track.now n (inv.walked fa) some s)
@@ -80,6 +86,6 @@ returns-in_err-take_leaf-clause-stops g c = λ fa.
 pub returns-then-not-is_at_end-clause-stops : goal.returns-then-not-is_at_end-clause-stops
 returns-then-not-is_at_end-clause-stops g c = λ fa.
     let inv = c.leaves.invariant in
-    let none : c.leaves.walk.left ≡ 0 = none_left c.args.place.now.legs c.args.most c.leaves.counter c.leaves.walk.left c.requires (subst (λ n. n ≤ c.leaves.counter) c.div_ceil-end.ensures c.leaves-test.false) inv.left in
+    let none = none_wait g (goal.at.returns-then-not-is_at_end-clause-stops g c).After-leaves in
     walked_past (pages_by g.R.LeafReader.node (g.R.LeafReader.seen c.args.source.now)) c.args.most c.args.rows c.args.feature c.args.place.now c.leaves.walk c.args.survey.now c.leaves.survey c.args.track.now (inv.walked fa) none
     (λ end. true≢false (sym (c.is_at_end.ensures.1 end) ∙ c.if-not-is_at_end.true))
