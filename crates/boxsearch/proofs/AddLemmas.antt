@@ -134,6 +134,11 @@ module _ (laws : Laws) (old new : IndexView) (leg : LegView) where
       omega (arith, clamps, h, g, a)
   asked (Err x) p = tt
 
+  -- no page was not what the leg needed of it
+  pub all_fit : (r : Result (Unit {0}) TreeFault) → Puts (made old leg.feature) new leg r → OnOk (answered (λ fault. of_tree fault) r) (IsTrue old.cache.store.is_faithful → (page : ℕ) → is_unfit old (leg ∷ []) page → ⊥)
+  all_fit (Ok tt) p = λ fa page unfit. unfit fa (subst (λ place. IsFit (pages_of_cache old.cache) old.tree place (leg ∷ []) page) (place_made old.places leg.feature p.was p.found) (p.fits fa page))
+  all_fit (Err x) p = tt
+
   allowed : (r : Result (Unit {0}) TreeFault) → Puts (made old leg.feature) new leg r → IfErr r (λ fault. IsSound old → CanFollowInTurn (content old) (leg ∷ []) → MayRefuseWrite fault)
   allowed (Ok tt) p = tt
   allowed (Err x) p = λ s w. gives (Err x) p s w.0

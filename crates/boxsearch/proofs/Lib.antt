@@ -8,6 +8,7 @@ pub mod ResultLemmas
 pub mod AnswerLemmas
 pub mod IndexLemmas
 pub mod FitBeside
+pub mod OtherLemmas
 pub mod StillLemmas
 pub mod PlaceLemmas
 pub mod MadeLemmas
@@ -21,6 +22,7 @@ pub mod StartLemmas
 pub mod BoundLemmas
 pub mod FlushLemmas
 pub mod BlameLemmas
+pub mod FitLemmas
 pub mod TakingTurns
 pub mod TurnSteps
 pub mod TurnOrder

@@ -73,6 +73,17 @@ past_made places feature none =
     (cases_lt feature (length places)))
     (cases_eq feature (length places))
 
+-- one that has a place then is there, or is the next one
+pub made_within : (places : List Place) (feature : ℕ) → feature < length (with_place places feature) → feature ≤ length places
+made_within places feature l =
+    ⊎_elim
+    (λ (e : feature ≡ length places). omega (arith, e))
+    (λ (u : feature ≢ length places).
+    let n : (feature == length places) ≡ false = grind (arith, nat_tests, u) in
+    let same : length (with_place places feature) ≡ length places = ap (λ v. length (cond v (places ++ no_place ∷ []) places)) n in
+    omega (arith, l, same))
+    (cases_eq feature (length places))
+
 pub place_there : (xs : List Place) (i : ℕ) (x : Place) → slice_get xs i ≡ Some x → x ≡ place_for xs i
 place_there [] i x h = absurd (some_none x (sym h))
 place_there (y ∷ ys) zero x h = sym (some_same y x h)

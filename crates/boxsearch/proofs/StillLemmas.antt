@@ -50,5 +50,6 @@ module _ (old : IndexView) (c : Cache) (known : List (List LeafSpan)) (faithful 
     unfit = λ legs page h fa fit.
         let now : IsTrue c.store.is_faithful = faithful ∙ fa in
         h now (fit_beside (pages_of_cache old.cache) (pages_of_cache c) (same fa) count old.tree (place_for old.places (owner leg_feature legs)) legs page fit);
+    fit = λ legs page h fa fit. h (was fa) (fit_beside (pages_of_cache c) (pages_of_cache old.cache) (λ p above. sym (same (was fa) p above)) (sym count) old.tree (place_for old.places (owner leg_feature legs)) legs page fit);
     leads = λ leg h fa. leg_beside (pages_of_cache c) (pages_of_cache old.cache) (λ p above. sym (same fa p above)) (sym count) old.tree.root old.tree.levels leg (h (faithful ∙ fa));
   }

@@ -1,12 +1,13 @@
 -- Legs put into an index in any order in which each feature's ordinals rise.
 use Rattle.std.proofs.Common.{ℕ, zero, suc, All, drop, take, get_or, ◌≡◌, ◌≢◌, ◌≤◌, ◌<◌, ◌+◌, ◌*◌, ◌-◌, ◌^◌, min, max, refl, sym, ap, ◌∙◌, arith, subst, ⊎_elim, true, false, List, [], ◌∷◌, ◌++◌, length, set, Some, slice_get, Result, Ok, Err, OnOk, OnErr, append_assoc}
 use Rattle.std.specs.Prelude.{Bool, IfErr, IsErrOf, IsTrue}
+use Rattle.std.specs.List.{Contains}
 use Rattle.std.proofs.lemmas.Bool.{cases_eq}
 use Rattle.std.proofs.lemmas.Int.{clamps}
 use Rattle.std.proofs.lemmas.List.{length-append, length-drop, length-set, append-nil, take_all}
-use Rattle.std.proofs.lemmas.List.Elements.{filter-append}
+use Rattle.std.proofs.lemmas.List.Elements.{Contains-append_cases, filter-append}
 use Rattle.std.proofs.lemmas.Nat.{mul-le}
-use Rattle.legs.specs.Asking.{planted, Blames, HasAdded, IsLater}
+use Rattle.legs.specs.Asking.{planted, Blames, FitsLeg, HasAdded, IsLater}
 use Rattle.legs.specs.Boxes.{BoxView}
 use Rattle.legs.specs.Costs.{leg_feature}
 use Rattle.legs.specs.Growing.{LacksRoom, Planted}
@@ -221,6 +222,7 @@ pub record IsTaking (old now : IndexView) (all left : List LegView) : Type 0 whe
   pub added : HasAdded words old now done
   pub are : done ++ left ≡ all
   pub start : done ≡ [] → now ≡ old
+  pub fits : IsTrue old.cache.store.is_faithful → (leg : LegView) → Contains done leg → FitsLeg words old all leg
 
 pub taking_start : (old : IndexView) (all : List LegView) → old.tree.spent ≡ false → IsTaking old old all all
 taking_start old all works = record {
@@ -233,10 +235,29 @@ taking_start old all works = record {
   added = takes_none words old works;
   are = refl;
   start = λ _. refl;
+  fits = λ fa leg h. absurd (let l = h.1 in omega (arith, l));
 }
 
-pub taking_more : (old now new : IndexView) (all left run : List LegView) → IsTaking old now all (run ++ left) → Taking now new run (Ok tt) → IsLater words now new → 0 < length run → HasAdded words now new run → IsTaking old new all left
-taking_more old now new all left run so_far more later some added = record {
+-- each page was what a leg of the run needed, behind those before it
+fits_behind : (old now : IndexView) (all left run : List LegView) (leg : LegView) → IsTaking old now all (run ++ left) → FitsLeg words now run leg → FitsLeg words old all leg
+fits_behind old now all left run leg so_far n = record {
+  first = so_far.done ++ n.first;
+  next = n.next;
+  others = n.others ++ left;
+  order = λ f. after_run f so_far.done run left n.first n.next n.others all so_far.are (n.order f);
+  feature = n.feature;
+  one = n.one;
+  own = n.own;
+  mid = n.mid;
+  none = λ e page u. n.none (nil_right so_far.done n.first e) page (subst (λ i. is_unfit i n.next page) (sym (so_far.start (nil_left so_far.done n.first e))) u);
+  added = takes_then words old now n.mid so_far.done n.first so_far.added n.added;
+  fits = λ shape is. n.fits shape (ap Some so_far.shape ∙ is);
+  fit = n.fit;
+}
+
+pub taking_more : (old now new : IndexView) (all left run : List LegView) → IsTaking old now all (run ++ left) → Taking now new run (Ok tt) → IsLater words now new → 0 < length run → HasAdded words now new run
+    → (IsTrue now.cache.store.is_faithful → (leg : LegView) → Contains run leg → FitsLeg words now run leg) → IsTaking old new all left
+taking_more old now new all left run so_far more later some added fits = record {
   going = λ before s w.
       let at = so_far.going before s w in
       let done = at.0 in
@@ -254,7 +275,15 @@ taking_more old now new all left run so_far more later some added = record {
   added = takes_then words old now new so_far.done run so_far.added added;
   are = append_assoc so_far.done run left ∙ so_far.are;
   start = λ e. absurd (some_run so_far.done run some e);
+  fits = λ fa leg h. ⊎_elim
+      (λ (before : Contains so_far.done leg). so_far.fits fa leg before)
+      (λ (now_there : Contains run leg). fits_behind old now all left run leg so_far (fits (so_far.added.room fa).0 leg now_there))
+      (Contains-append_cases so_far.done run leg h);
 }
+
+-- all of them are done
+pub taking_fits : (old now : IndexView) (all left : List LegView) → left ≡ [] → IsTaking old now all left → IsTrue old.cache.store.is_faithful → (leg : LegView) → Contains all leg → FitsLeg words old all leg
+taking_fits old now all left none so_far fa leg h = so_far.fits fa leg (subst (λ l. Contains l leg) (sym so_far.are ∙ ap (λ l. so_far.done ++ l) none ∙ append-nil so_far.done) h)
 
 pub taking_end : (old now : IndexView) (all : List LegView) → IsTaking old now all [] → Taking old now all (Ok tt)
 taking_end old now all so_far = record {

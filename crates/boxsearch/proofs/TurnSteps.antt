@@ -62,3 +62,9 @@ fit_step most k ends ends' legs leg feature made l is f b h =
     let len = length_after most ends feature made (omega (arith, f, low)) in
     let same : max (length ends) (leg.feature + 1) ≡ length ends' = (let e = ap length b in omega (arith, f, len, e)) in
     subst (λ n. SkipNone n (drop (k + 1) legs)) same on.1
+
+pub fit_back : (most k : ℕ) (ends ends' : List Open) (legs : List LegView) (leg : LegView) (feature made : ℕ) → k < length legs → leg ≡ get_or legs k leg → feature ≡ leg.feature → feature ≤ length ends → ends' ≡ open_after most ends feature made → SkipNone (length ends') (drop (k + 1) legs) → SkipNone (length ends) (drop k legs)
+fit_back most k ends ends' legs leg feature made l is f low b h =
+    let len = length_after most ends feature made low in
+    let same : length ends' ≡ max (length ends) (leg.feature + 1) = (let e = ap length b in omega (arith, f, len, e)) in
+    subst (λ ls. SkipNone (length ends) ls) (sym (next_leg legs k leg l is)) (omega (arith, f, low), subst (λ n. SkipNone n (drop (k + 1) legs)) same h)

@@ -7,10 +7,12 @@ use Rattle.legs.specs.Finding.{Finding}
 use Rattle.legs.specs.Index.{feature_count}
 use Rattle.legs.specs.Legs.{IsLeg, LegView}
 use Rattle.legs.specs.Questions.{Question}
+use Rattle.pages.specs.Sealed.{sealed}
 use Rattle.pages.specs.Store.{IsSynced}
 use Rattle.pages.specs.declared.payload.Payload.{Payload}
 use Rattle.legs.specs.declared.listed.Listed.{Ghosts}
 use Rattle.pagecache.specs.Cache.{Cache, IsClean, is_changed, pages_as_written, payload_of, sealed_payload}
+use Rattle.tbnode.specs.Form.{node_of}
 use Rattle.tbtree.specs.Content.{IsAstray, LeadsToLeg}
 use Rattle.tbtree.specs.Descent.{found_legs, node_at, node_in, pages_met}
 use Rattle.tbtree.specs.Insert.{Stands, IsPlace}
@@ -103,6 +105,19 @@ abbrev pub node : IndexView → ℕ → Option (Node LegView BoxView)
 node i page =
     if i.cache.store.is_faithful then node_in (node_at (pages_of_cache i.cache) page) else None
 
+-- the page that seals a payload, where that says no node
+abbrev pub bare_bytes : {N : Type 0} → ℕ → Payload → Option N → Option (List ℕ)
+bare_bytes page payload None = Some (sealed page payload)
+bare_bytes page payload (Some node) = None
+
+abbrev pub other_in : ℕ → Option Payload → Option (List ℕ)
+other_in page (Some payload) = bare_bytes page payload (node_of payload)
+other_in page None = None
+
+-- what the page holds, where it has a payload, and that one of no tree; nothing where its store is not faithful
+abbrev pub other : IndexView → ℕ → Option (List ℕ)
+other i page = if i.cache.store.is_faithful then other_in page (payload_of i.cache page) else None
+
 -- the page has no payload; anything where its store is not faithful
 abbrev pub is_unreadable : IndexView → ℕ → Type 0
 is_unreadable i page = IsTrue i.cache.store.is_faithful → payload_of i.cache page ≡ None
@@ -179,6 +194,9 @@ words = record {
   is_spent = λ index. index.tree.spent;
   faults = λ index. index.cache.store.faults;
   is_store_full = λ index. index.cache.count ≡ index.cache.store.most;
+  most_pages = λ index. index.cache.store.most;
+  capacity = λ index. index.cache.capacity;
+  other = λ index page. other index page;
   asked = λ index. min index.cache.asked (2 ^ 64 - 1);
   plan = λ index. Some index.tree.shape;
   found_by = λ index. found_by index;

@@ -7,9 +7,9 @@ use Rattle.tbtree.specs.Insert.{Inserts}
 use Rattle.tbtree.specs.Content.{ContentGrows}
 use Rattle.tbtree.specs.Filling.{FillsLeaves}
 use Rattle.tbtree.specs.Joining.{Joins, JoinsAll}
-use Rattle.tbtree.specs.Needs.{BlamesNext, IsFit}
+use Rattle.tbtree.specs.Needs.{BlamesNext, FitsNext, IsFit}
 use Rattle.tbtree.specs.Nodes.{pages_of_cache}
-use Rattle.tbtree.specs.Passes.{Passes, KeepsLength}
+use Rattle.tbtree.specs.Passes.{Passes, KeepsLength, KeepsOthers}
 use Rattle.tbtree.specs.Stands.{owner}
 use Rattle.tbtree.specs.Planting.{HasLacked, HasPlanted}
 use Rattle.tbtree.specs.declared.fault.TreeFault.{TreeFault}
@@ -48,11 +48,14 @@ pub record Puts (old new : IndexView) (leg : LegView)
   pub shape : new.tree.shape ≡ old.tree.shape
   pub room : 0 < old.tree.shape.leaf
   pub passes : Passes old.cache new.cache
+  pub others : KeepsOthers old.cache new.cache
   pub count : OnOk result (KeepsLength old.cache new.cache)
   pub few : new.cache.count < 2 ^ 32
   pub caused : IfErr result (RefusesWrite old.cache new.cache)
   pub blames : IsTrue old.cache.store.is_faithful → IfErr result
       (IfNamed (λ page. IsFit (pages_of_cache old.cache) old.tree was (leg ∷ []) page → ⊥))
+  pub fits : IsTrue old.cache.store.is_faithful → OnOk result
+      ((page : ℕ) → IsFit (pages_of_cache old.cache) old.tree was (leg ∷ []) page)
   pub lacks : IsTrue old.cache.store.is_faithful → IfErr result
       (IfFull (HasLacked leg.feature (pages_of_cache old.cache) old.tree was new.cache.count
       (leg ∷ [])))
@@ -82,11 +85,14 @@ pub record PutsAll (old new : IndexView) (feature : ℕ) (legs : List LegView)
   pub shape : new.tree.shape ≡ old.tree.shape
   pub room : 0 < old.tree.shape.leaf
   pub passes : Passes old.cache new.cache
+  pub others : KeepsOthers old.cache new.cache
   pub count : OnOk result (KeepsLength old.cache new.cache)
   pub few : new.cache.count < 2 ^ 32
   pub caused : IfErr result (RefusesWrite old.cache new.cache)
   pub blames : IsTrue old.cache.store.is_faithful → IfErr result
       (IfNamed (BlamesNext old.cache new.cache old.tree new.tree was is legs))
+  pub fits : IsTrue old.cache.store.is_faithful → OnOk result
+      ((at : ℕ) → at < length legs → FitsNext old.cache old.tree was legs at)
   pub lacks : IsTrue old.cache.store.is_faithful
       → All (λ leg. leg.feature ≡ owner leg_feature legs) legs → IfErr result
       (IfFull (HasLacked (owner leg_feature legs) (pages_of_cache old.cache) old.tree was

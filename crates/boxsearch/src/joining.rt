@@ -1,6 +1,8 @@
 //! Legs that are put into an index over pages leaf by leaf.
-ghost use Rattle.std.specs.Prelude.{◌≡◌, ◌+◌, ◌++◌, ◌<◌, ◌≤◌, drop, false, length, All, IfOk, OnOk};
-ghost use Rattle.legs.specs.Asking.{IsLater, HasAdded};
+ghost use Rattle.std.specs.Prelude.{◌≡◌, ◌+◌, ◌++◌, ◌<◌, ◌≤◌, drop, false, length, All, IfOk, IsTrue, OnOk};
+ghost use Rattle.std.specs.List.{Contains};
+ghost use Rattle.legs.specs.Asking.{FitsLeg, IsLater, HasAdded};
+ghost use Rattle.legs.specs.Legs.{LegView};
 ghost use Rattle.boxsearch.specs.Index.{words};
 ghost use Rattle.boxsearch.specs.Runs.{numbered_legs, runs_in, RunsAsk};
 ghost use Rattle.boxsearch.specs.Taking.{Taking, taken};
@@ -56,6 +58,8 @@ fn join<S: PageStore>(
     requires one { All (λ leg. leg.feature ≡ feature) legs.now }
     ensures taking { Taking index.old index.new legs.now result }
     ensures takes { OnOk result (HasAdded words index.old index.new legs.now) }
+    ensures fits { OnOk result (IsTrue index.old.cache.store.is_faithful → (leg : LegView)
+        → Contains legs.now leg → FitsLeg words index.old legs.now leg) }
     ensures asks { OnOk result (RunsAsk index.old index.new 1) }
     ensures later { IsLater words index.old index.new }
 {
@@ -82,6 +86,9 @@ pub(crate) fn join_all<S: PageStore>(
     requires within { All (λ (turn : Turn). turn.place < length legs.now) turns.now }
     ensures taking { Taking index.old index.new (taken legs.now turns.now) result }
     ensures takes { OnOk result (HasAdded words index.old index.new (taken legs.now turns.now)) }
+    ensures fits { OnOk result (IsTrue index.old.cache.store.is_faithful → (leg : LegView)
+        → Contains (taken legs.now turns.now) leg
+        → FitsLeg words index.old (taken legs.now turns.now) leg) }
     ensures asks { OnOk result (RunsAsk index.old index.new
         (runs_in (numbered_legs legs.now turns.now))) }
     ensures later { IsLater words index.old index.new }

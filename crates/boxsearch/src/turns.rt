@@ -48,6 +48,7 @@ fn take(ends: &mut Vec<Open>, most: u64, feature: usize, made: u32) -> Result<u3
     requires some { 0 < most }
     ensures leaf { IfOk result (λ leaf. leaf ≡ leaf_for ends.old.items feature made) }
     ensures after { OnOk result (ends.new.items ≡ open_after most ends.old.items feature made) }
+    ensures there { OnOk result (feature ≤ length ends.old.items) }
     ensures only { IfErr result (λ fault. feature ≤ length ends.old.items → fault ≡ Memory) }
     ensures kinds { IfErr result IsTurnFault }
 {
@@ -90,6 +91,7 @@ fn turns_as_they_stand(
     requires few { length places.now + length legs.now < 2 ^ 32 }
     ensures turns { IfOk result (λ turns. turns.items
         ≡ turns_from most (opened_from most 0 places.now) (length places.now) 0 legs.now) }
+    ensures skips_none { OnOk result (SkipNone (length places.now) legs.now) }
     ensures only { IfErr result (λ fault. SkipNone (length places.now) legs.now
         → fault ≡ Memory) }
     ensures kinds { IfErr result IsTurnFault }
@@ -121,6 +123,7 @@ pub(crate) fn turns_of(
         (turns_from most (opened_from most 0 places.now) (length places.now) 0 legs.now)
         turns.items) }
     ensures rises { IfOk result (λ turns. IsNonDecreasingBy turn_number turns.items) }
+    ensures skips_none { OnOk result (SkipNone (length places.now) legs.now) }
     ensures only { IfErr result (λ fault. SkipNone (length places.now) legs.now
         → fault ≡ Memory) }
     ensures kinds { IfErr result IsTurnFault }

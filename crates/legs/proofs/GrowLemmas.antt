@@ -1,9 +1,9 @@
 -- Legs put at the end of an index, one after another.
-use Rattle.std.proofs.Common.{ℕ, ⊎_elim, inr, max, ◌+◌, ◌≡◌, ◌≤◌, ◌∙◌, ◌++◌, true, Err, ◌∷◌, [], false, ap, sym, subst, refl, length, All, None, Some, List, arith, append_assoc}
+use Rattle.std.proofs.Common.{ℕ, ⊎_elim, inr, max, ◌+◌, ◌≡◌, ◌≤◌, ◌<◌, ◌∙◌, ◌++◌, take, get_or, true, Err, ◌∷◌, [], false, ap, sym, subst, refl, length, All, None, Some, List, arith, append_assoc}
 use Rattle.std.specs.List.{Contains}
 use Rattle.std.specs.Prelude.{IsErrOf}
 use Rattle.std.proofs.lemmas.Int.{clamps}
-use Rattle.std.proofs.lemmas.List.{append-nil}
+use Rattle.std.proofs.lemmas.List.{append-nil, take_more}
 use Rattle.legs.specs.Finding.{no_finding}
 use Rattle.legs.specs.Boxes.{box_of}
 use Rattle.legs.specs.Legs.{IsLeg, LegView}
@@ -36,6 +36,9 @@ list_words = record {
   is_spent = λ index. index.spent;
   faults = λ index. 0;
   is_store_full = λ index. ⊥;
+  most_pages = λ index. 0;
+  capacity = λ index. 0;
+  other = λ index page. None;
   asked = λ index. 0;
   plan = λ index. None;
   found_by = λ index. no_finding;
@@ -74,6 +77,14 @@ skip_rest : (n : ℕ) (done rest : List LegView) → SkipNone n (done ++ rest) �
 skip_rest n [] rest h = h
 skip_rest n (x ∷ xs) rest h = skip_rest (max n (x.feature + 1)) xs rest h.1
 
+-- and none of all does, where what is done and what is left do not
+skip_then : (n : ℕ) (done rest : List LegView) → SkipNone n done → SkipNone (features_after n done) rest → SkipNone n (done ++ rest)
+skip_then n [] rest h k = k
+skip_then n (x ∷ xs) rest h k = (h.0, skip_then (max n (x.feature + 1)) xs rest h.1 k)
+
+pub skip_more : (n : ℕ) (legs : List LegView) (i : ℕ) (leg : LegView) → i < length legs → leg ≡ get_or legs i leg → SkipNone n (take i legs) → SkipNone (features_after n (take i legs)) (leg ∷ []) → SkipNone n (take (i + 1) legs)
+skip_more n legs i leg l is h k = subst (λ ls. SkipNone n ls) (sym (take_more legs i leg l ∙ ap (λ x. take i legs ++ x ∷ []) (sym is))) (skip_then n (take i legs) (leg ∷ []) h k)
+
 -- a leg that is refused spends the index
 pub growing-refused : {I : Type 0} (g : Ghosts I) (old now new : I) (all done left : List LegView) (leg : LegView) (fault : IndexFault) → (g.is_spent old ≡ true → ⊥) → (g.is_spent now ≡ true → ⊥) → g.features now ≡ features_after (g.features old) done → done ++ leg ∷ left ≡ all → g.faults old ≤ g.faults now → IsGrowing g old now all (leg ∷ left)
     → ((page : ℕ) → IsErrOf {T = Unit {0}} (Err fault) (index.Damaged page) → Blames g old new all page)
@@ -99,6 +110,9 @@ growing-refused g old now new all done left leg fault works still features are f
 pub later-trans : {I : Type 0} (g : Ghosts I) (a b c : I) → IsLater g a b → IsLater g b c → IsLater g a c
 later-trans g a b c p q = record {
   plan = q.plan ∙ p.plan;
+  most_pages = q.most_pages ∙ p.most_pages;
+  capacity = q.capacity ∙ p.capacity;
+  others = λ page bytes above is. q.others page bytes above (p.others page bytes above is);
   faults = let x = p.faults in let y = q.faults in omega (arith, x, y);
   asked = let x = p.asked in let y = q.asked in omega (arith, x, y);
   faithful = λ f. q.faithful (p.faithful f);
@@ -115,6 +129,7 @@ ways-refl g a = record {
   features = refl;
   node = λ page. refl;
   unfit = λ legs page h. h;
+  fit = λ legs page h. h;
 }
 
 ways-trans : {I : Type 0} (g : Ghosts I) (a b c : I) → LeadsStill g a b → LeadsStill g b c → LeadsStill g a c
@@ -128,6 +143,7 @@ ways-trans g a b c p q = record {
   features = q.features ∙ p.features;
   node = λ page. q.node page ∙ p.node page;
   unfit = λ legs page h. p.unfit legs page (q.unfit legs page h);
+  fit = λ legs page h. q.fit legs page (p.fit legs page h);
 }
 
 pub leaves-refl : {I : Type 0} (g : Ghosts I) (a : I) → Leaves g a a
@@ -140,7 +156,7 @@ leaves-refl g a = record {
   sound = λ s. s;
   spent = refl;
   found_by = refl;
-  later = record { plan = refl; faults = omega arith; asked = omega arith; faithful = λ f. f };
+  later = record { plan = refl; most_pages = refl; capacity = refl; others = λ page bytes above is. is; faults = omega arith; asked = omega arith; faithful = λ f. f };
   clean = λ c. c;
   marked = λ m. m;
   written = λ c. refl;

@@ -1,5 +1,5 @@
 -- Joining a file, record by record.
-use Rattle.std.proofs.Common.{ℕ, ◌-◌, ◌≡◌, ◌∙◌, ap, sym, refl, List, [], ◌∷◌, ◌++◌, length, map, take, Bool, false, cond, Option, Some, None, Ok, Err, Result, inl, inr, append_assoc, ◌≤◌, subst, arith, is_some, true}
+use Rattle.std.proofs.Common.{ℕ, ◌+◌, ◌-◌, ◌≡◌, ◌∙◌, ap, sym, refl, List, [], ◌∷◌, ◌++◌, length, map, take, Bool, false, cond, Option, Some, None, Ok, Err, Result, inl, inr, append_assoc, ◌≤◌, subst, arith, is_some, true}
 use Rattle.std.specs.Prelude.{filter, IfOk, OnOk}
 use Rattle.std.proofs.lemmas.Grind.{fold-append}
 use Rattle.std.proofs.lemmas.List.{append-nil, length-append, length-map, take_all}
@@ -15,7 +15,7 @@ use Rattle.legs.specs.Book.{Book, file_of, names_with, record_legs, records_legs
 use Rattle.legs.specs.FirstFault.{IsFirst, IsFirstOf}
 use Rattle.legs.specs.Counting.{names_after}
 use Rattle.legs.specs.Drafts.{IsDraft}
-use Rattle.legs.specs.Joining.{AreJoined, AreJoinedOr, IsJoinedBy, IsJoining, JoinedView, JoiningView}
+use Rattle.legs.specs.Joining.{AreJoined, AreJoinedOr, HasCounted, IsCounted, IsJoinedBy, IsJoining, JoinedView, JoiningView}
 use Rattle.legs.specs.Names.{fresh_names, names_and}
 use Rattle.legs.specs.Tracks.{TracksView, StandsFor}
 use Rattle.legs.specs.declared.draft.Draft.{Draft}
@@ -156,6 +156,33 @@ joining_met limits book records r old new fault free is same met tracks first =
       stands = rw tracks is.stands;
       joined = rw met (first_met limits book records r fault p.1.faultless (rw is.limited at first (with_records book records) p.1.draft_of));
     }
+
+-- records are counted, whatever the tracks say
+pub counted_met : (records : List RecordView) (joiner : JoiningView) → is_some joiner.fault ≡ true → HasCounted joiner records
+counted_met records joiner met = record { names = λ none. absurd (not_met joiner.fault met none); rows = λ none. absurd (not_met joiner.fault met none) }
+  where
+    not_met : (fault : Option JoinFault) → is_some fault ≡ true → fault ≡ None → ⊥
+    not_met None m n = absurd (cc)
+    not_met (Some fault) m n = absurd (cc)
+
+pub counted_more : (records : List RecordView) (r : RecordView) (old new : JoiningView) → new.fault ≡ old.fault → new.draft.names.names ≡ names_with old.draft.names.names r.mfidref → new.draft.rows ≡ old.draft.rows + 1 → new.draft.tracks.now ≡ old.draft.tracks.now
+    → HasCounted old records → HasCounted new (records ++ r ∷ [])
+counted_more records r old new same names rows tracks is = record {
+  names = λ none.
+      names ∙ ap (λ l. names_with l r.mfidref) (is.names (sym same ∙ none)) ∙ sym (fold-append (λ l (x : RecordView). names_with l x.mfidref) [] records (r ∷ []));
+  rows = λ none.
+      let before = is.rows (sym same ∙ none) in
+      let more = length-append records (r ∷ []) in
+      let base = ap (λ (t : TracksView). t.rows) tracks in
+      omega (arith, rows, before, more, base);
+}
+
+pub all_counted : (records : List RecordView) (joiner : JoiningView) (base count : ℕ) → joiner.fault ≡ None → base ≡ joiner.draft.tracks.now.rows → count ≡ joiner.draft.rows - base
+    → HasCounted joiner records → IsCounted records (record { names = joiner.draft.names; legs = joiner.legs; records = count })
+all_counted records joiner base count none b c is = record {
+  names = is.names none;
+  many = let rows = is.rows none in omega (arith, rows, b, c);
+}
 
 -- all of a file is joined
 pub all_joined : (limits : LimitsView) (book : Book) (head : Head) (records : List RecordView) (joiner : JoiningView) (first : Option BookHead) (base count : ℕ) → IsJoining limits joiner book records → joiner.fault ≡ None

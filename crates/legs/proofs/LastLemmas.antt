@@ -8,7 +8,7 @@ use Rattle.std.proofs.lemmas.List.Elements.{All-append, All-cons, All-contains, 
 use Rattle.std.proofs.lemmas.List.Sums.{length-filter, sum_by-append}
 use Rattle.std.proofs.Math.Nat.{add-mul}
 use Rattle.std.proofs.lemmas.Nat.{mul-le}
-use Rattle.legs.specs.Asking.{placed_legs, planted, Blames, HasAdded, LacksPages, NoneBefore, Starts, TakesRoom}
+use Rattle.legs.specs.Asking.{placed_legs, planted, Blames, FitsLeg, HasAdded, LacksPages, NoneBefore, Starts, TakesRoom}
 use Rattle.legs.specs.Finding.{place_in, Finding, IsMade}
 use Rattle.legs.specs.Index.{feature_count, features_after, is_of, last_leg_of, legs_of}
 use Rattle.legs.specs.Boxes.{box_of}
@@ -351,6 +351,23 @@ module _ {I : Type 0} (g : Ghosts I) where
     unfit = n.unfit;
   }
 
+  -- a leg of which each page was what it needed
+  pub fits_started : {A : Type 0} (a b : I) (legs : List LegView) (leg : LegView) (r : Result A IndexFault) → Starts g a b r → FitsLeg g b legs leg → FitsLeg g a legs leg
+  fits_started a b legs leg r s n = record {
+    first = n.first;
+    next = n.next;
+    others = n.others;
+    order = n.order;
+    feature = n.feature;
+    one = n.one;
+    own = n.own;
+    mid = n.mid;
+    none = λ e page u. n.none e page (s.ways.fit n.next page u);
+    added = takes_started a b n.mid n.first r s n.added;
+    fits = λ shape e. n.fits shape (s.later.plan ∙ e);
+    fit = n.fit;
+  }
+
   -- pages that they lack
   pub lacks_started : {A : Type 0} (a b c : I) (legs : List LegView) (r : Result A IndexFault) → Starts g a b r → LacksPages g b c legs → LacksPages g a c legs
   lacks_started a b c legs r s l = λ fa shape e.
@@ -391,6 +408,25 @@ module _ {I : Type 0} (g : Ghosts I) where
         others = λ leg e h. p.others leg (lasts leg.feature ∙ e) h;
         places = λ f place e h. p.places f place (lasts f ∙ e) h;
         place_legs = λ f over. p.place_legs f over ∙ ap (λ n. placed_legs (g.found_by a) f + n) (sym (length-filter (is_of f) xs) ∙ ap length (same f) ∙ length-filter (is_of f) ys);
+      }
+
+  -- a leg of which each page was what it needed, in whatever order the features take turns
+  pub fits_alike : (a : I) (xs ys : List LegView) → ((f : ℕ) → legs_of f xs ≡ legs_of f ys) → ((leg : LegView) → Contains xs leg → FitsLeg g a xs leg) → (leg : LegView) → Contains ys leg → FitsLeg g a ys leg
+  fits_alike a xs ys same each leg there =
+      let n = each leg (alike_has ys xs (λ f. sym (same f)) leg there) in
+      record {
+        first = n.first;
+        next = n.next;
+        others = n.others;
+        order = λ f. n.order f ∙ same f;
+        feature = n.feature;
+        one = n.one;
+        own = n.own;
+        mid = n.mid;
+        none = n.none;
+        added = n.added;
+        fits = n.fits;
+        fit = n.fit;
       }
 
 -- where a feature has no last leg there is none of it

@@ -17,17 +17,23 @@ use Rattle.legs.specs.Sieves.{IsSieved}
 use Rattle.legs.specs.declared.sieve.Sieve.{Sieve}
 use Rattle.timebase.specs.Period.{PeriodView}
 
--- the same index, later: its shape is the same, what is counted did not fall, and its store is faithful where it was
+-- the same index, later: its shape is the same, its store may have as many pages, and its cache hold as many; what a
+-- page behind page 0 holds that has a payload, and that one of no tree, it holds still; what is counted did not fall,
+-- and its store is faithful where it was
 pub record IsLater {I : Type 0} (g : Ghosts I) (old new : I) : Type 0 where
   pub plan : g.plan new ≡ g.plan old
+  pub most_pages : g.most_pages new ≡ g.most_pages old
+  pub capacity : g.capacity new ≡ g.capacity old
+  pub others : (page : ℕ) (bytes : List ℕ) → 0 < page → g.other old page ≡ Some bytes
+      → g.other new page ≡ Some bytes
   pub faults : g.faults old ≤ g.faults new
   pub asked : g.asked old ≤ g.asked new
   pub faithful : g.is_faithful old → g.is_faithful new
 
--- where the ways down its pages lead, whoever wrote them: they find each leg that they found, and come to each page to which
--- they came; a page that is none of a tree stays so; each feature ends with the leg with which it ended; none is astray that
--- was not, and no leg is led to that was not; each page says of a tree what it said, and is what legs need of it where it
--- was; there are as many features
+-- where the ways down its pages lead, whoever wrote them: they find each leg that they found, and come to each page to
+-- which they came; a page that is none of a tree stays so; each feature ends with the leg with which it ended; none is
+-- astray that was not, and no leg is led to that was not; each page says of a tree what it said, and is what legs need
+-- of it just where it was; there are as many features
 pub record LeadsStill {I : Type 0} (g : Ghosts I) (old new : I) : Type 0 where
   pub finds : (meets : BoxView → Bool) (leg : LegView) → g.finds old meets leg
       → g.finds new meets leg
@@ -41,6 +47,8 @@ pub record LeadsStill {I : Type 0} (g : Ghosts I) (old new : I) : Type 0 where
   pub node : (page : ℕ) → g.node new page ≡ g.node old page
   pub unfit : (legs : List LegView) (page : ℕ) → g.is_unfit new legs page
       → g.is_unfit old legs page
+  pub fit : (legs : List LegView) (page : ℕ) → g.is_unfit old legs page
+      → g.is_unfit new legs page
 
 -- what a question leaves, answered or not: the list, and what its pages say, sound where it was, spent where it was, and
 -- the numbers by which it finds its legs; where no page was changed, none is, and none is written
@@ -244,6 +252,25 @@ pub record Blames {I : Type 0} (g : Ghosts I) (old new : I) (legs : List LegView
   pub fits : (shape : ShapeView) → g.plan old ≡ Some shape
       → length next ≤ shape.leaf - placed_legs (g.found_by mid) feature % shape.leaf
   pub unfit : g.is_unfit mid next page
+
+-- the leg was put in with the next ones of its feature, no more than its last leaf had room for, or than a new one
+-- takes where that was full, once the first ones of the legs, in whatever order of their features, were put in, if any:
+-- then no page was not what these next ones needed of it
+pub record FitsLeg {I : Type 0} (g : Ghosts I) (old : I) (legs : List LegView)
+    (leg : LegView) : Type 0 where
+  pub first : List LegView
+  pub next : List LegView
+  pub others : List LegView
+  pub order : (feature : ℕ) → legs_of feature (first ++ next ++ others) ≡ legs_of feature legs
+  pub feature : ℕ
+  pub one : All (λ leg. leg.feature ≡ feature) next
+  pub own : Contains next leg
+  pub mid : I
+  pub none : first ≡ [] → (page : ℕ) → g.is_unfit old next page → ⊥
+  pub added : HasAdded g old mid first
+  pub fits : (shape : ShapeView) → g.plan old ≡ Some shape
+      → length next ≤ shape.leaf - placed_legs (g.found_by mid) feature % shape.leaf
+  pub fit : (page : ℕ) → g.is_unfit mid next page → ⊥
 
 -- one of the legs is of a feature above the one that is next then: the index has a place for each feature below the next
 abbrev pub SkipsFeature : {I : Type 0} → Ghosts I → I → List LegView → Type 0

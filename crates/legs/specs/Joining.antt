@@ -1,5 +1,5 @@
 -- How a file is joined to a book, record by record.
-use Rattle.std.specs.Prelude.{ℕ, ◌≡◌, [], List, length, All, Option, Some, None, Ok}
+use Rattle.std.specs.Prelude.{ℕ, ◌≡◌, ◌+◌, [], List, length, All, Option, Some, None, Ok}
 use Rattle.mfcsv.specs.declared.File.{File}
 use Rattle.mfcsv.specs.Views.{RecordView, IsRecord}
 use Rattle.legs.specs.Legs.{LegView}
@@ -33,6 +33,11 @@ pub record IsJoinedBy (limits : LimitsView) (book : Book) (file : File)
   pub records : by.records ≡ length file.records
   pub lawful : All IsRecord file.records
 
+-- that has the distinct names of these records, in order of first appearance, and as many records
+pub record IsCounted (records : List RecordView) (by : JoinedView) : Type 0 where
+  pub names : by.names.names ≡ names_after [] records
+  pub many : by.records ≡ length records
+
 -- Helper of private functions: records were joined without a fault.
 pub record AreJoined (limits : LimitsView) (book : Book) (records : List RecordView)
     (legs : List LegView)
@@ -65,3 +70,10 @@ pub record IsJoining (limits : LimitsView) (joiner : JoiningView) (book : Book)
   pub limited : joiner.limits ≡ limits
   pub stands : StandsFor joiner.draft.tracks.now book
   pub joined : AreJoinedOr joiner.fault limits book records joiner.legs joiner.draft
+
+-- whatever the tracks say, records were counted, as long as none had a fault: their distinct names are kept, and their
+-- rows are those behind the rows of the tracks
+pub record HasCounted (joiner : JoiningView) (records : List RecordView) : Type 0 where
+  pub names : joiner.fault ≡ None → joiner.draft.names.names ≡ names_after [] records
+  pub rows : joiner.fault ≡ None
+      → joiner.draft.rows ≡ joiner.draft.tracks.now.rows + length records

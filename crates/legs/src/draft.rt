@@ -99,6 +99,7 @@ impl<'a> Draft<'a> {
         ensures book { (book : Book) → StandsFor tracks.now book → IsDraft result book }
         ensures names { result.names.names ≡ [] }
         ensures tracks { result.tracks.now ≡ tracks.now }
+        ensures rows { result.rows ≡ tracks.now.rows }
         ensures few { result.rows ≤ result.legs }
     {
         Draft {
@@ -171,6 +172,7 @@ impl<'a> Draft<'a> {
         ensures names { OnOk result (self.new.names.names
             ≡ names_with self.old.names.names «record».now.mfidref) }
         ensures tracks { self.new.tracks ≡ self.old.tracks }
+        ensures rows { OnOk result (self.new.rows ≡ self.old.rows + 1) }
         ensures few_rows { self.new.rows ≤ self.new.legs }
     {
         let feature = feature_or_next(latest, self.features);
@@ -203,6 +205,7 @@ impl<'a> Draft<'a> {
         ensures names { OnOk result (self.new.names.names
             ≡ names_with self.old.names.names «record».now.mfidref) }
         ensures tracks { self.new.tracks ≡ self.old.tracks }
+        ensures rows { OnOk result (self.new.rows ≡ self.old.rows + 1) }
         ensures record { IsRecord «record».now }
         ensures few_rows { self.new.rows ≤ self.new.legs }
         ensures refused { IfErr result (λ fault. (book : Book) → IsDraft self.old book

@@ -35,13 +35,13 @@ pub enum IndexFault {
 /// A question is answered by what the pages say, whoever wrote them, and by nothing else: where a page that is met is
 /// not what it is to be there, it is `Damaged`, with that page.
 pub trait LegIndex: Listed {
-    ghost use Rattle.std.specs.Prelude.{ℤ, None, ◌≤ℤ◌, ◌≡◌, ◌≢◌, ◌↔◌, ◌∷◌, [], true, false, length, All, OnOk, IfOk, MatchResult};
+    ghost use Rattle.std.specs.Prelude.{ℕ, ℤ, None, ◌≤ℤ◌, ◌≡◌, ◌≢◌, ◌↔◌, ◌∷◌, [], true, false, length, All, OnOk, IfOk, MatchResult};
     ghost use Rattle.std.specs.List.{Contains};
     ghost use Rattle.legs.specs.Legs.{IsLeg, LegView};
-    ghost use Rattle.legs.specs.Index.{legs_in_box, legs_of, live_legs_of};
+    ghost use Rattle.legs.specs.Index.{legs_in_box, legs_of, live_legs_of, SkipNone};
     ghost use Rattle.legs.specs.Questions.{InBox, OfFeature};
     ghost use Rattle.legs.specs.Costs.{known_bound, search_cost, track_cost, track_in_bound};
-    ghost use Rattle.legs.specs.Asking.{AddAllAsks, AddAsks, Asks, AsksAtMost, AsksChain, AsksNoMore, Denies, Grows, HasAdded, IsLater, Leaves, LegRefusals, Recalls, Refusals, TellsSieved};
+    ghost use Rattle.legs.specs.Asking.{AddAllAsks, AddAsks, Asks, AsksAtMost, AsksChain, AsksNoMore, Denies, FitsLeg, Grows, HasAdded, IsLater, Leaves, LegRefusals, Recalls, Refusals, TellsSieved};
     ghost use Rattle.legs.specs.Sieves.{IsSieved};
 
     /// How many legs there are.
@@ -58,20 +58,30 @@ pub trait LegIndex: Listed {
         ensures { result ≡ Self.asked self.now };
 
     /// Puts a leg at the end of the list. The leg's ordinal is to be `len`, its feature at most the number of
-    /// features so far, and its start not before the end of that feature's last leg. Of any other leg, and of an index
-    /// that is not sound, `takes` still says that it is found, as is all that was, and what is told of each feature.
+    /// features so far, and its start not before the end of that feature's last leg. Of any other leg, and of an
+    /// index that is not sound, `takes` still says that it is found, as is all that was, and what is told of each
+    /// feature; and it skips no feature (`skips_none`). Where it is answered over a faithful store, each page was
+    /// what the leg needs of it (`fits`).
     fn add(&mut self, leg: Leg) -> Result<(), IndexFault>
         ensures added { OnOk result (Grows Self.Listed self.old self.new (leg ∷ [])) }
         ensures takes { OnOk result (HasAdded Self.Listed self.old self.new (leg ∷ [])) }
+        ensures skips_none { OnOk result (SkipNone (Self.features self.old) (leg ∷ [])) }
+        ensures fits { OnOk result (Self.is_faithful self.old → (page : ℕ)
+            → Self.is_unfit self.old (leg ∷ []) page → ⊥) }
         ensures asks { OnOk result (AddAsks Self.Listed self.old self.new leg) }
         ensures refusals { LegRefusals Self.Listed self.old self.new (leg ∷ []) result }
         ensures marked { Self.is_marked self.old → Self.is_marked self.new }
         ensures later { IsLater Self.Listed self.old self.new };
 
-    /// Puts legs at the end of the list, one after another.
+    /// Puts legs at the end of the list, one after another. Where they are answered over a faithful store, each was put
+    /// in with the next ones of its leaf, once some of the others were, and then each page was what these needed of it
+    /// (`fits`).
     fn add_all(&mut self, legs: &[Leg]) -> Result<(), IndexFault>
         ensures added { OnOk result (Grows Self.Listed self.old self.new legs.now) }
         ensures takes { OnOk result (HasAdded Self.Listed self.old self.new legs.now) }
+        ensures skips_none { OnOk result (SkipNone (Self.features self.old) legs.now) }
+        ensures fits { OnOk result (Self.is_faithful self.old → (leg : LegView)
+            → Contains legs.now leg → FitsLeg Self.Listed self.old legs.now leg) }
         ensures asks { OnOk result (AddAllAsks Self.Listed self.old self.new legs.now) }
         ensures refusals { LegRefusals Self.Listed self.old self.new legs.now result }
         ensures marked { Self.is_marked self.old → Self.is_marked self.new }

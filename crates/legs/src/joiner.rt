@@ -88,11 +88,13 @@ impl<'a> FileJoiner<'a> {
     ghost use Rattle.legs.specs.Limits.{LimitsView};
     ghost use Rattle.legs.specs.Book.{Book, IsRefusal, file_of, joined};
     ghost use Rattle.legs.specs.Tracks.{StandsFor};
-    ghost use Rattle.legs.specs.Joining.{IsJoinedBy, IsJoining};
+    ghost use Rattle.legs.specs.Joining.{HasCounted, IsCounted, IsJoinedBy, IsJoining};
 
     /// No record is joined yet.
     pub fn new(alloc: Global, tracks: &'a Tracks, limits: &Limits) -> FileJoiner<'a>
-        ensures { (book : Book) → StandsFor tracks.now book → IsJoining limits.now result book [] }
+        ensures joining { (book : Book) → StandsFor tracks.now book
+            → IsJoining limits.now result book [] }
+        ensures counted { HasCounted result [] }
     {
         FileJoiner {
             draft: Draft::new(alloc, tracks),
@@ -104,9 +106,11 @@ impl<'a> FileJoiner<'a> {
 
     /// Joins the next record.
     pub fn join(&mut self, record: &Record) -> Result<(), AllocError>
-        ensures { OnOk result ((limits : LimitsView) (book : Book) (records : List RecordView)
-            → IsJoining limits self.old book records
+        ensures joining { OnOk result ((limits : LimitsView) (book : Book)
+            (records : List RecordView) → IsJoining limits self.old book records
             → IsJoining limits self.new book (records ++ «record».now ∷ [])) }
+        ensures counted { OnOk result ((records : List RecordView) → HasCounted self.old records
+            → HasCounted self.new (records ++ «record».now ∷ [])) }
     {
         if self.fault.is_some() {
             return Ok(());
@@ -129,6 +133,8 @@ impl<'a> FileJoiner<'a> {
             (records : List RecordView) → IsJoining limits self.entry book records
             → book.head ≡ option_copied first.entry
             → IsJoinedBy limits book (file_of head.now records) by) }
+        ensures counted { IfOk result (λ by. (records : List RecordView)
+            → HasCounted self.entry records → IsCounted records by) }
         ensures refused { IfErr result (λ fault. (limits : LimitsView) (book : Book)
             (records : List RecordView) → IsJoining limits self.entry book records
             → book.head ≡ option_copied first.entry

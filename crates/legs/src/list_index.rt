@@ -192,6 +192,12 @@ impl Listed for ListIndex {
 
     ghost is_store_full = { λ index. ⊥ };
 
+    ghost most_pages = { λ index. 0 };
+
+    ghost capacity = { λ index. 0 };
+
+    ghost other = { λ index page. None };
+
     ghost asked = { λ index. 0 };
 
     ghost plan = { λ index. None };

@@ -81,6 +81,16 @@ pub trait Listed {
     /// Its store has no room for another page.
     ghost is_store_full: { Self → Type 0 };
 
+    /// How many pages its store may have; 0 of an index that keeps a list.
+    ghost most_pages: { Self → ℕ };
+
+    /// How many pages its cache holds at most; 0 of an index that keeps a list.
+    ghost capacity: { Self → ℕ };
+
+    /// What a page holds that has a payload, and that one of no tree; nothing of any other page, of an index that
+    /// keeps a list, and where its store is not faithful.
+    ghost other: { Self → ℕ → Option (List ℕ) };
+
     /// How many pages it asked for. It never falls; 2^64 - 1 stands for any greater number.
     ghost asked: { Self → ℕ };
 

@@ -52,4 +52,5 @@ pub mod FillLemmas
 pub mod LeafLemmas
 pub mod FillCosts
 pub mod NeedsLemmas
+pub mod FitLemmas
 pub mod PlantedPages

@@ -63,7 +63,7 @@ begins_more inner number level below here k l = ⊎_elim
     (cases_lt k level)
 
 -- an inner page has as many entries as pages of entries
-kids_many : (nodes : Pages LegView BoxView) (p : ℕ) (page : InnerView BoxView) → 0 < p → nodes.at p ≡ Some (Some (AnInner page)) → length (kids (node_at nodes p)) ≡ length page.entries
+pub kids_many : (nodes : Pages LegView BoxView) (p : ℕ) (page : InnerView BoxView) → 0 < p → nodes.at p ≡ Some (Some (AnInner page)) → length (kids (node_at nodes p)) ≡ length page.entries
 kids_many nodes p page above is = ap (λ o. length (kids o)) (at_page nodes p above ∙ is) ∙ length-map page.entries (λ (e : EntryView BoxView). e.child)
 
 -- a page that stays one of its level, with as many entries
@@ -319,7 +319,7 @@ found_spent : (meets : BoxView → Bool) (nodes : Pages LegView BoxView) (tree :
 unfolding found_legs
 found_spent meets nodes tree a b = refl
 
-content_spent : (old new : Pages LegView BoxView) (tree tree' : TbTree) (a b : Bool) (legs : List LegView) → ContentGrows old new (record tree { spent = a }) tree' legs → ContentGrows old new (record tree { spent = b }) tree' legs
+pub content_spent : (old new : Pages LegView BoxView) (tree tree' : TbTree) (a b : Bool) (legs : List LegView) → ContentGrows old new (record tree { spent = a }) tree' legs → ContentGrows old new (record tree { spent = b }) tree' legs
 content_spent old new tree tree' a b legs g = record {
   kept = λ meets prune. subst (λ l. All (Contains (found_legs meets new tree')) l) (found_spent meets old tree a b) (g.kept meets prune);
   put = g.put;

@@ -133,6 +133,22 @@ pub record BlamesNext (old new : Cache) (tree tree' : TbTree) (place place' : Pl
   pub unfit : IsFit (pages_of_cache mid) tree' place'
       (next_legs tree'.shape.leaf place' (drop from legs)) page → ⊥
 
+-- the leg of that number was put in with the next ones of its leaf, once the first ones of the legs
+-- were put in, if any, and each page was what these next ones needed of it
+pub record FitsNext (old : Cache) (tree : TbTree) (place : Place) (legs : List LegView)
+    (at : ℕ) : Type 0 where
+  pub from : ℕ
+  pub before : from ≤ at
+  pub mid : Cache
+  pub tree' : TbTree
+  pub place' : Place
+  pub first : PutsSome old mid tree tree' place place' (take from legs)
+  pub start : from ≡ 0
+      → (mid ≡ old) × (tree' ≡ record tree { spent = tree'.spent }) × (place' ≡ place)
+  pub within : at < from + length (next_legs tree'.shape.leaf place' (drop from legs))
+  pub fit : (page : ℕ) → IsFit (pages_of_cache mid) tree' place'
+      (next_legs tree'.shape.leaf place' (drop from legs)) page
+
 -- Helpers of private functions.
 
 -- a page of the way to the leaf of that number, whose entries are so many levels above the leaves
@@ -152,6 +168,14 @@ IsNoHook nodes tree number p =
     ⊎ ((p ≡ tree.root) × (0 < tree.levels) × BeginsAll tree number
     × (0 < p → HasCover leg_boxes nodes p → ⊥))
 
+-- the page p can take the leaf of that number; and where it is the root of some levels, over which a
+-- root is to be put, it is not page 0 and has a box
+abbrev pub IsHook : Pages LegView BoxView → TbTree → (number : ℕ) → ℕ → Type 0
+IsHook nodes tree number p =
+    TakesLeaf nodes tree number p
+    × (p ≡ tree.root → 0 < tree.levels → BeginsAll tree number
+    → (0 < p) × HasCover leg_boxes nodes p)
+
 -- the page p is the last leaf, and cannot have a leaf of the legs behind it
 abbrev pub IsNoEnd : Pages LegView BoxView → (last : ℕ) → List LegView → ℕ → Type 0
 IsNoEnd nodes last legs p =
@@ -167,3 +191,19 @@ pub record KeepsUpper (level : ℕ) (old new : Pages LegView BoxView) : Type 0 w
       → kids (node_at new p) ≡ kids (node_at old p)
   pub cover : (p : ℕ) → HasCover leg_boxes old p → HasCover leg_boxes new p
   pub only : (p height : ℕ) → level < height → HasInner new p height → HasInner old p height
+
+-- each page of the way to the leaf of that number, whose entries are so many levels above the leaves
+-- or more, is where it goes on
+abbrev pub GoesAbove : Pages LegView BoxView → TbTree → (number least : ℕ) → Type 0
+GoesAbove nodes tree number least =
+    (above p : ℕ) → least ≤ above → IsInnerOnWay nodes tree number above p
+    → HasEntry nodes p (suc above) (entry_of tree.shape.inner number above)
+
+-- no page has become an inner one of a level
+abbrev pub KeepsInners : Pages LegView BoxView → Pages LegView BoxView → Type 0
+KeepsInners old new = (p height : ℕ) → HasInner new p height → HasInner old p height
+
+-- the root is there, and had a box, if it has one
+pub record KeepsTop (root : ℕ) (old new : Pages LegView BoxView) : Type 0 where
+  pub there : root < new.count
+  pub cover : HasCover leg_boxes new root → HasCover leg_boxes old root

@@ -2,7 +2,7 @@
 ghost use Rattle.std.specs.Prelude.{ℕ, All, List, ◌≡◌, ◌<◌, ◌≤◌, ◌⊎◌, ◌+◌, ◌-◌, ◌*◌, ◌%◌, OnOk, OnErr, IfErr, IsTrue, false, true, Err, drop, length, take};
 ghost use Rattle.tbtree.specs.Faults.{IfFull, IfNamed, RefusesWrite};
 ghost use Rattle.tbtree.specs.Content.{ContentGrows, Meets};
-ghost use Rattle.tbtree.specs.Needs.{BlamesNext};
+ghost use Rattle.tbtree.specs.Needs.{BlamesNext, FitsNext};
 ghost use Rattle.tbtree.specs.Nodes.{pages_of_cache};
 ghost use Rattle.tbtree.specs.Passes.{Passes, KeepsLength, KeepsOthers, Touches};
 ghost use Rattle.tbtree.specs.Filling.{FillsLeaves, NamesLast};
@@ -50,6 +50,8 @@ fn put_all<S: PageStore>(
     ensures blames { IsTrue cache.old.store.is_faithful → IfErr result
         (IfNamed (BlamesNext cache.old cache.new tree.old tree.new place.old place.new
         legs.now)) }
+    ensures fits { IsTrue cache.old.store.is_faithful → OnOk result ((at : ℕ)
+        → at < length legs.now → FitsNext cache.old tree.old place.old legs.now at) }
     ensures lacks { IsTrue cache.old.store.is_faithful
         → All (λ leg. leg.feature ≡ owner leg_feature legs.now) legs.now → IfErr result
         (IfFull (HasLacked (owner leg_feature legs.now) (pages_of_cache cache.old) tree.old
@@ -118,6 +120,11 @@ pub fn insert_all<S: PageStore>(
     ensures blames { tree.old.spent ≡ false → IsTrue cache.old.store.is_faithful → IfErr result
         (IfNamed (BlamesNext cache.old cache.new tree.old tree.new place.old place.new
         legs.now)) }
+
+    // Where they are answered, each leg was put in with the next ones of its leaf, once those before
+    // them were, and then each page was what these need of it at the place.
+    ensures fits { IsTrue cache.old.store.is_faithful → OnOk result ((at : ℕ)
+        → at < length legs.now → FitsNext cache.old tree.old place.old legs.now at) }
 
     // Where the store is said to be full, the legs, which are of one feature, take more pages than there are then.
     ensures lacks { tree.old.spent ≡ false → IsTrue cache.old.store.is_faithful

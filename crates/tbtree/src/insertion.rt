@@ -5,7 +5,7 @@ ghost use Rattle.legs.specs.Costs.{leg_feature};
 ghost use Rattle.legs.specs.Hull.{leg_boxes};
 ghost use Rattle.legs.specs.Legs.{LegView};
 ghost use Rattle.tbtree.specs.Faults.{IfFull, IfNamed, MayRefuseWrite, RefusesWrite};
-ghost use Rattle.tbtree.specs.Needs.{block_of, entry_of, CanGrow, GoesOn, IsFit, IsNoEnd, IsNoHook, IsOnWayTo, KeepsUpper, StopsAbove};
+ghost use Rattle.tbtree.specs.Needs.{block_of, entry_of, CanGrow, GoesAbove, GoesOn, HasNumbers, IsFit, IsHook, IsNoEnd, IsNoHook, IsOnWayTo, KeepsInners, KeepsTop, KeepsUpper, StopsAbove};
 ghost use Rattle.tbtree.specs.Nodes.{pages_of_cache, HasCover, HasLastLeaf, KeepsLeaves, Pages};
 ghost use Rattle.tbtree.specs.Passes.{Passes, KeepsLength, KeepsOthers, Touches};
 ghost use Rattle.tbtree.specs.Way.{IsOnWay, Hangs};
@@ -59,6 +59,11 @@ fn way<S: PageStore>(
     ensures blames { IsTrue cache.old.store.is_faithful → (number : ℕ)
         → at ≡ block_of tree.now.shape.inner number level
         → IfErr result (IfNamed (StopsAbove (pages_of_cache cache.old) tree.now number level)) }
+    ensures goes { IsTrue cache.old.store.is_faithful → (number : ℕ)
+        → at ≡ block_of tree.now.shape.inner number level
+        → OnOk result (GoesAbove (pages_of_cache cache.old) tree.now number level) }
+    ensures inners { IsTrue cache.old.store.is_faithful
+        → OnOk result (KeepsInners (pages_of_cache cache.old) (pages_of_cache cache.new)) }
     ensures block { IsTrue cache.old.store.is_faithful
         → IfOk result (IsBlockPage (pages_of_cache cache.old) tree.now level at) }
     ensures widened { IsTrue cache.old.store.is_faithful → OnOk result
@@ -103,6 +108,9 @@ fn into_leaf<S: PageStore>(
         GoesOn (pages_of_cache cache.old) tree.now number page
         → (page ≡ last → CanGrow (pages_of_cache cache.old) tree.now number legs.now page)
         → ⊥)) }
+    ensures fits { IsTrue cache.old.store.is_faithful → OnOk result ((page : ℕ)
+        → GoesOn (pages_of_cache cache.old) tree.now number page
+        × (page ≡ last → CanGrow (pages_of_cache cache.old) tree.now number legs.now page)) }
     ensures grown { IsTrue cache.old.store.is_faithful → OnOk result
         (HasGrownLeaf (pages_of_cache cache.old) (pages_of_cache cache.new) tree.now number last
         legs.now) }
@@ -146,6 +154,8 @@ fn root_over<S: PageStore>(
     ensures blames { IsTrue cache.old.store.is_faithful → IfErr result (IfNamed (λ page.
         (page ≡ tree.now.root)
         × (0 < page → HasCover leg_boxes (pages_of_cache cache.old) page → ⊥))) }
+    ensures bare { IsTrue cache.old.store.is_faithful → OnOk result
+        ((0 < tree.now.root) × HasCover leg_boxes (pages_of_cache cache.old) tree.now.root) }
     ensures hung { IsTrue cache.old.store.is_faithful → 0 < cache.old.count → (at : ℕ)
         → IfOk result (HasHungBlock (pages_of_cache cache.old) (pages_of_cache cache.new) tree.now
         level at child.now) }
@@ -197,6 +207,13 @@ fn hang<S: PageStore>(
         → ((k : ℕ) → k < level → entry_of tree.now.shape.inner number k ≡ 0)
         → KeepsUpper level was (pages_of_cache cache.old)
         → IfErr result (IfNamed (IsNoHook was tree.now number)) }
+    ensures hooks { IsTrue cache.old.store.is_faithful
+        → (number : ℕ) (was : Pages LegView BoxView)
+        → at ≡ block_of tree.now.shape.inner number level
+        → ((k : ℕ) → k < level → entry_of tree.now.shape.inner number k ≡ 0)
+        → KeepsUpper level was (pages_of_cache cache.old)
+        → KeepsTop tree.now.root was (pages_of_cache cache.old)
+        → OnOk result ((p : ℕ) → IsHook was tree.now number p) }
     ensures hung { IsTrue cache.old.store.is_faithful → 0 < cache.old.count
         → IfOk result (HasHungBlock (pages_of_cache cache.old) (pages_of_cache cache.new) tree.now
         level at child.now) }
@@ -255,6 +272,10 @@ fn into_last<S: PageStore>(
         (Meets (pages_of_cache cache.old) (pages_of_cache cache.new) tree.now tree.now legs.now) }
     ensures blames { IsTrue cache.old.store.is_faithful → IfErr result
         (IfNamed (λ page. IsFit (pages_of_cache cache.old) tree.now place.old legs.now page → ⊥)) }
+    ensures fits { IsTrue cache.old.store.is_faithful
+        → HasNumbers (pages_of_cache cache.old) tree.now place.old → NamesLast place.old
+        → OnOk result
+        ((page : ℕ) → IsFit (pages_of_cache cache.old) tree.now place.old legs.now page) }
     ensures run { IsTrue cache.old.store.is_faithful → OnOk result
         (HasRun (pages_of_cache cache.old) (pages_of_cache cache.new) tree.now tree.now place.old
         legs.now) }
@@ -301,6 +322,10 @@ fn add_last<S: PageStore>(
         → OnOk result (cache.new.count ≡ cache.old.count + 1) }
     ensures blames { IsTrue cache.old.store.is_faithful
         → IfErr result (IfNamed (IsNoEnd (pages_of_cache cache.old) last legs.now)) }
+    ensures fits { IsTrue cache.old.store.is_faithful → OnOk result
+        ((are_of_one_leaf legs.now ≡ true)
+        × (0 < last → (last < cache.old.count)
+        × HasLastLeaf (pages_of_cache cache.old) last (owner leg_feature legs.now))) }
     ensures full { IfErr result (IfFull (cache.new.count ≡ cache.old.count)) }
     ensures touches { Touches cache.old cache.new result }
     ensures asked { cache.new.asked ≤ cache.old.asked + 2 }
@@ -342,6 +367,10 @@ fn hang_leaf<S: PageStore>(
     ensures blames { IsTrue cache.old.store.is_faithful → (was : Pages LegView BoxView)
         → KeepsUpper 0 was (pages_of_cache cache.old)
         → IfErr result (IfNamed (IsNoHook was tree.now tree.now.leaves)) }
+    ensures hooks { IsTrue cache.old.store.is_faithful → (was : Pages LegView BoxView)
+        → KeepsUpper 0 was (pages_of_cache cache.old)
+        → KeepsTop tree.now.root was (pages_of_cache cache.old)
+        → OnOk result ((p : ℕ) → IsHook was tree.now tree.now.leaves p) }
     ensures hung { IsTrue cache.old.store.is_faithful → 0 < cache.old.count → IfOk result
         (HasHungLeaf (pages_of_cache cache.old) (pages_of_cache cache.new) tree.now page.now) }
     ensures full { IsTrue cache.old.store.is_faithful → 0 < cache.old.count → IfErr result (IfFull
@@ -391,6 +420,10 @@ fn begin<S: PageStore>(
         (Meets (pages_of_cache cache.old) (pages_of_cache cache.new) tree.old tree.new legs.now) }
     ensures blames { IsTrue cache.old.store.is_faithful → IfErr result
         (IfNamed (λ page. IsFit (pages_of_cache cache.old) tree.old place.old legs.now page → ⊥)) }
+    ensures fits { IsTrue cache.old.store.is_faithful
+        → HasNumbers (pages_of_cache cache.old) tree.old place.old → NamesLast place.old
+        → OnOk result
+        ((page : ℕ) → IsFit (pages_of_cache cache.old) tree.old place.old legs.now page) }
     ensures run { IsTrue cache.old.store.is_faithful → OnOk result
         (HasRun (pages_of_cache cache.old) (pages_of_cache cache.new) tree.old tree.new place.old
         legs.now) }
@@ -454,6 +487,8 @@ pub(crate) fn put<S: PageStore>(
         (Meets (pages_of_cache cache.old) (pages_of_cache cache.new) tree.old tree.new legs.now) }
     ensures blames { IsTrue cache.old.store.is_faithful → IfErr result
         (IfNamed (λ page. IsFit (pages_of_cache cache.old) tree.old place.old legs.now page → ⊥)) }
+    ensures fits { IsTrue cache.old.store.is_faithful → OnOk result
+        ((page : ℕ) → IsFit (pages_of_cache cache.old) tree.old place.old legs.now page) }
     ensures run { IsTrue cache.old.store.is_faithful → OnOk result
         (HasRun (pages_of_cache cache.old) (pages_of_cache cache.new) tree.old tree.new place.old
         legs.now) }
@@ -561,6 +596,10 @@ pub fn insert<S: PageStore>(
         IsFit (pages_of_cache cache.old) tree.old place.old (leg ∷ []) page → ⊥)) }
     ensures unmoved { OnErr result ((tree.new ≡ record tree.old { spent = true })
         × (place.new ≡ place.old)) }
+
+    // Where it is answered, each page is what the leg needs of it at its place.
+    ensures fits { IsTrue cache.old.store.is_faithful → OnOk result
+        ((page : ℕ) → IsFit (pages_of_cache cache.old) tree.old place.old (leg ∷ []) page) }
 
     // Where the store is said to be full, the leg takes more pages than there are then.
     ensures lacks { tree.old.spent ≡ false → IsTrue cache.old.store.is_faithful

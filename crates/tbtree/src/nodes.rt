@@ -138,6 +138,8 @@ pub(crate) fn attach<S: PageStore>(
         entry.now.bounds (pages_of_cache cache.new)) }
     ensures only { IsTrue cache.old.store.is_faithful
         → HasRoom (pages_of_cache cache.old) page level most → IfErr result MayRefuseWrite }
+    ensures room { IsTrue cache.old.store.is_faithful
+        → OnOk result (HasRoom (pages_of_cache cache.old) page level most) }
     ensures above { OnOk result (0 < page) }
     ensures blames { IsTrue cache.old.store.is_faithful
         → IfErr result (IfNamed (λ n. (n ≡ page)

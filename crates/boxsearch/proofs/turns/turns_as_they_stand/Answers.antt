@@ -3,7 +3,7 @@ use Rattle.std.proofs.lemmas.Result.{err_from_is_err_and}
 use Rattle.legs.specs.Index.{SkipNone}
 use Rattle.legs.specs.Legs.{LegView}
 use Rattle.boxsearch.specs.Turns.{turns_from}
-use Rattle.boxsearch.proofs.TurnSteps.{opened_length, turns_step, fit_next, fit_step}
+use Rattle.boxsearch.proofs.TurnSteps.{opened_length, turns_step, fit_back, fit_next, fit_step}
 use Rattle.boxsearch.proofs.turns.turns_as_they_stand.Goals as goal
 
 pub loop-place-init : goal.loop-place-init
@@ -12,6 +12,7 @@ loop-place-init c =
     let legs = c.args.legs.now in
     let e = c.in_ok-ends.ensures.opened in record {
       turns = ap (λ ts. ts ++ turns_from c.args.most c.in_ok-ends.ends.items (length places) 0 legs) c.in_ok-turns.ensures.items ∙ ap (λ l. turns_from c.args.most l (length places) 0 legs) e;
+      all_fit = λ f. subst (λ n. SkipNone n legs) (ap length e ∙ opened_length c.args.most 0 places) f;
       fit = λ f. subst (λ n. SkipNone n legs) (sym (ap length e ∙ opened_length c.args.most 0 places)) f;
     }
 
@@ -35,5 +36,6 @@ loop-place-preserved c =
     record {
       turns = ap (λ ts. ts ++ turns_from c.args.most c.take.new.ends.items (length places) (k + 1) (drop (k + 1) legs)) c.in_ok-push.ensures.items
           ∙ turns_step c.args.most (length places) k c.loop-place.ends.items c.take.new.ends.items legs c.loop-place.turns.items _ leg c.in_ok-leaf.leaf c.leg.inside.feature (length places + k) l c.index-legs-place.is f refl c.in_ok-leaf.ensures.leaf c.in_ok-leaf.ensures.after c.loop-place.invariant.turns;
+      all_fit = λ fits. c.loop-place.invariant.all_fit (fit_back c.args.most k c.loop-place.ends.items c.take.new.ends.items legs leg c.leg.inside.feature _ l c.index-legs-place.is f c.in_ok-leaf.ensures.there c.in_ok-leaf.ensures.after fits);
       fit = λ fits. fit_step c.args.most k c.loop-place.ends.items c.take.new.ends.items legs leg c.leg.inside.feature _ l c.index-legs-place.is f c.in_ok-leaf.ensures.after (c.loop-place.invariant.fit fits);
     }

@@ -7,5 +7,6 @@ use Rattle.boxsearch.proofs.turns.turns_as_they_stand.Given as goal
 abbrev pub invariant-loop-place : goal.invariant-loop-place
 invariant-loop-place l = record {
   turns : l.turns.items ++ turns_from l.most l.ends.items (length l.places) l.place (drop l.place l.legs) ≡ turns_from l.most (opened_from l.most 0 l.places) (length l.places) 0 l.legs;
+  all_fit : SkipNone (length l.ends.items) (drop l.place l.legs) → SkipNone (length l.places) l.legs;
   fit : SkipNone (length l.places) l.legs → SkipNone (length l.ends.items) (drop l.place l.legs);
 }

@@ -1,8 +1,19 @@
-use Rattle.std.proofs.Common.{arith, refl}
+use Rattle.std.proofs.Common.{◌∙◌, ◌++◌, ◌∷◌, [], take, ap, arith, refl, subst, sym}
+use Rattle.std.proofs.lemmas.List.{take_more}
+use Rattle.mfcsv.specs.Views.{RecordView}
 use Rattle.std.specs.Option.{option_copied}
 use Rattle.legs.specs.Book.{Book}
+use Rattle.legs.specs.Joining.{IsJoining}
 use Rattle.legs.proofs.JoinLemmas.{all_taken, if_ok, on_ok, other_head, same_legs, with_records-rows}
 use Rattle.legs.proofs.joining.join.Goals as goal
+
+pub loop-record-preserved : goal.loop-record-preserved
+loop-record-preserved c = λ book stands.
+    let records = c.as_slice-records.result.now in
+    let k = c.loop-record.record-index in
+    let r = c.record-item.result in
+    let next = take_more records k r c.loop-record-test.true ∙ ap (λ (x : RecordView). take k records ++ x ∷ []) (sym c.record-item.is) in
+    subst (λ done. IsJoining c.args.limits.now c.join.new.self book done) (sym next) (c.in_ok-join.ensures.joining c.args.limits.now book (take k records) (c.loop-record.invariant book stands))
 
 pub returns-clause-joined : goal.returns-clause-joined
 returns-clause-joined c =

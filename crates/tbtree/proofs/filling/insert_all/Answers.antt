@@ -5,6 +5,7 @@ use Rattle.tbtree.proofs.ContentLemmas.{grows_spent}
 use Rattle.tbtree.specs.Needs.{BlamesNext}
 use Rattle.tbtree.proofs.FaultLemmas.{named_then}
 use Rattle.tbtree.proofs.NeedsLemmas.{blames_spent}
+use Rattle.tbtree.proofs.FitLemmas.{fits_spent}
 use Rattle.tbtree.proofs.filling.insert_all.Goals as goal
 
 pub returns-clause-met : goal.returns-clause-met
@@ -26,3 +27,8 @@ returns-in_err-put_all-clause-blames g c = λ _ fa.
 
 pub returns-clause-grown : goal.returns-clause-grown
 returns-clause-grown g c = λ fa. c.in_ok-put_all.ensures.grown fa
+
+pub returns-clause-fits : goal.returns-clause-fits
+returns-clause-fits g c = λ fa at low.
+    let tree = c.args.tree.now in
+    fits_spent c.args.cache.now tree true tree.spent c.args.place.now c.args.legs.now at (c.in_ok-put_all.ensures.fits fa at low)

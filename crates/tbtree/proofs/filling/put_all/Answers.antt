@@ -11,7 +11,7 @@ use Rattle.tbtree.specs.Nodes.{pages_of_cache}
 use Rattle.tbtree.specs.Content.{Meets}
 use Rattle.tbtree.proofs.ContentLemmas.{content_grows, meets_none, meets_part}
 use Rattle.tbtree.proofs.FillCosts.{filled_start, filled_part}
-use Rattle.tbtree.proofs.LeafLemmas.{IsFull, fills_none, fills_part, own_of, placed_last, placed_legs, placed_new}
+use Rattle.tbtree.proofs.LeafLemmas.{IsFull, fills_none, fills_part, placed_last, placed_legs, placed_new}
 use Rattle.tbtree.proofs.FillLemmas.{joins_none, length_part, part_in_last, part_joins, part_refused}
 use Rattle.tbtree.specs.Filling.{page_made, place_with, FillsLeaves, NamesLast}
 use Rattle.tbtree.specs.Joining.{in_last_leaf, HasAtEnd}
@@ -28,6 +28,7 @@ use Rattle.tbtree.proofs.FaultLemmas.{full_then, named_then}
 use Rattle.tbtree.proofs.NeedsLemmas.{next_part}
 use Rattle.tbtree.proofs.PlantedPages.{planted_first, planted_none, planted_one, planted_part}
 use Rattle.tbtree.proofs.RoomyPages.{lacked_part}
+use Rattle.tbtree.proofs.FitLemmas.{fits_part}
 use Rattle.tbtree.proofs.filling.put_all.Goals as goal
 
 pub leaves-init : goal.leaves-init
@@ -56,6 +57,7 @@ leaves-init g c =
           ([], none, λ some. ap (λ (l : List LegView). length l % tree.shape.leaf) none.made ∙ zero-mod tree.shape.leaf);
       met = λ fa. meets_none (pages_of_cache cache) tree;
       grown = λ fa. planted_none (owner leg_feature c.args.legs.now) (pages_of_cache cache) tree c.args.place.now;
+      fits = λ fa at low. absurd (omega (arith, low));
       filled = filled_start tree.shape.leaf (length c.args.legs.now) cache tree c.args.place.now (omega (arith, least));
     }
 
@@ -148,6 +150,28 @@ leaves-preserved g c =
           let part = take (n + k - n) (drop n legs) in
           planted_part (pages_of_cache old) (pages_of_cache now) (pages_of_cache new) c.args.tree.now c.leaves.tree c.put.new.tree c.args.place.now c.leaves.place c.put.new.place legs n k fits.some within (all_fills fa).1.one so_far.shape (so_far.grown fa)
           (planted_one (pages_of_cache now) (pages_of_cache new) c.leaves.tree c.put.new.tree c.leaves.place c.put.new.place part (put.run now_faithful) put.place);
+      fits = λ fa.
+          let now_faithful = still _ _ so_far.touches.passes.store.faithful fa in
+          let nodes = pages_of_cache now in
+          let was = c.args.tree.now in
+          let place_was = c.args.place.now in
+          let tree = c.leaves.tree in
+          let place = c.leaves.place in
+          let left = tree.shape.leaf - place.legs % tree.shape.leaf in
+          let left_is : left ≡ leaf - filled = ap (λ m. m - place.legs % m) is in
+          let next = next_part n k left legs within (omega (arith, room, left_is)) (λ more. let all = full more in omega (arith, all, left_is)) in
+          let before = so_far.fills fa in
+          let first : PutsSome old now was tree place_was place (take n legs) = record {
+            shape = so_far.shape;
+            passes = so_far.touches.passes;
+            length = so_far.touches.length;
+            pages = before.0;
+            fills = before.1;
+            grows = content_grows (pages_of_cache old) nodes was tree (take n legs) (so_far.met fa);
+            grown = planted_first (pages_of_cache old) nodes was tree place_was place legs n (λ none. ((so_far.first none).0, ap (λ (x : Cache). pages_of_cache x) (so_far.first none).1, so_far.begun none)) (so_far.grown fa);
+          } in
+          fits_part old now was tree place_was place legs n k left first (λ none. ((so_far.first none).1, subst (λ t. tree ≡ record t { spent = tree.spent }) (so_far.first none).0 refl, so_far.begun none))
+          refl within next (put.fits now_faithful) (so_far.fits fa);
       filled = filled_part leaf n k (length legs) old now new c.args.tree.now c.leaves.tree c.put.new.tree c.leaves.place c.put.new.place
           fits.some so_far.filled c.leaves-test.true put.higher counted
           room full
@@ -264,3 +288,8 @@ returns-in_err-put-clause-lacks g c = λ fa one.
     rw (p.1, p.2) (full_then (HasLackedRun mid tree place (take (n + k - n) (drop n legs)) most) (HasLacked (owner leg_feature legs) old was place_was most legs)
     (λ h. lacked_part old mid was tree place_was place legs n k most fits.some within one so_far.shape room (so_far.grown fa) h) _
     (c.in_err-put.ensures.full (still _ _ so_far.touches.passes.store.faithful fa)))
+
+pub returns-clause-fits : goal.returns-clause-fits
+returns-clause-fits g c = λ fa at low.
+    let over = c.leaves-test.false in
+    c.leaves.invariant.fits fa at (omega (arith, over, low))

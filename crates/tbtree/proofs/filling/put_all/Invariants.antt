@@ -3,6 +3,7 @@ use Rattle.std.specs.Prelude.{IsTrue, Ok, ◌⊎◌}
 use Rattle.tbtree.specs.Content.{Meets}
 use Rattle.tbtree.specs.Filling.{FillsLeaves, NamesLast}
 use Rattle.tbtree.specs.Joining.{in_last_leaf, HasAtEnd, JoinsAll}
+use Rattle.tbtree.specs.Needs.{FitsNext}
 use Rattle.tbtree.specs.Nodes.{pages_of_cache}
 use Rattle.tbtree.specs.Passes.{Touches}
 use Rattle.tbtree.specs.Planting.{HasPlanted}
@@ -36,5 +37,6 @@ invariant-leaves g l = record {
   fills : IsTrue l.fn.cache.store.is_faithful → (pages : List ℕ) × FillsLeaves l.fn.tree.shape.leaf (pages_of_cache l.fn.cache) (pages_of_cache l.cache) l.fn.tree.leaves l.tree.leaves l.fn.place l.place (take l.from l.legs) pages × IsFull l.fn.tree.shape.leaf l.fn.place l.legs l.from;
   met : IsTrue l.fn.cache.store.is_faithful → Meets (pages_of_cache l.fn.cache) (pages_of_cache l.cache) l.fn.tree l.tree (take l.from l.legs);
   grown : IsTrue l.fn.cache.store.is_faithful → HasPlanted (owner leg_feature l.legs) (pages_of_cache l.fn.cache) (pages_of_cache l.cache) l.fn.tree l.tree l.fn.place l.place (take l.from l.legs);
+  fits : IsTrue l.fn.cache.store.is_faithful → (at : ℕ) → at < l.from → FitsNext l.fn.cache l.fn.tree l.fn.place l.legs at;
   filled : IsFilled l.fn.tree.shape.leaf l.from (length l.legs) l.fn.cache l.cache l.fn.tree l.tree l.place;
 }

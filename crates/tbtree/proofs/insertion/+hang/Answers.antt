@@ -5,6 +5,7 @@ use Rattle.legs.specs.Hull.{leg_boxes}
 use Rattle.legs.specs.Costs.{leg_feature}
 use Rattle.tbtree.specs.Faults.{MayRefuseWrite}
 use Rattle.legs.specs.Boxes.{BoxView}
+use Rattle.tbnode.specs.Edits.{new_inner}
 use Rattle.tbtree.specs.Nodes.{pages_of_cache, EntryView, HasRoom}
 use Rattle.tbtree.specs.Content.{Carries, IsFound}
 use Rattle.tbtree.specs.Way.{IsOnWay, Hangs}
@@ -21,6 +22,7 @@ use Rattle.tbtree.specs.Planting.{HasHungBlock, HasLackedBlock, HasWidened}
 use Rattle.tbtree.proofs.PlantedPages.{hung_attached, on_hung_above}
 use Rattle.tbtree.proofs.RoomyPages.{lacked_above, on_lacked_up}
 use Rattle.tbtree.specs.Faults.{IfFull}
+use Rattle.tbtree.proofs.FitLemmas.{hook_here, on_hook_top, top_added}
 use Rattle.tbtree.proofs.insertion.+hang.Goals as goal
 
 pub returns-then-at-inner-eq0-clause-hangs : goal.returns-then-at-inner-eq0-clause-hangs
@@ -212,3 +214,33 @@ returns-then-at-inner-eq0-clause-full g t c = λ fa some.
     is some below c.if-at-inner-eq0.true (c.in_ok-page.ensures.adds fa)
     (subst (λ b. IfErr c.hang.result (IfFull (HasLackedBlock mid tree (c.args.level + 1) (c.args.at / c.from-inner.result) (entry_to c.in_ok-page.page b) most))) same
     (c.hang.ensures.full (still _ _ c.add_inner.ensures.touches.passes.store.faithful fa) (omega (arith, some, more))))
+
+pub returns-then-from-tree-clause-hooks : goal.returns-then-from-tree-clause-hooks
+returns-then-from-tree-clause-hooks g t c = λ fa number was block begins keeps top.
+    on_hook_top c.args.tree.now number c.args.level was (pages_of_cache c.args.cache.now) c.root_over.result (omega (arith, c.if-from-tree.true, c.from.ensures)) begins top (c.root_over.ensures.bare fa)
+
+pub returns-then-at-inner-eq0-clause-hooks : goal.returns-then-at-inner-eq0-clause-hooks
+returns-then-at-inner-eq0-clause-hooks g t c = λ fa number was block begins keeps top.
+    let tree = c.args.tree.now in
+    let inner = tree.shape.inner in
+    let by = c.from-inner.result in
+    let old = pages_of_cache c.args.cache.now in
+    let mid = pages_of_cache c.add_inner.new.cache in
+    let is : by ≡ inner = c.from-inner.ensures ∙ c.inner.ensures.value in
+    let here : entry_of inner number c.args.level ≡ 0 = sym (entry_up inner by number c.args.level c.args.at is block) ∙ c.if-at-inner-eq0.true in
+    c.hang.ensures.hooks (still _ _ c.add_inner.ensures.touches.passes.store.faithful fa) number was (block_up inner by number c.args.level c.args.at is block) (begins_more inner number c.args.level begins here)
+    (upper_added c.args.level was old mid _ c.in_ok-page.page refl c.add_inner.ensures.fresh (c.in_ok-page.ensures.adds fa) keeps)
+    (top_added tree.root was old mid (new_inner (c.args.level + 1) c.args.child.now) c.in_ok-page.page top (c.in_ok-page.ensures.adds fa))
+
+pub returns-clause-hooks : goal.returns-clause-hooks
+returns-clause-hooks g t c = λ fa number was block begins keeps top.
+    let tree = c.args.tree.now in
+    let inner = tree.shape.inner in
+    let by = c.from-inner.result in
+    let is : by ≡ inner = c.from-inner.ensures ∙ c.inner.ensures.value in
+    let here = entry_up inner by number c.args.level c.args.at is block in
+    let some : 0 < entry_of inner number c.args.level = let u = c.if-at-inner-eq0.false in omega (arith, u, here) in
+    let below : c.args.level + 1 < tree.levels = omega (arith, c.if-from-tree.false, c.from.ensures, c.requires.level) in
+    let up = block_up inner by number c.args.level c.args.at is block in
+    hook_here tree number c.args.level was (pages_of_cache c.args.cache.now) (pages_of_cache c.way.new.cache) c.in_ok-parent.parent c.inner-2.result _ keeps (c.in_ok-parent.ensures.found fa) (c.in_ok-parent.ensures.inners fa) (c.in_ok-parent.ensures.goes fa number up)
+    (λ m e. c.in_ok-parent.ensures.reaches fa number m up e) c.inner-2.ensures.value below begins some (c.in_ok-attach.ensures.room (still _ _ c.way.ensures.touches.passes.store.faithful fa))

@@ -12,6 +12,7 @@ use Rattle.tbtree.specs.Needs.{StopsAbove}
 use Rattle.tbtree.proofs.FaultLemmas.{named_then}
 use Rattle.tbtree.proofs.NeedsLemmas.{block_up, entry_up, reached, reached_top, stopped, stops_up}
 use Rattle.tbtree.proofs.PlantedPages.{block_top, on_block, on_widened, widened_top}
+use Rattle.tbtree.proofs.FitLemmas.{goes_top, on_goes, on_inners}
 use Rattle.tbtree.proofs.insertion.+way.Goals as goal
 
 pub returns-then-from-tree-clause-way : goal.returns-then-from-tree-clause-way
@@ -122,3 +123,22 @@ returns-clause-widened g t c = λ fa.
     let below : c.args.level + 1 < tree.levels = omega (arith, c.if-from-tree.false, c.from.ensures, c.requires.level) in
     on_widened (pages_of_cache c.args.cache.now) (pages_of_cache c.way.new.cache) (pages_of_cache c.widen.new.cache) by c.args.level c.args.at c.in_ok-parent.parent tree c.args.bounds.now c.widen.result
     is c.widen.ensures.above below (c.in_ok-parent.ensures.block fa) (c.in_ok-parent.ensures.widened fa) (c.widen.ensures.widens (still _ _ c.way.ensures.touches.passes.store.faithful fa))
+
+pub returns-then-from-tree-clause-goes : goal.returns-then-from-tree-clause-goes
+returns-then-from-tree-clause-goes g t c = λ fa number block.
+    goes_top c.args.tree.now number (pages_of_cache c.args.cache.now) c.args.level (omega (arith, c.if-from-tree.true, c.from.ensures))
+
+pub returns-clause-goes : goal.returns-clause-goes
+returns-clause-goes g t c = λ fa number block.
+    let tree = c.args.tree.now in
+    let by = c.from-inner.result in
+    let is : by ≡ tree.shape.inner = c.from-inner.ensures ∙ c.inner.ensures.value in
+    let up = block_up tree.shape.inner by number c.args.level c.args.at is block in
+    on_goes tree number (pages_of_cache c.args.cache.now) (pages_of_cache c.way.new.cache) (pages_of_cache c.widen.new.cache) c.args.level (c.args.at % by) c.in_ok-parent.parent c.args.bounds.now c.widen.result
+    (entry_up tree.shape.inner by number c.args.level c.args.at is block) c.widen.ensures.above (λ m e. c.in_ok-parent.ensures.reaches fa number m up e) (c.in_ok-parent.ensures.found fa) (c.in_ok-parent.ensures.goes fa number up)
+    (c.widen.ensures.widens (still _ _ c.way.ensures.touches.passes.store.faithful fa))
+
+pub returns-clause-inners : goal.returns-clause-inners
+returns-clause-inners g t c = λ fa.
+    on_inners (pages_of_cache c.args.cache.now) (pages_of_cache c.way.new.cache) (pages_of_cache c.widen.new.cache) c.in_ok-parent.parent (c.args.level + 1) (c.args.at % c.from-inner.result) c.args.bounds.now c.widen.result
+    c.widen.ensures.above (c.in_ok-parent.ensures.inners fa) (c.widen.ensures.widens (still _ _ c.way.ensures.touches.passes.store.faithful fa))

@@ -13,6 +13,7 @@ use Rattle.tbtree.specs.Stands.{new_leaf}
 use Rattle.tbtree.proofs.KindLemmas.{kinds_begun, on_counted, on_kinds}
 use Rattle.tbtree.proofs.GraftLemmas.{kids_added, kids_linked, kids_then, on_kids}
 use Rattle.tbtree.proofs.NeedsLemmas.{no_leaf, no_link}
+use Rattle.tbtree.proofs.FitLemmas.{end_fits, on_end_first}
 use Rattle.tbtree.proofs.insertion.add_last.Goals as goal
 
 -- the page that is made is another one
@@ -100,3 +101,13 @@ returns-in_err-link-clause-blames g c = λ fa.
     let p = err_from_is_err_and c.from_residual-in_err-link.result c.from_residual-in_err-link.ensures.1 in
     rw (p.1, p.2) (no_link (pages_of_cache c.args.cache.now) (pages_of_cache c.add_leaf-2.new.cache) (leaf_of_legs c.args.last c.args.legs.now) c.args.last c.in_ok-page.page _ c.args.legs.now _ (c.in_ok-page.ensures.adds fa) own (omega (arith, some))
     (c.in_err-link.ensures.blames (still _ _ c.add_leaf-2.ensures.touches.passes.store.faithful fa)))
+
+pub returns-then-last-eq0-clause-fits : goal.returns-then-last-eq0-clause-fits
+returns-then-last-eq0-clause-fits g c = λ fa. on_end_first (pages_of_cache c.args.cache.now) c.args.last c.args.legs.now c.add_leaf.result c.if-last-eq0.true c.add_leaf.ensures.one
+
+pub returns-clause-fits : goal.returns-clause-fits
+returns-clause-fits g c = λ fa.
+    let there : c.args.last < c.args.cache.now.count = omega (arith, c.if-last-count.false, c.count.ensures.value) in
+    let own = ap (λ (leg : LegView). leg.feature) c.first.view_is ∙ sym (owner_first c.args.legs.now c.index-legs-0.result c.requires.some c.index-legs-0.is) in
+    end_fits (pages_of_cache c.args.cache.now) (pages_of_cache c.add_leaf-2.new.cache) (leaf_of_legs c.args.last c.args.legs.now) c.args.last c.in_ok-page.page _ c.args.legs.now
+    (c.in_ok-page.ensures.adds fa) own there c.in_ok-page.ensures.one (c.in_ok-link.ensures.last (still _ _ c.add_leaf-2.ensures.touches.passes.store.faithful fa))

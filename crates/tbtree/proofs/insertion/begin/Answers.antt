@@ -16,6 +16,7 @@ use Rattle.tbtree.proofs.PlantedPages.{is_run_begun, run_begun}
 use Rattle.legs.specs.Growing.{entry_to}
 use Rattle.tbtree.specs.Planting.{HasLackedLeaf, HasLackedRun}
 use Rattle.tbtree.proofs.RoomyPages.{lacked_begun, lacked_new}
+use Rattle.tbtree.proofs.FitLemmas.{fit_new, top_begun}
 use Rattle.tbtree.proofs.insertion.begin.Goals as goal
 use Rattle.tbtree.proofs.insertion.begin.Goals.{then-place-eq0, else-place-eq0}
 
@@ -123,3 +124,15 @@ returns-in_err-top-clause-full g c = λ fa.
     rw (p.1, p.2) (full_then (HasLackedLeaf mid tree (entry_to page box) most) (HasLackedRun old tree place legs most)
     (λ h. lacked_begun old mid tree place legs page most box (omega (arith, root)) c.requires.full c.cover_of_legs-bounds.ensures c.in_ok-page.ensures.number (c.in_ok-page.ensures.begins fa) h) _
     (c.in_err-top.ensures.full (still _ _ c.add_last.ensures.touches.passes.store.faithful fa) (omega (arith, root, more))))
+
+pub returns-clause-fits : goal.returns-clause-fits
+returns-clause-fits g c = λ fa numbers named.
+    let tree = c.args.tree.now in
+    let place = c.args.place.now in
+    let legs = c.args.legs.now in
+    let old = pages_of_cache c.args.cache.now in
+    let mid = pages_of_cache c.add_last.new.cache in
+    let page = c.in_ok-page.page in
+    let begins = c.in_ok-page.ensures.begins fa in
+    fit_new old tree place legs numbers named c.requires.full (c.in_ok-page.ensures.fits fa)
+    (c.in_ok-top.ensures.hooks (still _ _ c.add_last.ensures.touches.passes.store.faithful fa) old (upper_begun old mid place.last page legs c.in_ok-page.ensures.none begins) (top_begun tree.root old mid place.last page legs c.requires.root begins))

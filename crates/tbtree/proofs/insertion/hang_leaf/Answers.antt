@@ -10,6 +10,7 @@ use Rattle.tbtree.proofs.InsertLemmas.{first_hung}
 use Rattle.tbtree.proofs.ContentLemmas.{carries_first}
 use Rattle.tbtree.specs.Planting.{HasHungLeaf}
 use Rattle.tbtree.proofs.PlantedPages.{leaf_first, on_leaf_hung}
+use Rattle.tbtree.proofs.FitLemmas.{hook_first}
 use Rattle.tbtree.proofs.insertion.hang_leaf.Goals as goal
 
 pub returns-then-tree-eq0-clause-hangs : goal.returns-then-tree-eq0-clause-hangs
@@ -44,3 +45,9 @@ pub returns-clause-hung : goal.returns-clause-hung
 returns-clause-hung g c = λ fa first.
     let some = c.if-tree-eq0.false in
     on_leaf_hung (pages_of_cache c.args.cache.now) (pages_of_cache c.hang.new.cache) c.args.page.now c.args.tree.now c.hang.result (omega (arith, some)) (c.hang.ensures.hung fa first)
+
+pub returns-then-tree-eq0-clause-hooks : goal.returns-then-tree-eq0-clause-hooks
+returns-then-tree-eq0-clause-hooks g c = λ fa was keeps top. hook_first c.args.tree.now c.args.tree.now.leaves was c.if-tree-eq0.true
+
+pub returns-clause-hooks : goal.returns-clause-hooks
+returns-clause-hooks g c = λ fa was keeps top. c.hang.ensures.hooks fa c.args.tree.now.leaves was refl (λ k below. absurd (omega (arith, below))) keeps top

@@ -76,3 +76,8 @@ returns-in_err-put-clause-lacks g c = λ _ fa.
     let p = err_from_is_err_and c.from_residual.result c.from_residual.ensures.1 in
     rw (p.1, p.2) (full_then (HasLackedRun old tree place (c.args.leg ∷ []) most) (HasLacked c.args.leg.feature old tree place most (c.args.leg ∷ [])) (λ h. lacked_one old tree place c.args.leg most room h) _
     (c.in_err-put.ensures.full fa))
+
+pub returns-clause-fits : goal.returns-clause-fits
+returns-clause-fits g c = λ fa page.
+    let tree = c.args.tree.now in
+    fit_spent (pages_of_cache c.args.cache.now) tree true tree.spent c.args.place.now (c.args.leg ∷ []) page (c.in_ok-put.ensures.fits fa page)

@@ -7,6 +7,7 @@ use Rattle.tbtree.specs.Needs.{CanGrow, GoesOn, IsFit}
 use Rattle.tbtree.proofs.FaultLemmas.{named_then}
 use Rattle.tbtree.proofs.NeedsLemmas.{unfit_leaf}
 use Rattle.tbtree.proofs.PlantedPages.{is_run_grown, run_grown}
+use Rattle.tbtree.proofs.FitLemmas.{fit_leaf}
 use Rattle.tbtree.proofs.insertion.into_last.Goals as goal
 
 pub returns-clause-inserts : goal.returns-clause-inserts
@@ -38,3 +39,7 @@ returns-clause-run g c = λ fa.
     let grown = c.in_ok-into_leaf.ensures.grown fa in
     run_grown old new tree place legs c.requires.there grown
     (is_run_grown old new tree place legs c.requires.levels c.requires.some c.requires.there c.requires.room (c.in_ok-into_leaf.ensures.leaf fa) grown.found)
+
+pub returns-clause-fits : goal.returns-clause-fits
+returns-clause-fits g c = λ fa numbers named.
+    fit_leaf (pages_of_cache c.args.cache.now) c.args.tree.now c.args.place.now c.args.legs.now numbers named c.requires.there (c.in_ok-into_leaf.ensures.fits fa)

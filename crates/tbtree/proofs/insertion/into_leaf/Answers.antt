@@ -20,6 +20,7 @@ use Rattle.tbtree.specs.Needs.{CanGrow, GoesOn, StopsAbove}
 use Rattle.tbtree.proofs.FaultLemmas.{named_then}
 use Rattle.tbtree.proofs.NeedsLemmas.{no_room, no_way}
 use Rattle.tbtree.proofs.PlantedPages.{on_grown_leaf}
+use Rattle.tbtree.proofs.FitLemmas.{on_fits}
 use Rattle.tbtree.proofs.insertion.into_leaf.Goals as goal
 
 pub returns-clause-ends : goal.returns-clause-ends
@@ -104,3 +105,11 @@ returns-clause-grown g c = λ fa.
     let faithful = still _ _ c.way.ensures.touches.passes.store.faithful fa in
     on_grown_leaf (pages_of_cache c.args.cache.now) (pages_of_cache c.way.new.cache) (pages_of_cache c.grow.new.cache) c.args.number c.in_ok-page.page c.args.last c.leaf-most.result c.args.tree.now c.cover_of_legs-bounds.result c.args.legs.now c.grow.result
     c.if-page-last.false c.requires.levels c.cover_of_legs-bounds.ensures (c.in_ok-page.ensures.block fa) (c.in_ok-page.ensures.widened fa) (c.grow.ensures.takes faithful) (c.grow.ensures.pushes faithful)
+
+pub returns-clause-fits : goal.returns-clause-fits
+returns-clause-fits g c = λ fa.
+    let tree = c.args.tree.now in
+    let number = c.args.number in
+    on_fits tree number (pages_of_cache c.args.cache.now) (pages_of_cache c.way.new.cache) c.in_ok-page.page c.args.last c.leaf-most.result c.args.legs.now c.grow.result
+    c.requires.levels c.if-page-last.false c.leaf-most.ensures.value (λ n e. c.in_ok-page.ensures.reaches fa number n refl e) (c.in_ok-page.ensures.no_more fa) (c.in_ok-page.ensures.goes fa number refl)
+    (c.grow.ensures.takes (still _ _ c.way.ensures.touches.passes.store.faithful fa))

@@ -1,6 +1,7 @@
 use Rattle.std.proofs.Common.{◌≡◌, ◌∙◌, ◌<◌, ◌≤◌, ◌-◌, ◌^◌, arith, length, refl, ⊎_elim}
 use Rattle.std.proofs.lemmas.Bool.{cases_lt}
 use Rattle.tbtree.specs.declared.fault.TreeFault.TheVariants.{Malformed}
+use Rattle.tbtree.specs.Needs.{HasNumbers}
 use Rattle.tbtree.specs.Nodes.{pages_of_cache}
 use Rattle.tbtree.proofs.InsertLemmas.{few_enough, place_named}
 use Rattle.tbtree.proofs.OldLeaf.{fits}
@@ -56,3 +57,25 @@ returns-then-tree-count-clause-blames g c = λ fa fit.
       | then-tree-count-via-else-tree-count+then-tree-ge-MOST_LEVELS w ↦ (let e = w.if-tree-ge-MOST_LEVELS.true in omega (arith, levels, e))
       | then-tree-count-via-else-tree-count+else-tree-ge-MOST_LEVELS+then-place-leaf w ↦ (let e = w.if-place-leaf.true in omega (arith, legs, e, leaf))
     ]
+
+pub returns-then-place-leaf-eq0-clause-fits : goal.returns-then-place-leaf-eq0-clause-fits
+returns-then-place-leaf-eq0-clause-fits g c = λ fa.
+    let leaf : c.from-leaf.result ≡ c.args.tree.now.shape.leaf = c.from-leaf.ensures ∙ c.leaf.ensures.value in
+    let numbers : HasNumbers (pages_of_cache c.args.cache.now) c.args.tree.now c.args.place.now = record {
+      root = omega (arith, c.if-root-count.false, c.count-2.ensures.value);
+      leaves = omega (arith, c.if-tree-count.false, c.count.ensures.value);
+      levels = omega (arith, c.if-tree-ge-MOST_LEVELS.false);
+      legs = omega (arith, c.if-place-leaf.false, leaf);
+    } in
+    c.begin.ensures.fits fa numbers (c.is_torn.ensures.whole c.if-is_torn.false)
+
+pub returns-clause-fits : goal.returns-clause-fits
+returns-clause-fits g c = λ fa.
+    let leaf : c.from-leaf.result ≡ c.args.tree.now.shape.leaf = c.from-leaf.ensures ∙ c.leaf.ensures.value in
+    let numbers : HasNumbers (pages_of_cache c.args.cache.now) c.args.tree.now c.args.place.now = record {
+      root = omega (arith, c.if-root-count.false, c.count-2.ensures.value);
+      leaves = omega (arith, c.if-tree-count.false, c.count.ensures.value);
+      levels = omega (arith, c.if-tree-ge-MOST_LEVELS.false);
+      legs = omega (arith, c.if-place-leaf.false, leaf);
+    } in
+    c.into_last.ensures.fits fa numbers (c.is_torn.ensures.whole c.if-is_torn.false)

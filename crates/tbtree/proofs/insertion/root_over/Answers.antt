@@ -34,3 +34,8 @@ pub returns-clause-hung : goal.returns-clause-hung
 returns-clause-hung g c = λ fa some at.
     hung_rooted (pages_of_cache c.args.cache.now) (pages_of_cache c.cover.new.cache) (pages_of_cache c.add_root.new.cache) c.args.tree.now c.in_ok-root.root c.args.level c.args.child.now c.in_ok-bounds.bounds
     c.requires.top some c.in_ok-bounds.ensures.above (c.in_ok-bounds.ensures.covers fa) (c.in_ok-root.ensures.adds (still _ _ c.cover.ensures.touches.passes.store.faithful fa)) at
+
+pub returns-clause-bare : goal.returns-clause-bare
+returns-clause-bare g c = λ fa.
+    let covers = c.in_ok-bounds.ensures.covers fa in
+    (c.in_ok-bounds.ensures.above, record { node = covers.node; is = covers.is; box = c.in_ok-bounds.bounds; cover = covers.cover })

@@ -1,18 +1,20 @@
 use Rattle.std.proofs.Common.{ℕ, ◌≡◌, ◌<◌, ◌∙◌, inr, OnOk, Err, true, false, List, length, All, ap, subst, sym, arith, refl}
+use Rattle.std.specs.Prelude.{IsTrue}
+use Rattle.std.specs.List.{Contains}
 use Rattle.std.proofs.lemmas.Bool.{true≢false}
-use Rattle.legs.specs.Asking.{HasAdded, LegRefusals}
+use Rattle.legs.specs.Asking.{FitsLeg, HasAdded, LegRefusals}
 use Rattle.legs.specs.Index.{legs_of, MayRefuseLeg, SkipNone}
 use Rattle.legs.specs.Legs.{LegView}
 use Rattle.legs.specs.declared.index.IndexFault.{IndexFault}
 use Rattle.legs.specs.declared.index.IndexFault.TheVariants as index
-use Rattle.legs.proofs.LastLemmas.{takes_alike}
+use Rattle.legs.proofs.LastLemmas.{fits_alike, takes_alike}
 use Rattle.boxsearch.specs.Index.{IndexView, content, words}
 use Rattle.boxsearch.specs.Taking.{taken, AreTurns}
 use Rattle.boxsearch.specs.Turns.{IsTurnFault}
 use Rattle.boxsearch.specs.declared.turns.Turn.{Turn}
 use Rattle.boxsearch.proofs.AddLemmas.{Laws}
 use Rattle.boxsearch.proofs.AllLemmas.{AllLaws, all_added, all_asked, all_refusals}
-use Rattle.boxsearch.proofs.ResultLemmas.{on_ok}
+use Rattle.boxsearch.proofs.ResultLemmas.{on_any, on_ok}
 use Rattle.boxsearch.proofs.TurnLasts.{as_many_taken, same_legs}
 use Rattle.boxsearch.proofs.TurnSteps.{none_skipped}
 use Rattle.boxsearch.proofs.TurnOrder.{AreNumbered, are_numbered, are_turns, turns_within}
@@ -96,3 +98,16 @@ returns-clause-takes g c =
     let many = as_many_taken c.from-most.result legs turns _ _ c.in-Ok.ensures.permutation in
     let takes = subst (λ ts. OnOk c.join_all.result (HasAdded words c.args.self.now c.join_all.new.index (taken legs ts))) c.as_slice-2.ensures.value c.join_all.ensures.takes in
     on_ok c.join_all.result (takes_alike words c.args.self.now c.join_all.new.index (taken legs turns) legs (same_taken g c) many) takes
+
+pub returns-clause-skips_none : goal.returns-clause-skips_none
+returns-clause-skips_none g c =
+    let places = c.as_slice.ensures.value ∙ ap (λ (v : IndexView). v.places) c.self.view_is in
+    on_any c.join_all.result (subst (λ ps. SkipNone (length ps) c.args.legs.now) places c.in-Ok.ensures.skips_none)
+
+pub returns-clause-fits : goal.returns-clause-fits
+returns-clause-fits g c =
+    let old = c.args.self.now in
+    let legs = c.args.legs.now in
+    let turns = c.in-Ok.turns.items in
+    let fits = subst (λ ts. OnOk c.join_all.result (IsTrue old.cache.store.is_faithful → (leg : LegView) → Contains (taken legs ts) leg → FitsLeg words old (taken legs ts) leg)) c.as_slice-2.ensures.value c.join_all.ensures.fits in
+    on_ok c.join_all.result (λ h fa. fits_alike words old (taken legs turns) legs (same_taken g c) (h fa)) fits

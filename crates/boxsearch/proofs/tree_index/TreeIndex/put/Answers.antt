@@ -37,10 +37,12 @@ put_makes g c legs counts =
       shape = c.insert-result.ensures.shape;
       room = let l = c.leaf.ensures.range.least_leaf in let v = c.leaf.ensures.value in omega (arith, l, v);
       passes = c.insert-result.ensures.passes;
+      others = c.insert-result.ensures.others;
       count = c.insert-result.ensures.length;
       few = let a = c.if-prove.false in let b = c.count.ensures.value in omega (arith, a, b);
       caused = c.insert-result.ensures.caused works;
       blames = c.insert-result.ensures.blames works;
+      fits = c.insert-result.ensures.fits;
       lacks = c.insert-result.ensures.lacks works;
       asked = c.insert-result.ensures.asked;
       works = c.insert-result.ensures.works;

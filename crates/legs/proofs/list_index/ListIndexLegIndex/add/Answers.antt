@@ -38,3 +38,12 @@ returns-then-leg-len-clause-refusals c =
       skips = λ e. inr (λ none. (let low = none.0 in omega (arith, low, above)));
       blames = λ page e. absurd cc;
     }
+
+pub returns-clause-skips_none : goal.returns-clause-skips_none
+returns-clause-skips_none c =
+    let own : c.leg.inside.feature ≡ c.args.leg.feature = ap (λ (l : LegView). l.feature) c.leg.view_is in
+    let places = (c.self.invariant c.if-self.false).counted ∙ ap (λ (v : ListView). feature_count v.legs) c.self.view_is in
+    let many = length-map c.self.inside.places.items (λ (row : Vec ℕ Global). row.items) in
+    let len = c.len.ensures in
+    let within = c.if-leg-len.false in
+    (omega (arith, own, places, many, len, within), tt)

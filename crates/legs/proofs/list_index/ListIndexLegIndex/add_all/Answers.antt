@@ -1,9 +1,10 @@
-use Rattle.std.proofs.Common.{◌≡◌, ◌∙◌, ◌∷◌, ◌++◌, ◌+◌, drop, take, take-append-drop, ap, sym, subst}
+use Rattle.std.proofs.Common.{◌≡◌, ◌∙◌, ◌∷◌, [], ◌++◌, ◌+◌, drop, take, take-append-drop, ap, sym, subst}
 use Rattle.std.proofs.lemmas.Bool.{true≢false}
 use Rattle.std.proofs.lemmas.List.{drop_more}
 use Rattle.std.proofs.lemmas.Result.{err_from_is_err_and}
+use Rattle.legs.specs.Index.{feature_count, SkipNone}
 use Rattle.legs.specs.Legs.{LegView}
-use Rattle.legs.proofs.GrowLemmas.{IsGrowing, growing-more, growing-refused, later-trans, list_words}
+use Rattle.legs.proofs.GrowLemmas.{IsGrowing, growing-more, growing-refused, later-trans, list_words, skip_more}
 use Rattle.legs.proofs.LastLemmas.{takes_more}
 use Rattle.legs.proofs.list_index.ListIndexLegIndex.add_all.Goals as goal
 
@@ -34,4 +35,5 @@ loop-leg-preserved c =
       growing = growing-more list_words old now c.add.new.self legs (drop (k + 1) legs) leg so_far more.added;
       later = later-trans list_words old now c.add.new.self c.loop-leg.invariant.later more.later;
       takes = takes_more list_words old now c.add.new.self legs k leg c.loop-leg-test.true c.leg-item.is c.loop-leg.invariant.takes more.takes;
+      skips = skip_more (feature_count old.legs) legs k leg c.loop-leg-test.true c.leg-item.is c.loop-leg.invariant.skips (subst (λ n. SkipNone n (leg ∷ [])) c.loop-leg.invariant.takes.features more.skips_none);
     }

@@ -1,5 +1,6 @@
 use Rattle.std.proofs.Common.{drop, take}
 use Rattle.legs.specs.Asking.{IsLater, HasAdded}
+use Rattle.legs.specs.Index.{feature_count, SkipNone}
 use Rattle.legs.proofs.GrowLemmas.{IsGrowing, list_words}
 use Rattle.legs.proofs.list_index.ListIndexLegIndex.add_all.Given as goal
 
@@ -9,4 +10,5 @@ invariant-loop-leg l = record {
   growing : IsGrowing list_words l.fn.self l.self l.legs (drop l.leg-index l.legs);
   later : IsLater list_words l.fn.self l.self;
   takes : HasAdded list_words l.fn.self l.self (take l.leg-index l.legs);
+  skips : SkipNone (feature_count l.fn.self.legs) (take l.leg-index l.legs);
 }
