@@ -15,7 +15,7 @@ use Rattle.mfcsv.proofs.ReadLemmas.{all_fails, all_read, read_so_far}
 use Rattle.mfcsv.proofs.WalkLemmas.{all_none}
 use Rattle.mfcsv.proofs.WholeLemmas.{whole_text}
 use Rattle.legs.specs.Book.{Book, IsRefusal, file_of, joined, with_file}
-use Rattle.legs.specs.Joining.{IsJoinedBy, IsJoining, JoinedView, JoiningView}
+use Rattle.legs.specs.Joining.{HasCounted, IsCounted, IsJoinedBy, IsJoining, JoinedView, JoiningView}
 use Rattle.legs.specs.Legs.{LegView}
 use Rattle.legs.specs.Limits.{LimitsView}
 use Rattle.legs.specs.Tracks.{StandsFor, TracksView}
@@ -24,11 +24,12 @@ use Rattle.legs.specs.declared.listed.Listed.{Ghosts}
 use Rattle.legs.specs.declared.joining.JoinCode.{JoinCode}
 use Rattle.legs.specs.declared.joining.JoinFault.{JoinFault}
 use Rattle.legs.specs.declared.joining.JoinFault.TheVariants as join
-use Rattle.trajdb.specs.Answers.{book_by, book_with, counts_or, joined_counts, load_of}
+use Rattle.trajdb.specs.Answers.{book_by, book_with, counts_of, counts_or, joined_counts, load_of}
 use Rattle.legs.specs.Counting.{names_after}
 use Rattle.trajdb.specs.Calls.{BlamesFile, IsRefusedBy, NamesFile}
 use Rattle.trajdb.specs.Database.{CoreView, FaultIs, IsRefused}
 use Rattle.trajdb.specs.Loads.{Accepts, IsRead, code_fault, counts_in, join_fault, values_of}
+use Rattle.trajdb.specs.declared.Counts.{Counts}
 use Rattle.trajdb.specs.declared.FileCode.{FileCode}
 use Rattle.trajdb.specs.declared.LoadFault.{LoadFault}
 use Rattle.trajdb.specs.declared.LoadFault.TheVariants.{Refused, Run}
@@ -42,19 +43,21 @@ pub record IsReading (tracks : TracksView) (limits : LimitsView) (text left : Re
   pub said : with_all records left ≡ text
   pub joining : (book : Book) → StandsFor tracks book → IsJoining limits joiner book records
   pub values : rows ≡ values_of records
+  pub counted : HasCounted joiner records
 
-pub reading_starts : (tracks : TracksView) (limits : LimitsView) (text left : Result File (Code × ℕ)) (joiner : JoiningView) (rows : List (List (List ℕ))) → left ≡ text → ((book : Book) → StandsFor tracks book → IsJoining limits joiner book []) → rows ≡ []
+pub reading_starts : (tracks : TracksView) (limits : LimitsView) (text left : Result File (Code × ℕ)) (joiner : JoiningView) (rows : List (List (List ℕ))) → left ≡ text → ((book : Book) → StandsFor tracks book → IsJoining limits joiner book []) → HasCounted joiner [] → rows ≡ []
     → IsReading tracks limits text left joiner rows
-reading_starts tracks limits text left joiner rows e joining none = record { records = []; said = all_none left ∙ e; joining = joining; values = none }
+reading_starts tracks limits text left joiner rows e joining counts none = record { records = []; said = all_none left ∙ e; joining = joining; values = none; counted = counts }
 
 -- one record more
 pub reading_more : (tracks : TracksView) (limits : LimitsView) (text left rest : Result File (Code × ℕ)) (joiner joiner' : JoiningView) (rows rows' : List (List (List ℕ))) (r : RecordView) → IsReading tracks limits text left joiner rows → left ≡ with_first r rest
-    → ((ls : LimitsView) (book : Book) (records : List RecordView) → IsJoining ls joiner book records → IsJoining ls joiner' book (records ++ r ∷ [])) → rows' ≡ rows ++ r.attributes ∷ [] → IsReading tracks limits text rest joiner' rows'
-reading_more tracks limits text left rest joiner joiner' rows rows' r is e joins pushed = record {
+    → ((ls : LimitsView) (book : Book) (records : List RecordView) → IsJoining ls joiner book records → IsJoining ls joiner' book (records ++ r ∷ [])) → ((records : List RecordView) → HasCounted joiner records → HasCounted joiner' (records ++ r ∷ [])) → rows' ≡ rows ++ r.attributes ∷ [] → IsReading tracks limits text rest joiner' rows'
+reading_more tracks limits text left rest joiner joiner' rows rows' r is e joins counts pushed = record {
   records = is.records ++ r ∷ [];
   said = read_so_far is.records (is.records ++ r ∷ []) r left rest text is.said e refl;
   joining = λ book stands. joins limits book is.records (is.joining book stands);
   values = pushed ∙ ap (λ values. values ++ r.attributes ∷ []) is.values ∙ sym (map_push (λ (x : RecordView). x.attributes) is.records r);
+  counted = counts is.records is.counted;
 }
 
 -- a fault of the text
@@ -93,12 +96,14 @@ reading_ends tracks limits bytes left over joiner rows head is o h = all_read is
 pub reading_joined : (tracks : TracksView) (limits : LimitsView) (bytes : List ℕ) (left : Result File (Code × ℕ)) (joiner : JoiningView) (rows : List (List (List ℕ))) (first : Option BookHead) (head : Head) (by : JoinedView) (is : IsReading tracks limits (file_of_bytes bytes) left joiner rows)
     → file_of_bytes bytes ≡ Ok (file_of head is.records)
     → ((ls : LimitsView) (book : Book) (records : List RecordView) → IsJoining ls joiner book records → book.head ≡ first → IsJoinedBy ls book (file_of head records) by)
+    → ((records : List RecordView) → HasCounted joiner records → IsCounted records by)
     → IsRead tracks first limits (file_of_bytes bytes) (record { head = head; joined = by; rows = rows })
-reading_joined tracks limits bytes left joiner rows first head by is said joined = record {
+reading_joined tracks limits bytes left joiner rows first head by is said joined counts = record {
   file = file_of head is.records;
   said = said;
   head_is = refl;
   rows_are = is.values;
+  counted = counts is.records is.counted;
   accepts = λ book stands same.
       let all = joined limits book is.records (is.joining book stands) same in
       (all, all.follow, whole_text (rows_of bytes) (file_of head is.records) said, refl, is.values);
@@ -118,6 +123,13 @@ reading_refused tracks limits bytes left joiner rows head book fault is said f =
 pub join_read : (bytes : List ℕ) (file : File) (fault : JoinFault) → file_of_bytes bytes ≡ Ok file → IsRefusedBy bytes (join_fault fault)
 join_read bytes file join.Memory said = tt
 join_read bytes file (join.Refused code number) said = (file, said)
+
+-- the counts of a file that was joined, whatever the tracks say
+pub counts_are : (file : File) (by : JoinedView) → IsCounted file.records by → counts_in by ≡ counts_of file by.legs
+counts_are file by is =
+    let many : ℕ → Counts = λ n. record { records = n; legs = length by.legs; features = length by.names.names } in
+    let named : List (List ℕ) → Counts = λ names. record { records = length file.records; legs = length by.legs; features = length names } in
+    ap many is.many ∙ ap named is.names
 
 -- what is told of a file that was read and joined
 pub accepted_counts : (limits : LimitsView) (book : Book) (bytes : List ℕ) (file : File) (new : NewFile) → file_of_bytes bytes ≡ Ok file → Accepts limits book file new → load_of limits book bytes ≡ Ok (counts_in new.joined)

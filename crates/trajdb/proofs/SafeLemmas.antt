@@ -11,7 +11,7 @@ use Rattle.pagecache.specs.Cache.{page_of, pages_as_written, payload_of, sealed_
 use Rattle.boxsearch.specs.Index.{words, written, IndexView, IsMarked, IsSound as IsSoundIndex}
 use Rattle.catalogue.specs.Holding.{HoldsBook, IsAtRest}
 use Rattle.register.specs.Saved.{CatalogueView}
-use Rattle.legs.specs.Asking.{Leaves as IndexLeaves}
+use Rattle.legs.specs.Asking.{IsLater as IsLaterIndex, Leaves as IndexLeaves}
 use Rattle.catalogue.proofs.CloseLemmas.{says_stored}
 use Rattle.trajdb.specs.Calls.{IsUnwritten, KeepsPages, LeavesBook}
 use Rattle.trajdb.specs.Db.{DbView, HasPages, IsSoundDb}
@@ -57,12 +57,12 @@ abbrev pub RestsStay : Type 0
 RestsStay = (c : CatalogueView) (a b : IndexView) → IsAtRest c a → IndexLeaves words a b → IsAtRest c b
 
 -- so a call keeps the store of a database
-pub keeps_store : RestsStay → (old new : DbView) → KeepsPages words old new → old.index.cache.store.faults ≤ new.index.cache.store.faults → (old.failed ≡ true → new ≡ old) → KeepsStore old new
-keeps_store stay old new keeps risen same = record { rests = keeps_idle stay old new keeps; safe = keeps_safe old new keeps risen same }
+pub keeps_store : RestsStay → (old new : DbView) → KeepsPages words old new → IsLaterIndex words old.index new.index → (old.failed ≡ true → new ≡ old) → KeepsStore old new
+keeps_store stay old new keeps later same = record { rests = keeps_idle stay old new keeps; safe = keeps_safe old new keeps later.faults same; capacity = later.capacity; others = later.others }
 
 -- and so does a question
 pub leaves_store : RestsStay → (old new : DbView) → LeavesBook words old new → old.failed ≡ false → KeepsStore old new
-leaves_store stay old new leaves lives = record { rests = keeps_idle stay old new (keeps_leaves words old new leaves); safe = leaves_safe old new leaves lives }
+leaves_store stay old new leaves lives = record { rests = keeps_idle stay old new (keeps_leaves words old new leaves); safe = leaves_safe old new leaves lives; capacity = leaves.index.later.capacity; others = leaves.index.later.others }
 
 -- the pages as written of a sound index are those of its store
 written_all : (i : IndexView) → IsSoundIndex i → IsLawful i.cache.store → written i ≡ i.cache.store.pages

@@ -1,7 +1,7 @@
 -- What a call of a database leaves, and why it stopped.
 use Rattle.std.specs.Prelude.{ℕ, ℤ, ◌≡◌, ◌<◌, ◌≤◌, ◌+◌, [], slice_index_or, true, false, List, Option, Some, None, Result, Ok, Err, IsTrue, is_some, if◌then◌else◌, ◌⊎◌, ◌↔◌, drop, length, sum_by, map, ◌++◌}
 use Rattle.std.specs.Int.{div_ceil}
-use Rattle.std.specs.List.{range_with_len}
+use Rattle.std.specs.List.{range_with_len, Contains}
 use Rattle.timebase.specs.Period.{PeriodView}
 use Rattle.legs.specs.declared.head.BookHead.{BookHead}
 use Rattle.legs.specs.Legs.{LegView}
@@ -13,7 +13,7 @@ use Rattle.legs.specs.Finding.{Finding}
 use Rattle.legs.specs.Limits.{LimitsView, IsLimits, most}
 use Rattle.legs.specs.Tracks.{IsOver, StandsFor}
 use Rattle.legs.specs.Index.{CanFollowInTurn, HasRisen, legs_of}
-use Rattle.legs.specs.Asking.{AsksChain, AsksNoMore, placed_legs, Blames, HasAdded, IsLater as IsLaterIndex, LacksPages, Leaves as IndexLeaves, SkipsFeature}
+use Rattle.legs.specs.Asking.{AsksChain, AsksNoMore, placed_legs, Blames, FitsLeg, HasAdded, IsLater as IsLaterIndex, LacksPages, Leaves as IndexLeaves, SkipsFeature}
 use Rattle.legs.specs.declared.listed.Listed.{Ghosts}
 use Rattle.mfcsv.specs.FileText.{file_of_bytes}
 use Rattle.mfcsv.specs.declared.File.{File}
@@ -21,7 +21,7 @@ use Rattle.querylang.specs.Line.{line_of}
 use Rattle.querylang.specs.declared.LineCode.{LineCode}
 use Rattle.querylang.specs.declared.Command.{Command}
 use Rattle.querylang.specs.declared.Command.TheVariants.{Load, Count, Box, Legs, Features, Trajectory, Write}
-use Rattle.trajdb.specs.Answers.{counts_text, load_of, load_text}
+use Rattle.trajdb.specs.Answers.{counts_of, counts_text, load_of, load_text}
 use Rattle.trajdb.specs.Files.{file_named}
 use Rattle.trajdb.specs.Database.{CoreView, IsSound}
 use Rattle.trajdb.specs.declared.Counts.{Counts}
@@ -250,16 +250,20 @@ pub record HasJoined {I : Type 0} (new : CoreView I) (limits : LimitsView) (book
   pub head : new.book.head ≡ (with_file book file).head
   pub rows : new.book.rows ≡ (with_file book file).rows
 
--- a file is taken in, be the database sound or not: so many legs are put into its index, exactly those that the file adds
--- to whatever book its tracks stand for, and its page 0 had a payload
+-- a file is taken in, be the database sound or not, and be there a book for which its tracks stand or not: these are
+-- the counts of the file with the legs that are put into the index, exactly those that the file adds to whatever book
+-- the tracks stand for, over a faithful store its page 0 had a payload, and each page was what each of these legs
+-- needed of it with the next ones of its leaf
 pub record PutsFile {I : Type 0} (g : Ghosts I) (old new : CoreView I) (bytes : List ℕ)
     (counts : Counts) : Type 0 where
   pub file : File
   pub said : file_of_bytes bytes ≡ Ok file
   pub legs : List LegView
-  pub many : counts.legs ≡ length legs
+  pub counted : counts ≡ counts_of file legs
   pub taken : HasAdded g old.index new.index legs
   pub there : g.is_faithful old.index → g.is_unreadable old.index 0 → ⊥
+  pub fits : g.is_faithful old.index → (leg : LegView) → Contains legs leg
+      → FitsLeg g old.index legs leg
   pub head : new.book.head ≡ head_with old.book.head file.head
   pub rows : new.book.rows ≡ old.book.rows ++ map (λ it. it.attributes) file.records
   pub joins : (book : Book) → IsBookOf old book → HasJoined new old.limits book file legs
@@ -313,10 +317,10 @@ SparesIndex old new bytes =
     (book : Book) → IsBookOf old book → (fault : FileCode × ℕ)
     → load_of old.limits book bytes ≡ Err fault → new.index ≡ old.index
 
--- so does one that is there; of one that is not nothing is said
+-- so does one that is there; one that is not there changes nothing
 abbrev pub SparesNamed : {I : Type 0} → CoreView I → CoreView I → Option (List ℕ) → Type 0
 SparesNamed old new (Some bytes) = SparesIndex old new bytes
-SparesNamed old new None = Unit {0}
+SparesNamed old new None = new ≡ old
 
 -- so does that of a `load`; of any other command nothing is said
 abbrev pub SparesBy : {I : Type 0} → List (List ℕ × List ℕ) → CoreView I → CoreView I → Command
@@ -433,11 +437,22 @@ AsksAtMost g old new bound =
     IsSound g old
     → RisesAtMost (g.asked old.index) (g.asked new.index) (bound (g.plan old.index) old.book.legs)
 
--- what a command over a sound database asked for
-abbrev pub AsksIn : {I : Type 0} → Ghosts I → CoreView I → CoreView I → Command → Type 0
-AsksIn g old new command =
+-- what a question over a sound database asked for
+abbrev pub QuestionAsks : {I : Type 0} → Ghosts I → CoreView I → CoreView I → Command → Type 0
+QuestionAsks g old new command =
     IsSound g old
     → AsksFor old.book (g.plan old.index) command (g.asked old.index) (g.asked new.index)
+
+-- what a command over one asked for: a `load` for no more than its legs do, and twice for page 0
+abbrev pub AsksIn : {I : Type 0} → Ghosts I → CoreView I → CoreView I → Command → Type 0
+AsksIn g old new (Load name) = IsSound g old → AsksForLegs g old new
+AsksIn g old new Count = QuestionAsks g old new Count
+AsksIn g old new (Box rect period) = QuestionAsks g old new (Box rect period)
+AsksIn g old new (Legs predicate rect period) = QuestionAsks g old new (Legs predicate rect period)
+AsksIn g old new (Features predicate rect period) =
+    QuestionAsks g old new (Features predicate rect period)
+AsksIn g old new (Trajectory name) = QuestionAsks g old new (Trajectory name)
+AsksIn g old new Write = QuestionAsks g old new Write
 
 -- of a sound database that knows each feature back to the period `features` asks for at most the leaves that meet it
 abbrev pub AsksKnown : {I : Type 0} → Ghosts I → CoreView I → CoreView I → Command → Type 0

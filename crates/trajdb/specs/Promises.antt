@@ -1,7 +1,7 @@
 -- What each call of a database promises: one record for a call, each field of which is a clause. A public function that
 -- ensures such a record ensures each of them. `load`, `command` and `run` are of a database over any index; what one over
 -- pages promises besides stands behind.
-use Rattle.std.specs.Prelude.{ℕ, ◌≡◌, ◌<◌, ◌⊎◌, Bool, List, Option, None, Result, Ok, Err, IfOk, IfErr, IsErrOf, IsTrue, OnOk, OnErr, true, false}
+use Rattle.std.specs.Prelude.{ℕ, ◌≡◌, ◌<◌, ◌⊎◌, Bool, List, Option, None, Some, Result, Ok, Err, IfOk, IfErr, IsErrOf, IsTrue, OnOk, OnErr, true, false}
 use Rattle.std.specs.Global.{Vec}
 use Rattle.legs.specs.Asking.{Recalls}
 use Rattle.legs.specs.Book.{Book}
@@ -24,7 +24,7 @@ use Rattle.trajdb.specs.Answers.{AcceptsBy, IsAnswer, IsCountsText, book_then, b
 use Rattle.trajdb.specs.Calls.{AsksFew, AsksForLegs, AsksIn, AsksKnown, BlamesLoad, LearnsBy, Begins, BeginsBy, BeginsOnly, IsAsked, IsBookOf, IsLater, IsLoadFault, IsLoadStop, IsQuestionFault, IsRefusedBy, IsRunStop, IsStopped, KeepsPages, LeavesBook, Loads, LoadsWhole, LoadsWholeSome, PutsFile, SparesBy, SparesIndex, TellsLoadBy}
 use Rattle.trajdb.specs.Checking.{IsFirstFault, Reports}
 use Rattle.trajdb.specs.Database.{catalogue_of, CoreView, FailsBy, IsRefused, IsSound, IsTold, LoadGives, Becomes}
-use Rattle.trajdb.specs.Db.{DbView, HasPages, IsSoundDb}
+use Rattle.trajdb.specs.Db.{capacity_of, DbView, HasPages, IsSoundDb}
 use Rattle.trajdb.specs.Faults.{IsNotOutput}
 use Rattle.trajdb.specs.Lasting.{HasBook, IsClosingFault, IsFaultless, IsIdle, IsSafe, IsSafeStore, IsTooFull, IsUnfinishedAnswer, NamesFirst, TakesFew}
 use Rattle.trajdb.specs.Run.{AcceptsSome, StopsAt, Stops, IsCut}
@@ -105,7 +105,7 @@ pub record CommandCall {I : Type 0} (g : Ghosts I) (files : List (List ℕ × Li
   -- refusal that changes nothing; and only one of a file without a fault of its text, answered with counts, begins it
   pub told_load : IfOk result (λ text. TellsLoadBy g files old new command text.items)
   -- a `load` of a file that is refused for some book for which the tracks stand leaves the index as it is, whatever is
-  -- answered, so that no page is changed
+  -- answered, so that no page is changed; one of a file that is not there changes nothing
   pub unwritten : SparesBy files old new command
   pub whole : BeginsBy old new (LoadsWhole files command)
   pub told : IfOk result (λ text. BeginsBy old new (IsCountsText text.items))
@@ -153,10 +153,14 @@ pub record RunCall {I O : Type 0} (g : Ghosts I) (shown : O → Option (List ℕ
   pub was_failed_output : old.failed ≡ true → out' ≡ out
 
 -- what a call of a database over pages keeps, whatever it answers: one at rest stays so until it accepts a file or
--- fails, and the store of a sound one, whose pages are as its state says, stays safe
+-- fails, and the store of a sound one, whose pages are as its state says, stays safe; its cache may hold as many pages,
+-- and over a faithful store each page behind page 0 that has a payload, and that one of no tree, holds what it held
 pub record KeepsStore (old new : DbView) : Type 0 where
   pub rests : IsIdle old → IsIdle new
   pub safe : (was : Store) → IsSoundDb old → HasPages old → IsSafe was old → IsSafe was new
+  pub capacity : capacity_of new ≡ capacity_of old
+  pub others : (page : ℕ) (bytes : List ℕ) → 0 < page → words.other old.index page ≡ Some bytes
+      → words.other new.index page ≡ Some bytes
 
 -- what `open` of a store promises, with a cache of so many pages, where `seen` is what contracts see of one that is
 -- handed back
@@ -210,11 +214,11 @@ pub record CloseCall (db : DbView) (left : Store)
   pub kept : OnOk result (db.begun ≡ true → IsMarked db.index.cache
       → HoldsIndex left (catalogue_of db) db.index)
   -- so it is, marked or not, where page 0 is the header of a store of this version, finished or not
-  pub holds_headed : OnOk result (IsSoundDb db → db.begun ≡ true → (begun : Bool)
-      → SaysState begun (payload_of db.index.cache 0)
+  pub holds_headed : OnOk result (IsSoundDb db → db.begun ≡ true → (state : Bool)
+      → SaysState state (payload_of db.index.cache 0)
       → HoldsBook left db.index.tree.shape db.limits db.book)
   pub kept_headed : OnOk result (db.begun ≡ true → IsTrue db.index.cache.store.is_faithful
-      → (begun : Bool) → SaysState begun (payload_of db.index.cache 0)
+      → (state : Bool) → SaysState state (payload_of db.index.cache 0)
       → HoldsIndex left (catalogue_of db) db.index)
   -- all of it is synced where it has begun; else it stays as it is (`idle`)
   pub synced : OnOk result (db.begun ≡ true → IsSynced left)

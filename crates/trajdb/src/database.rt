@@ -257,7 +257,7 @@ impl<I: Start> Core<I> {
     ghost use Rattle.std.specs.Prelude.{◌≡◌, IfOk, IfErr, OnOk, OnErr, Some, true, false};
     ghost use Rattle.trajdb.specs.Answers.{named_book, named_text, AcceptsNamed, IsCountsText};
     ghost use Rattle.trajdb.specs.Database.{Becomes, IsSound};
-    ghost use Rattle.trajdb.specs.Calls.{Begins, BeginsBy, BeginsOnly, IsStopped, IsLater, IsWholeFile, KeepsPages, NamesFile, SparesIndex, TellsLoad};
+    ghost use Rattle.trajdb.specs.Calls.{AsksForLegs, Begins, BeginsBy, BeginsOnly, IsStopped, IsLater, IsWholeFile, KeepsPages, NamesFile, SparesIndex, TellsLoad};
 
     /// The answer to `load` of a file.
     fn load_text(&mut self, alloc: Global, bytes: &[u8]) -> Result<Vec<u8>, RunFault>
@@ -279,6 +279,8 @@ impl<I: Start> Core<I> {
         ensures told_load { IfOk result (λ text. TellsLoad I.Listed self.old self.new bytes.now
             text.items) }
         ensures unwritten { SparesIndex self.old self.new bytes.now }
+        ensures asks { OnOk result (IsSound I.Listed self.old
+            → AsksForLegs I.Listed self.old self.new) }
         ensures pages { KeepsPages I.Listed self.old self.new }
     {
         let text = match self.load(alloc, bytes) {

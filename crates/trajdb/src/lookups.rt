@@ -12,7 +12,7 @@ use timebase::Period;
 
 impl<S: PageStore> Db<S> {
     ghost use Rattle.std.specs.Prelude.{◌≡◌, Err, false, IfErr, IfOk, length, OnOk, option_copied, slice_get, true};
-    ghost use Rattle.legs.specs.Asking.{Recalls};
+    ghost use Rattle.legs.specs.Asking.{AsksNoMore, Recalls};
     ghost use Rattle.legs.specs.Costs.{search_cost};
     ghost use Rattle.legs.specs.Questions.{InBox};
     ghost use Rattle.predicates.specs.Near.{box_near};
@@ -46,6 +46,7 @@ impl<S: PageStore> Db<S> {
             (InBox (box_near predicate rect.now period.now)) page)) }
         ensures asks { OnOk result (Asks words self.old self.new
             (search_cost (box_near predicate rect.now period.now))) }
+        ensures most { AsksNoMore words self.old.index self.new.index }
 
         // What the index knew of the leaves of its features it knows afterwards.
         ensures recalls { Recalls words self.old.index self.new.index }

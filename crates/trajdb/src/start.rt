@@ -1,7 +1,9 @@
 //! The start of a file's legs, and the legs.
 ghost use Rattle.std.specs.Prelude.{OnOk, IfErr, IsErrOf};
+ghost use Rattle.std.specs.List.{Contains};
 ghost use Rattle.legs.specs.Index.{CanFollowInTurn, HasRisen, MayRefuseLeg};
-ghost use Rattle.legs.specs.Asking.{Grows, HasAdded, IsLater};
+ghost use Rattle.legs.specs.Asking.{FitsLeg, Grows, HasAdded, IsLater};
+ghost use Rattle.legs.specs.Legs.{LegView};
 ghost use Rattle.legs.specs.declared.index.IndexFault.{IndexFault};
 ghost use Rattle.trajdb.specs.Calls.{BlamesLegs, LeavesPages, LoadAsks};
 ghost use Rattle.trajdb.specs.Faults.{run_fault_of};
@@ -33,6 +35,8 @@ pub(crate) fn put_legs<I: Start>(index: &mut I, legs: &[Leg]) -> Result<(), Inde
     ensures added { OnOk result (Grows I.Listed index.old index.new legs.now) }
     ensures taken { OnOk result (HasAdded I.Listed index.old index.new legs.now) }
     ensures there { OnOk result (I.is_faithful index.old → I.is_unreadable index.old 0 → ⊥) }
+    ensures fits { OnOk result (I.is_faithful index.old → (leg : LegView)
+        → Contains legs.now leg → FitsLeg I.Listed index.old legs.now leg) }
     ensures sound { IfErr result (λ fault. I.is_sound index.old
         → CanFollowInTurn (I.content index.old) legs.now → MayRefuseLeg fault) }
     ensures store { IsErrOf result IndexFault.Store

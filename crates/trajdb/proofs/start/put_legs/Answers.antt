@@ -8,7 +8,7 @@ use Rattle.legs.specs.Legs.{LegView}
 use Rattle.legs.specs.declared.index.IndexFault.{IndexFault}
 use Rattle.legs.specs.declared.index.IndexFault.TheVariants as index
 use Rattle.legs.specs.declared.listed.Listed.{Ghosts}
-use Rattle.legs.proofs.LastLemmas.{blames_started, lacks_started, takes_started}
+use Rattle.legs.proofs.LastLemmas.{blames_started, fits_started, lacks_started, takes_started}
 use Rattle.trajdb.specs.Calls.{BlamesLegs}
 use Rattle.trajdb.specs.Faults.{run_fault_of}
 use Rattle.trajdb.proofs.start.put_legs.Goals as goal
@@ -27,6 +27,11 @@ returns-clause-taken g c =
 
 pub returns-clause-there : goal.returns-clause-there
 returns-clause-there g c = on_each c.add_all.result c.in_ok-start.ensures.starts.there
+
+pub returns-clause-fits : goal.returns-clause-fits
+returns-clause-fits g c =
+    let s = c.in_ok-start.ensures.starts in
+    on_ok c.add_all.result (λ fits fa leg there. fits_started g.I.Listed c.args.index.now c.start.new.self c.args.legs.now leg _ s (fits (s.later.faithful fa) leg there)) c.add_all.ensures.fits
 
 -- why the start is refused
 start_blames : {I A : Type 0} (g : Ghosts I) (old new : I) (legs : List LegView) (fault : IndexFault) → Starts {A = A} g old new (Err fault) → BlamesLegs g old new legs (run_fault_of fault)

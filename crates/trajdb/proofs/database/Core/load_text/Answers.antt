@@ -1,6 +1,6 @@
-use Rattle.std.proofs.Common.{ℕ, ◌≡◌, ◌∙◌, ap, sym, subst, inl, inr, Result, Ok, Err, IfOk}
+use Rattle.std.proofs.Common.{ℕ, arith, ◌≡◌, ◌∙◌, ap, sym, subst, inl, inr, Result, Ok, Err, IfOk}
 use Rattle.trajdb.specs.Answers.{counts_text, load_of, load_text}
-use Rattle.trajdb.specs.Calls.{IsRefusedBy}
+use Rattle.trajdb.specs.Calls.{AsksForLegs, IsRefusedBy}
 use Rattle.trajdb.specs.Database.{FaultIs, IsRefused}
 use Rattle.trajdb.specs.declared.FileCode.{FileCode}
 use Rattle.trajdb.proofs.database.Core.load_text.Goals.{in-Ok, in-Err-Refused}
@@ -26,4 +26,12 @@ returns-in-Ok-text-clause-told_load g c = elim c.match-load.branch [
             text ∙ ap load_text (sym refused),
         inr ((said, text, subst (λ fault. IsRefusedBy c.args.bytes.now fault) w.in-Err-Refused.field-0-is w.in-Err-Refused.ensures.reads), w.in-Err-Refused.ensures.refused (subst (λ fault. IsRefused fault) (sym w.in-Err-Refused.field-0-is) tt)),
       )
+]
+
+pub returns-in-Ok-text-clause-asks : goal.returns-in-Ok-text-clause-asks
+returns-in-Ok-text-clause-asks g c = λ sound. elim c.match-load.branch [
+  | in-Ok w ↦ w.in-Ok.ensures.asks sound
+  | in-Err-Refused w ↦
+      let same = w.in-Err-Refused.ensures.refused (subst (λ fault. IsRefused fault) (sym w.in-Err-Refused.field-0-is) tt) in
+      subst (λ new. AsksForLegs g.I.Listed c.args.self.now new) (sym same) (omega arith)
 ]

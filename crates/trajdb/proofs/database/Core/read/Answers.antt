@@ -5,7 +5,7 @@ use Rattle.trajdb.specs.Calls.{BlamesFile}
 use Rattle.trajdb.specs.declared.Counts.{Counts}
 use Rattle.trajdb.specs.declared.FileCode.{FileCode}
 use Rattle.trajdb.specs.Loads.{counts_in}
-use Rattle.trajdb.proofs.LoadLemmas.{accepted_book, accepted_counts, names_file, told_kept}
+use Rattle.trajdb.proofs.LoadLemmas.{accepted_book, accepted_counts, counts_are, names_file, told_kept}
 use Rattle.trajdb.proofs.database.Core.read.Goals as goal
 
 pub returns-in-Err-clause-becomes : goal.returns-in-Err-clause-becomes
@@ -31,9 +31,10 @@ returns-in-Ok-take-clause-puts g c =
       file = is.file;
       said = is.said;
       legs = c.in-Ok.new.joined.legs;
-      many = ap (λ (n : Counts). n.legs) c.counts_of-counts.ensures;
+      counted = c.counts_of-counts.ensures ∙ counts_are is.file c.in-Ok.new.joined is.counted;
       taken = puts.taken;
       there = puts.there;
+      fits = puts.fits;
       head = puts.head ∙ ap (head_with c.args.self.now.book.head) is.head_is;
       rows = puts.rows ∙ ap (λ (rows : List (List (List ℕ))). c.args.self.now.book.rows ++ rows) is.rows_are;
       joins = λ book of. puts.joins book of is.file (is.accepts book of.tracks of.head);
@@ -49,6 +50,11 @@ returns-in-Err-take-clause-blames g c =
     let is = c.in-Ok.ensures.read in
     let blamed : BlamesFile g.I.Listed c.args.self.now c.take.new.self c.args.bytes.now c.in-Err-take.fault = record { file = is.file; said = is.said; legs = c.in-Ok.new.joined.legs; adds = λ book of. (is.accepts book of.tracks of.head).0.legs; blames = c.in-Err-take.ensures.blames } in
     names_file g.I.Listed c.args.self.now c.take.new.self c.args.bytes.now c.in-Err-take.fault blamed
+
+pub returns-in-Err-take-clause-stopped : goal.returns-in-Err-take-clause-stopped
+returns-in-Err-take-clause-stopped g c =
+    let is = c.in-Ok.ensures.joined in
+    record { sound = λ sound works. c.in-Err-take.ensures.sound is.0 sound (is.2 sound); store = c.in-Err-take.ensures.store }
 
 -- what is accepted is not refused
 not_both : (told : Result Counts (FileCode × ℕ)) (counts : Counts) (fault : FileCode × ℕ) → told ≡ Ok counts → told ≡ Err fault → ⊥

@@ -33,6 +33,7 @@ returns-clause-puts g c =
     rw (← c.self.view_is) (record {
       taken = rw c.legs.ensures at c.in_ok-put_legs.ensures.taken;
       there = c.in_ok-put_legs.ensures.there;
+      fits = rw c.legs.ensures at c.in_ok-put_legs.ensures.fits;
       head = c.keep_head.ensures;
       rows = c.in_ok-append.ensures.appended;
       joins = λ book of it accepts.
