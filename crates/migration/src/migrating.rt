@@ -32,7 +32,7 @@ pub trait Migrate<T: PageStore> {
     /// The store of version 1 is lent: it is read, each page by its seal, and never written. The
     /// legs are put in 65,536 at a time; of them are kept in memory 64 bytes or so a leaf, 8 bytes a leg
     /// while the chains are walked, and then the legs of at most one leaf a feature and those that
-    /// wait. What is said of memory, and of how many pages are in it, no clause says.
+    /// wait. What is said of memory no clause says.
     ///
     /// Of page 0 of the lent store it is said first that it is not there (`Malformed`), is damaged, is
     /// no header (`Malformed`), has another version than 1, is of a store that was not finished, or of
@@ -88,6 +88,8 @@ pub trait Migrate<T: PageStore> {
 
         // The store of version 1 stays as it is; of the other this is left.
         ensures stays { Stays (S.seen old.old) (S.seen old.new) }
+        ensures most { IfOk result (λ db. db.index.cache.store.most ≡ (T.seen new).most) }
+        ensures capacity { IfOk result (λ db. db.index.cache.capacity ≡ cache_pages) }
         ensures faults { IfOk result (λ db. (T.seen new).faults ≤ db.index.cache.store.faults) }
         ensures left { IfErr result (λ back. IsTrue (S.seen old.old).is_faithful
             → IsTrue (T.seen new).is_faithful → IsLeftOver (T.seen new) (T.seen back.0)) }

@@ -5,7 +5,8 @@ use Rattle.legs.specs.Growing.{LacksRoom, Plants}
 use Rattle.legs.specs.Legs.{LegView}
 use Rattle.legs.specs.declared.listed.Listed.{Ghosts}
 use Rattle.legs.proofs.GrowingLemmas.{lacks_more, lacks_then, plants_none, plants_then}
-use Rattle.version1.specs.Waiting.{GrowsBy, GrowsOn, MayWait}
+use Rattle.version1.specs.Migrating.{GrowsBy}
+use Rattle.version1.specs.Waiting.{GrowsOn, MayWait}
 
 module _ {I : Type 0} (g : Ghosts I) where
   -- nothing is put in

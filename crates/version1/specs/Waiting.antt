@@ -1,11 +1,10 @@
 -- Helpers of private functions: legs that wait until there are so many that they are put into an index together.
-use Rattle.std.specs.Prelude.{◌≡◌, List, Some, ◌++◌}
-use Rattle.legs.specs.Asking.{planted, IsLater}
-use Rattle.legs.specs.Costs.{ShapeView}
-use Rattle.legs.specs.Growing.{Plants}
+use Rattle.std.specs.Prelude.{◌≡◌, List, ◌++◌}
+use Rattle.legs.specs.Asking.{IsLater}
 use Rattle.legs.specs.Index.{CanFollowInTurn}
 use Rattle.legs.specs.Legs.{LegView}
 use Rattle.legs.specs.declared.listed.Listed.{Ghosts}
+use Rattle.version1.specs.Migrating.{GrowsBy}
 
 -- a sound index, and legs that may be put behind its own, one after another
 abbrev pub MayWait : {I : Type 0} → Ghosts I → I → List LegView → Type 0
@@ -16,12 +15,6 @@ pub record Holds {I : Type 0} (g : Ghosts I) (old new : I)
     (before after : List LegView) : Type 0 where
   pub may : MayWait g new after
   pub content : g.content new ++ after ≡ g.content old ++ before
-
--- over a faithful store the tree and the places of an index are what putting these legs in makes of those of an earlier one
-abbrev pub GrowsBy : {I : Type 0} → Ghosts I → I → I → List LegView → Type 0
-GrowsBy g old new legs =
-    g.is_faithful old → (shape : ShapeView) → g.plan old ≡ Some shape
-    → Plants shape (planted g old) (planted g new) legs
 
 -- where they were what the index's own legs make of those of an earlier one, they still are
 abbrev pub GrowsOn : {I : Type 0} → Ghosts I → I → I → Type 0

@@ -16,7 +16,7 @@ ghost use Rattle.version1.specs.OldLegs.{pages_of_old};
 ghost use Rattle.catalogue.specs.Holding.{AnswersBook, IsUnfinishedStore};
 ghost use Rattle.register.specs.Lasting.{ComesFirst, IsBehindFirst, IsStop, IsTrulyDamaged};
 ghost use Rattle.catalogue.specs.Beginning.{IsLeftOver};
-ghost use Rattle.version1.specs.Migrating.{brought_fault, IsBrought, IsLegFault, IsMigratingFault, IsRightlyFull};
+ghost use Rattle.version1.specs.Migrating.{brought_fault, GrowsBy, IsBrought, IsLegFault, IsMigratingFault, IsRightlyFull};
 ghost use Rattle.version1.specs.Naming.{AreWhole, IfDamaged, IsNamedOfChains, IsNamedOfLeaves, NamesOldStop};
 ghost use Rattle.version1.specs.OldStore.{old_first_fault, present_shape, AnswersOld, AnswersOldBook, HoldsOldBook, IsKeptOld, IsOldReadingFault};
 ghost use Rattle.register.specs.Saved.{CatalogueView};
@@ -131,6 +131,8 @@ fn bring_legs<S: PageStore, T: PageStore>(
     ensures brought { IfOk result (λ new. IsTrue (S.seen old.old).is_faithful → IsSound index
         → content index ≡ [] → IsSound new × HoldChains (pages_of_old (S.seen old.old))
         leaf tracks.now.rows tracks.now.legs places.now tracks.now.tracks (content new)) }
+    ensures grown { IfOk result (λ new. IsTrue (S.seen old.old).is_faithful → IsSound index
+        → content index ≡ [] → GrowsBy words index new (content new)) }
     ensures marked { IfOk result (λ new. IsTrue (S.seen old.old).is_faithful → IsSound index
         → content index ≡ [] → IsMarked index.cache → IsMarked new.cache) }
     ensures later { IfOk result (λ new. IsLater words index new) }
@@ -169,8 +171,7 @@ fn bring_legs<S: PageStore, T: PageStore>(
 
 /// Brings a store of version 1, which is lent, over into an empty one: the catalogue that its pages
 /// keep, and an index of its legs, with leaves of 50 legs at most, over a page 0 that says that the
-/// new store is not finished. The cache is begun for at most that many pages, at least 1; no clause
-/// says so of the index that is answered.
+/// new store is not finished. The cache has at most that many pages, at least 1.
 ///
 /// The legs are put in many at a time, and of them is kept in memory what [`take_old_legs`] keeps. The
 /// store of version 1 is read, each page of it by its seal, and never written. Of its page 0 it is
@@ -252,6 +253,8 @@ pub fn migrate<S: PageStore, T: PageStore>(
 
     // The store of version 1 stays as it is; of the other this is left.
     ensures stays { Stays (S.seen old.old) (S.seen old.new) }
+    ensures most { IfOk result (λ r. r.1.cache.store.most ≡ (T.seen new).most) }
+    ensures capacity { IfOk result (λ r. r.1.cache.capacity ≡ cache_pages) }
     ensures faults { IfOk result (λ r. (T.seen new).faults ≤ r.1.cache.store.faults) }
     ensures left { IfErr result (λ back. IsTrue (S.seen old.old).is_faithful
         → IsTrue (T.seen new).is_faithful → IsLeftOver (T.seen new) (T.seen back.0)) }

@@ -13,6 +13,7 @@ ghost use Rattle.tbtree.specs.Turn.{ComeInTurn, IsRising};
 ghost use Rattle.tbtree.specs.Descent.{legs_in};
 ghost use Rattle.treecheck.specs.Checking.{Agree};
 ghost use Rattle.chains.specs.Reads.{Reads};
+ghost use Rattle.version1.specs.Migrating.{GrowsBy};
 ghost use Rattle.version1.specs.OldLegs.{pages_of_old, unsealing, AreAmong, AreOpened, AreReadable, AreSurveyed, HaveEachOf, HaveLegsOf, IsNumbered, IsReadable, Opens, StandByOrdinal};
 ghost use Rattle.version1.specs.Naming.{IfDamagedInIndex, IsNamedOfLeaves};
 ghost use Rattle.treecheck.specs.Walking.{after, pages_by, IsNextNode, Notes};
@@ -288,6 +289,11 @@ pub fn take_old_legs<S: PageStore, I: LegIndex>(
         × HoldChains (pages_of_old (S.seen old.old)) most rows tracks.now.legs places.now
         tracks.now.tracks (I.content index.new)) }
 
+    // It takes all pages that are made: they are what putting these legs in makes.
+    ensures grown { OnOk result (IsTrue (S.seen old.old).is_faithful → I.is_sound index.old
+        → I.content index.old ≡ []
+        → GrowsBy I.Listed index.old index.new (I.content index.new)) }
+
     // The tracks have the numbers of what is brought.
     ensures agree { OnOk result (Agree tracks.now rows tracks.now.legs) }
 
@@ -350,6 +356,11 @@ fn bring<S: PageStore, I: LegIndex>(
         → I.content index.old ≡ [] → (list : List LegView)
         → HaveLegsOf (pages_by old_node_of (fresh (S.seen old.old) 1)) leaves.now list
         → IsNumbered legs list → I.is_sound index.new × (I.content index.new ≡ list)) }
+    ensures grown { OnOk result (IsTrue (S.seen old.old).is_faithful → I.is_sound index.old
+        → I.content index.old ≡ [] → (list : List LegView)
+        → HaveLegsOf (pages_by old_node_of (fresh (S.seen old.old) 1)) leaves.now list
+        → IsNumbered legs list
+        → GrowsBy I.Listed index.old index.new (I.content index.new)) }
     ensures only { IfErr result (λ fault. IsTrue (S.seen old.old).is_faithful
         → I.is_sound index.old → I.content index.old ≡ [] → (list : List LegView)
         → HaveLegsOf (pages_by old_node_of (fresh (S.seen old.old) 1)) leaves.now list

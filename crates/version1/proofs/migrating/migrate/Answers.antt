@@ -84,6 +84,14 @@ returns-in-Ok-bring_legs-clause-brought g c = λ fa fb.
       places = read.places.items;
       kept = subst (λ (near : ShapeView). AnswersOld (stored_payload s) s.count read.catalogue read.leaf near read.places.items) (sym shape) (c.in-Ok.ensures.kept fa fb);
       sound = brought.0;
+      alone = record {
+        first = c.in-Ok-begin.index;
+        sound = c.in-Ok-begin.ensures.sound ft;
+        empty = c.in-Ok-begin.ensures.empty;
+        one = c.in-Ok-begin.ensures.count;
+        shape = c.in-Ok-begin.ensures.shape ∙ sym shape;
+        grown = c.in-Ok-bring_legs.ensures.grown fm (c.in-Ok-begin.ensures.sound ft) c.in-Ok-begin.ensures.empty;
+      };
       legs = subst (λ nodes. HoldChains nodes read.leaf tracks.rows tracks.legs read.places.items tracks.tracks (content index)) (old_pages_stay s mid fa stays)
           (chains_as (pages_of_old mid) read.leaf c.catalogue.inside.tracks tracks c.as_slice.result.now read.places.items (content index) (ap (λ (v : CatalogueView). v.tracks) c.catalogue.view_is) c.as_slice.ensures.value brought.1);
     }

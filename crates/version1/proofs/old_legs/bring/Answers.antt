@@ -87,6 +87,11 @@ returns-clause-brought g c = on_ok c.put_waiting.result (λ holds fa sound empty
     let h = holds b.may in
     (h.may.0, sym (append-nil (g.I.Listed.content c.put_waiting.new.index)) ∙ h.content ∙ b.content ∙ all_taken c.args.legs c.legs.ordinal-counter list numbered c.legs-test.false)) c.put_waiting.ensures.holds
 
+pub returns-clause-grown : goal.returns-clause-grown
+returns-clause-grown g c = on_ok c.put_waiting.result (λ on fa sound empty list have numbered.
+    let b = c.legs.invariant.brought fa sound empty list have numbered in
+    on b.may c.args.index.now c.legs.invariant.later b.grown) c.put_waiting.ensures.grown
+
 pub returns-clause-only : goal.returns-clause-only
 returns-clause-only g c = on_err c.put_waiting.result (λ fault may fa sound empty list have each numbered.
     may (c.legs.invariant.brought fa sound empty list have numbered).may) c.put_waiting.ensures.only

@@ -78,6 +78,11 @@ returns-clause-brought g c = on_ok c.bring.result (λ h fa sound empty.
     let r = h (still g c fa) sound empty l.list l.have l.numbered in
     (r.0, subst (HoldChains (pages_of_old (g.S.PageStore.seen c.args.old.now)) c.args.most c.args.rows c.args.tracks.now.legs c.args.places.now c.args.tracks.now.tracks) (sym r.1) l.held)) c.bring.ensures.brought
 
+pub returns-clause-grown : goal.returns-clause-grown
+returns-clause-grown g c = on_ok c.bring.result (λ h fa sound empty.
+    let l = listed g c fa in
+    h (still g c fa) sound empty l.list l.have l.numbered) c.bring.ensures.grown
+
 pub returns-clause-marked : goal.returns-clause-marked
 returns-clause-marked g c = λ fa sound empty marked. (let l = listed g c fa in c.bring.ensures.marked (still g c fa) sound empty marked l.list l.have l.numbered)
 
