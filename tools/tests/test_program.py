@@ -141,6 +141,24 @@ class Program(Case):
         self.cut("run", "--in-place", "kept.mftb", "script.txt", "S1.csv")
         self.assertEqual(self.answer("run", "kept.mftb", "count.txt"), (0, "ok 1\n5,3\n", ""))
 
+    def test_a_closing_that_fails_too_has_a_line_of_its_own(self):
+        self.write_example()
+        self.write("whole.mftb", "")
+        self.write("short.mftb", "")
+        self.assertEqual(self.answer("run", "whole.mftb", "script.txt", "S1.csv")[0], 0)
+        most = len(self.bytes_of("whole.mftb")) - 4096
+        with open("/dev/full", "w") as full:
+            # Python ignores the signal of a file that is too long, and so does the program then.
+            ended = subprocess.run(
+                [BUILT, "run", "--in-place", "short.mftb", "script.txt", "S1.csv"],
+                cwd=self.folder,
+                stdout=full,
+                stderr=subprocess.PIPE,
+                preexec_fn=lambda: resource.setrlimit(resource.RLIMIT_FSIZE, (most, most)),
+                restore_signals=False,
+            )
+        self.assertEqual((ended.returncode, ended.stderr.decode()), (1, "mftb: store\nmftb: output\n"))
+
     def test_a_store_is_in_use(self):
         self.write("S1.csv", STANDARD)
         self.write("again.txt", "load S1.csv\n")

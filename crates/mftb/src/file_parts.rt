@@ -17,6 +17,8 @@ use trajdb::RunFault;
 struct SystemParts<'a, R: Files<File = File> + AllocGlobal> {
     rt: &'a R,
     folder: &'a str,
+    /// How often it was refused to give a name.
+    refusals: u64,
 }
 
 /// Makes the file of a name, of those bytes.
@@ -35,6 +37,8 @@ fn name_of(alloc: Global, folder: &str, part: u64) -> Result<String, AllocError>
 impl<'a, R: Files<File = File> + AllocGlobal> PartFolder for SystemParts<'a, R> {
     ghost puts = { λ _. None };
 
+    ghost refusals = { λ s. s.refusals };
+
     fn put(&mut self, part: u64, text: &[u8]) -> Result<(), RunFault> {
         let alloc = self.rt.alloc();
         let name = name_of(alloc, self.folder, part)?;
@@ -44,6 +48,7 @@ impl<'a, R: Files<File = File> + AllocGlobal> PartFolder for SystemParts<'a, R> 
             || fs::rename(self.rt, beside, name).is_err()
         {
             let _ = fs::remove_file(self.rt, beside);
+            self.refusals = self.refusals.saturating_add(1);
             return Err(RunFault::Output);
         }
         Ok(())
@@ -67,6 +72,7 @@ pub(crate) fn write_parts<'a, R: Files<File = File> + AllocGlobal>(
     let mut folder = SystemParts {
         rt,
         folder: task.folder,
+        refusals: 0,
     };
     let (n, first, count) = (
         u64::from(task.parts),

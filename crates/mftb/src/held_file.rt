@@ -1,5 +1,6 @@
 //! A file of the system that a run holds open.
-ghost use Rattle.std.specs.Prelude.{true, None};
+ghost use Rattle.std.specs.Prelude.{◌≡◌, ◌≤◌, true, None, OnErr};
+ghost use Rattle.pages.specs.Store.{HasRisen};
 
 use pages::ByteFile;
 use sessions::Cause;
@@ -15,28 +16,45 @@ pub(crate) struct HeldFile<'a, F = File> {
     file: F,
     /// Why a call on it failed last, where that is to be known.
     cause: Option<&'a Cell<Option<Cause>>>,
-}
-
-/// Notes why a call failed.
-fn note<T: Drop>(cause: Option<&Cell<Option<Cause>>>, answer: io::Result<T>) -> io::Result<T> {
-    if let (Some(cause), Err(error)) = (cause, &answer) {
-        cause.set(Some(Cause::from(error.kind())));
-    }
-    answer
+    /// How many calls were refused.
+    refusals: u64,
 }
 
 impl<'a, F: FileExt + OpenFile> HeldFile<'a, F> {
     /// The file of a handle, which is open for what it is to be asked for.
-    pub(crate) fn new(file: F) -> HeldFile<'a, F> {
-        HeldFile { file, cause: None }
+    pub(crate) fn new(file: F) -> HeldFile<'a, F>
+        ensures { result.refusals ≡ 0 }
+    {
+        HeldFile {
+            file,
+            cause: None,
+            refusals: 0,
+        }
     }
 
     /// The same, where it is noted why a call on it failed.
-    pub(crate) fn noted(file: F, cause: &'a Cell<Option<Cause>>) -> HeldFile<'a, F> {
+    pub(crate) fn noted(file: F, cause: &'a Cell<Option<Cause>>) -> HeldFile<'a, F>
+        ensures { result.refusals ≡ 0 }
+    {
         HeldFile {
             file,
             cause: Some(cause),
+            refusals: 0,
         }
+    }
+
+    /// Counts a call that was refused, and notes why it was.
+    fn note(&mut self, answer: io::Result<()>) -> io::Result<()>
+        ensures cause { OnErr result (HasRisen self.old.refusals self.new.refusals) }
+        ensures later { self.old.refusals ≤ self.new.refusals }
+    {
+        if let Err(error) = &answer {
+            self.refusals = self.refusals.saturating_add(1);
+            if let Some(cause) = self.cause {
+                cause.set(Some(Cause::from(error.kind())));
+            }
+        }
+        answer
     }
 }
 
@@ -45,19 +63,24 @@ impl<'a, F: FileExt + OpenFile> ByteFile for HeldFile<'a, F> {
 
     ghost is_synced = { λ _. true };
 
+    ghost refusals = { λ f. f.refusals };
+
     fn len(&self) -> io::Result<u64> {
         Ok(self.file.metadata()?.len())
     }
 
     fn read_at(&mut self, place: u64, buf: &mut [u8]) -> io::Result<()> {
-        note(self.cause, self.file.read_exact_at(buf, place))
+        let answer = self.file.read_exact_at(buf, place);
+        self.note(answer)
     }
 
     fn write_at(&mut self, place: u64, buf: &[u8]) -> io::Result<()> {
-        note(self.cause, self.file.write_all_at(buf, place))
+        let answer = self.file.write_all_at(buf, place);
+        self.note(answer)
     }
 
     fn sync(&mut self) -> io::Result<()> {
-        note(self.cause, self.file.sync_all())
+        let answer = self.file.sync_all();
+        self.note(answer)
     }
 }

@@ -1,5 +1,7 @@
 //! `mftb run`: a script over the database that a file keeps.
-ghost use Rattle.std.specs.Prelude.{◌≡◌, ◌<◌, ◌↔◌, IfOk, IsTrue};
+ghost use Rattle.std.specs.Prelude.{◌≡◌, ◌≢◌, ◌<◌, ◌↔◌, Err, IfOk, IfSome, IsTrue};
+ghost use Rattle.sessions.specs.declared.fault.Fault.{Fault};
+ghost use Rattle.trajdb.specs.declared.RunFault.{RunFault};
 ghost use Rattle.mftb.specs.declared.outcome.Outcome.{Outcome};
 
 use crate::locks::hold_name;
@@ -30,18 +32,32 @@ struct Work {
     how: Opening,
 }
 
+/// What a run came to, and why the store was not closed, where that does not say so.
+type Ended<'a> = (Result<(), Fault<'a>>, Option<RunFault>);
+
+/// Why a store was not closed, where the fault of the run does not say so; of a database that failed the run does.
+fn unsaid(said: &Result<(), Fault<'_>>, closed: Result<(), RunFault>) -> Option<RunFault>
+    ensures { IfSome result (λ fault. (closed ≡ Err fault) × (fault ≢ RunFault.Failed)
+        × (said.now ≡ Err (Fault.Run fault) → ⊥)) }
+{
+    match closed {
+        Err(fault) if fault != RunFault::Failed => match said {
+            Err(Fault::Run(ran)) if *ran == fault => None,
+            _ => Some(fault),
+        },
+        _ => None,
+    }
+}
+
 /// Runs the script over a store as it lies there.
-fn run_over<'a, S: PageStore + Drop, W: Write>(
-    store: S,
-    work: &Work,
-    out: &mut W,
-) -> Result<(), Fault<'a>>
+fn run_over<'a, S: PageStore + Drop, W: Write>(store: S, work: &Work, out: &mut W) -> Ended<'a>
     requires { 0 < work.now.how.cache_pages }
 {
     let how = work.how;
     let opened = database(how.alloc, how.keys, store, how.is_new, how.cache_pages);
-    let (_store, result) = answer(how.alloc, opened, &work.script, &work.files, out);
-    result
+    let (_store, said, closed) = answer(how.alloc, opened, &work.script, &work.files, out);
+    let unsaid = unsaid(&said, closed);
+    (said, unsaid)
 }
 
 /// Runs a script that only asks over a store that is there. It is opened to be read alone.
@@ -50,12 +66,14 @@ fn ask<'a, R: rt::Files<File = File> + rt::Clock + Eprint, W: Write>(
     work: &Work,
     progress: &Progress<'_, R>,
     out: &mut W,
-) -> Result<(), Fault<'a>>
+) -> Ended<'a>
     requires { 0 < work.now.how.cache_pages }
 {
     sweep(rt, &work.names);
-    let store = open_asked(rt, &work.names)?;
-    run_over(Noted::new(store, progress), work, out)
+    match open_asked(rt, &work.names) {
+        Ok(store) => run_over(Noted::new(store, progress), work, out),
+        Err(fault) => (Err(fault), None),
+    }
 }
 
 /// Runs a script that may write over the store as it lies there. Where the folder may not be written,
@@ -65,17 +83,17 @@ fn run_in_place<'a, R: rt::Files<File = File> + rt::Clock + Eprint, W: Write>(
     work: &Work,
     progress: &Progress<'_, R>,
     out: &mut W,
-) -> Result<(), Fault<'a>>
+) -> Ended<'a>
     requires { 0 < work.now.how.cache_pages }
 {
     let names = &work.names;
     let lock = match hold_name(rt, names.lock.as_str()) {
-        Err(Fault::InUse) => return Err(Fault::InUse),
+        Err(Fault::InUse) => return (Err(Fault::InUse), None),
         held => held.ok(),
     };
-    let result = match open_in_place(rt, names) {
+    let ended = match open_in_place(rt, names) {
         Ok(store) => run_over(Noted::new(store, progress), work, out),
-        Err(fault) => Err(fault),
+        Err(fault) => (Err(fault), None),
     };
     if let Some(lock) = lock {
         if lock.is_locked {
@@ -83,7 +101,7 @@ fn run_in_place<'a, R: rt::Files<File = File> + rt::Clock + Eprint, W: Write>(
         }
         let _ = fs::remove_file(rt, names.lock.as_str());
     }
-    result
+    ended
 }
 
 /// Runs a script that may write over a copy of the store.
@@ -119,16 +137,20 @@ fn run_as_asked<'a, R: rt::Files<File = File> + rt::Clock + Eprint, W: Write>(
     work: &Work,
     progress: &Progress<'_, R>,
     out: &mut W,
-) -> Result<(), Fault<'a>>
+) -> Ended<'a>
     requires { 0 < work.now.how.cache_pages }
 {
     let how = work.how;
-    if !how.is_new && !has_load(how.alloc, &work.script)? {
+    let loads = match has_load(how.alloc, &work.script) {
+        Ok(loads) => loads,
+        Err(fault) => return (Err(Fault::Run(fault)), None),
+    };
+    if !how.is_new && !loads {
         ask(rt, work, progress, out)
     } else if is_in_place || is_special(rt, work.names.store.as_str()) {
         run_in_place(rt, work, progress, out)
     } else {
-        run_beside(rt, work, progress, out)
+        (run_beside(rt, work, progress, out), None)
     }
 }
 
@@ -200,8 +222,12 @@ pub(crate) fn run<
     let is_told = run.telling.is_told(is_terminal);
     let is_empty = how.is_new || is_without_legs(rt, work.names.store.as_str(), is_told);
     let mut out = Followed::new(out, &progress, Notes::new(how.alloc, is_told, is_empty));
-    let ended = run_as_asked(rt, run.in_place, &work, &progress, &mut out);
+    let (ended, unsaid) = run_as_asked(rt, run.in_place, &work, &progress, &mut out);
     progress.clear();
+    if let Some(fault) = unsaid {
+        let fault = work.names.caused(Fault::Run(fault));
+        let _ = eprintln!(rt; "mftb: {fault}");
+    }
     if ended.is_ok() && is_told && how.is_new && !has_load(how.alloc, &work.script)? {
         tell_made(rt, run.store);
     }

@@ -14,6 +14,7 @@ use std::io::{Eprint, Read, Write};
 use std::os::unix::fs::{MetadataExt, OpenOptionsExt, chown};
 use std::rt::{Clock, Files};
 use std::{fs, io};
+use trajdb::RunFault;
 
 /// Who may read and write a copy while it is made: its maker.
 const OWN_MODE: u32 = 0o600;
@@ -39,7 +40,7 @@ pub(crate) struct SystemFolder<'a, 'p, R: Files<File = File> + Clock + Eprint> {
     is_made: bool,
     /// Whether the system was asked to make each name last that was given.
     is_settled: bool,
-    /// How often it was refused to make a copy, or to give it the name.
+    /// How often it was refused to make a copy, to make it last, or to give it the name.
     refusals: u64,
 }
 
@@ -170,6 +171,7 @@ impl<'a, 'p, R: Files<File = File> + Clock + Eprint> SystemFolder<'a, 'p, R> {
         ensures refusals { HasRisen self.old.refusals self.new.refusals }
         ensures later { self.old.refusals ≤ self.new.refusals }
         ensures settled { self.new.is_settled ≡ self.old.is_settled }
+        ensures made { self.new.is_made ≡ self.old.is_made }
     {
         self.refusals = self.refusals.saturating_add(1);
     }
@@ -241,6 +243,17 @@ impl<'a, 'p, R: Files<File = File> + Clock + Eprint> Folder for SystemFolder<'a,
         ensures noted { result ≡ was_written store.now }
     {
         store.is_written()
+    }
+
+    fn sync<'b>(
+        &mut self,
+        store: &mut Noted<'a, 'p, FileStore<HeldFile<'a, File>>, R>,
+    ) -> Result<(), Fault<'b>> {
+        if store.sync().is_err() {
+            self.count_refusal();
+            return Err(Fault::Run(RunFault::Store));
+        }
+        Ok(())
     }
 
     fn replace<'b>(

@@ -231,6 +231,14 @@ impl Folder for MemFolder {
         true
     }
 
+    fn sync<'a>(&mut self, store: &mut MemCopy) -> Result<(), Fault<'a>> {
+        if store.sync().is_err() {
+            self.refused();
+            return Err(Fault::Run(RunFault::Store));
+        }
+        Ok(())
+    }
+
     fn replace<'a>(&mut self, store: MemCopy) -> Result<(), Fault<'a>> {
         self.calls = store.calls;
         self.is_settled = false;

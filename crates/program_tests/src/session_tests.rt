@@ -63,7 +63,8 @@ fn the_first_fault_is_said(rt: HostRuntime) -> Result<(), Fail> {
     let store = Fuse::new(MemStore::new(alloc, 100), 2, false);
     let opened = database(alloc, keys, store, true, 1);
     let mut out = Vec::new(alloc);
-    let (_, said) = answer(alloc, opened, b"load S1.csv".as_slice(), &files, &mut out);
+    let (_, said, closed) = answer(alloc, opened, b"load S1.csv".as_slice(), &files, &mut out);
     assert!(rt; said == Err(Fault::Run(RunFault::Store)) && out.is_empty());
+    assert!(rt; closed == Err(RunFault::Failed));
     Ok(())
 }

@@ -1,9 +1,13 @@
 -- What a store of version 1 keeps that is brought over, and why it is not.
-use Rattle.std.proofs.Common.{arith, ◌≡◌, ◌∙◌, ap, length, Result, Err}
+use Rattle.std.proofs.Common.{arith, [], ◌≡◌, ◌∙◌, ap, length, refl, Option, Some, None, Result, Err}
+use Rattle.std.specs.Box.{box_value}
+use Rattle.std.specs.Option.{option_map, option_or}
 use Rattle.std.proofs.lemmas.List.{length-map}
 use Rattle.pages.specs.Store.{Store}
-use Rattle.boxsearch.specs.Index.{IndexView}
+use Rattle.pagecache.specs.Cache.{Cache, in_memory, payload_of}
+use Rattle.boxsearch.specs.Index.{IndexView, IsMarked}
 use Rattle.legs.specs.Tracks.{TracksView}
+use Rattle.register.specs.Earlier.{AreEarlier}
 use Rattle.register.specs.Saved.{CatalogueView}
 use Rattle.register.specs.Saving.{HasFew}
 use Rattle.version1.specs.Migrating.{IsBrought}
@@ -36,3 +40,15 @@ brought_few s c index b =
           let most = limits.few_legs in
           omega (arith, few, legs, most);
     }
+
+-- a marked page 0 names no page of an earlier text
+some_or : {A : Type 0} (x : Option A) (p : A) → (q : A) × (option_or x (Some p) ≡ Some q)
+some_or None p = (p, refl)
+some_or (Some y) p = (y, refl)
+
+pub none_earlier : (c : Cache) → IsMarked c → AreEarlier (payload_of c) []
+unfolding payload_of
+none_earlier c m =
+    let held = option_map (λ h. box_value h.payload) (in_memory c 0) in
+    let first = some_or held m.payload in
+    record { payload = first.0; is = ap (λ sealed. option_or held sealed) m.sealed ∙ first.1; linked = tt }

@@ -1,23 +1,24 @@
 -- What a run on a copy makes of a store's name.
-use Rattle.std.proofs.Common.{ℕ, arith, ⊎_elim, ◌≤◌, ◌≡◌, ◌⊎◌, ◌∙◌, refl, sym, subst, inl, inr, [], ◌∷◌, true, false, Bool, IsTrue, List, Option, Some, None, Result, Ok, Err}
+use Rattle.std.proofs.Common.{ℕ, arith, ◌≤◌, ◌≡◌, ◌⊎◌, ◌∙◌, refl, sym, subst, inl, inr, [], ◌∷◌, true, false, Bool, IsTrue, List, Option, Some, None, Result, Ok, Err}
 use Rattle.std.proofs.KnownBytes.{Appends-nil}
-use Rattle.std.specs.Prelude.{is_ok, MatchResult, IfErr, IfOk, IfSome, IsOk, OnErr, OnOk}
+use Rattle.std.specs.Prelude.{is_ok, IfErr, IfOk, IfSome, IsOk, OnErr, OnOk}
 use Rattle.legs.specs.Book.{Book, empty_book}
 use Rattle.legs.specs.Costs.{ShapeView}
 use Rattle.legs.specs.Limits.{limits_of, LimitsView}
-use Rattle.pages.specs.Store.{Store, HasRisen}
+use Rattle.pages.specs.Store.{Store, Faulted, IsSynced}
 use Rattle.pages.specs.declared.unsynced.Unsynced.TheVariants.{Others}
 use Rattle.catalogue.specs.Holding.{HoldsBook}
 use Rattle.register.specs.Saving.{IsSavingStop}
-use Rattle.trajdb.specs.Db.{DbView, HasPages, IsSoundDb}
+use Rattle.trajdb.specs.Db.{capacity_of, store_of, DbView, HasPages, IsSoundDb}
 use Rattle.trajdb.specs.Lasting.{HasBook, IsIdle}
 use Rattle.trajdb.proofs.SafeLemmas.{apart}
 use Rattle.trajdb.specs.Run.{HasRun}
 use Rattle.register.specs.declared.fault.CatalogueFault.{CatalogueFault}
+use Rattle.register.specs.declared.fault.CatalogueFault.TheVariants as opening
 use Rattle.trajdb.specs.declared.RunFault.{RunFault}
 use Rattle.sessions.specs.Answers.{said, Answers, ClosesAfter, Ends, FailsToLoad, RunsOver, SendsFront, new_shape}
 use Rattle.sessions.specs.declared.fault.Fault.{Fault}
-use Rattle.sessions.specs.Folder.{BeginsWith, History, HoldsNow, IsRefusedBeside, IsRefusedByFolder, NameIsKept, RunsBeside, store_in}
+use Rattle.sessions.specs.Folder.{BeginsWith, History, HoldsNow, IsRefusedBeside, IsRefusedByFolder, Makes, NameIsKept, RunsBeside, store_in}
 use Rattle.sessions.proofs.AnswerLemmas.{front_done}
 
 -- what a folder tells of a store's name is faithful
@@ -172,18 +173,18 @@ if_refused (Err e) (Some past) P f = f e past refl
 
 -- a run over what was made of a store: where it is answered there was a database, and where there was none nothing was sent
 module _ {S O : Type 0} (seen : S → Store) (shown : O → Option (List ℕ)) (files : List (List ℕ × List ℕ)) (out out' : O) (lines : List (List ℕ)) (store : Store) where
-  pub over_opened : (answered : Result (Unit {0}) Fault) (o : Result DbView (S × CatalogueFault)) → RunsOver seen shown o files out out' lines answered store → OnOk answered (IsOk o)
-  over_opened (Err e) o h = tt
-  over_opened (Ok x) (Ok db) h = refl
-  over_opened (Ok x) (Err back) h = let is = h.0 in absurd (cc is)
+  pub over_opened : (answered : Result (Unit {0}) Fault) (closed : Result (Unit {0}) RunFault) (o : Result DbView (S × CatalogueFault)) → RunsOver seen shown o files out out' lines answered closed store → OnOk answered (IsOk o)
+  over_opened (Err e) closed o h = tt
+  over_opened (Ok x) closed (Ok db) h = refl
+  over_opened (Ok x) closed (Err back) h = let is = h.0 in absurd (cc is)
 
-  pub over_unsent : (answered : Result (Unit {0}) Fault) (o : Result DbView (S × CatalogueFault)) → RunsOver seen shown o files out out' lines answered store → OnErr o (shown out' ≡ shown out)
-  over_unsent answered (Ok db) h = tt
-  over_unsent answered (Err back) h = h.2
+  pub over_unsent : (answered : Result (Unit {0}) Fault) (closed : Result (Unit {0}) RunFault) (o : Result DbView (S × CatalogueFault)) → RunsOver seen shown o files out out' lines answered closed store → OnErr o (shown out' ≡ shown out)
+  over_unsent answered closed (Ok db) h = tt
+  over_unsent answered closed (Err back) h = h.3
 
-  pub over_ended : (answered : Result (Unit {0}) Fault) (o : Result DbView (S × CatalogueFault)) → RunsOver seen shown o files out out' lines answered store → IfOk o (λ db. Ended files (shown out) (shown out') lines store db answered)
-  over_ended answered (Ok db) h = (h.0, h.1, h.2, h.3.ends)
-  over_ended answered (Err back) h = tt
+  pub over_ended : (answered : Result (Unit {0}) Fault) (closed : Result (Unit {0}) RunFault) (o : Result DbView (S × CatalogueFault)) → RunsOver seen shown o files out out' lines answered closed store → IfOk o (λ db. Ended files (shown out) (shown out') lines store db answered)
+  over_ended answered closed (Ok db) h = (h.0, closed, h.1, h.2.ends)
+  over_ended answered closed (Err back) h = tt
 
 -- what is so of an answer and of all is so of both
 pub on_both : {T E : Type 0} (A B : Type 0) (r : Result T E) → A → OnOk r B → OnOk r (A × B)
@@ -192,7 +193,7 @@ on_both A B (Err e) a b = tt
 
 -- what a folder was refused lasts
 pub widened : (first before after last : ℕ) (fault : Fault) → first ≤ before → after ≤ last → IsRefusedByFolder before after fault → IsRefusedByFolder first last fault
-widened first before after last fault early late h = (h.0, ⊎_elim (λ (rises : HasRisen before after). inl (omega (arith, early, late, rises))) inr h.1)
+widened first before after last fault early late h = (h.0, (let rises = h.1 in omega (arith, early, late, rises)))
 
 -- a run that is answered is refused as its folder refuses it
 pub refused_by_folder : (first before after : ℕ) (answered r : Result (Unit {0}) Fault) → first ≤ before → answered ≡ Ok tt → IfErr r (IsRefusedByFolder before after)
@@ -201,9 +202,10 @@ refused_by_folder first before after answered (Ok x) later is named = tt
 refused_by_folder first before after answered (Err fault) later is named = inr (is, widened first before after after fault later (omega arith) named)
 
 -- a database is made, or it is not, of a store without pages
-pub made_or_not : {S : Type 0} {is_new : Bool} (r : Result DbView (S × CatalogueFault)) (s : Store)
-    → IfOk r (λ db. IsTrue is_new → IsTrue s.is_faithful → s.count ≡ 0 → HasBook new_shape (limits_of 16777216 1048576) empty_book db)
-    → IfErr r (λ back. IsTrue is_new → IsTrue s.is_faithful → s.count ≡ 0 → IsSavingStop back.1)
-    → IsTrue is_new → IsTrue s.is_faithful → s.count ≡ 0 → MatchResult r (HasBook new_shape (limits_of 16777216 1048576) empty_book) (λ back. IsSavingStop back.1)
-made_or_not (Ok db) s new made n f z = new n f z
-made_or_not (Err back) s new made n f z = made n f z
+pub made_or_not : {S : Type 0} {is_new : Bool} (seen : S → Store) (pages : ℕ) (r : Result DbView (S × CatalogueFault)) (s : Store)
+    → IfOk r (λ db. IsTrue is_new → IsTrue s.is_faithful → s.count ≡ 0 → HasBook new_shape (limits_of 16777216 1048576) empty_book db) → IfOk r (λ db. IsTrue s.is_faithful → HasPages db) → IfOk r (λ db. IsTrue s.is_faithful → IsIdle db)
+    → IfOk r (λ db. db.failed ≡ false) → IfOk r (λ db. capacity_of db ≡ pages) → IfOk r (λ db. IsTrue is_new → s.count ≡ 0 → IsSynced (store_of db))
+    → IfErr r (λ back. IsTrue is_new → IsTrue s.is_faithful → s.count ≡ 0 → IsSavingStop back.1) → IfErr r (λ back. back.1 ≡ opening.Store → Faulted s (seen back.0)) → IfErr r (λ back. back.1 ≡ opening.StoreFull → s.most ≡ 0)
+    → IsTrue is_new → s.count ≡ 0 → Makes seen s pages r
+made_or_not seen most (Ok db) s new pages idle lives capacity synced made caused full n z = (λ f. (new n f z, pages f, idle f), lives, capacity, synced n z)
+made_or_not seen most (Err back) s new pages idle lives capacity synced made caused full n z = (λ f. made n f z, caused, full)

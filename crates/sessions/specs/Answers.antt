@@ -9,7 +9,10 @@ use Rattle.boxsearch.specs.Index.{written, IndexView, words}
 use Rattle.catalogue.specs.Holding.{HoldsBook, HoldsButFirst, HoldsIndex, HoldsIndexButFirst, IsUnfinishedStore}
 use Rattle.catalogue.specs.Beginning.{IsLeftOver}
 use Rattle.version1.specs.Migrating.{IsBrought, IsMigratingFault}
+use Rattle.register.specs.Earlier.{AddsFew, HasNoRoom}
 use Rattle.register.specs.Saved.{CatalogueView}
+use Rattle.register.specs.Saving.{contents_of}
+use Rattle.register.specs.Text.{catalogue_text}
 use Rattle.trajdb.specs.Calls.{IsLoadFault, LoadsBy, LoadsWholeSome, Speaks}
 use Rattle.trajdb.specs.Db.{page_count_of, shape_of, store_of, DbView, HasPages, IsSoundDb}
 use Rattle.trajdb.specs.Faults.{IsNotOutput}
@@ -149,17 +152,19 @@ said (Ok x) (Ok y) = Ok tt
 said (Ok x) (Err fault) = Err (Run fault)
 said (Err fault) closed = Err (Run fault)
 
--- a database that was made or opened is run over and closed, and the fault of these is answered; where there is none, why is
--- answered, the store is the one that was given back, and nothing was sent
+-- a database that was made or opened is run over and closed, and the fault of these is answered, and what the closing
+-- came to; where there is none, why is answered, nothing is to be closed, the store is the one that was given back, and
+-- nothing was sent
 abbrev pub RunsOver : {S O : Type 0} (seen : S → Store) (shown : O → Option (List ℕ))
     → Result DbView (S × CatalogueFault) → List (List ℕ × List ℕ) → (out out' : O)
-    → List (List ℕ) → Result (Unit {0}) Fault → Store → Type 0
-RunsOver seen shown (Ok db) files out out' lines answered store =
-    (ran : Result (Unit {0}) RunFault) × (closed : Result (Unit {0}) RunFault)
-    × (answered ≡ said ran closed)
+    → List (List ℕ) → Result (Unit {0}) Fault → (closed : Result (Unit {0}) RunFault) → Store
+    → Type 0
+RunsOver seen shown (Ok db) files out out' lines answered closed store =
+    (ran : Result (Unit {0}) RunFault) × (answered ≡ said ran closed)
     × RunsAndCloses shown db files out out' lines ran closed store
-RunsOver seen shown (Err back) files out out' lines answered store =
-    (answered ≡ Err (Open back.1)) × (store ≡ seen back.0) × (shown out' ≡ shown out)
+RunsOver seen shown (Err back) files out out' lines answered closed store =
+    (answered ≡ Err (Open back.1)) × (closed ≡ Ok tt) × (store ≡ seen back.0)
+    × (shown out' ≡ shown out)
 
 -- the store holds the book of a database, in a tree of its shape; the report says how many legs and features the book has,
 -- and, where the database had not begun, how many pages the store
@@ -204,13 +209,16 @@ IsCheckFault db left run.StoreFull = (db.begun ≡ true) × (left.count ≡ left
 IsCheckFault db left run.Failed = (db.failed ≡ true) ⊎ (words.is_spent db.index ≡ true)
 IsCheckFault db left run.Output = ⊥
 
--- a finished store of version 1, whose pages keep a catalogue, and chains of leaves that hold one list of legs, is brought
--- over: the new store keeps that catalogue, and an index of these legs
+-- a finished store of version 1, whose pages keep a catalogue, and chains of leaves that hold one list of legs, is
+-- brought over: the new store keeps that catalogue, and an index of these legs, and has no page more than these take,
+-- and the text of the catalogue
 pub record BringsWhole (old left : Store) : Type 0 where
   pub catalogue : CatalogueView
   pub index : IndexView
   pub brought : IsBrought old catalogue index
   pub kept : HoldsIndex left catalogue index
+  pub few : AddsFew index.cache.count
+      (catalogue_text (contents_of catalogue index.places)) [] left.count
 
 -- such a one is not brought over, as the closing is refused: the new store is not finished, or all of its pages but page 0
 -- are those of one that keeps that catalogue and an index of these legs, and are synced
@@ -219,6 +227,15 @@ pub record BringsButFirst (old left : Store) : Type 0 where
   pub index : IndexView
   pub brought : IsBrought old catalogue index
   pub behind : IsUnfinishedStore left ⊎ HoldsIndexButFirst left catalogue index
+
+-- such a one is brought over, and not closed, as the new store is full: it may have fewer pages than these legs take,
+-- and the text of the catalogue
+pub record BringsTooMuch (old new : Store) : Type 0 where
+  pub catalogue : CatalogueView
+  pub index : IndexView
+  pub brought : IsBrought old catalogue index
+  pub full : HasNoRoom index.cache.count new.most
+      (catalogue_text (contents_of catalogue index.places)) []
 
 -- a store failed, or is full, where that is said of bringing one over: either store, or in the closing the new one
 abbrev pub IsOverFault : (old after new left : Store) → Fault → Type 0

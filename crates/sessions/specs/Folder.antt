@@ -1,19 +1,20 @@
 -- What the name of a store stands for, from moment to moment, and what a run makes of it.
-use Rattle.std.specs.Prelude.{ℕ, ◌≡◌, ◌<◌, ◌⊎◌, ◌^◌, ◌-◌, List, [], ◌∷◌, length, Bool, Option, Some, None, IfErr, IfSome, IsErr, IsTrue, MatchResult, OnOk, Err, Ok, Result, false, true, ⊤}
+use Rattle.std.specs.Prelude.{ℕ, ◌≡◌, ◌<◌, ◌⊎◌, ◌^◌, ◌-◌, List, [], ◌∷◌, length, Bool, Option, Some, None, IfErr, IfSome, IsErr, IsTrue, OnOk, Err, Ok, Result, false, true, ⊤}
 use Rattle.legs.specs.Book.{Book, empty_book}
 use Rattle.legs.specs.Costs.{ShapeView}
 use Rattle.legs.specs.Limits.{limits_of, LimitsView}
-use Rattle.pages.specs.Store.{Store, HasRisen}
+use Rattle.pages.specs.Store.{Store, Faulted, HasRisen, IsSynced}
 use Rattle.pages.specs.declared.unsynced.Unsynced.TheVariants.{Others}
 use Rattle.catalogue.specs.Holding.{HoldsBook}
 use Rattle.register.specs.Saving.{IsSavingStop}
 use Rattle.trajdb.specs.Calls.{IsLoadFault}
-use Rattle.trajdb.specs.Db.{DbView}
+use Rattle.trajdb.specs.Db.{capacity_of, store_of, DbView, HasPages}
 use Rattle.trajdb.specs.Faults.{IsNotOutput}
-use Rattle.trajdb.specs.Lasting.{HasBook}
+use Rattle.trajdb.specs.Lasting.{HasBook, IsIdle}
 use Rattle.trajdb.specs.Promises.{OpenCall}
 use Rattle.trajdb.specs.Run.{HasRun}
 use Rattle.register.specs.declared.fault.CatalogueFault.{CatalogueFault}
+use Rattle.register.specs.declared.fault.CatalogueFault.TheVariants as opening
 use Rattle.trajdb.specs.declared.RunFault.{RunFault}
 use Rattle.trajdb.specs.declared.RunFault.TheVariants.{Memory, Store as StoreFailed}
 use Rattle.sessions.specs.Answers.{Answers, RunsOver, new_shape}
@@ -101,16 +102,15 @@ IsOfFolder (NoStore cause) = Unit {0}
 IsOfFolder NoSuchStore = ⊥
 IsOfFolder (Bounds code) = ⊥
 
--- it makes no copy, and so was refused once more
+-- it refuses a run, and so counts one more refusal: it makes no copy, does not make it last, or does not give it the
+-- name
+abbrev pub IsRefusedByFolder : (before after : ℕ) → Fault → Type 0
+IsRefusedByFolder before after fault = IsOfFolder fault × HasRisen before after
+
+-- it makes no copy
 abbrev pub IsNotCopied : (before after : ℕ) → Result (Unit {0}) Fault → Type 0
 IsNotCopied before after result =
-    IsErr result × IfErr result (λ fault. IsOfFolder fault × HasRisen before after)
-
--- a folder does not give the name to a copy: it was refused once more, or it is said that a store failed; that it was the
--- copy's, which was not made to last, this does not say
-abbrev pub IsRefusedByFolder : (before after : ℕ) → Fault → Type 0
-IsRefusedByFolder before after fault =
-    IsOfFolder fault × (HasRisen before after ⊎ (fault ≡ Run StoreFailed))
+    IsErr result × IfErr result (IsRefusedByFolder before after)
 
 -- how a run on a copy over a book is refused: nothing was sent of it, or all was, or it says which kind of fault it is: of
 -- the output, want of memory, or of a store that failed or is full; that it is so, this does not say
@@ -131,9 +131,23 @@ pub record RunsBeside (shape : ShapeView) (limits : LimitsView) (book : Book)
   pub kept : NameIsKept store old new
   pub held : HoldsNow shape limits answers.after new
 
+-- of a copy without pages a database is made that has not failed, with a cache of so many pages, synced, and over a
+-- faithful copy with the empty book, its pages as its state says; or it is not: as the copy failed, or may have no
+-- page, where that is said, and over a faithful one else for want of memory alone
+abbrev pub Makes : {S : Type 0} (seen : S → Store) (copy : Store) (cache_pages : ℕ)
+    → Result DbView (S × CatalogueFault) → Type 0
+Makes seen copy cache_pages (Ok db) =
+    (IsTrue copy.is_faithful
+    → HasBook new_shape (limits_of 16777216 1048576) empty_book db × HasPages db × IsIdle db)
+    × (db.failed ≡ false) × (capacity_of db ≡ cache_pages) × IsSynced (store_of db)
+Makes seen copy cache_pages (Err back) =
+    (IsTrue copy.is_faithful → IsSavingStop back.1)
+    × (back.1 ≡ opening.Store → Faulted copy (seen back.0))
+    × (back.1 ≡ opening.StoreFull → copy.most ≡ 0)
+
 -- a run on a copy of what the name stood for, whatever that held: a store with pages was opened, and one without them was made
 -- a database where that was asked for; it was run over and closed (`RunsOver`). Where that is answered, the name is kept as
--- `NameIsKept` says; it is refused as that was, or as the folder did not give the name
+-- `NameIsKept` says; it is refused as that was, or as the folder did not make it last, or give it the name
 pub record RunsOnCopy {S O : Type 0} (seen : S → Store) (shown : O → Option (List ℕ))
     (is_new : Bool) (cache_pages before after : ℕ) (old new : Option History)
     (files : List (List ℕ × List ℕ)) (out out' : O) (lines : List (List ℕ))
@@ -142,12 +156,11 @@ pub record RunsOnCopy {S O : Type 0} (seen : S → Store) (shown : O → Option 
   pub copies : IfSome old (λ past. copy ≡ store_in past)
   pub opened : Result DbView (S × CatalogueFault)
   pub opens : (is_new ≡ false) ⊎ (0 < copy.count) → OpenCall seen copy cache_pages opened
-  pub makes : IsTrue is_new → IsTrue copy.is_faithful → copy.count ≡ 0
-      → MatchResult opened (HasBook new_shape (limits_of 16777216 1048576) empty_book)
-      (λ back. IsSavingStop back.1)
+  pub makes : IsTrue is_new → copy.count ≡ 0 → Makes seen copy cache_pages opened
   pub answered : Result (Unit {0}) Fault
+  pub closed : Result (Unit {0}) RunFault
   pub store : Store
-  pub run : RunsOver seen shown opened files out out' lines answered store
+  pub run : RunsOver seen shown opened files out out' lines answered closed store
   pub kept : OnOk result ((answered ≡ Ok tt) × NameIsKept store old new)
   pub refused : IfErr result
       (λ fault. (answered ≡ Err fault)

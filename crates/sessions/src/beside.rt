@@ -14,7 +14,7 @@ use pages::PageStore;
 use std::alloc::Global;
 use std::hash::RandomState;
 use std::io::Write;
-use trajdb::{Files, RunFault};
+use trajdb::Files;
 
 /// How the database of a store is made or opened.
 #[derive(Clone, Copy)]
@@ -40,9 +40,7 @@ fn give<'a, F: Folder>(folder: &mut F, mut store: F::Store) -> Result<(), Fault<
         (F.refusals folder.new)) }
     ensures settled { OnOk result (IsTrue (F.is_settled folder.new)) }
 {
-    if store.sync().is_err() {
-        return Err(Fault::Run(RunFault::Store));
-    }
+    folder.sync(&mut store)?;
     match folder.replace(store) {
         Ok(()) => {
             folder.settle();
@@ -81,8 +79,7 @@ fn keep<'a, F: Folder>(folder: &mut F, store: F::Store) -> Result<(), Fault<'a>>
 /// taken away.
 ///
 /// `script` and `files` are bytes as they were read; the answers go to `out`. It is refused as the
-/// folder refuses it (`Folder::copy`, `Folder::replace`), as `answer` does, and with `Store` where
-/// the copy is not made to last.
+/// folder refuses it (`Folder::copy`, `Folder::sync`, `Folder::replace`), and as `answer` does.
 pub fn run_on_copy<'a, F: Folder, W: Write>(
     folder: &mut F,
     how: Opening,
@@ -145,7 +142,7 @@ pub fn run_on_copy<'a, F: Folder, W: Write>(
         }
     };
     let database = database(how.alloc, how.keys, store, how.is_new, how.cache_pages);
-    let (store, answered) = answer(how.alloc, database, script, files, out);
+    let (store, answered, _closed) = answer(how.alloc, database, script, files, out);
     match answered {
         Ok(()) => keep(folder, store),
         Err(fault) => {

@@ -1,6 +1,6 @@
 //! The contract of the folder that a store's file is in.
 ghost use Rattle.std.specs.Prelude.{ℕ, ◌≡◌, ◌≤◌, Bool, Option, IfErr, IfOk, IfSome, IsTrue, OnErr, OnOk, false};
-ghost use Rattle.pages.specs.Store.{HasRisen, IsSynced};
+ghost use Rattle.pages.specs.Store.{HasRisen, IsSynced, Stays};
 ghost use Rattle.sessions.specs.Folder.{HasPagesHeld, History, IsOfFolder, IsReplaced, store_in};
 
 use crate::fault::Fault;
@@ -21,7 +21,7 @@ pub trait Folder {
     /// Whether each name that was given is on the disk, as far as the system can make it so.
     ghost is_settled: { Self → Bool };
 
-    /// How often it was refused to make a copy, or to give it the name.
+    /// How often it was refused to make a copy, to make it last, or to give it the name.
     ghost refusals: { Self → ℕ };
 
     /// Whether a copy that this folder made lies beside the store's file, as far as the system let it be
@@ -46,6 +46,18 @@ pub trait Folder {
         ensures { result ≡ false
             → HasPagesHeld (Self.Store.PageStore.seen store.now) (held self.now) };
 
+    /// Makes what was written to the copy last, as on a disk.
+    fn sync<'a>(&mut self, store: &mut Self::Store) -> Result<(), Fault<'a>>
+        ensures stays { held self.new ≡ held self.old }
+        ensures copy { has_copy self.new ≡ has_copy self.old }
+        ensures settled { is_settled self.new ≡ is_settled self.old }
+        ensures pages { Stays (Self.Store.PageStore.seen store.old)
+            (Self.Store.PageStore.seen store.new) }
+        ensures synced { OnOk result (IsSynced (Self.Store.PageStore.seen store.new)) }
+        ensures named { IfErr result IsOfFolder }
+        ensures cause { OnErr result (HasRisen (refusals self.old) (refusals self.new)) }
+        ensures later { refusals self.old ≤ refusals self.new };
+
     /// Gives the store's name to the copy, in one step. All that was written to it is synced.
     /// Where it is refused, the name stands for what it stood for.
     fn replace<'a>(&mut self, store: Self::Store) -> Result<(), Fault<'a>>
@@ -54,6 +66,7 @@ pub trait Folder {
             (held self.old) (held self.new)) }
         ensures taken { OnOk result (has_copy self.new ≡ false) }
         ensures stays { OnErr result (held self.new ≡ held self.old) }
+        ensures copy { OnErr result (has_copy self.new ≡ has_copy self.old) }
         ensures named { IfErr result IsOfFolder }
         ensures cause { OnErr result (HasRisen (refusals self.old) (refusals self.new)) };
 

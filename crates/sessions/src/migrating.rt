@@ -15,7 +15,7 @@ ghost use Rattle.register.specs.Lasting.{ComesFirst};
 ghost use Rattle.register.specs.declared.fault.CatalogueFault.{CatalogueFault};
 ghost use Rattle.trajdb.specs.Lasting.{IsFaultless};
 ghost use Rattle.trajdb.specs.declared.RunFault.{RunFault};
-ghost use Rattle.sessions.specs.Answers.{BringsButFirst, BringsWhole, IsNotOver, IsOverFault};
+ghost use Rattle.sessions.specs.Answers.{BringsButFirst, BringsTooMuch, BringsWhole, IsNotOver, IsOverFault};
 
 use crate::fault::Fault;
 use crate::session::CACHE_PAGES;
@@ -81,6 +81,12 @@ pub fn migrate_and_close<'a, S: PageStore, T: PageStore>(
     ensures full { result.1 ≡ Err (Fault.Open OpenFault.StoreFull)
         → IsTrue (S.seen old.old).is_faithful → IsTrue (T.seen new).is_faithful
         → IsRightlyFull (S.seen old.old) (T.seen new) (T.seen result.0) }
+
+    // That it is full is said in the closing only where the new one has no room for the catalogue beside the pages that
+    // the legs take.
+    ensures closing_full { IsErrOf result.1 (Fault.Run RunFault.StoreFull)
+        → IsTrue (S.seen old.old).is_faithful → IsTrue (T.seen new).is_faithful
+        → BringsTooMuch (S.seen old.old) (T.seen new) }
 
     // Where the closing is refused, the new one is not finished, or all of its pages but page 0 are
     // those of a store that holds the book, and are synced; so it is of whatever the other store

@@ -1,5 +1,6 @@
 //! The files of all parts of a file.
-ghost use Rattle.std.specs.Prelude.{◌≡◌, ◌<◌, ◌≤◌, ◌+◌, ◌^◌, ◌∷◌, [], List, ℕ, ◌⊎◌, Option, IfErr, OnErr, OnOk, length, map};
+ghost use Rattle.std.specs.Prelude.{◌≡◌, ◌<◌, ◌≤◌, ◌+◌, ◌^◌, ◌∷◌, [], List, ℕ, ◌⊎◌, Option, IfErr, IsErrOf, OnErr, OnOk, length, map};
+ghost use Rattle.pages.specs.Store.{HasRisen};
 ghost use Rattle.sessions.specs.Parts.{HasFirst, HasFirstTexts, Puts, parts_from, numbered, with_puts};
 
 use parts::parts;
@@ -19,13 +20,19 @@ pub trait PartFolder {
     /// it.
     ghost puts: { Self → Option Puts };
 
+    /// How often it was refused to give a name.
+    ghost refusals: { Self → ℕ };
+
     /// Gives the name of a part, by its number from 0, to a file of that text, in one step. Where
     /// it is refused, the names stand for what they stood for.
     fn put(&mut self, part: u64, text: &[u8]) -> Result<(), RunFault>
         ensures put { OnOk result
             (puts self.new ≡ with_puts (puts self.old) ((part, text.now) ∷ [])) }
         ensures stays { OnErr result (puts self.new ≡ puts self.old) }
-        ensures fault { IfErr result (λ e. (e ≡ RunFault.Memory) ⊎ (e ≡ RunFault.Output)) };
+        ensures fault { IfErr result (λ e. (e ≡ RunFault.Memory) ⊎ (e ≡ RunFault.Output)) }
+        ensures cause { IsErrOf result RunFault.Output
+            → HasRisen (refusals self.old) (refusals self.new) }
+        ensures later { refusals self.old ≤ refusals self.new };
 }
 
 /// Puts the texts of parts, of which the first has that number, into a folder.
@@ -36,6 +43,9 @@ fn put_texts<F: PartFolder>(folder: &mut F, first: u64, texts: &[Vec<u8>]) -> Re
     ensures some { OnErr result (HasFirstTexts first (map (λ text. text.items) texts.now)
         (F.puts folder.old) (F.puts folder.new)) }
     ensures fault { IfErr result (λ e. (e ≡ RunFault.Memory) ⊎ (e ≡ RunFault.Output)) }
+    ensures cause { IsErrOf result RunFault.Output
+        → HasRisen (F.refusals folder.old) (F.refusals folder.new) }
+    ensures later { F.refusals folder.old ≤ F.refusals folder.new }
 {
     let mut part = first;
     for text in texts {
@@ -68,6 +78,9 @@ pub fn put_parts<F: PartFolder>(
     ensures some { OnErr result (HasFirst first count n bytes.now
         (F.puts folder.old) (F.puts folder.new)) }
     ensures fault { IfErr result (λ e. (e ≡ RunFault.Memory) ⊎ (e ≡ RunFault.Output)) }
+    ensures cause { IsErrOf result RunFault.Output
+        → HasRisen (F.refusals folder.old) (F.refusals folder.new) }
+    ensures later { F.refusals folder.old ≤ F.refusals folder.new }
 {
     let mut done = 0;
     while done < count {

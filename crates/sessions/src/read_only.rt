@@ -1,6 +1,6 @@
 //! A store that cannot be written.
-ghost use Rattle.std.specs.Prelude.{◌≡◌, ◌≤◌, IsErr, OnErr, OnOk};
-ghost use Rattle.pages.specs.Store.{HasRisen, Faulted, MayUnsync, Stays, Tears, Unsyncs, Writes};
+ghost use Rattle.std.specs.Prelude.{◌≡◌, ◌<◌, ◌≤◌, Some, slice_get, IsTrue, IsErr, OnErr, OnOk};
+ghost use Rattle.pages.specs.Store.{HasRisen, Faulted, MayUnsync, SameUnsynced, Stays, Tears, Unsyncs, Writes};
 ghost use Rattle.pages.specs.declared.unsynced.Unsynced.TheVariants.{Nothing};
 
 use pages::{PageStore, StoreFault};
@@ -52,7 +52,23 @@ impl<S: PageStore> PageStore for ReadOnly<S> {
         self.store.most()
     }
 
-    fn read(&mut self, number: u32, page: &mut [u8; 4096]) -> Result<(), StoreFault> {
+    /// Reads a page of the store below, and is refused only where that fails.
+    fn read(&mut self, number: u32, page: &mut [u8; 4096]) -> Result<(), StoreFault>
+        requires { number < (⟦<ReadOnly<S> as PageStore>⟧.seen self.old).count }
+        ensures passes { OnErr result
+            (Faulted (S.seen self.old.store) (S.seen self.new.store)) }
+        ensures read { OnOk result
+            (IsTrue (⟦<ReadOnly<S> as PageStore>⟧.seen self.old).is_faithful
+            → slice_get (⟦<ReadOnly<S> as PageStore>⟧.seen self.old).pages number
+            ≡ Some page.new) }
+        ensures stays { Stays (⟦<ReadOnly<S> as PageStore>⟧.seen self.old)
+            (⟦<ReadOnly<S> as PageStore>⟧.seen self.new) }
+        ensures unsynced { SameUnsynced (⟦<ReadOnly<S> as PageStore>⟧.seen self.old)
+            (⟦<ReadOnly<S> as PageStore>⟧.seen self.new) }
+        ensures cause { OnErr result
+            (Faulted (⟦<ReadOnly<S> as PageStore>⟧.seen self.old)
+            (⟦<ReadOnly<S> as PageStore>⟧.seen self.new)) }
+    {
         match self.store.read(number, page) {
             Ok(()) => Ok(()),
             Err(_) => Err(self.failed()),

@@ -172,13 +172,16 @@ fn answer_of<'a>(ran: Result<(), RunFault>, closed: Result<(), RunFault>) -> Res
 
 /// Runs the script over the database of a store, closes it, and gives the store back, as
 /// `run_and_close` does (`Run`). Where there is no database it is refused as that was (`Open`).
+///
+/// What is answered is the run's fault, or else the closing's; what the closing came to stands behind it, and is `Ok`
+/// where there is no database.
 pub fn answer<'a, S: PageStore, W: Write>(
     alloc: Global,
     database: Result<Db<S>, (S, OpenFault)>,
     script: &[u8],
     files: &Files,
     out: &mut W,
-) -> (S, Result<(), Fault<'a>>)
+) -> (S, Result<(), Fault<'a>>, Result<(), RunFault>)
     // What was sent is exactly the text of the run over the book, and the store then holds the book
     // after it, in a tree of the same shape.
     ensures runs { OnOk result.1 (IfOk database (λ db. IsSoundDb db → HasPages db → IsIdle db
@@ -207,15 +210,15 @@ pub fn answer<'a, S: PageStore, W: Write>(
     // have failed only where it did; where there is no database it is the one that was given back, and
     // nothing is sent.
     ensures over { RunsOver S.seen W.contents database files.now out.old out.new
-        (lines_of script.now) result.1 (S.seen result.0) }
+        (lines_of script.now) result.1 result.2 (S.seen result.0) }
     ensures caused { IfOk database (λ db. IsErrOf result.1 (Fault.Run RunFault.Store)
         → Faulted (store_of db) (S.seen result.0)) }
 {
     match database {
         Ok(database) => {
             let (store, ran, closed) = run_and_close(alloc, database, script, files, out);
-            (store, answer_of(ran, closed))
+            (store, answer_of(ran, closed), closed)
         }
-        Err((store, fault)) => (store, Err(Fault::Open(fault))),
+        Err((store, fault)) => (store, Err(Fault::Open(fault)), Ok(())),
     }
 }

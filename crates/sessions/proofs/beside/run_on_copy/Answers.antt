@@ -29,7 +29,7 @@ returns-in-Ok-answered-clause-runs g c =
     each c.keep.result (λ limits. (book : Book) → B past shape limits book → R shape limits book) (λ limits.
     each c.keep.result (λ book. B past shape limits book → R shape limits book) (λ book.
     each c.keep.result (λ h. R shape limits book) (λ (h : B past shape limits book).
-    beside opened c.answer-store.result.1 c.keep.result c.args.files.now (g.W.Write.contents c.args.out.now) (g.W.Write.contents c.answer-store.new.out) (lines_of c.args.script.now) first last was is c.database-database.ensures.pages c.database-database.ensures.idle (over_opened g.F.Store.PageStore.seen g.W.Write.contents c.args.files.now c.args.out.now c.answer-store.new.out (lines_of c.args.script.now) (g.F.Store.PageStore.seen c.answer-store.result.0) c.answer-store.result.1 c.database-database.result c.answer-store.ensures.over) c.in-Ok-answered.is c.answer-store.ensures.runs kept
+    beside opened c.answer-store.result.1 c.keep.result c.args.files.now (g.W.Write.contents c.args.out.now) (g.W.Write.contents c.answer-store.new.out) (lines_of c.args.script.now) first last was is c.database-database.ensures.pages c.database-database.ensures.idle (over_opened g.F.Store.PageStore.seen g.W.Write.contents c.args.files.now c.args.out.now c.answer-store.new.out (lines_of c.args.script.now) (g.F.Store.PageStore.seen c.answer-store.result.0) c.answer-store.result.1 c.answer-store.result.2 c.database-database.result c.answer-store.ensures.over) c.in-Ok-answered.is c.answer-store.ensures.runs kept
     opened refl c.keep.result refl shape limits book faithful
     (begun_with opened first (store_in past) same c.args.how.is_new shape limits book faithful c.database-database.ensures.new c.database-database.ensures.kept h))))))
 
@@ -44,7 +44,7 @@ returns-in-Err-answered-clause-sent g c =
     let same = subst (λ h. IfSome h (λ p. first ≡ store_in p)) e c.in-Ok.ensures.copies in
     let faithful = subst (λ (s : Store). IsTrue s.is_faithful) (sym same) (tells past) in
     front_opened opened c.answer-store.result.1 c.args.files.now (g.W.Write.contents c.args.out.now) (g.W.Write.contents c.answer-store.new.out) lines shape limits book c.in-Err-answered.fault c.in-Err-answered.is
-    c.database-database.ensures.lives c.answer-store.ensures.sent (over_unsent g.F.Store.PageStore.seen g.W.Write.contents c.args.files.now c.args.out.now c.answer-store.new.out (lines_of c.args.script.now) (g.F.Store.PageStore.seen c.answer-store.result.0) c.answer-store.result.1 c.database-database.result c.answer-store.ensures.over)
+    c.database-database.ensures.lives c.answer-store.ensures.sent (over_unsent g.F.Store.PageStore.seen g.W.Write.contents c.args.files.now c.args.out.now c.answer-store.new.out (lines_of c.args.script.now) (g.F.Store.PageStore.seen c.answer-store.result.0) c.answer-store.result.1 c.answer-store.result.2 c.database-database.result c.answer-store.ensures.over)
     (begun_with opened first (store_in past) same c.args.how.is_new shape limits book faithful c.database-database.ensures.new c.database-database.ensures.kept h))
 
 pub returns-in-Ok-answered-clause-sent : goal.returns-in-Ok-answered-clause-sent
@@ -61,7 +61,7 @@ returns-in-Ok-answered-clause-sent g c =
     let pages = only_if (λ (db : DbView). IsTrue first.is_faithful → HasPages db) HasPages opened (λ db f. f faithful) c.database-database.ensures.pages in
     let idle = only_if (λ (db : DbView). IsTrue first.is_faithful → IsIdle db) IsIdle opened (λ db f. f faithful) c.database-database.ensures.idle in
     front_answered opened c.answer-store.result.1 c.args.files.now (g.W.Write.contents c.args.out.now) (g.W.Write.contents c.answer-store.new.out) lines last shape limits book c.in-Ok-answered.is
-    pages idle (over_opened g.F.Store.PageStore.seen g.W.Write.contents c.args.files.now c.args.out.now c.answer-store.new.out (lines_of c.args.script.now) (g.F.Store.PageStore.seen c.answer-store.result.0) c.answer-store.result.1 c.database-database.result c.answer-store.ensures.over) c.answer-store.ensures.runs
+    pages idle (over_opened g.F.Store.PageStore.seen g.W.Write.contents c.args.files.now c.args.out.now c.answer-store.new.out (lines_of c.args.script.now) (g.F.Store.PageStore.seen c.answer-store.result.0) c.answer-store.result.1 c.answer-store.result.2 c.database-database.result c.answer-store.ensures.over) c.answer-store.ensures.runs
     (begun_with opened first (store_in past) same c.args.how.is_new shape limits book faithful c.database-database.ensures.new c.database-database.ensures.kept h))
 
 pub returns-in-Err-clause-sent : goal.returns-in-Err-clause-sent
@@ -93,7 +93,7 @@ returns-in-Err-answered-clause-refused g c =
     let pages = only_if (λ (db : DbView). IsTrue first.is_faithful → HasPages db) HasPages opened (λ db f. f faithful) c.database-database.ensures.pages in
     let idle = only_if (λ (db : DbView). IsTrue first.is_faithful → IsIdle db) IsIdle opened (λ db f. f faithful) c.database-database.ensures.idle in
     refused_run c.args.files.now sent sent' lines last opened c.answer-store.result.1 shape limits book c.in-Err-answered.fault c.in-Err-answered.is
-    (over_unsent g.F.Store.PageStore.seen g.W.Write.contents c.args.files.now c.args.out.now c.answer-store.new.out (lines_of c.args.script.now) (g.F.Store.PageStore.seen c.answer-store.result.0) c.answer-store.result.1 c.database-database.result c.answer-store.ensures.over) (over_ended g.F.Store.PageStore.seen g.W.Write.contents c.args.files.now c.args.out.now c.answer-store.new.out (lines_of c.args.script.now) (g.F.Store.PageStore.seen c.answer-store.result.0) c.answer-store.result.1 c.database-database.result c.answer-store.ensures.over) c.database-database.ensures.lives pages idle
+    (over_unsent g.F.Store.PageStore.seen g.W.Write.contents c.args.files.now c.args.out.now c.answer-store.new.out (lines_of c.args.script.now) (g.F.Store.PageStore.seen c.answer-store.result.0) c.answer-store.result.1 c.answer-store.result.2 c.database-database.result c.answer-store.ensures.over) (over_ended g.F.Store.PageStore.seen g.W.Write.contents c.args.files.now c.args.out.now c.answer-store.new.out (lines_of c.args.script.now) (g.F.Store.PageStore.seen c.answer-store.result.0) c.answer-store.result.1 c.answer-store.result.2 c.database-database.result c.answer-store.ensures.over) c.database-database.ensures.lives pages idle
     (begun_with opened first (store_in past) same c.args.how.is_new shape limits book faithful c.database-database.ensures.new c.database-database.ensures.kept h))
 
 pub returns-in-Ok-answered-clause-refused : goal.returns-in-Ok-answered-clause-refused
@@ -111,7 +111,7 @@ returns-in-Ok-answered-clause-refused g c =
     let pages = only_if (λ (db : DbView). IsTrue first.is_faithful → HasPages db) HasPages opened (λ db f. f faithful) c.database-database.ensures.pages in
     let idle = only_if (λ (db : DbView). IsTrue first.is_faithful → IsIdle db) IsIdle opened (λ db f. f faithful) c.database-database.ensures.idle in
     refused_done c.args.files.now sent sent' lines last opened c.answer-store.result.1 shape limits book fault c.in-Ok-answered.is
-    pages idle (over_opened g.F.Store.PageStore.seen g.W.Write.contents c.args.files.now c.args.out.now c.answer-store.new.out (lines_of c.args.script.now) (g.F.Store.PageStore.seen c.answer-store.result.0) c.answer-store.result.1 c.database-database.result c.answer-store.ensures.over) c.answer-store.ensures.runs
+    pages idle (over_opened g.F.Store.PageStore.seen g.W.Write.contents c.args.files.now c.args.out.now c.answer-store.new.out (lines_of c.args.script.now) (g.F.Store.PageStore.seen c.answer-store.result.0) c.answer-store.result.1 c.answer-store.result.2 c.database-database.result c.answer-store.ensures.over) c.answer-store.ensures.runs
     (begun_with opened first (store_in past) same c.args.how.is_new shape limits book faithful c.database-database.ensures.new c.database-database.ensures.kept h))
 
 pub returns-in-Err-clause-over : goal.returns-in-Err-clause-over
@@ -126,8 +126,10 @@ returns-in-Err-answered-clause-over g c = inr (record {
   copies = c.in-Ok.ensures.copies;
   opened = c.database-database.result;
   opens = c.database-database.ensures.opens;
-  makes = made_or_not c.database-database.result (g.F.Store.PageStore.seen c.in-Ok.store) c.database-database.ensures.new c.database-database.ensures.made;
+  makes = made_or_not g.F.Store.PageStore.seen c.args.how.cache_pages c.database-database.result (g.F.Store.PageStore.seen c.in-Ok.store) c.database-database.ensures.new c.database-database.ensures.pages c.database-database.ensures.idle c.database-database.ensures.lives c.database-database.ensures.capacity c.database-database.ensures.synced
+      c.database-database.ensures.made c.database-database.ensures.caused c.database-database.ensures.full;
   answered = c.answer-store.result.1;
+  closed = c.answer-store.result.2;
   store = g.F.Store.PageStore.seen c.answer-store.result.0;
   run = c.answer-store.ensures.over;
   kept = tt;
@@ -146,8 +148,10 @@ returns-in-Ok-answered-clause-over g c =
       copies = c.in-Ok.ensures.copies;
       opened = c.database-database.result;
       opens = c.database-database.ensures.opens;
-      makes = made_or_not c.database-database.result (g.F.Store.PageStore.seen c.in-Ok.store) c.database-database.ensures.new c.database-database.ensures.made;
+      makes = made_or_not g.F.Store.PageStore.seen c.args.how.cache_pages c.database-database.result (g.F.Store.PageStore.seen c.in-Ok.store) c.database-database.ensures.new c.database-database.ensures.pages c.database-database.ensures.idle c.database-database.ensures.lives c.database-database.ensures.capacity c.database-database.ensures.synced
+          c.database-database.ensures.made c.database-database.ensures.caused c.database-database.ensures.full;
       answered = answered;
+      closed = c.answer-store.result.2;
       store = last;
       run = c.answer-store.ensures.over;
       kept = on_both (answered ≡ Ok tt) (NameIsKept last was is) c.keep.result c.in-Ok-answered.is kept;
