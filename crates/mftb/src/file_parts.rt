@@ -4,6 +4,7 @@ ghost use Rattle.std.specs.String.{string_bytes};
 ghost use Rattle.mftb.specs.Names.{part_name};
 
 use arguments::Parts;
+use pages::Refusals;
 use sessions::{Fault, MOST_BYTES, PartFolder, put_parts, read_named};
 use std::alloc::{AllocError, Global};
 use std::fs::File;
@@ -18,7 +19,7 @@ struct SystemParts<'a, R: Files<File = File> + AllocGlobal> {
     rt: &'a R,
     folder: &'a str,
     /// How often it was refused to give a name.
-    refusals: u64,
+    refusals: Refusals,
 }
 
 /// Makes the file of a name, of those bytes.
@@ -48,8 +49,7 @@ impl<'a, R: Files<File = File> + AllocGlobal> PartFolder for SystemParts<'a, R> 
             || fs::rename(self.rt, beside, name).is_err()
         {
             let _ = fs::remove_file(self.rt, beside);
-            self.refusals = self.refusals.saturating_add(1);
-            return Err(RunFault::Output);
+            return self.refusals.of(Err(RunFault::Output));
         }
         Ok(())
     }
@@ -72,7 +72,7 @@ pub(crate) fn write_parts<'a, R: Files<File = File> + AllocGlobal>(
     let mut folder = SystemParts {
         rt,
         folder: task.folder,
-        refusals: 0,
+        refusals: Refusals::none(),
     };
     let (n, first, count) = (
         u64::from(task.parts),

@@ -2,7 +2,7 @@
 ghost use Rattle.std.specs.Prelude.{◌≡◌, ◌≤◌, true, None, OnErr};
 ghost use Rattle.pages.specs.Store.{HasRisen};
 
-use pages::ByteFile;
+use pages::{ByteFile, Refusals};
 use sessions::Cause;
 use std::cell::Cell;
 use std::fs::{File, OpenFile};
@@ -16,8 +16,7 @@ pub(crate) struct HeldFile<'a, F = File> {
     file: F,
     /// Why a call on it failed last, where that is to be known.
     cause: Option<&'a Cell<Option<Cause>>>,
-    /// How many calls were refused.
-    refusals: u64,
+    refusals: Refusals,
 }
 
 impl<'a, F: FileExt + OpenFile> HeldFile<'a, F> {
@@ -28,7 +27,7 @@ impl<'a, F: FileExt + OpenFile> HeldFile<'a, F> {
         HeldFile {
             file,
             cause: None,
-            refusals: 0,
+            refusals: Refusals::none(),
         }
     }
 
@@ -39,22 +38,20 @@ impl<'a, F: FileExt + OpenFile> HeldFile<'a, F> {
         HeldFile {
             file,
             cause: Some(cause),
-            refusals: 0,
+            refusals: Refusals::none(),
         }
     }
 
     /// Counts a call that was refused, and notes why it was.
     fn note(&mut self, answer: io::Result<()>) -> io::Result<()>
+        ensures same { result ≡ answer }
         ensures cause { OnErr result (HasRisen self.old.refusals self.new.refusals) }
         ensures later { self.old.refusals ≤ self.new.refusals }
     {
-        if let Err(error) = &answer {
-            self.refusals = self.refusals.saturating_add(1);
-            if let Some(cause) = self.cause {
-                cause.set(Some(Cause::from(error.kind())));
-            }
+        if let (Err(error), Some(cause)) = (&answer, self.cause) {
+            cause.set(Some(Cause::from(error.kind())));
         }
-        answer
+        self.refusals.of(answer)
     }
 }
 

@@ -1,13 +1,12 @@
 //! The folder of a store's file, as the system has it.
-ghost use Rattle.std.specs.Prelude.{◌≡◌, ◌≤◌, false, None, IfErr, IsTrue, OnOk};
-ghost use Rattle.pages.specs.Store.{HasRisen};
+ghost use Rattle.std.specs.Prelude.{◌≡◌, false, None, IfErr, IsTrue, OnOk};
 ghost use Rattle.sessions.specs.Folder.{IsOfFolder};
 
 use crate::held_file::HeldFile;
 use crate::locks::{Held, Hold, hold_name, is_named, open_held};
 use crate::names::Names;
 use monitor::{Noted, Progress};
-use pages::{FileStore, PageStore};
+use pages::{FileStore, PageStore, Refusals};
 use sessions::{Cause, Fault, Folder};
 use std::fs::{File, Metadata};
 use std::io::{Eprint, Read, Write};
@@ -41,7 +40,7 @@ pub(crate) struct SystemFolder<'a, 'p, R: Files<File = File> + Clock + Eprint> {
     /// Whether the system was asked to make each name last that was given.
     is_settled: bool,
     /// How often it was refused to make a copy, to make it last, or to give it the name.
-    refusals: u64,
+    refusals: Refusals,
 }
 
 /// Takes a file's name away, where it has one.
@@ -152,7 +151,7 @@ impl<'a, 'p, R: Files<File = File> + Clock + Eprint> SystemFolder<'a, 'p, R> {
                 lock,
                 is_made: false,
                 is_settled: true,
-                refusals: 0,
+                refusals: Refusals::none(),
             }),
             Err(fault) => {
                 let _ = fs::remove_file(rt, names.lock.as_str());
@@ -164,16 +163,6 @@ impl<'a, 'p, R: Files<File = File> + Clock + Eprint> SystemFolder<'a, 'p, R> {
     /// Gives the folder back to other runs.
     pub(crate) fn give_back(self) {
         let _ = fs::remove_file(self.rt, self.names.lock.as_str());
-    }
-
-    /// Counts a refusal.
-    fn count_refusal(&mut self)
-        ensures refusals { HasRisen self.old.refusals self.new.refusals }
-        ensures later { self.old.refusals ≤ self.new.refusals }
-        ensures settled { self.new.is_settled ≡ self.old.is_settled }
-        ensures made { self.new.is_made ≡ self.old.is_made }
-    {
-        self.refusals = self.refusals.saturating_add(1);
     }
 
     /// Makes the copy. Where there are no locks, another run may have replaced the store before, whose
@@ -219,19 +208,11 @@ impl<'a, 'p, R: Files<File = File> + Clock + Eprint> Folder for SystemFolder<'a,
     ghost has_copy = { λ s. s.is_made };
 
     fn copy<'b>(&mut self) -> Result<Noted<'a, 'p, FileStore<HeldFile<'a, File>>, R>, Fault<'b>> {
-        let copy = match self.make_copy() {
-            Ok(copy) => copy,
-            Err(fault) => {
-                self.count_refusal();
-                return Err(fault);
-            }
-        };
+        let made = self.make_copy();
+        let copy = self.refusals.of(made)?;
         match FileStore::new(HeldFile::noted(copy, &self.names.cause)) {
             Ok(store) => Ok(Noted::new(store, self.progress)),
-            Err(_) => {
-                self.count_refusal();
-                Err(Fault::NoStore(Cause::Other))
-            }
+            Err(_) => self.refusals.of(Err(Fault::NoStore(Cause::Other))),
         }
     }
 
@@ -250,8 +231,7 @@ impl<'a, 'p, R: Files<File = File> + Clock + Eprint> Folder for SystemFolder<'a,
         store: &mut Noted<'a, 'p, FileStore<HeldFile<'a, File>>, R>,
     ) -> Result<(), Fault<'b>> {
         if store.sync().is_err() {
-            self.count_refusal();
-            return Err(Fault::Run(RunFault::Store));
+            return self.refusals.of(Err(Fault::Run(RunFault::Store)));
         }
         Ok(())
     }
@@ -263,8 +243,8 @@ impl<'a, 'p, R: Files<File = File> + Clock + Eprint> Folder for SystemFolder<'a,
         let (copy, name) = (self.names.copy.as_str(), self.names.store.as_str());
         self.is_settled = false;
         if let Err(error) = fs::rename(self.rt, copy, name) {
-            self.count_refusal();
-            return Err(Fault::NoStore(Cause::from(error.kind())));
+            let refused = Err(Fault::NoStore(Cause::from(error.kind())));
+            return self.refusals.of(refused);
         }
         self.is_made = false;
         Ok(())

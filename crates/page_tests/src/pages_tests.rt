@@ -184,22 +184,16 @@ fn a_rest_is_no_page(rt: HostRuntime) -> Result<(), Fail> {
 #[derive(Drop)]
 struct Broken {
     len: u64,
-    refusals: u64,
+    refusals: Refusals,
 }
 
-impl Broken {
-    ghost use Rattle.std.specs.Prelude.{◌≤◌, IsErr};
-    ghost use Rattle.pages.specs.Store.{HasRisen};
+ghost use Rattle.std.specs.Prelude.{IsErr};
 
-    /// Refuses a call.
-    fn refused(&mut self) -> io::Result<()>
-        ensures refused { IsErr result }
-        ensures cause { HasRisen self.old.refusals self.new.refusals }
-        ensures later { self.old.refusals ≤ self.new.refusals }
-    {
-        self.refusals = self.refusals.saturating_add(1);
-        Err(io::Error::from(io::ErrorKind::Other))
-    }
+/// A refusal.
+fn refusal() -> io::Result<()>
+    ensures { IsErr result }
+{
+    Err(io::Error::from(io::ErrorKind::Other))
 }
 
 impl ByteFile for Broken {
@@ -216,15 +210,15 @@ impl ByteFile for Broken {
     }
 
     fn read_at(&mut self, _place: u64, _buf: &mut [u8]) -> io::Result<()> {
-        self.refused()
+        self.refusals.of(refusal())
     }
 
     fn write_at(&mut self, _place: u64, _buf: &[u8]) -> io::Result<()> {
-        self.refused()
+        self.refusals.of(refusal())
     }
 
     fn sync(&mut self) -> io::Result<()> {
-        self.refused()
+        self.refusals.of(refusal())
     }
 }
 
@@ -232,7 +226,7 @@ impl ByteFile for Broken {
 fn a_file_that_fails(rt: HostRuntime) -> Result<(), Fail> {
     let mut store = FileStore::new(Broken {
         len: 4096,
-        refusals: 0,
+        refusals: Refusals::none(),
     })?;
     assert!(rt; got(&mut store, 0).is_none());
     assert!(rt; !put(&mut store, 1, &worked_page()));

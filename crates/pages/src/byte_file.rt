@@ -1,5 +1,5 @@
 //! The contract of a file of bytes.
-ghost use Rattle.std.specs.Prelude.{ℕ, ◌≡◌, ◌≤◌, ◌+◌, Bool, IsTrue, List, Option, length, slice_range, IfOk, IfSome, OnErr, OnOk};
+ghost use Rattle.std.specs.Prelude.{ℕ, ◌≡◌, ◌≤◌, ◌+◌, Bool, IsTrue, List, Option, is_some, length, slice_range, IfOk, IfSome, IsOk, OnErr, OnOk};
 ghost use Rattle.pages.specs.Bytes.{StaysAround};
 ghost use Rattle.pages.specs.Store.{HasRisen};
 
@@ -21,9 +21,10 @@ pub trait ByteFile {
     /// greater number.
     ghost refusals: { Self → ℕ };
 
-    /// How many bytes there are.
+    /// How many bytes there are, which a file that tells its bytes does not refuse to say.
     fn len(&self) -> io::Result<u64>
-        ensures { IfOk result (λ n. IfSome (bytes self.now) (λ xs. n ≡ length xs)) };
+        ensures value { IfOk result (λ n. IfSome (bytes self.now) (λ xs. n ≡ length xs)) }
+        ensures told { IsTrue (is_some (bytes self.now)) → IsOk result };
 
     /// Reads the bytes from a place on, as many as `buf` has.
     fn read_at(&mut self, place: u64, buf: &mut [u8]) -> io::Result<()>

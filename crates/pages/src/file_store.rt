@@ -1,5 +1,5 @@
 //! A store in a file.
-ghost use Rattle.std.specs.Prelude.{◌≡◌, ◌<◌, ◌≤◌, ◌^◌, ◌-◌, ◌/◌, is_some, length, IfOk, IsErr, IfSome, IsTrue};
+ghost use Rattle.std.specs.Prelude.{◌≡◌, ◌<◌, ◌≤◌, ◌^◌, ◌-◌, ◌/◌, is_some, length, IfOk, IsErr, IsOk, IfSome, IsTrue};
 ghost use Rattle.std.proofs.Common.{arith};
 ghost use Rattle.pages.specs.Bytes.{HoldPages, known_pages, whole_pages};
 ghost use Rattle.pages.specs.declared.unsynced.Unsynced.TheVariants.{Nothing, Others};
@@ -45,6 +45,8 @@ impl<F: ByteFile> FileStore<F> {
             (⟦<FileStore<F> as PageStore>⟧.seen s).unsynced ≡ Others) }
         ensures too_long { IfSome (F.bytes file)
             (λ xs. 2 ^ 32 ≤ length xs / 4096 → IsErr result) }
+        ensures opens { IfSome (F.bytes file)
+            (λ xs. length xs / 4096 < 2 ^ 32 → IsOk result) }
     {
         let Ok(len) = file.len() else {
             return Err(StoreFault);

@@ -1,7 +1,8 @@
 //! A store that fails on purpose.
 ghost use Rattle.std.specs.Prelude.{◌≡◌, ◌≢◌, ◌<◌, ◌≤◌, ◌↔◌, Some, slice_get, IsTrue, IsErr, OnErr, OnOk};
-ghost use Rattle.pages.specs.Store.{HasRisen, Faulted, IsSynced, MayUnsync, SameUnsynced, Stays, Tears, Unsyncs, Writes};
+ghost use Rattle.pages.specs.Store.{Faulted, IsSynced, MayUnsync, SameUnsynced, Stays, Tears, Unsyncs, Writes};
 
+use crate::refusals::Refusals;
 use crate::sealing::blank;
 use crate::store::{PageStore, StoreFault};
 
@@ -16,7 +17,7 @@ pub struct Fuse<S> {
     /// How many calls still pass; `None` once the fuse has burnt and passes all.
     left: Option<u64>,
     once: bool,
-    faults: u64,
+    faults: Refusals,
 }
 
 impl<S: PageStore> Fuse<S> {
@@ -35,7 +36,7 @@ impl<S: PageStore> Fuse<S> {
             store,
             left: Some(calls),
             once,
-            faults: 0,
+            faults: Refusals::none(),
         }
     }
 
@@ -84,18 +85,6 @@ impl<S: PageStore> Fuse<S> {
             let _ = self.store.write(number, &blank());
         }
     }
-
-    /// Counts a fault.
-    fn failed(&mut self) -> StoreFault
-        ensures store { self.new.store ≡ self.old.store }
-        ensures left { self.new.left ≡ self.old.left }
-        ensures once { self.new.once ≡ self.old.once }
-        ensures cause { HasRisen self.old.faults self.new.faults }
-        ensures faults { self.old.faults ≤ self.new.faults }
-    {
-        self.faults = self.faults.saturating_add(1);
-        StoreFault
-    }
 }
 
 impl<S: PageStore> PageStore for Fuse<S> {
@@ -133,12 +122,9 @@ impl<S: PageStore> PageStore for Fuse<S> {
             (⟦<Fuse<S> as PageStore>⟧.seen self.new)) }
     {
         if self.burns() {
-            return Err(self.failed());
+            return self.faults.of(Err(StoreFault));
         }
-        match self.store.read(number, page) {
-            Ok(()) => Ok(()),
-            Err(_) => Err(self.failed()),
-        }
+        self.faults.of(self.store.read(number, page))
     }
 
     /// Writes a page of the store below, unless the fuse fails the call, and then leaves a page of
@@ -164,12 +150,9 @@ impl<S: PageStore> PageStore for Fuse<S> {
     {
         if self.burns() {
             self.spoil(number);
-            return Err(self.failed());
+            return self.faults.of(Err(StoreFault));
         }
-        match self.store.write(number, page) {
-            Ok(()) => Ok(()),
-            Err(_) => Err(self.failed()),
-        }
+        self.faults.of(self.store.write(number, page))
     }
 
     /// Syncs the store below, unless the fuse fails the call.
@@ -188,11 +171,8 @@ impl<S: PageStore> PageStore for Fuse<S> {
             (⟦<Fuse<S> as PageStore>⟧.seen self.old) (⟦<Fuse<S> as PageStore>⟧.seen self.new)) }
     {
         if self.burns() {
-            return Err(self.failed());
+            return self.faults.of(Err(StoreFault));
         }
-        match self.store.sync() {
-            Ok(()) => Ok(()),
-            Err(_) => Err(self.failed()),
-        }
+        self.faults.of(self.store.sync())
     }
 }

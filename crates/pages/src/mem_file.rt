@@ -1,17 +1,17 @@
 //! A file of bytes in memory.
-ghost use Rattle.std.specs.Prelude.{◌≡◌, ◌≤◌, ◌+◌, length, true, Some};
+ghost use Rattle.std.specs.Prelude.{◌≡◌, ◌≤◌, ◌+◌, length, slice_range, true, IfSome, IsOk, IsTrue, OnErr, OnOk, Some};
 ghost use Rattle.std.specs.List.{replace_range};
 ghost use Rattle.pages.specs.Store.{HasRisen};
 
 use crate::byte_file::ByteFile;
+use crate::refusals::Refusals;
 use std::io;
 
 /// A file in memory, which tells its bytes.
 #[derive(Drop)]
 pub struct MemFile {
     bytes: Vec<u8>,
-    /// How many calls were refused.
-    refusals: u64,
+    refusals: Refusals,
 }
 
 /// Writes bytes over as many from a place on.
@@ -28,17 +28,10 @@ impl MemFile {
         ensures bytes { ⟦<MemFile as ByteFile>⟧.bytes result ≡ Some bytes.items }
         ensures refusals { ⟦<MemFile as ByteFile>⟧.refusals result ≡ 0 }
     {
-        MemFile { bytes, refusals: 0 }
-    }
-
-    /// Counts a refusal.
-    fn refused(&mut self, kind: io::ErrorKind) -> io::Error
-        ensures bytes { self.new.bytes ≡ self.old.bytes }
-        ensures cause { HasRisen self.old.refusals self.new.refusals }
-        ensures later { self.old.refusals ≤ self.new.refusals }
-    {
-        self.refusals = self.refusals.saturating_add(1);
-        io::Error::from(kind)
+        MemFile {
+            bytes,
+            refusals: Refusals::none(),
+        }
     }
 }
 
@@ -53,30 +46,56 @@ impl ByteFile for MemFile {
         Ok(self.bytes.len() as u64)
     }
 
-    fn read_at(&mut self, place: u64, buf: &mut [u8]) -> io::Result<()> {
+    /// Reads the bytes from a place on, as many as `buf` has, and is refused only where there are not so many.
+    fn read_at(&mut self, place: u64, buf: &mut [u8]) -> io::Result<()>
+        ensures within { IfSome (⟦<MemFile as ByteFile>⟧.bytes self.old)
+            (λ xs. place + length buf.old ≤ length xs → IsOk result) }
+        ensures read { OnOk result (IfSome (⟦<MemFile as ByteFile>⟧.bytes self.old)
+            (λ xs. slice_range xs place (place + length buf.new) ≡ buf.new)) }
+        ensures stays { ⟦<MemFile as ByteFile>⟧.bytes self.new
+            ≡ ⟦<MemFile as ByteFile>⟧.bytes self.old }
+        ensures synced { ⟦<MemFile as ByteFile>⟧.is_synced self.new
+            ≡ ⟦<MemFile as ByteFile>⟧.is_synced self.old }
+        ensures cause { OnErr result (HasRisen (⟦<MemFile as ByteFile>⟧.refusals self.old)
+            (⟦<MemFile as ByteFile>⟧.refusals self.new)) }
+        ensures later { ⟦<MemFile as ByteFile>⟧.refusals self.old
+            ≤ ⟦<MemFile as ByteFile>⟧.refusals self.new }
+    {
         let start = place as usize;
         match start.checked_add(buf.len()) {
             Some(end) if end <= self.bytes.len() => {
                 buf.copy_from_slice(&self.bytes[start..end]);
                 Ok(())
             }
-            _ => Err(self.refused(io::ErrorKind::UnexpectedEof)),
+            _ => self.refusals.of(Err(io::Error::from(io::ErrorKind::UnexpectedEof))),
         }
     }
 
     fn write_at(&mut self, place: u64, buf: &[u8]) -> io::Result<()> {
         let start = place as usize;
         let Some(end) = start.checked_add(buf.len()) else {
-            return Err(self.refused(io::ErrorKind::FileTooLarge));
+            return self.refusals.of(Err(io::Error::from(io::ErrorKind::FileTooLarge)));
         };
         if end > self.bytes.len() && self.bytes.resize(end, 0).is_err() {
-            return Err(self.refused(io::ErrorKind::OutOfMemory));
+            return self.refusals.of(Err(io::Error::from(io::ErrorKind::OutOfMemory)));
         }
         overwrite(&mut self.bytes, start, buf);
         Ok(())
     }
 
-    fn sync(&mut self) -> io::Result<()> {
+    /// Syncs nothing, as there is no disk, and is not refused.
+    fn sync(&mut self) -> io::Result<()>
+        ensures never { IsOk result }
+        ensures stays { ⟦<MemFile as ByteFile>⟧.bytes self.new
+            ≡ ⟦<MemFile as ByteFile>⟧.bytes self.old }
+        ensures synced { OnOk result (IsTrue (⟦<MemFile as ByteFile>⟧.is_synced self.new)) }
+        ensures unsynced { OnErr result (⟦<MemFile as ByteFile>⟧.is_synced self.new
+            ≡ ⟦<MemFile as ByteFile>⟧.is_synced self.old) }
+        ensures cause { OnErr result (HasRisen (⟦<MemFile as ByteFile>⟧.refusals self.old)
+            (⟦<MemFile as ByteFile>⟧.refusals self.new)) }
+        ensures later { ⟦<MemFile as ByteFile>⟧.refusals self.old
+            ≤ ⟦<MemFile as ByteFile>⟧.refusals self.new }
+    {
         Ok(())
     }
 }

@@ -3,6 +3,7 @@ ghost use Rattle.std.specs.Prelude.{◌≡◌, ◌<◌, ◌≤◌, ◌^◌, true
 ghost use Rattle.std.proofs.Common.{arith};
 ghost use Rattle.pages.specs.Store.{empty_store, with_byte, Faulted, IsSynced, MayUnsync, SameUnsynced, Stays, Tears, Unsyncs, Writes};
 
+use crate::refusals::Refusals;
 use crate::store::{PageStore, StoreFault};
 use crate::unsynced::Unsynced;
 use std::alloc::Global;
@@ -11,7 +12,7 @@ use std::alloc::Global;
 pub struct MemStore {
     pages: Vec<[u8; 4096]>,
     most: u32,
-    faults: u64,
+    faults: Refusals,
     unsynced: Unsynced,
     ghost within: { vec_len pages ≤ most },
     ghost fits: { most < 2 ^ 32 },
@@ -37,7 +38,7 @@ impl MemStore {
         MemStore {
             pages: Vec::new(alloc),
             most,
-            faults: 0,
+            faults: Refusals::none(),
             unsynced: Unsynced::Nothing,
         }
     }
@@ -121,10 +122,7 @@ impl PageStore for MemStore {
         }
         match self.pages.push(*page) {
             Ok(()) => Ok(()),
-            Err(_) => {
-                self.faults = self.faults.saturating_add(1);
-                Err(StoreFault)
-            }
+            Err(_) => self.faults.of(Err(StoreFault)),
         }
     }
 

@@ -1,8 +1,8 @@
 //! A file of the system.
-ghost use Rattle.std.specs.Prelude.{◌≡◌, ◌≤◌, true, None, IfOk, OnErr};
-ghost use Rattle.pages.specs.Store.{HasRisen};
+ghost use Rattle.std.specs.Prelude.{◌≡◌, true, None, IfOk};
 
 use crate::byte_file::ByteFile;
+use crate::refusals::Refusals;
 use std::fs::{File, OpenFile};
 use std::io;
 use std::os::unix::fs::FileExt;
@@ -13,19 +13,7 @@ use std::rt::Files;
 #[derive(Drop)]
 pub struct SystemFile<F = File> {
     file: F,
-    /// How many calls were refused.
-    refusals: u64,
-}
-
-/// Counts a call that was refused.
-fn counted(refusals: &mut u64, answer: io::Result<()>) -> io::Result<()>
-    ensures cause { OnErr result (HasRisen refusals.old refusals.new) }
-    ensures later { refusals.old ≤ refusals.new }
-{
-    if answer.is_err() {
-        *refusals = refusals.saturating_add(1);
-    }
-    answer
+    refusals: Refusals,
 }
 
 impl<F: FileExt + OpenFile> SystemFile<F> {
@@ -36,7 +24,10 @@ impl<F: FileExt + OpenFile> SystemFile<F> {
         let mut options = File::options();
         options.read(true).write(true).create(true);
         let file = options.open(rt, path)?;
-        Ok(SystemFile { file, refusals: 0 })
+        Ok(SystemFile {
+            file,
+            refusals: Refusals::none(),
+        })
     }
 }
 
@@ -52,14 +43,14 @@ impl<F: FileExt + OpenFile> ByteFile for SystemFile<F> {
     }
 
     fn read_at(&mut self, place: u64, buf: &mut [u8]) -> io::Result<()> {
-        counted(&mut self.refusals, self.file.read_exact_at(buf, place))
+        self.refusals.of(self.file.read_exact_at(buf, place))
     }
 
     fn write_at(&mut self, place: u64, buf: &[u8]) -> io::Result<()> {
-        counted(&mut self.refusals, self.file.write_all_at(buf, place))
+        self.refusals.of(self.file.write_all_at(buf, place))
     }
 
     fn sync(&mut self) -> io::Result<()> {
-        counted(&mut self.refusals, self.file.sync_all())
+        self.refusals.of(self.file.sync_all())
     }
 }

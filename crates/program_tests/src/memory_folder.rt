@@ -1,10 +1,9 @@
 //! A folder in memory, which tells what the name of its store has stood for, and fails at a call.
-ghost use Rattle.std.specs.Prelude.{◌≡◌, ◌∷◌, ◌<◌, ◌≤◌, ◌^◌, ◌-◌, map, option_map, true, vec_len, Some, IfOk};
+ghost use Rattle.std.specs.Prelude.{◌≡◌, ◌∷◌, ◌<◌, ◌^◌, ◌-◌, map, option_map, true, vec_len, Some, IfOk};
 ghost use Rattle.std.proofs.Common.{arith};
-ghost use Rattle.pages.specs.Store.{HasRisen};
 ghost use Rattle.sessions.specs.Folder.{pages_in};
 
-use pages::{PageStore, StoreFault, Unsynced};
+use pages::{PageStore, Refusals, StoreFault, Unsynced};
 use sessions::{Fault, Folder};
 use std::alloc::{AllocError, Global};
 use std::collections::VecDeque;
@@ -36,23 +35,10 @@ impl Calls {
 #[derive(Drop)]
 pub(crate) struct MemCopy {
     pages: Vec<[u8; 4096]>,
-    faults: u64,
+    faults: Refusals,
     unsynced: Unsynced,
     calls: Calls,
     ghost within: { vec_len pages < 2 ^ 32 },
-}
-
-impl MemCopy {
-    /// Counts a fault.
-    fn failed(&mut self) -> StoreFault
-        ensures pages { self.new.pages ≡ self.old.pages }
-        ensures unsynced { self.new.unsynced ≡ self.old.unsynced }
-        ensures cause { HasRisen self.old.faults self.new.faults }
-        ensures faults { self.old.faults ≤ self.new.faults }
-    {
-        self.faults = self.faults.saturating_add(1);
-        StoreFault
-    }
 }
 
 impl PageStore for MemCopy {
@@ -83,7 +69,7 @@ impl PageStore for MemCopy {
 
     fn read(&mut self, number: u32, page: &mut [u8; 4096]) -> Result<(), StoreFault> {
         if self.calls.burns() {
-            return Err(self.failed());
+            return self.faults.of(Err(StoreFault));
         }
         *page = self.pages[number as usize];
         Ok(())
@@ -92,7 +78,7 @@ impl PageStore for MemCopy {
     fn write(&mut self, number: u32, page: &[u8; 4096]) -> Result<(), StoreFault> {
         self.unsynced = self.unsynced.with_written(number);
         if self.calls.burns() {
-            return Err(self.failed());
+            return self.faults.of(Err(StoreFault));
         }
         let place = number as usize;
         if place < self.pages.len() {
@@ -101,13 +87,13 @@ impl PageStore for MemCopy {
         }
         match self.pages.push(*page) {
             Ok(()) => Ok(()),
-            Err(_) => Err(self.failed()),
+            Err(_) => self.faults.of(Err(StoreFault)),
         }
     }
 
     fn sync(&mut self) -> Result<(), StoreFault> {
         if self.calls.burns() {
-            return Err(self.failed());
+            return self.faults.of(Err(StoreFault));
         }
         self.unsynced = Unsynced::Nothing;
         Ok(())
@@ -124,7 +110,7 @@ pub(crate) struct MemFolder {
     past: VecDeque<Option<Vec<[u8; 4096]>>>,
     calls: Calls,
     is_settled: bool,
-    refusals: u64,
+    refusals: Refusals,
     has_copy: bool,
 }
 
@@ -137,7 +123,7 @@ impl MemFolder {
             past: VecDeque::new(alloc),
             calls,
             is_settled: true,
-            refusals: 0,
+            refusals: Refusals::none(),
             has_copy: false,
         }
     }
@@ -170,18 +156,6 @@ impl MemFolder {
         self.is_settled
     }
 
-    /// Counts a refusal.
-    fn refused(&mut self)
-        ensures refusals { HasRisen self.old.refusals self.new.refusals }
-        ensures later { self.old.refusals ≤ self.new.refusals }
-        ensures file { self.new.file ≡ self.old.file }
-        ensures past { self.new.past ≡ self.old.past }
-        ensures settled { self.new.is_settled ≡ self.old.is_settled }
-        ensures copy { self.new.has_copy ≡ self.old.has_copy }
-    {
-        self.refusals = self.refusals.saturating_add(1);
-    }
-
     /// The pages of a copy of the store's file.
     fn pages(&self) -> Result<Vec<[u8; 4096]>, AllocError>
         ensures { IfOk result (λ v. v.items ≡ pages_in (option_map (λ v. v.items) self.now.file)) }
@@ -207,23 +181,19 @@ impl Folder for MemFolder {
 
     fn copy<'a>(&mut self) -> Result<MemCopy, Fault<'a>> {
         if self.calls.burns() {
-            self.refused();
-            return Err(Fault::Run(RunFault::Store));
+            return self.refusals.of(Err(Fault::Run(RunFault::Store)));
         }
         match self.pages() {
             Ok(pages) if pages.len() <= u32::MAX as usize => {
                 self.has_copy = true;
                 Ok(MemCopy {
                     pages,
-                    faults: 0,
+                    faults: Refusals::none(),
                     unsynced: Unsynced::Others,
                     calls: self.calls,
                 })
             }
-            Ok(_) | Err(_) => {
-                self.refused();
-                Err(Fault::Run(RunFault::Memory))
-            }
+            Ok(_) | Err(_) => self.refusals.of(Err(Fault::Run(RunFault::Memory))),
         }
     }
 
@@ -233,8 +203,7 @@ impl Folder for MemFolder {
 
     fn sync<'a>(&mut self, store: &mut MemCopy) -> Result<(), Fault<'a>> {
         if store.sync().is_err() {
-            self.refused();
-            return Err(Fault::Run(RunFault::Store));
+            return self.refusals.of(Err(Fault::Run(RunFault::Store)));
         }
         Ok(())
     }
@@ -243,8 +212,7 @@ impl Folder for MemFolder {
         self.calls = store.calls;
         self.is_settled = false;
         if self.calls.burns() {
-            self.refused();
-            return Err(Fault::Run(RunFault::Store));
+            return self.refusals.of(Err(Fault::Run(RunFault::Store)));
         }
         let old = self.file.take();
         match self.past.push_front(old) {
@@ -255,8 +223,7 @@ impl Folder for MemFolder {
             }
             Err(refused) => {
                 self.file = refused.value;
-                self.refused();
-                Err(Fault::Run(RunFault::Memory))
+                self.refusals.of(Err(Fault::Run(RunFault::Memory)))
             }
         }
     }

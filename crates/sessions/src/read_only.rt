@@ -1,9 +1,9 @@
 //! A store that cannot be written.
-ghost use Rattle.std.specs.Prelude.{◌≡◌, ◌<◌, ◌≤◌, Some, slice_get, IsTrue, IsErr, OnErr, OnOk};
-ghost use Rattle.pages.specs.Store.{HasRisen, Faulted, MayUnsync, SameUnsynced, Stays, Tears, Unsyncs, Writes};
+ghost use Rattle.std.specs.Prelude.{◌≡◌, ◌<◌, Some, slice_get, IsTrue, IsErr, OnErr, OnOk};
+ghost use Rattle.pages.specs.Store.{Faulted, MayUnsync, SameUnsynced, Stays, Tears, Unsyncs, Writes};
 ghost use Rattle.pages.specs.declared.unsynced.Unsynced.TheVariants.{Nothing};
 
-use pages::{PageStore, StoreFault};
+use pages::{PageStore, Refusals, StoreFault};
 
 /// A store over another one whose pages are read and never written: each `write` is refused, and
 /// none reaches the store below.
@@ -13,7 +13,7 @@ use pages::{PageStore, StoreFault};
 #[derive(Drop)]
 pub struct ReadOnly<S> {
     store: S,
-    faults: u64,
+    faults: Refusals,
 }
 
 impl<S: PageStore> ReadOnly<S> {
@@ -22,17 +22,10 @@ impl<S: PageStore> ReadOnly<S> {
         ensures { ⟦<ReadOnly<S> as PageStore>⟧.seen result
             ≡ record (S.seen store) { faults = 0; unsynced = Nothing } }
     {
-        ReadOnly { store, faults: 0 }
-    }
-
-    /// Counts a fault.
-    fn failed(&mut self) -> StoreFault
-        ensures store { self.new.store ≡ self.old.store }
-        ensures cause { HasRisen self.old.faults self.new.faults }
-        ensures faults { self.old.faults ≤ self.new.faults }
-    {
-        self.faults = self.faults.saturating_add(1);
-        StoreFault
+        ReadOnly {
+            store,
+            faults: Refusals::none(),
+        }
     }
 }
 
@@ -69,10 +62,7 @@ impl<S: PageStore> PageStore for ReadOnly<S> {
             (Faulted (⟦<ReadOnly<S> as PageStore>⟧.seen self.old)
             (⟦<ReadOnly<S> as PageStore>⟧.seen self.new)) }
     {
-        match self.store.read(number, page) {
-            Ok(()) => Ok(()),
-            Err(_) => Err(self.failed()),
-        }
+        self.faults.of(self.store.read(number, page))
     }
 
     /// Refuses to write a page: no page changes.
@@ -96,7 +86,7 @@ impl<S: PageStore> PageStore for ReadOnly<S> {
             (Faulted (⟦<ReadOnly<S> as PageStore>⟧.seen self.old)
             (⟦<ReadOnly<S> as PageStore>⟧.seen self.new)) }
     {
-        Err(self.failed())
+        self.faults.of(Err(StoreFault))
     }
 
     fn sync(&mut self) -> Result<(), StoreFault> {

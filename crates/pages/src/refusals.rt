@@ -1,0 +1,49 @@
+//! How often calls were refused.
+ghost use Rattle.std.specs.Prelude.{◌≡◌, ◌≤◌, OnErr, OnOk};
+ghost use Rattle.pages.specs.Store.{HasRisen};
+
+use std::marker::Model;
+
+/// How often calls were refused. It never falls; 2^64 - 1 stands for any greater number.
+#[derive(Drop, Debug)]
+pub struct Refusals {
+    count: u64,
+}
+
+impl Model for Refusals {
+    ghost use Rattle.std.specs.Prelude.{ℕ};
+
+    ghost Value = { ℕ };
+
+    ghost view = { λ r. r.count };
+}
+
+impl Refusals {
+    /// None so far.
+    pub fn none() -> Refusals
+        ensures { result ≡ 0 }
+    {
+        Refusals { count: 0 }
+    }
+
+    /// Counts one more.
+    pub fn add(&mut self)
+        ensures cause { HasRisen self.old self.new }
+        ensures later { self.old ≤ self.new }
+    {
+        self.count = self.count.saturating_add(1);
+    }
+
+    /// The answer of a call as it is, which is counted where it is a refusal.
+    pub fn of<T, E>(&mut self, answer: Result<T, E>) -> Result<T, E>
+        ensures same { result ≡ answer }
+        ensures cause { OnErr result (HasRisen self.old self.new) }
+        ensures none { OnOk result (self.new ≡ self.old) }
+        ensures later { self.old ≤ self.new }
+    {
+        if answer.is_err() {
+            self.add();
+        }
+        answer
+    }
+}
