@@ -2,6 +2,7 @@
 use crate::command_line::Words;
 use anyhow::{Context, Result, bail};
 use legs::{Limits, ListIndex};
+use outputs::CountedOutput;
 use std::hash::RandomState;
 use std::{fs, io, mem};
 use trajdb::{Core, Files};
@@ -37,7 +38,9 @@ pub(crate) fn run(rt: &HostRuntime, mut words: Words) -> Result<()> {
     let script = fs::read(rt, words.text("script")?.as_str())?;
     let files = files(rt, words)?;
     let mut core = empty(rt)?;
-    core.run(rt.alloc(), script.as_slice(), &files, &mut io::writer(rt))?;
+    let mut printer = io::writer(rt);
+    let mut output = CountedOutput::new(&mut printer);
+    core.run(rt.alloc(), script.as_slice(), &files, &mut output)?;
     mem::forget(core);
     Ok(())
 }

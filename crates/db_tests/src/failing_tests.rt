@@ -3,6 +3,7 @@ use crate::lasting_tests::check;
 use crate::run_tests::{database, listed, ran, ran_listed};
 use crate::worked_files::STANDARD;
 use legs::{Limits, ListIndex};
+use outputs::CountedOutput;
 use pages::{Fuse, MemStore, PageStore};
 use std::alloc::Global;
 use std::hash::RandomState;
@@ -348,7 +349,7 @@ fn sent(
         room,
         flushes,
     };
-    let ran = db.run(alloc, script, files, &mut out);
+    let ran = db.run(alloc, script, files, &mut CountedOutput::new(&mut out));
     (ran, out.taken)
 }
 

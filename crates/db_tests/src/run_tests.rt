@@ -1,6 +1,7 @@
 //! Worked scripts over worked files.
 use crate::worked_files::{FILES, STANDARD, WRITTEN};
 use legs::{Limits, ListIndex};
+use outputs::CountedOutput;
 use pages::{MemStore, PageStore};
 use querylang::Command;
 use std::alloc::Global;
@@ -130,7 +131,7 @@ pub(crate) fn ran<S: PageStore>(
     // With room for all, since an output that fails is another test's.
     match Vec::with_capacity(alloc, 1000) {
         Ok(mut out) => {
-            let ran = db.run(alloc, script, files, &mut out);
+            let ran = db.run(alloc, script, files, &mut CountedOutput::new(&mut out));
             (out, ran)
         }
         Err(_) => (Vec::new(alloc), Err(RunFault::Memory)),
@@ -158,7 +159,7 @@ pub(crate) fn ran_listed(
 ) -> (Vec<u8>, Result<(), RunFault>) {
     match Vec::with_capacity(alloc, 1000) {
         Ok(mut out) => {
-            let ran = core.run(alloc, script, files, &mut out);
+            let ran = core.run(alloc, script, files, &mut CountedOutput::new(&mut out));
             (out, ran)
         }
         Err(_) => (Vec::new(alloc), Err(RunFault::Memory)),

@@ -2,31 +2,36 @@
 use crate::names::Names;
 use crate::opening::{open_asked, sweep};
 use arguments::Check;
-use sessions::{Fault, check_and_close, send};
+use outputs::Output;
+use sessions::{Fault, check_and_close, send_all};
+use std::alloc::Global;
 use std::fs::File;
 use std::hash::RandomState;
-use std::io::Write;
 use std::random::RandomSource;
 use std::rt::Files;
 use trajdb::{Db, Report, RunFault};
 
 /// Sends what a check that passed has found.
-fn send_report<'a, W: Write>(report: &Report, out: &mut W) -> Result<(), Fault<'a>> {
+fn send_report<'a, O: Output>(
+    alloc: Global,
+    report: &Report,
+    out: &mut O,
+) -> Result<(), Fault<'a>> {
     let Report {
         pages,
         legs,
         features,
     } = *report;
-    let written = writeln!(out, "ok 1\n{pages},{legs},{features}");
-    send(written, out)
+    let text = format!(in alloc; "ok 1\n{pages},{legs},{features}\n")?;
+    send_all(out, text.as_bytes())
 }
 
 /// Opens the store to be read alone, and checks its database. A file that is absent is made, without
 /// a byte.
-pub(crate) fn check<'a, R: Files<File = File> + AllocGlobal + RandomSource, W: Write>(
+pub(crate) fn check<'a, R: Files<File = File> + AllocGlobal + RandomSource, O: Output>(
     rt: &R,
     check: &Check<'a>,
-    out: &mut W,
+    out: &mut O,
 ) -> Result<(), Fault<'a>> {
     let Ok(keys) = RandomState::new(rt) else {
         return Err(Fault::Run(RunFault::Memory));
@@ -40,5 +45,5 @@ pub(crate) fn check<'a, R: Files<File = File> + AllocGlobal + RandomSource, W: W
         Err((_, fault)) => return Err(Fault::Open(fault)),
     };
     let (_store, checked) = check_and_close(rt.alloc(), database);
-    send_report(&checked?, out)
+    send_report(rt.alloc(), &checked?, out)
 }

@@ -1,14 +1,14 @@
 //! The part of a file that has the features of one of several parts.
 use arguments::Part;
+use outputs::Output;
 use sessions::{Fault, MOST_BYTES, read_named, send_part};
-use std::io::Write;
 use std::rt;
 
 /// Reads a file, and prints its part.
-pub(crate) fn print_part<'a, R: rt::Files + AllocGlobal, W: Write>(
+pub(crate) fn print_part<'a, R: rt::Files + AllocGlobal, O: Output>(
     rt: &R,
     task: &Part<'a>,
-    out: &mut W,
+    out: &mut O,
 ) -> Result<(), Fault<'a>> {
     if task.part >= task.parts {
         return Err(Fault::NoPart(task.part, task.parts));

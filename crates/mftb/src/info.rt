@@ -3,12 +3,12 @@ use crate::asked::{database_to_ask, store_to_ask};
 use crate::root::{Header, read_extent, read_header};
 use arguments::Info;
 use legs::Box3;
+use outputs::Output;
 use pages::PageStore;
 use reports::{StoreReport, push_json, push_lines};
 use sessions::{CACHE_PAGES, Fault, send_all};
 use std::alloc::Global;
 use std::fs::File;
-use std::io::Write;
 use std::random::RandomSource;
 use std::rt::Files;
 use trajdb::{Db, RunFault};
@@ -49,10 +49,10 @@ fn text_of(alloc: Global, said: &StoreReport<'_>, is_json: bool) -> Result<Vec<u
 }
 
 /// Opens the store to be read alone, and prints what it holds.
-pub(crate) fn print_info<'a, R: Files<File = File> + AllocGlobal + RandomSource, W: Write>(
+pub(crate) fn print_info<'a, R: Files<File = File> + AllocGlobal + RandomSource, O: Output>(
     rt: &R,
     task: &Info<'a>,
-    out: &mut W,
+    out: &mut O,
 ) -> Result<(), Fault<'a>> {
     let mut store = store_to_ask(rt, task.store)?;
     let pages = store.len();

@@ -2,11 +2,11 @@
 use crate::names::Names;
 use crate::opening::{is_absent, open_asked, open_in_place};
 use arguments::Migrate;
+use outputs::Output;
 use pages::{FileStore, PageStore};
-use sessions::{Fault, migrate_and_close, send};
+use sessions::{Fault, migrate_and_close, send_all};
 use std::fs::File;
 use std::hash::RandomState;
-use std::io::Write;
 use std::random::RandomSource;
 use std::rt::Files;
 use trajdb::{OpenFault, RunFault};
@@ -21,10 +21,10 @@ fn not_new<'a, R: Files<File = File> + AllocGlobal>(rt: &R, name: &str) -> Fault
 
 /// Brings a store of version 1, which is opened to be read alone, over into a new file. Where the old
 /// one is absent or has no bytes, no file is made.
-pub(crate) fn migrate<'a, R: Files<File = File> + AllocGlobal + RandomSource, W: Write>(
+pub(crate) fn migrate<'a, R: Files<File = File> + AllocGlobal + RandomSource, O: Output>(
     rt: &R,
     migrate: &Migrate<'a>,
-    out: &mut W,
+    out: &mut O,
 ) -> Result<(), Fault<'a>> {
     if !is_absent(rt, migrate.new) {
         return Err(not_new(rt, migrate.new));
@@ -45,6 +45,5 @@ pub(crate) fn migrate<'a, R: Files<File = File> + AllocGlobal + RandomSource, W:
     if let Err(fault) = migrated {
         return Err(names.caused(fault));
     }
-    let written = writeln!(out, "ok 0");
-    send(written, out)
+    send_all(out, b"ok 0\n".as_slice())
 }

@@ -4,13 +4,13 @@ use crate::bounds::read_bounds;
 use arguments::{Moments, RowKind};
 use mfcsv::Dimension;
 use moments::{Stay, dwells_of, stays, visits_of};
+use outputs::Output;
 use pages::PageStore;
 use querylang::Command;
 use reports::{Frame, push_dwells, push_stays, push_visits};
 use sessions::{Fault, send_all};
 use std::alloc::Global;
 use std::fs::File;
-use std::io::Write;
 use std::random::RandomSource;
 use std::rt::Files;
 use timebase::{Ms, Period};
@@ -75,10 +75,10 @@ fn ask<S: PageStore>(
 }
 
 /// Opens the store to be read alone, and prints when legs of its database are inside the rectangle in the period.
-pub(crate) fn print_moments<'a, R: Files<File = File> + AllocGlobal + RandomSource, W: Write>(
+pub(crate) fn print_moments<'a, R: Files<File = File> + AllocGlobal + RandomSource, O: Output>(
     rt: &R,
     task: &Moments<'a>,
-    out: &mut W,
+    out: &mut O,
 ) -> Result<(), Fault<'a>> {
     let alloc = rt.alloc();
     let command = read_bounds(alloc, &task.bounds)?;

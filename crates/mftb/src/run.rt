@@ -14,11 +14,12 @@ use crate::system_folder::SystemFolder;
 use crate::telling::{Given, tell, tell_made};
 use arguments::{Run, Telling};
 use monitor::{Followed, Noted, Notes, Progress, Told};
+use outputs::Output;
 use pages::PageStore;
 use sessions::{Fault, MOST_BYTES, Opening, answer, database, read_named, run_on_copy};
 use std::fs::File;
 use std::hash::RandomState;
-use std::io::{Eprint, Write};
+use std::io::Eprint;
 use std::random::RandomSource;
 use std::{fs, rt};
 use trajdb::{Files, RunFault};
@@ -50,7 +51,7 @@ fn unsaid(said: &Result<(), Fault<'_>>, closed: Result<(), RunFault>) -> Option<
 }
 
 /// Runs the script over a store as it lies there.
-fn run_over<'a, S: PageStore + Drop, W: Write>(store: S, work: &Work, out: &mut W) -> Ended<'a>
+fn run_over<'a, S: PageStore + Drop, O: Output>(store: S, work: &Work, out: &mut O) -> Ended<'a>
     requires { 0 < work.now.how.cache_pages }
 {
     let how = work.how;
@@ -61,11 +62,11 @@ fn run_over<'a, S: PageStore + Drop, W: Write>(store: S, work: &Work, out: &mut 
 }
 
 /// Runs a script that only asks over a store that is there. It is opened to be read alone.
-fn ask<'a, R: rt::Files<File = File> + rt::Clock + Eprint, W: Write>(
+fn ask<'a, R: rt::Files<File = File> + rt::Clock + Eprint, O: Output>(
     rt: &R,
     work: &Work,
     progress: &Progress<'_, R>,
-    out: &mut W,
+    out: &mut O,
 ) -> Ended<'a>
     requires { 0 < work.now.how.cache_pages }
 {
@@ -78,11 +79,11 @@ fn ask<'a, R: rt::Files<File = File> + rt::Clock + Eprint, W: Write>(
 
 /// Runs a script that may write over the store as it lies there. Where the folder may not be written,
 /// the lock of the store's file alone keeps others out.
-fn run_in_place<'a, R: rt::Files<File = File> + rt::Clock + Eprint, W: Write>(
+fn run_in_place<'a, R: rt::Files<File = File> + rt::Clock + Eprint, O: Output>(
     rt: &R,
     work: &Work,
     progress: &Progress<'_, R>,
-    out: &mut W,
+    out: &mut O,
 ) -> Ended<'a>
     requires { 0 < work.now.how.cache_pages }
 {
@@ -105,11 +106,11 @@ fn run_in_place<'a, R: rt::Files<File = File> + rt::Clock + Eprint, W: Write>(
 }
 
 /// Runs a script that may write over a copy of the store.
-fn run_beside<'a, R: rt::Files<File = File> + rt::Clock + Eprint, W: Write>(
+fn run_beside<'a, R: rt::Files<File = File> + rt::Clock + Eprint, O: Output>(
     rt: &R,
     work: &Work,
     progress: &Progress<'_, R>,
-    out: &mut W,
+    out: &mut O,
 ) -> Result<(), Fault<'a>>
     requires { 0 < work.now.how.cache_pages }
 {
@@ -131,12 +132,12 @@ fn outcome_of(is_strict: bool, refused: u64) -> Outcome
 }
 
 /// Runs the script over the store, in the way that it asks for.
-fn run_as_asked<'a, R: rt::Files<File = File> + rt::Clock + Eprint, W: Write>(
+fn run_as_asked<'a, R: rt::Files<File = File> + rt::Clock + Eprint, O: Output>(
     rt: &R,
     is_in_place: bool,
     work: &Work,
     progress: &Progress<'_, R>,
-    out: &mut W,
+    out: &mut O,
 ) -> Ended<'a>
     requires { 0 < work.now.how.cache_pages }
 {
@@ -213,8 +214,8 @@ fn told<'a, R: rt::Files<File = File> + Eprint + AllocGlobal + RandomSource>(
 pub(crate) fn run<
     'a,
     R: rt::Files<File = File> + rt::Clock + Eprint + AllocGlobal + RandomSource,
-    W: Write,
->(rt: &R, run: &Run<'a>, out: &mut W, is_terminal: bool) -> Result<Outcome, Fault<'a>> {
+    O: Output,
+>(rt: &R, run: &Run<'a>, out: &mut O, is_terminal: bool) -> Result<Outcome, Fault<'a>> {
     let work = read_work(rt, run)?;
     let how = work.how;
     let is_shown = is_terminal && run.telling != Telling::Never;

@@ -14,6 +14,7 @@ use crate::telling::Before;
 use arguments::{Task, read_words};
 use clap::Error;
 use clap::error::ErrorKind;
+use outputs::{CountedOutput, Output};
 use sessions::Fault;
 use std::fs::File;
 use std::io::{Eprint, Write};
@@ -32,8 +33,8 @@ fn done<'a>(ended: Result<(), Fault<'a>>) -> Result<Outcome, Fault<'a>> {
 fn perform<
     'a,
     R: rt::Files<File = File> + rt::Clock + Eprint + AllocGlobal + RandomSource,
-    W: Write,
->(rt: &R, task: &Task<'a>, out: &mut W, is_terminal: bool) -> Result<Outcome, Fault<'a>> {
+    O: Output,
+>(rt: &R, task: &Task<'a>, out: &mut O, is_terminal: bool) -> Result<Outcome, Fault<'a>> {
     match task {
         Task::Run(task) => run(rt, task, out, is_terminal),
         Task::Check(task) => done(check(rt, task, out)),
@@ -90,7 +91,8 @@ fn answer_task<
     ensures strict { result ≡ 3 → Any (λ w. string_bytes w ≡ codes "--strict") words.now }
 {
     let before = Before::new(rt, task, is_terminal);
-    match perform(rt, task, out, is_terminal) {
+    let mut output = CountedOutput::new(out);
+    match perform(rt, task, &mut output, is_terminal) {
         Ok(Outcome::Refused) if has_strict(words) => 3,
         Ok(_) => 0,
         Err(fault) => {

@@ -3,35 +3,32 @@ ghost use Rattle.std.specs.Prelude.{◌≡◌};
 
 use crate::notes::Notes;
 use crate::progress::Progress;
-use std::io;
-use std::io::{Eprint, Write};
+use outputs::{Output, OutputFault};
+use std::io::Eprint;
 use std::rt::Clock;
 
-/// An output whose answers are followed: it takes what the one below takes.
+/// An output whose answers are followed: it takes what the one below takes. All of an answer is sent at once.
 #[derive(Drop)]
-pub struct Followed<'a, 'b, W: Write, R: Clock + Eprint> {
-    out: &'a mut W,
+pub struct Followed<'a, 'b, O: Output, R: Clock + Eprint> {
+    out: &'a mut O,
     progress: &'a Progress<'b, R>,
     notes: Notes,
-    /// Whether a part of an answer was taken, and not all of it.
-    is_inside: bool,
 }
 
-impl<'a, 'b, W: Write, R: Clock + Eprint> Followed<'a, 'b, W, R> {
+impl<'a, 'b, O: Output, R: Clock + Eprint> Followed<'a, 'b, O, R> {
     /// The output over that one.
     pub fn new(
-        out: &'a mut W,
+        out: &'a mut O,
         progress: &'a Progress<'b, R>,
         notes: Notes,
-    ) -> Followed<'a, 'b, W, R>
+    ) -> Followed<'a, 'b, O, R>
         ensures same_reference { result.out.ghost_name ≡ out.entry.ghost_name }
-        ensures contents { W.contents result.out.now ≡ W.contents out.old }
+        ensures seen { O.seen result.out.now ≡ O.seen out.old }
     {
         Followed {
             out,
             progress,
             notes,
-            is_inside: false,
         }
     }
 
@@ -40,34 +37,31 @@ impl<'a, 'b, W: Write, R: Clock + Eprint> Followed<'a, 'b, W, R> {
         &self.notes
     }
 
-    /// So many of these bytes were taken, which end an answer, and begin it where none was taken before.
-    fn follow(&mut self, bytes: &[u8], taken: usize)
+    /// An answer was taken.
+    fn follow(&mut self, answer: &[u8])
         ensures { self.new.out ≡ self.old.out }
     {
-        if !self.is_inside {
-            let (place, text) = self.progress.at();
-            self.notes.note(bytes, place, text, self.progress.legs());
-        }
-        self.is_inside = taken < bytes.len();
-        if !self.is_inside {
-            self.progress.answered(bytes);
-        }
+        let (place, text) = self.progress.at();
+        self.notes.note(answer, place, text, self.progress.legs());
+        self.progress.answered(answer);
     }
 }
 
-impl<'a, 'b, W: Write, R: Clock + Eprint> Write for Followed<'a, 'b, W, R> {
-    ghost contents = { λ s. W.contents s.out.now };
+impl<'a, 'b, O: Output, R: Clock + Eprint> Output for Followed<'a, 'b, O, R> {
+    ghost seen = { λ s. O.seen s.out.now };
 
-    fn write(&mut self, buf: &[u8]) -> io::Result<usize> {
+    fn send(&mut self, bytes: &[u8]) -> Result<(), OutputFault> {
         self.progress.clear();
-        let taken = self.out.write(buf);
-        if let Ok(count) = &taken {
-            self.follow(buf, *count);
+        match self.out.send(bytes) {
+            Ok(()) => {
+                self.follow(bytes);
+                Ok(())
+            }
+            Err(fault) => Err(fault),
         }
-        taken
     }
 
-    fn flush(&mut self) -> io::Result<()> {
+    fn flush(&mut self) -> Result<(), OutputFault> {
         self.out.flush()
     }
 }

@@ -1,5 +1,6 @@
 //! A run on a copy in a folder in memory, of which each call fails in turn.
 use crate::memory_folder::{Calls, MemFolder};
+use outputs::CountedOutput;
 use sessions::{Opening, run_on_copy};
 use std::alloc::Global;
 use std::hash::RandomState;
@@ -37,7 +38,9 @@ fn runs(rt: &HostRuntime, folder: &mut MemFolder, script: &[u8]) -> Result<bool,
         cache_pages: 1,
     };
     let mut out = Vec::with_capacity(rt.alloc(), 100)?;
-    Ok(run_on_copy(folder, how, script, &files(rt.alloc())?, &mut out).is_ok())
+    let files = files(rt.alloc())?;
+    let mut output = CountedOutput::new(&mut out);
+    Ok(run_on_copy(folder, how, script, &files, &mut output).is_ok())
 }
 
 /// The loads of a store, one after another.

@@ -1,4 +1,5 @@
 //! How long a file may be, the lines of faults, and a session over a store that fails.
+use outputs::CountedOutput;
 use pages::{Fuse, MemStore};
 use sessions::{Fault, MOST_BYTES, answer, database, read_named};
 use std::fs;
@@ -63,7 +64,8 @@ fn the_first_fault_is_said(rt: HostRuntime) -> Result<(), Fail> {
     let store = Fuse::new(MemStore::new(alloc, 100), 2, false);
     let opened = database(alloc, keys, store, true, 1);
     let mut out = Vec::new(alloc);
-    let (_, said, closed) = answer(alloc, opened, b"load S1.csv".as_slice(), &files, &mut out);
+    let mut output = CountedOutput::new(&mut out);
+    let (_, said, closed) = answer(alloc, opened, b"load S1.csv".as_slice(), &files, &mut output);
     assert!(rt; said == Err(Fault::Run(RunFault::Store)) && out.is_empty());
     assert!(rt; closed == Err(RunFault::Failed));
     Ok(())

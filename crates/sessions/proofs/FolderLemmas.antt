@@ -1,10 +1,11 @@
 -- What a run on a copy makes of a store's name.
-use Rattle.std.proofs.Common.{ℕ, arith, ◌≤◌, ◌≡◌, ◌⊎◌, ◌∙◌, refl, sym, subst, inl, inr, [], ◌∷◌, true, false, Bool, IsTrue, List, Option, Some, None, Result, Ok, Err}
+use Rattle.std.proofs.Common.{ap, ℕ, arith, ◌≤◌, ◌≡◌, ◌⊎◌, ◌∙◌, refl, sym, subst, inl, inr, [], ◌∷◌, true, false, Bool, IsTrue, List, Option, Some, None, Result, Ok, Err}
 use Rattle.std.proofs.KnownBytes.{Appends-nil}
 use Rattle.std.specs.Prelude.{is_ok, IfErr, IfOk, IfSome, IsOk, OnErr, OnOk}
 use Rattle.legs.specs.Book.{Book, empty_book}
 use Rattle.legs.specs.Costs.{ShapeView}
 use Rattle.legs.specs.Limits.{limits_of, LimitsView}
+use Rattle.outputs.specs.Shown.{Shown}
 use Rattle.pages.specs.Store.{Store, Faulted, IsSynced}
 use Rattle.pages.specs.declared.unsynced.Unsynced.TheVariants.{Others}
 use Rattle.catalogue.specs.Holding.{HoldsBook}
@@ -172,17 +173,17 @@ if_refused (Err e) None P f = tt
 if_refused (Err e) (Some past) P f = f e past refl
 
 -- a run over what was made of a store: where it is answered there was a database, and where there was none nothing was sent
-module _ {S O : Type 0} (seen : S → Store) (shown : O → Option (List ℕ)) (files : List (List ℕ × List ℕ)) (out out' : O) (lines : List (List ℕ)) (store : Store) where
+module _ {S O : Type 0} (seen : S → Store) (shown : O → Shown) (files : List (List ℕ × List ℕ)) (out out' : O) (lines : List (List ℕ)) (store : Store) where
   pub over_opened : (answered : Result (Unit {0}) Fault) (closed : Result (Unit {0}) RunFault) (o : Result DbView (S × CatalogueFault)) → RunsOver seen shown o files out out' lines answered closed store → OnOk answered (IsOk o)
   over_opened (Err e) closed o h = tt
   over_opened (Ok x) closed (Ok db) h = refl
   over_opened (Ok x) closed (Err back) h = let is = h.0 in absurd (cc is)
 
-  pub over_unsent : (answered : Result (Unit {0}) Fault) (closed : Result (Unit {0}) RunFault) (o : Result DbView (S × CatalogueFault)) → RunsOver seen shown o files out out' lines answered closed store → OnErr o (shown out' ≡ shown out)
+  pub over_unsent : (answered : Result (Unit {0}) Fault) (closed : Result (Unit {0}) RunFault) (o : Result DbView (S × CatalogueFault)) → RunsOver seen shown o files out out' lines answered closed store → OnErr o ((shown out').contents ≡ (shown out).contents)
   over_unsent answered closed (Ok db) h = tt
-  over_unsent answered closed (Err back) h = h.3
+  over_unsent answered closed (Err back) h = ap (λ (s : Shown). s.contents) h.3
 
-  pub over_ended : (answered : Result (Unit {0}) Fault) (closed : Result (Unit {0}) RunFault) (o : Result DbView (S × CatalogueFault)) → RunsOver seen shown o files out out' lines answered closed store → IfOk o (λ db. Ended files (shown out) (shown out') lines store db answered)
+  pub over_ended : (answered : Result (Unit {0}) Fault) (closed : Result (Unit {0}) RunFault) (o : Result DbView (S × CatalogueFault)) → RunsOver seen shown o files out out' lines answered closed store → IfOk o (λ db. Ended files (shown out).contents (shown out').contents lines store db answered)
   over_ended answered closed (Ok db) h = (h.0, closed, h.1, h.2.ends)
   over_ended answered closed (Err back) h = tt
 

@@ -4,6 +4,7 @@ use Rattle.std.specs.Io.KnownBytes.{Appends}
 use Rattle.legs.specs.Book.{Book}
 use Rattle.legs.specs.Costs.{ShapeView}
 use Rattle.legs.specs.Limits.{LimitsView}
+use Rattle.outputs.specs.Shown.{Shown}
 use Rattle.pages.specs.Store.{Store, Faulted, IsSynced}
 use Rattle.boxsearch.specs.Index.{written, IndexView, words}
 use Rattle.catalogue.specs.Holding.{HoldsBook, HoldsButFirst, HoldsIndex, HoldsIndexButFirst, IsUnfinishedStore}
@@ -119,16 +120,16 @@ pub record Ends (db : DbView) (files : List (List ℕ × List ℕ)) (sent sent' 
 
 -- a run over a database and its closing, be it sound or not: there is a database between them, and the run and the closing
 -- do with it what each promises; over a sound one they leave what `Ends` says
-pub record RunsAndCloses {O : Type 0} (shown : O → Option (List ℕ)) (db : DbView)
+pub record RunsAndCloses {O : Type 0} (shown : O → Shown) (db : DbView)
     (files : List (List ℕ × List ℕ)) (out out' : O) (lines : List (List ℕ))
     (ran closed : Result (Unit {0}) RunFault) (store : Store) : Type 0 where
   pub between : DbView
-  pub ok : OnOk ran (IsSoundDb db → Runs files (shown out) (shown out') db between lines)
+  pub ok : OnOk ran (IsSoundDb db → Runs files (shown out).contents (shown out').contents db between lines)
   pub run : RunCall words shown files out out' db between lines ran
   pub keeps : KeepsStore db between
   pub close : CloseCall between store closed
   pub ends : IsSoundDb db → HasPages db → IsIdle db → db.failed ≡ false
-      → Ends db files (shown out) (shown out') lines ran closed store
+      → Ends db files (shown out).contents (shown out').contents lines ran closed store
 
 -- a run over a database begins it: it had begun, or it is sound, and a file is accepted
 abbrev pub RunBegins : DbView → List (List ℕ × List ℕ) → List (List ℕ) → Type 0
@@ -155,7 +156,7 @@ said (Err fault) closed = Err (Run fault)
 -- a database that was made or opened is run over and closed, and the fault of these is answered, and what the closing
 -- came to; where there is none, why is answered, nothing is to be closed, the store is the one that was given back, and
 -- nothing was sent
-abbrev pub RunsOver : {S O : Type 0} (seen : S → Store) (shown : O → Option (List ℕ))
+abbrev pub RunsOver : {S O : Type 0} (seen : S → Store) (shown : O → Shown)
     → Result DbView (S × CatalogueFault) → List (List ℕ × List ℕ) → (out out' : O)
     → List (List ℕ) → Result (Unit {0}) Fault → (closed : Result (Unit {0}) RunFault) → Store
     → Type 0

@@ -3,6 +3,7 @@ use Rattle.std.specs.Prelude.{ℕ, ◌≡◌, ◌<◌, ◌⊎◌, ◌^◌, ◌-�
 use Rattle.legs.specs.Book.{Book, empty_book}
 use Rattle.legs.specs.Costs.{ShapeView}
 use Rattle.legs.specs.Limits.{limits_of, LimitsView}
+use Rattle.outputs.specs.Shown.{Shown}
 use Rattle.pages.specs.Store.{Store, Faulted, HasRisen, IsSynced}
 use Rattle.pages.specs.declared.unsynced.Unsynced.TheVariants.{Others}
 use Rattle.catalogue.specs.Holding.{HoldsBook}
@@ -148,7 +149,7 @@ Makes seen copy cache_pages (Err back) =
 -- a run on a copy of what the name stood for, whatever that held: a store with pages was opened, and one without them was made
 -- a database where that was asked for; it was run over and closed (`RunsOver`). Where that is answered, the name is kept as
 -- `NameIsKept` says; it is refused as that was, or as the folder did not make it last, or give it the name
-pub record RunsOnCopy {S O : Type 0} (seen : S → Store) (shown : O → Option (List ℕ))
+pub record RunsOnCopy {S O : Type 0} (seen : S → Store) (shown : O → Shown)
     (is_new : Bool) (cache_pages before after : ℕ) (old new : Option History)
     (files : List (List ℕ × List ℕ)) (out out' : O) (lines : List (List ℕ))
     (result : Result (Unit {0}) Fault) : Type 0 where

@@ -10,10 +10,10 @@ ghost use Rattle.sessions.specs.Folder.{BeginsWith, NameIsKept, IsKeptOnce, IsNo
 use crate::fault::Fault;
 use crate::folder::Folder;
 use crate::session::{answer, database};
+use outputs::Output;
 use pages::PageStore;
 use std::alloc::Global;
 use std::hash::RandomState;
-use std::io::Write;
 use trajdb::Files;
 
 /// How the database of a store is made or opened.
@@ -80,12 +80,12 @@ fn keep<'a, F: Folder>(folder: &mut F, store: F::Store) -> Result<(), Fault<'a>>
 ///
 /// `script` and `files` are bytes as they were read; the answers go to `out`. It is refused as the
 /// folder refuses it (`Folder::copy`, `Folder::sync`, `Folder::replace`), and as `answer` does.
-pub fn run_on_copy<'a, F: Folder, W: Write>(
+pub fn run_on_copy<'a, F: Folder, O: Output>(
     folder: &mut F,
     how: Opening,
     script: &[u8],
     files: &Files,
-    out: &mut W,
+    out: &mut O,
 ) -> Result<(), Fault<'a>>
     requires { 0 < how.cache_pages }
 
@@ -95,15 +95,15 @@ pub fn run_on_copy<'a, F: Folder, W: Write>(
     ensures runs { OnOk result (IfSome (F.held folder.old)
         (λ past. (shape : ShapeView) (limits : LimitsView) (book : Book)
         → BeginsWith how.is_new (store_in past) shape limits book
-        → RunsBeside shape limits book files.now (W.contents out.old) (W.contents out.new)
-        (lines_of script.now) (F.held folder.old) (F.held folder.new))) }
+        → RunsBeside shape limits book files.now (O.seen out.old).contents
+        (O.seen out.new).contents (lines_of script.now) (F.held folder.old) (F.held folder.new))) }
 
     // Whatever the store held, there was no copy, for which the folder says why, and nothing was sent, or a
     // database over the copy was opened or refused, run over and closed, and the name given to what that
     // left, or not.
     ensures over { (IsNotCopied (F.refusals folder.old) (F.refusals folder.new) result
-        × (W.contents out.new ≡ W.contents out.old))
-        ⊎ RunsOnCopy F.Store.PageStore.seen W.contents how.is_new how.cache_pages
+        × (O.seen out.new ≡ O.seen out.old))
+        ⊎ RunsOnCopy F.Store.PageStore.seen O.seen how.is_new how.cache_pages
         (F.refusals folder.old) (F.refusals folder.new)
         (F.held folder.old) (F.held folder.new) files.now out.old out.new (lines_of script.now)
         result }
@@ -123,7 +123,7 @@ pub fn run_on_copy<'a, F: Folder, W: Write>(
     ensures sent { OnErr result (IfSome (F.held folder.old)
         (λ past. (shape : ShapeView) (limits : LimitsView) (book : Book)
         → BeginsWith how.is_new (store_in past) shape limits book
-        → SendsFront limits book files.now (W.contents out.old) (W.contents out.new)
+        → SendsFront limits book files.now (O.seen out.old).contents (O.seen out.new).contents
         (lines_of script.now))) }
 
     // Where something was sent, and not all, it is said to be refused for the output, for want of
@@ -131,8 +131,8 @@ pub fn run_on_copy<'a, F: Folder, W: Write>(
     ensures refused { IfErr result (λ fault. IfSome (F.held folder.old)
         (λ past. (shape : ShapeView) (limits : LimitsView) (book : Book)
         → BeginsWith how.is_new (store_in past) shape limits book
-        → IsRefusedBeside limits book files.now (W.contents out.old) (W.contents out.new)
-        (lines_of script.now) fault)) }
+        → IsRefusedBeside limits book files.now (O.seen out.old).contents
+        (O.seen out.new).contents (lines_of script.now) fault)) }
 {
     let store = match folder.copy() {
         Ok(store) => store,

@@ -16,7 +16,7 @@ mod read_only;
 mod reading;
 mod session;
 
-pub use answering::{send, send_all};
+pub use answering::send_all;
 pub use beside::{Opening, run_on_copy};
 pub use cause::Cause;
 pub use checking::check_and_close;

@@ -1,33 +1,36 @@
 //! The part of a file that has the features of one of several parts.
 ghost use Rattle.std.specs.Prelude.{◌≡◌, ◌<◌, ◌⊎◌, IfErr, OnErr, OnOk};
-ghost use Rattle.std.specs.Io.KnownBytes.{Keeps};
+ghost use Rattle.outputs.specs.Shown.{HasRefused, IsPassedOn};
 ghost use Rattle.sessions.specs.Parts.{SendsPart, SendsSome};
 
 use crate::answering::send_all;
 use crate::fault::Fault;
+use outputs::Output;
 use parts::part;
 use std::alloc::Global;
-use std::io::Write;
 use trajdb::RunFault;
 
 /// Sends part `k` of `n` of a file, of which these are the bytes; parts are numbered from 0. Where
 /// there is no memory for its text, `Memory`, and where that is not all sent, `Output`.
-pub fn send_part<'a, W: Write>(
+pub fn send_part<'a, O: Output>(
     alloc: Global,
     k: u32,
     n: u32,
     bytes: &[u8],
-    out: &mut W,
+    out: &mut O,
 ) -> Result<(), Fault<'a>>
     requires { k < n }
     // What was sent is the text of the part, which says exactly its records, under their numbers in
     // the whole; or the file itself where that has a fault. Where it is refused, what was sent is a
     // front of that text, or nothing.
     ensures sends { OnOk result
-        (SendsPart k n bytes.now (W.contents out.old) (W.contents out.new)) }
-    ensures cut { OnErr result (SendsSome k n bytes.now (W.contents out.old) (W.contents out.new)) }
-    ensures fault { IfErr result (λ e. (e ≡ Fault.Run RunFault.Output)
-        ⊎ ((e ≡ Fault.Run RunFault.Memory) × Keeps (W.contents out.old) (W.contents out.new))) }
+        (SendsPart k n bytes.now (O.seen out.old).contents (O.seen out.new).contents) }
+    ensures cut { OnErr result
+        (SendsSome k n bytes.now (O.seen out.old).contents (O.seen out.new).contents) }
+    ensures passed { OnOk result (IsPassedOn (O.seen out.old) (O.seen out.new)) }
+    ensures fault { IfErr result (λ e.
+        ((e ≡ Fault.Run RunFault.Output) × HasRefused (O.seen out.old) (O.seen out.new))
+        ⊎ ((e ≡ Fault.Run RunFault.Memory) × (O.seen out.new ≡ O.seen out.old))) }
 {
     match part(alloc, u64::from(k), u64::from(n), bytes) {
         Ok(text) => send_all(out, &text),

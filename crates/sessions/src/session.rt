@@ -18,10 +18,10 @@ ghost use Rattle.sessions.specs.Answers.{new_shape, said, Answers, HasWritten, N
 
 use crate::fault::Fault;
 use legs::Limits;
+use outputs::Output;
 use pages::PageStore;
 use std::alloc::Global;
 use std::hash::RandomState;
-use std::io::Write;
 use tbtree::Shape;
 use trajdb::{Db, Files, OpenFault, RunFault};
 
@@ -107,18 +107,18 @@ pub fn database<S: PageStore>(
 
 /// Runs the script over a database, closes it, and gives its store back, with what the run and what
 /// the closing came to. `script` and `files` are bytes as they were read; the answers go to `out`.
-pub fn run_and_close<S: PageStore, W: Write>(
+pub fn run_and_close<S: PageStore, O: Output>(
     alloc: Global,
     mut database: Db<S>,
     script: &[u8],
     files: &Files,
-    out: &mut W,
+    out: &mut O,
 ) -> (S, Result<(), RunFault>, Result<(), RunFault>)
     // Where neither is refused, what was sent is exactly the text of the run over the book, and the
     // store then holds the book after it, in a tree of the same shape.
     ensures runs { OnOk result.1 (OnOk result.2 (IsSoundDb database → HasPages database
         → IsIdle database → Answers (shape_of database) database.limits database.book
-        files.now (W.contents out.old) (W.contents out.new) (lines_of script.now)
+        files.now (O.seen out.old).contents (O.seen out.new).contents (lines_of script.now)
         (S.seen result.0))) }
 
     // Where the database had begun, or a file was accepted, all of the store is synced then; where
@@ -137,15 +137,15 @@ pub fn run_and_close<S: PageStore, W: Write>(
 
     // Whatever is answered, what was sent is the front of that text.
     ensures sent { IsSoundDb database → database.failed ≡ false
-        → SendsFront database.limits database.book files.now (W.contents out.old)
-        (W.contents out.new) (lines_of script.now) }
+        → SendsFront database.limits database.book files.now (O.seen out.old).contents
+        (O.seen out.new).contents (lines_of script.now) }
 
     // Be it sound or not, it is run as `Db::run` does it, and then closed as `Db::close` does. A sound
     // one was closed with the book after the lines that were done, unless it is the load of a file
     // that failed: the store is then not finished, or the one that was there before. A run that stops
     // at a line has not done it, and says that it stops for memory or for the store. Where the closing
     // answers well, all is synced, or each page stays as it was written.
-    ensures both { RunsAndCloses W.contents database files.now out.old out.new
+    ensures both { RunsAndCloses O.seen database files.now out.old out.new
         (lines_of script.now) result.1 result.2 (S.seen result.0) }
 
     // The store is said to have failed only where it did.
@@ -175,18 +175,18 @@ fn answer_of<'a>(ran: Result<(), RunFault>, closed: Result<(), RunFault>) -> Res
 ///
 /// What is answered is the run's fault, or else the closing's; what the closing came to stands behind it, and is `Ok`
 /// where there is no database.
-pub fn answer<'a, S: PageStore, W: Write>(
+pub fn answer<'a, S: PageStore, O: Output>(
     alloc: Global,
     database: Result<Db<S>, (S, OpenFault)>,
     script: &[u8],
     files: &Files,
-    out: &mut W,
+    out: &mut O,
 ) -> (S, Result<(), Fault<'a>>, Result<(), RunFault>)
     // What was sent is exactly the text of the run over the book, and the store then holds the book
     // after it, in a tree of the same shape.
     ensures runs { OnOk result.1 (IfOk database (λ db. IsSoundDb db → HasPages db → IsIdle db
-        → Answers (shape_of db) db.limits db.book files.now (W.contents out.old)
-        (W.contents out.new) (lines_of script.now) (S.seen result.0))) }
+        → Answers (shape_of db) db.limits db.book files.now (O.seen out.old).contents
+        (O.seen out.new).contents (lines_of script.now) (S.seen result.0))) }
 
     // Where the database had begun, or a file was accepted, all of the store is synced then; where
     // none begins it the store has the pages that the database counted, as they were written.
@@ -203,13 +203,13 @@ pub fn answer<'a, S: PageStore, W: Write>(
 
     // Where it is refused, what was sent is the front of that text.
     ensures sent { OnErr result.1 (IfOk database (λ db. IsSoundDb db → db.failed ≡ false
-        → SendsFront db.limits db.book files.now (W.contents out.old) (W.contents out.new)
+        → SendsFront db.limits db.book files.now (O.seen out.old).contents (O.seen out.new).contents
         (lines_of script.now))) }
 
     // The store is left as the run and its closing leave it, whose fault is answered, and is said to
     // have failed only where it did; where there is no database it is the one that was given back, and
     // nothing is sent.
-    ensures over { RunsOver S.seen W.contents database files.now out.old out.new
+    ensures over { RunsOver S.seen O.seen database files.now out.old out.new
         (lines_of script.now) result.1 result.2 (S.seen result.0) }
     ensures caused { IfOk database (λ db. IsErrOf result.1 (Fault.Run RunFault.Store)
         → Faulted (store_of db) (S.seen result.0)) }

@@ -12,6 +12,7 @@ use Rattle.tbtree.specs.declared.tree.Place.{Place}
 use Rattle.tbtree.specs.declared.tree.TbTree.{TbTree}
 use Rattle.pagecache.specs.Cache.{payload_of, stored_payload, IsClean}
 use Rattle.pages.specs.Store.{IsSynced, IsSyncedButFirst, Keeps, Stays, Store}
+use Rattle.outputs.specs.Shown.{HasRefused, IsPassedOn, Shown}
 use Rattle.boxsearch.specs.Index.{words, IsMarked}
 use Rattle.header.specs.Front.{SaysState}
 use Rattle.register.specs.Lasting.{first_fault, ComesFirst, IsKept, IsReadingFault, IsStop, IsTrulyDamaged}
@@ -115,26 +116,29 @@ pub record CommandCall {I : Type 0} (g : Ghosts I) (files : List (List ℕ × Li
 
 -- what `run` of the lines of a script promises beside its theorem, with the named files at hand, and with an output
 -- that shows what it has taken
-pub record RunCall {I O : Type 0} (g : Ghosts I) (shown : O → Option (List ℕ))
+pub record RunCall {I O : Type 0} (g : Ghosts I) (shown : O → Shown)
     (files : List (List ℕ × List ℕ)) (out out' : O) (old new : CoreView I)
     (lines : List (List ℕ)) (result : Result (Unit {0}) RunFault) : Type 0 where
   pub sound : OnOk result (IsSound g old → IsSound g new)
   pub lives : OnOk result (new.failed ≡ false)
   -- be the database sound or not: what was sent is the answers to lines, one after another, each by what the pages say
   -- that were met, and a page that is named is one that the next line names, as a command does
-  pub says : OnOk result (TellsRun g files (shown out) (shown out') old new lines)
+  pub says : OnOk result (TellsRun g files (shown out).contents (shown out').contents old new lines)
   pub says_cut : IsErrOf result RunFault.Output
-      → TellsCut g files (shown out) (shown out') old new lines
+      → TellsCut g files (shown out).contents (shown out').contents old new lines
   pub named : IfErr result (λ fault. IsNotOutput fault → old.failed ≡ false
-      → TellsStop g files (shown out) (shown out') old new fault lines)
+      → TellsStop g files (shown out).contents (shown out').contents old new fault lines)
   -- where the output fails
   pub output : IsErrOf result RunFault.Output → IsSound g old
-      → IsCut files (shown out) (shown out') old new lines
+      → IsCut files (shown out).contents (shown out').contents old new lines
   pub cut_sound : IsErrOf result RunFault.Output → IsSound g old → IsSound g new
   pub cut_lives : IsErrOf result RunFault.Output → new.failed ≡ false
+  -- it is said to fail only where it refused a call; where the run is answered it refused none, and keeps nothing back
+  pub output_caused : IsErrOf result RunFault.Output → HasRefused (shown out) (shown out')
+  pub passed : OnOk result (IsPassedOn (shown out) (shown out'))
   -- where the run stops at a line
   pub refused : IfErr result (λ e. IsNotOutput e → old.failed ≡ false → IsSound g old
-      → Stops files (shown out) (shown out') old new lines)
+      → Stops files (shown out).contents (shown out').contents old new lines)
   pub kept : IfErr result (λ e. IsNotOutput e → new.failed ≡ false → IsSound g old
       → IsSound g new)
   pub stops : IfErr result (λ fault. IsNotOutput fault → old.failed ≡ false

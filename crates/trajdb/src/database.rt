@@ -10,11 +10,11 @@ use crate::start::{Start, put_legs};
 use crate::{Counts, LoadFault, RunFault};
 use catalogue::Catalogue;
 use legs::{BookHead, Limits, Tracks};
+use outputs::Output;
 use querylang::{Command, LineFault, parse_line};
 use rows::Rows;
 use std::alloc::{AllocError, Global};
 use std::hash::RandomState;
-use std::io::Write;
 use std::marker::Model;
 
 /// Accepted files behind an index of their legs.
@@ -382,6 +382,7 @@ impl<I: Start> Core<I> {
 impl<I: Start> Core<I> {
     ghost use Rattle.std.specs.Prelude.{◌≡◌, ℕ, List, IfOk, IfErr, IsErrOf, OnOk, OnErr, Err, false, true};
     ghost use Rattle.trajdb.specs.Script.{lines_of, without_return};
+    ghost use Rattle.outputs.specs.Shown.{HasRefused};
     ghost use Rattle.trajdb.specs.Answers.{AcceptsLine};
     ghost use Rattle.trajdb.specs.Faults.{IsNotOutput};
     ghost use Rattle.trajdb.specs.Lines.{HasDone, HasCut, HasNotDone};
@@ -392,27 +393,27 @@ impl<I: Start> Core<I> {
     ghost use Rattle.trajdb.specs.Telling.{HasCutTold, HasNamed, HasTold};
 
     /// One line of a script: its answer goes to the output.
-    fn line<W: Write>(
+    fn line<O: Output>(
         &mut self,
         alloc: Global,
         line: &[u8],
         files: &Files,
-        out: &mut W,
+        out: &mut O,
     ) -> Result<(), RunFault>
         requires { self.old.failed ≡ false }
         ensures becomes { OnOk result (IsSound I.Listed self.old
-            → HasDone self.old.limits files.now (W.contents out.old) (W.contents out.new)
+            → HasDone self.old.limits files.now (O.seen out.old).contents (O.seen out.new).contents
             self.old.book self.new.book line.now) }
         ensures sound { OnOk result (IsSound I.Listed self.old → IsSound I.Listed self.new) }
         ensures lives { OnOk result (self.new.failed ≡ false) }
         ensures cut { IsErrOf result RunFault.Output → IsSound I.Listed self.old
-            → HasCut self.old.limits files.now (W.contents out.old) (W.contents out.new)
+            → HasCut self.old.limits files.now (O.seen out.old).contents (O.seen out.new).contents
             self.old.book self.new.book line.now }
         ensures cut_sound { IsErrOf result RunFault.Output → IsSound I.Listed self.old
             → IsSound I.Listed self.new }
         ensures cut_lives { IsErrOf result RunFault.Output → self.new.failed ≡ false }
         ensures refused { IfErr result (λ e. IsNotOutput e → IsSound I.Listed self.old
-            → HasNotDone files.now (W.contents out.old) (W.contents out.new) self.old.book
+            → HasNotDone files.now (O.seen out.old).contents (O.seen out.new).contents self.old.book
             self.new.book self.new.failed line.now) }
         ensures kept { IfErr result (λ e. IsNotOutput e → self.new.failed ≡ false
             → IsSound I.Listed self.old → IsSound I.Listed self.new) }
@@ -421,12 +422,15 @@ impl<I: Start> Core<I> {
         ensures later { IsLater I.Listed self.old self.new }
         ensures fails { IfErr result (λ fault. IsNotOutput fault
             → FailsAt files.now self.new.failed fault line.now) }
-        ensures says { OnOk result (HasTold I.Listed files.now (W.contents out.old)
-            (W.contents out.new) self.old self.new line.now) }
+        ensures says { OnOk result (HasTold I.Listed files.now (O.seen out.old).contents
+            (O.seen out.new).contents self.old self.new line.now) }
         ensures says_cut { IsErrOf result RunFault.Output → HasCutTold I.Listed files.now
-            (W.contents out.old) (W.contents out.new) self.old self.new line.now }
+            (O.seen out.old).contents (O.seen out.new).contents self.old self.new line.now }
         ensures named { IfErr result (λ fault. IsNotOutput fault → HasNamed I.Listed files.now
-            (W.contents out.old) (W.contents out.new) self.old self.new line.now fault) }
+            (O.seen out.old).contents (O.seen out.new).contents self.old self.new line.now fault) }
+        ensures none { OnOk result ((O.seen out.new).refusals ≡ (O.seen out.old).refusals) }
+        ensures output { IsErrOf result RunFault.Output
+            → HasRefused (O.seen out.old) (O.seen out.new) }
         ensures begins { OnOk result (Begins I.Listed self.old self.new
             (AcceptsLine self.old.limits files.now self.old.book line.now)) }
         ensures only { BeginsOnly I.Listed self.old self.new
@@ -445,18 +449,18 @@ impl<I: Start> Core<I> {
     /// Where a line is not answered the run stops: the answers to the lines before it were sent, whole, and the database is
     /// left as after these, or is failed, and the line a `load` of a file that is there. Where the output fails (`Output`) a
     /// front of the answers was sent, all but the last of them whole. A failed database does nothing (`Failed`).
-    pub fn run<W: Write>(
+    pub fn run<O: Output>(
         &mut self,
         alloc: Global,
         script: &[u8],
         files: &Files,
-        out: &mut W,
+        out: &mut O,
     ) -> Result<(), RunFault>
         // What was sent is exactly the text of the run, and the book is the one after it.
         ensures ok { OnOk result (IsSound I.Listed self.old
-            → Runs files.now (W.contents out.old) (W.contents out.new)
+            → Runs files.now (O.seen out.old).contents (O.seen out.new).contents
             self.old self.new (lines_of script.now)) }
-        ensures call { RunCall I.Listed W.contents files.now out.old out.new self.old self.new
+        ensures call { RunCall I.Listed O.seen files.now out.old out.new self.old self.new
             (lines_of script.now) result }
     {
         if self.failed {

@@ -9,12 +9,12 @@ use crate::{Counts, LoadFault, OpenFault, RunFault};
 use boxsearch::TreeIndex;
 use catalogue::begin;
 use legs::{IndexFault, Limits};
+use outputs::Output;
 use pagecache::CacheFault;
 use pages::PageStore;
 use querylang::Command;
 use std::alloc::Global;
 use std::hash::RandomState;
-use std::io::Write;
 use std::marker::Model;
 use tbtree::Shape;
 
@@ -164,18 +164,18 @@ impl<S: PageStore> Db<S> {
     /// Where a line is not answered the run stops: the answers to the lines before it were sent, whole, and the database is
     /// left as after these, or is failed, and the line a `load` of a file that is there. Where the output fails (`Output`) a
     /// front of the answers was sent, all but the last of them whole. A failed database does nothing (`Failed`).
-    pub fn run<W: Write>(
+    pub fn run<O: Output>(
         &mut self,
         alloc: Global,
         script: &[u8],
         files: &Files,
-        out: &mut W,
+        out: &mut O,
     ) -> Result<(), RunFault>
         // What was sent is exactly the text of the run, and the book is the one after it.
         ensures ok { OnOk result (IsSoundDb self.old
-            → Runs files.now (W.contents out.old) (W.contents out.new)
+            → Runs files.now (O.seen out.old).contents (O.seen out.new).contents
             self.old self.new (lines_of script.now)) }
-        ensures call { RunCall words W.contents files.now out.old out.new self.old self.new
+        ensures call { RunCall words O.seen files.now out.old out.new self.old self.new
             (lines_of script.now) result }
         ensures keeps { KeepsStore self.old self.new }
     {

@@ -13,6 +13,6 @@ kept (Some x) (Some y) (Some z) bs p q = q ∙ p
 pub returns-in-Err-flush-clause-part : goal.returns-in-Err-flush-clause-part
 returns-in-Err-flush-clause-part g c =
     let bytes = c.args.bytes.now in
-    let old = g.W.Write.contents c.args.out.now in
-    let new = g.W.Write.contents c.flush.new.self in
-    (length bytes, subst (Appends old new) (sym (take_all (length bytes) bytes (omega arith))) (kept old (g.W.Write.contents c.send_each.new.out) new bytes c.in-Ok.ensures.sent c.flush.ensures.bytes))
+    let old = (g.O.Output.seen c.args.out.now).contents in
+    let new = (g.O.Output.seen c.flush.new.self).contents in
+    (length bytes, subst (Appends old new) (sym (take_all (length bytes) bytes (omega arith))) (kept old (g.O.Output.seen c.send.new.self).contents new bytes c.in-Ok.ensures.sent c.flush.ensures.stays))

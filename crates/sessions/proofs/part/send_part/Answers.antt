@@ -20,13 +20,13 @@ pub returns-in-Ok-clause-sends : goal.returns-in-Ok-clause-sends
 returns-in-Ok-clause-sends g c =
     let text = c.deref.result.now in
     let same : text ≡ part_text c.args.k c.args.n c.args.bytes.now = search rules in
-    sent_part c.args.k c.args.n c.args.bytes.now text (g.W.Write.contents c.args.out.now) (g.W.Write.contents c.send_all.new.out) c.send_all.result same c.send_all.ensures.sent
+    sent_part c.args.k c.args.n c.args.bytes.now text (g.O.Output.seen c.args.out.now).contents (g.O.Output.seen c.send_all.new.out).contents c.send_all.result same c.send_all.ensures.sent
 
 pub returns-in-Ok-clause-cut : goal.returns-in-Ok-clause-cut
 returns-in-Ok-clause-cut g c =
     let text = c.deref.result.now in
     let same : text ≡ part_text c.args.k c.args.n c.args.bytes.now = search rules in
-    sent_some c.args.k c.args.n c.args.bytes.now text (g.W.Write.contents c.args.out.now) (g.W.Write.contents c.send_all.new.out) c.send_all.result same c.send_all.ensures.part
+    sent_some c.args.k c.args.n c.args.bytes.now text (g.O.Output.seen c.args.out.now).contents (g.O.Output.seen c.send_all.new.out).contents c.send_all.result same c.send_all.ensures.part
 
 pub returns-in-Err-clause-cut : goal.returns-in-Err-clause-cut
-returns-in-Err-clause-cut g c = record { front = _; appended = Appends-nil (g.W.Write.contents c.args.out.now); of = (part_text c.args.k c.args.n c.args.bytes.now, refl); says = part_text_says c.args.k c.args.n c.args.bytes.now }
+returns-in-Err-clause-cut g c = record { front = _; appended = Appends-nil (g.O.Output.seen c.args.out.now).contents; of = (part_text c.args.k c.args.n c.args.bytes.now, refl); says = part_text_says c.args.k c.args.n c.args.bytes.now }

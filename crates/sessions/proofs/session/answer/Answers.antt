@@ -17,16 +17,16 @@ returns-in-Ok-clause-runs g c =
     let r = c.run_and_close-store.result in
     let s = g.S.PageStore.seen r.0 in
     let db = c.in-Ok.database in
-    let sent' = g.W.Write.contents c.run_and_close-store.new.out in
-    subst (λ k. OnOk c.answer_of.result (IfOk k (λ (d : DbView). IsSoundDb d → HasPages d → IsIdle d → Answers d.index.tree.shape d.limits d.book c.args.files.now (g.W.Write.contents c.args.out.now) sent' (lines_of c.args.script.now) s))) (sym c.in-Ok.is)
-    (on_said (IsSoundDb db → HasPages db → IsIdle db → Answers db.index.tree.shape db.limits db.book c.args.files.now (g.W.Write.contents c.args.out.now) sent' (lines_of c.args.script.now) s)
+    let sent' = (g.O.Output.seen c.run_and_close-store.new.out).contents in
+    subst (λ k. OnOk c.answer_of.result (IfOk k (λ (d : DbView). IsSoundDb d → HasPages d → IsIdle d → Answers d.index.tree.shape d.limits d.book c.args.files.now (g.O.Output.seen c.args.out.now).contents sent' (lines_of c.args.script.now) s))) (sym c.in-Ok.is)
+    (on_said (IsSoundDb db → HasPages db → IsIdle db → Answers db.index.tree.shape db.limits db.book c.args.files.now (g.O.Output.seen c.args.out.now).contents sent' (lines_of c.args.script.now) s)
     r.1 r.2 c.answer_of.result c.answer_of.ensures c.run_and_close-store.ensures.runs)
 
 pub returns-in-Ok-clause-sent : goal.returns-in-Ok-clause-sent
 returns-in-Ok-clause-sent g c =
     let db = c.in-Ok.database in
-    let sent = g.W.Write.contents c.args.out.now in
-    let sent' = g.W.Write.contents c.run_and_close-store.new.out in
+    let sent = (g.O.Output.seen c.args.out.now).contents in
+    let sent' = (g.O.Output.seen c.run_and_close-store.new.out).contents in
     subst (λ k. OnErr c.answer_of.result (IfOk k (λ (d : DbView). IsSoundDb d → d.failed ≡ false → SendsFront d.limits d.book c.args.files.now sent sent' (lines_of c.args.script.now)))) (sym c.in-Ok.is)
     (on_error (IsSoundDb db → db.failed ≡ false → SendsFront db.limits db.book c.args.files.now sent sent' (lines_of c.args.script.now)) c.answer_of.result c.run_and_close-store.ensures.sent)
 
@@ -34,7 +34,7 @@ pub returns-in-Ok-clause-over : goal.returns-in-Ok-clause-over
 returns-in-Ok-clause-over g c =
     let r = c.run_and_close-store.result in
     let s = g.S.PageStore.seen r.0 in
-    subst (λ k. RunsOver g.S.PageStore.seen g.W.Write.contents k c.args.files.now c.args.out.now c.run_and_close-store.new.out (lines_of c.args.script.now) c.answer_of.result r.2 s) (sym c.in-Ok.is)
+    subst (λ k. RunsOver g.S.PageStore.seen g.O.Output.seen k c.args.files.now c.args.out.now c.run_and_close-store.new.out (lines_of c.args.script.now) c.answer_of.result r.2 s) (sym c.in-Ok.is)
     (r.1, c.answer_of.ensures, c.run_and_close-store.ensures.both)
 
 pub returns-in-Ok-clause-caused : goal.returns-in-Ok-clause-caused

@@ -1,8 +1,9 @@
-use Rattle.std.proofs.Common.{rules, [], inl, ◌≡◌, ◌+◌, ◌∙◌, ap, refl, sym, subst, take, true, false}
+use Rattle.std.proofs.Common.{rules, [], ℕ, inl, ◌≡◌, ◌+◌, ◌∙◌, ap, refl, sym, subst, take, true, false}
 use Rattle.std.specs.Prelude.{◌⊎◌, ◌↔◌}
 use Rattle.trajdb.specs.Answers.{AcceptsLine}
 use Rattle.trajdb.specs.Script.{lines_of}
 use Rattle.legs.specs.Limits.{LimitsView}
+use Rattle.pages.specs.Store.{HasRisen}
 use Rattle.trajdb.specs.Database.{CoreView}
 use Rattle.trajdb.specs.Lines.{HasDone, HasCut}
 use Rattle.trajdb.specs.Run.{BeginsIn}
@@ -15,7 +16,7 @@ use Rattle.trajdb.proofs.database.Core.run.Goals as goal
 use Rattle.trajdb.proofs.database.Core.run.Goals.{After-flush}
 
 pub loop-rest-init : goal.loop-rest-init
-loop-rest-init g c = record { lives = ap (λ (v : CoreView g.row.I.Denot). v.failed) (sym c.self.view_is) ∙ c.if-self.false; later = later-refl g.I.Listed _; pages = keeps-refl g.I.Listed _; whole = λ b. inl b; left = (0, refl); traced = (0, traced_start g.I.Listed c.args.files.now _ _ _); at = λ sound. (sound, 0, at_start _ _ _ _ _, begun_start c.args.self.now.limits c.args.files.now c.args.self.now.book (lines_of c.args.script.now) c.args.self.now.begun) }
+loop-rest-init g c = record { lives = ap (λ (v : CoreView g.row.I.Denot). v.failed) (sym c.self.view_is) ∙ c.if-self.false; later = later-refl g.I.Listed _; pages = keeps-refl g.I.Listed _; whole = λ b. inl b; none = refl; left = (0, refl); traced = (0, traced_start g.I.Listed c.args.files.now _ _ _); at = λ sound. (sound, 0, at_start _ _ _ _ _, begun_start c.args.self.now.limits c.args.files.now c.args.self.now.book (lines_of c.args.script.now) c.args.self.now.begun) }
 
 pub loop-rest-preserved : goal.loop-rest-preserved
 loop-rest-preserved g c = record {
@@ -26,6 +27,7 @@ loop-rest-preserved g c = record {
       let left = c.loop-rest.invariant.left in
       let next = next_line c.loop-rest.rest.now c.first_piece.result.0.now c.first_piece.result.1.now c.without_return.result.now c.first_piece.ensures.pieces c.without_return.ensures in
       whole_more _ _ _ _ _ left.0 left.1 next _ _ _ c.loop-rest.invariant.whole c.line.ensures.whole;
+  none = c.in-Ok.ensures.none ∙ c.loop-rest.invariant.none;
   left =
       let left = c.loop-rest.invariant.left in
       let next = next_line c.loop-rest.rest.now c.first_piece.result.0.now c.first_piece.result.1.now c.without_return.result.now c.first_piece.ensures.pieces c.without_return.ensures in
@@ -37,7 +39,7 @@ loop-rest-preserved g c = record {
   at = λ sound.
       let at = c.loop-rest.invariant.at sound in
       let next = next_line c.loop-rest.rest.now c.first_piece.result.0.now c.first_piece.result.1.now c.without_return.result.now c.first_piece.ensures.pieces c.without_return.ensures in
-      let done = subst (λ (limits : LimitsView). HasDone limits c.args.files.now (g.W.Write.contents c.loop-rest.out) (g.W.Write.contents c.line.new.out)
+      let done = subst (λ (limits : LimitsView). HasDone limits c.args.files.now (g.O.Output.seen c.loop-rest.out).contents (g.O.Output.seen c.line.new.out).contents
       c.loop-rest.self.book c.line.new.self.book c.without_return.result.now) c.loop-rest.invariant.later.limits (c.in-Ok.ensures.becomes at.0) in
       let begins = subst (λ (limits : LimitsView). (c.line.new.self.begun ≡ true) ↔ ((c.loop-rest.self.begun ≡ true) ⊎ AcceptsLine limits c.args.files.now c.loop-rest.self.book c.without_return.result.now))
       c.loop-rest.invariant.later.limits (c.in-Ok.ensures.begins at.0) in
@@ -51,7 +53,7 @@ none_left g c = nil_from_length c.loop-rest.rest.now (sym c.is_empty.ensures ∙
 pub returns-in-Ok-flush-clause-ok : goal.returns-in-Ok-flush-clause-ok
 returns-in-Ok-flush-clause-ok g c = λ sound.
     let at = c.loop-rest.invariant.at sound in
-    at_end _ _ _ _ _ _ _ _ _ _ at.2 (none_left g (goal.at.returns-in-Ok-flush-clause-ok g c).After-flush) c.in-Ok-flush.ensures.bytes
+    at_end _ _ _ _ _ _ _ _ _ _ at.2 (none_left g (goal.at.returns-in-Ok-flush-clause-ok g c).After-flush) c.in-Ok-flush.ensures.stays
 
 pub returns-in-Err-clause-call : goal.returns-in-Err-clause-call
 returns-in-Err-clause-call g c =
@@ -66,13 +68,15 @@ returns-in-Err-clause-call g c =
       named = λ inside lives. traced_stop g.I.Listed c.args.files.now _ _ _ _ _ c.line.new.self _ _ _ _ traced.0 traced.1 next c.in-Err.fault (c.in-Err.ensures.named inside);
       output = λ is sound.
           let at = c.loop-rest.invariant.at sound in
-          let cut = subst (λ (limits : LimitsView). HasCut limits c.args.files.now (g.W.Write.contents c.loop-rest.out) (g.W.Write.contents c.line.new.out)
+          let cut = subst (λ (limits : LimitsView). HasCut limits c.args.files.now (g.O.Output.seen c.loop-rest.out).contents (g.O.Output.seen c.line.new.out).contents
           c.loop-rest.self.book c.line.new.self.book c.without_return.result.now) c.loop-rest.invariant.later.limits (c.in-Err.ensures.cut is at.0) in
           let only = subst (λ (limits : LimitsView). c.line.new.self.begun ≡ true → (c.loop-rest.self.begun ≡ true) ⊎ AcceptsLine limits c.args.files.now c.loop-rest.self.book c.without_return.result.now)
           c.loop-rest.invariant.later.limits (c.in-Err.ensures.only at.0) in
           at_cut _ _ _ _ _ _ _ _ _ _ _ _ _ at.2 next cut (λ j. BeginsIn c.args.files.now c.args.self.now c.line.new.self (take j (lines_of c.args.script.now))) (begun_by _ _ _ _ _ _ _ _ _ _ _ at.2 next _ _ _ at.3 only);
       cut_sound = search rules;
       cut_lives = search rules;
+      output_caused = λ is. subst (λ (n : ℕ). HasRisen n (g.O.Output.seen c.line.new.out).refusals) c.loop-rest.invariant.none (c.in-Err.ensures.output is);
+      passed = tt;
       refused = λ inside lives sound.
           let at = c.loop-rest.invariant.at sound in
           let only = subst (λ (limits : LimitsView). c.line.new.self.begun ≡ true → (c.loop-rest.self.begun ≡ true) ⊎ AcceptsLine limits c.args.files.now c.loop-rest.self.book c.without_return.result.now)
@@ -101,12 +105,14 @@ pub returns-in-Ok-flush-clause-call : goal.returns-in-Ok-flush-clause-call
 returns-in-Ok-flush-clause-call g c = record {
   sound = search rules;
   lives = search rules;
-  says = traced_end g.I.Listed c.args.files.now _ _ _ _ _ _ _ c.loop-rest.invariant.traced.0 c.loop-rest.invariant.traced.1 (none_left g (goal.at.returns-in-Ok-flush-clause-call g c).After-flush) c.in-Ok-flush.ensures.bytes;
+  says = traced_end g.I.Listed c.args.files.now _ _ _ _ _ _ _ c.loop-rest.invariant.traced.0 c.loop-rest.invariant.traced.1 (none_left g (goal.at.returns-in-Ok-flush-clause-call g c).After-flush) c.in-Ok-flush.ensures.stays;
   says_cut = search rules;
   named = tt;
   output = search rules;
   cut_sound = search rules;
   cut_lives = search rules;
+  output_caused = search rules;
+  passed = record { none = c.in-Ok-flush.ensures.passed.none ∙ c.loop-rest.invariant.none; flushed = c.in-Ok-flush.ensures.passed.flushed };
   refused = tt;
   kept = tt;
   stops = tt;
@@ -126,13 +132,15 @@ returns-in-Err-flush-clause-call g c = record {
   sound = tt;
   lives = tt;
   says = tt;
-  says_cut = λ is. traced_unflushed g.I.Listed c.args.files.now _ _ _ _ _ _ _ c.loop-rest.invariant.traced.0 c.loop-rest.invariant.traced.1 c.in-Err-flush.ensures.bytes;
+  says_cut = λ is. traced_unflushed g.I.Listed c.args.files.now _ _ _ _ _ _ _ c.loop-rest.invariant.traced.0 c.loop-rest.invariant.traced.1 c.in-Err-flush.ensures.stays;
   named = search rules;
   output = λ is sound.
       let at = c.loop-rest.invariant.at sound in
-      at_unflushed _ _ _ _ _ _ _ _ _ _ at.2 c.in-Err-flush.ensures.bytes (λ j. BeginsIn c.args.files.now c.args.self.now c.loop-rest.self (take j (lines_of c.args.script.now))) at.3.0;
+      at_unflushed _ _ _ _ _ _ _ _ _ _ at.2 c.in-Err-flush.ensures.stays (λ j. BeginsIn c.args.files.now c.args.self.now c.loop-rest.self (take j (lines_of c.args.script.now))) at.3.0;
   cut_sound = search rules;
   cut_lives = search rules;
+  output_caused = λ _. subst (λ (n : ℕ). HasRisen n (g.O.Output.seen c.flush.new.self).refusals) c.loop-rest.invariant.none c.in-Err-flush.ensures.cause;
+  passed = tt;
   refused = search rules;
   kept = search rules;
   stops = search rules;

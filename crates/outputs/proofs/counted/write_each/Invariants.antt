@@ -1,6 +1,6 @@
 use Rattle.std.proofs.Common.{◌≡◌, ℕ, length, take, drop}
 use Rattle.std.specs.Io.KnownBytes.{Appends}
-use Rattle.sessions.proofs.answering.send_each.Given as goal
+use Rattle.outputs.proofs.counted.write_each.Given as goal
 
 -- the first n bytes were taken, and the others are left
 abbrev pub invariant-loop-rest : goal.invariant-loop-rest

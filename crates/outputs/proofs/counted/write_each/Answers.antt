@@ -3,7 +3,7 @@ use Rattle.std.proofs.Math.Seq.{take-add}
 use Rattle.std.proofs.lemmas.List.{drop-drop, take_all, length-drop}
 use Rattle.std.proofs.KnownBytes.{Appends-trans}
 use Rattle.std.specs.Io.KnownBytes.{Appends}
-use Rattle.trajdb.proofs.output.send.Goals as goal
+use Rattle.outputs.proofs.counted.write_each.Goals as goal
 
 -- m more bytes were taken
 sent_more : (a b c : Option (List ℕ)) (bytes rest : List ℕ) (n m : ℕ) → Appends a b (take n bytes) → rest ≡ drop n bytes → Appends b c (take m rest)

@@ -1,0 +1,18 @@
+-- What contracts see of an output, and what a call shows of it.
+use Rattle.std.specs.Prelude.{ℕ, ◌≡◌, Bool, IsTrue, List, Option}
+use Rattle.pages.specs.Store.{HasRisen}
+
+-- the bytes that it took, where it tells them, how often it refused a call, and whether it has passed on all that it took
+pub record Shown : Type 0 where
+  pub contents : Option (List ℕ)
+  pub refusals : ℕ
+  pub is_flushed : Bool
+
+-- it refused a call
+abbrev pub HasRefused : Shown → Shown → Type 0
+HasRefused old new = HasRisen old.refusals new.refusals
+
+-- it refused none, and has passed on all that it took
+pub record IsPassedOn (old new : Shown) : Type 0 where
+  pub none : new.refusals ≡ old.refusals
+  pub flushed : IsTrue new.is_flushed

@@ -1,0 +1,74 @@
+//! An output over a writer.
+ghost use Rattle.std.specs.Prelude.{ℕ, ◌≡◌, take, OnErr, OnOk};
+ghost use Rattle.std.specs.Io.KnownBytes.{Appends};
+
+use crate::output::{Output, OutputFault};
+use pages::Refusals;
+use std::io::Write;
+
+/// An output over a writer, which tells what that one tells.
+#[derive(Drop)]
+pub struct CountedOutput<'a, W: Write> {
+    out: &'a mut W,
+    refusals: Refusals,
+    /// Whether the writer was flushed since it was given bytes last.
+    is_flushed: bool,
+}
+
+impl<'a, W: Write> CountedOutput<'a, W> {
+    /// The output over that writer, which has refused nothing and may keep bytes that it was given before.
+    pub fn new(out: &'a mut W) -> CountedOutput<'a, W>
+        ensures same_reference { result.out.ghost_name ≡ out.entry.ghost_name }
+        ensures contents { W.contents result.out.now ≡ W.contents out.old }
+        ensures refusals { (⟦<CountedOutput<'a, W> as Output>⟧.seen result).refusals ≡ 0 }
+    {
+        CountedOutput {
+            out,
+            refusals: Refusals::none(),
+            is_flushed: false,
+        }
+    }
+}
+
+/// Writes all the bytes; no byte that was taken is written again.
+fn write_each<W: Write>(out: &mut W, bytes: &[u8]) -> Result<(), OutputFault>
+    ensures sent { OnOk result (Appends (W.contents out.old) (W.contents out.new) bytes.now) }
+    ensures part { OnErr result ((n : ℕ) × Appends (W.contents out.old) (W.contents out.new)
+        (take n bytes.now)) }
+{
+    let mut rest = bytes;
+    while !rest.is_empty() {
+        match out.write(rest) {
+            Ok(0) => return Err(OutputFault),
+            Ok(n) => rest = &rest[n..],
+            Err(_) => return Err(OutputFault),
+        }
+    }
+    Ok(())
+}
+
+impl<'a, W: Write> Output for CountedOutput<'a, W> {
+    ghost use Rattle.outputs.specs.Shown.{Shown};
+
+    ghost seen = { λ s. record {
+      contents = W.contents s.out.now;
+      refusals = s.refusals;
+      is_flushed = s.is_flushed;
+    } };
+
+    fn send(&mut self, bytes: &[u8]) -> Result<(), OutputFault> {
+        self.is_flushed = false;
+        let written = write_each(self.out, bytes);
+        self.refusals.of(written)
+    }
+
+    fn flush(&mut self) -> Result<(), OutputFault> {
+        match self.out.flush() {
+            Ok(()) => {
+                self.is_flushed = true;
+                Ok(())
+            }
+            Err(_) => self.refusals.of(Err(OutputFault)),
+        }
+    }
+}

@@ -1,0 +1,36 @@
+//! The contract of an output.
+ghost use Rattle.std.specs.Prelude.{ℕ, ◌≡◌, take, OnErr, OnOk};
+ghost use Rattle.std.specs.Io.KnownBytes.{Appends, Keeps};
+ghost use Rattle.outputs.specs.Shown.{HasRefused, IsPassedOn, Shown};
+
+use thiserror::Error;
+
+/// Why an output refused a call: it failed.
+#[derive(Clone, Copy, PartialEq, Eq, Debug, Error)]
+#[error("the output failed")]
+pub struct OutputFault;
+
+/// An output, which takes answers.
+///
+/// An output may tell contracts which bytes it took, and then they are said exactly. Standard output tells none. The
+/// count of what it refused stays at 2^64 - 1 once it is there, and then counts as risen.
+pub trait Output {
+    /// What contracts see of an output: the bytes that it took, how often it refused a call, and whether it has passed
+    /// on all that it took.
+    ghost seen: { Self → Shown };
+
+    /// Takes all the bytes. Where it is refused it took a front of them.
+    fn send(&mut self, bytes: &[u8]) -> Result<(), OutputFault>
+        ensures sent { OnOk result
+            (Appends (seen self.old).contents (seen self.new).contents bytes.now) }
+        ensures none { OnOk result ((seen self.new).refusals ≡ (seen self.old).refusals) }
+        ensures part { OnErr result ((n : ℕ) × Appends (seen self.old).contents
+            (seen self.new).contents (take n bytes.now)) }
+        ensures cause { OnErr result (HasRefused (seen self.old) (seen self.new)) };
+
+    /// Passes on what it kept for a while of the bytes that it took.
+    fn flush(&mut self) -> Result<(), OutputFault>
+        ensures stays { Keeps (seen self.old).contents (seen self.new).contents }
+        ensures passed { OnOk result (IsPassedOn (seen self.old) (seen self.new)) }
+        ensures cause { OnErr result (HasRefused (seen self.old) (seen self.new)) };
+}
