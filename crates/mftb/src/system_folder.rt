@@ -6,8 +6,8 @@ use crate::held_file::HeldFile;
 use crate::locks::{Held, Hold, hold_name, is_named, open_held};
 use crate::names::Names;
 use monitor::{Noted, Progress};
-use pages::{FileStore, PageStore, Refusals};
-use sessions::{Cause, Fault, Folder};
+use pages::{FileStore, PageStore};
+use sessions::{Cause, Fault, Folder, Refused};
 use std::fs::{File, Metadata};
 use std::io::{Eprint, Read, Write};
 use std::os::unix::fs::{MetadataExt, OpenOptionsExt, chown};
@@ -39,8 +39,8 @@ pub(crate) struct SystemFolder<'a, 'p, R: Files<File = File> + Clock + Eprint> {
     is_made: bool,
     /// Whether the system was asked to make each name last that was given.
     is_settled: bool,
-    /// How often it was refused to make a copy, to make it last, or to give it the name.
-    refusals: Refusals,
+    /// What it refused: to make a copy, to make it last, or to give it the name.
+    refused: Refused,
 }
 
 /// Takes a file's name away, where it has one.
@@ -84,7 +84,7 @@ fn set_rights<R: Files<File = File>>(
 }
 
 /// Makes the file of a name that no other run has made.
-fn make<'a, R: Files<File = File>>(rt: &R, name: &str, mode: u32) -> Result<File, Fault<'a>>
+fn make<R: Files<File = File>>(rt: &R, name: &str, mode: u32) -> Result<File, Fault<'static>>
     ensures named { IfErr result IsOfFolder }
 {
     let mut how = File::options();
@@ -151,7 +151,7 @@ impl<'a, 'p, R: Files<File = File> + Clock + Eprint> SystemFolder<'a, 'p, R> {
                 lock,
                 is_made: false,
                 is_settled: true,
-                refusals: Refusals::none(),
+                refused: Refused::nothing(),
             }),
             Err(fault) => {
                 let _ = fs::remove_file(rt, names.lock.as_str());
@@ -167,9 +167,9 @@ impl<'a, 'p, R: Files<File = File> + Clock + Eprint> SystemFolder<'a, 'p, R> {
 
     /// Makes the copy. Where there are no locks, another run may have replaced the store before, whose
     /// copy this one would take back: it is refused then.
-    fn make_copy<'b>(&mut self) -> Result<File, Fault<'b>>
+    fn make_copy(&mut self) -> Result<File, Fault<'static>>
         ensures settled { self.new.is_settled ≡ self.old.is_settled }
-        ensures refusals { self.new.refusals ≡ self.old.refusals }
+        ensures refused { self.new.refused ≡ self.old.refused }
         ensures made { OnOk result (IsTrue self.new.is_made) }
         ensures named { IfErr result IsOfFolder }
     {
@@ -203,16 +203,20 @@ impl<'a, 'p, R: Files<File = File> + Clock + Eprint> Folder for SystemFolder<'a,
 
     ghost is_settled = { λ s. s.is_settled };
 
-    ghost refusals = { λ s. s.refusals };
+    ghost refusals = { λ s. s.refused.refusals };
+
+    ghost said = { λ s. s.refused.last };
 
     ghost has_copy = { λ s. s.is_made };
 
-    fn copy<'b>(&mut self) -> Result<Noted<'a, 'p, FileStore<HeldFile<'a, File>>, R>, Fault<'b>> {
+    fn copy(
+        &mut self,
+    ) -> Result<Noted<'a, 'p, FileStore<HeldFile<'a, File>>, R>, Fault<'static>> {
         let made = self.make_copy();
-        let copy = self.refusals.of(made)?;
+        let copy = self.refused.of(made)?;
         match FileStore::new(HeldFile::noted(copy, &self.names.cause)) {
             Ok(store) => Ok(Noted::new(store, self.progress)),
-            Err(_) => self.refusals.of(Err(Fault::NoStore(Cause::Other))),
+            Err(_) => self.refused.of(Err(Fault::NoStore(Cause::Other))),
         }
     }
 
@@ -226,25 +230,25 @@ impl<'a, 'p, R: Files<File = File> + Clock + Eprint> Folder for SystemFolder<'a,
         store.is_written()
     }
 
-    fn sync<'b>(
+    fn sync(
         &mut self,
         store: &mut Noted<'a, 'p, FileStore<HeldFile<'a, File>>, R>,
-    ) -> Result<(), Fault<'b>> {
+    ) -> Result<(), Fault<'static>> {
         if store.sync().is_err() {
-            return self.refusals.of(Err(Fault::Run(RunFault::Store)));
+            return self.refused.of(Err(Fault::Run(RunFault::Store)));
         }
         Ok(())
     }
 
-    fn replace<'b>(
+    fn replace(
         &mut self,
         _store: Noted<'a, 'p, FileStore<HeldFile<'a, File>>, R>,
-    ) -> Result<(), Fault<'b>> {
+    ) -> Result<(), Fault<'static>> {
         let (copy, name) = (self.names.copy.as_str(), self.names.store.as_str());
         self.is_settled = false;
         if let Err(error) = fs::rename(self.rt, copy, name) {
             let refused = Err(Fault::NoStore(Cause::from(error.kind())));
-            return self.refusals.of(refused);
+            return self.refused.of(refused);
         }
         self.is_made = false;
         Ok(())

@@ -4,7 +4,7 @@ ghost use Rattle.std.proofs.Common.{arith};
 ghost use Rattle.sessions.specs.Folder.{pages_in};
 
 use pages::{PageStore, Refusals, StoreFault, Unsynced};
-use sessions::{Fault, Folder};
+use sessions::{Fault, Folder, Refused};
 use std::alloc::{AllocError, Global};
 use std::collections::VecDeque;
 use trajdb::RunFault;
@@ -110,7 +110,7 @@ pub(crate) struct MemFolder {
     past: VecDeque<Option<Vec<[u8; 4096]>>>,
     calls: Calls,
     is_settled: bool,
-    refusals: Refusals,
+    refused: Refused,
     has_copy: bool,
 }
 
@@ -123,7 +123,7 @@ impl MemFolder {
             past: VecDeque::new(alloc),
             calls,
             is_settled: true,
-            refusals: Refusals::none(),
+            refused: Refused::nothing(),
             has_copy: false,
         }
     }
@@ -175,13 +175,15 @@ impl Folder for MemFolder {
 
     ghost is_settled = { λ f. f.is_settled };
 
-    ghost refusals = { λ f. f.refusals };
+    ghost refusals = { λ f. f.refused.refusals };
+
+    ghost said = { λ f. f.refused.last };
 
     ghost has_copy = { λ f. f.has_copy };
 
-    fn copy<'a>(&mut self) -> Result<MemCopy, Fault<'a>> {
+    fn copy(&mut self) -> Result<MemCopy, Fault<'static>> {
         if self.calls.burns() {
-            return self.refusals.of(Err(Fault::Run(RunFault::Store)));
+            return self.refused.of(Err(Fault::Run(RunFault::Store)));
         }
         match self.pages() {
             Ok(pages) if pages.len() <= u32::MAX as usize => {
@@ -193,7 +195,7 @@ impl Folder for MemFolder {
                     calls: self.calls,
                 })
             }
-            Ok(_) | Err(_) => self.refusals.of(Err(Fault::Run(RunFault::Memory))),
+            Ok(_) | Err(_) => self.refused.of(Err(Fault::Run(RunFault::Memory))),
         }
     }
 
@@ -201,18 +203,18 @@ impl Folder for MemFolder {
         true
     }
 
-    fn sync<'a>(&mut self, store: &mut MemCopy) -> Result<(), Fault<'a>> {
+    fn sync(&mut self, store: &mut MemCopy) -> Result<(), Fault<'static>> {
         if store.sync().is_err() {
-            return self.refusals.of(Err(Fault::Run(RunFault::Store)));
+            return self.refused.of(Err(Fault::Run(RunFault::Store)));
         }
         Ok(())
     }
 
-    fn replace<'a>(&mut self, store: MemCopy) -> Result<(), Fault<'a>> {
+    fn replace(&mut self, store: MemCopy) -> Result<(), Fault<'static>> {
         self.calls = store.calls;
         self.is_settled = false;
         if self.calls.burns() {
-            return self.refusals.of(Err(Fault::Run(RunFault::Store)));
+            return self.refused.of(Err(Fault::Run(RunFault::Store)));
         }
         let old = self.file.take();
         match self.past.push_front(old) {
@@ -223,7 +225,7 @@ impl Folder for MemFolder {
             }
             Err(refused) => {
                 self.file = refused.value;
-                self.refusals.of(Err(Fault::Run(RunFault::Memory)))
+                self.refused.of(Err(Fault::Run(RunFault::Memory)))
             }
         }
     }

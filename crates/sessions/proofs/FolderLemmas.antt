@@ -193,14 +193,14 @@ on_both A B (Ok x) a b = (a, b)
 on_both A B (Err e) a b = tt
 
 -- what a folder was refused lasts
-pub widened : (first before after last : ℕ) (fault : Fault) → first ≤ before → after ≤ last → IsRefusedByFolder before after fault → IsRefusedByFolder first last fault
-widened first before after last fault early late h = (h.0, (let rises = h.1 in omega (arith, early, late, rises)))
+pub widened : (first before after last : ℕ) (said : Option Fault) (fault : Fault) → first ≤ before → after ≤ last → IsRefusedByFolder before after said fault → IsRefusedByFolder first last said fault
+widened first before after last said fault early late h = (h.0, (let rises = h.1 in omega (arith, early, late, rises)), h.2)
 
 -- a run that is answered is refused as its folder refuses it
-pub refused_by_folder : (first before after : ℕ) (answered r : Result (Unit {0}) Fault) → first ≤ before → answered ≡ Ok tt → IfErr r (IsRefusedByFolder before after)
-    → IfErr r (λ fault. (answered ≡ Err fault) ⊎ ((answered ≡ Ok tt) × IsRefusedByFolder first after fault))
-refused_by_folder first before after answered (Ok x) later is named = tt
-refused_by_folder first before after answered (Err fault) later is named = inr (is, widened first before after after fault later (omega arith) named)
+pub refused_by_folder : (first before after : ℕ) (said : Option Fault) (answered r : Result (Unit {0}) Fault) → first ≤ before → answered ≡ Ok tt → IfErr r (IsRefusedByFolder before after said)
+    → IfErr r (λ fault. (answered ≡ Err fault) ⊎ ((answered ≡ Ok tt) × IsRefusedByFolder first after said fault))
+refused_by_folder first before after said answered (Ok x) later is named = tt
+refused_by_folder first before after said answered (Err fault) later is named = inr (is, widened first before after after said fault later (omega arith) named)
 
 -- a database is made, or it is not, of a store without pages
 pub made_or_not : {S : Type 0} {is_new : Bool} (seen : S → Store) (pages : ℕ) (r : Result DbView (S × CatalogueFault)) (s : Store)

@@ -103,15 +103,16 @@ IsOfFolder (NoStore cause) = Unit {0}
 IsOfFolder NoSuchStore = ⊥
 IsOfFolder (Bounds code) = ⊥
 
--- it refuses a run, and so counts one more refusal: it makes no copy, does not make it last, or does not give it the
--- name
-abbrev pub IsRefusedByFolder : (before after : ℕ) → Fault → Type 0
-IsRefusedByFolder before after fault = IsOfFolder fault × HasRisen before after
+-- it refuses a run, and so counts one more refusal, the last of which is this fault: it makes no copy, does not make it
+-- last, or does not give it the name
+abbrev pub IsRefusedByFolder : (before after : ℕ) (said : Option Fault) → Fault → Type 0
+IsRefusedByFolder before after said fault =
+    IsOfFolder fault × HasRisen before after × (said ≡ Some fault)
 
 -- it makes no copy
-abbrev pub IsNotCopied : (before after : ℕ) → Result (Unit {0}) Fault → Type 0
-IsNotCopied before after result =
-    IsErr result × IfErr result (IsRefusedByFolder before after)
+abbrev pub IsNotCopied : (before after : ℕ) (said : Option Fault) → Result (Unit {0}) Fault → Type 0
+IsNotCopied before after said result =
+    IsErr result × IfErr result (IsRefusedByFolder before after said)
 
 -- how a run on a copy over a book is refused: nothing was sent of it, or all was, or it says which kind of fault it is: of
 -- the output, want of memory, or of a store that failed or is full; that it is so, this does not say
@@ -150,7 +151,8 @@ Makes seen copy cache_pages (Err back) =
 -- a database where that was asked for; it was run over and closed (`RunsOver`). Where that is answered, the name is kept as
 -- `NameIsKept` says; it is refused as that was, or as the folder did not make it last, or give it the name
 pub record RunsOnCopy {S O : Type 0} (seen : S → Store) (shown : O → Shown)
-    (is_new : Bool) (cache_pages before after : ℕ) (old new : Option History)
+    (is_new : Bool) (cache_pages before after : ℕ) (folder : Option Fault)
+    (old new : Option History)
     (files : List (List ℕ × List ℕ)) (out out' : O) (lines : List (List ℕ))
     (result : Result (Unit {0}) Fault) : Type 0 where
   pub copy : Store
@@ -165,4 +167,4 @@ pub record RunsOnCopy {S O : Type 0} (seen : S → Store) (shown : O → Shown)
   pub kept : OnOk result ((answered ≡ Ok tt) × NameIsKept store old new)
   pub refused : IfErr result
       (λ fault. (answered ≡ Err fault)
-      ⊎ ((answered ≡ Ok tt) × IsRefusedByFolder before after fault))
+      ⊎ ((answered ≡ Ok tt) × IsRefusedByFolder before after folder fault))

@@ -37,7 +37,7 @@ fn give<'a, F: Folder>(folder: &mut F, mut store: F::Store) -> Result<(), Fault<
     ensures taken { OnOk result (F.has_copy folder.new ≡ false) }
     ensures stays { OnErr result (F.held folder.new ≡ F.held folder.old) }
     ensures named { IfErr result (IsRefusedByFolder (F.refusals folder.old)
-        (F.refusals folder.new)) }
+        (F.refusals folder.new) (F.said folder.new)) }
     ensures settled { OnOk result (IsTrue (F.is_settled folder.new)) }
 {
     folder.sync(&mut store)?;
@@ -57,7 +57,7 @@ fn keep<'a, F: Folder>(folder: &mut F, store: F::Store) -> Result<(), Fault<'a>>
     ensures gone { F.has_copy folder.new ≡ false }
     ensures stays { OnErr result (F.held folder.new ≡ F.held folder.old) }
     ensures named { IfErr result (IsRefusedByFolder (F.refusals folder.old)
-        (F.refusals folder.new)) }
+        (F.refusals folder.new) (F.said folder.new)) }
     ensures settled { OnOk result (IsTrue (F.is_settled folder.old)
         → IsTrue (F.is_settled folder.new)) }
 {
@@ -101,10 +101,10 @@ pub fn run_on_copy<'a, F: Folder, O: Output>(
     // Whatever the store held, there was no copy, for which the folder says why, and nothing was sent, or a
     // database over the copy was opened or refused, run over and closed, and the name given to what that
     // left, or not.
-    ensures over { (IsNotCopied (F.refusals folder.old) (F.refusals folder.new) result
+    ensures over { (IsNotCopied (F.refusals folder.old) (F.refusals folder.new) (F.said folder.new) result
         × (O.seen out.new ≡ O.seen out.old))
         ⊎ RunsOnCopy F.Store.PageStore.seen O.seen how.is_new how.cache_pages
-        (F.refusals folder.old) (F.refusals folder.new)
+        (F.refusals folder.old) (F.refusals folder.new) (F.said folder.new)
         (F.held folder.old) (F.held folder.new) files.now out.old out.new (lines_of script.now)
         result }
 

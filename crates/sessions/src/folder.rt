@@ -1,6 +1,7 @@
 //! The contract of the folder that a store's file is in.
-ghost use Rattle.std.specs.Prelude.{ℕ, ◌≡◌, ◌≤◌, Bool, Option, IfErr, IfOk, IfSome, IsTrue, OnErr, OnOk, false};
+ghost use Rattle.std.specs.Prelude.{ℕ, ◌≡◌, ◌≤◌, Bool, Option, Some, IfErr, IfOk, IfSome, IsTrue, OnErr, OnOk, false};
 ghost use Rattle.pages.specs.Store.{HasRisen, IsSynced, Stays};
+ghost use Rattle.sessions.specs.declared.fault.Fault.{Fault};
 ghost use Rattle.sessions.specs.Folder.{HasPagesHeld, History, IsOfFolder, IsReplaced, store_in};
 
 use crate::fault::Fault;
@@ -24,6 +25,9 @@ pub trait Folder {
     /// How often it was refused to make a copy, to make it last, or to give it the name.
     ghost refusals: { Self → ℕ };
 
+    /// Why it was refused so last, where it ever was.
+    ghost said: { Self → Option Fault };
+
     /// Whether a copy that this folder made lies beside the store's file, as far as the system let it be
     /// taken away.
     ghost has_copy: { Self → Bool };
@@ -31,10 +35,11 @@ pub trait Folder {
     /// Makes a copy of the store's file beside it, or a new file where there is none, and opens it.
     /// What is then written to it changes the copy alone. Where it is refused, `discard` takes away
     /// what was made.
-    fn copy<'a>(&mut self) -> Result<Self::Store, Fault<'a>>
+    fn copy(&mut self) -> Result<Self::Store, Fault<'static>>
         ensures stays { held self.new ≡ held self.old }
         ensures settled { is_settled self.new ≡ is_settled self.old }
         ensures named { IfErr result IsOfFolder }
+        ensures said { IfErr result (λ fault. said self.new ≡ Some fault) }
         ensures cause { OnErr result (HasRisen (refusals self.old) (refusals self.new)) }
         ensures later { refusals self.old ≤ refusals self.new }
         ensures made { OnOk result (IsTrue (has_copy self.new)) }
@@ -47,7 +52,7 @@ pub trait Folder {
             → HasPagesHeld (Self.Store.PageStore.seen store.now) (held self.now) };
 
     /// Makes what was written to the copy last, as on a disk.
-    fn sync<'a>(&mut self, store: &mut Self::Store) -> Result<(), Fault<'a>>
+    fn sync(&mut self, store: &mut Self::Store) -> Result<(), Fault<'static>>
         ensures stays { held self.new ≡ held self.old }
         ensures copy { has_copy self.new ≡ has_copy self.old }
         ensures settled { is_settled self.new ≡ is_settled self.old }
@@ -55,12 +60,13 @@ pub trait Folder {
             (Self.Store.PageStore.seen store.new) }
         ensures synced { OnOk result (IsSynced (Self.Store.PageStore.seen store.new)) }
         ensures named { IfErr result IsOfFolder }
+        ensures said { IfErr result (λ fault. said self.new ≡ Some fault) }
         ensures cause { OnErr result (HasRisen (refusals self.old) (refusals self.new)) }
         ensures later { refusals self.old ≤ refusals self.new };
 
     /// Gives the store's name to the copy, in one step. All that was written to it is synced.
     /// Where it is refused, the name stands for what it stood for.
-    fn replace<'a>(&mut self, store: Self::Store) -> Result<(), Fault<'a>>
+    fn replace(&mut self, store: Self::Store) -> Result<(), Fault<'static>>
         requires { IsSynced (Self.Store.PageStore.seen store) }
         ensures replaced { OnOk result (IsReplaced (Self.Store.PageStore.seen store)
             (held self.old) (held self.new)) }
@@ -68,6 +74,7 @@ pub trait Folder {
         ensures stays { OnErr result (held self.new ≡ held self.old) }
         ensures copy { OnErr result (has_copy self.new ≡ has_copy self.old) }
         ensures named { IfErr result IsOfFolder }
+        ensures said { IfErr result (λ fault. said self.new ≡ Some fault) }
         ensures cause { OnErr result (HasRisen (refusals self.old) (refusals self.new)) };
 
     /// Makes the name that was given last, where the system can.
@@ -79,6 +86,7 @@ pub trait Folder {
     /// Takes away the copy, where there is one that this folder made.
     fn discard(&mut self)
         ensures gone { has_copy self.new ≡ false }
+        ensures said { said self.new ≡ said self.old }
         ensures later { refusals self.old ≤ refusals self.new }
         ensures stays { held self.new ≡ held self.old }
         ensures settled { is_settled self.new ≡ is_settled self.old };

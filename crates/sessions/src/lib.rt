@@ -14,6 +14,7 @@ mod part;
 mod part_files;
 mod read_only;
 mod reading;
+mod refused;
 mod session;
 
 pub use answering::send_all;
@@ -27,4 +28,5 @@ pub use part::send_part;
 pub use part_files::{PartFolder, put_parts};
 pub use read_only::ReadOnly;
 pub use reading::{MOST_BYTES, read_named};
+pub use refused::Refused;
 pub use session::{CACHE_PAGES, answer, database, run_and_close};
