@@ -39,6 +39,8 @@ pub(crate) struct SystemFolder<'a, 'p, R: Files<File = File> + Clock + Eprint> {
     is_made: bool,
     /// Whether the system was asked to make each name last that was given.
     is_settled: bool,
+    /// How often a copy was asked for.
+    asked: u64,
     /// What it refused: to make a copy, to make it last, or to give it the name.
     refused: Refused,
 }
@@ -151,6 +153,7 @@ impl<'a, 'p, R: Files<File = File> + Clock + Eprint> SystemFolder<'a, 'p, R> {
                 lock,
                 is_made: false,
                 is_settled: true,
+                asked: 0,
                 refused: Refused::nothing(),
             }),
             Err(fault) => {
@@ -170,6 +173,7 @@ impl<'a, 'p, R: Files<File = File> + Clock + Eprint> SystemFolder<'a, 'p, R> {
     fn make_copy(&mut self) -> Result<File, Fault<'static>>
         ensures settled { self.new.is_settled ≡ self.old.is_settled }
         ensures refused { self.new.refused ≡ self.old.refused }
+        ensures asked { self.new.asked ≡ self.old.asked }
         ensures made { OnOk result (IsTrue self.new.is_made) }
         ensures named { IfErr result IsOfFolder }
     {
@@ -207,11 +211,14 @@ impl<'a, 'p, R: Files<File = File> + Clock + Eprint> Folder for SystemFolder<'a,
 
     ghost said = { λ s. s.refused.last };
 
+    ghost asked = { λ s. s.asked };
+
     ghost has_copy = { λ s. s.is_made };
 
     fn copy(
         &mut self,
     ) -> Result<Noted<'a, 'p, FileStore<HeldFile<'a, File>>, R>, Fault<'static>> {
+        self.asked = self.asked.saturating_add(1);
         let made = self.make_copy();
         let copy = self.refused.of(made)?;
         match FileStore::new(HeldFile::noted(copy, &self.names.cause)) {

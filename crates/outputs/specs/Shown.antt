@@ -2,7 +2,8 @@
 use Rattle.std.specs.Prelude.{ℕ, ◌≡◌, Bool, IsTrue, List, Option}
 use Rattle.pages.specs.Store.{HasRisen}
 
--- the bytes that it took, where it tells them, how often it refused a call, and whether it has passed on all that it took
+-- the bytes that it took, where it tells them, how often it refused a call, and whether it was flushed since it was sent
+-- bytes last
 pub record Shown : Type 0 where
   pub contents : Option (List ℕ)
   pub refusals : ℕ
@@ -12,7 +13,7 @@ pub record Shown : Type 0 where
 abbrev pub HasRefused : Shown → Shown → Type 0
 HasRefused old new = HasRisen old.refusals new.refusals
 
--- it refused none, and has passed on all that it took
+-- it refused none, and was flushed since it was sent bytes last
 pub record IsPassedOn (old new : Shown) : Type 0 where
   pub none : new.refusals ≡ old.refusals
   pub flushed : IsTrue new.is_flushed

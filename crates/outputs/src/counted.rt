@@ -1,12 +1,12 @@
 //! An output over a writer.
-ghost use Rattle.std.specs.Prelude.{ℕ, ◌≡◌, take, OnErr, OnOk};
+ghost use Rattle.std.specs.Prelude.{ℕ, ◌≡◌, false, take, OnErr, OnOk};
 ghost use Rattle.std.specs.Io.KnownBytes.{Appends};
 
 use crate::output::{Output, OutputFault};
 use pages::Refusals;
 use std::io::Write;
 
-/// An output over a writer, which tells what that one tells.
+/// An output over a writer, which tells the bytes that that one tells, and counts what that one refuses.
 #[derive(Drop)]
 pub struct CountedOutput<'a, W: Write> {
     out: &'a mut W,
@@ -16,11 +16,12 @@ pub struct CountedOutput<'a, W: Write> {
 }
 
 impl<'a, W: Write> CountedOutput<'a, W> {
-    /// The output over that writer, which has refused nothing and may keep bytes that it was given before.
+    /// The output over that writer, which has refused nothing so far, and was not flushed.
     pub fn new(out: &'a mut W) -> CountedOutput<'a, W>
         ensures same_reference { result.out.ghost_name ≡ out.entry.ghost_name }
         ensures contents { W.contents result.out.now ≡ W.contents out.old }
         ensures refusals { (⟦<CountedOutput<'a, W> as Output>⟧.seen result).refusals ≡ 0 }
+        ensures unflushed { (⟦<CountedOutput<'a, W> as Output>⟧.seen result).is_flushed ≡ false }
     {
         CountedOutput {
             out,

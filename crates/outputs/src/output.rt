@@ -1,5 +1,5 @@
 //! The contract of an output.
-ghost use Rattle.std.specs.Prelude.{ℕ, ◌≡◌, take, OnErr, OnOk};
+ghost use Rattle.std.specs.Prelude.{ℕ, ◌≡◌, ◌<◌, false, length, take, OnErr, OnOk};
 ghost use Rattle.std.specs.Io.KnownBytes.{Appends, Keeps};
 ghost use Rattle.outputs.specs.Shown.{HasRefused, IsPassedOn, Shown};
 
@@ -15,8 +15,8 @@ pub struct OutputFault;
 /// An output may tell contracts which bytes it took, and then they are said exactly. Standard output tells none. The
 /// count of what it refused stays at 2^64 - 1 once it is there, and then counts as risen.
 pub trait Output {
-    /// What contracts see of an output: the bytes that it took, how often it refused a call, and whether it has passed
-    /// on all that it took.
+    /// What contracts see of an output: the bytes that it took, how often it refused a call, and whether it was flushed
+    /// since it was sent bytes last.
     ghost seen: { Self → Shown };
 
     /// Takes all the bytes. Where it is refused it took a front of them.
@@ -24,6 +24,7 @@ pub trait Output {
         ensures sent { OnOk result
             (Appends (seen self.old).contents (seen self.new).contents bytes.now) }
         ensures none { OnOk result ((seen self.new).refusals ≡ (seen self.old).refusals) }
+        ensures unflushed { 0 < length bytes.now → (seen self.new).is_flushed ≡ false }
         ensures part { OnErr result ((n : ℕ) × Appends (seen self.old).contents
             (seen self.new).contents (take n bytes.now)) }
         ensures cause { OnErr result (HasRefused (seen self.old) (seen self.new)) };

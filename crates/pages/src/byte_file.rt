@@ -26,8 +26,9 @@ pub trait ByteFile {
         ensures value { IfOk result (λ n. IfSome (bytes self.now) (λ xs. n ≡ length xs)) }
         ensures told { IsTrue (is_some (bytes self.now)) → IsOk result };
 
-    /// Reads the bytes from a place on, as many as `buf` has.
+    /// Reads the bytes from a place on, as many as `buf` has, which are there.
     fn read_at(&mut self, place: u64, buf: &mut [u8]) -> io::Result<()>
+        requires { IfSome (bytes self.old) (λ xs. place + length buf.old ≤ length xs) }
         ensures read { OnOk result (IfSome (bytes self.old)
             (λ xs. slice_range xs place (place + length buf.new) ≡ buf.new)) }
         ensures stays { bytes self.new ≡ bytes self.old }
@@ -51,6 +52,7 @@ pub trait ByteFile {
         ensures stays { bytes self.new ≡ bytes self.old }
         ensures synced { OnOk result (IsTrue (is_synced self.new)) }
         ensures unsynced { OnErr result (is_synced self.new ≡ is_synced self.old) }
+        ensures none { OnOk result (refusals self.new ≡ refusals self.old) }
         ensures cause { OnErr result (HasRisen (refusals self.old) (refusals self.new)) }
         ensures later { refusals self.old ≤ refusals self.new };
 }

@@ -165,6 +165,8 @@ impl<S: PageStore> PageStore for Fuse<S> {
         ensures stays { Stays (⟦<Fuse<S> as PageStore>⟧.seen self.old)
             (⟦<Fuse<S> as PageStore>⟧.seen self.new) }
         ensures synced { OnOk result (IsSynced (⟦<Fuse<S> as PageStore>⟧.seen self.new)) }
+        ensures none { OnOk result ((⟦<Fuse<S> as PageStore>⟧.seen self.new).faults
+            ≡ (⟦<Fuse<S> as PageStore>⟧.seen self.old).faults) }
         ensures unsynced { OnErr result (SameUnsynced
             (⟦<Fuse<S> as PageStore>⟧.seen self.old) (⟦<Fuse<S> as PageStore>⟧.seen self.new)) }
         ensures cause { OnErr result (Faulted

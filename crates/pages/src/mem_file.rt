@@ -1,6 +1,7 @@
 //! A file of bytes in memory.
 ghost use Rattle.std.specs.Prelude.{◌≡◌, ◌≤◌, ◌+◌, length, slice_range, true, IfSome, IsOk, IsTrue, OnErr, OnOk, Some};
 ghost use Rattle.std.specs.List.{replace_range};
+ghost use Rattle.pages.specs.Bytes.{StaysAround};
 ghost use Rattle.pages.specs.Store.{HasRisen};
 
 use crate::byte_file::ByteFile;
@@ -46,10 +47,11 @@ impl ByteFile for MemFile {
         Ok(self.bytes.len() as u64)
     }
 
-    /// Reads the bytes from a place on, as many as `buf` has, and is refused only where there are not so many.
+    /// Reads the bytes from a place on, as many as `buf` has, which are there, and is never refused.
     fn read_at(&mut self, place: u64, buf: &mut [u8]) -> io::Result<()>
-        ensures within { IfSome (⟦<MemFile as ByteFile>⟧.bytes self.old)
-            (λ xs. place + length buf.old ≤ length xs → IsOk result) }
+        requires { IfSome (⟦<MemFile as ByteFile>⟧.bytes self.old)
+            (λ xs. place + length buf.old ≤ length xs) }
+        ensures never { IsOk result }
         ensures read { OnOk result (IfSome (⟦<MemFile as ByteFile>⟧.bytes self.old)
             (λ xs. slice_range xs place (place + length buf.new) ≡ buf.new)) }
         ensures stays { ⟦<MemFile as ByteFile>⟧.bytes self.new
@@ -62,16 +64,24 @@ impl ByteFile for MemFile {
             ≤ ⟦<MemFile as ByteFile>⟧.refusals self.new }
     {
         let start = place as usize;
-        match start.checked_add(buf.len()) {
-            Some(end) if end <= self.bytes.len() => {
-                buf.copy_from_slice(&self.bytes[start..end]);
-                Ok(())
-            }
-            _ => self.refusals.of(Err(io::Error::from(io::ErrorKind::UnexpectedEof))),
-        }
+        buf.copy_from_slice(&self.bytes[start..start + buf.len()]);
+        Ok(())
     }
 
-    fn write_at(&mut self, place: u64, buf: &[u8]) -> io::Result<()> {
+    /// Writes bytes from a place on, which may be the file's end. Refused are only bytes beyond the end that find no memory.
+    fn write_at(&mut self, place: u64, buf: &[u8]) -> io::Result<()>
+        requires { IfSome (⟦<MemFile as ByteFile>⟧.bytes self.old) (λ xs. place ≤ length xs) }
+        ensures within { IfSome (⟦<MemFile as ByteFile>⟧.bytes self.old)
+            (λ xs. place + length buf.now ≤ length xs → IsOk result) }
+        ensures written { OnOk result (IfSome (⟦<MemFile as ByteFile>⟧.bytes self.new)
+            (λ xs. slice_range xs place (place + length buf.now) ≡ buf.now)) }
+        ensures around { StaysAround place (place + length buf.now)
+            (⟦<MemFile as ByteFile>⟧.bytes self.old) (⟦<MemFile as ByteFile>⟧.bytes self.new) }
+        ensures cause { OnErr result (HasRisen (⟦<MemFile as ByteFile>⟧.refusals self.old)
+            (⟦<MemFile as ByteFile>⟧.refusals self.new)) }
+        ensures later { ⟦<MemFile as ByteFile>⟧.refusals self.old
+            ≤ ⟦<MemFile as ByteFile>⟧.refusals self.new }
+    {
         let start = place as usize;
         let Some(end) = start.checked_add(buf.len()) else {
             return self.refusals.of(Err(io::Error::from(io::ErrorKind::FileTooLarge)));
@@ -91,6 +101,8 @@ impl ByteFile for MemFile {
         ensures synced { OnOk result (IsTrue (⟦<MemFile as ByteFile>⟧.is_synced self.new)) }
         ensures unsynced { OnErr result (⟦<MemFile as ByteFile>⟧.is_synced self.new
             ≡ ⟦<MemFile as ByteFile>⟧.is_synced self.old) }
+        ensures none { OnOk result (⟦<MemFile as ByteFile>⟧.refusals self.new
+            ≡ ⟦<MemFile as ByteFile>⟧.refusals self.old) }
         ensures cause { OnErr result (HasRisen (⟦<MemFile as ByteFile>⟧.refusals self.old)
             (⟦<MemFile as ByteFile>⟧.refusals self.new)) }
         ensures later { ⟦<MemFile as ByteFile>⟧.refusals self.old

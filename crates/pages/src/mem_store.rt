@@ -132,6 +132,8 @@ impl PageStore for MemStore {
         ensures stays { Stays (⟦<MemStore as PageStore>⟧.seen self.old)
             (⟦<MemStore as PageStore>⟧.seen self.new) }
         ensures synced { OnOk result (IsSynced (⟦<MemStore as PageStore>⟧.seen self.new)) }
+        ensures none { OnOk result ((⟦<MemStore as PageStore>⟧.seen self.new).faults
+            ≡ (⟦<MemStore as PageStore>⟧.seen self.old).faults) }
         ensures unsynced { OnErr result (SameUnsynced
             (⟦<MemStore as PageStore>⟧.seen self.old) (⟦<MemStore as PageStore>⟧.seen self.new)) }
         ensures cause { OnErr result (Faulted

@@ -1,6 +1,5 @@
 //! How often calls were refused.
-ghost use Rattle.std.specs.Prelude.{◌≡◌, ◌≤◌, OnErr, OnOk};
-ghost use Rattle.pages.specs.Store.{HasRisen};
+ghost use Rattle.std.specs.Prelude.{◌≡◌, ◌≤◌, ◌+◌, ◌-◌, ◌^◌, min, OnErr, OnOk};
 
 use std::marker::Model;
 
@@ -28,7 +27,7 @@ impl Refusals {
 
     /// Counts one more.
     pub fn add(&mut self)
-        ensures cause { HasRisen self.old self.new }
+        ensures counted { self.new ≡ min (self.old + 1) (2 ^ 64 - 1) }
         ensures later { self.old ≤ self.new }
     {
         self.count = self.count.saturating_add(1);
@@ -37,7 +36,7 @@ impl Refusals {
     /// The answer of a call as it is, which is counted where it is a refusal.
     pub fn of<T, E>(&mut self, answer: Result<T, E>) -> Result<T, E>
         ensures same { result ≡ answer }
-        ensures cause { OnErr result (HasRisen self.old self.new) }
+        ensures counted { OnErr result (self.new ≡ min (self.old + 1) (2 ^ 64 - 1)) }
         ensures none { OnOk result (self.new ≡ self.old) }
         ensures later { self.old ≤ self.new }
     {

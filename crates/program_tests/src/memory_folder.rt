@@ -110,6 +110,7 @@ pub(crate) struct MemFolder {
     past: VecDeque<Option<Vec<[u8; 4096]>>>,
     calls: Calls,
     is_settled: bool,
+    asked: u64,
     refused: Refused,
     has_copy: bool,
 }
@@ -123,6 +124,7 @@ impl MemFolder {
             past: VecDeque::new(alloc),
             calls,
             is_settled: true,
+            asked: 0,
             refused: Refused::nothing(),
             has_copy: false,
         }
@@ -179,9 +181,12 @@ impl Folder for MemFolder {
 
     ghost said = { λ f. f.refused.last };
 
+    ghost asked = { λ f. f.asked };
+
     ghost has_copy = { λ f. f.has_copy };
 
     fn copy(&mut self) -> Result<MemCopy, Fault<'static>> {
+        self.asked = self.asked.saturating_add(1);
         if self.calls.burns() {
             return self.refused.of(Err(Fault::Run(RunFault::Store)));
         }

@@ -54,7 +54,7 @@ BeginsWith is_new store shape limits book =
     ⊎ (IsTrue is_new × (store.count ≡ 0) × (shape ≡ new_shape)
     × (limits ≡ limits_of 16777216 1048576) × (book ≡ empty_book))
 
--- a store has the same pages as another one, synced or not
+-- a store is as another one, as many pages as it may have and all, but for its count of faults and for what is synced
 abbrev pub HasPagesOf : Store → Store → Type 0
 HasPagesOf store other = record store { faults = 0; unsynced = Others } ≡ other
 
@@ -103,13 +103,13 @@ IsOfFolder (NoStore cause) = Unit {0}
 IsOfFolder NoSuchStore = ⊥
 IsOfFolder (Bounds code) = ⊥
 
--- it refuses a run, and so counts one more refusal, the last of which is this fault: it makes no copy, does not make it
--- last, or does not give it the name
+-- it refused a call, which it counts, and this fault is why it did so last: it made no copy, did not make it last, or did
+-- not give it the name
 abbrev pub IsRefusedByFolder : (before after : ℕ) (said : Option Fault) → Fault → Type 0
 IsRefusedByFolder before after said fault =
     IsOfFolder fault × HasRisen before after × (said ≡ Some fault)
 
--- it makes no copy
+-- a run is refused so, as where no copy is made
 abbrev pub IsNotCopied : (before after : ℕ) (said : Option Fault) → Result (Unit {0}) Fault → Type 0
 IsNotCopied before after said result =
     IsErr result × IfErr result (IsRefusedByFolder before after said)

@@ -7,8 +7,8 @@ use crate::fault::Fault;
 use outputs::Output;
 use trajdb::RunFault;
 
-/// Sends all the bytes, and what the output keeps of them for a while. Where they are not all sent, `Output`: then the
-/// output has a front of them.
+/// Sends all the bytes, and flushes the output. Where they are not all sent, or the flush is refused, `Output`: then the
+/// output has a front of them, or all.
 pub fn send_all<'a, O: Output>(out: &mut O, bytes: &[u8]) -> Result<(), Fault<'a>>
     ensures sent { OnOk result
         (Appends (O.seen out.old).contents (O.seen out.new).contents bytes.now) }

@@ -1,5 +1,5 @@
 //! A run that works on a copy beside the store.
-ghost use Rattle.std.specs.Prelude.{◌≡◌, ◌<◌, ◌⊎◌, IfErr, IfSome, IsTrue, OnErr, OnOk, false};
+ghost use Rattle.std.specs.Prelude.{◌≡◌, ◌<◌, ◌⊎◌, ◌+◌, ◌-◌, ◌^◌, min, IfErr, IfSome, IsTrue, OnErr, OnOk, false};
 ghost use Rattle.legs.specs.Book.{Book};
 ghost use Rattle.legs.specs.Costs.{ShapeView};
 ghost use Rattle.legs.specs.Limits.{LimitsView};
@@ -32,6 +32,9 @@ pub struct Opening {
 
 /// Gives the store's name to a copy whose pages are on the disk, and makes that last.
 fn give<'a, F: Folder>(folder: &mut F, mut store: F::Store) -> Result<(), Fault<'a>>
+    requires { IsTrue (F.has_copy folder.old) }
+    ensures asked { F.asked folder.new ≡ F.asked folder.old }
+    ensures none { OnOk result (F.refusals folder.new ≡ F.refusals folder.old) }
     ensures replaced { OnOk result (IsReplaced (F.Store.PageStore.seen store) (F.held folder.old)
         (F.held folder.new)) }
     ensures taken { OnOk result (F.has_copy folder.new ≡ false) }
@@ -52,6 +55,9 @@ fn give<'a, F: Folder>(folder: &mut F, mut store: F::Store) -> Result<(), Fault<
 
 /// Gives the store's name to a copy, where a page of it was written, and takes it away otherwise.
 fn keep<'a, F: Folder>(folder: &mut F, store: F::Store) -> Result<(), Fault<'a>>
+    requires { IsTrue (F.has_copy folder.old) }
+    ensures asked { F.asked folder.new ≡ F.asked folder.old }
+    ensures none { OnOk result (F.refusals folder.new ≡ F.refusals folder.old) }
     ensures kept { OnOk result (NameIsKept (F.Store.PageStore.seen store) (F.held folder.old)
         (F.held folder.new)) }
     ensures gone { F.has_copy folder.new ≡ false }
@@ -98,9 +104,8 @@ pub fn run_on_copy<'a, F: Folder, O: Output>(
         → RunsBeside shape limits book files.now (O.seen out.old).contents
         (O.seen out.new).contents (lines_of script.now) (F.held folder.old) (F.held folder.new))) }
 
-    // Whatever the store held, there was no copy, for which the folder says why, and nothing was sent, or a
-    // database over the copy was opened or refused, run over and closed, and the name given to what that
-    // left, or not.
+    // Whatever the store held, a call of the folder was refused, which says why, and nothing was sent, or a database over
+    // the copy was opened or refused, run over and closed, and the name given to what that left, or not.
     ensures over { (IsNotCopied (F.refusals folder.old) (F.refusals folder.new) (F.said folder.new) result
         × (O.seen out.new ≡ O.seen out.old))
         ⊎ RunsOnCopy F.Store.PageStore.seen O.seen how.is_new how.cache_pages
@@ -114,8 +119,11 @@ pub fn run_on_copy<'a, F: Folder, O: Output>(
     ensures settled { OnOk result (IsTrue (F.is_settled folder.old)
         → IsTrue (F.is_settled folder.new)) }
 
-    // No copy is left beside the store's file, whatever is answered.
+    // A copy is asked for once, whatever is answered, and none is left beside the store's file. Where it is answered, the
+    // folder refused nothing.
+    ensures asked { F.asked folder.new ≡ min (F.asked folder.old + 1) (2 ^ 64 - 1) }
     ensures gone { F.has_copy folder.new ≡ false }
+    ensures none { OnOk result (F.refusals folder.new ≡ F.refusals folder.old) }
 
     // Where it is refused the name stands for what it stood for, all along, and what was sent is
     // the front of that text.

@@ -1,5 +1,5 @@
 //! The contract of the folder that a store's file is in.
-ghost use Rattle.std.specs.Prelude.{ℕ, ◌≡◌, ◌≤◌, Bool, Option, Some, IfErr, IfOk, IfSome, IsTrue, OnErr, OnOk, false};
+ghost use Rattle.std.specs.Prelude.{ℕ, ◌≡◌, ◌≤◌, ◌+◌, ◌-◌, ◌^◌, min, Bool, Option, Some, IfErr, IfOk, IfSome, IsTrue, OnErr, OnOk, false};
 ghost use Rattle.pages.specs.Store.{HasRisen, IsSynced, Stays};
 ghost use Rattle.sessions.specs.declared.fault.Fault.{Fault};
 ghost use Rattle.sessions.specs.Folder.{HasPagesHeld, History, IsOfFolder, IsReplaced, store_in};
@@ -28,6 +28,9 @@ pub trait Folder {
     /// Why it was refused so last, where it ever was.
     ghost said: { Self → Option Fault };
 
+    /// How often a copy was asked for; 2^64 - 1 stands for any greater number.
+    ghost asked: { Self → ℕ };
+
     /// Whether a copy that this folder made lies beside the store's file, as far as the system let it be
     /// taken away.
     ghost has_copy: { Self → Bool };
@@ -36,8 +39,10 @@ pub trait Folder {
     /// What is then written to it changes the copy alone. Where it is refused, `discard` takes away
     /// what was made.
     fn copy(&mut self) -> Result<Self::Store, Fault<'static>>
+        ensures asked { asked self.new ≡ min (asked self.old + 1) (2 ^ 64 - 1) }
         ensures stays { held self.new ≡ held self.old }
         ensures settled { is_settled self.new ≡ is_settled self.old }
+        ensures none { OnOk result (refusals self.new ≡ refusals self.old) }
         ensures named { IfErr result IsOfFolder }
         ensures said { IfErr result (λ fault. said self.new ≡ Some fault) }
         ensures cause { OnErr result (HasRisen (refusals self.old) (refusals self.new)) }
@@ -53,12 +58,15 @@ pub trait Folder {
 
     /// Makes what was written to the copy last, as on a disk.
     fn sync(&mut self, store: &mut Self::Store) -> Result<(), Fault<'static>>
+        requires { IsTrue (has_copy self.old) }
         ensures stays { held self.new ≡ held self.old }
         ensures copy { has_copy self.new ≡ has_copy self.old }
         ensures settled { is_settled self.new ≡ is_settled self.old }
         ensures pages { Stays (Self.Store.PageStore.seen store.old)
             (Self.Store.PageStore.seen store.new) }
         ensures synced { OnOk result (IsSynced (Self.Store.PageStore.seen store.new)) }
+        ensures asked { asked self.new ≡ asked self.old }
+        ensures none { OnOk result (refusals self.new ≡ refusals self.old) }
         ensures named { IfErr result IsOfFolder }
         ensures said { IfErr result (λ fault. said self.new ≡ Some fault) }
         ensures cause { OnErr result (HasRisen (refusals self.old) (refusals self.new)) }
@@ -67,18 +75,23 @@ pub trait Folder {
     /// Gives the store's name to the copy, in one step. All that was written to it is synced.
     /// Where it is refused, the name stands for what it stood for.
     fn replace(&mut self, store: Self::Store) -> Result<(), Fault<'static>>
-        requires { IsSynced (Self.Store.PageStore.seen store) }
+        requires synced { IsSynced (Self.Store.PageStore.seen store) }
+        requires copy { IsTrue (has_copy self.old) }
         ensures replaced { OnOk result (IsReplaced (Self.Store.PageStore.seen store)
             (held self.old) (held self.new)) }
         ensures taken { OnOk result (has_copy self.new ≡ false) }
         ensures stays { OnErr result (held self.new ≡ held self.old) }
         ensures copy { OnErr result (has_copy self.new ≡ has_copy self.old) }
+        ensures asked { asked self.new ≡ asked self.old }
+        ensures none { OnOk result (refusals self.new ≡ refusals self.old) }
         ensures named { IfErr result IsOfFolder }
         ensures said { IfErr result (λ fault. said self.new ≡ Some fault) }
         ensures cause { OnErr result (HasRisen (refusals self.old) (refusals self.new)) };
 
     /// Makes the name that was given last, where the system can.
     fn settle(&mut self)
+        ensures asked { asked self.new ≡ asked self.old }
+        ensures none { refusals self.new ≡ refusals self.old }
         ensures stays { held self.new ≡ held self.old }
         ensures copy { has_copy self.new ≡ has_copy self.old }
         ensures settled { IsTrue (is_settled self.new) };
@@ -87,7 +100,8 @@ pub trait Folder {
     fn discard(&mut self)
         ensures gone { has_copy self.new ≡ false }
         ensures said { said self.new ≡ said self.old }
-        ensures later { refusals self.old ≤ refusals self.new }
+        ensures none { refusals self.new ≡ refusals self.old }
+        ensures asked { asked self.new ≡ asked self.old }
         ensures stays { held self.new ≡ held self.old }
         ensures settled { is_settled self.new ≡ is_settled self.old };
 }

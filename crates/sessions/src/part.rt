@@ -11,7 +11,7 @@ use std::alloc::Global;
 use trajdb::RunFault;
 
 /// Sends part `k` of `n` of a file, of which these are the bytes; parts are numbered from 0. Where
-/// there is no memory for its text, `Memory`, and where that is not all sent, `Output`.
+/// there is no memory for its text, `Memory`, and where that is not all sent, or the flush is refused, `Output`.
 pub fn send_part<'a, O: Output>(
     alloc: Global,
     k: u32,

@@ -28,7 +28,7 @@ impl Refused {
 
     /// The answer of a call as it is, which is counted, and kept as the last one, where it is a refusal.
     pub fn of<T>(&mut self, answer: Result<T, Fault<'static>>) -> Result<T, Fault<'static>>
-        ensures same { result ≡ answer }
+        ensures same { result ≡ answer.entry }
         ensures none { OnOk result (self.new ≡ self.old) }
         ensures cause { OnErr result (HasRisen self.old.refusals self.new.refusals) }
         ensures later { self.old.refusals ≤ self.new.refusals }

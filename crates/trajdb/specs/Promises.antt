@@ -133,9 +133,12 @@ pub record RunCall {I O : Type 0} (g : Ghosts I) (shown : O → Shown)
       → IsCut files (shown out).contents (shown out').contents old new lines
   pub cut_sound : IsErrOf result RunFault.Output → IsSound g old → IsSound g new
   pub cut_lives : IsErrOf result RunFault.Output → new.failed ≡ false
-  -- it is said to fail only where it refused a call; where the run is answered it refused none, and keeps nothing back
+  -- it is said to fail only where it refused a call; where the run is answered it refused none, and was flushed behind the
+  -- last answer; and so it was where the run stops at a line, or it refused a call
   pub output_caused : IsErrOf result RunFault.Output → HasRefused (shown out) (shown out')
   pub passed : OnOk result (IsPassedOn (shown out) (shown out'))
+  pub passed_before : IfErr result (λ fault. IsNotOutput fault → old.failed ≡ false
+      → IsTrue (shown out').is_flushed ⊎ HasRefused (shown out) (shown out'))
   -- where the run stops at a line
   pub refused : IfErr result (λ e. IsNotOutput e → old.failed ≡ false → IsSound g old
       → Stops files (shown out).contents (shown out').contents old new lines)

@@ -431,6 +431,9 @@ impl<I: Start> Core<I> {
         ensures none { OnOk result ((O.seen out.new).refusals ≡ (O.seen out.old).refusals) }
         ensures output { IsErrOf result RunFault.Output
             → HasRefused (O.seen out.old) (O.seen out.new) }
+        ensures passed { IfErr result (λ fault. IsNotOutput fault
+            → IsTrue (O.seen out.new).is_flushed
+            ⊎ HasRefused (O.seen out.old) (O.seen out.new)) }
         ensures begins { OnOk result (Begins I.Listed self.old self.new
             (AcceptsLine self.old.limits files.now self.old.book line.now)) }
         ensures only { BeginsOnly I.Listed self.old self.new
@@ -440,14 +443,19 @@ impl<I: Start> Core<I> {
     {
         match self.answer(alloc, line, files) {
             Ok(text) => send(out, text.as_slice()),
-            Err(fault) => Err(fault),
+            Err(fault) => {
+                // The answers before are passed on; where the output refuses that, the fault is still the line's.
+                let _ = out.flush();
+                Err(fault)
+            }
         }
     }
 
     /// Runs a script, with the named files at hand, and sends its answers.
     ///
-    /// Where a line is not answered the run stops: the answers to the lines before it were sent, whole, and the database is
-    /// left as after these, or is failed, and the line a `load` of a file that is there. Where the output fails (`Output`) a
+    /// Where a line is not answered the run stops: the answers to the lines before it were sent, whole, and passed on unless
+    /// the output refuses that, and the database is left as after these, or is failed, and the line a `load` of a file that is
+    /// there. Where the output fails (`Output`) a
     /// front of the answers was sent, all but the last of them whole. A failed database does nothing (`Failed`).
     pub fn run<O: Output>(
         &mut self,

@@ -1,4 +1,4 @@
-use Rattle.std.proofs.Common.{rules, [], ℕ, inl, ◌≡◌, ◌+◌, ◌∙◌, ap, refl, sym, subst, take, true, false}
+use Rattle.std.proofs.Common.{rules, [], ℕ, IsTrue, inl, ◌≡◌, ◌+◌, ◌∙◌, ap, refl, sym, subst, take, true, false}
 use Rattle.std.specs.Prelude.{◌⊎◌, ◌↔◌}
 use Rattle.trajdb.specs.Answers.{AcceptsLine}
 use Rattle.trajdb.specs.Script.{lines_of}
@@ -77,6 +77,7 @@ returns-in-Err-clause-call g c =
       cut_lives = search rules;
       output_caused = λ is. subst (λ (n : ℕ). HasRisen n (g.O.Output.seen c.line.new.out).refusals) c.loop-rest.invariant.none (c.in-Err.ensures.output is);
       passed = tt;
+      passed_before = λ inside _. subst (λ (n : ℕ). IsTrue (g.O.Output.seen c.line.new.out).is_flushed ⊎ HasRisen n (g.O.Output.seen c.line.new.out).refusals) c.loop-rest.invariant.none (c.in-Err.ensures.passed inside);
       refused = λ inside lives sound.
           let at = c.loop-rest.invariant.at sound in
           let only = subst (λ (limits : LimitsView). c.line.new.self.begun ≡ true → (c.loop-rest.self.begun ≡ true) ⊎ AcceptsLine limits c.args.files.now c.loop-rest.self.book c.without_return.result.now)
@@ -113,6 +114,7 @@ returns-in-Ok-flush-clause-call g c = record {
   cut_lives = search rules;
   output_caused = search rules;
   passed = record { none = c.in-Ok-flush.ensures.passed.none ∙ c.loop-rest.invariant.none; flushed = c.in-Ok-flush.ensures.passed.flushed };
+  passed_before = tt;
   refused = tt;
   kept = tt;
   stops = tt;
@@ -141,6 +143,7 @@ returns-in-Err-flush-clause-call g c = record {
   cut_lives = search rules;
   output_caused = λ _. subst (λ (n : ℕ). HasRisen n (g.O.Output.seen c.flush.new.self).refusals) c.loop-rest.invariant.none c.in-Err-flush.ensures.cause;
   passed = tt;
+  passed_before = search rules;
   refused = search rules;
   kept = search rules;
   stops = search rules;
