@@ -215,9 +215,7 @@ impl<'a, 'p, R: Files<File = File> + Clock + Eprint> Folder for SystemFolder<'a,
 
     ghost has_copy = { λ s. s.is_made };
 
-    fn copy(
-        &mut self,
-    ) -> Result<Noted<'a, 'p, FileStore<HeldFile<'a, File>>, R>, Fault<'static>> {
+    fn copy(&mut self) -> Result<Noted<'a, 'p, FileStore<HeldFile<'a, File>>, R>, Fault<'static>> {
         self.asked = self.asked.saturating_add(1);
         let made = self.make_copy();
         let copy = self.refused.of(made)?;

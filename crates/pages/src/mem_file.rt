@@ -84,10 +84,12 @@ impl ByteFile for MemFile {
     {
         let start = place as usize;
         let Some(end) = start.checked_add(buf.len()) else {
-            return self.refusals.of(Err(io::Error::from(io::ErrorKind::FileTooLarge)));
+            let refused = Err(io::Error::from(io::ErrorKind::FileTooLarge));
+            return self.refusals.of(refused);
         };
         if end > self.bytes.len() && self.bytes.resize(end, 0).is_err() {
-            return self.refusals.of(Err(io::Error::from(io::ErrorKind::OutOfMemory)));
+            let refused = Err(io::Error::from(io::ErrorKind::OutOfMemory));
+            return self.refusals.of(refused);
         }
         overwrite(&mut self.bytes, start, buf);
         Ok(())

@@ -63,10 +63,10 @@ fn the_first_fault_is_said(rt: HostRuntime) -> Result<(), Fail> {
     // Page 0 is written and made to last, and the third call fails: the load, and then the closing.
     let store = Fuse::new(MemStore::new(alloc, 100), 2, false);
     let opened = database(alloc, keys, store, true, 1);
-    let mut out = Vec::new(alloc);
-    let mut output = CountedOutput::new(&mut out);
-    let (_, said, closed) = answer(alloc, opened, b"load S1.csv".as_slice(), &files, &mut output);
-    assert!(rt; said == Err(Fault::Run(RunFault::Store)) && out.is_empty());
+    let mut taken = Vec::new(alloc);
+    let mut out = CountedOutput::new(&mut taken);
+    let (_, said, closed) = answer(alloc, opened, b"load S1.csv".as_slice(), &files, &mut out);
+    assert!(rt; said == Err(Fault::Run(RunFault::Store)) && taken.is_empty());
     assert!(rt; closed == Err(RunFault::Failed));
     Ok(())
 }
