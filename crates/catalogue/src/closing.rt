@@ -114,10 +114,10 @@ fn save_and_finish<S: PageStore>(
 /// synced, and page 0 says last that the store is finished, and is synced too. The store is handed
 /// back, whatever is answered.
 ///
-/// Refused for want of memory, and where the store fails or is full. Where memory ran out or the
-/// store is full, its page 0 still says that it is not finished; where the store failed, it does, or
-/// all pages but page 0 are written as those of the closed store, and synced. Where page 0 is damaged, it is named, and a
-/// store without a page is malformed.
+/// Refused for want of memory, and where the store fails or is full. Where page 0 said that the store is not finished, it
+/// says so still where memory ran out or the store is full; where the store failed, it does, or all pages but page 0 are
+/// written as those of the closed store, and synced. Where page 0 is damaged, it is named, and a store without a page is
+/// malformed.
 pub fn close<S: PageStore>(
     alloc: Global,
     catalogue: &Catalogue,
