@@ -380,7 +380,7 @@ impl<I: Start> Core<I> {
 }
 
 impl<I: Start> Core<I> {
-    ghost use Rattle.std.specs.Prelude.{◌≡◌, ℕ, List, IfOk, IfErr, IsErrOf, OnOk, OnErr, Err, false, true};
+    ghost use Rattle.std.specs.Prelude.{◌≡◌, ◌⊎◌, ℕ, List, IfOk, IfErr, IsErrOf, IsTrue, OnOk, OnErr, Err, false, true};
     ghost use Rattle.trajdb.specs.Script.{lines_of, without_return};
     ghost use Rattle.outputs.specs.Shown.{HasRefused};
     ghost use Rattle.trajdb.specs.Answers.{AcceptsLine};
