@@ -1,7 +1,7 @@
 -- What each call of a database promises: one record for a call, each field of which is a clause. A public function that
 -- ensures such a record ensures each of them. `load`, `command` and `run` are of a database over any index; what one over
 -- pages promises besides stands behind.
-use Rattle.std.specs.Prelude.{ℕ, ◌≡◌, ◌<◌, ◌⊎◌, Bool, List, Option, None, Some, Result, Ok, Err, IfOk, IfErr, IsErrOf, IsTrue, OnOk, OnErr, true, false}
+use Rattle.std.specs.Prelude.{ℕ, ◌≡◌, ◌<◌, ◌⊎◌, Bool, List, None, Some, Result, Ok, Err, IfOk, IfErr, IsErrOf, IsTrue, OnOk, OnErr, true, false}
 use Rattle.std.specs.Global.{Vec}
 use Rattle.legs.specs.Asking.{Recalls}
 use Rattle.legs.specs.Book.{Book}
