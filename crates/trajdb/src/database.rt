@@ -1,7 +1,7 @@
 //! The database over an index.
 ghost use Rattle.std.specs.Prelude.{◌≡◌, [], IfOk};
 
-use crate::answer::{count_text, counts_text, file_refusal_text, ok_text, refusal_text};
+use crate::answer::{count_text, counts_text, file_refusal_text, refusal_text};
 use crate::files::Files;
 use crate::load::{NewFile, counts_of, join_text, keep_head};
 use crate::output::send;
@@ -380,7 +380,7 @@ impl<I: Start> Core<I> {
 }
 
 impl<I: Start> Core<I> {
-    ghost use Rattle.std.specs.Prelude.{◌≡◌, ◌⊎◌, ℕ, List, IfOk, IfErr, IsErrOf, IsTrue, OnOk, OnErr, Err, false, true};
+    ghost use Rattle.std.specs.Prelude.{◌≡◌, ◌⊎◌, IfOk, IfErr, IsErrOf, IsTrue, OnOk, OnErr, Err, false, true};
     ghost use Rattle.trajdb.specs.Script.{lines_of, without_return};
     ghost use Rattle.outputs.specs.Shown.{HasRefused};
     ghost use Rattle.trajdb.specs.Answers.{AcceptsLine};
