@@ -117,7 +117,7 @@ returns-in-Ok-answered-clause-refused g c =
 pub returns-in-Err-clause-over : goal.returns-in-Err-clause-over
 returns-in-Err-clause-over g c =
     let early = c.in-Err.ensures.cause in
-    let late = c.discard.ensures.later in
+    let late = c.discard.ensures.none in
     inl ((cc, (c.in-Err.ensures.named, omega (arith, early, late), c.discard.ensures.said ∙ c.in-Err.ensures.said)), refl)
 
 pub returns-in-Err-answered-clause-over : goal.returns-in-Err-answered-clause-over
