@@ -51,6 +51,10 @@ impl<'a, 'b, O: Output, R: Clock + Eprint> Output for Followed<'a, 'b, O, R> {
     ghost seen = { λ s. O.seen s.out.now };
 
     fn send(&mut self, bytes: &[u8]) -> Result<(), OutputFault> {
+        if bytes.is_empty() {
+            // The answer of a line that asks nothing.
+            return self.out.send(bytes);
+        }
         self.progress.clear();
         match self.out.send(bytes) {
             Ok(()) => {
