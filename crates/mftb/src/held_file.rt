@@ -1,5 +1,5 @@
 //! A file of the system that a run holds open.
-ghost use Rattle.std.specs.Prelude.{◌≡◌, ◌≤◌, true, None, OnErr};
+ghost use Rattle.std.specs.Prelude.{◌≡◌, ◌≤◌, true, None, OnErr, OnOk};
 ghost use Rattle.pages.specs.Store.{HasRisen};
 
 use pages::{ByteFile, Refusals};
@@ -45,6 +45,7 @@ impl<'a, F: FileExt + OpenFile> HeldFile<'a, F> {
     /// Counts a call that was refused, and notes why it was.
     fn note(&mut self, answer: io::Result<()>) -> io::Result<()>
         ensures same { result ≡ answer }
+        ensures none { OnOk result (self.new.refusals ≡ self.old.refusals) }
         ensures cause { OnErr result (HasRisen self.old.refusals self.new.refusals) }
         ensures later { self.old.refusals ≤ self.new.refusals }
     {
