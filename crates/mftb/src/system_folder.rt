@@ -217,11 +217,13 @@ impl<'a, 'p, R: Files<File = File> + Clock + Eprint> Folder for SystemFolder<'a,
 
     fn copy(&mut self) -> Result<Noted<'a, 'p, FileStore<HeldFile<'a, File>>, R>, Fault<'static>> {
         self.asked = self.asked.saturating_add(1);
-        let made = self.make_copy();
-        let copy = self.refused.of(made)?;
+        let copy = match self.make_copy() {
+            Ok(copy) => copy,
+            Err(fault) => return Err(self.refused.note(fault)),
+        };
         match FileStore::new(HeldFile::noted(copy, &self.names.cause)) {
             Ok(store) => Ok(Noted::new(store, self.progress)),
-            Err(_) => self.refused.of(Err(Fault::NoStore(Cause::Other))),
+            Err(_) => Err(self.refused.note(Fault::NoStore(Cause::Other))),
         }
     }
 
@@ -240,7 +242,7 @@ impl<'a, 'p, R: Files<File = File> + Clock + Eprint> Folder for SystemFolder<'a,
         store: &mut Noted<'a, 'p, FileStore<HeldFile<'a, File>>, R>,
     ) -> Result<(), Fault<'static>> {
         if store.sync().is_err() {
-            return self.refused.of(Err(Fault::Run(RunFault::Store)));
+            return Err(self.refused.note(Fault::Run(RunFault::Store)));
         }
         Ok(())
     }
@@ -252,8 +254,8 @@ impl<'a, 'p, R: Files<File = File> + Clock + Eprint> Folder for SystemFolder<'a,
         let (copy, name) = (self.names.copy.as_str(), self.names.store.as_str());
         self.is_settled = false;
         if let Err(error) = fs::rename(self.rt, copy, name) {
-            let refused = Err(Fault::NoStore(Cause::from(error.kind())));
-            return self.refused.of(refused);
+            let fault = Fault::NoStore(Cause::from(error.kind()));
+            return Err(self.refused.note(fault));
         }
         self.is_made = false;
         Ok(())

@@ -188,7 +188,7 @@ impl Folder for MemFolder {
     fn copy(&mut self) -> Result<MemCopy, Fault<'static>> {
         self.asked = self.asked.saturating_add(1);
         if self.calls.burns() {
-            return self.refused.of(Err(Fault::Run(RunFault::Store)));
+            return Err(self.refused.note(Fault::Run(RunFault::Store)));
         }
         match self.pages() {
             Ok(pages) if pages.len() <= u32::MAX as usize => {
@@ -200,7 +200,7 @@ impl Folder for MemFolder {
                     calls: self.calls,
                 })
             }
-            Ok(_) | Err(_) => self.refused.of(Err(Fault::Run(RunFault::Memory))),
+            Ok(_) | Err(_) => Err(self.refused.note(Fault::Run(RunFault::Memory))),
         }
     }
 
@@ -210,7 +210,7 @@ impl Folder for MemFolder {
 
     fn sync(&mut self, store: &mut MemCopy) -> Result<(), Fault<'static>> {
         if store.sync().is_err() {
-            return self.refused.of(Err(Fault::Run(RunFault::Store)));
+            return Err(self.refused.note(Fault::Run(RunFault::Store)));
         }
         Ok(())
     }
@@ -219,7 +219,7 @@ impl Folder for MemFolder {
         self.calls = store.calls;
         self.is_settled = false;
         if self.calls.burns() {
-            return self.refused.of(Err(Fault::Run(RunFault::Store)));
+            return Err(self.refused.note(Fault::Run(RunFault::Store)));
         }
         let old = self.file.take();
         match self.past.push_front(old) {
@@ -230,7 +230,7 @@ impl Folder for MemFolder {
             }
             Err(refused) => {
                 self.file = refused.value;
-                self.refused.of(Err(Fault::Run(RunFault::Memory)))
+                Err(self.refused.note(Fault::Run(RunFault::Memory)))
             }
         }
     }

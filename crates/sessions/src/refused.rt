@@ -1,6 +1,5 @@
 //! What a folder refused.
-ghost use Rattle.std.specs.Prelude.{◌≡◌, ◌≤◌, None, Some, IfErr, OnErr, OnOk};
-ghost use Rattle.pages.specs.Store.{HasRisen};
+ghost use Rattle.std.specs.Prelude.{◌≡◌, ◌≤◌, ◌+◌, ◌-◌, ◌^◌, min, None, Some};
 
 use crate::fault::Fault;
 use pages::Refusals;
@@ -26,18 +25,15 @@ impl Refused {
         }
     }
 
-    /// The answer of a call as it is, which is counted, and kept as the last one, where it is a refusal.
-    pub fn of<T>(&mut self, answer: Result<T, Fault<'static>>) -> Result<T, Fault<'static>>
-        ensures same { result ≡ answer.entry }
-        ensures none { OnOk result (self.new ≡ self.old) }
-        ensures cause { OnErr result (HasRisen self.old.refusals self.new.refusals) }
+    /// Counts a refusal for that fault, which is kept as the last one, and gives it back.
+    pub fn note(&mut self, fault: Fault<'static>) -> Fault<'static>
+        ensures same { result ≡ fault.entry }
+        ensures counted { self.new.refusals ≡ min (self.old.refusals + 1) (2 ^ 64 - 1) }
         ensures later { self.old.refusals ≤ self.new.refusals }
-        ensures last { IfErr result (λ fault. self.new.last ≡ Some fault) }
+        ensures last { self.new.last ≡ Some fault.entry }
     {
-        if let Err(fault) = &answer {
-            self.refusals.add();
-            self.last = Some(*fault);
-        }
-        answer
+        self.refusals.add();
+        self.last = Some(fault);
+        fault
     }
 }
