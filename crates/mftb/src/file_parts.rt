@@ -49,7 +49,7 @@ impl<'a, R: Files<File = File> + AllocGlobal> PartFolder for SystemParts<'a, R> 
             || fs::rename(self.rt, beside, name).is_err()
         {
             let _ = fs::remove_file(self.rt, beside);
-            return self.refusals.of(Err(RunFault::Output));
+            return self.refusals.count(Err(RunFault::Output));
         }
         Ok(())
     }

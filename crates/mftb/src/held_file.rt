@@ -45,14 +45,14 @@ impl<'a, F: FileExt + OpenFile> HeldFile<'a, F> {
     /// Counts a call that was refused, and notes why it was.
     fn note(&mut self, answer: io::Result<()>) -> io::Result<()>
         ensures same { result ≡ answer }
-        ensures none { OnOk result (self.new.refusals ≡ self.old.refusals) }
+        ensures refuses_none { OnOk result (self.new.refusals ≡ self.old.refusals) }
         ensures cause { OnErr result (HasRisen self.old.refusals self.new.refusals) }
         ensures later { self.old.refusals ≤ self.new.refusals }
     {
         if let (Err(error), Some(cause)) = (&answer, self.cause) {
             cause.set(Some(Cause::from(error.kind())));
         }
-        self.refusals.of(answer)
+        self.refusals.count(answer)
     }
 }
 

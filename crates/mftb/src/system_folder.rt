@@ -7,7 +7,7 @@ use crate::locks::{Held, Hold, hold_name, is_named, open_held};
 use crate::names::Names;
 use monitor::{Noted, Progress};
 use pages::{FileStore, PageStore};
-use sessions::{Cause, Fault, Folder, Refused};
+use sessions::{Cause, Fault, Folder, FolderRefusals};
 use std::fs::{File, Metadata};
 use std::io::{Eprint, Read, Write};
 use std::os::unix::fs::{MetadataExt, OpenOptionsExt, chown};
@@ -40,9 +40,9 @@ pub(crate) struct SystemFolder<'a, 'p, R: Files<File = File> + Clock + Eprint> {
     /// Whether the system was asked to make each name last that was given.
     is_settled: bool,
     /// How often a copy was asked for.
-    asked: u64,
+    copy_calls: u64,
     /// What it refused: to make a copy, to make it last, or to give it the name.
-    refused: Refused,
+    refused: FolderRefusals,
 }
 
 /// Takes a file's name away, where it has one.
@@ -153,8 +153,8 @@ impl<'a, 'p, R: Files<File = File> + Clock + Eprint> SystemFolder<'a, 'p, R> {
                 lock,
                 is_made: false,
                 is_settled: true,
-                asked: 0,
-                refused: Refused::nothing(),
+                copy_calls: 0,
+                refused: FolderRefusals::nothing(),
             }),
             Err(fault) => {
                 let _ = fs::remove_file(rt, names.lock.as_str());
@@ -173,7 +173,7 @@ impl<'a, 'p, R: Files<File = File> + Clock + Eprint> SystemFolder<'a, 'p, R> {
     fn make_copy(&mut self) -> Result<File, Fault<'static>>
         ensures settled { self.new.is_settled ≡ self.old.is_settled }
         ensures refused { self.new.refused ≡ self.old.refused }
-        ensures asked { self.new.asked ≡ self.old.asked }
+        ensures copy_calls { self.new.copy_calls ≡ self.old.copy_calls }
         ensures made { OnOk result (IsTrue self.new.is_made) }
         ensures named { IfErr result IsOfFolder }
     {
@@ -209,14 +209,14 @@ impl<'a, 'p, R: Files<File = File> + Clock + Eprint> Folder for SystemFolder<'a,
 
     ghost refusals = { λ s. s.refused.refusals };
 
-    ghost said = { λ s. s.refused.last };
+    ghost last_fault = { λ s. s.refused.last };
 
-    ghost asked = { λ s. s.asked };
+    ghost copy_calls = { λ s. s.copy_calls };
 
     ghost has_copy = { λ s. s.is_made };
 
     fn copy(&mut self) -> Result<Noted<'a, 'p, FileStore<HeldFile<'a, File>>, R>, Fault<'static>> {
-        self.asked = self.asked.saturating_add(1);
+        self.copy_calls = self.copy_calls.saturating_add(1);
         let copy = match self.make_copy() {
             Ok(copy) => copy,
             Err(fault) => return Err(self.refused.note(fault)),

@@ -226,7 +226,7 @@ impl<'a, R: Clock + Eprint> Progress<'a, R> {
         }
     }
 
-    /// A command was answered, of which these are the last bytes that were sent.
+    /// A command was answered so.
     pub fn answered(&self, answer: &[u8]) {
         if self.command.get() == "load" {
             self.legs

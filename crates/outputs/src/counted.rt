@@ -11,7 +11,7 @@ use std::io::Write;
 pub struct CountedOutput<'a, W: Write> {
     out: &'a mut W,
     refusals: Refusals,
-    /// Whether the writer was flushed since it was given bytes last.
+    /// Whether the writer was flushed since the last call of `send`.
     is_flushed: bool,
 }
 
@@ -49,7 +49,7 @@ fn write_each<W: Write>(out: &mut W, bytes: &[u8]) -> Result<(), OutputFault>
 }
 
 impl<'a, W: Write> Output for CountedOutput<'a, W> {
-    ghost use Rattle.outputs.specs.Shown.{Shown};
+    ghost use Rattle.outputs.specs.Output.{OutputView};
 
     ghost seen = { λ s. record {
       contents = W.contents s.out.now;
@@ -60,7 +60,7 @@ impl<'a, W: Write> Output for CountedOutput<'a, W> {
     fn send(&mut self, bytes: &[u8]) -> Result<(), OutputFault> {
         self.is_flushed = false;
         let written = write_each(self.out, bytes);
-        self.refusals.of(written)
+        self.refusals.count(written)
     }
 
     fn flush(&mut self) -> Result<(), OutputFault> {
@@ -69,7 +69,7 @@ impl<'a, W: Write> Output for CountedOutput<'a, W> {
                 self.is_flushed = true;
                 Ok(())
             }
-            Err(_) => self.refusals.of(Err(OutputFault)),
+            Err(_) => self.refusals.count(Err(OutputFault)),
         }
     }
 }

@@ -1,7 +1,7 @@
 //! The contract of an output.
 ghost use Rattle.std.specs.Prelude.{ℕ, ◌≡◌, ◌<◌, false, length, take, OnErr, OnOk};
 ghost use Rattle.std.specs.Io.KnownBytes.{Appends, Keeps};
-ghost use Rattle.outputs.specs.Shown.{HasRefused, IsPassedOn, Shown};
+ghost use Rattle.outputs.specs.Output.{HasRefused, IsPassedOn, OutputView};
 
 use thiserror::Error;
 
@@ -17,13 +17,13 @@ pub struct OutputFault;
 pub trait Output {
     /// What contracts see of an output: the bytes that it took, how often it refused a call, and whether it was flushed
     /// since it was sent bytes last.
-    ghost seen: { Self → Shown };
+    ghost seen: { Self → OutputView };
 
     /// Takes all the bytes. Where it is refused it took a front of them.
     fn send(&mut self, bytes: &[u8]) -> Result<(), OutputFault>
         ensures sent { OnOk result
             (Appends (seen self.old).contents (seen self.new).contents bytes.now) }
-        ensures none { OnOk result ((seen self.new).refusals ≡ (seen self.old).refusals) }
+        ensures refuses_none { OnOk result ((seen self.new).refusals ≡ (seen self.old).refusals) }
         ensures unflushed { 0 < length bytes.now → (seen self.new).is_flushed ≡ false }
         ensures part { OnErr result ((n : ℕ) × Appends (seen self.old).contents
             (seen self.new).contents (take n bytes.now)) }

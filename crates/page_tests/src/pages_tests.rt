@@ -210,15 +210,15 @@ impl ByteFile for Broken {
     }
 
     fn read_at(&mut self, _place: u64, _buf: &mut [u8]) -> io::Result<()> {
-        self.refusals.of(refusal())
+        self.refusals.count(refusal())
     }
 
     fn write_at(&mut self, _place: u64, _buf: &[u8]) -> io::Result<()> {
-        self.refusals.of(refusal())
+        self.refusals.count(refusal())
     }
 
     fn sync(&mut self) -> io::Result<()> {
-        self.refusals.of(refusal())
+        self.refusals.count(refusal())
     }
 }
 

@@ -52,7 +52,7 @@ pub trait ByteFile {
         ensures stays { bytes self.new ≡ bytes self.old }
         ensures synced { OnOk result (IsTrue (is_synced self.new)) }
         ensures unsynced { OnErr result (is_synced self.new ≡ is_synced self.old) }
-        ensures none { OnOk result (refusals self.new ≡ refusals self.old) }
+        ensures refuses_none { OnOk result (refusals self.new ≡ refusals self.old) }
         ensures cause { OnErr result (HasRisen (refusals self.old) (refusals self.new)) }
         ensures later { refusals self.old ≤ refusals self.new };
 }

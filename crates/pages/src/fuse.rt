@@ -122,9 +122,9 @@ impl<S: PageStore> PageStore for Fuse<S> {
             (⟦<Fuse<S> as PageStore>⟧.seen self.new)) }
     {
         if self.burns() {
-            return self.faults.of(Err(StoreFault));
+            return self.faults.count(Err(StoreFault));
         }
-        self.faults.of(self.store.read(number, page))
+        self.faults.count(self.store.read(number, page))
     }
 
     /// Writes a page of the store below, unless the fuse fails the call, and then leaves a page of
@@ -150,9 +150,9 @@ impl<S: PageStore> PageStore for Fuse<S> {
     {
         if self.burns() {
             self.spoil(number);
-            return self.faults.of(Err(StoreFault));
+            return self.faults.count(Err(StoreFault));
         }
-        self.faults.of(self.store.write(number, page))
+        self.faults.count(self.store.write(number, page))
     }
 
     /// Syncs the store below, unless the fuse fails the call.
@@ -165,7 +165,7 @@ impl<S: PageStore> PageStore for Fuse<S> {
         ensures stays { Stays (⟦<Fuse<S> as PageStore>⟧.seen self.old)
             (⟦<Fuse<S> as PageStore>⟧.seen self.new) }
         ensures synced { OnOk result (IsSynced (⟦<Fuse<S> as PageStore>⟧.seen self.new)) }
-        ensures none { OnOk result ((⟦<Fuse<S> as PageStore>⟧.seen self.new).faults
+        ensures refuses_none { OnOk result ((⟦<Fuse<S> as PageStore>⟧.seen self.new).faults
             ≡ (⟦<Fuse<S> as PageStore>⟧.seen self.old).faults) }
         ensures unsynced { OnErr result (SameUnsynced
             (⟦<Fuse<S> as PageStore>⟧.seen self.old) (⟦<Fuse<S> as PageStore>⟧.seen self.new)) }
@@ -173,8 +173,8 @@ impl<S: PageStore> PageStore for Fuse<S> {
             (⟦<Fuse<S> as PageStore>⟧.seen self.old) (⟦<Fuse<S> as PageStore>⟧.seen self.new)) }
     {
         if self.burns() {
-            return self.faults.of(Err(StoreFault));
+            return self.faults.count(Err(StoreFault));
         }
-        self.faults.of(self.store.sync())
+        self.faults.count(self.store.sync())
     }
 }

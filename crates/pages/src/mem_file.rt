@@ -68,7 +68,7 @@ impl ByteFile for MemFile {
         Ok(())
     }
 
-    /// Writes bytes from a place on, which may be the file's end. Refused are only bytes beyond the end that find no memory.
+    /// Writes bytes from a place on, which may be the file's end. Refused are only bytes beyond the end, that find no memory.
     fn write_at(&mut self, place: u64, buf: &[u8]) -> io::Result<()>
         requires { IfSome (⟦<MemFile as ByteFile>⟧.bytes self.old) (λ xs. place ≤ length xs) }
         ensures within { IfSome (⟦<MemFile as ByteFile>⟧.bytes self.old)
@@ -85,11 +85,11 @@ impl ByteFile for MemFile {
         let start = place as usize;
         let Some(end) = start.checked_add(buf.len()) else {
             let refused = Err(io::Error::from(io::ErrorKind::FileTooLarge));
-            return self.refusals.of(refused);
+            return self.refusals.count(refused);
         };
         if end > self.bytes.len() && self.bytes.resize(end, 0).is_err() {
             let refused = Err(io::Error::from(io::ErrorKind::OutOfMemory));
-            return self.refusals.of(refused);
+            return self.refusals.count(refused);
         }
         overwrite(&mut self.bytes, start, buf);
         Ok(())
@@ -103,7 +103,7 @@ impl ByteFile for MemFile {
         ensures synced { OnOk result (IsTrue (⟦<MemFile as ByteFile>⟧.is_synced self.new)) }
         ensures unsynced { OnErr result (⟦<MemFile as ByteFile>⟧.is_synced self.new
             ≡ ⟦<MemFile as ByteFile>⟧.is_synced self.old) }
-        ensures none { OnOk result (⟦<MemFile as ByteFile>⟧.refusals self.new
+        ensures refuses_none { OnOk result (⟦<MemFile as ByteFile>⟧.refusals self.new
             ≡ ⟦<MemFile as ByteFile>⟧.refusals self.old) }
         ensures cause { OnErr result (HasRisen (⟦<MemFile as ByteFile>⟧.refusals self.old)
             (⟦<MemFile as ByteFile>⟧.refusals self.new)) }

@@ -122,7 +122,7 @@ impl PageStore for MemStore {
         }
         match self.pages.push(*page) {
             Ok(()) => Ok(()),
-            Err(_) => self.faults.of(Err(StoreFault)),
+            Err(_) => self.faults.count(Err(StoreFault)),
         }
     }
 
@@ -132,7 +132,7 @@ impl PageStore for MemStore {
         ensures stays { Stays (⟦<MemStore as PageStore>⟧.seen self.old)
             (⟦<MemStore as PageStore>⟧.seen self.new) }
         ensures synced { OnOk result (IsSynced (⟦<MemStore as PageStore>⟧.seen self.new)) }
-        ensures none { OnOk result ((⟦<MemStore as PageStore>⟧.seen self.new).faults
+        ensures refuses_none { OnOk result ((⟦<MemStore as PageStore>⟧.seen self.new).faults
             ≡ (⟦<MemStore as PageStore>⟧.seen self.old).faults) }
         ensures unsynced { OnErr result (SameUnsynced
             (⟦<MemStore as PageStore>⟧.seen self.old) (⟦<MemStore as PageStore>⟧.seen self.new)) }

@@ -6,7 +6,7 @@ use std::marker::Model;
 /// How often calls were refused. It never falls; 2^64 - 1 stands for any greater number.
 #[derive(Drop, Debug)]
 pub struct Refusals {
-    count: u64,
+    calls: u64,
 }
 
 impl Model for Refusals {
@@ -14,7 +14,7 @@ impl Model for Refusals {
 
     ghost Value = { ℕ };
 
-    ghost view = { λ r. r.count };
+    ghost view = { λ r. r.calls };
 }
 
 impl Refusals {
@@ -22,7 +22,7 @@ impl Refusals {
     pub fn none() -> Refusals
         ensures { result ≡ 0 }
     {
-        Refusals { count: 0 }
+        Refusals { calls: 0 }
     }
 
     /// Counts one more.
@@ -30,14 +30,14 @@ impl Refusals {
         ensures counted { self.new ≡ min (self.old + 1) (2 ^ 64 - 1) }
         ensures later { self.old ≤ self.new }
     {
-        self.count = self.count.saturating_add(1);
+        self.calls = self.calls.saturating_add(1);
     }
 
     /// The answer of a call as it is, which is counted where it is a refusal.
-    pub fn of<T, E>(&mut self, answer: Result<T, E>) -> Result<T, E>
+    pub fn count<T, E>(&mut self, answer: Result<T, E>) -> Result<T, E>
         ensures same { result ≡ answer }
         ensures counted { OnErr result (self.new ≡ min (self.old + 1) (2 ^ 64 - 1)) }
-        ensures none { OnOk result (self.new ≡ self.old) }
+        ensures refuses_none { OnOk result (self.new ≡ self.old) }
         ensures later { self.old ≤ self.new }
     {
         if answer.is_err() {

@@ -49,11 +49,11 @@ pub trait PageStore {
         ensures torn_unsynced { OnErr result (MayUnsync number (seen self.old) (seen self.new)) }
         ensures cause { OnErr result (Faulted (seen self.old) (seen self.new)) };
 
-    /// Makes what was written last, as on a disk. What it refused once is not asked for again: it is refused.
+    /// Makes what was written last, as on a disk. It is answered only where nothing was refused on the way.
     fn sync(&mut self) -> Result<(), StoreFault>
         ensures stays { Stays (seen self.old) (seen self.new) }
         ensures synced { OnOk result (IsSynced (seen self.new)) }
-        ensures none { OnOk result ((seen self.new).faults ≡ (seen self.old).faults) }
+        ensures refuses_none { OnOk result ((seen self.new).faults ≡ (seen self.old).faults) }
         ensures unsynced { OnErr result (SameUnsynced (seen self.old) (seen self.new)) }
         ensures cause { OnErr result (Faulted (seen self.old) (seen self.new)) };
 

@@ -43,14 +43,14 @@ impl<F: FileExt + OpenFile> ByteFile for SystemFile<F> {
     }
 
     fn read_at(&mut self, place: u64, buf: &mut [u8]) -> io::Result<()> {
-        self.refusals.of(self.file.read_exact_at(buf, place))
+        self.refusals.count(self.file.read_exact_at(buf, place))
     }
 
     fn write_at(&mut self, place: u64, buf: &[u8]) -> io::Result<()> {
-        self.refusals.of(self.file.write_all_at(buf, place))
+        self.refusals.count(self.file.write_all_at(buf, place))
     }
 
     fn sync(&mut self) -> io::Result<()> {
-        self.refusals.of(self.file.sync_all())
+        self.refusals.count(self.file.sync_all())
     }
 }

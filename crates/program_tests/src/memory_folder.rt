@@ -4,7 +4,7 @@ ghost use Rattle.std.proofs.Common.{arith};
 ghost use Rattle.sessions.specs.Folder.{pages_in};
 
 use pages::{PageStore, Refusals, StoreFault, Unsynced};
-use sessions::{Fault, Folder, Refused};
+use sessions::{Fault, Folder, FolderRefusals};
 use std::alloc::{AllocError, Global};
 use std::collections::VecDeque;
 use trajdb::RunFault;
@@ -69,7 +69,7 @@ impl PageStore for MemCopy {
 
     fn read(&mut self, number: u32, page: &mut [u8; 4096]) -> Result<(), StoreFault> {
         if self.calls.burns() {
-            return self.faults.of(Err(StoreFault));
+            return self.faults.count(Err(StoreFault));
         }
         *page = self.pages[number as usize];
         Ok(())
@@ -78,7 +78,7 @@ impl PageStore for MemCopy {
     fn write(&mut self, number: u32, page: &[u8; 4096]) -> Result<(), StoreFault> {
         self.unsynced = self.unsynced.with_written(number);
         if self.calls.burns() {
-            return self.faults.of(Err(StoreFault));
+            return self.faults.count(Err(StoreFault));
         }
         let place = number as usize;
         if place < self.pages.len() {
@@ -87,13 +87,13 @@ impl PageStore for MemCopy {
         }
         match self.pages.push(*page) {
             Ok(()) => Ok(()),
-            Err(_) => self.faults.of(Err(StoreFault)),
+            Err(_) => self.faults.count(Err(StoreFault)),
         }
     }
 
     fn sync(&mut self) -> Result<(), StoreFault> {
         if self.calls.burns() {
-            return self.faults.of(Err(StoreFault));
+            return self.faults.count(Err(StoreFault));
         }
         self.unsynced = Unsynced::Nothing;
         Ok(())
@@ -110,8 +110,8 @@ pub(crate) struct MemFolder {
     past: VecDeque<Option<Vec<[u8; 4096]>>>,
     calls: Calls,
     is_settled: bool,
-    asked: u64,
-    refused: Refused,
+    copy_calls: u64,
+    refused: FolderRefusals,
     has_copy: bool,
 }
 
@@ -124,8 +124,8 @@ impl MemFolder {
             past: VecDeque::new(alloc),
             calls,
             is_settled: true,
-            asked: 0,
-            refused: Refused::nothing(),
+            copy_calls: 0,
+            refused: FolderRefusals::nothing(),
             has_copy: false,
         }
     }
@@ -179,14 +179,14 @@ impl Folder for MemFolder {
 
     ghost refusals = { λ f. f.refused.refusals };
 
-    ghost said = { λ f. f.refused.last };
+    ghost last_fault = { λ f. f.refused.last };
 
-    ghost asked = { λ f. f.asked };
+    ghost copy_calls = { λ f. f.copy_calls };
 
     ghost has_copy = { λ f. f.has_copy };
 
     fn copy(&mut self) -> Result<MemCopy, Fault<'static>> {
-        self.asked = self.asked.saturating_add(1);
+        self.copy_calls = self.copy_calls.saturating_add(1);
         if self.calls.burns() {
             return Err(self.refused.note(Fault::Run(RunFault::Store)));
         }

@@ -5,7 +5,7 @@ use Rattle.std.specs.Prelude.{is_ok, IfErr, IfOk, IfSome, IsOk, OnErr, OnOk}
 use Rattle.legs.specs.Book.{Book, empty_book}
 use Rattle.legs.specs.Costs.{ShapeView}
 use Rattle.legs.specs.Limits.{limits_of, LimitsView}
-use Rattle.outputs.specs.Shown.{Shown}
+use Rattle.outputs.specs.Output.{OutputView}
 use Rattle.pages.specs.Store.{Store, Faulted, IsSynced}
 use Rattle.pages.specs.declared.unsynced.Unsynced.TheVariants.{Others}
 use Rattle.catalogue.specs.Holding.{HoldsBook}
@@ -173,7 +173,7 @@ if_refused (Err e) None P f = tt
 if_refused (Err e) (Some past) P f = f e past refl
 
 -- a run over what was made of a store: where it is answered there was a database, and where there was none nothing was sent
-module _ {S O : Type 0} (seen : S → Store) (shown : O → Shown) (files : List (List ℕ × List ℕ)) (out out' : O) (lines : List (List ℕ)) (store : Store) where
+module _ {S O : Type 0} (seen : S → Store) (shown : O → OutputView) (files : List (List ℕ × List ℕ)) (out out' : O) (lines : List (List ℕ)) (store : Store) where
   pub over_opened : (answered : Result (Unit {0}) Fault) (closed : Result (Unit {0}) RunFault) (o : Result DbView (S × CatalogueFault)) → RunsOver seen shown o files out out' lines answered closed store → OnOk answered (IsOk o)
   over_opened (Err e) closed o h = tt
   over_opened (Ok x) closed (Ok db) h = refl
@@ -181,7 +181,7 @@ module _ {S O : Type 0} (seen : S → Store) (shown : O → Shown) (files : List
 
   pub over_unsent : (answered : Result (Unit {0}) Fault) (closed : Result (Unit {0}) RunFault) (o : Result DbView (S × CatalogueFault)) → RunsOver seen shown o files out out' lines answered closed store → OnErr o ((shown out').contents ≡ (shown out).contents)
   over_unsent answered closed (Ok db) h = tt
-  over_unsent answered closed (Err back) h = ap (λ (s : Shown). s.contents) h.3
+  over_unsent answered closed (Err back) h = ap (λ (s : OutputView). s.contents) h.3
 
   pub over_ended : (answered : Result (Unit {0}) Fault) (closed : Result (Unit {0}) RunFault) (o : Result DbView (S × CatalogueFault)) → RunsOver seen shown o files out out' lines answered closed store → IfOk o (λ db. Ended files (shown out).contents (shown out').contents lines store db answered)
   over_ended answered closed (Ok db) h = (h.0, closed, h.1, h.2.ends)

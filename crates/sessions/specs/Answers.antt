@@ -4,7 +4,7 @@ use Rattle.std.specs.Io.KnownBytes.{Appends}
 use Rattle.legs.specs.Book.{Book}
 use Rattle.legs.specs.Costs.{ShapeView}
 use Rattle.legs.specs.Limits.{LimitsView}
-use Rattle.outputs.specs.Shown.{Shown}
+use Rattle.outputs.specs.Output.{OutputView}
 use Rattle.pages.specs.Store.{Store, Faulted, IsSynced}
 use Rattle.boxsearch.specs.Index.{written, IndexView, words}
 use Rattle.catalogue.specs.Holding.{HoldsBook, HoldsButFirst, HoldsIndex, HoldsIndexButFirst, IsUnfinishedStore}
@@ -120,7 +120,7 @@ pub record Ends (db : DbView) (files : List (List ℕ × List ℕ)) (sent sent' 
 
 -- a run over a database and its closing, be it sound or not: there is a database between them, and the run and the closing
 -- do with it what each promises; over a sound one they leave what `Ends` says
-pub record RunsAndCloses {O : Type 0} (shown : O → Shown) (db : DbView)
+pub record RunsAndCloses {O : Type 0} (shown : O → OutputView) (db : DbView)
     (files : List (List ℕ × List ℕ)) (out out' : O) (lines : List (List ℕ))
     (ran closed : Result (Unit {0}) RunFault) (store : Store) : Type 0 where
   pub between : DbView
@@ -156,7 +156,7 @@ said (Err fault) closed = Err (Run fault)
 -- a database that was made or opened is run over and closed, and the fault of these is answered, and what the closing
 -- came to; where there is none, why is answered, nothing is to be closed, the store is the one that was given back, and
 -- nothing was sent
-abbrev pub RunsOver : {S O : Type 0} (seen : S → Store) (shown : O → Shown)
+abbrev pub RunsOver : {S O : Type 0} (seen : S → Store) (shown : O → OutputView)
     → Result DbView (S × CatalogueFault) → List (List ℕ × List ℕ) → (out out' : O)
     → List (List ℕ) → Result (Unit {0}) Fault → (closed : Result (Unit {0}) RunFault) → Store
     → Type 0

@@ -3,7 +3,7 @@ use Rattle.std.specs.Prelude.{ℕ, ◌≡◌, ◌<◌, ◌⊎◌, ◌^◌, ◌-�
 use Rattle.legs.specs.Book.{Book, empty_book}
 use Rattle.legs.specs.Costs.{ShapeView}
 use Rattle.legs.specs.Limits.{limits_of, LimitsView}
-use Rattle.outputs.specs.Shown.{Shown}
+use Rattle.outputs.specs.Output.{OutputView}
 use Rattle.pages.specs.Store.{Store, Faulted, HasRisen, IsSynced}
 use Rattle.pages.specs.declared.unsynced.Unsynced.TheVariants.{Others}
 use Rattle.catalogue.specs.Holding.{HoldsBook}
@@ -54,7 +54,7 @@ BeginsWith is_new store shape limits book =
     ⊎ (IsTrue is_new × (store.count ≡ 0) × (shape ≡ new_shape)
     × (limits ≡ limits_of 16777216 1048576) × (book ≡ empty_book))
 
--- a store is as another one, as many pages as it may have and all, but for its count of faults and for what is synced
+-- a store is as another one in all but its count of faults and what is synced
 abbrev pub HasPagesOf : Store → Store → Type 0
 HasPagesOf store other = record store { faults = 0; unsynced = Others } ≡ other
 
@@ -105,14 +105,14 @@ IsOfFolder (Bounds code) = ⊥
 
 -- it refused a call, which it counts, and this fault is why it did so last: it made no copy, did not make it last, or did
 -- not give it the name
-abbrev pub IsRefusedByFolder : (before after : ℕ) (said : Option Fault) → Fault → Type 0
-IsRefusedByFolder before after said fault =
-    IsOfFolder fault × HasRisen before after × (said ≡ Some fault)
+abbrev pub IsRefusedByFolder : (before after : ℕ) (last : Option Fault) → Fault → Type 0
+IsRefusedByFolder before after last fault =
+    IsOfFolder fault × HasRisen before after × (last ≡ Some fault)
 
--- a run is refused so, as where no copy is made
-abbrev pub IsNotCopied : (before after : ℕ) (said : Option Fault) → Result (Unit {0}) Fault → Type 0
-IsNotCopied before after said result =
-    IsErr result × IfErr result (IsRefusedByFolder before after said)
+-- a run is refused so, before there is a database
+abbrev pub IsRefusedEarly : (before after : ℕ) (last : Option Fault) → Result (Unit {0}) Fault → Type 0
+IsRefusedEarly before after last result =
+    IsErr result × IfErr result (IsRefusedByFolder before after last)
 
 -- how a run on a copy over a book is refused: nothing was sent of it, or all was, or it says which kind of fault it is: of
 -- the output, want of memory, or of a store that failed or is full; that it is so, this does not say
@@ -150,8 +150,8 @@ Makes seen copy cache_pages (Err back) =
 -- a run on a copy of what the name stood for, whatever that held: a store with pages was opened, and one without them was made
 -- a database where that was asked for; it was run over and closed (`RunsOver`). Where that is answered, the name is kept as
 -- `NameIsKept` says; it is refused as that was, or as the folder did not make it last, or give it the name
-pub record RunsOnCopy {S O : Type 0} (seen : S → Store) (shown : O → Shown)
-    (is_new : Bool) (cache_pages before after : ℕ) (folder : Option Fault)
+pub record RunsOnCopy {S O : Type 0} (seen : S → Store) (shown : O → OutputView)
+    (is_new : Bool) (cache_pages before after : ℕ) (last : Option Fault)
     (old new : Option History)
     (files : List (List ℕ × List ℕ)) (out out' : O) (lines : List (List ℕ))
     (result : Result (Unit {0}) Fault) : Type 0 where
@@ -167,4 +167,4 @@ pub record RunsOnCopy {S O : Type 0} (seen : S → Store) (shown : O → Shown)
   pub kept : OnOk result ((answered ≡ Ok tt) × NameIsKept store old new)
   pub refused : IfErr result
       (λ fault. (answered ≡ Err fault)
-      ⊎ ((answered ≡ Ok tt) × IsRefusedByFolder before after folder fault))
+      ⊎ ((answered ≡ Ok tt) × IsRefusedByFolder before after last fault))

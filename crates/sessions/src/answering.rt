@@ -1,7 +1,7 @@
 //! Sending what is answered besides a script's answers.
 ghost use Rattle.std.specs.Prelude.{ℕ, ◌≡◌, take, IfErr, OnErr, OnOk};
 ghost use Rattle.std.specs.Io.KnownBytes.{Appends};
-ghost use Rattle.outputs.specs.Shown.{HasRefused, IsPassedOn};
+ghost use Rattle.outputs.specs.Output.{HasRefused, IsPassedOn};
 
 use crate::fault::Fault;
 use outputs::Output;

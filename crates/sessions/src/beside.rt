@@ -5,7 +5,7 @@ ghost use Rattle.legs.specs.Costs.{ShapeView};
 ghost use Rattle.legs.specs.Limits.{LimitsView};
 ghost use Rattle.trajdb.specs.Script.{lines_of};
 ghost use Rattle.sessions.specs.Answers.{SendsFront};
-ghost use Rattle.sessions.specs.Folder.{BeginsWith, NameIsKept, IsKeptOnce, IsNotCopied, IsRefusedByFolder, IsRefusedBeside, IsReplaced, RunsBeside, RunsOnCopy, store_in};
+ghost use Rattle.sessions.specs.Folder.{BeginsWith, NameIsKept, IsKeptOnce, IsRefusedEarly, IsRefusedByFolder, IsRefusedBeside, IsReplaced, RunsBeside, RunsOnCopy, store_in};
 
 use crate::fault::Fault;
 use crate::folder::Folder;
@@ -33,14 +33,14 @@ pub struct Opening {
 /// Gives the store's name to a copy whose pages are on the disk, and makes that last.
 fn give<'a, F: Folder>(folder: &mut F, mut store: F::Store) -> Result<(), Fault<'a>>
     requires { IsTrue (F.has_copy folder.old) }
-    ensures asked { F.asked folder.new ≡ F.asked folder.old }
-    ensures none { OnOk result (F.refusals folder.new ≡ F.refusals folder.old) }
+    ensures copy_calls { F.copy_calls folder.new ≡ F.copy_calls folder.old }
+    ensures refuses_none { OnOk result (F.refusals folder.new ≡ F.refusals folder.old) }
     ensures replaced { OnOk result (IsReplaced (F.Store.PageStore.seen store) (F.held folder.old)
         (F.held folder.new)) }
     ensures taken { OnOk result (F.has_copy folder.new ≡ false) }
     ensures stays { OnErr result (F.held folder.new ≡ F.held folder.old) }
     ensures named { IfErr result (IsRefusedByFolder (F.refusals folder.old)
-        (F.refusals folder.new) (F.said folder.new)) }
+        (F.refusals folder.new) (F.last_fault folder.new)) }
     ensures settled { OnOk result (IsTrue (F.is_settled folder.new)) }
 {
     folder.sync(&mut store)?;
@@ -56,14 +56,14 @@ fn give<'a, F: Folder>(folder: &mut F, mut store: F::Store) -> Result<(), Fault<
 /// Gives the store's name to a copy, where a page of it was written, and takes it away otherwise.
 fn keep<'a, F: Folder>(folder: &mut F, store: F::Store) -> Result<(), Fault<'a>>
     requires { IsTrue (F.has_copy folder.old) }
-    ensures asked { F.asked folder.new ≡ F.asked folder.old }
-    ensures none { OnOk result (F.refusals folder.new ≡ F.refusals folder.old) }
+    ensures copy_calls { F.copy_calls folder.new ≡ F.copy_calls folder.old }
+    ensures refuses_none { OnOk result (F.refusals folder.new ≡ F.refusals folder.old) }
     ensures kept { OnOk result (NameIsKept (F.Store.PageStore.seen store) (F.held folder.old)
         (F.held folder.new)) }
     ensures gone { F.has_copy folder.new ≡ false }
     ensures stays { OnErr result (F.held folder.new ≡ F.held folder.old) }
     ensures named { IfErr result (IsRefusedByFolder (F.refusals folder.old)
-        (F.refusals folder.new) (F.said folder.new)) }
+        (F.refusals folder.new) (F.last_fault folder.new)) }
     ensures settled { OnOk result (IsTrue (F.is_settled folder.old)
         → IsTrue (F.is_settled folder.new)) }
 {
@@ -106,10 +106,10 @@ pub fn run_on_copy<'a, F: Folder, O: Output>(
 
     // Whatever the store held, a call of the folder was refused, which says why, and nothing was sent, or a database over
     // the copy was opened or refused, run over and closed, and the name given to what that left, or not.
-    ensures over { (IsNotCopied (F.refusals folder.old) (F.refusals folder.new) (F.said folder.new) result
+    ensures over { (IsRefusedEarly (F.refusals folder.old) (F.refusals folder.new) (F.last_fault folder.new) result
         × (O.seen out.new ≡ O.seen out.old))
         ⊎ RunsOnCopy F.Store.PageStore.seen O.seen how.is_new how.cache_pages
-        (F.refusals folder.old) (F.refusals folder.new) (F.said folder.new)
+        (F.refusals folder.old) (F.refusals folder.new) (F.last_fault folder.new)
         (F.held folder.old) (F.held folder.new) files.now out.old out.new (lines_of script.now)
         result }
 
@@ -121,9 +121,9 @@ pub fn run_on_copy<'a, F: Folder, O: Output>(
 
     // A copy is asked for once, whatever is answered, and none is left beside the store's file. Where it is answered, the
     // folder refused nothing.
-    ensures asked { F.asked folder.new ≡ min (F.asked folder.old + 1) (2 ^ 64 - 1) }
+    ensures copy_calls { F.copy_calls folder.new ≡ min (F.copy_calls folder.old + 1) (2 ^ 64 - 1) }
     ensures gone { F.has_copy folder.new ≡ false }
-    ensures none { OnOk result (F.refusals folder.new ≡ F.refusals folder.old) }
+    ensures refuses_none { OnOk result (F.refusals folder.new ≡ F.refusals folder.old) }
 
     // Where it is refused the name stands for what it stood for, all along, and what was sent is
     // the front of that text.

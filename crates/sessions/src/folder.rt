@@ -26,10 +26,10 @@ pub trait Folder {
     ghost refusals: { Self → ℕ };
 
     /// Why it was refused so last, where it ever was.
-    ghost said: { Self → Option Fault };
+    ghost last_fault: { Self → Option Fault };
 
     /// How often a copy was asked for; 2^64 - 1 stands for any greater number.
-    ghost asked: { Self → ℕ };
+    ghost copy_calls: { Self → ℕ };
 
     /// Whether a copy that this folder made lies beside the store's file, as far as the system let it be
     /// taken away.
@@ -39,12 +39,13 @@ pub trait Folder {
     /// What is then written to it changes the copy alone. Where it is refused, `discard` takes away
     /// what was made.
     fn copy(&mut self) -> Result<Self::Store, Fault<'static>>
-        ensures asked { asked self.new ≡ min (asked self.old + 1) (2 ^ 64 - 1) }
+        ensures copy_calls { copy_calls self.new
+            ≡ min (copy_calls self.old + 1) (2 ^ 64 - 1) }
         ensures stays { held self.new ≡ held self.old }
         ensures settled { is_settled self.new ≡ is_settled self.old }
-        ensures none { OnOk result (refusals self.new ≡ refusals self.old) }
+        ensures refuses_none { OnOk result (refusals self.new ≡ refusals self.old) }
         ensures named { IfErr result IsOfFolder }
-        ensures said { IfErr result (λ fault. said self.new ≡ Some fault) }
+        ensures last_fault { IfErr result (λ fault. last_fault self.new ≡ Some fault) }
         ensures cause { OnErr result (HasRisen (refusals self.old) (refusals self.new)) }
         ensures later { refusals self.old ≤ refusals self.new }
         ensures made { OnOk result (IsTrue (has_copy self.new)) }
@@ -65,10 +66,12 @@ pub trait Folder {
         ensures pages { Stays (Self.Store.PageStore.seen store.old)
             (Self.Store.PageStore.seen store.new) }
         ensures synced { OnOk result (IsSynced (Self.Store.PageStore.seen store.new)) }
-        ensures asked { asked self.new ≡ asked self.old }
-        ensures none { OnOk result (refusals self.new ≡ refusals self.old) }
+        ensures faults { OnOk result ((Self.Store.PageStore.seen store.new).faults
+            ≡ (Self.Store.PageStore.seen store.old).faults) }
+        ensures copy_calls { copy_calls self.new ≡ copy_calls self.old }
+        ensures refuses_none { OnOk result (refusals self.new ≡ refusals self.old) }
         ensures named { IfErr result IsOfFolder }
-        ensures said { IfErr result (λ fault. said self.new ≡ Some fault) }
+        ensures last_fault { IfErr result (λ fault. last_fault self.new ≡ Some fault) }
         ensures cause { OnErr result (HasRisen (refusals self.old) (refusals self.new)) }
         ensures later { refusals self.old ≤ refusals self.new };
 
@@ -82,16 +85,16 @@ pub trait Folder {
         ensures taken { OnOk result (has_copy self.new ≡ false) }
         ensures stays { OnErr result (held self.new ≡ held self.old) }
         ensures copy { OnErr result (has_copy self.new ≡ has_copy self.old) }
-        ensures asked { asked self.new ≡ asked self.old }
-        ensures none { OnOk result (refusals self.new ≡ refusals self.old) }
+        ensures copy_calls { copy_calls self.new ≡ copy_calls self.old }
+        ensures refuses_none { OnOk result (refusals self.new ≡ refusals self.old) }
         ensures named { IfErr result IsOfFolder }
-        ensures said { IfErr result (λ fault. said self.new ≡ Some fault) }
+        ensures last_fault { IfErr result (λ fault. last_fault self.new ≡ Some fault) }
         ensures cause { OnErr result (HasRisen (refusals self.old) (refusals self.new)) };
 
     /// Makes the name that was given last, where the system can.
     fn settle(&mut self)
-        ensures asked { asked self.new ≡ asked self.old }
-        ensures none { refusals self.new ≡ refusals self.old }
+        ensures copy_calls { copy_calls self.new ≡ copy_calls self.old }
+        ensures refuses_none { refusals self.new ≡ refusals self.old }
         ensures stays { held self.new ≡ held self.old }
         ensures copy { has_copy self.new ≡ has_copy self.old }
         ensures settled { IsTrue (is_settled self.new) };
@@ -99,9 +102,9 @@ pub trait Folder {
     /// Takes away the copy, where there is one that this folder made.
     fn discard(&mut self)
         ensures gone { has_copy self.new ≡ false }
-        ensures said { said self.new ≡ said self.old }
-        ensures none { refusals self.new ≡ refusals self.old }
-        ensures asked { asked self.new ≡ asked self.old }
+        ensures last_fault { last_fault self.new ≡ last_fault self.old }
+        ensures refuses_none { refusals self.new ≡ refusals self.old }
+        ensures copy_calls { copy_calls self.new ≡ copy_calls self.old }
         ensures stays { held self.new ≡ held self.old }
         ensures settled { is_settled self.new ≡ is_settled self.old };
 }

@@ -1,6 +1,6 @@
 //! The part of a file that has the features of one of several parts.
 ghost use Rattle.std.specs.Prelude.{◌≡◌, ◌<◌, ◌⊎◌, IfErr, OnErr, OnOk};
-ghost use Rattle.outputs.specs.Shown.{HasRefused, IsPassedOn};
+ghost use Rattle.outputs.specs.Output.{HasRefused, IsPassedOn};
 ghost use Rattle.sessions.specs.Parts.{SendsPart, SendsSome};
 
 use crate::answering::send_all;

@@ -62,7 +62,7 @@ impl<S: PageStore> PageStore for ReadOnly<S> {
             (Faulted (⟦<ReadOnly<S> as PageStore>⟧.seen self.old)
             (⟦<ReadOnly<S> as PageStore>⟧.seen self.new)) }
     {
-        self.faults.of(self.store.read(number, page))
+        self.faults.count(self.store.read(number, page))
     }
 
     /// Refuses to write a page: no page changes.
@@ -86,7 +86,7 @@ impl<S: PageStore> PageStore for ReadOnly<S> {
             (Faulted (⟦<ReadOnly<S> as PageStore>⟧.seen self.old)
             (⟦<ReadOnly<S> as PageStore>⟧.seen self.new)) }
     {
-        self.faults.of(Err(StoreFault))
+        self.faults.count(Err(StoreFault))
     }
 
     fn sync(&mut self) -> Result<(), StoreFault> {

@@ -12,7 +12,7 @@ use Rattle.tbtree.specs.declared.tree.Place.{Place}
 use Rattle.tbtree.specs.declared.tree.TbTree.{TbTree}
 use Rattle.pagecache.specs.Cache.{payload_of, stored_payload, IsClean}
 use Rattle.pages.specs.Store.{IsSynced, IsSyncedButFirst, Keeps, Stays, Store}
-use Rattle.outputs.specs.Shown.{HasRefused, IsPassedOn, Shown}
+use Rattle.outputs.specs.Output.{HasRefused, IsPassedOn, OutputView}
 use Rattle.boxsearch.specs.Index.{words, IsMarked}
 use Rattle.header.specs.Front.{SaysState}
 use Rattle.register.specs.Lasting.{first_fault, ComesFirst, IsKept, IsReadingFault, IsStop, IsTrulyDamaged}
@@ -116,7 +116,7 @@ pub record CommandCall {I : Type 0} (g : Ghosts I) (files : List (List ℕ × Li
 
 -- what `run` of the lines of a script promises beside its theorem, with the named files at hand, and with an output
 -- that shows what it has taken
-pub record RunCall {I O : Type 0} (g : Ghosts I) (shown : O → Shown)
+pub record RunCall {I O : Type 0} (g : Ghosts I) (shown : O → OutputView)
     (files : List (List ℕ × List ℕ)) (out out' : O) (old new : CoreView I)
     (lines : List (List ℕ)) (result : Result (Unit {0}) RunFault) : Type 0 where
   pub sound : OnOk result (IsSound g old → IsSound g new)

@@ -382,7 +382,7 @@ impl<I: Start> Core<I> {
 impl<I: Start> Core<I> {
     ghost use Rattle.std.specs.Prelude.{◌≡◌, ◌⊎◌, IfOk, IfErr, IsErrOf, IsTrue, OnOk, OnErr, Err, false, true};
     ghost use Rattle.trajdb.specs.Script.{lines_of, without_return};
-    ghost use Rattle.outputs.specs.Shown.{HasRefused};
+    ghost use Rattle.outputs.specs.Output.{HasRefused};
     ghost use Rattle.trajdb.specs.Answers.{AcceptsLine};
     ghost use Rattle.trajdb.specs.Faults.{IsNotOutput};
     ghost use Rattle.trajdb.specs.Lines.{HasDone, HasCut, HasNotDone};
@@ -428,7 +428,7 @@ impl<I: Start> Core<I> {
             (O.seen out.old).contents (O.seen out.new).contents self.old self.new line.now }
         ensures named { IfErr result (λ fault. IsNotOutput fault → HasNamed I.Listed files.now
             (O.seen out.old).contents (O.seen out.new).contents self.old self.new line.now fault) }
-        ensures none { OnOk result ((O.seen out.new).refusals ≡ (O.seen out.old).refusals) }
+        ensures refuses_none { OnOk result ((O.seen out.new).refusals ≡ (O.seen out.old).refusals) }
         ensures output { IsErrOf result RunFault.Output
             → HasRefused (O.seen out.old) (O.seen out.new) }
         ensures passed { IfErr result (λ fault. IsNotOutput fault
@@ -444,7 +444,7 @@ impl<I: Start> Core<I> {
         match self.answer(alloc, line, files) {
             Ok(text) => send(out, text.as_slice()),
             Err(fault) => {
-                // The answers before are passed on; where the output refuses that, the fault is still the line's.
+                // Where the output refuses to be flushed, the fault is still the line's.
                 let _ = out.flush();
                 Err(fault)
             }
@@ -453,10 +453,10 @@ impl<I: Start> Core<I> {
 
     /// Runs a script, with the named files at hand, and sends its answers.
     ///
-    /// Where a line is not answered the run stops: the answers to the lines before it were sent, whole, and passed on unless
-    /// the output refuses that, and the database is left as after these, or is failed, and the line a `load` of a file that is
-    /// there. Where the output fails (`Output`) a
-    /// front of the answers was sent, all but the last of them whole. A failed database does nothing (`Failed`).
+    /// Where a line is not answered the run stops: the answers to the lines before it were sent, whole, and flushed unless
+    /// the output refuses that, and the database is left as after these, or is failed, and the line a `load` of a file that
+    /// is there. Where the output fails (`Output`) a front of the answers was sent, all but the last of them whole. A failed
+    /// database does nothing (`Failed`).
     pub fn run<O: Output>(
         &mut self,
         alloc: Global,

@@ -161,10 +161,10 @@ impl<S: PageStore> Db<S> {
 
     /// Runs a script, with the named files at hand, and sends its answers.
     ///
-    /// Where a line is not answered the run stops: the answers to the lines before it were sent, whole, and passed on unless
-    /// the output refuses that, and the database is left as after these, or is failed, and the line a `load` of a file that is
-    /// there. Where the output fails (`Output`) a
-    /// front of the answers was sent, all but the last of them whole. A failed database does nothing (`Failed`).
+    /// Where a line is not answered the run stops: the answers to the lines before it were sent, whole, and flushed unless
+    /// the output refuses that, and the database is left as after these, or is failed, and the line a `load` of a file that
+    /// is there. Where the output fails (`Output`) a front of the answers was sent, all but the last of them whole. A failed
+    /// database does nothing (`Failed`).
     pub fn run<O: Output>(
         &mut self,
         alloc: Global,

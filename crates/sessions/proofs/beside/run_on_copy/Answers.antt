@@ -117,8 +117,8 @@ returns-in-Ok-answered-clause-refused g c =
 pub returns-in-Err-clause-over : goal.returns-in-Err-clause-over
 returns-in-Err-clause-over g c =
     let early = c.in-Err.ensures.cause in
-    let late = c.discard.ensures.none in
-    inl ((cc, (c.in-Err.ensures.named, omega (arith, early, late), c.discard.ensures.said ∙ c.in-Err.ensures.said)), refl)
+    let late = c.discard.ensures.refuses_none in
+    inl ((cc, (c.in-Err.ensures.named, omega (arith, early, late), c.discard.ensures.last_fault ∙ c.in-Err.ensures.last_fault)), refl)
 
 pub returns-in-Err-answered-clause-over : goal.returns-in-Err-answered-clause-over
 returns-in-Err-answered-clause-over g c = inr (record {
@@ -155,6 +155,6 @@ returns-in-Ok-answered-clause-over g c =
       store = last;
       run = c.answer-store.ensures.over;
       kept = on_both (answered ≡ Ok tt) (NameIsKept last was is) c.keep.result c.in-Ok-answered.is kept;
-      refused = refused_by_folder (g.F.Folder.refusals c.args.folder.now) (g.F.Folder.refusals c.copy.new.self) (g.F.Folder.refusals c.keep.new.folder) (g.F.Folder.said c.keep.new.folder) answered c.keep.result
+      refused = refused_by_folder (g.F.Folder.refusals c.args.folder.now) (g.F.Folder.refusals c.copy.new.self) (g.F.Folder.refusals c.keep.new.folder) (g.F.Folder.last_fault c.keep.new.folder) answered c.keep.result
           c.in-Ok.ensures.later c.in-Ok-answered.is c.keep.ensures.named;
     })

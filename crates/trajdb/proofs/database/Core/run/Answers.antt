@@ -16,7 +16,7 @@ use Rattle.trajdb.proofs.database.Core.run.Goals as goal
 use Rattle.trajdb.proofs.database.Core.run.Goals.{After-flush}
 
 pub loop-rest-init : goal.loop-rest-init
-loop-rest-init g c = record { lives = ap (λ (v : CoreView g.row.I.Denot). v.failed) (sym c.self.view_is) ∙ c.if-self.false; later = later-refl g.I.Listed _; pages = keeps-refl g.I.Listed _; whole = λ b. inl b; none = refl; left = (0, refl); traced = (0, traced_start g.I.Listed c.args.files.now _ _ _); at = λ sound. (sound, 0, at_start _ _ _ _ _, begun_start c.args.self.now.limits c.args.files.now c.args.self.now.book (lines_of c.args.script.now) c.args.self.now.begun) }
+loop-rest-init g c = record { lives = ap (λ (v : CoreView g.row.I.Denot). v.failed) (sym c.self.view_is) ∙ c.if-self.false; later = later-refl g.I.Listed _; pages = keeps-refl g.I.Listed _; whole = λ b. inl b; refuses_none = refl; left = (0, refl); traced = (0, traced_start g.I.Listed c.args.files.now _ _ _); at = λ sound. (sound, 0, at_start _ _ _ _ _, begun_start c.args.self.now.limits c.args.files.now c.args.self.now.book (lines_of c.args.script.now) c.args.self.now.begun) }
 
 pub loop-rest-preserved : goal.loop-rest-preserved
 loop-rest-preserved g c = record {
@@ -27,7 +27,7 @@ loop-rest-preserved g c = record {
       let left = c.loop-rest.invariant.left in
       let next = next_line c.loop-rest.rest.now c.first_piece.result.0.now c.first_piece.result.1.now c.without_return.result.now c.first_piece.ensures.pieces c.without_return.ensures in
       whole_more _ _ _ _ _ left.0 left.1 next _ _ _ c.loop-rest.invariant.whole c.line.ensures.whole;
-  none = c.in-Ok.ensures.none ∙ c.loop-rest.invariant.none;
+  refuses_none = c.in-Ok.ensures.refuses_none ∙ c.loop-rest.invariant.refuses_none;
   left =
       let left = c.loop-rest.invariant.left in
       let next = next_line c.loop-rest.rest.now c.first_piece.result.0.now c.first_piece.result.1.now c.without_return.result.now c.first_piece.ensures.pieces c.without_return.ensures in
@@ -75,9 +75,9 @@ returns-in-Err-clause-call g c =
           at_cut _ _ _ _ _ _ _ _ _ _ _ _ _ at.2 next cut (λ j. BeginsIn c.args.files.now c.args.self.now c.line.new.self (take j (lines_of c.args.script.now))) (begun_by _ _ _ _ _ _ _ _ _ _ _ at.2 next _ _ _ at.3 only);
       cut_sound = search rules;
       cut_lives = search rules;
-      output_caused = λ is. subst (λ (n : ℕ). HasRisen n (g.O.Output.seen c.line.new.out).refusals) c.loop-rest.invariant.none (c.in-Err.ensures.output is);
+      output_caused = λ is. subst (λ (n : ℕ). HasRisen n (g.O.Output.seen c.line.new.out).refusals) c.loop-rest.invariant.refuses_none (c.in-Err.ensures.output is);
       passed = tt;
-      passed_before = λ inside _. subst (λ (n : ℕ). IsTrue (g.O.Output.seen c.line.new.out).is_flushed ⊎ HasRisen n (g.O.Output.seen c.line.new.out).refusals) c.loop-rest.invariant.none (c.in-Err.ensures.passed inside);
+      passed_before = λ inside _. subst (λ (n : ℕ). IsTrue (g.O.Output.seen c.line.new.out).is_flushed ⊎ HasRisen n (g.O.Output.seen c.line.new.out).refusals) c.loop-rest.invariant.refuses_none (c.in-Err.ensures.passed inside);
       refused = λ inside lives sound.
           let at = c.loop-rest.invariant.at sound in
           let only = subst (λ (limits : LimitsView). c.line.new.self.begun ≡ true → (c.loop-rest.self.begun ≡ true) ⊎ AcceptsLine limits c.args.files.now c.loop-rest.self.book c.without_return.result.now)
@@ -113,7 +113,7 @@ returns-in-Ok-flush-clause-call g c = record {
   cut_sound = search rules;
   cut_lives = search rules;
   output_caused = search rules;
-  passed = record { none = c.in-Ok-flush.ensures.passed.none ∙ c.loop-rest.invariant.none; flushed = c.in-Ok-flush.ensures.passed.flushed };
+  passed = record { refuses_none = c.in-Ok-flush.ensures.passed.refuses_none ∙ c.loop-rest.invariant.refuses_none; flushed = c.in-Ok-flush.ensures.passed.flushed };
   passed_before = tt;
   refused = tt;
   kept = tt;
@@ -141,7 +141,7 @@ returns-in-Err-flush-clause-call g c = record {
       at_unflushed _ _ _ _ _ _ _ _ _ _ at.2 c.in-Err-flush.ensures.stays (λ j. BeginsIn c.args.files.now c.args.self.now c.loop-rest.self (take j (lines_of c.args.script.now))) at.3.0;
   cut_sound = search rules;
   cut_lives = search rules;
-  output_caused = λ _. subst (λ (n : ℕ). HasRisen n (g.O.Output.seen c.flush.new.self).refusals) c.loop-rest.invariant.none c.in-Err-flush.ensures.cause;
+  output_caused = λ _. subst (λ (n : ℕ). HasRisen n (g.O.Output.seen c.flush.new.self).refusals) c.loop-rest.invariant.refuses_none c.in-Err-flush.ensures.cause;
   passed = tt;
   passed_before = search rules;
   refused = search rules;

@@ -14,7 +14,7 @@ invariant-loop-rest g l = record {
   later : IsLater g.I.Listed l.initial.self l.self;
   pages : KeepsPages g.I.Listed l.initial.self l.self;
   whole : BeginsBy l.initial.self l.self (LoadsWholeSome l.files (lines_of l.script));
-  none : (g.O.Output.seen l.out).refusals ≡ (g.O.Output.seen l.initial.out).refusals;
+  refuses_none : (g.O.Output.seen l.out).refusals ≡ (g.O.Output.seen l.initial.out).refusals;
   left : (k : ℕ) × IsLeft (lines_of l.script) l.rest k;
   traced : (k : ℕ) × IsTracedAt g.I.Listed l.files (g.O.Output.seen l.initial.out).contents (g.O.Output.seen l.out).contents l.initial.self l.self (lines_of l.script) l.rest k;
   at : IsSound g.I.Listed l.initial.self

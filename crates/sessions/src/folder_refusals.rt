@@ -6,20 +6,20 @@ use pages::Refusals;
 
 /// How often a folder refused a call, and why it did so last.
 #[derive(Drop)]
-pub struct Refused {
+pub struct FolderRefusals {
     /// How often.
     pub refusals: Refusals,
     /// Why, where it ever did.
     pub last: Option<Fault<'static>>,
 }
 
-impl Refused {
+impl FolderRefusals {
     /// Nothing so far.
-    pub fn nothing() -> Refused
+    pub fn nothing() -> FolderRefusals
         ensures refusals { result.refusals ≡ 0 }
         ensures last { result.last ≡ None }
     {
-        Refused {
+        FolderRefusals {
             refusals: Refusals::none(),
             last: None,
         }
