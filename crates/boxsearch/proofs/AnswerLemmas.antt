@@ -21,10 +21,6 @@ pub each_value : {A F : Type 0} (say : F → IndexFault) (P : A → Type 0) (r :
 each_value say P (Ok x) p = p
 each_value say P (Err f) p = tt
 
-pub of_both : {A F : Type 0} (say : F → IndexFault) (P : A → Type 0) (Q : F → Type 0) (r : Result A F) → MatchResult r P Q → IfOk (answered say r) P
-of_both say P Q (Ok x) p = p
-of_both say P Q (Err f) p = tt
-
 pub faults_of : {A F : Type 0} (P : A → Type 0) (Q : F → Type 0) (r : Result A F) → MatchResult r P Q → IfErr r Q
 faults_of P Q (Ok x) p = tt
 faults_of P Q (Err f) p = p

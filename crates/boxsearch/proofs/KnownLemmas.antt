@@ -10,9 +10,6 @@ use Rattle.chains.specs.declared.spans.LeafSpan.{LeafSpan}
 use Rattle.boxsearch.specs.Known.{AreKnown, Widens}
 use Rattle.boxsearch.proofs.PlaceLemmas.{some_none, some_same}
 
-pub widens_refl : (known : List (List LeafSpan)) → Widens known known
-widens_refl known = λ f spans e. inl e
-
 push_has : (known : List (List LeafSpan)) (f : ℕ) (spans : List LeafSpan) → slice_get (known ++ [] ∷ []) f ≡ Some spans → (slice_get known f ≡ Some spans) ⊎ (spans ≡ [])
 push_has [] zero spans e = inr (sym (some_same [] spans e))
 push_has [] (suc f) spans e = absurd (some_none spans (sym e))

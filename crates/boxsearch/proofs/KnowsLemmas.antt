@@ -37,14 +37,6 @@ pub still_back : (old new : Cache) → OnlyReads old new → IsTrue old.store.is
 still_back old new reads fa period shape place spans h =
     reach_lasts (pages_of_cache old) (pages_of_cache new) (same_at old new reads fa) (Some period) spans (div_ceil place.legs shape.leaf) place.last h
 
--- a call that only reads leaves what is known
-pub still_known : (old new : Cache) (shape : ShapeView) (places : List Place) (before after : List (List LeafSpan)) → OnlyReads old new → Holds before after
-    → (g : ℕ) (start : ℤ) → KnowsBackTo old shape places before g start → KnowsBackTo new shape places after g start
-still_known old new shape places before after reads holds g start h = λ fa place at.
-    let was = sym reads.store.faithful ∙ fa in
-    let k = h was place at in
-    (k.0, holds g k.0 k.1, λ period starts. still_back old new reads was period shape place k.0 (k.2 period starts))
-
 module _ {V : Type 0} (items : V → List LeafSpan) where
   get_items : (xs : List V) (i : ℕ) (d : V) → i < length xs → slice_get (map items xs) i ≡ Some (items (get_or xs i d))
   get_items [] i d l = absurd (omega (arith, l))

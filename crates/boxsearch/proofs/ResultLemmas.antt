@@ -25,11 +25,6 @@ the_error P (Err x) e h p = subst (λ r. IfErr r P) h p
 pub on_err : {T E P Q : Type 0} (r : Result T E) → (P → Q) → OnErr r P → OnErr r Q
 on_err {T} {E} {P} {Q} r f h = (elim r as (λ r. OnErr r P → OnErr r Q) [ Ok x ↦ λ h. tt | Err e ↦ λ h. f h ]) h
 
--- what is said of a value is said of one that is the same
-pub now_says : {E X : Type 0} (r : Result (Unit {0}) E) (F : Type 0) (P : X → Type 0) (a b : X) → (F → b ≡ a) → (F → OnOk r (P a)) → OnOk r (F → P b)
-now_says (Ok x) F P a b same h = λ f. subst P (sym (same f)) (h f)
-now_says (Err e) F P a b same h = tt
-
 -- of two things that are the same the one that is seen
 abbrev pub seen_of : {A : Type 0} {a b : A} → a ≡ b → A
 seen_of {a = a} e = a

@@ -285,24 +285,6 @@ taking_more old now new all left run so_far more later some added fits = record 
 pub taking_fits : (old now : IndexView) (all left : List LegView) → left ≡ [] → IsTaking old now all left → IsTrue old.cache.store.is_faithful → (leg : LegView) → Contains all leg → FitsLeg words old all leg
 taking_fits old now all left none so_far fa leg h = so_far.fits fa leg (subst (λ l. Contains l leg) (sym so_far.are ∙ ap (λ l. so_far.done ++ l) none ∙ append-nil so_far.done) h)
 
-pub taking_end : (old now : IndexView) (all : List LegView) → IsTaking old now all [] → Taking old now all (Ok tt)
-taking_end old now all so_far = record {
-  takes = λ before s w.
-      let at = so_far.going before s w in
-      let same : at.0 ≡ all = sym (append-nil at.0) ∙ at.3 in
-      subst (λ l. HoldsLegs now (before ++ l)) same at.1;
-  shape = so_far.shape;
-  works = so_far.works;
-  spent = tt;
-  refused = tt;
-  store = λ e. absurd cc;
-  full = λ e. absurd cc;
-  lacks = λ e. absurd cc;
-  works_on = λ e. absurd cc;
-  blames = λ page e. absurd cc;
-  marked = so_far.marked;
-}
-
 pub taking_refused : (old now new : IndexView) (all left run : List LegView) (fault : IndexFault) → IsTaking old now all (run ++ left) → Taking now new run (Err fault) → Taking old new all (Err fault)
 taking_refused old now new all left run fault so_far more = record {
   takes = tt;

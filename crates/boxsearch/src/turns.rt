@@ -11,14 +11,14 @@ use tbtree::Place;
 
 /// The turn of a leg: the number of the leaf that takes it, and its place among the legs. The leaves that are there
 /// are numbered by their features, and those that are to be made by the places of their first legs, behind them.
-#[derive(Clone, Copy, Debug)]
+#[derive(Clone, Copy)]
 pub(crate) struct Turn {
     pub(crate) leaf: u32,
     pub(crate) place: u32,
 }
 
 /// The last leaf of a feature: how many legs it has, none where it is full, and its number.
-#[derive(Clone, Copy, Debug)]
+#[derive(Clone, Copy)]
 pub(crate) struct Open {
     pub(crate) filled: u64,
     pub(crate) leaf: u32,

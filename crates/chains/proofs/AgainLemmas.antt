@@ -29,7 +29,3 @@ lt_same x y =
 
 pub lt_by : (a b x y : ℤ) → a ≡ x → b ≡ y → is_lt (int_cmp a b) ≡ int_lt x y
 lt_by a b x y e f = (λ i. is_lt (int_cmp (e i) (f i))) ∙ lt_same x y
-
--- all legs were looked at
-pub kept_all : (keep : LegView → Bool) (legs base old : List LegView) (i : ℕ) → i ≡ 0 → old ≡ base ++ reverse (filter keep (drop i legs)) → old ≡ base ++ reverse (filter keep legs)
-kept_all keep legs base old i z h = h ∙ ap (λ k. base ++ reverse (filter keep (drop k legs))) z

@@ -159,16 +159,3 @@ pub allowed_of : (nodes : Pages LegView BoxView) (old new : Cache) (fault : Tree
 allowed_of nodes old new (OfCache fault) o z h s = allowed_in_cache old new fault o z h s
 allowed_of nodes old new (Malformed n) o z h s = some_none n (sym s.0 ∙ z)
 allowed_of nodes old new Spent o z h s = h
-
-held_in_cache : (old new : Cache) (fault : CacheFault) → IsTrue old.store.is_faithful → AreHeld (pages_of_cache old) → RefusesReadInCache old new fault → MayRefuseReadInCache fault
-held_in_cache old new cache.NoPage f a h = h
-held_in_cache old new cache.Store f a h = tt
-held_in_cache old new (cache.Damaged n) f a h = a n h.0 (ap (option_map node_of) (h.1 f))
-held_in_cache old new cache.StoreFull f a h = h
-held_in_cache old new cache.Memory f a h = tt
-
--- where each page has a payload, none is damaged
-pub held_of : (old new : Cache) (fault : TreeFault) → IsTrue old.store.is_faithful → AreHeld (pages_of_cache old) → RefusesRead old new fault → MayRefuseHeld fault
-held_of old new (OfCache fault) f a h = held_in_cache old new fault f a h
-held_of old new (Malformed n) f a h = tt
-held_of old new Spent f a h = h

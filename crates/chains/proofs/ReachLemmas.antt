@@ -34,13 +34,6 @@ front_same xs = record { more = []; is = sym (append-nil xs) }
 pub front_then : (xs ys zs : List LeafSpan) → IsFront xs ys → IsFront ys zs → IsFront xs zs
 front_then xs ys zs a b = record { more = a.more ++ b.more; is = b.is ∙ ap (λ l. l ++ b.more) a.is ∙ append_assoc xs a.more b.more }
 
-pub front_learned : (old new : List LeafSpan) (passed page : ℕ) (leaf : LeafView LegView) → Learns old new passed page leaf → IsFront old new
-front_learned old new passed page leaf learns =
-    ⊎_elim
-    (λ (e : passed ≡ length old). let l = learns.next e in record { more = l.0 ∷ []; is = l.2 })
-    (λ (e : passed ≡ length old → ⊥). subst (IsFront old) (sym (learns.same e)) (front_same old))
-    (cases_eq passed (length old))
-
 -- a leaf that was read is known
 pub record IsLearned (passed : ℕ) (old new : List LeafSpan) : Type 0 where
   pub span : LeafSpan

@@ -57,10 +57,6 @@ caused_after a b c (OfCache e) p h = caused_in_cache a b c e p h
 caused_after a b c (Malformed n) p h = tt
 caused_after a b c Spent p h = h
 
--- no call, and one after another
-pub reads_none : {T : Type 0} (a : Cache) (x : T) → Reads a a (Ok x)
-reads_none a x = record { only = reads_refl a; caused = tt }
-
 pub reads_then : {T : Type 0} (a b c : Cache) (r : Result T TreeFault) → OnlyReads a b → Reads b c r → Reads a c r
 reads_then a b c (Ok y) p q = record { only = reads_trans a b c p q.only; caused = tt }
 reads_then a b c (Err e) p q = record { only = reads_trans a b c p q.only; caused = caused_after a b c e p q.caused }

@@ -44,10 +44,6 @@ ends false link e = absurd (some_none link (sym e))
 abbrev pub IsFound : Pages LegView BoxView → Option PeriodView → Sieve → (n p : ℕ) → (whole items : List LegView) → Type 0
 IsFound nodes period s n p whole items = (done : List LegView) × HasTaken period s done [] items × (walk nodes period n p ++ done ≡ whole)
 
--- nothing yet, and all
-pub found_none : (nodes : Pages LegView BoxView) (period : Option PeriodView) (s : Sieve) (n p : ℕ) → IsFound nodes period s n p (walk nodes period n p) []
-found_none nodes period s n p = ([], none_taken period s [] [] refl, append-nil (walk nodes period n p))
-
 pub found_all : (nodes : Pages LegView BoxView) (period : Option PeriodView) (s : Sieve) (n p : ℕ) (whole items : List LegView) → n ≡ 0
     → IsFound nodes period s n p whole items → HasTaken period s whole [] items
 found_all nodes period s n p whole items z w =

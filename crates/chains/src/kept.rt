@@ -18,7 +18,7 @@ use timebase::Period;
 
 /// What is wanted of a chain: its legs that are live in the period, or of these what the sieve keeps; all its legs,
 /// where there is no period.
-#[derive(Clone, Copy, PartialEq, Eq, Debug)]
+#[derive(Clone, Copy)]
 pub(crate) struct Want {
     pub(crate) period: Option<Period>,
     pub(crate) sieve: Sieve,

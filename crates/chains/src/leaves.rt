@@ -21,7 +21,7 @@ use timebase::Period;
 
 /// A way to a leaf, from the one after it: its page, the page that it has as its next leaf (0 for the last leaf), and
 /// its feature.
-#[derive(Clone, Copy, PartialEq, Eq, Debug)]
+#[derive(Clone, Copy)]
 pub(crate) struct Link {
     pub(crate) page: u32,
     pub(crate) next: u32,

@@ -118,8 +118,8 @@ fn walk_back<S: PageStore>(
         (chain_legs (pages_of_cache cache.old) want.now.period shape.now place.now)
         [] found.items) }
     ensures whole { IsTrue cache.old.store.is_faithful
-        → OnOk result (chain_fault (pages_of_cache cache.old) want.now.period shape.now feature place.now
-        ≡ None) }
+        → OnOk result (chain_fault (pages_of_cache cache.old) want.now.period shape.now feature
+        place.now ≡ None) }
     ensures named { IsTrue cache.old.store.is_faithful
         → IfErr result (IsNamed (pages_of_cache cache.old)
         (chain_fault (pages_of_cache cache.old) want.now.period shape.now feature place.now)) }
@@ -294,8 +294,8 @@ pub fn trajectory_in<S: PageStore>(
     // Of any pages: a page that is named is the first one, from the place's last leaf back, that is not the chain's;
     // a page is asked for once for each leaf that is read.
     ensures whole { IsTrue cache.old.store.is_faithful
-        → OnOk result (chain_fault (pages_of_cache cache.old) (Some period.now) shape.now feature place.now
-        ≡ None) }
+        → OnOk result (chain_fault (pages_of_cache cache.old) (Some period.now) shape.now feature
+        place.now ≡ None) }
     ensures named { IsTrue cache.old.store.is_faithful
         → IfErr result (IsNamed (pages_of_cache cache.old)
         (chain_fault (pages_of_cache cache.old) (Some period.now) shape.now feature place.now)) }

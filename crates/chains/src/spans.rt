@@ -25,7 +25,7 @@ pub struct LeafSpan {
 }
 
 /// What a walk back along a chain does at a leaf.
-#[derive(Clone, Copy, PartialEq, Eq, Debug)]
+#[derive(Clone, Copy)]
 pub(crate) enum Passing {
     /// It reads the leaf.
     Into,

@@ -27,12 +27,6 @@ refused_fraction ws fs n h =
     ∙ and_right (list_all is_ascii_digit (take n fs)) (list_all is_ascii_digit (drop n fs)) h in
     and_left (list_all is_ascii_digit (ws ++ fs)) _ (list_all-append is_ascii_digit ws fs ∙ and_right (list_all is_ascii_digit ws) (list_all is_ascii_digit fs) back)
 
--- no digit at all
-pub refused_empty : (ws fs : List ℕ) → length ws + length fs ≡ 0 → are_parts ws fs ≡ false
-refused_empty ws fs h =
-    let none : ltb 0 (length (ws ++ fs)) ≡ false = let l = length-append ws fs in grind (arith, nat_tests) in
-    and_right (list_all is_ascii_digit (ws ++ fs)) _ none
-
 -- digits alone, and at least one
 all_digits : (fs : List ℕ) (n : ℕ) → list_all is_ascii_digit (take n fs) ≡ true → list_all is_ascii_digit (drop n fs) ≡ true → list_all is_ascii_digit fs ≡ true
 all_digits fs n h g = ap (list_all is_ascii_digit) (sym (take-append-drop n fs)) ∙ list_all-append is_ascii_digit (take n fs) (drop n fs) ∙ and_from _ _ h g
@@ -108,13 +102,6 @@ cut_is s t fs w start n v whole_digits pow r width parts kept rest some power re
       dropped = at.1 ∙ ap (drop s) parts.behind;
       digits = rest;
     }
-
--- the digits behind a cut, of a text of at most 40 bytes
-pub few_dropped : (s : ℕ) (t : List ℕ) → length t ≤ 40 → 3 ≤ s → length (drop s (after_first is_point t)) ≤ 36
-few_dropped s t short low =
-    let front = length-drop s (after_first is_point t) in
-    let behind = length-drop (position_or_len is_point t + 1) t in
-    omega arith
 
 -- what a cut's two sides make together
 pub magnitude_of_cut : (k s : ℕ) (t : List ℕ) (u : ℕ) (dropped : List ℕ) (up r : ℕ) → 1 ≤ k → IsCut s t u dropped → up ≡ rounded k (length dropped) (digits_value 10 dropped)

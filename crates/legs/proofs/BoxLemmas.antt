@@ -24,12 +24,6 @@ pub max_is : (r a b x y : ℤ) → FitsSigned w64 r → FitsSigned w64 a → Fit
 max_is r a b x y fr fa fb e p q =
     to_z-of_z w64 r fr ∙ e ∙ ap (λ z. int_max z (to_z w64 (of_z w64 b))) (to_z-of_z w64 a fa ∙ p) ∙ ap (int_max x) (to_z-of_z w64 b fb ∙ q)
 
-pub min-le_max : (x y : ℤ) → int_min x y ≤ℤ int_max x y
-min-le_max x y = omega (arith, ints, clamps)
-
-pub int_max_below : (x y z : ℤ) → x ≤ℤ z → y ≤ℤ z → int_max x y ≤ℤ z
-int_max_below x y z h k = omega (arith, ints, clamps)
-
 pub and_parts : (a b : Bool) → (a && b) ≡ true → (a ≡ true) × (b ≡ true)
 and_parts true b e = (refl, e)
 and_parts false b e = cc
@@ -120,11 +114,3 @@ intervals_at r a b c d fa fb fc fd e =
     e ∙ ap (λ z. intervals_meet z (to_z w64 (of_z w64 b)) (to_z w64 (of_z w64 c)) (to_z w64 (of_z w64 d))) (to_z-of_z w64 a fa)
     ∙ ap (λ z. intervals_meet a z (to_z w64 (of_z w64 c)) (to_z w64 (of_z w64 d))) (to_z-of_z w64 b fb)
     ∙ ap (λ z. intervals_meet a b z (to_z w64 (of_z w64 d))) (to_z-of_z w64 c fc) ∙ ap (intervals_meet a b c) (to_z-of_z w64 d fd)
-
-pub and_assoc : (a b c : Bool) → ((a && b) && c) ≡ (a && (b && c))
-and_assoc true b c = refl
-and_assoc false b c = refl
-
-pub and_of_nine : (r s t u v w x y z a b c d e f g h i : Bool) → r ≡ a → s ≡ (r && b) → t ≡ (s && c) → u ≡ (t && d) → v ≡ (u && e) → w ≡ (v && f) → x ≡ (w && g) → y ≡ (x && h) → z ≡ (y && i)
-    → z ≡ (a && (b && (c && (d && (e && (f && (g && (h && i))))))))
-and_of_nine r s t u v w x y z a b c d e f g h i p0 p1 p2 p3 p4 p5 p6 p7 p8 = rw (p8, p7, p6, p5, p4, p3, p2, p1, p0) (simp and_assoc)

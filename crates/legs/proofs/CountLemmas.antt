@@ -32,18 +32,6 @@ names_with-more names name = elim (cases_bool (list_any (bytes_eq name) names)) 
   | inr e ↦ (name ∷ [], rw e refl)
 ]
 
--- nothing is added
-pub extends_self : (t : TracksView) → Extends t t
-extends_self t = record {
-  more_names = ([], sym (append-nil t.names));
-  more_tracks = ([], sym (append-nil t.tracks), All-nil (λ (track : Track). track.legs ≡ 0));
-  legs = refl;
-  rows = refl;
-}
-
-pub adds_none : (t : TracksView) → AddsNames t t []
-adds_none t = record { extends = extends_self t; names = refl }
-
 -- one name, with a track or without
 pub adds_one : (t t' : TracksView) (name : List ℕ) (fresh : List Track) → t'.names ≡ names_with t.names name
     → t'.tracks ≡ t.tracks ++ fresh → All (λ track. track.legs ≡ 0) fresh → t'.legs ≡ t.legs → t'.rows ≡ t.rows → AddsNames t t' (name ∷ [])

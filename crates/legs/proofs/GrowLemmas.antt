@@ -67,11 +67,6 @@ growing-more g old now new all left leg so_far more = λ sound turn.
       ap (λ (ls : List LegView). ls ++ left) content ∙ append_assoc (g.content now) (leg ∷ []) left ∙ at.2,
     )
 
-pub growing-end : {I : Type 0} (g : Ghosts I) (old now : I) (all : List LegView) → IsGrowing g old now all [] → Grows g old now all
-growing-end g old now all so_far = λ sound turn.
-    let at = so_far sound turn in
-    record { sound = at.0; content = sym (append-nil (g.content now)) ∙ at.2 }
-
 -- what is left skips no feature where all did not
 skip_rest : (n : ℕ) (done rest : List LegView) → SkipNone n (done ++ rest) → SkipNone (features_after n done) rest
 skip_rest n [] rest h = h

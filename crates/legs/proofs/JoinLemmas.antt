@@ -39,12 +39,6 @@ free_of limits b r e =
       | inr t ↦ t
     ]
 
--- a fault of the head
-pub refused_head : (limits : LimitsView) (book : Book) (file : File) (fault : JoinFault) → IsFirst fault (head_faults book.head file.head) → IsRefusal fault (joined limits book file)
-refused_head limits book file Memory first = tt
-refused_head limits book file (Refused code number) first =
-    ap (λ (fs : List (JoinCode × ℕ)). first_or (fs ++ record_faults limits book file.records) (records_legs book file.records)) first.1
-
 pub with_records-rows : (book : Book) (records : List RecordView) → (with_records book records).rows ≡ book.rows ++ map (λ (r : RecordView). r.attributes) records
 with_records-rows book [] = sym (append-nil book.rows)
 with_records-rows book (r ∷ records) =
@@ -74,17 +68,6 @@ legs-append book [] more = refl
 legs-append book (r ∷ records) more =
     ap (λ (legs : List LegView). record_legs book r ++ legs) (legs-append (with_record book r) records more)
     ∙ sym (append_assoc (record_legs book r) (records_legs (with_record book r) records) (records_legs (with_records (with_record book r) records) more))
-
--- no record is joined yet
-pub none_joined : (limits : LimitsView) (book : Book) (draft : Draft) → IsDraft draft book → draft.names.names ≡ [] → AreJoined limits book [] [] draft
-none_joined limits book draft is names = record {
-  draft_of = is;
-  faultless = refl;
-  all = refl;
-  follow = tt;
-  names = names;
-  lawful = All-nil IsRecord;
-}
 
 -- one more is joined
 pub one_joined : (limits : LimitsView) (book : Book) (records : List RecordView) (r : RecordView) (legs legs' : List LegView) (d d' : Draft) → AreJoined limits book records legs d → IsRecord r

@@ -139,21 +139,3 @@ law_with_file limits book file legs is all law whole ok =
       none = λ none. absurd (headed book.head file.head none);
       rows = rows_with_file limits book file legs law whole ok;
     }
-
--- a book without files keeps the law
-pub law_empty : (limits : LimitsView) → IsBook limits empty_book
-law_empty limits = record {
-  ordered = record {
-    names = All-nil IsName;
-    distinct = λ i j d e less inside. absurd (omega arith);
-    there = All-nil (IsThere empty_book);
-    in_turn = tt;
-    numbered = refl;
-    led = λ f h. absurd (omega arith);
-    few_legs = omega arith;
-    few_features = omega arith;
-    few_rows = omega arith;
-  };
-  none = λ none. refl;
-  rows = λ head at. absurd (cc);
-}

@@ -19,7 +19,7 @@ use std::alloc::{AllocError, Global};
 use timebase::Ms;
 
 /// The number of a feature, and the end of its last leg.
-#[derive(Clone, Copy, PartialEq, Eq, Debug)]
+#[derive(Clone, Copy)]
 pub(crate) struct Latest {
     pub(crate) feature: u32,
     pub(crate) end: Ms,

@@ -4,11 +4,6 @@ use Rattle.mfcsv.specs.Answer.{Judges, RowFaultIs}
 use Rattle.mfcsv.specs.declared.Code.{Code}
 use Rattle.mfcsv.specs.declared.rows.RowFault.{RowFault}
 
--- the fault of a step is the fault of the whole
-pub judges_err : {T : Type 0} (r : Result T RowFault) (x e : RowFault) (whole step : Option Code) (P : T → Type 0) → r ≡ Err x → x ≡ e → whole ≡ step → RowFaultIs e step → Judges r whole P
-judges_err {T = T} r x e whole step P a b w f =
-    subst (λ (y : Result T RowFault). Judges y whole P) (sym a) (subst (λ y. RowFaultIs y whole) (sym b) (subst (λ o. RowFaultIs e o) (sym w) f))
-
 -- the same fault, and a value of which more is known
 pub judges_same : {T : Type 0} (r : Result T RowFault) (whole step : Option Code) (P Q : T → Type 0) → whole ≡ step → ((x : T) → P x → Q x) → Judges r step P → Judges r whole Q
 judges_same (Ok x) whole step P Q w more j = (w ∙ j.0, more x j.1)

@@ -46,22 +46,6 @@ pub record IsReading (dimension : Dimension) (all : List (List ℕ)) (read : Lis
   pub count : length all ≡ axes dimension * length read + count_of waiting + length left
   pub positions : positions_of (Some dimension) all ≡ behind read (positions_behind dimension waiting left)
 
-behind-none : (o : Option (List Position)) → behind [] o ≡ o
-behind-none None = refl
-behind-none (Some positions) = refl
-
-some_axes : (dimension : Dimension) → 0 < axes dimension
-some_axes Two = omega arith
-some_axes Three = omega arith
-
-pub reading-start : (dimension : Dimension) (all : List (List ℕ)) → IsReading dimension all [] Nothing all
-reading-start dimension all = record {
-  numbers = refl;
-  fits = some_axes dimension;
-  count = omega arith;
-  positions = sym (behind-none (positions_of (Some dimension) all));
-}
-
 is_coordinate-read : (word : List ℕ) (z : ℤ) → coord_of word ≡ Ok z → is_coordinate word ≡ true
 unfolding is_coordinate
 is_coordinate-read word z e = rw e refl

@@ -11,13 +11,6 @@ use Rattle.mfcsv.specs.Unread.{cells}
 use Rattle.mfcsv.specs.Rows.{Row, field, is_empty}
 use Rattle.mfcsv.specs.DataRecord.{attributes_of, has_wrong_name}
 
--- whether the fields from a place on are blank
-pub blank-more : (row : Row) (place : ℕ) → place < length row → list_all is_empty (drop place row) ≡ (is_empty (field row place) && list_all is_empty (drop (place + 1) row))
-blank-more row place lt = at_drop_more (list_all is_empty) row place [] lt
-
-pub blank-end : (row : Row) (place : ℕ) → length row ≤ place → list_all is_empty (drop place row) ≡ true
-blank-end row place h = ap (list_all is_empty) (drop_all place row h)
-
 -- one attribute value more
 pub attributes_of-more : (row : Row) (i : ℕ) → attributes_of (i + 1) row ≡ attributes_of i row ++ (field row (4 + i) ∷ [])
 unfolding attributes_of

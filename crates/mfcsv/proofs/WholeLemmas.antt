@@ -171,8 +171,3 @@ whole_text rows file e =
     let lines : List Line = lines_from 1 no_heads rows in
     let parts = first_or_ok (flat_map faults_of lines) (file_with heads.bounds heads.columns (flat_map records_of lines)) file e in
     whole_with heads.bounds heads.columns (flat_map records_of lines) file (wide_all 1 no_heads rows parts.0) parts.1
-
--- a file that is read has whole rows
-pub gives_whole : (rows : List Row) (r : Result File FileFault) → Gives r (text_of_rows rows) → IfOk r HasWholeRows
-gives_whole rows (Ok file) g = whole_text rows file g
-gives_whole rows (Err fault) g = tt

@@ -73,7 +73,7 @@ fn read_span(clock: &Clock, row: &StringRecord) -> Result<(Ms, Ms), RowFault>
 }
 
 /// The coordinates of a position that were read so far, where it is not whole.
-#[derive(Clone, Copy, PartialEq, Eq, Debug)]
+#[derive(Clone, Copy)]
 pub(crate) enum Waiting {
     Nothing,
     X(Coord),
@@ -81,7 +81,7 @@ pub(crate) enum Waiting {
 }
 
 /// What a coordinate makes of those before it.
-#[derive(Clone, Copy, PartialEq, Eq, Debug)]
+#[derive(Clone, Copy)]
 pub(crate) enum Placed {
     /// A position that is not whole.
     Part(Waiting),

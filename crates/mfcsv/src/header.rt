@@ -16,7 +16,7 @@ use std::marker::Model;
 use timebase::{Ms, TimeFault, Unit, read_instant};
 
 /// What kind of line a record is.
-#[derive(Clone, Copy, PartialEq, Eq, Debug)]
+#[derive(Clone, Copy)]
 pub(crate) enum Kind {
     /// A record of one blank field.
     Skipped,

@@ -132,7 +132,7 @@ impl<'a> Unread<'a> {
 }
 
 /// How far a file was read.
-#[derive(Clone, Copy, PartialEq, Eq, Debug)]
+#[derive(Clone, Copy)]
 pub(crate) enum Stage {
     Reading,
     /// No row is left.

@@ -11,7 +11,7 @@ use std::alloc::{AllocError, AllocFailed, Global};
 use words::cut_text;
 
 /// Why a record was not taken in.
-#[derive(Clone, Copy, PartialEq, Eq, Debug)]
+#[derive(Clone, Copy)]
 pub(crate) enum RowFault {
     Refused(Code),
     Memory,

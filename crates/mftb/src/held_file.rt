@@ -1,8 +1,7 @@
 //! A file of the system that a run holds open.
-ghost use Rattle.std.specs.Prelude.{◌≡◌, ◌≤◌, true, None, OnErr, OnOk};
-ghost use Rattle.pages.specs.Store.{HasRisen};
+ghost use Rattle.std.specs.Prelude.{◌≡◌, true, false, None};
 
-use pages::{ByteFile, Refusals};
+use pages::{ByteFile, SystemFile};
 use sessions::Cause;
 use std::cell::Cell;
 use std::fs::{File, OpenFile};
@@ -13,46 +12,42 @@ use std::os::unix::fs::FileExt;
 /// that `sync` puts them on the disk: that it does is trusted.
 #[derive(Drop)]
 pub(crate) struct HeldFile<'a, F = File> {
-    file: F,
+    file: SystemFile<F>,
     /// Why a call on it failed last, where that is to be known.
     cause: Option<&'a Cell<Option<Cause>>>,
-    refusals: Refusals,
 }
 
 impl<'a, F: FileExt + OpenFile> HeldFile<'a, F> {
     /// The file of a handle, which is open for what it is to be asked for.
     pub(crate) fn new(file: F) -> HeldFile<'a, F>
-        ensures { result.refusals ≡ 0 }
+        ensures refusals { ⟦<HeldFile<'a, F> as ByteFile>⟧.refusals result ≡ 0 }
+        ensures lost { ⟦<HeldFile<'a, F> as ByteFile>⟧.has_lost result ≡ false }
     {
         HeldFile {
-            file,
+            file: SystemFile::new(file),
             cause: None,
-            refusals: Refusals::none(),
         }
     }
 
     /// The same, where it is noted why a call on it failed.
     pub(crate) fn noted(file: F, cause: &'a Cell<Option<Cause>>) -> HeldFile<'a, F>
-        ensures { result.refusals ≡ 0 }
+        ensures refusals { ⟦<HeldFile<'a, F> as ByteFile>⟧.refusals result ≡ 0 }
+        ensures lost { ⟦<HeldFile<'a, F> as ByteFile>⟧.has_lost result ≡ false }
     {
         HeldFile {
-            file,
+            file: SystemFile::new(file),
             cause: Some(cause),
-            refusals: Refusals::none(),
         }
     }
 
-    /// Counts a call that was refused, and notes why it was.
-    fn note(&mut self, answer: io::Result<()>) -> io::Result<()>
-        ensures same { result ≡ answer }
-        ensures refuses_none { OnOk result (self.new.refusals ≡ self.old.refusals) }
-        ensures cause { OnErr result (HasRisen self.old.refusals self.new.refusals) }
-        ensures later { self.old.refusals ≤ self.new.refusals }
+    /// Notes why a call was refused.
+    fn note(&self, answer: io::Result<()>) -> io::Result<()>
+        ensures { result ≡ answer }
     {
         if let (Err(error), Some(cause)) = (&answer, self.cause) {
             cause.set(Some(Cause::from(error.kind())));
         }
-        self.refusals.count(answer)
+        answer
     }
 }
 
@@ -61,24 +56,26 @@ impl<'a, F: FileExt + OpenFile> ByteFile for HeldFile<'a, F> {
 
     ghost is_synced = { λ _. true };
 
-    ghost refusals = { λ f. f.refusals };
+    ghost refusals = { λ f. ⟦<SystemFile<F> as ByteFile>⟧.refusals f.file };
+
+    ghost has_lost = { λ f. ⟦<SystemFile<F> as ByteFile>⟧.has_lost f.file };
 
     fn len(&self) -> io::Result<u64> {
-        Ok(self.file.metadata()?.len())
+        self.file.len()
     }
 
     fn read_at(&mut self, place: u64, buf: &mut [u8]) -> io::Result<()> {
-        let answer = self.file.read_exact_at(buf, place);
+        let answer = self.file.read_at(place, buf);
         self.note(answer)
     }
 
     fn write_at(&mut self, place: u64, buf: &[u8]) -> io::Result<()> {
-        let answer = self.file.write_all_at(buf, place);
+        let answer = self.file.write_at(place, buf);
         self.note(answer)
     }
 
     fn sync(&mut self) -> io::Result<()> {
-        let answer = self.file.sync_all();
+        let answer = self.file.sync();
         self.note(answer)
     }
 }

@@ -67,15 +67,6 @@ near_by a b p q x y = by (p -ℤ q) (a -ℤ b) (omega (arith, ints, x, y))
     by (negsuc j) (pos k) h = omega (arith, ints)
     by (negsuc j) (negsuc k) h = omega (arith, ints)
 
--- a number that is not below 0, and one that is
-pub not_below_is : (z : ℤ) → pos 0 ≤ℤ z → unsigned_abs z ≡ not_below_0 z
-not_below_is (pos n) h = refl
-not_below_is (negsuc n) h = absurd (omega (arith, ints, h))
-
-pub below_is : (z : ℤ) → z <ℤ pos 0 → 0 ≡ not_below_0 z
-below_is (pos n) h = absurd (omega (arith, ints, h))
-below_is (negsuc n) h = refl
-
 -- the least and the most of a visit
 pub always_near : (visit : Visit) → most_of visit ≤ (least_of visit + 2)
 always_near visit =

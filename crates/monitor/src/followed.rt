@@ -23,7 +23,7 @@ impl<'a, 'b, O: Output, R: Clock + Eprint> Followed<'a, 'b, O, R> {
         notes: Notes,
     ) -> Followed<'a, 'b, O, R>
         ensures same_reference { result.out.ghost_name ≡ out.entry.ghost_name }
-        ensures seen { O.seen result.out.now ≡ O.seen out.old }
+        ensures seen { ⟦<Followed<'a, 'b, O, R> as Output>⟧.seen result ≡ O.seen out.old }
     {
         Followed {
             out,

@@ -14,6 +14,6 @@ abbrev pub HasRefused : OutputView → OutputView → Type 0
 HasRefused old new = HasRisen old.refusals new.refusals
 
 -- it refused none, and was flushed since it was sent bytes last
-pub record IsPassedOn (old new : OutputView) : Type 0 where
+pub record IsFlushed (old new : OutputView) : Type 0 where
   pub refuses_none : new.refusals ≡ old.refusals
   pub flushed : IsTrue new.is_flushed

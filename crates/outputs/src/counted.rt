@@ -19,7 +19,8 @@ impl<'a, W: Write> CountedOutput<'a, W> {
     /// The output over that writer, which has refused nothing so far, and was not flushed.
     pub fn new(out: &'a mut W) -> CountedOutput<'a, W>
         ensures same_reference { result.out.ghost_name ≡ out.entry.ghost_name }
-        ensures contents { W.contents result.out.now ≡ W.contents out.old }
+        ensures contents { (⟦<CountedOutput<'a, W> as Output>⟧.seen result).contents
+            ≡ W.contents out.old }
         ensures refusals { (⟦<CountedOutput<'a, W> as Output>⟧.seen result).refusals ≡ 0 }
         ensures unflushed { (⟦<CountedOutput<'a, W> as Output>⟧.seen result).is_flushed ≡ false }
     {

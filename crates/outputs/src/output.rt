@@ -1,7 +1,7 @@
 //! The contract of an output.
 ghost use Rattle.std.specs.Prelude.{ℕ, ◌≡◌, ◌<◌, false, length, take, OnErr, OnOk};
 ghost use Rattle.std.specs.Io.KnownBytes.{Appends, Keeps};
-ghost use Rattle.outputs.specs.Output.{HasRefused, IsPassedOn, OutputView};
+ghost use Rattle.outputs.specs.Output.{HasRefused, IsFlushed, OutputView};
 
 use thiserror::Error;
 
@@ -32,6 +32,6 @@ pub trait Output {
     /// Passes on what it kept for a while of the bytes that it took.
     fn flush(&mut self) -> Result<(), OutputFault>
         ensures stays { Keeps (seen self.old).contents (seen self.new).contents }
-        ensures passed { OnOk result (IsPassedOn (seen self.old) (seen self.new)) }
+        ensures flushed { OnOk result (IsFlushed (seen self.old) (seen self.new)) }
         ensures cause { OnErr result (HasRefused (seen self.old) (seen self.new)) };
 }

@@ -205,6 +205,8 @@ impl ByteFile for Broken {
 
     ghost refusals = { λ f. f.refusals };
 
+    ghost has_lost = { λ _. true };
+
     fn len(&self) -> io::Result<u64> {
         Ok(self.len)
     }

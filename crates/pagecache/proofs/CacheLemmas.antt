@@ -26,10 +26,6 @@ use Rattle.pagecache.specs.declared.fault.CacheFault.{CacheFault}
 pub is_some_of : {X : Type 0} (o : Option X) (x : X) → o ≡ Some x → IsSome o
 is_some_of o x e = rw e refl
 
-pub some_if : {X : Type 0} (o : Option X) → IsSome o → (x : X) × (o ≡ Some x)
-some_if None h = absurd (false≢true h)
-some_if (Some x) h = (x, refl)
-
 pub none_if : {X : Type 0} (o : Option X) → is_some o ≡ false → o ≡ None
 none_if None h = refl
 none_if (Some x) h = absurd (false≢true (sym h))

@@ -68,25 +68,6 @@ adds-stays a b c w t u = record {
   changed = λ m ne h. u.changed m (t.changed m ne h);
 }
 
-merged : (b : Bool) (x y z : Option Payload) → cond b x (cond b y z) ≡ cond b x z
-merged true x y z = refl
-merged false x y z = refl
-
--- a page is added and then written
-pub adds-writes : (a b c : Cache) (n : ℕ) (p w : Payload) → Adds p a b → n ≡ a.count → Writes n w b c → Adds w a c
-adds-writes a b c n p w t at u = record {
-  keeps = record {
-    store = store_keeps-trans a.store b.store c.store t.keeps.store u.keeps.store;
-    capacity = u.keeps.capacity ∙ t.keeps.capacity;
-    written = λ f m h k. u.keeps.written (t.keeps.store.faithful ∙ f) m (omega (arith, h, t.count)) (t.changed m (λ e. let x : a.count ≡ m = e in absurd (omega (arith, x, h))) k) ∙ t.keeps.written f m h k;
-    settled = u.keeps.settled;
-  };
-  count = u.count ∙ t.count;
-  payloads = λ f m. u.payloads (t.keeps.store.faithful ∙ f) m ∙ ap (cond (nat_eq n m) (Some w)) (t.payloads f m)
-      ∙ ap (λ k. cond (nat_eq k m) (Some w) (cond (nat_eq a.count m) (Some p) (payload_of a m))) at ∙ merged (nat_eq a.count m) (Some w) (Some p) (payload_of a m);
-  changed = λ m ne h. u.changed m (λ e. ne (sym at ∙ e)) (t.changed m ne h);
-}
-
 -- a call that is refused after a step is refused from before it
 faulted_after : (a b c : Store) → store.Keeps a b → Faulted b c → Faulted a c
 faulted_after a b c k f = omega (arith, f, k.faults)
@@ -105,7 +86,3 @@ adds-after a b c w t u = record {
   payloads = λ f m. u.payloads (t.keeps.store.faithful ∙ f) m ∙ ap (λ k. cond (nat_eq k m) (Some w) (payload_of b m)) t.count ∙ ap (cond (nat_eq a.count m) (Some w)) (t.payloads f m);
   changed = λ m ne h. u.changed m (λ e. ne (sym t.count ∙ e)) (t.changed m h);
 }
-
--- the page that was added
-pub payload_of-added : (a b : Cache) (n : ℕ) (w : Payload) → Adds w a b → n ≡ a.count → IsTrue a.store.is_faithful → payload_of b n ≡ Some w
-payload_of-added a b n w t at f = t.payloads f n ∙ ap (λ y. cond y (Some w) (payload_of a n)) (eq-eqb a.count n (sym at))

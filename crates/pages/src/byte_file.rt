@@ -1,5 +1,5 @@
 //! The contract of a file of bytes.
-ghost use Rattle.std.specs.Prelude.{ℕ, ◌≡◌, ◌≤◌, ◌+◌, Bool, IsTrue, List, Option, is_some, length, slice_range, IfOk, IfSome, IsOk, OnErr, OnOk};
+ghost use Rattle.std.specs.Prelude.{ℕ, ◌≡◌, ◌≤◌, ◌+◌, Bool, false, IsTrue, List, Option, is_some, length, slice_range, IfOk, IfSome, IsOk, OnErr, OnOk};
 ghost use Rattle.pages.specs.Bytes.{StaysAround};
 ghost use Rattle.pages.specs.Store.{HasRisen};
 
@@ -21,6 +21,10 @@ pub trait ByteFile {
     /// greater number.
     ghost refusals: { Self → ℕ };
 
+    /// Whether it was ever refused to make last what was written. A system may forget then what it did not write, and
+    /// answer the next time that all is well; so no later call says so.
+    ghost has_lost: { Self → Bool };
+
     /// How many bytes there are, which a file that tells its bytes does not refuse to say.
     fn len(&self) -> io::Result<u64>
         ensures value { IfOk result (λ n. IfSome (bytes self.now) (λ xs. n ≡ length xs)) }
@@ -33,6 +37,7 @@ pub trait ByteFile {
             (λ xs. slice_range xs place (place + length buf.new) ≡ buf.new)) }
         ensures stays { bytes self.new ≡ bytes self.old }
         ensures synced { is_synced self.new ≡ is_synced self.old }
+        ensures lost { has_lost self.new ≡ has_lost self.old }
         ensures cause { OnErr result (HasRisen (refusals self.old) (refusals self.new)) }
         ensures later { refusals self.old ≤ refusals self.new };
 
@@ -44,14 +49,18 @@ pub trait ByteFile {
             (λ xs. slice_range xs place (place + length buf.now) ≡ buf.now)) }
         ensures around { StaysAround place (place + length buf.now)
             (bytes self.old) (bytes self.new) }
+        ensures lost { has_lost self.new ≡ has_lost self.old }
         ensures cause { OnErr result (HasRisen (refusals self.old) (refusals self.new)) }
         ensures later { refusals self.old ≤ refusals self.new };
 
-    /// Makes what was written last, as on a disk.
+    /// Makes what was written last, as on a disk. It is refused wherever it was refused before.
     fn sync(&mut self) -> io::Result<()>
         ensures stays { bytes self.new ≡ bytes self.old }
         ensures synced { OnOk result (IsTrue (is_synced self.new)) }
         ensures unsynced { OnErr result (is_synced self.new ≡ is_synced self.old) }
+        ensures never_lost { OnOk result (has_lost self.old ≡ false) }
+        ensures not_lost { OnOk result (has_lost self.new ≡ false) }
+        ensures lost { OnErr result (IsTrue (has_lost self.new)) }
         ensures refuses_none { OnOk result (refusals self.new ≡ refusals self.old) }
         ensures cause { OnErr result (HasRisen (refusals self.old) (refusals self.new)) }
         ensures later { refusals self.old ≤ refusals self.new };

@@ -1,5 +1,5 @@
 //! A file of bytes in memory.
-ghost use Rattle.std.specs.Prelude.{◌≡◌, ◌≤◌, ◌+◌, length, slice_range, true, IfSome, IsOk, IsTrue, OnErr, OnOk, Some};
+ghost use Rattle.std.specs.Prelude.{◌≡◌, ◌≤◌, ◌+◌, length, slice_range, true, false, IfSome, IsOk, IsTrue, OnErr, OnOk, Some};
 ghost use Rattle.std.specs.List.{replace_range};
 ghost use Rattle.pages.specs.Bytes.{StaysAround};
 ghost use Rattle.pages.specs.Store.{HasRisen};
@@ -43,6 +43,8 @@ impl ByteFile for MemFile {
 
     ghost refusals = { λ f. f.refusals };
 
+    ghost has_lost = { λ _. false };
+
     fn len(&self) -> io::Result<u64> {
         Ok(self.bytes.len() as u64)
     }
@@ -58,6 +60,8 @@ impl ByteFile for MemFile {
             ≡ ⟦<MemFile as ByteFile>⟧.bytes self.old }
         ensures synced { ⟦<MemFile as ByteFile>⟧.is_synced self.new
             ≡ ⟦<MemFile as ByteFile>⟧.is_synced self.old }
+        ensures lost { ⟦<MemFile as ByteFile>⟧.has_lost self.new
+            ≡ ⟦<MemFile as ByteFile>⟧.has_lost self.old }
         ensures cause { OnErr result (HasRisen (⟦<MemFile as ByteFile>⟧.refusals self.old)
             (⟦<MemFile as ByteFile>⟧.refusals self.new)) }
         ensures later { ⟦<MemFile as ByteFile>⟧.refusals self.old
@@ -77,6 +81,8 @@ impl ByteFile for MemFile {
             (λ xs. slice_range xs place (place + length buf.now) ≡ buf.now)) }
         ensures around { StaysAround place (place + length buf.now)
             (⟦<MemFile as ByteFile>⟧.bytes self.old) (⟦<MemFile as ByteFile>⟧.bytes self.new) }
+        ensures lost { ⟦<MemFile as ByteFile>⟧.has_lost self.new
+            ≡ ⟦<MemFile as ByteFile>⟧.has_lost self.old }
         ensures cause { OnErr result (HasRisen (⟦<MemFile as ByteFile>⟧.refusals self.old)
             (⟦<MemFile as ByteFile>⟧.refusals self.new)) }
         ensures later { ⟦<MemFile as ByteFile>⟧.refusals self.old
@@ -103,6 +109,9 @@ impl ByteFile for MemFile {
         ensures synced { OnOk result (IsTrue (⟦<MemFile as ByteFile>⟧.is_synced self.new)) }
         ensures unsynced { OnErr result (⟦<MemFile as ByteFile>⟧.is_synced self.new
             ≡ ⟦<MemFile as ByteFile>⟧.is_synced self.old) }
+        ensures never_lost { OnOk result (⟦<MemFile as ByteFile>⟧.has_lost self.old ≡ false) }
+        ensures not_lost { OnOk result (⟦<MemFile as ByteFile>⟧.has_lost self.new ≡ false) }
+        ensures lost { OnErr result (IsTrue (⟦<MemFile as ByteFile>⟧.has_lost self.new)) }
         ensures refuses_none { OnOk result (⟦<MemFile as ByteFile>⟧.refusals self.new
             ≡ ⟦<MemFile as ByteFile>⟧.refusals self.old) }
         ensures cause { OnErr result (HasRisen (⟦<MemFile as ByteFile>⟧.refusals self.old)

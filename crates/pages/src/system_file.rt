@@ -1,5 +1,5 @@
 //! A file of the system.
-ghost use Rattle.std.specs.Prelude.{◌≡◌, true, None, IfOk};
+ghost use Rattle.std.specs.Prelude.{◌≡◌, true, false, None, IfOk};
 
 use crate::byte_file::ByteFile;
 use crate::refusals::Refusals;
@@ -9,25 +9,37 @@ use std::os::unix::fs::FileExt;
 use std::rt::Files;
 
 /// A file of the system. No contract says which bytes it holds, nor that `sync` puts them on the
-/// disk: that it does is trusted.
+/// disk: that it does is trusted, unless it was refused before.
 #[derive(Drop)]
 pub struct SystemFile<F = File> {
     file: F,
     refusals: Refusals,
+    has_lost: bool,
 }
 
 impl<F: FileExt + OpenFile> SystemFile<F> {
+    /// A file that is open, and of which no call has failed.
+    pub fn new(file: F) -> SystemFile<F>
+        ensures refusals { ⟦<SystemFile<F> as ByteFile>⟧.refusals result ≡ 0 }
+        ensures lost { ⟦<SystemFile<F> as ByteFile>⟧.has_lost result ≡ false }
+    {
+        SystemFile {
+            file,
+            refusals: Refusals::none(),
+            has_lost: false,
+        }
+    }
+
     /// Opens the file at a path to be read and written, and makes it, empty, where there is none.
     pub fn open<R: Files<File = F>>(rt: &R, path: &str) -> io::Result<SystemFile<F>>
-        ensures { IfOk result (λ file. ⟦<SystemFile<F> as ByteFile>⟧.refusals file ≡ 0) }
+        ensures refusals { IfOk result
+            (λ file. ⟦<SystemFile<F> as ByteFile>⟧.refusals file ≡ 0) }
+        ensures lost { IfOk result
+            (λ file. ⟦<SystemFile<F> as ByteFile>⟧.has_lost file ≡ false) }
     {
         let mut options = File::options();
         options.read(true).write(true).create(true);
-        let file = options.open(rt, path)?;
-        Ok(SystemFile {
-            file,
-            refusals: Refusals::none(),
-        })
+        Ok(SystemFile::new(options.open(rt, path)?))
     }
 }
 
@@ -37,6 +49,8 @@ impl<F: FileExt + OpenFile> ByteFile for SystemFile<F> {
     ghost is_synced = { λ _. true };
 
     ghost refusals = { λ f. f.refusals };
+
+    ghost has_lost = { λ f. f.has_lost };
 
     fn len(&self) -> io::Result<u64> {
         Ok(self.file.metadata()?.len())
@@ -51,6 +65,12 @@ impl<F: FileExt + OpenFile> ByteFile for SystemFile<F> {
     }
 
     fn sync(&mut self) -> io::Result<()> {
-        self.refusals.count(self.file.sync_all())
+        let answer = if self.has_lost {
+            Err(io::Error::from(io::ErrorKind::Other))
+        } else {
+            self.file.sync_all()
+        };
+        self.has_lost = answer.is_err();
+        self.refusals.count(answer)
     }
 }

@@ -216,10 +216,6 @@ part_says k n rows file e =
 pub whole_says : (k n : ℕ) (bytes : List ℕ) (file : File) → file_of_bytes bytes ≡ Ok file → file_of_bytes (whole_part k n bytes) ≡ said_part k n (file_of_bytes bytes)
 whole_says k n bytes file e = ap text_of_rows (part_rows k n bytes) ∙ part_says k n (rows_of bytes) file e ∙ sym (ap (said_part k n) e)
 
--- bytes with a fault stay
-pub fault_stays : (k n : ℕ) (bytes : List ℕ) (fault : Code × ℕ) → file_of_bytes bytes ≡ Err fault → file_of_bytes bytes ≡ said_part k n (file_of_bytes bytes)
-fault_stays k n bytes fault e = e ∙ sym (ap (said_part k n) e)
-
 -- what was answered is a text that says that
 pub said_by : {V E : Type 0} (items : V → List ℕ) (r : Result V E) (t : List ℕ) (s : Result File (Code × ℕ)) → IfOk r (λ text. items text ≡ t) → file_of_bytes t ≡ s → IfOk r (λ text. file_of_bytes (items text) ≡ s)
 said_by items (Ok text) t s e f = ap (λ (x : List ℕ). file_of_bytes x) e ∙ f

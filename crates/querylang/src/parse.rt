@@ -100,7 +100,7 @@ fn predicate_of(word: &str) -> Option<Predicate>
 }
 
 /// A predicate, and the rectangle and the period of which it is asked.
-#[derive(Clone, Copy, Debug)]
+#[derive(Clone, Copy)]
 struct Question {
     predicate: Predicate,
     rect: Rect,
@@ -204,7 +204,7 @@ fn read_trajectory(alloc: Global, rest: &str) -> Result<Command, LineFault>
 }
 
 /// The words that begin a command.
-#[derive(Clone, Copy, PartialEq, Eq, Debug)]
+#[derive(Clone, Copy)]
 enum Keyword {
     Load,
     Count,

@@ -59,6 +59,32 @@ fn feature_of(alloc: Global, found: &Found) -> Result<String, AllocError> {
     format!(in alloc; ", feature {name}")
 }
 
+/// Why a file is refused for a record that was found.
+fn record_words(
+    alloc: Global,
+    name: &str,
+    bytes: &[u8],
+    refusal: Refusal,
+    found: &Found,
+    known: &Known,
+) -> Result<String, AllocError> {
+    let Refusal { code, number } = refusal;
+    let (feature, line) = (feature_of(alloc, found)?, found.line);
+    let reason = reason_of(alloc, bytes, code, number, found, known)?;
+    let (name, feature, reason) = (Shown(name), feature.as_str(), reason.as_str());
+    format!(in alloc; "{name} line {line}, record {number}{feature}: {reason} ({code})")
+}
+
+/// Why a file is refused that has no record of the number.
+fn whole_words(alloc: Global, name: &str, bytes: &[u8], code: Code) -> Result<String, AllocError> {
+    let reason = match code {
+        Code::F8 => early_end(alloc, &heads_of(alloc, bytes)?)?,
+        _ => String::from_str(alloc, code.rule())?,
+    };
+    let (name, reason) = (Shown(name), reason.as_str());
+    format!(in alloc; "{name}: {reason} ({code})")
+}
+
 /// Why a file of that name, with those bytes, is refused: the line of the file, the record, the feature where it is
 /// one's, and the reason, with what the store knows.
 pub fn file_words(
@@ -68,18 +94,8 @@ pub fn file_words(
     refusal: Refusal,
     known: &Known,
 ) -> Result<String, AllocError> {
-    let Refusal { code, number } = refusal;
-    let name = Shown(name);
-    if let Some(found) = find(alloc, bytes, number)? {
-        let (feature, line) = (feature_of(alloc, &found)?, found.line);
-        let reason = reason_of(alloc, bytes, code, number, &found, known)?;
-        let (feature, reason) = (feature.as_str(), reason.as_str());
-        return format!(in alloc; "{name} line {line}, record {number}{feature}: {reason} ({code})");
+    match find(alloc, bytes, refusal.number)? {
+        Some(found) => record_words(alloc, name, bytes, refusal, &found, known),
+        None => whole_words(alloc, name, bytes, refusal.code),
     }
-    let reason = match code {
-        Code::F8 => early_end(alloc, &heads_of(alloc, bytes)?)?,
-        _ => String::from_str(alloc, code.rule())?,
-    };
-    let reason = reason.as_str();
-    format!(in alloc; "{name}: {reason} ({code})")
 }

@@ -165,49 +165,80 @@ fn next_row(reader: &mut Reader<&[u8]>, row: &mut ByteRecord) -> Result<bool, Al
     }
 }
 
-/// The record of that number, from 1, and the header lines before it; `None` where there is none.
-pub(crate) fn find(alloc: Global, bytes: &[u8], number: u64) -> Result<Option<Found>, AllocError> {
-    let text = without_marks(bytes);
+/// A reader of a file's lines, as they stand.
+fn reader_of<'a>(alloc: Global, text: &'a [u8]) -> Reader<&'a [u8]> {
+    ReaderBuilder::new()
+        .has_headers(false)
+        .flexible(true)
+        .from_reader(alloc, text)
+}
+
+/// Reads on to the record of that number, from 1, and notes the header lines before it: whether there is one.
+fn seek(
+    reader: &mut Reader<&[u8]>,
+    text: &[u8],
+    number: u64,
+    found: &mut Found,
+) -> Result<bool, AllocError> {
     let mut lines = Lines {
         text,
         place: 0,
         line: 1,
     };
-    let mut reader = ReaderBuilder::new()
-        .has_headers(false)
-        .flexible(true)
-        .from_reader(alloc, text);
-    let mut row = ByteRecord::new(alloc);
-    let mut heads = Heads::none();
     for at in 1..=number {
         let place = usize::try_from(reader.position().byte()).unwrap_or(usize::MAX);
-        if !next_row(&mut reader, &mut row)? {
-            return Ok(None);
+        if !next_row(reader, &mut found.row)? {
+            return Ok(false);
         }
         if at == number {
-            let line = lines.line_at(place);
-            return Ok(Some(Found { line, row, heads }));
+            found.line = lines.line_at(place);
+            return Ok(true);
         }
-        if is_header(&row) {
-            heads.note(&row, lines.line_at(place));
+        if is_header(&found.row) {
+            found.heads.note(&found.row, lines.line_at(place));
         }
     }
-    Ok(None)
+    Ok(false)
+}
+
+/// The record of that number, from 1, and the header lines before it; `None` where there is none.
+pub(crate) fn find(alloc: Global, bytes: &[u8], number: u64) -> Result<Option<Found>, AllocError> {
+    let text = without_marks(bytes);
+    let mut reader = reader_of(alloc, text);
+    let mut found = Found {
+        line: 0,
+        row: ByteRecord::new(alloc),
+        heads: Heads::none(),
+    };
+    match seek(&mut reader, text, number, &mut found) {
+        Ok(true) => Ok(Some(found)),
+        Ok(false) => Ok(None),
+        Err(error) => Err(error),
+    }
+}
+
+/// Notes the header lines of all that is to be read.
+fn note_all(
+    reader: &mut Reader<&[u8]>,
+    row: &mut ByteRecord,
+    heads: &mut Heads,
+) -> Result<(), AllocError> {
+    for _ in 0..u64::MAX {
+        if !next_row(reader, row)? {
+            break;
+        }
+        heads.note(row, 0);
+    }
+    Ok(())
 }
 
 /// The header lines of a whole file.
 pub(crate) fn heads_of(alloc: Global, bytes: &[u8]) -> Result<Heads, AllocError> {
-    let mut reader = ReaderBuilder::new()
-        .has_headers(false)
-        .flexible(true)
-        .from_reader(alloc, without_marks(bytes));
+    let mut reader = reader_of(alloc, without_marks(bytes));
     let mut row = ByteRecord::new(alloc);
     let mut heads = Heads::none();
-    for _ in 0..u64::MAX {
-        if !next_row(&mut reader, &mut row)? {
-            break;
-        }
-        heads.note(&row, 0);
+    match note_all(&mut reader, &mut row, &mut heads) {
+        Ok(()) => Ok(heads),
+        Err(error) => Err(error),
     }
-    Ok(heads)
 }

@@ -160,19 +160,16 @@ fn overlap_of(records: &[Record], number: u64, known: &Known) -> Option<(Ms, Opt
     Some((late.t0, end))
 }
 
-/// A start before the end of the feature's last leg.
-pub(crate) fn early_start(
-    alloc: Global,
-    bytes: &[u8],
-    number: u64,
-    known: &Known,
-) -> Result<String, AllocError> {
-    let Ok(file) = read_file(alloc, bytes) else {
-        return String::from_str(alloc, Code::F18.rule());
-    };
-    let Some((start, last)) = overlap_of(file.records.as_slice(), number, known) else {
-        return String::from_str(alloc, Code::F18.rule());
-    };
+/// The same, of a file's bytes.
+fn overlap_in(alloc: Global, bytes: &[u8], number: u64, known: &Known) -> Option<(Ms, Option<Ms>)> {
+    match read_file(alloc, bytes) {
+        Ok(file) => overlap_of(file.records.as_slice(), number, known),
+        Err(_) => None,
+    }
+}
+
+/// A start before that end of the feature's last leg.
+fn early_words(alloc: Global, start: Ms, last: Option<Ms>) -> Result<String, AllocError> {
     let start_text = instant_of(alloc, start)?;
     let start_text = start_text.as_str();
     match last {
@@ -182,6 +179,19 @@ pub(crate) fn early_start(
             format!(in alloc; "begins at {start_text}, before its last leg ends at {end}")
         }
         _ => format!(in alloc; "begins at {start_text}, before its last leg in the store ends"),
+    }
+}
+
+/// A start before the end of the feature's last leg.
+pub(crate) fn early_start(
+    alloc: Global,
+    bytes: &[u8],
+    number: u64,
+    known: &Known,
+) -> Result<String, AllocError> {
+    match overlap_in(alloc, bytes, number, known) {
+        Some((start, last)) => early_words(alloc, start, last),
+        None => String::from_str(alloc, Code::F18.rule()),
     }
 }
 

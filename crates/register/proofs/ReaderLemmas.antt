@@ -330,16 +330,6 @@ breaks_here a b r Unfinished reads f h k = k
 breaks_here a b r Version reads f h k = k
 breaks_here a b r Malformed reads f h k = k
 
--- what a reader's fault says of the caches alone
-pub read_fault : (a b : Cache) (r : ReaderView) (e : CatalogueFault) → IsReaderFault a b r e → IsReadFault a b e
-read_fault a b r Memory h = tt
-read_fault a b r Store h = h
-read_fault a b r StoreFull h = h
-read_fault a b r (Damaged n) h = h.0
-read_fault a b r Unfinished h = h
-read_fault a b r Version h = h
-read_fault a b r Malformed h = tt
-
 -- what a call that reads a value leaves, and what it says where it is refused
 abbrev pub Leaves : {V : Type 0} → Cache → Cache → ReaderView → ReaderView → (V → List ℕ) → (V → Type 0) → Result V CatalogueFault → Type 0
 Leaves a b s t text ok r = record {

@@ -28,45 +28,11 @@ caused_after a b c (cache.Damaged n) p h = tt
 caused_after a b c cache.StoreFull p h = h
 caused_after a b c cache.Memory p h = tt
 
--- which pages pass
-pub asks_passes : (a b : Cache) → KeepsPayloads a b → AsksOnce a b → Passes a b
-asks_passes a b s asks = record {
-  store = s.keeps.store;
-  capacity = s.keeps.capacity;
-  count = (let c = s.count in omega (arith, c));
-  asked = (let h = asks in omega (arith, clamps, h));
-  first = λ f h. s.payloads f 0;
-  unmarked = λ h u. s.changed 0 u;
-  written = λ f h u. s.keeps.written f 0 h u;
-}
-
 pub no_page : (n m : ℕ) → (n ≡ m → ⊥) → (n == m) ≡ false
 no_page n m h = ⊎_elim (λ t. absurd (h t.1)) (λ f. f.0) (eqb_tells n m)
 
 pub is_page : (n m : ℕ) → n ≡ m → (n == m) ≡ true
 is_page n m e = ⊎_elim (λ t. t.0) (λ f. absurd (f.1 e)) (eqb_tells n m)
-
-pub adds_passes : (a b : Cache) (w : Payload) → Adds w a b → AsksOnce a b → Passes a b
-adds_passes a b w s asks = record {
-  store = s.keeps.store;
-  capacity = s.keeps.capacity;
-  count = (let c = s.count in omega (arith, c));
-  asked = (let h = asks in omega (arith, clamps, h));
-  first = λ f h. s.payloads f 0 ∙ ap (λ v. cond v (Some w) (payload_of a 0)) (no_page a.count 0 (λ e. omega (arith, e, h)));
-  unmarked = λ h u. s.changed 0 (λ e. let z : a.count ≡ 0 = e in omega (arith, z, h)) u;
-  written = λ f h u. s.keeps.written f 0 h u;
-}
-
-pub fills_passes : (a b : Cache) (n : ℕ) (w : Payload) → 0 < n → Fills n w a b → Passes a b
-fills_passes a b n w above l = record {
-  store = l.writes.keeps.store;
-  capacity = l.writes.keeps.capacity;
-  count = (let c = l.writes.count in omega (arith, c));
-  asked = l.asked;
-  first = λ f h. l.writes.payloads f 0 ∙ ap (λ v. cond v (Some w) (payload_of a 0)) (no_page n 0 (λ e. omega (arith, e, above)));
-  unmarked = λ h u. l.writes.changed 0 (λ e. let z : n ≡ 0 = e in omega (arith, z, above)) u;
-  written = λ f h u. l.writes.keeps.written f 0 h u;
-}
 
 -- the pages that are none of a catalogue's
 pub pages_refl : (a : Cache) → SparesPages a a
@@ -74,9 +40,6 @@ pages_refl a = record {
   tree = record { count = omega arith; held = λ p h e. (h, e); rest = λ p h. refl };
   others = λ p v h e k. e;
 }
-
-pub spares_refl : (a : Cache) → Spares a a
-spares_refl a = λ f. pages_refl a
 
 same_trans : (a b c : Pages LegView BoxView) → IsSameTree a b → IsSameTree b c → IsSameTree a c
 same_trans a b c s t = record {
@@ -120,9 +83,6 @@ node_of-catalogue p e = ap (λ k. node_by k p.bytes) e
 node_of-zero : (kind : Kind) → ((bytes : _) → node_by kind bytes ≡ None) → node_of (zero_payload kind) ≡ None
 unfolding node_of zero_payload
 node_of-zero kind h = h _
-
-pub zero_header : node_of (zero_payload Header) ≡ None
-zero_header = node_of-zero Header (λ bytes. refl)
 
 pub zero_catalogue : node_of (zero_payload Catalogue) ≡ None
 zero_catalogue = node_of-zero Catalogue (λ bytes. refl)
@@ -190,9 +150,6 @@ fills_spares a b n next text v k at l = λ f.
           elsewhere a b n (part_payload next text) (l.writes.payloads f) (node_of-part next text) before p
           (λ z. other (one_kind v u (sym (at f) ∙ ap (payload_of a) z ∙ e) k)) ∙ e;
     }
-
-pub stays_stay : (a b : Cache) → KeepsPayloads a b → PayloadsStay a b
-stays_stay a b s = λ f p v e. s.payloads f p ∙ e
 
 pub stay_trans : (a b c : Cache) → Passes a b → PayloadsStay a b → PayloadsStay b c → PayloadsStay a c
 stay_trans a b c p s t = λ f n v e. t (p.store.faithful ∙ f) n v (s f n v e)

@@ -79,11 +79,6 @@ pub on_error : {T E : Type 0} (P : Type 0) (r : Result T E) → P → OnErr r P
 on_error P (Ok x) h = tt
 on_error P (Err e) h = h
 
--- a refusal that is given only where another one is
-pub refused_by : {E F : Type 0} (P : Type 0) (r : Result (Unit {0}) E) (s : Result (Unit {0}) F) (wrap : F → E) → IfErr r (λ fault. (why : F) × (s ≡ Err why) × (fault ≡ wrap why)) → OnErr s P → OnErr r P
-refused_by P (Ok x) s wrap is h = tt
-refused_by P (Err e) s wrap (why, is, same) h = subst (λ k. OnErr k P) is h
-
 -- no database is opened of a store without pages
 pub no_pages : {E : Type 0} (r : Result DbView E) (s : Store) → s.count ≡ 0 → IfOk r (λ db. IsTrue s.is_faithful → (shape : ShapeView) (limits : LimitsView) (book : Book) → HoldsBook s shape limits book → HasBook shape limits book db)
 no_pages (Ok db) s none = λ f shape limits book h. let root = h.kept.within.root in absurd (omega (arith, none, root))

@@ -124,7 +124,8 @@ pub record RunsAndCloses {O : Type 0} (shown : O → OutputView) (db : DbView)
     (files : List (List ℕ × List ℕ)) (out out' : O) (lines : List (List ℕ))
     (ran closed : Result (Unit {0}) RunFault) (store : Store) : Type 0 where
   pub between : DbView
-  pub ok : OnOk ran (IsSoundDb db → Runs files (shown out).contents (shown out').contents db between lines)
+  pub ok : OnOk ran (IsSoundDb db
+      → Runs files (shown out).contents (shown out').contents db between lines)
   pub run : RunCall words shown files out out' db between lines ran
   pub keeps : KeepsStore db between
   pub close : CloseCall between store closed

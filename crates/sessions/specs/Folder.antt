@@ -110,7 +110,8 @@ IsRefusedByFolder before after last fault =
     IsOfFolder fault × HasRisen before after × (last ≡ Some fault)
 
 -- a run is refused so, before there is a database
-abbrev pub IsRefusedEarly : (before after : ℕ) (last : Option Fault) → Result (Unit {0}) Fault → Type 0
+abbrev pub IsRefusedEarly : (before after : ℕ) (last : Option Fault)
+    → Result (Unit {0}) Fault → Type 0
 IsRefusedEarly before after last result =
     IsErr result × IfErr result (IsRefusedByFolder before after last)
 

@@ -1,7 +1,7 @@
 //! Sending what is answered besides a script's answers.
 ghost use Rattle.std.specs.Prelude.{ℕ, ◌≡◌, take, IfErr, OnErr, OnOk};
 ghost use Rattle.std.specs.Io.KnownBytes.{Appends};
-ghost use Rattle.outputs.specs.Output.{HasRefused, IsPassedOn};
+ghost use Rattle.outputs.specs.Output.{HasRefused, IsFlushed};
 
 use crate::fault::Fault;
 use outputs::Output;
@@ -12,7 +12,7 @@ use trajdb::RunFault;
 pub fn send_all<'a, O: Output>(out: &mut O, bytes: &[u8]) -> Result<(), Fault<'a>>
     ensures sent { OnOk result
         (Appends (O.seen out.old).contents (O.seen out.new).contents bytes.now) }
-    ensures passed { OnOk result (IsPassedOn (O.seen out.old) (O.seen out.new)) }
+    ensures flushed { OnOk result (IsFlushed (O.seen out.old) (O.seen out.new)) }
     ensures part { OnErr result ((n : ℕ) × Appends (O.seen out.old).contents
         (O.seen out.new).contents (take n bytes.now)) }
     ensures cause { OnErr result (HasRefused (O.seen out.old) (O.seen out.new)) }

@@ -106,7 +106,8 @@ pub fn run_on_copy<'a, F: Folder, O: Output>(
 
     // Whatever the store held, a call of the folder was refused, which says why, and nothing was sent, or a database over
     // the copy was opened or refused, run over and closed, and the name given to what that left, or not.
-    ensures over { (IsRefusedEarly (F.refusals folder.old) (F.refusals folder.new) (F.last_fault folder.new) result
+    ensures over { (IsRefusedEarly (F.refusals folder.old) (F.refusals folder.new)
+        (F.last_fault folder.new) result
         × (O.seen out.new ≡ O.seen out.old))
         ⊎ RunsOnCopy F.Store.PageStore.seen O.seen how.is_new how.cache_pages
         (F.refusals folder.old) (F.refusals folder.new) (F.last_fault folder.new)
@@ -121,7 +122,8 @@ pub fn run_on_copy<'a, F: Folder, O: Output>(
 
     // A copy is asked for once, whatever is answered, and none is left beside the store's file. Where it is answered, the
     // folder refused nothing.
-    ensures copy_calls { F.copy_calls folder.new ≡ min (F.copy_calls folder.old + 1) (2 ^ 64 - 1) }
+    ensures copy_calls { F.copy_calls folder.new
+        ≡ min (F.copy_calls folder.old + 1) (2 ^ 64 - 1) }
     ensures gone { F.has_copy folder.new ≡ false }
     ensures refuses_none { OnOk result (F.refusals folder.new ≡ F.refusals folder.old) }
 

@@ -1,6 +1,6 @@
 //! The part of a file that has the features of one of several parts.
 ghost use Rattle.std.specs.Prelude.{◌≡◌, ◌<◌, ◌⊎◌, IfErr, OnErr, OnOk};
-ghost use Rattle.outputs.specs.Output.{HasRefused, IsPassedOn};
+ghost use Rattle.outputs.specs.Output.{HasRefused, IsFlushed};
 ghost use Rattle.sessions.specs.Parts.{SendsPart, SendsSome};
 
 use crate::answering::send_all;
@@ -27,7 +27,7 @@ pub fn send_part<'a, O: Output>(
         (SendsPart k n bytes.now (O.seen out.old).contents (O.seen out.new).contents) }
     ensures cut { OnErr result
         (SendsSome k n bytes.now (O.seen out.old).contents (O.seen out.new).contents) }
-    ensures passed { OnOk result (IsPassedOn (O.seen out.old) (O.seen out.new)) }
+    ensures flushed { OnOk result (IsFlushed (O.seen out.old) (O.seen out.new)) }
     ensures fault { IfErr result (λ e.
         ((e ≡ Fault.Run RunFault.Output) × HasRefused (O.seen out.old) (O.seen out.new))
         ⊎ ((e ≡ Fault.Run RunFault.Memory) × (O.seen out.new ≡ O.seen out.old))) }

@@ -37,7 +37,3 @@ pub full_then : (P Q : Type 0) → (P → Q) → (fault : TreeFault) → IfFull 
 full_then P Q f (OfCache fault) h = fills_in_cache P Q fault f h
 full_then P Q f (Malformed n) h = tt
 full_then P Q f Spent h = tt
-
--- no store is
-pub full_none : (P : Type 0) (fault : TreeFault) → IfFull ⊥ fault → IfFull P fault
-full_none P fault h = full_then ⊥ P (λ none. absurd none) fault h

@@ -287,14 +287,6 @@ place_named old new tree tree' place place' ys x torn g legs pages st at all w =
           (cases_eq place.legs 0)),
     ))
 
--- a tree without levels has no legs
-pub none_without_levels : (old new : Pages LegView BoxView) (tree tree' : TbTree) (place place' : Place) (ys : List LegView) (x : TreeFault) → tree.levels ≡ 0 → place.legs % tree.shape.leaf ≢ 0 → JoinsAll old new tree tree' place place' ys (Err x)
-none_without_levels old new tree tree' place place' ys x e h f legs pages st at all w =
-    let n = st.tree_stands.numbers in
-    let above : 0 < place.legs = ⊎_elim (λ (u : place.legs ≡ 0). absurd (h (ap (λ k. k % tree.shape.leaf) u ∙ zero-mod tree.shape.leaf))) (λ (u : place.legs ≢ 0). omega (arith, u)) (cases_eq place.legs 0) in
-    let a = last_page tree.shape.leaf f place legs pages above at in
-    absurd (some_none place.last (sym a ∙ ap (λ l. slice_get l place.last_index) (n.no_more 0 (omega (arith, e)))))
-
 -- whether a tree is spent is no matter of its pages
 respent : (nodes : Pages LegView BoxView) (tree : TbTree) (b b' : Bool) (legs : List LegView) (pages : ℕ → List ℕ) → Holds nodes (record tree { spent = b }) legs pages → Holds nodes (record tree { spent = b' }) legs pages
 respent nodes tree b b' legs pages v = record { tree_stands = v.tree_stands; leaves_are = v.leaves_are }

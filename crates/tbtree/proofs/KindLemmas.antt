@@ -57,11 +57,6 @@ pub on_level : (old new : Pages LegView BoxView) → ((p : ℕ) → HasLeaf old 
 on_level old new leaves inners zero p h = leaves p h
 on_level old new leaves inners (suc k) p h = inners p (suc k) h
 
--- a page without a payload is of no level, and has no leg
-pub bare_level : (nodes : Pages LegView BoxView) (k p : ℕ) → nodes.at p ≡ None → IsOnLevel nodes k p → ⊥
-bare_level nodes zero p none h = some_none _ (sym h.is ∙ none)
-bare_level nodes (suc k) p none h = some_none _ (sym h.is ∙ none)
-
 pub bare_legs : (nodes : Pages LegView BoxView) (p : ℕ) (leg : LegView) → nodes.at p ≡ None → Contains (legs_in (node_at nodes p)) leg → ⊥
 bare_legs nodes zero leg none h = no_element leg h
 bare_legs nodes (suc n) leg none h = no_element leg (subst (λ x. Contains (legs_in x) leg) none h)

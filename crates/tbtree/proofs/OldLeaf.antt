@@ -31,10 +31,6 @@ room_some leaf count some h = mod-eq_of_lt (let l : leaf - count % leaf < leaf =
 pub taken_nil : (leaf count : ℕ) → taken_by_last leaf count [] ≡ []
 taken_nil leaf count = take_nil (room leaf count)
 
--- a full one takes none
-pub taken_none : (leaf count : ℕ) (legs : List LegView) → count % leaf ≡ 0 → taken_by_last leaf count legs ≡ []
-taken_none leaf count legs e = ap (λ m. take m legs) (room_none leaf count e)
-
 -- one that has room for all takes all
 pub taken_all : (leaf count : ℕ) (legs : List LegView) → 0 < leaf → 0 < count % leaf → count % leaf + length legs ≤ leaf → taken_by_last leaf count legs ≡ legs
 taken_all leaf count legs some h fits = ap (λ m. take m legs) (room_some leaf count some h) ∙ take_all (leaf - count % leaf) legs (omega (arith, fits))

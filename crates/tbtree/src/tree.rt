@@ -63,7 +63,7 @@ impl Place {
 }
 
 /// The root of a tree, and how many levels it has.
-#[derive(Clone, Copy, PartialEq, Eq, Debug)]
+#[derive(Clone, Copy)]
 pub(crate) struct Top {
     pub(crate) root: u32,
     pub(crate) levels: u32,

@@ -35,51 +35,6 @@ text_refused g old new P StoreFull text there = absurd text
 text_refused g old new P Failed text there = absurd text
 text_refused g old new P Output text there = absurd text
 
-pub text_weaker : (P Q : Type 0) (fault : RunFault) → IsText P fault → (Q → P) → IsText Q fault
-text_weaker P Q Memory text more = tt
-text_weaker P Q Store text more = absurd text
-text_weaker P Q (Damaged page) text more = (text.0, λ q. text.1 (more q))
-text_weaker P Q StoreFull text more = absurd text
-text_weaker P Q Failed text more = absurd text
-text_weaker P Q Output text more = absurd text
-
--- a question of the index was refused
-pub asked_refused : {I : Type 0} (g : Ghosts I) (old new : CoreView I) (fault : IndexFault) → (IsSound g old → MayRefuse fault) → (fault ≡ index.Store → HasRisen (g.faults old.index) (g.faults new.index)) → (fault ≡ index.StoreFull → ⊥)
-    → IsRefused g old new (run_fault_of fault)
-asked_refused g old new index.Memory sound store full = record { sound = λ s. tt; store = tt }
-asked_refused g old new index.Store sound store full = record { sound = λ s. tt; store = store refl }
-asked_refused g old new (index.Damaged page) sound store full = record { sound = λ s. absurd (sound s); store = tt }
-asked_refused g old new index.StoreFull sound store full = absurd (full refl)
-asked_refused g old new index.Spent sound store full = record { sound = λ s. absurd (sound s); store = tt }
-
--- a question is a call that may load
-pub refused_stopped : {I : Type 0} (g : Ghosts I) (old new : CoreView I) (fault : RunFault) → IsRefused g old new fault → IsStopped g old new fault
-refused_stopped g old new Memory r = record { sound = λ s l. tt; store = tt }
-refused_stopped g old new Store r = record { sound = λ s l. tt; store = r.store }
-refused_stopped g old new (Damaged page) r = record { sound = λ s l. r.sound s; store = tt }
-refused_stopped g old new StoreFull r = absurd r.store
-refused_stopped g old new Failed r = record { sound = λ s l. r.sound s; store = tt }
-refused_stopped g old new Output r = absurd r.store
-
--- and so a run stops
-pub stopped_run : {I : Type 0} (g : Ghosts I) (old new : CoreView I) (fault : RunFault) → IsStopped g old new fault → IsRunStop g old new fault
-stopped_run g old new Memory r = tt
-stopped_run g old new Store r = r.store
-stopped_run g old new (Damaged page) r = r.sound
-stopped_run g old new StoreFull r = r.store
-stopped_run g old new Failed r = r.sound
-stopped_run g old new Output r = absurd r.store
-
--- after other lines
-pub run_stop-after : {I : Type 0} (g : Ghosts I) (old mid new : CoreView I) (fault : RunFault) → g.faults old.index ≤ g.faults mid.index → g.faults mid.index ≤ g.faults new.index → (IsSound g old → IsSound g mid) → mid.failed ≡ false
-    → IsRunStop g mid new fault → IsRunStop g old new fault
-run_stop-after g old mid new Memory before after sound lives r = tt
-run_stop-after g old mid new Store before after sound lives r = omega (arith, before, after, r)
-run_stop-after g old mid new (Damaged page) before after sound lives r = λ s l. r (sound s) lives
-run_stop-after g old mid new StoreFull before after sound lives r = r
-run_stop-after g old mid new Failed before after sound lives r = λ s l. r (sound s) lives
-run_stop-after g old mid new Output before after sound lives r = tt
-
 pub later-trans : {I : Type 0} (g : Ghosts I) (a b c : CoreView I) → IsLater g a b → IsLater g b c → IsLater g a c
 later-trans g a b c p q = record {
   limits = q.limits ∙ p.limits;
@@ -137,19 +92,6 @@ leaves-trans g a b c p q = record {
   limits = q.limits ∙ p.limits;
   index = index_leaves-trans g a.index b.index c.index p.index q.index;
 }
-
--- a question was refused after others
-pub refused-after : {I : Type 0} (g : Ghosts I) (a b c : CoreView I) (fault : RunFault) → LeavesBook g a b → LeavesBook g b c → IsRefused g b c fault → IsRefused g a c fault
-refused-after g a b c Memory p q r = record { sound = λ s. tt; store = tt }
-refused-after g a b c Store p q r = record { sound = λ s. tt; store = let x = p.index.later.faults in let y = q.index.later.faults in let z = r.store in omega (arith, x, y, z) }
-refused-after g a b c (Damaged page) p q r = record { sound = λ s. r.sound (p.sound s); store = tt }
-refused-after g a b c StoreFull p q r = absurd r.store
-refused-after g a b c Failed p q r = record { sound = λ s. r.sound (p.sound s); store = tt }
-refused-after g a b c Output p q r = absurd r.store
-
--- want of memory after questions
-pub memory_refused : {I : Type 0} (g : Ghosts I) (a b : CoreView I) (fault : RunFault) → fault ≡ Memory → IsRefused g a b fault
-memory_refused g a b fault e = rw e (record { sound = λ s. tt; store = tt })
 
 -- what is known of a feature is known after a question
 pub knows_kept : {I : Type 0} (g : Ghosts I) (a b : CoreView I) → LeavesBook g a b → Recalls g a.index b.index → (period : PeriodView) (feature : ℕ) → KnowsOf g a period feature → KnowsOf g b period feature

@@ -38,21 +38,6 @@ seen-insert k v (e ∷ es) h = by (bytes_eq (string_bytes k) (string_bytes e.0))
         let other : string_eq k e.0 ≡ false = e0 in
         rw other (ap (λ files. seen e ∷ files) (more rest))
 
-any-map : (keys : List (Bor (List ℕ))) (r : Bor (List ℕ)) → list_any (bytes_eq r.now) (map (λ (k : Bor (List ℕ)). k.now) keys) ≡ list_any (λ (k : Bor (List ℕ)). bytes_eq r.now k.now) keys
-any-map [] r = refl
-any-map (k ∷ keys) r = ap (λ b. bytes_eq r.now k.now || b) (any-map keys r)
-
--- a name more
-pub names-more : (keys : List (Bor (List ℕ))) (r : Bor (List ℕ)) → map (λ (k : Bor (List ℕ)). k.now) (cond (list_any (λ (k : Bor (List ℕ)). bytes_eq r.now k.now) keys) keys (keys ++ r ∷ [])) ≡ names_with (map (λ (k : Bor (List ℕ)). k.now) keys) r.now
-names-more keys r = by (list_any (λ (k : Bor (List ℕ)). bytes_eq r.now k.now) keys) refl
-  where
-    by : (b : Bool) → list_any (λ (k : Bor (List ℕ)). bytes_eq r.now k.now) keys ≡ b
-        → map (λ (k : Bor (List ℕ)). k.now) (cond (list_any (λ (k : Bor (List ℕ)). bytes_eq r.now k.now) keys) keys (keys ++ r ∷ [])) ≡ names_with (map (λ (k : Bor (List ℕ)). k.now) keys) r.now
-    by true e1 = let any : list_any (bytes_eq r.now) (map (λ (k : Bor (List ℕ)). k.now) keys) ≡ true = any-map keys r ∙ e1 in rw (e1, any) refl
-    by false e0 =
-        let any : list_any (bytes_eq r.now) (map (λ (k : Bor (List ℕ)). k.now) keys) ≡ false = any-map keys r ∙ e0 in
-        rw (e0, any) (map-append (λ (k : Bor (List ℕ)). k.now) keys (r ∷ []))
-
 -- a file that is there
 pub files_with-there : (files : List (List ℕ × List ℕ)) (name bytes : List ℕ) → is_some (file_named files name) ≡ true → files_with files name bytes ≡ files
 files_with-there files name bytes e = ap (λ b. cond b files (files ++ (name, bytes) ∷ [])) e

@@ -35,10 +35,6 @@ safe_after : (was : Store) (old new : DbView) → old.index.cache.store.faults �
 safe_after was old new risen u (inl m) = inl m
 safe_after was old new risen u (inr w) = inr (untouched_after was old.index new.index risen u w)
 
--- a database that has begun keeps any store safe
-pub begun_safe : (db : DbView) (was : Store) → HasPages db → db.begun ≡ true → IsSafe was db
-begun_safe db was pages begun = inl (pages.begun begun)
-
 -- every call keeps a store safe
 module _ (old new : DbView) (keeps : KeepsPages words old new) (risen : old.index.cache.store.faults ≤ new.index.cache.store.faults) (same : old.failed ≡ true → new ≡ old) where
   pub keeps_safe : (was : Store) → IsSoundDb old → HasPages old → IsSafe was old → IsSafe was new

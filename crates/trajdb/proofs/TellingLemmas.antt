@@ -147,9 +147,6 @@ shown_before r items old now shown legs same value text there =
 pub shown_names : (old new : Book) (a b : List ℕ) → new ≡ old → a ≡ b → names_text new a ≡ names_text old b
 shown_names old new a b same e = (λ i. names_text (same i) (e i))
 
-pub shown_file : (old new : Book) (head other : BookHead) (a b : List LegView) → new ≡ old → head ≡ other → a ≡ b → file_answer new head a ≡ file_answer old other b
-shown_file old new head other a b same h e = (λ i. file_answer (same i) (h i) (e i))
-
 module _ {I : Type 0} (g : Ghosts I) (core : CoreView I) where
   -- of a feature's legs, if there is one
   lacks_track : (o : Option ℕ) (legs shown : List LegView) (page : ℕ) → page ≡ 0 → AreToldOf g core o legs → shown ≡ legs → (All (IsThere core.book) shown → ⊥) → DeniesTrack g core o page

@@ -12,7 +12,7 @@ use Rattle.tbtree.specs.declared.tree.Place.{Place}
 use Rattle.tbtree.specs.declared.tree.TbTree.{TbTree}
 use Rattle.pagecache.specs.Cache.{payload_of, stored_payload, IsClean}
 use Rattle.pages.specs.Store.{IsSynced, IsSyncedButFirst, Keeps, Stays, Store}
-use Rattle.outputs.specs.Output.{HasRefused, IsPassedOn, OutputView}
+use Rattle.outputs.specs.Output.{HasRefused, IsFlushed, OutputView}
 use Rattle.boxsearch.specs.Index.{words, IsMarked}
 use Rattle.header.specs.Front.{SaysState}
 use Rattle.register.specs.Lasting.{first_fault, ComesFirst, IsKept, IsReadingFault, IsStop, IsTrulyDamaged}
@@ -136,8 +136,8 @@ pub record RunCall {I O : Type 0} (g : Ghosts I) (shown : O → OutputView)
   -- it is said to fail only where it refused a call; where the run is answered it refused none, and was flushed behind the
   -- last answer; and so it was where the run stops at a line, or it refused a call
   pub output_caused : IsErrOf result RunFault.Output → HasRefused (shown out) (shown out')
-  pub passed : OnOk result (IsPassedOn (shown out) (shown out'))
-  pub passed_before : IfErr result (λ fault. IsNotOutput fault → old.failed ≡ false
+  pub flushed : OnOk result (IsFlushed (shown out) (shown out'))
+  pub flushed_before : IfErr result (λ fault. IsNotOutput fault → old.failed ≡ false
       → IsTrue (shown out').is_flushed ⊎ HasRefused (shown out) (shown out'))
   -- where the run stops at a line
   pub refused : IfErr result (λ e. IsNotOutput e → old.failed ≡ false → IsSound g old

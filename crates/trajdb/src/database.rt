@@ -431,7 +431,7 @@ impl<I: Start> Core<I> {
         ensures refuses_none { OnOk result ((O.seen out.new).refusals ≡ (O.seen out.old).refusals) }
         ensures output { IsErrOf result RunFault.Output
             → HasRefused (O.seen out.old) (O.seen out.new) }
-        ensures passed { IfErr result (λ fault. IsNotOutput fault
+        ensures flushed { IfErr result (λ fault. IsNotOutput fault
             → IsTrue (O.seen out.new).is_flushed
             ⊎ HasRefused (O.seen out.old) (O.seen out.new)) }
         ensures begins { OnOk result (Begins I.Listed self.old self.new

@@ -68,25 +68,6 @@ part_stops P payload r Unfinished h = tt
 part_stops P payload r Version h = tt
 part_stops P payload r Malformed h = tt
 
-pub unread_lent : (n : ℕ) (a b : StoreView) (e : CatalogueFault) → IsUnread n a b e → IsLentFault a b e
-unread_lent n a b Memory h = absurd h
-unread_lent n a b Store h = h
-unread_lent n a b StoreFull h = absurd h
-unread_lent n a b (Damaged m) h = subst (λ k. (k < a.count) × (IsTrue a.is_faithful → stored_payload a k ≡ None)) (sym h.0) h.1
-unread_lent n a b Unfinished h = absurd h
-unread_lent n a b Version h = absurd h
-unread_lent n a b Malformed h = tt
-
--- a page that has not the form of one of the chain
-pub part_lent : (payload : Payload) (r : ReaderView) (a b : StoreView) (e : CatalogueFault) → IsPageFault payload r e → IsLentFault a b e
-part_lent payload r a b Memory h = tt
-part_lent payload r a b Store h = absurd h
-part_lent payload r a b StoreFull h = absurd h
-part_lent payload r a b (Damaged m) h = absurd h
-part_lent payload r a b Unfinished h = absurd h
-part_lent payload r a b Version h = absurd h
-part_lent payload r a b Malformed h = tt
-
 -- the next page is read
 module _ (at : ℕ → Option Payload) (old : ReaderView) (n : ℕ) (named : n ≡ old.next) (some : 0 < old.left) where
   pub lent_loaded : (new : ReaderView) (payload : Payload) → at n ≡ Some payload → TakesPart payload old new → rest_of at new ≡ rest_of at old

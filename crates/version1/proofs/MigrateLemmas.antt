@@ -116,16 +116,6 @@ allowed_stop Unfinished h = h
 allowed_stop Version h = h
 allowed_stop Malformed h = h
 
--- the faults of reading beside the legs are those of the two stores
-pub caused_reading : (old after new left : StoreView) (e : CatalogueFault) → IsOldReadingFault old after new left e → IsMigratingFault old after new left e
-caused_reading old after new left Memory h = tt
-caused_reading old after new left Store h = h
-caused_reading old after new left StoreFull h = absurd h
-caused_reading old after new left (Damaged page) h = tt
-caused_reading old after new left Unfinished h = tt
-caused_reading old after new left Version h = tt
-caused_reading old after new left Malformed h = tt
-
 begun_fault : (old after new mid left : StoreView) (e : CacheFault) → Stays new mid → Keeps mid left → IsLawful left → IsCaused mid left e → IsMigratingFault old after new left (fault_of e)
 begun_fault old after new mid left cache.NoPage s k l h = tt
 begun_fault old after new mid left cache.Store s k l h = inr (faulted_before new mid left s.keeps.faults h)
@@ -144,20 +134,6 @@ shape_in None other = other
 -- a later index has the shape that it was begun with
 pub same_shape : (i begun : IndexView) (shape : ShapeView) → words.plan i ≡ words.plan begun → begun.tree.shape ≡ shape → i.tree.shape ≡ shape
 same_shape i begun shape plan is = ap (λ p. shape_in p shape) plan ∙ is
-
--- later faults of the two stores are theirs
-pub caused_later : (old mid after new begun left : StoreView) (e : CatalogueFault) → old.faults ≤ mid.faults → new.faults ≤ begun.faults → IsMigratingFault mid after begun left e → IsMigratingFault old after new left e
-caused_later old mid after new begun left Memory s k h = tt
-caused_later old mid after new begun left Store s k h = ⊎_elim (λ f. inl (faulted_before old mid after s f)) (λ f. inr (faulted_before new begun left k f)) h
-caused_later old mid after new begun left StoreFull s k h = h
-caused_later old mid after new begun left (Damaged page) s k h = tt
-caused_later old mid after new begun left Unfinished s k h = tt
-caused_later old mid after new begun left Version s k h = tt
-caused_later old mid after new begun left Malformed s k h = tt
-
--- what is left of an empty store that stays has no page
-pub left_empty : (new left : StoreView) → IsLawful new → new.count ≡ 0 → IsTrue new.is_faithful → Stays new left → IsLeftOver new left
-left_empty new left l e fa s = inl (s.pages fa ∙ empty_pages new l e fa)
 
 pub left_later : (new mid left : StoreView) → Stays new mid → IsLeftOver mid left → IsLeftOver new left
 left_later new mid left s h = ⊎_elim inl (λ r. inr (⊎_elim inl (λ f. inr (f.0, faulted_before new mid left s.keeps.faults f.1)) r)) h

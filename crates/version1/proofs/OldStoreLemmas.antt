@@ -61,25 +61,6 @@ module _ (at bt : ℕ → Option Payload) (count first length : ℕ) where
     pub not_parsed : (most : ℕ) → ((contents : Option Contents) → IsRead most contents → rest_of bt r ≢ Some (catalogue_text contents)) → (contents : Option Contents) → AreFew most contents → HoldsContents at count first length contents → ⊥
     not_parsed most none contents few h = none contents (record { whole = h.whole; few = few }) (filled ∙ h.text)
 
--- a fault of the lent store, and one of a cache without pages
-pub lent_fault : (old new below after : StoreView) (e : CatalogueFault) → IsLentFault old new e → IsBringingFault old new below after e
-lent_fault old new below after Memory h = tt
-lent_fault old new below after Store h = inl h
-lent_fault old new below after StoreFull h = absurd h
-lent_fault old new below after (Damaged page) h = h
-lent_fault old new below after Unfinished h = absurd h
-lent_fault old new below after Version h = absurd h
-lent_fault old new below after Malformed h = tt
-
-pub cache_fault : (old new : StoreView) (a b : Cache) (e : CatalogueFault) → a.count ≡ 0 → OnlyReads a b → IsReadFault a b e → IsBringingFault old new a.store b.store e
-cache_fault old new a b Memory z reads h = tt
-cache_fault old new a b Store z reads h = inr h
-cache_fault old new a b StoreFull z reads h = absurd h
-cache_fault old new a b (Damaged page) z reads h = absurd (let l = h.0 in let c = reads.count in omega (arith, l, c, z))
-cache_fault old new a b Unfinished z reads h = absurd h
-cache_fault old new a b Version z reads h = absurd h
-cache_fault old new a b Malformed z reads h = tt
-
 -- what is read is kept
 pub old_rest_kept : (at : ℕ → Option Payload) (count : ℕ) (old : OldFields) (c : CatalogueView) (places : List Place) → SaysOldFields count (at 0) old → IsRest at count old.fields c places → IsKeptOld at count c (tree_of (as_written old)) places
 old_rest_kept at count old c places says rest =
@@ -203,13 +184,3 @@ module _ (a b d below after : StoreView) (p : Stays a b) where
   bringing_damaged Unfinished h = tt
   bringing_damaged Version h = tt
   bringing_damaged Malformed h = tt
-
--- a fault of the lent store alone
-pub header_caused : (old new below after : StoreView) (e : CatalogueFault) → IsReadingFault old new e → IsOldReadingFault old new below after e
-header_caused old new below after Memory h = tt
-header_caused old new below after Store h = inl h
-header_caused old new below after StoreFull h = absurd h
-header_caused old new below after (Damaged page) h = tt
-header_caused old new below after Unfinished h = tt
-header_caused old new below after Version h = tt
-header_caused old new below after Malformed h = tt

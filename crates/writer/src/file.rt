@@ -60,8 +60,8 @@ fn bounds_row<'a>(
     base: &'a [u8],
     end: &'a [u8],
 ) -> [&'a [u8]; 8]
-    ensures { map
-        (λ f. f.now) result ≡ codes "@stboundedby" ∷ crs.entry.now ∷ dimension.entry.now ∷ lower.entry.now ∷ upper.entry.now ∷ base.entry.now ∷ end.entry.now ∷ codes "sec" ∷ [] }
+    ensures { map (λ f. f.now) result ≡ codes "@stboundedby" ∷ crs.entry.now ∷ dimension.entry.now
+        ∷ lower.entry.now ∷ upper.entry.now ∷ base.entry.now ∷ end.entry.now ∷ codes "sec" ∷ [] }
 {
     [
         "@stboundedby".as_bytes(),
