@@ -1,9 +1,14 @@
 //! The words of the command line.
+ghost use Rattle.std.specs.Prelude.{◌≡◌, ◌∷◌, [], IfOk, codes, map};
+ghost use Rattle.clap.specs.Words.{found_of};
+ghost use Rattle.arguments.specs.Words.{word, words, SaysFlag, SaysNumber, SaysTelling};
+
 use crate::task::{
     Bounds, Check, Info, Migrate, Moments, Part, Parts, RowKind, Run, Task, Telling,
 };
 use clap::{Arg, ArgAction, ArgMatches, Command, Error, value_parser};
 use std::alloc::{AllocError, Global};
+use std::str::FromStr;
 
 /// How many pages a cache holds where no word says it.
 const CACHE_PAGES: u32 = 256;
@@ -339,20 +344,34 @@ fn mftb<'a>(alloc: Global) -> Result<Command<'a>, AllocError> {
 }
 
 /// A word that is there.
-fn word_of<'a>(matches: &ArgMatches<'a>, name: &str) -> &'a str {
+fn word_of<'a>(matches: &ArgMatches<'a>, name: &str) -> &'a str
+    ensures { result.now ≡ word (found_of matches.now) name.now }
+{
     matches.get_str(name).unwrap_or("")
 }
 
-/// How many pages the cache is to hold.
-fn cache_pages_of(matches: &ArgMatches) -> u32 {
-    matches.get_one("cache-pages").unwrap_or(CACHE_PAGES)
+/// Whether a word without a value is there.
+fn flag_of(matches: &ArgMatches, name: &str) -> bool
+    ensures { SaysFlag (found_of matches.now) name.now result }
+{
+    matches.get_flag(name)
+}
+
+/// A number; another one where it is not there.
+fn number_of(matches: &ArgMatches, name: &str, other: u32) -> u32
+    ensures { SaysNumber ⟦<u32 as FromStr>⟧.from_str_gives (found_of matches.now) name.now other
+        result }
+{
+    matches.get_one(name).unwrap_or(other)
 }
 
 /// When it is to be said in words what went wrong.
-fn telling_of(matches: &ArgMatches) -> Telling {
-    if matches.get_flag("quiet") {
+fn telling_of(matches: &ArgMatches) -> Telling
+    ensures { SaysTelling (found_of matches.now) result }
+{
+    if flag_of(matches, "quiet") {
         Telling::Never
-    } else if matches.get_flag("explain") {
+    } else if flag_of(matches, "explain") {
         Telling::Always
     } else {
         Telling::OnTerminal
@@ -360,26 +379,44 @@ fn telling_of(matches: &ArgMatches) -> Telling {
 }
 
 /// What `mftb run` is asked to do.
-fn run_of<'a>(alloc: Global, matches: &ArgMatches<'a>) -> Result<Run<'a>, Error> {
-    let mut files = Vec::new(alloc);
-    for name in matches.get_strs("FILES").unwrap_or(&[]) {
-        files.push(*name)?;
-    }
+fn run_of<'a>(alloc: Global, matches: &ArgMatches<'a>) -> Result<Run<'a>, Error>
+    ensures store { IfOk result
+        (λ run. run.store.now ≡ word (found_of matches.now) (codes "STORE")) }
+    ensures script { IfOk result
+        (λ run. run.script.now ≡ word (found_of matches.now) (codes "SCRIPT")) }
+    ensures files { IfOk result (λ run. map (λ name. name.now) run.files.items
+        ≡ words (found_of matches.now) (codes "FILES")) }
+    ensures in_place { IfOk result
+        (λ run. SaysFlag (found_of matches.now) (codes "in-place") run.in_place) }
+    ensures strict { IfOk result
+        (λ run. SaysFlag (found_of matches.now) (codes "strict") run.is_strict) }
+    ensures existing { IfOk result
+        (λ run. SaysFlag (found_of matches.now) (codes "existing") run.is_existing) }
+    ensures telling { IfOk result (λ run. SaysTelling (found_of matches.now) run.telling) }
+{
+    let names = matches.get_strs("FILES").unwrap_or(&[]);
     Ok(Run {
         store: word_of(matches, "STORE"),
-        cache_pages: cache_pages_of(matches),
+        cache_pages: number_of(matches, "cache-pages", CACHE_PAGES),
         script: word_of(matches, "SCRIPT"),
-        files,
-        in_place: matches.get_flag("in-place"),
-        progress: matches.get_flag("progress"),
+        files: Vec::from_slice(alloc, names)?,
+        in_place: flag_of(matches, "in-place"),
+        progress: flag_of(matches, "progress"),
         telling: telling_of(matches),
-        is_strict: matches.get_flag("strict"),
-        is_existing: matches.get_flag("existing"),
+        is_strict: flag_of(matches, "strict"),
+        is_existing: flag_of(matches, "existing"),
     })
 }
 
 /// What `mftb moments` is asked to do.
-fn moments_of<'a>(matches: &ArgMatches<'a>) -> Moments<'a> {
+fn moments_of<'a>(matches: &ArgMatches<'a>) -> Moments<'a>
+    ensures store { result.store.now ≡ word (found_of matches.now) (codes "STORE") }
+    ensures corners { map (λ text. text.now) result.bounds.corners
+        ≡ map (word (found_of matches.now))
+        (codes "X1" ∷ codes "Y1" ∷ codes "X2" ∷ codes "Y2" ∷ []) }
+    ensures times { map (λ text. text.now) result.bounds.times
+        ≡ map (word (found_of matches.now)) (codes "T1" ∷ codes "T2" ∷ []) }
+{
     let corners = [
         word_of(matches, "X1"),
         word_of(matches, "Y1"),
@@ -389,11 +426,11 @@ fn moments_of<'a>(matches: &ArgMatches<'a>) -> Moments<'a> {
     let times = [word_of(matches, "T1"), word_of(matches, "T2")];
     Moments {
         store: word_of(matches, "STORE"),
-        cache_pages: cache_pages_of(matches),
+        cache_pages: number_of(matches, "cache-pages", CACHE_PAGES),
         bounds: Bounds { corners, times },
-        rows: if matches.get_flag("visits") {
+        rows: if flag_of(matches, "visits") {
             RowKind::Visits
-        } else if matches.get_flag("dwell") {
+        } else if flag_of(matches, "dwell") {
             RowKind::Dwell
         } else {
             RowKind::Legs
@@ -402,22 +439,57 @@ fn moments_of<'a>(matches: &ArgMatches<'a>) -> Moments<'a> {
 }
 
 /// What `mftb check` is asked to do.
-fn check_of<'a>(matches: &ArgMatches<'a>) -> Check<'a> {
+fn check_of<'a>(matches: &ArgMatches<'a>) -> Check<'a>
+    ensures { result.store.now ≡ word (found_of matches.now) (codes "STORE") }
+{
     Check {
         store: word_of(matches, "STORE"),
-        cache_pages: cache_pages_of(matches),
+        cache_pages: number_of(matches, "cache-pages", CACHE_PAGES),
         telling: telling_of(matches),
     }
 }
 
 /// What `mftb parts` is asked to do.
-fn parts_of<'a>(matches: &ArgMatches<'a>) -> Parts<'a> {
+fn parts_of<'a>(matches: &ArgMatches<'a>) -> Parts<'a>
+    ensures parts { SaysNumber ⟦<u32 as FromStr>⟧.from_str_gives (found_of matches.now) (codes "N")
+        1 result.parts }
+    ensures first { SaysNumber ⟦<u32 as FromStr>⟧.from_str_gives (found_of matches.now)
+        (codes "first") 0 result.first }
+    ensures file { result.file.now ≡ word (found_of matches.now) (codes "FILE") }
+    ensures folder { result.folder.now ≡ word (found_of matches.now) (codes "DIR") }
+{
     Parts {
-        parts: matches.get_one("N").unwrap_or(1),
-        first: matches.get_one("first").unwrap_or(0),
+        parts: number_of(matches, "N", 1),
+        first: number_of(matches, "first", 0),
         count: matches.get_one("count"),
         file: word_of(matches, "FILE"),
         folder: word_of(matches, "DIR"),
+    }
+}
+
+/// What `mftb part` is asked to do.
+fn part_of<'a>(matches: &ArgMatches<'a>) -> Part<'a>
+    ensures part { SaysNumber ⟦<u32 as FromStr>⟧.from_str_gives (found_of matches.now) (codes "K")
+        0 result.part }
+    ensures parts { SaysNumber ⟦<u32 as FromStr>⟧.from_str_gives (found_of matches.now) (codes "N")
+        1 result.parts }
+    ensures file { result.file.now ≡ word (found_of matches.now) (codes "FILE") }
+{
+    Part {
+        part: number_of(matches, "K", 0),
+        parts: number_of(matches, "N", 1),
+        file: word_of(matches, "FILE"),
+    }
+}
+
+/// What `mftb migrate` is asked to do.
+fn migrate_of<'a>(matches: &ArgMatches<'a>) -> Migrate<'a>
+    ensures old { result.old.now ≡ word (found_of matches.now) (codes "OLD") }
+    ensures new { result.new.now ≡ word (found_of matches.now) (codes "NEW") }
+{
+    Migrate {
+        old: word_of(matches, "OLD"),
+        new: word_of(matches, "NEW"),
     }
 }
 
@@ -432,20 +504,13 @@ pub fn read_words<'a>(alloc: Global, words: &'a [String]) -> Result<Task<'a>, Er
 fn task_of<'a>(alloc: Global, name: &str, matches: &ArgMatches<'a>) -> Result<Task<'a>, Error> {
     Ok(match name {
         "check" => Task::Check(check_of(matches)),
-        "migrate" => Task::Migrate(Migrate {
-            old: word_of(matches, "OLD"),
-            new: word_of(matches, "NEW"),
-        }),
-        "part" => Task::Part(Part {
-            part: matches.get_one("K").unwrap_or(0),
-            parts: matches.get_one("N").unwrap_or(1),
-            file: word_of(matches, "FILE"),
-        }),
+        "migrate" => Task::Migrate(migrate_of(matches)),
+        "part" => Task::Part(part_of(matches)),
         "parts" => Task::Parts(parts_of(matches)),
         "moments" => Task::Moments(moments_of(matches)),
         "info" => Task::Info(Info {
             store: word_of(matches, "STORE"),
-            is_json: matches.get_flag("json"),
+            is_json: flag_of(matches, "json"),
         }),
         _ => Task::Run(run_of(alloc, matches)?),
     })

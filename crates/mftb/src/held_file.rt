@@ -60,7 +60,7 @@ impl<'a, F: FileExt + OpenFile> ByteFile for HeldFile<'a, F> {
 
     ghost has_lost = { λ f. ⟦<SystemFile<F> as ByteFile>⟧.has_lost f.file };
 
-    fn len(&self) -> io::Result<u64> {
+    fn len(&mut self) -> io::Result<u64> {
         self.file.len()
     }
 

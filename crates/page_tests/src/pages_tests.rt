@@ -207,7 +207,7 @@ impl ByteFile for Broken {
 
     ghost has_lost = { λ _. true };
 
-    fn len(&self) -> io::Result<u64> {
+    fn len(&mut self) -> io::Result<u64> {
         Ok(self.len)
     }
 

@@ -17,18 +17,23 @@ pub trait ByteFile {
     /// nothing counts as synced.
     ghost is_synced: { Self → Bool };
 
-    /// How often it was refused to read or write bytes, or to make them last. It never falls; 2^64 - 1 stands for any
-    /// greater number.
+    /// How often it was refused to say its length, to read or write bytes, or to make them last. It never falls; 2^64 - 1
+    /// stands for any greater number.
     ghost refusals: { Self → ℕ };
 
-    /// Whether it was ever refused to make last what was written. A system may forget then what it did not write, and
-    /// answer the next time that all is well; so no later call says so.
+    /// Whether it was ever refused to make last what was written. A system may then forget what it did not write, and
+    /// answer the next time that all is well; so it is not read, written or synced again.
     ghost has_lost: { Self → Bool };
 
     /// How many bytes there are, which a file that tells its bytes does not refuse to say.
-    fn len(&self) -> io::Result<u64>
-        ensures value { IfOk result (λ n. IfSome (bytes self.now) (λ xs. n ≡ length xs)) }
-        ensures told { IsTrue (is_some (bytes self.now)) → IsOk result };
+    fn len(&mut self) -> io::Result<u64>
+        ensures value { IfOk result (λ n. IfSome (bytes self.old) (λ xs. n ≡ length xs)) }
+        ensures told { IsTrue (is_some (bytes self.old)) → IsOk result }
+        ensures stays { bytes self.new ≡ bytes self.old }
+        ensures synced { is_synced self.new ≡ is_synced self.old }
+        ensures lost { has_lost self.new ≡ has_lost self.old }
+        ensures refuses_none { OnOk result (refusals self.new ≡ refusals self.old) }
+        ensures cause { OnErr result (HasRisen (refusals self.old) (refusals self.new)) };
 
     /// Reads the bytes from a place on, as many as `buf` has, which are there.
     fn read_at(&mut self, place: u64, buf: &mut [u8]) -> io::Result<()>
@@ -37,6 +42,7 @@ pub trait ByteFile {
             (λ xs. slice_range xs place (place + length buf.new) ≡ buf.new)) }
         ensures stays { bytes self.new ≡ bytes self.old }
         ensures synced { is_synced self.new ≡ is_synced self.old }
+        ensures never_lost { OnOk result (has_lost self.old ≡ false) }
         ensures lost { has_lost self.new ≡ has_lost self.old }
         ensures cause { OnErr result (HasRisen (refusals self.old) (refusals self.new)) }
         ensures later { refusals self.old ≤ refusals self.new };
@@ -49,6 +55,7 @@ pub trait ByteFile {
             (λ xs. slice_range xs place (place + length buf.now) ≡ buf.now)) }
         ensures around { StaysAround place (place + length buf.now)
             (bytes self.old) (bytes self.new) }
+        ensures never_lost { OnOk result (has_lost self.old ≡ false) }
         ensures lost { has_lost self.new ≡ has_lost self.old }
         ensures cause { OnErr result (HasRisen (refusals self.old) (refusals self.new)) }
         ensures later { refusals self.old ≤ refusals self.new };

@@ -31,7 +31,7 @@ impl<F: ByteFile> FileStore<F> {
     /// The store of a file's whole pages, of at most 2^32 - 1 pages: a rest of less than a page is
     /// no page, and a file of more pages is refused, as is one that does not tell its length. Any
     /// page may be unsynced.
-    pub fn new(file: F) -> Result<FileStore<F>, StoreFault>
+    pub fn new(mut file: F) -> Result<FileStore<F>, StoreFault>
     where
         F: Drop,
         ensures pages { IfOk result (λ s. IfSome (F.bytes file)

@@ -45,7 +45,7 @@ impl ByteFile for MemFile {
 
     ghost has_lost = { λ _. false };
 
-    fn len(&self) -> io::Result<u64> {
+    fn len(&mut self) -> io::Result<u64> {
         Ok(self.bytes.len() as u64)
     }
 
@@ -60,6 +60,7 @@ impl ByteFile for MemFile {
             ≡ ⟦<MemFile as ByteFile>⟧.bytes self.old }
         ensures synced { ⟦<MemFile as ByteFile>⟧.is_synced self.new
             ≡ ⟦<MemFile as ByteFile>⟧.is_synced self.old }
+        ensures never_lost { OnOk result (⟦<MemFile as ByteFile>⟧.has_lost self.old ≡ false) }
         ensures lost { ⟦<MemFile as ByteFile>⟧.has_lost self.new
             ≡ ⟦<MemFile as ByteFile>⟧.has_lost self.old }
         ensures cause { OnErr result (HasRisen (⟦<MemFile as ByteFile>⟧.refusals self.old)
@@ -81,6 +82,7 @@ impl ByteFile for MemFile {
             (λ xs. slice_range xs place (place + length buf.now) ≡ buf.now)) }
         ensures around { StaysAround place (place + length buf.now)
             (⟦<MemFile as ByteFile>⟧.bytes self.old) (⟦<MemFile as ByteFile>⟧.bytes self.new) }
+        ensures never_lost { OnOk result (⟦<MemFile as ByteFile>⟧.has_lost self.old ≡ false) }
         ensures lost { ⟦<MemFile as ByteFile>⟧.has_lost self.new
             ≡ ⟦<MemFile as ByteFile>⟧.has_lost self.old }
         ensures cause { OnErr result (HasRisen (⟦<MemFile as ByteFile>⟧.refusals self.old)

@@ -1,5 +1,5 @@
 //! A file of the system.
-ghost use Rattle.std.specs.Prelude.{◌≡◌, true, false, None, IfOk};
+ghost use Rattle.std.specs.Prelude.{◌≡◌, true, false, None, IfOk, IsErr};
 
 use crate::byte_file::ByteFile;
 use crate::refusals::Refusals;
@@ -9,12 +9,19 @@ use std::os::unix::fs::FileExt;
 use std::rt::Files;
 
 /// A file of the system. No contract says which bytes it holds, nor that `sync` puts them on the
-/// disk: that it does is trusted, unless it was refused before.
+/// disk: that it does is trusted. Once that was refused, each call is that reads, writes or syncs.
 #[derive(Drop)]
 pub struct SystemFile<F = File> {
     file: F,
     refusals: Refusals,
     has_lost: bool,
+}
+
+/// What is answered of a file that was refused a sync.
+fn lost() -> io::Result<()>
+    ensures { IsErr result }
+{
+    Err(io::Error::from(io::ErrorKind::Other))
 }
 
 impl<F: FileExt + OpenFile> SystemFile<F> {
@@ -52,21 +59,35 @@ impl<F: FileExt + OpenFile> ByteFile for SystemFile<F> {
 
     ghost has_lost = { λ f. f.has_lost };
 
-    fn len(&self) -> io::Result<u64> {
-        Ok(self.file.metadata()?.len())
+    fn len(&mut self) -> io::Result<u64> {
+        let answer = match self.file.metadata() {
+            Ok(about) => Ok(about.len()),
+            Err(error) => Err(error),
+        };
+        self.refusals.count(answer)
     }
 
     fn read_at(&mut self, place: u64, buf: &mut [u8]) -> io::Result<()> {
-        self.refusals.count(self.file.read_exact_at(buf, place))
+        let answer = if self.has_lost {
+            lost()
+        } else {
+            self.file.read_exact_at(buf, place)
+        };
+        self.refusals.count(answer)
     }
 
     fn write_at(&mut self, place: u64, buf: &[u8]) -> io::Result<()> {
-        self.refusals.count(self.file.write_all_at(buf, place))
+        let answer = if self.has_lost {
+            lost()
+        } else {
+            self.file.write_all_at(buf, place)
+        };
+        self.refusals.count(answer)
     }
 
     fn sync(&mut self) -> io::Result<()> {
         let answer = if self.has_lost {
-            Err(io::Error::from(io::ErrorKind::Other))
+            lost()
         } else {
             self.file.sync_all()
         };
