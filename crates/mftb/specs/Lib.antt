@@ -1,2 +1,4 @@
+pub mod Answers
+pub mod Bounds
 pub mod Names
 pub mod Reading

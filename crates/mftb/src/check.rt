@@ -1,28 +1,53 @@
 //! `mftb check`: whether the pages of a file hold one database.
+ghost use Rattle.std.specs.Prelude.{◌≡◌, IfOk, OnOk, Ok};
+ghost use Rattle.std.specs.Io.KnownBytes.{Appends};
+ghost use Rattle.std.specs.String.{string_bytes};
+ghost use Rattle.pages.specs.Store.{Store};
+ghost use Rattle.trajdb.specs.declared.Report.{Report};
+ghost use Rattle.sessions.specs.Answers.{ChecksAndCloses};
+ghost use Rattle.mftb.specs.Answers.{report_text};
+
 use crate::names::Names;
 use crate::opening::{open_asked, sweep};
 use arguments::Check;
 use outputs::Output;
+use pages::PageStore;
 use sessions::{Fault, check_and_close, send_all};
-use std::alloc::Global;
+use std::alloc::{AllocError, Global};
 use std::fs::File;
 use std::hash::RandomState;
 use std::random::RandomSource;
 use std::rt::Files;
 use trajdb::{Db, Report, RunFault};
 
-/// Sends what a check that passed has found.
-fn send_report<'a, O: Output>(
-    alloc: Global,
-    report: &Report,
-    out: &mut O,
-) -> Result<(), Fault<'a>> {
+/// What is said of a database that passed.
+fn text_of(alloc: Global, report: &Report) -> Result<String, AllocError>
+    ensures { IfOk result (λ text. string_bytes text ≡ report_text report.now) }
+{
     let Report {
         pages,
         legs,
         features,
     } = *report;
-    let text = format!(in alloc; "ok 1\n{pages},{legs},{features}\n")?;
+    format!(in alloc; "ok 1\n{pages},{legs},{features}\n")
+}
+
+/// Checks a database, closes it, as `sessions::check_and_close` does, and says what was found.
+fn check_over<'a, S: PageStore + Drop, O: Output>(
+    alloc: Global,
+    database: Db<S>,
+    out: &mut O,
+) -> Result<(), Fault<'a>>
+    ensures { OnOk result ((left : Store) × (report : Report)
+        × ChecksAndCloses database left (Ok report)
+        × Appends (O.seen out.old).contents (O.seen out.new).contents (report_text report)) }
+{
+    let (_store, checked) = check_and_close(alloc, database);
+    let report = match checked {
+        Ok(report) => report,
+        Err(fault) => return Err(Fault::Run(fault)),
+    };
+    let text = text_of(alloc, &report)?;
     send_all(out, text.as_bytes())
 }
 
@@ -44,6 +69,5 @@ pub(crate) fn check<'a, R: Files<File = File> + AllocGlobal + RandomSource, O: O
         Ok(database) => database,
         Err((_, fault)) => return Err(Fault::Open(fault)),
     };
-    let (_store, checked) = check_and_close(rt.alloc(), database);
-    send_report(rt.alloc(), &checked?, out)
+    check_over(rt.alloc(), database, out)
 }

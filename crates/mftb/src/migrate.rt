@@ -1,10 +1,16 @@
 //! `mftb migrate`: a store of version 1 is brought over into a new one.
+ghost use Rattle.std.specs.Prelude.{◌≡◌, IsTrue, OnOk, codes};
+ghost use Rattle.std.specs.Io.KnownBytes.{Appends};
+ghost use Rattle.pages.specs.Store.{Store, IsSynced};
+ghost use Rattle.sessions.specs.Answers.{BringsWhole};
+
 use crate::names::Names;
 use crate::opening::{is_absent, open_asked, open_in_place};
 use arguments::Migrate;
 use outputs::Output;
 use pages::{FileStore, PageStore};
 use sessions::{Fault, migrate_and_close, send_all};
+use std::alloc::Global;
 use std::fs::File;
 use std::hash::RandomState;
 use std::random::RandomSource;
@@ -16,6 +22,28 @@ fn not_new<'a, R: Files<File = File> + AllocGlobal>(rt: &R, name: &str) -> Fault
     match FileStore::open(rt, name) {
         Ok(_) => Fault::NotEmpty,
         Err(_) => Fault::Run(RunFault::Store),
+    }
+}
+
+/// Brings a store of version 1 over into a new one, as `sessions::migrate_and_close` does, and says so.
+fn bring_over<'a, S: PageStore, T: PageStore + Drop, O: Output>(
+    alloc: Global,
+    keys: RandomState,
+    old: &mut S,
+    new: T,
+    out: &mut O,
+) -> Result<(), Fault<'a>>
+    requires { (T.seen new).count ≡ 0 }
+    ensures whole { OnOk result ((left : Store) × IsSynced left
+        × (IsTrue (S.seen old.old).is_faithful → IsTrue (T.seen new).is_faithful
+        → BringsWhole (S.seen old.old) left)) }
+    ensures said { OnOk result (Appends (O.seen out.old).contents (O.seen out.new).contents
+        (codes "ok 0\n")) }
+{
+    let (_new, migrated) = migrate_and_close(alloc, keys, old, new);
+    match migrated {
+        Ok(()) => send_all(out, "ok 0\n".as_bytes()),
+        Err(fault) => Err(fault),
     }
 }
 
@@ -41,9 +69,8 @@ pub(crate) fn migrate<'a, R: Files<File = File> + AllocGlobal + RandomSource, O:
     if new.len() != 0 {
         return Err(Fault::NotEmpty);
     }
-    let (_new, migrated) = migrate_and_close(rt.alloc(), keys, &mut old, new);
-    if let Err(fault) = migrated {
-        return Err(names.caused(fault));
+    match bring_over(rt.alloc(), keys, &mut old, new, out) {
+        Ok(()) => Ok(()),
+        Err(fault) => Err(names.caused(fault)),
     }
-    send_all(out, b"ok 0\n".as_slice())
 }

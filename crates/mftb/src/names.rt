@@ -1,4 +1,9 @@
 //! The names of a store and of what lies beside it while a run works on a copy.
+ghost use Rattle.std.specs.Prelude.{◌≡◌, IfOk};
+ghost use Rattle.std.specs.String.{string_bytes};
+ghost use Rattle.sessions.specs.Texts.{IsOfStore};
+ghost use Rattle.mftb.specs.Names.{copy_name, lock_name};
+
 use sessions::{Cause, Fault};
 use std::alloc::Global;
 use std::cell::Cell;
@@ -34,7 +39,12 @@ fn resolved<'a, R: Files + AllocGlobal>(rt: &R, store: &str) -> Result<String, F
 
 impl Names {
     /// The names for a store.
-    pub(crate) fn new<'a, R: Files + AllocGlobal>(rt: &R, store: &str) -> Result<Names, Fault<'a>> {
+    pub(crate) fn new<'a, R: Files + AllocGlobal>(rt: &R, store: &str) -> Result<Names, Fault<'a>>
+        ensures copy { IfOk result
+            (λ names. string_bytes names.copy ≡ copy_name (string_bytes names.store)) }
+        ensures lock { IfOk result
+            (λ names. string_bytes names.lock ≡ lock_name (string_bytes names.store)) }
+    {
         let alloc = rt.alloc();
         let store = resolved(rt, store)?;
         let copy = format!(in alloc; "{store}.mftb-copy")?;
@@ -49,7 +59,10 @@ impl Names {
     }
 
     /// A fault, with the cause that was noted where it is one of the store.
-    pub(crate) fn caused<'a>(&self, fault: Fault<'a>) -> Fault<'a> {
+    pub(crate) fn caused<'a>(&self, fault: Fault<'a>) -> Fault<'a>
+        ensures same { (IsOfStore fault.entry → ⊥) → result ≡ fault.entry }
+        ensures store { IsOfStore fault.entry → IsOfStore result }
+    {
         match self.cause.get() {
             Some(cause) if fault.is_of_store() => Fault::NoStore(cause),
             _ => fault,

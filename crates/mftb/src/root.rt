@@ -1,10 +1,18 @@
 //! What the first page of a store and the root of its tree say.
+ghost use Rattle.std.specs.Prelude.{ℕ, ◌≡◌, Some, IfOk, IfSome, IsErrOf, IsTrue};
+ghost use Rattle.pages.specs.declared.payload.Payload.{Payload};
+ghost use Rattle.pagecache.specs.Cache.{stored_payload};
+ghost use Rattle.tbnode.specs.Form.{node_of};
+ghost use Rattle.tbtree.specs.Payloads.{cover_of_node};
+ghost use Rattle.sessions.specs.declared.fault.Fault.{Fault};
+ghost use Rattle.trajdb.specs.declared.RunFault.{RunFault};
+
 use fixedpoint::Coord;
 use header::{FINISHED, Front, front_of, root_of};
 use legs::Box3;
 use pages::{PageStore, Payload, unseal};
 use sessions::Fault;
-use tbnode::{Inner, Leaf};
+use tbtree::cover_of;
 use timebase::Ms;
 use trajdb::RunFault;
 
@@ -18,7 +26,11 @@ pub(crate) struct Header {
 }
 
 /// The payload of a page.
-fn payload_of<'a, S: PageStore>(store: &mut S, number: u32) -> Result<Payload, Fault<'a>> {
+fn payload_of<'a, S: PageStore>(store: &mut S, number: u32) -> Result<Payload, Fault<'a>>
+    ensures said { IfOk result (λ payload. IsTrue (S.seen store.old).is_faithful
+        → stored_payload (S.seen store.old) number ≡ Some payload) }
+    ensures named { (n : ℕ) → IsErrOf result (Fault.Run (RunFault.Damaged n)) → n ≡ number }
+{
     if number >= store.len() {
         return Err(Fault::Run(RunFault::Damaged(number)));
     }
@@ -33,7 +45,9 @@ fn payload_of<'a, S: PageStore>(store: &mut S, number: u32) -> Result<Payload, F
 }
 
 /// What page 0 says; refused as damaged where it is no header.
-pub(crate) fn read_header<'a, S: PageStore>(store: &mut S) -> Result<Header, Fault<'a>> {
+pub(crate) fn read_header<'a, S: PageStore>(store: &mut S) -> Result<Header, Fault<'a>>
+    ensures { (n : ℕ) → IsErrOf result (Fault.Run (RunFault.Damaged n)) → n ≡ 0 }
+{
     let payload = payload_of(store, 0)?;
     match front_of(&payload) {
         Some(front) => Ok(Header {
@@ -42,26 +56,6 @@ pub(crate) fn read_header<'a, S: PageStore>(store: &mut S) -> Result<Header, Fau
         }),
         None => Err(Fault::Run(RunFault::Damaged(0))),
     }
-}
-
-/// The box over the entries of an inner page.
-fn inner_box(inner: &Inner<'_>) -> Box3 {
-    let len = inner.len();
-    let mut bounds = inner.entry(0).bounds;
-    for i in 1..len {
-        bounds = bounds.cover(&inner.entry(i).bounds);
-    }
-    bounds
-}
-
-/// The box over the legs of a leaf.
-fn leaf_box(leaf: &Leaf<'_>) -> Box3 {
-    let len = leaf.len();
-    let mut bounds = Box3::of(&leaf.leg(0));
-    for i in 1..len {
-        bounds = bounds.cover(&Box3::of(&leaf.leg(i)));
-    }
-    bounds
 }
 
 /// Whether the bounds are those of coordinates and moments.
@@ -75,16 +69,12 @@ fn is_in_range(bounds: &Box3) -> bool {
 }
 
 /// The box over the legs below a page of a tree; `None` where it is no page of one, or out of range.
-pub(crate) fn box_below(payload: &Payload) -> Option<Box3> {
-    let bounds = match (tbnode::inner(payload), tbnode::leaf(payload)) {
-        (Some(inner), _) => inner_box(&inner),
-        (None, Some(leaf)) => leaf_box(&leaf),
-        (None, None) => return None,
-    };
-    if is_in_range(&bounds) {
-        Some(bounds)
-    } else {
-        None
+pub(crate) fn box_below(payload: &Payload) -> Option<Box3>
+    ensures { IfSome result (λ bounds. cover_of_node (node_of payload.now) ≡ Some bounds) }
+{
+    match cover_of(payload) {
+        Some(bounds) if is_in_range(&bounds) => Some(bounds),
+        _ => None,
     }
 }
 
@@ -93,7 +83,14 @@ pub(crate) fn box_below(payload: &Payload) -> Option<Box3> {
 pub(crate) fn read_extent<'a, S: PageStore>(
     store: &mut S,
     header: &Header,
-) -> Result<Option<Box3>, Fault<'a>> {
+) -> Result<Option<Box3>, Fault<'a>>
+    ensures said { IfOk result (λ found. IfSome found (λ bounds.
+        IsTrue (S.seen store.old).is_faithful → (payload : Payload)
+        × (stored_payload (S.seen store.old) header.now.root ≡ Some payload)
+        × (cover_of_node (node_of payload) ≡ Some bounds))) }
+    ensures named { (n : ℕ) → IsErrOf result (Fault.Run (RunFault.Damaged n))
+        → n ≡ header.now.root }
+{
     let root = header.root;
     if root == 0 || header.front != FINISHED {
         return Ok(None);

@@ -1,6 +1,11 @@
 //! `mftb run`: a script over the database that a file keeps.
-ghost use Rattle.std.specs.Prelude.{◌≡◌, ◌≢◌, ◌<◌, ◌↔◌, Err, IfOk, IfSome, IsTrue};
+ghost use Rattle.std.specs.Prelude.{◌≡◌, ◌≢◌, ◌<◌, ◌↔◌, Err, IfOk, IfSome, IsTrue, Result};
+ghost use Rattle.pages.specs.Store.{Store};
+ghost use Rattle.register.specs.declared.fault.CatalogueFault.{CatalogueFault};
+ghost use Rattle.sessions.specs.Answers.{RunsOver};
 ghost use Rattle.sessions.specs.declared.fault.Fault.{Fault};
+ghost use Rattle.trajdb.specs.Db.{DbView};
+ghost use Rattle.trajdb.specs.Script.{lines_of};
 ghost use Rattle.trajdb.specs.declared.RunFault.{RunFault};
 ghost use Rattle.mftb.specs.declared.outcome.Outcome.{Outcome};
 
@@ -50,9 +55,13 @@ fn unsaid(said: &Result<(), Fault<'_>>, closed: Result<(), RunFault>) -> Option<
     }
 }
 
-/// Runs the script over a store as it lies there.
+/// Runs the script over a store as it lies there, as `sessions::answer` does.
 fn run_over<'a, S: PageStore + Drop, O: Output>(store: S, work: &Work, out: &mut O) -> Ended<'a>
     requires { 0 < work.now.how.cache_pages }
+    ensures { (opened : Result DbView (S × CatalogueFault))
+        × (closed : Result (Unit {0}) RunFault) × (left : Store)
+        × RunsOver S.seen O.seen opened work.now.files out.old out.new
+        (lines_of work.now.script.items) result.0 closed left }
 {
     let how = work.how;
     let opened = database(how.alloc, how.keys, store, how.is_new, how.cache_pages);

@@ -75,16 +75,6 @@ fn record_words(
     format!(in alloc; "{name} line {line}, record {number}{feature}: {reason} ({code})")
 }
 
-/// Why a file is refused that has no record of the number.
-fn whole_words(alloc: Global, name: &str, bytes: &[u8], code: Code) -> Result<String, AllocError> {
-    let reason = match code {
-        Code::F8 => early_end(alloc, &heads_of(alloc, bytes)?)?,
-        _ => String::from_str(alloc, code.rule())?,
-    };
-    let (name, reason) = (Shown(name), reason.as_str());
-    format!(in alloc; "{name}: {reason} ({code})")
-}
-
 /// Why a file of that name, with those bytes, is refused: the line of the file, the record, the feature where it is
 /// one's, and the reason, with what the store knows.
 pub fn file_words(
@@ -94,8 +84,14 @@ pub fn file_words(
     refusal: Refusal,
     known: &Known,
 ) -> Result<String, AllocError> {
-    match find(alloc, bytes, refusal.number)? {
-        Some(found) => record_words(alloc, name, bytes, refusal, &found, known),
-        None => whole_words(alloc, name, bytes, refusal.code),
+    if let Some(found) = find(alloc, bytes, refusal.number)? {
+        return record_words(alloc, name, bytes, refusal, &found, known);
     }
+    let code = refusal.code;
+    let reason = match code {
+        Code::F8 => early_end(alloc, &heads_of(alloc, bytes)?)?,
+        _ => String::from_str(alloc, code.rule())?,
+    };
+    let (name, reason) = (Shown(name), reason.as_str());
+    format!(in alloc; "{name}: {reason} ({code})")
 }
