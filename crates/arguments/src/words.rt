@@ -357,7 +357,7 @@ fn flag_of(matches: &ArgMatches, name: &str) -> bool
     matches.get_flag(name)
 }
 
-/// A number; another one where it is not there.
+/// A number; another one where there is none.
 fn number_of(matches: &ArgMatches, name: &str, other: u32) -> u32
     ensures { SaysNumber ⟦<u32 as FromStr>⟧.from_str_gives (found_of matches.now) name.now other
         result }

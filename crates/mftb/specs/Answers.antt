@@ -2,7 +2,7 @@
 use Rattle.std.specs.Prelude.{ℕ, List, ◌++◌, codes, decimal}
 use Rattle.trajdb.specs.declared.Report.{Report}
 
--- how many pages, legs and features there are
+-- the line `ok 1`, and the counts of pages, legs and features
 abbrev pub report_text : Report → List ℕ
 report_text report =
     codes "ok 1\n" ++ (decimal report.pages ++ (codes "," ++ (decimal report.legs

@@ -1,11 +1,11 @@
 -- The names of files that the program makes.
 use Rattle.std.specs.Prelude.{ℕ, List, ◌++◌, codes, decimal}
 
--- the copy of a store that a run works on
+-- the name of the copy of a store that a run works on
 abbrev pub copy_name : List ℕ → List ℕ
 copy_name store = store ++ codes ".mftb-copy"
 
--- the file whose lock such a run holds
+-- the name of the file whose lock such a run holds
 abbrev pub lock_name : List ℕ → List ℕ
 lock_name store = store ++ codes ".mftb-lock"
 

@@ -1,6 +1,5 @@
 //! `mftb check`: whether the pages of a file hold one database.
 ghost use Rattle.std.specs.Prelude.{◌≡◌, IfOk, OnOk, Ok};
-ghost use Rattle.std.specs.Io.KnownBytes.{Appends};
 ghost use Rattle.std.specs.String.{string_bytes};
 ghost use Rattle.pages.specs.Store.{Store};
 ghost use Rattle.trajdb.specs.declared.Report.{Report};
@@ -38,11 +37,10 @@ fn check_over<'a, S: PageStore + Drop, O: Output>(
     database: Db<S>,
     out: &mut O,
 ) -> Result<(), Fault<'a>>
-    ensures { OnOk result ((left : Store) × (report : Report)
-        × ChecksAndCloses database left (Ok report)
-        × Appends (O.seen out.old).contents (O.seen out.new).contents (report_text report)) }
+    ensures checks { OnOk result ((left : Store) × (report : Report)
+        × ChecksAndCloses database left (Ok report)) }
 {
-    let (_store, checked) = check_and_close(alloc, database);
+    let (store, checked) = check_and_close(alloc, database);
     let report = match checked {
         Ok(report) => report,
         Err(fault) => return Err(Fault::Run(fault)),

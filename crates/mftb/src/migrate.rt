@@ -40,7 +40,7 @@ fn bring_over<'a, S: PageStore, T: PageStore + Drop, O: Output>(
     ensures said { OnOk result (Appends (O.seen out.old).contents (O.seen out.new).contents
         (codes "ok 0\n")) }
 {
-    let (_new, migrated) = migrate_and_close(alloc, keys, old, new);
+    let (store, migrated) = migrate_and_close(alloc, keys, old, new);
     match migrated {
         Ok(()) => send_all(out, "ok 0\n".as_bytes()),
         Err(fault) => Err(fault),

@@ -165,7 +165,7 @@ fn next_row(reader: &mut Reader<&[u8]>, row: &mut ByteRecord) -> Result<bool, Al
     }
 }
 
-/// A reader of a file's lines, as they stand.
+/// A reader of a file's records, its header lines among them.
 fn reader_of<'a>(alloc: Global, text: &'a [u8]) -> Reader<&'a [u8]> {
     ReaderBuilder::new()
         .has_headers(false)

@@ -160,7 +160,7 @@ fn overlap_of(records: &[Record], number: u64, known: &Known) -> Option<(Ms, Opt
     Some((late.t0, end))
 }
 
-/// The same, of a file's bytes.
+/// The same, of a file's bytes; none where it cannot be read.
 fn overlap_in(alloc: Global, bytes: &[u8], number: u64, known: &Known) -> Option<(Ms, Option<Ms>)> {
     match read_file(alloc, bytes) {
         Ok(file) => overlap_of(file.records.as_slice(), number, known),
