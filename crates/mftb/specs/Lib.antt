@@ -2,4 +2,3 @@ pub mod Answers
 pub mod Bounds
 pub mod Names
 pub mod Reading
-pub mod Running

@@ -1,9 +1,6 @@
 //! `mftb check`: whether the pages of a file hold one database.
-ghost use Rattle.std.specs.Prelude.{◌≡◌, IfOk, OnOk, Ok};
+ghost use Rattle.std.specs.Prelude.{◌≡◌, IfOk};
 ghost use Rattle.std.specs.String.{string_bytes};
-ghost use Rattle.pages.specs.Store.{Store};
-ghost use Rattle.trajdb.specs.declared.Report.{Report};
-ghost use Rattle.sessions.specs.Answers.{ChecksAndCloses};
 ghost use Rattle.mftb.specs.Answers.{report_text};
 
 use crate::names::Names;
@@ -36,11 +33,8 @@ fn check_over<'a, S: PageStore + Drop, O: Output>(
     alloc: Global,
     database: Db<S>,
     out: &mut O,
-) -> Result<(), Fault<'a>>
-    ensures checks { OnOk result ((left : Store) × (report : Report)
-        × ChecksAndCloses database left (Ok report)) }
-{
-    let (store, checked) = check_and_close(alloc, database);
+) -> Result<(), Fault<'a>> {
+    let (_store, checked) = check_and_close(alloc, database);
     let report = match checked {
         Ok(report) => report,
         Err(fault) => return Err(Fault::Run(fault)),

