@@ -1,7 +1,9 @@
 //! `mftb check`: whether the pages of a file hold one database.
-ghost use Rattle.std.specs.Prelude.{◌≡◌, IfOk};
+ghost use Rattle.std.specs.Prelude.{◌≡◌, ◌⊎◌, IfOk};
 ghost use Rattle.std.specs.String.{string_bytes};
+ghost use Rattle.trajdb.specs.Db.{DbView};
 ghost use Rattle.mftb.specs.Answers.{report_text};
+ghost use Rattle.mftb.specs.Running.{IsChecked, IsRefusedUnsent};
 
 use crate::names::Names;
 use crate::opening::{open_asked, sweep};
@@ -33,7 +35,9 @@ fn check_over<'a, S: PageStore + Drop, O: Output>(
     alloc: Global,
     database: Db<S>,
     out: &mut O,
-) -> Result<(), Fault<'a>> {
+) -> Result<(), Fault<'a>>
+    ensures { IsChecked database (O.seen out.old) (O.seen out.new) result }
+{
     let (_store, checked) = check_and_close(alloc, database);
     let report = match checked {
         Ok(report) => report,
@@ -49,7 +53,10 @@ pub(crate) fn check<'a, R: Files<File = File> + AllocGlobal + RandomSource, O: O
     rt: &R,
     check: &Check<'a>,
     out: &mut O,
-) -> Result<(), Fault<'a>> {
+) -> Result<(), Fault<'a>>
+    ensures { IsRefusedUnsent (O.seen out.old) (O.seen out.new) result
+        ⊎ ((db : DbView) × IsChecked db (O.seen out.old) (O.seen out.new) result) }
+{
     let Ok(keys) = RandomState::new(rt) else {
         return Err(Fault::Run(RunFault::Memory));
     };

@@ -3,9 +3,7 @@ ghost use Rattle.std.specs.Prelude.{◌≡◌, ℕ, [], List, IfOk, OnOk, map};
 ghost use Rattle.trajdb.specs.Files.{files_with};
 ghost use Rattle.mftb.specs.Reading.{AreRead};
 
-use querylang::{Command, LineFault, parse_line};
 use sessions::{Cause, Fault, MOST_BYTES, read_named};
-use std::alloc::Global;
 use std::fs::File;
 use std::{fs, rt};
 use trajdb::{Files, RunFault};
@@ -38,26 +36,6 @@ pub(crate) fn read_files<'a, R: rt::Files + AllocGlobal>(
         add_file(rt, &mut files, name)?;
     }
     Ok(files)
-}
-
-/// Whether a line of a script is a `load`.
-fn is_load(alloc: Global, line: &[u8]) -> Result<bool, RunFault> {
-    match parse_line(alloc, line) {
-        Ok(Some(Command::Load(_))) => Ok(true),
-        Ok(_) | Err(LineFault::Refused(_)) => Ok(false),
-        Err(LineFault::Memory) => Err(RunFault::Memory),
-    }
-}
-
-/// Whether some line of a script is a `load`. A CR at a line's end, which a run drops, makes no
-/// other command a `load`.
-pub(crate) fn has_load(alloc: Global, script: &[u8]) -> Result<bool, RunFault> {
-    for line in script.split(|c| *c == b'\n') {
-        if is_load(alloc, line)? {
-            return Ok(true);
-        }
-    }
-    Ok(false)
 }
 
 /// Why the script or a file of that name was not read, as a look at it tells now.

@@ -1,7 +1,10 @@
 //! `mftb run`: a script over the database that a file keeps.
-ghost use Rattle.std.specs.Prelude.{◌≡◌, ◌≢◌, ◌<◌, ◌↔◌, Err, IfOk, IfSome, IsTrue};
+ghost use Rattle.std.specs.Prelude.{◌≡◌, ◌≢◌, ◌<◌, ◌↔◌, [], Err, IfOk, IfSome, IsTrue, OnErr, OnOk, map};
 ghost use Rattle.sessions.specs.declared.fault.Fault.{Fault};
+ghost use Rattle.trajdb.specs.Script.{lines_of};
 ghost use Rattle.trajdb.specs.declared.RunFault.{RunFault};
+ghost use Rattle.mftb.specs.Reading.{AreRead};
+ghost use Rattle.mftb.specs.Running.{IsRun, IsRunBy};
 ghost use Rattle.mftb.specs.declared.outcome.Outcome.{Outcome};
 
 use crate::locks::hold_name;
@@ -9,7 +12,7 @@ use crate::names::Names;
 use crate::opening::{is_absent, is_special, open_asked, open_in_place, sweep};
 use crate::outcome::Outcome;
 use crate::reach::{Reach, reach_of};
-use crate::reading::{has_load, read_files};
+use crate::reading::read_files;
 use crate::system_folder::SystemFolder;
 use crate::telling::{Given, tell, tell_made};
 use arguments::{Run, Telling};
@@ -22,7 +25,7 @@ use std::hash::RandomState;
 use std::io::Eprint;
 use std::random::RandomSource;
 use std::{fs, rt};
-use trajdb::{Files, RunFault};
+use trajdb::{Files, RunFault, has_load};
 
 /// What a run works on.
 #[derive(Drop)]
@@ -53,6 +56,8 @@ fn unsaid(said: &Result<(), Fault<'_>>, closed: Result<(), RunFault>) -> Option<
 /// Runs the script over a store as it lies there, as `sessions::answer` does.
 fn run_over<'a, S: PageStore + Drop, O: Output>(store: S, work: &Work, out: &mut O) -> Ended<'a>
     requires { 0 < work.now.how.cache_pages }
+    ensures { IsRun work.now.files (lines_of work.now.script.items) (O.seen out.old)
+        (O.seen out.new) result.0 }
 {
     let how = work.how;
     let opened = database(how.alloc, how.keys, store, how.is_new, how.cache_pages);
@@ -69,6 +74,8 @@ fn ask<'a, R: rt::Files<File = File> + rt::Clock + Eprint, O: Output>(
     out: &mut O,
 ) -> Ended<'a>
     requires { 0 < work.now.how.cache_pages }
+    ensures { IsRun work.now.files (lines_of work.now.script.items) (O.seen out.old)
+        (O.seen out.new) result.0 }
 {
     sweep(rt, &work.names);
     match open_asked(rt, &work.names) {
@@ -86,6 +93,8 @@ fn run_in_place<'a, R: rt::Files<File = File> + rt::Clock + Eprint, O: Output>(
     out: &mut O,
 ) -> Ended<'a>
     requires { 0 < work.now.how.cache_pages }
+    ensures { IsRun work.now.files (lines_of work.now.script.items) (O.seen out.old)
+        (O.seen out.new) result.0 }
 {
     let names = &work.names;
     let lock = match hold_name(rt, names.lock.as_str()) {
@@ -113,6 +122,8 @@ fn run_beside<'a, R: rt::Files<File = File> + rt::Clock + Eprint, O: Output>(
     out: &mut O,
 ) -> Result<(), Fault<'a>>
     requires { 0 < work.now.how.cache_pages }
+    ensures { IsRun work.now.files (lines_of work.now.script.items) (O.seen out.old)
+        (O.seen out.new) result }
 {
     let mut folder = SystemFolder::take(rt, &work.names, progress)?;
     let result = run_on_copy(&mut folder, work.how, &work.script, &work.files, out);
@@ -140,6 +151,8 @@ fn run_as_asked<'a, R: rt::Files<File = File> + rt::Clock + Eprint, O: Output>(
     out: &mut O,
 ) -> Ended<'a>
     requires { 0 < work.now.how.cache_pages }
+    ensures { IsRun work.now.files (lines_of work.now.script.items) (O.seen out.old)
+        (O.seen out.new) result.0 }
 {
     let how = work.how;
     let loads = match has_load(how.alloc, &work.script) {
@@ -165,7 +178,9 @@ fn read_work<'a, R: rt::Files<File = File> + AllocGlobal + RandomSource>(
     rt: &R,
     run: &Run<'a>,
 ) -> Result<Work, Fault<'a>>
-    ensures { IfOk result (λ work. 0 < work.how.cache_pages) }
+    ensures some { IfOk result (λ work. 0 < work.how.cache_pages) }
+    ensures files { IfOk result (λ work. AreRead [] (map (λ n. n.now) run.now.files.items)
+        work.files) }
 {
     let script = read_named(rt, run.script, MOST_BYTES)?;
     let files = read_files(rt, &run.files)?;
@@ -197,7 +212,9 @@ fn told<'a, R: rt::Files<File = File> + Eprint + AllocGlobal + RandomSource>(
     work: &Work,
     notes: &Notes,
     ended: Result<(), Fault<'a>>,
-) -> Result<Outcome, Fault<'a>> {
+) -> Result<Outcome, Fault<'a>>
+    ensures { OnOk result (OnErr ended.entry ⊥) }
+{
     let given = Given {
         name: run.script,
         script: &work.script,
@@ -210,13 +227,19 @@ fn told<'a, R: rt::Files<File = File> + Eprint + AllocGlobal + RandomSource>(
     }
 }
 
-/// Reads all that is named, opens the store, and then runs the script.
+/// Reads all that is named, opens the store, and then runs the script. The output is given back.
 pub(crate) fn run<
     'a,
     R: rt::Files<File = File> + rt::Clock + Eprint + AllocGlobal + RandomSource,
-    O: Output,
->(rt: &R, run: &Run<'a>, out: &mut O, is_terminal: bool) -> Result<Outcome, Fault<'a>> {
-    let work = read_work(rt, run)?;
+    O: Output + Drop,
+>(rt: &R, run: &Run<'a>, out: O, is_terminal: bool) -> (O, Result<Outcome, Fault<'a>>)
+    ensures { IsRunBy (map (λ n. n.now) run.now.files.items) (O.seen out) (O.seen result.0)
+        result.1 }
+{
+    let work = match read_work(rt, run) {
+        Ok(work) => work,
+        Err(fault) => return (out, Err(fault)),
+    };
     let how = work.how;
     let is_shown = is_terminal && run.telling != Telling::Never;
     let progress = Progress::new(rt, Told::new(run.progress, is_shown), &work.script);
@@ -229,8 +252,10 @@ pub(crate) fn run<
         let fault = work.names.caused(Fault::Run(fault));
         let _ = eprintln!(rt; "mftb: {fault}");
     }
-    if ended.is_ok() && is_told && how.is_new && !has_load(how.alloc, &work.script)? {
+    let is_made = ended.is_ok() && is_told && how.is_new;
+    if is_made && has_load(how.alloc, &work.script) == Ok(false) {
         tell_made(rt, run.store);
     }
-    told(rt, run, &work, out.notes(), ended)
+    let (out, notes) = out.into_parts();
+    (out, told(rt, run, &work, &notes, ended))
 }

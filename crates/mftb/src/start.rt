@@ -33,16 +33,19 @@ fn done<'a>(ended: Result<(), Fault<'a>>) -> Result<Outcome, Fault<'a>> {
 fn perform<
     'a,
     R: rt::Files<File = File> + rt::Clock + Eprint + AllocGlobal + RandomSource,
-    O: Output,
->(rt: &R, task: &Task<'a>, out: &mut O, is_terminal: bool) -> Result<Outcome, Fault<'a>> {
+    O: Output + Drop,
+>(rt: &R, task: &Task<'a>, mut out: O, is_terminal: bool) -> Result<Outcome, Fault<'a>> {
     match task {
-        Task::Run(task) => run(rt, task, out, is_terminal),
-        Task::Check(task) => done(check(rt, task, out)),
-        Task::Migrate(task) => done(migrate(rt, task, out)),
-        Task::Part(task) => done(print_part(rt, task, out)),
+        Task::Run(task) => {
+            let (_out, ended) = run(rt, task, out, is_terminal);
+            ended
+        }
+        Task::Check(task) => done(check(rt, task, &mut out)),
+        Task::Migrate(task) => done(migrate(rt, task, &mut out)),
+        Task::Part(task) => done(print_part(rt, task, &mut out)),
         Task::Parts(task) => done(write_parts(rt, task)),
-        Task::Moments(task) => done(print_moments(rt, task, out)),
-        Task::Info(task) => done(print_info(rt, task, out)),
+        Task::Moments(task) => done(print_moments(rt, task, &mut out)),
+        Task::Info(task) => done(print_info(rt, task, &mut out)),
     }
 }
 
@@ -91,8 +94,7 @@ fn answer_task<
     ensures strict { result ≡ 3 → Any (λ w. string_bytes w ≡ codes "--strict") words.now }
 {
     let before = Before::new(rt, task, is_terminal);
-    let mut output = CountedOutput::new(out);
-    match perform(rt, task, &mut output, is_terminal) {
+    match perform(rt, task, CountedOutput::new(out), is_terminal) {
         Ok(Outcome::Refused) if has_strict(words) => 3,
         Ok(_) => 0,
         Err(fault) => {

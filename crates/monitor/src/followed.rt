@@ -7,23 +7,18 @@ use outputs::{Output, OutputFault};
 use std::io::Eprint;
 use std::rt::Clock;
 
-/// An output whose answers are followed: it takes what the one below takes. All of an answer is sent at once.
+/// An output whose answers are followed: it takes what the one inside takes. All of an answer is sent at once.
 #[derive(Drop)]
-pub struct Followed<'a, 'b, O: Output, R: Clock + Eprint> {
-    out: &'a mut O,
+pub struct Followed<'a, 'b, O: Output + Drop, R: Clock + Eprint> {
+    out: O,
     progress: &'a Progress<'b, R>,
     notes: Notes,
 }
 
-impl<'a, 'b, O: Output, R: Clock + Eprint> Followed<'a, 'b, O, R> {
-    /// The output over that one.
-    pub fn new(
-        out: &'a mut O,
-        progress: &'a Progress<'b, R>,
-        notes: Notes,
-    ) -> Followed<'a, 'b, O, R>
-        ensures same_reference { result.out.ghost_name ≡ out.entry.ghost_name }
-        ensures seen { ⟦<Followed<'a, 'b, O, R> as Output>⟧.seen result ≡ O.seen out.old }
+impl<'a, 'b, O: Output + Drop, R: Clock + Eprint> Followed<'a, 'b, O, R> {
+    /// That output, followed.
+    pub fn new(out: O, progress: &'a Progress<'b, R>, notes: Notes) -> Followed<'a, 'b, O, R>
+        ensures { ⟦<Followed<'a, 'b, O, R> as Output>⟧.seen result ≡ O.seen out }
     {
         Followed {
             out,
@@ -32,9 +27,11 @@ impl<'a, 'b, O: Output, R: Clock + Eprint> Followed<'a, 'b, O, R> {
         }
     }
 
-    /// What is noted of the answers.
-    pub fn notes(&self) -> &Notes {
-        &self.notes
+    /// The output, and what is noted of the answers.
+    pub fn into_parts(self) -> (O, Notes)
+        ensures { O.seen result.0 ≡ ⟦<Followed<'a, 'b, O, R> as Output>⟧.seen self.entry }
+    {
+        (self.out, self.notes)
     }
 
     /// An answer was taken.
@@ -47,8 +44,8 @@ impl<'a, 'b, O: Output, R: Clock + Eprint> Followed<'a, 'b, O, R> {
     }
 }
 
-impl<'a, 'b, O: Output, R: Clock + Eprint> Output for Followed<'a, 'b, O, R> {
-    ghost seen = { λ s. O.seen s.out.now };
+impl<'a, 'b, O: Output + Drop, R: Clock + Eprint> Output for Followed<'a, 'b, O, R> {
+    ghost seen = { λ s. O.seen s.out };
 
     fn send(&mut self, bytes: &[u8]) -> Result<(), OutputFault> {
         if bytes.is_empty() {

@@ -1,5 +1,5 @@
 -- Why calls stopped.
-use Rattle.std.proofs.Common.{ℕ, zero, suc, ◌-◌, ◌+◌, ◌≤◌, ◌≡◌, ◌∙◌, refl, arith, List, Option, Some, None, All, false, Bool, [], ◌∷◌, eqb, inl, inr, length, ◌<◌, ⊎_elim, subst, sym}
+use Rattle.std.proofs.Common.{ℕ, zero, suc, ◌-◌, ◌+◌, ◌≤◌, ◌≡◌, ◌∙◌, refl, arith, List, Option, Some, None, All, Bool, [], ◌∷◌, eqb, inl, inr, length, ◌<◌, ⊎_elim, subst, sym}
 use Rattle.std.specs.Prelude.{filter}
 use Rattle.legs.specs.Legs.{LegView}
 use Rattle.legs.specs.Book.{Book}
@@ -7,10 +7,7 @@ use Rattle.legs.specs.Law.{IsThere}
 use Rattle.std.proofs.lemmas.List.FromFn.{sum_by-map-range_with_len_more, get_or-range_with_len, length-range_with_len}
 use Rattle.std.proofs.lemmas.List.Elements.{All-filter, All-nil, All-cons, All-head, All-tail}
 use Rattle.legs.proofs.GrowLemmas.{leaves-refl as index_leaves-refl, leaves-trans as index_leaves-trans}
-use Rattle.legs.specs.Index.{HasRisen, MayRefuse}
 use Rattle.legs.specs.declared.listed.Listed.{Ghosts}
-use Rattle.legs.specs.declared.index.IndexFault.{IndexFault}
-use Rattle.legs.specs.declared.index.IndexFault.TheVariants as index
 use Rattle.legs.specs.Tracks.{IsOver, TracksView}
 use Rattle.legs.specs.Asking.{AsksChain, placed_legs, Leaves as IndexLeaves, Recalls}
 use Rattle.legs.specs.Finding.{Finding}
@@ -22,9 +19,8 @@ use Rattle.timebase.specs.Period.{PeriodView}
 use Rattle.legs.specs.Costs.{ShapeView, known_bound}
 use Rattle.trajdb.specs.Answers.{track_of}
 use Rattle.trajdb.specs.Picks.{Picks}
-use Rattle.trajdb.specs.Faults.{run_fault_of}
 use Rattle.trajdb.specs.Database.{CoreView, IsSound}
-use Rattle.trajdb.specs.Calls.{AsksChains, AsksTrack, full_leaves, IsLater, LeavesBook, feature_bound, features_bound, IsText, IsRefused, IsStopped, IsRunStop, KnowsOf, known_features_bound}
+use Rattle.trajdb.specs.Calls.{AsksChains, AsksTrack, full_leaves, IsLater, LeavesBook, feature_bound, features_bound, IsText, IsRefused, KnowsOf, known_features_bound}
 
 -- a text that was not made, of what is there
 pub text_refused : {I : Type 0} (g : Ghosts I) (old new : CoreView I) (P : Type 0) (fault : RunFault) → IsText P fault → (IsSound g old → P) → IsRefused g old new fault

@@ -1,16 +1,12 @@
 -- Named files, and the names of records.
-use Rattle.std.proofs.Common.{ℕ, ◌≡◌, ◌∙◌, ◌++◌, ◌∷◌, [], List, map, ap, refl, Bool, true, false, cond, ◌||◌, Option, Some, None, inl, inr, String, Global, Vec}
+use Rattle.std.proofs.Common.{ℕ, ◌≡◌, ◌++◌, ◌∷◌, [], List, map, ap, refl, Bool, true, false, cond, Option, Some, None, inl, inr, String, Global, Vec}
 use Rattle.std.specs.Prelude.{bytes_eq, is_some}
 use Rattle.std.specs.Option.{option_map}
-use Rattle.std.specs.List.{list_any}
 use Rattle.std.specs.Map.{lookup}
 use Rattle.std.specs.String.{string_bytes, string_eq}
 use Rattle.std.proofs.lemmas.Bool.{cases_Bool}
-use Rattle.std.proofs.lemmas.List.{map-append}
 use Rattle.indexmap.specs.IndexMap.{insert_entry}
-use Rattle.legs.specs.Book.{names_with}
 use Rattle.trajdb.specs.Files.{file_named, files_with}
-use denote.Ref.{Bor}
 
 -- a file as contracts see it
 abbrev pub seen : String Global × Vec ℕ Global → List ℕ × List ℕ

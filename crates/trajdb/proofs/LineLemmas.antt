@@ -1,7 +1,8 @@
 -- The first line of a text, and those behind it.
-use Rattle.std.proofs.Common.{ℕ, suc, ◌+◌, ◌<◌, ◌≡◌, ◌∙◌, ◌∷◌, [], ap, sym, refl, List, length, take, drop, Bool, true, false, cond, arith, inl, inr, ◌⊎◌}
+use Rattle.std.proofs.Common.{ℕ, zero, suc, ◌+◌, ◌<◌, ◌≡◌, ◌∙◌, ◌∷◌, [], ap, sym, refl, List, length, map, take, drop, Bool, true, false, cond, arith, inl, inr, ◌⊎◌}
 use Rattle.std.specs.List.{position_or_len, before_first, after_first}
-use Rattle.trajdb.specs.Script.{pieces_of, onto_first, is_line_end}
+use Rattle.trajdb.specs.Calls.{HasLoad, IsLoadLine}
+use Rattle.trajdb.specs.Script.{lines_of, pieces_of, onto_first, is_line_end, without_return}
 
 cases_bool : (b : Bool) → (b ≡ true) ⊎ (b ≡ false)
 cases_bool true = inl refl
@@ -37,3 +38,24 @@ lines_first c (d ∷ ds) =
 pub lines_cut : (text line rest : List ℕ) → 0 < length text → line ≡ before_first is_line_end text → rest ≡ after_first is_line_end text → pieces_of text ≡ line ∷ pieces_of rest
 lines_cut [] line rest h e f = absurd (omega arith)
 lines_cut (c ∷ cs) line rest h e f = lines_first c cs ∙ ap (λ l. l ∷ pieces_of (after_first is_line_end (c ∷ cs))) (sym e) ∙ ap (λ r. line ∷ pieces_of r) (sym f)
+
+-- no line of no text is a `load`
+pub no_load : (script : List ℕ) → length script ≡ 0 → HasLoad (lines_of script) → ⊥
+unfolding pieces_of
+no_load [] e (k, within, loads) = absurd (omega arith)
+no_load (c ∷ cs) e loads = absurd (omega arith)
+
+-- some line is a `load`, if the first one is, or one of the others
+pub load_first : (line : List ℕ) (lines : List (List ℕ)) → IsLoadLine line → HasLoad (line ∷ lines)
+load_first line lines is = (0, omega arith, is)
+
+pub load_later : (line : List ℕ) (lines : List (List ℕ)) → HasLoad lines → HasLoad (line ∷ lines)
+load_later line lines (k, within, is) = (suc k, omega arith, is)
+
+pub load_behind : (line : List ℕ) (lines : List (List ℕ)) → (IsLoadLine line → ⊥) → HasLoad (line ∷ lines) → HasLoad lines
+load_behind line lines none (zero, within, is) = absurd (none is)
+load_behind line lines none (suc k, within, is) = (k, omega arith, is)
+
+-- the lines of a text, by its first piece
+pub lines_behind : (text piece others : List ℕ) → pieces_of text ≡ piece ∷ pieces_of others → lines_of text ≡ without_return piece ∷ lines_of others
+lines_behind text piece others e = ap (map without_return) e

@@ -183,6 +183,14 @@ LoadsIn files (Err code) = ⊥
 unfoldable pub LoadsBy : List (List ℕ × List ℕ) → List ℕ → Type 0
 LoadsBy files line = LoadsIn files (line_of line)
 
+-- the line is a `load`, be its file there or not
+abbrev pub IsLoadLine : List ℕ → Type 0
+IsLoadLine line = (name : List ℕ) × (line_of line ≡ Ok (Some (Load name)))
+
+-- so is some line
+abbrev pub HasLoad : List (List ℕ) → Type 0
+HasLoad lines = (k : ℕ) × (k < length lines) × IsLoadLine (slice_index_or lines k [])
+
 -- the text of a file has no fault
 abbrev pub IsWholeFile : List ℕ → Type 0
 IsWholeFile bytes = (file : File) × (file_of_bytes bytes ≡ Ok file)

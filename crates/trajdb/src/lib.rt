@@ -23,6 +23,7 @@ pub use db::Db;
 pub use files::Files;
 use legs::{IndexFault, JoinCode};
 use mfcsv::Code;
+pub use script::has_load;
 pub use start::Start;
 use std::alloc::{AllocError, AllocFailed};
 use std::fmt;

@@ -1,7 +1,13 @@
 //! The lines of a script.
-ghost use Rattle.std.specs.Prelude.{◌≡◌, ◌<◌, ◌∷◌, length, position};
+ghost use Rattle.std.specs.Prelude.{◌≡◌, ◌<◌, ◌∷◌, ◌↔◌, length, position, IfErr, IfOk, IsTrue};
 ghost use Rattle.std.specs.List.{before_first, after_first};
-ghost use Rattle.trajdb.specs.Script.{is_line_end, pieces_of, without_return};
+ghost use Rattle.trajdb.specs.Calls.{HasLoad, IsLoadLine};
+ghost use Rattle.trajdb.specs.Script.{is_line_end, lines_of, pieces_of, without_return};
+ghost use Rattle.trajdb.specs.declared.RunFault.{RunFault};
+
+use crate::RunFault;
+use querylang::{Command, LineFault, parse_line};
+use std::alloc::Global;
 
 fn line_end(text: &[u8]) -> Option<usize>
     ensures { result ≡ position is_line_end text.now }
@@ -41,4 +47,34 @@ pub(crate) fn without_return(piece: &[u8]) -> &[u8]
     } else {
         piece
     }
+}
+
+/// Whether a line is a `load`.
+fn is_load(alloc: Global, line: &[u8]) -> Result<bool, RunFault>
+    ensures load { IfOk result (λ loads. IsTrue loads ↔ IsLoadLine line.now) }
+    ensures memory { IfErr result (λ fault. fault ≡ RunFault.Memory) }
+{
+    match parse_line(alloc, line) {
+        Ok(Some(Command::Load(_))) => Ok(true),
+        Ok(_) => Ok(false),
+        Err(LineFault::Refused(_)) => Ok(false),
+        Err(LineFault::Memory) => Err(RunFault::Memory),
+    }
+}
+
+/// Whether some line of a script is a `load`, be its file there or not: a script without one only asks. Refused where
+/// memory ran out.
+pub fn has_load(alloc: Global, script: &[u8]) -> Result<bool, RunFault>
+    ensures load { IfOk result (λ loads. IsTrue loads ↔ HasLoad (lines_of script.now)) }
+    ensures memory { IfErr result (λ fault. fault ≡ RunFault.Memory) }
+{
+    let mut rest = script;
+    while !rest.is_empty() {
+        let (piece, others) = first_piece(rest);
+        if is_load(alloc, without_return(piece))? {
+            return Ok(true);
+        }
+        rest = others;
+    }
+    Ok(false)
 }

@@ -1,4 +1,4 @@
-use Rattle.std.proofs.Common.{rules, ◌≡◌, sym, ◌∙◌}
+use Rattle.std.proofs.Common.{rules, sym, ◌∙◌}
 use Rattle.mftb.proofs.start.has_strict.Goals as goal
 
 pub returns-then-is_strict : goal.returns-then-is_strict

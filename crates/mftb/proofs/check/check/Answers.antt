@@ -1,0 +1,5 @@
+use Rattle.std.proofs.Common.{inr}
+use Rattle.mftb.proofs.check.check.Goals as goal
+
+pub returns : goal.returns
+returns g c = inr (c.in-Ok-open.database, c.check_over.ensures)

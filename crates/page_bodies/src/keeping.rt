@@ -1,0 +1,27 @@
+//! How a catalogue is kept in pages.
+ghost use Rattle.std.specs.Prelude.{◌≡◌, ◌<◌, false, IsTrue, OnOk};
+ghost use Rattle.pagecache.specs.Cache.{is_changed, page_of, payload_of};
+ghost use Rattle.register.specs.Lasting.{Says};
+
+use pagecache::PageCache;
+use pages::PageStore;
+use register::{Catalogue, CatalogueFault};
+use std::alloc::Global;
+use tbtree::{Place, TbTree};
+
+/// Keeps a catalogue in pages: its text, and page 0, which is not written yet.
+pub fn keep<S: PageStore>(
+    alloc: Global,
+    catalogue: &Catalogue,
+    tree: TbTree,
+    places: &[Place],
+    cache: &mut PageCache<S>,
+) -> Result<(), CatalogueFault>
+    ensures saved { OnOk result (IsTrue cache.old.store.is_faithful
+        → Says (payload_of cache.new) cache.new.count catalogue.now tree places.now) }
+    ensures first_written { IsTrue cache.old.store.is_faithful → 0 < cache.old.count
+        → is_changed cache.old 0 ≡ false
+        → page_of cache.new 0 ≡ page_of cache.old 0 }
+{
+    register::keep(alloc, catalogue, tree, places, cache)
+}

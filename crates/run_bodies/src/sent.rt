@@ -1,0 +1,45 @@
+//! What is sent besides a script's answers.
+ghost use Rattle.std.specs.Prelude.{◌<◌, All, length, OnOk};
+ghost use Rattle.std.specs.Io.KnownBytes.{Appends};
+ghost use Rattle.outputs.specs.Output.{IsFlushed};
+
+use moments::Dwell;
+use monitor::Followed;
+use outputs::{Output, OutputFault};
+use pages::PageStore;
+use sessions::Fault;
+use std::alloc::Global;
+use std::io::Eprint;
+use std::rt::Clock;
+use trajdb::{Db, RunFault};
+
+/// An answer that is followed.
+pub fn send<O: Output + Drop, R: Clock + Eprint>(
+    out: &mut Followed<'_, '_, O, R>,
+    bytes: &[u8],
+) -> Result<(), OutputFault>
+    ensures { OnOk result (Appends (O.seen out.old.out).contents
+        (O.seen out.new.out).contents bytes.now) }
+{
+    out.send(bytes)
+}
+
+/// All of some bytes, passed on.
+pub fn send_all<'a, O: Output>(out: &mut O, bytes: &[u8]) -> Result<(), Fault<'a>>
+    ensures { OnOk result (IsFlushed (O.seen out.old) (O.seen out.new)) }
+{
+    sessions::send_all(out, bytes)
+}
+
+/// A record for each feature that stays.
+pub fn push_dwells<S: PageStore>(
+    alloc: Global,
+    text: &mut Vec<u8>,
+    database: &Db<S>,
+    dwells: &[Dwell],
+) -> Result<(), RunFault>
+    ensures { OnOk result
+        (All (λ dwell. dwell.feature < length database.now.book.names) dwells.now) }
+{
+    reports::push_dwells(alloc, text, database, dwells)
+}
