@@ -9,7 +9,7 @@ use Rattle.trajdb.specs.Db.{DbView}
 use Rattle.trajdb.specs.Promises.{RunCall}
 use Rattle.trajdb.specs.declared.RunFault.{RunFault}
 use Rattle.sessions.specs.Answers.{RunsAndCloses, RunsOver}
-use Rattle.sessions.specs.Folder.{History, IsRefusedByFolder, IsRefusedEarly, NameIsKept, RunsOnCopy}
+use Rattle.sessions.specs.Folder.{History, IsOfFolder, IsRefusedByFolder, IsRefusedEarly, NameIsKept, RunsOnCopy}
 use Rattle.sessions.specs.declared.fault.Fault.{Fault}
 use Rattle.mftb.specs.Running.{IsRefusedUnsent, IsRun, RunsSome}
 
@@ -49,7 +49,7 @@ module _ {O : Type 0} (shown : O → OutputView) (files : List (List ℕ × List
   -- a database over a store of some kind was run over
   pub runs_some : {S : Type 0} (seen : S → Store) (opened : Result DbView (S × CatalogueFault)) (answered : Result (Unit {0}) Fault) (closed : Result (Unit {0}) RunFault) (store : Store)
       (result : Result (Unit {0}) Fault) → RunsOver seen shown opened files out out' lines answered closed store
-      → ((answered ≡ result) ⊎ ((answered ≡ Ok tt) × OnOk result ⊥)) → RunsSome files lines (shown out) (shown out') result
+      → ((answered ≡ result) ⊎ ((answered ≡ Ok tt) × OnOk result ⊥ × IfErr result IsOfFolder)) → RunsSome files lines (shown out) (shown out') result
   runs_some seen (Ok db) answered closed store result (ran, said, over) answers = record {
     opened = Ok db;
     answered = answered;
@@ -67,12 +67,13 @@ module _ {O : Type 0} (shown : O → OutputView) (files : List (List ℕ × List
     answers = answers;
   }
 
--- what was answered of a run is what is answered of it and its copy, or that was well, and this is refused
-answers_of : (N : Type 0) (F : Fault → Type 0) (answered result : Result (Unit {0}) Fault) → OnOk result ((answered ≡ Ok tt) × N)
-    → IfErr result (λ fault. (answered ≡ Err fault) ⊎ ((answered ≡ Ok tt) × F fault)) → (answered ≡ result) ⊎ ((answered ≡ Ok tt) × OnOk result ⊥)
-answers_of N F answered (Ok tt) kept refused = inl kept.0
-answers_of N F answered (Err fault) kept (inl is) = inl is
-answers_of N F answered (Err fault) kept (inr (is, why)) = inr (is, tt)
+-- what was answered of a run is what is answered of it and its copy, or that was well, and the folder refuses this
+answers_of : (N : Type 0) (before after : ℕ) (last : Option Fault) (answered result : Result (Unit {0}) Fault) → OnOk result ((answered ≡ Ok tt) × N)
+    → IfErr result (λ fault. (answered ≡ Err fault) ⊎ ((answered ≡ Ok tt) × IsRefusedByFolder before after last fault))
+    → (answered ≡ result) ⊎ ((answered ≡ Ok tt) × OnOk result ⊥ × IfErr result IsOfFolder)
+answers_of N before after last answered (Ok tt) kept refused = inl kept.0
+answers_of N before after last answered (Err fault) kept (inl is) = inl is
+answers_of N before after last answered (Err fault) kept (inr (is, why)) = inr (is, tt, why.0)
 
 unsent : {O : Type 0} (shown : O → OutputView) (out out' : O) (before after : ℕ) (last : Option Fault) (result : Result (Unit {0}) Fault)
     → IsRefusedEarly before after last result → shown out' ≡ shown out → IsRefusedUnsent (shown out) (shown out') result
@@ -85,4 +86,4 @@ pub run_beside : {S O : Type 0} (seen : S → Store) (shown : O → OutputView) 
     → IsRun files lines (shown out) (shown out') result
 run_beside seen shown is_new cache_pages before after last old new files out out' lines result (inl (early, same)) = inl (unsent shown out out' before after last result early same)
 run_beside seen shown is_new cache_pages before after last old new files out out' lines result (inr r) =
-    inr (runs_some shown files out out' lines seen r.opened r.answered r.closed r.store result r.run (answers_of (NameIsKept r.store old new) (λ fault. IsRefusedByFolder before after last fault) r.answered result r.kept r.refused))
+    inr (runs_some shown files out out' lines seen r.opened r.answered r.closed r.store result r.run (answers_of (NameIsKept r.store old new) before after last r.answered result r.kept r.refused))

@@ -1,5 +1,5 @@
 //! `mftb run`: a script over the database that a file keeps.
-ghost use Rattle.std.specs.Prelude.{◌≡◌, ◌≢◌, ◌<◌, ◌↔◌, [], Err, IfOk, IfSome, IsTrue, OnErr, OnOk, map};
+ghost use Rattle.std.specs.Prelude.{◌≡◌, ◌≢◌, ◌<◌, ◌↔◌, [], Err, IfOk, IfSome, IsTrue, OnErr, OnOk, false, map, max, true};
 ghost use Rattle.sessions.specs.declared.fault.Fault.{Fault};
 ghost use Rattle.trajdb.specs.Script.{lines_of};
 ghost use Rattle.trajdb.specs.declared.RunFault.{RunFault};
@@ -179,6 +179,10 @@ fn read_work<'a, R: rt::Files<File = File> + AllocGlobal + RandomSource>(
     run: &Run<'a>,
 ) -> Result<Work, Fault<'a>>
     ensures some { IfOk result (λ work. 0 < work.how.cache_pages) }
+    ensures cache_pages { IfOk result (λ work. work.how.cache_pages
+        ≡ max run.now.cache_pages 1) }
+    ensures existing { IfOk result (λ work. run.now.is_existing ≡ true
+        → work.how.is_new ≡ false) }
     ensures files { IfOk result (λ work. AreRead [] (map (λ n. n.now) run.now.files.items)
         work.files) }
 {
@@ -213,7 +217,8 @@ fn told<'a, R: rt::Files<File = File> + Eprint + AllocGlobal + RandomSource>(
     notes: &Notes,
     ended: Result<(), Fault<'a>>,
 ) -> Result<Outcome, Fault<'a>>
-    ensures { OnOk result (OnErr ended.entry ⊥) }
+    ensures well { OnOk result (OnErr ended.entry ⊥) }
+    ensures refused { OnErr result (OnOk ended.entry ⊥) }
 {
     let given = Given {
         name: run.script,

@@ -11,4 +11,4 @@ returns g c =
     let ran = c.run_as_asked-unsaid in
     let before = subst (λ (v : OutputView). IsRun work.files lines v (g.O.Output.seen ran.new.out.out) ran.result.0) c.new-out.ensures ran.ensures in
     let after = subst (λ (v : OutputView). IsRun work.files lines (g.O.Output.seen c.args.out) v ran.result.0) (sym c.into_parts-out.ensures) before in
-    inr (work.files, lines, ran.result.0, c.in-Ok.ensures.files, after, c.told.ensures)
+    inr (work.files, lines, ran.result.0, c.in-Ok.ensures.files, after, c.told.ensures.well, c.told.ensures.refused)
