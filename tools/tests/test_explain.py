@@ -195,7 +195,7 @@ class Explained(Case):
                 out, said = self.ask(script, store=f"store{number}")
                 self.assertEqual(out, f"refused {code}\n")
                 made = f"mftb: there was no store store{number}: an empty one was made\n"
-                if not line.startswith(b"load"):
+                if not line.startswith(b"load "):
                     self.assertTrue(said.startswith(made), said)
                     said = said[len(made) :]
                 self.assertEqual(said, f"mftb: script.txt line 3: {words}\n")
