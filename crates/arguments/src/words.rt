@@ -1,13 +1,15 @@
 //! The words of the command line.
-ghost use Rattle.std.specs.Prelude.{◌≡◌, ◌∷◌, [], IfOk, codes, map};
+ghost use Rattle.std.specs.Prelude.{◌≡◌, IfOk, map};
 ghost use Rattle.clap.specs.Words.{found_of};
-ghost use Rattle.arguments.specs.Words.{word, words, SaysFlag, SaysNumber, SaysTelling};
+ghost use Rattle.arguments.specs.Tasks.{IsAsked, SaysCheck, SaysInfo, SaysMigrate, SaysMoments, SaysPart, SaysParts, SaysRows, SaysRun, SaysTask};
+ghost use Rattle.arguments.specs.Words.{word, SaysFlag, SaysNumber, SaysTelling};
 
 use crate::task::{
     Bounds, Check, Info, Migrate, Moments, Part, Parts, RowKind, Run, Task, Telling,
 };
 use clap::{Arg, ArgAction, ArgMatches, Command, Error, value_parser};
 use std::alloc::{AllocError, Global};
+use std::convert::AsStr;
 use std::str::FromStr;
 
 /// How many pages a cache holds where no word says it.
@@ -380,19 +382,7 @@ fn telling_of(matches: &ArgMatches) -> Telling
 
 /// What `mftb run` is asked to do.
 fn run_of<'a>(alloc: Global, matches: &ArgMatches<'a>) -> Result<Run<'a>, Error>
-    ensures store { IfOk result
-        (λ run. run.store.now ≡ word (found_of matches.now) (codes "STORE")) }
-    ensures script { IfOk result
-        (λ run. run.script.now ≡ word (found_of matches.now) (codes "SCRIPT")) }
-    ensures files { IfOk result (λ run. map (λ name. name.now) run.files.items
-        ≡ words (found_of matches.now) (codes "FILES")) }
-    ensures in_place { IfOk result
-        (λ run. SaysFlag (found_of matches.now) (codes "in-place") run.in_place) }
-    ensures strict { IfOk result
-        (λ run. SaysFlag (found_of matches.now) (codes "strict") run.is_strict) }
-    ensures existing { IfOk result
-        (λ run. SaysFlag (found_of matches.now) (codes "existing") run.is_existing) }
-    ensures telling { IfOk result (λ run. SaysTelling (found_of matches.now) run.telling) }
+    ensures { IfOk result (SaysRun ⟦<u32 as FromStr>⟧.from_str_gives (found_of matches.now)) }
 {
     let names = matches.get_strs("FILES").unwrap_or(&[]);
     Ok(Run {
@@ -408,14 +398,22 @@ fn run_of<'a>(alloc: Global, matches: &ArgMatches<'a>) -> Result<Run<'a>, Error>
     })
 }
 
+/// What is printed of stays.
+fn rows_of(matches: &ArgMatches) -> RowKind
+    ensures { SaysRows (found_of matches.now) result }
+{
+    if flag_of(matches, "visits") {
+        RowKind::Visits
+    } else if flag_of(matches, "dwell") {
+        RowKind::Dwell
+    } else {
+        RowKind::Legs
+    }
+}
+
 /// What `mftb moments` is asked to do.
 fn moments_of<'a>(matches: &ArgMatches<'a>) -> Moments<'a>
-    ensures store { result.store.now ≡ word (found_of matches.now) (codes "STORE") }
-    ensures corners { map (λ text. text.now) result.bounds.corners
-        ≡ map (word (found_of matches.now))
-        (codes "X1" ∷ codes "Y1" ∷ codes "X2" ∷ codes "Y2" ∷ []) }
-    ensures times { map (λ text. text.now) result.bounds.times
-        ≡ map (word (found_of matches.now)) (codes "T1" ∷ codes "T2" ∷ []) }
+    ensures { SaysMoments ⟦<u32 as FromStr>⟧.from_str_gives (found_of matches.now) result }
 {
     let corners = [
         word_of(matches, "X1"),
@@ -428,19 +426,13 @@ fn moments_of<'a>(matches: &ArgMatches<'a>) -> Moments<'a>
         store: word_of(matches, "STORE"),
         cache_pages: number_of(matches, "cache-pages", CACHE_PAGES),
         bounds: Bounds { corners, times },
-        rows: if flag_of(matches, "visits") {
-            RowKind::Visits
-        } else if flag_of(matches, "dwell") {
-            RowKind::Dwell
-        } else {
-            RowKind::Legs
-        },
+        rows: rows_of(matches),
     }
 }
 
 /// What `mftb check` is asked to do.
 fn check_of<'a>(matches: &ArgMatches<'a>) -> Check<'a>
-    ensures { result.store.now ≡ word (found_of matches.now) (codes "STORE") }
+    ensures { SaysCheck ⟦<u32 as FromStr>⟧.from_str_gives (found_of matches.now) result }
 {
     Check {
         store: word_of(matches, "STORE"),
@@ -451,12 +443,7 @@ fn check_of<'a>(matches: &ArgMatches<'a>) -> Check<'a>
 
 /// What `mftb parts` is asked to do.
 fn parts_of<'a>(matches: &ArgMatches<'a>) -> Parts<'a>
-    ensures parts { SaysNumber ⟦<u32 as FromStr>⟧.from_str_gives (found_of matches.now) (codes "N")
-        1 result.parts }
-    ensures first { SaysNumber ⟦<u32 as FromStr>⟧.from_str_gives (found_of matches.now)
-        (codes "first") 0 result.first }
-    ensures file { result.file.now ≡ word (found_of matches.now) (codes "FILE") }
-    ensures folder { result.folder.now ≡ word (found_of matches.now) (codes "DIR") }
+    ensures { SaysParts ⟦<u32 as FromStr>⟧.from_str_gives (found_of matches.now) result }
 {
     Parts {
         parts: number_of(matches, "N", 1),
@@ -469,11 +456,7 @@ fn parts_of<'a>(matches: &ArgMatches<'a>) -> Parts<'a>
 
 /// What `mftb part` is asked to do.
 fn part_of<'a>(matches: &ArgMatches<'a>) -> Part<'a>
-    ensures part { SaysNumber ⟦<u32 as FromStr>⟧.from_str_gives (found_of matches.now) (codes "K")
-        0 result.part }
-    ensures parts { SaysNumber ⟦<u32 as FromStr>⟧.from_str_gives (found_of matches.now) (codes "N")
-        1 result.parts }
-    ensures file { result.file.now ≡ word (found_of matches.now) (codes "FILE") }
+    ensures { SaysPart ⟦<u32 as FromStr>⟧.from_str_gives (found_of matches.now) result }
 {
     Part {
         part: number_of(matches, "K", 0),
@@ -484,8 +467,7 @@ fn part_of<'a>(matches: &ArgMatches<'a>) -> Part<'a>
 
 /// What `mftb migrate` is asked to do.
 fn migrate_of<'a>(matches: &ArgMatches<'a>) -> Migrate<'a>
-    ensures old { result.old.now ≡ word (found_of matches.now) (codes "OLD") }
-    ensures new { result.new.now ≡ word (found_of matches.now) (codes "NEW") }
+    ensures { SaysMigrate (found_of matches.now) result }
 {
     Migrate {
         old: word_of(matches, "OLD"),
@@ -493,25 +475,40 @@ fn migrate_of<'a>(matches: &ArgMatches<'a>) -> Migrate<'a>
     }
 }
 
+/// What `mftb info` is asked to do.
+fn info_of<'a>(matches: &ArgMatches<'a>) -> Info<'a>
+    ensures { SaysInfo (found_of matches.now) result }
+{
+    Info {
+        store: word_of(matches, "STORE"),
+        is_json: flag_of(matches, "json"),
+    }
+}
+
 /// Reads the words, of which the first is the program's name.
-pub fn read_words<'a>(alloc: Global, words: &'a [String]) -> Result<Task<'a>, Error> {
+pub fn read_words<'a>(alloc: Global, words: &'a [String]) -> Result<Task<'a>, Error>
+    ensures { IfOk result (IsAsked ⟦<u32 as FromStr>⟧.from_str_gives
+        (map ⟦<String as AsStr>⟧.text words.entry.now)) }
+{
     let matches = mftb(alloc)?.try_get_matches_from(words)?;
-    let (name, found) = matches.subcommand().unwrap_or(("run", &matches));
-    task_of(alloc, name, found)
+    match matches.subcommand() {
+        Some((name, found)) => task_of(alloc, name, found),
+        None => task_of(alloc, "run", &matches),
+    }
 }
 
 /// What the words of a command ask for.
-fn task_of<'a>(alloc: Global, name: &str, matches: &ArgMatches<'a>) -> Result<Task<'a>, Error> {
+fn task_of<'a>(alloc: Global, name: &str, matches: &ArgMatches<'a>) -> Result<Task<'a>, Error>
+    ensures { IfOk result
+        (SaysTask ⟦<u32 as FromStr>⟧.from_str_gives name.now (found_of matches.now)) }
+{
     Ok(match name {
         "check" => Task::Check(check_of(matches)),
         "migrate" => Task::Migrate(migrate_of(matches)),
         "part" => Task::Part(part_of(matches)),
         "parts" => Task::Parts(parts_of(matches)),
         "moments" => Task::Moments(moments_of(matches)),
-        "info" => Task::Info(Info {
-            store: word_of(matches, "STORE"),
-            is_json: flag_of(matches, "json"),
-        }),
+        "info" => Task::Info(info_of(matches)),
         _ => Task::Run(run_of(alloc, matches)?),
     })
 }
