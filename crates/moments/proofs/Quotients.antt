@@ -5,6 +5,7 @@ use Rattle.std.proofs.lemmas.Nat.{div-add-mod', mod_below}
 use Rattle.std.specs.Int.{int_div_euclid}
 use Rattle.clipping.proofs.Products.{products, difference_times_is}
 use Rattle.clipping.proofs.Fractions.{cancel, scale}
+use Rattle.timebase.specs.Instant.{IsMoment}
 use Rattle.moments.specs.Fractions.{IsCeiling, IsInTime}
 use borrow.Author.Differences.{up, down, product_is}
 
@@ -69,6 +70,14 @@ micros_up_in n d positive within =
     let least = below_strictly_from (neg_ℤ (pos 253370764799999001)) (q +ℤ pos 1) d positive above in
     let most : (q *ℤ pos d) ≤ℤ (pos 62135596800000000 *ℤ pos d) = let f = floor.0 in omega (arith, ints, after, f, e) in
     (omega (arith, ints, least), below_from q (pos 62135596800000000) d positive most)
+
+-- the whole milliseconds of microseconds that are not before the first moment, nor a millisecond after the last
+pub milli_in : (q : ℤ) → neg_ℤ (pos 62135596800000000) ≤ℤ q → q ≤ℤ pos 253370764799999999 → IsMoment (int_div_euclid q (pos 1000))
+milli_in q least most =
+    let floor = floor_is q 1000 (omega arith) in
+    let below = floor.0 in
+    let above = floor.1 in
+    (omega (arith, ints, below, above, least), omega (arith, ints, below, above, most))
 
 pub negative_times : (a c : ℤ) → (pos 0 -ℤ a) *ℤ c ≡ pos 0 -ℤ (a *ℤ c)
 negative_times a c = omega (arith, ints, difference_times_is (pos 0) a c)

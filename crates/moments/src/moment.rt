@@ -41,6 +41,8 @@ impl Moment {
     ghost use Rattle.std.specs.Prelude.{◌<◌, ◌^◌, ◌≡◌, ◌-ℤ◌, ◌*ℤ◌, pos, unsigned_abs};
     ghost use Rattle.moments.specs.Fractions.{IsCeiling, IsFloor, IsInTime, IsLowest, IsSame};
     ghost use Rattle.moments.specs.Lengths.{micros_down, micros_up};
+    ghost use Rattle.std.specs.Int.{int_div_euclid};
+    ghost use Rattle.timebase.specs.Instant.{IsMoment};
 
     /// The moment `num` / `den`.
     pub(crate) fn new(num: i128, den: u64) -> Moment
@@ -69,6 +71,7 @@ impl Moment {
         ensures value { result ≡ micros_down self }
         ensures floor { IsFloor (pos 1000) self.num self.den result }
         ensures small { unsigned_abs result < 2 ^ 58 }
+        ensures milli { IsMoment (int_div_euclid result (pos 1000)) }
     {
         (self.num * 1000).div_euclid(self.den as i128) as i64
     }
@@ -78,6 +81,7 @@ impl Moment {
         ensures value { result ≡ micros_up self }
         ensures ceiling { IsCeiling (pos 1000) self.num self.den result }
         ensures small { unsigned_abs result < 2 ^ 58 }
+        ensures milli { IsMoment (int_div_euclid result (pos 1000)) }
     {
         -((-self.num * 1000).div_euclid(self.den as i128) as i64)
     }

@@ -1,4 +1,10 @@
 //! What a store holds, as lines for people and as JSON for programs.
+ghost use Rattle.std.specs.Prelude.{◌≡◌, IfErr, IfSome};
+ghost use Rattle.fixedpoint.specs.Number.{IsInRange};
+ghost use Rattle.timebase.specs.Instant.{IsMoment};
+ghost use Rattle.trajdb.specs.declared.RunFault.{RunFault};
+ghost use Rattle.reports.specs.Printing.{HasCoords, IsPrintable, IsPrintFault};
+
 use crate::wrote::wrote;
 use fixedpoint::{Coord, push_coord};
 use legs::{BookHead, Box3, Limits};
@@ -39,7 +45,9 @@ fn places(dimension: Dimension) -> u8 {
 }
 
 /// Appends a bound of a box, in units of 10^-7, as a coordinate.
-fn push_bound(text: &mut Vec<u8>, units: i64) -> Result<(), RunFault> {
+fn push_bound(text: &mut Vec<u8>, units: i64) -> Result<(), RunFault>
+    ensures { IfErr result (IsPrintFault (IsInRange units)) }
+{
     match Coord::new(units) {
         Some(coord) => Ok(push_coord(text, coord)?),
         None => Err(RunFault::Failed),
@@ -47,7 +55,9 @@ fn push_bound(text: &mut Vec<u8>, units: i64) -> Result<(), RunFault> {
 }
 
 /// Appends a bound of a box, in milliseconds, as an instant.
-fn push_moment(text: &mut Vec<u8>, millis: i64) -> Result<(), RunFault> {
+fn push_moment(text: &mut Vec<u8>, millis: i64) -> Result<(), RunFault>
+    ensures { IfErr result (IsPrintFault (IsMoment millis)) }
+{
     match Ms::new(millis) {
         Some(at) => Ok(push_instant(text, at)?),
         None => Err(RunFault::Failed),
@@ -55,7 +65,9 @@ fn push_moment(text: &mut Vec<u8>, millis: i64) -> Result<(), RunFault> {
 }
 
 /// Appends the bounds of x and y, with a text between two of them.
-fn push_corners(text: &mut Vec<u8>, bounds: &Box3, between: &str) -> Result<(), RunFault> {
+fn push_corners(text: &mut Vec<u8>, bounds: &Box3, between: &str) -> Result<(), RunFault>
+    ensures { IfErr result (IsPrintFault (HasCoords bounds.now)) }
+{
     push_bound(text, bounds.x_min)?;
     wrote(write!(text, "{between}"))?;
     push_bound(text, bounds.y_min)?;
@@ -66,7 +78,9 @@ fn push_corners(text: &mut Vec<u8>, bounds: &Box3, between: &str) -> Result<(), 
 }
 
 /// Appends a text on one line: a character that commands a terminal, or is not seen, stands there as its number.
-fn push_plain(text: &mut Vec<u8>, said: &str) -> Result<(), RunFault> {
+fn push_plain(text: &mut Vec<u8>, said: &str) -> Result<(), RunFault>
+    ensures { IfErr result (λ fault. fault ≡ RunFault.Memory) }
+{
     for c in said.chars() {
         if is_seen(c) {
             wrote(write!(text, "{c}"))?;
@@ -78,7 +92,9 @@ fn push_plain(text: &mut Vec<u8>, said: &str) -> Result<(), RunFault> {
 }
 
 /// Appends a line for each thing that the first file said of all.
-fn push_head_lines(text: &mut Vec<u8>, head: &BookHead) -> Result<(), RunFault> {
+fn push_head_lines(text: &mut Vec<u8>, head: &BookHead) -> Result<(), RunFault>
+    ensures { IfErr result (λ fault. fault ≡ RunFault.Memory) }
+{
     wrote(write!(text, "crs: "))?;
     push_plain(text, head.crs.as_str())?;
     wrote(writeln!(text))?;
@@ -97,7 +113,9 @@ fn push_head_lines(text: &mut Vec<u8>, head: &BookHead) -> Result<(), RunFault> 
 }
 
 /// Appends the lines of the moments and the places between which all legs lie.
-fn push_extent_lines(text: &mut Vec<u8>, bounds: &Box3) -> Result<(), RunFault> {
+fn push_extent_lines(text: &mut Vec<u8>, bounds: &Box3) -> Result<(), RunFault>
+    ensures { IfErr result (IsPrintFault (IsPrintable bounds.now)) }
+{
     wrote(write!(text, "first: "))?;
     push_moment(text, bounds.t_min)?;
     wrote(write!(text, "\nlast: "))?;
@@ -108,7 +126,9 @@ fn push_extent_lines(text: &mut Vec<u8>, bounds: &Box3) -> Result<(), RunFault> 
 }
 
 /// Appends a line for each thing that is said, `KEY: VALUE`; without a file, and without a leg, some are left out.
-pub fn push_lines(text: &mut Vec<u8>, said: &StoreReport<'_>) -> Result<(), RunFault> {
+pub fn push_lines(text: &mut Vec<u8>, said: &StoreReport<'_>) -> Result<(), RunFault>
+    ensures fault { IfErr result (IsPrintFault (IfSome said.now.extent IsPrintable)) }
+{
     let bytes = said.pages as u64 * PAGE_BYTES;
     wrote(writeln!(text, "version: {}", said.version))?;
     wrote(writeln!(text, "state: finished"))?;
@@ -128,7 +148,9 @@ pub fn push_lines(text: &mut Vec<u8>, said: &StoreReport<'_>) -> Result<(), RunF
 }
 
 /// Appends a character of a string of JSON, by a byte of its UTF-8.
-fn push_escaped(text: &mut Vec<u8>, byte: u8) -> Result<(), RunFault> {
+fn push_escaped(text: &mut Vec<u8>, byte: u8) -> Result<(), RunFault>
+    ensures { IfErr result (λ fault. fault ≡ RunFault.Memory) }
+{
     if byte < b' ' {
         return wrote(write!(text, "\\u{byte:04x}"));
     }
@@ -139,7 +161,9 @@ fn push_escaped(text: &mut Vec<u8>, byte: u8) -> Result<(), RunFault> {
 }
 
 /// Appends a text as a string of JSON.
-fn push_string(text: &mut Vec<u8>, said: &str) -> Result<(), RunFault> {
+fn push_string(text: &mut Vec<u8>, said: &str) -> Result<(), RunFault>
+    ensures { IfErr result (λ fault. fault ≡ RunFault.Memory) }
+{
     text.push(b'"')?;
     for byte in said.as_bytes() {
         push_escaped(text, *byte)?;
@@ -148,7 +172,9 @@ fn push_string(text: &mut Vec<u8>, said: &str) -> Result<(), RunFault> {
 }
 
 /// Appends a column as an object.
-fn push_column(text: &mut Vec<u8>, column: &Column) -> Result<(), RunFault> {
+fn push_column(text: &mut Vec<u8>, column: &Column) -> Result<(), RunFault>
+    ensures { IfErr result (λ fault. fault ≡ RunFault.Memory) }
+{
     wrote(write!(text, "{{\"name\":"))?;
     push_string(text, column.name.as_str())?;
     wrote(write!(text, ",\"type\":"))?;
@@ -157,7 +183,9 @@ fn push_column(text: &mut Vec<u8>, column: &Column) -> Result<(), RunFault> {
 }
 
 /// Appends the columns as an array.
-fn push_columns(text: &mut Vec<u8>, columns: &[Column]) -> Result<(), RunFault> {
+fn push_columns(text: &mut Vec<u8>, columns: &[Column]) -> Result<(), RunFault>
+    ensures { IfErr result (λ fault. fault ≡ RunFault.Memory) }
+{
     text.push(b'[')?;
     for (place, column) in columns.iter().enumerate() {
         if place > 0 {
@@ -169,7 +197,9 @@ fn push_columns(text: &mut Vec<u8>, columns: &[Column]) -> Result<(), RunFault> 
 }
 
 /// Appends the members of what the first file said of all.
-fn push_head_members(text: &mut Vec<u8>, head: &BookHead) -> Result<(), RunFault> {
+fn push_head_members(text: &mut Vec<u8>, head: &BookHead) -> Result<(), RunFault>
+    ensures { IfErr result (λ fault. fault ≡ RunFault.Memory) }
+{
     wrote(write!(text, ",\"crs\":"))?;
     push_string(text, head.crs.as_str())?;
     wrote(write!(text, ",\"dimension\":{}", places(head.dimension)))?;
@@ -180,7 +210,9 @@ fn push_head_members(text: &mut Vec<u8>, head: &BookHead) -> Result<(), RunFault
 }
 
 /// Appends the members of the moments and the places between which all legs lie.
-fn push_extent_members(text: &mut Vec<u8>, bounds: &Box3) -> Result<(), RunFault> {
+fn push_extent_members(text: &mut Vec<u8>, bounds: &Box3) -> Result<(), RunFault>
+    ensures { IfErr result (IsPrintFault (IsPrintable bounds.now)) }
+{
     wrote(write!(text, ",\"first\":\""))?;
     push_moment(text, bounds.t_min)?;
     wrote(write!(text, "\",\"last\":\""))?;
@@ -191,7 +223,9 @@ fn push_extent_members(text: &mut Vec<u8>, bounds: &Box3) -> Result<(), RunFault
 }
 
 /// Appends one object of JSON, and a line end; without a file, and without a leg, some members are null.
-pub fn push_json(text: &mut Vec<u8>, said: &StoreReport<'_>) -> Result<(), RunFault> {
+pub fn push_json(text: &mut Vec<u8>, said: &StoreReport<'_>) -> Result<(), RunFault>
+    ensures fault { IfErr result (IsPrintFault (IfSome said.now.extent IsPrintable)) }
+{
     let (version, pages) = (said.version, said.pages);
     let bytes = pages as u64 * PAGE_BYTES;
     wrote(write!(

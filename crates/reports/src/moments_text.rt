@@ -1,8 +1,10 @@
 //! The texts of stays, visits and dwells: records of CSV behind a line that names their fields.
-ghost use Rattle.std.specs.Prelude.{◌≡◌, ◌<◌, ⊤, All, IfErr, length, OnOk};
+ghost use Rattle.std.specs.Prelude.{◌≡◌, ◌<◌, pos, All, IfErr, length, OnOk};
+ghost use Rattle.std.specs.Int.{int_div_euclid};
+ghost use Rattle.timebase.specs.Instant.{IsMoment};
 ghost use Rattle.trajdb.specs.Calls.{IsText};
 ghost use Rattle.trajdb.specs.declared.RunFault.{RunFault};
-ghost use Rattle.reports.specs.Records.{AreNotMade};
+ghost use Rattle.reports.specs.Printing.{IsPrintFault};
 
 use crate::wrote::wrote;
 use fixedpoint::push_coord;
@@ -58,7 +60,7 @@ fn push_fraction(text: &mut Vec<u8>, base: Ms, moment: Moment) -> Result<(), Run
 
 /// Appends a comma and an instant to the microsecond.
 fn push_micros(text: &mut Vec<u8>, micros: i64) -> Result<(), RunFault>
-    ensures { IfErr result (AreNotMade ⊤) }
+    ensures { IfErr result (IsPrintFault (IsMoment (int_div_euclid micros (pos 1000)))) }
 {
     let Some(at) = Ms::new(micros.div_euclid(1000)) else {
         return Err(RunFault::Failed);
@@ -76,7 +78,7 @@ fn push_times(
     enters: Moment,
     leaves: Moment,
 ) -> Result<(), RunFault>
-    ensures { IfErr result (AreNotMade ⊤) }
+    ensures { IfErr result (λ fault. fault ≡ RunFault.Memory) }
 {
     push_fraction(text, frame.base, enters)?;
     push_fraction(text, frame.base, leaves)?;
@@ -128,7 +130,7 @@ fn push_stay<S: PageStore>(
 ) -> Result<(), RunFault>
     ensures there { OnOk result (stay.now.leg.feature < length database.now.book.names) }
     ensures fault { IfErr result
-        (AreNotMade (stay.now.leg.feature < length database.now.book.names)) }
+        (IsText (stay.now.leg.feature < length database.now.book.names)) }
 {
     push_name(alloc, text, database, stay.leg.feature)?;
     push_times(text, frame, stay.enters, stay.leaves)?;
@@ -138,8 +140,7 @@ fn push_stay<S: PageStore>(
     wrote(writeln!(text, ",{},{}", begun.as_str(), ended.as_str()))
 }
 
-/// Appends a record for each stay. Refused for want of memory, where a moment is no instant that is printed, and with
-/// page 0 where a feature is not in the book.
+/// Appends a record for each stay. Refused for want of memory, and with page 0 where a feature is not in the book.
 pub fn push_stays<S: PageStore>(
     alloc: Global,
     text: &mut Vec<u8>,
@@ -150,7 +151,7 @@ pub fn push_stays<S: PageStore>(
 ) -> Result<(), RunFault>
     ensures there { OnOk result
         (All (λ stay. stay.leg.feature < length database.now.book.names) stays.now) }
-    ensures fault { IfErr result (AreNotMade
+    ensures fault { IfErr result (IsText
         (All (λ stay. stay.leg.feature < length database.now.book.names) stays.now)) }
 {
     push_fields(text, frame.dimension, "enters_by,leaves_by")?;
@@ -169,7 +170,7 @@ fn push_visit<S: PageStore>(
     visit: &Visit,
 ) -> Result<(), RunFault>
     ensures there { OnOk result (visit.now.feature < length database.now.book.names) }
-    ensures fault { IfErr result (AreNotMade (visit.now.feature < length database.now.book.names)) }
+    ensures fault { IfErr result (IsText (visit.now.feature < length database.now.book.names)) }
 {
     push_name(alloc, text, database, visit.feature)?;
     push_times(text, frame, visit.enters, visit.leaves)?;
@@ -188,7 +189,7 @@ pub fn push_visits<S: PageStore>(
 ) -> Result<(), RunFault>
     ensures there { OnOk result
         (All (λ visit. visit.feature < length database.now.book.names) visits.now) }
-    ensures fault { IfErr result (AreNotMade
+    ensures fault { IfErr result (IsText
         (All (λ visit. visit.feature < length database.now.book.names) visits.now)) }
 {
     push_fields(text, frame.dimension, "legs")?;

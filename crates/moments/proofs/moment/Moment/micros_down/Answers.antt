@@ -2,7 +2,7 @@ use Rattle.std.proofs.Common.{arith, subst, sym, ◌∙◌, ℤ, pos, ◌*ℤ◌
 use Rattle.std.specs.Int.{int_div_euclid, w128}
 use Rattle.std.proofs.lemmas.Int.{ints}
 use Rattle.moments.specs.Fractions.{IsFloor}
-use Rattle.moments.proofs.Quotients.{floor_is, micros_in}
+use Rattle.moments.proofs.Quotients.{floor_is, micros_in, milli_in}
 use Rattle.moments.proofs.moment.Moment.micros_down.Goals as goal
 
 floor_of : (c : goal.After-div_euclid) → to_z w64 (of_z w64 (to_z w128 (of_z w128 c.div_euclid.result))) ≡ int_div_euclid (c.args.self.num *ℤ pos 1000) (pos c.args.self.den)
@@ -34,3 +34,12 @@ returns-clause-small c =
     let most = within.1 in
     let e = floor_of c in
     omega (arith, ints, e, least, most)
+
+pub returns-clause-milli : goal.returns-clause-milli
+returns-clause-milli c =
+    let m = c.args.self in
+    let within = micros_in m.num m.den m.positive m.in_time in
+    let least = within.0 in
+    let most = within.1 in
+    let e = floor_of c in
+    milli_in _ (omega (arith, ints, e, least)) (omega (arith, ints, e, most))

@@ -2,7 +2,7 @@ use Rattle.std.proofs.Common.{arith, subst, sym, ◌∙◌, ℤ, pos, ◌-ℤ◌
 use Rattle.std.specs.Int.{int_div_euclid, w128}
 use Rattle.std.proofs.lemmas.Int.{ints}
 use Rattle.moments.specs.Fractions.{IsCeiling}
-use Rattle.moments.proofs.Quotients.{ceiling_is, micros_up_in}
+use Rattle.moments.proofs.Quotients.{ceiling_is, micros_up_in, milli_in}
 use Rattle.moments.proofs.moment.Moment.micros_up.Goals as goal
 
 ceiling_of : (c : goal.After-div_euclid)
@@ -35,3 +35,12 @@ returns-clause-small c =
     let most = within.1 in
     let e = ceiling_of c in
     omega (arith, ints, e, least, most)
+
+pub returns-clause-milli : goal.returns-clause-milli
+returns-clause-milli c =
+    let m = c.args.self in
+    let within = micros_up_in m.num m.den m.positive m.in_time in
+    let least = within.0 in
+    let most = within.1 in
+    let e = ceiling_of c in
+    milli_in _ (omega (arith, ints, e, most)) (omega (arith, ints, e, least))
