@@ -115,6 +115,7 @@ module _ {I : Type 0} (g : Ghosts I) (files : Named) where
           tells = at.tells;
           sends = Appends-kept a b c at.text at.sends stop.sends;
           names = subst (λ (l : List ℕ). NamesLine g files mid new l fault) (sym nth.1) stop.names;
+          store = stop.store;
           fails = subst (λ (l : List ℕ). FailsAt files new.failed fault l) (sym nth.1) stop.fails;
           left = subst (λ (l : List ℕ). (LoadsBy files l → ⊥) → LeavesBook g mid new) (sym nth.1) stop.left;
           lives = stop.lives;

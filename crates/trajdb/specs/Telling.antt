@@ -25,7 +25,7 @@ use Rattle.querylang.specs.declared.LineCode.{LineCode}
 use Rattle.querylang.specs.declared.Command.{Command}
 use Rattle.querylang.specs.declared.Command.TheVariants.{Load, Count, Box, Legs, Features, Trajectory, Write}
 use Rattle.trajdb.specs.Answers.{HoldsOfLeg, IsCountsText, IsFileRefusal, file_answer, legs_text, names_text, ok_text, refusal_text}
-use Rattle.trajdb.specs.Calls.{IsLater, LeavesBook, Loads, LoadsBy, NamesFile, SparesBy, TellsLoadBy}
+use Rattle.trajdb.specs.Calls.{IsLater, IsOfStore, LeavesBook, Loads, LoadsBy, NamesFile, SparesBy, TellsLoadBy}
 use Rattle.trajdb.specs.Database.{CoreView}
 use Rattle.trajdb.specs.Files.{file_named}
 use Rattle.trajdb.specs.Picks.{Picks}
@@ -242,8 +242,9 @@ module _ {I : Type 0} (g : Ghosts I) (files : List (List ℕ × List ℕ)) where
     pub tells : TellsLines old new lines text
     pub sends : Appends sent sent' text
 
-  -- the first k lines are done, and their answers, whole, and nothing else were sent; this is why the next was not answered;
-  -- the database failed by it only where it is a `load` of a file that is there, and else it leaves what a question leaves
+  -- the first k lines are done, and their answers, whole, and nothing else were sent; this is why the next was not answered,
+  -- and where it is said that the store failed, it failed at that line; the database failed by it only where it is a `load`
+  -- of a file that is there, and else it leaves what a question leaves
   pub record TellsStop (sent sent' : Option (List ℕ)) (old new : CoreView I) (fault : RunFault)
       (lines : List (List ℕ)) : Type 0 where
     pub k : ℕ
@@ -253,6 +254,7 @@ module _ {I : Type 0} (g : Ghosts I) (files : List (List ℕ × List ℕ)) where
     pub tells : TellsLines old mid (take k lines) text
     pub sends : Appends sent sent' text
     pub names : NamesLine mid new (slice_index_or lines k []) fault
+    pub store : IsOfStore g mid.index new.index fault
     pub fails : FailsAt files new.failed fault (slice_index_or lines k [])
     pub left : (LoadsBy files (slice_index_or lines k []) → ⊥) → LeavesBook g mid new
     pub lives : new.failed ≡ false → LeavesBook g mid new
@@ -286,12 +288,14 @@ module _ {I : Type 0} (g : Ghosts I) (files : List (List ℕ × List ℕ)) where
     pub n : ℕ
     pub sends : Appends sent sent' (take n text)
 
-  -- a line is not answered, nothing was sent, and this is why; the database failed by it only where it is a `load` of a file
-  -- that is there, and else it leaves what a question leaves
+  -- a line is not answered, nothing was sent, and this is why, and where it is said that the store failed, it failed at this
+  -- line; the database failed by it only where it is a `load` of a file that is there, and else it leaves what a question
+  -- leaves
   pub record HasNamed (sent sent' : Option (List ℕ)) (old new : CoreView I) (line : List ℕ)
       (fault : RunFault) : Type 0 where
     pub sends : Keeps sent sent'
     pub names : NamesLine old new line fault
+    pub store : IsOfStore g old.index new.index fault
     pub fails : FailsAt files new.failed fault line
     pub left : (LoadsBy files line → ⊥) → LeavesBook g old new
     pub lives : new.failed ≡ false → LeavesBook g old new
