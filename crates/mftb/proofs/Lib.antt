@@ -1,1 +1,3 @@
+pub mod BroughtOverLemmas
+pub mod PageLemmas
 pub mod RunLemmas

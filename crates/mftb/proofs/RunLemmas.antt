@@ -1,5 +1,5 @@
 -- What a run over a store of any kind, with an output of any kind, says of what these show.
-use Rattle.std.proofs.Common.{ℕ, ◌≡◌, ◌⊎◌, ap, inl, inr, Bool, List, Option, Result, Ok, Err}
+use Rattle.std.proofs.Common.{ℕ, ◌≡◌, ◌⊎◌, ap, inl, inr, refl, Bool, List, Option, Result, Ok, Err}
 use Rattle.std.specs.Prelude.{IfErr, OnOk}
 use Rattle.outputs.specs.Output.{OutputView}
 use Rattle.pages.specs.Store.{Store}
@@ -11,7 +11,7 @@ use Rattle.trajdb.specs.declared.RunFault.{RunFault}
 use Rattle.sessions.specs.Answers.{RunsAndCloses, RunsOver}
 use Rattle.sessions.specs.Folder.{History, IsOfFolder, IsRefusedByFolder, IsRefusedEarly, NameIsKept, RunsOnCopy}
 use Rattle.sessions.specs.declared.fault.Fault.{Fault}
-use Rattle.mftb.specs.Running.{IsRefusedUnsent, IsRun, RunsSome}
+use Rattle.mftb.specs.Running.{IsRefusedUnsent, IsRun, IsRunInPlace, IsUnsaid, RunsInPlace, RunsSome}
 
 module _ {O : Type 0} (shown : O → OutputView) (files : List (List ℕ × List ℕ)) (out out' : O) (lines : List (List ℕ)) where
   call_shown : (old new : DbView) (ran : Result (Unit {0}) RunFault)
@@ -66,6 +66,37 @@ module _ {O : Type 0} (shown : O → OutputView) (files : List (List ℕ × List
     run = over;
     answers = answers;
   }
+
+  -- so it was as its store lies there, with what is left unsaid of the closing
+  pub runs_in_place : {S : Type 0} (seen : S → Store) (opened : Result DbView (S × CatalogueFault)) (result : Result (Unit {0}) Fault) (closed : Result (Unit {0}) RunFault) (store : Store) (left : Option RunFault)
+      → RunsOver seen shown opened files out out' lines result closed store → IsUnsaid result closed left → RunsInPlace files lines (shown out) (shown out') result left
+  runs_in_place seen (Ok db) result closed store left (ran, said, over) unsaid = record {
+    opened = Ok db;
+    closed = closed;
+    store = store;
+    run = (ran, said, closes_shown db ran closed store over);
+    unsaid = unsaid;
+  }
+  runs_in_place seen (Err back) result closed store left over unsaid = record {
+    opened = Err (seen back.0, back.1);
+    closed = closed;
+    store = store;
+    run = over;
+    unsaid = unsaid;
+  }
+
+-- a store that was run over as it lies there was run over
+pub in_place_is_run : (files : List (List ℕ × List ℕ)) (lines : List (List ℕ)) (sent sent' : OutputView) (result : Result (Unit {0}) Fault) (left : Option RunFault)
+    → IsRunInPlace files lines sent sent' result left → IsRun files lines sent sent' result
+in_place_is_run files lines sent sent' result left (inl (unsent, none)) = inl unsent
+in_place_is_run files lines sent sent' result left (inr r) = inr (record {
+  opened = r.opened;
+  answered = result;
+  closed = r.closed;
+  store = r.store;
+  run = r.run;
+  answers = inl refl;
+})
 
 -- what was answered of a run is what is answered of it and its copy, or that was well, and the folder refuses this
 answers_of : (N : Type 0) (before after : ℕ) (last : Option Fault) (answered result : Result (Unit {0}) Fault) → OnOk result ((answered ≡ Ok tt) × N)

@@ -1,5 +1,10 @@
 pub mod Answers
 pub mod Bounds
+pub mod BoundsRefused
+pub mod BroughtOver
 pub mod Names
+pub mod PagesRead
+pub mod PartPrinted
 pub mod Reading
 pub mod Running
+pub mod Status

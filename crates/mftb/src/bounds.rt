@@ -1,8 +1,11 @@
 //! A rectangle and a period on the command line.
-ghost use Rattle.std.specs.Prelude.{◌≡◌, IfOk, Ok, Some, map};
+ghost use Rattle.std.specs.Prelude.{◌≡◌, IfErr, IfOk, OnOk, Ok, Some, map, true};
+ghost use Rattle.std.specs.Char.{is_ascii_whitespace};
+ghost use Rattle.std.specs.List.{list_all, list_any};
 ghost use Rattle.std.specs.String.{string_bytes};
 ghost use Rattle.querylang.specs.Line.{line_of as said_by};
 ghost use Rattle.mftb.specs.Bounds.{box_line};
+ghost use Rattle.mftb.specs.BoundsRefused.{are_words, is_word, RefusesBounds};
 
 use arguments::Bounds;
 use querylang::{Command, LineCode, LineFault, parse_line};
@@ -21,20 +24,43 @@ pub(crate) fn line_of(alloc: Global, bounds: &Bounds<'_>) -> Result<String, Allo
     format!(in alloc; "box {x1} {y1} {x2} {y2} {t1} {t2}")
 }
 
+/// Whether a blank or a line end is among the bytes of a text.
+fn has_blank(bytes: &[u8]) -> bool
+    ensures { result ≡ list_any is_ascii_whitespace bytes.now }
+{
+    bytes.iter().any(|byte| byte.is_ascii_whitespace())
+}
+
 /// Whether what was written is one word of a line.
-fn is_word(text: &str) -> bool {
-    !text.is_empty() && !text.bytes().any(|byte| byte.is_ascii_whitespace())
+fn is_word(text: &str) -> bool
+    ensures { result ≡ is_word text.now }
+{
+    !text.is_empty() && !has_blank(text.as_bytes())
+}
+
+/// Whether each of the texts is.
+fn are_words(texts: &[&str]) -> bool
+    ensures { result ≡ list_all is_word (map (λ text. text.now) texts.now) }
+{
+    for text in texts {
+        if !is_word(text) {
+            return false;
+        }
+    }
+    true
 }
 
 /// Reads a rectangle and a period as a line `box X1 Y1 X2 Y2 T1 T2` of a script is read: the command of that line.
 pub(crate) fn read_bounds<'a>(alloc: Global, bounds: &Bounds<'_>) -> Result<Command, Fault<'a>>
-    ensures { IfOk result (λ command. said_by (box_line
+    ensures command { IfOk result (λ command. said_by (box_line
         (map (λ text. text.now) bounds.now.corners) (map (λ text. text.now) bounds.now.times))
         ≡ Ok (Some command)) }
+    ensures words { OnOk result (are_words (map (λ text. text.now) bounds.now.corners)
+        (map (λ text. text.now) bounds.now.times) ≡ true) }
+    ensures refused { IfErr result (RefusesBounds (map (λ text. text.now) bounds.now.corners)
+        (map (λ text. text.now) bounds.now.times)) }
 {
-    if !bounds.corners.iter().all(|text| is_word(text))
-        || !bounds.times.iter().all(|text| is_word(text))
-    {
+    if !are_words(&bounds.corners) || !are_words(&bounds.times) {
         return Err(Fault::Bounds(LineCode::Q3));
     }
     let line = line_of(alloc, bounds)?;

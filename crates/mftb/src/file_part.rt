@@ -1,4 +1,8 @@
 //! The part of a file that has the features of one of several parts.
+ghost use Rattle.std.specs.Prelude.{◌≡◌, ◌≤◌, ◌⊎◌, Err};
+ghost use Rattle.mftb.specs.PartPrinted.{IsPartRefused, PrintsPart};
+ghost use Rattle.sessions.specs.declared.fault.Fault.{Fault};
+
 use arguments::Part;
 use outputs::Output;
 use sessions::{Fault, MOST_BYTES, read_named, send_part};
@@ -9,7 +13,12 @@ pub(crate) fn print_part<'a, R: rt::Files + AllocGlobal, O: Output>(
     rt: &R,
     task: &Part<'a>,
     out: &mut O,
-) -> Result<(), Fault<'a>> {
+) -> Result<(), Fault<'a>>
+    ensures none { task.now.parts ≤ task.now.part
+        → result ≡ Err (Fault.NoPart task.now.part task.now.parts) }
+    ensures printed { IsPartRefused (O.seen out.old) (O.seen out.new) result
+        ⊎ PrintsPart task.now.part task.now.parts (O.seen out.old) (O.seen out.new) result }
+{
     if task.part >= task.parts {
         return Err(Fault::NoPart(task.part, task.parts));
     }

@@ -1,8 +1,10 @@
 //! `mftb migrate`: a store of version 1 is brought over into a new one.
-ghost use Rattle.std.specs.Prelude.{◌≡◌, IsTrue, OnOk, codes};
+ghost use Rattle.std.specs.Prelude.{◌≡◌, ◌⊎◌, IfErr, IsTrue, OnErr, OnOk, codes};
 ghost use Rattle.std.specs.Io.KnownBytes.{Appends};
-ghost use Rattle.pages.specs.Store.{Store, IsSynced};
+ghost use Rattle.outputs.specs.Output.{HasRefused, IsFlushed};
+ghost use Rattle.pages.specs.Store.{Store, IsSynced, Stays};
 ghost use Rattle.sessions.specs.Answers.{BringsWhole};
+ghost use Rattle.mftb.specs.BroughtOver.{IsWithheld};
 
 use crate::names::Names;
 use crate::opening::{is_absent, open_asked, open_in_place};
@@ -39,6 +41,13 @@ fn bring_over<'a, S: PageStore, T: PageStore + Drop, O: Output>(
         → BringsWhole (S.seen old.old) left)) }
     ensures said { OnOk result (Appends (O.seen out.old).contents (O.seen out.new).contents
         (codes "ok 0\n")) }
+    ensures flushed { OnOk result (IsFlushed (O.seen out.old) (O.seen out.new)) }
+    // Nothing is sent before it is known whether it was brought over, and why it was not is what is said.
+    ensures unsent { OnErr result ((O.seen out.new ≡ O.seen out.old)
+        ⊎ HasRefused (O.seen out.old) (O.seen out.new)) }
+    ensures refused { IfErr result (IsWithheld (S.seen old.old) (S.seen old.new) (T.seen new)
+        (O.seen out.old) (O.seen out.new)) }
+    ensures stays { Stays (S.seen old.old) (S.seen old.new) }
 {
     let (store, migrated) = migrate_and_close(alloc, keys, old, new);
     match migrated {

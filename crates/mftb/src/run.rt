@@ -1,10 +1,11 @@
 //! `mftb run`: a script over the database that a file keeps.
-ghost use Rattle.std.specs.Prelude.{◌≡◌, ◌≢◌, ◌<◌, ◌↔◌, [], Err, IfOk, IfSome, IsTrue, OnErr, OnOk, false, map, max, true};
+ghost use Rattle.std.specs.Prelude.{◌≡◌, ◌⊎◌, ◌<◌, ◌↔◌, [], Err, None, IfOk, IsTrue, false, map, max, true};
 ghost use Rattle.sessions.specs.declared.fault.Fault.{Fault};
+ghost use Rattle.trajdb.specs.Calls.{HasLoad};
 ghost use Rattle.trajdb.specs.Script.{lines_of};
 ghost use Rattle.trajdb.specs.declared.RunFault.{RunFault};
 ghost use Rattle.mftb.specs.Reading.{AreRead};
-ghost use Rattle.mftb.specs.Running.{IsRun, IsRunBy};
+ghost use Rattle.mftb.specs.Running.{IsRun, IsRunBy, IsRunInPlace, IsUnsaid, RunsInPlace, SaysRun};
 ghost use Rattle.mftb.specs.declared.outcome.Outcome.{Outcome};
 
 use crate::locks::hold_name;
@@ -39,25 +40,37 @@ struct Work {
 /// What a run came to, and why the store was not closed, where that does not say so.
 type Ended<'a> = (Result<(), Fault<'a>>, Option<RunFault>);
 
+/// Whether that fault is what is said of a run.
+fn is_said(said: &Result<(), Fault<'_>>, fault: RunFault) -> bool
+    ensures { IsTrue result ↔ (said.now ≡ Err (Fault.Run fault)) }
+{
+    match said {
+        Err(Fault::Run(ran)) => *ran == fault,
+        _ => false,
+    }
+}
+
 /// Why a store was not closed, where the fault of the run does not say so; of a database that failed the run does.
 fn unsaid(said: &Result<(), Fault<'_>>, closed: Result<(), RunFault>) -> Option<RunFault>
-    ensures { IfSome result (λ fault. (closed ≡ Err fault) × (fault ≢ RunFault.Failed)
-        × (said.now ≡ Err (Fault.Run fault) → ⊥)) }
+    ensures { IsUnsaid said.now closed result }
 {
     match closed {
-        Err(fault) if fault != RunFault::Failed => match said {
-            Err(Fault::Run(ran)) if *ran == fault => None,
-            _ => Some(fault),
-        },
-        _ => None,
+        Ok(()) => None,
+        Err(fault) => {
+            if fault == RunFault::Failed || is_said(said, fault) {
+                None
+            } else {
+                Some(fault)
+            }
+        }
     }
 }
 
 /// Runs the script over a store as it lies there, as `sessions::answer` does.
 fn run_over<'a, S: PageStore + Drop, O: Output>(store: S, work: &Work, out: &mut O) -> Ended<'a>
     requires { 0 < work.now.how.cache_pages }
-    ensures { IsRun work.now.files (lines_of work.now.script.items) (O.seen out.old)
-        (O.seen out.new) result.0 }
+    ensures { RunsInPlace work.now.files (lines_of work.now.script.items) (O.seen out.old)
+        (O.seen out.new) result.0 result.1 }
 {
     let how = work.how;
     let opened = database(how.alloc, how.keys, store, how.is_new, how.cache_pages);
@@ -74,8 +87,8 @@ fn ask<'a, R: rt::Files<File = File> + rt::Clock + Eprint, O: Output>(
     out: &mut O,
 ) -> Ended<'a>
     requires { 0 < work.now.how.cache_pages }
-    ensures { IsRun work.now.files (lines_of work.now.script.items) (O.seen out.old)
-        (O.seen out.new) result.0 }
+    ensures { IsRunInPlace work.now.files (lines_of work.now.script.items) (O.seen out.old)
+        (O.seen out.new) result.0 result.1 }
 {
     sweep(rt, &work.names);
     match open_asked(rt, &work.names) {
@@ -93,8 +106,8 @@ fn run_in_place<'a, R: rt::Files<File = File> + rt::Clock + Eprint, O: Output>(
     out: &mut O,
 ) -> Ended<'a>
     requires { 0 < work.now.how.cache_pages }
-    ensures { IsRun work.now.files (lines_of work.now.script.items) (O.seen out.old)
-        (O.seen out.new) result.0 }
+    ensures { IsRunInPlace work.now.files (lines_of work.now.script.items) (O.seen out.old)
+        (O.seen out.new) result.0 result.1 }
 {
     let names = &work.names;
     let lock = match hold_name(rt, names.lock.as_str()) {
@@ -151,8 +164,18 @@ fn run_as_asked<'a, R: rt::Files<File = File> + rt::Clock + Eprint, O: Output>(
     out: &mut O,
 ) -> Ended<'a>
     requires { 0 < work.now.how.cache_pages }
-    ensures { IsRun work.now.files (lines_of work.now.script.items) (O.seen out.old)
+    ensures runs { IsRun work.now.files (lines_of work.now.script.items) (O.seen out.old)
         (O.seen out.new) result.0 }
+
+    // Something is left unsaid only of a store that was run over as it lies there; and where that is asked for, or the
+    // script only asks, just what the answer leaves unsaid.
+    ensures unsaid { (result.1 ≡ None) ⊎ IsRunInPlace work.now.files
+        (lines_of work.now.script.items) (O.seen out.old) (O.seen out.new) result.0 result.1 }
+    ensures in_place { IsTrue is_in_place → IsRunInPlace work.now.files
+        (lines_of work.now.script.items) (O.seen out.old) (O.seen out.new) result.0 result.1 }
+    ensures asks { work.now.how.is_new ≡ false
+        → (HasLoad (lines_of work.now.script.items) → ⊥) → IsRunInPlace work.now.files
+        (lines_of work.now.script.items) (O.seen out.old) (O.seen out.new) result.0 result.1 }
 {
     let how = work.how;
     let loads = match has_load(how.alloc, &work.script) {
@@ -209,16 +232,18 @@ fn read_work<'a, R: rt::Files<File = File> + AllocGlobal + RandomSource>(
     })
 }
 
-/// Says what a run has done that its answers do not say, and how it ended.
+/// Says what a run has done that its answers do not say, and how it ended, so many lines and files being refused.
 fn told<'a, R: rt::Files<File = File> + Eprint + AllocGlobal + RandomSource>(
     rt: &R,
     run: &Run<'a>,
     work: &Work,
     notes: &Notes,
+    refused: u64,
     ended: Result<(), Fault<'a>>,
 ) -> Result<Outcome, Fault<'a>>
-    ensures well { OnOk result (OnErr ended.entry ⊥) }
-    ensures refused { OnErr result (OnOk ended.entry ⊥) }
+    ensures says { SaysRun ended.entry result }
+    ensures strict { IfOk result (λ outcome. (outcome ≡ Outcome.Refused)
+        ↔ (IsTrue run.now.is_strict × (0 < refused))) }
 {
     let given = Given {
         name: run.script,
@@ -227,7 +252,7 @@ fn told<'a, R: rt::Files<File = File> + Eprint + AllocGlobal + RandomSource>(
     };
     tell(rt, run.store, &given, notes);
     match ended {
-        Ok(()) => Ok(outcome_of(run.is_strict, notes.refused())),
+        Ok(()) => Ok(outcome_of(run.is_strict, refused)),
         Err(fault) => Err(work.names.caused(fault)),
     }
 }
@@ -238,8 +263,10 @@ pub(crate) fn run<
     R: rt::Files<File = File> + rt::Clock + Eprint + AllocGlobal + RandomSource,
     O: Output + Drop,
 >(rt: &R, run: &Run<'a>, out: O, is_terminal: bool) -> (O, Result<Outcome, Fault<'a>>)
-    ensures { IsRunBy (map (λ n. n.now) run.now.files.items) (O.seen out) (O.seen result.0)
+    ensures runs { IsRunBy (map (λ n. n.now) run.now.files.items) (O.seen out) (O.seen result.0)
         result.1 }
+    ensures strict { IfOk result.1 (λ outcome. outcome ≡ Outcome.Refused
+        → IsTrue run.now.is_strict) }
 {
     let work = match read_work(rt, run) {
         Ok(work) => work,
@@ -262,5 +289,5 @@ pub(crate) fn run<
         tell_made(rt, run.store);
     }
     let (out, notes) = out.into_parts();
-    (out, told(rt, run, &work, &notes, ended))
+    (out, told(rt, run, &work, &notes, notes.refused(), ended))
 }

@@ -1,6 +1,8 @@
 //! The program, over any runtime and writers.
-ghost use Rattle.std.specs.Prelude.{◌≡◌, ◌≤◌, codes, Any, IsTrue};
+ghost use Rattle.std.specs.Prelude.{◌≡◌, ◌≤◌, ◌↔◌, codes, Any, Err, IfErr, IsTrue, Ok, OnOk};
 ghost use Rattle.std.specs.String.{string_bytes};
+ghost use Rattle.mftb.specs.Status.{exit_status};
+ghost use Rattle.mftb.specs.declared.outcome.Outcome.{Outcome};
 
 use crate::check::check;
 use crate::file_part::print_part;
@@ -22,7 +24,10 @@ use std::random::RandomSource;
 use std::rt;
 
 /// How the program ended that has nothing to say of what it did.
-fn done<'a>(ended: Result<(), Fault<'a>>) -> Result<Outcome, Fault<'a>> {
+fn done<'a>(ended: Result<(), Fault<'a>>) -> Result<Outcome, Fault<'a>>
+    ensures well { OnOk ended.entry (result ≡ Ok Outcome.Done) }
+    ensures refused { IfErr ended.entry (λ fault. result ≡ Err fault) }
+{
     match ended {
         Ok(()) => Ok(Outcome::Done),
         Err(fault) => Err(fault),
@@ -51,14 +56,14 @@ fn perform<
 
 /// Whether a word is `--strict`.
 fn is_strict(word: &str) -> bool
-    ensures { IsTrue result → word.now ≡ codes "--strict" }
+    ensures { IsTrue result ↔ (word.now ≡ codes "--strict") }
 {
     word == "--strict"
 }
 
 /// Whether one of the words is `--strict`.
 fn has_strict(words: &[String]) -> bool
-    ensures { IsTrue result → Any (λ w. string_bytes w ≡ codes "--strict") words.now }
+    ensures { IsTrue result ↔ Any (λ w. string_bytes w ≡ codes "--strict") words.now }
 {
     for i in 0..words.len() {
         if is_strict(words[i].as_str()) {
@@ -84,6 +89,19 @@ fn answer_words<W: Write, V: Write>(error: &Error, out: &mut W, faults: &mut V) 
     }
 }
 
+/// The exit status of a task that ended so, where `--strict` is among the words or not.
+fn status_of(ended: &Result<Outcome, Fault<'_>>, is_strict: bool) -> u8
+    ensures value { result ≡ exit_status ended.now is_strict }
+    ensures most { result ≤ 3 }
+    ensures strict { result ≡ 3 → IsTrue is_strict }
+{
+    match ended {
+        Ok(Outcome::Refused) if is_strict => 3,
+        Ok(_) => 0,
+        Err(fault) => fault.status(),
+    }
+}
+
 /// Performs a task, and says what went wrong: the exit status.
 fn answer_task<
     R: rt::Files<File = File> + rt::Clock + Eprint + AllocGlobal + RandomSource,
@@ -94,15 +112,12 @@ fn answer_task<
     ensures strict { result ≡ 3 → Any (λ w. string_bytes w ≡ codes "--strict") words.now }
 {
     let before = Before::new(rt, task, is_terminal);
-    match perform(rt, task, CountedOutput::new(out), is_terminal) {
-        Ok(Outcome::Refused) if has_strict(words) => 3,
-        Ok(_) => 0,
-        Err(fault) => {
-            let _ = writeln!(faults, "mftb: {fault}");
-            before.tell(rt, task, &fault);
-            fault.status()
-        }
+    let ended = perform(rt, task, CountedOutput::new(out), is_terminal);
+    if let Err(fault) = &ended {
+        let _ = writeln!(faults, "mftb: {fault}");
+        before.tell(rt, task, fault);
     }
+    status_of(&ended, has_strict(words))
 }
 
 /// Runs the program, and answers its exit status: 0, or 3 where a line or a file was refused and

@@ -1,0 +1,18 @@
+use Rattle.std.proofs.Common.{◌∙◌, refl, sym, inr}
+use Rattle.pages.specs.Unsealed.{unsealed}
+use Rattle.pages.specs.declared.payload.PageFault.TheVariants as page
+use Rattle.mftb.proofs.PageLemmas.{stored_read, ok_some, ok_none}
+use Rattle.mftb.proofs.root.payload_of.Goals as goal
+
+pub returns-in-Ok-unseal-clause-payload : goal.returns-in-Ok-unseal-clause-payload
+returns-in-Ok-unseal-clause-payload g c = λ fa.
+    stored_read (g.S.PageStore.seen c.args.store.now) c.args.number c.read.new.page (c.in-Ok.ensures.read fa)
+    ∙ ok_some (unsealed c.args.number c.read.new.page) (page.Damaged c.args.number) c.in-Ok-unseal.payload (sym c.unseal.ensures.value ∙ c.in-Ok-unseal.is)
+
+pub returns-in-Err-unseal-clause-refused : goal.returns-in-Err-unseal-clause-refused
+returns-in-Err-unseal-clause-refused g c =
+    inr (
+      refl,
+      inr (λ fa. stored_read (g.S.PageStore.seen c.args.store.now) c.args.number c.read.new.page (c.in-Ok.ensures.read fa)
+          ∙ ok_none (unsealed c.args.number c.read.new.page) (page.Damaged c.args.number) _ (sym c.unseal.ensures.value ∙ c.in-Err-unseal.is)),
+    )
