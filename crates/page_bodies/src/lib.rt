@@ -1,11 +1,12 @@
 //! Public calls of the crates of pages, each under the clause that refuses the wrong bodies in must-fail/.
 #![tactic(auto)]
 
+mod caching;
 mod chain_answers;
-mod chain_costs;
+mod checking;
 mod closing;
-mod filling;
 mod fronts;
+mod inserting;
 mod joining;
 mod keeping;
 mod marking;

@@ -5,12 +5,15 @@
 #![tactic(auto)]
 
 pub mod asking;
+pub mod clipping_legs;
 pub mod faults;
 pub mod joining;
 pub mod lines;
 pub mod parting;
+pub mod predicating;
 pub mod reading;
 pub mod refusing;
 pub mod searching;
 pub mod taking;
+pub mod values;
 pub mod writing;
