@@ -1,6 +1,8 @@
 //! A leg that crosses, touches or misses a rectangle.
 use crate::plane::{leg, period, rect};
 use clipping::*;
+use legs::Leg;
+use std::process::Abort;
 use std::test::Fail;
 
 /// Whether a fraction is num / den.
@@ -8,11 +10,12 @@ fn is_part(part: Frac, (num, den): (i64, i64)) -> bool {
     part.num as i128 * den as i128 == num as i128 * part.den as i128
 }
 
-/// Whether a leg was cut at these parts of it.
-fn is_between(cut: &Cut, parts: Parts) -> bool {
-    match parts {
-        Some((lo, hi)) => is_part(cut.lo, lo) && is_part(cut.hi, hi),
-        None => false,
+/// Whether a leg was cut at these parts of it, or not at all.
+fn is_between(cut: Option<Cut>, parts: Parts) -> bool {
+    match (cut, parts) {
+        (Some(cut), Some((lo, hi))) => is_part(cut.lo, lo) && is_part(cut.hi, hi),
+        (None, None) => true,
+        _ => false,
     }
 }
 
@@ -32,19 +35,22 @@ const CUTS: [([i64; 4], i64, Parts); 5] = [
     ([20, 0, 30, 30], 1000, None),
 ];
 
+/// The first of the cuts that is another one, if any.
+fn wrong_cut(rt: &impl Abort, leg: &Leg, cuts: &[([i64; 4], i64, Parts)]) -> Option<usize> {
+    for (at, (sides, end, parts)) in cuts.iter().enumerate() {
+        let cut = clip(leg, &rect(rt, *sides), &period(rt, (0, *end)));
+        if !is_between(cut, *parts) {
+            return Some(at);
+        }
+    }
+    None
+}
+
 #[test]
-fn a_leg_is_clipped(rt: HostRuntime) -> Result<(), Fail> {
+fn a_leg_is_clipped(rt: HostRuntime) {
     // From the point (0, 0) at 0 to the point (30, 60) at 1000.
     let leg = leg(&rt, (0, 1000), [0, 0, 30, 60]);
-    for (sides, end, parts) in CUTS {
-        let cut = clip(&leg, &rect(&rt, sides), &period(&rt, (0, end)));
-        let is_right = match cut {
-            Some(cut) => is_between(&cut, parts),
-            None => parts.is_none(),
-        };
-        assert!(rt; is_right, "at {sides:?} to {end}");
-    }
-    Ok(())
+    assert_eq!(rt; wrong_cut(&rt, &leg, &CUTS), None);
 }
 
 #[test]

@@ -200,8 +200,11 @@ const LATER: Wanted = Wanted {
     ..STILL
 };
 
+/// A file, and what it says.
+type WantedFile = (&'static str, WantedHead, &'static [Wanted]);
+
 /// Files, and what they say.
-const FILES: [(&str, WantedHead, &[Wanted]); 8] = [
+const FILES: [WantedFile; 8] = [
     (STANDARD, HEAD_OF_EXAMPLE, &EXAMPLE),
     // A mark, odd case, foreign lines and a quoted field.
     (
@@ -251,13 +254,24 @@ const FILES: [(&str, WantedHead, &[Wanted]); 8] = [
     ),
 ];
 
+/// Whether a file has this head, and these records.
+fn is_file(file: &File, head: &WantedHead, records: &[Wanted]) -> bool {
+    has_head(&file.head, head) && has_records(file, records)
+}
+
+/// The first of the files that says something else, if any.
+fn wrong_file(alloc: Global, files: &[WantedFile]) -> Result<Option<usize>, FileFault> {
+    for (at, (text, head, records)) in files.iter().enumerate() {
+        if !is_file(&read(alloc, text.as_bytes())?, head, records) {
+            return Ok(Some(at));
+        }
+    }
+    Ok(None)
+}
+
 #[test]
 fn files_are_read(rt: HostRuntime) -> Result<(), Fail> {
-    for (text, head, records) in &FILES {
-        let file = read(rt.alloc(), text.as_bytes())?;
-        assert!(rt; has_head(&file.head, head), "in {text}");
-        assert!(rt; has_records(&file, records), "in {text}");
-    }
+    assert_eq!(rt; wrong_file(rt.alloc(), &FILES)?, None);
     Ok(())
 }
 
@@ -341,16 +355,21 @@ const REFUSED: [(&str, Code, u64); 33] = [
 /// Bytes that are no text, in a line that would be skipped and in one that comes too early.
 const NO_TEXT: [&[u8]; 2] = [b"@x,\xC3\n", b"x,\xFF"];
 
+/// The first of the files that is read, or is refused for another reason, if any.
+fn wrong_refusal(alloc: Global, files: &[(&str, Code, u64)]) -> Option<usize> {
+    for (at, (text, code, number)) in files.iter().enumerate() {
+        let (code, number) = (*code, *number);
+        if refusal(alloc, text.as_bytes()) != Some(FileFault::Refused { code, number }) {
+            return Some(at);
+        }
+    }
+    None
+}
+
 #[test]
 fn files_are_refused_by_their_first_fault(rt: HostRuntime) {
-    for (text, code, number) in REFUSED {
-        let fault = refusal(rt.alloc(), text.as_bytes());
-        assert!(rt;
-            fault == Some(FileFault::Refused { code, number }),
-            "in {text}"
-        );
-    }
-    for bytes in NO_TEXT {
+    assert_eq!(rt; wrong_refusal(rt.alloc(), &REFUSED), None);
+    for bytes in &NO_TEXT {
         let (code, number) = (Code::F1, 1);
         let fault = refusal(rt.alloc(), bytes);
         assert!(rt; fault == Some(FileFault::Refused { code, number }));
