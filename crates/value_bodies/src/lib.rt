@@ -6,7 +6,6 @@
 
 pub mod asking;
 pub mod clipping_legs;
-pub mod faults;
 pub mod joining;
 pub mod lines;
 pub mod parting;
@@ -14,6 +13,5 @@ pub mod predicating;
 pub mod reading;
 pub mod refusing;
 pub mod searching;
-pub mod taking;
 pub mod values;
 pub mod writing;

@@ -1,8 +1,7 @@
 //! Parts of a file.
-ghost use Rattle.std.specs.Prelude.{◌≡◌, ◌<◌, ◌≤◌, ◌+◌, map, IfOk};
-ghost use Rattle.std.specs.List.{range_with_len};
+ghost use Rattle.std.specs.Prelude.{◌≡◌, ◌<◌, IfOk};
 ghost use Rattle.mfcsv.specs.FileText.{file_of_bytes};
-ghost use Rattle.parts.specs.Part.{said_part, whole_part};
+ghost use Rattle.parts.specs.Part.{said_part};
 
 use std::alloc::{AllocError, Global};
 
@@ -13,20 +12,4 @@ pub fn part(alloc: Global, k: u64, n: u64, bytes: &[u8]) -> Result<Vec<u8>, Allo
         (λ text. file_of_bytes text.items ≡ said_part k n (file_of_bytes bytes.now)) }
 {
     parts::part(alloc, k, n, bytes)
-}
-
-/// Some parts of a file, with the header lines in each.
-pub fn parts(
-    alloc: Global,
-    first: u64,
-    count: u64,
-    n: u64,
-    bytes: &[u8],
-) -> Result<Vec<Vec<u8>>, AllocError>
-    requires some { 0 < n }
-    requires within { first + count ≤ n }
-    ensures texts { IfOk result (λ texts. map (λ text. text.items) texts.items
-        ≡ map (λ k. whole_part k n bytes.now) (range_with_len first count)) }
-{
-    parts::parts(alloc, first, count, n, bytes)
 }
