@@ -68,6 +68,9 @@ impl<'a, 'b, S: PageStore, R: Clock + Eprint> PageStore for Noted<'a, 'b, S, R> 
             (⟦<Noted<'a, 'b, S, R> as PageStore>⟧.seen self.new) }
         ensures unsynced { SameUnsynced (⟦<Noted<'a, 'b, S, R> as PageStore>⟧.seen self.old)
             (⟦<Noted<'a, 'b, S, R> as PageStore>⟧.seen self.new) }
+        ensures refuses_none { OnOk result
+            ((⟦<Noted<'a, 'b, S, R> as PageStore>⟧.seen self.new).faults
+            ≡ (⟦<Noted<'a, 'b, S, R> as PageStore>⟧.seen self.old).faults) }
         ensures cause { OnErr result
             (Faulted (⟦<Noted<'a, 'b, S, R> as PageStore>⟧.seen self.old)
             (⟦<Noted<'a, 'b, S, R> as PageStore>⟧.seen self.new)) }
@@ -87,6 +90,9 @@ impl<'a, 'b, S: PageStore, R: Clock + Eprint> PageStore for Noted<'a, 'b, S, R> 
         ensures unsynced { OnOk result
             (Unsyncs number (⟦<Noted<'a, 'b, S, R> as PageStore>⟧.seen self.old)
             (⟦<Noted<'a, 'b, S, R> as PageStore>⟧.seen self.new)) }
+        ensures refuses_none { OnOk result
+            ((⟦<Noted<'a, 'b, S, R> as PageStore>⟧.seen self.new).faults
+            ≡ (⟦<Noted<'a, 'b, S, R> as PageStore>⟧.seen self.old).faults) }
         ensures torn { OnErr result
             (Tears number (⟦<Noted<'a, 'b, S, R> as PageStore>⟧.seen self.old)
             (⟦<Noted<'a, 'b, S, R> as PageStore>⟧.seen self.new)) }

@@ -44,6 +44,7 @@ pub trait ByteFile {
         ensures synced { is_synced self.new ≡ is_synced self.old }
         ensures never_lost { OnOk result (has_lost self.old ≡ false) }
         ensures lost { has_lost self.new ≡ has_lost self.old }
+        ensures refuses_none { OnOk result (refusals self.new ≡ refusals self.old) }
         ensures cause { OnErr result (HasRisen (refusals self.old) (refusals self.new)) }
         ensures later { refusals self.old ≤ refusals self.new };
 
@@ -57,6 +58,7 @@ pub trait ByteFile {
             (bytes self.old) (bytes self.new) }
         ensures never_lost { OnOk result (has_lost self.old ≡ false) }
         ensures lost { has_lost self.new ≡ has_lost self.old }
+        ensures refuses_none { OnOk result (refusals self.new ≡ refusals self.old) }
         ensures cause { OnErr result (HasRisen (refusals self.old) (refusals self.new)) }
         ensures later { refusals self.old ≤ refusals self.new };
 

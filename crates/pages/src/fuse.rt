@@ -118,6 +118,8 @@ impl<S: PageStore> PageStore for Fuse<S> {
             (⟦<Fuse<S> as PageStore>⟧.seen self.new) }
         ensures unsynced { SameUnsynced (⟦<Fuse<S> as PageStore>⟧.seen self.old)
             (⟦<Fuse<S> as PageStore>⟧.seen self.new) }
+        ensures refuses_none { OnOk result ((⟦<Fuse<S> as PageStore>⟧.seen self.new).faults
+            ≡ (⟦<Fuse<S> as PageStore>⟧.seen self.old).faults) }
         ensures cause { OnErr result (Faulted (⟦<Fuse<S> as PageStore>⟧.seen self.old)
             (⟦<Fuse<S> as PageStore>⟧.seen self.new)) }
     {
@@ -141,6 +143,8 @@ impl<S: PageStore> PageStore for Fuse<S> {
             (⟦<Fuse<S> as PageStore>⟧.seen self.old) (⟦<Fuse<S> as PageStore>⟧.seen self.new)) }
         ensures unsynced { OnOk result (Unsyncs number
             (⟦<Fuse<S> as PageStore>⟧.seen self.old) (⟦<Fuse<S> as PageStore>⟧.seen self.new)) }
+        ensures refuses_none { OnOk result ((⟦<Fuse<S> as PageStore>⟧.seen self.new).faults
+            ≡ (⟦<Fuse<S> as PageStore>⟧.seen self.old).faults) }
         ensures torn { OnErr result (Tears number
             (⟦<Fuse<S> as PageStore>⟧.seen self.old) (⟦<Fuse<S> as PageStore>⟧.seen self.new)) }
         ensures torn_unsynced { OnErr result (MayUnsync number

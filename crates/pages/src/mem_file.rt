@@ -63,6 +63,8 @@ impl ByteFile for MemFile {
         ensures never_lost { OnOk result (⟦<MemFile as ByteFile>⟧.has_lost self.old ≡ false) }
         ensures lost { ⟦<MemFile as ByteFile>⟧.has_lost self.new
             ≡ ⟦<MemFile as ByteFile>⟧.has_lost self.old }
+        ensures refuses_none { OnOk result (⟦<MemFile as ByteFile>⟧.refusals self.new
+            ≡ ⟦<MemFile as ByteFile>⟧.refusals self.old) }
         ensures cause { OnErr result (HasRisen (⟦<MemFile as ByteFile>⟧.refusals self.old)
             (⟦<MemFile as ByteFile>⟧.refusals self.new)) }
         ensures later { ⟦<MemFile as ByteFile>⟧.refusals self.old
@@ -85,6 +87,8 @@ impl ByteFile for MemFile {
         ensures never_lost { OnOk result (⟦<MemFile as ByteFile>⟧.has_lost self.old ≡ false) }
         ensures lost { ⟦<MemFile as ByteFile>⟧.has_lost self.new
             ≡ ⟦<MemFile as ByteFile>⟧.has_lost self.old }
+        ensures refuses_none { OnOk result (⟦<MemFile as ByteFile>⟧.refusals self.new
+            ≡ ⟦<MemFile as ByteFile>⟧.refusals self.old) }
         ensures cause { OnErr result (HasRisen (⟦<MemFile as ByteFile>⟧.refusals self.old)
             (⟦<MemFile as ByteFile>⟧.refusals self.new)) }
         ensures later { ⟦<MemFile as ByteFile>⟧.refusals self.old

@@ -91,6 +91,8 @@ impl PageStore for MemStore {
             (⟦<MemStore as PageStore>⟧.seen self.new) }
         ensures unsynced { SameUnsynced (⟦<MemStore as PageStore>⟧.seen self.old)
             (⟦<MemStore as PageStore>⟧.seen self.new) }
+        ensures refuses_none { OnOk result ((⟦<MemStore as PageStore>⟧.seen self.new).faults
+            ≡ (⟦<MemStore as PageStore>⟧.seen self.old).faults) }
         ensures cause { OnErr result (Faulted (⟦<MemStore as PageStore>⟧.seen self.old)
             (⟦<MemStore as PageStore>⟧.seen self.new)) }
     {
@@ -107,6 +109,8 @@ impl PageStore for MemStore {
             (⟦<MemStore as PageStore>⟧.seen self.old) (⟦<MemStore as PageStore>⟧.seen self.new)) }
         ensures unsynced { OnOk result (Unsyncs number
             (⟦<MemStore as PageStore>⟧.seen self.old) (⟦<MemStore as PageStore>⟧.seen self.new)) }
+        ensures refuses_none { OnOk result ((⟦<MemStore as PageStore>⟧.seen self.new).faults
+            ≡ (⟦<MemStore as PageStore>⟧.seen self.old).faults) }
         ensures torn { OnErr result (Tears number
             (⟦<MemStore as PageStore>⟧.seen self.old) (⟦<MemStore as PageStore>⟧.seen self.new)) }
         ensures torn_unsynced { OnErr result (MayUnsync number

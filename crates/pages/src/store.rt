@@ -13,8 +13,8 @@ pub struct StoreFault;
 ///
 /// A store is faithful where every read that answers `Ok` gives the page last written there; what
 /// is said of pages is said of a faithful store. No call changes whether it is, nor how many pages
-/// there may be, and the count of faults never falls. A page that is written is unsynced until
-/// `sync` answers `Ok`.
+/// there may be. The count of faults never falls, and rises where a call is refused, and only there.
+/// A page that is written is unsynced until `sync` answers `Ok`.
 pub trait PageStore {
     /// What contracts see of a store: how many pages there are and may be, how many calls have
     /// failed, which pages may be unsynced, whether it is faithful, and the pages as written. The
@@ -36,6 +36,7 @@ pub trait PageStore {
             → slice_get (seen self.old).pages number ≡ Some page.new) }
         ensures stays { Stays (seen self.old) (seen self.new) }
         ensures unsynced { SameUnsynced (seen self.old) (seen self.new) }
+        ensures refuses_none { OnOk result ((seen self.new).faults ≡ (seen self.old).faults) }
         ensures cause { OnErr result (Faulted (seen self.old) (seen self.new)) };
 
     /// Writes a page, which may be one more. A refusal leaves any bytes in that page, which may
@@ -45,6 +46,7 @@ pub trait PageStore {
         requires room { number < (seen self.old).most }
         ensures written { OnOk result (Writes number page.now (seen self.old) (seen self.new)) }
         ensures unsynced { OnOk result (Unsyncs number (seen self.old) (seen self.new)) }
+        ensures refuses_none { OnOk result ((seen self.new).faults ≡ (seen self.old).faults) }
         ensures torn { OnErr result (Tears number (seen self.old) (seen self.new)) }
         ensures torn_unsynced { OnErr result (MayUnsync number (seen self.old) (seen self.new)) }
         ensures cause { OnErr result (Faulted (seen self.old) (seen self.new)) };

@@ -58,6 +58,9 @@ impl<S: PageStore> PageStore for ReadOnly<S> {
             (⟦<ReadOnly<S> as PageStore>⟧.seen self.new) }
         ensures unsynced { SameUnsynced (⟦<ReadOnly<S> as PageStore>⟧.seen self.old)
             (⟦<ReadOnly<S> as PageStore>⟧.seen self.new) }
+        ensures refuses_none { OnOk result
+            ((⟦<ReadOnly<S> as PageStore>⟧.seen self.new).faults
+            ≡ (⟦<ReadOnly<S> as PageStore>⟧.seen self.old).faults) }
         ensures cause { OnErr result
             (Faulted (⟦<ReadOnly<S> as PageStore>⟧.seen self.old)
             (⟦<ReadOnly<S> as PageStore>⟧.seen self.new)) }
@@ -76,6 +79,9 @@ impl<S: PageStore> PageStore for ReadOnly<S> {
         ensures unsynced { OnOk result (Unsyncs _number
             (⟦<ReadOnly<S> as PageStore>⟧.seen self.old)
             (⟦<ReadOnly<S> as PageStore>⟧.seen self.new)) }
+        ensures refuses_none { OnOk result
+            ((⟦<ReadOnly<S> as PageStore>⟧.seen self.new).faults
+            ≡ (⟦<ReadOnly<S> as PageStore>⟧.seen self.old).faults) }
         ensures torn { OnErr result
             (Tears _number (⟦<ReadOnly<S> as PageStore>⟧.seen self.old)
             (⟦<ReadOnly<S> as PageStore>⟧.seen self.new)) }
