@@ -1,8 +1,9 @@
 -- What each command of the program is asked to do, by what `clap` found under its names.
-use Rattle.std.specs.Prelude.{ℕ, ◌≡◌, ◌≢◌, ◌∷◌, ◌⊎◌, [], List, None, Some, Result, codes, map, option_map}
-use Rattle.clap.specs.Words.{App, HasMatchesOf, ReadsOne, found_of, one_text, rows_of, subcommand_name_of, subcommand_rows_of}
+use Rattle.std.specs.Prelude.{false, ℕ, ◌≡◌, ◌≢◌, ◌∷◌, ◌⊎◌, [], List, None, Some, Result, codes, map, option_map}
+use Rattle.clap.specs.Words.{HasMatchesOf, ReadsOne, found_of, matches_of, one_text, rows_of, subcommand_name_of, subcommand_of, subcommand_rows_of}
 use Rattle.clap.specs.declared.parser.matches.Found.{Found}
 use Rattle.clap.specs.declared.parser.matches.ArgMatches.{ArgMatches}
+use Rattle.arguments.specs.Program.{has_negative, program}
 use Rattle.arguments.specs.Words.{word, words, IsSaid, IsUnsaid, SaysFlag, SaysNumber, SaysTelling}
 use Rattle.arguments.specs.declared.task.Check.{Check}
 use Rattle.arguments.specs.declared.task.Info.{Info}
@@ -102,13 +103,22 @@ IsCommandOf m name found =
     × (option_map (λ p. p.1) (subcommand_rows_of m) ≡ Some (rows_of found)))
     ⊎ ((subcommand_name_of m ≡ None) × (name ≡ codes "run") × (found ≡ found_of m))
 
--- the task is what one command says, which `clap` met in the words of the program
+-- the words name that command, and that is found which they say under its words; where they name
+-- none, it is `run`, and that is found which they say under the words of the program itself
+unfoldable pub IsNamed : List (List ℕ) → List ℕ → Found → Type 0
+IsNamed said name found =
+    (subcommand_of (program false) said ≡ Some (name, rows_of found))
+    ⊎ ((subcommand_of (program false) said ≡ None) × (name ≡ codes "run")
+    × (rows_of found ≡ matches_of (program false) said))
+
+-- the task is what one command says, which `clap` met in the words of the program, as it is told
+-- them; where a word begins as a number below 0 does, nothing says what it met
 pub record IsAsked {E : Type 0} (reads : List ℕ → Result ℕ E → Type 0) (said : List (List ℕ))
     (asked : Task) : Type 0 where
-  pub app : App
   pub matches : ArgMatches
-  pub met : HasMatchesOf app said matches
+  pub met : HasMatchesOf (program (has_negative said)) said matches
   pub name : List ℕ
   pub found : Found
   pub command : IsCommandOf matches name found
+  pub named : has_negative said ≡ false → IsNamed said name found
   pub task : SaysTask reads name found asked

@@ -1,13 +1,20 @@
 //! The words of the command line.
-ghost use Rattle.std.specs.Prelude.{◌≡◌, IfOk, map};
-ghost use Rattle.clap.specs.Words.{found_of};
+ghost use Rattle.std.specs.Prelude.{◌≡◌, ℕ, List, [], IfOk, codes, false, fold, map, true};
+ghost use Rattle.std.specs.String.{string_bytes};
+ghost use Rattle.clap.specs.Simple.{new_shape};
+ghost use Rattle.clap.specs.Words.{app_of, found_of, rule_of};
+ghost use Rattle.arguments.specs.Forms.{form_rule, with_word, word_rule, HasShape};
+ghost use Rattle.arguments.specs.Program.{at_least, bound_rule, count_or_rule, count_rule, flag_rule, letter_flag_rule, lone_flag_rule, names_rule, number_rule, required_rule};
+ghost use Rattle.arguments.specs.Program.{bare_shape, cache_pages_rule, check_shape, explain_rule, info_shape, migrate_shape, moments_shape, part_shape, parts_shape, program, quiet_rule, run_shape};
+ghost use Rattle.arguments.specs.Program.{has_negative, is_negative};
 ghost use Rattle.arguments.specs.Tasks.{IsAsked, SaysCheck, SaysInfo, SaysMigrate, SaysMoments, SaysPart, SaysParts, SaysRows, SaysRun, SaysTask};
 ghost use Rattle.arguments.specs.Words.{word, SaysFlag, SaysNumber, SaysTelling};
 
 use crate::task::{
     Bounds, Check, Info, Migrate, Moments, Part, Parts, RowKind, Run, Task, Telling,
 };
-use clap::{Arg, ArgAction, ArgMatches, Command, Error, value_parser};
+use clap::builder::ValueParser;
+use clap::{Arg, ArgAction, ArgMatches, Command, Error};
 use std::alloc::{AllocError, Global};
 use std::convert::AsStr;
 use std::str::FromStr;
@@ -22,7 +29,7 @@ enum Form<'a> {
     Required,
     /// It has to be there, and is a number of that at least.
     Count(u32),
-    /// It has to be there, and may begin with a minus as numbers below 0 do.
+    /// It has to be there, and may be a number below 0.
     Bound,
     /// As many words as there are.
     Names,
@@ -47,49 +54,125 @@ struct Word<'a> {
 }
 
 impl<'a> Word<'a> {
-    fn new(form: Form<'a>, name: &'a str, help: &'a str) -> Word<'a> {
+    #[tactic(auto, unfolding(crate::specs::Forms::word_rule))]
+    fn new(form: Form<'a>, name: &'a str, help: &'a str) -> Word<'a>
+        ensures { word_rule result ≡ form_rule name.entry.now form.entry }
+    {
         Word { name, form, help }
     }
 }
 
+/// A number of that at least.
+fn at_least<'a>(least: u32) -> ValueParser<'a>
+    ensures { result ≡ at_least least }
+{
+    ValueParser::signed(i64::from(least), i64::from(u32::MAX))
+}
+
 /// A word that has to be there.
-fn required<'a>(alloc: Global, word: Word<'a>) -> Arg<'a> {
+#[tactic(auto, unfolding(crate::specs::Program::required_rule))]
+fn required<'a>(alloc: Global, word: Word<'a>) -> Arg<'a>
+    ensures rule { rule_of result ≡ required_rule word.entry.name.now }
+    ensures local { result.global ≡ false }
+{
     Arg::new(alloc, word.name)
         .help(word.help)
         .required(true)
         .action(ArgAction::Set)
 }
 
+/// A word that has to be there, and is a number of that at least.
+fn count<'a>(alloc: Global, word: Word<'a>, least: u32) -> Arg<'a>
+    ensures rule { rule_of result ≡ count_rule least word.entry.name.now }
+    ensures local { result.global ≡ false }
+{
+    required(alloc, word).value_parser(at_least(least))
+}
+
+/// A word that has to be there, and may begin with a minus.
+#[tactic(auto, unfolding(crate::specs::Program::bound_rule))]
+fn bound<'a>(alloc: Global, word: Word<'a>) -> Arg<'a>
+    ensures rule { rule_of result ≡ bound_rule true word.entry.name.now }
+    ensures local { result.global ≡ false }
+{
+    required(alloc, word).allow_negative_numbers(true)
+}
+
+/// As many words as there are.
+#[tactic(auto, unfolding(crate::specs::Program::names_rule))]
+fn names<'a>(alloc: Global, word: Word<'a>) -> Arg<'a>
+    ensures rule { rule_of result ≡ names_rule word.entry.name.now }
+    ensures local { result.global ≡ false }
+{
+    Arg::new(alloc, word.name).help(word.help).num_args(0..)
+}
+
 /// A word `--NAME` without a value.
-fn flag<'a>(alloc: Global, word: Word<'a>) -> Arg<'a> {
+#[tactic(auto, unfolding(crate::specs::Program::flag_rule))]
+fn flag<'a>(alloc: Global, word: Word<'a>) -> Arg<'a>
+    ensures rule { rule_of result ≡ flag_rule word.entry.name.now }
+    ensures local { result.global ≡ false }
+{
     Arg::new(alloc, word.name)
         .long(word.name)
         .help(word.help)
         .action(ArgAction::SetTrue)
 }
 
+/// A word `--NAME` without a value, and not beside that other one.
+fn lone_flag<'a>(alloc: Global, word: Word<'a>, other: &'a str) -> Result<Arg<'a>, AllocError>
+    ensures rule { IfOk result (λ arg. rule_of arg ≡ lone_flag_rule word.entry.name.now) }
+    ensures local { IfOk result (λ arg. arg.global ≡ false) }
+{
+    flag(alloc, word).conflicts_with(other)
+}
+
+/// A word `--NAME` without a value, and that letter for it.
+#[tactic(auto, unfolding(crate::specs::Program::letter_flag_rule))]
+fn letter_flag<'a>(alloc: Global, word: Word<'a>, letter: char) -> Arg<'a>
+    ensures rule { rule_of result ≡ letter_flag_rule letter word.entry.name.now }
+    ensures local { result.global ≡ false }
+{
+    flag(alloc, word).short(letter)
+}
+
 /// A word `--NAME VALUE`, a number of that at least.
-fn number<'a>(alloc: Global, word: Word<'a>, value: &'a str, least: i64) -> Arg<'a> {
+fn number<'a>(alloc: Global, word: Word<'a>, value: &'a str, least: u32) -> Arg<'a>
+    ensures rule { rule_of result ≡ number_rule least word.entry.name.now }
+    ensures local { result.global ≡ false }
+{
     Arg::new(alloc, word.name)
         .long(word.name)
         .value_name(value)
         .help(word.help)
-        .value_parser(value_parser!(u32).range(least..))
+        .value_parser(at_least(least))
 }
 
-fn arg_of<'a>(alloc: Global, word: Word<'a>) -> Result<Arg<'a>, AllocError> {
+/// A word `--NAME N`, a number of 1 at least, and that where it is not there.
+#[tactic(auto, unfolding(crate::specs::Program::count_or_rule))]
+fn count_or<'a>(alloc: Global, word: Word<'a>, default: &'a str) -> Arg<'a>
+    ensures rule { rule_of result ≡ count_or_rule default.entry.now word.entry.name.now }
+    ensures local { result.global ≡ false }
+{
+    number(alloc, word, "N", 1).default_value(default)
+}
+
+/// What `clap` is told of a word.
+#[tactic(auto, unfolding(crate::specs::Forms::word_rule))]
+fn arg_of<'a>(alloc: Global, word: Word<'a>) -> Result<Arg<'a>, AllocError>
+    ensures rule { IfOk result (λ arg. rule_of arg ≡ word_rule word.entry) }
+    ensures local { IfOk result (λ arg. arg.global ≡ false) }
+{
     match word.form {
         Form::Required => Ok(required(alloc, word)),
-        Form::Count(least) => Ok(required(alloc, word).value_parser(value_parser!(u32).range(
-            i64::from(least)..,
-        ))),
-        Form::Bound => Ok(required(alloc, word).allow_negative_numbers(true)),
-        Form::Names => Ok(Arg::new(alloc, word.name).help(word.help).num_args(0..)),
+        Form::Count(least) => Ok(count(alloc, word, least)),
+        Form::Bound => Ok(bound(alloc, word)),
+        Form::Names => Ok(names(alloc, word)),
         Form::Flag => Ok(flag(alloc, word)),
-        Form::FlagWithout(other) => flag(alloc, word).conflicts_with(other),
-        Form::FlagOrLetter(letter) => Ok(flag(alloc, word).short(letter)),
+        Form::FlagWithout(other) => lone_flag(alloc, word, other),
+        Form::FlagOrLetter(letter) => Ok(letter_flag(alloc, word, letter)),
         Form::Number(value) => Ok(number(alloc, word, value, 0)),
-        Form::CountOr(default) => Ok(number(alloc, word, "N", 1).default_value(default)),
+        Form::CountOr(default) => Ok(count_or(alloc, word, default)),
     }
 }
 
@@ -99,7 +182,9 @@ fn command<'a>(
     name: &'a str,
     about: &'a str,
     words: &[Word<'a>],
-) -> Result<Command<'a>, AllocError> {
+) -> Result<Command<'a>, AllocError>
+    ensures { IfOk result (HasShape (fold with_word (new_shape name.entry.now) words.now)) }
+{
     let mut command = Command::new(alloc, name).about(about);
     for word in words {
         command = command.arg(arg_of(alloc, *word)?)?;
@@ -108,7 +193,10 @@ fn command<'a>(
 }
 
 /// The word `--cache-pages N`.
-fn cache_pages<'a>() -> Word<'a> {
+#[tactic(auto, unfolding(crate::specs::Program::cache_pages_rule))]
+fn cache_pages<'a>() -> Word<'a>
+    ensures { word_rule result ≡ cache_pages_rule }
+{
     Word::new(
         Form::CountOr("256"),
         "cache-pages",
@@ -117,7 +205,10 @@ fn cache_pages<'a>() -> Word<'a> {
 }
 
 /// The word `--explain`.
-fn explain<'a>() -> Word<'a> {
+#[tactic(auto, unfolding(crate::specs::Program::explain_rule))]
+fn explain<'a>() -> Word<'a>
+    ensures { word_rule result ≡ explain_rule }
+{
     Word::new(
         Form::FlagWithout("quiet"),
         "explain",
@@ -126,7 +217,10 @@ fn explain<'a>() -> Word<'a> {
 }
 
 /// The word `-q`.
-fn quiet<'a>() -> Word<'a> {
+#[tactic(auto, unfolding(crate::specs::Program::quiet_rule))]
+fn quiet<'a>() -> Word<'a>
+    ensures { word_rule result ≡ quiet_rule }
+{
     Word::new(
         Form::FlagOrLetter('q'),
         "quiet",
@@ -134,8 +228,32 @@ fn quiet<'a>() -> Word<'a> {
     )
 }
 
+/// The word `--in-place`.
+fn in_place<'a>() -> Word<'a>
+    ensures { word_rule result ≡ flag_rule (codes "in-place") }
+{
+    Word::new(
+        Form::Flag,
+        "in-place",
+        "Load into the file itself and not into a copy: what is killed then loses the store",
+    )
+}
+
+/// The word `--existing`.
+fn existing<'a>() -> Word<'a>
+    ensures { word_rule result ≡ flag_rule (codes "existing") }
+{
+    Word::new(
+        Form::Flag,
+        "existing",
+        "Refuse a STORE that is absent or empty, and make none",
+    )
+}
+
 /// The words of `mftb run`.
-fn run_command<'a>(alloc: Global) -> Result<Command<'a>, AllocError> {
+fn run_command<'a>(alloc: Global) -> Result<Command<'a>, AllocError>
+    ensures { IfOk result (HasShape run_shape) }
+{
     let words = [
         Word::new(
             Form::Required,
@@ -153,16 +271,8 @@ fn run_command<'a>(alloc: Global) -> Result<Command<'a>, AllocError> {
             "The files that the script may load, by these names",
         ),
         cache_pages(),
-        Word::new(
-            Form::Flag,
-            "in-place",
-            "Load into the file itself and not into a copy: what is killed then loses the store",
-        ),
-        Word::new(
-            Form::Flag,
-            "existing",
-            "Refuse a STORE that is absent or empty, and make none",
-        ),
+        in_place(),
+        existing(),
         Word::new(
             Form::Flag,
             "strict",
@@ -181,7 +291,9 @@ fn run_command<'a>(alloc: Global) -> Result<Command<'a>, AllocError> {
 }
 
 /// The words of `mftb check`.
-fn check_command<'a>(alloc: Global) -> Result<Command<'a>, AllocError> {
+fn check_command<'a>(alloc: Global) -> Result<Command<'a>, AllocError>
+    ensures { IfOk result (HasShape check_shape) }
+{
     let words = [
         Word::new(Form::Required, "STORE", "The file that keeps the database"),
         cache_pages(),
@@ -197,7 +309,9 @@ fn check_command<'a>(alloc: Global) -> Result<Command<'a>, AllocError> {
 }
 
 /// The words of `mftb migrate`.
-fn migrate_command<'a>(alloc: Global) -> Result<Command<'a>, AllocError> {
+fn migrate_command<'a>(alloc: Global) -> Result<Command<'a>, AllocError>
+    ensures { IfOk result (HasShape migrate_shape) }
+{
     let words = [
         Word::new(
             Form::Required,
@@ -215,7 +329,9 @@ fn migrate_command<'a>(alloc: Global) -> Result<Command<'a>, AllocError> {
 }
 
 /// The words of `mftb part`.
-fn part_command<'a>(alloc: Global) -> Result<Command<'a>, AllocError> {
+fn part_command<'a>(alloc: Global) -> Result<Command<'a>, AllocError>
+    ensures { IfOk result (HasShape part_shape) }
+{
     let words = [
         Word::new(Form::Count(0), "K", "The number of the part, from 0"),
         Word::new(Form::Count(1), "N", "How many parts there are"),
@@ -230,7 +346,9 @@ fn part_command<'a>(alloc: Global) -> Result<Command<'a>, AllocError> {
 }
 
 /// The words of `mftb parts`.
-fn parts_command<'a>(alloc: Global) -> Result<Command<'a>, AllocError> {
+fn parts_command<'a>(alloc: Global) -> Result<Command<'a>, AllocError>
+    ensures { IfOk result (HasShape parts_shape) }
+{
     let words = [
         Word::new(Form::Count(1), "N", "How many parts there are"),
         Word::new(
@@ -254,20 +372,31 @@ fn parts_command<'a>(alloc: Global) -> Result<Command<'a>, AllocError> {
     )
 }
 
+/// What a bound of `mftb moments` is.
+#[tactic(auto, unfolding(crate::specs::Program::bound_rule))]
+fn bound_form<'a>(takes_negative: bool) -> Form<'a>
+    ensures { (name : List ℕ) → form_rule name result ≡ bound_rule takes_negative name }
+{
+    if takes_negative {
+        Form::Bound
+    } else {
+        Form::Required
+    }
+}
+
 /// The words of `mftb moments`.
-fn moments_command<'a>(alloc: Global) -> Result<Command<'a>, AllocError> {
+fn moments_command<'a>(alloc: Global, takes_negative: bool) -> Result<Command<'a>, AllocError>
+    ensures { IfOk result (HasShape (moments_shape takes_negative)) }
+{
+    let bound = bound_form(takes_negative);
     let words = [
         Word::new(Form::Required, "STORE", "The file that keeps the database"),
-        Word::new(Form::Bound, "X1", "The least x"),
-        Word::new(Form::Bound, "Y1", "The least y"),
-        Word::new(Form::Bound, "X2", "The greatest x"),
-        Word::new(Form::Bound, "Y2", "The greatest y"),
-        Word::new(
-            Form::Bound,
-            "T1",
-            "The first moment, as 2012-01-17T12:33:41Z",
-        ),
-        Word::new(Form::Bound, "T2", "The last moment"),
+        Word::new(bound, "X1", "The least x"),
+        Word::new(bound, "Y1", "The least y"),
+        Word::new(bound, "X2", "The greatest x"),
+        Word::new(bound, "Y2", "The greatest y"),
+        Word::new(bound, "T1", "The first moment, as 2012-01-17T12:33:41Z"),
+        Word::new(bound, "T2", "The last moment"),
         Word::new(
             Form::Flag,
             "visits",
@@ -285,7 +414,9 @@ fn moments_command<'a>(alloc: Global) -> Result<Command<'a>, AllocError> {
 }
 
 /// The words of `mftb info`.
-fn info_command<'a>(alloc: Global) -> Result<Command<'a>, AllocError> {
+fn info_command<'a>(alloc: Global) -> Result<Command<'a>, AllocError>
+    ensures { IfOk result (HasShape info_shape) }
+{
     let words = [
         Word::new(Form::Required, "STORE", "The file that keeps the database"),
         Word::new(Form::Flag, "json", "Print one object of JSON"),
@@ -298,51 +429,49 @@ fn info_command<'a>(alloc: Global) -> Result<Command<'a>, AllocError> {
     )
 }
 
-/// The commands of the program.
-#[derive(Clone, Copy)]
-enum Verb {
-    Run,
-    Check,
-    Migrate,
-    Part,
-    Parts,
-    Moments,
-    Info,
-}
-
-/// The commands in the order in which the help says them.
-const VERBS: [Verb; 7] = [
-    Verb::Run,
-    Verb::Check,
-    Verb::Migrate,
-    Verb::Part,
-    Verb::Parts,
-    Verb::Moments,
-    Verb::Info,
-];
-
-fn command_of<'a>(alloc: Global, verb: Verb) -> Result<Command<'a>, AllocError> {
-    match verb {
-        Verb::Run => run_command(alloc),
-        Verb::Check => check_command(alloc),
-        Verb::Migrate => migrate_command(alloc),
-        Verb::Part => part_command(alloc),
-        Verb::Parts => parts_command(alloc),
-        Verb::Moments => moments_command(alloc),
-        Verb::Info => info_command(alloc),
-    }
-}
-
-/// The words of the program.
-fn mftb<'a>(alloc: Global) -> Result<Command<'a>, AllocError> {
-    let mut command = Command::new(alloc, "mftb")
+/// The program without its commands.
+#[tactic(auto, unfolding(crate::specs::Program::bare_shape))]
+fn bare<'a>(alloc: Global) -> Command<'a>
+    ensures { app_of result ≡ record { top = bare_shape; subs = [] } }
+{
+    Command::new(alloc, "mftb")
         .about("A trajectory database")
         .version("0.1.0")
-        .subcommand_required(true);
-    for verb in VERBS {
-        command = command.subcommand(command_of(alloc, verb)?)?;
+        .subcommand_required(true)
+}
+
+/// The words of the program, and its commands in the order in which the help says them.
+fn mftb<'a>(alloc: Global, takes_negative: bool) -> Result<Command<'a>, AllocError>
+    ensures { IfOk result (λ command. app_of command ≡ program takes_negative) }
+{
+    bare(alloc)
+        .subcommand(run_command(alloc)?)?
+        .subcommand(check_command(alloc)?)?
+        .subcommand(migrate_command(alloc)?)?
+        .subcommand(part_command(alloc)?)?
+        .subcommand(parts_command(alloc)?)?
+        .subcommand(moments_command(alloc, takes_negative)?)?
+        .subcommand(info_command(alloc)?)
+}
+
+/// Whether a word begins as a number below 0 does.
+fn is_negative(word: &str) -> bool
+    ensures { result ≡ is_negative word.now }
+{
+    let bytes = word.as_bytes();
+    bytes.len() > 1 && bytes[0] == b'-' && bytes[1].is_ascii_digit()
+}
+
+/// Whether one of the words does.
+fn has_negative(words: &[String]) -> bool
+    ensures { result ≡ has_negative (map string_bytes words.now) }
+{
+    for word in words {
+        if is_negative(word.as_str()) {
+            return true;
+        }
     }
-    Ok(command)
+    false
 }
 
 /// A word that is there.
@@ -486,11 +615,15 @@ fn info_of<'a>(matches: &ArgMatches<'a>) -> Info<'a>
 }
 
 /// Reads the words, of which the first is the program's name.
+///
+/// `clap` takes a number below 0 as a bound only where it is told so, and no clause says what it makes
+/// of words that it is told that of. So it is told so only where one of the words begins as such a number.
 pub fn read_words<'a>(alloc: Global, words: &'a [String]) -> Result<Task<'a>, Error>
     ensures { IfOk result (IsAsked ⟦<u32 as FromStr>⟧.from_str_gives
         (map ⟦<String as AsStr>⟧.text words.entry.now)) }
 {
-    let matches = mftb(alloc)?.try_get_matches_from(words)?;
+    let program = mftb(alloc, has_negative(words))?;
+    let matches = program.try_get_matches_from(words)?;
     match matches.subcommand() {
         Some((name, found)) => task_of(alloc, name, found),
         None => task_of(alloc, "run", &matches),
