@@ -71,6 +71,8 @@ impl Moment {
         ensures value { result ≡ micros_down self }
         ensures floor { IsFloor (pos 1000) self.num self.den result }
         ensures small { unsigned_abs result < 2 ^ 58 }
+
+        // The millisecond that it is in is a moment.
         ensures milli { IsMoment (int_div_euclid result (pos 1000)) }
     {
         (self.num * 1000).div_euclid(self.den as i128) as i64
@@ -81,6 +83,8 @@ impl Moment {
         ensures value { result ≡ micros_up self }
         ensures ceiling { IsCeiling (pos 1000) self.num self.den result }
         ensures small { unsigned_abs result < 2 ^ 58 }
+
+        // The millisecond that it is in is a moment.
         ensures milli { IsMoment (int_div_euclid result (pos 1000)) }
     {
         -((-self.num * 1000).div_euclid(self.den as i128) as i64)

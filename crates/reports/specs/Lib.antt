@@ -1,1 +1,4 @@
 pub mod Printing
+pub mod StayTexts
+pub mod StorePieces
+pub mod StoreTexts

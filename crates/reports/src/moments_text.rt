@@ -1,18 +1,22 @@
 //! The texts of stays, visits and dwells: records of CSV behind a line that names their fields.
-ghost use Rattle.std.specs.Prelude.{◌≡◌, ◌<◌, pos, All, IfErr, length, OnOk};
+ghost use Rattle.std.specs.Prelude.{◌≡◌, ◌<◌, ◌++◌, pos, All, decimal, IfErr, length, OnOk};
+ghost use Rattle.std.specs.Fmt.{signed_decimal};
 ghost use Rattle.std.specs.Int.{int_div_euclid};
+ghost use Rattle.fixedpoint.specs.NumberText.{coord_text};
 ghost use Rattle.timebase.specs.Instant.{IsMoment};
+ghost use Rattle.timebase.specs.InstantText.{instant_text};
+ghost use Rattle.moments.specs.Ends.{end_text};
 ghost use Rattle.trajdb.specs.Calls.{IsText};
 ghost use Rattle.trajdb.specs.declared.RunFault.{RunFault};
 ghost use Rattle.reports.specs.Printing.{IsPrintFault};
+ghost use Rattle.reports.specs.StayTexts.{dwell_text, dwells_text, end_at, ends_text, fields_text, fraction_text, micros_text, name_text, next_field, position_fields, position_text, quoted_text, seconds_text, stay_text, stays_text, three_digits, times_text, visit_text, visits_text, without_last};
 
-use crate::wrote::wrote;
-use fixedpoint::push_coord;
+use fixedpoint::{Coord, push_coord};
+use itoa::Buffer;
 use mfcsv::{Dimension, Position};
 use moments::{Dwell, Moment, Stay, Visit};
 use pages::PageStore;
 use std::alloc::{AllocError, Global};
-use std::io::Write;
 use timebase::{Ms, Period, push_instant};
 use trajdb::{Db, RunFault};
 use writer::push_features;
@@ -26,12 +30,64 @@ pub struct Frame {
     pub dimension: Dimension,
 }
 
+/// Appends a number.
+fn push_number(text: &mut Vec<u8>, number: u64) -> Result<(), AllocError>
+    ensures { OnOk result (text.new.items ≡ text.old.items ++ decimal number) }
+{
+    let mut buffer = Buffer::new();
+    text.extend_from_slice(buffer.format(number).as_bytes())
+}
+
+/// Appends a number that may be below 0.
+fn push_signed(text: &mut Vec<u8>, number: i128) -> Result<(), AllocError>
+    ensures { OnOk result (text.new.items ≡ text.old.items ++ signed_decimal number) }
+{
+    let mut buffer = Buffer::new();
+    text.extend_from_slice(buffer.format(number).as_bytes())
+}
+
+/// Appends the last three digits of a number.
+#[tactic(auto, unfolding(crate::specs::StayTexts::three_digits))]
+fn push_three_digits(text: &mut Vec<u8>, number: u64) -> Result<(), AllocError>
+    ensures { OnOk result (text.new.items ≡ text.old.items ++ three_digits number) }
+{
+    text.push(b'0' + (number / 100 % 10) as u8)?;
+    text.push(b'0' + (number / 10 % 10) as u8)?;
+    Ok(text.push(b'0' + (number % 10) as u8)?)
+}
+
+/// Appends a comma and a word.
+fn push_word(text: &mut Vec<u8>, word: &str) -> Result<(), AllocError>
+    ensures { OnOk result (text.new.items ≡ text.old.items ++ next_field word.now) }
+{
+    text.push(b',')?;
+    text.extend_from_slice(word.as_bytes())
+}
+
+/// Appends a comma and a number.
+fn push_count(text: &mut Vec<u8>, number: u64) -> Result<(), AllocError>
+    ensures { OnOk result (text.new.items ≡ text.old.items ++ next_field (decimal number)) }
+{
+    text.push(b',')?;
+    push_number(text, number)
+}
+
+/// Takes the last byte away.
+#[tactic(auto, unfolding(crate::specs::StayTexts::without_last))]
+fn drop_last(text: &mut Vec<u8>)
+    ensures { text.new.items ≡ without_last text.old.items }
+{
+    text.pop();
+}
+
 /// Appends a name, quoted where it needs it.
+#[tactic(auto, using(crate::proofs::TextLemmas::last_of_features))]
 fn push_quoted(alloc: Global, text: &mut Vec<u8>, name: &str) -> Result<(), RunFault>
-    ensures { IfErr result (λ fault. fault ≡ RunFault.Memory) }
+    ensures fault { IfErr result (λ fault. fault ≡ RunFault.Memory) }
+    ensures text { OnOk result (text.new.items ≡ text.old.items ++ quoted_text name.now) }
 {
     push_features(alloc, text, &[name])?;
-    text.pop();
+    drop_last(text);
     Ok(())
 }
 
@@ -44,6 +100,8 @@ fn push_name<S: PageStore>(
 ) -> Result<(), RunFault>
     ensures there { OnOk result (feature < length database.now.book.names) }
     ensures fault { IfErr result (IsText (feature < length database.now.book.names)) }
+    ensures text { OnOk result (text.new.items
+        ≡ text.old.items ++ name_text database.now.book feature) }
 {
     match database.name(feature) {
         Some(name) => push_quoted(alloc, text, name),
@@ -52,23 +110,42 @@ fn push_name<S: PageStore>(
 }
 
 /// Appends a comma and a moment as a fraction of milliseconds since the base.
+#[tactic(auto, unfolding(crate::specs::StayTexts::fraction_text))]
 fn push_fraction(text: &mut Vec<u8>, base: Ms, moment: Moment) -> Result<(), RunFault>
-    ensures { IfErr result (λ fault. fault ≡ RunFault.Memory) }
+    ensures fault { IfErr result (λ fault. fault ≡ RunFault.Memory) }
+    ensures text { OnOk result (text.new.items
+        ≡ text.old.items ++ next_field (fraction_text base moment)) }
 {
-    wrote(write!(text, ",{}/{}", moment.since(base), moment.den))
+    text.push(b',')?;
+    push_signed(text, moment.since(base))?;
+    text.push(b'/')?;
+    Ok(push_number(text, moment.den)?)
+}
+
+/// Appends an instant to the millisecond, without its `Z`.
+#[tactic(auto, using(crate::proofs::TextLemmas::last_of_instant))]
+fn push_millis(text: &mut Vec<u8>, at: Ms) -> Result<(), AllocError>
+    ensures { OnOk result (text.new.items
+        ≡ text.old.items ++ without_last (instant_text at)) }
+{
+    push_instant(text, at)?;
+    drop_last(text);
+    Ok(())
 }
 
 /// Appends a comma and an instant to the microsecond.
 fn push_micros(text: &mut Vec<u8>, micros: i64) -> Result<(), RunFault>
-    ensures { IfErr result (IsPrintFault (IsMoment (int_div_euclid micros (pos 1000)))) }
+    ensures fault { IfErr result (IsPrintFault (IsMoment (int_div_euclid micros (pos 1000)))) }
+    ensures text { OnOk result (text.new.items
+        ≡ text.old.items ++ next_field (micros_text micros)) }
 {
     let Some(at) = Ms::new(micros.div_euclid(1000)) else {
         return Err(RunFault::Failed);
     };
     text.push(b',')?;
-    push_instant(text, at)?;
-    text.pop();
-    wrote(write!(text, "{:03}Z", micros.rem_euclid(1000)))
+    push_millis(text, at)?;
+    push_three_digits(text, micros.rem_euclid(1000).unsigned_abs())?;
+    Ok(text.push(b'Z')?)
 }
 
 /// Appends a first and a last moment: as fractions, and as instants, the first rounded down and the last up.
@@ -78,48 +155,93 @@ fn push_times(
     enters: Moment,
     leaves: Moment,
 ) -> Result<(), RunFault>
-    ensures { IfErr result (λ fault. fault ≡ RunFault.Memory) }
+    ensures fault { IfErr result (λ fault. fault ≡ RunFault.Memory) }
+    ensures text { OnOk result (text.new.items
+        ≡ text.old.items ++ times_text frame.now.base enters leaves) }
 {
     push_fraction(text, frame.base, enters)?;
     push_fraction(text, frame.base, leaves)?;
     push_micros(text, enters.micros_down())?;
-    push_micros(text, leaves.micros_up())
+    push_micros(text, leaves.micros_up())?;
+    Ok(())
+}
+
+/// Appends a comma and a coordinate.
+fn push_next_coord(text: &mut Vec<u8>, coord: Coord) -> Result<(), AllocError>
+    ensures { OnOk result (text.new.items ≡ text.old.items ++ next_field (coord_text coord)) }
+{
+    text.push(b',')?;
+    push_coord(text, coord)
 }
 
 /// Appends a comma and each coordinate of a position.
+#[tactic(auto, unfolding(crate::specs::StayTexts::position_text))]
 fn push_position(
     text: &mut Vec<u8>,
     dimension: Dimension,
     position: Position,
-) -> Result<(), AllocError> {
-    text.push(b',')?;
-    push_coord(text, position.x)?;
-    text.push(b',')?;
-    push_coord(text, position.y)?;
+) -> Result<(), AllocError>
+    ensures text { OnOk result (text.new.items
+        ≡ text.old.items ++ position_text dimension position) }
+{
+    push_next_coord(text, position.x)?;
+    push_next_coord(text, position.y)?;
     match dimension {
         Dimension::Two => Ok(()),
-        Dimension::Three => {
-            text.push(b',')?;
-            push_coord(text, position.z)
-        }
+        Dimension::Three => push_next_coord(text, position.z),
+    }
+}
+
+/// The names of the fields of two positions.
+fn position_fields(dimension: Dimension) -> &'static str
+    ensures { result.now ≡ position_fields dimension }
+{
+    match dimension {
+        Dimension::Two => "x_in,y_in,x_out,y_out",
+        Dimension::Three => "x_in,y_in,z_in,x_out,y_out,z_out",
     }
 }
 
 /// Appends the names of the fields of stays or visits.
+#[tactic(auto, unfolding(crate::specs::StayTexts::fields_text))]
 fn push_fields(text: &mut Vec<u8>, dimension: Dimension, others: &str) -> Result<(), RunFault>
-    ensures { IfErr result (λ fault. fault ≡ RunFault.Memory) }
+    ensures fault { IfErr result (λ fault. fault ≡ RunFault.Memory) }
+    ensures text { OnOk result (text.new.items
+        ≡ text.old.items ++ fields_text dimension others.now) }
 {
-    let places = match dimension {
-        Dimension::Two => "x_in,y_in,x_out,y_out",
-        Dimension::Three => "x_in,y_in,z_in,x_out,y_out,z_out",
-    };
-    wrote(writeln!(
-        text,
-        "feature,enters,leaves,enters_at,leaves_at,{places},{others}"
-    ))
+    text.extend_from_slice(b"feature,enters,leaves,enters_at,leaves_at")?;
+    push_word(text, position_fields(dimension))?;
+    push_word(text, others)?;
+    Ok(text.push(b'\n')?)
+}
+
+/// What a stay begins by, as it is printed.
+fn begun_text(period: &Period, stay: &Stay) -> &'static str
+    ensures { result.now
+        ≡ end_text (end_at stay.now.enters stay.now.leg.t0 period.now.start) }
+{
+    stay.begun_by(period).as_str()
+}
+
+/// What it ends by.
+fn ended_text(period: &Period, stay: &Stay) -> &'static str
+    ensures { result.now
+        ≡ end_text (end_at stay.now.leaves stay.now.leg.t1 period.now.end) }
+{
+    stay.ended_by(period).as_str()
+}
+
+/// Appends both, each behind a comma.
+#[tactic(auto, unfolding(crate::specs::StayTexts::ends_text))]
+fn push_ends(text: &mut Vec<u8>, period: &Period, stay: &Stay) -> Result<(), AllocError>
+    ensures { OnOk result (text.new.items ≡ text.old.items ++ ends_text period.now stay.now) }
+{
+    push_word(text, begun_text(period, stay))?;
+    push_word(text, ended_text(period, stay))
 }
 
 /// Appends the record of a stay.
+#[tactic(auto, unfolding(crate::specs::StayTexts::stay_text))]
 fn push_stay<S: PageStore>(
     alloc: Global,
     text: &mut Vec<u8>,
@@ -131,13 +253,15 @@ fn push_stay<S: PageStore>(
     ensures there { OnOk result (stay.now.leg.feature < length database.now.book.names) }
     ensures fault { IfErr result
         (IsText (stay.now.leg.feature < length database.now.book.names)) }
+    ensures text { OnOk result (text.new.items
+        ≡ text.old.items ++ stay_text database.now.book frame.now period.now stay.now) }
 {
     push_name(alloc, text, database, stay.leg.feature)?;
     push_times(text, frame, stay.enters, stay.leaves)?;
     push_position(text, frame.dimension, stay.entry)?;
     push_position(text, frame.dimension, stay.exit)?;
-    let (begun, ended) = (stay.begun_by(period), stay.ended_by(period));
-    wrote(writeln!(text, ",{},{}", begun.as_str(), ended.as_str()))
+    push_ends(text, period, stay)?;
+    Ok(text.push(b'\n')?)
 }
 
 /// Appends a record for each stay. Refused for want of memory, and with page 0 where a feature is not in the book.
@@ -153,6 +277,8 @@ pub fn push_stays<S: PageStore>(
         (All (λ stay. stay.leg.feature < length database.now.book.names) stays.now) }
     ensures fault { IfErr result (IsText
         (All (λ stay. stay.leg.feature < length database.now.book.names) stays.now)) }
+    ensures text { OnOk result (text.new.items
+        ≡ text.old.items ++ stays_text database.now.book frame.now period.now stays.now) }
 {
     push_fields(text, frame.dimension, "enters_by,leaves_by")?;
     for stay in stays {
@@ -162,6 +288,7 @@ pub fn push_stays<S: PageStore>(
 }
 
 /// Appends the record of a visit.
+#[tactic(auto, unfolding(crate::specs::StayTexts::visit_text))]
 fn push_visit<S: PageStore>(
     alloc: Global,
     text: &mut Vec<u8>,
@@ -171,12 +298,15 @@ fn push_visit<S: PageStore>(
 ) -> Result<(), RunFault>
     ensures there { OnOk result (visit.now.feature < length database.now.book.names) }
     ensures fault { IfErr result (IsText (visit.now.feature < length database.now.book.names)) }
+    ensures text { OnOk result (text.new.items
+        ≡ text.old.items ++ visit_text database.now.book frame.now visit.now) }
 {
     push_name(alloc, text, database, visit.feature)?;
     push_times(text, frame, visit.enters, visit.leaves)?;
     push_position(text, frame.dimension, visit.entry)?;
     push_position(text, frame.dimension, visit.exit)?;
-    wrote(writeln!(text, ",{}", visit.legs))
+    push_count(text, visit.legs)?;
+    Ok(text.push(b'\n')?)
 }
 
 /// Appends a record for each visit, and is refused as `push_stays` is.
@@ -191,6 +321,8 @@ pub fn push_visits<S: PageStore>(
         (All (λ visit. visit.feature < length database.now.book.names) visits.now) }
     ensures fault { IfErr result (IsText
         (All (λ visit. visit.feature < length database.now.book.names) visits.now)) }
+    ensures text { OnOk result (text.new.items
+        ≡ text.old.items ++ visits_text database.now.book frame.now visits.now) }
 {
     push_fields(text, frame.dimension, "legs")?;
     for visit in visits {
@@ -200,13 +332,21 @@ pub fn push_visits<S: PageStore>(
 }
 
 /// Appends a comma and microseconds as seconds.
+#[tactic(auto, unfolding(crate::specs::StayTexts::seconds_text))]
 fn push_seconds(text: &mut Vec<u8>, micros: u64) -> Result<(), RunFault>
-    ensures { IfErr result (λ fault. fault ≡ RunFault.Memory) }
+    ensures fault { IfErr result (λ fault. fault ≡ RunFault.Memory) }
+    ensures text { OnOk result (text.new.items
+        ≡ text.old.items ++ next_field (seconds_text micros)) }
 {
-    wrote(write!(text, ",{}.{:06}", micros / 1_000_000, micros % 1_000_000))
+    text.push(b',')?;
+    push_number(text, micros / 1_000_000)?;
+    text.push(b'.')?;
+    push_three_digits(text, micros / 1000)?;
+    Ok(push_three_digits(text, micros)?)
 }
 
 /// Appends the record of a feature's visits.
+#[tactic(auto, unfolding(crate::specs::StayTexts::dwell_text))]
 fn push_dwell<S: PageStore>(
     alloc: Global,
     text: &mut Vec<u8>,
@@ -215,9 +355,11 @@ fn push_dwell<S: PageStore>(
 ) -> Result<(), RunFault>
     ensures there { OnOk result (dwell.now.feature < length database.now.book.names) }
     ensures fault { IfErr result (IsText (dwell.now.feature < length database.now.book.names)) }
+    ensures text { OnOk result (text.new.items
+        ≡ text.old.items ++ dwell_text database.now.book dwell.now) }
 {
     push_name(alloc, text, database, dwell.feature)?;
-    wrote(write!(text, ",{}", dwell.visits))?;
+    push_count(text, dwell.visits)?;
     push_seconds(text, dwell.least)?;
     push_seconds(text, dwell.most)?;
     Ok(text.push(b'\n')?)
@@ -235,8 +377,10 @@ pub fn push_dwells<S: PageStore>(
         (All (λ dwell. dwell.feature < length database.now.book.names) dwells.now) }
     ensures fault { IfErr result (IsText
         (All (λ dwell. dwell.feature < length database.now.book.names) dwells.now)) }
+    ensures text { OnOk result (text.new.items
+        ≡ text.old.items ++ dwells_text database.now.book dwells.now) }
 {
-    wrote(writeln!(text, "feature,visits,least,most"))?;
+    text.extend_from_slice(b"feature,visits,least,most\n")?;
     for dwell in dwells {
         push_dwell(alloc, text, database, dwell)?;
     }

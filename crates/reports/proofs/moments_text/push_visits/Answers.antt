@@ -1,16 +1,29 @@
-use Rattle.std.proofs.Common.{List, ◌<◌, All, length, subst, arith}
+use Rattle.std.proofs.Common.{◌<◌, ℕ, List, All, codes, length, subst, arith}
 use Rattle.std.proofs.lemmas.List.{take_all}
 use Rattle.std.proofs.lemmas.List.Elements.{All-more}
 use Rattle.moments.specs.declared.visits.Visit.{Visit}
+use Rattle.reports.specs.StayTexts.{fields_text, visit_text, visits_text}
+use Rattle.reports.proofs.TextLemmas.{texts_all, texts_with}
 use Rattle.reports.proofs.moments_text.push_visits.Goals as goal
 
 pub loop-visit-preserved : goal.loop-visit-preserved
 loop-visit-preserved g c =
-    let P : Visit → Type 0 = λ visit. visit.feature < length c.args.database.now.book.names in
-    All-more P c.args.visits.now c.loop-visit.visit-index c.visit-item.result (omega (arith, c.loop-visit-test.true)) c.loop-visit.invariant
-    (subst P c.visit-item.is c.in_ok-push_visit.ensures.there)
+    let book = c.args.database.now.book in
+    let P : Visit → Type 0 = λ visit. visit.feature < length book.names in
+    let f : Visit → List ℕ = visit_text book c.args.frame.now in
+    let within : c.loop-visit.visit-index < length c.args.visits.now = omega (arith, c.loop-visit-test.true) in
+    record {
+      there = All-more P c.args.visits.now c.loop-visit.visit-index c.visit-item.result within c.loop-visit.invariant.there (subst P c.visit-item.is c.in_ok-push_visit.ensures.there);
+      text = texts_with f _ c.args.visits.now c.loop-visit.visit-index c.visit-item.result _ _ within c.visit-item.is c.loop-visit.invariant.text c.in_ok-push_visit.ensures.text;
+    }
 
 pub returns-clause-there : goal.returns-clause-there
 returns-clause-there g c =
     let P : Visit → Type 0 = λ visit. visit.feature < length c.args.database.now.book.names in
-    subst (λ (xs : List Visit). All P xs) (take_all c.loop-visit.visit-index c.args.visits.now (omega (arith, c.loop-visit-test.false))) c.loop-visit.invariant
+    subst (λ (xs : List Visit). All P xs) (take_all c.loop-visit.visit-index c.args.visits.now (omega (arith, c.loop-visit-test.false))) c.loop-visit.invariant.there
+
+pub returns-clause-text : goal.returns-clause-text
+unfolding visits_text
+returns-clause-text g c =
+    let book = c.args.database.now.book in
+    texts_all (visit_text book c.args.frame.now) c.args.text.now.items (fields_text c.args.frame.now.dimension (codes "legs")) _ c.args.visits.now c.loop-visit.visit-index _ (omega (arith, c.loop-visit-test.false)) c.in_ok-push_fields.ensures.text c.loop-visit.invariant.text
