@@ -1,4 +1,7 @@
 //! What is noted of a run's answers, to be said in words.
+ghost use Rattle.std.specs.Prelude.{◌≡◌};
+ghost use Rattle.monitor.specs.Notes.{refused_of};
+
 use predicates::Predicate;
 use querylang::{Command, parse_line};
 use reasons::Refusal;
@@ -92,7 +95,9 @@ fn doubt_of(alloc: Global, answer: &[u8], text: &[u8], is_empty: bool) -> Option
 
 impl Notes {
     /// No notes of a run over a store that has no legs, or may have some.
-    pub fn new(alloc: Global, is_told: bool, is_empty: bool) -> Notes {
+    pub fn new(alloc: Global, is_told: bool, is_empty: bool) -> Notes
+        ensures { refused_of result ≡ 0 }
+    {
         Notes {
             alloc,
             is_told,
@@ -106,7 +111,9 @@ impl Notes {
     }
 
     /// How many lines and files were refused.
-    pub fn refused(&self) -> u64 {
+    pub fn refused(&self) -> u64
+        ensures { result ≡ refused_of self.now }
+    {
         self.refused
     }
 

@@ -1,5 +1,6 @@
 //! Files of the system that are read whole.
-ghost use Rattle.std.specs.Prelude.{◌≤◌, IfOk, vec_len};
+ghost use Rattle.std.specs.Prelude.{◌≤◌, IfErr, IfOk, vec_len};
+ghost use Rattle.sessions.specs.Reading.{IsUnreadFile};
 
 use crate::fault::Fault;
 use std::fs::{File, OpenFile};
@@ -17,7 +18,8 @@ pub fn read_named<'a, R: rt::Files + AllocGlobal>(
     name: &'a str,
     most: u64,
 ) -> Result<Vec<u8>, Fault<'a>>
-    ensures { IfOk result (λ bytes. vec_len bytes ≤ most) }
+    ensures most { IfOk result (λ bytes. vec_len bytes ≤ most) }
+    ensures refused { IfErr result (IsUnreadFile name.now) }
 {
     let fault = |error: io::Error| match error.kind() {
         io::ErrorKind::OutOfMemory => Fault::Run(RunFault::Memory),

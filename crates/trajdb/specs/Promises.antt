@@ -17,7 +17,7 @@ use Rattle.boxsearch.specs.Index.{words, IsMarked}
 use Rattle.header.specs.Front.{SaysState}
 use Rattle.register.specs.Lasting.{first_fault, ComesFirst, IsKept, IsReadingFault, IsStop, IsTrulyDamaged}
 use Rattle.register.specs.Stopping.{NamesStop}
-use Rattle.register.specs.Saved.{CatalogueView}
+use Rattle.register.specs.Saved.{CatalogueView, OthersStay}
 use Rattle.register.specs.Saving.{HasFew}
 use Rattle.catalogue.specs.Holding.{HoldsBook, HoldsButFirst, HoldsIndex, HoldsIndexButFirst, IsUnfinishedStore}
 use Rattle.querylang.specs.declared.Command.{Command}
@@ -227,6 +227,9 @@ pub record CloseCall (db : DbView) (left : Store)
   pub kept_headed : OnOk result (db.begun ≡ true → IsTrue db.index.cache.store.is_faithful
       → (state : Bool) → SaysState state (payload_of db.index.cache 0)
       → HoldsIndex left (catalogue_of db) db.index)
+  -- each other page keeps its payload but those of a catalogue, be it one of a tree or none
+  pub others : OnOk result (db.begun ≡ true → IsTrue db.index.cache.store.is_faithful
+      → OthersStay (payload_of db.index.cache) (stored_payload left))
   -- all of it is synced where it has begun; else it stays as it is (`idle`)
   pub synced : OnOk result (db.begun ≡ true → IsSynced left)
   -- new pages are taken only for what its text needs beyond those of an earlier one

@@ -243,8 +243,8 @@ module _ {I : Type 0} (g : Ghosts I) (files : List (List ℕ × List ℕ)) where
     pub sends : Appends sent sent' text
 
   -- the first k lines are done, and their answers, whole, and nothing else were sent; this is why the next was not answered,
-  -- and where it is said that the store failed, it failed at that line; the database failed by it only where it is a `load`
-  -- of a file that is there, and else it leaves what a question leaves
+  -- and where it is said that the store failed, it failed at that line, and where that it is full, it is; the database failed
+  -- by it only where it is a `load` of a file that is there, and else it leaves what a question leaves
   pub record TellsStop (sent sent' : Option (List ℕ)) (old new : CoreView I) (fault : RunFault)
       (lines : List (List ℕ)) : Type 0 where
     pub k : ℕ
@@ -289,8 +289,8 @@ module _ {I : Type 0} (g : Ghosts I) (files : List (List ℕ × List ℕ)) where
     pub sends : Appends sent sent' (take n text)
 
   -- a line is not answered, nothing was sent, and this is why, and where it is said that the store failed, it failed at this
-  -- line; the database failed by it only where it is a `load` of a file that is there, and else it leaves what a question
-  -- leaves
+  -- line, and where that it is full, it is; the database failed by it only where it is a `load` of a file that is there, and
+  -- else it leaves what a question leaves
   pub record HasNamed (sent sent' : Option (List ℕ)) (old new : CoreView I) (line : List ℕ)
       (fault : RunFault) : Type 0 where
     pub sends : Keeps sent sent'

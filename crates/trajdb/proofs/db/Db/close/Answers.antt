@@ -4,12 +4,12 @@ use Rattle.std.specs.Prelude.{◌⊎◌, IfErr, OnErr, OnOk, IsErrOf}
 use Rattle.legs.specs.Book.{Book}
 use Rattle.std.proofs.lemmas.Bool.{false≢true}
 use Rattle.pages.specs.Store.{Keeps, Store, IsLawful, IsSyncedButFirst}
-use Rattle.pagecache.specs.Cache.{payload_of, IsSettled}
+use Rattle.pagecache.specs.Cache.{payload_of, stored_payload, IsSettled}
 use Rattle.boxsearch.specs.Index.{content, IndexView, IsMarked, IsSound as IsSoundIndex}
 use Rattle.catalogue.specs.Closing.{IsNoStoreFault}
 use Rattle.catalogue.specs.Closing as closing
 use Rattle.catalogue.specs.Holding.{HoldsBook, HoldsButFirst, HoldsIndex, HoldsIndexButFirst, IsOfBook, IsUnfinishedStore}
-use Rattle.register.specs.Saved.{CatalogueView}
+use Rattle.register.specs.Saved.{CatalogueView, OthersStay}
 use Rattle.register.specs.Earlier.{AddsFew, AreEarlier, HasNoRoom}
 use Rattle.register.specs.Saving.{contents_of, HasFew, IsSavingFault, IsSavingStop}
 use Rattle.register.specs.Text.{catalogue_text}
@@ -18,7 +18,7 @@ use Rattle.trajdb.specs.Db.{DbView, IsSoundDb}
 use Rattle.trajdb.specs.Faults.{closed_answer}
 use Rattle.trajdb.specs.Promises.{CloseCall}
 use Rattle.trajdb.specs.Lasting.{IsIdle, IsSafe, TakesFew}
-use Rattle.trajdb.proofs.LastingLemmas.{rest_book, closed_behind, closed_caused, closed_holds, closed_holds_headed, closed_kept, closed_kept_headed, closed_named, closed_only, closed_only_marked, closed_ordered, closed_refused, closed_synced, closed_takes, closed_unfinished, closed_unfinished_marked, rest_takes, closed_full}
+use Rattle.trajdb.proofs.LastingLemmas.{rest_book, closed_behind, closed_caused, closed_holds, closed_holds_headed, closed_kept, closed_kept_headed, closed_named, closed_only, closed_only_marked, closed_ordered, closed_others, closed_refused, closed_synced, closed_takes, closed_unfinished, closed_unfinished_marked, rest_takes, closed_full}
 use Rattle.trajdb.proofs.SafeLemmas.{left_safe}
 use Rattle.trajdb.proofs.db.Db.close.Goals as goal
 
@@ -28,6 +28,7 @@ returns-then-failed g c = record {
   kept = search rules;
   holds_headed = search rules;
   kept_headed = search rules;
+  others = search rules;
   synced = search rules;
   takes = search rules;
   full = λ full. absurd cc;
@@ -75,6 +76,9 @@ returns-then-not-begun g c = record {
       let rests : c.self.inside.core.begun ≡ false = sym (λ i. (c.self-inside.view_is i).core.begun) ∙ c.if-not-begun.true in
       absurd (false≢true (sym rests ∙ ap (λ (d : DbView). d.begun) c.self.view_is ∙ begun));
   kept_headed = λ begun.
+      let rests : c.self.inside.core.begun ≡ false = sym (λ i. (c.self-inside.view_is i).core.begun) ∙ c.if-not-begun.true in
+      absurd (false≢true (sym rests ∙ ap (λ (d : DbView). d.begun) c.self.view_is ∙ begun));
+  others = λ begun.
       let rests : c.self.inside.core.begun ≡ false = sym (λ i. (c.self-inside.view_is i).core.begun) ∙ c.if-not-begun.true in
       absurd (false≢true (sym rests ∙ ap (λ (d : DbView). d.begun) c.self.view_is ∙ begun));
   synced = λ begun.
@@ -126,6 +130,9 @@ returns g c =
           let first = subst (λ (x : IndexView). OnOk answer (IsTrue x.cache.store.is_faithful → (begun : Bool) → SaysState begun (payload_of x.cache 0) → HoldsIndex s parts x)) of.index c.close-store.ensures.kept_headed in
           let second = subst (λ (k : CatalogueView). OnOk answer (IsTrue core.index.cache.store.is_faithful → (begun : Bool) → SaysState begun (payload_of core.index.cache 0) → HoldsIndex s k core.index)) of.catalogue first in
           closed_kept_headed core s answer second;
+      others =
+          let first = subst (λ (x : IndexView). OnOk answer (IsTrue x.cache.store.is_faithful → OthersStay (payload_of x.cache) (stored_payload s))) of.index c.close-store.ensures.others in
+          closed_others core s answer first;
       synced = closed_synced (core.begun ≡ true) s answer c.close-store.ensures.synced;
       takes =
           let first = subst (λ (x : IndexView). OnOk answer (IsTrue x.cache.store.is_faithful → x.cache.count ≡ x.cache.store.count → (pages : List ℕ) → AreEarlier (payload_of x.cache) pages → AddsFew x.cache.count (catalogue_text (contents_of parts x.places)) pages s.count)) of.index c.close-store.ensures.takes in
