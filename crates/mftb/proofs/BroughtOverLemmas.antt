@@ -1,6 +1,6 @@
 -- Why `ok 0` is not said of a store that was to be brought over.
 use Rattle.std.proofs.Common.{◌≡◌, ◌∙◌, ap, inl, subst, IsTrue, Result, Ok, Err}
-use Rattle.std.specs.Prelude.{IfErr, OnErr}
+use Rattle.std.specs.Prelude.{IfErr, OnErr, OnOk}
 use Rattle.legs.specs.Book.{Book}
 use Rattle.legs.specs.Costs.{ShapeView}
 use Rattle.legs.specs.Limits.{LimitsView}
@@ -23,6 +23,10 @@ use Rattle.sessions.specs.Answers.{BringsButFirst, BringsTooMuch, IsNotOver, IsO
 use Rattle.sessions.specs.declared.fault.Fault.{Fault}
 use Rattle.sessions.specs.declared.fault.Fault.TheVariants.{Run, Open}
 use Rattle.mftb.specs.BroughtOver.{IsBroughtOver, IsNotBrought, IsWithheld}
+
+pub where_ok : {T E P : Type 0} (r : Result T E) → P → OnOk r P
+where_ok (Ok x) p = p
+where_ok (Err e) p = tt
 
 -- it was brought over, and the output refused
 pub unsaid_output : (old after new left : Store) (sent sent' : OutputView) (r : Result (Unit {0}) Fault) → IsBroughtOver old new left

@@ -1,3 +1,7 @@
 pub mod BroughtOverLemmas
+pub mod InfoLemmas
+pub mod MigrateLemmas
+pub mod MomentsLemmas
+pub mod OpeningLemmas
 pub mod PageLemmas
 pub mod RunLemmas

@@ -11,7 +11,7 @@ use Rattle.trajdb.specs.declared.RunFault.{RunFault}
 use Rattle.sessions.specs.Answers.{RunsAndCloses, RunsOver}
 use Rattle.sessions.specs.Folder.{History, IsOfFolder, IsRefusedByFolder, IsRefusedEarly, NameIsKept, RunsOnCopy}
 use Rattle.sessions.specs.declared.fault.Fault.{Fault}
-use Rattle.mftb.specs.Running.{IsRefusedUnsent, IsRun, IsRunInPlace, IsUnsaid, RunsInPlace, RunsSome}
+use Rattle.mftb.specs.Running.{IsRefusedUnsent, IsRun, IsRunInPlace, IsLeftUnsaid, RunsInPlace, RunsSome}
 
 module _ {O : Type 0} (shown : O → OutputView) (files : List (List ℕ × List ℕ)) (out out' : O) (lines : List (List ℕ)) where
   call_shown : (old new : DbView) (ran : Result (Unit {0}) RunFault)
@@ -69,7 +69,7 @@ module _ {O : Type 0} (shown : O → OutputView) (files : List (List ℕ × List
 
   -- so it was as its store lies there, with what is left unsaid of the closing
   pub runs_in_place : {S : Type 0} (seen : S → Store) (opened : Result DbView (S × CatalogueFault)) (result : Result (Unit {0}) Fault) (closed : Result (Unit {0}) RunFault) (store : Store) (left : Option RunFault)
-      → RunsOver seen shown opened files out out' lines result closed store → IsUnsaid result closed left → RunsInPlace files lines (shown out) (shown out') result left
+      → RunsOver seen shown opened files out out' lines result closed store → IsLeftUnsaid result closed left → RunsInPlace files lines (shown out) (shown out') result left
   runs_in_place seen (Ok db) result closed store left (ran, said, over) unsaid = record {
     opened = Ok db;
     closed = closed;

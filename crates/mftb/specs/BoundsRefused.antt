@@ -1,9 +1,13 @@
--- Why a rectangle and a period are refused.
-use Rattle.std.specs.Prelude.{ℕ, ◌≡◌, ◌⊎◌, ◌&&◌, Bool, false, not, List, None, Ok, Err}
+-- What a rectangle and a period ask for, and why they are refused.
+use Rattle.std.specs.Prelude.{ℕ, ◌≡◌, ◌⊎◌, ◌&&◌, Bool, false, not, List, Option, Some, None, Ok, Err}
 use Rattle.std.specs.Char.{is_ascii_whitespace}
 use Rattle.std.specs.List.{list_all, list_any}
 use Rattle.words.specs.Words.{is_empty}
+use Rattle.timebase.specs.Period.{PeriodView}
+use Rattle.legs.specs.Boxes.{RectView}
 use Rattle.querylang.specs.Line.{line_of}
+use Rattle.querylang.specs.declared.Command.{Command}
+use Rattle.querylang.specs.declared.Command.TheVariants.{Load, Count, Box, Legs, Features, Trajectory, Write}
 use Rattle.querylang.specs.declared.LineCode.{LineCode}
 use Rattle.querylang.specs.declared.LineCode.TheVariants.{Q3}
 use Rattle.trajdb.specs.declared.RunFault.TheVariants as run
@@ -19,13 +23,28 @@ is_word text = not (is_empty text) && not (list_any is_ascii_whitespace text)
 abbrev pub are_words : List (List ℕ) → List (List ℕ) → Bool
 are_words corners times = list_all is_word corners && list_all is_word times
 
--- the line of a rectangle and a period is refused by a code; or that is Q3, and some text is no word, or the line asks
--- nothing
+-- the rectangle and the period of a `box`
+abbrev pub box_of : Command → Option (RectView × PeriodView)
+box_of (Load name) = None
+box_of Count = None
+box_of (Box rect period) = Some (rect, period)
+box_of (Legs predicate rect period) = None
+box_of (Features predicate rect period) = None
+box_of (Trajectory name) = None
+box_of Write = None
+
+-- the line of these texts asks for a `box` of this rectangle and this period
+abbrev pub SaysBox : List (List ℕ) → List (List ℕ) → RectView → PeriodView → Type 0
+SaysBox corners times rect period = line_of (box_line corners times) ≡ Ok (Some (Box rect period))
+
+-- that line is refused by a code; or that is Q3, and some text is no word, or the line asks nothing, or asks for no `box`
 abbrev pub RefusesLine : List (List ℕ) → List (List ℕ) → LineCode → Type 0
 RefusesLine corners times code =
     (line_of (box_line corners times) ≡ Err code)
     ⊎ ((code ≡ Q3) × ((are_words corners times ≡ false)
-    ⊎ (line_of (box_line corners times) ≡ Ok None)))
+    ⊎ ((line_of (box_line corners times) ≡ Ok None)
+    ⊎ ((command : Command) × (line_of (box_line corners times) ≡ Ok (Some command))
+    × (box_of command ≡ None)))))
 
 -- why a rectangle and a period are refused: memory ran out, or a code
 abbrev pub RefusesBounds : List (List ℕ) → List (List ℕ) → Fault → Type 0

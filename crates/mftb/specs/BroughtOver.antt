@@ -1,10 +1,11 @@
 -- What the program says where a store of version 1 was brought over, and where it was not.
-use Rattle.std.specs.Prelude.{◌≡◌, ◌⊎◌, IsTrue}
+use Rattle.std.specs.Prelude.{◌≡◌, ◌⊎◌, codes, IfErr, IsTrue, OnErr, OnOk, Result}
+use Rattle.std.specs.Io.KnownBytes.{Appends}
 use Rattle.legs.specs.Book.{Book}
 use Rattle.legs.specs.Costs.{ShapeView}
 use Rattle.legs.specs.Limits.{LimitsView}
-use Rattle.outputs.specs.Output.{OutputView, HasRefused}
-use Rattle.pages.specs.Store.{Store, IsSynced}
+use Rattle.outputs.specs.Output.{OutputView, HasRefused, IsFlushed}
+use Rattle.pages.specs.Store.{Store, IsSynced, Stays}
 use Rattle.pagecache.specs.Cache.{stored_payload}
 use Rattle.catalogue.specs.Beginning.{IsLeftOver}
 use Rattle.catalogue.specs.Holding.{IsUnfinishedStore}
@@ -20,7 +21,8 @@ use Rattle.trajdb.specs.declared.RunFault.{RunFault}
 use Rattle.trajdb.specs.declared.RunFault.TheVariants as run
 use Rattle.sessions.specs.Answers.{BringsButFirst, BringsTooMuch, BringsWhole, IsNotOver, IsOverFault}
 use Rattle.sessions.specs.declared.fault.Fault.{Fault}
-use Rattle.sessions.specs.declared.fault.Fault.TheVariants.{Run, Open}
+use Rattle.sessions.specs.declared.fault.Fault.TheVariants.{Run, Open, CannotRead, CannotWrite, NotEmpty, NoPart, InUse, NoStore, NoSuchStore, Bounds}
+use Rattle.mftb.specs.Running.{AnswersRun}
 
 -- the new store is synced, and of faithful stores has all that the old one keeps
 abbrev pub IsBroughtOver : (old new left : Store) → Type 0
@@ -29,7 +31,8 @@ IsBroughtOver old new left =
 
 -- why one faithful store is not brought over into another, and what is left: before the closing (`Open`) what the pages
 -- keep says why, it is full only where it may be, and the new one is not taken for a finished one; in the closing (`Run`)
--- it is memory, a store that failed or a full one alone, and all but page 0 is brought over, or it is not finished
+-- it is memory, a store that failed or a full one alone, and all but page 0 is brought over, or it is not finished; and of
+-- an old one that holds a book what `IsNotOver` says
 pub record IsRightlyRefused (old new left : Store) (fault : Fault) : Type 0 where
   pub refuses : (why : CatalogueFault) → fault ≡ Open why → RefusesOld old why
   pub left_over : (why : CatalogueFault) → fault ≡ Open why → IsLeftOver new left
@@ -56,3 +59,36 @@ IsWithheld old after new sent sent' fault =
     (left : Store)
     × ((IsBroughtOver old new left × (fault ≡ Run run.Output) × HasRefused sent sent')
     ⊎ (IsNotBrought old after new left fault × (sent' ≡ sent)))
+
+-- a store is brought over into another, which has no page, and that is said
+pub record BringsOver (old after new : Store) (sent sent' : OutputView)
+    (result : Result (Unit {0}) Fault) : Type 0 where
+  pub empty : new.count ≡ 0
+  pub whole : OnOk result ((left : Store) × IsBroughtOver old new left)
+  pub said : OnOk result (Appends sent.contents sent'.contents (codes "ok 0\n"))
+  pub flushed : OnOk result (IsFlushed sent sent')
+  pub unsent : OnErr result ((sent' ≡ sent) ⊎ HasRefused sent sent')
+  pub refused : IfErr result (IsWithheld old after new sent sent')
+  pub stays : Stays old after
+
+-- why two files are not taken: memory ran out; or it is said that the new one has bytes, that the old one has none, or that
+-- one of them is held by another run or refused by the system
+abbrev pub IsUnmigrated : Fault → Type 0
+IsUnmigrated (Run why) = (why ≡ run.Memory) ⊎ (why ≡ run.Store)
+IsUnmigrated (Open why) = why ≡ opening.Malformed
+IsUnmigrated (CannotRead name) = ⊥
+IsUnmigrated (CannotWrite name) = ⊥
+IsUnmigrated NotEmpty = Unit {0}
+IsUnmigrated (NoPart part parts) = ⊥
+IsUnmigrated InUse = Unit {0}
+IsUnmigrated (NoStore cause) = Unit {0}
+IsUnmigrated NoSuchStore = ⊥
+IsUnmigrated (Bounds code) = ⊥
+
+-- the files are not taken, and nothing was sent; or some store is brought over into another, and what that came to is
+-- answered
+abbrev pub PerformsMigrate : OutputView → OutputView → Result (Unit {0}) Fault → Type 0
+PerformsMigrate sent sent' result =
+    ((sent' ≡ sent) × OnOk result ⊥ × IfErr result IsUnmigrated)
+    ⊎ ((old after new : Store) × (brought : Result (Unit {0}) Fault)
+    × BringsOver old after new sent sent' brought × AnswersRun brought result)

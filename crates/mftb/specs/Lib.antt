@@ -8,3 +8,7 @@ pub mod PartPrinted
 pub mod Reading
 pub mod Running
 pub mod Status
+pub mod Unopened
+pub mod MomentsPrinted
+pub mod InfoPrinted
+pub mod Performing

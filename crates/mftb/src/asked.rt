@@ -1,4 +1,7 @@
 //! Databases that are only asked.
+ghost use Rattle.std.specs.Prelude.{IfErr, IfOk, max};
+ghost use Rattle.mftb.specs.Unopened.{IsOpened, IsUnasked, IsUnopened};
+
 use crate::held_file::HeldFile;
 use crate::names::Names;
 use crate::opening::{is_absent, open_asked, sweep};
@@ -17,7 +20,9 @@ pub(crate) type AskedStore = ReadOnly<FileStore<HeldFile<'static, File>>>;
 pub(crate) fn store_to_ask<'a, R: Files<File = File> + AllocGlobal>(
     rt: &R,
     store: &'a str,
-) -> Result<AskedStore, Fault<'a>> {
+) -> Result<AskedStore, Fault<'a>>
+    ensures { IfErr result (IsUnasked store.now) }
+{
     let names = Names::new(rt, store)?;
     if is_absent(rt, names.store.as_str()) {
         return Err(Fault::CannotRead(store));
@@ -31,7 +36,10 @@ pub(crate) fn database_to_ask<'a, R: AllocGlobal + RandomSource, S: PageStore + 
     rt: &R,
     store: S,
     cache_pages: u32,
-) -> Result<Db<S>, Fault<'a>> {
+) -> Result<Db<S>, Fault<'a>>
+    ensures opened { IfOk result (IsOpened (S.seen store) (max cache_pages 1)) }
+    ensures refused { IfErr result (IsUnopened (S.seen store) (max cache_pages 1)) }
+{
     let Ok(keys) = RandomState::new(rt) else {
         return Err(Fault::Run(RunFault::Memory));
     };

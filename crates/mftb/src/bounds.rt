@@ -1,16 +1,19 @@
 //! A rectangle and a period on the command line.
-ghost use Rattle.std.specs.Prelude.{◌≡◌, IfErr, IfOk, OnOk, Ok, Some, map, true};
+ghost use Rattle.std.specs.Prelude.{◌≡◌, Err, false, IfErr, IfOk, OnOk, map, true};
 ghost use Rattle.std.specs.Char.{is_ascii_whitespace};
 ghost use Rattle.std.specs.List.{list_all, list_any};
 ghost use Rattle.std.specs.String.{string_bytes};
-ghost use Rattle.querylang.specs.Line.{line_of as said_by};
+ghost use Rattle.querylang.specs.declared.LineCode.{LineCode};
+ghost use Rattle.sessions.specs.declared.fault.Fault.{Fault};
 ghost use Rattle.mftb.specs.Bounds.{box_line};
-ghost use Rattle.mftb.specs.BoundsRefused.{are_words, is_word, RefusesBounds};
+ghost use Rattle.mftb.specs.BoundsRefused.{are_words, box_of, is_word, RefusesBounds, SaysBox};
 
 use arguments::Bounds;
+use legs::Rect;
 use querylang::{Command, LineCode, LineFault, parse_line};
 use sessions::Fault;
 use std::alloc::{AllocError, Global};
+use timebase::Period;
 use trajdb::RunFault;
 
 /// The line of a script that asks for the `box` of a rectangle and a period.
@@ -50,13 +53,28 @@ fn are_words(texts: &[&str]) -> bool
     true
 }
 
-/// Reads a rectangle and a period as a line `box X1 Y1 X2 Y2 T1 T2` of a script is read: the command of that line.
-pub(crate) fn read_bounds<'a>(alloc: Global, bounds: &Bounds<'_>) -> Result<Command, Fault<'a>>
-    ensures command { IfOk result (λ command. said_by (box_line
-        (map (λ text. text.now) bounds.now.corners) (map (λ text. text.now) bounds.now.times))
-        ≡ Ok (Some command)) }
+/// The rectangle and the period of a `box`.
+fn box_of(command: &Command) -> Option<(Rect, Period)>
+    ensures { result ≡ box_of command.now }
+{
+    match command {
+        Command::Box(rect, period) => Some((*rect, *period)),
+        _ => None,
+    }
+}
+
+/// Reads a rectangle and a period as a line `box X1 Y1 X2 Y2 T1 T2` of a script is read.
+pub(crate) fn read_bounds<'a>(
+    alloc: Global,
+    bounds: &Bounds<'_>,
+) -> Result<(Rect, Period), Fault<'a>>
+    ensures asked { IfOk result (λ asked. SaysBox (map (λ text. text.now) bounds.now.corners)
+        (map (λ text. text.now) bounds.now.times) asked.0 asked.1) }
     ensures words { OnOk result (are_words (map (λ text. text.now) bounds.now.corners)
         (map (λ text. text.now) bounds.now.times) ≡ true) }
+    ensures no_words { are_words (map (λ text. text.now) bounds.now.corners)
+        (map (λ text. text.now) bounds.now.times) ≡ false
+        → result ≡ Err (Fault.Bounds LineCode.Q3) }
     ensures refused { IfErr result (RefusesBounds (map (λ text. text.now) bounds.now.corners)
         (map (λ text. text.now) bounds.now.times)) }
 {
@@ -65,7 +83,10 @@ pub(crate) fn read_bounds<'a>(alloc: Global, bounds: &Bounds<'_>) -> Result<Comm
     }
     let line = line_of(alloc, bounds)?;
     match parse_line(alloc, line.as_bytes()) {
-        Ok(Some(command)) => Ok(command),
+        Ok(Some(command)) => match box_of(&command) {
+            Some(asked) => Ok(asked),
+            None => Err(Fault::Bounds(LineCode::Q3)),
+        },
         Ok(None) => Err(Fault::Bounds(LineCode::Q3)),
         Err(LineFault::Refused(code)) => Err(Fault::Bounds(code)),
         Err(LineFault::Memory) => Err(Fault::Run(RunFault::Memory)),

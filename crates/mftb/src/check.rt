@@ -1,10 +1,10 @@
 //! `mftb check`: whether the pages of a file hold one database.
-ghost use Rattle.std.specs.Prelude.{◌≡◌, ◌⊎◌, IfOk};
+ghost use Rattle.std.specs.Prelude.{◌≡◌, IfOk};
 ghost use Rattle.std.specs.String.{string_bytes};
-ghost use Rattle.trajdb.specs.Db.{DbView};
 ghost use Rattle.mftb.specs.Answers.{report_text};
-ghost use Rattle.mftb.specs.Running.{IsChecked, IsRefusedUnsent};
+ghost use Rattle.mftb.specs.Running.{IsChecked, PerformsCheck};
 
+use crate::asked::database_to_ask;
 use crate::names::Names;
 use crate::opening::{open_asked, sweep};
 use arguments::Check;
@@ -13,10 +13,9 @@ use pages::PageStore;
 use sessions::{Fault, check_and_close, send_all};
 use std::alloc::{AllocError, Global};
 use std::fs::File;
-use std::hash::RandomState;
 use std::random::RandomSource;
 use std::rt::Files;
-use trajdb::{Db, Report, RunFault};
+use trajdb::{Db, Report};
 
 /// What is said of a database that passed.
 fn text_of(alloc: Global, report: &Report) -> Result<String, AllocError>
@@ -54,19 +53,11 @@ pub(crate) fn check<'a, R: Files<File = File> + AllocGlobal + RandomSource, O: O
     check: &Check<'a>,
     out: &mut O,
 ) -> Result<(), Fault<'a>>
-    ensures { IsRefusedUnsent (O.seen out.old) (O.seen out.new) result
-        ⊎ ((db : DbView) × IsChecked db (O.seen out.old) (O.seen out.new) result) }
+    ensures { PerformsCheck check.now (O.seen out.old) (O.seen out.new) result }
 {
-    let Ok(keys) = RandomState::new(rt) else {
-        return Err(Fault::Run(RunFault::Memory));
-    };
     let names = Names::new(rt, check.store)?;
     sweep(rt, &names);
     let store = open_asked(rt, &names)?;
-    let cache_pages = check.cache_pages.max(1) as usize;
-    let database = match Db::open(rt.alloc(), keys, store, cache_pages) {
-        Ok(database) => database,
-        Err((_, fault)) => return Err(Fault::Open(fault)),
-    };
+    let database = database_to_ask(rt, store, check.cache_pages)?;
     check_over(rt.alloc(), database, out)
 }

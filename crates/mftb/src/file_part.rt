@@ -16,7 +16,8 @@ pub(crate) fn print_part<'a, R: rt::Files + AllocGlobal, O: Output>(
 ) -> Result<(), Fault<'a>>
     ensures none { task.now.parts ≤ task.now.part
         → result ≡ Err (Fault.NoPart task.now.part task.now.parts) }
-    ensures printed { IsPartRefused (O.seen out.old) (O.seen out.new) result
+    ensures printed { IsPartRefused task.now.part task.now.parts task.now.file.now
+        (O.seen out.old) (O.seen out.new) result
         ⊎ PrintsPart task.now.part task.now.parts (O.seen out.old) (O.seen out.new) result }
 {
     if task.part >= task.parts {

@@ -1,7 +1,9 @@
 //! The files of all parts of a file, in a folder of the system.
-ghost use Rattle.std.specs.Prelude.{◌≡◌, IfOk, None};
+ghost use Rattle.std.specs.Prelude.{◌≡◌, ◌≤◌, Err, IfErr, IfOk, None};
 ghost use Rattle.std.specs.String.{string_bytes};
 ghost use Rattle.mftb.specs.Names.{part_name};
+ghost use Rattle.mftb.specs.PartPrinted.{IsPartsFault};
+ghost use Rattle.sessions.specs.declared.fault.Fault.{Fault};
 
 use arguments::Parts;
 use pages::Refusals;
@@ -59,15 +61,20 @@ impl<'a, R: Files<File = File> + AllocGlobal> PartFolder for SystemParts<'a, R> 
 pub(crate) fn write_parts<'a, R: Files<File = File> + AllocGlobal>(
     rt: &R,
     task: &Parts<'a>,
-) -> Result<(), Fault<'a>> {
+) -> Result<(), Fault<'a>>
+    ensures first { task.now.parts ≤ task.now.first
+        → result ≡ Err (Fault.NoPart task.now.first task.now.parts) }
+    ensures fault { IfErr result (IsPartsFault task.now) }
+{
     if task.first >= task.parts {
         return Err(Fault::NoPart(task.first, task.parts));
     }
     let most = task.parts - task.first;
-    let count = task.count.unwrap_or(most);
-    if count > most {
-        return Err(Fault::NoPart(task.parts, task.parts));
-    }
+    let count = match task.count {
+        Some(count) if count > most => return Err(Fault::NoPart(task.parts, task.parts)),
+        Some(count) => count,
+        None => most,
+    };
     let bytes = read_named(rt, task.file, MOST_BYTES)?;
     let mut folder = SystemParts {
         rt,

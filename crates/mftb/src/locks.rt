@@ -1,4 +1,7 @@
 //! The locks by which runs that work on one store at once tell each other.
+ghost use Rattle.std.specs.Prelude.{IfErr};
+ghost use Rattle.mftb.specs.Unopened.{IsUnheld};
+
 use sessions::{Cause, Fault};
 use std::fs::{File, Metadata, OpenOptions, TryLockError};
 use std::os::unix::fs::MetadataExt;
@@ -27,7 +30,9 @@ pub(crate) struct Held {
 
 /// Takes the lock of a file, at once or not at all, and answers whether it was given: a file system
 /// without locks gives none.
-fn lock<'a>(file: &File, hold: Hold) -> Result<bool, Fault<'a>> {
+fn lock<'a>(file: &File, hold: Hold) -> Result<bool, Fault<'a>>
+    ensures { IfErr result IsUnheld }
+{
     let taken = match hold {
         Hold::Alone => file.try_lock(),
         Hold::Shared => file.try_lock_shared(),
@@ -72,7 +77,9 @@ fn look<'a, R: Files<File = File>>(
     name: &str,
     how: &OpenOptions,
     hold: Hold,
-) -> Result<Met, Fault<'a>> {
+) -> Result<Met, Fault<'a>>
+    ensures { IfErr result IsUnheld }
+{
     let file = match how.open(rt, name) {
         Ok(file) => file,
         Err(error) if error.kind() == io::ErrorKind::NotFound => return Ok(Met::Absent),
@@ -94,7 +101,9 @@ pub(crate) fn open_held<'a, R: Files<File = File>>(
     name: &str,
     how: &OpenOptions,
     hold: Hold,
-) -> Result<Option<Held>, Fault<'a>> {
+) -> Result<Option<Held>, Fault<'a>>
+    ensures { IfErr result IsUnheld }
+{
     for _ in 0..MOST_LOOKS {
         match look(rt, name, how, hold)? {
             Met::Held(held) => return Ok(Some(held)),
@@ -106,7 +115,9 @@ pub(crate) fn open_held<'a, R: Files<File = File>>(
 }
 
 /// One look at a name whose file only has to be there: it is made where there is none.
-fn look_or_make<'a, R: Files<File = File>>(rt: &R, name: &str) -> Result<Met, Fault<'a>> {
+fn look_or_make<'a, R: Files<File = File>>(rt: &R, name: &str) -> Result<Met, Fault<'a>>
+    ensures { IfErr result IsUnheld }
+{
     let mut how = File::options();
     how.read(true);
     match look(rt, name, &how, Hold::Alone)? {
@@ -122,7 +133,9 @@ fn look_or_make<'a, R: Files<File = File>>(rt: &R, name: &str) -> Result<Met, Fa
 }
 
 /// Opens the file of a name, which only has to be there, or makes it, and holds it alone.
-pub(crate) fn hold_name<'a, R: Files<File = File>>(rt: &R, name: &str) -> Result<Held, Fault<'a>> {
+pub(crate) fn hold_name<'a, R: Files<File = File>>(rt: &R, name: &str) -> Result<Held, Fault<'a>>
+    ensures { IfErr result IsUnheld }
+{
     for _ in 0..MOST_LOOKS {
         if let Met::Held(held) = look_or_make(rt, name)? {
             return Ok(held);

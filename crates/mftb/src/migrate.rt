@@ -1,10 +1,6 @@
 //! `mftb migrate`: a store of version 1 is brought over into a new one.
-ghost use Rattle.std.specs.Prelude.{◌≡◌, ◌⊎◌, IfErr, IsTrue, OnErr, OnOk, codes};
-ghost use Rattle.std.specs.Io.KnownBytes.{Appends};
-ghost use Rattle.outputs.specs.Output.{HasRefused, IsFlushed};
-ghost use Rattle.pages.specs.Store.{Store, IsSynced, Stays};
-ghost use Rattle.sessions.specs.Answers.{BringsWhole};
-ghost use Rattle.mftb.specs.BroughtOver.{IsWithheld};
+ghost use Rattle.std.specs.Prelude.{◌≡◌};
+ghost use Rattle.mftb.specs.BroughtOver.{BringsOver, IsUnmigrated, PerformsMigrate};
 
 use crate::names::Names;
 use crate::opening::{is_absent, open_asked, open_in_place};
@@ -20,7 +16,9 @@ use std::rt::Files;
 use trajdb::{OpenFault, RunFault};
 
 /// Why a file is not taken for a new store: it has bytes, or is not opened.
-fn not_new<'a, R: Files<File = File> + AllocGlobal>(rt: &R, name: &str) -> Fault<'a> {
+fn not_new<'a, R: Files<File = File> + AllocGlobal>(rt: &R, name: &str) -> Fault<'a>
+    ensures { IsUnmigrated result }
+{
     match FileStore::open(rt, name) {
         Ok(_) => Fault::NotEmpty,
         Err(_) => Fault::Run(RunFault::Store),
@@ -36,18 +34,8 @@ fn bring_over<'a, S: PageStore, T: PageStore + Drop, O: Output>(
     out: &mut O,
 ) -> Result<(), Fault<'a>>
     requires { (T.seen new).count ≡ 0 }
-    ensures whole { OnOk result ((left : Store) × IsSynced left
-        × (IsTrue (S.seen old.old).is_faithful → IsTrue (T.seen new).is_faithful
-        → BringsWhole (S.seen old.old) left)) }
-    ensures said { OnOk result (Appends (O.seen out.old).contents (O.seen out.new).contents
-        (codes "ok 0\n")) }
-    ensures flushed { OnOk result (IsFlushed (O.seen out.old) (O.seen out.new)) }
-    // Nothing is sent before it is known whether it was brought over, and why it was not is what is said.
-    ensures unsent { OnErr result ((O.seen out.new ≡ O.seen out.old)
-        ⊎ HasRefused (O.seen out.old) (O.seen out.new)) }
-    ensures refused { IfErr result (IsWithheld (S.seen old.old) (S.seen old.new) (T.seen new)
-        (O.seen out.old) (O.seen out.new)) }
-    ensures stays { Stays (S.seen old.old) (S.seen old.new) }
+    ensures { BringsOver (S.seen old.old) (S.seen old.new) (T.seen new) (O.seen out.old)
+        (O.seen out.new) result }
 {
     let (store, migrated) = migrate_and_close(alloc, keys, old, new);
     match migrated {
@@ -62,7 +50,9 @@ pub(crate) fn migrate<'a, R: Files<File = File> + AllocGlobal + RandomSource, O:
     rt: &R,
     migrate: &Migrate<'a>,
     out: &mut O,
-) -> Result<(), Fault<'a>> {
+) -> Result<(), Fault<'a>>
+    ensures { PerformsMigrate (O.seen out.old) (O.seen out.new) result }
+{
     if !is_absent(rt, migrate.new) {
         return Err(not_new(rt, migrate.new));
     }

@@ -1,7 +1,9 @@
 //! The names of a store and of what lies beside it while a run works on a copy.
-ghost use Rattle.std.specs.Prelude.{◌≡◌, IfOk};
+ghost use Rattle.std.specs.Prelude.{◌≡◌, IfErr, IfOk};
 ghost use Rattle.std.specs.String.{string_bytes};
 ghost use Rattle.sessions.specs.Texts.{IsOfStore};
+ghost use Rattle.sessions.specs.declared.fault.Fault.{Fault};
+ghost use Rattle.trajdb.specs.declared.RunFault.{RunFault};
 ghost use Rattle.mftb.specs.Names.{copy_name, lock_name};
 
 use sessions::{Cause, Fault};
@@ -27,7 +29,9 @@ pub(crate) struct Names {
 }
 
 /// The name of a store's file, behind links; as it was given where there is none yet.
-fn resolved<'a, R: Files + AllocGlobal>(rt: &R, store: &str) -> Result<String, Fault<'a>> {
+fn resolved<'a, R: Files + AllocGlobal>(rt: &R, store: &str) -> Result<String, Fault<'a>>
+    ensures { IfErr result (λ fault. fault ≡ Fault.Run RunFault.Memory) }
+{
     match fs::canonicalize(rt, store) {
         Ok(path) => Ok(path.into_string()),
         Err(error) => match error.kind() {
@@ -44,6 +48,7 @@ impl Names {
             (λ names. string_bytes names.copy ≡ copy_name (string_bytes names.store)) }
         ensures lock { IfOk result
             (λ names. string_bytes names.lock ≡ lock_name (string_bytes names.store)) }
+        ensures fault { IfErr result (λ fault. fault ≡ Fault.Run RunFault.Memory) }
     {
         let alloc = rt.alloc();
         let store = resolved(rt, store)?;

@@ -1,12 +1,17 @@
 //! `mftb moments`: when legs are inside a rectangle in a period.
+ghost use Rattle.std.specs.Prelude.{◌≡◌, IfErr, IfOk, OnOk};
+ghost use Rattle.boxsearch.specs.Index.{words};
+ghost use Rattle.trajdb.specs.Calls.{IsText, LeavesBook};
+ghost use Rattle.mftb.specs.MomentsPrinted.{frame_of, moments_text, HasNames, IsMomentsFault, PerformsMoments, PrintsMoments, TellsMoments};
+
 use crate::asked::{database_to_ask, store_to_ask};
 use crate::bounds::read_bounds;
 use arguments::{Moments, RowKind};
+use legs::Rect;
 use mfcsv::Dimension;
 use moments::{Stay, dwells_of, stays, visits_of};
 use outputs::Output;
 use pages::PageStore;
-use querylang::Command;
 use reports::{Frame, push_dwells, push_stays, push_visits};
 use sessions::{Fault, send_all};
 use std::alloc::Global;
@@ -17,18 +22,20 @@ use timebase::{Ms, Period};
 use trajdb::{Db, RunFault};
 
 /// How a database's stays are written.
-fn frame_of<S: PageStore>(database: &Db<S>) -> Result<Frame, RunFault> {
+fn frame_of<S: PageStore>(database: &Db<S>) -> Frame
+    ensures { result ≡ frame_of database.now.book.head }
+{
     match database.head() {
-        Some(head) => Ok(Frame {
+        Some(head) => Frame {
             base: head.base,
             dimension: head.dimension,
-        }),
+        },
         None => match Ms::new(0) {
-            Some(base) => Ok(Frame {
+            Some(base) => Frame {
                 base,
                 dimension: Dimension::Two,
-            }),
-            None => Err(RunFault::Failed),
+            },
+            None => unreachable!(),
         },
     }
 }
@@ -40,8 +47,13 @@ fn text_of<S: PageStore>(
     stays: &[Stay],
     period: &Period,
     rows: RowKind,
-) -> Result<Vec<u8>, RunFault> {
-    let frame = frame_of(database)?;
+) -> Result<Vec<u8>, RunFault>
+    ensures text { IfOk result (λ text. text.items
+        ≡ moments_text database.now.book period.now stays.now rows) }
+    ensures named { OnOk result (HasNames database.now.book.names stays.now rows) }
+    ensures fault { IfErr result (IsText (HasNames database.now.book.names stays.now rows)) }
+{
+    let frame = frame_of(database);
     let mut text = Vec::new(alloc);
     match rows {
         RowKind::Legs => push_stays(alloc, &mut text, database, &frame, period, stays)?,
@@ -57,21 +69,41 @@ fn text_of<S: PageStore>(
     Ok(text)
 }
 
-/// Asks a database of the rectangle and the period of a `box`, and makes the text of its answer.
+/// Asks a database of the rectangle in the period, and makes the text of its answer.
 fn ask<S: PageStore>(
     alloc: Global,
     database: &mut Db<S>,
-    command: &Command,
+    rect: &Rect,
+    period: &Period,
     rows: RowKind,
-) -> Result<Vec<u8>, RunFault> {
-    match command {
-        Command::Box(rect, period) => {
-            let stays = stays(database, alloc, rect, period)?;
-            text_of(alloc, database, &stays, period, rows)
-        }
-        // A line of a `box` is no other command.
-        _ => Err(RunFault::Failed),
-    }
+) -> Result<Vec<u8>, RunFault>
+    ensures text { IfOk result (λ text. TellsMoments database.old rect.now period.now rows
+        text.items) }
+    ensures fault { IfErr result (IsMomentsFault database.old rect.now period.now rows
+        database.new) }
+    ensures leaves { LeavesBook words database.old database.new }
+{
+    let stays = stays(database, alloc, rect, period)?;
+    text_of(alloc, database, &stays, period, rows)
+}
+
+/// Asks a database of the rectangle in the period, closes it, and prints its answer.
+fn print_over<'a, S: PageStore + Drop, O: Output>(
+    alloc: Global,
+    mut database: Db<S>,
+    asked: (Rect, Period),
+    rows: RowKind,
+    out: &mut O,
+) -> Result<(), Fault<'a>>
+    ensures { PrintsMoments database asked.0 asked.1 rows (O.seen out.old) (O.seen out.new)
+        result }
+{
+    let (rect, period) = asked;
+    let told = ask(alloc, &mut database, &rect, &period, rows);
+    let (_store, closed) = database.close(alloc);
+    let text = told?;
+    closed?;
+    send_all(out, &text)
 }
 
 /// Opens the store to be read alone, and prints when legs of its database are inside the rectangle in the period.
@@ -79,14 +111,11 @@ pub(crate) fn print_moments<'a, R: Files<File = File> + AllocGlobal + RandomSour
     rt: &R,
     task: &Moments<'a>,
     out: &mut O,
-) -> Result<(), Fault<'a>> {
-    let alloc = rt.alloc();
-    let command = read_bounds(alloc, &task.bounds)?;
+) -> Result<(), Fault<'a>>
+    ensures { PerformsMoments task.now (O.seen out.old) (O.seen out.new) result }
+{
+    let asked = read_bounds(rt.alloc(), &task.bounds)?;
     let store = store_to_ask(rt, task.store)?;
-    let mut database = database_to_ask(rt, store, task.cache_pages)?;
-    let asked = ask(alloc, &mut database, &command, task.rows);
-    let (_store, closed) = database.close(alloc);
-    let text = asked?;
-    closed?;
-    send_all(out, &text)
+    let database = database_to_ask(rt, store, task.cache_pages)?;
+    print_over(rt.alloc(), database, asked, task.rows, out)
 }

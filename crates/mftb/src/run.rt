@@ -1,11 +1,12 @@
 //! `mftb run`: a script over the database that a file keeps.
 ghost use Rattle.std.specs.Prelude.{◌≡◌, ◌⊎◌, ◌<◌, ◌↔◌, [], Err, None, IfOk, IsTrue, false, map, max, true};
 ghost use Rattle.sessions.specs.declared.fault.Fault.{Fault};
+ghost use Rattle.monitor.specs.Notes.{refused_of};
 ghost use Rattle.trajdb.specs.Calls.{HasLoad};
 ghost use Rattle.trajdb.specs.Script.{lines_of};
 ghost use Rattle.trajdb.specs.declared.RunFault.{RunFault};
 ghost use Rattle.mftb.specs.Reading.{AreRead};
-ghost use Rattle.mftb.specs.Running.{IsRun, IsRunBy, IsRunInPlace, IsUnsaid, RunsInPlace, SaysRun};
+ghost use Rattle.mftb.specs.Running.{IsRun, IsRunBy, IsRunInPlace, IsLeftUnsaid, RunsInPlace, AnswersRun};
 ghost use Rattle.mftb.specs.declared.outcome.Outcome.{Outcome};
 
 use crate::locks::hold_name;
@@ -52,7 +53,7 @@ fn is_said(said: &Result<(), Fault<'_>>, fault: RunFault) -> bool
 
 /// Why a store was not closed, where the fault of the run does not say so; of a database that failed the run does.
 fn unsaid(said: &Result<(), Fault<'_>>, closed: Result<(), RunFault>) -> Option<RunFault>
-    ensures { IsUnsaid said.now closed result }
+    ensures { IsLeftUnsaid said.now closed result }
 {
     match closed {
         Ok(()) => None,
@@ -168,7 +169,7 @@ fn run_as_asked<'a, R: rt::Files<File = File> + rt::Clock + Eprint, O: Output>(
         (O.seen out.new) result.0 }
 
     // Something is left unsaid only of a store that was run over as it lies there; and where that is asked for, or the
-    // script only asks, just what the answer leaves unsaid.
+    // store is there and the script only asks, just what the answer leaves unsaid.
     ensures unsaid { (result.1 ≡ None) ⊎ IsRunInPlace work.now.files
         (lines_of work.now.script.items) (O.seen out.old) (O.seen out.new) result.0 result.1 }
     ensures in_place { IsTrue is_in_place → IsRunInPlace work.now.files
@@ -232,18 +233,17 @@ fn read_work<'a, R: rt::Files<File = File> + AllocGlobal + RandomSource>(
     })
 }
 
-/// Says what a run has done that its answers do not say, and how it ended, so many lines and files being refused.
+/// Says what a run has done that its answers do not say, and how it ended.
 fn told<'a, R: rt::Files<File = File> + Eprint + AllocGlobal + RandomSource>(
     rt: &R,
     run: &Run<'a>,
     work: &Work,
     notes: &Notes,
-    refused: u64,
     ended: Result<(), Fault<'a>>,
 ) -> Result<Outcome, Fault<'a>>
-    ensures says { SaysRun ended.entry result }
+    ensures says { AnswersRun ended.entry result }
     ensures strict { IfOk result (λ outcome. (outcome ≡ Outcome.Refused)
-        ↔ (IsTrue run.now.is_strict × (0 < refused))) }
+        ↔ (IsTrue run.now.is_strict × (0 < refused_of notes.now))) }
 {
     let given = Given {
         name: run.script,
@@ -252,7 +252,7 @@ fn told<'a, R: rt::Files<File = File> + Eprint + AllocGlobal + RandomSource>(
     };
     tell(rt, run.store, &given, notes);
     match ended {
-        Ok(()) => Ok(outcome_of(run.is_strict, refused)),
+        Ok(()) => Ok(outcome_of(run.is_strict, notes.refused())),
         Err(fault) => Err(work.names.caused(fault)),
     }
 }
@@ -289,5 +289,5 @@ pub(crate) fn run<
         tell_made(rt, run.store);
     }
     let (out, notes) = out.into_parts();
-    (out, told(rt, run, &work, &notes, notes.refused(), ended))
+    (out, told(rt, run, &work, &notes, ended))
 }

@@ -1,8 +1,8 @@
 //! The program, over any runtime and writers.
-ghost use Rattle.std.specs.Prelude.{◌≡◌, ◌≤◌, ◌↔◌, codes, Any, Err, IfErr, IsTrue, Ok, OnOk};
+ghost use Rattle.std.specs.Prelude.{◌≡◌, ◌≤◌, ◌↔◌, codes, map, Any, IsTrue};
 ghost use Rattle.std.specs.String.{string_bytes};
 ghost use Rattle.mftb.specs.Status.{exit_status};
-ghost use Rattle.mftb.specs.declared.outcome.Outcome.{Outcome};
+ghost use Rattle.mftb.specs.Performing.{ends_as, EndsBy, EndsTask, Performs};
 
 use crate::check::check;
 use crate::file_part::print_part;
@@ -18,15 +18,16 @@ use clap::Error;
 use clap::error::ErrorKind;
 use outputs::{CountedOutput, Output};
 use sessions::Fault;
+use std::convert::AsStr;
 use std::fs::File;
 use std::io::{Eprint, Write};
 use std::random::RandomSource;
 use std::rt;
+use std::str::FromStr;
 
 /// How the program ended that has nothing to say of what it did.
 fn done<'a>(ended: Result<(), Fault<'a>>) -> Result<Outcome, Fault<'a>>
-    ensures well { OnOk ended.entry (result ≡ Ok Outcome.Done) }
-    ensures refused { IfErr ended.entry (λ fault. result ≡ Err fault) }
+    ensures { result ≡ ends_as ended.entry }
 {
     match ended {
         Ok(()) => Ok(Outcome::Done),
@@ -34,24 +35,24 @@ fn done<'a>(ended: Result<(), Fault<'a>>) -> Result<Outcome, Fault<'a>>
     }
 }
 
-/// Does what the program is asked to do.
+/// Does what the program is asked to do. The output is given back.
 fn perform<
     'a,
     R: rt::Files<File = File> + rt::Clock + Eprint + AllocGlobal + RandomSource,
     O: Output + Drop,
->(rt: &R, task: &Task<'a>, mut out: O, is_terminal: bool) -> Result<Outcome, Fault<'a>> {
-    match task {
-        Task::Run(task) => {
-            let (_out, ended) = run(rt, task, out, is_terminal);
-            ended
-        }
-        Task::Check(task) => done(check(rt, task, &mut out)),
-        Task::Migrate(task) => done(migrate(rt, task, &mut out)),
-        Task::Part(task) => done(print_part(rt, task, &mut out)),
-        Task::Parts(task) => done(write_parts(rt, task)),
-        Task::Moments(task) => done(print_moments(rt, task, &mut out)),
-        Task::Info(task) => done(print_info(rt, task, &mut out)),
-    }
+>(rt: &R, task: &Task<'a>, mut out: O, is_terminal: bool) -> (O, Result<Outcome, Fault<'a>>)
+    ensures { Performs task.now (O.seen out) (O.seen result.0) result.1 }
+{
+    let ended = match task {
+        Task::Run(task) => return run(rt, task, out, is_terminal),
+        Task::Check(task) => check(rt, task, &mut out),
+        Task::Migrate(task) => migrate(rt, task, &mut out),
+        Task::Part(task) => print_part(rt, task, &mut out),
+        Task::Parts(task) => write_parts(rt, task),
+        Task::Moments(task) => print_moments(rt, task, &mut out),
+        Task::Info(task) => print_info(rt, task, &mut out),
+    };
+    (out, done(ended))
 }
 
 /// Whether a word is `--strict`.
@@ -108,11 +109,12 @@ fn answer_task<
     W: Write,
     V: Write,
 >(rt: &R, task: &Task<'_>, words: &[String], out: &mut W, faults: &mut V, is_terminal: bool) -> u8
+    ensures ends { EndsTask words.now task.now result }
     ensures status { result ≤ 3 }
     ensures strict { result ≡ 3 → Any (λ w. string_bytes w ≡ codes "--strict") words.now }
 {
     let before = Before::new(rt, task, is_terminal);
-    let ended = perform(rt, task, CountedOutput::new(out), is_terminal);
+    let (_out, ended) = perform(rt, task, CountedOutput::new(out), is_terminal);
     if let Err(fault) = &ended {
         let _ = writeln!(faults, "mftb: {fault}");
         before.tell(rt, task, fault);
@@ -131,6 +133,8 @@ pub fn start<
     W: Write,
     V: Write,
 >(rt: &R, words: &[String], out: &mut W, faults: &mut V, is_terminal: bool) -> u8
+    ensures ends { EndsBy ⟦<u32 as FromStr>⟧.from_str_gives
+        (map ⟦<String as AsStr>⟧.text words.now) words.now result }
     ensures status { result ≤ 3 }
     ensures strict { result ≡ 3 → Any (λ w. string_bytes w ≡ codes "--strict") words.now }
 {

@@ -1,0 +1,67 @@
+-- What the program does, by its words, and how it ends.
+use Rattle.std.specs.Prelude.{ℕ, ◌≡◌, ◌⊎◌, ◌≤◌, ◌↔◌, Any, Bool, codes, List, map, Result, Ok, Err, String, IfErr, IfOk, IsTrue}
+use Rattle.std.specs.Global.{Global}
+use Rattle.std.specs.String.{string_bytes}
+use Rattle.arguments.specs.Tasks.{IsAsked}
+use Rattle.arguments.specs.declared.task.Task.{Task}
+use Rattle.arguments.specs.declared.task.Task.TheVariants.{Run, Check, Migrate, Part, Parts, Moments, Info}
+use Rattle.outputs.specs.Output.{OutputView}
+use Rattle.trajdb.specs.Db.{DbView}
+use Rattle.sessions.specs.declared.fault.Fault.{Fault}
+use Rattle.sessions.specs.declared.fault.Fault.TheVariants.{NoPart}
+use Rattle.mftb.specs.BroughtOver.{PerformsMigrate}
+use Rattle.mftb.specs.InfoPrinted.{PerformsInfo}
+use Rattle.mftb.specs.MomentsPrinted.{PerformsMoments}
+use Rattle.mftb.specs.PartPrinted.{IsPartRefused, IsPartsFault, PrintsPart}
+use Rattle.mftb.specs.Running.{IsRunBy, PerformsCheck}
+use Rattle.mftb.specs.Status.{exit_status}
+use Rattle.mftb.specs.declared.outcome.Outcome.{Outcome}
+use Rattle.mftb.specs.declared.outcome.Outcome.TheVariants.{Done, Refused}
+
+-- what ended so, and has no outcome of its own, is how a task ends
+abbrev pub ends_as : Result (Unit {0}) Fault → Result Outcome Fault
+ends_as (Ok x) = Ok Done
+ends_as (Err fault) = Err fault
+
+-- a task was done, with what was sent, and ended so
+abbrev pub Performs : Task → OutputView → OutputView → Result Outcome Fault → Type 0
+Performs (Run run) sent sent' result =
+    IsRunBy (map (λ n. n.now) run.files.items) sent sent' result
+    × IfOk result (λ outcome. outcome ≡ Refused → IsTrue run.is_strict)
+Performs (Check check) sent sent' result =
+    (ended : Result (Unit {0}) Fault) × (result ≡ ends_as ended)
+    × PerformsCheck check sent sent' ended
+Performs (Migrate migrate) sent sent' result =
+    (ended : Result (Unit {0}) Fault) × (result ≡ ends_as ended)
+    × PerformsMigrate sent sent' ended
+Performs (Part part) sent sent' result =
+    (ended : Result (Unit {0}) Fault) × (result ≡ ends_as ended)
+    × (part.parts ≤ part.part → ended ≡ Err (NoPart part.part part.parts))
+    × (IsPartRefused part.part part.parts part.file.now sent sent' ended
+    ⊎ PrintsPart part.part part.parts sent sent' ended)
+Performs (Parts parts) sent sent' result =
+    (ended : Result (Unit {0}) Fault) × (result ≡ ends_as ended) × (sent' ≡ sent)
+    × (parts.parts ≤ parts.first → ended ≡ Err (NoPart parts.first parts.parts))
+    × IfErr ended (IsPartsFault parts)
+Performs (Moments moments) sent sent' result =
+    (ended : Result (Unit {0}) Fault) × (result ≡ ends_as ended)
+    × PerformsMoments moments sent sent' ended
+Performs (Info info) sent sent' result =
+    (ended : Result (Unit {0}) Fault) × (result ≡ ends_as ended)
+    × PerformsInfo info sent sent' ended
+
+-- the status is that of the task, which was done
+pub record EndsTask (words : List (String Global)) (task : Task) (status : ℕ) : Type 0 where
+  pub sent : OutputView
+  pub sent' : OutputView
+  pub ended : Result Outcome Fault
+  pub performs : Performs task sent sent' ended
+  pub is_strict : Bool
+  pub strict : IsTrue is_strict ↔ Any (λ word. string_bytes word ≡ codes "--strict") words
+  pub status_is : status ≡ exit_status ended is_strict
+
+-- it is that of the task for which the words ask, which say this; or it is 2 at most, as where they ask for none, or for help
+abbrev pub EndsBy : {E : Type 0} → (List ℕ → Result ℕ E → Type 0) → List (List ℕ)
+    → List (String Global) → ℕ → Type 0
+EndsBy reads said words status =
+    ((task : Task) × IsAsked reads said task × EndsTask words task status) ⊎ (status ≤ 2)
