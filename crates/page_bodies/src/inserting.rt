@@ -1,7 +1,6 @@
 //! A leg that is put into a tree.
-ghost use Rattle.std.specs.Prelude.{ℕ, [], ◌∷◌, ◌≡◌, false, IfErr, IsTrue, OnOk};
+ghost use Rattle.std.specs.Prelude.{ℕ, [], ◌∷◌, IsTrue, OnOk};
 ghost use Rattle.tbtree.specs.Content.{ContentGrows};
-ghost use Rattle.tbtree.specs.Faults.{RefusesWrite};
 ghost use Rattle.tbtree.specs.Filling.{page_made, FillsLeaves};
 ghost use Rattle.tbtree.specs.Needs.{IsFit};
 ghost use Rattle.tbtree.specs.Nodes.{pages_of_cache};
@@ -27,7 +26,6 @@ pub fn insert<S: PageStore>(
         (leg ∷ [])) }
     ensures fits { IsTrue cache.old.store.is_faithful → OnOk result
         ((page : ℕ) → IsFit (pages_of_cache cache.old) tree.old place.old (leg ∷ []) page) }
-    ensures caused { tree.old.spent ≡ false → IfErr result (RefusesWrite cache.old cache.new) }
 {
     tbtree::insert(tree, cache, place, leg)
 }

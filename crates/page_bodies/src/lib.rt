@@ -13,4 +13,3 @@ mod migrating;
 mod nodes;
 mod reading_back;
 mod sealing;
-mod syncing;

@@ -11,9 +11,9 @@ mod stays;
 mod telling;
 
 pub use commands::command;
-pub use copies::{give, run_and_close};
+pub use copies::give;
 pub use lasting::check;
 pub use loads::{load, put_legs};
-pub use sent::{push_dwells, send, send_all};
+pub use sent::{push_dwells, send};
 pub use stays::stay_of;
 pub use telling::{is_told, read_code};

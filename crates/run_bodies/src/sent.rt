@@ -1,13 +1,11 @@
 //! What is sent besides a script's answers.
 ghost use Rattle.std.specs.Prelude.{◌<◌, All, length, OnOk};
 ghost use Rattle.std.specs.Io.KnownBytes.{Appends};
-ghost use Rattle.outputs.specs.Output.{IsFlushed};
 
 use moments::Dwell;
 use monitor::Followed;
 use outputs::{Output, OutputFault};
 use pages::PageStore;
-use sessions::Fault;
 use std::alloc::Global;
 use std::io::Eprint;
 use std::rt::Clock;
@@ -22,13 +20,6 @@ pub fn send<O: Output + Drop, R: Clock + Eprint>(
         (O.seen out.new.out).contents bytes.now) }
 {
     out.send(bytes)
-}
-
-/// All of some bytes, passed on.
-pub fn send_all<'a, O: Output>(out: &mut O, bytes: &[u8]) -> Result<(), Fault<'a>>
-    ensures { OnOk result (IsFlushed (O.seen out.old) (O.seen out.new)) }
-{
-    sessions::send_all(out, bytes)
 }
 
 /// A record for each feature that stays.

@@ -6,12 +6,10 @@
 
 pub mod asking;
 pub mod clipping_legs;
-pub mod joining;
 pub mod lines;
 pub mod parting;
 pub mod predicating;
 pub mod reading;
-pub mod refusing;
 pub mod searching;
 pub mod values;
 pub mod writing;
