@@ -85,13 +85,17 @@ module _ (db : DbView) (rect : RectView) (period : PeriodView) where
         × Appends sent.contents sent'.contents text × IsFlushed sent sent')
     pub refused : IfErr result (IsMomentsUnsent rows sent sent')
 
--- why a task is refused before its database is asked: its rectangle and its period are; or its store is not opened
+-- why a task is refused before its database is asked: its rectangle and its period are, which comes first; or its store is
+-- not opened
 abbrev pub IsMomentsRefused : Moments → Fault → Type 0
 IsMomentsRefused task fault =
     RefusesBounds (map (λ text. text.now) task.bounds.corners)
     (map (λ text. text.now) task.bounds.times) fault
-    ⊎ (IsUnasked task.store.now fault
-    ⊎ ((store : Store) × IsUnopened store (max task.cache_pages 1) fault))
+    ⊎ ((rect : RectView) × (period : PeriodView)
+    × SaysBox (map (λ text. text.now) task.bounds.corners)
+    (map (λ text. text.now) task.bounds.times) rect period
+    × (IsUnasked task.store.now fault
+    ⊎ ((store : Store) × IsUnopened store (max task.cache_pages 1) fault)))
 
 -- a task is refused before, and nothing was sent; or a database of some store tells what it asks
 abbrev pub PerformsMoments : Moments → OutputView → OutputView → Result (Unit {0}) Fault → Type 0

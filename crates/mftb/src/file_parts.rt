@@ -1,5 +1,5 @@
 //! The files of all parts of a file, in a folder of the system.
-ghost use Rattle.std.specs.Prelude.{◌≡◌, ◌≤◌, Err, IfErr, IfOk, None};
+ghost use Rattle.std.specs.Prelude.{ℕ, ◌≡◌, ◌≤◌, ◌<◌, ◌+◌, Err, IfErr, IfOk, None, Some};
 ghost use Rattle.std.specs.String.{string_bytes};
 ghost use Rattle.mftb.specs.Names.{part_name};
 ghost use Rattle.mftb.specs.PartPrinted.{IsPartsFault};
@@ -64,6 +64,9 @@ pub(crate) fn write_parts<'a, R: Files<File = File> + AllocGlobal>(
 ) -> Result<(), Fault<'a>>
     ensures first { task.now.parts ≤ task.now.first
         → result ≡ Err (Fault.NoPart task.now.first task.now.parts) }
+    ensures count { (n : ℕ) → task.now.first < task.now.parts → task.now.count ≡ Some n
+        → task.now.parts < task.now.first + n
+        → result ≡ Err (Fault.NoPart task.now.parts task.now.parts) }
     ensures fault { IfErr result (IsPartsFault task.now) }
 {
     if task.first >= task.parts {
